@@ -1,0 +1,51 @@
+ghost use Rattle.std.specs.Prelude.{◌≡◌, length, ◌==◌};
+
+use std::marker::Model;
+
+/// A list of addresses or places that owns its memory.
+#[derive(Debug, Drop)]
+pub struct Places {
+    items: Vec<u64>,
+}
+
+impl Model for Places {
+    ghost use Rattle.std.specs.Prelude.{List, ℕ};
+
+    ghost Value = { List ℕ };
+
+    ghost view = { λ p. p.items.items };
+}
+
+impl Places {
+    /// The list with these members, in their order.
+    pub fn of(items: Vec<u64>) -> Self
+        ensures { result ≡ items.items }
+    {
+        Places { items }
+    }
+
+    /// The members, given back without taking memory.
+    pub fn into_vec(self) -> Vec<u64>
+        ensures { result.items ≡ self }
+    {
+        self.items
+    }
+
+    pub fn as_slice(&self) -> &[u64]
+        ensures { result.now ≡ self.now }
+    {
+        self.items.as_slice()
+    }
+
+    pub fn len(&self) -> usize
+        ensures { result ≡ length self.now }
+    {
+        self.items.len()
+    }
+
+    pub fn is_empty(&self) -> bool
+        ensures { result ≡ (length self.now == 0) }
+    {
+        self.items.is_empty()
+    }
+}

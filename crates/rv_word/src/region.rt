@@ -1,0 +1,13 @@
+/// A region of the machine's memory. What each allows:
+///
+/// | region | load | store | fetch |
+/// |---|---|---|---|
+/// | data | yes | yes | no |
+/// | code | yes | no | yes |
+/// | shadow | yes | yes | no |
+#[derive(Clone, Copy, Debug, PartialEq, Eq)]
+pub enum Region {
+    Data,
+    Code,
+    Shadow,
+}
