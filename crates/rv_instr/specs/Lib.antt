@@ -1,0 +1,4 @@
+pub mod Fence
+pub mod InRange
+pub mod Operands
+pub mod Registers
