@@ -1,0 +1,9 @@
+pub mod Fields
+pub mod Tables
+pub mod Decode
+pub mod Encode
+pub mod Arithmetic
+pub mod State
+pub mod SystemCall
+pub mod Step
+pub mod Run

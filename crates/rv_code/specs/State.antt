@@ -1,0 +1,42 @@
+-- The machine's state: a hart (its pc and registers), and what harts share (memory, the input
+-- left, the output, the system calls made).
+use Rattle.std.specs.Prelude.{ℕ, ◌%◌, ◌^◌, ◌==◌, ◌||◌, List, [], ◌∷◌, Option, Some, None, if◌then◌else◌}
+use Rattle.rv_word.specs.Image.{Contents}
+use Rattle.rv_word.specs.Memory.{Memory, loaded}
+use Rattle.rv_instr.specs.Registers.{Registers}
+use Rattle.rv_code.specs.declared.event.Event.{Event}
+use Rattle.rv_code.specs.declared.turn.Turn.{Turn}
+
+pub record Hart : Type 0 where
+  pub pc : ℕ
+  pub regs : Registers
+
+-- the events stand oldest first
+pub record Shared : Type 0 where
+  pub memory : Memory
+  pub left : List ℕ
+  pub output : List ℕ
+  pub events : List Event
+
+-- what a step leaves, and how it ended
+pub record After : Type 0 where
+  pub hart : Hart
+  pub shared : Shared
+  pub turn : Turn
+
+-- where a run starts: at the prologue's opening, with registers 0 and the image in memory
+abbrev pub start_hart : Hart
+start_hart = record { pc = 0x4000000c; regs = λ r. 0 }
+
+abbrev pub start_shared : Contents → List ℕ → Shared
+start_shared image input = record { memory = loaded image; left = input; output = []; events = [] }
+
+-- the status with which an event ended the run, if it did
+abbrev pub exit_of : Event → Option ℕ
+exit_of e = if e.number == 93 || e.number == 94 then Some (e.a0 % 2 ^ 8) else None
+
+-- the status with which the run has ended, if it has: its last event's
+unfoldable pub last_exit : List Event → Option ℕ
+last_exit [] = None
+last_exit (e ∷ []) = exit_of e
+last_exit (e ∷ f ∷ es) = last_exit (f ∷ es)

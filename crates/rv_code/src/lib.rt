@@ -1,0 +1,19 @@
+//! The machine's definition: which word is which instruction, and what one step of the hart does.
+//! `decode` and `encode` are the code that meets the first half; `specs/` holds the second, which
+//! the machine and the verifier are proved against.
+#![tactic(auto)]
+
+pub use decoder::decode;
+pub use encoder::encode;
+pub use event::{Event, Events};
+pub use turn::Turn;
+
+mod codes;
+mod decoder;
+mod encoder;
+mod event;
+mod fields;
+mod operations;
+#[cfg(test)]
+mod tests;
+mod turn;

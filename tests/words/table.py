@@ -1,0 +1,77 @@
+#!/usr/bin/env python3
+"""Prints the two tables of crates/rv_code/src/tests.rt: `python3 tests/words/table.py`.
+
+The words are those that GNU binutils makes of words.s and others.s; what each word of words.s has
+to mean is read from its line of source.
+"""
+import re
+import subprocess
+import tempfile
+from pathlib import Path
+
+HERE = Path(__file__).parent
+TOOLS = "riscv64-linux-gnu-"
+
+
+def words(source, march):
+    """The words of a source, linked far from 0, so that every offset is resolved."""
+    with tempfile.TemporaryDirectory() as folder:
+        made, linked, flat = (f"{folder}/{name}" for name in ("o", "elf", "bin"))
+        run = lambda *line: subprocess.run(line, check=True)
+        run(TOOLS + "as", f"-march={march}", "-o", made, str(HERE / source))
+        run(TOOLS + "ld", "--no-relax", "-Ttext=0x10000000", "-e", "0x10000000", "-o", linked, made)
+        run(TOOLS + "objcopy", "-O", "binary", "-j", ".text", linked, flat)
+        code = Path(flat).read_bytes()
+    return [int.from_bytes(code[at : at + 4], "little") for at in range(0, len(code), 4)]
+
+
+def lines(source):
+    """The lines of a source that are instructions."""
+    text = (HERE / source).read_text().splitlines()
+    return [line.strip() for line in text if line.startswith(" ") and ".option" not in line]
+
+
+def fields(operands):
+    """Registers as they stand, then a number: an offset from here is halved."""
+    registers = [int(r) for r in re.findall(r"\bx(\d+)\b", operands)]
+    rest = re.sub(r"\bx\d+\b", "", operands)
+    numbers = re.findall(r"\.?[+-]?(?:0x[0-9a-f]+|\d+)", rest)
+    if not numbers:
+        return registers, None
+    number = int(numbers[0].lstrip("."), 0)
+    return registers, number // 2 if numbers[0].startswith(".") else number
+
+
+def row(word, line):
+    """Word, name, registers in the order of the instruction's fields, immediate's bits."""
+    name, _, operands = line.partition(" ")
+    if name in (".insn", "fence", "fence.tso"):
+        return word, "fence", 0, 0, 0
+    registers, number = fields(operands)
+    if name in ("sb", "sh", "sw", "sd"):
+        registers.reverse()
+    if len(registers) == 3:
+        number = registers.pop()
+    registers += [0] * (2 - len(registers))
+    bits = 20 if name in ("lui", "auipc", "jal") else 12
+    return word, name, registers[0], registers[1], (number or 0) % 2**bits
+
+
+def literal(word):
+    return f"0x{word >> 16:04x}_{word % 2**16:04x}"
+
+
+def main():
+    made, source = words("words.s", "rv64i"), lines("words.s")
+    assert len(made) == len(source)
+    for word, line in zip(made, source):
+        word, name, first, second, number = row(word, line)
+        print(f'    ({literal(word)}, "{name}", {first}, {second}, 0x{number:x}),')
+    print()
+    others = words("others.s", "rv64g_zba_zbb_zbs")
+    assert len(others) == len(lines("others.s"))
+    for word in others:
+        print(f"    {literal(word)},")
+
+
+main()
