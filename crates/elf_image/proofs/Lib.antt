@@ -1,0 +1,9 @@
+pub mod Scan
+pub mod Written
+pub mod Numbers
+pub mod Rows
+pub mod Zeros
+pub mod Sound
+pub mod Found
+pub mod Only
+pub mod Taken

@@ -1,0 +1,45 @@
+-- What is wrong with a file that is no image: the first of these in the order of the file, but lengths go before padding.
+use Rattle.std.specs.Prelude.{ℕ, ◌+◌, nat_lt, ◌==◌, not, if◌then◌else◌, Option, Some, None, option_map, List, [], ◌∷◌, length, position, slice_range}
+use Rattle.std.specs.Option.{option_or}
+use Rattle.elf_bytes.specs.Fields.{number_at}
+use Rattle.elf_image.specs.declared.field.Field.{Field}
+use Rattle.elf_image.specs.declared.refusal.ImageRefusal.{ImageRefusal}
+use Rattle.elf_image.specs.declared.refusal.ImageRefusal.TheVariants.{Short, Byte, Long}
+use Rattle.elf_image.specs.Header.{fields_of, data_start}
+
+-- the offset of the first of these fields that has another value
+unfoldable pub first_wrong : List ℕ → List Field → Option ℕ
+first_wrong bytes [] = None
+first_wrong bytes (f ∷ fs) = if number_at bytes f.at f.size == f.value then first_wrong bytes fs else Some f.at
+
+-- the offset of the first byte from `from` up to `to` that is not zero
+unfoldable pub first_nonzero : List ℕ → ℕ → ℕ → Option ℕ
+first_nonzero bytes from to = option_map (λ k. from + k) (position (λ b. not (b == 0)) (slice_range bytes from to))
+
+-- the lengths of code and data that a file names: p_filesz of the second and of the first program header
+abbrev pub code_of : List ℕ → ℕ
+code_of bytes = number_at bytes 152 8
+
+abbrev pub init_of : List ℕ → ℕ
+init_of bytes = number_at bytes 96 8
+
+-- the offset of the first byte between headers and code or between code and data that is not zero
+abbrev pub wrong_padding : List ℕ → ℕ → Option ℕ
+wrong_padding bytes code = option_or (first_nonzero bytes 232 0x1000) (first_nonzero bytes (0x1000 + code) (data_start code))
+
+-- a file that ends before its data do, or after them
+abbrev pub length_fault : List ℕ → ℕ → ℕ → Option ImageRefusal
+length_fault bytes code init =
+    if nat_lt (length bytes) (data_start code + init) then Some (Short (length bytes)) else
+    if nat_lt (data_start code + init) (length bytes) then Some (Long (length bytes)) else None
+
+-- what is wrong with a file that names these lengths: a field, its length, or its padding
+abbrev pub fault_with : List ℕ → ℕ → ℕ → Option ImageRefusal
+fault_with bytes code init =
+    option_or (option_map (λ at. Byte at) (first_wrong bytes (fields_of code init)))
+    (option_or (length_fault bytes code init) (option_map (λ at. Byte at) (wrong_padding bytes code)))
+
+-- what is wrong with a file, if it is no image
+unfoldable pub fault_of : List ℕ → Option ImageRefusal
+fault_of bytes =
+    if nat_lt (length bytes) 232 then Some (Short (length bytes)) else fault_with bytes (code_of bytes) (init_of bytes)

@@ -1,0 +1,83 @@
+-- The headers of an image, field by field in the order of the file (System V gABI, "ELF Header" and "Program Header").
+use Rattle.std.specs.Prelude.{ℕ, ◌+◌, ◌*◌, ◌/◌, ◌^◌, min, max, nat_le, Bool, ◌&&◌, List, [], ◌∷◌, ◌++◌}
+use Rattle.elf_image.specs.declared.field.Field.{Field}
+use Rattle.elf_image.specs.declared.field.Segment.{Segment}
+
+-- an Elf64_Half, an Elf64_Word, and an Elf64_Xword, Elf64_Addr or Elf64_Off
+abbrev pub half : ℕ → ℕ → Field
+half at value = record { at = at; size = 2; value = value }
+
+abbrev pub word : ℕ → ℕ → Field
+word at value = record { at = at; size = 4; value = value }
+
+abbrev pub long : ℕ → ℕ → Field
+long at value = record { at = at; size = 8; value = value }
+
+-- e_ident, as one number of 16 bytes
+abbrev pub ident : ℕ → Field
+ident value = record { at = 0; size = 16; value = value }
+
+-- the ELF header of a RISC-V program of three segments; e_ident is 7f "ELF", ELFCLASS64, ELFDATA2LSB, EV_CURRENT and zeros
+unfoldable pub elf_header : List Field
+elf_header =
+    ident 0x01_01_02_46_4c_45_7f  -- e_ident
+    ∷ half 16 2  -- e_type: ET_EXEC
+    ∷ half 18 243  -- e_machine: EM_RISCV
+    ∷ word 20 1  -- e_version: EV_CURRENT
+    ∷ long 24 0x4000000c  -- e_entry
+    ∷ long 32 64  -- e_phoff
+    ∷ long 40 0  -- e_shoff
+    ∷ word 48 0  -- e_flags
+    ∷ half 52 64  -- e_ehsize
+    ∷ half 54 56  -- e_phentsize
+    ∷ half 56 3  -- e_phnum
+    ∷ half 58 0  -- e_shentsize
+    ∷ half 60 0  -- e_shnum
+    ∷ half 62 0  -- e_shstrndx
+    ∷ []
+
+-- the program header at an offset, of a segment that is loaded
+unfoldable pub program_header : ℕ → Segment → List Field
+program_header at s =
+    word at 1  -- p_type: PT_LOAD
+    ∷ word (at + 4) s.flags  -- p_flags
+    ∷ long (at + 8) s.offset  -- p_offset
+    ∷ long (at + 16) s.address  -- p_vaddr
+    ∷ long (at + 24) s.address  -- p_paddr
+    ∷ long (at + 32) s.file_size  -- p_filesz
+    ∷ long (at + 40) s.memory_size  -- p_memsz
+    ∷ long (at + 48) 0x1000  -- p_align
+    ∷ []
+
+-- where the data of a file with `code` bytes of code begin: on the page after the code
+abbrev pub data_start : ℕ → ℕ
+data_start code = 0x1000 + (code + 0xfff) / 0x1000 * 0x1000
+
+-- the length of code that is allowed and nearest to `code`: `code` itself exactly where it is allowed
+abbrev pub code_length : ℕ → ℕ
+code_length code = max 4 (min (code / 4 * 4) (2 ^ 20))
+
+-- the length of data that is allowed and nearest to `init`
+abbrev pub data_length : ℕ → ℕ
+data_length init = min init (2 ^ 25)
+
+-- data: PF_R and PF_W
+abbrev pub data_segment : ℕ → ℕ → Segment
+data_segment code init = record { flags = 6; offset = data_start code; address = 0x10000; file_size = data_length init; memory_size = 0xfff1000 }
+
+-- code: PF_R and PF_X
+abbrev pub code_segment : ℕ → Segment
+code_segment code = record { flags = 5; offset = 0x1000; address = 0x40000000; file_size = code_length code; memory_size = 0x100000 }
+
+-- the shadow stack: PF_R and PF_W, nothing of it in the file
+abbrev pub shadow_segment : Segment
+shadow_segment = record { flags = 6; offset = 0; address = 0x60000000; file_size = 0; memory_size = 0x10000 }
+
+-- the fields of a file with `code` bytes of code and `init` of data: 232 bytes
+abbrev pub fields_of : ℕ → ℕ → List Field
+fields_of code init =
+    elf_header ++ program_header 64 (data_segment code init) ++ program_header 120 (code_segment code) ++ program_header 176 shadow_segment
+
+-- a field of at most 16 bytes that lies in the headers
+abbrev pub is_inside : Field → Bool
+is_inside f = nat_le 1 f.size && nat_le f.size 16 && nat_le (f.at + f.size) 232

@@ -1,0 +1,24 @@
+-- The one spelling of an image: headers, code and data, each from a page's start on, with zeros between them.
+use Rattle.std.specs.Prelude.{ℕ, ◌-◌, List, ◌++◌, length, replicate}
+use Rattle.std.specs.List.{flat_map}
+use Rattle.byteorder.specs.Endian.{little_bytes}
+use Rattle.elf_image.specs.declared.field.Field.{Field}
+use Rattle.elf_image.specs.Header.{fields_of, data_start}
+
+-- a field's value, the lowest byte first
+abbrev pub field_bytes : Field → List ℕ
+field_bytes f = little_bytes f.size f.value
+
+-- the bytes of the headers of a file with `code` bytes of code and `init` of data
+unfoldable pub headers : ℕ → ℕ → List ℕ
+headers code init = flat_map field_bytes (fields_of code init)
+
+unfoldable pub zeros : ℕ → List ℕ
+zeros n = replicate n 0
+
+-- the bytes of the image of this code and these data
+unfoldable pub spelling : List ℕ → List ℕ → List ℕ
+spelling code init =
+    headers (length code) (length init) ++ zeros (0x1000 - 232)
+    ++ code ++ zeros (data_start (length code) - 0x1000 - length code)
+    ++ init

@@ -1,0 +1,15 @@
+//! The image: an ELF file with one spelling for each code and data, so a reader takes a file
+//! exactly where a writer could have made it, and both say the same of each byte.
+#![tactic(auto)]
+
+pub use read::read_image;
+pub use refusal::ImageRefusal;
+pub use write::write_image;
+
+mod field;
+mod header;
+mod read;
+mod refusal;
+#[cfg(test)]
+mod tests;
+mod write;

@@ -1,0 +1,157 @@
+ghost use Rattle.std.specs.Prelude.{◌≡◌, ◌+◌, ◌<◌, ◌≤◌, ◌^◌, List, ℕ, IsTrue, IsOkAnd, IfOk, OnOk, IfErr, None, Some, IfSome, option_map, length, position, not, ◌==◌};
+ghost use Rattle.std.specs.List.{list_all};
+ghost use Rattle.std.specs.Option.{option_or};
+ghost use Rattle.rv_word.specs.Image.{IsImageSize};
+ghost use Rattle.elf_bytes.specs.Fields.{number_at};
+ghost use Rattle.elf_image.specs.Header.{fields_of, data_start, is_inside};
+ghost use Rattle.elf_image.specs.Spelling.{spelling};
+ghost use Rattle.elf_image.specs.Fault.{first_wrong, first_nonzero, code_of, init_of, length_fault, fault_of};
+
+use super::field::Field;
+use super::header::{
+    HEADERS, PAGE, code_segment, data_offset, data_segment, elf_header, program_header,
+    shadow_segment,
+};
+use super::refusal::ImageRefusal;
+use byteorder::{ByteOrder, LittleEndian};
+use elf_bytes::u64_at;
+use rv_word::Image;
+
+/// Where the headers name the length of the code and of the data: `p_filesz` of their segments.
+const CODE_LENGTH: u64 = 152;
+
+const INIT_LENGTH: u64 = 96;
+
+/// The image that a file is, borrowed from it. `Short`, a wrong field, `Short` or `Long`, and wrong
+/// padding are looked for in this order, and the first that there is is told.
+pub fn read_image<'a>(bytes: &'a [u8]) -> Result<Image<'a>, ImageRefusal>
+    ensures spelled { IfOk result (λ i. bytes.now ≡ spelling i.code i.init) }
+    ensures refused { IfErr result (λ e. fault_of bytes.now ≡ Some e) }
+    ensures read { OnOk result (fault_of bytes.now ≡ None) }
+    ensures only { (code init : List ℕ) → IsImageSize (length code) (length init) → bytes.now ≡ spelling code init → IsOkAnd result (λ i. (i.code ≡ code) × (i.init ≡ init)) }
+{
+    let (end, start) = places(bytes)?;
+    Ok(Image::of(&bytes[PAGE as usize..end], &bytes[start..]))
+}
+
+/// Where the code ends and where the data begin, if the file is an image.
+#[tactic(auto, unfolding(crate::specs::Fault::fault_of))]
+fn places(bytes: &[u8]) -> Result<(usize, usize), ImageRefusal>
+    ensures refused { IfErr result (λ e. fault_of bytes.now ≡ Some e) }
+    ensures read { OnOk result (fault_of bytes.now ≡ None) }
+    ensures end { IfOk result (λ places. places.0 ≡ 0x1000 + code_of bytes.now) }
+    ensures start { IfOk result (λ places. places.1 ≡ data_start (code_of bytes.now)) }
+    ensures order { IfOk result (λ places. places.0 ≤ places.1) }
+    ensures inside { IfOk result (λ places. places.1 ≤ length bytes.now) }
+{
+    let (code, init) = named_lengths(bytes)?;
+    if let Some(at) = first_wrong_field(bytes, code, init) {
+        return Err(ImageRefusal::Byte(at as u64));
+    }
+    let start = data_place(bytes, code, init)?;
+    let end = PAGE as usize + code as usize;
+    if let Some(at) = first_wrong_padding(bytes, end, start) {
+        return Err(ImageRefusal::Byte(at as u64));
+    }
+    Ok((end, start))
+}
+
+/// The lengths of code and data that the program headers name.
+fn named_lengths(bytes: &[u8]) -> Result<(u64, u64), ImageRefusal>
+    ensures long { OnOk result (232 ≤ length bytes.now) }
+    ensures code { IfOk result (λ lengths. lengths.0 ≡ code_of bytes.now) }
+    ensures init { IfOk result (λ lengths. lengths.1 ≡ init_of bytes.now) }
+    ensures short { IfErr result (λ e. (length bytes.now < 232) × (e ≡ ImageRefusal.Short (length bytes.now))) }
+{
+    let len = bytes.len() as u64;
+    match (u64_at(bytes, CODE_LENGTH), u64_at(bytes, INIT_LENGTH)) {
+        (Some(code), Some(init)) if len >= HEADERS as u64 => Ok((code, init)),
+        _ => Err(ImageRefusal::Short(len)),
+    }
+}
+
+/// The offset of the first field of the headers that is not as these lengths want it.
+fn first_wrong_field(bytes: &[u8], code: u64, init: u64) -> Option<usize>
+    requires { 232 ≤ length bytes.now }
+    ensures { result ≡ first_wrong bytes.now (fields_of code init) }
+{
+    let (code, init) = (u128::from(code), u128::from(init));
+    first_fault(bytes, &elf_header())
+        .or(first_fault(bytes, &program_header(64, data_segment(code, init))))
+        .or(first_fault(bytes, &program_header(120, code_segment(code))))
+        .or(first_fault(bytes, &program_header(176, shadow_segment())))
+}
+
+/// The offset of the first of these fields that has another value.
+#[tactic(auto, unfolding(crate::specs::Fault::first_wrong))]
+fn first_fault(bytes: &[u8], fields: &[Field]) -> Option<usize>
+    requires long { 232 ≤ length bytes.now }
+    requires inside { IsTrue (list_all is_inside fields.now) }
+    ensures { result ≡ first_wrong bytes.now fields.now }
+{
+    for field in fields {
+        if number(bytes, field.at, field.size) != field.value {
+            return Some(field.at);
+        }
+    }
+    None
+}
+
+/// The number in the `size` bytes at `at`.
+#[tactic(auto, unfolding(elf_bytes::specs::Fields::number_at))]
+fn number(bytes: &[u8], at: usize, size: usize) -> u128
+    requires some { 1 ≤ size }
+    requires most { size ≤ 16 }
+    requires inside { at + size ≤ length bytes.now }
+    ensures { result ≡ number_at bytes.now at size }
+{
+    LittleEndian::read_uint128(&bytes[at..], size)
+}
+
+/// Where the data begin, if the file ends with them.
+fn data_place(bytes: &[u8], code: u64, init: u64) -> Result<usize, ImageRefusal>
+    ensures start { IfOk result (λ start. start ≡ data_start code) }
+    ensures end { OnOk result (length bytes.now ≡ data_start code + init) }
+    ensures ok { OnOk result (length_fault bytes.now code init ≡ None) }
+    ensures err { IfErr result (λ e. length_fault bytes.now code init ≡ Some e) }
+{
+    let len = bytes.len() as u64;
+    let start = data_offset(u128::from(code));
+    let end = start + u128::from(init);
+    if u128::from(len) < end {
+        return Err(ImageRefusal::Short(len));
+    }
+    if u128::from(len) > end {
+        return Err(ImageRefusal::Long(len));
+    }
+    Ok(start as usize)
+}
+
+/// The offset of the first byte that is not zero, after the headers or from `end`, where the code
+/// ends, up to `start`, where the data begin.
+fn first_wrong_padding(bytes: &[u8], end: usize, start: usize) -> Option<usize>
+    requires order { 0x1000 ≤ end }
+    requires room { end ≤ start }
+    requires inside { start ≤ length bytes.now }
+    ensures { result ≡ option_or (first_nonzero bytes.now 232 0x1000) (first_nonzero bytes.now end start) }
+{
+    nonzero_within(bytes, HEADERS, PAGE as usize).or_else(|| nonzero_within(bytes, end, start))
+}
+
+/// The offset of the first byte from `from` up to `to` that is not zero.
+#[tactic(auto, unfolding(crate::specs::Fault::first_nonzero))]
+fn nonzero_within(bytes: &[u8], from: usize, to: usize) -> Option<usize>
+    requires order { from ≤ to }
+    requires inside { to ≤ length bytes.now }
+    ensures { result ≡ first_nonzero bytes.now from to }
+{
+    Some(from + nonzero(&bytes[from..to])?)
+}
+
+/// How many bytes stand before the first that is not zero.
+fn nonzero(bytes: &[u8]) -> Option<usize>
+    ensures bound { IfSome result (λ k. k < length bytes.now) }
+    ensures value { result ≡ position (λ b. not (b == 0)) bytes.now }
+{
+    bytes.iter().position(|b| *b != 0)
+}
