@@ -1,0 +1,67 @@
+-- A text as it is written, piece after piece.
+use Rattle.std.proofs.Common.{◌≡◌, ℕ, zero, suc, ◌-◌, ◌*◌, ◌/◌, ◌%◌, ◌^◌, ◌<◌, List, [], ◌∷◌, ◌++◌, codes, map, refl, sym, ◌∙◌, ap, append_assoc, arith}
+use Rattle.std.specs.List.{flat_map}
+use Rattle.std.proofs.lemmas.List.{append-nil}
+use Rattle.cfi_graph.specs.declared.line.GraphLine.{GraphLine}
+use Rattle.cfi_graph.specs.declared.line.GraphLine.TheVariants.{Class}
+use Rattle.cfi_graph.specs.Graph.{GraphParts}
+use Rattle.cfi_graph.specs.Text.{graph_lines, graph_text, hex_digit, hex_text, spaced, words_of_line}
+
+-- the first of the last `count` digits
+hex_first : (count n : ℕ) → 0 < count → hex_text count n ≡ hex_digit (n / 2 ^ (4 * (count - 1)) % 2 ^ 4) ∷ hex_text (count - 1) n
+unfolding hex_text
+hex_first zero n h = absurd (omega arith)
+hex_first (suc count) n h = let e : suc count - 1 ≡ count = omega arith in rw e refl
+
+pub next_digit_out : (out all : List ℕ) (count n digit : ℕ) → 0 < count → digit ≡ hex_digit (n / 2 ^ (4 * (count - 1)) % 2 ^ 4) → out ++ hex_text count n ≡ all → (out ++ digit ∷ []) ++ hex_text (count - 1) n ≡ all
+next_digit_out out all count n digit h e is =
+    append_assoc out (digit ∷ []) (hex_text (count - 1) n) ∙ ap (λ d. out ++ d ∷ hex_text (count - 1) n) e ∙ ap (λ t. out ++ t) (sym (hex_first count n h)) ∙ is
+
+pub no_digit_out : (out all : List ℕ) (count n : ℕ) → count ≡ 0 → out ++ hex_text count n ≡ all → out ≡ all
+unfolding hex_text
+no_digit_out out all count n e is = sym (append-nil out) ∙ rw e at is
+
+-- words with a space before each but the first
+pub spaced_flat : (word : List ℕ) (words : List (List ℕ)) → spaced (word ∷ words) ≡ word ++ flat_map (λ w. 32 ∷ w) words
+spaced_flat word [] = sym (append-nil word)
+spaced_flat word (next ∷ words) = ap (λ rest. word ++ 32 ∷ rest) (spaced_flat next words)
+
+pub flat_map-map : {X Y : Type 0} (f : Y → List ℕ) (g : X → Y) (xs : List X) → flat_map f (map g xs) ≡ flat_map (λ x. f (g x)) xs
+flat_map-map f g [] = refl
+flat_map-map f g (x ∷ xs) = ap (λ rest. f (g x) ++ rest) (flat_map-map f g xs)
+
+pub flat_map-append : {X : Type 0} (f : X → List ℕ) (xs ys : List X) → flat_map f (xs ++ ys) ≡ flat_map f xs ++ flat_map f ys
+flat_map-append f [] ys = refl
+flat_map-append f (x ∷ xs) ys =
+    ap (λ rest. f x ++ rest) (flat_map-append f xs ys) ∙ sym (append_assoc (f x) (flat_map f xs) (flat_map f ys))
+
+class_text : (label : ℕ) (targets : List ℕ) → spaced (codes "class" ∷ hex_text 5 label ∷ map (hex_text 8) targets) ≡ codes "class" ++ 32 ∷ hex_text 5 label ++ flat_map (λ n. 32 ∷ hex_text 8 n) targets
+class_text label targets =
+    spaced_flat (codes "class") (hex_text 5 label ∷ map (hex_text 8) targets) ∙ ap (λ rest. codes "class" ++ 32 ∷ hex_text 5 label ++ rest) (flat_map-map (λ w. 32 ∷ w) (hex_text 8) targets)
+
+pub class_written : (out named labelled : List ℕ) (label : ℕ) (targets : List ℕ) → named ≡ out ++ codes "class" → labelled ≡ named ++ 32 ∷ hex_text 5 label → labelled ++ flat_map (λ n. 32 ∷ hex_text 8 n) targets ≡ out ++ spaced (words_of_line (Class label targets))
+class_written out named labelled label targets p q =
+    rw (class_text label targets, q, p) (simp append_assoc)
+
+-- the text of a line, with its newline
+abbrev pub line_text : GraphLine → List ℕ
+line_text l = spaced (words_of_line l) ++ 10 ∷ []
+
+abbrev pub heading : List ℕ
+heading = codes "rvcfi-graph 1" ++ 10 ∷ codes "code 40000000"
+
+pub graph_pieces : (graph : GraphParts) → graph_text graph ≡ heading ++ 32 ∷ hex_text 8 graph.code ++ 10 ∷ [] ++ flat_map line_text graph.lines ++ codes "end" ++ 10 ∷ []
+unfolding graph_text graph_lines
+graph_pieces graph =
+    let newline : List ℕ → List ℕ = λ line. line ++ 10 ∷ [] in
+    let spell : GraphLine → List ℕ = λ l. spaced (words_of_line l) in
+    let texts = flat_map line_text graph.lines in
+    let code = hex_text 8 graph.code ++ 10 ∷ [] in
+    let body : flat_map newline (map spell graph.lines ++ codes "end" ∷ []) ≡ texts ++ codes "end" ++ 10 ∷ [] =
+    flat_map-append newline (map spell graph.lines) (codes "end" ∷ []) ∙ ap (λ text. text ++ 101 ∷ 110 ∷ 100 ∷ 10 ∷ []) (flat_map-map newline spell graph.lines) ∙ sym (append_assoc texts (codes "end") (10 ∷ [])) in
+    ap (λ rest. heading ++ 32 ∷ rest) (ap (λ rest. code ++ rest) body ∙ sym (append_assoc code (texts ++ codes "end") (10 ∷ [])) ∙ ap (λ text. text ++ 10 ∷ []) (sym (append_assoc code texts (codes "end"))))
+
+-- the pieces in the order in which they are added
+pub graph_written : (graph : GraphParts) {none first second third fourth fifth : List ℕ} → none ≡ [] → first ≡ none ++ heading → second ≡ first ++ 32 ∷ hex_text 8 graph.code → third ≡ second ++ 10 ∷ [] → fourth ≡ third ++ flat_map line_text graph.lines → fifth ≡ fourth ++ 101 ∷ 110 ∷ 100 ∷ 10 ∷ [] → fifth ≡ graph_text graph
+graph_written graph z a b c d e =
+    rw (e, d, c, b, a, z, graph_pieces graph) (simp append_assoc)

@@ -1,0 +1,78 @@
+-- A graph of control flow: the length of the code that it is of, and its lines. The rules here say
+-- which numbers a line may have and in which order lines stand.
+use Rattle.std.specs.Prelude.{ℕ, ◌+◌, ◌%◌, ◌^◌, ◌==◌, nat_lt, nat_le, Bool, true, false, ◌&&◌, IsTrue, List, [], ◌∷◌, map}
+use Rattle.std.specs.List.{list_all}
+use Rattle.rv_word.specs.Layout.{CODE, CODE_SIZE}
+use Rattle.cfi_graph.specs.declared.line.GraphLine.{GraphLine}
+use Rattle.cfi_graph.specs.declared.line.GraphLine.TheVariants.{Class, Site, Edge, Call}
+use Rattle.cfi_graph.specs.declared.line.Key.{Key}
+use Rattle.cfi_graph.specs.declared.line.Key.TheVariants.{Label, Address}
+
+pub record GraphParts : Type 0 where
+  pub code : ℕ
+  pub lines : List GraphLine
+
+-- Range. A length of code is a multiple of 4 bytes, one word at least, and no more than the region holds
+abbrev pub is_code_length : ℕ → Bool
+is_code_length len = len % 4 == 0 && nat_le 4 len && nat_le len CODE_SIZE
+
+-- a label is not 0, and five hexadecimal digits hold it
+abbrev pub is_label : ℕ → Bool
+is_label label = nat_lt 0 label && nat_lt label (2 ^ 20)
+
+-- an address is a multiple of 4 in the code
+abbrev pub is_code_address : ℕ → ℕ → Bool
+is_code_address len address = address % 4 == 0 && nat_le CODE address && nat_lt address (CODE + len)
+
+abbrev pub line_in_range : ℕ → GraphLine → Bool
+line_in_range len (Class label targets) = is_label label && list_all (is_code_address len) targets
+line_in_range len (Site address kind label) = is_code_address len address && is_label label
+line_in_range len (Edge from to) = is_code_address len from && is_code_address len to
+line_in_range len (Call from to) = is_code_address len from && is_code_address len to
+
+-- Order. Each member of a list is below the next
+abbrev pub is_rising : {A : Type 0} → (A → A → Bool) → List A → Bool
+is_rising below [] = true
+is_rising below (x ∷ []) = true
+is_rising below (x ∷ y ∷ rest) = below x y && is_rising below (y ∷ rest)
+
+-- a class line is ordered by its label, any other by its first address
+abbrev pub key_of : GraphLine → Key
+key_of (Class label targets) = Label label
+key_of (Site address kind label) = Address address
+key_of (Edge from to) = Address from
+key_of (Call from to) = Address from
+
+-- labels rise, class lines come before all others, and first addresses rise
+abbrev pub key_below : Key → Key → Bool
+key_below (Label k) (Label l) = nat_lt k l
+key_below (Label k) (Address a) = true
+key_below (Address a) (Label l) = false
+key_below (Address a) (Address b) = nat_lt a b
+
+-- the addresses of a class rise
+abbrev pub targets_rise : GraphLine → Bool
+targets_rise (Class label targets) = is_rising nat_lt targets
+targets_rise (Site address kind label) = true
+targets_rise (Edge from to) = true
+targets_rise (Call from to) = true
+
+-- the parts that a graph may have
+pub record IsGraph (graph : GraphParts) : Type 0 where
+  pub length : IsTrue (is_code_length graph.code)
+  pub range : IsTrue (list_all (line_in_range graph.code) graph.lines)
+  pub targets : IsTrue (list_all targets_rise graph.lines)
+  pub order : IsTrue (is_rising key_below (map key_of graph.lines))
+
+-- the two counts
+abbrev pub is_class : GraphLine → Bool
+is_class (Class label targets) = true
+is_class (Site address kind label) = false
+is_class (Edge from to) = false
+is_class (Call from to) = false
+
+abbrev pub is_site : GraphLine → Bool
+is_site (Class label targets) = false
+is_site (Site address kind label) = true
+is_site (Edge from to) = false
+is_site (Call from to) = false

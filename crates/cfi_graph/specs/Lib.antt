@@ -1,0 +1,4 @@
+pub mod Graph
+pub mod Text
+pub mod Lines
+pub mod Reading

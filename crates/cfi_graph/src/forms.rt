@@ -1,0 +1,136 @@
+ghost use Rattle.std.specs.Prelude.{◌≡◌, IfOk, option_map};
+ghost use Rattle.cfi_graph.specs.Lines.{
+  addresses_of,
+  class_of,
+  kind_of,
+  length_of,
+  line_of,
+  pair_of,
+  parts_after,
+  site_of,
+  words_of,
+};
+ghost use Rattle.cfi_graph.specs.Reading.{};
+
+use crate::line::{GraphLine, SiteKind};
+use crate::words::{cut, hex_of, is_word};
+use rv_word::{NoMemory, Places};
+use std::alloc::Global;
+
+/// The addresses that words spell, or none where a word is no address.
+fn addresses(alloc: Global, words: Option<&[u8]>) -> Result<Option<Places>, NoMemory>
+    ensures { IfOk result
+        (λ r. r ≡ addresses_of (parts_after 32 (option_map (λ w. w.now) words.entry))) }
+{
+    let mut items = Vec::new(alloc);
+    let mut left = words;
+    while let Some(rest) = left {
+        let (word, next) = cut(rest, b' ');
+        let Some(address) = hex_of(word, 8) else {
+            return Ok(None);
+        };
+        items.push(u64::from(address))?;
+        left = next;
+    }
+    Ok(Some(Places::of(items)))
+}
+
+/// The class line that has these words after its name.
+fn class(alloc: Global, words: Option<&[u8]>) -> Result<Option<GraphLine>, NoMemory>
+    ensures { IfOk result
+        (λ r. r ≡ class_of (parts_after 32 (option_map (λ w. w.now) words.entry))) }
+{
+    let Some(words) = words else {
+        return Ok(None);
+    };
+    let (label, targets) = cut(words, b' ');
+    let Some(label) = hex_of(label, 5) else {
+        return Ok(None);
+    };
+    let Some(targets) = addresses(alloc, targets)? else {
+        return Ok(None);
+    };
+    Ok(Some(GraphLine::Class(label, targets)))
+}
+
+fn kind(name: &[u8]) -> Option<SiteKind>
+    ensures { result ≡ kind_of name.now }
+{
+    if is_word(name, b"call") {
+        return Some(SiteKind::Call);
+    }
+    if is_word(name, b"jump") {
+        return Some(SiteKind::Jump);
+    }
+    None
+}
+
+/// The site line that has these words after its name.
+fn site(words: Option<&[u8]>) -> Option<GraphLine>
+    ensures { result ≡ site_of (parts_after 32 (option_map (λ w. w.now) words.entry)) }
+{
+    let (address, rest) = cut(words?, b' ');
+    let (name, rest) = cut(rest?, b' ');
+    let (label, rest) = cut(rest?, b' ');
+    if let Some(_more) = rest {
+        return None;
+    }
+    let address = hex_of(address, 8)?;
+    let kind = kind(name)?;
+    let label = hex_of(label, 5)?;
+    Some(GraphLine::Site(u64::from(address), kind, label))
+}
+
+/// The two addresses that these words spell.
+fn pair(words: Option<&[u8]>) -> Option<(u64, u64)>
+    ensures { result ≡ pair_of (parts_after 32 (option_map (λ w. w.now) words.entry)) }
+{
+    let (from, rest) = cut(words?, b' ');
+    let (to, rest) = cut(rest?, b' ');
+    if let Some(_more) = rest {
+        return None;
+    }
+    let from = hex_of(from, 8)?;
+    let to = hex_of(to, 8)?;
+    Some((u64::from(from), u64::from(to)))
+}
+
+#[tactic(auto, unfolding(crate::specs::Lines::line_of))]
+/// The line of a graph that these bytes spell, if they have the form of one.
+pub(crate) fn line_of(alloc: Global, line: &[u8]) -> Result<Option<GraphLine>, NoMemory>
+    ensures { IfOk result (λ r. r ≡ line_of (words_of line.now)) }
+{
+    let (name, words) = cut(line, b' ');
+    if is_word(name, b"class") {
+        return class(alloc, words);
+    }
+    if is_word(name, b"site") {
+        return Ok(site(words));
+    }
+    if is_word(name, b"edge") {
+        return Ok(pair(words).map(|(from, to)| GraphLine::Edge(from, to)));
+    }
+    if is_word(name, b"call") {
+        return Ok(pair(words).map(|(from, to)| GraphLine::Call(from, to)));
+    }
+    Ok(None)
+}
+
+/// The length of the code that the second line gives, if the line has its form.
+pub(crate) fn code_length(line: &[u8]) -> Option<u32>
+    ensures { result ≡ length_of (words_of line.now) }
+{
+    let (name, rest) = cut(line, b' ');
+    let (start, rest) = cut(rest?, b' ');
+    let (length, rest) = cut(rest?, b' ');
+    if let Some(_more) = rest {
+        return None;
+    }
+    if !is_word(name, b"code") {
+        return None;
+    }
+    if !is_word(start, b"40000000") {
+        return None;
+    }
+    hex_of(length, 8)
+}

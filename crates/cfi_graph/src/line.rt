@@ -1,0 +1,58 @@
+ghost use Rattle.std.specs.Prelude.{◌≡◌};
+
+use rv_word::Places;
+
+/// The two kinds of transfer to a computed address.
+#[derive(Clone, Copy, Debug, PartialEq, Eq)]
+pub enum SiteKind {
+    Call,
+    Jump,
+}
+
+/// A line of a graph.
+#[derive(Debug, Drop)]
+pub enum GraphLine {
+    /// A class: its label, and the addresses of its targets.
+    Class(u32, Places),
+    /// A transfer to a computed address: where its unit starts, its kind, and its class's label.
+    Site(u64, SiteKind, u32),
+    /// A branch or jump: where its unit starts, and its target.
+    Edge(u64, u64),
+    /// A direct call: where its unit starts, and its target.
+    Call(u64, u64),
+}
+
+/// What a line is ordered by: a class's label, or the first address of any other line.
+#[derive(Clone, Copy, Debug)]
+pub enum Key {
+    Label(u32),
+    Address(u64),
+}
+
+impl GraphLine {
+    ghost use Rattle.cfi_graph.specs.Graph.{is_class, is_site, key_of};
+
+    /// What the line is ordered by.
+    pub fn key(&self) -> Key
+        ensures { result ≡ key_of self.now }
+    {
+        match self {
+            GraphLine::Class(label, _) => Key::Label(*label),
+            GraphLine::Site(address, _, _) => Key::Address(*address),
+            GraphLine::Edge(from, _) => Key::Address(*from),
+            GraphLine::Call(from, _) => Key::Address(*from),
+        }
+    }
+
+    pub fn is_class(&self) -> bool
+        ensures { result ≡ is_class self.now }
+    {
+        matches!(self, GraphLine::Class(..))
+    }
+
+    pub fn is_site(&self) -> bool
+        ensures { result ≡ is_site self.now }
+    {
+        matches!(self, GraphLine::Site(..))
+    }
+}

@@ -1,0 +1,96 @@
+ghost use Rattle.std.specs.Prelude.{◌≡◌, nat_lt};
+ghost use Rattle.std.specs.List.{list_all};
+ghost use Rattle.cfi_graph.specs.Graph.{
+  is_code_address,
+  is_code_length,
+  is_label,
+  is_rising,
+  key_below,
+  line_in_range,
+  targets_rise,
+};
+ghost use Rattle.cfi_graph.specs.Reading.{in_order};
+
+use crate::line::{GraphLine, Key};
+
+const CODE: u64 = 0x4000_0000;
+
+/// Whether code may have this length.
+pub(crate) fn is_code_length(len: u32) -> bool
+    ensures { result ≡ is_code_length len }
+{
+    len % 4 == 0 && 4 <= len && len <= 0x10_0000
+}
+
+fn is_label(label: u32) -> bool
+    ensures { result ≡ is_label label }
+{
+    0 < label && label < 0x10_0000
+}
+
+fn is_code_address(len: u32, address: u64) -> bool
+    ensures { result ≡ is_code_address len address }
+{
+    address % 4 == 0 && CODE <= address && address < CODE + u64::from(len)
+}
+
+fn are_code_addresses(len: u32, addresses: &[u64]) -> bool
+    ensures { result ≡ list_all (is_code_address len) addresses.now }
+{
+    addresses.iter().all(|a| is_code_address(len, *a))
+}
+
+/// Whether each number of a line is one that a graph of `len` bytes of code may have.
+pub(crate) fn line_in_range(len: u32, line: &GraphLine) -> bool
+    ensures { result ≡ line_in_range len line.now }
+{
+    match line {
+        GraphLine::Class(label, targets) => {
+            is_label(*label) && are_code_addresses(len, targets.as_slice())
+        }
+        GraphLine::Site(address, _, label) => is_code_address(len, *address) && is_label(*label),
+        GraphLine::Edge(from, to) => is_code_address(len, *from) && is_code_address(len, *to),
+        GraphLine::Call(from, to) => is_code_address(len, *from) && is_code_address(len, *to),
+    }
+}
+
+fn is_rising(items: &[u64]) -> bool
+    ensures { result ≡ is_rising nat_lt items.now }
+{
+    for i in 1..items.len() {
+        if items[i] <= items[i - 1] {
+            return false;
+        }
+    }
+    true
+}
+
+fn targets_rise(line: &GraphLine) -> bool
+    ensures { result ≡ targets_rise line.now }
+{
+    match line {
+        GraphLine::Class(_, targets) => is_rising(targets.as_slice()),
+        _ => true,
+    }
+}
+
+fn key_below(key: Key, other: Key) -> bool
+    ensures { result ≡ key_below key other }
+{
+    match (key, other) {
+        (Key::Label(label), Key::Label(next)) => label < next,
+        (Key::Label(_), Key::Address(_)) => true,
+        (Key::Address(_), Key::Label(_)) => false,
+        (Key::Address(address), Key::Address(next)) => address < next,
+    }
+}
+
+/// Whether a line may stand after a line with the key `before`.
+pub(crate) fn in_order(before: Option<Key>, line: &GraphLine) -> bool
+    ensures { result ≡ in_order before line.now }
+{
+    match before {
+        None => targets_rise(line),
+        Some(before) => targets_rise(line) && key_below(before, line.key()),
+    }
+}

@@ -1,0 +1,100 @@
+ghost use Rattle.std.specs.Prelude.{◌≡◌, ◌<◌, ◌≤◌, [], ◌∷◌, ◌++◌, IfOk, OnOk, Ok};
+ghost use Rattle.std.specs.List.{flat_map};
+ghost use Rattle.cfi_graph.specs.Text.{graph_text, hex_digit, hex_text, spaced, words_of_line};
+ghost use Rattle.cfi_graph.specs.Reading.{graph_of};
+
+use crate::graph::Graph;
+use crate::line::{GraphLine, SiteKind};
+use rv_word::NoMemory;
+use std::alloc::Global;
+
+fn hex_digit(digit: u8) -> u8
+    requires { digit < 16 }
+    ensures { result ≡ hex_digit digit }
+{
+    if digit < 10 {
+        b'0' + digit
+    } else {
+        b'a' - 10 + digit
+    }
+}
+
+/// Adds a space and the last `count` hexadecimal digits of a number.
+fn push_number(out: &mut Vec<u8>, number: u64, count: u32) -> Result<(), NoMemory>
+    requires { count ≤ 16 }
+    ensures { OnOk result (out.new.items ≡ out.old.items ++ 32 ∷ hex_text count number) }
+{
+    out.push(b' ')?;
+    let mut left = count;
+    while left > 0 {
+        left -= 1;
+        out.push(hex_digit((number >> (4 * left) & 0xf) as u8))?;
+    }
+    Ok(())
+}
+
+fn push_numbers(out: &mut Vec<u8>, numbers: &[u64]) -> Result<(), NoMemory>
+    ensures { OnOk result
+        (out.new.items ≡ out.old.items ++ flat_map (λ n. 32 ∷ hex_text 8 n) numbers.now) }
+{
+    for number in numbers {
+        push_number(out, *number, 8)?;
+    }
+    Ok(())
+}
+
+/// Adds the words of a line, with a space between each two.
+fn push_words(out: &mut Vec<u8>, line: &GraphLine) -> Result<(), NoMemory>
+    ensures { OnOk result (out.new.items ≡ out.old.items ++ spaced (words_of_line line.now)) }
+{
+    match line {
+        GraphLine::Class(label, targets) => {
+            out.extend_from_slice(b"class")?;
+            push_number(out, u64::from(*label), 5)?;
+            push_numbers(out, targets.as_slice())
+        }
+        GraphLine::Site(address, kind, label) => {
+            out.extend_from_slice(b"site")?;
+            push_number(out, *address, 8)?;
+            let name = match kind {
+                SiteKind::Call => b" call",
+                SiteKind::Jump => b" jump",
+            };
+            out.extend_from_slice(name)?;
+            push_number(out, u64::from(*label), 5)
+        }
+        GraphLine::Edge(from, to) => {
+            out.extend_from_slice(b"edge")?;
+            push_numbers(out, &[*from, *to])
+        }
+        GraphLine::Call(from, to) => {
+            out.extend_from_slice(b"call")?;
+            push_numbers(out, &[*from, *to])
+        }
+    }
+}
+
+fn push_lines(out: &mut Vec<u8>, lines: &[GraphLine]) -> Result<(), NoMemory>
+    ensures { OnOk result (out.new.items
+        ≡ out.old.items ++ flat_map (λ l. spaced (words_of_line l) ++ 10 ∷ []) lines.now) }
+{
+    for line in lines {
+        push_words(out, line)?;
+        out.push(b'\n')?;
+    }
+    Ok(())
+}
+
+/// The text of a graph.
+pub fn write_graph(alloc: Global, graph: &Graph) -> Result<Vec<u8>, NoMemory>
+    ensures text { IfOk result (λ v. v.items ≡ graph_text graph.now) }
+    ensures read_back { IfOk result (λ v. graph_of v.items ≡ Ok graph.now) }
+{
+    let mut out = Vec::new(alloc);
+    out.extend_from_slice(b"rvcfi-graph 1\ncode 40000000")?;
+    push_number(&mut out, u64::from(graph.code), 8)?;
+    out.push(b'\n')?;
+    push_lines(&mut out, graph.lines.as_slice())?;
+    out.extend_from_slice(b"end\n")?;
+    Ok(out)
+}
