@@ -1,0 +1,102 @@
+-- The facts of a word: where its pc is, that they begin where a unit is entered, and that changes
+-- outside of the own part of the shadow keep them.
+use Rattle.std.proofs.Common.{◌≡◌, ℕ, suc, ◌+◌, ◌<◌, List, [], ◌∷◌, length, refl, ◌∙◌, arith}
+use Rattle.rv_word.specs.Layout.{PART_SIZE}
+use Rattle.rv_word.specs.Memory.{Memory, read}
+use Rattle.rv_instr.specs.Registers.{Registers}
+use Rattle.rv_code.specs.State.{Hart}
+use Rattle.rv_code.proofs.Frames.{read_same}
+use Rattle.cfi_unit.specs.declared.unit.Unit as U
+use Rattle.cfi_unit.specs.declared.unit.Unit.TheVariants as V
+use Rattle.cfi_unit.specs.Place.{Place, handler, opening, closing, body}
+use Rattle.cfi_unit.specs.Shadow.{slot, MOST_PENDING}
+use Rattle.cfi_unit.specs.Context.{SameOn}
+use Rattle.cfi_unit.specs.InPlace
+use Rattle.cfi_unit.specs.InPlace.{InWord, only, InBranch, branch_test, branch_jump, InStore, store_addi, store_slli, store_srli, store_store, InPush, push_slli, push_bne, push_deep, push_auipc, push_addi, push_store, push_grow, Pushed, InCall, call_push, call_jump, InCheck, check_addi, check_andi, check_lui, check_sub, check_srli, check_region, check_outside, check_lw, check_label, check_opcode, check_word, check_other, InIjump, ijump_check, ijump_jump, InIcall, icall_check, icall_push, icall_jump, InReturn, return_ld, return_addi, return_beq, return_other, return_jump, InOpening, opening_stack, opening_shadow, opening_slot, opening_call, InClosing, closing_number, closing_ecall, InUnit}
+use Rattle.cfi_unit.specs.UnitLaw.{MayStand}
+
+module _ (part : ℕ) (m m' : Memory) (same : SameOn part (part + PART_SIZE) m m') where
+  site_same : (n site : ℕ) → n < MOST_PENDING → read 8 m (slot part n) ≡ site → read 8 m' (slot part n) ≡ site
+  site_same n site room is = read_same 8 m m' (slot part n) (λ k low high. same k (omega arith) (omega arith)) ∙ is
+
+  pushed_same : {site v n : ℕ} {h : Hart} → Pushed part site v n h m → Pushed part site v n h m'
+  pushed_same {site = site} {n = n} i = record { kept = i.kept; pointer = i.pointer; room = i.room; site_is = site_same n site i.room i.site_is }
+
+  push_same : {at v n : ℕ} {h : Hart} → InPush part at v n h m → InPush part at v n h m'
+  push_same (push_slli e x31 x3) = push_slli e x31 x3
+  push_same (push_bne e x31 x3 x30) = push_bne e x31 x3 x30
+  push_same (push_deep e x31 x3 full) = push_deep e x31 x3 full
+  push_same (push_auipc e x31 x3 room) = push_auipc e x31 x3 room
+  push_same (push_addi e x31 x3 room x30) = push_addi e x31 x3 room x30
+  push_same (push_store e x31 x3 room x30) = push_store e x31 x3 room x30
+  push_same {at = at} {n = n} (push_grow e x31 x3 room stored) = push_grow e x31 x3 room (site_same n (at + 32) room stored)
+
+  call_same : {at v n : ℕ} {h : Hart} → InCall part at v n h m → InCall part at v n h m'
+  call_same (call_push i) = call_push (push_same i)
+  call_same (call_jump e i) = call_jump e (pushed_same i)
+
+  icall_same : {image : Memory} {at rs1 imm label sum v n : ℕ} {h : Hart} →
+      InIcall part image at rs1 imm label sum v n h m → InIcall part image at rs1 imm label sum v n h m'
+  icall_same (icall_check i) = icall_check i
+  icall_same (icall_push legal i) = icall_push legal (push_same i)
+  icall_same (icall_jump e legal i) = icall_jump e legal (pushed_same i)
+
+  opening_same : {v : ℕ} {h : Hart} → InOpening part v h m → InOpening part v h m'
+  opening_same (opening_stack e x31) = opening_stack e x31
+  opening_same (opening_shadow e x31) = opening_shadow e x31
+  opening_same (opening_slot e x31 x3) = opening_slot e x31 x3
+  opening_same (opening_call i) = opening_call (call_same i)
+
+  unit_same : (image : Memory) (unit : U.Unit) (at : ℕ) (pending : List ℕ) (r : Registers) (h : Hart) →
+      InUnit part image unit at pending r h m → InUnit part image unit at pending r h m'
+  unit_same image (V.Gate label) at pending r h i = i
+  unit_same image (V.Plain instr) at pending r h i = i
+  unit_same image (V.Branch op rs1 rs2 target) at pending r h i = i
+  unit_same image (V.Jump target) at pending r h i = i
+  unit_same image V.Stop at pending r h i = i
+  unit_same image (V.System op) at pending r h i = i
+  unit_same image (V.Store op rs1 rs2 imm) at pending r h i = i
+  unit_same image (V.Call target) at pending r h i = call_same i
+  unit_same image (V.Ijump rs1 imm label) at pending r h i = i
+  unit_same image (V.Icall rs1 imm label) at pending r h i = icall_same i
+  unit_same image V.Return at [] r h i = i
+  unit_same image V.Return at (site ∷ pending) r h i = i
+
+  pub in_place_changed : (image : Memory) (place : Place) (at : ℕ) (pending : List ℕ) (r : Registers) (h : Hart) →
+      InPlace.InPlace part image place at pending r h m → InPlace.InPlace part image place at pending r h m'
+  in_place_changed image handler at pending r h i = i
+  in_place_changed image (opening entry) at pending r h i = opening_same i
+  in_place_changed image closing at pending r h i = i
+  in_place_changed image (body unit) at pending r h i = unit_same image unit at pending r h i
+
+-- a place may be entered: units want x3 past the newest site, and a pending site
+abbrev pub IsReady : ℕ → Place → List ℕ → Hart → Type 0
+IsReady part handler pending h = Unit {0}
+IsReady part (opening entry) pending h = Unit {0}
+IsReady part closing pending h = Unit {0}
+IsReady part (body unit) [] h = ⊥
+IsReady part (body unit) (site ∷ pending) h = h.regs 3 ≡ slot part (suc (length pending))
+
+module _ (part : ℕ) (image : Memory) (at : ℕ) (h : Hart) (m : Memory) where
+  unit_begins : (unit : U.Unit) (site : ℕ) (pending : List ℕ) → h.regs 3 ≡ slot part (suc (length pending)) → h.pc ≡ at →
+      InUnit part image unit at (site ∷ pending) h.regs h m
+  unit_begins (V.Gate label) site pending x3 e = only e x3
+  unit_begins (V.Plain instr) site pending x3 e = only e x3
+  unit_begins (V.Branch op rs1 rs2 target) site pending x3 e = branch_test e x3
+  unit_begins (V.Jump target) site pending x3 e = only e x3
+  unit_begins V.Stop site pending x3 e = only e x3
+  unit_begins (V.System op) site pending x3 e = only e x3
+  unit_begins (V.Store op rs1 rs2 imm) site pending x3 e = store_addi e x3
+  unit_begins (V.Call target) site pending x3 e = call_push (push_slli e refl x3)
+  unit_begins (V.Ijump rs1 imm label) site pending x3 e = ijump_check (check_addi e x3 refl)
+  unit_begins (V.Icall rs1 imm label) site pending x3 e = icall_check (check_addi e x3 refl)
+  unit_begins V.Return site pending x3 e = return_ld e x3 refl
+
+  -- the facts of the first word
+  pub place_begins : (place : Place) (pending : List ℕ) → MayStand place part at pending → IsReady part place pending h → h.pc ≡ at →
+      InPlace.InPlace part image place at pending h.regs h m
+  place_begins handler pending may ready e = e
+  place_begins (opening entry) pending may ready e = opening_stack (e ∙ may.1) refl
+  place_begins closing pending may ready e = closing_number e
+  place_begins (body unit) [] may ready e = absurd ready
+  place_begins (body unit) (site ∷ pending) may ready e = unit_begins unit site pending ready e

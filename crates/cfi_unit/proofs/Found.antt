@@ -1,0 +1,196 @@
+-- The words of a unit that fits are recognised as that unit, whatever follows them.
+use Rattle.std.proofs.Common.{◌≡◌, ℕ, ◌+◌, ◌<◌, ◌^◌, ◌==◌, refl, ap, sym, subst, ◌∙◌, lit<, true, false, not, List, ◌++◌, length, drop, inl, inr, zero, suc, ◌≢◌}
+use Rattle.std.specs.Prelude.{Some, nat_eq}
+use Rattle.std.specs.List.{starts_with}
+use Rattle.std.proofs.lemmas.Bool.{eqb-true, cases_Bool}
+use Rattle.std.proofs.lemmas.Bool.Decides.{Decides-eqb}
+use Rattle.std.proofs.lemmas.Nat.{mod_below}
+use Rattle.std.proofs.lemmas.Slice.Eq.{starts_is}
+use Rattle.std.proofs.lemmas.List.{take-append-drop}
+use Rattle.std.proofs.Math.Seq.{take-append_seam}
+use Rattle.rv_instr.specs.InRange.{IsInstr}
+use Rattle.rv_instr.specs.declared.instr.Instr.{Instr}
+use Rattle.rv_instr.specs.declared.instr.Instr.TheVariants.{Upper, Jal, Jalr, Branch, Load, Store, Immediate, Shift, ShiftWord, Register, Fence, Ecall, Ebreak}
+use Rattle.rv_instr.specs.declared.instr.UpperOp.TheVariants.{Lui, Auipc}
+use Rattle.rv_instr.specs.declared.instr.ImmediateOp.TheVariants.{Addi, Andi}
+use Rattle.rv_instr.specs.declared.instr.ShiftOp.TheVariants.{Slli}
+use Rattle.rv_instr.specs.declared.instr.BranchOp.{BranchOp}
+use Rattle.rv_instr.specs.declared.instr.LoadOp.TheVariants.{Ld}
+use Rattle.rv_instr.specs.declared.instr.StoreOp.{StoreOp}
+use Rattle.rv_code.proofs.ReadBack.{decoded-code_of}
+use Rattle.cfi_unit.specs.declared.unit.Unit as U
+use Rattle.cfi_unit.specs.declared.unit.Unit.TheVariants as V
+use Rattle.cfi_unit.specs.declared.unit.SystemOp.TheVariants as S
+use Rattle.cfi_unit.specs.UnitWords.{BAD_TARGET, MINUS_EIGHT, MINUS_FOUR, Begins, Fits, Reaches, gate, is_plain, is_reserved, jump, jump_offset, word_count, words_of}
+use Rattle.cfi_unit.specs.Recognise.{can_stand, instr_at, jump_or_stop, led_to, recognised, stands, unit_from}
+use Rattle.cfi_unit.proofs.Stand.{and_both, fits_stand}
+
+pub recognised_by : (ws : List ℕ) (at : ℕ) (i : Instr) (u : U.Unit) → instr_at ws 0 ≡ Some i →
+    unit_from ws at i ≡ Some u → stands ws at u ≡ true → recognised ws at ≡ Some u
+unfolding recognised
+recognised_by ws at i u a b c = rw (a, b, c) refl
+
+starts_prefix : (p rest : List ℕ) → starts_with nat_eq (p ++ rest) p ≡ true
+starts_prefix p rest =
+    (starts_is Decides-eqb (p ++ rest) p (starts_with nat_eq (p ++ rest) p) refl).1 rest refl
+
+stands_there : (u : U.Unit) (at : ℕ) (rest : List ℕ) → Fits u at → stands (words_of u at ++ rest) at u ≡ true
+stands_there u at rest f =
+    and_both (can_stand u at) (starts_with nat_eq (words_of u at ++ rest) (words_of u at)) (fits_stand u at f) (starts_prefix (words_of u at) rest)
+
+-- a register that programs may write is neither x30 nor x31
+free_30 : (r : ℕ) → not (is_reserved r) ≡ true → (r == 30) ≡ false
+free_30 r h =
+    elim (cases_Bool (r == 30)) [
+      | inl same ↦ let bad = subst (λ (k : ℕ). not (is_reserved k) ≡ true) (eqb-true r 30 same) h in cc
+      | inr differs ↦ differs
+    ]
+
+free_31 : (r : ℕ) → not (is_reserved r) ≡ true → (r == 31) ≡ false
+free_31 r h =
+    elim (cases_Bool (r == 31)) [
+      | inl same ↦ let bad = subst (λ (k : ℕ). not (is_reserved k) ≡ true) (eqb-true r 31 same) h in cc
+      | inr differs ↦ differs
+    ]
+
+plain_from : (ws : List ℕ) (at : ℕ) (i : Instr) → is_plain i ≡ true → unit_from ws at i ≡ Some (V.Plain i)
+plain_from ws at (Upper Lui zero imm) h = cc
+plain_from ws at (Upper Lui (suc rd) imm) h = refl
+plain_from ws at (Upper Auipc rd imm) h = refl
+plain_from ws at (Jal rd imm) h = cc
+plain_from ws at (Jalr rd rs1 imm) h = cc
+plain_from ws at (Branch op rs1 rs2 imm) h = cc
+plain_from ws at (Load op rd rs1 imm) h = rw (free_31 rd h) refl
+plain_from ws at (Store op rs1 rs2 imm) h = cc
+plain_from ws at (Immediate op rd rs1 imm) h = rw (free_31 rd h) refl
+plain_from ws at (Shift op rd rs1 amount) h = rw (free_30 rd h) refl
+plain_from ws at (ShiftWord op rd rs1 amount) h = refl
+plain_from ws at (Register op rd rs1 rs2) h = refl
+plain_from ws at (Fence word) h = refl
+plain_from ws at Ecall h = cc
+plain_from ws at Ebreak h = cc
+
+is_jump : (rd from to : ℕ) → rd < 32 → IsInstr (Jal rd (jump_offset from to))
+is_jump rd from to low = (low, mod_below _ (2 ^ 20) (lit< tt))
+
+branch_from : (ws : List ℕ) (at : ℕ) (op : BranchOp) (rs1 rs2 target : ℕ) → instr_at ws 1 ≡ Some (jump (at + 4) target) →
+    Reaches (at + 4) target → unit_from ws at (Branch op rs1 rs2 4) ≡ Some (V.Branch op rs1 rs2 target)
+branch_from ws at op rs1 rs2 target a r = rw a (ap (λ t. Some (V.Branch op rs1 rs2 t)) r)
+
+differ : (a b : ℕ) → a ≢ b → (a == b) ≡ false
+differ a b other =
+    elim (cases_Bool (a == b)) [ inl same ↦ absurd (other (eqb-true a b same)) | inr differs ↦ differs ]
+
+jump_from : (ws : List ℕ) (at target : ℕ) → target ≢ BAD_TARGET → Reaches at target →
+    unit_from ws at (jump at target) ≡ Some (V.Jump target)
+jump_from ws at target other r =
+    let same : jump_or_stop (led_to at (jump_offset at target)) ≡ jump_or_stop target = ap jump_or_stop r in
+    let jumps : jump_or_stop target ≡ V.Jump target = rw (differ target BAD_TARGET other) refl in
+    ap (λ u. Some u) (same ∙ jumps)
+
+call_from : (ws : List ℕ) (at target : ℕ) → instr_at ws 7 ≡ Some (Jal 1 (jump_offset (at + 28) target)) →
+    Reaches (at + 28) target → unit_from ws at (Shift Slli 30 3 48) ≡ Some (V.Call target)
+call_from ws at target a r = rw a (ap (λ t. Some (V.Call t)) r)
+
+store_from : (ws : List ℕ) (at : ℕ) (op : StoreOp) (rs1 rs2 imm : ℕ) → instr_at ws 1 ≡ Some (Shift Slli 31 31 36) →
+    instr_at ws 3 ≡ Some (Store op 31 rs2 0) → unit_from ws at (Immediate Addi 31 rs1 imm) ≡ Some (V.Store op rs1 rs2 imm)
+store_from ws at op rs1 rs2 imm a b = rw (a, b) refl
+
+ijump_from : (ws : List ℕ) (at rs1 imm label : ℕ) → instr_at ws 1 ≡ Some (Immediate Andi 31 31 MINUS_FOUR) →
+    instr_at ws 8 ≡ Some (Upper Lui 4 label) → instr_at ws 12 ≡ Some (Jalr 0 31 0) →
+    unit_from ws at (Immediate Addi 31 rs1 imm) ≡ Some (V.Ijump rs1 imm label)
+ijump_from ws at rs1 imm label a b c = rw (a, b, c) refl
+
+icall_from : (ws : List ℕ) (at rs1 imm label : ℕ) → instr_at ws 1 ≡ Some (Immediate Andi 31 31 MINUS_FOUR) →
+    instr_at ws 8 ≡ Some (Upper Lui 4 label) → instr_at ws 12 ≡ Some (Shift Slli 30 3 48) →
+    unit_from ws at (Immediate Addi 31 rs1 imm) ≡ Some (V.Icall rs1 imm label)
+icall_from ws at rs1 imm label a b c = rw (a, b, c) refl
+
+stop_from : (ws : List ℕ) (at : ℕ) → Reaches at BAD_TARGET → unit_from ws at (jump at BAD_TARGET) ≡ Some V.Stop
+stop_from ws at r = ap (λ t. Some (jump_or_stop t)) r
+
+pub found : (u : U.Unit) (at : ℕ) (rest : List ℕ) → Fits u at → recognised (words_of u at ++ rest) at ≡ Some u
+unfolding words_of
+found (V.Gate label) at rest f =
+    recognised_by (words_of (V.Gate label) at ++ rest) at (gate label) (V.Gate label)
+    (decoded-code_of (gate label) (lit< tt, f)) refl (stands_there (V.Gate label) at rest f)
+found (V.Plain i) at rest f =
+    let ws : List ℕ = words_of (V.Plain i) at ++ rest in
+    recognised_by ws at i (V.Plain i) (decoded-code_of i f.0) (plain_from ws at i f.1) (stands_there (V.Plain i) at rest f)
+found (V.Branch op rs1 rs2 target) at rest f =
+    let u : U.Unit = V.Branch op rs1 rs2 target in
+    let ws : List ℕ = words_of u at ++ rest in
+    recognised_by ws at (Branch op rs1 rs2 4) u (decoded-code_of (Branch op rs1 rs2 4) (f.0, f.1, lit< tt))
+    (branch_from ws at op rs1 rs2 target (decoded-code_of (jump (at + 4) target) (is_jump 0 (at + 4) target (lit< tt))) f.2)
+    (stands_there u at rest f)
+found (V.Jump target) at rest f =
+    let ws : List ℕ = words_of (V.Jump target) at ++ rest in
+    recognised_by ws at (jump at target) (V.Jump target) (decoded-code_of (jump at target) (is_jump 0 at target (lit< tt)))
+    (jump_from ws at target f.0 f.1) (stands_there (V.Jump target) at rest f)
+found V.Stop at rest f =
+    let ws : List ℕ = words_of V.Stop at ++ rest in
+    recognised_by ws at (jump at BAD_TARGET) V.Stop (decoded-code_of (jump at BAD_TARGET) (is_jump 0 at BAD_TARGET (lit< tt)))
+    (stop_from ws at f) (stands_there V.Stop at rest f)
+found (V.System S.Ecall) at rest f =
+    recognised_by (words_of (V.System S.Ecall) at ++ rest) at Ecall (V.System S.Ecall) (decoded-code_of Ecall tt) refl
+    (stands_there (V.System S.Ecall) at rest f)
+found (V.System S.Ebreak) at rest f =
+    recognised_by (words_of (V.System S.Ebreak) at ++ rest) at Ebreak (V.System S.Ebreak) (decoded-code_of Ebreak tt) refl
+    (stands_there (V.System S.Ebreak) at rest f)
+found (V.Store op rs1 rs2 imm) at rest f =
+    let u : U.Unit = V.Store op rs1 rs2 imm in
+    let ws : List ℕ = words_of u at ++ rest in
+    recognised_by ws at (Immediate Addi 31 rs1 imm) u (decoded-code_of (Immediate Addi 31 rs1 imm) (lit< tt, f.0, f.2))
+    (store_from ws at op rs1 rs2 imm (decoded-code_of (Shift Slli 31 31 36) (lit< tt, lit< tt, lit< tt))
+    (decoded-code_of (Store op 31 rs2 0) (lit< tt, f.1, lit< tt)))
+    (stands_there u at rest f)
+found (V.Call target) at rest f =
+    let u : U.Unit = V.Call target in
+    let ws : List ℕ = words_of u at ++ rest in
+    recognised_by ws at (Shift Slli 30 3 48) u (decoded-code_of (Shift Slli 30 3 48) (lit< tt, lit< tt, lit< tt))
+    (call_from ws at target (decoded-code_of (Jal 1 (jump_offset (at + 28) target)) (is_jump 1 (at + 28) target (lit< tt))) f.1)
+    (stands_there u at rest f)
+found (V.Ijump rs1 imm label) at rest f =
+    let u : U.Unit = V.Ijump rs1 imm label in
+    let ws : List ℕ = words_of u at ++ rest in
+    recognised_by ws at (Immediate Addi 31 rs1 imm) u (decoded-code_of (Immediate Addi 31 rs1 imm) (lit< tt, f.0, f.1))
+    (ijump_from ws at rs1 imm label (decoded-code_of (Immediate Andi 31 31 MINUS_FOUR) (lit< tt, lit< tt, lit< tt))
+    (decoded-code_of (Upper Lui 4 label) (lit< tt, f.2)) (decoded-code_of (Jalr 0 31 0) (lit< tt, lit< tt, lit< tt)))
+    (stands_there u at rest f)
+found (V.Icall rs1 imm label) at rest f =
+    let u : U.Unit = V.Icall rs1 imm label in
+    let ws : List ℕ = words_of u at ++ rest in
+    recognised_by ws at (Immediate Addi 31 rs1 imm) u (decoded-code_of (Immediate Addi 31 rs1 imm) (lit< tt, f.0.0, f.0.1))
+    (icall_from ws at rs1 imm label (decoded-code_of (Immediate Andi 31 31 MINUS_FOUR) (lit< tt, lit< tt, lit< tt))
+    (decoded-code_of (Upper Lui 4 label) (lit< tt, f.0.2)) (decoded-code_of (Shift Slli 30 3 48) (lit< tt, lit< tt, lit< tt)))
+    (stands_there u at rest f)
+found V.Return at rest f =
+    recognised_by (words_of V.Return at ++ rest) at (Load Ld 31 3 MINUS_EIGHT) V.Return
+    (decoded-code_of (Load Ld 31 3 MINUS_EIGHT) (lit< tt, lit< tt, lit< tt)) refl (stands_there V.Return at rest f)
+
+pub words_counted : (u : U.Unit) (at : ℕ) → length (words_of u at) ≡ word_count u
+unfolding words_of
+words_counted (V.Gate label) at = refl
+words_counted (V.Plain i) at = refl
+words_counted (V.Branch op rs1 rs2 target) at = refl
+words_counted (V.Jump target) at = refl
+words_counted V.Stop at = refl
+words_counted (V.System op) at = refl
+words_counted (V.Store op rs1 rs2 imm) at = refl
+words_counted (V.Call target) at = refl
+words_counted (V.Ijump rs1 imm label) at = refl
+words_counted (V.Icall rs1 imm label) at = refl
+words_counted V.Return at = refl
+
+-- the words of a unit that fits begin with it
+pub begins : (u : U.Unit) (at : ℕ) (rest : List ℕ) → Fits u at → Begins (words_of u at ++ rest) at u
+begins u at rest f = record {
+  fits = f;
+  words_are = rw (← words_counted u at) (take-append_seam (words_of u at) rest);
+}
+
+pub begins_recognised : (ws : List ℕ) (at : ℕ) (u : U.Unit) → Begins ws at u → recognised ws at ≡ Some u
+begins_recognised ws at u b =
+    let parts : words_of u at ++ drop (word_count u) ws ≡ ws =
+    ap (λ (p : List ℕ). p ++ drop (word_count u) ws) (sym b.words_are) ∙ take-append-drop (word_count u) ws in
+    sym (ap (λ (l : List ℕ). recognised l at) parts) ∙ found u at (drop (word_count u) ws) b.fits

@@ -1,0 +1,145 @@
+-- A label's word stands in code only as the gate of that label.
+use Rattle.std.proofs.Common.{◌≡◌, ℕ, zero, suc, ◌+◌, ◌-◌, ◌*◌, ◌/◌, ◌%◌, ◌^◌, ◌<◌, ◌≤◌, ◌&&◌, Bool, true, false, not, inl, inr, List, [], ◌∷◌, length, Some, refl, sym, ap, ◌∙◌, arith}
+use Rattle.std.specs.Prelude.{slice_get}
+use Rattle.std.proofs.lemmas.Bool.{and_parts}
+use Rattle.std.proofs.lemmas.Option.{slice_get_cases}
+use Rattle.rv_word.specs.Memory.{Memory, read}
+use Rattle.rv_instr.specs.declared.instr.Instr.{Instr}
+use Rattle.rv_instr.specs.declared.instr.Instr.TheVariants.{Upper, Jal, Jalr, Branch, Load, Store, Immediate, Shift, ShiftWord, Register, Fence, Ecall, Ebreak}
+use Rattle.rv_instr.specs.declared.instr.UpperOp.TheVariants.{Lui, Auipc}
+use Rattle.rv_code.specs.Decode.{decoded}
+use Rattle.rv_code.specs.Fields.{fields_of, imm_u}
+use Rattle.cfi_unit.specs.declared.unit.Unit as U
+use Rattle.cfi_unit.specs.declared.unit.Unit.TheVariants as V
+use Rattle.cfi_unit.specs.declared.unit.SystemOp.TheVariants as S
+use Rattle.cfi_unit.specs.UnitWords.{Fits, gate, instrs_of, is_plain, word_count}
+use Rattle.cfi_unit.specs.Place.{Place, handler, opening, closing, body, place_instrs, place_size}
+use Rattle.cfi_unit.specs.Stand.{Stand}
+use Rattle.cfi_unit.specs.Leads.{HasLabel}
+use Rattle.cfi_unit.specs.UnitLaw.{MayStand}
+
+-- the word that a check compares with is a gate
+pub gate_word : (word label : ℕ) → label < 2 ^ 20 → word ≡ label * 4096 + 55 → decoded word ≡ Some (gate label)
+unfolding decoded
+gate_word word label low is =
+    let opcode : word % 2 ^ 7 ≡ 0x37 = omega arith in
+    let rd : word / 2 ^ 7 % 2 ^ 5 ≡ 0 = omega arith in
+    let imm : imm_u (fields_of word) ≡ label = omega arith in
+    rw (opcode, rd, imm) refl
+
+abbrev is_gate : Instr → Bool
+is_gate (Upper Lui zero imm) = true
+is_gate (Upper Lui (suc rd) imm) = false
+is_gate (Upper Auipc rd imm) = false
+is_gate (Jal rd imm) = false
+is_gate (Jalr rd rs1 imm) = false
+is_gate (Branch op rs1 rs2 imm) = false
+is_gate (Load op rd rs1 imm) = false
+is_gate (Store op rs1 rs2 imm) = false
+is_gate (Immediate op rd rs1 imm) = false
+is_gate (Shift op rd rs1 amount) = false
+is_gate (ShiftWord op rd rs1 amount) = false
+is_gate (Register op rd rs1 rs2) = false
+is_gate (Fence word) = false
+is_gate Ecall = false
+is_gate Ebreak = false
+
+abbrev no_gate : List Instr → Bool
+no_gate [] = true
+no_gate (i ∷ is) = not (is_gate i) && no_gate is
+
+nowhere : (is : List Instr) (k : ℕ) (label : ℕ) → no_gate is ≡ true → slice_get is k ≡ Some (gate label) → ⊥
+nowhere [] k label none at = cc
+nowhere (i ∷ is) zero label none at =
+    let same : i ≡ gate label = cc in
+    let is_one : not (is_gate i) ≡ false = ap (λ j. not (is_gate j)) same in
+    let is_none : not (is_gate i) ≡ true = (and_parts _ _ none).0 in
+    cc
+nowhere (i ∷ is) (suc k) label none at = nowhere is k label (and_parts _ _ none).1 at
+
+plain_gate : (i : Instr) → is_plain i ≡ true → no_gate (i ∷ []) ≡ true
+plain_gate (Upper Lui zero imm) plain = absurd (cc)
+plain_gate (Upper Lui (suc rd) imm) plain = refl
+plain_gate (Upper Auipc rd imm) plain = refl
+plain_gate (Jal rd imm) plain = refl
+plain_gate (Jalr rd rs1 imm) plain = refl
+plain_gate (Branch op rs1 rs2 imm) plain = refl
+plain_gate (Load op rd rs1 imm) plain = refl
+plain_gate (Store op rs1 rs2 imm) plain = refl
+plain_gate (Immediate op rd rs1 imm) plain = refl
+plain_gate (Shift op rd rs1 amount) plain = refl
+plain_gate (ShiftWord op rd rs1 amount) plain = refl
+plain_gate (Register op rd rs1 rs2) plain = refl
+plain_gate (Fence word) plain = refl
+plain_gate Ecall plain = refl
+plain_gate Ebreak plain = refl
+
+other_unit : (unit : U.Unit) (at k label : ℕ) → no_gate (instrs_of unit at) ≡ true → slice_get (instrs_of unit at) k ≡ Some (gate label) →
+    (unit ≡ V.Gate label) × (k ≡ 0)
+other_unit unit at k label none is = absurd (nowhere (instrs_of unit at) k label none is)
+
+pub gate_unit : (unit : U.Unit) (at k label : ℕ) → Fits unit at → slice_get (instrs_of unit at) k ≡ Some (gate label) →
+    (unit ≡ V.Gate label) × (k ≡ 0)
+gate_unit (V.Gate other) at zero label fits is = let same : other ≡ label = cc in (ap V.Gate same, refl)
+gate_unit (V.Gate other) at (suc k) label fits is = absurd (cc)
+gate_unit (V.Plain instr) at k label fits is = other_unit (V.Plain instr) at k label (plain_gate instr fits.1) is
+gate_unit (V.Branch op rs1 rs2 target) at k label fits is = other_unit (V.Branch op rs1 rs2 target) at k label refl is
+gate_unit (V.Jump target) at k label fits is = other_unit (V.Jump target) at k label refl is
+gate_unit V.Stop at k label fits is = other_unit V.Stop at k label refl is
+gate_unit (V.System S.Ecall) at k label fits is = other_unit (V.System S.Ecall) at k label refl is
+gate_unit (V.System S.Ebreak) at k label fits is = other_unit (V.System S.Ebreak) at k label refl is
+gate_unit (V.Store op rs1 rs2 imm) at k label fits is = other_unit (V.Store op rs1 rs2 imm) at k label refl is
+gate_unit (V.Call target) at k label fits is = other_unit (V.Call target) at k label refl is
+gate_unit (V.Ijump rs1 imm other) at k label fits is = other_unit (V.Ijump rs1 imm other) at k label refl is
+gate_unit (V.Icall rs1 imm other) at k label fits is = other_unit (V.Icall rs1 imm other) at k label refl is
+gate_unit V.Return at k label fits is = other_unit V.Return at k label refl is
+
+gate_place : (part : ℕ) (pending : List ℕ) (place : Place) (at k label : ℕ) → MayStand place part at pending →
+    slice_get (place_instrs place at) k ≡ Some (gate label) → (place ≡ body (V.Gate label)) × (k ≡ 0)
+gate_place part pending handler at k label may is = absurd (nowhere (place_instrs handler at) k label refl is)
+gate_place part pending (opening entry) at k label may is = absurd (nowhere (place_instrs (opening entry) at) k label refl is)
+gate_place part pending closing at k label may is = absurd (nowhere (place_instrs closing at) k label refl is)
+gate_place part pending (body unit) at k label may is =
+    let found = gate_unit unit at k label may.0 is in (ap body found.0, found.1)
+
+-- the words of a place are its bytes
+unit_size : (unit : U.Unit) (at : ℕ) → 4 * length (instrs_of unit at) ≡ 4 * word_count unit
+unit_size (V.Gate label) at = refl
+unit_size (V.Plain instr) at = refl
+unit_size (V.Branch op rs1 rs2 target) at = refl
+unit_size (V.Jump target) at = refl
+unit_size V.Stop at = refl
+unit_size (V.System S.Ecall) at = refl
+unit_size (V.System S.Ebreak) at = refl
+unit_size (V.Store op rs1 rs2 imm) at = refl
+unit_size (V.Call target) at = refl
+unit_size (V.Ijump rs1 imm label) at = refl
+unit_size (V.Icall rs1 imm label) at = refl
+unit_size V.Return at = refl
+
+pub place_length : (place : Place) (at : ℕ) → 4 * length (place_instrs place at) ≡ place_size place
+place_length handler at = refl
+place_length (opening entry) at = refl
+place_length closing at = refl
+place_length (body unit) at = unit_size unit at
+
+-- an address that bears a label, in a place, is the start of a gate of that label
+pub label_is_gate : (image : Memory) (part : ℕ) (pending : List ℕ) (place : Place) (at label v : ℕ) → MayStand place part at pending →
+    Stand image at (place_instrs place at) → label < 2 ^ 20 → HasLabel image label v → at ≤ v → v < at + place_size place →
+    (place ≡ body (V.Gate label)) × (v ≡ at)
+label_is_gate image part pending place at label v may w low has from to =
+    let size = place_length place at in
+    let round = w.round in
+    let round_v = has.round in
+    let here : v ≡ at + 4 * ((v - at) / 4) = omega arith in
+    let gate_here : decoded (read 4 image (at + 4 * ((v - at) / 4))) ≡ Some (gate label) =
+    gate_word _ label low (ap (read 4 image) (sym here) ∙ has.word) in
+    elim (slice_get_cases (place_instrs place at) ((v - at) / 4)).1 [
+      | inl found ↦
+          let word = w.words ((v - at) / 4) found.0 found.2 in
+          let same : found.0 ≡ gate label = cc in
+          let at_gate = gate_place part pending place at ((v - at) / 4) label may (found.2 ∙ ap Some same) in
+          let first = at_gate.1 in
+          (at_gate.0, omega arith)
+      | inr past ↦ let beyond = past.0 in absurd (omega arith)
+    ]

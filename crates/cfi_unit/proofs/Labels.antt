@@ -1,0 +1,19 @@
+-- The word that a check reads and the word that it compares with.
+use Rattle.std.proofs.Common.{◌≡◌, ℕ, ◌+◌, ◌*◌, ◌^◌, ◌<◌, arith}
+use Rattle.std.proofs.lemmas.Bool.Decides.{nat_tests}
+use Rattle.rv_word.specs.Bits.{wrap}
+use Rattle.rv_word.specs.Memory.{Memory, read}
+use Rattle.rv_code.specs.Step.{offset}
+
+pub word_small : (m : Memory) (a : ℕ) → ((k : ℕ) → m k < 2 ^ 8) → read 4 m a < 2 ^ 32
+word_small m a small =
+    let b0 = small a in let b1 = small (a + 1) in let b2 = small (a + 1 + 1) in let b3 = small (a + 1 + 1 + 1) in omega arith
+
+-- both are sign-extended alike
+pub same_word : (word label : ℕ) → word < 2 ^ 32 → label < 2 ^ 20 →
+    offset 32 word ≡ wrap (offset 32 (label * 2 ^ 12) + 55) → word ≡ label * 4096 + 55
+same_word word label small low same = grind (arith, nat_tests)
+
+pub word_same : (word label : ℕ) → label < 2 ^ 20 → word ≡ label * 4096 + 55 →
+    offset 32 word ≡ wrap (offset 32 (label * 2 ^ 12) + 55)
+word_same word label low is = grind (arith, nat_tests)

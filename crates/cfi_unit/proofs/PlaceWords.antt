@@ -1,0 +1,110 @@
+-- The pc of a word's facts is a word of what stands there.
+use Rattle.std.proofs.Common.{◌≡◌, ℕ, ◌+◌, ◌*◌, ◌<◌, ◌≤◌, List, [], ◌∷◌, arith}
+use Rattle.rv_word.specs.Memory.{Memory}
+use Rattle.rv_instr.specs.Registers.{Registers}
+use Rattle.rv_code.specs.State.{Hart}
+use Rattle.cfi_unit.specs.declared.unit.Unit as U
+use Rattle.cfi_unit.specs.declared.unit.Unit.TheVariants as V
+use Rattle.cfi_unit.specs.Prologue.{OPENING}
+use Rattle.cfi_unit.specs.Place.{Place, handler, opening, closing, body, IsWordOf}
+use Rattle.cfi_unit.specs.InPlace.{InWord, only, InBranch, branch_test, branch_jump, InStore, store_addi, store_slli, store_srli, store_store, InPush, push_slli, push_bne, push_deep, push_auipc, push_addi, push_store, push_grow, InCall, call_push, call_jump, InCheck, check_addi, check_andi, check_lui, check_sub, check_srli, check_region, check_outside, check_lw, check_label, check_opcode, check_word, check_other, InIjump, ijump_check, ijump_jump, InIcall, icall_check, icall_push, icall_jump, InReturn, return_ld, return_addi, return_beq, return_other, return_jump, InOpening, opening_stack, opening_shadow, opening_slot, opening_call, InClosing, closing_number, closing_ecall, InUnit, InPlace}
+use Rattle.cfi_unit.specs.UnitLaw.{MayStand}
+
+-- one of `n` words from an address on
+abbrev Among : ℕ → ℕ → ℕ → Type 0
+Among n at pc = (k : ℕ) × (4 * k < 4 * n) × (pc ≡ at + 4 * k)
+
+later : (first n all at pc : ℕ) → first + n ≤ all → Among n (at + 4 * first) pc → Among all at pc
+later first n all at pc fits w = let below = w.1 in let e = w.2 in (first + w.0, omega arith, omega arith)
+
+closing_word : {at : ℕ} {h : Hart} → InClosing at h → Among 2 at h.pc
+closing_word (closing_number e) = (0, omega arith, omega arith)
+closing_word (closing_ecall e x17) = (1, omega arith, e)
+
+module _ {part : ℕ} {h : Hart} where
+  only_word : {at n : ℕ} → InWord part at n h → Among 1 at h.pc
+  only_word (only e x3) = (0, omega arith, omega arith)
+
+  branch_word : {at n : ℕ} → InBranch part at n h → Among 2 at h.pc
+  branch_word (branch_test e x3) = (0, omega arith, omega arith)
+  branch_word (branch_jump e x3) = (1, omega arith, e)
+
+  store_word : {at n : ℕ} → InStore part at n h → Among 4 at h.pc
+  store_word (store_addi e x3) = (0, omega arith, omega arith)
+  store_word (store_slli e x3) = (1, omega arith, e)
+  store_word (store_srli e x3 small) = (2, omega arith, e)
+  store_word (store_store e x3 small) = (3, omega arith, e)
+
+  return_word : {at link site n : ℕ} → InReturn part at link site n h → Among 5 at h.pc
+  return_word (return_ld e x3 x1) = (0, omega arith, omega arith)
+  return_word (return_addi e x3 x1 x31) = (1, omega arith, e)
+  return_word (return_beq e x3 x1 x31) = (2, omega arith, e)
+  return_word (return_other e x3 apart) = (3, omega arith, e)
+  return_word (return_jump e x3 same x31) = (4, omega arith, e)
+
+  module _ {image : Memory} {at rs1 imm label sum v n : ℕ} where
+    check_words : InCheck part image at rs1 imm label sum v n h → Among 12 at h.pc
+    check_words (check_addi e x3 is) = (0, omega arith, omega arith)
+    check_words (check_andi e x3 x31) = (1, omega arith, e)
+    check_words (check_lui e x3 x31) = (2, omega arith, e)
+    check_words (check_sub e x3 x31 x30) = (3, omega arith, e)
+    check_words (check_srli e x3 x31 x30) = (4, omega arith, e)
+    check_words (check_region e x3 x31 x30) = (5, omega arith, e)
+    check_words (check_outside e x3 outside) = (6, omega arith, e)
+    check_words (check_lw e x3 x31 code) = (7, omega arith, e)
+    check_words (check_label e x3 x31 code x30) = (8, omega arith, e)
+    check_words (check_opcode e x3 x31 code x30 x4) = (9, omega arith, e)
+    check_words (check_word e x3 x31 code x30 x4) = (10, omega arith, e)
+    check_words (check_other e x3 other) = (11, omega arith, e)
+
+    ijump_word : InIjump part image at rs1 imm label sum v n h → Among 13 at h.pc
+    ijump_word (ijump_check i) = let w = check_words i in let below = w.1 in (w.0, omega arith, w.2)
+    ijump_word (ijump_jump e checked) = (12, omega arith, e)
+
+  module _ {m : Memory} where
+    push_word : {at v n : ℕ} → InPush part at v n h m → Among 7 at h.pc
+    push_word (push_slli e x31 x3) = (0, omega arith, omega arith)
+    push_word (push_bne e x31 x3 x30) = (1, omega arith, e)
+    push_word (push_deep e x31 x3 full) = (2, omega arith, e)
+    push_word (push_auipc e x31 x3 room) = (3, omega arith, e)
+    push_word (push_addi e x31 x3 room x30) = (4, omega arith, e)
+    push_word (push_store e x31 x3 room x30) = (5, omega arith, e)
+    push_word (push_grow e x31 x3 room stored) = (6, omega arith, e)
+
+    call_word : {at v n : ℕ} → InCall part at v n h m → Among 8 at h.pc
+    call_word (call_push i) = let w = push_word i in let below = w.1 in (w.0, omega arith, w.2)
+    call_word (call_jump e pushed) = (7, omega arith, e)
+
+    icall_word : {image : Memory} {at rs1 imm label sum v n : ℕ} → InIcall part image at rs1 imm label sum v n h m → Among 20 at h.pc
+    icall_word (icall_check i) = let w = check_words i in let below = w.1 in (w.0, omega arith, w.2)
+    icall_word {at = at} (icall_push legal i) = later 12 7 20 at h.pc (omega arith) (push_word i)
+    icall_word (icall_jump e legal pushed) = (19, omega arith, e)
+
+    opening_word : {v : ℕ} → InOpening part v h m → Among 11 OPENING h.pc
+    opening_word (opening_stack e x31) = (0, omega arith, e)
+    opening_word (opening_shadow e x31) = (1, omega arith, e)
+    opening_word (opening_slot e x31 x3) = (2, omega arith, e)
+    opening_word (opening_call i) = later 3 8 11 OPENING h.pc (omega arith) (call_word i)
+
+unit_word : (part : ℕ) (image : Memory) (unit : U.Unit) (at : ℕ) (pending : List ℕ) (r : Registers) (h : Hart) (m : Memory) →
+    InUnit part image unit at pending r h m → IsWordOf (body unit) at h.pc
+unit_word part image (V.Gate label) at pending r h m i = only_word i
+unit_word part image (V.Plain instr) at pending r h m i = only_word i
+unit_word part image (V.Branch op rs1 rs2 target) at pending r h m i = branch_word i
+unit_word part image (V.Jump target) at pending r h m i = only_word i
+unit_word part image V.Stop at pending r h m i = only_word i
+unit_word part image (V.System op) at pending r h m i = only_word i
+unit_word part image (V.Store op rs1 rs2 imm) at pending r h m i = store_word i
+unit_word part image (V.Call target) at pending r h m i = call_word i
+unit_word part image (V.Ijump rs1 imm label) at pending r h m i = ijump_word i
+unit_word part image (V.Icall rs1 imm label) at pending r h m i = icall_word i
+unit_word part image V.Return at [] r h m i = absurd i
+unit_word part image V.Return at (site ∷ pending) r h m i = return_word i
+
+pub place_word : (part : ℕ) (image : Memory) (place : Place) (at : ℕ) (pending : List ℕ) (r : Registers) (h : Hart) (m : Memory) →
+    MayStand place part at pending → InPlace part image place at pending r h m → IsWordOf place at h.pc
+place_word part image handler at pending r h m may e = (0, omega arith, omega arith)
+place_word part image (opening entry) at pending r h m may i =
+    let w = opening_word i in let e = w.2 in let here = may.1 in (w.0, w.1, omega arith)
+place_word part image closing at pending r h m may i = closing_word i
+place_word part image (body unit) at pending r h m may i = unit_word part image unit at pending r h m i

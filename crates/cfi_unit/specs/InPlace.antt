@@ -1,0 +1,150 @@
+-- What holds of a hart at each word of a unit: a constructor a word, named by its instruction, with
+-- the pc, the shadow pointer x3, the scratch registers that the next words read, and what the unit
+-- has found out. `n` counts the pending sites, `r` holds the registers at the unit's start.
+use Rattle.std.specs.Prelude.{◌≡◌, ◌≢◌, ℕ, suc, ◌+◌, ◌*◌, ◌/◌, ◌^◌, ◌<◌, ◌≤◌, List, [], ◌∷◌, length}
+use Rattle.rv_word.specs.Bits.{wrap}
+use Rattle.rv_word.specs.Layout.{CODE, CODE_SIZE, SHADOW}
+use Rattle.rv_word.specs.Memory.{Memory, read}
+use Rattle.rv_instr.specs.Registers.{Registers}
+use Rattle.rv_code.specs.Arithmetic.{difference}
+use Rattle.rv_code.specs.State.{Hart}
+use Rattle.rv_code.specs.Step.{offset}
+use Rattle.cfi_unit.specs.declared.unit.Unit as U
+use Rattle.cfi_unit.specs.declared.unit.Unit.TheVariants as V
+use Rattle.cfi_unit.specs.Prologue.{OPENING}
+use Rattle.cfi_unit.specs.Place.{Place, handler, opening, closing, body}
+use Rattle.cfi_unit.specs.Shadow.{slot, MOST_PENDING}
+use Rattle.cfi_unit.specs.Leads.{HasLabel, sum_of, destination}
+
+-- the only word of a unit
+pub data InWord (part at n : ℕ) (h : Hart) : Type 0 where
+  only : h.pc ≡ at → h.regs 3 ≡ slot part n → InWord part at n h
+
+pub data InBranch (part at n : ℕ) (h : Hart) : Type 0 where
+  branch_test : h.pc ≡ at → h.regs 3 ≡ slot part n → InBranch part at n h
+  branch_jump : h.pc ≡ at + 4 → h.regs 3 ≡ slot part n → InBranch part at n h
+
+pub data InStore (part at n : ℕ) (h : Hart) : Type 0 where
+  store_addi : h.pc ≡ at → h.regs 3 ≡ slot part n → InStore part at n h
+  store_slli : h.pc ≡ at + 4 → h.regs 3 ≡ slot part n → InStore part at n h
+  store_srli : h.pc ≡ at + 8 → h.regs 3 ≡ slot part n → h.regs 31 < 2 ^ 64 → InStore part at n h
+  store_store : h.pc ≡ at + 12 → h.regs 3 ≡ slot part n → h.regs 31 < 2 ^ 28 → InStore part at n h
+
+-- the push of a site: x31 keeps `v` meanwhile
+pub data InPush (part at v n : ℕ) (h : Hart) (m : Memory) : Type 0 where
+  push_slli : h.pc ≡ at → h.regs 31 ≡ v → h.regs 3 ≡ slot part n → InPush part at v n h m
+  push_bne : h.pc ≡ at + 4 → h.regs 31 ≡ v → h.regs 3 ≡ slot part n → h.regs 30 ≡ wrap (slot part n * 2 ^ 48) →
+      InPush part at v n h m
+  push_deep : h.pc ≡ at + 8 → h.regs 31 ≡ v → h.regs 3 ≡ slot part n → n ≡ MOST_PENDING → InPush part at v n h m
+  push_auipc : h.pc ≡ at + 12 → h.regs 31 ≡ v → h.regs 3 ≡ slot part n → n < MOST_PENDING → InPush part at v n h m
+  push_addi : h.pc ≡ at + 16 → h.regs 31 ≡ v → h.regs 3 ≡ slot part n → n < MOST_PENDING → h.regs 30 ≡ at + 12 →
+      InPush part at v n h m
+  push_store : h.pc ≡ at + 20 → h.regs 31 ≡ v → h.regs 3 ≡ slot part n → n < MOST_PENDING → h.regs 30 ≡ at + 32 →
+      InPush part at v n h m
+  push_grow : h.pc ≡ at + 24 → h.regs 31 ≡ v → h.regs 3 ≡ slot part n → n < MOST_PENDING →
+      read 8 m (slot part n) ≡ at + 32 → InPush part at v n h m
+
+-- after the push: the site stands in its slot, and x3 is past it
+pub record Pushed (part site v n : ℕ) (h : Hart) (m : Memory) : Type 0 where
+  pub kept : h.regs 31 ≡ v
+  pub pointer : h.regs 3 ≡ slot part (suc n)
+  pub room : n < MOST_PENDING
+  pub site_is : read 8 m (slot part n) ≡ site
+
+pub data InCall (part at v n : ℕ) (h : Hart) (m : Memory) : Type 0 where
+  call_push : InPush part at v n h m → InCall part at v n h m
+  call_jump : h.pc ≡ at + 28 → Pushed part (at + 32) v n h m → InCall part at v n h m
+
+-- an address in the region of code
+pub record InCode (v : ℕ) : Type 0 where
+  pub low : CODE ≤ v
+  pub high : v < CODE + CODE_SIZE
+
+-- the check of a computed transfer: `sum` is its destination before its low two bits are cleared, v
+-- the same after
+pub data InCheck (part : ℕ) (image : Memory) (at rs1 imm label sum v n : ℕ) (h : Hart) : Type 0 where
+  check_addi : h.pc ≡ at → h.regs 3 ≡ slot part n → sum_of h.regs rs1 imm ≡ sum →
+      InCheck part image at rs1 imm label sum v n h
+  check_andi : h.pc ≡ at + 4 → h.regs 3 ≡ slot part n → h.regs 31 ≡ sum →
+      InCheck part image at rs1 imm label sum v n h
+  check_lui : h.pc ≡ at + 8 → h.regs 3 ≡ slot part n → h.regs 31 ≡ v →
+      InCheck part image at rs1 imm label sum v n h
+  check_sub : h.pc ≡ at + 12 → h.regs 3 ≡ slot part n → h.regs 31 ≡ v → h.regs 30 ≡ CODE →
+      InCheck part image at rs1 imm label sum v n h
+  check_srli : h.pc ≡ at + 16 → h.regs 3 ≡ slot part n → h.regs 31 ≡ v → h.regs 30 ≡ difference v CODE →
+      InCheck part image at rs1 imm label sum v n h
+  check_region : h.pc ≡ at + 20 → h.regs 3 ≡ slot part n → h.regs 31 ≡ v → h.regs 30 ≡ difference v CODE / 2 ^ 20 →
+      InCheck part image at rs1 imm label sum v n h
+  check_outside : h.pc ≡ at + 24 → h.regs 3 ≡ slot part n → (InCode v → ⊥) →
+      InCheck part image at rs1 imm label sum v n h
+  check_lw : h.pc ≡ at + 28 → h.regs 3 ≡ slot part n → h.regs 31 ≡ v → InCode v →
+      InCheck part image at rs1 imm label sum v n h
+  check_label : h.pc ≡ at + 32 → h.regs 3 ≡ slot part n → h.regs 31 ≡ v → InCode v →
+      h.regs 30 ≡ offset 32 (read 4 image v) → InCheck part image at rs1 imm label sum v n h
+  check_opcode : h.pc ≡ at + 36 → h.regs 3 ≡ slot part n → h.regs 31 ≡ v → InCode v →
+      h.regs 30 ≡ offset 32 (read 4 image v) → h.regs 4 ≡ offset 32 (label * 2 ^ 12) →
+      InCheck part image at rs1 imm label sum v n h
+  check_word : h.pc ≡ at + 40 → h.regs 3 ≡ slot part n → h.regs 31 ≡ v → InCode v →
+      h.regs 30 ≡ offset 32 (read 4 image v) → h.regs 4 ≡ wrap (offset 32 (label * 2 ^ 12) + 55) →
+      InCheck part image at rs1 imm label sum v n h
+  check_other : h.pc ≡ at + 44 → h.regs 3 ≡ slot part n → (HasLabel image label v → ⊥) →
+      InCheck part image at rs1 imm label sum v n h
+
+-- after the check: x31 is the destination, which bears the label
+pub record Checked (part : ℕ) (image : Memory) (label v n : ℕ) (h : Hart) : Type 0 where
+  pub destination_is : h.regs 31 ≡ v
+  pub pointer : h.regs 3 ≡ slot part n
+  pub legal : HasLabel image label v
+
+pub data InIjump (part : ℕ) (image : Memory) (at rs1 imm label sum v n : ℕ) (h : Hart) : Type 0 where
+  ijump_check : InCheck part image at rs1 imm label sum v n h → InIjump part image at rs1 imm label sum v n h
+  ijump_jump : h.pc ≡ at + 48 → Checked part image label v n h → InIjump part image at rs1 imm label sum v n h
+
+pub data InIcall (part : ℕ) (image : Memory) (at rs1 imm label sum v n : ℕ) (h : Hart) (m : Memory) : Type 0 where
+  icall_check : InCheck part image at rs1 imm label sum v n h → InIcall part image at rs1 imm label sum v n h m
+  icall_push : HasLabel image label v → InPush part (at + 48) v n h m → InIcall part image at rs1 imm label sum v n h m
+  icall_jump : h.pc ≡ at + 76 → HasLabel image label v → Pushed part (at + 80) v n h m →
+      InIcall part image at rs1 imm label sum v n h m
+
+-- a return: `link` is x1 at its start, `site` the newest site, and `n` counts the older ones
+pub data InReturn (part at link site n : ℕ) (h : Hart) : Type 0 where
+  return_ld : h.pc ≡ at → h.regs 3 ≡ slot part (suc n) → h.regs 1 ≡ link → InReturn part at link site n h
+  return_addi : h.pc ≡ at + 4 → h.regs 3 ≡ slot part (suc n) → h.regs 1 ≡ link → h.regs 31 ≡ site →
+      InReturn part at link site n h
+  return_beq : h.pc ≡ at + 8 → h.regs 3 ≡ slot part n → h.regs 1 ≡ link → h.regs 31 ≡ site →
+      InReturn part at link site n h
+  return_other : h.pc ≡ at + 12 → h.regs 3 ≡ slot part n → link ≢ site → InReturn part at link site n h
+  return_jump : h.pc ≡ at + 16 → h.regs 3 ≡ slot part n → link ≡ site → h.regs 31 ≡ site →
+      InReturn part at link site n h
+
+pub data InOpening (part v : ℕ) (h : Hart) (m : Memory) : Type 0 where
+  opening_stack : h.pc ≡ OPENING → h.regs 31 ≡ v → InOpening part v h m
+  opening_shadow : h.pc ≡ OPENING + 4 → h.regs 31 ≡ v → InOpening part v h m
+  opening_slot : h.pc ≡ OPENING + 8 → h.regs 31 ≡ v → h.regs 3 ≡ SHADOW → InOpening part v h m
+  opening_call : InCall part (OPENING + 12) v 0 h m → InOpening part v h m
+
+pub data InClosing (at : ℕ) (h : Hart) : Type 0 where
+  closing_number : h.pc ≡ at → InClosing at h
+  closing_ecall : h.pc ≡ at + 4 → h.regs 17 ≡ 93 → InClosing at h
+
+abbrev pub InUnit : ℕ → Memory → U.Unit → ℕ → List ℕ → Registers → Hart → Memory → Type 0
+InUnit part image (V.Gate label) at pending r h m = InWord part at (length pending) h
+InUnit part image (V.Plain instr) at pending r h m = InWord part at (length pending) h
+InUnit part image (V.Branch op rs1 rs2 target) at pending r h m = InBranch part at (length pending) h
+InUnit part image (V.Jump target) at pending r h m = InWord part at (length pending) h
+InUnit part image V.Stop at pending r h m = InWord part at (length pending) h
+InUnit part image (V.System op) at pending r h m = InWord part at (length pending) h
+InUnit part image (V.Store op rs1 rs2 imm) at pending r h m = InStore part at (length pending) h
+InUnit part image (V.Call target) at pending r h m = InCall part at (r 31) (length pending) h m
+InUnit part image (V.Ijump rs1 imm label) at pending r h m =
+    InIjump part image at rs1 imm label (sum_of r rs1 imm) (destination r rs1 imm) (length pending) h
+InUnit part image (V.Icall rs1 imm label) at pending r h m =
+    InIcall part image at rs1 imm label (sum_of r rs1 imm) (destination r rs1 imm) (length pending) h m
+InUnit part image V.Return at [] r h m = ⊥
+InUnit part image V.Return at (site ∷ pending) r h m = InReturn part at (r 1) site (length pending) h
+
+abbrev pub InPlace : ℕ → Memory → Place → ℕ → List ℕ → Registers → Hart → Memory → Type 0
+InPlace part image handler at pending r h m = h.pc ≡ at
+InPlace part image (opening entry) at pending r h m = InOpening part (r 31) h m
+InPlace part image closing at pending r h m = InClosing at h
+InPlace part image (body unit) at pending r h m = InUnit part image unit at pending r h m

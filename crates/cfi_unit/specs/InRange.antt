@@ -1,0 +1,18 @@
+-- The ranges of a unit's fields, as their types in the program keep them.
+use Rattle.std.specs.Prelude.{◌<◌, ◌^◌}
+use Rattle.rv_instr.specs.InRange.{IsInstr}
+use Rattle.cfi_unit.specs.declared.unit.Unit as U
+use Rattle.cfi_unit.specs.declared.unit.Unit.TheVariants as V
+
+abbrev pub IsInRange : U.Unit → Type 0
+IsInRange (V.Gate label) = label < 2 ^ 20
+IsInRange (V.Plain instr) = IsInstr instr
+IsInRange (V.Branch op rs1 rs2 target) = (rs1 < 32) × (rs2 < 32)
+IsInRange (V.Jump target) = Unit {0}
+IsInRange V.Stop = Unit {0}
+IsInRange (V.System op) = Unit {0}
+IsInRange (V.Store op rs1 rs2 imm) = (rs1 < 32) × (rs2 < 32) × (imm < 2 ^ 12)
+IsInRange (V.Call target) = Unit {0}
+IsInRange (V.Ijump rs1 imm label) = (rs1 < 32) × (imm < 2 ^ 12) × (label < 2 ^ 20)
+IsInRange (V.Icall rs1 imm label) = (rs1 < 32) × (imm < 2 ^ 12) × (label < 2 ^ 20)
+IsInRange V.Return = Unit {0}

@@ -1,0 +1,49 @@
+-- What holds of units and their words, each law by its name.
+use Rattle.std.specs.Prelude.{◌≡◌, ℕ, ◌+◌, ◌%◌, ◌<◌, ◌≤◌, ◌^◌, List, ◌++◌, length, Some}
+use Rattle.std.specs.List.{All}
+use Rattle.cfi_unit.specs.declared.unit.Unit as U
+use Rattle.cfi_unit.specs.UnitWords.{Begins, Fits, Reaches, word_count, words_of}
+use Rattle.cfi_unit.specs.Recognise.{recognised}
+use Rattle.cfi_unit.specs.Split.{IsSplit}
+
+-- numbers of 32 bits each
+abbrev pub AreWords : List ℕ → Type 0
+AreWords words = All (λ w. w < 2 ^ 32) words
+
+-- the unit that is recognised begins the list
+abbrev pub RecognisedBegins : Type 0
+RecognisedBegins =
+    (words : List ℕ) (at : ℕ) (unit : U.Unit) → AreWords words → recognised words at ≡ Some unit → Begins words at unit
+
+-- a unit that begins a list is recognised there: so at most one does
+abbrev pub BeginsRecognised : Type 0
+BeginsRecognised =
+    (words : List ℕ) (at : ℕ) (unit : U.Unit) → Begins words at unit → recognised words at ≡ Some unit
+
+-- what is emitted is recognised, whatever follows it
+abbrev pub EmittedRecognised : Type 0
+EmittedRecognised =
+    (unit : U.Unit) (at : ℕ) (rest : List ℕ) → Fits unit at → recognised (words_of unit at ++ rest) at ≡ Some unit
+
+-- a unit has as many words as its kind says
+abbrev pub WordsCounted : Type 0
+WordsCounted = (unit : U.Unit) (at : ℕ) → length (words_of unit at) ≡ word_count unit
+
+-- no unit's words are a prefix of another's
+abbrev pub NoPrefix : Type 0
+NoPrefix =
+    (u v : U.Unit) (at : ℕ) (rest : List ℕ) → Fits u at → Fits v at → words_of v at ≡ words_of u at ++ rest → u ≡ v
+
+-- a unit's words determine the unit
+abbrev pub WordsDetermine : Type 0
+WordsDetermine = (u v : U.Unit) (at : ℕ) → Fits u at → Fits v at → words_of u at ≡ words_of v at → u ≡ v
+
+-- a list of words has at most one split
+abbrev pub SplitUnique : Type 0
+SplitUnique =
+    (words : List ℕ) (at : ℕ) (us vs : List U.Unit) → IsSplit words at us → IsSplit words at vs → us ≡ vs
+
+-- a jump reaches what is near it: the offset field has 20 bits and counts in multiples of two bytes
+abbrev pub NearReached : Type 0
+NearReached =
+    (from to : ℕ) → from < 2 ^ 63 → to < 2 ^ 63 → from % 2 ≡ to % 2 → from ≤ to + 2 ^ 20 → to < from + 2 ^ 20 → Reaches from to

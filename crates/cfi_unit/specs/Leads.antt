@@ -1,0 +1,78 @@
+-- Where a unit leads: the next address, and the pending sites there. `r` holds the registers at the
+-- unit's start; a computed destination is legal where code has the gate of the class's label.
+use Rattle.std.specs.Prelude.{◌≡◌, ◌≢◌, ℕ, ◌+◌, ◌*◌, ◌/◌, ◌%◌, ◌≤◌, ◌<◌, ◌⊎◌, List, [], ◌∷◌, length}
+use Rattle.rv_word.specs.Bits.{wrap}
+use Rattle.rv_word.specs.Layout.{CODE, CODE_SIZE}
+use Rattle.rv_word.specs.Memory.{Memory, read}
+use Rattle.rv_instr.specs.Registers.{Registers, get_reg}
+use Rattle.rv_code.specs.Step.{offset}
+use Rattle.cfi_unit.specs.declared.unit.Unit as U
+use Rattle.cfi_unit.specs.declared.unit.Unit.TheVariants as V
+use Rattle.cfi_unit.specs.declared.unit.SystemOp.TheVariants as S
+use Rattle.cfi_unit.specs.UnitWords.{BAD_TARGET, BAD_RETURN, DEEP}
+use Rattle.cfi_unit.specs.Prologue.{OPENING}
+use Rattle.cfi_unit.specs.Place.{Place, handler, opening, closing, body}
+use Rattle.cfi_unit.specs.Shadow.{MOST_PENDING}
+
+-- the word of `lui x0,label` stands in code at an address
+pub record HasLabel (image : Memory) (label v : ℕ) : Type 0 where
+  pub round : v % 4 ≡ 0
+  pub low : CODE ≤ v
+  pub high : v + 4 ≤ CODE + CODE_SIZE
+  pub word : read 4 image v ≡ label * 4096 + 55
+
+-- the destination of a computed transfer before and after its low two bits are cleared
+abbrev pub sum_of : Registers → ℕ → ℕ → ℕ
+sum_of r rs1 imm = wrap (get_reg r rs1 + offset 12 imm)
+
+abbrev pub destination : Registers → ℕ → ℕ → ℕ
+destination r rs1 imm = sum_of r rs1 imm / 4 * 4
+
+-- the pending sites stay
+abbrev pub Goes : List ℕ → List ℕ → ℕ → ℕ → Type 0
+Goes pending after next to = (after ≡ pending) × (next ≡ to)
+
+-- a call adds its site and goes to its target, or halts where the shadow stack is full
+abbrev pub Calls : ℕ → List ℕ → List ℕ → ℕ → ℕ → Type 0
+Calls site pending after next target =
+    ((length pending < MOST_PENDING) × (after ≡ site ∷ pending) × (next ≡ target))
+    ⊎ ((length pending ≡ MOST_PENDING) × (after ≡ pending) × (next ≡ DEEP))
+
+-- a computed transfer goes on where its destination bears the label, and halts where not
+abbrev pub Checks : Memory → ℕ → ℕ → Type 0 → Type 0 → Type 0
+Checks image label v legal halted = (HasLabel image label v × legal) ⊎ ((HasLabel image label v → ⊥) × halted)
+
+-- a return goes to the newest site and takes it off, or halts where x1 is another address
+abbrev pub Returns : Registers → List ℕ → List ℕ → ℕ → Type 0
+Returns r [] after next = Goes [] after next BAD_RETURN
+Returns r (site ∷ pending) after next =
+    ((r 1 ≡ site) × Goes pending after next site)
+    ⊎ ((r 1 ≢ site) × Goes (site ∷ pending) after next BAD_RETURN)
+
+abbrev pub UnitLeads : Memory → U.Unit → ℕ → List ℕ → Registers → List ℕ → ℕ → Type 0
+UnitLeads image (V.Gate label) at pending r after next = Goes pending after next (at + 4)
+UnitLeads image (V.Plain instr) at pending r after next = Goes pending after next (at + 4)
+UnitLeads image (V.Branch op rs1 rs2 target) at pending r after next =
+    Goes pending after next (at + 8) ⊎ Goes pending after next target
+UnitLeads image (V.Jump target) at pending r after next = Goes pending after next target
+UnitLeads image V.Stop at pending r after next = Goes pending after next BAD_TARGET
+UnitLeads image (V.System S.Ecall) at pending r after next = Goes pending after next (at + 4)
+UnitLeads image (V.System S.Ebreak) at pending r after next = ⊥
+UnitLeads image (V.Store op rs1 rs2 imm) at pending r after next = Goes pending after next (at + 16)
+UnitLeads image (V.Call target) at pending r after next = Calls (at + 32) pending after next target
+UnitLeads image (V.Ijump rs1 imm label) at pending r after next =
+    Checks image label (destination r rs1 imm)
+    (Goes pending after next (destination r rs1 imm))
+    (Goes pending after next BAD_TARGET)
+UnitLeads image (V.Icall rs1 imm label) at pending r after next =
+    Checks image label (destination r rs1 imm)
+    (Calls (at + 80) pending after next (destination r rs1 imm))
+    (Goes pending after next BAD_TARGET)
+UnitLeads image V.Return at pending r after next = Returns r pending after next
+
+-- handlers and the closing end the run; the opening calls the entry
+abbrev pub Leads : Memory → Place → ℕ → List ℕ → Registers → List ℕ → ℕ → Type 0
+Leads image handler at pending r after next = ⊥
+Leads image (opening entry) at pending r after next = Calls (OPENING + 44) pending after next entry
+Leads image closing at pending r after next = ⊥
+Leads image (body unit) at pending r after next = UnitLeads image unit at pending r after next

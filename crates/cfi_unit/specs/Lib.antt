@@ -1,0 +1,13 @@
+pub mod UnitWords
+pub mod InRange
+pub mod Recognise
+pub mod Split
+pub mod Laws
+pub mod Prologue
+pub mod Place
+pub mod Shadow
+pub mod Stand
+pub mod Context
+pub mod Leads
+pub mod InPlace
+pub mod UnitLaw

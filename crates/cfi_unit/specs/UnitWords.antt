@@ -1,0 +1,185 @@
+-- The units: what instructions each is, at an address. x3 points to the shadow stack; x4, x30 and
+-- x31 are scratch; no other unit's instruction writes one of these four.
+use Rattle.std.specs.Prelude.{◌≡◌, ℕ, ◌+◌, ◌-◌, ◌*◌, ◌/◌, ◌%◌, ◌^◌, ◌<◌, ◌==◌, ◌&&◌, ◌||◌, Bool, true, false, not, IsTrue, List, [], ◌∷◌, ◌++◌, map, take, ◌≢◌}
+use Rattle.rv_word.specs.Bits.{wrap}
+use Rattle.rv_instr.specs.InRange.{IsInstr}
+use Rattle.rv_instr.specs.declared.instr.Instr.{Instr}
+use Rattle.rv_instr.specs.declared.instr.Instr.TheVariants.{Upper, Jal, Jalr, Branch, Load, Store, Immediate, Shift, ShiftWord, Register, Fence, Ecall, Ebreak}
+use Rattle.rv_instr.specs.declared.instr.UpperOp.{UpperOp}
+use Rattle.rv_instr.specs.declared.instr.UpperOp.TheVariants.{Lui, Auipc}
+use Rattle.rv_instr.specs.declared.instr.ImmediateOp.TheVariants.{Addi, Andi}
+use Rattle.rv_instr.specs.declared.instr.ShiftOp.TheVariants.{Slli, Srli}
+use Rattle.rv_instr.specs.declared.instr.RegisterOp.TheVariants.{Sub}
+use Rattle.rv_instr.specs.declared.instr.BranchOp.TheVariants.{Beq, Bne}
+use Rattle.rv_instr.specs.declared.instr.LoadOp.TheVariants.{Lw, Ld}
+use Rattle.rv_instr.specs.declared.instr.StoreOp.TheVariants.{Sd}
+use Rattle.rv_code.specs.Encode.{code_of}
+use Rattle.rv_code.specs.Step.{offset}
+use Rattle.cfi_unit.specs.declared.unit.Unit as U
+use Rattle.cfi_unit.specs.declared.unit.Unit.TheVariants as V
+use Rattle.cfi_unit.specs.declared.unit.SystemOp.{SystemOp}
+use Rattle.cfi_unit.specs.declared.unit.SystemOp.TheVariants as S
+
+-- the handlers, and where they stand
+abbrev pub BAD_TARGET : ℕ
+BAD_TARGET = 0x40000000
+
+abbrev pub BAD_RETURN : ℕ
+BAD_RETURN = 0x40000004
+
+abbrev pub DEEP : ℕ
+DEEP = 0x40000008
+
+-- the offset field of a jump from one address to another: it counts in multiples of two bytes
+abbrev pub jump_offset : ℕ → ℕ → ℕ
+jump_offset from to = wrap (to + (2 ^ 64 - from)) / 2 % 2 ^ 20
+
+-- a jump from one address reaches another: its offset, as the hart reads it, leads there
+abbrev pub Reaches : ℕ → ℕ → Type 0
+Reaches from to = wrap (from + offset 21 (jump_offset from to * 2)) ≡ to
+
+-- `jal x0` from an address to another
+abbrev pub jump : ℕ → ℕ → Instr
+jump from to = Jal 0 (jump_offset from to)
+
+-- `lui x0, label`
+abbrev pub gate : ℕ → Instr
+gate label = Upper Lui 0 label
+
+-- a branch that skips the next word: its offset is 8
+abbrev pub EIGHT : ℕ
+EIGHT = 4
+
+-- the constants -8 and -4 as 12-bit fields
+abbrev pub MINUS_EIGHT : ℕ
+MINUS_EIGHT = 0xff8
+
+abbrev pub MINUS_FOUR : ℕ
+MINUS_FOUR = 0xffc
+
+-- the first seven words of a call: halt where the shadow stack is full, else put the address that
+-- lies 32 bytes on, after the transfer, onto it
+abbrev pub push : ℕ → List Instr
+push at =
+    Shift Slli 30 3 48
+    ∷ Branch Bne 30 0 EIGHT
+    ∷ jump (at + 8) DEEP
+    ∷ Upper Auipc 30 0
+    ∷ Immediate Addi 30 30 20
+    ∷ Store Sd 3 30 0
+    ∷ Immediate Addi 3 3 8
+    ∷ []
+
+-- the check of a computed transfer: clear the low two bits of the destination, halt unless it lies
+-- in code, halt unless the word there is `lui x0, label`
+abbrev pub check : ℕ → ℕ → ℕ → ℕ → List Instr
+check at rs1 imm label =
+    Immediate Addi 31 rs1 imm
+    ∷ Immediate Andi 31 31 MINUS_FOUR
+    ∷ Upper Lui 30 0x40000
+    ∷ Register Sub 30 31 30
+    ∷ Shift Srli 30 30 20
+    ∷ Branch Beq 30 0 EIGHT
+    ∷ jump (at + 24) BAD_TARGET
+    ∷ Load Lw 30 31 0
+    ∷ Upper Lui 4 label
+    ∷ Immediate Addi 4 4 55
+    ∷ Branch Beq 30 4 EIGHT
+    ∷ jump (at + 44) BAD_TARGET
+    ∷ []
+
+abbrev pub system_instr : SystemOp → Instr
+system_instr S.Ecall = Ecall
+system_instr S.Ebreak = Ebreak
+
+-- the instructions of a unit at an address
+abbrev pub instrs_of : U.Unit → ℕ → List Instr
+instrs_of (V.Gate label) at = gate label ∷ []
+instrs_of (V.Plain instr) at = instr ∷ []
+instrs_of (V.Branch op rs1 rs2 target) at = Branch op rs1 rs2 EIGHT ∷ jump (at + 4) target ∷ []
+instrs_of (V.Jump target) at = jump at target ∷ []
+instrs_of V.Stop at = jump at BAD_TARGET ∷ []
+instrs_of (V.System op) at = system_instr op ∷ []
+instrs_of (V.Store op rs1 rs2 imm) at =
+    Immediate Addi 31 rs1 imm
+    ∷ Shift Slli 31 31 36
+    ∷ Shift Srli 31 31 36
+    ∷ Store op 31 rs2 0
+    ∷ []
+instrs_of (V.Call target) at = push at ++ Jal 1 (jump_offset (at + 28) target) ∷ []
+instrs_of (V.Ijump rs1 imm label) at = check at rs1 imm label ++ Jalr 0 31 0 ∷ []
+instrs_of (V.Icall rs1 imm label) at = check at rs1 imm label ++ push (at + 48) ++ Jalr 1 31 0 ∷ []
+instrs_of V.Return at =
+    Load Ld 31 3 MINUS_EIGHT
+    ∷ Immediate Addi 3 3 MINUS_EIGHT
+    ∷ Branch Beq 31 1 EIGHT
+    ∷ jump (at + 12) BAD_RETURN
+    ∷ Jalr 0 31 0
+    ∷ []
+
+-- the words of a unit at an address
+unfoldable pub words_of : U.Unit → ℕ → List ℕ
+words_of unit at = map code_of (instrs_of unit at)
+
+-- the registers that units keep for themselves
+abbrev pub is_reserved : ℕ → Bool
+is_reserved r = r == 3 || (r == 4 || (r == 30 || r == 31))
+
+abbrev pub is_lui : UpperOp → Bool
+is_lui Lui = true
+is_lui Auipc = false
+
+-- an instruction that may stand alone: no transfer, store, system call, break or gate, and it writes
+-- no reserved register
+abbrev pub is_plain : Instr → Bool
+is_plain (Upper op rd imm) = not (is_reserved rd) && not (is_lui op && (rd == 0))
+is_plain (Jal rd imm) = false
+is_plain (Jalr rd rs1 imm) = false
+is_plain (Branch op rs1 rs2 imm) = false
+is_plain (Load op rd rs1 imm) = not (is_reserved rd)
+is_plain (Store op rs1 rs2 imm) = false
+is_plain (Immediate op rd rs1 imm) = not (is_reserved rd)
+is_plain (Shift op rd rs1 amount) = not (is_reserved rd)
+is_plain (ShiftWord op rd rs1 amount) = not (is_reserved rd)
+is_plain (Register op rd rs1 rs2) = not (is_reserved rd)
+is_plain (Fence word) = true
+is_plain Ecall = false
+is_plain Ebreak = false
+
+-- a check's fields are in range, and its halts reach the handler
+abbrev pub CheckFits : ℕ → ℕ → ℕ → ℕ → Type 0
+CheckFits at rs1 imm label =
+    (rs1 < 32) × (imm < 2 ^ 12) × (label < 2 ^ 20) × Reaches (at + 24) BAD_TARGET × Reaches (at + 44) BAD_TARGET
+
+-- a unit may stand at an address: its fields are in range, its jumps reach their targets
+abbrev pub Fits : U.Unit → ℕ → Type 0
+Fits (V.Gate label) at = label < 2 ^ 20
+Fits (V.Plain instr) at = IsInstr instr × IsTrue (is_plain instr)
+Fits (V.Branch op rs1 rs2 target) at = (rs1 < 32) × (rs2 < 32) × Reaches (at + 4) target
+Fits (V.Jump target) at = (target ≢ BAD_TARGET) × Reaches at target
+Fits V.Stop at = Reaches at BAD_TARGET
+Fits (V.System op) at = Unit {0}
+Fits (V.Store op rs1 rs2 imm) at = (rs1 < 32) × (rs2 < 32) × (imm < 2 ^ 12)
+Fits (V.Call target) at = Reaches (at + 8) DEEP × Reaches (at + 28) target
+Fits (V.Ijump rs1 imm label) at = CheckFits at rs1 imm label
+Fits (V.Icall rs1 imm label) at = CheckFits at rs1 imm label × Reaches (at + 56) DEEP
+Fits V.Return at = Reaches (at + 12) BAD_RETURN
+
+-- how many words a unit has
+abbrev pub word_count : U.Unit → ℕ
+word_count (V.Gate label) = 1
+word_count (V.Plain instr) = 1
+word_count (V.Branch op rs1 rs2 target) = 2
+word_count (V.Jump target) = 1
+word_count V.Stop = 1
+word_count (V.System op) = 1
+word_count (V.Store op rs1 rs2 imm) = 4
+word_count (V.Call target) = 8
+word_count (V.Ijump rs1 imm label) = 13
+word_count (V.Icall rs1 imm label) = 20
+word_count V.Return = 5
+
+-- a unit begins a list of words at an address
+pub record Begins (words : List ℕ) (at : ℕ) (unit : U.Unit) : Type 0 where
+  pub fits : Fits unit at
+  pub words_are : take (word_count unit) words ≡ words_of unit at

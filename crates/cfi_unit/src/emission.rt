@@ -1,0 +1,112 @@
+ghost use Rattle.std.specs.Prelude.{◌≡◌, ◌+◌, ◌*◌, ◌<◌, ◌↔◌, ◌++◌, IfOk, IsTrue, List, Some, length, not, ℕ};
+ghost use Rattle.rv_word.specs.Layout.{CODE, CODE_SIZE};
+ghost use Rattle.cfi_unit.specs.Recognise.{can_stand, check_reaches, recognised};
+ghost use Rattle.cfi_unit.specs.UnitWords.{Fits, is_plain, is_reserved, word_count, words_of};
+
+use crate::jump::is_reached;
+use crate::template::{BAD_RETURN_HANDLER, BAD_TARGET_HANDLER, DEPTH_HANDLER, unit_code};
+use crate::unit::Unit;
+use rv_instr::{Instr, Reg, UpperOp};
+use rv_word::NoMemory;
+use std::alloc::Global;
+
+/// The words of a unit at an address.
+pub fn emit(alloc: Global, unit: &Unit, at: u64) -> Result<Vec<u32>, NoMemory>
+    requires place { at < CODE + CODE_SIZE }
+    requires fits { Fits unit.now at }
+    ensures words { IfOk result (λ v. v.items ≡ words_of unit.now at) }
+    ensures found { IfOk result (λ v. (rest : List ℕ) → recognised (v.items ++ rest) at ≡ Some unit.now) }
+{
+    let code = unit_code(unit, at);
+    Ok(code.as_slice().to_vec(alloc)?)
+}
+
+/// How many bytes a unit has.
+#[tactic(auto, using(crate::proofs::Found::words_counted))]
+pub fn size(unit: &Unit) -> u32
+    ensures value { result ≡ 4 * word_count unit.now }
+    ensures words { (at : ℕ) → result ≡ 4 * length (words_of unit.now at) }
+{
+    4 * count(unit)
+}
+
+/// How many words a unit has.
+pub(crate) fn count(unit: &Unit) -> u32
+    ensures value { result ≡ word_count unit.now }
+    ensures small { result < 21 }
+{
+    match unit {
+        Unit::Gate(_) | Unit::Plain(_) | Unit::Jump(_) | Unit::Stop | Unit::System(_) => 1,
+        Unit::Branch(..) => 2,
+        Unit::Store(..) => 4,
+        Unit::Return => 5,
+        Unit::Call(_) => 8,
+        Unit::Ijump(..) => 13,
+        Unit::Icall(..) => 20,
+    }
+}
+
+/// Whether a unit may stand at an address: a plain unit's instruction may stand alone, and every
+/// jump reaches its target.
+#[tactic(auto, using(crate::proofs::Stand::stand_fits, crate::proofs::Stand::fits_stand))]
+pub fn fits(unit: &Unit, at: u64) -> bool
+    requires { at < CODE + CODE_SIZE }
+    ensures { IsTrue result ↔ Fits unit.now at }
+{
+    unit.in_range();
+    may_stand(unit, at)
+}
+
+pub(crate) fn may_stand(unit: &Unit, at: u64) -> bool
+    requires { at < CODE + CODE_SIZE }
+    ensures { result ≡ can_stand unit.now at }
+{
+    match *unit {
+        Unit::Gate(_) | Unit::System(_) | Unit::Store(..) => true,
+        Unit::Plain(instr) => may_stand_alone(&instr),
+        Unit::Branch(_, _, _, target) => is_reached(at + 4, target),
+        Unit::Jump(target) => target != BAD_TARGET_HANDLER && is_reached(at, target),
+        Unit::Stop => is_reached(at, BAD_TARGET_HANDLER),
+        Unit::Call(target) => is_reached(at + 8, DEPTH_HANDLER) && is_reached(at + 28, target),
+        Unit::Ijump(..) => halts_reach(at),
+        Unit::Icall(..) => halts_reach(at) && is_reached(at + 56, DEPTH_HANDLER),
+        Unit::Return => is_reached(at + 12, BAD_RETURN_HANDLER),
+    }
+}
+
+/// Whether the jumps of a check reach their handler.
+fn halts_reach(at: u64) -> bool
+    requires { at < CODE + CODE_SIZE }
+    ensures { result ≡ check_reaches at }
+{
+    is_reached(at + 24, BAD_TARGET_HANDLER) && is_reached(at + 44, BAD_TARGET_HANDLER)
+}
+
+/// Whether an instruction may be a unit of its own.
+fn may_stand_alone(instr: &Instr) -> bool
+    ensures { result ≡ is_plain instr.now }
+{
+    match *instr {
+        Instr::Upper(UpperOp::Lui, rd, _) => is_free(rd) && rd.number() != 0,
+        Instr::Upper(UpperOp::Auipc, rd, _)
+        | Instr::Load(_, rd, _, _)
+        | Instr::Immediate(_, rd, _, _)
+        | Instr::Shift(_, rd, _, _)
+        | Instr::ShiftWord(_, rd, _, _)
+        | Instr::Register(_, rd, _, _) => is_free(rd),
+        Instr::Fence(_) => true,
+        Instr::Jal(..)
+        | Instr::Jalr(..)
+        | Instr::Branch(..)
+        | Instr::Store(..)
+        | Instr::Ecall
+        | Instr::Ebreak => false,
+    }
+}
+
+/// Whether programs may write a register, since no unit keeps it for itself.
+fn is_free(reg: Reg) -> bool
+    ensures { result ≡ not (is_reserved reg) }
+{
+    !matches!(reg.number(), 3 | 4 | 30 | 31)
+}

@@ -1,0 +1,60 @@
+//! What holds of all units and their words. Each function states one law; nothing is computed.
+ghost use Rattle.cfi_unit.specs.Laws.{
+  BeginsRecognised,
+  EmittedRecognised,
+  NearReached,
+  NoPrefix,
+  RecognisedBegins,
+  SplitUnique,
+  WordsCounted,
+  WordsDetermine,
+};
+
+/// The unit that is recognised begins the list.
+#[tactic(auto, using(crate::proofs::Told::recognised_begins))]
+pub fn recognised_begins()
+    ensures { RecognisedBegins }
+{}
+
+/// A unit that begins a list is recognised there, so at most one unit does.
+#[tactic(auto, using(crate::proofs::Found::begins_recognised))]
+pub fn begins_recognised()
+    ensures { BeginsRecognised }
+{}
+
+/// What is emitted is recognised, whatever follows it.
+#[tactic(auto, using(crate::proofs::Found::found))]
+pub fn emitted_recognised()
+    ensures { EmittedRecognised }
+{}
+
+/// A unit has as many words as its kind says.
+#[tactic(auto, using(crate::proofs::Found::words_counted))]
+pub fn words_counted()
+    ensures { WordsCounted }
+{}
+
+/// No unit's words are a prefix of another's.
+#[tactic(auto, using(crate::proofs::Splits::no_prefix))]
+pub fn no_prefix()
+    ensures { NoPrefix }
+{}
+
+/// A unit's words determine the unit.
+#[tactic(auto, using(crate::proofs::Splits::words_determine))]
+pub fn words_determine()
+    ensures { WordsDetermine }
+{}
+
+/// A list of words has at most one split into units.
+#[tactic(auto, using(crate::proofs::Splits::split_unique))]
+pub fn split_unique()
+    ensures { SplitUnique }
+{}
+
+/// A jump reaches every address at an even distance that is less than 2^20 bytes ahead of it, or at
+/// most 2^20 bytes behind it.
+#[tactic(auto, using(crate::proofs::Near::near_reached))]
+pub fn near_reached()
+    ensures { NearReached }
+{}

@@ -1,0 +1,20 @@
+//! The units of a hardened image: which lists of words are one unit. `emit` writes a unit's words,
+//! `recognise` finds the unit that begins a list of words, and the unit law says what a step from a
+//! word of a unit does.
+#![tactic(auto)]
+
+pub use emission::{emit, fits, size};
+pub use recogniser::recognise;
+pub use step_law::unit_law;
+pub use unit::{SystemOp, Unit};
+
+mod emission;
+mod jump;
+pub mod laws;
+mod recogniser;
+mod step_law;
+mod template;
+#[cfg(test)]
+mod tests;
+mod unit;
+mod words;

@@ -1,0 +1,171 @@
+ghost use Rattle.std.specs.Prelude.{◌≡◌, ◌+◌, ◌<◌, option_map, IfSome, IsNone};
+ghost use Rattle.rv_word.specs.Layout.{CODE, CODE_SIZE};
+ghost use Rattle.cfi_unit.specs.Recognise.{
+  address_unit,
+  computed_unit,
+  instr_at,
+  jump_or_stop,
+  label_in,
+  recognised,
+  store_unit,
+  target_in,
+  unit_from,
+  upper_unit,
+};
+ghost use Rattle.cfi_unit.specs.UnitWords.{Begins, word_count};
+ghost use Rattle.cfi_unit.specs.declared.unit.Unit as U;
+
+use crate::emission::{count, may_stand};
+use crate::jump::led;
+use crate::template::{BAD_TARGET_HANDLER, unit_code};
+use crate::unit::{SystemOp, Unit};
+use rv_code::decode;
+use rv_instr::{Immediate, Instr, Reg, UpperOp};
+
+/// The unit that begins a list of words at an address, and how many words it has.
+pub fn recognise(words: &[u32], at: u64) -> Option<(Unit, u32)>
+    requires { at < CODE + CODE_SIZE }
+    ensures value { result ≡ option_map (λ u. (u, word_count u)) (recognised words.now at) }
+    ensures begins { IfSome result (λ found. Begins words.now at found.0) }
+    ensures count { IfSome result (λ found. found.1 ≡ word_count found.0) }
+    ensures none { IsNone result → (unit : U.Unit) → Begins words.now at unit → ⊥ }
+{
+    let unit = first_unit(words, at)?;
+    let words = count(&unit);
+    Some((unit, words))
+}
+
+#[tactic(auto, unfolding(crate::specs::Recognise::recognised))]
+fn first_unit(words: &[u32], at: u64) -> Option<Unit>
+    requires { at < CODE + CODE_SIZE }
+    ensures { result ≡ recognised words.now at }
+{
+    let unit = candidate(words, at, instr(words, 0)?)?;
+    if may_stand(&unit, at) && words.starts_with(unit_code(&unit, at).as_slice()) {
+        Some(unit)
+    } else {
+        None
+    }
+}
+
+/// The instruction that a word of the list is.
+fn instr(words: &[u32], index: usize) -> Option<Instr>
+    ensures { result ≡ instr_at words.now index }
+{
+    decode(*words.get(index)?)
+}
+
+/// The only unit that may begin with an instruction: its fields are read from the words in which
+/// it would keep them.
+fn candidate(words: &[u32], at: u64, first: Instr) -> Option<Unit>
+    requires { at < CODE + CODE_SIZE }
+    ensures { result ≡ unit_from words.now at first }
+{
+    match first {
+        Instr::Upper(op, rd, imm) => Some(upper(op, rd, imm)),
+        Instr::Jal(_, field) => Some(jump_unit(led(at, field))),
+        Instr::Branch(op, rs1, rs2, _) => {
+            let target = target(at + 4, instr(words, 1))?;
+            Some(Unit::Branch(op, rs1, rs2, target))
+        }
+        Instr::Immediate(op, rd, rs1, imm) => {
+            if rd.number() == 31 {
+                addressed(words, rs1, imm)
+            } else {
+                Some(Unit::Plain(Instr::Immediate(op, rd, rs1, imm)))
+            }
+        }
+        Instr::Shift(op, rd, rs1, amount) => {
+            if rd.number() == 30 {
+                Some(Unit::Call(target(at + 28, instr(words, 7))?))
+            } else {
+                Some(Unit::Plain(Instr::Shift(op, rd, rs1, amount)))
+            }
+        }
+        Instr::Load(op, rd, rs1, imm) => {
+            if rd.number() == 31 {
+                Some(Unit::Return)
+            } else {
+                Some(Unit::Plain(Instr::Load(op, rd, rs1, imm)))
+            }
+        }
+        Instr::Ecall => Some(Unit::System(SystemOp::Ecall)),
+        Instr::Ebreak => Some(Unit::System(SystemOp::Ebreak)),
+        Instr::ShiftWord(..) | Instr::Register(..) | Instr::Fence(_) => Some(Unit::Plain(first)),
+        Instr::Jalr(..) | Instr::Store(..) => None,
+    }
+}
+
+fn upper(op: UpperOp, rd: Reg, imm: Immediate<20>) -> Unit
+    ensures { result ≡ upper_unit op rd imm }
+{
+    match op {
+        UpperOp::Lui => {
+            if rd.number() == 0 {
+                Unit::Gate(imm)
+            } else {
+                Unit::Plain(Instr::Upper(UpperOp::Lui, rd, imm))
+            }
+        }
+        UpperOp::Auipc => Unit::Plain(Instr::Upper(UpperOp::Auipc, rd, imm)),
+    }
+}
+
+fn jump_unit(target: u64) -> Unit
+    ensures { result ≡ jump_or_stop target }
+{
+    if target == BAD_TARGET_HANDLER {
+        Unit::Stop
+    } else {
+        Unit::Jump(target)
+    }
+}
+
+/// The target of a `jal` at an address.
+fn target(at: u64, jump: Option<Instr>) -> Option<u64>
+    ensures { result ≡ target_in at jump }
+{
+    match jump? {
+        Instr::Jal(_, field) => Some(led(at, field)),
+        _ => None,
+    }
+}
+
+/// A unit that begins by putting an address into x31.
+fn addressed(words: &[u32], rs1: Reg, imm: Immediate<12>) -> Option<Unit>
+    ensures { result ≡ address_unit words.now rs1 imm (instr_at words.now 1) }
+{
+    if let Some(Instr::Shift(..)) = instr(words, 1) {
+        return stored(rs1, imm, instr(words, 3));
+    }
+    let label = label(instr(words, 8))?;
+    Some(computed(rs1, imm, instr(words, 12), label))
+}
+
+fn stored(rs1: Reg, imm: Immediate<12>, last: Option<Instr>) -> Option<Unit>
+    ensures { result ≡ store_unit rs1 imm last }
+{
+    match last? {
+        Instr::Store(op, _, rs2, _) => Some(Unit::Store(op, rs1, rs2, imm)),
+        _ => None,
+    }
+}
+
+/// The label of a `lui`.
+fn label(lui: Option<Instr>) -> Option<Immediate<20>>
+    ensures { result ≡ label_in lui }
+{
+    match lui? {
+        Instr::Upper(_, _, imm) => Some(imm),
+        _ => None,
+    }
+}
+
+fn computed(rs1: Reg, imm: Immediate<12>, after: Option<Instr>, label: Immediate<20>) -> Unit
+    ensures { result ≡ computed_unit rs1 imm after label }
+{
+    match after {
+        Some(Instr::Jalr(..)) => Unit::Ijump(rs1, imm, label),
+        _ => Unit::Icall(rs1, imm, label),
+    }
+}

@@ -1,0 +1,177 @@
+ghost use Rattle.std.specs.Prelude.{◌≡◌, ◌+◌, ◌<◌, ◌^◌};
+ghost use Rattle.rv_word.specs.Layout.{CODE, CODE_SIZE};
+ghost use Rattle.cfi_unit.specs.UnitWords.{check, gate, instrs_of, push, system_instr, words_of};
+ghost use Rattle.cfi_unit.specs.declared.unit.Unit.TheVariants as V;
+
+use crate::jump::{field_between, jump_between};
+use crate::unit::{SystemOp, Unit};
+use crate::words::UnitCode;
+use rv_instr::{
+    BranchOp, Immediate, ImmediateOp, Instr, LoadOp, Reg, RegisterOp, ShiftOp, StoreOp, UpperOp,
+};
+
+/// Where computed transfers halt that would leave their class.
+pub(crate) const BAD_TARGET_HANDLER: u64 = 0x4000_0000;
+/// Where returns halt that would not go to their call's site.
+pub(crate) const BAD_RETURN_HANDLER: u64 = 0x4000_0004;
+/// Where calls halt that find the shadow stack full.
+pub(crate) const DEPTH_HANDLER: u64 = 0x4000_0008;
+
+/// The words of a unit at an address.
+#[tactic(auto, unfolding(crate::specs::UnitWords::words_of))]
+pub(crate) fn unit_code(unit: &Unit, at: u64) -> UnitCode
+    requires { at < CODE + CODE_SIZE }
+    ensures { result ≡ words_of unit.now at }
+{
+    let mut code = UnitCode::new();
+    match *unit {
+        Unit::Gate(label) => code.put(&[gate_instr(label)]),
+        Unit::Plain(instr) => code.put(&[instr]),
+        Unit::Branch(op, rs1, rs2, target) => {
+            code.put(&[skip(op, rs1, rs2), jump_between(at + 4, target)]);
+        }
+        Unit::Jump(target) => code.put(&[jump_between(at, target)]),
+        Unit::Stop => code.put(&[jump_between(at, BAD_TARGET_HANDLER)]),
+        Unit::System(op) => code.put(&[system(op)]),
+        Unit::Store(op, rs1, rs2, imm) => code.put(&store(op, rs1, rs2, imm)),
+        Unit::Call(target) => {
+            code.put(&pushes(at));
+            code.put(&[Instr::Jal(Reg::of(1), field_between(at + 28, target))]);
+        }
+        Unit::Ijump(rs1, imm, label) => {
+            code.put(&checks(at, rs1, imm, label));
+            code.put(&[transfer(0)]);
+        }
+        Unit::Icall(rs1, imm, label) => {
+            code.put(&checks(at, rs1, imm, label));
+            code.put(&pushes(at + 48));
+            code.put(&[transfer(1)]);
+        }
+        Unit::Return => code.put(&returns(at)),
+    }
+    code
+}
+
+/// `lui x0,label`.
+fn gate_instr(label: Immediate<20>) -> Instr
+    ensures { result ≡ gate label }
+{
+    Instr::Upper(UpperOp::Lui, Reg::of(0), label)
+}
+
+/// A branch over the next word.
+fn skip(op: BranchOp, rs1: Reg, rs2: Reg) -> Instr
+    ensures { result ≡ Instr.Branch op rs1 rs2 4 }
+{
+    Instr::Branch(op, rs1, rs2, Immediate::of(4))
+}
+
+fn system(op: SystemOp) -> Instr
+    ensures { result ≡ system_instr op }
+{
+    match op {
+        SystemOp::Ecall => Instr::Ecall,
+        SystemOp::Ebreak => Instr::Ebreak,
+    }
+}
+
+/// `jalr rd,0(x31)`.
+fn transfer(rd: u32) -> Instr
+    requires { rd < 32 }
+    ensures { result ≡ Instr.Jalr rd 31 0 }
+{
+    Instr::Jalr(Reg::of(rd), Reg::of(31), Immediate::of(0))
+}
+
+fn addi(rd: u32, rs1: u32, imm: u32) -> Instr
+    requires destination { rd < 32 }
+    requires source { rs1 < 32 }
+    requires field { imm < 2 ^ 12 }
+    ensures { result ≡ Instr.Immediate ImmediateOp.Addi rd rs1 imm }
+{
+    Instr::Immediate(
+        ImmediateOp::Addi,
+        Reg::of(rd),
+        Reg::of(rs1),
+        Immediate::of(imm),
+    )
+}
+
+fn shift(op: ShiftOp, rd: u32, rs1: u32, amount: u32) -> Instr
+    requires destination { rd < 32 }
+    requires source { rs1 < 32 }
+    requires field { amount < 2 ^ 6 }
+    ensures { result ≡ Instr.Shift op rd rs1 amount }
+{
+    Instr::Shift(op, Reg::of(rd), Reg::of(rs1), Immediate::of(amount))
+}
+
+/// `addi x31,rs1,imm`: the address of a store, or a computed destination.
+fn address(rs1: Reg, imm: Immediate<12>) -> Instr
+    ensures { result ≡ Instr.Immediate ImmediateOp.Addi 31 rs1 imm }
+{
+    Instr::Immediate(ImmediateOp::Addi, Reg::of(31), rs1, imm)
+}
+
+fn store(op: StoreOp, rs1: Reg, rs2: Reg, imm: Immediate<12>) -> [Instr; 4]
+    ensures { result ≡ instrs_of (V.Store op rs1 rs2 imm) 0 }
+{
+    [
+        address(rs1, imm),
+        shift(ShiftOp::Slli, 31, 31, 36),
+        shift(ShiftOp::Srli, 31, 31, 36),
+        Instr::Store(op, Reg::of(31), rs2, Immediate::of(0)),
+    ]
+}
+
+/// The words of a call before its transfer.
+fn pushes(at: u64) -> [Instr; 7]
+    requires { at < CODE + CODE_SIZE + 48 }
+    ensures { result ≡ push at }
+{
+    [
+        shift(ShiftOp::Slli, 30, 3, 48),
+        skip(BranchOp::Bne, Reg::of(30), Reg::of(0)),
+        jump_between(at + 8, DEPTH_HANDLER),
+        Instr::Upper(UpperOp::Auipc, Reg::of(30), Immediate::of(0)),
+        addi(30, 30, 20),
+        Instr::Store(StoreOp::Sd, Reg::of(3), Reg::of(30), Immediate::of(0)),
+        addi(3, 3, 8),
+    ]
+}
+
+/// The words of a computed transfer that test its destination.
+fn checks(at: u64, rs1: Reg, imm: Immediate<12>, label: Immediate<20>) -> [Instr; 12]
+    requires { at < CODE + CODE_SIZE }
+    ensures { result ≡ check at rs1 imm label }
+{
+    let (x0, x4, x30, x31) = (Reg::of(0), Reg::of(4), Reg::of(30), Reg::of(31));
+    [
+        address(rs1, imm),
+        Instr::Immediate(ImmediateOp::Andi, x31, x31, Immediate::of(0xffc)),
+        Instr::Upper(UpperOp::Lui, x30, Immediate::of(0x4_0000)),
+        Instr::Register(RegisterOp::Sub, x30, x31, x30),
+        shift(ShiftOp::Srli, 30, 30, 20),
+        skip(BranchOp::Beq, x30, x0),
+        jump_between(at + 24, BAD_TARGET_HANDLER),
+        Instr::Load(LoadOp::Lw, x30, x31, Immediate::of(0)),
+        Instr::Upper(UpperOp::Lui, x4, label),
+        addi(4, 4, 55),
+        skip(BranchOp::Beq, x30, x4),
+        jump_between(at + 44, BAD_TARGET_HANDLER),
+    ]
+}
+
+fn returns(at: u64) -> [Instr; 5]
+    requires { at < CODE + CODE_SIZE }
+    ensures { result ≡ instrs_of V.Return at }
+{
+    let (x1, x3, x31) = (Reg::of(1), Reg::of(3), Reg::of(31));
+    [
+        Instr::Load(LoadOp::Ld, x31, x3, Immediate::of(0xff8)),
+        addi(3, 3, 0xff8),
+        skip(BranchOp::Beq, x31, x1),
+        jump_between(at + 12, BAD_RETURN_HANDLER),
+        transfer(0),
+    ]
+}

@@ -1,0 +1,278 @@
+ghost use Rattle.std.specs.Prelude.{◌<◌, ◌^◌};
+
+use crate::{SystemOp, Unit, emit, fits, recognise, size};
+use rv_code::{decode, encode};
+use rv_instr::{
+    BranchOp, FenceWord, Immediate, ImmediateOp, Instr, LoadOp, Reg, RegisterOp, ShiftOp, StoreOp,
+    UpperOp,
+};
+use std::alloc::Global;
+use std::process::Abort;
+use std::test::Fail;
+
+/// Where the first unit of an image stands.
+const FIRST: u64 = 0x4000_0040;
+
+// The words of the objects in tests/units at the top of the repository, as binutils makes them.
+const B: [u32; 7] = [
+    0x00700513, 0xff81bf83, 0xff818193, 0x001f8463, 0xfb5ff06f, 0x000f8067, 0xfa9ff06f,
+];
+
+// Straight code: x10 is 7, then an exit, then a stop.
+const A: [u32; 4] = [0x00700513, 0x05d00893, 0x00000073, 0xfb5ff06f];
+
+const H: [u32; 33] = [
+    0xff010113, 0x00810f93, 0x024f9f93, 0x024fdf93, 0x001fb023, 0x03019f13, 0x000f1463, 0xfadff06f,
+    0x00000f17, 0x014f0f13, 0x01e1b023, 0x00818193, 0x024000ef, 0x00000513, 0x00813083, 0x01010113,
+    0xff81bf83, 0xff818193, 0x001f8463, 0xf79ff06f, 0x000f8067, 0xc0010597, 0xf6c58593, 0x00100513,
+    0x00300613, 0x04000893, 0x00000073, 0xff81bf83, 0xff818193, 0x001f8463, 0xf4dff06f, 0x000f8067,
+    0xf41ff06f,
+];
+
+const P: [u32; 49] = [
+    0xff010113, 0x00810f93, 0x024f9f93, 0x024fdf93, 0x001fb023, 0x000102b7, 0x0002b283, 0x00028f93,
+    0xffcfff93, 0x40000f37, 0x41ef8f33, 0x014f5f13, 0x000f0463, 0xf8dff06f, 0x000faf03, 0x00001237,
+    0x03720213, 0x004f0463, 0xf79ff06f, 0x03019f13, 0x000f1463, 0xf75ff06f, 0x00000f17, 0x014f0f13,
+    0x01e1b023, 0x00818193, 0x000f80e7, 0x00813083, 0x01010113, 0xff81bf83, 0xff818193, 0x001f8463,
+    0xf45ff06f, 0x000f8067, 0x00001037, 0x00100513, 0xff81bf83, 0xff818193, 0x001f8463, 0xf29ff06f,
+    0x000f8067, 0x00001037, 0x00200513, 0xff81bf83, 0xff818193, 0x001f8463, 0xf0dff06f, 0x000f8067,
+    0xf01ff06f,
+];
+
+const OTHER: [u32; 25] = [
+    0x0062e463, 0x0580006f, 0xff9ff06f, 0xff828f93, 0xffcfff93, 0x40000f37, 0x41ef8f33, 0x014f5f13,
+    0x000f0463, 0xf9dff06f, 0x000faf03, 0xfffff237, 0x03720213, 0x004f0463, 0xf89ff06f, 0x000f8067,
+    0x00000073, 0x00100073, 0xfff38f93, 0x024f9f93, 0x024fdf93, 0x006f8023, 0xfffff037, 0x0ff0000f,
+    0xf61ff06f,
+];
+
+fn addi(rd: u32, rs1: u32, imm: u32) -> Unit
+    requires destination { rd < 32 }
+    requires source { rs1 < 32 }
+    requires field { imm < 2 ^ 12 }
+{
+    let op = ImmediateOp::Addi;
+    Unit::Plain(Instr::Immediate(op, Reg::of(rd), Reg::of(rs1), Immediate::of(imm)))
+}
+
+fn ld(rd: u32, rs1: u32, imm: u32) -> Unit
+    requires destination { rd < 32 }
+    requires source { rs1 < 32 }
+    requires field { imm < 2 ^ 12 }
+{
+    Unit::Plain(Instr::Load(LoadOp::Ld, Reg::of(rd), Reg::of(rs1), Immediate::of(imm)))
+}
+
+fn upper(op: UpperOp, rd: u32, imm: u32) -> Unit
+    requires destination { rd < 32 }
+    requires field { imm < 2 ^ 20 }
+{
+    Unit::Plain(Instr::Upper(op, Reg::of(rd), Immediate::of(imm)))
+}
+
+fn store(op: StoreOp, rs2: u32, imm: u32, rs1: u32) -> Unit
+    requires value { rs2 < 32 }
+    requires address { rs1 < 32 }
+    requires field { imm < 2 ^ 12 }
+{
+    Unit::Store(op, Reg::of(rs1), Reg::of(rs2), Immediate::of(imm))
+}
+
+fn gate(label: u32) -> Unit
+    requires { label < 2 ^ 20 }
+{
+    Unit::Gate(Immediate::of(label))
+}
+
+fn object_b() -> [Unit; 3] {
+    [addi(10, 0, 7), Unit::Return, Unit::Stop]
+}
+
+fn object_h() -> [Unit; 15] {
+    [
+        addi(2, 2, 0xff0),
+        store(StoreOp::Sd, 1, 8, 2),
+        Unit::Call(0x4000_0094),
+        addi(10, 0, 0),
+        ld(1, 2, 8),
+        addi(2, 2, 16),
+        Unit::Return,
+        upper(UpperOp::Auipc, 11, 0xc0010),
+        addi(11, 11, 0xf6c),
+        addi(10, 0, 1),
+        addi(12, 0, 3),
+        addi(17, 0, 64),
+        Unit::System(SystemOp::Ecall),
+        Unit::Return,
+        Unit::Stop,
+    ]
+}
+
+fn object_p() -> [Unit; 15] {
+    [
+        addi(2, 2, 0xff0),
+        store(StoreOp::Sd, 1, 8, 2),
+        upper(UpperOp::Lui, 5, 0x10),
+        ld(5, 5, 0),
+        Unit::Icall(Reg::of(5), Immediate::of(0), Immediate::of(1)),
+        ld(1, 2, 8),
+        addi(2, 2, 16),
+        Unit::Return,
+        gate(1),
+        addi(10, 0, 1),
+        Unit::Return,
+        gate(1),
+        addi(10, 0, 2),
+        Unit::Return,
+        Unit::Stop,
+    ]
+}
+
+fn other_units() -> [Unit; 9] {
+    [
+        Unit::Branch(BranchOp::Bltu, Reg::of(5), Reg::of(6), 0x4000_009c),
+        Unit::Jump(FIRST),
+        Unit::Ijump(Reg::of(5), Immediate::of(0xff8), Immediate::of(0xf_ffff)),
+        Unit::System(SystemOp::Ecall),
+        Unit::System(SystemOp::Ebreak),
+        store(StoreOp::Sb, 6, 0xfff, 7),
+        gate(0xf_ffff),
+        Unit::Plain(Instr::Fence(FenceWord::of(0x0ff0_000f))),
+        Unit::Stop,
+    ]
+}
+
+/// Emits units one after the other. Each is recognised from the words that it has.
+fn emitted(rt: &impl Abort, alloc: Global, units: &[Unit]) -> Result<Vec<u32>, Fail> {
+    let mut code = Vec::new(alloc);
+    for unit in units {
+        assert!(rt; code.len() < 0x1000);
+        let at = FIRST + 4 * code.len() as u64;
+        assert!(rt; fits(unit, at), "{unit:?} at {at:x}");
+        let words = emit(alloc, unit, at)?;
+        let count = size(unit) / 4;
+        assert_eq!(rt; words.len(), count as usize, "{unit:?}");
+        assert_eq!(rt; recognise(&words, at), Some((*unit, count)), "{unit:?}");
+        code.extend_from_slice(&words)?;
+    }
+    Ok(code)
+}
+
+#[test]
+fn objects(rt: HostRuntime) -> Result<(), Fail> {
+    let alloc = rt.alloc();
+    assert_eq!(rt; emitted(&rt, alloc, &object_b())?.as_slice(), B.as_slice());
+    assert_eq!(rt; emitted(&rt, alloc, &object_h())?.as_slice(), H.as_slice());
+    assert_eq!(rt; emitted(&rt, alloc, &object_p())?.as_slice(), P.as_slice());
+    assert_eq!(rt;
+        emitted(&rt, alloc, &other_units())?.as_slice(),
+        OTHER.as_slice()
+    );
+    Ok(())
+}
+
+/// The words that units are made of.
+fn vectors() -> [(u32, Instr); 9] {
+    let (x0, x3, x30, x31) = (Reg::of(0), Reg::of(3), Reg::of(30), Reg::of(31));
+    [
+        (
+            0xff81bf83,
+            Instr::Load(LoadOp::Ld, x31, x3, Immediate::of(0xff8)),
+        ),
+        (0x00001037, Instr::Upper(UpperOp::Lui, x0, Immediate::of(1))),
+        (
+            0x03019f13,
+            Instr::Shift(ShiftOp::Slli, x30, x3, Immediate::of(48)),
+        ),
+        (
+            0x000f1463,
+            Instr::Branch(BranchOp::Bne, x30, x0, Immediate::of(4)),
+        ),
+        (0xfe9ff06f, Instr::Jal(x0, Immediate::of(0xffff4))),
+        (
+            0x01e1b023,
+            Instr::Store(StoreOp::Sd, x3, x30, Immediate::of(0)),
+        ),
+        (
+            0xffcfff93,
+            Instr::Immediate(ImmediateOp::Andi, x31, x31, Immediate::of(0xffc)),
+        ),
+        (
+            0x40000f37,
+            Instr::Upper(UpperOp::Lui, x30, Immediate::of(0x40000)),
+        ),
+        (0x41ef8f33, Instr::Register(RegisterOp::Sub, x30, x31, x30)),
+    ]
+}
+
+fn more_vectors() -> [(u32, Instr); 8] {
+    let (x0, x1, x4, x30, x31) = (Reg::of(0), Reg::of(1), Reg::of(4), Reg::of(30), Reg::of(31));
+    [
+        (
+            0x014f5f13,
+            Instr::Shift(ShiftOp::Srli, x30, x30, Immediate::of(20)),
+        ),
+        (
+            0x000f0463,
+            Instr::Branch(BranchOp::Beq, x30, x0, Immediate::of(4)),
+        ),
+        (
+            0x000faf03,
+            Instr::Load(LoadOp::Lw, x30, x31, Immediate::of(0)),
+        ),
+        (0x00001237, Instr::Upper(UpperOp::Lui, x4, Immediate::of(1))),
+        (
+            0x03720213,
+            Instr::Immediate(ImmediateOp::Addi, x4, x4, Immediate::of(55)),
+        ),
+        (
+            0x004f0463,
+            Instr::Branch(BranchOp::Beq, x30, x4, Immediate::of(4)),
+        ),
+        (0x000f8067, Instr::Jalr(x0, x31, Immediate::of(0))),
+        (0x000f80e7, Instr::Jalr(x1, x31, Immediate::of(0))),
+    ]
+}
+
+fn assert_coded(rt: &impl Abort, rows: &[(u32, Instr)]) {
+    for (word, instr) in rows {
+        assert_eq!(rt; decode(*word), Some(*instr), "{word:x}");
+        assert_eq!(rt; encode(*instr), *word, "{instr:?}");
+    }
+}
+
+#[test]
+fn words(rt: HostRuntime) {
+    assert_coded(&rt, &vectors());
+    assert_coded(&rt, &more_vectors());
+    assert!(rt; decode(0x0000_100f).is_none());
+}
+
+/// No unit begins these objects' words at an address once the word at another is changed.
+#[test]
+fn refused(rt: HostRuntime) -> Result<(), Fail> {
+    let rows = [
+        (A.as_slice(), 0x40, 0x40, 0x00100f13),
+        (A.as_slice(), 0x40, 0x40, 0x0052b023),
+        (A.as_slice(), 0x40, 0x40, 0x00028067),
+        (B.as_slice(), 0x44, 0x54, 0x00008067),
+        (P.as_slice(), 0x44, 0x48, 0x022f9f93),
+        (P.as_slice(), 0x5c, 0x78, 0x0002af03),
+        (P.as_slice(), 0x5c, 0x90, 0x00000013),
+    ];
+    for (code, unit, changed, word) in rows {
+        assert!(rt; unit >= 0x40 && changed >= 0x40 && unit < 0x1000);
+        let mut words = code.to_vec(rt.alloc())?;
+        let at = 0x4000_0000 + unit as u64;
+        let first = (unit - 0x40) / 4;
+        assert!(rt; first < words.len());
+        assert!(rt; recognise(&words[first..], at).is_some(), "{unit:x}");
+        *words.get_mut((changed - 0x40) / 4).ok_or("outside")? = word;
+        assert!(rt;
+            recognise(&words[first..], at).is_none(),
+            "{unit:x} {changed:x}"
+        );
+    }
+    assert!(rt; recognise(&P[7..26], 0x4000_005c).is_none());
+    Ok(())
+}

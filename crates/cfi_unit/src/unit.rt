@@ -1,0 +1,66 @@
+use rv_instr::{BranchOp, Immediate, Instr, Reg, StoreOp};
+
+/// A unit of hardened code. Targets are addresses in bytes, labels are 20-bit numbers.
+#[derive(Clone, Copy, Debug, PartialEq, Eq)]
+pub enum Unit {
+    /// `lui x0,label`: where a computed jump or call of a class may arrive.
+    Gate(Immediate<20>),
+    /// One instruction that neither transfers nor stores nor writes a reserved register.
+    Plain(Instr),
+    /// A branch over the jump that follows it; the jump's target.
+    Branch(BranchOp, Reg, Reg, u64),
+    /// A jump to a target that is not the handler of bad targets.
+    Jump(u64),
+    /// A jump to the handler of bad targets.
+    Stop,
+    System(SystemOp),
+    /// A store whose address is masked to lie below 2^28: the address's register, the value's, the
+    /// offset.
+    Store(StoreOp, Reg, Reg, Immediate<12>),
+    /// A call that puts its site onto the shadow stack; its target.
+    Call(u64),
+    /// A computed jump: register, offset, and the label that its target must bear.
+    Ijump(Reg, Immediate<12>, Immediate<20>),
+    /// A computed call: register, offset, label.
+    Icall(Reg, Immediate<12>, Immediate<20>),
+    /// A return to the newest site on the shadow stack.
+    Return,
+}
+
+/// What a system unit does.
+#[derive(Clone, Copy, Debug, PartialEq, Eq)]
+pub enum SystemOp {
+    Ecall,
+    Ebreak,
+}
+
+impl Unit {
+    ghost use Rattle.cfi_unit.specs.InRange.{IsInRange};
+
+    /// Tells a proof that the fields are in range; nothing is computed.
+    pub fn in_range(&self)
+        ensures { IsInRange self.now }
+    {
+        match *self {
+            Unit::Gate(label) => {
+                let _ = label.bits();
+            }
+            Unit::Plain(instr) => instr.in_range(),
+            Unit::Branch(_, rs1, rs2, _) => {
+                let _ = rs1.number();
+                let _ = rs2.number();
+            }
+            Unit::Store(_, rs1, rs2, imm) => {
+                let _ = rs1.number();
+                let _ = rs2.number();
+                let _ = imm.bits();
+            }
+            Unit::Ijump(rs1, imm, label) | Unit::Icall(rs1, imm, label) => {
+                let _ = rs1.number();
+                let _ = imm.bits();
+                let _ = label.bits();
+            }
+            Unit::Jump(_) | Unit::Stop | Unit::System(_) | Unit::Call(_) | Unit::Return => {}
+        }
+    }
+}
