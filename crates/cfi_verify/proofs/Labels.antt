@@ -1,0 +1,108 @@
+-- What stands at each place does stand, and a word with a class's label stands only at the class's
+-- targets.
+use Rattle.std.proofs.Common.{◌≡◌, ℕ, ◌+◌, ◌-◌, ◌*◌, ◌^◌, ◌≤◌, ◌<◌, ◌⊎◌, inl, inr, List, [], length, refl, sym, ap, subst, ◌∙◌, Some, arith}
+use Rattle.std.proofs.lemmas.Bool.{cases_lt}
+use Rattle.rv_word.specs.Image.{Contents}
+use Rattle.rv_word.specs.Layout.{CODE, SHADOW, version_1}
+use Rattle.rv_word.specs.Memory.{loaded}
+use Rattle.cfi_graph.specs.Graph.{GraphParts}
+use Rattle.cfi_unit.specs.declared.unit.Unit.TheVariants as V
+use Rattle.cfi_unit.specs.Leads.{HasLabel}
+use Rattle.cfi_unit.specs.Place.{Place, handler, opening, closing, body, place_instrs, place_size}
+use Rattle.cfi_unit.specs.Prologue.{OPENING, handler_instrs}
+use Rattle.cfi_unit.specs.Stand.{Stand}
+use Rattle.cfi_unit.specs.UnitLaw.{ReturnsTo, MayStand}
+use Rattle.cfi_unit.specs.UnitWords.{BAD_TARGET, BAD_RETURN, DEEP}
+use Rattle.cfi_unit.proofs.Gates.{label_is_gate}
+use Rattle.cfi_unit.proofs.PrologueUnits.{PrologueStands, prologue_stands}
+use Rattle.cfi_verify.specs.Lines.{class_of}
+use Rattle.cfi_verify.specs.Rules.{IsWellFormed}
+use Rattle.cfi_verify.specs.Split.{code_words, unit_at}
+use Rattle.cfi_verify.specs.Walk.{InClass}
+use Rattle.cfi_verify.specs.Laws.{AreBytes}
+use Rattle.cfi_verify.proofs.Bytes.{loaded_past, length-code_words}
+use Rattle.cfi_verify.proofs.Find.{START, unit_around}
+use Rattle.cfi_verify.proofs.Places.{PlaceFacts, prologue, is_whole, handler_is}
+use Rattle.cfi_verify.proofs.RuleFacts.{gate_listed}
+use Rattle.cfi_verify.proofs.Standing.{unit_stands}
+
+module _ (image : Contents) (graph : GraphParts) (bytes : AreBytes image) (formed : IsWellFormed version_1 image graph) where
+  the_prologue : PrologueStands (loaded image) (prologue image graph bytes formed).0
+  the_prologue = prologue_stands (loaded image) (prologue image graph bytes formed).0 (prologue image graph bytes formed).1.stands
+
+  handler_stands : (a : ℕ) → (a ≡ BAD_TARGET) ⊎ ((a ≡ BAD_RETURN) ⊎ (a ≡ DEEP)) → Stand (loaded image) a handler_instrs
+  handler_stands a (inl e) = subst (λ (x : ℕ). Stand (loaded image) x handler_instrs) (sym e) the_prologue.bad_target
+  handler_stands a (inr (inl e)) = subst (λ (x : ℕ). Stand (loaded image) x handler_instrs) (sym e) the_prologue.bad_return
+  handler_stands a (inr (inr e)) = subst (λ (x : ℕ). Stand (loaded image) x handler_instrs) (sym e) the_prologue.deep
+
+  -- what stands at a place stands in the loaded image
+  pub place_stands : (place : Place) (a : ℕ) → PlaceFacts image graph bytes formed place a → Stand (loaded image) a (place_instrs place a)
+  place_stands handler a facts = handler_stands a (handler_is image graph bytes formed a facts)
+  place_stands (opening entry) a facts =
+      let stand = (prologue_stands (loaded image) entry facts.1.stands).opening in
+      subst (λ (x : ℕ). Stand (loaded image) x (place_instrs (opening entry) x)) (sym facts.0) stand
+  place_stands closing a facts = subst (λ (x : ℕ). Stand (loaded image) x (place_instrs closing x)) (sym facts) the_prologue.closing
+  place_stands (body unit) a facts = unit_stands image bytes a unit facts
+
+  -- and may stand there; the opening has nothing pending
+  abbrev pub IsFirstCall : Place → List ℕ → Type 0
+  IsFirstCall handler pending = Unit {0}
+  IsFirstCall (opening entry) pending = pending ≡ []
+  IsFirstCall closing pending = Unit {0}
+  IsFirstCall (body unit) pending = ReturnsTo pending
+
+  pub may_stand : (place : Place) (a : ℕ) (pending : List ℕ) → PlaceFacts image graph bytes formed place a → IsFirstCall place pending → MayStand place SHADOW a pending
+  may_stand handler a pending facts first = tt
+  may_stand (opening entry) a pending facts first = (refl, facts.0, first, (refl, facts.1.reaches))
+  may_stand closing a pending facts first = tt
+  may_stand (body unit) a pending facts first = (facts.begins.fits, first)
+
+  -- no word of what stands before the first unit bears a label
+  before_units : (place : Place) (a label v : ℕ) → PlaceFacts image graph bytes formed place a → IsFirstCall place [] → label < 2 ^ 20 → HasLabel (loaded image) label v →
+      a ≤ v → v < a + place_size place → (place ≡ body (V.Gate label)) × (v ≡ a)
+  before_units place a label v facts first low has from to =
+      label_is_gate (loaded image) SHADOW [] place a label v (may_stand place a [] facts first) (place_stands place a facts) low has from to
+
+  not_before : (label v : ℕ) → label < 2 ^ 20 → HasLabel (loaded image) label v → v < START → ⊥
+  not_before label v low has below =
+      let code = has.low in
+      elim (cases_lt v BAD_RETURN) [
+        | inl a ↦ let e = (before_units handler BAD_TARGET label v refl tt low has (omega arith) (omega arith)).0 in cc
+        | inr a ↦ elim (cases_lt v DEEP) [
+          | inl b ↦ let e = (before_units handler BAD_RETURN label v refl tt low has (omega arith) (omega arith)).0 in cc
+          | inr b ↦ elim (cases_lt v OPENING) [
+            | inl c ↦ let e = (before_units handler DEEP label v refl tt low has (omega arith) (omega arith)).0 in cc
+            | inr c ↦ elim (cases_lt v (OPENING + 44)) [
+              | inl d ↦
+                  let e = (before_units (opening (prologue image graph bytes formed).0) OPENING label v (refl, (prologue image graph bytes formed).1) refl low has (omega arith) (omega arith)).0 in cc
+              | inr d ↦ let e = (before_units closing (OPENING + 44) label v refl tt low has (omega arith) (omega arith)).0 in cc
+            ]
+          ]
+        ]
+      ]
+
+  zero_past : (v : ℕ) → CODE + length image.code ≤ v → loaded image v ≡ 0
+  zero_past v past =
+      ap (loaded image) (let z : v ≡ CODE + (v - CODE) = omega arith in z) ∙ loaded_past image bytes.size (v - CODE) (omega arith)
+
+  -- a word of code with a class's label is the gate of a target of the class
+  pub label_in_class : (label v : ℕ) (ts : List ℕ) → label < 2 ^ 20 → class_of graph.lines label ≡ Some ts → HasLabel (loaded image) label v → InClass graph.lines label v
+  label_in_class label v ts low class has =
+      let whole = length-code_words image.code bytes.size.words in
+      elim (cases_lt v (CODE + 4 * length (code_words image.code))) [
+        | inl inside ↦ elim (cases_lt v START) [
+          | inl below ↦ absurd (not_before label v low has below)
+          | inr from ↦
+              let around = unit_around (code_words image.code) (is_whole image graph bytes formed) v from inside in
+              let unit = around.1 in let s = around.0 in let place = around.2 in
+              let found = before_units (body unit) s label v place.here tt low has place.from place.below in
+              let gate : unit ≡ V.Gate label = let same = found.0 in cc in
+              let is : unit_at version_1 (code_words image.code) v ≡ Some (V.Gate label) =
+              ap (unit_at version_1 (code_words image.code)) found.1 ∙ place.here.is ∙ ap Some gate in
+              rw class (gate_listed image graph formed v label ts is class)
+        ]
+        | inr past ↦
+            let z0 = zero_past v (omega arith) in let z1 = zero_past (v + 1) (omega arith) in
+            let z2 = zero_past (v + 1 + 1) (omega arith) in let z3 = zero_past (v + 1 + 1 + 1) (omega arith) in
+            let word = has.word in absurd (omega arith)
+      ]

@@ -1,0 +1,69 @@
+-- Pairs that each break one unit are not safe: their undisturbed runs leave what stands where the walk is.
+use Rattle.std.proofs.Common.{◌≡◌, ℕ, zero, suc, ◌+◌, ◌≤◌, List, [], ◌∷◌, refl, sym, ap, subst, ◌∙◌, Option, Some, None, arith, lit≤, replicate}
+use Rattle.std.specs.Prelude.{slice_get}
+use Rattle.std.specs.List.{AllByRecursion}
+use Rattle.rv_word.specs.Image.{Contents}
+use Rattle.rv_word.specs.Layout.{version_1}
+use Rattle.rv_word.specs.Memory.{loaded, placed, write}
+use Rattle.rv_code.specs.Decode.{decoded}
+use Rattle.rv_code.specs.Encode.{code_of}
+use Rattle.rv_code.specs.Run.{ByteChange}
+use Rattle.rv_code.specs.State.{start_hart, start_shared, last_exit}
+use Rattle.rv_code.specs.Step.{step}
+use Rattle.rv_code.specs.declared.turn.Turn.TheVariants.{Ran}
+use Rattle.cfi_graph.specs.Graph.{GraphParts}
+use Rattle.cfi_unit.specs.declared.unit.Unit.TheVariants as V
+use Rattle.cfi_unit.specs.Place.{Place, opening, body, place_size}
+use Rattle.cfi_unit.specs.Recognise.{recognised}
+use Rattle.cfi_unit.specs.UnitWords.{words_of}
+use Rattle.cfi_verify.specs.Along.{IsSafe, AreDataChanges}
+use Rattle.cfi_verify.specs.Split.{code_words, starts, is_start, unit_at, place_at}
+use Rattle.cfi_verify.specs.Trails.{Begin, trail_of, IsInPlace}
+use Rattle.cfi_verify.specs.Unsafe.{middle, middle_graph, bare_return, bare_return_graph, bare_store, bare_store_graph, moved_pointer, moved_pointer_graph, MiddleIsUnsafe, BareReturnIsUnsafe, BareStoreIsUnsafe, MovedPointerIsUnsafe}
+use Rattle.cfi_verify.proofs.Trails.{safe_stays}
+
+abbrev calm : ℕ → List (List ByteChange)
+calm n = replicate n []
+
+calm_is_data : (n : ℕ) → AreDataChanges (calm n)
+calm_is_data zero = tt
+calm_is_data (suc n) = (tt, calm_is_data n)
+
+each : {A : Type 0} (P : A → Type 0) (xs : List A) (k : ℕ) (x : A) → AllByRecursion P xs → slice_get xs k ≡ Some x → P x
+each P [] k x all e = absurd (cc)
+each {A} P (y ∷ ys) zero x all e = let same : y ≡ x = cc in subst P same all.0
+each P (y ∷ ys) (suc k) x all e = each P ys k x all.1 e
+
+-- an instruction past what stands at the newest address of the walk refutes safety
+refuted : (image : Contents) (graph : GraphParts) (n k : ℕ) (b : Begin) (place : Place) →
+    slice_get (trail_of version_1 (code_words image.code) 0 start_hart (start_shared image []) (calm n)) k ≡ Some b →
+    place_at version_1 (code_words image.code) b.newest ≡ Some place → b.newest + place_size place ≤ b.pc → IsSafe image graph → ⊥
+refuted image graph n k b place here is past safe =
+    let i : IsInPlace version_1 (code_words image.code) b =
+    each (IsInPlace version_1 (code_words image.code)) (trail_of version_1 (code_words image.code) 0 start_hart (start_shared image []) (calm n)) k b
+    (safe_stays image graph [] (calm n) safe (calm_is_data n)) here in
+    let same : i.0 ≡ place = let other = i.1 in cc in
+    let word = i.2 in
+    let size : place_size i.0 ≡ place_size place = ap place_size same in
+    let below = word.1 in let at = word.2 in
+    omega arith
+
+pub middle_unsafe : MiddleIsUnsafe
+unfolding loaded placed decoded code_of step write last_exit code_words recognised words_of starts is_start unit_at place_at trail_of
+middle_unsafe =
+    refuted middle middle_graph 12 11 (record { newest = 0x40000040; pc = 0x40000048; turn = Ran }) (body (V.Jump 0x40000048)) refl refl (lit≤ tt)
+
+pub bare_return_unsafe : BareReturnIsUnsafe
+unfolding loaded placed decoded code_of step write last_exit code_words recognised words_of starts is_start unit_at place_at trail_of
+bare_return_unsafe =
+    refuted bare_return bare_return_graph 11 10 (record { newest = 0x4000000c; pc = 0x40000040; turn = Ran }) (opening 0x40000040) refl refl (lit≤ tt)
+
+pub bare_store_unsafe : BareStoreIsUnsafe
+unfolding loaded placed decoded code_of step write last_exit code_words recognised words_of starts is_start unit_at place_at trail_of
+bare_store_unsafe =
+    refuted bare_store bare_store_graph 11 10 (record { newest = 0x4000000c; pc = 0x40000040; turn = Ran }) (opening 0x40000040) refl refl (lit≤ tt)
+
+pub moved_pointer_unsafe : MovedPointerIsUnsafe
+unfolding loaded placed decoded code_of step write last_exit code_words recognised words_of starts is_start unit_at place_at trail_of
+moved_pointer_unsafe =
+    refuted moved_pointer moved_pointer_graph 11 10 (record { newest = 0x4000000c; pc = 0x40000040; turn = Ran }) (opening 0x40000040) refl refl (lit≤ tt)

@@ -1,0 +1,12 @@
+-- What the answer of the verifier says when it does not accept.
+use Rattle.rv_word.specs.Layout.{Profile}
+use Rattle.rv_word.specs.Image.{Contents}
+use Rattle.cfi_graph.specs.Graph.{GraphParts}
+use Rattle.cfi_verify.specs.Rules.{IsRejected}
+use Rattle.cfi_verify.specs.declared.verifier.VerifyEnd.{VerifyEnd}
+use Rattle.cfi_verify.specs.declared.verifier.VerifyEnd.TheVariants.{Reject, NoMemory}
+
+-- a reject names the first rule that fails; of want of memory nothing is said
+abbrev pub IsCause : Profile → Contents → GraphParts → VerifyEnd → Type 0
+IsCause p image graph (Reject reject) = IsRejected p image graph reject
+IsCause p image graph NoMemory = Unit {0}

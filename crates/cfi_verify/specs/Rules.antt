@@ -1,0 +1,209 @@
+-- The ten rules of a well-formed pair of an image and a graph, and the first that fails. Each rule
+-- but Length is a test of an address: whether the rule fails there.
+use Rattle.std.specs.Prelude.{◌≡◌, ◌≢◌, ℕ, ◌+◌, ◌-◌, ◌*◌, ◌/◌, ◌%◌, ◌<◌, ◌==◌, nat_lt, nat_le, ◌&&◌, ◌||◌, not, Bool, true, false, List, length, map, slice_get, slice_index, Option, Some, None, is_some, option_and_then, if◌then◌else◌}
+use Rattle.std.specs.List.{list_any}
+use Rattle.rv_word.specs.Layout.{CODE, Profile, lies_within}
+use Rattle.rv_word.specs.Image.{Contents}
+use Rattle.rv_instr.specs.declared.instr.Instr.{Instr}
+use Rattle.rv_instr.specs.declared.instr.Instr.TheVariants.{Jal}
+use Rattle.rv_code.specs.Decode.{decoded}
+use Rattle.rv_code.specs.Encode.{code_of}
+use Rattle.cfi_graph.specs.declared.line.GraphLine.{GraphLine}
+use Rattle.cfi_graph.specs.declared.line.GraphLine.TheVariants.{Class, Site, Edge, Call}
+use Rattle.cfi_graph.specs.declared.line.SiteKind.{SiteKind}
+use Rattle.cfi_graph.specs.declared.line.SiteKind.TheVariants as K
+use Rattle.cfi_graph.specs.Graph.{GraphParts}
+use Rattle.cfi_unit.specs.declared.unit.Unit as U
+use Rattle.cfi_unit.specs.declared.unit.Unit.TheVariants as V
+use Rattle.cfi_unit.specs.Place.{Place, opening, body}
+use Rattle.cfi_unit.specs.Prologue.{prologue_instrs}
+use Rattle.cfi_unit.specs.UnitWords.{word_count}
+use Rattle.cfi_verify.specs.Lines.{line_at, class_of, is_among}
+use Rattle.cfi_verify.specs.Split.{code_words, unit_words, unit_starts, is_start, unit_at, place_at}
+use Rattle.cfi_verify.specs.declared.reject.Reject.{Reject}
+use Rattle.cfi_verify.specs.declared.reject.Reject.TheVariants.{Length, At}
+use Rattle.cfi_verify.specs.declared.reject.Rule.{Rule}
+use Rattle.cfi_verify.specs.declared.reject.Rule.TheVariants as R
+
+-- a test of a value that is there
+abbrev pub holds_of : {A : Type 0} → Option A → (A → Bool) → Bool
+holds_of None test = false
+holds_of (Some x) test = test x
+
+-- where a branch or a jump leads
+abbrev pub edge_of : Place → Option ℕ
+edge_of (body (V.Branch op rs1 rs2 target)) = Some target
+edge_of (body (V.Jump target)) = Some target
+edge_of other = None
+
+-- where the opening or a call leads
+abbrev pub call_of : Place → Option ℕ
+call_of (opening entry) = Some entry
+call_of (body (V.Call target)) = Some target
+call_of other = None
+
+-- a computed transfer's kind and label
+abbrev pub site_of : Place → Option (SiteKind × ℕ)
+site_of (body (V.Ijump rs1 imm label)) = Some (K.Jump, label)
+site_of (body (V.Icall rs1 imm label)) = Some (K.Call, label)
+site_of other = None
+
+abbrev pub same_kind : SiteKind → SiteKind → Bool
+same_kind K.Call K.Call = true
+same_kind K.Jump K.Jump = true
+same_kind other another = false
+
+-- the line is an edge, a call or a site, to this target or with this kind and label
+abbrev pub is_edge_to : Option GraphLine → ℕ → Bool
+is_edge_to (Some (Edge from to)) target = to == target
+is_edge_to other target = false
+
+abbrev pub is_call_to : Option GraphLine → ℕ → Bool
+is_call_to (Some (Call from to)) target = to == target
+is_call_to other target = false
+
+abbrev pub is_site_with : Option GraphLine → SiteKind × ℕ → Bool
+is_site_with (Some (Site address kind label)) site = same_kind kind site.0 && (label == site.1)
+is_site_with other site = false
+
+abbrev pub is_gate_with : Option U.Unit → ℕ → Bool
+is_gate_with (Some (V.Gate l)) label = l == label
+is_gate_with other label = false
+
+abbrev pub is_stop : U.Unit → Bool
+is_stop V.Stop = true
+is_stop other = false
+
+-- the instruction is `jal x1`
+abbrev pub is_link : Option Instr → Bool
+is_link (Some (Jal rd imm)) = rd == 1
+is_link other = false
+
+-- the prologue's words; the one at index 13 may be any `jal x1`
+abbrev pub prologue_words : List ℕ
+prologue_words = map code_of (prologue_instrs 0)
+
+abbrev pub prologue_word_fits : ℕ → Option ℕ → Bool
+prologue_word_fits k None = false
+prologue_word_fits k (Some word) =
+    if k == 13 then is_link (decoded word) else word == slice_index prologue_words k
+
+-- Prologue: a word of the first sixteen is missing or is not the prologue's
+abbrev pub fails_prologue : List ℕ → ℕ → Bool
+fails_prologue words a =
+    lies_within CODE 64 a 4 && (a % 4 == 0)
+    && not (prologue_word_fits ((a - CODE) / 4) (slice_get words ((a - CODE) / 4)))
+
+-- Unit: the split ends here, before the code does
+abbrev pub fails_unit : Profile → List ℕ → ℕ → Bool
+fails_unit p words a =
+    (a == p.units_from + 4 * length (unit_starts p words))
+    && nat_lt (length (unit_starts p words)) (length (unit_words p words))
+
+-- Target: a direct transfer leads to no unit's start
+abbrev pub fails_target : Profile → List ℕ → ℕ → Bool
+fails_target p words a =
+    let place = place_at p words a in
+    holds_of (option_and_then edge_of place) (λ target. not (is_start p words target))
+    || holds_of (option_and_then call_of place) (λ target. not (is_start p words target))
+
+-- Unlisted: a direct transfer has no line with its start and target
+abbrev pub fails_unlisted : Profile → List ℕ → List GraphLine → ℕ → Bool
+fails_unlisted p words lines a =
+    let place = place_at p words a in
+    holds_of (option_and_then edge_of place) (λ target. not (is_edge_to (line_at lines a) target))
+    || holds_of (option_and_then call_of place) (λ target. not (is_call_to (line_at lines a) target))
+
+-- Unused: an edge or call line stands where no such transfer does
+abbrev pub is_unused : Option Place → GraphLine → Bool
+is_unused place (Edge from to) = not (is_some (option_and_then edge_of place))
+is_unused place (Call from to) = not (is_some (option_and_then call_of place))
+is_unused place (Site address kind label) = false
+is_unused place (Class label targets) = false
+
+abbrev pub fails_unused : Profile → List ℕ → List GraphLine → ℕ → Bool
+fails_unused p words lines a = holds_of (line_at lines a) (is_unused (place_at p words a))
+
+-- Site: a computed transfer has no site line of its kind and label, or its label is no class's; or a
+-- site line stands where no computed transfer does
+abbrev pub is_lone_site : Option Place → GraphLine → Bool
+is_lone_site place (Site address kind label) = not (is_some (option_and_then site_of place))
+is_lone_site place (Edge from to) = false
+is_lone_site place (Call from to) = false
+is_lone_site place (Class label targets) = false
+
+abbrev pub fails_site : Profile → List ℕ → List GraphLine → ℕ → Bool
+fails_site p words lines a =
+    let place = place_at p words a in
+    holds_of (option_and_then site_of place) (λ site. not (is_site_with (line_at lines a) site && is_some (class_of lines site.1)))
+    || holds_of (line_at lines a) (is_lone_site place)
+
+-- Gate: a class has this target, and no gate with the class's label stands here
+abbrev pub lacks_gate : Option U.Unit → ℕ → GraphLine → Bool
+lacks_gate unit a (Class label targets) = is_among a targets && not (is_gate_with unit label)
+lacks_gate unit a (Site address kind label) = false
+lacks_gate unit a (Edge from to) = false
+lacks_gate unit a (Call from to) = false
+
+abbrev pub fails_gate : Profile → List ℕ → List GraphLine → ℕ → Bool
+fails_gate p words lines a = list_any (lacks_gate (unit_at p words a) a) lines
+
+-- Astray: a gate bears a class's label and is not among its targets
+abbrev pub is_astray : List GraphLine → ℕ → U.Unit → Bool
+is_astray lines a (V.Gate label) = holds_of (class_of lines label) (λ targets. not (is_among a targets))
+is_astray lines a other = false
+
+abbrev pub fails_astray : Profile → List ℕ → List GraphLine → ℕ → Bool
+fails_astray p words lines a = holds_of (unit_at p words a) (is_astray lines a)
+
+-- End: the unit that ends the code is not a stop, or there is no unit
+abbrev pub is_bad_end : List ℕ → ℕ → U.Unit → Bool
+is_bad_end words a unit = (a + 4 * word_count unit == CODE + 4 * length words) && not (is_stop unit)
+
+abbrev pub fails_end : Profile → List ℕ → ℕ → Bool
+fails_end p words a =
+    holds_of (unit_at p words a) (is_bad_end words a)
+    || ((a == p.units_from) && nat_le (CODE + 4 * length words) p.units_from)
+
+abbrev pub fails : Rule → Profile → List ℕ → List GraphLine → ℕ → Bool
+fails R.Prologue p words lines a = fails_prologue words a
+fails R.Unit p words lines a = fails_unit p words a
+fails R.Target p words lines a = fails_target p words a
+fails R.Unlisted p words lines a = fails_unlisted p words lines a
+fails R.Unused p words lines a = fails_unused p words lines a
+fails R.Site p words lines a = fails_site p words lines a
+fails R.Gate p words lines a = fails_gate p words lines a
+fails R.Astray p words lines a = fails_astray p words lines a
+fails R.End p words lines a = fails_end p words a
+
+-- the order in which the rules are asked
+abbrev pub order : Rule → ℕ
+order R.Prologue = 0
+order R.Unit = 1
+order R.Target = 2
+order R.Unlisted = 3
+order R.Unused = 4
+order R.Site = 5
+order R.Gate = 6
+order R.Astray = 7
+order R.End = 8
+
+-- a rule fails nowhere
+abbrev pub Holds : Profile → List ℕ → List GraphLine → Rule → Type 0
+Holds p words lines rule = (a : ℕ) → fails rule p words lines a ≡ false
+
+-- this rule is the first that fails, and this is the least address at which it does
+pub record IsFirst (p : Profile) (words : List ℕ) (lines : List GraphLine) (rule : Rule) (a : ℕ) : Type 0 where
+  pub here : fails rule p words lines a ≡ true
+  pub rules_before : (earlier : Rule) → order earlier < order rule → Holds p words lines earlier
+  pub addresses_before : (b : ℕ) → b < a → fails rule p words lines b ≡ false
+
+-- no rule fails
+pub record IsWellFormed (p : Profile) (image : Contents) (graph : GraphParts) : Type 0 where
+  pub same_length : graph.code ≡ length image.code
+  pub rules : (rule : Rule) → Holds p (code_words image.code) graph.lines rule
+
+-- why a pair is rejected
+abbrev pub IsRejected : Profile → Contents → GraphParts → Reject → Type 0
+IsRejected p image graph (Length code given) = (code ≡ length image.code) × (given ≡ graph.code) × (code ≢ given)
+IsRejected p image graph (At rule a) = (graph.code ≡ length image.code) × IsFirst p (code_words image.code) graph.lines rule a

@@ -1,0 +1,75 @@
+-- The walk along a graph: from what stands at an address, with the sites that are pending, to the
+-- next address and the sites pending there. Pending sites stand newest first.
+use Rattle.std.specs.Prelude.{◌≡◌, ℕ, ◌+◌, ◌<◌, ◌⊎◌, Bool, true, false, IsTrue, List, [], ◌∷◌, length}
+use Rattle.cfi_graph.specs.declared.line.GraphLine.{GraphLine}
+use Rattle.cfi_unit.specs.declared.unit.Unit as U
+use Rattle.cfi_unit.specs.declared.unit.Unit.TheVariants as V
+use Rattle.cfi_unit.specs.declared.unit.SystemOp.TheVariants as S
+use Rattle.cfi_unit.specs.Place.{Place, handler, opening, closing, body, place_size}
+use Rattle.cfi_unit.specs.Shadow.{MOST_PENDING}
+use Rattle.cfi_unit.specs.UnitWords.{BAD_TARGET, BAD_RETURN, DEEP}
+use Rattle.cfi_verify.specs.Lines.{class_of, is_among}
+use Rattle.cfi_verify.specs.Rules.{holds_of}
+
+-- an address is a target of the class with a label
+abbrev pub InClass : List GraphLine → ℕ → ℕ → Type 0
+InClass lines label v = IsTrue (holds_of (class_of lines label) (is_among v))
+
+abbrev pub is_some_target : List ℕ → Bool
+is_some_target [] = false
+is_some_target (x ∷ xs) = true
+
+-- the class with a label has a target
+abbrev pub HasTarget : List GraphLine → ℕ → Type 0
+HasTarget lines label = IsTrue (holds_of (class_of lines label) is_some_target)
+
+-- to an address, with the same sites pending
+abbrev pub To : ℕ → List ℕ → ℕ → List ℕ → Type 0
+To target pending v after = (v ≡ target) × (after ≡ pending)
+
+-- a call: to its target with its site put on top, or to the handler where there is no room
+abbrev pub CallGoes : ℕ → ℕ → List ℕ → ℕ → List ℕ → Type 0
+CallGoes site target pending v after =
+    ((length pending < MOST_PENDING) × (v ≡ target) × (after ≡ site ∷ pending))
+    ⊎ ((length pending ≡ MOST_PENDING) × To DEEP pending v after)
+
+-- a computed jump: to a target of its class, or to the handler
+abbrev pub JumpGoes : List GraphLine → ℕ → List ℕ → ℕ → List ℕ → Type 0
+JumpGoes lines label pending v after =
+    (InClass lines label v × (after ≡ pending)) ⊎ To BAD_TARGET pending v after
+
+-- a computed call: to the handler of bad targets; to a target of its class with its site put on top;
+-- or to the handler where there is no room
+abbrev pub ComputedCallGoes : List GraphLine → ℕ → ℕ → List ℕ → ℕ → List ℕ → Type 0
+ComputedCallGoes lines site label pending v after =
+    To BAD_TARGET pending v after
+    ⊎ (((length pending < MOST_PENDING) × InClass lines label v × (after ≡ site ∷ pending))
+    ⊎ ((length pending ≡ MOST_PENDING) × HasTarget lines label × To DEEP pending v after))
+
+-- a return: to the newest site, which is taken off, or to the handler
+abbrev pub ReturnGoes : List ℕ → ℕ → List ℕ → Type 0
+ReturnGoes [] v after = To BAD_RETURN [] v after
+ReturnGoes (site ∷ pending) v after =
+    To site pending v after ⊎ To BAD_RETURN (site ∷ pending) v after
+
+-- the step of the walk from a unit at an address
+abbrev pub UnitGoes : List GraphLine → U.Unit → ℕ → List ℕ → ℕ → List ℕ → Type 0
+UnitGoes lines (V.Gate label) at pending v after = To (at + 4) pending v after
+UnitGoes lines (V.Plain instr) at pending v after = To (at + 4) pending v after
+UnitGoes lines (V.Branch op rs1 rs2 target) at pending v after = To (at + 8) pending v after ⊎ To target pending v after
+UnitGoes lines (V.Jump target) at pending v after = To target pending v after
+UnitGoes lines V.Stop at pending v after = To BAD_TARGET pending v after
+UnitGoes lines (V.System S.Ecall) at pending v after = To (at + 4) pending v after
+UnitGoes lines (V.System S.Ebreak) at pending v after = ⊥
+UnitGoes lines (V.Store op rs1 rs2 imm) at pending v after = To (at + 16) pending v after
+UnitGoes lines (V.Call target) at pending v after = CallGoes (at + 32) target pending v after
+UnitGoes lines (V.Ijump rs1 imm label) at pending v after = JumpGoes lines label pending v after
+UnitGoes lines (V.Icall rs1 imm label) at pending v after = ComputedCallGoes lines (at + 80) label pending v after
+UnitGoes lines V.Return at pending v after = ReturnGoes pending v after
+
+-- the step of the walk from what stands at an address: handlers and the closing have none
+abbrev pub Goes : List GraphLine → Place → ℕ → List ℕ → ℕ → List ℕ → Type 0
+Goes lines handler at pending v after = ⊥
+Goes lines (opening entry) at pending v after = CallGoes (at + place_size (opening entry)) entry pending v after
+Goes lines closing at pending v after = ⊥
+Goes lines (body unit) at pending v after = UnitGoes lines unit at pending v after

@@ -1,0 +1,63 @@
+ghost use Rattle.std.specs.Prelude.{◌≡◌, ◌≢◌, ◌<◌, MatchOption};
+ghost use Rattle.rv_word.specs.Layout.{version_1};
+ghost use Rattle.cfi_verify.specs.Least.{IsLeast};
+ghost use Rattle.cfi_verify.specs.Rules.{Holds, IsFirst, fails};
+ghost use Rattle.cfi_verify.specs.declared.reject.Rule.{Rule};
+ghost use Rattle.cfi_verify.specs.declared.reject.Rule.TheVariants as R;
+
+use crate::reject::Rule;
+use crate::scan::{CODE_START, Scan};
+
+/// The rules in the order in which they are asked.
+const RULES: [Rule; 9] = [
+    Rule::Prologue,
+    Rule::Unit,
+    Rule::Target,
+    Rule::Unlisted,
+    Rule::Unused,
+    Rule::Site,
+    Rule::Gate,
+    Rule::Astray,
+    Rule::End,
+];
+
+impl<'a> Scan<'a> {
+    /// The first rule that fails, and the least address at which it does.
+    pub(crate) fn first_failure(&self) -> Option<(Rule, u64)>
+        ensures { MatchOption result ((rule : Rule) → Holds version_1 self.now.words self.now.graph.lines rule) (λ found. IsFirst version_1 self.now.words self.now.graph.lines found.0 found.1) }
+    {
+        for rule in &RULES {
+            if let Some(address) = self.first(*rule) {
+                return Some((*rule, address));
+            }
+        }
+        None
+    }
+
+    /// The least address at which a rule fails.
+    fn first(&self, rule: Rule) -> Option<u64>
+        ensures { IsLeast (fails rule version_1 self.now.words self.now.graph.lines) result }
+    {
+        match rule {
+            Rule::Gate => self.first_without_gate(),
+            _ => self.first_by_address(rule),
+        }
+    }
+
+    /// The same for a rule that is asked address by address: it fails only in the code or at the
+    /// prologue's missing words.
+    fn first_by_address(&self, rule: Rule) -> Option<u64>
+        requires { rule ≢ R.Gate }
+        ensures { IsLeast (fails rule version_1 self.now.words self.now.graph.lines) result }
+    {
+        let words = self.words();
+        let count = words.len().max(17);
+        for k in 0..count {
+            let address = CODE_START + 4 * k as u64;
+            if self.fails(rule, address) {
+                return Some(address);
+            }
+        }
+        None
+    }
+}

@@ -1,0 +1,40 @@
+//! What holds of accepted pairs and of their runs. Each function states one law; nothing is computed.
+ghost use Rattle.cfi_verify.specs.Laws.{WellFormedIsSafe, SafeStaysInPlace, SafeWalksGraph};
+ghost use Rattle.cfi_verify.specs.Unsafe.{MiddleIsUnsafe, BareReturnIsUnsafe, BareStoreIsUnsafe, MovedPointerIsUnsafe};
+
+/// An image and a graph that meet the rules are safe.
+#[tactic(auto, using(crate::proofs::Safety::well_formed_safe))]
+pub fn well_formed_is_safe()
+    ensures { WellFormedIsSafe }
+{}
+
+/// The walk of each run of a safe pair is a list of steps of the graph walk.
+pub fn safe_walks_graph()
+    ensures { SafeWalksGraph }
+{}
+
+/// Each begun instruction of each run of a safe pair is a word of what stands at the newest address of
+/// the walk, and ends as it may there.
+pub fn safe_stays_in_place()
+    ensures { SafeStaysInPlace }
+{}
+
+/// An image with a jump into the middle of a store unit is not safe.
+pub fn middle_is_unsafe()
+    ensures { MiddleIsUnsafe }
+{}
+
+/// An image with a return through x1 without its check is not safe.
+pub fn bare_return_is_unsafe()
+    ensures { BareReturnIsUnsafe }
+{}
+
+/// An image with a store without its mask is not safe.
+pub fn bare_store_is_unsafe()
+    ensures { BareStoreIsUnsafe }
+{}
+
+/// An image with a plain instruction that writes x3 is not safe.
+pub fn moved_pointer_is_unsafe()
+    ensures { MovedPointerIsUnsafe }
+{}

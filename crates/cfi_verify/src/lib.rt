@@ -1,0 +1,21 @@
+//! The verifier: whether an image and a graph meet the ten rules, and if not, which rule fails first
+//! and where. An accepted pair is safe, whatever is written into data while it runs.
+#![tactic(auto)]
+
+pub use place::Place;
+pub use reject::{Reject, Rule};
+pub use verifier::{Checked, VerifyEnd, verify};
+
+mod first;
+mod gates;
+pub mod laws;
+mod lines;
+mod place;
+mod reject;
+mod rules;
+mod scan;
+mod split;
+#[cfg(test)]
+mod tests;
+mod verifier;
+mod words;

@@ -1,0 +1,31 @@
+/// The rules that have an address, in the order in which they are asked.
+#[derive(Clone, Copy, Debug, PartialEq, Eq)]
+pub enum Rule {
+    /// The code does not begin with the prologue.
+    Prologue,
+    /// No unit fits at a place where one must begin.
+    Unit,
+    /// A direct transfer goes to no unit's start.
+    Target,
+    /// A direct transfer has no line in the graph.
+    Unlisted,
+    /// An edge or call line stands where no such transfer does.
+    Unused,
+    /// A computed transfer and the graph's site lines do not agree.
+    Site,
+    /// A class's target is no gate of the class.
+    Gate,
+    /// A gate of a class is not among the class's targets.
+    Astray,
+    /// The last unit is not a stop.
+    End,
+}
+
+/// Why an image and a graph are rejected.
+#[derive(Clone, Copy, Debug, PartialEq, Eq)]
+pub enum Reject {
+    /// The length of the code and the length that the graph gives, in bytes.
+    Length(u32, u32),
+    /// The first rule that fails, and the least address at which it does.
+    At(Rule, u64),
+}
