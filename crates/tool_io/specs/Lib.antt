@@ -1,0 +1,4 @@
+pub mod Faults
+pub mod Contents
+pub mod Entries
+pub mod Memory

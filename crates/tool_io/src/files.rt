@@ -1,0 +1,49 @@
+ghost use Rattle.std.specs.Prelude.{◌≡◌, ◌≢◌, ◌<◌, ◌≤◌, ℕ, List, length, Some, None, IfOk, IfSome, OnOk};
+ghost use Rattle.std.specs.declared.option.Option.{Option};
+ghost use Rattle.tool_io.specs.Faults.{Counts};
+ghost use Rattle.tool_io.specs.Contents.{Becomes};
+
+use crate::{OutEnd, ReadEnd};
+use std::alloc::Global;
+
+/// Files by name. Counts of faults never fall; code that is generic over `Files` cannot raise one by
+/// itself, so each fault that such code answers has its cause here.
+pub trait Files {
+    /// What a name holds, where that is told: nothing where the name is not there.
+    ghost content: { Self → List ℕ → Option (List ℕ) };
+
+    /// How often a read has failed.
+    ghost read_faults: { Self → ℕ };
+
+    /// How often a write has failed.
+    ghost write_faults: { Self → ℕ };
+
+    /// How often a file was longer than the limit of its read.
+    ghost long_reads: { Self → ℕ };
+
+    /// The name of the last read that failed.
+    ghost failed_name: { Self → List ℕ };
+
+    /// All the bytes of a file of at most `limit` bytes. It changes no file.
+    fn read(&mut self, alloc: Global, name: &str, limit: u64) -> Result<Vec<u8>, ReadEnd>
+        ensures all { IfOk result (λ v. IfSome (content self.old name.now) (λ bytes. v.items ≡ bytes)) }
+        ensures within { IfOk result (λ v. length v.items ≤ limit) }
+        ensures too_long { result ≡ Err ReadEnd.TooLong → IfSome (content self.old name.now) (λ bytes. limit < length bytes) }
+        ensures kept { (other : List ℕ) → content self.new other ≡ content self.old other }
+        ensures read_faults { Counts (result ≡ Err ReadEnd.Failed) (read_faults self.old) (read_faults self.new) }
+        ensures long_reads { Counts (result ≡ Err ReadEnd.TooLong) (long_reads self.old) (long_reads self.new) }
+        ensures write_faults { write_faults self.new ≡ write_faults self.old }
+        ensures named { result ≡ Err ReadEnd.Failed → failed_name self.new ≡ name.now }
+        ensures name_kept { ¬ (result ≡ Err ReadEnd.Failed) → failed_name self.new ≡ failed_name self.old };
+
+    /// Makes these the bytes of a file. After `Failed` nothing is said of that file, and every other
+    /// one is as before.
+    fn write(&mut self, name: &str, bytes: &[u8]) -> Result<(), OutEnd>
+        ensures written { OnOk result (Becomes (content self.old name.now) (content self.new name.now) bytes.now) }
+        ensures others { (other : List ℕ) → other ≢ name.now → content self.new other ≡ content self.old other }
+        ensures unchanged { result ≡ Err OutEnd.NoMemory → content self.new name.now ≡ content self.old name.now }
+        ensures write_faults { Counts (result ≡ Err OutEnd.Failed) (write_faults self.old) (write_faults self.new) }
+        ensures read_faults { read_faults self.new ≡ read_faults self.old }
+        ensures long_reads { long_reads self.new ≡ long_reads self.old }
+        ensures name_kept { failed_name self.new ≡ failed_name self.old };
+}

@@ -1,0 +1,113 @@
+ghost use Rattle.std.specs.Prelude.{◌≡◌, ◌≢◌, ℕ, List, [], Some, None, OnOk, OnErr};
+ghost use Rattle.std.specs.Option.{option_map};
+ghost use Rattle.tool_io.specs.Entries.{entry_at};
+
+use crate::calls::Calls;
+use crate::faults::Faults;
+use crate::{Files, OutEnd, ReadEnd};
+use std::alloc::{AllocError, Global};
+use std::collections::BTreeMap;
+
+/// Files in memory. A read of a name that is not there fails, and so do the calls that it was told.
+#[derive(Drop)]
+pub struct MemFiles {
+    alloc: Global,
+    entries: BTreeMap<String, Vec<u8>>,
+    calls: Calls,
+    faults: Faults,
+}
+
+// Puts a file there, or other bytes into it.
+fn put_entry(
+    alloc: Global,
+    entries: &mut BTreeMap<String, Vec<u8>>,
+    name: &str,
+    bytes: &[u8],
+) -> Result<(), AllocError>
+    ensures written { OnOk result (entry_at entries.new name.now ≡ Some bytes.now) }
+    ensures others { (other : List ℕ) → other ≢ name.now → entry_at entries.new other ≡ entry_at entries.old other }
+    ensures unchanged { OnErr result (entry_at entries.new name.now ≡ entry_at entries.old name.now) }
+{
+    let name = String::from_str(alloc, name)?;
+    let bytes = bytes.to_vec(alloc)?;
+    entries.insert(name, bytes)?;
+    Ok(())
+}
+
+impl MemFiles {
+    ghost use Rattle.tool_io.specs.Memory.{file_at, faults_of};
+
+    /// No files. The calls of `read` and `write` with these numbers fail, the first having number 0.
+    pub fn new(alloc: Global, failing: Vec<u64>) -> Self
+        ensures empty { (name : List ℕ) → file_at result name ≡ None }
+        ensures reads { ⟦<MemFiles as Files>⟧.read_faults result ≡ 0 }
+        ensures writes { ⟦<MemFiles as Files>⟧.write_faults result ≡ 0 }
+        ensures long_reads { ⟦<MemFiles as Files>⟧.long_reads result ≡ 0 }
+    {
+        MemFiles {
+            alloc,
+            entries: BTreeMap::new(alloc),
+            calls: Calls::new(failing),
+            faults: Faults::none(alloc),
+        }
+    }
+
+    /// Puts a file there, or other bytes into it. This is no call that may fail.
+    pub fn insert(&mut self, name: &str, bytes: &[u8]) -> Result<(), AllocError>
+        ensures written { OnOk result (file_at self.new name.now ≡ Some bytes.now) }
+        ensures others { (other : List ℕ) → other ≢ name.now → file_at self.new other ≡ file_at self.old other }
+        ensures unchanged { OnErr result (file_at self.new name.now ≡ file_at self.old name.now) }
+        ensures faults { faults_of self.new ≡ faults_of self.old }
+    {
+        put_entry(self.alloc, &mut self.entries, name, bytes)
+    }
+
+    /// The bytes of a file, if it is there.
+    pub fn get(&self, name: &str) -> Option<&[u8]>
+        ensures { option_map (λ file. file.now) result ≡ file_at self.now name.now }
+    {
+        Some(self.entries.get(name)?.as_slice())
+    }
+}
+
+impl Files for MemFiles {
+    ghost use Rattle.std.specs.Prelude.{Some, string_bytes};
+    ghost use Rattle.tool_io.specs.Entries.{bytes_at};
+
+    ghost content = { λ s name. Some (bytes_at s.entries name) };
+
+    ghost read_faults = { λ s. s.faults.reads };
+
+    ghost write_faults = { λ s. s.faults.writes };
+
+    ghost long_reads = { λ s. s.faults.long_reads };
+
+    ghost failed_name = { λ s. string_bytes s.faults.name };
+
+    fn read(&mut self, alloc: Global, name: &str, limit: u64) -> Result<Vec<u8>, ReadEnd> {
+        let named = String::from_str(alloc, name)?;
+        let fails = self.calls.next_fails();
+        match self.entries.get(name) {
+            Some(bytes) if !fails => {
+                if bytes.len() as u64 > limit {
+                    self.faults.read_was_long();
+                    return Err(ReadEnd::TooLong);
+                }
+                Ok(bytes.as_slice().to_vec(alloc)?)
+            }
+            _ => {
+                self.faults.read_failed(named);
+                Err(ReadEnd::Failed)
+            }
+        }
+    }
+
+    fn write(&mut self, name: &str, bytes: &[u8]) -> Result<(), OutEnd> {
+        if self.calls.next_fails() {
+            self.faults.write_failed();
+            return Err(OutEnd::Failed);
+        }
+        put_entry(self.alloc, &mut self.entries, name, bytes)?;
+        Ok(())
+    }
+}

@@ -1,0 +1,55 @@
+ghost use Rattle.std.specs.Prelude.{◌≡◌, ◌+◌, ◌<◌, ◌≤◌, ℕ, List, length, take, Some, IfOk, IfErr, IfSome, OnOk, OnErr};
+ghost use Rattle.std.specs.Io.KnownBytes.{Appends, Consumes};
+ghost use Rattle.tool_io.specs.declared.ends.OutEnd.TheVariants.{Failed};
+
+use crate::{OutEnd, ReadEnd};
+use std::alloc::Global;
+use std::io::{Read, Write};
+
+/// How many bytes one read asks for at most.
+const PIECE: usize = 4096;
+
+/// All that a reader gives until a read of 0 bytes, where that is at most `limit` bytes. At most
+/// `limit + 1` bytes are taken from it.
+pub(crate) fn read_within<R: Read>(
+    alloc: Global,
+    source: &mut R,
+    limit: u64,
+) -> Result<Vec<u8>, ReadEnd>
+    ensures all { IfOk result (λ v. IfSome (R.remaining source.old) (λ xs. v.items ≡ xs)) }
+    ensures within { IfOk result (λ v. length v.items ≤ limit) }
+    ensures too_long { result ≡ Err ReadEnd.TooLong → IfSome (R.remaining source.old) (λ xs. limit < length xs) }
+    ensures bound { (taken : List ℕ) × (length taken ≤ limit + 1) × Consumes (R.remaining source.old) (R.remaining source.new) taken }
+{
+    let mut bytes = Vec::new(alloc);
+    let mut piece = [0u8; PIECE];
+    loop {
+        let room = limit - bytes.len() as u64;
+        let asked = room.min(PIECE as u64 - 1) as usize + 1;
+        match source.read(&mut piece[..asked]) {
+            Err(_) => return Err(ReadEnd::Failed),
+            Ok(0) => return Ok(bytes),
+            Ok(count) if count as u64 > room => return Err(ReadEnd::TooLong),
+            Ok(count) => bytes.extend_from_slice(&piece[..count])?,
+        }
+    }
+}
+
+/// Writes all the bytes, and flushes. A write that takes none of them is a failure.
+pub(crate) fn write_whole<W: Write>(writer: &mut W, bytes: &[u8]) -> Result<(), OutEnd>
+    ensures whole { OnOk result (Appends (W.contents writer.old) (W.contents writer.new) bytes.now) }
+    ensures part { OnErr result ((n : ℕ) × Appends (W.contents writer.old) (W.contents writer.new) (take n bytes.now)) }
+    ensures failed { IfErr result (λ e. e ≡ Failed) }
+{
+    let mut done = 0;
+    while done < bytes.len() {
+        match writer.write(&bytes[done..]) {
+            Ok(0) | Err(_) => return Err(OutEnd::Failed),
+            Ok(count) => done += count,
+        }
+    }
+    match writer.flush() {
+        Ok(()) => Ok(()),
+        Err(_) => Err(OutEnd::Failed),
+    }
+}
