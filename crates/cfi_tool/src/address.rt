@@ -1,0 +1,18 @@
+use rv_word::low32;
+use std::fmt;
+
+/// An address as it is printed: eight hexadecimal digits in lower case.
+#[derive(Clone, Copy)]
+pub(crate) struct Address(pub(crate) u64);
+
+impl fmt::Display for Address {
+    ghost use Rattle.std.specs.Prelude.{Some};
+    ghost use Rattle.cfi_tool.specs.Lines.{hex_text};
+
+    ghost output = { λ address. Some (hex_text 8 address.0) };
+
+    fn fmt<W: fmt::Write>(&self, f: &mut fmt::Formatter<W>) -> fmt::Result {
+        let address = low32(self.0);
+        write!(f, "{address:08x}")
+    }
+}

@@ -1,0 +1,15 @@
+//! The tool: the words of a command line, over files and an output that are handed in, to a status.
+//! Its one call is `rvcfi`.
+#![tactic(auto)]
+
+pub use command::rvcfi;
+pub use verdict::Verdict;
+
+mod address;
+mod check;
+mod command;
+mod outcome;
+#[cfg(test)]
+mod tests;
+mod verdict;
+mod verify;
