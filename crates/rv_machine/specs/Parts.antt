@@ -1,0 +1,51 @@
+-- What a machine is made of, as a hart and what harts share.
+use Rattle.std.specs.Prelude.{◌≡◌, ℕ, Bool, true, false, List, Option, Some, None}
+use Rattle.rv_word.specs.Memory.{read}
+use Rattle.rv_instr.specs.declared.instr.Instr.{Instr}
+use Rattle.rv_instr.specs.declared.instr.Instr.TheVariants.{Upper, Jal, Jalr, Branch, Load, Store, Immediate, Shift, ShiftWord, Register, Fence, Ecall, Ebreak}
+use Rattle.rv_mem.specs.Cells.{Cells}
+use Rattle.rv_code.specs.Decode.{decoded}
+use Rattle.rv_code.specs.State.{Hart, Shared, After, last_exit}
+use Rattle.rv_code.specs.Step.{can_fetch}
+use Rattle.rv_code.specs.declared.turn.Turn.{Turn}
+use Rattle.rv_sys.specs.Calls.{Calls, hart_of, shared_of}
+
+pub record Parts : Type 0 where
+  pub pc : ℕ
+  pub regs : List ℕ
+  pub memory : Cells
+  pub calls : Calls
+
+abbrev pub hart_in : Parts → Hart
+hart_in parts = hart_of parts.pc parts.regs
+
+abbrev pub shared_in : Parts → Shared
+shared_in parts = shared_of parts.memory parts.calls
+
+-- a machine after a step that ended so
+abbrev pub after_step : Parts → Turn → After
+after_step parts turn = record { hart = hart_in parts; shared = shared_in parts; turn = turn }
+
+-- the instructions that may take memory: those that write memory or call the system
+abbrev pub may_take_memory : Instr → Bool
+may_take_memory (Upper op rd imm) = false
+may_take_memory (Jal rd imm) = false
+may_take_memory (Jalr rd rs1 imm) = false
+may_take_memory (Branch op rs1 rs2 imm) = false
+may_take_memory (Load op rd rs1 imm) = false
+may_take_memory (Store op rs1 rs2 imm) = true
+may_take_memory (Immediate op rd rs1 imm) = false
+may_take_memory (Shift op rd rs1 amount) = false
+may_take_memory (ShiftWord op rd rs1 amount) = false
+may_take_memory (Register op rd rs1 rs2) = false
+may_take_memory (Fence word) = false
+may_take_memory Ecall = true
+may_take_memory Ebreak = false
+
+-- a step may take memory: the run has not ended, and such an instruction stands at the pc
+pub record MayTakeMemory (h : Hart) (s : Shared) : Type 0 where
+  pub going : last_exit s.events ≡ None
+  pub place : can_fetch h.pc ≡ true
+  pub instr : Instr
+  pub decodes : decoded (read 4 s.memory h.pc) ≡ Some instr
+  pub takes : may_take_memory instr ≡ true

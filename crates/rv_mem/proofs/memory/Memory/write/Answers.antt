@@ -1,0 +1,17 @@
+use Rattle.std.proofs.Common.{◌≡◌, ◌≤◌, ◌∙◌, ap, arith, take, w64, refl}
+use Rattle.std.specs.Int.{to_le_bytes}
+use Rattle.rv_word.specs.Memory.{placed}
+use Rattle.rv_mem.proofs.Placed.{write-placed}
+use Rattle.rv_mem.specs.Cells.{memory_of}
+use Rattle.rv_mem.proofs.memory.Memory.write.Goals as goal
+
+pub returns-clause-written : goal.returns-clause-written
+returns-clause-written c =
+    let old = memory_of c.args.self.now in
+    let small : c.args.n ≤ 8 = omega (arith, c.requires) in
+    let bytes : take c.from-2.result c.to_le_bytes.result ≡ take c.args.n (to_le_bytes w64 c.args.value) =
+    rw (c.from-2.ensures, c.to_le_bytes.ensures) refl in
+    c.set_all.ensures
+    ∙ ap (λ m. placed m c.args.addr (take c.from-2.result c.to_le_bytes.result)) c.in_ok-make_room.ensures.memory
+    ∙ ap (λ bs. placed old c.args.addr bs) bytes
+    ∙ write-placed c.args.n old c.args.addr c.args.value small

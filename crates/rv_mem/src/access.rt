@@ -1,0 +1,58 @@
+ghost use Rattle.std.specs.Prelude.{◌≡◌, ◌≤◌, ◌+◌, ◌<◌, ◌^◌};
+ghost use Rattle.rv_word.specs.Layout.{can_load, can_store, lies_within, region_of, version_1};
+
+use rv_word::Region;
+
+pub(crate) const DATA_END: u64 = 0x1000_1000;
+
+pub(crate) const DATA_START: u64 = 0x1_0000;
+
+pub(crate) const CODE: u64 = 0x4000_0000;
+
+pub(crate) const CODE_SIZE: u64 = 0x10_0000;
+
+pub(crate) const SHADOW: u64 = 0x6000_0000;
+
+pub(crate) const SHADOW_SIZE: u64 = 0x1_0000;
+
+/// Whether the `n` bytes from `addr` on lie whole in the `size` bytes from `start` on.
+pub(crate) fn is_within(start: u64, size: u64, addr: u64, n: u64) -> bool
+    requires fits { n ≤ size }
+    requires bits { start + size < 2 ^ 64 }
+    ensures { result ≡ lies_within start size addr n }
+{
+    start <= addr && addr - start <= size - n
+}
+
+pub(crate) fn is_loadable(addr: u64, n: u8) -> bool
+    requires { n ≤ 8 }
+    ensures { result ≡ can_load version_1 addr n }
+{
+    let n = u64::from(n);
+    is_within(0, DATA_END, addr, n)
+        || is_within(CODE, CODE_SIZE, addr, n)
+        || is_within(SHADOW, SHADOW_SIZE, addr, n)
+}
+
+pub(crate) fn is_storable(addr: u64, n: u8) -> bool
+    requires { n ≤ 8 }
+    ensures { result ≡ can_store version_1 addr n }
+{
+    let n = u64::from(n);
+    is_within(0, DATA_END, addr, n) || is_within(SHADOW, SHADOW_SIZE, addr, n)
+}
+
+/// The region of an address, if it is in one.
+pub fn region(addr: u64) -> Option<Region>
+    ensures { result ≡ region_of version_1 addr }
+{
+    if is_within(0, DATA_END, addr, 1) {
+        Some(Region::Data)
+    } else if is_within(CODE, CODE_SIZE, addr, 1) {
+        Some(Region::Code)
+    } else if is_within(SHADOW, SHADOW_SIZE, addr, 1) {
+        Some(Region::Shadow)
+    } else {
+        None
+    }
+}

@@ -1,0 +1,224 @@
+ghost use Rattle.std.specs.Prelude.{◌≡◌, ℕ, ◌+◌, ◌≤◌, ◌<◌, ◌^◌, ◌↔◌, IfOk, OnOk, OnErr, IsErr, IsErrOf, IsTrue, false, length, Result, slice_index};
+ghost use Rattle.rv_word.specs.Layout.{can_load, can_store, version_1, DATA_END, CODE, CODE_SIZE};
+ghost use Rattle.rv_word.specs.Memory.{placed, read, write, zeros, loaded};
+ghost use Rattle.rv_mem.specs.Access.{IsAccessSize};
+ghost use Rattle.rv_mem.specs.Cells.{memory_of, has_room, HasRoom, with_byte, AreBytes};
+
+use crate::access::{
+    CODE, CODE_SIZE, DATA_END, DATA_START, SHADOW, SHADOW_SIZE, is_loadable, is_storable, is_within,
+};
+use crate::change::Change;
+use crate::refusal::{LoadFault, WriteRefusal};
+use rv_word::{Image, NoMemory};
+use std::alloc::Global;
+use std::collections::BTreeMap;
+use std::marker::Model;
+
+/// The machine's memory. Code and shadow are kept whole, data as the bytes that were written.
+#[derive(Drop)]
+pub struct Memory {
+    code: Vec<u8>,
+    shadow: Vec<u8>,
+    written: BTreeMap<u64, u8>,
+}
+
+impl Model for Memory {
+    ghost use Rattle.rv_mem.specs.Cells.{Cells, IsWhole};
+
+    ghost Value = { Cells };
+
+    ghost view = { λ m. record { code = m.code.items; shadow = m.shadow.items; written = m.written.entries } };
+
+    ghost invariant = { λ m. IsWhole (record { code = m.code.items; shadow = m.shadow.items; written = m.written.entries }) };
+}
+
+impl Memory {
+    /// Memory of zeros.
+    pub fn new(alloc: Global) -> Result<Memory, NoMemory>
+        ensures { IfOk result (λ memory. memory_of memory ≡ zeros) }
+    {
+        Memory::with_code(alloc, &[])
+    }
+
+    /// The memory in which a run of an image starts.
+    pub fn load(alloc: Global, image: &Image) -> Result<Memory, NoMemory>
+        ensures { IfOk result (λ memory. memory_of memory ≡ loaded image.now) }
+    {
+        let mut memory = Memory::with_code(alloc, image.code())?;
+        memory.write_bytes(DATA_START, image.init())?;
+        Ok(memory)
+    }
+
+    fn with_code(alloc: Global, code: &[u8]) -> Result<Memory, NoMemory>
+        requires { length code.now ≤ CODE_SIZE }
+        ensures { IfOk result (λ memory. memory_of memory ≡ placed zeros CODE code.now) }
+    {
+        Ok(Memory {
+            code: padded(alloc, code, CODE_SIZE as usize)?,
+            shadow: padded(alloc, &[], SHADOW_SIZE as usize)?,
+            written: BTreeMap::new(alloc),
+        })
+    }
+
+    /// Tells a proof that each address holds a byte; nothing is computed.
+    #[tactic(auto, unfolding(crate::specs::Cells::memory_of))]
+    pub fn in_range(&self)
+        ensures { AreBytes (memory_of self.now) }
+    {
+        let _ = &self.code;
+    }
+
+    /// The byte at an address: 0 where nothing was written, and outside of all regions.
+    #[tactic(auto, unfolding(crate::specs::Cells::memory_of))]
+    pub fn byte(&self, addr: u64) -> u8
+        ensures { result ≡ memory_of self.now addr }
+    {
+        if is_within(CODE, CODE_SIZE, addr, 1) {
+            self.code[(addr - CODE) as usize]
+        } else if is_within(SHADOW, SHADOW_SIZE, addr, 1) {
+            self.shadow[(addr - SHADOW) as usize]
+        } else {
+            self.written.get(&addr).copied().unwrap_or(0)
+        }
+    }
+
+    /// Makes room for one data byte.
+    #[tactic(auto, unfolding(crate::specs::Cells::memory_of, crate::specs::Cells::has_room))]
+    fn make_room_at(&mut self, addr: u64) -> Result<(), NoMemory>
+        requires { addr < DATA_END }
+        ensures memory { memory_of self.new ≡ memory_of self.old }
+        ensures room { OnOk result (IsTrue (has_room self.new addr)) }
+        ensures kept { (k : ℕ) → IsTrue (has_room self.old k) → IsTrue (has_room self.new k) }
+    {
+        if !self.written.contains_key(&addr) {
+            self.written.insert(addr, 0)?;
+        }
+        Ok(())
+    }
+
+    /// Sets a byte where there is room for it.
+    #[tactic(auto, unfolding(crate::specs::Cells::memory_of, crate::specs::Cells::has_room, crate::specs::Cells::with_byte))]
+    fn set(&mut self, addr: u64, byte: u8)
+        requires { IsTrue (has_room self.old addr) }
+        ensures memory { memory_of self.new ≡ with_byte (memory_of self.old) addr byte }
+        ensures kept { (k : ℕ) → IsTrue (has_room self.old k) → IsTrue (has_room self.new k) }
+    {
+        if is_within(SHADOW, SHADOW_SIZE, addr, 1) {
+            self.shadow[(addr - SHADOW) as usize] = byte;
+        } else {
+            let _ = self.written.insert(addr, byte);
+        }
+    }
+
+    /// Makes room for the `n` bytes from `addr` on.
+    #[tactic(auto, unfolding(crate::specs::Cells::has_room))]
+    pub fn make_room(&mut self, addr: u64, n: u64) -> Result<(), NoMemory>
+        requires { IsTrue (can_store version_1 addr n) }
+        ensures memory { memory_of self.new ≡ memory_of self.old }
+        ensures room { OnOk result (HasRoom self.new addr n) }
+    {
+        if addr < DATA_END {
+            for k in addr..addr + n {
+                self.make_room_at(k)?;
+            }
+        }
+        Ok(())
+    }
+
+    /// Sets bytes where there is room for them.
+    pub fn set_all(&mut self, addr: u64, bytes: &[u8])
+        requires room { HasRoom self.old addr (length bytes.now) }
+        requires fits { addr + length bytes.now < 2 ^ 64 }
+        ensures { memory_of self.new ≡ placed (memory_of self.old) addr bytes.now }
+    {
+        for (i, byte) in bytes.iter().enumerate() {
+            self.set(addr + i as u64, *byte);
+        }
+    }
+
+    /// Writes the low `n` bytes of `value`, the lowest first.
+    pub fn write(&mut self, addr: u64, n: u8, value: u64) -> Result<(), WriteRefusal>
+        requires { IsAccessSize n }
+        ensures written { OnOk result (memory_of self.new ≡ write n (memory_of self.old) addr value) }
+        ensures fault { IsErrOf result WriteRefusal.StoreFault ↔ (can_store version_1 addr n ≡ false) }
+        ensures refused { OnErr result (memory_of self.new ≡ memory_of self.old) }
+    {
+        if !is_storable(addr, n) {
+            return Err(WriteRefusal::StoreFault);
+        }
+        self.make_room(addr, u64::from(n))?;
+        self.set_all(addr, &value.to_le_bytes()[..usize::from(n)]);
+        Ok(())
+    }
+
+    /// Writes bytes into data, all of them or none.
+    pub fn write_bytes(&mut self, addr: u64, bytes: &[u8]) -> Result<(), NoMemory>
+        requires { addr + length bytes.now ≤ DATA_END }
+        ensures written { OnOk result (memory_of self.new ≡ placed (memory_of self.old) addr bytes.now) }
+        ensures refused { OnErr result (memory_of self.new ≡ memory_of self.old) }
+    {
+        self.make_room(addr, bytes.len() as u64)?;
+        self.set_all(addr, bytes);
+        Ok(())
+    }
+
+    /// The number in the `n` bytes from `addr` on, the lowest byte first.
+    pub fn read(&self, addr: u64, n: u8) -> Result<u64, LoadFault>
+        requires { IsAccessSize n }
+        ensures value { IfOk result (λ value. value ≡ read n (memory_of self.now) addr) }
+        ensures fault { IsErr result ↔ (can_load version_1 addr n ≡ false) }
+    {
+        if !is_loadable(addr, n) {
+            return Err(LoadFault);
+        }
+        Ok(match n {
+            1 => u64::from(self.byte(addr)),
+            2 => u64::from(self.half_word(addr)),
+            4 => u64::from(self.word(addr)),
+            _ => self.double_word(addr),
+        })
+    }
+
+    fn half_word(&self, addr: u64) -> u16
+        requires { addr < 2 ^ 63 }
+        ensures { result ≡ read 2 (memory_of self.now) addr }
+    {
+        u16::from(self.byte(addr)) + (u16::from(self.byte(addr + 1)) << 8)
+    }
+
+    /// The word at an address.
+    pub fn word(&self, addr: u64) -> u32
+        requires { addr < 2 ^ 62 }
+        ensures { result ≡ read 4 (memory_of self.now) addr }
+    {
+        u32::from(self.half_word(addr)) + (u32::from(self.half_word(addr + 2)) << 16)
+    }
+
+    fn double_word(&self, addr: u64) -> u64
+        requires { addr < 2 ^ 61 }
+        ensures { result ≡ read 8 (memory_of self.now) addr }
+    {
+        u64::from(self.word(addr)) + (u64::from(self.word(addr + 4)) << 32)
+    }
+
+    /// Sets one data byte.
+    pub fn change(&mut self, change: Change) -> Result<(), NoMemory>
+        ensures changed { OnOk result (memory_of self.new ≡ with_byte (memory_of self.old) change.0 change.1) }
+        ensures refused { OnErr result (memory_of self.new ≡ memory_of self.old) }
+    {
+        self.make_room_at(change.addr())?;
+        self.set(change.addr(), change.byte());
+        Ok(())
+    }
+}
+
+/// A list of `n` bytes that begins with these and goes on with zeros.
+fn padded(alloc: Global, bytes: &[u8], n: usize) -> Result<Vec<u8>, NoMemory>
+    requires { length bytes.now ≤ n }
+    ensures len { IfOk result (λ v. length v.items ≡ n) }
+    ensures items { IfOk result (λ v. (k : ℕ) → slice_index v.items k ≡ slice_index bytes.now k) }
+{
+    let mut items = Vec::from_slice(alloc, bytes)?;
+    items.resize(n, 0)?;
+    Ok(items)
+}

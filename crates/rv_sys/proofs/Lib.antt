@@ -1,0 +1,2 @@
+pub mod BytesOf
+pub mod LastExit

@@ -1,0 +1,110 @@
+#!/usr/bin/env python3
+"""Prints the table of crates/rv_machine/src/tests.rt: `python3 tests/machine/steps.py`.
+
+Each instruction of steps.s is assembled by GNU binutils into a program that loads x10 to x12,
+points x13 to 16 bytes, and stands at the addresses that the machine of rv_machine has for code and
+data; qemu runs it. The words about it are jumps to an end that tells, by their link, where the
+instruction went, and writes that with x12 and the 8 bytes at x13.
+"""
+import subprocess
+import tempfile
+from pathlib import Path
+
+HERE = Path(__file__).parent
+TOOLS = "riscv64-linux-gnu-"
+CODE, DATA, TESTED = 0x40000000, 0x10000, 0x40000020
+X12 = 0x0123456789ABCDEF
+BYTES = bytes.fromhex("8091a2b3c4d5e6f708192a3b4c5d6e7f")
+
+PROGRAM = """
+    .option norelax
+    .option norvc
+    .globl _start
+    .text
+    .rept 3
+    jal x31, ended
+    .endr
+_start:
+    lui x5, 0x10
+    ld x10, 0(x5)
+    ld x11, 8(x5)
+    ld x12, 16(x5)
+    addi x13, x5, 32
+    {line}
+    .rept 64
+    jal x31, ended
+    .endr
+ended:
+    lui x6, 0x10
+    addi x31, x31, -4
+    ld x7, 32(x6)
+    sd x12, 0(x6)
+    sd x31, 8(x6)
+    sd x7, 16(x6)
+    addi x10, x0, 1
+    addi x11, x6, 0
+    addi x12, x0, 24
+    addi x17, x0, 64
+    ecall
+    addi x10, x0, 0
+    addi x17, x0, 93
+    ecall
+    .data
+    .quad {a}, {b}, {x12}, 0
+    .byte {bytes}
+"""
+
+
+def rows():
+    """Each instruction of the source with its x10 and x11."""
+    for line in (HERE / "steps.s").read_text().splitlines():
+        if line.startswith(" "):
+            text, _, values = line.strip().partition(" # ")
+            a, b = (int(value, 0) for value in values.split())
+            yield text, a, b
+
+
+def executed(line, a, b):
+    """The instruction's word, and what it leaves: x12, the next pc, the 8 bytes at x13."""
+    source = PROGRAM.format(line=line, a=a, b=b, x12=X12, bytes=", ".join(map(str, BYTES)))
+    with tempfile.TemporaryDirectory() as folder:
+        text, made, linked, flat = (f"{folder}/{name}" for name in ("s", "o", "elf", "bin"))
+        Path(text).write_text(source)
+        run = lambda *words: subprocess.run(words, check=True, stdout=subprocess.PIPE).stdout
+        run(TOOLS + "as", "-march=rv64i", "-o", made, text)
+        run(TOOLS + "ld", "--no-relax", f"-Ttext={CODE:#x}", f"-Tdata={DATA:#x}", "-o", linked, made)
+        run(TOOLS + "objcopy", "-O", "binary", "-j", ".text", linked, flat)
+        at = TESTED - CODE
+        word = int.from_bytes(Path(flat).read_bytes()[at : at + 4], "little")
+        told = run("qemu-riscv64", linked)
+    return word, *(int.from_bytes(told[k : k + 8], "little") for k in (0, 8, 16))
+
+
+NAMES = {
+    2**64 - 1: "ONES",
+    2**63: "HIGH",
+    2**63 + 1: "ENDS",
+    2**64 - 2**31: "WORD_HIGH",
+    X12: "X12",
+    int.from_bytes(BYTES[:8], "little"): "BYTES",
+    TESTED + 4: "NEXT",
+}
+
+
+def literal(number):
+    return NAMES.get(number) or (f"0x{number:_x}" if number > 9 else str(number))
+
+
+def main():
+    last = None
+    for line, a, b in rows():
+        word, x12, pc, after = executed(line, a, b)
+        name = line.split()[0]
+        if name != last:
+            print(f"    // {name}")
+        last = name
+        values = ", ".join(map(literal, (word, a, b, x12, pc, after)))
+        print(f"    ({values}),")
+
+
+main()
