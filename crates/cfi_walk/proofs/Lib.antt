@@ -1,0 +1,5 @@
+pub mod Classes
+pub mod Pending
+pub mod Reach
+pub mod Sites
+pub mod Unique

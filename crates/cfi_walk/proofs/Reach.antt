@@ -1,0 +1,84 @@
+-- Where in a code things stand.
+use Rattle.std.proofs.Common.{◌≡◌, ℕ, ◌*◌, ◌-◌, ◌/◌, ◌^◌, ◌<◌, ◌≤◌, ◌⊎◌, inl, inr, List, length, drop, Some, None, sym, ap, ◌∙◌, arith}
+use Rattle.std.specs.Prelude.{◌==◌, ◌||◌, true, option_map}
+use Rattle.std.proofs.lemmas.Bool.{eqb-true, or_cases}
+use Rattle.rv_word.specs.Image.{Contents, IsImageSize}
+use Rattle.rv_word.specs.Layout.{CODE, version_1}
+use Rattle.cfi_unit.specs.declared.unit.Unit as U
+use Rattle.cfi_unit.specs.Place.{Place, handler, opening, closing, body}
+use Rattle.cfi_unit.specs.Prologue.{OPENING}
+use Rattle.cfi_unit.specs.Recognise.{recognised}
+use Rattle.cfi_unit.specs.UnitWords.{BAD_TARGET, BAD_RETURN, DEEP}
+use Rattle.cfi_verify.specs.Split.{code_words, is_start, unit_at, is_handler, entry_of, place_at}
+use Rattle.cfi_verify.proofs.Bytes.{length-code_words}
+use Rattle.cfi_verify.proofs.Places.{chosen}
+use Rattle.cfi_verify.proofs.Starts.{IsInUnits, start_within}
+use Rattle.cfi_verify.proofs.Marks.{cases_Option}
+
+pub unit_within : (words : List ℕ) (a : ℕ) (u : U.Unit) → unit_at version_1 words a ≡ Some u → IsInUnits words a
+unfolding unit_at
+unit_within words a u e =
+    elim (chosen (is_start version_1 words a) (recognised (drop ((a - CODE) / 4) words) a) None (Some u) e) [
+      | inl found ↦ start_within words a found.0
+      | inr none ↦ absurd (cc)
+    ]
+
+-- the four kinds of place, by their addresses
+abbrev Stands : List ℕ → ℕ → Type 0
+Stands words a = (is_handler a ≡ true) ⊎ ((a ≡ OPENING) ⊎ ((a ≡ version_1.closing) ⊎ ((u : U.Unit) × (unit_at version_1 words a ≡ Some u))))
+
+body_stands : (words : List ℕ) (a : ℕ) (place : Place) → option_map body (unit_at version_1 words a) ≡ Some place → (u : U.Unit) × (unit_at version_1 words a ≡ Some u)
+body_stands words a place e =
+    elim (cases_Option (unit_at version_1 words a)) [
+      | inl none ↦ let e' : None ≡ Some place = ap (option_map body) (sym none) ∙ e in absurd (cc)
+      | inr found ↦ found
+    ]
+
+stands : (words : List ℕ) (a : ℕ) (place : Place) → place_at version_1 words a ≡ Some place → Stands words a
+unfolding place_at
+stands words a place e =
+    elim (chosen (is_handler a) (Some handler) _ (Some place) e) [
+      | inl h ↦ inl h.0
+      | inr o ↦ elim (chosen (a == OPENING) (option_map opening (entry_of version_1 words)) _ (Some place) o.1) [
+        | inl h ↦ inr (inl (eqb-true a OPENING h.0))
+        | inr c ↦ elim (chosen (a == version_1.closing) (Some closing) _ (Some place) c.1) [
+          | inl h ↦ inr (inr (inl (eqb-true a version_1.closing h.0)))
+          | inr b ↦ inr (inr (inr (body_stands words a place b.1)))
+        ]
+      ]
+    ]
+
+handler_lies : (a : ℕ) → is_handler a ≡ true → (CODE ≤ a) × (a < 2 ^ 32)
+handler_lies a e =
+    elim (or_cases (a == BAD_TARGET) (a == BAD_RETURN || a == DEEP) e) [
+      | inl h ↦ let is = eqb-true a BAD_TARGET h in (omega arith, omega arith)
+      | inr more ↦ elim (or_cases (a == BAD_RETURN) (a == DEEP) more) [
+        | inl h ↦ let is = eqb-true a BAD_RETURN h in (omega arith, omega arith)
+        | inr h ↦ let is = eqb-true a DEEP h in (omega arith, omega arith)
+      ]
+    ]
+
+pub place_from : (words : List ℕ) (a : ℕ) (place : Place) → place_at version_1 words a ≡ Some place → CODE ≤ a
+place_from words a place e =
+    elim (stands words a place e) [
+      | inl h ↦ (handler_lies a h).0
+      | inr (inl is) ↦ omega arith
+      | inr (inr (inl is)) ↦ omega arith
+      | inr (inr (inr found)) ↦ let low = (unit_within words a found.0 found.1).low in omega arith
+    ]
+
+place_low : (words : List ℕ) (a : ℕ) (place : Place) → 4 * length words ≤ 2 ^ 20 → place_at version_1 words a ≡ Some place → a < 2 ^ 32
+place_low words a place room e =
+    elim (stands words a place e) [
+      | inl h ↦ (handler_lies a h).1
+      | inr (inl is) ↦ omega arith
+      | inr (inr (inl is)) ↦ omega arith
+      | inr (inr (inr found)) ↦ let end = (unit_within words a found.0 found.1).end in omega arith
+    ]
+
+-- what stands in an image's code stands below 2^32
+pub code_low : (image : Contents) (a : ℕ) (place : Place) → IsImageSize (length image.code) (length image.init) → place_at version_1 (code_words image.code) a ≡ Some place → a < 2 ^ 32
+code_low image a place size e =
+    let count : 4 * length (code_words image.code) ≡ length image.code = length-code_words image.code size.words in
+    let most : length image.code ≤ 2 ^ 20 = size.most in
+    place_low (code_words image.code) a place (omega arith) e

@@ -1,0 +1,59 @@
+-- A step leaves sites pending: what it puts on top lies above the handlers.
+use Rattle.std.proofs.Common.{◌≡◌, ℕ, ◌+◌, ◌<◌, ◌≤◌, inl, inr, List, [], ◌∷◌, sym, subst, arith}
+use Rattle.rv_word.specs.Layout.{CODE}
+use Rattle.cfi_graph.specs.declared.line.GraphLine.{GraphLine}
+use Rattle.cfi_unit.specs.declared.unit.Unit as U
+use Rattle.cfi_unit.specs.declared.unit.Unit.TheVariants as V
+use Rattle.cfi_unit.specs.declared.unit.SystemOp.TheVariants as S
+use Rattle.cfi_unit.specs.Place.{Place, handler, opening, closing, body}
+use Rattle.cfi_unit.specs.UnitWords.{DEEP}
+use Rattle.cfi_verify.specs.Split.{code_words}
+use Rattle.cfi_verify.specs.Walk.{CallGoes, JumpGoes, ComputedCallGoes, ReturnGoes, UnitGoes, Goes}
+use Rattle.cfi_walk.specs.Laws.{AreSites, StepKeepsSites}
+use Rattle.cfi_walk.proofs.Reach.{place_from}
+
+same : (before after : List ℕ) → AreSites before → after ≡ before → AreSites after
+same before after h e = subst (λ (l : List ℕ). AreSites l) (sym e) h
+
+call_keeps : (site target : ℕ) (pending : List ℕ) (v : ℕ) (after : List ℕ) → DEEP < site → AreSites pending → CallGoes site target pending v after → AreSites after
+call_keeps site target pending v after low h (inl g) = same (site ∷ pending) after (low, h) g.2
+call_keeps site target pending v after low h (inr g) = same pending after h g.1.1
+
+jump_keeps : (lines : List GraphLine) (label : ℕ) (pending : List ℕ) (v : ℕ) (after : List ℕ) → AreSites pending → JumpGoes lines label pending v after → AreSites after
+jump_keeps lines label pending v after h (inl g) = same pending after h g.1
+jump_keeps lines label pending v after h (inr g) = same pending after h g.1
+
+computed_call_keeps : (lines : List GraphLine) (site label : ℕ) (pending : List ℕ) (v : ℕ) (after : List ℕ) → DEEP < site → AreSites pending → ComputedCallGoes lines site label pending v after → AreSites after
+computed_call_keeps lines site label pending v after low h (inl g) = same pending after h g.1
+computed_call_keeps lines site label pending v after low h (inr (inl g)) = same (site ∷ pending) after (low, h) g.2
+computed_call_keeps lines site label pending v after low h (inr (inr g)) = same pending after h g.2.1
+
+return_keeps : (pending : List ℕ) (v : ℕ) (after : List ℕ) → AreSites pending → ReturnGoes pending v after → AreSites after
+return_keeps [] v after h g = same [] after h g.1
+return_keeps (site ∷ pending) v after h (inl g) = same pending after h.1 g.1
+return_keeps (site ∷ pending) v after h (inr g) = same (site ∷ pending) after h g.1
+
+unit_keeps : (lines : List GraphLine) (unit : U.Unit) (at : ℕ) (pending : List ℕ) (v : ℕ) (after : List ℕ) → CODE ≤ at → AreSites pending → UnitGoes lines unit at pending v after → AreSites after
+unit_keeps lines (V.Gate label) at pending v after low h g = same pending after h g.1
+unit_keeps lines (V.Plain instr) at pending v after low h g = same pending after h g.1
+unit_keeps lines (V.Branch op rs1 rs2 target) at pending v after low h (inl g) = same pending after h g.1
+unit_keeps lines (V.Branch op rs1 rs2 target) at pending v after low h (inr g) = same pending after h g.1
+unit_keeps lines (V.Jump target) at pending v after low h g = same pending after h g.1
+unit_keeps lines V.Stop at pending v after low h g = same pending after h g.1
+unit_keeps lines (V.System S.Ecall) at pending v after low h g = same pending after h g.1
+unit_keeps lines (V.System S.Ebreak) at pending v after low h g = absurd g
+unit_keeps lines (V.Store op rs1 rs2 imm) at pending v after low h g = same pending after h g.1
+unit_keeps lines (V.Call target) at pending v after low h g = call_keeps (at + 32) target pending v after (omega arith) h g
+unit_keeps lines (V.Ijump rs1 imm label) at pending v after low h g = jump_keeps lines label pending v after h g
+unit_keeps lines (V.Icall rs1 imm label) at pending v after low h g = computed_call_keeps lines (at + 80) label pending v after (omega arith) h g
+unit_keeps lines V.Return at pending v after low h g = return_keeps pending v after h g
+
+place_keeps : (lines : List GraphLine) (place : Place) (at : ℕ) (pending : List ℕ) (v : ℕ) (after : List ℕ) → CODE ≤ at → AreSites pending → Goes lines place at pending v after → AreSites after
+place_keeps lines handler at pending v after low h g = absurd g
+place_keeps lines (opening entry) at pending v after low h g = call_keeps (at + 44) entry pending v after (omega arith) h g
+place_keeps lines closing at pending v after low h g = absurd g
+place_keeps lines (body unit) at pending v after low h g = unit_keeps lines unit at pending v after low h g
+
+pub sites_kept : StepKeepsSites
+sites_kept image graph walk pc next h (place, stands, at, goes) =
+    place_keeps graph.lines place walk.at walk.pending pc next.pending (place_from (code_words image.code) walk.at place stands) h goes

@@ -1,0 +1,102 @@
+-- An address fixes the step to it: no site and no target of a class is a handler.
+use Rattle.std.proofs.Common.{◌≡◌, ℕ, ◌+◌, ◌<◌, inl, inr, List, [], ◌∷◌, sym, ap, subst, ◌∙◌, arith}
+use Rattle.rv_word.specs.Image.{Contents}
+use Rattle.rv_word.specs.Layout.{version_1}
+use Rattle.cfi_graph.specs.declared.line.GraphLine.{GraphLine}
+use Rattle.cfi_graph.specs.Graph.{GraphParts}
+use Rattle.cfi_unit.specs.declared.unit.Unit as U
+use Rattle.cfi_unit.specs.declared.unit.Unit.TheVariants as V
+use Rattle.cfi_unit.specs.declared.unit.SystemOp.TheVariants as S
+use Rattle.cfi_unit.specs.Place.{Place, handler, opening, closing, body}
+use Rattle.cfi_unit.specs.UnitWords.{BAD_TARGET, DEEP}
+use Rattle.cfi_verify.specs.Lines.{class_of}
+use Rattle.cfi_verify.specs.Rules.{IsWellFormed}
+use Rattle.cfi_verify.specs.Split.{code_words}
+use Rattle.cfi_verify.specs.Walk.{InClass, CallGoes, JumpGoes, ComputedCallGoes, ReturnGoes, UnitGoes, Goes}
+use Rattle.cfi_verify.proofs.Marks.{cases_Option}
+use Rattle.cfi_verify.proofs.RuleFacts.{gate_stands}
+use Rattle.cfi_walk.specs.Laws.{AreSites, StepIsUnique}
+use Rattle.cfi_walk.specs.State.{WalkState}
+use Rattle.cfi_walk.proofs.Reach.{unit_within}
+
+class_above : (image : Contents) (graph : GraphParts) → IsWellFormed version_1 image graph → (label v : ℕ) → InClass graph.lines label v → DEEP < v
+class_above image graph formed label v inside =
+    elim (cases_Option (class_of graph.lines label)) [
+      | inl none ↦ let e = rw none at inside in absurd (cc)
+      | inr (ts, some) ↦
+          let unit = gate_stands image graph formed v label ts some (rw some at inside) in
+          let low = (unit_within (code_words image.code) v (V.Gate label) unit).low in
+          omega arith
+    ]
+
+call_same : (site target : ℕ) (pending : List ℕ) (v : ℕ) (a b : List ℕ) → CallGoes site target pending v a → CallGoes site target pending v b → a ≡ b
+call_same site target pending v a b (inl g) (inl h) = g.2 ∙ sym h.2
+call_same site target pending v a b (inl (room, t, s)) (inr (full, to)) = absurd (omega arith)
+call_same site target pending v a b (inr (full, to)) (inl (room, t, s)) = absurd (omega arith)
+call_same site target pending v a b (inr g) (inr h) = g.1.1 ∙ sym h.1.1
+
+jump_same : (lines : List GraphLine) (label : ℕ) (pending : List ℕ) (v : ℕ) (a b : List ℕ) → JumpGoes lines label pending v a → JumpGoes lines label pending v b → a ≡ b
+jump_same lines label pending v a b (inl g) (inl h) = g.1 ∙ sym h.1
+jump_same lines label pending v a b (inl g) (inr h) = g.1 ∙ sym h.1
+jump_same lines label pending v a b (inr g) (inl h) = g.1 ∙ sym h.1
+jump_same lines label pending v a b (inr g) (inr h) = g.1 ∙ sym h.1
+
+module _ (lines : List GraphLine) (above : (label v : ℕ) → InClass lines label v → DEEP < v) where
+  never : (label v : ℕ) → InClass lines label v → v ≡ BAD_TARGET → ⊥
+  never label v inside e = let high = above label v inside in omega arith
+
+  computed_call_same : (site label : ℕ) (pending : List ℕ) (v : ℕ) (a b : List ℕ) → ComputedCallGoes lines site label pending v a → ComputedCallGoes lines site label pending v b → a ≡ b
+  computed_call_same site label pending v a b (inl g) (inl h) = g.1 ∙ sym h.1
+  computed_call_same site label pending v a b (inl g) (inr (inl h)) = absurd (never label v h.1 g.0)
+  computed_call_same site label pending v a b (inl g) (inr (inr h)) = g.1 ∙ sym h.2.1
+  computed_call_same site label pending v a b (inr (inl g)) (inl h) = absurd (never label v g.1 h.0)
+  computed_call_same site label pending v a b (inr (inl g)) (inr (inl h)) = g.2 ∙ sym h.2
+  computed_call_same site label pending v a b (inr (inl (room, i, s))) (inr (inr (full, t, to))) = absurd (omega arith)
+  computed_call_same site label pending v a b (inr (inr g)) (inl h) = g.2.1 ∙ sym h.1
+  computed_call_same site label pending v a b (inr (inr (full, t, to))) (inr (inl (room, i, s))) = absurd (omega arith)
+  computed_call_same site label pending v a b (inr (inr g)) (inr (inr h)) = g.2.1 ∙ sym h.2.1
+
+  return_same : (pending : List ℕ) (v : ℕ) (a b : List ℕ) → AreSites pending → ReturnGoes pending v a → ReturnGoes pending v b → a ≡ b
+  return_same [] v a b s g h = g.1 ∙ sym h.1
+  return_same (site ∷ pending) v a b s (inl g) (inl h) = g.1 ∙ sym h.1
+  return_same (site ∷ pending) v a b (low, s) (inl (to, g)) (inr (bad, h)) = absurd (omega arith)
+  return_same (site ∷ pending) v a b (low, s) (inr (bad, g)) (inl (to, h)) = absurd (omega arith)
+  return_same (site ∷ pending) v a b s (inr g) (inr h) = g.1 ∙ sym h.1
+
+  unit_same : (unit : U.Unit) (at : ℕ) (pending : List ℕ) (v : ℕ) (a b : List ℕ) → AreSites pending → UnitGoes lines unit at pending v a → UnitGoes lines unit at pending v b → a ≡ b
+  unit_same (V.Gate label) at pending v a b s g h = g.1 ∙ sym h.1
+  unit_same (V.Plain instr) at pending v a b s g h = g.1 ∙ sym h.1
+  unit_same (V.Branch op rs1 rs2 target) at pending v a b s (inl g) (inl h) = g.1 ∙ sym h.1
+  unit_same (V.Branch op rs1 rs2 target) at pending v a b s (inl g) (inr h) = g.1 ∙ sym h.1
+  unit_same (V.Branch op rs1 rs2 target) at pending v a b s (inr g) (inl h) = g.1 ∙ sym h.1
+  unit_same (V.Branch op rs1 rs2 target) at pending v a b s (inr g) (inr h) = g.1 ∙ sym h.1
+  unit_same (V.Jump target) at pending v a b s g h = g.1 ∙ sym h.1
+  unit_same V.Stop at pending v a b s g h = g.1 ∙ sym h.1
+  unit_same (V.System S.Ecall) at pending v a b s g h = g.1 ∙ sym h.1
+  unit_same (V.System S.Ebreak) at pending v a b s g h = absurd g
+  unit_same (V.Store op rs1 rs2 imm) at pending v a b s g h = g.1 ∙ sym h.1
+  unit_same (V.Call target) at pending v a b s g h = call_same (at + 32) target pending v a b g h
+  unit_same (V.Ijump rs1 imm label) at pending v a b s g h = jump_same lines label pending v a b g h
+  unit_same (V.Icall rs1 imm label) at pending v a b s g h = computed_call_same (at + 80) label pending v a b g h
+  unit_same V.Return at pending v a b s g h = return_same pending v a b s g h
+
+  place_same : (place : Place) (at : ℕ) (pending : List ℕ) (v : ℕ) (a b : List ℕ) → AreSites pending → Goes lines place at pending v a → Goes lines place at pending v b → a ≡ b
+  place_same handler at pending v a b s g h = absurd g
+  place_same (opening entry) at pending v a b s g h = call_same (at + 44) entry pending v a b g h
+  place_same closing at pending v a b s g h = absurd g
+  place_same (body unit) at pending v a b s g h = unit_same unit at pending v a b s g h
+
+abbrev state : ℕ → List ℕ → WalkState
+state at pending = record { at = at; pending = pending }
+
+states : (x y : WalkState) → x.at ≡ y.at → x.pending ≡ y.pending → x ≡ y
+states x y e f = ap (λ a. state a x.pending) e ∙ ap (λ l. state y.at l) f
+
+pub one_step : StepIsUnique
+one_step image graph walk pc next other formed sites (place, stands, at, goes) (place', stands', at', goes') =
+    let same : place' ≡ place = cc in
+    let moved = subst (λ (q : Place). Goes graph.lines q walk.at walk.pending pc other.pending) same goes' in
+    let after : next.pending ≡ other.pending =
+    place_same graph.lines (class_above image graph formed) place walk.at walk.pending pc next.pending other.pending sites goes moved in
+    let address : next.at ≡ other.at = at ∙ sym at' in
+    states next other address after

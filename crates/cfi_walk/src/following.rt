@@ -1,0 +1,37 @@
+ghost use Rattle.std.specs.Prelude.{◌≡◌};
+ghost use Rattle.rv_word.specs.Layout.{version_1};
+ghost use Rattle.cfi_verify.specs.Split.{code_words};
+ghost use Rattle.cfi_walk.specs.State.{WalkState};
+ghost use Rattle.cfi_walk.specs.Step.{IsStep};
+ghost use Rattle.cfi_walk.specs.declared.following.Followed.TheVariants.{Yes, No};
+
+use crate::step::step;
+use crate::walk::Walk;
+use cfi_verify::Checked;
+
+/// Whether a walk went on.
+#[derive(Clone, Copy, Debug, PartialEq, Eq)]
+pub enum Followed {
+    Yes,
+    No,
+}
+
+/// Goes on to `pc` where a step of the walk leads there, and otherwise leaves the walk as it is. Takes
+/// no memory. A computed transfer asks each line of the graph in the worst case.
+pub fn follow(checked: &Checked<'_>, walk: &mut Walk, pc: u64) -> Followed
+    ensures yes { result ≡ Yes → IsStep version_1 (code_words checked.now.image.code) checked.now.graph.lines walk.old pc walk.new }
+    ensures unchanged { result ≡ No → walk.new ≡ walk.old }
+    ensures no { result ≡ No → (next : WalkState) → IsStep version_1 (code_words checked.now.image.code) checked.now.graph.lines walk.old pc next → ⊥ }
+{
+    let _ = checked.image().code().len();
+    let Some(place) = checked.place_at(walk.address()) else {
+        return Followed::No;
+    };
+    match step(checked.graph(), walk, &place, pc) {
+        Some(change) => {
+            walk.go(change, pc);
+            Followed::Yes
+        }
+        None => Followed::No,
+    }
+}

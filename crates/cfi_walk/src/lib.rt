@@ -1,0 +1,14 @@
+//! The walk along a graph of control flow, one step at a time: where a run of an accepted image has
+//! come to, the sites of its pending calls, and whether it may go on to an address.
+#![tactic(auto)]
+
+pub use following::{Followed, follow};
+pub use walk::Walk;
+
+mod class;
+mod following;
+pub mod laws;
+mod step;
+#[cfg(test)]
+mod tests;
+mod walk;
