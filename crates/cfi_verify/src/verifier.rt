@@ -7,6 +7,7 @@ ghost use Rattle.cfi_verify.specs.Rules.{IsWellFormed};
 ghost use Rattle.cfi_verify.specs.Seen.{place_of};
 ghost use Rattle.cfi_verify.specs.Split.{code_words, place_at, unit_at};
 
+use crate::laws::well_formed_is_safe;
 use crate::place::Place;
 use crate::reject::Reject;
 use crate::scan::Scan;
@@ -67,6 +68,15 @@ impl<'a> Checked<'a> {
         ensures well_formed { IsWellFormed version_1 self.now.image self.now.graph }
     {
         self.scan.graph()
+    }
+
+    /// Tells a proof that the pair is safe; nothing is computed.
+    pub fn is_safe(&self)
+        ensures { IsSafe self.now.image self.now.graph }
+    {
+        are_bytes(self.image);
+        let _ = self.graph();
+        well_formed_is_safe();
     }
 
     /// The unit that starts at an address; `None` at the prologue and inside a unit.

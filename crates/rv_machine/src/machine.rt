@@ -9,14 +9,14 @@ ghost use Rattle.rv_code.specs.Step.{address, can_fetch, exec, offset, puts, ran
 ghost use Rattle.rv_machine.specs.Parts.{after_step, hart_in, may_take_memory, shared_in, MayTakeMemory};
 
 use crate::arithmetic;
-use rv_code::{Turn, decode};
+use rv_code::{Events, Turn, decode};
 use rv_instr::{
     BranchOp, Immediate, ImmediateOp, Instr, LoadOp, Reg, RegisterOp, Regs, ShiftOp, ShiftWordOp,
     StoreOp, UpperOp,
 };
 use rv_mem::{Change, LoadFault, Memory, WriteRefusal, region};
 use rv_sys::{SysEnd, System};
-use rv_word::{Image, NoMemory, Region, sext};
+use rv_word::{Bytes, Image, NoMemory, Region, sext};
 use std::alloc::Global;
 use std::marker::Model;
 
@@ -78,6 +78,13 @@ impl Machine {
         ensures { result.now ≡ self.now.calls }
     {
         &self.system
+    }
+
+    /// What the run wrote and the system calls that it made, given back without taking memory.
+    pub fn into_results(self) -> (Bytes, Events)
+        ensures { result ≡ (self.calls.output, self.calls.events) }
+    {
+        self.system.into_results()
     }
 
     /// One step: fetches the word at the pc, decodes and executes it. After an exit each step

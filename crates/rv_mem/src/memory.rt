@@ -194,7 +194,8 @@ impl Memory {
         u32::from(self.half_word(addr)) + (u32::from(self.half_word(addr + 2)) << 16)
     }
 
-    fn double_word(&self, addr: u64) -> u64
+    /// The double word at an address.
+    pub fn double_word(&self, addr: u64) -> u64
         requires { addr < 2 ^ 61 }
         ensures { result ≡ read 8 (memory_of self.now) addr }
     {

@@ -72,6 +72,13 @@ impl System {
         &self.events
     }
 
+    /// The output and the calls, given back without taking memory.
+    pub fn into_results(self) -> (Bytes, Events)
+        ensures { result ≡ (self.output, self.events) }
+    {
+        (self.output, self.events)
+    }
+
     /// The status with which the run has ended, if it has: the last call was an exit.
     pub fn ended(&self) -> Option<u8>
         ensures { result ≡ last_exit self.now.events }

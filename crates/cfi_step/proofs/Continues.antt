@@ -1,0 +1,255 @@
+-- A run that is under way: what is left of it leads to what the whole leads to.
+use Rattle.std.proofs.Common.{◌≡◌, ℕ, suc, ◌+◌, ◌-◌, ◌<◌, true, false, List, [], ◌∷◌, ◌++◌, length, map, Option, Some, None, refl, sym, ◌∙◌, ap, subst, arith, append_assoc, append-nil, ◌≤◌}
+use Rattle.std.proofs.lemmas.List.{length-append}
+use Rattle.std.specs.List.{AllByRecursion}
+use Rattle.rv_word.specs.Image.{Contents}
+use Rattle.rv_word.specs.Layout.{version_1}
+use Rattle.rv_code.specs.Run.{IsDataChange, disturbed_step, next_or_stop, run}
+use Rattle.rv_code.specs.State.{After, Hart, Shared, start_hart, start_shared}
+use Rattle.rv_code.specs.declared.turn.Turn.{Turn}
+use Rattle.rv_code.specs.declared.turn.Turn.TheVariants.{Ran, Exit, Break, LoadFault, StoreFault, FetchFault, Illegal}
+use Rattle.cfi_unit.specs.Place.{Place}
+use Rattle.cfi_verify.specs.Along.{AreDataChanges, IsSafe, MayEnd}
+use Rattle.cfi_graph.specs.Graph.{GraphParts}
+use Rattle.cfi_verify.specs.Laws.{SafeStaysInPlace}
+use Rattle.cfi_verify.specs.Split.{code_words, place_at}
+use Rattle.cfi_verify.specs.Trails.{newest_of, trail_of}
+use Rattle.cfi_verify.specs.Walks.{if_starts, walk_of} 
+use Rattle.cfi_verify.specs.Walks as walks
+use Rattle.cfi_step.specs.Plan.{Plan, changes_of, if_ran, numbered, planned}
+use Rattle.cfi_step.specs.Report.{end_of, break_at}
+use Rattle.cfi_step.specs.Running.{is_stop, IsBegun, IsOver, StaysFrom}
+use Rattle.cfi_step.specs.Trail.{IsTrailOf, TrailParts}
+use Rattle.rv_machine.specs.Parts.{after_step, hart_in, shared_in}
+use Rattle.cfi_step.specs.declared.running.Running.{Running}
+use Rattle.cfi_step.specs.declared.report.RunEnd.{RunEnd}
+use Rattle.cfi_step.specs.declared.report.RunEnd.TheVariants as ends
+
+pub record Continues (image : Contents) (h0 : Hart) (s0 : Shared) (whole : List (List (ℕ × ℕ))) (k : ℕ) (h : Hart) (s : Shared) (rest : List (List (ℕ × ℕ))) (made : List (ℕ × (ℕ × ℕ))) (t : TrailParts) : Type 0 where
+  pub steps : length whole ≡ k + length rest
+  pub final : run version_1 h0 s0 (map changes_of whole) ≡ run version_1 h s (map changes_of rest)
+  pub changes : numbered 0 whole ≡ made ++ numbered k rest
+  pub walk : (w : List ℕ) × IsTrailOf w t × (walk_of version_1 (code_words image.code) h0 s0 (map changes_of whole) ≡ w ++ walk_of version_1 (code_words image.code) h s (map changes_of rest))
+  pub allowed : AreDataChanges (map changes_of rest) → AreDataChanges (map changes_of whole)
+
+-- before the first step
+pub at_start : (image : Contents) (h : Hart) (s : Shared) (whole : List (List (ℕ × ℕ))) (made : List (ℕ × (ℕ × ℕ))) (t : TrailParts) → made ≡ [] → IsTrailOf [] t → Continues image h s whole 0 h s whole made t
+at_start image h s whole made t none empty = record {
+  steps = omega arith;
+  final = refl;
+  changes = rw none refl;
+  walk = ([], empty, refl);
+  allowed = λ all. all;
+}
+
+starts_first : (place : Option Place) (pc : ℕ) (later : List ℕ) → if_starts place pc later ≡ if_starts place pc [] ++ later
+starts_first None pc later = refl
+starts_first (Some place) pc later = refl
+
+starts_one : (place : Option Place) (pc : ℕ) → length (if_starts place pc []) ≤ 1
+starts_one None pc = omega arith
+starts_one (Some place) pc = omega arith
+
+-- at most one address is noted
+pub count_next : (w : List ℕ) (place : Option Place) (pc : ℕ) (t after : TrailParts) → IsTrailOf w t → IsTrailOf (w ++ if_starts place pc []) after → after.count ≤ t.count + 1
+count_next w place pc t after before now =
+    let one = starts_one place pc in
+    let longer = length-append w (if_starts place pc []) in
+    let same = before.0 in
+    let new = now.0 in
+    omega arith
+
+ran_of : (turn : Turn) → is_stop turn ≡ false → turn ≡ Ran
+ran_of Ran e = refl
+ran_of (Exit status) e = absurd (cc)
+ran_of (Break pc) e = absurd (cc)
+ran_of (LoadFault pc a) e = absurd (cc)
+ran_of (StoreFault pc a) e = absurd (cc)
+ran_of (FetchFault pc) e = absurd (cc)
+ran_of (Illegal pc) e = absurd (cc)
+
+-- an end that may come has a name
+named : (place : Place) (turn : Turn) → MayEnd place turn → (end : RunEnd) × (end_of turn ≡ Some end)
+named place Ran may = (ends.Limit, refl)
+named place (Exit status) may = (ends.Exit status, refl)
+named place (Break pc) may = (break_at pc, refl)
+named place (LoadFault pc a) may = (ends.LoadFault pc a, refl)
+named place (StoreFault pc a) may = absurd may
+named place (FetchFault pc) may = absurd may
+named place (Illegal pc) may = absurd may
+
+-- nothing comes after a stop
+none_later : (turn : Turn) (later : List (List (ℕ × ℕ))) → is_stop turn ≡ true → if_ran turn later ≡ []
+none_later Ran later e = absurd (cc)
+none_later (Exit status) later e = refl
+none_later (Break pc) later e = refl
+none_later (LoadFault pc a) later e = refl
+none_later (StoreFault pc a) later e = refl
+none_later (FetchFault pc) later e = refl
+none_later (Illegal pc) later e = refl
+
+stays_stopped : (turn : Turn) (after rest : After) → is_stop turn ≡ true → next_or_stop turn after rest ≡ after
+stays_stopped Ran after rest e = absurd (cc)
+stays_stopped (Exit status) after rest e = refl
+stays_stopped (Break pc) after rest e = refl
+stays_stopped (LoadFault pc a) after rest e = refl
+stays_stopped (StoreFault pc a) after rest e = refl
+stays_stopped (FetchFault pc) after rest e = refl
+stays_stopped (Illegal pc) after rest e = refl
+
+no_address : (turn : Turn) → walks.if_ran turn [] ≡ []
+no_address Ran = refl
+no_address (Exit status) = refl
+no_address (Break pc) = refl
+no_address (LoadFault pc a) = refl
+no_address (StoreFault pc a) = refl
+no_address (FetchFault pc) = refl
+no_address (Illegal pc) = refl
+
+module _ (image : Contents) (h : Hart) (s : Shared) (cs : List (ℕ × ℕ)) (newest : ℕ) (stays : StaysFrom image newest h s) (one : AllByRecursion IsDataChange (changes_of cs)) where
+  abbrev then : After
+  then = disturbed_step version_1 h s (changes_of cs)
+
+  stays_here : then.turn ≡ Ran → StaysFrom image (newest_of (place_at version_1 (code_words image.code) h.pc) newest h.pc) then.hart then.shared
+  unfolding trail_of
+  stays_here ran = λ changes all. rw ran at (stays (changes_of cs ∷ changes) (one, all)).1
+
+  may_end : (place : Place) × MayEnd place then.turn
+  unfolding trail_of
+  may_end =
+      let (place, there, word, ends) = (stays (changes_of cs ∷ []) (one, tt)).0 in
+      (place, ends)
+
+  pub stays_next : (result : After) → result ≡ then → is_stop result.turn ≡ false → (newer : ℕ) × StaysFrom image newer result.hart result.shared
+  stays_next result e on =
+      subst (λ (a : After). is_stop a.turn ≡ false → (newer : ℕ) × StaysFrom image newer a.hart a.shared) (sym e)
+      (λ goes. (newest_of (place_at version_1 (code_words image.code) h.pc) newest h.pc, stays_here (ran_of then.turn goes))) on
+
+  pub has_end : (result : After) → result ≡ then → (end : RunEnd) × (end_of result.turn ≡ Some end)
+  has_end result e =
+      let (place, may) = may_end in
+      subst (λ (a : After). (end : RunEnd) × (end_of a.turn ≡ Some end)) (sym e) (named place then.turn may)
+
+module _ (image : Contents) (h0 : Hart) (s0 : Shared) (whole : List (List (ℕ × ℕ))) (plan : Plan) (k n : ℕ) (h : Hart) (s : Shared) (made : List (ℕ × (ℕ × ℕ))) (t : TrailParts) where
+  abbrev cs : List (ℕ × ℕ)
+  cs = plan k h s
+
+  abbrev words : List ℕ
+  words = code_words image.code
+
+  abbrev after : After
+  after = disturbed_step version_1 h s (changes_of cs)
+
+  abbrev later : List (List (ℕ × ℕ))
+  later = planned version_1 plan (k + 1) after.hart after.shared n
+
+  -- the step ran
+  run_on : after.turn ≡ Ran → (rest : List (List (ℕ × ℕ))) → run version_1 h s (map changes_of (cs ∷ rest)) ≡ run version_1 after.hart after.shared (map changes_of rest)
+  unfolding run
+  run_on ran rest = ap (λ turn. next_or_stop turn after (run version_1 after.hart after.shared (map changes_of rest))) ran
+
+  walk_on : after.turn ≡ Ran → (rest : List (List (ℕ × ℕ))) → walk_of version_1 words h s (map changes_of (cs ∷ rest)) ≡ if_starts (place_at version_1 words h.pc) h.pc [] ++ walk_of version_1 words after.hart after.shared (map changes_of rest)
+  unfolding walk_of
+  walk_on ran rest =
+      ap (λ turn. if_starts (place_at version_1 words h.pc) h.pc (walks.if_ran turn (walk_of version_1 words after.hart after.shared (map changes_of rest)))) ran
+      ∙ starts_first (place_at version_1 words h.pc) h.pc (walk_of version_1 words after.hart after.shared (map changes_of rest))
+
+  planned_on : after.turn ≡ Ran → planned version_1 plan k h s (suc n) ≡ cs ∷ later
+  unfolding planned
+  planned_on ran = ap (λ turn. cs ∷ if_ran turn later) ran
+
+  next_here : (made_after : List (ℕ × (ℕ × ℕ))) (t_after : TrailParts)
+      → Continues image h0 s0 whole k h s (planned version_1 plan k h s (suc n)) made t
+      → after.turn ≡ Ran
+      → made_after ≡ made ++ map (λ c. (k, c)) cs
+      → ((walk : List ℕ) → IsTrailOf walk t → IsTrailOf (walk ++ if_starts (place_at version_1 words h.pc) h.pc []) t_after)
+      → AllByRecursion IsDataChange (changes_of cs)
+      → Continues image h0 s0 whole (k + 1) after.hart after.shared later made_after t_after
+  unfolding numbered
+  next_here made_after t_after before ran grown noted data_changes =
+      let here : Continues image h0 s0 whole k h s (cs ∷ later) made t = rw (planned_on ran) at before in
+      let (w, is_trail, walked) = here.walk in
+      record {
+        steps = omega (arith, here.steps);
+        final = here.final ∙ run_on ran later;
+        changes = here.changes ∙ sym (append_assoc made (map (λ c. (k, c)) cs) (numbered (k + 1) later)) ∙ ap (λ m. m ++ numbered (k + 1) later) (sym grown);
+        walk = (w ++ if_starts (place_at version_1 words h.pc) h.pc [], noted w is_trail, walked ∙ ap (λ x. w ++ x) (walk_on ran later) ∙ sym (append_assoc w _ _));
+        allowed = λ all. here.allowed (data_changes, all);
+      }
+
+  run_stop : is_stop after.turn ≡ true → run version_1 h s (map changes_of (cs ∷ [])) ≡ after
+  unfolding run
+  run_stop stop = stays_stopped after.turn after _ stop
+
+  walk_stop : walk_of version_1 words h s (map changes_of (cs ∷ [])) ≡ if_starts (place_at version_1 words h.pc) h.pc []
+  unfolding walk_of
+  walk_stop = ap (λ later. if_starts (place_at version_1 words h.pc) h.pc later) (no_address after.turn)
+
+  planned_stop : is_stop after.turn ≡ true → planned version_1 plan k h s (suc n) ≡ cs ∷ []
+  unfolding planned
+  planned_stop stop = ap (λ rest. cs ∷ rest) (none_later after.turn later stop)
+
+  -- the step ran: the run goes on
+  pub next : (limit : ℕ) → limit - k ≡ suc n → (result : After) → result ≡ after → is_stop result.turn ≡ false
+      → (made_after : List (ℕ × (ℕ × ℕ))) (t_after : TrailParts)
+      → Continues image h0 s0 whole k h s (planned version_1 plan k h s (limit - k)) made t
+      → made_after ≡ made ++ map (λ c. (k, c)) cs
+      → ((walk : List ℕ) → IsTrailOf walk t → IsTrailOf (walk ++ if_starts (place_at version_1 words h.pc) h.pc []) t_after)
+      → AllByRecursion IsDataChange (changes_of cs)
+      → Continues image h0 s0 whole (k + 1) result.hart result.shared (planned version_1 plan (k + 1) result.hart result.shared n) made_after t_after
+  next limit left result e on made_after t_after before grown noted one =
+      let here : Continues image h0 s0 whole k h s (planned version_1 plan k h s (suc n)) made t = rw left at before in
+      subst (λ (a : After). is_stop a.turn ≡ false → Continues image h0 s0 whole (k + 1) a.hart a.shared (planned version_1 plan (k + 1) a.hart a.shared n) made_after t_after) (sym e)
+      (λ goes. next_here made_after t_after here (ran_of after.turn goes) grown noted one) on
+
+  -- the step stopped the run
+  pub stopped : (limit : ℕ) → limit - k ≡ suc n → (running : Running) (turn : Turn) (end : RunEnd) → after_step running.machine turn ≡ after → is_stop turn ≡ true
+      → Continues image h0 s0 whole k h s (planned version_1 plan k h s (limit - k)) made t
+      → running.made ≡ made ++ map (λ c. (k, c)) cs
+      → ((walk : List ℕ) → IsTrailOf walk t → IsTrailOf (walk ++ if_starts (place_at version_1 words h.pc) h.pc []) running.trail)
+      → AllByRecursion IsDataChange (changes_of cs)
+      → end_of turn ≡ Some end
+      → IsOver image h0 s0 whole end (k + 1) running
+  unfolding numbered
+  stopped limit left running turn end e stop before grown noted one is_end =
+      let halts : is_stop after.turn ≡ true = ap (λ (a : After). is_stop a.turn) (sym e) ∙ stop in
+      let here : Continues image h0 s0 whole k h s (cs ∷ []) made t = rw (left, planned_stop halts) at before in
+      let final : run version_1 h0 s0 (map changes_of whole) ≡ after_step running.machine turn = here.final ∙ run_stop halts ∙ sym e in
+      let (w, is_trail, walked) = here.walk in
+      let whole_walk = walked ∙ ap (λ x. w ++ x) walk_stop in
+      record {
+        ending = ap (λ (a : After). end_of a.turn) final ∙ is_end;
+        count = omega (arith, here.steps);
+        output = ap (λ (a : After). a.shared.output) (sym final);
+        events = ap (λ (a : After). a.shared.events) (sym final);
+        made = grown ∙ ap (λ m. made ++ m) (sym (append-nil (map (λ c. (k, c)) cs))) ∙ sym here.changes;
+        trail = rw whole_walk (noted w is_trail);
+        allowed = here.allowed (one, tt);
+      }
+
+-- no step is left
+pub all_taken : (image : Contents) (h0 : Hart) (s0 : Shared) (whole : List (List (ℕ × ℕ))) (plan : Plan) (k limit : ℕ) (running : Running)
+    → limit - k ≡ 0
+    → Continues image h0 s0 whole k (hart_in running.machine) (shared_in running.machine) (planned version_1 plan k (hart_in running.machine) (shared_in running.machine) (limit - k)) running.made running.trail
+    → IsOver image h0 s0 whole ends.Limit k running
+unfolding planned run walk_of numbered
+all_taken image h0 s0 whole plan k limit running left before =
+    let here : Continues image h0 s0 whole k (hart_in running.machine) (shared_in running.machine) [] running.made running.trail = rw left at before in
+    let (w, is_trail, walked) = here.walk in
+    let whole_walk = walked ∙ append-nil w in
+    record {
+      ending = ap (λ (a : After). end_of a.turn) here.final;
+      count = omega (arith, here.steps);
+      output = ap (λ (a : After). a.shared.output) (sym here.final);
+      events = ap (λ (a : After). a.shared.events) (sym here.final);
+      made = sym (append-nil running.made) ∙ sym here.changes;
+      trail = rw whole_walk is_trail;
+      allowed = here.allowed tt;
+    }
+
+-- a run of a safe pair begins in its place
+pub begins : (image : Contents) (graph : GraphParts) (input : List ℕ) (running : Running) → SafeStaysInPlace → IsSafe image graph
+    → hart_in running.machine ≡ start_hart → shared_in running.machine ≡ start_shared image input → running.made ≡ [] → IsTrailOf [] running.trail → IsBegun image running
+begins image graph input running law safe hart shared made empty =
+    let stays : StaysFrom image 0 start_hart (start_shared image input) = λ changes all. law image graph input changes safe all in
+    record { made = made; trail = empty; stays = (0, rw (hart, shared) stays); }

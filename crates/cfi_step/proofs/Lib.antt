@@ -1,0 +1,4 @@
+mod Changes
+mod Continues
+mod Zeros
+mod Replay

@@ -1,0 +1,5 @@
+pub mod Plan
+pub mod Report
+pub mod Trail
+pub mod Running
+pub mod Hostile

@@ -1,0 +1,40 @@
+-- What a meddler does to a run. Its plan answers, for each step number and state, the changes that come
+-- before that step: each an address and a byte.
+use Rattle.std.specs.Prelude.{ℕ, zero, suc, ◌+◌, ◌==◌, List, [], ◌∷◌, ◌++◌, filter, map}
+use Rattle.rv_word.specs.Layout.{Profile}
+use Rattle.rv_code.specs.Run.{ByteChange, disturbed_step}
+use Rattle.rv_code.specs.State.{Hart, Shared}
+use Rattle.rv_code.specs.declared.turn.Turn.{Turn}
+use Rattle.rv_code.specs.declared.turn.Turn.TheVariants.{Ran}
+
+abbrev pub Plan : Type 0
+Plan = ℕ → Hart → Shared → List (ℕ × ℕ)
+
+abbrev pub change_of : ℕ × ℕ → ByteChange
+change_of c = record { address = c.0; byte = c.1 }
+
+abbrev pub changes_of : List (ℕ × ℕ) → List ByteChange
+changes_of cs = map change_of cs
+
+-- what follows an instruction that ran, and nothing after a stop
+abbrev pub if_ran : Turn → List (List (ℕ × ℕ)) → List (List (ℕ × ℕ))
+if_ran Ran later = later
+if_ran other later = []
+
+-- the changes before each step of a run of at most `n` steps, from the step with number `k` on
+unfoldable pub planned : Profile → Plan → ℕ → Hart → Shared → ℕ → List (List (ℕ × ℕ))
+planned p plan k h s zero = []
+planned p plan k h s (suc n) =
+    let cs = plan k h s in
+    let after = disturbed_step p h s (changes_of cs) in
+    let later = planned p plan (k + 1) after.hart after.shared n in
+    cs ∷ if_ran after.turn later
+
+-- the changes before the steps from the step with number `k` on, each with the number of its step
+unfoldable pub numbered : ℕ → List (List (ℕ × ℕ)) → List (ℕ × (ℕ × ℕ))
+numbered k [] = []
+numbered k (cs ∷ later) = map (λ c. (k, c)) cs ++ numbered (k + 1) later
+
+-- the plan of changes that are each numbered with their step
+unfoldable pub numbered_plan : List (ℕ × (ℕ × ℕ)) → Plan
+numbered_plan changes step h s = map (λ c. c.1) (filter (λ c. c.0 == step) changes)

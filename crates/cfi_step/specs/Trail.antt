@@ -1,0 +1,10 @@
+-- What is kept of a walk: the number of its addresses, and the last of them.
+use Rattle.std.specs.Prelude.{◌≡◌, ℕ, List, length}
+use Rattle.cfi_step.specs.Report.{trail}
+
+pub record TrailParts : Type 0 where
+  pub count : ℕ
+  pub last : List ℕ
+
+abbrev pub IsTrailOf : List ℕ → TrailParts → Type 0
+IsTrailOf walk parts = (parts.count ≡ length walk) × (parts.last ≡ trail walk)

@@ -1,0 +1,81 @@
+ghost use Rattle.std.specs.Prelude.{◌≡◌, ℕ, IfOk, OnOk, map};
+ghost use Rattle.rv_word.specs.Layout.{version_1};
+ghost use Rattle.rv_code.specs.State.{start_hart, start_shared};
+ghost use Rattle.rv_machine.specs.Parts.{hart_in, shared_in};
+ghost use Rattle.cfi_verify.specs.Split.{code_words};
+ghost use Rattle.cfi_verify.specs.Walks.{walk_of, IsGraphWalk};
+ghost use Rattle.cfi_step.specs.Plan.{changes_of, numbered_plan, planned};
+ghost use Rattle.cfi_step.specs.Report.{IsReport};
+ghost use Rattle.cfi_step.specs.Running.{is_stop, IsBegun, IsOver};
+
+use crate::meddler::Meddler;
+use crate::report::{RunEnd, RunReport, end_of};
+use crate::running::Running;
+use cfi_verify::Checked;
+use cfi_verify::laws::{safe_stays_in_place, safe_walks_graph};
+use rv_machine::Turn;
+use rv_word::NoMemory;
+use std::alloc::Global;
+
+/// Whether a step ended the run.
+fn is_stop(turn: Turn) -> bool
+    ensures { result ≡ is_stop turn }
+{
+    match turn {
+        Turn::Ran => false,
+        _ => true,
+    }
+}
+
+/// Takes steps until the run stops, at most `limit`; gives the end and the number of steps.
+fn finish<M: Meddler>(
+    alloc: Global,
+    checked: &Checked<'_>,
+    meddler: &mut M,
+    limit: u64,
+    running: &mut Running,
+) -> Result<(RunEnd, u64), NoMemory>
+    requires { IsBegun checked.now.image running.old }
+    ensures { IfOk result (λ r. IsOver checked.now.image (hart_in running.old.machine) (shared_in running.old.machine)
+        (planned version_1 (M.plan meddler.old) 0 (hart_in running.old.machine) (shared_in running.old.machine) limit) r.0 r.1 running.new) }
+{
+    let mut steps = 0;
+    while steps < limit {
+        let turn = running.turn(alloc, checked, meddler, steps)?;
+        steps += 1;
+        if is_stop(turn) {
+            return Ok((end_of(turn), steps));
+        }
+    }
+    Ok((RunEnd::Limit, steps))
+}
+
+/// Runs an accepted image with an input, at most `limit` steps, while a meddler changes its data
+/// before each of them.
+pub fn run<M: Meddler>(
+    alloc: Global,
+    checked: &Checked<'_>,
+    input: &[u8],
+    meddler: &mut M,
+    limit: u64,
+) -> Result<RunReport, NoMemory>
+    // The report is that of the run under the changes that the plan makes.
+    ensures report { IfOk result (IsReport checked.now.image input.now
+        (planned version_1 (M.plan meddler.old) 0 start_hart (start_shared checked.now.image input.now) limit)) }
+
+    // The changes that were made, planned by their numbers, are made again.
+    ensures replayed { IfOk result (λ report. planned version_1 (numbered_plan report.made) 0 start_hart (start_shared checked.now.image input.now) limit
+        ≡ planned version_1 (M.plan meddler.old) 0 start_hart (start_shared checked.now.image input.now) limit) }
+
+    // The walk of that run is a list of steps of the graph walk.
+    ensures walk { OnOk result (IsGraphWalk version_1 (code_words checked.now.image.code) checked.now.graph.lines
+        (walk_of version_1 (code_words checked.now.image.code) start_hart (start_shared checked.now.image input.now)
+            (map changes_of (planned version_1 (M.plan meddler.old) 0 start_hart (start_shared checked.now.image input.now) limit)))) }
+{
+    checked.is_safe();
+    safe_stays_in_place();
+    safe_walks_graph();
+    let mut running = Running::new(alloc, checked.image(), input)?;
+    let (end, steps) = finish(alloc, checked, meddler, limit, &mut running)?;
+    Ok(running.into_report(end, steps))
+}

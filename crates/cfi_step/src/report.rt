@@ -1,0 +1,82 @@
+ghost use Rattle.std.specs.Prelude.{◌≡◌, Some};
+ghost use Rattle.cfi_step.specs.Report.{break_at, end_of};
+ghost use Rattle.cfi_step.specs.declared.report.RunEnd.{RunEnd};
+
+use crate::record::Record;
+use rv_code::Events;
+use rv_machine::Turn;
+use rv_word::{Bytes, Places};
+
+/// A handler of the prologue.
+#[derive(Clone, Copy, Debug, PartialEq, Eq)]
+pub enum Handler {
+    /// `__cfi_bad_target`: a computed transfer to no target of its class, or a stop unit.
+    BadTarget,
+    /// `__cfi_bad_return`: a return to another place than its call's site.
+    BadReturn,
+    /// `__cfi_deep`: a call where the shadow stack is full.
+    Deep,
+}
+
+/// How a run ended. Addresses are in bytes.
+#[derive(Clone, Copy, Debug, PartialEq, Eq)]
+pub enum RunEnd {
+    /// The program ended itself with this status.
+    Exit(u8),
+    /// The run came to a handler.
+    Handler(Handler),
+    /// An EBREAK of the program's own at this pc.
+    Break(u64),
+    /// A load at this pc from this address left the regions that may be loaded.
+    LoadFault(u64, u64),
+    /// As many steps were taken as were asked for.
+    Limit,
+}
+
+/// What a run came to.
+#[derive(Debug, Drop)]
+pub struct RunReport {
+    pub end: RunEnd,
+    /// How many steps were taken, the one that stopped the run among them.
+    pub steps: u64,
+    pub output: Bytes,
+    pub events: Events,
+    /// The changes that were made.
+    pub made: Record,
+    /// How many addresses the walk has.
+    pub walk: u64,
+    /// The last addresses of the walk, sixteen at most.
+    pub trail: Places,
+}
+
+/// Where the handlers stand.
+const BAD_TARGET: u64 = 0x4000_0000;
+
+const BAD_RETURN: u64 = 0x4000_0004;
+
+const DEEP: u64 = 0x4000_0008;
+
+fn break_at(pc: u64) -> RunEnd
+    ensures { result ≡ break_at pc }
+{
+    match pc {
+        BAD_TARGET => RunEnd::Handler(Handler::BadTarget),
+        BAD_RETURN => RunEnd::Handler(Handler::BadReturn),
+        DEEP => RunEnd::Handler(Handler::Deep),
+        _ => RunEnd::Break(pc),
+    }
+}
+
+/// The end of a run whose last step ended so.
+pub(crate) fn end_of(turn: Turn) -> RunEnd
+    requires { (end : RunEnd) × (end_of turn ≡ Some end) }
+    ensures { end_of turn ≡ Some result }
+{
+    match turn {
+        Turn::Ran => RunEnd::Limit,
+        Turn::Exit(status) => RunEnd::Exit(status),
+        Turn::Break(pc) => break_at(pc),
+        Turn::LoadFault(pc, address) => RunEnd::LoadFault(pc, address),
+        Turn::StoreFault(..) | Turn::FetchFault(_) | Turn::Illegal(_) => unreachable!(),
+    }
+}
