@@ -1,0 +1,3 @@
+pub mod ScriptDigits
+pub mod ScriptSteps
+pub mod ScriptPlans
