@@ -11,3 +11,5 @@ mod script;
 mod script_end;
 mod script_line;
 mod script_read;
+#[cfg(test)]
+mod script_tests;
