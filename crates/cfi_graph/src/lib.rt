@@ -17,5 +17,5 @@ mod read;
 mod rules;
 #[cfg(test)]
 mod tests;
-mod words;
+pub mod words;
 mod write;

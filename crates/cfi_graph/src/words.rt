@@ -11,7 +11,7 @@ fn find(bytes: &[u8], separator: u8) -> Option<usize>
 }
 
 /// The part of `bytes` before the first `separator`, and what stands after it, if there is one.
-pub(crate) fn cut(bytes: &[u8], separator: u8) -> (&[u8], Option<&[u8]>)
+pub fn cut(bytes: &[u8], separator: u8) -> (&[u8], Option<&[u8]>)
     ensures shorter { IfSome result.1 (λ rest. length rest.now < length bytes.now) }
     ensures parts { slice_split (λ b. b == separator) bytes.now
         ≡ result.0.now ∷ parts_after separator (option_map (λ r. r.now) result.1) }
@@ -23,7 +23,7 @@ pub(crate) fn cut(bytes: &[u8], separator: u8) -> (&[u8], Option<&[u8]>)
 }
 
 /// Whether a word is `name`.
-pub(crate) fn is_word(word: &[u8], name: &[u8]) -> bool
+pub fn is_word(word: &[u8], name: &[u8]) -> bool
     ensures { result ≡ bytes_eq word.now name.now }
 {
     word == name
@@ -41,7 +41,7 @@ fn digit(byte: u8) -> Option<u32>
 }
 
 /// The number that a word of just `count` hexadecimal digits in lower case spells.
-pub(crate) fn hex_of(word: &[u8], count: usize) -> Option<u32>
+pub fn hex_of(word: &[u8], count: usize) -> Option<u32>
     requires { count ≤ 8 }
     ensures { result ≡ hex count word.now }
 {

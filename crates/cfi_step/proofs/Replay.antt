@@ -1,14 +1,17 @@
 -- A run under the changes that another run made is that run again.
 use Rattle.std.proofs.Common.{◌≡◌, ◌==◌, ℕ, zero, suc, ◌+◌, ◌<◌, ◌≤◌, true, false, List, [], ◌∷◌, ◌++◌, filter, map, refl, sym, ◌∙◌, ap, arith, append_assoc, append-nil, eq-eqb}
 use Rattle.std.proofs.lemmas.List.{map-append}
-use Rattle.std.proofs.lemmas.List.Elements.{filter-append}
+use Rattle.std.specs.List.{All}
+use Rattle.std.proofs.lemmas.List.Elements.{All-cons, filter-append}
 use borrow.Author.Tests.{ne_eqb}
 use Rattle.rv_word.specs.Layout.{Profile}
 use Rattle.rv_code.specs.Run.{disturbed_step}
 use Rattle.rv_code.specs.State.{After, Hart, Shared}
 use Rattle.rv_code.specs.declared.turn.Turn.{Turn}
 use Rattle.rv_code.specs.declared.turn.Turn.TheVariants.{Ran, Exit, Break, LoadFault, StoreFault, FetchFault, Illegal}
-use Rattle.cfi_step.specs.Plan.{Plan, changes_of, if_ran, numbered, numbered_plan, planned}
+use Rattle.cfi_step.proofs.ScriptPlans.{IsFrom, first_of_script, nothing}
+use Rattle.cfi_step.specs.Plan.{Plan, changes_of, if_ran, numbered, planned}
+use Rattle.cfi_step.specs.Script.{script_plan}
 
 -- those of a step
 abbrev of_step : ℕ → List (ℕ × (ℕ × ℕ)) → List (ℕ × ℕ)
@@ -90,8 +93,8 @@ all_ran k front cs turn later ran =
     ∙ sym (append_assoc front (map (λ c. (k, c)) cs) (numbered (k + 1) later))
 
 again : (p : Profile) (plan : Plan) (n k : ℕ) (h : Hart) (s : Shared) (front : List (ℕ × (ℕ × ℕ))) → Before k front
-    → planned p (numbered_plan (front ++ numbered k (planned p plan k h s n))) k h s n ≡ planned p plan k h s n
-unfolding planned numbered_plan
+    → planned p (script_plan (front ++ numbered k (planned p plan k h s n))) k h s n ≡ planned p plan k h s n
+unfolding planned
 again p plan zero k h s front before = refl
 again p plan (suc n) k h s front before =
     let cs : List (ℕ × ℕ) = plan k h s in
@@ -99,11 +102,27 @@ again p plan (suc n) k h s front before =
     let later : List (List (ℕ × ℕ)) = planned p plan (k + 1) after.hart after.shared n in
     let all : List (ℕ × (ℕ × ℕ)) = front ++ numbered k (cs ∷ if_ran after.turn later) in
     let inner = again p plan n (k + 1) after.hart after.shared (front ++ map (λ c. (k, c)) cs) (before_both k front cs before) in
-    first p (numbered_plan all) n k h s cs (here k front cs (if_ran after.turn later) before)
+    first p (script_plan all) n k h s cs (here k front cs (if_ran after.turn later) before)
     ∙ ap (λ rest. cs ∷ rest)
-      (if_both after.turn (planned p (numbered_plan all) (k + 1) after.hart after.shared n) later
-        (λ ran. ap (λ changes. planned p (numbered_plan changes) (k + 1) after.hart after.shared n) (all_ran k front cs after.turn later ran) ∙ inner))
+      (if_both after.turn (planned p (script_plan all) (k + 1) after.hart after.shared n) later
+        (λ ran. ap (λ changes. planned p (script_plan changes) (k + 1) after.hart after.shared n) (all_ran k front cs after.turn later ran) ∙ inner))
 
 -- the changes that a plan made lead to a run under the same changes
-pub replays : (p : Profile) (plan : Plan) (limit : ℕ) (h : Hart) (s : Shared) → planned p (numbered_plan (numbered 0 (planned p plan 0 h s limit))) 0 h s limit ≡ planned p plan 0 h s limit
+pub replays : (p : Profile) (plan : Plan) (limit : ℕ) (h : Hart) (s : Shared) → planned p (script_plan (numbered 0 (planned p plan 0 h s limit))) 0 h s limit ≡ planned p plan 0 h s limit
 replays p plan limit h s = again p plan limit 0 h s [] tt
+
+-- the changes of a run have numbers that do not fall
+own_first : (k : ℕ) (cs : List (ℕ × ℕ)) (later : List (ℕ × (ℕ × ℕ))) → IsFrom k later → IsFrom k (map (λ c. (k, c)) cs ++ later)
+own_first k [] later h = h
+own_first k (c ∷ cs) later h =
+    let others = own_first k cs later h in
+    let same : k ≤ k = omega arith in
+    (first_of_script (k, c) (map (λ c. (k, c)) cs ++ later) others.1 others.0, All-cons (λ d. k ≤ d.0) (k, c) (map (λ c. (k, c)) cs ++ later) same others.1)
+
+pub in_order : (k : ℕ) (lists : List (List (ℕ × ℕ))) → IsFrom k (numbered k lists)
+unfolding numbered
+in_order k [] = nothing k
+in_order k (cs ∷ lists) =
+    let later = in_order (k + 1) lists in
+    let all : All (λ c. k ≤ c.0) (numbered (k + 1) lists) = λ i d q. let at = later.1 i d q in omega (arith, at) in
+    own_first k cs (numbered (k + 1) lists) (later.0, all)

@@ -1,6 +1,6 @@
 -- What a meddler does to a run. Its plan answers, for each step number and state, the changes that come
 -- before that step: each an address and a byte.
-use Rattle.std.specs.Prelude.{ℕ, zero, suc, ◌+◌, ◌==◌, List, [], ◌∷◌, ◌++◌, filter, map}
+use Rattle.std.specs.Prelude.{ℕ, zero, suc, ◌+◌, List, [], ◌∷◌, ◌++◌, map}
 use Rattle.rv_word.specs.Layout.{Profile}
 use Rattle.rv_code.specs.Run.{ByteChange, disturbed_step}
 use Rattle.rv_code.specs.State.{Hart, Shared}
@@ -34,7 +34,3 @@ planned p plan k h s (suc n) =
 unfoldable pub numbered : ℕ → List (List (ℕ × ℕ)) → List (ℕ × (ℕ × ℕ))
 numbered k [] = []
 numbered k (cs ∷ later) = map (λ c. (k, c)) cs ++ numbered (k + 1) later
-
--- the plan of changes that are each numbered with their step
-unfoldable pub numbered_plan : List (ℕ × (ℕ × ℕ)) → Plan
-numbered_plan changes step h s = map (λ c. c.1) (filter (λ c. c.0 == step) changes)

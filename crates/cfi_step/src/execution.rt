@@ -4,8 +4,9 @@ ghost use Rattle.rv_code.specs.State.{start_hart, start_shared};
 ghost use Rattle.rv_machine.specs.Parts.{hart_in, shared_in};
 ghost use Rattle.cfi_verify.specs.Split.{code_words};
 ghost use Rattle.cfi_verify.specs.Walks.{walk_of, IsGraphWalk};
-ghost use Rattle.cfi_step.specs.Plan.{changes_of, numbered_plan, planned};
+ghost use Rattle.cfi_step.specs.Plan.{changes_of, planned};
 ghost use Rattle.cfi_step.specs.Report.{IsReport};
+ghost use Rattle.cfi_step.specs.Script.{IsScript, script_plan};
 ghost use Rattle.cfi_step.specs.Running.{is_stop, IsBegun, IsOver};
 
 use crate::meddler::Meddler;
@@ -63,8 +64,9 @@ pub fn run<M: Meddler>(
     ensures report { IfOk result (IsReport checked.now.image input.now
         (planned version_1 (M.plan meddler.old) 0 start_hart (start_shared checked.now.image input.now) limit)) }
 
-    // The changes that were made, planned by their numbers, are made again.
-    ensures replayed { IfOk result (λ report. planned version_1 (numbered_plan report.made) 0 start_hart (start_shared checked.now.image input.now) limit
+    // The changes that were made are a script, and a run under that script makes them again.
+    ensures script { IfOk result (λ report. IsScript report.made) }
+    ensures replayed { IfOk result (λ report. planned version_1 (script_plan report.made) 0 start_hart (start_shared checked.now.image input.now) limit
         ≡ planned version_1 (M.plan meddler.old) 0 start_hart (start_shared checked.now.image input.now) limit) }
 
     // The walk of that run is a list of steps of the graph walk.

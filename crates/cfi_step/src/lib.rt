@@ -2,16 +2,24 @@
 //! the run with its report.
 #![tactic(auto)]
 
+pub use execution::run;
 pub use hostile::Hostile;
 pub use meddler::Meddler;
 pub use record::Record;
 pub use report::{Handler, RunEnd, RunReport};
-pub use execution::run;
+pub use script::Script;
+pub use script_end::ScriptEnd;
 
+mod execution;
 mod hostile;
 mod meddler;
 mod record;
 mod report;
-mod execution;
 mod running;
+mod script;
+mod script_end;
+mod script_line;
+mod script_read;
+#[cfg(test)]
+mod script_tests;
 mod trail;

@@ -1,0 +1,115 @@
+-- The changes of one step stand together, since step numbers do not fall.
+use Rattle.std.proofs.Common.{◌≡◌, ℕ, ◌+◌, ◌<◌, ◌≤◌, ◌==◌, Bool, true, false, List, [], ◌∷◌, ◌++◌, length, get_or, drop, take, map, nat_lt, inl, inr, zero, suc, codes, Option, Some, None, Result, Ok, Err, refl, sym, ap, ◌∙◌, arith}
+use Rattle.std.specs.List.{All, filter}
+use Rattle.std.proofs.lemmas.Bool.{cases_Bool, ltb-false, ne_eqb}
+use Rattle.std.proofs.lemmas.List.{append-nil, get_or_default, get_or-drop, get_or-take, length-drop, length-take, take-append-drop}
+use Rattle.std.proofs.lemmas.List.Elements.{All-cons, All-head, All-tail, filter-append}
+use Rattle.std.specs.Str.{bytes_eq}
+use Rattle.cfi_graph.specs.Lines.{words_of}
+use Rattle.cfi_step.specs.declared.script_end.ScriptEnd.{ScriptEnd}
+use Rattle.cfi_step.specs.declared.script_line.ScriptLine.{ScriptLine}
+use Rattle.cfi_step.specs.Script.{IsScript}
+use Rattle.cfi_step.specs.ScriptText.{at_end, body, changes_from, changes_of, checked, in_range, line_of, with_front, with_line}
+
+abbrev pub Changes : Type 0
+Changes = List (ℕ × (ℕ × ℕ))
+
+abbrev of_step : ℕ → Changes → Changes
+of_step step changes = filter (λ c. c.0 == step) changes
+
+-- changes of other steps only
+pub none_of_step : (step : ℕ) (changes : Changes) → All (λ c. c.0 ≡ step → ⊥) changes → of_step step changes ≡ []
+none_of_step step [] h = refl
+none_of_step step (c ∷ rest) h =
+    rw (ne_eqb c.0 step (All-head (λ d. d.0 ≡ step → ⊥) c rest h)) (none_of_step step rest (All-tail (λ d. d.0 ≡ step → ⊥) c rest h))
+
+pub in_two : (step i : ℕ) (changes : Changes) → of_step step changes ≡ of_step step (take i changes) ++ of_step step (drop i changes)
+in_two step i changes = ap (of_step step) (sym (take-append-drop i changes)) ∙ filter-append (λ c. c.0 == step) (take i changes) (drop i changes)
+
+-- no change passes over those that come first and have a lower step
+pub from_start : (step i : ℕ) (changes : Changes) → ((k : ℕ) (d : ℕ × (ℕ × ℕ)) → k < i → (get_or changes k d).0 < step) → of_step step changes ≡ of_step step (drop i changes)
+from_start step i changes below =
+    let first : All (λ c. c.0 ≡ step → ⊥) (take i changes) = λ k d h e. let within : k < i = omega (arith, length-take i changes) in let at = get_or-take i changes k d within in omega (arith, below k d within, ap (λ c. c.0) at, e) in
+    in_two step i changes ∙ ap (λ cs. cs ++ of_step step (drop i changes)) (none_of_step step (take i changes) first)
+
+-- from a change of a later step on there is none of this one
+pub to_end : (step i : ℕ) (changes : Changes) → IsScript changes → All (λ c. step ≤ c.0) changes → i < length changes → ((get_or changes i (0, (0, 0))).0 ≡ step → ⊥) → of_step step changes ≡ of_step step (take i changes)
+to_end step i changes ordered from h other =
+    let above : step ≤ (get_or changes i (0, (0, 0))).0 = from i (0, (0, 0)) h in
+    let rest : All (λ c. c.0 ≡ step → ⊥) (drop i changes) = λ k d within e. let len = length-drop i changes in let place : i + k < length changes = omega (arith, len) in let later = ordered i (i + k) (0, (0, 0)) (omega arith) place in let at = get_or-drop i changes k d in let same = get_or_default changes (i + k) d (0, (0, 0)) place in other (omega (arith, above, later, ap (λ c. c.0) at, ap (λ c. c.0) same, e)) in
+    in_two step i changes ∙ ap (λ cs. of_step step (take i changes) ++ cs) (none_of_step step (drop i changes) rest) ∙ append-nil (of_step step (take i changes))
+
+-- those from a place on have that step or a later one
+pub rest_from : (step i : ℕ) (changes : Changes) → ((k : ℕ) (d : ℕ × (ℕ × ℕ)) → i ≤ k → k < length changes → nat_lt (get_or changes k d).0 step ≡ false) → All (λ c. step ≤ c.0) (drop i changes)
+rest_from step i changes above k d within =
+    let len = length-drop i changes in
+    let place : i + k < length changes = omega (arith, len) in
+    let up = ltb-false _ _ (above (i + k) d (omega arith) place) in
+    let at = get_or-drop i changes k d in
+    omega (arith, up, ap (λ c. c.0) at)
+
+-- ---- what is read is a script
+
+pub first_of_script : (c : ℕ × (ℕ × ℕ)) (rest : Changes) → All (λ d. c.0 ≤ d.0) rest → IsScript rest → IsScript (c ∷ rest)
+first_of_script c rest from up zero zero d p q = omega arith
+first_of_script c rest from up zero (suc j) d p q = from j d (omega (arith, q))
+first_of_script c rest from up (suc i) zero d p q = absurd (omega (arith, p))
+first_of_script c rest from up (suc i) (suc j) d p q = up i j d (omega (arith, p)) (omega (arith, q))
+
+abbrev pub IsFrom : ℕ → Changes → Type 0
+IsFrom step changes = IsScript changes × All (λ c. step ≤ c.0) changes
+
+line_first : (step address : ℕ) (bytes : List ℕ) (rest : Changes) → IsFrom step rest → IsFrom step (changes_from step address bytes ++ rest)
+unfolding changes_from
+line_first step address [] rest h = h
+line_first step address (byte ∷ bytes) rest h =
+    let others = line_first step (address + 1) bytes rest h in
+    let first : step ≤ step = omega arith in
+    (first_of_script (step, (address, byte)) (changes_from step (address + 1) bytes ++ rest) others.1 others.0, All-cons (λ c. step ≤ c.0) (step, (address, byte)) (changes_from step (address + 1) bytes ++ rest) first others.1)
+
+pub nothing : (step : ℕ) → IsFrom step []
+nothing step = (λ i j d p q. absurd (omega (arith, q)), λ k d q. absurd (omega (arith, q)))
+
+ended : (before number : ℕ) (lines : List (List ℕ)) (changes : Changes) → at_end number lines ≡ Ok changes → IsFrom before changes
+ended before number [] changes e = cc e
+ended before number ([] ∷ []) changes e = let none : [] ≡ changes = cc e in rw (← none) (nothing before)
+ended before number ((b ∷ line) ∷ []) changes e = cc e
+ended before number ([] ∷ next ∷ lines) changes e = cc e
+ended before number ((b ∷ line) ∷ next ∷ lines) changes e = cc e
+
+-- a line that may stand there has no lower step
+in_order : (before number : ℕ) (o : Option ScriptLine) (l : ScriptLine) → checked before number o ≡ Ok l → before ≤ l.step
+unfolding checked
+in_order before number None l e = cc e
+in_order before number (Some m) l e =
+    elim (cases_Bool (in_range m)) [
+      | inl inside ↦
+          elim (cases_Bool (nat_lt m.step before)) [
+            | inl falls ↦ cc (rw (inside, falls) at e)
+            | inr rises ↦ let same : m ≡ l = cc (rw (inside, rises) at e) in let s = ap (λ x. x.step) same in let up = ltb-false m.step before rises in omega (arith, s, up)
+          ]
+      | inr outside ↦ cc (rw outside at e)
+    ]
+
+fronted : (before : ℕ) (l : ScriptLine) (others : Result Changes ScriptEnd) (changes : Changes) → before ≤ l.step → ((rest : Changes) → others ≡ Ok rest → IsFrom l.step rest) → with_front (changes_of l) others ≡ Ok changes → IsFrom before changes
+fronted before l (Err fault) changes up rest e = cc e
+fronted before l (Ok ls) changes up rest e =
+    let same : changes_of l ++ ls ≡ changes = cc e in
+    let from = line_first l.step l.address l.bytes ls (rest ls refl) in
+    let all : All (λ c. before ≤ c.0) (changes_of l ++ ls) = λ k d q. let at = from.1 k d q in omega (arith, at, up) in
+    rw (← same) (from.0, all)
+
+lined : (before number : ℕ) (o : Option ScriptLine) (r : Result ScriptLine ScriptEnd) (others : ScriptLine → Result Changes ScriptEnd) (changes : Changes) → checked before number o ≡ r → ((l : ScriptLine) (rest : Changes) → others l ≡ Ok rest → IsFrom l.step rest) → with_line r others ≡ Ok changes → IsFrom before changes
+lined before number o (Err fault) others changes c rest e = cc e
+lined before number o (Ok l) others changes c rest e =
+    fronted before l (others l) changes (in_order before number o l c) (rest l) e
+
+pub ordered : (before number : ℕ) (lines : List (List ℕ)) (changes : Changes) → body before number lines ≡ Ok changes → IsFrom before changes
+unfolding body
+ordered before number [] changes e = cc e
+ordered before number (line ∷ []) changes e = cc e
+ordered before number (line ∷ next ∷ rest) changes e =
+    elim (cases_Bool (bytes_eq line (codes "end"))) [
+      | inl last ↦ ended before (number + 1) (next ∷ rest) changes (rw last at e)
+      | inr other ↦ lined before number (line_of (words_of line)) (checked before number (line_of (words_of line))) (λ l. body l.step (number + 1) (next ∷ rest)) changes refl (λ l ls. ordered l.step (number + 1) (next ∷ rest) ls) (rw other at e)
+    ]

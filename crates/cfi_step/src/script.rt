@@ -1,0 +1,104 @@
+ghost use Rattle.std.specs.Prelude.{◌≡◌, ◌++◌, ◌==◌, ◌≤◌, List, [], map, OnOk, OnErr, IfOk};
+ghost use Rattle.std.specs.List.{All, filter};
+ghost use Rattle.cfi_step.specs.Script.{IsScript, script_plan};
+
+use crate::meddler::Meddler;
+use rv_machine::{Change, Machine};
+use rv_word::NoMemory;
+use std::alloc::Global;
+use std::marker::Model;
+
+/// Changes of data bytes, each with the number of steps that are taken before it. These numbers do not
+/// fall.
+#[derive(Debug, Drop)]
+pub struct Script {
+    pub(crate) changes: Vec<(u64, Change)>,
+}
+
+impl Model for Script {
+    ghost use Rattle.std.specs.Prelude.{ℕ, List};
+    ghost use Rattle.cfi_step.specs.Script.{IsScript};
+
+    ghost Value = { List (ℕ × (ℕ × ℕ)) };
+
+    ghost view = { λ s. s.changes.items };
+
+    ghost invariant = { λ s. IsScript s.changes.items };
+}
+
+impl Script {
+    /// The script without changes. It takes no memory.
+    pub fn none(alloc: Global) -> Self
+        ensures { result ≡ [] }
+    {
+        Script {
+            changes: Vec::new(alloc),
+        }
+    }
+
+    /// The script with just these changes.
+    pub fn of(alloc: Global, changes: &[(u64, Change)]) -> Result<Self, NoMemory>
+        requires { IsScript changes.now }
+        ensures { IfOk result (λ s. s ≡ changes.now) }
+    {
+        let mut items = Vec::new(alloc);
+        items.extend_from_slice(changes)?;
+        Ok(Script { changes: items })
+    }
+
+    /// The changes, each with its number of steps.
+    pub fn as_slice(&self) -> &[(u64, Change)]
+        ensures value { result.now ≡ self.now }
+        ensures ordered { IsScript self.now }
+    {
+        self.changes.as_slice()
+    }
+}
+
+/// Appends the first changes, which come after `step` steps; a refusal leaves `into` as it was.
+fn append(into: &mut Vec<Change>, step: u64, changes: &[(u64, Change)]) -> Result<(), NoMemory>
+    requires ordered { IsScript changes.now }
+    requires from { All (λ c. step ≤ c.0) changes.now }
+    ensures appended { OnOk result
+        (into.new.items ≡ into.old.items ++ map (λ c. c.1) (filter (λ c. c.0 == step) changes.now)) }
+    ensures refused { OnErr result (into.new.items ≡ into.old.items) }
+{
+    let len = into.len();
+    for (at, change) in changes {
+        if *at != step {
+            break;
+        }
+        if into.push(*change).is_err() {
+            into.truncate(len);
+            return Err(NoMemory);
+        }
+    }
+    Ok(())
+}
+
+/// The changes from the first on that comes after `step` steps or more.
+fn from_step(changes: &[(u64, Change)], step: u64) -> &[(u64, Change)]
+    requires { IsScript changes.now }
+    ensures ordered { IsScript result.now }
+    ensures from { All (λ c. step ≤ c.0) result.now }
+    ensures same { filter (λ c. c.0 == step) result.now ≡ filter (λ c. c.0 == step) changes.now }
+{
+    let start = changes.partition_point(|c| c.0 < step);
+    &changes[start..]
+}
+
+impl Meddler for Script {
+    ghost use Rattle.cfi_step.specs.Script.{script_plan};
+
+    ghost plan = { λ s. script_plan s };
+
+    fn meddle(
+        &mut self,
+        _alloc: Global,
+        step: u64,
+        _seen: &Machine,
+        into: &mut Vec<Change>,
+    ) -> Result<(), NoMemory> {
+        append(into, step, from_step(self.changes.as_slice(), step))
+    }
+}

@@ -1,0 +1,128 @@
+ghost use Rattle.std.specs.Prelude.{◌≡◌, IfOk, IfSome, ◌<◌, ◌==◌, ◌&&◌, nat_lt, length, slice_index, option_map};
+ghost use Rattle.std.specs.List.{list_any};
+ghost use Rattle.cfi_graph.specs.Lines.{words_of};
+ghost use Rattle.cfi_step.specs.ScriptText.{data_of, decimal, decimal_digit, decimal_from, line_of, words_after_at};
+ghost use Rattle.cfi_step.specs.ScriptNumbers.{capped, capped_line, is_capital};
+
+use cfi_graph::words::{cut, hex_of, is_word};
+use hex::FromHexError;
+use rv_word::{Bytes, NoMemory};
+use std::alloc::Global;
+
+/// The largest number of steps that a line may have before it.
+pub(crate) const MAX_STEP: u64 = 1_000_000_000;
+
+/// A line of a script: the number of steps taken before it, and bytes from an address on.
+#[derive(Debug, Drop)]
+pub(crate) struct ScriptLine {
+    pub(crate) step: u64,
+    pub(crate) address: u32,
+    pub(crate) bytes: Bytes,
+}
+
+fn decimal_digit(byte: u8) -> Option<u64>
+    ensures value { result ≡ decimal_digit byte }
+    ensures small { IfSome result (λ d. d < 10) }
+{
+    match byte {
+        b'0'..=b'9' => Some(u64::from(byte - b'0')),
+        _ => None,
+    }
+}
+
+/// The number that digits spell in decimal; each number that is too large is given as one.
+fn digits(word: &[u8]) -> Option<u64>
+    ensures { result ≡ option_map capped (decimal_from 0 word.now) }
+{
+    let mut number = 0u64;
+    for byte in word {
+        number = (10 * number + decimal_digit(*byte)?).min(MAX_STEP + 1);
+    }
+    Some(number)
+}
+
+/// Whether a zero stands before other digits.
+fn has_leading_zero(word: &[u8]) -> bool
+    ensures { result ≡ (nat_lt 1 (length word.now) && slice_index word.now 0 == 48) }
+{
+    word.len() > 1 && word[0] == b'0'
+}
+
+/// The number that a word spells in decimal; each number that is too large is given as one.
+fn decimal(word: &[u8]) -> Option<u64>
+    ensures { result ≡ option_map capped (decimal word.now) }
+{
+    if word.is_empty() {
+        return None;
+    }
+    if has_leading_zero(word) {
+        return None;
+    }
+    digits(word)
+}
+
+fn has_capitals(word: &[u8]) -> bool
+    ensures { result ≡ list_any is_capital word.now }
+{
+    word.iter().any(|b| b'A' <= *b && *b <= b'F')
+}
+
+/// The bytes that a word of 2 to 8,192 digits in lower case spells.
+fn data(alloc: Global, word: &[u8]) -> Result<Option<Bytes>, NoMemory>
+    ensures { IfOk result (λ r. r ≡ data_of word.now) }
+{
+    if word.len() < 2 || word.len() > 8192 {
+        return Ok(None);
+    }
+    if has_capitals(word) {
+        return Ok(None);
+    }
+    match hex::decode(alloc, word) {
+        Ok(bytes) => Ok(Some(Bytes::of(bytes))),
+        Err(FromHexError::OutOfMemory) => Err(NoMemory),
+        Err(FromHexError::InvalidHexCharacter { .. }) => Ok(None),
+        Err(FromHexError::OddLength) => Ok(None),
+        Err(FromHexError::InvalidStringLength) => Ok(None),
+    }
+}
+
+/// The three words of a line after `at`.
+fn words_after_at(line: &[u8]) -> Option<(&[u8], &[u8], &[u8])>
+    ensures { option_map (λ w. (w.0.now, (w.1.now, w.2.now))) result ≡ words_after_at (words_of line.now) }
+{
+    let (name, rest) = cut(line, b' ');
+    let (step, rest) = cut(rest?, b' ');
+    let (address, rest) = cut(rest?, b' ');
+    let (data, rest) = cut(rest?, b' ');
+    if let Some(_more) = rest {
+        return None;
+    }
+    if !is_word(name, b"at") {
+        return None;
+    }
+    Some((step, address, data))
+}
+
+/// The line that these bytes spell, if they have the form of one; each step that is too large is
+/// given as one.
+pub(crate) fn line_of(alloc: Global, line: &[u8]) -> Result<Option<ScriptLine>, NoMemory>
+    ensures { IfOk result (λ r. r ≡ option_map capped_line (line_of (words_of line.now))) }
+{
+    let Some((step, address, bytes)) = words_after_at(line) else {
+        return Ok(None);
+    };
+    let Some(step) = decimal(step) else {
+        return Ok(None);
+    };
+    let Some(address) = hex_of(address, 8) else {
+        return Ok(None);
+    };
+    let Some(bytes) = data(alloc, bytes)? else {
+        return Ok(None);
+    };
+    Ok(Some(ScriptLine {
+        step,
+        address,
+        bytes,
+    }))
+}
