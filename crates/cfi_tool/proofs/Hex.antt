@@ -70,18 +70,22 @@ digits_are : (fuel n : ℕ) → fuel ≡ 64 → digits 16 false n ≡ digits_ont
 unfolding digits
 digits_are fuel n e = ap (λ k. digits_onto k 16 false n []) (sym e)
 
-padded_with : (numeral : List ℕ) → padded_integral (format_spec 32 0 4 8 (2 ^ 64 - 1)) false [] numeral ≡ filled 8 0 numeral
+padded_with : (width : ℕ) (numeral : List ℕ) → padded_integral (format_spec 32 0 4 width (2 ^ 64 - 1)) false [] numeral ≡ filled width 0 numeral
 unfolding padded_integral char_count
-padded_with numeral =
-    let gap : 8 - length numeral - 0 - 0 ≡ 8 + 0 - length numeral = omega arith in
-    ap (λ k. replicate k 48 ++ (numeral ++ [])) gap ∙ ap (λ text. replicate (8 + 0 - length numeral) 48 ++ text) (append-nil numeral)
+padded_with width numeral =
+    let gap : width - length numeral - 0 - 0 ≡ width + 0 - length numeral = omega arith in
+    ap (λ k. replicate k 48 ++ (numeral ++ [])) gap ∙ ap (λ text. replicate (width + 0 - length numeral) 48 ++ text) (append-nil numeral)
 
-all_digits : (fuel n : ℕ) → fuel ≡ 64 → n < 2 ^ 32 → filled 8 0 (digits 16 false n) ≡ hex_text 8 n
-all_digits fuel n e small = ap (λ text. filled 8 0 text) (digits_are fuel n e) ∙ fills fuel 7 (omega arith) n [] small ∙ append-nil (hex_text 8 n)
+all_digits : (fuel count n : ℕ) → fuel ≡ 64 → count < fuel → n < 2 ^ (4 * suc count) → filled (suc count) 0 (digits 16 false n) ≡ hex_text (suc count) n
+all_digits fuel count n e enough small = ap (λ text. filled (suc count) 0 text) (digits_are fuel n e) ∙ fills fuel count enough n [] small ∙ append-nil (hex_text (suc count) n)
 
 -- what `{:08x}` prints
 pub eight_digits : (n : ℕ) → n < 2 ^ 32 → padded_integral (format_spec 32 0 4 8 (2 ^ 64 - 1)) false [] (digits 16 false n) ≡ hex_text 8 n
-eight_digits n small = padded_with (digits 16 false n) ∙ all_digits 64 n refl small
+eight_digits n small = padded_with 8 (digits 16 false n) ∙ all_digits 64 7 n refl (omega arith) small
+
+-- what `{:016x}` prints
+pub sixteen_digits : (n : ℕ) → n < 2 ^ 64 → padded_integral (format_spec 32 0 4 16 (2 ^ 64 - 1)) false [] (digits 16 false n) ≡ hex_text 16 n
+sixteen_digits n small = padded_with 16 (digits 16 false n) ∙ all_digits 64 15 n refl (omega arith) small
 
 -- the low 32 bits have the same eight digits
 low_digit : (n k : ℕ) → n % 2 ^ 32 / 2 ^ k % 2 ^ 4 ≡ n / 2 ^ k % 2 ^ 4 → hex_digit (n % 2 ^ 32 / 2 ^ k % 2 ^ 4) ≡ hex_digit (n / 2 ^ k % 2 ^ 4)

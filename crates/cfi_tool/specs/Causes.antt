@@ -1,102 +1,78 @@
--- What each outcome of a command says of the files, and the line and the status that it has.
-use Rattle.std.specs.Prelude.{◌≡◌, ◌⊎◌, ◌≤◌, ◌<◌, ◌^◌, ℕ, true, false, List, length, take, ⊤, Option, IfSome, Result, Ok, Err}
+-- What each outcome of a command says of the words and of the files.
+use Rattle.std.specs.Prelude.{◌≡◌, ℕ, List, take, ⊤, Option, Some, None}
 use Rattle.std.specs.Io.KnownBytes.{Appends}
-use Rattle.cfi_tool.specs.declared.outcome.Outcome.{Outcome}
-use Rattle.cfi_tool.specs.declared.outcome.Outcome.TheVariants.{Judged, Usage, ReadFault, TooLong}
-use Rattle.cfi_tool.specs.declared.verdict.Verdict.{Verdict}
-use Rattle.cfi_tool.specs.declared.verdict.Verdict.TheVariants.{Accepted, BadImage, BadGraph, Rejected}
-use Rattle.cfi_tool.specs.Command.{is_verify, image_of, graph_of}
-use Rattle.cfi_tool.specs.Lines.{verdict_line, usage_line, read_fault_line, too_long_line}
+use Rattle.cfi_tool.specs.Command.{Request, RunWords, verify, run, names_of, request_of}
+use Rattle.cfi_tool.specs.Reads.{Content, Gave, GaveIfNamed, IsLong, IsReached}
+use Rattle.cfi_tool.specs.Runs.{IsRunOf, or_empty}
 use Rattle.cfi_tool.specs.Verdict.{IsVerdictOf}
-use Rattle.rv_word.specs.declared.memory.NoMemory.{NoMemory}
-use Rattle.tool_io.specs.declared.ends.ReadEnd.{ReadEnd}
-use Rattle.tool_io.specs.declared.ends.ReadEnd.TheVariants.{Failed, TooLong as ReadLong, NoMemory as NoReadMemory}
-
--- how many bytes a file may have
-abbrev pub file_limit : ℕ
-file_limit = 2 ^ 26
-
--- a read gave these bytes: those that the file holds, where that is told
-pub record Gave (held : Option (List ℕ)) (bytes : List ℕ) : Type 0 where
-  pub all : IfSome held (λ told. bytes ≡ told)
-  pub within : length bytes ≤ file_limit
+use Rattle.cfi_tool.specs.declared.outcome.Notice.TheVariants.{Judged, BadScript, Usage, ReadFault, TooLong}
+use Rattle.cfi_tool.specs.declared.outcome.Outcome.{Outcome}
+use Rattle.cfi_tool.specs.declared.outcome.Outcome.TheVariants.{Told, Report}
+use Rattle.cfi_tool.specs.declared.ran.RunOutcome.{RunOutcome}
+use Rattle.cfi_tool.specs.declared.ran.RunOutcome.TheVariants as ran
+use Rattle.cfi_tool.specs.declared.verdict.Verdict.{Verdict}
 
 -- the two files gave an image and a graph that have this verdict
-pub record HasVerdict (content : List ℕ → Option (List ℕ)) (image graph : List ℕ) (verdict : Verdict) : Type 0 where
+pub record HasVerdict (content : Content) (image graph : List ℕ) (verdict : Verdict) : Type 0 where
   pub image_bytes : List ℕ
   pub graph_bytes : List ℕ
   pub image_gave : Gave (content image) image_bytes
   pub graph_gave : Gave (content graph) graph_bytes
   pub verdict_is : IsVerdictOf image_bytes graph_bytes verdict
 
--- the words ask for files that have this verdict
-pub record IsVerdict (content : List ℕ → Option (List ℕ)) (words : List (List ℕ)) (verdict : Verdict) : Type 0 where
-  pub asked : is_verify words ≡ true
-  pub has : HasVerdict content (image_of words) (graph_of words) verdict
+-- the files gave bytes of which the run comes to this
+pub record HasRun (content : Content) (words : RunWords) (outcome : RunOutcome) : Type 0 where
+  pub image_bytes : List ℕ
+  pub graph_bytes : List ℕ
+  pub script_bytes : Option (List ℕ)
+  pub input_bytes : Option (List ℕ)
+  pub image_gave : Gave (content words.image) image_bytes
+  pub graph_gave : Gave (content words.graph) graph_bytes
+  pub script_gave : GaveIfNamed content words.script script_bytes
+  pub input_gave : GaveIfNamed content words.input input_bytes
+  pub run_is : IsRunOf image_bytes graph_bytes script_bytes (or_empty input_bytes) words.limit outcome
 
--- files are read in the order of the words: the graph after the image gave its bytes
-abbrev pub IsReached : (List ℕ → Option (List ℕ)) → List ℕ → List ℕ → List ℕ → Type 0
-IsReached content image graph name = (name ≡ image) ⊎ ((name ≡ graph) × ((bytes : List ℕ) × Gave (content image) bytes))
+-- what an outcome says of what was asked for; `failed` is the name of the last read that failed
+abbrev pub ExplainsRequest : Content → List ℕ → Request → Outcome → Type 0
+ExplainsRequest content failed (verify image graph) (Told (Judged verdict)) = HasVerdict content image graph verdict
+ExplainsRequest content failed (run words) (Told (Judged verdict)) = HasRun content words (ran.Refused verdict)
+ExplainsRequest content failed (verify image graph) (Told (BadScript line reason)) = ⊥
+ExplainsRequest content failed (run words) (Told (BadScript line reason)) = HasRun content words (ran.BadScript line reason)
+ExplainsRequest content failed request (Told Usage) = ⊥
+ExplainsRequest content failed request (Told (ReadFault name)) = IsReached content (names_of request) name.now × (failed ≡ name.now)
+ExplainsRequest content failed request (Told (TooLong name)) = IsReached content (names_of request) name.now × IsLong (content name.now)
+ExplainsRequest content failed (verify image graph) (Report report) = ⊥
+ExplainsRequest content failed (run words) (Report report) = HasRun content words (ran.Ran report)
 
--- a word names a file, and its read is reached
-abbrev pub IsRead : (List ℕ → Option (List ℕ)) → List (List ℕ) → List ℕ → Type 0
-IsRead content words name = (is_verify words ≡ true) × IsReached content (image_of words) (graph_of words) name
-
--- a file holds more than it may, where that is told
-abbrev pub IsLong : Option (List ℕ) → Type 0
-IsLong held = IfSome held (λ bytes. file_limit < length bytes)
-
--- what an outcome says of an image and its graph; `failed` is the name of the last read that failed
-abbrev pub ExplainsPair : (List ℕ → Option (List ℕ)) → List ℕ → List ℕ → List ℕ → Outcome → Type 0
-ExplainsPair content failed image graph (Judged verdict) = HasVerdict content image graph verdict
-ExplainsPair content failed image graph Usage = ⊥
-ExplainsPair content failed image graph (ReadFault name) = IsReached content image graph name.now × (failed ≡ name.now)
-ExplainsPair content failed image graph (TooLong name) = IsReached content image graph name.now × IsLong (content name.now)
+-- the words are taken, and ask for this
+abbrev pub Asks : List (List ℕ) → (Request → Type 0) → Type 0
+Asks words holds = (request : Request) × (request_of words ≡ Some request) × holds request
 
 -- what an outcome says of the words
-abbrev pub Explains : (List ℕ → Option (List ℕ)) → List ℕ → List (List ℕ) → Outcome → Type 0
-Explains content failed words (Judged verdict) = IsVerdict content words verdict
-Explains content failed words Usage = is_verify words ≡ false
-Explains content failed words (ReadFault name) = IsRead content words name.now × (failed ≡ name.now)
-Explains content failed words (TooLong name) = IsRead content words name.now × IsLong (content name.now)
-
--- what a read that gave no bytes comes to
-abbrev pub NotRead : ReadEnd → List ℕ → Result Outcome NoMemory → Type 0
-NotRead Failed name (Ok (ReadFault other)) = other.now ≡ name
-NotRead ReadLong name (Ok (TooLong other)) = other.now ≡ name
-NotRead NoReadMemory name (Err e) = ⊤
-NotRead end name result = ⊥
+abbrev pub Explains : Content → List ℕ → List (List ℕ) → Outcome → Type 0
+Explains content failed words (Told (Judged verdict)) = Asks words (λ request. ExplainsRequest content failed request (Told (Judged verdict)))
+Explains content failed words (Told (BadScript line reason)) = Asks words (λ request. ExplainsRequest content failed request (Told (BadScript line reason)))
+Explains content failed words (Told Usage) = request_of words ≡ None
+Explains content failed words (Told (ReadFault name)) = Asks words (λ request. ExplainsRequest content failed request (Told (ReadFault name)))
+Explains content failed words (Told (TooLong name)) = Asks words (λ request. ExplainsRequest content failed request (Told (TooLong name)))
+Explains content failed words (Report report) = Asks words (λ request. ExplainsRequest content failed request (Report report))
 
 abbrev pub IsReadFault : Outcome → Type 0
-IsReadFault (Judged verdict) = ⊥
-IsReadFault Usage = ⊥
-IsReadFault (ReadFault name) = ⊤
-IsReadFault (TooLong name) = ⊥
+IsReadFault (Told (Judged verdict)) = ⊥
+IsReadFault (Told (BadScript line reason)) = ⊥
+IsReadFault (Told Usage) = ⊥
+IsReadFault (Told (ReadFault name)) = ⊤
+IsReadFault (Told (TooLong name)) = ⊥
+IsReadFault (Report report) = ⊥
 
 abbrev pub IsTooLong : Outcome → Type 0
-IsTooLong (Judged verdict) = ⊥
-IsTooLong Usage = ⊥
-IsTooLong (ReadFault name) = ⊥
-IsTooLong (TooLong name) = ⊤
-
-abbrev pub outcome_line : Outcome → List ℕ
-outcome_line (Judged verdict) = verdict_line verdict
-outcome_line Usage = usage_line
-outcome_line (ReadFault name) = read_fault_line name.now
-outcome_line (TooLong name) = too_long_line name.now
+IsTooLong (Told (Judged verdict)) = ⊥
+IsTooLong (Told (BadScript line reason)) = ⊥
+IsTooLong (Told Usage) = ⊥
+IsTooLong (Told (ReadFault name)) = ⊥
+IsTooLong (Told (TooLong name)) = ⊤
+IsTooLong (Report report) = ⊥
 
 -- some first part of a text was written, where that is told
 abbrev pub IsPart : Option (List ℕ) → Option (List ℕ) → List ℕ → Type 0
 IsPart before after text = (n : ℕ) × Appends before after (take n text)
-
-abbrev pub verdict_status : Verdict → ℕ
-verdict_status Accepted = 0
-verdict_status (BadImage refusal) = 1
-verdict_status (BadGraph line reason) = 1
-verdict_status (Rejected reject) = 1
-
-abbrev pub status_of : Outcome → ℕ
-status_of (Judged verdict) = verdict_status verdict
-status_of Usage = 2
-status_of (ReadFault name) = 3
-status_of (TooLong name) = 6

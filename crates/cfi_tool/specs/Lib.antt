@@ -1,5 +1,11 @@
 pub mod Names
 pub mod Lines
+pub mod ReportText
+pub mod Outcomes
 pub mod Verdict
 pub mod Command
+pub mod Asked
+pub mod Reads
+pub mod Runs
 pub mod Causes
+pub mod Headline

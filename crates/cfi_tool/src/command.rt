@@ -1,15 +1,16 @@
-ghost use Rattle.std.specs.Prelude.{◌≡◌, ◌≢◌, ◌⊎◌, ◌<◌, ◌≤◌, ℕ, List, false, IfOk, OnOk};
+ghost use Rattle.std.specs.Prelude.{◌≡◌, ◌≢◌, ◌⊎◌, ◌<◌, ◌≤◌, ℕ, List, None, IfOk, OnOk};
 ghost use Rattle.std.specs.Io.KnownBytes.{Appends, Keeps};
 ghost use Rattle.tool_io.specs.Faults.{Counts, Rose};
-ghost use Rattle.cfi_tool.specs.Causes.{Explains, IsReadFault, IsTooLong, IsRead, IsLong, IsVerdict, IsPart, outcome_line};
-ghost use Rattle.cfi_tool.specs.Command.{spelled, is_verify};
-ghost use Rattle.cfi_tool.specs.Lines.{with_newline, verdict_line, usage_line, read_fault_line, too_long_line};
+ghost use Rattle.cfi_tool.specs.Causes.{Explains, IsPart, IsReadFault, IsTooLong};
+ghost use Rattle.cfi_tool.specs.Command.{RunWords, request_of, run, spelled, verify};
+ghost use Rattle.cfi_tool.specs.Headline.{IsAccepted, IsRan};
+ghost use Rattle.cfi_tool.specs.Outcomes.{outcome_status, outcome_text};
 ghost use Rattle.cfi_tool.specs.declared.outcome.Outcome.{Outcome};
-ghost use Rattle.cfi_tool.specs.declared.verdict.Verdict.{Verdict};
-ghost use Rattle.cfi_tool.specs.declared.verdict.Verdict.TheVariants.{Accepted};
 
-use crate::outcome::Outcome;
-use crate::verify::verify;
+use crate::outcome::{Notice, Outcome};
+use crate::request::{Request, requested};
+use crate::run_files::run_files;
+use crate::verify::verify_files;
 use rv_word::NoMemory;
 use std::alloc::Global;
 use tool_io::{Files, OutEnd, Sink};
@@ -29,60 +30,59 @@ fn command<'a, F: Files>(
     ensures writes { F.write_faults files.new ≡ F.write_faults files.old }
     ensures kept { (name : List ℕ) → F.content files.new name ≡ F.content files.old name }
 {
-    let [_, command, image, graph] = words else {
-        return Ok(Outcome::Usage);
-    };
-    if command.as_str() != "verify" {
-        return Ok(Outcome::Usage);
+    match requested(words) {
+        None => Ok(Outcome::Told(Notice::Usage)),
+        Some(Request::Verify(image, graph)) => verify_files(alloc, image, graph, files),
+        Some(Request::Run(request)) => run_files(alloc, &request, files),
     }
-    verify(alloc, image.as_str(), graph.as_str(), files)
 }
 
-/// Puts the line of an outcome.
-fn put_line<K: Sink>(alloc: Global, outcome: &Outcome<'_>, out: &mut K) -> Result<(), OutEnd>
+/// Puts the text of an outcome.
+fn put_text<K: Sink>(alloc: Global, outcome: &Outcome<'_>, out: &mut K) -> Result<(), OutEnd>
     ensures whole { OnOk result
-        (Appends (K.written out.old) (K.written out.new) (with_newline (outcome_line outcome.now))) }
+        (Appends (K.written out.old) (K.written out.new) (outcome_text outcome.now)) }
     ensures part { result ≡ Err OutEnd.Failed
-        → IsPart (K.written out.old) (K.written out.new) (with_newline (outcome_line outcome.now)) }
+        → IsPart (K.written out.old) (K.written out.new) (outcome_text outcome.now) }
     ensures unchanged { result ≡ Err OutEnd.NoMemory → Keeps (K.written out.old) (K.written out.new) }
     ensures faults { Counts (result ≡ Err OutEnd.Failed) (K.faults out.old) (K.faults out.new) }
 {
-    let line = format!(in alloc; "{outcome}\n")?;
-    out.put(line.as_bytes())
+    let Ok(text) = outcome.text(alloc) else {
+        return Err(OutEnd::NoMemory);
+    };
+    out.put(&text)
 }
 
 /// Does what the words of a command line ask for, the program's name first, and answers the status
 /// with which the program ends: 0 where all is well, 1 where a file is refused or the image rejected,
 /// 2 where the words are not taken, 3 where a read failed, 4 where the output failed, 5 where there
-/// was no memory, and 6 where a file has more than 2^26 bytes. Its text is one line, put last.
+/// was no memory, and 6 where a file has more than 2^26 bytes; for a run also 10 where it came to a
+/// handler, 11 where it broke or a load failed, and 12 where it took as many steps as it may. Its text
+/// is put last, in one piece.
 pub fn rvcfi<F: Files, K: Sink>(alloc: Global, words: &[String], files: &mut F, out: &mut K) -> u8
-    ensures statuses { result ≤ 6 }
     ensures files_kept { (name : List ℕ) → F.content files.new name ≡ F.content files.old name }
     ensures no_write { F.write_faults files.new ≡ F.write_faults files.old }
 
-    // 0, and `accepted`.
-    ensures accepted { result ≡ 0 → IsVerdict (F.content files.old) (spelled words.now) Accepted }
-    ensures accepted_text { result ≡ 0 → Appends (K.written out.old) (K.written out.new)
-        (with_newline (verdict_line Accepted)) }
+    // All but 4 and 5: the status and the text of an outcome that has its cause.
+    ensures told { result ≢ 4 → result ≢ 5 → (outcome : Outcome)
+        × (result ≡ outcome_status outcome)
+        × Explains (F.content files.old) (F.failed_name files.new) (spelled words.now) outcome
+        × Appends (K.written out.old) (K.written out.new) (outcome_text outcome) }
 
-    // 1, and the line of another verdict.
-    ensures rejected { result ≡ 1 → (verdict : Verdict) × (verdict ≢ Accepted)
-        × IsVerdict (F.content files.old) (spelled words.now) verdict
-        × Appends (K.written out.old) (K.written out.new) (with_newline (verdict_line verdict)) }
+    // 0 of `verify`: the files spell an image and a graph that are safe.
+    ensures accepted { result ≡ 0 → (image graph : List ℕ) → request_of (spelled words.now) ≡ Some (verify image graph)
+        → (text : List ℕ) × IsAccepted (F.content files.old) image graph text × Appends (K.written out.old) (K.written out.new) text }
 
-    // 2, and the usage.
-    ensures usage { result ≡ 2 → is_verify (spelled words.now) ≡ false }
-    ensures usage_when { is_verify (spelled words.now) ≡ false
+    // 0 and from 10 on of `run`: the files spell such a pair, and the text is the report of its run.
+    ensures ran { (result ≡ 0) ⊎ (10 ≤ result) → (asks : RunWords) → request_of (spelled words.now) ≡ Some (run asks)
+        → (text : List ℕ) × IsRan (F.content files.old) asks result text × Appends (K.written out.old) (K.written out.new) text }
+
+    // 2, and no other, where the words are not taken.
+    ensures usage { result ≡ 2 → request_of (spelled words.now) ≡ None }
+    ensures usage_when { request_of (spelled words.now) ≡ None
         → (result ≡ 2) ⊎ (result ≡ 4) ⊎ (result ≡ 5) }
-    ensures usage_text { result ≡ 2 → Appends (K.written out.old) (K.written out.new)
-        (with_newline usage_line) }
 
-    // 3, and the name of the file whose read failed.
+    // 3: a read failed.
     ensures read_fault { result ≡ 3 → Rose (F.read_faults files.old) (F.read_faults files.new) }
-    ensures read_fault_name { result ≡ 3 → IsRead (F.content files.old) (spelled words.now)
-        (F.failed_name files.new) }
-    ensures read_fault_text { result ≡ 3 → Appends (K.written out.old) (K.written out.new)
-        (with_newline (read_fault_line (F.failed_name files.new))) }
     ensures read_fault_told { F.read_faults files.old < F.read_faults files.new
         → (result ≡ 3) ⊎ (result ≡ 4) ⊎ (result ≡ 5) }
 
@@ -90,24 +90,21 @@ pub fn rvcfi<F: Files, K: Sink>(alloc: Global, words: &[String], files: &mut F, 
     ensures write_fault { result ≡ 4 → Rose (K.faults out.old) (K.faults out.new) }
     ensures write_fault_text { result ≡ 4 → (outcome : Outcome)
         × Explains (F.content files.old) (F.failed_name files.new) (spelled words.now) outcome
-        × IsPart (K.written out.old) (K.written out.new) (with_newline (outcome_line outcome)) }
+        × IsPart (K.written out.old) (K.written out.new) (outcome_text outcome) }
     ensures write_fault_told { K.faults out.old < K.faults out.new → result ≡ 4 }
 
     // 5: there was no memory.
     ensures nothing_put { result ≡ 5 → Keeps (K.written out.old) (K.written out.new) }
 
-    // 6, and the name of a file that is longer than it may be.
+    // 6: a file is longer than it may be.
     ensures too_long { result ≡ 6 → Rose (F.long_reads files.old) (F.long_reads files.new) }
     ensures too_long_told { F.long_reads files.old < F.long_reads files.new
         → (result ≡ 6) ⊎ (result ≡ 4) ⊎ (result ≡ 5) }
-    ensures too_long_text { result ≡ 6 → (name : List ℕ) × IsLong (F.content files.old name)
-        × IsRead (F.content files.old) (spelled words.now) name
-        × Appends (K.written out.old) (K.written out.new) (with_newline (too_long_line name)) }
 {
     let Ok(outcome) = command(alloc, words, files) else {
         return 5;
     };
-    match put_line(alloc, &outcome, out) {
+    match put_text(alloc, &outcome, out) {
         Ok(()) => outcome.status(),
         Err(OutEnd::Failed) => 4,
         Err(OutEnd::NoMemory) => 5,

@@ -9,7 +9,10 @@ mod address;
 mod check;
 mod command;
 mod outcome;
-#[cfg(test)]
-mod tests;
+mod ran;
+mod read;
+mod report;
+mod request;
+mod run_files;
 mod verdict;
 mod verify;

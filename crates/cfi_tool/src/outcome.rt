@@ -1,12 +1,21 @@
-ghost use Rattle.std.specs.Prelude.{◌≡◌};
+ghost use Rattle.std.specs.Prelude.{◌≡◌, IfOk};
+ghost use Rattle.cfi_tool.specs.Lines.{with_newline};
+ghost use Rattle.cfi_tool.specs.Outcomes.{notice_line, notice_status, outcome_status, outcome_text};
 
-use crate::verdict::Verdict;
+use crate::report::{end_status, report_text};
+use crate::verdict::{Verdict, reason_name};
+use cfi_graph::Reason;
+use cfi_step::RunReport;
+use rv_word::NoMemory;
+use std::alloc::Global;
 use std::fmt;
 
-/// What a command comes to.
-#[derive(Drop)]
-pub(crate) enum Outcome<'a> {
+/// What is told in one line.
+#[derive(Clone, Copy)]
+pub(crate) enum Notice<'a> {
     Judged(Verdict),
+    /// The script is none: the first line that fails, from 1.
+    BadScript(u64, Reason),
     /// The words are none that are taken.
     Usage,
     /// The read of the file of this name failed.
@@ -15,35 +24,74 @@ pub(crate) enum Outcome<'a> {
     TooLong(&'a str),
 }
 
-impl Outcome<'_> {
-    ghost use Rattle.cfi_tool.specs.Causes.{status_of};
+/// What a command comes to.
+#[derive(Drop)]
+pub(crate) enum Outcome<'a> {
+    Told(Notice<'a>),
+    Report(RunReport),
+}
 
-    /// The status with which the program ends, where its line was put.
-    pub(crate) fn status(&self) -> u8
-        ensures { result ≡ status_of self.now }
+impl Notice<'_> {
+    fn status(&self) -> u8
+        ensures { result ≡ notice_status self.now }
     {
         match self {
-            Outcome::Judged(Verdict::Accepted) => 0,
-            Outcome::Judged(_) => 1,
-            Outcome::Usage => 2,
-            Outcome::ReadFault(_) => 3,
-            Outcome::TooLong(_) => 6,
+            Notice::Judged(Verdict::Accepted) => 0,
+            Notice::Judged(_) => 1,
+            Notice::BadScript(..) => 1,
+            Notice::Usage => 2,
+            Notice::ReadFault(_) => 3,
+            Notice::TooLong(_) => 6,
         }
     }
 }
 
-impl fmt::Display for Outcome<'_> {
+impl fmt::Display for Notice<'_> {
     ghost use Rattle.std.specs.Prelude.{Some};
-    ghost use Rattle.cfi_tool.specs.Causes.{outcome_line};
+    ghost use Rattle.cfi_tool.specs.Outcomes.{notice_line};
 
-    ghost output = { λ outcome. Some (outcome_line outcome) };
+    ghost output = { λ notice. Some (notice_line notice) };
 
     fn fmt<W: fmt::Write>(&self, f: &mut fmt::Formatter<W>) -> fmt::Result {
         match self {
-            Outcome::Judged(verdict) => write!(f, "{verdict}"),
-            Outcome::Usage => write!(f, "usage: rvcfi rewrite|verify|run|compare|demo"),
-            Outcome::ReadFault(name) => write!(f, "read fault {name}"),
-            Outcome::TooLong(name) => write!(f, "too long {name}"),
+            Notice::Judged(verdict) => write!(f, "{verdict}"),
+            Notice::BadScript(line, reason) => {
+                let reason = reason_name(*reason);
+                write!(f, "refused 25 Script {line} {reason}")
+            }
+            Notice::Usage => write!(f, "usage: rvcfi rewrite|verify|run|compare|demo"),
+            Notice::ReadFault(name) => write!(f, "read fault {name}"),
+            Notice::TooLong(name) => write!(f, "too long {name}"),
+        }
+    }
+}
+
+/// The line of a notice.
+fn notice_text(alloc: Global, notice: &Notice<'_>) -> Result<Vec<u8>, NoMemory>
+    ensures { IfOk result (λ text. text.items ≡ with_newline (notice_line notice.now)) }
+{
+    let line = format!(in alloc; "{notice}\n")?;
+    Ok(line.into_bytes())
+}
+
+impl Outcome<'_> {
+    /// The status with which the program ends, where its text was put.
+    pub(crate) fn status(&self) -> u8
+        ensures { result ≡ outcome_status self.now }
+    {
+        match self {
+            Outcome::Told(notice) => notice.status(),
+            Outcome::Report(report) => end_status(report.end),
+        }
+    }
+
+    /// The text that is put.
+    pub(crate) fn text(&self, alloc: Global) -> Result<Vec<u8>, NoMemory>
+        ensures { IfOk result (λ text. text.items ≡ outcome_text self.now) }
+    {
+        match self {
+            Outcome::Told(notice) => notice_text(alloc, notice),
+            Outcome::Report(report) => report_text(alloc, report),
         }
     }
 }

@@ -18,7 +18,7 @@ pub enum Verdict {
     Rejected(Reject),
 }
 
-fn reason_name(reason: Reason) -> &'static str
+pub(crate) fn reason_name(reason: Reason) -> &'static str
     ensures { result.now ≡ reason_name reason }
 {
     match reason {
