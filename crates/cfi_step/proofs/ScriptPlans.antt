@@ -1,5 +1,5 @@
 -- The changes of one step stand together, since step numbers do not fall.
-use Rattle.std.proofs.Common.{◌≡◌, ℕ, ◌+◌, ◌<◌, ◌≤◌, ◌==◌, Bool, true, false, List, [], ◌∷◌, ◌++◌, length, get_or, drop, take, map, nat_lt, inl, inr, zero, suc, codes, Option, Some, None, Result, Ok, Err, refl, sym, ap, ◌∙◌, arith}
+use Rattle.std.proofs.Common.{◌≡◌, ℕ, ◌+◌, ◌<◌, ◌≤◌, ◌==◌, false, List, [], ◌∷◌, ◌++◌, length, get_or, drop, take, nat_lt, inl, inr, zero, suc, codes, Option, Some, None, Result, Ok, Err, refl, sym, ap, ◌∙◌, arith}
 use Rattle.std.specs.List.{All, filter}
 use Rattle.std.proofs.lemmas.Bool.{cases_Bool, ltb-false, ne_eqb}
 use Rattle.std.proofs.lemmas.List.{append-nil, get_or_default, get_or-drop, get_or-take, length-drop, length-take, take-append-drop}
@@ -8,11 +8,8 @@ use Rattle.std.specs.Str.{bytes_eq}
 use Rattle.cfi_graph.specs.Lines.{words_of}
 use Rattle.cfi_step.specs.declared.script_end.ScriptEnd.{ScriptEnd}
 use Rattle.cfi_step.specs.declared.script_line.ScriptLine.{ScriptLine}
-use Rattle.cfi_step.specs.Script.{IsScript}
+use Rattle.cfi_step.specs.Script.{Changes, IsScript}
 use Rattle.cfi_step.specs.ScriptText.{at_end, body, changes_from, changes_of, checked, in_range, line_of, with_front, with_line}
-
-abbrev Changes : Type 0
-Changes = List (ℕ × (ℕ × ℕ))
 
 abbrev of_step : ℕ → Changes → Changes
 of_step step changes = filter (λ c. c.0 == step) changes

@@ -1,6 +1,6 @@
 -- The lines of a script's text, one step of their reading at a time. `all` is what the whole text
 -- gives, `front` the changes of the lines before this one.
-use Rattle.std.proofs.Common.{◌≡◌, ℕ, ◌+◌, ◌<◌, ◌≤◌, true, false, List, [], ◌∷◌, ◌++◌, codes, length, get_or, drop, Option, Some, Result, Ok, Err, refl, sym, ◌∙◌, ap, append_assoc, arith}
+use Rattle.std.proofs.Common.{◌≡◌, ℕ, ◌+◌, ◌<◌, ◌≤◌, true, false, List, [], ◌∷◌, ◌++◌, codes, length, get_or, drop, Result, Ok, Err, refl, sym, ◌∙◌, ap, append_assoc}
 use Rattle.std.specs.Str.{bytes_eq}
 use Rattle.std.proofs.lemmas.List.{append-nil, drop_all, drop_more}
 use Rattle.cfi_graph.specs.declared.end.Reason.TheVariants.{Form}
@@ -9,10 +9,8 @@ use Rattle.cfi_graph.proofs.Steps.{nothing_after, some_line}
 use Rattle.cfi_step.specs.declared.script_end.ScriptEnd.{ScriptEnd}
 use Rattle.cfi_step.specs.declared.script_end.ScriptEnd.TheVariants.{Line, NoMemory}
 use Rattle.cfi_step.specs.declared.script_line.ScriptLine.{ScriptLine}
+use Rattle.cfi_step.specs.Script.{Changes}
 use Rattle.cfi_step.specs.ScriptText.{Answers, at_end, body, changes_from, changes_of, checked, from_lines, line_of, with_front}
-
-abbrev Changes : Type 0
-Changes = List (ℕ × (ℕ × ℕ))
 
 at_end-other : (number : ℕ) (lines : List (List ℕ)) → (lines ≡ [] ∷ [] → ⊥) → at_end number lines ≡ Err (Line number Form)
 at_end-other number [] ne = refl
