@@ -14,7 +14,7 @@ use Rattle.cfi_graph.specs.Graph.{GraphParts}
 use Rattle.cfi_verify.specs.Laws.{SafeStaysInPlace}
 use Rattle.cfi_verify.specs.Split.{code_words, place_at}
 use Rattle.cfi_verify.specs.Trails.{newest_of, trail_of}
-use Rattle.cfi_verify.specs.Walks.{if_starts, walk_of} 
+use Rattle.cfi_verify.specs.Walks.{if_starts, walk_of}
 use Rattle.cfi_verify.specs.Walks as walks
 use Rattle.cfi_step.specs.Plan.{Plan, changes_of, if_ran, numbered, planned}
 use Rattle.cfi_step.specs.Report.{end_of, break_at}
@@ -252,4 +252,4 @@ pub begins : (image : Contents) (graph : GraphParts) (input : List ℕ) (running
     → hart_in running.machine ≡ start_hart → shared_in running.machine ≡ start_shared image input → running.made ≡ [] → IsTrailOf [] running.trail → IsBegun image running
 begins image graph input running law safe hart shared made empty =
     let stays : StaysFrom image 0 start_hart (start_shared image input) = λ changes all. law image graph input changes safe all in
-    record { made = made; trail = empty; stays = (0, rw (hart, shared) stays); }
+    record { made = made; trail = empty; stays = (0, rw (hart, shared) stays) }

@@ -104,8 +104,8 @@ again p plan (suc n) k h s front before =
     let inner = again p plan n (k + 1) after.hart after.shared (front ++ map (λ c. (k, c)) cs) (before_both k front cs before) in
     first p (script_plan all) n k h s cs (here k front cs (if_ran after.turn later) before)
     ∙ ap (λ rest. cs ∷ rest)
-      (if_both after.turn (planned p (script_plan all) (k + 1) after.hart after.shared n) later
-        (λ ran. ap (λ changes. planned p (script_plan changes) (k + 1) after.hart after.shared n) (all_ran k front cs after.turn later ran) ∙ inner))
+    (if_both after.turn (planned p (script_plan all) (k + 1) after.hart after.shared n) later
+    (λ ran. ap (λ changes. planned p (script_plan changes) (k + 1) after.hart after.shared n) (all_ran k front cs after.turn later ran) ∙ inner))
 
 -- the changes that a plan made lead to a run under the same changes
 pub replays : (p : Profile) (plan : Plan) (limit : ℕ) (h : Hart) (s : Shared) → planned p (script_plan (numbered 0 (planned p plan 0 h s limit))) 0 h s limit ≡ planned p plan 0 h s limit

@@ -1,18 +1,16 @@
 -- The words of a script's line: numbers in decimal, pairs of hexadecimal digits, and their count.
-use Rattle.std.proofs.Common.{◌≡◌, ℕ, ◌+◌, ◌-◌, ◌*◌, ◌<◌, ◌≤◌, ◌==◌, ◌%◌, nat_le, nat_lt, Bool, true, false, ◌&&◌, ◌||◌, inl, inr, if◌then◌else◌, List, [], ◌∷◌, length, get_or, drop, min, codes, Option, Some, None, Result, Ok, Err, refl, sym, ap, ◌∙◌, arith}
+use Rattle.std.proofs.Common.{◌≡◌, ℕ, ◌+◌, ◌*◌, ◌<◌, ◌≤◌, ◌==◌, ◌%◌, nat_le, nat_lt, true, false, ◌&&◌, inl, inr, List, [], ◌∷◌, length, get_or, drop, min, Option, Some, None, Result, Ok, Err, refl, sym, ap, ◌∙◌, arith}
 use Rattle.std.specs.List.{list_any, slice_split}
 use Rattle.std.specs.Option.{option_map, option_and_then}
 use Rattle.std.specs.Result.{result_ok}
-use Rattle.std.proofs.lemmas.Bool.{and_parts, cases_Bool, lt-ltb, eq-eqb, eqb-false, eqb-true, leb-true, or_parts}
+use Rattle.std.proofs.lemmas.Bool.{and_parts, cases_Bool, lt-ltb, eqb-true, leb-true, or_parts}
 use Rattle.std.proofs.lemmas.List.{drop_all, drop_more}
 use Rattle.hex.specs.Hex.{decode_of, decode_pairs, digit_or_error, hex_digit_value, ◌>>=◌}
 use Rattle.hex.specs.declared.error.FromHexError.{FromHexError}
-use Rattle.hex.specs.declared.error.FromHexError.TheVariants.{OddLength}
 use Rattle.cfi_graph.specs.Lines.{digit_value, hex}
 use Rattle.cfi_graph.proofs.LineForms.{some_part}
 use Rattle.rv_word.specs.Layout.{DATA_END}
 use Rattle.cfi_graph.specs.declared.end.Reason.TheVariants.{Form, Range, Order}
-use Rattle.cfi_step.specs.declared.script_end.ScriptEnd.{ScriptEnd}
 use Rattle.cfi_step.specs.declared.script_end.ScriptEnd.TheVariants.{Line}
 use Rattle.cfi_step.specs.declared.script_line.ScriptLine.{ScriptLine}
 use Rattle.cfi_step.specs.ScriptNumbers.{capped, capped_line, is_capital}

@@ -1,5 +1,5 @@
 -- The changes of one step stand together, since step numbers do not fall.
-use Rattle.std.proofs.Common.{◌≡◌, ℕ, ◌+◌, ◌<◌, ◌≤◌, ◌==◌, Bool, true, false, List, [], ◌∷◌, ◌++◌, length, get_or, drop, take, map, nat_lt, inl, inr, zero, suc, codes, Option, Some, None, Result, Ok, Err, refl, sym, ap, ◌∙◌, arith}
+use Rattle.std.proofs.Common.{◌≡◌, ℕ, ◌+◌, ◌<◌, ◌≤◌, ◌==◌, false, List, [], ◌∷◌, ◌++◌, length, get_or, drop, take, nat_lt, inl, inr, zero, suc, codes, Option, Some, None, Result, Ok, Err, refl, sym, ap, ◌∙◌, arith}
 use Rattle.std.specs.List.{All, filter}
 use Rattle.std.proofs.lemmas.Bool.{cases_Bool, ltb-false, ne_eqb}
 use Rattle.std.proofs.lemmas.List.{append-nil, get_or_default, get_or-drop, get_or-take, length-drop, length-take, take-append-drop}
@@ -8,11 +8,8 @@ use Rattle.std.specs.Str.{bytes_eq}
 use Rattle.cfi_graph.specs.Lines.{words_of}
 use Rattle.cfi_step.specs.declared.script_end.ScriptEnd.{ScriptEnd}
 use Rattle.cfi_step.specs.declared.script_line.ScriptLine.{ScriptLine}
-use Rattle.cfi_step.specs.Script.{IsScript}
-use Rattle.cfi_step.specs.ScriptText.{at_end, body, changes_from, changes_of, checked, in_range, line_of, with_front, with_line}
-
-abbrev pub Changes : Type 0
-Changes = List (ℕ × (ℕ × ℕ))
+use Rattle.cfi_step.specs.Script.{Changes, IsScript}
+use Rattle.cfi_step.specs.ScriptText.{at_end, body, changes_from, line_changes, checked, in_range, line_of, with_front, with_line}
 
 abbrev of_step : ℕ → Changes → Changes
 of_step step changes = filter (λ c. c.0 == step) changes
@@ -91,12 +88,12 @@ in_order before number (Some m) l e =
       | inr outside ↦ cc (rw outside at e)
     ]
 
-fronted : (before : ℕ) (l : ScriptLine) (others : Result Changes ScriptEnd) (changes : Changes) → before ≤ l.step → ((rest : Changes) → others ≡ Ok rest → IsFrom l.step rest) → with_front (changes_of l) others ≡ Ok changes → IsFrom before changes
+fronted : (before : ℕ) (l : ScriptLine) (others : Result Changes ScriptEnd) (changes : Changes) → before ≤ l.step → ((rest : Changes) → others ≡ Ok rest → IsFrom l.step rest) → with_front (line_changes l) others ≡ Ok changes → IsFrom before changes
 fronted before l (Err fault) changes up rest e = cc e
 fronted before l (Ok ls) changes up rest e =
-    let same : changes_of l ++ ls ≡ changes = cc e in
+    let same : line_changes l ++ ls ≡ changes = cc e in
     let from = line_first l.step l.address l.bytes ls (rest ls refl) in
-    let all : All (λ c. before ≤ c.0) (changes_of l ++ ls) = λ k d q. let at = from.1 k d q in omega (arith, at, up) in
+    let all : All (λ c. before ≤ c.0) (line_changes l ++ ls) = λ k d q. let at = from.1 k d q in omega (arith, at, up) in
     rw (← same) (from.0, all)
 
 lined : (before number : ℕ) (o : Option ScriptLine) (r : Result ScriptLine ScriptEnd) (others : ScriptLine → Result Changes ScriptEnd) (changes : Changes) → checked before number o ≡ r → ((l : ScriptLine) (rest : Changes) → others l ≡ Ok rest → IsFrom l.step rest) → with_line r others ≡ Ok changes → IsFrom before changes

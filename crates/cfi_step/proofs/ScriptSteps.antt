@@ -1,6 +1,6 @@
 -- The lines of a script's text, one step of their reading at a time. `all` is what the whole text
 -- gives, `front` the changes of the lines before this one.
-use Rattle.std.proofs.Common.{◌≡◌, ℕ, ◌+◌, ◌<◌, ◌≤◌, true, false, List, [], ◌∷◌, ◌++◌, codes, length, get_or, drop, Option, Some, Result, Ok, Err, refl, sym, ◌∙◌, ap, append_assoc, arith}
+use Rattle.std.proofs.Common.{◌≡◌, ℕ, ◌+◌, ◌<◌, ◌≤◌, true, false, List, [], ◌∷◌, ◌++◌, codes, length, get_or, drop, Result, Ok, Err, refl, sym, ◌∙◌, ap, append_assoc}
 use Rattle.std.specs.Str.{bytes_eq}
 use Rattle.std.proofs.lemmas.List.{append-nil, drop_all, drop_more}
 use Rattle.cfi_graph.specs.declared.end.Reason.TheVariants.{Form}
@@ -9,10 +9,8 @@ use Rattle.cfi_graph.proofs.Steps.{nothing_after, some_line}
 use Rattle.cfi_step.specs.declared.script_end.ScriptEnd.{ScriptEnd}
 use Rattle.cfi_step.specs.declared.script_end.ScriptEnd.TheVariants.{Line, NoMemory}
 use Rattle.cfi_step.specs.declared.script_line.ScriptLine.{ScriptLine}
-use Rattle.cfi_step.specs.ScriptText.{Answers, at_end, body, changes_from, changes_of, checked, from_lines, line_of, with_front}
-
-abbrev Changes : Type 0
-Changes = List (ℕ × (ℕ × ℕ))
+use Rattle.cfi_step.specs.Script.{Changes}
+use Rattle.cfi_step.specs.ScriptText.{Answers, at_end, body, changes_from, line_changes, checked, from_lines, line_of, with_front}
 
 at_end-other : (number : ℕ) (lines : List (List ℕ)) → (lines ≡ [] ∷ [] → ⊥) → at_end number lines ≡ Err (Line number Form)
 at_end-other number [] ne = refl
@@ -41,13 +39,13 @@ module _ (before : ℕ) (number : ℕ) (front : Changes) where
       some_line next (λ part parts q. sym (rw (p, q, e, a) at h))
   bad_line NoMemory next p e a h = tt
 
-  pub good_line : (next : List ℕ) (l : ScriptLine) {parts : List (List ℕ)} {line : List ℕ} {all : Result Changes ScriptEnd} → parts ≡ line ∷ lines_of next → bytes_eq line (codes "end") ≡ false → checked before number (line_of (words_of line)) ≡ Ok l → with_front front (body before number parts) ≡ all → with_front (front ++ changes_of l) (body l.step (number + 1) (lines_of next)) ≡ all
+  pub good_line : (next : List ℕ) (l : ScriptLine) {parts : List (List ℕ)} {line : List ℕ} {all : Result Changes ScriptEnd} → parts ≡ line ∷ lines_of next → bytes_eq line (codes "end") ≡ false → checked before number (line_of (words_of line)) ≡ Ok l → with_front front (body before number parts) ≡ all → with_front (front ++ line_changes l) (body l.step (number + 1) (lines_of next)) ≡ all
   unfolding body
   good_line next l {all} p e a h =
       some_line next (λ part parts q. rw q (again (body l.step (number + 1) (part ∷ parts)) (rw (p, q, e, a) at h)))
     where
-      again : (others : Result Changes ScriptEnd) → with_front front (with_front (changes_of l) others) ≡ all → with_front (front ++ changes_of l) others ≡ all
-      again (Ok ls) k = ap Ok (append_assoc front (changes_of l) ls) ∙ k
+      again : (others : Result Changes ScriptEnd) → with_front front (with_front (line_changes l) others) ≡ all → with_front (front ++ line_changes l) others ≡ all
+      again (Ok ls) k = ap Ok (append_assoc front (line_changes l) ls) ∙ k
       again (Err fault) k = k
 
 module _ {parts : List (List ℕ)} {line : List ℕ} where

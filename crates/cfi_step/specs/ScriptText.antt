@@ -7,6 +7,7 @@ use Rattle.std.specs.Str.{bytes_eq}
 use Rattle.rv_word.specs.Layout.{DATA_END}
 use Rattle.cfi_graph.specs.declared.end.Reason.TheVariants.{Form, Range, Order}
 use Rattle.cfi_graph.specs.Lines.{digit_value, hex, lines_of, words_of}
+use Rattle.cfi_step.specs.Script.{Changes}
 use Rattle.cfi_step.specs.declared.script_end.ScriptEnd.{ScriptEnd}
 use Rattle.cfi_step.specs.declared.script_end.ScriptEnd.TheVariants.{Line, NoMemory}
 use Rattle.cfi_step.specs.declared.script_line.ScriptLine.{ScriptLine}
@@ -67,30 +68,30 @@ checked before number (Some line) =
     if nat_lt line.step before then Err (Line number Order) else Ok line
 
 -- bytes from an address on, each changed after `step` steps
-unfoldable pub changes_from : ℕ → ℕ → List ℕ → List (ℕ × (ℕ × ℕ))
+unfoldable pub changes_from : ℕ → ℕ → List ℕ → Changes
 changes_from step address [] = []
 changes_from step address (byte ∷ rest) = (step, (address, byte)) ∷ changes_from step (address + 1) rest
 
-abbrev pub changes_of : ScriptLine → List (ℕ × (ℕ × ℕ))
-changes_of line = changes_from line.step line.address line.bytes
+abbrev pub line_changes : ScriptLine → Changes
+line_changes line = changes_from line.step line.address line.bytes
 
 -- changes with others before them
-abbrev pub with_front : List (ℕ × (ℕ × ℕ)) → Result (List (ℕ × (ℕ × ℕ))) ScriptEnd → Result (List (ℕ × (ℕ × ℕ))) ScriptEnd
+abbrev pub with_front : Changes → Result Changes ScriptEnd → Result Changes ScriptEnd
 with_front front (Ok changes) = Ok (front ++ changes)
 with_front front (Err fault) = Err fault
 
 -- the changes of a line and of those after it
-abbrev pub with_line : Result ScriptLine ScriptEnd → (ScriptLine → Result (List (ℕ × (ℕ × ℕ))) ScriptEnd) → Result (List (ℕ × (ℕ × ℕ))) ScriptEnd
-with_line (Ok line) others = with_front (changes_of line) (others line)
+abbrev pub with_line : Result ScriptLine ScriptEnd → (ScriptLine → Result Changes ScriptEnd) → Result Changes ScriptEnd
+with_line (Ok line) others = with_front (line_changes line) (others line)
 with_line (Err fault) others = Err fault
 
 -- nothing stands after the last line's newline
-abbrev pub at_end : ℕ → List (List ℕ) → Result (List (ℕ × (ℕ × ℕ))) ScriptEnd
+abbrev pub at_end : ℕ → List (List ℕ) → Result Changes ScriptEnd
 at_end number ([] ∷ []) = Ok []
 at_end number lines = Err (Line number Form)
 
 -- the lines from the one with this number on; `end` is the last, and each has a newline
-unfoldable pub body : ℕ → ℕ → List (List ℕ) → Result (List (ℕ × (ℕ × ℕ))) ScriptEnd
+unfoldable pub body : ℕ → ℕ → List (List ℕ) → Result Changes ScriptEnd
 body before number [] = Err (Line number Form)
 body before number (line ∷ []) = Err (Line number Form)
 body before number (line ∷ next ∷ rest) =
@@ -98,13 +99,14 @@ body before number (line ∷ next ∷ rest) =
     with_line (checked before number (line_of (words_of line)))
     (λ l. body l.step (number + 1) (next ∷ rest))
 
-unfoldable pub from_lines : List (List ℕ) → Result (List (ℕ × (ℕ × ℕ))) ScriptEnd
+-- the first line names the format; any step may come first, since none is below 0
+unfoldable pub from_lines : List (List ℕ) → Result Changes ScriptEnd
 from_lines (line ∷ next ∷ rest) =
     if bytes_eq line (codes "rvcfi-script 1") then body 0 2 (next ∷ rest) else Err (Line 1 Form)
 from_lines lines = Err (Line 1 Form)
 
--- what a text is read as; no line has a step below that of the first line, which is 0 or more
-unfoldable pub script_of : List ℕ → Result (List (ℕ × (ℕ × ℕ))) ScriptEnd
+-- what a text is read as
+unfoldable pub script_of : List ℕ → Result Changes ScriptEnd
 script_of text = from_lines (lines_of text)
 
 -- an answer is the right one; only want of memory is free

@@ -72,7 +72,7 @@ pub fn run<M: Meddler>(
     // The walk of that run is a list of steps of the graph walk.
     ensures walk { OnOk result (IsGraphWalk version_1 (code_words checked.now.image.code) checked.now.graph.lines
         (walk_of version_1 (code_words checked.now.image.code) start_hart (start_shared checked.now.image input.now)
-            (map changes_of (planned version_1 (M.plan meddler.old) 0 start_hart (start_shared checked.now.image input.now) limit)))) }
+        (map changes_of (planned version_1 (M.plan meddler.old) 0 start_hart (start_shared checked.now.image input.now) limit)))) }
 {
     checked.is_safe();
     safe_stays_in_place();

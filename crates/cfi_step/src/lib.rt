@@ -15,6 +15,8 @@ mod hostile;
 mod meddler;
 mod record;
 mod report;
+#[cfg(test)]
+mod run_tests;
 mod running;
 mod script;
 mod script_end;

@@ -94,7 +94,7 @@ impl Running {
         requires { self.old.trail.count + 1 < 2 ^ 64 }
         ensures stepped { IfOk result (λ turn. after_step self.new.machine turn
             ≡ disturbed_step version_1 (hart_in self.old.machine) (shared_in self.old.machine)
-                (changes_of (M.plan meddler.old step (hart_in self.old.machine) (shared_in self.old.machine)))) }
+            (changes_of (M.plan meddler.old step (hart_in self.old.machine) (shared_in self.old.machine)))) }
         ensures allowed { OnOk result (AllByRecursion IsDataChange
             (changes_of (M.plan meddler.old step (hart_in self.old.machine) (shared_in self.old.machine)))) }
         ensures made { OnOk result (self.new.made ≡ self.old.made ++ map (λ c. (step, c))
@@ -113,13 +113,13 @@ impl Running {
     /// The report, of a run that ended so after this many steps.
     pub(crate) fn into_report(self, end: RunEnd, steps: u64) -> RunReport
         ensures { result ≡ record {
-            end = end;
-            steps = steps;
-            output = self.machine.calls.output;
-            events = self.machine.calls.events;
-            made = self.made;
-            walk = self.trail.count;
-            trail = self.trail.last;
+          end = end;
+          steps = steps;
+          output = self.machine.calls.output;
+          events = self.machine.calls.events;
+          made = self.made;
+          walk = self.trail.count;
+          trail = self.trail.last;
         } }
     {
         let (output, events) = self.machine.into_results();

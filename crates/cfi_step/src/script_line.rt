@@ -13,7 +13,7 @@ use std::alloc::Global;
 pub(crate) const MAX_STEP: u64 = 1_000_000_000;
 
 /// A line of a script: the number of steps taken before it, and bytes from an address on.
-#[derive(Debug, Drop)]
+#[derive(Drop)]
 pub(crate) struct ScriptLine {
     pub(crate) step: u64,
     pub(crate) address: u32,

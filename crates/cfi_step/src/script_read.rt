@@ -2,7 +2,7 @@ ghost use Rattle.std.specs.Prelude.{◌≡◌, ◌++◌, Bool, true, IfOk, OnOk}
 ghost use Rattle.cfi_graph.specs.Lines.{lines_of, words_of};
 ghost use Rattle.cfi_step.specs.Script.{IsScript};
 ghost use Rattle.cfi_step.specs.ScriptNumbers.{};
-ghost use Rattle.cfi_step.specs.ScriptText.{Answers, body, changes_of, checked, in_range, line_of, script_of};
+ghost use Rattle.cfi_step.specs.ScriptText.{Answers, body, line_changes, checked, in_range, line_of, script_of};
 
 use crate::script::Script;
 use crate::script_end::ScriptEnd;
@@ -43,7 +43,7 @@ fn checked(alloc: Global, before: u64, number: u64, line: &[u8]) -> Result<Scrip
 /// Adds the changes of a line.
 fn push_line(changes: &mut Vec<(u64, Change)>, line: &ScriptLine) -> Result<(), NoMemory>
     requires { in_range line.now ≡ true }
-    ensures { OnOk result (changes.new.items ≡ changes.old.items ++ changes_of line.now) }
+    ensures { OnOk result (changes.new.items ≡ changes.old.items ++ line_changes line.now) }
 {
     let mut address = u64::from(line.address);
     for byte in line.bytes.as_slice() {

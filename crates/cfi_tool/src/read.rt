@@ -20,11 +20,7 @@ pub(crate) enum Unread<'a> {
 }
 
 /// The bytes of a file.
-fn read<'a, F: Files>(
-    alloc: Global,
-    name: &'a str,
-    files: &mut F,
-) -> Result<Vec<u8>, Unread<'a>>
+fn read<'a, F: Files>(alloc: Global, name: &'a str, files: &mut F) -> Result<Vec<u8>, Unread<'a>>
     ensures gave { IfOk result (λ v. Gave (F.content files.old name.now) v.items) }
     ensures unread { IfErr result (IsUnread (F.content files.old) (F.failed_name files.new) (name.now ∷ [])) }
     ensures reads { Counts (IsFault result) (F.read_faults files.old) (F.read_faults files.new) }

@@ -63,7 +63,11 @@ fn steps(word: &str) -> Option<u64>
         return None;
     }
     let steps = number(digits)?;
-    if steps <= MOST_STEPS { Some(steps) } else { None }
+    if steps <= MOST_STEPS {
+        Some(steps)
+    } else {
+        None
+    }
 }
 
 /// What the words ask for, if they are taken.

@@ -30,7 +30,7 @@ loop-steps-preserved g c =
       plan = c.in_ok-turn.ensures.kept ∙ c.loop-steps.invariant.plan;
       stays = stays_next c.args.checked.now.image _ _ _ c.loop-steps.invariant.stays.0 c.loop-steps.invariant.stays.1 allowed _ stepped goes;
       continues = next c.args.checked.now.image _ _ _ _ _ (c.args.limit - (c.loop-steps.steps + 1)) _ _ _ _ c.args.limit (omega (arith, c.loop-steps-test.true)) _ stepped goes c.turn.new.self.made c.turn.new.self.trail
-        c.loop-steps.invariant.continues made c.in_ok-turn.ensures.trail allowed;
+          c.loop-steps.invariant.continues made c.in_ok-turn.ensures.trail allowed;
     }
 
 pub returns : goal.returns

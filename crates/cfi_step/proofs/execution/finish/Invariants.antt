@@ -14,10 +14,10 @@ invariant-loop-steps g l = record {
   plan : g.M.Meddler.plan l.meddler ≡ g.M.Meddler.plan l.initial.meddler;
   stays : (newest : ℕ) × StaysFrom l.checked.image newest (hart_in l.running.machine) (shared_in l.running.machine);
   continues : Continues l.checked.image (hart_in l.initial.running.machine) (shared_in l.initial.running.machine)
-    (planned version_1 (g.M.Meddler.plan l.initial.meddler) 0 (hart_in l.initial.running.machine) (shared_in l.initial.running.machine) l.limit)
-    l.steps (hart_in l.running.machine) (shared_in l.running.machine)
-    (planned version_1 (g.M.Meddler.plan l.initial.meddler) l.steps (hart_in l.running.machine) (shared_in l.running.machine) (l.limit - l.steps))
-    l.running.made l.running.trail;
+      (planned version_1 (g.M.Meddler.plan l.initial.meddler) 0 (hart_in l.initial.running.machine) (shared_in l.initial.running.machine) l.limit)
+      l.steps (hart_in l.running.machine) (shared_in l.running.machine)
+      (planned version_1 (g.M.Meddler.plan l.initial.meddler) l.steps (hart_in l.running.machine) (shared_in l.running.machine) (l.limit - l.steps))
+      l.running.made l.running.trail;
 }
 
 abbrev pub decreases-loop-steps : goal.decreases-loop-steps

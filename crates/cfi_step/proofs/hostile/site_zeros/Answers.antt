@@ -13,7 +13,7 @@ pub returns : goal.returns
 returns c =
     elim c.loop-left-test.branch [
       | then-loop-left-test+else-address w ↦
-        sym (past_end (memory_of c.args.memory.now) c.args.sites.now c.loop-left.zeros.items c.loop-left.address c.loop-left.left (omega (arith, w.if-address))) ∙ c.loop-left.invariant
+          sym (past_end (memory_of c.args.memory.now) c.args.sites.now c.loop-left.zeros.items c.loop-left.address c.loop-left.left (omega (arith, w.if-address))) ∙ c.loop-left.invariant
       | else-loop-left-test w ↦
-        sym (none_left (memory_of c.args.memory.now) c.args.sites.now c.loop-left.zeros.items c.loop-left.address c.loop-left.left (omega (arith, w.loop-left-test))) ∙ c.loop-left.invariant
+          sym (none_left (memory_of c.args.memory.now) c.args.sites.now c.loop-left.zeros.items c.loop-left.address c.loop-left.left (omega (arith, w.loop-left-test))) ∙ c.loop-left.invariant
     ]

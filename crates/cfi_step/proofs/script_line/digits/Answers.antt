@@ -1,4 +1,4 @@
-use Rattle.std.proofs.Common.{◌∙◌, ◌+◌, ap, arith, drop, sym}
+use Rattle.std.proofs.Common.{◌∙◌, ap, arith, sym}
 use Rattle.std.specs.Option.{option_map}
 use Rattle.cfi_step.specs.ScriptNumbers.{capped}
 use Rattle.cfi_step.proofs.ScriptDigits.{bad_decimal, next_decimal, no_decimal}

@@ -1,4 +1,4 @@
-use Rattle.std.proofs.Common.{◌∙◌, ◌+◌, ◌<◌, ◌≡◌, ap, arith, get_or, length}
+use Rattle.std.proofs.Common.{◌+◌, ◌<◌, ◌≡◌, ap, arith, get_or, length}
 use Rattle.cfi_step.proofs.ScriptDigits.{within_data}
 use Rattle.cfi_step.proofs.ScriptSteps.{next_change, no_change}
 use Rattle.cfi_step.proofs.script_read.push_line.Goals.{in-Some+in_ok-push, in_default}

@@ -1,5 +1,5 @@
 use Rattle.std.proofs.Common.{◌≡◌, ◌+◌, ◌++◌, drop}
-use Rattle.cfi_step.specs.ScriptText.{changes_from, changes_of}
+use Rattle.cfi_step.specs.ScriptText.{changes_from}
 use Rattle.cfi_step.proofs.script_read.push_line.Given as goal
 
 abbrev pub invariant-loop-byte : goal.invariant-loop-byte

@@ -1,0 +1,149 @@
+use self::pairs::{A, A_GRAPH, HEAD, code};
+use crate::{Verdict, rvcfi};
+use cfi_graph::Reason;
+use cfi_verify::{Reject, Rule};
+use elf_image::{ImageRefusal, write_image};
+use std::alloc::{AllocError, Global};
+use std::process::Abort;
+use std::test::Fail;
+use tool_io::{MemFiles, MemSink};
+
+mod pairs;
+mod runs;
+
+/// The words of a command line, the program's name first.
+pub(crate) fn words(alloc: Global, line: &[&str]) -> Result<Vec<String>, AllocError> {
+    let mut words = Vec::new(alloc);
+    words.push(String::from_str(alloc, "rvcfi")?)?;
+    for word in line {
+        words.push(String::from_str(alloc, word)?)?;
+    }
+    Ok(words)
+}
+
+/// The image and the graph of a program that exits, and files that are neither.
+fn row_files(rt: &impl Abort, alloc: Global) -> Result<MemFiles, Fail> {
+    let bytes = code(alloc, A, 0, HEAD[0])?;
+    let len = bytes.len();
+    assert!(rt; 4 <= len && len <= 0x10_0000 && len % 4 == 0);
+    let mut files = MemFiles::new(alloc, Vec::new(alloc));
+    files.insert("image", &write_image(alloc, &bytes, &[])?)?;
+    files.insert("graph", A_GRAPH)?;
+    files.insert("empty", b"")?;
+    files.insert("byte", b"r")?;
+    files.insert(
+        "capitals",
+        b"rvcfi-graph 1\ncode 40000000 00000050\nclass 0000A\nend\n",
+    )?;
+    files.insert("long", &vec![in alloc; 0; 67_108_865]?)?;
+    Ok(files)
+}
+
+#[test]
+fn commands(rt: HostRuntime) -> Result<(), Fail> {
+    let alloc = rt.alloc();
+    let usage = "usage: rvcfi rewrite|verify|run|compare|demo\n";
+    let cases: [(&[&str], u8, &str); 14] = [
+        (&["verify", "image", "graph"], 0, "accepted\n"),
+        (&["verify", "graph", "graph"], 1, "refused 22 Short 64\n"),
+        (&["verify", "empty", "empty"], 1, "refused 22 Short 0\n"),
+        (&["verify", "byte", "byte"], 1, "refused 22 Short 1\n"),
+        (
+            &["verify", "image", "image"],
+            1,
+            "refused 23 Graph 1 Form\n",
+        ),
+        (
+            &["verify", "image", "empty"],
+            1,
+            "refused 23 Graph 1 Form\n",
+        ),
+        (
+            &["verify", "image", "capitals"],
+            1,
+            "refused 23 Graph 3 Form\n",
+        ),
+        (&["verify", "image"], 2, usage),
+        (&["verify", "image", "graph", "graph"], 2, usage),
+        (&["run", "image"], 2, usage),
+        (&[], 2, usage),
+        (&["verify", "absent", "nothing"], 3, "read fault absent\n"),
+        (&["verify", "image", "nothing"], 3, "read fault nothing\n"),
+        (&["verify", "image", "long"], 6, "too long long\n"),
+    ];
+    let mut files = row_files(&rt, alloc)?;
+    for (line, status, text) in cases {
+        let mut out = MemSink::new(alloc, Vec::new(alloc));
+        let words = words(alloc, line)?;
+        assert_eq!(rt;
+            rvcfi(alloc, &words, &mut files, &mut out),
+            status,
+            "{line:?}"
+        );
+        assert_eq!(rt; out.bytes(), text.as_bytes(), "{line:?}");
+    }
+    let words = words(alloc, &["verify", "image", "graph"])?;
+    let mut full = MemSink::new(alloc, vec![in alloc; 0]?);
+    assert_eq!(rt; rvcfi(alloc, &words, &mut files, &mut full), 4);
+    Ok(())
+}
+
+/// Every image that is cut short is refused, by its length alone.
+#[test]
+fn cut_images(rt: HostRuntime) -> Result<(), Fail> {
+    let alloc = rt.alloc();
+    let bytes = code(alloc, A, 0, HEAD[0])?;
+    let len = bytes.len();
+    assert!(rt; 4 <= len && len <= 0x10_0000 && len % 4 == 0);
+    let image = write_image(alloc, &bytes, &[])?;
+    assert_eq!(rt; image.len(), 8192);
+    let words = words(alloc, &["verify", "image", "graph"])?;
+    for cut in 0..300_usize {
+        let mut files = MemFiles::new(alloc, Vec::new(alloc));
+        files.insert("image", &image[..cut])?;
+        files.insert("graph", A_GRAPH)?;
+        let mut out = MemSink::new(alloc, Vec::new(alloc));
+        assert_eq!(rt; rvcfi(alloc, &words, &mut files, &mut out), 1, "{cut}");
+        let line = format!(in alloc; "refused 22 Short {cut}\n")?;
+        assert_eq!(rt; out.bytes(), line.as_bytes(), "{cut}");
+    }
+    Ok(())
+}
+
+#[test]
+fn lines(rt: HostRuntime) -> Result<(), Fail> {
+    let cases = [
+        (
+            Verdict::BadImage(ImageRefusal::Byte(16)),
+            "refused 22 Byte 16",
+        ),
+        (
+            Verdict::BadImage(ImageRefusal::Long(8192)),
+            "refused 22 Long 8192",
+        ),
+        (
+            Verdict::BadGraph(3, Reason::Form),
+            "refused 23 Graph 3 Form",
+        ),
+        (
+            Verdict::BadGraph(12, Reason::Order),
+            "refused 23 Graph 12 Order",
+        ),
+        (
+            Verdict::Rejected(Reject::Length(80, 84)),
+            "rejected Length 80 84",
+        ),
+        (
+            Verdict::Rejected(Reject::At(Rule::Astray, 0x4000_0040)),
+            "rejected Astray 40000040",
+        ),
+        (
+            Verdict::Rejected(Reject::At(Rule::Unused, 0x4000_00e4)),
+            "rejected Unused 400000e4",
+        ),
+    ];
+    for (verdict, line) in cases {
+        assert_eq!(rt; verdict.to_string(rt.alloc())?.as_str(), line);
+    }
+    Ok(())
+}

@@ -1,0 +1,376 @@
+//! Runs of whole programs, and the text that is put of each. The code of all programs is what binutils
+//! assemble; the counts of steps and the walks are worked out by hand.
+
+use crate::rvcfi;
+use crate::tests::pairs::{A, A_CLASS, A_GRAPH, B, B_GRAPH, HEAD, P, P_GRAPH, code};
+use crate::tests::words;
+use elf_image::write_image;
+use std::alloc::Global;
+use std::process::Abort;
+use std::test::Fail;
+use tool_io::{MemFiles, MemSink};
+
+/// A program that writes three bytes of its data.
+const H: &[u32] = &[
+    0xff010113, 0x00810f93, 0x024f9f93, 0x024fdf93, 0x001fb023, 0x03019f13, 0x000f1463, 0xfadff06f,
+    0x00000f17, 0x014f0f13, 0x01e1b023, 0x00818193, 0x024000ef, 0x00000513, 0x00813083, 0x01010113,
+    0xff81bf83, 0xff818193, 0x001f8463, 0xf79ff06f, 0x000f8067, 0xc0010597, 0xf6c58593, 0x00100513,
+    0x00300613, 0x04000893, 0x00000073, 0xff81bf83, 0xff818193, 0x001f8463, 0xf4dff06f, 0x000f8067,
+    0xf41ff06f,
+];
+
+/// A function that calls itself 8,191 times.
+const DEEP: &[u32] = &[
+    0x00002537, 0xfff50513, 0x0040006f, 0x00051463, 0x0440006f, 0xff010113, 0x00810f93, 0x024f9f93,
+    0x024fdf93, 0x001fb023, 0xfff50513, 0x03019f13, 0x000f1463, 0xf95ff06f, 0x00000f17, 0x014f0f13,
+    0x01e1b023, 0x00818193, 0xfc5ff0ef, 0x00813083, 0x01010113, 0xff81bf83, 0xff818193, 0x001f8463,
+    0xf65ff06f, 0x000f8067, 0xf59ff06f,
+];
+
+/// A loop that is gone through eight times.
+const LOOP: &[u32] = &[
+    0x00800293, 0xfff28293, 0x00028463, 0xff9ff06f, 0x00700513, 0x05d00893, 0x00000073, 0xfa5ff06f,
+];
+
+/// A gate that no line of its class names.
+const ASTRAY: &[u32] = &[0x00001037, 0x05d00893, 0x00000073, 0xfb5ff06f];
+
+const BREAK: &[u32] = &[0x00100073, 0xfbdff06f];
+
+/// A load from 20000000h, which is no memory.
+const LOAD: &[u32] = &[0x200002b7, 0x0002b503, 0xfb9ff06f];
+
+/// A program whose exit status is the first byte of its data.
+const STATUS: &[u32] = &[0x000102b7, 0x0002b503, 0x05d00893, 0x00000073, 0xfb1ff06f];
+
+/// A name, the units of a code, the data, and a graph.
+struct Program(&'static str, &'static [u32], &'static [u8], &'static [u8]);
+
+static PROGRAMS: [Program; 10] = [
+    Program("a", A, b"", A_GRAPH),
+    Program("b", B, b"", B_GRAPH),
+    Program("class", ASTRAY, b"", A_CLASS),
+    Program(
+        "p",
+        P,
+        b"\xc8\x00\x00\x40\x00\x00\x00\x00\xe4\x00\x00\x40\x00\x00\x00\x00",
+        P_GRAPH,
+    ),
+    Program(
+        "h",
+        H,
+        b"hi\n",
+        b"rvcfi-graph 1\ncode 40000000 000000c4\ncall 4000000c 40000040\ncall 40000054 40000094\nend\n",
+    ),
+    Program(
+        "deep",
+        DEEP,
+        b"",
+        b"rvcfi-graph 1\ncode 40000000 000000ac\ncall 4000000c 40000040\nedge 40000048 4000004c\n\
+edge 4000004c 40000094\ncall 4000006c 4000004c\nend\n",
+    ),
+    Program(
+        "loop",
+        LOOP,
+        b"",
+        b"rvcfi-graph 1\ncode 40000000 00000060\ncall 4000000c 40000040\nedge 40000048 40000044\nend\n",
+    ),
+    Program(
+        "break",
+        BREAK,
+        b"",
+        b"rvcfi-graph 1\ncode 40000000 00000048\ncall 4000000c 40000040\nend\n",
+    ),
+    Program(
+        "load",
+        LOAD,
+        b"",
+        b"rvcfi-graph 1\ncode 40000000 0000004c\ncall 4000000c 40000040\nend\n",
+    ),
+    Program(
+        "status",
+        STATUS,
+        b"",
+        b"rvcfi-graph 1\ncode 40000000 00000054\ncall 4000000c 40000040\nend\n",
+    ),
+];
+
+/// The lines of scripts, by a name.
+static SCRIPTS: [(&str, &[u8]); 13] = [
+    ("saved", b"at 40 0ffffff8 e4000040\n"),
+    ("nowhere", b"at 0 00010000 40000040\n"),
+    ("other", b"at 0 00010000 e4000040\n"),
+    ("between", b"at 27 00010000 00000000\n"),
+    ("odd", b"at 0 00010000 ca000040\n"),
+    ("five", b"at 11 00010000 05\n"),
+    ("late", b"at 12 00010000 05\n"),
+    ("twice", b"at 11 00010000 05\nat 11 00010000 06\n"),
+    ("range", b"at 1 10001000 00\n"),
+    ("form", b"at 1 00010000 0\n"),
+    ("order", b"at 2 00000000 00\nat 1 00000000 00\n"),
+    ("none", b"at 11 00010000 09\n"),
+    ("empty", b""),
+];
+
+/// The words after `run` with the names of programs for those of their files, the status, and the text.
+struct Case(&'static [&'static str], u8, &'static str);
+
+const P_TRAIL: &str = "4000000c 40000040 40000044 40000054 40000058 4000005c 400000c8 400000cc \
+400000d0 400000ac 400000b0 400000b4";
+
+const USAGE: &str = "usage: rvcfi rewrite|verify|run|compare|demo\n";
+
+static CASES: [Case; 44] = [
+    Case(
+        &["a.img", "a.graph", "none", "none", "100"],
+        0,
+        "output 0\n\nstop exit 7\nsteps 13\nwalk 4\ntrail 4000000c 40000040 40000044 40000048\n",
+    ),
+    Case(
+        &["a.img", "a.graph", "none", "none", "0"],
+        12,
+        "output 0\n\nstop limit\nsteps 0\nwalk 0\ntrail\n",
+    ),
+    Case(
+        &["a.img", "a.graph", "none", "none", "12"],
+        12,
+        "output 0\n\nstop limit\nsteps 12\nwalk 3\ntrail 4000000c 40000040 40000044\n",
+    ),
+    Case(
+        &["a.img", "a.graph", "none", "none", "0000000013"],
+        0,
+        "output 0\n\nstop exit 7\nsteps 13\nwalk 4\ntrail 4000000c 40000040 40000044 40000048\n",
+    ),
+    Case(
+        &["b.img", "b.graph", "none", "none", "1000000"],
+        0,
+        "output 0\n\nstop exit 7\nsteps 17\nwalk 4\ntrail 4000000c 40000040 40000044 40000038\n",
+    ),
+    Case(
+        &["h.img", "h.graph", "none", "none", "1000000000"],
+        0,
+        "output 3\nhi\n\nstop exit 0\nsteps 41\nwalk 16\ntrail 4000000c 40000040 40000044 40000054 \
+40000094 40000098 4000009c 400000a0 400000a4 400000a8 400000ac 40000074 40000078 4000007c 40000080 \
+40000038\n",
+    ),
+    Case(
+        &["p.img", "p.graph", "none", "none", "100"],
+        0,
+        "output 0\n\nstop exit 1\nsteps 48\nwalk 13\ntrail P 40000038\n",
+    ),
+    Case(
+        &["p.img", "p.graph", "saved", "none", "100"],
+        10,
+        "output 0\n\nstop handler __cfi_bad_return\nsteps 47\nwalk 13\ntrail P 40000004\n",
+    ),
+    Case(
+        &["p.img", "p.graph", "nowhere", "none", "100"],
+        10,
+        "output 0\n\nstop handler __cfi_bad_target\nsteps 29\nwalk 7\ntrail 4000000c 40000040 \
+40000044 40000054 40000058 4000005c 40000000\n",
+    ),
+    Case(
+        &["p.img", "p.graph", "other", "none", "100"],
+        0,
+        "output 0\n\nstop exit 2\nsteps 48\nwalk 13\ntrail 4000000c 40000040 40000044 40000054 \
+40000058 4000005c 400000e4 400000e8 400000ec 400000ac 400000b0 400000b4 40000038\n",
+    ),
+    Case(
+        &["p.img", "p.graph", "between", "none", "100"],
+        0,
+        "output 0\n\nstop exit 1\nsteps 48\nwalk 13\ntrail P 40000038\n",
+    ),
+    Case(
+        &["p.img", "p.graph", "odd", "none", "100"],
+        0,
+        "output 0\n\nstop exit 1\nsteps 48\nwalk 13\ntrail P 40000038\n",
+    ),
+    Case(
+        &["status.img", "status.graph", "none", "none", "100"],
+        0,
+        "output 0\n\nstop exit 0\nsteps 14\nwalk 5\ntrail 4000000c 40000040 40000044 40000048 4000004c\n",
+    ),
+    Case(
+        &["status.img", "status.graph", "five", "none", "100"],
+        0,
+        "output 0\n\nstop exit 5\nsteps 14\nwalk 5\ntrail 4000000c 40000040 40000044 40000048 4000004c\n",
+    ),
+    Case(
+        &["status.img", "status.graph", "late", "none", "100"],
+        0,
+        "output 0\n\nstop exit 0\nsteps 14\nwalk 5\ntrail 4000000c 40000040 40000044 40000048 4000004c\n",
+    ),
+    Case(
+        &["status.img", "status.graph", "twice", "none", "100"],
+        0,
+        "output 0\n\nstop exit 6\nsteps 14\nwalk 5\ntrail 4000000c 40000040 40000044 40000048 4000004c\n",
+    ),
+    Case(
+        &["status.img", "status.graph", "./none", "none", "100"],
+        0,
+        "output 0\n\nstop exit 9\nsteps 14\nwalk 5\ntrail 4000000c 40000040 40000044 40000048 4000004c\n",
+    ),
+    Case(
+        &["loop.img", "loop.graph", "none", "none", "100"],
+        0,
+        "output 0\n\nstop exit 7\nsteps 37\nwalk 21\ntrail 40000048 40000044 40000048 40000044 \
+40000048 40000044 40000048 40000044 40000048 40000044 40000048 40000044 40000048 40000050 40000054 \
+40000058\n",
+    ),
+    Case(
+        &["deep.img", "deep.graph", "none", "none", "1000000"],
+        10,
+        "output 0\n\nstop handler __cfi_deep\nsteps 114684\nwalk 40960\ntrail 4000004c 40000054 \
+40000058 40000068 4000006c 4000004c 40000054 40000058 40000068 4000006c 4000004c 40000054 40000058 \
+40000068 4000006c 40000008\n",
+    ),
+    Case(
+        &["break.img", "break.graph", "none", "none", "100"],
+        11,
+        "output 0\n\nstop break 40000040\nsteps 11\nwalk 2\ntrail 4000000c 40000040\n",
+    ),
+    Case(
+        &["load.img", "load.graph", "none", "none", "100"],
+        11,
+        "output 0\n\nstop load 40000044 0000000020000000\nsteps 12\nwalk 3\ntrail 4000000c 40000040 \
+40000044\n",
+    ),
+    Case(
+        &["class.img", "class.graph", "none", "none", "100"],
+        1,
+        "rejected Astray 40000040\n",
+    ),
+    Case(
+        &["a.img", "a.graph", "range", "none", "100"],
+        1,
+        "refused 25 Script 2 Range\n",
+    ),
+    Case(
+        &["a.img", "a.graph", "form", "none", "100"],
+        1,
+        "refused 25 Script 2 Form\n",
+    ),
+    Case(
+        &["a.img", "a.graph", "order", "none", "100"],
+        1,
+        "refused 25 Script 3 Order\n",
+    ),
+    Case(
+        &["a.img", "a.graph", "empty", "none", "100"],
+        1,
+        "refused 25 Script 1 Form\n",
+    ),
+    Case(
+        &["a.img", "b.graph", "range", "none", "100"],
+        1,
+        "refused 25 Script 2 Range\n",
+    ),
+    Case(
+        &["a.img", "b.graph", "none", "none", "100"],
+        1,
+        "rejected Length 80 92\n",
+    ),
+    Case(
+        &["a.img", "empty", "range", "none", "100"],
+        1,
+        "refused 23 Graph 1 Form\n",
+    ),
+    Case(
+        &["empty", "empty", "range", "none", "100"],
+        1,
+        "refused 22 Short 0\n",
+    ),
+    Case(&["a.img", "a.graph", "none", "none"], 2, USAGE),
+    Case(&["a.img", "a.graph", "none", "none", "1", "1"], 2, USAGE),
+    Case(&["a.img", "a.graph", "none", "none", ""], 2, USAGE),
+    Case(&["a.img", "a.graph", "none", "none", "x"], 2, USAGE),
+    Case(&["a.img", "a.graph", "none", "none", "+1"], 2, USAGE),
+    Case(&["a.img", "a.graph", "none", "none", "1 "], 2, USAGE),
+    Case(
+        &["a.img", "a.graph", "none", "none", "1000000001"],
+        2,
+        USAGE,
+    ),
+    Case(
+        &["a.img", "a.graph", "none", "none", "00000000007"],
+        2,
+        USAGE,
+    ),
+    Case(
+        &["absent", "nothing", "gone", "lost", "1"],
+        3,
+        "read fault absent\n",
+    ),
+    Case(
+        &["a.img", "nothing", "gone", "lost", "1"],
+        3,
+        "read fault nothing\n",
+    ),
+    Case(
+        &["a.img", "a.graph", "gone", "lost", "1"],
+        3,
+        "read fault gone\n",
+    ),
+    Case(
+        &["empty", "empty", "none", "lost", "1"],
+        3,
+        "read fault lost\n",
+    ),
+    Case(
+        &["a.img", "a.graph", "none", "long", "1"],
+        6,
+        "too long long\n",
+    ),
+    Case(
+        &["a.img", "a.graph", "long", "lost", "1"],
+        6,
+        "too long long\n",
+    ),
+];
+
+/// The files of all programs and scripts.
+fn files(rt: &impl Abort, alloc: Global) -> Result<MemFiles, Fail> {
+    let mut files = MemFiles::new(alloc, Vec::new(alloc));
+    for Program(name, units, data, graph) in &PROGRAMS {
+        let bytes = code(alloc, units, 0, HEAD[0])?;
+        let len = bytes.len();
+        assert!(rt; 4 <= len && len <= 0x10_0000 && len % 4 == 0);
+        let image = write_image(alloc, &bytes, data)?;
+        files.insert(format!(in alloc; "{name}.img")?.as_str(), &image)?;
+        files.insert(format!(in alloc; "{name}.graph")?.as_str(), graph)?;
+    }
+    for (name, lines) in &SCRIPTS {
+        let mut text = Vec::new(alloc);
+        if !lines.is_empty() {
+            text.extend_from_slice(b"rvcfi-script 1\n")?;
+            text.extend_from_slice(lines)?;
+            text.extend_from_slice(b"end\n")?;
+        }
+        let name = if *name == "none" { "./none" } else { *name };
+        files.insert(name, &text)?;
+    }
+    files.insert("long", &vec![in alloc; 0; 67_108_865]?)?;
+    Ok(files)
+}
+
+#[test]
+fn runs(rt: HostRuntime) -> Result<(), Fail> {
+    let alloc = rt.alloc();
+    let mut files = files(&rt, alloc)?;
+    for Case(line, status, text) in &CASES {
+        let mut words = words(alloc, &["run"])?;
+        for word in *line {
+            words.push(String::from_str(alloc, word)?)?;
+        }
+        let mut out = MemSink::new(alloc, Vec::new(alloc));
+        let found = rvcfi(alloc, &words, &mut files, &mut out);
+        assert_eq!(rt; found, *status, "{line:?}");
+        let text = text.replace(
+            alloc,
+            "trail P",
+            format!(in alloc; "trail {P_TRAIL}")?.as_str(),
+        )?;
+        assert_eq!(rt; out.bytes(), text.as_bytes(), "{line:?}");
+    }
+    Ok(())
+}
