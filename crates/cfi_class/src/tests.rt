@@ -108,3 +108,66 @@ fn labels_by_hand(rt: HostRuntime) -> Result<(), Fail> {
     }
     Ok(())
 }
+
+// sets of two neighbours from 0 to 2000, in rising or falling order
+fn chain(alloc: Global, falling: bool) -> Result<Vec<Places>, Fail> {
+    let mut sets = Vec::new(alloc);
+    for k in 0..2000u64 {
+        let first = if falling { 1999 - k } else { k };
+        sets.push(Places::of([first, first + 1].to_vec(alloc)?))?;
+    }
+    Ok(sets)
+}
+
+fn same_sets(alloc: Global) -> Result<Vec<Places>, Fail> {
+    let mut sets = Vec::new(alloc);
+    for _ in 0..2000 {
+        let all: Vec<u64> = (0..2000u64).collect(alloc)?;
+        sets.push(Places::of(all))?;
+    }
+    Ok(sets)
+}
+
+fn single_sets(alloc: Global) -> Result<Vec<Places>, Fail> {
+    let mut sets = Vec::new(alloc);
+    for k in 0..2000u64 {
+        sets.push(Places::of([k].to_vec(alloc)?))?;
+    }
+    Ok(sets)
+}
+
+#[test]
+fn large_sets(rt: HostRuntime) -> Result<(), Fail> {
+    let alloc = rt.alloc();
+    let cases = [
+        ("rising chain", chain(alloc, false)?, 1, 2001),
+        ("falling chain", chain(alloc, true)?, 1, 2001),
+        ("same sets", same_sets(alloc)?, 1, 2000),
+        ("single targets", single_sets(alloc)?, 2000, 1),
+    ];
+    for (name, sets, count, members) in &cases {
+        let found = classes(alloc, sets.as_slice())?;
+        assert_eq!(rt; found.len(), *count, "{name}");
+        for class in &found {
+            assert_eq!(rt; class.len(), *members, "{name}");
+        }
+    }
+    Ok(())
+}
+
+// Of the remainders by the prime 1000003 all but those of -3, -2 and -1 times 7919 are in use.
+#[test]
+fn a_million_numbers_in_use(rt: HostRuntime) -> Result<(), Fail> {
+    let alloc = rt.alloc();
+    let mut used: Vec<u32> = Vec::new(alloc);
+    for k in 0..1_000_000u64 {
+        used.push((k * 7919 % 1_000_003) as u32)?;
+    }
+    assert_eq!(rt; used.len(), 1_000_000);
+    let given = labels(alloc, 5, used.as_slice())?;
+    assert_eq!(rt;
+        given.as_slice(),
+        [976_246, 984_165, 992_084, 1_000_003, 1_000_004].as_slice()
+    );
+    Ok(())
+}
