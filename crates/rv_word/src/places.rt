@@ -1,5 +1,6 @@
-ghost use Rattle.std.specs.Prelude.{◌≡◌, length, ◌==◌};
+ghost use Rattle.std.specs.Prelude.{◌≡◌, length, ◌==◌, ◌++◌, ◌∷◌, [], OnOk, OnErr};
 
+use crate::memory::NoMemory;
 use std::marker::Model;
 
 /// A list of addresses or places that owns its memory.
@@ -47,5 +48,14 @@ impl Places {
         ensures { result ≡ (length self.now == 0) }
     {
         self.items.is_empty()
+    }
+
+    /// Puts a member at the end; a refusal leaves the list as it was.
+    pub fn push(&mut self, place: u64) -> Result<(), NoMemory>
+        ensures grown { OnOk result (self.new ≡ self.old ++ place ∷ []) }
+        ensures refused { OnErr result (self.new ≡ self.old) }
+    {
+        self.items.push(place)?;
+        Ok(())
     }
 }

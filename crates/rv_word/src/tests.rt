@@ -40,9 +40,11 @@ fn lists_and_images(rt: HostRuntime) -> Result<(), Fail> {
     assert_eq!(rt; bytes.len(), 3);
     assert!(rt; !bytes.is_empty());
     assert_eq!(rt; bytes.into_vec().as_slice(), [1, 2, 3].as_slice());
-    let places = Places::of([4, 8].to_vec(rt.alloc())?);
+    let mut places = Places::of([4, 8].to_vec(rt.alloc())?);
     assert_eq!(rt; places.as_slice(), [4, 8].as_slice());
-    assert_eq!(rt; places.len(), 2);
+    places.push(u64::MAX)?;
+    assert_eq!(rt; places.as_slice(), [4, 8, u64::MAX].as_slice());
+    assert_eq!(rt; places.len(), 3);
     let image = Image::of(&[0x73, 0, 0x10, 0], &[]);
     assert_eq!(rt; image.code().len(), 4);
     assert!(rt; image.init().is_empty());

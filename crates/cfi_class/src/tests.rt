@@ -1,0 +1,173 @@
+use crate::{classes, labels};
+use rv_word::Places;
+use std::alloc::Global;
+use std::test::Fail;
+
+const MAX: u64 = u64::MAX;
+
+// sets, and the classes of their members
+static CLASSES: [(&[&[u64]], &[&[u64]]); 25] = [
+    (&[], &[]),
+    (&[&[]], &[]),
+    (&[&[], &[], &[]], &[]),
+    (&[&[7]], &[&[7]]),
+    (&[&[0]], &[&[0]]),
+    (&[&[1, 2], &[2, 3], &[], &[5]], &[&[1, 2, 3], &[5]]),
+    (&[&[1, 2], &[3, 4]], &[&[1, 2], &[3, 4]]),
+    (&[&[3, 4], &[1, 2]], &[&[1, 2], &[3, 4]]),
+    (&[&[1, 9], &[1, 9], &[1, 9]], &[&[1, 9]]),
+    (&[&[1, 2], &[2, 3], &[3, 4], &[4, 5]], &[&[1, 2, 3, 4, 5]]),
+    (&[&[4, 5], &[3, 4], &[2, 3], &[1, 2]], &[&[1, 2, 3, 4, 5]]),
+    (
+        &[&[1, 10], &[2, 10], &[3, 10], &[4, 20], &[5, 20], &[3, 4]],
+        &[&[1, 2, 3, 4, 5, 10, 20]],
+    ),
+    (
+        &[&[1, 10], &[2, 10], &[4, 20], &[5, 20]],
+        &[&[1, 2, 10], &[4, 5, 20]],
+    ),
+    (
+        &[&[0, MAX], &[1, MAX - 1], &[1 << 63]],
+        &[&[0, MAX], &[1, MAX - 1], &[1 << 63]],
+    ),
+    (&[&[MAX - 1, MAX], &[0, MAX]], &[&[0, MAX - 1, MAX]]),
+    (&[&[1, 3, 5], &[2, 4, 6]], &[&[1, 3, 5], &[2, 4, 6]]),
+    (&[&[5, 6], &[7, 8], &[1, 7]], &[&[1, 7, 8], &[5, 6]]),
+    (&[&[1, 2, 3], &[4, 5, 6], &[3, 4]], &[&[1, 2, 3, 4, 5, 6]]),
+    (&[&[3], &[1], &[2]], &[&[1], &[2], &[3]]),
+    (&[&[1], &[2], &[3], &[1, 2, 3]], &[&[1, 2, 3]]),
+    (&[&[], &[1, 2], &[], &[], &[2, 3], &[]], &[&[1, 2, 3]]),
+    (&[&[3, 1, 1], &[2, 3]], &[&[1, 2, 3]]),
+    (&[&[1, 2, 3, 4], &[2, 3], &[1, 4]], &[&[1, 2, 3, 4]]),
+    (
+        &[&[1, 2], &[3, 4], &[5, 6], &[7, 8], &[4, 5], &[2, 7]],
+        &[&[1, 2, 7, 8], &[3, 4, 5, 6]],
+    ),
+    (
+        &[
+            &[0x4000_0040, 0x4000_0048],
+            &[0x4000_0044],
+            &[0x4000_0044, 0x4000_0050],
+        ],
+        &[&[0x4000_0040, 0x4000_0048], &[0x4000_0044, 0x4000_0050]],
+    ),
+];
+
+// how many labels, the numbers in use, and the labels
+static LABELS: [(usize, &[u32], &[u32]); 22] = [
+    (0, &[], &[]),
+    (0, &[1, 2], &[]),
+    (1, &[], &[1]),
+    (3, &[], &[1, 2, 3]),
+    (3, &[1, 3], &[2, 4, 5]),
+    (1, &[1], &[2]),
+    (1, &[2], &[1]),
+    (2, &[1, 2, 3], &[4, 5]),
+    (3, &[3, 2, 1], &[4, 5, 6]),
+    (2, &[2, 2, 2, 2], &[1, 3]),
+    (4, &[5, 3, 5, 3], &[1, 2, 4, 6]),
+    (2, &[0], &[1, 2]),
+    (2, &[u32::MAX], &[1, 2]),
+    (3, &[0, u32::MAX, 2], &[1, 3, 4]),
+    (2, &[7, 1], &[2, 3]),
+    (5, &[2, 4, 6, 8], &[1, 3, 5, 7, 9]),
+    (3, &[4], &[1, 2, 3]),
+    (3, &[1, 1, 2, 2, 3, 3], &[4, 5, 6]),
+    (1, &[0x8000_0000, 0xf_ffff], &[1]),
+    (2, &[3, 1, 2, 6, 5], &[4, 7]),
+    (2, &[0x10_0000, 0xf_ffff, 1], &[2, 3]),
+    (1, &[5, 4, 3, 2, 1, 0], &[6]),
+];
+
+fn sets_of(alloc: Global, lists: &[&[u64]]) -> Result<Vec<Places>, Fail> {
+    let mut sets = Vec::new(alloc);
+    for list in lists {
+        sets.push(Places::of(list.to_vec(alloc)?))?;
+    }
+    Ok(sets)
+}
+
+#[test]
+fn classes_by_hand(rt: HostRuntime) -> Result<(), Fail> {
+    for (lists, want) in &CLASSES {
+        let sets = sets_of(rt.alloc(), lists)?;
+        let found = classes(rt.alloc(), sets.as_slice())?;
+        assert_eq!(rt; found.len(), want.len(), "{lists:?}");
+        for k in 0..want.len() {
+            assert_eq!(rt; found[k].as_slice(), want[k], "{lists:?}");
+        }
+    }
+    Ok(())
+}
+
+#[test]
+fn labels_by_hand(rt: HostRuntime) -> Result<(), Fail> {
+    for (count, used, want) in &LABELS {
+        let given = labels(rt.alloc(), *count, used)?;
+        assert_eq!(rt; given.as_slice(), *want, "{count} {used:?}");
+    }
+    Ok(())
+}
+
+// sets of two neighbours from 0 to 2000, in rising or falling order
+fn chain(alloc: Global, falling: bool) -> Result<Vec<Places>, Fail> {
+    let mut sets = Vec::new(alloc);
+    for k in 0..2000u64 {
+        let first = if falling { 1999 - k } else { k };
+        sets.push(Places::of([first, first + 1].to_vec(alloc)?))?;
+    }
+    Ok(sets)
+}
+
+fn same_sets(alloc: Global) -> Result<Vec<Places>, Fail> {
+    let mut sets = Vec::new(alloc);
+    for _ in 0..2000 {
+        let all: Vec<u64> = (0..2000u64).collect(alloc)?;
+        sets.push(Places::of(all))?;
+    }
+    Ok(sets)
+}
+
+fn single_sets(alloc: Global) -> Result<Vec<Places>, Fail> {
+    let mut sets = Vec::new(alloc);
+    for k in 0..2000u64 {
+        sets.push(Places::of([k].to_vec(alloc)?))?;
+    }
+    Ok(sets)
+}
+
+#[test]
+fn large_sets(rt: HostRuntime) -> Result<(), Fail> {
+    let alloc = rt.alloc();
+    let cases = [
+        ("rising chain", chain(alloc, false)?, 1, 2001),
+        ("falling chain", chain(alloc, true)?, 1, 2001),
+        ("same sets", same_sets(alloc)?, 1, 2000),
+        ("single targets", single_sets(alloc)?, 2000, 1),
+    ];
+    for (name, sets, count, members) in &cases {
+        let found = classes(alloc, sets.as_slice())?;
+        assert_eq!(rt; found.len(), *count, "{name}");
+        for class in &found {
+            assert_eq!(rt; class.len(), *members, "{name}");
+        }
+    }
+    Ok(())
+}
+
+// Of the remainders by the prime 1000003 all but those of -3, -2 and -1 times 7919 are in use.
+#[test]
+fn a_million_numbers_in_use(rt: HostRuntime) -> Result<(), Fail> {
+    let alloc = rt.alloc();
+    let mut used: Vec<u32> = Vec::new(alloc);
+    for k in 0..1_000_000u64 {
+        used.push((k * 7919 % 1_000_003) as u32)?;
+    }
+    assert_eq!(rt; used.len(), 1_000_000);
+    let given = labels(alloc, 5, used.as_slice())?;
+    assert_eq!(rt;
+        given.as_slice(),
+        [976_246, 984_165, 992_084, 1_000_003, 1_000_004].as_slice()
+    );
+    Ok(())
+}
