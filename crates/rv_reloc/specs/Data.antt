@@ -1,5 +1,5 @@
 -- What a relocation makes of data (RISC-V ELF psABI, "Relocations"). Numbers in data have the lowest byte first.
-use Rattle.std.specs.Prelude.{ℕ, ℤ, pos, neg_ℤ, ◌+ℤ◌, ◌-ℤ◌, ◌^◌, Bool, true, List, ◌++◌, drop}
+use Rattle.std.specs.Prelude.{ℕ, ℤ, pos, neg_ℤ, ◌+ℤ◌, ◌-ℤ◌, ◌*◌, ◌^◌, Bool, true, List, ◌++◌, drop}
 use Rattle.byteorder.specs.Endian.{little_bytes, little_number}
 use Rattle.rv_reloc.specs.Value.{low_bits, is_between}
 use Rattle.rv_reloc.specs.declared.kinds.DataPatch.{DataPatch}
@@ -31,10 +31,10 @@ becomes Sub16 value old = pos old -ℤ value
 becomes Sub32 value old = pos old -ℤ value
 becomes Sub64 value old = pos old -ℤ value
 
--- the bytes after the relocation: the lowest `size` bytes of that number, and then as before
-unfoldable pub patched_at : ℕ → (ℕ → ℤ) → List ℕ → List ℕ
+-- the bytes after the relocation: that number modulo the width in the first `size`, and then as before
+abbrev pub patched_at : ℕ → (ℕ → ℤ) → List ℕ → List ℕ
 patched_at size number bytes =
-    little_bytes size (low_bits 64 (number (little_number size bytes))) ++ drop size bytes
+    little_bytes size (low_bits (8 * size) (number (little_number size bytes))) ++ drop size bytes
 
 abbrev pub patched : DataPatch → ℤ → List ℕ → List ℕ
 patched kind value bytes = patched_at (size_of kind) (becomes kind value) bytes

@@ -8,7 +8,6 @@ use byteorder::{ByteOrder, LittleEndian};
 
 /// Applies a relocation to the data that begin with its place (RISC-V ELF psABI, "Relocations").
 /// `RelocRange` comes from a 32-bit address alone.
-#[tactic(auto, unfolding(crate::specs::Data::patched_at))]
 pub fn patch_data(kind: DataPatch, bytes: &mut [u8], value: i128) -> Result<(), RelocRange>
     requires { size_of kind ≤ length bytes.old }
     ensures value { OnOk result (bytes.new ≡ patched kind value bytes.old) }

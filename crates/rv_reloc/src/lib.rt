@@ -9,3 +9,6 @@ pub use kinds::{CodePatch, DataPatch, RelocRange};
 mod code;
 mod data;
 mod kinds;
+pub mod laws;
+#[cfg(test)]
+mod tests;
