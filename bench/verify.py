@@ -16,6 +16,8 @@ import sys
 import tempfile
 import time
 
+sys.dont_write_bytecode = True
+
 from images import PAGE, pair
 
 HERE = os.path.dirname(os.path.abspath(__file__))
