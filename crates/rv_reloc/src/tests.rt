@@ -166,8 +166,8 @@ static LINKED_DATA: [(DataPatch, u64, i128, u64); 22] = [
     ),
 ];
 
-/// Values at both ends of the ranges, by hand: `None` is a refusal. The linker refuses the same two
-/// of HI20.
+/// Values at both ends of the ranges, by hand: `None` is a refusal. The linker too refuses 7ffff800h
+/// of both kinds and -80000801h of HI20.
 static EDGES: [(CodePatch, u32, i128, Option<u32>); 14] = [
     (CodePatch::Hi20, 0x0000_0fb7, 0x7fff_f7ff, Some(0x7fff_ffb7)),
     (CodePatch::Hi20, 0x0000_0fb7, 0x7fff_f800, None),
