@@ -1,0 +1,137 @@
+#!/usr/bin/env python3
+"""Times `rvcfi verify` on images of three sizes, beside a disassembler on the same files, with its peak memory.
+
+    python3 bench/verify.py [--runs N] [--sizes KIB,KIB,..] [--keep FOLDER]
+
+README.md beside this file says what is measured and how the program is built.
+"""
+
+import argparse
+import collections
+import fcntl
+import os
+import resource
+import subprocess
+import sys
+import tempfile
+import time
+
+sys.dont_write_bytecode = True
+
+from images import PAGE, pair
+
+HERE = os.path.dirname(os.path.abspath(__file__))
+CRATE = os.path.join(HERE, "..", "crates", "rvcfi")
+PROGRAM = os.path.join(CRATE, "out", "rvcfi")
+OBJDUMP = "riscv64-linux-gnu-objdump"
+
+Times = collections.namedtuple("Times", "wall processor")
+
+
+def build():
+    """Proves and builds the program, if its executable is not there."""
+    if not os.path.exists(PROGRAM):
+        subprocess.run(["rt", "run", "--", "verify", "data/a.img", "data/a.graph"], cwd=CRATE, check=True)
+
+
+def processor_time():
+    used = resource.getrusage(resource.RUSAGE_CHILDREN)
+    return used.ru_utime + used.ru_stime
+
+
+def best_time(command, runs, want=None, status=0):
+    """The least wall time and the least processor time of several runs, in milliseconds."""
+    walls, used = [], []
+    for _ in range(runs):
+        before, begun = processor_time(), time.perf_counter()
+        done = subprocess.run(command, stdout=subprocess.DEVNULL if want is None else subprocess.PIPE)
+        walls.append(1000 * (time.perf_counter() - begun))
+        used.append(1000 * (processor_time() - before))
+        if done.returncode != status or want not in (None, done.stdout):
+            sys.exit("%s: status %d, printed %r" % (" ".join(command), done.returncode, done.stdout))
+    return Times(min(walls), min(used))
+
+
+def peak_memory(command):
+    """The most bytes that the process ever had resident (VmHWM), read as it writes its answer.
+
+    Its standard output is a pipe that is full, so it waits there. `ru_maxrss` would count this script's own
+    memory too, since a child has that until it runs its program.
+    """
+    reader, writer = os.pipe()
+    size = fcntl.fcntl(writer, fcntl.F_GETPIPE_SZ)
+    os.write(writer, bytes(size))
+    child = subprocess.Popen(command, stdout=writer)
+    os.close(writer)
+    while True:
+        with open("/proc/%d/wchan" % child.pid) as wait, open("/proc/%d/status" % child.pid) as status:
+            waits, lines = wait.read(), status.read()
+        if "pipe_w" in waits or "State:\tZ" in lines:
+            break
+        time.sleep(0.001)
+    peak = next(int(line.split()[1]) for line in lines.splitlines() if line.startswith("VmHWM"))
+    with os.fdopen(reader, "rb") as rest:
+        rest.read()
+    child.wait()
+    return peak * 1024
+
+
+def measure(folder, kib, runs):
+    image, graph, counts = pair(kib * 1024)
+    paths = [os.path.join(folder, "%d.%s" % (kib, name)) for name in ("img", "graph")]
+    for path, content in zip(paths, (image, graph)):
+        with open(path, "wb") as out:
+            out.write(content)
+    verify = [PROGRAM, "verify"] + paths
+    ends = ["--start-address=%d" % PAGE, "--stop-address=%d" % (PAGE + kib * 1024)]
+    dump = [OBJDUMP, "-D", "-b", "binary", "-m", "riscv:rv64"] + ends + [paths[0]]
+    row = {"kib": kib, "image": len(image), "graph": len(graph), "units": sum(counts.values()), "counts": counts}
+    row["verify"] = best_time(verify, runs, b"accepted\n")
+    row["objdump"] = best_time(dump, max(2, runs // 3))
+    row["peak"] = peak_memory(verify)
+    row["files"] = len(image) + len(graph)
+    return row
+
+
+def report(rows, base, start):
+    print("processors: %d" % os.cpu_count())
+    print("the usage line alone: %.2f ms, peak %d KiB" % (start.wall, base // 1024))
+    print()
+    print("milliseconds, wall / processor: the least of the runs")
+    print("%8s %7s %8s %8s  %16s  %18s  %13s" % ("code KiB", "units", "image", "graph", "verify", "objdump", "ratio"))
+    for row in rows:
+        verify, objdump = row["verify"], row["objdump"]
+        print("%8d %7d %8d %8d  %7.2f / %6.2f  %8.2f / %7.2f  %5.1f / %5.1f" % (
+            row["kib"], row["units"], row["image"], row["graph"], verify.wall, verify.processor,
+            objdump.wall, objdump.processor, objdump.wall / verify.wall, objdump.processor / verify.processor))
+    print()
+    for before, row in zip(rows, rows[1:]):
+        print("from %d to %d KiB: code times %.2f, files times %.2f, verify times %.2f (without the time of the usage line)" % (
+            before["kib"], row["kib"], row["kib"] / before["kib"], row["files"] / before["files"],
+            (row["verify"].wall - start.wall) / (before["verify"].wall - start.wall)))
+    print()
+    for row in rows:
+        print("%d KiB: peak %d KiB, %.2f times the files; without the %d KiB of the usage line %.2f times" % (
+            row["kib"], row["peak"] // 1024, row["peak"] / row["files"], base // 1024,
+            (row["peak"] - base) / row["files"]))
+    print()
+    for row in rows:
+        print("%d KiB:" % row["kib"], ", ".join("%s %d" % item for item in row["counts"].items()))
+
+
+def main():
+    parser = argparse.ArgumentParser(description="Times rvcfi verify.")
+    parser.add_argument("--runs", type=int, default=9)
+    parser.add_argument("--sizes", default="64,256,1024", help="KiB of code, at most 1024")
+    parser.add_argument("--keep", help="a folder in which the files stay")
+    options = parser.parse_args()
+    build()
+    with tempfile.TemporaryDirectory() as work:
+        folder = options.keep or work
+        os.makedirs(folder, exist_ok=True)
+        base, start = peak_memory([PROGRAM]), best_time([PROGRAM], options.runs, status=2)
+        rows = [measure(folder, int(kib), options.runs) for kib in options.sizes.split(",")]
+    report(rows, base, start)
+
+
+main()

@@ -1,0 +1,4 @@
+pub mod Value
+pub mod Word
+pub mod Data
+pub mod Pair

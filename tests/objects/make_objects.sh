@@ -1,0 +1,38 @@
+#!/bin/sh
+# Builds the objects of this folder from its sources, and expected.txt from the objects, by binutils, gcc and clang for RISC-V.
+# Each object is relocatable RV64I with the soft-float ABI: e_flags 0, no group, no thread-local data, no list of initialisers.
+set -eu
+cd "$(dirname "$0")"
+
+machine="-march=rv64i -mabi=lp64"
+plain="-O2 -ffreestanding -fno-ident -fno-pic -fno-stack-protector"
+no_unwind="-fno-asynchronous-unwind-tables -fno-unwind-tables"
+gnu="riscv64-linux-gnu-gcc $machine $plain"
+elf="riscv64-unknown-elf-gcc $machine $plain"
+llvm="clang --target=riscv64 $machine -mno-relax $plain -fno-addrsig"
+
+# A jump table of 32-bit addresses, and one of differences.
+$gnu $no_unwind -fno-tree-switch-conversion -mcmodel=medlow -c switch.c -o switch_medlow.o
+$elf $no_unwind -fno-tree-switch-conversion -mcmodel=medany -c switch.c -o switch_medany.o
+$llvm $no_unwind -mcmodel=medium -c switch.c -o switch_clang.o
+
+# Pointers in data.
+$gnu $no_unwind -mcmodel=medany -c pointers.c -o pointers.o
+$llvm $no_unwind -mcmodel=small -c pointers.c -o pointers_clang.o
+
+# Strings, calls to other objects, and `.eh_frame`.
+$gnu -fasynchronous-unwind-tables -mcmodel=medlow -c strings.c -o strings.o
+$llvm -fasynchronous-unwind-tables -mcmodel=medium -c strings.c -o strings_clang.o
+
+# Commons and zeroed data.
+$elf $no_unwind -fcommon -msmall-data-limit=0 -mcmodel=medlow -c commons.c -o commons.o
+
+# Many sections, without relaxation.
+$gnu $no_unwind -mno-relax -ffunction-sections -fdata-sections -mcmodel=medany -c sections.c -o sections.o
+
+# Assembly.
+riscv64-linux-gnu-gcc $machine -c addressing.s -o addressing.o
+clang --target=riscv64 $machine -mno-relax -c addressing.s -o addressing_clang.o
+riscv64-unknown-elf-gcc $machine -c differences.s -o differences.o
+
+python3 make_expected.py *.o > expected.txt
