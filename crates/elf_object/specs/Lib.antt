@@ -1,0 +1,4 @@
+pub mod Least
+pub mod Header
+pub mod Section
+pub mod Fault
