@@ -1,5 +1,5 @@
 -- The ELF header of an object file, by the names of its fields (System V gABI, "ELF Header"; RISC-V ELF psABI, "File Header").
-use Rattle.std.specs.Prelude.{ℕ, ◌+◌, ◌*◌, nat_le, nat_eq, Bool, ◌==◌, ◌&&◌, ◌||◌, List, [], ◌∷◌, length}
+use Rattle.std.specs.Prelude.{◌≡◌, ◌≤◌, ℕ, ◌+◌, ◌*◌, nat_le, nat_eq, Bool, ◌==◌, ◌&&◌, ◌||◌, List, [], ◌∷◌, length}
 use Rattle.std.specs.List.{starts_with}
 use Rattle.elf_bytes.specs.Fields.{number_at}
 
@@ -39,3 +39,10 @@ are_flags_taken flags = flags == 0 || flags == 0x10
 -- where the section header table ends
 abbrev pub section_headers_end : List ℕ → ℕ
 section_headers_end bytes = e_shoff bytes + 64 * e_shnum bytes
+
+-- a section header table at this offset, with so many headers, lies in the file
+pub record IsTable (bytes : List ℕ) (at count : ℕ) : Type 0 where
+  pub begins : at ≡ e_shoff bytes
+  pub headers : count ≡ e_shnum bytes
+  pub header : 64 ≤ length bytes
+  pub inside : section_headers_end bytes ≤ length bytes

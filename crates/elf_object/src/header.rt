@@ -1,6 +1,7 @@
-ghost use Rattle.std.specs.Prelude.{◌≡◌, ◌+◌, ◌*◌, ◌≤◌, ◌<◌, length};
-ghost use Rattle.elf_object.specs.Header.{e_shnum, section_headers_end, is_elf};
-ghost use Rattle.elf_object.specs.Section.{section_header, section_header_at, is_in_file};
+ghost use Rattle.std.specs.Prelude.{◌≡◌, ◌+◌, ◌≤◌, length};
+ghost use Rattle.elf_object.specs.Section.{section_header_at, is_in_file};
+ghost use Rattle.elf_object.specs.Kept.{is_writable, is_allocated, is_executable, is_thread_local};
+ghost use Rattle.elf_object.specs.Table.{has_entries};
 
 use crate::field::{half, long, word};
 
@@ -43,5 +44,40 @@ impl SectionHeader {
         ensures { result ≡ is_in_file self.now }
     {
         self.kind != 0 && self.kind != 8
+    }
+
+    /// `SHF_WRITE`.
+    pub(crate) fn is_writable(&self) -> bool
+        ensures { result ≡ is_writable self.now }
+    {
+        self.flags & 1 != 0
+    }
+
+    /// `SHF_ALLOC`.
+    pub(crate) fn is_allocated(&self) -> bool
+        ensures { result ≡ is_allocated self.now }
+    {
+        self.flags & 2 != 0
+    }
+
+    /// `SHF_EXECINSTR`.
+    pub(crate) fn is_executable(&self) -> bool
+        ensures { result ≡ is_executable self.now }
+    {
+        self.flags & 4 != 0
+    }
+
+    /// `SHF_TLS`.
+    pub(crate) fn is_thread_local(&self) -> bool
+        ensures { result ≡ is_thread_local self.now }
+    {
+        self.flags & 0x400 != 0
+    }
+
+    /// Whether the section has whole entries of 24 bytes, as of symbols and relocations.
+    pub(crate) fn has_entries(&self) -> bool
+        ensures { result ≡ has_entries self.now }
+    {
+        self.entry_size == 24 && self.size % 24 == 0
     }
 }
