@@ -3,7 +3,7 @@ use Rattle.std.proofs.Common.{◌≡◌, ◌==◌, ℕ, zero, suc, ◌+◌, ◌<
 use Rattle.std.specs.Option.{option_or}
 use Rattle.std.proofs.lemmas.Bool.{cases_lt, cases_Bool, eq-eqb, ne_eqb}
 use Rattle.elf_object.proofs.Endings.{cases_Option}
-use Rattle.elf_object.specs.Least.{first_below, is_number}
+use Rattle.elf_object.specs.Least.{first_below, is_number, least_below, lesser}
 
 pub first_begins : (test : ℕ → Bool) → first_below test 0 ≡ None
 unfolding first_below
@@ -86,3 +86,13 @@ first_earlier test n k below holds = go (first_below test k) refl
         let other : (j == k) ≡ false = ne_eqb j k (λ same. absurd (omega arith)) in
         rw (e, stays j n e (omega arith), other) refl
     go None e = rw (e, first_found test k n below e holds, eq-eqb k k refl) refl
+
+-- the least of the numbers below a bound, one step on
+pub least_begins : (given : ℕ → Option ℕ) → least_below given 0 ≡ None
+unfolding least_below
+least_begins given = refl
+
+pub least_step : (given : ℕ → Option ℕ) (n : ℕ) (least one : Option ℕ) → least ≡ least_below given n → one ≡ given n
+    → lesser least one ≡ least_below given (n + 1)
+unfolding least_below
+least_step given n least one p q = rw (add-one, p, q) refl

@@ -1,2 +1,4 @@
 pub mod Endings
 pub mod Bounds
+pub mod Rank
+pub mod Sound

@@ -51,11 +51,13 @@ unfoldable pub symbol_fault : List ℕ → Option ObjectFault
 symbol_fault bytes =
     option_map (λ k. BadSymbol k) (option_or (first_below (is_wrong_symbol bytes) (symbol_count bytes)) (stray_symbol bytes))
 
+-- what is wrong with the sections of a file that are all in it
+abbrev pub section_fault : List ℕ → Option ObjectFault
+section_fault bytes = option_or (table_fault bytes) (option_or (kind_fault bytes) (symbol_fault bytes))
+
 -- what is wrong with an object, if anything is
 unfoldable pub fault_of : List ℕ → Option ObjectFault
-fault_of bytes =
-    option_or (header_fault bytes) (option_or (truncated bytes)
-    (option_or (table_fault bytes) (option_or (kind_fault bytes) (symbol_fault bytes))))
+fault_of bytes = option_or (header_fault bytes) (option_or (truncated bytes) (section_fault bytes))
 
 -- an answer is the right one: an object, which is these bytes, exactly where they have no fault; only want of memory is free
 abbrev pub Answers : List ℕ → Result (List ℕ) ObjectEnd → Type 0

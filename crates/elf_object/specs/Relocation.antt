@@ -1,5 +1,5 @@
 -- Relocations with addends (System V gABI, "Relocation").
-use Rattle.std.specs.Prelude.{◌≡◌, ◌<◌, slice_index_or, ℕ, ◌+◌, ◌*◌, ◌/◌, ◌%◌, ◌^◌, nat_lt, Bool, ◌==◌, ◌&&◌, if◌then◌else◌, Option, Some, None, List, [], length}
+use Rattle.std.specs.Prelude.{◌≡◌, ◌<◌, slice_index_or, ℕ, ◌+◌, ◌*◌, ◌/◌, ◌%◌, ◌^◌, nat_lt, if◌then◌else◌, Option, Some, None, List, [], length}
 use Rattle.std.specs.Int.{cast_signed, w64}
 use Rattle.elf_bytes.specs.Fields.{number_at}
 use Rattle.elf_object.specs.declared.entry.Reloc.{Reloc}

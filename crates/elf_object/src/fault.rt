@@ -61,3 +61,14 @@ impl From<AllocError> for ObjectEnd {
         ObjectEnd::NoMemory
     }
 }
+
+impl From<ObjectFault> for ObjectEnd {
+    ghost use Rattle.std.specs.Prelude.{◌≡◌};
+    ghost use Rattle.elf_object.specs.declared.fault.ObjectEnd.TheVariants as ends;
+
+    ghost from_gives = { λ e r. r ≡ ends.Refused e };
+
+    fn from(fault: ObjectFault) -> Self {
+        ObjectEnd::Refused(fault)
+    }
+}

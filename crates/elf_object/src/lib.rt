@@ -4,6 +4,7 @@
 
 pub use entry::Reloc;
 pub use fault::{ObjectEnd, ObjectFault};
+pub use object::{Object, Relocs, Section, Symbol};
 
 mod cut;
 mod entry;
@@ -11,8 +12,13 @@ mod fault;
 mod field;
 mod first;
 mod header;
+mod kinds;
 mod lookup;
+mod object;
+mod order;
 mod sections;
+mod strays;
 mod strings;
+mod symbols;
 mod tables;
 mod targets;

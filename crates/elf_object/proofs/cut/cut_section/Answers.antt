@@ -1,4 +1,4 @@
-use Rattle.std.proofs.Common.{sym, ◌∙◌}
+use Rattle.std.proofs.Common.{sym}
 use Rattle.elf_object.proofs.Bounds.{first_bound}
 use Rattle.elf_object.proofs.cut.cut_section.Goals as goal
 

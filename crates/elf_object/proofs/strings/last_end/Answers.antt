@@ -1,4 +1,4 @@
-use Rattle.std.proofs.Common.{◌≡◌, ◌<◌, ◌≤◌, ◌∙◌, ap, get_or, arith, below_more}
+use Rattle.std.proofs.Common.{◌≡◌, ◌≤◌, ◌∙◌, ap, get_or, arith, below_more}
 use Rattle.elf_object.proofs.Endings.{last_end_is}
 use Rattle.elf_object.proofs.strings.last_end.Goals as goal
 use Rattle.elf_object.proofs.strings.last_end.Goals.{then-b-eq0, else-b-eq0}

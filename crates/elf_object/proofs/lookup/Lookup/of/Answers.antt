@@ -1,4 +1,4 @@
-use Rattle.std.proofs.Common.{sym, ◌∙◌, ap}
+use Rattle.std.proofs.Common.{◌∙◌, ap}
 use Rattle.elf_object.specs.Section.{section_bytes}
 use Rattle.elf_object.specs.Symbol.{bytes_of, linked_bytes, symbol_bytes, symbol_names}
 use Rattle.elf_object.proofs.lookup.Lookup.of.Goals as goal
