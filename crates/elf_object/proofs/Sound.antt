@@ -1,16 +1,18 @@
 -- What is known of the bytes of an object without a fault.
-use Rattle.std.proofs.Common.{◌≡◌, ℕ, ◌<◌, List, [], false, is_none, unwrap_or, Option, Some, None, option_map, inl, inr, refl}
+use Rattle.std.proofs.Common.{◌≡◌, ℕ, ◌+◌, ◌<◌, ◌≤◌, nat_lt, ◌&&◌, List, [], length, drop, true, false, is_none, unwrap_or, Option, Some, None, option_map, inl, inr, refl, arith}
 use Rattle.std.specs.Option.{option_or}
-use Rattle.std.proofs.lemmas.Bool.{cases_Bool, or_parts}
-use Rattle.elf_object.specs.declared.fault.ObjectFault.TheVariants.{BadTable}
+use Rattle.std.proofs.lemmas.Bool.{cases_Bool, or_parts, ltb-false}
+use Rattle.std.proofs.lemmas.List.{length-take-le, length-drop}
+use Rattle.elf_object.specs.declared.header.SectionHeader.{SectionHeader}
+use Rattle.elf_object.specs.declared.fault.ObjectFault.TheVariants.{BadTable, Truncated}
 use Rattle.elf_object.specs.Least.{first_below}
-use Rattle.elf_object.specs.Header.{e_shnum}
-use Rattle.elf_object.specs.Section.{section_header, section_name}
+use Rattle.elf_object.specs.Header.{e_shnum, e_shoff, section_headers_end}
+use Rattle.elf_object.specs.Section.{section_header, section_name, is_in_file, content}
 use Rattle.elf_object.specs.Kept.{is_wrong_kind}
 use Rattle.elf_object.specs.Table.{is_wrong_start, is_wrong_table, is_wrong_table_of}
 use Rattle.elf_object.specs.Symbol.{symbol_count, is_wrong_symbol}
 use Rattle.elf_object.specs.Relocation.{stray_symbol}
-use Rattle.elf_object.specs.Fault.{header_fault, truncated, table_fault, kind_fault, symbol_fault, fault_of}
+use Rattle.elf_object.specs.Fault.{is_cut, header_fault, truncated, table_fault, kind_fault, symbol_fault, fault_of}
 use Rattle.elf_object.proofs.Bounds.{first_none}
 
 pub record IsSound (bytes : List ℕ) : Type 0 where
@@ -69,3 +71,26 @@ pub section_named : (bytes : List ℕ) (k : ℕ) → fault_of bytes ≡ None →
 section_named bytes k e below =
     let right = (sound bytes e).tables k below in
     there (section_name bytes k) [] (or_parts (is_none (section_name bytes k)) (is_wrong_table_of bytes k (section_header bytes k)) right).0
+
+-- each section that has bytes in the file has all of them there
+right_places : (bytes : List ℕ) → truncated bytes ≡ None → first_below (is_cut bytes) (e_shnum bytes) ≡ None
+unfolding truncated
+right_places bytes e = elim (cases_Bool (nat_lt (length bytes) (section_headers_end bytes))) [
+  | inl past ↦ let no : Some (Truncated (e_shoff bytes)) ≡ None = rw past at e in absurd (cc)
+  | inr within ↦
+      let rest : option_map (λ k. Truncated (section_header bytes k).offset) (first_below (is_cut bytes) (e_shnum bytes)) ≡ None = rw within at e in
+      unmapped (λ (k : ℕ). Truncated (section_header bytes k).offset) _ rest
+]
+
+within_file : (bytes : List ℕ) (h : SectionHeader) → is_in_file h ≡ true
+    → (is_in_file h && nat_lt (length bytes) (h.offset + h.size)) ≡ false → length (content bytes h) ≡ h.size
+unfolding content
+within_file bytes h there right =
+    let inside : nat_lt (length bytes) (h.offset + h.size) ≡ false = rw there at right in
+    let room : h.offset + h.size ≤ length bytes = ltb-false _ _ inside in
+    rw there (length-take-le h.size (drop h.offset bytes) (omega (arith, length-drop h.offset bytes)))
+
+pub section_whole : (bytes : List ℕ) (k : ℕ) → fault_of bytes ≡ None → k < e_shnum bytes → is_in_file (section_header bytes k) ≡ true
+    → length (content bytes (section_header bytes k)) ≡ (section_header bytes k).size
+section_whole bytes k e below there =
+    within_file bytes (section_header bytes k) there (first_none (is_cut bytes) _ k (right_places bytes (sound bytes e).whole) below)

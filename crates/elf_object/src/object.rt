@@ -1,6 +1,6 @@
-ghost use Rattle.std.specs.Prelude.{◌≡◌, ◌<◌, ◌/◌, ◌+◌, ◌*◌, None, Some, [], unwrap_or, length};
+ghost use Rattle.std.specs.Prelude.{◌≡◌, ◌<◌, ◌/◌, ◌+◌, ◌*◌, None, Some, [], unwrap_or, length, true};
 ghost use Rattle.elf_object.specs.Header.{e_shnum};
-ghost use Rattle.elf_object.specs.Section.{content, section_header, section_name};
+ghost use Rattle.elf_object.specs.Section.{content, is_in_file, section_header, section_name};
 ghost use Rattle.elf_object.specs.Kept.{is_kept};
 ghost use Rattle.elf_object.specs.Symbol.{symbol, symbol_count, symbol_name};
 ghost use Rattle.elf_object.specs.Relocation.{relocation_bytes, relocation_count, relocation_in};
@@ -118,6 +118,7 @@ impl<'a> Object<'a> {
         ensures size { result.size ≡ (section_header self.now k).size }
         ensures align { result.align ≡ (section_header self.now k).align }
         ensures bytes { result.bytes.now ≡ content self.now (section_header self.now k) }
+        ensures whole { is_in_file (section_header self.now k) ≡ true → length result.bytes.now ≡ result.size }
     {
         let header = self.lookup.header(k);
         Section {
