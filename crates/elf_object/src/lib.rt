@@ -22,3 +22,5 @@ mod strings;
 mod symbols;
 mod tables;
 mod targets;
+#[cfg(test)]
+mod tests;
