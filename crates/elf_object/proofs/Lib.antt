@@ -2,3 +2,4 @@ pub mod Endings
 pub mod Bounds
 pub mod Rank
 pub mod Sound
+pub mod Rows

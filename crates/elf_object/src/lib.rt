@@ -16,6 +16,10 @@ mod kinds;
 mod lookup;
 mod object;
 mod order;
+#[cfg(test)]
+mod sample_tests;
+#[cfg(test)]
+mod samples;
 mod sections;
 mod strays;
 mod strings;
