@@ -1,10 +1,10 @@
 -- Worked rows of the definitions, computed: least numbers, names, a symbol, a relocation, and the faults of small files.
 use Rattle.std.proofs.Common.{◌≡◌, ◌==◌, ◌-◌, ℕ, negsuc, List, [], ◌∷◌, ◌++◌, replicate, true, false, Some, None, refl}
 use Rattle.elf_object.specs.declared.header.SectionHeader.{SectionHeader}
-use Rattle.elf_object.specs.declared.fault.ObjectFault.TheVariants.{NotElf, NotRelocatable, Flags, Truncated, BadTable, SectionKind}
+use Rattle.elf_object.specs.declared.fault.ObjectFault.TheVariants.{NotElf, NotRelocatable, Flags, Truncated, BadTable}
 use Rattle.elf_bytes.specs.Fields.{number_at}
 use Rattle.elf_object.specs.Least.{first_below, least_below}
-use Rattle.elf_object.specs.Section.{section_header_at, content, section_bytes, section_name}
+use Rattle.elf_object.specs.Section.{section_header_at, content, section_bytes}
 use Rattle.elf_object.specs.Kept.{is_kept, is_kept_by}
 use Rattle.elf_object.specs.Table.{symbol_table}
 use Rattle.elf_object.specs.Symbol.{symbol_in, symbol_bytes, symbol_names}
