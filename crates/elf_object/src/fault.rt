@@ -34,8 +34,10 @@ pub enum ObjectFault {
 /// Why an object could not be read: a fault of its bytes, or want of memory.
 #[derive(Clone, Copy, Debug, PartialEq, Eq, Error)]
 pub enum ObjectEnd {
+    /// The file has this fault.
     #[error("{0}")]
     Refused(ObjectFault),
+    /// Memory could not be had.
     #[error("out of memory")]
     NoMemory,
 }
