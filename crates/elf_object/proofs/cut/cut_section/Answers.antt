@@ -1,0 +1,6 @@
+use Rattle.std.proofs.Common.{sym}
+use Rattle.elf_object.proofs.Bounds.{first_bound}
+use Rattle.elf_object.proofs.cut.cut_section.Goals as goal
+
+pub header-header-requires : goal.header-header-requires
+header-header-requires c = first_bound _ _ _ (sym c.in_ok-first_cut.ensures)

@@ -1,0 +1,21 @@
+-- The least number below a bound at which a test holds, and the least of the numbers that a function gives below a bound.
+use Rattle.std.specs.Prelude.{ℕ, zero, suc, min, Bool, ◌==◌, false, if◌then◌else◌, Option, Some, None}
+use Rattle.std.specs.Option.{option_or}
+
+unfoldable pub first_below : (ℕ → Bool) → ℕ → Option ℕ
+first_below test zero = None
+first_below test (suc n) = option_or (first_below test n) (if test n then Some n else None)
+
+abbrev pub lesser : Option ℕ → Option ℕ → Option ℕ
+lesser None other = other
+lesser (Some a) None = Some a
+lesser (Some a) (Some b) = Some (min a b)
+
+unfoldable pub least_below : (ℕ → Option ℕ) → ℕ → Option ℕ
+least_below given zero = None
+least_below given (suc n) = lesser (least_below given n) (given n)
+
+-- there is a number, and it is this one
+abbrev pub is_number : Option ℕ → ℕ → Bool
+is_number None n = false
+is_number (Some m) n = m == n

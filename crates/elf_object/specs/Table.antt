@@ -1,0 +1,63 @@
+-- The tables of an object: names, symbols and relocations (System V gABI, "Special Sections", "sh_link and sh_info Interpretation").
+use Rattle.std.specs.Prelude.{ℕ, nat_lt, nat_le, ◌%◌, Bool, ◌==◌, ◌&&◌, ◌||◌, not, is_some, is_none, Option, List}
+use Rattle.elf_object.specs.declared.header.SectionHeader.{SectionHeader}
+use Rattle.elf_object.specs.Least.{first_below, is_number}
+use Rattle.elf_object.specs.Header.{e_shoff, e_shentsize, e_shnum, e_shstrndx}
+use Rattle.elf_object.specs.Section.{section_header, section_name}
+use Rattle.elf_object.specs.Kept.{is_kept}
+
+-- SHT_STRTAB
+abbrev pub is_string_table : List ℕ → ℕ → Bool
+is_string_table bytes index = nat_lt index (e_shnum bytes) && (section_header bytes index).kind == 3
+
+-- SHT_SYMTAB
+abbrev pub is_symbol_table : List ℕ → ℕ → Bool
+is_symbol_table bytes index = (section_header bytes index).kind == 2
+
+-- the symbol table is the first section of that type
+unfoldable pub symbol_table : List ℕ → Option ℕ
+symbol_table bytes = first_below (is_symbol_table bytes) (e_shnum bytes)
+
+-- an SHT_RELA section with relocations of the section `target`
+abbrev pub relocates : List ℕ → ℕ → ℕ → Bool
+relocates bytes target index = (section_header bytes index).kind == 4 && (section_header bytes index).info == target
+
+-- whole entries of 24 bytes, as of Elf64_Sym and Elf64_Rela
+abbrev pub has_entries : SectionHeader → Bool
+has_entries h = h.entry_size == 24 && h.size % 24 == 0
+
+-- the header names a section header table that is not there, or not of Elf64_Shdr, or too long without extended numbers,
+-- or one without a table of names
+abbrev pub has_wrong_header : List ℕ → Bool
+has_wrong_header bytes =
+    not (e_shentsize bytes == 64) || nat_le 0xff00 (e_shnum bytes) || not (is_string_table bytes (e_shstrndx bytes))
+
+abbrev pub is_wrong_start : List ℕ → Bool
+is_wrong_start bytes =
+    e_shnum bytes == 0 && not (e_shoff bytes == 0) || not (e_shnum bytes == 0) && has_wrong_header bytes
+
+-- a second symbol table, or one without whole entries or without names
+abbrev pub is_wrong_symbol_table : List ℕ → ℕ → SectionHeader → Bool
+is_wrong_symbol_table bytes index h =
+    is_some (first_below (is_symbol_table bytes) index) || not (has_entries h) || not (is_string_table bytes h.link)
+
+-- relocations of no section; or relocations of a kept one without whole entries or without the symbol table, or after others of it
+abbrev pub is_wrong_rela_of_kept : List ℕ → ℕ → SectionHeader → Bool
+is_wrong_rela_of_kept bytes index h =
+    not (has_entries h) || not (is_number (symbol_table bytes) h.link) || is_some (first_below (relocates bytes h.info) index)
+
+abbrev pub is_wrong_rela : List ℕ → ℕ → SectionHeader → Bool
+is_wrong_rela bytes index h =
+    not (nat_lt h.info (e_shnum bytes)) || is_kept bytes h.info && is_wrong_rela_of_kept bytes index h
+
+-- SHT_REL: relocations without addends, of no section or of a kept one
+abbrev pub is_wrong_rel : List ℕ → SectionHeader → Bool
+is_wrong_rel bytes h = not (nat_lt h.info (e_shnum bytes)) || is_kept bytes h.info
+
+abbrev pub is_wrong_table_of : List ℕ → ℕ → SectionHeader → Bool
+is_wrong_table_of bytes index h =
+    h.kind == 2 && is_wrong_symbol_table bytes index h || h.kind == 4 && is_wrong_rela bytes index h || h.kind == 9 && is_wrong_rel bytes h
+
+-- a section without a name, or a wrong table
+abbrev pub is_wrong_table : List ℕ → ℕ → Bool
+is_wrong_table bytes index = is_none (section_name bytes index) || is_wrong_table_of bytes index (section_header bytes index)

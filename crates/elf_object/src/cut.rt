@@ -1,0 +1,55 @@
+ghost use Rattle.std.specs.Prelude.{◌≡◌, ◌<◌, ◌≤◌, None, Some, IfOk, OnOk, IfErr, length};
+ghost use Rattle.elf_object.specs.Header.{e_shnum};
+ghost use Rattle.elf_object.specs.Least.{first_below};
+ghost use Rattle.elf_object.specs.Fault.{is_cut, cut_section, truncated};
+
+use crate::fault::ObjectFault;
+use crate::field::long;
+use crate::sections::Sections;
+
+/// Whether the bytes of the section with this index leave the file.
+fn is_cut(sections: &Sections, index: u32) -> bool
+    requires { index < e_shnum sections.now }
+    ensures { result ≡ is_cut sections.now index }
+{
+    let header = sections.header(index);
+    header.is_in_file()
+        && (sections.len() as u128) < u128::from(header.offset) + u128::from(header.size)
+}
+
+/// The first section whose bytes leave the file.
+fn first_cut(sections: &Sections) -> Option<u32>
+    ensures { result ≡ first_below (is_cut sections.now) (e_shnum sections.now) }
+{
+    for index in 0..sections.count() {
+        if is_cut(sections, index) {
+            return Some(index);
+        }
+    }
+    None
+}
+
+/// The first section whose bytes leave the file, by its offset.
+pub(crate) fn cut_section(sections: &Sections) -> Option<ObjectFault>
+    ensures { result ≡ cut_section sections.now }
+{
+    let header = sections.header(first_cut(sections)?);
+    Some(ObjectFault::Truncated(header.offset))
+}
+
+/// The sections of a file with room for the ELF header, if they and their headers lie in it.
+#[tactic(auto, unfolding(crate::specs::Fault::truncated))]
+pub(crate) fn whole_sections<'a>(bytes: &'a [u8]) -> Result<Sections<'a>, ObjectFault>
+    requires { 64 ≤ length bytes.now }
+    ensures file { IfOk result (λ s. s ≡ bytes.now) }
+    ensures whole { OnOk result (truncated bytes.now ≡ None) }
+    ensures truncated { IfErr result (λ fault. truncated bytes.now ≡ Some fault) }
+{
+    let Some(sections) = Sections::of(bytes) else {
+        return Err(ObjectFault::Truncated(long(bytes, 40)));
+    };
+    match cut_section(&sections) {
+        Some(fault) => Err(fault),
+        None => Ok(sections),
+    }
+}

@@ -1,0 +1,42 @@
+ghost use Rattle.std.specs.Prelude.{◌≡◌, ◌+◌, ◌*◌, ◌≤◌, ◌<◌, length, None, ◌==◌};
+ghost use Rattle.elf_object.specs.Header.{is_elf, are_flags_taken};
+ghost use Rattle.elf_object.specs.Fault.{header_fault};
+
+use crate::fault::ObjectFault;
+use crate::field::{half, word};
+
+/// Whether a file is 64-bit little-endian ELF, with room for its header.
+fn is_elf(bytes: &[u8]) -> bool
+    ensures { result ≡ is_elf bytes.now }
+{
+    bytes.len() >= 64 && bytes.starts_with(b"\x7fELF\x02\x01\x01")
+}
+
+fn are_flags_taken(flags: u32) -> bool
+    ensures { result ≡ are_flags_taken flags }
+{
+    flags == 0 || flags == 0x10
+}
+
+/// What is wrong with the ELF header.
+#[tactic(auto, unfolding(crate::specs::Fault::header_fault))]
+pub(crate) fn header_fault(bytes: &[u8]) -> Option<ObjectFault>
+    ensures { result ≡ header_fault bytes.now }
+{
+    if !is_elf(bytes) {
+        return Some(ObjectFault::NotElf);
+    }
+    let kind = half(bytes, 16);
+    if kind != 1 {
+        return Some(ObjectFault::NotRelocatable(kind));
+    }
+    let machine = half(bytes, 18);
+    if machine != 243 {
+        return Some(ObjectFault::NotRiscv(machine));
+    }
+    let flags = word(bytes, 48);
+    if !are_flags_taken(flags) {
+        return Some(ObjectFault::Flags(flags));
+    }
+    None
+}

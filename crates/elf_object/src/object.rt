@@ -1,0 +1,177 @@
+ghost use Rattle.std.specs.Prelude.{◌≡◌, ◌<◌, ◌/◌, ◌+◌, ◌*◌, None, Some, [], unwrap_or, length, true};
+ghost use Rattle.elf_object.specs.Header.{e_shnum};
+ghost use Rattle.elf_object.specs.Section.{content, is_in_file, section_header, section_name};
+ghost use Rattle.elf_object.specs.Kept.{is_kept};
+ghost use Rattle.elf_object.specs.Symbol.{symbol, symbol_count, symbol_name};
+ghost use Rattle.elf_object.specs.Relocation.{relocation_bytes, relocation_count, relocation_in};
+ghost use Rattle.elf_object.specs.Fault.{Answers, fault_of};
+
+use crate::cut::whole_sections;
+use crate::entry::Reloc;
+use crate::fault::ObjectEnd;
+use crate::first::header_fault;
+use crate::lookup::Lookup;
+use crate::order::section_fault;
+use std::alloc::Global;
+use std::marker::Model;
+
+/// A section: its name, `sh_type`, `sh_flags`, `sh_size`, `sh_addralign`, and its bytes in the file,
+/// none of `SHT_NULL` and `SHT_NOBITS` (System V gABI, "Section Header").
+#[derive(Clone, Copy, Debug, PartialEq, Eq)]
+pub struct Section<'a> {
+    pub name: &'a [u8],
+    pub kind: u32,
+    pub flags: u64,
+    pub size: u64,
+    pub align: u64,
+    pub bytes: &'a [u8],
+}
+
+/// A symbol: its name, `st_info`, `st_shndx`, `st_value` and `st_size` (System V gABI, "Symbol Table").
+#[derive(Clone, Copy, Debug, PartialEq, Eq)]
+pub struct Symbol<'a> {
+    pub name: &'a [u8],
+    pub info: u8,
+    pub shndx: u16,
+    pub value: u64,
+    pub size: u64,
+}
+
+/// The relocations of a section, in the order of their table.
+#[derive(Debug, Drop)]
+pub struct Relocs<'a> {
+    table: &'a [u8],
+}
+
+impl<'a> Model for Relocs<'a> {
+    ghost use Rattle.std.specs.Prelude.{List, ℕ};
+
+    ghost Value = { List ℕ };
+
+    ghost view = { λ r. r.table.now };
+}
+
+impl<'a> Relocs<'a> {
+    /// How many relocations there are.
+    pub fn count(&self) -> u64
+        ensures { result ≡ relocation_count self.now }
+    {
+        self.table.len() as u64 / 24
+    }
+
+    /// The relocation with the index `k`, from 0.
+    pub fn get(&self, k: u64) -> Reloc
+        requires { k < relocation_count self.now }
+        ensures { result ≡ relocation_in self.now k }
+    {
+        Reloc::read(self.table, k)
+    }
+}
+
+/// A relocatable object without a fault. It borrows the bytes of its file, and is them.
+#[derive(Debug, Drop)]
+pub struct Object<'a> {
+    lookup: Lookup<'a>,
+}
+
+impl<'a> Model for Object<'a> {
+    ghost use Rattle.std.specs.Prelude.{◌≡◌, List, ℕ, None};
+    ghost use Rattle.elf_object.specs.Fault.{fault_of};
+
+    ghost Value = { List ℕ };
+
+    ghost view = { λ o. o.lookup };
+
+    ghost invariant = { λ o. fault_of o.lookup ≡ None };
+}
+
+impl<'a> Object<'a> {
+    /// The object that a file is, or the first fault of the file at its least index.
+    pub fn read(alloc: Global, bytes: &'a [u8]) -> Result<Object<'a>, ObjectEnd>
+        ensures { Answers bytes.now result }
+    {
+        if let Some(fault) = header_fault(bytes) {
+            return Err(ObjectEnd::Refused(fault));
+        }
+        let sections = whole_sections(bytes)?;
+        let lookup = Lookup::of(alloc, sections)?;
+        if let Some(fault) = section_fault(&lookup) {
+            return Err(ObjectEnd::Refused(fault));
+        }
+        Ok(Object { lookup })
+    }
+
+    /// How many sections there are, number 0 among them.
+    pub fn sections(&self) -> u32
+        ensures value { result ≡ e_shnum self.now }
+        ensures sound { fault_of self.now ≡ None }
+    {
+        self.lookup.count()
+    }
+
+    /// The section with the index `k`.
+    pub fn section(&self, k: u32) -> Section<'a>
+        requires { k < e_shnum self.now }
+        ensures name { section_name self.now k ≡ Some result.name.now }
+        ensures kind { result.kind ≡ (section_header self.now k).kind }
+        ensures flags { result.flags ≡ (section_header self.now k).flags }
+        ensures size { result.size ≡ (section_header self.now k).size }
+        ensures align { result.align ≡ (section_header self.now k).align }
+        ensures bytes { result.bytes.now ≡ content self.now (section_header self.now k) }
+        ensures whole { is_in_file (section_header self.now k) ≡ true → length result.bytes.now ≡ result.size }
+    {
+        let header = self.lookup.header(k);
+        Section {
+            name: self.lookup.name(&header),
+            kind: header.kind,
+            flags: header.flags,
+            size: header.size,
+            align: header.align,
+            bytes: self.lookup.sections().content(&header),
+        }
+    }
+
+    /// Whether the section with the index `k` is kept: it is allocated, no note, and not `.eh_frame`.
+    pub fn kept(&self, k: u32) -> bool
+        requires { k < e_shnum self.now }
+        ensures { result ≡ is_kept self.now k }
+    {
+        self.lookup.is_kept(k)
+    }
+
+    /// How many symbols there are, number 0 among them.
+    pub fn symbols(&self) -> u64
+        ensures { result ≡ symbol_count self.now }
+    {
+        self.lookup.symbol_count()
+    }
+
+    /// The symbol with the number `k`. Number 0, which stands for none, may have no name; it is empty then.
+    pub fn symbol(&self, k: u64) -> Symbol<'a>
+        requires { k < symbol_count self.now }
+        ensures name { result.name.now ≡ unwrap_or (symbol_name self.now k) [] }
+        ensures info { result.info ≡ (symbol self.now k).info }
+        ensures shndx { result.shndx ≡ (symbol self.now k).section }
+        ensures value { result.value ≡ (symbol self.now k).value }
+        ensures size { result.size ≡ (symbol self.now k).size }
+    {
+        let entry = self.lookup.symbol(k);
+        Symbol {
+            name: self.lookup.symbol_name(&entry),
+            info: entry.info,
+            shndx: entry.section,
+            value: entry.value,
+            size: entry.size,
+        }
+    }
+
+    /// The relocations of the section with the index `k`, none where it has none or is not kept.
+    pub fn relocs(&self, k: u32) -> Relocs<'a>
+        requires { k < e_shnum self.now }
+        ensures { result ≡ relocation_bytes self.now k }
+    {
+        Relocs {
+            table: self.lookup.relocation_bytes(k),
+        }
+    }
+}

@@ -1,0 +1,88 @@
+ghost use Rattle.std.specs.Prelude.{◌≡◌, ◌<◌, ◌≤◌};
+ghost use Rattle.elf_object.specs.Header.{e_shnum};
+ghost use Rattle.elf_object.specs.Least.{first_below};
+ghost use Rattle.elf_object.specs.Symbol.{
+  has_no_place,
+  has_wrong_alignment,
+  has_wrong_type,
+  is_past_end,
+  is_wrong_entry,
+  is_wrong_symbol,
+  symbol_count,
+};
+
+use crate::entry::SymbolEntry;
+use crate::kinds::is_alignment;
+use crate::lookup::Lookup;
+
+/// `SHN_ABS`: the symbol's value is an address.
+const ABSOLUTE: u16 = 0xfff1;
+
+/// `SHN_COMMON`: the symbol has no place yet, and its value is its alignment.
+const COMMON: u16 = 0xfff2;
+
+/// Whether a symbol stands nowhere that there is.
+fn has_no_place(lookup: &Lookup, entry: &SymbolEntry) -> bool
+    ensures { result ≡ has_no_place lookup.now entry.now }
+{
+    u32::from(entry.section) >= lookup.count()
+        && entry.section != ABSOLUTE
+        && entry.section != COMMON
+}
+
+/// Whether a symbol is of a type that is not taken.
+fn has_wrong_type(entry: &SymbolEntry) -> bool
+    ensures { result ≡ has_wrong_type entry.now }
+{
+    entry.info % 16 == 6 || entry.info % 16 == 10
+}
+
+/// Whether a symbol stands beyond the end of a kept section.
+fn is_past_end(lookup: &Lookup, entry: &SymbolEntry) -> bool
+    ensures { result ≡ is_past_end lookup.now entry.now }
+{
+    let index = u32::from(entry.section);
+    index != 0
+        && index < lookup.count()
+        && lookup.is_kept(index)
+        && lookup.header(index).size < entry.value
+}
+
+/// Whether a symbol without a place yet has an alignment that is not taken.
+fn has_wrong_alignment(entry: &SymbolEntry) -> bool
+    ensures { result ≡ has_wrong_alignment entry.now }
+{
+    entry.section == COMMON && !(is_alignment(entry.value) && entry.value <= 4096)
+}
+
+/// Whether what a symbol says is wrong.
+fn is_wrong_entry(lookup: &Lookup, entry: &SymbolEntry) -> bool
+    ensures { result ≡ is_wrong_entry lookup.now entry.now }
+{
+    !lookup.has_symbol_name(entry)
+        || has_no_place(lookup, entry)
+        || has_wrong_type(entry)
+        || is_past_end(lookup, entry)
+        || has_wrong_alignment(entry)
+}
+
+/// Whether the symbol with this number is wrong.
+fn is_wrong_symbol(lookup: &Lookup, number: u64) -> bool
+    requires { number < symbol_count lookup.now }
+    ensures { result ≡ is_wrong_symbol lookup.now number }
+{
+    let entry = lookup.symbol(number);
+    number != 0 && is_wrong_entry(lookup, &entry)
+}
+
+/// The first wrong symbol.
+pub(crate) fn first_wrong_symbol(lookup: &Lookup) -> Option<u64>
+    ensures { result ≡ first_below (is_wrong_symbol lookup.now) (symbol_count lookup.now) }
+{
+    for number in 0..lookup.symbol_count() {
+        if is_wrong_symbol(lookup, number) {
+            return Some(number);
+        }
+    }
+    None
+}

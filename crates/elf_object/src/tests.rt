@@ -1,0 +1,335 @@
+ghost use Rattle.std.specs.Prelude.{◌<◌};
+
+use super::{Object, ObjectEnd, Reloc, Section, Symbol};
+use std::alloc::{AllocError, Global};
+
+/// The fields of the object that the tests change, in the order of the file: sizes, then values.
+const HEADER_SIZES: [usize; 15] = [4, 4, 8, 2, 2, 4, 8, 8, 8, 4, 2, 2, 2, 2, 2];
+
+static HEADER: [u64; 15] = [
+    0x464c457f, 0x010102, 0, 1, 243, 1, 0, 0, 512, 0, 64, 0, 0, 64, 10,
+];
+
+const SECTION_SIZES: [usize; 10] = [4, 4, 8, 8, 8, 8, 4, 4, 8, 8];
+
+/// Name, type, flags, address, offset, size, link, info, alignment and entry size.
+static SECTIONS: [[u64; 10]; 10] = [
+    [0, 0, 0, 0, 0, 0, 0, 0, 0, 0],
+    [1, 1, 6, 0, 64, 8, 0, 0, 4, 0], // .text
+    [7, 4, 0x40, 0, 72, 24, 7, 1, 8, 24], // .rela.text
+    [18, 1, 3, 0, 96, 8, 0, 0, 8, 0], // .data
+    [24, 8, 3, 0, 104, 16, 0, 0, 8, 0], // .bss
+    [29, 1, 2, 0, 104, 8, 0, 0, 8, 0], // .eh_frame
+    [39, 4, 0x40, 0, 112, 24, 7, 5, 8, 24], // .rela.eh_frame
+    [54, 2, 0, 0, 136, 288, 8, 12, 8, 24], // .symtab
+    [62, 3, 0, 0, 424, 6, 0, 0, 1, 0], // .strtab
+    [70, 3, 0, 0, 432, 80, 0, 0, 1, 0], // .shstrtab
+];
+
+const SYMBOL_SIZES: [usize; 6] = [4, 1, 1, 2, 8, 8];
+
+/// Name, info, other, section, value and size.
+static SYMBOLS: [[u64; 6]; 12] = [
+    [0, 0, 0, 0, 0, 0],
+    [1, 0x12, 0, 1, 0, 8], // main, a function
+    [0, 3, 0, 1, 0, 0],
+    [0, 0x10, 0, 0xfff1, u64::MAX, 0], // absolute
+    [1, 0x11, 0, 0xfff2, 8, 4], // common
+    [3, 0x10, 0, 0, 9, 0], // undefined
+    [5, 0x11, 0, 3, 8, 0],
+    [0, 0x11, 0, 4, 16, 0],
+    [0, 0x10, 0, 5, 1000, 0], // in a section that is not kept
+    [0, 0, 0, 2, 1000, 0],
+    [0, 4, 0, 0xfff1, 0, 0], // a file
+    [0, 0, 0, 1, 4, 0],
+];
+
+const RELOCATION_SIZES: [usize; 4] = [8, 4, 4, 8];
+
+const NAMES: &[u8] =
+    b"\x00.text\x00.rela.text\x00.data\x00.bss\x00.eh_frame\x00.rela.eh_frame\x00.symtab\x00.strtab\x00.shstrtab\x00";
+
+/// What is changed, the bytes from an offset on in hexadecimal, and what is wrong then.
+static CHANGES: &[u8] = b"\
+    32-bit class: 4=01: NotElf\n\
+    high byte first: 5=02: NotElf\n\
+    no version: 6=00: NotElf\n\
+    another system: 7=03: none\n\
+    executable: 16=02: NotRelocatable 2\n\
+    executable of another machine: 16=02, 18=3e: NotRelocatable 2\n\
+    another machine and flags: 18=3e, 48=01: NotRiscv 62\n\
+    compressed instructions: 48=01: Flags 1\n\
+    double floats: 48=04: Flags 4\n\
+    total store order: 48=10: none\n\
+    total store order and compressed: 48=11: Flags 17\n\
+    headers past the end: 40=01: Truncated 513\n\
+    headers whose end wraps to 0: 40=80fdffffffffffff: Truncated 18446744073709550976\n\
+    one header more: 60=0b: Truncated 512\n\
+    end of a section wraps to 0: 728=08, 736=f8ffffffffffffff: Truncated 8\n\
+    a section longer than the file: 736=2104: Truncated 96\n\
+    a section to the end of the file: 736=2004: none\n\
+    the first section that leaves the file: 728=7e04, 856=7d04: Truncated 1150\n\
+    no bytes of a section without bytes: 800=000000000001: none\n\
+    no bytes of section 0: 536=0000000000000080, 544=0000000000000080: none\n\
+    truncated before its tables: 58=3f, 856=d007: Truncated 2000\n\
+    size of section headers: 58=3f: BadTable 0\n\
+    headers but no sections: 60=00: BadTable 0\n\
+    no sections: 40=0000, 60=00: none\n\
+    names in no string table: 62=01: BadTable 0\n\
+    names in no section: 62=0a: BadTable 0\n\
+    a name past the names: 704=50: BadTable 3\n\
+    a name at the last byte: 704=4f: none\n\
+    names without a last NUL: 511=78: BadTable 9\n\
+    names of another table: 62=08: BadTable 2\n\
+    other symbols: 708=02, 712=00, 744=08, 760=18, 736=2001: BadTable 2\n\
+    more symbols: 708=02, 712=00, 744=08, 760=18, 736=2001, 680=03: BadTable 7\n\
+    symbols of another size: 1016=19: BadTable 7\n\
+    a part of a symbol: 992=1f: BadTable 7\n\
+    symbols without names: 1000=01: BadTable 7\n\
+    symbols with names in no section: 1000=0a: BadTable 7\n\
+    relocations of another size: 696=17: BadTable 2\n\
+    a part of a relocation: 672=17: BadTable 2\n\
+    relocations without symbols: 680=08: BadTable 2\n\
+    relocations twice of one section: 940=01: BadTable 6\n\
+    relocations without addends: 900=09, 940=01: BadTable 6\n\
+    relocations without addends of a dropped section: 900=09: none\n\
+    relocations of no section: 940=0a: BadTable 6\n\
+    relocations without addends of no section: 900=09, 940=0a: BadTable 6\n\
+    any relocations of a dropped section: 928=17, 952=01, 936=00: none\n\
+    a wrong table before a wrong kind: 584=07, 1016=19: BadTable 7\n\
+    writable code: 584=07: SectionKind 1\n\
+    alignment 3: 624=03: SectionKind 1\n\
+    a group of sections: 580=11: SectionKind 1\n\
+    a group that is not kept: 900=11: SectionKind 6\n\
+    code without bytes: 580=08: SectionKind 1\n\
+    a part of an instruction: 608=06: SectionKind 1\n\
+    code aligned at 2 to the 63: 624=0000000000000080: none\n\
+    code aligned at more: 624=0100000000000080: SectionKind 1\n\
+    initialisers: 708=0e: SectionKind 3\n\
+    thread-local data: 712=0304: SectionKind 3\n\
+    data aligned at 4096: 752=0010: none\n\
+    data aligned at 8192: 752=0020: SectionKind 3\n\
+    a note: 708=07, 712=07: none\n\
+    unwinding with other flags: 840=07: none\n\
+    the same with a shorter name: 840=07, 832=1e: SectionKind 5\n\
+    the same with a longer name: 840=07, 832=27: SectionKind 5\n\
+    not in memory: 712=0104, 708=0e: none\n\
+    a wrong kind before a wrong symbol: 624=03, 164=1a: SectionKind 1\n\
+    a function found at run time: 164=1a: BadSymbol 1\n\
+    a thread-local symbol: 164=16: BadSymbol 1\n\
+    a symbol nowhere: 166=f3ff: BadSymbol 1\n\
+    a symbol in no section: 166=0a: BadSymbol 1\n\
+    a symbol past its section: 168=09: BadSymbol 1\n\
+    a symbol at its section's end: 168=08: none\n\
+    a symbol past zeros: 312=11: BadSymbol 7\n\
+    a symbol's name past the names: 160=06: BadSymbol 1\n\
+    symbols' names without a last NUL: 429=78: BadSymbol 1\n\
+    a common aligned at 3: 240=03: BadSymbol 4\n\
+    a common aligned at 4096: 240=0010: none\n\
+    a common aligned at 8192: 240=0020: BadSymbol 4\n\
+    a common aligned at 0: 240=00: none\n\
+    any symbol of number 0: 136=ffffffffffffffffffffffffffffffffffffffffffffffff: none\n\
+    a relocation names no symbol: 84=0c: BadSymbol 12\n\
+    a relocation names the last number: 84=ffffffff: BadSymbol 4294967295\n\
+    a dropped relocation names no symbol: 124=0c: none\n\
+    two relocations name no symbol: 84=14, 940=03, 124=0d: BadSymbol 13\n\
+    a wrong symbol before one that is not there: 84=0c, 332=06: BadSymbol 8\n\
+    no symbols, and number 1 named: 992=0000: BadSymbol 1\n\
+    no symbols, and number 0 named: 992=0000, 84=00: BadSymbol 0\n\
+";
+
+/// Appends fields of these sizes, the lowest byte of each first.
+fn put_fields(file: &mut Vec<u8>, values: &[u64], sizes: &[usize]) -> Result<(), AllocError> {
+    for (value, size) in values.iter().zip(sizes) {
+        file.extend_from_slice(value.to_le_bytes().get(..*size).unwrap_or(&[]))?;
+    }
+    Ok(())
+}
+
+/// The object with these parts, 1,152 bytes.
+fn object(alloc: Global) -> Result<Vec<u8>, AllocError> {
+    let mut file = Vec::new(alloc);
+    put_fields(&mut file, &HEADER, &HEADER_SIZES)?;
+    file.extend_from_slice(b"\x09\x00\x13\x05\x70\x00\x67\x80\x00\x00")?;
+    put_fields(&mut file, &[4, 51, 1, u64::MAX - 1], &RELOCATION_SIZES)?;
+    file.resize(112, 0)?;
+    put_fields(&mut file, &[0, 57, 1, 0], &RELOCATION_SIZES)?;
+    for symbol in &SYMBOLS {
+        put_fields(&mut file, symbol, &SYMBOL_SIZES)?;
+    }
+    file.extend_from_slice(b"\x00main\x00\x00\x00")?;
+    file.extend_from_slice(NAMES)?;
+    for section in &SECTIONS {
+        put_fields(&mut file, section, &SECTION_SIZES)?;
+    }
+    Ok(file)
+}
+
+/// Puts bytes in place of a file's own at `at`.
+fn put(file: &mut [u8], at: usize, bytes: &[u8]) {
+    for (place, byte) in file.iter_mut().skip(at).zip(bytes) {
+        *place = *byte;
+    }
+}
+
+/// The value of a hexadecimal digit.
+fn digit(byte: u8) -> u8
+    ensures { result < 16 }
+{
+    match byte {
+        b'0'..=b'9' => byte - b'0',
+        b'a'..=b'f' => byte - b'a' + 10,
+        _ => 0,
+    }
+}
+
+/// The bytes that hexadecimal digits stand for.
+fn bytes_of(alloc: Global, digits: &[u8]) -> Result<Vec<u8>, AllocError> {
+    let mut bytes = Vec::new(alloc);
+    for pair in digits.chunks(2) {
+        if let [high, low] = pair {
+            bytes.push(16 * digit(*high) + digit(*low))?;
+        }
+    }
+    Ok(bytes)
+}
+
+/// Makes one change, as `16=02` puts a 2 at offset 16.
+fn change(alloc: Global, file: &mut [u8], text: &str) -> Result<(), AllocError> {
+    if let Some((at, digits)) = text.split_once("=") {
+        let bytes = bytes_of(alloc, digits.as_bytes())?;
+        put(file, at.parse::<usize>().unwrap_or(usize::MAX), &bytes);
+    }
+    Ok(())
+}
+
+/// The object with the changes of a row.
+fn changed(alloc: Global, changes: &str) -> Result<Vec<u8>, AllocError> {
+    let mut file = object(alloc)?;
+    for text in changes.split(", ") {
+        change(alloc, &mut file, text)?;
+    }
+    Ok(file)
+}
+
+/// What is wrong with a file, in words.
+fn fault(alloc: Global, file: &[u8]) -> Result<String, AllocError> {
+    match Object::read(alloc, file) {
+        Ok(_) => format!(in alloc; "none"),
+        Err(end) => format!(in alloc; "{end}"),
+    }
+}
+
+/// Whether a row says what is wrong with the object that it changes.
+fn is_right(alloc: Global, row: &str) -> Result<bool, AllocError> {
+    if let Some((_, rest)) = row.split_once(": ") {
+        if let Some((changes, expected)) = rest.split_once(": ") {
+            let file = changed(alloc, changes)?;
+            return Ok(fault(alloc, &file)?.as_str() == expected);
+        }
+    }
+    Ok(false)
+}
+
+#[test]
+fn has_the_first_fault(rt: HostRuntime) {
+    let mut count = 0_u32;
+    for row in str::from_utf8(CHANGES).unwrap_or("").lines() {
+        let right = is_right(rt.alloc(), row).expect(&rt, "there is memory");
+        assert!(rt; right, "{row}");
+        count = count.saturating_add(1);
+    }
+    assert_eq!(rt; count, 85);
+}
+
+#[test]
+fn has_its_sections(rt: HostRuntime) {
+    let file = object(rt.alloc()).expect(&rt, "there is memory");
+    let object = Object::read(rt.alloc(), &file).expect(&rt, "it has no fault");
+    let text = Section {
+        name: b".text",
+        kind: 1,
+        flags: 6,
+        size: 8,
+        align: 4,
+        bytes: b"\x13\x05\x70\x00\x67\x80\x00\x00",
+    };
+    assert_eq!(rt; object.sections(), 10);
+    if object.sections() == 10 {
+        assert!(rt; object.section(1) == text);
+        assert!(rt; object.section(4).bytes.is_empty());
+        assert!(rt; object.kept(1) && !object.kept(5));
+    }
+}
+
+#[test]
+fn has_its_symbols(rt: HostRuntime) {
+    let file = object(rt.alloc()).expect(&rt, "there is memory");
+    let object = Object::read(rt.alloc(), &file).expect(&rt, "it has no fault");
+    let common = Symbol {
+        name: b"main",
+        info: 0x11,
+        shndx: 0xfff2,
+        value: 8,
+        size: 4,
+    };
+    assert_eq!(rt; object.symbols(), 12);
+    if object.symbols() == 12 {
+        assert!(rt; object.symbol(4) == common);
+    }
+}
+
+#[test]
+fn has_its_relocations(rt: HostRuntime) {
+    let file = object(rt.alloc()).expect(&rt, "there is memory");
+    let object = Object::read(rt.alloc(), &file).expect(&rt, "it has no fault");
+    let relax = Reloc {
+        offset: 4,
+        symbol: 1,
+        kind: 51,
+        addend: -2,
+    };
+    assert_eq!(rt; object.sections(), 10);
+    if object.sections() == 10 {
+        let relocs = object.relocs(1);
+        assert_eq!(rt; relocs.count(), 1);
+        if relocs.count() == 1 {
+            assert_eq!(rt; relocs.get(0), relax);
+        }
+        assert_eq!(rt; object.relocs(5).count(), 0);
+    }
+}
+
+#[test]
+fn ends_where_it_says(rt: HostRuntime) {
+    let file = object(rt.alloc()).expect(&rt, "there is memory");
+    for (len, expected) in [
+        (0, "NotElf"),
+        (63, "NotElf"),
+        (64, "Truncated 512"),
+        (384, "Truncated 512"),
+        (1151, "Truncated 512"),
+        (1152, "none"),
+    ] {
+        let cut = file.get(..len).unwrap_or(&[]);
+        let fault = fault(rt.alloc(), cut).expect(&rt, "there is memory");
+        assert!(rt; fault.as_str() == expected, "cut at {len}: {fault}");
+    }
+}
+
+/// The object with `count` sections, those past the tenth of all zeros.
+fn long_object(alloc: Global, count: u16) -> Result<Vec<u8>, AllocError> {
+    let mut file = object(alloc)?;
+    put(&mut file, 60, &count.to_le_bytes());
+    file.resize(512 + 64 * count as usize, 0)?;
+    Ok(file)
+}
+
+#[test]
+fn has_fewer_than_ff00_sections(rt: HostRuntime) {
+    for (count, expected) in [(0xfeff, "none"), (0xff00, "BadTable 0")] {
+        let file = long_object(rt.alloc(), count).expect(&rt, "there is memory");
+        let fault = fault(rt.alloc(), &file).expect(&rt, "there is memory");
+        assert!(rt; fault.as_str() == expected, "{count} sections: {fault}");
+    }
+}
