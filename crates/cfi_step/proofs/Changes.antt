@@ -1,5 +1,5 @@
 -- Changes that are made one after the other.
-use Rattle.std.proofs.Common.{◌≡◌, ℕ, ◌+◌, ◌<◌, List, [], ◌∷◌, ◌++◌, length, drop, get_or, map, refl, sym, ◌∙◌, ap, add-one, drop-cons, append_assoc}
+use Rattle.std.proofs.Common.{◌≡◌, ℕ, ◌+◌, ◌<◌, List, [], ◌∷◌, ◌++◌, length, drop, get_or, map, refl, add-one, drop-cons, append_assoc}
 use Rattle.std.specs.List.{AllByRecursion}
 use Rattle.rv_code.specs.Run.{IsDataChange, disturbed}
 use Rattle.rv_code.specs.State.{Shared}

@@ -1,14 +1,10 @@
 -- What the statuses say of the command that was asked for.
-use Rattle.std.proofs.Common.{◌≡◌, ◌⊎◌, ℕ, ◌+◌, ◌<◌, ◌≤◌, List, Option, Some, None, inl, inr, refl, sym, ◌∙◌, ap, arith}
-use Rattle.cfi_step.specs.declared.report.RunReport.{RunReport}
-use Rattle.cfi_step.specs.declared.report.RunEnd.{RunEnd}
-use Rattle.cfi_step.specs.declared.report.RunEnd.TheVariants as ends
-use Rattle.cfi_tool.specs.Causes.{Asks, Explains, ExplainsRequest, HasRun, HasVerdict}
+use Rattle.std.proofs.Common.{◌≡◌, ◌⊎◌, ℕ, ◌≤◌, List, Some, inl, inr, refl, sym, ◌∙◌, arith}
+use Rattle.cfi_tool.specs.Causes.{Explains, HasRun}
 use Rattle.cfi_tool.specs.Command.{Request, RunWords, verify, run, request_of}
 use Rattle.cfi_tool.specs.Headline.{IsAccepted, IsRan}
 use Rattle.cfi_tool.specs.Outcomes.{outcome_status, outcome_text}
 use Rattle.cfi_tool.specs.Reads.{Content}
-use Rattle.cfi_tool.specs.ReportText.{end_status, report_text}
 use Rattle.cfi_tool.specs.declared.outcome.Notice.TheVariants.{Judged, BadScript, Usage, ReadFault, TooLong}
 use Rattle.cfi_tool.specs.declared.outcome.Outcome.{Outcome}
 use Rattle.cfi_tool.specs.declared.outcome.Outcome.TheVariants.{Told, Report}

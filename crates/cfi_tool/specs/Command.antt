@@ -1,7 +1,7 @@
 -- The words of the command line, the program's name first: `verify IMAGE GRAPH` and
 -- `run IMAGE GRAPH SCRIPT INPUT STEPS` are what is taken. The word `none` for SCRIPT or INPUT means no
 -- file.
-use Rattle.std.specs.Prelude.{◌≡◌, ℕ, ◌==◌, nat_le, ◌&&◌, if◌then◌else◌, List, [], ◌∷◌, ◌++◌, length, map, codes, String, string_bytes, Option, Some, None, option_map, option_and_then}
+use Rattle.std.specs.Prelude.{ℕ, nat_le, ◌&&◌, if◌then◌else◌, List, [], ◌∷◌, ◌++◌, length, map, codes, String, string_bytes, Option, Some, None, option_map, option_and_then}
 use Rattle.std.specs.declared.alloc.Global.{Global}
 use Rattle.std.specs.Str.{bytes_eq}
 use Rattle.cfi_step.specs.ScriptText.{decimal_from}

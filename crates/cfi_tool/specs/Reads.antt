@@ -1,7 +1,5 @@
 -- Reading the files that the words name, one after the other.
 use Rattle.std.specs.Prelude.{◌≡◌, ◌⊎◌, ◌≤◌, ◌<◌, ◌^◌, ℕ, List, [], ◌∷◌, length, ⊤, Option, Some, None, IfSome, Result, Ok, Err}
-use Rattle.tool_io.specs.declared.ends.ReadEnd.{ReadEnd}
-use Rattle.tool_io.specs.declared.ends.ReadEnd.TheVariants.{Failed, TooLong as ReadLong, NoMemory as NoReadMemory}
 use Rattle.cfi_tool.specs.declared.read.Unread.{Unread}
 use Rattle.cfi_tool.specs.declared.read.Unread.TheVariants.{Fault, TooLong, NoMemory}
 

@@ -1,5 +1,5 @@
 -- What a run of two files comes to, with a script, if there is one, and an input.
-use Rattle.std.specs.Prelude.{◌≡◌, ℕ, List, [], Option, Some, None, Result, Ok, Err, ⊤}
+use Rattle.std.specs.Prelude.{◌≡◌, ℕ, List, [], Option, Some, None, Result, Ok, Err}
 use Rattle.rv_word.specs.Image.{Contents}
 use Rattle.rv_word.specs.Layout.{version_1}
 use Rattle.rv_code.specs.State.{start_hart, start_shared}

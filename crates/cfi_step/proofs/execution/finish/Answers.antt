@@ -1,4 +1,4 @@
-use Rattle.std.proofs.Common.{◌≡◌, ◌-◌, ◌+◌, suc, ◌∙◌, sym, arith}
+use Rattle.std.proofs.Common.{◌-◌, ◌+◌, ◌∙◌, sym, arith}
 use Rattle.cfi_step.proofs.Continues.{all_taken, count_next, has_end, next, stays_next, stopped}
 use Rattle.cfi_step.proofs.execution.finish.Goals as goal
 

@@ -1,6 +1,4 @@
-use Rattle.std.proofs.Common.{◌≡◌, ◌∙◌, sym}
-use Rattle.rv_code.specs.Run.{IsDataChange}
-use Rattle.cfi_step.specs.Plan.{change_of}
+use Rattle.std.proofs.Common.{◌∙◌}
 use Rattle.cfi_step.proofs.Changes.{shared_next, made_next, allowed_next}
 use Rattle.cfi_step.proofs.running.Running.change.Goals as goal
 
