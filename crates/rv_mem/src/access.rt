@@ -2,18 +2,7 @@ ghost use Rattle.std.specs.Prelude.{◌≡◌, ◌≤◌, ◌+◌, ◌<◌, ◌^
 ghost use Rattle.rv_word.specs.Layout.{can_load, can_store, lies_within, region_of, version_1};
 
 use rv_word::Region;
-
-pub(crate) const DATA_END: u64 = 0x1000_1000;
-
-pub(crate) const DATA_START: u64 = 0x1_0000;
-
-pub(crate) const CODE: u64 = 0x4000_0000;
-
-pub(crate) const CODE_SIZE: u64 = 0x10_0000;
-
-pub(crate) const SHADOW: u64 = 0x6000_0000;
-
-pub(crate) const SHADOW_SIZE: u64 = 0x1_0000;
+use rv_word::memory_map::{CODE_SIZE, CODE_START, DATA_END, SHADOW_SIZE, SHADOW_START};
 
 /// Whether the `n` bytes from `addr` on lie whole in the `size` bytes from `start` on.
 pub(crate) fn is_within(start: u64, size: u64, addr: u64, n: u64) -> bool
@@ -30,8 +19,8 @@ pub(crate) fn is_loadable(addr: u64, n: u8) -> bool
 {
     let n = u64::from(n);
     is_within(0, DATA_END, addr, n)
-        || is_within(CODE, CODE_SIZE, addr, n)
-        || is_within(SHADOW, SHADOW_SIZE, addr, n)
+        || is_within(CODE_START, CODE_SIZE, addr, n)
+        || is_within(SHADOW_START, SHADOW_SIZE, addr, n)
 }
 
 pub(crate) fn is_storable(addr: u64, n: u8) -> bool
@@ -39,7 +28,7 @@ pub(crate) fn is_storable(addr: u64, n: u8) -> bool
     ensures { result ≡ can_store version_1 addr n }
 {
     let n = u64::from(n);
-    is_within(0, DATA_END, addr, n) || is_within(SHADOW, SHADOW_SIZE, addr, n)
+    is_within(0, DATA_END, addr, n) || is_within(SHADOW_START, SHADOW_SIZE, addr, n)
 }
 
 /// The region of an address, if it is in one.
@@ -48,9 +37,9 @@ pub fn region(addr: u64) -> Option<Region>
 {
     if is_within(0, DATA_END, addr, 1) {
         Some(Region::Data)
-    } else if is_within(CODE, CODE_SIZE, addr, 1) {
+    } else if is_within(CODE_START, CODE_SIZE, addr, 1) {
         Some(Region::Code)
-    } else if is_within(SHADOW, SHADOW_SIZE, addr, 1) {
+    } else if is_within(SHADOW_START, SHADOW_SIZE, addr, 1) {
         Some(Region::Shadow)
     } else {
         None

@@ -1,7 +1,7 @@
 ghost use Rattle.std.specs.Prelude.{◌≡◌, ◌<◌, ◌^◌, ◌↔◌, IfSome, IsSome};
 ghost use Rattle.rv_word.specs.Layout.{DATA_END};
 
-use crate::access::DATA_END;
+use rv_word::memory_map::DATA_END;
 use std::marker::Model;
 
 /// A data byte that is changed from outside: its address and what it becomes.

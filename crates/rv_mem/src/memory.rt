@@ -4,11 +4,10 @@ ghost use Rattle.rv_word.specs.Memory.{placed, read, write, zeros, loaded};
 ghost use Rattle.rv_mem.specs.Access.{IsAccessSize};
 ghost use Rattle.rv_mem.specs.Cells.{memory_of, has_room, HasRoom, with_byte, AreBytes};
 
-use crate::access::{
-    CODE, CODE_SIZE, DATA_END, DATA_START, SHADOW, SHADOW_SIZE, is_loadable, is_storable, is_within,
-};
+use crate::access::{is_loadable, is_storable, is_within};
 use crate::change::Change;
 use crate::refusal::{LoadFault, WriteRefusal};
+use rv_word::memory_map::{CODE_SIZE, CODE_START, DATA_END, DATA_START, SHADOW_SIZE, SHADOW_START};
 use rv_word::{Image, NoMemory};
 use std::alloc::Global;
 use std::collections::BTreeMap;
@@ -73,10 +72,10 @@ impl Memory {
     pub fn byte(&self, addr: u64) -> u8
         ensures { result ≡ memory_of self.now addr }
     {
-        if is_within(CODE, CODE_SIZE, addr, 1) {
-            self.code[(addr - CODE) as usize]
-        } else if is_within(SHADOW, SHADOW_SIZE, addr, 1) {
-            self.shadow[(addr - SHADOW) as usize]
+        if is_within(CODE_START, CODE_SIZE, addr, 1) {
+            self.code[(addr - CODE_START) as usize]
+        } else if is_within(SHADOW_START, SHADOW_SIZE, addr, 1) {
+            self.shadow[(addr - SHADOW_START) as usize]
         } else {
             self.written.get(&addr).copied().unwrap_or(0)
         }
@@ -103,8 +102,8 @@ impl Memory {
         ensures memory { memory_of self.new ≡ with_byte (memory_of self.old) addr byte }
         ensures kept { (k : ℕ) → IsTrue (has_room self.old k) → IsTrue (has_room self.new k) }
     {
-        if is_within(SHADOW, SHADOW_SIZE, addr, 1) {
-            self.shadow[(addr - SHADOW) as usize] = byte;
+        if is_within(SHADOW_START, SHADOW_SIZE, addr, 1) {
+            self.shadow[(addr - SHADOW_START) as usize] = byte;
         } else {
             let _ = self.written.insert(addr, byte);
         }

@@ -13,6 +13,7 @@ mod bits;
 mod bytes;
 mod image;
 mod memory;
+pub mod memory_map;
 mod places;
 mod region;
 #[cfg(test)]
