@@ -50,6 +50,9 @@ starts_one : (place : Option Place) (pc : ℕ) → length (if_starts place pc []
 starts_one None pc = omega arith
 starts_one (Some place) pc = omega arith
 
+none_after : (made last : List (ℕ × (ℕ × ℕ))) → made ++ last ≡ made ++ (last ++ [])
+none_after made last = ap (λ m. made ++ m) (sym (append-nil last))
+
 -- at most one address is noted
 pub count_next : (w : List ℕ) (place : Option Place) (pc : ℕ) (t after : TrailParts) → IsTrailOf w t → IsTrailOf (w ++ if_starts place pc []) after → after.count ≤ t.count + 1
 count_next w place pc t after before now =
@@ -222,7 +225,7 @@ module _ (image : Contents) (h0 : Hart) (s0 : Shared) (whole : List (List (ℕ �
         count = omega (arith, here.steps);
         output = ap (λ (a : After). a.shared.output) (sym final);
         events = ap (λ (a : After). a.shared.events) (sym final);
-        made = grown ∙ ap (λ m. made ++ m) (sym (append-nil (map (λ c. (k, c)) cs))) ∙ sym here.changes;
+        made = grown ∙ none_after made (map (λ c. (k, c)) cs) ∙ sym here.changes;
         trail = rw whole_walk (noted w is_trail);
         allowed = here.allowed (one, tt);
       }

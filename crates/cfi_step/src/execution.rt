@@ -37,8 +37,9 @@ fn finish<M: Meddler>(
     running: &mut Running,
 ) -> Result<(RunEnd, u64), NoMemory>
     requires { IsBegun checked.now.image running.old }
-    ensures { IfOk result (λ r. IsOver checked.now.image (hart_in running.old.machine) (shared_in running.old.machine)
+    ensures over { IfOk result (λ r. IsOver checked.now.image (hart_in running.old.machine) (shared_in running.old.machine)
         (planned version_1 (M.plan meddler.old) 0 (hart_in running.old.machine) (shared_in running.old.machine) limit) r.0 r.1 running.new) }
+    ensures kept { M.plan meddler.new ≡ M.plan meddler.old }
 {
     let mut steps = 0;
     while steps < limit {
@@ -73,6 +74,9 @@ pub fn run<M: Meddler>(
     ensures walk { OnOk result (IsGraphWalk version_1 (code_words checked.now.image.code) checked.now.graph.lines
         (walk_of version_1 (code_words checked.now.image.code) start_hart (start_shared checked.now.image input.now)
         (map changes_of (planned version_1 (M.plan meddler.old) 0 start_hart (start_shared checked.now.image input.now) limit)))) }
+
+    // The meddler's plan stays, so that the next run is under the same one.
+    ensures kept { M.plan meddler.new ≡ M.plan meddler.old }
 {
     checked.is_safe();
     safe_stays_in_place();

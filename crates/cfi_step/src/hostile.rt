@@ -9,13 +9,11 @@ use rv_instr::Reg;
 use rv_machine::{Change, Machine};
 use rv_mem::Memory;
 use rv_word::NoMemory;
+use rv_word::memory_map::{DATA_END, SHADOW_START};
 use std::alloc::Global;
 
-/// Where data ends.
-const DATA_END: u64 = 0x1000_1000;
-
 /// The oldest slot of the shadow stack.
-const FIRST_SLOT: u64 = 0x6000_0008;
+const FIRST_SLOT: u64 = SHADOW_START + 8;
 
 /// How many sites may be pending.
 const MOST_PENDING: u64 = 8191;

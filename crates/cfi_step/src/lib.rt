@@ -9,6 +9,7 @@ pub use record::Record;
 pub use report::{Handler, RunEnd, RunReport};
 pub use script::Script;
 pub use script_end::ScriptEnd;
+pub use step_number::{MAX_STEP, capped_number};
 
 mod execution;
 mod hostile;
@@ -24,4 +25,5 @@ mod script_line;
 mod script_read;
 #[cfg(test)]
 mod script_tests;
+mod step_number;
 mod trail;

@@ -101,7 +101,7 @@ impl Running {
             (M.plan meddler.old step (hart_in self.old.machine) (shared_in self.old.machine))) }
         ensures trail { OnOk result ((walk : List ℕ) → IsTrailOf walk self.old.trail
             → IsTrailOf (walk ++ if_starts (place_at version_1 (code_words checked.now.image.code) self.old.machine.pc) self.old.machine.pc []) self.new.trail) }
-        ensures kept { OnOk result (M.plan meddler.new ≡ M.plan meddler.old) }
+        ensures kept { M.plan meddler.new ≡ M.plan meddler.old }
     {
         let mut changes = Vec::new(alloc);
         meddler.meddle(alloc, step, &self.machine, &mut changes)?;

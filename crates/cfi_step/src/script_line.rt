@@ -1,16 +1,14 @@
-ghost use Rattle.std.specs.Prelude.{◌≡◌, IfOk, IfSome, ◌<◌, ◌==◌, ◌&&◌, nat_lt, length, slice_index, option_map};
+ghost use Rattle.std.specs.Prelude.{◌≡◌, IfOk, ◌==◌, ◌&&◌, nat_lt, length, slice_index, option_map};
 ghost use Rattle.std.specs.List.{list_any};
 ghost use Rattle.cfi_graph.specs.Lines.{words_of};
-ghost use Rattle.cfi_step.specs.ScriptText.{data_of, decimal, decimal_digit, decimal_from, line_of, words_after_at};
+ghost use Rattle.cfi_step.specs.ScriptText.{data_of, decimal, line_of, words_after_at};
 ghost use Rattle.cfi_step.specs.ScriptNumbers.{capped, capped_line, is_capital};
 
+use crate::step_number::capped_number;
 use cfi_graph::words::{cut, hex_of, is_word};
 use hex::FromHexError;
 use rv_word::{Bytes, NoMemory};
 use std::alloc::Global;
-
-/// The largest number of steps that a line may have before it.
-pub(crate) const MAX_STEP: u64 = 1_000_000_000;
 
 /// A line of a script: the number of steps taken before it, and bytes from an address on.
 #[derive(Drop)]
@@ -20,27 +18,6 @@ pub(crate) struct ScriptLine {
     pub(crate) bytes: Bytes,
 }
 
-fn decimal_digit(byte: u8) -> Option<u64>
-    ensures value { result ≡ decimal_digit byte }
-    ensures small { IfSome result (λ d. d < 10) }
-{
-    match byte {
-        b'0'..=b'9' => Some(u64::from(byte - b'0')),
-        _ => None,
-    }
-}
-
-/// The number that digits spell in decimal; each number that is too large is given as one.
-fn digits(word: &[u8]) -> Option<u64>
-    ensures { result ≡ option_map capped (decimal_from 0 word.now) }
-{
-    let mut number = 0u64;
-    for byte in word {
-        number = (10 * number + decimal_digit(*byte)?).min(MAX_STEP + 1);
-    }
-    Some(number)
-}
-
 /// Whether a zero stands before other digits.
 fn has_leading_zero(word: &[u8]) -> bool
     ensures { result ≡ (nat_lt 1 (length word.now) && slice_index word.now 0 == 48) }
@@ -48,7 +25,7 @@ fn has_leading_zero(word: &[u8]) -> bool
     word.len() > 1 && word[0] == b'0'
 }
 
-/// The number that a word spells in decimal; each number that is too large is given as one.
+/// The number that a word spells in decimal; each that is too large is given as `MAX_STEP + 1`.
 fn decimal(word: &[u8]) -> Option<u64>
     ensures { result ≡ option_map capped (decimal word.now) }
 {
@@ -58,7 +35,7 @@ fn decimal(word: &[u8]) -> Option<u64>
     if has_leading_zero(word) {
         return None;
     }
-    digits(word)
+    capped_number(word)
 }
 
 fn has_capitals(word: &[u8]) -> bool
@@ -104,7 +81,7 @@ fn words_after_at(line: &[u8]) -> Option<(&[u8], &[u8], &[u8])>
 }
 
 /// The line that these bytes spell, if they have the form of one; each step that is too large is
-/// given as one.
+/// given as `MAX_STEP + 1`.
 pub(crate) fn line_of(alloc: Global, line: &[u8]) -> Result<Option<ScriptLine>, NoMemory>
     ensures { IfOk result (λ r. r ≡ option_map capped_line (line_of (words_of line.now))) }
 {

@@ -1,20 +1,18 @@
 ghost use Rattle.std.specs.Prelude.{◌≡◌, ◌++◌, Bool, true, IfOk, OnOk};
 ghost use Rattle.cfi_graph.specs.Lines.{lines_of, words_of};
 ghost use Rattle.cfi_step.specs.Script.{IsScript};
-ghost use Rattle.cfi_step.specs.ScriptNumbers.{};
 ghost use Rattle.cfi_step.specs.ScriptText.{Answers, body, line_changes, checked, in_range, line_of, script_of};
 
 use crate::script::Script;
 use crate::script_end::ScriptEnd;
-use crate::script_line::{MAX_STEP, ScriptLine, line_of};
+use crate::script_line::{ScriptLine, line_of};
+use crate::step_number::MAX_STEP;
 use cfi_graph::Reason;
 use cfi_graph::words::{cut, is_word};
 use rv_machine::Change;
 use rv_word::NoMemory;
+use rv_word::memory_map::DATA_END;
 use std::alloc::Global;
-
-/// One past the last address of data.
-const DATA_END: u64 = 0x1000_1000;
 
 fn in_range(line: &ScriptLine) -> bool
     ensures { result ≡ in_range line.now }

@@ -4,7 +4,7 @@
 use Rattle.std.specs.Prelude.{ℕ, nat_le, ◌&&◌, if◌then◌else◌, List, [], ◌∷◌, ◌++◌, length, map, codes, String, string_bytes, Option, Some, None, option_map, option_and_then}
 use Rattle.std.specs.declared.alloc.Global.{Global}
 use Rattle.std.specs.Str.{bytes_eq}
-use Rattle.cfi_step.specs.ScriptText.{decimal_from}
+use Rattle.cfi_step.specs.ScriptText.{MAX_STEP, decimal_from}
 
 abbrev pub spelled : List (String Global) → List (List ℕ)
 spelled words = map (λ word. string_bytes word) words
@@ -31,7 +31,7 @@ at_most limit n = if nat_le n limit then Some n else None
 -- 1 to 10 decimal digits with a value up to 1,000,000,000
 abbrev pub steps_of : List ℕ → Option ℕ
 steps_of word =
-    if nat_le 1 (length word) && nat_le (length word) 10 then option_and_then (at_most 1000000000) (decimal_from 0 word) else None
+    if nat_le 1 (length word) && nat_le (length word) 10 then option_and_then (at_most MAX_STEP) (decimal_from 0 word) else None
 
 -- what the words ask for, if they are taken
 abbrev pub request_of : List (List ℕ) → Option Request

@@ -1,22 +1,15 @@
 -- The lines that the tool prints. Lengths, offsets, line numbers and refusals' numbers are decimal,
 -- addresses have eight hexadecimal digits in lower case.
-use Rattle.std.specs.Prelude.{ℕ, zero, suc, ◌+◌, ◌*◌, ◌/◌, ◌%◌, ◌^◌, nat_lt, if◌then◌else◌, List, [], ◌∷◌, ◌++◌, codes}
+use Rattle.std.specs.Prelude.{ℕ, List, ◌++◌, codes}
 use Rattle.std.specs.Fmt.{decimal}
 use Rattle.cfi_tool.specs.Names.{reason_name, rule_name}
+use Rattle.cfi_graph.specs.Text.{hex_text}
 use Rattle.elf_image.specs.declared.refusal.ImageRefusal.{ImageRefusal}
 use Rattle.elf_image.specs.declared.refusal.ImageRefusal.TheVariants.{Short, Byte, Long}
 use Rattle.cfi_verify.specs.declared.reject.Reject.{Reject}
 use Rattle.cfi_verify.specs.declared.reject.Reject.TheVariants.{Length, At}
 use Rattle.cfi_tool.specs.declared.verdict.Verdict.{Verdict}
 use Rattle.cfi_tool.specs.declared.verdict.Verdict.TheVariants.{Accepted, BadImage, BadGraph, Rejected}
-
-abbrev pub hex_digit : ℕ → ℕ
-hex_digit d = if nat_lt d 10 then 48 + d else 87 + d
-
--- the last `count` hexadecimal digits of a number, the highest first
-unfoldable pub hex_text : ℕ → ℕ → List ℕ
-hex_text zero n = []
-hex_text (suc count) n = hex_digit (n / 2 ^ (4 * count) % 2 ^ 4) ∷ hex_text count n
 
 abbrev pub refusal_line : ImageRefusal → List ℕ
 refusal_line (Short len) = codes "refused 22 Short " ++ decimal len

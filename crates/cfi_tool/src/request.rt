@@ -1,11 +1,9 @@
-ghost use Rattle.std.specs.Prelude.{◌≡◌, ◌≤◌, ◌<◌, length, option_map, IfSome};
+ghost use Rattle.std.specs.Prelude.{◌≡◌, option_map};
 ghost use Rattle.std.specs.Str.{bytes_eq};
-ghost use Rattle.cfi_step.specs.ScriptText.{decimal_digit, decimal_from};
 ghost use Rattle.cfi_tool.specs.Command.{file_word, request_of, spelled, steps_of};
 ghost use Rattle.cfi_tool.specs.Asked.{asked};
 
-/// The greatest number of steps that may be asked for.
-const MOST_STEPS: u64 = 1_000_000_000;
+use cfi_step::{MAX_STEP, capped_number};
 
 /// What a run is asked for: its files, and how many steps it takes at most.
 #[derive(Clone, Copy)]
@@ -32,29 +30,8 @@ fn file_word(word: &str) -> Option<&str>
     if word == "none" { None } else { Some(word) }
 }
 
-fn digit(byte: u8) -> Option<u64>
-    ensures value { result ≡ decimal_digit byte }
-    ensures small { IfSome result (λ d. d < 10) }
-{
-    match byte {
-        b'0'..=b'9' => Some(u64::from(byte - b'0')),
-        _ => None,
-    }
-}
-
-/// The number that at most ten decimal digits spell.
-fn number(word: &[u8]) -> Option<u64>
-    requires { length word.now ≤ 10 }
-    ensures { result ≡ decimal_from 0 word.now }
-{
-    let mut number = 0u64;
-    for byte in word {
-        number = 10 * number + digit(*byte)?;
-    }
-    Some(number)
-}
-
 /// The number of steps that a word asks for.
+#[tactic(auto, using(crate::proofs::Steps::steps_capped))]
 fn steps(word: &str) -> Option<u64>
     ensures { result ≡ steps_of word.now }
 {
@@ -62,12 +39,8 @@ fn steps(word: &str) -> Option<u64>
     if digits.is_empty() || digits.len() > 10 {
         return None;
     }
-    let steps = number(digits)?;
-    if steps <= MOST_STEPS {
-        Some(steps)
-    } else {
-        None
-    }
+    let steps = capped_number(digits)?;
+    if steps <= MAX_STEP { Some(steps) } else { None }
 }
 
 /// What the words ask for, if they are taken.

@@ -8,8 +8,8 @@ end_of-requires g c =
     let allowed = rw c.loop-steps.invariant.plan at c.in_ok-turn.ensures.allowed in
     has_end c.args.checked.now.image _ _ _ c.loop-steps.invariant.stays.0 c.loop-steps.invariant.stays.1 allowed _ stepped
 
-pub returns-then-is_stop : goal.returns-then-is_stop
-returns-then-is_stop g c =
+pub returns-then-is_stop-clause-over : goal.returns-then-is_stop-clause-over
+returns-then-is_stop-clause-over g c =
     let stepped = rw c.loop-steps.invariant.plan at c.in_ok-turn.ensures.stepped in
     let allowed = rw c.loop-steps.invariant.plan at c.in_ok-turn.ensures.allowed in
     let made = rw c.loop-steps.invariant.plan at c.in_ok-turn.ensures.made in
@@ -27,11 +27,11 @@ loop-steps-preserved g c =
     record {
       bound = omega (arith, c.loop-steps-test.true);
       count = omega (arith, count, c.loop-steps.invariant.count);
-      plan = c.in_ok-turn.ensures.kept ∙ c.loop-steps.invariant.plan;
+      plan = c.turn.ensures.kept ∙ c.loop-steps.invariant.plan;
       stays = stays_next c.args.checked.now.image _ _ _ c.loop-steps.invariant.stays.0 c.loop-steps.invariant.stays.1 allowed _ stepped goes;
       continues = next c.args.checked.now.image _ _ _ _ _ (c.args.limit - (c.loop-steps.steps + 1)) _ _ _ _ c.args.limit (omega (arith, c.loop-steps-test.true)) _ stepped goes c.turn.new.self.made c.turn.new.self.trail
           c.loop-steps.invariant.continues made c.in_ok-turn.ensures.trail allowed;
     }
 
-pub returns : goal.returns
-returns g c = all_taken _ _ _ _ _ _ _ _ (omega (arith, c.loop-steps-test.false)) c.loop-steps.invariant.continues
+pub returns-clause-over : goal.returns-clause-over
+returns-clause-over g c = all_taken _ _ _ _ _ _ _ _ (omega (arith, c.loop-steps-test.false)) c.loop-steps.invariant.continues

@@ -15,4 +15,4 @@ returns-then-has_leading_zero c =
 
 pub returns : goal.returns
 returns c =
-    c.digits.ensures ∙ sym (ap (option_map capped) (decimal_is c.args.word.now (eqb-false _ _ (sym c.is_empty.ensures ∙ c.if-is_empty.false)) (sym c.has_leading_zero.ensures ∙ c.if-has_leading_zero.false)))
+    c.capped_number.ensures ∙ sym (ap (option_map capped) (decimal_is c.args.word.now (eqb-false _ _ (sym c.is_empty.ensures ∙ c.if-is_empty.false)) (sym c.has_leading_zero.ensures ∙ c.if-has_leading_zero.false)))

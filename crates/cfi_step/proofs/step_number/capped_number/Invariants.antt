@@ -2,7 +2,7 @@ use Rattle.std.proofs.Common.{◌≡◌, ◌+◌, ◌≤◌, drop}
 use Rattle.std.specs.Option.{option_map}
 use Rattle.cfi_step.specs.ScriptNumbers.{capped}
 use Rattle.cfi_step.specs.ScriptText.{MAX_STEP, decimal_from}
-use Rattle.cfi_step.proofs.script_line.digits.Given as goal
+use Rattle.cfi_step.proofs.step_number.capped_number.Given as goal
 
 abbrev pub invariant-loop-byte : goal.invariant-loop-byte
 invariant-loop-byte l =

@@ -2,7 +2,7 @@ use Rattle.std.proofs.Common.{◌∙◌, ap, arith, sym}
 use Rattle.std.specs.Option.{option_map}
 use Rattle.cfi_step.specs.ScriptNumbers.{capped}
 use Rattle.cfi_step.proofs.ScriptDigits.{bad_decimal, next_decimal, no_decimal}
-use Rattle.cfi_step.proofs.script_line.digits.Goals as goal
+use Rattle.cfi_step.proofs.step_number.capped_number.Goals as goal
 
 pub returns-in_err-decimal_digit : goal.returns-in_err-decimal_digit
 returns-in_err-decimal_digit c =
