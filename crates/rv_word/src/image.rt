@@ -11,8 +11,8 @@ pub struct Image<'a> {
 }
 
 impl<'a> Model for Image<'a> {
-    ghost use Rattle.rv_word.specs.Image.{Contents, IsImageSize};
     ghost use Rattle.std.specs.Prelude.{length};
+    ghost use Rattle.rv_word.specs.Image.{Contents, IsImageSize};
 
     ghost Value = { Contents };
 

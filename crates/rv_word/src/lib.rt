@@ -5,15 +5,15 @@
 pub use bits::{add64, field, low32, sext};
 pub use bytes::Bytes;
 pub use image::Image;
-pub use memory::NoMemory;
+pub use no_memory::NoMemory;
 pub use places::Places;
 pub use region::Region;
 
 mod bits;
 mod bytes;
 mod image;
-mod memory;
 pub mod memory_map;
+mod no_memory;
 mod places;
 mod region;
 #[cfg(test)]

@@ -1,6 +1,6 @@
 ghost use Rattle.std.specs.Prelude.{◌≡◌, length, ◌==◌, ◌++◌, ◌∷◌, [], OnOk, OnErr};
 
-use crate::memory::NoMemory;
+use crate::no_memory::NoMemory;
 use std::marker::Model;
 
 /// A list of addresses or places that owns its memory.
@@ -32,18 +32,21 @@ impl Places {
         self.items
     }
 
+    /// The members, lent.
     pub fn as_slice(&self) -> &[u64]
         ensures { result.now ≡ self.now }
     {
         self.items.as_slice()
     }
 
+    /// How many members it has.
     pub fn len(&self) -> usize
         ensures { result ≡ length self.now }
     {
         self.items.len()
     }
 
+    /// Whether it has none.
     pub fn is_empty(&self) -> bool
         ensures { result ≡ (length self.now == 0) }
     {
