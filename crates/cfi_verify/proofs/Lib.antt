@@ -17,6 +17,9 @@ pub mod WordList
 pub mod LineOrder
 pub mod Starts
 pub mod Targets
+pub mod UnitKinds
+pub mod Filters
+pub mod Flags
 pub mod Spots
 pub mod LeastOf
 pub mod RuleOrder

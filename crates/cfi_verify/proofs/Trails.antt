@@ -1,5 +1,5 @@
 -- Each begun instruction of a run along a graph is in its place.
-use Rattle.std.proofs.Common.{◌≡◌, ℕ, ◌⊎◌, inl, inr, List, [], ◌∷◌, refl, sym, ap, subst, ◌∙◌, Option, Some, None}
+use Rattle.std.proofs.Common.{◌≡◌, ℕ, inl, inr, List, [], ◌∷◌, subst, Option, Some, None}
 use Rattle.std.specs.List.{AllByRecursion}
 use Rattle.rv_word.specs.Image.{Contents}
 use Rattle.rv_word.specs.Layout.{Profile, SHADOW, version_1}
@@ -8,7 +8,6 @@ use Rattle.rv_code.specs.State.{Hart, Shared, start_hart, start_shared}
 use Rattle.rv_code.specs.declared.turn.Turn.{Turn}
 use Rattle.rv_code.specs.declared.turn.Turn.TheVariants.{Ran, Exit, Break, LoadFault, StoreFault, FetchFault, Illegal}
 use Rattle.cfi_graph.specs.declared.line.GraphLine.{GraphLine}
-use Rattle.cfi_unit.specs.Place.{Place}
 use Rattle.cfi_verify.specs.Along.{Walk, OnRan, RunsAlong}
 use Rattle.cfi_verify.specs.Laws.{SafeStaysInPlace}
 use Rattle.cfi_verify.specs.Split.{code_words, place_at}

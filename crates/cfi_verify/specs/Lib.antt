@@ -1,4 +1,5 @@
 pub mod Split
+pub mod Kinds
 pub mod Lines
 pub mod Rules
 pub mod Walk

@@ -8,8 +8,10 @@ pub use verifier::{Checked, VerifyEnd, verify};
 
 mod first;
 mod gates;
+mod kind;
 pub mod laws;
 mod lines;
+mod listed;
 mod place;
 mod reject;
 mod rules;

@@ -2,7 +2,11 @@ ghost use Rattle.std.specs.Prelude.{◌≡◌, option_and_then, option_map};
 ghost use Rattle.std.specs.Option.{option_copied};
 ghost use Rattle.cfi_verify.specs.Seen.{gate_label, place_of};
 ghost use Rattle.cfi_verify.specs.Rules.{call_of, edge_of, site_of};
+ghost use Rattle.cfi_verify.specs.Split.{place_at, unit_at};
+ghost use Rattle.rv_word.specs.Layout.{version_1};
 
+use crate::kind::Kind;
+use crate::scan::{OPENING_START, Scan};
 use cfi_graph::SiteKind;
 use cfi_unit::Unit;
 
@@ -19,7 +23,7 @@ pub enum Place {
 }
 
 /// Where a branch or a jump leads.
-pub(crate) fn edge_of(place: Option<&Place>) -> Option<u64>
+fn edge_of(place: Option<&Place>) -> Option<u64>
     ensures { result ≡ option_and_then edge_of (option_map (λ p. place_of p.now) place.entry) }
 {
     match place? {
@@ -30,7 +34,7 @@ pub(crate) fn edge_of(place: Option<&Place>) -> Option<u64>
 }
 
 /// Where the opening or a call leads.
-pub(crate) fn call_of(place: Option<&Place>) -> Option<u64>
+fn call_of(place: Option<&Place>) -> Option<u64>
     ensures { result ≡ option_and_then call_of (option_map (λ p. place_of p.now) place.entry) }
 {
     match place? {
@@ -41,7 +45,7 @@ pub(crate) fn call_of(place: Option<&Place>) -> Option<u64>
 }
 
 /// The kind and the label of a computed transfer.
-pub(crate) fn site_of(place: Option<&Place>) -> Option<(SiteKind, u32)>
+fn site_of(place: Option<&Place>) -> Option<(SiteKind, u32)>
     ensures { result ≡ option_and_then site_of (option_map (λ p. place_of p.now) place.entry) }
 {
     match place? {
@@ -52,11 +56,57 @@ pub(crate) fn site_of(place: Option<&Place>) -> Option<(SiteKind, u32)>
 }
 
 /// The label of a gate.
-pub(crate) fn gate_label(unit: Option<&Unit>) -> Option<u32>
+fn gate_label(unit: Option<&Unit>) -> Option<u32>
     ensures { result ≡ option_and_then gate_label (option_copied unit.entry) }
 {
     match unit? {
         Unit::Gate(label) => Some(label.bits()),
         _ => None,
+    }
+}
+
+impl<'a> Scan<'a> {
+    /// Where the branch or the jump at an address leads.
+    pub(crate) fn edge_at(&self, address: u64) -> Option<u64>
+        ensures { result ≡ option_and_then edge_of (place_at version_1 self.now.words address) }
+    {
+        if self.has_kind(address, Kind::Edge) {
+            edge_of(self.place_at(address).as_ref())
+        } else {
+            None
+        }
+    }
+
+    /// Where the opening or the call at an address leads.
+    pub(crate) fn call_at(&self, address: u64) -> Option<u64>
+        ensures { result ≡ option_and_then call_of (place_at version_1 self.now.words address) }
+    {
+        if address == OPENING_START || self.has_kind(address, Kind::Call) {
+            call_of(self.place_at(address).as_ref())
+        } else {
+            None
+        }
+    }
+
+    /// The kind and the label of the computed transfer at an address.
+    pub(crate) fn site_at(&self, address: u64) -> Option<(SiteKind, u32)>
+        ensures { result ≡ option_and_then site_of (place_at version_1 self.now.words address) }
+    {
+        if self.has_kind(address, Kind::Computed) {
+            site_of(self.place_at(address).as_ref())
+        } else {
+            None
+        }
+    }
+
+    /// The label of the gate at an address.
+    pub(crate) fn gate_at(&self, address: u64) -> Option<u32>
+        ensures { result ≡ option_and_then gate_label (unit_at version_1 self.now.words address) }
+    {
+        if self.has_kind(address, Kind::Gate) {
+            gate_label(self.unit_at(address).as_ref())
+        } else {
+            None
+        }
     }
 }

@@ -43,13 +43,15 @@ ghost use Rattle.cfi_verify.specs.Split.{is_start, place_at, unit_at};
 ghost use Rattle.cfi_verify.specs.declared.reject.Rule.TheVariants as R;
 
 use crate::lines::is_among;
-use crate::place::{call_of, edge_of, gate_label, site_of};
 use crate::reject::Rule;
 use crate::scan::{CODE_START, Scan, UNITS_START};
 use cfi_graph::{GraphLine, SiteKind};
 use cfi_unit::Unit;
 use rv_code::decode;
 use rv_instr::Instr;
+
+/// How many bytes the longest unit has, a computed call.
+const LONGEST_UNIT: u64 = 80;
 
 /// The prologue's words. Word 13 is the opening's `jal x1` to the entry, which may lead anywhere.
 const PROLOGUE: [u32; 16] = [
@@ -127,8 +129,8 @@ impl<'a> Scan<'a> {
     fn fails_unit(&self, address: u64) -> bool
         ensures { result ≡ fails_unit version_1 self.now.words address }
     {
-        let started = self.starts().len();
-        address == UNITS_START + 4 * started as u64 && started < self.units().len()
+        let covered = self.split_words();
+        address == UNITS_START + 4 * covered as u64 && covered < self.units().len()
     }
 
     fn misses_start(&self, target: Option<u64>) -> bool
@@ -143,18 +145,16 @@ impl<'a> Scan<'a> {
     fn fails_target(&self, address: u64) -> bool
         ensures { result ≡ fails_target version_1 self.now.words address }
     {
-        let place = self.place_at(address);
-        self.misses_start(edge_of(place.as_ref())) || self.misses_start(call_of(place.as_ref()))
+        self.misses_start(self.edge_at(address)) || self.misses_start(self.call_at(address))
     }
 
     fn fails_unlisted(&self, address: u64) -> bool
         ensures { result ≡ fails_unlisted version_1 self.now.words self.now.graph.lines address }
     {
-        let place = self.place_at(address);
-        if let Some(target) = edge_of(place.as_ref()) {
+        if let Some(target) = self.edge_at(address) {
             return !is_edge_to(self.line_at(address), target);
         }
-        match call_of(place.as_ref()) {
+        match self.call_at(address) {
             Some(target) => !is_call_to(self.line_at(address), target),
             None => false,
         }
@@ -164,8 +164,8 @@ impl<'a> Scan<'a> {
         ensures { result ≡ fails_unused version_1 self.now.words self.now.graph.lines address }
     {
         match self.line_at(address) {
-            Some(GraphLine::Edge(..)) => edge_of(self.place_at(address).as_ref()).is_none(),
-            Some(GraphLine::Call(..)) => call_of(self.place_at(address).as_ref()).is_none(),
+            Some(GraphLine::Edge(..)) => self.edge_at(address).is_none(),
+            Some(GraphLine::Call(..)) => self.call_at(address).is_none(),
             _ => false,
         }
     }
@@ -174,7 +174,7 @@ impl<'a> Scan<'a> {
         ensures { result ≡ fails_site version_1 self.now.words self.now.graph.lines address }
     {
         let line = self.line_at(address);
-        match site_of(self.place_at(address).as_ref()) {
+        match self.site_at(address) {
             Some((kind, label)) => {
                 !(is_site_with(line, kind, label) && self.class_of(label).is_some())
             }
@@ -185,7 +185,7 @@ impl<'a> Scan<'a> {
     fn fails_astray(&self, address: u64) -> bool
         ensures { result ≡ fails_astray version_1 self.now.words self.now.graph.lines address }
     {
-        match gate_label(self.unit_at(address).as_ref()) {
+        match self.gate_at(address) {
             Some(label) => self.is_outside(label, address),
             None => false,
         }
@@ -206,6 +206,9 @@ impl<'a> Scan<'a> {
         ensures { result ≡ fails_end version_1 self.now.words address }
     {
         let end = CODE_START + 4 * self.words().len() as u64;
+        if address + LONGEST_UNIT < end {
+            return false;
+        }
         match self.counted_unit_at(address) {
             Some((unit, count)) => {
                 (address + 4 * u64::from(count) == end && unit != Unit::Stop)

@@ -7,15 +7,19 @@ ghost use Rattle.std.specs.Prelude.{
   IfOk,
   IfSome,
   IsTrue,
+  None,
+  is_some,
   length,
   nat_lt,
   option_map,
   slice_get,
+  true,
 };
 ghost use Rattle.std.specs.Option.{option_copied};
 ghost use Rattle.rv_word.specs.Layout.{CODE_SIZE, version_1};
 ghost use Rattle.cfi_graph.specs.Graph.{IsGraph, is_rising};
 ghost use Rattle.cfi_unit.specs.UnitWords.{word_count};
+ghost use Rattle.cfi_verify.specs.Kinds.{has_kind, kind_in, kind_of};
 ghost use Rattle.cfi_verify.specs.Lines.{class_of, line_at};
 ghost use Rattle.cfi_verify.specs.Seen.{place_of};
 ghost use Rattle.cfi_verify.specs.Split.{
@@ -29,7 +33,9 @@ ghost use Rattle.cfi_verify.specs.Split.{
   unit_words,
 };
 
+use crate::kind::{Kind, same_kind};
 use crate::lines;
+use crate::listed::listed;
 use crate::place::Place;
 use crate::split::split;
 use crate::words::code_words;
@@ -44,7 +50,7 @@ use std::marker::Model;
 /// Where code begins, and where the prologue's parts and the first unit stand.
 pub(crate) const CODE_START: u64 = 0x4000_0000;
 
-const OPENING_START: u64 = 0x4000_000c;
+pub(crate) const OPENING_START: u64 = 0x4000_000c;
 
 const OPENING_CALL: u64 = 0x4000_0034;
 
@@ -52,11 +58,13 @@ const CLOSING_START: u64 = 0x4000_0038;
 
 pub(crate) const UNITS_START: u64 = 0x4000_0040;
 
-/// The words of a code, where its units start, and the graph that is asked about them.
+/// The words of a code, the kind of each unit at its first word, a flag for each word at which a line
+/// of the graph stands, and the graph.
 #[derive(Drop)]
 pub(crate) struct Scan<'a> {
     words: Vec<u32>,
-    starts: Vec<bool>,
+    kinds: Vec<Option<Kind>>,
+    listed: Vec<bool>,
     graph: &'a Graph,
 }
 
@@ -67,7 +75,7 @@ impl<'a> Model for Scan<'a> {
 
     ghost view = { λ s. record { words = s.words.items; graph = s.graph.now } };
 
-    ghost invariant = { λ s. IsScan s.words.items s.starts.items s.graph.now };
+    ghost invariant = { λ s. IsScan s.words.items s.kinds.items s.listed.items s.graph.now };
 }
 
 impl<'a> Scan<'a> {
@@ -82,10 +90,12 @@ impl<'a> Scan<'a> {
     {
         let _ = graph.code();
         let words = code_words(alloc, image.code())?;
-        let starts = split(alloc, units(&words), UNITS_START)?;
+        let kinds = split(alloc, units(&words), UNITS_START)?;
+        let listed = listed(alloc, graph, words.len())?;
         Ok(Scan {
             words,
-            starts,
+            kinds,
+            listed,
             graph,
         })
     }
@@ -100,12 +110,12 @@ impl<'a> Scan<'a> {
         &self.words
     }
 
-    /// For each word from the first unit on, whether a unit starts there.
-    pub(crate) fn starts(&self) -> &[bool]
-        ensures value { result.now ≡ unit_starts version_1 self.now.words }
-        ensures room { 4 * length result.now ≤ CODE_SIZE }
+    /// How many words from the first unit on the split covers.
+    pub(crate) fn split_words(&self) -> usize
+        ensures value { result ≡ length (unit_starts version_1 self.now.words) }
+        ensures room { 4 * result ≤ CODE_SIZE }
     {
-        &self.starts
+        self.kinds.len()
     }
 
     /// The words from the first unit on.
@@ -123,18 +133,33 @@ impl<'a> Scan<'a> {
         self.graph
     }
 
+    /// The kind of the unit that starts at an address.
+    fn kind_at(&self, address: u64) -> Option<Kind>
+        ensures kind { result ≡ option_map kind_of (unit_at version_1 self.now.words address) }
+        ensures start { is_some result ≡ is_start version_1 self.now.words address }
+    {
+        if address >= UNITS_START && address % 4 == 0 {
+            kind_in(&self.kinds, ((address - UNITS_START) / 4) as usize)
+        } else {
+            None
+        }
+    }
+
+    /// Whether a unit of a kind starts at an address.
+    pub(crate) fn has_kind(&self, address: u64, kind: Kind) -> bool
+        ensures { result ≡ has_kind (unit_at version_1 self.now.words address) kind }
+    {
+        match self.kind_at(address) {
+            Some(found) => same_kind(found, kind),
+            None => false,
+        }
+    }
+
     /// Whether an address is the start of a unit.
-    #[tactic(auto, unfolding(crate::specs::Split::is_start))]
     pub(crate) fn is_start(&self, address: u64) -> bool
         ensures { result ≡ is_start version_1 self.now.words address }
     {
-        address >= UNITS_START
-            && address % 4 == 0
-            && self
-                .starts
-                .get(((address - UNITS_START) / 4) as usize)
-                .copied()
-                .unwrap_or(false)
+        self.kind_at(address).is_some()
     }
 
     /// The unit that starts at an address, and how many words it has.
@@ -190,7 +215,24 @@ impl<'a> Scan<'a> {
     pub(crate) fn line_at(&self, address: u64) -> Option<&'a GraphLine>
         ensures { option_copied result ≡ line_at self.now.graph.lines address }
     {
-        lines::line_at(self.graph, address)
+        if self.is_unlisted(address) {
+            None
+        } else {
+            lines::line_at(self.graph, address)
+        }
+    }
+
+    /// Whether the flags say that no line stands at an address.
+    fn is_unlisted(&self, address: u64) -> bool
+        ensures { result ≡ true → line_at self.now.graph.lines address ≡ None }
+    {
+        address >= CODE_START
+            && address % 4 == 0
+            && self
+                .listed
+                .get(((address - CODE_START) / 4) as usize)
+                .copied()
+                == Some(false)
     }
 
     /// The targets of the class with a label.
@@ -206,6 +248,12 @@ fn is_handler(address: u64) -> bool
     ensures { result ≡ is_handler address }
 {
     address == 0x4000_0000 || address == 0x4000_0004 || address == 0x4000_0008
+}
+
+fn kind_in(kinds: &[Option<Kind>], index: usize) -> Option<Kind>
+    ensures { result ≡ kind_in kinds.now index }
+{
+    *kinds.get(index)?
 }
 
 /// The words from the first unit on.

@@ -1,6 +1,5 @@
-use Rattle.std.proofs.Common.{◌≡◌, ◌+◌, ◌*◌, ◌++◌, drop}
-use Rattle.cfi_verify.specs.Split.{starts}
+use Rattle.cfi_verify.proofs.UnitKinds.{KindsSoFar}
 use Rattle.cfi_verify.proofs.split.split.Given as goal
 
 abbrev pub invariant-loop-k : goal.invariant-loop-k
-invariant-loop-k l = l.marks.items ++ starts l.skip (drop l.k l.words) (l.at + 4 * l.k) ≡ starts 0 l.words l.at
+invariant-loop-k l = KindsSoFar l.kinds.items l.words l.at l.skip l.k
