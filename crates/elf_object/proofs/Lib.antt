@@ -1,5 +1,4 @@
-pub mod Endings
-pub mod Bounds
+pub mod Least
 pub mod Rank
 pub mod Sound
 pub mod Rows

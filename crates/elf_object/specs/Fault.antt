@@ -5,13 +5,15 @@ use Rattle.elf_object.specs.declared.fault.ObjectFault.{ObjectFault}
 use Rattle.elf_object.specs.declared.fault.ObjectFault.TheVariants.{NotElf, NotRelocatable, NotRiscv, Flags, Truncated, BadTable, SectionKind, BadSymbol}
 use Rattle.elf_object.specs.declared.fault.ObjectEnd.{ObjectEnd}
 use Rattle.elf_object.specs.declared.fault.ObjectEnd.TheVariants.{Refused, NoMemory}
-use Rattle.elf_object.specs.Least.{first_below}
-use Rattle.elf_object.specs.Header.{is_elf, e_type, e_machine, e_flags, are_flags_taken, e_shoff, e_shnum, section_headers_end}
-use Rattle.elf_object.specs.Section.{section_header, is_in_file}
-use Rattle.elf_object.specs.Kept.{is_wrong_kind}
+use Rattle.elf_tables.specs.Least.{first_below}
+use Rattle.elf_tables.specs.Header.{e_shoff, e_shnum, section_headers_end}
+use Rattle.elf_object.specs.Header.{is_elf, e_type, e_machine, e_flags, are_flags_taken}
+use Rattle.elf_tables.specs.Section.{section_header, is_in_file}
+use Rattle.elf_object.specs.Kind.{is_wrong_kind}
 use Rattle.elf_object.specs.Table.{is_wrong_start, is_wrong_table}
-use Rattle.elf_object.specs.Symbol.{symbol_count, is_wrong_symbol}
-use Rattle.elf_object.specs.Relocation.{stray_symbol}
+use Rattle.elf_tables.specs.Symbol.{symbol_count}
+use Rattle.elf_object.specs.Symbol.{is_wrong_symbol}
+use Rattle.elf_object.specs.Stray.{stray_symbol}
 
 -- the ELF header: not ELF, no ET_REL, no EM_RISCV, other flags
 unfoldable pub header_fault : List ℕ → Option ObjectFault

@@ -1,5 +1,5 @@
--- The ELF header of an object file, by the names of its fields (System V gABI, "ELF Header"; RISC-V ELF psABI, "File Header").
-use Rattle.std.specs.Prelude.{◌≡◌, ◌≤◌, ℕ, ◌+◌, ◌*◌, nat_le, nat_eq, Bool, ◌==◌, ◌&&◌, ◌||◌, List, [], ◌∷◌, length}
+-- What the ELF header of an object says of its class, machine and flags (System V gABI, "ELF Header"; RISC-V ELF psABI, "File Header").
+use Rattle.std.specs.Prelude.{ℕ, nat_le, nat_eq, Bool, ◌==◌, ◌&&◌, ◌||◌, List, [], ◌∷◌, length}
 use Rattle.std.specs.List.{starts_with}
 use Rattle.elf_bytes.specs.Fields.{number_at}
 
@@ -17,32 +17,9 @@ e_type bytes = number_at bytes 16 2
 abbrev pub e_machine : List ℕ → ℕ
 e_machine bytes = number_at bytes 18 2
 
-abbrev pub e_shoff : List ℕ → ℕ
-e_shoff bytes = number_at bytes 40 8
-
 abbrev pub e_flags : List ℕ → ℕ
 e_flags bytes = number_at bytes 48 4
-
-abbrev pub e_shentsize : List ℕ → ℕ
-e_shentsize bytes = number_at bytes 58 2
-
-abbrev pub e_shnum : List ℕ → ℕ
-e_shnum bytes = number_at bytes 60 2
-
-abbrev pub e_shstrndx : List ℕ → ℕ
-e_shstrndx bytes = number_at bytes 62 2
 
 -- no flag, or EF_RISCV_TSO alone: neither RVC, nor a float ABI, nor RVE
 abbrev pub are_flags_taken : ℕ → Bool
 are_flags_taken flags = flags == 0 || flags == 0x10
-
--- where the section header table ends
-abbrev pub section_headers_end : List ℕ → ℕ
-section_headers_end bytes = e_shoff bytes + 64 * e_shnum bytes
-
--- a section header table at this offset, with so many headers, lies in the file
-pub record IsTable (bytes : List ℕ) (at count : ℕ) : Type 0 where
-  pub begins : at ≡ e_shoff bytes
-  pub headers : count ≡ e_shnum bytes
-  pub header : 64 ≤ length bytes
-  pub inside : section_headers_end bytes ≤ length bytes

@@ -1,10 +1,5 @@
--- The least number below a bound at which a test holds, and the least of the numbers that a function gives below a bound.
-use Rattle.std.specs.Prelude.{ℕ, zero, suc, min, Bool, ◌==◌, false, if◌then◌else◌, Option, Some, None}
-use Rattle.std.specs.Option.{option_or}
-
-unfoldable pub first_below : (ℕ → Bool) → ℕ → Option ℕ
-first_below test zero = None
-first_below test (suc n) = option_or (first_below test n) (if test n then Some n else None)
+-- The least of the numbers that a function gives below a bound.
+use Rattle.std.specs.Prelude.{ℕ, zero, suc, min, Bool, ◌==◌, false, Option, Some, None}
 
 abbrev pub lesser : Option ℕ → Option ℕ → Option ℕ
 lesser None other = other

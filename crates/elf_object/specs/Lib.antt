@@ -1,10 +1,7 @@
 pub mod Least
 pub mod Header
-pub mod Section
-pub mod Names
-pub mod Kept
+pub mod Kind
 pub mod Table
 pub mod Symbol
-pub mod Relocation
-pub mod Lookup
+pub mod Stray
 pub mod Fault

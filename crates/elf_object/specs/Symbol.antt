@@ -1,47 +1,12 @@
--- Symbols (System V gABI, "Symbol Table").
-use Rattle.std.specs.Prelude.{ℕ, ◌+◌, ◌*◌, ◌/◌, ◌%◌, nat_lt, nat_le, Bool, ◌==◌, ◌&&◌, ◌||◌, not, is_none, Option, Some, None, List, [], length, slice_index}
-use Rattle.elf_bytes.specs.Fields.{number_at, string_at}
-use Rattle.elf_object.specs.declared.entry.SymbolEntry.{SymbolEntry}
-use Rattle.elf_object.specs.Header.{e_shnum}
-use Rattle.elf_object.specs.Section.{section_header, section_bytes}
-use Rattle.elf_object.specs.Kept.{is_kept, is_alignment}
-use Rattle.elf_object.specs.Table.{symbol_table}
-
--- the bytes of a symbol table, and those of its names: the section sh_link
-abbrev pub bytes_of : List ℕ → Option ℕ → List ℕ
-bytes_of bytes None = []
-bytes_of bytes (Some index) = section_bytes bytes index
-
-abbrev pub linked_bytes : List ℕ → Option ℕ → List ℕ
-linked_bytes bytes None = []
-linked_bytes bytes (Some index) = section_bytes bytes (section_header bytes index).link
-
-unfoldable pub symbol_bytes : List ℕ → List ℕ
-symbol_bytes bytes = bytes_of bytes (symbol_table bytes)
-
-unfoldable pub symbol_names : List ℕ → List ℕ
-symbol_names bytes = linked_bytes bytes (symbol_table bytes)
-
--- how many symbols there are, number 0 among them
-abbrev pub symbol_count : List ℕ → ℕ
-symbol_count bytes = length (symbol_bytes bytes) / 24
-
--- the symbol with a number in the bytes of a symbol table
-unfoldable pub symbol_in : List ℕ → ℕ → SymbolEntry
-symbol_in table number = record {
-  name = number_at table (24 * number) 4;  -- st_name
-  info = slice_index table (24 * number + 4);  -- st_info
-  section = number_at table (24 * number + 6) 2;  -- st_shndx
-  value = number_at table (24 * number + 8) 8;  -- st_value
-  size = number_at table (24 * number + 16) 8;  -- st_size
-}
-
-abbrev pub symbol : List ℕ → ℕ → SymbolEntry
-symbol bytes number = symbol_in (symbol_bytes bytes) number
-
--- the name of a symbol, if its NUL is in the table
-abbrev pub symbol_name : List ℕ → ℕ → Option (List ℕ)
-symbol_name bytes number = string_at (symbol_names bytes) (symbol bytes number).name
+-- Wrong symbols (System V gABI, "Symbol Table").
+use Rattle.std.specs.Prelude.{ℕ, ◌%◌, nat_lt, nat_le, Bool, ◌==◌, ◌&&◌, ◌||◌, not, is_none, List}
+use Rattle.elf_bytes.specs.Fields.{string_at}
+use Rattle.elf_tables.specs.declared.entry.SymbolEntry.{SymbolEntry}
+use Rattle.elf_tables.specs.Header.{e_shnum}
+use Rattle.elf_tables.specs.Section.{section_header}
+use Rattle.elf_tables.specs.Kept.{is_kept}
+use Rattle.elf_tables.specs.Symbol.{symbol, symbol_names}
+use Rattle.elf_object.specs.Kind.{is_alignment}
 
 -- STT_TLS and STT_GNU_IFUNC
 abbrev pub has_wrong_type : SymbolEntry → Bool

@@ -1,30 +1,16 @@
--- The tables of an object: names, symbols and relocations (System V gABI, "Special Sections", "sh_link and sh_info Interpretation").
-use Rattle.std.specs.Prelude.{ℕ, nat_lt, nat_le, ◌%◌, Bool, ◌==◌, ◌&&◌, ◌||◌, not, is_some, is_none, Option, List}
-use Rattle.elf_object.specs.declared.header.SectionHeader.{SectionHeader}
-use Rattle.elf_object.specs.Least.{first_below, is_number}
-use Rattle.elf_object.specs.Header.{e_shoff, e_shentsize, e_shnum, e_shstrndx}
-use Rattle.elf_object.specs.Section.{section_header, section_name}
-use Rattle.elf_object.specs.Kept.{is_kept}
+-- Wrong tables of names, symbols and relocations (System V gABI, "Special Sections", "sh_link and sh_info Interpretation").
+use Rattle.std.specs.Prelude.{ℕ, nat_lt, nat_le, Bool, ◌==◌, ◌&&◌, ◌||◌, not, is_some, is_none, List}
+use Rattle.elf_tables.specs.declared.header.SectionHeader.{SectionHeader}
+use Rattle.elf_tables.specs.Least.{first_below}
+use Rattle.elf_tables.specs.Header.{e_shoff, e_shentsize, e_shnum, e_shstrndx}
+use Rattle.elf_tables.specs.Section.{section_header, section_name}
+use Rattle.elf_tables.specs.Kept.{is_kept}
+use Rattle.elf_tables.specs.Table.{is_symbol_table, symbol_table, relocates, has_entries}
+use Rattle.elf_object.specs.Least.{is_number}
 
 -- SHT_STRTAB
 abbrev pub is_string_table : List ℕ → ℕ → Bool
 is_string_table bytes index = nat_lt index (e_shnum bytes) && (section_header bytes index).kind == 3
-
--- SHT_SYMTAB
-abbrev pub is_symbol_table : List ℕ → ℕ → Bool
-is_symbol_table bytes index = (section_header bytes index).kind == 2
-
--- the symbol table is the first section of that type
-unfoldable pub symbol_table : List ℕ → Option ℕ
-symbol_table bytes = first_below (is_symbol_table bytes) (e_shnum bytes)
-
--- an SHT_RELA section with relocations of the section `target`
-abbrev pub relocates : List ℕ → ℕ → ℕ → Bool
-relocates bytes target index = (section_header bytes index).kind == 4 && (section_header bytes index).info == target
-
--- whole entries of 24 bytes, as of Elf64_Sym and Elf64_Rela
-abbrev pub has_entries : SectionHeader → Bool
-has_entries h = h.entry_size == 24 && h.size % 24 == 0
 
 -- the header names a section header table that is not there, or not of Elf64_Shdr, or too long without extended numbers,
 -- or one without a table of names

@@ -1,11 +1,10 @@
 ghost use Rattle.std.specs.Prelude.{◌≡◌, ◌<◌, ◌≤◌, None, Some, IfOk, OnOk, IfErr, length};
-ghost use Rattle.elf_object.specs.Header.{e_shnum};
-ghost use Rattle.elf_object.specs.Least.{first_below};
+ghost use Rattle.elf_tables.specs.Header.{e_shnum};
+ghost use Rattle.elf_tables.specs.Least.{first_below};
 ghost use Rattle.elf_object.specs.Fault.{is_cut, cut_section, truncated};
 
 use crate::fault::ObjectFault;
-use crate::field::long;
-use crate::sections::Sections;
+use elf_tables::{Sections, long};
 
 /// Whether the bytes of the section with this index leave the file.
 fn is_cut(sections: &Sections, index: u32) -> bool

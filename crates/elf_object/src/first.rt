@@ -3,7 +3,7 @@ ghost use Rattle.elf_object.specs.Header.{is_elf, are_flags_taken};
 ghost use Rattle.elf_object.specs.Fault.{header_fault};
 
 use crate::fault::ObjectFault;
-use crate::field::{half, word};
+use elf_tables::{half, word};
 
 /// Whether a file is 64-bit little-endian ELF, with room for its header.
 fn is_elf(bytes: &[u8]) -> bool

@@ -1,10 +1,9 @@
 ghost use Rattle.std.specs.Prelude.{◌≡◌, ◌<◌};
-ghost use Rattle.elf_object.specs.Header.{e_shnum};
-ghost use Rattle.elf_object.specs.Least.{first_below};
-ghost use Rattle.elf_object.specs.Kept.{is_alignment, is_wrong_code, is_wrong_data, is_wrong_kept, is_wrong_kind};
+ghost use Rattle.elf_tables.specs.Header.{e_shnum};
+ghost use Rattle.elf_tables.specs.Least.{first_below};
+ghost use Rattle.elf_object.specs.Kind.{is_alignment, is_wrong_code, is_wrong_data, is_wrong_kept, is_wrong_kind};
 
-use crate::header::SectionHeader;
-use crate::lookup::Lookup;
+use elf_tables::{Lookup, SectionHeader};
 
 /// Whether a number may be an alignment.
 pub(crate) fn is_alignment(value: u64) -> bool

@@ -1,17 +1,16 @@
 ghost use Rattle.std.specs.Prelude.{◌≡◌, ◌<◌, ◌/◌, ◌+◌, ◌*◌, None, Some, [], unwrap_or, length, true};
-ghost use Rattle.elf_object.specs.Header.{e_shnum};
-ghost use Rattle.elf_object.specs.Section.{content, is_in_file, section_header, section_name};
-ghost use Rattle.elf_object.specs.Kept.{is_kept};
-ghost use Rattle.elf_object.specs.Symbol.{symbol, symbol_count, symbol_name};
-ghost use Rattle.elf_object.specs.Relocation.{relocation_bytes, relocation_count, relocation_in};
+ghost use Rattle.elf_tables.specs.Header.{e_shnum};
+ghost use Rattle.elf_tables.specs.Section.{content, is_in_file, section_header, section_name};
+ghost use Rattle.elf_tables.specs.Kept.{is_kept};
+ghost use Rattle.elf_tables.specs.Symbol.{symbol, symbol_count, symbol_name};
+ghost use Rattle.elf_tables.specs.Relocation.{relocation_bytes, relocation_count, relocation_in};
 ghost use Rattle.elf_object.specs.Fault.{Answers, fault_of};
 
 use crate::cut::whole_sections;
-use crate::entry::Reloc;
 use crate::fault::ObjectEnd;
 use crate::first::header_fault;
-use crate::lookup::Lookup;
 use crate::order::section_fault;
+use elf_tables::{Lookup, Reloc};
 use std::alloc::Global;
 use std::marker::Model;
 

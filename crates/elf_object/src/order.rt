@@ -1,16 +1,17 @@
 ghost use Rattle.std.specs.Prelude.{◌≡◌};
 ghost use Rattle.std.specs.Option.{option_or};
-ghost use Rattle.elf_object.specs.Least.{first_below};
-ghost use Rattle.elf_object.specs.Symbol.{is_wrong_symbol, symbol_count};
-ghost use Rattle.elf_object.specs.Relocation.{stray_symbol};
+ghost use Rattle.elf_tables.specs.Least.{first_below};
+ghost use Rattle.elf_tables.specs.Symbol.{symbol_count};
+ghost use Rattle.elf_object.specs.Symbol.{is_wrong_symbol};
+ghost use Rattle.elf_object.specs.Stray.{stray_symbol};
 ghost use Rattle.elf_object.specs.Fault.{kind_fault, section_fault, symbol_fault, table_fault};
 
 use crate::fault::ObjectFault;
 use crate::kinds::first_wrong_kind;
-use crate::lookup::Lookup;
 use crate::strays::stray_symbol;
 use crate::symbols::first_wrong_symbol;
 use crate::tables::{first_wrong_table, is_wrong_start};
+use elf_tables::Lookup;
 
 /// What is wrong with the tables.
 #[tactic(auto, unfolding(crate::specs::Fault::table_fault))]

@@ -1,4 +1,5 @@
 use super::{Object, samples};
+use hex::FromHexError;
 use std::alloc::{AllocError, Global};
 
 /// The sections of an object in words.
@@ -51,9 +52,10 @@ fn describe(alloc: Global, file: &[u8]) -> Result<String, AllocError> {
     Ok(text)
 }
 
-/// Whether an object is described by these words.
-fn is_described(alloc: Global, file: &[u8], words: &[u8]) -> Result<bool, AllocError> {
-    Ok(describe(alloc, file)?.as_bytes() == words)
+/// Whether the object with these digits is described by these words.
+fn is_described(alloc: Global, digits: &[u8], words: &[u8]) -> Result<bool, FromHexError> {
+    let file = hex::decode(alloc, digits)?;
+    Ok(describe(alloc, &file)?.as_bytes() == words)
 }
 
 #[test]
@@ -90,7 +92,7 @@ fn agrees_with_readelf(rt: HostRuntime) {
             samples::STRINGS_CLANG_TEXT,
         ),
     ] {
-        let right = is_described(rt.alloc(), file, words).expect(&rt, "there is memory");
+        let right = is_described(rt.alloc(), file, words).expect(&rt, "the object has digits");
         assert!(rt; right, "{what}");
     }
 }

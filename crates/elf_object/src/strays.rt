@@ -1,17 +1,11 @@
 ghost use Rattle.std.specs.Prelude.{◌≡◌, ◌<◌, ◌≤◌, min};
-ghost use Rattle.elf_object.specs.Header.{e_shnum};
+ghost use Rattle.elf_tables.specs.Header.{e_shnum};
 ghost use Rattle.elf_object.specs.Least.{least_below, lesser};
-ghost use Rattle.elf_object.specs.Symbol.{symbol_count};
-ghost use Rattle.elf_object.specs.Relocation.{
-  relocation_bytes,
-  relocation_count,
-  stray_at,
-  stray_in,
-  stray_symbol,
-};
+ghost use Rattle.elf_tables.specs.Symbol.{symbol_count};
+ghost use Rattle.elf_tables.specs.Relocation.{relocation_bytes, relocation_count};
+ghost use Rattle.elf_object.specs.Stray.{stray_at, stray_in, stray_symbol};
 
-use crate::entry::Reloc;
-use crate::lookup::Lookup;
+use elf_tables::{Lookup, Reloc};
 
 /// The lesser of two numbers, of those that there are.
 fn lesser(a: Option<u64>, b: Option<u64>) -> Option<u64>
@@ -48,7 +42,7 @@ fn stray_in(count: u64, table: &[u8]) -> Option<u64>
 }
 
 /// The least number of a symbol that a relocation of a kept section names and that is not there.
-#[tactic(auto, unfolding(crate::specs::Relocation::stray_symbol))]
+#[tactic(auto, unfolding(crate::specs::Stray::stray_symbol))]
 pub(crate) fn stray_symbol(lookup: &Lookup) -> Option<u64>
     ensures { result ≡ stray_symbol lookup.now }
 {

@@ -1,19 +1,11 @@
 ghost use Rattle.std.specs.Prelude.{◌≡◌, ◌<◌, ◌≤◌};
-ghost use Rattle.elf_object.specs.Header.{e_shnum};
-ghost use Rattle.elf_object.specs.Least.{first_below};
-ghost use Rattle.elf_object.specs.Symbol.{
-  has_no_place,
-  has_wrong_alignment,
-  has_wrong_type,
-  is_past_end,
-  is_wrong_entry,
-  is_wrong_symbol,
-  symbol_count,
-};
+ghost use Rattle.elf_tables.specs.Header.{e_shnum};
+ghost use Rattle.elf_tables.specs.Least.{first_below};
+ghost use Rattle.elf_tables.specs.Symbol.{symbol_count};
+ghost use Rattle.elf_object.specs.Symbol.{has_no_place, has_wrong_alignment, has_wrong_type, is_past_end, is_wrong_entry, is_wrong_symbol};
 
-use crate::entry::SymbolEntry;
 use crate::kinds::is_alignment;
-use crate::lookup::Lookup;
+use elf_tables::{Lookup, SymbolEntry};
 
 /// `SHN_ABS`: the symbol's value is an address.
 const ABSOLUTE: u16 = 0xfff1;

@@ -1,26 +1,13 @@
 ghost use Rattle.std.specs.Prelude.{◌≡◌, ◌<◌, true, is_some};
-ghost use Rattle.elf_object.specs.Header.{e_shnum};
-ghost use Rattle.elf_object.specs.Least.{first_below, is_number};
-ghost use Rattle.elf_object.specs.Section.{section_header};
-ghost use Rattle.elf_object.specs.Table.{
-  has_wrong_header,
-  is_string_table,
-  is_symbol_table,
-  is_wrong_rel,
-  is_wrong_rela,
-  is_wrong_rela_of_kept,
-  is_wrong_start,
-  is_wrong_symbol_table,
-  is_wrong_table,
-  is_wrong_table_of,
-  relocates,
-  symbol_table,
-};
-ghost use Rattle.elf_object.specs.Relocation.{relocations_of};
+ghost use Rattle.elf_tables.specs.Header.{e_shnum};
+ghost use Rattle.elf_tables.specs.Least.{first_below};
+ghost use Rattle.elf_object.specs.Least.{is_number};
+ghost use Rattle.elf_tables.specs.Section.{section_header};
+ghost use Rattle.elf_tables.specs.Table.{is_symbol_table, relocates, symbol_table};
+ghost use Rattle.elf_object.specs.Table.{has_wrong_header, is_string_table, is_wrong_rel, is_wrong_rela, is_wrong_rela_of_kept, is_wrong_start, is_wrong_symbol_table, is_wrong_table, is_wrong_table_of};
+ghost use Rattle.elf_tables.specs.Relocation.{relocations_of};
 
-use crate::header::SectionHeader;
-use crate::lookup::Lookup;
-use crate::sections::Sections;
+use elf_tables::{Lookup, SectionHeader, Sections};
 
 /// Whether the section with this index is a string table.
 fn is_string_table(sections: &Sections, index: u32) -> bool
@@ -57,7 +44,7 @@ fn is_number(found: Option<u32>, number: u32) -> bool
 }
 
 /// Whether a symbol table stands before this one.
-#[tactic(auto, unfolding(crate::specs::Table::symbol_table), using(crate::proofs::Bounds::first_earlier))]
+#[tactic(auto, unfolding(elf_tables::specs::Table::symbol_table), using(crate::proofs::Least::first_earlier))]
 fn is_second_symbol_table(lookup: &Lookup, index: u32) -> bool
     requires below { index < e_shnum lookup.now }
     requires table { (section_header lookup.now index).kind ≡ 2 }
@@ -79,7 +66,7 @@ fn is_wrong_symbol_table(lookup: &Lookup, index: u32, header: &SectionHeader) ->
 }
 
 /// Whether relocations of the same section stand before this section.
-#[tactic(auto, unfolding(crate::specs::Relocation::relocations_of), using(crate::proofs::Bounds::first_earlier))]
+#[tactic(auto, unfolding(elf_tables::specs::Relocation::relocations_of), using(crate::proofs::Least::first_earlier))]
 fn is_second_of_target(lookup: &Lookup, index: u32, target: u32) -> bool
     requires below { index < e_shnum lookup.now }
     requires inside { target < e_shnum lookup.now }

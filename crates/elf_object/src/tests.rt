@@ -1,6 +1,5 @@
-ghost use Rattle.std.specs.Prelude.{◌<◌};
-
-use super::{Object, ObjectEnd, Reloc, Section, Symbol};
+use super::{Object, Reloc, Relocs, Section, Symbol};
+use hex::FromHexError;
 use std::alloc::{AllocError, Global};
 
 /// The fields of the object that the tests change, in the order of the file: sizes, then values.
@@ -138,10 +137,15 @@ static CHANGES: &[u8] = b"\
     no symbols, and number 0 named: 992=0000, 84=00: BadSymbol 0\n\
 ";
 
-/// Appends fields of these sizes, the lowest byte of each first.
+/// Appends a field of this size, the lowest byte first.
+fn put_field(file: &mut Vec<u8>, value: u64, size: usize) -> Result<(), AllocError> {
+    file.extend_from_slice(&value.to_le_bytes()[..size.min(8)])
+}
+
+/// Appends fields of these sizes.
 fn put_fields(file: &mut Vec<u8>, values: &[u64], sizes: &[usize]) -> Result<(), AllocError> {
     for (value, size) in values.iter().zip(sizes) {
-        file.extend_from_slice(value.to_le_bytes().get(..*size).unwrap_or(&[]))?;
+        put_field(file, *value, *size)?;
     }
     Ok(())
 }
@@ -172,39 +176,17 @@ fn put(file: &mut [u8], at: usize, bytes: &[u8]) {
     }
 }
 
-/// The value of a hexadecimal digit.
-fn digit(byte: u8) -> u8
-    ensures { result < 16 }
-{
-    match byte {
-        b'0'..=b'9' => byte - b'0',
-        b'a'..=b'f' => byte - b'a' + 10,
-        _ => 0,
-    }
-}
-
-/// The bytes that hexadecimal digits stand for.
-fn bytes_of(alloc: Global, digits: &[u8]) -> Result<Vec<u8>, AllocError> {
-    let mut bytes = Vec::new(alloc);
-    for pair in digits.chunks(2) {
-        if let [high, low] = pair {
-            bytes.push(16 * digit(*high) + digit(*low))?;
-        }
-    }
-    Ok(bytes)
-}
-
 /// Makes one change, as `16=02` puts a 2 at offset 16.
-fn change(alloc: Global, file: &mut [u8], text: &str) -> Result<(), AllocError> {
+fn change(alloc: Global, file: &mut [u8], text: &str) -> Result<(), FromHexError> {
     if let Some((at, digits)) = text.split_once("=") {
-        let bytes = bytes_of(alloc, digits.as_bytes())?;
+        let bytes = hex::decode(alloc, digits)?;
         put(file, at.parse::<usize>().unwrap_or(usize::MAX), &bytes);
     }
     Ok(())
 }
 
 /// The object with the changes of a row.
-fn changed(alloc: Global, changes: &str) -> Result<Vec<u8>, AllocError> {
+fn changed(alloc: Global, changes: &str) -> Result<Vec<u8>, FromHexError> {
     let mut file = object(alloc)?;
     for text in changes.split(", ") {
         change(alloc, &mut file, text)?;
@@ -221,7 +203,7 @@ fn fault(alloc: Global, file: &[u8]) -> Result<String, AllocError> {
 }
 
 /// Whether a row says what is wrong with the object that it changes.
-fn is_right(alloc: Global, row: &str) -> Result<bool, AllocError> {
+fn is_right(alloc: Global, row: &str) -> Result<bool, FromHexError> {
     if let Some((_, rest)) = row.split_once(": ") {
         if let Some((changes, expected)) = rest.split_once(": ") {
             let file = changed(alloc, changes)?;
@@ -235,17 +217,15 @@ fn is_right(alloc: Global, row: &str) -> Result<bool, AllocError> {
 fn has_the_first_fault(rt: HostRuntime) {
     let mut count = 0_u32;
     for row in str::from_utf8(CHANGES).unwrap_or("").lines() {
-        let right = is_right(rt.alloc(), row).expect(&rt, "there is memory");
+        let right = is_right(rt.alloc(), row).expect(&rt, "the row has digits");
         assert!(rt; right, "{row}");
         count = count.saturating_add(1);
     }
     assert_eq!(rt; count, 85);
 }
 
-#[test]
-fn has_its_sections(rt: HostRuntime) {
-    let file = object(rt.alloc()).expect(&rt, "there is memory");
-    let object = Object::read(rt.alloc(), &file).expect(&rt, "it has no fault");
+/// Whether the object has its sections: the bytes of code, none of `.bss`, and those that are kept.
+fn has_sections(object: &Object) -> bool {
     let text = Section {
         name: b".text",
         kind: 1,
@@ -254,18 +234,15 @@ fn has_its_sections(rt: HostRuntime) {
         align: 4,
         bytes: b"\x13\x05\x70\x00\x67\x80\x00\x00",
     };
-    assert_eq!(rt; object.sections(), 10);
-    if object.sections() == 10 {
-        assert!(rt; object.section(1) == text);
-        assert!(rt; object.section(4).bytes.is_empty());
-        assert!(rt; object.kept(1) && !object.kept(5));
-    }
+    object.sections() == 10
+        && object.section(1) == text
+        && object.section(4).bytes.is_empty()
+        && object.kept(1)
+        && !object.kept(5)
 }
 
-#[test]
-fn has_its_symbols(rt: HostRuntime) {
-    let file = object(rt.alloc()).expect(&rt, "there is memory");
-    let object = Object::read(rt.alloc(), &file).expect(&rt, "it has no fault");
+/// Whether the object has its symbols, of which number 4 is common.
+fn has_symbols(object: &Object) -> bool {
     let common = Symbol {
         name: b"main",
         info: 0x11,
@@ -273,31 +250,32 @@ fn has_its_symbols(rt: HostRuntime) {
         value: 8,
         size: 4,
     };
-    assert_eq!(rt; object.symbols(), 12);
-    if object.symbols() == 12 {
-        assert!(rt; object.symbol(4) == common);
-    }
+    object.symbols() == 12 && object.symbol(4) == common
 }
 
-#[test]
-fn has_its_relocations(rt: HostRuntime) {
-    let file = object(rt.alloc()).expect(&rt, "there is memory");
-    let object = Object::read(rt.alloc(), &file).expect(&rt, "it has no fault");
+/// Whether a section has just one relocation, the one of `main`.
+fn is_relaxed(relocs: &Relocs) -> bool {
     let relax = Reloc {
         offset: 4,
         symbol: 1,
         kind: 51,
         addend: -2,
     };
-    assert_eq!(rt; object.sections(), 10);
-    if object.sections() == 10 {
-        let relocs = object.relocs(1);
-        assert_eq!(rt; relocs.count(), 1);
-        if relocs.count() == 1 {
-            assert_eq!(rt; relocs.get(0), relax);
-        }
-        assert_eq!(rt; object.relocs(5).count(), 0);
-    }
+    relocs.count() == 1 && relocs.get(0) == relax
+}
+
+/// Whether the object has its relocations: one of code, and none of a section that is dropped.
+fn has_relocations(object: &Object) -> bool {
+    object.sections() == 10 && is_relaxed(&object.relocs(1)) && object.relocs(5).count() == 0
+}
+
+#[test]
+fn has_its_parts(rt: HostRuntime) {
+    let file = object(rt.alloc()).expect(&rt, "there is memory");
+    let object = Object::read(rt.alloc(), &file).expect(&rt, "it has no fault");
+    assert!(rt; has_sections(&object));
+    assert!(rt; has_symbols(&object));
+    assert!(rt; has_relocations(&object));
 }
 
 #[test]

@@ -1,6 +1,6 @@
 use Rattle.std.proofs.Common.{sym, arith}
-use Rattle.elf_object.specs.Kept.{is_wrong_kind}
-use Rattle.elf_object.proofs.Bounds.{first_begins, first_passed, first_found}
+use Rattle.elf_object.specs.Kind.{is_wrong_kind}
+use Rattle.elf_tables.proofs.Bounds.{first_begins, first_passed, first_found}
 use Rattle.elf_object.proofs.kinds.first_wrong_kind.Goals as goal
 
 pub loop-index-init : goal.loop-index-init

@@ -1,6 +1,6 @@
 use Rattle.std.proofs.Common.{◌≡◌, None}
-use Rattle.elf_object.specs.Least.{first_below}
-use Rattle.elf_object.specs.Kept.{is_wrong_kind}
+use Rattle.elf_tables.specs.Least.{first_below}
+use Rattle.elf_object.specs.Kind.{is_wrong_kind}
 use Rattle.elf_object.proofs.kinds.first_wrong_kind.Given as goal
 
 abbrev pub invariant-loop-index : goal.invariant-loop-index

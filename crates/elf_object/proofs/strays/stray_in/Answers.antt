@@ -1,6 +1,6 @@
 use Rattle.std.proofs.Common.{sym, ◌∙◌}
-use Rattle.elf_object.specs.Relocation.{stray_at}
-use Rattle.elf_object.proofs.Bounds.{least_begins, least_step}
+use Rattle.elf_object.specs.Stray.{stray_at}
+use Rattle.elf_object.proofs.Least.{least_begins, least_step}
 use Rattle.elf_object.proofs.strays.stray_in.Goals as goal
 
 pub loop-index-init : goal.loop-index-init

@@ -1,7 +1,8 @@
 use Rattle.std.proofs.Common.{◌≡◌, ℕ, List, Option, sym, ◌∙◌}
-use Rattle.elf_object.specs.Symbol.{symbol_count}
-use Rattle.elf_object.specs.Relocation.{relocation_bytes, stray_in}
-use Rattle.elf_object.proofs.Bounds.{least_begins, least_step}
+use Rattle.elf_tables.specs.Symbol.{symbol_count}
+use Rattle.elf_tables.specs.Relocation.{relocation_bytes}
+use Rattle.elf_object.specs.Stray.{stray_in}
+use Rattle.elf_object.proofs.Least.{least_begins, least_step}
 use Rattle.elf_object.proofs.strays.stray_symbol.Goals as goal
 
 abbrev stray_of : List ℕ → ℕ → Option ℕ

@@ -1,7 +1,8 @@
 use Rattle.std.proofs.Common.{◌≡◌}
 use Rattle.elf_object.specs.Least.{least_below}
-use Rattle.elf_object.specs.Symbol.{symbol_count}
-use Rattle.elf_object.specs.Relocation.{relocation_bytes, stray_in}
+use Rattle.elf_tables.specs.Symbol.{symbol_count}
+use Rattle.elf_tables.specs.Relocation.{relocation_bytes}
+use Rattle.elf_object.specs.Stray.{stray_in}
 use Rattle.elf_object.proofs.strays.stray_symbol.Given as goal
 
 abbrev pub invariant-loop-target : goal.invariant-loop-target

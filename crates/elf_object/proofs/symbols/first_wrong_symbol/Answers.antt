@@ -1,6 +1,6 @@
 use Rattle.std.proofs.Common.{sym, arith}
 use Rattle.elf_object.specs.Symbol.{is_wrong_symbol}
-use Rattle.elf_object.proofs.Bounds.{first_begins, first_passed, first_found}
+use Rattle.elf_tables.proofs.Bounds.{first_begins, first_passed, first_found}
 use Rattle.elf_object.proofs.symbols.first_wrong_symbol.Goals as goal
 
 pub loop-number-init : goal.loop-number-init

@@ -1,6 +1,6 @@
 use Rattle.std.proofs.Common.{sym, arith}
 use Rattle.elf_object.specs.Table.{is_wrong_table}
-use Rattle.elf_object.proofs.Bounds.{first_begins, first_passed, first_found}
+use Rattle.elf_tables.proofs.Bounds.{first_begins, first_passed, first_found}
 use Rattle.elf_object.proofs.tables.first_wrong_table.Goals as goal
 
 pub loop-index-init : goal.loop-index-init

@@ -1,8 +1,8 @@
 use Rattle.std.proofs.Common.{true, length, ◌≡◌, ℕ, ◌<◌, List, [], unwrap_or, Some, None, sym, ◌∙◌, ap}
 use Rattle.elf_bytes.specs.Fields.{string_at}
-use Rattle.elf_object.specs.declared.header.SectionHeader.{SectionHeader}
-use Rattle.elf_object.specs.Header.{e_shnum}
-use Rattle.elf_object.specs.Section.{content, is_in_file, section_header, section_name, section_names}
+use Rattle.elf_tables.specs.declared.header.SectionHeader.{SectionHeader}
+use Rattle.elf_tables.specs.Header.{e_shnum}
+use Rattle.elf_tables.specs.Section.{content, is_in_file, section_header, section_name, section_names}
 use Rattle.elf_object.specs.Fault.{fault_of}
 use Rattle.elf_object.proofs.Sound.{section_named, section_whole}
 use Rattle.elf_object.proofs.object.Object.section.Goals as goal

@@ -1,0 +1,62 @@
+ghost use Rattle.std.specs.Prelude.{◌≡◌, ◌+◌, ◌*◌, ◌≤◌, ◌<◌, ◌/◌, length};
+ghost use Rattle.elf_tables.specs.Symbol.{symbol_in};
+ghost use Rattle.elf_tables.specs.Relocation.{relocation_in};
+
+use crate::field::{half, long, word};
+
+/// A symbol as it stands in the symbol table (System V gABI, "Symbol Table"): where its name begins
+/// in the table of names, and its `st_info`, `st_shndx`, `st_value` and `st_size`.
+#[derive(Clone, Copy, Debug)]
+pub struct SymbolEntry {
+    pub name: u32,
+    pub info: u8,
+    pub section: u16,
+    pub value: u64,
+    pub size: u64,
+}
+
+impl SymbolEntry {
+    /// The symbol with this number in the bytes of a symbol table.
+    #[tactic(auto, unfolding(crate::specs::Symbol::symbol_in))]
+    pub fn read(table: &[u8], number: u64) -> SymbolEntry
+        requires { 24 * number + 24 ≤ length table.now }
+        ensures { result ≡ symbol_in table.now number }
+    {
+        let at = 24 * number;
+        SymbolEntry {
+            name: word(table, at),
+            info: table[(at + 4) as usize],
+            section: half(table, at + 6),
+            value: long(table, at + 8),
+            size: long(table, at + 16),
+        }
+    }
+}
+
+/// A relocation (System V gABI, "Relocation"): the offset in its section, the number of its symbol,
+/// its type by the RISC-V ELF psABI, and its addend.
+#[derive(Clone, Copy, Debug, PartialEq, Eq)]
+pub struct Reloc {
+    pub offset: u64,
+    pub symbol: u32,
+    pub kind: u32,
+    pub addend: i64,
+}
+
+impl Reloc {
+    /// The relocation with this index in the bytes of an `SHT_RELA` section.
+    #[tactic(auto, unfolding(crate::specs::Relocation::relocation_in))]
+    pub fn read(table: &[u8], index: u64) -> Reloc
+        requires { 24 * index + 24 ≤ length table.now }
+        ensures { result ≡ relocation_in table.now index }
+    {
+        let at = 24 * index;
+        let info = long(table, at + 8);
+        Reloc {
+            offset: long(table, at),
+            symbol: (info >> 32) as u32,
+            kind: (info & 0xffff_ffff) as u32,
+            addend: long(table, at + 16).cast_signed(),
+        }
+    }
+}

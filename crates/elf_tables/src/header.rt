@@ -1,0 +1,83 @@
+ghost use Rattle.std.specs.Prelude.{◌≡◌, ◌+◌, ◌≤◌, length};
+ghost use Rattle.elf_tables.specs.Section.{section_header_at, is_in_file};
+ghost use Rattle.elf_tables.specs.Kept.{is_writable, is_allocated, is_executable, is_thread_local};
+ghost use Rattle.elf_tables.specs.Table.{has_entries};
+
+use crate::field::{half, long, word};
+
+/// A section header (System V gABI, "Section Header"), without its address.
+#[derive(Clone, Copy, Debug)]
+pub struct SectionHeader {
+    pub name: u32,
+    pub kind: u32,
+    pub flags: u64,
+    pub offset: u64,
+    pub size: u64,
+    pub link: u32,
+    pub info: u32,
+    pub align: u64,
+    pub entry_size: u64,
+}
+
+impl SectionHeader {
+    /// The section header at `at`, which lies in the file.
+    #[tactic(auto, unfolding(crate::specs::Section::section_header_at))]
+    pub fn read(bytes: &[u8], at: u64) -> SectionHeader
+        requires { at + 64 ≤ length bytes.now }
+        ensures { result ≡ section_header_at bytes.now at }
+    {
+        SectionHeader {
+            name: word(bytes, at),
+            kind: word(bytes, at + 4),
+            flags: long(bytes, at + 8),
+            offset: long(bytes, at + 24),
+            size: long(bytes, at + 32),
+            link: word(bytes, at + 40),
+            info: word(bytes, at + 44),
+            align: long(bytes, at + 48),
+            entry_size: long(bytes, at + 56),
+        }
+    }
+
+    /// Whether the section has bytes in the file.
+    pub fn is_in_file(&self) -> bool
+        ensures { result ≡ is_in_file self.now }
+    {
+        self.kind != 0 && self.kind != 8
+    }
+
+    /// `SHF_WRITE`.
+    pub fn is_writable(&self) -> bool
+        ensures { result ≡ is_writable self.now }
+    {
+        self.flags & 1 != 0
+    }
+
+    /// `SHF_ALLOC`.
+    pub fn is_allocated(&self) -> bool
+        ensures { result ≡ is_allocated self.now }
+    {
+        self.flags & 2 != 0
+    }
+
+    /// `SHF_EXECINSTR`.
+    pub fn is_executable(&self) -> bool
+        ensures { result ≡ is_executable self.now }
+    {
+        self.flags & 4 != 0
+    }
+
+    /// `SHF_TLS`.
+    pub fn is_thread_local(&self) -> bool
+        ensures { result ≡ is_thread_local self.now }
+    {
+        self.flags & 0x400 != 0
+    }
+
+    /// Whether the section has whole entries of 24 bytes, as of symbols and relocations.
+    pub fn has_entries(&self) -> bool
+        ensures { result ≡ has_entries self.now }
+    {
+        self.entry_size == 24 && self.size % 24 == 0
+    }
+}
