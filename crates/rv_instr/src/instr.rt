@@ -31,16 +31,20 @@ pub enum Instr {
     Register(RegisterOp, Reg, Reg, Reg),
     /// FENCE, whatever its other fields: the word itself.
     Fence(FenceWord),
+    /// ECALL: a system call.
     Ecall,
+    /// EBREAK: a stop.
     Ebreak,
 }
 
+/// LUI puts its 20 bits above 12 zeros into a register, AUIPC adds the pc to them.
 #[derive(Clone, Copy, Debug, PartialEq, Eq)]
 pub enum UpperOp {
     Lui,
     Auipc,
 }
 
+/// What a conditional branch asks: equal, not equal, less, not less; the last two without a sign.
 #[derive(Clone, Copy, Debug, PartialEq, Eq)]
 pub enum BranchOp {
     Beq,
@@ -51,6 +55,7 @@ pub enum BranchOp {
     Bgeu,
 }
 
+/// What a load reads: a byte, a half-word, a word or a double-word; the last three without a sign.
 #[derive(Clone, Copy, Debug, PartialEq, Eq)]
 pub enum LoadOp {
     Lb,
@@ -62,6 +67,7 @@ pub enum LoadOp {
     Lwu,
 }
 
+/// What a store writes: a byte, a half-word, a word or a double-word.
 #[derive(Clone, Copy, Debug, PartialEq, Eq)]
 pub enum StoreOp {
     Sb,
@@ -70,6 +76,7 @@ pub enum StoreOp {
     Sd,
 }
 
+/// A computation with an immediate; ADDIW is on the low 32 bits.
 #[derive(Clone, Copy, Debug, PartialEq, Eq)]
 pub enum ImmediateOp {
     Addi,
@@ -81,6 +88,7 @@ pub enum ImmediateOp {
     Addiw,
 }
 
+/// A shift by a constant: left, right, right with the sign.
 #[derive(Clone, Copy, Debug, PartialEq, Eq)]
 pub enum ShiftOp {
     Slli,
@@ -88,6 +96,7 @@ pub enum ShiftOp {
     Srai,
 }
 
+/// The same on the low 32 bits.
 #[derive(Clone, Copy, Debug, PartialEq, Eq)]
 pub enum ShiftWordOp {
     Slliw,
@@ -95,6 +104,7 @@ pub enum ShiftWordOp {
     Sraiw,
 }
 
+/// A computation on two registers; the last five are on the low 32 bits.
 #[derive(Clone, Copy, Debug, PartialEq, Eq)]
 pub enum RegisterOp {
     Add,
