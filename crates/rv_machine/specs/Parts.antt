@@ -1,12 +1,14 @@
 -- What a machine is made of, as a hart and what harts share.
 use Rattle.std.specs.Prelude.{◌≡◌, ℕ, Bool, true, false, List, Option, Some, None}
+use Rattle.rv_word.specs.Layout.{DATA_END, lies_within}
 use Rattle.rv_word.specs.Memory.{read}
 use Rattle.rv_instr.specs.declared.instr.Instr.{Instr}
-use Rattle.rv_instr.specs.declared.instr.Instr.TheVariants.{Upper, Jal, Jalr, Branch, Load, Store, Immediate, Shift, ShiftWord, Register, Fence, Ecall, Ebreak}
+use Rattle.rv_instr.specs.declared.instr.Instr.TheVariants.{Store, Ecall}
 use Rattle.rv_mem.specs.Cells.{Cells}
+use Rattle.rv_code.specs.Arithmetic.{store_size}
 use Rattle.rv_code.specs.Decode.{decoded}
 use Rattle.rv_code.specs.State.{Hart, Shared, After, last_exit}
-use Rattle.rv_code.specs.Step.{can_fetch}
+use Rattle.rv_code.specs.Step.{address, can_fetch}
 use Rattle.rv_code.specs.declared.turn.Turn.{Turn}
 use Rattle.rv_sys.specs.Calls.{Calls, hart_of, shared_of}
 
@@ -26,21 +28,11 @@ shared_in parts = shared_of parts.memory parts.calls
 abbrev pub after_step : Parts → Turn → After
 after_step parts turn = record { hart = hart_in parts; shared = shared_in parts; turn = turn }
 
--- the instructions that may take memory: those that write memory or call the system
-abbrev pub may_take_memory : Instr → Bool
-may_take_memory (Upper op rd imm) = false
-may_take_memory (Jal rd imm) = false
-may_take_memory (Jalr rd rs1 imm) = false
-may_take_memory (Branch op rs1 rs2 imm) = false
-may_take_memory (Load op rd rs1 imm) = false
-may_take_memory (Store op rs1 rs2 imm) = true
-may_take_memory (Immediate op rd rs1 imm) = false
-may_take_memory (Shift op rd rs1 amount) = false
-may_take_memory (ShiftWord op rd rs1 amount) = false
-may_take_memory (Register op rd rs1 rs2) = false
-may_take_memory (Fence word) = false
-may_take_memory Ecall = true
-may_take_memory Ebreak = false
+-- the instructions that may take memory: a store into data, and a system call
+abbrev pub may_take_memory : Instr → Hart → Bool
+may_take_memory (Store op rs1 rs2 imm) h = lies_within 0 DATA_END (address h rs1 imm) (store_size op)
+may_take_memory Ecall h = true
+may_take_memory instr h = false
 
 -- a step may take memory: the run has not ended, and such an instruction stands at the pc
 pub record MayTakeMemory (h : Hart) (s : Shared) : Type 0 where
@@ -48,4 +40,4 @@ pub record MayTakeMemory (h : Hart) (s : Shared) : Type 0 where
   pub place : can_fetch h.pc ≡ true
   pub instr : Instr
   pub decodes : decoded (read 4 s.memory h.pc) ≡ Some instr
-  pub takes : may_take_memory instr ≡ true
+  pub takes : may_take_memory instr h ≡ true

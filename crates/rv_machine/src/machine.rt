@@ -1,8 +1,6 @@
-ghost use Rattle.std.specs.Prelude.{◌≡◌, ℕ, ◌+◌, ◌*◌, ◌/◌, ◌<◌, ◌^◌, [], ◌∷◌, true, IfOk, OnOk, OnErr};
-ghost use Rattle.rv_word.specs.Bits.{wrap};
+ghost use Rattle.std.specs.Prelude.{◌≡◌, ◌+◌, ◌*◌, ◌/◌, ◌<◌, ◌^◌, [], ◌∷◌, true, IfOk, OnOk, OnErr};
 ghost use Rattle.rv_word.specs.Layout.{version_1};
 ghost use Rattle.rv_instr.specs.Registers.{get_reg, set_reg};
-ghost use Rattle.rv_mem.specs.Cells.{memory_of};
 ghost use Rattle.rv_code.specs.Run.{disturbed};
 ghost use Rattle.rv_code.specs.State.{start_hart, start_shared};
 ghost use Rattle.rv_code.specs.Step.{address, can_fetch, exec, offset, puts, ran, step};
@@ -68,12 +66,14 @@ impl Machine {
         self.regs.get(reg)
     }
 
+    /// Its memory.
     pub fn mem(&self) -> &Memory
         ensures { result.now ≡ self.now.memory }
     {
         &self.memory
     }
 
+    /// What its system calls keep: the input left, the output and the calls.
     pub fn system(&self) -> &System
         ensures { result.now ≡ self.now.calls }
     {
@@ -88,7 +88,8 @@ impl Machine {
     }
 
     /// One step: fetches the word at the pc, decodes and executes it. After an exit each step
-    /// answers it again. A refusal leaves all as it was.
+    /// answers it again. A refusal leaves all as it was, and comes from a store into data or a
+    /// system call alone.
     #[tactic(auto, unfolding(rv_code::specs::Step::step))]
     pub fn step(&mut self) -> Result<Turn, NoMemory>
         ensures stepped { IfOk result (λ turn. after_step self.new turn ≡ step version_1 (hart_in self.old) (shared_in self.old)) }
@@ -123,7 +124,7 @@ impl Machine {
         requires { self.old.pc < 2 ^ 63 }
         ensures executed { IfOk result (λ turn. after_step self.new turn ≡ exec version_1 instr.now (hart_in self.old) (shared_in self.old)) }
         ensures refused { OnErr result (after_step self.new Turn.Ran ≡ after_step self.old Turn.Ran) }
-        ensures wants { OnErr result (may_take_memory instr.now ≡ true) }
+        ensures wants { OnErr result (may_take_memory instr.now (hart_in self.old) ≡ true) }
     {
         Ok(match *instr {
             Instr::Upper(op, rd, imm) => self.upper(op, rd, imm),
@@ -246,6 +247,7 @@ impl Machine {
         requires { self.old.pc < 2 ^ 63 }
         ensures executed { IfOk result (λ turn. after_step self.new turn ≡ exec version_1 (Instr.Store op rs1 rs2 imm) (hart_in self.old) (shared_in self.old)) }
         ensures refused { OnErr result (after_step self.new Turn.Ran ≡ after_step self.old Turn.Ran) }
+        ensures wants { OnErr result (may_take_memory (Instr.Store op rs1 rs2 imm) (hart_in self.old) ≡ true) }
     {
         let addr = self.address_of(rs1, imm);
         let value = self.reg(rs2);

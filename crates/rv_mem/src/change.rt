@@ -37,6 +37,7 @@ impl Change {
         }
     }
 
+    /// The address that it changes.
     pub fn addr(self) -> u64
         ensures value { result ≡ self.0 }
         ensures in_data { result < DATA_END }
@@ -44,6 +45,7 @@ impl Change {
         self.addr
     }
 
+    /// What the byte becomes.
     pub fn byte(self) -> u8
         ensures value { result ≡ self.1 }
         ensures small { result < 2 ^ 8 }

@@ -1,5 +1,5 @@
-ghost use Rattle.std.specs.Prelude.{◌≡◌, ℕ, ◌+◌, ◌≤◌, ◌<◌, ◌^◌, ◌↔◌, IfOk, OnOk, OnErr, IsErr, IsErrOf, IsTrue, false, length, Result, slice_index};
-ghost use Rattle.rv_word.specs.Layout.{can_load, can_store, version_1, DATA_END, CODE, CODE_SIZE};
+ghost use Rattle.std.specs.Prelude.{◌≡◌, ℕ, ◌+◌, ◌≤◌, ◌<◌, ◌^◌, ◌↔◌, IfOk, OnOk, OnErr, IsErr, IsErrOf, IsTrue, true, false, length, Result, slice_index};
+ghost use Rattle.rv_word.specs.Layout.{can_load, can_store, lies_within, version_1, DATA_END, CODE, CODE_SIZE};
 ghost use Rattle.rv_word.specs.Memory.{placed, read, write, zeros, loaded};
 ghost use Rattle.rv_mem.specs.Access.{IsAccessSize};
 ghost use Rattle.rv_mem.specs.Cells.{memory_of, has_room, HasRoom, with_byte, AreBytes};
@@ -109,12 +109,13 @@ impl Memory {
         }
     }
 
-    /// Makes room for the `n` bytes from `addr` on.
+    /// Makes room for the `n` bytes from `addr` on; in the shadow stack there always is.
     #[tactic(auto, unfolding(crate::specs::Cells::has_room))]
     pub fn make_room(&mut self, addr: u64, n: u64) -> Result<(), NoMemory>
         requires { IsTrue (can_store version_1 addr n) }
         ensures memory { memory_of self.new ≡ memory_of self.old }
         ensures room { OnOk result (HasRoom self.new addr n) }
+        ensures wants { OnErr result (addr < DATA_END) }
     {
         if addr < DATA_END {
             for k in addr..addr + n {
@@ -135,11 +136,12 @@ impl Memory {
         }
     }
 
-    /// Writes the low `n` bytes of `value`, the lowest first.
+    /// Writes the low `n` bytes of `value`, the lowest first. A write takes memory only in data.
     pub fn write(&mut self, addr: u64, n: u8, value: u64) -> Result<(), WriteRefusal>
         requires { IsAccessSize n }
         ensures written { OnOk result (memory_of self.new ≡ write n (memory_of self.old) addr value) }
         ensures fault { IsErrOf result WriteRefusal.StoreFault ↔ (can_store version_1 addr n ≡ false) }
+        ensures wants { IsErrOf result WriteRefusal.NoMemory → lies_within 0 DATA_END addr n ≡ true }
         ensures refused { OnErr result (memory_of self.new ≡ memory_of self.old) }
     {
         if !is_storable(addr, n) {

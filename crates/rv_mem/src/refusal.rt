@@ -12,6 +12,7 @@ pub enum WriteRefusal {
     /// It does not lie whole in data or in shadow.
     #[error("store fault")]
     StoreFault,
+    /// Memory could not be had.
     #[error("out of memory")]
     NoMemory,
 }

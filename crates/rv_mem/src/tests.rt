@@ -4,7 +4,7 @@ use std::test::Fail;
 
 /// An access, and what the memory map says of it: its address and size, whether a load and whether
 /// a store of it are taken, the number that a load reads after 1122334455667788h was stored.
-const ACCESSES: [(u64, u8, bool, bool, u64); 30] = [
+static ACCESSES: [(u64, u8, bool, bool, u64); 30] = [
     (0, 8, true, true, 0x1122_3344_5566_7788),
     (1, 8, true, true, 0x1122_3344_5566_7788),
     (0xffff, 4, true, true, 0x5566_7788),
@@ -42,7 +42,7 @@ fn accesses_are_the_memory_map(rt: HostRuntime) -> Result<(), Fail> {
     let code = [0xa0, 0xb0, 0xc0, 0, 0xd1, 0, 0, 0];
     let mut memory = Memory::load(rt.alloc(), &Image::of(&code, &[7, 8]))?;
     assert_eq!(rt; memory.read(0xffff, 4), Ok(0x0008_0700), "initialised data");
-    for (addr, n, load, store, value) in ACCESSES {
+    for &(addr, n, load, store, value) in &ACCESSES {
         assert!(rt; n == 1 || n == 2 || n == 4 || n == 8);
         let stored = memory.write(addr, n, 0x1122_3344_5566_7788);
         let wanted = if store {
