@@ -1,4 +1,4 @@
-ghost use Rattle.std.specs.Prelude.{◌≡◌, ◌+◌, ◌*◌, ◌-◌, ◌^◌, ◌≤◌, Some};
+ghost use Rattle.std.specs.Prelude.{◌≡◌, ◌+◌, ◌-◌, ◌^◌, ◌≤◌, Some};
 ghost use Rattle.rv_code.specs.Decode.{decoded};
 ghost use Rattle.rv_code.specs.Encode.{
   at_imm_b,

@@ -53,12 +53,14 @@ impl Events {
         Ok(())
     }
 
+    /// How many system calls there were.
     pub fn len(&self) -> usize
         ensures { result ≡ length self.now }
     {
         self.items.len()
     }
 
+    /// Whether there were none.
     pub fn is_empty(&self) -> bool
         ensures { result ≡ (length self.now == 0) }
     {
@@ -73,6 +75,7 @@ impl Events {
         &self.items[index]
     }
 
+    /// The system calls, lent.
     pub fn as_slice(&self) -> &[Event]
         ensures { result.now ≡ self.now }
     {

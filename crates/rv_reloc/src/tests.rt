@@ -241,12 +241,24 @@ static DATA_EDGES: [(DataPatch, u64, i128, Option<u64>); 12] = [
     ),
 ];
 
+/// How many bytes each width of relocation changes.
+static SIZES: [(DataPatch, usize); 4] = [
+    (DataPatch::Add8, 1),
+    (DataPatch::Sub16, 2),
+    (DataPatch::Abs32, 4),
+    (DataPatch::Abs64, 8),
+];
+
 #[test]
-fn words(rt: HostRuntime) {
+fn words_of_a_linker(rt: HostRuntime) {
     for (kind, before, value, after) in &LINKED_WORDS {
         let got = patch(*kind, *before, *value);
         assert_eq!(rt; got, Ok(*after), "{before:x} {value}");
     }
+}
+
+#[test]
+fn words_at_the_edges(rt: HostRuntime) {
     for (kind, before, value, after) in &EDGES {
         let want = after.ok_or(RelocRange);
         assert_eq!(rt; patch(*kind, *before, *value), want, "{before:x} {value}");
@@ -263,25 +275,28 @@ fn lend(number: u64) -> [u8; 9] {
 }
 
 #[test]
-fn data(rt: HostRuntime) {
+fn data_of_a_linker(rt: HostRuntime) {
     for (kind, before, value, after) in &LINKED_DATA {
         let mut bytes = lend(*before);
         let got = patch_data(*kind, &mut bytes, *value);
         assert_eq!(rt; got, Ok(()), "{before:x} {value}");
         assert_eq!(rt; bytes, lend(*after), "{before:x} {value}");
     }
+}
+
+#[test]
+fn data_at_the_edges(rt: HostRuntime) {
     for (kind, before, value, after) in &DATA_EDGES {
         let mut bytes = lend(*before);
         let got = patch_data(*kind, &mut bytes, *value);
         assert_eq!(rt; got.is_ok(), after.is_some(), "{before:x} {value}");
         assert_eq!(rt; bytes, lend(after.unwrap_or(*before)), "{before:x} {value}");
     }
-    for (kind, size) in [
-        (DataPatch::Add8, 1),
-        (DataPatch::Sub16, 2),
-        (DataPatch::Abs32, 4),
-        (DataPatch::Abs64, 8),
-    ] {
-        assert_eq!(rt; kind.size(), size);
+}
+
+#[test]
+fn sizes(rt: HostRuntime) {
+    for (kind, size) in &SIZES {
+        assert_eq!(rt; kind.size(), *size);
     }
 }

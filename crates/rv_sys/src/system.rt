@@ -1,4 +1,4 @@
-ghost use Rattle.std.specs.Prelude.{◌≡◌, ℕ, ◌+◌, ◌-◌, ◌≤◌, ◌<◌, ◌^◌, ◌%◌, ◌++◌, ◌∷◌, [], List, length, take, drop, nat_le, IfOk, OnOk, OnErr};
+ghost use Rattle.std.specs.Prelude.{◌≡◌, ℕ, ◌+◌, ◌-◌, ◌≤◌, ◌<◌, ◌^◌, ◌++◌, ◌∷◌, [], length, take, drop, nat_le, IfOk, OnOk, OnErr};
 ghost use Rattle.rv_instr.specs.Registers.{regs_of};
 ghost use Rattle.rv_mem.specs.Cells.{Cells, memory_of};
 ghost use Rattle.rv_code.specs.State.{exit_of, last_exit};
