@@ -68,7 +68,7 @@ fn found_class(graph: &Graph, label: u32) -> Option<&[u64]>
 }
 
 /// Whether an address is among some that rise.
-pub(crate) fn is_among(address: u64, targets: &[u64]) -> bool
+pub fn is_among(address: u64, targets: &[u64]) -> bool
     requires { IsTrue (is_rising nat_lt targets.now) }
     ensures { result ≡ is_among address targets.now }
 {
