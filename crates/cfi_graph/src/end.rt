@@ -19,8 +19,10 @@ pub enum Reason {
 /// Why a graph could not be read: the first line that fails, from 1, or want of memory.
 #[derive(Clone, Copy, Debug, PartialEq, Eq, Error)]
 pub enum GraphEnd {
+    /// The line with this number is refused.
     #[error("line {0}: {1}")]
     Line(u64, Reason),
+    /// There was no memory.
     #[error("out of memory")]
     NoMemory,
 }

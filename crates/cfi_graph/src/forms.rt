@@ -10,7 +10,6 @@ ghost use Rattle.cfi_graph.specs.Lines.{
   site_of,
   words_of,
 };
-ghost use Rattle.cfi_graph.specs.Reading.{};
 
 use crate::line::{GraphLine, SiteKind};
 use crate::words::{cut, hex_of, is_word};
@@ -53,6 +52,7 @@ fn class(alloc: Global, words: Option<&[u8]>) -> Result<Option<GraphLine>, NoMem
     Ok(Some(GraphLine::Class(label, targets)))
 }
 
+/// The kind of transfer that a word names.
 fn kind(name: &[u8]) -> Option<SiteKind>
     ensures { result ≡ kind_of name.now }
 {
@@ -95,8 +95,8 @@ fn pair(words: Option<&[u8]>) -> Option<(u64, u64)>
     Some((u64::from(from), u64::from(to)))
 }
 
-#[tactic(auto, unfolding(crate::specs::Lines::line_of))]
 /// The line of a graph that these bytes spell, if they have the form of one.
+#[tactic(auto, unfolding(crate::specs::Lines::line_of))]
 pub(crate) fn line_of(alloc: Global, line: &[u8]) -> Result<Option<GraphLine>, NoMemory>
     ensures { IfOk result (λ r. r ≡ line_of (words_of line.now)) }
 {

@@ -35,18 +35,21 @@ impl GraphLines {
         self.items
     }
 
+    /// The lines, as a slice.
     pub fn as_slice(&self) -> &[GraphLine]
         ensures { result.now ≡ self.now }
     {
         self.items.as_slice()
     }
 
+    /// How many lines there are.
     pub fn len(&self) -> usize
         ensures { result ≡ length self.now }
     {
         self.items.len()
     }
 
+    /// Whether there is no line.
     pub fn is_empty(&self) -> bool
         ensures { result ≡ (length self.now == 0) }
     {

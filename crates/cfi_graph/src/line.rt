@@ -44,15 +44,33 @@ impl GraphLine {
         }
     }
 
+    /// Whether the line is a class.
     pub fn is_class(&self) -> bool
         ensures { result ≡ is_class self.now }
     {
         matches!(self, GraphLine::Class(..))
     }
 
+    /// Whether the line is a site.
     pub fn is_site(&self) -> bool
         ensures { result ≡ is_site self.now }
     {
         matches!(self, GraphLine::Site(..))
+    }
+}
+
+impl Key {
+    ghost use Rattle.cfi_graph.specs.Graph.{key_below};
+
+    /// Whether a line with this key may stand before one with the key `other`.
+    pub fn is_below(self, other: Key) -> bool
+        ensures { result ≡ key_below self other }
+    {
+        match (self, other) {
+            (Key::Label(label), Key::Label(next)) => label < next,
+            (Key::Label(_), Key::Address(_)) => true,
+            (Key::Address(_), Key::Label(_)) => false,
+            (Key::Address(address), Key::Address(next)) => address < next,
+        }
     }
 }

@@ -5,33 +5,33 @@ ghost use Rattle.cfi_graph.specs.Graph.{
   is_code_length,
   is_label,
   is_rising,
-  key_below,
   line_in_range,
   targets_rise,
 };
 ghost use Rattle.cfi_graph.specs.Reading.{in_order};
 
 use crate::line::{GraphLine, Key};
-
-const CODE: u64 = 0x4000_0000;
+use rv_word::memory_map::{CODE_SIZE, CODE_START};
 
 /// Whether code may have this length.
 pub(crate) fn is_code_length(len: u32) -> bool
     ensures { result ≡ is_code_length len }
 {
-    len % 4 == 0 && 4 <= len && len <= 0x10_0000
+    len % 4 == 0 && 4 <= len && u64::from(len) <= CODE_SIZE
 }
 
+/// Whether a class may have this label.
 fn is_label(label: u32) -> bool
     ensures { result ≡ is_label label }
 {
     0 < label && label < 0x10_0000
 }
 
+/// Whether an address is that of a word of `len` bytes of code.
 fn is_code_address(len: u32, address: u64) -> bool
     ensures { result ≡ is_code_address len address }
 {
-    address % 4 == 0 && CODE <= address && address < CODE + u64::from(len)
+    address % 4 == 0 && CODE_START <= address && address < CODE_START + u64::from(len)
 }
 
 fn are_code_addresses(len: u32, addresses: &[u64]) -> bool
@@ -74,23 +74,12 @@ fn targets_rise(line: &GraphLine) -> bool
     }
 }
 
-fn key_below(key: Key, other: Key) -> bool
-    ensures { result ≡ key_below key other }
-{
-    match (key, other) {
-        (Key::Label(label), Key::Label(next)) => label < next,
-        (Key::Label(_), Key::Address(_)) => true,
-        (Key::Address(_), Key::Label(_)) => false,
-        (Key::Address(address), Key::Address(next)) => address < next,
-    }
-}
-
 /// Whether a line may stand after a line with the key `before`.
 pub(crate) fn in_order(before: Option<Key>, line: &GraphLine) -> bool
     ensures { result ≡ in_order before line.now }
 {
     match before {
         None => targets_rise(line),
-        Some(before) => targets_rise(line) && key_below(before, line.key()),
+        Some(before) => targets_rise(line) && before.is_below(line.key()),
     }
 }

@@ -1,270 +1,198 @@
-use crate::{Graph, GraphEnd, GraphLine, GraphLines, Reason, SiteKind, read_graph, write_graph};
-use Reason::{Form, Order, Range};
+use crate::{Graph, GraphLine, GraphLines, SiteKind, read_graph, write_graph};
 use rv_word::{NoMemory, Places};
 use std::alloc::Global;
 use std::test::Fail;
-
-const NOTHING: &[u8] = b"";
 
 const FIRST: &[u8] = b"rvcfi-graph 1\n";
 
 const SECOND: &[u8] = b"rvcfi-graph 1\ncode 40000000 00000104\n";
 
-/// A text in two parts, and the line and the reason of its refusal, if it is refused.
-struct Case(&'static [u8], &'static [u8], Option<(u64, Reason)>);
+// Texts, each without its first lines where these are as above, with `/` for each newline, and what
+// each is read as.
+const TEXTS: &[u8] = b"\
+    from 1:  = line 1: Form\n\
+    from 1: / = line 1: Form\n\
+    from 1: rvcfi-graph 9/code 40000000 00000050/end/ = line 1: Form\n\
+    from 1: rvcfi-graph 1 = line 1: Form\n\
+    from 1: rvcfi-graph 1/ = line 2: Form\n\
+    from 1: rvcfi-graph 1 /code 40000000 00000050/end/ = line 1: Form\n\
+    from 1: RVCFI-graph 1/code 40000000 00000050/end/ = line 1: Form\n\
+    from 1: rvcfi-graph  1/code 40000000 00000050/end/ = line 1: Form\n\
+    from 1: rvcfi-graph 1\r/code 40000000 00000050\r/end\r/ = line 1: Form\n\
+    from 1: \x7fELF\x02\x01\x01\0/\0 = line 1: Form\n\
+    from 1: end/ = line 1: Form\n\
+    from 2: code 40000000 00000050 = line 2: Form\n\
+    from 2: code 40000000 00000050/ = line 3: Form\n\
+    from 2: code 40000000 00000052/end/ = line 2: Range\n\
+    from 2: code 40000000 00000000/end/ = line 2: Range\n\
+    from 2: code 40000000 00100004/end/ = line 2: Range\n\
+    from 2: code 40000000 ffffffff/end/ = line 2: Range\n\
+    from 2: code 40000000 00100000/end/ = a graph\n\
+    from 2: code 40000000 00000004/end/ = a graph\n\
+    from 2: code 40000000 00000050 /end/ = line 2: Form\n\
+    from 2: code 40000000  00000050/end/ = line 2: Form\n\
+    from 2:  code 40000000 00000050/end/ = line 2: Form\n\
+    from 2: code 40000000 0000050/end/ = line 2: Form\n\
+    from 2: code 40000000 000000050/end/ = line 2: Form\n\
+    from 2: code 40000000 00050/end/ = line 2: Form\n\
+    from 2: code 40000000 0000005A/end/ = line 2: Form\n\
+    from 2: code 40000004 00000050/end/ = line 2: Form\n\
+    from 2: code 40000000/end/ = line 2: Form\n\
+    from 2: code 40000000 00000050 00000050/end/ = line 2: Form\n\
+    from 2: code 40000000 00000052 = line 2: Form\n\
+    from 2: end/ = line 2: Form\n\
+    from 2: call 4000000c 40000040/end/ = line 2: Form\n\
+    from 2: / = line 2: Form\n\
+    from 3: end/ = a graph\n\
+    from 3:  = line 3: Form\n\
+    from 3: end = line 3: Form\n\
+    from 3: end// = line 4: Form\n\
+    from 3: end/end/ = line 4: Form\n\
+    from 3: end/x = line 4: Form\n\
+    from 3:  end/ = line 3: Form\n\
+    from 3: end / = line 3: Form\n\
+    from 3: End/ = line 3: Form\n\
+    from 3: /end/ = line 3: Form\n\
+    from 3: \0\0\0\0/ = line 3: Form\n\
+    from 3: class 00001/end/ = a graph\n\
+    from 3: class 0000a 400000c8 400000e4/end/ = a graph\n\
+    from 3: class fffff 40000000 40000100/end/ = a graph\n\
+    from 3: class 0000A/end/ = line 3: Form\n\
+    from 3: class 0001/end/ = line 3: Form\n\
+    from 3: class 000001/end/ = line 3: Form\n\
+    from 3: class 00000001/end/ = line 3: Form\n\
+    from 3: class/end/ = line 3: Form\n\
+    from 3: class 00001 /end/ = line 3: Form\n\
+    from 3: class 00001  400000c8/end/ = line 3: Form\n\
+    from 3: class 00001 400000C8/end/ = line 3: Form\n\
+    from 3: class 00001 00001/end/ = line 3: Form\n\
+    from 3: class 00001 400000c8 = line 3: Form\n\
+    from 3: class 00000/end/ = line 3: Range\n\
+    from 3: class 00001 400000ca/end/ = line 3: Range\n\
+    from 3: class 00001 40000104/end/ = line 3: Range\n\
+    from 3: class 00001 3ffffffc/end/ = line 3: Range\n\
+    from 3: class 00001 400000e4 400000ca/end/ = line 3: Range\n\
+    from 3: class 00000 400000cg/end/ = line 3: Form\n\
+    from 3: class 00001 400000e4 400000c8/end/ = line 3: Order\n\
+    from 3: class 00001 400000c8 400000c8/end/ = line 3: Order\n\
+    from 3: class 00001/class 00002/end/ = a graph\n\
+    from 3: class 00001/class 00001/end/ = line 4: Order\n\
+    from 3: class 00002/class 00001/end/ = line 4: Order\n\
+    from 3: class 00002/class 00000/end/ = line 4: Range\n\
+    from 3: class 00002 400000c8/class 00003 40000044/end/ = a graph\n\
+    from 3: site 4000005c call 00001/end/ = a graph\n\
+    from 3: site 4000005c jump fffff/end/ = a graph\n\
+    from 3: site 4000005c Call 00001/end/ = line 3: Form\n\
+    from 3: site 4000005c return 00001/end/ = line 3: Form\n\
+    from 3: site 4000005c call/end/ = line 3: Form\n\
+    from 3: site 4000005c call 00001 00002/end/ = line 3: Form\n\
+    from 3: site 4000005c call 000001/end/ = line 3: Form\n\
+    from 3: site 4000005C call 00001/end/ = line 3: Form\n\
+    from 3: site call 4000005c 00001/end/ = line 3: Form\n\
+    from 3: site 4000005c call 00000/end/ = line 3: Range\n\
+    from 3: site 4000005e call 00001/end/ = line 3: Range\n\
+    from 3: site 40000104 jump 00001/end/ = line 3: Range\n\
+    from 3: edge 40000040 40000050/end/ = a graph\n\
+    from 3: edge 40000040 40000040/end/ = a graph\n\
+    from 3: edge 40000040/end/ = line 3: Form\n\
+    from 3: edge 40000040 40000050 40000060/end/ = line 3: Form\n\
+    from 3: edge 40000040 4000005O/end/ = line 3: Form\n\
+    from 3: edge 40000040 40000041/end/ = line 3: Range\n\
+    from 3: edge 40000104 40000040/end/ = line 3: Range\n\
+    from 3: edge 40000042 40000040/end/ = line 3: Range\n\
+    from 3: call 4000000c 40000040/end/ = a graph\n\
+    from 3: call 4000000c 40000040 = line 3: Form\n\
+    from 3: call 4000000c 40000040/ = line 4: Form\n\
+    from 3: call 4000000c 40000040 /end/ = line 3: Form\n\
+    from 3: call 4000000c\t40000040/end/ = line 3: Form\n\
+    from 3: call 4000000c 40000040\r/end/ = line 3: Form\n\
+    from 3: call 000c 40000040/end/ = line 3: Form\n\
+    from 3: jump 4000000c 40000040/end/ = line 3: Form\n\
+    from 3: Call 4000000c 40000040/end/ = line 3: Form\n\
+    from 3: calls 1 2/end/ = line 3: Form\n\
+    from 3: callclass 00001 400000c8/end/ = line 3: Form\n\
+    from 3: call 4000000c 40000104/end/ = line 3: Range\n\
+    from 3: call 0000000c 40000040/end/ = line 3: Range\n\
+    from 3: call 4000000c ffffffff/end/ = line 3: Range\n\
+    from 3: call 4000000c 40000040/call 4000000c 40000040/end/ = line 4: Order\n\
+    from 3: call 4000000c 40000040/edge 4000000c 40000040/end/ = line 4: Order\n\
+    from 3: edge 40000040 40000050/site 40000040 jump 00001/end/ = line 4: Order\n\
+    from 3: site 40000040 jump 00001/call 40000040 40000050/end/ = line 4: Order\n\
+    from 3: site 4000005c call 00001/call 4000000c 40000040/end/ = line 4: Order\n\
+    from 3: edge 40000050 40000040/edge 4000004c 40000040/end/ = line 4: Order\n\
+    from 3: call 4000000c 40000040/class 00001/end/ = line 4: Order\n\
+    from 3: edge 40000040 40000044/class 00001 400000c8/end = line 4: Order\n\
+    from 3: site 40000040 jump 00001/class 00001/end/ = line 4: Order\n\
+    from 3: call 4000000c 40000040/class 00000/end/ = line 4: Range\n\
+    from 3: call 4000000c 40000040/class 0000g/end/ = line 4: Form\n\
+    from 3: call 4000000c 40000040/end/class 00001/ = line 5: Form\n\
+    from 3: class 00001/call 4000000c 40000040/class 00002/end/ = line 5: Order\n\
+    from 3: class 00002/call 4000000c 40000040/edge 40000042 40000040/end/ = line 5: Range\n\
+    from 3: class 00001 400000c8 400000e4/call 4000000c 40000040/edge 40000040 40000050/site 4000005c call 00001/end/ = a graph\n\
+";
 
-static CASES: [Case; 120] = [
-    Case(NOTHING, b"", Some((1, Form))),
-    Case(NOTHING, b"\n", Some((1, Form))),
-    Case(
-        NOTHING,
-        b"rvcfi-graph 9\ncode 40000000 00000050\nend\n",
-        Some((1, Form)),
-    ),
-    Case(NOTHING, b"rvcfi-graph 1", Some((1, Form))),
-    Case(NOTHING, b"rvcfi-graph 1\n", Some((2, Form))),
-    Case(
-        NOTHING,
-        b"rvcfi-graph 1 \ncode 40000000 00000050\nend\n",
-        Some((1, Form)),
-    ),
-    Case(
-        NOTHING,
-        b"RVCFI-graph 1\ncode 40000000 00000050\nend\n",
-        Some((1, Form)),
-    ),
-    Case(
-        NOTHING,
-        b"rvcfi-graph  1\ncode 40000000 00000050\nend\n",
-        Some((1, Form)),
-    ),
-    Case(
-        NOTHING,
-        b"rvcfi-graph 1\r\ncode 40000000 00000050\r\nend\r\n",
-        Some((1, Form)),
-    ),
-    Case(NOTHING, b"\x7fELF\x02\x01\x01\0\n\0", Some((1, Form))),
-    Case(NOTHING, b"\xff\xfe\n\xff\n", Some((1, Form))),
-    Case(NOTHING, b"end\n", Some((1, Form))),
-    Case(FIRST, b"code 40000000 00000050", Some((2, Form))),
-    Case(FIRST, b"code 40000000 00000050\n", Some((3, Form))),
-    Case(FIRST, b"code 40000000 00000052\nend\n", Some((2, Range))),
-    Case(FIRST, b"code 40000000 00000000\nend\n", Some((2, Range))),
-    Case(FIRST, b"code 40000000 00100004\nend\n", Some((2, Range))),
-    Case(FIRST, b"code 40000000 ffffffff\nend\n", Some((2, Range))),
-    Case(FIRST, b"code 40000000 00100000\nend\n", None),
-    Case(FIRST, b"code 40000000 00000004\nend\n", None),
-    Case(FIRST, b"code 40000000 00000050 \nend\n", Some((2, Form))),
-    Case(FIRST, b"code 40000000  00000050\nend\n", Some((2, Form))),
-    Case(FIRST, b" code 40000000 00000050\nend\n", Some((2, Form))),
-    Case(FIRST, b"code 40000000 0000050\nend\n", Some((2, Form))),
-    Case(FIRST, b"code 40000000 000000050\nend\n", Some((2, Form))),
-    Case(FIRST, b"code 40000000 00050\nend\n", Some((2, Form))),
-    Case(FIRST, b"code 40000000 0000005A\nend\n", Some((2, Form))),
-    Case(FIRST, b"code 40000004 00000050\nend\n", Some((2, Form))),
-    Case(FIRST, b"code 40000000\nend\n", Some((2, Form))),
-    Case(
-        FIRST,
-        b"code 40000000 00000050 00000050\nend\n",
-        Some((2, Form)),
-    ),
-    Case(FIRST, b"code 40000000 00000052", Some((2, Form))),
-    Case(FIRST, b"end\n", Some((2, Form))),
-    Case(FIRST, b"call 4000000c 40000040\nend\n", Some((2, Form))),
-    Case(FIRST, b"\n", Some((2, Form))),
-    Case(SECOND, b"end\n", None),
-    Case(SECOND, b"", Some((3, Form))),
-    Case(SECOND, b"end", Some((3, Form))),
-    Case(SECOND, b"end\n\n", Some((4, Form))),
-    Case(SECOND, b"end\nend\n", Some((4, Form))),
-    Case(SECOND, b"end\nx", Some((4, Form))),
-    Case(SECOND, b" end\n", Some((3, Form))),
-    Case(SECOND, b"end \n", Some((3, Form))),
-    Case(SECOND, b"End\n", Some((3, Form))),
-    Case(SECOND, b"\nend\n", Some((3, Form))),
-    Case(SECOND, b"\0\0\0\0\n", Some((3, Form))),
-    Case(SECOND, b"class 00001\nend\n", None),
-    Case(SECOND, b"class 0000a 400000c8 400000e4\nend\n", None),
-    Case(SECOND, b"class fffff 40000000 40000100\nend\n", None),
-    Case(SECOND, b"class 0000A\nend\n", Some((3, Form))),
-    Case(SECOND, b"class 0001\nend\n", Some((3, Form))),
-    Case(SECOND, b"class 000001\nend\n", Some((3, Form))),
-    Case(SECOND, b"class 00000001\nend\n", Some((3, Form))),
-    Case(SECOND, b"class\nend\n", Some((3, Form))),
-    Case(SECOND, b"class 00001 \nend\n", Some((3, Form))),
-    Case(SECOND, b"class 00001  400000c8\nend\n", Some((3, Form))),
-    Case(SECOND, b"class 00001 400000C8\nend\n", Some((3, Form))),
-    Case(SECOND, b"class 00001 00001\nend\n", Some((3, Form))),
-    Case(SECOND, b"class 00001 400000c8", Some((3, Form))),
-    Case(SECOND, b"class 00000\nend\n", Some((3, Range))),
-    Case(SECOND, b"class 00001 400000ca\nend\n", Some((3, Range))),
-    Case(SECOND, b"class 00001 40000104\nend\n", Some((3, Range))),
-    Case(SECOND, b"class 00001 3ffffffc\nend\n", Some((3, Range))),
-    Case(
-        SECOND,
-        b"class 00001 400000e4 400000ca\nend\n",
-        Some((3, Range)),
-    ),
-    Case(SECOND, b"class 00000 400000cg\nend\n", Some((3, Form))),
-    Case(
-        SECOND,
-        b"class 00001 400000e4 400000c8\nend\n",
-        Some((3, Order)),
-    ),
-    Case(
-        SECOND,
-        b"class 00001 400000c8 400000c8\nend\n",
-        Some((3, Order)),
-    ),
-    Case(SECOND, b"class 00001\nclass 00002\nend\n", None),
-    Case(SECOND, b"class 00001\nclass 00001\nend\n", Some((4, Order))),
-    Case(SECOND, b"class 00002\nclass 00001\nend\n", Some((4, Order))),
-    Case(SECOND, b"class 00002\nclass 00000\nend\n", Some((4, Range))),
-    Case(
-        SECOND,
-        b"class 00002 400000c8\nclass 00003 40000044\nend\n",
-        None,
-    ),
-    Case(SECOND, b"site 4000005c call 00001\nend\n", None),
-    Case(SECOND, b"site 4000005c jump fffff\nend\n", None),
-    Case(SECOND, b"site 4000005c Call 00001\nend\n", Some((3, Form))),
-    Case(
-        SECOND,
-        b"site 4000005c return 00001\nend\n",
-        Some((3, Form)),
-    ),
-    Case(SECOND, b"site 4000005c call\nend\n", Some((3, Form))),
-    Case(
-        SECOND,
-        b"site 4000005c call 00001 00002\nend\n",
-        Some((3, Form)),
-    ),
-    Case(SECOND, b"site 4000005c call 000001\nend\n", Some((3, Form))),
-    Case(SECOND, b"site 4000005C call 00001\nend\n", Some((3, Form))),
-    Case(SECOND, b"site call 4000005c 00001\nend\n", Some((3, Form))),
-    Case(SECOND, b"site 4000005c call 00000\nend\n", Some((3, Range))),
-    Case(SECOND, b"site 4000005e call 00001\nend\n", Some((3, Range))),
-    Case(SECOND, b"site 40000104 jump 00001\nend\n", Some((3, Range))),
-    Case(SECOND, b"edge 40000040 40000050\nend\n", None),
-    Case(SECOND, b"edge 40000040 40000040\nend\n", None),
-    Case(SECOND, b"edge 40000040\nend\n", Some((3, Form))),
-    Case(
-        SECOND,
-        b"edge 40000040 40000050 40000060\nend\n",
-        Some((3, Form)),
-    ),
-    Case(SECOND, b"edge 40000040 4000005O\nend\n", Some((3, Form))),
-    Case(SECOND, b"edge 40000040 40000041\nend\n", Some((3, Range))),
-    Case(SECOND, b"edge 40000104 40000040\nend\n", Some((3, Range))),
-    Case(SECOND, b"edge 40000042 40000040\nend\n", Some((3, Range))),
-    Case(SECOND, b"call 4000000c 40000040\nend\n", None),
-    Case(SECOND, b"call 4000000c 40000040", Some((3, Form))),
-    Case(SECOND, b"call 4000000c 40000040\n", Some((4, Form))),
-    Case(SECOND, b"call 4000000c 40000040 \nend\n", Some((3, Form))),
-    Case(SECOND, b"call 4000000c\t40000040\nend\n", Some((3, Form))),
-    Case(SECOND, b"call 4000000c 40000040\r\nend\n", Some((3, Form))),
-    Case(SECOND, b"call 000c 40000040\nend\n", Some((3, Form))),
-    Case(SECOND, b"jump 4000000c 40000040\nend\n", Some((3, Form))),
-    Case(SECOND, b"Call 4000000c 40000040\nend\n", Some((3, Form))),
-    Case(SECOND, b"calls 1 2\nend\n", Some((3, Form))),
-    Case(SECOND, b"callclass 00001 400000c8\nend\n", Some((3, Form))),
-    Case(SECOND, b"call 4000000c 40000104\nend\n", Some((3, Range))),
-    Case(SECOND, b"call 0000000c 40000040\nend\n", Some((3, Range))),
-    Case(SECOND, b"call 4000000c ffffffff\nend\n", Some((3, Range))),
-    Case(
-        SECOND,
-        b"call 4000000c 40000040\ncall 4000000c 40000040\nend\n",
-        Some((4, Order)),
-    ),
-    Case(
-        SECOND,
-        b"call 4000000c 40000040\nedge 4000000c 40000040\nend\n",
-        Some((4, Order)),
-    ),
-    Case(
-        SECOND,
-        b"edge 40000040 40000050\nsite 40000040 jump 00001\nend\n",
-        Some((4, Order)),
-    ),
-    Case(
-        SECOND,
-        b"site 40000040 jump 00001\ncall 40000040 40000050\nend\n",
-        Some((4, Order)),
-    ),
-    Case(
-        SECOND,
-        b"site 4000005c call 00001\ncall 4000000c 40000040\nend\n",
-        Some((4, Order)),
-    ),
-    Case(
-        SECOND,
-        b"edge 40000050 40000040\nedge 4000004c 40000040\nend\n",
-        Some((4, Order)),
-    ),
-    Case(
-        SECOND,
-        b"call 4000000c 40000040\nclass 00001\nend\n",
-        Some((4, Order)),
-    ),
-    Case(
-        SECOND,
-        b"edge 40000040 40000044\nclass 00001 400000c8\nend",
-        Some((4, Order)),
-    ),
-    Case(
-        SECOND,
-        b"site 40000040 jump 00001\nclass 00001\nend\n",
-        Some((4, Order)),
-    ),
-    Case(
-        SECOND,
-        b"call 4000000c 40000040\nclass 00000\nend\n",
-        Some((4, Range)),
-    ),
-    Case(
-        SECOND,
-        b"call 4000000c 40000040\nclass 0000g\nend\n",
-        Some((4, Form)),
-    ),
-    Case(
-        SECOND,
-        b"call 4000000c 40000040\nend\nclass 00001\n",
-        Some((5, Form)),
-    ),
-    Case(
-        SECOND,
-        b"class 00001\ncall 4000000c 40000040\nclass 00002\nend\n",
-        Some((5, Order)),
-    ),
-    Case(
-        SECOND,
-        b"class 00002\ncall 4000000c 40000040\nedge 40000042 40000040\nend\n",
-        Some((5, Range)),
-    ),
-    Case(
-        SECOND,
-        b"class 00001 400000c8 400000e4\ncall 4000000c 40000040\nedge 40000040 40000050\nsite 4000005c call 00001\nend\n",
-        None,
-    ),
-];
+/// The lines of a text before the line that a row names.
+fn head(name: &str) -> &[u8] {
+    if name == "from 3" {
+        SECOND
+    } else if name == "from 2" {
+        FIRST
+    } else {
+        b""
+    }
+}
+
+/// The text that a row stands for.
+fn text_of(alloc: Global, name: &str, rest: &str) -> Result<Vec<u8>, Fail> {
+    let mut text = Vec::from_slice(alloc, head(name))?;
+    for byte in rest.as_bytes() {
+        text.push(if *byte == b'/' { b'\n' } else { *byte })?;
+    }
+    Ok(text)
+}
+
+/// What a text is read as, in words. A graph that is read is written as the same text.
+fn answer(alloc: Global, text: &[u8]) -> Result<String, Fail> {
+    match read_graph(alloc, text) {
+        Ok(graph) => {
+            if write_graph(alloc, &graph)?.as_slice() == text {
+                Ok(format!(in alloc; "a graph")?)
+            } else {
+                Ok(format!(in alloc; "a graph with another text")?)
+            }
+        }
+        Err(end) => Ok(format!(in alloc; "{end}")?),
+    }
+}
+
+/// Whether a row says what its text is read as.
+fn is_right(alloc: Global, row: &str) -> Result<bool, Fail> {
+    if let Some((name, rest)) = row.split_once(": ") {
+        if let Some((rest, expected)) = rest.split_once(" = ") {
+            let text = text_of(alloc, name, rest)?;
+            return Ok(answer(alloc, &text)?.as_str() == expected);
+        }
+    }
+    Ok(false)
+}
 
 #[test]
 fn texts(rt: HostRuntime) -> Result<(), Fail> {
-    for Case(head, rest, refused) in &CASES {
-        let mut text = Vec::from_slice(rt.alloc(), head)?;
-        text.extend_from_slice(rest)?;
-        match read_graph(rt.alloc(), text.as_slice()) {
-            Ok(graph) => {
-                assert_eq!(rt; *refused, None, "{rest:?}");
-                let written = write_graph(rt.alloc(), &graph)?;
-                assert_eq!(rt; written.as_slice(), text.as_slice(), "{rest:?}");
-            }
-            Err(GraphEnd::Line(number, reason)) => {
-                assert_eq!(rt; *refused, Some((number, reason)), "{rest:?}");
-            }
-            Err(GraphEnd::NoMemory) => assert!(rt; false, "out of memory"),
-        }
+    let mut count = 0_u32;
+    for row in str::from_utf8(TEXTS).unwrap_or("").lines() {
+        assert!(rt; is_right(rt.alloc(), row)?, "{row}");
+        count = count.saturating_add(1);
     }
+    assert_eq!(rt; count, 119);
+    Ok(())
+}
+
+#[test]
+fn no_text(rt: HostRuntime) -> Result<(), Fail> {
+    assert_eq!(rt;
+        answer(rt.alloc(), b"\xff\xfe\n\xff\n")?.as_str(),
+        "line 1: Form"
+    );
     Ok(())
 }
 

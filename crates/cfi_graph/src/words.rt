@@ -1,8 +1,10 @@
+//! The parts of a text between separators, and the numbers that its words spell.
 ghost use Rattle.std.specs.Prelude.{◌≡◌, ℕ, ◌+◌, ◌*◌, ◌^◌, ◌<◌, ◌≤◌, ◌==◌, length, IfSome, option_map, position, List, [], ◌∷◌};
 ghost use Rattle.std.specs.Str.{bytes_eq};
 ghost use Rattle.std.specs.List.{slice_split};
 ghost use Rattle.cfi_graph.specs.Lines.{digit_value, hex, parts_after};
 
+/// Where the first `separator` stands.
 fn find(bytes: &[u8], separator: u8) -> Option<usize>
     ensures at { result ≡ position (λ b. b == separator) bytes.now }
     ensures below { IfSome result (λ at. at < length bytes.now) }
@@ -29,6 +31,7 @@ pub fn is_word(word: &[u8], name: &[u8]) -> bool
     word == name
 }
 
+/// The value of a hexadecimal digit in lower case.
 fn digit(byte: u8) -> Option<u32>
     ensures value { result ≡ digit_value byte }
     ensures small { IfSome result (λ d. d < 16) }

@@ -3,8 +3,9 @@ ghost use Rattle.rv_word.specs.Layout.{CODE, CODE_SIZE};
 ghost use Rattle.cfi_unit.specs.Recognise.{can_stand, check_reaches, recognised};
 ghost use Rattle.cfi_unit.specs.UnitWords.{Fits, is_plain, is_reserved, word_count, words_of};
 
+use crate::handlers::{BAD_RETURN, BAD_TARGET, DEEP};
 use crate::jump::is_reached;
-use crate::template::{BAD_RETURN_HANDLER, BAD_TARGET_HANDLER, DEPTH_HANDLER, unit_code};
+use crate::template::unit_code;
 use crate::unit::Unit;
 use rv_instr::{Instr, Reg, UpperOp};
 use rv_word::NoMemory;
@@ -57,6 +58,7 @@ pub fn fits(unit: &Unit, at: u64) -> bool
     may_stand(unit, at)
 }
 
+/// Whether a unit whose fields are in range may stand at an address.
 pub(crate) fn may_stand(unit: &Unit, at: u64) -> bool
     requires { at < CODE + CODE_SIZE }
     ensures { result ≡ can_stand unit.now at }
@@ -65,12 +67,12 @@ pub(crate) fn may_stand(unit: &Unit, at: u64) -> bool
         Unit::Gate(_) | Unit::System(_) | Unit::Store(..) => true,
         Unit::Plain(instr) => may_stand_alone(&instr),
         Unit::Branch(_, _, _, target) => is_reached(at + 4, target),
-        Unit::Jump(target) => target != BAD_TARGET_HANDLER && is_reached(at, target),
-        Unit::Stop => is_reached(at, BAD_TARGET_HANDLER),
-        Unit::Call(target) => is_reached(at + 8, DEPTH_HANDLER) && is_reached(at + 28, target),
+        Unit::Jump(target) => target != BAD_TARGET && is_reached(at, target),
+        Unit::Stop => is_reached(at, BAD_TARGET),
+        Unit::Call(target) => is_reached(at + 8, DEEP) && is_reached(at + 28, target),
         Unit::Ijump(..) => halts_reach(at),
-        Unit::Icall(..) => halts_reach(at) && is_reached(at + 56, DEPTH_HANDLER),
-        Unit::Return => is_reached(at + 12, BAD_RETURN_HANDLER),
+        Unit::Icall(..) => halts_reach(at) && is_reached(at + 56, DEEP),
+        Unit::Return => is_reached(at + 12, BAD_RETURN),
     }
 }
 
@@ -79,7 +81,7 @@ fn halts_reach(at: u64) -> bool
     requires { at < CODE + CODE_SIZE }
     ensures { result ≡ check_reaches at }
 {
-    is_reached(at + 24, BAD_TARGET_HANDLER) && is_reached(at + 44, BAD_TARGET_HANDLER)
+    is_reached(at + 24, BAD_TARGET) && is_reached(at + 44, BAD_TARGET)
 }
 
 /// Whether an instruction may be a unit of its own.

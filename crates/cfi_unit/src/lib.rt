@@ -9,6 +9,7 @@ pub use step_law::unit_law;
 pub use unit::{SystemOp, Unit};
 
 mod emission;
+pub mod handlers;
 mod jump;
 pub mod laws;
 mod recogniser;

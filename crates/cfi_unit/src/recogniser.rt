@@ -16,8 +16,9 @@ ghost use Rattle.cfi_unit.specs.UnitWords.{Begins, word_count};
 ghost use Rattle.cfi_unit.specs.declared.unit.Unit as U;
 
 use crate::emission::{count, may_stand};
+use crate::handlers::BAD_TARGET;
 use crate::jump::led;
-use crate::template::{BAD_TARGET_HANDLER, unit_code};
+use crate::template::unit_code;
 use crate::unit::{SystemOp, Unit};
 use rv_code::decode;
 use rv_instr::{Immediate, Instr, Reg, UpperOp};
@@ -35,6 +36,7 @@ pub fn recognise(words: &[u32], at: u64) -> Option<(Unit, u32)>
     Some((unit, words))
 }
 
+/// The unit that begins the list.
 #[tactic(auto, unfolding(crate::specs::Recognise::recognised))]
 fn first_unit(words: &[u32], at: u64) -> Option<Unit>
     requires { at < CODE + CODE_SIZE }
@@ -96,6 +98,7 @@ fn candidate(words: &[u32], at: u64, first: Instr) -> Option<Unit>
     }
 }
 
+/// The unit of a `lui` or `auipc`: a gate where it writes x0.
 fn upper(op: UpperOp, rd: Reg, imm: Immediate<20>) -> Unit
     ensures { result ≡ upper_unit op rd imm }
 {
@@ -111,10 +114,11 @@ fn upper(op: UpperOp, rd: Reg, imm: Immediate<20>) -> Unit
     }
 }
 
+/// The unit of a jump to a target.
 fn jump_unit(target: u64) -> Unit
     ensures { result ≡ jump_or_stop target }
 {
-    if target == BAD_TARGET_HANDLER {
+    if target == BAD_TARGET {
         Unit::Stop
     } else {
         Unit::Jump(target)
@@ -142,6 +146,7 @@ fn addressed(words: &[u32], rs1: Reg, imm: Immediate<12>) -> Option<Unit>
     Some(computed(rs1, imm, instr(words, 12), label))
 }
 
+/// A store unit, by the store that is its last word.
 fn stored(rs1: Reg, imm: Immediate<12>, last: Option<Instr>) -> Option<Unit>
     ensures { result ≡ store_unit rs1 imm last }
 {
@@ -161,6 +166,7 @@ fn label(lui: Option<Instr>) -> Option<Immediate<20>>
     }
 }
 
+/// A computed transfer, by the word after its check: a jump's is `jalr`.
 fn computed(rs1: Reg, imm: Immediate<12>, after: Option<Instr>, label: Immediate<20>) -> Unit
     ensures { result ≡ computed_unit rs1 imm after label }
 {

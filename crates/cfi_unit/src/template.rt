@@ -3,19 +3,13 @@ ghost use Rattle.rv_word.specs.Layout.{CODE, CODE_SIZE};
 ghost use Rattle.cfi_unit.specs.UnitWords.{check, gate, instrs_of, push, system_instr, words_of};
 ghost use Rattle.cfi_unit.specs.declared.unit.Unit.TheVariants as V;
 
+use crate::handlers::{BAD_RETURN, BAD_TARGET, DEEP};
 use crate::jump::{field_between, jump_between};
 use crate::unit::{SystemOp, Unit};
 use crate::words::UnitCode;
 use rv_instr::{
     BranchOp, Immediate, ImmediateOp, Instr, LoadOp, Reg, RegisterOp, ShiftOp, StoreOp, UpperOp,
 };
-
-/// Where computed transfers halt that would leave their class.
-pub(crate) const BAD_TARGET_HANDLER: u64 = 0x4000_0000;
-/// Where returns halt that would not go to their call's site.
-pub(crate) const BAD_RETURN_HANDLER: u64 = 0x4000_0004;
-/// Where calls halt that find the shadow stack full.
-pub(crate) const DEPTH_HANDLER: u64 = 0x4000_0008;
 
 /// The words of a unit at an address.
 #[tactic(auto, unfolding(crate::specs::UnitWords::words_of))]
@@ -31,7 +25,7 @@ pub(crate) fn unit_code(unit: &Unit, at: u64) -> UnitCode
             code.put(&[skip(op, rs1, rs2), jump_between(at + 4, target)]);
         }
         Unit::Jump(target) => code.put(&[jump_between(at, target)]),
-        Unit::Stop => code.put(&[jump_between(at, BAD_TARGET_HANDLER)]),
+        Unit::Stop => code.put(&[jump_between(at, BAD_TARGET)]),
         Unit::System(op) => code.put(&[system(op)]),
         Unit::Store(op, rs1, rs2, imm) => code.put(&store(op, rs1, rs2, imm)),
         Unit::Call(target) => {
@@ -132,7 +126,7 @@ fn pushes(at: u64) -> [Instr; 7]
     [
         shift(ShiftOp::Slli, 30, 3, 48),
         skip(BranchOp::Bne, Reg::of(30), Reg::of(0)),
-        jump_between(at + 8, DEPTH_HANDLER),
+        jump_between(at + 8, DEEP),
         Instr::Upper(UpperOp::Auipc, Reg::of(30), Immediate::of(0)),
         addi(30, 30, 20),
         Instr::Store(StoreOp::Sd, Reg::of(3), Reg::of(30), Immediate::of(0)),
@@ -153,12 +147,12 @@ fn checks(at: u64, rs1: Reg, imm: Immediate<12>, label: Immediate<20>) -> [Instr
         Instr::Register(RegisterOp::Sub, x30, x31, x30),
         shift(ShiftOp::Srli, 30, 30, 20),
         skip(BranchOp::Beq, x30, x0),
-        jump_between(at + 24, BAD_TARGET_HANDLER),
+        jump_between(at + 24, BAD_TARGET),
         Instr::Load(LoadOp::Lw, x30, x31, Immediate::of(0)),
         Instr::Upper(UpperOp::Lui, x4, label),
         addi(4, 4, 55),
         skip(BranchOp::Beq, x30, x4),
-        jump_between(at + 44, BAD_TARGET_HANDLER),
+        jump_between(at + 44, BAD_TARGET),
     ]
 }
 
@@ -171,7 +165,7 @@ fn returns(at: u64) -> [Instr; 5]
         Instr::Load(LoadOp::Ld, x31, x3, Immediate::of(0xff8)),
         addi(3, 3, 0xff8),
         skip(BranchOp::Beq, x31, x1),
-        jump_between(at + 12, BAD_RETURN_HANDLER),
+        jump_between(at + 12, BAD_RETURN),
         transfer(0),
     ]
 }

@@ -1,11 +1,7 @@
 ghost use Rattle.std.specs.Prelude.{◌<◌, ◌^◌};
 
 use crate::{SystemOp, Unit, emit, fits, recognise, size};
-use rv_code::{decode, encode};
-use rv_instr::{
-    BranchOp, FenceWord, Immediate, ImmediateOp, Instr, LoadOp, Reg, RegisterOp, ShiftOp, StoreOp,
-    UpperOp,
-};
+use rv_instr::{BranchOp, FenceWord, Immediate, ImmediateOp, Instr, LoadOp, Reg, StoreOp, UpperOp};
 use std::alloc::Global;
 use std::process::Abort;
 use std::test::Fail;
@@ -169,83 +165,6 @@ fn objects(rt: HostRuntime) -> Result<(), Fail> {
         OTHER.as_slice()
     );
     Ok(())
-}
-
-/// The words that units are made of.
-fn vectors() -> [(u32, Instr); 9] {
-    let (x0, x3, x30, x31) = (Reg::of(0), Reg::of(3), Reg::of(30), Reg::of(31));
-    [
-        (
-            0xff81bf83,
-            Instr::Load(LoadOp::Ld, x31, x3, Immediate::of(0xff8)),
-        ),
-        (0x00001037, Instr::Upper(UpperOp::Lui, x0, Immediate::of(1))),
-        (
-            0x03019f13,
-            Instr::Shift(ShiftOp::Slli, x30, x3, Immediate::of(48)),
-        ),
-        (
-            0x000f1463,
-            Instr::Branch(BranchOp::Bne, x30, x0, Immediate::of(4)),
-        ),
-        (0xfe9ff06f, Instr::Jal(x0, Immediate::of(0xffff4))),
-        (
-            0x01e1b023,
-            Instr::Store(StoreOp::Sd, x3, x30, Immediate::of(0)),
-        ),
-        (
-            0xffcfff93,
-            Instr::Immediate(ImmediateOp::Andi, x31, x31, Immediate::of(0xffc)),
-        ),
-        (
-            0x40000f37,
-            Instr::Upper(UpperOp::Lui, x30, Immediate::of(0x40000)),
-        ),
-        (0x41ef8f33, Instr::Register(RegisterOp::Sub, x30, x31, x30)),
-    ]
-}
-
-fn more_vectors() -> [(u32, Instr); 8] {
-    let (x0, x1, x4, x30, x31) = (Reg::of(0), Reg::of(1), Reg::of(4), Reg::of(30), Reg::of(31));
-    [
-        (
-            0x014f5f13,
-            Instr::Shift(ShiftOp::Srli, x30, x30, Immediate::of(20)),
-        ),
-        (
-            0x000f0463,
-            Instr::Branch(BranchOp::Beq, x30, x0, Immediate::of(4)),
-        ),
-        (
-            0x000faf03,
-            Instr::Load(LoadOp::Lw, x30, x31, Immediate::of(0)),
-        ),
-        (0x00001237, Instr::Upper(UpperOp::Lui, x4, Immediate::of(1))),
-        (
-            0x03720213,
-            Instr::Immediate(ImmediateOp::Addi, x4, x4, Immediate::of(55)),
-        ),
-        (
-            0x004f0463,
-            Instr::Branch(BranchOp::Beq, x30, x4, Immediate::of(4)),
-        ),
-        (0x000f8067, Instr::Jalr(x0, x31, Immediate::of(0))),
-        (0x000f80e7, Instr::Jalr(x1, x31, Immediate::of(0))),
-    ]
-}
-
-fn assert_coded(rt: &impl Abort, rows: &[(u32, Instr)]) {
-    for (word, instr) in rows {
-        assert_eq!(rt; decode(*word), Some(*instr), "{word:x}");
-        assert_eq!(rt; encode(*instr), *word, "{instr:?}");
-    }
-}
-
-#[test]
-fn words(rt: HostRuntime) {
-    assert_coded(&rt, &vectors());
-    assert_coded(&rt, &more_vectors());
-    assert!(rt; decode(0x0000_100f).is_none());
 }
 
 /// No unit begins these objects' words at an address once the word at another is changed.

@@ -13,6 +13,7 @@ pub enum Unit {
     Jump(u64),
     /// A jump to the handler of bad targets.
     Stop,
+    /// A system call or a break.
     System(SystemOp),
     /// A store whose address is masked to lie below 2^28: the address's register, the value's, the
     /// offset.

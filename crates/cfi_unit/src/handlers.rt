@@ -1,0 +1,11 @@
+//! The three handlers, in which a run halts that would leave its graph, and the depth of the shadow
+//! stack.
+
+/// Where computed transfers halt that would leave their class.
+pub const BAD_TARGET: u64 = 0x4000_0000;
+/// Where returns halt that would not go to their call's site.
+pub const BAD_RETURN: u64 = 0x4000_0004;
+/// Where calls halt that find the shadow stack full.
+pub const DEEP: u64 = 0x4000_0008;
+/// How many calls may be pending: as many as the shadow stack has slots.
+pub const MOST_PENDING: u64 = 8191;
