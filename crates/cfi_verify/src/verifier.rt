@@ -24,8 +24,10 @@ use thiserror::Error;
 /// Why a pair was not accepted.
 #[derive(Clone, Copy, Debug, PartialEq, Eq, Error)]
 pub enum VerifyEnd {
+    /// A rule fails.
     #[error("rejected")]
     Reject(Reject),
+    /// There was no memory.
     #[error("out of memory")]
     NoMemory,
 }
@@ -59,6 +61,7 @@ impl<'a> Model for Checked<'a> {
 }
 
 impl<'a> Checked<'a> {
+    /// The image.
     pub fn image(&self) -> &'a Image<'a>
         ensures value { result.now ≡ self.now.image }
         ensures well_formed { IsWellFormed version_1 self.now.image self.now.graph }
@@ -66,6 +69,7 @@ impl<'a> Checked<'a> {
         self.image
     }
 
+    /// The graph.
     pub fn graph(&self) -> &'a Graph
         ensures value { result.now ≡ self.now.graph }
         ensures well_formed { IsWellFormed version_1 self.now.image self.now.graph }

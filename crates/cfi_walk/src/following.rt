@@ -12,7 +12,9 @@ use cfi_verify::Checked;
 /// Whether a walk went on.
 #[derive(Clone, Copy, Debug, PartialEq, Eq)]
 pub enum Followed {
+    /// It did.
     Yes,
+    /// It stays where it was.
     No,
 }
 

@@ -13,18 +13,12 @@ ghost use Rattle.cfi_walk.specs.Moves.{IsAnswer};
 
 use crate::class::{has_target, is_in_class};
 use crate::walk::{Move, Walk};
+use cfi_unit::handlers::{self, BAD_RETURN, BAD_TARGET, DEEP};
 use cfi_unit::{SystemOp, Unit};
 use cfi_verify::{Checked, Place};
 
-/// Where the handlers stand.
-const BAD_TARGET: u64 = 0x4000_0000;
-
-const BAD_RETURN: u64 = 0x4000_0004;
-
-const DEEP: u64 = 0x4000_0008;
-
 /// How many sites may be pending.
-const MOST_PENDING: usize = 8191;
+const MOST_PENDING: usize = handlers::MOST_PENDING as usize;
 
 /// The step to one address.
 fn to(walk: &Walk, target: u64, pc: u64) -> Option<Move>
