@@ -5,24 +5,11 @@ use Rattle.std.specs.Prelude.{option_map}
 use Rattle.std.proofs.lemmas.Option.{some_pair_parts, slice_get_within}
 use Rattle.rv_word.specs.Layout.{version_1}
 use Rattle.cfi_unit.specs.declared.unit.Unit as U
-use Rattle.cfi_unit.specs.declared.unit.Unit.TheVariants as V
 use Rattle.cfi_unit.specs.Recognise.{recognised}
 use Rattle.cfi_unit.specs.UnitWords.{word_count}
 use Rattle.cfi_verify.proofs.Find.{start_parts}
+use Rattle.cfi_verify.proofs.Marks.{cases_Option, marks_none, marks_unit}
 use Rattle.cfi_verify.specs.Split.{starts, is_start}
-
-pub has_words : (unit : U.Unit) → 1 ≤ word_count unit
-has_words (V.Gate label) = omega arith
-has_words (V.Plain instr) = omega arith
-has_words (V.Branch op rs1 rs2 target) = omega arith
-has_words (V.Jump target) = omega arith
-has_words V.Stop = omega arith
-has_words (V.System op) = omega arith
-has_words (V.Store op rs1 rs2 imm) = omega arith
-has_words (V.Call target) = omega arith
-has_words (V.Ijump rs1 imm label) = omega arith
-has_words (V.Icall rs1 imm label) = omega arith
-has_words V.Return = omega arith
 
 one_on : (ms : List Bool) (m : Bool) (rest more all : List Bool) → m ∷ more ≡ rest → ms ++ rest ≡ all → (ms ++ m ∷ []) ++ more ≡ all
 one_on ms m rest more all e f = append_assoc ms (m ∷ []) more ∙ ap (λ xs. ms ++ xs) e ∙ f
@@ -37,24 +24,16 @@ starts_inside ms all (suc skip) k at ws h p e =
     one_on ms false _ _ all (rw (drop_more ws k 0 h) (ap (λ a. false ∷ starts (suc skip - 1) (drop (k + 1) ws) a) (sym next) ∙ ap (λ s. false ∷ starts s (drop (k + 1) ws) (at + 4 * k + 4)) less)) e
 
 -- a word at which a unit starts
-starts_some : (w : ℕ) (ws : List ℕ) (at : ℕ) (unit : U.Unit) → recognised (w ∷ ws) at ≡ Some unit → starts 0 (w ∷ ws) at ≡ true ∷ starts (word_count unit - 1) ws (at + 4)
-unfolding starts
-starts_some w ws at unit r = rw (r, starts) refl
-
 pub starts_here : (ms all : List Bool) (k at : ℕ) (ws : List ℕ) (unit : U.Unit) → k < length ws → recognised (drop k ws) (at + 4 * k) ≡ Some unit → ms ++ starts 0 (drop k ws) (at + 4 * k) ≡ all → (ms ++ true ∷ []) ++ starts (word_count unit - 1) (drop (k + 1) ws) (at + 4 * (k + 1)) ≡ all
 starts_here ms all k at ws unit h r e =
     let next : at + 4 * k + 4 ≡ at + 4 * (k + 1) = omega arith in
-    let here = starts_some (get_or ws k 0) (drop (k + 1) ws) (at + 4 * k) unit (rw (drop_more ws k 0 h) at r) in
+    let here = marks_unit (get_or ws k 0) (drop (k + 1) ws) (at + 4 * k) unit (rw (drop_more ws k 0 h) at r) in
     one_on ms true _ _ all (ap (λ a. true ∷ starts (word_count unit - 1) (drop (k + 1) ws) a) (sym next) ∙ sym here ∙ ap (λ xs. starts 0 xs (at + 4 * k)) (sym (drop_more ws k 0 h))) e
 
 -- a word at which no unit fits
-starts_none : (w : ℕ) (ws : List ℕ) (at : ℕ) → recognised (w ∷ ws) at ≡ None → starts 0 (w ∷ ws) at ≡ []
-unfolding starts
-starts_none w ws at r = rw (r, starts) refl
-
 pub starts_stop : (ms all : List Bool) (k at : ℕ) (ws : List ℕ) → k < length ws → recognised (drop k ws) (at + 4 * k) ≡ None → ms ++ starts 0 (drop k ws) (at + 4 * k) ≡ all → ms ≡ all
 starts_stop ms all k at ws h r e =
-    let none = starts_none (get_or ws k 0) (drop (k + 1) ws) (at + 4 * k) (rw (drop_more ws k 0 h) at r) in
+    let none = marks_none (get_or ws k 0 ∷ drop (k + 1) ws) (at + 4 * k) (rw (drop_more ws k 0 h) at r) in
     sym (append-nil ms) ∙ ap (λ xs. ms ++ xs) (sym none ∙ ap (λ xs. starts 0 xs (at + 4 * k)) (sym (drop_more ws k 0 h))) ∙ e
 
 -- past the last word
@@ -76,10 +55,6 @@ pub unit_missing : (o : Option U.Unit) → ◌≡◌ {A = Option (U.Unit × ℕ)
 unit_missing None e = refl
 unit_missing (Some u) e = cc
 
-cases_unit : (o : Option U.Unit) → (o ≡ None) ⊎ ((unit : U.Unit) × (o ≡ Some unit))
-cases_unit None = inl refl
-cases_unit (Some unit) = inr (unit, refl)
-
 -- no more starts than words
 pub length-starts : (skip : ℕ) (ws : List ℕ) (at : ℕ) → length (starts skip ws at) ≤ length ws
 unfolding starts
@@ -87,9 +62,9 @@ length-starts zero [] at = omega arith
 length-starts (suc skip) [] at = omega arith
 length-starts (suc skip) (w ∷ ws) at = let less = length-starts skip ws (at + 4) in omega arith
 length-starts zero (w ∷ ws) at =
-    elim (cases_unit (recognised (w ∷ ws) at)) [
+    elim (cases_Option (recognised (w ∷ ws) at)) [
       | inl r ↦ rw (r, starts) (omega arith)
-      | inr found ↦ let less = length-starts (word_count found.0 - 1) ws (at + 4) in rw (starts_some w ws at found.0 found.1) (omega arith)
+      | inr found ↦ let less = length-starts (word_count found.0 - 1) ws (at + 4) in rw (marks_unit w ws at found.0 found.1) (omega arith)
     ]
 
 -- where a start lies

@@ -6,7 +6,8 @@ ghost use Rattle.cfi_verify.specs.declared.reject.Rule.{Rule};
 ghost use Rattle.cfi_verify.specs.declared.reject.Rule.TheVariants as R;
 
 use crate::reject::Rule;
-use crate::scan::{CODE_START, Scan};
+use crate::scan::Scan;
+use rv_word::memory_map::CODE_START;
 
 /// The rules in the order in which they are asked.
 const RULES: [Rule; 9] = [

@@ -6,17 +6,6 @@ ghost use Rattle.cfi_verify.specs.Lines.{class_of, is_among, line_at, line_with}
 
 use cfi_graph::{Graph, GraphLine, Key};
 
-fn is_below(key: Key, other: Key) -> bool
-    ensures { result ≡ key_below key other }
-{
-    match (key, other) {
-        (Key::Label(label), Key::Label(next)) => label < next,
-        (Key::Label(_), Key::Address(_)) => true,
-        (Key::Address(_), Key::Label(_)) => false,
-        (Key::Address(address), Key::Address(next)) => address < next,
-    }
-}
-
 /// The line with a key, if there is one: keys rise, so its place is halved in.
 pub(crate) fn line_with(graph: &Graph, key: Key) -> Option<&GraphLine>
     requires { IsTrue (is_rising key_below (map key_of graph.now.lines)) }
@@ -28,9 +17,9 @@ pub(crate) fn line_with(graph: &Graph, key: Key) -> Option<&GraphLine>
         let middle = low + (high - low) / 2;
         let line = graph.line(middle);
         let found = line.key();
-        if is_below(found, key) {
+        if found.is_below(key) {
             low = middle + 1;
-        } else if is_below(key, found) {
+        } else if key.is_below(found) {
             high = middle;
         } else {
             return Some(line);
@@ -68,7 +57,7 @@ fn found_class(graph: &Graph, label: u32) -> Option<&[u64]>
 }
 
 /// Whether an address is among some that rise.
-pub(crate) fn is_among(address: u64, targets: &[u64]) -> bool
+pub fn is_among(address: u64, targets: &[u64]) -> bool
     requires { IsTrue (is_rising nat_lt targets.now) }
     ensures { result ≡ is_among address targets.now }
 {

@@ -3,9 +3,9 @@ ghost use Rattle.rv_word.specs.Layout.{CODE};
 ghost use Rattle.cfi_graph.specs.declared.line.Key.TheVariants.{Address};
 ghost use Rattle.cfi_verify.specs.Lines.{KnowsUnlisted};
 
-use crate::scan::CODE_START;
 use cfi_graph::{Graph, Key};
 use rv_word::NoMemory;
+use rv_word::memory_map::CODE_START;
 use std::alloc::Global;
 
 /// A flag for each word of a code: where it is not set, no line stands.

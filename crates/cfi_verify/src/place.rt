@@ -19,6 +19,7 @@ pub enum Place {
     Opening(u64),
     /// The exit after the entry returns.
     Closing,
+    /// A unit.
     Body(Unit),
 }
 

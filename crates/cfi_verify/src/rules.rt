@@ -44,11 +44,12 @@ ghost use Rattle.cfi_verify.specs.declared.reject.Rule.TheVariants as R;
 
 use crate::lines::is_among;
 use crate::reject::Rule;
-use crate::scan::{CODE_START, Scan, UNITS_START};
+use crate::scan::{Scan, UNITS_START};
 use cfi_graph::{GraphLine, SiteKind};
 use cfi_unit::Unit;
 use rv_code::decode;
 use rv_instr::Instr;
+use rv_word::memory_map::CODE_START;
 
 /// How many bytes the longest unit has, a computed call.
 const LONGEST_UNIT: u64 = 80;

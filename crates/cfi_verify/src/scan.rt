@@ -43,13 +43,12 @@ use cfi_graph::{Graph, GraphLine};
 use cfi_unit::{Unit, recognise};
 use rv_code::decode;
 use rv_instr::Instr;
+use rv_word::memory_map::CODE_START;
 use rv_word::{Image, NoMemory, sext};
 use std::alloc::Global;
 use std::marker::Model;
 
-/// Where code begins, and where the prologue's parts and the first unit stand.
-pub(crate) const CODE_START: u64 = 0x4000_0000;
-
+/// Where the prologue's parts and the first unit stand.
 pub(crate) const OPENING_START: u64 = 0x4000_000c;
 
 const OPENING_CALL: u64 = 0x4000_0034;

@@ -1,8 +1,11 @@
-ghost use Rattle.std.specs.Prelude.{◌≡◌, ◌<◌, ◌^◌, ℕ, IfErr, IfOk, OnOk, option_map, slice_index};
+ghost use Rattle.std.specs.Prelude.{◌≡◌, ◌<◌, ◌^◌, ℕ, IfErr, IfOk, IfSome, IsTrue, OnOk, nat_lt, option_map, slice_index};
+ghost use Rattle.std.specs.Option.{option_copied};
 ghost use Rattle.rv_word.specs.Layout.{version_1};
+ghost use Rattle.cfi_graph.specs.Graph.{is_rising};
 ghost use Rattle.cfi_verify.specs.Along.{IsSafe};
 ghost use Rattle.cfi_verify.specs.Answer.{IsCause};
 ghost use Rattle.cfi_verify.specs.Laws.{AreBytes};
+ghost use Rattle.cfi_verify.specs.Lines.{class_of};
 ghost use Rattle.cfi_verify.specs.Rules.{IsWellFormed};
 ghost use Rattle.cfi_verify.specs.Seen.{place_of};
 ghost use Rattle.cfi_verify.specs.Split.{code_words, place_at, unit_at};
@@ -21,8 +24,10 @@ use thiserror::Error;
 /// Why a pair was not accepted.
 #[derive(Clone, Copy, Debug, PartialEq, Eq, Error)]
 pub enum VerifyEnd {
+    /// A rule fails.
     #[error("rejected")]
     Reject(Reject),
+    /// There was no memory.
     #[error("out of memory")]
     NoMemory,
 }
@@ -56,6 +61,7 @@ impl<'a> Model for Checked<'a> {
 }
 
 impl<'a> Checked<'a> {
+    /// The image.
     pub fn image(&self) -> &'a Image<'a>
         ensures value { result.now ≡ self.now.image }
         ensures well_formed { IsWellFormed version_1 self.now.image self.now.graph }
@@ -63,6 +69,7 @@ impl<'a> Checked<'a> {
         self.image
     }
 
+    /// The graph.
     pub fn graph(&self) -> &'a Graph
         ensures value { result.now ≡ self.now.graph }
         ensures well_formed { IsWellFormed version_1 self.now.image self.now.graph }
@@ -92,6 +99,14 @@ impl<'a> Checked<'a> {
     {
         self.scan.place_at(address)
     }
+
+    /// The targets of the graph's class with a label.
+    pub fn class_of(&self, label: u32) -> Option<&'a [u64]>
+        ensures value { option_copied result ≡ class_of self.now.graph.lines label }
+        ensures rising { IfSome result (λ targets. IsTrue (is_rising nat_lt targets.now)) }
+    {
+        self.scan.class_of(label)
+    }
 }
 
 /// An image's code and data are bytes, of the lengths that an image has.
@@ -109,7 +124,7 @@ fn are_small(bytes: &[u8])
 }
 
 /// Asks the ten rules of an image and a graph, in their order. Takes time in proportion to the code
-/// and the graph, but for searches among the graph's lines, and five bytes for each word of the code.
+/// and the graph, but for searches among the graph's lines, and seven bytes for each word of the code.
 pub fn verify<'a>(
     alloc: Global,
     image: &'a Image<'a>,

@@ -12,12 +12,14 @@ use cfi_verify::Checked;
 /// Whether a walk went on.
 #[derive(Clone, Copy, Debug, PartialEq, Eq)]
 pub enum Followed {
+    /// It did.
     Yes,
+    /// It stays where it was.
     No,
 }
 
 /// Goes on to `pc` where a step of the walk leads there, and otherwise leaves the walk as it is. Takes
-/// no memory. A computed transfer asks each line of the graph in the worst case.
+/// no memory.
 pub fn follow(checked: &Checked<'_>, walk: &mut Walk, pc: u64) -> Followed
     ensures yes { result ≡ Yes → IsStep version_1 (code_words checked.now.image.code) checked.now.graph.lines walk.old pc walk.new }
     ensures unchanged { result ≡ No → walk.new ≡ walk.old }
@@ -27,7 +29,7 @@ pub fn follow(checked: &Checked<'_>, walk: &mut Walk, pc: u64) -> Followed
     let Some(place) = checked.place_at(walk.address()) else {
         return Followed::No;
     };
-    match step(checked.graph(), walk, &place, pc) {
+    match step(checked, walk, &place, pc) {
         Some(change) => {
             walk.go(change, pc);
             Followed::Yes

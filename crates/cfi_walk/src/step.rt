@@ -13,19 +13,12 @@ ghost use Rattle.cfi_walk.specs.Moves.{IsAnswer};
 
 use crate::class::{has_target, is_in_class};
 use crate::walk::{Move, Walk};
-use cfi_graph::Graph;
+use cfi_unit::handlers::{self, BAD_RETURN, BAD_TARGET, DEEP};
 use cfi_unit::{SystemOp, Unit};
-use cfi_verify::Place;
-
-/// Where the handlers stand.
-const BAD_TARGET: u64 = 0x4000_0000;
-
-const BAD_RETURN: u64 = 0x4000_0004;
-
-const DEEP: u64 = 0x4000_0008;
+use cfi_verify::{Checked, Place};
 
 /// How many sites may be pending.
-const MOST_PENDING: usize = 8191;
+const MOST_PENDING: usize = handlers::MOST_PENDING as usize;
 
 /// The step to one address.
 fn to(walk: &Walk, target: u64, pc: u64) -> Option<Move>
@@ -57,30 +50,30 @@ fn call(walk: &Walk, site: u64, target: u64, pc: u64) -> Option<Move>
     }
 }
 
-fn computed_jump(graph: &Graph, walk: &Walk, label: u32, pc: u64) -> Option<Move>
-    ensures { IsAnswer (λ newer. JumpGoes graph.now.lines label walk.now.pending pc newer) walk.now.pending result }
+fn computed_jump(checked: &Checked<'_>, walk: &Walk, label: u32, pc: u64) -> Option<Move>
+    ensures { IsAnswer (λ newer. JumpGoes checked.now.graph.lines label walk.now.pending pc newer) walk.now.pending result }
 {
-    if pc == BAD_TARGET || is_in_class(graph, label, pc) {
+    if pc == BAD_TARGET || is_in_class(checked, label, pc) {
         Some(Move::Keep)
     } else {
         None
     }
 }
 
-fn computed_call(graph: &Graph, walk: &Walk, site: u64, label: u32, pc: u64) -> Option<Move>
-    ensures { IsAnswer (λ newer. ComputedCallGoes graph.now.lines site label walk.now.pending pc newer) walk.now.pending result }
+fn computed_call(checked: &Checked<'_>, walk: &Walk, site: u64, label: u32, pc: u64) -> Option<Move>
+    ensures { IsAnswer (λ newer. ComputedCallGoes checked.now.graph.lines site label walk.now.pending pc newer) walk.now.pending result }
 {
     if pc == BAD_TARGET {
         return Some(Move::Keep);
     }
     if walk.depth() == MOST_PENDING {
-        return if has_target(graph, label) {
+        return if has_target(checked, label) {
             to(walk, DEEP, pc)
         } else {
             None
         };
     }
-    if is_in_class(graph, label, pc) {
+    if is_in_class(checked, label, pc) {
         Some(Move::Push(site))
     } else {
         None
@@ -98,9 +91,9 @@ fn returned(walk: &Walk, pc: u64) -> Option<Move>
     to(walk, BAD_RETURN, pc)
 }
 
-fn from_unit(graph: &Graph, walk: &Walk, unit: &Unit, pc: u64) -> Option<Move>
+fn from_unit(checked: &Checked<'_>, walk: &Walk, unit: &Unit, pc: u64) -> Option<Move>
     requires { walk.now.at < 2 ^ 32 }
-    ensures { IsAnswer (λ newer. UnitGoes graph.now.lines unit.now walk.now.at walk.now.pending pc newer) walk.now.pending result }
+    ensures { IsAnswer (λ newer. UnitGoes checked.now.graph.lines unit.now walk.now.at walk.now.pending pc newer) walk.now.pending result }
 {
     let at = walk.address();
     match unit {
@@ -113,22 +106,22 @@ fn from_unit(graph: &Graph, walk: &Walk, unit: &Unit, pc: u64) -> Option<Move>
         Unit::System(SystemOp::Ebreak) => None,
         Unit::Store(..) => to(walk, at + 16, pc),
         Unit::Call(target) => call(walk, at + 32, *target, pc),
-        Unit::Ijump(_, _, label) => computed_jump(graph, walk, label.bits(), pc),
-        Unit::Icall(_, _, label) => computed_call(graph, walk, at + 80, label.bits(), pc),
+        Unit::Ijump(_, _, label) => computed_jump(checked, walk, label.bits(), pc),
+        Unit::Icall(_, _, label) => computed_call(checked, walk, at + 80, label.bits(), pc),
         Unit::Return => returned(walk, pc),
     }
 }
 
 /// What the step of a walk to an address does with the pending sites, if there is such a step from
 /// the place at which the walk stands.
-pub(crate) fn step(graph: &Graph, walk: &Walk, place: &Place, pc: u64) -> Option<Move>
+pub(crate) fn step(checked: &Checked<'_>, walk: &Walk, place: &Place, pc: u64) -> Option<Move>
     requires { walk.now.at < 2 ^ 32 }
-    ensures { IsAnswer (λ newer. Goes graph.now.lines (place_of place.now) walk.now.at walk.now.pending pc newer) walk.now.pending result }
+    ensures { IsAnswer (λ newer. Goes checked.now.graph.lines (place_of place.now) walk.now.at walk.now.pending pc newer) walk.now.pending result }
 {
     match place {
         Place::Handler => None,
         Place::Opening(entry) => call(walk, walk.address() + 44, *entry, pc),
         Place::Closing => None,
-        Place::Body(unit) => from_unit(graph, walk, unit, pc),
+        Place::Body(unit) => from_unit(checked, walk, unit, pc),
     }
 }

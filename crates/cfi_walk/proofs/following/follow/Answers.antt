@@ -16,4 +16,4 @@ pub returns-in-Some-step-clause-yes : goal.returns-in-Some-step-clause-yes
 returns-in-Some-step-clause-yes c =
     let stands : place_at version_1 (code_words c.args.checked.now.image.code) c.args.walk.now.at ≡ Some (place_of c.in-Some.place) =
     cc (c.place_at.ensures, ap (option_map place_of) c.in-Some.is, c.address.ensures) in
-    λ _. rw c.go.ensures (place_of c.in-Some.place, stands, refl, (rw c.graph.ensures.value at c.in-Some-step.ensures).1)
+    λ _. rw c.go.ensures (place_of c.in-Some.place, stands, refl, c.in-Some-step.ensures.1)
