@@ -95,12 +95,12 @@ mod tests {
             (21, None, None),
             (u64::MAX, None, None),
         ] {
-            assert_eq!(rt; u16_at(&file, at), half, "half at {at}");
-            assert_eq!(rt; u32_at(&file, at), word, "word at {at}");
+            assert!(rt; u16_at(&file, at) == half, "half at {at}");
+            assert!(rt; u32_at(&file, at) == word, "word at {at}");
         }
-        assert_eq!(rt; u64_at(&file, 0), Some(0xff000102464c457f));
-        assert_eq!(rt; i64_at(&file, 14), Some(-2));
-        assert_eq!(rt; i64_at(&file, 15), None);
+        assert!(rt; u64_at(&file, 0) == Some(0xff000102464c457f));
+        assert!(rt; i64_at(&file, 14) == Some(-2));
+        assert!(rt; i64_at(&file, 15).is_none());
     }
 
     #[test]
@@ -118,11 +118,11 @@ mod tests {
             (22, None),
             (u64::MAX, None),
         ] {
-            assert_eq!(rt; name_at(&table, at), name, "name at {at}");
+            assert!(rt; name_at(&table, at) == name, "name at {at}");
         }
-        assert_eq!(rt; bytes_at(&table, 1, 5), Some(text));
-        assert_eq!(rt; bytes_at(&table, 22, 0), Some(no_bytes));
-        assert_eq!(rt; bytes_at(&table, 22, 1), None);
-        assert_eq!(rt; bytes_at(&table, 1, u64::MAX), None);
+        assert!(rt; bytes_at(&table, 1, 5) == Some(text));
+        assert!(rt; bytes_at(&table, 22, 0) == Some(no_bytes));
+        assert!(rt; bytes_at(&table, 22, 1).is_none());
+        assert!(rt; bytes_at(&table, 1, u64::MAX).is_none());
     }
 }

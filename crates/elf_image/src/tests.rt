@@ -2,14 +2,14 @@ use super::{ImageRefusal, read_image, write_image};
 use std::alloc::{AllocError, Global};
 
 /// The code of a program that exits with 7.
-const CODE: [u32; 20] = [
+static CODE: [u32; 20] = [
     0x00100073, 0x00100073, 0x00100073, 0x10000137, 0x600001B7, 0x00818193, 0x03019F13, 0x000F1463,
     0xFE9FF06F, 0x00000F17, 0x014F0F13, 0x01E1B023, 0x00818193, 0x00C000EF, 0x05D00893, 0x00000073,
     0x00700513, 0x05D00893, 0x00000073, 0xFB5FF06F,
 ];
 
 /// The headers of its image, by hand, 8 bytes a line.
-const HEADERS: [[u8; 8]; 29] = [
+static HEADERS: [[u8; 8]; 29] = [
     [0x7f, 0x45, 0x4c, 0x46, 2, 1, 1, 0],
     [0, 0, 0, 0, 0, 0, 0, 0],
     [2, 0, 243, 0, 1, 0, 0, 0],
@@ -43,7 +43,7 @@ const HEADERS: [[u8; 8]; 29] = [
 
 /// What is put in place of bytes of an image of 80 bytes of code and 4 of data, where, and what the
 /// reader says.
-const CHANGES: [(usize, &[u8], Option<ImageRefusal>); 30] = [
+static CHANGES: [(usize, &[u8], Option<ImageRefusal>); 30] = [
     (0, &[0x7e], Some(ImageRefusal::Byte(0))),
     (6, &[2], Some(ImageRefusal::Byte(0))),
     (15, &[1], Some(ImageRefusal::Byte(0))),
@@ -98,23 +98,48 @@ fn changed(alloc: Global, file: &[u8], at: usize, bytes: &[u8]) -> Result<Vec<u8
     Ok(copy)
 }
 
+/// Whether a file begins with the headers.
+fn has_headers(file: &[u8]) -> bool {
+    HEADERS.iter().enumerate().all(|(index, row)| file.get(8 * index..8 * index + 8)
+        == Some(row.as_slice()))
+}
+
+/// Whether a file has the code at its place, and else zeros after the headers.
+fn has_code_alone(file: &[u8], code: &[u8]) -> bool {
+    let Some(rest) = file.get(232..) else {
+        return false;
+    };
+    for (index, byte) in rest.iter().enumerate() {
+        let expected = code.get(index.wrapping_sub(0x1000 - 232)).unwrap_or(&0);
+        if byte != expected {
+            return false;
+        }
+    }
+    true
+}
+
+/// Whether a file is read as an image with this code and no data.
+fn is_read_as(file: &[u8], code: &[u8]) -> bool {
+    match read_image(file) {
+        Ok(image) => image.code() == code && image.init().is_empty(),
+        Err(_) => false,
+    }
+}
+
+/// Whether the reader refuses a file so, or takes it.
+fn ends_so(file: &[u8], refusal: Option<ImageRefusal>) -> bool {
+    read_image(file).err() == refusal
+}
+
 #[test]
 fn has_these_bytes(rt: HostRuntime) {
     let code = code(rt.alloc()).expect(&rt, "there is memory");
     assert!(rt; code.len() == 80);
     let file = write_image(rt.alloc(), &code, &[]).expect(&rt, "there is memory");
-    assert_eq!(rt; file.len(), 8192);
-    for (index, row) in HEADERS.iter().enumerate() {
-        let place = file.get(8 * index..8 * index + 8).unwrap_or(&[]);
-        assert!(rt; place == row.as_slice(), "line {index}");
-    }
-    for (at, byte) in file.iter().enumerate().skip(232) {
-        let expected = code.get(at.wrapping_sub(0x1000)).copied().unwrap_or(0);
-        assert_eq!(rt; *byte, expected, "at {at}");
-    }
-    let image = read_image(&file).expect(&rt, "what is written is read");
-    assert!(rt; image.code() == code.as_slice());
-    assert!(rt; image.init().is_empty());
+    assert!(rt; file.len() == 8192);
+    assert!(rt; has_headers(&file));
+    assert!(rt; has_code_alone(&file, &code));
+    assert!(rt; is_read_as(&file, &code));
 }
 
 #[test]
@@ -122,19 +147,22 @@ fn takes_one_spelling(rt: HostRuntime) {
     let code = code(rt.alloc()).expect(&rt, "there is memory");
     assert!(rt; code.len() == 80);
     let file = write_image(rt.alloc(), &code, b"data").expect(&rt, "there is memory");
-    assert_eq!(rt; file.len(), 8196);
+    assert!(rt; file.len() == 8196);
     for (at, bytes, refusal) in &CHANGES {
         let copy = changed(rt.alloc(), &file, *at, bytes).expect(&rt, "there is memory");
-        assert_eq!(rt; read_image(&copy).err(), *refusal, "changed at {at}");
+        assert!(rt; ends_so(&copy, *refusal), "changed at {at}");
     }
     for len in [0, 1, 231, 232, 4096, 8192, 8195] {
         let cut = file.get(..len).unwrap_or(&[]);
-        assert_eq!(rt;
-            read_image(cut).err(),
-            Some(ImageRefusal::Short(len as u64)),
+        assert!(rt;
+            ends_so(cut, Some(ImageRefusal::Short(len as u64))),
             "cut at {len}"
         );
     }
+}
+
+#[test]
+fn tells_its_refusal(rt: HostRuntime) {
     let text = format!(in rt.alloc(); "{}", ImageRefusal::Byte(16)).expect(&rt, "there is memory");
     assert!(rt; text.as_str() == "Byte 16");
 }

@@ -1,7 +1,7 @@
 ghost use Rattle.std.specs.Prelude.{◌≡◌};
 
 use crate::faults::Faults;
-use crate::transfer::{read_within, write_whole};
+use crate::transfer::{read_opened, write_opened};
 use crate::{Files, OutEnd, ReadEnd};
 use std::alloc::Global;
 use std::{fs, rt};
@@ -42,10 +42,7 @@ impl<'a, R: rt::Files> Files for HostFiles<'a, R> {
 
     fn read(&mut self, alloc: Global, name: &str, limit: u64) -> Result<Vec<u8>, ReadEnd> {
         let named = String::from_str(alloc, name)?;
-        let end = match fs::open(self.rt, name) {
-            Ok(mut file) => read_within(alloc, &mut file, limit),
-            Err(_) => Err(ReadEnd::Failed),
-        };
+        let end = read_opened(alloc, fs::open(self.rt, name), limit);
         match end {
             Err(ReadEnd::Failed) => self.faults.read_failed(named),
             Err(ReadEnd::TooLong) => self.faults.read_was_long(),
@@ -55,10 +52,7 @@ impl<'a, R: rt::Files> Files for HostFiles<'a, R> {
     }
 
     fn write(&mut self, name: &str, bytes: &[u8]) -> Result<(), OutEnd> {
-        let end = match fs::create(self.rt, name) {
-            Ok(mut file) => write_whole(&mut file, bytes),
-            Err(_) => Err(OutEnd::Failed),
-        };
+        let end = write_opened(&mut fs::create(self.rt, name), bytes);
         if end.is_err() {
             self.faults.write_failed();
         }

@@ -1,9 +1,10 @@
-ghost use Rattle.std.specs.Prelude.{◌≡◌, ◌+◌, ◌<◌, ◌≤◌, ℕ, List, length, take, Some, IfOk, IfErr, IfSome, OnOk, OnErr};
+ghost use Rattle.std.specs.Prelude.{◌≡◌, ◌+◌, ◌<◌, ◌≤◌, ℕ, List, length, take, Some, IfOk, IfErr, IfSome, IsOkAnd, OnOk, OnErr};
 ghost use Rattle.std.specs.Io.KnownBytes.{Appends, Consumes};
 ghost use Rattle.tool_io.specs.declared.ends.OutEnd.TheVariants.{Failed};
 
 use crate::{OutEnd, ReadEnd};
 use std::alloc::Global;
+use std::io;
 use std::io::{Read, Write};
 
 /// How many bytes one read asks for at most.
@@ -35,6 +36,23 @@ pub(crate) fn read_within<R: Read>(
     }
 }
 
+/// All that a reader gives that could be opened.
+pub(crate) fn read_opened<R: Read + Drop>(
+    alloc: Global,
+    opened: io::Result<R>,
+    limit: u64,
+) -> Result<Vec<u8>, ReadEnd>
+    ensures shut { IfErr opened (λ _. result ≡ Err ReadEnd.Failed) }
+    ensures all { IfOk opened (λ source. IfOk result (λ v. IfSome (R.remaining source) (λ xs. v.items ≡ xs))) }
+    ensures within { IfOk result (λ v. length v.items ≤ limit) }
+    ensures too_long { IfOk opened (λ source. result ≡ Err ReadEnd.TooLong → IfSome (R.remaining source) (λ xs. limit < length xs)) }
+{
+    match opened {
+        Ok(mut source) => read_within(alloc, &mut source, limit),
+        Err(_) => Err(ReadEnd::Failed),
+    }
+}
+
 /// Writes all the bytes, and flushes. A write that takes none of them is a failure.
 pub(crate) fn write_whole<W: Write>(writer: &mut W, bytes: &[u8]) -> Result<(), OutEnd>
     ensures whole { OnOk result (Appends (W.contents writer.old) (W.contents writer.new) bytes.now) }
@@ -50,6 +68,18 @@ pub(crate) fn write_whole<W: Write>(writer: &mut W, bytes: &[u8]) -> Result<(), 
     }
     match writer.flush() {
         Ok(()) => Ok(()),
+        Err(_) => Err(OutEnd::Failed),
+    }
+}
+
+/// Writes all the bytes to a writer that could be opened, and flushes.
+pub(crate) fn write_opened<W: Write>(opened: &mut io::Result<W>, bytes: &[u8]) -> Result<(), OutEnd>
+    ensures whole { OnOk result (IsOkAnd opened.old (λ before. IsOkAnd opened.new (λ after. Appends (W.contents before) (W.contents after) bytes.now))) }
+    ensures shut { IfErr opened.old (λ _. result ≡ Err Failed) }
+    ensures failed { IfErr result (λ e. e ≡ Failed) }
+{
+    match opened {
+        Ok(writer) => write_whole(writer, bytes),
         Err(_) => Err(OutEnd::Failed),
     }
 }
