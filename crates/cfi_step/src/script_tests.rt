@@ -1,170 +1,139 @@
 use crate::{Meddler, Script, ScriptEnd};
 use cfi_graph::Reason;
-use cfi_graph::Reason::{Form, Order, Range};
+use cfi_graph::Reason::{Form, Range};
 use rv_machine::{Change, Machine};
 use rv_word::{Image, NoMemory};
 use std::alloc::Global;
 use std::test::Fail;
 
-const NOTHING: &[u8] = b"";
-
 const FIRST: &[u8] = b"rvcfi-script 1\n";
 
-/// A text in two parts, and the line and the reason of its refusal, if it is refused.
-struct Case(&'static [u8], &'static [u8], Option<(u64, Reason)>);
+// Texts, each without its first line where that is as above, with `|` for each newline, and what each
+// is read as.
+const TEXTS: &[u8] = b"\
+    from 1:  = line 1: Form\n\
+    from 1: | = line 1: Form\n\
+    from 1: end| = line 1: Form\n\
+    from 1: rvcfi-script 1 = line 1: Form\n\
+    from 1: rvcfi-script 2|end| = line 1: Form\n\
+    from 1: rvcfi-script 1 |end| = line 1: Form\n\
+    from 1: rvcfi-script  1|end| = line 1: Form\n\
+    from 1: rvcfi-graph 1|end| = line 1: Form\n\
+    from 1: Rvcfi-script 1|end| = line 1: Form\n\
+    from 1: rvcfi-script 1\r|end\r| = line 1: Form\n\
+    from 2:  = line 2: Form\n\
+    from 2: end| = a script\n\
+    from 2: end = line 2: Form\n\
+    from 2: end|| = line 3: Form\n\
+    from 2: end|x = line 3: Form\n\
+    from 2: end|end| = line 3: Form\n\
+    from 2:  end| = line 2: Form\n\
+    from 2: end | = line 2: Form\n\
+    from 2: END| = line 2: Form\n\
+    from 2: |end| = line 2: Form\n\
+    from 2: at 1 10001000 00|end| = line 2: Range\n\
+    from 2: at 1 00010000 0|end| = line 2: Form\n\
+    from 2: at 2 00000000 00|at 1 00000000 00|end| = line 3: Order\n\
+    from 2: at 1 00000000 00| = line 3: Form\n\
+    from 2: at 1 00000000 00 = line 2: Form\n\
+    from 2: at 1 00000000 00|end = line 3: Form\n\
+    from 2: at 1 00000000 00||end| = line 3: Form\n\
+    from 2: at 1 00000000 00|end|at 1 00000000 00| = line 4: Form\n\
+    from 2: at  1 00000000 00|end| = line 2: Form\n\
+    from 2: at 1  00000000 00|end| = line 2: Form\n\
+    from 2: at 1 00000000  00|end| = line 2: Form\n\
+    from 2: at 1 00000000 00 |end| = line 2: Form\n\
+    from 2:  at 1 00000000 00|end| = line 2: Form\n\
+    from 2: at\t1 00000000 00|end| = line 2: Form\n\
+    from 2: at 1 00000000 00\r|end| = line 2: Form\n\
+    from 2: At 1 00000000 00|end| = line 2: Form\n\
+    from 2: to 1 00000000 00|end| = line 2: Form\n\
+    from 2: at 1 0000000A 00|end| = line 2: Form\n\
+    from 2: at 1 0000000a 0A|end| = line 2: Form\n\
+    from 2: at 1 0000000a F0|end| = line 2: Form\n\
+    from 2: at 1 0000000a 0a|end| = a script\n\
+    from 2: at 0 00000000 00|end| = a script\n\
+    from 2: at 00 00000000 00|end| = line 2: Form\n\
+    from 2: at 01 00000000 00|end| = line 2: Form\n\
+    from 2: at -1 00000000 00|end| = line 2: Form\n\
+    from 2: at +1 00000000 00|end| = line 2: Form\n\
+    from 2: at a 00000000 00|end| = line 2: Form\n\
+    from 2: at 1a 00000000 00|end| = line 2: Form\n\
+    from 2: at : 00000000 00|end| = line 2: Form\n\
+    from 2: at / 00000000 00|end| = line 2: Form\n\
+    from 2: at 1000000000 00000000 00|end| = a script\n\
+    from 2: at 1000000001 00000000 00|end| = line 2: Range\n\
+    from 2: at 18446744073709551617 00000000 00|end| = line 2: Range\n\
+    from 2: at 9999999999999999999999999999999999999999 00000000 00|end| = line 2: Range\n\
+    from 2: at 0000000000000000000000000000000000000001 00000000 00|end| = line 2: Form\n\
+    from 2: at 999999999999999999999999999999999999999x 00000000 00|end| = line 2: Form\n\
+    from 2: at 1 0000000 00|end| = line 2: Form\n\
+    from 2: at 1 000000000 00|end| = line 2: Form\n\
+    from 2: at 1 g0000000 00|end| = line 2: Form\n\
+    from 2: at|end| = line 2: Form\n\
+    from 2: at 1|end| = line 2: Form\n\
+    from 2: at 1 00000000|end| = line 2: Form\n\
+    from 2: at 1 00000000 |end| = line 2: Form\n\
+    from 2: at 1 00000000 00 00|end| = line 2: Form\n\
+    from 2: at 1 00000000 000|end| = line 2: Form\n\
+    from 2: at 1 00000000 0g|end| = line 2: Form\n\
+    from 2: at 1 00000000 g0|end| = line 2: Form\n\
+    from 2: at 1 10000fff 00|end| = a script\n\
+    from 2: at 1 10000ffe 0000|end| = a script\n\
+    from 2: at 1 10000fff 0000|end| = line 2: Range\n\
+    from 2: at 1 40000000 00|end| = line 2: Range\n\
+    from 2: at 1 60000000 0000000000000000|end| = line 2: Range\n\
+    from 2: at 1 ffffffff 00|end| = line 2: Range\n\
+    from 2: at 1 ffffffff 0|end| = line 2: Form\n\
+    from 2: at 1000000001 10001000 0|end| = line 2: Form\n\
+    from 2: at 2 00000000 00|at 1 10001000 00|end| = line 3: Range\n\
+    from 2: at 2 00000000 00|at 1 10001000 0|end| = line 3: Form\n\
+    from 2: at 2 00000000 00|at 1 00000000 00|at x|end| = line 3: Order\n\
+    from 2: at 5 00000000 00|at 5 00000000 00|end| = a script\n\
+    from 2: at 5 00000000 00|at 7 00000000 00|at 6 00000000 00|end| = line 4: Order\n\
+    from 2: at 5 00000000 00|at 1000000001 00000000 00|end| = line 3: Range\n\
+    from 2: at 10 00000000 00|at 9 00000000 00|end| = line 3: Order\n\
+    from 2: at 9 00000000 00|at 10 00000000 00|end| = a script\n\
+";
 
-static CASES: [Case; 84] = [
-    Case(NOTHING, b"", Some((1, Form))),
-    Case(NOTHING, b"\n", Some((1, Form))),
-    Case(NOTHING, b"\xff\n", Some((1, Form))),
-    Case(NOTHING, b"end\n", Some((1, Form))),
-    Case(NOTHING, b"rvcfi-script 1", Some((1, Form))),
-    Case(NOTHING, b"rvcfi-script 2\nend\n", Some((1, Form))),
-    Case(NOTHING, b"rvcfi-script 1 \nend\n", Some((1, Form))),
-    Case(NOTHING, b"rvcfi-script  1\nend\n", Some((1, Form))),
-    Case(NOTHING, b"rvcfi-graph 1\nend\n", Some((1, Form))),
-    Case(NOTHING, b"Rvcfi-script 1\nend\n", Some((1, Form))),
-    Case(NOTHING, b"rvcfi-script 1\r\nend\r\n", Some((1, Form))),
-    Case(FIRST, b"", Some((2, Form))),
-    Case(FIRST, b"end\n", None),
-    Case(FIRST, b"end", Some((2, Form))),
-    Case(FIRST, b"end\n\n", Some((3, Form))),
-    Case(FIRST, b"end\nx", Some((3, Form))),
-    Case(FIRST, b"end\nend\n", Some((3, Form))),
-    Case(FIRST, b" end\n", Some((2, Form))),
-    Case(FIRST, b"end \n", Some((2, Form))),
-    Case(FIRST, b"END\n", Some((2, Form))),
-    Case(FIRST, b"\nend\n", Some((2, Form))),
-    Case(FIRST, b"at 1 10001000 00\nend\n", Some((2, Range))),
-    Case(FIRST, b"at 1 00010000 0\nend\n", Some((2, Form))),
-    Case(
-        FIRST,
-        b"at 2 00000000 00\nat 1 00000000 00\nend\n",
-        Some((3, Order)),
-    ),
-    Case(FIRST, b"at 1 00000000 00\n", Some((3, Form))),
-    Case(FIRST, b"at 1 00000000 00", Some((2, Form))),
-    Case(FIRST, b"at 1 00000000 00\nend", Some((3, Form))),
-    Case(FIRST, b"at 1 00000000 00\n\nend\n", Some((3, Form))),
-    Case(
-        FIRST,
-        b"at 1 00000000 00\nend\nat 1 00000000 00\n",
-        Some((4, Form)),
-    ),
-    Case(FIRST, b"at  1 00000000 00\nend\n", Some((2, Form))),
-    Case(FIRST, b"at 1  00000000 00\nend\n", Some((2, Form))),
-    Case(FIRST, b"at 1 00000000  00\nend\n", Some((2, Form))),
-    Case(FIRST, b"at 1 00000000 00 \nend\n", Some((2, Form))),
-    Case(FIRST, b" at 1 00000000 00\nend\n", Some((2, Form))),
-    Case(FIRST, b"at\t1 00000000 00\nend\n", Some((2, Form))),
-    Case(FIRST, b"at 1 00000000 00\r\nend\n", Some((2, Form))),
-    Case(FIRST, b"At 1 00000000 00\nend\n", Some((2, Form))),
-    Case(FIRST, b"to 1 00000000 00\nend\n", Some((2, Form))),
-    Case(FIRST, b"at 1 0000000A 00\nend\n", Some((2, Form))),
-    Case(FIRST, b"at 1 0000000a 0A\nend\n", Some((2, Form))),
-    Case(FIRST, b"at 1 0000000a F0\nend\n", Some((2, Form))),
-    Case(FIRST, b"at 1 0000000a 0a\nend\n", None),
-    Case(FIRST, b"at 0 00000000 00\nend\n", None),
-    Case(FIRST, b"at 00 00000000 00\nend\n", Some((2, Form))),
-    Case(FIRST, b"at 01 00000000 00\nend\n", Some((2, Form))),
-    Case(FIRST, b"at -1 00000000 00\nend\n", Some((2, Form))),
-    Case(FIRST, b"at +1 00000000 00\nend\n", Some((2, Form))),
-    Case(FIRST, b"at a 00000000 00\nend\n", Some((2, Form))),
-    Case(FIRST, b"at 1a 00000000 00\nend\n", Some((2, Form))),
-    Case(FIRST, b"at : 00000000 00\nend\n", Some((2, Form))),
-    Case(FIRST, b"at / 00000000 00\nend\n", Some((2, Form))),
-    Case(FIRST, b"at 1000000000 00000000 00\nend\n", None),
-    Case(FIRST, b"at 1000000001 00000000 00\nend\n", Some((2, Range))),
-    Case(
-        FIRST,
-        b"at 18446744073709551617 00000000 00\nend\n",
-        Some((2, Range)),
-    ),
-    Case(
-        FIRST,
-        b"at 9999999999999999999999999999999999999999 00000000 00\nend\n",
-        Some((2, Range)),
-    ),
-    Case(
-        FIRST,
-        b"at 0000000000000000000000000000000000000001 00000000 00\nend\n",
-        Some((2, Form)),
-    ),
-    Case(
-        FIRST,
-        b"at 999999999999999999999999999999999999999x 00000000 00\nend\n",
-        Some((2, Form)),
-    ),
-    Case(FIRST, b"at 1 0000000 00\nend\n", Some((2, Form))),
-    Case(FIRST, b"at 1 000000000 00\nend\n", Some((2, Form))),
-    Case(FIRST, b"at 1 g0000000 00\nend\n", Some((2, Form))),
-    Case(FIRST, b"at\nend\n", Some((2, Form))),
-    Case(FIRST, b"at 1\nend\n", Some((2, Form))),
-    Case(FIRST, b"at 1 00000000\nend\n", Some((2, Form))),
-    Case(FIRST, b"at 1 00000000 \nend\n", Some((2, Form))),
-    Case(FIRST, b"at 1 00000000 00 00\nend\n", Some((2, Form))),
-    Case(FIRST, b"at 1 00000000 000\nend\n", Some((2, Form))),
-    Case(FIRST, b"at 1 00000000 0g\nend\n", Some((2, Form))),
-    Case(FIRST, b"at 1 00000000 g0\nend\n", Some((2, Form))),
-    Case(FIRST, b"at 1 10000fff 00\nend\n", None),
-    Case(FIRST, b"at 1 10000ffe 0000\nend\n", None),
-    Case(FIRST, b"at 1 10000fff 0000\nend\n", Some((2, Range))),
-    Case(FIRST, b"at 1 40000000 00\nend\n", Some((2, Range))),
-    Case(
-        FIRST,
-        b"at 1 60000000 0000000000000000\nend\n",
-        Some((2, Range)),
-    ),
-    Case(FIRST, b"at 1 ffffffff 00\nend\n", Some((2, Range))),
-    Case(FIRST, b"at 1 ffffffff 0\nend\n", Some((2, Form))),
-    Case(FIRST, b"at 1000000001 10001000 0\nend\n", Some((2, Form))),
-    Case(
-        FIRST,
-        b"at 2 00000000 00\nat 1 10001000 00\nend\n",
-        Some((3, Range)),
-    ),
-    Case(
-        FIRST,
-        b"at 2 00000000 00\nat 1 10001000 0\nend\n",
-        Some((3, Form)),
-    ),
-    Case(
-        FIRST,
-        b"at 2 00000000 00\nat 1 00000000 00\nat x\nend\n",
-        Some((3, Order)),
-    ),
-    Case(FIRST, b"at 5 00000000 00\nat 5 00000000 00\nend\n", None),
-    Case(
-        FIRST,
-        b"at 5 00000000 00\nat 7 00000000 00\nat 6 00000000 00\nend\n",
-        Some((4, Order)),
-    ),
-    Case(
-        FIRST,
-        b"at 5 00000000 00\nat 1000000001 00000000 00\nend\n",
-        Some((3, Range)),
-    ),
-    Case(
-        FIRST,
-        b"at 10 00000000 00\nat 9 00000000 00\nend\n",
-        Some((3, Order)),
-    ),
-    Case(FIRST, b"at 9 00000000 00\nat 10 00000000 00\nend\n", None),
-];
+/// The text that a row stands for.
+fn text_of(alloc: Global, name: &str, rest: &str) -> Result<Vec<u8>, Fail> {
+    let head = if name == "from 2" { FIRST } else { b"" };
+    let mut text = Vec::from_slice(alloc, head)?;
+    for byte in rest.as_bytes() {
+        text.push(if *byte == b'|' { b'\n' } else { *byte })?;
+    }
+    Ok(text)
+}
+
+/// What a text is read as, in words.
+fn answer(alloc: Global, text: &[u8]) -> Result<String, Fail> {
+    match Script::read(alloc, text) {
+        Ok(_) => Ok(format!(in alloc; "a script")?),
+        Err(end) => Ok(format!(in alloc; "{end}")?),
+    }
+}
+
+/// Whether a row says what its text is read as.
+fn is_right(alloc: Global, row: &str) -> Result<bool, Fail> {
+    if let Some((name, rest)) = row.split_once(": ") {
+        if let Some((rest, expected)) = rest.split_once(" = ") {
+            let text = text_of(alloc, name, rest)?;
+            return Ok(answer(alloc, &text)?.as_str() == expected);
+        }
+    }
+    Ok(false)
+}
 
 #[test]
 fn script_texts(rt: HostRuntime) -> Result<(), Fail> {
-    for Case(head, rest, refused) in &CASES {
-        let mut text = Vec::from_slice(rt.alloc(), head)?;
-        text.extend_from_slice(rest)?;
-        match Script::read(rt.alloc(), text.as_slice()) {
-            Ok(_) => assert_eq!(rt; *refused, None, "{rest:?}"),
-            Err(ScriptEnd::Line(number, reason)) => {
-                assert_eq!(rt; *refused, Some((number, reason)), "{rest:?}");
-            }
-            Err(ScriptEnd::NoMemory) => assert!(rt; false, "out of memory"),
-        }
+    let mut count = 0_u32;
+    for row in str::from_utf8(TEXTS).unwrap_or("").lines() {
+        assert!(rt; is_right(rt.alloc(), row)?, "{row}");
+        count = count.saturating_add(1);
     }
+    assert_eq!(rt; count, 83);
+    assert_eq!(rt; answer(rt.alloc(), b"\xff\n")?.as_str(), "line 1: Form");
     Ok(())
 }
 

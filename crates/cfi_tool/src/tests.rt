@@ -8,6 +8,7 @@ use std::process::Abort;
 use std::test::Fail;
 use tool_io::{MemFiles, MemSink};
 
+mod hostile;
 mod pairs;
 mod runs;
 

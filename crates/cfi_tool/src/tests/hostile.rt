@@ -1,0 +1,129 @@
+//! Graphs that are none, and calls of files and output that fail.
+
+use crate::rvcfi;
+use crate::tests::pairs::{A, HEAD, code};
+use crate::tests::runs::{STATUS, STATUS_GRAPH};
+use crate::tests::words;
+use elf_image::write_image;
+use std::alloc::Global;
+use std::process::Abort;
+use std::test::Fail;
+use tool_io::{MemFiles, MemSink};
+
+/// Texts that are no graph of the program that exits, and the line that is put of each.
+static GRAPHS: [(&[u8], &str); 7] = [
+    (b"", "refused 23 Graph 1 Form\n"),
+    (
+        b"rvcfi-graph 9\ncode 40000000 00000050\ncall 4000000c 40000040\nend\n",
+        "refused 23 Graph 1 Form\n",
+    ),
+    (
+        b"rvcfi-graph 1\ncode 40000000 00000052\ncall 4000000c 40000040\nend\n",
+        "refused 23 Graph 2 Range\n",
+    ),
+    (
+        b"rvcfi-graph 1\ncode 40000000 00000050\ncall 4000000c 40000050\nend\n",
+        "refused 23 Graph 3 Range\n",
+    ),
+    (
+        b"rvcfi-graph 1\ncode 40000000 00000050\ncall 4000000c 40000040\ncall 4000000c 40000040\nend\n",
+        "refused 23 Graph 4 Order\n",
+    ),
+    (
+        b"rvcfi-graph 1\ncode 40000000 00000050\ncall 4000000c 40000040\nend",
+        "refused 23 Graph 4 Form\n",
+    ),
+    (
+        b"rvcfi-graph 1\ncode 40000000 00000050\ncall 4000000c 40000040\nend\nend\n",
+        "refused 23 Graph 5 Form\n",
+    ),
+];
+
+#[test]
+fn graphs(rt: HostRuntime) -> Result<(), Fail> {
+    let alloc = rt.alloc();
+    let bytes = code(alloc, A, 0, HEAD[0])?;
+    let len = bytes.len();
+    assert!(rt; 4 <= len && len <= 0x10_0000 && len % 4 == 0);
+    let image = write_image(alloc, &bytes, &[])?;
+    let words = words(alloc, &["verify", "image", "graph"])?;
+    for (graph, line) in &GRAPHS {
+        let mut files = MemFiles::new(alloc, Vec::new(alloc));
+        files.insert("image", &image)?;
+        files.insert("graph", graph)?;
+        let mut out = MemSink::new(alloc, Vec::new(alloc));
+        assert_eq!(rt; rvcfi(alloc, &words, &mut files, &mut out), 1, "{line}");
+        assert_eq!(rt; out.bytes(), line.as_bytes());
+    }
+    Ok(())
+}
+
+const VERIFY: &[&str] = &["verify", "image", "graph"];
+
+const RUN: &[&str] = &["run", "image", "graph", "script", "input", "100"];
+
+const REPORT: &str = "output 0\n\nstop exit 5\nsteps 14\nwalk 5\ntrail 4000000c 40000040 40000044 \
+40000048 4000004c\n";
+
+/// The words, the reads and the puts that fail, the status, the text, and what is put where the words
+/// come again and no call fails.
+struct Case(
+    &'static [&'static str],
+    &'static [u64],
+    &'static [u64],
+    u8,
+    &'static str,
+    &'static str,
+);
+
+static FAULTS: [Case; 10] = [
+    Case(VERIFY, &[0], &[], 3, "read fault image\n", "accepted\n"),
+    Case(VERIFY, &[1], &[], 3, "read fault graph\n", "accepted\n"),
+    Case(VERIFY, &[], &[0], 4, "", "accepted\n"),
+    Case(VERIFY, &[1], &[0], 4, "", "accepted\n"),
+    Case(RUN, &[0], &[], 3, "read fault image\n", REPORT),
+    Case(RUN, &[1], &[], 3, "read fault graph\n", REPORT),
+    Case(RUN, &[2], &[], 3, "read fault script\n", REPORT),
+    Case(RUN, &[3], &[], 3, "read fault input\n", REPORT),
+    Case(RUN, &[], &[0], 4, "", REPORT),
+    Case(RUN, &[3], &[0], 4, "", REPORT),
+];
+
+/// The image and the graph of a program whose exit status is the first byte of its data, a script that
+/// changes that byte, and an input; the reads with these numbers fail.
+fn status_files(rt: &impl Abort, alloc: Global, failing: &[u64]) -> Result<MemFiles, Fail> {
+    let bytes = code(alloc, STATUS, 0, HEAD[0])?;
+    let len = bytes.len();
+    assert!(rt; 4 <= len && len <= 0x10_0000 && len % 4 == 0);
+    let mut files = MemFiles::new(alloc, Vec::from_slice(alloc, failing)?);
+    files.insert("image", &write_image(alloc, &bytes, &[])?)?;
+    files.insert("graph", STATUS_GRAPH)?;
+    files.insert("script", b"rvcfi-script 1\nat 11 00010000 05\nend\n")?;
+    files.insert("input", b"hi")?;
+    Ok(files)
+}
+
+/// The words come twice: each call that fails does so once, and after it the files are as they were.
+#[test]
+fn faults(rt: HostRuntime) -> Result<(), Fail> {
+    let alloc = rt.alloc();
+    for Case(line, reads, puts, status, text, answer) in &FAULTS {
+        let words = words(alloc, line)?;
+        let mut files = status_files(&rt, alloc, reads)?;
+        let mut out = MemSink::new(alloc, Vec::from_slice(alloc, puts)?);
+        assert_eq!(rt;
+            rvcfi(alloc, &words, &mut files, &mut out),
+            *status,
+            "{line:?} {reads:?}"
+        );
+        assert_eq!(rt; out.bytes(), text.as_bytes(), "{line:?} {reads:?}");
+        assert_eq!(rt;
+            rvcfi(alloc, &words, &mut files, &mut out),
+            0,
+            "{line:?} {reads:?}"
+        );
+        let both = format!(in alloc; "{text}{answer}")?;
+        assert_eq!(rt; out.bytes(), both.as_bytes(), "{line:?} {reads:?}");
+    }
+    Ok(())
+}
