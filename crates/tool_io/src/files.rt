@@ -12,6 +12,9 @@ pub trait Files {
     /// What a name holds, where that is told: nothing where the name is not there.
     ghost content: { Self → List ℕ → Option (List ℕ) };
 
+    /// That a name is not there, where that is told.
+    ghost is_absent: { Self → List ℕ → Type 0 };
+
     /// How often a read has failed.
     ghost read_faults: { Self → ℕ };
 
@@ -29,6 +32,7 @@ pub trait Files {
         ensures all { IfOk result (λ v. IfSome (content self.old name.now) (λ bytes. v.items ≡ bytes)) }
         ensures within { IfOk result (λ v. length v.items ≤ limit) }
         ensures too_long { result ≡ Err ReadEnd.TooLong → IfSome (content self.old name.now) (λ bytes. limit < length bytes) }
+        ensures there { OnOk result (¬ is_absent self.old name.now) }
         ensures kept { (other : List ℕ) → content self.new other ≡ content self.old other }
         ensures read_faults { Counts (result ≡ Err ReadEnd.Failed) (read_faults self.old) (read_faults self.new) }
         ensures long_reads { Counts (result ≡ Err ReadEnd.TooLong) (long_reads self.old) (long_reads self.new) }

@@ -32,6 +32,8 @@ impl<'a, R: rt::Files> Files for HostFiles<'a, R> {
 
     ghost content = { λ s name. None };
 
+    ghost is_absent = { λ s name. ⊥ };
+
     ghost read_faults = { λ s. s.faults.reads };
 
     ghost write_faults = { λ s. s.faults.writes };

@@ -71,10 +71,12 @@ impl MemFiles {
 }
 
 impl Files for MemFiles {
-    ghost use Rattle.std.specs.Prelude.{Some, string_bytes};
-    ghost use Rattle.tool_io.specs.Entries.{bytes_at};
+    ghost use Rattle.std.specs.Prelude.{◌≡◌, None, Some, string_bytes};
+    ghost use Rattle.tool_io.specs.Entries.{bytes_at, entry_at};
 
     ghost content = { λ s name. Some (bytes_at s.entries name) };
+
+    ghost is_absent = { λ s name. entry_at s.entries name ≡ None };
 
     ghost read_faults = { λ s. s.faults.reads };
 
