@@ -9,5 +9,3 @@ mod joining;
 mod numbering;
 mod passes;
 mod targets;
-#[cfg(test)]
-mod tests;

@@ -15,7 +15,5 @@ mod graph;
 mod line;
 mod read;
 mod rules;
-#[cfg(test)]
-mod tests;
 pub mod words;
 mod write;

@@ -5,6 +5,7 @@ ghost use Rattle.cfi_verify.specs.Lines.{is_among};
 ghost use Rattle.cfi_step.specs.Hostile.{holds_site, site_zeros, sites_from, slots_below, zeros_at, zeros_from};
 
 use crate::meddler::Meddler;
+use cfi_unit::handlers::MOST_PENDING;
 use rv_instr::Reg;
 use rv_machine::{Change, Machine};
 use rv_mem::Memory;
@@ -14,9 +15,6 @@ use std::alloc::Global;
 
 /// The oldest slot of the shadow stack.
 const FIRST_SLOT: u64 = SHADOW_START + 8;
-
-/// How many sites may be pending.
-const MOST_PENDING: u64 = 8191;
 
 /// How many double words are looked at from x2 on.
 const DOUBLE_WORDS: u64 = 512;

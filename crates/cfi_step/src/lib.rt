@@ -16,14 +16,10 @@ mod hostile;
 mod meddler;
 mod record;
 mod report;
-#[cfg(test)]
-mod run_tests;
 mod running;
 mod script;
 mod script_end;
 mod script_line;
 mod script_read;
-#[cfg(test)]
-mod script_tests;
 mod step_number;
 mod trail;

@@ -3,6 +3,7 @@ ghost use Rattle.cfi_step.specs.Report.{break_at, end_of};
 ghost use Rattle.cfi_step.specs.declared.report.RunEnd.{RunEnd};
 
 use crate::record::Record;
+use cfi_unit::handlers::{BAD_RETURN, BAD_TARGET, DEEP};
 use rv_code::Events;
 use rv_machine::Turn;
 use rv_word::{Bytes, Places};
@@ -48,13 +49,6 @@ pub struct RunReport {
     /// The last addresses of the walk, sixteen at most.
     pub trail: Places,
 }
-
-/// Where the handlers stand.
-const BAD_TARGET: u64 = 0x4000_0000;
-
-const BAD_RETURN: u64 = 0x4000_0004;
-
-const DEEP: u64 = 0x4000_0008;
 
 fn break_at(pc: u64) -> RunEnd
     ensures { result ≡ break_at pc }

@@ -22,6 +22,28 @@ pub(crate) fn words(alloc: Global, line: &[&str]) -> Result<Vec<String>, AllocEr
     Ok(words)
 }
 
+/// The status of the tool on some words. (Tests call it here alone: beside its contract they are slow to check.)
+pub(crate) fn status_of(
+    alloc: Global,
+    words: &[String],
+    files: &mut MemFiles,
+    out: &mut MemSink,
+) -> u8 {
+    rvcfi(alloc, words, files, out)
+}
+
+/// Whether the tool ends with a status on some words, and puts a text.
+pub(crate) fn answers(
+    alloc: Global,
+    words: &[String],
+    files: &mut MemFiles,
+    status: u8,
+    text: &str,
+) -> bool {
+    let mut out = MemSink::new(alloc, Vec::new(alloc));
+    status_of(alloc, words, files, &mut out) == status && out.bytes() == text.as_bytes()
+}
+
 /// The image and the graph of a program that exits, and files that are neither.
 fn row_files(rt: &impl Abort, alloc: Global) -> Result<MemFiles, Fail> {
     let bytes = code(alloc, A, 0, HEAD[0])?;
@@ -74,19 +96,26 @@ fn commands(rt: HostRuntime) -> Result<(), Fail> {
     ];
     let mut files = row_files(&rt, alloc)?;
     for (line, status, text) in cases {
-        let mut out = MemSink::new(alloc, Vec::new(alloc));
         let words = words(alloc, line)?;
-        assert_eq!(rt;
-            rvcfi(alloc, &words, &mut files, &mut out),
-            status,
+        assert!(rt;
+            answers(alloc, &words, &mut files, status, text),
             "{line:?}"
         );
-        assert_eq!(rt; out.bytes(), text.as_bytes(), "{line:?}");
     }
     let words = words(alloc, &["verify", "image", "graph"])?;
     let mut full = MemSink::new(alloc, vec![in alloc; 0]?);
-    assert_eq!(rt; rvcfi(alloc, &words, &mut files, &mut full), 4);
+    assert!(rt; status_of(alloc, &words, &mut files, &mut full) == 4);
     Ok(())
+}
+
+/// Whether an image that is cut to this length is refused by it.
+fn is_refused(alloc: Global, image: &[u8], cut: usize) -> Result<bool, Fail> {
+    let mut files = MemFiles::new(alloc, Vec::new(alloc));
+    files.insert("image", image.get(..cut).unwrap_or(image))?;
+    files.insert("graph", A_GRAPH)?;
+    let words = words(alloc, &["verify", "image", "graph"])?;
+    let line = format!(in alloc; "refused 22 Short {cut}\n")?;
+    Ok(answers(alloc, &words, &mut files, 1, line.as_str()))
 }
 
 /// Every image that is cut short is refused, by its length alone.
@@ -97,16 +126,9 @@ fn cut_images(rt: HostRuntime) -> Result<(), Fail> {
     let len = bytes.len();
     assert!(rt; 4 <= len && len <= 0x10_0000 && len % 4 == 0);
     let image = write_image(alloc, &bytes, &[])?;
-    assert_eq!(rt; image.len(), 8192);
-    let words = words(alloc, &["verify", "image", "graph"])?;
+    assert!(rt; image.len() == 8192);
     for cut in 0..300_usize {
-        let mut files = MemFiles::new(alloc, Vec::new(alloc));
-        files.insert("image", &image[..cut])?;
-        files.insert("graph", A_GRAPH)?;
-        let mut out = MemSink::new(alloc, Vec::new(alloc));
-        assert_eq!(rt; rvcfi(alloc, &words, &mut files, &mut out), 1, "{cut}");
-        let line = format!(in alloc; "refused 22 Short {cut}\n")?;
-        assert_eq!(rt; out.bytes(), line.as_bytes(), "{cut}");
+        assert!(rt; is_refused(alloc, &image, cut)?, "{cut}");
     }
     Ok(())
 }

@@ -15,7 +15,5 @@ pub mod laws;
 mod recogniser;
 mod step_law;
 mod template;
-#[cfg(test)]
-mod tests;
 mod unit;
 mod words;

@@ -18,7 +18,5 @@ mod reject;
 mod rules;
 mod scan;
 mod split;
-#[cfg(test)]
-mod tests;
 mod verifier;
 mod words;

@@ -40,6 +40,7 @@ use crate::place::Place;
 use crate::split::split;
 use crate::words::code_words;
 use cfi_graph::{Graph, GraphLine};
+use cfi_unit::handlers::{BAD_RETURN, BAD_TARGET, DEEP};
 use cfi_unit::{Unit, recognise};
 use rv_code::decode;
 use rv_instr::Instr;
@@ -246,7 +247,7 @@ impl<'a> Scan<'a> {
 fn is_handler(address: u64) -> bool
     ensures { result ≡ is_handler address }
 {
-    address == 0x4000_0000 || address == 0x4000_0004 || address == 0x4000_0008
+    address == BAD_TARGET || address == BAD_RETURN || address == DEEP
 }
 
 fn kind_in(kinds: &[Option<Kind>], index: usize) -> Option<Kind>

@@ -9,6 +9,4 @@ mod class;
 mod following;
 pub mod laws;
 mod step;
-#[cfg(test)]
-mod tests;
 mod walk;

@@ -10,6 +10,4 @@ mod field;
 mod header;
 mod read;
 mod refusal;
-#[cfg(test)]
-mod tests;
 mod write;

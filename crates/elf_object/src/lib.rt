@@ -12,12 +12,6 @@ mod first;
 mod kinds;
 mod object;
 mod order;
-#[cfg(test)]
-mod sample_tests;
-#[cfg(test)]
-mod samples;
 mod strays;
 mod symbols;
 mod tables;
-#[cfg(test)]
-mod tests;

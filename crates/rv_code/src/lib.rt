@@ -14,6 +14,4 @@ mod encoder;
 mod event;
 mod fields;
 mod operations;
-#[cfg(test)]
-mod tests;
 mod turn;

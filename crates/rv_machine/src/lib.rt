@@ -7,5 +7,3 @@ pub use rv_mem::Change;
 
 mod arithmetic;
 mod machine;
-#[cfg(test)]
-mod tests;

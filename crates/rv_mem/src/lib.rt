@@ -11,5 +11,3 @@ mod access;
 mod change;
 mod memory;
 mod refusal;
-#[cfg(test)]
-mod tests;

@@ -10,5 +10,3 @@ mod code;
 mod data;
 mod kinds;
 pub mod laws;
-#[cfg(test)]
-mod tests;

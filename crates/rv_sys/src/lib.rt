@@ -8,5 +8,3 @@ pub use system::System;
 
 mod ending;
 mod system;
-#[cfg(test)]
-mod tests;

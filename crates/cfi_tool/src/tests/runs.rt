@@ -1,9 +1,8 @@
 //! Runs of whole programs, and the text that is put of each. The code of all programs is what binutils
 //! assemble; the counts of steps and the walks are worked out by hand.
 
-use crate::rvcfi;
 use crate::tests::pairs::{A, A_CLASS, A_GRAPH, B, B_GRAPH, HEAD, P, P_GRAPH, code};
-use crate::tests::words;
+use crate::tests::{status_of, words};
 use elf_image::write_image;
 use std::alloc::Global;
 use std::process::Abort;
@@ -191,7 +190,7 @@ fn answer(alloc: Global, line: &str, files: &mut MemFiles) -> Result<String, Fai
         words.push(String::from_str(alloc, word)?)?;
     }
     let mut out = MemSink::new(alloc, Vec::new(alloc));
-    let status = rvcfi(alloc, &words, files, &mut out);
+    let status = status_of(alloc, &words, files, &mut out);
     let text = str::from_utf8(out.bytes()).unwrap_or("no text");
     let text = text.replace(alloc, "\n", ";")?;
     Ok(format!(in alloc; "{status}: {text}")?)

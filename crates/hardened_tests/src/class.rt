@@ -1,4 +1,4 @@
-use crate::{classes, labels};
+use cfi_class::{classes, labels};
 use rv_word::Places;
 use std::alloc::Global;
 use std::test::Fail;

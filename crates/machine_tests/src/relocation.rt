@@ -1,5 +1,5 @@
-use crate::laws::{high_and_low, low_is_small};
-use crate::{CodePatch, DataPatch, RelocRange, patch, patch_data};
+use rv_reloc::laws::{high_and_low, low_is_small};
+use rv_reloc::{CodePatch, DataPatch, RelocRange, patch, patch_data};
 
 /// Words that GNU ld 2.40 patched: the word before, the value, the word after. A value is a symbol's
 /// address, and of the relative kinds its distance from the AUIPC. `tests/relocations/rows.py` of the

@@ -1,6 +1,6 @@
-use crate::{Meddler, Script, ScriptEnd};
 use cfi_graph::Reason;
 use cfi_graph::Reason::{Form, Range};
+use cfi_step::{Meddler, Script, ScriptEnd};
 use rv_machine::{Change, Machine};
 use rv_word::{Image, NoMemory};
 use std::alloc::Global;
@@ -159,20 +159,34 @@ static WIDE: [Wide; 5] = [
     Wide(b"at 4 10000001 ", 8192, Err(Range)),
 ];
 
+/// Whether a wide line is read as its row says.
+fn is_read(alloc: Global, row: &Wide) -> Result<bool, Fail> {
+    let text = wide_text(alloc, row.0, row.1)?;
+    match Script::read(alloc, text.as_slice()) {
+        Ok(script) => Ok(row.2.is_ok_and(|last| ends_so(&script, row.1 / 2, last))),
+        Err(ScriptEnd::Line(number, reason)) => Ok(number == 2 && row.2 == Err(reason)),
+        Err(ScriptEnd::NoMemory) => Ok(false),
+    }
+}
+
+/// Whether a script has so many changes, and this one last.
+fn ends_so(script: &Script, count: usize, last: (u64, u64, u8)) -> bool {
+    let changes = script.as_slice();
+    changes.len() == count
+        && changes
+            .last()
+            .is_some_and(|change| is_change(change, &last))
+}
+
+/// Whether a change of a script has this step, address and byte.
+fn is_change(change: &(u64, Change), row: &(u64, u64, u8)) -> bool {
+    change.0 == row.0 && change.1.addr() == row.1 && change.1.byte() == row.2
+}
+
 #[test]
 fn wide_lines(rt: HostRuntime) -> Result<(), Fail> {
-    for Wide(start, digits, answer) in &WIDE {
-        let text = wide_text(rt.alloc(), start, *digits)?;
-        match (Script::read(rt.alloc(), text.as_slice()), answer) {
-            (Ok(script), Ok(last)) => {
-                let changes = script.as_slice();
-                assert_eq!(rt; 2 * changes.len(), *digits);
-                let end = changes.last().map(|c| (c.0, c.1.addr(), c.1.byte()));
-                assert_eq!(rt; end, Some(*last));
-            }
-            (Err(end), Err(reason)) => assert_eq!(rt; end, ScriptEnd::Line(2, *reason)),
-            _ => assert!(rt; false, "{digits} digits"),
-        }
+    for row in &WIDE {
+        assert!(rt; is_read(rt.alloc(), row)?, "{} digits", row.1);
     }
     Ok(())
 }
@@ -211,22 +225,30 @@ static ACCEPTED: [Accepted; 5] = [
     ),
 ];
 
+/// Whether a script is the list of these changes.
+fn has_changes(script: &Script, rows: &[(u64, u64, u8)]) -> bool {
+    let changes = script.as_slice();
+    changes.len() == rows.len()
+        && changes
+            .iter()
+            .zip(rows)
+            .all(|(change, row)| is_change(change, row))
+}
+
+/// Whether the lines are read as their changes, and a script that is made of these is the same list.
+fn is_accepted(alloc: Global, row: &Accepted) -> Result<bool, Fail> {
+    let mut text = Vec::from_slice(alloc, FIRST)?;
+    text.extend_from_slice(row.0)?;
+    text.extend_from_slice(b"end\n")?;
+    let script = Script::read(alloc, text.as_slice())?;
+    let copy = Script::of(alloc, script.as_slice())?;
+    Ok(has_changes(&script, row.1) && has_changes(&copy, row.1))
+}
+
 #[test]
 fn accepted_scripts(rt: HostRuntime) -> Result<(), Fail> {
-    for Accepted(lines, changes) in &ACCEPTED {
-        let mut text = Vec::from_slice(rt.alloc(), FIRST)?;
-        text.extend_from_slice(lines)?;
-        text.extend_from_slice(b"end\n")?;
-        let script = Script::read(rt.alloc(), text.as_slice())?;
-        let copy = Script::of(rt.alloc(), script.as_slice())?;
-        let both = [script, copy];
-        for script in &both {
-            let mut found = Vec::new(rt.alloc());
-            for (step, change) in script.as_slice() {
-                found.push((*step, change.addr(), change.byte()))?;
-            }
-            assert_eq!(rt; found.as_slice(), *changes);
-        }
+    for row in &ACCEPTED {
+        assert!(rt; is_accepted(rt.alloc(), row)?);
     }
     Ok(())
 }

@@ -1,4 +1,5 @@
-use super::{Object, samples};
+use crate::samples;
+use elf_object::Object;
 use hex::FromHexError;
 use std::alloc::{AllocError, Global};
 

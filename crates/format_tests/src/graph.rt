@@ -1,4 +1,4 @@
-use crate::{Graph, GraphLine, GraphLines, SiteKind, read_graph, write_graph};
+use cfi_graph::{Graph, GraphLine, GraphLines, SiteKind, read_graph, write_graph};
 use rv_word::{NoMemory, Places};
 use std::alloc::Global;
 use std::test::Fail;

@@ -1,6 +1,6 @@
 ghost use Rattle.std.specs.Prelude.{◌<◌, ◌^◌};
 
-use crate::{SystemOp, Unit, emit, fits, recognise, size};
+use cfi_unit::{SystemOp, Unit, emit, fits, recognise, size};
 use rv_instr::{BranchOp, FenceWord, Immediate, ImmediateOp, Instr, LoadOp, Reg, StoreOp, UpperOp};
 use std::alloc::Global;
 use std::process::Abort;

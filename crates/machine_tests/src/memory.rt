@@ -1,4 +1,4 @@
-use super::*;
+use rv_mem::{Change, LoadFault, Memory, WriteRefusal, region};
 use rv_word::{Image, NoMemory, Region};
 use std::test::Fail;
 

@@ -1,4 +1,4 @@
-use super::{ImageRefusal, read_image, write_image};
+use elf_image::{ImageRefusal, read_image, write_image};
 use std::alloc::{AllocError, Global};
 
 /// The code of a program that exits with 7.

@@ -1,5 +1,5 @@
-use super::*;
 use rv_instr::Reg;
+use rv_machine::{Change, Machine, Turn};
 use rv_word::{Image, NoMemory};
 use std::alloc::Global;
 use std::process::Abort;

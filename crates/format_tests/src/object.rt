@@ -1,4 +1,4 @@
-use super::{Object, Reloc, Relocs, Section, Symbol};
+use elf_object::{Object, Reloc, Relocs, Section, Symbol};
 use hex::FromHexError;
 use std::alloc::{AllocError, Global};
 

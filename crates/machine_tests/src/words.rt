@@ -1,4 +1,4 @@
-use crate::{decode, encode};
+use rv_code::{decode, encode};
 use rv_instr::{
     BranchOp, FenceWord, Immediate, ImmediateOp, Instr, LoadOp, Reg, RegisterOp, Regs, ShiftOp,
     ShiftWordOp, StoreOp, UpperOp,

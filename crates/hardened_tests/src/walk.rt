@@ -1,7 +1,7 @@
-use crate::{Followed, Walk, follow};
 use cfi_graph::read_graph;
-use cfi_verify::verify;
-use rv_word::Image;
+use cfi_verify::{Checked, verify};
+use cfi_walk::{Followed, Walk, follow};
+use rv_word::{Image, NoMemory};
 use std::alloc::{AllocError, Global};
 use std::test::Fail;
 
@@ -62,28 +62,72 @@ fn code(alloc: Global) -> Result<Vec<u8>, AllocError> {
     Ok(bytes)
 }
 
-#[test]
-fn trails(rt: HostRuntime) -> Result<(), Fail> {
-    let bytes = code(rt.alloc())?;
-    let len = bytes.len();
-    assert!(rt; 4 <= len && len <= 0x10_0000 && len % 4 == 0);
-    let graph = read_graph(rt.alloc(), GRAPH)?;
-    let image = Image::of(&bytes, &[]);
-    let checked = verify(rt.alloc(), &image, &graph)?;
-    let mut walk = Walk::new(rt.alloc())?;
-    assert_eq!(rt; follow(&checked, &mut walk, 0x4000_0044), Followed::No);
-    assert_eq!(rt; walk.address(), 0x4000_000c);
-    for (pc, depth, newest) in &UNDISTURBED {
-        assert_eq!(rt; follow(&checked, &mut walk, *pc), Followed::Yes, "{pc:x}");
-        assert_eq!(rt; walk.address(), *pc);
-        assert_eq!(rt; walk.depth(), *depth, "{pc:x}");
-        assert_eq!(rt; walk.newest(), *newest, "{pc:x}");
-    }
-    for trail in &DISTURBED {
-        let mut walk = Walk::new(rt.alloc())?;
-        for pc in *trail {
-            assert_eq!(rt; follow(&checked, &mut walk, *pc), Followed::Yes, "{pc:x}");
+/// Whether a walk goes on to an address, with so many sites pending then, and this one the newest.
+fn goes_on(checked: &Checked<'_>, walk: &mut Walk, row: &(u64, usize, Option<u64>)) -> bool {
+    matches!(follow(checked, walk, row.0), Followed::Yes)
+        && walk.address() == row.0
+        && walk.depth() == row.1
+        && walk.newest() == row.2
+}
+
+/// Whether a walk stays where it is.
+fn stays(checked: &Checked<'_>, walk: &mut Walk, pc: u64) -> bool {
+    let before = walk.address();
+    matches!(follow(checked, walk, pc), Followed::No) && walk.address() == before
+}
+
+/// Whether a walk goes along the undisturbed run.
+fn goes_undisturbed(checked: &Checked<'_>, walk: &mut Walk) -> bool {
+    for row in &UNDISTURBED {
+        if !goes_on(checked, walk, row) {
+            return false;
         }
     }
+    true
+}
+
+/// Whether a walk goes on to each of these addresses.
+fn goes_along(checked: &Checked<'_>, walk: &mut Walk, trail: &[u64]) -> bool {
+    for pc in trail {
+        if !matches!(follow(checked, walk, *pc), Followed::Yes) {
+            return false;
+        }
+    }
+    true
+}
+
+/// Whether the pair's walks are those above, and none leads into the middle of a unit.
+fn has_these_walks(alloc: Global, checked: &Checked<'_>) -> Result<bool, NoMemory> {
+    let mut walk = Walk::new(alloc)?;
+    if !stays(checked, &mut walk, 0x4000_0044) || !goes_undisturbed(checked, &mut walk) {
+        return Ok(false);
+    }
+    for trail in &DISTURBED {
+        let mut walk = Walk::new(alloc)?;
+        if !goes_along(checked, &mut walk, trail) {
+            return Ok(false);
+        }
+    }
+    Ok(true)
+}
+
+/// Whether the program is accepted, and its pair has these walks.
+fn walks_so(alloc: Global) -> Result<bool, Fail> {
+    let bytes = code(alloc)?;
+    let len = bytes.len();
+    if len < 4 || len > 0x10_0000 || len % 4 != 0 {
+        return Ok(false);
+    }
+    let graph = read_graph(alloc, GRAPH)?;
+    let image = Image::of(&bytes, &[]);
+    match verify(alloc, &image, &graph) {
+        Ok(checked) => Ok(has_these_walks(alloc, &checked)?),
+        Err(_) => Ok(false),
+    }
+}
+
+#[test]
+fn trails(rt: HostRuntime) -> Result<(), Fail> {
+    assert!(rt; walks_so(rt.alloc())?);
     Ok(())
 }

@@ -1,0 +1,14 @@
+//! Tests of the readers and writers of files through their public calls: images, objects by hand and of
+//! compilers, and graphs. They stand beside the crates that they test, so that these are proved once.
+#![tactic(auto)]
+
+#[cfg(test)]
+mod compiled;
+#[cfg(test)]
+mod graph;
+#[cfg(test)]
+mod image;
+#[cfg(test)]
+mod object;
+#[cfg(test)]
+mod samples;

@@ -1,0 +1,16 @@
+//! Tests of hardened code through the public calls: classes, units, the verifier, walks, runs and
+//! scripts. They stand beside the crates that they test, so that these are proved once.
+#![tactic(auto)]
+
+#[cfg(test)]
+mod class;
+#[cfg(test)]
+mod run;
+#[cfg(test)]
+mod script;
+#[cfg(test)]
+mod unit;
+#[cfg(test)]
+mod verifier;
+#[cfg(test)]
+mod walk;

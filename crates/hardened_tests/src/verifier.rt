@@ -1,0 +1,80 @@
+use cfi_graph::read_graph;
+use cfi_unit::Unit;
+use cfi_verify::{Checked, Place, Reject, Rule, VerifyEnd, verify};
+use rv_word::Image;
+use std::alloc::{AllocError, Global};
+use std::test::Fail;
+
+/// The prologue, its call of the entry at 40000040h included.
+const HEAD: [u32; 16] = [
+    0x00100073, 0x00100073, 0x00100073, 0x10000137, 0x600001b7, 0x00818193, 0x03019f13, 0x000f1463,
+    0xfe9ff06f, 0x00000f17, 0x014f0f13, 0x01e1b023, 0x00818193, 0x00c000ef, 0x05d00893, 0x00000073,
+];
+
+/// A program that returns.
+const B: &[u32] = &[
+    0x00700513, 0xff81bf83, 0xff818193, 0x001f8463, 0xfb5ff06f, 0x000f8067, 0xfa9ff06f,
+];
+
+const B_GRAPH: &[u8] = b"rvcfi-graph 1\ncode 40000000 0000005c\ncall 4000000c 40000040\nend\n";
+
+/// The bytes of the prologue and some units, with one word in place of that at an offset.
+fn code(alloc: Global, units: &[u32], at: usize, word: u32) -> Result<Vec<u8>, AllocError> {
+    let mut bytes = Vec::new(alloc);
+    for (k, old) in HEAD.iter().chain(units).enumerate() {
+        let word = if k == at / 4 { word } else { *old };
+        bytes.extend_from_slice(&word.to_le_bytes())?;
+    }
+    Ok(bytes)
+}
+
+/// Whether an accepted pair tells its parts, and what stands where.
+fn tells_its_parts(checked: &Checked<'_>) -> bool {
+    checked.image().code().len() == 0x5c
+        && checked.graph().code() == 0x5c
+        && matches!(checked.unit_at(0x4000_0044), Some(Unit::Return))
+        && checked.unit_at(0x4000_0048).is_none()
+        && matches!(
+            checked.place_at(0x4000_000c),
+            Some(Place::Opening(0x4000_0040))
+        )
+        && matches!(checked.place_at(0x4000_0038), Some(Place::Closing))
+        && checked.class_of(1).is_none()
+}
+
+/// Whether a program, with a word in place of another, is accepted and tells its parts.
+fn is_accepted(alloc: Global, at: usize, word: u32) -> Result<bool, Fail> {
+    let bytes = code(alloc, B, at, word)?;
+    let len = bytes.len();
+    if len < 4 || len > 0x10_0000 || len % 4 != 0 {
+        return Ok(false);
+    }
+    let graph = read_graph(alloc, B_GRAPH)?;
+    let image = Image::of(&bytes, &[]);
+    match verify(alloc, &image, &graph) {
+        Ok(checked) => Ok(tells_its_parts(&checked)),
+        Err(_) => Ok(false),
+    }
+}
+
+/// Whether the same is rejected by the rule on targets at 40000040h.
+fn is_rejected(alloc: Global, at: usize, word: u32) -> Result<bool, Fail> {
+    let bytes = code(alloc, B, at, word)?;
+    let len = bytes.len();
+    if len < 4 || len > 0x10_0000 || len % 4 != 0 {
+        return Ok(false);
+    }
+    let graph = read_graph(alloc, B_GRAPH)?;
+    let image = Image::of(&bytes, &[]);
+    match verify(alloc, &image, &graph) {
+        Err(VerifyEnd::Reject(Reject::At(Rule::Target, address))) => Ok(address == 0x4000_0040),
+        _ => Ok(false),
+    }
+}
+
+#[test]
+fn accepted_and_rejected(rt: HostRuntime) -> Result<(), Fail> {
+    assert!(rt; is_accepted(rt.alloc(), 0, HEAD[0])?);
+    assert!(rt; is_rejected(rt.alloc(), 0x40, 0x0080_006f)?);
+    Ok(())
+}
