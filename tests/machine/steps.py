@@ -80,31 +80,11 @@ def executed(line, a, b):
     return word, *(int.from_bytes(told[k : k + 8], "little") for k in (0, 8, 16))
 
 
-NAMES = {
-    2**64 - 1: "ONES",
-    2**63: "HIGH",
-    2**63 + 1: "ENDS",
-    2**64 - 2**31: "WORD_HIGH",
-    X12: "X12",
-    int.from_bytes(BYTES[:8], "little"): "BYTES",
-    TESTED + 4: "NEXT",
-}
-
-
-def literal(number):
-    return NAMES.get(number) or (f"0x{number:_x}" if number > 9 else str(number))
-
-
 def main():
-    last = None
     for line, a, b in rows():
         word, x12, pc, after = executed(line, a, b)
-        name = line.split()[0]
-        if name != last:
-            print(f"    // {name}")
-        last = name
-        values = ", ".join(map(literal, (word, a, b, x12, pc, after)))
-        print(f"    ({values}),")
+        numbers = " ".join(f"{number:x}" for number in (word, a, b, x12, pc, after))
+        print(f"    {line.split()[0]} {numbers}\\n\\")
 
 
 main()

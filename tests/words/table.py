@@ -66,7 +66,7 @@ def main():
     assert len(made) == len(source)
     for word, line in zip(made, source):
         word, name, first, second, number = row(word, line)
-        print(f'    ({literal(word)}, "{name}", {first}, {second}, 0x{number:x}),')
+        print(f"    {name} {word:08x} {first:x} {second:x} {number:x}\\n\\")
     print()
     others = words("others.s", "rv64g_zba_zbb_zbs")
     assert len(others) == len(lines("others.s"))

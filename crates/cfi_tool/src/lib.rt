@@ -14,7 +14,5 @@ mod read;
 mod report;
 mod request;
 mod run_files;
-#[cfg(test)]
-mod tests;
 mod verdict;
 mod verify;

@@ -1,7 +1,9 @@
-//! Tests of the readers and writers of files through their public calls: images, objects by hand and of
+//! Tests of the readers and writers of files through their public calls: numbers, images, objects by hand and of
 //! compilers, and graphs. They stand beside the crates that they test, so that these are proved once.
 #![tactic(auto)]
 
+#[cfg(test)]
+mod bytes;
 #[cfg(test)]
 mod compiled;
 #[cfg(test)]

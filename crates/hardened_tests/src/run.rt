@@ -1,46 +1,21 @@
 ghost use Rattle.std.specs.Prelude.{IfOk};
 ghost use Rattle.cfi_step.specs.Script.{IsScript};
 
+use crate::programs::{P, P_DATA, P_GRAPH, code};
 use cfi_graph::read_graph;
 use cfi_step::{Handler, Hostile, Meddler, RunEnd, RunReport, Script, run};
 use cfi_verify::verify;
 use rv_machine::Change;
 use rv_word::Image;
-use std::alloc::{AllocError, Global};
+use std::alloc::Global;
 use std::process::Abort;
 use std::test::Fail;
-
-/// A program that calls one of two functions through a pointer, as binutils assemble its units.
-const CODE: &[u32] = &[
-    0x00100073, 0x00100073, 0x00100073, 0x10000137, 0x600001b7, 0x00818193, 0x03019f13, 0x000f1463,
-    0xfe9ff06f, 0x00000f17, 0x014f0f13, 0x01e1b023, 0x00818193, 0x00c000ef, 0x05d00893, 0x00000073,
-    0xff010113, 0x00810f93, 0x024f9f93, 0x024fdf93, 0x001fb023, 0x000102b7, 0x0002b283, 0x00028f93,
-    0xffcfff93, 0x40000f37, 0x41ef8f33, 0x014f5f13, 0x000f0463, 0xf8dff06f, 0x000faf03, 0x00001237,
-    0x03720213, 0x004f0463, 0xf79ff06f, 0x03019f13, 0x000f1463, 0xf75ff06f, 0x00000f17, 0x014f0f13,
-    0x01e1b023, 0x00818193, 0x000f80e7, 0x00813083, 0x01010113, 0xff81bf83, 0xff818193, 0x001f8463,
-    0xf45ff06f, 0x000f8067, 0x00001037, 0x00100513, 0xff81bf83, 0xff818193, 0x001f8463, 0xf29ff06f,
-    0x000f8067, 0x00001037, 0x00200513, 0xff81bf83, 0xff818193, 0x001f8463, 0xf0dff06f, 0x000f8067,
-    0xf01ff06f,
-];
-
-const DATA: &[u8] = b"\xc8\x00\x00\x40\x00\x00\x00\x00\xe4\x00\x00\x40\x00\x00\x00\x00";
-
-const GRAPH: &[u8] = b"rvcfi-graph 1\ncode 40000000 00000104\nclass 00001 400000c8 400000e4\n\
-call 4000000c 40000040\nsite 4000005c call 00001\nend\n";
 
 /// How far a run goes whose first return address was changed.
 const TRAIL: [u64; 13] = [
     0x4000000c, 0x40000040, 0x40000044, 0x40000054, 0x40000058, 0x4000005c, 0x400000c8, 0x400000cc,
     0x400000d0, 0x400000ac, 0x400000b0, 0x400000b4, 0x40000004,
 ];
-
-fn code(alloc: Global) -> Result<Vec<u8>, AllocError> {
-    let mut bytes = Vec::new(alloc);
-    for word in CODE {
-        bytes.extend_from_slice(&word.to_le_bytes())?;
-    }
-    Ok(bytes)
-}
 
 /// The report of a run of the program.
 fn report<M: Meddler>(
@@ -51,11 +26,11 @@ fn report<M: Meddler>(
 ) -> Result<RunReport, Fail>
     ensures { IfOk result (λ report. IsScript report.made) }
 {
-    let bytes = code(alloc)?;
+    let bytes = code(alloc, &P)?;
     let len = bytes.len();
     assert!(rt; 4 <= len && len <= 0x10_0000 && len % 4 == 0);
-    let graph = read_graph(alloc, GRAPH)?;
-    let image = Image::of(&bytes, DATA);
+    let graph = read_graph(alloc, P_GRAPH)?;
+    let image = Image::of(&bytes, P_DATA);
     let checked = verify(alloc, &image, &graph)?;
     Ok(run(alloc, &checked, b"", meddler, limit)?)
 }

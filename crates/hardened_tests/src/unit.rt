@@ -1,5 +1,6 @@
 ghost use Rattle.std.specs.Prelude.{◌<◌, ◌^◌};
 
+use crate::programs::{B, P};
 use cfi_unit::{SystemOp, Unit, emit, fits, recognise, size};
 use rv_instr::{BranchOp, FenceWord, Immediate, ImmediateOp, Instr, LoadOp, Reg, StoreOp, UpperOp};
 use std::alloc::Global;
@@ -10,10 +11,6 @@ use std::test::Fail;
 const FIRST: u64 = 0x4000_0040;
 
 // The words of the objects in tests/units at the top of the repository, as binutils makes them.
-const B: [u32; 7] = [
-    0x00700513, 0xff81bf83, 0xff818193, 0x001f8463, 0xfb5ff06f, 0x000f8067, 0xfa9ff06f,
-];
-
 // Straight code: x10 is 7, then an exit, then a stop.
 const A: [u32; 4] = [0x00700513, 0x05d00893, 0x00000073, 0xfb5ff06f];
 
@@ -23,16 +20,6 @@ const H: [u32; 33] = [
     0xff81bf83, 0xff818193, 0x001f8463, 0xf79ff06f, 0x000f8067, 0xc0010597, 0xf6c58593, 0x00100513,
     0x00300613, 0x04000893, 0x00000073, 0xff81bf83, 0xff818193, 0x001f8463, 0xf4dff06f, 0x000f8067,
     0xf41ff06f,
-];
-
-const P: [u32; 49] = [
-    0xff010113, 0x00810f93, 0x024f9f93, 0x024fdf93, 0x001fb023, 0x000102b7, 0x0002b283, 0x00028f93,
-    0xffcfff93, 0x40000f37, 0x41ef8f33, 0x014f5f13, 0x000f0463, 0xf8dff06f, 0x000faf03, 0x00001237,
-    0x03720213, 0x004f0463, 0xf79ff06f, 0x03019f13, 0x000f1463, 0xf75ff06f, 0x00000f17, 0x014f0f13,
-    0x01e1b023, 0x00818193, 0x000f80e7, 0x00813083, 0x01010113, 0xff81bf83, 0xff818193, 0x001f8463,
-    0xf45ff06f, 0x000f8067, 0x00001037, 0x00100513, 0xff81bf83, 0xff818193, 0x001f8463, 0xf29ff06f,
-    0x000f8067, 0x00001037, 0x00200513, 0xff81bf83, 0xff818193, 0x001f8463, 0xf0dff06f, 0x000f8067,
-    0xf01ff06f,
 ];
 
 const OTHER: [u32; 25] = [

@@ -1,20 +1,10 @@
+use crate::programs::{B, HEAD};
 use cfi_graph::read_graph;
 use cfi_unit::Unit;
 use cfi_verify::{Checked, Place, Reject, Rule, VerifyEnd, verify};
 use rv_word::Image;
 use std::alloc::{AllocError, Global};
 use std::test::Fail;
-
-/// The prologue, its call of the entry at 40000040h included.
-const HEAD: [u32; 16] = [
-    0x00100073, 0x00100073, 0x00100073, 0x10000137, 0x600001b7, 0x00818193, 0x03019f13, 0x000f1463,
-    0xfe9ff06f, 0x00000f17, 0x014f0f13, 0x01e1b023, 0x00818193, 0x00c000ef, 0x05d00893, 0x00000073,
-];
-
-/// A program that returns.
-const B: &[u32] = &[
-    0x00700513, 0xff81bf83, 0xff818193, 0x001f8463, 0xfb5ff06f, 0x000f8067, 0xfa9ff06f,
-];
 
 const B_GRAPH: &[u8] = b"rvcfi-graph 1\ncode 40000000 0000005c\ncall 4000000c 40000040\nend\n";
 
@@ -44,7 +34,7 @@ fn tells_its_parts(checked: &Checked<'_>) -> bool {
 
 /// Whether a program, with a word in place of another, is accepted and tells its parts.
 fn is_accepted(alloc: Global, at: usize, word: u32) -> Result<bool, Fail> {
-    let bytes = code(alloc, B, at, word)?;
+    let bytes = code(alloc, &B, at, word)?;
     let len = bytes.len();
     if len < 4 || len > 0x10_0000 || len % 4 != 0 {
         return Ok(false);
@@ -59,7 +49,7 @@ fn is_accepted(alloc: Global, at: usize, word: u32) -> Result<bool, Fail> {
 
 /// Whether the same is rejected by the rule on targets at 40000040h.
 fn is_rejected(alloc: Global, at: usize, word: u32) -> Result<bool, Fail> {
-    let bytes = code(alloc, B, at, word)?;
+    let bytes = code(alloc, &B, at, word)?;
     let len = bytes.len();
     if len < 4 || len > 0x10_0000 || len % 4 != 0 {
         return Ok(false);

@@ -1,22 +1,12 @@
+use crate::rows::{number, rows};
 use rv_instr::Reg;
 use rv_machine::{Change, Machine, Turn};
-use rv_word::{Image, NoMemory};
+use rv_word::{Image, NoMemory, low32};
 use std::alloc::Global;
 use std::process::Abort;
 
 /// Where the instruction that is tested stands, after five others.
 const TESTED: u64 = 0x4000_0020;
-
-const NEXT: u64 = TESTED + 4;
-
-/// Numbers with all bits, with the highest, with the highest and the lowest, and the least word.
-const ONES: u64 = u64::MAX;
-
-const HIGH: u64 = 1 << 63;
-
-const ENDS: u64 = HIGH + 1;
-
-const WORD_HIGH: u64 = 0xffff_ffff_8000_0000;
 
 /// What x12 holds before it, and the bytes at 10020h, to which x13 points.
 const X12: u64 = 0x0123_4567_89ab_cdef;
@@ -25,292 +15,132 @@ const BYTES: u64 = 0xf7e6_d5c4_b3a2_9180;
 
 const MORE_BYTES: u64 = 0x7f6e_5d4c_3b2a_1908;
 
-type Step = (u32, u64, u64, u64, u64, u64);
-
 type Stop = (u32, u64, u8, Turn);
 
-/// Instructions: the word, x10 and x11 before it; x12, the pc and the bytes after it, as
-/// tests/machine/steps.py prints them from runs under qemu.
-static STEPS: [Step; 120] = [
-    // lui
-    (0x8000_0637, 0, 0, WORD_HIGH, NEXT, BYTES),
-    (0x7fff_f637, 0, 0, 0x7fff_f000, NEXT, BYTES),
-    // auipc
-    (0x8000_0617, 0, 0, 0xffff_ffff_c000_0020, NEXT, BYTES),
-    (0x1617, 0, 0, 0x4000_1020, NEXT, BYTES),
-    // jal
-    (0x80_066f, 0, 0, NEXT, 0x4000_0028, BYTES),
-    (0xfe1f_f66f, 0, 0, NEXT, 0x4000_0000, BYTES),
-    (0xc0_006f, 0, 0, X12, 0x4000_002c, BYTES),
-    // jalr
-    (0x95_0667, 0x4000_0040, 0, NEXT, 0x4000_0048, BYTES),
-    (0xffc5_0667, 0x4000_004d, 0, NEXT, 0x4000_0048, BYTES),
-    (0x85_0567, 0x4000_0040, 0, X12, 0x4000_0048, BYTES),
-    // beq
-    (0xb5_0463, 5, 5, X12, 0x4000_0028, BYTES),
-    (0xb5_0463, 5, 0x1_0000_0005, X12, NEXT, BYTES),
-    // bne
-    (0xb5_1663, 5, 0x8000_0000_0000_0005, X12, 0x4000_002c, BYTES),
-    (0xb5_1663, 5, 5, X12, NEXT, BYTES),
-    // blt
-    (0xb5_4463, ONES, 1, X12, 0x4000_0028, BYTES),
-    (0xb5_4463, 1, ONES, X12, NEXT, BYTES),
-    (0xfeb5_44e3, 7, 7, X12, NEXT, BYTES),
-    // bge
-    (0xb5_5463, ONES, 1, X12, NEXT, BYTES),
-    (0xb5_5463, 1, HIGH, X12, 0x4000_0028, BYTES),
-    (0xfeb5_52e3, 7, 7, X12, 0x4000_0004, BYTES),
-    // bltu
-    (0xb5_6463, ONES, 1, X12, NEXT, BYTES),
-    (0xb5_6463, 1, ONES, X12, 0x4000_0028, BYTES),
-    (0xb5_6463, 7, 7, X12, NEXT, BYTES),
-    // bgeu
-    (0xb5_7463, ONES, 1, X12, 0x4000_0028, BYTES),
-    (0xb5_7463, 1, ONES, X12, NEXT, BYTES),
-    (0xb5_7463, 7, 7, X12, 0x4000_0028, BYTES),
-    // lb
-    (0x6_8603, 0, 0, 0xffff_ffff_ffff_ff80, NEXT, BYTES),
-    (0xf6_8603, 0, 0, 0x7f, NEXT, BYTES),
-    // lh
-    (0x6_9603, 0, 0, 0xffff_ffff_ffff_9180, NEXT, BYTES),
-    (0x96_9603, 0, 0, 0x2a19, NEXT, BYTES),
-    // lw
-    (0x6_a603, 0, 0, 0xffff_ffff_b3a2_9180, NEXT, BYTES),
-    (0xb6_a603, 0, 0, 0x6e5d_4c3b, NEXT, BYTES),
-    // ld
-    (0x6_b603, 0, 0, BYTES, NEXT, BYTES),
-    (0x76_b603, 0, 0, 0x6e5d_4c3b_2a19_08f7, NEXT, BYTES),
-    // lbu
-    (0x76_c603, 0, 0, 0xf7, NEXT, BYTES),
-    (0x86_c603, 0, 0, 8, NEXT, BYTES),
-    // lhu
-    (0x36_d603, 0, 0, 0xc4b3, NEXT, BYTES),
-    (0xe6_d603, 0, 0, 0x7f6e, NEXT, BYTES),
-    // lwu
-    (0x6_e603, 0, 0, 0xb3a2_9180, NEXT, BYTES),
-    (0xc6_e603, 0, 0, 0x7f6e_5d4c, NEXT, BYTES),
-    // ld
-    (0xff85_3603, 0x1_0031, 0, 0x7f_6e5d_4c3b_2a19, NEXT, BYTES),
-    // sb
-    (
-        0xb6_8023,
-        0,
-        0x1122_3344_5566_7788,
-        X12,
-        NEXT,
-        0xf7e6_d5c4_b3a2_9188,
-    ),
-    (
-        0xb6_83a3,
-        0,
-        0x1122_3344_5566_77ff,
-        X12,
-        NEXT,
-        0xffe6_d5c4_b3a2_9180,
-    ),
-    // sh
-    (
-        0xb6_90a3,
-        0,
-        0x1122_3344_5566_7788,
-        X12,
-        NEXT,
-        0xf7e6_d5c4_b377_8880,
-    ),
-    (
-        0xb6_9323,
-        0,
-        0xffff_ffff_ffff_1234,
-        X12,
-        NEXT,
-        0x1234_d5c4_b3a2_9180,
-    ),
-    // sw
-    (
-        0xb6_a023,
-        0,
-        0x1122_3344_5566_7788,
-        X12,
-        NEXT,
-        0xf7e6_d5c4_5566_7788,
-    ),
-    (
-        0xb6_a1a3,
-        0,
-        0x1122_3344_fedc_ba98,
-        X12,
-        NEXT,
-        0xf7fe_dcba_98a2_9180,
-    ),
-    // sd
-    (
-        0xb6_b023,
-        0,
-        0x1122_3344_5566_7788,
-        X12,
-        NEXT,
-        0x1122_3344_5566_7788,
-    ),
-    (
-        0xb6_b223,
-        0,
-        0xfedc_ba98_7654_3210,
-        X12,
-        NEXT,
-        0x7654_3210_b3a2_9180,
-    ),
-    // addi
-    (0xfff5_0613, 0, 0, ONES, NEXT, BYTES),
-    (0x7ff5_0613, ONES, 0, 0x7fe, NEXT, BYTES),
-    // slti
-    (0xfff5_2613, 0xffff_ffff_ffff_fffe, 0, 1, NEXT, BYTES),
-    (0xfff5_2613, 0, 0, 0, NEXT, BYTES),
-    (0x7ff5_2613, HIGH, 0, 1, NEXT, BYTES),
-    // sltiu
-    (0xfff5_3613, 0, 0, 1, NEXT, BYTES),
-    (0x15_3613, 0, 0, 1, NEXT, BYTES),
-    (0xfff5_3613, ONES, 0, 0, NEXT, BYTES),
-    // xori
-    (0xfff5_4613, X12, 0, 0xfedc_ba98_7654_3210, NEXT, BYTES),
-    (0x5555_4613, ONES, 0, 0xffff_ffff_ffff_faaa, NEXT, BYTES),
-    // ori
-    (0x7005_6613, 0xff, 0, 0x7ff, NEXT, BYTES),
-    (0x8005_6613, 0x123, 0, 0xffff_ffff_ffff_f923, NEXT, BYTES),
-    // andi
-    (0xffc5_7613, ONES, 0, 0xffff_ffff_ffff_fffc, NEXT, BYTES),
-    (0x7ff5_7613, 0x8765_4321_8765_4321, 0, 0x321, NEXT, BYTES),
-    // slli
-    (0x5_1613, ENDS, 0, ENDS, NEXT, BYTES),
-    (0x3f5_1613, 3, 0, HIGH, NEXT, BYTES),
-    (0x245_1613, X12, 0, 0x9abc_def0_0000_0000, NEXT, BYTES),
-    // srli
-    (0x5_5613, ENDS, 0, ENDS, NEXT, BYTES),
-    (0x3f5_5613, ENDS, 0, 1, NEXT, BYTES),
-    (
-        0x205_5613,
-        0xfedc_ba98_7654_3210,
-        0,
-        0xfedc_ba98,
-        NEXT,
-        BYTES,
-    ),
-    // srai
-    (0x4005_5613, ENDS, 0, ENDS, NEXT, BYTES),
-    (0x43f5_5613, ENDS, 0, ONES, NEXT, BYTES),
-    (
-        0x4045_5613,
-        0x7fff_ffff_ffff_ffff,
-        0,
-        0x7ff_ffff_ffff_ffff,
-        NEXT,
-        BYTES,
-    ),
-    // addiw
-    (0x15_061b, 0x7fff_ffff, 0, WORD_HIGH, NEXT, BYTES),
-    (0xfff5_061b, 0x1_0000_0000, 0, ONES, NEXT, BYTES),
-    // slliw
-    (
-        0x5_161b,
-        0xffff_ffff_f000_0001,
-        0,
-        0xffff_ffff_f000_0001,
-        NEXT,
-        BYTES,
-    ),
-    (0x1f5_161b, 3, 0, WORD_HIGH, NEXT, BYTES),
-    (0x45_161b, 0xfff_ffff, 0, 0xffff_ffff_ffff_fff0, NEXT, BYTES),
-    // srliw
-    (0x5_561b, 0x1_8000_0000, 0, WORD_HIGH, NEXT, BYTES),
-    (0x1f5_561b, 0x8000_0000, 0, 1, NEXT, BYTES),
-    (0x45_561b, WORD_HIGH, 0, 0x800_0000, NEXT, BYTES),
-    // sraiw
-    (0x4005_561b, 0x1_8000_0000, 0, WORD_HIGH, NEXT, BYTES),
-    (0x41f5_561b, 0x8000_0000, 0, ONES, NEXT, BYTES),
-    (
-        0x4045_561b,
-        0xffff_ffff_7fff_ffff,
-        0,
-        0x7ff_ffff,
-        NEXT,
-        BYTES,
-    ),
-    // add
-    (0xb5_0633, ONES, 2, 1, NEXT, BYTES),
-    (0xb5_0633, 0x7fff_ffff_ffff_ffff, 1, HIGH, NEXT, BYTES),
-    // sub
-    (0x40b5_0633, 1, 2, ONES, NEXT, BYTES),
-    (0x40b5_0633, HIGH, 1, 0x7fff_ffff_ffff_ffff, NEXT, BYTES),
-    // sll
-    (0xb5_1633, ENDS, 0x40, ENDS, NEXT, BYTES),
-    (0xb5_1633, 3, ONES, HIGH, NEXT, BYTES),
-    // slt
-    (0xb5_2633, ONES, 0, 1, NEXT, BYTES),
-    (0xb5_2633, 0, HIGH, 0, NEXT, BYTES),
-    (0xb5_2633, 3, 3, 0, NEXT, BYTES),
-    // sltu
-    (0xb5_3633, ONES, 0, 0, NEXT, BYTES),
-    (0xb5_3633, 0, HIGH, 1, NEXT, BYTES),
-    // xor
-    (
-        0xb5_4633,
-        0xff00_ff00_ff00_ff00,
-        0xff0_0ff0_0ff0_0ff0,
-        0xf0f0_f0f0_f0f0_f0f0,
-        NEXT,
-        BYTES,
-    ),
-    (0xa5_4633, 0xff00_ff00_ff00_ff00, 0, 0, NEXT, BYTES),
-    // srl
-    (0xb5_5633, ENDS, 0, ENDS, NEXT, BYTES),
-    (0xb5_5633, ENDS, 0x7f, 1, NEXT, BYTES),
-    // sra
-    (0x40b5_5633, ENDS, 0x40, ENDS, NEXT, BYTES),
-    (0x40b5_5633, ENDS, 0x3f, ONES, NEXT, BYTES),
-    (0x40b5_5633, 0x4000_0000_0000_0000, 0x3e, 1, NEXT, BYTES),
-    // or
-    (
-        0xb5_6633,
-        0xff00_ff00_ff00_ff00,
-        0xff0_0ff0_0ff0_0ff0,
-        0xfff0_fff0_fff0_fff0,
-        NEXT,
-        BYTES,
-    ),
-    (0x5_6633, ENDS, 0, ENDS, NEXT, BYTES),
-    // and
-    (
-        0xb5_7633,
-        0xff00_ff00_ff00_ff00,
-        0xff0_0ff0_0ff0_0ff0,
-        0xf00_0f00_0f00_0f00,
-        NEXT,
-        BYTES,
-    ),
-    (0x5_7633, ENDS, 0, 0, NEXT, BYTES),
-    // addw
-    (0xb5_063b, 0x7fff_ffff, 1, WORD_HIGH, NEXT, BYTES),
-    (0xb5_063b, 0xffff_ffff, 0x1_0000_0001, 0, NEXT, BYTES),
-    // subw
-    (0x40b5_063b, 0, 1, ONES, NEXT, BYTES),
-    (0x40b5_063b, 0x8000_0000, 1, 0x7fff_ffff, NEXT, BYTES),
-    // sllw
-    (0xb5_163b, 0x1234_5678, 0x20, 0x1234_5678, NEXT, BYTES),
-    (0xb5_163b, 1, 0x3f, WORD_HIGH, NEXT, BYTES),
-    // srlw
-    (0xb5_563b, WORD_HIGH, 0, WORD_HIGH, NEXT, BYTES),
-    (0xb5_563b, WORD_HIGH, 0x3f, 1, NEXT, BYTES),
-    // sraw
-    (0x40b5_563b, 0x1_8000_0000, 0x20, WORD_HIGH, NEXT, BYTES),
-    (0x40b5_563b, 0x8000_0000, 0x1f, ONES, NEXT, BYTES),
-    (0x40b5_563b, 0xffff_ffff_4000_0000, 0x1e, 1, NEXT, BYTES),
-    // fence
-    (0x330_000f, 0, 0, X12, NEXT, BYTES),
-    (0xff0_000f, 0, 0, X12, NEXT, BYTES),
-    // add
-    (0xb5_0033, 1, 2, X12, NEXT, BYTES),
-    // addi
-    (0x613, 1, 2, 0, NEXT, BYTES),
-];
+/// Instructions, a line each: the name; the word, x10 and x11 before it; x12, the pc and the bytes at
+/// 10020h after it, in hexadecimal, as tests/machine/steps.py prints them from runs under qemu.
+const STEPS: &[u8] = b"\
+    lui 80000637 0 0 ffffffff80000000 40000024 f7e6d5c4b3a29180\n\
+    lui 7ffff637 0 0 7ffff000 40000024 f7e6d5c4b3a29180\n\
+    auipc 80000617 0 0 ffffffffc0000020 40000024 f7e6d5c4b3a29180\n\
+    auipc 1617 0 0 40001020 40000024 f7e6d5c4b3a29180\n\
+    jal 80066f 0 0 40000024 40000028 f7e6d5c4b3a29180\n\
+    jal fe1ff66f 0 0 40000024 40000000 f7e6d5c4b3a29180\n\
+    jal c0006f 0 0 123456789abcdef 4000002c f7e6d5c4b3a29180\n\
+    jalr 950667 40000040 0 40000024 40000048 f7e6d5c4b3a29180\n\
+    jalr ffc50667 4000004d 0 40000024 40000048 f7e6d5c4b3a29180\n\
+    jalr 850567 40000040 0 123456789abcdef 40000048 f7e6d5c4b3a29180\n\
+    beq b50463 5 5 123456789abcdef 40000028 f7e6d5c4b3a29180\n\
+    beq b50463 5 100000005 123456789abcdef 40000024 f7e6d5c4b3a29180\n\
+    bne b51663 5 8000000000000005 123456789abcdef 4000002c f7e6d5c4b3a29180\n\
+    bne b51663 5 5 123456789abcdef 40000024 f7e6d5c4b3a29180\n\
+    blt b54463 ffffffffffffffff 1 123456789abcdef 40000028 f7e6d5c4b3a29180\n\
+    blt b54463 1 ffffffffffffffff 123456789abcdef 40000024 f7e6d5c4b3a29180\n\
+    blt feb544e3 7 7 123456789abcdef 40000024 f7e6d5c4b3a29180\n\
+    bge b55463 ffffffffffffffff 1 123456789abcdef 40000024 f7e6d5c4b3a29180\n\
+    bge b55463 1 8000000000000000 123456789abcdef 40000028 f7e6d5c4b3a29180\n\
+    bge feb552e3 7 7 123456789abcdef 40000004 f7e6d5c4b3a29180\n\
+    bltu b56463 ffffffffffffffff 1 123456789abcdef 40000024 f7e6d5c4b3a29180\n\
+    bltu b56463 1 ffffffffffffffff 123456789abcdef 40000028 f7e6d5c4b3a29180\n\
+    bltu b56463 7 7 123456789abcdef 40000024 f7e6d5c4b3a29180\n\
+    bgeu b57463 ffffffffffffffff 1 123456789abcdef 40000028 f7e6d5c4b3a29180\n\
+    bgeu b57463 1 ffffffffffffffff 123456789abcdef 40000024 f7e6d5c4b3a29180\n\
+    bgeu b57463 7 7 123456789abcdef 40000028 f7e6d5c4b3a29180\n\
+    lb 68603 0 0 ffffffffffffff80 40000024 f7e6d5c4b3a29180\n\
+    lb f68603 0 0 7f 40000024 f7e6d5c4b3a29180\n\
+    lh 69603 0 0 ffffffffffff9180 40000024 f7e6d5c4b3a29180\n\
+    lh 969603 0 0 2a19 40000024 f7e6d5c4b3a29180\n\
+    lw 6a603 0 0 ffffffffb3a29180 40000024 f7e6d5c4b3a29180\n\
+    lw b6a603 0 0 6e5d4c3b 40000024 f7e6d5c4b3a29180\n\
+    ld 6b603 0 0 f7e6d5c4b3a29180 40000024 f7e6d5c4b3a29180\n\
+    ld 76b603 0 0 6e5d4c3b2a1908f7 40000024 f7e6d5c4b3a29180\n\
+    lbu 76c603 0 0 f7 40000024 f7e6d5c4b3a29180\n\
+    lbu 86c603 0 0 8 40000024 f7e6d5c4b3a29180\n\
+    lhu 36d603 0 0 c4b3 40000024 f7e6d5c4b3a29180\n\
+    lhu e6d603 0 0 7f6e 40000024 f7e6d5c4b3a29180\n\
+    lwu 6e603 0 0 b3a29180 40000024 f7e6d5c4b3a29180\n\
+    lwu c6e603 0 0 7f6e5d4c 40000024 f7e6d5c4b3a29180\n\
+    ld ff853603 10031 0 7f6e5d4c3b2a19 40000024 f7e6d5c4b3a29180\n\
+    sb b68023 0 1122334455667788 123456789abcdef 40000024 f7e6d5c4b3a29188\n\
+    sb b683a3 0 11223344556677ff 123456789abcdef 40000024 ffe6d5c4b3a29180\n\
+    sh b690a3 0 1122334455667788 123456789abcdef 40000024 f7e6d5c4b3778880\n\
+    sh b69323 0 ffffffffffff1234 123456789abcdef 40000024 1234d5c4b3a29180\n\
+    sw b6a023 0 1122334455667788 123456789abcdef 40000024 f7e6d5c455667788\n\
+    sw b6a1a3 0 11223344fedcba98 123456789abcdef 40000024 f7fedcba98a29180\n\
+    sd b6b023 0 1122334455667788 123456789abcdef 40000024 1122334455667788\n\
+    sd b6b223 0 fedcba9876543210 123456789abcdef 40000024 76543210b3a29180\n\
+    addi fff50613 0 0 ffffffffffffffff 40000024 f7e6d5c4b3a29180\n\
+    addi 7ff50613 ffffffffffffffff 0 7fe 40000024 f7e6d5c4b3a29180\n\
+    slti fff52613 fffffffffffffffe 0 1 40000024 f7e6d5c4b3a29180\n\
+    slti fff52613 0 0 0 40000024 f7e6d5c4b3a29180\n\
+    slti 7ff52613 8000000000000000 0 1 40000024 f7e6d5c4b3a29180\n\
+    sltiu fff53613 0 0 1 40000024 f7e6d5c4b3a29180\n\
+    sltiu 153613 0 0 1 40000024 f7e6d5c4b3a29180\n\
+    sltiu fff53613 ffffffffffffffff 0 0 40000024 f7e6d5c4b3a29180\n\
+    xori fff54613 123456789abcdef 0 fedcba9876543210 40000024 f7e6d5c4b3a29180\n\
+    xori 55554613 ffffffffffffffff 0 fffffffffffffaaa 40000024 f7e6d5c4b3a29180\n\
+    ori 70056613 ff 0 7ff 40000024 f7e6d5c4b3a29180\n\
+    ori 80056613 123 0 fffffffffffff923 40000024 f7e6d5c4b3a29180\n\
+    andi ffc57613 ffffffffffffffff 0 fffffffffffffffc 40000024 f7e6d5c4b3a29180\n\
+    andi 7ff57613 8765432187654321 0 321 40000024 f7e6d5c4b3a29180\n\
+    slli 51613 8000000000000001 0 8000000000000001 40000024 f7e6d5c4b3a29180\n\
+    slli 3f51613 3 0 8000000000000000 40000024 f7e6d5c4b3a29180\n\
+    slli 2451613 123456789abcdef 0 9abcdef000000000 40000024 f7e6d5c4b3a29180\n\
+    srli 55613 8000000000000001 0 8000000000000001 40000024 f7e6d5c4b3a29180\n\
+    srli 3f55613 8000000000000001 0 1 40000024 f7e6d5c4b3a29180\n\
+    srli 2055613 fedcba9876543210 0 fedcba98 40000024 f7e6d5c4b3a29180\n\
+    srai 40055613 8000000000000001 0 8000000000000001 40000024 f7e6d5c4b3a29180\n\
+    srai 43f55613 8000000000000001 0 ffffffffffffffff 40000024 f7e6d5c4b3a29180\n\
+    srai 40455613 7fffffffffffffff 0 7ffffffffffffff 40000024 f7e6d5c4b3a29180\n\
+    addiw 15061b 7fffffff 0 ffffffff80000000 40000024 f7e6d5c4b3a29180\n\
+    addiw fff5061b 100000000 0 ffffffffffffffff 40000024 f7e6d5c4b3a29180\n\
+    slliw 5161b fffffffff0000001 0 fffffffff0000001 40000024 f7e6d5c4b3a29180\n\
+    slliw 1f5161b 3 0 ffffffff80000000 40000024 f7e6d5c4b3a29180\n\
+    slliw 45161b fffffff 0 fffffffffffffff0 40000024 f7e6d5c4b3a29180\n\
+    srliw 5561b 180000000 0 ffffffff80000000 40000024 f7e6d5c4b3a29180\n\
+    srliw 1f5561b 80000000 0 1 40000024 f7e6d5c4b3a29180\n\
+    srliw 45561b ffffffff80000000 0 8000000 40000024 f7e6d5c4b3a29180\n\
+    sraiw 4005561b 180000000 0 ffffffff80000000 40000024 f7e6d5c4b3a29180\n\
+    sraiw 41f5561b 80000000 0 ffffffffffffffff 40000024 f7e6d5c4b3a29180\n\
+    sraiw 4045561b ffffffff7fffffff 0 7ffffff 40000024 f7e6d5c4b3a29180\n\
+    add b50633 ffffffffffffffff 2 1 40000024 f7e6d5c4b3a29180\n\
+    add b50633 7fffffffffffffff 1 8000000000000000 40000024 f7e6d5c4b3a29180\n\
+    sub 40b50633 1 2 ffffffffffffffff 40000024 f7e6d5c4b3a29180\n\
+    sub 40b50633 8000000000000000 1 7fffffffffffffff 40000024 f7e6d5c4b3a29180\n\
+    sll b51633 8000000000000001 40 8000000000000001 40000024 f7e6d5c4b3a29180\n\
+    sll b51633 3 ffffffffffffffff 8000000000000000 40000024 f7e6d5c4b3a29180\n\
+    slt b52633 ffffffffffffffff 0 1 40000024 f7e6d5c4b3a29180\n\
+    slt b52633 0 8000000000000000 0 40000024 f7e6d5c4b3a29180\n\
+    slt b52633 3 3 0 40000024 f7e6d5c4b3a29180\n\
+    sltu b53633 ffffffffffffffff 0 0 40000024 f7e6d5c4b3a29180\n\
+    sltu b53633 0 8000000000000000 1 40000024 f7e6d5c4b3a29180\n\
+    xor b54633 ff00ff00ff00ff00 ff00ff00ff00ff0 f0f0f0f0f0f0f0f0 40000024 f7e6d5c4b3a29180\n\
+    xor a54633 ff00ff00ff00ff00 0 0 40000024 f7e6d5c4b3a29180\n\
+    srl b55633 8000000000000001 0 8000000000000001 40000024 f7e6d5c4b3a29180\n\
+    srl b55633 8000000000000001 7f 1 40000024 f7e6d5c4b3a29180\n\
+    sra 40b55633 8000000000000001 40 8000000000000001 40000024 f7e6d5c4b3a29180\n\
+    sra 40b55633 8000000000000001 3f ffffffffffffffff 40000024 f7e6d5c4b3a29180\n\
+    sra 40b55633 4000000000000000 3e 1 40000024 f7e6d5c4b3a29180\n\
+    or b56633 ff00ff00ff00ff00 ff00ff00ff00ff0 fff0fff0fff0fff0 40000024 f7e6d5c4b3a29180\n\
+    or 56633 8000000000000001 0 8000000000000001 40000024 f7e6d5c4b3a29180\n\
+    and b57633 ff00ff00ff00ff00 ff00ff00ff00ff0 f000f000f000f00 40000024 f7e6d5c4b3a29180\n\
+    and 57633 8000000000000001 0 0 40000024 f7e6d5c4b3a29180\n\
+    addw b5063b 7fffffff 1 ffffffff80000000 40000024 f7e6d5c4b3a29180\n\
+    addw b5063b ffffffff 100000001 0 40000024 f7e6d5c4b3a29180\n\
+    subw 40b5063b 0 1 ffffffffffffffff 40000024 f7e6d5c4b3a29180\n\
+    subw 40b5063b 80000000 1 7fffffff 40000024 f7e6d5c4b3a29180\n\
+    sllw b5163b 12345678 20 12345678 40000024 f7e6d5c4b3a29180\n\
+    sllw b5163b 1 3f ffffffff80000000 40000024 f7e6d5c4b3a29180\n\
+    srlw b5563b ffffffff80000000 0 ffffffff80000000 40000024 f7e6d5c4b3a29180\n\
+    srlw b5563b ffffffff80000000 3f 1 40000024 f7e6d5c4b3a29180\n\
+    sraw 40b5563b 180000000 20 ffffffff80000000 40000024 f7e6d5c4b3a29180\n\
+    sraw 40b5563b 80000000 1f ffffffffffffffff 40000024 f7e6d5c4b3a29180\n\
+    sraw 40b5563b ffffffff40000000 1e 1 40000024 f7e6d5c4b3a29180\n\
+    fence 330000f 0 0 123456789abcdef 40000024 f7e6d5c4b3a29180\n\
+    fence ff0000f 0 0 123456789abcdef 40000024 f7e6d5c4b3a29180\n\
+    add b50033 1 2 123456789abcdef 40000024 f7e6d5c4b3a29180\n\
+    addi 613 1 2 0 40000024 f7e6d5c4b3a29180\n\
+";
 
 /// Instructions that stop: the word, x10, how many steps there are, and how the last one ends.
 static STOPS: [Stop; 25] = [
@@ -428,23 +258,16 @@ fn machine(rt: &impl Abort, alloc: Global, word: u32, a: u64, b: u64) -> Result<
     Ok(machine)
 }
 
-/// One row of `STEPS`.
-fn step_does(rt: &impl Abort, alloc: Global, row: &Step) -> Result<(), NoMemory> {
-    let (word, a, b, x12, pc, bytes) = *row;
-    let mut machine = machine(rt, alloc, word, a, b)?;
-    assert_eq!(rt; machine.step()?, Turn::Ran, "{word:x}");
-    assert_eq!(rt;
-        machine.reg(Reg::of(12)),
-        x12,
-        "x12 after {word:x} of {a:x}, {b:x}"
-    );
-    assert_eq!(rt; machine.pc(), pc, "the pc after {word:x} of {a:x}, {b:x}");
-    assert_eq!(rt;
-        machine.mem().read(0x1_0020, 8),
-        Ok(bytes),
-        "the bytes after {word:x}"
-    );
-    Ok(())
+/// Whether a machine does what a row of `STEPS` says.
+fn step_does(rt: &impl Abort, alloc: Global, row: &str) -> Result<bool, NoMemory> {
+    let (word, a, b) = (number(row, 1), number(row, 2), number(row, 3));
+    let mut machine = machine(rt, alloc, low32(word), a, b)?;
+    Ok(
+        machine.step()? == Turn::Ran
+            && machine.reg(Reg::of(12)) == number(row, 4)
+            && machine.pc() == number(row, 5)
+            && machine.mem().read(0x1_0020, 8) == Ok(number(row, 6)),
+    )
 }
 
 /// One row of `STOPS`.
@@ -461,9 +284,17 @@ fn step_stops(rt: &impl Abort, alloc: Global, row: &Stop) -> Result<(), NoMemory
 
 #[test]
 fn instructions_do_as_under_qemu(rt: HostRuntime) -> Result<(), NoMemory> {
-    for row in &STEPS {
-        step_does(&rt, rt.alloc(), row)?;
+    let mut count = 0_u32;
+    for row in rows(STEPS) {
+        assert!(rt; step_does(&rt, rt.alloc(), row)?, "{row}");
+        count = count.saturating_add(1);
     }
+    assert_eq!(rt; count, 120);
+    Ok(())
+}
+
+#[test]
+fn instructions_stop(rt: HostRuntime) -> Result<(), NoMemory> {
     for row in &STOPS {
         step_stops(&rt, rt.alloc(), row)?;
     }

@@ -1,293 +1,295 @@
+use crate::rows::{name, number, rows};
 use rv_code::{decode, encode};
 use rv_instr::{
     BranchOp, FenceWord, Immediate, ImmediateOp, Instr, LoadOp, Reg, RegisterOp, Regs, ShiftOp,
     ShiftWordOp, StoreOp, UpperOp,
 };
+use rv_word::low32;
 
-/// Words with their name, registers and immediate field, in the order of the instruction's fields,
-/// as tests/words/table.py prints them.
-static WORDS: [(u32, &str, u8, u8, u32); 280] = [
-    (0x0000_0037, "lui", 0, 0, 0x0),
-    (0xffff_ffb7, "lui", 31, 0, 0xfffff),
-    (0x8000_00b7, "lui", 1, 0, 0x80000),
-    (0x7fff_f137, "lui", 2, 0, 0x7ffff),
-    (0x0000_1f37, "lui", 30, 0, 0x1),
-    (0x0000_0017, "auipc", 0, 0, 0x0),
-    (0xffff_ff97, "auipc", 31, 0, 0xfffff),
-    (0x8000_0097, "auipc", 1, 0, 0x80000),
-    (0x7fff_f117, "auipc", 2, 0, 0x7ffff),
-    (0x0000_1f17, "auipc", 30, 0, 0x1),
-    (0x0000_006f, "jal", 0, 0, 0x0),
-    (0x7fff_ffef, "jal", 31, 0, 0x7ffff),
-    (0x8000_00ef, "jal", 1, 0, 0x80000),
-    (0xffff_f06f, "jal", 0, 0, 0xfffff),
-    (0x0010_00ef, "jal", 1, 0, 0x400),
-    (0x801f_f2ef, "jal", 5, 0, 0xffc00),
-    (0x0000_136f, "jal", 6, 0, 0x800),
-    (0x2aba_a3ef, "jal", 7, 0, 0x55555),
-    (0x0000_0067, "jalr", 0, 0, 0x0),
-    (0x7fff_8fe7, "jalr", 31, 31, 0x7ff),
-    (0x8001_00e7, "jalr", 1, 2, 0x800),
-    (0xfff0_0fe7, "jalr", 31, 0, 0xfff),
-    (0x001f_8067, "jalr", 0, 31, 0x1),
-    (0x7e00_0fe3, "beq", 0, 0, 0x7ff),
-    (0x81ff_8063, "beq", 31, 31, 0x800),
-    (0x0020_8063, "beq", 1, 2, 0x0),
-    (0xfe0f_8fe3, "beq", 31, 0, 0xfff),
-    (0x01f0_00e3, "beq", 0, 31, 0x400),
-    (0x0000_1163, "bne", 0, 0, 0x1),
-    (0x7fff_9fe3, "bne", 31, 31, 0x7ff),
-    (0x8020_9063, "bne", 1, 2, 0x800),
-    (0x540f_9a63, "bne", 31, 0, 0x2aa),
-    (0xd5f0_1b63, "bne", 0, 31, 0xaab),
-    (0x7e00_4fe3, "blt", 0, 0, 0x7ff),
-    (0x81ff_c063, "blt", 31, 31, 0x800),
-    (0x0020_c063, "blt", 1, 2, 0x0),
-    (0xfe0f_cfe3, "blt", 31, 0, 0xfff),
-    (0x01f0_40e3, "blt", 0, 31, 0x400),
-    (0x0000_5163, "bge", 0, 0, 0x1),
-    (0x7fff_dfe3, "bge", 31, 31, 0x7ff),
-    (0x8020_d063, "bge", 1, 2, 0x800),
-    (0x540f_da63, "bge", 31, 0, 0x2aa),
-    (0xd5f0_5b63, "bge", 0, 31, 0xaab),
-    (0x7e00_6fe3, "bltu", 0, 0, 0x7ff),
-    (0x81ff_e063, "bltu", 31, 31, 0x800),
-    (0x0020_e063, "bltu", 1, 2, 0x0),
-    (0xfe0f_efe3, "bltu", 31, 0, 0xfff),
-    (0x01f0_60e3, "bltu", 0, 31, 0x400),
-    (0x0000_7163, "bgeu", 0, 0, 0x1),
-    (0x7fff_ffe3, "bgeu", 31, 31, 0x7ff),
-    (0x8020_f063, "bgeu", 1, 2, 0x800),
-    (0x540f_fa63, "bgeu", 31, 0, 0x2aa),
-    (0xd5f0_7b63, "bgeu", 0, 31, 0xaab),
-    (0x0000_0003, "lb", 0, 0, 0x0),
-    (0x7fff_8f83, "lb", 31, 31, 0x7ff),
-    (0x8001_0083, "lb", 1, 2, 0x800),
-    (0xfff0_0f83, "lb", 31, 0, 0xfff),
-    (0x001f_8003, "lb", 0, 31, 0x1),
-    (0x7ff0_1003, "lh", 0, 0, 0x7ff),
-    (0x800f_9f83, "lh", 31, 31, 0x800),
-    (0xfff1_1083, "lh", 1, 2, 0xfff),
-    (0x0010_1f83, "lh", 31, 0, 0x1),
-    (0x000f_9003, "lh", 0, 31, 0x0),
-    (0x8000_2003, "lw", 0, 0, 0x800),
-    (0xffff_af83, "lw", 31, 31, 0xfff),
-    (0x0011_2083, "lw", 1, 2, 0x1),
-    (0x0000_2f83, "lw", 31, 0, 0x0),
-    (0x7fff_a003, "lw", 0, 31, 0x7ff),
-    (0xfff0_3003, "ld", 0, 0, 0xfff),
-    (0x001f_bf83, "ld", 31, 31, 0x1),
-    (0x0001_3083, "ld", 1, 2, 0x0),
-    (0x7ff0_3f83, "ld", 31, 0, 0x7ff),
-    (0x800f_b003, "ld", 0, 31, 0x800),
-    (0x0010_4003, "lbu", 0, 0, 0x1),
-    (0x000f_cf83, "lbu", 31, 31, 0x0),
-    (0x7ff1_4083, "lbu", 1, 2, 0x7ff),
-    (0x8000_4f83, "lbu", 31, 0, 0x800),
-    (0xffff_c003, "lbu", 0, 31, 0xfff),
-    (0x0000_5003, "lhu", 0, 0, 0x0),
-    (0x7fff_df83, "lhu", 31, 31, 0x7ff),
-    (0x8001_5083, "lhu", 1, 2, 0x800),
-    (0xfff0_5f83, "lhu", 31, 0, 0xfff),
-    (0x001f_d003, "lhu", 0, 31, 0x1),
-    (0x7ff0_6003, "lwu", 0, 0, 0x7ff),
-    (0x800f_ef83, "lwu", 31, 31, 0x800),
-    (0xfff1_6083, "lwu", 1, 2, 0xfff),
-    (0x0010_6f83, "lwu", 31, 0, 0x1),
-    (0x000f_e003, "lwu", 0, 31, 0x0),
-    (0x0000_0fa3, "sb", 0, 0, 0x1f),
-    (0xffff_8023, "sb", 31, 31, 0xfe0),
-    (0x7e11_0fa3, "sb", 2, 1, 0x7ff),
-    (0x81f0_0023, "sb", 0, 31, 0x800),
-    (0xfe0f_8fa3, "sb", 31, 0, 0xfff),
-    (0xfe00_1023, "sh", 0, 0, 0xfe0),
-    (0x7fff_9fa3, "sh", 31, 31, 0x7ff),
-    (0x8011_1023, "sh", 2, 1, 0x800),
-    (0xfff0_1fa3, "sh", 0, 31, 0xfff),
-    (0x000f_9fa3, "sh", 31, 0, 0x1f),
-    (0x7e00_2fa3, "sw", 0, 0, 0x7ff),
-    (0x81ff_a023, "sw", 31, 31, 0x800),
-    (0xfe11_2fa3, "sw", 2, 1, 0xfff),
-    (0x01f0_2fa3, "sw", 0, 31, 0x1f),
-    (0xfe0f_a023, "sw", 31, 0, 0xfe0),
-    (0x8000_3023, "sd", 0, 0, 0x800),
-    (0xffff_bfa3, "sd", 31, 31, 0xfff),
-    (0x0011_3fa3, "sd", 2, 1, 0x1f),
-    (0xfff0_3023, "sd", 0, 31, 0xfe0),
-    (0x7e0f_bfa3, "sd", 31, 0, 0x7ff),
-    (0x0000_0013, "addi", 0, 0, 0x0),
-    (0x7fff_8f93, "addi", 31, 31, 0x7ff),
-    (0x8001_0093, "addi", 1, 2, 0x800),
-    (0xfff0_0f93, "addi", 31, 0, 0xfff),
-    (0x001f_8013, "addi", 0, 31, 0x1),
-    (0x7ff0_2013, "slti", 0, 0, 0x7ff),
-    (0x800f_af93, "slti", 31, 31, 0x800),
-    (0xfff1_2093, "slti", 1, 2, 0xfff),
-    (0x0010_2f93, "slti", 31, 0, 0x1),
-    (0x000f_a013, "slti", 0, 31, 0x0),
-    (0x8000_3013, "sltiu", 0, 0, 0x800),
-    (0xffff_bf93, "sltiu", 31, 31, 0xfff),
-    (0x0011_3093, "sltiu", 1, 2, 0x1),
-    (0x0000_3f93, "sltiu", 31, 0, 0x0),
-    (0x7fff_b013, "sltiu", 0, 31, 0x7ff),
-    (0xfff0_4013, "xori", 0, 0, 0xfff),
-    (0x001f_cf93, "xori", 31, 31, 0x1),
-    (0x0001_4093, "xori", 1, 2, 0x0),
-    (0x7ff0_4f93, "xori", 31, 0, 0x7ff),
-    (0x800f_c013, "xori", 0, 31, 0x800),
-    (0x0010_6013, "ori", 0, 0, 0x1),
-    (0x000f_ef93, "ori", 31, 31, 0x0),
-    (0x7ff1_6093, "ori", 1, 2, 0x7ff),
-    (0x8000_6f93, "ori", 31, 0, 0x800),
-    (0xffff_e013, "ori", 0, 31, 0xfff),
-    (0x0000_7013, "andi", 0, 0, 0x0),
-    (0x7fff_ff93, "andi", 31, 31, 0x7ff),
-    (0x8001_7093, "andi", 1, 2, 0x800),
-    (0xfff0_7f93, "andi", 31, 0, 0xfff),
-    (0x001f_f013, "andi", 0, 31, 0x1),
-    (0x7ff0_001b, "addiw", 0, 0, 0x7ff),
-    (0x800f_8f9b, "addiw", 31, 31, 0x800),
-    (0xfff1_009b, "addiw", 1, 2, 0xfff),
-    (0x0010_0f9b, "addiw", 31, 0, 0x1),
-    (0x000f_801b, "addiw", 0, 31, 0x0),
-    (0x0000_1013, "slli", 0, 0, 0x0),
-    (0x03ff_9f93, "slli", 31, 31, 0x3f),
-    (0x0201_1093, "slli", 1, 2, 0x20),
-    (0x01f0_1f93, "slli", 31, 0, 0x1f),
-    (0x001f_9013, "slli", 0, 31, 0x1),
-    (0x0000_5013, "srli", 0, 0, 0x0),
-    (0x03ff_df93, "srli", 31, 31, 0x3f),
-    (0x0201_5093, "srli", 1, 2, 0x20),
-    (0x01f0_5f93, "srli", 31, 0, 0x1f),
-    (0x001f_d013, "srli", 0, 31, 0x1),
-    (0x4000_5013, "srai", 0, 0, 0x0),
-    (0x43ff_df93, "srai", 31, 31, 0x3f),
-    (0x4201_5093, "srai", 1, 2, 0x20),
-    (0x41f0_5f93, "srai", 31, 0, 0x1f),
-    (0x401f_d013, "srai", 0, 31, 0x1),
-    (0x0000_101b, "slliw", 0, 0, 0x0),
-    (0x01ff_9f9b, "slliw", 31, 31, 0x1f),
-    (0x0101_109b, "slliw", 1, 2, 0x10),
-    (0x00f0_1f9b, "slliw", 31, 0, 0xf),
-    (0x001f_901b, "slliw", 0, 31, 0x1),
-    (0x0000_501b, "srliw", 0, 0, 0x0),
-    (0x01ff_df9b, "srliw", 31, 31, 0x1f),
-    (0x0101_509b, "srliw", 1, 2, 0x10),
-    (0x00f0_5f9b, "srliw", 31, 0, 0xf),
-    (0x001f_d01b, "srliw", 0, 31, 0x1),
-    (0x4000_501b, "sraiw", 0, 0, 0x0),
-    (0x41ff_df9b, "sraiw", 31, 31, 0x1f),
-    (0x4101_509b, "sraiw", 1, 2, 0x10),
-    (0x40f0_5f9b, "sraiw", 31, 0, 0xf),
-    (0x401f_d01b, "sraiw", 0, 31, 0x1),
-    (0x0000_0033, "add", 0, 0, 0x0),
-    (0x01ff_8fb3, "add", 31, 31, 0x1f),
-    (0x0041_00b3, "add", 1, 2, 0x4),
-    (0x01f4_0833, "add", 16, 8, 0x1f),
-    (0x4000_0033, "sub", 0, 0, 0x0),
-    (0x41ff_8fb3, "sub", 31, 31, 0x1f),
-    (0x4041_00b3, "sub", 1, 2, 0x4),
-    (0x41f4_0833, "sub", 16, 8, 0x1f),
-    (0x0000_1033, "sll", 0, 0, 0x0),
-    (0x01ff_9fb3, "sll", 31, 31, 0x1f),
-    (0x0041_10b3, "sll", 1, 2, 0x4),
-    (0x01f4_1833, "sll", 16, 8, 0x1f),
-    (0x0000_2033, "slt", 0, 0, 0x0),
-    (0x01ff_afb3, "slt", 31, 31, 0x1f),
-    (0x0041_20b3, "slt", 1, 2, 0x4),
-    (0x01f4_2833, "slt", 16, 8, 0x1f),
-    (0x0000_3033, "sltu", 0, 0, 0x0),
-    (0x01ff_bfb3, "sltu", 31, 31, 0x1f),
-    (0x0041_30b3, "sltu", 1, 2, 0x4),
-    (0x01f4_3833, "sltu", 16, 8, 0x1f),
-    (0x0000_4033, "xor", 0, 0, 0x0),
-    (0x01ff_cfb3, "xor", 31, 31, 0x1f),
-    (0x0041_40b3, "xor", 1, 2, 0x4),
-    (0x01f4_4833, "xor", 16, 8, 0x1f),
-    (0x0000_5033, "srl", 0, 0, 0x0),
-    (0x01ff_dfb3, "srl", 31, 31, 0x1f),
-    (0x0041_50b3, "srl", 1, 2, 0x4),
-    (0x01f4_5833, "srl", 16, 8, 0x1f),
-    (0x4000_5033, "sra", 0, 0, 0x0),
-    (0x41ff_dfb3, "sra", 31, 31, 0x1f),
-    (0x4041_50b3, "sra", 1, 2, 0x4),
-    (0x41f4_5833, "sra", 16, 8, 0x1f),
-    (0x0000_6033, "or", 0, 0, 0x0),
-    (0x01ff_efb3, "or", 31, 31, 0x1f),
-    (0x0041_60b3, "or", 1, 2, 0x4),
-    (0x01f4_6833, "or", 16, 8, 0x1f),
-    (0x0000_7033, "and", 0, 0, 0x0),
-    (0x01ff_ffb3, "and", 31, 31, 0x1f),
-    (0x0041_70b3, "and", 1, 2, 0x4),
-    (0x01f4_7833, "and", 16, 8, 0x1f),
-    (0x0000_003b, "addw", 0, 0, 0x0),
-    (0x01ff_8fbb, "addw", 31, 31, 0x1f),
-    (0x0041_00bb, "addw", 1, 2, 0x4),
-    (0x01f4_083b, "addw", 16, 8, 0x1f),
-    (0x4000_003b, "subw", 0, 0, 0x0),
-    (0x41ff_8fbb, "subw", 31, 31, 0x1f),
-    (0x4041_00bb, "subw", 1, 2, 0x4),
-    (0x41f4_083b, "subw", 16, 8, 0x1f),
-    (0x0000_103b, "sllw", 0, 0, 0x0),
-    (0x01ff_9fbb, "sllw", 31, 31, 0x1f),
-    (0x0041_10bb, "sllw", 1, 2, 0x4),
-    (0x01f4_183b, "sllw", 16, 8, 0x1f),
-    (0x0000_503b, "srlw", 0, 0, 0x0),
-    (0x01ff_dfbb, "srlw", 31, 31, 0x1f),
-    (0x0041_50bb, "srlw", 1, 2, 0x4),
-    (0x01f4_583b, "srlw", 16, 8, 0x1f),
-    (0x4000_503b, "sraw", 0, 0, 0x0),
-    (0x41ff_dfbb, "sraw", 31, 31, 0x1f),
-    (0x4041_50bb, "sraw", 1, 2, 0x4),
-    (0x41f4_583b, "sraw", 16, 8, 0x1f),
-    (0x0ff0_000f, "fence", 0, 0, 0x0),
-    (0x0210_000f, "fence", 0, 0, 0x0),
-    (0x0330_000f, "fence", 0, 0, 0x0),
-    (0x8330_000f, "fence", 0, 0, 0x0),
-    (0x0000_000f, "fence", 0, 0, 0x0),
-    (0x0051_008f, "fence", 0, 0, 0x0),
-    (0xffff_8f8f, "fence", 0, 0, 0x0),
-    (0x0000_0073, "ecall", 0, 0, 0x0),
-    (0x0010_0073, "ebreak", 0, 0, 0x0),
-    (0x0010_0073, "ebreak", 0, 0, 0x0),
-    (0x0010_0073, "ebreak", 0, 0, 0x0),
-    (0x0010_0073, "ebreak", 0, 0, 0x0),
-    (0x1000_0137, "lui", 2, 0, 0x10000),
-    (0x6000_01b7, "lui", 3, 0, 0x60000),
-    (0x0081_8193, "addi", 3, 3, 0x8),
-    (0x0301_9f13, "slli", 30, 3, 0x30),
-    (0x000f_1463, "bne", 30, 0, 0x4),
-    (0xfe9f_f06f, "jal", 0, 0, 0xffff4),
-    (0x0000_0f17, "auipc", 30, 0, 0x0),
-    (0x014f_0f13, "addi", 30, 30, 0x14),
-    (0x01e1_b023, "sd", 3, 30, 0x0),
-    (0x0081_8193, "addi", 3, 3, 0x8),
-    (0x00c0_00ef, "jal", 1, 0, 0x6),
-    (0x05d0_0893, "addi", 17, 0, 0x5d),
-    (0x0000_0073, "ecall", 0, 0, 0x0),
-    (0xff81_bf83, "ld", 31, 3, 0xff8),
-    (0x0000_1037, "lui", 0, 0, 0x1),
-    (0x0301_9f13, "slli", 30, 3, 0x30),
-    (0x000f_1463, "bne", 30, 0, 0x4),
-    (0xfe9f_f06f, "jal", 0, 0, 0xffff4),
-    (0x01e1_b023, "sd", 3, 30, 0x0),
-    (0xffcf_ff93, "andi", 31, 31, 0xffc),
-    (0x4000_0f37, "lui", 30, 0, 0x40000),
-    (0x41ef_8f33, "sub", 30, 31, 0x1e),
-    (0x014f_5f13, "srli", 30, 30, 0x14),
-    (0x000f_0463, "beq", 30, 0, 0x4),
-    (0x000f_af03, "lw", 30, 31, 0x0),
-    (0x0000_1237, "lui", 4, 0, 0x1),
-    (0x0372_0213, "addi", 4, 4, 0x37),
-    (0x004f_0463, "beq", 30, 4, 0x4),
-    (0x000f_8067, "jalr", 0, 31, 0x0),
-    (0x000f_80e7, "jalr", 1, 31, 0x0),
-    (0x0011_3423, "sd", 2, 1, 0x8),
-    (0x0081_0f93, "addi", 31, 2, 0x8),
-    (0x024f_9f93, "slli", 31, 31, 0x24),
-    (0x024f_df93, "srli", 31, 31, 0x24),
-    (0x001f_b023, "sd", 31, 1, 0x0),
-];
+/// Words, a line each: the name, the word, the two registers in the order of the instruction's fields and
+/// the immediate field, in hexadecimal, as tests/words/table.py prints them.
+const WORDS: &[u8] = b"\
+    lui 00000037 0 0 0\n\
+    lui ffffffb7 1f 0 fffff\n\
+    lui 800000b7 1 0 80000\n\
+    lui 7ffff137 2 0 7ffff\n\
+    lui 00001f37 1e 0 1\n\
+    auipc 00000017 0 0 0\n\
+    auipc ffffff97 1f 0 fffff\n\
+    auipc 80000097 1 0 80000\n\
+    auipc 7ffff117 2 0 7ffff\n\
+    auipc 00001f17 1e 0 1\n\
+    jal 0000006f 0 0 0\n\
+    jal 7fffffef 1f 0 7ffff\n\
+    jal 800000ef 1 0 80000\n\
+    jal fffff06f 0 0 fffff\n\
+    jal 001000ef 1 0 400\n\
+    jal 801ff2ef 5 0 ffc00\n\
+    jal 0000136f 6 0 800\n\
+    jal 2abaa3ef 7 0 55555\n\
+    jalr 00000067 0 0 0\n\
+    jalr 7fff8fe7 1f 1f 7ff\n\
+    jalr 800100e7 1 2 800\n\
+    jalr fff00fe7 1f 0 fff\n\
+    jalr 001f8067 0 1f 1\n\
+    beq 7e000fe3 0 0 7ff\n\
+    beq 81ff8063 1f 1f 800\n\
+    beq 00208063 1 2 0\n\
+    beq fe0f8fe3 1f 0 fff\n\
+    beq 01f000e3 0 1f 400\n\
+    bne 00001163 0 0 1\n\
+    bne 7fff9fe3 1f 1f 7ff\n\
+    bne 80209063 1 2 800\n\
+    bne 540f9a63 1f 0 2aa\n\
+    bne d5f01b63 0 1f aab\n\
+    blt 7e004fe3 0 0 7ff\n\
+    blt 81ffc063 1f 1f 800\n\
+    blt 0020c063 1 2 0\n\
+    blt fe0fcfe3 1f 0 fff\n\
+    blt 01f040e3 0 1f 400\n\
+    bge 00005163 0 0 1\n\
+    bge 7fffdfe3 1f 1f 7ff\n\
+    bge 8020d063 1 2 800\n\
+    bge 540fda63 1f 0 2aa\n\
+    bge d5f05b63 0 1f aab\n\
+    bltu 7e006fe3 0 0 7ff\n\
+    bltu 81ffe063 1f 1f 800\n\
+    bltu 0020e063 1 2 0\n\
+    bltu fe0fefe3 1f 0 fff\n\
+    bltu 01f060e3 0 1f 400\n\
+    bgeu 00007163 0 0 1\n\
+    bgeu 7fffffe3 1f 1f 7ff\n\
+    bgeu 8020f063 1 2 800\n\
+    bgeu 540ffa63 1f 0 2aa\n\
+    bgeu d5f07b63 0 1f aab\n\
+    lb 00000003 0 0 0\n\
+    lb 7fff8f83 1f 1f 7ff\n\
+    lb 80010083 1 2 800\n\
+    lb fff00f83 1f 0 fff\n\
+    lb 001f8003 0 1f 1\n\
+    lh 7ff01003 0 0 7ff\n\
+    lh 800f9f83 1f 1f 800\n\
+    lh fff11083 1 2 fff\n\
+    lh 00101f83 1f 0 1\n\
+    lh 000f9003 0 1f 0\n\
+    lw 80002003 0 0 800\n\
+    lw ffffaf83 1f 1f fff\n\
+    lw 00112083 1 2 1\n\
+    lw 00002f83 1f 0 0\n\
+    lw 7fffa003 0 1f 7ff\n\
+    ld fff03003 0 0 fff\n\
+    ld 001fbf83 1f 1f 1\n\
+    ld 00013083 1 2 0\n\
+    ld 7ff03f83 1f 0 7ff\n\
+    ld 800fb003 0 1f 800\n\
+    lbu 00104003 0 0 1\n\
+    lbu 000fcf83 1f 1f 0\n\
+    lbu 7ff14083 1 2 7ff\n\
+    lbu 80004f83 1f 0 800\n\
+    lbu ffffc003 0 1f fff\n\
+    lhu 00005003 0 0 0\n\
+    lhu 7fffdf83 1f 1f 7ff\n\
+    lhu 80015083 1 2 800\n\
+    lhu fff05f83 1f 0 fff\n\
+    lhu 001fd003 0 1f 1\n\
+    lwu 7ff06003 0 0 7ff\n\
+    lwu 800fef83 1f 1f 800\n\
+    lwu fff16083 1 2 fff\n\
+    lwu 00106f83 1f 0 1\n\
+    lwu 000fe003 0 1f 0\n\
+    sb 00000fa3 0 0 1f\n\
+    sb ffff8023 1f 1f fe0\n\
+    sb 7e110fa3 2 1 7ff\n\
+    sb 81f00023 0 1f 800\n\
+    sb fe0f8fa3 1f 0 fff\n\
+    sh fe001023 0 0 fe0\n\
+    sh 7fff9fa3 1f 1f 7ff\n\
+    sh 80111023 2 1 800\n\
+    sh fff01fa3 0 1f fff\n\
+    sh 000f9fa3 1f 0 1f\n\
+    sw 7e002fa3 0 0 7ff\n\
+    sw 81ffa023 1f 1f 800\n\
+    sw fe112fa3 2 1 fff\n\
+    sw 01f02fa3 0 1f 1f\n\
+    sw fe0fa023 1f 0 fe0\n\
+    sd 80003023 0 0 800\n\
+    sd ffffbfa3 1f 1f fff\n\
+    sd 00113fa3 2 1 1f\n\
+    sd fff03023 0 1f fe0\n\
+    sd 7e0fbfa3 1f 0 7ff\n\
+    addi 00000013 0 0 0\n\
+    addi 7fff8f93 1f 1f 7ff\n\
+    addi 80010093 1 2 800\n\
+    addi fff00f93 1f 0 fff\n\
+    addi 001f8013 0 1f 1\n\
+    slti 7ff02013 0 0 7ff\n\
+    slti 800faf93 1f 1f 800\n\
+    slti fff12093 1 2 fff\n\
+    slti 00102f93 1f 0 1\n\
+    slti 000fa013 0 1f 0\n\
+    sltiu 80003013 0 0 800\n\
+    sltiu ffffbf93 1f 1f fff\n\
+    sltiu 00113093 1 2 1\n\
+    sltiu 00003f93 1f 0 0\n\
+    sltiu 7fffb013 0 1f 7ff\n\
+    xori fff04013 0 0 fff\n\
+    xori 001fcf93 1f 1f 1\n\
+    xori 00014093 1 2 0\n\
+    xori 7ff04f93 1f 0 7ff\n\
+    xori 800fc013 0 1f 800\n\
+    ori 00106013 0 0 1\n\
+    ori 000fef93 1f 1f 0\n\
+    ori 7ff16093 1 2 7ff\n\
+    ori 80006f93 1f 0 800\n\
+    ori ffffe013 0 1f fff\n\
+    andi 00007013 0 0 0\n\
+    andi 7fffff93 1f 1f 7ff\n\
+    andi 80017093 1 2 800\n\
+    andi fff07f93 1f 0 fff\n\
+    andi 001ff013 0 1f 1\n\
+    addiw 7ff0001b 0 0 7ff\n\
+    addiw 800f8f9b 1f 1f 800\n\
+    addiw fff1009b 1 2 fff\n\
+    addiw 00100f9b 1f 0 1\n\
+    addiw 000f801b 0 1f 0\n\
+    slli 00001013 0 0 0\n\
+    slli 03ff9f93 1f 1f 3f\n\
+    slli 02011093 1 2 20\n\
+    slli 01f01f93 1f 0 1f\n\
+    slli 001f9013 0 1f 1\n\
+    srli 00005013 0 0 0\n\
+    srli 03ffdf93 1f 1f 3f\n\
+    srli 02015093 1 2 20\n\
+    srli 01f05f93 1f 0 1f\n\
+    srli 001fd013 0 1f 1\n\
+    srai 40005013 0 0 0\n\
+    srai 43ffdf93 1f 1f 3f\n\
+    srai 42015093 1 2 20\n\
+    srai 41f05f93 1f 0 1f\n\
+    srai 401fd013 0 1f 1\n\
+    slliw 0000101b 0 0 0\n\
+    slliw 01ff9f9b 1f 1f 1f\n\
+    slliw 0101109b 1 2 10\n\
+    slliw 00f01f9b 1f 0 f\n\
+    slliw 001f901b 0 1f 1\n\
+    srliw 0000501b 0 0 0\n\
+    srliw 01ffdf9b 1f 1f 1f\n\
+    srliw 0101509b 1 2 10\n\
+    srliw 00f05f9b 1f 0 f\n\
+    srliw 001fd01b 0 1f 1\n\
+    sraiw 4000501b 0 0 0\n\
+    sraiw 41ffdf9b 1f 1f 1f\n\
+    sraiw 4101509b 1 2 10\n\
+    sraiw 40f05f9b 1f 0 f\n\
+    sraiw 401fd01b 0 1f 1\n\
+    add 00000033 0 0 0\n\
+    add 01ff8fb3 1f 1f 1f\n\
+    add 004100b3 1 2 4\n\
+    add 01f40833 10 8 1f\n\
+    sub 40000033 0 0 0\n\
+    sub 41ff8fb3 1f 1f 1f\n\
+    sub 404100b3 1 2 4\n\
+    sub 41f40833 10 8 1f\n\
+    sll 00001033 0 0 0\n\
+    sll 01ff9fb3 1f 1f 1f\n\
+    sll 004110b3 1 2 4\n\
+    sll 01f41833 10 8 1f\n\
+    slt 00002033 0 0 0\n\
+    slt 01ffafb3 1f 1f 1f\n\
+    slt 004120b3 1 2 4\n\
+    slt 01f42833 10 8 1f\n\
+    sltu 00003033 0 0 0\n\
+    sltu 01ffbfb3 1f 1f 1f\n\
+    sltu 004130b3 1 2 4\n\
+    sltu 01f43833 10 8 1f\n\
+    xor 00004033 0 0 0\n\
+    xor 01ffcfb3 1f 1f 1f\n\
+    xor 004140b3 1 2 4\n\
+    xor 01f44833 10 8 1f\n\
+    srl 00005033 0 0 0\n\
+    srl 01ffdfb3 1f 1f 1f\n\
+    srl 004150b3 1 2 4\n\
+    srl 01f45833 10 8 1f\n\
+    sra 40005033 0 0 0\n\
+    sra 41ffdfb3 1f 1f 1f\n\
+    sra 404150b3 1 2 4\n\
+    sra 41f45833 10 8 1f\n\
+    or 00006033 0 0 0\n\
+    or 01ffefb3 1f 1f 1f\n\
+    or 004160b3 1 2 4\n\
+    or 01f46833 10 8 1f\n\
+    and 00007033 0 0 0\n\
+    and 01ffffb3 1f 1f 1f\n\
+    and 004170b3 1 2 4\n\
+    and 01f47833 10 8 1f\n\
+    addw 0000003b 0 0 0\n\
+    addw 01ff8fbb 1f 1f 1f\n\
+    addw 004100bb 1 2 4\n\
+    addw 01f4083b 10 8 1f\n\
+    subw 4000003b 0 0 0\n\
+    subw 41ff8fbb 1f 1f 1f\n\
+    subw 404100bb 1 2 4\n\
+    subw 41f4083b 10 8 1f\n\
+    sllw 0000103b 0 0 0\n\
+    sllw 01ff9fbb 1f 1f 1f\n\
+    sllw 004110bb 1 2 4\n\
+    sllw 01f4183b 10 8 1f\n\
+    srlw 0000503b 0 0 0\n\
+    srlw 01ffdfbb 1f 1f 1f\n\
+    srlw 004150bb 1 2 4\n\
+    srlw 01f4583b 10 8 1f\n\
+    sraw 4000503b 0 0 0\n\
+    sraw 41ffdfbb 1f 1f 1f\n\
+    sraw 404150bb 1 2 4\n\
+    sraw 41f4583b 10 8 1f\n\
+    fence 0ff0000f 0 0 0\n\
+    fence 0210000f 0 0 0\n\
+    fence 0330000f 0 0 0\n\
+    fence 8330000f 0 0 0\n\
+    fence 0000000f 0 0 0\n\
+    fence 0051008f 0 0 0\n\
+    fence ffff8f8f 0 0 0\n\
+    ecall 00000073 0 0 0\n\
+    ebreak 00100073 0 0 0\n\
+    ebreak 00100073 0 0 0\n\
+    ebreak 00100073 0 0 0\n\
+    ebreak 00100073 0 0 0\n\
+    lui 10000137 2 0 10000\n\
+    lui 600001b7 3 0 60000\n\
+    addi 00818193 3 3 8\n\
+    slli 03019f13 1e 3 30\n\
+    bne 000f1463 1e 0 4\n\
+    jal fe9ff06f 0 0 ffff4\n\
+    auipc 00000f17 1e 0 0\n\
+    addi 014f0f13 1e 1e 14\n\
+    sd 01e1b023 3 1e 0\n\
+    addi 00818193 3 3 8\n\
+    jal 00c000ef 1 0 6\n\
+    addi 05d00893 11 0 5d\n\
+    ecall 00000073 0 0 0\n\
+    ld ff81bf83 1f 3 ff8\n\
+    lui 00001037 0 0 1\n\
+    slli 03019f13 1e 3 30\n\
+    bne 000f1463 1e 0 4\n\
+    jal fe9ff06f 0 0 ffff4\n\
+    sd 01e1b023 3 1e 0\n\
+    andi ffcfff93 1f 1f ffc\n\
+    lui 40000f37 1e 0 40000\n\
+    sub 41ef8f33 1e 1f 1e\n\
+    srli 014f5f13 1e 1e 14\n\
+    beq 000f0463 1e 0 4\n\
+    lw 000faf03 1e 1f 0\n\
+    lui 00001237 4 0 1\n\
+    addi 03720213 4 4 37\n\
+    beq 004f0463 1e 4 4\n\
+    jalr 000f8067 0 1f 0\n\
+    jalr 000f80e7 1 1f 0\n\
+    sd 00113423 2 1 8\n\
+    addi 00810f93 1f 2 8\n\
+    slli 024f9f93 1f 1f 24\n\
+    srli 024fdf93 1f 1f 24\n\
+    sd 001fb023 1f 1 0\n\
+";
 
 /// Words of other extensions and of none.
 static OTHERS: [u32; 57] = [
@@ -471,34 +473,55 @@ fn without_immediate(name: &str, first: Reg, second: Reg, number: u32) -> Option
     Some(Instr::Register(op, first, second, Reg::of(number & 0x1f)))
 }
 
-fn instruction(word: u32, name: &str, first: u8, second: u8, number: u32) -> Option<Instr> {
-    let first = Reg::new(first)?;
-    let second = Reg::new(second)?;
-    let imm = Immediate::of(number & 0xf_ffff);
+/// The instruction of a row of `WORDS`.
+fn instruction(row: &str) -> Option<Instr> {
+    let name = name(row);
+    let first = Reg::of(low32(number(row, 2)) & 0x1f);
+    let second = Reg::of(low32(number(row, 3)) & 0x1f);
+    let word = low32(number(row, 1));
+    let field = low32(number(row, 4));
+    let imm = Immediate::of(field & 0xf_ffff);
     if let Some(op) = upper(name) {
         return Some(Instr::Upper(op, first, imm));
     }
     match name {
         "jal" => Some(Instr::Jal(first, imm)),
-        "jalr" => Some(Instr::Jalr(first, second, Immediate::of(number & 0xfff))),
+        "jalr" => Some(Instr::Jalr(first, second, Immediate::of(field & 0xfff))),
         "fence" => Some(Instr::Fence(FenceWord::new(word)?)),
         "ecall" => Some(Instr::Ecall),
         "ebreak" => Some(Instr::Ebreak),
-        _ => match with_immediate(name, first, second, number) {
+        _ => match with_immediate(name, first, second, field) {
             Some(instr) => Some(instr),
-            None => without_immediate(name, first, second, number),
+            None => without_immediate(name, first, second, field),
         },
     }
 }
 
+/// Whether the instruction of a row is encoded as its word.
+fn is_encoded(row: &str) -> bool {
+    match instruction(row) {
+        Some(instr) => encode(instr) == low32(number(row, 1)),
+        None => false,
+    }
+}
+
+/// Whether a row's word is decoded as its instruction, which is encoded as the word.
+fn is_right(row: &str) -> bool {
+    decode(low32(number(row, 1))) == instruction(row) && is_encoded(row)
+}
+
 #[test]
 fn words_of_an_assembler(rt: HostRuntime) {
-    for &(word, name, first, second, number) in &WORDS {
-        let instr = instruction(word, name, first, second, number);
-        assert_eq!(rt; decode(word), instr, "{word:08x}");
-        let instr = instruction(word, name, first, second, number).expect(&rt, name);
-        assert_eq!(rt; encode(instr), word, "{word:08x}");
+    let mut count = 0_u32;
+    for row in rows(WORDS) {
+        assert!(rt; is_right(row), "{row}");
+        count = count.saturating_add(1);
     }
+    assert_eq!(rt; count, 280);
+}
+
+#[test]
+fn words_of_no_instruction(rt: HostRuntime) {
     for &word in &OTHERS {
         assert_eq!(rt; decode(word), None, "{word:08x}");
     }

@@ -16,5 +16,3 @@ pub mod memory_map;
 mod no_memory;
 mod places;
 mod region;
-#[cfg(test)]
-mod tests;

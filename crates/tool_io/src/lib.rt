@@ -9,6 +9,7 @@ pub use host_sink::HostSink;
 pub use mem_files::MemFiles;
 pub use mem_sink::MemSink;
 pub use sink::Sink;
+pub use transfer::read_within;
 
 mod calls;
 mod ends;
@@ -19,6 +20,4 @@ mod host_sink;
 mod mem_files;
 mod mem_sink;
 mod sink;
-#[cfg(test)]
-mod tests;
 mod transfer;

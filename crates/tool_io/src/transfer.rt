@@ -12,11 +12,7 @@ const PIECE: usize = 4096;
 
 /// All that a reader gives until a read of 0 bytes, where that is at most `limit` bytes. At most
 /// `limit + 1` bytes are taken from it.
-pub(crate) fn read_within<R: Read>(
-    alloc: Global,
-    source: &mut R,
-    limit: u64,
-) -> Result<Vec<u8>, ReadEnd>
+pub fn read_within<R: Read>(alloc: Global, source: &mut R, limit: u64) -> Result<Vec<u8>, ReadEnd>
     ensures all { IfOk result (λ v. IfSome (R.remaining source.old) (λ xs. v.items ≡ xs)) }
     ensures within { IfOk result (λ v. length v.items ≤ limit) }
     ensures too_long { result ≡ Err ReadEnd.TooLong → IfSome (R.remaining source.old) (λ xs. limit < length xs) }
@@ -75,6 +71,7 @@ pub(crate) fn write_whole<W: Write>(writer: &mut W, bytes: &[u8]) -> Result<(), 
 /// Writes all the bytes to a writer that could be opened, and flushes.
 pub(crate) fn write_opened<W: Write>(opened: &mut io::Result<W>, bytes: &[u8]) -> Result<(), OutEnd>
     ensures whole { OnOk result (IsOkAnd opened.old (λ before. IsOkAnd opened.new (λ after. Appends (W.contents before) (W.contents after) bytes.now))) }
+    ensures part { OnErr result (IfOk opened.old (λ before. IsOkAnd opened.new (λ after. (n : ℕ) × Appends (W.contents before) (W.contents after) (take n bytes.now)))) }
     ensures shut { IfErr opened.old (λ _. result ≡ Err Failed) }
     ensures failed { IfErr result (λ e. e ≡ Failed) }
 {

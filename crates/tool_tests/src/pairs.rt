@@ -1,6 +1,6 @@
 //! Pairs of an image and a graph, and the line that is printed of each.
 
-use crate::tests::{answers, words};
+use crate::calls::{answers, words};
 use elf_image::write_image;
 use std::alloc::{AllocError, Global};
 use std::test::Fail;

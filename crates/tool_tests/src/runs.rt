@@ -1,8 +1,8 @@
 //! Runs of whole programs, and the text that is put of each. The code of all programs is what binutils
 //! assemble; the counts of steps and the walks are worked out by hand.
 
-use crate::tests::pairs::{A, A_CLASS, A_GRAPH, B, B_GRAPH, HEAD, P, P_GRAPH, code};
-use crate::tests::{status_of, words};
+use crate::calls::{status_of, words};
+use crate::pairs::{A, A_CLASS, A_GRAPH, B, B_GRAPH, HEAD, P, P_GRAPH, code};
 use elf_image::write_image;
 use std::alloc::Global;
 use std::process::Abort;

@@ -1,9 +1,10 @@
-use crate::transfer::read_within;
-use crate::{Files, HostFiles, HostSink, MemFiles, MemSink, OutEnd, ReadEnd, Sink};
+//! Files and outputs, of the host and in memory, and their failures.
+
 use std::alloc::{AllocError, Global};
 use std::io;
 use std::io::{Read, Write};
 use std::test::Fail;
+use tool_io::{Files, HostFiles, HostSink, MemFiles, MemSink, OutEnd, ReadEnd, Sink, read_within};
 
 /// A source that fills each buffer, so often, and then fails.
 #[derive(Drop)]

@@ -1,8 +1,8 @@
 //! Graphs that are none, and calls of files and output that fail.
 
-use crate::tests::pairs::{A, HEAD, code};
-use crate::tests::runs::{STATUS, STATUS_GRAPH};
-use crate::tests::{answers, status_of, words};
+use crate::calls::{answers, status_of, words};
+use crate::pairs::{A, HEAD, code};
+use crate::runs::{STATUS, STATUS_GRAPH};
 use elf_image::write_image;
 use std::alloc::Global;
 use std::process::Abort;

@@ -1,4 +1,4 @@
-use crate::{Bytes, Image, Places, add64, field, low32, sext};
+use rv_word::{Bytes, Image, Places, add64, field, low32, sext};
 use std::test::Fail;
 
 /// A number, how many bits of it count, and these sign-extended.

@@ -1,48 +1,15 @@
-use self::pairs::{A, A_GRAPH, HEAD, code};
-use crate::{Verdict, rvcfi};
+//! Command lines, with the status and the text of each.
+
+use crate::calls::{answers, status_of, words};
+use crate::pairs::{A, A_GRAPH, HEAD, code};
 use cfi_graph::Reason;
+use cfi_tool::Verdict;
 use cfi_verify::{Reject, Rule};
 use elf_image::{ImageRefusal, write_image};
-use std::alloc::{AllocError, Global};
+use std::alloc::Global;
 use std::process::Abort;
 use std::test::Fail;
 use tool_io::{MemFiles, MemSink};
-
-mod hostile;
-mod pairs;
-mod runs;
-
-/// The words of a command line, the program's name first.
-pub(crate) fn words(alloc: Global, line: &[&str]) -> Result<Vec<String>, AllocError> {
-    let mut words = Vec::new(alloc);
-    words.push(String::from_str(alloc, "rvcfi")?)?;
-    for word in line {
-        words.push(String::from_str(alloc, word)?)?;
-    }
-    Ok(words)
-}
-
-/// The status of the tool on some words. (Tests call it here alone: beside its contract they are slow to check.)
-pub(crate) fn status_of(
-    alloc: Global,
-    words: &[String],
-    files: &mut MemFiles,
-    out: &mut MemSink,
-) -> u8 {
-    rvcfi(alloc, words, files, out)
-}
-
-/// Whether the tool ends with a status on some words, and puts a text.
-pub(crate) fn answers(
-    alloc: Global,
-    words: &[String],
-    files: &mut MemFiles,
-    status: u8,
-    text: &str,
-) -> bool {
-    let mut out = MemSink::new(alloc, Vec::new(alloc));
-    status_of(alloc, words, files, &mut out) == status && out.bytes() == text.as_bytes()
-}
 
 /// The image and the graph of a program that exits, and files that are neither.
 fn row_files(rt: &impl Abort, alloc: Global) -> Result<MemFiles, Fail> {

@@ -1,0 +1,16 @@
+//! Tests of the tool through its public calls: command lines, verdicts, runs, and files and outputs that
+//! fail. They stand beside the crates that they test, so that these are proved once.
+#![tactic(auto)]
+
+#[cfg(test)]
+mod calls;
+#[cfg(test)]
+mod commands;
+#[cfg(test)]
+mod hostile;
+#[cfg(test)]
+mod outside;
+#[cfg(test)]
+mod pairs;
+#[cfg(test)]
+mod runs;
