@@ -2,7 +2,7 @@
 -- which numbers a line may have and in which order lines stand.
 use Rattle.std.specs.Prelude.{ℕ, ◌+◌, ◌%◌, ◌^◌, ◌==◌, nat_lt, nat_le, Bool, true, false, ◌&&◌, IsTrue, List, [], ◌∷◌, map}
 use Rattle.std.specs.List.{list_all}
-use Rattle.rv_word.specs.Layout.{CODE, CODE_SIZE}
+use Rattle.rv_word.specs.Layout.{CODE_START, CODE_SIZE}
 use Rattle.cfi_graph.specs.declared.line.GraphLine.{GraphLine}
 use Rattle.cfi_graph.specs.declared.line.GraphLine.TheVariants.{Class, Site, Edge, Call}
 use Rattle.cfi_graph.specs.declared.line.Key.{Key}
@@ -22,7 +22,7 @@ is_label label = nat_lt 0 label && nat_lt label (2 ^ 20)
 
 -- an address is a multiple of 4 in the code
 abbrev pub is_code_address : ℕ → ℕ → Bool
-is_code_address len address = address % 4 == 0 && nat_le CODE address && nat_lt address (CODE + len)
+is_code_address len address = address % 4 == 0 && nat_le CODE_START address && nat_lt address (CODE_START + len)
 
 abbrev pub line_in_range : ℕ → GraphLine → Bool
 line_in_range len (Class label targets) = is_label label && list_all (is_code_address len) targets

@@ -1,7 +1,7 @@
 -- What the hostile meddler changes. It goes over the 512 double words of data from x2 on, and zeroes each
 -- that equals a pending site: the double word in a slot of the shadow stack below x3.
 use Rattle.std.specs.Prelude.{ℕ, zero, suc, ◌+◌, ◌-◌, ◌/◌, nat_le, ◌&&◌, Bool, List, [], ◌∷◌, ◌++◌, min, if◌then◌else◌}
-use Rattle.rv_word.specs.Layout.{DATA_END, SHADOW}
+use Rattle.rv_word.specs.Layout.{DATA_END, SHADOW_START}
 use Rattle.rv_word.specs.Memory.{Memory, read}
 use Rattle.rv_instr.specs.Registers.{get_reg}
 use Rattle.rv_code.specs.State.{Hart, Shared}
@@ -10,7 +10,7 @@ use Rattle.cfi_verify.specs.Lines.{is_among}
 
 -- how many slots stand below x3; the shadow stack begins eight bytes into its region, which bounds it
 abbrev pub slots_below : ℕ → ℕ
-slots_below x3 = min ((x3 - (SHADOW + 8)) / 8) MOST_PENDING
+slots_below x3 = min ((x3 - (SHADOW_START + 8)) / 8) MOST_PENDING
 
 -- the double words in `count` slots from an address on
 unfoldable pub sites_from : Memory → ℕ → ℕ → List ℕ
@@ -18,7 +18,7 @@ sites_from m a zero = []
 sites_from m a (suc count) = read 8 m a ∷ sites_from m (a + 8) count
 
 abbrev pub pending_sites : Memory → ℕ → List ℕ
-pending_sites m x3 = sites_from m (SHADOW + 8) (slots_below x3)
+pending_sites m x3 = sites_from m (SHADOW_START + 8) (slots_below x3)
 
 -- zeros for the `count` bytes from an address on
 unfoldable pub zeros_from : ℕ → ℕ → List (ℕ × ℕ)

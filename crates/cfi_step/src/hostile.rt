@@ -1,5 +1,5 @@
 ghost use Rattle.std.specs.Prelude.{◌≡◌, ◌+◌, ◌*◌, ◌≤◌, ◌<◌, ◌^◌, ◌++◌, IfOk, OnOk, OnErr, min};
-ghost use Rattle.rv_word.specs.Layout.{DATA_END, SHADOW};
+ghost use Rattle.rv_word.specs.Layout.{DATA_END, SHADOW_START};
 ghost use Rattle.rv_mem.specs.Cells.{memory_of};
 ghost use Rattle.cfi_verify.specs.Lines.{is_among};
 ghost use Rattle.cfi_step.specs.Hostile.{holds_site, site_zeros, sites_from, slots_below, zeros_at, zeros_from};
@@ -34,7 +34,7 @@ fn slots_below(pointer: u64) -> u64
 /// The double words in the slots from the oldest on.
 fn sites(alloc: Global, memory: &Memory, count: u64) -> Result<Vec<u64>, NoMemory>
     requires { count ≤ 8191 }
-    ensures { IfOk result (λ sites. sites.items ≡ sites_from (memory_of memory.now) (SHADOW + 8) count) }
+    ensures { IfOk result (λ sites. sites.items ≡ sites_from (memory_of memory.now) (SHADOW_START + 8) count) }
 {
     let mut sites = Vec::new(alloc);
     for k in 0..count {

@@ -3,7 +3,7 @@
 use Rattle.std.proofs.Common.{◌≡◌, ℕ, zero, suc, ◌+◌, ◌*◌, ◌<◌, ◌≤◌, ◌⊎◌, inl, inr, List, [], ◌∷◌, ◌++◌, length, length-append, Some, true, refl, ap, ◌∙◌, arith}
 use Rattle.std.specs.Prelude.{slice_get}
 use Rattle.std.proofs.lemmas.Option.{slice_get_within}
-use Rattle.rv_word.specs.Layout.{Profile, CODE, CODE_SIZE, DATA_END, SHADOW, PART_SIZE}
+use Rattle.rv_word.specs.Layout.{Profile, CODE_START, CODE_SIZE, DATA_END, SHADOW_START, PART_SIZE}
 use Rattle.rv_word.specs.Memory.{Memory, read, write}
 use Rattle.rv_instr.specs.declared.instr.Instr.{Instr}
 use Rattle.rv_code.specs.Decode.{decoded}
@@ -74,7 +74,7 @@ holds_same part (site ∷ pending) m m' same held = (
 
 module _ {part : ℕ} {image base : Memory} {pending : List ℕ} {m : Memory} where
   -- changes of data keep everything
-  pub kept_data : SHADOW ≤ part → Kept part image base pending m → (m' : Memory) →
+  pub kept_data : SHADOW_START ≤ part → Kept part image base pending m → (m' : Memory) →
       ((k : ℕ) → DATA_END ≤ k → m' k ≡ m k) → Kept part image base pending m'
   kept_data low c m' same = record {
     code = λ k from to. same k (omega arith) ∙ c.code k from to;
@@ -84,7 +84,7 @@ module _ {part : ℕ} {image base : Memory} {pending : List ℕ} {m : Memory} wh
 
   -- so do changes outside of code and of the own part, seen from the memory after them
   pub kept_changed : length pending ≤ MOST_PENDING → Kept part image base pending m → (m' : Memory) →
-      SameOn CODE (CODE + CODE_SIZE) m m' → SameOn part (part + PART_SIZE) m m' → Kept part image m' pending m'
+      SameOn CODE_START (CODE_START + CODE_SIZE) m m' → SameOn part (part + PART_SIZE) m m' → Kept part image m' pending m'
   kept_changed most c m' code own = record {
     code = λ k from to. code k from to ∙ c.code k from to;
     held = holds_same part pending m m' (λ k from to. own k from (omega arith)) c.held;
@@ -92,7 +92,7 @@ module _ {part : ℕ} {image base : Memory} {pending : List ℕ} {m : Memory} wh
   }
 
   -- and the write of a site into the next slot, which then is pending
-  pub kept_push : SHADOW ≤ part → length pending < MOST_PENDING → (site : ℕ) → Kept part image base pending m →
+  pub kept_push : SHADOW_START ≤ part → length pending < MOST_PENDING → (site : ℕ) → Kept part image base pending m →
       Kept part image base pending (write 8 m (slot part (length pending)) site)
   kept_push low room site c = record {
     code = λ k from to. write_outside 8 m (slot part (length pending)) site k (inl (omega arith)) ∙ c.code k from to;

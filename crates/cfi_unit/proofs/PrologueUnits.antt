@@ -1,6 +1,6 @@
 -- The handlers, the opening and the closing.
 use Rattle.std.proofs.Common.{◌≡◌, ℕ, ◌+◌, List, [], ◌∷◌, ◌++◌, refl, ap, arith}
-use Rattle.rv_word.specs.Layout.{Profile, SHADOW}
+use Rattle.rv_word.specs.Layout.{Profile, SHADOW_START}
 use Rattle.rv_word.specs.Memory.{Memory}
 use Rattle.rv_instr.specs.Registers.{Registers}
 use Rattle.rv_instr.specs.declared.instr.Instr.TheVariants.{Upper, Immediate, Ebreak}
@@ -42,7 +42,7 @@ module _ (p : Profile) (part : ℕ) (image base : Memory) (r : Registers) (h : H
     opening_from after (call_inside t c low i) = stays t c (omega arith) (opening_call i)
     opening_from after (call_leaves newer t c x3 goes) = leaves newer t c x3 goes
 
-    pub opening_law : IsPart p part → part ≡ SHADOW → Fits (V.Call entry) (OPENING + 12) → Stand image OPENING (opening_instrs entry) →
+    pub opening_law : IsPart p part → part ≡ SHADOW_START → Fits (V.Call entry) (OPENING + 12) → Stand image OPENING (opening_instrs entry) →
         Context part image base [] s → InOpening part (r 31) h s.memory →
         Outcome part image base (opening entry) OPENING [] r (step p h s)
     opening_law own first fits w c (opening_stack e x31) =

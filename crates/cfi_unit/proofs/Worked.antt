@@ -3,7 +3,7 @@
 use Rattle.std.proofs.Common.{◌≡◌, ℕ, zero, suc, ◌+◌, ◌*◌, ◌^◌, ◌<◌, [], ◌∷◌, Some, None, refl, arith}
 use Rattle.std.specs.Prelude.{slice_get}
 use Rattle.rv_word.specs.Image.{Contents}
-use Rattle.rv_word.specs.Layout.{version_1, SHADOW}
+use Rattle.rv_word.specs.Layout.{version_1, SHADOW_START}
 use Rattle.rv_word.specs.Memory.{read, loaded, placed}
 use Rattle.rv_instr.specs.declared.instr.Instr.{Instr}
 use Rattle.rv_code.specs.Decode.{decoded}
@@ -43,9 +43,9 @@ unfolding last_exit
 going_1 = refl
 
 first_step : ((k : ℕ) → loaded image_1 k < 2 ^ 8) →
-    Outcome SHADOW (loaded image_1) (loaded image_1) (opening 0x40000040) OPENING [] (λ r. 0) (step version_1 start_hart (start_shared image_1 []))
+    Outcome SHADOW_START (loaded image_1) (loaded image_1) (opening 0x40000040) OPENING [] (λ r. 0) (step version_1 start_hart (start_shared image_1 []))
 first_step bytes =
-    unit_law version_1 SHADOW (loaded image_1) (loaded image_1) (opening 0x40000040) OPENING [] (λ r. 0) start_hart (start_shared image_1 [])
+    unit_law version_1 SHADOW_START (loaded image_1) (loaded image_1) (opening 0x40000040) OPENING [] (λ r. 0) start_hart (start_shared image_1 [])
     (record { low = omega arith; high = omega arith; aligned = omega arith; most = omega arith })
     bytes
     (refl, refl, refl, (refl, refl))

@@ -3,7 +3,7 @@
 -- has found out. `n` counts the pending sites, `r` holds the registers at the unit's start.
 use Rattle.std.specs.Prelude.{◌≡◌, ◌≢◌, ℕ, suc, ◌+◌, ◌*◌, ◌/◌, ◌^◌, ◌<◌, ◌≤◌, List, [], ◌∷◌, length}
 use Rattle.rv_word.specs.Bits.{wrap}
-use Rattle.rv_word.specs.Layout.{CODE, CODE_SIZE, SHADOW}
+use Rattle.rv_word.specs.Layout.{CODE_START, CODE_SIZE, SHADOW_START}
 use Rattle.rv_word.specs.Memory.{Memory, read}
 use Rattle.rv_instr.specs.Registers.{Registers}
 use Rattle.rv_code.specs.Arithmetic.{difference}
@@ -57,8 +57,8 @@ pub data InCall (part at v n : ℕ) (h : Hart) (m : Memory) : Type 0 where
 
 -- an address in the region of code
 pub record InCode (v : ℕ) : Type 0 where
-  pub low : CODE ≤ v
-  pub high : v < CODE + CODE_SIZE
+  pub low : CODE_START ≤ v
+  pub high : v < CODE_START + CODE_SIZE
 
 -- the check of a computed transfer: `sum` is its destination before its low two bits are cleared, v
 -- the same after
@@ -69,11 +69,11 @@ pub data InCheck (part : ℕ) (image : Memory) (at rs1 imm label sum v n : ℕ) 
       InCheck part image at rs1 imm label sum v n h
   check_lui : h.pc ≡ at + 8 → h.regs 3 ≡ slot part n → h.regs 31 ≡ v →
       InCheck part image at rs1 imm label sum v n h
-  check_sub : h.pc ≡ at + 12 → h.regs 3 ≡ slot part n → h.regs 31 ≡ v → h.regs 30 ≡ CODE →
+  check_sub : h.pc ≡ at + 12 → h.regs 3 ≡ slot part n → h.regs 31 ≡ v → h.regs 30 ≡ CODE_START →
       InCheck part image at rs1 imm label sum v n h
-  check_srli : h.pc ≡ at + 16 → h.regs 3 ≡ slot part n → h.regs 31 ≡ v → h.regs 30 ≡ difference v CODE →
+  check_srli : h.pc ≡ at + 16 → h.regs 3 ≡ slot part n → h.regs 31 ≡ v → h.regs 30 ≡ difference v CODE_START →
       InCheck part image at rs1 imm label sum v n h
-  check_region : h.pc ≡ at + 20 → h.regs 3 ≡ slot part n → h.regs 31 ≡ v → h.regs 30 ≡ difference v CODE / 2 ^ 20 →
+  check_region : h.pc ≡ at + 20 → h.regs 3 ≡ slot part n → h.regs 31 ≡ v → h.regs 30 ≡ difference v CODE_START / 2 ^ 20 →
       InCheck part image at rs1 imm label sum v n h
   check_outside : h.pc ≡ at + 24 → h.regs 3 ≡ slot part n → (InCode v → ⊥) →
       InCheck part image at rs1 imm label sum v n h
@@ -120,7 +120,7 @@ pub data InReturn (part at link site n : ℕ) (h : Hart) : Type 0 where
 pub data InOpening (part v : ℕ) (h : Hart) (m : Memory) : Type 0 where
   opening_stack : h.pc ≡ OPENING → h.regs 31 ≡ v → InOpening part v h m
   opening_shadow : h.pc ≡ OPENING + 4 → h.regs 31 ≡ v → InOpening part v h m
-  opening_slot : h.pc ≡ OPENING + 8 → h.regs 31 ≡ v → h.regs 3 ≡ SHADOW → InOpening part v h m
+  opening_slot : h.pc ≡ OPENING + 8 → h.regs 31 ≡ v → h.regs 3 ≡ SHADOW_START → InOpening part v h m
   opening_call : InCall part (OPENING + 12) v 0 h m → InOpening part v h m
 
 pub data InClosing (at : ℕ) (h : Hart) : Type 0 where

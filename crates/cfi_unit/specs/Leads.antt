@@ -2,7 +2,7 @@
 -- unit's start; a computed destination is legal where code has the gate of the class's label.
 use Rattle.std.specs.Prelude.{◌≡◌, ◌≢◌, ℕ, ◌+◌, ◌*◌, ◌/◌, ◌%◌, ◌≤◌, ◌<◌, ◌⊎◌, List, [], ◌∷◌, length}
 use Rattle.rv_word.specs.Bits.{wrap}
-use Rattle.rv_word.specs.Layout.{CODE, CODE_SIZE}
+use Rattle.rv_word.specs.Layout.{CODE_START, CODE_SIZE}
 use Rattle.rv_word.specs.Memory.{Memory, read}
 use Rattle.rv_instr.specs.Registers.{Registers, get_reg}
 use Rattle.rv_code.specs.Step.{offset}
@@ -17,8 +17,8 @@ use Rattle.cfi_unit.specs.Shadow.{MOST_PENDING}
 -- the word of `lui x0,label` stands in code at an address
 pub record HasLabel (image : Memory) (label v : ℕ) : Type 0 where
   pub round : v % 4 ≡ 0
-  pub low : CODE ≤ v
-  pub high : v + 4 ≤ CODE + CODE_SIZE
+  pub low : CODE_START ≤ v
+  pub high : v + 4 ≤ CODE_START + CODE_SIZE
   pub word : read 4 image v ≡ label * 4096 + 55
 
 -- the destination of a computed transfer before and after its low two bits are cleared

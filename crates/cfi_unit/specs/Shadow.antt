@@ -1,13 +1,13 @@
 -- The shadow stack of a hart: its own part of the shadow region, in which the sites of its pending
 -- calls stand in slots of eight bytes, the first slot eight bytes from the part's start.
 use Rattle.std.specs.Prelude.{◌≡◌, ℕ, ◌+◌, ◌*◌, ◌%◌, ◌≤◌, List, [], ◌∷◌, length}
-use Rattle.rv_word.specs.Layout.{Profile, SHADOW, PART_SIZE}
+use Rattle.rv_word.specs.Layout.{Profile, SHADOW_START, PART_SIZE}
 use Rattle.rv_word.specs.Memory.{Memory, read}
 
 -- a hart's own part of the shadow region, which has eight parts at most
 pub record IsPart (p : Profile) (part : ℕ) : Type 0 where
-  pub low : SHADOW ≤ part
-  pub high : part + PART_SIZE ≤ SHADOW + p.shadow_size
+  pub low : SHADOW_START ≤ part
+  pub high : part + PART_SIZE ≤ SHADOW_START + p.shadow_size
   pub aligned : part % PART_SIZE ≡ 0
   pub most : p.shadow_size ≤ 8 * PART_SIZE
 

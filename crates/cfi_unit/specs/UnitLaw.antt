@@ -3,7 +3,7 @@
 -- any memory in which code, the hart's own part of the shadow and the facts of the word stand: so
 -- data, and the other harts' parts, may change between two steps.
 use Rattle.std.specs.Prelude.{◌≡◌, ℕ, ◌+◌, ◌%◌, ◌^◌, ◌<◌, ◌≤◌, ◌⊎◌, List, [], ◌∷◌, length}
-use Rattle.rv_word.specs.Layout.{Profile, SHADOW}
+use Rattle.rv_word.specs.Layout.{Profile, SHADOW_START}
 use Rattle.rv_word.specs.Memory.{Memory}
 use Rattle.rv_instr.specs.Registers.{Registers}
 use Rattle.rv_code.specs.State.{Hart, Shared, After}
@@ -72,7 +72,7 @@ UnitMayStand unit at pending = Fits unit at × ReturnsTo pending
 abbrev pub MayStand : Place → ℕ → ℕ → List ℕ → Type 0
 MayStand handler part at pending = Unit {0}
 MayStand (opening entry) part at pending =
-    (part ≡ SHADOW) × (at ≡ OPENING) × (pending ≡ []) × Fits (V.Call entry) (OPENING + 12)
+    (part ≡ SHADOW_START) × (at ≡ OPENING) × (pending ≡ []) × Fits (V.Call entry) (OPENING + 12)
 MayStand closing part at pending = Unit {0}
 MayStand (body unit) part at pending = UnitMayStand unit at pending
 

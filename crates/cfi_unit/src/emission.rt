@@ -1,5 +1,5 @@
 ghost use Rattle.std.specs.Prelude.{◌≡◌, ◌+◌, ◌*◌, ◌<◌, ◌↔◌, ◌++◌, IfOk, IsTrue, List, Some, length, not, ℕ};
-ghost use Rattle.rv_word.specs.Layout.{CODE, CODE_SIZE};
+ghost use Rattle.rv_word.specs.Layout.{CODE_START, CODE_SIZE};
 ghost use Rattle.cfi_unit.specs.Recognise.{can_stand, check_reaches, recognised};
 ghost use Rattle.cfi_unit.specs.UnitWords.{Fits, is_plain, is_reserved, word_count, words_of};
 
@@ -13,7 +13,7 @@ use std::alloc::Global;
 
 /// The words of a unit at an address.
 pub fn emit(alloc: Global, unit: &Unit, at: u64) -> Result<Vec<u32>, NoMemory>
-    requires place { at < CODE + CODE_SIZE }
+    requires place { at < CODE_START + CODE_SIZE }
     requires fits { Fits unit.now at }
     ensures words { IfOk result (λ v. v.items ≡ words_of unit.now at) }
     ensures found { IfOk result (λ v. (rest : List ℕ) → recognised (v.items ++ rest) at ≡ Some unit.now) }
@@ -51,7 +51,7 @@ pub(crate) fn count(unit: &Unit) -> u32
 /// jump reaches its target.
 #[tactic(auto, using(crate::proofs::Stand::stand_fits, crate::proofs::Stand::fits_stand))]
 pub fn fits(unit: &Unit, at: u64) -> bool
-    requires { at < CODE + CODE_SIZE }
+    requires { at < CODE_START + CODE_SIZE }
     ensures { IsTrue result ↔ Fits unit.now at }
 {
     unit.in_range();
@@ -60,7 +60,7 @@ pub fn fits(unit: &Unit, at: u64) -> bool
 
 /// Whether a unit whose fields are in range may stand at an address.
 pub(crate) fn may_stand(unit: &Unit, at: u64) -> bool
-    requires { at < CODE + CODE_SIZE }
+    requires { at < CODE_START + CODE_SIZE }
     ensures { result ≡ can_stand unit.now at }
 {
     match *unit {
@@ -78,7 +78,7 @@ pub(crate) fn may_stand(unit: &Unit, at: u64) -> bool
 
 /// Whether the jumps of a check reach their handler.
 fn halts_reach(at: u64) -> bool
-    requires { at < CODE + CODE_SIZE }
+    requires { at < CODE_START + CODE_SIZE }
     ensures { result ≡ check_reaches at }
 {
     is_reached(at + 24, BAD_TARGET) && is_reached(at + 44, BAD_TARGET)

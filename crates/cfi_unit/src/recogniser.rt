@@ -1,5 +1,5 @@
 ghost use Rattle.std.specs.Prelude.{◌≡◌, ◌+◌, ◌<◌, option_map, IfSome, IsNone};
-ghost use Rattle.rv_word.specs.Layout.{CODE, CODE_SIZE};
+ghost use Rattle.rv_word.specs.Layout.{CODE_START, CODE_SIZE};
 ghost use Rattle.cfi_unit.specs.Recognise.{
   address_unit,
   computed_unit,
@@ -25,7 +25,7 @@ use rv_instr::{Immediate, Instr, Reg, UpperOp};
 
 /// The unit that begins a list of words at an address, and how many words it has.
 pub fn recognise(words: &[u32], at: u64) -> Option<(Unit, u32)>
-    requires { at < CODE + CODE_SIZE }
+    requires { at < CODE_START + CODE_SIZE }
     ensures value { result ≡ option_map (λ u. (u, word_count u)) (recognised words.now at) }
     ensures begins { IfSome result (λ found. Begins words.now at found.0) }
     ensures count { IfSome result (λ found. found.1 ≡ word_count found.0) }
@@ -39,7 +39,7 @@ pub fn recognise(words: &[u32], at: u64) -> Option<(Unit, u32)>
 /// The unit that begins the list.
 #[tactic(auto, unfolding(crate::specs::Recognise::recognised))]
 fn first_unit(words: &[u32], at: u64) -> Option<Unit>
-    requires { at < CODE + CODE_SIZE }
+    requires { at < CODE_START + CODE_SIZE }
     ensures { result ≡ recognised words.now at }
 {
     let unit = candidate(words, at, instr(words, 0)?)?;
@@ -60,7 +60,7 @@ fn instr(words: &[u32], index: usize) -> Option<Instr>
 /// The only unit that may begin with an instruction: its fields are read from the words in which
 /// it would keep them.
 fn candidate(words: &[u32], at: u64, first: Instr) -> Option<Unit>
-    requires { at < CODE + CODE_SIZE }
+    requires { at < CODE_START + CODE_SIZE }
     ensures { result ≡ unit_from words.now at first }
 {
     match first {

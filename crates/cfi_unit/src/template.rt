@@ -1,5 +1,5 @@
 ghost use Rattle.std.specs.Prelude.{◌≡◌, ◌+◌, ◌<◌, ◌^◌};
-ghost use Rattle.rv_word.specs.Layout.{CODE, CODE_SIZE};
+ghost use Rattle.rv_word.specs.Layout.{CODE_START, CODE_SIZE};
 ghost use Rattle.cfi_unit.specs.UnitWords.{check, gate, instrs_of, push, system_instr, words_of};
 ghost use Rattle.cfi_unit.specs.declared.unit.Unit.TheVariants as V;
 
@@ -14,7 +14,7 @@ use rv_instr::{
 /// The words of a unit at an address.
 #[tactic(auto, unfolding(crate::specs::UnitWords::words_of))]
 pub(crate) fn unit_code(unit: &Unit, at: u64) -> UnitCode
-    requires { at < CODE + CODE_SIZE }
+    requires { at < CODE_START + CODE_SIZE }
     ensures { result ≡ words_of unit.now at }
 {
     let mut code = UnitCode::new();
@@ -120,7 +120,7 @@ fn store(op: StoreOp, rs1: Reg, rs2: Reg, imm: Immediate<12>) -> [Instr; 4]
 
 /// The words of a call before its transfer.
 fn pushes(at: u64) -> [Instr; 7]
-    requires { at < CODE + CODE_SIZE + 48 }
+    requires { at < CODE_START + CODE_SIZE + 48 }
     ensures { result ≡ push at }
 {
     [
@@ -136,7 +136,7 @@ fn pushes(at: u64) -> [Instr; 7]
 
 /// The words of a computed transfer that test its destination.
 fn checks(at: u64, rs1: Reg, imm: Immediate<12>, label: Immediate<20>) -> [Instr; 12]
-    requires { at < CODE + CODE_SIZE }
+    requires { at < CODE_START + CODE_SIZE }
     ensures { result ≡ check at rs1 imm label }
 {
     let (x0, x4, x30, x31) = (Reg::of(0), Reg::of(4), Reg::of(30), Reg::of(31));
@@ -157,7 +157,7 @@ fn checks(at: u64, rs1: Reg, imm: Immediate<12>, label: Immediate<20>) -> [Instr
 }
 
 fn returns(at: u64) -> [Instr; 5]
-    requires { at < CODE + CODE_SIZE }
+    requires { at < CODE_START + CODE_SIZE }
     ensures { result ≡ instrs_of V.Return at }
 {
     let (x1, x3, x31) = (Reg::of(1), Reg::of(3), Reg::of(31));

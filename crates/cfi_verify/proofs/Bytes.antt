@@ -4,7 +4,7 @@ use Rattle.std.specs.Prelude.{slice_get, slice_index, nat_le, nat_lt, ◌&&◌}
 use Rattle.std.proofs.lemmas.Bool.{cases_Bool, le-leb, lt-ltb, le-ltb}
 use Rattle.std.proofs.lemmas.Option.{slice_get-get_or}
 use Rattle.rv_word.specs.Image.{Contents, IsImageSize}
-use Rattle.rv_word.specs.Layout.{CODE, DATA_START}
+use Rattle.rv_word.specs.Layout.{CODE_START, DATA_START}
 use Rattle.rv_word.specs.Memory.{Memory, read, loaded, placed, zeros}
 use Rattle.cfi_unit.specs.Laws.{AreWords}
 use Rattle.cfi_verify.specs.Laws.{AreBytes}
@@ -69,35 +69,35 @@ placed_small m a bytes before small k =
 
 module _ (image : Contents) where
   -- the loaded code
-  pub loaded_code : (k : ℕ) → k < length image.code → loaded image (CODE + k) ≡ slice_index image.code k
+  pub loaded_code : (k : ℕ) → k < length image.code → loaded image (CODE_START + k) ≡ slice_index image.code k
   unfolding loaded placed
   loaded_code k below =
-      let back : CODE + k - CODE ≡ k = omega arith in
-      rw (le-leb CODE (CODE + k) (omega arith), lt-ltb (CODE + k) (CODE + length image.code) (omega arith), back) refl
+      let back : CODE_START + k - CODE_START ≡ k = omega arith in
+      rw (le-leb CODE_START (CODE_START + k) (omega arith), lt-ltb (CODE_START + k) (CODE_START + length image.code) (omega arith), back) refl
 
   -- past it the region of code is zero
-  pub loaded_past : IsImageSize (length image.code) (length image.init) → (k : ℕ) → length image.code ≤ k → loaded image (CODE + k) ≡ 0
+  pub loaded_past : IsImageSize (length image.code) (length image.init) → (k : ℕ) → length image.code ≤ k → loaded image (CODE_START + k) ≡ 0
   unfolding loaded placed
   loaded_past size k past =
       let most = size.data_most in
       rw (
-        le-leb CODE (CODE + k) (omega arith),
-        le-ltb (CODE + k) (CODE + length image.code) (omega arith),
-        le-leb DATA_START (CODE + k) (omega arith),
-        le-ltb (CODE + k) (DATA_START + length image.init) (omega arith),
+        le-leb CODE_START (CODE_START + k) (omega arith),
+        le-ltb (CODE_START + k) (CODE_START + length image.code) (omega arith),
+        le-leb DATA_START (CODE_START + k) (omega arith),
+        le-ltb (CODE_START + k) (DATA_START + length image.init) (omega arith),
       ) refl
 
   pub loaded_small : AreBytes image → (k : ℕ) → loaded image k < 2 ^ 8
   unfolding loaded
   loaded_small bytes k =
-      placed_small (placed zeros DATA_START image.init) CODE image.code
+      placed_small (placed zeros DATA_START image.init) CODE_START image.code
       (placed_small zeros DATA_START image.init (λ j. lit< tt) bytes.init) bytes.code k
 
   -- what is fetched
-  pub loaded_word : (j w : ℕ) → slice_get (code_words image.code) j ≡ Some w → read 4 (loaded image) (CODE + 4 * j) ≡ w
+  pub loaded_word : (j w : ℕ) → slice_get (code_words image.code) j ≡ Some w → read 4 (loaded image) (CODE_START + 4 * j) ≡ w
   loaded_word j w e =
       let at = code_word image.code j w e in
       let within = at.within in
-      read_moved 4 (loaded image) (λ k. slice_index image.code k) (CODE + 4 * j) (4 * j)
-      (λ t below. ap (loaded image) (let z : CODE + 4 * j + t ≡ CODE + (4 * j + t) = omega arith in z) ∙ loaded_code (4 * j + t) (omega arith))
+      read_moved 4 (loaded image) (λ k. slice_index image.code k) (CODE_START + 4 * j) (4 * j)
+      (λ t below. ap (loaded image) (let z : CODE_START + 4 * j + t ≡ CODE_START + (4 * j + t) = omega arith in z) ∙ loaded_code (4 * j + t) (omega arith))
       ∙ sym at.is

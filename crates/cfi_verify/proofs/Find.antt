@@ -5,7 +5,7 @@ use Rattle.std.specs.Prelude.{slice_get}
 use Rattle.std.proofs.lemmas.Bool.{cases_Bool, and_parts, leb-true, le-leb, eqb-true, cases_eq}
 use Rattle.std.proofs.lemmas.List.{drop-drop}
 use Rattle.std.proofs.lemmas.List.Elements.{All-drop}
-use Rattle.rv_word.specs.Layout.{CODE, version_1}
+use Rattle.rv_word.specs.Layout.{CODE_START, version_1}
 use Rattle.cfi_unit.specs.declared.unit.Unit as U
 use Rattle.cfi_unit.specs.Laws.{AreWords}
 use Rattle.cfi_unit.specs.Recognise.{recognised}
@@ -25,12 +25,12 @@ pub record IsWhole (words : List ℕ) : Type 0 where
 -- a unit of the split at an address
 pub record UnitHere (words : List ℕ) (a : ℕ) (u : U.Unit) : Type 0 where
   pub is : unit_at version_1 words a ≡ Some u
-  pub begins : Begins (drop ((a - CODE) / 4) words) a u
+  pub begins : Begins (drop ((a - CODE_START) / 4) words) a u
   pub low : START ≤ a
   pub round : a % 4 ≡ 0
-  pub high : a + 4 * word_count u ≤ CODE + 4 * length words
+  pub high : a + 4 * word_count u ≤ CODE_START + 4 * length words
   pub inner : (b : ℕ) → a < b → b < a + 4 * word_count u → is_start version_1 words b ≡ false
-  pub next : a + 4 * word_count u < CODE + 4 * length words → is_start version_1 words (a + 4 * word_count u) ≡ true
+  pub next : a + 4 * word_count u < CODE_START + 4 * length words → is_start version_1 words (a + 4 * word_count u) ≡ true
 
 pub record StartParts (words : List ℕ) (a : ℕ) : Type 0 where
   pub low : START ≤ a
@@ -74,8 +74,8 @@ no_start_below words a below =
 pub unit_of_mark : (words : List ℕ) → IsWhole words → (i : ℕ) (u : U.Unit) → Marked (drop 16 words) START i u → UnitHere words (START + 4 * i) u
 unfolding unit_at
 unit_of_mark words whole i u m =
-    let k : (START + 4 * i - CODE) / 4 ≡ 16 + i = omega arith in
-    let here : recognised (drop ((START + 4 * i - CODE) / 4) words) (START + 4 * i) ≡ Some u =
+    let k : (START + 4 * i - CODE_START) / 4 ≡ 16 + i = omega arith in
+    let here : recognised (drop ((START + 4 * i - CODE_START) / 4) words) (START + 4 * i) ≡ Some u =
     ap (λ n. recognised (drop n words) (START + 4 * i)) k ∙ ap (λ l. recognised l (START + 4 * i)) (sym (drop-drop i 16 words)) ∙ m.fits in
     let all : length (starts 0 (drop 16 words) START) ≡ length (drop 16 words) = whole.reached in
     let left : length (drop 16 words) ≡ length words - 16 = length-drop 16 words in
@@ -83,8 +83,8 @@ unit_of_mark words whole i u m =
     let room : i + word_count u ≤ length (starts 0 (drop 16 words) START) = m.room in
     record {
       is = rw (start_at words i m.mark) here;
-      begins = recognised_begins (drop ((START + 4 * i - CODE) / 4) words) (START + 4 * i) u
-          (All-drop (λ x. x < 2 ^ 32) ((START + 4 * i - CODE) / 4) words whole.words_are) here;
+      begins = recognised_begins (drop ((START + 4 * i - CODE_START) / 4) words) (START + 4 * i) u
+          (All-drop (λ x. x < 2 ^ 32) ((START + 4 * i - CODE_START) / 4) words whole.words_are) here;
       low = omega arith;
       round = omega arith;
       high = omega arith;
@@ -112,7 +112,7 @@ pub record InsideUnit (words : List ℕ) (v s : ℕ) (u : U.Unit) : Type 0 where
   pub from : s ≤ v
   pub below : v < s + 4 * word_count u
 
-pub unit_around : (words : List ℕ) → IsWhole words → (v : ℕ) → START ≤ v → v < CODE + 4 * length words → (s : ℕ) × (u : U.Unit) × InsideUnit words v s u
+pub unit_around : (words : List ℕ) → IsWhole words → (v : ℕ) → START ≤ v → v < CODE_START + 4 * length words → (s : ℕ) × (u : U.Unit) × InsideUnit words v s u
 unit_around words whole v low high =
     let all : length (starts 0 (drop 16 words) START) ≡ length (drop 16 words) = whole.reached in
     let left : length (drop 16 words) ≡ length words - 16 = length-drop 16 words in

@@ -3,7 +3,7 @@
 use Rattle.std.proofs.Common.{◌≡◌, ℕ, ◌+◌, ◌-◌, ◌*◌, ◌^◌, ◌≤◌, ◌<◌, ◌⊎◌, inl, inr, List, [], length, refl, sym, ap, subst, ◌∙◌, Some, arith}
 use Rattle.std.proofs.lemmas.Bool.{cases_lt}
 use Rattle.rv_word.specs.Image.{Contents}
-use Rattle.rv_word.specs.Layout.{CODE, SHADOW, version_1}
+use Rattle.rv_word.specs.Layout.{CODE_START, SHADOW_START, version_1}
 use Rattle.rv_word.specs.Memory.{loaded}
 use Rattle.cfi_graph.specs.Graph.{GraphParts}
 use Rattle.cfi_unit.specs.declared.unit.Unit.TheVariants as V
@@ -51,7 +51,7 @@ module _ (image : Contents) (graph : GraphParts) (bytes : AreBytes image) (forme
   IsFirstCall closing pending = Unit {0}
   IsFirstCall (body unit) pending = ReturnsTo pending
 
-  pub may_stand : (place : Place) (a : ℕ) (pending : List ℕ) → PlaceFacts image graph bytes formed place a → IsFirstCall place pending → MayStand place SHADOW a pending
+  pub may_stand : (place : Place) (a : ℕ) (pending : List ℕ) → PlaceFacts image graph bytes formed place a → IsFirstCall place pending → MayStand place SHADOW_START a pending
   may_stand handler a pending facts first = tt
   may_stand (opening entry) a pending facts first = (refl, facts.0, first, (refl, facts.1.reaches))
   may_stand closing a pending facts first = tt
@@ -61,7 +61,7 @@ module _ (image : Contents) (graph : GraphParts) (bytes : AreBytes image) (forme
   before_units : (place : Place) (a label v : ℕ) → PlaceFacts image graph bytes formed place a → IsFirstCall place [] → label < 2 ^ 20 → HasLabel (loaded image) label v →
       a ≤ v → v < a + place_size place → (place ≡ body (V.Gate label)) × (v ≡ a)
   before_units place a label v facts first low has from to =
-      label_is_gate (loaded image) SHADOW [] place a label v (may_stand place a [] facts first) (place_stands place a facts) low has from to
+      label_is_gate (loaded image) SHADOW_START [] place a label v (may_stand place a [] facts first) (place_stands place a facts) low has from to
 
   not_before : (label v : ℕ) → label < 2 ^ 20 → HasLabel (loaded image) label v → v < START → ⊥
   not_before label v low has below =
@@ -81,15 +81,15 @@ module _ (image : Contents) (graph : GraphParts) (bytes : AreBytes image) (forme
         ]
       ]
 
-  zero_past : (v : ℕ) → CODE + length image.code ≤ v → loaded image v ≡ 0
+  zero_past : (v : ℕ) → CODE_START + length image.code ≤ v → loaded image v ≡ 0
   zero_past v past =
-      ap (loaded image) (let z : v ≡ CODE + (v - CODE) = omega arith in z) ∙ loaded_past image bytes.size (v - CODE) (omega arith)
+      ap (loaded image) (let z : v ≡ CODE_START + (v - CODE_START) = omega arith in z) ∙ loaded_past image bytes.size (v - CODE_START) (omega arith)
 
   -- a word of code with a class's label is the gate of a target of the class
   pub label_in_class : (label v : ℕ) (ts : List ℕ) → label < 2 ^ 20 → class_of graph.lines label ≡ Some ts → HasLabel (loaded image) label v → InClass graph.lines label v
   label_in_class label v ts low class has =
       let whole = length-code_words image.code bytes.size.words in
-      elim (cases_lt v (CODE + 4 * length (code_words image.code))) [
+      elim (cases_lt v (CODE_START + 4 * length (code_words image.code))) [
         | inl inside ↦ elim (cases_lt v START) [
           | inl below ↦ absurd (not_before label v low has below)
           | inr from ↦

@@ -4,7 +4,7 @@ use Rattle.std.specs.Prelude.{slice_get, slice_index, ◌==◌, not}
 use Rattle.std.proofs.lemmas.Bool.{cases_lt, cases_eq, eqb-true, le-leb, lt-ltb, le-ltb, ne_eqb}
 use Rattle.std.proofs.lemmas.Option.{slice_get_within}
 use Rattle.rv_word.specs.Image.{Contents}
-use Rattle.rv_word.specs.Layout.{CODE, version_1}
+use Rattle.rv_word.specs.Layout.{CODE_START, version_1}
 use Rattle.rv_word.specs.Memory.{read, loaded}
 use Rattle.rv_instr.specs.declared.instr.Instr.{Instr}
 use Rattle.rv_instr.specs.declared.instr.Instr.TheVariants.{Jal}
@@ -57,10 +57,10 @@ word_at entry (suc (suc (suc k))) i other e = later k i other e
 -- the rule on the prologue, word by word
 pub prologue_word : (words : List ℕ) → ((a : ℕ) → fails_prologue words a ≡ false) → (k : ℕ) → k < 16 → prologue_word_fits k (slice_get words k) ≡ true
 prologue_word words holds k below =
-    let back : (CODE + 4 * k - CODE) / 4 ≡ k = omega arith in
-    let round : (CODE + 4 * k) % 4 ≡ 0 = omega arith in
+    let back : (CODE_START + 4 * k - CODE_START) / 4 ≡ k = omega arith in
+    let round : (CODE_START + 4 * k) % 4 ≡ 0 = omega arith in
     let rule : not (prologue_word_fits k (slice_get words k)) ≡ false =
-    rw (le-leb CODE (CODE + 4 * k) (omega arith), le-leb (CODE + 4 * k + 4) (CODE + 64) (omega arith), round, back) at (holds (CODE + 4 * k)) in
+    rw (le-leb CODE_START (CODE_START + 4 * k) (omega arith), le-leb (CODE_START + 4 * k + 4) (CODE_START + 64) (omega arith), round, back) at (holds (CODE_START + 4 * k)) in
     not_false (prologue_word_fits k (slice_get words k)) rule
   where
     not_false : (b : Bool) → not b ≡ false → b ≡ true
@@ -78,7 +78,7 @@ fits_some k (Some w) e = (w, refl, e)
 pub record HasPrologue (image : Contents) (entry : ℕ) : Type 0 where
   pub is : entry_of version_1 (code_words image.code) ≡ Some entry
   pub reaches : Reaches version_1.opening_call entry
-  pub stands : Stand (loaded image) CODE (prologue_instrs entry)
+  pub stands : Stand (loaded image) CODE_START (prologue_instrs entry)
 
 module _ (image : Contents) (bytes : AreBytes image) (holds : (a : ℕ) → fails_prologue (code_words image.code) a ≡ false) where
   pub entry_word : (w : ℕ) × (slice_get (code_words image.code) 13 ≡ Some w) × (is_link (decoded w) ≡ true)
@@ -104,10 +104,10 @@ module _ (image : Contents) (bytes : AreBytes image) (holds : (a : ℕ) → fail
   abbrev the_entry : ℕ
   the_entry = led_to 0x40000034 entry_imm.0
 
-  call_word : (i : Instr) → slice_get (prologue_instrs the_entry) 13 ≡ Some i → decoded (read 4 (loaded image) (CODE + 4 * 13)) ≡ Some i
+  call_word : (i : Instr) → slice_get (prologue_instrs the_entry) 13 ≡ Some i → decoded (read 4 (loaded image) (CODE_START + 4 * 13)) ≡ Some i
   call_word i e =
       let back : jump_offset 0x40000034 the_entry ≡ entry_imm.0 = offset_back 0x40000034 entry_imm.0 (lit< tt) entry_small in
-      let here : decoded (read 4 (loaded image) (CODE + 4 * 13)) ≡ Some (Jal 1 entry_imm.0) = ap decoded (loaded_word image 13 entry_word.0 entry_word.1) ∙ entry_imm.1 in
+      let here : decoded (read 4 (loaded image) (CODE_START + 4 * 13)) ≡ Some (Jal 1 entry_imm.0) = ap decoded (loaded_word image 13 entry_word.0 entry_word.1) ∙ entry_imm.1 in
       here ∙ ap (λ n. Some (Jal 1 n)) (sym back) ∙ e
 
   pub prologue_stands : (entry : ℕ) × HasPrologue image entry
@@ -121,7 +121,7 @@ module _ (image : Contents) (bytes : AreBytes image) (holds : (a : ℕ) → fail
         low = lit≤ tt;
         high = lit≤ tt;
         words = λ k i e. elim (cases_eq k 13) [
-          | inl call ↦ subst (λ (n : ℕ). decoded (read 4 (loaded image) (CODE + 4 * n)) ≡ Some i) (sym call)
+          | inl call ↦ subst (λ (n : ℕ). decoded (read 4 (loaded image) (CODE_START + 4 * n)) ≡ Some i) (sym call)
               (call_word i (ap (slice_get (prologue_instrs the_entry)) (sym call) ∙ e))
           | inr other ↦
               let below : k < 16 = slice_get_within (prologue_instrs the_entry) k i e in

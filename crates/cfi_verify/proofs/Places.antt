@@ -4,7 +4,7 @@ use Rattle.std.specs.Prelude.{nat_lt, ◌==◌, ◌&&◌, option_map, if◌then�
 use Rattle.std.proofs.lemmas.Bool.{cases_eq, eqb-true, eq-eqb, ne_eqb, ltb-false}
 use Rattle.std.proofs.lemmas.List.Elements.{All-drop}
 use Rattle.rv_word.specs.Image.{Contents}
-use Rattle.rv_word.specs.Layout.{CODE, version_1}
+use Rattle.rv_word.specs.Layout.{CODE_START, version_1}
 use Rattle.cfi_graph.specs.Graph.{GraphParts}
 use Rattle.cfi_unit.specs.declared.unit.Unit as U
 use Rattle.cfi_unit.specs.Place.{Place, handler, opening, closing, body, place_size}
@@ -58,7 +58,7 @@ module _ (image : Contents) (graph : GraphParts) (bytes : AreBytes image) (forme
   pub unit_facts : (a : ℕ) (u : U.Unit) → unit_at version_1 the_words a ≡ Some u → UnitHere the_words a u
   unfolding unit_at
   unit_facts a u e =
-      elim (chosen (is_start version_1 the_words a) (recognised (drop ((a - CODE) / 4) the_words) a) None (Some u) e) [
+      elim (chosen (is_start version_1 the_words a) (recognised (drop ((a - CODE_START) / 4) the_words) a) None (Some u) e) [
         | inl found ↦
             let here = unit_here the_words is_whole a found.0 in
             let same : here.0 ≡ u = let is = here.1.is in let e' : unit_at version_1 the_words a ≡ Some u = e in cc in

@@ -4,7 +4,7 @@ use Rattle.std.specs.Prelude.{nat_le, ◌==◌, ◌&&◌, not, option_and_then, 
 use Rattle.std.specs.List.{list_any}
 use Rattle.std.proofs.lemmas.Bool.{cases_eq, eqb-true, eq-eqb, and_parts, or_parts}
 use Rattle.rv_word.specs.Image.{Contents}
-use Rattle.rv_word.specs.Layout.{CODE, version_1}
+use Rattle.rv_word.specs.Layout.{CODE_START, version_1}
 use Rattle.cfi_graph.specs.declared.line.GraphLine.{GraphLine}
 use Rattle.cfi_graph.specs.declared.line.GraphLine.TheVariants.{Class, Site, Edge, Call}
 use Rattle.cfi_graph.specs.declared.line.SiteKind.{SiteKind}
@@ -73,10 +73,10 @@ module _ (image : Contents) (graph : GraphParts) (formed : IsWellFormed version_
       is_start version_1 (code_words image.code) (a + 4 * word_count u) ≡ true
   next_starts a u here going =
       let rule = (or_parts (holds_of (unit_at version_1 (code_words image.code) a) (is_bad_end (code_words image.code) a))
-      ((a == version_1.units_from) && nat_le (CODE + 4 * length (code_words image.code)) version_1.units_from) (formed.rules R.End a)).0 in
-      let bad : (a + 4 * word_count u == CODE + 4 * length (code_words image.code)) && not (is_stop u) ≡ false = rw here.is at rule in
+      ((a == version_1.units_from) && nat_le (CODE_START + 4 * length (code_words image.code)) version_1.units_from) (formed.rules R.End a)).0 in
+      let bad : (a + 4 * word_count u == CODE_START + 4 * length (code_words image.code)) && not (is_stop u) ≡ false = rw here.is at rule in
       let high = here.high in
-      elim (cases_eq (a + 4 * word_count u) (CODE + 4 * length (code_words image.code))) [
+      elim (cases_eq (a + 4 * word_count u) (CODE_START + 4 * length (code_words image.code))) [
         | inl last ↦ let stop : is_stop u ≡ true = not_false (is_stop u) (rw (eq-eqb _ _ last) at bad) in absurd (cc)
         | inr more ↦ here.next (omega arith)
       ]

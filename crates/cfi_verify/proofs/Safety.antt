@@ -5,7 +5,7 @@ use Rattle.std.specs.Prelude.{◌==◌, if◌then◌else◌}
 use Rattle.std.specs.List.{AllByRecursion}
 use Rattle.std.proofs.lemmas.Bool.{ne_eqb}
 use Rattle.rv_word.specs.Image.{Contents}
-use Rattle.rv_word.specs.Layout.{DATA_END, SHADOW, version_1}
+use Rattle.rv_word.specs.Layout.{DATA_END, SHADOW_START, version_1}
 use Rattle.rv_word.specs.Memory.{Memory, loaded}
 use Rattle.rv_code.specs.Run.{ByteChange, IsDataChange, changed, disturbed}
 use Rattle.rv_code.specs.State.{Hart, Shared, After, start_hart, start_shared, last_exit}
@@ -43,22 +43,22 @@ changed_above m (c ∷ cs) low k above =
     let below = low.0.address in
     changed_above (λ j. if j == c.address then c.byte else m j) cs low.1 k above ∙ rw (ne_eqb k c.address (λ e. omega arith)) refl
 
-own_part : IsPart version_1 SHADOW
+own_part : IsPart version_1 SHADOW_START
 own_part = record { low = lit≤ tt; high = lit≤ tt; aligned = refl; most = lit≤ tt }
 
 module _ (image : Contents) (graph : GraphParts) (bytes : AreBytes image) (formed : IsWellFormed version_1 image graph) where
   abbrev Going : List ℕ → Shared → Type 0
-  Going pending s = Context SHADOW (loaded image) (loaded image) pending s
+  Going pending s = Context SHADOW_START (loaded image) (loaded image) pending s
 
   -- what is known of a run between two steps
   data Now (before : Option Walk) (h : Hart) (s : Shared) : Type 0 where
     starting : before ≡ None → h.pc ≡ OPENING → Going [] s → Now before h s
     within : (w : Walk) (place : Place) → before ≡ Some w → place_at version_1 (code_words image.code) w.at ≡ Some place →
         Stage image graph bytes formed place w.pending → w.at < h.pc → Going w.pending s →
-        InPlace SHADOW (loaded image) place w.at w.pending w.regs h s.memory → Now before h s
+        InPlace SHADOW_START (loaded image) place w.at w.pending w.regs h s.memory → Now before h s
     arrived : (w : Walk) (place : Place) (newer : List ℕ) → before ≡ Some w → place_at version_1 (code_words image.code) w.at ≡ Some place →
         Arrived image graph bytes formed place w h.pc newer → Going newer s →
-        (h.regs 3 ≡ slot SHADOW (length newer)) ⊎ (h.pc < OPENING) → Now before h s
+        (h.regs 3 ≡ slot SHADOW_START (length newer)) ⊎ (h.pc < OPENING) → Now before h s
 
   going_on : (pending : List ℕ) (s : Shared) (cs : List ByteChange) → AllByRecursion IsDataChange cs → Going pending s → Going pending (disturbed s cs)
   going_on pending s cs low c = record {
@@ -120,7 +120,7 @@ module _ (image : Contents) (graph : GraphParts) (bytes : AreBytes image) (forme
   ended (body unit) at turn rest how = ended_unit unit at turn rest how
 
   ready_of : (place : Place) (at : ℕ) (pending : List ℕ) (h : Hart) → PlaceFacts image graph bytes formed place at → Stage image graph bytes formed place pending → h.pc ≡ at →
-      (h.regs 3 ≡ slot SHADOW (length pending)) ⊎ (h.pc ≤ OPENING) → IsReady SHADOW place pending h
+      (h.regs 3 ≡ slot SHADOW_START (length pending)) ⊎ (h.pc ≤ OPENING) → IsReady SHADOW_START place pending h
   ready_of handler at pending h facts stage e x3 = tt
   ready_of (opening entry) at pending h facts stage e x3 = tt
   ready_of closing at pending h facts stage e x3 = tt
@@ -129,7 +129,7 @@ module _ (image : Contents) (graph : GraphParts) (bytes : AreBytes image) (forme
   ready_of (body unit) at (site ∷ pending) h facts stage e (inr low) = let from = facts.low in absurd (omega arith)
 
   shadow_stands : (place : Place) (at : ℕ) (pending : List ℕ) (h : Hart) (s : Shared) → PlaceFacts image graph bytes formed place at → h.pc ≡ at → Going pending s →
-      (h.regs 3 ≡ slot SHADOW (length pending)) ⊎ (h.pc ≤ OPENING) → ShadowStands SHADOW place h.pc h s.memory pending
+      (h.regs 3 ≡ slot SHADOW_START (length pending)) ⊎ (h.pc ≤ OPENING) → ShadowStands SHADOW_START place h.pc h s.memory pending
   shadow_stands handler at pending h s facts e c x3 = tt
   shadow_stands (opening entry) at pending h s facts e c x3 = tt
   shadow_stands closing at pending h s facts e c (inl x3) = (x3, c.kept.held)
@@ -138,7 +138,7 @@ module _ (image : Contents) (graph : GraphParts) (bytes : AreBytes image) (forme
   shadow_stands (body unit) at pending h s facts e c (inr low) = let from = facts.low in absurd (omega arith)
 
   abbrev Along : Option Walk → Hart → Shared → List (List ByteChange) → Type 0
-  Along before h s changes = RunsAlong version_1 SHADOW image (code_words image.code) graph.lines before h s changes
+  Along before h s changes = RunsAlong version_1 SHADOW_START image (code_words image.code) graph.lines before h s changes
 
   -- one step from a word of a place, and then the rest of the run
   module _ (rest : List (List ByteChange)) (go_on : (before : Option Walk) (h : Hart) (s : Shared) → Now before h s → Along before h s rest) where
@@ -150,7 +150,7 @@ module _ (image : Contents) (graph : GraphParts) (bytes : AreBytes image) (forme
     ran place turn X e x = subst (λ (t : Turn). Ended place t X) (sym e) (record { may = tt; stop = x })
 
     follows : (w : Walk) (place : Place) (after : After) → place_at version_1 (code_words image.code) w.at ≡ Some place → Stage image graph bytes formed place w.pending →
-        Outcome SHADOW (loaded image) (loaded image) place w.at w.pending w.regs after →
+        Outcome SHADOW_START (loaded image) (loaded image) place w.at w.pending w.regs after →
         Ended place after.turn (Along (Some w) after.hart after.shared rest)
     follows w place after is stage (stays t c low i) =
         ran place after.turn (Along (Some w) after.hart after.shared rest) t (go_on (Some w) after.hart after.shared (within w place refl is stage low c i))
@@ -162,13 +162,13 @@ module _ (image : Contents) (graph : GraphParts) (bytes : AreBytes image) (forme
 
     step_on : (w : Walk) (place : Place) (h : Hart) (s : Shared) → place_at version_1 (code_words image.code) w.at ≡ Some place →
         Stage image graph bytes formed place w.pending → Going w.pending s →
-        InPlace SHADOW (loaded image) place w.at w.pending w.regs h s.memory → Stepped w h s
+        InPlace SHADOW_START (loaded image) place w.at w.pending w.regs h s.memory → Stepped w h s
     step_on w place h s is stage c inside =
         let facts = place_facts image graph bytes formed w.at place is in
         let may = may_stand image graph bytes formed place w.at w.pending facts (first_call place w.pending stage) in
         let stand = place_stands image graph bytes formed place w.at facts in
-        let word = place_word SHADOW (loaded image) place w.at w.pending w.regs h s.memory may inside in
-        let law = unit_law version_1 SHADOW (loaded image) (loaded image) place w.at w.pending w.regs h s own_part (loaded_small image bytes) may
+        let word = place_word SHADOW_START (loaded image) place w.at w.pending w.regs h s.memory may inside in
+        let law = unit_law version_1 SHADOW_START (loaded image) (loaded image) place w.at w.pending w.regs h s own_part (loaded_small image bytes) may
         (most_pending place w.pending stage) stand c inside in
         let e = follows w place (step version_1 h s) is stage law in
         record { begun = (place, is, word, e.may, c.kept.code); on = e.stop }
@@ -178,7 +178,7 @@ module _ (image : Contents) (graph : GraphParts) (bytes : AreBytes image) (forme
     is : place_at version_1 (code_words image.code) h.pc ≡ Some place
     stage : Stage image graph bytes formed place pending
     going : Going pending s
-    x3 : (h.regs 3 ≡ slot SHADOW (length pending)) ⊎ (h.pc ≤ OPENING)
+    x3 : (h.regs 3 ≡ slot SHADOW_START (length pending)) ⊎ (h.pc ≤ OPENING)
 
   abbrev walk_at : Hart → List ℕ → Walk
   walk_at h pending = record { at = h.pc; pending = pending; regs = h.regs }
@@ -192,12 +192,12 @@ module _ (image : Contents) (graph : GraphParts) (bytes : AreBytes image) (forme
       let c = going_on pending s cs low e.going in
       let facts = place_facts image graph bytes formed h.pc place e.is in
       let may = may_stand image graph bytes formed place h.pc pending facts (first_call place pending e.stage) in
-      let inside = place_begins SHADOW (loaded image) h.pc h now.memory place pending may (ready_of place h.pc pending h facts e.stage refl e.x3) refl in
+      let inside = place_begins SHADOW_START (loaded image) h.pc h now.memory place pending may (ready_of place h.pc pending h facts e.stage refl e.x3) refl in
       let on = step_on rest go_on (walk_at h pending) place h now e.is e.stage c inside in
-      let goes : GoesOn version_1 SHADOW (code_words image.code) graph.lines before (Some place) h now.memory (walk_at h pending) =
+      let goes : GoesOn version_1 SHADOW_START (code_words image.code) graph.lines before (Some place) h now.memory (walk_at h pending) =
       (refl, refl, arrives, shadow_stands place h.pc pending h now facts refl c e.x3) in (
         walk_at h pending,
-        subst (λ (o : Option Place). GoesOn version_1 SHADOW (code_words image.code) graph.lines before o h now.memory (walk_at h pending)) (sym e.is) goes,
+        subst (λ (o : Option Place). GoesOn version_1 SHADOW_START (code_words image.code) graph.lines before o h now.memory (walk_at h pending)) (sym e.is) goes,
         on.begun,
         on.on,
       )
@@ -224,12 +224,12 @@ module _ (image : Contents) (graph : GraphParts) (bytes : AreBytes image) (forme
       let c' = going_on w.pending s cs low.0 c in
       let facts = place_facts image graph bytes formed w.at place is in
       let may = may_stand image graph bytes formed place w.at w.pending facts (first_call place w.pending stage) in
-      let word = place_word SHADOW (loaded image) place w.at w.pending w.regs h s.memory may i in
+      let word = place_word SHADOW_START (loaded image) place w.at w.pending w.regs h s.memory may i in
       let size = word.1 in let here = word.2 in
-      let inside = in_place_changed SHADOW s.memory now.memory (λ k from below. changed_above s.memory cs low.0 k (omega arith)) (loaded image) place w.at w.pending w.regs h i in
+      let inside = in_place_changed SHADOW_START s.memory now.memory (λ k from below. changed_above s.memory cs low.0 k (omega arith)) (loaded image) place w.at w.pending w.regs h i in
       let on = step_on rest (runs rest low.1) w place h now is stage c' inside in
       let nothing : place_at version_1 (code_words image.code) h.pc ≡ None = nothing_inside image graph bytes formed place w.at h.pc facts after (omega arith) in
-      (w, subst (λ (o : Option Place). GoesOn version_1 SHADOW (code_words image.code) graph.lines before o h now.memory w) (sym nothing) b, on.begun, on.on)
+      (w, subst (λ (o : Option Place). GoesOn version_1 SHADOW_START (code_words image.code) graph.lines before o h now.memory w) (sym nothing) b, on.begun, on.on)
   runs (cs ∷ rest) low before h s (arrived w place newer b is a c x3) =
       enter rest (runs rest low.1) before h s cs low.0 a.settled.place newer
       (record { is = a.settled.is; stage = a.settled.stage; going = c; x3 = past x3 })

@@ -3,7 +3,7 @@ use Rattle.std.proofs.Common.{◌≡◌, ℕ, zero, suc, ◌+◌, ◌-◌, ◌*�
 use Rattle.std.specs.Prelude.{slice_get, option_map}
 use Rattle.std.proofs.lemmas.Option.{slice_get-map}
 use Rattle.rv_word.specs.Image.{Contents}
-use Rattle.rv_word.specs.Layout.{CODE}
+use Rattle.rv_word.specs.Layout.{CODE_START}
 use Rattle.rv_word.specs.Memory.{read, loaded}
 use Rattle.rv_instr.specs.InRange.{IsInstr}
 use Rattle.rv_instr.specs.declared.instr.Instr.{Instr}
@@ -49,17 +49,17 @@ instrs_counted V.Return at = refl
 module _ (image : Contents) where
   -- a code word that is an instruction's is fetched as it
   pub fetched : (j : ℕ) (i : Instr) → IsInstr i → slice_get (code_words image.code) j ≡ Some (code_of i) →
-      decoded (read 4 (loaded image) (CODE + 4 * j)) ≡ Some i
+      decoded (read 4 (loaded image) (CODE_START + 4 * j)) ≡ Some i
   fetched j i range e = ap decoded (loaded_word image j (code_of i) e) ∙ decoded-code_of i range
 
   unit_word : (a : ℕ) (u : U.Unit) → UnitHere (code_words image.code) a u → (k : ℕ) (i : Instr) → slice_get (instrs_of u a) k ≡ Some i →
-      slice_get (code_words image.code) ((a - CODE) / 4 + k) ≡ Some (code_of i)
+      slice_get (code_words image.code) ((a - CODE_START) / 4 + k) ≡ Some (code_of i)
   unfolding words_of
   unit_word a u here k i e =
       let b = here.begins in
       let word : slice_get (words_of u a) k ≡ Some (code_of i) = slice_get-map code_of (instrs_of u a) k ∙ ap (option_map code_of) e in
-      sym (get_dropped ((a - CODE) / 4) (code_words image.code) k)
-      ∙ get_taken (word_count u) (drop ((a - CODE) / 4) (code_words image.code)) k (code_of i) (ap (λ ws. slice_get ws k) b.words_are ∙ word)
+      sym (get_dropped ((a - CODE_START) / 4) (code_words image.code) k)
+      ∙ get_taken (word_count u) (drop ((a - CODE_START) / 4) (code_words image.code)) k (code_of i) (ap (λ ws. slice_get ws k) b.words_are ∙ word)
 
   -- the unit at an address stands there
   pub unit_stands : AreBytes image → (a : ℕ) (u : U.Unit) → UnitHere (code_words image.code) a u → Stand (loaded image) a (instrs_of u a)
@@ -73,7 +73,7 @@ module _ (image : Contents) where
         low = omega arith;
         high = omega arith;
         words = λ k i e.
-            let at : CODE + 4 * ((a - CODE) / 4 + k) ≡ a + 4 * k = omega arith in
+            let at : CODE_START + 4 * ((a - CODE_START) / 4 + k) ≡ a + 4 * k = omega arith in
             ap (λ b. decoded (read 4 (loaded image) b)) (sym at)
-            ∙ fetched ((a - CODE) / 4 + k) i (each_instr (instrs_of u a) (unit_instrs u a here.begins.fits) k i e) (unit_word a u here k i e);
+            ∙ fetched ((a - CODE_START) / 4 + k) i (each_instr (instrs_of u a) (unit_instrs u a here.begins.fits) k i e) (unit_word a u here k i e);
       }

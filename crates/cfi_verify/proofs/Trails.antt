@@ -2,7 +2,7 @@
 use Rattle.std.proofs.Common.{◌≡◌, ℕ, inl, inr, List, [], ◌∷◌, subst, Option, Some, None}
 use Rattle.std.specs.List.{AllByRecursion}
 use Rattle.rv_word.specs.Image.{Contents}
-use Rattle.rv_word.specs.Layout.{Profile, SHADOW, version_1}
+use Rattle.rv_word.specs.Layout.{Profile, SHADOW_START, version_1}
 use Rattle.rv_code.specs.Run.{ByteChange, disturbed_step}
 use Rattle.rv_code.specs.State.{Hart, Shared, start_hart, start_shared}
 use Rattle.rv_code.specs.declared.turn.Turn.{Turn}
@@ -58,4 +58,4 @@ module _ (p : Profile) (part : ℕ) (image : Contents) (words : List ℕ) (lines
 
 pub safe_stays : SafeStaysInPlace
 safe_stays image graph input changes safe low =
-    stays version_1 SHADOW image (code_words image.code) graph.lines changes None 0 start_hart (start_shared image input) tt (safe input changes low)
+    stays version_1 SHADOW_START image (code_words image.code) graph.lines changes None 0 start_hart (start_shared image input) tt (safe input changes low)

@@ -1,7 +1,7 @@
 -- The walk of a run along a graph is a list of steps of the graph walk.
 use Rattle.std.proofs.Common.{◌≡◌, ℕ, inl, inr, List, [], ◌∷◌, subst, Option, Some, None}
 use Rattle.rv_word.specs.Image.{Contents}
-use Rattle.rv_word.specs.Layout.{Profile, SHADOW, version_1}
+use Rattle.rv_word.specs.Layout.{Profile, SHADOW_START, version_1}
 use Rattle.rv_code.specs.Run.{ByteChange, disturbed_step}
 use Rattle.rv_code.specs.State.{Hart, Shared, start_hart, start_shared}
 use Rattle.rv_code.specs.declared.turn.Turn.{Turn}
@@ -76,4 +76,4 @@ module _ (p : Profile) (part : ℕ) (image : Contents) (words : List ℕ) (lines
 
 pub safe_walks : SafeWalksGraph
 safe_walks image graph input changes safe low =
-    first_steps version_1 SHADOW image (code_words image.code) graph.lines changes start_hart (start_shared image input) (safe input changes low)
+    first_steps version_1 SHADOW_START image (code_words image.code) graph.lines changes start_hart (start_shared image input) (safe input changes low)

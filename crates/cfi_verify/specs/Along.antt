@@ -2,7 +2,7 @@
 -- at which something starts: the opening, the closing, a handler or a unit.
 use Rattle.std.specs.Prelude.{◌≡◌, ◌≢◌, ℕ, ◌<◌, ◌⊎◌, List, [], ◌∷◌, length, Option, Some, None}
 use Rattle.std.specs.List.{AllByRecursion}
-use Rattle.rv_word.specs.Layout.{SHADOW, Profile, version_1}
+use Rattle.rv_word.specs.Layout.{SHADOW_START, Profile, version_1}
 use Rattle.rv_word.specs.Image.{Contents}
 use Rattle.rv_word.specs.Memory.{Memory, loaded}
 use Rattle.rv_instr.specs.Registers.{Registers, get_reg}
@@ -130,4 +130,4 @@ AreDataChanges changes = AllByRecursion (AllByRecursion IsDataChange) changes
 abbrev pub IsSafe : Contents → GraphParts → Type 0
 IsSafe image graph =
     (input : List ℕ) (changes : List (List ByteChange)) → AreDataChanges changes
-    → RunsAlong version_1 SHADOW image (code_words image.code) graph.lines None start_hart (start_shared image input) changes
+    → RunsAlong version_1 SHADOW_START image (code_words image.code) graph.lines None start_hart (start_shared image input) changes

@@ -2,7 +2,7 @@
 -- but Length is a test of an address: whether the rule fails there.
 use Rattle.std.specs.Prelude.{◌≡◌, ◌≢◌, ℕ, ◌+◌, ◌-◌, ◌*◌, ◌/◌, ◌%◌, ◌<◌, ◌==◌, nat_lt, nat_le, ◌&&◌, ◌||◌, not, Bool, true, false, List, length, map, slice_get, slice_index, Option, Some, None, is_some, option_and_then, if◌then◌else◌}
 use Rattle.std.specs.List.{list_any}
-use Rattle.rv_word.specs.Layout.{CODE, Profile, lies_within}
+use Rattle.rv_word.specs.Layout.{CODE_START, Profile, lies_within}
 use Rattle.rv_word.specs.Image.{Contents}
 use Rattle.rv_instr.specs.declared.instr.Instr.{Instr}
 use Rattle.rv_instr.specs.declared.instr.Instr.TheVariants.{Jal}
@@ -91,8 +91,8 @@ prologue_word_fits k (Some word) =
 -- Prologue: a word of the first sixteen is missing or is not the prologue's
 abbrev pub fails_prologue : List ℕ → ℕ → Bool
 fails_prologue words a =
-    lies_within CODE 64 a 4 && (a % 4 == 0)
-    && not (prologue_word_fits ((a - CODE) / 4) (slice_get words ((a - CODE) / 4)))
+    lies_within CODE_START 64 a 4 && (a % 4 == 0)
+    && not (prologue_word_fits ((a - CODE_START) / 4) (slice_get words ((a - CODE_START) / 4)))
 
 -- Unit: the split ends here, before the code does
 abbrev pub fails_unit : Profile → List ℕ → ℕ → Bool
@@ -158,12 +158,12 @@ fails_astray p words lines a = holds_of (unit_at p words a) (is_astray lines a)
 
 -- End: the unit that ends the code is not a stop, or there is no unit
 abbrev pub is_bad_end : List ℕ → ℕ → U.Unit → Bool
-is_bad_end words a unit = (a + 4 * word_count unit == CODE + 4 * length words) && not (is_stop unit)
+is_bad_end words a unit = (a + 4 * word_count unit == CODE_START + 4 * length words) && not (is_stop unit)
 
 abbrev pub fails_end : Profile → List ℕ → ℕ → Bool
 fails_end p words a =
     holds_of (unit_at p words a) (is_bad_end words a)
-    || ((a == p.units_from) && nat_le (CODE + 4 * length words) p.units_from)
+    || ((a == p.units_from) && nat_le (CODE_START + 4 * length words) p.units_from)
 
 abbrev pub fails : Rule → Profile → List ℕ → List GraphLine → ℕ → Bool
 fails R.Prologue p words lines a = fails_prologue words a

@@ -1,7 +1,7 @@
 -- The units of an image's code: the first begins where the profile says, each next one where the
 -- one before ends. The prologue's parts count as units too.
 use Rattle.std.specs.Prelude.{ℕ, zero, suc, ◌+◌, ◌-◌, ◌*◌, ◌/◌, ◌%◌, ◌^◌, ◌==◌, nat_le, ◌&&◌, ◌||◌, Bool, true, false, List, [], ◌∷◌, drop, slice_get, Option, Some, None, option_map, option_and_then, if◌then◌else◌}
-use Rattle.rv_word.specs.Layout.{CODE, Profile}
+use Rattle.rv_word.specs.Layout.{CODE_START, Profile}
 use Rattle.rv_code.specs.Decode.{decoded}
 use Rattle.cfi_unit.specs.declared.unit.Unit as U
 use Rattle.cfi_unit.specs.Place.{Place, handler, opening, closing, body}
@@ -27,7 +27,7 @@ starts zero (word ∷ words) at =
 
 -- the words of a code from the first unit on
 abbrev pub unit_words : Profile → List ℕ → List ℕ
-unit_words p words = drop ((p.units_from - CODE) / 4) words
+unit_words p words = drop ((p.units_from - CODE_START) / 4) words
 
 abbrev pub unit_starts : Profile → List ℕ → List Bool
 unit_starts p words = starts 0 (unit_words p words) p.units_from
@@ -45,11 +45,11 @@ is_start p words a =
 
 -- the unit that starts at an address
 unfoldable pub unit_at : Profile → List ℕ → ℕ → Option U.Unit
-unit_at p words a = if is_start p words a then recognised (drop ((a - CODE) / 4) words) a else None
+unit_at p words a = if is_start p words a then recognised (drop ((a - CODE_START) / 4) words) a else None
 
 -- where the opening's call leads
 abbrev pub entry_of : Profile → List ℕ → Option ℕ
-entry_of p words = target_in p.opening_call (option_and_then decoded (slice_get words ((p.opening_call - CODE) / 4)))
+entry_of p words = target_in p.opening_call (option_and_then decoded (slice_get words ((p.opening_call - CODE_START) / 4)))
 
 abbrev pub is_handler : ℕ → Bool
 is_handler a = a == BAD_TARGET || (a == BAD_RETURN || a == DEEP)

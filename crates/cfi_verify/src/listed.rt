@@ -1,5 +1,5 @@
 ghost use Rattle.std.specs.Prelude.{◌≡◌, ◌≢◌, ◌+◌, ◌*◌, ℕ, IfOk, Some, false, length, slice_get};
-ghost use Rattle.rv_word.specs.Layout.{CODE};
+ghost use Rattle.rv_word.specs.Layout.{CODE_START};
 ghost use Rattle.cfi_graph.specs.declared.line.Key.TheVariants.{Address};
 ghost use Rattle.cfi_verify.specs.Lines.{KnowsUnlisted};
 
@@ -23,7 +23,7 @@ pub(crate) fn listed(alloc: Global, graph: &Graph, words: usize) -> Result<Vec<b
 fn set_flag(flags: &mut [bool], key: Key)
     ensures len { length flags.new ≡ length flags.old }
     ensures unset { (k : ℕ) → slice_get flags.new k ≡ Some false →
-        (slice_get flags.old k ≡ Some false) × (key ≢ Address (CODE + 4 * k)) }
+        (slice_get flags.old k ≡ Some false) × (key ≢ Address (CODE_START + 4 * k)) }
 {
     if let Key::Address(address) = key {
         let index = (address.saturating_sub(CODE_START) / 4) as usize;

@@ -3,7 +3,7 @@ use Rattle.std.proofs.Common.{◌≡◌, ℕ, ◌*◌, ◌-◌, ◌/◌, ◌^◌
 use Rattle.std.specs.Prelude.{◌==◌, ◌||◌, true, option_map}
 use Rattle.std.proofs.lemmas.Bool.{eqb-true, or_cases}
 use Rattle.rv_word.specs.Image.{Contents, IsImageSize}
-use Rattle.rv_word.specs.Layout.{CODE, version_1}
+use Rattle.rv_word.specs.Layout.{CODE_START, version_1}
 use Rattle.cfi_unit.specs.declared.unit.Unit as U
 use Rattle.cfi_unit.specs.Place.{Place, handler, opening, closing, body}
 use Rattle.cfi_unit.specs.Prologue.{OPENING}
@@ -18,7 +18,7 @@ use Rattle.cfi_verify.proofs.Marks.{cases_Option}
 pub unit_within : (words : List ℕ) (a : ℕ) (u : U.Unit) → unit_at version_1 words a ≡ Some u → IsInUnits words a
 unfolding unit_at
 unit_within words a u e =
-    elim (chosen (is_start version_1 words a) (recognised (drop ((a - CODE) / 4) words) a) None (Some u) e) [
+    elim (chosen (is_start version_1 words a) (recognised (drop ((a - CODE_START) / 4) words) a) None (Some u) e) [
       | inl found ↦ start_within words a found.0
       | inr none ↦ absurd (cc)
     ]
@@ -48,7 +48,7 @@ stands words a place e =
       ]
     ]
 
-handler_lies : (a : ℕ) → is_handler a ≡ true → (CODE ≤ a) × (a < 2 ^ 32)
+handler_lies : (a : ℕ) → is_handler a ≡ true → (CODE_START ≤ a) × (a < 2 ^ 32)
 handler_lies a e =
     elim (or_cases (a == BAD_TARGET) (a == BAD_RETURN || a == DEEP) e) [
       | inl h ↦ let is = eqb-true a BAD_TARGET h in (omega arith, omega arith)
@@ -58,7 +58,7 @@ handler_lies a e =
       ]
     ]
 
-pub place_from : (words : List ℕ) (a : ℕ) (place : Place) → place_at version_1 words a ≡ Some place → CODE ≤ a
+pub place_from : (words : List ℕ) (a : ℕ) (place : Place) → place_at version_1 words a ≡ Some place → CODE_START ≤ a
 place_from words a place e =
     elim (stands words a place e) [
       | inl h ↦ (handler_lies a h).0

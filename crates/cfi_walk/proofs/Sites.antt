@@ -1,6 +1,6 @@
 -- A step leaves sites pending: what it puts on top lies above the handlers.
 use Rattle.std.proofs.Common.{◌≡◌, ℕ, ◌+◌, ◌<◌, ◌≤◌, inl, inr, List, [], ◌∷◌, sym, subst, arith}
-use Rattle.rv_word.specs.Layout.{CODE}
+use Rattle.rv_word.specs.Layout.{CODE_START}
 use Rattle.cfi_graph.specs.declared.line.GraphLine.{GraphLine}
 use Rattle.cfi_unit.specs.declared.unit.Unit as U
 use Rattle.cfi_unit.specs.declared.unit.Unit.TheVariants as V
@@ -33,7 +33,7 @@ return_keeps [] v after h g = same [] after h g.1
 return_keeps (site ∷ pending) v after h (inl g) = same pending after h.1 g.1
 return_keeps (site ∷ pending) v after h (inr g) = same (site ∷ pending) after h g.1
 
-unit_keeps : (lines : List GraphLine) (unit : U.Unit) (at : ℕ) (pending : List ℕ) (v : ℕ) (after : List ℕ) → CODE ≤ at → AreSites pending → UnitGoes lines unit at pending v after → AreSites after
+unit_keeps : (lines : List GraphLine) (unit : U.Unit) (at : ℕ) (pending : List ℕ) (v : ℕ) (after : List ℕ) → CODE_START ≤ at → AreSites pending → UnitGoes lines unit at pending v after → AreSites after
 unit_keeps lines (V.Gate label) at pending v after low h g = same pending after h g.1
 unit_keeps lines (V.Plain instr) at pending v after low h g = same pending after h g.1
 unit_keeps lines (V.Branch op rs1 rs2 target) at pending v after low h (inl g) = same pending after h g.1
@@ -48,7 +48,7 @@ unit_keeps lines (V.Ijump rs1 imm label) at pending v after low h g = jump_keeps
 unit_keeps lines (V.Icall rs1 imm label) at pending v after low h g = computed_call_keeps lines (at + 80) label pending v after (omega arith) h g
 unit_keeps lines V.Return at pending v after low h g = return_keeps pending v after h g
 
-place_keeps : (lines : List GraphLine) (place : Place) (at : ℕ) (pending : List ℕ) (v : ℕ) (after : List ℕ) → CODE ≤ at → AreSites pending → Goes lines place at pending v after → AreSites after
+place_keeps : (lines : List GraphLine) (place : Place) (at : ℕ) (pending : List ℕ) (v : ℕ) (after : List ℕ) → CODE_START ≤ at → AreSites pending → Goes lines place at pending v after → AreSites after
 place_keeps lines handler at pending v after low h g = absurd g
 place_keeps lines (opening entry) at pending v after low h g = call_keeps (at + 44) entry pending v after (omega arith) h g
 place_keeps lines closing at pending v after low h g = absurd g

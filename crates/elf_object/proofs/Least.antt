@@ -3,7 +3,7 @@ use Rattle.std.proofs.Common.{◌≡◌, ◌==◌, ℕ, zero, suc, ◌+◌, ◌<
 use Rattle.std.proofs.lemmas.Bool.{cases_lt, cases_Bool, eq-eqb, ne_eqb}
 use Rattle.elf_tables.proofs.Endings.{cases_Option}
 use Rattle.elf_tables.proofs.Bounds.{first_bound, first_found}
-use Rattle.elf_tables.specs.Least.{first_below}
+use Rattle.elf_tables.specs.First.{first_below}
 use Rattle.elf_object.specs.Least.{is_number, least_below, lesser}
 
 -- where none is found the test fails at each number below the bound

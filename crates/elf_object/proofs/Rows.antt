@@ -2,7 +2,7 @@
 use Rattle.std.proofs.Common.{◌≡◌, ◌-◌, ℕ, List, [], ◌∷◌, ◌++◌, replicate, Some, None, refl}
 use Rattle.elf_object.specs.declared.fault.ObjectFault.TheVariants.{NotElf, NotRelocatable, Flags, Truncated, BadTable}
 use Rattle.elf_bytes.specs.Fields.{number_at}
-use Rattle.elf_tables.specs.Least.{first_below}
+use Rattle.elf_tables.specs.First.{first_below}
 use Rattle.elf_tables.specs.Section.{section_header_at, content, section_bytes}
 use Rattle.elf_tables.specs.Kept.{is_kept}
 use Rattle.elf_tables.specs.Table.{symbol_table}

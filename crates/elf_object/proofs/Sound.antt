@@ -5,7 +5,7 @@ use Rattle.std.proofs.lemmas.Bool.{cases_Bool, or_parts, ltb-false}
 use Rattle.std.proofs.lemmas.List.{length-take-le, length-drop}
 use Rattle.elf_tables.specs.declared.header.SectionHeader.{SectionHeader}
 use Rattle.elf_object.specs.declared.fault.ObjectFault.TheVariants.{BadTable, Truncated}
-use Rattle.elf_tables.specs.Least.{first_below}
+use Rattle.elf_tables.specs.First.{first_below}
 use Rattle.elf_tables.specs.Header.{e_shnum, e_shoff, section_headers_end}
 use Rattle.elf_tables.specs.Section.{section_header, section_name, is_in_file, content}
 use Rattle.elf_object.specs.Kind.{is_wrong_kind}

@@ -1,6 +1,6 @@
 ghost use Rattle.std.specs.Prelude.{◌≡◌, ◌<◌, ◌≤◌, None, Some, IfOk, OnOk, IfErr, length};
 ghost use Rattle.elf_tables.specs.Header.{e_shnum};
-ghost use Rattle.elf_tables.specs.Least.{first_below};
+ghost use Rattle.elf_tables.specs.First.{first_below};
 ghost use Rattle.elf_object.specs.Fault.{is_cut, cut_section, truncated};
 
 use crate::fault::ObjectFault;

@@ -1,6 +1,6 @@
 ghost use Rattle.std.specs.Prelude.{◌≡◌};
 ghost use Rattle.std.specs.Option.{option_or};
-ghost use Rattle.elf_tables.specs.Least.{first_below};
+ghost use Rattle.elf_tables.specs.First.{first_below};
 ghost use Rattle.elf_tables.specs.Symbol.{symbol_count};
 ghost use Rattle.elf_object.specs.Symbol.{is_wrong_symbol};
 ghost use Rattle.elf_object.specs.Stray.{stray_symbol};

@@ -1,6 +1,6 @@
 ghost use Rattle.std.specs.Prelude.{◌≡◌, ◌<◌, true, is_some};
 ghost use Rattle.elf_tables.specs.Header.{e_shnum};
-ghost use Rattle.elf_tables.specs.Least.{first_below};
+ghost use Rattle.elf_tables.specs.First.{first_below};
 ghost use Rattle.elf_object.specs.Least.{is_number};
 ghost use Rattle.elf_tables.specs.Section.{section_header};
 ghost use Rattle.elf_tables.specs.Table.{is_symbol_table, relocates, symbol_table};

@@ -2,7 +2,7 @@
 use Rattle.std.proofs.Common.{◌≡◌, ◌==◌, ℕ, negsuc, List, [], ◌∷◌, ◌++◌, replicate, true, false, Some, None, refl}
 use Rattle.elf_tables.specs.declared.header.SectionHeader.{SectionHeader}
 use Rattle.elf_bytes.specs.Fields.{number_at}
-use Rattle.elf_tables.specs.Least.{first_below}
+use Rattle.elf_tables.specs.First.{first_below}
 use Rattle.elf_tables.specs.Kept.{is_kept_by}
 use Rattle.elf_tables.specs.Symbol.{symbol_in}
 use Rattle.elf_tables.specs.Relocation.{relocation_in}

@@ -1,4 +1,4 @@
-pub mod Least
+pub mod First
 pub mod Header
 pub mod Section
 pub mod Names

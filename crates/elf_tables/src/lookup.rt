@@ -1,7 +1,7 @@
 ghost use Rattle.std.specs.Prelude.{◌≡◌, ◌+◌, ◌*◌, ◌<◌, ◌≤◌, ◌/◌, unwrap_or, is_some, IfOk, Some, [], length};
 ghost use Rattle.elf_bytes.specs.Fields.{string_at};
 ghost use Rattle.elf_tables.specs.Header.{e_shnum};
-ghost use Rattle.elf_tables.specs.Least.{first_below};
+ghost use Rattle.elf_tables.specs.First.{first_below};
 ghost use Rattle.elf_tables.specs.Section.{content, section_header, section_name, section_names};
 ghost use Rattle.elf_tables.specs.Kept.{is_kept, is_kept_by};
 ghost use Rattle.elf_tables.specs.Table.{is_symbol_table, symbol_table};

@@ -1,7 +1,7 @@
 -- A step is the execution of the instruction that is fetched.
 use Rattle.std.proofs.Common.{◌≡◌, ℕ, ◌+◌, ◌%◌, ◌≤◌, Some, None, true, arith}
 use Rattle.std.proofs.lemmas.Bool.Decides.{nat_tests}
-use Rattle.rv_word.specs.Layout.{Profile, CODE, CODE_SIZE}
+use Rattle.rv_word.specs.Layout.{Profile, CODE_START, CODE_SIZE}
 use Rattle.rv_word.specs.Memory.{read}
 use Rattle.rv_instr.specs.declared.instr.Instr.{Instr}
 use Rattle.rv_code.specs.Decode.{decoded}
@@ -20,5 +20,5 @@ unfolding step
 by_step R p h s i f r = rw (f.going, f.place, f.word) r
 
 -- a word of code may be fetched
-pub can_fetch_word : (a : ℕ) → a % 4 ≡ 0 → CODE ≤ a → a + 4 ≤ CODE + CODE_SIZE → can_fetch a ≡ true
+pub can_fetch_word : (a : ℕ) → a % 4 ≡ 0 → CODE_START ≤ a → a + 4 ≤ CODE_START + CODE_SIZE → can_fetch a ≡ true
 can_fetch_word a round low high = grind (arith, nat_tests)

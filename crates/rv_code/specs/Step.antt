@@ -2,7 +2,7 @@
 -- decode, execute. A stop changes nothing but what an exit's event adds.
 use Rattle.std.specs.Prelude.{ℕ, ◌+◌, ◌*◌, ◌/◌, ◌%◌, ◌^◌, ◌==◌, ◌&&◌, Bool, Option, Some, None, if◌then◌else◌}
 use Rattle.rv_word.specs.Bits.{sign_extended, wrap}
-use Rattle.rv_word.specs.Layout.{Profile, CODE, CODE_SIZE, lies_within, can_load, can_store}
+use Rattle.rv_word.specs.Layout.{Profile, CODE_START, CODE_SIZE, lies_within, can_load, can_store}
 use Rattle.rv_word.specs.Memory.{read, write}
 use Rattle.rv_instr.specs.Registers.{Registers, get_reg, set_reg}
 use Rattle.rv_instr.specs.declared.instr.Instr.{Instr}
@@ -73,7 +73,7 @@ exec p Ebreak h s = stops h s (Break h.pc)
 
 -- the instruction at a pc: a pc that is no multiple of 4 in code has none
 abbrev pub can_fetch : ℕ → Bool
-can_fetch pc = (pc % 4 == 0) && lies_within CODE CODE_SIZE pc 4
+can_fetch pc = (pc % 4 == 0) && lies_within CODE_START CODE_SIZE pc 4
 
 abbrev pub exec_decoded : Profile → Option Instr → Hart → Shared → After
 exec_decoded p None h s = stops h s (Illegal h.pc)

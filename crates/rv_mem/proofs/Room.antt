@@ -7,7 +7,7 @@ use Rattle.std.proofs.lemmas.List.{get_or-set_other}
 use Rattle.std.proofs.Math.Path.{fun_ext}
 use Rattle.std.specs.BTreeMap.{BTreeMap, get, Updates}
 use Rattle.std.specs.Ordering.{nat_cmp, is_eq}
-use Rattle.rv_word.specs.Layout.{DATA_END, CODE, CODE_SIZE, SHADOW, PART_SIZE, lies_within}
+use Rattle.rv_word.specs.Layout.{DATA_END, CODE_START, CODE_SIZE, SHADOW_START, PART_SIZE, lies_within}
 use Rattle.rv_mem.specs.Cells.{Cells, memory_of, has_room, with_byte, written_at}
 
 pub compared_same : (a k : ℕ) → a ≡ k → is_eq (nat_cmp a k) ≡ true
@@ -34,12 +34,12 @@ memory_kept code shadow m n same = fun_ext (λ k. rw (same k) refl)
 
 -- a byte set among the written ones, at an address that is in no other array
 pub memory_of-written : (code shadow : List ℕ) (m n : BTreeMap ℕ ℕ) (a b : ℕ) → Updates nat_cmp m n a (Some b) →
-    lies_within CODE CODE_SIZE a 1 ≡ false → lies_within SHADOW PART_SIZE a 1 ≡ false →
+    lies_within CODE_START CODE_SIZE a 1 ≡ false → lies_within SHADOW_START PART_SIZE a 1 ≡ false →
     memory_of (record { code = code; shadow = shadow; written = n.entries }) ≡ with_byte (memory_of (record { code = code; shadow = shadow; written = m.entries })) a b
 unfolding memory_of with_byte
 memory_of-written code shadow m n a b new code_free shadow_free = fun_ext (λ k.
     elim (cases_eq a k) [
-      | inl e ↦ rw (new.0 k, compared_same a k e, eq-eqb k a (sym e), subst (λ j. lies_within CODE CODE_SIZE j 1 ≡ false) e code_free, subst (λ j. lies_within SHADOW PART_SIZE j 1 ≡ false) e shadow_free) refl
+      | inl e ↦ rw (new.0 k, compared_same a k e, eq-eqb k a (sym e), subst (λ j. lies_within CODE_START CODE_SIZE j 1 ≡ false) e code_free, subst (λ j. lies_within SHADOW_START PART_SIZE j 1 ≡ false) e shadow_free) refl
       | inr n ↦ rw (new.0 k, compared_apart a k n, ne_eqb k a (λ z. n (sym z))) refl
     ])
 
@@ -50,12 +50,12 @@ none_from (Some x) e = absurd (cc)
 pub absent_key : (m : BTreeMap ℕ ℕ) (a : ℕ) → is_some (get nat_cmp m a) ≡ false → get nat_cmp m a ≡ None
 absent_key m a e = none_from (get nat_cmp m a) e
 
-data_no_code : (a : ℕ) → lies_within 0 DATA_END a 1 ≡ true → lies_within CODE CODE_SIZE a 1 ≡ false
+data_no_code : (a : ℕ) → lies_within 0 DATA_END a 1 ≡ true → lies_within CODE_START CODE_SIZE a 1 ≡ false
 data_no_code a e = grind (arith, nat_tests)
 
 -- where there is room and no shadow, a data byte was written
-pub room_in_data : (cells : Cells) (a : ℕ) → lies_within SHADOW PART_SIZE a 1 ≡ false → IsTrue (has_room cells a) →
-    (lies_within CODE CODE_SIZE a 1 ≡ false) × (is_some (written_at cells.written a) ≡ true)
+pub room_in_data : (cells : Cells) (a : ℕ) → lies_within SHADOW_START PART_SIZE a 1 ≡ false → IsTrue (has_room cells a) →
+    (lies_within CODE_START CODE_SIZE a 1 ≡ false) × (is_some (written_at cells.written a) ≡ true)
 unfolding has_room
 room_in_data cells a shadow_free room =
     let both : (lies_within 0 DATA_END a 1 && is_some (written_at cells.written a)) ≡ true = rw shadow_free at room in
@@ -70,7 +70,7 @@ inserted m n a b (Ok v) ok err there = ok
 inserted m n a b (Err e) ok err there = absurd (let no : is_some (get nat_cmp m a) ≡ false = ap is_some err in cc)
 
 -- a byte set in shadow
-pub memory_of-shadow : (code shadow : List ℕ) (written : List (ℕ × ℕ)) (a b : ℕ) → lies_within SHADOW PART_SIZE a 1 ≡ true → length shadow ≡ PART_SIZE →
-    memory_of (record { code = code; shadow = set shadow (a - SHADOW) b; written = written }) ≡ with_byte (memory_of (record { code = code; shadow = shadow; written = written })) a b
+pub memory_of-shadow : (code shadow : List ℕ) (written : List (ℕ × ℕ)) (a b : ℕ) → lies_within SHADOW_START PART_SIZE a 1 ≡ true → length shadow ≡ PART_SIZE →
+    memory_of (record { code = code; shadow = set shadow (a - SHADOW_START) b; written = written }) ≡ with_byte (memory_of (record { code = code; shadow = shadow; written = written })) a b
 unfolding memory_of with_byte
-memory_of-shadow code shadow written a b inside whole = fun_ext (λ k. grind (arith, nat_tests, get_or-set_at shadow (a - SHADOW) (k - SHADOW) b 0, get_or-set_other shadow (a - SHADOW) (k - SHADOW) b 0))
+memory_of-shadow code shadow written a b inside whole = fun_ext (λ k. grind (arith, nat_tests, get_or-set_at shadow (a - SHADOW_START) (k - SHADOW_START) b 0, get_or-set_other shadow (a - SHADOW_START) (k - SHADOW_START) b 0))

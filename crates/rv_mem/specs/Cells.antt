@@ -3,7 +3,7 @@ use Rattle.std.specs.Prelude.{◌≡◌, ℕ, ◌+◌, ◌-◌, ◌≤◌, ◌<�
 use Rattle.std.specs.BTreeMap.{is_at}
 use Rattle.std.specs.Map.{lookup}
 use Rattle.std.specs.Ordering.{nat_cmp}
-use Rattle.rv_word.specs.Layout.{DATA_END, CODE, CODE_SIZE, SHADOW, PART_SIZE, lies_within}
+use Rattle.rv_word.specs.Layout.{DATA_END, CODE_START, CODE_SIZE, SHADOW_START, PART_SIZE, lies_within}
 use Rattle.rv_word.specs.Memory.{Memory}
 
 -- the bytes of code and of shadow, and those data bytes that were ever written, each with its address
@@ -19,13 +19,13 @@ written_at entries a = lookup (is_at (nat_cmp a)) entries
 -- what memory holds at each address: 0 where nothing was written
 unfoldable pub memory_of : Cells → Memory
 memory_of cells = λ a.
-    if lies_within CODE CODE_SIZE a 1 then slice_index cells.code (a - CODE) else
-    if lies_within SHADOW PART_SIZE a 1 then slice_index cells.shadow (a - SHADOW) else
+    if lies_within CODE_START CODE_SIZE a 1 then slice_index cells.code (a - CODE_START) else
+    if lies_within SHADOW_START PART_SIZE a 1 then slice_index cells.shadow (a - SHADOW_START) else
     unwrap_or (written_at cells.written a) 0
 
 -- whether a byte can be set at an address without taking memory
 unfoldable pub has_room : Cells → ℕ → Bool
-has_room cells a = lies_within SHADOW PART_SIZE a 1 || lies_within 0 DATA_END a 1 && is_some (written_at cells.written a)
+has_room cells a = lies_within SHADOW_START PART_SIZE a 1 || lies_within 0 DATA_END a 1 && is_some (written_at cells.written a)
 
 -- the same for the `n` bytes from `a` on
 abbrev pub HasRoom : Cells → ℕ → ℕ → Type 0

@@ -1,5 +1,5 @@
 ghost use Rattle.std.specs.Prelude.{◌≡◌, ℕ, ◌+◌, ◌≤◌, ◌<◌, ◌^◌, ◌↔◌, IfOk, OnOk, OnErr, IsErr, IsErrOf, IsTrue, true, false, length, Result, slice_index};
-ghost use Rattle.rv_word.specs.Layout.{can_load, can_store, lies_within, version_1, DATA_END, CODE, CODE_SIZE};
+ghost use Rattle.rv_word.specs.Layout.{can_load, can_store, lies_within, version_1, DATA_END, CODE_START, CODE_SIZE};
 ghost use Rattle.rv_word.specs.Memory.{placed, read, write, zeros, loaded};
 ghost use Rattle.rv_mem.specs.Access.{IsAccessSize};
 ghost use Rattle.rv_mem.specs.Cells.{memory_of, has_room, HasRoom, with_byte, AreBytes};
@@ -50,7 +50,7 @@ impl Memory {
 
     fn with_code(alloc: Global, code: &[u8]) -> Result<Memory, NoMemory>
         requires { length code.now ≤ CODE_SIZE }
-        ensures { IfOk result (λ memory. memory_of memory ≡ placed zeros CODE code.now) }
+        ensures { IfOk result (λ memory. memory_of memory ≡ placed zeros CODE_START code.now) }
     {
         Ok(Memory {
             code: padded(alloc, code, CODE_SIZE as usize)?,

@@ -8,15 +8,15 @@ abbrev pub DATA_END : ℕ
 DATA_END = 0x10001000
 
 -- where code begins, and how many bytes its region has (2 ^ 20)
-abbrev pub CODE : ℕ
-CODE = 0x40000000
+abbrev pub CODE_START : ℕ
+CODE_START = 0x40000000
 
 abbrev pub CODE_SIZE : ℕ
 CODE_SIZE = 0x100000
 
 -- where the shadow stack begins
-abbrev pub SHADOW : ℕ
-SHADOW = 0x60000000
+abbrev pub SHADOW_START : ℕ
+SHADOW_START = 0x60000000
 
 -- the bytes of the shadow stack that belong to one hart
 abbrev pub PART_SIZE : ℕ
@@ -45,14 +45,14 @@ lies_within start size a n = nat_le start a && nat_le (a + n) (start + size)
 -- loads may read all three regions, stores may write data and shadow
 abbrev pub can_load : Profile → ℕ → ℕ → Bool
 can_load p a n =
-    lies_within 0 DATA_END a n || lies_within CODE CODE_SIZE a n || lies_within SHADOW p.shadow_size a n
+    lies_within 0 DATA_END a n || lies_within CODE_START CODE_SIZE a n || lies_within SHADOW_START p.shadow_size a n
 
 abbrev pub can_store : Profile → ℕ → ℕ → Bool
-can_store p a n = lies_within 0 DATA_END a n || lies_within SHADOW p.shadow_size a n
+can_store p a n = lies_within 0 DATA_END a n || lies_within SHADOW_START p.shadow_size a n
 
 -- the region of an address, if it is in one
 abbrev pub region_of : Profile → ℕ → Option Region
 region_of p a =
     if lies_within 0 DATA_END a 1 then Some Data else
-    if lies_within CODE CODE_SIZE a 1 then Some Code else
-    if lies_within SHADOW p.shadow_size a 1 then Some Shadow else None
+    if lies_within CODE_START CODE_SIZE a 1 then Some Code else
+    if lies_within SHADOW_START p.shadow_size a 1 then Some Shadow else None

@@ -1,6 +1,6 @@
 -- Memory as a function from addresses to bytes, little-endian reads and writes.
 use Rattle.std.specs.Prelude.{ℕ, zero, suc, ◌+◌, ◌-◌, ◌*◌, ◌/◌, ◌%◌, ◌^◌, nat_lt, nat_le, ◌&&◌, if◌then◌else◌, List, slice_index, length}
-use Rattle.rv_word.specs.Layout.{CODE, DATA_START}
+use Rattle.rv_word.specs.Layout.{CODE_START, DATA_START}
 use Rattle.rv_word.specs.Image.{Contents}
 
 abbrev pub Memory : Type 0
@@ -25,4 +25,4 @@ zeros = λ k. 0
 
 -- the memory in which a run of an image starts
 unfoldable pub loaded : Contents → Memory
-loaded image = placed (placed zeros DATA_START image.init) CODE image.code
+loaded image = placed (placed zeros DATA_START image.init) CODE_START image.code

@@ -1,5 +1,5 @@
 use Rattle.std.proofs.Common.{◌≡◌, None}
-use Rattle.elf_tables.specs.Least.{first_below}
+use Rattle.elf_tables.specs.First.{first_below}
 use Rattle.elf_object.specs.Fault.{is_cut}
 use Rattle.elf_object.proofs.cut.first_cut.Given as goal
 

@@ -1,5 +1,5 @@
 use Rattle.std.proofs.Common.{◌≡◌, None}
-use Rattle.elf_tables.specs.Least.{first_below}
+use Rattle.elf_tables.specs.First.{first_below}
 use Rattle.elf_object.specs.Kind.{is_wrong_kind}
 use Rattle.elf_object.proofs.kinds.first_wrong_kind.Given as goal
 

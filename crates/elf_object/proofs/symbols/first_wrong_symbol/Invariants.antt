@@ -1,5 +1,5 @@
 use Rattle.std.proofs.Common.{◌≡◌, None}
-use Rattle.elf_tables.specs.Least.{first_below}
+use Rattle.elf_tables.specs.First.{first_below}
 use Rattle.elf_object.specs.Symbol.{is_wrong_symbol}
 use Rattle.elf_object.proofs.symbols.first_wrong_symbol.Given as goal
 

@@ -1,5 +1,5 @@
 use Rattle.std.proofs.Common.{◌≡◌, None}
-use Rattle.elf_tables.specs.Least.{first_below}
+use Rattle.elf_tables.specs.First.{first_below}
 use Rattle.elf_object.specs.Table.{is_wrong_table}
 use Rattle.elf_object.proofs.tables.first_wrong_table.Given as goal
 

@@ -1,5 +1,5 @@
 use Rattle.std.proofs.Common.{◌≡◌, None}
-use Rattle.elf_tables.specs.Least.{first_below}
+use Rattle.elf_tables.specs.First.{first_below}
 use Rattle.elf_tables.specs.Table.{is_symbol_table}
 use Rattle.elf_tables.proofs.lookup.symbol_table.Given as goal
 

@@ -2,7 +2,7 @@ use Rattle.std.proofs.Common.{◌≡◌, ◌==◌, ◌&&◌, ◌<◌, List, leng
 use Rattle.std.specs.Option.{option_or}
 use Rattle.std.proofs.lemmas.List.{length-replicate, get_or-replicate}
 use Rattle.elf_tables.specs.declared.header.SectionHeader.{SectionHeader}
-use Rattle.elf_tables.specs.Least.{first_below}
+use Rattle.elf_tables.specs.First.{first_below}
 use Rattle.elf_tables.specs.Section.{section_header}
 use Rattle.elf_tables.specs.Table.{relocates}
 use Rattle.elf_tables.proofs.Bounds.{first_begins, first_step}
