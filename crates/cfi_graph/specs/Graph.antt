@@ -64,7 +64,7 @@ pub record IsGraph (graph : GraphParts) : Type 0 where
   pub targets : IsTrue (list_all targets_rise graph.lines)
   pub order : IsTrue (is_rising key_below (map key_of graph.lines))
 
--- the two counts
+-- what a line is a line of
 abbrev pub is_class : GraphLine → Bool
 is_class (Class label targets) = true
 is_class (Site address kind label) = false

@@ -13,6 +13,6 @@ sign_of n bits = if nat_lt n (2 ^ (bits - 1)) then 0 else 2 ^ 64 - 2 ^ bits
 abbrev pub sign_extended : ℕ → ℕ → ℕ
 sign_extended n bits = n % 2 ^ bits + sign_of (n % 2 ^ bits) bits
 
--- a sum of 64-bit numbers, which wraps
+-- a number modulo 2 ^ 64
 abbrev pub wrap : ℕ → ℕ
 wrap n = n % 2 ^ 64
