@@ -1,5 +1,5 @@
-use cfi_graph::{Graph, GraphLine, GraphLines, SiteKind, read_graph, write_graph};
-use rv_word::{NoMemory, Places};
+use cfi_graph::{Graph, GraphLine, GraphLines, read_graph, write_graph};
+use rv_word::NoMemory;
 use std::alloc::Global;
 use std::test::Fail;
 
@@ -146,23 +146,35 @@ fn head(name: &str) -> &[u8] {
 fn text_of(alloc: Global, name: &str, rest: &str) -> Result<Vec<u8>, Fail> {
     let mut text = Vec::from_slice(alloc, head(name))?;
     for byte in rest.as_bytes() {
-        text.push(if *byte == b'/' { b'\n' } else { *byte })?;
+        text.push(spelled(*byte))?;
     }
     Ok(text)
+}
+
+/// The byte that a row's byte stands for.
+fn spelled(byte: u8) -> u8 {
+    if byte == b'/' { b'\n' } else { byte }
 }
 
 /// What a text is read as, in words. A graph that is read is written as the same text.
 fn answer(alloc: Global, text: &[u8]) -> Result<String, Fail> {
     match read_graph(alloc, text) {
         Ok(graph) => {
-            if write_graph(alloc, &graph)?.as_slice() == text {
-                Ok(format!(in alloc; "a graph")?)
+            let same = is_written_so(alloc, &graph, text)?;
+            let words = if same {
+                "a graph"
             } else {
-                Ok(format!(in alloc; "a graph with another text")?)
-            }
+                "a graph with another text"
+            };
+            Ok(String::from_str(alloc, words)?)
         }
         Err(end) => Ok(format!(in alloc; "{end}")?),
     }
+}
+
+/// Whether a text is that of a graph.
+fn is_written_so(alloc: Global, graph: &Graph, text: &[u8]) -> Result<bool, NoMemory> {
+    Ok(write_graph(alloc, graph)?.as_slice() == text)
 }
 
 /// Whether a row says what its text is read as.
@@ -199,25 +211,30 @@ fn no_text(rt: HostRuntime) -> Result<(), Fail> {
 const WORKED: &[u8] = b"rvcfi-graph 1\ncode 40000000 00000104\nclass 00001 400000c8 400000e4\n\
 call 4000000c 40000040\nsite 4000005c call 00001\nend\n";
 
-fn worked(alloc: Global) -> Result<Graph, NoMemory> {
-    let targets = vec![in alloc; 0x4000_00c8, 0x4000_00e4]?;
-    let lines = vec![in alloc;
-        GraphLine::Class(1, Places::of(targets)),
-        GraphLine::Call(0x4000_000c, 0x4000_0040),
-        GraphLine::Site(0x4000_005c, SiteKind::Call, 1),
-    ]?;
+const MADE: &[u8] = b"rvcfi-graph 1\ncode 40000000 00000104\nedge 40000040 40000050\nend\n";
+
+/// A graph that is made of its parts.
+fn made(alloc: Global) -> Result<Graph, NoMemory> {
+    let lines = vec![in alloc; GraphLine::Edge(0x4000_0040, 0x4000_0050)]?;
     Graph::of(alloc, 0x104, GraphLines::of(lines))
+}
+
+/// Whether a graph has the counts of the worked one.
+fn has_counts(graph: &Graph) -> bool {
+    graph.code() == 0x104 && graph.classes() == 1 && graph.sites() == 1 && graph.lines() == 3
+}
+
+/// Whether the second line of a graph is the opening's call.
+fn has_call(graph: &Graph) -> bool {
+    graph.lines() > 1 && matches!(graph.line(1), GraphLine::Call(0x4000_000c, 0x4000_0040))
 }
 
 #[test]
 fn parts(rt: HostRuntime) -> Result<(), Fail> {
-    let graph = worked(rt.alloc())?;
-    assert_eq!(rt; write_graph(rt.alloc(), &graph)?.as_slice(), WORKED);
     let graph = read_graph(rt.alloc(), WORKED)?;
-    assert_eq!(rt; graph.code(), 0x104);
-    assert_eq!(rt; graph.classes(), 1);
-    assert_eq!(rt; graph.sites(), 1);
-    assert_eq!(rt; graph.lines(), 3);
-    assert!(rt; matches!(graph.line(1), GraphLine::Call(0x4000_000c, 0x4000_0040)));
+    assert!(rt; has_counts(&graph));
+    assert!(rt; has_call(&graph));
+    let graph = made(rt.alloc())?;
+    assert!(rt; is_written_so(rt.alloc(), &graph, MADE)?);
     Ok(())
 }

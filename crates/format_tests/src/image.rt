@@ -1,5 +1,6 @@
 use elf_image::{ImageRefusal, read_image, write_image};
 use std::alloc::{AllocError, Global};
+use std::test::Fail;
 
 /// The code of a program that exits with 7.
 static CODE: [u32; 20] = [
@@ -142,23 +143,40 @@ fn has_these_bytes(rt: HostRuntime) {
     assert!(rt; is_read_as(&file, &code));
 }
 
+/// The file of the code above and some data.
+fn worked(alloc: Global) -> Result<Vec<u8>, Fail> {
+    let code = code(alloc)?;
+    if code.len() == 80 {
+        return Ok(write_image(alloc, &code, b"data")?);
+    }
+    Ok(Vec::new(alloc))
+}
+
 #[test]
-fn takes_one_spelling(rt: HostRuntime) {
-    let code = code(rt.alloc()).expect(&rt, "there is memory");
-    assert!(rt; code.len() == 80);
-    let file = write_image(rt.alloc(), &code, b"data").expect(&rt, "there is memory");
+fn takes_one_spelling(rt: HostRuntime) -> Result<(), Fail> {
+    let file = worked(rt.alloc())?;
     assert!(rt; file.len() == 8196);
     for (at, bytes, refusal) in &CHANGES {
-        let copy = changed(rt.alloc(), &file, *at, bytes).expect(&rt, "there is memory");
+        let copy = changed(rt.alloc(), &file, *at, bytes)?;
         assert!(rt; ends_so(&copy, *refusal), "changed at {at}");
     }
+    Ok(())
+}
+
+/// Whether the start of a file is refused by its length alone.
+fn is_short(file: &[u8], len: usize) -> bool {
+    let cut = file.get(..len).unwrap_or(&[]);
+    ends_so(cut, Some(ImageRefusal::Short(len as u64)))
+}
+
+#[test]
+fn refuses_what_is_short(rt: HostRuntime) -> Result<(), Fail> {
+    let file = worked(rt.alloc())?;
+    assert!(rt; file.len() == 8196);
     for len in [0, 1, 231, 232, 4096, 8192, 8195] {
-        let cut = file.get(..len).unwrap_or(&[]);
-        assert!(rt;
-            ends_so(cut, Some(ImageRefusal::Short(len as u64))),
-            "cut at {len}"
-        );
+        assert!(rt; is_short(&file, len), "cut at {len}");
     }
+    Ok(())
 }
 
 #[test]

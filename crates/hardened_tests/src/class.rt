@@ -1,6 +1,6 @@
 use cfi_class::{classes, labels};
-use rv_word::Places;
-use std::alloc::Global;
+use rv_word::{NoMemory, Places};
+use std::alloc::{AllocError, Global};
 use std::test::Fail;
 
 const MAX: u64 = u64::MAX;
@@ -82,31 +82,50 @@ static LABELS: [(usize, &[u32], &[u32]); 22] = [
 fn sets_of(alloc: Global, lists: &[&[u64]]) -> Result<Vec<Places>, Fail> {
     let mut sets = Vec::new(alloc);
     for list in lists {
-        sets.push(Places::of(list.to_vec(alloc)?))?;
+        sets.push(set_of(alloc, list)?)?;
     }
     Ok(sets)
 }
 
+fn set_of(alloc: Global, list: &[u64]) -> Result<Places, AllocError> {
+    Ok(Places::of(list.to_vec(alloc)?))
+}
+
 #[test]
 fn classes_by_hand(rt: HostRuntime) -> Result<(), Fail> {
-    for (lists, want) in &CLASSES {
+    for (lists, wanted) in &CLASSES {
         let sets = sets_of(rt.alloc(), lists)?;
-        let found = classes(rt.alloc(), sets.as_slice())?;
-        assert_eq!(rt; found.len(), want.len(), "{lists:?}");
-        for k in 0..want.len() {
-            assert_eq!(rt; found[k].as_slice(), want[k], "{lists:?}");
-        }
+        assert!(rt; are_classes(rt.alloc(), &sets, wanted)?, "{lists:?}");
     }
     Ok(())
 }
 
+/// Whether some sets have these classes.
+fn are_classes(alloc: Global, sets: &[Places], wanted: &[&[u64]]) -> Result<bool, NoMemory> {
+    Ok(are_same(&classes(alloc, sets)?, wanted))
+}
+
+/// Whether lists have these members.
+fn are_same(lists: &[Places], wanted: &[&[u64]]) -> bool {
+    lists.len() == wanted.len()
+        && lists
+            .iter()
+            .zip(wanted)
+            .all(|(list, wanted)| list.as_slice() == *wanted)
+}
+
 #[test]
 fn labels_by_hand(rt: HostRuntime) -> Result<(), Fail> {
-    for (count, used, want) in &LABELS {
-        let given = labels(rt.alloc(), *count, used)?;
-        assert_eq!(rt; given.as_slice(), *want, "{count} {used:?}");
+    for (count, used, wanted) in &LABELS {
+        let right = are_labels(rt.alloc(), *count, used, wanted)?;
+        assert!(rt; right, "{count} {used:?}");
     }
     Ok(())
+}
+
+/// Whether so many labels beside some numbers in use are these.
+fn are_labels(alloc: Global, count: usize, used: &[u32], wanted: &[u32]) -> Result<bool, NoMemory> {
+    Ok(labels(alloc, count, used)?.as_slice() == wanted)
 }
 
 // sets of two neighbours from 0 to 2000, in rising or falling order
@@ -114,7 +133,7 @@ fn chain(alloc: Global, falling: bool) -> Result<Vec<Places>, Fail> {
     let mut sets = Vec::new(alloc);
     for k in 0..2000u64 {
         let first = if falling { 1999 - k } else { k };
-        sets.push(Places::of([first, first + 1].to_vec(alloc)?))?;
+        sets.push(set_of(alloc, &[first, first + 1])?)?;
     }
     Ok(sets)
 }
@@ -122,16 +141,20 @@ fn chain(alloc: Global, falling: bool) -> Result<Vec<Places>, Fail> {
 fn same_sets(alloc: Global) -> Result<Vec<Places>, Fail> {
     let mut sets = Vec::new(alloc);
     for _ in 0..2000 {
-        let all: Vec<u64> = (0..2000u64).collect(alloc)?;
-        sets.push(Places::of(all))?;
+        sets.push(all(alloc)?)?;
     }
     Ok(sets)
+}
+
+fn all(alloc: Global) -> Result<Places, AllocError> {
+    let all: Vec<u64> = (0..2000u64).collect(alloc)?;
+    Ok(Places::of(all))
 }
 
 fn single_sets(alloc: Global) -> Result<Vec<Places>, Fail> {
     let mut sets = Vec::new(alloc);
     for k in 0..2000u64 {
-        sets.push(Places::of([k].to_vec(alloc)?))?;
+        sets.push(set_of(alloc, &[k])?)?;
     }
     Ok(sets)
 }
@@ -146,13 +169,20 @@ fn large_sets(rt: HostRuntime) -> Result<(), Fail> {
         ("single targets", single_sets(alloc)?, 2000, 1),
     ];
     for (name, sets, count, members) in &cases {
-        let found = classes(alloc, sets.as_slice())?;
-        assert_eq!(rt; found.len(), *count, "{name}");
-        for class in &found {
-            assert_eq!(rt; class.len(), *members, "{name}");
-        }
+        assert!(rt; have_size(alloc, sets, *count, *members)?, "{name}");
     }
     Ok(())
+}
+
+/// Whether some sets have so many classes, each with so many members.
+fn have_size(
+    alloc: Global,
+    sets: &[Places],
+    count: usize,
+    members: usize,
+) -> Result<bool, NoMemory> {
+    let found = classes(alloc, sets)?;
+    Ok(found.len() == count && found.iter().all(|class| class.len() == members))
 }
 
 // Of the remainders by the prime 1000003 all but those of -3, -2 and -1 times 7919 are in use.
@@ -164,10 +194,7 @@ fn a_million_numbers_in_use(rt: HostRuntime) -> Result<(), Fail> {
         used.push((k * 7919 % 1_000_003) as u32)?;
     }
     assert_eq!(rt; used.len(), 1_000_000);
-    let given = labels(alloc, 5, used.as_slice())?;
-    assert_eq!(rt;
-        given.as_slice(),
-        [976_246, 984_165, 992_084, 1_000_003, 1_000_004].as_slice()
-    );
+    let wanted = [976_246, 984_165, 992_084, 1_000_003, 1_000_004];
+    assert!(rt; are_labels(alloc, 5, &used, &wanted)?);
     Ok(())
 }

@@ -2,11 +2,11 @@ ghost use Rattle.std.specs.Prelude.{IfOk};
 ghost use Rattle.cfi_step.specs.Script.{IsScript};
 
 use crate::programs::{P, P_DATA, P_GRAPH, code};
-use cfi_graph::read_graph;
+use cfi_graph::{Graph, read_graph};
 use cfi_step::{Handler, Hostile, Meddler, RunEnd, RunReport, Script, run};
-use cfi_verify::verify;
+use cfi_verify::{Checked, verify};
 use rv_machine::Change;
-use rv_word::Image;
+use rv_word::{Image, NoMemory};
 use std::alloc::Global;
 use std::process::Abort;
 use std::test::Fail;
@@ -30,9 +30,33 @@ fn report<M: Meddler>(
     let len = bytes.len();
     assert!(rt; 4 <= len && len <= 0x10_0000 && len % 4 == 0);
     let graph = read_graph(alloc, P_GRAPH)?;
-    let image = Image::of(&bytes, P_DATA);
-    let checked = verify(alloc, &image, &graph)?;
-    Ok(run(alloc, &checked, b"", meddler, limit)?)
+    report_of(alloc, &Image::of(&bytes, P_DATA), &graph, meddler, limit)
+}
+
+/// The report of a run of an image that is accepted.
+fn report_of<M: Meddler>(
+    alloc: Global,
+    image: &Image<'_>,
+    graph: &Graph,
+    meddler: &mut M,
+    limit: u64,
+) -> Result<RunReport, Fail>
+    ensures { IfOk result (λ report. IsScript report.made) }
+{
+    let checked = verify(alloc, image, graph)?;
+    Ok(run_of(alloc, &checked, meddler, limit)?)
+}
+
+/// The report of a run without input.
+fn run_of<M: Meddler>(
+    alloc: Global,
+    checked: &Checked<'_>,
+    meddler: &mut M,
+    limit: u64,
+) -> Result<RunReport, NoMemory>
+    ensures { IfOk result (λ report. IsScript report.made) }
+{
+    run(alloc, checked, b"", meddler, limit)
 }
 
 /// Whether the changes are zeros at the eight bytes of the saved return address, before one step.
@@ -71,16 +95,24 @@ fn replayed(rt: HostRuntime) -> Result<(), Fail> {
     let alloc = rt.alloc();
     for limit in [0, 15, 16, 46, 47, 1000] {
         let first = report(&rt, alloc, &mut Hostile, limit)?;
-        let mut script = Script::of(alloc, first.made.as_slice())?;
-        let again = report(&rt, alloc, &mut script, limit)?;
+        let again = again(&rt, alloc, &first, limit)?;
         assert!(rt; is_same(&again, &first), "{limit}");
-        assert!(rt; again.steps == limit.min(47), "{limit}");
-        assert!(rt;
-            again.made.len() == if limit > 15 { 8 } else { 0 },
-            "{limit}"
-        );
+        assert!(rt; has_run(&again, limit), "{limit}");
     }
     Ok(())
+}
+
+/// The report of a run under the changes that another one made.
+fn again(rt: &impl Abort, alloc: Global, first: &RunReport, limit: u64) -> Result<RunReport, Fail>
+    requires { IsScript first.now.made }
+{
+    let mut script = Script::of(alloc, first.made.as_slice())?;
+    report(rt, alloc, &mut script, limit)
+}
+
+/// Whether a run has as many steps as a limit leaves of 47, and made eight changes after fifteen.
+fn has_run(report: &RunReport, limit: u64) -> bool {
+    report.steps == limit.min(47) && report.made.len() == if limit > 15 { 8 } else { 0 }
 }
 
 /// A change of the pointer before the first step sends the call to the other function; what its

@@ -274,12 +274,16 @@ fn step_does(rt: &impl Abort, alloc: Global, row: &str) -> Result<bool, NoMemory
 fn step_stops(rt: &impl Abort, alloc: Global, row: &Stop) -> Result<(), NoMemory> {
     let (word, a, steps, turn) = *row;
     let mut machine = machine(rt, alloc, word, a, 0)?;
-    let mut last = Turn::Ran;
-    for _ in 0..steps {
-        last = machine.step()?;
-    }
-    assert_eq!(rt; last, turn, "{word:x} of {a:x}");
+    assert!(rt; ends_so(&mut machine, steps, turn)?, "{word:x} of {a:x}");
     Ok(())
+}
+
+/// Whether the last of some steps has an end.
+fn ends_so(machine: &mut Machine, steps: u8, turn: Turn) -> Result<bool, NoMemory> {
+    for _ in 1..steps {
+        machine.step()?;
+    }
+    Ok(machine.step()? == turn)
 }
 
 #[test]
@@ -347,23 +351,34 @@ fn run_exits(
     let mut machine = Machine::new(alloc, &Image::of(&code, &[]), &[])?;
     for step in 0..steps {
         if step == changed {
-            set_to_5(rt, &mut machine)?;
+            machine.change(five(rt))?;
         }
-        assert_eq!(rt; machine.step()?, Turn::Ran, "step {step}");
+        assert!(rt; runs(&mut machine)?, "step {step}");
     }
-    ends(rt, &mut machine, status)?;
-    ends(rt, &mut machine, status)
-}
-
-fn set_to_5(rt: &impl Abort, machine: &mut Machine) -> Result<(), NoMemory> {
-    machine.change(Change::new(0x1_0000, 5).expect(rt, "a data byte"))
-}
-
-fn ends(rt: &impl Abort, machine: &mut Machine, status: u8) -> Result<(), NoMemory> {
-    assert_eq!(rt; machine.step()?, Turn::Exit(status));
-    assert_eq!(rt; machine.system().ended(), Some(status));
-    assert_eq!(rt; machine.system().events().len(), 1);
+    assert!(rt; exits(&mut machine, status)?);
+    assert!(rt; exits(&mut machine, status)?);
+    assert!(rt; has_exited(&machine, status));
     Ok(())
+}
+
+/// The change of the byte at 10000h to 5.
+fn five(rt: &impl Abort) -> Change {
+    Change::new(0x1_0000, 5).expect(rt, "a data byte")
+}
+
+/// Whether a step runs.
+fn runs(machine: &mut Machine) -> Result<bool, NoMemory> {
+    Ok(machine.step()? == Turn::Ran)
+}
+
+/// Whether a step exits with a status.
+fn exits(machine: &mut Machine, status: u8) -> Result<bool, NoMemory> {
+    Ok(machine.step()? == Turn::Exit(status))
+}
+
+/// Whether one call was recorded, and it ended the run with a status.
+fn has_exited(machine: &Machine, status: u8) -> bool {
+    machine.system().ended() == Some(status) && machine.system().events().len() == 1
 }
 
 fn code_of(alloc: Global, words: &[u32]) -> Result<Vec<u8>, NoMemory> {

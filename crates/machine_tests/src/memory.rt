@@ -1,10 +1,13 @@
 use rv_mem::{Change, LoadFault, Memory, WriteRefusal, region};
 use rv_word::{Image, NoMemory, Region};
-use std::test::Fail;
+use std::alloc::Global;
+use std::process::Abort;
+
+type Access = (u64, u8, bool, bool, u64);
 
 /// An access, and what the memory map says of it: its address and size, whether a load and whether
 /// a store of it are taken, the number that a load reads after 1122334455667788h was stored.
-static ACCESSES: [(u64, u8, bool, bool, u64); 30] = [
+static ACCESSES: [Access; 30] = [
     (0, 8, true, true, 0x1122_3344_5566_7788),
     (1, 8, true, true, 0x1122_3344_5566_7788),
     (0xffff, 4, true, true, 0x5566_7788),
@@ -37,38 +40,81 @@ static ACCESSES: [(u64, u8, bool, bool, u64); 30] = [
     (0xffff_ffff_ffff_fff8, 8, false, false, 0),
 ];
 
-#[test]
-fn accesses_are_the_memory_map(rt: HostRuntime) -> Result<(), Fail> {
+/// Whether a store is taken as its row says.
+fn stores(memory: &mut Memory, row: &Access) -> bool {
+    let (addr, n, _, store, _) = *row;
+    if n != 1 && n != 2 && n != 4 && n != 8 {
+        return false;
+    }
+    match memory.write(addr, n, 0x1122_3344_5566_7788) {
+        Ok(()) => store,
+        Err(end) => !store && end == WriteRefusal::StoreFault,
+    }
+}
+
+/// Whether a load is taken as its row says, and reads its number.
+fn loads(memory: &Memory, row: &Access) -> bool {
+    let (addr, n, load, _, value) = *row;
+    if n != 1 && n != 2 && n != 4 && n != 8 {
+        return false;
+    }
+    match memory.read(addr, n) {
+        Ok(read) => load && read == value,
+        Err(LoadFault) => !load,
+    }
+}
+
+/// A memory with some code and data.
+fn memory(alloc: Global) -> Result<Memory, NoMemory> {
     let code = [0xa0, 0xb0, 0xc0, 0, 0xd1, 0, 0, 0];
-    let mut memory = Memory::load(rt.alloc(), &Image::of(&code, &[7, 8]))?;
-    assert_eq!(rt; memory.read(0xffff, 4), Ok(0x0008_0700), "initialised data");
-    for &(addr, n, load, store, value) in &ACCESSES {
-        assert!(rt; n == 1 || n == 2 || n == 4 || n == 8);
-        let stored = memory.write(addr, n, 0x1122_3344_5566_7788);
-        let wanted = if store {
-            Ok(())
-        } else {
-            Err(WriteRefusal::StoreFault)
-        };
-        assert_eq!(rt; stored, wanted, "store at {addr:x}");
-        let wanted = if load { Ok(value) } else { Err(LoadFault) };
-        assert_eq!(rt; memory.read(addr, n), wanted, "load at {addr:x}");
+    Memory::load(alloc, &Image::of(&code, &[7, 8]))
+}
+
+/// Whether the four bytes at an address are these.
+fn holds(memory: &Memory, addr: u64, value: u64) -> bool {
+    memory.read(addr, 4) == Ok(value)
+}
+
+#[test]
+fn accesses_are_the_memory_map(rt: HostRuntime) -> Result<(), NoMemory> {
+    let mut memory = memory(rt.alloc())?;
+    assert!(rt; holds(&memory, 0xffff, 0x0008_0700), "initialised data");
+    for row in &ACCESSES {
+        assert!(rt; stores(&mut memory, row), "store at {:x}", row.0);
+        assert!(rt; loads(&memory, row), "load at {:x}", row.0);
     }
     Ok(())
 }
 
 #[test]
-fn regions_and_changes(rt: HostRuntime) -> Result<(), NoMemory> {
-    assert_eq!(rt; region(0x1000_0fff), Some(Region::Data));
-    assert_eq!(rt; region(0x4000_0000), Some(Region::Code));
-    assert_eq!(rt; region(0x6000_ffff), Some(Region::Shadow));
-    assert_eq!(rt; region(0x1000_1000), None);
-    assert!(rt; Change::new(0x4000_0000, 1).is_none());
+fn regions(rt: HostRuntime) {
+    for (addr, wanted) in [
+        (0x1000_0fff, Some(Region::Data)),
+        (0x4000_0000, Some(Region::Code)),
+        (0x6000_ffff, Some(Region::Shadow)),
+        (0x1000_1000, None),
+    ] {
+        assert!(rt; region(addr) == wanted, "{addr:x}");
+    }
+}
+
+/// The change of the last byte of data.
+fn last_byte(rt: &impl Abort) -> Change {
+    Change::new(0x1000_0fff, 0x5a).expect(rt, "a data byte")
+}
+
+/// Whether a byte of code can be changed.
+fn changes_code() -> bool {
+    Change::new(0x4000_0000, 1).is_some()
+}
+
+#[test]
+fn changes(rt: HostRuntime) -> Result<(), NoMemory> {
+    assert!(rt; !changes_code());
     let mut memory = Memory::new(rt.alloc())?;
-    let change = Change::new(0x1000_0fff, 0x5a).expect(&rt, "a data byte");
-    memory.change(change)?;
+    memory.change(last_byte(&rt))?;
     memory.write_bytes(0x1000_0ffd, &[1, 2])?;
-    assert_eq!(rt; memory.read(0x1000_0ffc, 4), Ok(0x5a02_0100));
-    assert_eq!(rt; memory.byte(0x1000_1000), 0);
+    assert!(rt; holds(&memory, 0x1000_0ffc, 0x5a02_0100));
+    assert!(rt; memory.byte(0x1000_1000) == 0);
     Ok(())
 }
