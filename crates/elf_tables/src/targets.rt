@@ -3,6 +3,7 @@ ghost use Rattle.std.specs.Option.{option_or};
 ghost use Rattle.elf_tables.specs.Header.{e_shnum};
 ghost use Rattle.elf_tables.specs.Relocation.{IsFirstOfEach};
 
+use crate::constants::SHT_RELA;
 use crate::header::SectionHeader;
 use crate::sections::Sections;
 use std::alloc::{AllocError, Global};
@@ -37,7 +38,7 @@ fn note(table: &mut Vec<Option<u32>>, header: &SectionHeader, index: u32)
     ensures len { length table.new.items ≡ length table.old.items }
     ensures each { (s : ℕ) → s < length table.old.items → slice_index_or table.new.items s None ≡ option_or (slice_index_or table.old.items s None) (if header.now.kind == 4 && header.now.info == s then Some index else None) }
 {
-    if header.kind == 4 {
+    if header.kind == SHT_RELA {
         note_target(table, header.info, index);
     }
 }
@@ -49,7 +50,7 @@ fn note_target(table: &mut Vec<Option<u32>>, target: u32, index: u32)
 {
     let at = target as usize;
     if at < table.len() {
-        if let None = table[at] {
+        if table[at].is_none() {
             table[at] = Some(index);
         }
     }
