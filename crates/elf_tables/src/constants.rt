@@ -63,7 +63,7 @@ pub const SHN_COMMON: u16 = 0xfff2;
 /// The type of a symbol of a thread's own storage.
 pub const STT_TLS: u8 = 6;
 
-/// The type of a function that is chosen when the program starts, of those the gABI leaves to systems.
+/// The type of a function that is chosen when the program starts, one that the gABI leaves to systems.
 pub const STT_GNU_IFUNC: u8 = 10;
 
 /// The size of a section header, `Elf64_Shdr`.
