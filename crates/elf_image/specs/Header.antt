@@ -53,7 +53,7 @@ program_header at s =
 abbrev pub data_start : ℕ → ℕ
 data_start code = 0x1000 + (code + 0xfff) / 0x1000 * 0x1000
 
--- the length of code that is allowed and nearest to `code`: `code` itself exactly where it is allowed
+-- `code` itself exactly where it is an allowed length of code; else another length, so that the field is wrong
 abbrev pub code_length : ℕ → ℕ
 code_length code = max 4 (min (code / 4 * 4) (2 ^ 20))
 

@@ -3,11 +3,12 @@ ghost use Rattle.std.specs.List.{list_all};
 ghost use Rattle.elf_image.specs.Header.{elf_header, program_header, data_segment, code_segment, shadow_segment, data_start, is_inside};
 
 use super::field::{Field, Segment, half, ident, long, word};
+use rv_word::memory_map::{CODE_SIZE, CODE_START, DATA_END, DATA_START, SHADOW_SIZE, SHADOW_START};
 
-/// The bytes of a page, on which code and data begin.
+/// How many bytes a page has, on which code and data begin.
 pub(crate) const PAGE: u128 = 0x1000;
 
-/// The bytes of the headers.
+/// How many bytes the headers have.
 pub(crate) const HEADERS: usize = 232;
 
 /// Where the data begin in a file with this much code.
@@ -69,9 +70,9 @@ pub(crate) fn data_segment(code: u128, init: u128) -> Segment
     Segment {
         flags: 6,
         offset: data_offset(code),
-        address: 0x1_0000,
+        address: u128::from(DATA_START),
         file_size: init.min(1 << 25),
-        memory_size: 0xfff_1000,
+        memory_size: u128::from(DATA_END - DATA_START),
     }
 }
 
@@ -82,9 +83,9 @@ pub(crate) fn code_segment(code: u128) -> Segment
     Segment {
         flags: 5,
         offset: PAGE,
-        address: 0x4000_0000,
-        file_size: (code / 4 * 4).min(1 << 20).max(4),
-        memory_size: 0x10_0000,
+        address: u128::from(CODE_START),
+        file_size: (code / 4 * 4).min(u128::from(CODE_SIZE)).max(4),
+        memory_size: u128::from(CODE_SIZE),
     }
 }
 
@@ -95,8 +96,8 @@ pub(crate) fn shadow_segment() -> Segment
     Segment {
         flags: 6,
         offset: 0,
-        address: 0x6000_0000,
+        address: u128::from(SHADOW_START),
         file_size: 0,
-        memory_size: 0x1_0000,
+        memory_size: u128::from(SHADOW_SIZE),
     }
 }

@@ -4,7 +4,8 @@ use Rattle.std.proofs.lemmas.Bool.{cases_lt, cases_Bool, eq-eqb, ne_eqb}
 use Rattle.elf_tables.proofs.Endings.{cases_Option}
 use Rattle.elf_tables.proofs.Bounds.{first_bound, first_found}
 use Rattle.elf_tables.specs.First.{first_below}
-use Rattle.elf_object.specs.Least.{is_number, least_below, lesser}
+use Rattle.elf_object.specs.Least.{least_below, lesser}
+use Rattle.elf_object.specs.Table.{is_number}
 
 -- where none is found the test fails at each number below the bound
 pub first_none : (test : ℕ → Bool) (n k : ℕ) → first_below test n ≡ None → k < n → test k ≡ false

@@ -9,13 +9,15 @@ use Rattle.elf_tables.specs.Kept.{is_writable, is_executable, is_thread_local, i
 abbrev pub is_alignment : ℕ → Bool
 is_alignment n = n == 0 || is_power_of_two n
 
--- what a kept section may not be
+-- code that may be written, that is SHT_NOBITS, or that is no whole words
 abbrev pub is_wrong_code : SectionHeader → Bool
 is_wrong_code h = is_writable h || h.kind == 8 || not (h.size % 4 == 0)
 
+-- data with an alignment above 4096
 abbrev pub is_wrong_data : SectionHeader → Bool
 is_wrong_data h = nat_lt 4096 h.align
 
+-- a kept section that is neither SHT_PROGBITS nor SHT_NOBITS, is thread-local, has a wrong alignment, or is wrong code or wrong data
 abbrev pub is_wrong_kept : SectionHeader → Bool
 is_wrong_kept h =
     not (h.kind == 1 || h.kind == 8) || is_thread_local h || not (is_alignment h.align)

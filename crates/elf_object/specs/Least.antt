@@ -1,5 +1,5 @@
 -- The least of the numbers that a function gives below a bound.
-use Rattle.std.specs.Prelude.{ℕ, zero, suc, min, Bool, ◌==◌, false, Option, Some, None}
+use Rattle.std.specs.Prelude.{ℕ, zero, suc, min, Option, Some, None}
 
 abbrev pub lesser : Option ℕ → Option ℕ → Option ℕ
 lesser None other = other
@@ -9,8 +9,3 @@ lesser (Some a) (Some b) = Some (min a b)
 unfoldable pub least_below : (ℕ → Option ℕ) → ℕ → Option ℕ
 least_below given zero = None
 least_below given (suc n) = lesser (least_below given n) (given n)
-
--- there is a number, and it is this one
-abbrev pub is_number : Option ℕ → ℕ → Bool
-is_number None n = false
-is_number (Some m) n = m == n

@@ -5,7 +5,7 @@ use Rattle.elf_tables.specs.Symbol.{symbol_count}
 use Rattle.elf_tables.specs.Relocation.{relocation_in, relocation_count, relocation_bytes}
 use Rattle.elf_object.specs.Least.{least_below}
 
--- the number of the symbol that a relocation names, if there are not so many
+-- the number of the symbol that a relocation names, where no symbol has that number
 abbrev pub stray_at : ℕ → List ℕ → ℕ → Option ℕ
 stray_at count table index =
     if nat_lt (relocation_in table index).symbol count then None else Some (relocation_in table index).symbol

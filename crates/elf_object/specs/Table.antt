@@ -1,12 +1,11 @@
 -- Wrong tables of names, symbols and relocations (System V gABI, "Special Sections", "sh_link and sh_info Interpretation").
-use Rattle.std.specs.Prelude.{ℕ, nat_lt, nat_le, Bool, ◌==◌, ◌&&◌, ◌||◌, not, is_some, is_none, List}
+use Rattle.std.specs.Prelude.{ℕ, nat_lt, nat_le, Bool, false, ◌==◌, ◌&&◌, ◌||◌, not, is_some, is_none, Option, Some, None, List}
 use Rattle.elf_tables.specs.declared.header.SectionHeader.{SectionHeader}
 use Rattle.elf_tables.specs.First.{first_below}
 use Rattle.elf_tables.specs.Header.{e_shoff, e_shentsize, e_shnum, e_shstrndx}
 use Rattle.elf_tables.specs.Section.{section_header, section_name}
 use Rattle.elf_tables.specs.Kept.{is_kept}
 use Rattle.elf_tables.specs.Table.{is_symbol_table, symbol_table, relocates, has_entries}
-use Rattle.elf_object.specs.Least.{is_number}
 
 -- SHT_STRTAB
 abbrev pub is_string_table : List ℕ → ℕ → Bool
@@ -27,11 +26,17 @@ abbrev pub is_wrong_symbol_table : List ℕ → ℕ → SectionHeader → Bool
 is_wrong_symbol_table bytes index h =
     is_some (first_below (is_symbol_table bytes) index) || not (has_entries h) || not (is_string_table bytes h.link)
 
--- relocations of no section; or relocations of a kept one without whole entries or without the symbol table, or after others of it
+-- there is a number, and it is this one
+abbrev pub is_number : Option ℕ → ℕ → Bool
+is_number None n = false
+is_number (Some m) n = m == n
+
+-- relocations of a kept section without whole entries or without the symbol table, or after others of it
 abbrev pub is_wrong_rela_of_kept : List ℕ → ℕ → SectionHeader → Bool
 is_wrong_rela_of_kept bytes index h =
     not (has_entries h) || not (is_number (symbol_table bytes) h.link) || is_some (first_below (relocates bytes h.info) index)
 
+-- SHT_RELA: relocations of no section, or wrong ones of a kept one
 abbrev pub is_wrong_rela : List ℕ → ℕ → SectionHeader → Bool
 is_wrong_rela bytes index h =
     not (nat_lt h.info (e_shnum bytes)) || is_kept bytes h.info && is_wrong_rela_of_kept bytes index h

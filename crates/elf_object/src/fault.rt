@@ -1,5 +1,4 @@
 use rv_word::NoMemory;
-use std::alloc::{AllocError, AllocFailed};
 use thiserror::Error;
 
 /// What is wrong with an object: the first of these that is, in this order, at its least index.
@@ -49,17 +48,6 @@ impl From<NoMemory> for ObjectEnd {
     ghost from_gives = { λ e r. r ≡ ends.NoMemory };
 
     fn from(_: NoMemory) -> Self {
-        ObjectEnd::NoMemory
-    }
-}
-
-impl From<AllocError> for ObjectEnd {
-    ghost use Rattle.std.specs.Prelude.{◌≡◌};
-    ghost use Rattle.elf_object.specs.declared.fault.ObjectEnd.TheVariants as ends;
-
-    ghost from_gives = { λ e r. r ≡ ends.NoMemory };
-
-    fn from(_: AllocError) -> Self {
         ObjectEnd::NoMemory
     }
 }

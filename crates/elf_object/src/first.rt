@@ -3,6 +3,7 @@ ghost use Rattle.elf_object.specs.Header.{is_elf, are_flags_taken};
 ghost use Rattle.elf_object.specs.Fault.{header_fault};
 
 use crate::fault::ObjectFault;
+use elf_tables::constants::{EF_RISCV_TSO, EM_RISCV, ET_REL};
 use elf_tables::{half, word};
 
 /// Whether a file is 64-bit little-endian ELF, with room for its header.
@@ -12,10 +13,11 @@ fn is_elf(bytes: &[u8]) -> bool
     bytes.len() >= 64 && bytes.starts_with(b"\x7fELF\x02\x01\x01")
 }
 
+/// Whether these flags are none, or `EF_RISCV_TSO` alone.
 fn are_flags_taken(flags: u32) -> bool
     ensures { result ≡ are_flags_taken flags }
 {
-    flags == 0 || flags == 0x10
+    flags == 0 || flags == EF_RISCV_TSO
 }
 
 /// What is wrong with the ELF header.
@@ -27,11 +29,11 @@ pub(crate) fn header_fault(bytes: &[u8]) -> Option<ObjectFault>
         return Some(ObjectFault::NotElf);
     }
     let kind = half(bytes, 16);
-    if kind != 1 {
+    if kind != ET_REL {
         return Some(ObjectFault::NotRelocatable(kind));
     }
     let machine = half(bytes, 18);
-    if machine != 243 {
+    if machine != EM_RISCV {
         return Some(ObjectFault::NotRiscv(machine));
     }
     let flags = word(bytes, 48);

@@ -3,7 +3,11 @@ ghost use Rattle.elf_tables.specs.Header.{e_shnum};
 ghost use Rattle.elf_tables.specs.First.{first_below};
 ghost use Rattle.elf_object.specs.Kind.{is_alignment, is_wrong_code, is_wrong_data, is_wrong_kept, is_wrong_kind};
 
+use elf_tables::constants::{SHT_GROUP, SHT_NOBITS, SHT_PROGBITS};
 use elf_tables::{Lookup, SectionHeader};
+
+/// The greatest alignment of data that is taken: a page.
+pub(crate) const MOST_ALIGNMENT: u64 = 4096;
 
 /// Whether a number may be an alignment.
 pub(crate) fn is_alignment(value: u64) -> bool
@@ -16,18 +20,18 @@ pub(crate) fn is_alignment(value: u64) -> bool
 fn is_wrong_code(header: &SectionHeader) -> bool
     ensures { result ≡ is_wrong_code header.now }
 {
-    header.is_writable() || header.kind == 8 || header.size % 4 != 0
+    header.is_writable() || header.kind == SHT_NOBITS || header.size % 4 != 0
 }
 
 /// Whether a kept section is not taken.
 fn is_wrong_kept(header: &SectionHeader) -> bool
     ensures { result ≡ is_wrong_kept header.now }
 {
-    header.kind != 1 && header.kind != 8
+    header.kind != SHT_PROGBITS && header.kind != SHT_NOBITS
         || header.is_thread_local()
         || !is_alignment(header.align)
         || header.is_executable() && is_wrong_code(header)
-        || !header.is_executable() && header.align > 4096
+        || !header.is_executable() && header.align > MOST_ALIGNMENT
 }
 
 /// Whether the section with this index is of a kind that is not taken.
@@ -36,7 +40,7 @@ fn is_wrong_kind(lookup: &Lookup, index: u32) -> bool
     ensures { result ≡ is_wrong_kind lookup.now index }
 {
     let header = lookup.header(index);
-    header.kind == 17 || lookup.is_kept(index) && is_wrong_kept(&header)
+    header.kind == SHT_GROUP || lookup.is_kept(index) && is_wrong_kept(&header)
 }
 
 /// The first section of a kind that is not taken.

@@ -10,6 +10,7 @@ use crate::cut::whole_sections;
 use crate::fault::ObjectEnd;
 use crate::first::header_fault;
 use crate::order::section_fault;
+use elf_tables::constants::ENTRY_SIZE;
 use elf_tables::{Lookup, Reloc};
 use std::alloc::Global;
 use std::marker::Model;
@@ -55,7 +56,7 @@ impl<'a> Relocs<'a> {
     pub fn count(&self) -> u64
         ensures { result ≡ relocation_count self.now }
     {
-        self.table.len() as u64 / 24
+        self.table.len() as u64 / ENTRY_SIZE
     }
 
     /// The relocation with the index `k`, from 0.

@@ -5,6 +5,7 @@ ghost use Rattle.elf_tables.specs.Symbol.{symbol_count};
 ghost use Rattle.elf_tables.specs.Relocation.{relocation_bytes, relocation_count};
 ghost use Rattle.elf_object.specs.Stray.{stray_at, stray_in, stray_symbol};
 
+use elf_tables::constants::ENTRY_SIZE;
 use elf_tables::{Lookup, Reloc};
 
 /// The lesser of two numbers, of those that there are.
@@ -18,7 +19,7 @@ fn lesser(a: Option<u64>, b: Option<u64>) -> Option<u64>
     }
 }
 
-/// The number of the symbol that a relocation names, if there are not so many.
+/// The number of the symbol that a relocation names, where no symbol has that number.
 fn stray_at(count: u64, table: &[u8], index: u64) -> Option<u64>
     requires { index < relocation_count table.now }
     ensures { result ≡ stray_at count table.now index }
@@ -30,12 +31,12 @@ fn stray_at(count: u64, table: &[u8], index: u64) -> Option<u64>
     Some(number)
 }
 
-/// The least number of a symbol that relocations name, if there are not so many.
+/// The least number of a symbol that relocations name, where no symbol has that number.
 fn stray_in(count: u64, table: &[u8]) -> Option<u64>
     ensures { result ≡ stray_in count table.now }
 {
     let mut least = None;
-    for index in 0..table.len() as u64 / 24 {
+    for index in 0..table.len() as u64 / ENTRY_SIZE {
         least = lesser(least, stray_at(count, table, index));
     }
     least

@@ -4,29 +4,24 @@ ghost use Rattle.elf_tables.specs.First.{first_below};
 ghost use Rattle.elf_tables.specs.Symbol.{symbol_count};
 ghost use Rattle.elf_object.specs.Symbol.{has_no_place, has_wrong_alignment, has_wrong_type, is_past_end, is_wrong_entry, is_wrong_symbol};
 
-use crate::kinds::is_alignment;
+use crate::kinds::{MOST_ALIGNMENT, is_alignment};
+use elf_tables::constants::{SHN_ABS, SHN_COMMON, SHN_UNDEF, STT_GNU_IFUNC, STT_TLS};
 use elf_tables::{Lookup, SymbolEntry};
 
-/// `SHN_ABS`: the symbol's value is an address.
-const ABSOLUTE: u16 = 0xfff1;
-
-/// `SHN_COMMON`: the symbol has no place yet, and its value is its alignment.
-const COMMON: u16 = 0xfff2;
-
-/// Whether a symbol stands nowhere that there is.
+/// Whether a symbol's section index is none of a section's, `SHN_ABS` or `SHN_COMMON`.
 fn has_no_place(lookup: &Lookup, entry: &SymbolEntry) -> bool
     ensures { result ≡ has_no_place lookup.now entry.now }
 {
     u32::from(entry.section) >= lookup.count()
-        && entry.section != ABSOLUTE
-        && entry.section != COMMON
+        && entry.section != SHN_ABS
+        && entry.section != SHN_COMMON
 }
 
 /// Whether a symbol is of a type that is not taken.
 fn has_wrong_type(entry: &SymbolEntry) -> bool
     ensures { result ≡ has_wrong_type entry.now }
 {
-    entry.info % 16 == 6 || entry.info % 16 == 10
+    entry.info % 16 == STT_TLS || entry.info % 16 == STT_GNU_IFUNC
 }
 
 /// Whether a symbol stands beyond the end of a kept section.
@@ -34,7 +29,7 @@ fn is_past_end(lookup: &Lookup, entry: &SymbolEntry) -> bool
     ensures { result ≡ is_past_end lookup.now entry.now }
 {
     let index = u32::from(entry.section);
-    index != 0
+    entry.section != SHN_UNDEF
         && index < lookup.count()
         && lookup.is_kept(index)
         && lookup.header(index).size < entry.value
@@ -44,7 +39,7 @@ fn is_past_end(lookup: &Lookup, entry: &SymbolEntry) -> bool
 fn has_wrong_alignment(entry: &SymbolEntry) -> bool
     ensures { result ≡ has_wrong_alignment entry.now }
 {
-    entry.section == COMMON && !(is_alignment(entry.value) && entry.value <= 4096)
+    entry.section == SHN_COMMON && !(is_alignment(entry.value) && entry.value <= MOST_ALIGNMENT)
 }
 
 /// Whether what a symbol says is wrong.

@@ -1,27 +1,29 @@
 ghost use Rattle.std.specs.Prelude.{◌≡◌, ◌<◌, true, is_some};
 ghost use Rattle.elf_tables.specs.Header.{e_shnum};
 ghost use Rattle.elf_tables.specs.First.{first_below};
-ghost use Rattle.elf_object.specs.Least.{is_number};
 ghost use Rattle.elf_tables.specs.Section.{section_header};
 ghost use Rattle.elf_tables.specs.Table.{is_symbol_table, relocates, symbol_table};
-ghost use Rattle.elf_object.specs.Table.{has_wrong_header, is_string_table, is_wrong_rel, is_wrong_rela, is_wrong_rela_of_kept, is_wrong_start, is_wrong_symbol_table, is_wrong_table, is_wrong_table_of};
+ghost use Rattle.elf_object.specs.Table.{has_wrong_header, is_number, is_string_table, is_wrong_rel, is_wrong_rela, is_wrong_rela_of_kept, is_wrong_start, is_wrong_symbol_table, is_wrong_table, is_wrong_table_of};
 ghost use Rattle.elf_tables.specs.Relocation.{relocations_of};
 
+use elf_tables::constants::{
+    SECTION_HEADER_SIZE, SHN_LORESERVE, SHT_REL, SHT_RELA, SHT_STRTAB, SHT_SYMTAB,
+};
 use elf_tables::{Lookup, SectionHeader, Sections};
 
 /// Whether the section with this index is a string table.
 fn is_string_table(sections: &Sections, index: u32) -> bool
     ensures { result ≡ is_string_table sections.now index }
 {
-    index < sections.count() && sections.header(index).kind == 3
+    index < sections.count() && sections.header(index).kind == SHT_STRTAB
 }
 
 /// Whether the ELF header names other tables than those of an object with sections.
 fn has_wrong_header(sections: &Sections) -> bool
     ensures { result ≡ has_wrong_header sections.now }
 {
-    sections.header_size() != 64
-        || sections.count() >= 0xff00
+    u64::from(sections.header_size()) != SECTION_HEADER_SIZE
+        || sections.count() >= u32::from(SHN_LORESERVE)
         || !is_string_table(sections, sections.names_index())
 }
 
@@ -37,10 +39,7 @@ pub(crate) fn is_wrong_start(sections: &Sections) -> bool
 fn is_number(found: Option<u32>, number: u32) -> bool
     ensures { result ≡ is_number found number }
 {
-    match found {
-        Some(index) => index == number,
-        None => false,
-    }
+    found == Some(number)
 }
 
 /// Whether a symbol table stands before this one.
@@ -113,9 +112,9 @@ fn is_wrong_table_of(lookup: &Lookup, index: u32, header: &SectionHeader) -> boo
     ensures { result ≡ is_wrong_table_of lookup.now index header.now }
 {
     match header.kind {
-        2 => is_wrong_symbol_table(lookup, index, header),
-        4 => is_wrong_rela(lookup, index, header),
-        9 => is_wrong_rel(lookup, header),
+        SHT_SYMTAB => is_wrong_symbol_table(lookup, index, header),
+        SHT_RELA => is_wrong_rela(lookup, index, header),
+        SHT_REL => is_wrong_rel(lookup, header),
         _ => false,
     }
 }

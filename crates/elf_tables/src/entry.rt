@@ -2,6 +2,7 @@ ghost use Rattle.std.specs.Prelude.{◌≡◌, ◌+◌, ◌*◌, ◌≤◌, ◌<
 ghost use Rattle.elf_tables.specs.Symbol.{symbol_in};
 ghost use Rattle.elf_tables.specs.Relocation.{relocation_in};
 
+use crate::constants::ENTRY_SIZE;
 use crate::field::{half, long, word};
 
 /// A symbol as it stands in the symbol table (System V gABI, "Symbol Table"): where its name begins
@@ -22,7 +23,7 @@ impl SymbolEntry {
         requires { 24 * number + 24 ≤ length table.now }
         ensures { result ≡ symbol_in table.now number }
     {
-        let at = 24 * number;
+        let at = ENTRY_SIZE * number;
         SymbolEntry {
             name: word(table, at),
             info: table[(at + 4) as usize],
@@ -50,7 +51,7 @@ impl Reloc {
         requires { 24 * index + 24 ≤ length table.now }
         ensures { result ≡ relocation_in table.now index }
     {
-        let at = 24 * index;
+        let at = ENTRY_SIZE * index;
         let info = long(table, at + 8);
         Reloc {
             offset: long(table, at),

@@ -3,6 +3,9 @@ ghost use Rattle.elf_tables.specs.Section.{section_header_at, is_in_file};
 ghost use Rattle.elf_tables.specs.Kept.{is_writable, is_allocated, is_executable, is_thread_local};
 ghost use Rattle.elf_tables.specs.Table.{has_entries};
 
+use crate::constants::{
+    ENTRY_SIZE, SHF_ALLOC, SHF_EXECINSTR, SHF_TLS, SHF_WRITE, SHT_NOBITS, SHT_NULL,
+};
 use crate::field::{half, long, word};
 
 /// A section header (System V gABI, "Section Header"), without its address.
@@ -43,41 +46,41 @@ impl SectionHeader {
     pub fn is_in_file(&self) -> bool
         ensures { result ≡ is_in_file self.now }
     {
-        self.kind != 0 && self.kind != 8
+        self.kind != SHT_NULL && self.kind != SHT_NOBITS
     }
 
     /// `SHF_WRITE`.
     pub fn is_writable(&self) -> bool
         ensures { result ≡ is_writable self.now }
     {
-        self.flags & 1 != 0
+        self.flags & SHF_WRITE != 0
     }
 
     /// `SHF_ALLOC`.
     pub fn is_allocated(&self) -> bool
         ensures { result ≡ is_allocated self.now }
     {
-        self.flags & 2 != 0
+        self.flags & SHF_ALLOC != 0
     }
 
     /// `SHF_EXECINSTR`.
     pub fn is_executable(&self) -> bool
         ensures { result ≡ is_executable self.now }
     {
-        self.flags & 4 != 0
+        self.flags & SHF_EXECINSTR != 0
     }
 
     /// `SHF_TLS`.
     pub fn is_thread_local(&self) -> bool
         ensures { result ≡ is_thread_local self.now }
     {
-        self.flags & 0x400 != 0
+        self.flags & SHF_TLS != 0
     }
 
     /// Whether the section has whole entries of 24 bytes, as of symbols and relocations.
     pub fn has_entries(&self) -> bool
         ensures { result ≡ has_entries self.now }
     {
-        self.entry_size == 24 && self.size % 24 == 0
+        self.entry_size == ENTRY_SIZE && self.size % ENTRY_SIZE == 0
     }
 }

@@ -8,6 +8,7 @@ pub use header::SectionHeader;
 pub use lookup::Lookup;
 pub use sections::Sections;
 
+pub mod constants;
 mod entry;
 mod field;
 mod header;

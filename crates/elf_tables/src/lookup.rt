@@ -8,6 +8,7 @@ ghost use Rattle.elf_tables.specs.Table.{is_symbol_table, symbol_table};
 ghost use Rattle.elf_tables.specs.Symbol.{bytes_of, linked_bytes, symbol, symbol_bytes, symbol_count, symbol_names};
 ghost use Rattle.elf_tables.specs.Relocation.{relocation_bytes, relocations_of};
 
+use crate::constants::{ENTRY_SIZE, SHT_NOTE, SHT_SYMTAB};
 use crate::entry::SymbolEntry;
 use crate::header::SectionHeader;
 use crate::sections::Sections;
@@ -40,6 +41,7 @@ impl<'a> Model for Lookup<'a> {
 }
 
 impl<'a> Lookup<'a> {
+    /// Looks up the tables of a file once.
     pub fn of(alloc: Global, sections: Sections<'a>) -> Result<Lookup<'a>, NoMemory>
         ensures { IfOk result (λ l. l ≡ sections.entry) }
     {
@@ -101,7 +103,7 @@ impl<'a> Lookup<'a> {
         ensures { result ≡ is_kept self.now index }
     {
         let header = self.sections.header(index);
-        header.is_allocated() && header.kind != 7 && !self.names.is_eh_frame(header.name)
+        header.is_allocated() && header.kind != SHT_NOTE && !self.names.is_eh_frame(header.name)
     }
 
     /// The index of the symbol table.
@@ -115,7 +117,7 @@ impl<'a> Lookup<'a> {
     pub fn symbol_count(&self) -> u64
         ensures { result ≡ symbol_count self.now }
     {
-        self.symbols.len() as u64 / 24
+        self.symbols.len() as u64 / ENTRY_SIZE
     }
 
     /// The symbol with this number.
@@ -179,7 +181,7 @@ fn is_symbol_table(sections: &Sections, index: u32) -> bool
     requires { index < e_shnum sections.now }
     ensures { result ≡ is_symbol_table sections.now index }
 {
-    sections.header(index).kind == 2
+    sections.header(index).kind == SHT_SYMTAB
 }
 
 /// The bytes of a section, if there is one.

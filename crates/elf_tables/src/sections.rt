@@ -2,6 +2,7 @@ ghost use Rattle.std.specs.Prelude.{◌≡◌, ◌+◌, ◌*◌, ◌≤◌, ◌<
 ghost use Rattle.elf_tables.specs.Header.{e_shentsize, e_shnum, e_shoff, e_shstrndx, section_headers_end};
 ghost use Rattle.elf_tables.specs.Section.{content, section_bytes, section_header};
 
+use crate::constants::SECTION_HEADER_SIZE;
 use crate::field::{half, long};
 use crate::header::SectionHeader;
 use std::marker::Model;
@@ -35,7 +36,8 @@ impl<'a> Sections<'a> {
     {
         let at = long(bytes, 40);
         let count = u32::from(half(bytes, 60));
-        if (bytes.len() as u128) < u128::from(at) + 64 * u128::from(count) {
+        let size = SECTION_HEADER_SIZE * u64::from(count);
+        if (bytes.len() as u128) < u128::from(at) + u128::from(size) {
             return None;
         }
         Some(Sections { bytes, at, count })
@@ -81,7 +83,7 @@ impl<'a> Sections<'a> {
         requires { index < e_shnum self.now }
         ensures { result ≡ section_header self.now index }
     {
-        SectionHeader::read(self.bytes, self.at + 64 * u64::from(index))
+        SectionHeader::read(self.bytes, self.at + SECTION_HEADER_SIZE * u64::from(index))
     }
 
     /// The bytes of a section in the file.

@@ -34,7 +34,7 @@ impl Reg {
         }
     }
 
-    /// The register in the low five bits of a number.
+    /// The register of this number.
     pub fn of(number: u32) -> Reg
         requires { number < 32 }
         ensures { result ≡ number }

@@ -116,6 +116,7 @@ impl Memory {
         ensures memory { memory_of self.new ≡ memory_of self.old }
         ensures room { OnOk result (HasRoom self.new addr n) }
         ensures wants { OnErr result (addr < DATA_END) }
+        ensures kept { (k : ℕ) → IsTrue (has_room self.old k) → IsTrue (has_room self.new k) }
     {
         if addr < DATA_END {
             for k in addr..addr + n {
@@ -129,7 +130,8 @@ impl Memory {
     pub fn set_all(&mut self, addr: u64, bytes: &[u8])
         requires room { HasRoom self.old addr (length bytes.now) }
         requires fits { addr + length bytes.now < 2 ^ 64 }
-        ensures { memory_of self.new ≡ placed (memory_of self.old) addr bytes.now }
+        ensures memory { memory_of self.new ≡ placed (memory_of self.old) addr bytes.now }
+        ensures kept { (k : ℕ) → IsTrue (has_room self.old k) → IsTrue (has_room self.new k) }
     {
         for (i, byte) in bytes.iter().enumerate() {
             self.set(addr + i as u64, *byte);

@@ -17,10 +17,25 @@ use std::marker::Model;
 /// The end of the bytes that a system call may name.
 const WINDOW: u64 = 1 << 28;
 
+/// The number of the system call `read` (RISC-V Linux).
+const READ: u64 = 63;
+
+/// The number of the system call `write` (RISC-V Linux).
+const WRITE: u64 = 64;
+
+/// The number of the system call `exit` (RISC-V Linux).
+const EXIT: u64 = 93;
+
+/// The number of the system call `exit_group` (RISC-V Linux).
+const EXIT_GROUP: u64 = 94;
+
+/// The answer -9: no such file descriptor.
 const BAD_DESCRIPTOR: u64 = u64::MAX - 8;
 
+/// The answer -14: no such address.
 const BAD_ADDRESS: u64 = u64::MAX - 13;
 
+/// The answer -38: no such system call.
 const NO_SUCH_CALL: u64 = u64::MAX - 37;
 
 /// The system calls of a run: what is left of its input, its output and the record of the calls.
@@ -34,14 +49,14 @@ pub struct System {
 }
 
 impl Model for System {
-    ghost use Rattle.std.specs.Prelude.{◌≤◌, drop, length};
+    ghost use Rattle.std.specs.Prelude.{◌≤◌, ◌<◌, ◌^◌, drop, length};
     ghost use Rattle.rv_sys.specs.Calls.{Calls};
 
     ghost Value = { Calls };
 
     ghost view = { λ s. record { left = drop s.taken s.input; output = s.output; events = s.events } };
 
-    ghost invariant = { λ s. s.taken ≤ length s.input };
+    ghost invariant = { λ s. (s.taken ≤ length s.input) × (length s.input < 2 ^ 63) };
 }
 
 impl System {
@@ -108,7 +123,7 @@ impl System {
         requires { count ≤ length self.old.left }
         ensures { self.new ≡ record self.old { left = drop count self.old.left } }
     {
-        self.taken += count.min(self.input.len() - self.taken);
+        self.taken += count;
     }
 
     fn record(&mut self, event: Event) -> Result<(), NoMemory>
@@ -134,9 +149,9 @@ impl System {
         ensures refused { OnErr result (self.new ≡ self.old) }
     {
         match regs.get(number_register()) {
-            64 => self.write_call(regs, memory),
-            63 => self.read_call(regs, memory),
-            93 | 94 => self.exit_call(regs),
+            WRITE => self.write_call(regs, memory),
+            READ => self.read_call(regs, memory),
+            EXIT | EXIT_GROUP => self.exit_call(regs),
             _ => {
                 self.answer_only(regs, NO_SUCH_CALL)?;
                 Ok(SysEnd::Goes)
@@ -248,7 +263,7 @@ fn exit_status(event: &Event) -> Option<u8>
     ensures { result ≡ exit_of event.now }
 {
     match event.number {
-        93 | 94 => Some((event.a0 & 0xff) as u8),
+        EXIT | EXIT_GROUP => Some((event.a0 & 0xff) as u8),
         _ => None,
     }
 }

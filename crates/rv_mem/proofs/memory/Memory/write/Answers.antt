@@ -11,7 +11,7 @@ returns-clause-written c =
     let small : c.args.n ≤ 8 = omega (arith, c.requires) in
     let bytes : take c.from-2.result c.to_le_bytes.result ≡ take c.args.n (to_le_bytes w64 c.args.value) =
     rw (c.from-2.ensures, c.to_le_bytes.ensures) refl in
-    c.set_all.ensures
+    c.set_all.ensures.memory
     ∙ ap (λ m. placed m c.args.addr (take c.from-2.result c.to_le_bytes.result)) c.in_ok-make_room.ensures.memory
     ∙ ap (λ bs. placed old c.args.addr bs) bytes
     ∙ write-placed c.args.n old c.args.addr c.args.value small
