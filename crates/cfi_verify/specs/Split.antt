@@ -47,6 +47,12 @@ is_start p words a =
 unfoldable pub unit_at : Profile → List ℕ → ℕ → Option U.Unit
 unit_at p words a = if is_start p words a then recognised (drop ((a - CODE_START) / 4) words) a else None
 
+-- the unit that starts at an address, where the first of some units starts at `at` and each next one
+-- where the one before ends
+unfoldable pub unit_in : List U.Unit → ℕ → ℕ → Option U.Unit
+unit_in [] at a = None
+unit_in (unit ∷ units) at a = if a == at then Some unit else unit_in units (at + 4 * word_count unit) a
+
 -- where the opening's call leads
 abbrev pub entry_of : Profile → List ℕ → Option ℕ
 entry_of p words = target_in p.opening_call (option_and_then decoded (slice_get words ((p.opening_call - CODE_START) / 4)))
