@@ -1,5 +1,5 @@
 -- The units: what instructions each is, at an address. x3 points to the shadow stack; x4, x30 and
--- x31 are scratch; no other unit's instruction writes one of these four.
+-- x31 are scratch; no plain unit's instruction writes one of these four.
 use Rattle.std.specs.Prelude.{◌≡◌, ℕ, ◌+◌, ◌-◌, ◌*◌, ◌/◌, ◌%◌, ◌^◌, ◌<◌, ◌==◌, ◌&&◌, ◌||◌, Bool, true, false, not, IsTrue, List, [], ◌∷◌, ◌++◌, map, take, ◌≢◌}
 use Rattle.rv_word.specs.Bits.{wrap}
 use Rattle.rv_instr.specs.InRange.{IsInstr}
@@ -46,9 +46,9 @@ jump from to = Jal 0 (jump_offset from to)
 abbrev pub gate : ℕ → Instr
 gate label = Upper Lui 0 label
 
--- a branch that skips the next word: its offset is 8
-abbrev pub EIGHT : ℕ
-EIGHT = 4
+-- the offset field of a branch over one instruction: eight bytes, in multiples of two
+abbrev pub skip_offset : ℕ
+skip_offset = 4
 
 -- the constants -8 and -4 as 12-bit fields
 abbrev pub MINUS_EIGHT : ℕ
@@ -62,7 +62,7 @@ MINUS_FOUR = 0xffc
 abbrev pub push : ℕ → List Instr
 push at =
     Shift Slli 30 3 48
-    ∷ Branch Bne 30 0 EIGHT
+    ∷ Branch Bne 30 0 skip_offset
     ∷ jump (at + 8) DEEP
     ∷ Upper Auipc 30 0
     ∷ Immediate Addi 30 30 20
@@ -79,12 +79,12 @@ check at rs1 imm label =
     ∷ Upper Lui 30 0x40000
     ∷ Register Sub 30 31 30
     ∷ Shift Srli 30 30 20
-    ∷ Branch Beq 30 0 EIGHT
+    ∷ Branch Beq 30 0 skip_offset
     ∷ jump (at + 24) BAD_TARGET
     ∷ Load Lw 30 31 0
     ∷ Upper Lui 4 label
     ∷ Immediate Addi 4 4 55
-    ∷ Branch Beq 30 4 EIGHT
+    ∷ Branch Beq 30 4 skip_offset
     ∷ jump (at + 44) BAD_TARGET
     ∷ []
 
@@ -96,7 +96,7 @@ system_instr S.Ebreak = Ebreak
 abbrev pub instrs_of : U.Unit → ℕ → List Instr
 instrs_of (V.Gate label) at = gate label ∷ []
 instrs_of (V.Plain instr) at = instr ∷ []
-instrs_of (V.Branch op rs1 rs2 target) at = Branch op rs1 rs2 EIGHT ∷ jump (at + 4) target ∷ []
+instrs_of (V.Branch op rs1 rs2 target) at = Branch op rs1 rs2 skip_offset ∷ jump (at + 4) target ∷ []
 instrs_of (V.Jump target) at = jump at target ∷ []
 instrs_of V.Stop at = jump at BAD_TARGET ∷ []
 instrs_of (V.System op) at = system_instr op ∷ []
@@ -112,7 +112,7 @@ instrs_of (V.Icall rs1 imm label) at = check at rs1 imm label ++ push (at + 48) 
 instrs_of V.Return at =
     Load Ld 31 3 MINUS_EIGHT
     ∷ Immediate Addi 3 3 MINUS_EIGHT
-    ∷ Branch Beq 31 1 EIGHT
+    ∷ Branch Beq 31 1 skip_offset
     ∷ jump (at + 12) BAD_RETURN
     ∷ Jalr 0 31 0
     ∷ []

@@ -31,7 +31,9 @@ pub enum Unit {
 /// What a system unit does.
 #[derive(Clone, Copy, Debug, PartialEq, Eq)]
 pub enum SystemOp {
+    /// A system call.
     Ecall,
+    /// A break, which ends the run.
     Ebreak,
 }
 

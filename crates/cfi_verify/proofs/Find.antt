@@ -70,6 +70,10 @@ pub no_start_below : (words : List ℕ) (a : ℕ) → a < START → is_start ver
 no_start_below words a below =
     elim (cases_Bool (is_start version_1 words a)) [ inl begun ↦ let low = (start_parts words a begun).low in absurd (omega arith) | inr none ↦ none ]
 
+pub no_unit : (words : List ℕ) (a : ℕ) → is_start version_1 words a ≡ false → unit_at version_1 words a ≡ None
+unfolding unit_at
+no_unit words a none = rw none refl
+
 -- the unit of a mark
 pub unit_of_mark : (words : List ℕ) → IsWhole words → (i : ℕ) (u : U.Unit) → Marked (drop 16 words) START i u → UnitHere words (START + 4 * i) u
 unfolding unit_at

@@ -10,6 +10,7 @@ pub mod RuleFacts
 pub mod Labels
 pub mod Moves
 pub mod Safety
+pub mod CodeSplit
 pub mod Walks
 pub mod Trails
 pub mod Unsafe

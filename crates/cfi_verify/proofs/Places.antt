@@ -16,7 +16,7 @@ use Rattle.cfi_verify.specs.Rules.{IsWellFormed}
 use Rattle.cfi_verify.specs.declared.reject.Rule.TheVariants as R
 use Rattle.cfi_verify.specs.Laws.{AreBytes}
 use Rattle.cfi_verify.proofs.Bytes.{are_words}
-use Rattle.cfi_verify.proofs.Find.{START, IsWhole, UnitHere, unit_here, no_start_below}
+use Rattle.cfi_verify.proofs.Find.{START, IsWhole, UnitHere, unit_here, no_start_below, no_unit}
 use Rattle.cfi_verify.proofs.Marks.{cases_Option, marks_room}
 use Rattle.cfi_verify.proofs.Opening.{HasPrologue, prologue_stands}
 
@@ -129,15 +129,11 @@ module _ (image : Contents) (graph : GraphParts) (bytes : AreBytes image) (forme
   unfolding place_at
   at_deep = refl
 
-  no_unit : (a : ℕ) → is_start version_1 the_words a ≡ false → unit_at version_1 the_words a ≡ None
-  unfolding unit_at
-  no_unit a none = rw none refl
-
   -- nothing starts below the first unit but the handlers, the opening and the closing
   nothing_below : (a : ℕ) → a < START → is_handler a ≡ false → (a ≡ OPENING → ⊥) → (a ≡ 0x40000038 → ⊥) → place_at version_1 the_words a ≡ None
   unfolding place_at
   nothing_below a below h o c =
-      rw (h, ne_eqb a OPENING o, ne_eqb a 0x40000038 c, no_unit a (no_start_below the_words a below)) refl
+      rw (h, ne_eqb a OPENING o, ne_eqb a 0x40000038 c, no_unit the_words a (no_start_below the_words a below)) refl
 
   pub handler_is : (a : ℕ) → is_handler a ≡ true → (a ≡ BAD_TARGET) ⊎ ((a ≡ BAD_RETURN) ⊎ (a ≡ DEEP))
   handler_is a e =
@@ -168,4 +164,4 @@ module _ (image : Contents) (graph : GraphParts) (bytes : AreBytes image) (forme
       nothing_below b (omega arith) (not_handler b (omega arith)) (λ e. omega arith) (λ e. omega arith)
   nothing_inside (body unit) a b facts low high =
       let from = facts.low in
-      at_unit b (omega arith) ∙ ap (option_map body) (no_unit b (facts.inner b low high))
+      at_unit b (omega arith) ∙ ap (option_map body) (no_unit the_words b (facts.inner b low high))

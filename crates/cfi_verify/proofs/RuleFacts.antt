@@ -13,9 +13,9 @@ use Rattle.cfi_unit.specs.declared.unit.Unit as U
 use Rattle.cfi_unit.specs.declared.unit.Unit.TheVariants as V
 use Rattle.cfi_unit.specs.Place.{Place}
 use Rattle.cfi_unit.specs.UnitWords.{word_count}
-use Rattle.cfi_verify.specs.Lines.{line_at, class_of, is_among}
+use Rattle.cfi_verify.specs.Lines.{holds_of, line_at, class_of, is_among}
 use Rattle.cfi_verify.specs.Split.{code_words, is_start, unit_at, place_at}
-use Rattle.cfi_verify.specs.Rules.{IsWellFormed, holds_of, edge_of, call_of, site_of, is_gate_with, is_stop, is_bad_end, lacks_gate, is_lone_site, is_site_with}
+use Rattle.cfi_verify.specs.Rules.{IsWellFormed, edge_of, call_of, site_of, is_gate_with, is_stop, is_bad_end, lacks_gate, is_lone_site, is_site_with}
 use Rattle.cfi_verify.specs.declared.reject.Rule.TheVariants as R
 use Rattle.cfi_verify.proofs.Find.{UnitHere}
 use Rattle.cfi_verify.proofs.Places.{chosen}

@@ -26,7 +26,7 @@ use Rattle.cfi_unit.proofs.Changed.{in_place_changed, IsReady, place_begins}
 use Rattle.cfi_unit.proofs.Context.{kept_data}
 use Rattle.cfi_unit.proofs.PlaceWords.{place_word}
 use Rattle.cfi_unit.proofs.UnitSteps.{unit_law}
-use Rattle.cfi_verify.specs.Along.{Walk, GoesOn, Arrives, ShadowStands, MayBreak, MayEnd, Begun, OnRan, RunsAlong, AreDataChanges, IsSafe}
+use Rattle.cfi_verify.specs.Along.{Walk, GoesOn, Arrives, ShadowStands, MayExit, MayBreak, MayEnd, Begun, OnRan, RunsAlong, AreDataChanges, IsSafe}
 use Rattle.cfi_verify.specs.Rules.{IsWellFormed}
 use Rattle.cfi_verify.specs.Split.{code_words, place_at}
 use Rattle.cfi_verify.specs.Laws.{AreBytes}
@@ -92,8 +92,8 @@ module _ (image : Contents) (graph : GraphParts) (bytes : AreBytes image) (forme
     may : MayEnd place turn
     stop : OnRan turn rest
 
-  exits : (place : Place) (turn : Turn) (rest : Type 0) → (status : ℕ) → turn ≡ Exit status → Ended place turn rest
-  exits place turn rest status e = subst (λ (t : Turn). Ended place t rest) (sym e) (record { may = tt; stop = tt })
+  exits : (place : Place) (turn : Turn) (rest : Type 0) → MayExit place → (status : ℕ) → turn ≡ Exit status → Ended place turn rest
+  exits place turn rest may status e = subst (λ (t : Turn). Ended place t rest) (sym e) (record { may = may; stop = tt })
 
   breaks : (place : Place) (at : ℕ) (turn : Turn) (rest : Type 0) → MayBreak place → turn ≡ Break at → Ended place turn rest
   breaks place at turn rest may e = subst (λ (t : Turn). Ended place t rest) (sym e) (record { may = may; stop = tt })
@@ -105,7 +105,7 @@ module _ (image : Contents) (graph : GraphParts) (bytes : AreBytes image) (forme
   ended_unit (V.Branch op rs1 rs2 target) at turn rest how = absurd how
   ended_unit (V.Jump target) at turn rest how = absurd how
   ended_unit V.Stop at turn rest how = absurd how
-  ended_unit (V.System S.Ecall) at turn rest how = exits (body (V.System S.Ecall)) turn rest how.0 how.1
+  ended_unit (V.System S.Ecall) at turn rest how = exits (body (V.System S.Ecall)) turn rest tt how.0 how.1
   ended_unit (V.System S.Ebreak) at turn rest how = breaks (body (V.System S.Ebreak)) at turn rest tt how
   ended_unit (V.Store op rs1 rs2 imm) at turn rest how = absurd how
   ended_unit (V.Call target) at turn rest how = absurd how
@@ -116,7 +116,7 @@ module _ (image : Contents) (graph : GraphParts) (bytes : AreBytes image) (forme
   ended : (place : Place) (at : ℕ) (turn : Turn) (rest : Type 0) → Ends place at turn → Ended place turn rest
   ended handler at turn rest how = breaks handler at turn rest tt how
   ended (opening entry) at turn rest how = absurd how
-  ended closing at turn rest how = exits closing turn rest how.0 how.1
+  ended closing at turn rest how = exits closing turn rest tt how.0 how.1
   ended (body unit) at turn rest how = ended_unit unit at turn rest how
 
   ready_of : (place : Place) (at : ℕ) (pending : List ℕ) (h : Hart) → PlaceFacts image graph bytes formed place at → Stage image graph bytes formed place pending → h.pc ≡ at →

@@ -10,8 +10,8 @@ use Rattle.cfi_graph.specs.Graph.{GraphParts, IsGraph, is_code_address, line_in_
 use Rattle.cfi_unit.specs.declared.unit.Unit as U
 use Rattle.cfi_unit.specs.Place.{Place}
 use Rattle.cfi_verify.specs.Split.{unit_starts, is_start, unit_at, place_at, is_handler}
-use Rattle.cfi_verify.specs.Lines.{line_at, class_of}
-use Rattle.cfi_verify.specs.Rules.{fails, holds_of, edge_of, call_of, site_of, is_edge_to, is_call_to, is_site_with, is_unused, is_lone_site, is_astray, is_bad_end}
+use Rattle.cfi_verify.specs.Lines.{holds_of, line_at, class_of}
+use Rattle.cfi_verify.specs.Rules.{fails, edge_of, call_of, site_of, is_edge_to, is_call_to, is_site_with, is_unused, is_lone_site, is_astray, is_bad_end}
 use Rattle.cfi_verify.specs.declared.reject.Rule.{Rule}
 use Rattle.cfi_verify.specs.declared.reject.Rule.TheVariants as R
 use Rattle.cfi_verify.proofs.Starts.{start_within}

@@ -26,18 +26,18 @@ class_rises (Site address kind label ∷ lines) l targets r e = class_rises line
 class_rises (Edge from to ∷ lines) l targets r e = class_rises lines l targets r e
 class_rises (Call from to ∷ lines) l targets r e = class_rises lines l targets r e
 
+tail_rises : (x : ℕ) (xs : List ℕ) → is_rising nat_lt (x ∷ xs) ≡ true → is_rising nat_lt xs ≡ true
+tail_rises x [] r = refl
+tail_rises x (y ∷ ys) r = (and_parts _ _ r).1
+
 -- numbers that rise are not below those before them
 head_least : (x : ℕ) (xs : List ℕ) → is_rising nat_lt (x ∷ xs) ≡ true → (j : ℕ) → j < length xs → x ≤ get_or xs j 0
 head_least x [] r j h = absurd (omega arith)
 head_least x (y ∷ ys) r zero h = let less = ltb-true x y (and_parts _ _ r).0 in omega arith
 head_least x (y ∷ ys) r (suc j) h =
     let less = ltb-true x y (and_parts _ _ r).0 in
-    let more : y ≤ get_or ys j 0 = head_least y ys (and_parts _ _ r).1 j (omega arith) in
+    let more : y ≤ get_or ys j 0 = head_least y ys (tail_rises x (y ∷ ys) r) j (omega arith) in
     omega arith
-
-tail_rises : (x : ℕ) (xs : List ℕ) → is_rising nat_lt (x ∷ xs) ≡ true → is_rising nat_lt xs ≡ true
-tail_rises x [] r = refl
-tail_rises x (y ∷ ys) r = (and_parts _ _ r).1
 
 pub never_falls : (xs : List ℕ) → is_rising nat_lt xs ≡ true → (i j : ℕ) → i ≤ j → j < length xs → get_or xs i 0 ≤ get_or xs j 0
 never_falls [] r i j l h = absurd (omega arith)

@@ -1,4 +1,4 @@
--- Pairs that each break one unit are not safe: their undisturbed runs leave what stands where the walk is.
+-- The small pairs with a fault are not safe: their undisturbed runs leave what stands where the walk is.
 use Rattle.std.proofs.Common.{◌≡◌, ℕ, zero, suc, ◌+◌, ◌≤◌, List, [], ◌∷◌, refl, ap, subst, Some, arith, lit≤, replicate}
 use Rattle.std.specs.Prelude.{slice_get}
 use Rattle.std.specs.List.{AllByRecursion}

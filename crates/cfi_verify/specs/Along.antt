@@ -79,13 +79,17 @@ GoesOn p part words lines before (Some place) h m w =
     × Arrives p words lines before h.pc w.pending
     × ShadowStands part place h.pc h m w.pending
 
--- the stops that may come at each place
+-- the stops that may come at each place: an exit only at the closing and at an `ecall`, a break only at
+-- a handler and at an `ebreak`, a fault only at a plain instruction, and no other stop
+abbrev pub MayExit : Place → Type 0
+MayExit closing = Unit {0}
+MayExit (body (V.System S.Ecall)) = Unit {0}
+MayExit other = ⊥
+
 abbrev pub MayBreak : Place → Type 0
 MayBreak handler = Unit {0}
-MayBreak (opening entry) = ⊥
-MayBreak closing = ⊥
 MayBreak (body (V.System S.Ebreak)) = Unit {0}
-MayBreak (body other) = ⊥
+MayBreak other = ⊥
 
 abbrev pub MayFault : Place → Type 0
 MayFault (body (V.Plain instr)) = Unit {0}
@@ -93,7 +97,7 @@ MayFault other = ⊥
 
 abbrev pub MayEnd : Place → Turn → Type 0
 MayEnd place Ran = Unit {0}
-MayEnd place (Exit status) = Unit {0}
+MayEnd place (Exit status) = MayExit place
 MayEnd place (Break pc) = MayBreak place
 MayEnd place (LoadFault pc a) = MayFault place
 MayEnd place (StoreFault pc a) = ⊥

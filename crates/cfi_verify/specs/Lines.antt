@@ -7,6 +7,11 @@ use Rattle.cfi_graph.specs.declared.line.Key.{Key}
 use Rattle.cfi_graph.specs.declared.line.Key.TheVariants.{Label, Address}
 use Rattle.cfi_graph.specs.Graph.{key_of}
 
+-- a test of a value that is there
+abbrev pub holds_of : {A : Type 0} → Option A → (A → Bool) → Bool
+holds_of None test = false
+holds_of (Some x) test = test x
+
 -- a line stands at an address: its first one, for all lines but a class's
 abbrev pub stands_at : ℕ → GraphLine → Bool
 stands_at a (Class label targets) = false

@@ -18,17 +18,12 @@ use Rattle.cfi_unit.specs.declared.unit.Unit.TheVariants as V
 use Rattle.cfi_unit.specs.Place.{Place, opening, body}
 use Rattle.cfi_unit.specs.Prologue.{prologue_instrs}
 use Rattle.cfi_unit.specs.UnitWords.{word_count}
-use Rattle.cfi_verify.specs.Lines.{line_at, class_of, is_among}
+use Rattle.cfi_verify.specs.Lines.{holds_of, line_at, class_of, is_among}
 use Rattle.cfi_verify.specs.Split.{code_words, unit_words, unit_starts, is_start, unit_at, place_at}
 use Rattle.cfi_verify.specs.declared.reject.Reject.{Reject}
 use Rattle.cfi_verify.specs.declared.reject.Reject.TheVariants.{Length, At}
 use Rattle.cfi_verify.specs.declared.reject.Rule.{Rule}
 use Rattle.cfi_verify.specs.declared.reject.Rule.TheVariants as R
-
--- a test of a value that is there
-abbrev pub holds_of : {A : Type 0} → Option A → (A → Bool) → Bool
-holds_of None test = false
-holds_of (Some x) test = test x
 
 -- where a branch or a jump leads
 abbrev pub edge_of : Place → Option ℕ

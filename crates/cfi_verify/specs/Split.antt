@@ -1,5 +1,5 @@
 -- The units of an image's code: the first begins where the profile says, each next one where the
--- one before ends. The prologue's parts count as units too.
+-- one before ends. What stands at an address is a place: a unit, or a part of the prologue.
 use Rattle.std.specs.Prelude.{ℕ, zero, suc, ◌+◌, ◌-◌, ◌*◌, ◌/◌, ◌%◌, ◌^◌, ◌==◌, nat_le, ◌&&◌, ◌||◌, Bool, true, false, List, [], ◌∷◌, drop, slice_get, Option, Some, None, option_map, option_and_then, if◌then◌else◌}
 use Rattle.rv_word.specs.Layout.{CODE_START, Profile}
 use Rattle.rv_code.specs.Decode.{decoded}
@@ -46,6 +46,12 @@ is_start p words a =
 -- the unit that starts at an address
 unfoldable pub unit_at : Profile → List ℕ → ℕ → Option U.Unit
 unit_at p words a = if is_start p words a then recognised (drop ((a - CODE_START) / 4) words) a else None
+
+-- the unit that starts at an address, where the first of some units starts at `at` and each next one
+-- where the one before ends
+unfoldable pub unit_in : List U.Unit → ℕ → ℕ → Option U.Unit
+unit_in [] at a = None
+unit_in (unit ∷ units) at a = if a == at then Some unit else unit_in units (at + 4 * word_count unit) a
 
 -- where the opening's call leads
 abbrev pub entry_of : Profile → List ℕ → Option ℕ

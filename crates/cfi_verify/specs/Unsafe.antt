@@ -1,9 +1,11 @@
--- Small pairs that each break one unit, so that safety is not said of everything.
-use Rattle.std.specs.Prelude.{ℕ, ◌/◌, ◌%◌, ◌^◌, List, [], ◌∷◌, ◌++◌}
+-- Small pairs with one fault each, which are not safe: so safety is not said of everything.
+use Rattle.std.specs.Prelude.{ℕ, ◌/◌, ◌%◌, ◌^◌, List, [], ◌∷◌, ◌++◌, map}
 use Rattle.rv_word.specs.Image.{Contents}
+use Rattle.rv_code.specs.Encode.{code_of}
 use Rattle.cfi_graph.specs.Graph.{GraphParts}
 use Rattle.cfi_graph.specs.declared.line.GraphLine.{GraphLine}
 use Rattle.cfi_graph.specs.declared.line.GraphLine.TheVariants.{Edge, Call}
+use Rattle.cfi_unit.specs.Prologue.{prologue_instrs}
 use Rattle.cfi_verify.specs.Along.{IsSafe}
 
 -- the bytes of words, the lowest first
@@ -13,7 +15,7 @@ bytes_of (w ∷ ws) = (w % 2 ^ 8) ∷ (w / 2 ^ 8 % 2 ^ 8) ∷ (w / 2 ^ 16 % 2 ^ 
 
 -- the prologue's words; its call goes to the first unit
 abbrev pub prologue : List ℕ
-prologue = 0x00100073 ∷ 0x00100073 ∷ 0x00100073 ∷ 0x10000137 ∷ 0x600001b7 ∷ 0x00818193 ∷ 0x03019f13 ∷ 0x000f1463 ∷ 0xfe9ff06f ∷ 0x00000f17 ∷ 0x014f0f13 ∷ 0x01e1b023 ∷ 0x00818193 ∷ 0x00c000ef ∷ 0x05d00893 ∷ 0x00000073 ∷ []
+prologue = map code_of (prologue_instrs 0x40000040)
 
 -- the prologue and words after it
 abbrev pub image_with : List ℕ → Contents

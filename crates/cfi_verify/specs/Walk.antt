@@ -8,8 +8,7 @@ use Rattle.cfi_unit.specs.declared.unit.SystemOp.TheVariants as S
 use Rattle.cfi_unit.specs.Place.{Place, handler, opening, closing, body, place_size}
 use Rattle.cfi_unit.specs.Shadow.{MOST_PENDING}
 use Rattle.cfi_unit.specs.UnitWords.{BAD_TARGET, BAD_RETURN, DEEP}
-use Rattle.cfi_verify.specs.Lines.{class_of, is_among}
-use Rattle.cfi_verify.specs.Rules.{holds_of}
+use Rattle.cfi_verify.specs.Lines.{holds_of, class_of, is_among}
 
 -- an address is a target of the class with a label
 abbrev pub InClass : List GraphLine → ℕ → ℕ → Type 0

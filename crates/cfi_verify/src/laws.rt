@@ -1,11 +1,17 @@
 //! What holds of accepted pairs and of their runs. Each function states one law; nothing is computed.
-ghost use Rattle.cfi_verify.specs.Laws.{WellFormedIsSafe, SafeStaysInPlace, SafeWalksGraph};
+ghost use Rattle.cfi_verify.specs.Laws.{CodeIsSplit, WellFormedIsSafe, SafeStaysInPlace, SafeWalksGraph};
 ghost use Rattle.cfi_verify.specs.Unsafe.{MiddleIsUnsafe, BareReturnIsUnsafe, BareStoreIsUnsafe, MovedPointerIsUnsafe};
 
 /// An image and a graph that meet the rules are safe.
 #[tactic(auto, using(crate::proofs::Safety::well_formed_safe))]
 pub fn well_formed_is_safe()
     ensures { WellFormedIsSafe }
+{}
+
+/// The code of an image that meets the rules is split into units, and a unit starts at an address
+/// exactly where one of the split does.
+pub fn code_is_split()
+    ensures { CodeIsSplit }
 {}
 
 /// The walk of each run of a safe pair is a list of steps of the graph walk.

@@ -23,7 +23,6 @@ ghost use Rattle.cfi_verify.specs.Rules.{
   fails_unit,
   fails_unlisted,
   fails_unused,
-  holds_of,
   is_astray,
   is_bad_end,
   is_call_to,
@@ -37,7 +36,7 @@ ghost use Rattle.cfi_verify.specs.Rules.{
   prologue_word_fits,
   same_kind,
 };
-ghost use Rattle.cfi_verify.specs.Lines.{class_of, is_among};
+ghost use Rattle.cfi_verify.specs.Lines.{class_of, holds_of, is_among};
 ghost use Rattle.cfi_verify.specs.Seen.{place_of};
 ghost use Rattle.cfi_verify.specs.Split.{is_start, place_at, unit_at};
 ghost use Rattle.cfi_verify.specs.declared.reject.Rule.TheVariants as R;

@@ -88,6 +88,7 @@ impl<'a> Scan<'a> {
         requires { graph.now.code ≡ length image.now.code }
         ensures { IfOk result (λ s. (s.words ≡ code_words image.now.code) × (s.graph ≡ graph.now)) }
     {
+        // Tells the proof that the lines are in range and in order.
         let _ = graph.code();
         let words = code_words(alloc, image.code())?;
         let kinds = split(alloc, units(&words), UNITS_START)?;

@@ -82,6 +82,7 @@ impl<'a> Checked<'a> {
         ensures { IsSafe self.now.image self.now.graph }
     {
         are_bytes(self.image);
+        // Tells the proof that the pair meets the rules.
         let _ = self.graph();
         well_formed_is_safe();
     }
@@ -120,6 +121,7 @@ fn are_bytes(image: &Image<'_>)
 fn are_small(bytes: &[u8])
     ensures { (k : ℕ) → slice_index bytes.now k < 2 ^ 8 }
 {
+    // Tells the proof the range of each byte.
     let _len = bytes.len();
 }
 

@@ -1,6 +1,5 @@
 ghost use Rattle.std.specs.Prelude.{◌≡◌};
-ghost use Rattle.cfi_verify.specs.Lines.{class_of, is_among};
-ghost use Rattle.cfi_verify.specs.Rules.{holds_of};
+ghost use Rattle.cfi_verify.specs.Lines.{class_of, holds_of, is_among};
 ghost use Rattle.cfi_verify.specs.Walk.{is_some_target};
 
 use cfi_verify::{Checked, is_among};

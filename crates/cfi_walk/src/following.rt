@@ -25,6 +25,7 @@ pub fn follow(checked: &Checked<'_>, walk: &mut Walk, pc: u64) -> Followed
     ensures unchanged { result ≡ No → walk.new ≡ walk.old }
     ensures no { result ≡ No → (next : WalkState) → IsStep version_1 (code_words checked.now.image.code) checked.now.graph.lines walk.old pc next → ⊥ }
 {
+    // Tells the proof the bounds on the code's length.
     let _ = checked.image().code().len();
     let Some(place) = checked.place_at(walk.address()) else {
         return Followed::No;
