@@ -1,5 +1,5 @@
 use rv_word::NoMemory;
-use std::alloc::{AllocError, AllocFailed};
+use std::alloc::AllocFailed;
 use thiserror::Error;
 
 /// Why a line of a text is refused.
@@ -34,17 +34,6 @@ impl From<NoMemory> for GraphEnd {
     ghost from_gives = { λ e r. r ≡ ends.NoMemory };
 
     fn from(_: NoMemory) -> Self {
-        GraphEnd::NoMemory
-    }
-}
-
-impl From<AllocError> for GraphEnd {
-    ghost use Rattle.std.specs.Prelude.{◌≡◌};
-    ghost use Rattle.cfi_graph.specs.declared.end.GraphEnd.TheVariants as ends;
-
-    ghost from_gives = { λ e r. r ≡ ends.NoMemory };
-
-    fn from(_: AllocError) -> Self {
         GraphEnd::NoMemory
     }
 }

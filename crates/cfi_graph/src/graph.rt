@@ -123,7 +123,7 @@ impl Graph {
         self.lines.len() as u64
     }
 
-    /// The line with the number `k`, from 0.
+    /// The line with the index `k`, from 0.
     pub fn line(&self, k: u64) -> &GraphLine
         requires { k < length self.now.lines }
         ensures { slice_get self.now.lines k ≡ Some result.now }

@@ -5,7 +5,9 @@ use rv_word::Places;
 /// The two kinds of transfer to a computed address.
 #[derive(Clone, Copy, Debug, PartialEq, Eq)]
 pub enum SiteKind {
+    /// A computed call.
     Call,
+    /// A computed jump.
     Jump,
 }
 
@@ -25,7 +27,9 @@ pub enum GraphLine {
 /// What a line is ordered by: a class's label, or the first address of any other line.
 #[derive(Clone, Copy, Debug)]
 pub enum Key {
+    /// A class's label.
     Label(u32),
+    /// The first address of another line.
     Address(u64),
 }
 

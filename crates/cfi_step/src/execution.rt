@@ -22,10 +22,7 @@ use std::alloc::Global;
 fn is_stop(turn: Turn) -> bool
     ensures { result ≡ is_stop turn }
 {
-    match turn {
-        Turn::Ran => false,
-        _ => true,
-    }
+    !matches!(turn, Turn::Ran)
 }
 
 /// Takes steps until the run stops, at most `limit`; gives the end and the number of steps.

@@ -36,18 +36,21 @@ impl Record {
         Ok(())
     }
 
+    /// The changes, lent.
     pub fn as_slice(&self) -> &[(u64, Change)]
         ensures { result.now ≡ self.now }
     {
         self.items.as_slice()
     }
 
+    /// How many changes it has.
     pub fn len(&self) -> usize
         ensures { result ≡ length self.now }
     {
         self.items.len()
     }
 
+    /// Whether it has none.
     pub fn is_empty(&self) -> bool
         ensures { result ≡ (length self.now == 0) }
     {

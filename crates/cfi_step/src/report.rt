@@ -37,10 +37,13 @@ pub enum RunEnd {
 /// What a run came to.
 #[derive(Debug, Drop)]
 pub struct RunReport {
+    /// How the run ended.
     pub end: RunEnd,
     /// How many steps were taken, the one that stopped the run among them.
     pub steps: u64,
+    /// The bytes that system calls wrote.
     pub output: Bytes,
+    /// The system calls, oldest first.
     pub events: Events,
     /// The changes that were made.
     pub made: Record,

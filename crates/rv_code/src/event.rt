@@ -8,14 +8,18 @@ use std::marker::Model;
 /// wrote, and its answer.
 #[derive(Debug, Drop)]
 pub struct Event {
+    /// The call's number, in x17.
     pub number: u64,
+    /// The arguments, in x10 to x15.
     pub a0: u64,
     pub a1: u64,
     pub a2: u64,
     pub a3: u64,
     pub a4: u64,
     pub a5: u64,
+    /// The bytes that it wrote.
     pub bytes: Bytes,
+    /// The answer, in x10 after it.
     pub answer: u64,
 }
 

@@ -7,7 +7,10 @@
 /// | shadow | yes | yes | no |
 #[derive(Clone, Copy, Debug, PartialEq, Eq)]
 pub enum Region {
+    /// What the program reads and writes.
     Data,
+    /// The image's instructions.
     Code,
+    /// The shadow stack.
     Shadow,
 }
