@@ -1,4 +1,4 @@
-ghost use Rattle.std.specs.Prelude.{◌≡◌, ◌≢◌, ◌⊎◌, ◌<◌, ◌≤◌, ℕ, List, None, IfOk, OnOk};
+ghost use Rattle.std.specs.Prelude.{◌≡◌, ◌↔◌, ◌≢◌, ◌⊎◌, ◌<◌, ◌≤◌, ℕ, List, None, IfOk, OnOk};
 ghost use Rattle.std.specs.Io.KnownBytes.{Appends, Keeps};
 ghost use Rattle.tool_io.specs.Faults.{Counts, Rose};
 ghost use Rattle.cfi_tool.specs.Causes.{Explains, IsPart, IsReadFault, IsTooLong};
@@ -29,6 +29,7 @@ fn command<'a, F: Files>(
         (λ o. Counts (IsTooLong o) (F.long_reads files.old) (F.long_reads files.new)) }
     ensures writes { F.write_faults files.new ≡ F.write_faults files.old }
     ensures kept { (name : List ℕ) → F.content files.new name ≡ F.content files.old name }
+    ensures absence_kept { (name : List ℕ) → F.is_absent files.new name ↔ F.is_absent files.old name }
 {
     match requested(words) {
         None => Ok(Outcome::Told(Notice::Usage)),
@@ -60,6 +61,7 @@ fn put_text<K: Sink>(alloc: Global, outcome: &Outcome<'_>, out: &mut K) -> Resul
 /// is put last, in one piece.
 pub fn rvcfi<F: Files, K: Sink>(alloc: Global, words: &[String], files: &mut F, out: &mut K) -> u8
     ensures files_kept { (name : List ℕ) → F.content files.new name ≡ F.content files.old name }
+    ensures absence_kept { (name : List ℕ) → F.is_absent files.new name ↔ F.is_absent files.old name }
     ensures no_write { F.write_faults files.new ≡ F.write_faults files.old }
 
     // All but 4 and 5: the status and the text of an outcome that has its cause.

@@ -1,4 +1,4 @@
-ghost use Rattle.std.specs.Prelude.{◌≡◌, ℕ, List, IfOk, IfErr, option_map};
+ghost use Rattle.std.specs.Prelude.{◌≡◌, ◌↔◌, ℕ, List, IfOk, IfErr, option_map};
 ghost use Rattle.tool_io.specs.Faults.{Counts};
 ghost use Rattle.cfi_tool.specs.Asked.{run_words};
 ghost use Rattle.cfi_tool.specs.Command.{names_of, run};
@@ -38,6 +38,7 @@ fn read_run<'a, F: Files>(
     ensures long_reads { Counts (IsLongRead result) (F.long_reads files.old) (F.long_reads files.new) }
     ensures writes { F.write_faults files.new ≡ F.write_faults files.old }
     ensures kept { (other : List ℕ) → F.content files.new other ≡ F.content files.old other }
+    ensures absence_kept { (other : List ℕ) → F.is_absent files.new other ↔ F.is_absent files.old other }
 {
     let (image, graph) = match read_pair(alloc, request.image, request.graph, files) {
         Ok(pair) => pair,
@@ -83,6 +84,7 @@ pub(crate) fn run_files<'a, F: Files>(
         (λ o. Counts (IsTooLong o) (F.long_reads files.old) (F.long_reads files.new)) }
     ensures writes { F.write_faults files.new ≡ F.write_faults files.old }
     ensures kept { (name : List ℕ) → F.content files.new name ≡ F.content files.old name }
+    ensures absence_kept { (name : List ℕ) → F.is_absent files.new name ↔ F.is_absent files.old name }
 {
     let bytes = match read_run(alloc, request, files) {
         Ok(bytes) => bytes,

@@ -1,4 +1,4 @@
-ghost use Rattle.std.specs.Prelude.{◌≡◌, ℕ, List, IfOk};
+ghost use Rattle.std.specs.Prelude.{◌≡◌, ◌↔◌, ℕ, List, IfOk};
 ghost use Rattle.tool_io.specs.Faults.{Counts};
 ghost use Rattle.cfi_tool.specs.Command.{verify};
 ghost use Rattle.cfi_tool.specs.Causes.{ExplainsRequest, IsReadFault, IsTooLong};
@@ -25,6 +25,7 @@ pub(crate) fn verify_files<'a, F: Files>(
         (λ o. Counts (IsTooLong o) (F.long_reads files.old) (F.long_reads files.new)) }
     ensures writes { F.write_faults files.new ≡ F.write_faults files.old }
     ensures kept { (name : List ℕ) → F.content files.new name ≡ F.content files.old name }
+    ensures absence_kept { (name : List ℕ) → F.is_absent files.new name ↔ F.is_absent files.old name }
 {
     match read_pair(alloc, image, graph, files) {
         Ok((image, graph)) => Ok(Outcome::Told(Notice::Judged(check(alloc, &image, &graph)?))),
