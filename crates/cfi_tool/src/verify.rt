@@ -1,4 +1,4 @@
-ghost use Rattle.std.specs.Prelude.{◌≡◌, ◌↔◌, ℕ, List, IfOk};
+ghost use Rattle.std.specs.Prelude.{◌≡◌, ◌↔◌, ◌≤◌, ℕ, List, IfOk};
 ghost use Rattle.tool_io.specs.Faults.{Counts};
 ghost use Rattle.cfi_tool.specs.Command.{verify};
 ghost use Rattle.cfi_tool.specs.Causes.{ExplainsRequest, IsReadFault, IsTooLong};
@@ -23,6 +23,8 @@ pub(crate) fn verify_files<'a, F: Files>(
         (λ o. Counts (IsReadFault o) (F.read_faults files.old) (F.read_faults files.new)) }
     ensures long_reads { IfOk result
         (λ o. Counts (IsTooLong o) (F.long_reads files.old) (F.long_reads files.new)) }
+    ensures reads_later { F.read_faults files.old ≤ F.read_faults files.new }
+    ensures long_reads_later { F.long_reads files.old ≤ F.long_reads files.new }
     ensures writes { F.write_faults files.new ≡ F.write_faults files.old }
     ensures kept { (name : List ℕ) → F.content files.new name ≡ F.content files.old name }
     ensures absence_kept { (name : List ℕ) → F.is_absent files.new name ↔ F.is_absent files.old name }
