@@ -2,7 +2,7 @@ ghost use Rattle.std.specs.Prelude.{◌≡◌};
 ghost use Rattle.tool_io.specs.declared.ends.ReadEnd.TheVariants.{NoMemory as NoReadMemory};
 ghost use Rattle.tool_io.specs.declared.ends.OutEnd.TheVariants.{NoMemory as NoOutMemory};
 
-use std::alloc::{AllocError, AllocFailed};
+use std::alloc::AllocError;
 use thiserror::Error;
 
 /// Why a read gave no bytes.
@@ -24,14 +24,6 @@ impl From<AllocError> for ReadEnd {
     }
 }
 
-impl<T: Drop> From<AllocFailed<T>> for ReadEnd {
-    ghost from_gives = { λ _ e. e ≡ NoReadMemory };
-
-    fn from(_: AllocFailed<T>) -> Self {
-        ReadEnd::NoMemory
-    }
-}
-
 /// Why a write or a put was not done.
 #[derive(Clone, Copy, Debug, PartialEq, Eq, Error)]
 pub enum OutEnd {
@@ -45,14 +37,6 @@ impl From<AllocError> for OutEnd {
     ghost from_gives = { λ _ e. e ≡ NoOutMemory };
 
     fn from(_: AllocError) -> Self {
-        OutEnd::NoMemory
-    }
-}
-
-impl<T: Drop> From<AllocFailed<T>> for OutEnd {
-    ghost from_gives = { λ _ e. e ≡ NoOutMemory };
-
-    fn from(_: AllocFailed<T>) -> Self {
         OutEnd::NoMemory
     }
 }
