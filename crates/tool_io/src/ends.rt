@@ -8,10 +8,13 @@ use thiserror::Error;
 /// Why a read gave no bytes.
 #[derive(Clone, Copy, Debug, PartialEq, Eq, Error)]
 pub enum ReadEnd {
+    /// The read failed, or the opening before it.
     #[error("the read failed")]
     Failed,
+    /// The file has more bytes than the limit.
     #[error("the file is longer than the limit")]
     TooLong,
+    /// There was no memory.
     #[error("out of memory")]
     NoMemory,
 }
@@ -27,8 +30,10 @@ impl From<AllocError> for ReadEnd {
 /// Why a write or a put was not done.
 #[derive(Clone, Copy, Debug, PartialEq, Eq, Error)]
 pub enum OutEnd {
+    /// The write failed, or the opening before it.
     #[error("the write failed")]
     Failed,
+    /// There was no memory.
     #[error("out of memory")]
     NoMemory,
 }
