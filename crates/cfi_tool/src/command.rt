@@ -10,6 +10,7 @@ ghost use Rattle.cfi_tool.specs.declared.outcome.Outcome.{Outcome};
 use crate::outcome::{Notice, Outcome};
 use crate::request::{Request, requested};
 use crate::run_files::run_files;
+use crate::status;
 use crate::verify::verify_files;
 use rv_word::NoMemory;
 use std::alloc::Global;
@@ -112,11 +113,11 @@ pub fn rvcfi<F: Files, K: Sink>(alloc: Global, words: &[String], files: &mut F, 
         → (result ≡ 6) ⊎ (result ≡ 4) ⊎ (result ≡ 5) }
 {
     let Ok(outcome) = command(alloc, words, files) else {
-        return 5;
+        return status::NO_MEMORY;
     };
     match put_text(alloc, &outcome, out) {
         Ok(()) => outcome.status(),
-        Err(OutEnd::Failed) => 4,
-        Err(OutEnd::NoMemory) => 5,
+        Err(OutEnd::Failed) => status::WRITE_FAULT,
+        Err(OutEnd::NoMemory) => status::NO_MEMORY,
     }
 }

@@ -3,6 +3,7 @@ ghost use Rattle.cfi_tool.specs.Lines.{with_newline};
 ghost use Rattle.cfi_tool.specs.Outcomes.{notice_line, notice_status, outcome_status, outcome_text};
 
 use crate::report::{end_status, report_text};
+use crate::status;
 use crate::verdict::{Verdict, reason_name};
 use cfi_graph::Reason;
 use cfi_step::RunReport;
@@ -36,12 +37,12 @@ impl Notice<'_> {
         ensures { result ≡ notice_status self.now }
     {
         match self {
-            Notice::Judged(Verdict::Accepted) => 0,
-            Notice::Judged(_) => 1,
-            Notice::BadScript(..) => 1,
-            Notice::Usage => 2,
-            Notice::ReadFault(_) => 3,
-            Notice::TooLong(_) => 6,
+            Notice::Judged(Verdict::Accepted) => status::WELL,
+            Notice::Judged(_) => status::REFUSED,
+            Notice::BadScript(..) => status::REFUSED,
+            Notice::Usage => status::USAGE,
+            Notice::ReadFault(_) => status::READ_FAULT,
+            Notice::TooLong(_) => status::TOO_LONG,
         }
     }
 }
