@@ -1,7 +1,8 @@
 ghost use Rattle.std.specs.Prelude.{◌≡◌, IfOk};
 ghost use Rattle.cfi_tool.specs.Lines.{with_newline};
-ghost use Rattle.cfi_tool.specs.Outcomes.{notice_line, notice_status, outcome_status, outcome_text};
+ghost use Rattle.cfi_tool.specs.Outcomes.{notice_line, notice_status, outcome_status, outcome_text, unread_outcome};
 
+use crate::read::Unread;
 use crate::report::{end_status, report_text};
 use crate::status;
 use crate::verdict::{Verdict, reason_name};
@@ -75,7 +76,18 @@ fn notice_text(alloc: Global, notice: &Notice<'_>) -> Result<Vec<u8>, NoMemory>
     Ok(line.into_bytes())
 }
 
-impl Outcome<'_> {
+impl<'a> Outcome<'a> {
+    /// The outcome where a file was not read.
+    pub(crate) fn of_unread(unread: Unread<'a>) -> Result<Self, NoMemory>
+        ensures { result ≡ unread_outcome unread.entry }
+    {
+        match unread {
+            Unread::Fault(name) => Ok(Outcome::Told(Notice::ReadFault(name))),
+            Unread::TooLong(name) => Ok(Outcome::Told(Notice::TooLong(name))),
+            Unread::NoMemory => Err(NoMemory),
+        }
+    }
+
     /// The status with which the program ends, where its text was put.
     pub(crate) fn status(&self) -> u8
         ensures { result ≡ outcome_status self.now }

@@ -90,9 +90,7 @@ pub(crate) fn run_files<'a, F: Files>(
 {
     let bytes = match read_run(alloc, request, files) {
         Ok(bytes) => bytes,
-        Err(Unread::Fault(name)) => return Ok(Outcome::Told(Notice::ReadFault(name))),
-        Err(Unread::TooLong(name)) => return Ok(Outcome::Told(Notice::TooLong(name))),
-        Err(Unread::NoMemory) => return Err(NoMemory),
+        Err(unread) => return Outcome::of_unread(unread),
     };
     Ok(match run_read(alloc, &bytes, request.limit)? {
         RunOutcome::Refused(verdict) => Outcome::Told(Notice::Judged(verdict)),

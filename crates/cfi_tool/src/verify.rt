@@ -5,7 +5,7 @@ ghost use Rattle.cfi_tool.specs.Causes.{ExplainsRequest, IsReadFault, IsTooLong}
 
 use crate::check::check;
 use crate::outcome::{Notice, Outcome};
-use crate::read::{Unread, read_pair};
+use crate::read::read_pair;
 use rv_word::NoMemory;
 use std::alloc::Global;
 use tool_io::Files;
@@ -31,8 +31,6 @@ pub(crate) fn verify_files<'a, F: Files>(
 {
     match read_pair(alloc, image, graph, files) {
         Ok((image, graph)) => Ok(Outcome::Told(Notice::Judged(check(alloc, &image, &graph)?))),
-        Err(Unread::Fault(name)) => Ok(Outcome::Told(Notice::ReadFault(name))),
-        Err(Unread::TooLong(name)) => Ok(Outcome::Told(Notice::TooLong(name))),
-        Err(Unread::NoMemory) => Err(NoMemory),
+        Err(unread) => Outcome::of_unread(unread),
     }
 }
