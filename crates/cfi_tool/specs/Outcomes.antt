@@ -1,13 +1,16 @@
 -- The text and the status of what a command comes to.
-use Rattle.std.specs.Prelude.{ℕ, List, ◌++◌, codes}
+use Rattle.std.specs.Prelude.{ℕ, List, ◌++◌, codes, Result, Ok, Err}
 use Rattle.std.specs.Fmt.{decimal}
 use Rattle.cfi_tool.specs.Lines.{verdict_line, usage_line, read_fault_line, too_long_line, with_newline}
+use Rattle.rv_word.specs.declared.no_memory.NoMemory.{NoMemory}
 use Rattle.cfi_tool.specs.Names.{reason_name}
 use Rattle.cfi_tool.specs.ReportText.{end_status, report_text}
 use Rattle.cfi_tool.specs.declared.outcome.Notice.{Notice}
 use Rattle.cfi_tool.specs.declared.outcome.Notice.TheVariants.{Judged, BadScript, Usage, ReadFault, TooLong}
 use Rattle.cfi_tool.specs.declared.outcome.Outcome.{Outcome}
 use Rattle.cfi_tool.specs.declared.outcome.Outcome.TheVariants.{Told, Report}
+use Rattle.cfi_tool.specs.declared.read.Unread.{Unread}
+use Rattle.cfi_tool.specs.declared.read.Unread.TheVariants as unread
 use Rattle.cfi_tool.specs.declared.verdict.Verdict.{Verdict}
 use Rattle.cfi_tool.specs.declared.verdict.Verdict.TheVariants.{Accepted, BadImage, BadGraph, Rejected}
 
@@ -38,3 +41,9 @@ notice_status (TooLong name) = 6
 abbrev pub outcome_status : Outcome → ℕ
 outcome_status (Told notice) = notice_status notice
 outcome_status (Report report) = end_status report.end
+
+-- what a command comes to one of whose files was not read
+abbrev pub unread_outcome : Unread → Result Outcome NoMemory
+unread_outcome (unread.Fault name) = Ok (Told (ReadFault name))
+unread_outcome (unread.TooLong name) = Ok (Told (TooLong name))
+unread_outcome unread.NoMemory = Err (record {})

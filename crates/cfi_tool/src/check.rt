@@ -16,6 +16,7 @@ pub(crate) fn check(alloc: Global, image: &[u8], graph: &[u8]) -> Result<Verdict
         Ok(image) => image,
         Err(refusal) => return Ok(Verdict::BadImage(refusal)),
     };
+    // Computes nothing: it tells the proof the sizes of the image.
     let _code = image.code();
     let graph = match read_graph(alloc, graph) {
         Ok(graph) => graph,

@@ -1,4 +1,4 @@
-ghost use Rattle.std.specs.Prelude.{◌≡◌, ◌≢◌, ◌⊎◌, ◌<◌, ◌≤◌, ℕ, List, None, IfOk, OnOk};
+ghost use Rattle.std.specs.Prelude.{◌≡◌, ◌↔◌, ◌≢◌, ◌⊎◌, ◌<◌, ◌≤◌, ℕ, List, None, IfOk, OnOk};
 ghost use Rattle.std.specs.Io.KnownBytes.{Appends, Keeps};
 ghost use Rattle.tool_io.specs.Faults.{Counts, Rose};
 ghost use Rattle.cfi_tool.specs.Causes.{Explains, IsPart, IsReadFault, IsTooLong};
@@ -10,6 +10,7 @@ ghost use Rattle.cfi_tool.specs.declared.outcome.Outcome.{Outcome};
 use crate::outcome::{Notice, Outcome};
 use crate::request::{Request, requested};
 use crate::run_files::run_files;
+use crate::status;
 use crate::verify::verify_files;
 use rv_word::NoMemory;
 use std::alloc::Global;
@@ -27,8 +28,11 @@ fn command<'a, F: Files>(
         (λ o. Counts (IsReadFault o) (F.read_faults files.old) (F.read_faults files.new)) }
     ensures long_reads { IfOk result
         (λ o. Counts (IsTooLong o) (F.long_reads files.old) (F.long_reads files.new)) }
+    ensures reads_later { F.read_faults files.old ≤ F.read_faults files.new }
+    ensures long_reads_later { F.long_reads files.old ≤ F.long_reads files.new }
     ensures writes { F.write_faults files.new ≡ F.write_faults files.old }
     ensures kept { (name : List ℕ) → F.content files.new name ≡ F.content files.old name }
+    ensures absence_kept { (name : List ℕ) → F.is_absent files.new name ↔ F.is_absent files.old name }
 {
     match requested(words) {
         None => Ok(Outcome::Told(Notice::Usage)),
@@ -59,8 +63,15 @@ fn put_text<K: Sink>(alloc: Global, outcome: &Outcome<'_>, out: &mut K) -> Resul
 /// handler, 11 where it broke or a load failed, and 12 where it took as many steps as it may. Its text
 /// is put last, in one piece.
 pub fn rvcfi<F: Files, K: Sink>(alloc: Global, words: &[String], files: &mut F, out: &mut K) -> u8
+    // Each file is as before, and none is made or removed.
     ensures files_kept { (name : List ℕ) → F.content files.new name ≡ F.content files.old name }
+    ensures absence_kept { (name : List ℕ) → F.is_absent files.new name ↔ F.is_absent files.old name }
     ensures no_write { F.write_faults files.new ≡ F.write_faults files.old }
+
+    // No count of faults falls.
+    ensures read_faults_later { F.read_faults files.old ≤ F.read_faults files.new }
+    ensures long_reads_later { F.long_reads files.old ≤ F.long_reads files.new }
+    ensures write_faults_later { K.faults out.old ≤ K.faults out.new }
 
     // All but 4 and 5: the status and the text of an outcome that has its cause.
     ensures told { result ≢ 4 → result ≢ 5 → (outcome : Outcome)
@@ -102,11 +113,11 @@ pub fn rvcfi<F: Files, K: Sink>(alloc: Global, words: &[String], files: &mut F, 
         → (result ≡ 6) ⊎ (result ≡ 4) ⊎ (result ≡ 5) }
 {
     let Ok(outcome) = command(alloc, words, files) else {
-        return 5;
+        return status::NO_MEMORY;
     };
     match put_text(alloc, &outcome, out) {
         Ok(()) => outcome.status(),
-        Err(OutEnd::Failed) => 4,
-        Err(OutEnd::NoMemory) => 5,
+        Err(OutEnd::Failed) => status::WRITE_FAULT,
+        Err(OutEnd::NoMemory) => status::NO_MEMORY,
     }
 }

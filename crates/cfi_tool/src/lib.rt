@@ -3,6 +3,7 @@
 #![tactic(auto)]
 
 pub use command::rvcfi;
+pub use status::NO_MEMORY;
 pub use verdict::Verdict;
 
 mod address;
@@ -14,5 +15,6 @@ mod read;
 mod report;
 mod request;
 mod run_files;
+mod status;
 mod verdict;
 mod verify;

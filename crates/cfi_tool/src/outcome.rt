@@ -1,8 +1,10 @@
 ghost use Rattle.std.specs.Prelude.{◌≡◌, IfOk};
 ghost use Rattle.cfi_tool.specs.Lines.{with_newline};
-ghost use Rattle.cfi_tool.specs.Outcomes.{notice_line, notice_status, outcome_status, outcome_text};
+ghost use Rattle.cfi_tool.specs.Outcomes.{notice_line, notice_status, outcome_status, outcome_text, unread_outcome};
 
+use crate::read::Unread;
 use crate::report::{end_status, report_text};
+use crate::status;
 use crate::verdict::{Verdict, reason_name};
 use cfi_graph::Reason;
 use cfi_step::RunReport;
@@ -36,12 +38,12 @@ impl Notice<'_> {
         ensures { result ≡ notice_status self.now }
     {
         match self {
-            Notice::Judged(Verdict::Accepted) => 0,
-            Notice::Judged(_) => 1,
-            Notice::BadScript(..) => 1,
-            Notice::Usage => 2,
-            Notice::ReadFault(_) => 3,
-            Notice::TooLong(_) => 6,
+            Notice::Judged(Verdict::Accepted) => status::WELL,
+            Notice::Judged(_) => status::REFUSED,
+            Notice::BadScript(..) => status::REFUSED,
+            Notice::Usage => status::USAGE,
+            Notice::ReadFault(_) => status::READ_FAULT,
+            Notice::TooLong(_) => status::TOO_LONG,
         }
     }
 }
@@ -74,7 +76,18 @@ fn notice_text(alloc: Global, notice: &Notice<'_>) -> Result<Vec<u8>, NoMemory>
     Ok(line.into_bytes())
 }
 
-impl Outcome<'_> {
+impl<'a> Outcome<'a> {
+    /// The outcome where a file was not read.
+    pub(crate) fn of_unread(unread: Unread<'a>) -> Result<Self, NoMemory>
+        ensures { result ≡ unread_outcome unread.entry }
+    {
+        match unread {
+            Unread::Fault(name) => Ok(Outcome::Told(Notice::ReadFault(name))),
+            Unread::TooLong(name) => Ok(Outcome::Told(Notice::TooLong(name))),
+            Unread::NoMemory => Err(NoMemory),
+        }
+    }
+
     /// The status with which the program ends, where its text was put.
     pub(crate) fn status(&self) -> u8
         ensures { result ≡ outcome_status self.now }

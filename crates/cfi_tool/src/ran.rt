@@ -63,6 +63,7 @@ pub(crate) fn run_bytes(
         Ok(image) => image,
         Err(refusal) => return Ok(RunOutcome::Refused(Verdict::BadImage(refusal))),
     };
+    // Computes nothing: it tells the proof the sizes of the image.
     let _code = image.code();
     let graph = match read_graph(alloc, graph) {
         Ok(graph) => graph,

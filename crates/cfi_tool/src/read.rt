@@ -1,4 +1,4 @@
-ghost use Rattle.std.specs.Prelude.{◌≡◌, ◌∷◌, ◌++◌, [], ℕ, List, IfOk, IfErr, option_map};
+ghost use Rattle.std.specs.Prelude.{◌≡◌, ◌↔◌, ◌∷◌, ◌++◌, [], ℕ, List, IfOk, IfErr, option_map};
 ghost use Rattle.tool_io.specs.Faults.{Counts};
 ghost use Rattle.cfi_tool.specs.Command.{listed};
 ghost use Rattle.cfi_tool.specs.Reads.{Gave, GaveIfNamed, IsFault, IsLongRead, IsUnread};
@@ -27,6 +27,7 @@ fn read<'a, F: Files>(alloc: Global, name: &'a str, files: &mut F) -> Result<Vec
     ensures long_reads { Counts (IsLongRead result) (F.long_reads files.old) (F.long_reads files.new) }
     ensures writes { F.write_faults files.new ≡ F.write_faults files.old }
     ensures kept { (other : List ℕ) → F.content files.new other ≡ F.content files.old other }
+    ensures absence_kept { (other : List ℕ) → F.is_absent files.new other ↔ F.is_absent files.old other }
 {
     match files.read(alloc, name, LIMIT) {
         Ok(bytes) => Ok(bytes),
@@ -50,6 +51,7 @@ pub(crate) fn read_pair<'a, F: Files>(
     ensures long_reads { Counts (IsLongRead result) (F.long_reads files.old) (F.long_reads files.new) }
     ensures writes { F.write_faults files.new ≡ F.write_faults files.old }
     ensures kept { (other : List ℕ) → F.content files.new other ≡ F.content files.old other }
+    ensures absence_kept { (other : List ℕ) → F.is_absent files.new other ↔ F.is_absent files.old other }
 {
     let image = match read(alloc, image, files) {
         Ok(bytes) => bytes,
@@ -73,6 +75,7 @@ fn read_if_named<'a, F: Files>(
     ensures long_reads { Counts (IsLongRead result) (F.long_reads files.old) (F.long_reads files.new) }
     ensures writes { F.write_faults files.new ≡ F.write_faults files.old }
     ensures kept { (other : List ℕ) → F.content files.new other ≡ F.content files.old other }
+    ensures absence_kept { (other : List ℕ) → F.is_absent files.new other ↔ F.is_absent files.old other }
 {
     match name {
         None => Ok(None),
@@ -98,6 +101,7 @@ pub(crate) fn read_named<'a, F: Files>(
     ensures long_reads { Counts (IsLongRead result) (F.long_reads files.old) (F.long_reads files.new) }
     ensures writes { F.write_faults files.new ≡ F.write_faults files.old }
     ensures kept { (other : List ℕ) → F.content files.new other ≡ F.content files.old other }
+    ensures absence_kept { (other : List ℕ) → F.is_absent files.new other ↔ F.is_absent files.old other }
 {
     let script = match read_if_named(alloc, script, files) {
         Ok(script) => script,

@@ -3,6 +3,7 @@ ghost use Rattle.cfi_graph.specs.Text.{hex_text};
 ghost use Rattle.cfi_tool.specs.ReportText.{end_status, handler_name, report_end, report_head, report_text, trail_text};
 
 use crate::address::{Address, LongAddress};
+use crate::status;
 use cfi_step::{Handler, RunEnd, RunReport};
 use rv_word::NoMemory;
 use std::alloc::Global;
@@ -55,10 +56,10 @@ pub(crate) fn end_status(end: RunEnd) -> u8
     ensures { result ≡ end_status end }
 {
     match end {
-        RunEnd::Exit(_) => 0,
-        RunEnd::Handler(_) => 10,
-        RunEnd::Break(_) | RunEnd::LoadFault(..) => 11,
-        RunEnd::Limit => 12,
+        RunEnd::Exit(_) => status::WELL,
+        RunEnd::Handler(_) => status::HANDLER,
+        RunEnd::Break(_) | RunEnd::LoadFault(..) => status::BROKEN,
+        RunEnd::Limit => status::STEP_LIMIT,
     }
 }
 

@@ -1,4 +1,4 @@
-ghost use Rattle.std.specs.Prelude.{◌≡◌, ℕ, List, IfOk, IfErr, option_map};
+ghost use Rattle.std.specs.Prelude.{◌≡◌, ◌↔◌, ◌≤◌, ℕ, List, IfOk, IfErr, option_map};
 ghost use Rattle.tool_io.specs.Faults.{Counts};
 ghost use Rattle.cfi_tool.specs.Asked.{run_words};
 ghost use Rattle.cfi_tool.specs.Command.{names_of, run};
@@ -38,6 +38,7 @@ fn read_run<'a, F: Files>(
     ensures long_reads { Counts (IsLongRead result) (F.long_reads files.old) (F.long_reads files.new) }
     ensures writes { F.write_faults files.new ≡ F.write_faults files.old }
     ensures kept { (other : List ℕ) → F.content files.new other ≡ F.content files.old other }
+    ensures absence_kept { (other : List ℕ) → F.is_absent files.new other ↔ F.is_absent files.old other }
 {
     let (image, graph) = match read_pair(alloc, request.image, request.graph, files) {
         Ok(pair) => pair,
@@ -81,14 +82,15 @@ pub(crate) fn run_files<'a, F: Files>(
         (λ o. Counts (IsReadFault o) (F.read_faults files.old) (F.read_faults files.new)) }
     ensures long_reads { IfOk result
         (λ o. Counts (IsTooLong o) (F.long_reads files.old) (F.long_reads files.new)) }
+    ensures reads_later { F.read_faults files.old ≤ F.read_faults files.new }
+    ensures long_reads_later { F.long_reads files.old ≤ F.long_reads files.new }
     ensures writes { F.write_faults files.new ≡ F.write_faults files.old }
     ensures kept { (name : List ℕ) → F.content files.new name ≡ F.content files.old name }
+    ensures absence_kept { (name : List ℕ) → F.is_absent files.new name ↔ F.is_absent files.old name }
 {
     let bytes = match read_run(alloc, request, files) {
         Ok(bytes) => bytes,
-        Err(Unread::Fault(name)) => return Ok(Outcome::Told(Notice::ReadFault(name))),
-        Err(Unread::TooLong(name)) => return Ok(Outcome::Told(Notice::TooLong(name))),
-        Err(Unread::NoMemory) => return Err(NoMemory),
+        Err(unread) => return Outcome::of_unread(unread),
     };
     Ok(match run_read(alloc, &bytes, request.limit)? {
         RunOutcome::Refused(verdict) => Outcome::Told(Notice::Judged(verdict)),

@@ -10,11 +10,13 @@ use std::fmt;
 /// What is said of a file that should be an image and one that should be its graph.
 #[derive(Clone, Copy, Debug, PartialEq, Eq)]
 pub enum Verdict {
+    /// They are an image and its graph, and the image meets every rule.
     Accepted,
     /// The first file is no image.
     BadImage(ImageRefusal),
     /// The second file is no graph: the first line that fails, from 1.
     BadGraph(u64, Reason),
+    /// The image breaks a rule: the first that fails.
     Rejected(Reject),
 }
 

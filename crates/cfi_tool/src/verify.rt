@@ -1,11 +1,11 @@
-ghost use Rattle.std.specs.Prelude.{◌≡◌, ℕ, List, IfOk};
+ghost use Rattle.std.specs.Prelude.{◌≡◌, ◌↔◌, ◌≤◌, ℕ, List, IfOk};
 ghost use Rattle.tool_io.specs.Faults.{Counts};
 ghost use Rattle.cfi_tool.specs.Command.{verify};
 ghost use Rattle.cfi_tool.specs.Causes.{ExplainsRequest, IsReadFault, IsTooLong};
 
 use crate::check::check;
 use crate::outcome::{Notice, Outcome};
-use crate::read::{Unread, read_pair};
+use crate::read::read_pair;
 use rv_word::NoMemory;
 use std::alloc::Global;
 use tool_io::Files;
@@ -23,13 +23,14 @@ pub(crate) fn verify_files<'a, F: Files>(
         (λ o. Counts (IsReadFault o) (F.read_faults files.old) (F.read_faults files.new)) }
     ensures long_reads { IfOk result
         (λ o. Counts (IsTooLong o) (F.long_reads files.old) (F.long_reads files.new)) }
+    ensures reads_later { F.read_faults files.old ≤ F.read_faults files.new }
+    ensures long_reads_later { F.long_reads files.old ≤ F.long_reads files.new }
     ensures writes { F.write_faults files.new ≡ F.write_faults files.old }
     ensures kept { (name : List ℕ) → F.content files.new name ≡ F.content files.old name }
+    ensures absence_kept { (name : List ℕ) → F.is_absent files.new name ↔ F.is_absent files.old name }
 {
     match read_pair(alloc, image, graph, files) {
         Ok((image, graph)) => Ok(Outcome::Told(Notice::Judged(check(alloc, &image, &graph)?))),
-        Err(Unread::Fault(name)) => Ok(Outcome::Told(Notice::ReadFault(name))),
-        Err(Unread::TooLong(name)) => Ok(Outcome::Told(Notice::TooLong(name))),
-        Err(Unread::NoMemory) => Err(NoMemory),
+        Err(unread) => Outcome::of_unread(unread),
     }
 }

@@ -1,16 +1,13 @@
 //! The program: the tool over the command line, the host's files and standard output.
 #![tactic(auto)]
 
-use cfi_tool::rvcfi;
+use cfi_tool::{NO_MEMORY, rvcfi};
 use std::alloc::AllocError;
 use std::io::ErrorKind;
 use std::process::ExitCode;
 use std::rt::Env;
 use std::{env, io};
 use tool_io::{HostFiles, HostSink};
-
-/// Ends the program where there is no memory for its words.
-const NO_MEMORY: u8 = 5;
 
 /// The words of the command line, the program's name first. Where one is not UTF-8 there are none,
 /// and so they are not taken.

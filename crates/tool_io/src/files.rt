@@ -1,4 +1,4 @@
-ghost use Rattle.std.specs.Prelude.{◌≡◌, ◌≢◌, ◌<◌, ◌≤◌, ℕ, List, length, Some, None, IfOk, IfSome, OnOk};
+ghost use Rattle.std.specs.Prelude.{◌≡◌, ◌≢◌, ◌↔◌, ◌<◌, ◌≤◌, ℕ, List, length, Some, None, IfOk, IfSome, OnOk};
 ghost use Rattle.std.specs.declared.option.Option.{Option};
 ghost use Rattle.tool_io.specs.Faults.{Counts};
 ghost use Rattle.tool_io.specs.Contents.{Becomes};
@@ -27,25 +27,30 @@ pub trait Files {
     /// The name of the last read that failed.
     ghost failed_name: { Self → List ℕ };
 
-    /// All the bytes of a file of at most `limit` bytes. It changes no file.
+    /// All the bytes of a file of at most `limit` bytes. It changes no file, and neither makes nor
+    /// removes one.
     fn read(&mut self, alloc: Global, name: &str, limit: u64) -> Result<Vec<u8>, ReadEnd>
         ensures all { IfOk result (λ v. IfSome (content self.old name.now) (λ bytes. v.items ≡ bytes)) }
         ensures within { IfOk result (λ v. length v.items ≤ limit) }
         ensures too_long { result ≡ Err ReadEnd.TooLong → IfSome (content self.old name.now) (λ bytes. limit < length bytes) }
         ensures there { OnOk result (¬ is_absent self.old name.now) }
         ensures kept { (other : List ℕ) → content self.new other ≡ content self.old other }
+        ensures absence_kept { (other : List ℕ) → is_absent self.new other ↔ is_absent self.old other }
         ensures read_faults { Counts (result ≡ Err ReadEnd.Failed) (read_faults self.old) (read_faults self.new) }
         ensures long_reads { Counts (result ≡ Err ReadEnd.TooLong) (long_reads self.old) (long_reads self.new) }
         ensures write_faults { write_faults self.new ≡ write_faults self.old }
         ensures named { result ≡ Err ReadEnd.Failed → failed_name self.new ≡ name.now }
         ensures name_kept { ¬ (result ≡ Err ReadEnd.Failed) → failed_name self.new ≡ failed_name self.old };
 
-    /// Makes these the bytes of a file. After `Failed` nothing is said of that file, and every other
-    /// one is as before.
+    /// Makes these the bytes of a file, which is there from then on. After `Failed` nothing is said of
+    /// that file, and every other one is as before.
     fn write(&mut self, name: &str, bytes: &[u8]) -> Result<(), OutEnd>
         ensures written { OnOk result (Becomes (content self.old name.now) (content self.new name.now) bytes.now) }
+        ensures there { OnOk result (¬ is_absent self.new name.now) }
         ensures others { (other : List ℕ) → other ≢ name.now → content self.new other ≡ content self.old other }
+        ensures other_absence { (other : List ℕ) → other ≢ name.now → is_absent self.new other ↔ is_absent self.old other }
         ensures unchanged { result ≡ Err OutEnd.NoMemory → content self.new name.now ≡ content self.old name.now }
+        ensures absence_unchanged { result ≡ Err OutEnd.NoMemory → is_absent self.new name.now ↔ is_absent self.old name.now }
         ensures write_faults { Counts (result ≡ Err OutEnd.Failed) (write_faults self.old) (write_faults self.new) }
         ensures read_faults { read_faults self.new ≡ read_faults self.old }
         ensures long_reads { long_reads self.new ≡ long_reads self.old }

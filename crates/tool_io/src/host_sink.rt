@@ -12,6 +12,7 @@ pub struct HostSink<W: Write + Drop> {
 }
 
 impl<W: Write + Drop> HostSink<W> {
+    /// An output over a writer, none of whose puts has failed.
     pub fn new(writer: W) -> Self
         ensures written { ⟦<HostSink<W> as Sink>⟧.written result ≡ W.contents writer }
         ensures faults { ⟦<HostSink<W> as Sink>⟧.faults result ≡ 0 }

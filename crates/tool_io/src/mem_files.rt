@@ -8,7 +8,8 @@ use crate::{Files, OutEnd, ReadEnd};
 use std::alloc::{AllocError, Global};
 use std::collections::BTreeMap;
 
-/// Files in memory. A read of a name that is not there fails, and so do the calls that it was told.
+/// Files in memory. A read of a name that is not there fails, and so do the calls with the numbers
+/// that it was given.
 #[derive(Drop)]
 pub struct MemFiles {
     alloc: Global,
@@ -17,7 +18,7 @@ pub struct MemFiles {
     faults: Faults,
 }
 
-// Puts a file there, or other bytes into it.
+/// Puts a file there, or other bytes into it.
 fn put_entry(
     alloc: Global,
     entries: &mut BTreeMap<String, Vec<u8>>,

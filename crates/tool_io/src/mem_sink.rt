@@ -4,7 +4,7 @@ use crate::calls::Calls;
 use crate::{OutEnd, Sink};
 use std::alloc::Global;
 
-/// An output in memory. The calls that it was told fail, and append nothing.
+/// An output in memory. The calls with the numbers that it was given fail, and append nothing.
 #[derive(Drop)]
 pub struct MemSink {
     bytes: Vec<u8>,
