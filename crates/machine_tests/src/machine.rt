@@ -258,27 +258,24 @@ fn machine(rt: &impl Abort, alloc: Global, word: u32, a: u64, b: u64) -> Result<
     Ok(machine)
 }
 
-/// A row of `STEPS`: the word, x10 and x11 before it; x12, the pc and the bytes at 10020h after it.
-struct Row(u32, [u64; 2], [u64; 3]);
-
-/// The numbers of a row of `STEPS`, if it has them all.
-fn numbers(row: &str) -> Option<Row> {
-    let before = [number(row, 2)?, number(row, 3)?];
-    let after = [number(row, 4)?, number(row, 5)?, number(row, 6)?];
-    Some(Row(word(row, 1)?, before, after))
+/// The machine that is about to execute a row of `STEPS`; none where the row has not its numbers.
+fn before(rt: &impl Abort, alloc: Global, row: &str) -> Result<Option<Machine>, NoMemory> {
+    match (word(row, 1), number(row, 2), number(row, 3)) {
+        (Some(word), Some(a), Some(b)) => Ok(Some(machine(rt, alloc, word, a, b)?)),
+        _ => Ok(None),
+    }
 }
 
 /// Whether a machine does what a row of `STEPS` says.
 fn step_does(rt: &impl Abort, alloc: Global, row: &str) -> Result<bool, NoMemory> {
-    let Some(Row(word, [a, b], [x12, pc, bytes])) = numbers(row) else {
+    let Some(mut machine) = before(rt, alloc, row)? else {
         return Ok(false);
     };
-    let mut machine = machine(rt, alloc, word, a, b)?;
     Ok(
         machine.step()? == Turn::Ran
-            && machine.reg(Reg::of(12)) == x12
-            && machine.pc() == pc
-            && machine.mem().read(0x1_0020, 8) == Ok(bytes),
+            && number(row, 4) == Some(machine.reg(Reg::of(12)))
+            && number(row, 5) == Some(machine.pc())
+            && number(row, 6) == machine.mem().read(0x1_0020, 8).ok(),
     )
 }
 
@@ -313,8 +310,7 @@ fn instructions_stop(rt: HostRuntime) -> Result<(), NoMemory> {
     Ok(())
 }
 
-/// The prologue, and what follows it in two programs: one that exits with 7, one that exits with
-/// the byte at 10000h.
+/// The prologue, as binutils assemble tests/units/prologue.s.
 static PROLOGUE: [u32; 16] = [
     0x0010_0073, // ebreak
     0x0010_0073, // ebreak
@@ -334,8 +330,10 @@ static PROLOGUE: [u32; 16] = [
     0x0000_0073, // ecall
 ];
 
+/// A program that exits with 7, of tests/units/exits.s.
 static EXITS_WITH_7: [u32; 4] = [0x0070_0513, 0x05d0_0893, 0x0000_0073, 0xfb5f_f06f];
 
+/// A program that exits with the byte at 10000h, of tests/units/status.s.
 static EXITS_WITH_A_BYTE: [u32; 5] = [
     0x0001_02b7,
     0x0002_b503,

@@ -501,11 +501,19 @@ fn instruction(row: &str) -> Option<Instr> {
     }
 }
 
+/// Whether the instruction of a row is encoded as this word.
+fn is_encoded(row: &str, word: u32) -> bool {
+    match instruction(row) {
+        Some(instr) => encode(instr) == word,
+        None => false,
+    }
+}
+
 /// Whether a row's word is decoded as its instruction, which is encoded as the word.
 fn is_right(row: &str) -> bool {
-    match (word(row, 1), instruction(row)) {
-        (Some(word), Some(instr)) => decode(word) == Some(instr) && encode(instr) == word,
-        _ => false,
+    match word(row, 1) {
+        Some(word) => decode(word) == instruction(row) && is_encoded(row, word),
+        None => false,
     }
 }
 
