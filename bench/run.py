@@ -58,7 +58,7 @@ def called(command, statuses):
 
 
 def how_to_build():
-    return "Build it with `cd crates/rvcfi && rt run`, or name another with --program or RVCFI."
+    return "Build it with `cd crates/rvcfi && rt run`, or name another with --program."
 
 
 def build_interpreter(folder):
@@ -79,7 +79,7 @@ def same_end(commands, want):
 
 def main():
     parser = argparse.ArgumentParser(description="Times rvcfi run.")
-    parser.add_argument("--program", default=os.environ.get("RVCFI", PROGRAM), help="the rvcfi that is timed")
+    parser.add_argument("--program", default=PROGRAM, help="the rvcfi that is timed")
     parser.add_argument("--steps", type=int, default=1000000, help="at most 800000000, where the loop still goes on")
     parser.add_argument("--runs", type=int, default=5)
     options = parser.parse_args()

@@ -1,7 +1,7 @@
 #!/usr/bin/env python3
 """Times `rvcfi verify` on images of three sizes, beside a disassembler on the same files, with its peak memory.
 
-    python3 bench/verify.py [--runs N] [--sizes KIB,KIB,..] [--keep FOLDER]
+    python3 bench/verify.py [--program PATH] [--runs N] [--sizes KIB,KIB,..] [--keep FOLDER]
 
 README.md beside this file says what is measured and how the program is built.
 """
@@ -24,14 +24,19 @@ HERE = os.path.dirname(os.path.abspath(__file__))
 CRATE = os.path.join(HERE, "..", "crates", "rvcfi")
 PROGRAM = os.path.join(CRATE, "out", "rvcfi")
 OBJDUMP = "riscv64-linux-gnu-objdump"
+SECONDS = 60  # until the program waits to write
 
 Times = collections.namedtuple("Times", "wall processor")
 
 
-def build():
-    """Proves and builds the program, if its executable is not there."""
-    if not os.path.exists(PROGRAM):
+def found(program):
+    """The program's path. Where none is named and the usual one is not there, it is proved and built."""
+    if program is None and not os.path.exists(PROGRAM):
         subprocess.run(["rt", "run", "--", "verify", "data/a.img", "data/a.graph"], cwd=CRATE, check=True)
+    path = os.path.abspath(program or PROGRAM)
+    if not os.path.exists(path):
+        sys.exit("%s is not there" % path)
+    return path
 
 
 def processor_time():
@@ -52,6 +57,22 @@ def best_time(command, runs, want=None, status=0):
     return Times(min(walls), min(used))
 
 
+def waiting(child):
+    """What /proc tells of a child, once it waits to write to a pipe. Where the kernel does not name what a process
+    waits for, it waits for that once it sleeps, since it reads nothing but files."""
+    deadline = time.monotonic() + SECONDS
+    while time.monotonic() < deadline:
+        with open("/proc/%d/wchan" % child.pid) as wait, open("/proc/%d/status" % child.pid) as status:
+            waits, lines = wait.read(), status.read()
+        if "State:\tZ" in lines:
+            sys.exit("%s: ended, and wrote nothing" % " ".join(child.args))
+        if "pipe_w" in waits or waits == "0" and "State:\tS" in lines:
+            return lines
+        time.sleep(0.001)
+    child.kill()
+    sys.exit("%s: wrote nothing in %d seconds" % (" ".join(child.args), SECONDS))
+
+
 def peak_memory(command):
     """The most bytes that the process ever had resident (VmHWM), read as it writes its answer.
 
@@ -63,26 +84,21 @@ def peak_memory(command):
     os.write(writer, bytes(size))
     child = subprocess.Popen(command, stdout=writer)
     os.close(writer)
-    while True:
-        with open("/proc/%d/wchan" % child.pid) as wait, open("/proc/%d/status" % child.pid) as status:
-            waits, lines = wait.read(), status.read()
-        if "pipe_w" in waits or "State:\tZ" in lines:
-            break
-        time.sleep(0.001)
-    peak = next(int(line.split()[1]) for line in lines.splitlines() if line.startswith("VmHWM"))
+    lines = waiting(child).splitlines()
+    peak = next(int(line.split()[1]) for line in lines if line.startswith("VmHWM"))
     with os.fdopen(reader, "rb") as rest:
         rest.read()
     child.wait()
     return peak * 1024
 
 
-def measure(folder, kib, runs):
+def measure(program, folder, kib, runs):
     image, graph, counts = pair(kib * 1024)
     paths = [os.path.join(folder, "%d.%s" % (kib, name)) for name in ("img", "graph")]
     for path, content in zip(paths, (image, graph)):
         with open(path, "wb") as out:
             out.write(content)
-    verify = [PROGRAM, "verify"] + paths
+    verify = [program, "verify"] + paths
     ends = ["--start-address=%d" % PAGE, "--stop-address=%d" % (PAGE + kib * 1024)]
     dump = [OBJDUMP, "-D", "-b", "binary", "-m", "riscv:rv64"] + ends + [paths[0]]
     row = {"kib": kib, "image": len(image), "graph": len(graph), "units": sum(counts.values()), "counts": counts}
@@ -121,16 +137,17 @@ def report(rows, base, start):
 
 def main():
     parser = argparse.ArgumentParser(description="Times rvcfi verify.")
+    parser.add_argument("--program", help="the rvcfi that is timed; it is built where none is named and there is none")
     parser.add_argument("--runs", type=int, default=9)
     parser.add_argument("--sizes", default="64,256,1024", help="KiB of code, at most 1024")
     parser.add_argument("--keep", help="a folder in which the files stay")
     options = parser.parse_args()
-    build()
+    program = found(options.program)
     with tempfile.TemporaryDirectory() as work:
         folder = options.keep or work
         os.makedirs(folder, exist_ok=True)
-        base, start = peak_memory([PROGRAM]), best_time([PROGRAM], options.runs, status=2)
-        rows = [measure(folder, int(kib), options.runs) for kib in options.sizes.split(",")]
+        base, start = peak_memory([program]), best_time([program], options.runs, status=2)
+        rows = [measure(program, folder, int(kib), options.runs) for kib in options.sizes.split(",")]
     report(rows, base, start)
 
 

@@ -3,9 +3,9 @@
 
     python3 tests/memory/refused_allocations.py [--program PATH]
 
-The status has to be 5, with nothing printed, or all has to be as without a refusal. It needs Linux with glibc, cc,
-and the program, which `cd crates/rvcfi && rt run` builds. It prints for each command how many allocations it makes,
-and for how many of them a refusal ends with status 5.
+Each refusal has to end with status 5, with nothing printed. It needs Linux with glibc, cc, and the program, which
+`cd crates/rvcfi && rt run` builds. It prints for each command how many allocations it makes, and last how many were
+refused in all. A command that makes none is an error.
 """
 
 import argparse
@@ -24,8 +24,10 @@ sys.path.insert(0, os.path.join(ROOT, "bench"))
 from images import UNITS, image_file, prologue
 
 NO_MEMORY = 5
+SECONDS = 60
 
-# The units of programs as binutils assemble them, their data, and the lines of their graphs after the opening's call.
+# The units of programs as binutils assemble them (exits.s, b.s, h.s and status.s of tests/units), their data, and the
+# lines of their graphs after the opening's call.
 # One exits with 7, one returns with 7, one writes its data, one exits with the first byte of its data.
 EXITS = [0x00700513, 0x05D00893, 0x00000073, 0xFB5FF06F]
 RETURNS = [0x00700513, 0xFF81BF83, 0xFF818193, 0x001F8463, 0xFB5FF06F, 0x000F8067, 0xFA9FF06F]
@@ -73,34 +75,45 @@ def write_files(folder):
 def answer(program, folder, words, refused):
     environment = {"LD_PRELOAD": os.path.join(folder, "refuse.so"), "REFUSED": str(refused)}
     done = subprocess.run([program] + words.split(), cwd=folder, env=environment, stdout=subprocess.PIPE,
-                          stderr=subprocess.PIPE)
+                          stderr=subprocess.PIPE, timeout=SECONDS)
     return done.returncode, done.stdout, done.stderr
 
 
-def check(program, folder, words, status, line):
-    """How many allocations a command makes, and for how many of them a refusal ends with status 5."""
+def allocations(program, folder, words, status, line):
+    """How many allocations a command makes, which ends in this way where none is refused."""
     found, text, taken = answer(program, folder, words, 0)
     if found != status or text.split(b"\n")[0] != line.encode():
         sys.exit("%s: status %d, printed %r" % (words, found, text))
-    ended = 0
-    for refused in range(1, int(taken) + 1):
+    if not taken.strip().isdigit() or int(taken) == 0:
+        sys.exit("%s: no allocation was counted, but told was %r" % (words, taken))
+    return int(taken)
+
+
+def refuse_each(program, folder, words, count):
+    """Refuses each of so many allocations of a command in turn: it has to end with status 5, and print nothing."""
+    for refused in range(1, count + 1):
         found = answer(program, folder, words, refused)
-        if found not in ((status, text, b""), (NO_MEMORY, b"", b"")):
+        if found != (NO_MEMORY, b"", b""):
             sys.exit("%s: allocation %d refused: status %d, printed %r %r" % (words, refused, *found))
-        ended += found[0] == NO_MEMORY
-    return int(taken), ended
 
 
 def main():
-    parser = argparse.ArgumentParser()
+    parser = argparse.ArgumentParser(description="Refuses each allocation of rvcfi in turn.")
     parser.add_argument("--program", default=os.path.join(ROOT, "crates", "rvcfi", "out", "rvcfi"))
     program = os.path.abspath(parser.parse_args().program)
+    if not os.path.exists(program):
+        sys.exit("%s is not there: `cd crates/rvcfi && rt run` builds it" % program)
+    total = 0
     with tempfile.TemporaryDirectory() as folder:
         shim = os.path.join(folder, "refuse.so")
         subprocess.run(["cc", "-O1", "-shared", "-fPIC", "-o", shim, os.path.join(HERE, "refuse.c")], check=True)
         write_files(folder)
         for words, status, line in COMMANDS:
-            print("%-50s %4d allocations, %4d with status 5" % (words, *check(program, folder, words, status, line)))
+            count = allocations(program, folder, words, status, line)
+            refuse_each(program, folder, words, count)
+            print("%-50s %4d allocations, each refused with status 5" % (words, count))
+            total += count
+    print("%d allocations were refused, each with status 5 and nothing printed" % total)
 
 
 main()

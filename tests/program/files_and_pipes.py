@@ -1,13 +1,14 @@
 #!/usr/bin/env python3
 """Runs the program on real files, pipes and faults, and compares status, text and files with what README.md says.
 
-    python3 tests/program/files_and_pipes.py [PROGRAM]
+    python3 tests/program/files_and_pipes.py [--program PATH]
 
-PROGRAM is crates/rvcfi/out/rvcfi where none is named, as `rt ci` or `rt run` leaves it. It needs Python 3.9 and Linux.
+The program is crates/rvcfi/out/rvcfi where none is named, as `rt ci` or `rt run` leaves it. It needs Python 3.9 and Linux.
 A case that this machine cannot set up (a file that root may not read, without a command to run as another user) is
 told as skipped. The last line counts the cases, and the status is 1 where one failed.
 """
 
+import argparse
 import os
 import resource
 import shutil
@@ -129,8 +130,9 @@ def limited(kind, amount):
 
 
 def opened_for(child, path):
-    """A named pipe, opened to write once the child reads it; None where the child ends before."""
-    while child.poll() is None:
+    """A named pipe, opened to write once the child reads it; None where the child ends or the time is up before."""
+    deadline = time.monotonic() + SECONDS
+    while child.poll() is None and time.monotonic() < deadline:
         try:
             number = os.open(path, os.O_WRONLY | os.O_NONBLOCK)
         except OSError:  # (nobody reads it yet)
@@ -311,7 +313,9 @@ def state(folder):
 
 
 def main():
-    program = os.path.abspath(sys.argv[1] if len(sys.argv) > 1 else os.path.join(HERE, "..", "..", "crates", "rvcfi", "out", "rvcfi"))
+    parser = argparse.ArgumentParser(description="Runs rvcfi on real files, pipes and faults.")
+    parser.add_argument("--program", default=os.path.join(HERE, "..", "..", "crates", "rvcfi", "out", "rvcfi"))
+    program = os.path.abspath(parser.parse_args().program)
     if not os.path.exists(program):
         sys.exit("%s is not there: `cd crates/rvcfi && rt run` builds it" % program)
     with tempfile.TemporaryDirectory() as folder:

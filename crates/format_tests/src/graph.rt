@@ -7,8 +7,8 @@ const FIRST: &[u8] = b"rvcfi-graph 1\n";
 
 const SECOND: &[u8] = b"rvcfi-graph 1\ncode 40000000 00000104\n";
 
-// Texts, each without its first lines where these are as above, with `/` for each newline, and what
-// each is read as.
+/// Texts, each without its first lines where these are as above, with `/` for each newline, and what
+/// each is read as.
 const TEXTS: &[u8] = b"\
     from 1:  = line 1: Form\n\
     from 1: / = line 1: Form\n\

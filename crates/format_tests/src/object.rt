@@ -3,10 +3,10 @@ use hex::FromHexError;
 use std::alloc::{AllocError, Global};
 
 /// The fields of the object that the tests change, in the order of the file: sizes, then values.
-const HEADER_SIZES: [usize; 15] = [4, 4, 8, 2, 2, 4, 8, 8, 8, 4, 2, 2, 2, 2, 2];
+const HEADER_SIZES: [usize; 16] = [4, 4, 8, 2, 2, 4, 8, 8, 8, 4, 2, 2, 2, 2, 2, 2];
 
-static HEADER: [u64; 15] = [
-    0x464c457f, 0x010102, 0, 1, 243, 1, 0, 0, 512, 0, 64, 0, 0, 64, 10,
+static HEADER: [u64; 16] = [
+    0x464c457f, 0x010102, 0, 1, 243, 1, 0, 0, 512, 0, 64, 0, 0, 64, 10, 9,
 ];
 
 const SECTION_SIZES: [usize; 10] = [4, 4, 8, 8, 8, 8, 4, 4, 8, 8];
@@ -154,7 +154,7 @@ fn put_fields(file: &mut Vec<u8>, values: &[u64], sizes: &[usize]) -> Result<(),
 fn object(alloc: Global) -> Result<Vec<u8>, AllocError> {
     let mut file = Vec::new(alloc);
     put_fields(&mut file, &HEADER, &HEADER_SIZES)?;
-    file.extend_from_slice(b"\x09\x00\x13\x05\x70\x00\x67\x80\x00\x00")?;
+    file.extend_from_slice(b"\x13\x05\x70\x00\x67\x80\x00\x00")?;
     put_fields(&mut file, &[4, 51, 1, u64::MAX - 1], &RELOCATION_SIZES)?;
     file.resize(112, 0)?;
     put_fields(&mut file, &[0, 57, 1, 0], &RELOCATION_SIZES)?;
@@ -176,22 +176,43 @@ fn put(file: &mut [u8], at: usize, bytes: &[u8]) {
     }
 }
 
-/// Makes one change, as `16=02` puts a 2 at offset 16.
-fn change(alloc: Global, file: &mut [u8], text: &str) -> Result<(), FromHexError> {
-    if let Some((at, digits)) = text.split_once("=") {
-        let bytes = hex::decode(alloc, digits)?;
-        put(file, at.parse::<usize>().unwrap_or(usize::MAX), &bytes);
-    }
-    Ok(())
+/// Makes one change, as `16=02` puts a 2 at offset 16. It is none where the text is not understood, or
+/// the bytes do not lie in the file or stand there already.
+fn change(alloc: Global, file: &mut [u8], text: &str) -> Result<bool, FromHexError> {
+    let Some((offset, digits)) = text.split_once("=") else {
+        return Ok(false);
+    };
+    let Ok(at) = offset.parse::<usize>() else {
+        return Ok(false);
+    };
+    let bytes = hex::decode(alloc, digits)?;
+    Ok(replace(file, at, &bytes))
 }
 
-/// The object with the changes of a row.
-fn changed(alloc: Global, changes: &str) -> Result<Vec<u8>, FromHexError> {
+/// Puts bytes in place of others at `at`, if they lie in the file and differ from these.
+fn replace(file: &mut [u8], at: usize, bytes: &[u8]) -> bool {
+    let Some(tail) = file.get(at..) else {
+        return false;
+    };
+    let Some(old) = tail.get(..bytes.len()) else {
+        return false;
+    };
+    if old == bytes {
+        return false;
+    }
+    put(file, at, bytes);
+    true
+}
+
+/// The object with the changes of a row; none where one of them is none.
+fn changed(alloc: Global, changes: &str) -> Result<Option<Vec<u8>>, FromHexError> {
     let mut file = object(alloc)?;
     for text in changes.split(", ") {
-        change(alloc, &mut file, text)?;
+        if !change(alloc, &mut file, text)? {
+            return Ok(None);
+        }
     }
-    Ok(file)
+    Ok(Some(file))
 }
 
 /// What is wrong with a file, in words.
@@ -206,11 +227,18 @@ fn fault(alloc: Global, file: &[u8]) -> Result<String, AllocError> {
 fn is_right(alloc: Global, row: &str) -> Result<bool, FromHexError> {
     if let Some((_, rest)) = row.split_once(": ") {
         if let Some((changes, expected)) = rest.split_once(": ") {
-            let file = changed(alloc, changes)?;
-            return Ok(fault(alloc, &file)?.as_str() == expected);
+            return is_faulty(alloc, changes, expected);
         }
     }
     Ok(false)
+}
+
+/// Whether the object with these changes has this fault.
+fn is_faulty(alloc: Global, changes: &str, expected: &str) -> Result<bool, FromHexError> {
+    match changed(alloc, changes)? {
+        Some(file) => Ok(fault(alloc, &file)?.as_str() == expected),
+        None => Ok(false),
+    }
 }
 
 #[test]

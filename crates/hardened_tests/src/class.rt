@@ -5,7 +5,7 @@ use std::test::Fail;
 
 const MAX: u64 = u64::MAX;
 
-// sets, and the classes of their members
+/// Sets, and the classes of their members.
 static CLASSES: [(&[&[u64]], &[&[u64]]); 25] = [
     (&[], &[]),
     (&[&[]], &[]),
@@ -53,7 +53,7 @@ static CLASSES: [(&[&[u64]], &[&[u64]]); 25] = [
     ),
 ];
 
-// how many labels, the numbers in use, and the labels
+/// How many labels, the numbers in use, and the labels.
 static LABELS: [(usize, &[u32], &[u32]); 22] = [
     (0, &[], &[]),
     (0, &[1, 2], &[]),
@@ -128,7 +128,7 @@ fn are_labels(alloc: Global, count: usize, used: &[u32], wanted: &[u32]) -> Resu
     Ok(labels(alloc, count, used)?.as_slice() == wanted)
 }
 
-// sets of two neighbours from 0 to 2000, in rising or falling order
+/// Sets of two neighbours from 0 to 2000, in rising or falling order.
 fn chain(alloc: Global, falling: bool) -> Result<Vec<Places>, Fail> {
     let mut sets = Vec::new(alloc);
     for k in 0..2000u64 {
@@ -185,7 +185,7 @@ fn have_size(
     Ok(found.len() == count && found.iter().all(|class| class.len() == members))
 }
 
-// Of the remainders by the prime 1000003 all but those of -3, -2 and -1 times 7919 are in use.
+/// Of the remainders by the prime 1000003 all but those of -3, -2 and -1 times 7919 are in use.
 #[test]
 fn a_million_numbers_in_use(rt: HostRuntime) -> Result<(), Fail> {
     let alloc = rt.alloc();

@@ -8,8 +8,8 @@ use std::test::Fail;
 
 const FIRST: &[u8] = b"rvcfi-script 1\n";
 
-// Texts, each without its first line where that is as above, with `|` for each newline, and what each
-// is read as.
+/// Texts, each without its first line where that is as above, with `|` for each newline, and what each
+/// is read as.
 const TEXTS: &[u8] = b"\
     from 1:  = line 1: Form\n\
     from 1: | = line 1: Form\n\

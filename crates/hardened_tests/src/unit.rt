@@ -10,8 +10,8 @@ use std::test::Fail;
 /// Where the first unit of an image stands.
 const FIRST: u64 = 0x4000_0040;
 
-// The words of the objects in tests/units at the top of the repository, as binutils makes them.
-// Straight code: x10 is 7, then an exit, then a stop.
+/// The words of the objects in tests/units at the top of the repository, as binutils makes them. This one
+/// is straight code, of exits.s: x10 is 7, then an exit, then a stop.
 const A: [u32; 4] = [0x00700513, 0x05d00893, 0x00000073, 0xfb5ff06f];
 
 const H: [u32; 33] = [

@@ -32,39 +32,39 @@ fn tells_its_parts(checked: &Checked<'_>) -> bool {
         && checked.class_of(1).is_none()
 }
 
-/// Whether a program, with a word in place of another, is accepted and tells its parts.
-fn is_accepted(alloc: Global, at: usize, word: u32) -> Result<bool, Fail> {
-    let bytes = code(alloc, &B, at, word)?;
-    let len = bytes.len();
-    if len < 4 || len > 0x10_0000 || len % 4 != 0 {
-        return Ok(false);
-    }
-    let graph = read_graph(alloc, B_GRAPH)?;
-    let image = Image::of(&bytes, &[]);
-    match verify(alloc, &image, &graph) {
-        Ok(checked) => Ok(tells_its_parts(&checked)),
-        Err(_) => Ok(false),
+/// How a pair is answered: accepted with its parts told, rejected by the rule on targets at 40000040h, or
+/// in another way.
+#[derive(Clone, Copy, PartialEq)]
+enum Outcome {
+    Accepted,
+    Rejected,
+    Other,
+}
+
+/// How the verifier answered.
+fn answer(verdict: Result<Checked<'_>, VerifyEnd>) -> Outcome {
+    match verdict {
+        Ok(checked) if tells_its_parts(&checked) => Outcome::Accepted,
+        Err(VerifyEnd::Reject(Reject::At(Rule::Target, 0x4000_0040))) => Outcome::Rejected,
+        _ => Outcome::Other,
     }
 }
 
-/// Whether the same is rejected by the rule on targets at 40000040h.
-fn is_rejected(alloc: Global, at: usize, word: u32) -> Result<bool, Fail> {
+/// What becomes of the program, with a word in place of that at an offset.
+fn verified(alloc: Global, at: usize, word: u32) -> Result<Outcome, Fail> {
     let bytes = code(alloc, &B, at, word)?;
     let len = bytes.len();
     if len < 4 || len > 0x10_0000 || len % 4 != 0 {
-        return Ok(false);
+        return Ok(Outcome::Other);
     }
     let graph = read_graph(alloc, B_GRAPH)?;
     let image = Image::of(&bytes, &[]);
-    match verify(alloc, &image, &graph) {
-        Err(VerifyEnd::Reject(Reject::At(Rule::Target, address))) => Ok(address == 0x4000_0040),
-        _ => Ok(false),
-    }
+    Ok(answer(verify(alloc, &image, &graph)))
 }
 
 #[test]
 fn accepted_and_rejected(rt: HostRuntime) -> Result<(), Fail> {
-    assert!(rt; is_accepted(rt.alloc(), 0, HEAD[0])?);
-    assert!(rt; is_rejected(rt.alloc(), 0x40, 0x0080_006f)?);
+    assert!(rt; verified(rt.alloc(), 0, HEAD[0])? == Outcome::Accepted);
+    assert!(rt; verified(rt.alloc(), 0x40, 0x0080_006f)? == Outcome::Rejected);
     Ok(())
 }

@@ -39,6 +39,24 @@ static DISTURBED: [&[u64]; 3] = [
     ],
 ];
 
+/// Where a walk goes after the opening, and an address to which it does not go from there: a unit that is not
+/// the entry, the middle of a unit, a unit that is in no class, a pending site that is not the newest.
+static REFUSED: [(&[u64], u64); 4] = [
+    (&[], 0x40000044),
+    (&[], 0x40000048),
+    (
+        &[0x40000040, 0x40000044, 0x40000054, 0x40000058, 0x4000005c],
+        0x400000cc,
+    ),
+    (
+        &[
+            0x40000040, 0x40000044, 0x40000054, 0x40000058, 0x4000005c, 0x400000c8, 0x400000cc,
+            0x400000d0,
+        ],
+        0x40000038,
+    ),
+];
+
 /// Whether a walk goes on to an address, with so many sites pending then, and this one the newest.
 fn goes_on(checked: &Checked<'_>, walk: &mut Walk, row: &(u64, usize, Option<u64>)) -> bool {
     matches!(follow(checked, walk, row.0), Followed::Yes)
@@ -73,10 +91,26 @@ fn goes_along(checked: &Checked<'_>, walk: &mut Walk, trail: &[u64]) -> bool {
     true
 }
 
-/// Whether the pair's walks are those above, and none leads into the middle of a unit.
+/// Whether a walk goes as a row of `REFUSED` says, and no further.
+fn is_refused(alloc: Global, checked: &Checked<'_>, row: &(&[u64], u64)) -> Result<bool, NoMemory> {
+    let mut walk = Walk::new(alloc)?;
+    Ok(goes_along(checked, &mut walk, row.0) && stays(checked, &mut walk, row.1))
+}
+
+/// Whether each row of `REFUSED` holds of a pair.
+fn refuses(alloc: Global, checked: &Checked<'_>) -> Result<bool, NoMemory> {
+    for row in &REFUSED {
+        if !is_refused(alloc, checked, row)? {
+            return Ok(false);
+        }
+    }
+    Ok(true)
+}
+
+/// Whether the pair has the walks above, and stops where it has to.
 fn has_these_walks(alloc: Global, checked: &Checked<'_>) -> Result<bool, NoMemory> {
     let mut walk = Walk::new(alloc)?;
-    if !stays(checked, &mut walk, 0x4000_0044) || !goes_undisturbed(checked, &mut walk) {
+    if !goes_undisturbed(checked, &mut walk) {
         return Ok(false);
     }
     for trail in &DISTURBED {
@@ -85,7 +119,7 @@ fn has_these_walks(alloc: Global, checked: &Checked<'_>) -> Result<bool, NoMemor
             return Ok(false);
         }
     }
-    Ok(true)
+    refuses(alloc, checked)
 }
 
 /// Whether the program is accepted, and its pair has these walks.

@@ -68,7 +68,7 @@ fn places_are_a_list(rt: HostRuntime) -> Result<(), Fail> {
 
 #[test]
 fn an_image_has_its_bytes(rt: HostRuntime) {
-    let image = Image::of(&[0x73, 0, 0x10, 0], &[]);
-    assert_eq!(rt; image.code().len(), 4);
-    assert!(rt; image.init().is_empty());
+    let image = Image::of(&[0x73, 0, 0x10, 0], &[7, 8]);
+    assert_eq!(rt; image.code(), [0x73, 0, 0x10, 0].as_slice());
+    assert_eq!(rt; image.init(), [7, 8].as_slice());
 }

@@ -12,10 +12,13 @@ pub(crate) fn name(row: &str) -> &str {
     row.split(' ').next().unwrap_or("")
 }
 
-/// The number at a place of a row, its name at 0; 0 where there is none.
-pub(crate) fn number(row: &str, at: usize) -> u64 {
-    match row.split(' ').nth(at) {
-        Some(word) => u64::from_str_radix(word, 16).unwrap_or(0),
-        None => 0,
-    }
+/// The number at a place of a row, its name at 0; none where no number stands there.
+pub(crate) fn number(row: &str, at: usize) -> Option<u64> {
+    let word = row.split(' ').nth(at)?;
+    u64::from_str_radix(word, 16).ok()
+}
+
+/// The same, where it is below 2 to the 32.
+pub(crate) fn word(row: &str, at: usize) -> Option<u32> {
+    u32::try_from(number(row, at)?).ok()
 }

@@ -1,10 +1,9 @@
-use crate::rows::{name, number, rows};
+use crate::rows::{name, number, rows, word};
 use rv_code::{decode, encode};
 use rv_instr::{
     BranchOp, FenceWord, Immediate, ImmediateOp, Instr, LoadOp, Reg, RegisterOp, Regs, ShiftOp,
     ShiftWordOp, StoreOp, UpperOp,
 };
-use rv_word::low32;
 
 /// Words, a line each: the name, the word, the two registers in the order of the instruction's fields and
 /// the immediate field, in hexadecimal, as tests/words/table.py prints them.
@@ -470,16 +469,21 @@ fn without_immediate(name: &str, first: Reg, second: Reg, number: u32) -> Option
         return Some(Instr::ShiftWord(op, first, second, Immediate::of(number & 0x1f)));
     }
     let op = register(name)?;
-    Some(Instr::Register(op, first, second, Reg::of(number & 0x1f)))
+    let third = Reg::new(u8::try_from(number).ok()?)?;
+    Some(Instr::Register(op, first, second, third))
 }
 
-/// The instruction of a row of `WORDS`.
+/// The register at a place of a row.
+fn register_at(row: &str, at: usize) -> Option<Reg> {
+    Reg::new(u8::try_from(number(row, at)?).ok()?)
+}
+
+/// The instruction of a row of `WORDS`; none where the row is not understood.
 fn instruction(row: &str) -> Option<Instr> {
     let name = name(row);
-    let first = Reg::of(low32(number(row, 2)) & 0x1f);
-    let second = Reg::of(low32(number(row, 3)) & 0x1f);
-    let word = low32(number(row, 1));
-    let field = low32(number(row, 4));
+    let first = register_at(row, 2)?;
+    let second = register_at(row, 3)?;
+    let field = word(row, 4)?;
     let imm = Immediate::of(field & 0xf_ffff);
     if let Some(op) = upper(name) {
         return Some(Instr::Upper(op, first, imm));
@@ -487,7 +491,7 @@ fn instruction(row: &str) -> Option<Instr> {
     match name {
         "jal" => Some(Instr::Jal(first, imm)),
         "jalr" => Some(Instr::Jalr(first, second, Immediate::of(field & 0xfff))),
-        "fence" => Some(Instr::Fence(FenceWord::new(word)?)),
+        "fence" => Some(Instr::Fence(FenceWord::new(word(row, 1)?)?)),
         "ecall" => Some(Instr::Ecall),
         "ebreak" => Some(Instr::Ebreak),
         _ => match with_immediate(name, first, second, field) {
@@ -497,17 +501,20 @@ fn instruction(row: &str) -> Option<Instr> {
     }
 }
 
-/// Whether the instruction of a row is encoded as its word.
-fn is_encoded(row: &str) -> bool {
+/// Whether the instruction of a row is encoded as this word.
+fn is_encoded(row: &str, word: u32) -> bool {
     match instruction(row) {
-        Some(instr) => encode(instr) == low32(number(row, 1)),
+        Some(instr) => encode(instr) == word,
         None => false,
     }
 }
 
 /// Whether a row's word is decoded as its instruction, which is encoded as the word.
 fn is_right(row: &str) -> bool {
-    decode(low32(number(row, 1))) == instruction(row) && is_encoded(row)
+    match word(row, 1) {
+        Some(word) => decode(word) == instruction(row) && is_encoded(row, word),
+        None => false,
+    }
 }
 
 #[test]

@@ -29,43 +29,46 @@ fn row_files(rt: &impl Abort, alloc: Global) -> Result<MemFiles, Fail> {
     Ok(files)
 }
 
+const USAGE: &str = "usage: rvcfi rewrite|verify|run|compare|demo\n";
+
+/// The words of a line, and the status and the text that are the answer.
+static COMMANDS: [(&[&str], u8, &str); 14] = [
+    (&["verify", "image", "graph"], 0, "accepted\n"),
+    (&["verify", "graph", "graph"], 1, "refused 22 Short 64\n"),
+    (&["verify", "empty", "empty"], 1, "refused 22 Short 0\n"),
+    (&["verify", "byte", "byte"], 1, "refused 22 Short 1\n"),
+    (
+        &["verify", "image", "image"],
+        1,
+        "refused 23 Graph 1 Form\n",
+    ),
+    (
+        &["verify", "image", "empty"],
+        1,
+        "refused 23 Graph 1 Form\n",
+    ),
+    (
+        &["verify", "image", "capitals"],
+        1,
+        "refused 23 Graph 3 Form\n",
+    ),
+    (&["verify", "image"], 2, USAGE),
+    (&["verify", "image", "graph", "graph"], 2, USAGE),
+    (&["run", "image"], 2, USAGE),
+    (&[], 2, USAGE),
+    (&["verify", "absent", "nothing"], 3, "read fault absent\n"),
+    (&["verify", "image", "nothing"], 3, "read fault nothing\n"),
+    (&["verify", "image", "long"], 6, "too long long\n"),
+];
+
 #[test]
 fn commands(rt: HostRuntime) -> Result<(), Fail> {
     let alloc = rt.alloc();
-    let usage = "usage: rvcfi rewrite|verify|run|compare|demo\n";
-    let cases: [(&[&str], u8, &str); 14] = [
-        (&["verify", "image", "graph"], 0, "accepted\n"),
-        (&["verify", "graph", "graph"], 1, "refused 22 Short 64\n"),
-        (&["verify", "empty", "empty"], 1, "refused 22 Short 0\n"),
-        (&["verify", "byte", "byte"], 1, "refused 22 Short 1\n"),
-        (
-            &["verify", "image", "image"],
-            1,
-            "refused 23 Graph 1 Form\n",
-        ),
-        (
-            &["verify", "image", "empty"],
-            1,
-            "refused 23 Graph 1 Form\n",
-        ),
-        (
-            &["verify", "image", "capitals"],
-            1,
-            "refused 23 Graph 3 Form\n",
-        ),
-        (&["verify", "image"], 2, usage),
-        (&["verify", "image", "graph", "graph"], 2, usage),
-        (&["run", "image"], 2, usage),
-        (&[], 2, usage),
-        (&["verify", "absent", "nothing"], 3, "read fault absent\n"),
-        (&["verify", "image", "nothing"], 3, "read fault nothing\n"),
-        (&["verify", "image", "long"], 6, "too long long\n"),
-    ];
     let mut files = row_files(&rt, alloc)?;
-    for (line, status, text) in cases {
+    for (line, status, text) in &COMMANDS {
         let words = words(alloc, line)?;
         assert!(rt;
-            answers(alloc, &words, &mut files, status, text),
+            answers(alloc, &words, &mut files, *status, text),
             "{line:?}"
         );
     }

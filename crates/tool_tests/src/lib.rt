@@ -7,7 +7,7 @@ mod calls;
 #[cfg(test)]
 mod commands;
 #[cfg(test)]
-mod hostile;
+mod faults;
 #[cfg(test)]
 mod outside;
 #[cfg(test)]

@@ -162,6 +162,8 @@ fn memory_is_got(rt: HostRuntime) -> Result<(), Fail> {
     Ok(())
 }
 
+/// `old.bin` and `long.bin` stay in the folder where the test runs: no call of the host's files removes
+/// one.
 #[test]
 fn host_files(rt: HostRuntime) -> Result<(), Fail> {
     let alloc = rt.alloc();

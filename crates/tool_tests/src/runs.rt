@@ -1,5 +1,5 @@
 //! Runs of whole programs, and the text that is put of each. The code of all programs is what binutils
-//! assemble; the counts of steps and the walks are worked out by hand.
+//! assemble of the sources in tests/units; the counts of steps and the walks are worked out by hand.
 
 use crate::calls::{status_of, words};
 use crate::pairs::{A, A_CLASS, A_GRAPH, B, B_GRAPH, HEAD, P, P_GRAPH, code};
@@ -109,8 +109,8 @@ static SCRIPTS: [(&str, &[u8]); 13] = [
     ("empty", b""),
 ];
 
-// The words after `run`, with the names of programs for those of their files, then the status and the
-// text, with `;` for each newline.
+/// The words after `run`, with the names of programs for those of their files, then the status and the
+/// text, with `;` for each newline.
 const RUNS: &[u8] = b"\
     a.img,a.graph,none,none,100 = 0: output 0;;stop exit 7;steps 13;walk 4;trail 4000000c 40000040 40000044 40000048;\n\
     a.img,a.graph,none,none,0 = 12: output 0;;stop limit;steps 0;walk 0;trail;\n\

@@ -1,0 +1,5 @@
+# An EBREAK.
+        .include "units.inc"
+        .globl  _start
+_start: ebreak
+        stop
