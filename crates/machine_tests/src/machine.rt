@@ -250,7 +250,8 @@ fn machine(rt: &impl Abort, alloc: Global, word: u32, a: u64, b: u64) -> Result<
     for number in [a, b, X12, 0, BYTES, MORE_BYTES] {
         data.extend_from_slice(&number.to_le_bytes())?;
     }
-    assert!(rt; code.len() == 36 && data.len() == 48);
+    let (len, init) = (code.len(), data.len());
+    assert!(rt; 4 <= len && len <= 0x10_0000 && len % 4 == 0 && init <= 0x200_0000);
     let mut machine = Machine::new(alloc, &Image::of(&code, &data), &[])?;
     for _ in 0..LOADS.len() {
         assert_eq!(rt; machine.step()?, Turn::Ran);
@@ -356,18 +357,35 @@ fn run_exits(
     steps: u8,
     status: u8,
 ) -> Result<(), NoMemory> {
+    let mut machine = started(rt, alloc, words)?;
+    run_steps(rt, &mut machine, changed, steps)?;
+    assert!(rt; exits(&mut machine, status)?);
+    assert!(rt; exits(&mut machine, status)?);
+    assert!(rt; has_exited(&machine, status));
+    Ok(())
+}
+
+/// The machine at the start of a program with these words after the prologue.
+fn started(rt: &impl Abort, alloc: Global, words: &[u32]) -> Result<Machine, NoMemory> {
     let code = code_of(alloc, words)?;
-    assert!(rt; code.len() == 80 || code.len() == 84);
-    let mut machine = Machine::new(alloc, &Image::of(&code, &[]), &[])?;
+    let len = code.len();
+    assert!(rt; 4 <= len && len <= 0x10_0000 && len % 4 == 0);
+    Machine::new(alloc, &Image::of(&code, &[]), &[])
+}
+
+/// Steps that all run; the byte at 10000h becomes 5 before one of them.
+fn run_steps(
+    rt: &impl Abort,
+    machine: &mut Machine,
+    changed: u8,
+    steps: u8,
+) -> Result<(), NoMemory> {
     for step in 0..steps {
         if step == changed {
             machine.change(five(rt))?;
         }
-        assert!(rt; runs(&mut machine)?, "step {step}");
+        assert!(rt; runs(machine)?, "step {step}");
     }
-    assert!(rt; exits(&mut machine, status)?);
-    assert!(rt; exits(&mut machine, status)?);
-    assert!(rt; has_exited(&machine, status));
     Ok(())
 }
 
