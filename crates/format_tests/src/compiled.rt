@@ -3,23 +3,25 @@ use elf_object::{Object, Section};
 use hex::FromHexError;
 use std::alloc::{AllocError, Global};
 
-/// The sections of an object in words.
-fn describe_sections(alloc: Global, object: &Object) -> Result<Vec<u8>, AllocError> {
-    let mut text = Vec::new(alloc);
+/// Adds the sections of an object, a line each.
+fn describe_sections(alloc: Global, object: &Object, text: &mut Vec<u8>) -> Result<(), AllocError> {
     for k in 0..object.sections() {
-        let line = describe_section(alloc, k, &object.section(k))?;
-        text.extend_from_slice(&line)?;
+        describe_section(alloc, k, &object.section(k), text)?;
     }
-    Ok(text)
+    Ok(())
 }
 
-/// A section in words, a dash for an empty name.
-fn describe_section(alloc: Global, k: u32, section: &Section<'_>) -> Result<Vec<u8>, AllocError> {
+/// Adds a section, a dash for an empty name.
+fn describe_section(
+    alloc: Global,
+    k: u32,
+    section: &Section<'_>,
+    text: &mut Vec<u8>,
+) -> Result<(), AllocError> {
     let (kind, size) = (section.kind, section.size);
-    let words = format!(in alloc; "section {k} {kind} {size} ")?;
-    line(
-        alloc,
-        words.as_bytes(),
+    add(text, &format!(in alloc; "section {k} {kind} {size} ")?)?;
+    add_name(
+        text,
         if section.name.is_empty() {
             b"-"
         } else {
@@ -28,61 +30,79 @@ fn describe_section(alloc: Global, k: u32, section: &Section<'_>) -> Result<Vec<
     )
 }
 
-/// A line of words and a name.
-fn line(alloc: Global, words: &[u8], name: &[u8]) -> Result<Vec<u8>, AllocError> {
-    let mut line = Vec::from_slice(alloc, words)?;
-    line.extend_from_slice(name)?;
-    line.push(b'\n')?;
-    Ok(line)
-}
-
-/// The symbols of an object with names, in words.
-fn describe_symbols(alloc: Global, object: &Object) -> Result<Vec<u8>, AllocError> {
-    let first = format!(in alloc; "symbols {}\n", object.symbols())?;
-    let mut text = Vec::from_slice(alloc, first.as_bytes())?;
+/// Adds the count of symbols, and the symbols that have names.
+fn describe_symbols(alloc: Global, object: &Object, text: &mut Vec<u8>) -> Result<(), AllocError> {
+    add(text, &format!(in alloc; "symbols {}\n", object.symbols())?)?;
     for k in 0..object.symbols() {
-        let line = describe_symbol(alloc, k, object.symbol(k).name)?;
-        text.extend_from_slice(&line)?;
+        describe_symbol(alloc, k, object.symbol(k).name, text)?;
     }
-    Ok(text)
+    Ok(())
 }
 
-/// A symbol in words, and nothing of one without a name.
-fn describe_symbol(alloc: Global, k: u64, name: &[u8]) -> Result<Vec<u8>, AllocError> {
+/// Adds a symbol, and nothing for one without a name.
+fn describe_symbol(
+    alloc: Global,
+    k: u64,
+    name: &[u8],
+    text: &mut Vec<u8>,
+) -> Result<(), AllocError> {
     if name.is_empty() {
-        return Ok(Vec::new(alloc));
+        return Ok(());
     }
-    let words = format!(in alloc; "symbol {k} ")?;
-    line(alloc, words.as_bytes(), name)
+    add(text, &format!(in alloc; "symbol {k} ")?)?;
+    add_name(text, name)
 }
 
-/// The counts of relocations of the sections of an object, in words.
-fn describe_relocations(alloc: Global, object: &Object) -> Result<Vec<u8>, AllocError> {
-    let mut text = Vec::new(alloc);
+/// Adds the counts of relocations of the sections of an object.
+fn describe_relocations(
+    alloc: Global,
+    object: &Object,
+    text: &mut Vec<u8>,
+) -> Result<(), AllocError> {
     for k in 0..object.sections() {
-        let line = describe_count(alloc, k, object.relocs(k).count())?;
-        text.extend_from_slice(line.as_bytes())?;
+        describe_count(alloc, k, object.relocs(k).count(), text)?;
     }
-    Ok(text)
+    Ok(())
 }
 
-/// A count of relocations in words, and nothing of none.
-fn describe_count(alloc: Global, k: u32, count: u64) -> Result<String, AllocError> {
+/// Adds a count of relocations, and nothing for none.
+fn describe_count(alloc: Global, k: u32, count: u64, text: &mut Vec<u8>) -> Result<(), AllocError> {
     if count == 0 {
-        return Ok(String::new(alloc));
+        return Ok(());
     }
-    format!(in alloc; "relocations {k} {count}\n")
+    add(text, &format!(in alloc; "relocations {k} {count}\n")?)
+}
+
+fn add(text: &mut Vec<u8>, words: &String) -> Result<(), AllocError> {
+    text.extend_from_slice(words.as_bytes())
+}
+
+/// Adds a name and the end of its line.
+fn add_name(text: &mut Vec<u8>, name: &[u8]) -> Result<(), AllocError> {
+    text.extend_from_slice(name)?;
+    text.push(b'\n')?;
+    Ok(())
 }
 
 /// An object in words, as `readelf` has it.
 fn describe(alloc: Global, file: &[u8]) -> Result<Vec<u8>, AllocError> {
-    let Ok(object) = Object::read(alloc, file) else {
-        return Vec::from_slice(alloc, b"a fault");
-    };
-    let mut text = describe_sections(alloc, &object)?;
-    text.extend_from_slice(&describe_symbols(alloc, &object)?)?;
-    text.extend_from_slice(&describe_relocations(alloc, &object)?)?;
+    match Object::read(alloc, file) {
+        Ok(object) => describe_object(alloc, &object),
+        Err(_) => Vec::from_slice(alloc, b"a fault"),
+    }
+}
+
+/// The sections, the symbols and the relocations of an object, in words.
+fn describe_object(alloc: Global, object: &Object) -> Result<Vec<u8>, AllocError> {
+    let mut text = Vec::new(alloc);
+    add_parts(alloc, object, &mut text)?;
     Ok(text)
+}
+
+fn add_parts(alloc: Global, object: &Object, text: &mut Vec<u8>) -> Result<(), AllocError> {
+    describe_sections(alloc, object, text)?;
+    describe_symbols(alloc, object, text)?;
+    describe_relocations(alloc, object, text)
 }
 
 /// Whether the object with these digits is described by these words.

@@ -93,11 +93,16 @@ fn set_of(alloc: Global, list: &[u64]) -> Result<Places, AllocError> {
 
 #[test]
 fn classes_by_hand(rt: HostRuntime) -> Result<(), Fail> {
-    for (lists, wanted) in &CLASSES {
-        let sets = sets_of(rt.alloc(), lists)?;
-        assert!(rt; are_classes(rt.alloc(), &sets, wanted)?, "{lists:?}");
+    for row in &CLASSES {
+        assert!(rt; is_right(rt.alloc(), row)?, "{:?}", row.0);
     }
     Ok(())
+}
+
+/// Whether a row's sets have its classes.
+fn is_right(alloc: Global, row: &(&[&[u64]], &[&[u64]])) -> Result<bool, Fail> {
+    let sets = sets_of(alloc, row.0)?;
+    Ok(are_classes(alloc, &sets, row.1)?)
 }
 
 /// Whether some sets have these classes.

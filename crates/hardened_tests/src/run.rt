@@ -71,11 +71,17 @@ fn zeroes_the_saved_address(made: &[(u64, Change)]) -> bool {
 #[test]
 fn hostile(rt: HostRuntime) -> Result<(), Fail> {
     let report = report(&rt, rt.alloc(), &mut Hostile, 100)?;
-    assert!(rt; matches!(report.end, RunEnd::Handler(Handler::BadReturn)));
-    assert!(rt; report.steps == 47 && report.walk == 13);
-    assert!(rt; report.trail.as_slice() == TRAIL.as_slice());
+    assert!(rt; is_caught(&report));
     assert!(rt; zeroes_the_saved_address(report.made.as_slice()));
     Ok(())
+}
+
+/// Whether a run comes to the handler of returns along the trail.
+fn is_caught(report: &RunReport) -> bool {
+    matches!(report.end, RunEnd::Handler(Handler::BadReturn))
+        && report.steps == 47
+        && report.walk == 13
+        && report.trail.as_slice() == TRAIL.as_slice()
 }
 
 /// Whether two runs ended in one way, after as many steps, along one walk, under the same changes.
@@ -94,12 +100,16 @@ fn is_same(one: &RunReport, other: &RunReport) -> bool {
 fn replayed(rt: HostRuntime) -> Result<(), Fail> {
     let alloc = rt.alloc();
     for limit in [0, 15, 16, 46, 47, 1000] {
-        let first = report(&rt, alloc, &mut Hostile, limit)?;
-        let again = again(&rt, alloc, &first, limit)?;
-        assert!(rt; is_same(&again, &first), "{limit}");
-        assert!(rt; has_run(&again, limit), "{limit}");
+        assert!(rt; is_replayed(&rt, alloc, limit)?, "{limit}");
     }
     Ok(())
+}
+
+/// Whether a run that ends at a limit is the same again.
+fn is_replayed(rt: &impl Abort, alloc: Global, limit: u64) -> Result<bool, Fail> {
+    let first = report(rt, alloc, &mut Hostile, limit)?;
+    let again = again(rt, alloc, &first, limit)?;
+    Ok(is_same(&again, &first) && has_run(&again, limit))
 }
 
 /// The report of a run under the changes that another one made.
@@ -119,16 +129,28 @@ fn has_run(report: &RunReport, limit: u64) -> bool {
 /// system call tells is in the report.
 #[test]
 fn events(rt: HostRuntime) -> Result<(), Fail> {
-    let alloc = rt.alloc();
-    let Some(change) = Change::new(0x1_0000, 0xe4) else {
-        panic!(&rt; "10000h is data");
-    };
-    let mut script = Script::of(alloc, &[(0, change)])?;
-    let report = report(&rt, alloc, &mut script, 100)?;
-    assert!(rt; matches!(report.end, RunEnd::Exit(2)));
-    assert!(rt; report.steps == 48 && report.walk == 13);
-    assert!(rt; report.events.len() == 1);
-    let event = report.events.get(0);
-    assert!(rt; event.number == 93 && event.a0 == 2 && event.answer == 0);
+    let mut script = other_pointer(&rt, rt.alloc())?;
+    let report = report(&rt, rt.alloc(), &mut script, 100)?;
+    assert!(rt; has_exited(&report) && tells_its_exit(&report));
     Ok(())
+}
+
+/// The script that changes the pointer.
+fn other_pointer(rt: &impl Abort, alloc: Global) -> Result<Script, Fail> {
+    let change = Change::new(0x1_0000, 0xe4).expect(rt, "10000h is data");
+    Ok(Script::of(alloc, &[(0, change)])?)
+}
+
+/// Whether a run exits with 2, after as many steps and places as the other function's has.
+fn has_exited(report: &RunReport) -> bool {
+    matches!(report.end, RunEnd::Exit(2)) && report.steps == 48 && report.walk == 13
+}
+
+/// Whether the only system call of a run is its exit.
+fn tells_its_exit(report: &RunReport) -> bool {
+    if report.events.len() != 1 {
+        return false;
+    }
+    let event = report.events.get(0);
+    event.number == 93 && event.a0 == 2 && event.answer == 0
 }

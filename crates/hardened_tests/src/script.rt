@@ -320,16 +320,29 @@ fn has_added(changes: &Vec<Change>, from: usize, rows: &[(u64, u8)]) -> bool {
 
 #[test]
 fn planned_changes(rt: HostRuntime) -> Result<(), Fail> {
-    let alloc = rt.alloc();
-    let machine = machine(alloc)?;
-    let mut script = Script::read(alloc, LINES)?;
-    let mut into = Vec::new(alloc);
+    let machine = machine(rt.alloc())?;
+    let mut script = Script::read(rt.alloc(), LINES)?;
+    let mut into = Vec::new(rt.alloc());
     for row in &PLANNED {
-        let right = plans(alloc, &mut script, &machine, &mut into, row)?;
+        let right = plans(rt.alloc(), &mut script, &machine, &mut into, row)?;
         assert!(rt; right, "step {}", row.0);
     }
-    plan(alloc, &mut Script::none(alloc), 3, &machine, &mut into)?;
-    assert_eq!(rt; into.len(), 8);
+    Ok(())
+}
+
+#[test]
+fn no_script(rt: HostRuntime) -> Result<(), Fail> {
+    let machine = machine(rt.alloc())?;
+    let mut script = Script::none(rt.alloc());
+    let mut into = Vec::new(rt.alloc());
+    let right = plans(
+        rt.alloc(),
+        &mut script,
+        &machine,
+        &mut into,
+        &Planned(3, &[]),
+    )?;
+    assert!(rt; right);
     Ok(())
 }
 

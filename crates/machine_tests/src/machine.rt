@@ -241,22 +241,39 @@ static LOADS: [u32; 5] = [
 
 /// A machine that is about to execute a word, with these numbers in x10 and x11.
 fn machine(rt: &impl Abort, alloc: Global, word: u32, a: u64, b: u64) -> Result<Machine, NoMemory> {
+    let code = loading(alloc, word)?;
+    let data = numbers(alloc, a, b)?;
+    let mut machine = loaded(rt, alloc, &code, &data)?;
+    for _ in 0..LOADS.len() {
+        assert!(rt; runs(&mut machine)?);
+    }
+    Ok(machine)
+}
+
+/// The code with a word after the loads.
+fn loading(alloc: Global, word: u32) -> Result<Vec<u8>, NoMemory> {
     let mut code = vec![in alloc; 0; 12]?;
     for word in &LOADS {
         code.extend_from_slice(&word.to_le_bytes())?;
     }
     code.extend_from_slice(&word.to_le_bytes())?;
+    Ok(code)
+}
+
+/// The data that the loads read.
+fn numbers(alloc: Global, a: u64, b: u64) -> Result<Vec<u8>, NoMemory> {
     let mut data = Vec::new(alloc);
     for number in [a, b, X12, 0, BYTES, MORE_BYTES] {
         data.extend_from_slice(&number.to_le_bytes())?;
     }
+    Ok(data)
+}
+
+/// The machine at the start of some code over some data.
+fn loaded(rt: &impl Abort, alloc: Global, code: &[u8], data: &[u8]) -> Result<Machine, NoMemory> {
     let (len, init) = (code.len(), data.len());
     assert!(rt; 4 <= len && len <= 0x10_0000 && len % 4 == 0 && init <= 0x200_0000);
-    let mut machine = Machine::new(alloc, &Image::of(&code, &data), &[])?;
-    for _ in 0..LOADS.len() {
-        assert_eq!(rt; machine.step()?, Turn::Ran);
-    }
-    Ok(machine)
+    Machine::new(alloc, &Image::of(code, data), &[])
 }
 
 /// The machine that is about to execute a row of `STEPS`; none where the row has not its numbers.
@@ -269,23 +286,24 @@ fn before(rt: &impl Abort, alloc: Global, row: &str) -> Result<Option<Machine>, 
 
 /// Whether a machine does what a row of `STEPS` says.
 fn step_does(rt: &impl Abort, alloc: Global, row: &str) -> Result<bool, NoMemory> {
-    let Some(mut machine) = before(rt, alloc, row)? else {
-        return Ok(false);
-    };
-    Ok(
-        machine.step()? == Turn::Ran
-            && number(row, 4) == Some(machine.reg(Reg::of(12)))
-            && number(row, 5) == Some(machine.pc())
-            && number(row, 6) == machine.mem().read(0x1_0020, 8).ok(),
-    )
+    match before(rt, alloc, row)? {
+        Some(mut machine) => Ok(runs(&mut machine)? && is_after(&machine, row)),
+        None => Ok(false),
+    }
+}
+
+/// Whether a machine is as a row has it after its instruction.
+fn is_after(machine: &Machine, row: &str) -> bool {
+    number(row, 4) == Some(machine.reg(Reg::of(12)))
+        && number(row, 5) == Some(machine.pc())
+        && number(row, 6) == machine.mem().read(0x1_0020, 8).ok()
 }
 
 /// One row of `STOPS`.
-fn step_stops(rt: &impl Abort, alloc: Global, row: &Stop) -> Result<(), NoMemory> {
+fn step_stops(rt: &impl Abort, alloc: Global, row: &Stop) -> Result<bool, NoMemory> {
     let (word, a, steps, turn) = *row;
     let mut machine = machine(rt, alloc, word, a, 0)?;
-    assert!(rt; ends_so(&mut machine, steps, turn)?, "{word:x} of {a:x}");
-    Ok(())
+    ends_so(&mut machine, steps, turn)
 }
 
 /// Whether the last of some steps has an end.
@@ -310,7 +328,8 @@ fn instructions_do_as_under_qemu(rt: HostRuntime) -> Result<(), NoMemory> {
 #[test]
 fn instructions_stop(rt: HostRuntime) -> Result<(), NoMemory> {
     for row in &STOPS {
-        step_stops(&rt, rt.alloc(), row)?;
+        let right = step_stops(&rt, rt.alloc(), row)?;
+        assert!(rt; right, "{:x} of {:x}", row.0, row.1);
     }
     Ok(())
 }
@@ -359,18 +378,20 @@ fn run_exits(
 ) -> Result<(), NoMemory> {
     let mut machine = started(rt, alloc, words)?;
     run_steps(rt, &mut machine, changed, steps)?;
-    assert!(rt; exits(&mut machine, status)?);
-    assert!(rt; exits(&mut machine, status)?);
+    assert!(rt; exits_twice(&mut machine, status)?);
     assert!(rt; has_exited(&machine, status));
     Ok(())
+}
+
+/// Whether a step exits with a status, and the one after it again.
+fn exits_twice(machine: &mut Machine, status: u8) -> Result<bool, NoMemory> {
+    Ok(exits(machine, status)? && exits(machine, status)?)
 }
 
 /// The machine at the start of a program with these words after the prologue.
 fn started(rt: &impl Abort, alloc: Global, words: &[u32]) -> Result<Machine, NoMemory> {
     let code = code_of(alloc, words)?;
-    let len = code.len();
-    assert!(rt; 4 <= len && len <= 0x10_0000 && len % 4 == 0);
-    Machine::new(alloc, &Image::of(&code, &[]), &[])
+    loaded(rt, alloc, &code, &[])
 }
 
 /// Steps that all run; the byte at 10000h becomes 5 before one of them.

@@ -1,32 +1,46 @@
 //! Command lines, with the status and the text of each.
 
 use crate::calls::{answers, status_of, words};
-use crate::pairs::{A, A_GRAPH, HEAD, code};
+use crate::pairs::{A, A_GRAPH, image_of, pair};
 use cfi_graph::Reason;
 use cfi_tool::Verdict;
 use cfi_verify::{Reject, Rule};
-use elf_image::{ImageRefusal, write_image};
-use std::alloc::Global;
-use std::process::Abort;
+use elf_image::ImageRefusal;
+use std::alloc::{AllocError, Global};
 use std::test::Fail;
 use tool_io::{MemFiles, MemSink};
 
-/// The image and the graph of a program that exits, and files that are neither.
-fn row_files(rt: &impl Abort, alloc: Global) -> Result<MemFiles, Fail> {
-    let bytes = code(alloc, A, 0, HEAD[0])?;
-    let len = bytes.len();
-    assert!(rt; 4 <= len && len <= 0x10_0000 && len % 4 == 0);
-    let mut files = MemFiles::new(alloc, Vec::new(alloc));
-    files.insert("image", &write_image(alloc, &bytes, &[])?)?;
-    files.insert("graph", A_GRAPH)?;
-    files.insert("empty", b"")?;
-    files.insert("byte", b"r")?;
-    files.insert(
+/// Files that are no image.
+static OTHERS: [(&str, &[u8]); 4] = [
+    ("graph", A_GRAPH),
+    ("empty", b""),
+    ("byte", b"r"),
+    (
         "capitals",
         b"rvcfi-graph 1\ncode 40000000 00000050\nclass 0000A\nend\n",
-    )?;
-    files.insert("long", &vec![in alloc; 0; 67_108_865]?)?;
+    ),
+];
+
+/// The image and the graph of a program that exits, and files that are neither.
+fn row_files(alloc: Global) -> Result<MemFiles, Fail> {
+    let mut files = MemFiles::new(alloc, Vec::new(alloc));
+    add_files(alloc, &mut files)?;
     Ok(files)
+}
+
+fn add_files(alloc: Global, files: &mut MemFiles) -> Result<(), Fail> {
+    let image = image_of(alloc, A, &[])?;
+    files.insert("image", &image)?;
+    for (name, bytes) in &OTHERS {
+        files.insert(name, bytes)?;
+    }
+    add_long(alloc, files)
+}
+
+/// Adds a file that is longer than a file may be.
+pub(crate) fn add_long(alloc: Global, files: &mut MemFiles) -> Result<(), Fail> {
+    let zeros = vec![in alloc; 0; 67_108_865]?;
+    Ok(files.insert("long", &zeros)?)
 }
 
 const USAGE: &str = "usage: rvcfi rewrite|verify|run|compare|demo\n";
@@ -61,28 +75,37 @@ static COMMANDS: [(&[&str], u8, &str); 14] = [
     (&["verify", "image", "long"], 6, "too long long\n"),
 ];
 
+/// Whether a row's words have its status and text.
+fn is_answered(
+    alloc: Global,
+    files: &mut MemFiles,
+    row: &(&[&str], u8, &str),
+) -> Result<bool, AllocError> {
+    let words = words(alloc, row.0)?;
+    Ok(answers(alloc, &words, files, row.1, row.2))
+}
+
 #[test]
 fn commands(rt: HostRuntime) -> Result<(), Fail> {
-    let alloc = rt.alloc();
-    let mut files = row_files(&rt, alloc)?;
-    for (line, status, text) in &COMMANDS {
-        let words = words(alloc, line)?;
-        assert!(rt;
-            answers(alloc, &words, &mut files, *status, text),
-            "{line:?}"
-        );
+    let mut files = row_files(rt.alloc())?;
+    for row in &COMMANDS {
+        assert!(rt; is_answered(rt.alloc(), &mut files, row)?, "{:?}", row.0);
     }
-    let words = words(alloc, &["verify", "image", "graph"])?;
-    let mut full = MemSink::new(alloc, vec![in alloc; 0]?);
-    assert!(rt; status_of(alloc, &words, &mut files, &mut full) == 4);
+    Ok(())
+}
+
+#[test]
+fn full_output(rt: HostRuntime) -> Result<(), Fail> {
+    let mut files = row_files(rt.alloc())?;
+    let words = words(rt.alloc(), &["verify", "image", "graph"])?;
+    let mut full = MemSink::new(rt.alloc(), vec![in rt.alloc(); 0]?);
+    assert!(rt; status_of(rt.alloc(), &words, &mut files, &mut full) == 4);
     Ok(())
 }
 
 /// Whether an image that is cut to this length is refused by it.
 fn is_refused(alloc: Global, image: &[u8], cut: usize) -> Result<bool, Fail> {
-    let mut files = MemFiles::new(alloc, Vec::new(alloc));
-    files.insert("image", image.get(..cut).unwrap_or(image))?;
-    files.insert("graph", A_GRAPH)?;
+    let mut files = pair(alloc, image.get(..cut).unwrap_or(image), A_GRAPH)?;
     let words = words(alloc, &["verify", "image", "graph"])?;
     let line = format!(in alloc; "refused 22 Short {cut}\n")?;
     Ok(answers(alloc, &words, &mut files, 1, line.as_str()))
@@ -92,10 +115,7 @@ fn is_refused(alloc: Global, image: &[u8], cut: usize) -> Result<bool, Fail> {
 #[test]
 fn cut_images(rt: HostRuntime) -> Result<(), Fail> {
     let alloc = rt.alloc();
-    let bytes = code(alloc, A, 0, HEAD[0])?;
-    let len = bytes.len();
-    assert!(rt; 4 <= len && len <= 0x10_0000 && len % 4 == 0);
-    let image = write_image(alloc, &bytes, &[])?;
+    let image = image_of(alloc, A, &[])?;
     assert!(rt; image.len() == 8192);
     for cut in 0..300_usize {
         assert!(rt; is_refused(alloc, &image, cut)?, "{cut}");

@@ -1,11 +1,9 @@
 //! Graphs that are none, and calls of files and output that fail.
 
 use crate::calls::{answers, status_of, words};
-use crate::pairs::{A, HEAD, code};
+use crate::pairs::{A, image_of, pair};
 use crate::runs::{STATUS, STATUS_GRAPH};
-use elf_image::write_image;
-use std::alloc::Global;
-use std::process::Abort;
+use std::alloc::{AllocError, Global};
 use std::test::Fail;
 use tool_io::{MemFiles, MemSink};
 
@@ -38,19 +36,18 @@ static GRAPHS: [(&[u8], &str); 7] = [
     ),
 ];
 
+/// Whether a text is refused with its line.
+fn is_refused(alloc: Global, image: &[u8], row: &(&[u8], &str)) -> Result<bool, AllocError> {
+    let mut files = pair(alloc, image, row.0)?;
+    let words = words(alloc, &["verify", "image", "graph"])?;
+    Ok(answers(alloc, &words, &mut files, 1, row.1))
+}
+
 #[test]
 fn graphs(rt: HostRuntime) -> Result<(), Fail> {
-    let alloc = rt.alloc();
-    let bytes = code(alloc, A, 0, HEAD[0])?;
-    let len = bytes.len();
-    assert!(rt; 4 <= len && len <= 0x10_0000 && len % 4 == 0);
-    let image = write_image(alloc, &bytes, &[])?;
-    let words = words(alloc, &["verify", "image", "graph"])?;
-    for (graph, line) in &GRAPHS {
-        let mut files = MemFiles::new(alloc, Vec::new(alloc));
-        files.insert("image", &image)?;
-        files.insert("graph", graph)?;
-        assert!(rt; answers(alloc, &words, &mut files, 1, line), "{line}");
+    let image = image_of(rt.alloc(), A, &[])?;
+    for row in &GRAPHS {
+        assert!(rt; is_refused(rt.alloc(), &image, row)?, "{}", row.1);
     }
     Ok(())
 }
@@ -88,16 +85,18 @@ static FAULTS: [Case; 10] = [
 
 /// The image and the graph of a program whose exit status is the first byte of its data, a script that
 /// changes that byte, and an input; the reads with these numbers fail.
-fn status_files(rt: &impl Abort, alloc: Global, failing: &[u64]) -> Result<MemFiles, Fail> {
-    let bytes = code(alloc, STATUS, 0, HEAD[0])?;
-    let len = bytes.len();
-    assert!(rt; 4 <= len && len <= 0x10_0000 && len % 4 == 0);
+fn status_files(alloc: Global, failing: &[u64]) -> Result<MemFiles, Fail> {
     let mut files = MemFiles::new(alloc, Vec::from_slice(alloc, failing)?);
-    files.insert("image", &write_image(alloc, &bytes, &[])?)?;
+    add_files(alloc, &mut files)?;
+    Ok(files)
+}
+
+fn add_files(alloc: Global, files: &mut MemFiles) -> Result<(), Fail> {
+    let image = image_of(alloc, STATUS, &[])?;
+    files.insert("image", &image)?;
     files.insert("graph", STATUS_GRAPH)?;
     files.insert("script", b"rvcfi-script 1\nat 11 00010000 05\nend\n")?;
-    files.insert("input", b"hi")?;
-    Ok(files)
+    Ok(files.insert("input", b"hi")?)
 }
 
 /// Whether a case is answered as its row says. The words come twice: each call that fails does so once,
@@ -115,15 +114,10 @@ fn is_right(alloc: Global, files: &mut MemFiles, case: &Case) -> Result<bool, Fa
 
 #[test]
 fn faults(rt: HostRuntime) -> Result<(), Fail> {
-    let alloc = rt.alloc();
     for case in &FAULTS {
-        let mut files = status_files(&rt, alloc, case.1)?;
-        assert!(rt;
-            is_right(alloc, &mut files, case)?,
-            "{:?} {:?}",
-            case.0,
-            case.1
-        );
+        let mut files = status_files(rt.alloc(), case.1)?;
+        let right = is_right(rt.alloc(), &mut files, case)?;
+        assert!(rt; right, "{:?} {:?}", case.0, case.1);
     }
     Ok(())
 }

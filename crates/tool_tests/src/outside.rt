@@ -169,10 +169,14 @@ fn host_files(rt: HostRuntime) -> Result<(), Fail> {
     let alloc = rt.alloc();
     let mut files = HostFiles::new(alloc, &rt);
     let long = vec![in alloc; 5; 10_000]?;
-    assert!(rt; files.write("old.bin", b"was longer").is_ok());
-    assert!(rt; files.write("old.bin", b"now").is_ok());
-    assert!(rt; files.write("long.bin", &long).is_ok());
-    assert!(rt; files.write("no folder/x", b"") == Err(OutEnd::Failed));
+    for (name, bytes, wanted) in [
+        ("old.bin", b"was longer".as_slice(), b'w'),
+        ("old.bin", b"now", b'w'),
+        ("long.bin", &long, b'w'),
+        ("no folder/x", b"", b'F'),
+    ] {
+        assert!(rt; letter(&files.write(name, bytes)) == wanted, "{name}");
+    }
     for (name, limit, wanted) in [
         ("old.bin", 3, Ok(b"now".as_slice())),
         ("long.bin", 10_000, Ok(long.as_slice())),

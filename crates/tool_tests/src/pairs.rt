@@ -2,6 +2,7 @@
 
 use crate::calls::{answers, words};
 use elf_image::write_image;
+use rv_word::NoMemory;
 use std::alloc::{AllocError, Global};
 use std::test::Fail;
 use tool_io::MemFiles;
@@ -92,19 +93,41 @@ pub(crate) fn code(
     Ok(bytes)
 }
 
+/// The image of some code and data; none of code that no image may have.
+pub(crate) fn image(alloc: Global, code: &[u8], data: &[u8]) -> Result<Vec<u8>, NoMemory> {
+    let (len, init) = (code.len(), data.len());
+    if len < 4 || len > 0x10_0000 || len % 4 != 0 || init > 0x200_0000 {
+        return Ok(Vec::new(alloc));
+    }
+    write_image(alloc, code, data)
+}
+
+/// The image of the prologue, some units and data.
+pub(crate) fn image_of(alloc: Global, units: &[u32], data: &[u8]) -> Result<Vec<u8>, Fail> {
+    let bytes = code(alloc, units, 0, HEAD[0])?;
+    Ok(image(alloc, &bytes, data)?)
+}
+
+/// Files with an image and a graph.
+pub(crate) fn pair(alloc: Global, image: &[u8], graph: &[u8]) -> Result<MemFiles, AllocError> {
+    let mut files = MemFiles::new(alloc, Vec::new(alloc));
+    files.insert("image", image)?;
+    files.insert("graph", graph)?;
+    Ok(files)
+}
+
+/// The files of a case.
+fn files_of(alloc: Global, case: &Case) -> Result<MemFiles, Fail> {
+    let bytes = code(alloc, case.0, case.1, case.2)?;
+    let image = image(alloc, &bytes, &[])?;
+    Ok(pair(alloc, &image, case.3)?)
+}
+
 /// Whether the line of a case is put, and its status is answered.
 fn is_right(alloc: Global, words: &[String], case: &Case) -> Result<bool, Fail> {
-    let Case(units, at, word, graph, line) = case;
-    let bytes = code(alloc, units, *at, *word)?;
-    let len = bytes.len();
-    if len < 4 || len > 0x10_0000 || len % 4 != 0 {
-        return Ok(false);
-    }
-    let mut files = MemFiles::new(alloc, Vec::new(alloc));
-    files.insert("image", &write_image(alloc, &bytes, &[])?)?;
-    files.insert("graph", graph)?;
-    let status = u8::from(*line != "accepted\n");
-    Ok(answers(alloc, words, &mut files, status, line))
+    let mut files = files_of(alloc, case)?;
+    let status = u8::from(case.4 != "accepted\n");
+    Ok(answers(alloc, words, &mut files, status, case.4))
 }
 
 #[test]

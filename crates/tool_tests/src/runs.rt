@@ -2,10 +2,9 @@
 //! assemble of the sources in tests/units; the counts of steps and the walks are worked out by hand.
 
 use crate::calls::{status_of, words};
-use crate::pairs::{A, A_CLASS, A_GRAPH, B, B_GRAPH, HEAD, P, P_GRAPH, code};
-use elf_image::write_image;
-use std::alloc::Global;
-use std::process::Abort;
+use crate::commands::add_long;
+use crate::pairs::{A, A_CLASS, A_GRAPH, B, B_GRAPH, P, P_GRAPH, image_of};
+use std::alloc::{AllocError, Global};
 use std::test::Fail;
 use tool_io::{MemFiles, MemSink};
 
@@ -105,7 +104,7 @@ static SCRIPTS: [(&str, &[u8]); 13] = [
     ("range", b"at 1 10001000 00\n"),
     ("form", b"at 1 00010000 0\n"),
     ("order", b"at 2 00000000 00\nat 1 00000000 00\n"),
-    ("none", b"at 11 00010000 09\n"),
+    ("./none", b"at 11 00010000 09\n"),
     ("empty", b""),
 ];
 
@@ -159,55 +158,94 @@ const RUNS: &[u8] = b"\
 ";
 
 /// The files of all programs and scripts.
-fn files(rt: &impl Abort, alloc: Global) -> Result<MemFiles, Fail> {
+fn files(alloc: Global) -> Result<MemFiles, Fail> {
     let mut files = MemFiles::new(alloc, Vec::new(alloc));
-    for Program(name, units, data, graph) in &PROGRAMS {
-        let bytes = code(alloc, units, 0, HEAD[0])?;
-        let len = bytes.len();
-        assert!(rt; 4 <= len && len <= 0x10_0000 && len % 4 == 0);
-        let image = write_image(alloc, &bytes, data)?;
-        files.insert(format!(in alloc; "{name}.img")?.as_str(), &image)?;
-        files.insert(format!(in alloc; "{name}.graph")?.as_str(), graph)?;
+    add_files(alloc, &mut files)?;
+    Ok(files)
+}
+
+fn add_files(alloc: Global, files: &mut MemFiles) -> Result<(), Fail> {
+    for program in &PROGRAMS {
+        add_program(alloc, program, files)?;
     }
     for (name, lines) in &SCRIPTS {
-        let mut text = Vec::new(alloc);
-        if !lines.is_empty() {
-            text.extend_from_slice(b"rvcfi-script 1\n")?;
-            text.extend_from_slice(lines)?;
-            text.extend_from_slice(b"end\n")?;
-        }
-        let name = if *name == "none" { "./none" } else { *name };
-        files.insert(name, &text)?;
+        add_script(alloc, name, lines, files)?;
     }
-    files.insert("long", &vec![in alloc; 0; 67_108_865]?)?;
-    Ok(files)
+    add_long(alloc, files)
+}
+
+/// Adds the image and the graph of a program.
+fn add_program(alloc: Global, program: &Program, files: &mut MemFiles) -> Result<(), Fail> {
+    let Program(name, units, data, graph) = program;
+    let image = image_of(alloc, units, data)?;
+    add(alloc, name, "img", &image, files)?;
+    add(alloc, name, "graph", graph, files)
+}
+
+/// Adds a file by its name and what follows the point.
+fn add(
+    alloc: Global,
+    name: &str,
+    kind: &str,
+    bytes: &[u8],
+    files: &mut MemFiles,
+) -> Result<(), Fail> {
+    let name = format!(in alloc; "{name}.{kind}")?;
+    Ok(files.insert(name.as_str(), bytes)?)
+}
+
+/// Adds the script with some lines, and an empty file where there are none.
+fn add_script(alloc: Global, name: &str, lines: &[u8], files: &mut MemFiles) -> Result<(), Fail> {
+    if lines.is_empty() {
+        return Ok(files.insert(name, b"")?);
+    }
+    let text = script(alloc, lines)?;
+    Ok(files.insert(name, &text)?)
+}
+
+fn script(alloc: Global, lines: &[u8]) -> Result<Vec<u8>, AllocError> {
+    let mut text = Vec::from_slice(alloc, b"rvcfi-script 1\n")?;
+    text.extend_from_slice(lines)?;
+    text.extend_from_slice(b"end\n")?;
+    Ok(text)
 }
 
 /// The status and the text of the run that some words ask for, with `;` for each newline.
 fn answer(alloc: Global, line: &str, files: &mut MemFiles) -> Result<String, Fail> {
+    let words = words_of(alloc, line)?;
+    let mut out = MemSink::new(alloc, Vec::new(alloc));
+    let status = status_of(alloc, &words, files, &mut out);
+    told(alloc, status, out.bytes())
+}
+
+/// The words of a run.
+fn words_of(alloc: Global, line: &str) -> Result<Vec<String>, AllocError> {
     let mut words = words(alloc, &["run"])?;
     for word in line.split(',') {
         words.push(String::from_str(alloc, word)?)?;
     }
-    let mut out = MemSink::new(alloc, Vec::new(alloc));
-    let status = status_of(alloc, &words, files, &mut out);
-    let text = str::from_utf8(out.bytes()).unwrap_or("no text");
+    Ok(words)
+}
+
+/// A status and a text, as a row has them.
+fn told(alloc: Global, status: u8, text: &[u8]) -> Result<String, Fail> {
+    let text = str::from_utf8(text).unwrap_or("no text");
     let text = text.replace(alloc, "\n", ";")?;
     Ok(format!(in alloc; "{status}: {text}")?)
 }
 
+/// Whether a row's words have its status and text.
+fn is_answered(alloc: Global, row: &str, files: &mut MemFiles) -> Result<bool, Fail> {
+    let (line, expected) = row.split_once(" = ").unwrap_or((row, ""));
+    Ok(answer(alloc, line, files)?.as_str() == expected)
+}
+
 #[test]
 fn runs(rt: HostRuntime) -> Result<(), Fail> {
-    let alloc = rt.alloc();
-    let mut files = files(&rt, alloc)?;
+    let mut files = files(rt.alloc())?;
     let mut count = 0_u32;
     for row in str::from_utf8(RUNS).unwrap_or("").lines() {
-        let (line, expected) = row.split_once(" = ").unwrap_or((row, ""));
-        assert_eq!(rt;
-            answer(alloc, line, &mut files)?.as_str(),
-            expected,
-            "{line}"
-        );
+        assert!(rt; is_answered(rt.alloc(), row, &mut files)?, "{row}");
         count = count.saturating_add(1);
     }
     assert_eq!(rt; count, 44);
