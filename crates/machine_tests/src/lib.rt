@@ -1,16 +1,11 @@
-//! Tests of the machine through its public calls: bits, the words of instructions, memory, system calls, steps
-//! and relocations, against values from outside. They stand beside the crates that they test, so that
-//! these are proved once.
+//! Tests of the machine through its public calls: the words of instructions, memory, system calls and steps,
+//! against values from outside. They stand beside the crates that they test, so that these are proved once.
 #![tactic(auto)]
 
-#[cfg(test)]
-mod bits;
 #[cfg(test)]
 mod machine;
 #[cfg(test)]
 mod memory;
-#[cfg(test)]
-mod relocation;
 #[cfg(test)]
 mod rows;
 #[cfg(test)]

@@ -1,0 +1,8 @@
+//! Tests of words through public calls: bits, lists of bytes and places, and what relocations make of words and
+//! data, against values from outside. They stand beside the crates that they test, so that these are proved once.
+#![tactic(auto)]
+
+#[cfg(test)]
+mod bits;
+#[cfg(test)]
+mod relocation;
