@@ -5,51 +5,78 @@ use std::test::Fail;
 
 const MAX: u64 = u64::MAX;
 
+/// What stands after each list of numbers.
+const END: u64 = 0xe0d;
+
 /// Sets, and the classes of their members.
-static CLASSES: [(&[&[u64]], &[&[u64]]); 25] = [
+static CLASSES: [(&[u64], &[u64]); 25] = [
     (&[], &[]),
-    (&[&[]], &[]),
-    (&[&[], &[], &[]], &[]),
-    (&[&[7]], &[&[7]]),
-    (&[&[0]], &[&[0]]),
-    (&[&[1, 2], &[2, 3], &[], &[5]], &[&[1, 2, 3], &[5]]),
-    (&[&[1, 2], &[3, 4]], &[&[1, 2], &[3, 4]]),
-    (&[&[3, 4], &[1, 2]], &[&[1, 2], &[3, 4]]),
-    (&[&[1, 9], &[1, 9], &[1, 9]], &[&[1, 9]]),
-    (&[&[1, 2], &[2, 3], &[3, 4], &[4, 5]], &[&[1, 2, 3, 4, 5]]),
-    (&[&[4, 5], &[3, 4], &[2, 3], &[1, 2]], &[&[1, 2, 3, 4, 5]]),
+    (&[END], &[]),
+    (&[END, END, END], &[]),
+    (&[7, END], &[7, END]),
+    (&[0, END], &[0, END]),
     (
-        &[&[1, 10], &[2, 10], &[3, 10], &[4, 20], &[5, 20], &[3, 4]],
-        &[&[1, 2, 3, 4, 5, 10, 20]],
+        &[1, 2, END, 2, 3, END, END, 5, END],
+        &[1, 2, 3, END, 5, END],
+    ),
+    (&[1, 2, END, 3, 4, END], &[1, 2, END, 3, 4, END]),
+    (&[3, 4, END, 1, 2, END], &[1, 2, END, 3, 4, END]),
+    (&[1, 9, END, 1, 9, END, 1, 9, END], &[1, 9, END]),
+    (
+        &[1, 2, END, 2, 3, END, 3, 4, END, 4, 5, END],
+        &[1, 2, 3, 4, 5, END],
     ),
     (
-        &[&[1, 10], &[2, 10], &[4, 20], &[5, 20]],
-        &[&[1, 2, 10], &[4, 5, 20]],
-    ),
-    (
-        &[&[0, MAX], &[1, MAX - 1], &[1 << 63]],
-        &[&[0, MAX], &[1, MAX - 1], &[1 << 63]],
-    ),
-    (&[&[MAX - 1, MAX], &[0, MAX]], &[&[0, MAX - 1, MAX]]),
-    (&[&[1, 3, 5], &[2, 4, 6]], &[&[1, 3, 5], &[2, 4, 6]]),
-    (&[&[5, 6], &[7, 8], &[1, 7]], &[&[1, 7, 8], &[5, 6]]),
-    (&[&[1, 2, 3], &[4, 5, 6], &[3, 4]], &[&[1, 2, 3, 4, 5, 6]]),
-    (&[&[3], &[1], &[2]], &[&[1], &[2], &[3]]),
-    (&[&[1], &[2], &[3], &[1, 2, 3]], &[&[1, 2, 3]]),
-    (&[&[], &[1, 2], &[], &[], &[2, 3], &[]], &[&[1, 2, 3]]),
-    (&[&[3, 1, 1], &[2, 3]], &[&[1, 2, 3]]),
-    (&[&[1, 2, 3, 4], &[2, 3], &[1, 4]], &[&[1, 2, 3, 4]]),
-    (
-        &[&[1, 2], &[3, 4], &[5, 6], &[7, 8], &[4, 5], &[2, 7]],
-        &[&[1, 2, 7, 8], &[3, 4, 5, 6]],
+        &[4, 5, END, 3, 4, END, 2, 3, END, 1, 2, END],
+        &[1, 2, 3, 4, 5, END],
     ),
     (
         &[
-            &[0x4000_0040, 0x4000_0048],
-            &[0x4000_0044],
-            &[0x4000_0044, 0x4000_0050],
+            1, 10, END, 2, 10, END, 3, 10, END, 4, 20, END, 5, 20, END, 3, 4, END,
         ],
-        &[&[0x4000_0040, 0x4000_0048], &[0x4000_0044, 0x4000_0050]],
+        &[1, 2, 3, 4, 5, 10, 20, END],
+    ),
+    (
+        &[1, 10, END, 2, 10, END, 4, 20, END, 5, 20, END],
+        &[1, 2, 10, END, 4, 5, 20, END],
+    ),
+    (
+        &[0, MAX, END, 1, MAX - 1, END, 1 << 63, END],
+        &[0, MAX, END, 1, MAX - 1, END, 1 << 63, END],
+    ),
+    (&[MAX - 1, MAX, END, 0, MAX, END], &[0, MAX - 1, MAX, END]),
+    (&[1, 3, 5, END, 2, 4, 6, END], &[1, 3, 5, END, 2, 4, 6, END]),
+    (
+        &[5, 6, END, 7, 8, END, 1, 7, END],
+        &[1, 7, 8, END, 5, 6, END],
+    ),
+    (
+        &[1, 2, 3, END, 4, 5, 6, END, 3, 4, END],
+        &[1, 2, 3, 4, 5, 6, END],
+    ),
+    (&[3, END, 1, END, 2, END], &[1, END, 2, END, 3, END]),
+    (&[1, END, 2, END, 3, END, 1, 2, 3, END], &[1, 2, 3, END]),
+    (&[END, 1, 2, END, END, END, 2, 3, END, END], &[1, 2, 3, END]),
+    (&[3, 1, 1, END, 2, 3, END], &[1, 2, 3, END]),
+    (&[1, 2, 3, 4, END, 2, 3, END, 1, 4, END], &[1, 2, 3, 4, END]),
+    (
+        &[
+            1, 2, END, 3, 4, END, 5, 6, END, 7, 8, END, 4, 5, END, 2, 7, END,
+        ],
+        &[1, 2, 7, 8, END, 3, 4, 5, 6, END],
+    ),
+    (
+        &[
+            0x4000_0040,
+            0x4000_0048,
+            END,
+            0x4000_0044,
+            END,
+            0x4000_0044,
+            0x4000_0050,
+            END,
+        ],
+        &[0x4000_0040, 0x4000_0048, END, 0x4000_0044, 0x4000_0050, END],
     ),
 ];
 
@@ -79,53 +106,66 @@ static LABELS: [(usize, &[u32], &[u32]); 22] = [
     (1, &[5, 4, 3, 2, 1, 0], &[6]),
 ];
 
-fn sets_of(alloc: Global, lists: &[&[u64]]) -> Result<Vec<Places>, Fail> {
+/// The sets of a row.
+fn sets_of(alloc: Global, row: &[u64]) -> Result<Vec<Places>, AllocError> {
     let mut sets = Vec::new(alloc);
-    for list in lists {
-        sets.push(set_of(alloc, list)?)?;
+    for list in row.split_inclusive(|number| *number == END) {
+        sets.push(Places::of(without_end(list).to_vec(alloc)?))?;
     }
     Ok(sets)
 }
 
-fn set_of(alloc: Global, list: &[u64]) -> Result<Places, AllocError> {
-    Ok(Places::of(list.to_vec(alloc)?))
+fn without_end(list: &[u64]) -> &[u64] {
+    &list[..list.len().saturating_sub(1)]
 }
 
 #[test]
-fn classes_by_hand(rt: HostRuntime) -> Result<(), Fail> {
+fn classes_by_hand(rt: HostRuntime) {
     for row in &CLASSES {
-        assert!(rt; is_right(rt.alloc(), row)?, "{:?}", row.0);
+        let right = is_right(rt.alloc(), row);
+        assert!(rt; matches!(right, Ok(true)), "{:?}", row.0);
     }
-    Ok(())
 }
 
 /// Whether a row's sets have its classes.
-fn is_right(alloc: Global, row: &(&[&[u64]], &[&[u64]])) -> Result<bool, Fail> {
+fn is_right(alloc: Global, row: &(&[u64], &[u64])) -> Result<bool, NoMemory> {
     let sets = sets_of(alloc, row.0)?;
-    Ok(are_classes(alloc, &sets, row.1)?)
+    are_classes(alloc, &sets, row.1)
 }
 
 /// Whether some sets have these classes.
-fn are_classes(alloc: Global, sets: &[Places], wanted: &[&[u64]]) -> Result<bool, NoMemory> {
-    Ok(are_same(&classes(alloc, sets)?, wanted))
+fn are_classes(alloc: Global, sets: &[Places], wanted: &[u64]) -> Result<bool, NoMemory> {
+    Ok(are_sets(&classes(alloc, sets)?, wanted))
 }
 
-/// Whether lists have these members.
-fn are_same(lists: &[Places], wanted: &[&[u64]]) -> bool {
-    lists.len() == wanted.len()
-        && lists
-            .iter()
-            .zip(wanted)
-            .all(|(list, wanted)| list.as_slice() == *wanted)
+/// Whether some sets are those of a row.
+fn are_sets(sets: &[Places], row: &[u64]) -> bool {
+    let mut rest = row;
+    for set in sets {
+        match after(rest, set.as_slice()) {
+            Some(more) => rest = more,
+            None => return false,
+        }
+    }
+    rest.is_empty()
+}
+
+/// What comes after a set at the start of a row.
+fn after<'a>(row: &'a [u64], set: &[u64]) -> Option<&'a [u64]> {
+    row.strip_prefix(set)?.strip_prefix(&[END])
 }
 
 #[test]
-fn labels_by_hand(rt: HostRuntime) -> Result<(), Fail> {
-    for (count, used, wanted) in &LABELS {
-        let right = are_labels(rt.alloc(), *count, used, wanted)?;
-        assert!(rt; right, "{count} {used:?}");
+fn labels_by_hand(rt: HostRuntime) {
+    for row in &LABELS {
+        let right = has_labels(rt.alloc(), row);
+        assert!(rt; matches!(right, Ok(true)), "{} {:?}", row.0, row.1);
     }
-    Ok(())
+}
+
+/// Whether a row's labels are so.
+fn has_labels(alloc: Global, row: &(usize, &[u32], &[u32])) -> Result<bool, NoMemory> {
+    are_labels(alloc, row.0, row.1, row.2)
 }
 
 /// Whether so many labels beside some numbers in use are these.
@@ -136,61 +176,59 @@ fn are_labels(alloc: Global, count: usize, used: &[u32], wanted: &[u32]) -> Resu
     Ok(labels(alloc, count, used)?.as_slice() == wanted)
 }
 
-/// Sets of two neighbours from 0 to 2000, in rising or falling order.
-fn chain(alloc: Global, falling: bool) -> Result<Vec<Places>, Fail> {
-    let mut sets = Vec::new(alloc);
-    for k in 0..2000u64 {
-        let first = if falling { 1999 - k } else { k };
-        sets.push(set_of(alloc, &[first, first + 1])?)?;
-    }
-    Ok(sets)
-}
+/// 2000 sets of numbers that follow each other: where the first begins, how far each begins from the one before,
+/// and how many numbers each has. Then how many classes they have, and of how many members.
+struct Large(&'static str, u64, i64, u64, usize, usize);
 
-fn same_sets(alloc: Global) -> Result<Vec<Places>, Fail> {
+static LARGE: [Large; 4] = [
+    Large("rising chain", 0, 1, 2, 1, 2001),
+    Large("falling chain", 1999, -1, 2, 1, 2001),
+    Large("same sets", 0, 0, 2000, 1, 2000),
+    Large("single targets", 0, 1, 1, 2000, 1),
+];
+
+/// The 2000 sets of a row.
+fn sets_from(alloc: Global, row: &Large) -> Result<Vec<Places>, AllocError> {
     let mut sets = Vec::new(alloc);
+    let mut first = row.1;
     for _ in 0..2000 {
-        sets.push(all(alloc)?)?;
+        sets.push(set_from(alloc, first, row.3)?)?;
+        first = first.saturating_add_signed(row.2);
     }
     Ok(sets)
 }
 
-fn all(alloc: Global) -> Result<Places, AllocError> {
-    let all: Vec<u64> = (0..2000u64).collect(alloc)?;
+/// The set of so many numbers from one on.
+fn set_from(alloc: Global, first: u64, count: u64) -> Result<Places, AllocError> {
+    let all: Vec<u64> = (first..first.saturating_add(count)).collect(alloc)?;
     Ok(Places::of(all))
 }
 
-fn single_sets(alloc: Global) -> Result<Vec<Places>, Fail> {
-    let mut sets = Vec::new(alloc);
-    for k in 0..2000u64 {
-        sets.push(set_of(alloc, &[k])?)?;
+/// Whether the sets of a row have its classes.
+fn has_classes(alloc: Global, row: &Large) -> Result<bool, NoMemory> {
+    let sets = sets_from(alloc, row)?;
+    Ok(have_size(&classes(alloc, &sets)?, row.4, row.5))
+}
+
+/// Whether so many classes have so many members each.
+fn have_size(classes: &[Places], count: usize, members: usize) -> bool {
+    for class in classes {
+        if class.len() != members {
+            return false;
+        }
     }
-    Ok(sets)
+    classes.len() == count
 }
 
 #[test]
-fn large_sets(rt: HostRuntime) -> Result<(), Fail> {
-    let alloc = rt.alloc();
-    let cases = [
-        ("rising chain", chain(alloc, false)?, 1, 2001),
-        ("falling chain", chain(alloc, true)?, 1, 2001),
-        ("same sets", same_sets(alloc)?, 1, 2000),
-        ("single targets", single_sets(alloc)?, 2000, 1),
-    ];
-    for (name, sets, count, members) in &cases {
-        assert!(rt; have_size(alloc, sets, *count, *members)?, "{name}");
+fn large_sets(rt: HostRuntime) {
+    for row in &LARGE {
+        assert!(rt;
+            matches!(has_classes(rt.alloc(), row), Ok(true)),
+            "{}",
+            row.0
+        );
     }
-    Ok(())
-}
-
-/// Whether some sets have so many classes, each with so many members.
-fn have_size(
-    alloc: Global,
-    sets: &[Places],
-    count: usize,
-    members: usize,
-) -> Result<bool, NoMemory> {
-    let found = classes(alloc, sets)?;
-    Ok(found.len() == count && found.iter().all(|class| class.len() == members))
 }
 
 /// Of the remainders by the prime 1000003 all but those of -3, -2 and -1 times 7919 are in use.
@@ -201,7 +239,7 @@ fn a_million_numbers_in_use(rt: HostRuntime) -> Result<(), Fail> {
     for k in 0..1_000_000u64 {
         used.push((k * 7919 % 1_000_003) as u32)?;
     }
-    assert_eq!(rt; used.len(), 1_000_000);
+    assert!(rt; used.len() == 1_000_000);
     let wanted = [976_246, 984_165, 992_084, 1_000_003, 1_000_004];
     assert!(rt; are_labels(alloc, 5, &used, &wanted)?);
     Ok(())

@@ -1,8 +1,6 @@
 //! Programs that several tests use: the words are those that binutils make of the objects in tests/units
 //! at the top of the repository.
 
-use std::alloc::{AllocError, Global};
-
 /// The prologue, its call of the entry at 40000040h included.
 pub(crate) const HEAD: [u32; 16] = [
     0x00100073, 0x00100073, 0x00100073, 0x10000137, 0x600001b7, 0x00818193, 0x03019f13, 0x000f1463,
@@ -34,10 +32,16 @@ pub(crate) const P_GRAPH: &[u8] =
 call 4000000c 40000040\nsite 4000005c call 00001\nend\n";
 
 /// The bytes of the prologue and some units.
-pub(crate) fn code(alloc: Global, units: &[u32]) -> Result<Vec<u8>, AllocError> {
-    let mut bytes = Vec::new(alloc);
-    for word in HEAD.iter().chain(units) {
-        bytes.extend_from_slice(&word.to_le_bytes())?;
+pub(crate) fn code<const N: usize>(units: &[u32]) -> [u8; N] {
+    let mut bytes = [0; N];
+    for (at, byte) in bytes.iter_mut().enumerate() {
+        *byte = byte_at(units, at);
     }
-    Ok(bytes)
+    bytes
+}
+
+/// The byte of the prologue and some units at an offset.
+fn byte_at(units: &[u32], at: usize) -> u8 {
+    let word = HEAD.iter().chain(units).nth(at / 4);
+    word.unwrap_or(&0).to_le_bytes()[at % 4]
 }

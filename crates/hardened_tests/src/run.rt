@@ -18,17 +18,10 @@ const TRAIL: [u64; 13] = [
 ];
 
 /// The report of a run of the program.
-fn report<M: Meddler>(
-    rt: &impl Abort,
-    alloc: Global,
-    meddler: &mut M,
-    limit: u64,
-) -> Result<RunReport, Fail>
+fn report<M: Meddler>(alloc: Global, meddler: &mut M, limit: u64) -> Result<RunReport, Fail>
     ensures { IfOk result (λ report. IsScript report.made) }
 {
-    let bytes = code(alloc, &P)?;
-    let len = bytes.len();
-    assert!(rt; 4 <= len && len <= 0x10_0000 && len % 4 == 0);
+    let bytes = code::<260>(&P);
     let graph = read_graph(alloc, P_GRAPH)?;
     report_of(alloc, &Image::of(&bytes, P_DATA), &graph, meddler, limit)
 }
@@ -61,16 +54,23 @@ fn run_of<M: Meddler>(
 
 /// Whether the changes are zeros at the eight bytes of the saved return address, before one step.
 fn zeroes_the_saved_address(made: &[(u64, Change)]) -> bool {
+    for (k, made) in made.iter().enumerate() {
+        if !is_zero_at(made, 0x0fff_fff8 + k as u64) {
+            return false;
+        }
+    }
     made.len() == 8
-        && made.iter().enumerate().all(|(k, (step, change))| {
-            *step == 15 && change.addr() == 0x0fff_fff8 + k as u64 && change.byte() == 0
-        })
+}
+
+/// Whether a change is a zero at this address, before the step at which the address is on the stack.
+fn is_zero_at(made: &(u64, Change), addr: u64) -> bool {
+    made.0 == 15 && made.1.addr() == addr && made.1.byte() == 0
 }
 
 /// The hostile meddler finds the saved return address as soon as it is on the stack.
 #[test]
 fn hostile(rt: HostRuntime) -> Result<(), Fail> {
-    let report = report(&rt, rt.alloc(), &mut Hostile, 100)?;
+    let report = report(rt.alloc(), &mut Hostile, 100)?;
     assert!(rt; is_caught(&report));
     assert!(rt; zeroes_the_saved_address(report.made.as_slice()));
     Ok(())
@@ -100,24 +100,31 @@ fn is_same(one: &RunReport, other: &RunReport) -> bool {
 fn replayed(rt: HostRuntime) -> Result<(), Fail> {
     let alloc = rt.alloc();
     for limit in [0, 15, 16, 46, 47, 1000] {
-        assert!(rt; is_replayed(&rt, alloc, limit)?, "{limit}");
+        assert!(rt; is_replayed(alloc, limit)?, "{limit}");
     }
     Ok(())
 }
 
 /// Whether a run that ends at a limit is the same again.
-fn is_replayed(rt: &impl Abort, alloc: Global, limit: u64) -> Result<bool, Fail> {
-    let first = report(rt, alloc, &mut Hostile, limit)?;
-    let again = again(rt, alloc, &first, limit)?;
-    Ok(is_same(&again, &first) && has_run(&again, limit))
+fn is_replayed(alloc: Global, limit: u64) -> Result<bool, Fail> {
+    let first = report(alloc, &mut Hostile, limit)?;
+    is_same_again(alloc, &first, limit)
+}
+
+/// Whether a run under the changes that another one made is the same.
+fn is_same_again(alloc: Global, first: &RunReport, limit: u64) -> Result<bool, Fail>
+    requires { IsScript first.now.made }
+{
+    let again = again(alloc, first, limit)?;
+    Ok(is_same(&again, first) && has_run(&again, limit))
 }
 
 /// The report of a run under the changes that another one made.
-fn again(rt: &impl Abort, alloc: Global, first: &RunReport, limit: u64) -> Result<RunReport, Fail>
+fn again(alloc: Global, first: &RunReport, limit: u64) -> Result<RunReport, Fail>
     requires { IsScript first.now.made }
 {
     let mut script = Script::of(alloc, first.made.as_slice())?;
-    report(rt, alloc, &mut script, limit)
+    report(alloc, &mut script, limit)
 }
 
 /// Whether a run has as many steps as a limit leaves of 47, and made eight changes after fifteen.
@@ -130,7 +137,7 @@ fn has_run(report: &RunReport, limit: u64) -> bool {
 #[test]
 fn events(rt: HostRuntime) -> Result<(), Fail> {
     let mut script = other_pointer(&rt, rt.alloc())?;
-    let report = report(&rt, rt.alloc(), &mut script, 100)?;
+    let report = report(rt.alloc(), &mut script, 100)?;
     assert!(rt; has_exited(&report) && tells_its_exit(&report));
     Ok(())
 }

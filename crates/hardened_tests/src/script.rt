@@ -1,9 +1,7 @@
-use cfi_graph::Reason;
-use cfi_graph::Reason::{Form, Range};
 use cfi_step::{Meddler, Script, ScriptEnd};
 use rv_machine::{Change, Machine};
 use rv_word::{Image, NoMemory};
-use std::alloc::Global;
+use std::alloc::{AllocError, Global};
 use std::test::Fail;
 
 const FIRST: &[u8] = b"rvcfi-script 1\n";
@@ -96,11 +94,24 @@ const TEXTS: &[u8] = b"\
     from 2: at 9 00000000 00|at 10 00000000 00|end| = a script\n\
 ";
 
+/// What the text of a row begins with.
+fn head(text: &str) -> &'static [u8] {
+    if text.starts_with("from 2: ") {
+        FIRST
+    } else {
+        b""
+    }
+}
+
+/// What follows in a row.
+fn tail(text: &str) -> &[u8] {
+    text.as_bytes().get(8..).unwrap_or(&[])
+}
+
 /// The text that a row stands for.
-fn text_of(alloc: Global, name: &str, rest: &str) -> Result<Vec<u8>, Fail> {
-    let head = if name == "from 2" { FIRST } else { b"" };
+fn text_of(alloc: Global, head: &[u8], tail: &[u8]) -> Result<Vec<u8>, AllocError> {
     let mut text = Vec::from_slice(alloc, head)?;
-    for byte in rest.as_bytes() {
+    for byte in tail {
         text.push(spelled(*byte))?;
     }
     Ok(text)
@@ -111,89 +122,153 @@ fn spelled(byte: u8) -> u8 {
     if byte == b'|' { b'\n' } else { byte }
 }
 
-/// What a text is read as, in words.
-fn answer(alloc: Global, text: &[u8]) -> Result<String, Fail> {
+/// Whether a text is read as this, in words.
+fn is_read_as(alloc: Global, text: &[u8], expected: &str) -> bool {
     match Script::read(alloc, text) {
-        Ok(_) => Ok(format!(in alloc; "a script")?),
-        Err(end) => Ok(format!(in alloc; "{end}")?),
+        Ok(_) => expected == "a script",
+        Err(end) => is_spelled(alloc, end, expected),
+    }
+}
+
+/// Whether a refusal is spelled so.
+fn is_spelled(alloc: Global, end: ScriptEnd, expected: &str) -> bool {
+    match format!(in alloc; "{end}") {
+        Ok(text) => text.as_str() == expected,
+        Err(_) => false,
     }
 }
 
 /// Whether a row says what its text is read as.
-fn is_right(alloc: Global, row: &str) -> Result<bool, Fail> {
-    if let Some((name, rest)) = row.split_once(": ") {
-        if let Some((rest, expected)) = rest.split_once(" = ") {
-            let text = text_of(alloc, name, rest)?;
-            return Ok(answer(alloc, &text)?.as_str() == expected);
-        }
-    }
-    Ok(false)
+fn is_right(alloc: Global, row: &str) -> Result<bool, AllocError> {
+    let (text, expected) = row.split_once(" = ").unwrap_or((row, ""));
+    let text = text_of(alloc, head(text), tail(text))?;
+    Ok(is_read_as(alloc, &text, expected))
 }
 
 #[test]
-fn script_texts(rt: HostRuntime) -> Result<(), Fail> {
-    let mut count = 0_u32;
-    for row in str::from_utf8(TEXTS).unwrap_or("").lines() {
-        assert!(rt; is_right(rt.alloc(), row)?, "{row}");
-        count = count.saturating_add(1);
+fn script_texts(rt: HostRuntime) {
+    let rows = str::from_utf8(TEXTS).unwrap_or("");
+    assert!(rt; rows.lines().count() == 83);
+    for row in rows.lines() {
+        assert!(rt; matches!(is_right(rt.alloc(), row), Ok(true)), "{row}");
     }
-    assert_eq!(rt; count, 83);
-    assert_eq!(rt; answer(rt.alloc(), b"\xff\n")?.as_str(), "line 1: Form");
-    Ok(())
 }
 
-/// The text with one line, which has `digits` times the digit 3.
-fn wide_text(alloc: Global, start: &[u8], digits: usize) -> Result<Vec<u8>, NoMemory> {
-    let mut text = Vec::from_slice(alloc, b"rvcfi-script 1\n")?;
+#[test]
+fn no_text(rt: HostRuntime) {
+    assert!(rt; is_read_as(rt.alloc(), b"\xff\n", "line 1: Form"));
+}
+
+/// The first line, a start, so many times a piece, and an end.
+fn text_with(
+    alloc: Global,
+    start: &[u8],
+    piece: &[u8],
+    count: usize,
+    end: &[u8],
+) -> Result<Vec<u8>, AllocError> {
+    let mut text = Vec::from_slice(alloc, FIRST)?;
     text.extend_from_slice(start)?;
-    for _ in 0..digits {
-        text.push(b'3')?;
+    for _ in 0..count {
+        text.extend_from_slice(piece)?;
     }
-    text.extend_from_slice(b"\nend\n")?;
+    text.extend_from_slice(end)?;
     Ok(text)
 }
 
-/// The start of a line, how many digits follow, and the reason of its refusal or the last change.
-struct Wide(&'static [u8], usize, Result<(u64, u64, u8), Reason>);
+/// The start of a line, how many times the digit 3 follows, and what the line is read as.
+struct Wide(&'static [u8], usize, &'static str);
 
 static WIDE: [Wide; 5] = [
-    Wide(b"at 4 00000000 ", 8192, Ok((4, 0xfff, 0x33))),
-    Wide(b"at 4 00000000 ", 8194, Err(Form)),
-    Wide(b"at 4 00000000 ", 8191, Err(Form)),
-    Wide(b"at 4 10000000 ", 8192, Ok((4, 0x1000_0fff, 0x33))),
-    Wide(b"at 4 10000001 ", 8192, Err(Range)),
+    Wide(b"at 4 00000000 ", 8192, "a script"),
+    Wide(b"at 4 00000000 ", 8194, "line 2: Form"),
+    Wide(b"at 4 00000000 ", 8191, "line 2: Form"),
+    Wide(b"at 4 10000000 ", 8192, "a script"),
+    Wide(b"at 4 10000001 ", 8192, "line 2: Range"),
 ];
 
 /// Whether a wide line is read as its row says.
-fn is_read(alloc: Global, row: &Wide) -> Result<bool, Fail> {
-    let text = wide_text(alloc, row.0, row.1)?;
-    match Script::read(alloc, text.as_slice()) {
-        Ok(script) => Ok(row.2.is_ok_and(|last| ends_so(&script, row.1 / 2, last))),
-        Err(ScriptEnd::Line(number, reason)) => Ok(number == 2 && row.2 == Err(reason)),
-        Err(ScriptEnd::NoMemory) => Ok(false),
-    }
-}
-
-/// Whether a script has so many changes, and this one last.
-fn ends_so(script: &Script, count: usize, last: (u64, u64, u8)) -> bool {
-    let changes = script.as_slice();
-    changes.len() == count
-        && changes
-            .last()
-            .is_some_and(|change| is_change(change, &last))
-}
-
-/// Whether a change of a script has this step, address and byte.
-fn is_change(change: &(u64, Change), row: &(u64, u64, u8)) -> bool {
-    change.0 == row.0 && change.1.addr() == row.1 && change.1.byte() == row.2
+fn is_wide(alloc: Global, row: &Wide) -> Result<bool, AllocError> {
+    let text = text_with(alloc, row.0, b"3", row.1, b"\nend\n")?;
+    Ok(is_read_as(alloc, &text, row.2))
 }
 
 #[test]
-fn wide_lines(rt: HostRuntime) -> Result<(), Fail> {
+fn wide_lines(rt: HostRuntime) {
     for row in &WIDE {
-        assert!(rt; is_read(rt.alloc(), row)?, "{} digits", row.1);
+        let right = is_wide(rt.alloc(), row);
+        assert!(rt; matches!(right, Ok(true)), "{} digits", row.1);
     }
-    Ok(())
+}
+
+/// The start of a text, what then follows how many times, and its end; how many changes the script has, and which
+/// is the last.
+struct Long(
+    &'static [u8],
+    &'static [u8],
+    usize,
+    &'static [u8],
+    usize,
+    (u64, u64, u8),
+);
+
+static LONG: [Long; 3] = [
+    Long(
+        b"at 4 00000000 ",
+        b"3",
+        8192,
+        b"\nend\n",
+        4096,
+        (4, 0xfff, 0x33),
+    ),
+    Long(
+        b"at 4 10000000 ",
+        b"3",
+        8192,
+        b"\nend\n",
+        4096,
+        (4, 0x1000_0fff, 0x33),
+    ),
+    Long(
+        b"",
+        b"at 8 00000020 5a\n",
+        200_000,
+        b"end\n",
+        200_000,
+        (8, 0x20, 0x5a),
+    ),
+];
+
+/// Whether a long text is read as its row says.
+fn is_long(alloc: Global, row: &Long) -> Result<bool, AllocError> {
+    let text = text_with(alloc, row.0, row.1, row.2, row.3)?;
+    Ok(ends_so(alloc, &text, row.4, &row.5))
+}
+
+/// Whether a text is a script of so many changes, and this one last.
+fn ends_so(alloc: Global, text: &[u8], count: usize, last: &(u64, u64, u8)) -> bool {
+    match Script::read(alloc, text) {
+        Ok(script) => script.as_slice().len() == count && is_change(script.as_slice().last(), last),
+        Err(_) => false,
+    }
+}
+
+/// Whether a script has a change with this step, address and byte.
+fn is_change(change: Option<&(u64, Change)>, row: &(u64, u64, u8)) -> bool {
+    match change {
+        Some((step, change)) => {
+            *step == row.0 && change.addr() == row.1 && change.byte() == row.2
+        }
+        None => false,
+    }
+}
+
+#[test]
+fn long_texts(rt: HostRuntime) {
+    for row in &LONG {
+        let right = is_long(rt.alloc(), row);
+        assert!(rt; matches!(right, Ok(true)), "{} changes", row.4);
+    }
 }
 
 /// Lines of a script, and the changes that they stand for.
@@ -233,29 +308,41 @@ static ACCEPTED: [Accepted; 5] = [
 /// Whether a script is the list of these changes.
 fn has_changes(script: &Script, rows: &[(u64, u64, u8)]) -> bool {
     let changes = script.as_slice();
+    for (k, row) in rows.iter().enumerate() {
+        if !is_change(changes.get(k), row) {
+            return false;
+        }
+    }
     changes.len() == rows.len()
-        && changes
-            .iter()
-            .zip(rows)
-            .all(|(change, row)| is_change(change, row))
 }
 
-/// Whether the lines are read as their changes, and a script that is made of these is the same list.
-fn is_accepted(alloc: Global, row: &Accepted) -> Result<bool, Fail> {
-    let mut text = Vec::from_slice(alloc, FIRST)?;
-    text.extend_from_slice(row.0)?;
-    text.extend_from_slice(b"end\n")?;
-    let script = Script::read(alloc, text.as_slice())?;
-    let copy = Script::of(alloc, script.as_slice())?;
-    Ok(has_changes(&script, row.1) && has_changes(&copy, row.1))
+/// Whether a script that is made of the changes of another one is the list of these.
+fn is_copied(alloc: Global, script: &Script, rows: &[(u64, u64, u8)]) -> bool {
+    match Script::of(alloc, script.as_slice()) {
+        Ok(copy) => has_changes(&copy, rows),
+        Err(_) => false,
+    }
+}
+
+/// Whether a text is read as these changes, and so is a copy.
+fn is_script(alloc: Global, text: &[u8], rows: &[(u64, u64, u8)]) -> bool {
+    match Script::read(alloc, text) {
+        Ok(script) => has_changes(&script, rows) && is_copied(alloc, &script, rows),
+        Err(_) => false,
+    }
+}
+
+/// Whether the lines are read as their changes.
+fn is_accepted(alloc: Global, row: &Accepted) -> Result<bool, AllocError> {
+    let text = text_with(alloc, row.0, b"", 0, b"end\n")?;
+    Ok(is_script(alloc, &text, row.1))
 }
 
 #[test]
-fn accepted_scripts(rt: HostRuntime) -> Result<(), Fail> {
+fn accepted_scripts(rt: HostRuntime) {
     for row in &ACCEPTED {
-        assert!(rt; is_accepted(rt.alloc(), row)?);
+        assert!(rt; matches!(is_accepted(rt.alloc(), row), Ok(true)));
     }
-    Ok(())
 }
 
 const LINES: &[u8] = b"rvcfi-script 1\nat 3 00000010 0102\nat 5 00010000 aa\n\
@@ -281,23 +368,28 @@ fn machine(alloc: Global) -> Result<Machine, NoMemory> {
     Machine::new(alloc, &Image::of(&[0x73, 0, 0, 0], &[]), &[])
 }
 
-/// Adds the changes that a script makes after some steps.
-fn plan(
-    alloc: Global,
-    script: &mut Script,
-    step: u64,
-    machine: &Machine,
-    into: &mut Vec<Change>,
-) -> Result<(), NoMemory> {
-    script.meddle(alloc, step, machine, into)
-}
-
 /// Whether the changes from an index on have these addresses and bytes.
 fn go_on(changes: &[Change], from: usize, rows: &[(u64, u8)]) -> bool {
     let rest = changes.get(from..).unwrap_or(&[]);
+    for (k, row) in rows.iter().enumerate() {
+        if !is_planned(rest.get(k), row) {
+            return false;
+        }
+    }
     rest.len() == rows.len()
-        && rest.iter().zip(rows).all(|(change, row)| change.addr() == row.0
-            && change.byte() == row.1)
+}
+
+/// Whether there is a change, with this address and byte.
+fn is_planned(change: Option<&Change>, row: &(u64, u8)) -> bool {
+    match change {
+        Some(change) => change.addr() == row.0 && change.byte() == row.1,
+        None => false,
+    }
+}
+
+/// The same of a vector. (A slice of it, made where a call has changed it, is slow to check.)
+fn has_added(changes: &Vec<Change>, from: usize, rows: &[(u64, u8)]) -> bool {
+    go_on(changes.as_slice(), from, rows)
 }
 
 /// Whether a script adds the changes of a row.
@@ -309,55 +401,43 @@ fn plans(
     row: &Planned,
 ) -> Result<bool, NoMemory> {
     let from = into.len();
-    plan(alloc, script, row.0, machine, into)?;
+    script.meddle(alloc, row.0, machine, into)?;
     Ok(has_added(into, from, row.1))
 }
 
-/// The same of a vector. (A slice of it, made where a call has changed it, is slow to check.)
-fn has_added(changes: &Vec<Change>, from: usize, rows: &[(u64, u8)]) -> bool {
-    go_on(changes.as_slice(), from, rows)
+/// After how many steps a script does not add the changes of its row, if there is such a row.
+fn missed_on(
+    alloc: Global,
+    script: &mut Script,
+    machine: &Machine,
+    rows: &[Planned],
+) -> Result<Option<u64>, NoMemory> {
+    let mut into = Vec::new(alloc);
+    for row in rows {
+        if !plans(alloc, script, machine, &mut into, row)? {
+            return Ok(Some(row.0));
+        }
+    }
+    Ok(None)
+}
+
+/// The same on a machine that has not run.
+fn missed(alloc: Global, script: &mut Script, rows: &[Planned]) -> Result<Option<u64>, NoMemory> {
+    let machine = machine(alloc)?;
+    missed_on(alloc, script, &machine, rows)
 }
 
 #[test]
 fn planned_changes(rt: HostRuntime) -> Result<(), Fail> {
-    let machine = machine(rt.alloc())?;
     let mut script = Script::read(rt.alloc(), LINES)?;
-    let mut into = Vec::new(rt.alloc());
-    for row in &PLANNED {
-        let right = plans(rt.alloc(), &mut script, &machine, &mut into, row)?;
-        assert!(rt; right, "step {}", row.0);
-    }
+    let missed = missed(rt.alloc(), &mut script, &PLANNED)?;
+    assert!(rt; missed.is_none(), "step {}", missed.unwrap_or(0));
     Ok(())
 }
 
 #[test]
-fn no_script(rt: HostRuntime) -> Result<(), Fail> {
-    let machine = machine(rt.alloc())?;
+fn no_script(rt: HostRuntime) {
     let mut script = Script::none(rt.alloc());
-    let mut into = Vec::new(rt.alloc());
-    let right = plans(
-        rt.alloc(),
-        &mut script,
-        &machine,
-        &mut into,
-        &Planned(3, &[]),
-    )?;
-    assert!(rt; right);
-    Ok(())
-}
-
-/// Whether a text is a script of so many changes.
-fn has_length(alloc: Global, text: &[u8], count: usize) -> Result<bool, Fail> {
-    Ok(Script::read(alloc, text)?.as_slice().len() == count)
-}
-
-#[test]
-fn many_lines(rt: HostRuntime) -> Result<(), Fail> {
-    let mut text = Vec::from_slice(rt.alloc(), FIRST)?;
-    for _ in 0..200_000 {
-        text.extend_from_slice(b"at 8 00000020 5a\n")?;
-    }
-    text.extend_from_slice(b"end\n")?;
-    assert!(rt; has_length(rt.alloc(), &text, 200_000)?);
-    Ok(())
+    let missed = missed(rt.alloc(), &mut script, &[Planned(3, &[])]);
+    assert!(rt; matches!(missed, Ok(None)));
 }

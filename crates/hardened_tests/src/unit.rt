@@ -3,9 +3,8 @@ ghost use Rattle.std.specs.Prelude.{◌<◌, ◌^◌};
 use crate::programs::{B, P};
 use cfi_unit::{SystemOp, Unit, emit, fits, recognise, size};
 use rv_instr::{BranchOp, FenceWord, Immediate, ImmediateOp, Instr, LoadOp, Reg, StoreOp, UpperOp};
-use std::alloc::Global;
+use std::alloc::{AllocError, Global};
 use std::process::Abort;
-use std::test::Fail;
 
 /// Where the first unit of an image stands.
 const FIRST: u64 = 0x4000_0040;
@@ -125,18 +124,18 @@ fn other_units() -> [Unit; 9] {
     ]
 }
 
-/// Emits units one after the other. Each is recognised from the words that it has.
-fn emitted(rt: &impl Abort, alloc: Global, units: &[Unit]) -> Result<Vec<u32>, Fail> {
-    let mut code = Vec::new(alloc);
-    for unit in units {
-        assert!(rt; code.len() < 0x1000);
-        let at = FIRST + 4 * code.len() as u64;
-        assert!(rt; fits(unit, at), "{unit:?} at {at:x}");
-        let words = emit(alloc, unit, at)?;
-        assert!(rt; stands(unit, at, &words), "{unit:?} at {at:x}");
-        code.extend_from_slice(&words)?;
+/// The words of an object after those of a unit, which stands at an address and is emitted as the first of
+/// them, and recognised from these.
+fn after<'a>(alloc: Global, unit: &Unit, at: u64, words: &'a [u32]) -> Option<&'a [u32]>
+    requires { at < 0x4010_0000 }
+{
+    if !fits(unit, at) {
+        return None;
     }
-    Ok(code)
+    match emit(alloc, unit, at) {
+        Ok(own) if stands(unit, at, &own) => words.strip_prefix(own.as_slice()),
+        _ => None,
+    }
 }
 
 /// Whether words are as many as a unit has, and are recognised as the unit.
@@ -147,44 +146,97 @@ fn stands(unit: &Unit, at: u64, words: &[u32]) -> bool
     words.len() == count as usize && recognise(words, at) == Some((*unit, count))
 }
 
-#[test]
-fn objects(rt: HostRuntime) -> Result<(), Fail> {
-    let alloc = rt.alloc();
-    assert_eq!(rt; emitted(&rt, alloc, &object_b())?.as_slice(), B.as_slice());
-    assert_eq!(rt; emitted(&rt, alloc, &object_h())?.as_slice(), H.as_slice());
-    assert_eq!(rt; emitted(&rt, alloc, &object_p())?.as_slice(), P.as_slice());
-    assert_eq!(rt;
-        emitted(&rt, alloc, &other_units())?.as_slice(),
-        OTHER.as_slice()
+/// Where an object's words go on of which these are left, if less than 1000h are gone.
+fn address(words: &[u32], rest: &[u32]) -> u64
+    ensures { result < 0x4010_0000 }
+{
+    FIRST + 4 * words.len().saturating_sub(rest.len()).min(0xfff) as u64
+}
+
+/// Where the first of some units stands that is not as the object's words have it, if one is not.
+fn first_wrong(alloc: Global, units: &[Unit], words: &[u32]) -> Option<u64> {
+    let mut rest = words;
+    for unit in units {
+        let at = address(words, rest);
+        match after(alloc, unit, at, rest) {
+            Some(more) => rest = more,
+            None => return Some(at),
+        }
+    }
+    if rest.is_empty() {
+        None
+    } else {
+        Some(address(words, rest))
+    }
+}
+
+/// The words of some units are just these.
+fn have_words(rt: &impl Abort, alloc: Global, units: &[Unit], words: &[u32]) {
+    let wrong = first_wrong(alloc, units, words);
+    let at = wrong.unwrap_or(0);
+    let count = words.len();
+    assert!(rt;
+        wrong.is_none(),
+        "the unit at {at:x} of the object of {count} words"
     );
-    Ok(())
+}
+
+#[test]
+fn objects(rt: HostRuntime) {
+    have_words(&rt, rt.alloc(), &object_b(), &B);
+    have_words(&rt, rt.alloc(), &object_h(), &H);
+    have_words(&rt, rt.alloc(), &object_p(), &P);
+    have_words(&rt, rt.alloc(), &other_units(), &OTHER);
+}
+
+/// An object's words, where a unit of it stands, where one of its words is changed, and to what.
+struct Spoilt(&'static [u32], usize, usize, u32);
+
+static SPOILT: [Spoilt; 7] = [
+    Spoilt(&A, 0x40, 0x40, 0x00100f13),
+    Spoilt(&A, 0x40, 0x40, 0x0052b023),
+    Spoilt(&A, 0x40, 0x40, 0x00028067),
+    Spoilt(&B, 0x44, 0x54, 0x00008067),
+    Spoilt(&P, 0x44, 0x48, 0x022f9f93),
+    Spoilt(&P, 0x5c, 0x78, 0x0002af03),
+    Spoilt(&P, 0x5c, 0x90, 0x00000013),
+];
+
+/// The words from an address of the code on.
+fn words_from(words: &[u32], at: usize) -> &[u32] {
+    words.get(at.saturating_sub(0x40) / 4..).unwrap_or(&[])
+}
+
+/// Whether a unit begins at an address.
+fn begins(words: &[u32], at: usize) -> bool {
+    at < 0x1000 && recognise(words_from(words, at), 0x4000_0000 + at as u64).is_some()
+}
+
+/// The words of a row, with the one changed.
+fn with_change(alloc: Global, row: &Spoilt) -> Result<Vec<u32>, AllocError> {
+    let mut words = row.0.to_vec(alloc)?;
+    if let Some(word) = words.get_mut(row.2.saturating_sub(0x40) / 4) {
+        *word = row.3;
+    }
+    Ok(words)
+}
+
+/// Whether a row's unit begins where it stands, and does not once the word is changed.
+fn is_refused(alloc: Global, row: &Spoilt) -> Result<bool, AllocError> {
+    Ok(begins(row.0, row.1) && !begins(&with_change(alloc, row)?, row.1))
 }
 
 /// No unit begins these objects' words at an address once the word at another is changed.
 #[test]
-fn refused(rt: HostRuntime) -> Result<(), Fail> {
-    let rows = [
-        (A.as_slice(), 0x40, 0x40, 0x00100f13),
-        (A.as_slice(), 0x40, 0x40, 0x0052b023),
-        (A.as_slice(), 0x40, 0x40, 0x00028067),
-        (B.as_slice(), 0x44, 0x54, 0x00008067),
-        (P.as_slice(), 0x44, 0x48, 0x022f9f93),
-        (P.as_slice(), 0x5c, 0x78, 0x0002af03),
-        (P.as_slice(), 0x5c, 0x90, 0x00000013),
-    ];
-    for (code, unit, changed, word) in rows {
-        assert!(rt; unit >= 0x40 && changed >= 0x40 && unit < 0x1000);
-        let mut words = code.to_vec(rt.alloc())?;
-        let at = 0x4000_0000 + unit as u64;
-        let first = (unit - 0x40) / 4;
-        assert!(rt; first < words.len());
-        assert!(rt; recognise(&words[first..], at).is_some(), "{unit:x}");
-        *words.get_mut((changed - 0x40) / 4).ok_or("outside")? = word;
-        assert!(rt;
-            recognise(&words[first..], at).is_none(),
-            "{unit:x} {changed:x}"
-        );
+fn refused(rt: HostRuntime) {
+    for row in &SPOILT {
+        let right = is_refused(rt.alloc(), row);
+        assert!(rt; matches!(right, Ok(true)), "{:x} {:x}", row.1, row.2);
     }
+}
+
+/// A unit without its last word is not recognised.
+#[test]
+fn cut(rt: HostRuntime) {
     assert!(rt; recognise(&P[7..26], 0x4000_005c).is_none());
-    Ok(())
 }

@@ -1,10 +1,9 @@
 use crate::programs::{P, P_GRAPH, code};
-use cfi_graph::read_graph;
+use cfi_graph::{Graph, read_graph};
 use cfi_verify::{Checked, verify};
 use cfi_walk::{Followed, Walk, follow};
-use rv_word::{Image, NoMemory};
+use rv_word::Image;
 use std::alloc::Global;
-use std::test::Fail;
 
 /// Where an undisturbed run of the program goes after the opening, how many sites are pending there,
 /// and which is the newest.
@@ -23,30 +22,39 @@ static UNDISTURBED: [(u64, usize, Option<u64>); 12] = [
     (0x40000038, 0, None),
 ];
 
-/// Where others go: with main's saved return address changed, with a place in no class for the
-/// pointer, and with the other member of its class.
-static DISTURBED: [&[u64]; 3] = [
-    &[
-        0x40000040, 0x40000044, 0x40000054, 0x40000058, 0x4000005c, 0x400000c8, 0x400000cc,
-        0x400000d0, 0x400000ac, 0x400000b0, 0x400000b4, 0x40000004,
-    ],
-    &[
-        0x40000040, 0x40000044, 0x40000054, 0x40000058, 0x4000005c, 0x40000000,
-    ],
-    &[
-        0x40000040, 0x40000044, 0x40000054, 0x40000058, 0x4000005c, 0x400000e4, 0x400000e8,
-        0x400000ec, 0x400000ac, 0x400000b0, 0x400000b4, 0x40000038,
-    ],
-];
-
-/// Where a walk goes after the opening, and an address to which it does not go from there: a unit that is not
-/// the entry, the middle of a unit, a unit that is in no class, a pending site that is not the newest.
-static REFUSED: [(&[u64], u64); 4] = [
-    (&[], 0x40000044),
-    (&[], 0x40000048),
+/// Where a walk goes after the opening, then an address, and whether it goes there as well.
+static WALKS: [(&[u64], u64, bool); 7] = [
+    // With main's saved return address changed, with a place in no class for the pointer, and with the
+    // other member of its class.
+    (
+        &[
+            0x40000040, 0x40000044, 0x40000054, 0x40000058, 0x4000005c, 0x400000c8, 0x400000cc,
+            0x400000d0, 0x400000ac, 0x400000b0, 0x400000b4,
+        ],
+        0x40000004,
+        true,
+    ),
+    (
+        &[0x40000040, 0x40000044, 0x40000054, 0x40000058, 0x4000005c],
+        0x40000000,
+        true,
+    ),
+    (
+        &[
+            0x40000040, 0x40000044, 0x40000054, 0x40000058, 0x4000005c, 0x400000e4, 0x400000e8,
+            0x400000ec, 0x400000ac, 0x400000b0, 0x400000b4,
+        ],
+        0x40000038,
+        true,
+    ),
+    // A unit that is not the entry, the middle of a unit, a unit that is in no class, a pending site that is
+    // not the newest.
+    (&[], 0x40000044, false),
+    (&[], 0x40000048, false),
     (
         &[0x40000040, 0x40000044, 0x40000054, 0x40000058, 0x4000005c],
         0x400000cc,
+        false,
     ),
     (
         &[
@@ -54,6 +62,7 @@ static REFUSED: [(&[u64], u64); 4] = [
             0x400000d0,
         ],
         0x40000038,
+        false,
     ),
 ];
 
@@ -72,9 +81,12 @@ fn stays(checked: &Checked<'_>, walk: &mut Walk, pc: u64) -> bool {
 }
 
 /// Whether a walk goes along the undisturbed run.
-fn goes_undisturbed(checked: &Checked<'_>, walk: &mut Walk) -> bool {
+fn goes_undisturbed(alloc: Global, checked: &Checked<'_>) -> bool {
+    let Ok(mut walk) = Walk::new(alloc) else {
+        return false;
+    };
     for row in &UNDISTURBED {
-        if !goes_on(checked, walk, row) {
+        if !goes_on(checked, &mut walk, row) {
             return false;
         }
     }
@@ -91,54 +103,54 @@ fn goes_along(checked: &Checked<'_>, walk: &mut Walk, trail: &[u64]) -> bool {
     true
 }
 
-/// Whether a walk goes as a row of `REFUSED` says, and no further.
-fn is_refused(alloc: Global, checked: &Checked<'_>, row: &(&[u64], u64)) -> Result<bool, NoMemory> {
-    let mut walk = Walk::new(alloc)?;
-    Ok(goes_along(checked, &mut walk, row.0) && stays(checked, &mut walk, row.1))
+/// Whether a walk goes as a row of `WALKS` says.
+fn goes_so(checked: &Checked<'_>, walk: &mut Walk, row: &(&[u64], u64, bool)) -> bool {
+    if !goes_along(checked, walk, row.0) {
+        return false;
+    }
+    if row.2 {
+        matches!(follow(checked, walk, row.1), Followed::Yes)
+    } else {
+        stays(checked, walk, row.1)
+    }
 }
 
-/// Whether each row of `REFUSED` holds of a pair.
-fn refuses(alloc: Global, checked: &Checked<'_>) -> Result<bool, NoMemory> {
-    for row in &REFUSED {
-        if !is_refused(alloc, checked, row)? {
-            return Ok(false);
-        }
+/// The same of a walk from the opening on.
+fn is_walk(alloc: Global, checked: &Checked<'_>, row: &(&[u64], u64, bool)) -> bool {
+    match Walk::new(alloc) {
+        Ok(mut walk) => goes_so(checked, &mut walk, row),
+        Err(_) => false,
     }
-    Ok(true)
 }
 
-/// Whether the pair has the walks above, and stops where it has to.
-fn has_these_walks(alloc: Global, checked: &Checked<'_>) -> Result<bool, NoMemory> {
-    let mut walk = Walk::new(alloc)?;
-    if !goes_undisturbed(checked, &mut walk) {
-        return Ok(false);
-    }
-    for trail in &DISTURBED {
-        let mut walk = Walk::new(alloc)?;
-        if !goes_along(checked, &mut walk, trail) {
-            return Ok(false);
+/// Whether a pair has the walks above, and stops where it has to.
+fn has_these_walks(alloc: Global, checked: &Checked<'_>) -> bool {
+    for row in &WALKS {
+        if !is_walk(alloc, checked, row) {
+            return false;
         }
     }
-    refuses(alloc, checked)
+    goes_undisturbed(alloc, checked)
 }
 
 /// Whether the program is accepted, and its pair has these walks.
-fn walks_so(alloc: Global) -> Result<bool, Fail> {
-    let bytes = code(alloc, &P)?;
-    let len = bytes.len();
-    if len < 4 || len > 0x10_0000 || len % 4 != 0 {
-        return Ok(false);
+fn walks_so(alloc: Global) -> bool {
+    let bytes = code::<260>(&P);
+    match read_graph(alloc, P_GRAPH) {
+        Ok(graph) => is_walked_so(alloc, &Image::of(&bytes, &[]), &graph),
+        Err(_) => false,
     }
-    let graph = read_graph(alloc, P_GRAPH)?;
-    let image = Image::of(&bytes, &[]);
-    match verify(alloc, &image, &graph) {
-        Ok(checked) => Ok(has_these_walks(alloc, &checked)?),
-        Err(_) => Ok(false),
+}
+
+/// Whether an image is accepted with a graph, and the pair has these walks.
+fn is_walked_so(alloc: Global, image: &Image<'_>, graph: &Graph) -> bool {
+    match verify(alloc, image, graph) {
+        Ok(checked) => has_these_walks(alloc, &checked),
+        Err(_) => false,
     }
 }
 
 #[test]
-fn trails(rt: HostRuntime) -> Result<(), Fail> {
-    assert!(rt; walks_so(rt.alloc())?);
-    Ok(())
+fn trails(rt: HostRuntime) {
+    assert!(rt; walks_so(rt.alloc()));
 }
