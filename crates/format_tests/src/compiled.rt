@@ -1,151 +1,92 @@
 use crate::samples;
 use elf_object::{Object, Section};
-use hex::FromHexError;
 use std::alloc::{AllocError, Global};
+use std::fmt::Write;
 
-/// Adds the sections of an object, a line each.
-fn describe_sections(alloc: Global, object: &Object, text: &mut Vec<u8>) -> Result<(), AllocError> {
-    for k in 0..object.sections() {
-        describe_section(alloc, k, &object.section(k), text)?;
+/// An object in hexadecimal, and what `readelf` says of it.
+fn sample(number: u32) -> (&'static [u8], &'static [u8]) {
+    match number {
+        0 => (samples::DIFFERENCES, samples::DIFFERENCES_TEXT),
+        1 => (samples::SWITCH_MEDLOW, samples::SWITCH_MEDLOW_TEXT),
+        2 => (samples::ADDRESSING_CLANG, samples::ADDRESSING_CLANG_TEXT),
+        3 => (samples::SWITCH_CLANG, samples::SWITCH_CLANG_TEXT),
+        4 => (samples::POINTERS_CLANG, samples::POINTERS_CLANG_TEXT),
+        _ => (samples::STRINGS_CLANG, samples::STRINGS_CLANG_TEXT),
     }
-    Ok(())
 }
 
-/// Adds a section, a dash for an empty name.
-fn describe_section(
-    alloc: Global,
+/// A name, a dash for an empty one.
+fn in_words(name: &[u8]) -> &str {
+    if name.is_empty() {
+        "-"
+    } else {
+        str::from_utf8(name).unwrap_or("no text")
+    }
+}
+
+/// Adds the line of a section with so many relocations.
+fn add_section(
+    text: &mut String,
     k: u32,
     section: &Section<'_>,
-    text: &mut Vec<u8>,
+    count: u64,
 ) -> Result<(), AllocError> {
-    let (kind, size) = (section.kind, section.size);
-    add(text, &format!(in alloc; "section {k} {kind} {size} ")?)?;
-    add_name(
-        text,
-        if section.name.is_empty() {
-            b"-"
-        } else {
-            section.name
-        },
-    )
+    let (kind, size, name) = (section.kind, section.size, in_words(section.name));
+    write!(text, "section {k} {kind} {size} {name} {count}\n")
 }
 
-/// Adds the count of symbols, and the symbols that have names.
-fn describe_symbols(alloc: Global, object: &Object, text: &mut Vec<u8>) -> Result<(), AllocError> {
-    add(text, &format!(in alloc; "symbols {}\n", object.symbols())?)?;
-    for k in 0..object.symbols() {
-        describe_symbol(alloc, k, object.symbol(k).name, text)?;
-    }
-    Ok(())
+/// Adds the line of a symbol.
+fn add_symbol(text: &mut String, k: u64, name: &[u8]) -> Result<(), AllocError> {
+    let name = in_words(name);
+    write!(text, "symbol {k} {name}\n")
 }
 
-/// Adds a symbol, and nothing for one without a name.
-fn describe_symbol(
-    alloc: Global,
-    k: u64,
-    name: &[u8],
-    text: &mut Vec<u8>,
-) -> Result<(), AllocError> {
-    if name.is_empty() {
-        return Ok(());
-    }
-    add(text, &format!(in alloc; "symbol {k} ")?)?;
-    add_name(text, name)
-}
-
-/// Adds the counts of relocations of the sections of an object.
-fn describe_relocations(
-    alloc: Global,
-    object: &Object,
-    text: &mut Vec<u8>,
-) -> Result<(), AllocError> {
+/// Adds the lines of the sections of an object.
+fn add_sections(text: &mut String, object: &Object) -> bool {
     for k in 0..object.sections() {
-        describe_count(alloc, k, object.relocs(k).count(), text)?;
+        if add_section(text, k, &object.section(k), object.relocs(k).count()).is_err() {
+            return false;
+        }
     }
-    Ok(())
+    true
 }
 
-/// Adds a count of relocations, and nothing for none.
-fn describe_count(alloc: Global, k: u32, count: u64, text: &mut Vec<u8>) -> Result<(), AllocError> {
-    if count == 0 {
-        return Ok(());
+/// Adds the lines of the symbols of an object.
+fn add_symbols(text: &mut String, object: &Object) -> bool {
+    for k in 0..object.symbols() {
+        if add_symbol(text, k, object.symbol(k).name).is_err() {
+            return false;
+        }
     }
-    add(text, &format!(in alloc; "relocations {k} {count}\n")?)
+    true
 }
 
-fn add(text: &mut Vec<u8>, words: &String) -> Result<(), AllocError> {
-    text.extend_from_slice(words.as_bytes())
+/// Whether an object is described by these words.
+fn is_described(alloc: Global, object: &Object, words: &[u8]) -> bool {
+    let mut text = String::new(alloc);
+    add_sections(&mut text, object) && add_symbols(&mut text, object) && text.as_bytes() == words
 }
 
-/// Adds a name and the end of its line.
-fn add_name(text: &mut Vec<u8>, name: &[u8]) -> Result<(), AllocError> {
-    text.extend_from_slice(name)?;
-    text.push(b'\n')?;
-    Ok(())
-}
-
-/// An object in words, as `readelf` has it.
-fn describe(alloc: Global, file: &[u8]) -> Result<Vec<u8>, AllocError> {
+/// Whether a file is read as an object that these words describe.
+fn is_read_as(alloc: Global, file: &[u8], words: &[u8]) -> bool {
     match Object::read(alloc, file) {
-        Ok(object) => describe_object(alloc, &object),
-        Err(_) => Vec::from_slice(alloc, b"a fault"),
+        Ok(object) => is_described(alloc, &object, words),
+        Err(_) => false,
     }
 }
 
-/// The sections, the symbols and the relocations of an object, in words.
-fn describe_object(alloc: Global, object: &Object) -> Result<Vec<u8>, AllocError> {
-    let mut text = Vec::new(alloc);
-    add_parts(alloc, object, &mut text)?;
-    Ok(text)
-}
-
-fn add_parts(alloc: Global, object: &Object, text: &mut Vec<u8>) -> Result<(), AllocError> {
-    describe_sections(alloc, object, text)?;
-    describe_symbols(alloc, object, text)?;
-    describe_relocations(alloc, object, text)
-}
-
-/// Whether the object with these digits is described by these words.
-fn is_described(alloc: Global, digits: &[u8], words: &[u8]) -> Result<bool, FromHexError> {
-    let file = hex::decode(alloc, digits)?;
-    Ok(describe(alloc, &file)?.as_slice() == words)
+/// Whether a sample is read as the object that its words describe.
+fn is_right(alloc: Global, number: u32) -> bool {
+    let (digits, words) = sample(number);
+    match hex::decode(alloc, digits) {
+        Ok(file) => is_read_as(alloc, &file, words),
+        Err(_) => false,
+    }
 }
 
 #[test]
 fn agrees_with_readelf(rt: HostRuntime) {
-    for (what, file, words) in [
-        (
-            "differences",
-            samples::DIFFERENCES,
-            samples::DIFFERENCES_TEXT,
-        ),
-        (
-            "switch, medlow",
-            samples::SWITCH_MEDLOW,
-            samples::SWITCH_MEDLOW_TEXT,
-        ),
-        (
-            "addressing, clang",
-            samples::ADDRESSING_CLANG,
-            samples::ADDRESSING_CLANG_TEXT,
-        ),
-        (
-            "switch, clang",
-            samples::SWITCH_CLANG,
-            samples::SWITCH_CLANG_TEXT,
-        ),
-        (
-            "pointers, clang",
-            samples::POINTERS_CLANG,
-            samples::POINTERS_CLANG_TEXT,
-        ),
-        (
-            "strings, clang",
-            samples::STRINGS_CLANG,
-            samples::STRINGS_CLANG_TEXT,
-        ),
-    ] {
-        let right = is_described(rt.alloc(), file, words).expect(&rt, "the object has digits");
-        assert!(rt; right, "{what}");
+    for number in 0..6 {
+        assert!(rt; is_right(rt.alloc(), number), "sample {number}");
     }
 }

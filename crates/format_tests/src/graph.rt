@@ -1,7 +1,7 @@
+use crate::words::{is_told_as, rows};
 use cfi_graph::{Graph, GraphLine, GraphLines, read_graph, write_graph};
 use rv_word::NoMemory;
-use std::alloc::Global;
-use std::test::Fail;
+use std::alloc::{AllocError, Global};
 
 const FIRST: &[u8] = b"rvcfi-graph 1\n";
 
@@ -132,80 +132,72 @@ const TEXTS: &[u8] = b"\
 ";
 
 /// The lines of a text before the line that a row names.
-fn head(name: &str) -> &[u8] {
-    if name == "from 3" {
-        SECOND
-    } else if name == "from 2" {
-        FIRST
-    } else {
-        b""
+fn head(name: &str) -> &'static [u8] {
+    match name {
+        "from 3" => SECOND,
+        "from 2" => FIRST,
+        _ => b"",
     }
 }
 
-/// The text that a row stands for.
-fn text_of(alloc: Global, name: &str, rest: &str) -> Result<Vec<u8>, Fail> {
-    let mut text = Vec::from_slice(alloc, head(name))?;
-    for byte in rest.as_bytes() {
-        text.push(spelled(*byte))?;
-    }
-    Ok(text)
+/// The lines before a text, and the text.
+fn joined(alloc: Global, head: &[u8], rest: &str) -> Result<Vec<u8>, AllocError> {
+    [head, rest.as_bytes()].concat(alloc)
 }
 
-/// The byte that a row's byte stands for.
-fn spelled(byte: u8) -> u8 {
-    if byte == b'/' { b'\n' } else { byte }
-}
-
-/// What a text is read as, in words. A graph that is read is written as the same text.
-fn answer(alloc: Global, text: &[u8]) -> Result<String, Fail> {
-    match read_graph(alloc, text) {
-        Ok(graph) => {
-            let same = is_written_so(alloc, &graph, text)?;
-            let words = if same {
-                "a graph"
-            } else {
-                "a graph with another text"
-            };
-            Ok(String::from_str(alloc, words)?)
+/// Puts a newline in place of each `/`.
+fn break_lines(text: &mut [u8]) {
+    for byte in text {
+        if *byte == b'/' {
+            *byte = b'\n';
         }
-        Err(end) => Ok(format!(in alloc; "{end}")?),
+    }
+}
+
+/// Whether a text is read as these words say. A graph that is read is written as the same text.
+fn is_read_as(alloc: Global, text: &[u8], expected: &str) -> bool {
+    match read_graph(alloc, text) {
+        Ok(graph) => expected == "a graph" && is_written_as(alloc, &graph, text),
+        Err(end) => is_told_as(alloc, &end, expected),
     }
 }
 
 /// Whether a text is that of a graph.
-fn is_written_so(alloc: Global, graph: &Graph, text: &[u8]) -> Result<bool, NoMemory> {
-    Ok(write_graph(alloc, graph)?.as_slice() == text)
+fn is_written_as(alloc: Global, graph: &Graph, text: &[u8]) -> bool {
+    match write_graph(alloc, graph) {
+        Ok(written) => written.as_slice() == text,
+        Err(_) => false,
+    }
 }
 
 /// Whether a row says what its text is read as.
-fn is_right(alloc: Global, row: &str) -> Result<bool, Fail> {
-    if let Some((name, rest)) = row.split_once(": ") {
-        if let Some((rest, expected)) = rest.split_once(" = ") {
-            let text = text_of(alloc, name, rest)?;
-            return Ok(answer(alloc, &text)?.as_str() == expected);
+fn is_right(alloc: Global, row: &str) -> bool {
+    let Some((name, rest)) = row.split_once(": ") else {
+        return false;
+    };
+    let Some((rest, expected)) = rest.split_once(" = ") else {
+        return false;
+    };
+    match joined(alloc, head(name), rest) {
+        Ok(mut text) => {
+            break_lines(&mut text);
+            is_read_as(alloc, &text, expected)
         }
+        Err(_) => false,
     }
-    Ok(false)
 }
 
 #[test]
-fn texts(rt: HostRuntime) -> Result<(), Fail> {
-    let mut count = 0_u32;
-    for row in str::from_utf8(TEXTS).unwrap_or("").lines() {
-        assert!(rt; is_right(rt.alloc(), row)?, "{row}");
-        count = count.saturating_add(1);
+fn texts(rt: HostRuntime) {
+    for row in rows(TEXTS).lines() {
+        assert!(rt; is_right(rt.alloc(), row), "{row}");
     }
-    assert_eq!(rt; count, 119);
-    Ok(())
+    assert!(rt; rows(TEXTS).lines().count() == 119);
 }
 
 #[test]
-fn no_text(rt: HostRuntime) -> Result<(), Fail> {
-    assert_eq!(rt;
-        answer(rt.alloc(), b"\xff\xfe\n\xff\n")?.as_str(),
-        "line 1: Form"
-    );
-    Ok(())
+fn no_text(rt: HostRuntime) {
+    assert!(rt; is_read_as(rt.alloc(), b"\xff\xfe\n\xff\n", "line 1: Form"));
 }
 
 const WORKED: &[u8] = b"rvcfi-graph 1\ncode 40000000 00000104\nclass 00001 400000c8 400000e4\n\
@@ -215,31 +207,42 @@ const MADE: &[u8] = b"rvcfi-graph 1\ncode 40000000 00000104\nedge 40000040 40000
 
 /// A graph that is made of its parts.
 fn made(alloc: Global) -> Result<Graph, NoMemory> {
-    let lines = vec![in alloc; GraphLine::Edge(0x4000_0040, 0x4000_0050)]?;
+    let mut lines = Vec::new(alloc);
+    lines.push(GraphLine::Edge(0x4000_0040, 0x4000_0050))?;
     Graph::of(alloc, 0x104, GraphLines::of(lines))
 }
 
-/// Whether a graph has the counts of the worked one.
-fn has_counts(graph: &Graph) -> bool {
-    graph.code() == 0x104 && graph.classes() == 1 && graph.sites() == 1 && graph.lines() == 3
+/// Whether a graph has the counts of the worked one, and the opening's call as its second line.
+fn has_parts(graph: &Graph) -> bool {
+    graph.code() == 0x104
+        && graph.classes() == 1
+        && graph.sites() == 1
+        && graph.lines() == 3
+        && matches!(graph.line(1), GraphLine::Call(0x4000_000c, 0x4000_0040))
 }
 
-/// Whether the second line of a graph is the opening's call.
-fn has_call(graph: &Graph) -> bool {
-    graph.lines() > 1 && matches!(graph.line(1), GraphLine::Call(0x4000_000c, 0x4000_0040))
+/// Whether the worked graph is read with its parts.
+fn is_read_with_parts(alloc: Global) -> bool {
+    match read_graph(alloc, WORKED) {
+        Ok(graph) => has_parts(&graph),
+        Err(_) => false,
+    }
 }
 
 #[test]
-fn parts(rt: HostRuntime) -> Result<(), Fail> {
-    let graph = read_graph(rt.alloc(), WORKED)?;
-    assert!(rt; has_counts(&graph) && has_call(&graph));
-    Ok(())
+fn parts(rt: HostRuntime) {
+    assert!(rt; is_read_with_parts(rt.alloc()));
+}
+
+/// Whether the graph that is made of its parts is written as its text.
+fn is_made_and_written(alloc: Global) -> bool {
+    match made(alloc) {
+        Ok(graph) => is_written_as(alloc, &graph, MADE),
+        Err(_) => false,
+    }
 }
 
 #[test]
-fn made_of_parts(rt: HostRuntime) -> Result<(), Fail> {
-    let graph = made(rt.alloc())?;
-    let right = is_written_so(rt.alloc(), &graph, MADE)?;
-    assert!(rt; right);
-    Ok(())
+fn made_of_parts(rt: HostRuntime) {
+    assert!(rt; is_made_and_written(rt.alloc()));
 }

@@ -1,12 +1,21 @@
+use crate::words::is_told_as;
 use elf_image::{ImageRefusal, read_image, write_image};
+use rv_word::NoMemory;
 use std::alloc::{AllocError, Global};
-use std::test::Fail;
 
-/// The code of a program that exits with 7.
-static CODE: [u32; 20] = [
-    0x00100073, 0x00100073, 0x00100073, 0x10000137, 0x600001B7, 0x00818193, 0x03019F13, 0x000F1463,
-    0xFE9FF06F, 0x00000F17, 0x014F0F13, 0x01E1B023, 0x00818193, 0x00C000EF, 0x05D00893, 0x00000073,
-    0x00700513, 0x05D00893, 0x00000073, 0xFB5FF06F,
+/// The code of a program that exits with 7, 8 bytes a line.
+#[rattlefmt::skip]
+static CODE: [u8; 80] = [
+    0x73, 0, 0x10, 0, 0x73, 0, 0x10, 0,
+    0x73, 0, 0x10, 0, 0x37, 0x01, 0, 0x10,
+    0xb7, 0x01, 0, 0x60, 0x93, 0x81, 0x81, 0,
+    0x13, 0x9f, 0x01, 0x03, 0x63, 0x14, 0x0f, 0,
+    0x6f, 0xf0, 0x9f, 0xfe, 0x17, 0x0f, 0, 0,
+    0x13, 0x0f, 0x4f, 0x01, 0x23, 0xb0, 0xe1, 0x01,
+    0x93, 0x81, 0x81, 0, 0xef, 0, 0xc0, 0,
+    0x93, 0x08, 0xd0, 0x05, 0x73, 0, 0, 0,
+    0x13, 0x05, 0x70, 0, 0x93, 0x08, 0xd0, 0x05,
+    0x73, 0, 0, 0, 0x6f, 0xf0, 0x5f, 0xfb,
 ];
 
 /// The headers of its image, by hand, 8 bytes a line.
@@ -81,50 +90,39 @@ static CHANGES: [(usize, &[u8], Option<ImageRefusal>); 30] = [
     (4175, &[0], None),
 ];
 
-/// The bytes of the code.
-fn code(alloc: Global) -> Result<Vec<u8>, AllocError> {
-    let mut bytes = Vec::new(alloc);
-    for word in &CODE {
-        bytes.extend_from_slice(&word.to_le_bytes())?;
-    }
-    Ok(bytes)
+/// The file of the code alone: the headers, the code, and zeros up to the end of each page.
+fn expected(alloc: Global) -> Result<Vec<u8>, AllocError> {
+    let headers = HEADERS.as_flattened();
+    [headers, &[0; 4096 - 232], &CODE, &[0; 4096 - 80]].concat(alloc)
 }
 
-/// The file with these bytes at `at` in place of its own.
-fn changed(alloc: Global, file: &[u8], at: usize, bytes: &[u8]) -> Result<Vec<u8>, AllocError> {
-    let mut copy = Vec::new(alloc);
-    copy.extend_from_slice(file.get(..at).unwrap_or(file))?;
-    copy.extend_from_slice(bytes)?;
-    copy.extend_from_slice(file.get(at.saturating_add(bytes.len())..).unwrap_or(&[]))?;
-    Ok(copy)
-}
-
-/// Whether a file begins with the headers.
-fn has_headers(file: &[u8]) -> bool {
-    HEADERS.iter().enumerate().all(|(index, row)| file.get(8 * index..8 * index + 8)
-        == Some(row.as_slice()))
-}
-
-/// Whether a file has the code at its place, and else zeros after the headers.
-fn has_code_alone(file: &[u8], code: &[u8]) -> bool {
-    let Some(rest) = file.get(232..) else {
-        return false;
-    };
-    for (index, byte) in rest.iter().enumerate() {
-        let expected = code.get(index.wrapping_sub(0x1000 - 232)).unwrap_or(&0);
-        if byte != expected {
-            return false;
-        }
-    }
-    true
-}
-
-/// Whether a file is read as an image with this code and no data.
-fn is_read_as(file: &[u8], code: &[u8]) -> bool {
-    match read_image(file) {
-        Ok(image) => image.code() == code && image.init().is_empty(),
+/// Whether a file is the one that is expected of the code alone.
+fn is_expected(alloc: Global, file: &[u8]) -> bool {
+    match expected(alloc) {
+        Ok(expected) => file == &*expected,
         Err(_) => false,
     }
+}
+
+/// Whether a file is read as an image with the code and no data.
+fn is_read_back(file: &[u8]) -> bool {
+    match read_image(file) {
+        Ok(image) => image.code() == CODE.as_slice() && image.init().is_empty(),
+        Err(_) => false,
+    }
+}
+
+/// Whether the file of the code alone is the one that is expected, and is read back.
+fn is_written_as_expected(alloc: Global) -> bool {
+    match write_image(alloc, &CODE, &[]) {
+        Ok(file) => is_expected(alloc, &file) && is_read_back(&file),
+        Err(_) => false,
+    }
+}
+
+#[test]
+fn has_these_bytes(rt: HostRuntime) {
+    assert!(rt; is_written_as_expected(rt.alloc()));
 }
 
 /// Whether the reader refuses a file so, or takes it.
@@ -132,55 +130,61 @@ fn ends_so(file: &[u8], refusal: Option<ImageRefusal>) -> bool {
     read_image(file).err() == refusal
 }
 
-#[test]
-fn has_these_bytes(rt: HostRuntime) {
-    let code = code(rt.alloc()).expect(&rt, "there is memory");
-    assert!(rt; code.len() == 80);
-    let file = write_image(rt.alloc(), &code, &[]).expect(&rt, "there is memory");
-    assert!(rt; file.len() == 8192);
-    assert!(rt; has_headers(&file));
-    assert!(rt; has_code_alone(&file, &code));
-    assert!(rt; is_read_as(&file, &code));
+/// The file with these bytes at `at` in place of its own.
+fn changed(alloc: Global, file: &[u8], at: usize, bytes: &[u8]) -> Result<Vec<u8>, AllocError> {
+    let rest = file.get(at.saturating_add(bytes.len())..).unwrap_or(&[]);
+    [file.get(..at).unwrap_or(file), bytes, rest].concat(alloc)
 }
 
-/// The file of the code above and some data.
-fn worked(alloc: Global) -> Result<Vec<u8>, Fail> {
-    let code = code(alloc)?;
-    if code.len() == 80 {
-        return Ok(write_image(alloc, &code, b"data")?);
+/// Whether the reader says of a file with a row's change what the row says.
+fn is_right(alloc: Global, file: &[u8], row: &(usize, &[u8], Option<ImageRefusal>)) -> bool {
+    match changed(alloc, file, row.0, row.1) {
+        Ok(file) => ends_so(&file, row.2),
+        Err(_) => false,
     }
-    Ok(Vec::new(alloc))
 }
 
-#[test]
-fn takes_one_spelling(rt: HostRuntime) -> Result<(), Fail> {
-    let file = worked(rt.alloc())?;
-    assert!(rt; file.len() == 8196);
-    for (at, bytes, refusal) in &CHANGES {
-        let copy = changed(rt.alloc(), &file, *at, bytes)?;
-        assert!(rt; ends_so(&copy, *refusal), "changed at {at}");
+/// Whether a row is right of the file of the code and some data.
+fn is_right_of_the_file(alloc: Global, row: &(usize, &[u8], Option<ImageRefusal>)) -> bool {
+    match write_image(alloc, &CODE, b"data") {
+        Ok(file) => is_right(alloc, &file, row),
+        Err(_) => false,
     }
-    Ok(())
-}
-
-/// Whether the start of a file is refused by its length alone.
-fn is_short(file: &[u8], len: usize) -> bool {
-    let cut = file.get(..len).unwrap_or(&[]);
-    ends_so(cut, Some(ImageRefusal::Short(len as u64)))
 }
 
 #[test]
-fn refuses_what_is_short(rt: HostRuntime) -> Result<(), Fail> {
-    let file = worked(rt.alloc())?;
-    assert!(rt; file.len() == 8196);
-    for len in [0, 1, 231, 232, 4096, 8192, 8195] {
-        assert!(rt; is_short(&file, len), "cut at {len}");
+fn takes_one_spelling(rt: HostRuntime) {
+    for row in &CHANGES {
+        assert!(rt;
+            is_right_of_the_file(rt.alloc(), row),
+            "changed at {}",
+            row.0
+        );
     }
-    Ok(())
+}
+
+/// Lengths that are too short for the file of the code and some data.
+static LENGTHS: [usize; 7] = [0, 1, 231, 232, 4096, 8192, 8195];
+
+/// Whether the start of the file is refused by its length alone.
+fn is_short(alloc: Global, len: usize) -> bool {
+    match write_image(alloc, &CODE, b"data") {
+        Ok(file) => ends_so(
+            file.get(..len).unwrap_or(&[]),
+            Some(ImageRefusal::Short(len as u64)),
+        ),
+        Err(_) => false,
+    }
+}
+
+#[test]
+fn refuses_what_is_short(rt: HostRuntime) {
+    for len in &LENGTHS {
+        assert!(rt; is_short(rt.alloc(), *len), "cut at {len}");
+    }
 }
 
 #[test]
 fn tells_its_refusal(rt: HostRuntime) {
-    let text = format!(in rt.alloc(); "{}", ImageRefusal::Byte(16)).expect(&rt, "there is memory");
-    assert!(rt; text.as_str() == "Byte 16");
+    assert!(rt; is_told_as(rt.alloc(), &ImageRefusal::Byte(16), "Byte 16"));
 }

@@ -14,3 +14,5 @@ mod image;
 mod object;
 #[cfg(test)]
 mod samples;
+#[cfg(test)]
+mod words;

@@ -1,50 +1,54 @@
+use crate::words::{is_told_as, rows};
 use elf_object::{Object, Reloc, Relocs, Section, Symbol};
-use hex::FromHexError;
 use std::alloc::{AllocError, Global};
 
-/// The fields of the object that the tests change, in the order of the file: sizes, then values.
-const HEADER_SIZES: [usize; 16] = [4, 4, 8, 2, 2, 4, 8, 8, 8, 4, 2, 2, 2, 2, 2, 2];
+/// The sizes of the fields of a header, of a section's header, of a symbol and of a relocation.
+const HEADER: &[usize] = &[4, 4, 8, 2, 2, 4, 8, 8, 8, 4, 2, 2, 2, 2, 2, 2];
 
-static HEADER: [u64; 16] = [
-    0x464c457f, 0x010102, 0, 1, 243, 1, 0, 0, 512, 0, 64, 0, 0, 64, 10, 9,
+const SECTION: &[usize] = &[4, 4, 8, 8, 8, 8, 4, 4, 8, 8];
+
+const SYMBOL: &[usize] = &[4, 1, 1, 2, 8, 8];
+
+const RELOCATION: &[usize] = &[8, 4, 4, 8];
+
+/// The fields of the object that the tests change: where they begin, their values and their sizes.
+/// A symbol has a name, info, other, section, value and size; a section's header a name, type, flags,
+/// address, offset, size, link, info, alignment and entry size.
+static FIELDS: [(usize, &[u64], &[usize]); 25] = [
+    (
+        0,
+        &[
+            0x464c457f, 0x010102, 0, 1, 243, 1, 0, 0, 512, 0, 64, 0, 0, 64, 10, 9,
+        ],
+        HEADER,
+    ),
+    (72, &[4, 51, 1, u64::MAX - 1], RELOCATION),
+    (112, &[0, 57, 1, 0], RELOCATION),
+    (136, &[0, 0, 0, 0, 0, 0], SYMBOL),
+    (160, &[1, 0x12, 0, 1, 0, 8], SYMBOL), // main, a function
+    (184, &[0, 3, 0, 1, 0, 0], SYMBOL),
+    (208, &[0, 0x10, 0, 0xfff1, u64::MAX, 0], SYMBOL), // absolute
+    (232, &[1, 0x11, 0, 0xfff2, 8, 4], SYMBOL), // common
+    (256, &[3, 0x10, 0, 0, 9, 0], SYMBOL), // undefined
+    (280, &[5, 0x11, 0, 3, 8, 0], SYMBOL),
+    (304, &[0, 0x11, 0, 4, 16, 0], SYMBOL),
+    (328, &[0, 0x10, 0, 5, 1000, 0], SYMBOL), // in a section that is not kept
+    (352, &[0, 0, 0, 2, 1000, 0], SYMBOL),
+    (376, &[0, 4, 0, 0xfff1, 0, 0], SYMBOL), // a file
+    (400, &[0, 0, 0, 1, 4, 0], SYMBOL),
+    (512, &[0, 0, 0, 0, 0, 0, 0, 0, 0, 0], SECTION),
+    (576, &[1, 1, 6, 0, 64, 8, 0, 0, 4, 0], SECTION), // .text
+    (640, &[7, 4, 0x40, 0, 72, 24, 7, 1, 8, 24], SECTION), // .rela.text
+    (704, &[18, 1, 3, 0, 96, 8, 0, 0, 8, 0], SECTION), // .data
+    (768, &[24, 8, 3, 0, 104, 16, 0, 0, 8, 0], SECTION), // .bss
+    (832, &[29, 1, 2, 0, 104, 8, 0, 0, 8, 0], SECTION), // .eh_frame
+    (896, &[39, 4, 0x40, 0, 112, 24, 7, 5, 8, 24], SECTION), // .rela.eh_frame
+    (960, &[54, 2, 0, 0, 136, 288, 8, 12, 8, 24], SECTION), // .symtab
+    (1024, &[62, 3, 0, 0, 424, 6, 0, 0, 1, 0], SECTION), // .strtab
+    (1088, &[70, 3, 0, 0, 432, 80, 0, 0, 1, 0], SECTION), // .shstrtab
 ];
 
-const SECTION_SIZES: [usize; 10] = [4, 4, 8, 8, 8, 8, 4, 4, 8, 8];
-
-/// Name, type, flags, address, offset, size, link, info, alignment and entry size.
-static SECTIONS: [[u64; 10]; 10] = [
-    [0, 0, 0, 0, 0, 0, 0, 0, 0, 0],
-    [1, 1, 6, 0, 64, 8, 0, 0, 4, 0], // .text
-    [7, 4, 0x40, 0, 72, 24, 7, 1, 8, 24], // .rela.text
-    [18, 1, 3, 0, 96, 8, 0, 0, 8, 0], // .data
-    [24, 8, 3, 0, 104, 16, 0, 0, 8, 0], // .bss
-    [29, 1, 2, 0, 104, 8, 0, 0, 8, 0], // .eh_frame
-    [39, 4, 0x40, 0, 112, 24, 7, 5, 8, 24], // .rela.eh_frame
-    [54, 2, 0, 0, 136, 288, 8, 12, 8, 24], // .symtab
-    [62, 3, 0, 0, 424, 6, 0, 0, 1, 0], // .strtab
-    [70, 3, 0, 0, 432, 80, 0, 0, 1, 0], // .shstrtab
-];
-
-const SYMBOL_SIZES: [usize; 6] = [4, 1, 1, 2, 8, 8];
-
-/// Name, info, other, section, value and size.
-static SYMBOLS: [[u64; 6]; 12] = [
-    [0, 0, 0, 0, 0, 0],
-    [1, 0x12, 0, 1, 0, 8], // main, a function
-    [0, 3, 0, 1, 0, 0],
-    [0, 0x10, 0, 0xfff1, u64::MAX, 0], // absolute
-    [1, 0x11, 0, 0xfff2, 8, 4], // common
-    [3, 0x10, 0, 0, 9, 0], // undefined
-    [5, 0x11, 0, 3, 8, 0],
-    [0, 0x11, 0, 4, 16, 0],
-    [0, 0x10, 0, 5, 1000, 0], // in a section that is not kept
-    [0, 0, 0, 2, 1000, 0],
-    [0, 4, 0, 0xfff1, 0, 0], // a file
-    [0, 0, 0, 1, 4, 0],
-];
-
-const RELOCATION_SIZES: [usize; 4] = [8, 4, 4, 8];
-
+/// The names of its sections.
 const NAMES: &[u8] =
     b"\x00.text\x00.rela.text\x00.data\x00.bss\x00.eh_frame\x00.rela.eh_frame\x00.symtab\x00.strtab\x00.shstrtab\x00";
 
@@ -137,119 +141,138 @@ static CHANGES: &[u8] = b"\
     no symbols, and number 0 named: 992=0000, 84=00: BadSymbol 0\n\
 ";
 
-/// Appends a field of this size, the lowest byte first.
-fn put_field(file: &mut Vec<u8>, value: u64, size: usize) -> Result<(), AllocError> {
-    file.extend_from_slice(&value.to_le_bytes()[..size.min(8)])
+/// How many sections the object says that it has, how long it is made, with zeros past its own end,
+/// and what is wrong then.
+static LENGTHS: [(u16, usize, &str); 8] = [
+    (10, 0, "NotElf"),
+    (10, 63, "NotElf"),
+    (10, 64, "Truncated 512"),
+    (10, 384, "Truncated 512"),
+    (10, 1151, "Truncated 512"),
+    (10, 1152, "none"),
+    (0xfeff, 512 + 64 * 0xfeff, "none"),
+    (0xff00, 512 + 64 * 0xff00, "BadTable 0"),
+];
+
+/// Puts bytes in place of others at `at`. It is false where they do not lie in the file, or stand there
+/// already.
+fn put(file: &mut [u8], at: usize, bytes: &[u8]) -> bool {
+    let Some(place) = file.get_mut(at..at.saturating_add(bytes.len())) else {
+        return false;
+    };
+    let differs = &*place != bytes;
+    place.copy_from_slice(bytes);
+    differs
 }
 
-/// Appends fields of these sizes.
-fn put_fields(file: &mut Vec<u8>, values: &[u64], sizes: &[usize]) -> Result<(), AllocError> {
+/// Puts a field of this size, the lowest byte first.
+fn put_field(file: &mut [u8], at: usize, value: u64, size: usize) {
+    put(file, at, &value.to_le_bytes()[..size.min(8)]);
+}
+
+/// Puts fields of these sizes, one after the other.
+fn put_fields(file: &mut [u8], at: usize, values: &[u64], sizes: &[usize]) {
+    let mut at = at;
     for (value, size) in values.iter().zip(sizes) {
-        put_field(file, *value, *size)?;
-    }
-    Ok(())
-}
-
-/// The object with these parts, 1,152 bytes.
-fn object(alloc: Global) -> Result<Vec<u8>, AllocError> {
-    let mut file = Vec::new(alloc);
-    put_fields(&mut file, &HEADER, &HEADER_SIZES)?;
-    file.extend_from_slice(b"\x13\x05\x70\x00\x67\x80\x00\x00")?;
-    put_fields(&mut file, &[4, 51, 1, u64::MAX - 1], &RELOCATION_SIZES)?;
-    file.resize(112, 0)?;
-    put_fields(&mut file, &[0, 57, 1, 0], &RELOCATION_SIZES)?;
-    for symbol in &SYMBOLS {
-        put_fields(&mut file, symbol, &SYMBOL_SIZES)?;
-    }
-    file.extend_from_slice(b"\x00main\x00\x00\x00")?;
-    file.extend_from_slice(NAMES)?;
-    for section in &SECTIONS {
-        put_fields(&mut file, section, &SECTION_SIZES)?;
-    }
-    Ok(file)
-}
-
-/// Puts bytes in place of a file's own at `at`.
-fn put(file: &mut [u8], at: usize, bytes: &[u8]) {
-    for (place, byte) in file.iter_mut().skip(at).zip(bytes) {
-        *place = *byte;
+        put_field(file, at, *value, *size);
+        at = at.saturating_add(*size);
     }
 }
 
-/// Makes one change, as `16=02` puts a 2 at offset 16. It is none where the text is not understood, or
-/// the bytes do not lie in the file or stand there already.
-fn change(alloc: Global, file: &mut [u8], text: &str) -> Result<bool, FromHexError> {
+/// Puts the fields of the object.
+fn put_all_fields(file: &mut [u8]) {
+    for (at, values, sizes) in &FIELDS {
+        put_fields(file, *at, values, sizes);
+    }
+}
+
+/// The object: its fields, its code, the names of its symbols and of its sections, and else zeros.
+fn object() -> [u8; 1152] {
+    let mut file = [0; 1152];
+    put_all_fields(&mut file);
+    put(&mut file, 64, b"\x13\x05\x70\x00\x67\x80\x00\x00");
+    put(&mut file, 424, b"\x00main");
+    put(&mut file, 432, NAMES);
+    file
+}
+
+/// Makes one change, as `16=02` puts a 2 at offset 16. It is false where the text is not understood, or
+/// the change is none.
+fn change(alloc: Global, file: &mut [u8], text: &str) -> bool {
     let Some((offset, digits)) = text.split_once("=") else {
-        return Ok(false);
+        return false;
     };
-    let Ok(at) = offset.parse::<usize>() else {
-        return Ok(false);
-    };
-    let bytes = hex::decode(alloc, digits)?;
-    Ok(replace(file, at, &bytes))
+    match (offset.parse::<usize>(), hex::decode(alloc, digits)) {
+        (Ok(at), Ok(bytes)) => put(file, at, &bytes),
+        _ => false,
+    }
 }
 
-/// Puts bytes in place of others at `at`, if they lie in the file and differ from these.
-fn replace(file: &mut [u8], at: usize, bytes: &[u8]) -> bool {
-    let Some(tail) = file.get(at..) else {
-        return false;
-    };
-    let Some(old) = tail.get(..bytes.len()) else {
-        return false;
-    };
-    if old == bytes {
-        return false;
+/// Makes the changes of a row. It is false where one of them is none.
+fn change_all(alloc: Global, file: &mut [u8], changes: &str) -> bool {
+    for text in changes.split(", ") {
+        if !change(alloc, file, text) {
+            return false;
+        }
     }
-    put(file, at, bytes);
     true
 }
 
-/// The object with the changes of a row; none where one of them is none.
-fn changed(alloc: Global, changes: &str) -> Result<Option<Vec<u8>>, FromHexError> {
-    let mut file = object(alloc)?;
-    for text in changes.split(", ") {
-        if !change(alloc, &mut file, text)? {
-            return Ok(None);
-        }
-    }
-    Ok(Some(file))
-}
-
-/// What is wrong with a file, in words.
-fn fault(alloc: Global, file: &[u8]) -> Result<String, AllocError> {
+/// Whether a file has this fault, in words.
+fn has_fault(alloc: Global, file: &[u8], expected: &str) -> bool {
     match Object::read(alloc, file) {
-        Ok(_) => format!(in alloc; "none"),
-        Err(end) => format!(in alloc; "{end}"),
+        Ok(_) => expected == "none",
+        Err(end) => is_told_as(alloc, &end, expected),
     }
-}
-
-/// Whether a row says what is wrong with the object that it changes.
-fn is_right(alloc: Global, row: &str) -> Result<bool, FromHexError> {
-    if let Some((_, rest)) = row.split_once(": ") {
-        if let Some((changes, expected)) = rest.split_once(": ") {
-            return is_faulty(alloc, changes, expected);
-        }
-    }
-    Ok(false)
 }
 
 /// Whether the object with these changes has this fault.
-fn is_faulty(alloc: Global, changes: &str, expected: &str) -> Result<bool, FromHexError> {
-    match changed(alloc, changes)? {
-        Some(file) => Ok(fault(alloc, &file)?.as_str() == expected),
-        None => Ok(false),
+fn is_faulty(alloc: Global, changes: &str, expected: &str) -> bool {
+    let mut file = object();
+    change_all(alloc, &mut file, changes) && has_fault(alloc, &file, expected)
+}
+
+/// Whether a row says what is wrong with the object that it changes.
+fn is_right(alloc: Global, row: &str) -> bool {
+    let Some((_, rest)) = row.split_once(": ") else {
+        return false;
+    };
+    match rest.split_once(": ") {
+        Some((changes, expected)) => is_faulty(alloc, changes, expected),
+        None => false,
     }
 }
 
 #[test]
 fn has_the_first_fault(rt: HostRuntime) {
-    let mut count = 0_u32;
-    for row in str::from_utf8(CHANGES).unwrap_or("").lines() {
-        let right = is_right(rt.alloc(), row).expect(&rt, "the row has digits");
-        assert!(rt; right, "{row}");
-        count = count.saturating_add(1);
+    for row in rows(CHANGES).lines() {
+        assert!(rt; is_right(rt.alloc(), row), "{row}");
     }
-    assert_eq!(rt; count, 85);
+    assert!(rt; rows(CHANGES).lines().count() == 85);
+}
+
+/// The object with so many sections, of this length.
+fn resized(alloc: Global, sections: u16, len: usize) -> Result<Vec<u8>, AllocError> {
+    let mut object = object();
+    put(&mut object, 60, &sections.to_le_bytes());
+    let mut file = Vec::from_slice(alloc, &object)?;
+    file.resize(len, 0)?;
+    Ok(file)
+}
+
+/// Whether a row says what is wrong with the object of its length.
+fn ends_so(alloc: Global, row: &(u16, usize, &str)) -> bool {
+    match resized(alloc, row.0, row.1) {
+        Ok(file) => has_fault(alloc, &file, row.2),
+        Err(_) => false,
+    }
+}
+
+#[test]
+fn ends_where_it_says(rt: HostRuntime) {
+    for row in &LENGTHS {
+        assert!(rt; ends_so(rt.alloc(), row), "{} bytes", row.1);
+    }
 }
 
 /// Whether the object has its sections: the bytes of code, none of `.bss`, and those that are kept.
@@ -297,45 +320,15 @@ fn has_relocations(object: &Object) -> bool {
     object.sections() == 10 && is_relaxed(&object.relocs(1)) && object.relocs(5).count() == 0
 }
 
+/// Whether the object is read with its sections, its symbols and its relocations.
+fn is_read_with_parts(alloc: Global) -> bool {
+    match Object::read(alloc, &object()) {
+        Ok(object) => has_sections(&object) && has_symbols(&object) && has_relocations(&object),
+        Err(_) => false,
+    }
+}
+
 #[test]
 fn has_its_parts(rt: HostRuntime) {
-    let file = object(rt.alloc()).expect(&rt, "there is memory");
-    let object = Object::read(rt.alloc(), &file).expect(&rt, "it has no fault");
-    assert!(rt; has_sections(&object));
-    assert!(rt; has_symbols(&object));
-    assert!(rt; has_relocations(&object));
-}
-
-#[test]
-fn ends_where_it_says(rt: HostRuntime) {
-    let file = object(rt.alloc()).expect(&rt, "there is memory");
-    for (len, expected) in [
-        (0, "NotElf"),
-        (63, "NotElf"),
-        (64, "Truncated 512"),
-        (384, "Truncated 512"),
-        (1151, "Truncated 512"),
-        (1152, "none"),
-    ] {
-        let cut = file.get(..len).unwrap_or(&[]);
-        let fault = fault(rt.alloc(), cut).expect(&rt, "there is memory");
-        assert!(rt; fault.as_str() == expected, "cut at {len}: {fault}");
-    }
-}
-
-/// The object with `count` sections, those past the tenth of all zeros.
-fn long_object(alloc: Global, count: u16) -> Result<Vec<u8>, AllocError> {
-    let mut file = object(alloc)?;
-    put(&mut file, 60, &count.to_le_bytes());
-    file.resize(512 + 64 * count as usize, 0)?;
-    Ok(file)
-}
-
-#[test]
-fn has_fewer_than_ff00_sections(rt: HostRuntime) {
-    for (count, expected) in [(0xfeff, "none"), (0xff00, "BadTable 0")] {
-        let file = long_object(rt.alloc(), count).expect(&rt, "there is memory");
-        let fault = fault(rt.alloc(), &file).expect(&rt, "there is memory");
-        assert!(rt; fault.as_str() == expected, "{count} sections: {fault}");
-    }
+    assert!(rt; is_read_with_parts(rt.alloc()));
 }
