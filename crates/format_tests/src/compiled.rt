@@ -32,13 +32,13 @@ fn add_section(
     count: u64,
 ) -> Result<(), AllocError> {
     let (kind, size, name) = (section.kind, section.size, in_words(section.name));
-    write!(text, "section {k} {kind} {size} {name} {count}\n")
+    writeln!(text, "section {k} {kind} {size} {name} {count}")
 }
 
 /// Adds the line of a symbol.
 fn add_symbol(text: &mut String, k: u64, name: &[u8]) -> Result<(), AllocError> {
     let name = in_words(name);
-    write!(text, "symbol {k} {name}\n")
+    writeln!(text, "symbol {k} {name}")
 }
 
 /// Adds the lines of the sections of an object.

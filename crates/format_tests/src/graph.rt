@@ -1,4 +1,4 @@
-use crate::words::{is_told_as, rows};
+use crate::common::{is_told_as, rows};
 use cfi_graph::{Graph, GraphLine, GraphLines, read_graph, write_graph};
 use rv_word::NoMemory;
 use std::alloc::{AllocError, Global};
@@ -189,10 +189,9 @@ fn is_right(alloc: Global, row: &str) -> bool {
 
 #[test]
 fn texts(rt: HostRuntime) {
-    for row in rows(TEXTS).lines() {
+    for row in rows(TEXTS, 119).lines() {
         assert!(rt; is_right(rt.alloc(), row), "{row}");
     }
-    assert!(rt; rows(TEXTS).lines().count() == 119);
 }
 
 #[test]
@@ -204,13 +203,6 @@ const WORKED: &[u8] = b"rvcfi-graph 1\ncode 40000000 00000104\nclass 00001 40000
 call 4000000c 40000040\nsite 4000005c call 00001\nend\n";
 
 const MADE: &[u8] = b"rvcfi-graph 1\ncode 40000000 00000104\nedge 40000040 40000050\nend\n";
-
-/// A graph that is made of its parts.
-fn made(alloc: Global) -> Result<Graph, NoMemory> {
-    let mut lines = Vec::new(alloc);
-    lines.push(GraphLine::Edge(0x4000_0040, 0x4000_0050))?;
-    Graph::of(alloc, 0x104, GraphLines::of(lines))
-}
 
 /// Whether a graph has the counts of the worked one, and the opening's call as its second line.
 fn has_parts(graph: &Graph) -> bool {
@@ -232,6 +224,13 @@ fn is_read_with_parts(alloc: Global) -> bool {
 #[test]
 fn parts(rt: HostRuntime) {
     assert!(rt; is_read_with_parts(rt.alloc()));
+}
+
+/// A graph that is made of its parts.
+fn made(alloc: Global) -> Result<Graph, NoMemory> {
+    let mut lines = Vec::new(alloc);
+    lines.push(GraphLine::Edge(0x4000_0040, 0x4000_0050))?;
+    Graph::of(alloc, 0x104, GraphLines::of(lines))
 }
 
 /// Whether the graph that is made of its parts is written as its text.

@@ -1,7 +1,6 @@
-use crate::words::is_told_as;
+use crate::common::{is_told_as, put};
 use elf_image::{ImageRefusal, read_image, write_image};
-use rv_word::NoMemory;
-use std::alloc::{AllocError, Global};
+use std::alloc::Global;
 
 /// The code of a program that exits with 7, 8 bytes a line.
 #[rattlefmt::skip]
@@ -51,54 +50,57 @@ static HEADERS: [[u8; 8]; 29] = [
     [0, 0x10, 0, 0, 0, 0, 0, 0],
 ];
 
-/// What is put in place of bytes of an image of 80 bytes of code and 4 of data, where, and what the
-/// reader says.
-static CHANGES: [(usize, &[u8], Option<ImageRefusal>); 30] = [
-    (0, &[0x7e], Some(ImageRefusal::Byte(0))),
-    (6, &[2], Some(ImageRefusal::Byte(0))),
-    (15, &[1], Some(ImageRefusal::Byte(0))),
-    (17, &[1], Some(ImageRefusal::Byte(16))),
-    (18, &[62], Some(ImageRefusal::Byte(18))),
-    (24, &[0], Some(ImageRefusal::Byte(24))),
-    (31, &[1], Some(ImageRefusal::Byte(24))),
-    (48, &[1], Some(ImageRefusal::Byte(48))),
-    (63, &[1], Some(ImageRefusal::Byte(62))),
-    (64, &[2], Some(ImageRefusal::Byte(64))),
-    (68, &[7], Some(ImageRefusal::Byte(68))),
-    (72, &[0, 0x30], Some(ImageRefusal::Byte(72))),
-    (96, &[5], Some(ImageRefusal::Short(8196))),
-    (96, &[3], Some(ImageRefusal::Long(8196))),
-    (96, &[1, 0, 0, 2], Some(ImageRefusal::Byte(96))),
-    (104, &[1], Some(ImageRefusal::Byte(104))),
-    (120, &[2], Some(ImageRefusal::Byte(120))),
-    (124, &[7], Some(ImageRefusal::Byte(124))),
-    (152, &[0], Some(ImageRefusal::Byte(72))),
-    (152, &[82], Some(ImageRefusal::Byte(152))),
+/// How long the image of the code and 4 bytes of data is made, with zeros past its own end, what is put in
+/// place of its bytes, and where, and what the reader says.
+static CHANGES: [(usize, usize, &[u8], Option<ImageRefusal>); 37] = [
+    (8196, 0, &[0x7e], Some(ImageRefusal::Byte(0))),
+    (8196, 6, &[2], Some(ImageRefusal::Byte(0))),
+    (8196, 15, &[1], Some(ImageRefusal::Byte(0))),
+    (8196, 17, &[1], Some(ImageRefusal::Byte(16))),
+    (8196, 18, &[62], Some(ImageRefusal::Byte(18))),
+    (8196, 24, &[0], Some(ImageRefusal::Byte(24))),
+    (8196, 31, &[1], Some(ImageRefusal::Byte(24))),
+    (8196, 48, &[1], Some(ImageRefusal::Byte(48))),
+    (8196, 63, &[1], Some(ImageRefusal::Byte(62))),
+    (8196, 64, &[2], Some(ImageRefusal::Byte(64))),
+    (8196, 68, &[7], Some(ImageRefusal::Byte(68))),
+    (8196, 72, &[0, 0x30], Some(ImageRefusal::Byte(72))),
+    (8196, 96, &[5], Some(ImageRefusal::Short(8196))),
+    (8196, 96, &[3], Some(ImageRefusal::Long(8196))),
+    (8196, 96, &[1, 0, 0, 2], Some(ImageRefusal::Byte(96))),
+    (8196, 104, &[1], Some(ImageRefusal::Byte(104))),
+    (8196, 120, &[2], Some(ImageRefusal::Byte(120))),
+    (8196, 124, &[7], Some(ImageRefusal::Byte(124))),
+    (8196, 152, &[0], Some(ImageRefusal::Byte(72))),
+    (8196, 152, &[82], Some(ImageRefusal::Byte(152))),
     (
+        8196,
         152,
         &[0xfc, 0xff, 0xff, 0xff, 0xff, 0xff, 0xff, 0xff],
         Some(ImageRefusal::Byte(72)),
     ),
-    (160, &[1], Some(ImageRefusal::Byte(160))),
-    (218, &[2], Some(ImageRefusal::Byte(216))),
-    (231, &[1], Some(ImageRefusal::Byte(224))),
-    (232, &[1], Some(ImageRefusal::Byte(232))),
-    (4095, &[1], Some(ImageRefusal::Byte(4095))),
-    (4176, &[1], Some(ImageRefusal::Byte(4176))),
-    (8191, &[1], Some(ImageRefusal::Byte(8191))),
-    (8192, &[0, 0, 0, 0, 0], Some(ImageRefusal::Long(8197))),
-    (4175, &[0], None),
+    (8196, 160, &[1], Some(ImageRefusal::Byte(160))),
+    (8196, 218, &[2], Some(ImageRefusal::Byte(216))),
+    (8196, 231, &[1], Some(ImageRefusal::Byte(224))),
+    (8196, 232, &[1], Some(ImageRefusal::Byte(232))),
+    (8196, 4095, &[1], Some(ImageRefusal::Byte(4095))),
+    (8196, 4176, &[1], Some(ImageRefusal::Byte(4176))),
+    (8196, 8191, &[1], Some(ImageRefusal::Byte(8191))),
+    (8197, 8192, &[0, 0, 0, 0, 0], Some(ImageRefusal::Long(8197))),
+    (8196, 4175, &[0], None),
+    (0, 0, &[], Some(ImageRefusal::Short(0))),
+    (1, 0, &[], Some(ImageRefusal::Short(1))),
+    (231, 0, &[], Some(ImageRefusal::Short(231))),
+    (232, 0, &[], Some(ImageRefusal::Short(232))),
+    (4096, 0, &[], Some(ImageRefusal::Short(4096))),
+    (8192, 0, &[], Some(ImageRefusal::Short(8192))),
+    (8195, 0, &[], Some(ImageRefusal::Short(8195))),
 ];
 
-/// The file of the code alone: the headers, the code, and zeros up to the end of each page.
-fn expected(alloc: Global) -> Result<Vec<u8>, AllocError> {
+/// Whether a file has the headers, the code, and zeros up to the end of each page.
+fn has_code_alone(alloc: Global, file: &[u8]) -> bool {
     let headers = HEADERS.as_flattened();
-    [headers, &[0; 4096 - 232], &CODE, &[0; 4096 - 80]].concat(alloc)
-}
-
-/// Whether a file is the one that is expected of the code alone.
-fn is_expected(alloc: Global, file: &[u8]) -> bool {
-    match expected(alloc) {
+    match [headers, &[0; 4096 - 232], &CODE, &[0; 4096 - 80]].concat(alloc) {
         Ok(expected) => file == &*expected,
         Err(_) => false,
     }
@@ -112,17 +114,17 @@ fn is_read_back(file: &[u8]) -> bool {
     }
 }
 
-/// Whether the file of the code alone is the one that is expected, and is read back.
-fn is_written_as_expected(alloc: Global) -> bool {
+/// Whether the code alone is written as its file, which is read back.
+fn is_written_and_read(alloc: Global) -> bool {
     match write_image(alloc, &CODE, &[]) {
-        Ok(file) => is_expected(alloc, &file) && is_read_back(&file),
+        Ok(file) => has_code_alone(alloc, &file) && is_read_back(&file),
         Err(_) => false,
     }
 }
 
 #[test]
 fn has_these_bytes(rt: HostRuntime) {
-    assert!(rt; is_written_as_expected(rt.alloc()));
+    assert!(rt; is_written_and_read(rt.alloc()));
 }
 
 /// Whether the reader refuses a file so, or takes it.
@@ -130,24 +132,18 @@ fn ends_so(file: &[u8], refusal: Option<ImageRefusal>) -> bool {
     read_image(file).err() == refusal
 }
 
-/// The file with these bytes at `at` in place of its own.
-fn changed(alloc: Global, file: &[u8], at: usize, bytes: &[u8]) -> Result<Vec<u8>, AllocError> {
-    let rest = file.get(at.saturating_add(bytes.len())..).unwrap_or(&[]);
-    [file.get(..at).unwrap_or(file), bytes, rest].concat(alloc)
+/// Whether a row says what the reader says of a file of its length with its change.
+fn is_right_of(file: &mut [u8], row: &(usize, usize, &[u8], Option<ImageRefusal>)) -> bool {
+    put(file, row.1, row.2);
+    ends_so(file, row.3)
 }
 
-/// Whether the reader says of a file with a row's change what the row says.
-fn is_right(alloc: Global, file: &[u8], row: &(usize, &[u8], Option<ImageRefusal>)) -> bool {
-    match changed(alloc, file, row.0, row.1) {
-        Ok(file) => ends_so(&file, row.2),
-        Err(_) => false,
-    }
-}
-
-/// Whether a row is right of the file of the code and some data.
-fn is_right_of_the_file(alloc: Global, row: &(usize, &[u8], Option<ImageRefusal>)) -> bool {
+/// Whether a row is right of the image of the code and 4 bytes of data.
+fn is_right(alloc: Global, row: &(usize, usize, &[u8], Option<ImageRefusal>)) -> bool {
     match write_image(alloc, &CODE, b"data") {
-        Ok(file) => is_right(alloc, &file, row),
+        Ok(mut file) => {
+            file.len() == 8196 && file.resize(row.0, 0).is_ok() && is_right_of(&mut file, row)
+        }
         Err(_) => false,
     }
 }
@@ -156,31 +152,11 @@ fn is_right_of_the_file(alloc: Global, row: &(usize, &[u8], Option<ImageRefusal>
 fn takes_one_spelling(rt: HostRuntime) {
     for row in &CHANGES {
         assert!(rt;
-            is_right_of_the_file(rt.alloc(), row),
-            "changed at {}",
-            row.0
+            is_right(rt.alloc(), row),
+            "{} bytes, changed at {}",
+            row.0,
+            row.1
         );
-    }
-}
-
-/// Lengths that are too short for the file of the code and some data.
-static LENGTHS: [usize; 7] = [0, 1, 231, 232, 4096, 8192, 8195];
-
-/// Whether the start of the file is refused by its length alone.
-fn is_short(alloc: Global, len: usize) -> bool {
-    match write_image(alloc, &CODE, b"data") {
-        Ok(file) => ends_so(
-            file.get(..len).unwrap_or(&[]),
-            Some(ImageRefusal::Short(len as u64)),
-        ),
-        Err(_) => false,
-    }
-}
-
-#[test]
-fn refuses_what_is_short(rt: HostRuntime) {
-    for len in &LENGTHS {
-        assert!(rt; is_short(rt.alloc(), *len), "cut at {len}");
     }
 }
 

@@ -5,6 +5,8 @@
 #[cfg(test)]
 mod bytes;
 #[cfg(test)]
+mod common;
+#[cfg(test)]
 mod compiled;
 #[cfg(test)]
 mod graph;
@@ -14,5 +16,3 @@ mod image;
 mod object;
 #[cfg(test)]
 mod samples;
-#[cfg(test)]
-mod words;

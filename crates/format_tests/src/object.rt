@@ -1,4 +1,4 @@
-use crate::words::{is_told_as, rows};
+use crate::common::{is_told_as, put, rows};
 use elf_object::{Object, Reloc, Relocs, Section, Symbol};
 use std::alloc::{AllocError, Global};
 
@@ -154,28 +154,13 @@ static LENGTHS: [(u16, usize, &str); 8] = [
     (0xff00, 512 + 64 * 0xff00, "BadTable 0"),
 ];
 
-/// Puts bytes in place of others at `at`. It is false where they do not lie in the file, or stand there
-/// already.
-fn put(file: &mut [u8], at: usize, bytes: &[u8]) -> bool {
-    let Some(place) = file.get_mut(at..at.saturating_add(bytes.len())) else {
-        return false;
-    };
-    let differs = &*place != bytes;
-    place.copy_from_slice(bytes);
-    differs
-}
-
-/// Puts a field of this size, the lowest byte first.
-fn put_field(file: &mut [u8], at: usize, value: u64, size: usize) {
-    put(file, at, &value.to_le_bytes()[..size.min(8)]);
-}
-
-/// Puts fields of these sizes, one after the other.
+/// Puts fields of these sizes, one after the other, the lowest byte of each first.
 fn put_fields(file: &mut [u8], at: usize, values: &[u64], sizes: &[usize]) {
     let mut at = at;
-    for (value, size) in values.iter().zip(sizes) {
-        put_field(file, at, *value, *size);
-        at = at.saturating_add(*size);
+    for k in 0..values.len().min(sizes.len()) {
+        let size = sizes[k].min(8);
+        put(file, at, &values[k].to_le_bytes()[..size]);
+        at = at.saturating_add(size);
     }
 }
 
@@ -245,10 +230,9 @@ fn is_right(alloc: Global, row: &str) -> bool {
 
 #[test]
 fn has_the_first_fault(rt: HostRuntime) {
-    for row in rows(CHANGES).lines() {
+    for row in rows(CHANGES, 85).lines() {
         assert!(rt; is_right(rt.alloc(), row), "{row}");
     }
-    assert!(rt; rows(CHANGES).lines().count() == 85);
 }
 
 /// The object with so many sections, of this length.
@@ -275,44 +259,50 @@ fn ends_where_it_says(rt: HostRuntime) {
     }
 }
 
+/// The section of code.
+static TEXT: Section<'static> = Section {
+    name: b".text",
+    kind: 1,
+    flags: 6,
+    size: 8,
+    align: 4,
+    bytes: b"\x13\x05\x70\x00\x67\x80\x00\x00",
+};
+
+/// The common symbol, number 4.
+static COMMON: Symbol<'static> = Symbol {
+    name: b"main",
+    info: 0x11,
+    shndx: 0xfff2,
+    value: 8,
+    size: 4,
+};
+
+/// The relocation of `main`.
+static RELAX: Reloc = Reloc {
+    offset: 4,
+    symbol: 1,
+    kind: 51,
+    addend: -2,
+};
+
 /// Whether the object has its sections: the bytes of code, none of `.bss`, and those that are kept.
 fn has_sections(object: &Object) -> bool {
-    let text = Section {
-        name: b".text",
-        kind: 1,
-        flags: 6,
-        size: 8,
-        align: 4,
-        bytes: b"\x13\x05\x70\x00\x67\x80\x00\x00",
-    };
     object.sections() == 10
-        && object.section(1) == text
+        && object.section(1) == TEXT
         && object.section(4).bytes.is_empty()
         && object.kept(1)
         && !object.kept(5)
 }
 
-/// Whether the object has its symbols, of which number 4 is common.
+/// Whether the object has its symbols.
 fn has_symbols(object: &Object) -> bool {
-    let common = Symbol {
-        name: b"main",
-        info: 0x11,
-        shndx: 0xfff2,
-        value: 8,
-        size: 4,
-    };
-    object.symbols() == 12 && object.symbol(4) == common
+    object.symbols() == 12 && object.symbol(4) == COMMON
 }
 
 /// Whether a section has just one relocation, the one of `main`.
 fn is_relaxed(relocs: &Relocs) -> bool {
-    let relax = Reloc {
-        offset: 4,
-        symbol: 1,
-        kind: 51,
-        addend: -2,
-    };
-    relocs.count() == 1 && relocs.get(0) == relax
+    relocs.count() == 1 && relocs.get(0) == RELAX
 }
 
 /// Whether the object has its relocations: one of code, and none of a section that is dropped.
@@ -320,10 +310,15 @@ fn has_relocations(object: &Object) -> bool {
     object.sections() == 10 && is_relaxed(&object.relocs(1)) && object.relocs(5).count() == 0
 }
 
-/// Whether the object is read with its sections, its symbols and its relocations.
+/// Whether the object has its sections, its symbols and its relocations.
+fn has_parts(object: &Object) -> bool {
+    has_sections(object) && has_symbols(object) && has_relocations(object)
+}
+
+/// Whether the object is read with its parts.
 fn is_read_with_parts(alloc: Global) -> bool {
     match Object::read(alloc, &object()) {
-        Ok(object) => has_sections(&object) && has_symbols(&object) && has_relocations(&object),
+        Ok(object) => has_parts(&object),
         Err(_) => false,
     }
 }
