@@ -1,68 +1,23 @@
-//! Graphs that are none, and calls of files and output that fail.
+//! Calls of files and output that fail.
 
-use crate::calls::{answers, status_of, words};
-use crate::pairs::{A, image_of, pair};
-use crate::runs::{STATUS, STATUS_GRAPH};
-use std::alloc::{AllocError, Global};
-use std::test::Fail;
+use crate::calls::{ends_with, holds};
+use crate::files;
+use crate::files::{STATUS, STATUS_GRAPH, add_image, add_texts};
+use rv_word::NoMemory;
+use std::alloc::Global;
 use tool_io::{MemFiles, MemSink};
 
-/// Texts that are no graph of the program that exits, and the line that is put of each.
-static GRAPHS: [(&[u8], &str); 7] = [
-    (b"", "refused 23 Graph 1 Form\n"),
-    (
-        b"rvcfi-graph 9\ncode 40000000 00000050\ncall 4000000c 40000040\nend\n",
-        "refused 23 Graph 1 Form\n",
-    ),
-    (
-        b"rvcfi-graph 1\ncode 40000000 00000052\ncall 4000000c 40000040\nend\n",
-        "refused 23 Graph 2 Range\n",
-    ),
-    (
-        b"rvcfi-graph 1\ncode 40000000 00000050\ncall 4000000c 40000050\nend\n",
-        "refused 23 Graph 3 Range\n",
-    ),
-    (
-        b"rvcfi-graph 1\ncode 40000000 00000050\ncall 4000000c 40000040\ncall 4000000c 40000040\nend\n",
-        "refused 23 Graph 4 Order\n",
-    ),
-    (
-        b"rvcfi-graph 1\ncode 40000000 00000050\ncall 4000000c 40000040\nend",
-        "refused 23 Graph 4 Form\n",
-    ),
-    (
-        b"rvcfi-graph 1\ncode 40000000 00000050\ncall 4000000c 40000040\nend\nend\n",
-        "refused 23 Graph 5 Form\n",
-    ),
-];
+const VERIFY: &str = "rvcfi,verify,image,graph";
 
-/// Whether a text is refused with its line.
-fn is_refused(alloc: Global, image: &[u8], row: &(&[u8], &str)) -> Result<bool, AllocError> {
-    let mut files = pair(alloc, image, row.0)?;
-    let words = words(alloc, &["verify", "image", "graph"])?;
-    Ok(answers(alloc, &words, &mut files, 1, row.1))
-}
-
-#[test]
-fn graphs(rt: HostRuntime) -> Result<(), Fail> {
-    let image = image_of(rt.alloc(), A, &[])?;
-    for row in &GRAPHS {
-        assert!(rt; is_refused(rt.alloc(), &image, row)?, "{}", row.1);
-    }
-    Ok(())
-}
-
-const VERIFY: &[&str] = &["verify", "image", "graph"];
-
-const RUN: &[&str] = &["run", "image", "graph", "script", "input", "100"];
+const RUN: &str = "rvcfi,run,image,graph,script,input,100";
 
 const REPORT: &str = "output 0\n\nstop exit 5\nsteps 14\nwalk 5\ntrail 4000000c 40000040 40000044 \
 40000048 4000004c\n";
 
-/// The words, the reads and the puts that fail, the status, the text, and what is put where the words
-/// come again and no call fails.
+/// A command line, the reads and the puts that fail, the status, the text, and what is put where the line
+/// comes again and no call fails.
 struct Case(
-    &'static [&'static str],
+    &'static str,
     &'static [u64],
     &'static [u64],
     u8,
@@ -83,41 +38,66 @@ static FAULTS: [Case; 10] = [
     Case(RUN, &[3], &[0], 4, "", REPORT),
 ];
 
-/// The image and the graph of a program whose exit status is the first byte of its data, a script that
-/// changes that byte, and an input; the reads with these numbers fail.
-fn status_files(alloc: Global, failing: &[u64]) -> Result<MemFiles, Fail> {
-    let mut files = MemFiles::new(alloc, Vec::from_slice(alloc, failing)?);
-    add_files(alloc, &mut files)?;
-    Ok(files)
+/// The graph of a program whose exit status is the first byte of its data, a script that changes that
+/// byte, and an input.
+static TEXTS: [(&str, &[u8]); 3] = [
+    ("graph", STATUS_GRAPH),
+    ("script", b"rvcfi-script 1\nat 11 00010000 05\nend\n"),
+    ("input", b"hi"),
+];
+
+/// Adds these files and the program's image.
+fn add_files(alloc: Global, files: &mut MemFiles) -> Result<(), NoMemory> {
+    add_image(alloc, files, &("image", STATUS, b""))?;
+    add_texts(files, &TEXTS)
 }
 
-fn add_files(alloc: Global, files: &mut MemFiles) -> Result<(), Fail> {
-    let image = image_of(alloc, STATUS, &[])?;
-    files.insert("image", &image)?;
-    files.insert("graph", STATUS_GRAPH)?;
-    files.insert("script", b"rvcfi-script 1\nat 11 00010000 05\nend\n")?;
-    Ok(files.insert("input", b"hi")?)
+/// Whether a case is answered as its row says.
+fn is_right(alloc: Global, case: &Case) -> bool {
+    let Ok(failing) = Vec::from_slice(alloc, case.1) else {
+        return false;
+    };
+    let mut files = MemFiles::new(alloc, failing);
+    add_files(alloc, &mut files).is_ok() && answers_twice(alloc, &mut files, case)
 }
 
-/// Whether a case is answered as its row says. The words come twice: each call that fails does so once,
-/// and after it the files are as they were.
-fn is_right(alloc: Global, files: &mut MemFiles, case: &Case) -> Result<bool, Fail> {
-    let Case(line, _, puts, status, text, answer) = case;
-    let words = words(alloc, line)?;
-    let mut out = MemSink::new(alloc, Vec::from_slice(alloc, puts)?);
-    let first = status_of(alloc, &words, files, &mut out);
-    let is_told = out.bytes() == text.as_bytes();
-    let second = status_of(alloc, &words, files, &mut out);
-    let both = format!(in alloc; "{text}{answer}")?;
-    Ok(first == *status && is_told && second == 0 && out.bytes() == both.as_bytes())
+/// Whether the line of a case is answered as its row says. It comes twice: each call that fails does so
+/// once, and after it the files are as they were.
+fn answers_twice(alloc: Global, files: &mut MemFiles, case: &Case) -> bool {
+    let Case(line, _, puts, status, text, answer) = *case;
+    let Ok(failing) = Vec::from_slice(alloc, puts) else {
+        return false;
+    };
+    let mut out = MemSink::new(alloc, failing);
+    ends_with(alloc, line, files, &mut out, status)
+        && holds(&out, text, "")
+        && ends_with(alloc, line, files, &mut out, 0)
+        && holds(&out, text, answer)
 }
 
 #[test]
-fn faults(rt: HostRuntime) -> Result<(), Fail> {
+fn faults(rt: HostRuntime) {
     for case in &FAULTS {
-        let mut files = status_files(rt.alloc(), case.1)?;
-        let right = is_right(rt.alloc(), &mut files, case)?;
-        assert!(rt; right, "{:?} {:?}", case.0, case.1);
+        assert!(rt;
+            is_right(rt.alloc(), case),
+            "{} {:?} {:?}",
+            case.0,
+            case.1,
+            case.2
+        );
     }
-    Ok(())
+}
+
+/// A full output, of another program.
+static FULL: Case = Case(VERIFY, &[], &[0], 4, "", "accepted\n");
+
+/// Whether the full output is told.
+fn is_full(alloc: Global) -> bool {
+    let mut files = MemFiles::new(alloc, Vec::new(alloc));
+    files::add_files(alloc, &mut files).is_ok() && answers_twice(alloc, &mut files, &FULL)
+}
+
+#[test]
+fn full_output(rt: HostRuntime) {
+    assert!(rt; is_full(rt.alloc()));
 }

@@ -9,6 +9,8 @@ mod commands;
 #[cfg(test)]
 mod faults;
 #[cfg(test)]
+mod files;
+#[cfg(test)]
 mod outside;
 #[cfg(test)]
 mod pairs;

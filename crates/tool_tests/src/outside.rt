@@ -1,9 +1,9 @@
 //! Files and outputs, of the host and in memory, and their failures.
 
-use std::alloc::{AllocError, Global};
+use std::alloc::Global;
 use std::io;
 use std::io::{Read, Write};
-use std::test::Fail;
+use std::process::Abort;
 use tool_io::{Files, HostFiles, HostSink, MemFiles, MemSink, OutEnd, ReadEnd, Sink, read_within};
 
 /// A source that fills each buffer, so often, and then fails.
@@ -47,41 +47,6 @@ impl Write for Narrow {
     }
 }
 
-/// Whether a read gives these bytes or this end.
-fn reads<F: Files>(
-    files: &mut F,
-    alloc: Global,
-    name: &str,
-    limit: u64,
-    wanted: Result<&[u8], ReadEnd>,
-) -> bool {
-    match files.read(alloc, name, limit) {
-        Ok(bytes) => wanted == Ok(bytes.as_slice()),
-        Err(end) => wanted == Err(end),
-    }
-}
-
-#[test]
-fn memory_is_read(rt: HostRuntime) -> Result<(), Fail> {
-    let alloc = rt.alloc();
-    let mut files = MemFiles::new(alloc, vec![in alloc; 4]?);
-    files.insert("a", b"abc")?;
-    for (name, limit, wanted) in [
-        ("a", 3, Ok(b"abc".as_slice())),
-        ("a", 2, Err(ReadEnd::TooLong)),
-        ("b", 9, Err(ReadEnd::Failed)),
-        ("a", 4, Ok(b"abc")),
-        ("a", 9, Err(ReadEnd::Failed)),
-        ("a", 9, Ok(b"abc")),
-    ] {
-        assert!(rt;
-            reads(&mut files, alloc, name, limit, wanted),
-            "{name} {limit}"
-        );
-    }
-    Ok(())
-}
-
 /// The letter of an end: `F` for a failure, `w` for a write or a put that was done.
 fn letter(end: &Result<(), OutEnd>) -> u8 {
     match end {
@@ -89,6 +54,72 @@ fn letter(end: &Result<(), OutEnd>) -> u8 {
         Err(OutEnd::Failed) => b'F',
         Err(OutEnd::NoMemory) => b'N',
     }
+}
+
+/// A call of files, by a name: bytes to write and the letter of the end, or how long the file may be that
+/// is read, and what the read gives.
+enum Call {
+    Write(&'static str, &'static [u8], u8),
+    Read(&'static str, u64, Result<&'static [u8], ReadEnd>),
+}
+
+/// Whether a call gives what it should.
+fn gives<F: Files>(files: &mut F, alloc: Global, call: &Call) -> bool {
+    match *call {
+        Call::Write(name, bytes, wanted) => letter(&files.write(name, bytes)) == wanted,
+        Call::Read(name, limit, wanted) => match files.read(alloc, name, limit) {
+            Ok(bytes) => wanted == Ok(bytes.as_slice()),
+            Err(end) => wanted == Err(end),
+        },
+    }
+}
+
+/// Makes calls one after the other.
+fn check<F: Files>(rt: &impl Abort, alloc: Global, files: &mut F, calls: &[Call]) {
+    for (at, call) in calls.iter().enumerate() {
+        assert!(rt; gives(files, alloc, call), "call {at}");
+    }
+}
+
+/// Files in memory, with one of three letters; the calls with these numbers fail.
+fn memory(alloc: Global, failing: &[u64]) -> Option<MemFiles> {
+    let Ok(failing) = Vec::from_slice(alloc, failing) else {
+        return None;
+    };
+    let mut files = MemFiles::new(alloc, failing);
+    let Ok(()) = files.insert("a", b"abc") else {
+        return None;
+    };
+    Some(files)
+}
+
+/// Reads in memory, of which the call with number 4 fails.
+static READS: [Call; 6] = [
+    Call::Read("a", 3, Ok(b"abc")),
+    Call::Read("a", 2, Err(ReadEnd::TooLong)),
+    Call::Read("b", 9, Err(ReadEnd::Failed)),
+    Call::Read("a", 4, Ok(b"abc")),
+    Call::Read("a", 9, Err(ReadEnd::Failed)),
+    Call::Read("a", 9, Ok(b"abc")),
+];
+
+#[test]
+fn memory_is_read(rt: HostRuntime) {
+    let mut files = memory(rt.alloc(), &[4]).expect(&rt, "memory");
+    check(&rt, rt.alloc(), &mut files, &READS);
+}
+
+/// Whether a file is got whole, and none by a name that no file has.
+fn is_got(alloc: Global) -> bool {
+    let Some(files) = memory(alloc, &[]) else {
+        return false;
+    };
+    files.get("a") == Some(b"abc".as_slice()) && files.get("b").is_none()
+}
+
+#[test]
+fn memory_is_got(rt: HostRuntime) {
+    assert!(rt; is_got(rt.alloc()));
 }
 
 /// The byte that a file has, or the letter of the end of its read.
@@ -101,16 +132,19 @@ fn byte_of(files: &mut MemFiles, alloc: Global) -> u8 {
 }
 
 /// What becomes of a write, a read, another write and another read where one of these calls fails.
-fn four_calls(alloc: Global, failing: u64) -> Result<[u8; 4], AllocError> {
-    let mut files = MemFiles::new(alloc, vec![in alloc; failing]?);
+fn four_calls(alloc: Global, failing: u64) -> Option<[u8; 4]> {
+    let Ok(failing) = Vec::from_slice(alloc, &[failing]) else {
+        return None;
+    };
+    let mut files = MemFiles::new(alloc, failing);
     let first = letter(&files.write("a", b"1"));
     let then = byte_of(&mut files, alloc);
     let second = letter(&files.write("a", b"2"));
-    Ok([first, then, second, byte_of(&mut files, alloc)])
+    Some([first, then, second, byte_of(&mut files, alloc)])
 }
 
 #[test]
-fn each_call_in_memory_fails(rt: HostRuntime) -> Result<(), Fail> {
+fn each_call_in_memory_fails(rt: HostRuntime) {
     for (failing, wanted) in [
         (0, b"FFw2"),
         (1, b"wFw2"),
@@ -119,106 +153,106 @@ fn each_call_in_memory_fails(rt: HostRuntime) -> Result<(), Fail> {
         (4, b"w1w2"),
     ] {
         assert!(rt;
-            four_calls(rt.alloc(), failing)? == *wanted,
+            four_calls(rt.alloc(), failing) == Some(*wanted),
             "call {failing}"
         );
     }
-    Ok(())
 }
 
-/// What becomes of three puts where one of them fails, and then what was written.
-fn three_puts(alloc: Global, failing: u64) -> Result<Vec<u8>, AllocError> {
-    let mut sink = MemSink::new(alloc, vec![in alloc; failing]?);
-    let mut text = Vec::new(alloc);
-    for piece in [b"a", b"b", b"c"] {
-        text.push(letter(&sink.put(piece)))?;
-    }
-    text.extend_from_slice(sink.bytes())?;
-    Ok(text)
-}
+/// A put that fails, what becomes of each of three puts, and what was written.
+static PUTS: [(u64, [u8; 3], &[u8]); 4] = [
+    (0, *b"Fww", b"bc"),
+    (1, *b"wFw", b"ac"),
+    (2, *b"wwF", b"ab"),
+    (3, *b"www", b"abc"),
+];
 
-#[test]
-fn each_put_in_memory_fails(rt: HostRuntime) -> Result<(), Fail> {
-    for (failing, wanted) in [
-        (0, b"Fwwbc".as_slice()),
-        (1, b"wFwac"),
-        (2, b"wwFab"),
-        (3, b"wwwabc"),
-    ] {
-        assert!(rt;
-            three_puts(rt.alloc(), failing)?.as_slice() == wanted,
-            "put {failing}"
-        );
-    }
-    Ok(())
+/// Whether three puts end, and what was written is, as a row says.
+fn puts(alloc: Global, row: &(u64, [u8; 3], &[u8])) -> bool {
+    let Ok(failing) = Vec::from_slice(alloc, &[row.0]) else {
+        return false;
+    };
+    let mut sink = MemSink::new(alloc, failing);
+    let ends = [b"a", b"b", b"c"].map(|piece| letter(&sink.put(piece)));
+    ends == row.1 && sink.bytes() == row.2
 }
 
 #[test]
-fn memory_is_got(rt: HostRuntime) -> Result<(), Fail> {
-    let mut files = MemFiles::new(rt.alloc(), Vec::new(rt.alloc()));
-    files.insert("a", b"abc")?;
-    assert!(rt; files.get("a") == Some(b"abc".as_slice()));
-    assert!(rt; files.get("b").is_none());
-    Ok(())
+fn each_put_in_memory_fails(rt: HostRuntime) {
+    for row in &PUTS {
+        assert!(rt; puts(rt.alloc(), row), "put {}", row.0);
+    }
 }
+
+const LONG: &[u8] = &[5; 10_000];
+
+static HOST_CALLS: [Call; 8] = [
+    Call::Write("old.bin", b"was longer", b'w'),
+    Call::Write("old.bin", b"now", b'w'),
+    Call::Write("long.bin", LONG, b'w'),
+    Call::Write("no folder/x", b"", b'F'),
+    Call::Read("old.bin", 3, Ok(b"now")),
+    Call::Read("long.bin", 10_000, Ok(LONG)),
+    Call::Read("long.bin", 9_999, Err(ReadEnd::TooLong)),
+    Call::Read("absent", 9, Err(ReadEnd::Failed)),
+];
 
 /// `old.bin` and `long.bin` stay in the folder where the test runs: no call of the host's files removes
 /// one.
 #[test]
-fn host_files(rt: HostRuntime) -> Result<(), Fail> {
-    let alloc = rt.alloc();
-    let mut files = HostFiles::new(alloc, &rt);
-    let long = vec![in alloc; 5; 10_000]?;
-    for (name, bytes, wanted) in [
-        ("old.bin", b"was longer".as_slice(), b'w'),
-        ("old.bin", b"now", b'w'),
-        ("long.bin", &long, b'w'),
-        ("no folder/x", b"", b'F'),
-    ] {
-        assert!(rt; letter(&files.write(name, bytes)) == wanted, "{name}");
-    }
-    for (name, limit, wanted) in [
-        ("old.bin", 3, Ok(b"now".as_slice())),
-        ("long.bin", 10_000, Ok(long.as_slice())),
-        ("long.bin", 9_999, Err(ReadEnd::TooLong)),
-        ("absent", 9, Err(ReadEnd::Failed)),
-    ] {
-        assert!(rt;
-            reads(&mut files, alloc, name, limit, wanted),
-            "{name} {limit}"
-        );
-    }
-    Ok(())
+fn host_files(rt: HostRuntime) {
+    let mut files = HostFiles::new(rt.alloc(), &rt);
+    check(&rt, rt.alloc(), &mut files, &HOST_CALLS);
+}
+
+/// How often a source fills a buffer, a limit, and the end of the read within it.
+static SOURCES: [(u32, u64, ReadEnd); 6] = [
+    (u32::MAX, 0, ReadEnd::TooLong),
+    (u32::MAX, 4_095, ReadEnd::TooLong),
+    (u32::MAX, 4_096, ReadEnd::TooLong),
+    (u32::MAX, 100_000, ReadEnd::TooLong),
+    (0, 10, ReadEnd::Failed),
+    (2, 100_000, ReadEnd::Failed),
+];
+
+fn source_ends(alloc: Global, row: &(u32, u64, ReadEnd)) -> bool {
+    let end = read_within(alloc, &mut Source { left: row.0 }, row.1);
+    end.err() == Some(row.2)
 }
 
 #[test]
 fn sources_end(rt: HostRuntime) {
-    for (left, limit, wanted) in [
-        (u32::MAX, 0, ReadEnd::TooLong),
-        (u32::MAX, 4_095, ReadEnd::TooLong),
-        (u32::MAX, 4_096, ReadEnd::TooLong),
-        (u32::MAX, 100_000, ReadEnd::TooLong),
-        (0, 10, ReadEnd::Failed),
-        (2, 100_000, ReadEnd::Failed),
-    ] {
-        let end = read_within(rt.alloc(), &mut Source { left }, limit);
-        assert!(rt; end.err() == Some(wanted), "{left} reads, limit {limit}");
+    for row in &SOURCES {
+        assert!(rt;
+            source_ends(rt.alloc(), row),
+            "{} reads, limit {}",
+            row.0,
+            row.1
+        );
     }
+}
+
+/// Whether a put fails in a writer with room for one byte more, and the others do not.
+fn is_filled() -> bool {
+    let mut sink = HostSink::new(Narrow {
+        left: 5,
+        flushes: true,
+    });
+    sink.put(b"1234").is_ok() && sink.put(b"5678") == Err(OutEnd::Failed) && sink.put(b"").is_ok()
+}
+
+/// Whether a put fails that cannot be flushed.
+fn is_unflushed() -> bool {
+    let mut sink = HostSink::new(Narrow {
+        left: 5,
+        flushes: false,
+    });
+    sink.put(b"x") == Err(OutEnd::Failed)
 }
 
 #[test]
 fn host_sink(rt: HostRuntime) {
     assert!(rt; HostSink::new(io::writer(&rt)).put(b"out\n").is_ok());
-    let mut full = HostSink::new(Narrow {
-        left: 5,
-        flushes: true,
-    });
-    assert!(rt; full.put(b"1234").is_ok());
-    assert!(rt; full.put(b"5678") == Err(OutEnd::Failed));
-    assert!(rt; full.put(b"").is_ok());
-    let mut unflushed = HostSink::new(Narrow {
-        left: 5,
-        flushes: false,
-    });
-    assert!(rt; unflushed.put(b"x") == Err(OutEnd::Failed));
+    assert!(rt; is_filled());
+    assert!(rt; is_unflushed());
 }

@@ -1,14 +1,14 @@
 //! Pairs of an image and a graph, and the line that is printed of each.
 
-use crate::calls::{answers, words};
+use crate::calls::answers;
+use crate::files::add_texts;
 use elf_image::write_image;
 use rv_word::NoMemory;
 use std::alloc::{AllocError, Global};
-use std::test::Fail;
 use tool_io::MemFiles;
 
 /// The prologue, its call of the entry at 40000040h included.
-pub(crate) const HEAD: [u32; 16] = [
+const HEAD: [u32; 16] = [
     0x00100073, 0x00100073, 0x00100073, 0x10000137, 0x600001b7, 0x00818193, 0x03019f13, 0x000f1463,
     0xfe9ff06f, 0x00000f17, 0x014f0f13, 0x01e1b023, 0x00818193, 0x00c000ef, 0x05d00893, 0x00000073,
 ];
@@ -78,23 +78,72 @@ static CASES: [Case; 22] = [
     Case(P, 0xcc, 0x00001037, P_GRAPH, "rejected Astray 400000cc\n"),
 ];
 
-/// The bytes of the prologue and some units, with one word in place of that at an offset.
-pub(crate) fn code(
-    alloc: Global,
-    units: &[u32],
-    at: usize,
-    word: u32,
-) -> Result<Vec<u8>, AllocError> {
-    let mut bytes = Vec::new(alloc);
-    for (k, old) in HEAD.iter().chain(units).enumerate() {
-        let word = if k == at / 4 { word } else { *old };
+/// Texts that are no graph of the program that exits.
+static GRAPHS: [Case; 7] = [
+    Case(A, 0x00, 0x00100073, b"", "refused 23 Graph 1 Form\n"),
+    Case(
+        A,
+        0x00,
+        0x00100073,
+        b"rvcfi-graph 9\ncode 40000000 00000050\ncall 4000000c 40000040\nend\n",
+        "refused 23 Graph 1 Form\n",
+    ),
+    Case(
+        A,
+        0x00,
+        0x00100073,
+        b"rvcfi-graph 1\ncode 40000000 00000052\ncall 4000000c 40000040\nend\n",
+        "refused 23 Graph 2 Range\n",
+    ),
+    Case(
+        A,
+        0x00,
+        0x00100073,
+        b"rvcfi-graph 1\ncode 40000000 00000050\ncall 4000000c 40000050\nend\n",
+        "refused 23 Graph 3 Range\n",
+    ),
+    Case(
+        A,
+        0x00,
+        0x00100073,
+        b"rvcfi-graph 1\ncode 40000000 00000050\ncall 4000000c 40000040\ncall 4000000c 40000040\nend\n",
+        "refused 23 Graph 4 Order\n",
+    ),
+    Case(
+        A,
+        0x00,
+        0x00100073,
+        b"rvcfi-graph 1\ncode 40000000 00000050\ncall 4000000c 40000040\nend",
+        "refused 23 Graph 4 Form\n",
+    ),
+    Case(
+        A,
+        0x00,
+        0x00100073,
+        b"rvcfi-graph 1\ncode 40000000 00000050\ncall 4000000c 40000040\nend\nend\n",
+        "refused 23 Graph 5 Form\n",
+    ),
+];
+
+/// Adds the bytes of some units, with one word in place of the unit that comes to an offset.
+fn add_units(bytes: &mut Vec<u8>, units: &[u32], at: usize, word: u32) -> Result<(), AllocError> {
+    for unit in units {
+        let word = if bytes.len() == at { word } else { *unit };
         bytes.extend_from_slice(&word.to_le_bytes())?;
     }
+    Ok(())
+}
+
+/// The bytes of the prologue and some units, with one word in place of that at an offset.
+fn code(alloc: Global, units: &[u32], at: usize, word: u32) -> Result<Vec<u8>, AllocError> {
+    let mut bytes = Vec::new(alloc);
+    add_units(&mut bytes, &HEAD, at, word)?;
+    add_units(&mut bytes, units, at, word)?;
     Ok(bytes)
 }
 
 /// The image of some code and data; none of code that no image may have.
-pub(crate) fn image(alloc: Global, code: &[u8], data: &[u8]) -> Result<Vec<u8>, NoMemory> {
+fn image(alloc: Global, code: &[u8], data: &[u8]) -> Result<Vec<u8>, NoMemory> {
     let (len, init) = (code.len(), data.len());
     if len < 4 || len > 0x10_0000 || len % 4 != 0 || init > 0x200_0000 {
         return Ok(Vec::new(alloc));
@@ -103,39 +152,43 @@ pub(crate) fn image(alloc: Global, code: &[u8], data: &[u8]) -> Result<Vec<u8>, 
 }
 
 /// The image of the prologue, some units and data.
-pub(crate) fn image_of(alloc: Global, units: &[u32], data: &[u8]) -> Result<Vec<u8>, Fail> {
+pub(crate) fn image_of(alloc: Global, units: &[u32], data: &[u8]) -> Result<Vec<u8>, NoMemory> {
     let bytes = code(alloc, units, 0, HEAD[0])?;
-    Ok(image(alloc, &bytes, data)?)
+    image(alloc, &bytes, data)
 }
 
-/// Files with an image and a graph.
-pub(crate) fn pair(alloc: Global, image: &[u8], graph: &[u8]) -> Result<MemFiles, AllocError> {
-    let mut files = MemFiles::new(alloc, Vec::new(alloc));
-    files.insert("image", image)?;
-    files.insert("graph", graph)?;
-    Ok(files)
-}
-
-/// The files of a case.
-fn files_of(alloc: Global, case: &Case) -> Result<MemFiles, Fail> {
+/// The image of a case.
+fn case_image(alloc: Global, case: &Case) -> Result<Vec<u8>, NoMemory> {
     let bytes = code(alloc, case.0, case.1, case.2)?;
-    let image = image(alloc, &bytes, &[])?;
-    Ok(pair(alloc, &image, case.3)?)
+    image(alloc, &bytes, &[])
 }
 
-/// Whether the line of a case is put, and its status is answered.
-fn is_right(alloc: Global, words: &[String], case: &Case) -> Result<bool, Fail> {
-    let mut files = files_of(alloc, case)?;
-    let status = u8::from(case.4 != "accepted\n");
-    Ok(answers(alloc, words, &mut files, status, case.4))
+/// Whether the tool puts a text of an image and a graph, and ends with its status.
+pub(crate) fn verifies(alloc: Global, image: &[u8], graph: &[u8], text: &str) -> bool {
+    let mut files = MemFiles::new(alloc, Vec::new(alloc));
+    let status = u8::from(text != "accepted\n");
+    add_texts(&mut files, &[("image", image), ("graph", graph)]).is_ok()
+        && answers(alloc, "rvcfi,verify,image,graph", &mut files, status, text)
+}
+
+/// Whether the line of a case is put.
+fn is_right(alloc: Global, case: &Case) -> bool {
+    let Ok(image) = case_image(alloc, case) else {
+        return false;
+    };
+    verifies(alloc, &image, case.3, case.4)
 }
 
 #[test]
-fn pairs(rt: HostRuntime) -> Result<(), Fail> {
-    let alloc = rt.alloc();
-    let words = words(alloc, &["verify", "image", "graph"])?;
+fn pairs(rt: HostRuntime) {
     for case in &CASES {
-        assert!(rt; is_right(alloc, &words, case)?, "{:x} {:x}", case.1, case.2);
+        assert!(rt; is_right(rt.alloc(), case), "{:x} {:x}", case.1, case.2);
     }
-    Ok(())
+}
+
+#[test]
+fn graphs(rt: HostRuntime) {
+    for case in &GRAPHS {
+        assert!(rt; is_right(rt.alloc(), case), "{}", case.4);
+    }
 }
