@@ -1,4 +1,4 @@
-ghost use Rattle.std.specs.Prelude.{IfOk};
+ghost use Rattle.std.specs.Prelude.{IfSome};
 ghost use Rattle.cfi_step.specs.Script.{IsScript};
 
 use crate::programs::{P, P_DATA, P_GRAPH, code};
@@ -6,10 +6,8 @@ use cfi_graph::{Graph, read_graph};
 use cfi_step::{Handler, Hostile, Meddler, RunEnd, RunReport, Script, run};
 use cfi_verify::{Checked, verify};
 use rv_machine::Change;
-use rv_word::{Image, NoMemory};
+use rv_word::Image;
 use std::alloc::Global;
-use std::process::Abort;
-use std::test::Fail;
 
 /// How far a run goes whose first return address was changed.
 const TRAIL: [u64; 13] = [
@@ -17,27 +15,31 @@ const TRAIL: [u64; 13] = [
     0x400000d0, 0x400000ac, 0x400000b0, 0x400000b4, 0x40000004,
 ];
 
-/// The report of a run of the program.
-fn report<M: Meddler>(alloc: Global, meddler: &mut M, limit: u64) -> Result<RunReport, Fail>
-    ensures { IfOk result (λ report. IsScript report.made) }
+/// The report of a run of the program; none if it is not accepted, or there is no memory.
+fn report<M: Meddler>(alloc: Global, meddler: &mut M, limit: u64) -> Option<RunReport>
+    ensures { IfSome result (λ report. IsScript report.made) }
 {
     let bytes = code::<260>(&P);
-    let graph = read_graph(alloc, P_GRAPH)?;
-    report_of(alloc, &Image::of(&bytes, P_DATA), &graph, meddler, limit)
+    match read_graph(alloc, P_GRAPH) {
+        Ok(graph) => report_of(alloc, &Image::of(&bytes, P_DATA), &graph, meddler, limit),
+        Err(_) => None,
+    }
 }
 
-/// The report of a run of an image that is accepted.
+/// The report of a run of an image.
 fn report_of<M: Meddler>(
     alloc: Global,
     image: &Image<'_>,
     graph: &Graph,
     meddler: &mut M,
     limit: u64,
-) -> Result<RunReport, Fail>
-    ensures { IfOk result (λ report. IsScript report.made) }
+) -> Option<RunReport>
+    ensures { IfSome result (λ report. IsScript report.made) }
 {
-    let checked = verify(alloc, image, graph)?;
-    Ok(run_of(alloc, &checked, meddler, limit)?)
+    match verify(alloc, image, graph) {
+        Ok(checked) => run_of(alloc, &checked, meddler, limit),
+        Err(_) => None,
+    }
 }
 
 /// The report of a run without input.
@@ -46,10 +48,10 @@ fn run_of<M: Meddler>(
     checked: &Checked<'_>,
     meddler: &mut M,
     limit: u64,
-) -> Result<RunReport, NoMemory>
-    ensures { IfOk result (λ report. IsScript report.made) }
+) -> Option<RunReport>
+    ensures { IfSome result (λ report. IsScript report.made) }
 {
-    run(alloc, checked, b"", meddler, limit)
+    run(alloc, checked, b"", meddler, limit).ok()
 }
 
 /// Whether the changes are zeros at the eight bytes of the saved return address, before one step.
@@ -69,11 +71,16 @@ fn is_zero_at(made: &(u64, Change), addr: u64) -> bool {
 
 /// The hostile meddler finds the saved return address as soon as it is on the stack.
 #[test]
-fn hostile(rt: HostRuntime) -> Result<(), Fail> {
-    let report = report(rt.alloc(), &mut Hostile, 100)?;
-    assert!(rt; is_caught(&report));
-    assert!(rt; zeroes_the_saved_address(report.made.as_slice()));
-    Ok(())
+fn hostile(rt: HostRuntime) {
+    assert!(rt; finds_the_saved_address(rt.alloc()));
+}
+
+/// Whether a run under the hostile meddler is caught, since that address was changed.
+fn finds_the_saved_address(alloc: Global) -> bool {
+    match report(alloc, &mut Hostile, 100) {
+        Some(report) => is_caught(&report) && zeroes_the_saved_address(report.made.as_slice()),
+        None => false,
+    }
 }
 
 /// Whether a run comes to the handler of returns along the trail.
@@ -97,33 +104,35 @@ fn is_same(one: &RunReport, other: &RunReport) -> bool {
 
 /// A run under the changes that another one made has the same report.
 #[test]
-fn replayed(rt: HostRuntime) -> Result<(), Fail> {
-    let alloc = rt.alloc();
+fn replayed(rt: HostRuntime) {
     for limit in [0, 15, 16, 46, 47, 1000] {
-        assert!(rt; is_replayed(alloc, limit)?, "{limit}");
+        assert!(rt; is_replayed(rt.alloc(), limit), "{limit}");
     }
-    Ok(())
 }
 
 /// Whether a run that ends at a limit is the same again.
-fn is_replayed(alloc: Global, limit: u64) -> Result<bool, Fail> {
-    let first = report(alloc, &mut Hostile, limit)?;
-    is_same_again(alloc, &first, limit)
+fn is_replayed(alloc: Global, limit: u64) -> bool {
+    match report(alloc, &mut Hostile, limit) {
+        Some(first) => is_same_again(alloc, &first, limit),
+        None => false,
+    }
 }
 
 /// Whether a run under the changes that another one made is the same.
-fn is_same_again(alloc: Global, first: &RunReport, limit: u64) -> Result<bool, Fail>
+fn is_same_again(alloc: Global, first: &RunReport, limit: u64) -> bool
     requires { IsScript first.now.made }
 {
-    let again = again(alloc, first, limit)?;
-    Ok(is_same(&again, first) && has_run(&again, limit))
+    match again(alloc, first, limit) {
+        Some(again) => is_same(&again, first) && has_run(&again, limit),
+        None => false,
+    }
 }
 
 /// The report of a run under the changes that another one made.
-fn again(alloc: Global, first: &RunReport, limit: u64) -> Result<RunReport, Fail>
+fn again(alloc: Global, first: &RunReport, limit: u64) -> Option<RunReport>
     requires { IsScript first.now.made }
 {
-    let mut script = Script::of(alloc, first.made.as_slice())?;
+    let mut script = Script::of(alloc, first.made.as_slice()).ok()?;
     report(alloc, &mut script, limit)
 }
 
@@ -135,17 +144,23 @@ fn has_run(report: &RunReport, limit: u64) -> bool {
 /// A change of the pointer before the first step sends the call to the other function; what its
 /// system call tells is in the report.
 #[test]
-fn events(rt: HostRuntime) -> Result<(), Fail> {
-    let mut script = other_pointer(&rt, rt.alloc())?;
-    let report = report(rt.alloc(), &mut script, 100)?;
-    assert!(rt; has_exited(&report) && tells_its_exit(&report));
-    Ok(())
+fn events(rt: HostRuntime) {
+    assert!(rt; goes_to_the_other(rt.alloc()));
 }
 
-/// The script that changes the pointer.
-fn other_pointer(rt: &impl Abort, alloc: Global) -> Result<Script, Fail> {
-    let change = Change::new(0x1_0000, 0xe4).expect(rt, "10000h is data");
-    Ok(Script::of(alloc, &[(0, change)])?)
+/// Whether a run with the pointer changed goes to the other function, and tells its exit.
+fn goes_to_the_other(alloc: Global) -> bool {
+    match other_report(alloc) {
+        Some(report) => has_exited(&report) && tells_its_exit(&report),
+        None => false,
+    }
+}
+
+/// The report of a run with the pointer changed.
+fn other_report(alloc: Global) -> Option<RunReport> {
+    let change = Change::new(0x1_0000, 0xe4)?;
+    let mut script = Script::of(alloc, &[(0, change)]).ok()?;
+    report(alloc, &mut script, 100)
 }
 
 /// Whether a run exits with 2, after as many steps and places as the other function's has.
