@@ -2,8 +2,8 @@
 """Prints what `readelf -SWsr` says of each object that is named.
 
     object NAME BYTES
-    section INDEX TYPE SIZE NAME RELOCATIONS     each section, with the count of the relocations of it
-    symbol INDEX NAME                            each symbol, from number 0
+    section TYPE SIZE NAME RELOCATIONS     each section from number 0, with the count of the relocations of it
+    symbol NAME                            each symbol from number 0
 
 All numbers are decimal. NAME is `-` where it is empty. A symbol of type SECTION has an empty name; readelf shows the
 name of its section there.
@@ -32,15 +32,17 @@ def describe(path):
     for line in text.splitlines():
         if found := SECTION.match(line):
             index, name, kind, _, offset, size, _, _, _, info, _ = found.groups()
-            sections.append((int(index), TYPES[kind], int(size, 16), name or "-"))
+            assert int(index) == len(sections)
+            sections.append((TYPES[kind], int(size, 16), name or "-"))
             if kind == "RELA":
                 target[int(offset, 16)] = int(info)
         elif found := RELOCATIONS.match(line):
             counts[target[int(found.group(2), 16)]] = int(found.group(3))
         elif found := SYMBOL.match(line):
             index, kind, _, name = found.groups()
-            symbols.append("symbol %s %s" % (index, "-" if kind == "SECTION" else name or "-"))
-    lines += ["section %d %d %d %s %d" % (*section, counts.get(section[0], 0)) for section in sections]
+            assert int(index) == len(symbols)
+            symbols.append("symbol %s" % ("-" if kind == "SECTION" else name or "-"))
+    lines += ["section %d %d %s %d" % (*section, counts.get(index, 0)) for index, section in enumerate(sections)]
     return lines + symbols
 
 

@@ -25,26 +25,21 @@ fn in_words(name: &[u8]) -> &str {
 }
 
 /// Adds the line of a section with so many relocations.
-fn add_section(
-    text: &mut String,
-    k: u32,
-    section: &Section<'_>,
-    count: u64,
-) -> Result<(), AllocError> {
+fn add_section(text: &mut String, section: &Section<'_>, count: u64) -> Result<(), AllocError> {
     let (kind, size, name) = (section.kind, section.size, in_words(section.name));
-    writeln!(text, "section {k} {kind} {size} {name} {count}")
+    writeln!(text, "section {kind} {size} {name} {count}")
 }
 
 /// Adds the line of a symbol.
-fn add_symbol(text: &mut String, k: u64, name: &[u8]) -> Result<(), AllocError> {
+fn add_symbol(text: &mut String, name: &[u8]) -> Result<(), AllocError> {
     let name = in_words(name);
-    writeln!(text, "symbol {k} {name}")
+    writeln!(text, "symbol {name}")
 }
 
 /// Adds the lines of the sections of an object.
 fn add_sections(text: &mut String, object: &Object) -> bool {
     for k in 0..object.sections() {
-        if add_section(text, k, &object.section(k), object.relocs(k).count()).is_err() {
+        if add_section(text, &object.section(k), object.relocs(k).count()).is_err() {
             return false;
         }
     }
@@ -54,7 +49,7 @@ fn add_sections(text: &mut String, object: &Object) -> bool {
 /// Adds the lines of the symbols of an object.
 fn add_symbols(text: &mut String, object: &Object) -> bool {
     for k in 0..object.symbols() {
-        if add_symbol(text, k, object.symbol(k).name).is_err() {
+        if add_symbol(text, object.symbol(k).name).is_err() {
             return false;
         }
     }

@@ -89,12 +89,12 @@ static CHANGES: [(usize, usize, &[u8], Option<ImageRefusal>); 37] = [
     (8197, 8192, &[0, 0, 0, 0, 0], Some(ImageRefusal::Long(8197))),
     (8196, 4175, &[0], None),
     (0, 0, &[], Some(ImageRefusal::Short(0))),
-    (1, 0, &[], Some(ImageRefusal::Short(1))),
-    (231, 0, &[], Some(ImageRefusal::Short(231))),
-    (232, 0, &[], Some(ImageRefusal::Short(232))),
-    (4096, 0, &[], Some(ImageRefusal::Short(4096))),
-    (8192, 0, &[], Some(ImageRefusal::Short(8192))),
-    (8195, 0, &[], Some(ImageRefusal::Short(8195))),
+    (1, 1, &[], Some(ImageRefusal::Short(1))),
+    (231, 231, &[], Some(ImageRefusal::Short(231))),
+    (232, 232, &[], Some(ImageRefusal::Short(232))),
+    (4096, 4096, &[], Some(ImageRefusal::Short(4096))),
+    (8192, 8192, &[], Some(ImageRefusal::Short(8192))),
+    (8195, 8195, &[], Some(ImageRefusal::Short(8195))),
 ];
 
 /// Whether a file has the headers, the code, and zeros up to the end of each page.

@@ -52,93 +52,93 @@ static FIELDS: [(usize, &[u64], &[usize]); 25] = [
 const NAMES: &[u8] =
     b"\x00.text\x00.rela.text\x00.data\x00.bss\x00.eh_frame\x00.rela.eh_frame\x00.symtab\x00.strtab\x00.shstrtab\x00";
 
-/// What is changed, the bytes from an offset on in hexadecimal, and what is wrong then.
+/// What is changed, the bytes from an offset on in hexadecimal, and what is wrong then, with `|` between.
 static CHANGES: &[u8] = b"\
-    32-bit class: 4=01: NotElf\n\
-    high byte first: 5=02: NotElf\n\
-    no version: 6=00: NotElf\n\
-    another system: 7=03: none\n\
-    executable: 16=02: NotRelocatable 2\n\
-    executable of another machine: 16=02, 18=3e: NotRelocatable 2\n\
-    another machine and flags: 18=3e, 48=01: NotRiscv 62\n\
-    compressed instructions: 48=01: Flags 1\n\
-    double floats: 48=04: Flags 4\n\
-    total store order: 48=10: none\n\
-    total store order and compressed: 48=11: Flags 17\n\
-    headers past the end: 40=01: Truncated 513\n\
-    headers whose end wraps to 0: 40=80fdffffffffffff: Truncated 18446744073709550976\n\
-    one header more: 60=0b: Truncated 512\n\
-    end of a section wraps to 0: 728=08, 736=f8ffffffffffffff: Truncated 8\n\
-    a section longer than the file: 736=2104: Truncated 96\n\
-    a section to the end of the file: 736=2004: none\n\
-    the first section that leaves the file: 728=7e04, 856=7d04: Truncated 1150\n\
-    no bytes of a section without bytes: 800=000000000001: none\n\
-    no bytes of section 0: 536=0000000000000080, 544=0000000000000080: none\n\
-    truncated before its tables: 58=3f, 856=d007: Truncated 2000\n\
-    size of section headers: 58=3f: BadTable 0\n\
-    headers but no sections: 60=00: BadTable 0\n\
-    no sections: 40=0000, 60=00: none\n\
-    names in no string table: 62=01: BadTable 0\n\
-    names in no section: 62=0a: BadTable 0\n\
-    a name past the names: 704=50: BadTable 3\n\
-    a name at the last byte: 704=4f: none\n\
-    names without a last NUL: 511=78: BadTable 9\n\
-    names of another table: 62=08: BadTable 2\n\
-    other symbols: 708=02, 712=00, 744=08, 760=18, 736=2001: BadTable 2\n\
-    more symbols: 708=02, 712=00, 744=08, 760=18, 736=2001, 680=03: BadTable 7\n\
-    symbols of another size: 1016=19: BadTable 7\n\
-    a part of a symbol: 992=1f: BadTable 7\n\
-    symbols without names: 1000=01: BadTable 7\n\
-    symbols with names in no section: 1000=0a: BadTable 7\n\
-    relocations of another size: 696=17: BadTable 2\n\
-    a part of a relocation: 672=17: BadTable 2\n\
-    relocations without symbols: 680=08: BadTable 2\n\
-    relocations twice of one section: 940=01: BadTable 6\n\
-    relocations without addends: 900=09, 940=01: BadTable 6\n\
-    relocations without addends of a dropped section: 900=09: none\n\
-    relocations of no section: 940=0a: BadTable 6\n\
-    relocations without addends of no section: 900=09, 940=0a: BadTable 6\n\
-    any relocations of a dropped section: 928=17, 952=01, 936=00: none\n\
-    a wrong table before a wrong kind: 584=07, 1016=19: BadTable 7\n\
-    writable code: 584=07: SectionKind 1\n\
-    alignment 3: 624=03: SectionKind 1\n\
-    a group of sections: 580=11: SectionKind 1\n\
-    a group that is not kept: 900=11: SectionKind 6\n\
-    code without bytes: 580=08: SectionKind 1\n\
-    a part of an instruction: 608=06: SectionKind 1\n\
-    code aligned at 2 to the 63: 624=0000000000000080: none\n\
-    code aligned at more: 624=0100000000000080: SectionKind 1\n\
-    initialisers: 708=0e: SectionKind 3\n\
-    thread-local data: 712=0304: SectionKind 3\n\
-    data aligned at 4096: 752=0010: none\n\
-    data aligned at 8192: 752=0020: SectionKind 3\n\
-    a note: 708=07, 712=07: none\n\
-    unwinding with other flags: 840=07: none\n\
-    the same with a shorter name: 840=07, 832=1e: SectionKind 5\n\
-    the same with a longer name: 840=07, 832=27: SectionKind 5\n\
-    not in memory: 712=0104, 708=0e: none\n\
-    a wrong kind before a wrong symbol: 624=03, 164=1a: SectionKind 1\n\
-    a function found at run time: 164=1a: BadSymbol 1\n\
-    a thread-local symbol: 164=16: BadSymbol 1\n\
-    a symbol nowhere: 166=f3ff: BadSymbol 1\n\
-    a symbol in no section: 166=0a: BadSymbol 1\n\
-    a symbol past its section: 168=09: BadSymbol 1\n\
-    a symbol at its section's end: 168=08: none\n\
-    a symbol past zeros: 312=11: BadSymbol 7\n\
-    a symbol's name past the names: 160=06: BadSymbol 1\n\
-    symbols' names without a last NUL: 429=78: BadSymbol 1\n\
-    a common aligned at 3: 240=03: BadSymbol 4\n\
-    a common aligned at 4096: 240=0010: none\n\
-    a common aligned at 8192: 240=0020: BadSymbol 4\n\
-    a common aligned at 0: 240=00: none\n\
-    any symbol of number 0: 136=ffffffffffffffffffffffffffffffffffffffffffffffff: none\n\
-    a relocation names no symbol: 84=0c: BadSymbol 12\n\
-    a relocation names the last number: 84=ffffffff: BadSymbol 4294967295\n\
-    a dropped relocation names no symbol: 124=0c: none\n\
-    two relocations name no symbol: 84=14, 940=03, 124=0d: BadSymbol 13\n\
-    a wrong symbol before one that is not there: 84=0c, 332=06: BadSymbol 8\n\
-    no symbols, and number 1 named: 992=0000: BadSymbol 1\n\
-    no symbols, and number 0 named: 992=0000, 84=00: BadSymbol 0\n\
+    32-bit class|4=01|NotElf\n\
+    high byte first|5=02|NotElf\n\
+    no version|6=00|NotElf\n\
+    another system|7=03|none\n\
+    executable|16=02|NotRelocatable 2\n\
+    executable of another machine|16=02 18=3e|NotRelocatable 2\n\
+    another machine and flags|18=3e 48=01|NotRiscv 62\n\
+    compressed instructions|48=01|Flags 1\n\
+    double floats|48=04|Flags 4\n\
+    total store order|48=10|none\n\
+    total store order and compressed|48=11|Flags 17\n\
+    headers past the end|40=01|Truncated 513\n\
+    headers whose end wraps to 0|40=80fdffffffffffff|Truncated 18446744073709550976\n\
+    one header more|60=0b|Truncated 512\n\
+    end of a section wraps to 0|728=08 736=f8ffffffffffffff|Truncated 8\n\
+    a section longer than the file|736=2104|Truncated 96\n\
+    a section to the end of the file|736=2004|none\n\
+    the first section that leaves the file|728=7e04 856=7d04|Truncated 1150\n\
+    no bytes of a section without bytes|800=000000000001|none\n\
+    no bytes of section 0|536=0000000000000080 544=0000000000000080|none\n\
+    truncated before its tables|58=3f 856=d007|Truncated 2000\n\
+    size of section headers|58=3f|BadTable 0\n\
+    headers but no sections|60=00|BadTable 0\n\
+    no sections|40=0000 60=00|none\n\
+    names in no string table|62=01|BadTable 0\n\
+    names in no section|62=0a|BadTable 0\n\
+    a name past the names|704=50|BadTable 3\n\
+    a name at the last byte|704=4f|none\n\
+    names without a last NUL|511=78|BadTable 9\n\
+    names of another table|62=08|BadTable 2\n\
+    other symbols|708=02 712=00 744=08 760=18 736=2001|BadTable 2\n\
+    more symbols|708=02 712=00 744=08 760=18 736=2001 680=03|BadTable 7\n\
+    symbols of another size|1016=19|BadTable 7\n\
+    a part of a symbol|992=1f|BadTable 7\n\
+    symbols without names|1000=01|BadTable 7\n\
+    symbols with names in no section|1000=0a|BadTable 7\n\
+    relocations of another size|696=17|BadTable 2\n\
+    a part of a relocation|672=17|BadTable 2\n\
+    relocations without symbols|680=08|BadTable 2\n\
+    relocations twice of one section|940=01|BadTable 6\n\
+    relocations without addends|900=09 940=01|BadTable 6\n\
+    relocations without addends of a dropped section|900=09|none\n\
+    relocations of no section|940=0a|BadTable 6\n\
+    relocations without addends of no section|900=09 940=0a|BadTable 6\n\
+    any relocations of a dropped section|928=17 952=01 936=00|none\n\
+    a wrong table before a wrong kind|584=07 1016=19|BadTable 7\n\
+    writable code|584=07|SectionKind 1\n\
+    alignment 3|624=03|SectionKind 1\n\
+    a group of sections|580=11|SectionKind 1\n\
+    a group that is not kept|900=11|SectionKind 6\n\
+    code without bytes|580=08|SectionKind 1\n\
+    a part of an instruction|608=06|SectionKind 1\n\
+    code aligned at 2 to the 63|624=0000000000000080|none\n\
+    code aligned at more|624=0100000000000080|SectionKind 1\n\
+    initialisers|708=0e|SectionKind 3\n\
+    thread-local data|712=0304|SectionKind 3\n\
+    data aligned at 4096|752=0010|none\n\
+    data aligned at 8192|752=0020|SectionKind 3\n\
+    a note|708=07 712=07|none\n\
+    unwinding with other flags|840=07|none\n\
+    the same with a shorter name|840=07 832=1e|SectionKind 5\n\
+    the same with a longer name|840=07 832=27|SectionKind 5\n\
+    not in memory|712=0104 708=0e|none\n\
+    a wrong kind before a wrong symbol|624=03 164=1a|SectionKind 1\n\
+    a function found at run time|164=1a|BadSymbol 1\n\
+    a thread-local symbol|164=16|BadSymbol 1\n\
+    a symbol nowhere|166=f3ff|BadSymbol 1\n\
+    a symbol in no section|166=0a|BadSymbol 1\n\
+    a symbol past its section|168=09|BadSymbol 1\n\
+    a symbol at its section's end|168=08|none\n\
+    a symbol past zeros|312=11|BadSymbol 7\n\
+    a symbol's name past the names|160=06|BadSymbol 1\n\
+    symbols' names without a last NUL|429=78|BadSymbol 1\n\
+    a common aligned at 3|240=03|BadSymbol 4\n\
+    a common aligned at 4096|240=0010|none\n\
+    a common aligned at 8192|240=0020|BadSymbol 4\n\
+    a common aligned at 0|240=00|none\n\
+    any symbol of number 0|136=ffffffffffffffffffffffffffffffffffffffffffffffff|none\n\
+    a relocation names no symbol|84=0c|BadSymbol 12\n\
+    a relocation names the last number|84=ffffffff|BadSymbol 4294967295\n\
+    a dropped relocation names no symbol|124=0c|none\n\
+    two relocations name no symbol|84=14 940=03 124=0d|BadSymbol 13\n\
+    a wrong symbol before one that is not there|84=0c 332=06|BadSymbol 8\n\
+    no symbols, and number 1 named|992=0000|BadSymbol 1\n\
+    no symbols, and number 0 named|992=0000 84=00|BadSymbol 0\n\
 ";
 
 /// How many sections the object says that it has, how long it is made, with zeros past its own end,
@@ -184,7 +184,7 @@ fn object() -> [u8; 1152] {
 /// Makes one change, as `16=02` puts a 2 at offset 16. It is false where the text is not understood, or
 /// the change is none.
 fn change(alloc: Global, file: &mut [u8], text: &str) -> bool {
-    let Some((offset, digits)) = text.split_once("=") else {
+    let Some((offset, digits)) = text.split_once('=') else {
         return false;
     };
     match (offset.parse::<usize>(), hex::decode(alloc, digits)) {
@@ -195,7 +195,7 @@ fn change(alloc: Global, file: &mut [u8], text: &str) -> bool {
 
 /// Makes the changes of a row. It is false where one of them is none.
 fn change_all(alloc: Global, file: &mut [u8], changes: &str) -> bool {
-    for text in changes.split(", ") {
+    for text in changes.split(' ') {
         if !change(alloc, file, text) {
             return false;
         }
@@ -219,10 +219,10 @@ fn is_faulty(alloc: Global, changes: &str, expected: &str) -> bool {
 
 /// Whether a row says what is wrong with the object that it changes.
 fn is_right(alloc: Global, row: &str) -> bool {
-    let Some((_, rest)) = row.split_once(": ") else {
+    let Some((_, rest)) = row.split_once('|') else {
         return false;
     };
-    match rest.split_once(": ") {
+    match rest.split_once('|') {
         Some((changes, expected)) => is_faulty(alloc, changes, expected),
         None => false,
     }

@@ -4,12 +4,11 @@
 //! objects are in hexadecimal.
 
 pub(crate) static DIFFERENCES_TEXT: &[u8] = b"\
-    section 0 0 0 - 0\nsection 1 1 16 .text 0\nsection 2 1 40 .data 12\n\
-    section 3 4 288 .rela.data 0\nsection 4 8 0 .bss 0\n\
-    section 5 1879048195 26 .riscv.attributes 0\nsection 6 2 264 .symtab 0\n\
-    section 7 3 41 .strtab 0\nsection 8 3 67 .shstrtab 0\nsymbol 0 -\nsymbol 1 -\nsymbol 2 -\n\
-    symbol 3 -\nsymbol 4 $xrv64i2p1\nsymbol 5 -\nsymbol 6 from\nsymbol 7 to\nsymbol 8 table\n\
-    symbol 9 outside\nsymbol 10 answer\n";
+    section 0 0 - 0\nsection 1 16 .text 0\nsection 1 40 .data 12\nsection 4 288 .rela.data 0\n\
+    section 8 0 .bss 0\nsection 1879048195 26 .riscv.attributes 0\nsection 2 264 .symtab 0\n\
+    section 3 41 .strtab 0\nsection 3 67 .shstrtab 0\nsymbol -\nsymbol -\nsymbol -\nsymbol -\n\
+    symbol $xrv64i2p1\nsymbol -\nsymbol from\nsymbol to\nsymbol table\nsymbol outside\n\
+    symbol answer\n";
 
 pub(crate) static DIFFERENCES: &[u8] = b"\
     7f454c460201010000000000000000000100f300010000000000000000000000000000000000000038030000000000\
@@ -44,14 +43,13 @@ pub(crate) static DIFFERENCES: &[u8] = b"\
     00000000004300000000000000000000000000000001000000000000000000000000000000";
 
 pub(crate) static SWITCH_MEDLOW_TEXT: &[u8] = b"\
-    section 0 0 0 - 0\nsection 1 1 96 .text 5\nsection 2 4 120 .rela.text 0\n\
-    section 3 1 0 .data 0\nsection 4 8 0 .bss 0\nsection 5 1 28 .rodata 7\n\
-    section 6 4 168 .rela.rodata 0\nsection 7 1 0 .note.GNU-stack 0\n\
-    section 8 1879048195 28 .riscv.attributes 0\nsection 9 2 456 .symtab 0\n\
-    section 10 3 66 .strtab 0\nsection 11 3 96 .shstrtab 0\nsymbol 0 -\nsymbol 1 switch.c\n\
-    symbol 2 -\nsymbol 3 -\nsymbol 4 -\nsymbol 5 $xrv64i2p1\nsymbol 6 -\nsymbol 7 -\n\
-    symbol 8 .L4\nsymbol 9 .L11\nsymbol 10 .L10\nsymbol 11 .L9\nsymbol 12 .L8\nsymbol 13 .L7\n\
-    symbol 14 .L6\nsymbol 15 .L5\nsymbol 16 .L3\nsymbol 17 -\nsymbol 18 choose\n";
+    section 0 0 - 0\nsection 1 96 .text 5\nsection 4 120 .rela.text 0\nsection 1 0 .data 0\n\
+    section 8 0 .bss 0\nsection 1 28 .rodata 7\nsection 4 168 .rela.rodata 0\n\
+    section 1 0 .note.GNU-stack 0\nsection 1879048195 28 .riscv.attributes 0\n\
+    section 2 456 .symtab 0\nsection 3 66 .strtab 0\nsection 3 96 .shstrtab 0\nsymbol -\n\
+    symbol switch.c\nsymbol -\nsymbol -\nsymbol -\nsymbol $xrv64i2p1\nsymbol -\nsymbol -\n\
+    symbol .L4\nsymbol .L11\nsymbol .L10\nsymbol .L9\nsymbol .L8\nsymbol .L7\nsymbol .L6\n\
+    symbol .L5\nsymbol .L3\nsymbol -\nsymbol choose\n";
 
 pub(crate) static SWITCH_MEDLOW: &[u8] = b"\
     7f454c460201010000000000000000000100f300010000000000000000000000000000000000000068040000000000\
@@ -97,11 +95,11 @@ pub(crate) static SWITCH_MEDLOW: &[u8] = b"\
     01000000000000000000000000000000";
 
 pub(crate) static ADDRESSING_CLANG_TEXT: &[u8] = b"\
-    section 0 0 0 - 0\nsection 1 3 120 .strtab 0\nsection 2 1 72 .text 13\n\
-    section 3 4 312 .rela.text 0\nsection 4 1 11 .rodata 0\nsection 5 1 16 .data 2\n\
-    section 6 4 48 .rela.data 0\nsection 7 8 48 .bss 0\nsection 8 2 240 .symtab 0\nsymbol 0 -\n\
-    symbol 1 cell\nsymbol 2 .Lnear\nsymbol 3 .Lstore\nsymbol 4 note\nsymbol 5 room\n\
-    symbol 6 start\nsymbol 7 distant\nsymbol 8 finish\nsymbol 9 distant_function\n";
+    section 0 0 - 0\nsection 3 120 .strtab 0\nsection 1 72 .text 13\n\
+    section 4 312 .rela.text 0\nsection 1 11 .rodata 0\nsection 1 16 .data 2\n\
+    section 4 48 .rela.data 0\nsection 8 48 .bss 0\nsection 2 240 .symtab 0\nsymbol -\n\
+    symbol cell\nsymbol .Lnear\nsymbol .Lstore\nsymbol note\nsymbol room\nsymbol start\n\
+    symbol distant\nsymbol finish\nsymbol distant_function\n";
 
 pub(crate) static ADDRESSING_CLANG: &[u8] = b"\
     7f454c460201010000000000000000000100f300010000000000000000000000000000000000000080030000000000\
@@ -138,12 +136,12 @@ pub(crate) static ADDRESSING_CLANG: &[u8] = b"\
     000000000000001800000000000000";
 
 pub(crate) static SWITCH_CLANG_TEXT: &[u8] = b"\
-    section 0 0 0 - 0\nsection 1 3 165 .strtab 0\nsection 2 1 96 .text 2\n\
-    section 3 4 48 .rela.text 0\nsection 4 1 56 .rodata 7\nsection 5 4 168 .rela.rodata 0\n\
-    section 6 1 0 .note.GNU-stack 0\nsection 7 1879048195 28 .riscv.attributes 0\n\
-    section 8 2 288 .symtab 0\nsymbol 0 -\nsymbol 1 switch.c\nsymbol 2 .LBB0_10\n\
-    symbol 3 .LJTI0_0\nsymbol 4 .LBB0_2\nsymbol 5 .LBB0_4\nsymbol 6 .LBB0_5\nsymbol 7 .LBB0_6\n\
-    symbol 8 .LBB0_7\nsymbol 9 .LBB0_8\nsymbol 10 .LBB0_9\nsymbol 11 choose\n";
+    section 0 0 - 0\nsection 3 165 .strtab 0\nsection 1 96 .text 2\nsection 4 48 .rela.text 0\n\
+    section 1 56 .rodata 7\nsection 4 168 .rela.rodata 0\nsection 1 0 .note.GNU-stack 0\n\
+    section 1879048195 28 .riscv.attributes 0\nsection 2 288 .symtab 0\nsymbol -\n\
+    symbol switch.c\nsymbol .LBB0_10\nsymbol .LJTI0_0\nsymbol .LBB0_2\nsymbol .LBB0_4\n\
+    symbol .LBB0_5\nsymbol .LBB0_6\nsymbol .LBB0_7\nsymbol .LBB0_8\nsymbol .LBB0_9\n\
+    symbol choose\n";
 
 pub(crate) static SWITCH_CLANG: &[u8] = b"\
     7f454c460201010000000000000000000100f300010000000000000000000000000000000000000098030000000000\
@@ -180,14 +178,13 @@ pub(crate) static SWITCH_CLANG: &[u8] = b"\
     000000000000002001000000000000010000000b00000008000000000000001800000000000000";
 
 pub(crate) static POINTERS_CLANG_TEXT: &[u8] = b"\
-    section 0 0 0 - 0\nsection 1 3 186 .strtab 0\nsection 2 1 116 .text 6\n\
-    section 3 4 144 .rela.text 0\nsection 4 1 24 .rodata 3\nsection 5 4 72 .rela.rodata 0\n\
-    section 6 1 32 .data 2\nsection 7 4 48 .rela.data 0\nsection 8 1 8 .sdata 1\n\
-    section 9 4 24 .rela.sdata 0\nsection 10 1 0 .note.GNU-stack 0\n\
-    section 11 1879048195 28 .riscv.attributes 0\nsection 12 2 240 .symtab 0\nsymbol 0 -\n\
-    symbol 1 pointers.c\nsymbol 2 twice\nsymbol 3 negated\nsymbol 4 same\nsymbol 5 apply\n\
-    symbol 6 writable_table\nsymbol 7 constant_table\nsymbol 8 second_number\n\
-    symbol 9 numbers\n";
+    section 0 0 - 0\nsection 3 186 .strtab 0\nsection 1 116 .text 6\n\
+    section 4 144 .rela.text 0\nsection 1 24 .rodata 3\nsection 4 72 .rela.rodata 0\n\
+    section 1 32 .data 2\nsection 4 48 .rela.data 0\nsection 1 8 .sdata 1\n\
+    section 4 24 .rela.sdata 0\nsection 1 0 .note.GNU-stack 0\n\
+    section 1879048195 28 .riscv.attributes 0\nsection 2 240 .symtab 0\nsymbol -\n\
+    symbol pointers.c\nsymbol twice\nsymbol negated\nsymbol same\nsymbol apply\n\
+    symbol writable_table\nsymbol constant_table\nsymbol second_number\nsymbol numbers\n";
 
 pub(crate) static POINTERS_CLANG: &[u8] = b"\
     7f454c460201010000000000000000000100f3000100000000000000000000000000000000000000e8030000000000\
@@ -231,15 +228,14 @@ pub(crate) static POINTERS_CLANG: &[u8] = b"\
     0000000000001801000000000000f000000000000000010000000400000008000000000000001800000000000000";
 
 pub(crate) static STRINGS_CLANG_TEXT: &[u8] = b"\
-    section 0 0 0 - 0\nsection 1 3 201 .strtab 0\nsection 2 1 136 .text 10\n\
-    section 3 4 240 .rela.text 0\nsection 4 1 20 .rodata.str1.1 0\nsection 5 1 35 .rodata 3\n\
-    section 6 4 72 .rela.rodata 0\nsection 7 1 0 .note.GNU-stack 0\n\
-    section 8 1879048195 28 .riscv.attributes 0\nsection 9 1 48 .eh_frame 0\n\
-    section 10 4 168 .rela.eh_frame 0\nsection 11 2 432 .symtab 0\nsymbol 0 -\n\
-    symbol 1 strings.c\nsymbol 2 -\nsymbol 3 -\nsymbol 4 -\nsymbol 5 .LBB0_3\n\
-    symbol 6 greeting\nsymbol 7 .LBB0_4\nsymbol 8 .LBB0_5\nsymbol 9 .L.str.3\nsymbol 10 -\n\
-    symbol 11 .L.str\nsymbol 12 .L.str.1\nsymbol 13 .L.str.2\nsymbol 14 say\nsymbol 15 put\n\
-    symbol 16 words\nsymbol 17 halt\n";
+    section 0 0 - 0\nsection 3 201 .strtab 0\nsection 1 136 .text 10\n\
+    section 4 240 .rela.text 0\nsection 1 20 .rodata.str1.1 0\nsection 1 35 .rodata 3\n\
+    section 4 72 .rela.rodata 0\nsection 1 0 .note.GNU-stack 0\n\
+    section 1879048195 28 .riscv.attributes 0\nsection 1 48 .eh_frame 0\n\
+    section 4 168 .rela.eh_frame 0\nsection 2 432 .symtab 0\nsymbol -\nsymbol strings.c\n\
+    symbol -\nsymbol -\nsymbol -\nsymbol .LBB0_3\nsymbol greeting\nsymbol .LBB0_4\n\
+    symbol .LBB0_5\nsymbol .L.str.3\nsymbol -\nsymbol .L.str\nsymbol .L.str.1\n\
+    symbol .L.str.2\nsymbol say\nsymbol put\nsymbol words\nsymbol halt\n";
 
 pub(crate) static STRINGS_CLANG: &[u8] = b"\
     7f454c460201010000000000000000000100f3000100000000000000000000000000000000000000b0050000000000\
