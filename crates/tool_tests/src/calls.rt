@@ -1,7 +1,10 @@
 //! Calls of the tool. Tests call it here alone: beside its contract they are slow to check.
 
+use crate::files::add_files;
 use cfi_tool::rvcfi;
 use std::alloc::Global;
+use std::process::Abort;
+use std::str::Split;
 use tool_io::{MemFiles, MemSink};
 
 /// The words of a command line, which has a comma between each two; none where there is no memory.
@@ -52,4 +55,32 @@ pub(crate) fn answers(
 ) -> bool {
     let mut out = MemSink::new(alloc, Vec::new(alloc));
     ends_with(alloc, line, files, &mut out, status) && holds(&out, text, "")
+}
+
+/// The rows of a table, which has a `;` between each two.
+fn rows(table: &[u8]) -> Split<'_, char> {
+    str::from_utf8(table).unwrap_or("").split(';')
+}
+
+/// How many rows a table has.
+fn len(table: &[u8]) -> usize {
+    rows(table).count()
+}
+
+/// Whether a row is a command line with its status and text, as `rvcfi = 2: usage ..`.
+fn is_answered(alloc: Global, row: &str, files: &mut MemFiles) -> bool {
+    let (line, told) = row.split_once(" = ").unwrap_or((row, ""));
+    let (status, text) = told.split_once(": ").unwrap_or((told, ""));
+    let status = status.parse().unwrap_or(u8::MAX);
+    answers(alloc, line, files, status, text)
+}
+
+/// Checks that a table has so many rows, and that each is answered.
+pub(crate) fn check(rt: &impl Abort, alloc: Global, table: &[u8], count: usize) {
+    let mut files = MemFiles::new(alloc, Vec::new(alloc));
+    assert!(rt; add_files(alloc, &mut files).is_ok());
+    assert!(rt; len(table) == count);
+    for row in rows(table) {
+        assert!(rt; is_answered(alloc, row, &mut files), "{row}");
+    }
 }

@@ -1,51 +1,33 @@
 //! Command lines, with the status and the text of each.
 
-use crate::calls::answers;
-use crate::files::add_files;
+use crate::calls::check;
 use crate::pairs::{A, A_GRAPH, image_of, verifies};
 use cfi_graph::Reason;
 use cfi_tool::Verdict;
 use cfi_verify::{Reject, Rule};
 use elf_image::ImageRefusal;
 use std::alloc::Global;
-use tool_io::MemFiles;
 
-const USAGE: &str = "usage: rvcfi rewrite|verify|run|compare|demo\n";
-
-/// Command lines, and the status and the text that are the answer.
-static COMMANDS: [(&str, u8, &str); 14] = [
-    ("rvcfi,verify,image,graph", 0, "accepted\n"),
-    ("rvcfi,verify,graph,graph", 1, "refused 22 Short 64\n"),
-    ("rvcfi,verify,empty,empty", 1, "refused 22 Short 0\n"),
-    ("rvcfi,verify,byte,byte", 1, "refused 22 Short 1\n"),
-    ("rvcfi,verify,image,image", 1, "refused 23 Graph 1 Form\n"),
-    ("rvcfi,verify,image,empty", 1, "refused 23 Graph 1 Form\n"),
-    (
-        "rvcfi,verify,image,capitals",
-        1,
-        "refused 23 Graph 3 Form\n",
-    ),
-    ("rvcfi,verify,image", 2, USAGE),
-    ("rvcfi,verify,image,graph,graph", 2, USAGE),
-    ("rvcfi,run,image", 2, USAGE),
-    ("rvcfi", 2, USAGE),
-    ("rvcfi,verify,absent,nothing", 3, "read fault absent\n"),
-    ("rvcfi,verify,image,nothing", 3, "read fault nothing\n"),
-    ("rvcfi,verify,image,long", 6, "too long long\n"),
-];
+/// Command lines, with the status and the text of each, in the form of `calls::check`.
+const COMMANDS: &[u8] = b"\
+    rvcfi,verify,image,graph = 0: accepted\n;\
+    rvcfi,verify,graph,graph = 1: refused 22 Short 64\n;\
+    rvcfi,verify,empty,empty = 1: refused 22 Short 0\n;\
+    rvcfi,verify,byte,byte = 1: refused 22 Short 1\n;\
+    rvcfi,verify,image,image = 1: refused 23 Graph 1 Form\n;\
+    rvcfi,verify,image,empty = 1: refused 23 Graph 1 Form\n;\
+    rvcfi,verify,image,capitals = 1: refused 23 Graph 3 Form\n;\
+    rvcfi,verify,image = 2: usage: rvcfi rewrite|verify|run|compare|demo\n;\
+    rvcfi,verify,image,graph,graph = 2: usage: rvcfi rewrite|verify|run|compare|demo\n;\
+    rvcfi,run,image = 2: usage: rvcfi rewrite|verify|run|compare|demo\n;\
+    rvcfi = 2: usage: rvcfi rewrite|verify|run|compare|demo\n;\
+    rvcfi,verify,absent,nothing = 3: read fault absent\n;\
+    rvcfi,verify,image,nothing = 3: read fault nothing\n;\
+    rvcfi,verify,image,long = 6: too long long\n";
 
 #[test]
 fn commands(rt: HostRuntime) {
-    let alloc = rt.alloc();
-    let mut files = MemFiles::new(alloc, Vec::new(alloc));
-    assert!(rt; add_files(alloc, &mut files).is_ok());
-    for row in &COMMANDS {
-        assert!(rt;
-            answers(alloc, row.0, &mut files, row.1, row.2),
-            "{}",
-            row.0
-        );
-    }
+    check(&rt, rt.alloc(), COMMANDS, 14);
 }
 
 /// Whether an image that is cut to this length is refused by it.

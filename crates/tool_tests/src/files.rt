@@ -122,7 +122,8 @@ pub(crate) fn add_files(alloc: Global, files: &mut MemFiles) -> Result<(), NoMem
         add_image(alloc, files, image)?;
     }
     add_texts(files, &TEXTS)?;
-    add_long(alloc, files)
+    let zeros = vec![in alloc; 0; 67_108_865]?;
+    Ok(files.insert("long", &zeros)?)
 }
 
 /// Adds the image of its units and data.
@@ -141,9 +142,4 @@ pub(crate) fn add_texts(files: &mut MemFiles, texts: &[(&str, &[u8])]) -> Result
         files.insert(text.0, text.1)?;
     }
     Ok(())
-}
-
-fn add_long(alloc: Global, files: &mut MemFiles) -> Result<(), NoMemory> {
-    let zeros = vec![in alloc; 0; 67_108_865]?;
-    Ok(files.insert("long", &zeros)?)
 }

@@ -131,31 +131,31 @@ fn byte_of(files: &mut MemFiles, alloc: Global) -> u8 {
     }
 }
 
-/// What becomes of a write, a read, another write and another read where one of these calls fails.
-fn four_calls(alloc: Global, failing: u64) -> Option<[u8; 4]> {
-    let Ok(failing) = Vec::from_slice(alloc, &[failing]) else {
-        return None;
+/// The number of a call that fails, and what becomes of a write, a read, another write and another read.
+static FOUR_CALLS: [(u64, [u8; 4]); 5] = [
+    (0, *b"FFw2"),
+    (1, *b"wFw2"),
+    (2, *b"w1F1"),
+    (3, *b"w1wF"),
+    (4, *b"w1w2"),
+];
+
+/// Whether four calls end as their row says.
+fn four_calls(alloc: Global, row: &(u64, [u8; 4])) -> bool {
+    let Ok(failing) = Vec::from_slice(alloc, &[row.0]) else {
+        return false;
     };
     let mut files = MemFiles::new(alloc, failing);
     let first = letter(&files.write("a", b"1"));
     let then = byte_of(&mut files, alloc);
     let second = letter(&files.write("a", b"2"));
-    Some([first, then, second, byte_of(&mut files, alloc)])
+    [first, then, second, byte_of(&mut files, alloc)] == row.1
 }
 
 #[test]
 fn each_call_in_memory_fails(rt: HostRuntime) {
-    for (failing, wanted) in [
-        (0, b"FFw2"),
-        (1, b"wFw2"),
-        (2, b"w1F1"),
-        (3, b"w1wF"),
-        (4, b"w1w2"),
-    ] {
-        assert!(rt;
-            four_calls(rt.alloc(), failing) == Some(*wanted),
-            "call {failing}"
-        );
+    for row in &FOUR_CALLS {
+        assert!(rt; four_calls(rt.alloc(), row), "call {}", row.0);
     }
 }
 
@@ -173,8 +173,9 @@ fn puts(alloc: Global, row: &(u64, [u8; 3], &[u8])) -> bool {
         return false;
     };
     let mut sink = MemSink::new(alloc, failing);
-    let ends = [b"a", b"b", b"c"].map(|piece| letter(&sink.put(piece)));
-    ends == row.1 && sink.bytes() == row.2
+    let first = letter(&sink.put(b"a"));
+    let second = letter(&sink.put(b"b"));
+    [first, second, letter(&sink.put(b"c"))] == row.1 && sink.bytes() == row.2
 }
 
 #[test]

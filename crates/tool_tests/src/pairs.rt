@@ -1,7 +1,6 @@
 //! Pairs of an image and a graph, and the line that is printed of each.
 
 use crate::calls::answers;
-use crate::files::add_texts;
 use elf_image::write_image;
 use rv_word::NoMemory;
 use std::alloc::{AllocError, Global};
@@ -151,29 +150,35 @@ fn image(alloc: Global, code: &[u8], data: &[u8]) -> Result<Vec<u8>, NoMemory> {
     write_image(alloc, code, data)
 }
 
-/// The image of the prologue, some units and data.
-pub(crate) fn image_of(alloc: Global, units: &[u32], data: &[u8]) -> Result<Vec<u8>, NoMemory> {
-    let bytes = code(alloc, units, 0, HEAD[0])?;
+/// The image of the prologue, some units and data, with one word in place of that at an offset.
+fn image_with(
+    alloc: Global,
+    units: &[u32],
+    at: usize,
+    word: u32,
+    data: &[u8],
+) -> Result<Vec<u8>, NoMemory> {
+    let bytes = code(alloc, units, at, word)?;
     image(alloc, &bytes, data)
 }
 
-/// The image of a case.
-fn case_image(alloc: Global, case: &Case) -> Result<Vec<u8>, NoMemory> {
-    let bytes = code(alloc, case.0, case.1, case.2)?;
-    image(alloc, &bytes, &[])
+/// The image of the prologue, some units and data.
+pub(crate) fn image_of(alloc: Global, units: &[u32], data: &[u8]) -> Result<Vec<u8>, NoMemory> {
+    image_with(alloc, units, 0, HEAD[0], data)
 }
 
 /// Whether the tool puts a text of an image and a graph, and ends with its status.
 pub(crate) fn verifies(alloc: Global, image: &[u8], graph: &[u8], text: &str) -> bool {
     let mut files = MemFiles::new(alloc, Vec::new(alloc));
     let status = u8::from(text != "accepted\n");
-    add_texts(&mut files, &[("image", image), ("graph", graph)]).is_ok()
+    files.insert("image", image).is_ok()
+        && files.insert("graph", graph).is_ok()
         && answers(alloc, "rvcfi,verify,image,graph", &mut files, status, text)
 }
 
 /// Whether the line of a case is put.
 fn is_right(alloc: Global, case: &Case) -> bool {
-    let Ok(image) = case_image(alloc, case) else {
+    let Ok(image) = image_with(alloc, case.0, case.1, case.2, b"") else {
         return false;
     };
     verifies(alloc, &image, case.3, case.4)

@@ -1,87 +1,56 @@
 //! Runs of whole programs, and the text that is put of each. The counts of steps and the walks are worked
 //! out by hand.
 
-use crate::calls::answers;
-use crate::files::add_files;
-use std::alloc::Global;
-use std::str::Lines;
-use tool_io::MemFiles;
+use crate::calls::check;
 
-/// Command lines, then the status and the text of each, with `;` for each newline.
+/// Command lines of runs, with the status and the text of each, in the form of `calls::check`.
 const RUNS: &[u8] = b"\
-    rvcfi,run,a.img,a.graph,none,none,100 = 0: output 0;;stop exit 7;steps 13;walk 4;trail 4000000c 40000040 40000044 40000048;\n\
-    rvcfi,run,a.img,a.graph,none,none,0 = 12: output 0;;stop limit;steps 0;walk 0;trail;\n\
-    rvcfi,run,a.img,a.graph,none,none,12 = 12: output 0;;stop limit;steps 12;walk 3;trail 4000000c 40000040 40000044;\n\
-    rvcfi,run,a.img,a.graph,none,none,0000000013 = 0: output 0;;stop exit 7;steps 13;walk 4;trail 4000000c 40000040 40000044 40000048;\n\
-    rvcfi,run,b.img,b.graph,none,none,1000000 = 0: output 0;;stop exit 7;steps 17;walk 4;trail 4000000c 40000040 40000044 40000038;\n\
-    rvcfi,run,h.img,h.graph,none,none,1000000000 = 0: output 3;hi;;stop exit 0;steps 41;walk 16;trail 4000000c 40000040 40000044 40000054 40000094 40000098 4000009c 400000a0 400000a4 400000a8 400000ac 40000074 40000078 4000007c 40000080 40000038;\n\
-    rvcfi,run,p.img,p.graph,none,none,100 = 0: output 0;;stop exit 1;steps 48;walk 13;trail 4000000c 40000040 40000044 40000054 40000058 4000005c 400000c8 400000cc 400000d0 400000ac 400000b0 400000b4 40000038;\n\
-    rvcfi,run,p.img,p.graph,saved,none,100 = 10: output 0;;stop handler __cfi_bad_return;steps 47;walk 13;trail 4000000c 40000040 40000044 40000054 40000058 4000005c 400000c8 400000cc 400000d0 400000ac 400000b0 400000b4 40000004;\n\
-    rvcfi,run,p.img,p.graph,nowhere,none,100 = 10: output 0;;stop handler __cfi_bad_target;steps 29;walk 7;trail 4000000c 40000040 40000044 40000054 40000058 4000005c 40000000;\n\
-    rvcfi,run,p.img,p.graph,other,none,100 = 0: output 0;;stop exit 2;steps 48;walk 13;trail 4000000c 40000040 40000044 40000054 40000058 4000005c 400000e4 400000e8 400000ec 400000ac 400000b0 400000b4 40000038;\n\
-    rvcfi,run,p.img,p.graph,between,none,100 = 0: output 0;;stop exit 1;steps 48;walk 13;trail 4000000c 40000040 40000044 40000054 40000058 4000005c 400000c8 400000cc 400000d0 400000ac 400000b0 400000b4 40000038;\n\
-    rvcfi,run,p.img,p.graph,odd,none,100 = 0: output 0;;stop exit 1;steps 48;walk 13;trail 4000000c 40000040 40000044 40000054 40000058 4000005c 400000c8 400000cc 400000d0 400000ac 400000b0 400000b4 40000038;\n\
-    rvcfi,run,status.img,status.graph,none,none,100 = 0: output 0;;stop exit 0;steps 14;walk 5;trail 4000000c 40000040 40000044 40000048 4000004c;\n\
-    rvcfi,run,status.img,status.graph,five,none,100 = 0: output 0;;stop exit 5;steps 14;walk 5;trail 4000000c 40000040 40000044 40000048 4000004c;\n\
-    rvcfi,run,status.img,status.graph,late,none,100 = 0: output 0;;stop exit 0;steps 14;walk 5;trail 4000000c 40000040 40000044 40000048 4000004c;\n\
-    rvcfi,run,status.img,status.graph,twice,none,100 = 0: output 0;;stop exit 6;steps 14;walk 5;trail 4000000c 40000040 40000044 40000048 4000004c;\n\
-    rvcfi,run,status.img,status.graph,./none,none,100 = 0: output 0;;stop exit 9;steps 14;walk 5;trail 4000000c 40000040 40000044 40000048 4000004c;\n\
-    rvcfi,run,loop.img,loop.graph,none,none,100 = 0: output 0;;stop exit 7;steps 37;walk 21;trail 40000048 40000044 40000048 40000044 40000048 40000044 40000048 40000044 40000048 40000044 40000048 40000044 40000048 40000050 40000054 40000058;\n\
-    rvcfi,run,deep.img,deep.graph,none,none,1000000 = 10: output 0;;stop handler __cfi_deep;steps 114684;walk 40960;trail 4000004c 40000054 40000058 40000068 4000006c 4000004c 40000054 40000058 40000068 4000006c 4000004c 40000054 40000058 40000068 4000006c 40000008;\n\
-    rvcfi,run,break.img,break.graph,none,none,100 = 11: output 0;;stop break 40000040;steps 11;walk 2;trail 4000000c 40000040;\n\
-    rvcfi,run,load.img,load.graph,none,none,100 = 11: output 0;;stop load 40000044 0000000020000000;steps 12;walk 3;trail 4000000c 40000040 40000044;\n\
-    rvcfi,run,class.img,class.graph,none,none,100 = 1: rejected Astray 40000040;\n\
-    rvcfi,run,a.img,a.graph,range,none,100 = 1: refused 25 Script 2 Range;\n\
-    rvcfi,run,a.img,a.graph,form,none,100 = 1: refused 25 Script 2 Form;\n\
-    rvcfi,run,a.img,a.graph,order,none,100 = 1: refused 25 Script 3 Order;\n\
-    rvcfi,run,a.img,a.graph,empty,none,100 = 1: refused 25 Script 1 Form;\n\
-    rvcfi,run,a.img,b.graph,range,none,100 = 1: refused 25 Script 2 Range;\n\
-    rvcfi,run,a.img,b.graph,none,none,100 = 1: rejected Length 80 92;\n\
-    rvcfi,run,a.img,empty,range,none,100 = 1: refused 23 Graph 1 Form;\n\
-    rvcfi,run,empty,empty,range,none,100 = 1: refused 22 Short 0;\n\
-    rvcfi,run,a.img,a.graph,none,none = 2: usage: rvcfi rewrite|verify|run|compare|demo;\n\
-    rvcfi,run,a.img,a.graph,none,none,1,1 = 2: usage: rvcfi rewrite|verify|run|compare|demo;\n\
-    rvcfi,run,a.img,a.graph,none,none, = 2: usage: rvcfi rewrite|verify|run|compare|demo;\n\
-    rvcfi,run,a.img,a.graph,none,none,x = 2: usage: rvcfi rewrite|verify|run|compare|demo;\n\
-    rvcfi,run,a.img,a.graph,none,none,+1 = 2: usage: rvcfi rewrite|verify|run|compare|demo;\n\
-    rvcfi,run,a.img,a.graph,none,none,1  = 2: usage: rvcfi rewrite|verify|run|compare|demo;\n\
-    rvcfi,run,a.img,a.graph,none,none,1000000001 = 2: usage: rvcfi rewrite|verify|run|compare|demo;\n\
-    rvcfi,run,a.img,a.graph,none,none,00000000007 = 2: usage: rvcfi rewrite|verify|run|compare|demo;\n\
-    rvcfi,run,absent,nothing,gone,lost,1 = 3: read fault absent;\n\
-    rvcfi,run,a.img,nothing,gone,lost,1 = 3: read fault nothing;\n\
-    rvcfi,run,a.img,a.graph,gone,lost,1 = 3: read fault gone;\n\
-    rvcfi,run,empty,empty,none,lost,1 = 3: read fault lost;\n\
-    rvcfi,run,a.img,a.graph,none,long,1 = 6: too long long;\n\
-    rvcfi,run,a.img,a.graph,long,lost,1 = 6: too long long;\n\
-";
-
-fn rows() -> Lines<'static> {
-    str::from_utf8(RUNS).unwrap_or("").lines()
-}
-
-/// Whether a row's command line has its status and text.
-fn is_answered(alloc: Global, row: &str, files: &mut MemFiles) -> bool {
-    let (line, told) = row.split_once(" = ").unwrap_or((row, ""));
-    let (status, text) = told.split_once(": ").unwrap_or((told, ""));
-    let Ok(text) = text.replace(alloc, ";", "\n") else {
-        return false;
-    };
-    answers(
-        alloc,
-        line,
-        files,
-        status.parse().unwrap_or(u8::MAX),
-        text.as_str(),
-    )
-}
+    rvcfi,run,a.img,a.graph,none,none,100 = 0: output 0\n\nstop exit 7\nsteps 13\nwalk 4\ntrail 4000000c 40000040 40000044 40000048\n;\
+    rvcfi,run,a.img,a.graph,none,none,0 = 12: output 0\n\nstop limit\nsteps 0\nwalk 0\ntrail\n;\
+    rvcfi,run,a.img,a.graph,none,none,12 = 12: output 0\n\nstop limit\nsteps 12\nwalk 3\ntrail 4000000c 40000040 40000044\n;\
+    rvcfi,run,a.img,a.graph,none,none,0000000013 = 0: output 0\n\nstop exit 7\nsteps 13\nwalk 4\ntrail 4000000c 40000040 40000044 40000048\n;\
+    rvcfi,run,b.img,b.graph,none,none,1000000 = 0: output 0\n\nstop exit 7\nsteps 17\nwalk 4\ntrail 4000000c 40000040 40000044 40000038\n;\
+    rvcfi,run,h.img,h.graph,none,none,1000000000 = 0: output 3\nhi\n\nstop exit 0\nsteps 41\nwalk 16\ntrail 4000000c 40000040 40000044 40000054 40000094 40000098 4000009c 400000a0 400000a4 400000a8 400000ac 40000074 40000078 4000007c 40000080 40000038\n;\
+    rvcfi,run,p.img,p.graph,none,none,100 = 0: output 0\n\nstop exit 1\nsteps 48\nwalk 13\ntrail 4000000c 40000040 40000044 40000054 40000058 4000005c 400000c8 400000cc 400000d0 400000ac 400000b0 400000b4 40000038\n;\
+    rvcfi,run,p.img,p.graph,saved,none,100 = 10: output 0\n\nstop handler __cfi_bad_return\nsteps 47\nwalk 13\ntrail 4000000c 40000040 40000044 40000054 40000058 4000005c 400000c8 400000cc 400000d0 400000ac 400000b0 400000b4 40000004\n;\
+    rvcfi,run,p.img,p.graph,nowhere,none,100 = 10: output 0\n\nstop handler __cfi_bad_target\nsteps 29\nwalk 7\ntrail 4000000c 40000040 40000044 40000054 40000058 4000005c 40000000\n;\
+    rvcfi,run,p.img,p.graph,other,none,100 = 0: output 0\n\nstop exit 2\nsteps 48\nwalk 13\ntrail 4000000c 40000040 40000044 40000054 40000058 4000005c 400000e4 400000e8 400000ec 400000ac 400000b0 400000b4 40000038\n;\
+    rvcfi,run,p.img,p.graph,between,none,100 = 0: output 0\n\nstop exit 1\nsteps 48\nwalk 13\ntrail 4000000c 40000040 40000044 40000054 40000058 4000005c 400000c8 400000cc 400000d0 400000ac 400000b0 400000b4 40000038\n;\
+    rvcfi,run,p.img,p.graph,odd,none,100 = 0: output 0\n\nstop exit 1\nsteps 48\nwalk 13\ntrail 4000000c 40000040 40000044 40000054 40000058 4000005c 400000c8 400000cc 400000d0 400000ac 400000b0 400000b4 40000038\n;\
+    rvcfi,run,status.img,status.graph,none,none,100 = 0: output 0\n\nstop exit 0\nsteps 14\nwalk 5\ntrail 4000000c 40000040 40000044 40000048 4000004c\n;\
+    rvcfi,run,status.img,status.graph,five,none,100 = 0: output 0\n\nstop exit 5\nsteps 14\nwalk 5\ntrail 4000000c 40000040 40000044 40000048 4000004c\n;\
+    rvcfi,run,status.img,status.graph,late,none,100 = 0: output 0\n\nstop exit 0\nsteps 14\nwalk 5\ntrail 4000000c 40000040 40000044 40000048 4000004c\n;\
+    rvcfi,run,status.img,status.graph,twice,none,100 = 0: output 0\n\nstop exit 6\nsteps 14\nwalk 5\ntrail 4000000c 40000040 40000044 40000048 4000004c\n;\
+    rvcfi,run,status.img,status.graph,./none,none,100 = 0: output 0\n\nstop exit 9\nsteps 14\nwalk 5\ntrail 4000000c 40000040 40000044 40000048 4000004c\n;\
+    rvcfi,run,loop.img,loop.graph,none,none,100 = 0: output 0\n\nstop exit 7\nsteps 37\nwalk 21\ntrail 40000048 40000044 40000048 40000044 40000048 40000044 40000048 40000044 40000048 40000044 40000048 40000044 40000048 40000050 40000054 40000058\n;\
+    rvcfi,run,deep.img,deep.graph,none,none,1000000 = 10: output 0\n\nstop handler __cfi_deep\nsteps 114684\nwalk 40960\ntrail 4000004c 40000054 40000058 40000068 4000006c 4000004c 40000054 40000058 40000068 4000006c 4000004c 40000054 40000058 40000068 4000006c 40000008\n;\
+    rvcfi,run,break.img,break.graph,none,none,100 = 11: output 0\n\nstop break 40000040\nsteps 11\nwalk 2\ntrail 4000000c 40000040\n;\
+    rvcfi,run,load.img,load.graph,none,none,100 = 11: output 0\n\nstop load 40000044 0000000020000000\nsteps 12\nwalk 3\ntrail 4000000c 40000040 40000044\n;\
+    rvcfi,run,class.img,class.graph,none,none,100 = 1: rejected Astray 40000040\n;\
+    rvcfi,run,a.img,a.graph,range,none,100 = 1: refused 25 Script 2 Range\n;\
+    rvcfi,run,a.img,a.graph,form,none,100 = 1: refused 25 Script 2 Form\n;\
+    rvcfi,run,a.img,a.graph,order,none,100 = 1: refused 25 Script 3 Order\n;\
+    rvcfi,run,a.img,a.graph,empty,none,100 = 1: refused 25 Script 1 Form\n;\
+    rvcfi,run,a.img,b.graph,range,none,100 = 1: refused 25 Script 2 Range\n;\
+    rvcfi,run,a.img,b.graph,none,none,100 = 1: rejected Length 80 92\n;\
+    rvcfi,run,a.img,empty,range,none,100 = 1: refused 23 Graph 1 Form\n;\
+    rvcfi,run,empty,empty,range,none,100 = 1: refused 22 Short 0\n;\
+    rvcfi,run,a.img,a.graph,none,none = 2: usage: rvcfi rewrite|verify|run|compare|demo\n;\
+    rvcfi,run,a.img,a.graph,none,none,1,1 = 2: usage: rvcfi rewrite|verify|run|compare|demo\n;\
+    rvcfi,run,a.img,a.graph,none,none, = 2: usage: rvcfi rewrite|verify|run|compare|demo\n;\
+    rvcfi,run,a.img,a.graph,none,none,x = 2: usage: rvcfi rewrite|verify|run|compare|demo\n;\
+    rvcfi,run,a.img,a.graph,none,none,+1 = 2: usage: rvcfi rewrite|verify|run|compare|demo\n;\
+    rvcfi,run,a.img,a.graph,none,none,1  = 2: usage: rvcfi rewrite|verify|run|compare|demo\n;\
+    rvcfi,run,a.img,a.graph,none,none,1000000001 = 2: usage: rvcfi rewrite|verify|run|compare|demo\n;\
+    rvcfi,run,a.img,a.graph,none,none,00000000007 = 2: usage: rvcfi rewrite|verify|run|compare|demo\n;\
+    rvcfi,run,absent,nothing,gone,lost,1 = 3: read fault absent\n;\
+    rvcfi,run,a.img,nothing,gone,lost,1 = 3: read fault nothing\n;\
+    rvcfi,run,a.img,a.graph,gone,lost,1 = 3: read fault gone\n;\
+    rvcfi,run,empty,empty,none,lost,1 = 3: read fault lost\n;\
+    rvcfi,run,a.img,a.graph,none,long,1 = 6: too long long\n;\
+    rvcfi,run,a.img,a.graph,long,lost,1 = 6: too long long\n";
 
 #[test]
 fn runs(rt: HostRuntime) {
-    let alloc = rt.alloc();
-    let mut files = MemFiles::new(alloc, Vec::new(alloc));
-    assert!(rt; add_files(alloc, &mut files).is_ok());
-    assert!(rt; rows().count() == 44);
-    for row in rows() {
-        assert!(rt; is_answered(alloc, row, &mut files), "{row}");
-    }
+    check(&rt, rt.alloc(), RUNS, 44);
 }
