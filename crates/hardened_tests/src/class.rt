@@ -109,14 +109,16 @@ static LABELS: [(usize, &[u32], &[u32]); 22] = [
 /// The sets of a row.
 fn sets_of(alloc: Global, row: &[u64]) -> Result<Vec<Places>, AllocError> {
     let mut sets = Vec::new(alloc);
-    for list in row.split_inclusive(|number| *number == END) {
-        sets.push(Places::of(without_end(list).to_vec(alloc)?))?;
+    let mut set = Vec::new(alloc);
+    for number in row {
+        if *number == END {
+            sets.push(Places::of(set))?;
+            set = Vec::new(alloc);
+        } else {
+            set.push(*number)?;
+        }
     }
     Ok(sets)
-}
-
-fn without_end(list: &[u64]) -> &[u64] {
-    &list[..list.len().saturating_sub(1)]
 }
 
 #[test]

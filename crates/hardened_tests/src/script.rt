@@ -2,125 +2,95 @@ use cfi_step::{Meddler, Script, ScriptEnd};
 use rv_machine::{Change, Machine};
 use rv_word::{Image, NoMemory};
 use std::alloc::{AllocError, Global};
-use std::test::Fail;
 
 const FIRST: &[u8] = b"rvcfi-script 1\n";
 
-/// Texts, each without its first line where that is as above, with `|` for each newline, and what each
-/// is read as.
-const TEXTS: &[u8] = b"\
-    from 1:  = line 1: Form\n\
-    from 1: | = line 1: Form\n\
-    from 1: end| = line 1: Form\n\
-    from 1: rvcfi-script 1 = line 1: Form\n\
-    from 1: rvcfi-script 2|end| = line 1: Form\n\
-    from 1: rvcfi-script 1 |end| = line 1: Form\n\
-    from 1: rvcfi-script  1|end| = line 1: Form\n\
-    from 1: rvcfi-graph 1|end| = line 1: Form\n\
-    from 1: Rvcfi-script 1|end| = line 1: Form\n\
-    from 1: rvcfi-script 1\r|end\r| = line 1: Form\n\
-    from 2:  = line 2: Form\n\
-    from 2: end| = a script\n\
-    from 2: end = line 2: Form\n\
-    from 2: end|| = line 3: Form\n\
-    from 2: end|x = line 3: Form\n\
-    from 2: end|end| = line 3: Form\n\
-    from 2:  end| = line 2: Form\n\
-    from 2: end | = line 2: Form\n\
-    from 2: END| = line 2: Form\n\
-    from 2: |end| = line 2: Form\n\
-    from 2: at 1 10001000 00|end| = line 2: Range\n\
-    from 2: at 1 00010000 0|end| = line 2: Form\n\
-    from 2: at 2 00000000 00|at 1 00000000 00|end| = line 3: Order\n\
-    from 2: at 1 00000000 00| = line 3: Form\n\
-    from 2: at 1 00000000 00 = line 2: Form\n\
-    from 2: at 1 00000000 00|end = line 3: Form\n\
-    from 2: at 1 00000000 00||end| = line 3: Form\n\
-    from 2: at 1 00000000 00|end|at 1 00000000 00| = line 4: Form\n\
-    from 2: at  1 00000000 00|end| = line 2: Form\n\
-    from 2: at 1  00000000 00|end| = line 2: Form\n\
-    from 2: at 1 00000000  00|end| = line 2: Form\n\
-    from 2: at 1 00000000 00 |end| = line 2: Form\n\
-    from 2:  at 1 00000000 00|end| = line 2: Form\n\
-    from 2: at\t1 00000000 00|end| = line 2: Form\n\
-    from 2: at 1 00000000 00\r|end| = line 2: Form\n\
-    from 2: At 1 00000000 00|end| = line 2: Form\n\
-    from 2: to 1 00000000 00|end| = line 2: Form\n\
-    from 2: at 1 0000000A 00|end| = line 2: Form\n\
-    from 2: at 1 0000000a 0A|end| = line 2: Form\n\
-    from 2: at 1 0000000a F0|end| = line 2: Form\n\
-    from 2: at 1 0000000a 0a|end| = a script\n\
-    from 2: at 0 00000000 00|end| = a script\n\
-    from 2: at 00 00000000 00|end| = line 2: Form\n\
-    from 2: at 01 00000000 00|end| = line 2: Form\n\
-    from 2: at -1 00000000 00|end| = line 2: Form\n\
-    from 2: at +1 00000000 00|end| = line 2: Form\n\
-    from 2: at a 00000000 00|end| = line 2: Form\n\
-    from 2: at 1a 00000000 00|end| = line 2: Form\n\
-    from 2: at : 00000000 00|end| = line 2: Form\n\
-    from 2: at / 00000000 00|end| = line 2: Form\n\
-    from 2: at 1000000000 00000000 00|end| = a script\n\
-    from 2: at 1000000001 00000000 00|end| = line 2: Range\n\
-    from 2: at 18446744073709551617 00000000 00|end| = line 2: Range\n\
-    from 2: at 9999999999999999999999999999999999999999 00000000 00|end| = line 2: Range\n\
-    from 2: at 0000000000000000000000000000000000000001 00000000 00|end| = line 2: Form\n\
-    from 2: at 999999999999999999999999999999999999999x 00000000 00|end| = line 2: Form\n\
-    from 2: at 1 0000000 00|end| = line 2: Form\n\
-    from 2: at 1 000000000 00|end| = line 2: Form\n\
-    from 2: at 1 g0000000 00|end| = line 2: Form\n\
-    from 2: at|end| = line 2: Form\n\
-    from 2: at 1|end| = line 2: Form\n\
-    from 2: at 1 00000000|end| = line 2: Form\n\
-    from 2: at 1 00000000 |end| = line 2: Form\n\
-    from 2: at 1 00000000 00 00|end| = line 2: Form\n\
-    from 2: at 1 00000000 000|end| = line 2: Form\n\
-    from 2: at 1 00000000 0g|end| = line 2: Form\n\
-    from 2: at 1 00000000 g0|end| = line 2: Form\n\
-    from 2: at 1 10000fff 00|end| = a script\n\
-    from 2: at 1 10000ffe 0000|end| = a script\n\
-    from 2: at 1 10000fff 0000|end| = line 2: Range\n\
-    from 2: at 1 40000000 00|end| = line 2: Range\n\
-    from 2: at 1 60000000 0000000000000000|end| = line 2: Range\n\
-    from 2: at 1 ffffffff 00|end| = line 2: Range\n\
-    from 2: at 1 ffffffff 0|end| = line 2: Form\n\
-    from 2: at 1000000001 10001000 0|end| = line 2: Form\n\
-    from 2: at 2 00000000 00|at 1 10001000 00|end| = line 3: Range\n\
-    from 2: at 2 00000000 00|at 1 10001000 0|end| = line 3: Form\n\
-    from 2: at 2 00000000 00|at 1 00000000 00|at x|end| = line 3: Order\n\
-    from 2: at 5 00000000 00|at 5 00000000 00|end| = a script\n\
-    from 2: at 5 00000000 00|at 7 00000000 00|at 6 00000000 00|end| = line 4: Order\n\
-    from 2: at 5 00000000 00|at 1000000001 00000000 00|end| = line 3: Range\n\
-    from 2: at 10 00000000 00|at 9 00000000 00|end| = line 3: Order\n\
-    from 2: at 9 00000000 00|at 10 00000000 00|end| = a script\n\
+/// Texts, and what each is read as, with `~` between two rows.
+const TEXTS: &str = "\
+    \x20= line 1: Form~\
+    \n = line 1: Form~\
+    end\n = line 1: Form~\
+    rvcfi-script 1 = line 1: Form~\
+    rvcfi-script 2\nend\n = line 1: Form~\
+    rvcfi-script 1 \nend\n = line 1: Form~\
+    rvcfi-script  1\nend\n = line 1: Form~\
+    rvcfi-graph 1\nend\n = line 1: Form~\
+    Rvcfi-script 1\nend\n = line 1: Form~\
+    rvcfi-script 1\r\nend\r\n = line 1: Form~\
+    rvcfi-script 1\n = line 2: Form~\
+    rvcfi-script 1\nend\n = a script~\
+    rvcfi-script 1\nend = line 2: Form~\
+    rvcfi-script 1\nend\n\n = line 3: Form~\
+    rvcfi-script 1\nend\nx = line 3: Form~\
+    rvcfi-script 1\nend\nend\n = line 3: Form~\
+    rvcfi-script 1\n end\n = line 2: Form~\
+    rvcfi-script 1\nend \n = line 2: Form~\
+    rvcfi-script 1\nEND\n = line 2: Form~\
+    rvcfi-script 1\n\nend\n = line 2: Form~\
+    rvcfi-script 1\nat 1 10001000 00\nend\n = line 2: Range~\
+    rvcfi-script 1\nat 1 00010000 0\nend\n = line 2: Form~\
+    rvcfi-script 1\nat 2 00000000 00\nat 1 00000000 00\nend\n = line 3: Order~\
+    rvcfi-script 1\nat 1 00000000 00\n = line 3: Form~\
+    rvcfi-script 1\nat 1 00000000 00 = line 2: Form~\
+    rvcfi-script 1\nat 1 00000000 00\nend = line 3: Form~\
+    rvcfi-script 1\nat 1 00000000 00\n\nend\n = line 3: Form~\
+    rvcfi-script 1\nat 1 00000000 00\nend\nat 1 00000000 00\n = line 4: Form~\
+    rvcfi-script 1\nat  1 00000000 00\nend\n = line 2: Form~\
+    rvcfi-script 1\nat 1  00000000 00\nend\n = line 2: Form~\
+    rvcfi-script 1\nat 1 00000000  00\nend\n = line 2: Form~\
+    rvcfi-script 1\nat 1 00000000 00 \nend\n = line 2: Form~\
+    rvcfi-script 1\n at 1 00000000 00\nend\n = line 2: Form~\
+    rvcfi-script 1\nat\t1 00000000 00\nend\n = line 2: Form~\
+    rvcfi-script 1\nat 1 00000000 00\r\nend\n = line 2: Form~\
+    rvcfi-script 1\nAt 1 00000000 00\nend\n = line 2: Form~\
+    rvcfi-script 1\nto 1 00000000 00\nend\n = line 2: Form~\
+    rvcfi-script 1\nat 1 0000000A 00\nend\n = line 2: Form~\
+    rvcfi-script 1\nat 1 0000000a 0A\nend\n = line 2: Form~\
+    rvcfi-script 1\nat 1 0000000a F0\nend\n = line 2: Form~\
+    rvcfi-script 1\nat 1 0000000a 0a\nend\n = a script~\
+    rvcfi-script 1\nat 0 00000000 00\nend\n = a script~\
+    rvcfi-script 1\nat 00 00000000 00\nend\n = line 2: Form~\
+    rvcfi-script 1\nat 01 00000000 00\nend\n = line 2: Form~\
+    rvcfi-script 1\nat -1 00000000 00\nend\n = line 2: Form~\
+    rvcfi-script 1\nat +1 00000000 00\nend\n = line 2: Form~\
+    rvcfi-script 1\nat a 00000000 00\nend\n = line 2: Form~\
+    rvcfi-script 1\nat 1a 00000000 00\nend\n = line 2: Form~\
+    rvcfi-script 1\nat : 00000000 00\nend\n = line 2: Form~\
+    rvcfi-script 1\nat / 00000000 00\nend\n = line 2: Form~\
+    rvcfi-script 1\nat 1000000000 00000000 00\nend\n = a script~\
+    rvcfi-script 1\nat 1000000001 00000000 00\nend\n = line 2: Range~\
+    rvcfi-script 1\nat 18446744073709551617 00000000 00\nend\n = line 2: Range~\
+    rvcfi-script 1\nat 9999999999999999999999999999999999999999 00000000 00\nend\n = line 2: Range~\
+    rvcfi-script 1\nat 0000000000000000000000000000000000000001 00000000 00\nend\n = line 2: Form~\
+    rvcfi-script 1\nat 999999999999999999999999999999999999999x 00000000 00\nend\n = line 2: Form~\
+    rvcfi-script 1\nat 1 0000000 00\nend\n = line 2: Form~\
+    rvcfi-script 1\nat 1 000000000 00\nend\n = line 2: Form~\
+    rvcfi-script 1\nat 1 g0000000 00\nend\n = line 2: Form~\
+    rvcfi-script 1\nat\nend\n = line 2: Form~\
+    rvcfi-script 1\nat 1\nend\n = line 2: Form~\
+    rvcfi-script 1\nat 1 00000000\nend\n = line 2: Form~\
+    rvcfi-script 1\nat 1 00000000 \nend\n = line 2: Form~\
+    rvcfi-script 1\nat 1 00000000 00 00\nend\n = line 2: Form~\
+    rvcfi-script 1\nat 1 00000000 000\nend\n = line 2: Form~\
+    rvcfi-script 1\nat 1 00000000 0g\nend\n = line 2: Form~\
+    rvcfi-script 1\nat 1 00000000 g0\nend\n = line 2: Form~\
+    rvcfi-script 1\nat 1 10000fff 00\nend\n = a script~\
+    rvcfi-script 1\nat 1 10000ffe 0000\nend\n = a script~\
+    rvcfi-script 1\nat 1 10000fff 0000\nend\n = line 2: Range~\
+    rvcfi-script 1\nat 1 40000000 00\nend\n = line 2: Range~\
+    rvcfi-script 1\nat 1 60000000 0000000000000000\nend\n = line 2: Range~\
+    rvcfi-script 1\nat 1 ffffffff 00\nend\n = line 2: Range~\
+    rvcfi-script 1\nat 1 ffffffff 0\nend\n = line 2: Form~\
+    rvcfi-script 1\nat 1000000001 10001000 0\nend\n = line 2: Form~\
+    rvcfi-script 1\nat 2 00000000 00\nat 1 10001000 00\nend\n = line 3: Range~\
+    rvcfi-script 1\nat 2 00000000 00\nat 1 10001000 0\nend\n = line 3: Form~\
+    rvcfi-script 1\nat 2 00000000 00\nat 1 00000000 00\nat x\nend\n = line 3: Order~\
+    rvcfi-script 1\nat 5 00000000 00\nat 5 00000000 00\nend\n = a script~\
+    rvcfi-script 1\nat 5 00000000 00\nat 7 00000000 00\nat 6 00000000 00\nend\n = line 4: Order~\
+    rvcfi-script 1\nat 5 00000000 00\nat 1000000001 00000000 00\nend\n = line 3: Range~\
+    rvcfi-script 1\nat 10 00000000 00\nat 9 00000000 00\nend\n = line 3: Order~\
+    rvcfi-script 1\nat 9 00000000 00\nat 10 00000000 00\nend\n = a script\
 ";
-
-/// What the text of a row begins with.
-fn head(text: &str) -> &'static [u8] {
-    if text.starts_with("from 2: ") {
-        FIRST
-    } else {
-        b""
-    }
-}
-
-/// What follows in a row.
-fn tail(text: &str) -> &[u8] {
-    text.as_bytes().get(8..).unwrap_or(&[])
-}
-
-/// The text that a row stands for.
-fn text_of(alloc: Global, head: &[u8], tail: &[u8]) -> Result<Vec<u8>, AllocError> {
-    let mut text = Vec::from_slice(alloc, head)?;
-    for byte in tail {
-        text.push(spelled(*byte))?;
-    }
-    Ok(text)
-}
-
-/// The byte that a row's byte stands for.
-fn spelled(byte: u8) -> u8 {
-    if byte == b'|' { b'\n' } else { byte }
-}
 
 /// Whether a text is read as this, in words.
 fn is_read_as(alloc: Global, text: &[u8], expected: &str) -> bool {
@@ -139,19 +109,19 @@ fn is_spelled(alloc: Global, end: ScriptEnd, expected: &str) -> bool {
 }
 
 /// Whether a row says what its text is read as.
-fn is_right(alloc: Global, row: &str) -> Result<bool, AllocError> {
+fn is_right(alloc: Global, row: &str) -> bool {
     let (text, expected) = row.split_once(" = ").unwrap_or((row, ""));
-    let text = text_of(alloc, head(text), tail(text))?;
-    Ok(is_read_as(alloc, &text, expected))
+    is_read_as(alloc, text.as_bytes(), expected)
 }
 
 #[test]
 fn script_texts(rt: HostRuntime) {
-    let rows = str::from_utf8(TEXTS).unwrap_or("");
-    assert!(rt; rows.lines().count() == 83);
-    for row in rows.lines() {
-        assert!(rt; matches!(is_right(rt.alloc(), row), Ok(true)), "{row}");
+    let mut count = 0_u32;
+    for row in TEXTS.split('~') {
+        assert!(rt; is_right(rt.alloc(), row), "{row}");
+        count = count.saturating_add(1);
     }
+    assert!(rt; count == 83);
 }
 
 #[test]
@@ -176,73 +146,73 @@ fn text_with(
     Ok(text)
 }
 
-/// The start of a line, how many times the digit 3 follows, and what the line is read as.
-struct Wide(&'static [u8], usize, &'static str);
-
-static WIDE: [Wide; 5] = [
-    Wide(b"at 4 00000000 ", 8192, "a script"),
-    Wide(b"at 4 00000000 ", 8194, "line 2: Form"),
-    Wide(b"at 4 00000000 ", 8191, "line 2: Form"),
-    Wide(b"at 4 10000000 ", 8192, "a script"),
-    Wide(b"at 4 10000001 ", 8192, "line 2: Range"),
-];
-
-/// Whether a wide line is read as its row says.
-fn is_wide(alloc: Global, row: &Wide) -> Result<bool, AllocError> {
-    let text = text_with(alloc, row.0, b"3", row.1, b"\nend\n")?;
-    Ok(is_read_as(alloc, &text, row.2))
-}
-
-#[test]
-fn wide_lines(rt: HostRuntime) {
-    for row in &WIDE {
-        let right = is_wide(rt.alloc(), row);
-        assert!(rt; matches!(right, Ok(true)), "{} digits", row.1);
-    }
-}
-
-/// The start of a text, what then follows how many times, and its end; how many changes the script has, and which
-/// is the last.
+/// A text: its start after the first line, what then follows how many times, and its end. Then how many changes
+/// it has and the last of them, or as what it is refused.
 struct Long(
     &'static [u8],
     &'static [u8],
     usize,
     &'static [u8],
-    usize,
-    (u64, u64, u8),
+    Result<(usize, (u64, u64, u8)), &'static str>,
 );
 
-static LONG: [Long; 3] = [
+static LONG: [Long; 6] = [
     Long(
         b"at 4 00000000 ",
         b"3",
         8192,
         b"\nend\n",
-        4096,
-        (4, 0xfff, 0x33),
+        Ok((4096, (4, 0xfff, 0x33))),
+    ),
+    Long(
+        b"at 4 00000000 ",
+        b"3",
+        8194,
+        b"\nend\n",
+        Err("line 2: Form"),
+    ),
+    Long(
+        b"at 4 00000000 ",
+        b"3",
+        8191,
+        b"\nend\n",
+        Err("line 2: Form"),
     ),
     Long(
         b"at 4 10000000 ",
         b"3",
         8192,
         b"\nend\n",
-        4096,
-        (4, 0x1000_0fff, 0x33),
+        Ok((4096, (4, 0x1000_0fff, 0x33))),
+    ),
+    Long(
+        b"at 4 10000001 ",
+        b"3",
+        8192,
+        b"\nend\n",
+        Err("line 2: Range"),
     ),
     Long(
         b"",
         b"at 8 00000020 5a\n",
         200_000,
         b"end\n",
-        200_000,
-        (8, 0x20, 0x5a),
+        Ok((200_000, (8, 0x20, 0x5a))),
     ),
 ];
 
 /// Whether a long text is read as its row says.
 fn is_long(alloc: Global, row: &Long) -> Result<bool, AllocError> {
     let text = text_with(alloc, row.0, row.1, row.2, row.3)?;
-    Ok(ends_so(alloc, &text, row.4, &row.5))
+    Ok(is_read_so(alloc, &text, &row.4))
+}
+
+/// Whether a text is read as a row says.
+fn is_read_so(alloc: Global, text: &[u8], read: &Result<(usize, (u64, u64, u8)), &str>) -> bool {
+    match read {
+        Ok((count, last)) => ends_so(alloc, text, *count, last),
+        Err(expected) => is_read_as(alloc, text, expected),
+    }
 }
 
 /// Whether a text is a script of so many changes, and this one last.
@@ -267,7 +237,7 @@ fn is_change(change: Option<&(u64, Change)>, row: &(u64, u64, u8)) -> bool {
 fn long_texts(rt: HostRuntime) {
     for row in &LONG {
         let right = is_long(rt.alloc(), row);
-        assert!(rt; matches!(right, Ok(true)), "{} changes", row.4);
+        assert!(rt; matches!(right, Ok(true)), "{} times", row.2);
     }
 }
 
@@ -399,45 +369,51 @@ fn plans(
     machine: &Machine,
     into: &mut Vec<Change>,
     row: &Planned,
-) -> Result<bool, NoMemory> {
+) -> bool {
     let from = into.len();
-    script.meddle(alloc, row.0, machine, into)?;
-    Ok(has_added(into, from, row.1))
+    script.meddle(alloc, row.0, machine, into).is_ok() && has_added(into, from, row.1)
 }
 
-/// After how many steps a script does not add the changes of its row, if there is such a row.
-fn missed_on(
+/// Whether a script adds the changes of each row; if not, the number of steps of the first that it does not.
+fn plans_each(
     alloc: Global,
     script: &mut Script,
     machine: &Machine,
     rows: &[Planned],
-) -> Result<Option<u64>, NoMemory> {
+) -> Result<(), u64> {
     let mut into = Vec::new(alloc);
     for row in rows {
-        if !plans(alloc, script, machine, &mut into, row)? {
-            return Ok(Some(row.0));
+        if !plans(alloc, script, machine, &mut into, row) {
+            return Err(row.0);
         }
     }
-    Ok(None)
+    Ok(())
 }
 
 /// The same on a machine that has not run.
-fn missed(alloc: Global, script: &mut Script, rows: &[Planned]) -> Result<Option<u64>, NoMemory> {
-    let machine = machine(alloc)?;
-    missed_on(alloc, script, &machine, rows)
+fn plans_so(alloc: Global, script: &mut Script, rows: &[Planned]) -> Result<(), u64> {
+    match machine(alloc) {
+        Ok(machine) => plans_each(alloc, script, &machine, rows),
+        Err(NoMemory) => Err(0),
+    }
+}
+
+/// The same of a script that is read.
+fn is_planned_so(alloc: Global, text: &[u8], rows: &[Planned]) -> Result<(), u64> {
+    match Script::read(alloc, text) {
+        Ok(mut script) => plans_so(alloc, &mut script, rows),
+        Err(_) => Err(0),
+    }
 }
 
 #[test]
-fn planned_changes(rt: HostRuntime) -> Result<(), Fail> {
-    let mut script = Script::read(rt.alloc(), LINES)?;
-    let missed = missed(rt.alloc(), &mut script, &PLANNED)?;
-    assert!(rt; missed.is_none(), "step {}", missed.unwrap_or(0));
-    Ok(())
+fn planned_changes(rt: HostRuntime) {
+    let planned = is_planned_so(rt.alloc(), LINES, &PLANNED);
+    assert!(rt; planned.is_ok(), "step {}", planned.err().unwrap_or(0));
 }
 
 #[test]
 fn no_script(rt: HostRuntime) {
     let mut script = Script::none(rt.alloc());
-    let missed = missed(rt.alloc(), &mut script, &[Planned(3, &[])]);
-    assert!(rt; matches!(missed, Ok(None)));
+    assert!(rt; plans_so(rt.alloc(), &mut script, &[Planned(3, &[])]).is_ok());
 }

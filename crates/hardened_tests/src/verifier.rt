@@ -1,5 +1,5 @@
 use crate::programs::{B, code};
-use cfi_graph::read_graph;
+use cfi_graph::{Graph, read_graph};
 use cfi_unit::Unit;
 use cfi_verify::{Checked, Place, Reject, Rule, VerifyEnd, verify};
 use rv_word::Image;
@@ -30,12 +30,28 @@ enum Outcome {
     Other,
 }
 
-/// How the verifier answered.
-fn outcome_of(verdict: Result<Checked<'_>, VerifyEnd>) -> Outcome {
-    match verdict {
-        Ok(checked) if tells_its_parts(&checked) => Outcome::Accepted,
-        Err(VerifyEnd::Reject(Reject::At(Rule::Target, 0x4000_0040))) => Outcome::Rejected,
+/// The outcome of an accepted pair.
+fn accepted(checked: &Checked<'_>) -> Outcome {
+    if tells_its_parts(checked) {
+        Outcome::Accepted
+    } else {
+        Outcome::Other
+    }
+}
+
+/// The outcome of a pair that is not accepted.
+fn rejected(end: &VerifyEnd) -> Outcome {
+    match end {
+        VerifyEnd::Reject(Reject::At(Rule::Target, 0x4000_0040)) => Outcome::Rejected,
         _ => Outcome::Other,
+    }
+}
+
+/// How the verifier answers.
+fn verified(alloc: Global, image: &Image<'_>, graph: &Graph) -> Outcome {
+    match verify(alloc, image, graph) {
+        Ok(checked) => accepted(&checked),
+        Err(end) => rejected(&end),
     }
 }
 
@@ -43,7 +59,7 @@ fn outcome_of(verdict: Result<Checked<'_>, VerifyEnd>) -> Outcome {
 fn answer(alloc: Global, units: &[u32]) -> Outcome {
     let bytes = code::<92>(units);
     match read_graph(alloc, B_GRAPH) {
-        Ok(graph) => outcome_of(verify(alloc, &Image::of(&bytes, &[]), &graph)),
+        Ok(graph) => verified(alloc, &Image::of(&bytes, &[]), &graph),
         Err(_) => Outcome::Other,
     }
 }
