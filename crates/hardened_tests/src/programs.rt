@@ -42,6 +42,14 @@ pub(crate) fn code<const N: usize>(units: &[u32]) -> [u8; N] {
 
 /// The byte of the prologue and some units at an offset.
 fn byte_at(units: &[u32], at: usize) -> u8 {
-    let word = HEAD.iter().chain(units).nth(at / 4);
-    word.unwrap_or(&0).to_le_bytes()[at % 4]
+    word_at(units, at / 4).to_le_bytes()[at % 4]
+}
+
+/// The word of the prologue and some units at an index.
+fn word_at(units: &[u32], index: usize) -> u32 {
+    if index < HEAD.len() {
+        HEAD[index]
+    } else {
+        *units.get(index - HEAD.len()).unwrap_or(&0)
+    }
 }

@@ -69,24 +69,9 @@ fn is_zero_at(made: &(u64, Change), addr: u64) -> bool {
     made.0 == 15 && made.1.addr() == addr && made.1.byte() == 0
 }
 
-/// The hostile meddler finds the saved return address as soon as it is on the stack.
-#[test]
-fn hostile(rt: HostRuntime) {
-    assert!(rt; finds_the_saved_address(rt.alloc()));
-}
-
-/// Whether a run under the hostile meddler is caught, since that address was changed.
-fn finds_the_saved_address(alloc: Global) -> bool {
-    match report(alloc, &mut Hostile, 100) {
-        Some(report) => is_caught(&report) && zeroes_the_saved_address(report.made.as_slice()),
-        None => false,
-    }
-}
-
 /// Whether a run comes to the handler of returns along the trail.
 fn is_caught(report: &RunReport) -> bool {
     matches!(report.end, RunEnd::Handler(Handler::BadReturn))
-        && report.steps == 47
         && report.walk == 13
         && report.trail.as_slice() == TRAIL.as_slice()
 }
@@ -102,10 +87,11 @@ fn is_same(one: &RunReport, other: &RunReport) -> bool {
         && one.events.len() == other.events.len()
 }
 
-/// A run under the changes that another one made has the same report.
+/// The hostile meddler finds the saved return address as soon as it is on the stack. A run under the changes that
+/// another one made has the same report.
 #[test]
-fn replayed(rt: HostRuntime) {
-    for limit in [0, 15, 16, 46, 47, 1000] {
+fn hostile_and_replayed(rt: HostRuntime) {
+    for limit in [0, 15, 16, 46, 47, 100, 1000] {
         assert!(rt; is_replayed(rt.alloc(), limit), "{limit}");
     }
 }
@@ -136,9 +122,21 @@ fn again(alloc: Global, first: &RunReport, limit: u64) -> Option<RunReport>
     report(alloc, &mut script, limit)
 }
 
-/// Whether a run has as many steps as a limit leaves of 47, and made eight changes after fifteen.
+/// Whether a run has as many steps as a limit leaves of 47, after fifteen of which the saved return address
+/// is zeroed; with more it is caught.
 fn has_run(report: &RunReport, limit: u64) -> bool {
-    report.steps == limit.min(47) && report.made.len() == if limit > 15 { 8 } else { 0 }
+    report.steps == limit.min(47)
+        && has_made(report.made.as_slice(), limit)
+        && (limit <= 47 || is_caught(report))
+}
+
+/// Whether the changes are those that a run makes to a limit.
+fn has_made(made: &[(u64, Change)], limit: u64) -> bool {
+    if limit > 15 {
+        zeroes_the_saved_address(made)
+    } else {
+        made.is_empty()
+    }
 }
 
 /// A change of the pointer before the first step sends the call to the other function; what its

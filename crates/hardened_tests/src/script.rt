@@ -3,8 +3,6 @@ use rv_machine::{Change, Machine};
 use rv_word::{Image, NoMemory};
 use std::alloc::{AllocError, Global};
 
-const FIRST: &[u8] = b"rvcfi-script 1\n";
-
 /// Texts, and what each is read as, with `~` between two rows.
 const TEXTS: &str = "\
     \x20= line 1: Form~\
@@ -129,7 +127,7 @@ fn no_text(rt: HostRuntime) {
     assert!(rt; is_read_as(rt.alloc(), b"\xff\n", "line 1: Form"));
 }
 
-/// The first line, a start, so many times a piece, and an end.
+/// A start, so many times a piece, and an end.
 fn text_with(
     alloc: Global,
     start: &[u8],
@@ -137,8 +135,7 @@ fn text_with(
     count: usize,
     end: &[u8],
 ) -> Result<Vec<u8>, AllocError> {
-    let mut text = Vec::from_slice(alloc, FIRST)?;
-    text.extend_from_slice(start)?;
+    let mut text = Vec::from_slice(alloc, start)?;
     for _ in 0..count {
         text.extend_from_slice(piece)?;
     }
@@ -146,7 +143,7 @@ fn text_with(
     Ok(text)
 }
 
-/// A text: its start after the first line, what then follows how many times, and its end. Then how many changes
+/// A text: its start, what then follows how many times, and its end. Then how many changes
 /// it has and the last of them, or as what it is refused.
 struct Long(
     &'static [u8],
@@ -158,42 +155,42 @@ struct Long(
 
 static LONG: [Long; 6] = [
     Long(
-        b"at 4 00000000 ",
+        b"rvcfi-script 1\nat 4 00000000 ",
         b"3",
         8192,
         b"\nend\n",
         Ok((4096, (4, 0xfff, 0x33))),
     ),
     Long(
-        b"at 4 00000000 ",
+        b"rvcfi-script 1\nat 4 00000000 ",
         b"3",
         8194,
         b"\nend\n",
         Err("line 2: Form"),
     ),
     Long(
-        b"at 4 00000000 ",
+        b"rvcfi-script 1\nat 4 00000000 ",
         b"3",
         8191,
         b"\nend\n",
         Err("line 2: Form"),
     ),
     Long(
-        b"at 4 10000000 ",
+        b"rvcfi-script 1\nat 4 10000000 ",
         b"3",
         8192,
         b"\nend\n",
         Ok((4096, (4, 0x1000_0fff, 0x33))),
     ),
     Long(
-        b"at 4 10000001 ",
+        b"rvcfi-script 1\nat 4 10000001 ",
         b"3",
         8192,
         b"\nend\n",
         Err("line 2: Range"),
     ),
     Long(
-        b"",
+        b"rvcfi-script 1\n",
         b"at 8 00000020 5a\n",
         200_000,
         b"end\n",
@@ -241,14 +238,14 @@ fn long_texts(rt: HostRuntime) {
     }
 }
 
-/// Lines of a script, and the changes that they stand for.
+/// A script, and its changes.
 struct Accepted(&'static [u8], &'static [(u64, u64, u8)]);
 
 static ACCEPTED: [Accepted; 5] = [
-    Accepted(b"", &[]),
-    Accepted(b"at 0 00000000 ff\n", &[(0, 0, 255)]),
+    Accepted(b"rvcfi-script 1\nend\n", &[]),
+    Accepted(b"rvcfi-script 1\nat 0 00000000 ff\nend\n", &[(0, 0, 255)]),
     Accepted(
-        b"at 40 0ffffff8 e4000040\n",
+        b"rvcfi-script 1\nat 40 0ffffff8 e4000040\nend\n",
         &[
             (40, 0x0fff_fff8, 0xe4),
             (40, 0x0fff_fff9, 0),
@@ -257,7 +254,7 @@ static ACCEPTED: [Accepted; 5] = [
         ],
     ),
     Accepted(
-        b"at 7 00010000 0a\nat 7 0000ffff 1b2c\nat 7 00010000 3d\n",
+        b"rvcfi-script 1\nat 7 00010000 0a\nat 7 0000ffff 1b2c\nat 7 00010000 3d\nend\n",
         &[
             (7, 65536, 10),
             (7, 65535, 27),
@@ -266,7 +263,7 @@ static ACCEPTED: [Accepted; 5] = [
         ],
     ),
     Accepted(
-        b"at 9 10000fff 01\nat 10 00000000 9f\nat 1000000000 0badcafe 10\n",
+        b"rvcfi-script 1\nat 9 10000fff 01\nat 10 00000000 9f\nat 1000000000 0badcafe 10\nend\n",
         &[
             (9, 0x1000_0fff, 1),
             (10, 0, 0x9f),
@@ -302,16 +299,10 @@ fn is_script(alloc: Global, text: &[u8], rows: &[(u64, u64, u8)]) -> bool {
     }
 }
 
-/// Whether the lines are read as their changes.
-fn is_accepted(alloc: Global, row: &Accepted) -> Result<bool, AllocError> {
-    let text = text_with(alloc, row.0, b"", 0, b"end\n")?;
-    Ok(is_script(alloc, &text, row.1))
-}
-
 #[test]
 fn accepted_scripts(rt: HostRuntime) {
     for row in &ACCEPTED {
-        assert!(rt; matches!(is_accepted(rt.alloc(), row), Ok(true)));
+        assert!(rt; is_script(rt.alloc(), row.0, row.1));
     }
 }
 
@@ -338,8 +329,9 @@ fn machine(alloc: Global) -> Result<Machine, NoMemory> {
     Machine::new(alloc, &Image::of(&[0x73, 0, 0, 0], &[]), &[])
 }
 
-/// Whether the changes from an index on have these addresses and bytes.
-fn go_on(changes: &[Change], from: usize, rows: &[(u64, u8)]) -> bool {
+/// Whether the changes from an index on have these addresses and bytes. (A slice, made where a call has
+/// changed the vector, is slow to check.)
+fn go_on(changes: &Vec<Change>, from: usize, rows: &[(u64, u8)]) -> bool {
     let rest = changes.get(from..).unwrap_or(&[]);
     for (k, row) in rows.iter().enumerate() {
         if !is_planned(rest.get(k), row) {
@@ -357,11 +349,6 @@ fn is_planned(change: Option<&Change>, row: &(u64, u8)) -> bool {
     }
 }
 
-/// The same of a vector. (A slice of it, made where a call has changed it, is slow to check.)
-fn has_added(changes: &Vec<Change>, from: usize, rows: &[(u64, u8)]) -> bool {
-    go_on(changes.as_slice(), from, rows)
-}
-
 /// Whether a script adds the changes of a row.
 fn plans(
     alloc: Global,
@@ -371,7 +358,7 @@ fn plans(
     row: &Planned,
 ) -> bool {
     let from = into.len();
-    script.meddle(alloc, row.0, machine, into).is_ok() && has_added(into, from, row.1)
+    script.meddle(alloc, row.0, machine, into).is_ok() && go_on(into, from, row.1)
 }
 
 /// Whether a script adds the changes of each row; if not, the number of steps of the first that it does not.

@@ -173,12 +173,7 @@ fn first_wrong(alloc: Global, units: &[Unit], words: &[u32]) -> Option<u64> {
 /// The words of some units are just these.
 fn have_words(rt: &impl Abort, alloc: Global, units: &[Unit], words: &[u32]) {
     let wrong = first_wrong(alloc, units, words);
-    let at = wrong.unwrap_or(0);
-    let count = words.len();
-    assert!(rt;
-        wrong.is_none(),
-        "the unit at {at:x} of the object of {count} words"
-    );
+    assert!(rt; wrong.is_none(), "the unit at {:x}", wrong.unwrap_or(0));
 }
 
 #[test]
@@ -231,7 +226,7 @@ fn is_refused(alloc: Global, row: &Spoilt) -> Result<bool, AllocError> {
 fn refused(rt: HostRuntime) {
     for row in &SPOILT {
         let right = is_refused(rt.alloc(), row);
-        assert!(rt; matches!(right, Ok(true)), "{:x} {:x}", row.1, row.2);
+        assert!(rt; matches!(right, Ok(true)), "with {:x}", row.3);
     }
 }
 
