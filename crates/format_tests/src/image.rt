@@ -52,6 +52,7 @@ static HEADERS: [[u8; 8]; 29] = [
 
 /// How long the image of the code and 4 bytes of data is made, with zeros past its own end, what is put in
 /// place of its bytes, and where, and what the reader says.
+#[rattlefmt::skip]
 static CHANGES: [(usize, usize, &[u8], Option<ImageRefusal>); 37] = [
     (8196, 0, &[0x7e], Some(ImageRefusal::Byte(0))),
     (8196, 6, &[2], Some(ImageRefusal::Byte(0))),
@@ -73,12 +74,7 @@ static CHANGES: [(usize, usize, &[u8], Option<ImageRefusal>); 37] = [
     (8196, 124, &[7], Some(ImageRefusal::Byte(124))),
     (8196, 152, &[0], Some(ImageRefusal::Byte(72))),
     (8196, 152, &[82], Some(ImageRefusal::Byte(152))),
-    (
-        8196,
-        152,
-        &[0xfc, 0xff, 0xff, 0xff, 0xff, 0xff, 0xff, 0xff],
-        Some(ImageRefusal::Byte(72)),
-    ),
+    (8196, 152, &[0xfc, 0xff, 0xff, 0xff, 0xff, 0xff, 0xff, 0xff], Some(ImageRefusal::Byte(72))),
     (8196, 160, &[1], Some(ImageRefusal::Byte(160))),
     (8196, 218, &[2], Some(ImageRefusal::Byte(216))),
     (8196, 231, &[1], Some(ImageRefusal::Byte(224))),

@@ -14,14 +14,9 @@ const RELOCATION: &[usize] = &[8, 4, 4, 8];
 /// The fields of the object that the tests change: where they begin, their values and their sizes.
 /// A symbol has a name, info, other, section, value and size; a section's header a name, type, flags,
 /// address, offset, size, link, info, alignment and entry size.
+#[rattlefmt::skip]
 static FIELDS: [(usize, &[u64], &[usize]); 25] = [
-    (
-        0,
-        &[
-            0x464c457f, 0x010102, 0, 1, 243, 1, 0, 0, 512, 0, 64, 0, 0, 64, 10, 9,
-        ],
-        HEADER,
-    ),
+    (0, &[0x464c457f, 0x010102, 0, 1, 243, 1, 0, 0, 512, 0, 64, 0, 0, 64, 10, 9], HEADER),
     (72, &[4, 51, 1, u64::MAX - 1], RELOCATION),
     (112, &[0, 57, 1, 0], RELOCATION),
     (136, &[0, 0, 0, 0, 0, 0], SYMBOL),

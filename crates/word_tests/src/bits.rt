@@ -1,5 +1,5 @@
 use rv_word::{Bytes, Image, Places, add64, field, low32, sext};
-use std::test::Fail;
+use std::alloc::Global;
 
 /// A number, how many bits of it count, and these sign-extended.
 static EXTENDED: [(u64, u32, u64); 8] = [
@@ -24,51 +24,106 @@ static FIELDS: [(u32, u32, u32, u32); 7] = [
     (0xff81_bf83, 32, 0, 0),
 ];
 
+/// The list of the bytes.
+static BYTES: [u8; 3] = [1, 2, 3];
+
+/// The list of the places.
+static PLACES: [u64; 3] = [4, 8, u64::MAX];
+
+/// The code and the data of an image.
+static CODE: [u8; 4] = [0x73, 0, 0x10, 0];
+
+static INIT: [u8; 2] = [7, 8];
+
+/// Whether a number is sign-extended as a row says.
+fn is_extended(row: &(u64, u32, u64)) -> bool {
+    let &(value, bits, want) = row;
+    1 <= bits && bits <= 64 && sext(value, bits) == want
+}
+
 #[test]
 fn signs_are_extended(rt: HostRuntime) {
-    for &(value, bits, want) in &EXTENDED {
-        assert!(rt; 1 <= bits && bits <= 64);
-        assert_eq!(rt; sext(value, bits), want, "{value:x} of {bits} bits");
+    for row in &EXTENDED {
+        assert!(rt; is_extended(row), "{:x}", row.0);
     }
+}
+
+/// Whether a word has the field that a row says.
+fn has_field(row: &(u32, u32, u32, u32)) -> bool {
+    let &(word, lo, len, want) = row;
+    lo <= 32 && len <= 32 - lo && field(word, lo, len) == want
 }
 
 #[test]
 fn fields_of_a_word(rt: HostRuntime) {
-    for &(word, lo, len, want) in &FIELDS {
-        assert!(rt; lo <= 32 && len <= 32 - lo);
-        assert_eq!(rt; field(word, lo, len), want, "{lo} {len}");
+    for k in 0..FIELDS.len() {
+        assert!(rt; has_field(&FIELDS[k]), "field {k}");
     }
 }
 
 #[test]
 fn sums_and_low_halves(rt: HostRuntime) {
-    assert_eq!(rt; add64(8, -16), 0xffff_ffff_ffff_fff8);
-    assert_eq!(rt; add64(u64::MAX, 1), 0);
-    assert_eq!(rt; low32(0x1234_5678_9abc_def0), 0x9abc_def0);
+    assert!(rt; add64(8, -16) == 0xffff_ffff_ffff_fff8);
+    assert!(rt; add64(u64::MAX, 1) == 0);
+    assert!(rt; low32(0x1234_5678_9abc_def0) == 0x9abc_def0);
+}
+
+/// Whether bytes hold the list.
+fn hold_the_list(bytes: &Bytes) -> bool {
+    bytes.as_slice() == BYTES.as_slice() && bytes.len() == 3 && !bytes.is_empty()
+}
+
+/// Whether bytes hold the list, and give it as a vector.
+fn give_the_list(bytes: Bytes) -> bool {
+    hold_the_list(&bytes) && bytes.into_vec().as_slice() == BYTES.as_slice()
+}
+
+/// Whether the bytes that are made of the list hold and give it.
+fn are_made_of_the_list(alloc: Global) -> bool {
+    match BYTES.to_vec(alloc) {
+        Ok(list) => give_the_list(Bytes::of(list)),
+        Err(_) => false,
+    }
 }
 
 #[test]
-fn bytes_are_a_list(rt: HostRuntime) -> Result<(), Fail> {
-    let bytes = Bytes::of([1, 2, 3].to_vec(rt.alloc())?);
-    assert_eq!(rt; bytes.as_slice(), [1, 2, 3].as_slice());
-    assert_eq!(rt; bytes.len(), 3);
-    assert!(rt; !bytes.is_empty());
-    assert_eq!(rt; bytes.into_vec().as_slice(), [1, 2, 3].as_slice());
-    Ok(())
+fn bytes_are_a_list(rt: HostRuntime) {
+    assert!(rt; are_made_of_the_list(rt.alloc()));
+}
+
+/// Whether places hold the list.
+fn hold_all_places(places: &Places) -> bool {
+    places.as_slice() == PLACES.as_slice() && places.len() == 3
+}
+
+/// Whether places hold the list once its last is pushed.
+fn take_the_last(places: &mut Places) -> bool {
+    places.push(u64::MAX).is_ok() && hold_all_places(places)
+}
+
+/// Whether the places that are made of the first two take the last.
+fn are_made_of_the_first(alloc: Global) -> bool {
+    match [4, 8].to_vec(alloc) {
+        Ok(list) => {
+            let mut places = Places::of(list);
+            take_the_last(&mut places)
+        }
+        Err(_) => false,
+    }
 }
 
 #[test]
-fn places_are_a_list(rt: HostRuntime) -> Result<(), Fail> {
-    let mut places = Places::of([4, 8].to_vec(rt.alloc())?);
-    places.push(u64::MAX)?;
-    assert_eq!(rt; places.as_slice(), [4, 8, u64::MAX].as_slice());
-    assert_eq!(rt; places.len(), 3);
-    Ok(())
+fn places_are_a_list(rt: HostRuntime) {
+    assert!(rt; are_made_of_the_first(rt.alloc()));
+}
+
+/// Whether an image has the bytes of which it is made.
+fn has_its_bytes() -> bool {
+    let image = Image::of(&CODE, &INIT);
+    image.code() == CODE.as_slice() && image.init() == INIT.as_slice()
 }
 
 #[test]
 fn an_image_has_its_bytes(rt: HostRuntime) {
-    let image = Image::of(&[0x73, 0, 0x10, 0], &[7, 8]);
-    assert_eq!(rt; image.code(), [0x73, 0, 0x10, 0].as_slice());
-    assert_eq!(rt; image.init(), [7, 8].as_slice());
+    assert!(rt; has_its_bytes());
 }
