@@ -1,9 +1,8 @@
 use crate::rows::{number, rows, word};
 use rv_instr::Reg;
 use rv_machine::{Change, Machine, Turn};
-use rv_word::{Image, NoMemory};
-use std::alloc::Global;
-use std::process::Abort;
+use rv_word::Image;
+use std::alloc::{AllocError, Global};
 
 /// Where the instruction that is tested stands, after five others.
 const TESTED: u64 = 0x4000_0020;
@@ -230,8 +229,12 @@ static STOPS: [Stop; 25] = [
     (0x0005_0067, 0x6000_0000, 2, Turn::FetchFault(0x6000_0000)),
 ];
 
-/// lui x5, 10h; ld x10, 0(x5); ld x11, 8(x5); ld x12, 16(x5); addi x13, x5, 32.
-static LOADS: [u32; 5] = [
+/// Three words that are not executed; lui x5, 10h; ld x10, 0(x5); ld x11, 8(x5); ld x12, 16(x5); addi x13,
+/// x5, 32.
+static LOADS: [u32; 8] = [
+    0,
+    0,
+    0,
     0x0001_02b7,
     0x0002_b503,
     0x0082_b583,
@@ -239,29 +242,23 @@ static LOADS: [u32; 5] = [
     0x0202_8693,
 ];
 
-/// A machine that is about to execute a word, with these numbers in x10 and x11.
-fn machine(rt: &impl Abort, alloc: Global, word: u32, a: u64, b: u64) -> Result<Machine, NoMemory> {
-    let code = loading(alloc, word)?;
-    let data = numbers(alloc, a, b)?;
-    let mut machine = loaded(rt, alloc, &code, &data)?;
-    for _ in 0..LOADS.len() {
-        assert!(rt; runs(&mut machine)?);
+fn add_words(bytes: &mut Vec<u8>, words: &[u32]) -> Result<(), AllocError> {
+    for word in words {
+        bytes.extend_from_slice(&word.to_le_bytes())?;
     }
-    Ok(machine)
+    Ok(())
 }
 
-/// The code with a word after the loads.
-fn loading(alloc: Global, word: u32) -> Result<Vec<u8>, NoMemory> {
-    let mut code = vec![in alloc; 0; 12]?;
-    for word in &LOADS {
-        code.extend_from_slice(&word.to_le_bytes())?;
-    }
-    code.extend_from_slice(&word.to_le_bytes())?;
-    Ok(code)
+/// The bytes of some words and then others.
+fn code(alloc: Global, words: &[u32], others: &[u32]) -> Result<Vec<u8>, AllocError> {
+    let mut bytes = Vec::new(alloc);
+    add_words(&mut bytes, words)?;
+    add_words(&mut bytes, others)?;
+    Ok(bytes)
 }
 
 /// The data that the loads read.
-fn numbers(alloc: Global, a: u64, b: u64) -> Result<Vec<u8>, NoMemory> {
+fn numbers(alloc: Global, a: u64, b: u64) -> Result<Vec<u8>, AllocError> {
     let mut data = Vec::new(alloc);
     for number in [a, b, X12, 0, BYTES, MORE_BYTES] {
         data.extend_from_slice(&number.to_le_bytes())?;
@@ -269,27 +266,47 @@ fn numbers(alloc: Global, a: u64, b: u64) -> Result<Vec<u8>, NoMemory> {
     Ok(data)
 }
 
-/// The machine at the start of some code over some data.
-fn loaded(rt: &impl Abort, alloc: Global, code: &[u8], data: &[u8]) -> Result<Machine, NoMemory> {
+/// The machine at the start of some code over some data; none of code that no image may have.
+fn loaded(alloc: Global, code: &[u8], data: &[u8]) -> Option<Machine> {
     let (len, init) = (code.len(), data.len());
-    assert!(rt; 4 <= len && len <= 0x10_0000 && len % 4 == 0 && init <= 0x200_0000);
-    Machine::new(alloc, &Image::of(code, data), &[])
+    if len < 4 || len > 0x10_0000 || len % 4 != 0 || init > 0x200_0000 {
+        return None;
+    }
+    Machine::new(alloc, &Image::of(code, data), &[]).ok()
 }
 
-/// The machine that is about to execute a row of `STEPS`; none where the row has not its numbers.
-fn before(rt: &impl Abort, alloc: Global, row: &str) -> Result<Option<Machine>, NoMemory> {
+/// A machine that executes a word after the loads, with these numbers in x10 and x11.
+fn machine(alloc: Global, word: u32, a: u64, b: u64) -> Option<Machine> {
+    let Ok(code) = code(alloc, &LOADS, &[word]) else {
+        return None;
+    };
+    let Ok(data) = numbers(alloc, a, b) else {
+        return None;
+    };
+    loaded(alloc, &code, &data)
+}
+
+/// The machine of a row of `STEPS`; none where the row has not its numbers.
+fn machine_of(alloc: Global, row: &str) -> Option<Machine> {
     match (word(row, 1), number(row, 2), number(row, 3)) {
-        (Some(word), Some(a), Some(b)) => Ok(Some(machine(rt, alloc, word, a, b)?)),
-        _ => Ok(None),
+        (Some(word), Some(a), Some(b)) => machine(alloc, word, a, b),
+        _ => None,
     }
 }
 
-/// Whether a machine does what a row of `STEPS` says.
-fn step_does(rt: &impl Abort, alloc: Global, row: &str) -> Result<bool, NoMemory> {
-    match before(rt, alloc, row)? {
-        Some(mut machine) => Ok(runs(&mut machine)? && is_after(&machine, row)),
-        None => Ok(false),
+/// Whether a step ends in a way.
+fn ends(machine: &mut Machine, turn: Turn) -> bool {
+    machine.step() == Ok(turn)
+}
+
+/// Whether so many steps run.
+fn runs(machine: &mut Machine, steps: u8) -> bool {
+    for _ in 0..steps {
+        if !ends(machine, Turn::Ran) {
+            return false;
+        }
     }
+    true
 }
 
 /// Whether a machine is as a row has it after its instruction.
@@ -299,39 +316,36 @@ fn is_after(machine: &Machine, row: &str) -> bool {
         && number(row, 6) == machine.mem().read(0x1_0020, 8).ok()
 }
 
-/// One row of `STOPS`.
-fn step_stops(rt: &impl Abort, alloc: Global, row: &Stop) -> Result<bool, NoMemory> {
-    let (word, a, steps, turn) = *row;
-    let mut machine = machine(rt, alloc, word, a, 0)?;
-    ends_so(&mut machine, steps, turn)
-}
-
-/// Whether the last of some steps has an end.
-fn ends_so(machine: &mut Machine, steps: u8, turn: Turn) -> Result<bool, NoMemory> {
-    for _ in 1..steps {
-        machine.step()?;
+/// Whether the five loads and an instruction do what a row of `STEPS` says.
+fn step_does(alloc: Global, row: &str) -> bool {
+    match machine_of(alloc, row) {
+        Some(mut machine) => runs(&mut machine, 6) && is_after(&machine, row),
+        None => false,
     }
-    Ok(machine.step()? == turn)
 }
 
 #[test]
-fn instructions_do_as_under_qemu(rt: HostRuntime) -> Result<(), NoMemory> {
-    let mut count = 0_u32;
+fn instructions_do_as_under_qemu(rt: HostRuntime) {
+    assert!(rt; rows(STEPS).count() == 120);
     for row in rows(STEPS) {
-        assert!(rt; step_does(&rt, rt.alloc(), row)?, "{row}");
-        count = count.saturating_add(1);
+        assert!(rt; step_does(rt.alloc(), row), "{row}");
     }
-    assert_eq!(rt; count, 120);
-    Ok(())
+}
+
+/// Whether the last of the steps of a row of `STOPS`, after the five loads, ends as it says.
+fn step_stops(alloc: Global, row: &Stop) -> bool {
+    match machine(alloc, row.0, row.1, 0) {
+        Some(mut machine) => runs(&mut machine, row.2.saturating_add(4))
+            && ends(&mut machine, row.3),
+        None => false,
+    }
 }
 
 #[test]
-fn instructions_stop(rt: HostRuntime) -> Result<(), NoMemory> {
+fn instructions_stop(rt: HostRuntime) {
     for row in &STOPS {
-        let right = step_stops(&rt, rt.alloc(), row)?;
-        assert!(rt; right, "{:x} of {:x}", row.0, row.1);
+        assert!(rt; step_stops(rt.alloc(), row), "{:x} of {:x}", row.0, row.1);
     }
-    Ok(())
 }
 
 /// The prologue, as binutils assemble tests/units/prologue.s.
@@ -355,10 +369,10 @@ static PROLOGUE: [u32; 16] = [
 ];
 
 /// A program that exits with 7, of tests/units/exits.s.
-static EXITS_WITH_7: [u32; 4] = [0x0070_0513, 0x05d0_0893, 0x0000_0073, 0xfb5f_f06f];
+const EXITS_WITH_7: &[u32] = &[0x0070_0513, 0x05d0_0893, 0x0000_0073, 0xfb5f_f06f];
 
 /// A program that exits with the byte at 10000h, of tests/units/status.s.
-static EXITS_WITH_A_BYTE: [u32; 5] = [
+const EXITS_WITH_A_BYTE: &[u32] = &[
     0x0001_02b7,
     0x0002_b503,
     0x05d0_0893,
@@ -366,84 +380,61 @@ static EXITS_WITH_A_BYTE: [u32; 5] = [
     0xfb1f_f06f,
 ];
 
-/// A run of these words after the prologue: the byte at 10000h becomes 5 before the step
-/// `changed`, and after `steps` steps the program exits.
-fn run_exits(
-    rt: &impl Abort,
-    alloc: Global,
-    words: &[u32],
-    changed: u8,
-    steps: u8,
-    status: u8,
-) -> Result<(), NoMemory> {
-    let mut machine = started(rt, alloc, words)?;
-    run_steps(rt, &mut machine, changed, steps)?;
-    assert!(rt; exits_twice(&mut machine, status)?);
-    assert!(rt; has_exited(&machine, status));
-    Ok(())
-}
+type Exit = (&'static [u32], u8, u8, u8);
 
-/// Whether a step exits with a status, and the one after it again.
-fn exits_twice(machine: &mut Machine, status: u8) -> Result<bool, NoMemory> {
-    Ok(exits(machine, status)? && exits(machine, status)?)
-}
+/// Runs of words after the prologue: the step before which the byte at 10000h becomes 5, how many steps
+/// run, and the status with which the program then exits.
+static EXITS: [Exit; 3] = [
+    (EXITS_WITH_7, 0, 12, 7),
+    (EXITS_WITH_A_BYTE, 11, 13, 5),
+    (EXITS_WITH_A_BYTE, 12, 13, 0),
+];
 
 /// The machine at the start of a program with these words after the prologue.
-fn started(rt: &impl Abort, alloc: Global, words: &[u32]) -> Result<Machine, NoMemory> {
-    let code = code_of(alloc, words)?;
-    loaded(rt, alloc, &code, &[])
+fn started(alloc: Global, words: &[u32]) -> Option<Machine> {
+    match code(alloc, &PROLOGUE, words) {
+        Ok(code) => loaded(alloc, &code, &[]),
+        Err(AllocError) => None,
+    }
 }
 
-/// Steps that all run; the byte at 10000h becomes 5 before one of them.
-fn run_steps(
-    rt: &impl Abort,
-    machine: &mut Machine,
-    changed: u8,
-    steps: u8,
-) -> Result<(), NoMemory> {
-    for step in 0..steps {
-        if step == changed {
-            machine.change(five(rt))?;
+/// Whether the byte at 10000h becomes 5.
+fn changes(machine: &mut Machine) -> bool {
+    match Change::new(0x1_0000, 5) {
+        Some(change) => machine.change(change).is_ok(),
+        None => false,
+    }
+}
+
+/// Whether a step exits with a status and the one after it again, and one call was recorded.
+fn exits(machine: &mut Machine, status: u8) -> bool {
+    ends(machine, Turn::Exit(status))
+        && ends(machine, Turn::Exit(status))
+        && machine.system().ended() == Some(status)
+        && machine.system().events().len() == 1
+}
+
+/// Whether a program is run as a row says.
+fn run_exits(alloc: Global, row: &Exit) -> bool {
+    match started(alloc, row.0) {
+        Some(mut machine) => {
+            runs(&mut machine, row.1)
+                && changes(&mut machine)
+                && runs(&mut machine, row.2.saturating_sub(row.1))
+                && exits(&mut machine, row.3)
         }
-        assert!(rt; runs(machine)?, "step {step}");
+        None => false,
     }
-    Ok(())
-}
-
-/// The change of the byte at 10000h to 5.
-fn five(rt: &impl Abort) -> Change {
-    Change::new(0x1_0000, 5).expect(rt, "a data byte")
-}
-
-/// Whether a step runs.
-fn runs(machine: &mut Machine) -> Result<bool, NoMemory> {
-    Ok(machine.step()? == Turn::Ran)
-}
-
-/// Whether a step exits with a status.
-fn exits(machine: &mut Machine, status: u8) -> Result<bool, NoMemory> {
-    Ok(machine.step()? == Turn::Exit(status))
-}
-
-/// Whether one call was recorded, and it ended the run with a status.
-fn has_exited(machine: &Machine, status: u8) -> bool {
-    machine.system().ended() == Some(status) && machine.system().events().len() == 1
-}
-
-fn code_of(alloc: Global, words: &[u32]) -> Result<Vec<u8>, NoMemory> {
-    let mut code = Vec::new(alloc);
-    for word in &PROLOGUE {
-        code.extend_from_slice(&word.to_le_bytes())?;
-    }
-    for word in words {
-        code.extend_from_slice(&word.to_le_bytes())?;
-    }
-    Ok(code)
 }
 
 #[test]
-fn runs_end_with_their_exit(rt: HostRuntime) -> Result<(), NoMemory> {
-    run_exits(&rt, rt.alloc(), &EXITS_WITH_7, 0, 12, 7)?;
-    run_exits(&rt, rt.alloc(), &EXITS_WITH_A_BYTE, 11, 13, 5)?;
-    run_exits(&rt, rt.alloc(), &EXITS_WITH_A_BYTE, 12, 13, 0)
+fn runs_end_with_their_exit(rt: HostRuntime) {
+    for row in &EXITS {
+        assert!(rt;
+            run_exits(rt.alloc(), row),
+            "{} steps, status {}",
+            row.2,
+            row.3
+        );
+    }
 }

@@ -1,7 +1,6 @@
 use rv_mem::{Change, LoadFault, Memory, WriteRefusal, region};
-use rv_word::{Image, NoMemory, Region};
+use rv_word::{Image, Region};
 use std::alloc::Global;
-use std::process::Abort;
 
 type Access = (u64, u8, bool, bool, u64);
 
@@ -48,7 +47,7 @@ fn stores(memory: &mut Memory, row: &Access) -> bool {
     }
     match memory.write(addr, n, 0x1122_3344_5566_7788) {
         Ok(()) => store,
-        Err(end) => !store && end == WriteRefusal::StoreFault,
+        Err(end) => !store && matches!(end, WriteRefusal::StoreFault),
     }
 }
 
@@ -65,9 +64,9 @@ fn loads(memory: &Memory, row: &Access) -> bool {
 }
 
 /// A memory with some code and data.
-fn memory(alloc: Global) -> Result<Memory, NoMemory> {
+fn memory(alloc: Global) -> Option<Memory> {
     let code = [0xa0, 0xb0, 0xc0, 0, 0xd1, 0, 0, 0];
-    Memory::load(alloc, &Image::of(&code, &[7, 8]))
+    Memory::load(alloc, &Image::of(&code, &[7, 8])).ok()
 }
 
 /// Whether the four bytes at an address are these.
@@ -76,14 +75,13 @@ fn holds(memory: &Memory, addr: u64, value: u64) -> bool {
 }
 
 #[test]
-fn accesses_are_the_memory_map(rt: HostRuntime) -> Result<(), NoMemory> {
-    let mut memory = memory(rt.alloc())?;
+fn accesses_are_the_memory_map(rt: HostRuntime) {
+    let mut memory = memory(rt.alloc()).expect(&rt, "memory");
     assert!(rt; holds(&memory, 0xffff, 0x0008_0700), "initialised data");
     for row in &ACCESSES {
         assert!(rt; stores(&mut memory, row), "store at {:x}", row.0);
         assert!(rt; loads(&memory, row), "load at {:x}", row.0);
     }
-    Ok(())
 }
 
 #[test]
@@ -98,23 +96,32 @@ fn regions(rt: HostRuntime) {
     }
 }
 
-/// The change of the last byte of data.
-fn last_byte(rt: &impl Abort) -> Change {
-    Change::new(0x1000_0fff, 0x5a).expect(rt, "a data byte")
-}
-
 /// Whether a byte of code can be changed.
 fn changes_code() -> bool {
     Change::new(0x4000_0000, 1).is_some()
 }
 
+/// Whether the last byte of data is changed.
+fn changes_data(memory: &mut Memory) -> bool {
+    match Change::new(0x1000_0fff, 0x5a) {
+        Some(change) => memory.change(change).is_ok(),
+        None => false,
+    }
+}
+
+/// Whether a change and what is written before it are read, and nothing after the data.
+fn shows_changes(alloc: Global) -> bool {
+    let Ok(mut memory) = Memory::new(alloc) else {
+        return false;
+    };
+    changes_data(&mut memory)
+        && memory.write_bytes(0x1000_0ffd, &[1, 2]).is_ok()
+        && holds(&memory, 0x1000_0ffc, 0x5a02_0100)
+        && memory.byte(0x1000_1000) == 0
+}
+
 #[test]
-fn changes(rt: HostRuntime) -> Result<(), NoMemory> {
+fn changes(rt: HostRuntime) {
     assert!(rt; !changes_code());
-    let mut memory = Memory::new(rt.alloc())?;
-    memory.change(last_byte(&rt))?;
-    memory.write_bytes(0x1000_0ffd, &[1, 2])?;
-    assert!(rt; holds(&memory, 0x1000_0ffc, 0x5a02_0100));
-    assert!(rt; memory.byte(0x1000_1000) == 0);
-    Ok(())
+    assert!(rt; shows_changes(rt.alloc()));
 }

@@ -1,7 +1,7 @@
 use rv_instr::{Reg, Regs};
 use rv_mem::Memory;
 use rv_sys::{Event, SysEnd, System};
-use rv_word::NoMemory;
+use std::process::Abort;
 
 /// A call: its number, x10 to x12, its answer, and what the output and the bytes at 10000h are
 /// after it and those before it.
@@ -70,20 +70,24 @@ fn is_the_first_write(event: &Event) -> bool {
         && is_same(event.bytes.as_slice(), b"bc")
 }
 
-#[test]
-fn calls_are_the_table(rt: HostRuntime) -> Result<(), NoMemory> {
-    let mut system = System::new(rt.alloc(), b"abc")?;
-    let mut memory = Memory::new(rt.alloc())?;
+/// Makes the calls of the table and then one that ends the run.
+fn make_calls(rt: &impl Abort, system: &mut System, memory: &mut Memory) {
     let mut regs = Regs::new();
     for row in &CALLS {
-        assert!(rt;
-            goes(&mut system, &mut regs, &mut memory, row),
-            "{:?}",
-            row.0
-        );
+        assert!(rt; goes(system, &mut regs, memory, row), "{:?}", row.0);
     }
-    assert!(rt; ends(&mut system, &mut regs, &mut memory));
-    assert!(rt; system.events().len() == 12);
-    assert!(rt; is_the_first_write(system.events().get(7)));
-    Ok(())
+    assert!(rt; ends(system, &mut regs, memory));
+}
+
+/// Whether all calls are recorded, and one of them as it was made.
+fn has_recorded(system: &System) -> bool {
+    system.events().len() == 12 && is_the_first_write(system.events().get(7))
+}
+
+#[test]
+fn calls_are_the_table(rt: HostRuntime) {
+    let mut system = System::new(rt.alloc(), b"abc").ok().expect(&rt, "memory");
+    let mut memory = Memory::new(rt.alloc()).ok().expect(&rt, "memory");
+    make_calls(&rt, &mut system, &mut memory);
+    assert!(rt; has_recorded(&system));
 }

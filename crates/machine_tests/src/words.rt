@@ -1,4 +1,4 @@
-use crate::rows::{name, number, rows, word};
+use crate::rows::{name, rows, word};
 use rv_code::{decode, encode};
 use rv_instr::{
     BranchOp, FenceWord, Immediate, ImmediateOp, Instr, LoadOp, Reg, RegisterOp, Regs, ShiftOp,
@@ -351,154 +351,123 @@ static OTHERS: [u32; 57] = [
     0x0000_200f,
 ];
 
-fn upper(name: &str) -> Option<UpperOp> {
-    match name {
-        "lui" => Some(UpperOp::Lui),
-        "auipc" => Some(UpperOp::Auipc),
-        _ => None,
-    }
+/// How an instruction is made of the fields of its row.
+enum Form {
+    Upper(UpperOp),
+    Jal,
+    Jalr,
+    Branch(BranchOp),
+    Load(LoadOp),
+    Store(StoreOp),
+    Immediate(ImmediateOp),
+    Shift(ShiftOp),
+    ShiftWord(ShiftWordOp),
+    Register(RegisterOp),
+    Fence,
+    Ecall,
+    Ebreak,
 }
 
-fn branch(name: &str) -> Option<BranchOp> {
-    match name {
-        "beq" => Some(BranchOp::Beq),
-        "bne" => Some(BranchOp::Bne),
-        "blt" => Some(BranchOp::Blt),
-        "bge" => Some(BranchOp::Bge),
-        "bltu" => Some(BranchOp::Bltu),
-        "bgeu" => Some(BranchOp::Bgeu),
-        _ => None,
+static FORMS: [(&str, Form); 52] = [
+    ("lui", Form::Upper(UpperOp::Lui)),
+    ("auipc", Form::Upper(UpperOp::Auipc)),
+    ("jal", Form::Jal),
+    ("jalr", Form::Jalr),
+    ("beq", Form::Branch(BranchOp::Beq)),
+    ("bne", Form::Branch(BranchOp::Bne)),
+    ("blt", Form::Branch(BranchOp::Blt)),
+    ("bge", Form::Branch(BranchOp::Bge)),
+    ("bltu", Form::Branch(BranchOp::Bltu)),
+    ("bgeu", Form::Branch(BranchOp::Bgeu)),
+    ("lb", Form::Load(LoadOp::Lb)),
+    ("lh", Form::Load(LoadOp::Lh)),
+    ("lw", Form::Load(LoadOp::Lw)),
+    ("ld", Form::Load(LoadOp::Ld)),
+    ("lbu", Form::Load(LoadOp::Lbu)),
+    ("lhu", Form::Load(LoadOp::Lhu)),
+    ("lwu", Form::Load(LoadOp::Lwu)),
+    ("sb", Form::Store(StoreOp::Sb)),
+    ("sh", Form::Store(StoreOp::Sh)),
+    ("sw", Form::Store(StoreOp::Sw)),
+    ("sd", Form::Store(StoreOp::Sd)),
+    ("addi", Form::Immediate(ImmediateOp::Addi)),
+    ("slti", Form::Immediate(ImmediateOp::Slti)),
+    ("sltiu", Form::Immediate(ImmediateOp::Sltiu)),
+    ("xori", Form::Immediate(ImmediateOp::Xori)),
+    ("ori", Form::Immediate(ImmediateOp::Ori)),
+    ("andi", Form::Immediate(ImmediateOp::Andi)),
+    ("addiw", Form::Immediate(ImmediateOp::Addiw)),
+    ("slli", Form::Shift(ShiftOp::Slli)),
+    ("srli", Form::Shift(ShiftOp::Srli)),
+    ("srai", Form::Shift(ShiftOp::Srai)),
+    ("slliw", Form::ShiftWord(ShiftWordOp::Slliw)),
+    ("srliw", Form::ShiftWord(ShiftWordOp::Srliw)),
+    ("sraiw", Form::ShiftWord(ShiftWordOp::Sraiw)),
+    ("add", Form::Register(RegisterOp::Add)),
+    ("sub", Form::Register(RegisterOp::Sub)),
+    ("sll", Form::Register(RegisterOp::Sll)),
+    ("slt", Form::Register(RegisterOp::Slt)),
+    ("sltu", Form::Register(RegisterOp::Sltu)),
+    ("xor", Form::Register(RegisterOp::Xor)),
+    ("srl", Form::Register(RegisterOp::Srl)),
+    ("sra", Form::Register(RegisterOp::Sra)),
+    ("or", Form::Register(RegisterOp::Or)),
+    ("and", Form::Register(RegisterOp::And)),
+    ("addw", Form::Register(RegisterOp::Addw)),
+    ("subw", Form::Register(RegisterOp::Subw)),
+    ("sllw", Form::Register(RegisterOp::Sllw)),
+    ("srlw", Form::Register(RegisterOp::Srlw)),
+    ("sraw", Form::Register(RegisterOp::Sraw)),
+    ("fence", Form::Fence),
+    ("ecall", Form::Ecall),
+    ("ebreak", Form::Ebreak),
+];
+
+fn form_of(name: &str) -> Option<&'static Form> {
+    for row in &FORMS {
+        if row.0 == name {
+            return Some(&row.1);
+        }
     }
+    None
 }
 
-fn load(name: &str) -> Option<LoadOp> {
-    match name {
-        "lb" => Some(LoadOp::Lb),
-        "lh" => Some(LoadOp::Lh),
-        "lw" => Some(LoadOp::Lw),
-        "ld" => Some(LoadOp::Ld),
-        "lbu" => Some(LoadOp::Lbu),
-        "lhu" => Some(LoadOp::Lhu),
-        "lwu" => Some(LoadOp::Lwu),
-        _ => None,
-    }
+/// The instruction of a form, two registers and a field; none where these are none of an instruction.
+fn instruction_of(form: &Form, first: Reg, second: Reg, field: u32) -> Option<Instr> {
+    let imm = Immediate::of(field & 0xfff);
+    Some(match *form {
+        Form::Upper(op) => Instr::Upper(op, first, Immediate::of(field & 0xf_ffff)),
+        Form::Jal => Instr::Jal(first, Immediate::of(field & 0xf_ffff)),
+        Form::Jalr => Instr::Jalr(first, second, imm),
+        Form::Branch(op) => Instr::Branch(op, first, second, imm),
+        Form::Load(op) => Instr::Load(op, first, second, imm),
+        Form::Store(op) => Instr::Store(op, first, second, imm),
+        Form::Immediate(op) => Instr::Immediate(op, first, second, imm),
+        Form::Shift(op) => Instr::Shift(op, first, second, Immediate::of(field & 0x3f)),
+        Form::ShiftWord(op) => Instr::ShiftWord(op, first, second, Immediate::of(field & 0x1f)),
+        Form::Register(op) => Instr::Register(op, first, second, register(field)?),
+        Form::Fence => return None,
+        Form::Ecall => Instr::Ecall,
+        Form::Ebreak => Instr::Ebreak,
+    })
 }
 
-fn store(name: &str) -> Option<StoreOp> {
-    match name {
-        "sb" => Some(StoreOp::Sb),
-        "sh" => Some(StoreOp::Sh),
-        "sw" => Some(StoreOp::Sw),
-        "sd" => Some(StoreOp::Sd),
-        _ => None,
-    }
-}
-
-fn immediate(name: &str) -> Option<ImmediateOp> {
-    match name {
-        "addi" => Some(ImmediateOp::Addi),
-        "slti" => Some(ImmediateOp::Slti),
-        "sltiu" => Some(ImmediateOp::Sltiu),
-        "xori" => Some(ImmediateOp::Xori),
-        "ori" => Some(ImmediateOp::Ori),
-        "andi" => Some(ImmediateOp::Andi),
-        "addiw" => Some(ImmediateOp::Addiw),
-        _ => None,
-    }
-}
-
-fn shift(name: &str) -> Option<ShiftOp> {
-    match name {
-        "slli" => Some(ShiftOp::Slli),
-        "srli" => Some(ShiftOp::Srli),
-        "srai" => Some(ShiftOp::Srai),
-        _ => None,
-    }
-}
-
-fn shift_word(name: &str) -> Option<ShiftWordOp> {
-    match name {
-        "slliw" => Some(ShiftWordOp::Slliw),
-        "srliw" => Some(ShiftWordOp::Srliw),
-        "sraiw" => Some(ShiftWordOp::Sraiw),
-        _ => None,
-    }
-}
-
-fn register(name: &str) -> Option<RegisterOp> {
-    match name {
-        "add" => Some(RegisterOp::Add),
-        "sub" => Some(RegisterOp::Sub),
-        "sll" => Some(RegisterOp::Sll),
-        "slt" => Some(RegisterOp::Slt),
-        "sltu" => Some(RegisterOp::Sltu),
-        "xor" => Some(RegisterOp::Xor),
-        "srl" => Some(RegisterOp::Srl),
-        "sra" => Some(RegisterOp::Sra),
-        "or" => Some(RegisterOp::Or),
-        "and" => Some(RegisterOp::And),
-        "addw" => Some(RegisterOp::Addw),
-        "subw" => Some(RegisterOp::Subw),
-        "sllw" => Some(RegisterOp::Sllw),
-        "srlw" => Some(RegisterOp::Srlw),
-        "sraw" => Some(RegisterOp::Sraw),
-        _ => None,
-    }
-}
-
-fn with_immediate(name: &str, first: Reg, second: Reg, number: u32) -> Option<Instr> {
-    let imm = Immediate::of(number & 0xfff);
-    if let Some(op) = branch(name) {
-        return Some(Instr::Branch(op, first, second, imm));
-    }
-    if let Some(op) = load(name) {
-        return Some(Instr::Load(op, first, second, imm));
-    }
-    if let Some(op) = store(name) {
-        return Some(Instr::Store(op, first, second, imm));
-    }
-    let op = immediate(name)?;
-    Some(Instr::Immediate(op, first, second, imm))
-}
-
-fn without_immediate(name: &str, first: Reg, second: Reg, number: u32) -> Option<Instr> {
-    if let Some(op) = shift(name) {
-        return Some(Instr::Shift(op, first, second, Immediate::of(number & 0x3f)));
-    }
-    if let Some(op) = shift_word(name) {
-        return Some(Instr::ShiftWord(op, first, second, Immediate::of(number & 0x1f)));
-    }
-    let op = register(name)?;
-    let third = Reg::new(u8::try_from(number).ok()?)?;
-    Some(Instr::Register(op, first, second, third))
-}
-
-/// The register at a place of a row.
-fn register_at(row: &str, at: usize) -> Option<Reg> {
-    Reg::new(u8::try_from(number(row, at)?).ok()?)
+fn register(number: u32) -> Option<Reg> {
+    Reg::new(u8::try_from(number).ok()?)
 }
 
 /// The instruction of a row of `WORDS`; none where the row is not understood.
 fn instruction(row: &str) -> Option<Instr> {
-    let name = name(row);
-    let first = register_at(row, 2)?;
-    let second = register_at(row, 3)?;
-    let field = word(row, 4)?;
-    let imm = Immediate::of(field & 0xf_ffff);
-    if let Some(op) = upper(name) {
-        return Some(Instr::Upper(op, first, imm));
+    let form = form_of(name(row))?;
+    if matches!(form, Form::Fence) {
+        return Some(Instr::Fence(FenceWord::new(word(row, 1)?)?));
     }
-    match name {
-        "jal" => Some(Instr::Jal(first, imm)),
-        "jalr" => Some(Instr::Jalr(first, second, Immediate::of(field & 0xfff))),
-        "fence" => Some(Instr::Fence(FenceWord::new(word(row, 1)?)?)),
-        "ecall" => Some(Instr::Ecall),
-        "ebreak" => Some(Instr::Ebreak),
-        _ => match with_immediate(name, first, second, field) {
-            Some(instr) => Some(instr),
-            None => without_immediate(name, first, second, field),
-        },
-    }
+    instruction_of(
+        form,
+        register(word(row, 2)?)?,
+        register(word(row, 3)?)?,
+        word(row, 4)?,
+    )
 }
 
 /// Whether the instruction of a row is encoded as this word.
@@ -519,18 +488,16 @@ fn is_right(row: &str) -> bool {
 
 #[test]
 fn words_of_an_assembler(rt: HostRuntime) {
-    let mut count = 0_u32;
+    assert!(rt; rows(WORDS).count() == 280);
     for row in rows(WORDS) {
         assert!(rt; is_right(row), "{row}");
-        count = count.saturating_add(1);
     }
-    assert_eq!(rt; count, 280);
 }
 
 #[test]
 fn words_of_no_instruction(rt: HostRuntime) {
     for &word in &OTHERS {
-        assert_eq!(rt; decode(word), None, "{word:08x}");
+        assert!(rt; decode(word).is_none(), "{word:08x}");
     }
 }
 
@@ -556,26 +523,41 @@ fn named(instr: &Instr) -> u32 {
     registers
 }
 
-#[test]
-fn operands_of_words(rt: HostRuntime) {
-    for &(word, registers, written) in &OPERANDS {
-        let instr = decode(word).expect(&rt, "an instruction");
-        assert_eq!(rt; named(&instr), registers, "{word:08x}");
-        assert_eq!(rt; instr.writes().map(Reg::number), written, "{word:08x}");
+/// Whether a word names and writes the registers of its row.
+fn has_operands(row: &(u32, u32, Option<u8>)) -> bool {
+    match decode(row.0) {
+        Some(instr) => named(&instr) == row.1 && instr.writes().map(Reg::number) == row.2,
+        None => false,
     }
 }
 
 #[test]
-fn registers_hold_what_is_written(rt: HostRuntime) {
+fn operands_of_words(rt: HostRuntime) {
+    for row in &OPERANDS {
+        assert!(rt; has_operands(row), "{:08x}", row.0);
+    }
+}
+
+/// Whether each register but x0 holds what was written to it.
+fn holds_numbers() -> bool {
     let mut regs = Regs::new();
     for number in 0..32 {
         regs.set(Reg::of(number), u64::MAX - u64::from(number));
     }
-    assert_eq!(rt; regs.get(Reg::of(0)), 0);
-    assert_eq!(rt; regs.get(Reg::of(1)), 0xffff_ffff_ffff_fffe);
-    assert_eq!(rt; regs.get(Reg::of(31)), 0xffff_ffff_ffff_ffe0);
-    let imm: Immediate<12> = Immediate::of(0xff8);
-    assert_eq!(rt; imm.value(), 0xffff_ffff_ffff_fff8);
-    let imm: Immediate<20> = Immediate::of(0x7ffff);
-    assert_eq!(rt; imm.value(), 0x7ffff);
+    regs.get(Reg::of(0)) == 0
+        && regs.get(Reg::of(1)) == 0xffff_ffff_ffff_fffe
+        && regs.get(Reg::of(31)) == 0xffff_ffff_ffff_ffe0
+}
+
+/// Whether immediates are extended by their sign.
+fn extends_signs() -> bool {
+    let negative: Immediate<12> = Immediate::of(0xff8);
+    let positive: Immediate<20> = Immediate::of(0x7ffff);
+    negative.value() == 0xffff_ffff_ffff_fff8 && positive.value() == 0x7ffff
+}
+
+#[test]
+fn registers_hold_what_is_written(rt: HostRuntime) {
+    assert!(rt; holds_numbers());
+    assert!(rt; extends_signs());
 }
