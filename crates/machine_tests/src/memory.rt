@@ -1,6 +1,7 @@
 use rv_mem::{Change, LoadFault, Memory, WriteRefusal, region};
 use rv_word::{Image, Region};
 use std::alloc::Global;
+use std::process::Abort;
 
 type Access = (u64, u8, bool, bool, u64);
 
@@ -74,14 +75,19 @@ fn holds(memory: &Memory, addr: u64, value: u64) -> bool {
     memory.read(addr, 4) == Ok(value)
 }
 
+/// Makes the store and then the load of each row.
+fn check_accesses(rt: &impl Abort, memory: &mut Memory) {
+    for row in &ACCESSES {
+        assert!(rt; stores(memory, row), "store at {:x}", row.0);
+        assert!(rt; loads(memory, row), "load at {:x}", row.0);
+    }
+}
+
 #[test]
 fn accesses_are_the_memory_map(rt: HostRuntime) {
     let mut memory = memory(rt.alloc()).expect(&rt, "memory");
     assert!(rt; holds(&memory, 0xffff, 0x0008_0700), "initialised data");
-    for row in &ACCESSES {
-        assert!(rt; stores(&mut memory, row), "store at {:x}", row.0);
-        assert!(rt; loads(&memory, row), "load at {:x}", row.0);
-    }
+    check_accesses(&rt, &mut memory);
 }
 
 #[test]

@@ -1,4 +1,4 @@
-use crate::rows::{name, rows, word};
+use crate::rows::{name, number, rows, word};
 use rv_code::{decode, encode};
 use rv_instr::{
     BranchOp, FenceWord, Immediate, ImmediateOp, Instr, LoadOp, Reg, RegisterOp, Regs, ShiftOp,
@@ -432,8 +432,13 @@ fn form_of(name: &str) -> Option<&'static Form> {
     None
 }
 
-/// The instruction of a form, two registers and a field; none where these are none of an instruction.
-fn instruction_of(form: &Form, first: Reg, second: Reg, field: u32) -> Option<Instr> {
+/// The register at a place of a row.
+fn register_at(row: &str, at: usize) -> Option<Reg> {
+    Reg::new(u8::try_from(number(row, at)?).ok()?)
+}
+
+/// The instruction of a row of a form, with its first two registers and its field.
+fn made(form: &Form, row: &str, first: Reg, second: Reg, field: u32) -> Option<Instr> {
     let imm = Immediate::of(field & 0xfff);
     Some(match *form {
         Form::Upper(op) => Instr::Upper(op, first, Immediate::of(field & 0xf_ffff)),
@@ -445,29 +450,17 @@ fn instruction_of(form: &Form, first: Reg, second: Reg, field: u32) -> Option<In
         Form::Immediate(op) => Instr::Immediate(op, first, second, imm),
         Form::Shift(op) => Instr::Shift(op, first, second, Immediate::of(field & 0x3f)),
         Form::ShiftWord(op) => Instr::ShiftWord(op, first, second, Immediate::of(field & 0x1f)),
-        Form::Register(op) => Instr::Register(op, first, second, register(field)?),
-        Form::Fence => return None,
+        Form::Register(op) => Instr::Register(op, first, second, register_at(row, 4)?),
+        Form::Fence => Instr::Fence(FenceWord::new(word(row, 1)?)?),
         Form::Ecall => Instr::Ecall,
         Form::Ebreak => Instr::Ebreak,
     })
 }
 
-fn register(number: u32) -> Option<Reg> {
-    Reg::new(u8::try_from(number).ok()?)
-}
-
 /// The instruction of a row of `WORDS`; none where the row is not understood.
 fn instruction(row: &str) -> Option<Instr> {
-    let form = form_of(name(row))?;
-    if matches!(form, Form::Fence) {
-        return Some(Instr::Fence(FenceWord::new(word(row, 1)?)?));
-    }
-    instruction_of(
-        form,
-        register(word(row, 2)?)?,
-        register(word(row, 3)?)?,
-        word(row, 4)?,
-    )
+    let (first, second) = (register_at(row, 2)?, register_at(row, 3)?);
+    made(form_of(name(row))?, row, first, second, word(row, 4)?)
 }
 
 /// Whether the instruction of a row is encoded as this word.
@@ -488,8 +481,9 @@ fn is_right(row: &str) -> bool {
 
 #[test]
 fn words_of_an_assembler(rt: HostRuntime) {
-    assert!(rt; rows(WORDS).count() == 280);
-    for row in rows(WORDS) {
+    let table = WORDS;
+    assert!(rt; rows(table).count() == 280);
+    for row in rows(table) {
         assert!(rt; is_right(row), "{row}");
     }
 }
