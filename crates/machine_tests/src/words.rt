@@ -438,7 +438,7 @@ fn register_at(row: &str, at: usize) -> Option<Reg> {
 }
 
 /// The instruction of a row of a form, with its first two registers and its field.
-fn made(form: &Form, row: &str, first: Reg, second: Reg, field: u32) -> Option<Instr> {
+fn instruction_of(form: &Form, row: &str, first: Reg, second: Reg, field: u32) -> Option<Instr> {
     let imm = Immediate::of(field & 0xfff);
     Some(match *form {
         Form::Upper(op) => Instr::Upper(op, first, Immediate::of(field & 0xf_ffff)),
@@ -460,7 +460,7 @@ fn made(form: &Form, row: &str, first: Reg, second: Reg, field: u32) -> Option<I
 /// The instruction of a row of `WORDS`; none where the row is not understood.
 fn instruction(row: &str) -> Option<Instr> {
     let (first, second) = (register_at(row, 2)?, register_at(row, 3)?);
-    made(form_of(name(row))?, row, first, second, word(row, 4)?)
+    instruction_of(form_of(name(row))?, row, first, second, word(row, 4)?)
 }
 
 /// Whether the instruction of a row is encoded as this word.
