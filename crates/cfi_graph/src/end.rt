@@ -17,7 +17,7 @@ pub enum Reason {
 }
 
 /// Why a graph could not be read: the first line that fails, from 1, or want of memory.
-#[derive(Clone, Copy, Debug, PartialEq, Eq, Error)]
+#[derive(Clone, Copy, Debug, Error)]
 pub enum GraphEnd {
     /// The line with this number is refused.
     #[error("line {0}: {1}")]

@@ -6,7 +6,7 @@ use std::alloc::Global;
 use std::marker::Model;
 
 /// A list of a graph's lines that owns its memory.
-#[derive(Debug, Drop)]
+#[derive(Drop)]
 pub struct GraphLines {
     items: Vec<GraphLine>,
 }
@@ -59,7 +59,7 @@ impl GraphLines {
 
 /// A graph of control flow: the length of its code in bytes, and its lines in order. Each graph has
 /// only lengths, labels, addresses and an order that a graph may have.
-#[derive(Debug, Drop)]
+#[derive(Drop)]
 pub struct Graph {
     pub(crate) code: u32,
     pub(crate) lines: GraphLines,

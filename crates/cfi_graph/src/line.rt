@@ -3,7 +3,7 @@ ghost use Rattle.std.specs.Prelude.{◌≡◌};
 use rv_word::Places;
 
 /// The two kinds of transfer to a computed address.
-#[derive(Clone, Copy, Debug, PartialEq, Eq)]
+#[derive(Clone, Copy, PartialEq, Eq)]
 pub enum SiteKind {
     /// A computed call.
     Call,
@@ -12,7 +12,7 @@ pub enum SiteKind {
 }
 
 /// A line of a graph.
-#[derive(Debug, Drop)]
+#[derive(Drop)]
 pub enum GraphLine {
     /// A class: its label, and the addresses of its targets.
     Class(u32, Places),
@@ -25,7 +25,7 @@ pub enum GraphLine {
 }
 
 /// What a line is ordered by: a class's label, or the first address of any other line.
-#[derive(Clone, Copy, Debug)]
+#[derive(Clone, Copy)]
 pub enum Key {
     /// A class's label.
     Label(u32),

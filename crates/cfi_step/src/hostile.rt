@@ -21,7 +21,7 @@ const DOUBLE_WORDS: u64 = 512;
 
 /// A meddler that zeroes each double word of data, of the 4,096 bytes from x2 on, which holds a
 /// pending site.
-#[derive(Clone, Copy, Debug)]
+#[derive(Clone, Copy)]
 pub struct Hostile;
 
 /// How many slots stand below an address.

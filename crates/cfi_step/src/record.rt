@@ -6,7 +6,7 @@ use std::alloc::Global;
 use std::marker::Model;
 
 /// The changes that were made in a run, in their order, each with the number of steps taken before it.
-#[derive(Debug, Drop)]
+#[derive(Drop)]
 pub struct Record {
     items: Vec<(u64, Change)>,
 }

@@ -9,7 +9,7 @@ use rv_machine::Turn;
 use rv_word::{Bytes, Places};
 
 /// A handler of the prologue.
-#[derive(Clone, Copy, Debug, PartialEq, Eq)]
+#[derive(Clone, Copy, PartialEq, Eq)]
 pub enum Handler {
     /// `__cfi_bad_target`: a computed transfer to no target of its class, or a stop unit.
     BadTarget,
@@ -20,7 +20,7 @@ pub enum Handler {
 }
 
 /// How a run ended. Addresses are in bytes.
-#[derive(Clone, Copy, Debug, PartialEq, Eq)]
+#[derive(Clone, Copy, PartialEq, Eq)]
 pub enum RunEnd {
     /// The program ended itself with this status.
     Exit(u8),
@@ -35,7 +35,7 @@ pub enum RunEnd {
 }
 
 /// What a run came to.
-#[derive(Debug, Drop)]
+#[derive(Drop)]
 pub struct RunReport {
     /// How the run ended.
     pub end: RunEnd,

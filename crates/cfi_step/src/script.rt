@@ -10,7 +10,7 @@ use std::marker::Model;
 
 /// Changes of data bytes, each with the number of steps that are taken before it. These numbers do not
 /// fall.
-#[derive(Debug, Drop)]
+#[derive(Drop)]
 pub struct Script {
     pub(crate) changes: Vec<(u64, Change)>,
 }

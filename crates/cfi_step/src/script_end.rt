@@ -3,7 +3,7 @@ use rv_word::NoMemory;
 use thiserror::Error;
 
 /// Why a script could not be read: the first line that fails, from 1, or want of memory.
-#[derive(Clone, Copy, Debug, PartialEq, Eq, Error)]
+#[derive(Clone, Copy, Debug, Error)]
 pub enum ScriptEnd {
     /// The line with this number is refused.
     #[error("line {0}: {1}")]

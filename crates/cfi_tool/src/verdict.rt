@@ -8,7 +8,7 @@ use elf_image::ImageRefusal;
 use std::fmt;
 
 /// What is said of a file that should be an image and one that should be its graph.
-#[derive(Clone, Copy, Debug, PartialEq, Eq)]
+#[derive(Clone, Copy)]
 pub enum Verdict {
     /// They are an image and its graph, and the image meets every rule.
     Accepted,

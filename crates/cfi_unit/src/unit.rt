@@ -1,7 +1,7 @@
 use rv_instr::{BranchOp, Immediate, Instr, Reg, StoreOp};
 
 /// A unit of hardened code. Targets are addresses in bytes, labels are 20-bit numbers.
-#[derive(Clone, Copy, Debug, PartialEq, Eq)]
+#[derive(Clone, Copy, PartialEq, Eq)]
 pub enum Unit {
     /// `lui x0,label`: where a computed jump or call of a class may arrive.
     Gate(Immediate<20>),
@@ -29,7 +29,7 @@ pub enum Unit {
 }
 
 /// What a system unit does.
-#[derive(Clone, Copy, Debug, PartialEq, Eq)]
+#[derive(Clone, Copy, PartialEq, Eq)]
 pub enum SystemOp {
     /// A system call.
     Ecall,

@@ -4,7 +4,7 @@ ghost use Rattle.cfi_verify.specs.Kinds.{kind_of, same_kind};
 use cfi_unit::Unit;
 
 /// What the rules ask of a unit before they read it.
-#[derive(Clone, Copy, Debug, PartialEq, Eq)]
+#[derive(Clone, Copy, PartialEq, Eq)]
 pub(crate) enum Kind {
     /// A branch or a jump.
     Edge,

@@ -11,7 +11,7 @@ use cfi_graph::SiteKind;
 use cfi_unit::Unit;
 
 /// What stands at an address of a hardened image's code.
-#[derive(Clone, Copy, Debug, PartialEq, Eq)]
+#[derive(Clone, Copy)]
 pub enum Place {
     /// One of the three handlers, which break.
     Handler,

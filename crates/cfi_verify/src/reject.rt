@@ -1,5 +1,5 @@
 /// The rules that have an address, in the order in which they are asked.
-#[derive(Clone, Copy, Debug, PartialEq, Eq)]
+#[derive(Clone, Copy, Debug)]
 pub enum Rule {
     /// The code does not begin with the prologue.
     Prologue,
@@ -22,7 +22,7 @@ pub enum Rule {
 }
 
 /// Why an image and a graph are rejected.
-#[derive(Clone, Copy, Debug, PartialEq, Eq)]
+#[derive(Clone, Copy, Debug)]
 pub enum Reject {
     /// The length of the code and the length that the graph gives, in bytes.
     Length(u32, u32),

@@ -22,7 +22,7 @@ use std::marker::Model;
 use thiserror::Error;
 
 /// Why a pair was not accepted.
-#[derive(Clone, Copy, Debug, PartialEq, Eq, Error)]
+#[derive(Clone, Copy, Debug, Error)]
 pub enum VerifyEnd {
     /// A rule fails.
     #[error("rejected")]

@@ -10,7 +10,7 @@ use crate::walk::Walk;
 use cfi_verify::Checked;
 
 /// Whether a walk went on.
-#[derive(Clone, Copy, Debug, PartialEq, Eq)]
+#[derive(Clone, Copy)]
 pub enum Followed {
     /// It did.
     Yes,

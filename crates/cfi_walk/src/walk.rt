@@ -21,7 +21,7 @@ pub(crate) enum Move {
 }
 
 /// Where a walk along a graph has come to, with the sites of the calls that are pending there.
-#[derive(Debug, Drop)]
+#[derive(Drop)]
 pub struct Walk {
     address: u64,
     pending: Vec<u64>,

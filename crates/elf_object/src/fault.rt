@@ -2,7 +2,7 @@ use rv_word::NoMemory;
 use thiserror::Error;
 
 /// What is wrong with an object: the first of these that is, in this order, at its least index.
-#[derive(Clone, Copy, Debug, PartialEq, Eq, Error)]
+#[derive(Clone, Copy, Debug, Error)]
 pub enum ObjectFault {
     /// The file is no 64-bit little-endian ELF file.
     #[error("NotElf")]
@@ -31,7 +31,7 @@ pub enum ObjectFault {
 }
 
 /// Why an object could not be read: a fault of its bytes, or want of memory.
-#[derive(Clone, Copy, Debug, PartialEq, Eq, Error)]
+#[derive(Clone, Copy, Debug, Error)]
 pub enum ObjectEnd {
     /// The file has this fault.
     #[error("{0}")]

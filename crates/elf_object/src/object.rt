@@ -17,7 +17,7 @@ use std::marker::Model;
 
 /// A section: its name, `sh_type`, `sh_flags`, `sh_size`, `sh_addralign`, and its bytes in the file,
 /// none of `SHT_NULL` and `SHT_NOBITS` (System V gABI, "Section Header").
-#[derive(Clone, Copy, Debug, PartialEq, Eq)]
+#[derive(Clone, Copy, PartialEq, Eq)]
 pub struct Section<'a> {
     pub name: &'a [u8],
     pub kind: u32,
@@ -28,7 +28,7 @@ pub struct Section<'a> {
 }
 
 /// A symbol: its name, `st_info`, `st_shndx`, `st_value` and `st_size` (System V gABI, "Symbol Table").
-#[derive(Clone, Copy, Debug, PartialEq, Eq)]
+#[derive(Clone, Copy, PartialEq, Eq)]
 pub struct Symbol<'a> {
     pub name: &'a [u8],
     pub info: u8,
@@ -38,7 +38,7 @@ pub struct Symbol<'a> {
 }
 
 /// The relocations of a section, in the order of their table.
-#[derive(Debug, Drop)]
+#[derive(Drop)]
 pub struct Relocs<'a> {
     table: &'a [u8],
 }
@@ -69,7 +69,7 @@ impl<'a> Relocs<'a> {
 }
 
 /// A relocatable object without a fault. It borrows the bytes of its file, and is them.
-#[derive(Debug, Drop)]
+#[derive(Drop)]
 pub struct Object<'a> {
     lookup: Lookup<'a>,
 }

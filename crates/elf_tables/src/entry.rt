@@ -7,7 +7,7 @@ use crate::field::{half, long, word};
 
 /// A symbol as it stands in the symbol table (System V gABI, "Symbol Table"): where its name begins
 /// in the table of names, and its `st_info`, `st_shndx`, `st_value` and `st_size`.
-#[derive(Clone, Copy, Debug)]
+#[derive(Clone, Copy)]
 pub struct SymbolEntry {
     pub name: u32,
     pub info: u8,
@@ -36,7 +36,7 @@ impl SymbolEntry {
 
 /// A relocation (System V gABI, "Relocation"): the offset in its section, the number of its symbol,
 /// its type by the RISC-V ELF psABI, and its addend.
-#[derive(Clone, Copy, Debug, PartialEq, Eq)]
+#[derive(Clone, Copy, PartialEq, Eq)]
 pub struct Reloc {
     pub offset: u64,
     pub symbol: u32,

@@ -9,7 +9,7 @@ use crate::constants::{
 use crate::field::{half, long, word};
 
 /// A section header (System V gABI, "Section Header"), without its address.
-#[derive(Clone, Copy, Debug)]
+#[derive(Clone, Copy)]
 pub struct SectionHeader {
     pub name: u32,
     pub kind: u32,

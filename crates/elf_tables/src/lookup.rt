@@ -19,7 +19,7 @@ use std::alloc::Global;
 use std::marker::Model;
 
 /// The sections of a file with what is looked up often, so that each look-up takes one step.
-#[derive(Debug, Drop)]
+#[derive(Drop)]
 pub struct Lookup<'a> {
     sections: Sections<'a>,
     names: Strings<'a>,

@@ -8,7 +8,7 @@ use crate::header::SectionHeader;
 use std::marker::Model;
 
 /// A file whose section header table lies in it.
-#[derive(Debug, Drop)]
+#[derive(Drop)]
 pub struct Sections<'a> {
     bytes: &'a [u8],
     at: u64,

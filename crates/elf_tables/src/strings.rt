@@ -8,7 +8,7 @@ use elf_bytes::name_at;
 use std::marker::Model;
 
 /// A string table, which knows where its last string ends, so that no string is read to be tested.
-#[derive(Debug, Drop)]
+#[derive(Drop)]
 pub(crate) struct Strings<'a> {
     bytes: &'a [u8],
     end: usize,

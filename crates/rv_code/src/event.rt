@@ -6,7 +6,7 @@ use std::marker::Model;
 
 /// A system call that a run made: its number (x17), its arguments (x10 to x15), the bytes that it
 /// wrote, and its answer.
-#[derive(Debug, Drop)]
+#[derive(Drop)]
 pub struct Event {
     /// The call's number, in x17.
     pub number: u64,
@@ -24,7 +24,7 @@ pub struct Event {
 }
 
 /// The system calls of a run, oldest first.
-#[derive(Debug, Drop)]
+#[derive(Drop)]
 pub struct Events {
     items: Vec<Event>,
 }

@@ -1,5 +1,5 @@
 /// How a step of the machine ended. Addresses are in bytes.
-#[derive(Clone, Copy, Debug, PartialEq, Eq)]
+#[derive(Clone, Copy, PartialEq, Eq)]
 pub enum Turn {
     /// The instruction ran, and the next one may.
     Ran,

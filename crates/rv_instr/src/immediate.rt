@@ -6,7 +6,7 @@ use std::marker::Model;
 
 /// An immediate of an instruction as its word holds it: a field of `BITS` bits. Where the standard
 /// says that it is sign-extended, its highest bit is the sign.
-#[derive(Clone, Copy, Debug, PartialEq, Eq)]
+#[derive(Clone, Copy, PartialEq, Eq)]
 pub struct Immediate<const BITS: u32> {
     bits: u32,
 }

@@ -7,7 +7,7 @@ use std::marker::Model;
 /// An instruction of RV64I (RISC-V unprivileged ISA, "RV32I Base Integer Instruction Set" and
 /// "RV64I Base Integer Instruction Set"), one variant for each format. Registers stand in the
 /// order of the assembler: destination, sources.
-#[derive(Clone, Copy, Debug, PartialEq, Eq)]
+#[derive(Clone, Copy, PartialEq, Eq)]
 pub enum Instr {
     /// LUI, AUIPC: rd, bits 31 to 12.
     Upper(UpperOp, Reg, Immediate<20>),
@@ -38,14 +38,14 @@ pub enum Instr {
 }
 
 /// LUI puts its 20 bits above 12 zeros into a register, AUIPC adds the pc to them.
-#[derive(Clone, Copy, Debug, PartialEq, Eq)]
+#[derive(Clone, Copy, PartialEq, Eq)]
 pub enum UpperOp {
     Lui,
     Auipc,
 }
 
 /// What a conditional branch asks: equal, not equal, less, not less; the last two without a sign.
-#[derive(Clone, Copy, Debug, PartialEq, Eq)]
+#[derive(Clone, Copy, PartialEq, Eq)]
 pub enum BranchOp {
     Beq,
     Bne,
@@ -56,7 +56,7 @@ pub enum BranchOp {
 }
 
 /// What a load reads: a byte, a half-word, a word or a double-word; the last three without a sign.
-#[derive(Clone, Copy, Debug, PartialEq, Eq)]
+#[derive(Clone, Copy, PartialEq, Eq)]
 pub enum LoadOp {
     Lb,
     Lh,
@@ -68,7 +68,7 @@ pub enum LoadOp {
 }
 
 /// What a store writes: a byte, a half-word, a word or a double-word.
-#[derive(Clone, Copy, Debug, PartialEq, Eq)]
+#[derive(Clone, Copy, PartialEq, Eq)]
 pub enum StoreOp {
     Sb,
     Sh,
@@ -77,7 +77,7 @@ pub enum StoreOp {
 }
 
 /// A computation with an immediate; ADDIW is on the low 32 bits.
-#[derive(Clone, Copy, Debug, PartialEq, Eq)]
+#[derive(Clone, Copy, PartialEq, Eq)]
 pub enum ImmediateOp {
     Addi,
     Slti,
@@ -89,7 +89,7 @@ pub enum ImmediateOp {
 }
 
 /// A shift by a constant: left, right, right with the sign.
-#[derive(Clone, Copy, Debug, PartialEq, Eq)]
+#[derive(Clone, Copy, PartialEq, Eq)]
 pub enum ShiftOp {
     Slli,
     Srli,
@@ -97,7 +97,7 @@ pub enum ShiftOp {
 }
 
 /// The same on the low 32 bits.
-#[derive(Clone, Copy, Debug, PartialEq, Eq)]
+#[derive(Clone, Copy, PartialEq, Eq)]
 pub enum ShiftWordOp {
     Slliw,
     Srliw,
@@ -105,7 +105,7 @@ pub enum ShiftWordOp {
 }
 
 /// A computation on two registers; the last five are on the low 32 bits.
-#[derive(Clone, Copy, Debug, PartialEq, Eq)]
+#[derive(Clone, Copy, PartialEq, Eq)]
 pub enum RegisterOp {
     Add,
     Sub,
@@ -125,7 +125,7 @@ pub enum RegisterOp {
 }
 
 /// A word that is a FENCE: opcode 0Fh with funct3 0.
-#[derive(Clone, Copy, Debug, PartialEq, Eq)]
+#[derive(Clone, Copy, PartialEq, Eq)]
 pub struct FenceWord {
     word: u32,
 }

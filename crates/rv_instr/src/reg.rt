@@ -4,7 +4,7 @@ use std::marker::Model;
 
 /// One of the 32 integer registers, x0 to x31 (RISC-V unprivileged ISA, "Programmers' Model for
 /// Base Integer ISA").
-#[derive(Clone, Copy, Debug, PartialEq, Eq)]
+#[derive(Clone, Copy, PartialEq, Eq)]
 pub struct Reg {
     number: u8,
 }

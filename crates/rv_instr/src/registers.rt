@@ -6,7 +6,7 @@ use std::marker::Model;
 
 /// What the 32 integer registers hold (RISC-V unprivileged ISA, "Programmers' Model for Base
 /// Integer ISA"). Contracts see the list of the 32 numbers.
-#[derive(Debug, Drop)]
+#[derive(Drop)]
 pub struct Regs {
     values: [u64; 32],
 }

@@ -5,7 +5,7 @@ use rv_word::memory_map::DATA_END;
 use std::marker::Model;
 
 /// A data byte that is changed from outside: its address and what it becomes.
-#[derive(Clone, Copy, Debug, PartialEq, Eq)]
+#[derive(Clone, Copy, PartialEq, Eq)]
 pub struct Change {
     addr: u64,
     byte: u8,

@@ -7,7 +7,7 @@ use thiserror::Error;
 pub struct LoadFault;
 
 /// Why a write did nothing.
-#[derive(Clone, Copy, Debug, PartialEq, Eq, Error)]
+#[derive(Clone, Copy, Debug, Error)]
 pub enum WriteRefusal {
     /// It does not lie whole in data or in shadow.
     #[error("store fault")]

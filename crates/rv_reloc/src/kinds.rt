@@ -4,7 +4,7 @@ ghost use Rattle.rv_reloc.specs.Data.{size_of};
 use thiserror::Error;
 
 /// What a relocation puts into an instruction (RISC-V ELF psABI, "Relocations").
-#[derive(Clone, Copy, Debug, PartialEq, Eq)]
+#[derive(Clone, Copy)]
 pub enum CodePatch {
     /// `R_RISCV_HI20`: the immediate of a LUI, from an absolute address.
     Hi20,
@@ -17,7 +17,7 @@ pub enum CodePatch {
 }
 
 /// What a relocation puts into data (RISC-V ELF psABI, "Relocations").
-#[derive(Clone, Copy, Debug, PartialEq, Eq)]
+#[derive(Clone, Copy)]
 pub enum DataPatch {
     /// `R_RISCV_32`: an address of 32 bits.
     Abs32,

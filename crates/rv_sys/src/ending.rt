@@ -1,5 +1,5 @@
 /// How a system call ended.
-#[derive(Clone, Copy, Debug, PartialEq, Eq)]
+#[derive(Clone, Copy, PartialEq, Eq)]
 pub enum SysEnd {
     /// The run goes on at the next instruction.
     Goes,

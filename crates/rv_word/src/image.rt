@@ -4,7 +4,7 @@ use std::marker::Model;
 
 /// An image's code, which the machine has from address 40000000h on, and its initialised data,
 /// which it has from address 10000h on. Both are borrowed from the file.
-#[derive(Debug, Drop)]
+#[derive(Drop)]
 pub struct Image<'a> {
     code: &'a [u8],
     init: &'a [u8],

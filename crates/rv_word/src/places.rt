@@ -4,7 +4,7 @@ use crate::no_memory::NoMemory;
 use std::marker::Model;
 
 /// A list of addresses or places that owns its memory.
-#[derive(Debug, Drop)]
+#[derive(Drop)]
 pub struct Places {
     items: Vec<u64>,
 }

@@ -5,7 +5,7 @@
 /// | data | yes | yes | no |
 /// | code | yes | no | yes |
 /// | shadow | yes | yes | no |
-#[derive(Clone, Copy, Debug, PartialEq, Eq)]
+#[derive(Clone, Copy, PartialEq, Eq)]
 pub enum Region {
     /// What the program reads and writes.
     Data,
