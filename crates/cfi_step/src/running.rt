@@ -34,10 +34,12 @@ impl Running {
         ensures made { IfOk result (λ r. r.made ≡ []) }
         ensures trail { IfOk result (λ r. IsTrailOf [] r.trail) }
     {
+        let trail = Trail::new(alloc)?;
+        let machine = Machine::new(alloc, image, input)?;
         Ok(Running {
-            machine: Machine::new(alloc, image, input)?,
+            machine,
             made: Record::new(alloc),
-            trail: Trail::new(alloc)?,
+            trail,
         })
     }
 

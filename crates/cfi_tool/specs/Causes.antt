@@ -1,9 +1,9 @@
 -- What each outcome of a command says of the words and of the files.
-use Rattle.std.specs.Prelude.{◌≡◌, ℕ, List, take, ⊤, Option, Some, None}
+use Rattle.std.specs.Prelude.{◌≡◌, ℕ, List, [], take, ⊤, Option, Some, None, unwrap_or}
 use Rattle.std.specs.Io.KnownBytes.{Appends}
 use Rattle.cfi_tool.specs.Command.{Request, RunWords, verify, run, names_of, request_of}
 use Rattle.cfi_tool.specs.Reads.{Content, Gave, GaveIfNamed, IsLong, IsReached}
-use Rattle.cfi_tool.specs.Runs.{IsRunOf, or_empty}
+use Rattle.cfi_tool.specs.Runs.{IsRunOf}
 use Rattle.cfi_tool.specs.Verdict.{IsVerdictOf}
 use Rattle.cfi_tool.specs.declared.outcome.Notice.TheVariants.{Judged, BadScript, Usage, ReadFault, TooLong}
 use Rattle.cfi_tool.specs.declared.outcome.Outcome.{Outcome}
@@ -30,7 +30,7 @@ pub record HasRun (content : Content) (words : RunWords) (outcome : RunOutcome) 
   pub graph_gave : Gave (content words.graph) graph_bytes
   pub script_gave : GaveIfNamed content words.script script_bytes
   pub input_gave : GaveIfNamed content words.input input_bytes
-  pub run_is : IsRunOf image_bytes graph_bytes script_bytes (or_empty input_bytes) words.limit outcome
+  pub run_is : IsRunOf image_bytes graph_bytes script_bytes (unwrap_or input_bytes []) words.limit outcome
 
 -- what an outcome says of what was asked for; `failed` is the name of the last read that failed
 abbrev pub ExplainsRequest : Content → List ℕ → Request → Outcome → Type 0

@@ -26,10 +26,6 @@ abbrev pub script_given : Option (List ℕ) → Result (List (ℕ × (ℕ × ℕ
 script_given None = Ok []
 script_given (Some text) = script_of text
 
-abbrev pub or_empty : Option (List ℕ) → List ℕ
-or_empty None = []
-or_empty (Some bytes) = bytes
-
 -- a report of a safe pair's run under the changes of a script
 pub record IsSafeRun (image : Contents) (graph : GraphParts) (script : List (ℕ × (ℕ × ℕ))) (input : List ℕ) (limit : ℕ) (report : RunReport) : Type 0 where
   pub well_formed : IsWellFormed version_1 image graph

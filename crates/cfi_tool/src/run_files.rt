@@ -1,10 +1,10 @@
-ghost use Rattle.std.specs.Prelude.{◌≡◌, ◌↔◌, ◌≤◌, ℕ, List, IfOk, IfErr, option_map};
+ghost use Rattle.std.specs.Prelude.{◌≡◌, ◌↔◌, ◌≤◌, ℕ, List, [], IfOk, IfErr, option_map, unwrap_or};
 ghost use Rattle.tool_io.specs.Faults.{Counts};
 ghost use Rattle.cfi_tool.specs.Asked.{run_words};
 ghost use Rattle.cfi_tool.specs.Command.{names_of, run};
 ghost use Rattle.cfi_tool.specs.Causes.{ExplainsRequest, IsReadFault, IsTooLong};
 ghost use Rattle.cfi_tool.specs.Reads.{Gave, GaveIfNamed, IsFault, IsLongRead, IsUnread};
-ghost use Rattle.cfi_tool.specs.Runs.{IsRunOf, or_empty};
+ghost use Rattle.cfi_tool.specs.Runs.{IsRunOf};
 
 use crate::outcome::{Notice, Outcome};
 use crate::ran::{RunOutcome, run_bytes};
@@ -58,7 +58,7 @@ fn read_run<'a, F: Files>(
 /// The run that the bytes of its files come to.
 fn run_read(alloc: Global, bytes: &RunBytes, limit: u64) -> Result<RunOutcome, NoMemory>
     ensures { IfOk result (IsRunOf bytes.now.image.items bytes.now.graph.items (option_map (λ b. b.items) bytes.now.script)
-        (or_empty (option_map (λ b. b.items) bytes.now.input)) limit) }
+        (unwrap_or (option_map (λ b. b.items) bytes.now.input) []) limit) }
 {
     let script = match &bytes.script {
         Some(text) => Some(text.as_slice()),

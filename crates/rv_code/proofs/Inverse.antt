@@ -3,13 +3,14 @@ use Rattle.std.proofs.Common.{◌≡◌, ℕ, ◌*◌, ◌/◌, ◌%◌, ◌^◌
 use Rattle.std.proofs.lemmas.Bool.{eqb-true, and_parts}
 use Rattle.std.proofs.lemmas.Option.{none-some, same_Some}
 use Rattle.std.specs.Prelude.{Bool, true, false, ◌&&◌, List, [], ◌∷◌, Option, Some, None, option_map, IfSome, ◌==◌, if◌then◌else◌}
+use Rattle.std.specs.Option.{option_or}
 use Rattle.rv_instr.specs.InRange.{IsInstr}
 use Rattle.rv_instr.specs.declared.instr.Instr.{Instr}
 use Rattle.rv_instr.specs.declared.instr.Instr.TheVariants.{Upper, Jal, Branch, Load, Store, Immediate, Shift, Register, Ecall}
 use Rattle.rv_instr.specs.declared.instr.UpperOp.TheVariants.{Lui, Auipc}
 use Rattle.rv_instr.specs.declared.instr.ImmediateOp.TheVariants.{Addiw}
 use Rattle.rv_code.specs.Fields.{fields_of, imm_i, imm_s, imm_b, imm_u, imm_j, shift_amount, with_funct3}
-use Rattle.rv_code.specs.Tables.{row, or_else, branches, loads, stores, immediates, shifts, word_shifts, registers, word_registers}
+use Rattle.rv_code.specs.Tables.{row, branches, loads, stores, immediates, shifts, word_shifts, registers, word_registers}
 use Rattle.rv_code.specs.Decode.{decoded, decoded_by, immediate_of, word_immediate_of, jump_of, fence_of, system_of}
 use Rattle.rv_code.specs.Encode.{code_of, fixed, branch_code, load_code, store_code, immediate_code, shift_code, word_shift_code, register_code}
 
@@ -31,7 +32,7 @@ mapped : {A B : Type 0} (f : A → B) (o : Option A) (i : B) → option_map f o 
 mapped f None i e = absurd (none-some i e)
 mapped f (Some x) i e = (x, refl, same_Some (f x) i e)
 
-either : {A : Type 0} (x y : Option A) (i : A) → or_else x y ≡ Some i → (x ≡ Some i) ⊎ (y ≡ Some i)
+either : {A : Type 0} (x y : Option A) (i : A) → option_or x y ≡ Some i → (x ≡ Some i) ⊎ (y ≡ Some i)
 either None y i e = inr e
 either (Some x) y i e = inl e
 

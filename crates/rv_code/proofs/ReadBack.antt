@@ -1,6 +1,7 @@
 -- The word of an instruction is decoded as this instruction.
 use Rattle.std.proofs.Common.{◌≡◌, ℕ, ◌+◌, ◌*◌, ◌/◌, ◌%◌, ◌^◌, ◌<◌, refl, ap, ◌∙◌, arith, lit<, inl, inr}
 use Rattle.std.specs.Prelude.{List, Option, Some, None, option_map}
+use Rattle.std.specs.Option.{option_or}
 use Rattle.rv_instr.specs.Fence.{IsFence}
 use Rattle.rv_instr.specs.InRange.{IsInstr}
 use Rattle.rv_instr.specs.declared.instr.Instr.{Instr}
@@ -16,7 +17,7 @@ use Rattle.rv_instr.specs.declared.instr.ShiftOp.{ShiftOp}
 use Rattle.rv_instr.specs.declared.instr.ShiftWordOp.{ShiftWordOp}
 use Rattle.rv_instr.specs.declared.instr.RegisterOp.{RegisterOp}
 use Rattle.rv_code.specs.Fields.{with_funct3}
-use Rattle.rv_code.specs.Tables.{row, or_else, branches, loads, stores, immediates, shifts, word_shifts, registers, word_registers}
+use Rattle.rv_code.specs.Tables.{row, branches, loads, stores, immediates, shifts, word_shifts, registers, word_registers}
 use Rattle.rv_code.specs.Decode.{decoded}
 use Rattle.rv_code.specs.Encode.{code_of, fixed, at_rd, at_rs1, at_rs2, at_imm_s, at_imm_b, at_imm_j}
 use Rattle.rv_code.proofs.Rows.{branch_row, load_row, store_row, immediate_row, shift_row, word_shift_row, register_row}
@@ -27,14 +28,14 @@ found : {A : Type 0} (rows : List (ℕ × A)) (n : ℕ) (op : A) (f : A → Inst
 found rows n op f i e g = ap (option_map f) e ∙ ap Some g
 
 first_found : {A : Type 0} (rows : List (ℕ × A)) (n : ℕ) (op : A) (f : A → Instr) (i : Instr) (other : Option Instr) →
-    row rows n ≡ Some op → f op ≡ i → or_else (option_map f (row rows n)) other ≡ Some i
-first_found rows n op f i other e g = ap (λ o. or_else o other) (found rows n op f i e g)
+    row rows n ≡ Some op → f op ≡ i → option_or (option_map f (row rows n)) other ≡ Some i
+first_found rows n op f i other e g = ap (λ o. option_or o other) (found rows n op f i e g)
 
 then_found : {A B : Type 0} (rows : List (ℕ × A)) (n : ℕ) (f : A → Instr) (others : List (ℕ × B)) (m k : ℕ) (op : B)
     (g : B → Instr) (i : Instr) → row rows n ≡ None → m ≡ k → row others k ≡ Some op → g op ≡ i →
-    or_else (option_map f (row rows n)) (option_map g (row others m)) ≡ Some i
+    option_or (option_map f (row rows n)) (option_map g (row others m)) ≡ Some i
 then_found rows n f others m k op g i none same e h =
-    ap (λ o. or_else (option_map f o) (option_map g (row others m))) none
+    ap (λ o. option_or (option_map f o) (option_map g (row others m))) none
     ∙ ap (λ j. option_map g (row others j)) same ∙ found others k op g i e h
 
 -- the words of the formats by their six fields

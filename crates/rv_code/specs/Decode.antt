@@ -1,12 +1,13 @@
 -- The instruction that a word is (RISC-V unprivileged ISA, "RV32/64G Instruction Set Listings", the
 -- rows of RV32I and RV64I). Every other word, the word of zeros among them, is no instruction.
 use Rattle.std.specs.Prelude.{ℕ, ◌/◌, ◌==◌, if◌then◌else◌, Option, Some, None, option_map}
+use Rattle.std.specs.Option.{option_or}
 use Rattle.rv_instr.specs.declared.instr.Instr.{Instr}
 use Rattle.rv_instr.specs.declared.instr.Instr.TheVariants.{Upper, Jal, Jalr, Branch, Load, Store, Immediate, Shift, ShiftWord, Register, Fence, Ecall, Ebreak}
 use Rattle.rv_instr.specs.declared.instr.UpperOp.TheVariants.{Lui, Auipc}
 use Rattle.rv_instr.specs.declared.instr.ImmediateOp.TheVariants.{Addiw}
 use Rattle.rv_code.specs.Fields.{Fields, fields_of, imm_i, imm_s, imm_b, imm_u, imm_j, shift_amount, with_funct3}
-use Rattle.rv_code.specs.Tables.{row, or_else, branches, loads, stores, immediates, shifts, word_shifts, registers, word_registers}
+use Rattle.rv_code.specs.Tables.{row, branches, loads, stores, immediates, shifts, word_shifts, registers, word_registers}
 
 -- opcode 67h
 abbrev pub jump_of : Fields → Option Instr
@@ -15,7 +16,7 @@ jump_of f = if f.funct3 == 0 then Some (Jalr f.rd f.rs1 (imm_i f)) else None
 -- opcode 13h: computations with an immediate, and shifts by a constant
 abbrev pub immediate_of : Fields → Option Instr
 immediate_of f =
-    or_else (option_map (λ op. Immediate op f.rd f.rs1 (imm_i f)) (row immediates f.funct3))
+    option_or (option_map (λ op. Immediate op f.rd f.rs1 (imm_i f)) (row immediates f.funct3))
     (option_map (λ op. Shift op f.rd f.rs1 (shift_amount f)) (row shifts (with_funct3 (f.funct7 / 2) f.funct3)))
 
 -- opcode 1Bh: the same on the low 32 bits

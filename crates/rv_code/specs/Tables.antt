@@ -22,11 +22,6 @@ abbrev pub row : {A : Type 0} → List (ℕ × A) → ℕ → Option A
 row [] n = None
 row (r ∷ rows) n = if n == r.0 then Some r.1 else row rows n
 
--- the first of two that is there
-abbrev pub or_else : {A : Type 0} → Option A → Option A → Option A
-or_else (Some x) y = Some x
-or_else None y = y
-
 -- opcode 63h, by funct3
 abbrev pub branches : List (ℕ × BranchOp)
 branches = (0, Beq) ∷ (1, Bne) ∷ (4, Blt) ∷ (5, Bge) ∷ (6, Bltu) ∷ (7, Bgeu) ∷ []

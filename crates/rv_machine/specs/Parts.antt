@@ -1,5 +1,5 @@
 -- What a machine is made of, as a hart and what harts share.
-use Rattle.std.specs.Prelude.{◌≡◌, ℕ, Bool, true, false, List, Option, Some, None}
+use Rattle.std.specs.Prelude.{◌≡◌, ℕ, Bool, true, false, List, Some, None}
 use Rattle.rv_word.specs.Layout.{DATA_END, lies_within}
 use Rattle.rv_word.specs.Memory.{read}
 use Rattle.rv_instr.specs.declared.instr.Instr.{Instr}
