@@ -1,4 +1,5 @@
--- The small pairs with a fault are not safe: their undisturbed runs leave what stands where the walk is.
+-- The small pairs with a fault are not safe: their undisturbed runs leave what stands where the walk is,
+-- or exit where none may.
 use Rattle.std.proofs.Common.{◌≡◌, ℕ, zero, suc, ◌+◌, ◌≤◌, List, [], ◌∷◌, refl, ap, subst, Some, arith, lit≤, replicate}
 use Rattle.std.specs.Prelude.{slice_get}
 use Rattle.std.specs.List.{AllByRecursion}
@@ -10,16 +11,16 @@ use Rattle.rv_code.specs.Encode.{code_of}
 use Rattle.rv_code.specs.Run.{ByteChange}
 use Rattle.rv_code.specs.State.{start_hart, start_shared, last_exit}
 use Rattle.rv_code.specs.Step.{step}
-use Rattle.rv_code.specs.declared.turn.Turn.TheVariants.{Ran}
+use Rattle.rv_code.specs.declared.turn.Turn.TheVariants.{Ran, Exit}
 use Rattle.cfi_graph.specs.Graph.{GraphParts}
 use Rattle.cfi_unit.specs.declared.unit.Unit.TheVariants as V
-use Rattle.cfi_unit.specs.Place.{Place, opening, body, place_size}
+use Rattle.cfi_unit.specs.Place.{Place, handler, opening, body, place_size}
 use Rattle.cfi_unit.specs.Recognise.{recognised}
 use Rattle.cfi_unit.specs.UnitWords.{words_of}
-use Rattle.cfi_verify.specs.Along.{IsSafe, AreDataChanges}
+use Rattle.cfi_verify.specs.Along.{IsSafe, AreDataChanges, MayEnd}
 use Rattle.cfi_verify.specs.Split.{code_words, starts, is_start, unit_at, place_at}
 use Rattle.cfi_verify.specs.Trails.{Begin, trail_of, IsInPlace}
-use Rattle.cfi_verify.specs.Unsafe.{middle, middle_graph, bare_return, bare_return_graph, bare_store, bare_store_graph, moved_pointer, moved_pointer_graph, MiddleIsUnsafe, BareReturnIsUnsafe, BareStoreIsUnsafe, MovedPointerIsUnsafe}
+use Rattle.cfi_verify.specs.Unsafe.{middle, middle_graph, bare_return, bare_return_graph, bare_store, bare_store_graph, moved_pointer, moved_pointer_graph, exiting_handler, exiting_handler_graph, MiddleIsUnsafe, BareReturnIsUnsafe, BareStoreIsUnsafe, MovedPointerIsUnsafe, ExitingHandlerIsUnsafe}
 use Rattle.cfi_verify.proofs.Trails.{safe_stays}
 
 abbrev calm : ℕ → List (List ByteChange)
@@ -34,19 +35,35 @@ each P [] k x all e = absurd (cc)
 each {A} P (y ∷ ys) zero x all e = let same : y ≡ x = cc in subst P same all.0
 each P (y ∷ ys) (suc k) x all e = each P ys k x all.1 e
 
+-- the begun instructions of the undisturbed run without an input
+abbrev calm_trail : Contents → ℕ → List Begin
+calm_trail image n = trail_of version_1 (code_words image.code) 0 start_hart (start_shared image []) (calm n)
+
+begins_in_place : (image : Contents) (graph : GraphParts) (n k : ℕ) (b : Begin) →
+    slice_get (calm_trail image n) k ≡ Some b → IsSafe image graph → IsInPlace version_1 (code_words image.code) b
+begins_in_place image graph n k b here safe =
+    each (IsInPlace version_1 (code_words image.code)) (calm_trail image n) k b (safe_stays image graph [] (calm n) safe (calm_is_data n)) here
+
 -- an instruction past what stands at the newest address of the walk refutes safety
 refuted : (image : Contents) (graph : GraphParts) (n k : ℕ) (b : Begin) (place : Place) →
-    slice_get (trail_of version_1 (code_words image.code) 0 start_hart (start_shared image []) (calm n)) k ≡ Some b →
+    slice_get (calm_trail image n) k ≡ Some b →
     place_at version_1 (code_words image.code) b.newest ≡ Some place → b.newest + place_size place ≤ b.pc → IsSafe image graph → ⊥
 refuted image graph n k b place here is past safe =
-    let i : IsInPlace version_1 (code_words image.code) b =
-    each (IsInPlace version_1 (code_words image.code)) (trail_of version_1 (code_words image.code) 0 start_hart (start_shared image []) (calm n)) k b
-    (safe_stays image graph [] (calm n) safe (calm_is_data n)) here in
+    let i = begins_in_place image graph n k b here safe in
     let same : i.0 ≡ place = let other = i.1 in cc in
     let word = i.2 in
     let size : place_size i.0 ≡ place_size place = ap place_size same in
     let below = word.1 in let at = word.2 in
     omega arith
+
+-- and so does one that ends as it may not where it stands
+refuted_by_end : (image : Contents) (graph : GraphParts) (n k : ℕ) (b : Begin) (place : Place) →
+    slice_get (calm_trail image n) k ≡ Some b →
+    place_at version_1 (code_words image.code) b.newest ≡ Some place → (MayEnd place b.turn → ⊥) → IsSafe image graph → ⊥
+refuted_by_end image graph n k b place here is never safe =
+    let i = begins_in_place image graph n k b here safe in
+    let same : i.0 ≡ place = let other = i.1 in cc in
+    never (subst (λ p. MayEnd p b.turn) same i.3)
 
 pub middle_unsafe : MiddleIsUnsafe
 unfolding loaded placed decoded code_of step write last_exit code_words recognised words_of starts is_start unit_at place_at trail_of
@@ -67,3 +84,8 @@ pub moved_pointer_unsafe : MovedPointerIsUnsafe
 unfolding loaded placed decoded code_of step write last_exit code_words recognised words_of starts is_start unit_at place_at trail_of
 moved_pointer_unsafe =
     refuted moved_pointer moved_pointer_graph 11 10 (record { newest = 0x4000000c; pc = 0x40000040; turn = Ran }) (opening 0x40000040) refl refl (lit≤ tt)
+
+pub exiting_handler_unsafe : ExitingHandlerIsUnsafe
+unfolding loaded placed decoded code_of step write last_exit code_words recognised words_of starts is_start unit_at place_at trail_of
+exiting_handler_unsafe =
+    refuted_by_end exiting_handler exiting_handler_graph 13 12 (record { newest = 0x40000000; pc = 0x40000000; turn = Exit 0 }) handler refl refl (λ e. e)

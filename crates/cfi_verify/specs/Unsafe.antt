@@ -1,5 +1,5 @@
 -- Small pairs with one fault each, which are not safe: so safety is not said of everything.
-use Rattle.std.specs.Prelude.{ℕ, ◌/◌, ◌%◌, ◌^◌, List, [], ◌∷◌, ◌++◌, map}
+use Rattle.std.specs.Prelude.{ℕ, ◌/◌, ◌%◌, ◌^◌, List, [], ◌∷◌, ◌++◌, map, drop}
 use Rattle.rv_word.specs.Image.{Contents}
 use Rattle.rv_code.specs.Encode.{code_of}
 use Rattle.cfi_graph.specs.Graph.{GraphParts}
@@ -64,3 +64,13 @@ moved_pointer_graph = graph_with 0x48 []
 
 abbrev pub MovedPointerIsUnsafe : Type 0
 MovedPointerIsUnsafe = IsSafe moved_pointer moved_pointer_graph → ⊥
+
+-- an exit in place of the break of the handler of bad targets; the code asks for it and goes there
+abbrev pub exiting_handler : Contents
+exiting_handler = record { init = []; code = bytes_of (0x00000073 ∷ drop 1 prologue ++ 0x05d00893 ∷ 0xfbdff06f ∷ []) }
+
+abbrev pub exiting_handler_graph : GraphParts
+exiting_handler_graph = graph_with 0x48 []
+
+abbrev pub ExitingHandlerIsUnsafe : Type 0
+ExitingHandlerIsUnsafe = IsSafe exiting_handler exiting_handler_graph → ⊥

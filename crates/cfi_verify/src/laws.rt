@@ -1,6 +1,6 @@
 //! What holds of accepted pairs and of their runs. Each function states one law; nothing is computed.
 ghost use Rattle.cfi_verify.specs.Laws.{CodeIsSplit, WellFormedIsSafe, SafeStaysInPlace, SafeWalksGraph};
-ghost use Rattle.cfi_verify.specs.Unsafe.{MiddleIsUnsafe, BareReturnIsUnsafe, BareStoreIsUnsafe, MovedPointerIsUnsafe};
+ghost use Rattle.cfi_verify.specs.Unsafe.{MiddleIsUnsafe, BareReturnIsUnsafe, BareStoreIsUnsafe, MovedPointerIsUnsafe, ExitingHandlerIsUnsafe};
 
 /// An image and a graph that meet the rules are safe.
 #[tactic(auto, using(crate::proofs::Safety::well_formed_safe))]
@@ -43,4 +43,9 @@ pub fn bare_store_is_unsafe()
 /// An image with a plain instruction that writes x3 is not safe.
 pub fn moved_pointer_is_unsafe()
     ensures { MovedPointerIsUnsafe }
+{}
+
+/// An image that exits in the handler of bad targets is not safe.
+pub fn exiting_handler_is_unsafe()
+    ensures { ExitingHandlerIsUnsafe }
 {}
