@@ -4,7 +4,7 @@ use Rattle.std.proofs.lemmas.List.{length-append}
 use Rattle.std.specs.List.{AllByRecursion}
 use Rattle.rv_word.specs.Image.{Contents}
 use Rattle.rv_word.specs.Layout.{version_1}
-use Rattle.rv_code.specs.Run.{IsDataChange, disturbed_step, next_or_stop, run}
+use Rattle.rv_code.specs.Run.{IsDataChange, disturbed_step, if_ran, next_or_stop, run}
 use Rattle.rv_code.specs.State.{After, Hart, Shared, start_hart, start_shared}
 use Rattle.rv_code.specs.declared.turn.Turn.{Turn}
 use Rattle.rv_code.specs.declared.turn.Turn.TheVariants.{Ran, Exit, Break, LoadFault, StoreFault, FetchFault, Illegal}
@@ -15,8 +15,7 @@ use Rattle.cfi_verify.specs.Laws.{SafeStaysInPlace}
 use Rattle.cfi_verify.specs.Split.{code_words, place_at}
 use Rattle.cfi_verify.specs.Trails.{newest_of, trail_of}
 use Rattle.cfi_verify.specs.Walks.{if_starts, walk_of}
-use Rattle.cfi_verify.specs.Walks as walks
-use Rattle.cfi_step.specs.Plan.{Plan, changes_of, if_ran, numbered, planned}
+use Rattle.cfi_step.specs.Plan.{Plan, changes_of, numbered, planned}
 use Rattle.cfi_step.specs.Report.{end_of, break_at}
 use Rattle.cfi_step.specs.Running.{is_stop, IsBegun, IsOver, StaysFrom}
 use Rattle.cfi_step.specs.Trail.{IsTrailOf, TrailParts}
@@ -100,7 +99,7 @@ stays_stopped (StoreFault pc a) after rest e = refl
 stays_stopped (FetchFault pc) after rest e = refl
 stays_stopped (Illegal pc) after rest e = refl
 
-no_address : (turn : Turn) → walks.if_ran turn [] ≡ []
+no_address : (turn : Turn) → if_ran {A = ℕ} turn [] ≡ []
 no_address Ran = refl
 no_address (Exit status) = refl
 no_address (Break pc) = refl
@@ -154,7 +153,7 @@ module _ (image : Contents) (h0 : Hart) (s0 : Shared) (whole : List (List (ℕ �
   walk_on : after.turn ≡ Ran → (rest : List (List (ℕ × ℕ))) → walk_of version_1 words h s (map changes_of (cs ∷ rest)) ≡ if_starts (place_at version_1 words h.pc) h.pc [] ++ walk_of version_1 words after.hart after.shared (map changes_of rest)
   unfolding walk_of
   walk_on ran rest =
-      ap (λ turn. if_starts (place_at version_1 words h.pc) h.pc (walks.if_ran turn (walk_of version_1 words after.hart after.shared (map changes_of rest)))) ran
+      ap (λ turn. if_starts (place_at version_1 words h.pc) h.pc (if_ran turn (walk_of version_1 words after.hart after.shared (map changes_of rest)))) ran
       ∙ starts_first (place_at version_1 words h.pc) h.pc (walk_of version_1 words after.hart after.shared (map changes_of rest))
 
   planned_on : after.turn ≡ Ran → planned version_1 plan k h s (suc n) ≡ cs ∷ later

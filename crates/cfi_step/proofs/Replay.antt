@@ -5,12 +5,12 @@ use Rattle.std.specs.List.{All}
 use Rattle.std.proofs.lemmas.List.Elements.{All-cons, filter-append}
 use borrow.Author.Tests.{ne_eqb}
 use Rattle.rv_word.specs.Layout.{Profile}
-use Rattle.rv_code.specs.Run.{disturbed_step}
+use Rattle.rv_code.specs.Run.{disturbed_step, if_ran}
 use Rattle.rv_code.specs.State.{After, Hart, Shared}
 use Rattle.rv_code.specs.declared.turn.Turn.{Turn}
 use Rattle.rv_code.specs.declared.turn.Turn.TheVariants.{Ran, Exit, Break, LoadFault, StoreFault, FetchFault, Illegal}
 use Rattle.cfi_step.proofs.ScriptPlans.{IsFrom, first_of_script, nothing}
-use Rattle.cfi_step.specs.Plan.{Plan, changes_of, if_ran, numbered, planned}
+use Rattle.cfi_step.specs.Plan.{Plan, changes_of, numbered, planned}
 use Rattle.cfi_step.specs.Script.{script_plan}
 
 -- those of a step

@@ -2,10 +2,8 @@
 -- before that step: each an address and a byte.
 use Rattle.std.specs.Prelude.{ℕ, zero, suc, ◌+◌, List, [], ◌∷◌, ◌++◌, map}
 use Rattle.rv_word.specs.Layout.{Profile}
-use Rattle.rv_code.specs.Run.{ByteChange, disturbed_step}
+use Rattle.rv_code.specs.Run.{ByteChange, disturbed_step, if_ran}
 use Rattle.rv_code.specs.State.{Hart, Shared}
-use Rattle.rv_code.specs.declared.turn.Turn.{Turn}
-use Rattle.rv_code.specs.declared.turn.Turn.TheVariants.{Ran}
 
 abbrev pub Plan : Type 0
 Plan = ℕ → Hart → Shared → List (ℕ × ℕ)
@@ -15,11 +13,6 @@ change_of c = record { address = c.0; byte = c.1 }
 
 abbrev pub changes_of : List (ℕ × ℕ) → List ByteChange
 changes_of cs = map change_of cs
-
--- what follows an instruction that ran, and nothing after a stop
-abbrev pub if_ran : Turn → List (List (ℕ × ℕ)) → List (List (ℕ × ℕ))
-if_ran Ran later = later
-if_ran other later = []
 
 -- the changes before each step of a run of at most `n` steps, from the step with number `k` on
 unfoldable pub planned : Profile → Plan → ℕ → Hart → Shared → ℕ → List (List (ℕ × ℕ))

@@ -3,7 +3,7 @@ use Rattle.std.proofs.Common.{◌≡◌, ℕ, inl, inr, List, [], ◌∷◌, sub
 use Rattle.std.specs.List.{AllByRecursion}
 use Rattle.rv_word.specs.Image.{Contents}
 use Rattle.rv_word.specs.Layout.{Profile, SHADOW_START, version_1}
-use Rattle.rv_code.specs.Run.{ByteChange, disturbed_step}
+use Rattle.rv_code.specs.Run.{ByteChange, disturbed_step, if_ran}
 use Rattle.rv_code.specs.State.{Hart, Shared, start_hart, start_shared}
 use Rattle.rv_code.specs.declared.turn.Turn.{Turn}
 use Rattle.rv_code.specs.declared.turn.Turn.TheVariants.{Ran, Exit, Break, LoadFault, StoreFault, FetchFault, Illegal}
@@ -11,7 +11,7 @@ use Rattle.cfi_graph.specs.declared.line.GraphLine.{GraphLine}
 use Rattle.cfi_verify.specs.Along.{Walk, OnRan, RunsAlong}
 use Rattle.cfi_verify.specs.Laws.{SafeStaysInPlace}
 use Rattle.cfi_verify.specs.Split.{code_words, place_at}
-use Rattle.cfi_verify.specs.Trails.{Begin, begins_if_ran, newest_of, trail_of, IsInPlace}
+use Rattle.cfi_verify.specs.Trails.{Begin, newest_of, trail_of, IsInPlace}
 use Rattle.cfi_verify.proofs.Marks.{cases_Option}
 
 module _ (p : Profile) (part : ℕ) (image : Contents) (words : List ℕ) (lines : List GraphLine) where
@@ -19,7 +19,7 @@ module _ (p : Profile) (part : ℕ) (image : Contents) (words : List ℕ) (lines
   Runs before h s changes = RunsAlong p part image words lines before h s changes
 
   if_goes : (turn : Turn) (later : List Begin) (X : Type 0) → OnRan turn X → (X → AllByRecursion (IsInPlace p words) later) →
-      AllByRecursion (IsInPlace p words) (begins_if_ran turn later)
+      AllByRecursion (IsInPlace p words) (if_ran turn later)
   if_goes Ran later X on steps = steps on
   if_goes (Exit status) later X on steps = tt
   if_goes (Break pc) later X on steps = tt

@@ -2,7 +2,7 @@
 use Rattle.std.proofs.Common.{◌≡◌, ℕ, inl, inr, List, [], ◌∷◌, subst, Option, Some, None}
 use Rattle.rv_word.specs.Image.{Contents}
 use Rattle.rv_word.specs.Layout.{Profile, SHADOW_START, version_1}
-use Rattle.rv_code.specs.Run.{ByteChange, disturbed_step}
+use Rattle.rv_code.specs.Run.{ByteChange, disturbed_step, if_ran}
 use Rattle.rv_code.specs.State.{Hart, Shared, start_hart, start_shared}
 use Rattle.rv_code.specs.declared.turn.Turn.{Turn}
 use Rattle.rv_code.specs.declared.turn.Turn.TheVariants.{Ran, Exit, Break, LoadFault, StoreFault, FetchFault, Illegal}
@@ -10,7 +10,7 @@ use Rattle.cfi_graph.specs.declared.line.GraphLine.{GraphLine}
 use Rattle.cfi_verify.specs.Along.{Walk, OnRan, RunsAlong}
 use Rattle.cfi_verify.specs.Laws.{SafeWalksGraph}
 use Rattle.cfi_verify.specs.Split.{code_words, place_at}
-use Rattle.cfi_verify.specs.Walks.{if_ran, walk_of, AreSteps, IsGraphWalk}
+use Rattle.cfi_verify.specs.Walks.{walk_of, AreSteps, IsGraphWalk}
 use Rattle.cfi_verify.proofs.Marks.{cases_Option}
 
 module _ (p : Profile) (part : ℕ) (image : Contents) (words : List ℕ) (lines : List GraphLine) where

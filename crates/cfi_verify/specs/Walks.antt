@@ -2,20 +2,13 @@
 -- something starts are a list of steps of the graph walk, from the opening with nothing pending.
 use Rattle.std.specs.Prelude.{◌≡◌, ℕ, List, [], ◌∷◌, Option, Some, None}
 use Rattle.rv_word.specs.Layout.{Profile}
-use Rattle.rv_code.specs.Run.{ByteChange, disturbed_step}
+use Rattle.rv_code.specs.Run.{ByteChange, disturbed_step, if_ran}
 use Rattle.rv_code.specs.State.{Hart, Shared}
-use Rattle.rv_code.specs.declared.turn.Turn.{Turn}
-use Rattle.rv_code.specs.declared.turn.Turn.TheVariants.{Ran}
 use Rattle.cfi_graph.specs.declared.line.GraphLine.{GraphLine}
 use Rattle.cfi_unit.specs.Place.{Place}
 use Rattle.cfi_unit.specs.Prologue.{OPENING}
 use Rattle.cfi_verify.specs.Split.{place_at}
 use Rattle.cfi_verify.specs.Walk.{Goes}
-
--- what follows an instruction that ran, and nothing after a stop
-abbrev pub if_ran : Turn → List ℕ → List ℕ
-if_ran Ran rest = rest
-if_ran other rest = []
 
 -- the address, if something starts there
 abbrev pub if_starts : Option Place → ℕ → List ℕ → List ℕ

@@ -29,7 +29,12 @@ disturbed s cs = record s { memory = changed s.memory cs }
 abbrev pub disturbed_step : Profile → Hart → Shared → List ByteChange → After
 disturbed_step p h s cs = step p h (disturbed s cs)
 
--- what follows a step: nothing, unless the instruction ran
+-- what follows an instruction that ran, and nothing after a stop
+abbrev pub if_ran : {A : Type 0} → Turn → List A → List A
+if_ran Ran rest = rest
+if_ran other rest = []
+
+-- where a run is after a step: further on, unless the step stopped it
 abbrev pub next_or_stop : Turn → After → After → After
 next_or_stop Ran after rest = rest
 next_or_stop (Exit status) after rest = after

@@ -11,8 +11,8 @@ ghost use Rattle.rv_code.specs.Decode.{
 };
 
 use crate::fields::{
-    amount, funct3, function, immediate_b, immediate_i, immediate_j, immediate_s, immediate_u, rd,
-    rs1, rs2, shift_function, word_amount,
+    amount, funct3, function, immediate_b, immediate_i, immediate_j, immediate_s, immediate_u,
+    opcode, rd, rs1, rs2, shift_function, word_amount,
 };
 use crate::operations;
 use rv_instr::{FenceWord, ImmediateOp, Instr, UpperOp};
@@ -30,7 +30,7 @@ pub fn decode(word: u32) -> Option<Instr>
 fn by_opcode(word: u32) -> Option<Instr>
     ensures { result ≡ decoded word }
 {
-    match word & 0x7f {
+    match opcode(word) {
         0x37 => Some(Instr::Upper(UpperOp::Lui, rd(word), immediate_u(word))),
         0x17 => Some(Instr::Upper(UpperOp::Auipc, rd(word), immediate_u(word))),
         0x6f => Some(Instr::Jal(rd(word), immediate_j(word))),

@@ -12,6 +12,12 @@ ghost use Rattle.rv_code.specs.Fields.{
 
 use rv_instr::{Immediate, Reg};
 
+pub(crate) fn opcode(word: u32) -> u32
+    ensures { result ≡ (fields_of word).opcode }
+{
+    word & 0x7f
+}
+
 pub(crate) fn rd(word: u32) -> Reg
     ensures { result ≡ (fields_of word).rd }
 {
