@@ -1,5 +1,8 @@
-ghost use Rattle.std.specs.Prelude.{◌≡◌, ◌+◌, ◌-◌, ◌^◌, ◌≤◌, min};
+ghost use Rattle.std.specs.Prelude.{◌≡◌, ◌+◌, ◌-◌, ◌^◌, ◌≤◌, Err, min};
+ghost use Rattle.tool_io.specs.Faults.{Counts};
+ghost use Rattle.tool_io.specs.declared.ends.ReadEnd.TheVariants as ReadEnd;
 
+use crate::ReadEnd;
 use std::alloc::Global;
 
 /// The counts that an implementation of `Files` keeps, and the name of its last read that failed.
@@ -25,21 +28,22 @@ impl Faults {
         }
     }
 
-    pub(crate) fn read_failed(&mut self, name: String)
-        ensures counted { self.new.reads ≡ min (self.old.reads + 1) (2 ^ 64 - 1) }
-        ensures later { self.old.reads ≤ self.new.reads }
-        ensures rest { self.new ≡ record self.old { reads = self.new.reads; name = name } }
+    /// Counts the end of a read of the file of a name.
+    pub(crate) fn note_read(&mut self, name: String, end: &Result<Vec<u8>, ReadEnd>)
+        ensures reads { Counts (end.now ≡ Err ReadEnd.Failed) self.old.reads self.new.reads }
+        ensures long_reads { Counts (end.now ≡ Err ReadEnd.TooLong) self.old.long_reads self.new.long_reads }
+        ensures writes { self.new.writes ≡ self.old.writes }
+        ensures named { end.now ≡ Err ReadEnd.Failed → self.new.name ≡ name }
+        ensures name_kept { ¬ (end.now ≡ Err ReadEnd.Failed) → self.new.name ≡ self.old.name }
     {
-        self.reads = self.reads.saturating_add(1);
-        self.name = name;
-    }
-
-    pub(crate) fn read_was_long(&mut self)
-        ensures counted { self.new.long_reads ≡ min (self.old.long_reads + 1) (2 ^ 64 - 1) }
-        ensures later { self.old.long_reads ≤ self.new.long_reads }
-        ensures rest { self.new ≡ record self.old { long_reads = self.new.long_reads } }
-    {
-        self.long_reads = self.long_reads.saturating_add(1);
+        match end {
+            Err(ReadEnd::Failed) => {
+                self.reads = self.reads.saturating_add(1);
+                self.name = name;
+            }
+            Err(ReadEnd::TooLong) => self.long_reads = self.long_reads.saturating_add(1),
+            Err(ReadEnd::NoMemory) | Ok(_) => {}
+        }
     }
 
     pub(crate) fn write_failed(&mut self)

@@ -45,11 +45,7 @@ impl<'a, R: rt::Files> Files for HostFiles<'a, R> {
     fn read(&mut self, alloc: Global, name: &str, limit: u64) -> Result<Vec<u8>, ReadEnd> {
         let named = String::from_str(alloc, name)?;
         let end = read_opened(alloc, fs::open(self.rt, name), limit);
-        match end {
-            Err(ReadEnd::Failed) => self.faults.read_failed(named),
-            Err(ReadEnd::TooLong) => self.faults.read_was_long(),
-            Err(ReadEnd::NoMemory) | Ok(_) => {}
-        }
+        self.faults.note_read(named, &end);
         end
     }
 

@@ -1,6 +1,6 @@
-ghost use Rattle.std.specs.Prelude.{◌≡◌, ◌≢◌, ℕ, List, [], Some, None, OnOk, OnErr};
+ghost use Rattle.std.specs.Prelude.{◌≡◌, ◌≢◌, ◌<◌, ◌≤◌, ℕ, List, [], length, Some, None, Err, IfOk, OnOk, OnErr};
 ghost use Rattle.std.specs.Option.{option_map};
-ghost use Rattle.tool_io.specs.Entries.{entry_at};
+ghost use Rattle.tool_io.specs.Entries.{bytes_at, entry_at};
 
 use crate::calls::Calls;
 use crate::faults::Faults;
@@ -33,6 +33,26 @@ fn put_entry(
     let bytes = bytes.to_vec(alloc)?;
     entries.insert(name, bytes)?;
     Ok(())
+}
+
+/// The bytes of a file, if it is there and has at most `limit` bytes.
+fn read_entry(
+    alloc: Global,
+    entries: &BTreeMap<String, Vec<u8>>,
+    name: &str,
+    limit: u64,
+) -> Result<Vec<u8>, ReadEnd>
+    ensures all { IfOk result (λ v. entry_at entries.now name.now ≡ Some v.items) }
+    ensures within { IfOk result (λ v. length v.items ≤ limit) }
+    ensures too_long { result ≡ Err ReadEnd.TooLong → limit < length (bytes_at entries.now name.now) }
+{
+    let Some(bytes) = entries.get(name) else {
+        return Err(ReadEnd::Failed);
+    };
+    if bytes.len() as u64 > limit {
+        return Err(ReadEnd::TooLong);
+    }
+    Ok(bytes.as_slice().to_vec(alloc)?)
 }
 
 impl MemFiles {
@@ -89,20 +109,13 @@ impl Files for MemFiles {
 
     fn read(&mut self, alloc: Global, name: &str, limit: u64) -> Result<Vec<u8>, ReadEnd> {
         let named = String::from_str(alloc, name)?;
-        let fails = self.calls.next_fails();
-        match self.entries.get(name) {
-            Some(bytes) if !fails => {
-                if bytes.len() as u64 > limit {
-                    self.faults.read_was_long();
-                    return Err(ReadEnd::TooLong);
-                }
-                Ok(bytes.as_slice().to_vec(alloc)?)
-            }
-            _ => {
-                self.faults.read_failed(named);
-                Err(ReadEnd::Failed)
-            }
-        }
+        let end = if self.calls.next_fails() {
+            Err(ReadEnd::Failed)
+        } else {
+            read_entry(alloc, &self.entries, name, limit)
+        };
+        self.faults.note_read(named, &end);
+        end
     }
 
     fn write(&mut self, name: &str, bytes: &[u8]) -> Result<(), OutEnd> {
