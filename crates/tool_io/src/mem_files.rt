@@ -45,6 +45,7 @@ fn read_entry(
     ensures all { IfOk result (λ v. entry_at entries.now name.now ≡ Some v.items) }
     ensures within { IfOk result (λ v. length v.items ≤ limit) }
     ensures too_long { result ≡ Err ReadEnd.TooLong → limit < length (bytes_at entries.now name.now) }
+    ensures absent { result ≡ Err ReadEnd.Failed → entry_at entries.now name.now ≡ None }
 {
     let Some(bytes) = entries.get(name) else {
         return Err(ReadEnd::Failed);
