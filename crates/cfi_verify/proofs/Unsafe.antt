@@ -1,5 +1,5 @@
 -- The small pairs with a fault are not safe: their undisturbed runs leave what stands where the walk is,
--- or exit where none may.
+-- or stop where they may not.
 use Rattle.std.proofs.Common.{◌≡◌, ℕ, zero, suc, ◌+◌, ◌≤◌, List, [], ◌∷◌, refl, ap, subst, Some, arith, lit≤, replicate}
 use Rattle.std.specs.Prelude.{slice_get}
 use Rattle.std.specs.List.{AllByRecursion}
@@ -11,16 +11,16 @@ use Rattle.rv_code.specs.Encode.{code_of}
 use Rattle.rv_code.specs.Run.{ByteChange}
 use Rattle.rv_code.specs.State.{start_hart, start_shared, last_exit}
 use Rattle.rv_code.specs.Step.{step}
-use Rattle.rv_code.specs.declared.turn.Turn.TheVariants.{Ran, Exit}
+use Rattle.rv_code.specs.declared.turn.Turn.TheVariants.{Ran, Exit, Break, LoadFault, StoreFault, Illegal}
 use Rattle.cfi_graph.specs.Graph.{GraphParts}
 use Rattle.cfi_unit.specs.declared.unit.Unit.TheVariants as V
-use Rattle.cfi_unit.specs.Place.{Place, handler, opening, body, place_size}
+use Rattle.cfi_unit.specs.Place.{Place, handler, opening, closing, body, place_size}
 use Rattle.cfi_unit.specs.Recognise.{recognised}
 use Rattle.cfi_unit.specs.UnitWords.{words_of}
 use Rattle.cfi_verify.specs.Along.{IsSafe, AreDataChanges, MayEnd}
 use Rattle.cfi_verify.specs.Split.{code_words, starts, is_start, unit_at, place_at}
 use Rattle.cfi_verify.specs.Trails.{Begin, trail_of, IsInPlace}
-use Rattle.cfi_verify.specs.Unsafe.{middle, middle_graph, bare_return, bare_return_graph, bare_store, bare_store_graph, moved_pointer, moved_pointer_graph, exiting_handler, exiting_handler_graph, MiddleIsUnsafe, BareReturnIsUnsafe, BareStoreIsUnsafe, MovedPointerIsUnsafe, ExitingHandlerIsUnsafe}
+use Rattle.cfi_verify.specs.Unsafe.{middle, middle_graph, bare_return, bare_return_graph, bare_store, bare_store_graph, moved_pointer, moved_pointer_graph, exiting_handler, loading_handler, storing_handler, illegal_handler, handler_graph, breaking_closing, breaking_closing_graph, MiddleIsUnsafe, BareReturnIsUnsafe, BareStoreIsUnsafe, MovedPointerIsUnsafe, WrongStopsAreUnsafe}
 use Rattle.cfi_verify.proofs.Trails.{safe_stays}
 
 abbrev calm : ℕ → List (List ByteChange)
@@ -85,7 +85,36 @@ unfolding loaded placed decoded code_of step write last_exit code_words recognis
 moved_pointer_unsafe =
     refuted moved_pointer moved_pointer_graph 11 10 (record { newest = 0x4000000c; pc = 0x40000040; turn = Ran }) (opening 0x40000040) refl refl (lit≤ tt)
 
-pub exiting_handler_unsafe : ExitingHandlerIsUnsafe
+exit_unsafe : IsSafe exiting_handler handler_graph → ⊥
 unfolding loaded placed decoded code_of step write last_exit code_words recognised words_of starts is_start unit_at place_at trail_of
-exiting_handler_unsafe =
-    refuted_by_end exiting_handler exiting_handler_graph 13 12 (record { newest = 0x40000000; pc = 0x40000000; turn = Exit 0 }) handler refl refl (λ e. e)
+exit_unsafe =
+    refuted_by_end exiting_handler handler_graph 13 12 (record { newest = 0x40000000; pc = 0x40000000; turn = Exit 0 }) handler refl refl (λ e. e)
+
+load_fault_unsafe : IsSafe loading_handler handler_graph → ⊥
+unfolding loaded placed decoded code_of step write last_exit code_words recognised words_of starts is_start unit_at place_at trail_of
+load_fault_unsafe =
+    refuted_by_end loading_handler handler_graph 13 12 (record { newest = 0x40000000; pc = 0x40000000; turn = LoadFault 0x40000000 0x20000000 }) handler refl refl (λ e. e)
+
+store_fault_unsafe : IsSafe storing_handler handler_graph → ⊥
+unfolding loaded placed decoded code_of step write last_exit code_words recognised words_of starts is_start unit_at place_at trail_of
+store_fault_unsafe =
+    refuted_by_end storing_handler handler_graph 13 12 (record { newest = 0x40000000; pc = 0x40000000; turn = StoreFault 0x40000000 0x40000038 }) handler refl refl (λ e. e)
+
+illegal_unsafe : IsSafe illegal_handler handler_graph → ⊥
+unfolding loaded placed decoded code_of step write last_exit code_words recognised words_of starts is_start unit_at place_at trail_of
+illegal_unsafe =
+    refuted_by_end illegal_handler handler_graph 13 12 (record { newest = 0x40000000; pc = 0x40000000; turn = Illegal 0x40000000 }) handler refl refl (λ e. e)
+
+break_unsafe : IsSafe breaking_closing breaking_closing_graph → ⊥
+unfolding loaded placed decoded code_of step write last_exit code_words recognised words_of starts is_start unit_at place_at trail_of
+break_unsafe =
+    refuted_by_end breaking_closing breaking_closing_graph 16 15 (record { newest = 0x40000038; pc = 0x4000003c; turn = Break 0x4000003c }) closing refl refl (λ e. e)
+
+pub wrong_stops_unsafe : WrongStopsAreUnsafe
+wrong_stops_unsafe = record {
+  exit = exit_unsafe;
+  load_fault = load_fault_unsafe;
+  store_fault = store_fault_unsafe;
+  illegal = illegal_unsafe;
+  break = break_unsafe;
+}

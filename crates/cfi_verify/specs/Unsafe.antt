@@ -1,5 +1,5 @@
 -- Small pairs with one fault each, which are not safe: so safety is not said of everything.
-use Rattle.std.specs.Prelude.{ℕ, ◌/◌, ◌%◌, ◌^◌, List, [], ◌∷◌, ◌++◌, map, drop}
+use Rattle.std.specs.Prelude.{ℕ, ◌/◌, ◌%◌, ◌^◌, List, [], ◌∷◌, ◌++◌, map, take, drop}
 use Rattle.rv_word.specs.Image.{Contents}
 use Rattle.rv_code.specs.Encode.{code_of}
 use Rattle.cfi_graph.specs.Graph.{GraphParts}
@@ -65,12 +65,44 @@ moved_pointer_graph = graph_with 0x48 []
 abbrev pub MovedPointerIsUnsafe : Type 0
 MovedPointerIsUnsafe = IsSafe moved_pointer moved_pointer_graph → ⊥
 
--- an exit in place of the break of the handler of bad targets; the code asks for it and goes there
+-- another word in place of the break of the handler of bad targets; the code is one instruction and a
+-- jump there
+abbrev pub handler_with : ℕ → ℕ → Contents
+handler_with word first = record { init = []; code = bytes_of (word ∷ drop 1 prologue ++ first ∷ 0xfbdff06f ∷ []) }
+
+abbrev pub handler_graph : GraphParts
+handler_graph = graph_with 0x48 []
+
+-- an exit there, with 93 in x17
 abbrev pub exiting_handler : Contents
-exiting_handler = record { init = []; code = bytes_of (0x00000073 ∷ drop 1 prologue ++ 0x05d00893 ∷ 0xfbdff06f ∷ []) }
+exiting_handler = handler_with 0x00000073 0x05d00893
 
-abbrev pub exiting_handler_graph : GraphParts
-exiting_handler_graph = graph_with 0x48 []
+-- a load there from 20000000h, which is no memory
+abbrev pub loading_handler : Contents
+loading_handler = handler_with 0x0002b503 0x200002b7
 
-abbrev pub ExitingHandlerIsUnsafe : Type 0
-ExitingHandlerIsUnsafe = IsSafe exiting_handler exiting_handler_graph → ⊥
+-- a store there through x1, into code
+abbrev pub storing_handler : Contents
+storing_handler = handler_with 0x0000b023 0x00000013
+
+-- a word there that is no instruction
+abbrev pub illegal_handler : Contents
+illegal_handler = handler_with 0x00000000 0x00000013
+
+-- a break in place of the closing's system call; the code is a return to the closing
+abbrev pub breaking_closing : Contents
+breaking_closing = record {
+  init = [];
+  code = bytes_of (take 15 prologue ++ 0x00100073 ∷ 0xff81bf83 ∷ 0xff818193 ∷ 0x001f8463 ∷ 0xfb9ff06f ∷ 0x000f8067 ∷ 0xfadff06f ∷ []);
+}
+
+abbrev pub breaking_closing_graph : GraphParts
+breaking_closing_graph = graph_with 0x58 []
+
+-- each stop where it may not come
+pub record WrongStopsAreUnsafe : Type 0 where
+  pub exit : IsSafe exiting_handler handler_graph → ⊥
+  pub load_fault : IsSafe loading_handler handler_graph → ⊥
+  pub store_fault : IsSafe storing_handler handler_graph → ⊥
+  pub illegal : IsSafe illegal_handler handler_graph → ⊥
+  pub break : IsSafe breaking_closing breaking_closing_graph → ⊥

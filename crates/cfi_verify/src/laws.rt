@@ -1,6 +1,6 @@
 //! What holds of accepted pairs and of their runs. Each function states one law; nothing is computed.
 ghost use Rattle.cfi_verify.specs.Laws.{CodeIsSplit, WellFormedIsSafe, SafeStaysInPlace, SafeWalksGraph};
-ghost use Rattle.cfi_verify.specs.Unsafe.{MiddleIsUnsafe, BareReturnIsUnsafe, BareStoreIsUnsafe, MovedPointerIsUnsafe, ExitingHandlerIsUnsafe};
+ghost use Rattle.cfi_verify.specs.Unsafe.{MiddleIsUnsafe, BareReturnIsUnsafe, BareStoreIsUnsafe, MovedPointerIsUnsafe, WrongStopsAreUnsafe};
 
 /// An image and a graph that meet the rules are safe.
 #[tactic(auto, using(crate::proofs::Safety::well_formed_safe))]
@@ -45,7 +45,8 @@ pub fn moved_pointer_is_unsafe()
     ensures { MovedPointerIsUnsafe }
 {}
 
-/// An image that exits in the handler of bad targets is not safe.
-pub fn exiting_handler_is_unsafe()
-    ensures { ExitingHandlerIsUnsafe }
+/// An image that exits, faults or meets no instruction in a handler, or breaks in the closing, is not
+/// safe.
+pub fn wrong_stops_are_unsafe()
+    ensures { WrongStopsAreUnsafe }
 {}
