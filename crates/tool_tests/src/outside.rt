@@ -81,7 +81,7 @@ fn check<F: Files>(rt: &impl Abort, alloc: Global, files: &mut F, calls: &[Call]
     }
 }
 
-/// Files in memory, with one of three letters; the calls with these numbers fail.
+/// Files in memory, one of which has three letters; the calls with these numbers fail.
 fn memory(alloc: Global, failing: &[u64]) -> Option<MemFiles> {
     let Ok(failing) = Vec::from_slice(alloc, failing) else {
         return None;
