@@ -1,6 +1,7 @@
 use crate::rows::{number, rows, word};
-use rv_instr::Reg;
-use rv_machine::{Change, Machine, Turn};
+use rv_code::decode;
+use rv_instr::{BranchOp, Instr, Reg};
+use rv_machine::{Change, Machine, Turn, branches};
 use rv_word::Image;
 use std::alloc::{AllocError, Global};
 
@@ -330,6 +331,73 @@ fn instructions_do_as_under_qemu(rt: HostRuntime) {
     assert!(rt; rows(table).count() == 120);
     for row in rows(table) {
         assert!(rt; step_does(rt.alloc(), row), "{row}");
+    }
+}
+
+/// A machine without code that has these numbers in x10 and x11, and the rest as after the loads.
+fn without_code(alloc: Global, a: u64, b: u64) -> Option<Machine> {
+    let Ok(data) = numbers(alloc, a, b) else {
+        return None;
+    };
+    if data.len() > 48 {
+        return None;
+    }
+    let mut machine = Machine::with_data(alloc, &data, &[]).ok()?;
+    machine.set_reg(Reg::of(10), a);
+    machine.set_reg(Reg::of(11), b);
+    machine.set_reg(Reg::of(12), X12);
+    machine.set_reg(Reg::of(13), 0x1_0020);
+    Some(machine)
+}
+
+/// Whether a machine executes an instruction at the address where the tables have it.
+fn executes(machine: &mut Machine, instr: &Instr) -> bool {
+    machine.set_pc(TESTED);
+    machine.execute(instr) == Ok(Turn::Ran)
+}
+
+/// Whether an instruction that does not stand in memory does what a row of `STEPS` says.
+fn execution_does(alloc: Global, row: &str) -> bool {
+    let (Some(word), Some(a), Some(b)) = (word(row, 1), number(row, 2), number(row, 3)) else {
+        return false;
+    };
+    match (decode(word), without_code(alloc, a, b)) {
+        (Some(instr), Some(mut machine)) => {
+            executes(&mut machine, &instr) && is_after(&machine, row)
+        }
+        _ => false,
+    }
+}
+
+#[test]
+fn instructions_do_the_same_without_code(rt: HostRuntime) {
+    for row in rows(STEPS) {
+        assert!(rt; execution_does(rt.alloc(), row), "{row}");
+    }
+}
+
+/// Two values, and which of BEQ, BNE, BLT, BGE, BLTU and BGEU are taken that compare them.
+static COMPARISONS: [(u64, u64, [bool; 6]); 3] = [
+    (7, 7, [true, false, false, true, false, true]),
+    (1, u64::MAX, [false, true, false, true, true, false]),
+    (1 << 63, 0, [false, true, true, false, false, true]),
+];
+
+/// Whether these branches are taken, and the others not.
+fn takes(row: &(u64, u64, [bool; 6])) -> bool {
+    let (a, b, [beq, bne, blt, bge, bltu, bgeu]) = *row;
+    branches(BranchOp::Beq, a, b) == beq
+        && branches(BranchOp::Bne, a, b) == bne
+        && branches(BranchOp::Blt, a, b) == blt
+        && branches(BranchOp::Bge, a, b) == bge
+        && branches(BranchOp::Bltu, a, b) == bltu
+        && branches(BranchOp::Bgeu, a, b) == bgeu
+}
+
+#[test]
+fn branches_compare(rt: HostRuntime) {
+    for row in &COMPARISONS {
+        assert!(rt; takes(row), "{:x} and {:x}", row.0, row.1);
     }
 }
 

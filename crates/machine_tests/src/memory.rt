@@ -131,3 +131,23 @@ fn changes(rt: HostRuntime) {
     assert!(rt; !changes_code());
     assert!(rt; shows_changes(rt.alloc()));
 }
+
+/// Whether room changes nothing that is read, and bytes can be set in it, in data and in shadow.
+fn sets_in_room(memory: &mut Memory, addr: u64) -> bool {
+    if addr > 0x1_0000 && addr != 0x6000_0000 {
+        return false;
+    }
+    if memory.make_room(addr, 3).is_err() || !holds(memory, addr, 0) {
+        return false;
+    }
+    memory.set_all(addr, &[0xa1, 0xb2, 0xc3]);
+    holds(memory, addr, 0x00c3_b2a1)
+}
+
+#[test]
+fn bytes_are_set_where_room_was_made(rt: HostRuntime) {
+    let mut memory = Memory::new(rt.alloc()).ok().expect(&rt, "memory");
+    for addr in [0, 0xfff, 0x1_0000, 0x6000_0000] {
+        assert!(rt; sets_in_room(&mut memory, addr), "{addr:x}");
+    }
+}

@@ -1,6 +1,6 @@
 -- What a machine is made of, as a hart and what harts share.
 use Rattle.std.specs.Prelude.{◌≡◌, ℕ, Bool, true, false, List, Some, None}
-use Rattle.rv_word.specs.Layout.{DATA_END, lies_within}
+use Rattle.rv_word.specs.Layout.{Profile, can_store}
 use Rattle.rv_word.specs.Memory.{read}
 use Rattle.rv_instr.specs.declared.instr.Instr.{Instr}
 use Rattle.rv_instr.specs.declared.instr.Instr.TheVariants.{Store, Ecall}
@@ -28,16 +28,16 @@ shared_in parts = shared_of parts.memory parts.calls
 abbrev pub after_step : Parts → Turn → After
 after_step parts turn = record { hart = hart_in parts; shared = shared_in parts; turn = turn }
 
--- the instructions that may take memory: a store into data, and a system call
-abbrev pub may_take_memory : Instr → Hart → Bool
-may_take_memory (Store op rs1 rs2 imm) h = lies_within 0 DATA_END (address h rs1 imm) (store_size op)
-may_take_memory Ecall h = true
-may_take_memory instr h = false
+-- the instructions that may take memory: a store into data or shadow, and a system call
+abbrev pub may_take_memory : Profile → Instr → Hart → Bool
+may_take_memory p (Store op rs1 rs2 imm) h = can_store p (address h rs1 imm) (store_size op)
+may_take_memory p Ecall h = true
+may_take_memory p instr h = false
 
 -- a step may take memory: the run has not ended, and such an instruction stands at the pc
-pub record MayTakeMemory (h : Hart) (s : Shared) : Type 0 where
+pub record MayTakeMemory (p : Profile) (h : Hart) (s : Shared) : Type 0 where
   pub going : last_exit s.events ≡ None
   pub place : can_fetch h.pc ≡ true
   pub instr : Instr
   pub decodes : decoded (read 4 s.memory h.pc) ≡ Some instr
-  pub takes : may_take_memory instr h ≡ true
+  pub takes : may_take_memory p instr h ≡ true

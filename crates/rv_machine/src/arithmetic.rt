@@ -101,8 +101,8 @@ fn is_less(a: u64, b: u64) -> bool
     a.cast_signed() < b.cast_signed()
 }
 
-/// Whether a branch is taken.
-pub(crate) fn branches(op: BranchOp, a: u64, b: u64) -> bool
+/// Whether a branch is taken that compares these two values of registers.
+pub fn branches(op: BranchOp, a: u64, b: u64) -> bool
     ensures { result ≡ branch_taken op a b }
 {
     match op {

@@ -1,6 +1,8 @@
 //! The machine: one hart over the memory, a step at a time, and changes of data bytes from outside.
+//! `execute` runs a single instruction that need not stand in memory.
 #![tactic(auto)]
 
+pub use arithmetic::branches;
 pub use machine::Machine;
 pub use rv_code::Turn;
 pub use rv_mem::Change;

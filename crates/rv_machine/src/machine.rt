@@ -1,5 +1,6 @@
-ghost use Rattle.std.specs.Prelude.{◌≡◌, ◌+◌, ◌*◌, ◌/◌, ◌<◌, ◌^◌, [], ◌∷◌, true, IfOk, OnOk, OnErr};
-ghost use Rattle.rv_word.specs.Layout.{version_1};
+ghost use Rattle.std.specs.Prelude.{◌≡◌, ◌+◌, ◌*◌, ◌/◌, ◌<◌, ◌≤◌, ◌^◌, [], ◌∷◌, length, true, IfOk, OnOk, OnErr};
+ghost use Rattle.rv_word.specs.Layout.{version_1, DATA_START, DATA_END};
+ghost use Rattle.rv_word.specs.Memory.{placed, zeros};
 ghost use Rattle.rv_instr.specs.Registers.{get_reg, set_reg};
 ghost use Rattle.rv_code.specs.Run.{disturbed};
 ghost use Rattle.rv_code.specs.State.{start_hart, start_shared};
@@ -50,6 +51,21 @@ impl Machine {
         })
     }
 
+    /// A machine with data and no code, as before a run: data from an image's first data address on.
+    /// It runs by `execute`, which takes its instructions from elsewhere.
+    pub fn with_data(alloc: Global, init: &[u8], input: &[u8]) -> Result<Machine, NoMemory>
+        requires { DATA_START + length init.now ≤ DATA_END }
+        ensures hart { IfOk result (λ machine. hart_in machine ≡ start_hart) }
+        ensures shared { IfOk result (λ machine. shared_in machine ≡ record { memory = placed zeros DATA_START init.now; left = input.now; output = []; events = [] }) }
+    {
+        Ok(Machine {
+            pc: START,
+            regs: Regs::new(),
+            memory: Memory::with_data(alloc, init)?,
+            system: System::new(alloc, input)?,
+        })
+    }
+
     /// The address of the next instruction.
     pub fn pc(&self) -> u64
         ensures { result ≡ self.now.pc }
@@ -62,6 +78,21 @@ impl Machine {
         ensures { result ≡ get_reg (hart_in self.now).regs reg }
     {
         self.regs.get(reg)
+    }
+
+    /// Goes to an address, whatever stands there.
+    pub fn set_pc(&mut self, pc: u64)
+        ensures { self.new ≡ record self.old { pc = pc } }
+    {
+        self.pc = pc;
+    }
+
+    /// Writes a register; a write to x0 changes nothing.
+    pub fn set_reg(&mut self, reg: Reg, value: u64)
+        ensures hart { hart_in self.new ≡ record (hart_in self.old) { regs = set_reg (hart_in self.old).regs reg value } }
+        ensures shared { shared_in self.new ≡ shared_in self.old }
+    {
+        self.regs.set(reg, value);
     }
 
     /// Its memory.
@@ -86,14 +117,14 @@ impl Machine {
     }
 
     /// One step: fetches the word at the pc, decodes and executes it. After an exit each step
-    /// answers it again. A refusal leaves all as it was, and comes from a store into data or a
-    /// system call alone.
+    /// answers it again. A refusal leaves all as it was, and comes from a store into data or shadow
+    /// or a system call alone.
     #[tactic(auto, unfolding(rv_code::specs::Step::step))]
     pub fn step(&mut self) -> Result<Turn, NoMemory>
         ensures stepped { IfOk result (λ turn. after_step self.new turn ≡ step version_1 (hart_in self.old) (shared_in self.old)) }
         ensures hart { OnErr result (hart_in self.new ≡ hart_in self.old) }
         ensures shared { OnErr result (shared_in self.new ≡ shared_in self.old) }
-        ensures wants { OnErr result (MayTakeMemory (hart_in self.old) (shared_in self.old)) }
+        ensures wants { OnErr result (MayTakeMemory version_1 (hart_in self.old) (shared_in self.old)) }
     {
         if let Some(status) = self.system().ended() {
             return Ok(Turn::Exit(status));
@@ -118,11 +149,15 @@ impl Machine {
         self.memory.change(change)
     }
 
-    fn execute(&mut self, instr: &Instr) -> Result<Turn, NoMemory>
+    /// Executes an instruction as if it stood at the pc, whatever memory holds there and whether or
+    /// not the run has ended. A refusal leaves all as it was. The bound on the pc lets the next
+    /// instruction's address be a number of 64 bits; every pc in code is below it.
+    pub fn execute(&mut self, instr: &Instr) -> Result<Turn, NoMemory>
         requires { self.old.pc < 2 ^ 63 }
         ensures executed { IfOk result (λ turn. after_step self.new turn ≡ exec version_1 instr.now (hart_in self.old) (shared_in self.old)) }
-        ensures refused { OnErr result (after_step self.new Turn.Ran ≡ after_step self.old Turn.Ran) }
-        ensures wants { OnErr result (may_take_memory instr.now (hart_in self.old) ≡ true) }
+        ensures hart { OnErr result (hart_in self.new ≡ hart_in self.old) }
+        ensures shared { OnErr result (shared_in self.new ≡ shared_in self.old) }
+        ensures wants { OnErr result (may_take_memory version_1 instr.now (hart_in self.old) ≡ true) }
     {
         Ok(match *instr {
             Instr::Upper(op, rd, imm) => self.upper(op, rd, imm),
@@ -137,7 +172,7 @@ impl Machine {
             Instr::Register(op, rd, rs1, rs2) => self.register(op, rd, rs1, rs2),
             // Memory is one and in order, so a fence has nothing to do.
             Instr::Fence(_) => {
-                self.go(self.pc() + 4);
+                self.set_pc(self.pc() + 4);
                 Turn::Ran
             }
             Instr::Ecall => return self.environment_call(),
@@ -160,13 +195,6 @@ impl Machine {
         ensures { after_step self.new Turn.Ran ≡ ran target (set_reg (hart_in self.old).regs rd (self.old.pc + 4)) (shared_in self.old) }
     {
         self.regs.set(rd, self.pc + 4);
-        self.pc = target;
-    }
-
-    /// Goes to an address.
-    fn go(&mut self, target: u64)
-        ensures { after_step self.new Turn.Ran ≡ ran target (hart_in self.old).regs (shared_in self.old) }
-    {
         self.pc = target;
     }
 
@@ -214,9 +242,9 @@ impl Machine {
         let offset = sext(u64::from(imm.bits()) << 1, 13);
         let pc = self.pc();
         if arithmetic::branches(op, self.reg(rs1), self.reg(rs2)) {
-            self.go(pc.wrapping_add(offset));
+            self.set_pc(pc.wrapping_add(offset));
         } else {
-            self.go(pc + 4);
+            self.set_pc(pc + 4);
         }
         Turn::Ran
     }
@@ -244,8 +272,9 @@ impl Machine {
     ) -> Result<Turn, NoMemory>
         requires { self.old.pc < 2 ^ 63 }
         ensures executed { IfOk result (λ turn. after_step self.new turn ≡ exec version_1 (Instr.Store op rs1 rs2 imm) (hart_in self.old) (shared_in self.old)) }
-        ensures refused { OnErr result (after_step self.new Turn.Ran ≡ after_step self.old Turn.Ran) }
-        ensures wants { OnErr result (may_take_memory (Instr.Store op rs1 rs2 imm) (hart_in self.old) ≡ true) }
+        ensures hart { OnErr result (hart_in self.new ≡ hart_in self.old) }
+        ensures shared { OnErr result (shared_in self.new ≡ shared_in self.old) }
+        ensures wants { OnErr result (may_take_memory version_1 (Instr.Store op rs1 rs2 imm) (hart_in self.old) ≡ true) }
     {
         let addr = self.address_of(rs1, imm);
         let value = self.reg(rs2);
@@ -262,7 +291,8 @@ impl Machine {
     fn environment_call(&mut self) -> Result<Turn, NoMemory>
         requires { self.old.pc < 2 ^ 63 }
         ensures executed { IfOk result (λ turn. after_step self.new turn ≡ exec version_1 Instr.Ecall (hart_in self.old) (shared_in self.old)) }
-        ensures refused { OnErr result (after_step self.new Turn.Ran ≡ after_step self.old Turn.Ran) }
+        ensures hart { OnErr result (hart_in self.new ≡ hart_in self.old) }
+        ensures shared { OnErr result (shared_in self.new ≡ shared_in self.old) }
     {
         match self.system.call(&mut self.regs, &mut self.memory)? {
             SysEnd::Goes => {

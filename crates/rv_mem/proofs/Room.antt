@@ -8,7 +8,7 @@ use Rattle.std.proofs.Math.Path.{fun_ext}
 use Rattle.std.specs.BTreeMap.{BTreeMap, get, Updates}
 use Rattle.std.specs.Ordering.{nat_cmp, is_eq}
 use Rattle.rv_word.specs.Layout.{DATA_END, CODE_START, CODE_SIZE, SHADOW_START, PART_SIZE, lies_within}
-use Rattle.rv_mem.specs.Cells.{Cells, memory_of, has_room, with_byte, written_at}
+use Rattle.rv_mem.specs.Cells.{Cells, memory_of, data_of, has_room, with_byte, written_at}
 
 pub compared_same : (a k : ℕ) → a ≡ k → is_eq (nat_cmp a k) ≡ true
 compared_same a k e = grind (arith, nat_tests)
@@ -32,7 +32,16 @@ pub memory_kept : (code shadow : List ℕ) (m n : BTreeMap ℕ ℕ) →
 unfolding memory_of
 memory_kept code shadow m n same = fun_ext (λ k. rw (same k) refl)
 
--- a byte set among the written ones, at an address that is in no other array
+-- a byte set among the written ones
+pub data_of-updated : (m n : BTreeMap ℕ ℕ) (a b : ℕ) → Updates nat_cmp m n a (Some b) → data_of n.entries ≡ with_byte (data_of m.entries) a b
+unfolding with_byte
+data_of-updated m n a b new = fun_ext (λ k.
+    elim (cases_eq a k) [
+      | inl e ↦ rw (new.0 k, compared_same a k e, eq-eqb k a (sym e)) refl
+      | inr n ↦ rw (new.0 k, compared_apart a k n, ne_eqb k a (λ z. n (sym z))) refl
+    ])
+
+-- the same, at an address that is in no other array
 pub memory_of-written : (code shadow : List ℕ) (m n : BTreeMap ℕ ℕ) (a b : ℕ) → Updates nat_cmp m n a (Some b) →
     lies_within CODE_START CODE_SIZE a 1 ≡ false → lies_within SHADOW_START PART_SIZE a 1 ≡ false →
     memory_of (record { code = code; shadow = shadow; written = n.entries }) ≡ with_byte (memory_of (record { code = code; shadow = shadow; written = m.entries })) a b

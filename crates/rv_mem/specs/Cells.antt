@@ -16,12 +16,16 @@ pub record Cells : Type 0 where
 abbrev pub written_at : List (ℕ × ℕ) → ℕ → Option ℕ
 written_at entries a = lookup (is_at (nat_cmp a)) entries
 
--- what memory holds at each address: 0 where nothing was written
+-- the data bytes, if these were written: 0 where nothing was
+abbrev pub data_of : List (ℕ × ℕ) → Memory
+data_of entries = λ a. unwrap_or (written_at entries a) 0
+
+-- what memory holds at each address
 unfoldable pub memory_of : Cells → Memory
 memory_of cells = λ a.
     if lies_within CODE_START CODE_SIZE a 1 then slice_index cells.code (a - CODE_START) else
     if lies_within SHADOW_START PART_SIZE a 1 then slice_index cells.shadow (a - SHADOW_START) else
-    unwrap_or (written_at cells.written a) 0
+    data_of cells.written a
 
 -- whether a byte can be set at an address without taking memory
 unfoldable pub has_room : Cells → ℕ → Bool

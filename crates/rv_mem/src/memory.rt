@@ -1,8 +1,8 @@
 ghost use Rattle.std.specs.Prelude.{◌≡◌, ℕ, ◌+◌, ◌≤◌, ◌<◌, ◌^◌, ◌↔◌, IfOk, OnOk, OnErr, IsErr, IsErrOf, IsTrue, true, false, length, Result, slice_index};
-ghost use Rattle.rv_word.specs.Layout.{can_load, can_store, lies_within, version_1, DATA_END, CODE_START, CODE_SIZE};
+ghost use Rattle.rv_word.specs.Layout.{can_load, can_store, version_1, DATA_START, DATA_END, CODE_START, CODE_SIZE};
 ghost use Rattle.rv_word.specs.Memory.{placed, read, write, zeros, loaded};
 ghost use Rattle.rv_mem.specs.Access.{IsAccessSize};
-ghost use Rattle.rv_mem.specs.Cells.{memory_of, has_room, HasRoom, with_byte, AreBytes};
+ghost use Rattle.rv_mem.specs.Cells.{memory_of, data_of, has_room, HasRoom, with_byte, AreBytes};
 
 use crate::access::{is_loadable, is_storable, is_within};
 use crate::change::Change;
@@ -36,26 +36,34 @@ impl Memory {
     pub fn new(alloc: Global) -> Result<Memory, NoMemory>
         ensures { IfOk result (λ memory. memory_of memory ≡ zeros) }
     {
-        Memory::with_code(alloc, &[])
+        Memory::with_contents(alloc, &[], &[])
     }
 
     /// The memory in which a run of an image starts.
     pub fn load(alloc: Global, image: &Image) -> Result<Memory, NoMemory>
         ensures { IfOk result (λ memory. memory_of memory ≡ loaded image.now) }
     {
-        let mut memory = Memory::with_code(alloc, image.code())?;
-        memory.write_bytes(DATA_START, image.init())?;
-        Ok(memory)
+        Memory::with_contents(alloc, image.code(), image.init())
     }
 
-    fn with_code(alloc: Global, code: &[u8]) -> Result<Memory, NoMemory>
-        requires { length code.now ≤ CODE_SIZE }
-        ensures { IfOk result (λ memory. memory_of memory ≡ placed zeros CODE_START code.now) }
+    /// The memory in which initialised data stand alone, without code.
+    pub fn with_data(alloc: Global, init: &[u8]) -> Result<Memory, NoMemory>
+        requires { DATA_START + length init.now ≤ DATA_END }
+        ensures { IfOk result (λ memory. memory_of memory ≡ placed zeros DATA_START init.now) }
+    {
+        Memory::with_contents(alloc, &[], init)
+    }
+
+    /// The memory in which this code and these initialised data stand.
+    fn with_contents(alloc: Global, code: &[u8], init: &[u8]) -> Result<Memory, NoMemory>
+        requires code { length code.now ≤ CODE_SIZE }
+        requires init { DATA_START + length init.now ≤ DATA_END }
+        ensures { IfOk result (λ memory. memory_of memory ≡ placed (placed zeros DATA_START init.now) CODE_START code.now) }
     {
         Ok(Memory {
             code: padded(alloc, code, CODE_SIZE as usize)?,
             shadow: padded(alloc, &[], SHADOW_SIZE as usize)?,
-            written: BTreeMap::new(alloc),
+            written: data_bytes(alloc, init)?,
         })
     }
 
@@ -87,6 +95,7 @@ impl Memory {
         requires { addr < DATA_END }
         ensures memory { memory_of self.new ≡ memory_of self.old }
         ensures room { OnOk result (IsTrue (has_room self.new addr)) }
+        ensures wants { OnErr result (¬ IsTrue (has_room self.old addr)) }
         ensures kept { (k : ℕ) → IsTrue (has_room self.old k) → IsTrue (has_room self.new k) }
     {
         if !self.written.contains_key(&addr) {
@@ -109,13 +118,13 @@ impl Memory {
         }
     }
 
-    /// Makes room for the `n` bytes from `addr` on; in the shadow stack there always is.
+    /// Makes room for the `n` bytes from `addr` on, where they have none.
     #[tactic(auto, unfolding(crate::specs::Cells::has_room))]
     pub fn make_room(&mut self, addr: u64, n: u64) -> Result<(), NoMemory>
         requires { IsTrue (can_store version_1 addr n) }
         ensures memory { memory_of self.new ≡ memory_of self.old }
         ensures room { OnOk result (HasRoom self.new addr n) }
-        ensures wants { OnErr result (addr < DATA_END) }
+        ensures wants { OnErr result (¬ HasRoom self.old addr n) }
         ensures kept { (k : ℕ) → IsTrue (has_room self.old k) → IsTrue (has_room self.new k) }
     {
         if addr < DATA_END {
@@ -138,12 +147,14 @@ impl Memory {
         }
     }
 
-    /// Writes the low `n` bytes of `value`, the lowest first. A write takes memory only in data.
+    /// Writes the low `n` bytes of `value`, the lowest first. A write into data or shadow may want
+    /// memory, unless room was made for it.
     pub fn write(&mut self, addr: u64, n: u8, value: u64) -> Result<(), WriteRefusal>
         requires { IsAccessSize n }
         ensures written { OnOk result (memory_of self.new ≡ write n (memory_of self.old) addr value) }
         ensures fault { IsErrOf result WriteRefusal.StoreFault ↔ (can_store version_1 addr n ≡ false) }
-        ensures wants { IsErrOf result WriteRefusal.NoMemory → lies_within 0 DATA_END addr n ≡ true }
+        ensures wants { IsErrOf result WriteRefusal.NoMemory → can_store version_1 addr n ≡ true }
+        ensures room { IsErrOf result WriteRefusal.NoMemory → ¬ HasRoom self.old addr n }
         ensures refused { OnErr result (memory_of self.new ≡ memory_of self.old) }
     {
         if !is_storable(addr, n) {
@@ -158,6 +169,7 @@ impl Memory {
     pub fn write_bytes(&mut self, addr: u64, bytes: &[u8]) -> Result<(), NoMemory>
         requires { addr + length bytes.now ≤ DATA_END }
         ensures written { OnOk result (memory_of self.new ≡ placed (memory_of self.old) addr bytes.now) }
+        ensures wants { OnErr result (¬ HasRoom self.old addr (length bytes.now)) }
         ensures refused { OnErr result (memory_of self.new ≡ memory_of self.old) }
     {
         self.make_room(addr, bytes.len() as u64)?;
@@ -214,6 +226,18 @@ impl Memory {
         self.set(change.addr(), change.byte());
         Ok(())
     }
+}
+
+/// The bytes of initialised data, each at its address.
+fn data_bytes(alloc: Global, init: &[u8]) -> Result<BTreeMap<u64, u8>, NoMemory>
+    requires { DATA_START + length init.now ≤ DATA_END }
+    ensures { IfOk result (λ bytes. data_of bytes.entries ≡ placed zeros DATA_START init.now) }
+{
+    let mut bytes = BTreeMap::new(alloc);
+    for (i, byte) in init.iter().enumerate() {
+        bytes.insert(DATA_START + i as u64, *byte)?;
+    }
+    Ok(bytes)
 }
 
 /// A list of `n` bytes that begins with these and goes on with zeros.

@@ -1,6 +1,8 @@
-use Rattle.rv_word.specs.Layout.{CODE_START}
-use Rattle.rv_mem.proofs.Fresh.{zeros_placed}
+use Rattle.std.proofs.Common.{[]}
+use Rattle.rv_word.specs.Layout.{CODE_START, DATA_START}
+use Rattle.rv_word.specs.Memory.{placed, zeros}
+use Rattle.rv_mem.proofs.Placed.{placed-none}
 use Rattle.rv_mem.proofs.memory.Memory.new.Goals as goal
 
 pub returns : goal.returns
-returns c = let a = c.with_code.ensures in rw (zeros_placed CODE_START) at a
+returns c = let a = c.with_contents.ensures in rw (← placed-none (placed zeros DATA_START []) CODE_START, ← placed-none zeros DATA_START) at a
