@@ -1,9 +1,8 @@
 -- What the system calls of a run keep, and how a call's end is a step's.
-use Rattle.std.specs.Prelude.{◌≡◌, ℕ, ◌+◌, List, [], ◌∷◌, ◌++◌}
-use Rattle.rv_instr.specs.Registers.{regs_of, set_reg}
+use Rattle.std.specs.Prelude.{ℕ, ◌+◌, List}
+use Rattle.rv_instr.specs.Registers.{regs_of}
 use Rattle.rv_mem.specs.Cells.{Cells, memory_of}
 use Rattle.rv_code.specs.State.{Hart, Shared, After}
-use Rattle.rv_code.specs.SystemCall.{event_of}
 use Rattle.rv_code.specs.declared.event.Event.{Event}
 use Rattle.rv_code.specs.declared.turn.Turn.TheVariants as turn
 use Rattle.rv_sys.specs.declared.ending.SysEnd.{SysEnd}
@@ -27,12 +26,3 @@ shared_of cells calls = record { memory = memory_of cells; left = calls.left; ou
 abbrev pub after_call : SysEnd → ℕ → List ℕ → Cells → Calls → After
 after_call Goes pc regs cells calls = record { hart = hart_of (pc + 4) regs; shared = shared_of cells calls; turn = turn.Ran }
 after_call (Exit status) pc regs cells calls = record { hart = hart_of pc regs; shared = shared_of cells calls; turn = turn.Exit status }
-
--- what a call keeps that is recorded, with the bytes that it wrote and its answer
-abbrev pub recorded : List ℕ → Calls → List ℕ → ℕ → Calls
-recorded regs calls bytes answer = record calls { events = calls.events ++ event_of (hart_of 0 regs) bytes answer ∷ [] }
-
--- a call was recorded, and x10 is its answer
-pub record IsAnswered (regs : List ℕ) (calls : Calls) (bytes : List ℕ) (answer : ℕ) (regs_after : List ℕ) (calls_after : Calls) : Type 0 where
-  pub register : regs_of regs_after ≡ set_reg (regs_of regs) 10 answer
-  pub events : calls_after ≡ recorded regs calls bytes answer

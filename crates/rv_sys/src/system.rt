@@ -3,7 +3,8 @@ ghost use Rattle.rv_instr.specs.Registers.{regs_of};
 ghost use Rattle.rv_mem.specs.Cells.{Cells, memory_of};
 ghost use Rattle.rv_code.specs.State.{exit_of, last_exit};
 ghost use Rattle.rv_code.specs.SystemCall.{bytes_of, ends, event_of, read_call, reads_input, system_call, write_call, writes_output};
-ghost use Rattle.rv_sys.specs.Calls.{after_call, hart_of, shared_of, IsAnswered};
+ghost use Rattle.rv_sys.specs.Answered.{IsAnswered};
+ghost use Rattle.rv_sys.specs.Calls.{after_call, hart_of, shared_of};
 ghost use Rattle.rv_sys.specs.declared.ending.SysEnd.TheVariants as End;
 
 use crate::ending::SysEnd;
