@@ -1,4 +1,4 @@
-pub mod Least
+pub mod Earlier
 pub mod Rank
 pub mod Sound
 pub mod Rows

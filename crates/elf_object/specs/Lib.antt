@@ -1,4 +1,3 @@
-pub mod Least
 pub mod Header
 pub mod Kind
 pub mod Table

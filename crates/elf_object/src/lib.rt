@@ -8,10 +8,10 @@ pub use object::{Object, Relocs, Section, Symbol};
 
 mod cut;
 mod fault;
-mod first;
+mod header;
 mod kinds;
 mod object;
-mod order;
+mod section;
 mod strays;
 mod symbols;
 mod tables;

@@ -8,8 +8,8 @@ ghost use Rattle.elf_object.specs.Fault.{Answers, fault_of};
 
 use crate::cut::whole_sections;
 use crate::fault::ObjectEnd;
-use crate::first::header_fault;
-use crate::order::section_fault;
+use crate::header::header_fault;
+use crate::section::section_fault;
 use elf_tables::constants::ENTRY_SIZE;
 use elf_tables::{Lookup, Reloc};
 use std::alloc::Global;
