@@ -2,7 +2,7 @@
 //! the layers above ask for sections, symbols and relocations by their number and are never refused.
 #![tactic(auto)]
 
-pub use elf_tables::Reloc;
+pub use elf_tables::{Reloc, SectionHeader, SymbolEntry};
 pub use fault::{ObjectEnd, ObjectFault};
 pub use object::{Object, Relocs, Section, Symbol};
 
@@ -10,6 +10,7 @@ mod cut;
 mod fault;
 mod header;
 mod kinds;
+pub mod laws;
 mod object;
 mod section;
 mod strays;

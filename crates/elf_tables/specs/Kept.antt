@@ -33,3 +33,7 @@ is_kept_by names h = is_allocated h && not (h.kind == 7) && not (is_named (codes
 
 unfoldable pub is_kept : List ℕ → ℕ → Bool
 is_kept bytes index = is_kept_by (section_names bytes) (section_header bytes index)
+
+-- a kept section with instructions
+abbrev pub is_code : List ℕ → ℕ → Bool
+is_code bytes index = is_kept bytes index && is_executable (section_header bytes index)
