@@ -1,30 +1,13 @@
--- The least number that meets one of two tests, and what this says of a class's targets.
-use Rattle.std.proofs.Common.{◌≡◌, ◌≤◌, ℕ, ◌+◌, ◌==◌, ◌||◌, ◌&&◌, Bool, true, false, List, [], ◌∷◌, ◌++◌, length, take, Option, Some, None, refl, sym, ap, ◌∙◌, arith, inl, inr}
-use Rattle.std.specs.Prelude.{nat_lt, slice_get}
+-- The least of a class's targets, and of a list of lines, that meets a test.
+use Rattle.std.proofs.Common.{◌≡◌, ◌≤◌, ℕ, ◌+◌, ◌==◌, ◌||◌, ◌&&◌, Bool, true, false, List, [], ◌∷◌, ◌++◌, length, take, Option, Some, refl, sym, ap, ◌∙◌, arith, inl, inr}
+use Rattle.std.specs.Prelude.{slice_get}
 use Rattle.std.specs.List.{list_any}
-use Rattle.std.proofs.lemmas.Bool.{cases_Bool, cases_lt, and_left, and_right, and_from, or_left, or_right, or_from, lt-ltb, le-ltb, eq-eqb, eqb-true, ne_eqb}
+use Rattle.std.proofs.lemmas.Bool.{cases_Bool, and_left, and_right, and_from, eq-eqb, eqb-true, ne_eqb}
 use Rattle.std.proofs.lemmas.Option.{slice_get_within, get_or_from_slice_get}
 use Rattle.std.proofs.lemmas.List.{take_more, take_all}
-use Rattle.cfi_verify.specs.Least.{IsLeast, lesser}
+use Rattle.least.specs.Least.{IsLeast, lesser}
+use Rattle.least.proofs.Leasts.{least_either, least_same}
 use Rattle.cfi_verify.specs.Lines.{is_among}
-
-pub least_same : (t u : ℕ → Bool) → ((a : ℕ) → t a ≡ u a) → (o : Option ℕ) → IsLeast t o → IsLeast u o
-least_same t u e None h = λ a. sym (e a) ∙ h a
-least_same t u e (Some a) h = (sym (e a) ∙ h.0, λ b l. sym (e b) ∙ h.1 b l)
-
-pub least_either : (t u : ℕ → Bool) (o p : Option ℕ) → IsLeast t o → IsLeast u p → IsLeast (λ a. t a || u a) (lesser o p)
-least_either t u None None h k = λ a. or_from _ _ (h a) (k a)
-least_either t u None (Some b) h k = (or_right _ _ k.0, λ c l. or_from _ _ (h c) (k.1 c l))
-least_either t u (Some a) None h k = (or_left _ _ h.0, λ c l. or_from _ _ (h.1 c l) (k c))
-least_either t u (Some a) (Some b) h k =
-    elim (cases_lt b a) [
-      | inl less ↦
-          let test : nat_lt b a ≡ true = lt-ltb b a less in
-          rw test (or_right _ _ k.0, λ c l. or_from _ _ (h.1 c (omega arith)) (k.1 c l))
-      | inr more ↦
-          let test : nat_lt b a ≡ false = le-ltb b a more in
-          rw test (or_left _ _ h.0, λ c l. or_from _ _ (h.1 c l) (k.1 c (omega arith)))
-    ]
 
 pub list_any-push : {A : Type 0} (p : A → Bool) (xs : List A) (y : A) → list_any p (xs ++ y ∷ []) ≡ (list_any p xs || p y)
 list_any-push p [] y = elim (cases_Bool (p y)) [ inl e ↦ rw e refl | inr e ↦ rw e refl ]

@@ -10,5 +10,4 @@ pub mod Unsafe
 pub mod Laws
 pub mod Seen
 pub mod Scan
-pub mod Least
 pub mod Answer

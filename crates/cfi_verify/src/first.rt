@@ -1,12 +1,14 @@
-ghost use Rattle.std.specs.Prelude.{◌≡◌, ◌≢◌, ◌<◌, MatchOption};
+ghost use Rattle.std.specs.Prelude.{◌≡◌, ◌≢◌, ◌+◌, ◌*◌, ◌^◌, ◌<◌, ◌≤◌, IfSome, MatchOption};
 ghost use Rattle.rv_word.specs.Layout.{version_1};
-ghost use Rattle.cfi_verify.specs.Least.{IsLeast};
+ghost use Rattle.least.specs.First.{first_below};
+ghost use Rattle.least.specs.Least.{IsLeast};
 ghost use Rattle.cfi_verify.specs.Rules.{Holds, IsFirst, fails};
 ghost use Rattle.cfi_verify.specs.declared.reject.Rule.{Rule};
 ghost use Rattle.cfi_verify.specs.declared.reject.Rule.TheVariants as R;
 
 use crate::reject::Rule;
 use crate::scan::Scan;
+use least::first_below_u64;
 use rv_word::memory_map::CODE_START;
 
 /// The rules in the order in which they are asked.
@@ -52,13 +54,17 @@ impl<'a> Scan<'a> {
         ensures { IsLeast (fails rule version_1 self.now.words self.now.graph.lines) result }
     {
         let words = self.words();
-        let count = words.len().max(17);
-        for k in 0..count {
-            let address = CODE_START + 4 * k as u64;
-            if self.fails(rule, address) {
-                return Some(address);
-            }
-        }
-        None
+        let index = self.first_index(rule, words.len().max(17) as u64)?;
+        Some(CODE_START + 4 * index)
+    }
+
+    /// The index of the first of so many words from the start of code on at which a rule fails.
+    fn first_index(&self, rule: Rule, count: u64) -> Option<u64>
+        requires by_address { rule ≢ R.Gate }
+        requires room { count ≤ 2 ^ 28 }
+        ensures inside { IfSome result (λ k. k < count) }
+        ensures first { result ≡ first_below (λ k. fails rule version_1 self.now.words self.now.graph.lines (0x40000000 + 4 * k)) count }
+    {
+        first_below_u64(count, |index| self.fails(rule, CODE_START + 4 * index))
     }
 }

@@ -1,7 +1,7 @@
 ghost use Rattle.std.specs.Prelude.{◌≡◌, ◌&&◌, not, option_and_then};
 ghost use Rattle.rv_word.specs.Layout.{version_1};
 ghost use Rattle.std.specs.Option.{option_copied};
-ghost use Rattle.cfi_verify.specs.Least.{IsLeast, lesser};
+ghost use Rattle.least.specs.Least.{IsLeast};
 ghost use Rattle.cfi_verify.specs.Lines.{is_among};
 ghost use Rattle.cfi_verify.specs.Rules.{fails_gate, is_gate_with, lacks_gate};
 ghost use Rattle.cfi_verify.specs.Split.{unit_at};
@@ -9,16 +9,7 @@ ghost use Rattle.cfi_verify.specs.Split.{unit_at};
 use crate::scan::Scan;
 use cfi_graph::GraphLine;
 use cfi_unit::Unit;
-
-fn lesser(one: Option<u64>, other: Option<u64>) -> Option<u64>
-    ensures { result ≡ lesser one other }
-{
-    match (one, other) {
-        (None, _) => other,
-        (Some(_), None) => one,
-        (Some(a), Some(b)) => Some(if b < a { b } else { a }),
-    }
-}
+use least::lesser;
 
 fn is_gate_with(unit: Option<&Unit>, label: u32) -> bool
     ensures { result ≡ is_gate_with (option_copied unit.entry) label }

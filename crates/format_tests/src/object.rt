@@ -1,5 +1,6 @@
 use crate::common::{is_told_as, put, rows};
 use elf_object::{Object, Reloc, Relocs, Section, Symbol};
+use elf_tables::constants::{SHT_NOBITS, STB_GLOBAL, STT_OBJECT};
 use std::alloc::{AllocError, Global};
 
 /// The sizes of the fields of a header, of a section's header, of a symbol and of a relocation.
@@ -273,6 +274,18 @@ static COMMON: Symbol<'static> = Symbol {
     size: 4,
 };
 
+/// Names that symbols may have. The table of names has `main`, of which one symbol has the end, and one the empty end.
+static NAMED: [&[u8]; 8] = [
+    b"main",
+    b"mai",
+    b"mainx",
+    b"main\x00",
+    b"",
+    b"in",
+    b"i",
+    b"in\x00main",
+];
+
 /// The relocation of `main`.
 static RELAX: Reloc = Reloc {
     offset: 4,
@@ -281,18 +294,51 @@ static RELAX: Reloc = Reloc {
     addend: -2,
 };
 
-/// Whether the object has its sections: the bytes of code, none of `.bss`, and those that are kept.
+/// Whether the object has its sections: the bytes of code, none of `.bss`, those that are kept, and those of code.
 fn has_sections(object: &Object) -> bool {
     object.sections() == 10
         && object.section(1) == TEXT
         && object.section(4).bytes.is_empty()
-        && object.kept(1)
-        && !object.kept(5)
+        && object.is_kept(1)
+        && !object.is_kept(5)
+        && object.is_code(1)
+        && !object.is_code(3)
+}
+
+/// Whether the object says of its sections without their names what it says with them.
+fn has_headers(object: &Object) -> bool {
+    object.sections() == 10
+        && object.header(1).size == 8
+        && object.header(4).kind == SHT_NOBITS
+        && object.content(1) == TEXT.bytes
+        && object.content(4).is_empty()
 }
 
 /// Whether the object has its symbols.
 fn has_symbols(object: &Object) -> bool {
-    object.symbols() == 12 && object.symbol(4) == COMMON
+    object.symbols() == 12
+        && object.symbol(4) == COMMON
+        && object.symbol_entry(4).value == 8
+        && COMMON.kind() == STT_OBJECT
+        && COMMON.binding() == STB_GLOBAL
+}
+
+/// Whether the symbol has just this one of the names.
+fn has_only_name(object: &Object, number: u64, name: &[u8]) -> bool {
+    for other in &NAMED {
+        if number < object.symbols() && object.symbol_has_name(number, other) != (*other == name) {
+            return false;
+        }
+    }
+    true
+}
+
+/// Whether symbols of the object have their names, and no others.
+fn has_names(object: &Object) -> bool {
+    object.symbols() == 12
+        && has_only_name(object, 1, b"main")
+        && has_only_name(object, 5, b"in")
+        && has_only_name(object, 6, b"")
 }
 
 /// Whether a section has just one relocation, the one of `main`.
@@ -305,9 +351,13 @@ fn has_relocations(object: &Object) -> bool {
     object.sections() == 10 && is_relaxed(&object.relocs(1)) && object.relocs(5).count() == 0
 }
 
-/// Whether the object has its sections, its symbols and its relocations.
+/// Whether the object has its sections, its symbols with their names, and its relocations.
 fn has_parts(object: &Object) -> bool {
-    has_sections(object) && has_symbols(object) && has_relocations(object)
+    has_sections(object)
+        && has_headers(object)
+        && has_symbols(object)
+        && has_names(object)
+        && has_relocations(object)
 }
 
 /// Whether the object is read with its parts.

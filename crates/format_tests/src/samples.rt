@@ -1,14 +1,16 @@
 //! Objects of gcc 12.2 and clang 14 for RV64I, and what `readelf -SWsr` of binutils says of them: a line
-//! for each section with its type, size, name and the count of its relocations, which is 0 for a section
-//! that is not kept, and a line for each symbol with its name. A dash stands for an empty name. The
-//! objects are in hexadecimal.
+//! for each section with its type, size, flags, name and the count of its relocations, which is 0 for a
+//! section that is not kept, and a line for each symbol with its type, binding, section, value and name. A
+//! dash stands for no flag and for an empty name. The objects are in hexadecimal.
 
 pub(crate) static DIFFERENCES_TEXT: &[u8] = b"\
-    section 0 0 - 0\nsection 1 16 .text 0\nsection 1 40 .data 12\nsection 4 288 .rela.data 0\n\
-    section 8 0 .bss 0\nsection 1879048195 26 .riscv.attributes 0\nsection 2 264 .symtab 0\n\
-    section 3 41 .strtab 0\nsection 3 67 .shstrtab 0\nsymbol -\nsymbol -\nsymbol -\nsymbol -\n\
-    symbol $xrv64i2p1\nsymbol -\nsymbol from\nsymbol to\nsymbol table\nsymbol outside\n\
-    symbol answer\n";
+    section 0 0 - - 0\nsection 1 16 AX .text 0\nsection 1 40 WA .data 12\n\
+    section 4 288 - .rela.data 0\nsection 8 0 WA .bss 0\n\
+    section 1879048195 26 - .riscv.attributes 0\nsection 2 264 - .symtab 0\n\
+    section 3 41 - .strtab 0\nsection 3 67 - .shstrtab 0\nsymbol 0 0 0 0 -\nsymbol 3 0 1 0 -\n\
+    symbol 3 0 2 0 -\nsymbol 3 0 4 0 -\nsymbol 0 0 1 0 $xrv64i2p1\nsymbol 3 0 5 0 -\n\
+    symbol 2 1 1 0 from\nsymbol 2 1 1 8 to\nsymbol 1 1 2 0 table\nsymbol 0 1 0 0 outside\n\
+    symbol 0 1 65521 42 answer\n";
 
 pub(crate) static DIFFERENCES: &[u8] = b"\
     7f454c460201010000000000000000000100f300010000000000000000000000000000000000000038030000000000\
@@ -43,13 +45,16 @@ pub(crate) static DIFFERENCES: &[u8] = b"\
     00000000004300000000000000000000000000000001000000000000000000000000000000";
 
 pub(crate) static SWITCH_MEDLOW_TEXT: &[u8] = b"\
-    section 0 0 - 0\nsection 1 96 .text 5\nsection 4 120 .rela.text 0\nsection 1 0 .data 0\n\
-    section 8 0 .bss 0\nsection 1 28 .rodata 7\nsection 4 168 .rela.rodata 0\n\
-    section 1 0 .note.GNU-stack 0\nsection 1879048195 28 .riscv.attributes 0\n\
-    section 2 456 .symtab 0\nsection 3 66 .strtab 0\nsection 3 96 .shstrtab 0\nsymbol -\n\
-    symbol switch.c\nsymbol -\nsymbol -\nsymbol -\nsymbol $xrv64i2p1\nsymbol -\nsymbol -\n\
-    symbol .L4\nsymbol .L11\nsymbol .L10\nsymbol .L9\nsymbol .L8\nsymbol .L7\nsymbol .L6\n\
-    symbol .L5\nsymbol .L3\nsymbol -\nsymbol choose\n";
+    section 0 0 - - 0\nsection 1 96 AX .text 5\nsection 4 120 - .rela.text 0\n\
+    section 1 0 WA .data 0\nsection 8 0 WA .bss 0\nsection 1 28 A .rodata 7\n\
+    section 4 168 - .rela.rodata 0\nsection 1 0 - .note.GNU-stack 0\n\
+    section 1879048195 28 - .riscv.attributes 0\nsection 2 456 - .symtab 0\n\
+    section 3 66 - .strtab 0\nsection 3 96 - .shstrtab 0\nsymbol 0 0 0 0 -\n\
+    symbol 4 0 65521 0 switch.c\nsymbol 3 0 1 0 -\nsymbol 3 0 3 0 -\nsymbol 3 0 4 0 -\n\
+    symbol 0 0 1 0 $xrv64i2p1\nsymbol 3 0 5 0 -\nsymbol 3 0 7 0 -\nsymbol 0 0 5 0 .L4\n\
+    symbol 0 0 1 88 .L11\nsymbol 0 0 1 48 .L10\nsymbol 0 0 1 56 .L9\nsymbol 0 0 1 64 .L8\n\
+    symbol 0 0 1 72 .L7\nsymbol 0 0 1 80 .L6\nsymbol 0 0 1 32 .L5\nsymbol 0 0 1 40 .L3\n\
+    symbol 3 0 8 0 -\nsymbol 2 1 1 0 choose\n";
 
 pub(crate) static SWITCH_MEDLOW: &[u8] = b"\
     7f454c460201010000000000000000000100f300010000000000000000000000000000000000000068040000000000\
@@ -95,11 +100,12 @@ pub(crate) static SWITCH_MEDLOW: &[u8] = b"\
     01000000000000000000000000000000";
 
 pub(crate) static ADDRESSING_CLANG_TEXT: &[u8] = b"\
-    section 0 0 - 0\nsection 3 120 .strtab 0\nsection 1 72 .text 13\n\
-    section 4 312 .rela.text 0\nsection 1 11 .rodata 0\nsection 1 16 .data 2\n\
-    section 4 48 .rela.data 0\nsection 8 48 .bss 0\nsection 2 240 .symtab 0\nsymbol -\n\
-    symbol cell\nsymbol .Lnear\nsymbol .Lstore\nsymbol note\nsymbol room\nsymbol start\n\
-    symbol distant\nsymbol finish\nsymbol distant_function\n";
+    section 0 0 - - 0\nsection 3 120 - .strtab 0\nsection 1 72 AX .text 13\n\
+    section 4 312 - .rela.text 0\nsection 1 11 A .rodata 0\nsection 1 16 WA .data 2\n\
+    section 4 48 - .rela.data 0\nsection 8 48 WA .bss 0\nsection 2 240 - .symtab 0\n\
+    symbol 0 0 0 0 -\nsymbol 1 0 5 0 cell\nsymbol 0 0 2 20 .Lnear\nsymbol 0 0 2 28 .Lstore\n\
+    symbol 0 0 4 0 note\nsymbol 0 0 7 0 room\nsymbol 2 1 2 0 start\nsymbol 0 1 0 0 distant\n\
+    symbol 2 1 2 60 finish\nsymbol 0 1 0 0 distant_function\n";
 
 pub(crate) static ADDRESSING_CLANG: &[u8] = b"\
     7f454c460201010000000000000000000100f300010000000000000000000000000000000000000080030000000000\
@@ -136,12 +142,14 @@ pub(crate) static ADDRESSING_CLANG: &[u8] = b"\
     000000000000001800000000000000";
 
 pub(crate) static SWITCH_CLANG_TEXT: &[u8] = b"\
-    section 0 0 - 0\nsection 3 165 .strtab 0\nsection 1 96 .text 2\nsection 4 48 .rela.text 0\n\
-    section 1 56 .rodata 7\nsection 4 168 .rela.rodata 0\nsection 1 0 .note.GNU-stack 0\n\
-    section 1879048195 28 .riscv.attributes 0\nsection 2 288 .symtab 0\nsymbol -\n\
-    symbol switch.c\nsymbol .LBB0_10\nsymbol .LJTI0_0\nsymbol .LBB0_2\nsymbol .LBB0_4\n\
-    symbol .LBB0_5\nsymbol .LBB0_6\nsymbol .LBB0_7\nsymbol .LBB0_8\nsymbol .LBB0_9\n\
-    symbol choose\n";
+    section 0 0 - - 0\nsection 3 165 - .strtab 0\nsection 1 96 AX .text 2\n\
+    section 4 48 - .rela.text 0\nsection 1 56 A .rodata 7\nsection 4 168 - .rela.rodata 0\n\
+    section 1 0 - .note.GNU-stack 0\nsection 1879048195 28 - .riscv.attributes 0\n\
+    section 2 288 - .symtab 0\nsymbol 0 0 0 0 -\nsymbol 4 0 65521 0 switch.c\n\
+    symbol 0 0 2 12 .LBB0_10\nsymbol 0 0 4 0 .LJTI0_0\nsymbol 0 0 2 32 .LBB0_2\n\
+    symbol 0 0 2 48 .LBB0_4\nsymbol 0 0 2 56 .LBB0_5\nsymbol 0 0 2 64 .LBB0_6\n\
+    symbol 0 0 2 72 .LBB0_7\nsymbol 0 0 2 80 .LBB0_8\nsymbol 0 0 2 88 .LBB0_9\n\
+    symbol 2 1 2 0 choose\n";
 
 pub(crate) static SWITCH_CLANG: &[u8] = b"\
     7f454c460201010000000000000000000100f300010000000000000000000000000000000000000098030000000000\
@@ -178,13 +186,14 @@ pub(crate) static SWITCH_CLANG: &[u8] = b"\
     000000000000002001000000000000010000000b00000008000000000000001800000000000000";
 
 pub(crate) static POINTERS_CLANG_TEXT: &[u8] = b"\
-    section 0 0 - 0\nsection 3 186 .strtab 0\nsection 1 116 .text 6\n\
-    section 4 144 .rela.text 0\nsection 1 24 .rodata 3\nsection 4 72 .rela.rodata 0\n\
-    section 1 32 .data 2\nsection 4 48 .rela.data 0\nsection 1 8 .sdata 1\n\
-    section 4 24 .rela.sdata 0\nsection 1 0 .note.GNU-stack 0\n\
-    section 1879048195 28 .riscv.attributes 0\nsection 2 240 .symtab 0\nsymbol -\n\
-    symbol pointers.c\nsymbol twice\nsymbol negated\nsymbol same\nsymbol apply\n\
-    symbol writable_table\nsymbol constant_table\nsymbol second_number\nsymbol numbers\n";
+    section 0 0 - - 0\nsection 3 186 - .strtab 0\nsection 1 116 AX .text 6\n\
+    section 4 144 - .rela.text 0\nsection 1 24 A .rodata 3\nsection 4 72 - .rela.rodata 0\n\
+    section 1 32 WA .data 2\nsection 4 48 - .rela.data 0\nsection 1 8 WA .sdata 1\n\
+    section 4 24 - .rela.sdata 0\nsection 1 0 - .note.GNU-stack 0\n\
+    section 1879048195 28 - .riscv.attributes 0\nsection 2 240 - .symtab 0\nsymbol 0 0 0 0 -\n\
+    symbol 4 0 65521 0 pointers.c\nsymbol 2 0 2 4 twice\nsymbol 2 0 2 12 negated\n\
+    symbol 2 1 2 0 same\nsymbol 2 1 2 20 apply\nsymbol 1 1 6 0 writable_table\n\
+    symbol 1 1 4 0 constant_table\nsymbol 1 1 8 0 second_number\nsymbol 1 1 6 16 numbers\n";
 
 pub(crate) static POINTERS_CLANG: &[u8] = b"\
     7f454c460201010000000000000000000100f3000100000000000000000000000000000000000000e8030000000000\
@@ -228,14 +237,16 @@ pub(crate) static POINTERS_CLANG: &[u8] = b"\
     0000000000001801000000000000f000000000000000010000000400000008000000000000001800000000000000";
 
 pub(crate) static STRINGS_CLANG_TEXT: &[u8] = b"\
-    section 0 0 - 0\nsection 3 201 .strtab 0\nsection 1 136 .text 10\n\
-    section 4 240 .rela.text 0\nsection 1 20 .rodata.str1.1 0\nsection 1 35 .rodata 3\n\
-    section 4 72 .rela.rodata 0\nsection 1 0 .note.GNU-stack 0\n\
-    section 1879048195 28 .riscv.attributes 0\nsection 1 48 .eh_frame 0\n\
-    section 4 168 .rela.eh_frame 0\nsection 2 432 .symtab 0\nsymbol -\nsymbol strings.c\n\
-    symbol -\nsymbol -\nsymbol -\nsymbol .LBB0_3\nsymbol greeting\nsymbol .LBB0_4\n\
-    symbol .LBB0_5\nsymbol .L.str.3\nsymbol -\nsymbol .L.str\nsymbol .L.str.1\n\
-    symbol .L.str.2\nsymbol say\nsymbol put\nsymbol words\nsymbol halt\n";
+    section 0 0 - - 0\nsection 3 201 - .strtab 0\nsection 1 136 AX .text 10\n\
+    section 4 240 - .rela.text 0\nsection 1 20 A .rodata.str1.1 0\nsection 1 35 A .rodata 3\n\
+    section 4 72 - .rela.rodata 0\nsection 1 0 - .note.GNU-stack 0\n\
+    section 1879048195 28 - .riscv.attributes 0\nsection 1 48 A .eh_frame 0\n\
+    section 4 168 - .rela.eh_frame 0\nsection 2 432 - .symtab 0\nsymbol 0 0 0 0 -\n\
+    symbol 4 0 65521 0 strings.c\nsymbol 0 0 2 0 -\nsymbol 0 0 2 4 -\nsymbol 0 0 2 12 -\n\
+    symbol 0 0 2 16 .LBB0_3\nsymbol 1 0 5 24 greeting\nsymbol 0 0 2 40 .LBB0_4\n\
+    symbol 0 0 2 68 .LBB0_5\nsymbol 1 0 4 14 .L.str.3\nsymbol 0 0 2 136 -\n\
+    symbol 1 0 4 0 .L.str\nsymbol 1 0 4 4 .L.str.1\nsymbol 1 0 4 8 .L.str.2\nsymbol 2 1 2 0 say\n\
+    symbol 0 1 0 0 put\nsymbol 1 1 5 0 words\nsymbol 0 1 0 0 halt\n";
 
 pub(crate) static STRINGS_CLANG: &[u8] = b"\
     7f454c460201010000000000000000000100f3000100000000000000000000000000000000000000b0050000000000\

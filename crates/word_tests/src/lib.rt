@@ -1,8 +1,11 @@
-//! Tests of words through public calls: bits, lists of bytes and places, and what relocations make of words and
-//! data, against values from outside. They stand beside the crates that they test, so that these are proved once.
+//! Tests of words through public calls: bits, lists of bytes and places, what relocations make of words and data,
+//! against values from outside, and searches for the first and the least. They stand beside the crates that they
+//! test, so that these are proved once.
 #![tactic(auto)]
 
 #[cfg(test)]
 mod bits;
 #[cfg(test)]
 mod relocation;
+#[cfg(test)]
+mod search;

@@ -1,7 +1,7 @@
 use Rattle.std.proofs.Common.{take}
 use Rattle.std.specs.List.{list_any}
 use Rattle.rv_word.specs.Layout.{version_1}
-use Rattle.cfi_verify.specs.Least.{IsLeast}
+use Rattle.least.specs.Least.{IsLeast}
 use Rattle.cfi_verify.specs.Rules.{lacks_gate}
 use Rattle.cfi_verify.specs.Split.{unit_at}
 use Rattle.cfi_verify.proofs.scan.Scan.first_without_gate.Given as goal

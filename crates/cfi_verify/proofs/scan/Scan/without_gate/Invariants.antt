@@ -1,6 +1,6 @@
 use Rattle.std.proofs.Common.{◌&&◌, not, take}
 use Rattle.rv_word.specs.Layout.{version_1}
-use Rattle.cfi_verify.specs.Least.{IsLeast}
+use Rattle.least.specs.Least.{IsLeast}
 use Rattle.cfi_verify.specs.Lines.{is_among}
 use Rattle.cfi_verify.specs.Rules.{is_gate_with}
 use Rattle.cfi_verify.specs.Split.{unit_at}
