@@ -179,6 +179,10 @@ word_count (V.Ijump rs1 imm label) = 13
 word_count (V.Icall rs1 imm label) = 20
 word_count V.Return = 5
 
+-- the address after it
+abbrev pub after_unit : U.Unit → ℕ → ℕ
+after_unit unit at = at + 4 * word_count unit
+
 -- a unit begins a list of words at an address
 pub record Begins (words : List ℕ) (at : ℕ) (unit : U.Unit) : Type 0 where
   pub fits : Fits unit at

@@ -5,7 +5,8 @@ use Rattle.std.proofs.lemmas.Bool.{cases_Bool, eqb-true}
 use Rattle.rv_word.specs.Layout.{version_1}
 use Rattle.cfi_unit.specs.declared.unit.Unit as U
 use Rattle.cfi_unit.specs.declared.unit.Unit.TheVariants as V
-use Rattle.cfi_unit.specs.Place.{Place, handler, opening, closing, body}
+use Rattle.cfi_unit.specs.declared.place.Place.{Place}
+use Rattle.cfi_unit.specs.declared.place.Place.TheVariants.{Handler as handler, Opening as opening, Closing as closing, Body as body}
 use Rattle.cfi_verify.specs.Split.{is_handler, entry_of, unit_at, place_at}
 use Rattle.cfi_verify.specs.Kinds.{has_kind, kind_of, same_kind}
 use Rattle.cfi_verify.specs.Rules.{edge_of, call_of, site_of}

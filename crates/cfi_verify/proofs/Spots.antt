@@ -8,7 +8,7 @@ use Rattle.cfi_graph.specs.declared.line.GraphLine.{GraphLine}
 use Rattle.cfi_graph.specs.declared.line.GraphLine.TheVariants.{Class, Site, Edge, Call}
 use Rattle.cfi_graph.specs.Graph.{GraphParts, IsGraph, is_code_address, line_in_range}
 use Rattle.cfi_unit.specs.declared.unit.Unit as U
-use Rattle.cfi_unit.specs.Place.{Place}
+use Rattle.cfi_unit.specs.declared.place.Place.{Place}
 use Rattle.cfi_verify.specs.Split.{unit_starts, is_start, unit_at, place_at, is_handler}
 use Rattle.cfi_verify.specs.Lines.{holds_of, line_at, class_of}
 use Rattle.cfi_verify.specs.Rules.{fails, edge_of, call_of, site_of, is_edge_to, is_call_to, is_site_with, is_unused, is_lone_site, is_astray, is_bad_end}

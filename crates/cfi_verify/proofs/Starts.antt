@@ -4,11 +4,12 @@ use Rattle.std.proofs.lemmas.List.{append-nil, drop_more, drop_all}
 use Rattle.std.specs.Prelude.{option_map}
 use Rattle.std.proofs.lemmas.Option.{some_pair_parts, slice_get_within}
 use Rattle.rv_word.specs.Layout.{version_1}
+use Rattle.rv_word.proofs.Cases.{cases_Option}
 use Rattle.cfi_unit.specs.declared.unit.Unit as U
 use Rattle.cfi_unit.specs.Recognise.{recognised}
 use Rattle.cfi_unit.specs.UnitWords.{word_count}
 use Rattle.cfi_verify.proofs.Find.{start_parts}
-use Rattle.cfi_verify.proofs.Marks.{cases_Option, marks_none, marks_unit}
+use Rattle.cfi_verify.proofs.Marks.{marks_none, marks_unit}
 use Rattle.cfi_verify.specs.Split.{starts, is_start}
 
 one_on : (ms : List Bool) (m : Bool) (rest more all : List Bool) → m ∷ more ≡ rest → ms ++ rest ≡ all → (ms ++ m ∷ []) ++ more ≡ all

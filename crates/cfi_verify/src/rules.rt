@@ -37,7 +37,6 @@ ghost use Rattle.cfi_verify.specs.Rules.{
   same_kind,
 };
 ghost use Rattle.cfi_verify.specs.Lines.{class_of, holds_of, is_among};
-ghost use Rattle.cfi_verify.specs.Seen.{place_of};
 ghost use Rattle.cfi_verify.specs.Split.{is_start, place_at, unit_at};
 ghost use Rattle.cfi_verify.specs.declared.reject.Rule.TheVariants as R;
 

@@ -21,7 +21,6 @@ ghost use Rattle.cfi_graph.specs.Graph.{IsGraph, is_rising};
 ghost use Rattle.cfi_unit.specs.UnitWords.{word_count};
 ghost use Rattle.cfi_verify.specs.Kinds.{has_kind, kind_in, kind_of};
 ghost use Rattle.cfi_verify.specs.Lines.{class_of, line_at};
-ghost use Rattle.cfi_verify.specs.Seen.{place_of};
 ghost use Rattle.cfi_verify.specs.Split.{
   code_words,
   entry_of,
@@ -36,12 +35,11 @@ ghost use Rattle.cfi_verify.specs.Split.{
 use crate::kind::{Kind, same_kind};
 use crate::lines;
 use crate::listed::listed;
-use crate::place::Place;
 use crate::split::split;
 use crate::words::code_words;
 use cfi_graph::{Graph, GraphLine};
 use cfi_unit::handlers::{BAD_RETURN, BAD_TARGET, DEEP};
-use cfi_unit::{Unit, recognise};
+use cfi_unit::{Place, Unit, recognise};
 use rv_code::decode;
 use rv_instr::Instr;
 use rv_word::memory_map::CODE_START;
@@ -200,7 +198,7 @@ impl<'a> Scan<'a> {
     /// What stands at an address, if something starts there.
     #[tactic(auto, unfolding(crate::specs::Split::place_at))]
     pub(crate) fn place_at(&self, address: u64) -> Option<Place>
-        ensures { option_map place_of result ≡ place_at version_1 self.now.words address }
+        ensures { result ≡ place_at version_1 self.now.words address }
     {
         if is_handler(address) {
             return Some(Place::Handler);

@@ -1,7 +1,7 @@
 use Rattle.std.proofs.Common.{◌≡◌, ◌*◌, List, ℕ, subst, ap, drop, length, length-drop, arith, ◌∙◌}
 use Rattle.cfi_verify.specs.Kinds.{AreKinds}
 use Rattle.cfi_verify.specs.Split.{code_words}
-use Rattle.cfi_verify.proofs.WordList.{length-code_words}
+use Rattle.cfi_verify.proofs.Bytes.{length-code_words}
 use Rattle.cfi_verify.proofs.scan.Scan.of.Goals as goal
 
 pub split-requires : goal.split-requires
