@@ -9,6 +9,7 @@ use Rattle.std.proofs.lemmas.Slice.Eq.{starts_is}
 use Rattle.std.proofs.lemmas.List.{take-append-drop}
 use Rattle.std.proofs.Math.Seq.{take-append_seam}
 use Rattle.rv_instr.specs.InRange.{IsInstr}
+use Rattle.rv_instr.specs.Reserved.{is_reserved}
 use Rattle.rv_instr.specs.declared.instr.Instr.{Instr}
 use Rattle.rv_instr.specs.declared.instr.Instr.TheVariants.{Upper, Jal, Jalr, Branch, Load, Store, Immediate, Shift, ShiftWord, Register, Fence, Ecall, Ebreak}
 use Rattle.rv_instr.specs.declared.instr.UpperOp.TheVariants.{Lui, Auipc}
@@ -21,7 +22,7 @@ use Rattle.rv_code.proofs.ReadBack.{decoded-code_of}
 use Rattle.cfi_unit.specs.declared.unit.Unit as U
 use Rattle.cfi_unit.specs.declared.unit.Unit.TheVariants as V
 use Rattle.cfi_unit.specs.declared.unit.SystemOp.TheVariants as S
-use Rattle.cfi_unit.specs.UnitWords.{BAD_TARGET, MINUS_EIGHT, MINUS_FOUR, Begins, Fits, Reaches, gate, is_plain, is_reserved, jump, jump_offset, word_count, words_of}
+use Rattle.cfi_unit.specs.UnitWords.{BAD_TARGET, MINUS_EIGHT, MINUS_FOUR, Begins, Fits, Reaches, gate, is_plain, jump, jump_offset, word_count, words_of}
 use Rattle.cfi_unit.specs.Recognise.{can_stand, instr_at, jump_or_stop, led_to, recognised, stands, unit_from}
 use Rattle.cfi_unit.proofs.Stand.{and_both, fits_stand}
 

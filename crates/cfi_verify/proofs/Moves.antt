@@ -3,7 +3,7 @@
 use Rattle.std.proofs.Common.{◌≡◌, ℕ, ◌+◌, ◌*◌, ◌^◌, ◌≤◌, ◌<◌, inl, inr, true, false, List, [], ◌∷◌, length, refl, sym, ap, subst, ◌∙◌, Some, arith, lit≤}
 use Rattle.std.specs.Prelude.{option_map}
 use Rattle.rv_word.specs.Image.{Contents}
-use Rattle.rv_word.specs.Layout.{version_1}
+use Rattle.rv_word.specs.Layout.{version_1, CLOSING}
 use Rattle.rv_word.specs.Memory.{read, loaded}
 use Rattle.rv_word.proofs.Cases.{cases_Option}
 use Rattle.rv_instr.specs.Registers.{Registers}
@@ -42,7 +42,7 @@ module _ (image : Contents) (graph : GraphParts) (bytes : AreBytes image) (forme
   -- the oldest pending site is the closing, the others are units' starts
   abbrev pub SitesStand : List ℕ → Type 0
   SitesStand [] = ⊥
-  SitesStand (site ∷ []) = site ≡ 0x40000038
+  SitesStand (site ∷ []) = site ≡ CLOSING
   SitesStand (site ∷ other ∷ more) = (is_start version_1 W site ≡ true) × SitesStand (other ∷ more)
 
   pub record InBody (pending : List ℕ) : Type 0 where
@@ -173,7 +173,7 @@ module _ (image : Contents) (graph : GraphParts) (bytes : AreBytes image) (forme
   arrive closing w v newer is facts stage leads = absurd leads
   arrive (opening entry) w v newer is facts stage (inl l) =
       let start = call_starts image graph formed w.at (opening entry) entry is refl in
-      let none : newer ≡ 0x40000038 ∷ [] = l.1 ∙ ap (λ ps. 0x40000038 ∷ ps) stage in
+      let none : newer ≡ CLOSING ∷ [] = l.1 ∙ ap (λ ps. CLOSING ∷ ps) stage in
       record {
         goes = inl (l.0, l.2, l.1 ∙ ap (λ n. n ∷ w.pending) (let z : OPENING + 44 ≡ w.at + 44 = ap (λ n. n + 44) (sym facts.0) in z));
         chooses = tt;

@@ -1,5 +1,6 @@
 -- Small pairs with one fault each, which are not safe: so safety is not said of everything.
 use Rattle.std.specs.Prelude.{ℕ, ◌+◌, ◌/◌, ◌%◌, ◌^◌, List, [], ◌∷◌, ◌++◌, map, take, drop}
+use Rattle.rv_word.specs.Layout.{START, UNITS_START}
 use Rattle.rv_word.specs.Image.{Contents}
 use Rattle.rv_code.specs.Encode.{code_of}
 use Rattle.cfi_graph.specs.Graph.{GraphParts}
@@ -19,7 +20,7 @@ bytes_of (w ∷ ws) = (w % 2 ^ 8) ∷ (w / 2 ^ 8 % 2 ^ 8) ∷ (w / 2 ^ 16 % 2 ^ 
 
 -- the prologue's words; its call goes to the first unit
 abbrev pub prologue : List ℕ
-prologue = map code_of (prologue_instrs 0x40000040)
+prologue = map code_of (prologue_instrs UNITS_START)
 
 -- the prologue and words after it
 abbrev pub image_with : List ℕ → Contents
@@ -27,7 +28,7 @@ image_with words = record { init = []; code = bytes_of (prologue ++ words) }
 
 -- classes, the opening's call, and other lines
 abbrev pub graph_of : ℕ → List GraphLine → List GraphLine → GraphParts
-graph_of len classes lines = record { code = len; lines = classes ++ (Call 0x4000000c 0x40000040 ∷ lines) }
+graph_of len classes lines = record { code = len; lines = classes ++ (Call START UNITS_START ∷ lines) }
 
 abbrev pub graph_with : ℕ → List GraphLine → GraphParts
 graph_with len lines = graph_of len [] lines
@@ -37,7 +38,7 @@ abbrev pub middle : Contents
 middle = image_with (0x0080006f ∷ 0x00810f93 ∷ 0x024f9f93 ∷ 0x024fdf93 ∷ 0x001fb023 ∷ 0xfadff06f ∷ [])
 
 abbrev pub middle_graph : GraphParts
-middle_graph = graph_with 0x58 (Edge 0x40000040 0x40000048 ∷ [])
+middle_graph = graph_with 0x58 (Edge UNITS_START 0x40000048 ∷ [])
 
 abbrev pub MiddleIsUnsafe : Type 0
 MiddleIsUnsafe = IsSafe middle middle_graph → ⊥
@@ -121,17 +122,17 @@ code_from at (unit ∷ units) = words_of unit at ++ code_from (after_unit unit a
 
 -- a computed call of x1 + 88, a gate with the label of its class that is no target of it
 abbrev pub astray_call : Contents
-astray_call = image_with (code_from 0x40000040 (V.Icall 1 88 1 ∷ V.Gate 1 ∷ V.Gate 1 ∷ V.Stop ∷ []))
+astray_call = image_with (code_from UNITS_START (V.Icall 1 88 1 ∷ V.Gate 1 ∷ V.Gate 1 ∷ V.Stop ∷ []))
 
 abbrev pub astray_call_graph : GraphParts
-astray_call_graph = graph_of 0x9c (Class 1 (0x40000094 ∷ []) ∷ []) (Site 0x40000040 K.Call 1 ∷ [])
+astray_call_graph = graph_of 0x9c (Class 1 (0x40000094 ∷ []) ∷ []) (Site UNITS_START K.Call 1 ∷ [])
 
 -- a computed jump to x1 + 60, a target of its class that has no gate, so that the check halts there
 abbrev pub halted_jump : Contents
-halted_jump = image_with (code_from 0x40000040 (V.Ijump 1 60 1 ∷ V.Stop ∷ []))
+halted_jump = image_with (code_from UNITS_START (V.Ijump 1 60 1 ∷ V.Stop ∷ []))
 
 abbrev pub halted_jump_graph : GraphParts
-halted_jump_graph = graph_of 0x78 (Class 1 (0x40000074 ∷ []) ∷ []) (Site 0x40000040 K.Jump 1 ∷ [])
+halted_jump_graph = graph_of 0x78 (Class 1 (0x40000074 ∷ []) ∷ []) (Site UNITS_START K.Jump 1 ∷ [])
 
 -- a computed transfer that goes where the walk does not, or does not go where its registers say
 pub record WrongTransfersAreUnsafe : Type 0 where

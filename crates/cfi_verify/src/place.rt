@@ -6,9 +6,10 @@ ghost use Rattle.cfi_verify.specs.Split.{place_at, unit_at};
 ghost use Rattle.rv_word.specs.Layout.{version_1};
 
 use crate::kind::Kind;
-use crate::scan::{OPENING_START, Scan};
+use crate::scan::Scan;
 use cfi_graph::SiteKind;
 use cfi_unit::{Place, Unit};
+use rv_word::profile::START;
 
 /// Where a branch or a jump leads.
 fn edge_of(place: Option<&Place>) -> Option<u64>
@@ -69,7 +70,7 @@ impl<'a> Scan<'a> {
     pub(crate) fn call_at(&self, address: u64) -> Option<u64>
         ensures { result ≡ option_and_then call_of (place_at version_1 self.now.words address) }
     {
-        if address == OPENING_START || self.has_kind(address, Kind::Call) {
+        if address == START || self.has_kind(address, Kind::Call) {
             call_of(self.place_at(address).as_ref())
         } else {
             None

@@ -43,18 +43,10 @@ use cfi_unit::{Place, Unit, recognise};
 use rv_code::decode;
 use rv_instr::Instr;
 use rv_word::memory_map::CODE_START;
+use rv_word::profile::{CLOSING, OPENING_CALL, START, UNITS_START};
 use rv_word::{Image, NoMemory, sext};
 use std::alloc::Global;
 use std::marker::Model;
-
-/// Where the prologue's parts and the first unit stand.
-pub(crate) const OPENING_START: u64 = 0x4000_000c;
-
-const OPENING_CALL: u64 = 0x4000_0034;
-
-const CLOSING_START: u64 = 0x4000_0038;
-
-pub(crate) const UNITS_START: u64 = 0x4000_0040;
 
 /// The words of a code, the kind of each unit at its first word, a flag for each word at which a line
 /// of the graph stands, and the graph.
@@ -204,8 +196,8 @@ impl<'a> Scan<'a> {
             return Some(Place::Handler);
         }
         match address {
-            OPENING_START => Some(Place::Opening(self.entry()?)),
-            CLOSING_START => Some(Place::Closing),
+            START => Some(Place::Opening(self.entry()?)),
+            CLOSING => Some(Place::Closing),
             _ => Some(Place::Body(self.unit_at(address)?)),
         }
     }

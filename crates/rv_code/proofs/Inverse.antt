@@ -158,41 +158,41 @@ by_law w i small e =
     let f = fields_of w in
     elim (chosen (f.opcode == 0x37) (Some (Upper Lui f.rd (imm_u f))) _ (Some i) e) [
       | inl a ↦ upper_law w i small (eqb-true _ _ a.0) a.1
-      | inr (off, e) ↦
-          elim (chosen (f.opcode == 0x17) (Some (Upper Auipc f.rd (imm_u f))) _ (Some i) e) [
+      | inr e ↦
+          elim (chosen (f.opcode == 0x17) (Some (Upper Auipc f.rd (imm_u f))) _ (Some i) e.1) [
             | inl a ↦ upper_pc_law w i small (eqb-true _ _ a.0) a.1
-            | inr (off, e) ↦
-                elim (chosen (f.opcode == 0x6f) (Some (Jal f.rd (imm_j f))) _ (Some i) e) [
+            | inr e ↦
+                elim (chosen (f.opcode == 0x6f) (Some (Jal f.rd (imm_j f))) _ (Some i) e.1) [
                   | inl a ↦ jal_law w i small (eqb-true _ _ a.0) a.1
-                  | inr (off, e) ↦
-                      elim (chosen (f.opcode == 0x67) (jump_of f) _ (Some i) e) [
+                  | inr e ↦
+                      elim (chosen (f.opcode == 0x67) (jump_of f) _ (Some i) e.1) [
                         | inl a ↦ jump_law w i small (eqb-true _ _ a.0) a.1
-                        | inr (off, e) ↦
-                            elim (chosen (f.opcode == 0x63) (option_map (λ op. Branch op f.rs1 f.rs2 (imm_b f)) (row branches f.funct3)) _ (Some i) e) [
+                        | inr e ↦
+                            elim (chosen (f.opcode == 0x63) (option_map (λ op. Branch op f.rs1 f.rs2 (imm_b f)) (row branches f.funct3)) _ (Some i) e.1) [
                               | inl a ↦ branch_law w i small (eqb-true _ _ a.0) a.1
-                              | inr (off, e) ↦
-                                  elim (chosen (f.opcode == 0x03) (option_map (λ op. Load op f.rd f.rs1 (imm_i f)) (row loads f.funct3)) _ (Some i) e) [
+                              | inr e ↦
+                                  elim (chosen (f.opcode == 0x03) (option_map (λ op. Load op f.rd f.rs1 (imm_i f)) (row loads f.funct3)) _ (Some i) e.1) [
                                     | inl a ↦ load_law w i small (eqb-true _ _ a.0) a.1
-                                    | inr (off, e) ↦
-                                        elim (chosen (f.opcode == 0x23) (option_map (λ op. Store op f.rs1 f.rs2 (imm_s f)) (row stores f.funct3)) _ (Some i) e) [
+                                    | inr e ↦
+                                        elim (chosen (f.opcode == 0x23) (option_map (λ op. Store op f.rs1 f.rs2 (imm_s f)) (row stores f.funct3)) _ (Some i) e.1) [
                                           | inl a ↦ store_law w i small (eqb-true _ _ a.0) a.1
-                                          | inr (off, e) ↦
-                                              elim (chosen (f.opcode == 0x13) (immediate_of f) _ (Some i) e) [
+                                          | inr e ↦
+                                              elim (chosen (f.opcode == 0x13) (immediate_of f) _ (Some i) e.1) [
                                                 | inl a ↦ immediate_law w i small (eqb-true _ _ a.0) a.1
-                                                | inr (off, e) ↦
-                                                    elim (chosen (f.opcode == 0x1b) (word_immediate_of f) _ (Some i) e) [
+                                                | inr e ↦
+                                                    elim (chosen (f.opcode == 0x1b) (word_immediate_of f) _ (Some i) e.1) [
                                                       | inl a ↦ word_immediate_law w i small (eqb-true _ _ a.0) a.1
-                                                      | inr (off, e) ↦
-                                                          elim (chosen (f.opcode == 0x33) (option_map (λ op. Register op f.rd f.rs1 f.rs2) (row registers (with_funct3 f.funct7 f.funct3))) _ (Some i) e) [
+                                                      | inr e ↦
+                                                          elim (chosen (f.opcode == 0x33) (option_map (λ op. Register op f.rd f.rs1 f.rs2) (row registers (with_funct3 f.funct7 f.funct3))) _ (Some i) e.1) [
                                                             | inl a ↦ register_law w i small (eqb-true _ _ a.0) a.1
-                                                            | inr (off, e) ↦
-                                                                elim (chosen (f.opcode == 0x3b) (option_map (λ op. Register op f.rd f.rs1 f.rs2) (row word_registers (with_funct3 f.funct7 f.funct3))) _ (Some i) e) [
+                                                            | inr e ↦
+                                                                elim (chosen (f.opcode == 0x3b) (option_map (λ op. Register op f.rd f.rs1 f.rs2) (row word_registers (with_funct3 f.funct7 f.funct3))) _ (Some i) e.1) [
                                                                   | inl a ↦ word_register_law w i small (eqb-true _ _ a.0) a.1
-                                                                  | inr (off, e) ↦
-                                                                      elim (chosen (f.opcode == 0x0f) (fence_of f w) _ (Some i) e) [
+                                                                  | inr e ↦
+                                                                      elim (chosen (f.opcode == 0x0f) (fence_of f w) _ (Some i) e.1) [
                                                                         | inl a ↦ fence_law w i small (eqb-true _ _ a.0) a.1
-                                                                        | inr (off, e) ↦
-                                                                            elim (chosen (f.opcode == 0x73) (system_of w) None (Some i) e) [ inl a ↦ system_law w i a.1 | inr n ↦ absurd (none-some i n.1) ]
+                                                                        | inr e ↦
+                                                                            elim (chosen (f.opcode == 0x73) (system_of w) None (Some i) e.1) [ inl a ↦ system_law w i a.1 | inr n ↦ absurd (none-some i n.1) ]
                                                                       ]
                                                                 ]
                                                           ]
