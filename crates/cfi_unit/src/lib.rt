@@ -4,6 +4,7 @@
 #![tactic(auto)]
 
 pub use emission::{emit, fits, size};
+pub use place::Place;
 pub use recogniser::recognise;
 pub use step_law::unit_law;
 pub use unit::{SystemOp, Unit};
@@ -12,6 +13,7 @@ mod emission;
 pub mod handlers;
 mod jump;
 pub mod laws;
+mod place;
 mod recogniser;
 mod step_law;
 mod template;

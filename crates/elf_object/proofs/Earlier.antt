@@ -2,7 +2,8 @@
 use Rattle.std.proofs.Common.{◌≡◌, ◌==◌, ℕ, ◌<◌, Bool, true, false, not, is_some, inl, inr, refl, arith}
 use Rattle.std.proofs.lemmas.Bool.{eq-eqb, ne_eqb}
 use Rattle.least.specs.First.{first_below}
-use Rattle.least.proofs.Firsts.{cases_Option, first_bound, first_found, first_stays}
+use Rattle.rv_word.proofs.Cases.{cases_Option}
+use Rattle.least.proofs.Firsts.{first_bound, first_found, first_stays}
 use Rattle.elf_object.specs.Table.{is_number}
 
 -- it holds earlier exactly where this one is not the first

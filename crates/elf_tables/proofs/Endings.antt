@@ -5,7 +5,7 @@ use Rattle.std.proofs.lemmas.Bool.{cases_order, cases_lt, lt-ltb, le-ltb, eqb-tr
 use Rattle.std.proofs.lemmas.List.{length-drop, length-take, length-take-le, take-take, get_or-drop, get_or-take}
 use Rattle.std.proofs.lemmas.List.Quantifiers.{position-Some}
 use Rattle.std.proofs.lemmas.Slice.Eq.{bytes_eq-Decides}
-use Rattle.least.proofs.Firsts.{cases_Option}
+use Rattle.rv_word.proofs.Cases.{cases_Option}
 use Rattle.elf_bytes.specs.Fields.{string_of}
 use Rattle.elf_bytes.proofs.Strings.{none_anywhere}
 use Rattle.elf_tables.specs.Kept.{is_named}

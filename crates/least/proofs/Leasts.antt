@@ -4,7 +4,8 @@ use Rattle.std.specs.Prelude.{min}
 use Rattle.std.proofs.lemmas.Bool.{cases_lt, or_left, or_right, or_from}
 use Rattle.least.specs.First.{first_below}
 use Rattle.least.specs.Least.{IsLeast, lesser, least_below}
-use Rattle.least.proofs.Firsts.{cases_Option, found_parts, first_none}
+use Rattle.rv_word.proofs.Cases.{cases_Option}
+use Rattle.least.proofs.Firsts.{found_parts, first_none}
 
 pub least_same : (t u : ℕ → Bool) → ((a : ℕ) → t a ≡ u a) → (o : Option ℕ) → IsLeast t o → IsLeast u o
 least_same t u e None h = λ a. sym (e a) ∙ h a

@@ -8,7 +8,7 @@ use Rattle.std.specs.List.{filter_map}
 use Rattle.std.proofs.lemmas.Option.{slice_get_within, get_or_from_slice_get}
 use Rattle.std.proofs.lemmas.List.{take_more}
 use Rattle.std.proofs.lemmas.List.Elements.{filter_map-append}
-use Rattle.least.proofs.Firsts.{cases_Option}
+use Rattle.rv_word.proofs.Cases.{cases_Option}
 use Rattle.least.specs.Nearest.{IsNearest, is_before, nearer, nearest, nearest_below, joined}
 use Rattle.least.specs.Laws.{NearestIsFirst, NearestOfParts, NearerInAnyGrouping}
 
