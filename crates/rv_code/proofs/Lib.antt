@@ -6,3 +6,4 @@ pub mod Runs
 pub mod Steps
 pub mod Frames
 pub mod Calls
+pub mod Continued

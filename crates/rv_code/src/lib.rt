@@ -13,5 +13,6 @@ mod decoder;
 mod encoder;
 mod event;
 mod fields;
+pub mod laws;
 mod operations;
 mod turn;
