@@ -3,11 +3,13 @@
 //! word of a unit does.
 #![tactic(auto)]
 
+pub use effect_law::{unit_effect, unit_keeps_registers};
 pub use emission::{emit, fits, size};
 pub use recogniser::recognise;
 pub use step_law::unit_law;
 pub use unit::{SystemOp, Unit};
 
+mod effect_law;
 mod emission;
 pub mod handlers;
 mod jump;

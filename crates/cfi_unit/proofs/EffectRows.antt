@@ -1,0 +1,186 @@
+-- What units do, all units, and so the two laws: a run meets what is asked within so many steps.
+use Rattle.std.proofs.Common.{◌≡◌, ℕ, zero, suc, ◌+◌, ◌^◌, ◌<◌, ◌≤◌, inl, inr, List, [], ◌∷◌, length, take, replicate, refl, sym, ap, subst, ◌∙◌, arith}
+use Rattle.std.specs.List.{AllByRecursion}
+use Rattle.std.specs.Prelude.{◌==◌, ◌&&◌, nat_le, nat_lt, if◌then◌else◌}
+use Rattle.std.proofs.lemmas.Bool.{cases_Bool, ne_eqb}
+use Rattle.std.proofs.lemmas.List.{length-replicate}
+use Rattle.rv_word.specs.Layout.{Profile, SHADOW_START, DATA_END}
+use Rattle.rv_word.specs.Memory.{Memory, write}
+use Rattle.rv_instr.specs.Registers.{Registers}
+use Rattle.rv_code.specs.Continue.{continue}
+use Rattle.rv_code.specs.Run.{ByteChange, IsDataChange, changed, disturbed, disturbed_step}
+use Rattle.rv_code.specs.State.{Hart, Shared, After, last_exit}
+use Rattle.rv_code.proofs.Continued.{continue_none, continue_next}
+use Rattle.cfi_unit.specs.declared.unit.Unit as U
+use Rattle.cfi_unit.specs.declared.unit.Unit.TheVariants as V
+use Rattle.cfi_unit.specs.declared.unit.SystemOp.TheVariants as S
+use Rattle.cfi_unit.specs.UnitWords.{instrs_of, word_count}
+use Rattle.cfi_unit.specs.Shadow.{IsPart, slot, MOST_PENDING}
+use Rattle.cfi_unit.specs.Stand.{Stand}
+use Rattle.cfi_unit.specs.Context.{Context}
+use Rattle.cfi_unit.specs.UnitLaw.{UnitMayStand}
+use Rattle.cfi_unit.specs.Between.{Unchanged, DataChanged}
+use Rattle.cfi_unit.specs.Leaving.{pushed}
+use Rattle.cfi_unit.specs.Effect.{UnitDoes}
+use Rattle.cfi_unit.specs.EffectLaw.{Enters, Inside, DoneWithin, UnitEffect, UnitKeepsRegisters}
+use Rattle.cfi_unit.proofs.Context.{kept_data}
+use Rattle.cfi_unit.proofs.EffectSteps.{IsHarmless, Now, Runs, before}
+use Rattle.cfi_unit.proofs.EffectUnits.{plain_does, ecall_does, ebreak_does, stop_does, gate_does, jump_does, branch_does, store_does}
+use Rattle.cfi_unit.proofs.EffectTransfers.{call_does, return_does, ijump_does, icall_does}
+
+module _ (may : Shared → Shared → Type 0) (harmless : IsHarmless may) (p : Profile) (part : ℕ) (image base : Memory) (h : Hart) (s : Shared) where
+  module _ (own : IsPart p part) (small : (k : ℕ) → image k < 2 ^ 8) (at : ℕ) (e : h.pc ≡ at) where
+    first : (pending : List ℕ) → Context part image base pending s → Now may p part image base pending h.regs s h s
+    first pending c = record { harmless = harmless; own = own; since = harmless.self s; context = c; same = record { same = λ k free. refl } }
+
+    body_does : (unit : U.Unit) (pending : List ℕ) → UnitMayStand unit at pending → 0 < length pending → length pending ≤ MOST_PENDING →
+        Stand image at (instrs_of unit at) → Context part image base pending s → h.regs 3 ≡ slot part (length pending) →
+        Runs may p h.regs (word_count unit) (UnitDoes p part image base may h s unit at pending) (before h s)
+    body_does (V.Gate label) pending stand some most w c x3 = gate_does at (first pending c) e x3 label w
+    body_does (V.Plain instr) pending stand some most w c x3 = plain_does at (first pending c) e instr stand.0.1 w
+    body_does (V.Branch op rs1 rs2 target) pending stand some most w c x3 = branch_does at (first pending c) e x3 op rs1 rs2 target stand.0 w
+    body_does (V.Jump target) pending stand some most w c x3 = jump_does at (first pending c) e x3 target stand.0 w
+    body_does V.Stop pending stand some most w c x3 = stop_does at (first pending c) e stand.0 w
+    body_does (V.System S.Ecall) pending stand some most w c x3 = ecall_does at (first pending c) e w
+    body_does (V.System S.Ebreak) pending stand some most w c x3 = ebreak_does at (first pending c) e w
+    body_does (V.Store op rs1 rs2 imm) pending stand some most w c x3 = store_does at (first pending c) e x3 op rs1 rs2 imm w
+    body_does (V.Call target) pending stand some most w c x3 = call_does at pending (first pending c) e x3 most target stand.0 w
+    body_does (V.Ijump rs1 imm label) pending stand some most w c x3 = ijump_does at pending (first pending c) e x3 most rs1 imm label small stand.0 w
+    body_does (V.Icall rs1 imm label) pending stand some most w c x3 = icall_does at pending (first pending c) e x3 most rs1 imm label small stand.0 w
+    body_does V.Return [] stand some most w c x3 = absurd (let none : length {A = ℕ} [] ≡ 0 = refl in omega arith)
+    body_does V.Return (site ∷ pending) stand some most w c x3 =
+        return_does at site pending (first (site ∷ pending) c) e x3 most stand.1.0 stand.1.1 stand.0 w
+
+  pub unit_does : (unit : U.Unit) (at : ℕ) (pending : List ℕ) → Enters p part image base unit at pending h s →
+      Runs may p h.regs (word_count unit) (UnitDoes p part image base may h s unit at pending) (before h s)
+  unit_does unit at pending i = body_does i.own i.bytes at i.pc unit pending i.may_stand i.some i.most i.stands i.context i.pointer
+
+-- a run from a state that goes on, or has stopped, meets Q
+pub record Meets (p : Profile) (r : Registers) (n : ℕ) (a : After) (changes : List (List ByteChange)) (Q : After → Type 0) : Type 0 where
+  pub steps : ℕ
+  pub few : steps ≤ n
+  pub inside : (k : ℕ) → k < steps → Inside r (continue p a (take k changes))
+  pub met : Q (continue p a (take steps changes))
+
+module _ (may : Shared → Shared → Type 0) (p : Profile) (r : Registers) (Q : After → Type 0) where
+  abbrev Allowed : List ByteChange → Type 0
+  Allowed cs = (s : Shared) → may s (disturbed s cs)
+
+  at_once : (n : ℕ) (a : After) (changes : List (List ByteChange)) → Q a → Meets p r n a changes Q
+  at_once n a changes q = record {
+    steps = 0;
+    few = omega arith;
+    inside = λ k low. absurd (omega arith);
+    met = subst Q (sym (continue_none p a)) q;
+  }
+
+  one_more : (n : ℕ) (a : After) (cs : List ByteChange) (rest : List (List ByteChange)) → Inside r a →
+      Meets p r n (disturbed_step p a.hart a.shared cs) rest Q → Meets p r (suc n) a (cs ∷ rest) Q
+  one_more n a cs rest here later = record {
+    steps = suc later.steps;
+    few = let few = later.few in omega arith;
+    inside = within;
+    met = subst Q (sym (continue_next p a cs (take later.steps rest) here.turn)) later.met;
+  }
+    where
+      within : (k : ℕ) → k < suc later.steps → Inside r (continue p a (take k (cs ∷ rest)))
+      within zero low = subst (Inside r) (sym (continue_none p a)) here
+      within (suc k) low = subst (Inside r) (sym (continue_next p a cs (take k rest) here.turn)) (later.inside k (omega arith))
+
+  pub runs_meet : (n : ℕ) (a : After) (changes : List (List ByteChange)) → AllByRecursion Allowed changes → n ≤ length changes →
+      Runs may p r n Q a → Meets p r n a changes Q
+  runs_meet zero a changes allowed long runs = at_once zero a changes runs
+  runs_meet (suc n) a [] allowed long runs = absurd (omega arith)
+  runs_meet (suc n) a (cs ∷ rest) allowed long (inl q) = at_once (suc n) a (cs ∷ rest) q
+  runs_meet (suc n) a (cs ∷ rest) allowed long (inr on) =
+      one_more n a cs rest on.0
+      (runs_meet n (disturbed_step p a.hart a.shared cs) rest allowed.1 (omega arith) (on.1 (disturbed a.shared cs) (allowed.0 a.shared)))
+
+done_within : (p : Profile) (n : ℕ) (h : Hart) (s : Shared) (changes : List (List ByteChange)) (Done : After → Type 0) →
+    Meets p h.regs n (before h s) changes Done → DoneWithin p n h s changes Done
+done_within p n h s changes Done m = record { steps = m.steps; few = m.few; inside = m.inside; done = m.met }
+
+-- nothing happens
+unchanged_keeps : (part : ℕ) (image base : Memory) (pending : List ℕ) (s s' : Shared) → Context part image base pending s → Unchanged s s' →
+    Context part image base pending s'
+unchanged_keeps part image base pending s s' c same = subst (Context part image base pending) (sym same) c
+
+unchanged_harmless : IsHarmless Unchanged
+unchanged_harmless = record {
+  self = λ s. refl;
+  further = λ a b c first second. second ∙ first;
+  keeps = λ part image base pending s s' low c same. unchanged_keeps part image base pending s s' c same;
+  pushes = λ part n site s s' same. ap (pushed part n site) same;
+}
+
+none_allowed : (n : ℕ) → AllByRecursion (λ cs. (s : Shared) → Unchanged s (disturbed s cs)) (replicate {A = List ByteChange} n [])
+none_allowed zero = tt
+none_allowed (suc n) = (λ s. refl, none_allowed n)
+
+-- data may change
+changed_keeps : (part : ℕ) (image base : Memory) (pending : List ℕ) (s s' : Shared) → SHADOW_START ≤ part →
+    Context part image base pending s → DataChanged s s' → Context part image base pending s'
+changed_keeps part image base pending s s' low c changes = record {
+  going = ap last_exit changes.events ∙ c.going;
+  kept = kept_data low c.kept s'.memory changes.memory;
+}
+
+write_same : (m m' : Memory) (n a v : ℕ) → ((k : ℕ) → DATA_END ≤ k → m' k ≡ m k) → (k : ℕ) → DATA_END ≤ k → write n m' a v k ≡ write n m a v k
+unfolding write
+write_same m m' n a v same k high =
+    elim (cases_Bool (nat_le a k && nat_lt k (a + n))) [
+      | inl inside ↦ rw inside refl
+      | inr outside ↦ rw outside (same k high)
+    ]
+
+changed_harmless : IsHarmless DataChanged
+changed_harmless = record {
+  self = λ s. record { memory = λ k high. refl; left = refl; output = refl; events = refl };
+  further = λ a b c first second. record {
+    memory = λ k high. second.memory k high ∙ first.memory k high;
+    left = second.left ∙ first.left;
+    output = second.output ∙ first.output;
+    events = second.events ∙ first.events;
+  };
+  keeps = changed_keeps;
+  pushes = λ part n site s s' changes. record {
+    memory = write_same s.memory s'.memory 8 (slot part n) site changes.memory;
+    left = changes.left;
+    output = changes.output;
+    events = changes.events;
+  };
+}
+
+-- changes of data leave all else as it is
+changed_above : (m : Memory) (cs : List ByteChange) → AllByRecursion IsDataChange cs → (k : ℕ) → DATA_END ≤ k → changed m cs k ≡ m k
+changed_above m [] low k above = refl
+changed_above m (c ∷ cs) low k above =
+    let below = low.0.address in
+    changed_above (λ j. if j == c.address then c.byte else m j) cs low.1 k above ∙ rw (ne_eqb k c.address (λ e. omega arith)) refl
+
+data_allowed : (changes : List (List ByteChange)) → AllByRecursion (AllByRecursion IsDataChange) changes →
+    AllByRecursion (λ cs. (s : Shared) → DataChanged s (disturbed s cs)) changes
+data_allowed [] all = tt
+data_allowed (cs ∷ changes) all = (
+  λ s. record { memory = changed_above s.memory cs all.0; left = refl; output = refl; events = refl },
+  data_allowed changes all.1,
+)
+
+pub unit_effect : UnitEffect
+unit_effect p part image base unit at pending h s i =
+    let n = word_count unit in
+    let Q : After → Type 0 = UnitDoes p part image base Unchanged h s unit at pending in
+    done_within p n h s (replicate n []) Q
+    (runs_meet Unchanged p h.regs Q n (before h s) (replicate n []) (none_allowed n) (length_none n)
+    (unit_does Unchanged unchanged_harmless p part image base h s unit at pending i))
+  where
+    length_none : (n : ℕ) → n ≤ length (replicate {A = List ByteChange} n [])
+    length_none n = let e = length-replicate {A = List ByteChange} n [] in omega arith
+
+pub unit_keeps_registers : UnitKeepsRegisters
+unit_keeps_registers p part image base unit at pending h s i changes all long =
+    let n = word_count unit in
+    let Q : After → Type 0 = UnitDoes p part image base DataChanged h s unit at pending in
+    done_within p n h s changes Q
+    (runs_meet DataChanged p h.regs Q n (before h s) changes (data_allowed changes all) long
+    (unit_does DataChanged changed_harmless p part image base h s unit at pending i))
