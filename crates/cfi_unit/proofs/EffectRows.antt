@@ -10,7 +10,9 @@ use Rattle.rv_instr.specs.Registers.{Registers}
 use Rattle.rv_code.specs.Continue.{continue}
 use Rattle.rv_code.specs.Run.{ByteChange, IsDataChange, changed, disturbed, disturbed_step}
 use Rattle.rv_code.specs.State.{Hart, Shared, After, last_exit}
+use Rattle.rv_code.specs.Step.{step}
 use Rattle.rv_code.proofs.Continued.{continue_none, continue_next}
+use Rattle.rv_code.proofs.Within.{Within}
 use Rattle.cfi_unit.specs.declared.unit.Unit as U
 use Rattle.cfi_unit.specs.declared.unit.Unit.TheVariants as V
 use Rattle.cfi_unit.specs.declared.unit.SystemOp.TheVariants as S
@@ -184,3 +186,16 @@ unit_keeps_registers p part image base unit at pending h s i changes all long =
     done_within p n h s changes Q
     (runs_meet DataChanged p h.regs Q n (before h s) changes (data_allowed changes all) long
     (unit_does DataChanged changed_harmless p part image base h s unit at pending i))
+
+-- the same of a run where nothing happens, for runs that go on after the unit
+runs_within : (p : Profile) (r : Registers) (n : ℕ) (Q : After → Type 0) (a : After) → Runs Unchanged p r n Q a → Within p n Q a
+runs_within p r zero Q a q = q
+runs_within p r (suc n) Q a (inl q) = inl q
+runs_within p r (suc n) Q a (inr on) = inr (let here = on.0 in here.turn, runs_within p r n Q (step p a.hart a.shared) (on.1 a.shared refl))
+
+pub unit_within : (p : Profile) (part : ℕ) (image base : Memory) (unit : U.Unit) (at : ℕ) (pending : List ℕ) (h : Hart) (s : Shared) →
+    Enters p part image base unit at pending h s →
+    Within p (word_count unit) (UnitDoes p part image base Unchanged h s unit at pending) (before h s)
+unit_within p part image base unit at pending h s i =
+    runs_within p h.regs (word_count unit) (UnitDoes p part image base Unchanged h s unit at pending) (before h s)
+    (unit_does Unchanged unchanged_harmless p part image base h s unit at pending i)

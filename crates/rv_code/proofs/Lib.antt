@@ -7,3 +7,4 @@ pub mod Steps
 pub mod Frames
 pub mod Calls
 pub mod Continued
+pub mod Within
