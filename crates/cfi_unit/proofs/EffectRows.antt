@@ -3,16 +3,13 @@ use Rattle.std.proofs.Common.{◌≡◌, ℕ, zero, suc, ◌+◌, ◌^◌, ◌<�
 use Rattle.std.specs.List.{AllByRecursion}
 use Rattle.std.specs.Prelude.{◌==◌, ◌&&◌, nat_le, nat_lt, if◌then◌else◌}
 use Rattle.std.proofs.lemmas.Bool.{cases_Bool, ne_eqb}
-use Rattle.std.proofs.lemmas.List.{length-replicate}
 use Rattle.rv_word.specs.Layout.{Profile, SHADOW_START, DATA_END}
 use Rattle.rv_word.specs.Memory.{Memory, write}
 use Rattle.rv_instr.specs.Registers.{Registers}
-use Rattle.rv_code.specs.Continue.{continue}
 use Rattle.rv_code.specs.Run.{ByteChange, IsDataChange, changed, disturbed, disturbed_step}
 use Rattle.rv_code.specs.State.{Hart, Shared, After, last_exit}
-use Rattle.rv_code.specs.Step.{step}
-use Rattle.rv_code.proofs.Continued.{continue_none, continue_next}
-use Rattle.rv_code.proofs.Within.{Within}
+use Rattle.rv_code.specs.declared.turn.Turn.TheVariants.{Ran}
+use Rattle.rv_code.proofs.Within.{ComesTo, comes_to, comes_to_calmly}
 use Rattle.cfi_unit.specs.declared.unit.Unit as U
 use Rattle.cfi_unit.specs.declared.unit.Unit.TheVariants as V
 use Rattle.cfi_unit.specs.declared.unit.SystemOp.TheVariants as S
@@ -57,50 +54,12 @@ module _ (may : Shared → Shared → Type 0) (harmless : IsHarmless may) (p : P
       Runs may p h.regs (word_count unit) (UnitDoes p part image base may h s unit at pending) (before h s)
   unit_does unit at pending i = body_does i.own i.bytes at i.pc unit pending i.may_stand i.some i.most i.stands i.context i.pointer
 
--- a run from a state that goes on, or has stopped, meets Q
-pub record Meets (p : Profile) (r : Registers) (n : ℕ) (a : After) (changes : List (List ByteChange)) (Q : After → Type 0) : Type 0 where
-  pub steps : ℕ
-  pub few : steps ≤ n
-  pub inside : (k : ℕ) → k < steps → Inside r (continue p a (take k changes))
-  pub met : Q (continue p a (take steps changes))
-
-module _ (may : Shared → Shared → Type 0) (p : Profile) (r : Registers) (Q : After → Type 0) where
-  abbrev Allowed : List ByteChange → Type 0
-  Allowed cs = (s : Shared) → may s (disturbed s cs)
-
-  at_once : (n : ℕ) (a : After) (changes : List (List ByteChange)) → Q a → Meets p r n a changes Q
-  at_once n a changes q = record {
-    steps = 0;
-    few = omega arith;
-    inside = λ k low. absurd (omega arith);
-    met = subst Q (sym (continue_none p a)) q;
-  }
-
-  one_more : (n : ℕ) (a : After) (cs : List ByteChange) (rest : List (List ByteChange)) → Inside r a →
-      Meets p r n (disturbed_step p a.hart a.shared cs) rest Q → Meets p r (suc n) a (cs ∷ rest) Q
-  one_more n a cs rest here later = record {
-    steps = suc later.steps;
-    few = let few = later.few in omega arith;
-    inside = within;
-    met = subst Q (sym (continue_next p a cs (take later.steps rest) here.turn)) later.met;
-  }
-    where
-      within : (k : ℕ) → k < suc later.steps → Inside r (continue p a (take k (cs ∷ rest)))
-      within zero low = subst (Inside r) (sym (continue_none p a)) here
-      within (suc k) low = subst (Inside r) (sym (continue_next p a cs (take k rest) here.turn)) (later.inside k (omega arith))
-
-  pub runs_meet : (n : ℕ) (a : After) (changes : List (List ByteChange)) → AllByRecursion Allowed changes → n ≤ length changes →
-      Runs may p r n Q a → Meets p r n a changes Q
-  runs_meet zero a changes allowed long runs = at_once zero a changes runs
-  runs_meet (suc n) a [] allowed long runs = absurd (omega arith)
-  runs_meet (suc n) a (cs ∷ rest) allowed long (inl q) = at_once (suc n) a (cs ∷ rest) q
-  runs_meet (suc n) a (cs ∷ rest) allowed long (inr on) =
-      one_more n a cs rest on.0
-      (runs_meet n (disturbed_step p a.hart a.shared cs) rest allowed.1 (omega arith) (on.1 (disturbed a.shared cs) (allowed.0 a.shared)))
+goes_on : (r : Registers) (a : After) → Inside r a → a.turn ≡ Ran
+goes_on r a here = here.turn
 
 done_within : (p : Profile) (n : ℕ) (h : Hart) (s : Shared) (changes : List (List ByteChange)) (Done : After → Type 0) →
-    Meets p h.regs n (before h s) changes Done → DoneWithin p n h s changes Done
-done_within p n h s changes Done m = record { steps = m.steps; few = m.few; inside = m.inside; done = m.met }
+    ComesTo (Inside h.regs) p n (before h s) changes Done → DoneWithin p n h s changes Done
+done_within p n h s changes Done m = record { steps = m.steps; few = m.few; inside = m.until; done = m.met }
 
 -- nothing happens
 unchanged_keeps : (part : ℕ) (image base : Memory) (pending : List ℕ) (s s' : Shared) → Context part image base pending s → Unchanged s s' →
@@ -114,10 +73,6 @@ unchanged_harmless = record {
   keeps = λ part image base pending s s' low c same. unchanged_keeps part image base pending s s' c same;
   pushes = λ part n site s s' same. ap (pushed part n site) same;
 }
-
-none_allowed : (n : ℕ) → AllByRecursion (λ cs. (s : Shared) → Unchanged s (disturbed s cs)) (replicate {A = List ByteChange} n [])
-none_allowed zero = tt
-none_allowed (suc n) = (λ s. refl, none_allowed n)
 
 -- data may change
 changed_keeps : (part : ℕ) (image base : Memory) (pending : List ℕ) (s s' : Shared) → SHADOW_START ≤ part →
@@ -173,29 +128,13 @@ unit_effect p part image base unit at pending h s i =
     let n = word_count unit in
     let Q : After → Type 0 = UnitDoes p part image base Unchanged h s unit at pending in
     done_within p n h s (replicate n []) Q
-    (runs_meet Unchanged p h.regs Q n (before h s) (replicate n []) (none_allowed n) (length_none n)
+    (comes_to_calmly (Inside h.regs) Unchanged p (goes_on h.regs) Q n (before h s) (λ s'. refl)
     (unit_does Unchanged unchanged_harmless p part image base h s unit at pending i))
-  where
-    length_none : (n : ℕ) → n ≤ length (replicate {A = List ByteChange} n [])
-    length_none n = let e = length-replicate {A = List ByteChange} n [] in omega arith
 
 pub unit_keeps_registers : UnitKeepsRegisters
 unit_keeps_registers p part image base unit at pending h s i changes all long =
     let n = word_count unit in
     let Q : After → Type 0 = UnitDoes p part image base DataChanged h s unit at pending in
     done_within p n h s changes Q
-    (runs_meet DataChanged p h.regs Q n (before h s) changes (data_allowed changes all) long
+    (comes_to (Inside h.regs) DataChanged p (goes_on h.regs) Q n (before h s) changes (data_allowed changes all) long
     (unit_does DataChanged changed_harmless p part image base h s unit at pending i))
-
--- the same of a run where nothing happens, for runs that go on after the unit
-runs_within : (p : Profile) (r : Registers) (n : ℕ) (Q : After → Type 0) (a : After) → Runs Unchanged p r n Q a → Within p n Q a
-runs_within p r zero Q a q = q
-runs_within p r (suc n) Q a (inl q) = inl q
-runs_within p r (suc n) Q a (inr on) = inr (let here = on.0 in here.turn, runs_within p r n Q (step p a.hart a.shared) (on.1 a.shared refl))
-
-pub unit_within : (p : Profile) (part : ℕ) (image base : Memory) (unit : U.Unit) (at : ℕ) (pending : List ℕ) (h : Hart) (s : Shared) →
-    Enters p part image base unit at pending h s →
-    Within p (word_count unit) (UnitDoes p part image base Unchanged h s unit at pending) (before h s)
-unit_within p part image base unit at pending h s i =
-    runs_within p h.regs (word_count unit) (UnitDoes p part image base Unchanged h s unit at pending) (before h s)
-    (unit_does Unchanged unchanged_harmless p part image base h s unit at pending i)

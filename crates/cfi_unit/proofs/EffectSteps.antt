@@ -14,6 +14,7 @@ use Rattle.rv_instr.specs.declared.instr.BranchOp.{BranchOp}
 use Rattle.rv_instr.specs.declared.instr.LoadOp.{LoadOp}
 use Rattle.rv_instr.specs.declared.instr.StoreOp.{StoreOp}
 use Rattle.rv_code.specs.Arithmetic.{branch_taken, load_size, load_result, store_size}
+use Rattle.rv_code.proofs.Within.{Within}
 use Rattle.rv_code.specs.State.{Hart, Shared, After}
 use Rattle.rv_code.specs.Step.{step, exec, puts, stops, address}
 use Rattle.rv_code.specs.declared.turn.Turn.TheVariants.{Ran}
@@ -38,10 +39,9 @@ pub record IsHarmless (may : Shared → Shared → Type 0) : Type 0 where
 abbrev pub before : Hart → Shared → After
 before h s = stops h s Ran
 
--- within `n` steps Q holds, whatever may happen before each
+-- within `n` steps Q holds, whatever may happen before each; the program's registers are `r` until then
 abbrev pub Runs : (Shared → Shared → Type 0) → Profile → Registers → ℕ → (After → Type 0) → After → Type 0
-Runs may p r zero Q a = Q a
-Runs may p r (suc n) Q a = Q a ⊎ (Inside r a × ((s : Shared) → may a.shared s → Runs may p r n Q (step p a.hart s)))
+Runs may p r n Q a = Within (Inside r) may p n Q a
 
 -- what is known at each word: `start` is what was shared at the first, but for what the unit pushed
 pub record Now (may : Shared → Shared → Type 0) (p : Profile) (part : ℕ) (image base : Memory) (pending : List ℕ) (r : Registers) (start : Shared) (h : Hart) (s : Shared) : Type 0 where
@@ -50,27 +50,6 @@ pub record Now (may : Shared → Shared → Type 0) (p : Profile) (part : ℕ) (
   pub since : may start s
   pub context : Context part image base pending s
   pub same : SameRegisters r h.regs
-
-module _ (may : Shared → Shared → Type 0) (p : Profile) (r : Registers) where
-  pub done : (n : ℕ) (Q : After → Type 0) (a : After) → Q a → Runs may p r n Q a
-  done zero Q a q = q
-  done (suc n) Q a q = inl q
-
-  more : (m n : ℕ) (Q : After → Type 0) (a : After) → Runs may p r n Q a → Runs may p r (m + n) Q a
-  more m zero Q a q = done (m + zero) Q a q
-  more m (suc n) Q a (inl q) = done (m + suc n) Q a q
-  more m (suc n) Q a (inr on) =
-      let e : suc (m + n) ≡ m + suc n = omega arith in
-      subst (λ j. Runs may p r j Q a) e (inr (on.0, λ s t. more m n Q (step p a.hart s) (on.1 s t)))
-
-  -- one part, then another
-  pub in_turn : (m n : ℕ) (R Q : After → Type 0) (a : After) → Runs may p r m R a →
-      ((b : After) → R b → Runs may p r n Q b) → Runs may p r (m + n) Q a
-  in_turn zero n R Q a ready next = more zero n Q a (next a ready)
-  in_turn (suc m) n R Q a (inl ready) next = more (suc m) n Q a (next a ready)
-  in_turn (suc m) n R Q a (inr on) next =
-      let e : suc (m + n) ≡ suc m + n = omega arith in
-      subst (λ j. Runs may p r j Q a) e (inr (on.0, λ s t. in_turn m n R Q (step p a.hart s) (on.1 s t) next))
 
 -- a write of a reserved register
 pub same_set : (r regs : Registers) (rd v : ℕ) → is_reserved rd ≡ true → SameRegisters r regs → SameRegisters r (set_reg regs rd v)

@@ -12,12 +12,14 @@ use Rattle.rv_code.specs.Arithmetic.{difference}
 use Rattle.rv_code.specs.State.{Hart, Shared, After}
 use Rattle.rv_code.specs.Step.{address, offset}
 use Rattle.rv_code.proofs.Frames.{read_same, read_write}
+use Rattle.rv_code.proofs.Within.{within_then}
 use Rattle.cfi_unit.specs.declared.unit.Unit as U
 use Rattle.cfi_unit.specs.declared.unit.Unit.TheVariants as V
 use Rattle.cfi_unit.specs.UnitWords.{BAD_TARGET, BAD_RETURN, DEEP, CheckFits, Fits, MINUS_EIGHT, Reaches, check, instrs_of, push}
 use Rattle.cfi_unit.specs.Shadow.{slot, MOST_PENDING}
 use Rattle.cfi_unit.specs.Stand.{Stand}
 use Rattle.cfi_unit.specs.Context.{Context}
+use Rattle.cfi_unit.specs.EffectLaw.{Inside}
 use Rattle.cfi_unit.specs.Leads.{HasLabel, sum_of, destination}
 use Rattle.cfi_unit.specs.Leaving.{SameRegisters, LeftTo, pushed}
 use Rattle.cfi_unit.specs.Effect.{UnitDoes}
@@ -25,7 +27,7 @@ use Rattle.cfi_unit.proofs.Context.{kept_push, kept_pending, kept_popped, stand_
 use Rattle.cfi_unit.proofs.Jumps.{jump_leads}
 use Rattle.cfi_unit.proofs.Labels.{word_small, same_word, word_same}
 use Rattle.cfi_unit.proofs.Regions.{can_load_code, can_load_part, can_store_part}
-use Rattle.cfi_unit.proofs.EffectSteps.{Now, Runs, before, in_turn, onto, onto_put, onto_branch, onto_jump, onto_load, onto_store, same_link}
+use Rattle.cfi_unit.proofs.EffectSteps.{Now, Runs, before, onto, onto_put, onto_branch, onto_jump, onto_load, onto_store, same_link}
 use Rattle.cfi_unit.proofs.EffectUnits.{halts_at}
 
 is_false : (b : Bool) → not b ≡ true → b ≡ false
@@ -163,7 +165,7 @@ module _ {may : Shared → Shared → Type 0} {p : Profile} {part : ℕ} {image 
     call_does target fits w =
         let Q : After → Type 0 = Does (V.Call target) in
         let R : After → Type 0 = Runs may p h.regs 1 Q in
-        in_turn may p h.regs 7 1 R Q (before h s)
+        within_then (Inside h.regs) may p 7 1 R Q (before h s)
         (push_does at R h s now most e x3 (stand_front (push at) _ w) fits.0
         (λ h' s' room e' x3' x31 now'.
         onto 0 Q now' w 7 (omega arith) _ refl
@@ -199,7 +201,7 @@ module _ {may : Shared → Shared → Type 0} {p : Profile} {part : ℕ} {image 
           let Q : After → Type 0 = Does (V.Ijump rs1 imm label) in
           let R : After → Type 0 = Runs may p h.regs 1 Q in
           let v = destination h.regs rs1 imm in
-          in_turn may p h.regs 12 1 R Q (before h s)
+          within_then (Inside h.regs) may p 12 1 R Q (before h s)
           (check_does at rs1 imm label R h s now e x3 small fits (stand_front (check at rs1 imm label) _ w)
           (λ h' s' legal e' x3' x31 now'.
           onto 0 Q now' w 12 e' _ refl
@@ -225,10 +227,10 @@ module _ {may : Shared → Shared → Type 0} {p : Profile} {part : ℕ} {image 
           let R' : After → Type 0 = Runs may p h.regs 8 Q in
           let v = destination h.regs rs1 imm in
           let deep : at + 56 ≡ at + 48 + 8 = omega arith in
-          in_turn may p h.regs 12 8 R' Q (before h s)
+          within_then (Inside h.regs) may p 12 8 R' Q (before h s)
           (check_does at rs1 imm label R' h s now e x3 small fits.0 (stand_front (check at rs1 imm label) _ w)
           (λ h' s' legal e' x3' x31 now'.
-          in_turn may p h.regs 7 1 R Q (before h' s')
+          within_then (Inside h.regs) may p 7 1 R Q (before h' s')
           (push_does (at + 48) R h' s' now' most e' x3' (stand_front (push (at + 48)) _ (stand_back (check at rs1 imm label) _ w))
           (subst (λ a. Reaches a DEEP) deep fits.1)
           (λ h2 s2 room e2 x3_2 x31_2 now2.
