@@ -8,7 +8,7 @@ use Rattle.rv_code.specs.Run.{IsDataChange, disturbed_step, if_ran, next_or_stop
 use Rattle.rv_code.specs.State.{After, Hart, Shared, start_hart, start_shared}
 use Rattle.rv_code.specs.declared.turn.Turn.{Turn}
 use Rattle.rv_code.specs.declared.turn.Turn.TheVariants.{Ran, Exit, Break, LoadFault, StoreFault, FetchFault, Illegal}
-use Rattle.cfi_unit.specs.Place.{Place}
+use Rattle.cfi_unit.specs.declared.place.Place.{Place}
 use Rattle.cfi_verify.specs.Along.{AreDataChanges, IsSafe, MayEnd}
 use Rattle.cfi_graph.specs.Graph.{GraphParts}
 use Rattle.cfi_verify.specs.Laws.{SafeStaysInPlace}
@@ -71,14 +71,14 @@ ran_of (FetchFault pc) e = absurd (cc)
 ran_of (Illegal pc) e = absurd (cc)
 
 -- an end that may come has a name
-named : (place : Place) (turn : Turn) → MayEnd place turn → (end : RunEnd) × (end_of turn ≡ Some end)
-named place Ran may = (ends.Limit, refl)
-named place (Exit status) may = (ends.Exit status, refl)
-named place (Break pc) may = (break_at pc, refl)
-named place (LoadFault pc a) may = (ends.LoadFault pc a, refl)
-named place (StoreFault pc a) may = absurd may
-named place (FetchFault pc) may = absurd may
-named place (Illegal pc) may = absurd may
+named : (place : Place) (pc : ℕ) (turn : Turn) → MayEnd place pc turn → (end : RunEnd) × (end_of turn ≡ Some end)
+named place pc Ran may = (ends.Limit, refl)
+named place pc (Exit status) may = (ends.Exit status, refl)
+named place pc (Break at) may = (break_at at, refl)
+named place pc (LoadFault at a) may = (ends.LoadFault at a, refl)
+named place pc (StoreFault at a) may = absurd may
+named place pc (FetchFault at) may = absurd may
+named place pc (Illegal at) may = absurd may
 
 -- nothing comes after a stop
 none_later : (turn : Turn) (later : List (List (ℕ × ℕ))) → is_stop turn ≡ true → if_ran turn later ≡ []
@@ -116,7 +116,7 @@ module _ (image : Contents) (h : Hart) (s : Shared) (cs : List (ℕ × ℕ)) (ne
   unfolding trail_of
   stays_here ran = λ changes all. rw ran at (stays (changes_of cs ∷ changes) (one, all)).1
 
-  may_end : (place : Place) × MayEnd place then.turn
+  may_end : (place : Place) × MayEnd place h.pc then.turn
   unfolding trail_of
   may_end =
       let (place, there, word, ends) = (stays (changes_of cs ∷ []) (one, tt)).0 in
@@ -130,7 +130,7 @@ module _ (image : Contents) (h : Hart) (s : Shared) (cs : List (ℕ × ℕ)) (ne
   pub has_end : (result : After) → result ≡ then → (end : RunEnd) × (end_of result.turn ≡ Some end)
   has_end result e =
       let (place, may) = may_end in
-      subst (λ (a : After). (end : RunEnd) × (end_of a.turn ≡ Some end)) (sym e) (named place then.turn may)
+      subst (λ (a : After). (end : RunEnd) × (end_of a.turn ≡ Some end)) (sym e) (named place h.pc then.turn may)
 
 module _ (image : Contents) (h0 : Hart) (s0 : Shared) (whole : List (List (ℕ × ℕ))) (plan : Plan) (k n : ℕ) (h : Hart) (s : Shared) (made : List (ℕ × (ℕ × ℕ))) (t : TrailParts) where
   abbrev cs : List (ℕ × ℕ)

@@ -3,6 +3,7 @@
 use Rattle.std.proofs.Common.{◌≡◌, ℕ, suc, ◌+◌, ◌<◌, List, [], ◌∷◌, length, refl, ◌∙◌, arith}
 use Rattle.rv_word.specs.Layout.{PART_SIZE}
 use Rattle.rv_word.specs.Memory.{Memory, read}
+use Rattle.rv_word.specs.Same.{SameOn}
 use Rattle.rv_instr.specs.Registers.{Registers}
 use Rattle.rv_code.specs.State.{Hart}
 use Rattle.rv_code.proofs.Frames.{read_same}
@@ -10,7 +11,6 @@ use Rattle.cfi_unit.specs.declared.unit.Unit as U
 use Rattle.cfi_unit.specs.declared.unit.Unit.TheVariants as V
 use Rattle.cfi_unit.specs.Place.{Place, handler, opening, closing, body}
 use Rattle.cfi_unit.specs.Shadow.{slot, MOST_PENDING}
-use Rattle.cfi_unit.specs.Context.{SameOn}
 use Rattle.cfi_unit.specs.InPlace
 use Rattle.cfi_unit.specs.InPlace.{InWord, only, InBranch, branch_test, branch_jump, InStore, store_addi, store_slli, store_srli, store_store, InPush, push_slli, push_bne, push_deep, push_auipc, push_addi, push_store, push_grow, Pushed, InCall, call_push, call_jump, InCheck, check_addi, check_andi, check_lui, check_sub, check_srli, check_region, check_outside, check_lw, check_label, check_opcode, check_word, check_other, InIjump, ijump_check, ijump_jump, InIcall, icall_check, icall_push, icall_jump, InReturn, return_ld, return_addi, return_beq, return_other, return_jump, InOpening, opening_stack, opening_shadow, opening_slot, opening_call, InClosing, closing_number, closing_ecall, InUnit}
 use Rattle.cfi_unit.specs.UnitLaw.{MayStand}

@@ -5,6 +5,7 @@ use Rattle.std.specs.Prelude.{slice_get}
 use Rattle.std.proofs.lemmas.Option.{slice_get_within}
 use Rattle.rv_word.specs.Layout.{Profile, CODE_START, CODE_SIZE, DATA_END, SHADOW_START, PART_SIZE}
 use Rattle.rv_word.specs.Memory.{Memory, read, write}
+use Rattle.rv_word.specs.Same.{SameOn}
 use Rattle.rv_instr.specs.declared.instr.Instr.{Instr}
 use Rattle.rv_code.specs.Decode.{decoded}
 use Rattle.rv_code.specs.State.{Hart, Shared, After}
@@ -13,7 +14,7 @@ use Rattle.rv_code.proofs.Steps.{by_step, can_fetch_word}
 use Rattle.rv_code.proofs.Frames.{read_same, write_outside}
 use Rattle.cfi_unit.specs.Shadow.{slot, MOST_PENDING, Holds}
 use Rattle.cfi_unit.specs.Stand.{Stand}
-use Rattle.cfi_unit.specs.Context.{SameOn, Kept, Context}
+use Rattle.cfi_unit.specs.Context.{Kept, Context}
 
 module _ {part : ℕ} {image base : Memory} {pending : List ℕ} {s : Shared} {at : ℕ} {instrs : List Instr} where
   -- what holds after the instruction's execution holds after the step

@@ -8,6 +8,7 @@ use Rattle.rv_word.specs.Bits.{wrap}
 use Rattle.rv_word.specs.Layout.{Profile, SHADOW_START, can_load, can_store}
 use Rattle.rv_word.specs.Memory.{Memory, read, write}
 use Rattle.rv_instr.specs.Registers.{Registers, get_reg, set_reg}
+use Rattle.rv_instr.specs.Reserved.{is_reserved}
 use Rattle.rv_instr.specs.declared.instr.Instr.{Instr}
 use Rattle.rv_instr.specs.declared.instr.Instr.TheVariants.{Branch, Load, Store}
 use Rattle.rv_instr.specs.declared.instr.BranchOp.{BranchOp}
@@ -18,7 +19,7 @@ use Rattle.rv_code.proofs.Within.{Within}
 use Rattle.rv_code.specs.State.{Hart, Shared, After}
 use Rattle.rv_code.specs.Step.{step, exec, puts, stops, address}
 use Rattle.rv_code.specs.declared.turn.Turn.TheVariants.{Ran}
-use Rattle.cfi_unit.specs.UnitWords.{is_reserved, skip_offset, jump, Reaches}
+use Rattle.cfi_unit.specs.UnitWords.{skip_offset, jump, Reaches}
 use Rattle.cfi_unit.specs.Shadow.{IsPart}
 use Rattle.cfi_unit.specs.Stand.{Stand}
 use Rattle.cfi_unit.specs.Context.{Context}

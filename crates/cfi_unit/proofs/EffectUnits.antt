@@ -5,6 +5,7 @@ use Rattle.std.proofs.lemmas.Bool.{and_parts, cases_Bool, cond_both, ne_eqb}
 use Rattle.rv_word.specs.Layout.{Profile, can_load, can_store}
 use Rattle.rv_word.specs.Memory.{Memory, read, write}
 use Rattle.rv_instr.specs.Registers.{Registers, get_reg, set_reg}
+use Rattle.rv_instr.specs.Reserved.{is_reserved}
 use Rattle.rv_instr.specs.declared.instr.Instr.{Instr}
 use Rattle.rv_instr.specs.declared.instr.Instr.TheVariants.{Upper, Jal, Jalr, Branch, Load, Store, Immediate, Shift, ShiftWord, Register, Fence, Ecall, Ebreak}
 use Rattle.rv_instr.specs.declared.instr.UpperOp.TheVariants.{Lui, Auipc}
@@ -20,7 +21,7 @@ use Rattle.rv_code.proofs.Frames.{write_outside}
 use Rattle.cfi_unit.specs.declared.unit.Unit as U
 use Rattle.cfi_unit.specs.declared.unit.Unit.TheVariants as V
 use Rattle.cfi_unit.specs.declared.unit.SystemOp.TheVariants as S
-use Rattle.cfi_unit.specs.UnitWords.{BAD_TARGET, Fits, instrs_of, is_plain, is_reserved}
+use Rattle.cfi_unit.specs.UnitWords.{BAD_TARGET, Fits, instrs_of, is_plain}
 use Rattle.cfi_unit.specs.Shadow.{IsPart, slot}
 use Rattle.cfi_unit.specs.Stand.{Stand}
 use Rattle.cfi_unit.specs.Context.{Context, Kept}

@@ -9,6 +9,7 @@ use Rattle.std.proofs.lemmas.Slice.Eq.{starts_is}
 use Rattle.std.proofs.lemmas.List.{take-append-drop}
 use Rattle.std.proofs.Math.Seq.{take-append_seam}
 use Rattle.rv_instr.specs.InRange.{IsInstr}
+use Rattle.rv_instr.specs.Reserved.{is_reserved}
 use Rattle.rv_instr.specs.declared.instr.Instr.{Instr}
 use Rattle.rv_instr.specs.declared.instr.Instr.TheVariants.{Upper, Jal, Jalr, Branch, Load, Store, Immediate, Shift, ShiftWord, Register, Fence, Ecall, Ebreak}
 use Rattle.rv_instr.specs.declared.instr.UpperOp.TheVariants.{Lui, Auipc}
@@ -21,7 +22,7 @@ use Rattle.rv_code.proofs.ReadBack.{decoded-code_of}
 use Rattle.cfi_unit.specs.declared.unit.Unit as U
 use Rattle.cfi_unit.specs.declared.unit.Unit.TheVariants as V
 use Rattle.cfi_unit.specs.declared.unit.SystemOp.TheVariants as S
-use Rattle.cfi_unit.specs.UnitWords.{BAD_TARGET, MINUS_EIGHT, MINUS_FOUR, Begins, Fits, Reaches, gate, is_plain, is_reserved, jump, jump_offset, word_count, words_of}
+use Rattle.cfi_unit.specs.UnitWords.{BAD_TARGET, MINUS_EIGHT, MINUS_FOUR, Begins, Fits, Reaches, gate, is_plain, jump, jump_offset, word_count, words_of}
 use Rattle.cfi_unit.specs.Recognise.{can_stand, instr_at, jump_or_stop, led_to, recognised, stands, unit_from}
 use Rattle.cfi_unit.proofs.Stand.{and_both, fits_stand}
 
@@ -70,8 +71,9 @@ plain_from ws at (Fence word) h = refl
 plain_from ws at Ecall h = cc
 plain_from ws at Ebreak h = cc
 
-is_jump : (rd from to : ℕ) → rd < 32 → IsInstr (Jal rd (jump_offset from to))
-is_jump rd from to low = (low, mod_below _ (2 ^ 20) (lit< tt))
+-- the fields of a jump are in range
+pub is_jump_instr : (rd from to : ℕ) → rd < 32 → IsInstr (Jal rd (jump_offset from to))
+is_jump_instr rd from to low = (low, mod_below _ (2 ^ 20) (lit< tt))
 
 branch_from : (ws : List ℕ) (at : ℕ) (op : BranchOp) (rs1 rs2 target : ℕ) → instr_at ws 1 ≡ Some (jump (at + 4) target) →
     Reaches (at + 4) target → unit_from ws at (Branch op rs1 rs2 4) ≡ Some (V.Branch op rs1 rs2 target)
@@ -121,15 +123,15 @@ found (V.Branch op rs1 rs2 target) at rest f =
     let u : U.Unit = V.Branch op rs1 rs2 target in
     let ws : List ℕ = words_of u at ++ rest in
     recognised_by ws at (Branch op rs1 rs2 4) u (decoded-code_of (Branch op rs1 rs2 4) (f.0, f.1, lit< tt))
-    (branch_from ws at op rs1 rs2 target (decoded-code_of (jump (at + 4) target) (is_jump 0 (at + 4) target (lit< tt))) f.2)
+    (branch_from ws at op rs1 rs2 target (decoded-code_of (jump (at + 4) target) (is_jump_instr 0 (at + 4) target (lit< tt))) f.2)
     (stands_there u at rest f)
 found (V.Jump target) at rest f =
     let ws : List ℕ = words_of (V.Jump target) at ++ rest in
-    recognised_by ws at (jump at target) (V.Jump target) (decoded-code_of (jump at target) (is_jump 0 at target (lit< tt)))
+    recognised_by ws at (jump at target) (V.Jump target) (decoded-code_of (jump at target) (is_jump_instr 0 at target (lit< tt)))
     (jump_from ws at target f.0 f.1) (stands_there (V.Jump target) at rest f)
 found V.Stop at rest f =
     let ws : List ℕ = words_of V.Stop at ++ rest in
-    recognised_by ws at (jump at BAD_TARGET) V.Stop (decoded-code_of (jump at BAD_TARGET) (is_jump 0 at BAD_TARGET (lit< tt)))
+    recognised_by ws at (jump at BAD_TARGET) V.Stop (decoded-code_of (jump at BAD_TARGET) (is_jump_instr 0 at BAD_TARGET (lit< tt)))
     (stop_from ws at f) (stands_there V.Stop at rest f)
 found (V.System S.Ecall) at rest f =
     recognised_by (words_of (V.System S.Ecall) at ++ rest) at Ecall (V.System S.Ecall) (decoded-code_of Ecall tt) refl
@@ -148,7 +150,7 @@ found (V.Call target) at rest f =
     let u : U.Unit = V.Call target in
     let ws : List ℕ = words_of u at ++ rest in
     recognised_by ws at (Shift Slli 30 3 48) u (decoded-code_of (Shift Slli 30 3 48) (lit< tt, lit< tt, lit< tt))
-    (call_from ws at target (decoded-code_of (Jal 1 (jump_offset (at + 28) target)) (is_jump 1 (at + 28) target (lit< tt))) f.1)
+    (call_from ws at target (decoded-code_of (Jal 1 (jump_offset (at + 28) target)) (is_jump_instr 1 (at + 28) target (lit< tt))) f.1)
     (stands_there u at rest f)
 found (V.Ijump rs1 imm label) at rest f =
     let u : U.Unit = V.Ijump rs1 imm label in

@@ -3,10 +3,11 @@ use Rattle.std.proofs.Common.{◌≡◌, ◌≢◌, ℕ, ◌+◌, ◌%◌, ◌�
 use Rattle.std.proofs.lemmas.Bool.{cases_lt}
 use Rattle.rv_word.specs.Layout.{DATA_END, PART_SIZE}
 use Rattle.rv_word.specs.Memory.{Memory}
+use Rattle.rv_word.specs.Same.{SameOn}
 use Rattle.rv_instr.specs.Registers.{Registers}
 use Rattle.rv_code.specs.State.{After}
 use Rattle.cfi_unit.specs.Place.{Place}
-use Rattle.cfi_unit.specs.Context.{SameOn, SameOutside, Kept}
+use Rattle.cfi_unit.specs.Context.{SameOutside, Kept}
 use Rattle.cfi_unit.specs.UnitLaw.{Outcome, stays, leaves, ends}
 
 pub outcome_kept : (part : ℕ) (image base : Memory) (place : Place) (at : ℕ) (pending : List ℕ) (r : Registers) (after : After) →

@@ -6,6 +6,7 @@ use Rattle.std.proofs.lemmas.Bool.Decides.{Decides-eqb}
 use Rattle.std.proofs.lemmas.Option.{option_and_then_some, slice_get_within, get_or_from_slice_get}
 use Rattle.std.proofs.lemmas.Slice.Eq.{starts_is}
 use Rattle.std.proofs.Math.Seq.{take-append_seam}
+use Rattle.rv_word.proofs.Cases.{chosen, mapped}
 use Rattle.rv_instr.specs.InRange.{IsInstr}
 use Rattle.rv_instr.specs.declared.instr.Instr.{Instr}
 use Rattle.rv_instr.specs.declared.instr.Instr.TheVariants.{Upper, Jal, Jalr, Branch, Load, Store, Immediate, Shift, ShiftWord, Register, Fence, Ecall, Ebreak}
@@ -32,16 +33,6 @@ instr_in_range ws k i words e =
     (let P : ℕ → Type 0 = λ n. n < 2 ^ 32 in
     subst P (get_or_from_slice_get ws k w 0 at) (words k 0 (slice_get_within ws k w at)))
     d)
-
-mapped : {A : Type 0} (f : A → U.Unit) (o : Option A) (u : U.Unit) (P : Type 0) → option_map f o ≡ Some u →
-    ((x : A) → o ≡ Some x → Some (f x) ≡ Some u → P) → P
-mapped f None u P e go = cc
-mapped f (Some x) u P e go = go x refl e
-
--- the two arms of a test
-chosen : {A : Type 0} (b : Bool) (x y z : A) → (if b then x else y) ≡ z → ((b ≡ true) × (x ≡ z)) ⊎ ((b ≡ false) × (y ≡ z))
-chosen true x y z e = inl (refl, e)
-chosen false x y z e = inr (refl, e)
 
 none_given : (u : U.Unit) (P : Type 0) → None ≡ Some u → P
 none_given u P e = cc
@@ -77,11 +68,10 @@ address_in_range ws rs1 imm u words r i e =
       | inl stored ↦
           store_in_range ws rs1 imm (instr_at ws 3) u (λ j at. instr_in_range ws 3 j words at) r i (sym stored ∙ e)
       | inr transfer ↦
-          mapped (computed_unit rs1 imm (instr_at ws 12)) (label_in (instr_at ws 8)) u (IsInRange u) (sym transfer ∙ e)
-          (λ label at same.
-          given (computed_unit rs1 imm (instr_at ws 12) label) u same
+          let (label, at, same) = mapped (computed_unit rs1 imm (instr_at ws 12)) (label_in (instr_at ws 8)) u (sym transfer ∙ e) in
+          given (computed_unit rs1 imm (instr_at ws 12) label) u (ap Some same)
           (computed_in_range rs1 imm (instr_at ws 12) label r i
-          (label_in_range (instr_at ws 8) label (λ j there. instr_in_range ws 8 j words there) at)))
+          (label_in_range (instr_at ws 8) label (λ j there. instr_in_range ws 8 j words there) at))
     ]
 
 upper_in_range : (op : _) (rd imm : ℕ) → IsInstr (Upper op rd imm) → IsInRange (upper_unit op rd imm)
@@ -99,8 +89,8 @@ from_in_range ws at (Jal rd imm) u words r e =
     given (jump_or_stop (led_to at imm)) u e (jump_in_range (led_to at imm) (led_to at imm == BAD_TARGET))
 from_in_range ws at (Jalr rd rs1 imm) u words r e = cc
 from_in_range ws at (Branch op rs1 rs2 imm) u words r e =
-    mapped (V.Branch op rs1 rs2) (target_in (at + 4) (instr_at ws 1)) u (IsInRange u) e
-    (λ target to same. given (V.Branch op rs1 rs2 target) u same (r.0, r.1))
+    let (target, to, same) = mapped (V.Branch op rs1 rs2) (target_in (at + 4) (instr_at ws 1)) u e in
+    given (V.Branch op rs1 rs2 target) u (ap Some same) (r.0, r.1)
 from_in_range ws at (Load op rd rs1 imm) u words r e =
     elim (chosen (rd == 31) (Some V.Return) (Some (V.Plain (Load op rd rs1 imm))) (Some u) e) [
       | inl a ↦ given V.Return u a.1 tt
@@ -115,8 +105,8 @@ from_in_range ws at (Immediate op rd rs1 imm) u words r e =
 from_in_range ws at (Shift op rd rs1 amount) u words r e =
     elim (chosen (rd == 30) (option_map V.Call (target_in (at + 28) (instr_at ws 7))) (Some (V.Plain (Shift op rd rs1 amount))) (Some u) e) [
       | inl a ↦
-          mapped V.Call (target_in (at + 28) (instr_at ws 7)) u (IsInRange u) a.1
-          (λ target to same. given (V.Call target) u same tt)
+          let (target, to, same) = mapped V.Call (target_in (at + 28) (instr_at ws 7)) u a.1 in
+          given (V.Call target) u (ap Some same) tt
       | inr a ↦ given (V.Plain (Shift op rd rs1 amount)) u a.1 r
     ]
 from_in_range ws at (ShiftWord op rd rs1 amount) u words r e = given (V.Plain (ShiftWord op rd rs1 amount)) u e r

@@ -4,12 +4,9 @@
 use Rattle.std.specs.Prelude.{◌≡◌, ℕ, ◌+◌, ◌≤◌, ◌<◌, ◌⊎◌, List, None}
 use Rattle.rv_word.specs.Layout.{CODE_START, CODE_SIZE, DATA_END, PART_SIZE}
 use Rattle.rv_word.specs.Memory.{Memory}
+use Rattle.rv_word.specs.Same.{SameOn}
 use Rattle.rv_code.specs.State.{Shared, last_exit}
 use Rattle.cfi_unit.specs.Shadow.{Holds}
-
--- two memories are the same from `low` on and below `high`
-abbrev pub SameOn : ℕ → ℕ → Memory → Memory → Type 0
-SameOn low high m m' = (k : ℕ) → low ≤ k → k < high → m' k ≡ m k
 
 -- the code in memory is the image's
 abbrev pub IsCodeOf : Memory → Memory → Type 0

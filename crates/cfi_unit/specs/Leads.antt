@@ -1,5 +1,5 @@
 -- Where a unit leads: the next address, and the pending sites there. `r` holds the registers at the
--- unit's start; a computed destination is legal where code has the gate of the class's label.
+-- unit's start, `past` is the address after it; a computed destination is legal where code has the gate of the class's label.
 use Rattle.std.specs.Prelude.{◌≡◌, ◌≢◌, ℕ, ◌+◌, ◌*◌, ◌/◌, ◌%◌, ◌≤◌, ◌<◌, ◌⊎◌, List, [], ◌∷◌, length}
 use Rattle.rv_word.specs.Bits.{wrap}
 use Rattle.rv_word.specs.Layout.{CODE_START, CODE_SIZE}
@@ -9,9 +9,9 @@ use Rattle.rv_code.specs.Step.{offset}
 use Rattle.cfi_unit.specs.declared.unit.Unit as U
 use Rattle.cfi_unit.specs.declared.unit.Unit.TheVariants as V
 use Rattle.cfi_unit.specs.declared.unit.SystemOp.TheVariants as S
-use Rattle.cfi_unit.specs.UnitWords.{BAD_TARGET, BAD_RETURN, DEEP}
+use Rattle.cfi_unit.specs.UnitWords.{BAD_TARGET, BAD_RETURN, DEEP, after_unit}
 use Rattle.cfi_unit.specs.Prologue.{OPENING}
-use Rattle.cfi_unit.specs.Place.{Place, handler, opening, closing, body}
+use Rattle.cfi_unit.specs.Place.{Place, handler, opening, closing, body, place_size}
 use Rattle.cfi_unit.specs.Shadow.{MOST_PENDING}
 
 -- the word of `lui x0,label` stands in code at an address
@@ -49,30 +49,34 @@ Returns r (site ∷ pending) after next =
     ((r 1 ≡ site) × Goes pending after next site)
     ⊎ ((r 1 ≢ site) × Goes (site ∷ pending) after next BAD_RETURN)
 
-abbrev pub UnitLeads : Memory → U.Unit → ℕ → List ℕ → Registers → List ℕ → ℕ → Type 0
-UnitLeads image (V.Gate label) at pending r after next = Goes pending after next (at + 4)
-UnitLeads image (V.Plain instr) at pending r after next = Goes pending after next (at + 4)
-UnitLeads image (V.Branch op rs1 rs2 target) at pending r after next =
-    Goes pending after next (at + 8) ⊎ Goes pending after next target
-UnitLeads image (V.Jump target) at pending r after next = Goes pending after next target
-UnitLeads image V.Stop at pending r after next = Goes pending after next BAD_TARGET
-UnitLeads image (V.System S.Ecall) at pending r after next = Goes pending after next (at + 4)
-UnitLeads image (V.System S.Ebreak) at pending r after next = ⊥
-UnitLeads image (V.Store op rs1 rs2 imm) at pending r after next = Goes pending after next (at + 16)
-UnitLeads image (V.Call target) at pending r after next = Calls (at + 32) pending after next target
-UnitLeads image (V.Ijump rs1 imm label) at pending r after next =
+abbrev pub LeadsPast : Memory → U.Unit → ℕ → List ℕ → Registers → List ℕ → ℕ → Type 0
+LeadsPast image (V.Gate label) past pending r after next = Goes pending after next past
+LeadsPast image (V.Plain instr) past pending r after next = Goes pending after next past
+LeadsPast image (V.Branch op rs1 rs2 target) past pending r after next =
+    Goes pending after next past ⊎ Goes pending after next target
+LeadsPast image (V.Jump target) past pending r after next = Goes pending after next target
+LeadsPast image V.Stop past pending r after next = Goes pending after next BAD_TARGET
+LeadsPast image (V.System S.Ecall) past pending r after next = Goes pending after next past
+LeadsPast image (V.System S.Ebreak) past pending r after next = ⊥
+LeadsPast image (V.Store op rs1 rs2 imm) past pending r after next = Goes pending after next past
+LeadsPast image (V.Call target) past pending r after next = Calls past pending after next target
+LeadsPast image (V.Ijump rs1 imm label) past pending r after next =
     Checks image label (destination r rs1 imm)
     (Goes pending after next (destination r rs1 imm))
     (Goes pending after next BAD_TARGET)
-UnitLeads image (V.Icall rs1 imm label) at pending r after next =
+LeadsPast image (V.Icall rs1 imm label) past pending r after next =
     Checks image label (destination r rs1 imm)
-    (Calls (at + 80) pending after next (destination r rs1 imm))
+    (Calls past pending after next (destination r rs1 imm))
     (Goes pending after next BAD_TARGET)
-UnitLeads image V.Return at pending r after next = Returns r pending after next
+LeadsPast image V.Return past pending r after next = Returns r pending after next
+
+-- from a unit at an address
+abbrev pub UnitLeads : Memory → U.Unit → ℕ → List ℕ → Registers → List ℕ → ℕ → Type 0
+UnitLeads image unit at pending r after next = LeadsPast image unit (after_unit unit at) pending r after next
 
 -- handlers and the closing end the run; the opening calls the entry
 abbrev pub Leads : Memory → Place → ℕ → List ℕ → Registers → List ℕ → ℕ → Type 0
 Leads image handler at pending r after next = ⊥
-Leads image (opening entry) at pending r after next = Calls (OPENING + 44) pending after next entry
+Leads image (opening entry) at pending r after next = Calls (OPENING + place_size (opening entry)) pending after next entry
 Leads image closing at pending r after next = ⊥
 Leads image (body unit) at pending r after next = UnitLeads image unit at pending r after next

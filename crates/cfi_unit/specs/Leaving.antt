@@ -4,13 +4,13 @@ use Rattle.rv_word.specs.Layout.{Profile}
 use Rattle.rv_word.specs.Memory.{Memory, write}
 use Rattle.rv_instr.specs.Operands.{written}
 use Rattle.rv_instr.specs.Registers.{Registers}
+use Rattle.rv_instr.specs.Reserved.{is_reserved}
 use Rattle.rv_instr.specs.declared.instr.Instr.{Instr}
 use Rattle.rv_instr.specs.declared.instr.Instr.TheVariants.{Store, Ecall}
 use Rattle.rv_instr.specs.declared.instr.StoreOp.{StoreOp}
 use Rattle.rv_code.specs.State.{Hart, Shared, After}
 use Rattle.rv_code.specs.Step.{exec}
 use Rattle.rv_code.specs.declared.turn.Turn.TheVariants.{Ran}
-use Rattle.cfi_unit.specs.UnitWords.{is_reserved}
 use Rattle.cfi_unit.specs.Shadow.{slot}
 use Rattle.cfi_unit.specs.Context.{Kept, Context}
 use Rattle.cfi_unit.specs.Leads.{sum_of}

@@ -1,17 +1,11 @@
 -- What stands at an address of a hardened image's code: a handler, the opening, the closing, or a
 -- unit.
 use Rattle.std.specs.Prelude.{◌≡◌, ℕ, ◌+◌, ◌*◌, ◌<◌, List}
+pub use Rattle.cfi_unit.specs.declared.place.Place.{Place}
+pub use Rattle.cfi_unit.specs.declared.place.Place.TheVariants.{Handler as handler, Opening as opening, Closing as closing, Body as body}
 use Rattle.rv_instr.specs.declared.instr.Instr.{Instr}
-use Rattle.cfi_unit.specs.declared.unit.Unit as U
 use Rattle.cfi_unit.specs.UnitWords.{instrs_of, word_count}
 use Rattle.cfi_unit.specs.Prologue.{handler_instrs, opening_instrs, closing_instrs}
-
--- the opening stands with the entry that it calls
-pub data Place : Type 0 where
-  handler : Place
-  opening : ℕ → Place
-  closing : Place
-  body : U.Unit → Place
 
 -- its instructions, at an address
 abbrev pub place_instrs : Place → ℕ → List Instr

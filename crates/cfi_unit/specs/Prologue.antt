@@ -1,6 +1,7 @@
 -- The prologue of a hardened image: the three handlers, the opening, which sets up both stacks and
 -- calls the entry, and the closing, which exits.
 use Rattle.std.specs.Prelude.{ℕ, ◌+◌, List, [], ◌∷◌, ◌++◌}
+use Rattle.rv_word.specs.Layout.{START}
 use Rattle.rv_instr.specs.declared.instr.Instr.{Instr}
 use Rattle.rv_instr.specs.declared.instr.Instr.TheVariants.{Upper, Immediate, Ecall, Ebreak}
 use Rattle.rv_instr.specs.declared.instr.UpperOp.TheVariants.{Lui}
@@ -8,9 +9,9 @@ use Rattle.rv_instr.specs.declared.instr.ImmediateOp.TheVariants.{Addi}
 use Rattle.cfi_unit.specs.declared.unit.Unit.TheVariants as V
 use Rattle.cfi_unit.specs.UnitWords.{instrs_of}
 
--- where the opening stands: the start of every run
+-- the opening stands where a run starts
 abbrev pub OPENING : ℕ
-OPENING = 0x4000000c
+OPENING = START
 
 -- each handler
 abbrev pub handler_instrs : List Instr

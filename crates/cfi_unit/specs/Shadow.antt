@@ -3,6 +3,7 @@
 use Rattle.std.specs.Prelude.{◌≡◌, ℕ, ◌+◌, ◌*◌, ◌%◌, ◌≤◌, List, [], ◌∷◌, length}
 use Rattle.rv_word.specs.Layout.{Profile, SHADOW_START, PART_SIZE}
 use Rattle.rv_word.specs.Memory.{Memory, read}
+use Rattle.cfi_unit.specs.declared.handlers.TheConstants as handlers
 
 -- a hart's own part of the shadow region, which has eight parts at most
 pub record IsPart (p : Profile) (part : ℕ) : Type 0 where
@@ -16,7 +17,7 @@ slot part n = part + 8 + 8 * n
 
 -- how many sites may be pending: as many as there are slots
 abbrev pub MOST_PENDING : ℕ
-MOST_PENDING = 8191
+MOST_PENDING = handlers.MOST_PENDING
 
 -- the pending sites, the newest first, stand in their slots, the oldest in slot 0
 abbrev pub Holds : ℕ → Memory → List ℕ → Type 0

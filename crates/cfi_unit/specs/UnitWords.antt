@@ -1,8 +1,9 @@
 -- The units: what instructions each is, at an address. x3 points to the shadow stack; x4, x30 and
 -- x31 are scratch; no plain unit's instruction writes one of these four.
-use Rattle.std.specs.Prelude.{◌≡◌, ℕ, ◌+◌, ◌-◌, ◌*◌, ◌/◌, ◌%◌, ◌^◌, ◌<◌, ◌==◌, ◌&&◌, ◌||◌, Bool, true, false, not, IsTrue, List, [], ◌∷◌, ◌++◌, map, take, ◌≢◌}
+use Rattle.std.specs.Prelude.{◌≡◌, ℕ, ◌+◌, ◌-◌, ◌*◌, ◌/◌, ◌%◌, ◌^◌, ◌<◌, ◌==◌, ◌&&◌, Bool, true, false, not, IsTrue, List, [], ◌∷◌, ◌++◌, map, take, ◌≢◌}
 use Rattle.rv_word.specs.Bits.{wrap}
 use Rattle.rv_instr.specs.InRange.{IsInstr}
+use Rattle.rv_instr.specs.Reserved.{is_reserved}
 use Rattle.rv_instr.specs.declared.instr.Instr.{Instr}
 use Rattle.rv_instr.specs.declared.instr.Instr.TheVariants.{Upper, Jal, Jalr, Branch, Load, Store, Immediate, Shift, ShiftWord, Register, Fence, Ecall, Ebreak}
 use Rattle.rv_instr.specs.declared.instr.UpperOp.{UpperOp}
@@ -15,6 +16,7 @@ use Rattle.rv_instr.specs.declared.instr.LoadOp.TheVariants.{Lw, Ld}
 use Rattle.rv_instr.specs.declared.instr.StoreOp.TheVariants.{Sd}
 use Rattle.rv_code.specs.Encode.{code_of}
 use Rattle.rv_code.specs.Step.{offset}
+use Rattle.cfi_unit.specs.declared.handlers.TheConstants as handlers
 use Rattle.cfi_unit.specs.declared.unit.Unit as U
 use Rattle.cfi_unit.specs.declared.unit.Unit.TheVariants as V
 use Rattle.cfi_unit.specs.declared.unit.SystemOp.{SystemOp}
@@ -22,13 +24,13 @@ use Rattle.cfi_unit.specs.declared.unit.SystemOp.TheVariants as S
 
 -- the handlers, and where they stand
 abbrev pub BAD_TARGET : ℕ
-BAD_TARGET = 0x40000000
+BAD_TARGET = handlers.BAD_TARGET
 
 abbrev pub BAD_RETURN : ℕ
-BAD_RETURN = 0x40000004
+BAD_RETURN = handlers.BAD_RETURN
 
 abbrev pub DEEP : ℕ
-DEEP = 0x40000008
+DEEP = handlers.DEEP
 
 -- the offset field of a jump from one address to another: it counts in multiples of two bytes
 abbrev pub jump_offset : ℕ → ℕ → ℕ
@@ -121,10 +123,6 @@ instrs_of V.Return at =
 unfoldable pub words_of : U.Unit → ℕ → List ℕ
 words_of unit at = map code_of (instrs_of unit at)
 
--- the registers that units keep for themselves
-abbrev pub is_reserved : ℕ → Bool
-is_reserved r = r == 3 || (r == 4 || (r == 30 || r == 31))
-
 abbrev pub is_lui : UpperOp → Bool
 is_lui Lui = true
 is_lui Auipc = false
@@ -178,6 +176,10 @@ word_count (V.Call target) = 8
 word_count (V.Ijump rs1 imm label) = 13
 word_count (V.Icall rs1 imm label) = 20
 word_count V.Return = 5
+
+-- the address after it
+abbrev pub after_unit : U.Unit → ℕ → ℕ
+after_unit unit at = at + 4 * word_count unit
 
 -- a unit begins a list of words at an address
 pub record Begins (words : List ℕ) (at : ℕ) (unit : U.Unit) : Type 0 where

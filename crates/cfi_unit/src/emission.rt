@@ -1,13 +1,13 @@
-ghost use Rattle.std.specs.Prelude.{◌≡◌, ◌+◌, ◌*◌, ◌<◌, ◌↔◌, ◌++◌, IfOk, IsTrue, List, Some, length, not, ℕ};
+ghost use Rattle.std.specs.Prelude.{◌≡◌, ◌+◌, ◌*◌, ◌<◌, ◌↔◌, ◌++◌, IfOk, IsTrue, List, Some, length, ℕ};
 ghost use Rattle.rv_word.specs.Layout.{CODE_START, CODE_SIZE};
 ghost use Rattle.cfi_unit.specs.Recognise.{can_stand, check_reaches, recognised};
-ghost use Rattle.cfi_unit.specs.UnitWords.{Fits, is_plain, is_reserved, word_count, words_of};
+ghost use Rattle.cfi_unit.specs.UnitWords.{Fits, is_plain, word_count, words_of};
 
 use crate::handlers::{BAD_RETURN, BAD_TARGET, DEEP};
 use crate::jump::is_reached;
 use crate::template::unit_code;
 use crate::unit::Unit;
-use rv_instr::{Instr, Reg, UpperOp};
+use rv_instr::{Instr, UpperOp};
 use rv_word::NoMemory;
 use std::alloc::Global;
 
@@ -89,13 +89,13 @@ fn may_stand_alone(instr: &Instr) -> bool
     ensures { result ≡ is_plain instr.now }
 {
     match *instr {
-        Instr::Upper(UpperOp::Lui, rd, _) => is_free(rd) && rd.number() != 0,
+        Instr::Upper(UpperOp::Lui, rd, _) => !rd.is_reserved() && rd.number() != 0,
         Instr::Upper(UpperOp::Auipc, rd, _)
         | Instr::Load(_, rd, _, _)
         | Instr::Immediate(_, rd, _, _)
         | Instr::Shift(_, rd, _, _)
         | Instr::ShiftWord(_, rd, _, _)
-        | Instr::Register(_, rd, _, _) => is_free(rd),
+        | Instr::Register(_, rd, _, _) => !rd.is_reserved(),
         Instr::Fence(_) => true,
         Instr::Jal(..)
         | Instr::Jalr(..)
@@ -104,11 +104,4 @@ fn may_stand_alone(instr: &Instr) -> bool
         | Instr::Ecall
         | Instr::Ebreak => false,
     }
-}
-
-/// Whether programs may write a register, since no unit keeps it for itself.
-fn is_free(reg: Reg) -> bool
-    ensures { result ≡ not (is_reserved reg) }
-{
-    !matches!(reg.number(), 3 | 4 | 30 | 31)
 }

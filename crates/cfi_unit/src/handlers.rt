@@ -1,5 +1,5 @@
 //! The three handlers, in which a run halts that would leave its graph, and the depth of the shadow
-//! stack.
+//! stack. Definitions have these numbers from here.
 
 /// Where computed transfers halt that would leave their class.
 pub const BAD_TARGET: u64 = 0x4000_0000;

@@ -3,13 +3,13 @@
 use Rattle.std.proofs.Common.{◌≡◌, ◌≢◌, ℕ, zero, suc, ◌+◌, ◌-◌, ◌*◌, ◌/◌, ◌%◌, ◌≤◌, ◌<◌, inl, inr, true, List, [], ◌∷◌, length, drop, length-drop, refl, sym, ap, subst, ◌∙◌, Some, None, arith}
 use Rattle.std.proofs.lemmas.Bool.{cases_Bool, cases_eq, cases_lt, eq-eqb, ne_eqb}
 use Rattle.std.proofs.lemmas.List.{drop-drop, drop_all}
-use Rattle.rv_word.specs.Layout.{CODE_START, version_1}
+use Rattle.rv_word.specs.Layout.{CODE_START, version_1, UNITS_START}
 use Rattle.cfi_unit.specs.declared.unit.Unit as U
 use Rattle.cfi_unit.specs.Split.{IsSplit}
 use Rattle.cfi_unit.specs.UnitWords.{word_count}
 use Rattle.cfi_verify.specs.Laws.{CodeIsSplit}
 use Rattle.cfi_verify.specs.Split.{code_words, starts, is_start, unit_at, unit_in}
-use Rattle.cfi_verify.proofs.Find.{START, IsWhole, UnitHere, start_at, no_start_below, no_unit, unit_here}
+use Rattle.cfi_verify.proofs.Find.{IsWhole, UnitHere, start_at, no_start_below, no_unit, unit_here}
 use Rattle.cfi_verify.proofs.Marks.{first_marked, some_word}
 use Rattle.cfi_verify.proofs.Places.{is_whole}
 
@@ -45,7 +45,7 @@ module _ (words : List ℕ) (whole : IsWhole words) where
         | inr none ↦ no_unit words a none
       ]
 
-  ended : (s : ℕ) → START ≤ s → s % 4 ≡ 0 → CODE_START + 4 * length words ≤ s → SplitFrom s []
+  ended : (s : ℕ) → UNITS_START ≤ s → s % 4 ≡ 0 → CODE_START + 4 * length words ≤ s → SplitFrom s []
   unfolding IsSplit unit_in
   ended s low round past = record {
     split = drop_all ((s - CODE_START) / 4) words (omega arith);
@@ -55,7 +55,7 @@ module _ (words : List ℕ) (whole : IsWhole words) where
   going : (s : ℕ) (u : U.Unit) (us : List U.Unit) → UnitHere words s u → SplitFrom (s + 4 * word_count u) us → SplitFrom s (u ∷ us)
   unfolding IsSplit
   going s u us here rest =
-      let low : START ≤ s = here.low in
+      let low : UNITS_START ≤ s = here.low in
       let round : s % 4 ≡ 0 = here.round in
       let k : (s + 4 * word_count u - CODE_START) / 4 ≡ (s - CODE_START) / 4 + word_count u = omega arith in
       let left : drop ((s + 4 * word_count u - CODE_START) / 4) words ≡ drop (word_count u) (drop ((s - CODE_START) / 4) words) =
@@ -72,7 +72,7 @@ module _ (words : List ℕ) (whole : IsWhole words) where
             ];
       }
 
-  split_from : (n s : ℕ) → START ≤ s → s % 4 ≡ 0 → CODE_START + 4 * length words ≤ s + n → (s < CODE_START + 4 * length words → is_start version_1 words s ≡ true) →
+  split_from : (n s : ℕ) → UNITS_START ≤ s → s % 4 ≡ 0 → CODE_START + 4 * length words ≤ s + n → (s < CODE_START + 4 * length words → is_start version_1 words s ≡ true) →
       (us : List U.Unit) × SplitFrom s us
   split_from zero s low round near start = ([], ended s low round (omega arith))
   split_from (suc n) s low round near start =
@@ -86,21 +86,21 @@ module _ (words : List ℕ) (whole : IsWhole words) where
       ]
 
   -- the first unit starts where the profile says
-  first_start : START < CODE_START + 4 * length words → is_start version_1 words START ≡ true
+  first_start : UNITS_START < CODE_START + 4 * length words → is_start version_1 words UNITS_START ≡ true
   first_start more =
-      let all : length (starts 0 (drop 16 words) START) ≡ length (drop 16 words) = whole.reached in
+      let all : length (starts 0 (drop 16 words) UNITS_START) ≡ length (drop 16 words) = whole.reached in
       let left : length (drop 16 words) ≡ length words - 16 = length-drop 16 words in
-      start_at words 0 (first_marked (drop 16 words) START (omega arith))
+      start_at words 0 (first_marked (drop 16 words) UNITS_START (omega arith))
 
 pub code_is_split : CodeIsSplit
 code_is_split image graph bytes formed =
     let words = code_words image.code in
     let whole = is_whole image graph bytes formed in
-    let (us, s) = split_from words whole (4 * length words) START (omega arith) refl (omega arith) (first_start words whole) in (
+    let (us, s) = split_from words whole (4 * length words) UNITS_START (omega arith) refl (omega arith) (first_start words whole) in (
       us,
       s.split,
-      λ a. elim (cases_lt a START) [
-        | inl below ↦ no_unit words a (no_start_below words a below) ∙ sym (in_none us START a below)
+      λ a. elim (cases_lt a UNITS_START) [
+        | inl below ↦ no_unit words a (no_start_below words a below) ∙ sym (in_none us UNITS_START a below)
         | inr from ↦ s.same a (omega arith)
       ],
     )

@@ -2,10 +2,11 @@
 use Rattle.std.proofs.Common.{◌≡◌, ◌≢◌, inl, inr, ℕ, ◌==◌, false, List, Option, Some, None, refl, sym, ap, ◌∙◌}
 use Rattle.std.specs.Prelude.{option_map, option_and_then}
 use Rattle.std.proofs.lemmas.Bool.{cases_Bool, eqb-true}
-use Rattle.rv_word.specs.Layout.{version_1}
+use Rattle.rv_word.specs.Layout.{version_1, START, CLOSING}
 use Rattle.cfi_unit.specs.declared.unit.Unit as U
 use Rattle.cfi_unit.specs.declared.unit.Unit.TheVariants as V
-use Rattle.cfi_unit.specs.Place.{Place, handler, opening, closing, body}
+use Rattle.cfi_unit.specs.declared.place.Place.{Place}
+use Rattle.cfi_unit.specs.declared.place.Place.TheVariants.{Handler as handler, Opening as opening, Closing as closing, Body as body}
 use Rattle.cfi_verify.specs.Split.{is_handler, entry_of, unit_at, place_at}
 use Rattle.cfi_verify.specs.Kinds.{has_kind, kind_of, same_kind}
 use Rattle.cfi_verify.specs.Rules.{edge_of, call_of, site_of}
@@ -14,22 +15,22 @@ use Rattle.cfi_verify.specs.declared.kind.Kind.TheVariants.{Edge, Call, Computed
 
 -- what is nothing at each of the places that may stand at an address
 none_at : {A : Type 0} (f : Place → Option A) (words : List ℕ) (a : ℕ) → f handler ≡ None → f closing ≡ None →
-    ((entry : ℕ) → a ≡ 0x4000000c → f (opening entry) ≡ None) → ((unit : U.Unit) → unit_at version_1 words a ≡ Some unit → f (body unit) ≡ None) →
+    ((entry : ℕ) → a ≡ START → f (opening entry) ≡ None) → ((unit : U.Unit) → unit_at version_1 words a ≡ Some unit → f (body unit) ≡ None) →
     None ≡ option_and_then f (place_at version_1 words a)
 unfolding place_at
 none_at f words a first last enters unit =
     elim (cases_Bool (is_handler a)) [
       | inl h ↦ rw (h, place_at) (sym first)
-      | inr h ↦ elim (cases_Bool (a == 0x4000000c)) [
+      | inr h ↦ elim (cases_Bool (a == START)) [
         | inl o ↦ rw (h, o, place_at) (opened (entry_of version_1 words) (eqb-true a _ o))
-        | inr o ↦ elim (cases_Bool (a == 0x40000038)) [
+        | inr o ↦ elim (cases_Bool (a == CLOSING)) [
           | inl c ↦ rw (h, o, c, place_at) (sym last)
           | inr c ↦ rw (h, o, c, place_at) (stands (unit_at version_1 words a) refl)
         ]
       ]
     ]
   where
-    opened : (entry : Option ℕ) → a ≡ 0x4000000c → None ≡ option_and_then f (option_map opening entry)
+    opened : (entry : Option ℕ) → a ≡ START → None ≡ option_and_then f (option_map opening entry)
     opened None e = refl
     opened (Some entry) e = sym (enters entry e)
 
@@ -54,7 +55,7 @@ site_unless other e = refl
 pub no_edge : (words : List ℕ) (a : ℕ) → has_kind (unit_at version_1 words a) Edge ≡ false → None ≡ option_and_then edge_of (place_at version_1 words a)
 no_edge words a h = none_at edge_of words a refl refl (λ entry e. refl) (λ unit e. edge_unless unit (ap (λ o. has_kind o Edge) (sym e) ∙ h))
 
-pub no_call : (words : List ℕ) (a : ℕ) → a ≢ 0x4000000c → has_kind (unit_at version_1 words a) Call ≡ false → None ≡ option_and_then call_of (place_at version_1 words a)
+pub no_call : (words : List ℕ) (a : ℕ) → a ≢ START → has_kind (unit_at version_1 words a) Call ≡ false → None ≡ option_and_then call_of (place_at version_1 words a)
 no_call words a n h = none_at call_of words a refl refl (λ entry e. absurd (n e)) (λ unit e. call_unless unit (ap (λ o. has_kind o Call) (sym e) ∙ h))
 
 pub no_site : (words : List ℕ) (a : ℕ) → has_kind (unit_at version_1 words a) Computed ≡ false → None ≡ option_and_then site_of (place_at version_1 words a)

@@ -2,7 +2,6 @@
 use Rattle.std.proofs.Common.{◌≡◌, ℕ, zero, suc, ◌+◌, ◌^◌, ◌<◌, List, [], ◌∷◌, ◌++◌, Some, lit<, subst}
 use Rattle.std.specs.Prelude.{slice_get}
 use Rattle.std.specs.List.{AllByRecursion}
-use Rattle.std.proofs.lemmas.Nat.{mod_below}
 use Rattle.rv_instr.specs.InRange.{IsInstr}
 use Rattle.rv_instr.specs.declared.instr.Instr.{Instr}
 use Rattle.rv_instr.specs.declared.instr.Instr.TheVariants.{Jal, Jalr, Upper, Immediate, Ebreak}
@@ -13,6 +12,7 @@ use Rattle.cfi_unit.specs.declared.unit.Unit.TheVariants as V
 use Rattle.cfi_unit.specs.declared.unit.SystemOp.TheVariants as S
 use Rattle.cfi_unit.specs.Prologue.{OPENING, opening_instrs, closing_instrs, prologue_instrs}
 use Rattle.cfi_unit.specs.UnitWords.{Fits, instrs_of, jump_offset, push, check}
+use Rattle.cfi_unit.proofs.Found.{is_jump_instr}
 
 abbrev pub AreInstrs : List Instr → Type 0
 AreInstrs instrs = AllByRecursion IsInstr instrs
@@ -26,16 +26,13 @@ append_instrs : (xs ys : List Instr) → AreInstrs xs → AreInstrs ys → AreIn
 append_instrs [] ys a b = b
 append_instrs (x ∷ xs) ys a b = (a.0, append_instrs xs ys a.1 b)
 
-is_jump : (rd from to : ℕ) → rd < 32 → IsInstr (Jal rd (jump_offset from to))
-is_jump rd from to low = (low, mod_below _ (2 ^ 20) (lit< tt))
-
 push_instrs : (at : ℕ) → AreInstrs (push at)
 push_instrs at = (
   (lit< tt, lit< tt, lit< tt),
   (
     (lit< tt, lit< tt, lit< tt),
     (
-      is_jump 0 _ _ (lit< tt),
+      is_jump_instr 0 _ _ (lit< tt),
       (
         (lit< tt, lit< tt),
         (
@@ -61,14 +58,14 @@ check_instrs at rs1 imm label r i l = (
           (
             (lit< tt, lit< tt, lit< tt),
             (
-              is_jump 0 _ _ (lit< tt),
+              is_jump_instr 0 _ _ (lit< tt),
               (
                 (lit< tt, lit< tt, lit< tt),
                 (
                   (lit< tt, l),
                   (
                     (lit< tt, lit< tt, lit< tt),
-                    ((lit< tt, lit< tt, lit< tt), (is_jump 0 _ _ (lit< tt), tt)),
+                    ((lit< tt, lit< tt, lit< tt), (is_jump_instr 0 _ _ (lit< tt), tt)),
                   ),
                 ),
               ),
@@ -84,14 +81,14 @@ jump_back : (rd : ℕ) → rd < 32 → AreInstrs (Jalr rd 31 0 ∷ [])
 jump_back rd low = ((low, lit< tt, lit< tt), tt)
 
 call_instrs : (at target : ℕ) → AreInstrs (instrs_of (V.Call target) at)
-call_instrs at target = append_instrs (push at) (Jal 1 (jump_offset (at + 28) target) ∷ []) (push_instrs at) (is_jump 1 _ _ (lit< tt), tt)
+call_instrs at target = append_instrs (push at) (Jal 1 (jump_offset (at + 28) target) ∷ []) (push_instrs at) (is_jump_instr 1 _ _ (lit< tt), tt)
 
 pub unit_instrs : (u : U.Unit) (at : ℕ) → Fits u at → AreInstrs (instrs_of u at)
 unit_instrs (V.Gate label) at f = ((lit< tt, f), tt)
 unit_instrs (V.Plain instr) at f = (f.0, tt)
-unit_instrs (V.Branch op rs1 rs2 target) at f = ((f.0, f.1, lit< tt), (is_jump 0 _ _ (lit< tt), tt))
-unit_instrs (V.Jump target) at f = (is_jump 0 _ _ (lit< tt), tt)
-unit_instrs V.Stop at f = (is_jump 0 _ _ (lit< tt), tt)
+unit_instrs (V.Branch op rs1 rs2 target) at f = ((f.0, f.1, lit< tt), (is_jump_instr 0 _ _ (lit< tt), tt))
+unit_instrs (V.Jump target) at f = (is_jump_instr 0 _ _ (lit< tt), tt)
+unit_instrs V.Stop at f = (is_jump_instr 0 _ _ (lit< tt), tt)
 unit_instrs (V.System S.Ecall) at f = (tt, tt)
 unit_instrs (V.System S.Ebreak) at f = (tt, tt)
 unit_instrs (V.Store op rs1 rs2 imm) at f =
@@ -104,7 +101,7 @@ unit_instrs (V.Icall rs1 imm label) at f =
     (append_instrs (check at rs1 imm label) (push (at + 48)) (check_instrs at rs1 imm label f.0.0 f.0.1 f.0.2) (push_instrs (at + 48)))
     (jump_back 1 (lit< tt))
 unit_instrs V.Return at f =
-    ((lit< tt, lit< tt, lit< tt), ((lit< tt, lit< tt, lit< tt), ((lit< tt, lit< tt, lit< tt), (is_jump 0 _ _ (lit< tt), ((lit< tt, lit< tt, lit< tt), tt)))))
+    ((lit< tt, lit< tt, lit< tt), ((lit< tt, lit< tt, lit< tt), ((lit< tt, lit< tt, lit< tt), (is_jump_instr 0 _ _ (lit< tt), ((lit< tt, lit< tt, lit< tt), tt)))))
 
 pub prologue_in_range : (entry : ℕ) → AreInstrs (prologue_instrs entry)
 prologue_in_range entry =

@@ -3,12 +3,14 @@
 use Rattle.std.proofs.Common.{◌≡◌, ℕ, ◌+◌, ◌-◌, ◌*◌, ◌^◌, ◌≤◌, ◌<◌, ◌⊎◌, inl, inr, List, [], length, refl, sym, ap, subst, ◌∙◌, Some, arith}
 use Rattle.std.proofs.lemmas.Bool.{cases_lt}
 use Rattle.rv_word.specs.Image.{Contents}
-use Rattle.rv_word.specs.Layout.{CODE_START, SHADOW_START, version_1}
+use Rattle.rv_word.specs.Layout.{CODE_START, SHADOW_START, version_1, UNITS_START}
 use Rattle.rv_word.specs.Memory.{loaded}
 use Rattle.cfi_graph.specs.Graph.{GraphParts}
 use Rattle.cfi_unit.specs.declared.unit.Unit.TheVariants as V
 use Rattle.cfi_unit.specs.Leads.{HasLabel}
-use Rattle.cfi_unit.specs.Place.{Place, handler, opening, closing, body, place_instrs, place_size}
+use Rattle.cfi_unit.specs.declared.place.Place.{Place}
+use Rattle.cfi_unit.specs.declared.place.Place.TheVariants.{Handler as handler, Opening as opening, Closing as closing, Body as body}
+use Rattle.cfi_unit.specs.Place.{place_instrs, place_size}
 use Rattle.cfi_unit.specs.Prologue.{OPENING, handler_instrs}
 use Rattle.cfi_unit.specs.Stand.{Stand}
 use Rattle.cfi_unit.specs.UnitLaw.{ReturnsTo, MayStand}
@@ -21,7 +23,7 @@ use Rattle.cfi_verify.specs.Split.{code_words, unit_at}
 use Rattle.cfi_verify.specs.Walk.{InClass}
 use Rattle.cfi_verify.specs.Laws.{AreBytes}
 use Rattle.cfi_verify.proofs.Bytes.{loaded_past, length-code_words}
-use Rattle.cfi_verify.proofs.Find.{START, unit_around}
+use Rattle.cfi_verify.proofs.Find.{unit_around}
 use Rattle.cfi_verify.proofs.Places.{PlaceFacts, prologue, is_whole, handler_is}
 use Rattle.cfi_verify.proofs.RuleFacts.{gate_listed}
 use Rattle.cfi_verify.proofs.Standing.{unit_stands}
@@ -63,7 +65,7 @@ module _ (image : Contents) (graph : GraphParts) (bytes : AreBytes image) (forme
   before_units place a label v facts first low has from to =
       label_is_gate (loaded image) SHADOW_START [] place a label v (may_stand place a [] facts first) (place_stands place a facts) low has from to
 
-  not_before : (label v : ℕ) → label < 2 ^ 20 → HasLabel (loaded image) label v → v < START → ⊥
+  not_before : (label v : ℕ) → label < 2 ^ 20 → HasLabel (loaded image) label v → v < UNITS_START → ⊥
   not_before label v low has below =
       let code = has.low in
       elim (cases_lt v BAD_RETURN) [
@@ -90,7 +92,7 @@ module _ (image : Contents) (graph : GraphParts) (bytes : AreBytes image) (forme
   label_in_class label v ts low class has =
       let whole = length-code_words image.code bytes.size.words in
       elim (cases_lt v (CODE_START + 4 * length (code_words image.code))) [
-        | inl inside ↦ elim (cases_lt v START) [
+        | inl inside ↦ elim (cases_lt v UNITS_START) [
           | inl below ↦ absurd (not_before label v low has below)
           | inr from ↦
               let around = unit_around (code_words image.code) (is_whole image graph bytes formed) v from inside in

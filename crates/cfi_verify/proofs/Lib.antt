@@ -14,6 +14,7 @@ pub mod CodeSplit
 pub mod Walks
 pub mod Trails
 pub mod Unsafe
+pub mod Arrivals
 pub mod WordList
 pub mod LineOrder
 pub mod Starts

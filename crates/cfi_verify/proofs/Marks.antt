@@ -1,9 +1,10 @@
 -- The marks of a split, unit by unit: which words start a unit, and that units cover the words.
-use Rattle.std.proofs.Common.{◌≡◌, ℕ, zero, suc, ◌+◌, ◌-◌, ◌*◌, ◌≤◌, ◌<◌, ◌⊎◌, inl, inr, true, false, List, [], ◌∷◌, length, drop, length-drop, refl, sym, ap, subst, ◌∙◌, Option, Some, None, arith, lit≤, ◌^◌}
+use Rattle.std.proofs.Common.{◌≡◌, ℕ, zero, suc, ◌+◌, ◌-◌, ◌*◌, ◌≤◌, ◌<◌, inl, inr, true, false, List, [], ◌∷◌, length, drop, length-drop, refl, sym, ap, subst, ◌∙◌, Some, None, arith, lit≤, ◌^◌}
 use Rattle.std.specs.Prelude.{slice_get}
 use Rattle.std.proofs.lemmas.Bool.{cases_lt}
 use Rattle.std.proofs.lemmas.List.{length-take, drop-drop}
 use Rattle.std.proofs.lemmas.List.Elements.{All-drop}
+use Rattle.rv_word.proofs.Cases.{cases_Option}
 use Rattle.cfi_unit.specs.declared.unit.Unit as U
 use Rattle.cfi_unit.specs.declared.unit.Unit.TheVariants as V
 use Rattle.cfi_unit.specs.Laws.{AreWords}
@@ -82,10 +83,6 @@ pub record Marked (ws : List ℕ) (at i : ℕ) (u : U.Unit) : Type 0 where
   pub inner : (j : ℕ) → i < j → j < i + word_count u → slice_get (starts 0 ws at) j ≡ Some false
   pub next : i + word_count u < length (starts 0 ws at) → slice_get (starts 0 ws at) (i + word_count u) ≡ Some true
   pub room : i + word_count u ≤ length (starts 0 ws at)
-
-pub cases_Option : {A : Type 0} → (o : Option A) → (o ≡ None) ⊎ ((x : A) × (o ≡ Some x))
-cases_Option None = inl refl
-cases_Option (Some x) = inr (x, refl)
 
 -- a unit that is recognised has no more words than there are
 pub recognised_room : (ws : List ℕ) (at : ℕ) (u : U.Unit) → AreWords ws → recognised ws at ≡ Some u → word_count u ≤ length ws

@@ -3,8 +3,9 @@
 use Rattle.std.proofs.Common.{◌≡◌, ℕ, ◌+◌, ◌*◌, ◌^◌, ◌≤◌, ◌<◌, inl, inr, true, false, List, [], ◌∷◌, length, refl, sym, ap, subst, ◌∙◌, Some, arith, lit≤}
 use Rattle.std.specs.Prelude.{option_map}
 use Rattle.rv_word.specs.Image.{Contents}
-use Rattle.rv_word.specs.Layout.{version_1}
+use Rattle.rv_word.specs.Layout.{version_1, CLOSING}
 use Rattle.rv_word.specs.Memory.{read, loaded}
+use Rattle.rv_word.proofs.Cases.{cases_Option}
 use Rattle.rv_instr.specs.Registers.{Registers}
 use Rattle.rv_code.specs.Encode.{code_of}
 use Rattle.rv_code.proofs.Inverse.{code_of-decoded}
@@ -15,7 +16,8 @@ use Rattle.cfi_unit.specs.declared.unit.Unit as U
 use Rattle.cfi_unit.specs.declared.unit.Unit.TheVariants as V
 use Rattle.cfi_unit.specs.declared.unit.SystemOp.TheVariants as S
 use Rattle.cfi_unit.specs.Leads.{HasLabel, Leads, Returns, destination}
-use Rattle.cfi_unit.specs.Place.{Place, handler, opening, closing, body}
+use Rattle.cfi_unit.specs.declared.place.Place.{Place}
+use Rattle.cfi_unit.specs.declared.place.Place.TheVariants.{Handler as handler, Opening as opening, Closing as closing, Body as body}
 use Rattle.cfi_unit.specs.Prologue.{OPENING}
 use Rattle.cfi_unit.specs.Shadow.{MOST_PENDING}
 use Rattle.cfi_unit.specs.UnitWords.{BAD_TARGET, BAD_RETURN, DEEP, word_count, gate}
@@ -29,7 +31,6 @@ use Rattle.cfi_verify.specs.Laws.{AreBytes}
 use Rattle.cfi_verify.proofs.Bytes.{loaded_small}
 use Rattle.cfi_verify.proofs.Find.{UnitHere, unit_here}
 use Rattle.cfi_verify.proofs.Labels.{label_in_class}
-use Rattle.cfi_verify.proofs.Marks.{cases_Option}
 use Rattle.cfi_verify.proofs.Places.{PlaceFacts, is_whole, unit_facts, at_unit, at_closing, at_bad_target, at_bad_return, at_deep}
 use Rattle.cfi_verify.proofs.RuleFacts.{edge_starts, call_starts, next_starts, gate_stands, site_class}
 use Rattle.cfi_verify.proofs.Standing.{unit_stands}
@@ -41,7 +42,7 @@ module _ (image : Contents) (graph : GraphParts) (bytes : AreBytes image) (forme
   -- the oldest pending site is the closing, the others are units' starts
   abbrev pub SitesStand : List ℕ → Type 0
   SitesStand [] = ⊥
-  SitesStand (site ∷ []) = site ≡ 0x40000038
+  SitesStand (site ∷ []) = site ≡ CLOSING
   SitesStand (site ∷ other ∷ more) = (is_start version_1 W site ≡ true) × SitesStand (other ∷ more)
 
   pub record InBody (pending : List ℕ) : Type 0 where
@@ -126,7 +127,7 @@ module _ (image : Contents) (graph : GraphParts) (bytes : AreBytes image) (forme
       let c = class_parts label v inside in
       unit_facts image graph bytes formed v (V.Gate label) (gate_stands image graph formed v label c.0 c.1 c.2)
 
-  in_class_label : (label v : ℕ) → InClass graph.lines label v → HasLabel (loaded image) label v
+  pub in_class_label : (label v : ℕ) → InClass graph.lines label v → HasLabel (loaded image) label v
   unfolding code_of
   in_class_label label v inside =
       let here = in_class_unit label v inside in
@@ -172,7 +173,7 @@ module _ (image : Contents) (graph : GraphParts) (bytes : AreBytes image) (forme
   arrive closing w v newer is facts stage leads = absurd leads
   arrive (opening entry) w v newer is facts stage (inl l) =
       let start = call_starts image graph formed w.at (opening entry) entry is refl in
-      let none : newer ≡ 0x40000038 ∷ [] = l.1 ∙ ap (λ ps. 0x40000038 ∷ ps) stage in
+      let none : newer ≡ CLOSING ∷ [] = l.1 ∙ ap (λ ps. CLOSING ∷ ps) stage in
       record {
         goes = inl (l.0, l.2, l.1 ∙ ap (λ n. n ∷ w.pending) (let z : OPENING + 44 ≡ w.at + 44 = ap (λ n. n + 44) (sym facts.0) in z));
         chooses = tt;

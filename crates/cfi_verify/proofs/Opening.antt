@@ -4,7 +4,7 @@ use Rattle.std.specs.Prelude.{slice_get, slice_index, ◌==◌, not}
 use Rattle.std.proofs.lemmas.Bool.{cases_lt, cases_eq, eqb-true, le-leb, lt-ltb, le-ltb, ne_eqb}
 use Rattle.std.proofs.lemmas.Option.{slice_get_within}
 use Rattle.rv_word.specs.Image.{Contents}
-use Rattle.rv_word.specs.Layout.{CODE_START, version_1}
+use Rattle.rv_word.specs.Layout.{CODE_START, version_1, OPENING_CALL}
 use Rattle.rv_word.specs.Memory.{read, loaded}
 use Rattle.rv_instr.specs.declared.instr.Instr.{Instr}
 use Rattle.rv_instr.specs.declared.instr.Instr.TheVariants.{Jal}
@@ -102,11 +102,11 @@ module _ (image : Contents) (bytes : AreBytes image) (holds : (a : ℕ) → fail
       (decoded-in_range entry_word.0 (Jal 1 entry_imm.0) low entry_imm.1).1
 
   abbrev the_entry : ℕ
-  the_entry = led_to 0x40000034 entry_imm.0
+  the_entry = led_to OPENING_CALL entry_imm.0
 
   call_word : (i : Instr) → slice_get (prologue_instrs the_entry) 13 ≡ Some i → decoded (read 4 (loaded image) (CODE_START + 4 * 13)) ≡ Some i
   call_word i e =
-      let back : jump_offset 0x40000034 the_entry ≡ entry_imm.0 = offset_back 0x40000034 entry_imm.0 (lit< tt) entry_small in
+      let back : jump_offset OPENING_CALL the_entry ≡ entry_imm.0 = offset_back OPENING_CALL entry_imm.0 (lit< tt) entry_small in
       let here : decoded (read 4 (loaded image) (CODE_START + 4 * 13)) ≡ Some (Jal 1 entry_imm.0) = ap decoded (loaded_word image 13 entry_word.0 entry_word.1) ∙ entry_imm.1 in
       here ∙ ap (λ n. Some (Jal 1 n)) (sym back) ∙ e
 
@@ -115,7 +115,7 @@ module _ (image : Contents) (bytes : AreBytes image) (holds : (a : ℕ) → fail
     the_entry,
     record {
       is = rw (entry_word.1, entry_imm.1) refl;
-      reaches = ap (λ n. led_to 0x40000034 n) (offset_back 0x40000034 entry_imm.0 (lit< tt) entry_small);
+      reaches = ap (λ n. led_to OPENING_CALL n) (offset_back OPENING_CALL entry_imm.0 (lit< tt) entry_small);
       stands = record {
         round = refl;
         low = lit≤ tt;

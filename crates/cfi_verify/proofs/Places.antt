@@ -1,13 +1,16 @@
 -- What stands at each address of a well-formed image's code, and what each rule says there.
-use Rattle.std.proofs.Common.{◌≡◌, ℕ, ◌+◌, ◌-◌, ◌*◌, ◌/◌, ◌^◌, ◌≤◌, ◌<◌, ◌⊎◌, inl, inr, Bool, true, false, List, length, drop, refl, sym, ap, subst, ◌∙◌, Some, None, arith}
-use Rattle.std.specs.Prelude.{nat_lt, ◌==◌, ◌&&◌, option_map, if◌then◌else◌}
+use Rattle.std.proofs.Common.{◌≡◌, ℕ, ◌+◌, ◌-◌, ◌*◌, ◌/◌, ◌^◌, ◌≤◌, ◌<◌, ◌⊎◌, inl, inr, true, false, List, length, drop, refl, sym, ap, subst, ◌∙◌, Some, None, arith}
+use Rattle.std.specs.Prelude.{nat_lt, ◌==◌, ◌&&◌, option_map}
 use Rattle.std.proofs.lemmas.Bool.{cases_eq, eqb-true, eq-eqb, ne_eqb, ltb-false}
 use Rattle.std.proofs.lemmas.List.Elements.{All-drop}
 use Rattle.rv_word.specs.Image.{Contents}
-use Rattle.rv_word.specs.Layout.{CODE_START, version_1}
+use Rattle.rv_word.specs.Layout.{CODE_START, version_1, UNITS_START, CLOSING}
+use Rattle.rv_word.proofs.Cases.{cases_Option, chosen}
 use Rattle.cfi_graph.specs.Graph.{GraphParts}
 use Rattle.cfi_unit.specs.declared.unit.Unit as U
-use Rattle.cfi_unit.specs.Place.{Place, handler, opening, closing, body, place_size}
+use Rattle.cfi_unit.specs.declared.place.Place.{Place}
+use Rattle.cfi_unit.specs.declared.place.Place.TheVariants.{Handler as handler, Opening as opening, Closing as closing, Body as body}
+use Rattle.cfi_unit.specs.Place.{place_size}
 use Rattle.cfi_unit.specs.Prologue.{OPENING}
 use Rattle.cfi_unit.specs.UnitWords.{BAD_TARGET, BAD_RETURN, DEEP}
 use Rattle.cfi_unit.specs.Recognise.{recognised}
@@ -16,14 +19,9 @@ use Rattle.cfi_verify.specs.Rules.{IsWellFormed}
 use Rattle.cfi_verify.specs.declared.reject.Rule.TheVariants as R
 use Rattle.cfi_verify.specs.Laws.{AreBytes}
 use Rattle.cfi_verify.proofs.Bytes.{are_words}
-use Rattle.cfi_verify.proofs.Find.{START, IsWhole, UnitHere, unit_here, no_start_below, no_unit}
-use Rattle.cfi_verify.proofs.Marks.{cases_Option, marks_room}
+use Rattle.cfi_verify.proofs.Find.{IsWhole, UnitHere, unit_here, no_start_below, no_unit}
+use Rattle.cfi_verify.proofs.Marks.{marks_room}
 use Rattle.cfi_verify.proofs.Opening.{HasPrologue, prologue_stands}
-
--- a choice went one way or the other
-pub chosen : {A : Type 0} (b : Bool) (x y z : A) → (if b then x else y) ≡ z → ((b ≡ true) × (x ≡ z)) ⊎ ((b ≡ false) × (y ≡ z))
-chosen true x y z e = inl (refl, e)
-chosen false x y z e = inr (refl, e)
 
 module _ (image : Contents) (graph : GraphParts) (bytes : AreBytes image) (formed : IsWellFormed version_1 image graph) where
   abbrev the_words : List ℕ
@@ -34,11 +32,11 @@ module _ (image : Contents) (graph : GraphParts) (bytes : AreBytes image) (forme
   is_whole =
       let words = are_words image.code bytes.code in
       let marks = length (unit_starts version_1 the_words) in
-      let rule : (START + 4 * marks == START + 4 * marks) && nat_lt marks (length (unit_words version_1 the_words)) ≡ false =
-      formed.rules R.Unit (START + 4 * marks) in
+      let rule : (UNITS_START + 4 * marks == UNITS_START + 4 * marks) && nat_lt marks (length (unit_words version_1 the_words)) ≡ false =
+      formed.rules R.Unit (UNITS_START + 4 * marks) in
       let enough : length (unit_words version_1 the_words) ≤ marks =
-      ltb-false marks (length (unit_words version_1 the_words)) (rw (eq-eqb (START + 4 * marks) (START + 4 * marks) refl) at rule) in
-      let most : marks ≤ length (unit_words version_1 the_words) = marks_room (length (drop 16 the_words)) (drop 16 the_words) START (omega arith) (All-drop (λ x. x < 2 ^ 32) 16 the_words words) in
+      ltb-false marks (length (unit_words version_1 the_words)) (rw (eq-eqb (UNITS_START + 4 * marks) (UNITS_START + 4 * marks) refl) at rule) in
+      let most : marks ≤ length (unit_words version_1 the_words) = marks_room (length (drop 16 the_words)) (drop 16 the_words) UNITS_START (omega arith) (All-drop (λ x. x < 2 ^ 32) 16 the_words words) in
       record { words_are = words; reached = omega arith }
 
   pub prologue : (entry : ℕ) × HasPrologue image entry
@@ -100,7 +98,7 @@ module _ (image : Contents) (graph : GraphParts) (bytes : AreBytes image) (forme
   not_handler a above = rw (ne_eqb a BAD_TARGET (λ e. omega arith), ne_eqb a BAD_RETURN (λ e. omega arith), ne_eqb a DEEP (λ e. omega arith)) refl
 
   -- from the first unit on, what stands is a unit or nothing
-  pub at_unit : (a : ℕ) → START ≤ a → place_at version_1 the_words a ≡ option_map body (unit_at version_1 the_words a)
+  pub at_unit : (a : ℕ) → UNITS_START ≤ a → place_at version_1 the_words a ≡ option_map body (unit_at version_1 the_words a)
   unfolding place_at
   at_unit a from = rw (not_handler a (omega arith), ne_eqb a OPENING (λ e. omega arith), ne_eqb a version_1.closing (λ e. omega arith)) refl
 
@@ -113,7 +111,7 @@ module _ (image : Contents) (graph : GraphParts) (bytes : AreBytes image) (forme
   unfolding place_at
   at_opening = ap (option_map opening) prologue.1.is
 
-  pub at_closing : place_at version_1 the_words 0x40000038 ≡ Some closing
+  pub at_closing : place_at version_1 the_words CLOSING ≡ Some closing
   unfolding place_at
   at_closing = refl
 
@@ -130,10 +128,10 @@ module _ (image : Contents) (graph : GraphParts) (bytes : AreBytes image) (forme
   at_deep = refl
 
   -- nothing starts below the first unit but the handlers, the opening and the closing
-  nothing_below : (a : ℕ) → a < START → is_handler a ≡ false → (a ≡ OPENING → ⊥) → (a ≡ 0x40000038 → ⊥) → place_at version_1 the_words a ≡ None
+  nothing_below : (a : ℕ) → a < UNITS_START → is_handler a ≡ false → (a ≡ OPENING → ⊥) → (a ≡ CLOSING → ⊥) → place_at version_1 the_words a ≡ None
   unfolding place_at
   nothing_below a below h o c =
-      rw (h, ne_eqb a OPENING o, ne_eqb a 0x40000038 c, no_unit the_words a (no_start_below the_words a below)) refl
+      rw (h, ne_eqb a OPENING o, ne_eqb a CLOSING c, no_unit the_words a (no_start_below the_words a below)) refl
 
   pub handler_is : (a : ℕ) → is_handler a ≡ true → (a ≡ BAD_TARGET) ⊎ ((a ≡ BAD_RETURN) ⊎ (a ≡ DEEP))
   handler_is a e =

@@ -5,20 +5,20 @@ use Rattle.std.specs.List.{list_any}
 use Rattle.std.proofs.lemmas.Bool.{cases_eq, eqb-true, eq-eqb, and_parts, or_parts}
 use Rattle.rv_word.specs.Image.{Contents}
 use Rattle.rv_word.specs.Layout.{CODE_START, version_1}
+use Rattle.rv_word.proofs.Cases.{chosen}
 use Rattle.cfi_graph.specs.declared.line.GraphLine.{GraphLine}
 use Rattle.cfi_graph.specs.declared.line.GraphLine.TheVariants.{Class, Site, Edge, Call}
 use Rattle.cfi_graph.specs.declared.line.SiteKind.{SiteKind}
 use Rattle.cfi_graph.specs.Graph.{GraphParts}
 use Rattle.cfi_unit.specs.declared.unit.Unit as U
 use Rattle.cfi_unit.specs.declared.unit.Unit.TheVariants as V
-use Rattle.cfi_unit.specs.Place.{Place}
+use Rattle.cfi_unit.specs.declared.place.Place.{Place}
 use Rattle.cfi_unit.specs.UnitWords.{word_count}
 use Rattle.cfi_verify.specs.Lines.{holds_of, line_at, class_of, is_among}
 use Rattle.cfi_verify.specs.Split.{code_words, is_start, unit_at, place_at}
 use Rattle.cfi_verify.specs.Rules.{IsWellFormed, edge_of, call_of, site_of, is_gate_with, is_stop, is_bad_end, lacks_gate, is_lone_site, is_site_with}
 use Rattle.cfi_verify.specs.declared.reject.Rule.TheVariants as R
 use Rattle.cfi_verify.proofs.Find.{UnitHere}
-use Rattle.cfi_verify.proofs.Places.{chosen}
 
 pub not_false : (b : Bool) → not b ≡ false → b ≡ true
 not_false true e = refl

@@ -16,9 +16,11 @@ use Rattle.cfi_graph.specs.Graph.{GraphParts}
 use Rattle.cfi_unit.specs.declared.unit.Unit as U
 use Rattle.cfi_unit.specs.declared.unit.Unit.TheVariants as V
 use Rattle.cfi_unit.specs.declared.unit.SystemOp.TheVariants as S
-use Rattle.cfi_unit.specs.Context.{Context}
+use Rattle.cfi_unit.specs.Context.{IsCodeOf, Context}
 use Rattle.cfi_unit.specs.InPlace.{InPlace}
-use Rattle.cfi_unit.specs.Place.{Place, handler, opening, closing, body}
+use Rattle.cfi_unit.specs.declared.place.Place.{Place}
+use Rattle.cfi_unit.specs.declared.place.Place.TheVariants.{Handler as handler, Opening as opening, Closing as closing, Body as body}
+use Rattle.cfi_unit.specs.Place.{IsWordOf, place_size}
 use Rattle.cfi_unit.specs.Prologue.{OPENING}
 use Rattle.cfi_unit.specs.Shadow.{IsPart, slot, MOST_PENDING}
 use Rattle.cfi_unit.specs.UnitLaw.{UnitEnds, Ends, Outcome, stays, leaves, ends, ReturnsTo}
@@ -87,37 +89,46 @@ module _ (image : Contents) (graph : GraphParts) (bytes : AreBytes image) (forme
   most_pending closing pending stage = let none = ap length stage in omega arith
   most_pending (body unit) pending stage = stage.most
 
-  -- how a place ends a run, the run may end there, and nothing follows
-  record Ended (place : Place) (turn : Turn) (rest : Type 0) : Type 0 where
-    may : MayEnd place turn
-    stop : OnRan turn rest
+  -- an end that may come, and what is owed after it
+  record Ended (place : Place) (pc : ℕ) (turn : Turn) (rest stopped : Type 0) : Type 0 where
+    may : MayEnd place pc turn
+    on : OnRan turn rest stopped
 
-  exits : (place : Place) (turn : Turn) (rest : Type 0) → MayExit place → (status : ℕ) → turn ≡ Exit status → Ended place turn rest
-  exits place turn rest may status e = subst (λ (t : Turn). Ended place t rest) (sym e) (record { may = may; stop = tt })
+  exits : (place : Place) (pc : ℕ) (turn : Turn) (rest stopped : Type 0) → MayExit place → (status : ℕ) → turn ≡ Exit status → stopped → Ended place pc turn rest stopped
+  exits place pc turn rest stopped may status e left =
+      subst (λ (t : Turn). Ended place pc t rest stopped) (sym e) (record { may = may; on = left })
 
-  breaks : (place : Place) (at : ℕ) (turn : Turn) (rest : Type 0) → MayBreak place → turn ≡ Break at → Ended place turn rest
-  breaks place at turn rest may e = subst (λ (t : Turn). Ended place t rest) (sym e) (record { may = may; stop = tt })
+  breaks : (place : Place) (at pc : ℕ) (turn : Turn) (rest stopped : Type 0) → MayBreak place → at ≡ pc → turn ≡ Break at → stopped → Ended place pc turn rest stopped
+  breaks place at pc turn rest stopped may same e left =
+      subst (λ (t : Turn). Ended place pc t rest stopped) (sym e) (record { may = (same, may); on = left })
 
-  ended_unit : (unit : U.Unit) (at : ℕ) (turn : Turn) (rest : Type 0) → UnitEnds unit at turn → Ended (body unit) turn rest
-  ended_unit (V.Gate label) at turn rest how = absurd how
-  ended_unit (V.Plain instr) at turn rest how =
-      subst (λ (t : Turn). Ended (body (V.Plain instr)) t rest) (sym how.1) (record { may = tt; stop = tt })
-  ended_unit (V.Branch op rs1 rs2 target) at turn rest how = absurd how
-  ended_unit (V.Jump target) at turn rest how = absurd how
-  ended_unit V.Stop at turn rest how = absurd how
-  ended_unit (V.System S.Ecall) at turn rest how = exits (body (V.System S.Ecall)) turn rest tt how.0 how.1
-  ended_unit (V.System S.Ebreak) at turn rest how = breaks (body (V.System S.Ebreak)) at turn rest tt how
-  ended_unit (V.Store op rs1 rs2 imm) at turn rest how = absurd how
-  ended_unit (V.Call target) at turn rest how = absurd how
-  ended_unit (V.Ijump rs1 imm label) at turn rest how = absurd how
-  ended_unit (V.Icall rs1 imm label) at turn rest how = absurd how
-  ended_unit V.Return at turn rest how = absurd how
+  -- what has one word begins where it stands
+  only_word : (place : Place) (at pc : ℕ) → place_size place ≡ 4 → IsWordOf place at pc → at ≡ pc
+  only_word place at pc one word = let below = word.1 in let here = word.2 in omega arith
 
-  ended : (place : Place) (at : ℕ) (turn : Turn) (rest : Type 0) → Ends place at turn → Ended place turn rest
-  ended handler at turn rest how = breaks handler at turn rest tt how
-  ended (opening entry) at turn rest how = absurd how
-  ended closing at turn rest how = exits closing turn rest tt how.0 how.1
-  ended (body unit) at turn rest how = ended_unit unit at turn rest how
+  module _ (at pc : ℕ) (turn : Turn) (rest stopped : Type 0) (left : stopped) where
+    ended_unit : (unit : U.Unit) → IsWordOf (body unit) at pc → UnitEnds unit at turn → Ended (body unit) pc turn rest stopped
+    ended_unit (V.Gate label) word how = absurd how
+    ended_unit (V.Plain instr) word how =
+        subst (λ (t : Turn). Ended (body (V.Plain instr)) pc t rest stopped) (sym how.1)
+        (record { may = (only_word (body (V.Plain instr)) at pc refl word, tt); on = left })
+    ended_unit (V.Branch op rs1 rs2 target) word how = absurd how
+    ended_unit (V.Jump target) word how = absurd how
+    ended_unit V.Stop word how = absurd how
+    ended_unit (V.System S.Ecall) word how = exits (body (V.System S.Ecall)) pc turn rest stopped tt how.0 how.1 left
+    ended_unit (V.System S.Ebreak) word how =
+        breaks (body (V.System S.Ebreak)) at pc turn rest stopped tt (only_word (body (V.System S.Ebreak)) at pc refl word) how left
+    ended_unit (V.Store op rs1 rs2 imm) word how = absurd how
+    ended_unit (V.Call target) word how = absurd how
+    ended_unit (V.Ijump rs1 imm label) word how = absurd how
+    ended_unit (V.Icall rs1 imm label) word how = absurd how
+    ended_unit V.Return word how = absurd how
+
+    ended : (place : Place) → IsWordOf place at pc → Ends place at turn → Ended place pc turn rest stopped
+    ended handler word how = breaks handler at pc turn rest stopped tt (only_word handler at pc refl word) how left
+    ended (opening entry) word how = absurd how
+    ended closing word how = exits closing pc turn rest stopped tt how.0 how.1 left
+    ended (body unit) word how = ended_unit unit word how
 
   ready_of : (place : Place) (at : ℕ) (pending : List ℕ) (h : Hart) → PlaceFacts image graph bytes formed place at → Stage image graph bytes formed place pending → h.pc ≡ at →
       (h.regs 3 ≡ slot SHADOW_START (length pending)) ⊎ (h.pc ≤ OPENING) → IsReady SHADOW_START place pending h
@@ -142,23 +153,30 @@ module _ (image : Contents) (graph : GraphParts) (bytes : AreBytes image) (forme
 
   -- one step from a word of a place, and then the rest of the run
   module _ (rest : List (List ByteChange)) (go_on : (before : Option Walk) (h : Hart) (s : Shared) → Now before h s → Along before h s rest) where
+    abbrev Rest : Walk → After → Type 0
+    Rest w after = Along (Some w) after.hart after.shared rest
+
+    -- the memory that a step leaves has the image's code
+    abbrev Left : After → Type 0
+    Left after = IsCodeOf (loaded image) after.shared.memory
+
     record Stepped (w : Walk) (h : Hart) (s : Shared) : Type 0 where
       begun : Begun version_1 image (code_words image.code) w h s.memory (step version_1 h s).turn
-      on : OnRan (step version_1 h s).turn (Along (Some w) (step version_1 h s).hart (step version_1 h s).shared rest)
+      on : OnRan (step version_1 h s).turn (Rest w (step version_1 h s)) (Left (step version_1 h s))
 
-    ran : (place : Place) (turn : Turn) (X : Type 0) → turn ≡ Ran → X → Ended place turn X
-    ran place turn X e x = subst (λ (t : Turn). Ended place t X) (sym e) (record { may = tt; stop = x })
+    ran : (place : Place) (pc : ℕ) (turn : Turn) (X Y : Type 0) → turn ≡ Ran → X → Ended place pc turn X Y
+    ran place pc turn X Y e x = subst (λ (t : Turn). Ended place pc t X Y) (sym e) (record { may = tt; on = x })
 
-    follows : (w : Walk) (place : Place) (after : After) → place_at version_1 (code_words image.code) w.at ≡ Some place → Stage image graph bytes formed place w.pending →
-        Outcome SHADOW_START (loaded image) (loaded image) place w.at w.pending w.regs after →
-        Ended place after.turn (Along (Some w) after.hart after.shared rest)
-    follows w place after is stage (stays t c low i) =
-        ran place after.turn (Along (Some w) after.hart after.shared rest) t (go_on (Some w) after.hart after.shared (within w place refl is stage low c i))
-    follows w place after is stage (leaves newer t c x3 goes) =
-        ran place after.turn (Along (Some w) after.hart after.shared rest) t
+    follows : (w : Walk) (place : Place) (pc : ℕ) (after : After) → place_at version_1 (code_words image.code) w.at ≡ Some place → Stage image graph bytes formed place w.pending →
+        IsWordOf place w.at pc → Outcome SHADOW_START (loaded image) (loaded image) place w.at w.pending w.regs after →
+        Ended place pc after.turn (Rest w after) (Left after)
+    follows w place pc after is stage word (stays t c low i) =
+        ran place pc after.turn (Rest w after) (Left after) t (go_on (Some w) after.hart after.shared (within w place refl is stage low c i))
+    follows w place pc after is stage word (leaves newer t c x3 goes) =
+        ran place pc after.turn (Rest w after) (Left after) t
         (go_on (Some w) after.hart after.shared
         (arrived w place newer refl is (arrive image graph bytes formed place w after.hart.pc newer is (place_facts image graph bytes formed w.at place is) stage goes) c x3))
-    follows w place after is stage (ends how kept) = ended place w.at after.turn (Along (Some w) after.hart after.shared rest) how
+    follows w place pc after is stage word (ends how kept) = ended w.at pc after.turn (Rest w after) (Left after) kept.code place word how
 
     step_on : (w : Walk) (place : Place) (h : Hart) (s : Shared) → place_at version_1 (code_words image.code) w.at ≡ Some place →
         Stage image graph bytes formed place w.pending → Going w.pending s →
@@ -170,8 +188,8 @@ module _ (image : Contents) (graph : GraphParts) (bytes : AreBytes image) (forme
         let word = place_word SHADOW_START (loaded image) place w.at w.pending w.regs h s.memory may inside in
         let law = unit_law version_1 SHADOW_START (loaded image) (loaded image) place w.at w.pending w.regs h s own_part (loaded_small image bytes) may
         (most_pending place w.pending stage) stand c inside in
-        let e = follows w place (step version_1 h s) is stage law in
-        record { begun = (place, is, word, e.may, c.kept.code); on = e.stop }
+        let e = follows w place h.pc (step version_1 h s) is stage word law in
+        record { begun = (place, is, word, e.may, c.kept.code); on = e.on }
 
   -- before a step where something starts
   record Entered (place : Place) (pending : List ℕ) (h : Hart) (s : Shared) : Type 0 where

@@ -3,12 +3,12 @@ use Rattle.std.proofs.Common.{◌≡◌, ◌≢◌, ◌<◌, ◌≤◌, ℕ, ◌
 use Rattle.std.specs.Prelude.{option_map, option_and_then, is_some}
 use Rattle.std.specs.List.{list_all}
 use Rattle.std.proofs.lemmas.Bool.{and_parts, or_cases, cases_Bool, false_from_ne_true, leb-true, ltb-true, eqb-true, false≢true}
-use Rattle.rv_word.specs.Layout.{version_1}
+use Rattle.rv_word.specs.Layout.{version_1, START, CLOSING, UNITS_START}
 use Rattle.cfi_graph.specs.declared.line.GraphLine.{GraphLine}
 use Rattle.cfi_graph.specs.declared.line.GraphLine.TheVariants.{Class, Site, Edge, Call}
 use Rattle.cfi_graph.specs.Graph.{GraphParts, IsGraph, is_code_address, line_in_range}
 use Rattle.cfi_unit.specs.declared.unit.Unit as U
-use Rattle.cfi_unit.specs.Place.{Place}
+use Rattle.cfi_unit.specs.declared.place.Place.{Place}
 use Rattle.cfi_verify.specs.Split.{unit_starts, is_start, unit_at, place_at, is_handler}
 use Rattle.cfi_verify.specs.Lines.{holds_of, line_at, class_of}
 use Rattle.cfi_verify.specs.Rules.{fails, edge_of, call_of, site_of, is_edge_to, is_call_to, is_site_with, is_unused, is_lone_site, is_astray, is_bad_end}
@@ -56,9 +56,9 @@ unfolding place_at
 place_spot words a place e =
     elim (cases_Bool (is_handler a)) [
       | inl h ↦ handler_spot words a h
-      | inr h ↦ elim (cases_Bool (a == 0x4000000c)) [
+      | inr h ↦ elim (cases_Bool (a == START)) [
         | inl o ↦ spot_at words a 3 (eqb-true a _ o) (omega arith)
-        | inr o ↦ elim (cases_Bool (a == 0x40000038)) [
+        | inr o ↦ elim (cases_Bool (a == CLOSING)) [
           | inl c ↦ spot_at words a 14 (eqb-true a _ c) (omega arith)
           | inr c ↦ body_spot words a place _ (unit_at version_1 words a) refl (rw (h, o, c) at e)
         ]
@@ -104,7 +104,7 @@ fails_spot R.Prologue words graph a n g len e =
     record { low = low; even = even; high = omega arith }
 fails_spot R.Unit words graph a n g len e =
     let parts = and_parts _ _ e in
-    let at : a ≡ 0x40000040 + 4 * length (unit_starts version_1 words) = eqb-true _ _ parts.0 in
+    let at : a ≡ UNITS_START + 4 * length (unit_starts version_1 words) = eqb-true _ _ parts.0 in
     let inside : length (unit_starts version_1 words) < length (drop 16 words) = ltb-true _ _ parts.1 in
     let left : length (drop 16 words) ≡ length words - 16 = length-drop 16 words in
     spot_at words a (16 + length (unit_starts version_1 words)) (omega arith) (omega arith)

@@ -3,12 +3,13 @@ use Rattle.std.proofs.Common.{◌/◌, ◌%◌, inl, inr, length-drop, ◌≡◌
 use Rattle.std.proofs.lemmas.List.{append-nil, drop_more, drop_all}
 use Rattle.std.specs.Prelude.{option_map}
 use Rattle.std.proofs.lemmas.Option.{some_pair_parts, slice_get_within}
-use Rattle.rv_word.specs.Layout.{version_1}
+use Rattle.rv_word.specs.Layout.{version_1, UNITS_START}
+use Rattle.rv_word.proofs.Cases.{cases_Option}
 use Rattle.cfi_unit.specs.declared.unit.Unit as U
 use Rattle.cfi_unit.specs.Recognise.{recognised}
 use Rattle.cfi_unit.specs.UnitWords.{word_count}
 use Rattle.cfi_verify.proofs.Find.{start_parts}
-use Rattle.cfi_verify.proofs.Marks.{cases_Option, marks_none, marks_unit}
+use Rattle.cfi_verify.proofs.Marks.{marks_none, marks_unit}
 use Rattle.cfi_verify.specs.Split.{starts, is_start}
 
 one_on : (ms : List Bool) (m : Bool) (rest more all : List Bool) → m ∷ more ≡ rest → ms ++ rest ≡ all → (ms ++ m ∷ []) ++ more ≡ all
@@ -69,7 +70,7 @@ length-starts zero (w ∷ ws) at =
 
 -- where a start lies
 pub record IsInUnits (words : List ℕ) (a : ℕ) : Type 0 where
-  pub low : 0x40000040 ≤ a
+  pub low : UNITS_START ≤ a
   pub even : a % 4 ≡ 0
   pub high : (a - 0x40000000) / 4 < length words
   pub end : a + 4 ≤ 0x40000000 + 4 * length words
@@ -79,8 +80,8 @@ start_within words a e =
     let start = start_parts words a e in
     let low = start.low in
     let even = start.round in
-    let bound = length-starts 0 (drop 16 words) 0x40000040 in
+    let bound = length-starts 0 (drop 16 words) UNITS_START in
     let words_left : length (drop 16 words) ≡ length words - 16 = length-drop 16 words in
-    let inside : (a - 0x40000040) / 4 < length (starts 0 (drop 16 words) 0x40000040) =
-    slice_get_within (starts 0 (drop 16 words) 0x40000040) ((a - 0x40000040) / 4) true start.mark in
+    let inside : (a - UNITS_START) / 4 < length (starts 0 (drop 16 words) UNITS_START) =
+    slice_get_within (starts 0 (drop 16 words) UNITS_START) ((a - UNITS_START) / 4) true start.mark in
     record { low = low; even = even; high = omega arith; end = omega arith }

@@ -3,30 +3,32 @@ use Rattle.std.proofs.Common.{◌≡◌, ℕ, inl, inr, List, [], ◌∷◌, sub
 use Rattle.std.specs.List.{AllByRecursion}
 use Rattle.rv_word.specs.Image.{Contents}
 use Rattle.rv_word.specs.Layout.{Profile, SHADOW_START, version_1}
+use Rattle.rv_word.specs.Memory.{loaded}
+use Rattle.rv_word.proofs.Cases.{cases_Option}
 use Rattle.rv_code.specs.Run.{ByteChange, disturbed_step, if_ran}
 use Rattle.rv_code.specs.State.{Hart, Shared, start_hart, start_shared}
 use Rattle.rv_code.specs.declared.turn.Turn.{Turn}
 use Rattle.rv_code.specs.declared.turn.Turn.TheVariants.{Ran, Exit, Break, LoadFault, StoreFault, FetchFault, Illegal}
 use Rattle.cfi_graph.specs.declared.line.GraphLine.{GraphLine}
+use Rattle.cfi_unit.specs.Context.{IsCodeOf}
 use Rattle.cfi_verify.specs.Along.{Walk, OnRan, RunsAlong}
 use Rattle.cfi_verify.specs.Laws.{SafeStaysInPlace}
 use Rattle.cfi_verify.specs.Split.{code_words, place_at}
 use Rattle.cfi_verify.specs.Trails.{Begin, newest_of, trail_of, IsInPlace}
-use Rattle.cfi_verify.proofs.Marks.{cases_Option}
 
 module _ (p : Profile) (part : ℕ) (image : Contents) (words : List ℕ) (lines : List GraphLine) where
   abbrev Runs : Option Walk → Hart → Shared → List (List ByteChange) → Type 0
   Runs before h s changes = RunsAlong p part image words lines before h s changes
 
-  if_goes : (turn : Turn) (later : List Begin) (X : Type 0) → OnRan turn X → (X → AllByRecursion (IsInPlace p words) later) →
+  if_goes : (turn : Turn) (later : List Begin) (X Y : Type 0) → OnRan turn X Y → (X → AllByRecursion (IsInPlace p words) later) →
       AllByRecursion (IsInPlace p words) (if_ran turn later)
-  if_goes Ran later X on steps = steps on
-  if_goes (Exit status) later X on steps = tt
-  if_goes (Break pc) later X on steps = tt
-  if_goes (LoadFault pc a) later X on steps = tt
-  if_goes (StoreFault pc a) later X on steps = tt
-  if_goes (FetchFault pc) later X on steps = tt
-  if_goes (Illegal pc) later X on steps = tt
+  if_goes Ran later X Y on steps = steps on
+  if_goes (Exit status) later X Y on steps = tt
+  if_goes (Break pc) later X Y on steps = tt
+  if_goes (LoadFault pc a) later X Y on steps = tt
+  if_goes (StoreFault pc a) later X Y on steps = tt
+  if_goes (FetchFault pc) later X Y on steps = tt
+  if_goes (Illegal pc) later X Y on steps = tt
 
   -- the newest address of the walk so far, if it has begun
   abbrev IsNewest : Option Walk → ℕ → Type 0
@@ -52,7 +54,7 @@ module _ (p : Profile) (part : ℕ) (image : Contents) (words : List ℕ) (lines
       let here = newest_of (place_at p words h.pc) newest h.pc in
       let e : r.0.at ≡ here = newest_is before newest h s cs rest is r in (
         subst (λ (a : ℕ). IsInPlace p words (record { newest = a; pc = h.pc; turn = after.turn })) e (r.2.0, r.2.1, r.2.2, r.2.3),
-        if_goes after.turn (trail_of p words here after.hart after.shared rest) (Runs (Some r.0) after.hart after.shared rest) r.3
+        if_goes after.turn (trail_of p words here after.hart after.shared rest) (Runs (Some r.0) after.hart after.shared rest) (IsCodeOf (loaded image) after.shared.memory) r.3
             (λ on. stays rest (Some r.0) here after.hart after.shared e on),
       )
 

@@ -4,7 +4,7 @@ use Rattle.std.specs.Prelude.{slice_get, is_some, option_map, option_and_then}
 use Rattle.std.proofs.lemmas.Bool.{cases_Bool, le-leb, leb-true, eqb-true, and_parts}
 use Rattle.std.proofs.lemmas.List.{map-append, drop-drop}
 use Rattle.std.proofs.lemmas.Option.{slice_get-map}
-use Rattle.rv_word.specs.Layout.{version_1}
+use Rattle.rv_word.specs.Layout.{version_1, UNITS_START}
 use Rattle.cfi_unit.specs.declared.unit.Unit as U
 use Rattle.cfi_unit.specs.Recognise.{recognised}
 use Rattle.cfi_unit.specs.UnitWords.{word_count}
@@ -85,39 +85,39 @@ unit_on words a e = rw e refl
 no_kind : (words : List ℕ) (a : ℕ) → is_start version_1 words a ≡ false → KindFound words a None
 no_kind words a e = record { value = ap (option_map kind_of) (sym (unit_off words a e)); start = sym e }
 
-start_is : (words : List ℕ) (a : ℕ) (mark : Option Bool) → 0x40000040 ≤ a → a % 4 ≡ 0 → slice_get (unit_starts version_1 words) ((a - 0x40000040) / 4) ≡ mark → is_start version_1 words a ≡ is_marked mark
+start_is : (words : List ℕ) (a : ℕ) (mark : Option Bool) → UNITS_START ≤ a → a % 4 ≡ 0 → slice_get (unit_starts version_1 words) ((a - UNITS_START) / 4) ≡ mark → is_start version_1 words a ≡ is_marked mark
 unfolding is_start
-start_is words a mark low even e = rw (le-leb 0x40000040 a low, even, e) refl
+start_is words a mark low even e = rw (le-leb UNITS_START a low, even, e) refl
 
-kind_read : (words : List ℕ) (kinds : List (Option Kind)) (a : ℕ) (found : Option (Option Kind)) → AreKinds kinds (drop 16 words) 0x40000040 → 0x40000040 ≤ a → a % 4 ≡ 0 →
-    slice_get kinds ((a - 0x40000040) / 4) ≡ found → KindFound words a (option_and_then (λ kind. kind) found)
+kind_read : (words : List ℕ) (kinds : List (Option Kind)) (a : ℕ) (found : Option (Option Kind)) → AreKinds kinds (drop 16 words) UNITS_START → UNITS_START ≤ a → a % 4 ≡ 0 →
+    slice_get kinds ((a - UNITS_START) / 4) ≡ found → KindFound words a (option_and_then (λ kind. kind) found)
 kind_read words kinds a found are low even e =
-    let mark : slice_get (unit_starts version_1 words) ((a - 0x40000040) / 4) ≡ option_map is_some found =
-    ap (λ ms. slice_get ms ((a - 0x40000040) / 4)) (sym are.starts_are) ∙ slice_get-map is_some kinds ((a - 0x40000040) / 4) ∙ ap (option_map is_some) e in
+    let mark : slice_get (unit_starts version_1 words) ((a - UNITS_START) / 4) ≡ option_map is_some found =
+    ap (λ ms. slice_get ms ((a - UNITS_START) / 4)) (sym are.starts_are) ∙ slice_get-map is_some kinds ((a - UNITS_START) / 4) ∙ ap (option_map is_some) e in
     of_mark found e (start_is words a _ low even mark)
   where
-    of_mark : (found : Option (Option Kind)) → slice_get kinds ((a - 0x40000040) / 4) ≡ found → is_start version_1 words a ≡ is_marked (option_map is_some found) → KindFound words a (option_and_then (λ kind. kind) found)
+    of_mark : (found : Option (Option Kind)) → slice_get kinds ((a - UNITS_START) / 4) ≡ found → is_start version_1 words a ≡ is_marked (option_map is_some found) → KindFound words a (option_and_then (λ kind. kind) found)
     of_mark None e s = no_kind words a s
     of_mark (Some None) e s = no_kind words a s
     of_mark (Some (Some kind)) e s =
-        let at : 0x40000040 + 4 * ((a - 0x40000040) / 4) ≡ a = omega arith in
-        let index : 16 + (a - 0x40000040) / 4 ≡ (a - 0x40000000) / 4 = omega arith in
-        let here = are.kinds_are ((a - 0x40000040) / 4) kind e in
+        let at : UNITS_START + 4 * ((a - UNITS_START) / 4) ≡ a = omega arith in
+        let index : 16 + (a - UNITS_START) / 4 ≡ (a - 0x40000000) / 4 = omega arith in
+        let here = are.kinds_are ((a - UNITS_START) / 4) kind e in
         record {
           value =
               sym here
-              ∙ ap (λ b. option_map kind_of (recognised (drop ((a - 0x40000040) / 4) (drop 16 words)) b)) at
-              ∙ ap (λ ws. option_map kind_of (recognised ws a)) (drop-drop ((a - 0x40000040) / 4) 16 words)
+              ∙ ap (λ b. option_map kind_of (recognised (drop ((a - UNITS_START) / 4) (drop 16 words)) b)) at
+              ∙ ap (λ ws. option_map kind_of (recognised ws a)) (drop-drop ((a - UNITS_START) / 4) 16 words)
               ∙ ap (λ i. option_map kind_of (recognised (drop i words) a)) index
               ∙ ap (option_map kind_of) (sym (unit_on words a s));
           start = sym s;
         }
 
-pub kind_found : (words : List ℕ) (kinds : List (Option Kind)) (a : ℕ) → AreKinds kinds (drop 16 words) 0x40000040 → 0x40000040 ≤ a → a % 4 ≡ 0 → KindFound words a (kind_in kinds ((a - 0x40000040) / 4))
+pub kind_found : (words : List ℕ) (kinds : List (Option Kind)) (a : ℕ) → AreKinds kinds (drop 16 words) UNITS_START → UNITS_START ≤ a → a % 4 ≡ 0 → KindFound words a (kind_in kinds ((a - UNITS_START) / 4))
 kind_found words kinds a are low even = kind_read words kinds a _ are low even refl
 
 -- no unit starts before the first or between words
-pub kind_outside : (words : List ℕ) (a : ℕ) → (0x40000040 ≤ a → a % 4 ≡ 0 → ⊥) → KindFound words a None
+pub kind_outside : (words : List ℕ) (a : ℕ) → (UNITS_START ≤ a → a % 4 ≡ 0 → ⊥) → KindFound words a None
 unfolding is_start
 kind_outside words a out =
     elim (cases_Bool (is_start version_1 words a)) [

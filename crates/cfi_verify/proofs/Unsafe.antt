@@ -1,6 +1,6 @@
 -- The small pairs with a fault are not safe: their undisturbed runs leave what stands where the walk is,
 -- or stop where they may not.
-use Rattle.std.proofs.Common.{◌≡◌, ℕ, zero, suc, ◌+◌, ◌≤◌, List, [], ◌∷◌, refl, ap, subst, Some, arith, lit≤, replicate}
+use Rattle.std.proofs.Common.{◌≡◌, ℕ, zero, suc, ◌+◌, ◌≤◌, List, [], ◌∷◌, refl, ap, subst, Some, arith, lit≤}
 use Rattle.std.specs.Prelude.{slice_get}
 use Rattle.std.specs.List.{AllByRecursion}
 use Rattle.rv_word.specs.Image.{Contents}
@@ -8,13 +8,15 @@ use Rattle.rv_word.specs.Layout.{version_1}
 use Rattle.rv_word.specs.Memory.{loaded, placed, write}
 use Rattle.rv_code.specs.Decode.{decoded}
 use Rattle.rv_code.specs.Encode.{code_of}
-use Rattle.rv_code.specs.Run.{ByteChange}
 use Rattle.rv_code.specs.State.{start_hart, start_shared, last_exit}
 use Rattle.rv_code.specs.Step.{step}
 use Rattle.rv_code.specs.declared.turn.Turn.TheVariants.{Ran, Exit, Break, LoadFault, StoreFault, Illegal}
+use Rattle.rv_code.proofs.Runs.{calm}
 use Rattle.cfi_graph.specs.Graph.{GraphParts}
 use Rattle.cfi_unit.specs.declared.unit.Unit.TheVariants as V
-use Rattle.cfi_unit.specs.Place.{Place, handler, opening, closing, body, place_size}
+use Rattle.cfi_unit.specs.declared.place.Place.{Place}
+use Rattle.cfi_unit.specs.declared.place.Place.TheVariants.{Handler as handler, Opening as opening, Closing as closing, Body as body}
+use Rattle.cfi_unit.specs.Place.{place_size}
 use Rattle.cfi_unit.specs.Recognise.{recognised}
 use Rattle.cfi_unit.specs.UnitWords.{words_of}
 use Rattle.cfi_verify.specs.Along.{IsSafe, AreDataChanges, MayEnd}
@@ -23,10 +25,7 @@ use Rattle.cfi_verify.specs.Trails.{Begin, trail_of, IsInPlace}
 use Rattle.cfi_verify.specs.Unsafe.{middle, middle_graph, bare_return, bare_return_graph, bare_store, bare_store_graph, moved_pointer, moved_pointer_graph, exiting_handler, loading_handler, storing_handler, illegal_handler, handler_graph, breaking_closing, breaking_closing_graph, MiddleIsUnsafe, BareReturnIsUnsafe, BareStoreIsUnsafe, MovedPointerIsUnsafe, WrongStopsAreUnsafe}
 use Rattle.cfi_verify.proofs.Trails.{safe_stays}
 
-abbrev calm : ℕ → List (List ByteChange)
-calm n = replicate n []
-
-calm_is_data : (n : ℕ) → AreDataChanges (calm n)
+pub calm_is_data : (n : ℕ) → AreDataChanges (calm n)
 calm_is_data zero = tt
 calm_is_data (suc n) = (tt, calm_is_data n)
 
@@ -59,11 +58,11 @@ refuted image graph n k b place here is past safe =
 -- and so does one that ends as it may not where it stands
 refuted_by_end : (image : Contents) (graph : GraphParts) (n k : ℕ) (b : Begin) (place : Place) →
     slice_get (calm_trail image n) k ≡ Some b →
-    place_at version_1 (code_words image.code) b.newest ≡ Some place → (MayEnd place b.turn → ⊥) → IsSafe image graph → ⊥
+    place_at version_1 (code_words image.code) b.newest ≡ Some place → (MayEnd place b.pc b.turn → ⊥) → IsSafe image graph → ⊥
 refuted_by_end image graph n k b place here is never safe =
     let i = begins_in_place image graph n k b here safe in
     let same : i.0 ≡ place = let other = i.1 in cc in
-    never (subst (λ p. MayEnd p b.turn) same i.3)
+    never (subst (λ p. MayEnd p b.pc b.turn) same i.3)
 
 pub middle_unsafe : MiddleIsUnsafe
 unfolding loaded placed decoded code_of step write last_exit code_words recognised words_of starts is_start unit_at place_at trail_of
@@ -93,7 +92,7 @@ exit_unsafe =
 load_fault_unsafe : IsSafe loading_handler handler_graph → ⊥
 unfolding loaded placed decoded code_of step write last_exit code_words recognised words_of starts is_start unit_at place_at trail_of
 load_fault_unsafe =
-    refuted_by_end loading_handler handler_graph 13 12 (record { newest = 0x40000000; pc = 0x40000000; turn = LoadFault 0x40000000 0x20000000 }) handler refl refl (λ e. e)
+    refuted_by_end loading_handler handler_graph 13 12 (record { newest = 0x40000000; pc = 0x40000000; turn = LoadFault 0x40000000 0x20000000 }) handler refl refl (λ e. e.1)
 
 store_fault_unsafe : IsSafe storing_handler handler_graph → ⊥
 unfolding loaded placed decoded code_of step write last_exit code_words recognised words_of starts is_start unit_at place_at trail_of
@@ -108,7 +107,7 @@ illegal_unsafe =
 break_unsafe : IsSafe breaking_closing breaking_closing_graph → ⊥
 unfolding loaded placed decoded code_of step write last_exit code_words recognised words_of starts is_start unit_at place_at trail_of
 break_unsafe =
-    refuted_by_end breaking_closing breaking_closing_graph 16 15 (record { newest = 0x40000038; pc = 0x4000003c; turn = Break 0x4000003c }) closing refl refl (λ e. e)
+    refuted_by_end breaking_closing breaking_closing_graph 16 15 (record { newest = 0x40000038; pc = 0x4000003c; turn = Break 0x4000003c }) closing refl refl (λ e. e.1)
 
 pub wrong_stops_unsafe : WrongStopsAreUnsafe
 wrong_stops_unsafe = record {

@@ -1,5 +1,5 @@
 -- The words of a list of bytes, one word on and at the end.
-use Rattle.std.proofs.Common.{◌≡◌, ◌≤◌, ◌<◌, ℕ, ◌+◌, ◌-◌, ◌*◌, ◌^◌, ◌%◌, List, [], ◌∷◌, ◌++◌, length, get_or, take, drop, refl, ap, ◌∙◌, sym, arith, append_assoc}
+use Rattle.std.proofs.Common.{◌≡◌, ◌≤◌, ◌<◌, ℕ, ◌+◌, ◌-◌, ◌*◌, ◌^◌, List, [], ◌∷◌, ◌++◌, length, get_or, take, drop, ap, ◌∙◌, sym, arith, append_assoc}
 use Rattle.std.proofs.lemmas.List.{append-nil, take_all}
 use Rattle.cfi_verify.specs.Split.{code_words}
 
@@ -21,15 +21,3 @@ word_none ws (a ∷ []) all h f = sym (append-nil ws) ∙ f
 word_none ws (a ∷ b ∷ []) all h f = sym (append-nil ws) ∙ f
 word_none ws (a ∷ b ∷ c ∷ []) all h f = sym (append-nil ws) ∙ f
 word_none ws (a ∷ b ∷ c ∷ d ∷ rest) all h f = absurd (omega arith)
-
--- a word has four bytes
-pub length-code_words : (bytes : List ℕ) → length bytes % 4 ≡ 0 → 4 * length (code_words bytes) ≡ length bytes
-unfolding code_words
-length-code_words [] m = refl
-length-code_words (a ∷ []) m = absurd (omega arith)
-length-code_words (a ∷ b ∷ []) m = absurd (omega arith)
-length-code_words (a ∷ b ∷ c ∷ []) m = absurd (omega arith)
-length-code_words (a ∷ b ∷ c ∷ d ∷ rest) m =
-    let short : length rest % 4 ≡ 0 = omega arith in
-    let more = length-code_words rest short in
-    omega arith

@@ -15,7 +15,9 @@ use Rattle.cfi_graph.specs.declared.line.GraphLine.{GraphLine}
 use Rattle.cfi_graph.specs.Graph.{GraphParts}
 use Rattle.cfi_unit.specs.declared.unit.Unit.TheVariants as V
 use Rattle.cfi_unit.specs.declared.unit.SystemOp.TheVariants as S
-use Rattle.cfi_unit.specs.Place.{Place, handler, opening, closing, body, IsWordOf}
+use Rattle.cfi_unit.specs.declared.place.Place.{Place}
+use Rattle.cfi_unit.specs.declared.place.Place.TheVariants.{Handler as handler, Opening as opening, Closing as closing, Body as body}
+use Rattle.cfi_unit.specs.Place.{IsWordOf}
 use Rattle.cfi_unit.specs.Prologue.{OPENING}
 use Rattle.cfi_unit.specs.Context.{IsCodeOf}
 use Rattle.cfi_unit.specs.Leads.{destination}
@@ -95,28 +97,30 @@ abbrev pub MayFault : Place → Type 0
 MayFault (body (V.Plain instr)) = Unit {0}
 MayFault other = ⊥
 
-abbrev pub MayEnd : Place → Turn → Type 0
-MayEnd place Ran = Unit {0}
-MayEnd place (Exit status) = MayExit place
-MayEnd place (Break pc) = MayBreak place
-MayEnd place (LoadFault pc a) = MayFault place
-MayEnd place (StoreFault pc a) = ⊥
-MayEnd place (FetchFault pc) = ⊥
-MayEnd place (Illegal pc) = ⊥
+-- the end of an instruction at `pc`, which the stops name that tell where they came
+abbrev pub MayEnd : Place → ℕ → Turn → Type 0
+MayEnd place pc Ran = Unit {0}
+MayEnd place pc (Exit status) = MayExit place
+MayEnd place pc (Break at) = (at ≡ pc) × MayBreak place
+MayEnd place pc (LoadFault at a) = (at ≡ pc) × MayFault place
+MayEnd place pc (StoreFault at a) = ⊥
+MayEnd place pc (FetchFault at) = ⊥
+MayEnd place pc (Illegal at) = ⊥
 
 -- a begun instruction is a word of what stands at the newest address of the walk, it ends as it may
 -- there, and code is the image's
 abbrev pub Begun : Profile → Contents → List ℕ → Walk → Hart → Memory → Turn → Type 0
 Begun p image words w h m turn =
     (place : Place) × (place_at p words w.at ≡ Some place) × IsWordOf place w.at h.pc
-    × MayEnd place turn × IsCodeOf (loaded image) m
+    × MayEnd place h.pc turn × IsCodeOf (loaded image) m
 
--- a fact that is owed only where the instruction ran
-abbrev pub OnRan : Turn → Type 0 → Type 0
-OnRan Ran rest = rest
-OnRan other rest = Unit {0}
+-- what is owed after an instruction that ran, and what after one that stopped
+abbrev pub OnRan : Turn → Type 0 → Type 0 → Type 0
+OnRan Ran going stopped = going
+OnRan other going stopped = stopped
 
--- the run from a state goes along the graph, for each list of changes in turn
+-- the run from a state goes along the graph, for each list of changes in turn; at its end code is the
+-- image's
 abbrev pub RunsAlong : Profile → ℕ → Contents → List ℕ → List GraphLine → Option Walk → Hart → Shared → List (List ByteChange) → Type 0
 RunsAlong p part image words lines before h s [] = IsCodeOf (loaded image) s.memory
 RunsAlong p part image words lines before h s (cs ∷ rest) =
@@ -125,7 +129,9 @@ RunsAlong p part image words lines before h s (cs ∷ rest) =
     (w : Walk)
     × GoesOn p part words lines before (place_at p words h.pc) h now.memory w
     × Begun p image words w h now.memory after.turn
-    × OnRan after.turn (RunsAlong p part image words lines (Some w) after.hart after.shared rest)
+    × OnRan after.turn
+    (RunsAlong p part image words lines (Some w) after.hart after.shared rest)
+    (IsCodeOf (loaded image) after.shared.memory)
 
 abbrev pub AreDataChanges : List (List ByteChange) → Type 0
 AreDataChanges changes = AllByRecursion (AllByRecursion IsDataChange) changes

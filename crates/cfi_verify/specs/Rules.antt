@@ -15,9 +15,10 @@ use Rattle.cfi_graph.specs.declared.line.SiteKind.TheVariants as K
 use Rattle.cfi_graph.specs.Graph.{GraphParts}
 use Rattle.cfi_unit.specs.declared.unit.Unit as U
 use Rattle.cfi_unit.specs.declared.unit.Unit.TheVariants as V
-use Rattle.cfi_unit.specs.Place.{Place, opening, body}
+use Rattle.cfi_unit.specs.declared.place.Place.{Place}
+use Rattle.cfi_unit.specs.declared.place.Place.TheVariants.{Opening as opening, Body as body}
 use Rattle.cfi_unit.specs.Prologue.{prologue_instrs}
-use Rattle.cfi_unit.specs.UnitWords.{word_count}
+use Rattle.cfi_unit.specs.UnitWords.{after_unit}
 use Rattle.cfi_verify.specs.Lines.{holds_of, line_at, class_of, is_among}
 use Rattle.cfi_verify.specs.Split.{code_words, unit_words, unit_starts, is_start, unit_at, place_at}
 use Rattle.cfi_verify.specs.declared.reject.Reject.{Reject}
@@ -153,7 +154,7 @@ fails_astray p words lines a = holds_of (unit_at p words a) (is_astray lines a)
 
 -- End: the unit that ends the code is not a stop, or there is no unit
 abbrev pub is_bad_end : List ℕ → ℕ → U.Unit → Bool
-is_bad_end words a unit = (a + 4 * word_count unit == CODE_START + 4 * length words) && not (is_stop unit)
+is_bad_end words a unit = (after_unit unit a == CODE_START + 4 * length words) && not (is_stop unit)
 
 abbrev pub fails_end : Profile → List ℕ → ℕ → Bool
 fails_end p words a =

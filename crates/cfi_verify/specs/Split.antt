@@ -4,10 +4,11 @@ use Rattle.std.specs.Prelude.{ℕ, zero, suc, ◌+◌, ◌-◌, ◌*◌, ◌/◌
 use Rattle.rv_word.specs.Layout.{CODE_START, Profile}
 use Rattle.rv_code.specs.Decode.{decoded}
 use Rattle.cfi_unit.specs.declared.unit.Unit as U
-use Rattle.cfi_unit.specs.Place.{Place, handler, opening, closing, body}
+use Rattle.cfi_unit.specs.declared.place.Place.{Place}
+use Rattle.cfi_unit.specs.declared.place.Place.TheVariants.{Handler as handler, Opening as opening, Closing as closing, Body as body}
 use Rattle.cfi_unit.specs.Prologue.{OPENING}
 use Rattle.cfi_unit.specs.Recognise.{recognised, target_in}
-use Rattle.cfi_unit.specs.UnitWords.{word_count, BAD_TARGET, BAD_RETURN, DEEP}
+use Rattle.cfi_unit.specs.UnitWords.{after_unit, word_count, BAD_TARGET, BAD_RETURN, DEEP}
 
 -- the words of a list of bytes, the lowest byte first
 unfoldable pub code_words : List ℕ → List ℕ
@@ -51,7 +52,7 @@ unit_at p words a = if is_start p words a then recognised (drop ((a - CODE_START
 -- where the one before ends
 unfoldable pub unit_in : List U.Unit → ℕ → ℕ → Option U.Unit
 unit_in [] at a = None
-unit_in (unit ∷ units) at a = if a == at then Some unit else unit_in units (at + 4 * word_count unit) a
+unit_in (unit ∷ units) at a = if a == at then Some unit else unit_in units (after_unit unit at) a
 
 -- where the opening's call leads
 abbrev pub entry_of : Profile → List ℕ → Option ℕ

@@ -5,7 +5,8 @@ use Rattle.rv_word.specs.Layout.{Profile}
 use Rattle.rv_code.specs.Run.{ByteChange, disturbed_step, if_ran}
 use Rattle.rv_code.specs.State.{Hart, Shared}
 use Rattle.rv_code.specs.declared.turn.Turn.{Turn}
-use Rattle.cfi_unit.specs.Place.{Place, IsWordOf}
+use Rattle.cfi_unit.specs.declared.place.Place.{Place}
+use Rattle.cfi_unit.specs.Place.{IsWordOf}
 use Rattle.cfi_verify.specs.Along.{MayEnd}
 use Rattle.cfi_verify.specs.Split.{place_at}
 
@@ -30,4 +31,4 @@ trail_of p words newest h s (cs ∷ rest) =
 
 abbrev pub IsInPlace : Profile → List ℕ → Begin → Type 0
 IsInPlace p words b =
-    (place : Place) × (place_at p words b.newest ≡ Some place) × IsWordOf place b.newest b.pc × MayEnd place b.turn
+    (place : Place) × (place_at p words b.newest ≡ Some place) × IsWordOf place b.newest b.pc × MayEnd place b.pc b.turn

@@ -1,11 +1,16 @@
 -- Small pairs with one fault each, which are not safe: so safety is not said of everything.
-use Rattle.std.specs.Prelude.{ℕ, ◌/◌, ◌%◌, ◌^◌, List, [], ◌∷◌, ◌++◌, map, take, drop}
+use Rattle.std.specs.Prelude.{ℕ, ◌+◌, ◌/◌, ◌%◌, ◌^◌, List, [], ◌∷◌, ◌++◌, map, take, drop}
+use Rattle.rv_word.specs.Layout.{START, UNITS_START}
 use Rattle.rv_word.specs.Image.{Contents}
 use Rattle.rv_code.specs.Encode.{code_of}
 use Rattle.cfi_graph.specs.Graph.{GraphParts}
 use Rattle.cfi_graph.specs.declared.line.GraphLine.{GraphLine}
-use Rattle.cfi_graph.specs.declared.line.GraphLine.TheVariants.{Edge, Call}
+use Rattle.cfi_graph.specs.declared.line.GraphLine.TheVariants.{Class, Site, Edge, Call}
+use Rattle.cfi_graph.specs.declared.line.SiteKind.TheVariants as K
+use Rattle.cfi_unit.specs.declared.unit.Unit as U
+use Rattle.cfi_unit.specs.declared.unit.Unit.TheVariants as V
 use Rattle.cfi_unit.specs.Prologue.{prologue_instrs}
+use Rattle.cfi_unit.specs.UnitWords.{after_unit, words_of}
 use Rattle.cfi_verify.specs.Along.{IsSafe}
 
 -- the bytes of words, the lowest first
@@ -15,22 +20,25 @@ bytes_of (w ∷ ws) = (w % 2 ^ 8) ∷ (w / 2 ^ 8 % 2 ^ 8) ∷ (w / 2 ^ 16 % 2 ^ 
 
 -- the prologue's words; its call goes to the first unit
 abbrev pub prologue : List ℕ
-prologue = map code_of (prologue_instrs 0x40000040)
+prologue = map code_of (prologue_instrs UNITS_START)
 
 -- the prologue and words after it
 abbrev pub image_with : List ℕ → Contents
 image_with words = record { init = []; code = bytes_of (prologue ++ words) }
 
--- the opening's call, and other lines
+-- classes, the opening's call, and other lines
+abbrev pub graph_of : ℕ → List GraphLine → List GraphLine → GraphParts
+graph_of len classes lines = record { code = len; lines = classes ++ (Call START UNITS_START ∷ lines) }
+
 abbrev pub graph_with : ℕ → List GraphLine → GraphParts
-graph_with len lines = record { code = len; lines = Call 0x4000000c 0x40000040 ∷ lines }
+graph_with len lines = graph_of len [] lines
 
 -- a jump into the middle of a store unit
 abbrev pub middle : Contents
 middle = image_with (0x0080006f ∷ 0x00810f93 ∷ 0x024f9f93 ∷ 0x024fdf93 ∷ 0x001fb023 ∷ 0xfadff06f ∷ [])
 
 abbrev pub middle_graph : GraphParts
-middle_graph = graph_with 0x58 (Edge 0x40000040 0x40000048 ∷ [])
+middle_graph = graph_with 0x58 (Edge UNITS_START 0x40000048 ∷ [])
 
 abbrev pub MiddleIsUnsafe : Type 0
 MiddleIsUnsafe = IsSafe middle middle_graph → ⊥
@@ -106,3 +114,47 @@ pub record WrongStopsAreUnsafe : Type 0 where
   pub store_fault : IsSafe storing_handler handler_graph → ⊥
   pub illegal : IsSafe illegal_handler handler_graph → ⊥
   pub break : IsSafe breaking_closing breaking_closing_graph → ⊥
+
+-- the words of units, each after the one before
+abbrev pub code_from : ℕ → List U.Unit → List ℕ
+code_from at [] = []
+code_from at (unit ∷ units) = words_of unit at ++ code_from (after_unit unit at) units
+
+-- a computed call of x1 + 88, a gate with the label of its class that is no target of it
+abbrev pub astray_call : Contents
+astray_call = image_with (code_from UNITS_START (V.Icall 1 88 1 ∷ V.Gate 1 ∷ V.Gate 1 ∷ V.Stop ∷ []))
+
+abbrev pub astray_call_graph : GraphParts
+astray_call_graph = graph_of 0x9c (Class 1 (0x40000094 ∷ []) ∷ []) (Site UNITS_START K.Call 1 ∷ [])
+
+-- a computed jump to x1 + 60, a target of its class that has no gate, so that the check halts there
+abbrev pub halted_jump : Contents
+halted_jump = image_with (code_from UNITS_START (V.Ijump 1 60 1 ∷ V.Stop ∷ []))
+
+abbrev pub halted_jump_graph : GraphParts
+halted_jump_graph = graph_of 0x78 (Class 1 (0x40000074 ∷ []) ∷ []) (Site UNITS_START K.Jump 1 ∷ [])
+
+-- a computed transfer that goes where the walk does not, or does not go where its registers say
+pub record WrongTransfersAreUnsafe : Type 0 where
+  pub astray : IsSafe astray_call astray_call_graph → ⊥
+  pub halted : IsSafe halted_jump halted_jump_graph → ⊥
+
+-- another word in place of one of the opening's; the code is a jump to a handler
+abbrev pub opening_with : ℕ → ℕ → Contents
+opening_with k word = record { init = []; code = bytes_of (take k prologue ++ word ∷ drop (k + 1) prologue ++ 0xfc1ff06f ∷ []) }
+
+abbrev pub opening_graph : GraphParts
+opening_graph = graph_with 0x44 []
+
+-- x3 is sixteen bytes from the part's start before the call, so that it ends one slot too high
+abbrev pub high_pointer : Contents
+high_pointer = opening_with 5 0x01018193
+
+-- zero is stored in place of the site
+abbrev pub lost_site : Contents
+lost_site = opening_with 11 0x0001b023
+
+-- an opening that leaves the shadow stack otherwise than the walk's pending sites stand
+pub record WrongShadowsAreUnsafe : Type 0 where
+  pub pointer : IsSafe high_pointer opening_graph → ⊥
+  pub slot : IsSafe lost_site opening_graph → ⊥

@@ -5,9 +5,11 @@ use Rattle.cfi_graph.specs.declared.line.GraphLine.{GraphLine}
 use Rattle.cfi_unit.specs.declared.unit.Unit as U
 use Rattle.cfi_unit.specs.declared.unit.Unit.TheVariants as V
 use Rattle.cfi_unit.specs.declared.unit.SystemOp.TheVariants as S
-use Rattle.cfi_unit.specs.Place.{Place, handler, opening, closing, body, place_size}
+use Rattle.cfi_unit.specs.declared.place.Place.{Place}
+use Rattle.cfi_unit.specs.declared.place.Place.TheVariants.{Handler as handler, Opening as opening, Closing as closing, Body as body}
+use Rattle.cfi_unit.specs.Place.{place_size}
 use Rattle.cfi_unit.specs.Shadow.{MOST_PENDING}
-use Rattle.cfi_unit.specs.UnitWords.{BAD_TARGET, BAD_RETURN, DEEP}
+use Rattle.cfi_unit.specs.UnitWords.{BAD_TARGET, BAD_RETURN, DEEP, after_unit}
 use Rattle.cfi_verify.specs.Lines.{holds_of, class_of, is_among}
 
 -- an address is a target of the class with a label
@@ -51,20 +53,24 @@ ReturnGoes [] v after = To BAD_RETURN [] v after
 ReturnGoes (site ∷ pending) v after =
     To site pending v after ⊎ To BAD_RETURN (site ∷ pending) v after
 
+-- the step of the walk from a unit that has `past` after it
+abbrev pub GoesPast : List GraphLine → U.Unit → ℕ → List ℕ → ℕ → List ℕ → Type 0
+GoesPast lines (V.Gate label) past pending v after = To past pending v after
+GoesPast lines (V.Plain instr) past pending v after = To past pending v after
+GoesPast lines (V.Branch op rs1 rs2 target) past pending v after = To past pending v after ⊎ To target pending v after
+GoesPast lines (V.Jump target) past pending v after = To target pending v after
+GoesPast lines V.Stop past pending v after = To BAD_TARGET pending v after
+GoesPast lines (V.System S.Ecall) past pending v after = To past pending v after
+GoesPast lines (V.System S.Ebreak) past pending v after = ⊥
+GoesPast lines (V.Store op rs1 rs2 imm) past pending v after = To past pending v after
+GoesPast lines (V.Call target) past pending v after = CallGoes past target pending v after
+GoesPast lines (V.Ijump rs1 imm label) past pending v after = JumpGoes lines label pending v after
+GoesPast lines (V.Icall rs1 imm label) past pending v after = ComputedCallGoes lines past label pending v after
+GoesPast lines V.Return past pending v after = ReturnGoes pending v after
+
 -- the step of the walk from a unit at an address
 abbrev pub UnitGoes : List GraphLine → U.Unit → ℕ → List ℕ → ℕ → List ℕ → Type 0
-UnitGoes lines (V.Gate label) at pending v after = To (at + 4) pending v after
-UnitGoes lines (V.Plain instr) at pending v after = To (at + 4) pending v after
-UnitGoes lines (V.Branch op rs1 rs2 target) at pending v after = To (at + 8) pending v after ⊎ To target pending v after
-UnitGoes lines (V.Jump target) at pending v after = To target pending v after
-UnitGoes lines V.Stop at pending v after = To BAD_TARGET pending v after
-UnitGoes lines (V.System S.Ecall) at pending v after = To (at + 4) pending v after
-UnitGoes lines (V.System S.Ebreak) at pending v after = ⊥
-UnitGoes lines (V.Store op rs1 rs2 imm) at pending v after = To (at + 16) pending v after
-UnitGoes lines (V.Call target) at pending v after = CallGoes (at + 32) target pending v after
-UnitGoes lines (V.Ijump rs1 imm label) at pending v after = JumpGoes lines label pending v after
-UnitGoes lines (V.Icall rs1 imm label) at pending v after = ComputedCallGoes lines (at + 80) label pending v after
-UnitGoes lines V.Return at pending v after = ReturnGoes pending v after
+UnitGoes lines unit at pending v after = GoesPast lines unit (after_unit unit at) pending v after
 
 -- the step of the walk from what stands at an address: handlers and the closing have none
 abbrev pub Goes : List GraphLine → Place → ℕ → List ℕ → ℕ → List ℕ → Type 0

@@ -5,7 +5,7 @@ use Rattle.rv_word.specs.Layout.{Profile}
 use Rattle.rv_code.specs.Run.{ByteChange, disturbed_step, if_ran}
 use Rattle.rv_code.specs.State.{Hart, Shared}
 use Rattle.cfi_graph.specs.declared.line.GraphLine.{GraphLine}
-use Rattle.cfi_unit.specs.Place.{Place}
+use Rattle.cfi_unit.specs.declared.place.Place.{Place}
 use Rattle.cfi_unit.specs.Prologue.{OPENING}
 use Rattle.cfi_verify.specs.Split.{place_at}
 use Rattle.cfi_verify.specs.Walk.{Goes}

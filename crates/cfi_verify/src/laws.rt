@@ -1,6 +1,6 @@
 //! What holds of accepted pairs and of their runs. Each function states one law; nothing is computed.
 ghost use Rattle.cfi_verify.specs.Laws.{CodeIsSplit, WellFormedIsSafe, SafeStaysInPlace, SafeWalksGraph};
-ghost use Rattle.cfi_verify.specs.Unsafe.{MiddleIsUnsafe, BareReturnIsUnsafe, BareStoreIsUnsafe, MovedPointerIsUnsafe, WrongStopsAreUnsafe};
+ghost use Rattle.cfi_verify.specs.Unsafe.{MiddleIsUnsafe, BareReturnIsUnsafe, BareStoreIsUnsafe, MovedPointerIsUnsafe, WrongStopsAreUnsafe, WrongTransfersAreUnsafe, WrongShadowsAreUnsafe};
 
 /// An image and a graph that meet the rules are safe.
 #[tactic(auto, using(crate::proofs::Safety::well_formed_safe))]
@@ -49,4 +49,15 @@ pub fn moved_pointer_is_unsafe()
 /// safe.
 pub fn wrong_stops_are_unsafe()
     ensures { WrongStopsAreUnsafe }
+{}
+
+/// An image whose computed call goes to a gate that is no target of its class is not safe, nor is one
+/// whose computed jump halts where its destination is a target.
+pub fn wrong_transfers_are_unsafe()
+    ensures { WrongTransfersAreUnsafe }
+{}
+
+/// An image whose opening leaves x3 one slot too high, or another word in the site's slot, is not safe.
+pub fn wrong_shadows_are_unsafe()
+    ensures { WrongShadowsAreUnsafe }
 {}

@@ -2,8 +2,8 @@
 //! and where. An accepted pair is safe, whatever is written into data while it runs.
 #![tactic(auto)]
 
+pub use cfi_unit::Place;
 pub use lines::is_among;
-pub use place::Place;
 pub use reject::{Reject, Rule};
 pub use verifier::{Checked, VerifyEnd, verify};
 

@@ -1,31 +1,19 @@
-ghost use Rattle.std.specs.Prelude.{◌≡◌, option_and_then, option_map};
+ghost use Rattle.std.specs.Prelude.{◌≡◌, option_and_then};
 ghost use Rattle.std.specs.Option.{option_copied};
-ghost use Rattle.cfi_verify.specs.Seen.{gate_label, place_of};
+ghost use Rattle.cfi_verify.specs.Seen.{gate_label};
 ghost use Rattle.cfi_verify.specs.Rules.{call_of, edge_of, site_of};
 ghost use Rattle.cfi_verify.specs.Split.{place_at, unit_at};
 ghost use Rattle.rv_word.specs.Layout.{version_1};
 
 use crate::kind::Kind;
-use crate::scan::{OPENING_START, Scan};
+use crate::scan::Scan;
 use cfi_graph::SiteKind;
-use cfi_unit::Unit;
-
-/// What stands at an address of a hardened image's code.
-#[derive(Clone, Copy)]
-pub enum Place {
-    /// One of the three handlers, which break.
-    Handler,
-    /// The start of every run, with the entry that it calls.
-    Opening(u64),
-    /// The exit after the entry returns.
-    Closing,
-    /// A unit.
-    Body(Unit),
-}
+use cfi_unit::{Place, Unit};
+use rv_word::profile::START;
 
 /// Where a branch or a jump leads.
 fn edge_of(place: Option<&Place>) -> Option<u64>
-    ensures { result ≡ option_and_then edge_of (option_map (λ p. place_of p.now) place.entry) }
+    ensures { result ≡ option_and_then edge_of (option_copied place.entry) }
 {
     match place? {
         Place::Body(Unit::Branch(_, _, _, target)) => Some(*target),
@@ -36,7 +24,7 @@ fn edge_of(place: Option<&Place>) -> Option<u64>
 
 /// Where the opening or a call leads.
 fn call_of(place: Option<&Place>) -> Option<u64>
-    ensures { result ≡ option_and_then call_of (option_map (λ p. place_of p.now) place.entry) }
+    ensures { result ≡ option_and_then call_of (option_copied place.entry) }
 {
     match place? {
         Place::Opening(entry) => Some(*entry),
@@ -47,7 +35,7 @@ fn call_of(place: Option<&Place>) -> Option<u64>
 
 /// The kind and the label of a computed transfer.
 fn site_of(place: Option<&Place>) -> Option<(SiteKind, u32)>
-    ensures { result ≡ option_and_then site_of (option_map (λ p. place_of p.now) place.entry) }
+    ensures { result ≡ option_and_then site_of (option_copied place.entry) }
 {
     match place? {
         Place::Body(Unit::Ijump(_, _, label)) => Some((SiteKind::Jump, label.bits())),
@@ -82,7 +70,7 @@ impl<'a> Scan<'a> {
     pub(crate) fn call_at(&self, address: u64) -> Option<u64>
         ensures { result ≡ option_and_then call_of (place_at version_1 self.now.words address) }
     {
-        if address == OPENING_START || self.has_kind(address, Kind::Call) {
+        if address == START || self.has_kind(address, Kind::Call) {
             call_of(self.place_at(address).as_ref())
         } else {
             None

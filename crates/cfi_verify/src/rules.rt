@@ -37,18 +37,18 @@ ghost use Rattle.cfi_verify.specs.Rules.{
   same_kind,
 };
 ghost use Rattle.cfi_verify.specs.Lines.{class_of, holds_of, is_among};
-ghost use Rattle.cfi_verify.specs.Seen.{place_of};
 ghost use Rattle.cfi_verify.specs.Split.{is_start, place_at, unit_at};
 ghost use Rattle.cfi_verify.specs.declared.reject.Rule.TheVariants as R;
 
 use crate::lines::is_among;
 use crate::reject::Rule;
-use crate::scan::{Scan, UNITS_START};
+use crate::scan::Scan;
 use cfi_graph::{GraphLine, SiteKind};
 use cfi_unit::Unit;
 use rv_code::decode;
 use rv_instr::Instr;
 use rv_word::memory_map::CODE_START;
+use rv_word::profile::UNITS_START;
 
 /// How many bytes the longest unit has, a computed call.
 const LONGEST_UNIT: u64 = 80;

@@ -21,7 +21,6 @@ ghost use Rattle.cfi_graph.specs.Graph.{IsGraph, is_rising};
 ghost use Rattle.cfi_unit.specs.UnitWords.{word_count};
 ghost use Rattle.cfi_verify.specs.Kinds.{has_kind, kind_in, kind_of};
 ghost use Rattle.cfi_verify.specs.Lines.{class_of, line_at};
-ghost use Rattle.cfi_verify.specs.Seen.{place_of};
 ghost use Rattle.cfi_verify.specs.Split.{
   code_words,
   entry_of,
@@ -36,27 +35,18 @@ ghost use Rattle.cfi_verify.specs.Split.{
 use crate::kind::{Kind, same_kind};
 use crate::lines;
 use crate::listed::listed;
-use crate::place::Place;
 use crate::split::split;
 use crate::words::code_words;
 use cfi_graph::{Graph, GraphLine};
 use cfi_unit::handlers::{BAD_RETURN, BAD_TARGET, DEEP};
-use cfi_unit::{Unit, recognise};
+use cfi_unit::{Place, Unit, recognise};
 use rv_code::decode;
 use rv_instr::Instr;
 use rv_word::memory_map::CODE_START;
+use rv_word::profile::{CLOSING, OPENING_CALL, START, UNITS_START};
 use rv_word::{Image, NoMemory, sext};
 use std::alloc::Global;
 use std::marker::Model;
-
-/// Where the prologue's parts and the first unit stand.
-pub(crate) const OPENING_START: u64 = 0x4000_000c;
-
-const OPENING_CALL: u64 = 0x4000_0034;
-
-const CLOSING_START: u64 = 0x4000_0038;
-
-pub(crate) const UNITS_START: u64 = 0x4000_0040;
 
 /// The words of a code, the kind of each unit at its first word, a flag for each word at which a line
 /// of the graph stands, and the graph.
@@ -200,14 +190,14 @@ impl<'a> Scan<'a> {
     /// What stands at an address, if something starts there.
     #[tactic(auto, unfolding(crate::specs::Split::place_at))]
     pub(crate) fn place_at(&self, address: u64) -> Option<Place>
-        ensures { option_map place_of result ≡ place_at version_1 self.now.words address }
+        ensures { result ≡ place_at version_1 self.now.words address }
     {
         if is_handler(address) {
             return Some(Place::Handler);
         }
         match address {
-            OPENING_START => Some(Place::Opening(self.entry()?)),
-            CLOSING_START => Some(Place::Closing),
+            START => Some(Place::Opening(self.entry()?)),
+            CLOSING => Some(Place::Closing),
             _ => Some(Place::Body(self.unit_at(address)?)),
         }
     }

@@ -7,15 +7,13 @@ ghost use Rattle.cfi_verify.specs.Answer.{IsCause};
 ghost use Rattle.cfi_verify.specs.Laws.{AreBytes};
 ghost use Rattle.cfi_verify.specs.Lines.{class_of};
 ghost use Rattle.cfi_verify.specs.Rules.{IsWellFormed};
-ghost use Rattle.cfi_verify.specs.Seen.{place_of};
 ghost use Rattle.cfi_verify.specs.Split.{code_words, place_at, unit_at};
 
 use crate::laws::well_formed_is_safe;
-use crate::place::Place;
 use crate::reject::Reject;
 use crate::scan::Scan;
 use cfi_graph::Graph;
-use cfi_unit::Unit;
+use cfi_unit::{Place, Unit};
 use rv_word::{Image, NoMemory};
 use std::alloc::Global;
 use std::marker::Model;
@@ -96,7 +94,7 @@ impl<'a> Checked<'a> {
 
     /// What stands at an address, the prologue's parts among it; `None` where nothing starts.
     pub fn place_at(&self, address: u64) -> Option<Place>
-        ensures { option_map place_of result ≡ place_at version_1 (code_words self.now.image.code) address }
+        ensures { result ≡ place_at version_1 (code_words self.now.image.code) address }
     {
         self.scan.place_at(address)
     }

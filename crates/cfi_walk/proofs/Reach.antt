@@ -4,16 +4,16 @@ use Rattle.std.specs.Prelude.{◌==◌, ◌||◌, true, option_map}
 use Rattle.std.proofs.lemmas.Bool.{eqb-true, or_cases}
 use Rattle.rv_word.specs.Image.{Contents, IsImageSize}
 use Rattle.rv_word.specs.Layout.{CODE_START, version_1}
+use Rattle.rv_word.proofs.Cases.{cases_Option, chosen}
 use Rattle.cfi_unit.specs.declared.unit.Unit as U
-use Rattle.cfi_unit.specs.Place.{Place, handler, opening, closing, body}
+use Rattle.cfi_unit.specs.declared.place.Place.{Place}
+use Rattle.cfi_unit.specs.declared.place.Place.TheVariants.{Handler as handler, Opening as opening, Closing as closing, Body as body}
 use Rattle.cfi_unit.specs.Prologue.{OPENING}
 use Rattle.cfi_unit.specs.Recognise.{recognised}
 use Rattle.cfi_unit.specs.UnitWords.{BAD_TARGET, BAD_RETURN, DEEP}
 use Rattle.cfi_verify.specs.Split.{code_words, is_start, unit_at, is_handler, entry_of, place_at}
 use Rattle.cfi_verify.proofs.Bytes.{length-code_words}
-use Rattle.cfi_verify.proofs.Places.{chosen}
 use Rattle.cfi_verify.proofs.Starts.{IsInUnits, start_within}
-use Rattle.cfi_verify.proofs.Marks.{cases_Option}
 
 pub unit_within : (words : List ℕ) (a : ℕ) (u : U.Unit) → unit_at version_1 words a ≡ Some u → IsInUnits words a
 unfolding unit_at

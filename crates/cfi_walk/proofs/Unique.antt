@@ -2,18 +2,19 @@
 use Rattle.std.proofs.Common.{◌≡◌, ℕ, ◌+◌, ◌<◌, inl, inr, List, [], ◌∷◌, sym, ap, subst, ◌∙◌, arith}
 use Rattle.rv_word.specs.Image.{Contents}
 use Rattle.rv_word.specs.Layout.{version_1}
+use Rattle.rv_word.proofs.Cases.{cases_Option}
 use Rattle.cfi_graph.specs.declared.line.GraphLine.{GraphLine}
 use Rattle.cfi_graph.specs.Graph.{GraphParts}
 use Rattle.cfi_unit.specs.declared.unit.Unit as U
 use Rattle.cfi_unit.specs.declared.unit.Unit.TheVariants as V
 use Rattle.cfi_unit.specs.declared.unit.SystemOp.TheVariants as S
-use Rattle.cfi_unit.specs.Place.{Place, handler, opening, closing, body}
+use Rattle.cfi_unit.specs.declared.place.Place.{Place}
+use Rattle.cfi_unit.specs.declared.place.Place.TheVariants.{Handler as handler, Opening as opening, Closing as closing, Body as body}
 use Rattle.cfi_unit.specs.UnitWords.{BAD_TARGET, DEEP}
 use Rattle.cfi_verify.specs.Lines.{class_of}
 use Rattle.cfi_verify.specs.Rules.{IsWellFormed}
 use Rattle.cfi_verify.specs.Split.{code_words}
 use Rattle.cfi_verify.specs.Walk.{InClass, CallGoes, JumpGoes, ComputedCallGoes, ReturnGoes, UnitGoes, Goes}
-use Rattle.cfi_verify.proofs.Marks.{cases_Option}
 use Rattle.cfi_verify.proofs.RuleFacts.{gate_stands}
 use Rattle.cfi_walk.specs.Laws.{AreSites, StepIsUnique}
 use Rattle.cfi_walk.specs.State.{WalkState}

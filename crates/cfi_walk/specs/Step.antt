@@ -2,7 +2,7 @@
 use Rattle.std.specs.Prelude.{◌≡◌, ℕ, List, Some}
 use Rattle.rv_word.specs.Layout.{Profile}
 use Rattle.cfi_graph.specs.declared.line.GraphLine.{GraphLine}
-use Rattle.cfi_unit.specs.Place.{Place}
+use Rattle.cfi_unit.specs.declared.place.Place.{Place}
 use Rattle.cfi_verify.specs.Split.{place_at}
 use Rattle.cfi_verify.specs.Walk.{Goes}
 use Rattle.cfi_walk.specs.State.{WalkState}

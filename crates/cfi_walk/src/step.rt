@@ -1,21 +1,20 @@
 ghost use Rattle.std.specs.Prelude.{◌<◌, ◌^◌, ◌⊎◌, ℕ, List};
-ghost use Rattle.cfi_verify.specs.Seen.{place_of};
 ghost use Rattle.cfi_verify.specs.Walk.{
   CallGoes,
   ComputedCallGoes,
   Goes,
+  GoesPast,
   JumpGoes,
   ReturnGoes,
   To,
-  UnitGoes,
 };
 ghost use Rattle.cfi_walk.specs.Moves.{IsAnswer};
 
 use crate::class::{has_target, is_in_class};
 use crate::walk::{Move, Walk};
 use cfi_unit::handlers::{self, BAD_RETURN, BAD_TARGET, DEEP};
-use cfi_unit::{SystemOp, Unit};
-use cfi_verify::{Checked, Place};
+use cfi_unit::{Place, SystemOp, Unit};
+use cfi_verify::Checked;
 
 /// How many sites may be pending.
 const MOST_PENDING: usize = handlers::MOST_PENDING as usize;
@@ -91,23 +90,21 @@ fn returned(walk: &Walk, pc: u64) -> Option<Move>
     to(walk, BAD_RETURN, pc)
 }
 
-fn from_unit(checked: &Checked<'_>, walk: &Walk, unit: &Unit, pc: u64) -> Option<Move>
-    requires { walk.now.at < 2 ^ 32 }
-    ensures { IsAnswer (λ newer. UnitGoes checked.now.graph.lines unit.now walk.now.at walk.now.pending pc newer) walk.now.pending result }
+/// The step from a unit, with the address after it.
+fn from_unit(checked: &Checked<'_>, walk: &Walk, unit: &Unit, past: u64, pc: u64) -> Option<Move>
+    ensures { IsAnswer (λ newer. GoesPast checked.now.graph.lines unit.now past walk.now.pending pc newer) walk.now.pending result }
 {
-    let at = walk.address();
     match unit {
-        Unit::Gate(_) => to(walk, at + 4, pc),
-        Unit::Plain(_) => to(walk, at + 4, pc),
-        Unit::Branch(_, _, _, target) => to_either(walk, at + 8, *target, pc),
+        Unit::Gate(_) | Unit::Plain(_) | Unit::System(SystemOp::Ecall) | Unit::Store(..) => {
+            to(walk, past, pc)
+        }
+        Unit::Branch(_, _, _, target) => to_either(walk, past, *target, pc),
         Unit::Jump(target) => to(walk, *target, pc),
         Unit::Stop => to(walk, BAD_TARGET, pc),
-        Unit::System(SystemOp::Ecall) => to(walk, at + 4, pc),
         Unit::System(SystemOp::Ebreak) => None,
-        Unit::Store(..) => to(walk, at + 16, pc),
-        Unit::Call(target) => call(walk, at + 32, *target, pc),
+        Unit::Call(target) => call(walk, past, *target, pc),
         Unit::Ijump(_, _, label) => computed_jump(checked, walk, label.bits(), pc),
-        Unit::Icall(_, _, label) => computed_call(checked, walk, at + 80, label.bits(), pc),
+        Unit::Icall(_, _, label) => computed_call(checked, walk, past, label.bits(), pc),
         Unit::Return => returned(walk, pc),
     }
 }
@@ -116,12 +113,13 @@ fn from_unit(checked: &Checked<'_>, walk: &Walk, unit: &Unit, pc: u64) -> Option
 /// the place at which the walk stands.
 pub(crate) fn step(checked: &Checked<'_>, walk: &Walk, place: &Place, pc: u64) -> Option<Move>
     requires { walk.now.at < 2 ^ 32 }
-    ensures { IsAnswer (λ newer. Goes checked.now.graph.lines (place_of place.now) walk.now.at walk.now.pending pc newer) walk.now.pending result }
+    ensures { IsAnswer (λ newer. Goes checked.now.graph.lines place.now walk.now.at walk.now.pending pc newer) walk.now.pending result }
 {
+    let past = walk.address() + u64::from(place.size());
     match place {
         Place::Handler => None,
-        Place::Opening(entry) => call(walk, walk.address() + 44, *entry, pc),
         Place::Closing => None,
-        Place::Body(unit) => from_unit(checked, walk, unit, pc),
+        Place::Opening(entry) => call(walk, past, *entry, pc),
+        Place::Body(unit) => from_unit(checked, walk, unit, past, pc),
     }
 }

@@ -4,6 +4,7 @@ ghost use Rattle.cfi_walk.specs.Moves.{HasRoom, after};
 ghost use Rattle.cfi_walk.specs.State.{walk_start};
 
 use rv_word::NoMemory;
+use rv_word::profile::START;
 use std::alloc::Global;
 use std::marker::Model;
 
@@ -45,7 +46,7 @@ impl Walk {
         ensures { IfOk result (λ walk. walk ≡ walk_start) }
     {
         Ok(Walk {
-            address: 0x4000_000c,
+            address: START,
             pending: Vec::with_capacity(alloc, ROOM)?,
         })
     }

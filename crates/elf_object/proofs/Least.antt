@@ -1,7 +1,7 @@
 -- Where no number is found, and which number is the first; the least of the numbers below a bound.
 use Rattle.std.proofs.Common.{◌≡◌, ◌==◌, ℕ, zero, suc, ◌+◌, ◌<◌, ◌≤◌, Bool, true, false, not, is_some, Option, Some, None, inl, inr, refl, sym, ap, ◌∙◌, arith, add-one}
 use Rattle.std.proofs.lemmas.Bool.{cases_lt, cases_Bool, eq-eqb, ne_eqb}
-use Rattle.elf_tables.proofs.Endings.{cases_Option}
+use Rattle.rv_word.proofs.Cases.{cases_Option}
 use Rattle.elf_tables.proofs.Bounds.{first_bound, first_found}
 use Rattle.elf_tables.specs.First.{first_below}
 use Rattle.elf_object.specs.Least.{least_below, lesser}

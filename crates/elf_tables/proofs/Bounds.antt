@@ -2,7 +2,7 @@
 use Rattle.std.proofs.Common.{◌≡◌, ℕ, zero, suc, ◌+◌, ◌<◌, Bool, true, false, if◌then◌else◌, Some, None, inl, inr, refl, ◌∙◌, arith, add-one}
 use Rattle.std.specs.Option.{option_or}
 use Rattle.std.proofs.lemmas.Bool.{cases_lt, cases_Bool}
-use Rattle.elf_tables.proofs.Endings.{cases_Option}
+use Rattle.rv_word.proofs.Cases.{cases_Option}
 use Rattle.elf_tables.specs.First.{first_below}
 
 pub first_begins : (test : ℕ → Bool) → first_below test 0 ≡ None

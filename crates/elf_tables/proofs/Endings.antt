@@ -8,6 +8,7 @@ use Rattle.std.proofs.lemmas.List.{length-drop, take_at, get_or-drop, get_or_app
 use Rattle.std.proofs.lemmas.List.Quantifiers.{position-Some}
 use Rattle.std.proofs.lemmas.List.Recursion.{and_at}
 use Rattle.std.proofs.lemmas.Slice.Eq.{starts_is, bytes_eq-Decides}
+use Rattle.rv_word.proofs.Cases.{cases_Option}
 use Rattle.elf_bytes.specs.Fields.{string_of}
 use Rattle.elf_bytes.proofs.Strings.{ended_at, none_anywhere}
 use Rattle.elf_tables.specs.Kept.{is_named}
@@ -15,10 +16,6 @@ use Rattle.elf_tables.specs.Names.{IsLastEnd}
 
 abbrev is_nul : ℕ → Bool
 is_nul b = b == 0
-
-pub cases_Option : {A : Type 0} (o : Option A) → (o ≡ None) ⊎ ((x : A) × (o ≡ Some x))
-cases_Option None = inl refl
-cases_Option (Some x) = inr (x, refl)
 
 -- bytes with a NUL begin with a string, and others do not
 string_there : (xs : List ℕ) → Contains xs 0 → is_some (string_of xs) ≡ true

@@ -4,10 +4,7 @@ use Rattle.std.proofs.lemmas.Bool.Decides.{nat_tests}
 use Rattle.std.proofs.Math.Nat.{one-le-pow, pow-suc, pow-succ', div-div-eq-div-mul, mod-eq_of_lt}
 use Rattle.std.proofs.Math.Arith.{mod-mul}
 use Rattle.rv_word.specs.Memory.{Memory, read, write, placed}
-
--- two memories are the same from `low` on and below `high`
-abbrev pub SameOn : ℕ → ℕ → Memory → Memory → Type 0
-SameOn low high m m' = (k : ℕ) → low ≤ k → k < high → m' k ≡ m k
+use Rattle.rv_word.specs.Same.{SameOn}
 
 pub write_outside : (n : ℕ) (m : Memory) (a v k : ℕ) → (k < a) ⊎ (a + n ≤ k) → write n m a v k ≡ m k
 unfolding write

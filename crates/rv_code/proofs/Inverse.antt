@@ -1,9 +1,10 @@
 -- A word that is decoded is the word of its instruction, whose fields are in range.
 use Rattle.std.proofs.Common.{◌≡◌, ℕ, ◌*◌, ◌/◌, ◌%◌, ◌^◌, ◌<◌, refl, ap, sym, subst, ◌∙◌, arith, inl, inr, ◌⊎◌}
 use Rattle.std.proofs.lemmas.Bool.{eqb-true, and_parts}
-use Rattle.std.proofs.lemmas.Option.{none-some, same_Some}
-use Rattle.std.specs.Prelude.{Bool, true, false, ◌&&◌, List, [], ◌∷◌, Option, Some, None, option_map, IfSome, ◌==◌, if◌then◌else◌}
+use Rattle.std.proofs.lemmas.Option.{cond_some, none-some, same_Some}
+use Rattle.std.specs.Prelude.{Bool, true, ◌&&◌, List, [], ◌∷◌, Option, Some, None, option_map, IfSome, ◌==◌}
 use Rattle.std.specs.Option.{option_or}
+use Rattle.rv_word.proofs.Cases.{chosen, mapped}
 use Rattle.rv_instr.specs.InRange.{IsInstr}
 use Rattle.rv_instr.specs.declared.instr.Instr.{Instr}
 use Rattle.rv_instr.specs.declared.instr.Instr.TheVariants.{Upper, Jal, Branch, Load, Store, Immediate, Shift, Register, Ecall}
@@ -19,19 +20,6 @@ pub record IsWordOf (w : ℕ) (i : Instr) : Type 0 where
   pub in_range : IsInstr i
 
 -- what an answer that is there says of how it was made
-chosen : {A : Type 0} (b : Bool) (x y : Option A) (i : A) → (if b then x else y) ≡ Some i →
-    ((b ≡ true) × (x ≡ Some i)) ⊎ (y ≡ Some i)
-chosen true x y i e = inl (refl, e)
-chosen false x y i e = inr e
-
-guarded : {A : Type 0} (b : Bool) (x i : A) → (if b then Some x else None) ≡ Some i → (b ≡ true) × (x ≡ i)
-guarded true x i e = (refl, same_Some x i e)
-guarded false x i e = absurd (none-some i e)
-
-mapped : {A B : Type 0} (f : A → B) (o : Option A) (i : B) → option_map f o ≡ Some i → (x : A) × (o ≡ Some x) × (f x ≡ i)
-mapped f None i e = absurd (none-some i e)
-mapped f (Some x) i e = (x, refl, same_Some (f x) i e)
-
 either : {A : Type 0} (x y : Option A) (i : A) → option_or x y ≡ Some i → (x ≡ Some i) ⊎ (y ≡ Some i)
 either None y i e = inr e
 either (Some x) y i e = inl e
@@ -46,10 +34,10 @@ row_code : {A : Type 0} (code : A → ℕ) (number : ℕ → ℕ) (rows : List (
 row_code code number [] n op a e = absurd (none-some op e)
 row_code code number (r ∷ rows) n op a e =
     let p = and_parts (code r.1 == number r.0) (agree code number rows) a in
-    elim (chosen (n == r.0) (Some r.1) (row rows n) op e) [
+    elim (chosen (n == r.0) (Some r.1) (row rows n) (Some op) e) [
       | inl h ↦
           ap code (sym (same_Some r.1 op h.1)) ∙ eqb-true _ _ p.0 ∙ ap number (sym (eqb-true _ _ h.0))
-      | inr h ↦ row_code code number rows n op p.1 h
+      | inr h ↦ row_code code number rows n op p.1 h.1
     ]
 
 -- one lemma for each row of opcodes
@@ -71,7 +59,7 @@ jal_law w i small o e =
 jump_law : (w : ℕ) (i : Instr) → w < 2 ^ 32 → w % 2 ^ 7 ≡ 0x67 → jump_of (fields_of w) ≡ Some i → IsWordOf w i
 unfolding code_of
 jump_law w i small o e =
-    let g = guarded _ _ i e in
+    let g = cond_some _ _ i e in
     let z : w / 2 ^ 12 % 2 ^ 3 ≡ 0 = eqb-true _ _ g.0 in
     subst (IsWordOf w) g.1 (record { code = omega arith; in_range = (omega arith, omega arith, omega arith) })
 
@@ -123,12 +111,12 @@ word_immediate_law : (w : ℕ) (i : Instr) → w < 2 ^ 32 → w % 2 ^ 7 ≡ 0x1b
 unfolding code_of
 word_immediate_law w i small o e =
     let f = fields_of w in
-    elim (chosen (f.funct3 == 0) (Some (Immediate Addiw f.rd f.rs1 (imm_i f))) _ i e) [
+    elim (chosen (f.funct3 == 0) (Some (Immediate Addiw f.rd f.rs1 (imm_i f))) _ (Some i) e) [
       | inl a ↦
           let z : w / 2 ^ 12 % 2 ^ 3 ≡ 0 = eqb-true _ _ a.0 in
           subst (IsWordOf w) (same_Some _ i a.1) (record { code = omega arith; in_range = (omega arith, omega arith, omega arith) })
       | inr a ↦
-          let m = mapped _ _ i a in
+          let m = mapped _ _ i a.1 in
           let c : word_shift_code m.0 ≡ fixed 0x1b ((with_funct3 (w / 2 ^ 25) (w / 2 ^ 12 % 2 ^ 3)) % 2 ^ 3) ((with_funct3 (w / 2 ^ 25) (w / 2 ^ 12 % 2 ^ 3)) / 2 ^ 3) = row_code word_shift_code (λ n. fixed 0x1b (n % 2 ^ 3) (n / 2 ^ 3)) word_shifts (with_funct3 (w / 2 ^ 25) (w / 2 ^ 12 % 2 ^ 3)) m.0 refl m.1 in
           subst (IsWordOf w) m.2 (record { code = omega (arith, c); in_range = (omega arith, omega arith, omega arith) })
     ]
@@ -154,57 +142,57 @@ word_register_law w i small o e =
 fence_law : (w : ℕ) (i : Instr) → w < 2 ^ 32 → w % 2 ^ 7 ≡ 0x0f → fence_of (fields_of w) w ≡ Some i → IsWordOf w i
 unfolding code_of
 fence_law w i small o e =
-    let g = guarded _ _ i e in
+    let g = cond_some _ _ i e in
     subst (IsWordOf w) g.1 (record { code = refl; in_range = record { opcode = o; funct3 = eqb-true _ _ g.0; bits = small } })
 
 system_law : (w : ℕ) (i : Instr) → system_of w ≡ Some i → IsWordOf w i
 unfolding code_of
 system_law w i e =
-    elim (chosen (w == 0x00000073) (Some Ecall) _ i e) [
+    elim (chosen (w == 0x00000073) (Some Ecall) _ (Some i) e) [
       | inl a ↦ subst (IsWordOf w) (same_Some _ i a.1) (record { code = sym (eqb-true _ _ a.0); in_range = tt })
-      | inr a ↦ let g = guarded _ _ i a in subst (IsWordOf w) g.1 (record { code = sym (eqb-true _ _ g.0); in_range = tt })
+      | inr a ↦ let g = cond_some _ _ i a.1 in subst (IsWordOf w) g.1 (record { code = sym (eqb-true _ _ g.0); in_range = tt })
     ]
 
 by_law : (w : ℕ) (i : Instr) → w < 2 ^ 32 → decoded_by (fields_of w) w ≡ Some i → IsWordOf w i
 by_law w i small e =
     let f = fields_of w in
-    elim (chosen (f.opcode == 0x37) (Some (Upper Lui f.rd (imm_u f))) _ i e) [
+    elim (chosen (f.opcode == 0x37) (Some (Upper Lui f.rd (imm_u f))) _ (Some i) e) [
       | inl a ↦ upper_law w i small (eqb-true _ _ a.0) a.1
       | inr e ↦
-          elim (chosen (f.opcode == 0x17) (Some (Upper Auipc f.rd (imm_u f))) _ i e) [
+          elim (chosen (f.opcode == 0x17) (Some (Upper Auipc f.rd (imm_u f))) _ (Some i) e.1) [
             | inl a ↦ upper_pc_law w i small (eqb-true _ _ a.0) a.1
             | inr e ↦
-                elim (chosen (f.opcode == 0x6f) (Some (Jal f.rd (imm_j f))) _ i e) [
+                elim (chosen (f.opcode == 0x6f) (Some (Jal f.rd (imm_j f))) _ (Some i) e.1) [
                   | inl a ↦ jal_law w i small (eqb-true _ _ a.0) a.1
                   | inr e ↦
-                      elim (chosen (f.opcode == 0x67) (jump_of f) _ i e) [
+                      elim (chosen (f.opcode == 0x67) (jump_of f) _ (Some i) e.1) [
                         | inl a ↦ jump_law w i small (eqb-true _ _ a.0) a.1
                         | inr e ↦
-                            elim (chosen (f.opcode == 0x63) (option_map (λ op. Branch op f.rs1 f.rs2 (imm_b f)) (row branches f.funct3)) _ i e) [
+                            elim (chosen (f.opcode == 0x63) (option_map (λ op. Branch op f.rs1 f.rs2 (imm_b f)) (row branches f.funct3)) _ (Some i) e.1) [
                               | inl a ↦ branch_law w i small (eqb-true _ _ a.0) a.1
                               | inr e ↦
-                                  elim (chosen (f.opcode == 0x03) (option_map (λ op. Load op f.rd f.rs1 (imm_i f)) (row loads f.funct3)) _ i e) [
+                                  elim (chosen (f.opcode == 0x03) (option_map (λ op. Load op f.rd f.rs1 (imm_i f)) (row loads f.funct3)) _ (Some i) e.1) [
                                     | inl a ↦ load_law w i small (eqb-true _ _ a.0) a.1
                                     | inr e ↦
-                                        elim (chosen (f.opcode == 0x23) (option_map (λ op. Store op f.rs1 f.rs2 (imm_s f)) (row stores f.funct3)) _ i e) [
+                                        elim (chosen (f.opcode == 0x23) (option_map (λ op. Store op f.rs1 f.rs2 (imm_s f)) (row stores f.funct3)) _ (Some i) e.1) [
                                           | inl a ↦ store_law w i small (eqb-true _ _ a.0) a.1
                                           | inr e ↦
-                                              elim (chosen (f.opcode == 0x13) (immediate_of f) _ i e) [
+                                              elim (chosen (f.opcode == 0x13) (immediate_of f) _ (Some i) e.1) [
                                                 | inl a ↦ immediate_law w i small (eqb-true _ _ a.0) a.1
                                                 | inr e ↦
-                                                    elim (chosen (f.opcode == 0x1b) (word_immediate_of f) _ i e) [
+                                                    elim (chosen (f.opcode == 0x1b) (word_immediate_of f) _ (Some i) e.1) [
                                                       | inl a ↦ word_immediate_law w i small (eqb-true _ _ a.0) a.1
                                                       | inr e ↦
-                                                          elim (chosen (f.opcode == 0x33) (option_map (λ op. Register op f.rd f.rs1 f.rs2) (row registers (with_funct3 f.funct7 f.funct3))) _ i e) [
+                                                          elim (chosen (f.opcode == 0x33) (option_map (λ op. Register op f.rd f.rs1 f.rs2) (row registers (with_funct3 f.funct7 f.funct3))) _ (Some i) e.1) [
                                                             | inl a ↦ register_law w i small (eqb-true _ _ a.0) a.1
                                                             | inr e ↦
-                                                                elim (chosen (f.opcode == 0x3b) (option_map (λ op. Register op f.rd f.rs1 f.rs2) (row word_registers (with_funct3 f.funct7 f.funct3))) _ i e) [
+                                                                elim (chosen (f.opcode == 0x3b) (option_map (λ op. Register op f.rd f.rs1 f.rs2) (row word_registers (with_funct3 f.funct7 f.funct3))) _ (Some i) e.1) [
                                                                   | inl a ↦ word_register_law w i small (eqb-true _ _ a.0) a.1
                                                                   | inr e ↦
-                                                                      elim (chosen (f.opcode == 0x0f) (fence_of f w) _ i e) [
+                                                                      elim (chosen (f.opcode == 0x0f) (fence_of f w) _ (Some i) e.1) [
                                                                         | inl a ↦ fence_law w i small (eqb-true _ _ a.0) a.1
                                                                         | inr e ↦
-                                                                            elim (chosen (f.opcode == 0x73) (system_of w) None i e) [ inl a ↦ system_law w i a.1 | inr n ↦ absurd (none-some i n) ]
+                                                                            elim (chosen (f.opcode == 0x73) (system_of w) None (Some i) e.1) [ inl a ↦ system_law w i a.1 | inr n ↦ absurd (none-some i n.1) ]
                                                                       ]
                                                                 ]
                                                           ]

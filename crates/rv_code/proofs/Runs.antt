@@ -19,7 +19,7 @@ abbrev image_of : List ℕ → Contents
 image_of code = record { init = []; code = prologue_bytes ++ code }
 
 -- nothing changes before `n` steps
-abbrev calm : ℕ → List (List ByteChange)
+abbrev pub calm : ℕ → List (List ByteChange)
 calm n = replicate n []
 
 -- how a run of so many steps ended

@@ -2,3 +2,4 @@ pub mod Bits
 pub mod Layout
 pub mod Memory
 pub mod Image
+pub mod Same

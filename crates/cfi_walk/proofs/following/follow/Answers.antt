@@ -1,19 +1,17 @@
-use Rattle.std.proofs.Common.{◌≡◌, Some, ap, refl}
-use Rattle.std.specs.Prelude.{option_map}
+use Rattle.std.proofs.Common.{◌≡◌, Some, refl}
 use Rattle.rv_word.specs.Layout.{version_1}
-use Rattle.cfi_verify.specs.Seen.{place_of}
 use Rattle.cfi_verify.specs.Split.{code_words, place_at}
 use Rattle.cfi_walk.proofs.Reach.{code_low}
 use Rattle.cfi_walk.proofs.following.follow.Goals as goal
 
 pub step-requires : goal.step-requires
 step-requires c =
-    let stands : place_at version_1 (code_words c.args.checked.now.image.code) c.args.walk.now.at ≡ Some (place_of c.in-Some.place) =
-    cc (c.place_at.ensures, ap (option_map place_of) c.in-Some.is, c.address.ensures) in
+    let stands : place_at version_1 (code_words c.args.checked.now.image.code) c.args.walk.now.at ≡ Some c.in-Some.place =
+    cc (c.place_at.ensures, c.in-Some.is, c.address.ensures) in
     code_low c.args.checked.now.image c.args.walk.now.at _ (rw c.image.ensures.value at c.code.ensures.size) stands
 
 pub returns-in-Some-step-clause-yes : goal.returns-in-Some-step-clause-yes
 returns-in-Some-step-clause-yes c =
-    let stands : place_at version_1 (code_words c.args.checked.now.image.code) c.args.walk.now.at ≡ Some (place_of c.in-Some.place) =
-    cc (c.place_at.ensures, ap (option_map place_of) c.in-Some.is, c.address.ensures) in
-    λ _. rw c.go.ensures (place_of c.in-Some.place, stands, refl, c.in-Some-step.ensures.1)
+    let stands : place_at version_1 (code_words c.args.checked.now.image.code) c.args.walk.now.at ≡ Some c.in-Some.place =
+    cc (c.place_at.ensures, c.in-Some.is, c.address.ensures) in
+    λ _. rw c.go.ensures (c.in-Some.place, stands, refl, c.in-Some-step.ensures.1)

@@ -1,14 +1,13 @@
 use Rattle.cfi_walk.proofs.step.from_unit.Goals as goal
 
 pub returns-in-Branch : goal.returns-in-Branch
-returns-in-Branch c = rw c.in-Branch.is (rw c.address-at.ensures at c.to_either.ensures)
+returns-in-Branch c = rw c.in-Branch.is c.to_either.ensures
 
 pub returns-in-Call : goal.returns-in-Call
-returns-in-Call c = rw c.in-Call.is (rw c.address-at.ensures at c.call.ensures)
+returns-in-Call c = rw c.in-Call.is c.call.ensures
 
 pub returns-in-Ijump : goal.returns-in-Ijump
 returns-in-Ijump c = rw c.in-Ijump.is (rw c.bits.ensures.value at c.computed_jump.ensures)
 
 pub returns-in-Icall : goal.returns-in-Icall
-returns-in-Icall c =
-    rw c.in-Icall.is (rw (c.address-at.ensures, c.bits-in-Icall.ensures.value) at c.computed_call.ensures)
+returns-in-Icall c = rw c.in-Icall.is (rw c.bits-in-Icall.ensures.value at c.computed_call.ensures)

@@ -1,6 +1,6 @@
 use Rattle.std.proofs.Common.{◌-◌, ◌/◌, ◌∙◌, ap, arith}
 use Rattle.std.specs.Prelude.{is_some, option_map}
-use Rattle.rv_word.specs.Layout.{version_1}
+use Rattle.rv_word.specs.Layout.{version_1, UNITS_START}
 use Rattle.cfi_verify.specs.Kinds.{kind_in, kind_of}
 use Rattle.cfi_verify.specs.Scan.{ScanParts}
 use Rattle.cfi_verify.specs.Split.{is_start, unit_at}
@@ -10,13 +10,13 @@ use Rattle.cfi_verify.proofs.scan.Scan.kind_at.Goals.{else-address-ge-UNITS_STAR
 
 pub returns-then-address-eq0-clause-kind : goal.returns-then-address-eq0-clause-kind
 returns-then-address-eq0-clause-kind c =
-    c.kind_in.ensures ∙ ap (λ kinds. kind_in kinds ((c.args.address - 0x40000040) / 4)) c.deref.ensures.value
+    c.kind_in.ensures ∙ ap (λ kinds. kind_in kinds ((c.args.address - UNITS_START) / 4)) c.deref.ensures.value
     ∙ (kind_found _ _ c.args.address c.self.invariant.kinds_are c.if-address-ge-UNITS_START.true c.if-address-eq0.true).value
     ∙ ap (λ (s : ScanParts). option_map kind_of (unit_at version_1 s.words c.args.address)) c.self.view_is
 
 pub returns-then-address-eq0-clause-start : goal.returns-then-address-eq0-clause-start
 returns-then-address-eq0-clause-start c =
-    ap is_some (c.kind_in.ensures ∙ ap (λ kinds. kind_in kinds ((c.args.address - 0x40000040) / 4)) c.deref.ensures.value)
+    ap is_some (c.kind_in.ensures ∙ ap (λ kinds. kind_in kinds ((c.args.address - UNITS_START) / 4)) c.deref.ensures.value)
     ∙ (kind_found _ _ c.args.address c.self.invariant.kinds_are c.if-address-ge-UNITS_START.true c.if-address-eq0.true).start
     ∙ ap (λ (s : ScanParts). is_start version_1 s.words c.args.address) c.self.view_is
 
