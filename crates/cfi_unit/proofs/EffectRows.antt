@@ -1,15 +1,16 @@
 -- What units do, all units, and so the two laws: a run meets what is asked within so many steps.
-use Rattle.std.proofs.Common.{◌≡◌, ℕ, zero, suc, ◌+◌, ◌^◌, ◌<◌, ◌≤◌, inl, inr, List, [], ◌∷◌, length, take, replicate, refl, sym, ap, subst, ◌∙◌, arith}
+use Rattle.std.proofs.Common.{◌≡◌, ℕ, ◌+◌, ◌^◌, ◌<◌, ◌≤◌, inl, inr, List, [], ◌∷◌, length, replicate, refl, sym, ap, subst, ◌∙◌, arith}
 use Rattle.std.specs.List.{AllByRecursion}
-use Rattle.std.specs.Prelude.{◌==◌, ◌&&◌, nat_le, nat_lt, if◌then◌else◌}
-use Rattle.std.proofs.lemmas.Bool.{cases_Bool, ne_eqb}
+use Rattle.std.specs.Prelude.{◌&&◌, nat_le, nat_lt}
+use Rattle.std.proofs.lemmas.Bool.{cases_Bool}
 use Rattle.rv_word.specs.Layout.{Profile, SHADOW_START, DATA_END}
 use Rattle.rv_word.specs.Memory.{Memory, write}
 use Rattle.rv_instr.specs.Registers.{Registers}
-use Rattle.rv_code.specs.Run.{ByteChange, IsDataChange, changed, disturbed, disturbed_step}
+use Rattle.rv_code.specs.Run.{ByteChange, IsDataChange, disturbed}
 use Rattle.rv_code.specs.State.{Hart, Shared, After, last_exit}
 use Rattle.rv_code.specs.declared.turn.Turn.TheVariants.{Ran}
-use Rattle.rv_code.proofs.Within.{ComesTo, comes_to, comes_to_calmly}
+use Rattle.rv_code.proofs.Changes.{changed_above}
+use Rattle.rv_code.proofs.Within.{ComesTo, Within, comes_to, comes_to_calmly, within_map}
 use Rattle.cfi_unit.specs.declared.unit.Unit as U
 use Rattle.cfi_unit.specs.declared.unit.Unit.TheVariants as V
 use Rattle.cfi_unit.specs.declared.unit.SystemOp.TheVariants as S
@@ -21,7 +22,7 @@ use Rattle.cfi_unit.specs.UnitLaw.{UnitMayStand}
 use Rattle.cfi_unit.specs.Between.{Unchanged, DataChanged}
 use Rattle.cfi_unit.specs.Leaving.{pushed}
 use Rattle.cfi_unit.specs.Effect.{UnitDoes}
-use Rattle.cfi_unit.specs.EffectLaw.{Enters, Inside, DoneWithin, UnitEffect, UnitKeepsRegisters}
+use Rattle.cfi_unit.specs.EffectLaw.{Enters, GoesOn, Inside, DoneWithin, UnitEffect, UnitKeepsRegisters}
 use Rattle.cfi_unit.proofs.Context.{kept_data}
 use Rattle.cfi_unit.proofs.EffectSteps.{IsHarmless, Now, Runs, before}
 use Rattle.cfi_unit.proofs.EffectUnits.{plain_does, ecall_does, ebreak_does, stop_does, gate_does, jump_does, branch_does, store_does}
@@ -57,16 +58,16 @@ module _ (may : Shared → Shared → Type 0) (harmless : IsHarmless may) (p : P
 goes_on : (r : Registers) (a : After) → Inside r a → a.turn ≡ Ran
 goes_on r a here = here.turn
 
-done_within : (p : Profile) (n : ℕ) (h : Hart) (s : Shared) (changes : List (List ByteChange)) (Done : After → Type 0) →
-    ComesTo (Inside h.regs) p n (before h s) changes Done → DoneWithin p n h s changes Done
-done_within p n h s changes Done m = record { steps = m.steps; few = m.few; inside = m.until; done = m.met }
+pub done_within : (p : Profile) (n : ℕ) (h : Hart) (s : Shared) (changes : List (List ByteChange)) (Until Done : After → Type 0) →
+    ComesTo Until p n (before h s) changes Done → DoneWithin p n h s changes Until Done
+done_within p n h s changes Until Done m = record { steps = m.steps; few = m.few; until = m.until; done = m.met }
 
 -- nothing happens
 unchanged_keeps : (part : ℕ) (image base : Memory) (pending : List ℕ) (s s' : Shared) → Context part image base pending s → Unchanged s s' →
     Context part image base pending s'
 unchanged_keeps part image base pending s s' c same = subst (Context part image base pending) (sym same) c
 
-unchanged_harmless : IsHarmless Unchanged
+pub unchanged_harmless : IsHarmless Unchanged
 unchanged_harmless = record {
   self = λ s. refl;
   further = λ a b c first second. second ∙ first;
@@ -90,7 +91,7 @@ write_same m m' n a v same k high =
       | inr outside ↦ rw outside (same k high)
     ]
 
-changed_harmless : IsHarmless DataChanged
+pub changed_harmless : IsHarmless DataChanged
 changed_harmless = record {
   self = λ s. record { memory = λ k high. refl; left = refl; output = refl; events = refl };
   further = λ a b c first second. record {
@@ -108,13 +109,6 @@ changed_harmless = record {
   };
 }
 
--- changes of data leave all else as it is
-changed_above : (m : Memory) (cs : List ByteChange) → AllByRecursion IsDataChange cs → (k : ℕ) → DATA_END ≤ k → changed m cs k ≡ m k
-changed_above m [] low k above = refl
-changed_above m (c ∷ cs) low k above =
-    let below = low.0.address in
-    changed_above (λ j. if j == c.address then c.byte else m j) cs low.1 k above ∙ rw (ne_eqb k c.address (λ e. omega arith)) refl
-
 data_allowed : (changes : List (List ByteChange)) → AllByRecursion (AllByRecursion IsDataChange) changes →
     AllByRecursion (λ cs. (s : Shared) → DataChanged s (disturbed s cs)) changes
 data_allowed [] all = tt
@@ -127,7 +121,7 @@ pub unit_effect : UnitEffect
 unit_effect p part image base unit at pending h s i =
     let n = word_count unit in
     let Q : After → Type 0 = UnitDoes p part image base Unchanged h s unit at pending in
-    done_within p n h s (replicate n []) Q
+    done_within p n h s (replicate n []) (Inside h.regs) Q
     (comes_to_calmly (Inside h.regs) Unchanged p (goes_on h.regs) Q n (before h s) (λ s'. refl)
     (unit_does Unchanged unchanged_harmless p part image base h s unit at pending i))
 
@@ -135,6 +129,15 @@ pub unit_keeps_registers : UnitKeepsRegisters
 unit_keeps_registers p part image base unit at pending h s i changes all long =
     let n = word_count unit in
     let Q : After → Type 0 = UnitDoes p part image base DataChanged h s unit at pending in
-    done_within p n h s changes Q
+    done_within p n h s changes (Inside h.regs) Q
     (comes_to (Inside h.regs) DataChanged p (goes_on h.regs) Q n (before h s) changes (data_allowed changes all) long
     (unit_does DataChanged changed_harmless p part image base h s unit at pending i))
+
+-- a unit where nothing happens, for runs that go on after it
+pub unit_within : (p : Profile) (part : ℕ) (image base : Memory) (unit : U.Unit) (at : ℕ) (pending : List ℕ) (h : Hart) (s : Shared) →
+    Enters p part image base unit at pending h s →
+    Within GoesOn Unchanged p (word_count unit) (UnitDoes p part image base Unchanged h s unit at pending) (before h s)
+unit_within p part image base unit at pending h s i =
+    let Q : After → Type 0 = UnitDoes p part image base Unchanged h s unit at pending in
+    within_map (Inside h.regs) Unchanged p GoesOn Unchanged (word_count unit) Q Q (before h s) (goes_on h.regs) (λ a b same. same) (λ b q. q)
+    (unit_does Unchanged unchanged_harmless p part image base h s unit at pending i)

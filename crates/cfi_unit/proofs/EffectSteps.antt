@@ -1,6 +1,6 @@
 -- The words of a unit, executed one after the other: what holds after an instruction's execution is
 -- asked for after the step, whatever may happen from outside before it.
-use Rattle.std.proofs.Common.{◌≡◌, ℕ, zero, suc, ◌+◌, ◌*◌, ◌==◌, ◌<◌, ◌≤◌, ◌⊎◌, inl, inr, true, false, List, length, Some, refl, sym, ap, subst, ◌∙◌, arith}
+use Rattle.std.proofs.Common.{◌≡◌, ℕ, zero, suc, ◌+◌, ◌*◌, ◌==◌, ◌<◌, ◌≤◌, inl, inr, true, false, List, length, Some, refl, sym, ap, subst, ◌∙◌, arith}
 use Rattle.std.specs.Prelude.{slice_get}
 use Rattle.std.proofs.lemmas.Bool.{cases_Bool, ne_eqb}
 use Rattle.std.proofs.lemmas.Option.{slice_get_within}
@@ -17,7 +17,7 @@ use Rattle.rv_instr.specs.declared.instr.StoreOp.{StoreOp}
 use Rattle.rv_code.specs.Arithmetic.{branch_taken, load_size, load_result, store_size}
 use Rattle.rv_code.proofs.Within.{Within}
 use Rattle.rv_code.specs.State.{Hart, Shared, After}
-use Rattle.rv_code.specs.Step.{step, exec, puts, stops, address}
+use Rattle.rv_code.specs.Step.{exec, puts, stops, address}
 use Rattle.rv_code.specs.declared.turn.Turn.TheVariants.{Ran}
 use Rattle.cfi_unit.specs.UnitWords.{skip_offset, jump, Reaches}
 use Rattle.cfi_unit.specs.Shadow.{IsPart}

@@ -1,6 +1,6 @@
 -- What calls, returns and computed transfers do.
-use Rattle.std.proofs.Common.{◌≡◌, ℕ, suc, ◌+◌, ◌*◌, ◌-◌, ◌==◌, ◌/◌, ◌%◌, ◌^◌, ◌<◌, ◌≤◌, Bool, not, inl, inr, true, false, List, ◌∷◌, length, bit_and, refl, sym, ap, subst, ◌∙◌, arith}
-use Rattle.std.proofs.lemmas.Bool.{eqb-true, eqb-false}
+use Rattle.std.proofs.Common.{◌≡◌, ℕ, suc, ◌+◌, ◌*◌, ◌-◌, ◌==◌, ◌/◌, ◌%◌, ◌^◌, ◌<◌, ◌≤◌, not, inl, inr, true, false, List, ◌∷◌, length, bit_and, refl, sym, ap, subst, ◌∙◌, arith}
+use Rattle.std.proofs.lemmas.Bool.{eqb-true, eqb-false, not-true, not-false}
 use Rattle.std.proofs.lemmas.Nat.Bits.{and_high_mask}
 use Rattle.rv_word.specs.Layout.{Profile, CODE_START, CODE_SIZE}
 use Rattle.rv_word.specs.Memory.{Memory, read}
@@ -29,14 +29,6 @@ use Rattle.cfi_unit.proofs.Labels.{word_small, same_word, word_same}
 use Rattle.cfi_unit.proofs.Regions.{can_load_code, can_load_part, can_store_part}
 use Rattle.cfi_unit.proofs.EffectSteps.{Now, Runs, before, onto, onto_put, onto_branch, onto_jump, onto_load, onto_store, same_link}
 use Rattle.cfi_unit.proofs.EffectUnits.{halts_at}
-
-is_false : (b : Bool) → not b ≡ true → b ≡ false
-is_false true e = cc
-is_false false e = refl
-
-is_true : (b : Bool) → not b ≡ false → b ≡ true
-is_true true e = refl
-is_true false e = cc
 
 module _ {may : Shared → Shared → Type 0} {p : Profile} {part : ℕ} {image base : Memory} {pending : List ℕ} {r : Registers} {start : Shared} where
   -- what is known once a site is pushed
@@ -91,12 +83,12 @@ module _ {may : Shared → Shared → Type 0} {p : Profile} {part : ℕ} {image 
         has_slot : not (slot part (length pending) * 2 ^ 48 % 2 ^ 64 == 0) ≡ true → length pending < MOST_PENDING
         has_slot taken =
             let own = now.own in
-            let not_zero = eqb-false (slot part (length pending) * 2 ^ 48 % 2 ^ 64) 0 (is_false _ taken) in omega arith
+            let not_zero = eqb-false (slot part (length pending) * 2 ^ 48 % 2 ^ 64) 0 (not-true _ taken) in omega arith
 
         no_slot : not (slot part (length pending) * 2 ^ 48 % 2 ^ 64 == 0) ≡ false → length pending ≡ MOST_PENDING
         no_slot not_taken =
             let own = now.own in
-            let is_zero = eqb-true (slot part (length pending) * 2 ^ 48 % 2 ^ 64) 0 (is_true _ not_taken) in omega arith
+            let is_zero = eqb-true (slot part (length pending) * 2 ^ 48 % 2 ^ 64) 0 (not-false _ not_taken) in omega arith
 
 -- the low two bits cleared
 cleared : (sum : ℕ) → sum < 2 ^ 64 → bit_and sum (2 ^ 64 - 2 ^ 2) ≡ sum / 4 * 4

@@ -26,3 +26,4 @@ pub mod EffectSteps
 pub mod EffectUnits
 pub mod EffectTransfers
 pub mod EffectRows
+pub mod PrologueEffect

@@ -30,6 +30,7 @@ module _ (p : Profile) (part : ℕ) (image base : Memory) (may : Shared → Shar
       ((h.regs 1 ≡ site) × LeftTo part image base site pending h.regs (may s) after)
       ⊎ ((h.regs 1 ≢ site) × HaltsAt part image base BAD_RETURN (site ∷ pending) h.regs (may s) after)
 
+  -- a branch is over the jump that follows it, so its target is where its condition is not met
   abbrev pub DoesPast : U.Unit → ℕ → List ℕ → After → Type 0
   DoesPast (V.Gate label) past pending after = LeftTo part image base past pending h.regs (may s) after
   DoesPast (V.Plain instr) past pending after = Executes p part image base instr pending h (may s) after

@@ -35,11 +35,15 @@ pub record Inside (r : Registers) (after : After) : Type 0 where
   pub turn : after.turn ≡ Ran
   pub regs : SameRegisters r after.hart.regs
 
--- after at most `n` steps of a run something is done
-pub record DoneWithin (p : Profile) (n : ℕ) (h : Hart) (s : Shared) (changes : List (List ByteChange)) (Done : After → Type 0) : Type 0 where
+-- the run goes on
+abbrev pub GoesOn : After → Type 0
+GoesOn after = after.turn ≡ Ran
+
+-- after at most `n` steps of a run something is done, and until then something else holds
+pub record DoneWithin (p : Profile) (n : ℕ) (h : Hart) (s : Shared) (changes : List (List ByteChange)) (Until Done : After → Type 0) : Type 0 where
   pub steps : ℕ
   pub few : steps ≤ n
-  pub inside : (k : ℕ) → k < steps → Inside h.regs (run p h s (take k changes))
+  pub until : (k : ℕ) → k < steps → Until (run p h s (take k changes))
   pub done : Done (run p h s (take steps changes))
 
 -- where nothing is changed between its words
@@ -47,7 +51,7 @@ abbrev pub UnitEffect : Type 0
 UnitEffect =
     (p : Profile) (part : ℕ) (image base : Memory) (unit : U.Unit) (at : ℕ) (pending : List ℕ) (h : Hart) (s : Shared) →
     Enters p part image base unit at pending h s →
-    DoneWithin p (word_count unit) h s (replicate (word_count unit) []) (UnitDoes p part image base Unchanged h s unit at pending)
+    DoneWithin p (word_count unit) h s (replicate (word_count unit) []) (Inside h.regs) (UnitDoes p part image base Unchanged h s unit at pending)
 
 -- under any changes of data between its words: so no word of a unit writes a register of the program,
 -- but its own instruction's, and where the unit leads depends on no data
@@ -56,4 +60,4 @@ UnitKeepsRegisters =
     (p : Profile) (part : ℕ) (image base : Memory) (unit : U.Unit) (at : ℕ) (pending : List ℕ) (h : Hart) (s : Shared) →
     Enters p part image base unit at pending h s →
     (changes : List (List ByteChange)) → AllByRecursion (AllByRecursion IsDataChange) changes → word_count unit ≤ length changes →
-    DoneWithin p (word_count unit) h s changes (UnitDoes p part image base DataChanged h s unit at pending)
+    DoneWithin p (word_count unit) h s changes (Inside h.regs) (UnitDoes p part image base DataChanged h s unit at pending)

@@ -15,3 +15,4 @@ pub mod Between
 pub mod Leaving
 pub mod Effect
 pub mod EffectLaw
+pub mod PrologueEffect

@@ -1,4 +1,5 @@
 ghost use Rattle.cfi_unit.specs.EffectLaw.{UnitEffect, UnitKeepsRegisters};
+ghost use Rattle.cfi_unit.specs.PrologueEffect.{ClosingEffect, OpeningEffect};
 
 /// What a unit does, as the contract of a function that computes nothing: where nothing is changed
 /// between its words, it does what its row says within as many steps as it has words.
@@ -10,4 +11,15 @@ pub fn unit_effect()
 /// the program but its own instruction's, and where the unit leads depends on no data.
 pub fn unit_keeps_registers()
     ensures { UnitKeepsRegisters }
+{}
+
+/// What the opening does: it is left to the entry, with the closing's address in x1 and on the shadow
+/// stack.
+pub fn opening_effect()
+    ensures { OpeningEffect }
+{}
+
+/// What the closing does: it makes system call 93.
+pub fn closing_effect()
+    ensures { ClosingEffect }
 {}

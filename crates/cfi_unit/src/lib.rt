@@ -3,7 +3,7 @@
 //! word of a unit leads, and the effect law what a unit does from its first word on.
 #![tactic(auto)]
 
-pub use effect_law::{unit_effect, unit_keeps_registers};
+pub use effect_law::{closing_effect, opening_effect, unit_effect, unit_keeps_registers};
 pub use emission::{emit, fits, size};
 pub use place::Place;
 pub use recogniser::recognise;

@@ -7,4 +7,5 @@ pub mod Steps
 pub mod Frames
 pub mod Calls
 pub mod Continued
+pub mod Changes
 pub mod Within
