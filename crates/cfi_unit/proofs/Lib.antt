@@ -27,3 +27,4 @@ pub mod EffectUnits
 pub mod EffectTransfers
 pub mod EffectRows
 pub mod PrologueEffect
+pub mod EffectWorked
