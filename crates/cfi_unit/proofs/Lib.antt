@@ -22,3 +22,9 @@ pub mod Others
 pub mod Gates
 pub mod Vectors
 pub mod Worked
+pub mod EffectSteps
+pub mod EffectUnits
+pub mod EffectTransfers
+pub mod EffectRows
+pub mod PrologueEffect
+pub mod EffectWorked

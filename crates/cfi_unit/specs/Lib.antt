@@ -11,3 +11,8 @@ pub mod Context
 pub mod Leads
 pub mod InPlace
 pub mod UnitLaw
+pub mod Between
+pub mod Leaving
+pub mod Effect
+pub mod EffectLaw
+pub mod PrologueEffect

@@ -1,14 +1,16 @@
 //! The units of a hardened image: which lists of words are one unit. `emit` writes a unit's words,
-//! `recognise` finds the unit that begins a list of words, and the unit law says what a step from a
-//! word of a unit does.
+//! `recognise` finds the unit that begins a list of words, the unit law says where a step from a
+//! word of a unit leads, and the effect law what a unit does from its first word on.
 #![tactic(auto)]
 
+pub use effect_law::{closing_effect, opening_effect, unit_effect, unit_keeps_registers};
 pub use emission::{emit, fits, size};
 pub use place::Place;
 pub use recogniser::recognise;
 pub use step_law::unit_law;
 pub use unit::{SystemOp, Unit};
 
+mod effect_law;
 mod emission;
 pub mod handlers;
 mod jump;

@@ -6,3 +6,6 @@ pub mod Runs
 pub mod Steps
 pub mod Frames
 pub mod Calls
+pub mod Continued
+pub mod Changes
+pub mod Within

@@ -7,3 +7,4 @@ pub mod State
 pub mod SystemCall
 pub mod Step
 pub mod Run
+pub mod Continue

@@ -15,5 +15,6 @@ mod encoder;
 mod event;
 mod fields;
 mod immediate;
+pub mod laws;
 mod operations;
 mod turn;

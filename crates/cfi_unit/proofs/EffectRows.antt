@@ -1,0 +1,143 @@
+-- What units do, all units, and so the two laws: a run meets what is asked within so many steps.
+use Rattle.std.proofs.Common.{◌≡◌, ℕ, ◌+◌, ◌^◌, ◌<◌, ◌≤◌, inl, inr, List, [], ◌∷◌, length, replicate, refl, sym, ap, subst, ◌∙◌, arith}
+use Rattle.std.specs.List.{AllByRecursion}
+use Rattle.std.specs.Prelude.{◌&&◌, nat_le, nat_lt}
+use Rattle.std.proofs.lemmas.Bool.{cases_Bool}
+use Rattle.rv_word.specs.Layout.{Profile, SHADOW_START, DATA_END}
+use Rattle.rv_word.specs.Memory.{Memory, write}
+use Rattle.rv_instr.specs.Registers.{Registers}
+use Rattle.rv_code.specs.Run.{ByteChange, IsDataChange, disturbed}
+use Rattle.rv_code.specs.State.{Hart, Shared, After, last_exit}
+use Rattle.rv_code.specs.declared.turn.Turn.TheVariants.{Ran}
+use Rattle.rv_code.proofs.Changes.{changed_above}
+use Rattle.rv_code.proofs.Within.{ComesTo, Within, comes_to, comes_to_calmly, within_map}
+use Rattle.cfi_unit.specs.declared.unit.Unit as U
+use Rattle.cfi_unit.specs.declared.unit.Unit.TheVariants as V
+use Rattle.cfi_unit.specs.declared.unit.SystemOp.TheVariants as S
+use Rattle.cfi_unit.specs.UnitWords.{instrs_of, word_count}
+use Rattle.cfi_unit.specs.Shadow.{IsPart, slot, MOST_PENDING}
+use Rattle.cfi_unit.specs.Stand.{Stand}
+use Rattle.cfi_unit.specs.Context.{Context}
+use Rattle.cfi_unit.specs.UnitLaw.{UnitMayStand}
+use Rattle.cfi_unit.specs.Between.{Unchanged, DataChanged}
+use Rattle.cfi_unit.specs.Leaving.{pushed}
+use Rattle.cfi_unit.specs.Effect.{UnitDoes}
+use Rattle.cfi_unit.specs.EffectLaw.{Enters, GoesOn, Inside, DoneWithin, UnitEffect, UnitKeepsRegisters}
+use Rattle.cfi_unit.proofs.Context.{kept_data}
+use Rattle.cfi_unit.proofs.EffectSteps.{IsHarmless, Now, Runs, before}
+use Rattle.cfi_unit.proofs.EffectUnits.{plain_does, ecall_does, ebreak_does, stop_does, gate_does, jump_does, branch_does, store_does}
+use Rattle.cfi_unit.proofs.EffectTransfers.{call_does, return_does, ijump_does, icall_does}
+
+module _ (may : Shared → Shared → Type 0) (harmless : IsHarmless may) (p : Profile) (part : ℕ) (image base : Memory) (h : Hart) (s : Shared) where
+  module _ (own : IsPart p part) (small : (k : ℕ) → image k < 2 ^ 8) (at : ℕ) (e : h.pc ≡ at) where
+    first : (pending : List ℕ) → Context part image base pending s → Now may p part image base pending h.regs s h s
+    first pending c = record { harmless = harmless; own = own; since = harmless.self s; context = c; same = record { same = λ k free. refl } }
+
+    body_does : (unit : U.Unit) (pending : List ℕ) → UnitMayStand unit at pending → 0 < length pending → length pending ≤ MOST_PENDING →
+        Stand image at (instrs_of unit at) → Context part image base pending s → h.regs 3 ≡ slot part (length pending) →
+        Runs may p h.regs (word_count unit) (UnitDoes p part image base may h s unit at pending) (before h s)
+    body_does (V.Gate label) pending stand some most w c x3 = gate_does at (first pending c) e x3 label w
+    body_does (V.Plain instr) pending stand some most w c x3 = plain_does at (first pending c) e instr stand.0.1 w
+    body_does (V.Branch op rs1 rs2 target) pending stand some most w c x3 = branch_does at (first pending c) e x3 op rs1 rs2 target stand.0 w
+    body_does (V.Jump target) pending stand some most w c x3 = jump_does at (first pending c) e x3 target stand.0 w
+    body_does V.Stop pending stand some most w c x3 = stop_does at (first pending c) e stand.0 w
+    body_does (V.System S.Ecall) pending stand some most w c x3 = ecall_does at (first pending c) e w
+    body_does (V.System S.Ebreak) pending stand some most w c x3 = ebreak_does at (first pending c) e w
+    body_does (V.Store op rs1 rs2 imm) pending stand some most w c x3 = store_does at (first pending c) e x3 op rs1 rs2 imm w
+    body_does (V.Call target) pending stand some most w c x3 = call_does at pending (first pending c) e x3 most target stand.0 w
+    body_does (V.Ijump rs1 imm label) pending stand some most w c x3 = ijump_does at pending (first pending c) e x3 most rs1 imm label small stand.0 w
+    body_does (V.Icall rs1 imm label) pending stand some most w c x3 = icall_does at pending (first pending c) e x3 most rs1 imm label small stand.0 w
+    body_does V.Return [] stand some most w c x3 = absurd (let none : length {A = ℕ} [] ≡ 0 = refl in omega arith)
+    body_does V.Return (site ∷ pending) stand some most w c x3 =
+        return_does at site pending (first (site ∷ pending) c) e x3 most stand.1.0 stand.1.1 stand.0 w
+
+  pub unit_does : (unit : U.Unit) (at : ℕ) (pending : List ℕ) → Enters p part image base unit at pending h s →
+      Runs may p h.regs (word_count unit) (UnitDoes p part image base may h s unit at pending) (before h s)
+  unit_does unit at pending i = body_does i.own i.bytes at i.pc unit pending i.may_stand i.some i.most i.stands i.context i.pointer
+
+goes_on : (r : Registers) (a : After) → Inside r a → a.turn ≡ Ran
+goes_on r a here = here.turn
+
+pub done_within : (p : Profile) (n : ℕ) (h : Hart) (s : Shared) (changes : List (List ByteChange)) (Until Done : After → Type 0) →
+    ComesTo Until p n (before h s) changes Done → DoneWithin p n h s changes Until Done
+done_within p n h s changes Until Done m = record { steps = m.steps; few = m.few; until = m.until; done = m.met }
+
+-- nothing happens
+unchanged_keeps : (part : ℕ) (image base : Memory) (pending : List ℕ) (s s' : Shared) → Context part image base pending s → Unchanged s s' →
+    Context part image base pending s'
+unchanged_keeps part image base pending s s' c same = subst (Context part image base pending) (sym same) c
+
+pub unchanged_harmless : IsHarmless Unchanged
+unchanged_harmless = record {
+  self = λ s. refl;
+  further = λ a b c first second. second ∙ first;
+  keeps = λ part image base pending s s' low c same. unchanged_keeps part image base pending s s' c same;
+  pushes = λ part n site s s' same. ap (pushed part n site) same;
+}
+
+-- data may change
+changed_keeps : (part : ℕ) (image base : Memory) (pending : List ℕ) (s s' : Shared) → SHADOW_START ≤ part →
+    Context part image base pending s → DataChanged s s' → Context part image base pending s'
+changed_keeps part image base pending s s' low c changes = record {
+  going = ap last_exit changes.events ∙ c.going;
+  kept = kept_data low c.kept s'.memory changes.memory;
+}
+
+write_same : (m m' : Memory) (n a v : ℕ) → ((k : ℕ) → DATA_END ≤ k → m' k ≡ m k) → (k : ℕ) → DATA_END ≤ k → write n m' a v k ≡ write n m a v k
+unfolding write
+write_same m m' n a v same k high =
+    elim (cases_Bool (nat_le a k && nat_lt k (a + n))) [
+      | inl inside ↦ rw inside refl
+      | inr outside ↦ rw outside (same k high)
+    ]
+
+pub changed_harmless : IsHarmless DataChanged
+changed_harmless = record {
+  self = λ s. record { memory = λ k high. refl; left = refl; output = refl; events = refl };
+  further = λ a b c first second. record {
+    memory = λ k high. second.memory k high ∙ first.memory k high;
+    left = second.left ∙ first.left;
+    output = second.output ∙ first.output;
+    events = second.events ∙ first.events;
+  };
+  keeps = changed_keeps;
+  pushes = λ part n site s s' changes. record {
+    memory = write_same s.memory s'.memory 8 (slot part n) site changes.memory;
+    left = changes.left;
+    output = changes.output;
+    events = changes.events;
+  };
+}
+
+data_allowed : (changes : List (List ByteChange)) → AllByRecursion (AllByRecursion IsDataChange) changes →
+    AllByRecursion (λ cs. (s : Shared) → DataChanged s (disturbed s cs)) changes
+data_allowed [] all = tt
+data_allowed (cs ∷ changes) all = (
+  λ s. record { memory = changed_above s.memory cs all.0; left = refl; output = refl; events = refl },
+  data_allowed changes all.1,
+)
+
+pub unit_effect : UnitEffect
+unit_effect p part image base unit at pending h s i =
+    let n = word_count unit in
+    let Q : After → Type 0 = UnitDoes p part image base Unchanged h s unit at pending in
+    done_within p n h s (replicate n []) (Inside h.regs) Q
+    (comes_to_calmly (Inside h.regs) Unchanged p (goes_on h.regs) Q n (before h s) (λ s'. refl)
+    (unit_does Unchanged unchanged_harmless p part image base h s unit at pending i))
+
+pub unit_keeps_registers : UnitKeepsRegisters
+unit_keeps_registers p part image base unit at pending h s i changes all long =
+    let n = word_count unit in
+    let Q : After → Type 0 = UnitDoes p part image base DataChanged h s unit at pending in
+    done_within p n h s changes (Inside h.regs) Q
+    (comes_to (Inside h.regs) DataChanged p (goes_on h.regs) Q n (before h s) changes (data_allowed changes all) long
+    (unit_does DataChanged changed_harmless p part image base h s unit at pending i))
+
+-- a unit where nothing happens, for runs that go on after it
+pub unit_within : (p : Profile) (part : ℕ) (image base : Memory) (unit : U.Unit) (at : ℕ) (pending : List ℕ) (h : Hart) (s : Shared) →
+    Enters p part image base unit at pending h s →
+    Within GoesOn Unchanged p (word_count unit) (UnitDoes p part image base Unchanged h s unit at pending) (before h s)
+unit_within p part image base unit at pending h s i =
+    let Q : After → Type 0 = UnitDoes p part image base Unchanged h s unit at pending in
+    within_map (Inside h.regs) Unchanged p GoesOn Unchanged (word_count unit) Q Q (before h s) (goes_on h.regs) (λ a b same. same) (λ b q. q)
+    (unit_does Unchanged unchanged_harmless p part image base h s unit at pending i)

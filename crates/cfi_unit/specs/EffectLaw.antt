@@ -1,0 +1,63 @@
+-- What a unit does from its first word on: within as many steps as it has words it is left, or has
+-- ended the run. Once where nothing is changed between its words, and once under any changes of data.
+use Rattle.std.specs.Prelude.{◌≡◌, ℕ, ◌^◌, ◌<◌, ◌≤◌, List, [], length, replicate, take}
+use Rattle.std.specs.List.{AllByRecursion}
+use Rattle.rv_word.specs.Layout.{Profile}
+use Rattle.rv_word.specs.Memory.{Memory}
+use Rattle.rv_instr.specs.Registers.{Registers}
+use Rattle.rv_code.specs.Run.{ByteChange, IsDataChange, run}
+use Rattle.rv_code.specs.State.{Hart, Shared, After}
+use Rattle.rv_code.specs.declared.turn.Turn.TheVariants.{Ran}
+use Rattle.cfi_unit.specs.declared.unit.Unit as U
+use Rattle.cfi_unit.specs.UnitWords.{instrs_of, word_count}
+use Rattle.cfi_unit.specs.Shadow.{IsPart, slot, MOST_PENDING}
+use Rattle.cfi_unit.specs.Stand.{Stand}
+use Rattle.cfi_unit.specs.Context.{Context}
+use Rattle.cfi_unit.specs.UnitLaw.{UnitMayStand}
+use Rattle.cfi_unit.specs.Between.{Unchanged, DataChanged}
+use Rattle.cfi_unit.specs.Leaving.{SameRegisters}
+use Rattle.cfi_unit.specs.Effect.{UnitDoes}
+
+-- a hart is at the first word of a unit that stands in code, x3 past the newest pending site
+pub record Enters (p : Profile) (part : ℕ) (image base : Memory) (unit : U.Unit) (at : ℕ) (pending : List ℕ) (h : Hart) (s : Shared) : Type 0 where
+  pub own : IsPart p part
+  pub bytes : (k : ℕ) → image k < 2 ^ 8
+  pub may_stand : UnitMayStand unit at pending
+  pub some : 0 < length pending
+  pub most : length pending ≤ MOST_PENDING
+  pub stands : Stand image at (instrs_of unit at)
+  pub context : Context part image base pending s
+  pub pc : h.pc ≡ at
+  pub pointer : h.regs 3 ≡ slot part (length pending)
+
+-- between two words the run goes on, and the program's registers are the same
+pub record Inside (r : Registers) (after : After) : Type 0 where
+  pub turn : after.turn ≡ Ran
+  pub regs : SameRegisters r after.hart.regs
+
+-- the run goes on
+abbrev pub GoesOn : After → Type 0
+GoesOn after = after.turn ≡ Ran
+
+-- after at most `n` steps of a run something is done, and until then something else holds
+pub record DoneWithin (p : Profile) (n : ℕ) (h : Hart) (s : Shared) (changes : List (List ByteChange)) (Until Done : After → Type 0) : Type 0 where
+  pub steps : ℕ
+  pub few : steps ≤ n
+  pub until : (k : ℕ) → k < steps → Until (run p h s (take k changes))
+  pub done : Done (run p h s (take steps changes))
+
+-- where nothing is changed between its words
+abbrev pub UnitEffect : Type 0
+UnitEffect =
+    (p : Profile) (part : ℕ) (image base : Memory) (unit : U.Unit) (at : ℕ) (pending : List ℕ) (h : Hart) (s : Shared) →
+    Enters p part image base unit at pending h s →
+    DoneWithin p (word_count unit) h s (replicate (word_count unit) []) (Inside h.regs) (UnitDoes p part image base Unchanged h s unit at pending)
+
+-- under any changes of data between its words: so no word of a unit writes a register of the program,
+-- but its own instruction's, and where the unit leads depends on no data
+abbrev pub UnitKeepsRegisters : Type 0
+UnitKeepsRegisters =
+    (p : Profile) (part : ℕ) (image base : Memory) (unit : U.Unit) (at : ℕ) (pending : List ℕ) (h : Hart) (s : Shared) →
+    Enters p part image base unit at pending h s →
+    (changes : List (List ByteChange)) → AllByRecursion (AllByRecursion IsDataChange) changes → word_count unit ≤ length changes →
+    DoneWithin p (word_count unit) h s changes (Inside h.regs) (UnitDoes p part image base DataChanged h s unit at pending)
