@@ -8,3 +8,4 @@ pub mod Decimals
 pub mod Printed
 pub mod Steps
 pub mod Accepts
+pub mod Whole

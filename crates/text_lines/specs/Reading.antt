@@ -4,7 +4,7 @@
 -- the line before it.
 use Rattle.std.specs.Prelude.{ℕ, ◌+◌, Bool, not, if◌then◌else◌, List, [], ◌∷◌, ◌++◌, codes, Option, Some, None, Result, Ok, Err}
 use Rattle.std.specs.Str.{bytes_eq}
-use Rattle.text_lines.specs.Lines.{words_of}
+use Rattle.text_lines.specs.Lines.{lines_of, words_of}
 use Rattle.text_lines.specs.declared.end.TextEnd.{TextEnd}
 use Rattle.text_lines.specs.declared.end.TextEnd.TheVariants.{Line}
 use Rattle.text_lines.specs.declared.reason.Reason.{Reason}
@@ -59,8 +59,27 @@ module _ {L B I : Type 0} (rules : LineRules L B I) where
       with_line (judged before number (rules.spelled (words_of line)))
       (λ l. read (rules.after l) (number + 1) (next ∷ rest))
 
+-- what comes after a step that may be refused
+abbrev pub if_right : {A C : Type 0} → Result A TextEnd → (A → Result C TextEnd) → Result C TextEnd
+if_right (Ok x) next = next x
+if_right (Err fault) next = Err fault
+
+-- all that is read, if nothing is refused
+abbrev pub whole : {Item : Type 0} → Reading Item → Result (List Item) TextEnd
+whole reading = if_right reading.end (λ done. Ok reading.items)
+
 -- the lines after the first, which is the name of the text's form
 unfoldable pub after_name : List ℕ → List (List ℕ) → Result (List (List ℕ)) TextEnd
 after_name name (line ∷ next ∷ rest) =
     if bytes_eq line name then Ok (next ∷ rest) else Err (Line 1 Form)
 after_name name lines = Err (Line 1 Form)
+
+-- what is read after the heading
+abbrev pub after_heading : {Item : Type 0} → Result (List (List ℕ)) TextEnd → (List (List ℕ) → Reading Item) → Reading Item
+after_heading (Ok lines) others = others lines
+after_heading (Err fault) others = record { items = []; end = Err fault }
+
+-- a text whose heading is its name alone
+unfoldable pub read_text : {L B I : Type 0} → LineRules L B I → B → List ℕ → List ℕ → Reading I
+read_text rules before name text =
+    after_heading (after_name name (lines_of text)) (λ lines. read rules before 2 lines)

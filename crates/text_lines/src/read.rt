@@ -1,7 +1,7 @@
 ghost use Rattle.std.specs.Prelude.{◌≡◌, ◌++◌, true, IfOk, MatchResult, Ok, Err};
 ghost use Rattle.text_lines.specs.Answers.{Answers, UnlessNoMemory};
 ghost use Rattle.text_lines.specs.Lines.{lines_of, words_of};
-ghost use Rattle.text_lines.specs.Reading.{after_name, judged, read};
+ghost use Rattle.text_lines.specs.Reading.{after_name, judged, read, read_text};
 
 use crate::end::TextEnd;
 use crate::form::LineForm;
@@ -83,4 +83,24 @@ pub fn read_lines<F: LineForm>(
         number += 1;
         rest = next;
     }
+}
+
+/// Reads a text whose first line is `name`, and whose others have a form; as `read_lines`.
+pub fn read_text<F: LineForm>(
+    alloc: Global,
+    form: &mut F,
+    name: &[u8],
+    text: &[u8],
+) -> Result<(), TextEnd>
+    // The right answer, but for want of memory.
+    ensures exact { Answers result
+        (read_text (F.rules form.old) (F.before form.old) name.now text.now).end }
+
+    // What was collected, at a fault too.
+    ensures collected { UnlessNoMemory result (F.items form.new ≡ F.items form.old
+        ++ (read_text (F.rules form.old) (F.before form.old) name.now text.now).items) }
+    ensures kept { F.rules form.new ≡ F.rules form.old }
+{
+    let rest = after_name(text, name)?;
+    read_lines(alloc, form, 2, rest)
 }
