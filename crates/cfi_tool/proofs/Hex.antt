@@ -4,7 +4,7 @@ use Rattle.std.proofs.Math.Nat.{div-one, zero-div}
 use Rattle.std.proofs.lemmas.Nat.{shr-shr, pow-add}
 use borrow.Author.Tests.{ne_eqb}
 use Rattle.std.specs.Fmt.{digits, digits_onto, padded_integral, format_spec, char_count}
-use Rattle.cfi_graph.specs.Text.{hex_digit, hex_text}
+use Rattle.text_lines.specs.Hex.{hex_digit, hex_text}
 
 -- the last digit stands last
 hex_last : (count n : ℕ) → hex_text (suc count) n ≡ hex_text count (n / 16) ++ hex_digit (n % 16) ∷ []

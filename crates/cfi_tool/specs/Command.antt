@@ -4,7 +4,7 @@
 use Rattle.std.specs.Prelude.{ℕ, nat_le, ◌&&◌, if◌then◌else◌, List, [], ◌∷◌, ◌++◌, length, map, codes, String, string_bytes, Option, Some, None, option_map, option_and_then}
 use Rattle.std.specs.declared.alloc.Global.{Global}
 use Rattle.std.specs.Str.{bytes_eq}
-use Rattle.cfi_step.specs.ScriptText.{MAX_STEP, decimal_from}
+use Rattle.text_lines.specs.Decimal.{MAX_STEP, decimal_from}
 
 abbrev pub spelled : List (String Global) → List (List ℕ)
 spelled words = map (λ word. string_bytes word) words

@@ -3,7 +3,7 @@
 use Rattle.std.specs.Prelude.{ℕ, List, ◌++◌, codes}
 use Rattle.std.specs.Fmt.{decimal}
 use Rattle.cfi_tool.specs.Names.{reason_name, rule_name}
-use Rattle.cfi_graph.specs.Text.{hex_text}
+use Rattle.text_lines.specs.Hex.{hex_text}
 use Rattle.elf_image.specs.declared.refusal.ImageRefusal.{ImageRefusal}
 use Rattle.elf_image.specs.declared.refusal.ImageRefusal.TheVariants.{Short, Byte, Long}
 use Rattle.cfi_verify.specs.declared.reject.Reject.{Reject}

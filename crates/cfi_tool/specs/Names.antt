@@ -1,7 +1,7 @@
 -- The names of reasons and rules, as they are printed.
 use Rattle.std.specs.Prelude.{ℕ, List, codes}
-use Rattle.cfi_graph.specs.declared.end.Reason.{Reason}
-use Rattle.cfi_graph.specs.declared.end.Reason.TheVariants.{Form, Range, Order}
+use Rattle.text_lines.specs.declared.reason.Reason.{Reason}
+use Rattle.text_lines.specs.declared.reason.Reason.TheVariants.{Form, Range, Order}
 use Rattle.cfi_verify.specs.declared.reject.Rule.{Rule}
 use Rattle.cfi_verify.specs.declared.reject.Rule.TheVariants as rule
 

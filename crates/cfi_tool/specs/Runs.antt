@@ -6,7 +6,7 @@ use Rattle.rv_code.specs.State.{start_hart, start_shared}
 use Rattle.elf_image.specs.Fault.{fault_of}
 use Rattle.cfi_graph.specs.Graph.{GraphParts}
 use Rattle.cfi_graph.specs.Reading.{graph_of}
-use Rattle.cfi_graph.specs.declared.end.GraphEnd.TheVariants as graph_ends
+use Rattle.text_lines.specs.declared.end.TextEnd.TheVariants as ends
 use Rattle.cfi_verify.specs.Along.{IsSafe}
 use Rattle.cfi_verify.specs.Rules.{IsRejected, IsWellFormed}
 use Rattle.cfi_step.specs.Plan.{planned}
@@ -14,15 +14,14 @@ use Rattle.cfi_step.specs.Report.{IsReport}
 use Rattle.cfi_step.specs.Script.{script_plan}
 use Rattle.cfi_step.specs.ScriptText.{script_of}
 use Rattle.cfi_step.specs.declared.report.RunReport.{RunReport}
-use Rattle.cfi_step.specs.declared.script_end.ScriptEnd.{ScriptEnd}
-use Rattle.cfi_step.specs.declared.script_end.ScriptEnd.TheVariants as script_ends
+use Rattle.text_lines.specs.declared.end.TextEnd.{TextEnd}
 use Rattle.cfi_tool.specs.Verdict.{Spell}
 use Rattle.cfi_tool.specs.declared.ran.RunOutcome.{RunOutcome}
 use Rattle.cfi_tool.specs.declared.ran.RunOutcome.TheVariants.{Refused, BadScript, Ran}
 use Rattle.cfi_tool.specs.declared.verdict.Verdict.TheVariants.{Accepted, BadImage, BadGraph, Rejected}
 
 -- the script that a text spells; without one there are no changes
-abbrev pub script_given : Option (List ℕ) → Result (List (ℕ × (ℕ × ℕ))) ScriptEnd
+abbrev pub script_given : Option (List ℕ) → Result (List (ℕ × (ℕ × ℕ))) TextEnd
 script_given None = Ok []
 script_given (Some text) = script_of text
 
@@ -53,8 +52,8 @@ abbrev pub IsRunOf : List ℕ → List ℕ → Option (List ℕ) → List ℕ �
 IsRunOf image graph script input limit (Refused Accepted) = ⊥
 IsRunOf image graph script input limit (Refused (BadImage refusal)) = fault_of image ≡ Some refusal
 IsRunOf image graph script input limit (Refused (BadGraph line reason)) =
-    (fault_of image ≡ None) × (graph_of graph ≡ Err (graph_ends.Line line reason))
+    (fault_of image ≡ None) × (graph_of graph ≡ Err (ends.Line line reason))
 IsRunOf image graph script input limit (Refused (Rejected reject)) = IsRunOfSpelled image graph script input limit (Refused (Rejected reject))
 IsRunOf image graph script input limit (BadScript line reason) =
-    (fault_of image ≡ None) × ((parts : GraphParts) × (graph_of graph ≡ Ok parts)) × (script_given script ≡ Err (script_ends.Line line reason))
+    (fault_of image ≡ None) × ((parts : GraphParts) × (graph_of graph ≡ Ok parts)) × (script_given script ≡ Err (ends.Line line reason))
 IsRunOf image graph script input limit (Ran report) = IsRunOfSpelled image graph script input limit (Ran report)

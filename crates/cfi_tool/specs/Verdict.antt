@@ -7,7 +7,7 @@ use Rattle.elf_image.specs.Spelling.{spelling}
 use Rattle.cfi_graph.specs.Graph.{GraphParts, IsGraph}
 use Rattle.cfi_graph.specs.Reading.{graph_of}
 use Rattle.cfi_graph.specs.Text.{graph_text}
-use Rattle.cfi_graph.specs.declared.end.GraphEnd.TheVariants.{Line}
+use Rattle.text_lines.specs.declared.end.TextEnd.TheVariants.{Line}
 use Rattle.cfi_verify.specs.Along.{IsSafe}
 use Rattle.cfi_verify.specs.Rules.{IsWellFormed, IsRejected}
 use Rattle.cfi_tool.specs.declared.verdict.Verdict.{Verdict}

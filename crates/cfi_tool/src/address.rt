@@ -9,7 +9,7 @@ pub(crate) struct Address(pub(crate) u64);
 
 impl fmt::Display for Address {
     ghost use Rattle.std.specs.Prelude.{Some};
-    ghost use Rattle.cfi_graph.specs.Text.{hex_text};
+    ghost use Rattle.text_lines.specs.Hex.{hex_text};
 
     ghost output = { λ address. Some (hex_text 8 address.0) };
 
@@ -34,7 +34,7 @@ impl LongAddress {
 
 impl fmt::Display for LongAddress {
     ghost use Rattle.std.specs.Prelude.{Some};
-    ghost use Rattle.cfi_graph.specs.Text.{hex_text};
+    ghost use Rattle.text_lines.specs.Hex.{hex_text};
 
     ghost output = { λ address. Some (hex_text 16 address.0) };
 

@@ -2,11 +2,12 @@ ghost use Rattle.std.specs.Prelude.{IfOk};
 ghost use Rattle.cfi_tool.specs.Verdict.{IsJudgement, IsVerdictOf};
 
 use crate::verdict::Verdict;
-use cfi_graph::{Graph, GraphEnd, read_graph};
+use cfi_graph::{Graph, read_graph};
 use cfi_verify::{VerifyEnd, verify};
 use elf_image::read_image;
 use rv_word::{Image, NoMemory};
 use std::alloc::Global;
+use text_lines::TextEnd;
 
 /// The verdict on the bytes of an image and of its graph.
 pub(crate) fn check(alloc: Global, image: &[u8], graph: &[u8]) -> Result<Verdict, NoMemory>
@@ -20,8 +21,8 @@ pub(crate) fn check(alloc: Global, image: &[u8], graph: &[u8]) -> Result<Verdict
     let _code = image.code();
     let graph = match read_graph(alloc, graph) {
         Ok(graph) => graph,
-        Err(GraphEnd::Line(line, reason)) => return Ok(Verdict::BadGraph(line, reason)),
-        Err(GraphEnd::NoMemory) => return Err(NoMemory),
+        Err(TextEnd::Line(line, reason)) => return Ok(Verdict::BadGraph(line, reason)),
+        Err(TextEnd::NoMemory) => return Err(NoMemory),
     };
     judge(alloc, &image, &graph)
 }

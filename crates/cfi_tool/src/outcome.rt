@@ -6,11 +6,11 @@ use crate::read::Unread;
 use crate::report::{end_status, report_text};
 use crate::status;
 use crate::verdict::{Verdict, reason_name};
-use cfi_graph::Reason;
 use cfi_step::RunReport;
 use rv_word::NoMemory;
 use std::alloc::Global;
 use std::fmt;
+use text_lines::Reason;
 
 /// What is told in one line.
 #[derive(Clone, Copy)]

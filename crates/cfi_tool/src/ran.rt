@@ -1,14 +1,15 @@
 ghost use Rattle.std.specs.Prelude.{◌≡◌, IfOk, option_map};
-ghost use Rattle.cfi_step.specs.ScriptText.{Answers};
+ghost use Rattle.text_lines.specs.Answers.{Answers};
 ghost use Rattle.cfi_tool.specs.Runs.{IsRunOf, IsRunOfPair, script_given};
 
 use crate::verdict::Verdict;
-use cfi_graph::{Graph, GraphEnd, Reason, read_graph};
-use cfi_step::{RunReport, Script, ScriptEnd, run};
+use cfi_graph::{Graph, read_graph};
+use cfi_step::{RunReport, Script, run};
 use cfi_verify::{VerifyEnd, verify};
 use elf_image::read_image;
 use rv_word::{Image, NoMemory};
 use std::alloc::Global;
+use text_lines::{Reason, TextEnd};
 
 /// What a run comes to.
 #[derive(Drop)]
@@ -21,7 +22,7 @@ pub(crate) enum RunOutcome {
 }
 
 /// The script that a text spells; without a text it has no changes.
-fn script_of(alloc: Global, text: Option<&[u8]>) -> Result<Script, ScriptEnd>
+fn script_of(alloc: Global, text: Option<&[u8]>) -> Result<Script, TextEnd>
     ensures { Answers result (script_given (option_map (λ t. t.now) text.entry)) }
 {
     match text {
@@ -67,15 +68,15 @@ pub(crate) fn run_bytes(
     let _code = image.code();
     let graph = match read_graph(alloc, graph) {
         Ok(graph) => graph,
-        Err(GraphEnd::Line(line, reason)) => {
+        Err(TextEnd::Line(line, reason)) => {
             return Ok(RunOutcome::Refused(Verdict::BadGraph(line, reason)));
         }
-        Err(GraphEnd::NoMemory) => return Err(NoMemory),
+        Err(TextEnd::NoMemory) => return Err(NoMemory),
     };
     let mut script = match script_of(alloc, script) {
         Ok(script) => script,
-        Err(ScriptEnd::Line(line, reason)) => return Ok(RunOutcome::BadScript(line, reason)),
-        Err(ScriptEnd::NoMemory) => return Err(NoMemory),
+        Err(TextEnd::Line(line, reason)) => return Ok(RunOutcome::BadScript(line, reason)),
+        Err(TextEnd::NoMemory) => return Err(NoMemory),
     };
     run_pair(alloc, &image, &graph, &mut script, input, limit)
 }

@@ -1,5 +1,5 @@
 ghost use Rattle.std.specs.Prelude.{◌≡◌, ◌++◌, codes, IfOk, OnOk};
-ghost use Rattle.cfi_graph.specs.Text.{hex_text};
+ghost use Rattle.text_lines.specs.Hex.{hex_text};
 ghost use Rattle.cfi_tool.specs.ReportText.{end_status, handler_name, report_end, report_head, report_text, trail_text};
 
 use crate::address::{Address, LongAddress};

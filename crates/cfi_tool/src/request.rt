@@ -3,7 +3,7 @@ ghost use Rattle.std.specs.Str.{bytes_eq};
 ghost use Rattle.cfi_tool.specs.Command.{file_word, request_of, spelled, steps_of};
 ghost use Rattle.cfi_tool.specs.Asked.{asked};
 
-use cfi_step::{MAX_STEP, capped_number};
+use text_lines::{MAX_STEP, capped_number};
 
 /// What a run is asked for: its files, and how many steps it takes at most.
 #[derive(Clone, Copy)]

@@ -2,10 +2,10 @@ ghost use Rattle.std.specs.Prelude.{◌≡◌, Some};
 ghost use Rattle.cfi_tool.specs.Names.{reason_name, rule_name};
 
 use crate::address::Address;
-use cfi_graph::Reason;
 use cfi_verify::{Reject, Rule};
 use elf_image::ImageRefusal;
 use std::fmt;
+use text_lines::Reason;
 
 /// What is said of a file that should be an image and one that should be its graph.
 #[derive(Clone, Copy)]

@@ -1,5 +1,5 @@
 use Rattle.std.proofs.Common.{◌∙◌, ap, arith}
-use Rattle.cfi_graph.specs.Text.{hex_text}
+use Rattle.text_lines.specs.Hex.{hex_text}
 use Rattle.cfi_tool.proofs.Hex.{eight_digits, eight_low_digits}
 use Rattle.cfi_tool.proofs.address.AddressDisplay.fmt.Goals as goal
 

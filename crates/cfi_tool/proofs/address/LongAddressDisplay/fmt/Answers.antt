@@ -1,5 +1,5 @@
 use Rattle.std.proofs.Common.{◌∙◌, ap}
-use Rattle.cfi_graph.specs.Text.{hex_text}
+use Rattle.text_lines.specs.Hex.{hex_text}
 use Rattle.cfi_tool.proofs.Hex.{sixteen_digits}
 use Rattle.cfi_tool.proofs.address.LongAddressDisplay.fmt.Goals as goal
 
