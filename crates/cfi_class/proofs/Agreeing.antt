@@ -1,54 +1,43 @@
 -- A set whose members have one number, and a table that marks the numbers of a set's members.
 use Rattle.std.proofs.Common.{◌≡◌, ◌↔◌, ℕ, ◌+◌, ◌<◌, ◌≤◌, Bool, true, false, List, length, get_or, set, inl, inr, refl, sym, ◌∙◌, ap, subst, arith}
 use Rattle.std.specs.List.{All, Contains}
-use Rattle.std.specs.List.Sorted.{IsStrictlyIncreasing}
 use Rattle.std.proofs.lemmas.Bool.{cases_lt, cases_eq}
 use Rattle.std.proofs.lemmas.List.{length-set, get_or_default, get_or-set_same, get_or-set_other}
 use Rattle.std.proofs.lemmas.List.Elements.{Contains-get_or}
 use Rattle.cfi_class.specs.Passes.{AreJoined, IsMarked}
-use Rattle.cfi_class.proofs.Indexes.{one_index}
 
--- the first i members of the set have the number of its first member
-abbrev pub AgreeBelow : List ℕ → List ℕ → List ℕ → ℕ → Type 0
-AgreeBelow targets numbers set i =
-    (k j first : ℕ) → k < i → k < length set → j < length targets → first < length targets →
-    get_or targets j 0 ≡ get_or set k 0 → get_or targets first 0 ≡ get_or set 0 0 → get_or numbers j 0 ≡ get_or numbers first 0
+-- the first i members of the set have the number
+abbrev pub AgreeBelow : List ℕ → List ℕ → List ℕ → ℕ → ℕ → Type 0
+AgreeBelow targets numbers set number i =
+    (k j : ℕ) → k < i → k < length set → j < length targets → get_or targets j 0 ≡ get_or set k 0 → get_or numbers j 0 ≡ number
 
-pub agree_first : (targets numbers set : List ℕ) → IsStrictlyIncreasing targets → AgreeBelow targets numbers set 1
-agree_first targets numbers set up k j first one lt hj hf e ef =
-    let zero_is : k ≡ 0 = omega arith in
-    ap (λ (i : ℕ). get_or numbers i 0) (one_index targets up j first hj hf (e ∙ ap (λ (i : ℕ). get_or set i 0) zero_is ∙ sym ef))
-
-pub agree_more : (targets numbers set : List ℕ) (i a b : ℕ) → AgreeBelow targets numbers set i →
+pub agree_more : (targets numbers set : List ℕ) (number i a : ℕ) → AgreeBelow targets numbers set number i →
     ((j : ℕ) → j < length targets → get_or targets j 0 ≡ get_or set i 0 → a ≡ get_or numbers j 0) →
-    ((j : ℕ) → j < length targets → get_or targets j 0 ≡ get_or set 0 0 → b ≡ get_or numbers j 0) →
-    a ≡ b → AgreeBelow targets numbers set (i + 1)
-agree_more targets numbers set i a b so_far at_i at_first same k j first below lt hj hf e ef =
+    a ≡ number → AgreeBelow targets numbers set number (i + 1)
+agree_more targets numbers set number i a so_far at_i same k j below lt hj e =
     elim (cases_lt k i) [
-      | inl before ↦ so_far k j first before lt hj hf e ef
+      | inl before ↦ so_far k j before lt hj e
       | inr there ↦
           let is : k ≡ i = omega arith in
-          sym (at_i j hj (e ∙ ap (λ (m : ℕ). get_or set m 0) is)) ∙ same ∙ at_first first hf ef
+          sym (at_i j hj (e ∙ ap (λ (m : ℕ). get_or set m 0) is)) ∙ same
     ]
 
 -- the index in the set of a target that it has
 pub at_index : (xs : List ℕ) (a : ℕ) → Contains xs a → (k : ℕ) × (k < length xs) × (a ≡ get_or xs k 0)
 at_index xs a (k, lt, e) = (k, lt, sym e ∙ get_or_default xs k a 0 lt)
 
-pub agree_all : (targets numbers set : List ℕ) (i : ℕ) → length set ≤ i → length numbers ≡ length targets →
-    ((a : ℕ) → Contains set a → Contains targets a) → All (λ number. number < length targets) numbers →
-    AgreeBelow targets numbers set i → AreJoined set targets numbers numbers
-agree_all targets numbers set i past each among range agree = record {
+pub agree_all : (targets numbers set : List ℕ) (number i : ℕ) → length set ≤ i → length numbers ≡ length targets →
+    All (λ number. number < length targets) numbers →
+    AgreeBelow targets numbers set number i → AreJoined set targets numbers numbers
+agree_all targets numbers set number i past each range agree = record {
   same_length = refl;
   in_range = range;
   kept = λ a b ha hb e. e;
   joined = λ a b ha hb in_a in_b.
       let p = at_index set _ in_a in
       let q = at_index set _ in_b in
-      let some : 0 < length set = omega (arith, p.1) in
-      let f = at_index targets _ (among _ (Contains-get_or set 0 0 some)) in
-      agree p.0 a f.0 (omega (arith, p.1)) p.1 (omega (arith, each)) f.1 p.2 (sym f.2)
-      ∙ sym (agree q.0 b f.0 (omega (arith, q.1)) q.1 (omega (arith, each)) f.1 q.2 (sym f.2));
+      agree p.0 a (omega (arith, p.1)) p.1 (omega (arith, each)) p.2
+      ∙ sym (agree q.0 b (omega (arith, q.1)) q.1 (omega (arith, each)) q.2);
   only = λ a b ha hb e. inl e;
 }
 

@@ -1,11 +1,11 @@
 -- Numbers of targets, one set after another.
-use Rattle.std.proofs.Common.{◌≡◌, ◌↔◌, ℕ, ◌+◌, ◌<◌, Bool, true, false, List, [], ◌++◌, length, get_or, take, drop, ◌⊎◌, inl, inr, refl, sym, ◌∙◌, ap, subst, arith, if◌then◌else◌}
+use Rattle.std.proofs.Common.{◌≡◌, ◌↔◌, ℕ, ◌+◌, ◌-◌, ◌<◌, Bool, true, false, List, [], ◌++◌, length, get_or, take, drop, ◌⊎◌, inl, inr, refl, sym, ◌∙◌, ap, subst, arith, if◌then◌else◌}
 use Rattle.std.specs.List.{All, Contains}
 use Rattle.std.proofs.Math.Seq.{take-append_seam}
 use Rattle.std.proofs.lemmas.Bool.{cases_lt, cases_Bool}
 use Rattle.std.proofs.lemmas.List.Elements.{All-from_get_or}
 use Rattle.cfi_class.specs.Classes.{IsIn, AreInOne, Joined, here, on}
-use Rattle.cfi_class.specs.Passes.{AreJoined, AreNumbers, IsMarked}
+use Rattle.cfi_class.specs.Passes.{AreJoined, AreNumbers, IsMarked, IsRepeated}
 
 -- chains: one after another, and backwards
 pub after : (sets : List (List ℕ)) (a b c : ℕ) → Joined sets a b → Joined sets b c → Joined sets a c
@@ -70,6 +70,22 @@ joined_more sets targets k old new members is g step = record {
             let last = step_to sets targets (get_or targets p.0 0) q.0 j one (g.only q.0 j q.1 hj q.3) in
             inr (on_to sets targets i p.0 (get_or targets j 0) (g.only i p.0 hi p.1 (sym p.3)) last)
       ];
+}
+
+-- the numbers are those after a set that is the one before it again
+pub numbers_again : (sets : List (List ℕ)) (targets : List ℕ) (k : ℕ) (numbers : List ℕ) → IsRepeated sets k →
+    AreNumbers sets targets k numbers → AreNumbers sets targets (k + 1) numbers
+numbers_again sets targets k numbers again g = record {
+  same_length = g.same_length;
+  in_range = g.in_range;
+  joined = λ m i j below hi hj p q. elim (cases_lt m k) [
+    | inl before ↦ g.joined m i j before hi hj p q
+    | inr there ↦
+        let same : m ≡ k = omega arith in
+        let set_is : get_or sets m [] ≡ get_or sets (k - 1) [] = ap (λ (x : ℕ). get_or sets x []) same ∙ again.1 in
+        g.joined (k - 1) i j (omega (arith, again.0)) hi hj (subst (λ (xs : List ℕ). Contains xs (get_or targets i 0)) set_is p) (subst (λ (xs : List ℕ). Contains xs (get_or targets j 0)) set_is q)
+  ];
+  only = g.only;
 }
 
 -- one number for those that the table marks

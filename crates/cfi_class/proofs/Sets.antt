@@ -1,10 +1,11 @@
 -- Members of the first sets, and of all.
-use Rattle.std.proofs.Common.{◌≡◌, ◌↔◌, ℕ, ◌+◌, ◌<◌, ◌≤◌, List, [], ◌++◌, inl, inr, length, get_or, ◌∙◌, subst, ap, arith}
+use Rattle.std.proofs.Common.{◌≡◌, ◌↔◌, ℕ, ◌+◌, ◌-◌, ◌<◌, ◌≤◌, List, [], ◌++◌, inl, inr, length, get_or, ◌∙◌, subst, ap, arith}
 use Rattle.std.specs.List.{Contains}
 use Rattle.std.proofs.Math.ListN.{get_or-eq_default}
 use Rattle.std.proofs.lemmas.Bool.{cases_lt}
 use Rattle.std.proofs.lemmas.List.Elements.{Contains-append_left, Contains-append_right, Contains-append_cases}
 use Rattle.cfi_class.specs.Classes.{IsIn, IsInSome}
+use Rattle.cfi_class.specs.Passes.{IsRepeated}
 
 abbrev pub IsInFirst : List (List ℕ) → ℕ → ℕ → Type 0
 IsInFirst sets k a = (m : ℕ) × (m < k) × IsIn sets m a
@@ -37,5 +38,17 @@ more_members sets k members set e so_far a = (
     | inr there ↦
         let same : h.0 ≡ k = omega (arith, h.1) in
         Contains-append_right members set a (subst (λ (xs : List ℕ). Contains xs a) (ap (λ (m : ℕ). get_or sets m []) same ∙ e) h.2)
+  ],
+)
+
+-- a set that is the one before it again has no new members
+pub members_again : (sets : List (List ℕ)) (k : ℕ) (members : List ℕ) → IsRepeated sets k → ((a : ℕ) → Contains members a ↔ IsInFirst sets k a) → (a : ℕ) → Contains members a ↔ IsInFirst sets (k + 1) a
+members_again sets k members again so_far a = (
+  λ h. let p = (so_far a).0 h in (p.0, omega (arith, p.1), p.2),
+  λ h. elim (cases_lt h.0 k) [
+    | inl before ↦ (so_far a).1 (h.0, before, h.2)
+    | inr there ↦
+        let same : h.0 ≡ k = omega (arith, h.1) in
+        (so_far a).1 (k - 1, omega (arith, again.0), subst (λ (xs : List ℕ). Contains xs a) (ap (λ (m : ℕ). get_or sets m []) same ∙ again.1) h.2)
   ],
 )

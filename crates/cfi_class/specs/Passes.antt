@@ -1,8 +1,12 @@
 -- Words of private contracts: the numbers that targets have while their classes are found.
-use Rattle.std.specs.Prelude.{◌≡◌, ◌⊎◌, ◌↔◌, ℕ, ◌<◌, List, length, slice_index}
+use Rattle.std.specs.Prelude.{◌≡◌, ◌⊎◌, ◌↔◌, ℕ, ◌<◌, ◌-◌, List, [], length, slice_index, slice_index_or}
 use Rattle.std.specs.List.{All, AllPairs, Contains}
 use Rattle.std.specs.List.Sorted.{IsStrictlyIncreasing}
 use Rattle.cfi_class.specs.Classes.{IsIn, IsInSome, Joined}
+
+-- a set that is the one before it again
+abbrev pub IsRepeated : List (List ℕ) → ℕ → Type 0
+IsRepeated sets k = (0 < k) × (slice_index_or sets k [] ≡ slice_index_or sets (k - 1) [])
 
 -- a number of a member of the set
 abbrev pub IsMarked : List ℕ → List ℕ → List ℕ → ℕ → Type 0

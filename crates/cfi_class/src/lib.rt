@@ -1,11 +1,12 @@
 //! Classes of the targets of indirect transfers, and the labels that classes are given.
 #![tactic(auto)]
 
-pub use joining::classes;
-pub use numbering::labels;
+pub use class::classes;
+pub use label::labels;
 
+mod class;
 mod groups;
-mod joining;
-mod numbering;
+mod label;
 mod passes;
+mod repeats;
 mod targets;

@@ -12,12 +12,13 @@ ghost use Rattle.std.specs.Prelude.{
   slice_index,
   slice_index_or,
 };
-ghost use Rattle.std.specs.Bool.{OnTrue, OnFalse};
+ghost use Rattle.std.specs.Bool.{OnTrue};
 ghost use Rattle.std.specs.List.{All, Contains};
 ghost use Rattle.std.specs.List.Sorted.{IsStrictlyIncreasing};
 ghost use Rattle.cfi_class.specs.Classes.{IsInSome};
 ghost use Rattle.cfi_class.specs.Passes.{AreJoined, AreNumbers, IsMarked};
 
+use crate::repeats::is_repeated;
 use rv_word::{NoMemory, Places};
 use std::alloc::Global;
 
@@ -36,17 +37,16 @@ fn number_of(targets: &[u64], numbers: &[usize], target: u64) -> usize
     }
 }
 
-/// Whether all members of a set have one number.
-fn agree(targets: &[u64], numbers: &[usize], set: &[u64]) -> bool
+/// Whether all members of a set have this number.
+fn agree(targets: &[u64], numbers: &[usize], set: &[u64], number: usize) -> bool
     requires rising { IsStrictlyIncreasing targets.now }
     requires each { length numbers.now ≡ length targets.now }
     requires among { (a : ℕ) → Contains set.now a → Contains targets.now a }
     requires in_range { All (λ number. number < length targets.now) numbers.now }
-    ensures joined { OnTrue result (AreJoined set.now targets.now numbers.now numbers.now) }
-    ensures some { OnFalse result (0 < length set.now) }
+    ensures { OnTrue result (AreJoined set.now targets.now numbers.now numbers.now) }
 {
-    for i in 1..set.len() {
-        if number_of(targets, numbers, set[i]) != number_of(targets, numbers, set[0]) {
+    for target in set {
+        if number_of(targets, numbers, *target) != number {
             return false;
         }
     }
@@ -99,9 +99,12 @@ fn join(alloc: Global, targets: &[u64], numbers: &mut [usize], set: &[u64]) -> R
     requires in_range { All (λ number. number < length targets.now) numbers.old }
     ensures { OnOk result (AreJoined set.now targets.now numbers.old numbers.new) }
 {
-    if !agree(targets, numbers, set) {
+    if set.is_empty() {
+        return Ok(());
+    }
+    let first = number_of(targets, numbers, set[0]);
+    if !agree(targets, numbers, set, first) {
         let marked = marks(alloc, targets, numbers, set)?;
-        let first = number_of(targets, numbers, set[0]);
         renumber(numbers, marked.as_slice(), first);
     }
     Ok(())
@@ -127,8 +130,10 @@ pub(crate) fn numbers_of(
     ensures { IfOk result (λ v. AreNumbers sets.now targets.now (length sets.now) v.items) }
 {
     let mut numbers = indexes(alloc, targets.len())?;
-    for set in sets {
-        join(alloc, targets, numbers.as_mut_slice(), set.as_slice())?;
+    for k in 0..sets.len() {
+        if !is_repeated(sets, k) {
+            join(alloc, targets, numbers.as_mut_slice(), sets[k].as_slice())?;
+        }
     }
     Ok(numbers)
 }

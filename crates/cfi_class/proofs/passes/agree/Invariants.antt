@@ -1,5 +1,5 @@
 use Rattle.cfi_class.proofs.Agreeing.{AgreeBelow}
 use Rattle.cfi_class.proofs.passes.agree.Given as goal
 
-abbrev pub invariant-loop-i : goal.invariant-loop-i
-invariant-loop-i l = AgreeBelow l.targets l.numbers l.set l.i
+abbrev pub invariant-loop-target : goal.invariant-loop-target
+invariant-loop-target l = AgreeBelow l.targets l.numbers l.set l.number l.target-index

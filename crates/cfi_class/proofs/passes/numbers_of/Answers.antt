@@ -1,20 +1,25 @@
 use Rattle.std.proofs.Common.{[], sym, ◌∙◌, subst, length, ℕ, ◌≡◌, arith}
 use Rattle.std.proofs.lemmas.List.{get_or_default}
-use Rattle.cfi_class.proofs.Numbers.{own_numbers, joined_more, written_back}
+use Rattle.cfi_class.proofs.Numbers.{own_numbers, joined_more, numbers_again, written_back}
 use Rattle.cfi_class.specs.Passes.{AreJoined, AreNumbers}
 use Rattle.cfi_class.proofs.passes.numbers_of.Goals as goal
+use Rattle.cfi_class.proofs.passes.numbers_of.Goals.{then-not-is_repeated+in_ok-join, else-not-is_repeated}
 
-pub loop-set-init : goal.loop-set-init
-loop-set-init c = own_numbers _ _ _ c.in_ok-numbers.ensures.len c.in_ok-numbers.ensures.value
+pub loop-k-init : goal.loop-k-init
+loop-k-init c = own_numbers _ _ _ c.in_ok-numbers.ensures.len c.in_ok-numbers.ensures.value
 
-pub loop-set-preserved : goal.loop-set-preserved
-loop-set-preserved c =
-    let set = get_or_default c.args.sets.now c.loop-set.set-index [] c.set-item.result c.loop-set-test.true ∙ sym c.set-item.is ∙ sym c.as_slice.ensures in
-    let step : AreJoined c.as_slice.result.now c.args.targets.now c.loop-set.numbers.items c.join.new.numbers = rw (← c.as_mut_slice.ensures.value) c.in_ok-join.ensures in
-    let len : c.loop-set.numbers.len ≡ length c.join.new.numbers = omega (arith, c.as_mut_slice.ensures.len, c.in_ok-join.ensures.same_length) in
-    rw (written_back c.join.new.numbers c.loop-set.numbers.items c.loop-set.numbers.len len) (joined_more _ _ _ _ _ _ set c.loop-set.invariant step)
+pub loop-k-preserved : goal.loop-k-preserved
+loop-k-preserved c = elim c.if-not-is_repeated.branch [
+  | then-not-is_repeated+in_ok-join w ↦
+      let set = get_or_default c.args.sets.now c.loop-k.k [] w.index-sets-k.result c.loop-k-test.true ∙ sym w.index-sets-k.is ∙ sym w.as_slice.ensures in
+      let step : AreJoined w.as_slice.result.now c.args.targets.now c.loop-k.numbers.items w.join.new.numbers = rw (← w.as_mut_slice.ensures.value) w.in_ok-join.ensures in
+      let len : c.loop-k.numbers.len ≡ length w.join.new.numbers = omega (arith, w.as_mut_slice.ensures.len, w.in_ok-join.ensures.same_length) in
+      rw (w.numbers-is, written_back w.join.new.numbers c.loop-k.numbers.items c.loop-k.numbers.len len) (joined_more _ _ _ _ _ _ set c.loop-k.invariant step)
+  | else-not-is_repeated w ↦
+      rw w.numbers-is (numbers_again _ _ _ _ (c.is_repeated.ensures.0 w.if-not-is_repeated.false) c.loop-k.invariant)
+]
 
 pub returns : goal.returns
 returns c =
-    let all : c.loop-set.set-index ≡ length c.args.sets.now = omega (arith, c.loop-set-test.false, c.loop-set.auto.set-index-end) in
-    subst (λ (k : ℕ). AreNumbers c.args.sets.now c.args.targets.now k c.loop-set.numbers.items) all c.loop-set.invariant
+    let all : c.loop-k.k ≡ length c.args.sets.now = omega (arith, c.loop-k-test.false, c.loop-k.auto.k-end) in
+    subst (λ (k : ℕ). AreNumbers c.args.sets.now c.args.targets.now k c.loop-k.numbers.items) all c.loop-k.invariant

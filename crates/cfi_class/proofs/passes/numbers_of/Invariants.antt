@@ -1,5 +1,5 @@
 use Rattle.cfi_class.specs.Passes.{AreNumbers}
 use Rattle.cfi_class.proofs.passes.numbers_of.Given as goal
 
-abbrev pub invariant-loop-set : goal.invariant-loop-set
-invariant-loop-set l = AreNumbers l.sets l.targets l.set-index l.numbers.items
+abbrev pub invariant-loop-k : goal.invariant-loop-k
+invariant-loop-k l = AreNumbers l.sets l.targets l.k l.numbers.items

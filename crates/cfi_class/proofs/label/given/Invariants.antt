@@ -1,6 +1,6 @@
 use Rattle.std.proofs.Common.{◌+◌, ◌-◌, ◌≤◌, length}
 use Rattle.cfi_class.proofs.LabelsGiven.{Given}
-use Rattle.cfi_class.proofs.numbering.given.Given as goal
+use Rattle.cfi_class.proofs.label.given.Given as goal
 
 abbrev pub invariant-loop-next : goal.invariant-loop-next
 invariant-loop-next l = record {

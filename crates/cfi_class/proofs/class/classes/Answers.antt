@@ -3,7 +3,7 @@ use Rattle.std.specs.List.{Contains}
 use Rattle.std.proofs.lemmas.Result.{IfOk-weaker}
 use Rattle.cfi_class.specs.Passes.{AreNumbers, AreGroups}
 use Rattle.cfi_class.proofs.Chains.{members, apart, joined}
-use Rattle.cfi_class.proofs.joining.classes.Goals as goal
+use Rattle.cfi_class.proofs.class.classes.Goals as goal
 
 pub numbers_of-requires-clause-among : goal.numbers_of-requires-clause-among
 numbers_of-requires-clause-among c = λ a h.

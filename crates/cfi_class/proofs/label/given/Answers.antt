@@ -1,7 +1,7 @@
 use Rattle.std.proofs.Common.{arith}
 use Rattle.cfi_class.proofs.LabelsGiven.{pass_lower, pass_equal, give, IsAbove, above_first, above_none}
-use Rattle.cfi_class.proofs.numbering.given.Goals as goal
-use Rattle.cfi_class.proofs.numbering.given.Goals.{then-used-at-2, else-used-at-2, else-at-used-via-then-at-used+else-used-at, else-at-used-via-else-at-used}
+use Rattle.cfi_class.proofs.label.given.Goals as goal
+use Rattle.cfi_class.proofs.label.given.Goals.{then-used-at-2, else-used-at-2, else-at-used-via-then-at-used+else-used-at, else-at-used-via-else-at-used}
 
 pub loop-next-preserved-then-used-at : goal.loop-next-preserved-then-used-at
 loop-next-preserved-then-used-at c =

@@ -3,7 +3,7 @@ use Rattle.std.specs.List.Sorted.{IsPermutation}
 use Rattle.std.proofs.lemmas.List.Sorted.{IsNonDecreasingBy-from_sort}
 use Rattle.std.proofs.lemmas.Result.{IfOk-weaker}
 use Rattle.cfi_class.proofs.LabelsGiven.{in_any_order}
-use Rattle.cfi_class.proofs.numbering.labels.Goals as goal
+use Rattle.cfi_class.proofs.label.labels.Goals as goal
 
 pub given-requires-clause-in_order : goal.given-requires-clause-in_order
 given-requires-clause-in_order c =

@@ -1,0 +1,75 @@
+//! The graphs of the programs, as texts.
+
+/// The graph of `A`.
+pub const A_GRAPH: &[u8] = b"rvcfi-graph 1\ncode 40000000 00000050\ncall 4000000c 40000040\nend\n";
+
+/// A graph of `A` or `ASTRAY`, with a class that has no target.
+pub const A_CLASS_GRAPH: &[u8] =
+    b"rvcfi-graph 1\ncode 40000000 00000050\nclass 00001\ncall 4000000c 40000040\nend\n";
+
+/// The graph of `B`.
+pub const B_GRAPH: &[u8] = b"rvcfi-graph 1\ncode 40000000 0000005c\ncall 4000000c 40000040\nend\n";
+
+/// The graph of `H`.
+pub const H_GRAPH: &[u8] =
+    b"rvcfi-graph 1\ncode 40000000 000000c4\ncall 4000000c 40000040\ncall 40000054 40000094\n\
+end\n";
+
+/// The graph of `P`.
+pub const P_GRAPH: &[u8] = b"rvcfi-graph 1\ncode 40000000 00000104\nclass 00001 400000c8 400000e4\n\
+call 4000000c 40000040\nsite 4000005c call 00001\nend\n";
+
+/// The graph of `RELABELLED`.
+pub const RELABELLED_GRAPH: &[u8] =
+    b"rvcfi-graph 1\ncode 40000000 00000104\nclass 00002 400000c8 400000e4\n\
+call 4000000c 40000040\nsite 4000005c call 00002\nend\n";
+
+/// The graph of `NARROW`.
+pub const NARROW_GRAPH: &[u8] =
+    b"rvcfi-graph 1\ncode 40000000 00000100\nclass 00001 400000c8\ncall 4000000c 40000040\n\
+site 4000005c call 00001\nend\n";
+
+/// The graph of `NOWHERE`.
+pub const NOWHERE_GRAPH: &[u8] =
+    b"rvcfi-graph 1\ncode 40000000 000000a8\nclass 00001\ncall 4000000c 40000040\n\
+site 40000040 call 00001\nend\n";
+
+/// The graph of `JUMP`.
+pub const JUMP_GRAPH: &[u8] =
+    b"rvcfi-graph 1\ncode 40000000 000000b8\nclass 00001 4000007c 40000098\n\
+call 4000000c 40000040\nsite 40000048 jump 00001\nend\n";
+
+/// The graph of `ECHO`.
+pub const ECHO_GRAPH: &[u8] =
+    b"rvcfi-graph 1\ncode 40000000 00000088\ncall 4000000c 40000040\nedge 40000058 40000070\n\
+edge 4000006c 40000044\nend\n";
+
+/// The graph of `EDGE`.
+pub const EDGE_GRAPH: &[u8] =
+    b"rvcfi-graph 1\ncode 40000000 00000068\ncall 4000000c 40000040\nend\n";
+
+/// The graph of `AIMED`.
+pub const AIMED_GRAPH: &[u8] =
+    b"rvcfi-graph 1\ncode 40000000 0000006c\ncall 4000000c 40000040\nend\n";
+
+/// The graph of `DEEP`.
+pub const DEEP_GRAPH: &[u8] =
+    b"rvcfi-graph 1\ncode 40000000 000000ac\ncall 4000000c 40000040\nedge 40000048 4000004c\n\
+edge 4000004c 40000094\ncall 4000006c 4000004c\nend\n";
+
+/// The graph of `LOOP`.
+pub const LOOP_GRAPH: &[u8] =
+    b"rvcfi-graph 1\ncode 40000000 00000060\ncall 4000000c 40000040\nedge 40000048 40000044\n\
+end\n";
+
+/// The graph of `BREAK`.
+pub const BREAK_GRAPH: &[u8] =
+    b"rvcfi-graph 1\ncode 40000000 00000048\ncall 4000000c 40000040\nend\n";
+
+/// The graph of `LOAD`.
+pub const LOAD_GRAPH: &[u8] =
+    b"rvcfi-graph 1\ncode 40000000 0000004c\ncall 4000000c 40000040\nend\n";
+
+/// The graph of `STATUS`.
+pub const STATUS_GRAPH: &[u8] =
+    b"rvcfi-graph 1\ncode 40000000 00000054\ncall 4000000c 40000040\nend\n";

@@ -1,0 +1,20 @@
+//! Programs that tests verify and run: the words of their units, their graphs and their data, and what
+//! makes their code of them. They stand here alone, since several crates of tests use them.
+#![tactic(auto)]
+
+pub use bytes::code;
+pub use data::{JUMP_DATA, P_DATA};
+pub use graphs::{
+    A_CLASS_GRAPH, A_GRAPH, AIMED_GRAPH, B_GRAPH, BREAK_GRAPH, DEEP_GRAPH, ECHO_GRAPH, EDGE_GRAPH,
+    H_GRAPH, JUMP_GRAPH, LOAD_GRAPH, LOOP_GRAPH, NARROW_GRAPH, NOWHERE_GRAPH, P_GRAPH,
+    RELABELLED_GRAPH, STATUS_GRAPH,
+};
+pub use units::{
+    A, AIMED, ASTRAY, B, BREAK, DEEP, ECHO, EDGE, H, JUMP, LOAD, LOOP, NARROW, NOWHERE, OTHER, P,
+    PROLOGUE, RELABELLED, STATUS,
+};
+
+mod bytes;
+mod data;
+mod graphs;
+mod units;
