@@ -52,6 +52,7 @@ module _ (part : ℕ) (m m' : Memory) (same : SameOn part (part + PART_SIZE) m m
   unit_same image (V.Gate label) at pending r h i = i
   unit_same image (V.Plain instr) at pending r h i = i
   unit_same image (V.Branch op rs1 rs2 target) at pending r h i = i
+  unit_same image (V.Near op rs1 rs2 target) at pending r h i = i
   unit_same image (V.Jump target) at pending r h i = i
   unit_same image V.Stop at pending r h i = i
   unit_same image (V.System op) at pending r h i = i
@@ -83,6 +84,7 @@ module _ (part : ℕ) (image : Memory) (at : ℕ) (h : Hart) (m : Memory) where
   unit_begins (V.Gate label) site pending x3 e = only e x3
   unit_begins (V.Plain instr) site pending x3 e = only e x3
   unit_begins (V.Branch op rs1 rs2 target) site pending x3 e = branch_test e x3
+  unit_begins (V.Near op rs1 rs2 target) site pending x3 e = only e x3
   unit_begins (V.Jump target) site pending x3 e = only e x3
   unit_begins V.Stop site pending x3 e = only e x3
   unit_begins (V.System op) site pending x3 e = only e x3

@@ -1,5 +1,5 @@
 -- The words of a unit that fits are recognised as that unit, whatever follows them.
-use Rattle.std.proofs.Common.{◌≡◌, ℕ, ◌+◌, ◌<◌, ◌^◌, ◌==◌, refl, ap, sym, subst, ◌∙◌, lit<, true, false, not, List, ◌++◌, length, drop, inl, inr, zero, suc, ◌≢◌}
+use Rattle.std.proofs.Common.{◌≡◌, ℕ, ◌+◌, ◌<◌, ◌^◌, ◌==◌, refl, ap, sym, subst, ◌∙◌, lit<, Bool, true, false, not, List, [], ◌∷◌, ◌++◌, length, drop, inl, inr, zero, suc, ◌≢◌}
 use Rattle.std.specs.Prelude.{Some, nat_eq}
 use Rattle.std.specs.List.{starts_with}
 use Rattle.std.proofs.lemmas.Bool.{eqb-true, cases_Bool}
@@ -7,7 +7,7 @@ use Rattle.std.proofs.lemmas.Bool.Decides.{Decides-eqb}
 use Rattle.std.proofs.lemmas.Nat.{mod_below}
 use Rattle.std.proofs.lemmas.Slice.Eq.{starts_is}
 use Rattle.std.proofs.lemmas.List.{take-append-drop}
-use Rattle.std.proofs.Math.Seq.{take-append_seam}
+use Rattle.std.proofs.Math.Seq.{take-append_seam, drop-append_seam}
 use Rattle.rv_instr.specs.InRange.{IsInstr}
 use Rattle.rv_instr.specs.Reserved.{is_reserved}
 use Rattle.rv_instr.specs.declared.instr.Instr.{Instr}
@@ -22,8 +22,8 @@ use Rattle.rv_code.proofs.ReadBack.{decoded-code_of}
 use Rattle.cfi_unit.specs.declared.unit.Unit as U
 use Rattle.cfi_unit.specs.declared.unit.Unit.TheVariants as V
 use Rattle.cfi_unit.specs.declared.unit.SystemOp.TheVariants as S
-use Rattle.cfi_unit.specs.UnitWords.{BAD_TARGET, MINUS_EIGHT, MINUS_FOUR, Begins, Fits, Reaches, gate, is_plain, jump, jump_offset, word_count, words_of}
-use Rattle.cfi_unit.specs.Recognise.{can_stand, instr_at, jump_or_stop, led_to, recognised, stands, unit_from}
+use Rattle.cfi_unit.specs.UnitWords.{BAD_TARGET, MINUS_EIGHT, MINUS_FOUR, Begins, Fits, IsNear, Reaches, gate, instr_at, is_plain, jump, jump_offset, may_precede, near_offset, skips_jump, word_count, words_of}
+use Rattle.cfi_unit.specs.Recognise.{can_stand, jump_or_stop, led_to, recognised, stands, unit_from}
 use Rattle.cfi_unit.proofs.Stand.{and_both, fits_stand}
 
 pub recognised_by : (ws : List ℕ) (at : ℕ) (i : Instr) (u : U.Unit) → instr_at ws 0 ≡ Some i →
@@ -35,9 +35,37 @@ starts_prefix : (p rest : List ℕ) → starts_with nat_eq (p ++ rest) p ≡ tru
 starts_prefix p rest =
     (starts_is Decides-eqb (p ++ rest) p (starts_with nat_eq (p ++ rest) p) refl).1 rest refl
 
-stands_there : (u : U.Unit) (at : ℕ) (rest : List ℕ) → Fits u at → stands (words_of u at ++ rest) at u ≡ true
-stands_there u at rest f =
-    and_both (can_stand u at) (starts_with nat_eq (words_of u at ++ rest) (words_of u at)) (fits_stand u at f) (starts_prefix (words_of u at) rest)
+pub words_counted : (u : U.Unit) (at : ℕ) → length (words_of u at) ≡ word_count u
+unfolding words_of
+words_counted (V.Gate label) at = refl
+words_counted (V.Plain i) at = refl
+words_counted (V.Branch op rs1 rs2 target) at = refl
+words_counted (V.Near op rs1 rs2 target) at = refl
+words_counted (V.Jump target) at = refl
+words_counted V.Stop at = refl
+words_counted (V.System op) at = refl
+words_counted (V.Store op rs1 rs2 imm) at = refl
+words_counted (V.Call target) at = refl
+words_counted (V.Ijump rs1 imm label) at = refl
+words_counted (V.Icall rs1 imm label) at = refl
+words_counted V.Return at = refl
+
+-- what follows a unit's words
+after_words : (u : U.Unit) (at : ℕ) (rest : List ℕ) → drop (word_count u) (words_of u at ++ rest) ≡ rest
+after_words u at rest =
+    ap (λ n. drop n (words_of u at ++ rest)) (sym (words_counted u at)) ∙ drop-append_seam (words_of u at) rest
+
+-- an instruction of what follows some words is the list's
+pub next_instr : (n : ℕ) (ws : List ℕ) → instr_at (drop n ws) 0 ≡ instr_at ws n
+next_instr zero ws = refl
+next_instr (suc n) [] = refl
+next_instr (suc n) (w ∷ ws) = next_instr n ws
+
+stands_there : (u : U.Unit) (at : ℕ) (rest : List ℕ) → Fits u at → may_precede u at rest ≡ true → stands (words_of u at ++ rest) at u ≡ true
+stands_there u at rest f ahead =
+    and_both (can_stand u at) _ (fits_stand u at f)
+    (and_both (starts_with nat_eq (words_of u at ++ rest) (words_of u at)) _ (starts_prefix (words_of u at) rest)
+    (ap (may_precede u at) (after_words u at rest) ∙ ahead))
 
 -- a register that programs may write is neither x30 nor x31
 free_30 : (r : ℕ) → not (is_reserved r) ≡ true → (r == 30) ≡ false
@@ -79,6 +107,14 @@ branch_from : (ws : List ℕ) (at : ℕ) (op : BranchOp) (rs1 rs2 target : ℕ) 
     Reaches (at + 4) target → unit_from ws at (Branch op rs1 rs2 4) ≡ Some (V.Branch op rs1 rs2 target)
 branch_from ws at op rs1 rs2 target a r = rw a (ap (λ t. Some (V.Branch op rs1 rs2 t)) r)
 
+near_from : (ws : List ℕ) (at : ℕ) (op : BranchOp) (rs1 rs2 target : ℕ) → skips_jump (near_offset at target) (instr_at ws 1) ≡ false →
+    IsNear at target → unit_from ws at (Branch op rs1 rs2 (near_offset at target)) ≡ Some (V.Near op rs1 rs2 target)
+near_from ws at op rs1 rs2 target a r = rw a (ap (λ t. Some (V.Near op rs1 rs2 t)) r)
+
+not_kept : (b : Bool) → not b ≡ true → b ≡ false
+not_kept true e = absurd (cc)
+not_kept false e = refl
+
 differ : (a b : ℕ) → a ≢ b → (a == b) ≡ false
 differ a b other =
     elim (cases_Bool (a == b)) [ inl same ↦ absurd (other (eqb-true a b same)) | inr differs ↦ differs ]
@@ -111,88 +147,81 @@ icall_from ws at rs1 imm label a b c = rw (a, b, c) refl
 stop_from : (ws : List ℕ) (at : ℕ) → Reaches at BAD_TARGET → unit_from ws at (jump at BAD_TARGET) ≡ Some V.Stop
 stop_from ws at r = ap (λ t. Some (jump_or_stop t)) r
 
-pub found : (u : U.Unit) (at : ℕ) (rest : List ℕ) → Fits u at → recognised (words_of u at ++ rest) at ≡ Some u
+pub found : (u : U.Unit) (at : ℕ) (rest : List ℕ) → Fits u at → may_precede u at rest ≡ true → recognised (words_of u at ++ rest) at ≡ Some u
 unfolding words_of
-found (V.Gate label) at rest f =
+found (V.Gate label) at rest f ahead =
     recognised_by (words_of (V.Gate label) at ++ rest) at (gate label) (V.Gate label)
-    (decoded-code_of (gate label) (lit< tt, f)) refl (stands_there (V.Gate label) at rest f)
-found (V.Plain i) at rest f =
+    (decoded-code_of (gate label) (lit< tt, f)) refl (stands_there (V.Gate label) at rest f ahead)
+found (V.Plain i) at rest f ahead =
     let ws : List ℕ = words_of (V.Plain i) at ++ rest in
-    recognised_by ws at i (V.Plain i) (decoded-code_of i f.0) (plain_from ws at i f.1) (stands_there (V.Plain i) at rest f)
-found (V.Branch op rs1 rs2 target) at rest f =
+    recognised_by ws at i (V.Plain i) (decoded-code_of i f.0) (plain_from ws at i f.1) (stands_there (V.Plain i) at rest f ahead)
+found (V.Branch op rs1 rs2 target) at rest f ahead =
     let u : U.Unit = V.Branch op rs1 rs2 target in
     let ws : List ℕ = words_of u at ++ rest in
     recognised_by ws at (Branch op rs1 rs2 4) u (decoded-code_of (Branch op rs1 rs2 4) (f.0, f.1, lit< tt))
     (branch_from ws at op rs1 rs2 target (decoded-code_of (jump (at + 4) target) (is_jump_instr 0 (at + 4) target (lit< tt))) f.2)
-    (stands_there u at rest f)
-found (V.Jump target) at rest f =
+    (stands_there u at rest f ahead)
+found (V.Near op rs1 rs2 target) at rest f ahead =
+    let u : U.Unit = V.Near op rs1 rs2 target in
+    let ws : List ℕ = words_of u at ++ rest in
+    let i : Instr = Branch op rs1 rs2 (near_offset at target) in
+    recognised_by ws at i u (decoded-code_of i (f.0, f.1, mod_below _ (2 ^ 12) (lit< tt)))
+    (near_from ws at op rs1 rs2 target (not_kept _ ahead) f.2) (stands_there u at rest f ahead)
+found (V.Jump target) at rest f ahead =
     let ws : List ℕ = words_of (V.Jump target) at ++ rest in
     recognised_by ws at (jump at target) (V.Jump target) (decoded-code_of (jump at target) (is_jump_instr 0 at target (lit< tt)))
-    (jump_from ws at target f.0 f.1) (stands_there (V.Jump target) at rest f)
-found V.Stop at rest f =
+    (jump_from ws at target f.0 f.1) (stands_there (V.Jump target) at rest f ahead)
+found V.Stop at rest f ahead =
     let ws : List ℕ = words_of V.Stop at ++ rest in
     recognised_by ws at (jump at BAD_TARGET) V.Stop (decoded-code_of (jump at BAD_TARGET) (is_jump_instr 0 at BAD_TARGET (lit< tt)))
-    (stop_from ws at f) (stands_there V.Stop at rest f)
-found (V.System S.Ecall) at rest f =
+    (stop_from ws at f) (stands_there V.Stop at rest f ahead)
+found (V.System S.Ecall) at rest f ahead =
     recognised_by (words_of (V.System S.Ecall) at ++ rest) at Ecall (V.System S.Ecall) (decoded-code_of Ecall tt) refl
-    (stands_there (V.System S.Ecall) at rest f)
-found (V.System S.Ebreak) at rest f =
+    (stands_there (V.System S.Ecall) at rest f ahead)
+found (V.System S.Ebreak) at rest f ahead =
     recognised_by (words_of (V.System S.Ebreak) at ++ rest) at Ebreak (V.System S.Ebreak) (decoded-code_of Ebreak tt) refl
-    (stands_there (V.System S.Ebreak) at rest f)
-found (V.Store op rs1 rs2 imm) at rest f =
+    (stands_there (V.System S.Ebreak) at rest f ahead)
+found (V.Store op rs1 rs2 imm) at rest f ahead =
     let u : U.Unit = V.Store op rs1 rs2 imm in
     let ws : List ℕ = words_of u at ++ rest in
     recognised_by ws at (Immediate Addi 31 rs1 imm) u (decoded-code_of (Immediate Addi 31 rs1 imm) (lit< tt, f.0, f.2))
     (store_from ws at op rs1 rs2 imm (decoded-code_of (Shift Slli 31 31 36) (lit< tt, lit< tt, lit< tt))
     (decoded-code_of (Store op 31 rs2 0) (lit< tt, f.1, lit< tt)))
-    (stands_there u at rest f)
-found (V.Call target) at rest f =
+    (stands_there u at rest f ahead)
+found (V.Call target) at rest f ahead =
     let u : U.Unit = V.Call target in
     let ws : List ℕ = words_of u at ++ rest in
     recognised_by ws at (Shift Slli 30 3 48) u (decoded-code_of (Shift Slli 30 3 48) (lit< tt, lit< tt, lit< tt))
     (call_from ws at target (decoded-code_of (Jal 1 (jump_offset (at + 28) target)) (is_jump_instr 1 (at + 28) target (lit< tt))) f.1)
-    (stands_there u at rest f)
-found (V.Ijump rs1 imm label) at rest f =
+    (stands_there u at rest f ahead)
+found (V.Ijump rs1 imm label) at rest f ahead =
     let u : U.Unit = V.Ijump rs1 imm label in
     let ws : List ℕ = words_of u at ++ rest in
     recognised_by ws at (Immediate Addi 31 rs1 imm) u (decoded-code_of (Immediate Addi 31 rs1 imm) (lit< tt, f.0, f.1))
     (ijump_from ws at rs1 imm label (decoded-code_of (Immediate Andi 31 31 MINUS_FOUR) (lit< tt, lit< tt, lit< tt))
     (decoded-code_of (Upper Lui 4 label) (lit< tt, f.2)) (decoded-code_of (Jalr 0 31 0) (lit< tt, lit< tt, lit< tt)))
-    (stands_there u at rest f)
-found (V.Icall rs1 imm label) at rest f =
+    (stands_there u at rest f ahead)
+found (V.Icall rs1 imm label) at rest f ahead =
     let u : U.Unit = V.Icall rs1 imm label in
     let ws : List ℕ = words_of u at ++ rest in
     recognised_by ws at (Immediate Addi 31 rs1 imm) u (decoded-code_of (Immediate Addi 31 rs1 imm) (lit< tt, f.0.0, f.0.1))
     (icall_from ws at rs1 imm label (decoded-code_of (Immediate Andi 31 31 MINUS_FOUR) (lit< tt, lit< tt, lit< tt))
     (decoded-code_of (Upper Lui 4 label) (lit< tt, f.0.2)) (decoded-code_of (Shift Slli 30 3 48) (lit< tt, lit< tt, lit< tt)))
-    (stands_there u at rest f)
-found V.Return at rest f =
+    (stands_there u at rest f ahead)
+found V.Return at rest f ahead =
     recognised_by (words_of V.Return at ++ rest) at (Load Ld 31 3 MINUS_EIGHT) V.Return
-    (decoded-code_of (Load Ld 31 3 MINUS_EIGHT) (lit< tt, lit< tt, lit< tt)) refl (stands_there V.Return at rest f)
-
-pub words_counted : (u : U.Unit) (at : ℕ) → length (words_of u at) ≡ word_count u
-unfolding words_of
-words_counted (V.Gate label) at = refl
-words_counted (V.Plain i) at = refl
-words_counted (V.Branch op rs1 rs2 target) at = refl
-words_counted (V.Jump target) at = refl
-words_counted V.Stop at = refl
-words_counted (V.System op) at = refl
-words_counted (V.Store op rs1 rs2 imm) at = refl
-words_counted (V.Call target) at = refl
-words_counted (V.Ijump rs1 imm label) at = refl
-words_counted (V.Icall rs1 imm label) at = refl
-words_counted V.Return at = refl
+    (decoded-code_of (Load Ld 31 3 MINUS_EIGHT) (lit< tt, lit< tt, lit< tt)) refl (stands_there V.Return at rest f ahead)
 
 -- the words of a unit that fits begin with it
-pub begins : (u : U.Unit) (at : ℕ) (rest : List ℕ) → Fits u at → Begins (words_of u at ++ rest) at u
-begins u at rest f = record {
+pub begins : (u : U.Unit) (at : ℕ) (rest : List ℕ) → Fits u at → may_precede u at rest ≡ true → Begins (words_of u at ++ rest) at u
+begins u at rest f ahead = record {
   fits = f;
   words_are = rw (← words_counted u at) (take-append_seam (words_of u at) rest);
+  ahead = ap (may_precede u at) (after_words u at rest) ∙ ahead;
 }
 
 pub begins_recognised : (ws : List ℕ) (at : ℕ) (u : U.Unit) → Begins ws at u → recognised ws at ≡ Some u
 begins_recognised ws at u b =
     let parts : words_of u at ++ drop (word_count u) ws ≡ ws =
     ap (λ (p : List ℕ). p ++ drop (word_count u) ws) (sym b.words_are) ∙ take-append-drop (word_count u) ws in
-    sym (ap (λ (l : List ℕ). recognised l at) parts) ∙ found u at (drop (word_count u) ws) b.fits
+    sym (ap (λ (l : List ℕ). recognised l at) parts) ∙ found u at (drop (word_count u) ws) b.fits b.ahead

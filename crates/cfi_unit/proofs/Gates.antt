@@ -84,6 +84,7 @@ gate_unit (V.Gate other) at zero label fits is = let same : other ≡ label = cc
 gate_unit (V.Gate other) at (suc k) label fits is = absurd (cc)
 gate_unit (V.Plain instr) at k label fits is = other_unit (V.Plain instr) at k label (plain_gate instr fits.1) is
 gate_unit (V.Branch op rs1 rs2 target) at k label fits is = other_unit (V.Branch op rs1 rs2 target) at k label refl is
+gate_unit (V.Near op rs1 rs2 target) at k label fits is = other_unit (V.Near op rs1 rs2 target) at k label refl is
 gate_unit (V.Jump target) at k label fits is = other_unit (V.Jump target) at k label refl is
 gate_unit V.Stop at k label fits is = other_unit V.Stop at k label refl is
 gate_unit (V.System S.Ecall) at k label fits is = other_unit (V.System S.Ecall) at k label refl is
@@ -107,6 +108,7 @@ unit_size : (unit : U.Unit) (at : ℕ) → 4 * length (instrs_of unit at) ≡ 4 
 unit_size (V.Gate label) at = refl
 unit_size (V.Plain instr) at = refl
 unit_size (V.Branch op rs1 rs2 target) at = refl
+unit_size (V.Near op rs1 rs2 target) at = refl
 unit_size (V.Jump target) at = refl
 unit_size V.Stop at = refl
 unit_size (V.System S.Ecall) at = refl

@@ -1,8 +1,11 @@
--- Where direct jumps lead.
+-- Where direct jumps and near branches lead.
 use Rattle.std.proofs.Common.{◌≡◌, ℕ, ◌+◌, ◌*◌, ap, ◌∙◌}
 use Rattle.rv_word.specs.Bits.{wrap}
 use Rattle.rv_code.specs.Step.{offset}
-use Rattle.cfi_unit.specs.UnitWords.{jump_offset, Reaches}
+use Rattle.cfi_unit.specs.UnitWords.{jump_offset, near_offset, IsNear, Reaches}
 
 pub jump_leads : (pc at to : ℕ) → pc ≡ at → Reaches at to → wrap (pc + offset 21 (jump_offset at to * 2)) ≡ to
 jump_leads pc at to e reach = ap (λ a. wrap (a + offset 21 (jump_offset at to * 2))) e ∙ reach
+
+pub near_leads : (pc at to : ℕ) → pc ≡ at → IsNear at to → wrap (pc + offset 13 (near_offset at to * 2)) ≡ to
+near_leads pc at to e near = ap (λ a. wrap (a + offset 13 (near_offset at to * 2))) e ∙ near

@@ -91,6 +91,7 @@ unit_word : (part : ℕ) (image : Memory) (unit : U.Unit) (at : ℕ) (pending : 
 unit_word part image (V.Gate label) at pending r h m i = only_word i
 unit_word part image (V.Plain instr) at pending r h m i = only_word i
 unit_word part image (V.Branch op rs1 rs2 target) at pending r h m i = branch_word i
+unit_word part image (V.Near op rs1 rs2 target) at pending r h m i = only_word i
 unit_word part image (V.Jump target) at pending r h m i = only_word i
 unit_word part image V.Stop at pending r h m i = only_word i
 unit_word part image (V.System op) at pending r h m i = only_word i

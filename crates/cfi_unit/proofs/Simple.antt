@@ -26,7 +26,7 @@ use Rattle.cfi_unit.specs.Context.{Context, Kept}
 use Rattle.cfi_unit.specs.InPlace.{InWord, only, InBranch, branch_test, branch_jump}
 use Rattle.cfi_unit.specs.UnitLaw.{Outcome, stays, leaves, ends}
 use Rattle.cfi_unit.proofs.Context.{at_word, kept_data}
-use Rattle.cfi_unit.proofs.Jumps.{jump_leads}
+use Rattle.cfi_unit.proofs.Jumps.{jump_leads, near_leads}
 
 -- a register that is not reserved is not x3
 pub keeps_x3 : (regs : Registers) (rd v : ℕ) → not (is_reserved rd) ≡ true → set_reg regs rd v 3 ≡ regs 3
@@ -95,6 +95,16 @@ module _ (p : Profile) (part : ℕ) (image base : Memory) (at : ℕ) (pending : 
   branch_law op rs1 rs2 target fits w c (branch_jump e x3) =
       at_word (Result (V.Branch op rs1 rs2 target)) p h c w 1 _ refl e
       (leaves pending refl c (inl x3) (inr (refl, jump_leads h.pc (at + 4) target e fits.2)))
+
+  pub near_law : (op : BranchOp) (rs1 rs2 target : ℕ) → Fits (V.Near op rs1 rs2 target) at →
+      Stand image at (instrs_of (V.Near op rs1 rs2 target) at) → Context part image base pending s →
+      InWord part at (length pending) h → Result (V.Near op rs1 rs2 target) (step p h s)
+  near_law op rs1 rs2 target fits w c (only e x3) =
+      at_word (Result (V.Near op rs1 rs2 target)) p h c w 0 _ refl (omega arith)
+      (elim (cases_Bool (branch_taken op (get_reg h.regs rs1) (get_reg h.regs rs2))) [
+        | inl taken ↦ rw taken (leaves pending refl c (inl x3) (inr (refl, near_leads h.pc at target e fits.2)))
+        | inr not_taken ↦ rw not_taken (leaves pending refl c (inl x3) (inl (refl, omega arith)))
+      ])
 
   ecall_so : IsPart p part → (after : After) → AfterCall h s after → Context part image base pending s → h.pc ≡ at →
       h.regs 3 ≡ slot part (length pending) → Result (V.System S.Ecall) after

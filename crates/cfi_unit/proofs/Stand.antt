@@ -3,8 +3,8 @@ use Rattle.std.proofs.Common.{◌≡◌, ℕ, ◌+◌, ◌==◌, refl, Bool, tru
 use Rattle.std.proofs.lemmas.Bool.{eqb-true, eq-eqb, cases_Bool}
 use Rattle.cfi_unit.specs.declared.unit.Unit as U
 use Rattle.cfi_unit.specs.declared.unit.Unit.TheVariants as V
-use Rattle.cfi_unit.specs.UnitWords.{BAD_TARGET, BAD_RETURN, DEEP, Fits, Reaches, jump_offset}
-use Rattle.cfi_unit.specs.Recognise.{led_to, reaches, check_reaches, can_stand}
+use Rattle.cfi_unit.specs.UnitWords.{BAD_TARGET, BAD_RETURN, DEEP, Fits, IsNear, Reaches, jump_offset, near_offset}
+use Rattle.cfi_unit.specs.Recognise.{led_to, near_to, reaches, is_near, check_reaches, can_stand}
 use Rattle.cfi_unit.specs.InRange.{IsInRange}
 
 pub both : (a b : Bool) → (a && b) ≡ true → (a ≡ true) × (b ≡ true)
@@ -24,6 +24,12 @@ told from to e = eqb-true (led_to from (jump_offset from to)) to e
 
 pub tested : (from to : ℕ) → Reaches from to → reaches from to ≡ true
 tested from to e = eq-eqb (led_to from (jump_offset from to)) to e
+
+near_told : (from to : ℕ) → is_near from to ≡ true → IsNear from to
+near_told from to e = eqb-true (near_to from (near_offset from to)) to e
+
+near_tested : (from to : ℕ) → IsNear from to → is_near from to ≡ true
+near_tested from to e = eq-eqb (near_to from (near_offset from to)) to e
 
 other_told : (a b : ℕ) → not (a == b) ≡ true → a ≢ b
 other_told a b e same =
@@ -51,6 +57,7 @@ pub stand_fits : (unit : U.Unit) (at : ℕ) → IsInRange unit → can_stand uni
 stand_fits (V.Gate label) at r e = r
 stand_fits (V.Plain instr) at r e = (r, e)
 stand_fits (V.Branch op rs1 rs2 target) at r e = (r.0, r.1, told (at + 4) target e)
+stand_fits (V.Near op rs1 rs2 target) at r e = (r.0, r.1, near_told at target e)
 stand_fits (V.Jump target) at r e =
     let p = both (not (target == BAD_TARGET)) (reaches at target) e in
     (other_told target BAD_TARGET p.0, told at target p.1)
@@ -72,6 +79,7 @@ pub fits_stand : (unit : U.Unit) (at : ℕ) → Fits unit at → can_stand unit 
 fits_stand (V.Gate label) at f = refl
 fits_stand (V.Plain instr) at f = f.1
 fits_stand (V.Branch op rs1 rs2 target) at f = tested (at + 4) target f.2
+fits_stand (V.Near op rs1 rs2 target) at f = near_tested at target f.2
 fits_stand (V.Jump target) at f =
     and_both (not (target == BAD_TARGET)) (reaches at target) (other_tested target BAD_TARGET f.0) (tested at target f.1)
 fits_stand V.Stop at f = tested at BAD_TARGET f
@@ -88,6 +96,7 @@ pub fits_in_range : (unit : U.Unit) (at : ℕ) → Fits unit at → IsInRange un
 fits_in_range (V.Gate label) at f = f
 fits_in_range (V.Plain instr) at f = f.0
 fits_in_range (V.Branch op rs1 rs2 target) at f = (f.0, f.1)
+fits_in_range (V.Near op rs1 rs2 target) at f = (f.0, f.1)
 fits_in_range (V.Jump target) at f = tt
 fits_in_range V.Stop at f = tt
 fits_in_range (V.System op) at f = tt

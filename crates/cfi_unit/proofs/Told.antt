@@ -15,8 +15,8 @@ use Rattle.rv_code.specs.Decode.{decoded}
 use Rattle.rv_code.proofs.Inverse.{decoded-in_range}
 use Rattle.cfi_unit.specs.declared.unit.Unit as U
 use Rattle.cfi_unit.specs.declared.unit.Unit.TheVariants as V
-use Rattle.cfi_unit.specs.UnitWords.{BAD_TARGET, Begins, word_count, words_of}
-use Rattle.cfi_unit.specs.Recognise.{address_unit, can_stand, computed_unit, if_stands, instr_at, jump_or_stop, label_in, led_to, recognised, stands, store_unit, target_in, unit_from, upper_unit}
+use Rattle.cfi_unit.specs.UnitWords.{BAD_TARGET, Begins, instr_at, may_precede, skips_jump, word_count, words_of}
+use Rattle.cfi_unit.specs.Recognise.{address_unit, can_stand, computed_unit, if_stands, jump_or_stop, label_in, led_to, near_to, recognised, stands, store_unit, target_in, unit_from, upper_unit}
 use Rattle.cfi_unit.specs.InRange.{IsInRange}
 use Rattle.cfi_unit.specs.Laws.{AreWords}
 use Rattle.cfi_unit.proofs.Stand.{both, stand_fits}
@@ -89,8 +89,12 @@ from_in_range ws at (Jal rd imm) u words r e =
     given (jump_or_stop (led_to at imm)) u e (jump_in_range (led_to at imm) (led_to at imm == BAD_TARGET))
 from_in_range ws at (Jalr rd rs1 imm) u words r e = cc
 from_in_range ws at (Branch op rs1 rs2 imm) u words r e =
-    let (target, to, same) = mapped (V.Branch op rs1 rs2) (target_in (at + 4) (instr_at ws 1)) u e in
-    given (V.Branch op rs1 rs2 target) u (ap Some same) (r.0, r.1)
+    elim (chosen (skips_jump imm (instr_at ws 1)) (option_map (V.Branch op rs1 rs2) (target_in (at + 4) (instr_at ws 1))) _ (Some u) e) [
+      | inl over ↦
+          let (target, to, same) = mapped (V.Branch op rs1 rs2) (target_in (at + 4) (instr_at ws 1)) u over.1 in
+          given (V.Branch op rs1 rs2 target) u (ap Some same) (r.0, r.1)
+      | inr alone ↦ given (V.Near op rs1 rs2 (near_to at imm)) u alone.1 (r.0, r.1)
+    ]
 from_in_range ws at (Load op rd rs1 imm) u words r e =
     elim (chosen (rd == 31) (Some V.Return) (Some (V.Plain (Load op rd rs1 imm))) (Some u) e) [
       | inl a ↦ given V.Return u a.1 tt
@@ -117,14 +121,16 @@ from_in_range ws at Ebreak u words r e = given _ u e tt
 
 stands_begin : (ws : List ℕ) (at : ℕ) (u : U.Unit) → IsInRange u → stands ws at u ≡ true → Begins ws at u
 stands_begin ws at u r e =
-    let p = both (can_stand u at) (starts_with nat_eq ws (words_of u at)) e in
+    let p = both (can_stand u at) _ e in
+    let q = both (starts_with nat_eq ws (words_of u at)) (may_precede u at (drop (word_count u) ws)) p.1 in
     let parts : ws ≡ words_of u at ++ drop (length (words_of u at)) ws =
-    (starts_is Decides-eqb ws (words_of u at) (starts_with nat_eq ws (words_of u at)) refl).0 p.1 in
+    (starts_is Decides-eqb ws (words_of u at) (starts_with nat_eq ws (words_of u at)) refl).0 q.0 in
     record {
       fits = stand_fits u at r p.0;
       words_are =
           ap (λ (l : List ℕ). take (word_count u) l) parts
           ∙ rw (← words_counted u at) (take-append_seam (words_of u at) (drop (length (words_of u at)) ws));
+      ahead = q.1;
     }
 
 pub recognised_begins : (ws : List ℕ) (at : ℕ) (u : U.Unit) → AreWords ws → recognised ws at ≡ Some u → Begins ws at u

@@ -20,7 +20,7 @@ use Rattle.cfi_unit.proofs.StoreUnit.{store_law}
 use Rattle.cfi_unit.proofs.CallUnit.{AfterCall, call_inside, call_leaves, call_law}
 use Rattle.cfi_unit.proofs.ReturnUnit.{return_law}
 use Rattle.cfi_unit.proofs.ComputedUnits.{ijump_law, icall_law}
-use Rattle.cfi_unit.proofs.Simple.{plain_law, gate_law, jump_law, stop_law, branch_law, ecall_law, ebreak_law}
+use Rattle.cfi_unit.proofs.Simple.{plain_law, gate_law, jump_law, stop_law, branch_law, near_law, ecall_law, ebreak_law}
 use Rattle.cfi_unit.proofs.PrologueUnits.{handler_law, closing_law, opening_law}
 
 module _ (p : Profile) (part : ℕ) (image base : Memory) where
@@ -37,6 +37,8 @@ module _ (p : Profile) (part : ℕ) (image base : Memory) where
     body_law (V.Plain instr) at pending may most w c i = plain_law p part image base at pending r h s instr may.0 w c i
     body_law (V.Branch op rs1 rs2 target) at pending may most w c i =
         branch_law p part image base at pending r h s op rs1 rs2 target may.0 w c i
+    body_law (V.Near op rs1 rs2 target) at pending may most w c i =
+        near_law p part image base at pending r h s op rs1 rs2 target may.0 w c i
     body_law (V.Jump target) at pending may most w c i = jump_law p part image base at pending r h s target may.0 w c i
     body_law V.Stop at pending may most w c i = stop_law p part image base at pending r h s may.0 w c i
     body_law (V.System S.Ecall) at pending may most w c i = ecall_law p part image base at pending r h s own w c i

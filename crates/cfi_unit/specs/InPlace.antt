@@ -131,6 +131,7 @@ abbrev pub InUnit : ℕ → Memory → U.Unit → ℕ → List ℕ → Registers
 InUnit part image (V.Gate label) at pending r h m = InWord part at (length pending) h
 InUnit part image (V.Plain instr) at pending r h m = InWord part at (length pending) h
 InUnit part image (V.Branch op rs1 rs2 target) at pending r h m = InBranch part at (length pending) h
+InUnit part image (V.Near op rs1 rs2 target) at pending r h m = InWord part at (length pending) h
 InUnit part image (V.Jump target) at pending r h m = InWord part at (length pending) h
 InUnit part image V.Stop at pending r h m = InWord part at (length pending) h
 InUnit part image (V.System op) at pending r h m = InWord part at (length pending) h

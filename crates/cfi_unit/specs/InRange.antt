@@ -8,6 +8,7 @@ abbrev pub IsInRange : U.Unit → Type 0
 IsInRange (V.Gate label) = label < 2 ^ 20
 IsInRange (V.Plain instr) = IsInstr instr
 IsInRange (V.Branch op rs1 rs2 target) = (rs1 < 32) × (rs2 < 32)
+IsInRange (V.Near op rs1 rs2 target) = (rs1 < 32) × (rs2 < 32)
 IsInRange (V.Jump target) = Unit {0}
 IsInRange V.Stop = Unit {0}
 IsInRange (V.System op) = Unit {0}

@@ -1,9 +1,13 @@
 -- What holds of units and their words, each law by its name.
-use Rattle.std.specs.Prelude.{◌≡◌, ℕ, ◌+◌, ◌%◌, ◌<◌, ◌≤◌, ◌^◌, List, ◌++◌, length, Some}
+use Rattle.std.specs.Prelude.{◌≡◌, ℕ, ◌+◌, ◌%◌, ◌<◌, ◌≤◌, ◌^◌, ◌⊎◌, false, IsTrue, List, ◌∷◌, ◌++◌, length, Some}
 use Rattle.std.specs.List.{All}
+use Rattle.rv_instr.specs.declared.instr.BranchOp.{BranchOp}
+use Rattle.rv_instr.specs.declared.instr.Instr.TheVariants.{Branch}
+use Rattle.rv_code.specs.Decode.{decoded}
 use Rattle.cfi_unit.specs.declared.unit.Unit as U
-use Rattle.cfi_unit.specs.UnitWords.{Begins, Fits, Reaches, word_count, words_of}
-use Rattle.cfi_unit.specs.Recognise.{recognised}
+use Rattle.cfi_unit.specs.declared.unit.Unit.TheVariants as V
+use Rattle.cfi_unit.specs.UnitWords.{Begins, Fits, IsNear, Reaches, instr_at, may_precede, near_offset, skip_offset, skips_jump, word_count, words_of}
+use Rattle.cfi_unit.specs.Recognise.{near_to, recognised}
 use Rattle.cfi_unit.specs.Split.{IsSplit}
 
 -- numbers of 32 bits each
@@ -20,19 +24,26 @@ abbrev pub BeginsRecognised : Type 0
 BeginsRecognised =
     (words : List ℕ) (at : ℕ) (unit : U.Unit) → Begins words at unit → recognised words at ≡ Some unit
 
--- what is emitted is recognised, whatever follows it
+-- what is emitted is recognised, whatever follows it that may
 abbrev pub EmittedRecognised : Type 0
 EmittedRecognised =
-    (unit : U.Unit) (at : ℕ) (rest : List ℕ) → Fits unit at → recognised (words_of unit at ++ rest) at ≡ Some unit
+    (unit : U.Unit) (at : ℕ) (rest : List ℕ) → Fits unit at → IsTrue (may_precede unit at rest) →
+    recognised (words_of unit at ++ rest) at ≡ Some unit
 
 -- a unit has as many words as its kind says
 abbrev pub WordsCounted : Type 0
 WordsCounted = (unit : U.Unit) (at : ℕ) → length (words_of unit at) ≡ word_count unit
 
--- no unit's words are a prefix of another's
+-- a near branch over the next word
+abbrev pub IsShortSkip : U.Unit → ℕ → Type 0
+IsShortSkip (V.Near op rs1 rs2 target) at = near_offset at target ≡ skip_offset
+IsShortSkip other at = ⊥
+
+-- no unit's words are a prefix of another's, but those of a near branch over the next word
 abbrev pub NoPrefix : Type 0
 NoPrefix =
-    (u v : U.Unit) (at : ℕ) (rest : List ℕ) → Fits u at → Fits v at → words_of v at ≡ words_of u at ++ rest → u ≡ v
+    (u v : U.Unit) (at : ℕ) (rest : List ℕ) → Fits u at → Fits v at → words_of v at ≡ words_of u at ++ rest →
+    (u ≡ v) ⊎ IsShortSkip u at
 
 -- a unit's words determine the unit
 abbrev pub WordsDetermine : Type 0
@@ -47,3 +58,15 @@ SplitUnique =
 abbrev pub NearReached : Type 0
 NearReached =
     (from to : ℕ) → from < 2 ^ 63 → to < 2 ^ 63 → from % 2 ≡ to % 2 → from ≤ to + 2 ^ 20 → to < from + 2 ^ 20 → Reaches from to
+
+-- and a near branch what is within 2^12 bytes
+abbrev pub BranchReached : Type 0
+BranchReached =
+    (from to : ℕ) → from < 2 ^ 63 → to < 2 ^ 63 → from % 2 ≡ to % 2 → from ≤ to + 2 ^ 12 → to < from + 2 ^ 12 → IsNear from to
+
+-- each branch that does not lead over a jump is a unit, whatever its offset
+abbrev pub BranchBegins : Type 0
+BranchBegins =
+    (word at rs1 rs2 imm : ℕ) (op : BranchOp) (rest : List ℕ) → word < 2 ^ 32 → at < 2 ^ 64 →
+    decoded word ≡ Some (Branch op rs1 rs2 imm) → skips_jump imm (instr_at rest 0) ≡ false →
+    Begins (word ∷ rest) at (V.Near op rs1 rs2 (near_to at imm))

@@ -54,6 +54,8 @@ LeadsPast image (V.Gate label) past pending r after next = Goes pending after ne
 LeadsPast image (V.Plain instr) past pending r after next = Goes pending after next past
 LeadsPast image (V.Branch op rs1 rs2 target) past pending r after next =
     Goes pending after next past ⊎ Goes pending after next target
+LeadsPast image (V.Near op rs1 rs2 target) past pending r after next =
+    Goes pending after next past ⊎ Goes pending after next target
 LeadsPast image (V.Jump target) past pending r after next = Goes pending after next target
 LeadsPast image V.Stop past pending r after next = Goes pending after next BAD_TARGET
 LeadsPast image (V.System S.Ecall) past pending r after next = Goes pending after next past

@@ -1,26 +1,27 @@
 -- The unit that begins a list of words, found from its first words: its fields are read where they
--- would stand, and then all its words are compared. It is the unit that `Begins` the list.
-use Rattle.std.specs.Prelude.{ℕ, zero, suc, ◌+◌, ◌*◌, ◌==◌, ◌&&◌, Bool, true, not, List, Option, Some, None, option_map, if◌then◌else◌, nat_eq, slice_get, option_and_then}
+-- would stand, and then all its words are compared; a branch looks one word ahead. It is the unit that
+-- `Begins` the list.
+use Rattle.std.specs.Prelude.{ℕ, zero, suc, ◌+◌, ◌*◌, ◌==◌, ◌&&◌, Bool, true, not, List, Option, Some, None, option_map, if◌then◌else◌, nat_eq, drop, option_and_then}
 use Rattle.std.specs.List.{starts_with}
 use Rattle.rv_word.specs.Bits.{wrap}
 use Rattle.rv_instr.specs.declared.instr.Instr.{Instr}
 use Rattle.rv_instr.specs.declared.instr.Instr.TheVariants.{Upper, Jal, Jalr, Branch, Load, Store, Immediate, Shift, ShiftWord, Register, Fence, Ecall, Ebreak}
+use Rattle.rv_instr.specs.declared.instr.BranchOp.{BranchOp}
 use Rattle.rv_instr.specs.declared.instr.UpperOp.{UpperOp}
 use Rattle.rv_instr.specs.declared.instr.UpperOp.TheVariants.{Lui, Auipc}
-use Rattle.rv_code.specs.Decode.{decoded}
 use Rattle.rv_code.specs.Step.{offset}
 use Rattle.cfi_unit.specs.declared.unit.Unit as U
 use Rattle.cfi_unit.specs.declared.unit.Unit.TheVariants as V
 use Rattle.cfi_unit.specs.declared.unit.SystemOp.TheVariants as S
-use Rattle.cfi_unit.specs.UnitWords.{BAD_TARGET, BAD_RETURN, DEEP, jump_offset, words_of, is_plain}
-
--- the instruction that word k of a list is
-abbrev pub instr_at : List ℕ → ℕ → Option Instr
-instr_at words k = option_and_then decoded (slice_get words k)
+use Rattle.cfi_unit.specs.UnitWords.{BAD_TARGET, BAD_RETURN, DEEP, instr_at, is_plain, jump_offset, may_precede, near_offset, skips_jump, word_count, words_of}
 
 -- where a jump at an address leads
 abbrev pub led_to : ℕ → ℕ → ℕ
 led_to at imm = wrap (at + offset 21 (imm * 2))
+
+-- and a branch
+abbrev pub near_to : ℕ → ℕ → ℕ
+near_to at imm = wrap (at + offset 13 (imm * 2))
 
 -- the target of a `jal` at an address
 abbrev pub target_in : ℕ → Option Instr → Option ℕ
@@ -56,11 +57,18 @@ upper_unit Lui zero imm = V.Gate imm
 upper_unit Lui (suc rd) imm = V.Plain (Upper Lui (suc rd) imm)
 upper_unit Auipc rd imm = V.Plain (Upper Auipc rd imm)
 
+-- a branch over a jump, or alone
+abbrev pub branch_unit : ℕ → BranchOp → ℕ → ℕ → ℕ → Option Instr → Option U.Unit
+branch_unit at op rs1 rs2 imm next =
+    if skips_jump imm next
+    then option_map (V.Branch op rs1 rs2) (target_in (at + 4) next)
+    else Some (V.Near op rs1 rs2 (near_to at imm))
+
 -- the only unit that may begin with this instruction
 abbrev pub unit_from : List ℕ → ℕ → Instr → Option U.Unit
 unit_from words at (Upper op rd imm) = Some (upper_unit op rd imm)
 unit_from words at (Jal rd imm) = Some (jump_or_stop (led_to at imm))
-unit_from words at (Branch op rs1 rs2 imm) = option_map (V.Branch op rs1 rs2) (target_in (at + 4) (instr_at words 1))
+unit_from words at (Branch op rs1 rs2 imm) = branch_unit at op rs1 rs2 imm (instr_at words 1)
 unit_from words at (Immediate op rd rs1 imm) =
     if rd == 31 then address_unit words rs1 imm (instr_at words 1) else Some (V.Plain (Immediate op rd rs1 imm))
 unit_from words at (Shift op rd rs1 amount) =
@@ -79,6 +87,10 @@ unit_from words at (Store op rs1 rs2 imm) = None
 abbrev pub reaches : ℕ → ℕ → Bool
 reaches from to = led_to from (jump_offset from to) == to
 
+-- and a branch
+abbrev pub is_near : ℕ → ℕ → Bool
+is_near from to = near_to from (near_offset from to) == to
+
 -- the jumps of a check reach their handler
 abbrev pub check_reaches : ℕ → Bool
 check_reaches at = reaches (at + 24) BAD_TARGET && reaches (at + 44) BAD_TARGET
@@ -88,6 +100,7 @@ abbrev pub can_stand : U.Unit → ℕ → Bool
 can_stand (V.Gate label) at = true
 can_stand (V.Plain instr) at = is_plain instr
 can_stand (V.Branch op rs1 rs2 target) at = reaches (at + 4) target
+can_stand (V.Near op rs1 rs2 target) at = is_near at target
 can_stand (V.Jump target) at = not (target == BAD_TARGET) && reaches at target
 can_stand V.Stop at = reaches at BAD_TARGET
 can_stand (V.System op) at = true
@@ -98,7 +111,9 @@ can_stand (V.Icall rs1 imm label) at = check_reaches at && reaches (at + 56) DEE
 can_stand V.Return at = reaches (at + 12) BAD_RETURN
 
 abbrev pub stands : List ℕ → ℕ → U.Unit → Bool
-stands words at unit = can_stand unit at && starts_with nat_eq words (words_of unit at)
+stands words at unit =
+    can_stand unit at
+    && (starts_with nat_eq words (words_of unit at) && may_precede unit at (drop (word_count unit) words))
 
 abbrev pub if_stands : List ℕ → ℕ → U.Unit → Option U.Unit
 if_stands words at unit = if stands words at unit then Some unit else None

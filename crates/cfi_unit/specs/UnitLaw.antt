@@ -32,6 +32,7 @@ abbrev pub UnitEnds : U.Unit → ℕ → Turn → Type 0
 UnitEnds (V.Gate label) at turn = ⊥
 UnitEnds (V.Plain instr) at turn = FailsToLoad at turn
 UnitEnds (V.Branch op rs1 rs2 target) at turn = ⊥
+UnitEnds (V.Near op rs1 rs2 target) at turn = ⊥
 UnitEnds (V.Jump target) at turn = ⊥
 UnitEnds V.Stop at turn = ⊥
 UnitEnds (V.System S.Ecall) at turn = Exits turn

@@ -1,6 +1,6 @@
 -- The units: what instructions each is, at an address. x3 points to the shadow stack; x4, x30 and
 -- x31 are scratch; no plain unit's instruction writes one of these four.
-use Rattle.std.specs.Prelude.{◌≡◌, ℕ, ◌+◌, ◌-◌, ◌*◌, ◌/◌, ◌%◌, ◌^◌, ◌<◌, ◌==◌, ◌&&◌, Bool, true, false, not, IsTrue, List, [], ◌∷◌, ◌++◌, map, take, ◌≢◌}
+use Rattle.std.specs.Prelude.{◌≡◌, ℕ, ◌+◌, ◌-◌, ◌*◌, ◌/◌, ◌%◌, ◌^◌, ◌<◌, ◌==◌, ◌&&◌, Bool, true, false, not, IsTrue, List, [], ◌∷◌, ◌++◌, map, take, drop, ◌≢◌, Option, Some, slice_get, option_and_then}
 use Rattle.rv_word.specs.Bits.{wrap}
 use Rattle.rv_instr.specs.InRange.{IsInstr}
 use Rattle.rv_instr.specs.Reserved.{is_reserved}
@@ -14,6 +14,7 @@ use Rattle.rv_instr.specs.declared.instr.RegisterOp.TheVariants.{Sub}
 use Rattle.rv_instr.specs.declared.instr.BranchOp.TheVariants.{Beq, Bne}
 use Rattle.rv_instr.specs.declared.instr.LoadOp.TheVariants.{Lw, Ld}
 use Rattle.rv_instr.specs.declared.instr.StoreOp.TheVariants.{Sd}
+use Rattle.rv_code.specs.Decode.{decoded}
 use Rattle.rv_code.specs.Encode.{code_of}
 use Rattle.rv_code.specs.Step.{offset}
 use Rattle.cfi_unit.specs.declared.handlers.TheConstants as handlers
@@ -39,6 +40,13 @@ jump_offset from to = wrap (to + (2 ^ 64 - from)) / 2 % 2 ^ 20
 -- a jump from one address reaches another: its offset, as the hart reads it, leads there
 abbrev pub Reaches : ℕ → ℕ → Type 0
 Reaches from to = wrap (from + offset 21 (jump_offset from to * 2)) ≡ to
+
+-- the same of a branch, whose field has 12 bits
+abbrev pub near_offset : ℕ → ℕ → ℕ
+near_offset from to = wrap (to + (2 ^ 64 - from)) / 2 % 2 ^ 12
+
+abbrev pub IsNear : ℕ → ℕ → Type 0
+IsNear from to = wrap (from + offset 13 (near_offset from to * 2)) ≡ to
 
 -- `jal x0` from an address to another
 abbrev pub jump : ℕ → ℕ → Instr
@@ -99,6 +107,7 @@ abbrev pub instrs_of : U.Unit → ℕ → List Instr
 instrs_of (V.Gate label) at = gate label ∷ []
 instrs_of (V.Plain instr) at = instr ∷ []
 instrs_of (V.Branch op rs1 rs2 target) at = Branch op rs1 rs2 skip_offset ∷ jump (at + 4) target ∷ []
+instrs_of (V.Near op rs1 rs2 target) at = Branch op rs1 rs2 (near_offset at target) ∷ []
 instrs_of (V.Jump target) at = jump at target ∷ []
 instrs_of V.Stop at = jump at BAD_TARGET ∷ []
 instrs_of (V.System op) at = system_instr op ∷ []
@@ -154,6 +163,7 @@ abbrev pub Fits : U.Unit → ℕ → Type 0
 Fits (V.Gate label) at = label < 2 ^ 20
 Fits (V.Plain instr) at = IsInstr instr × IsTrue (is_plain instr)
 Fits (V.Branch op rs1 rs2 target) at = (rs1 < 32) × (rs2 < 32) × Reaches (at + 4) target
+Fits (V.Near op rs1 rs2 target) at = (rs1 < 32) × (rs2 < 32) × IsNear at target
 Fits (V.Jump target) at = (target ≢ BAD_TARGET) × Reaches at target
 Fits V.Stop at = Reaches at BAD_TARGET
 Fits (V.System op) at = Unit {0}
@@ -168,6 +178,7 @@ abbrev pub word_count : U.Unit → ℕ
 word_count (V.Gate label) = 1
 word_count (V.Plain instr) = 1
 word_count (V.Branch op rs1 rs2 target) = 2
+word_count (V.Near op rs1 rs2 target) = 1
 word_count (V.Jump target) = 1
 word_count V.Stop = 1
 word_count (V.System op) = 1
@@ -181,7 +192,26 @@ word_count V.Return = 5
 abbrev pub after_unit : U.Unit → ℕ → ℕ
 after_unit unit at = at + 4 * word_count unit
 
+-- the instruction that word k of a list is
+abbrev pub instr_at : List ℕ → ℕ → Option Instr
+instr_at words k = option_and_then decoded (slice_get words k)
+
+-- the instruction is `jal x0`
+abbrev pub is_jump : Option Instr → Bool
+is_jump (Some (Jal rd imm)) = rd == 0
+is_jump other = false
+
+-- a branch with this offset field leads over the next instruction, and that is a jump
+abbrev pub skips_jump : ℕ → Option Instr → Bool
+skips_jump imm next = (imm == skip_offset) && is_jump next
+
+-- words may follow a unit at an address: all may, but a near branch over a jump is another unit
+abbrev pub may_precede : U.Unit → ℕ → List ℕ → Bool
+may_precede (V.Near op rs1 rs2 target) at rest = not (skips_jump (near_offset at target) (instr_at rest 0))
+may_precede other at rest = true
+
 -- a unit begins a list of words at an address
 pub record Begins (words : List ℕ) (at : ℕ) (unit : U.Unit) : Type 0 where
   pub fits : Fits unit at
   pub words_are : take (word_count unit) words ≡ words_of unit at
+  pub ahead : IsTrue (may_precede unit at (drop (word_count unit) words))

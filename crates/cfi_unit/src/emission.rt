@@ -1,10 +1,10 @@
 ghost use Rattle.std.specs.Prelude.{◌≡◌, ◌+◌, ◌*◌, ◌<◌, ◌↔◌, ◌++◌, IfOk, IsTrue, List, Some, length, ℕ};
 ghost use Rattle.rv_word.specs.Layout.{CODE_START, CODE_SIZE};
 ghost use Rattle.cfi_unit.specs.Recognise.{can_stand, check_reaches, recognised};
-ghost use Rattle.cfi_unit.specs.UnitWords.{Fits, is_plain, word_count, words_of};
+ghost use Rattle.cfi_unit.specs.UnitWords.{Fits, is_plain, may_precede, word_count, words_of};
 
 use crate::handlers::{BAD_RETURN, BAD_TARGET, DEEP};
-use crate::jump::is_reached;
+use crate::jump::{is_close, is_reached};
 use crate::template::unit_code;
 use crate::unit::Unit;
 use rv_instr::{Instr, UpperOp};
@@ -16,7 +16,7 @@ pub fn emit(alloc: Global, unit: &Unit, at: u64) -> Result<Vec<u32>, NoMemory>
     requires place { at < CODE_START + CODE_SIZE }
     requires fits { Fits unit.now at }
     ensures words { IfOk result (λ v. v.items ≡ words_of unit.now at) }
-    ensures found { IfOk result (λ v. (rest : List ℕ) → recognised (v.items ++ rest) at ≡ Some unit.now) }
+    ensures found { IfOk result (λ v. (rest : List ℕ) → IsTrue (may_precede unit.now at rest) → recognised (v.items ++ rest) at ≡ Some unit.now) }
 {
     let code = unit_code(unit, at);
     Ok(code.as_slice().to_vec(alloc)?)
@@ -37,7 +37,12 @@ pub(crate) fn count(unit: &Unit) -> u32
     ensures small { result < 21 }
 {
     match unit {
-        Unit::Gate(_) | Unit::Plain(_) | Unit::Jump(_) | Unit::Stop | Unit::System(_) => 1,
+        Unit::Gate(_)
+        | Unit::Plain(_)
+        | Unit::Near(..)
+        | Unit::Jump(_)
+        | Unit::Stop
+        | Unit::System(_) => 1,
         Unit::Branch(..) => 2,
         Unit::Store(..) => 4,
         Unit::Return => 5,
@@ -67,6 +72,7 @@ pub(crate) fn may_stand(unit: &Unit, at: u64) -> bool
         Unit::Gate(_) | Unit::System(_) | Unit::Store(..) => true,
         Unit::Plain(instr) => may_stand_alone(&instr),
         Unit::Branch(_, _, _, target) => is_reached(at + 4, target),
+        Unit::Near(_, _, _, target) => is_close(at, target),
         Unit::Jump(target) => target != BAD_TARGET && is_reached(at, target),
         Unit::Stop => is_reached(at, BAD_TARGET),
         Unit::Call(target) => is_reached(at + 8, DEEP) && is_reached(at + 28, target),

@@ -1,6 +1,6 @@
 ghost use Rattle.std.specs.Prelude.{◌≡◌};
-ghost use Rattle.cfi_unit.specs.Recognise.{led_to, reaches};
-ghost use Rattle.cfi_unit.specs.UnitWords.{jump, jump_offset};
+ghost use Rattle.cfi_unit.specs.Recognise.{is_near, led_to, near_to, reaches};
+ghost use Rattle.cfi_unit.specs.UnitWords.{jump, jump_offset, near_offset};
 
 use rv_instr::{Immediate, Instr, Reg};
 use rv_word::sext;
@@ -17,6 +17,27 @@ pub(crate) fn field_between(from: u64, to: u64) -> Immediate<20>
     ensures { result ≡ jump_offset from to }
 {
     Immediate::of((to.wrapping_sub(from) / 2 % 0x10_0000) as u32)
+}
+
+/// Where a branch at an address leads by its offset field.
+pub(crate) fn led_near(at: u64, field: Immediate<12>) -> u64
+    ensures { result ≡ near_to at field }
+{
+    at.wrapping_add(sext(u64::from(field.bits()) * 2, 13))
+}
+
+/// The offset field of a branch from one address to another.
+pub(crate) fn near_between(from: u64, to: u64) -> Immediate<12>
+    ensures { result ≡ near_offset from to }
+{
+    Immediate::of((to.wrapping_sub(from) / 2 % 0x1000) as u32)
+}
+
+/// Whether a branch from one address can reach another.
+pub(crate) fn is_close(from: u64, to: u64) -> bool
+    ensures { result ≡ is_near from to }
+{
+    led_near(from, near_between(from, to)) == to
 }
 
 /// `jal x0` from one address to another.

@@ -1,6 +1,8 @@
 //! What holds of all units and their words. Each function states one law; nothing is computed.
 ghost use Rattle.cfi_unit.specs.Laws.{
   BeginsRecognised,
+  BranchBegins,
+  BranchReached,
   EmittedRecognised,
   NearReached,
   NoPrefix,
@@ -22,7 +24,7 @@ pub fn begins_recognised()
     ensures { BeginsRecognised }
 {}
 
-/// What is emitted is recognised, whatever follows it.
+/// What is emitted is recognised, whatever follows it that may.
 #[tactic(auto, using(crate::proofs::Found::found))]
 pub fn emitted_recognised()
     ensures { EmittedRecognised }
@@ -34,7 +36,7 @@ pub fn words_counted()
     ensures { WordsCounted }
 {}
 
-/// No unit's words are a prefix of another's.
+/// No unit's words are a prefix of another's, but those of a near branch over the next word.
 #[tactic(auto, using(crate::proofs::Splits::no_prefix))]
 pub fn no_prefix()
     ensures { NoPrefix }
@@ -57,4 +59,16 @@ pub fn split_unique()
 #[tactic(auto, using(crate::proofs::Near::near_reached))]
 pub fn near_reached()
     ensures { NearReached }
+{}
+
+/// A branch reaches every address at an even distance that is less than 2^12 bytes ahead of it, or at
+/// most 2^12 bytes behind it.
+#[tactic(auto, using(crate::proofs::Near::branch_reached))]
+pub fn branch_reached()
+    ensures { BranchReached }
+{}
+
+/// Each branch that does not lead over a jump is a unit, whatever its offset.
+pub fn branch_begins()
+    ensures { BranchBegins }
 {}

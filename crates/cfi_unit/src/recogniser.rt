@@ -1,9 +1,9 @@
-ghost use Rattle.std.specs.Prelude.{◌≡◌, ◌+◌, ◌<◌, option_map, IfSome, IsNone};
+ghost use Rattle.std.specs.Prelude.{◌≡◌, ◌+◌, ◌<◌, drop, option_map, IfSome, IsNone};
 ghost use Rattle.rv_word.specs.Layout.{CODE_START, CODE_SIZE};
 ghost use Rattle.cfi_unit.specs.Recognise.{
   address_unit,
+  branch_unit,
   computed_unit,
-  instr_at,
   jump_or_stop,
   label_in,
   recognised,
@@ -12,16 +12,16 @@ ghost use Rattle.cfi_unit.specs.Recognise.{
   unit_from,
   upper_unit,
 };
-ghost use Rattle.cfi_unit.specs.UnitWords.{Begins, word_count};
+ghost use Rattle.cfi_unit.specs.UnitWords.{Begins, instr_at, is_jump, may_precede, skips_jump, word_count};
 ghost use Rattle.cfi_unit.specs.declared.unit.Unit as U;
 
 use crate::emission::{count, may_stand};
 use crate::handlers::BAD_TARGET;
-use crate::jump::led;
+use crate::jump::{led, led_near, near_between};
 use crate::template::unit_code;
 use crate::unit::{SystemOp, Unit};
 use rv_code::decode;
-use rv_instr::{Immediate, Instr, Reg, UpperOp};
+use rv_instr::{BranchOp, Immediate, Instr, Reg, UpperOp};
 
 /// The unit that begins a list of words at an address, and how many words it has.
 pub fn recognise(words: &[u32], at: u64) -> Option<(Unit, u32)>
@@ -43,7 +43,10 @@ fn first_unit(words: &[u32], at: u64) -> Option<Unit>
     ensures { result ≡ recognised words.now at }
 {
     let unit = candidate(words, at, instr(words, 0)?)?;
-    if may_stand(&unit, at) && words.starts_with(unit_code(&unit, at).as_slice()) {
+    if may_stand(&unit, at)
+        && words.starts_with(unit_code(&unit, at).as_slice())
+        && is_kept(&unit, at, words)
+    {
         Some(unit)
     } else {
         None
@@ -66,10 +69,7 @@ fn candidate(words: &[u32], at: u64, first: Instr) -> Option<Unit>
     match first {
         Instr::Upper(op, rd, imm) => Some(upper(op, rd, imm)),
         Instr::Jal(_, field) => Some(jump_unit(led(at, field))),
-        Instr::Branch(op, rs1, rs2, _) => {
-            let target = target(at + 4, instr(words, 1))?;
-            Some(Unit::Branch(op, rs1, rs2, target))
-        }
+        Instr::Branch(op, rs1, rs2, field) => branch(at, op, rs1, rs2, field, instr(words, 1)),
         Instr::Immediate(op, rd, rs1, imm) => {
             if rd.number() == 31 {
                 addressed(words, rs1, imm)
@@ -95,6 +95,54 @@ fn candidate(words: &[u32], at: u64, first: Instr) -> Option<Unit>
         Instr::Ebreak => Some(Unit::System(SystemOp::Ebreak)),
         Instr::ShiftWord(..) | Instr::Register(..) | Instr::Fence(_) => Some(Unit::Plain(first)),
         Instr::Jalr(..) | Instr::Store(..) => None,
+    }
+}
+
+/// Whether the words after a unit that begins the list leave it that unit.
+#[tactic(auto, using(crate::proofs::Found::next_instr))]
+fn is_kept(unit: &Unit, at: u64, words: &[u32]) -> bool
+    ensures { result ≡ may_precede unit.now at (drop (word_count unit.now) words.now) }
+{
+    match *unit {
+        Unit::Near(_, _, _, target) => !skips(near_between(at, target), instr(words, 1)),
+        _ => true,
+    }
+}
+
+/// Whether a branch leads over the next instruction, and that is a jump.
+fn skips(field: Immediate<12>, next: Option<Instr>) -> bool
+    ensures { result ≡ skips_jump field next }
+{
+    field.bits() == 4 && is_jump(next)
+}
+
+/// Whether an instruction is `jal x0`.
+fn is_jump(instr: Option<Instr>) -> bool
+    ensures { result ≡ is_jump instr }
+{
+    let Some(instr) = instr else { return false };
+    match instr {
+        Instr::Jal(rd, _) => rd.number() == 0,
+        _ => false,
+    }
+}
+
+/// The unit of a branch, which goes over the jump that is the next instruction, or stands alone.
+fn branch(
+    at: u64,
+    op: BranchOp,
+    rs1: Reg,
+    rs2: Reg,
+    field: Immediate<12>,
+    next: Option<Instr>,
+) -> Option<Unit>
+    requires { at < CODE_START + CODE_SIZE }
+    ensures { result ≡ branch_unit at op rs1 rs2 field next }
+{
+    if skips(field, next) {
+        Some(Unit::Branch(op, rs1, rs2, target(at + 4, next)?))
+    } else {
+        Some(Unit::Near(op, rs1, rs2, led_near(at, field)))
     }
 }
 

@@ -4,7 +4,7 @@ ghost use Rattle.cfi_unit.specs.UnitWords.{check, gate, instrs_of, push, system_
 ghost use Rattle.cfi_unit.specs.declared.unit.Unit.TheVariants as V;
 
 use crate::handlers::{BAD_RETURN, BAD_TARGET, DEEP};
-use crate::jump::{field_between, jump_between};
+use crate::jump::{field_between, jump_between, near_between};
 use crate::unit::{SystemOp, Unit};
 use crate::words::UnitCode;
 use rv_instr::{
@@ -23,6 +23,9 @@ pub(crate) fn unit_code(unit: &Unit, at: u64) -> UnitCode
         Unit::Plain(instr) => code.put(&[instr]),
         Unit::Branch(op, rs1, rs2, target) => {
             code.put(&[skip(op, rs1, rs2), jump_between(at + 4, target)]);
+        }
+        Unit::Near(op, rs1, rs2, target) => {
+            code.put(&[Instr::Branch(op, rs1, rs2, near_between(at, target))]);
         }
         Unit::Jump(target) => code.put(&[jump_between(at, target)]),
         Unit::Stop => code.put(&[jump_between(at, BAD_TARGET)]),

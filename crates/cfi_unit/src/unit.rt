@@ -9,6 +9,9 @@ pub enum Unit {
     Plain(Instr),
     /// A branch over the jump that follows it; the jump's target.
     Branch(BranchOp, Reg, Reg, u64),
+    /// A branch to a near target. Where that is eight bytes on, a jump that stands between belongs to
+    /// the branch over it instead, so none may.
+    Near(BranchOp, Reg, Reg, u64),
     /// A jump to a target that is not the handler of bad targets.
     Jump(u64),
     /// A jump to the handler of bad targets.
@@ -49,7 +52,7 @@ impl Unit {
                 let _ = label.bits();
             }
             Unit::Plain(instr) => instr.in_range(),
-            Unit::Branch(_, rs1, rs2, _) => {
+            Unit::Branch(_, rs1, rs2, _) | Unit::Near(_, rs1, rs2, _) => {
                 let _ = rs1.number();
                 let _ = rs2.number();
             }

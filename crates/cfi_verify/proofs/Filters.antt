@@ -40,6 +40,7 @@ none_at f words a first last enters unit =
 
 edge_unless : (unit : U.Unit) → same_kind (kind_of unit) Edge ≡ false → edge_of (body unit) ≡ None
 edge_unless (V.Branch op rs1 rs2 target) e = absurd (cc)
+edge_unless (V.Near op rs1 rs2 target) e = absurd (cc)
 edge_unless (V.Jump target) e = absurd (cc)
 edge_unless other e = refl
 

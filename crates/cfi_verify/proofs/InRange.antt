@@ -2,6 +2,7 @@
 use Rattle.std.proofs.Common.{◌≡◌, ℕ, zero, suc, ◌+◌, ◌^◌, ◌<◌, List, [], ◌∷◌, ◌++◌, Some, lit<, subst}
 use Rattle.std.specs.Prelude.{slice_get}
 use Rattle.std.specs.List.{AllByRecursion}
+use Rattle.std.proofs.lemmas.Nat.{mod_below}
 use Rattle.rv_instr.specs.InRange.{IsInstr}
 use Rattle.rv_instr.specs.declared.instr.Instr.{Instr}
 use Rattle.rv_instr.specs.declared.instr.Instr.TheVariants.{Jal, Jalr, Upper, Immediate, Ebreak}
@@ -87,6 +88,7 @@ pub unit_instrs : (u : U.Unit) (at : ℕ) → Fits u at → AreInstrs (instrs_of
 unit_instrs (V.Gate label) at f = ((lit< tt, f), tt)
 unit_instrs (V.Plain instr) at f = (f.0, tt)
 unit_instrs (V.Branch op rs1 rs2 target) at f = ((f.0, f.1, lit< tt), (is_jump_instr 0 _ _ (lit< tt), tt))
+unit_instrs (V.Near op rs1 rs2 target) at f = ((f.0, f.1, mod_below _ (2 ^ 12) (lit< tt)), tt)
 unit_instrs (V.Jump target) at f = (is_jump_instr 0 _ _ (lit< tt), tt)
 unit_instrs V.Stop at f = (is_jump_instr 0 _ _ (lit< tt), tt)
 unit_instrs (V.System S.Ecall) at f = (tt, tt)

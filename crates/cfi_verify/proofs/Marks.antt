@@ -19,6 +19,7 @@ pub some_word : (u : U.Unit) → 1 ≤ word_count u
 some_word (V.Gate label) = lit≤ tt
 some_word (V.Plain instr) = lit≤ tt
 some_word (V.Branch op rs1 rs2 target) = lit≤ tt
+some_word (V.Near op rs1 rs2 target) = lit≤ tt
 some_word (V.Jump target) = lit≤ tt
 some_word V.Stop = lit≤ tt
 some_word (V.System op) = lit≤ tt

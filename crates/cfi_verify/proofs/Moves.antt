@@ -189,6 +189,11 @@ module _ (image : Contents) (graph : GraphParts) (bytes : AreBytes image) (forme
   arrive (body (V.Branch op rs1 rs2 target)) w v newer is facts stage (inr l) =
       let start = edge_starts image graph formed w.at (body (V.Branch op rs1 rs2 target)) target is refl in
       record { goes = inr (l.1, l.0); chooses = tt; settled = to_start target v newer start l.1 (same_body w.pending newer l.0 stage) }
+  arrive (body (V.Near op rs1 rs2 target)) w v newer is facts stage (inl l) =
+      record { goes = inl (l.1, l.0); chooses = tt; settled = to_next (V.Near op rs1 rs2 target) w.at v w.pending newer facts refl stage l.0 l.1 }
+  arrive (body (V.Near op rs1 rs2 target)) w v newer is facts stage (inr l) =
+      let start = edge_starts image graph formed w.at (body (V.Near op rs1 rs2 target)) target is refl in
+      record { goes = inr (l.1, l.0); chooses = tt; settled = to_start target v newer start l.1 (same_body w.pending newer l.0 stage) }
   arrive (body (V.Jump target)) w v newer is facts stage l =
       let start = edge_starts image graph formed w.at (body (V.Jump target)) target is refl in
       record { goes = (l.1, l.0); chooses = tt; settled = to_start target v newer start l.1 (same_body w.pending newer l.0 stage) }

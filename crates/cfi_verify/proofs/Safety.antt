@@ -113,6 +113,7 @@ module _ (image : Contents) (graph : GraphParts) (bytes : AreBytes image) (forme
         subst (λ (t : Turn). Ended (body (V.Plain instr)) pc t rest stopped) (sym how.1)
         (record { may = (only_word (body (V.Plain instr)) at pc refl word, tt); on = left })
     ended_unit (V.Branch op rs1 rs2 target) word how = absurd how
+    ended_unit (V.Near op rs1 rs2 target) word how = absurd how
     ended_unit (V.Jump target) word how = absurd how
     ended_unit V.Stop word how = absurd how
     ended_unit (V.System S.Ecall) word how = exits (body (V.System S.Ecall)) pc turn rest stopped tt how.0 how.1 left

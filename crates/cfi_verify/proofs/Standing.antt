@@ -37,6 +37,7 @@ pub instrs_counted : (u : U.Unit) (at : ℕ) → length (instrs_of u at) ≡ wor
 instrs_counted (V.Gate label) at = refl
 instrs_counted (V.Plain instr) at = refl
 instrs_counted (V.Branch op rs1 rs2 target) at = refl
+instrs_counted (V.Near op rs1 rs2 target) at = refl
 instrs_counted (V.Jump target) at = refl
 instrs_counted V.Stop at = refl
 instrs_counted (V.System op) at = refl

@@ -12,6 +12,7 @@ abbrev pub kind_of : U.Unit → Kind
 kind_of (V.Gate label) = Gate
 kind_of (V.Plain instr) = Other
 kind_of (V.Branch op rs1 rs2 target) = Edge
+kind_of (V.Near op rs1 rs2 target) = Edge
 kind_of (V.Jump target) = Edge
 kind_of V.Stop = Other
 kind_of (V.System op) = Other

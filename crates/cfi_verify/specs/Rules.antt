@@ -29,6 +29,7 @@ use Rattle.cfi_verify.specs.declared.reject.Rule.TheVariants as R
 -- where a branch or a jump leads
 abbrev pub edge_of : Place → Option ℕ
 edge_of (body (V.Branch op rs1 rs2 target)) = Some target
+edge_of (body (V.Near op rs1 rs2 target)) = Some target
 edge_of (body (V.Jump target)) = Some target
 edge_of other = None
 

@@ -58,6 +58,7 @@ abbrev pub GoesPast : List GraphLine → U.Unit → ℕ → List ℕ → ℕ →
 GoesPast lines (V.Gate label) past pending v after = To past pending v after
 GoesPast lines (V.Plain instr) past pending v after = To past pending v after
 GoesPast lines (V.Branch op rs1 rs2 target) past pending v after = To past pending v after ⊎ To target pending v after
+GoesPast lines (V.Near op rs1 rs2 target) past pending v after = To past pending v after ⊎ To target pending v after
 GoesPast lines (V.Jump target) past pending v after = To target pending v after
 GoesPast lines V.Stop past pending v after = To BAD_TARGET pending v after
 GoesPast lines (V.System S.Ecall) past pending v after = To past pending v after

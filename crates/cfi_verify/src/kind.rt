@@ -19,7 +19,7 @@ pub(crate) fn kind_of(unit: &Unit) -> Kind
     ensures { result ≡ kind_of unit.now }
 {
     match unit {
-        Unit::Branch(..) | Unit::Jump(_) => Kind::Edge,
+        Unit::Branch(..) | Unit::Near(..) | Unit::Jump(_) => Kind::Edge,
         Unit::Call(_) => Kind::Call,
         Unit::Ijump(..) | Unit::Icall(..) => Kind::Computed,
         Unit::Gate(_) => Kind::Gate,

@@ -17,6 +17,7 @@ fn edge_of(place: Option<&Place>) -> Option<u64>
 {
     match place? {
         Place::Body(Unit::Branch(_, _, _, target)) => Some(*target),
+        Place::Body(Unit::Near(_, _, _, target)) => Some(*target),
         Place::Body(Unit::Jump(target)) => Some(*target),
         _ => None,
     }

@@ -71,6 +71,10 @@ module _ (lines : List GraphLine) (above : (label v : ℕ) → InClass lines lab
   unit_same (V.Branch op rs1 rs2 target) at pending v a b s (inl g) (inr h) = g.1 ∙ sym h.1
   unit_same (V.Branch op rs1 rs2 target) at pending v a b s (inr g) (inl h) = g.1 ∙ sym h.1
   unit_same (V.Branch op rs1 rs2 target) at pending v a b s (inr g) (inr h) = g.1 ∙ sym h.1
+  unit_same (V.Near op rs1 rs2 target) at pending v a b s (inl g) (inl h) = g.1 ∙ sym h.1
+  unit_same (V.Near op rs1 rs2 target) at pending v a b s (inl g) (inr h) = g.1 ∙ sym h.1
+  unit_same (V.Near op rs1 rs2 target) at pending v a b s (inr g) (inl h) = g.1 ∙ sym h.1
+  unit_same (V.Near op rs1 rs2 target) at pending v a b s (inr g) (inr h) = g.1 ∙ sym h.1
   unit_same (V.Jump target) at pending v a b s g h = g.1 ∙ sym h.1
   unit_same V.Stop at pending v a b s g h = g.1 ∙ sym h.1
   unit_same (V.System S.Ecall) at pending v a b s g h = g.1 ∙ sym h.1

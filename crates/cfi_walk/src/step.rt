@@ -99,6 +99,7 @@ fn from_unit(checked: &Checked<'_>, walk: &Walk, unit: &Unit, past: u64, pc: u64
             to(walk, past, pc)
         }
         Unit::Branch(_, _, _, target) => to_either(walk, past, *target, pc),
+        Unit::Near(_, _, _, target) => to_either(walk, past, *target, pc),
         Unit::Jump(target) => to(walk, *target, pc),
         Unit::Stop => to(walk, BAD_TARGET, pc),
         Unit::System(SystemOp::Ebreak) => None,

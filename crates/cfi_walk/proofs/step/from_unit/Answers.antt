@@ -3,6 +3,9 @@ use Rattle.cfi_walk.proofs.step.from_unit.Goals as goal
 pub returns-in-Branch : goal.returns-in-Branch
 returns-in-Branch c = rw c.in-Branch.is c.to_either.ensures
 
+pub returns-in-Near : goal.returns-in-Near
+returns-in-Near c = rw c.in-Near.is c.to_either-in-Near.ensures
+
 pub returns-in-Call : goal.returns-in-Call
 returns-in-Call c = rw c.in-Call.is c.call.ensures
 
