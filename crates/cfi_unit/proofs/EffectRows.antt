@@ -1,5 +1,5 @@
 -- What units do, all units, and so the two laws: a run meets what is asked within so many steps.
-use Rattle.std.proofs.Common.{◌≡◌, ℕ, ◌+◌, ◌^◌, ◌<◌, ◌≤◌, inl, inr, List, [], ◌∷◌, length, replicate, refl, sym, ap, subst, ◌∙◌, arith}
+use Rattle.std.proofs.Common.{◌≡◌, ℕ, suc, ◌-◌, ◌+◌, ◌^◌, ◌<◌, ◌≤◌, inl, inr, List, [], ◌∷◌, length, replicate, refl, sym, ap, subst, ◌∙◌, arith}
 use Rattle.std.specs.List.{AllByRecursion}
 use Rattle.std.specs.Prelude.{◌&&◌, nat_le, nat_lt}
 use Rattle.std.proofs.lemmas.Bool.{cases_Bool}
@@ -8,9 +8,10 @@ use Rattle.rv_word.specs.Memory.{Memory, write}
 use Rattle.rv_instr.specs.Registers.{Registers}
 use Rattle.rv_code.specs.Run.{ByteChange, IsDataChange, disturbed}
 use Rattle.rv_code.specs.State.{Hart, Shared, After, last_exit}
+use Rattle.rv_code.specs.Step.{step}
 use Rattle.rv_code.specs.declared.turn.Turn.TheVariants.{Ran}
 use Rattle.rv_code.proofs.Changes.{changed_above}
-use Rattle.rv_code.proofs.Within.{ComesTo, Within, comes_to, comes_to_calmly, within_map}
+use Rattle.rv_code.proofs.Within.{ComesTo, Onward, comes_on, comes_on_calmly, within_map}
 use Rattle.cfi_unit.specs.declared.unit.Unit as U
 use Rattle.cfi_unit.specs.declared.unit.Unit.TheVariants as V
 use Rattle.cfi_unit.specs.declared.unit.SystemOp.TheVariants as S
@@ -24,7 +25,7 @@ use Rattle.cfi_unit.specs.Leaving.{pushed}
 use Rattle.cfi_unit.specs.Effect.{UnitDoes}
 use Rattle.cfi_unit.specs.EffectLaw.{Enters, GoesOn, Inside, DoneWithin, UnitEffect, UnitKeepsRegisters}
 use Rattle.cfi_unit.proofs.Context.{kept_data}
-use Rattle.cfi_unit.proofs.EffectSteps.{IsHarmless, Now, Runs, before}
+use Rattle.cfi_unit.proofs.EffectSteps.{IsHarmless, Now, RunsOn, before}
 use Rattle.cfi_unit.proofs.EffectUnits.{plain_does, ecall_does, ebreak_does, stop_does, gate_does, jump_does, branch_does, store_does}
 use Rattle.cfi_unit.proofs.EffectTransfers.{call_does, return_does, ijump_does, icall_does}
 
@@ -35,7 +36,7 @@ module _ (may : Shared → Shared → Type 0) (harmless : IsHarmless may) (p : P
 
     body_does : (unit : U.Unit) (pending : List ℕ) → UnitMayStand unit at pending → 0 < length pending → length pending ≤ MOST_PENDING →
         Stand image at (instrs_of unit at) → Context part image base pending s → h.regs 3 ≡ slot part (length pending) →
-        Runs may p h.regs (word_count unit) (UnitDoes p part image base may h s unit at pending) (before h s)
+        RunsOn may p h.regs (word_count unit - 1) (UnitDoes p part image base may h s unit at pending) (before h s)
     body_does (V.Gate label) pending stand some most w c x3 = gate_does at (first pending c) e x3 label w
     body_does (V.Plain instr) pending stand some most w c x3 = plain_does at (first pending c) e instr stand.0.1 w
     body_does (V.Branch op rs1 rs2 target) pending stand some most w c x3 = branch_does at (first pending c) e x3 op rs1 rs2 target stand.0 w
@@ -52,15 +53,15 @@ module _ (may : Shared → Shared → Type 0) (harmless : IsHarmless may) (p : P
         return_does at site pending (first (site ∷ pending) c) e x3 most stand.1.0 stand.1.1 stand.0 w
 
   pub unit_does : (unit : U.Unit) (at : ℕ) (pending : List ℕ) → Enters p part image base unit at pending h s →
-      Runs may p h.regs (word_count unit) (UnitDoes p part image base may h s unit at pending) (before h s)
+      RunsOn may p h.regs (word_count unit - 1) (UnitDoes p part image base may h s unit at pending) (before h s)
   unit_does unit at pending i = body_does i.own i.bytes at i.pc unit pending i.may_stand i.some i.most i.stands i.context i.pointer
 
 goes_on : (r : Registers) (a : After) → Inside r a → a.turn ≡ Ran
 goes_on r a here = here.turn
 
 pub done_within : (p : Profile) (n : ℕ) (h : Hart) (s : Shared) (changes : List (List ByteChange)) (Until Done : After → Type 0) →
-    ComesTo Until p n (before h s) changes Done → DoneWithin p n h s changes Until Done
-done_within p n h s changes Until Done m = record { steps = m.steps; few = m.few; until = m.until; done = m.met }
+    ComesTo Until p 1 n (before h s) changes Done → DoneWithin p n h s changes Until Done
+done_within p n h s changes Until Done m = record { steps = m.steps; some = m.some; few = m.few; until = m.until; done = m.met }
 
 -- nothing happens
 unchanged_keeps : (part : ℕ) (image base : Memory) (pending : List ℕ) (s s' : Shared) → Context part image base pending s → Unchanged s s' →
@@ -117,27 +118,46 @@ data_allowed (cs ∷ changes) all = (
   data_allowed changes all.1,
 )
 
+-- each unit has a word
+one_word : (unit : U.Unit) → suc (word_count unit - 1) ≡ word_count unit
+one_word (V.Gate label) = refl
+one_word (V.Plain instr) = refl
+one_word (V.Branch op rs1 rs2 target) = refl
+one_word (V.Jump target) = refl
+one_word V.Stop = refl
+one_word (V.System op) = refl
+one_word (V.Store op rs1 rs2 imm) = refl
+one_word (V.Call target) = refl
+one_word (V.Ijump rs1 imm label) = refl
+one_word (V.Icall rs1 imm label) = refl
+one_word V.Return = refl
+
 pub unit_effect : UnitEffect
 unit_effect p part image base unit at pending h s i =
-    let n = word_count unit in
+    let m = word_count unit - 1 in
     let Q : After → Type 0 = UnitDoes p part image base Unchanged h s unit at pending in
-    done_within p n h s (replicate n []) (Inside h.regs) Q
-    (comes_to_calmly (Inside h.regs) Unchanged p (goes_on h.regs) Q n (before h s) (λ s'. refl)
-    (unit_does Unchanged unchanged_harmless p part image base h s unit at pending i))
+    subst (λ n. DoneWithin p n h s (replicate n []) (Inside h.regs) Q) (one_word unit)
+    (done_within p (suc m) h s (replicate (suc m) []) (Inside h.regs) Q
+    (comes_on_calmly (Inside h.regs) Unchanged p (goes_on h.regs) Q m (before h s) (λ s'. refl)
+    (unit_does Unchanged unchanged_harmless p part image base h s unit at pending i)))
 
 pub unit_keeps_registers : UnitKeepsRegisters
 unit_keeps_registers p part image base unit at pending h s i changes all long =
-    let n = word_count unit in
+    let m = word_count unit - 1 in
     let Q : After → Type 0 = UnitDoes p part image base DataChanged h s unit at pending in
-    done_within p n h s changes (Inside h.regs) Q
-    (comes_to (Inside h.regs) DataChanged p (goes_on h.regs) Q n (before h s) changes (data_allowed changes all) long
-    (unit_does DataChanged changed_harmless p part image base h s unit at pending i))
+    subst (λ n. n ≤ length changes → DoneWithin p n h s changes (Inside h.regs) Q) (one_word unit)
+    (λ whole. done_within p (suc m) h s changes (Inside h.regs) Q
+    (comes_on (Inside h.regs) DataChanged p (goes_on h.regs) Q m (before h s) changes (data_allowed changes all) whole
+    (unit_does DataChanged changed_harmless p part image base h s unit at pending i)))
+    long
 
 -- a unit where nothing happens, for runs that go on after it
 pub unit_within : (p : Profile) (part : ℕ) (image base : Memory) (unit : U.Unit) (at : ℕ) (pending : List ℕ) (h : Hart) (s : Shared) →
     Enters p part image base unit at pending h s →
-    Within GoesOn Unchanged p (word_count unit) (UnitDoes p part image base Unchanged h s unit at pending) (before h s)
+    Onward GoesOn Unchanged p (word_count unit - 1) (UnitDoes p part image base Unchanged h s unit at pending) (before h s)
 unit_within p part image base unit at pending h s i =
     let Q : After → Type 0 = UnitDoes p part image base Unchanged h s unit at pending in
-    within_map (Inside h.regs) Unchanged p GoesOn Unchanged (word_count unit) Q Q (before h s) (goes_on h.regs) (λ a b same. same) (λ b q. q)
-    (unit_does Unchanged unchanged_harmless p part image base h s unit at pending i)
+    let on = unit_does Unchanged unchanged_harmless p part image base h s unit at pending i in (
+      refl,
+      λ s' t. within_map (Inside h.regs) Unchanged p GoesOn Unchanged (word_count unit - 1) Q Q (step p h s') (goes_on h.regs) (λ a b same. same) (λ b q. q) (on.1 s' t),
+    )

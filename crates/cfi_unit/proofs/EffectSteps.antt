@@ -15,7 +15,7 @@ use Rattle.rv_instr.specs.declared.instr.BranchOp.{BranchOp}
 use Rattle.rv_instr.specs.declared.instr.LoadOp.{LoadOp}
 use Rattle.rv_instr.specs.declared.instr.StoreOp.{StoreOp}
 use Rattle.rv_code.specs.Arithmetic.{branch_taken, load_size, load_result, store_size}
-use Rattle.rv_code.proofs.Within.{Within}
+use Rattle.rv_code.proofs.Within.{Onward, Within}
 use Rattle.rv_code.specs.State.{Hart, Shared, After}
 use Rattle.rv_code.specs.Step.{exec, puts, stops, address}
 use Rattle.rv_code.specs.declared.turn.Turn.TheVariants.{Ran}
@@ -43,6 +43,10 @@ before h s = stops h s Ran
 -- within `n` steps Q holds, whatever may happen before each; the program's registers are `r` until then
 abbrev pub Runs : (Shared → Shared → Type 0) → Profile → Registers → ℕ → (After → Type 0) → After → Type 0
 Runs may p r n Q a = Within (Inside r) may p n Q a
+
+-- the same after one step more, which is made
+abbrev pub RunsOn : (Shared → Shared → Type 0) → Profile → Registers → ℕ → (After → Type 0) → After → Type 0
+RunsOn may p r n Q a = Onward (Inside r) may p n Q a
 
 -- what is known at each word: `start` is what was shared at the first, but for what the unit pushed
 pub record Now (may : Shared → Shared → Type 0) (p : Profile) (part : ℕ) (image base : Memory) (pending : List ℕ) (r : Registers) (start : Shared) (h : Hart) (s : Shared) : Type 0 where
@@ -84,19 +88,18 @@ module _ {may : Shared → Shared → Type 0} {p : Profile} {part : ℕ} {image 
     -- any instruction
     pub onto : (i : Instr) → slice_get instrs k ≡ Some i →
         ((s' : Shared) → Now may p part image base pending r start h s' → Runs may p r n Q (exec p i h s')) →
-        Runs may p r (suc n) Q (before h s)
-    onto i is next =
-        inr (
-          record { turn = refl; regs = now.same },
-          λ s' t. let on = later now s' t in at_word (Runs may p r n Q) p h on.context w k i is e (next s' on),
-        )
+        RunsOn may p r n Q (before h s)
+    onto i is next = (
+      record { turn = refl; regs = now.same },
+      λ s' t. let on = later now s' t in at_word (Runs may p r n Q) p h on.context w k i is e (next s' on),
+    )
 
     -- one that puts a value into a reserved register
     pub onto_put : (i : Instr) → slice_get instrs k ≡ Some i → (rd x v : ℕ) → is_reserved rd ≡ true →
         ((s' : Shared) → exec p i h s' ≡ puts h s' rd x) → x ≡ v →
         ((pc : ℕ) (s' : Shared) → pc ≡ at + 4 * suc k → Now may p part image base pending r start (record { pc = pc; regs = set_reg h.regs rd v }) s' →
         Runs may p r n Q (before (record { pc = pc; regs = set_reg h.regs rd v }) s')) →
-        Runs may p r (suc n) Q (before h s)
+        RunsOn may p r n Q (before h s)
     onto_put i is rd x v reserved does value next =
         onto i is (λ s' on.
         subst (λ (a : After). Runs may p r n Q a) (sym (does s' ∙ ap (λ y. puts h s' rd y) value))
@@ -110,7 +113,7 @@ module _ {may : Shared → Shared → Type 0} {p : Profile} {part : ℕ} {image 
         (branch_taken op (get_reg h.regs rs1) (get_reg h.regs rs2) ≡ false → (pc : ℕ) (s' : Shared) → pc ≡ at + 4 * suc k →
         Now may p part image base pending r start (record { pc = pc; regs = h.regs }) s' →
         Runs may p r n Q (before (record { pc = pc; regs = h.regs }) s')) →
-        Runs may p r (suc n) Q (before h s)
+        RunsOn may p r n Q (before h s)
     onto_branch op rs1 rs2 is skips goes_on =
         let within : k < length instrs = slice_get_within instrs k (Branch op rs1 rs2 skip_offset) is in
         let low = w.low in
@@ -126,7 +129,7 @@ module _ {may : Shared → Shared → Type 0} {p : Profile} {part : ℕ} {image 
     pub onto_jump : (from to : ℕ) → slice_get instrs k ≡ Some (jump from to) → from ≡ at + 4 * k → Reaches from to →
         ((pc : ℕ) (s' : Shared) → pc ≡ to → Now may p part image base pending r start (record { pc = pc; regs = h.regs }) s' →
         Runs may p r n Q (before (record { pc = pc; regs = h.regs }) s')) →
-        Runs may p r (suc n) Q (before h s)
+        RunsOn may p r n Q (before h s)
     onto_jump from to is here reach next =
         onto (jump from to) is
         (λ s' on. next _ s' (jump_leads h.pc from to (e ∙ sym here) reach) (moved on (record { pc = _; regs = h.regs }) on.same))
@@ -137,7 +140,7 @@ module _ {may : Shared → Shared → Type 0} {p : Profile} {part : ℕ} {image 
         ((s' : Shared) → Context part image base pending s' → load_result op (read (load_size op) s'.memory a) ≡ v) →
         ((pc : ℕ) (s' : Shared) → pc ≡ at + 4 * suc k → Now may p part image base pending r start (record { pc = pc; regs = set_reg h.regs rd v }) s' →
         Runs may p r n Q (before (record { pc = pc; regs = set_reg h.regs rd v }) s')) →
-        Runs may p r (suc n) Q (before h s)
+        RunsOn may p r n Q (before h s)
     onto_load op rd rs1 imm is reserved a v place can reads next =
         onto (Load op rd rs1 imm) is
         (λ s' on.
@@ -149,7 +152,7 @@ module _ {may : Shared → Shared → Type 0} {p : Profile} {part : ℕ} {image 
         (a v : ℕ) → address h rs1 imm ≡ a → get_reg h.regs rs2 ≡ v → can_store p a (store_size op) ≡ true →
         ((pc : ℕ) (s' : Shared) → pc ≡ at + 4 * suc k → Now may p part image base pending r start (record { pc = pc; regs = h.regs }) s' →
         Runs may p r n Q (before (record { pc = pc; regs = h.regs }) (with_memory s' (write (store_size op) s'.memory a v)))) →
-        Runs may p r (suc n) Q (before h s)
+        RunsOn may p r n Q (before h s)
     onto_store op rs1 rs2 imm is a v place value can next =
         onto (Store op rs1 rs2 imm) is
         (λ s' on.

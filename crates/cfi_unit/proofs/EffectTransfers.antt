@@ -12,7 +12,7 @@ use Rattle.rv_code.specs.Arithmetic.{difference}
 use Rattle.rv_code.specs.State.{Hart, Shared, After}
 use Rattle.rv_code.specs.Step.{address, offset}
 use Rattle.rv_code.proofs.Frames.{read_same, read_write}
-use Rattle.rv_code.proofs.Within.{within_then}
+use Rattle.rv_code.proofs.Within.{onward_then, within_then}
 use Rattle.cfi_unit.specs.declared.unit.Unit as U
 use Rattle.cfi_unit.specs.declared.unit.Unit.TheVariants as V
 use Rattle.cfi_unit.specs.UnitWords.{BAD_TARGET, BAD_RETURN, DEEP, CheckFits, Fits, MINUS_EIGHT, Reaches, check, instrs_of, push}
@@ -27,7 +27,7 @@ use Rattle.cfi_unit.proofs.Context.{kept_push, kept_pending, kept_popped, stand_
 use Rattle.cfi_unit.proofs.Jumps.{jump_leads}
 use Rattle.cfi_unit.proofs.Labels.{word_small, same_word, word_same}
 use Rattle.cfi_unit.proofs.Regions.{can_load_code, can_load_part, can_store_part}
-use Rattle.cfi_unit.proofs.EffectSteps.{Now, Runs, before, onto, onto_put, onto_branch, onto_jump, onto_load, onto_store, same_link}
+use Rattle.cfi_unit.proofs.EffectSteps.{Now, RunsOn, Runs, before, onto, onto_put, onto_branch, onto_jump, onto_load, onto_store, same_link}
 use Rattle.cfi_unit.proofs.EffectUnits.{halts_at}
 
 module _ {may : Shared → Shared → Type 0} {p : Profile} {part : ℕ} {image base : Memory} {pending : List ℕ} {r : Registers} {start : Shared} where
@@ -55,7 +55,7 @@ module _ {may : Shared → Shared → Type 0} {p : Profile} {part : ℕ} {image 
         ((h' : Hart) (s' : Shared) → length pending < MOST_PENDING → h'.pc ≡ at + 28 → h'.regs 3 ≡ slot part (suc (length pending)) → h'.regs 31 ≡ h.regs 31 →
         Now may p part image base ((at + 32) ∷ pending) r (pushed part (length pending) (at + 32) start) h' s' → Q (before h' s')) →
         ((h' : Hart) (s' : Shared) → length pending ≡ MOST_PENDING → h'.pc ≡ DEEP → Now may p part image base pending r start h' s' → Q (before h' s')) →
-        Runs may p r 7 Q (before h s)
+        RunsOn may p r 6 Q (before h s)
     push_does has_room is_full =
         let own = now.own in
         let low = w.low in
@@ -64,21 +64,21 @@ module _ {may : Shared → Shared → Type 0} {p : Profile} {part : ℕ} {image 
         let counter = slot part n * 2 ^ 48 % 2 ^ 64 in
         let counted = set_reg h.regs 30 counter in
         onto_put 6 Q now w 0 (omega arith) _ refl 30 _ counter refl (λ s1. refl) (omega arith)
-        (λ pc1 s1 e1 now1. onto_branch 5 Q now1 w 1 e1 Bne 30 0 refl
+        (λ pc1 s1 e1 now1. inr (onto_branch 5 Q now1 w 1 e1 Bne 30 0 refl
         (λ taken pc2 s2 e2 now2.
         let room : n < MOST_PENDING = has_slot taken in
         let can = can_store_part p part (slot part n) 8 own (omega arith) (omega arith) in
-        onto_put 4 Q now2 w 3 e2 _ refl 30 _ (at + 12) refl (λ s3. refl) (omega arith)
-        (λ pc3 s3 e3 now3. onto_put 3 Q now3 w 4 e3 _ refl 30 _ (at + 32) refl (λ s4. refl) (omega arith)
+        inr (onto_put 4 Q now2 w 3 e2 _ refl 30 _ (at + 12) refl (λ s3. refl) (omega arith)
+        (λ pc3 s3 e3 now3. inr (onto_put 3 Q now3 w 4 e3 _ refl 30 _ (at + 32) refl (λ s4. refl) (omega arith)
         (λ pc4 s4 e4 now4.
         let regs = set_reg (set_reg counted 30 (at + 12)) 30 (at + 32) in
-        onto_store 2 Q now4 w 5 e4 Sd 3 30 0 refl (slot part n) (at + 32) (omega arith) refl can
+        inr (onto_store 2 Q now4 w 5 e4 Sd 3 30 0 refl (slot part n) (at + 32) (omega arith) refl can
         (λ pc5 s5 e5 now5.
-        onto_put 1 Q (after_push (at + 32) _ (record { pc = pc5; regs = regs }) s5 room (omega arith) now5 now5.same) w 6 e5 _ refl 3 _ (slot part (suc n)) refl (λ s6. refl) (omega arith)
-        (λ pc6 s6 e6 now6. inl (has_room _ s6 room (omega arith) refl refl now6))))))
+        inr (onto_put 1 Q (after_push (at + 32) _ (record { pc = pc5; regs = regs }) s5 room (omega arith) now5 now5.same) w 6 e5 _ refl 3 _ (slot part (suc n)) refl (λ s6. refl) (omega arith)
+        (λ pc6 s6 e6 now6. inl (has_room _ s6 room (omega arith) refl refl now6))))))))))
         (λ not_taken pc2 s2 e2 now2.
-        onto_jump 4 Q now2 w 2 e2 (at + 8) DEEP refl (omega arith) deep
-        (λ pc3 s3 to now3. inl (is_full _ s3 (no_slot not_taken) to now3))))
+        inr (onto_jump 4 Q now2 w 2 e2 (at + 8) DEEP refl (omega arith) deep
+        (λ pc3 s3 to now3. inl (is_full _ s3 (no_slot not_taken) to now3))))))
       where
         has_slot : not (slot part (length pending) * 2 ^ 48 % 2 ^ 64 == 0) ≡ true → length pending < MOST_PENDING
         has_slot taken =
@@ -102,18 +102,18 @@ module _ {may : Shared → Shared → Type 0} {p : Profile} {part : ℕ} {image 
         h'.regs 31 ≡ destination h.regs rs1 imm → Now may p part image base pending r start h' s' → Q (before h' s')) →
         ((h' : Hart) (s' : Shared) → (HasLabel image label (destination h.regs rs1 imm) → ⊥) → h'.pc ≡ BAD_TARGET →
         Now may p part image base pending r start h' s' → Q (before h' s')) →
-        Runs may p r 12 Q (before h s)
+        RunsOn may p r 11 Q (before h s)
     check_does legal illegal =
         let sum = sum_of h.regs rs1 imm in
         let v = destination h.regs rs1 imm in
         let gap = difference v CODE_START in
         let far = gap / 2 ^ 20 in
         onto_put 11 Q now w 0 (omega arith) _ refl 31 _ sum refl (λ s1. refl) refl
-        (λ pc1 s1 e1 now1. onto_put 10 Q now1 w 1 e1 _ refl 31 _ v refl (λ s2. refl) (cleared sum (omega arith))
-        (λ pc2 s2 e2 now2. onto_put 9 Q now2 w 2 e2 _ refl 30 _ CODE_START refl (λ s3. refl) refl
-        (λ pc3 s3 e3 now3. onto_put 8 Q now3 w 3 e3 _ refl 30 _ gap refl (λ s4. refl) refl
-        (λ pc4 s4 e4 now4. onto_put 7 Q now4 w 4 e4 _ refl 30 _ far refl (λ s5. refl) refl
-        (λ pc5 s5 e5 now5. onto_branch 6 Q now5 w 5 e5 Beq 30 0 refl
+        (λ pc1 s1 e1 now1. inr (onto_put 10 Q now1 w 1 e1 _ refl 31 _ v refl (λ s2. refl) (cleared sum (omega arith))
+        (λ pc2 s2 e2 now2. inr (onto_put 9 Q now2 w 2 e2 _ refl 30 _ CODE_START refl (λ s3. refl) refl
+        (λ pc3 s3 e3 now3. inr (onto_put 8 Q now3 w 3 e3 _ refl 30 _ gap refl (λ s4. refl) refl
+        (λ pc4 s4 e4 now4. inr (onto_put 7 Q now4 w 4 e4 _ refl 30 _ far refl (λ s5. refl) refl
+        (λ pc5 s5 e5 now5. inr (onto_branch 6 Q now5 w 5 e5 Beq 30 0 refl
         (λ inside pc6 s6 e6 now6.
         let is_zero = eqb-true far 0 inside in
         let first : CODE_START ≤ v = omega arith in
@@ -121,20 +121,20 @@ module _ {may : Shared → Shared → Type 0} {p : Profile} {part : ℕ} {image 
         let round : v % 4 ≡ 0 = omega arith in
         let found = offset 32 (read 4 image v) in
         let upper = offset 32 (label * 2 ^ 12) in
-        onto_load 5 Q now6 w 7 e6 Lw 30 31 0 refl refl v found (omega arith) (can_load_code p v 4 first last) (λ s7 c. code_read v s7 c first last)
-        (λ pc7 s7 e7 now7. onto_put 4 Q now7 w 8 e7 _ refl 4 _ upper refl (λ s8. refl) refl
-        (λ pc8 s8 e8 now8. onto_put 3 Q now8 w 9 e8 _ refl 4 _ ((upper + 55) % 2 ^ 64) refl (λ s9. refl) refl
-        (λ pc9 s9 e9 now9. onto_branch 2 Q now9 w 10 e9 Beq 30 4 refl
+        inr (onto_load 5 Q now6 w 7 e6 Lw 30 31 0 refl refl v found (omega arith) (can_load_code p v 4 first last) (λ s7 c. code_read v s7 c first last)
+        (λ pc7 s7 e7 now7. inr (onto_put 4 Q now7 w 8 e7 _ refl 4 _ upper refl (λ s8. refl) refl
+        (λ pc8 s8 e8 now8. inr (onto_put 3 Q now8 w 9 e8 _ refl 4 _ ((upper + 55) % 2 ^ 64) refl (λ s9. refl) refl
+        (λ pc9 s9 e9 now9. inr (onto_branch 2 Q now9 w 10 e9 Beq 30 4 refl
         (λ same pc10 s10 e10 now10.
         let word = same_word (read 4 image v) label (word_small image v small) fits.2 (eqb-true found ((upper + 55) % 2 ^ 64) same) in
         inl (legal _ s10 (record { round = round; low = first; high = last; word = word }) e10 x3 refl now10))
         (λ other pc10 s10 e10 now10.
         let apart = eqb-false found ((upper + 55) % 2 ^ 64) other in
-        onto_jump 1 Q now10 w 11 e10 (at + 44) BAD_TARGET refl (omega arith) fits.4
-        (λ pc11 s11 to now11. inl (illegal _ s11 (λ has. apart (word_same (read 4 image v) label fits.2 has.word)) to now11)))))))
+        inr (onto_jump 1 Q now10 w 11 e10 (at + 44) BAD_TARGET refl (omega arith) fits.4
+        (λ pc11 s11 to now11. inl (illegal _ s11 (λ has. apart (word_same (read 4 image v) label fits.2 has.word)) to now11))))))))))))
         (λ outside pc6 s6 e6 now6.
-        onto_jump 5 Q now6 w 6 e6 (at + 24) BAD_TARGET refl (omega arith) fits.3
-        (λ pc7 s7 to now7. inl (illegal _ s7 (beyond outside) to now7))))))))
+        inr (onto_jump 5 Q now6 w 6 e6 (at + 24) BAD_TARGET refl (omega arith) fits.3
+        (λ pc7 s7 to now7. inl (illegal _ s7 (beyond outside) to now7))))))))))))))
       where
         code_read : (v : ℕ) (s' : Shared) → Context part image base pending s' → CODE_START ≤ v → v + 4 ≤ CODE_START + CODE_SIZE →
             offset 32 (read 4 s'.memory v) ≡ offset 32 (read 4 image v)
@@ -153,14 +153,14 @@ module _ {may : Shared → Shared → Type 0} {p : Profile} {part : ℕ} {image 
     Does unit = UnitDoes p part image base may h s unit at pending
 
     pub call_does : (target : ℕ) → Fits (V.Call target) at → Stand image at (instrs_of (V.Call target) at) →
-        Runs may p h.regs 8 (Does (V.Call target)) (before h s)
+        RunsOn may p h.regs 7 (Does (V.Call target)) (before h s)
     call_does target fits w =
         let Q : After → Type 0 = Does (V.Call target) in
         let R : After → Type 0 = Runs may p h.regs 1 Q in
-        within_then (Inside h.regs) may p 7 1 R Q (before h s)
+        onward_then (Inside h.regs) may p 6 1 R Q (before h s)
         (push_does at R h s now most e x3 (stand_front (push at) _ w) fits.0
         (λ h' s' room e' x3' x31 now'.
-        onto 0 Q now' w 7 (omega arith) _ refl
+        inr (onto 0 Q now' w 7 (omega arith) _ refl
         (λ s'' on. inl (
           room,
           record {
@@ -171,7 +171,7 @@ module _ {may : Shared → Shared → Type 0} {p : Profile} {part : ℕ} {image 
             shared = on.since;
             context = on.context;
           },
-        )))
+        ))))
         (λ h' s' full to now'. inl (inr (full, halts_at DEEP now' to))))
         (λ b on. on)
 
@@ -188,15 +188,15 @@ module _ {may : Shared → Shared → Type 0} {p : Profile} {part : ℕ} {image 
           subst (λ x. LeftTo part image base to (x ∷ pending) (set_reg h.regs 1 x) (may (pushed part (length pending) x s)) after) same left
 
       pub ijump_does : Fits (V.Ijump rs1 imm label) at → Stand image at (instrs_of (V.Ijump rs1 imm label) at) →
-          Runs may p h.regs 13 (Does (V.Ijump rs1 imm label)) (before h s)
+          RunsOn may p h.regs 12 (Does (V.Ijump rs1 imm label)) (before h s)
       ijump_does fits w =
           let Q : After → Type 0 = Does (V.Ijump rs1 imm label) in
           let R : After → Type 0 = Runs may p h.regs 1 Q in
           let v = destination h.regs rs1 imm in
-          within_then (Inside h.regs) may p 12 1 R Q (before h s)
+          onward_then (Inside h.regs) may p 11 1 R Q (before h s)
           (check_does at rs1 imm label R h s now e x3 small fits (stand_front (check at rs1 imm label) _ w)
           (λ h' s' legal e' x3' x31 now'.
-          onto 0 Q now' w 12 e' _ refl
+          inr (onto 0 Q now' w 12 e' _ refl
           (λ s'' on. inl (
             legal,
             record {
@@ -207,26 +207,26 @@ module _ {may : Shared → Shared → Type 0} {p : Profile} {part : ℕ} {image 
               shared = on.since;
               context = on.context;
             },
-          )))
+          ))))
           (λ h' s' illegal to now'. inl (inr (illegal, halts_at BAD_TARGET now' to))))
           (λ b on. on)
 
       pub icall_does : Fits (V.Icall rs1 imm label) at → Stand image at (instrs_of (V.Icall rs1 imm label) at) →
-          Runs may p h.regs 20 (Does (V.Icall rs1 imm label)) (before h s)
+          RunsOn may p h.regs 19 (Does (V.Icall rs1 imm label)) (before h s)
       icall_does fits w =
           let Q : After → Type 0 = Does (V.Icall rs1 imm label) in
           let R : After → Type 0 = Runs may p h.regs 1 Q in
           let R' : After → Type 0 = Runs may p h.regs 8 Q in
           let v = destination h.regs rs1 imm in
           let deep : at + 56 ≡ at + 48 + 8 = omega arith in
-          within_then (Inside h.regs) may p 12 8 R' Q (before h s)
+          onward_then (Inside h.regs) may p 11 8 R' Q (before h s)
           (check_does at rs1 imm label R' h s now e x3 small fits.0 (stand_front (check at rs1 imm label) _ w)
           (λ h' s' legal e' x3' x31 now'.
           within_then (Inside h.regs) may p 7 1 R Q (before h' s')
-          (push_does (at + 48) R h' s' now' most e' x3' (stand_front (push (at + 48)) _ (stand_back (check at rs1 imm label) _ w))
+          (inr (push_does (at + 48) R h' s' now' most e' x3' (stand_front (push (at + 48)) _ (stand_back (check at rs1 imm label) _ w))
           (subst (λ a. Reaches a DEEP) deep fits.1)
           (λ h2 s2 room e2 x3_2 x31_2 now2.
-          onto 0 Q now2 w 19 (omega arith) _ refl
+          inr (onto 0 Q now2 w 19 (omega arith) _ refl
           (λ s3 on. inl (
             legal,
             inl (
@@ -240,26 +240,26 @@ module _ {may : Shared → Shared → Type 0} {p : Profile} {part : ℕ} {image 
                 context = on.context;
               }),
             ),
-          )))
-          (λ h2 s2 full to now2. inl (inl (legal, inr (full, halts_at DEEP now2 to)))))
+          ))))
+          (λ h2 s2 full to now2. inl (inl (legal, inr (full, halts_at DEEP now2 to))))))
           (λ b on. on))
           (λ h' s' illegal to now'. inl (inr (illegal, halts_at BAD_TARGET now' to))))
           (λ b on. on)
 
   module _ (at site : ℕ) (pending : List ℕ) (now : Now may p part image base (site ∷ pending) h.regs s h s) (e : h.pc ≡ at) (x3 : h.regs 3 ≡ slot part (suc (length pending))) (most : suc (length pending) ≤ MOST_PENDING) (even : site % 2 ≡ 0) (small : site < 2 ^ 64) where
     pub return_does : Fits V.Return at → Stand image at (instrs_of V.Return at) →
-        Runs may p h.regs 5 (UnitDoes p part image base may h s V.Return at (site ∷ pending)) (before h s)
+        RunsOn may p h.regs 4 (UnitDoes p part image base may h s V.Return at (site ∷ pending)) (before h s)
     return_does fits w =
         let Q : After → Type 0 = UnitDoes p part image base may h s V.Return at (site ∷ pending) in
         let own = now.own in
         let n = length pending in
         let can = can_load_part p part (slot part n) 8 own (omega arith) (omega arith) in
         onto_load 4 Q now w 0 (omega arith) Ld 31 3 MINUS_EIGHT refl refl (slot part n) site (omega arith) can (λ s' c. c.kept.held.0)
-        (λ pc1 s1 e1 now1. onto_put 3 Q now1 w 1 e1 _ refl 3 _ (slot part n) refl (λ s2. refl) (omega arith)
-        (λ pc2 s2 e2 now2. onto_branch 2 Q now2 w 2 e2 Beq 31 1 refl
+        (λ pc1 s1 e1 now1. inr (onto_put 3 Q now1 w 1 e1 _ refl 3 _ (slot part n) refl (λ s2. refl) (omega arith)
+        (λ pc2 s2 e2 now2. inr (onto_branch 2 Q now2 w 2 e2 Beq 31 1 refl
         (λ same pc3 s3 e3 now3.
         let equal = eqb-true site (h.regs 1) same in
-        onto 1 Q now3 w 4 e3 _ refl
+        inr (onto 1 Q now3 w 4 e3 _ refl
         (λ s4 on. inl (inl (
           sym equal,
           record {
@@ -270,8 +270,8 @@ module _ {may : Shared → Shared → Type 0} {p : Profile} {part : ℕ} {image 
             shared = on.since;
             context = record { going = on.context.going; kept = kept_popped site on.context.kept };
           },
-        ))))
+        )))))
         (λ other pc3 s3 e3 now3.
         let apart = eqb-false site (h.regs 1) other in
-        onto_jump 1 Q now3 w 3 e3 (at + 12) BAD_RETURN refl (omega arith) fits
-        (λ pc4 s4 to now4. inl (inr (λ is. apart (sym is), halts_at BAD_RETURN now4 to))))))
+        inr (onto_jump 1 Q now3 w 3 e3 (at + 12) BAD_RETURN refl (omega arith) fits
+        (λ pc4 s4 to now4. inl (inr (λ is. apart (sym is), halts_at BAD_RETURN now4 to)))))))))

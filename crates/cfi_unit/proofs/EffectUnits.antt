@@ -30,7 +30,7 @@ use Rattle.cfi_unit.specs.Leaving.{LeftTo, HaltsAt, Executes, Stores, result_reg
 use Rattle.cfi_unit.specs.Effect.{UnitDoes}
 use Rattle.cfi_unit.proofs.Context.{kept_data}
 use Rattle.cfi_unit.proofs.Regions.{store_size-small, can_store_data}
-use Rattle.cfi_unit.proofs.EffectSteps.{Now, Runs, before, moved, onto, onto_put, onto_branch, onto_jump, onto_store}
+use Rattle.cfi_unit.proofs.EffectSteps.{Now, RunsOn, before, moved, onto, onto_put, onto_branch, onto_jump, onto_store}
 
 set_other : (regs : Registers) (rd v k : ℕ) → (rd ≡ k → ⊥) → set_reg regs rd v k ≡ regs k
 set_other regs zero v k apart = refl
@@ -171,38 +171,38 @@ module _ {may : Shared → Shared → Type 0} {p : Profile} {part : ℕ} {image 
   abbrev Does : U.Unit → After → Type 0
   Does unit = UnitDoes p part image base may h s unit at pending
 
-  pub plain_does : (i : Instr) → is_plain i ≡ true → Stand image at (instrs_of (V.Plain i) at) → Runs may p h.regs 1 (Does (V.Plain i)) (before h s)
+  pub plain_does : (i : Instr) → is_plain i ≡ true → Stand image at (instrs_of (V.Plain i) at) → RunsOn may p h.regs 0 (Does (V.Plain i)) (before h s)
   plain_does i plain w = onto 0 (Does (V.Plain i)) now w 0 (omega arith) i refl (λ s' on. executes_plain i plain on)
 
-  pub ecall_does : Stand image at (instrs_of (V.System S.Ecall) at) → Runs may p h.regs 1 (Does (V.System S.Ecall)) (before h s)
+  pub ecall_does : Stand image at (instrs_of (V.System S.Ecall) at) → RunsOn may p h.regs 0 (Does (V.System S.Ecall)) (before h s)
   ecall_does w = onto 0 (Does (V.System S.Ecall)) now w 0 (omega arith) Ecall refl (λ s' on. executes_call _ refl (after_call h s') on)
 
-  pub ebreak_does : Stand image at (instrs_of (V.System S.Ebreak) at) → Runs may p h.regs 1 (Does (V.System S.Ebreak)) (before h s)
+  pub ebreak_does : Stand image at (instrs_of (V.System S.Ebreak) at) → RunsOn may p h.regs 0 (Does (V.System S.Ebreak)) (before h s)
   ebreak_does w = onto 0 (Does (V.System S.Ebreak)) now w 0 (omega arith) Ebreak refl (λ s' on. executes_break on)
 
-  pub stop_does : Fits V.Stop at → Stand image at (instrs_of V.Stop at) → Runs may p h.regs 1 (Does V.Stop) (before h s)
+  pub stop_does : Fits V.Stop at → Stand image at (instrs_of V.Stop at) → RunsOn may p h.regs 0 (Does V.Stop) (before h s)
   stop_does fits w =
       onto_jump 0 (Does V.Stop) now w 0 (omega arith) at BAD_TARGET refl (omega arith) fits (λ pc s' to on. halts_at BAD_TARGET on to)
 
   module _ (x3 : h.regs 3 ≡ slot part (length pending)) where
-    pub gate_does : (label : ℕ) → Stand image at (instrs_of (V.Gate label) at) → Runs may p h.regs 1 (Does (V.Gate label)) (before h s)
+    pub gate_does : (label : ℕ) → Stand image at (instrs_of (V.Gate label) at) → RunsOn may p h.regs 0 (Does (V.Gate label)) (before h s)
     gate_does label w =
         onto 0 (Does (V.Gate label)) now w 0 (omega arith) _ refl
         (λ s' on. left_to (at + 4) (moved on (record { pc = h.pc + 4; regs = h.regs }) on.same) (omega arith) x3)
 
     pub jump_does : (target : ℕ) → Fits (V.Jump target) at → Stand image at (instrs_of (V.Jump target) at) →
-        Runs may p h.regs 1 (Does (V.Jump target)) (before h s)
+        RunsOn may p h.regs 0 (Does (V.Jump target)) (before h s)
     jump_does target fits w =
         onto_jump 0 (Does (V.Jump target)) now w 0 (omega arith) at target refl (omega arith) fits.1 (λ pc s' to on. left_to target on to x3)
 
     pub branch_does : (op : BranchOp) (rs1 rs2 target : ℕ) → Fits (V.Branch op rs1 rs2 target) at →
-        Stand image at (instrs_of (V.Branch op rs1 rs2 target) at) → Runs may p h.regs 2 (Does (V.Branch op rs1 rs2 target)) (before h s)
+        Stand image at (instrs_of (V.Branch op rs1 rs2 target) at) → RunsOn may p h.regs 1 (Does (V.Branch op rs1 rs2 target)) (before h s)
     branch_does op rs1 rs2 target fits w =
         onto_branch 1 (Does (V.Branch op rs1 rs2 target)) now w 0 (omega arith) op rs1 rs2 refl
         (λ taken pc s' to on. inl (rw taken (left_to (at + 8) on (omega arith) x3)))
         (λ not_taken pc s' to on.
-        onto_jump 0 (Does (V.Branch op rs1 rs2 target)) on w 1 to (at + 4) target refl (omega arith) fits.2
-        (λ pc' s'' goes there. rw not_taken (left_to target there goes x3)))
+        inr (onto_jump 0 (Does (V.Branch op rs1 rs2 target)) on w 1 to (at + 4) target refl (omega arith) fits.2
+        (λ pc' s'' goes there. rw not_taken (left_to target there goes x3))))
 
     -- what a store's own instruction leaves
     own_store : (op : StoreOp) (rs1 rs2 imm : ℕ) (s' : Shared) → can_store p (sum_of h.regs rs1 imm) (store_size op) ≡ true →
@@ -232,18 +232,18 @@ module _ {may : Shared → Shared → Type 0} {p : Profile} {part : ℕ} {image 
         }
 
     pub store_does : (op : StoreOp) (rs1 rs2 imm : ℕ) → Stand image at (instrs_of (V.Store op rs1 rs2 imm) at) →
-        Runs may p h.regs 4 (Does (V.Store op rs1 rs2 imm)) (before h s)
+        RunsOn may p h.regs 3 (Does (V.Store op rs1 rs2 imm)) (before h s)
     store_does op rs1 rs2 imm w =
         let Q : After → Type 0 = Does (V.Store op rs1 rs2 imm) in
         let sum = sum_of h.regs rs1 imm in
         let masked = sum % 2 ^ 28 in
         onto_put 3 Q now w 0 (omega arith) _ refl 31 _ sum refl (λ s1. refl) refl
-        (λ pc1 s1 e1 now1. onto_put 2 Q now1 w 1 e1 _ refl 31 _ (sum * 2 ^ 36 % 2 ^ 64) refl (λ s2. refl) refl
-        (λ pc2 s2 e2 now2. onto_put 1 Q now2 w 2 e2 _ refl 31 _ masked refl (λ s3. refl) (omega arith)
+        (λ pc1 s1 e1 now1. inr (onto_put 2 Q now1 w 1 e1 _ refl 31 _ (sum * 2 ^ 36 % 2 ^ 64) refl (λ s2. refl) refl
+        (λ pc2 s2 e2 now2. inr (onto_put 1 Q now2 w 2 e2 _ refl 31 _ masked refl (λ s3. refl) (omega arith)
         (λ pc3 s3 e3 now3.
         let regs = set_reg (set_reg (set_reg h.regs 31 sum) 31 (sum * 2 ^ 36 % 2 ^ 64)) 31 masked in
         let near : masked < 2 ^ 28 = omega arith in
-        onto_store 0 Q now3 w 3 e3 op 31 rs2 0 refl masked (get_reg regs rs2) (omega arith) refl
+        inr (onto_store 0 Q now3 w 3 e3 op 31 rs2 0 refl masked (get_reg regs rs2) (omega arith) refl
         (can_store_data p masked (store_size op) near (store_size-small op))
         (λ pc4 s4 e4 now4. record {
           turn = refl;
@@ -253,7 +253,7 @@ module _ {may : Shared → Shared → Type 0} {p : Profile} {part : ℕ} {image 
           shared = stores_so op rs1 rs2 imm masked (get_reg regs rs2) s4 (moved now4 h (record { same = λ k free. refl })) near (λ low. omega arith)
               (λ other. get_other h.regs regs rs2 (unwritten h.regs sum (sum * 2 ^ 36 % 2 ^ 64) masked rs2 other));
           context = written_context op masked (get_reg regs rs2) s4 now4.own near now4.context;
-        }))))
+        })))))))
       where
         unwritten : (regs : Registers) (u v w k : ℕ) → k ≢ 31 → set_reg (set_reg (set_reg regs 31 u) 31 v) 31 w k ≡ regs k
         unwritten regs u v w k other = rw (ne_eqb k 31 other) refl

@@ -1,6 +1,6 @@
 -- The premises of what a unit does are met by a branch unit in a worked memory, so the law says
 -- something of it: it is left to the target where its condition is not met, and else passed.
-use Rattle.std.proofs.Common.{◌≡◌, ℕ, zero, suc, ◌+◌, ◌*◌, ◌-◌, ◌==◌, ◌^◌, ◌<◌, ◌&&◌, Bool, true, false, List, [], ◌∷◌, Some, None, length, if◌then◌else◌, refl, arith, lit<, lit≤}
+use Rattle.std.proofs.Common.{◌≡◌, ℕ, zero, suc, ◌+◌, ◌*◌, ◌-◌, ◌==◌, ◌^◌, ◌<◌, ◌&&◌, List, [], ◌∷◌, Some, None, length, if◌then◌else◌, refl, lit<, lit≤}
 use Rattle.std.specs.Prelude.{nat_le, nat_lt, slice_get, slice_index}
 use Rattle.std.proofs.lemmas.Bool.{cond_both}
 use Rattle.rv_word.specs.Layout.{version_1, SHADOW_START}
@@ -12,7 +12,6 @@ use Rattle.rv_code.specs.State.{Hart, Shared, last_exit}
 use Rattle.cfi_unit.specs.declared.unit.Unit as U
 use Rattle.cfi_unit.specs.declared.unit.Unit.TheVariants as V
 use Rattle.cfi_unit.specs.UnitWords.{instrs_of}
-use Rattle.cfi_unit.specs.Stand.{Stand}
 use Rattle.cfi_unit.specs.Leaving.{LeftTo}
 use Rattle.cfi_unit.specs.EffectLaw.{DoneWithin, Enters, Inside}
 use Rattle.cfi_unit.proofs.EffectRows.{unit_effect}

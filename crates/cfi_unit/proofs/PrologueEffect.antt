@@ -6,7 +6,7 @@ use Rattle.rv_instr.specs.Registers.{Registers, set_reg}
 use Rattle.rv_instr.specs.declared.instr.Instr.TheVariants.{Upper, Immediate}
 use Rattle.rv_instr.specs.declared.instr.UpperOp.TheVariants.{Lui}
 use Rattle.rv_instr.specs.declared.instr.ImmediateOp.TheVariants.{Addi}
-use Rattle.rv_code.proofs.Within.{Within, comes_to_calmly, within_map}
+use Rattle.rv_code.proofs.Within.{Onward, Within, comes_on_calmly, within_map}
 use Rattle.rv_code.specs.State.{Hart, Shared, After}
 use Rattle.cfi_unit.specs.declared.unit.Unit.TheVariants as V
 use Rattle.cfi_unit.specs.Prologue.{OPENING}
@@ -72,14 +72,13 @@ module _ (may : Shared → Shared → Type 0) (harmless : IsHarmless may) (p : P
           } in
           within_map (Inside ready) may p GoesOn may 8 (UnitDoes p SHADOW_START image base may h3 s3 (V.Call entry) (OPENING + 12) []) Does
           (before h3 s3) (λ b here. here.turn) (λ a b t. t) from_call
-          (call_does (OPENING + 12) [] now e refl (omega arith) entry i.fits
-          (stand_back (Upper Lui 2 0x10000 ∷ Upper Lui 3 0x60000 ∷ Immediate Addi 3 3 8 ∷ []) _ i.stands))
+          (inr (call_does (OPENING + 12) [] now e refl (omega arith) entry i.fits
+          (stand_back (Upper Lui 2 0x10000 ∷ Upper Lui 3 0x60000 ∷ Immediate Addi 3 3 8 ∷ []) _ i.stands)))
 
-    pub opening_does : Within GoesOn may p 11 Does (before h s)
+    pub opening_does : Onward GoesOn may p 10 Does (before h s)
     opening_does =
         let own = i.own in
-        let e = i.pc in
-        inr (
+        let e = i.pc in (
           refl,
           λ s1 t1.
               let k1 = later SHADOW_START [] s s s1 own (harmless.self s) t1 i.context in
@@ -100,12 +99,11 @@ module _ (may : Shared → Shared → Type 0) (harmless : IsHarmless may) (p : P
         )
 
   pub closing_does : (part : ℕ) (at : ℕ) (pending : List ℕ) (h : Hart) (s : Shared) → EntersClosing p part image base at pending h s →
-      Within GoesOn may p 2 (ClosingDoes p may h s) (before h s)
+      Onward GoesOn may p 1 (ClosingDoes p may h s) (before h s)
   closing_does part at pending h s i =
       let own = i.own in
       let e = i.pc in
-      let Q : After → Type 0 = ClosingDoes p may h s in
-      inr (
+      let Q : After → Type 0 = ClosingDoes p may h s in (
         refl,
         λ s1 t1.
             let k1 = later part pending s s s1 own (harmless.self s) t1 i.context in
@@ -122,12 +120,12 @@ pub opening_effect : OpeningEffect
 opening_effect p image base entry h s i =
     let Q : After → Type 0 = OpeningDoes SHADOW_START image base Unchanged entry h s in
     done_within p 11 h s (replicate 11 []) GoesOn Q
-    (comes_to_calmly GoesOn Unchanged p (λ a t. t) Q 11 (before h s) (λ s'. refl)
+    (comes_on_calmly GoesOn Unchanged p (λ a t. t) Q 10 (before h s) (λ s'. refl)
     (opening_does Unchanged unchanged_harmless p image base entry h s i))
 
 pub closing_effect : ClosingEffect
 closing_effect p part image base at pending h s i =
     let Q : After → Type 0 = ClosingDoes p Unchanged h s in
     done_within p 2 h s (replicate 2 []) GoesOn Q
-    (comes_to_calmly GoesOn Unchanged p (λ a t. t) Q 2 (before h s) (λ s'. refl)
+    (comes_on_calmly GoesOn Unchanged p (λ a t. t) Q 1 (before h s) (λ s'. refl)
     (closing_does Unchanged unchanged_harmless p image base part at pending h s i))

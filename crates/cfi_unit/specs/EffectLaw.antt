@@ -39,9 +39,11 @@ pub record Inside (r : Registers) (after : After) : Type 0 where
 abbrev pub GoesOn : After → Type 0
 GoesOn after = after.turn ≡ Ran
 
--- after at most `n` steps of a run something is done, and until then something else holds
+-- after at least one and at most `n` steps of a run something is done, and until then something else
+-- holds
 pub record DoneWithin (p : Profile) (n : ℕ) (h : Hart) (s : Shared) (changes : List (List ByteChange)) (Until Done : After → Type 0) : Type 0 where
   pub steps : ℕ
+  pub some : 0 < steps
   pub few : steps ≤ n
   pub until : (k : ℕ) → k < steps → Until (run p h s (take k changes))
   pub done : Done (run p h s (take steps changes))
