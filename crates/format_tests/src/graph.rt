@@ -1,6 +1,7 @@
 use crate::common::{is_told_as, rows};
 use cfi_graph::{Graph, GraphLine, GraphLines, read_graph, write_graph};
 use rv_word::NoMemory;
+use sample_programs::P_GRAPH;
 use std::alloc::{AllocError, Global};
 
 const FIRST: &[u8] = b"rvcfi-graph 1\n";
@@ -199,9 +200,6 @@ fn no_text(rt: HostRuntime) {
     assert!(rt; is_read_as(rt.alloc(), b"\xff\xfe\n\xff\n", "line 1: Form"));
 }
 
-const WORKED: &[u8] = b"rvcfi-graph 1\ncode 40000000 00000104\nclass 00001 400000c8 400000e4\n\
-call 4000000c 40000040\nsite 4000005c call 00001\nend\n";
-
 const MADE: &[u8] = b"rvcfi-graph 1\ncode 40000000 00000104\nedge 40000040 40000050\nend\n";
 
 /// Whether a graph has the counts of the worked one, and the opening's call as its second line.
@@ -215,7 +213,7 @@ fn has_parts(graph: &Graph) -> bool {
 
 /// Whether the worked graph is read with its parts.
 fn is_read_with_parts(alloc: Global) -> bool {
-    match read_graph(alloc, WORKED) {
+    match read_graph(alloc, P_GRAPH) {
         Ok(graph) => has_parts(&graph),
         Err(_) => false,
     }

@@ -1,23 +1,11 @@
+ghost use Rattle.std.specs.Prelude.{◌≡◌, length};
+
 use crate::common::{is_told_as, put};
 use elf_image::{ImageRefusal, read_image, write_image};
+use sample_programs::{A, code};
 use std::alloc::Global;
 
-/// The code of a program that exits with 7, 8 bytes a line.
-#[rattlefmt::skip]
-static CODE: [u8; 80] = [
-    0x73, 0, 0x10, 0, 0x73, 0, 0x10, 0,
-    0x73, 0, 0x10, 0, 0x37, 0x01, 0, 0x10,
-    0xb7, 0x01, 0, 0x60, 0x93, 0x81, 0x81, 0,
-    0x13, 0x9f, 0x01, 0x03, 0x63, 0x14, 0x0f, 0,
-    0x6f, 0xf0, 0x9f, 0xfe, 0x17, 0x0f, 0, 0,
-    0x13, 0x0f, 0x4f, 0x01, 0x23, 0xb0, 0xe1, 0x01,
-    0x93, 0x81, 0x81, 0, 0xef, 0, 0xc0, 0,
-    0x93, 0x08, 0xd0, 0x05, 0x73, 0, 0, 0,
-    0x13, 0x05, 0x70, 0, 0x93, 0x08, 0xd0, 0x05,
-    0x73, 0, 0, 0, 0x6f, 0xf0, 0x5f, 0xfb,
-];
-
-/// The headers of its image, by hand, 8 bytes a line.
+/// The headers of the image of a program that exits with 7, by hand, 8 bytes a line.
 static HEADERS: [[u8; 8]; 29] = [
     [0x7f, 0x45, 0x4c, 0x46, 2, 1, 1, 0],
     [0, 0, 0, 0, 0, 0, 0, 0],
@@ -50,10 +38,12 @@ static HEADERS: [[u8; 8]; 29] = [
     [0, 0x10, 0, 0, 0, 0, 0, 0],
 ];
 
+type Change = (usize, usize, &'static [u8], Option<ImageRefusal>);
+
 /// How long the image of the code and 4 bytes of data is made, with zeros past its own end, what is put in
 /// place of its bytes, and where, and what the reader says.
 #[rattlefmt::skip]
-static CHANGES: [(usize, usize, &[u8], Option<ImageRefusal>); 37] = [
+static CHANGES: [Change; 37] = [
     (8196, 0, &[0x7e], Some(ImageRefusal::Byte(0))),
     (8196, 6, &[2], Some(ImageRefusal::Byte(0))),
     (8196, 15, &[1], Some(ImageRefusal::Byte(0))),
@@ -94,26 +84,36 @@ static CHANGES: [(usize, usize, &[u8], Option<ImageRefusal>); 37] = [
 ];
 
 /// Whether a file has the headers, the code, and zeros up to the end of each page.
-fn has_code_alone(alloc: Global, file: &[u8]) -> bool {
+fn has_code_alone(alloc: Global, code: &[u8], file: &[u8]) -> bool {
     let headers = HEADERS.as_flattened();
-    match [headers, &[0; 4096 - 232], &CODE, &[0; 4096 - 80]].concat(alloc) {
+    match [headers, &[0; 4096 - 232], code, &[0; 4096 - 80]].concat(alloc) {
         Ok(expected) => file == &*expected,
         Err(_) => false,
     }
 }
 
 /// Whether a file is read as an image with the code and no data.
-fn is_read_back(file: &[u8]) -> bool {
+fn is_read_back(code: &[u8], file: &[u8]) -> bool {
     match read_image(file) {
-        Ok(image) => image.code() == CODE.as_slice() && image.init().is_empty(),
+        Ok(image) => image.code() == code && image.init().is_empty(),
         Err(_) => false,
     }
 }
 
 /// Whether the code alone is written as its file, which is read back.
+fn is_file_of(alloc: Global, code: &[u8]) -> bool
+    requires { length code.now ≡ 80 }
+{
+    match write_image(alloc, code, &[]) {
+        Ok(file) => has_code_alone(alloc, code, &file) && is_read_back(code, &file),
+        Err(_) => false,
+    }
+}
+
+/// Whether the program is written and read so.
 fn is_written_and_read(alloc: Global) -> bool {
-    match write_image(alloc, &CODE, &[]) {
-        Ok(file) => has_code_alone(alloc, &file) && is_read_back(&file),
+    match code(alloc, &A) {
+        Ok(code) => is_file_of(alloc, &code),
         Err(_) => false,
     }
 }
@@ -128,18 +128,28 @@ fn ends_so(file: &[u8], refusal: Option<ImageRefusal>) -> bool {
     read_image(file).err() == refusal
 }
 
-/// Whether a row says what the reader says of a file of its length with its change.
-fn is_right_of(file: &mut [u8], row: &(usize, usize, &[u8], Option<ImageRefusal>)) -> bool {
-    put(file, row.1, row.2);
-    ends_so(file, row.3)
+/// Whether a row says what the reader says of a file of its length with its change; one that has bytes
+/// puts others than stand there.
+fn is_right_of(file: &mut [u8], row: &Change) -> bool {
+    put(file, row.1, row.2) != row.2.is_empty() && ends_so(file, row.3)
 }
 
 /// Whether a row is right of the image of the code and 4 bytes of data.
-fn is_right(alloc: Global, row: &(usize, usize, &[u8], Option<ImageRefusal>)) -> bool {
-    match write_image(alloc, &CODE, b"data") {
+fn is_right_with(alloc: Global, code: &[u8], row: &Change) -> bool
+    requires { length code.now ≡ 80 }
+{
+    match write_image(alloc, code, b"data") {
         Ok(mut file) => {
             file.len() == 8196 && file.resize(row.0, 0).is_ok() && is_right_of(&mut file, row)
         }
+        Err(_) => false,
+    }
+}
+
+/// The same of the program's code.
+fn is_right(alloc: Global, row: &Change) -> bool {
+    match code(alloc, &A) {
+        Ok(code) => is_right_with(alloc, &code, row),
         Err(_) => false,
     }
 }

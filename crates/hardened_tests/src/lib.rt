@@ -5,8 +5,6 @@
 #[cfg(test)]
 mod class;
 #[cfg(test)]
-mod programs;
-#[cfg(test)]
 mod run;
 #[cfg(test)]
 mod script;

@@ -1,13 +1,23 @@
-ghost use Rattle.std.specs.Prelude.{IfSome};
+ghost use Rattle.std.specs.Prelude.{◌≤◌, IfSome};
 ghost use Rattle.cfi_step.specs.Script.{IsScript};
 
-use crate::programs::{P, P_DATA, P_GRAPH, code};
 use cfi_graph::{Graph, read_graph};
 use cfi_step::{Handler, Hostile, Meddler, RunEnd, RunReport, Script, run};
 use cfi_verify::{Checked, verify};
+use rv_code::{Event, Events};
 use rv_machine::Change;
 use rv_word::Image;
+use sample_programs::{ECHO, ECHO_GRAPH, P, P_DATA, P_GRAPH, code};
 use std::alloc::Global;
+
+/// A program that is run: its units, its graph, its data and its input.
+struct Program(&'static [u32], &'static [u8], &'static [u8], &'static [u8]);
+
+/// A program that calls through a pointer.
+static CALLER: Program = Program(&P, P_GRAPH, P_DATA, b"");
+
+/// A program that writes what it reads.
+static READER: Program = Program(&ECHO, ECHO_GRAPH, b"", b"0123456789");
 
 /// How far a run goes whose first return address was changed.
 const TRAIL: [u64; 13] = [
@@ -15,43 +25,76 @@ const TRAIL: [u64; 13] = [
     0x400000d0, 0x400000ac, 0x400000b0, 0x400000b4, 0x40000004,
 ];
 
-/// The report of a run of the program; none if it is not accepted, or there is no memory.
-fn report<M: Meddler>(alloc: Global, meddler: &mut M, limit: u64) -> Option<RunReport>
+/// The report of a run of a program; none if it is not accepted, or there is no memory.
+fn report<M: Meddler>(
+    alloc: Global,
+    program: &Program,
+    meddler: &mut M,
+    limit: u64,
+) -> Option<RunReport>
     ensures { IfSome result (λ report. IsScript report.made) }
 {
-    let bytes = code::<260>(&P);
-    match read_graph(alloc, P_GRAPH) {
-        Ok(graph) => report_of(alloc, &Image::of(&bytes, P_DATA), &graph, meddler, limit),
+    match code(alloc, program.0) {
+        Ok(bytes) => report_of(alloc, &bytes, program, meddler, limit),
+        Err(_) => None,
+    }
+}
+
+/// The report of a run of a program whose code is this.
+fn report_of<M: Meddler>(
+    alloc: Global,
+    code: &[u8],
+    program: &Program,
+    meddler: &mut M,
+    limit: u64,
+) -> Option<RunReport>
+    ensures { IfSome result (λ report. IsScript report.made) }
+{
+    let (len, init) = (code.len(), program.2.len());
+    if len < 4 || len > 0x10_0000 || len % 4 != 0 || init > 0x200_0000 {
+        return None;
+    }
+    match read_graph(alloc, program.1) {
+        Ok(graph) => report_with(
+            alloc,
+            &Image::of(code, program.2),
+            &graph,
+            program.3,
+            meddler,
+            limit,
+        ),
         Err(_) => None,
     }
 }
 
 /// The report of a run of an image.
-fn report_of<M: Meddler>(
+fn report_with<M: Meddler>(
     alloc: Global,
     image: &Image<'_>,
     graph: &Graph,
+    input: &[u8],
     meddler: &mut M,
     limit: u64,
 ) -> Option<RunReport>
     ensures { IfSome result (λ report. IsScript report.made) }
 {
     match verify(alloc, image, graph) {
-        Ok(checked) => run_of(alloc, &checked, meddler, limit),
+        Ok(checked) => run_of(alloc, &checked, input, meddler, limit),
         Err(_) => None,
     }
 }
 
-/// The report of a run without input.
+/// The report of a run with an input.
 fn run_of<M: Meddler>(
     alloc: Global,
     checked: &Checked<'_>,
+    input: &[u8],
     meddler: &mut M,
     limit: u64,
 ) -> Option<RunReport>
     ensures { IfSome result (λ report. IsScript report.made) }
 {
-    run(alloc, checked, b"", meddler, limit).ok()
+    run(alloc, checked, input, meddler, limit).ok()
 }
 
 /// Whether the changes are zeros at the eight bytes of the saved return address, before one step.
@@ -76,7 +119,31 @@ fn is_caught(report: &RunReport) -> bool {
         && report.trail.as_slice() == TRAIL.as_slice()
 }
 
-/// Whether two runs ended in one way, after as many steps, along one walk, under the same changes.
+/// The arguments of a system call.
+fn arguments(call: &Event) -> [u64; 6] {
+    [call.a0, call.a1, call.a2, call.a3, call.a4, call.a5]
+}
+
+/// Whether two system calls are alike.
+fn is_same_call(one: &Event, other: &Event) -> bool {
+    one.number == other.number
+        && arguments(one) == arguments(other)
+        && one.bytes.as_slice() == other.bytes.as_slice()
+        && one.answer == other.answer
+}
+
+/// Whether two runs made the same system calls.
+fn has_same_calls(one: &Events, other: &Events) -> bool {
+    for k in 0..one.len() {
+        if k >= other.len() || !is_same_call(one.get(k), other.get(k)) {
+            return false;
+        }
+    }
+    one.len() == other.len()
+}
+
+/// Whether two runs ended in one way, after as many steps, along one walk, under the same changes, with
+/// the same system calls.
 fn is_same(one: &RunReport, other: &RunReport) -> bool {
     one.end == other.end
         && one.steps == other.steps
@@ -84,7 +151,25 @@ fn is_same(one: &RunReport, other: &RunReport) -> bool {
         && one.trail.as_slice() == other.trail.as_slice()
         && one.made.as_slice() == other.made.as_slice()
         && one.output.as_slice() == other.output.as_slice()
-        && one.events.len() == other.events.len()
+        && has_same_calls(&one.events, &other.events)
+}
+
+/// Whether a run under the changes that another one made is the same.
+fn is_same_again(alloc: Global, program: &Program, first: &RunReport, limit: u64) -> bool
+    requires { IsScript first.now.made }
+{
+    match again(alloc, program, first, limit) {
+        Some(again) => is_same(&again, first),
+        None => false,
+    }
+}
+
+/// The report of a run under the changes that another one made.
+fn again(alloc: Global, program: &Program, first: &RunReport, limit: u64) -> Option<RunReport>
+    requires { IsScript first.now.made }
+{
+    let mut script = Script::of(alloc, first.made.as_slice()).ok()?;
+    report(alloc, program, &mut script, limit)
 }
 
 /// The hostile meddler finds the saved return address as soon as it is on the stack. A run under the changes that
@@ -96,38 +181,29 @@ fn hostile_and_replayed(rt: HostRuntime) {
     }
 }
 
-/// Whether a run that ends at a limit is the same again.
+/// Whether a run that ends at a limit is as it has to be, and is the same again.
 fn is_replayed(alloc: Global, limit: u64) -> bool {
-    match report(alloc, &mut Hostile, limit) {
-        Some(first) => is_same_again(alloc, &first, limit),
+    match report(alloc, &CALLER, &mut Hostile, limit) {
+        Some(first) => has_run(&first, limit) && is_same_again(alloc, &CALLER, &first, limit),
         None => false,
     }
-}
-
-/// Whether a run under the changes that another one made is the same.
-fn is_same_again(alloc: Global, first: &RunReport, limit: u64) -> bool
-    requires { IsScript first.now.made }
-{
-    match again(alloc, first, limit) {
-        Some(again) => is_same(&again, first) && has_run(&again, limit),
-        None => false,
-    }
-}
-
-/// The report of a run under the changes that another one made.
-fn again(alloc: Global, first: &RunReport, limit: u64) -> Option<RunReport>
-    requires { IsScript first.now.made }
-{
-    let mut script = Script::of(alloc, first.made.as_slice()).ok()?;
-    report(alloc, &mut script, limit)
 }
 
 /// Whether a run has as many steps as a limit leaves of 47, after fifteen of which the saved return address
-/// is zeroed; with more it is caught.
+/// is zeroed; it is caught in the last of them, and below them stopped by the limit.
 fn has_run(report: &RunReport, limit: u64) -> bool {
     report.steps == limit.min(47)
         && has_made(report.made.as_slice(), limit)
-        && (limit <= 47 || is_caught(report))
+        && has_ended(report, limit)
+}
+
+/// Whether a run ends as it has to where it has so many steps.
+fn has_ended(report: &RunReport, limit: u64) -> bool {
+    if limit < 47 {
+        matches!(report.end, RunEnd::Limit)
+    } else {
+        is_caught(report)
+    }
 }
 
 /// Whether the changes are those that a run makes to a limit.
@@ -139,6 +215,15 @@ fn has_made(made: &[(u64, Change)], limit: u64) -> bool {
     }
 }
 
+/// The report of a run with one byte changed before one step.
+fn changed_report(alloc: Global, program: &Program, step: u64, change: Change) -> Option<RunReport>
+    requires { step ≤ 100 }
+    ensures { IfSome result (λ report. IsScript report.made) }
+{
+    let mut script = Script::of(alloc, &[(step, change)]).ok()?;
+    report(alloc, program, &mut script, 100)
+}
+
 /// A change of the pointer before the first step sends the call to the other function; what its
 /// system call tells is in the report.
 #[test]
@@ -146,19 +231,20 @@ fn events(rt: HostRuntime) {
     assert!(rt; goes_to_the_other(rt.alloc()));
 }
 
-/// Whether a run with the pointer changed goes to the other function, and tells its exit.
+/// Whether a run with the pointer changed goes to the other function, tells its exit, and is the same
+/// again.
 fn goes_to_the_other(alloc: Global) -> bool {
-    match other_report(alloc) {
-        Some(report) => has_exited(&report) && tells_its_exit(&report),
+    let Some(change) = Change::new(0x1_0000, 0xe4) else {
+        return false;
+    };
+    match changed_report(alloc, &CALLER, 0, change) {
+        Some(first) => {
+            has_exited(&first)
+                && tells_its_exit(&first)
+                && is_same_again(alloc, &CALLER, &first, 100)
+        }
         None => false,
     }
-}
-
-/// The report of a run with the pointer changed.
-fn other_report(alloc: Global) -> Option<RunReport> {
-    let change = Change::new(0x1_0000, 0xe4)?;
-    let mut script = Script::of(alloc, &[(0, change)]).ok()?;
-    report(alloc, &mut script, 100)
 }
 
 /// Whether a run exits with 2, after as many steps and places as the other function's has.
@@ -173,4 +259,31 @@ fn tells_its_exit(report: &RunReport) -> bool {
     }
     let event = report.events.get(0);
     event.number == 93 && event.a0 == 2 && event.answer == 0
+}
+
+/// A change of the byte that was read, before it is written, is what the output shows; the eight system
+/// calls of the run are those of the same run again.
+#[test]
+fn read_and_written(rt: HostRuntime) {
+    assert!(rt; writes_what_it_reads(rt.alloc()));
+}
+
+/// Whether a run with the first byte of its input changed writes the others, and is the same again.
+fn writes_what_it_reads(alloc: Global) -> bool {
+    let Some(change) = Change::new(0x1_0000, b'!') else {
+        return false;
+    };
+    match changed_report(alloc, &READER, 19, change) {
+        Some(first) => has_written(&first) && is_same_again(alloc, &READER, &first, 100),
+        None => false,
+    }
+}
+
+/// Whether a run has written all that it read, in three parts, after which there was no more.
+fn has_written(report: &RunReport) -> bool {
+    matches!(report.end, RunEnd::Exit(0))
+        && report.steps == 54
+        && report.walk == 40
+        && report.events.len() == 8
+        && report.output.as_slice() == b"!123456789".as_slice()
 }

@@ -1,32 +1,13 @@
 ghost use Rattle.std.specs.Prelude.{◌<◌, ◌^◌};
 
-use crate::programs::{B, P};
 use cfi_unit::{SystemOp, Unit, emit, fits, recognise, size};
 use rv_instr::{BranchOp, FenceWord, Immediate, ImmediateOp, Instr, LoadOp, Reg, StoreOp, UpperOp};
+use sample_programs::{A, B, H, OTHER, P};
 use std::alloc::{AllocError, Global};
 use std::process::Abort;
 
 /// Where the first unit of an image stands.
 const FIRST: u64 = 0x4000_0040;
-
-/// The words of the objects in tests/units at the top of the repository, as binutils makes them. This one
-/// is straight code, of exits.s: x10 is 7, then an exit, then a stop.
-const A: [u32; 4] = [0x00700513, 0x05d00893, 0x00000073, 0xfb5ff06f];
-
-const H: [u32; 33] = [
-    0xff010113, 0x00810f93, 0x024f9f93, 0x024fdf93, 0x001fb023, 0x03019f13, 0x000f1463, 0xfadff06f,
-    0x00000f17, 0x014f0f13, 0x01e1b023, 0x00818193, 0x024000ef, 0x00000513, 0x00813083, 0x01010113,
-    0xff81bf83, 0xff818193, 0x001f8463, 0xf79ff06f, 0x000f8067, 0xc0010597, 0xf6c58593, 0x00100513,
-    0x00300613, 0x04000893, 0x00000073, 0xff81bf83, 0xff818193, 0x001f8463, 0xf4dff06f, 0x000f8067,
-    0xf41ff06f,
-];
-
-const OTHER: [u32; 25] = [
-    0x0062e463, 0x0580006f, 0xff9ff06f, 0xff828f93, 0xffcfff93, 0x40000f37, 0x41ef8f33, 0x014f5f13,
-    0x000f0463, 0xf9dff06f, 0x000faf03, 0xfffff237, 0x03720213, 0x004f0463, 0xf89ff06f, 0x000f8067,
-    0x00000073, 0x00100073, 0xfff38f93, 0x024f9f93, 0x024fdf93, 0x006f8023, 0xfffff037, 0x0ff0000f,
-    0xf61ff06f,
-];
 
 fn addi(rd: u32, rs1: u32, imm: u32) -> Unit
     requires destination { rd < 32 }

@@ -1,11 +1,11 @@
-use crate::programs::{B, code};
+ghost use Rattle.std.specs.Prelude.{◌≡◌, length};
+
 use cfi_graph::{Graph, read_graph};
 use cfi_unit::Unit;
 use cfi_verify::{Checked, Place, Reject, Rule, VerifyEnd, verify};
 use rv_word::Image;
+use sample_programs::{B, B_GRAPH, code};
 use std::alloc::Global;
-
-const B_GRAPH: &[u8] = b"rvcfi-graph 1\ncode 40000000 0000005c\ncall 4000000c 40000040\nend\n";
 
 /// Whether an accepted pair tells its parts, and what stands where.
 fn tells_its_parts(checked: &Checked<'_>) -> bool {
@@ -56,10 +56,21 @@ fn verified(alloc: Global, image: &Image<'_>, graph: &Graph) -> Outcome {
 }
 
 /// What becomes of the prologue with these units.
-fn answer(alloc: Global, units: &[u32]) -> Outcome {
-    let bytes = code::<92>(units);
+fn answer(alloc: Global, units: &[u32]) -> Outcome
+    requires { length units.now ≡ 7 }
+{
+    match code(alloc, units) {
+        Ok(bytes) => answer_of(alloc, &bytes),
+        Err(_) => Outcome::Other,
+    }
+}
+
+/// What becomes of code.
+fn answer_of(alloc: Global, code: &[u8]) -> Outcome
+    requires { length code.now ≡ 92 }
+{
     match read_graph(alloc, B_GRAPH) {
-        Ok(graph) => verified(alloc, &Image::of(&bytes, &[]), &graph),
+        Ok(graph) => verified(alloc, &Image::of(code, &[]), &graph),
         Err(_) => Outcome::Other,
     }
 }

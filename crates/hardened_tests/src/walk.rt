@@ -1,8 +1,10 @@
-use crate::programs::{P, P_GRAPH, code};
+ghost use Rattle.std.specs.Prelude.{◌≡◌, length};
+
 use cfi_graph::{Graph, read_graph};
 use cfi_verify::{Checked, verify};
 use cfi_walk::{Followed, Walk, follow};
 use rv_word::Image;
+use sample_programs::{P, P_GRAPH, code};
 use std::alloc::Global;
 
 /// Where an undisturbed run of the program goes after the opening, how many sites are pending there,
@@ -74,10 +76,13 @@ fn goes_on(checked: &Checked<'_>, walk: &mut Walk, row: &(u64, usize, Option<u64
         && walk.newest() == row.2
 }
 
-/// Whether a walk stays where it is.
+/// Whether a walk stays where it is, with the sites that are pending.
 fn stays(checked: &Checked<'_>, walk: &mut Walk, pc: u64) -> bool {
-    let before = walk.address();
-    matches!(follow(checked, walk, pc), Followed::No) && walk.address() == before
+    let (address, depth, newest) = (walk.address(), walk.depth(), walk.newest());
+    matches!(follow(checked, walk, pc), Followed::No)
+        && walk.address() == address
+        && walk.depth() == depth
+        && walk.newest() == newest
 }
 
 /// Whether a walk goes along the undisturbed run.
@@ -135,9 +140,18 @@ fn has_these_walks(alloc: Global, checked: &Checked<'_>) -> bool {
 
 /// Whether the program is accepted, and its pair has these walks.
 fn walks_so(alloc: Global) -> bool {
-    let bytes = code::<260>(&P);
+    match code(alloc, &P) {
+        Ok(bytes) => is_code_walked_so(alloc, &bytes),
+        Err(_) => false,
+    }
+}
+
+/// Whether code is accepted with the program's graph, and the pair has these walks.
+fn is_code_walked_so(alloc: Global, code: &[u8]) -> bool
+    requires { length code.now ≡ 260 }
+{
     match read_graph(alloc, P_GRAPH) {
-        Ok(graph) => is_walked_so(alloc, &Image::of(&bytes, &[]), &graph),
+        Ok(graph) => is_walked_so(alloc, &Image::of(code, &[]), &graph),
         Err(_) => false,
     }
 }

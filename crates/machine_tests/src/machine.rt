@@ -3,6 +3,7 @@ use rv_code::decode;
 use rv_instr::{BranchOp, Instr, Reg};
 use rv_machine::{Change, Machine, Turn, branches};
 use rv_word::Image;
+use sample_programs::{A, PROLOGUE, STATUS};
 use std::alloc::{AllocError, Global};
 
 /// Where the instruction that is tested stands, after five others.
@@ -417,47 +418,11 @@ fn instructions_stop(rt: HostRuntime) {
     }
 }
 
-/// The prologue, as binutils assemble tests/units/prologue.s.
-static PROLOGUE: [u32; 16] = [
-    0x0010_0073, // ebreak
-    0x0010_0073, // ebreak
-    0x0010_0073, // ebreak
-    0x1000_0137, // lui x2, 10000h
-    0x6000_01b7, // lui x3, 60000h
-    0x0081_8193, // addi x3, x3, 8
-    0x0301_9f13, // slli x30, x3, 48
-    0x000f_1463, // bne x30, x0, +8
-    0xfe9f_f06f, // jal x0, 40000008h
-    0x0000_0f17, // auipc x30, 0
-    0x014f_0f13, // addi x30, x30, 20
-    0x01e1_b023, // sd x30, 0(x3)
-    0x0081_8193, // addi x3, x3, 8
-    0x00c0_00ef, // jal x1, 40000040h
-    0x05d0_0893, // addi x17, x0, 93
-    0x0000_0073, // ecall
-];
-
-/// A program that exits with 7, of tests/units/exits.s.
-const EXITS_WITH_7: &[u32] = &[0x0070_0513, 0x05d0_0893, 0x0000_0073, 0xfb5f_f06f];
-
-/// A program that exits with the byte at 10000h, of tests/units/status.s.
-const EXITS_WITH_A_BYTE: &[u32] = &[
-    0x0001_02b7,
-    0x0002_b503,
-    0x05d0_0893,
-    0x0000_0073,
-    0xfb1f_f06f,
-];
-
 type Exit = (&'static [u32], u8, u8, u8);
 
 /// Runs of words after the prologue: the step before which the byte at 10000h becomes 5, how many steps
 /// run, and the status with which the program then exits.
-static EXITS: [Exit; 3] = [
-    (EXITS_WITH_7, 0, 12, 7),
-    (EXITS_WITH_A_BYTE, 11, 13, 5),
-    (EXITS_WITH_A_BYTE, 12, 13, 0),
-];
+static EXITS: [Exit; 3] = [(&A, 0, 12, 7), (&STATUS, 11, 13, 5), (&STATUS, 12, 13, 0)];
 
 /// The machine at the start of a program with these words after the prologue.
 fn started(alloc: Global, words: &[u32]) -> Option<Machine> {

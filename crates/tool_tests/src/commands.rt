@@ -1,11 +1,12 @@
 //! Command lines, with the status and the text of each.
 
 use crate::calls::check;
-use crate::pairs::{A, A_GRAPH, image_of, verifies};
+use crate::pairs::{image_of, verifies};
 use cfi_graph::Reason;
 use cfi_tool::Verdict;
 use cfi_verify::{Reject, Rule};
 use elf_image::ImageRefusal;
+use sample_programs::{A, A_GRAPH};
 use std::alloc::Global;
 
 /// Command lines, with the status and the text of each, in the form of `calls::check`.
@@ -40,7 +41,7 @@ fn is_refused(alloc: Global, image: &[u8], cut: usize) -> bool {
 
 /// Whether an image of two pages is refused where only its first bytes are left.
 fn cut_is_refused(alloc: Global, cut: usize) -> bool {
-    let Ok(image) = image_of(alloc, A, &[]) else {
+    let Ok(image) = image_of(alloc, &A, &[]) else {
         return false;
     };
     image.len() == 8192 && is_refused(alloc, image.get(..cut).unwrap_or(&image), cut)

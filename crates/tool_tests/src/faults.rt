@@ -2,8 +2,9 @@
 
 use crate::calls::{ends_with, holds};
 use crate::files;
-use crate::files::{STATUS, STATUS_GRAPH, add_image, add_texts};
+use crate::files::{add_image, add_texts};
 use rv_word::NoMemory;
+use sample_programs::{STATUS, STATUS_GRAPH};
 use std::alloc::Global;
 use tool_io::{MemFiles, MemSink};
 
@@ -48,7 +49,7 @@ static TEXTS: [(&str, &[u8]); 3] = [
 
 /// Adds these files and the program's image.
 fn add_files(alloc: Global, files: &mut MemFiles) -> Result<(), NoMemory> {
-    add_image(alloc, files, &("image", STATUS, b""))?;
+    add_image(alloc, files, &("image", &STATUS, b""))?;
     add_texts(files, &TEXTS)
 }
 

@@ -1,94 +1,55 @@
-//! The files that the tool reads in the tests. The code of all programs is what binutils assemble of the
-//! sources in tests/units.
+//! The files that the tool reads in the tests.
 
-use crate::pairs::{A, A_CLASS, A_GRAPH, B, B_GRAPH, P, P_GRAPH, image_of};
+use crate::pairs::image_of;
 use rv_word::NoMemory;
+use sample_programs::{
+    A, A_CLASS_GRAPH, A_GRAPH, AIMED, AIMED_GRAPH, ASTRAY, B, B_GRAPH, BREAK, BREAK_GRAPH, DEEP,
+    DEEP_GRAPH, ECHO, ECHO_GRAPH, EDGE, EDGE_GRAPH, H, H_GRAPH, LOAD, LOAD_GRAPH, LOOP, LOOP_GRAPH,
+    NARROW, NARROW_GRAPH, NOWHERE, NOWHERE_GRAPH, P, P_DATA, P_GRAPH, RELABELLED, RELABELLED_GRAPH,
+    STATUS, STATUS_GRAPH,
+};
 use std::alloc::Global;
 use tool_io::MemFiles;
 
-/// A program that writes three bytes of its data.
-const H: &[u32] = &[
-    0xff010113, 0x00810f93, 0x024f9f93, 0x024fdf93, 0x001fb023, 0x03019f13, 0x000f1463, 0xfadff06f,
-    0x00000f17, 0x014f0f13, 0x01e1b023, 0x00818193, 0x024000ef, 0x00000513, 0x00813083, 0x01010113,
-    0xff81bf83, 0xff818193, 0x001f8463, 0xf79ff06f, 0x000f8067, 0xc0010597, 0xf6c58593, 0x00100513,
-    0x00300613, 0x04000893, 0x00000073, 0xff81bf83, 0xff818193, 0x001f8463, 0xf4dff06f, 0x000f8067,
-    0xf41ff06f,
-];
-
-/// A function that calls itself 8,191 times.
-const DEEP: &[u32] = &[
-    0x00002537, 0xfff50513, 0x0040006f, 0x00051463, 0x0440006f, 0xff010113, 0x00810f93, 0x024f9f93,
-    0x024fdf93, 0x001fb023, 0xfff50513, 0x03019f13, 0x000f1463, 0xf95ff06f, 0x00000f17, 0x014f0f13,
-    0x01e1b023, 0x00818193, 0xfc5ff0ef, 0x00813083, 0x01010113, 0xff81bf83, 0xff818193, 0x001f8463,
-    0xf65ff06f, 0x000f8067, 0xf59ff06f,
-];
-
-/// A loop that is gone through eight times.
-const LOOP: &[u32] = &[
-    0x00800293, 0xfff28293, 0x00028463, 0xff9ff06f, 0x00700513, 0x05d00893, 0x00000073, 0xfa5ff06f,
-];
-
-/// A gate that no line of its class names.
-const ASTRAY: &[u32] = &[0x00001037, 0x05d00893, 0x00000073, 0xfb5ff06f];
-
-const BREAK: &[u32] = &[0x00100073, 0xfbdff06f];
-
-/// A load from 20000000h, which is no memory.
-const LOAD: &[u32] = &[0x200002b7, 0x0002b503, 0xfb9ff06f];
-
-/// A program whose exit status is the first byte of its data.
-pub(crate) const STATUS: &[u32] = &[0x000102b7, 0x0002b503, 0x05d00893, 0x00000073, 0xfb1ff06f];
-
-pub(crate) const STATUS_GRAPH: &[u8] =
-    b"rvcfi-graph 1\ncode 40000000 00000054\ncall 4000000c 40000040\nend\n";
-
 /// Names of images, each with the units of its code and its data.
-static IMAGES: [(&str, &[u32], &[u8]); 11] = [
-    ("image", A, b""),
-    ("a.img", A, b""),
-    ("b.img", B, b""),
-    ("class.img", ASTRAY, b""),
-    (
-        "p.img",
-        P,
-        b"\xc8\x00\x00\x40\x00\x00\x00\x00\xe4\x00\x00\x40\x00\x00\x00\x00",
-    ),
-    ("h.img", H, b"hi\n"),
-    ("deep.img", DEEP, b""),
-    ("loop.img", LOOP, b""),
-    ("break.img", BREAK, b""),
-    ("load.img", LOAD, b""),
-    ("status.img", STATUS, b""),
+static IMAGES: [(&str, &[u32], &[u8]); 17] = [
+    ("image", &A, b""),
+    ("a.img", &A, b""),
+    ("b.img", &B, b""),
+    ("class.img", &ASTRAY, b""),
+    ("p.img", &P, P_DATA),
+    ("relabelled.img", &RELABELLED, P_DATA),
+    ("narrow.img", &NARROW, P_DATA),
+    ("nowhere.img", &NOWHERE, b""),
+    ("h.img", &H, b"hi\n"),
+    ("echo.img", &ECHO, b""),
+    ("edge.img", &EDGE, b""),
+    ("aimed.img", &AIMED, b""),
+    ("deep.img", &DEEP, b""),
+    ("loop.img", &LOOP, b""),
+    ("break.img", &BREAK, b""),
+    ("load.img", &LOAD, b""),
+    ("status.img", &STATUS, b""),
 ];
 
-/// Graphs, scripts and files that are neither, by their names.
-static TEXTS: [(&str, &[u8]); 26] = [
+/// Graphs, scripts, inputs and files that are none of these, by their names.
+static TEXTS: [(&str, &[u8]); 33] = [
     ("graph", A_GRAPH),
     ("a.graph", A_GRAPH),
     ("b.graph", B_GRAPH),
-    ("class.graph", A_CLASS),
+    ("class.graph", A_CLASS_GRAPH),
     ("p.graph", P_GRAPH),
-    (
-        "h.graph",
-        b"rvcfi-graph 1\ncode 40000000 000000c4\ncall 4000000c 40000040\ncall 40000054 40000094\nend\n",
-    ),
-    (
-        "deep.graph",
-        b"rvcfi-graph 1\ncode 40000000 000000ac\ncall 4000000c 40000040\nedge 40000048 4000004c\n\
-edge 4000004c 40000094\ncall 4000006c 4000004c\nend\n",
-    ),
-    (
-        "loop.graph",
-        b"rvcfi-graph 1\ncode 40000000 00000060\ncall 4000000c 40000040\nedge 40000048 40000044\nend\n",
-    ),
-    (
-        "break.graph",
-        b"rvcfi-graph 1\ncode 40000000 00000048\ncall 4000000c 40000040\nend\n",
-    ),
-    (
-        "load.graph",
-        b"rvcfi-graph 1\ncode 40000000 0000004c\ncall 4000000c 40000040\nend\n",
-    ),
+    ("relabelled.graph", RELABELLED_GRAPH),
+    ("narrow.graph", NARROW_GRAPH),
+    ("nowhere.graph", NOWHERE_GRAPH),
+    ("h.graph", H_GRAPH),
+    ("echo.graph", ECHO_GRAPH),
+    ("edge.graph", EDGE_GRAPH),
+    ("aimed.graph", AIMED_GRAPH),
+    ("deep.graph", DEEP_GRAPH),
+    ("loop.graph", LOOP_GRAPH),
+    ("break.graph", BREAK_GRAPH),
+    ("load.graph", LOAD_GRAPH),
     ("status.graph", STATUS_GRAPH),
     ("saved", b"rvcfi-script 1\nat 40 0ffffff8 e4000040\nend\n"),
     ("nowhere", b"rvcfi-script 1\nat 0 00010000 40000040\nend\n"),
@@ -108,6 +69,7 @@ edge 4000004c 40000094\ncall 4000006c 4000004c\nend\n",
         b"rvcfi-script 1\nat 2 00000000 00\nat 1 00000000 00\nend\n",
     ),
     ("./none", b"rvcfi-script 1\nat 11 00010000 09\nend\n"),
+    ("digits", b"0123456789"),
     ("empty", b""),
     ("byte", b"r"),
     (

@@ -11,6 +11,10 @@ mod faults;
 #[cfg(test)]
 mod files;
 #[cfg(test)]
+mod jumps;
+#[cfg(test)]
+mod longest;
+#[cfg(test)]
 mod outside;
 #[cfg(test)]
 mod pairs;

@@ -26,6 +26,14 @@ const RUNS: &[u8] = b"\
     rvcfi,run,deep.img,deep.graph,none,none,1000000 = 10: output 0\n\nstop handler __cfi_deep\nsteps 114684\nwalk 40960\ntrail 4000004c 40000054 40000058 40000068 4000006c 4000004c 40000054 40000058 40000068 4000006c 4000004c 40000054 40000058 40000068 4000006c 40000008\n;\
     rvcfi,run,break.img,break.graph,none,none,100 = 11: output 0\n\nstop break 40000040\nsteps 11\nwalk 2\ntrail 4000000c 40000040\n;\
     rvcfi,run,load.img,load.graph,none,none,100 = 11: output 0\n\nstop load 40000044 0000000020000000\nsteps 12\nwalk 3\ntrail 4000000c 40000040 40000044\n;\
+    rvcfi,run,edge.img,edge.graph,none,none,100 = 0: output 0\n\nstop exit 0\nsteps 20\nwalk 4\ntrail 4000000c 40000040 40000050 40000038\n;\
+    rvcfi,run,aimed.img,aimed.graph,none,none,100 = 0: output 0\n\nstop exit 0\nsteps 21\nwalk 5\ntrail 4000000c 40000040 40000044 40000054 40000038\n;\
+    rvcfi,run,relabelled.img,relabelled.graph,none,none,100 = 0: output 0\n\nstop exit 1\nsteps 48\nwalk 13\ntrail 4000000c 40000040 40000044 40000054 40000058 4000005c 400000c8 400000cc 400000d0 400000ac 400000b0 400000b4 40000038\n;\
+    rvcfi,run,nowhere.img,nowhere.graph,none,none,100 = 10: output 0\n\nstop handler __cfi_bad_target\nsteps 18\nwalk 3\ntrail 4000000c 40000040 40000000\n;\
+    rvcfi,run,narrow.img,narrow.graph,none,none,100 = 0: output 0\n\nstop exit 1\nsteps 48\nwalk 13\ntrail 4000000c 40000040 40000044 40000054 40000058 4000005c 400000c8 400000cc 400000d0 400000ac 400000b0 400000b4 40000038\n;\
+    rvcfi,run,narrow.img,narrow.graph,other,none,100 = 10: output 0\n\nstop handler __cfi_bad_target\nsteps 29\nwalk 7\ntrail 4000000c 40000040 40000044 40000054 40000058 4000005c 40000000\n;\
+    rvcfi,run,echo.img,echo.graph,none,digits,100 = 0: output 10\n0123456789\nstop exit 0\nsteps 54\nwalk 40\ntrail 4000004c 40000050 40000054 40000058 40000060 40000064 40000068 4000006c 40000044 40000048 4000004c 40000050 40000054 40000058 40000070 40000038\n;\
+    rvcfi,run,echo.img,echo.graph,none,none,100 = 0: output 0\n\nstop exit 0\nsteps 24\nwalk 10\ntrail 4000000c 40000040 40000044 40000048 4000004c 40000050 40000054 40000058 40000070 40000038\n;\
     rvcfi,run,class.img,class.graph,none,none,100 = 1: rejected Astray 40000040\n;\
     rvcfi,run,a.img,a.graph,range,none,100 = 1: refused 25 Script 2 Range\n;\
     rvcfi,run,a.img,a.graph,form,none,100 = 1: refused 25 Script 2 Form\n;\
@@ -52,5 +60,5 @@ const RUNS: &[u8] = b"\
 
 #[test]
 fn runs(rt: HostRuntime) {
-    check(&rt, rt.alloc(), RUNS, 44);
+    check(&rt, rt.alloc(), RUNS, 52);
 }
