@@ -6,3 +6,5 @@ pub mod Heading
 pub mod Only
 pub mod Laws
 pub mod Printed
+pub mod MapLaws
+pub mod MapWritten

@@ -2,3 +2,5 @@ pub mod Graph
 pub mod Text
 pub mod Lines
 pub mod Reading
+pub mod Map
+pub mod MapText

@@ -4,6 +4,8 @@
 
 pub use graph::{Graph, GraphLines};
 pub use line::{GraphLine, Key, SiteKind};
+pub use map::{Map, MapLine};
+pub use map_form::{read_map, write_map};
 pub use read::read_graph;
 pub use write::write_graph;
 
@@ -11,6 +13,8 @@ mod forms;
 mod graph;
 mod graph_form;
 mod line;
+mod map;
+mod map_form;
 mod read;
 mod rules;
 mod write;

@@ -1,15 +1,15 @@
 -- A whole text: its heading, and what is read after it.
-use Rattle.std.proofs.Common.{◌≡◌, ℕ, List, [], ◌∷◌, ◌++◌, Result, Ok, Err, refl, sym, subst, ◌∙◌, ap, inl, inr}
+use Rattle.std.proofs.Common.{◌≡◌, ℕ, List, [], ◌∷◌, ◌++◌, codes, None, Result, Ok, Err, refl, sym, subst, ◌∙◌, ap, inl, inr}
 use Rattle.std.specs.Str.{bytes_eq}
 use Rattle.std.proofs.lemmas.Slice.Eq.{bytes_eq-Decides}
 use Rattle.std.proofs.lemmas.Bool.{cases_Bool}
 use Rattle.std.proofs.lemmas.List.{append-nil}
 use Rattle.text_lines.specs.Answers.{Answers, UnlessNoMemory}
-use Rattle.text_lines.specs.Lines.{lines_of}
+use Rattle.text_lines.specs.Lines.{lines_of, words_of}
 use Rattle.text_lines.specs.Reading.{LineRules, Reading, after_heading, after_name, if_right, read, read_text, whole}
 use Rattle.text_lines.specs.declared.end.TextEnd.{TextEnd}
 use Rattle.text_lines.specs.declared.end.TextEnd.TheVariants.{Line, NoMemory}
-use Rattle.text_lines.proofs.Accepts.{Accepts, accepts_from_read}
+use Rattle.text_lines.proofs.Accepts.{Accepts, accepts_from_read, end_only, line_first, read_back}
 
 -- ---- what a reader answers
 
@@ -82,3 +82,18 @@ module _ {L B I : Type 0} (rules : LineRules L B I) (before : B) where
   unfolding read_text
   text_accepts name text items e go =
       named_ok name (lines_of text) (λ lines. whole (read rules before 2 lines)) items (sym (heading_whole (after_name name (lines_of text)) (λ lines. read rules before 2 lines)) ∙ e) (λ rest begins lines. go rest begins (whole_accepts 2 rest items lines))
+
+  some_rest : (name line : List ℕ) {b : B} {xs : List I} (rest : List (List ℕ)) → Accepts rules b rest xs → after_name name (name ∷ line ∷ rest) ≡ Ok (line ∷ rest)
+  unfolding after_name
+  some_rest name line rest accepts = rw ((bytes_eq-Decides name name).1 refl) refl
+
+  name_back : (name : List ℕ) {b : B} {xs : List I} (rest : List (List ℕ)) → Accepts rules b rest xs → after_name name (name ∷ rest) ≡ Ok rest
+  unfolding after_name
+  name_back name _ end_only = rw ((bytes_eq-Decides name name).1 refl) refl
+  name_back name _ (line_first found range order others) = some_rest name _ _ others
+
+  -- a text with its name, and then what is accepted, is read; `end` is no line of the form
+  pub text_back : (no_end : rules.spelled (words_of (codes "end")) ≡ None) (name text : List ℕ) (rest : List (List ℕ)) (items : List I) → lines_of text ≡ name ∷ rest → Accepts rules before rest items → whole (read_text rules before name text) ≡ Ok items
+  unfolding read_text
+  text_back no_end name text rest items begins accepts =
+      rw (begins, name_back name rest accepts, read_back rules no_end 2 accepts) refl

@@ -1,0 +1,52 @@
+-- The text of a map, and what a text is read as. Every line ends with one newline, words are parted by
+-- one space; a gate and an offset have eight hexadecimal digits, a section four, in lower case.
+use Rattle.std.specs.Prelude.{ℕ, Bool, true, if◌then◌else◌, List, [], ◌∷◌, ◌++◌, map, codes, Option, Some, None, option_map, option_and_then, Result}
+use Rattle.std.specs.List.{flat_map}
+use Rattle.std.specs.Str.{bytes_eq}
+use Rattle.text_lines.specs.Hex.{hex, hex_text}
+use Rattle.text_lines.specs.Lines.{spaced}
+use Rattle.text_lines.specs.Reading.{LineRules, read_text, whole}
+use Rattle.text_lines.specs.declared.end.TextEnd.{TextEnd}
+use Rattle.cfi_graph.specs.declared.map.MapLine.{MapLine}
+use Rattle.cfi_graph.specs.Map.{map_line_below, map_line_in_range}
+
+abbrev pub map_words : MapLine → List (List ℕ)
+map_words line = codes "at" ∷ hex_text 8 line.gate ∷ hex_text 4 line.section ∷ hex_text 8 line.offset ∷ []
+
+-- the lines of the text, without their newlines
+unfoldable pub map_lines : List MapLine → List (List ℕ)
+map_lines lines = codes "rvcfi-map 1" ∷ map (λ line. spaced (map_words line)) lines ++ codes "end" ∷ []
+
+-- the one spelling of a map
+unfoldable pub map_text : List MapLine → List ℕ
+map_text lines = flat_map (λ line. line ++ 10 ∷ []) (map_lines lines)
+
+-- the line that a gate, a section and an offset spell
+abbrev pub map_line_spelled : List ℕ → List ℕ → List ℕ → Option MapLine
+map_line_spelled gate section offset =
+    option_and_then (λ g. option_and_then (λ s. option_map (λ o. record { gate = g; section = s; offset = o }) (hex 8 offset)) (hex 4 section)) (hex 8 gate)
+
+-- the line that words spell, if they spell one
+abbrev pub map_line_of : List (List ℕ) → Option MapLine
+map_line_of (name ∷ gate ∷ section ∷ offset ∷ []) =
+    if bytes_eq name (codes "at") then map_line_spelled gate section offset else None
+map_line_of words = None
+
+-- a line rises above the one before it, if there is one
+abbrev pub in_map_order : Option MapLine → MapLine → Bool
+in_map_order None line = true
+in_map_order (Some before) line = map_line_below before line
+
+-- the form of a map's lines
+abbrev pub map_rules : LineRules MapLine (Option MapLine) MapLine
+map_rules = record {
+  spelled = map_line_of;
+  in_range = map_line_in_range;
+  in_order = in_map_order;
+  after = λ line. Some line;
+  items = λ line. line ∷ [];
+}
+
+-- what a text is read as
+unfoldable pub map_of : List ℕ → Result (List MapLine) TextEnd
+map_of text = whole (read_text map_rules None (codes "rvcfi-map 1") text)
