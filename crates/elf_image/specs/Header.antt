@@ -1,5 +1,6 @@
 -- The headers of an image, field by field in the order of the file (System V gABI, "ELF Header" and "Program Header").
 use Rattle.std.specs.Prelude.{ℕ, ◌+◌, ◌*◌, ◌/◌, ◌^◌, min, max, nat_le, Bool, ◌&&◌, List, [], ◌∷◌, ◌++◌}
+use Rattle.rv_word.specs.Layout.{START}
 use Rattle.elf_image.specs.declared.field.Field.{Field}
 use Rattle.elf_image.specs.declared.field.Segment.{Segment}
 
@@ -24,7 +25,7 @@ elf_header =
     ∷ half 16 2  -- e_type: ET_EXEC
     ∷ half 18 243  -- e_machine: EM_RISCV
     ∷ word 20 1  -- e_version: EV_CURRENT
-    ∷ long 24 0x4000000c  -- e_entry
+    ∷ long 24 START  -- e_entry
     ∷ long 32 64  -- e_phoff
     ∷ long 40 0  -- e_shoff
     ∷ word 48 0  -- e_flags

@@ -4,6 +4,7 @@ ghost use Rattle.elf_image.specs.Header.{elf_header, program_header, data_segmen
 
 use super::field::{Field, Segment, half, ident, long, word};
 use rv_word::memory_map::{CODE_SIZE, CODE_START, DATA_END, DATA_START, SHADOW_SIZE, SHADOW_START};
+use rv_word::profile::START;
 
 /// How many bytes a page has, on which code and data begin.
 pub(crate) const PAGE: u128 = 0x1000;
@@ -30,7 +31,7 @@ pub(crate) fn elf_header() -> [Field; 14]
         half(16, 2), // e_type: ET_EXEC
         half(18, 243), // e_machine: EM_RISCV
         word(20, 1), // e_version: EV_CURRENT
-        long(24, 0x4000_000c), // e_entry
+        long(24, u128::from(START)), // e_entry
         long(32, 64), // e_phoff
         long(40, 0), // e_shoff
         word(48, 0), // e_flags

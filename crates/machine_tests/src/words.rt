@@ -1,5 +1,5 @@
 use crate::rows::{name, number, rows, word};
-use rv_code::{decode, encode};
+use rv_code::{decode, encode, immediate_value};
 use rv_instr::{
     BranchOp, FenceWord, Immediate, ImmediateOp, Instr, LoadOp, Reg, RegisterOp, Regs, ShiftOp,
     ShiftWordOp, StoreOp, UpperOp,
@@ -547,7 +547,7 @@ fn holds_numbers() -> bool {
 fn extends_signs() -> bool {
     let negative: Immediate<12> = Immediate::of(0xff8);
     let positive: Immediate<20> = Immediate::of(0x7ffff);
-    negative.value() == 0xffff_ffff_ffff_fff8 && positive.value() == 0x7ffff
+    immediate_value(negative) == 0xffff_ffff_ffff_fff8 && immediate_value(positive) == 0x7ffff
 }
 
 #[test]

@@ -2,6 +2,7 @@
 -- left, the output, the system calls made).
 use Rattle.std.specs.Prelude.{ℕ, ◌%◌, ◌^◌, ◌==◌, ◌||◌, List, [], ◌∷◌, Option, Some, None, if◌then◌else◌}
 use Rattle.rv_word.specs.Image.{Contents}
+use Rattle.rv_word.specs.Layout.{START}
 use Rattle.rv_word.specs.Memory.{Memory, loaded}
 use Rattle.rv_instr.specs.Registers.{Registers}
 use Rattle.rv_code.specs.declared.event.Event.{Event}
@@ -26,7 +27,7 @@ pub record After : Type 0 where
 
 -- where a run starts: at the prologue's opening, with registers 0 and the image in memory
 abbrev pub start_hart : Hart
-start_hart = record { pc = 0x4000000c; regs = λ r. 0 }
+start_hart = record { pc = START; regs = λ r. 0 }
 
 abbrev pub start_shared : Contents → List ℕ → Shared
 start_shared image input = record { memory = loaded image; left = input; output = []; events = [] }

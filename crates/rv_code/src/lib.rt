@@ -1,11 +1,12 @@
 //! The machine's definition: which word is which instruction, and what one step of the hart does.
-//! `decode` and `encode` are the code that meets the first half; `specs/` holds the second, which
+//! `decode`, `encode` and `immediate_value` are the code that meets the first half; `specs/` holds the second, which
 //! the machine and the verifier are proved against.
 #![tactic(auto)]
 
 pub use decoder::decode;
 pub use encoder::encode;
 pub use event::{Event, Events};
+pub use immediate::immediate_value;
 pub use turn::Turn;
 
 mod codes;
@@ -13,5 +14,6 @@ mod decoder;
 mod encoder;
 mod event;
 mod fields;
+mod immediate;
 mod operations;
 mod turn;

@@ -1,11 +1,9 @@
-ghost use Rattle.std.specs.Prelude.{◌≡◌, ◌<◌, ◌≤◌, ◌^◌};
-ghost use Rattle.rv_word.specs.Bits.{sign_extended};
+ghost use Rattle.std.specs.Prelude.{◌≡◌, ◌<◌, ◌^◌};
 
-use rv_word::sext;
 use std::marker::Model;
 
 /// An immediate of an instruction as its word holds it: a field of `BITS` bits. Where the standard
-/// says that it is sign-extended, its highest bit is the sign.
+/// says that it is sign-extended, its highest bit is the sign (`rv_code::immediate_value`).
 #[derive(Clone, Copy, PartialEq, Eq)]
 pub struct Immediate<const BITS: u32> {
     bits: u32,
@@ -38,14 +36,5 @@ impl<const BITS: u32> Immediate<BITS> {
         ensures small { result < 2 ^ BITS }
     {
         self.bits
-    }
-
-    /// The field sign-extended to 64 bits. Of a branch or a jump the offset in bytes is twice this.
-    pub fn value(self) -> u64
-        requires low { 1 ≤ BITS }
-        requires high { BITS ≤ 64 }
-        ensures { result ≡ sign_extended self.entry BITS }
-    {
-        sext(u64::from(self.bits), BITS)
     }
 }

@@ -22,6 +22,8 @@ impl Model for Reg {
 }
 
 impl Reg {
+    ghost use Rattle.rv_instr.specs.Reserved.{is_reserved};
+
     /// The register of this number, from 0 to 31.
     pub fn new(number: u8) -> Option<Reg>
         ensures some { IsSome result ↔ (number < 32) }
@@ -50,5 +52,12 @@ impl Reg {
         ensures small { result < 32 }
     {
         self.number
+    }
+
+    /// Whether units keep the register for themselves: x3, x4, x30 and x31.
+    pub fn is_reserved(self) -> bool
+        ensures { result ≡ is_reserved self }
+    {
+        matches!(self.number, 3 | 4 | 30 | 31)
     }
 }

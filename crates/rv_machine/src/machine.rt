@@ -7,19 +7,17 @@ ghost use Rattle.rv_code.specs.Step.{address, can_fetch, exec, offset, puts, ran
 ghost use Rattle.rv_machine.specs.Parts.{after_step, hart_in, may_take_memory, shared_in, MayTakeMemory};
 
 use crate::arithmetic;
-use rv_code::{Events, Turn, decode};
+use rv_code::{Events, Turn, decode, immediate_value};
 use rv_instr::{
     BranchOp, Immediate, ImmediateOp, Instr, LoadOp, Reg, RegisterOp, Regs, ShiftOp, ShiftWordOp,
     StoreOp, UpperOp,
 };
 use rv_mem::{Change, LoadFault, Memory, WriteRefusal, region};
 use rv_sys::{SysEnd, System};
+use rv_word::profile::START;
 use rv_word::{Bytes, Image, NoMemory, Region, sext};
 use std::alloc::Global;
 use std::marker::Model;
-
-/// Where a run starts: at the prologue's opening.
-const START: u64 = 0x4000_000c;
 
 /// A machine with one hart, in the middle of a run.
 #[derive(Drop)]
@@ -176,7 +174,7 @@ impl Machine {
     fn address_of(&self, rs1: Reg, imm: Immediate<12>) -> u64
         ensures { result ≡ address (hart_in self.now) rs1 imm }
     {
-        self.reg(rs1).wrapping_add(imm.value())
+        self.reg(rs1).wrapping_add(immediate_value(imm))
     }
 
     fn upper(&mut self, op: UpperOp, rd: Reg, imm: Immediate<20>) -> Turn
@@ -279,7 +277,10 @@ impl Machine {
         requires { self.old.pc < 2 ^ 63 }
         ensures { after_step self.new result ≡ exec version_1 (Instr.Immediate op rd rs1 imm) (hart_in self.old) (shared_in self.old) }
     {
-        self.put(rd, arithmetic::immediate(op, self.reg(rs1), imm.value()));
+        self.put(
+            rd,
+            arithmetic::immediate(op, self.reg(rs1), immediate_value(imm)),
+        );
         Turn::Ran
     }
 

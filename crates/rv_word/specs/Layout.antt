@@ -1,30 +1,45 @@
--- The machine's memory map: three regions, and what each allows.
+-- The machine's memory map: three regions, and what each allows. Its addresses and sizes are the
+-- constants of `src/memory_map.rt` and `src/profile.rt`, under the same names.
 use Rattle.std.specs.Prelude.{ℕ, ◌+◌, nat_le, Bool, ◌&&◌, ◌||◌, Option, Some, None, if◌then◌else◌}
 use Rattle.rv_word.specs.declared.region.Region.{Region}
 use Rattle.rv_word.specs.declared.region.Region.TheVariants.{Data, Code, Shadow}
+use Rattle.rv_word.specs.declared.memory_map.TheConstants as map
+use Rattle.rv_word.specs.declared.profile.TheConstants as profile
 
--- the end of data: 2 ^ 28 + 4096, so that a store at a masked address with any size stays in it
+-- data, which begin at 0: where they end, and where an image's initialised data begin
 abbrev pub DATA_END : ℕ
-DATA_END = 0x10001000
+DATA_END = map.DATA_END
 
--- where code begins, and how many bytes its region has (2 ^ 20)
+abbrev pub DATA_START : ℕ
+DATA_START = map.DATA_START
+
+-- where code begins, and how many bytes its region has
 abbrev pub CODE_START : ℕ
-CODE_START = 0x40000000
+CODE_START = map.CODE_START
 
 abbrev pub CODE_SIZE : ℕ
-CODE_SIZE = 0x100000
+CODE_SIZE = map.CODE_SIZE
 
--- where the shadow stack begins
+-- where the shadow stack begins, and how many of its bytes belong to one hart
 abbrev pub SHADOW_START : ℕ
-SHADOW_START = 0x60000000
+SHADOW_START = map.SHADOW_START
 
--- the bytes of the shadow stack that belong to one hart
 abbrev pub PART_SIZE : ℕ
-PART_SIZE = 0x10000
+PART_SIZE = map.PART_SIZE
 
--- where an image's initialised data begin
-abbrev pub DATA_START : ℕ
-DATA_START = 0x10000
+-- where a run starts, in every version
+abbrev pub START : ℕ
+START = profile.START
+
+-- where the prologue's call of the entry, its closing and the first unit stand in version 1
+abbrev pub OPENING_CALL : ℕ
+OPENING_CALL = profile.OPENING_CALL
+
+abbrev pub CLOSING : ℕ
+CLOSING = profile.CLOSING
+
+abbrev pub UNITS_START : ℕ
+UNITS_START = profile.UNITS_START
 
 -- what differs between the versions of images: how many bytes the shadow region has, where the
 -- prologue's call of the entry, its closing and the first unit stand
@@ -36,7 +51,7 @@ pub record Profile : Type 0 where
 
 -- images for one hart
 abbrev pub version_1 : Profile
-version_1 = record { shadow_size = PART_SIZE; opening_call = 0x40000034; closing = 0x40000038; units_from = 0x40000040 }
+version_1 = record { shadow_size = map.SHADOW_SIZE; opening_call = OPENING_CALL; closing = CLOSING; units_from = UNITS_START }
 
 -- the `n` bytes from `a` on lie whole in the `size` bytes from `start` on
 abbrev pub lies_within : ℕ → ℕ → ℕ → ℕ → Bool

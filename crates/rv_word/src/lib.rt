@@ -15,4 +15,5 @@ mod image;
 pub mod memory_map;
 mod no_memory;
 mod places;
+pub mod profile;
 mod region;

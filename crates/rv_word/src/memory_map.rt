@@ -1,4 +1,5 @@
-//! The memory map in numbers: where the regions begin and end, as addresses and bytes.
+//! The memory map in numbers: where the regions begin and end, as addresses and bytes. Definitions
+//! have them from here, by `specs/Layout.antt`.
 
 /// Where an image's initialised data begin.
 pub const DATA_START: u64 = 0x1_0000;
@@ -12,5 +13,7 @@ pub const CODE_SIZE: u64 = 0x10_0000;
 
 /// Where the shadow stack begins.
 pub const SHADOW_START: u64 = 0x6000_0000;
-/// How many bytes the shadow stack has.
-pub const SHADOW_SIZE: u64 = 0x1_0000;
+/// How many bytes of the shadow stack belong to one hart.
+pub const PART_SIZE: u64 = 0x1_0000;
+/// How many bytes the shadow stack has in version 1, which is for one hart.
+pub const SHADOW_SIZE: u64 = PART_SIZE;
