@@ -1,4 +1,5 @@
-pub mod Least
+pub mod Earlier
 pub mod Rank
 pub mod Sound
+pub mod Right
 pub mod Rows

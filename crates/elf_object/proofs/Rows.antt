@@ -1,20 +1,16 @@
--- Worked rows of the definitions, computed: least numbers, and the faults of small files.
-use Rattle.std.proofs.Common.{◌≡◌, ◌-◌, ℕ, List, [], ◌∷◌, ◌++◌, replicate, Some, None, refl}
+-- Worked rows of the definitions, computed: the faults of small files.
+use Rattle.std.proofs.Common.{◌≡◌, ℕ, List, [], ◌∷◌, ◌++◌, replicate, Some, None, refl}
 use Rattle.elf_object.specs.declared.fault.ObjectFault.TheVariants.{NotElf, NotRelocatable, Flags, Truncated, BadTable}
 use Rattle.elf_bytes.specs.Fields.{number_at}
-use Rattle.elf_tables.specs.First.{first_below}
+use Rattle.least.specs.First.{first_below}
 use Rattle.elf_tables.specs.Section.{section_header_at, content, section_bytes}
 use Rattle.elf_tables.specs.Kept.{is_kept}
 use Rattle.elf_tables.specs.Table.{symbol_table}
 use Rattle.elf_tables.specs.Symbol.{symbol_bytes, symbol_names}
 use Rattle.elf_tables.specs.Relocation.{relocations_of}
-use Rattle.elf_object.specs.Least.{least_below}
+use Rattle.least.specs.Least.{least_below}
 use Rattle.elf_object.specs.Stray.{stray_symbol}
 use Rattle.elf_object.specs.Fault.{header_fault, truncated, table_fault, kind_fault, symbol_fault, fault_of}
-
-least_rows : (least_below (λ n. Some (9 - n)) 4 ≡ Some 6) × (least_below (λ _. None) 4 ≡ None)
-unfolding least_below
-least_rows = (refl, refl)
 
 -- an ELF header of this type with these flags, section headers from an offset on, and the index of their names
 header : ℕ → ℕ → ℕ → ℕ → ℕ → List ℕ

@@ -5,7 +5,7 @@ use Rattle.std.proofs.lemmas.Bool.{cases_Bool, or_parts, ltb-false}
 use Rattle.std.proofs.lemmas.List.{length-take-le, length-drop}
 use Rattle.elf_tables.specs.declared.header.SectionHeader.{SectionHeader}
 use Rattle.elf_object.specs.declared.fault.ObjectFault.TheVariants.{BadTable, Truncated}
-use Rattle.elf_tables.specs.First.{first_below}
+use Rattle.least.specs.First.{first_below}
 use Rattle.elf_tables.specs.Header.{e_shnum, e_shoff, section_headers_end}
 use Rattle.elf_tables.specs.Section.{section_header, section_name, is_in_file, content}
 use Rattle.elf_object.specs.Kind.{is_wrong_kind}
@@ -14,7 +14,7 @@ use Rattle.elf_tables.specs.Symbol.{symbol_count}
 use Rattle.elf_object.specs.Symbol.{is_wrong_symbol}
 use Rattle.elf_object.specs.Stray.{stray_symbol}
 use Rattle.elf_object.specs.Fault.{is_cut, header_fault, truncated, table_fault, kind_fault, symbol_fault, fault_of}
-use Rattle.elf_object.proofs.Least.{first_none}
+use Rattle.least.proofs.Firsts.{first_none}
 
 pub record IsSound (bytes : List ℕ) : Type 0 where
   pub header : header_fault bytes ≡ None

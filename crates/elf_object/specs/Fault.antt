@@ -5,7 +5,7 @@ use Rattle.elf_object.specs.declared.fault.ObjectFault.{ObjectFault}
 use Rattle.elf_object.specs.declared.fault.ObjectFault.TheVariants.{NotElf, NotRelocatable, NotRiscv, Flags, Truncated, BadTable, SectionKind, BadSymbol}
 use Rattle.elf_object.specs.declared.fault.ObjectEnd.{ObjectEnd}
 use Rattle.elf_object.specs.declared.fault.ObjectEnd.TheVariants.{Refused, NoMemory}
-use Rattle.elf_tables.specs.First.{first_below}
+use Rattle.least.specs.First.{first_below}
 use Rattle.elf_tables.specs.Header.{e_shoff, e_shnum, section_headers_end}
 use Rattle.elf_object.specs.Header.{is_elf, e_type, e_machine, e_flags, are_flags_taken}
 use Rattle.elf_tables.specs.Section.{section_header, is_in_file}

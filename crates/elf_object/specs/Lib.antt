@@ -1,7 +1,7 @@
-pub mod Least
 pub mod Header
 pub mod Kind
 pub mod Table
 pub mod Symbol
 pub mod Stray
 pub mod Fault
+pub mod Laws

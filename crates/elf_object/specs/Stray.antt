@@ -3,7 +3,7 @@ use Rattle.std.specs.Prelude.{ℕ, nat_lt, if◌then◌else◌, Option, Some, No
 use Rattle.elf_tables.specs.Header.{e_shnum}
 use Rattle.elf_tables.specs.Symbol.{symbol_count}
 use Rattle.elf_tables.specs.Relocation.{relocation_in, relocation_count, relocation_bytes}
-use Rattle.elf_object.specs.Least.{least_below}
+use Rattle.least.specs.Least.{least_below}
 
 -- the number of the symbol that a relocation names, where no symbol has that number
 abbrev pub stray_at : ℕ → List ℕ → ℕ → Option ℕ

@@ -1,16 +1,16 @@
 -- Wrong symbols (System V gABI, "Symbol Table").
-use Rattle.std.specs.Prelude.{ℕ, ◌%◌, nat_lt, nat_le, Bool, ◌==◌, ◌&&◌, ◌||◌, not, is_none, List}
+use Rattle.std.specs.Prelude.{ℕ, nat_lt, nat_le, Bool, ◌==◌, ◌&&◌, ◌||◌, not, is_none, List}
 use Rattle.elf_bytes.specs.Fields.{string_at}
 use Rattle.elf_tables.specs.declared.entry.SymbolEntry.{SymbolEntry}
 use Rattle.elf_tables.specs.Header.{e_shnum}
 use Rattle.elf_tables.specs.Section.{section_header}
 use Rattle.elf_tables.specs.Kept.{is_kept}
-use Rattle.elf_tables.specs.Symbol.{symbol, symbol_names}
+use Rattle.elf_tables.specs.Symbol.{symbol, symbol_names, symbol_type}
 use Rattle.elf_object.specs.Kind.{is_alignment}
 
 -- STT_TLS and STT_GNU_IFUNC
 abbrev pub has_wrong_type : SymbolEntry → Bool
-has_wrong_type s = s.info % 16 == 6 || s.info % 16 == 10
+has_wrong_type s = symbol_type s.info == 6 || symbol_type s.info == 10
 
 -- st_shndx is no section, nor SHN_ABS, nor SHN_COMMON
 abbrev pub has_no_place : List ℕ → SymbolEntry → Bool

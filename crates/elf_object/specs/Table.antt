@@ -1,7 +1,7 @@
 -- Wrong tables of names, symbols and relocations (System V gABI, "Special Sections", "sh_link and sh_info Interpretation").
 use Rattle.std.specs.Prelude.{ℕ, nat_lt, nat_le, Bool, false, ◌==◌, ◌&&◌, ◌||◌, not, is_some, is_none, Option, Some, None, List}
 use Rattle.elf_tables.specs.declared.header.SectionHeader.{SectionHeader}
-use Rattle.elf_tables.specs.First.{first_below}
+use Rattle.least.specs.First.{first_below}
 use Rattle.elf_tables.specs.Header.{e_shoff, e_shentsize, e_shnum, e_shstrndx}
 use Rattle.elf_tables.specs.Section.{section_header, section_name}
 use Rattle.elf_tables.specs.Kept.{is_kept}

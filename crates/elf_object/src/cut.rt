@@ -1,10 +1,11 @@
 ghost use Rattle.std.specs.Prelude.{◌≡◌, ◌<◌, ◌≤◌, None, Some, IfOk, OnOk, IfErr, length};
 ghost use Rattle.elf_tables.specs.Header.{e_shnum};
-ghost use Rattle.elf_tables.specs.First.{first_below};
+ghost use Rattle.least.specs.First.{first_below};
 ghost use Rattle.elf_object.specs.Fault.{is_cut, cut_section, truncated};
 
 use crate::fault::ObjectFault;
 use elf_tables::{Sections, long};
+use least::first_below;
 
 /// Whether the bytes of the section with this index leave the file.
 fn is_cut(sections: &Sections, index: u32) -> bool
@@ -20,12 +21,7 @@ fn is_cut(sections: &Sections, index: u32) -> bool
 fn first_cut(sections: &Sections) -> Option<u32>
     ensures { result ≡ first_below (is_cut sections.now) (e_shnum sections.now) }
 {
-    for index in 0..sections.count() {
-        if is_cut(sections, index) {
-            return Some(index);
-        }
-    }
-    None
+    first_below(sections.count(), |index| is_cut(sections, index))
 }
 
 /// The first section whose bytes leave the file, by its offset.

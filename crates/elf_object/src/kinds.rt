@@ -1,10 +1,11 @@
 ghost use Rattle.std.specs.Prelude.{◌≡◌, ◌<◌};
 ghost use Rattle.elf_tables.specs.Header.{e_shnum};
-ghost use Rattle.elf_tables.specs.First.{first_below};
+ghost use Rattle.least.specs.First.{first_below};
 ghost use Rattle.elf_object.specs.Kind.{is_alignment, is_wrong_code, is_wrong_data, is_wrong_kept, is_wrong_kind};
 
 use elf_tables::constants::{SHT_GROUP, SHT_NOBITS, SHT_PROGBITS};
 use elf_tables::{Lookup, SectionHeader};
+use least::first_below;
 
 /// The greatest alignment of data that is taken: a page.
 pub(crate) const MOST_ALIGNMENT: u64 = 4096;
@@ -47,10 +48,5 @@ fn is_wrong_kind(lookup: &Lookup, index: u32) -> bool
 pub(crate) fn first_wrong_kind(lookup: &Lookup) -> Option<u32>
     ensures { result ≡ first_below (is_wrong_kind lookup.now) (e_shnum lookup.now) }
 {
-    for index in 0..lookup.count() {
-        if is_wrong_kind(lookup, index) {
-            return Some(index);
-        }
-    }
-    None
+    first_below(lookup.count(), |index| is_wrong_kind(lookup, index))
 }

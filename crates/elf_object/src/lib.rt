@@ -2,16 +2,17 @@
 //! the layers above ask for sections, symbols and relocations by their number and are never refused.
 #![tactic(auto)]
 
-pub use elf_tables::Reloc;
+pub use elf_tables::{Reloc, SectionHeader, SymbolEntry};
 pub use fault::{ObjectEnd, ObjectFault};
 pub use object::{Object, Relocs, Section, Symbol};
 
 mod cut;
 mod fault;
-mod first;
+mod header;
 mod kinds;
+pub mod laws;
 mod object;
-mod order;
+mod section;
 mod strays;
 mod symbols;
 mod tables;

@@ -1,17 +1,17 @@
 ghost use Rattle.std.specs.Prelude.{◌≡◌, ◌<◌, ◌/◌, ◌+◌, ◌*◌, None, Some, [], unwrap_or, length, true};
 ghost use Rattle.elf_tables.specs.Header.{e_shnum};
 ghost use Rattle.elf_tables.specs.Section.{content, is_in_file, section_header, section_name};
-ghost use Rattle.elf_tables.specs.Kept.{is_kept};
-ghost use Rattle.elf_tables.specs.Symbol.{symbol, symbol_count, symbol_name};
+ghost use Rattle.elf_tables.specs.Kept.{has_flag, is_code, is_kept, is_named};
+ghost use Rattle.elf_tables.specs.Symbol.{symbol, symbol_binding, symbol_count, symbol_name, symbol_type};
 ghost use Rattle.elf_tables.specs.Relocation.{relocation_bytes, relocation_count, relocation_in};
 ghost use Rattle.elf_object.specs.Fault.{Answers, fault_of};
 
 use crate::cut::whole_sections;
 use crate::fault::ObjectEnd;
-use crate::first::header_fault;
-use crate::order::section_fault;
-use elf_tables::constants::ENTRY_SIZE;
-use elf_tables::{Lookup, Reloc};
+use crate::header::header_fault;
+use crate::section::section_fault;
+use elf_tables::constants::{ENTRY_SIZE, SHF_ALLOC, SHF_EXECINSTR, SHF_WRITE};
+use elf_tables::{Lookup, Reloc, SectionHeader, SymbolEntry};
 use std::alloc::Global;
 use std::marker::Model;
 
@@ -27,6 +27,29 @@ pub struct Section<'a> {
     pub bytes: &'a [u8],
 }
 
+impl<'a> Section<'a> {
+    /// `SHF_WRITE`.
+    pub fn is_writable(&self) -> bool
+        ensures { result ≡ has_flag self.now.flags 1 }
+    {
+        self.flags & SHF_WRITE != 0
+    }
+
+    /// `SHF_ALLOC`.
+    pub fn is_allocated(&self) -> bool
+        ensures { result ≡ has_flag self.now.flags 2 }
+    {
+        self.flags & SHF_ALLOC != 0
+    }
+
+    /// `SHF_EXECINSTR`.
+    pub fn is_executable(&self) -> bool
+        ensures { result ≡ has_flag self.now.flags 4 }
+    {
+        self.flags & SHF_EXECINSTR != 0
+    }
+}
+
 /// A symbol: its name, `st_info`, `st_shndx`, `st_value` and `st_size` (System V gABI, "Symbol Table").
 #[derive(Clone, Copy, PartialEq, Eq)]
 pub struct Symbol<'a> {
@@ -35,6 +58,22 @@ pub struct Symbol<'a> {
     pub shndx: u16,
     pub value: u64,
     pub size: u64,
+}
+
+impl<'a> Symbol<'a> {
+    /// The type of the symbol, one of `STT_NOTYPE` and so on.
+    pub fn kind(&self) -> u8
+        ensures { result ≡ symbol_type self.now.info }
+    {
+        self.info & 0xf
+    }
+
+    /// The binding of the symbol, one of `STB_LOCAL` and so on.
+    pub fn binding(&self) -> u8
+        ensures { result ≡ symbol_binding self.now.info }
+    {
+        self.info >> 4
+    }
 }
 
 /// The relocations of a section, in the order of their table.
@@ -109,7 +148,23 @@ impl<'a> Object<'a> {
         self.lookup.count()
     }
 
-    /// The section with the index `k`.
+    /// The header of the section with the index `k`. No name is looked for.
+    pub fn header(&self, k: u32) -> SectionHeader
+        requires { k < e_shnum self.now }
+        ensures { result ≡ section_header self.now k }
+    {
+        self.lookup.header(k)
+    }
+
+    /// The bytes in the file of the section with the index `k`, none of `SHT_NULL` and `SHT_NOBITS`.
+    pub fn content(&self, k: u32) -> &'a [u8]
+        requires { k < e_shnum self.now }
+        ensures { result.now ≡ content self.now (section_header self.now k) }
+    {
+        self.lookup.sections().content(&self.lookup.header(k))
+    }
+
+    /// The section with the index `k`. Its name costs a search for the name's end.
     pub fn section(&self, k: u32) -> Section<'a>
         requires { k < e_shnum self.now }
         ensures name { section_name self.now k ≡ Some result.name.now }
@@ -132,11 +187,19 @@ impl<'a> Object<'a> {
     }
 
     /// Whether the section with the index `k` is kept: it is allocated, no note, and not `.eh_frame`.
-    pub fn kept(&self, k: u32) -> bool
+    pub fn is_kept(&self, k: u32) -> bool
         requires { k < e_shnum self.now }
         ensures { result ≡ is_kept self.now k }
     {
         self.lookup.is_kept(k)
+    }
+
+    /// Whether the section with the index `k` is kept and has instructions.
+    pub fn is_code(&self, k: u32) -> bool
+        requires { k < e_shnum self.now }
+        ensures { result ≡ is_code self.now k }
+    {
+        self.lookup.is_kept(k) && self.lookup.header(k).is_executable()
     }
 
     /// How many symbols there are, number 0 among them.
@@ -146,7 +209,25 @@ impl<'a> Object<'a> {
         self.lookup.symbol_count()
     }
 
-    /// The symbol with the number `k`. Number 0, which stands for none, may have no name; it is empty then.
+    /// What the symbol with the number `k` says of itself. No name is looked for.
+    pub fn symbol_entry(&self, k: u64) -> SymbolEntry
+        requires { k < symbol_count self.now }
+        ensures { result ≡ symbol self.now k }
+    {
+        self.lookup.symbol(k)
+    }
+
+    /// Whether the symbol with the number `k` has a name, and has this one. It looks at one byte of the table of
+    /// names more than this one has.
+    pub fn symbol_has_name(&self, k: u64, name: &[u8]) -> bool
+        requires { k < symbol_count self.now }
+        ensures { result ≡ is_named name.now (symbol_name self.now k) }
+    {
+        self.lookup.symbol_has_name(&self.lookup.symbol(k), name)
+    }
+
+    /// The symbol with the number `k`. Number 0, which stands for none, may have no name; it is empty then. The name
+    /// costs a search for its end.
     pub fn symbol(&self, k: u64) -> Symbol<'a>
         requires { k < symbol_count self.now }
         ensures name { result.name.now ≡ unwrap_or (symbol_name self.now k) [] }

@@ -1,12 +1,13 @@
 ghost use Rattle.std.specs.Prelude.{◌≡◌, ◌<◌, ◌≤◌};
 ghost use Rattle.elf_tables.specs.Header.{e_shnum};
-ghost use Rattle.elf_tables.specs.First.{first_below};
+ghost use Rattle.least.specs.First.{first_below};
 ghost use Rattle.elf_tables.specs.Symbol.{symbol_count};
 ghost use Rattle.elf_object.specs.Symbol.{has_no_place, has_wrong_alignment, has_wrong_type, is_past_end, is_wrong_entry, is_wrong_symbol};
 
 use crate::kinds::{MOST_ALIGNMENT, is_alignment};
 use elf_tables::constants::{SHN_ABS, SHN_COMMON, SHN_UNDEF, STT_GNU_IFUNC, STT_TLS};
 use elf_tables::{Lookup, SymbolEntry};
+use least::first_below_u64;
 
 /// Whether a symbol's section index is none of a section's, `SHN_ABS` or `SHN_COMMON`.
 fn has_no_place(lookup: &Lookup, entry: &SymbolEntry) -> bool
@@ -21,7 +22,7 @@ fn has_no_place(lookup: &Lookup, entry: &SymbolEntry) -> bool
 fn has_wrong_type(entry: &SymbolEntry) -> bool
     ensures { result ≡ has_wrong_type entry.now }
 {
-    entry.info % 16 == STT_TLS || entry.info % 16 == STT_GNU_IFUNC
+    entry.kind() == STT_TLS || entry.kind() == STT_GNU_IFUNC
 }
 
 /// Whether a symbol stands beyond the end of a kept section.
@@ -66,10 +67,8 @@ fn is_wrong_symbol(lookup: &Lookup, number: u64) -> bool
 pub(crate) fn first_wrong_symbol(lookup: &Lookup) -> Option<u64>
     ensures { result ≡ first_below (is_wrong_symbol lookup.now) (symbol_count lookup.now) }
 {
-    for number in 0..lookup.symbol_count() {
-        if is_wrong_symbol(lookup, number) {
-            return Some(number);
-        }
-    }
-    None
+    first_below_u64(
+        lookup.symbol_count(),
+        |number| is_wrong_symbol(lookup, number),
+    )
 }

@@ -1,6 +1,6 @@
 ghost use Rattle.std.specs.Prelude.{◌≡◌, ◌<◌, true, is_some};
 ghost use Rattle.elf_tables.specs.Header.{e_shnum};
-ghost use Rattle.elf_tables.specs.First.{first_below};
+ghost use Rattle.least.specs.First.{first_below};
 ghost use Rattle.elf_tables.specs.Section.{section_header};
 ghost use Rattle.elf_tables.specs.Table.{is_symbol_table, relocates, symbol_table};
 ghost use Rattle.elf_object.specs.Table.{has_wrong_header, is_number, is_string_table, is_wrong_rel, is_wrong_rela, is_wrong_rela_of_kept, is_wrong_start, is_wrong_symbol_table, is_wrong_table, is_wrong_table_of};
@@ -10,6 +10,7 @@ use elf_tables::constants::{
     SECTION_HEADER_SIZE, SHN_LORESERVE, SHT_REL, SHT_RELA, SHT_STRTAB, SHT_SYMTAB,
 };
 use elf_tables::{Lookup, SectionHeader, Sections};
+use least::first_below;
 
 /// Whether the section with this index is a string table.
 fn is_string_table(sections: &Sections, index: u32) -> bool
@@ -43,7 +44,7 @@ fn is_number(found: Option<u32>, number: u32) -> bool
 }
 
 /// Whether a symbol table stands before this one.
-#[tactic(auto, unfolding(elf_tables::specs::Table::symbol_table), using(crate::proofs::Least::first_earlier))]
+#[tactic(auto, unfolding(elf_tables::specs::Table::symbol_table), using(crate::proofs::Earlier::first_earlier))]
 fn is_second_symbol_table(lookup: &Lookup, index: u32) -> bool
     requires below { index < e_shnum lookup.now }
     requires table { (section_header lookup.now index).kind ≡ 2 }
@@ -65,7 +66,7 @@ fn is_wrong_symbol_table(lookup: &Lookup, index: u32, header: &SectionHeader) ->
 }
 
 /// Whether relocations of the same section stand before this section.
-#[tactic(auto, unfolding(elf_tables::specs::Relocation::relocations_of), using(crate::proofs::Least::first_earlier))]
+#[tactic(auto, unfolding(elf_tables::specs::Relocation::relocations_of), using(crate::proofs::Earlier::first_earlier))]
 fn is_second_of_target(lookup: &Lookup, index: u32, target: u32) -> bool
     requires below { index < e_shnum lookup.now }
     requires inside { target < e_shnum lookup.now }
@@ -132,10 +133,5 @@ fn is_wrong_table(lookup: &Lookup, index: u32) -> bool
 pub(crate) fn first_wrong_table(lookup: &Lookup) -> Option<u32>
     ensures { result ≡ first_below (is_wrong_table lookup.now) (e_shnum lookup.now) }
 {
-    for index in 0..lookup.count() {
-        if is_wrong_table(lookup, index) {
-            return Some(index);
-        }
-    }
-    None
+    first_below(lookup.count(), |index| is_wrong_table(lookup, index))
 }

@@ -1,24 +1,18 @@
 -- Where strings end, and the bytes that a name stands for.
-use Rattle.std.proofs.Common.{◌≡◌, ◌==◌, ℕ, suc, ◌+◌, ◌-◌, ◌<◌, ◌≤◌, nat_eq, not, is_some, List, [], ◌∷◌, ◌++◌, length, take, drop, get_or, Contains, Bool, true, false, Option, Some, None, ◌⊎◌, inl, inr, refl, sym, ap, ◌∙◌, arith, position, length-append, append_assoc}
-use Rattle.std.specs.List.{starts_with, list_all}
+use Rattle.std.proofs.Common.{◌≡◌, ◌==◌, ℕ, suc, ◌+◌, ◌-◌, ◌<◌, ◌≤◌, is_some, List, length, take, drop, get_or, Contains, Bool, true, false, inl, inr, refl, sym, ap, ◌∙◌, arith, position}
 use Rattle.std.specs.Str.{bytes_eq}
-use Rattle.std.proofs.lemmas.Bool.{cases_lt, lt-ltb, le-ltb, eqb-true, cases_Bool}
-use Rattle.std.proofs.lemmas.Bool.Decides.{Decides-eqb}
-use Rattle.std.proofs.lemmas.List.{length-drop, take_at, get_or-drop, get_or_append_left, get_or-append_right}
+use Rattle.std.proofs.lemmas.Bool.{cases_order, cases_lt, lt-ltb, le-ltb, eqb-true, cases_Bool}
+use Rattle.std.proofs.lemmas.List.{length-drop, length-take, length-take-le, take-take, get_or-drop, get_or-take}
 use Rattle.std.proofs.lemmas.List.Quantifiers.{position-Some}
-use Rattle.std.proofs.lemmas.List.Recursion.{and_at}
-use Rattle.std.proofs.lemmas.Slice.Eq.{starts_is, bytes_eq-Decides}
+use Rattle.std.proofs.lemmas.Slice.Eq.{bytes_eq-Decides}
+use Rattle.least.proofs.Firsts.{cases_Option}
 use Rattle.elf_bytes.specs.Fields.{string_of}
-use Rattle.elf_bytes.proofs.Strings.{ended_at, none_anywhere}
+use Rattle.elf_bytes.proofs.Strings.{none_anywhere}
 use Rattle.elf_tables.specs.Kept.{is_named}
 use Rattle.elf_tables.specs.Names.{IsLastEnd}
 
 abbrev is_nul : ℕ → Bool
 is_nul b = b == 0
-
-pub cases_Option : {A : Type 0} (o : Option A) → (o ≡ None) ⊎ ((x : A) × (o ≡ Some x))
-cases_Option None = inl refl
-cases_Option (Some x) = inr (x, refl)
 
 -- bytes with a NUL begin with a string, and others do not
 string_there : (xs : List ℕ) → Contains xs 0 → is_some (string_of xs) ≡ true
@@ -51,63 +45,57 @@ last_end_is bytes end nul none at = elim (cases_lt at end) [
       ∙ sym (le-ltb at end past)
 ]
 
--- a string without a NUL and then a NUL begin some bytes exactly where these begin with that string
-has_nul : (word rest : List ℕ) → get_or (word ++ 0 ∷ rest) (length word) 0 ≡ 0
-has_nul word rest =
-    let at : length word - length word ≡ 0 = omega arith in
-    get_or-append_right word (0 ∷ rest) (length word) (length word) 0 refl (omega arith) ∙ ap (λ k. get_or (0 ∷ rest) k 0) at
+-- whether some bytes begin with a string is told by as many of them as it has, and one more
+no_longer : (word xs : List ℕ) (n : ℕ) → length word < n → n < length xs → bytes_eq (take n xs) word ≡ false
+no_longer word xs n more inside = elim (cases_Bool (bytes_eq (take n xs) word)) [
+  | inl same ↦
+      let name : take n xs ≡ word = (bytes_eq-Decides (take n xs) word).0 same in
+      absurd (omega (arith, length-take-le n xs (omega arith), ap length name))
+  | inr other ↦ other
+]
 
-at_word : (word xs rest : List ℕ) (n : ℕ) → (Contains word 0 → ⊥) → xs ≡ word ++ 0 ∷ rest → position is_nul xs ≡ Some n → n ≡ length word
-at_word word xs rest n clean e some =
-    let found = position-Some is_nul xs n 0 some in
-    let nul : get_or xs (length word) 0 ≡ 0 = ap (λ ys. get_or ys (length word) 0) e ∙ has_nul word rest in
-    elim (cases_lt n (length word)) [
-      | inl below ↦
-          let there : get_or xs n 0 ≡ get_or word n 0 = ap (λ ys. get_or ys n 0) e ∙ get_or_append_left word (0 ∷ rest) 0 n below in
-          absurd (clean (n, below, sym there ∙ eqb-true _ _ found.1))
-      | inr past ↦ elim (cases_lt (length word) n) [
-        | inl early ↦ let no : true ≡ false = rw nul at (found.2 (length word) early) in absurd cc
-        | inr late ↦ omega arith
-      ]
-    ]
+in_front : (xs : List ℕ) (m k : ℕ) → k < length (take m xs) → (k < m) × (k < length xs) × (get_or (take m xs) k 0 ≡ get_or xs k 0)
+in_front xs m k below =
+    let short : k < m = omega (arith, length-take m xs) in
+    (short, omega (arith, length-take m xs), get_or-take m xs k 0 short)
 
-pub named_by_bytes : (word xs : List ℕ) → (Contains word 0 → ⊥) → starts_with nat_eq xs (word ++ 0 ∷ []) ≡ is_named word (string_of xs)
-named_by_bytes word xs clean =
-    let p = word ++ 0 ∷ [] in
-    let starts = starts_is Decides-eqb xs p (starts_with nat_eq xs p) refl in
-    let whole : (rest : List ℕ) → (word ++ 0 ∷ []) ++ rest ≡ word ++ 0 ∷ rest = λ rest. append_assoc word (0 ∷ []) rest in
-    let after = drop (length p) xs in
+one_nul : (xs : List ℕ) (m j n : ℕ) → is_nul (get_or xs n 0) ≡ true → ((k : ℕ) → k < n → is_nul (get_or xs k 0) ≡ false)
+    → is_nul (get_or (take m xs) j 0) ≡ true → ((k : ℕ) → k < j → is_nul (get_or (take m xs) k 0) ≡ false)
+    → (j < m) × (j < length xs) × (get_or (take m xs) j 0 ≡ get_or xs j 0) → j ≡ n
+one_nul xs m j n nul before found earlier there = elim (cases_order j n) [
+  | inl same ↦ same
+  | inr (inl less) ↦ let no : true ≡ false = sym found ∙ ap is_nul there.2 ∙ before j less in absurd (cc)
+  | inr (inr more) ↦
+      let here : get_or (take m xs) n 0 ≡ get_or xs n 0 = get_or-take m xs n 0 (omega arith) in
+      let no : true ≡ false = sym nul ∙ ap is_nul (sym here) ∙ earlier n more in
+      absurd (cc)
+]
+
+pub named_in_front : (word xs : List ℕ) → is_named word (string_of (take (length word + 1) xs)) ≡ is_named word (string_of xs)
+named_in_front word xs =
+    let m = length word + 1 in
     elim (cases_Option (position is_nul xs)) [
-      | inl none ↦ elim (cases_Bool (starts_with nat_eq xs p)) [
-        | inl begins ↦
-            let e : xs ≡ word ++ 0 ∷ after = starts.0 begins ∙ whole after in
-            let long : length xs ≡ length word + suc (length after) = ap length e ∙ length-append word (0 ∷ after) in
-            absurd (none_anywhere xs none (length word, omega arith, ap (λ ys. get_or ys (length word) 0) e ∙ has_nul word after))
-        | inr begins_not ↦ rw none begins_not
+      | inl none ↦ elim (cases_Option (position is_nul (take m xs))) [
+        | inl same ↦ rw (none, same) refl
+        | inr (j, some) ↦
+            let found = position-Some is_nul (take m xs) j 0 some in
+            let there = in_front xs m j found.0 in
+            absurd (none_anywhere xs none (j, there.1, sym there.2 ∙ eqb-true _ _ found.1))
       ]
       | inr (n, some) ↦
-          let end = ended_at xs n some in
-          let same = bytes_eq-Decides (take n xs) word in
-          elim (cases_Bool (starts_with nat_eq xs p)) [
-            | inl begins ↦
-                let e : xs ≡ word ++ 0 ∷ after = starts.0 begins ∙ whole after in
-                let place = at_word word xs after n clean e some in
-                let name : take n xs ≡ word = ap (λ ys. take n ys) e ∙ take_at word (0 ∷ after) n (sym place) in
-                rw some (begins ∙ sym (same.1 name))
-            | inr begins_not ↦ elim (cases_Bool (bytes_eq (take n xs) word)) [
-              | inl named ↦
-                  let name : take n xs ≡ word = same.0 named in
-                  let e : xs ≡ p ++ end.0 = end.1 ∙ ap (λ ys. ys ++ 0 ∷ end.0) name ∙ sym (whole end.0) in
-                  let begins : starts_with nat_eq xs p ≡ true = starts.1 end.0 e in
-                  absurd cc
-              | inr other ↦ rw some (begins_not ∙ sym other)
+          let nul = position-Some is_nul xs n 0 some in
+          elim (cases_Option (position is_nul (take m xs))) [
+            | inl none ↦ elim (cases_lt n m) [
+              | inl short ↦
+                  let inside : n < length (take m xs) = omega (arith, length-take m xs) in
+                  absurd (none_anywhere (take m xs) none (n, inside, get_or-take m xs n 0 short ∙ eqb-true _ _ nul.1))
+              | inr long ↦ rw (none, some) (sym (no_longer word xs n (omega arith) nul.0))
             ]
+            | inr (j, found_there) ↦
+                let found = position-Some is_nul (take m xs) j 0 found_there in
+                let there = in_front xs m j found.0 in
+                let same : j ≡ n = one_nul xs m j n nul.1 nul.2 found.1 found.2 there in
+                let name : take n (take m xs) ≡ take n xs = take-take n m xs (omega arith) in
+                rw (found_there, some, same) (ap (λ found. bytes_eq found word) name)
           ]
     ]
-
--- a word whose bytes are tested has no NUL
-pub without_nul : (word : List ℕ) → list_all (λ b. not (is_nul b)) word ≡ true → Contains word 0 → ⊥
-without_nul word tested (k, below, is) =
-    let other = and_at (list_all (λ b. not (is_nul b))) (λ b. not (is_nul b)) refl (λ _ _. refl) word k 0 below tested in
-    let no : false ≡ true = rw is at other in
-    cc

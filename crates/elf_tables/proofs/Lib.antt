@@ -1,3 +1,2 @@
 pub mod Endings
-pub mod Bounds
 pub mod Rows

@@ -1,15 +1,10 @@
--- Worked rows of the definitions, computed: least numbers, names, a symbol, and a relocation.
-use Rattle.std.proofs.Common.{◌≡◌, ◌==◌, ℕ, negsuc, List, [], ◌∷◌, ◌++◌, replicate, true, false, Some, None, refl}
+-- Worked rows of the definitions, computed: names, a symbol, and a relocation.
+use Rattle.std.proofs.Common.{◌≡◌, ℕ, negsuc, List, [], ◌∷◌, ◌++◌, replicate, true, false, refl}
 use Rattle.elf_tables.specs.declared.header.SectionHeader.{SectionHeader}
 use Rattle.elf_bytes.specs.Fields.{number_at}
-use Rattle.elf_tables.specs.First.{first_below}
 use Rattle.elf_tables.specs.Kept.{is_kept_by}
 use Rattle.elf_tables.specs.Symbol.{symbol_in}
 use Rattle.elf_tables.specs.Relocation.{relocation_in}
-
-first_rows : (first_below (λ n. n == 3) 5 ≡ Some 3) × (first_below (λ n. n == 3) 3 ≡ None) × (first_below (λ _. true) 9 ≡ Some 0)
-unfolding first_below
-first_rows = (refl, refl, refl)
 
 -- an allocated section of this type whose name begins at this offset
 section : ℕ → ℕ → SectionHeader

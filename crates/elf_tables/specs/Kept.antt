@@ -5,18 +5,22 @@ use Rattle.elf_bytes.specs.Fields.{string_at}
 use Rattle.elf_tables.specs.declared.header.SectionHeader.{SectionHeader}
 use Rattle.elf_tables.specs.Section.{section_header, section_names}
 
+-- a bit of sh_flags is set
+abbrev pub has_flag : ℕ → ℕ → Bool
+has_flag flags flag = not (bit_and flags flag == 0)
+
 -- SHF_WRITE, SHF_ALLOC, SHF_EXECINSTR, SHF_TLS
 abbrev pub is_writable : SectionHeader → Bool
-is_writable h = not (bit_and h.flags 1 == 0)
+is_writable h = has_flag h.flags 1
 
 abbrev pub is_allocated : SectionHeader → Bool
-is_allocated h = not (bit_and h.flags 2 == 0)
+is_allocated h = has_flag h.flags 2
 
 abbrev pub is_executable : SectionHeader → Bool
-is_executable h = not (bit_and h.flags 4 == 0)
+is_executable h = has_flag h.flags 4
 
 abbrev pub is_thread_local : SectionHeader → Bool
-is_thread_local h = not (bit_and h.flags 0x400 == 0)
+is_thread_local h = has_flag h.flags 0x400
 
 -- a name that is there, and is this one
 abbrev pub is_named : List ℕ → Option (List ℕ) → Bool
@@ -29,3 +33,7 @@ is_kept_by names h = is_allocated h && not (h.kind == 7) && not (is_named (codes
 
 unfoldable pub is_kept : List ℕ → ℕ → Bool
 is_kept bytes index = is_kept_by (section_names bytes) (section_header bytes index)
+
+-- a kept section with instructions
+abbrev pub is_code : List ℕ → ℕ → Bool
+is_code bytes index = is_kept bytes index && is_executable (section_header bytes index)

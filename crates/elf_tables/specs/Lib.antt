@@ -1,4 +1,3 @@
-pub mod First
 pub mod Header
 pub mod Section
 pub mod Names

@@ -3,7 +3,7 @@ use Rattle.std.specs.Prelude.{◌≡◌, ◌<◌, slice_index_or, ℕ, ◌+◌, 
 use Rattle.std.specs.Int.{cast_signed, w64}
 use Rattle.elf_bytes.specs.Fields.{number_at}
 use Rattle.elf_tables.specs.declared.entry.Reloc.{Reloc}
-use Rattle.elf_tables.specs.First.{first_below}
+use Rattle.least.specs.First.{first_below}
 use Rattle.elf_tables.specs.Header.{e_shnum}
 use Rattle.elf_tables.specs.Kept.{is_kept}
 use Rattle.elf_tables.specs.Table.{relocates}

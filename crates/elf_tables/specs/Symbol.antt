@@ -1,5 +1,5 @@
 -- Symbols (System V gABI, "Symbol Table").
-use Rattle.std.specs.Prelude.{ℕ, ◌+◌, ◌*◌, ◌/◌, Option, Some, None, List, [], length, slice_index}
+use Rattle.std.specs.Prelude.{ℕ, ◌+◌, ◌*◌, ◌/◌, ◌%◌, ◌^◌, Option, Some, None, List, [], length, slice_index}
 use Rattle.elf_bytes.specs.Fields.{number_at, string_at}
 use Rattle.elf_tables.specs.declared.entry.SymbolEntry.{SymbolEntry}
 use Rattle.elf_tables.specs.Section.{section_header, section_bytes}
@@ -36,6 +36,13 @@ symbol_in table number = record {
 
 abbrev pub symbol : List ℕ → ℕ → SymbolEntry
 symbol bytes number = symbol_in (symbol_bytes bytes) number
+
+-- the halves of st_info, ELF64_ST_TYPE and ELF64_ST_BIND
+abbrev pub symbol_type : ℕ → ℕ
+symbol_type info = info % 2 ^ 4
+
+abbrev pub symbol_binding : ℕ → ℕ
+symbol_binding info = info / 2 ^ 4
 
 -- the name of a symbol, if its NUL is in the table
 abbrev pub symbol_name : List ℕ → ℕ → Option (List ℕ)

@@ -1,7 +1,7 @@
 -- The tables of symbols and relocations (System V gABI, "Special Sections", "sh_link and sh_info Interpretation").
 use Rattle.std.specs.Prelude.{ℕ, ◌%◌, Bool, ◌==◌, ◌&&◌, Option, List}
 use Rattle.elf_tables.specs.declared.header.SectionHeader.{SectionHeader}
-use Rattle.elf_tables.specs.First.{first_below}
+use Rattle.least.specs.First.{first_below}
 use Rattle.elf_tables.specs.Header.{e_shnum}
 use Rattle.elf_tables.specs.Section.{section_header}
 

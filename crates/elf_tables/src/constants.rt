@@ -60,11 +60,107 @@ pub const SHN_ABS: u16 = 0xfff1;
 /// The section index of a common block without a place yet: the symbol's value is its alignment.
 pub const SHN_COMMON: u16 = 0xfff2;
 
+/// The type of a symbol of which no type is told.
+pub const STT_NOTYPE: u8 = 0;
+
+/// The type of a symbol of data.
+pub const STT_OBJECT: u8 = 1;
+
+/// The type of a symbol of a function.
+pub const STT_FUNC: u8 = 2;
+
+/// The type of a symbol that stands for its section.
+pub const STT_SECTION: u8 = 3;
+
+/// The type of a symbol that names the source file.
+pub const STT_FILE: u8 = 4;
+
+/// The type of a symbol of a common block.
+pub const STT_COMMON: u8 = 5;
+
 /// The type of a symbol of a thread's own storage.
 pub const STT_TLS: u8 = 6;
 
 /// The type of a function that is chosen when the program starts, one that the gABI leaves to systems.
 pub const STT_GNU_IFUNC: u8 = 10;
+
+/// The binding of a symbol that other files do not see.
+pub const STB_LOCAL: u8 = 0;
+
+/// The binding of a symbol that all files see.
+pub const STB_GLOBAL: u8 = 1;
+
+/// The binding of a symbol that yields to a global one of its name.
+pub const STB_WEAK: u8 = 2;
+
+/// The relocation that does nothing.
+pub const R_RISCV_NONE: u32 = 0;
+
+/// An address of 32 bits.
+pub const R_RISCV_32: u32 = 1;
+
+/// An address of 64 bits.
+pub const R_RISCV_64: u32 = 2;
+
+/// The target of a branch.
+pub const R_RISCV_BRANCH: u32 = 16;
+
+/// The target of a JAL.
+pub const R_RISCV_JAL: u32 = 17;
+
+/// The target of an AUIPC and the JALR after it.
+pub const R_RISCV_CALL: u32 = 18;
+
+/// The same, by the table of procedures where the target is not in the program.
+pub const R_RISCV_CALL_PLT: u32 = 19;
+
+/// The high part of a distance, in an AUIPC.
+pub const R_RISCV_PCREL_HI20: u32 = 23;
+
+/// The low part of the distance of the AUIPC that the symbol names, in an I form.
+pub const R_RISCV_PCREL_LO12_I: u32 = 24;
+
+/// The same in a store.
+pub const R_RISCV_PCREL_LO12_S: u32 = 25;
+
+/// The high part of an address, in a LUI.
+pub const R_RISCV_HI20: u32 = 26;
+
+/// The low part of an address, in an I form.
+pub const R_RISCV_LO12_I: u32 = 27;
+
+/// The low part of an address, in a store.
+pub const R_RISCV_LO12_S: u32 = 28;
+
+/// A sum of 8 bits.
+pub const R_RISCV_ADD8: u32 = 33;
+
+/// A sum of 16 bits.
+pub const R_RISCV_ADD16: u32 = 34;
+
+/// A sum of 32 bits.
+pub const R_RISCV_ADD32: u32 = 35;
+
+/// A sum of 64 bits.
+pub const R_RISCV_ADD64: u32 = 36;
+
+/// A difference of 8 bits.
+pub const R_RISCV_SUB8: u32 = 37;
+
+/// A difference of 16 bits.
+pub const R_RISCV_SUB16: u32 = 38;
+
+/// A difference of 32 bits.
+pub const R_RISCV_SUB32: u32 = 39;
+
+/// A difference of 64 bits.
+pub const R_RISCV_SUB64: u32 = 40;
+
+/// Space that a linker may remove to align what follows it.
+pub const R_RISCV_ALIGN: u32 = 43;
+
+/// A mark of instructions that a linker may shorten.
+pub const R_RISCV_RELAX: u32 = 51;
 
 /// The size of a section header, `Elf64_Shdr`.
 pub const SECTION_HEADER_SIZE: u64 = 64;

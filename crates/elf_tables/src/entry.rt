@@ -1,5 +1,5 @@
 ghost use Rattle.std.specs.Prelude.{◌≡◌, ◌+◌, ◌*◌, ◌≤◌, ◌<◌, ◌/◌, length};
-ghost use Rattle.elf_tables.specs.Symbol.{symbol_in};
+ghost use Rattle.elf_tables.specs.Symbol.{symbol_binding, symbol_in, symbol_type};
 ghost use Rattle.elf_tables.specs.Relocation.{relocation_in};
 
 use crate::constants::ENTRY_SIZE;
@@ -31,6 +31,20 @@ impl SymbolEntry {
             value: long(table, at + 8),
             size: long(table, at + 16),
         }
+    }
+
+    /// The type of the symbol.
+    pub fn kind(&self) -> u8
+        ensures { result ≡ symbol_type self.now.info }
+    {
+        self.info & 0xf
+    }
+
+    /// The binding of the symbol.
+    pub fn binding(&self) -> u8
+        ensures { result ≡ symbol_binding self.now.info }
+    {
+        self.info >> 4
     }
 }
 

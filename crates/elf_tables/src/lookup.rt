@@ -1,9 +1,9 @@
 ghost use Rattle.std.specs.Prelude.{◌≡◌, ◌+◌, ◌*◌, ◌<◌, ◌≤◌, ◌/◌, unwrap_or, is_some, IfOk, Some, [], length};
 ghost use Rattle.elf_bytes.specs.Fields.{string_at};
 ghost use Rattle.elf_tables.specs.Header.{e_shnum};
-ghost use Rattle.elf_tables.specs.First.{first_below};
+ghost use Rattle.least.specs.First.{first_below};
 ghost use Rattle.elf_tables.specs.Section.{content, section_header, section_name, section_names};
-ghost use Rattle.elf_tables.specs.Kept.{is_kept, is_kept_by};
+ghost use Rattle.elf_tables.specs.Kept.{is_kept, is_kept_by, is_named};
 ghost use Rattle.elf_tables.specs.Table.{is_symbol_table, symbol_table};
 ghost use Rattle.elf_tables.specs.Symbol.{bytes_of, linked_bytes, symbol, symbol_bytes, symbol_count, symbol_names};
 ghost use Rattle.elf_tables.specs.Relocation.{relocation_bytes, relocations_of};
@@ -14,6 +14,7 @@ use crate::header::SectionHeader;
 use crate::sections::Sections;
 use crate::strings::Strings;
 use crate::targets::first_of_each;
+use least::first_below;
 use rv_word::NoMemory;
 use std::alloc::Global;
 use std::marker::Model;
@@ -103,7 +104,9 @@ impl<'a> Lookup<'a> {
         ensures { result ≡ is_kept self.now index }
     {
         let header = self.sections.header(index);
-        header.is_allocated() && header.kind != SHT_NOTE && !self.names.is_eh_frame(header.name)
+        header.is_allocated()
+            && header.kind != SHT_NOTE
+            && !self.names.is(header.name, b".eh_frame")
     }
 
     /// The index of the symbol table.
@@ -142,6 +145,13 @@ impl<'a> Lookup<'a> {
         self.symbol_names.get(entry.name)
     }
 
+    /// Whether a symbol has this name. It looks at one byte of the names more than this one has.
+    pub fn symbol_has_name(&self, entry: &SymbolEntry, name: &[u8]) -> bool
+        ensures { result ≡ is_named name.now (string_at (symbol_names self.now) entry.now.name) }
+    {
+        self.symbol_names.is(entry.name, name)
+    }
+
     /// The first section with relocations of the section with this index.
     #[tactic(auto, unfolding(crate::specs::Relocation::relocations_of))]
     pub fn relocations_of(&self, target: u32) -> Option<u32>
@@ -168,12 +178,7 @@ impl<'a> Lookup<'a> {
 fn symbol_table(sections: &Sections) -> Option<u32>
     ensures { result ≡ symbol_table sections.now }
 {
-    for index in 0..sections.count() {
-        if is_symbol_table(sections, index) {
-            return Some(index);
-        }
-    }
-    None
+    first_below(sections.count(), |index| is_symbol_table(sections, index))
 }
 
 /// Whether the section with this index is a symbol table.

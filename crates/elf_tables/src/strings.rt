@@ -1,5 +1,4 @@
-ghost use Rattle.std.specs.Prelude.{◌≡◌, codes, is_some, unwrap_or, [], drop, option_map};
-ghost use Rattle.std.specs.List.{starts_with};
+ghost use Rattle.std.specs.Prelude.{◌≡◌, is_some, unwrap_or, [], drop, option_map, take};
 ghost use Rattle.elf_bytes.specs.Fields.{string_at, string_of};
 ghost use Rattle.elf_tables.specs.Kept.{is_named};
 ghost use Rattle.elf_tables.specs.Names.{IsLastEnd};
@@ -50,11 +49,11 @@ impl<'a> Strings<'a> {
         name_at(self.bytes, u64::from(at)).unwrap_or(&[])
     }
 
-    /// Whether the string that begins at `at` is `.eh_frame`.
-    pub(crate) fn is_eh_frame(&self, at: u32) -> bool
-        ensures { result ≡ is_named (codes ".eh_frame") (string_at self.now at) }
+    /// Whether the string that begins at `at` is this one. It looks at one byte more than the name has.
+    pub(crate) fn is(&self, at: u32, name: &[u8]) -> bool
+        ensures { result ≡ is_named name.now (string_at self.now at) }
     {
-        begins_with_eh_frame(self.bytes.get(at as usize..).unwrap_or(&[]))
+        begin_with(self.bytes.get(at as usize..).unwrap_or(&[]), name)
     }
 }
 
@@ -71,9 +70,27 @@ fn last_end(bytes: &[u8]) -> usize
     end
 }
 
-/// Whether some bytes begin with the string `.eh_frame`.
-fn begins_with_eh_frame(bytes: &[u8]) -> bool
-    ensures { result ≡ is_named (codes ".eh_frame") (string_of bytes.now) }
+/// As many of the first `len` bytes as there are.
+fn front<'a>(bytes: &'a [u8], len: usize) -> &'a [u8]
+    ensures { result.now ≡ take len bytes.now }
 {
-    bytes.starts_with(b".eh_frame\x00")
+    bytes.get(..len).unwrap_or(bytes)
+}
+
+/// Whether the string that some bytes begin with is this one.
+fn is_string(bytes: &[u8], name: &[u8]) -> bool
+    ensures { result ≡ is_named name.now (string_of bytes.now) }
+{
+    match name_at(bytes, 0) {
+        Some(found) => found == name,
+        None => false,
+    }
+}
+
+/// The same, looking at one byte more than the name has.
+#[tactic(auto, using(crate::proofs::Endings::named_in_front))]
+fn begin_with(bytes: &[u8], name: &[u8]) -> bool
+    ensures { result ≡ is_named name.now (string_of bytes.now) }
+{
+    is_string(front(bytes, name.len() + 1), name)
 }

@@ -286,8 +286,8 @@ fn has_sections(object: &Object) -> bool {
     object.sections() == 10
         && object.section(1) == TEXT
         && object.section(4).bytes.is_empty()
-        && object.kept(1)
-        && !object.kept(5)
+        && object.is_kept(1)
+        && !object.is_kept(5)
 }
 
 /// Whether the object has its symbols.

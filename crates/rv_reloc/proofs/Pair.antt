@@ -7,7 +7,7 @@ use Rattle.std.proofs.lemmas.Bool.{cases_lt}
 use Rattle.std.proofs.lemmas.Int.{ints, int_rem_euclid_is}
 use Rattle.rv_reloc.specs.Value.{hi20, lo12, low_bits}
 use Rattle.rv_reloc.specs.Word.{with_u, with_i, with_s, reaches}
-use Rattle.rv_reloc.specs.Pair.{imm_u, imm_i, imm_s, sum_of, HighAndLow, LowIsSmall}
+use Rattle.rv_reloc.specs.Pair.{imm_u, imm_i, imm_s, sum_of, HighAndLow, LowIsSmall, PartsAddUp}
 
 in_u : (imm word : ℕ) → imm < 2 ^ 20 → word < 2 ^ 32 → imm_u (with_u imm word) ≡ imm * 2 ^ 12
 in_u imm word small fits = omega arith
@@ -62,6 +62,9 @@ sum (negsuc a) h =
     let e : low_bits 20 (hi20 (negsuc a)) ≡ (2 ^ 20 - (a + 2048) / 4096) % 2 ^ 20 =
     ap (low_bits 20) (hi_negative a) ∙ negative_bits ((a + 2048) / 4096) (omega arith) in
     rw e (grind arith)
+
+pub parts_add_up : PartsAddUp
+parts_add_up z h = ap (sum_of (low_bits 20 (hi20 z) * 2 ^ 12)) (low_part z) ∙ sum z h
 
 pub high_and_low : HighAndLow
 high_and_low upper lower z u l h =

@@ -1,7 +1,7 @@
 -- What a high part and a low part say together (RISC-V unprivileged ISA, "Integer Register-Immediate Instructions" and "Load and Store Instructions").
 use Rattle.std.specs.Prelude.{◌≡◌, ℕ, ℤ, pos, negsuc, ◌+◌, ◌*◌, ◌^◌, ◌<◌, IsTrue}
 use Rattle.rv_word.specs.Bits.{bits_from, sign_extended, wrap}
-use Rattle.rv_reloc.specs.Value.{lo12, low_bits, is_between}
+use Rattle.rv_reloc.specs.Value.{hi20, lo12, low_bits, is_between}
 use Rattle.rv_reloc.specs.Word.{patched, reaches}
 use Rattle.rv_reloc.specs.declared.kinds.CodePatch.TheVariants.{Hi20, PcrelHi20, Lo12I, Lo12S}
 
@@ -29,3 +29,8 @@ HighAndLow = (upper lower : ℕ) (value : ℤ) → upper < 2 ^ 32 → lower < 2 
 -- a low part is a signed number of 12 bits
 abbrev pub LowIsSmall : Type 0
 LowIsSmall = (value : ℤ) → IsTrue (is_between (negsuc 0x7ff) (pos 0x800) (lo12 value))
+
+-- so do the parts of a value by themselves
+abbrev pub PartsAddUp : Type 0
+PartsAddUp =
+    (value : ℤ) → IsTrue (reaches value) → sum_of (low_bits 20 (hi20 value) * 2 ^ 12) (low_bits 12 (lo12 value)) ≡ low_bits 64 value

@@ -19,8 +19,8 @@ pub fn patch(kind: CodePatch, word: u32, value: i128) -> Result<u32, RelocRange>
     }
 }
 
-/// The 20 bits of the high part.
-fn high(value: i128) -> Result<u32, RelocRange>
+/// The 20 bits of the high part of a value, as a LUI or an AUIPC has them (RISC-V ELF psABI, "Absolute Addresses").
+pub fn high(value: i128) -> Result<u32, RelocRange>
     ensures value { IfOk result (λ bits. bits ≡ low_bits 20 (hi20 value)) }
     ensures small { IfOk result (λ bits. bits < 2 ^ 20) }
     ensures taken { OnOk result (IsTrue (reaches value)) }
@@ -33,8 +33,8 @@ fn high(value: i128) -> Result<u32, RelocRange>
     Ok(part.rem_euclid(1 << 20) as u32)
 }
 
-/// The 12 bits of the low part.
-fn low(value: i128) -> u32
+/// The 12 bits of the low part of a value, as the instruction after a LUI or an AUIPC has them.
+pub fn low(value: i128) -> u32
     ensures value { result ≡ low_bits 12 (lo12 value) }
     ensures small { result < 2 ^ 12 }
 {

@@ -2,7 +2,7 @@
 //! when a linker knows a value. The values are whole numbers, and nothing here wraps unseen.
 #![tactic(auto)]
 
-pub use code::patch;
+pub use code::{high, low, patch};
 pub use data::patch_data;
 pub use kinds::{CodePatch, DataPatch, RelocRange};
 

@@ -1,5 +1,5 @@
-use rv_reloc::laws::{high_and_low, low_is_small};
-use rv_reloc::{CodePatch, DataPatch, patch, patch_data};
+use rv_reloc::laws::{high_and_low, low_is_small, parts_add_up};
+use rv_reloc::{CodePatch, DataPatch, high, low, patch, patch_data};
 
 /// A kind, the word before, the value, and the word after, or `None` for a refusal. A value is a symbol's
 /// address, and of the relative kinds its distance from the AUIPC.
@@ -89,6 +89,23 @@ static DATA: [(DataPatch, u64, i128, Option<u64>); 34] = [
     (DataPatch::Sub8, 0xff00_0000_0000_0000, i128::MIN, Some(0xff00_0000_0000_0000)),
 ];
 
+/// A value, the 20 bits of its high part, or `None` where they do not reach it, and the 12 bits of its low part: what GNU
+/// ld put into the words above, and both ends of the ranges.
+static PARTS: [(i128, Option<u32>, u32); 12] = [
+    (0, Some(0), 0),
+    (0x1234_57ff, Some(0x1_2345), 0x7ff),
+    (0x1234_5800, Some(0x1_2346), 0x800),
+    (0x1234_5fff, Some(0x1_2346), 0xfff),
+    (-0x801, Some(0xf_ffff), 0x7ff),
+    (-0x3fff_0094, Some(0xc_0010), 0xf6c),
+    (0x7fff_f7ff, Some(0x7_ffff), 0x7ff),
+    (0x7fff_f800, None, 0x800),
+    (-0x8000_0800, Some(0x8_0000), 0x800),
+    (-0x8000_0801, None, 0x7ff),
+    (i128::MAX, None, 0xfff),
+    (i128::MIN, None, 0),
+];
+
 /// How many bytes each width of relocation changes.
 static SIZES: [(DataPatch, usize); 4] = [
     (DataPatch::Add8, 1),
@@ -109,6 +126,19 @@ fn words_are_patched(rt: HostRuntime) {
     }
     high_and_low();
     low_is_small();
+    parts_add_up();
+}
+
+/// Whether a value has the parts that a row says.
+fn has_parts(row: &(i128, Option<u32>, u32)) -> bool {
+    high(row.0).ok() == row.1 && low(row.0) == row.2
+}
+
+#[test]
+fn values_have_two_parts(rt: HostRuntime) {
+    for k in 0..PARTS.len() {
+        assert!(rt; has_parts(&PARTS[k]), "value {k}");
+    }
 }
 
 /// Nine bytes: a number's, the first of them from its highest place, and 5ah.

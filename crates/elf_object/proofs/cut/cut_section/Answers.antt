@@ -1,5 +1,5 @@
 use Rattle.std.proofs.Common.{sym}
-use Rattle.elf_tables.proofs.Bounds.{first_bound}
+use Rattle.least.proofs.Firsts.{first_bound}
 use Rattle.elf_object.proofs.cut.cut_section.Goals as goal
 
 pub header-header-requires : goal.header-header-requires

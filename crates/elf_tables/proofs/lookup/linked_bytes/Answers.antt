@@ -1,7 +1,7 @@
 use Rattle.std.proofs.Common.{sym, ◌∙◌}
 use Rattle.elf_tables.specs.Table.{is_symbol_table, symbol_table}
 use Rattle.elf_tables.specs.Header.{e_shnum}
-use Rattle.elf_tables.proofs.Bounds.{first_bound}
+use Rattle.least.proofs.Firsts.{first_bound}
 use Rattle.elf_tables.proofs.lookup.linked_bytes.Goals as goal
 
 pub header-requires : goal.header-requires

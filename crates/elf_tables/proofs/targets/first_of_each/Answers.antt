@@ -2,11 +2,11 @@ use Rattle.std.proofs.Common.{◌≡◌, ◌==◌, ◌&&◌, ◌<◌, ◌≤◌,
 use Rattle.std.specs.Option.{option_or}
 use Rattle.std.proofs.lemmas.List.{length-replicate, get_or-replicate, take_all, take-append-le}
 use Rattle.elf_tables.specs.declared.header.SectionHeader.{SectionHeader}
-use Rattle.elf_tables.specs.First.{first_below}
+use Rattle.least.specs.First.{first_below}
 use Rattle.elf_tables.specs.Section.{section_header}
 use Rattle.elf_tables.specs.Table.{relocates}
 use Rattle.elf_tables.specs.Relocation.{IsFirstOfEach}
-use Rattle.elf_tables.proofs.Bounds.{first_begins, first_step}
+use Rattle.least.proofs.Firsts.{first_begins, first_step}
 use Rattle.elf_tables.proofs.targets.first_of_each.Goals as goal
 
 noted : (bytes : List ℕ) (item : Option ℕ) (h : SectionHeader) (target index : ℕ) → h ≡ section_header bytes index

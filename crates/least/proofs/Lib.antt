@@ -1,0 +1,4 @@
+pub mod Firsts
+pub mod Leasts
+pub mod Nearests
+pub mod Rows
