@@ -5,12 +5,14 @@ use Rattle.std.proofs.lemmas.List.{get_or_past}
 use Rattle.obj_input.specs.Input.{InputParts, SectionParts, is_code, no_section, section_count, section_of}
 use Rattle.obj_input.specs.Code.{at_whole, natural, is_start, is_place, starts_at, is_inside, word_count}
 
-pub start_inside : (s : SectionParts) (at : ℕ) → is_start s at ≡ true → at < s.size
+pub start_parts : (s : SectionParts) (at : ℕ) → is_start s at ≡ true → (is_code s ≡ true) × (at / 4 < word_count s)
 unfolding is_start
-start_inside s at e =
-    let starts = (and_parts (is_code s && at % 4 == 0) (starts_at s (at / 4)) e).1 in
-    let below : at / 4 < s.size / 4 = ltb-true _ _ (and_parts (nat_lt (at / 4) (word_count s)) (not (is_inside s (at / 4))) starts).0 in
-    omega arith
+start_parts s at e =
+    let parts = and_parts (is_code s && at % 4 == 0) (starts_at s (at / 4)) e in
+    ((and_parts (is_code s) (at % 4 == 0) parts.0).0, ltb-true _ _ (and_parts (nat_lt (at / 4) (word_count s)) (not (is_inside s (at / 4))) parts.1).0)
+
+pub start_inside : (s : SectionParts) (at : ℕ) → is_start s at ≡ true → at < s.size
+start_inside s at e = let below : at / 4 < s.size / 4 = (start_parts s at e).1 in omega arith
 
 pub place_inside : (s : SectionParts) (at : ℕ) → is_place s at ≡ true → at ≤ s.size
 place_inside s at e = elim (or_cases (is_start s at) (is_code s && at == s.size) e) [

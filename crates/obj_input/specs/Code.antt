@@ -83,8 +83,3 @@ at_whole test (negsuc n) = false
 abbrev pub natural : ℤ → Option ℕ
 natural (pos n) = if nat_lt n (2 ^ 64) then Some n else None
 natural (negsuc n) = None
-
--- a test of what is an offset
-abbrev pub by_natural : (ℕ → Bool) → Option ℕ → Bool
-by_natural test (Some n) = test n
-by_natural test None = false

@@ -1,6 +1,6 @@
 ghost use Rattle.std.specs.Prelude.{◌≡◌, ◌<◌, ◌≤◌, ◌+◌, ◌*◌, ◌/◌, true, Option, Some, None};
 ghost use Rattle.obj_input.specs.Input.{is_code};
-ghost use Rattle.obj_input.specs.Code.{are_pair, are_same, at_whole, auipc_register, by_natural, has_high_part, has_pair_target, if_auipc, instr, is_auipc, is_inside, is_pair, is_place, is_start, jalr_base, natural, starts_at, word, word_count};
+ghost use Rattle.obj_input.specs.Code.{are_pair, are_same, at_whole, auipc_register, has_high_part, has_pair_target, if_auipc, instr, is_auipc, is_inside, is_pair, is_place, is_start, jalr_base, natural, starts_at, word, word_count};
 
 use crate::section::Section;
 use elf_bytes::u32_at;
@@ -162,12 +162,20 @@ impl Section<'_> {
         index < self.word_count() && !self.is_inside(index)
     }
 
-    /// Whether this offset is an instruction's start.
     #[tactic(auto, unfolding(crate::specs::Code::is_start))]
-    pub fn is_start(&self, offset: u64) -> bool
+    fn is_start_of(&self, offset: u64) -> bool
         ensures { result ≡ is_start self.now offset }
     {
         self.is_code() && offset % 4 == 0 && self.starts_at(offset / 4)
+    }
+
+    /// Whether this offset is an instruction's start.
+    pub fn is_start(&self, offset: u64) -> bool
+        ensures value { result ≡ is_start self.now offset }
+        ensures code { result ≡ true → is_code self.now ≡ true }
+        ensures inside { result ≡ true → offset / 4 < word_count self.now }
+    {
+        self.is_start_of(offset)
     }
 
     /// Whether this offset is a place: an instruction's start, or the end of a section of code.

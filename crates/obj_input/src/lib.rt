@@ -3,6 +3,7 @@
 //! such input as one object does.
 #![tactic(auto)]
 
+pub use code::is_auipc;
 pub use input::{Input, Name};
 pub use layout::Layout;
 pub use parts::{Block, Definition, Func, Sort, Use};
