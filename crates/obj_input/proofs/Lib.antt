@@ -1,0 +1,5 @@
+mod Standing
+mod Found
+mod Wholes
+mod Busy
+mod Reach

@@ -1,0 +1,20 @@
+//! What objects say, without their bytes: sections with their relocations, whose symbols are looked up already, the
+//! common blocks, the names and the functions; and what is local to a word of code. Several objects joined make one
+//! such input as one object does.
+#![tactic(auto)]
+
+pub use code::is_auipc;
+pub use input::{Input, Name};
+pub use layout::Layout;
+pub use parts::{Block, Definition, Func, Sort, Use};
+pub use reloc_kind::RelocKind;
+pub use section::Section;
+
+mod code;
+mod input;
+mod layout;
+mod offsets;
+mod parts;
+mod reloc_kind;
+mod search;
+mod section;

@@ -1,0 +1,143 @@
+ghost use Rattle.std.specs.Prelude.{◌≡◌, true, length, IfOk};
+ghost use Rattle.obj_input.specs.Input.{busy_at, has_bytes, is_code, is_data_sort, is_zeros_sort};
+ghost use Rattle.obj_input.specs.InOrder.{is_high_use, is_pair_use};
+ghost use Rattle.std.specs.List.{list_any};
+
+use crate::offsets::Offsets;
+use crate::parts::{Sort, Use};
+use crate::search::{busy_in_order, high_offsets, pair_offsets, standing_at};
+use rv_word::NoMemory;
+use std::alloc::Global;
+use std::marker::Model;
+
+/// A section with its relocations. Those that do something are found by their offset in a few steps.
+#[derive(Drop)]
+pub struct Section<'a> {
+    sort: Sort,
+    size: u64,
+    align: u64,
+    content: &'a [u8],
+    uses: Vec<Use>,
+    busy: Vec<Use>,
+    pairs: Offsets,
+    highs: Offsets,
+}
+
+impl<'a> Model for Section<'a> {
+    ghost use Rattle.obj_input.specs.Input.{SectionParts};
+    ghost use Rattle.obj_input.specs.InOrder.{IsKept};
+
+    ghost Value = { SectionParts };
+
+    ghost view = { λ s. record { sort = s.sort; size = s.size; align = s.align; content = s.content.now; uses = s.uses.items } };
+
+    ghost invariant = { λ s. IsKept (record { sort = s.sort; size = s.size; align = s.align; content = s.content.now; uses = s.uses.items }) s.busy.items s.pairs s.highs };
+}
+
+impl<'a> Section<'a> {
+    /// The section of these parts; `uses` are its relocations in the order of their table. Code and data have all their
+    /// bytes, and the others none that count.
+    pub fn of(
+        alloc: Global,
+        sort: Sort,
+        size: u64,
+        align: u64,
+        content: &'a [u8],
+        uses: Vec<Use>,
+    ) -> Result<Section<'a>, NoMemory>
+        requires { has_bytes sort ≡ true → length content.now ≡ size }
+        ensures { IfOk result (λ s. s ≡ record { sort = sort; size = size; align = align; content = content.now; uses = uses.items }) }
+    {
+        let busy = busy_in_order(alloc, &uses)?;
+        let pairs = pair_offsets(alloc, &uses)?;
+        let highs = high_offsets(alloc, &uses)?;
+        Ok(Section {
+            sort,
+            size,
+            align,
+            content,
+            uses,
+            busy,
+            pairs,
+            highs,
+        })
+    }
+
+    /// What it holds.
+    pub fn sort(&self) -> Sort
+        ensures { result ≡ self.now.sort }
+    {
+        self.sort
+    }
+
+    /// Whether it holds instructions.
+    pub fn is_code(&self) -> bool
+        ensures { result ≡ is_code self.now }
+    {
+        self.sort == Sort::Code
+    }
+
+    /// Whether it holds bytes that are in the file, and no instructions.
+    pub fn is_data(&self) -> bool
+        ensures { result ≡ is_data_sort self.now.sort }
+    {
+        self.sort == Sort::Data
+    }
+
+    /// Whether its bytes are not in the file.
+    pub fn is_zeros(&self) -> bool
+        ensures { result ≡ is_zeros_sort self.now.sort }
+    {
+        self.sort == Sort::Zeros
+    }
+
+    /// How many bytes it has.
+    pub fn size(&self) -> u64
+        ensures { result ≡ self.now.size }
+    {
+        self.size
+    }
+
+    /// What its address is to be a multiple of; 0 is 1.
+    pub fn align(&self) -> u64
+        ensures { result ≡ self.now.align }
+    {
+        self.align
+    }
+
+    /// Its bytes in the file: all of code and data.
+    pub fn content(&self) -> &'a [u8]
+        ensures value { result.now ≡ self.now.content }
+        ensures whole { has_bytes self.now.sort ≡ true → length result.now ≡ self.now.size }
+    {
+        self.content
+    }
+
+    /// Its relocations in the order of their table.
+    pub fn uses(&self) -> &[Use]
+        ensures { result.now ≡ self.now.uses }
+    {
+        self.uses.as_slice()
+    }
+
+    /// The relocations that do something at this offset, in the order of their table.
+    pub fn busy_at(&self, offset: u64) -> &[Use]
+        ensures { result.now ≡ busy_at self.now offset }
+    {
+        standing_at(&self.busy, offset)
+    }
+
+    /// Whether one that names the target of a pair stands at this offset.
+    pub(crate) fn has_pair_use(&self, offset: u64) -> bool
+        ensures { result ≡ list_any is_pair_use (busy_at self.now offset) }
+    {
+        self.pairs.has(offset)
+    }
+
+    /// Whether one that is the high part of a distance stands at this offset.
+    pub(crate) fn has_high_use(&self, offset: u64) -> bool
+        ensures { result ≡ list_any is_high_use (busy_at self.now offset) }
+    {
+        self.highs.has(offset)
+    }
+}

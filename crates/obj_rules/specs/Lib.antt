@@ -1,0 +1,14 @@
+pub mod Kind
+pub mod Target
+pub mod Finding
+pub mod FaultText
+pub mod Undecodable
+pub mod Reserved
+pub mod BadTransfer
+pub mod BadPair
+pub mod WrongKind
+pub mod WrongPlace
+pub mod Undefined
+pub mod CodePointer
+pub mod Fault
+pub mod Rule
