@@ -13,7 +13,8 @@ use Rattle.text_lines.specs.Hex.{hex, hex_text}
 use Rattle.text_lines.specs.Lines.{lines_of, spaced, words_of}
 use Rattle.text_lines.proofs.Accepts.{Accepts, end_only, line_first}
 use Rattle.text_lines.proofs.Numbers.{hex_spelled}
-use Rattle.text_lines.proofs.Options.{and_then, guarded, mapped}
+use Rattle.rv_word.proofs.Cases.{guarded}
+use Rattle.text_lines.proofs.Options.{and_then, mapped}
 use Rattle.text_lines.proofs.Whole.{text_accepts, text_back}
 use Rattle.text_lines.proofs.Written.{hex_back, hex_plain, join_newlines, lacks, spaced_line, split_join, words_back}
 use Rattle.cfi_graph.specs.declared.map.MapLine.{MapLine}

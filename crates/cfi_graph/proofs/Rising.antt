@@ -39,7 +39,7 @@ less_transitive : (x y z : ℕ) → nat_lt x y ≡ true → nat_lt y z ≡ true 
 less_transitive x y z p q =
     let first = ltb-true x y p in let second = ltb-true y z q in lt-ltb x z (omega arith)
 
-key_transitive : (x y z : Key) → key_below x y ≡ true → key_below y z ≡ true → key_below x z ≡ true
+pub key_transitive : (x y z : Key) → key_below x y ≡ true → key_below y z ≡ true → key_below x z ≡ true
 key_transitive (Label k) (Label l) (Label m) p q = less_transitive k l m p q
 key_transitive (Label k) (Label l) (Address b) p q = refl
 key_transitive (Label k) (Address a) (Label m) p q = cc

@@ -12,7 +12,8 @@ use Rattle.cfi_graph.specs.declared.line.SiteKind.{SiteKind}
 use Rattle.text_lines.specs.Hex.{hex, hex_text}
 use Rattle.text_lines.specs.Lines.{spaced, words_of}
 use Rattle.text_lines.proofs.Numbers.{hex_spelled}
-use Rattle.text_lines.proofs.Options.{and_then, chosen, guarded, mapped}
+use Rattle.rv_word.proofs.Cases.{guarded}
+use Rattle.text_lines.proofs.Options.{and_then, chosen, mapped}
 use Rattle.cfi_graph.specs.Text.{kind_name, words_of_line}
 use Rattle.cfi_graph.specs.Lines.{addresses_of, class_of, kind_of, length_of, line_of, named, pair_of, site_of}
 

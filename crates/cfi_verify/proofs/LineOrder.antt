@@ -8,16 +8,8 @@ use Rattle.cfi_graph.specs.declared.line.GraphLine.TheVariants.{Class, Site, Edg
 use Rattle.cfi_graph.specs.declared.line.Key.{Key}
 use Rattle.cfi_graph.specs.declared.line.Key.TheVariants.{Label, Address}
 use Rattle.cfi_graph.specs.Graph.{is_rising, key_below, key_of}
+use Rattle.cfi_graph.proofs.Rising.{key_transitive}
 use Rattle.cfi_verify.specs.Lines.{same_key, line_with, line_at, class_of}
-
-pub below_again : (j k l : Key) → key_below j k ≡ true → key_below k l ≡ true → key_below j l ≡ true
-below_again (Label a) (Label b) (Label c) e f = lt-ltb a c (omega (arith, ltb-true a b e, ltb-true b c f))
-below_again (Label a) (Label b) (Address c) e f = refl
-below_again (Label a) (Address b) (Label c) e f = absurd (false≢true f)
-below_again (Label a) (Address b) (Address c) e f = refl
-below_again (Address a) (Label b) l e f = absurd (false≢true e)
-below_again (Address a) (Address b) (Label c) e f = absurd (false≢true f)
-below_again (Address a) (Address b) (Address c) e f = lt-ltb a c (omega (arith, ltb-true a b e, ltb-true b c f))
 
 pub below_self : (k : Key) → key_below k k ≡ true → ⊥
 below_self (Label a) e = let h : a < a = ltb-true a a e in omega arith
@@ -48,7 +40,7 @@ head_below x [] r i y e = cc
 head_below x (z ∷ lines) r zero y e =
     ap (λ w. key_below (key_of x) (key_of w)) (sym (same_Some z y e)) ∙ (and_parts _ _ r).0
 head_below x (z ∷ lines) r (suc i) y e =
-    below_again (key_of x) (key_of z) (key_of y) (and_parts _ _ r).0 (head_below z lines (and_parts _ _ r).1 i y e)
+    key_transitive (key_of x) (key_of z) (key_of y) (and_parts _ _ r).0 (head_below z lines (and_parts _ _ r).1 i y e)
 
 pub tail_rising : (x : GraphLine) (lines : List GraphLine) → is_rising key_below (map key_of (x ∷ lines)) ≡ true → is_rising key_below (map key_of lines) ≡ true
 tail_rising x [] r = refl
@@ -93,7 +85,7 @@ after_middle lines key m x r e b i y f k =
           let one : x ≡ y = same_Some x y (sym e ∙ there) in
           absurd (below_self key (ap (λ w. key_below w key) (sym k ∙ ap key_of (sym one)) ∙ b))
       | inr (inl less) ↦
-          absurd (below_self key (below_again key (key_of x) key (ap (λ w. key_below w (key_of x)) (sym k) ∙ pair_below lines r i m y x less f e) b))
+          absurd (below_self key (key_transitive key (key_of x) key (ap (λ w. key_below w (key_of x)) (sym k) ∙ pair_below lines r i m y x less f e) b))
       | inr (inr more) ↦ more
     ]
 
@@ -107,7 +99,7 @@ before_middle lines key m x r e b i y f k =
           absurd (below_self key (ap (key_below key) (sym k ∙ ap key_of (sym one)) ∙ b))
       | inr (inl less) ↦ less
       | inr (inr more) ↦
-          absurd (below_self key (below_again key (key_of x) key b (ap (key_below (key_of x)) (sym k) ∙ pair_below lines r m i x y more e f)))
+          absurd (below_self key (key_transitive key (key_of x) key b (ap (key_below (key_of x)) (sym k) ∙ pair_below lines r m i x y more e f)))
     ]
 
 -- the line at an address is the one with that key

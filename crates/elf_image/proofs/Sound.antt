@@ -4,6 +4,7 @@ use Rattle.std.specs.List.{slice_get}
 use Rattle.std.specs.Option.{option_or}
 use Rattle.std.proofs.lemmas.Bool.{cases_lt}
 use borrow.Author.Tests.{lt-ltb, le-ltb}
+use Rattle.rv_word.proofs.Cases.{neither, unmapped}
 use Rattle.rv_word.specs.Image.{IsImageSize}
 use Rattle.elf_bytes.specs.Fields.{number_at}
 use Rattle.elf_image.specs.declared.field.Field.{Field}
@@ -19,14 +20,6 @@ pub record IsSound (bytes : List ℕ) (code init : ℕ) : Type 0 where
   pub end : length bytes ≡ data_start code + init
   pub after_headers : first_nonzero bytes 232 0x1000 ≡ None
   pub after_code : first_nonzero bytes (0x1000 + code) (data_start code) ≡ None
-
-neither : {A : Type 0} (x y : Option A) → option_or x y ≡ None → (x ≡ None) × (y ≡ None)
-neither None y e = (refl, e)
-neither (Some x) y e = cc
-
-unmapped : {A B : Type 0} (f : A → B) (x : Option A) → option_map f x ≡ None → x ≡ None
-unmapped f None e = refl
-unmapped f (Some x) e = cc
 
 right_length : (bytes : List ℕ) (code init : ℕ) → length_fault bytes code init ≡ None → length bytes ≡ data_start code + init
 right_length bytes code init e = elim (cases_lt (length bytes) (data_start code + init)) [

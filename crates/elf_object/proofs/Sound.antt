@@ -3,6 +3,7 @@ use Rattle.std.proofs.Common.{◌≡◌, ℕ, ◌+◌, ◌<◌, ◌≤◌, nat_l
 use Rattle.std.specs.Option.{option_or}
 use Rattle.std.proofs.lemmas.Bool.{cases_Bool, or_parts, ltb-false}
 use Rattle.std.proofs.lemmas.List.{length-take-le, length-drop}
+use Rattle.rv_word.proofs.Cases.{neither, unmapped}
 use Rattle.elf_tables.specs.declared.header.SectionHeader.{SectionHeader}
 use Rattle.elf_object.specs.declared.fault.ObjectFault.TheVariants.{BadTable, Truncated}
 use Rattle.least.specs.First.{first_below}
@@ -24,14 +25,6 @@ pub record IsSound (bytes : List ℕ) : Type 0 where
   pub kinds : (k : ℕ) → k < e_shnum bytes → is_wrong_kind bytes k ≡ false
   pub symbols : (k : ℕ) → k < symbol_count bytes → is_wrong_symbol bytes k ≡ false
   pub named : stray_symbol bytes ≡ None
-
-neither : {A : Type 0} (x y : Option A) → option_or x y ≡ None → (x ≡ None) × (y ≡ None)
-neither None y e = (refl, e)
-neither (Some x) y e = absurd (cc)
-
-unmapped : {A B : Type 0} (f : A → B) (x : Option A) → option_map f x ≡ None → x ≡ None
-unmapped f None e = refl
-unmapped f (Some x) e = absurd (cc)
 
 right_tables : (bytes : List ℕ) → table_fault bytes ≡ None → (is_wrong_start bytes ≡ false) × (first_below (is_wrong_table bytes) (e_shnum bytes) ≡ None)
 unfolding table_fault

@@ -6,7 +6,8 @@ use Rattle.std.proofs.lemmas.Nat.{shr-shr}
 use Rattle.std.proofs.Math.Dec.{leb}
 use Rattle.text_lines.specs.declared.hexadecimal.Case.TheVariants.{Lower}
 use Rattle.text_lines.specs.Hex.{digit_value, hex, hex_digit, hex_from, hex_text}
-use Rattle.text_lines.proofs.Options.{and_then, chosen, guarded}
+use Rattle.rv_word.proofs.Cases.{guarded}
+use Rattle.text_lines.proofs.Options.{and_then, chosen}
 
 decimal : (b d : ℕ) → 48 ≤ b → b ≤ 57 → b - 48 ≡ d → (d < 16) × (b ≡ hex_digit d)
 decimal b d low high is =

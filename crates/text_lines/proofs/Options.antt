@@ -11,11 +11,6 @@ pub mapped : {A B P : Type 0} (f : A → B) (o : Option A) (y : B) → option_ma
 mapped f None y e go = absurd cc
 mapped f (Some x) y e go = go x refl (sym (same_Some _ _ e))
 
--- the branch that gave a value
-pub guarded : {A : Type 0} (b : Bool) (x : Option A) (y : A) → (if b then x else None) ≡ Some y → (b ≡ true) × (x ≡ Some y)
-guarded true x y e = (refl, e)
-guarded false x y e = cc
-
 pub chosen : {A P : Type 0} (b : Bool) (x y z : A) → (if b then x else y) ≡ z → (b ≡ true → x ≡ z → P) → (b ≡ false → y ≡ z → P) → P
 chosen true x y z e on_true on_false = on_true refl e
 chosen false x y z e on_true on_false = on_false refl e
