@@ -5,3 +5,4 @@ pub mod Table
 pub mod Symbol
 pub mod Stray
 pub mod Fault
+pub mod FaultText
