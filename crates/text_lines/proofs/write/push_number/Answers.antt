@@ -1,0 +1,14 @@
+use Rattle.std.proofs.Common.{arith, [], ◌∷◌, ◌∙◌, ap}
+use Rattle.std.proofs.lemmas.List.{append_assoc}
+use Rattle.std.proofs.lemmas.Nat.{and_mask}
+use Rattle.text_lines.specs.Hex.{hex_digit}
+use Rattle.text_lines.proofs.DigitsOut.{next_digit_out, no_digit_out}
+use Rattle.text_lines.proofs.write.push_number.Goals as goal
+
+pub loop-left-preserved : goal.loop-left-preserved
+loop-left-preserved c =
+    (rw c.in_ok-push-2.ensures.items (next_digit_out _ _ c.loop-left.left c.args.number _ c.loop-left-test.true (c.hex_digit.ensures ∙ ap hex_digit (and_mask _ 4)) c.loop-left.invariant.0), omega arith)
+
+pub returns : goal.returns
+returns c =
+    no_digit_out _ _ c.loop-left.left c.args.number (omega arith) (c.loop-left.invariant.0 ∙ rw c.in_ok-push.ensures.items (append_assoc c.args.out.now.items (32 ∷ []) _))

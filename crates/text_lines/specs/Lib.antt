@@ -1,0 +1,5 @@
+pub mod Reasons
+pub mod Answers
+pub mod Lines
+pub mod Hex
+pub mod Decimal
