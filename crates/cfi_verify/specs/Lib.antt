@@ -12,3 +12,4 @@ pub mod Seen
 pub mod Scan
 pub mod Least
 pub mod Answer
+pub mod RejectText
