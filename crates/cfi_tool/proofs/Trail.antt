@@ -1,7 +1,7 @@
 -- The text of a trail, one address after the other.
 use Rattle.std.proofs.Common.{◌≡◌, ℕ, ◌+◌, ◌<◌, ◌≤◌, List, ◌∷◌, ◌++◌, length, drop, get_or, codes, add-one, drop-cons, append_assoc, append-nil}
 use Rattle.std.proofs.lemmas.List.{drop_all}
-use Rattle.cfi_graph.specs.Text.{hex_text}
+use Rattle.text_lines.specs.Hex.{hex_text}
 use Rattle.cfi_tool.specs.ReportText.{trail_text}
 
 pub next_address : (front after trail : List ℕ) (i d : ℕ) → i < length trail → after ≡ front ++ (codes " " ++ hex_text 8 (get_or trail i d))

@@ -8,7 +8,7 @@ use Rattle.cfi_step.specs.declared.report.Handler.TheVariants.{BadTarget, BadRet
 use Rattle.cfi_step.specs.declared.report.RunEnd.{RunEnd}
 use Rattle.cfi_step.specs.declared.report.RunEnd.TheVariants as ends
 use Rattle.cfi_step.specs.declared.report.RunReport.{RunReport}
-use Rattle.cfi_graph.specs.Text.{hex_text}
+use Rattle.text_lines.specs.Hex.{hex_text}
 
 abbrev pub handler_name : Handler → List ℕ
 handler_name BadTarget = codes "__cfi_bad_target"
