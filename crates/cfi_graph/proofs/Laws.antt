@@ -1,15 +1,16 @@
 -- What the right answer to a text says: the text is the spelling of what was read, and each
 -- spelling is read.
 use Rattle.std.proofs.Common.{◌≡◌, ℕ, List, Result, Ok, Err, IfOk, sym, ◌∙◌, ap}
-use Rattle.cfi_graph.specs.declared.end.GraphEnd.{GraphEnd}
-use Rattle.cfi_graph.specs.declared.end.GraphEnd.TheVariants.{Line, NoMemory}
+use Rattle.text_lines.specs.declared.end.TextEnd.{TextEnd}
+use Rattle.text_lines.specs.declared.end.TextEnd.TheVariants.{Line, NoMemory}
 use Rattle.cfi_graph.specs.Graph.{GraphParts, IsGraph}
 use Rattle.cfi_graph.specs.Text.{graph_text}
-use Rattle.cfi_graph.specs.Reading.{Answers, graph_of}
+use Rattle.text_lines.specs.Answers.{Answers}
+use Rattle.cfi_graph.specs.Reading.{graph_of}
 use Rattle.cfi_graph.proofs.Whole.{graph_of_allowed, graph_of_spelled}
 use Rattle.cfi_graph.proofs.Only.{graph_of-graph_text}
 
-pub record IsReading (text : List ℕ) (answer : Result GraphParts GraphEnd) : Type 0 where
+pub record IsReading (text : List ℕ) (answer : Result GraphParts TextEnd) : Type 0 where
   pub allowed : IfOk answer IsGraph
   pub spelled : IfOk answer (λ g. text ≡ graph_text g)
   pub only : (g : GraphParts) → IsGraph g → text ≡ graph_text g → Answers answer (Ok g)
@@ -17,7 +18,7 @@ pub record IsReading (text : List ℕ) (answer : Result GraphParts GraphEnd) : T
 read_of : (text : List ℕ) (g : GraphParts) → IsGraph g → text ≡ graph_text g → graph_of text ≡ Ok g
 read_of text g is e = ap graph_of e ∙ graph_of-graph_text g is
 
-pub reading : (text : List ℕ) (answer : Result GraphParts GraphEnd) → Answers answer (graph_of text) → IsReading text answer
+pub reading : (text : List ℕ) (answer : Result GraphParts TextEnd) → Answers answer (graph_of text) → IsReading text answer
 reading text (Ok g) right =
     record {
       allowed = graph_of_allowed text g right;

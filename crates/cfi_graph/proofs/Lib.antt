@@ -1,14 +1,8 @@
-pub mod Cuts
-pub mod Digits
 pub mod LineForms
 pub mod Rising
-pub mod Steps
-pub mod Accepts
-pub mod Numbers
 pub mod Spelled
 pub mod Whole
 pub mod Heading
-pub mod Written
 pub mod Only
 pub mod Laws
 pub mod Printed

@@ -1,17 +1,11 @@
 -- A line with a word too many has no form, and a list of words has its addresses one by one.
-use Rattle.std.proofs.Common.{◌≡◌, ℕ, ◌==◌, List, [], ◌∷◌, ◌++◌, length, Option, Some, None, refl, sym, ◌∙◌, ap, append_assoc, arith}
+use Rattle.std.proofs.Common.{◌≡◌, ℕ, ◌==◌, List, [], ◌∷◌, ◌++◌, Option, Some, None, refl, sym, ◌∙◌, ap, append_assoc}
 use Rattle.std.proofs.lemmas.List.{append-nil}
 use Rattle.std.specs.List.{slice_split}
 use Rattle.std.specs.Option.{option_map}
-use Rattle.std.proofs.lemmas.List.Splits.{length-slice_split}
-use Rattle.cfi_graph.specs.Lines.{addresses_of, hex, length_of, pair_of, site_of}
-
--- a list is cut into one part at least
-pub some_part : {P : Type 0} (separator : ℕ) (rest : List ℕ) → ((part : List ℕ) (parts : List (List ℕ)) → slice_split (λ b. b == separator) rest ≡ part ∷ parts → P) → P
-some_part {P} separator rest go =
-    let Q : List (List ℕ) → Type 0 = λ ws. slice_split (λ b. b == separator) rest ≡ ws → P in
-    let all : (ws : List (List ℕ)) → Q ws = λ ws. elim ws as Q [ [] ↦ λ e. absurd (omega (arith, length-slice_split (λ b. b == separator) rest, ap length e)) | part ∷ parts ↦ λ e. go part parts e ] in
-    all (slice_split (λ b. b == separator) rest) refl
+use Rattle.text_lines.specs.Hex.{hex}
+use Rattle.text_lines.proofs.Cuts.{some_part}
+use Rattle.cfi_graph.specs.Lines.{addresses_of, length_of, pair_of, site_of}
 
 abbrev split : List ℕ → List (List ℕ)
 split line = slice_split (λ b. b == 32) line

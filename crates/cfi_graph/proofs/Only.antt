@@ -1,10 +1,7 @@
 -- The spelling of a graph is read as that graph.
-use Rattle.std.proofs.Common.{◌≡◌, ℕ, ◌+◌, ◌%◌, ◌^◌, ◌<◌, ◌≤◌, ◌==◌, ◌&&◌, true, false, List, [], ◌∷◌, ◌++◌, codes, map, Option, Some, None, Ok, refl, sym, ◌∙◌, ap, inl, inr, arith}
+use Rattle.std.proofs.Common.{◌≡◌, ℕ, ◌+◌, ◌%◌, ◌^◌, ◌<◌, ◌≤◌, ◌==◌, ◌&&◌, true, List, [], ◌∷◌, ◌++◌, codes, map, Option, Some, None, Ok, refl, sym, ◌∙◌, ap, arith}
 use Rattle.std.specs.List.{list_all}
-use Rattle.std.specs.Str.{bytes_eq}
-use Rattle.std.proofs.lemmas.Slice.Eq.{bytes_eq-Decides}
-use Rattle.std.proofs.lemmas.Bool.{and_from, and_parts, cases_Bool, leb-true, ltb-true}
-use Rattle.std.proofs.lemmas.List.Folds.{list_all-append}
+use Rattle.std.proofs.lemmas.Bool.{and_from, and_parts, leb-true, ltb-true}
 use Rattle.std.proofs.Math.Dec.{leb, ltb}
 use Rattle.cfi_graph.specs.declared.line.GraphLine.{GraphLine}
 use Rattle.cfi_graph.specs.declared.line.GraphLine.TheVariants.{Class, Site, Edge, Call}
@@ -12,12 +9,15 @@ use Rattle.cfi_graph.specs.declared.line.SiteKind.{SiteKind}
 use Rattle.cfi_graph.specs.declared.line.SiteKind.TheVariants as kind
 use Rattle.cfi_graph.specs.declared.line.Key.{Key}
 use Rattle.cfi_graph.specs.Graph.{GraphParts, IsGraph, is_code_address, is_code_length, is_label, key_below, key_of, line_in_range, targets_rise}
-use Rattle.cfi_graph.specs.Text.{graph_lines, graph_text, hex_text, kind_name, spaced, words_of_line}
-use Rattle.cfi_graph.specs.Lines.{addresses_of, hex, length_of, line_of, lines_of, words_of}
-use Rattle.cfi_graph.specs.Reading.{after_first, body, checked, from_lines, graph_of, in_order, with_front}
-use Rattle.cfi_graph.proofs.Accepts.{Accepts, end_only, line_first}
-use Rattle.cfi_graph.proofs.Whole.{join_newlines, rises_after, spellings}
-use Rattle.cfi_graph.proofs.Written.{hex_back, hex_plain, lacks, plain, plain_lacks, split_join}
+use Rattle.text_lines.specs.Hex.{hex, hex_text}
+use Rattle.text_lines.specs.Lines.{lines_of, spaced, words_of}
+use Rattle.text_lines.specs.Reading.{after_name, if_right, read}
+use Rattle.text_lines.proofs.Accepts.{Accepts, end_only, line_first, read_back}
+use Rattle.text_lines.proofs.Written.{hex_back, hex_plain, join_newlines, lacks, plain, spaced_line, split_join, words_back}
+use Rattle.cfi_graph.specs.Text.{graph_lines, graph_text, kind_name, words_of_line}
+use Rattle.cfi_graph.specs.Lines.{addresses_of, length_of, line_of}
+use Rattle.cfi_graph.specs.Reading.{after_first, graph_of, graph_rules, in_order}
+use Rattle.cfi_graph.proofs.Whole.{rises_after, spellings}
 
 -- an allowed number has no more digits than are written
 length_small : (len : ℕ) → is_code_length len ≡ true → len ≤ 0x100000
@@ -74,18 +74,6 @@ words_plain (Site a k label) =
 words_plain (Edge from to) = and_from _ _ (hex_plain 8 from) (and_from _ true (hex_plain 8 to) refl)
 words_plain (Call from to) = and_from _ _ (hex_plain 8 from) (and_from _ true (hex_plain 8 to) refl)
 
-all_lack : (separator : ℕ) (words : List (List ℕ)) → separator < 48 → list_all plain words ≡ true → list_all (lacks separator) words ≡ true
-all_lack separator [] h e = refl
-all_lack separator (word ∷ words) h e =
-    let p = and_parts (plain word) (list_all plain words) e in
-    and_from _ _ (plain_lacks separator word h p.0) (all_lack separator words h p.1)
-
--- words without spaces, joined by spaces, are cut into the same words
-words_back : (word : List ℕ) (words : List (List ℕ)) → list_all plain (word ∷ words) ≡ true → words_of (spaced (word ∷ words)) ≡ word ∷ words
-words_back word words e =
-    let p = and_parts (lacks 32 word) (list_all (lacks 32) words) (all_lack 32 (word ∷ words) (omega arith) e) in
-    split_join 32 word words p.0 p.1
-
 line_words_back : (l : GraphLine) → words_of (spaced (words_of_line l)) ≡ words_of_line l
 line_words_back (Class label targets) =
     words_back (codes "class") (hex_text 5 label ∷ map (hex_text 8) targets) (words_plain (Class label targets))
@@ -99,18 +87,6 @@ line_words_back (Call from to) =
 line_back : (len : ℕ) (l : GraphLine) → len ≤ 0x100000 → line_in_range len l ≡ true → line_of (words_of (spaced (words_of_line l))) ≡ Some l
 line_back len l small e = ap line_of (line_words_back l) ∙ named_back len l small e
 
--- words joined by spaces have no newline
-lacks-append : (separator : ℕ) (xs ys : List ℕ) → lacks separator xs ≡ true → lacks separator ys ≡ true → lacks separator (xs ++ ys) ≡ true
-lacks-append separator xs ys p q = list_all-append _ xs ys ∙ and_from _ _ p q
-
-spaced_line : (words : List (List ℕ)) → list_all plain words ≡ true → lacks 10 (spaced words) ≡ true
-spaced_line [] e = refl
-spaced_line (word ∷ []) e =
-    plain_lacks 10 word (omega arith) (and_parts (plain word) true e).0
-spaced_line (word ∷ next ∷ words) e =
-    let p = and_parts (plain word) (list_all plain (next ∷ words)) e in
-    lacks-append 10 word (32 ∷ spaced (next ∷ words)) (plain_lacks 10 word (omega arith) p.0) (spaced_line (next ∷ words) p.1)
-
 lines_lack : (lines : List GraphLine) → list_all (lacks 10) (spellings lines ++ [] ∷ []) ≡ true
 lines_lack [] = refl
 lines_lack (l ∷ lines) = and_from _ _ (spaced_line (words_of_line l) (words_plain l)) (lines_lack lines)
@@ -120,34 +96,13 @@ order_first None l keys t e = (t, e)
 order_first (Some k) l keys t e =
     let p = and_parts (key_below k (key_of l)) _ e in (and_from _ _ t p.0, p.1)
 
-accepts : (len : ℕ) (before : Option Key) (lines : List GraphLine) → len ≤ 0x100000 → list_all (line_in_range len) lines ≡ true → list_all targets_rise lines ≡ true → rises_after before (map key_of lines) ≡ true → Accepts len before (spellings lines ++ [] ∷ []) lines
+accepts : (len : ℕ) (before : Option Key) (lines : List GraphLine) → len ≤ 0x100000 → list_all (line_in_range len) lines ≡ true → list_all targets_rise lines ≡ true → rises_after before (map key_of lines) ≡ true → Accepts (graph_rules len) before (spellings lines ++ [] ∷ []) lines
 accepts len before [] small r t o = end_only
 accepts len before (l ∷ lines) small r t o =
     let p = and_parts (line_in_range len l) (list_all (line_in_range len) lines) r in
     let q = and_parts (targets_rise l) (list_all targets_rise lines) t in
     let s = order_first before l (map key_of lines) q.0 o in
     line_first (line_back len l small p.0) p.0 s.0 (accepts len (Some (key_of l)) lines small p.1 q.1 s.1)
-
--- a line of a graph is not `end`
-not_end : (line : List ℕ) (l : GraphLine) → line_of (words_of line) ≡ Some l → bytes_eq line (codes "end") ≡ false
-unfolding line_of
-not_end line l e =
-    elim (cases_Bool (bytes_eq line (codes "end"))) [
-      | inl t ↦
-          let same : line ≡ codes "end" = (bytes_eq-Decides line (codes "end")).0 t in
-          let none : None ≡ Some l = ap (λ w. line_of (words_of w)) (sym same) ∙ e in
-          absurd cc
-      | inr f ↦ f
-    ]
-
-body_back : {len : ℕ} {before : Option Key} {parts : List (List ℕ)} {lines : List GraphLine} → (number : ℕ) → Accepts len before parts lines → body len before number parts ≡ Ok lines
-unfolding body checked
-body_back number end_only = refl
-body_back {len} {before} number (line_first {line} {l} found range order end_only) =
-    rw (not_end line l found, found, range, order) refl
-body_back {len} {before} number (line_first {line} {l} found range order (line_first {line = second} {parts} {l = m} {lines} f r o rest)) =
-    let again : body len (Some (key_of l)) (number + 1) (second ∷ parts) ≡ Ok (m ∷ lines) = body_back {before = Some (key_of l)} (number + 1) (line_first {line = second} f r o rest) in
-    rw (not_end line l found, found, range, order) (ap (with_front (l ∷ [])) again)
 
 abbrev second_words : List ℕ → List (List ℕ)
 second_words size = codes "code" ∷ codes "40000000" ∷ size ∷ []
@@ -157,9 +112,13 @@ length_back len e =
     let small = length_small len e in
     ap length_of (words_back (codes "code") (codes "40000000" ∷ hex_text 8 len ∷ []) (and_from _ true (hex_plain 8 len) refl)) ∙ hex_back 8 len (omega arith)
 
-body_whole : (len : ℕ) (lines : List GraphLine) → IsGraph (record { code = len; lines = lines }) → body len None 3 (spellings lines ++ [] ∷ []) ≡ Ok lines
+no_end : line_of (words_of (codes "end")) ≡ None
+unfolding line_of
+no_end = refl
+
+body_whole : (len : ℕ) (lines : List GraphLine) → IsGraph (record { code = len; lines = lines }) → read (graph_rules len) None 3 (spellings lines ++ [] ∷ []) ≡ record { items = lines; end = Ok tt }
 body_whole len lines is =
-    body_back 3 (accepts len None lines (length_small len is.length) is.range is.targets is.order)
+    read_back (graph_rules len) no_end 3 (accepts len None lines (length_small len is.length) is.range is.targets is.order)
 
 after_first_back : (len : ℕ) (lines : List GraphLine) → IsGraph (record { code = len; lines = lines }) → after_first (spaced (second_words (hex_text 8 len)) ∷ (spellings lines ++ [] ∷ [])) ≡ Ok (record { code = len; lines = lines })
 unfolding after_first
@@ -167,8 +126,8 @@ after_first_back len [] is = rw (length_back len is.length, is.length, body_whol
 after_first_back len (l ∷ lines) is =
     rw (length_back len is.length, is.length, body_whole len (l ∷ lines) is) refl
 
-from_lines_back : (graph : GraphParts) → IsGraph graph → from_lines (graph_lines graph ++ [] ∷ []) ≡ Ok graph
-unfolding from_lines graph_lines
+from_lines_back : (graph : GraphParts) → IsGraph graph → if_right (after_name (codes "rvcfi-graph 1") (graph_lines graph ++ [] ∷ [])) after_first ≡ Ok graph
+unfolding after_name graph_lines
 from_lines_back graph is = after_first_back graph.code graph.lines is
 
 second_lacks : (len : ℕ) → lacks 10 (spaced (second_words (hex_text 8 len))) ≡ true
@@ -183,4 +142,4 @@ lines_back graph =
 
 pub graph_of-graph_text : (graph : GraphParts) → IsGraph graph → graph_of (graph_text graph) ≡ Ok graph
 unfolding graph_of
-graph_of-graph_text graph is = ap from_lines (lines_back graph) ∙ from_lines_back graph is
+graph_of-graph_text graph is = ap (λ lines. if_right (after_name (codes "rvcfi-graph 1") lines) after_first) (lines_back graph) ∙ from_lines_back graph is

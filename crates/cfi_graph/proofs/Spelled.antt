@@ -9,9 +9,12 @@ use Rattle.std.proofs.lemmas.List.Splits.{join_with_byte-slice_split}
 use Rattle.cfi_graph.specs.declared.line.GraphLine.{GraphLine}
 use Rattle.cfi_graph.specs.declared.line.GraphLine.TheVariants.{Class, Site, Edge, Call}
 use Rattle.cfi_graph.specs.declared.line.SiteKind.{SiteKind}
-use Rattle.cfi_graph.specs.Text.{hex_text, kind_name, spaced, words_of_line}
-use Rattle.cfi_graph.specs.Lines.{addresses_of, class_of, hex, kind_of, length_of, line_of, named, pair_of, site_of, words_of}
-use Rattle.cfi_graph.proofs.Numbers.{and_then, chosen, guarded, hex_spelled, mapped}
+use Rattle.text_lines.specs.Hex.{hex, hex_text}
+use Rattle.text_lines.specs.Lines.{spaced, words_of}
+use Rattle.text_lines.proofs.Numbers.{hex_spelled}
+use Rattle.text_lines.proofs.Options.{and_then, chosen, guarded, mapped}
+use Rattle.cfi_graph.specs.Text.{kind_name, words_of_line}
+use Rattle.cfi_graph.specs.Lines.{addresses_of, class_of, kind_of, length_of, line_of, named, pair_of, site_of}
 
 same_bytes : (xs ys : List ℕ) → bytes_eq xs ys ≡ true → xs ≡ ys
 same_bytes xs ys e = (bytes_eq-Decides xs ys).0 e

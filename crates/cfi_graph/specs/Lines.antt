@@ -1,34 +1,12 @@
--- The lines of a graph's text. A text is cut into lines at its newlines, and a line into words at
--- its spaces; the first word of a line is its name, and the rest has one of four forms.
-use Rattle.std.specs.Prelude.{ℕ, ◌+◌, ◌-◌, ◌*◌, ◌==◌, nat_le, ◌&&◌, if◌then◌else◌, List, [], ◌∷◌, length, codes, Option, Some, None, option_map, option_and_then}
-use Rattle.std.specs.List.{slice_split}
+-- The lines of a graph's text: the first word of a line is its name, and the rest has one of four
+-- forms.
+use Rattle.std.specs.Prelude.{ℕ, ◌&&◌, if◌then◌else◌, List, [], ◌∷◌, codes, Option, Some, None, option_map, option_and_then}
 use Rattle.std.specs.Str.{bytes_eq}
+use Rattle.text_lines.specs.Hex.{hex}
 use Rattle.cfi_graph.specs.declared.line.GraphLine.{GraphLine}
 use Rattle.cfi_graph.specs.declared.line.GraphLine.TheVariants.{Class, Site, Edge, Call}
 use Rattle.cfi_graph.specs.declared.line.SiteKind.{SiteKind}
 use Rattle.cfi_graph.specs.declared.line.SiteKind.TheVariants as kind
-
--- the parts of a text between its newlines; one that ends with a newline has an empty last part
-abbrev pub lines_of : List ℕ → List (List ℕ)
-lines_of text = slice_split (λ b. b == 10) text
-
-abbrev pub words_of : List ℕ → List (List ℕ)
-words_of line = slice_split (λ b. b == 32) line
-
--- the value of a hexadecimal digit in lower case
-abbrev pub digit_value : ℕ → Option ℕ
-digit_value b =
-    if nat_le 48 b && nat_le b 57 then Some (b - 48) else
-    if nat_le 97 b && nat_le b 102 then Some (b - 87) else None
-
--- the number that digits spell after those of the number `high`
-unfoldable pub hex_from : ℕ → List ℕ → Option ℕ
-hex_from high [] = Some high
-hex_from high (b ∷ rest) = option_and_then (λ d. hex_from (16 * high + d) rest) (digit_value b)
-
--- the number that a word of just `count` digits spells
-abbrev pub hex : ℕ → List ℕ → Option ℕ
-hex count word = if length word == count then hex_from 0 word else None
 
 -- the numbers of eight digits that words spell
 unfoldable pub addresses_of : List (List ℕ) → Option (List ℕ)
@@ -75,8 +53,3 @@ abbrev pub length_of : List (List ℕ) → Option ℕ
 length_of (name ∷ start ∷ len ∷ []) =
     if bytes_eq name (codes "code") && bytes_eq start (codes "40000000") then hex 8 len else None
 length_of words = None
-
--- the parts that stand after a separator, where there is one
-abbrev pub parts_after : ℕ → Option (List ℕ) → List (List ℕ)
-parts_after separator None = []
-parts_after separator (Some rest) = slice_split (λ b. b == separator) rest

@@ -6,15 +6,14 @@ ghost use Rattle.cfi_graph.specs.Lines.{
   length_of,
   line_of,
   pair_of,
-  parts_after,
   site_of,
-  words_of,
 };
+ghost use Rattle.text_lines.specs.Lines.{parts_after, words_of};
 
 use crate::line::{GraphLine, SiteKind};
-use crate::words::{cut, hex_of, is_word};
 use rv_word::{NoMemory, Places};
 use std::alloc::Global;
+use text_lines::{cut, hex_of, is_word};
 
 /// The addresses that words spell, or none where a word is no address.
 fn addresses(alloc: Global, words: Option<&[u8]>) -> Result<Option<Places>, NoMemory>

@@ -2,18 +2,15 @@
 //! line that fails with the first reason, and is written back to the same bytes.
 #![tactic(auto)]
 
-pub use end::{GraphEnd, Reason};
 pub use graph::{Graph, GraphLines};
 pub use line::{GraphLine, Key, SiteKind};
 pub use read::read_graph;
 pub use write::write_graph;
 
-mod body;
-mod end;
 mod forms;
 mod graph;
+mod graph_form;
 mod line;
 mod read;
 mod rules;
-pub mod words;
 mod write;

@@ -1,37 +1,15 @@
-ghost use Rattle.std.specs.Prelude.{◌≡◌, ◌<◌, ◌≤◌, [], ◌∷◌, ◌++◌, IfOk, OnOk, Ok};
+ghost use Rattle.std.specs.Prelude.{◌≡◌, [], ◌∷◌, ◌++◌, IfOk, OnOk, Ok};
 ghost use Rattle.std.specs.List.{flat_map};
-ghost use Rattle.cfi_graph.specs.Text.{graph_text, hex_digit, hex_text, spaced, words_of_line};
+ghost use Rattle.text_lines.specs.Hex.{hex_text};
+ghost use Rattle.text_lines.specs.Lines.{spaced};
+ghost use Rattle.cfi_graph.specs.Text.{graph_text, words_of_line};
 ghost use Rattle.cfi_graph.specs.Reading.{graph_of};
 
 use crate::graph::Graph;
 use crate::line::{GraphLine, SiteKind};
 use rv_word::NoMemory;
 use std::alloc::Global;
-
-fn hex_digit(digit: u8) -> u8
-    requires { digit < 16 }
-    ensures { result ≡ hex_digit digit }
-{
-    if digit < 10 {
-        b'0' + digit
-    } else {
-        b'a' - 10 + digit
-    }
-}
-
-/// Adds a space and the last `count` hexadecimal digits of a number.
-fn push_number(out: &mut Vec<u8>, number: u64, count: u32) -> Result<(), NoMemory>
-    requires { count ≤ 16 }
-    ensures { OnOk result (out.new.items ≡ out.old.items ++ 32 ∷ hex_text count number) }
-{
-    out.push(b' ')?;
-    let mut left = count;
-    while left > 0 {
-        left -= 1;
-        out.push(hex_digit((number >> (4 * left) & 0xf) as u8))?;
-    }
-    Ok(())
-}
+use text_lines::push_number;
 
 fn push_numbers(out: &mut Vec<u8>, numbers: &[u64]) -> Result<(), NoMemory>
     ensures { OnOk result

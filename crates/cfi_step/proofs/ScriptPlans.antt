@@ -1,15 +1,13 @@
 -- The changes of one step stand together, since step numbers do not fall.
-use Rattle.std.proofs.Common.{◌≡◌, ℕ, ◌+◌, ◌<◌, ◌≤◌, ◌==◌, false, List, [], ◌∷◌, ◌++◌, length, get_or, drop, take, nat_lt, inl, inr, zero, suc, codes, Option, Some, None, Result, Ok, Err, refl, sym, ap, ◌∙◌, arith}
+use Rattle.std.proofs.Common.{◌≡◌, ℕ, ◌+◌, ◌<◌, ◌≤◌, ◌==◌, false, List, [], ◌∷◌, ◌++◌, length, get_or, drop, take, nat_lt, zero, suc, codes, Ok, refl, sym, ap, ◌∙◌, arith}
 use Rattle.std.specs.List.{All, filter}
-use Rattle.std.proofs.lemmas.Bool.{cases_Bool, ltb-false, ne_eqb}
+use Rattle.std.proofs.lemmas.Bool.{leb-true, ltb-false, ne_eqb}
 use Rattle.std.proofs.lemmas.List.{append-nil, get_or_default, get_or-drop, get_or-take, length-drop, length-take, take-append-drop}
 use Rattle.std.proofs.lemmas.List.Elements.{All-cons, All-head, All-tail, filter-append}
-use Rattle.std.specs.Str.{bytes_eq}
-use Rattle.cfi_graph.specs.Lines.{words_of}
-use Rattle.cfi_step.specs.declared.script_end.ScriptEnd.{ScriptEnd}
-use Rattle.cfi_step.specs.declared.script_line.ScriptLine.{ScriptLine}
+use Rattle.text_lines.proofs.Accepts.{Accepts, end_only, line_first}
+use Rattle.text_lines.proofs.Whole.{text_accepts}
 use Rattle.cfi_step.specs.Script.{Changes, IsScript}
-use Rattle.cfi_step.specs.ScriptText.{at_end, body, changes_from, line_changes, checked, in_range, line_of, with_front, with_line}
+use Rattle.cfi_step.specs.ScriptText.{changes_from, line_changes, script_of, script_rules}
 
 abbrev of_step : ℕ → Changes → Changes
 of_step step changes = filter (λ c. c.0 == step) changes
@@ -56,57 +54,26 @@ first_of_script c rest from up (suc i) (suc j) d p q = up i j d (omega (arith, p
 abbrev pub IsFrom : ℕ → Changes → Type 0
 IsFrom step changes = IsScript changes × All (λ c. step ≤ c.0) changes
 
-line_first : (step address : ℕ) (bytes : List ℕ) (rest : Changes) → IsFrom step rest → IsFrom step (changes_from step address bytes ++ rest)
+line_from : (step address : ℕ) (bytes : List ℕ) (rest : Changes) → IsFrom step rest → IsFrom step (changes_from step address bytes ++ rest)
 unfolding changes_from
-line_first step address [] rest h = h
-line_first step address (byte ∷ bytes) rest h =
-    let others = line_first step (address + 1) bytes rest h in
+line_from step address [] rest h = h
+line_from step address (byte ∷ bytes) rest h =
+    let others = line_from step (address + 1) bytes rest h in
     let first : step ≤ step = omega arith in
     (first_of_script (step, (address, byte)) (changes_from step (address + 1) bytes ++ rest) others.1 others.0, All-cons (λ c. step ≤ c.0) (step, (address, byte)) (changes_from step (address + 1) bytes ++ rest) first others.1)
 
 pub nothing : (step : ℕ) → IsFrom step []
 nothing step = (λ i j d p q. absurd (omega (arith, q)), λ k d q. absurd (omega (arith, q)))
 
-ended : (before number : ℕ) (lines : List (List ℕ)) (changes : Changes) → at_end number lines ≡ Ok changes → IsFrom before changes
-ended before number [] changes e = cc e
-ended before number ([] ∷ []) changes e = let none : [] ≡ changes = cc e in rw (← none) (nothing before)
-ended before number ((b ∷ line) ∷ []) changes e = cc e
-ended before number ([] ∷ next ∷ lines) changes e = cc e
-ended before number ((b ∷ line) ∷ next ∷ lines) changes e = cc e
+-- what is accepted of a text's lines
+accepted : {before : ℕ} {parts : List (List ℕ)} {changes : Changes} → Accepts script_rules before parts changes → IsFrom before changes
+accepted {before} end_only = nothing before
+accepted {before} (line_first {l} {items} found range order rest) =
+    let from = line_from l.step l.address l.bytes items (accepted rest) in
+    let up : before ≤ l.step = leb-true before l.step order in
+    let all : All (λ c. before ≤ c.0) (line_changes l ++ items) = λ k d q. let at = from.1 k d q in omega (arith, at, up) in
+    (from.0, all)
 
--- a line that may stand there has no lower step
-in_order : (before number : ℕ) (o : Option ScriptLine) (l : ScriptLine) → checked before number o ≡ Ok l → before ≤ l.step
-unfolding checked
-in_order before number None l e = cc e
-in_order before number (Some m) l e =
-    elim (cases_Bool (in_range m)) [
-      | inl inside ↦
-          elim (cases_Bool (nat_lt m.step before)) [
-            | inl falls ↦ cc (rw (inside, falls) at e)
-            | inr rises ↦ let same : m ≡ l = cc (rw (inside, rises) at e) in let s = ap (λ x. x.step) same in let up = ltb-false m.step before rises in omega (arith, s, up)
-          ]
-      | inr outside ↦ cc (rw outside at e)
-    ]
-
-fronted : (before : ℕ) (l : ScriptLine) (others : Result Changes ScriptEnd) (changes : Changes) → before ≤ l.step → ((rest : Changes) → others ≡ Ok rest → IsFrom l.step rest) → with_front (line_changes l) others ≡ Ok changes → IsFrom before changes
-fronted before l (Err fault) changes up rest e = cc e
-fronted before l (Ok ls) changes up rest e =
-    let same : line_changes l ++ ls ≡ changes = cc e in
-    let from = line_first l.step l.address l.bytes ls (rest ls refl) in
-    let all : All (λ c. before ≤ c.0) (line_changes l ++ ls) = λ k d q. let at = from.1 k d q in omega (arith, at, up) in
-    rw (← same) (from.0, all)
-
-lined : (before number : ℕ) (o : Option ScriptLine) (r : Result ScriptLine ScriptEnd) (others : ScriptLine → Result Changes ScriptEnd) (changes : Changes) → checked before number o ≡ r → ((l : ScriptLine) (rest : Changes) → others l ≡ Ok rest → IsFrom l.step rest) → with_line r others ≡ Ok changes → IsFrom before changes
-lined before number o (Err fault) others changes c rest e = cc e
-lined before number o (Ok l) others changes c rest e =
-    fronted before l (others l) changes (in_order before number o l c) (rest l) e
-
-pub ordered : (before number : ℕ) (lines : List (List ℕ)) (changes : Changes) → body before number lines ≡ Ok changes → IsFrom before changes
-unfolding body
-ordered before number [] changes e = cc e
-ordered before number (line ∷ []) changes e = cc e
-ordered before number (line ∷ next ∷ rest) changes e =
-    elim (cases_Bool (bytes_eq line (codes "end"))) [
-      | inl last ↦ ended before (number + 1) (next ∷ rest) changes (rw last at e)
-      | inr other ↦ lined before number (line_of (words_of line)) (checked before number (line_of (words_of line))) (λ l. body l.step (number + 1) (next ∷ rest)) changes refl (λ l ls. ordered l.step (number + 1) (next ∷ rest) ls) (rw other at e)
-    ]
+pub ordered : (text : List ℕ) (changes : Changes) → script_of text ≡ Ok changes → IsScript changes
+unfolding script_of
+ordered text changes e = text_accepts script_rules 0 (codes "rvcfi-script 1") text changes e (λ rest begins lines. (accepted lines).0)

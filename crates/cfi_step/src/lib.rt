@@ -2,24 +2,20 @@
 //! the run with its report.
 #![tactic(auto)]
 
-pub use execution::run;
 pub use hostile::Hostile;
 pub use meddler::Meddler;
 pub use record::Record;
 pub use report::{Handler, RunEnd, RunReport};
+pub use runs::run;
 pub use script::Script;
-pub use script_end::ScriptEnd;
-pub use step_number::{MAX_STEP, capped_number};
 
-mod execution;
 mod hostile;
 mod meddler;
 mod record;
 mod report;
 mod running;
+mod runs;
 mod script;
-mod script_end;
+mod script_form;
 mod script_line;
-mod script_read;
-mod step_number;
 mod trail;

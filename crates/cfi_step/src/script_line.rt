@@ -1,41 +1,21 @@
-ghost use Rattle.std.specs.Prelude.{◌≡◌, IfOk, ◌==◌, ◌&&◌, nat_lt, length, slice_index, option_map};
+ghost use Rattle.std.specs.Prelude.{◌≡◌, IfOk, option_map};
 ghost use Rattle.std.specs.List.{list_any};
-ghost use Rattle.cfi_graph.specs.Lines.{words_of};
-ghost use Rattle.cfi_step.specs.ScriptText.{data_of, decimal, line_of, words_after_at};
-ghost use Rattle.cfi_step.specs.ScriptNumbers.{capped, capped_line, is_capital};
+ghost use Rattle.text_lines.specs.Lines.{words_of};
+ghost use Rattle.cfi_step.specs.ScriptText.{data_of, line_of, words_after_at};
+ghost use Rattle.cfi_step.specs.ScriptNumbers.{is_capital};
 
-use crate::step_number::capped_number;
-use cfi_graph::words::{cut, hex_of, is_word};
 use hex::FromHexError;
 use rv_word::{Bytes, NoMemory};
 use std::alloc::Global;
+use text_lines::{cut, decimal_of, hex_of, is_word};
 
-/// A line of a script: the number of steps taken before it, and bytes from an address on.
+/// A line of a script: the number of steps taken before it, and bytes from an address on. Each step that is
+/// too large stands as `MAX_STEP + 1`.
 #[derive(Drop)]
 pub(crate) struct ScriptLine {
     pub(crate) step: u64,
     pub(crate) address: u32,
     pub(crate) bytes: Bytes,
-}
-
-/// Whether a zero stands before other digits.
-fn has_leading_zero(word: &[u8]) -> bool
-    ensures { result ≡ (nat_lt 1 (length word.now) && slice_index word.now 0 == 48) }
-{
-    word.len() > 1 && word[0] == b'0'
-}
-
-/// The number that a word spells in decimal; each that is too large is given as `MAX_STEP + 1`.
-fn decimal(word: &[u8]) -> Option<u64>
-    ensures { result ≡ option_map capped (decimal word.now) }
-{
-    if word.is_empty() {
-        return None;
-    }
-    if has_leading_zero(word) {
-        return None;
-    }
-    capped_number(word)
 }
 
 fn has_capitals(word: &[u8]) -> bool
@@ -80,15 +60,14 @@ fn words_after_at(line: &[u8]) -> Option<(&[u8], &[u8], &[u8])>
     Some((step, address, data))
 }
 
-/// The line that these bytes spell, if they have the form of one; each step that is too large is
-/// given as `MAX_STEP + 1`.
+/// The line that these bytes spell, if they have the form of one.
 pub(crate) fn line_of(alloc: Global, line: &[u8]) -> Result<Option<ScriptLine>, NoMemory>
-    ensures { IfOk result (λ r. r ≡ option_map capped_line (line_of (words_of line.now))) }
+    ensures { IfOk result (λ r. r ≡ line_of (words_of line.now)) }
 {
     let Some((step, address, bytes)) = words_after_at(line) else {
         return Ok(None);
     };
-    let Some(step) = decimal(step) else {
+    let Some(step) = decimal_of(step) else {
         return Ok(None);
     };
     let Some(address) = hex_of(address, 8) else {

@@ -6,10 +6,9 @@ use Rattle.elf_image.specs.Spelling.{spelling}
 use Rattle.cfi_graph.specs.Graph.{GraphParts, IsGraph}
 use Rattle.cfi_graph.specs.Reading.{graph_of}
 use Rattle.cfi_graph.specs.Text.{graph_text}
-use Rattle.cfi_graph.specs.declared.end.GraphEnd.TheVariants as graph_ends
 use Rattle.cfi_step.specs.ScriptText.{script_of}
-use Rattle.cfi_step.specs.declared.script_end.ScriptEnd.{ScriptEnd}
-use Rattle.cfi_step.specs.declared.script_end.ScriptEnd.TheVariants as script_ends
+use Rattle.text_lines.specs.declared.end.TextEnd.{TextEnd}
+use Rattle.text_lines.specs.declared.end.TextEnd.TheVariants.{Line}
 use Rattle.cfi_tool.specs.declared.opening.OpenEnd.{OpenEnd}
 use Rattle.cfi_tool.specs.declared.opening.OpenEnd.TheVariants as ends
 use Rattle.cfi_tool.specs.declared.refusal.Refusal.{Refusal}
@@ -28,7 +27,7 @@ pub record AreRead (image_bytes graph_bytes : List ℕ) (graph : GraphParts) : T
   pub graph_is : graph_of graph_bytes ≡ Ok graph
 
 -- the script that a text spells; without one there are no changes
-abbrev pub script_given : Option (List ℕ) → Result (List (ℕ × (ℕ × ℕ))) ScriptEnd
+abbrev pub script_given : Option (List ℕ) → Result (List (ℕ × (ℕ × ℕ))) TextEnd
 script_given None = Ok []
 script_given (Some text) = script_of text
 
@@ -36,9 +35,9 @@ script_given (Some text) = script_of text
 -- line that fails; without a script none is refused
 abbrev pub IsRefusal : List ℕ → List ℕ → Option (List ℕ) → Refusal → Type 0
 IsRefusal image graph script (Image refusal) = fault_of image ≡ Some refusal
-IsRefusal image graph script (Graph line reason) = (fault_of image ≡ None) × (graph_of graph ≡ Err (graph_ends.Line line reason))
+IsRefusal image graph script (Graph line reason) = (fault_of image ≡ None) × (graph_of graph ≡ Err (Line line reason))
 IsRefusal image graph script (Script line reason) =
-    ((parts : GraphParts) × AreRead image graph parts) × (script_given script ≡ Err (script_ends.Line line reason))
+    ((parts : GraphParts) × AreRead image graph parts) × (script_given script ≡ Err (Line line reason))
 
 -- why the files are not opened; only want of memory is free
 abbrev pub IsOpenEnd : List ℕ → List ℕ → Option (List ℕ) → OpenEnd → Type 0

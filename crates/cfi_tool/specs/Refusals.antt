@@ -1,16 +1,10 @@
 -- The refusals, each with its number. Numbers of lines and refusals are decimal.
 use Rattle.std.specs.Prelude.{ℕ, List, ◌++◌, codes}
 use Rattle.std.specs.Fmt.{decimal}
-use Rattle.cfi_graph.specs.declared.end.Reason.{Reason}
-use Rattle.cfi_graph.specs.declared.end.Reason.TheVariants.{Form, Range, Order}
 use Rattle.elf_image.specs.RefusalText.{refusal_text}
+use Rattle.text_lines.specs.Reasons.{reason_name}
 use Rattle.cfi_tool.specs.declared.refusal.Refusal.{Refusal}
 use Rattle.cfi_tool.specs.declared.refusal.Refusal.TheVariants.{Image, Graph, Script}
-
-abbrev pub reason_name : Reason → List ℕ
-reason_name Form = codes "Form"
-reason_name Range = codes "Range"
-reason_name Order = codes "Order"
 
 -- the number of each refusal
 abbrev pub refusal_number : Refusal → ℕ

@@ -2,11 +2,11 @@ ghost use Rattle.std.specs.Prelude.{None, IfOk, IfErr};
 ghost use Rattle.cfi_tool.specs.Opening.{AreRead, IsOpenEnd, Spell};
 
 use crate::refusal::Refusal;
-use cfi_graph::{Graph, GraphEnd, read_graph};
-use cfi_step::{Script, ScriptEnd};
+use cfi_graph::{Graph, read_graph};
 use elf_image::read_image;
-use rv_word::{Image, NoMemory};
+use rv_word::Image;
 use std::alloc::Global;
+use text_lines::TextEnd;
 
 /// An image and its graph.
 #[derive(Drop)]
@@ -41,7 +41,7 @@ pub(crate) fn open_pair<'a>(
     let _code = image.code();
     match read_graph(alloc, graph) {
         Ok(graph) => Ok(Pair { image, graph }),
-        Err(GraphEnd::Line(line, reason)) => Err(OpenEnd::Refused(Refusal::Graph(line, reason))),
-        Err(GraphEnd::NoMemory) => Err(OpenEnd::NoMemory),
+        Err(TextEnd::Line(line, reason)) => Err(OpenEnd::Refused(Refusal::Graph(line, reason))),
+        Err(TextEnd::NoMemory) => Err(OpenEnd::NoMemory),
     }
 }

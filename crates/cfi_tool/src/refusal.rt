@@ -1,9 +1,9 @@
 ghost use Rattle.std.specs.Prelude.{◌≡◌};
-ghost use Rattle.cfi_tool.specs.Refusals.{reason_name, refusal_number};
+ghost use Rattle.cfi_tool.specs.Refusals.{refusal_number};
 
-use cfi_graph::Reason;
 use elf_image::ImageRefusal;
 use std::fmt;
+use text_lines::Reason;
 
 /// Why a file is not taken for what it should be.
 #[derive(Clone, Copy)]
@@ -29,16 +29,6 @@ impl Refusal {
     }
 }
 
-fn reason_name(reason: Reason) -> &'static str
-    ensures { result.now ≡ reason_name reason }
-{
-    match reason {
-        Reason::Form => "Form",
-        Reason::Range => "Range",
-        Reason::Order => "Order",
-    }
-}
-
 impl fmt::Display for Refusal {
     ghost use Rattle.std.specs.Prelude.{Some};
     ghost use Rattle.cfi_tool.specs.Refusals.{refusal_line};
@@ -47,16 +37,10 @@ impl fmt::Display for Refusal {
 
     fn fmt<W: fmt::Write>(&self, f: &mut fmt::Formatter<W>) -> fmt::Result {
         let number = self.number();
-        match *self {
+        match self {
             Refusal::Image(refusal) => write!(f, "refused {number} {refusal}"),
-            Refusal::Graph(line, reason) => {
-                let reason = reason_name(reason);
-                write!(f, "refused {number} Graph {line} {reason}")
-            }
-            Refusal::Script(line, reason) => {
-                let reason = reason_name(reason);
-                write!(f, "refused {number} Script {line} {reason}")
-            }
+            Refusal::Graph(line, reason) => write!(f, "refused {number} Graph {line} {reason}"),
+            Refusal::Script(line, reason) => write!(f, "refused {number} Script {line} {reason}"),
         }
     }
 }

@@ -1,7 +1,8 @@
-use cfi_step::{Meddler, Script, ScriptEnd};
+use cfi_step::{Meddler, Script};
 use rv_machine::{Change, Machine};
 use rv_word::{Image, NoMemory};
 use std::alloc::{AllocError, Global};
+use text_lines::TextEnd;
 
 /// Texts, and what each is read as, with `~` between two rows.
 const TEXTS: &str = "\
@@ -99,7 +100,7 @@ fn is_read_as(alloc: Global, text: &[u8], expected: &str) -> bool {
 }
 
 /// Whether a refusal is spelled so.
-fn is_spelled(alloc: Global, end: ScriptEnd, expected: &str) -> bool {
+fn is_spelled(alloc: Global, end: TextEnd, expected: &str) -> bool {
     match format!(in alloc; "{end}") {
         Ok(text) => text.as_str() == expected,
         Err(_) => false,

@@ -6,3 +6,6 @@ pub mod Numbers
 pub mod Written
 pub mod Decimals
 pub mod Printed
+pub mod Steps
+pub mod Accepts
+pub mod Whole

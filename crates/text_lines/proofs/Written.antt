@@ -1,13 +1,16 @@
 -- What is written is read back: a number's digits give the number, and the words and lines of a
 -- text are the parts between its separators.
-use Rattle.std.proofs.Common.{◌≡◌, ℕ, zero, suc, ◌+◌, ◌*◌, ◌/◌, ◌%◌, ◌^◌, ◌<◌, ◌≤◌, ◌==◌, Bool, true, false, if◌then◌else◌, List, [], ◌∷◌, length, Some, refl, sym, ◌∙◌, ap, inl, inr, arith}
-use Rattle.std.specs.List.{All, join_with_byte, list_all, slice_split}
+use Rattle.std.proofs.Common.{◌≡◌, ℕ, zero, suc, ◌+◌, ◌*◌, ◌/◌, ◌%◌, ◌^◌, ◌<◌, ◌≤◌, ◌==◌, Bool, true, false, if◌then◌else◌, List, [], ◌∷◌, ◌++◌, length, Some, refl, sym, ◌∙◌, ap, append_assoc, inl, inr, arith}
+use Rattle.std.specs.List.{All, flat_map, join_with_byte, list_all, slice_split}
+use Rattle.std.proofs.lemmas.List.{append-nil}
+use Rattle.std.proofs.lemmas.List.Folds.{list_all-append}
 use Rattle.std.proofs.lemmas.Bool.{and_from, and_parts, eq-eqb, ne_eqb, le-leb, lt-leb, leb-true, cases_lt, lt-ltb, le-ltb}
 use Rattle.std.proofs.lemmas.List.Sums.{AllPass-from_list_all}
 use Rattle.std.proofs.lemmas.List.Splits.{slice_split_at, slice_split_none}
 use Rattle.std.proofs.lemmas.Nat.{shr-shr, mod_below, div_below}
 use Rattle.std.proofs.Math.Dec.{leb}
 use Rattle.text_lines.specs.declared.hexadecimal.Case.TheVariants.{Lower}
+use Rattle.text_lines.specs.Lines.{spaced, words_of}
 use Rattle.text_lines.specs.Hex.{digit_value, hex, hex_digit, hex_from, hex_text}
 
 digit_back : (d : ℕ) → d < 16 → digit_value (hex_digit d) ≡ Some d
@@ -79,3 +82,34 @@ split_join separator word [] first rest =
 split_join separator word (next ∷ words) first rest =
     let parts = and_parts (lacks separator next) (list_all (lacks separator) words) rest in
     slice_split_at (λ b. b == separator) word separator _ (lacks_all separator word first) (eq-eqb separator separator refl) ∙ ap (λ ws. word ∷ ws) (split_join separator next words parts.0 parts.1)
+
+-- words of letters and digits, joined by spaces, are cut into the same words
+all_lack : (separator : ℕ) (words : List (List ℕ)) → separator < 48 → list_all plain words ≡ true → list_all (lacks separator) words ≡ true
+all_lack separator [] h e = refl
+all_lack separator (word ∷ words) h e =
+    let p = and_parts (plain word) (list_all plain words) e in
+    and_from _ _ (plain_lacks separator word h p.0) (all_lack separator words h p.1)
+
+pub words_back : (word : List ℕ) (words : List (List ℕ)) → list_all plain (word ∷ words) ≡ true → words_of (spaced (word ∷ words)) ≡ word ∷ words
+words_back word words e =
+    let p = and_parts (lacks 32 word) (list_all (lacks 32) words) (all_lack 32 (word ∷ words) (omega arith) e) in
+    split_join 32 word words p.0 p.1
+
+-- and have no newline
+lacks-append : (separator : ℕ) (xs ys : List ℕ) → lacks separator xs ≡ true → lacks separator ys ≡ true → lacks separator (xs ++ ys) ≡ true
+lacks-append separator xs ys p q = list_all-append _ xs ys ∙ and_from _ _ p q
+
+pub spaced_line : (words : List (List ℕ)) → list_all plain words ≡ true → lacks 10 (spaced words) ≡ true
+spaced_line [] e = refl
+spaced_line (word ∷ []) e =
+    plain_lacks 10 word (omega arith) (and_parts (plain word) true e).0
+spaced_line (word ∷ next ∷ words) e =
+    let p = and_parts (plain word) (list_all plain (next ∷ words)) e in
+    lacks-append 10 word (32 ∷ spaced (next ∷ words)) (plain_lacks 10 word (omega arith) p.0) (spaced_line (next ∷ words) p.1)
+
+-- lines of which each ends with a newline are lines with newlines between them, and an empty last one
+pub join_newlines : (lines : List (List ℕ)) → join_with_byte 10 (lines ++ [] ∷ []) ≡ flat_map (λ line. line ++ 10 ∷ []) lines
+join_newlines [] = refl
+join_newlines (line ∷ []) = sym (append-nil (line ++ 10 ∷ []))
+join_newlines (line ∷ next ∷ lines) =
+    ap (λ rest. line ++ 10 ∷ rest) (join_newlines (next ∷ lines)) ∙ sym (append_assoc line (10 ∷ []) _)

@@ -3,3 +3,4 @@ pub mod Answers
 pub mod Lines
 pub mod Hex
 pub mod Decimal
+pub mod Reading

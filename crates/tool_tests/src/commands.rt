@@ -2,11 +2,11 @@
 
 use crate::calls::check;
 use crate::pairs::{A, A_GRAPH, image_of, verifies};
-use cfi_graph::Reason;
 use cfi_tool::{Refusal, Verdict};
 use cfi_verify::{Reject, Rule};
 use elf_image::ImageRefusal;
 use std::alloc::Global;
+use text_lines::Reason;
 
 /// Command lines, with the status and the text of each, in the form of `calls::check`.
 const COMMANDS: &[u8] = b"\

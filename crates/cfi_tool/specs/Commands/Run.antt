@@ -12,7 +12,7 @@ use Rattle.cfi_verify.specs.Rules.{IsRejected, IsWellFormed}
 use Rattle.cfi_step.specs.Plan.{planned}
 use Rattle.cfi_step.specs.Report.{IsReport}
 use Rattle.cfi_step.specs.Script.{Changes, script_plan}
-use Rattle.cfi_step.specs.ScriptText.{MAX_STEP, decimal_from}
+use Rattle.text_lines.specs.Decimal.{MAX_STEP, decimal_from}
 use Rattle.cfi_step.specs.declared.report.RunReport.{RunReport}
 use Rattle.cfi_tool.specs.Lines.{with_newline}
 use Rattle.cfi_tool.specs.Opening.{IsRefusal, Spell, script_given}

@@ -1,6 +1,6 @@
 ghost use Rattle.std.specs.Prelude.{◌≡◌, IfOk, IfErr, option_map};
 ghost use Rattle.tool_io.specs.Reading.{CountsReads, IsOnlyRead};
-ghost use Rattle.cfi_step.specs.ScriptText.{Answers};
+ghost use Rattle.text_lines.specs.Answers.{Answers};
 ghost use Rattle.cfi_tool.specs.Lines.{spelled};
 ghost use Rattle.cfi_tool.specs.Opening.{IsOpenEnd, Spell, script_given};
 ghost use Rattle.cfi_tool.specs.Reads.{IsFault, IsStop, IsTooLong};
@@ -13,10 +13,11 @@ use crate::read::{Stop, read_all};
 use crate::refusal::Refusal;
 use crate::report::{end_status, report_text};
 use crate::status;
-use cfi_step::{MAX_STEP, RunReport, Script, ScriptEnd, capped_number, run};
+use cfi_step::{RunReport, Script, run};
 use cfi_verify::{Reject, VerifyEnd, verify};
 use rv_word::NoMemory;
 use std::alloc::Global;
+use text_lines::{MAX_STEP, TextEnd, capped_number};
 use tool_io::Files;
 
 /// What a run is asked for: its files, and how many steps it takes at most.
@@ -101,7 +102,7 @@ impl RunOutcome {
 }
 
 /// The script that a text spells; without a text it has no changes.
-fn script_of(alloc: Global, text: Option<&[u8]>) -> Result<Script, ScriptEnd>
+fn script_of(alloc: Global, text: Option<&[u8]>) -> Result<Script, TextEnd>
     ensures { Answers result (script_given (option_map (λ t. t.now) text.entry)) }
 {
     match text {
@@ -127,8 +128,8 @@ fn open_all<'a>(
     };
     match script_of(alloc, script) {
         Ok(script) => Ok((pair, script)),
-        Err(ScriptEnd::Line(line, reason)) => Err(OpenEnd::Refused(Refusal::Script(line, reason))),
-        Err(ScriptEnd::NoMemory) => Err(OpenEnd::NoMemory),
+        Err(TextEnd::Line(line, reason)) => Err(OpenEnd::Refused(Refusal::Script(line, reason))),
+        Err(TextEnd::NoMemory) => Err(OpenEnd::NoMemory),
     }
 }
 

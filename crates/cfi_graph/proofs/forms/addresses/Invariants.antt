@@ -1,7 +1,7 @@
 use Rattle.std.proofs.Common.{◌≡◌, ◌+◌, ◌++◌, length}
 use Rattle.std.specs.Option.{option_map, option_map_or}
 use Rattle.cfi_graph.specs.Lines.{addresses_of}
-use Rattle.cfi_graph.specs.Lines.{parts_after}
+use Rattle.text_lines.specs.Lines.{parts_after}
 use Rattle.cfi_graph.proofs.forms.addresses.Given as goal
 
 abbrev pub invariant-loop-left : goal.invariant-loop-left

@@ -1,29 +1,40 @@
-use Rattle.std.proofs.Common.{Err, sym, ◌∙◌}
-use Rattle.cfi_graph.specs.declared.end.Reason.TheVariants.{Form}
-use Rattle.cfi_graph.specs.declared.end.GraphEnd.TheVariants.{Line}
-use Rattle.cfi_graph.specs.Reading.{Answers, graph_of}
-use Rattle.cfi_graph.proofs.Heading.{first_alone, first_other, first_right}
+use Rattle.std.proofs.Common.{codes}
+use Rattle.std.proofs.lemmas.Result.{err_from_is_err_and}
+use Rattle.text_lines.specs.Answers.{Answers}
+use Rattle.text_lines.specs.Lines.{lines_of}
+use Rattle.text_lines.specs.Reading.{after_name}
+use Rattle.cfi_graph.specs.Reading.{graph_of}
+use Rattle.text_lines.proofs.Whole.{goes_on, stops}
+use Rattle.cfi_graph.specs.Reading.{after_first}
 use Rattle.cfi_graph.proofs.Laws.{reading}
+use Rattle.cfi_graph.proofs.read.read_graph.Goals.{After-after_first, After-from_residual}
 use Rattle.cfi_graph.proofs.read.read_graph.Goals as goal
 
-pub returns-in_default : goal.returns-in_default
+refused : (c : After-from_residual) → Answers c.from_residual.result (graph_of c.args.text.now)
 unfolding graph_of
-returns-in_default c =
-    let exact = first_alone (rw c.in_default.is at c.cut.ensures.parts) in
-    let laws = reading c.args.text.now (Err (Line 1 Form)) exact in
-    record { exact = exact; allowed = tt; spelled = tt; only = laws.only }
+refused c =
+    let p = err_from_is_err_and c.from_residual.result c.from_residual.ensures.1 in
+    rw (p.1, p.2) (stops (after_name (codes "rvcfi-graph 1") (lines_of c.args.text.now)) c.in_err-rest.field-0.0 after_first c.in_err-rest.ensures)
 
-pub returns-then-not-is_word : goal.returns-then-not-is_word
-unfolding graph_of
-returns-then-not-is_word c =
-    let exact = first_other c.in-Some.rest.now (rw c.in-Some.is at c.cut.ensures.parts) (sym c.is_word.ensures ∙ c.if-not-is_word.true) in
-    let laws = reading c.args.text.now (Err (Line 1 Form)) exact in
-    record { exact = exact; allowed = tt; spelled = tt; only = laws.only }
+pub returns-in_err-rest-clause-exact : goal.returns-in_err-rest-clause-exact
+returns-in_err-rest-clause-exact c = refused c
 
-pub returns : goal.returns
+pub returns-in_err-rest-clause-only : goal.returns-in_err-rest-clause-only
+returns-in_err-rest-clause-only c = (reading c.args.text.now c.from_residual.result (refused c)).only
+
+exact : (c : After-after_first) → Answers c.after_first.result (graph_of c.args.text.now)
 unfolding graph_of
-returns c =
-    let first = first_right c.in-Some.rest.now (rw c.in-Some.is at c.cut.ensures.parts) (sym c.is_word.ensures ∙ c.if-not-is_word.false) in
-    let exact : Answers c.after_first.result (graph_of c.args.text.now) = rw first c.after_first.ensures in
-    let laws = reading c.args.text.now c.after_first.result exact in
-    record { exact = exact; allowed = laws.allowed; spelled = laws.spelled; only = laws.only }
+exact c =
+    goes_on (after_name (codes "rvcfi-graph 1") (lines_of c.args.text.now)) (lines_of c.in_ok-rest.rest.now) after_first c.after_first.result c.in_ok-rest.ensures c.after_first.ensures
+
+pub returns-clause-exact : goal.returns-clause-exact
+returns-clause-exact c = exact c
+
+pub returns-clause-allowed : goal.returns-clause-allowed
+returns-clause-allowed c = (reading c.args.text.now c.after_first.result (exact c)).allowed
+
+pub returns-clause-spelled : goal.returns-clause-spelled
+returns-clause-spelled c = (reading c.args.text.now c.after_first.result (exact c)).spelled
+
+pub returns-clause-only : goal.returns-clause-only
+returns-clause-only c = (reading c.args.text.now c.after_first.result (exact c)).only

@@ -1,6 +1,7 @@
 use Rattle.std.proofs.Common.{◌≡◌, ◌++◌, ◌∷◌, [], take}
 use Rattle.std.specs.List.{flat_map}
-use Rattle.cfi_graph.specs.Text.{spaced, words_of_line}
+use Rattle.cfi_graph.specs.Text.{words_of_line}
+use Rattle.text_lines.specs.Lines.{spaced}
 use Rattle.cfi_graph.proofs.write.push_lines.Given as goal
 
 abbrev pub invariant-loop-line : goal.invariant-loop-line

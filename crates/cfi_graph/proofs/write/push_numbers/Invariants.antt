@@ -1,6 +1,6 @@
 use Rattle.std.proofs.Common.{◌≡◌, ◌++◌, ◌∷◌, take}
 use Rattle.std.specs.List.{flat_map}
-use Rattle.cfi_graph.specs.Text.{hex_text}
+use Rattle.text_lines.specs.Hex.{hex_text}
 use Rattle.cfi_graph.proofs.write.push_numbers.Given as goal
 
 abbrev pub invariant-loop-number : goal.invariant-loop-number

@@ -1,6 +1,6 @@
 use Rattle.std.proofs.Common.{ap, ◌∙◌, ◌++◌, ◌∷◌}
 use Rattle.std.proofs.lemmas.Result.{IfOk-equal}
-use Rattle.cfi_graph.specs.Text.{hex_text}
+use Rattle.text_lines.specs.Hex.{hex_text}
 use Rattle.cfi_graph.proofs.Printed.{class_written}
 use Rattle.cfi_graph.proofs.write.push_words.Goals as goal
 

@@ -1,6 +1,7 @@
 use Rattle.std.proofs.Common.{◌≡◌, ◌∙◌, ap, ◌++◌, ◌∷◌}
 use Rattle.std.specs.List.{flat_map}
-use Rattle.cfi_graph.specs.Text.{graph_text, hex_text}
+use Rattle.cfi_graph.specs.Text.{graph_text}
+use Rattle.text_lines.specs.Hex.{hex_text}
 use Rattle.cfi_graph.proofs.Only.{graph_of-graph_text}
 use Rattle.cfi_graph.proofs.Printed.{graph_written, line_text}
 use Rattle.cfi_graph.proofs.write.write_graph.Goals as goal

@@ -1,32 +1,30 @@
-use Rattle.std.proofs.Common.{◌∙◌, ap, sym}
-use Rattle.std.specs.Option.{option_map}
-use Rattle.cfi_graph.specs.Lines.{words_of}
-use Rattle.cfi_step.specs.ScriptNumbers.{capped_line}
+use Rattle.std.proofs.Common.{◌∙◌, sym}
+use Rattle.text_lines.specs.Lines.{words_of}
 use Rattle.cfi_step.proofs.ScriptDigits.{line_is, no_words}
 use Rattle.cfi_step.proofs.script_line.line_of.Goals as goal
 
 pub returns-in_default : goal.returns-in_default
 returns-in_default c =
     let none = sym (rw c.in_default.is at c.words_after_at.ensures) in
-    sym (ap (option_map capped_line) (no_words _ none))
+    sym (no_words _ none)
 
-pub returns-in_default-decimal : goal.returns-in_default-decimal
-returns-in_default-decimal c =
+pub returns-in_default-decimal_of : goal.returns-in_default-decimal_of
+returns-in_default-decimal_of c =
     let whole = line_is (words_of c.args.line.now) (sym (rw c.in-Some.is at c.words_after_at.ensures)) in
-    let step = sym c.decimal.ensures ∙ c.in_default-decimal.is in
+    let step = sym c.decimal_of.ensures ∙ c.in_default-decimal_of.is in
     sym (rw step at whole)
 
 pub returns-in_default-hex_of : goal.returns-in_default-hex_of
 returns-in_default-hex_of c =
     let whole = line_is (words_of c.args.line.now) (sym (rw c.in-Some.is at c.words_after_at.ensures)) in
-    let step = sym c.decimal.ensures ∙ c.in-Some-decimal.is in
+    let step = sym c.decimal_of.ensures ∙ c.in-Some-decimal_of.is in
     let address = sym c.hex_of.ensures ∙ c.in_default-hex_of.is in
     sym (rw (step, address) at whole)
 
 pub returns-in_default-2 : goal.returns-in_default-2
 returns-in_default-2 c =
     let whole = line_is (words_of c.args.line.now) (sym (rw c.in-Some.is at c.words_after_at.ensures)) in
-    let step = sym c.decimal.ensures ∙ c.in-Some-decimal.is in
+    let step = sym c.decimal_of.ensures ∙ c.in-Some-decimal_of.is in
     let address = sym c.hex_of.ensures ∙ c.in-Some-hex_of.is in
     let bytes = sym c.in_ok-bytes.ensures ∙ c.in_default-2.is in
     sym (rw (step, address, bytes) at whole)
@@ -34,7 +32,7 @@ returns-in_default-2 c =
 pub returns : goal.returns
 returns c =
     let whole = line_is (words_of c.args.line.now) (sym (rw c.in-Some.is at c.words_after_at.ensures)) in
-    let step = sym c.decimal.ensures ∙ c.in-Some-decimal.is in
+    let step = sym c.decimal_of.ensures ∙ c.in-Some-decimal_of.is in
     let address = sym c.hex_of.ensures ∙ c.in-Some-hex_of.is in
     let bytes = sym c.in_ok-bytes.ensures ∙ c.in-Some-2.is in
     sym (rw (step, address, bytes) at whole)

@@ -1,19 +1,29 @@
-use Rattle.std.proofs.Common.{sym, ◌∙◌}
-use Rattle.cfi_step.specs.ScriptText.{script_of}
-use Rattle.cfi_step.proofs.ScriptSteps.{first_alone, first_other, first_right}
+use Rattle.std.proofs.Common.{◌≡◌, Ok, codes}
+use Rattle.std.proofs.lemmas.Result.{err_from_is_err_and}
+use Rattle.text_lines.specs.Reading.{read_text}
+use Rattle.text_lines.proofs.Whole.{ends_items, lines_whole}
+use Rattle.cfi_step.specs.ScriptText.{script_of, script_rules}
+use Rattle.cfi_step.proofs.ScriptPlans.{ordered}
+use Rattle.cfi_step.proofs.script.Script.read.Goals.{In_ok-read_text}
 use Rattle.cfi_step.proofs.script.Script.read.Goals as goal
 
-pub returns-in_default-clause-exact : goal.returns-in_default-clause-exact
+pub returns-in_err-read_text-clause-exact : goal.returns-in_err-read_text-clause-exact
 unfolding script_of
-returns-in_default-clause-exact c = first_alone (rw c.in_default.is at c.cut.ensures.parts)
+returns-in_err-read_text-clause-exact c =
+    let p = err_from_is_err_and c.from_residual.result c.from_residual.ensures.1 in
+    rw (p.1, p.2) (ends_items (read_text script_rules 0 (codes "rvcfi-script 1") c.args.text.now) c.in_err-read_text.field-0.0 c.in_err-read_text.ensures.exact)
 
-pub returns-then-not-is_word-clause-exact : goal.returns-then-not-is_word-clause-exact
+-- the changes that were collected are those that are read
+collected : (c : In_ok-read_text) → script_of c.args.text.now ≡ Ok c.read_text.new.form.changes.items
 unfolding script_of
-returns-then-not-is_word-clause-exact c =
-    first_other c.in-Some.rest.now (rw c.in-Some.is at c.cut.ensures.parts) (sym c.is_word.ensures ∙ c.if-not-is_word.true)
+collected c =
+    lines_whole (read_text script_rules 0 (codes "rvcfi-script 1") c.args.text.now) c.read_text.new.form.changes.items c.in_ok-read_text.ensures.exact (rw c.new.ensures.items at c.in_ok-read_text.ensures.collected)
+
+pub invariant_of-result : goal.invariant_of-result
+invariant_of-result c = ordered c.args.text.now c.read_text.new.form.changes.items (collected c)
 
 pub returns-clause-exact : goal.returns-clause-exact
-unfolding script_of
-returns-clause-exact c =
-    let first = first_right c.in-Some.rest.now (rw c.in-Some.is at c.cut.ensures.parts) (sym c.is_word.ensures ∙ c.if-not-is_word.false) in
-    rw first c.body.ensures
+returns-clause-exact c = collected c
+
+pub returns-clause-ordered : goal.returns-clause-ordered
+returns-clause-ordered c = ordered c.args.text.now c.read_text.new.form.changes.items (collected c)

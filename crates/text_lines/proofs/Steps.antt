@@ -1,0 +1,87 @@
+-- The lines of a text, one step of their reading at a time. `all` is what the whole text gives after
+-- `init`, and `front` what was collected before this line.
+use Rattle.std.proofs.Common.{◌≡◌, ℕ, ◌+◌, true, false, List, [], ◌∷◌, ◌++◌, codes, Result, Ok, Err, refl, sym, ◌∙◌, ap, append_assoc}
+use Rattle.std.specs.List.{join_with_byte}
+use Rattle.std.specs.Str.{bytes_eq}
+use Rattle.std.proofs.lemmas.List.{append-nil}
+use Rattle.std.proofs.lemmas.List.Splits.{join_with_byte-slice_split}
+use Rattle.text_lines.specs.Answers.{Answers, UnlessNoMemory}
+use Rattle.text_lines.specs.Lines.{lines_of, words_of}
+use Rattle.text_lines.specs.Reading.{LineRules, Reading, after_name, at_end, judged, read, refused, with_front}
+use Rattle.text_lines.specs.declared.reason.Reason.TheVariants.{Form}
+use Rattle.text_lines.specs.declared.end.TextEnd.{TextEnd}
+use Rattle.text_lines.specs.declared.end.TextEnd.TheVariants.{Line, NoMemory}
+use Rattle.text_lines.proofs.Cuts.{some_part}
+
+-- what follows a line's newline has a first part
+pub some_line : {P : Type 0} (rest : List ℕ) → ((part : List ℕ) (parts : List (List ℕ)) → lines_of rest ≡ part ∷ parts → P) → P
+some_line rest go = some_part 10 rest go
+
+pub at_end-other : {I : Type 0} (number : ℕ) (lines : List (List ℕ)) → (lines ≡ [] ∷ [] → ⊥) → at_end {Item = I} number lines ≡ refused number Form
+at_end-other number [] ne = refl
+at_end-other number ([] ∷ []) ne = absurd (ne refl)
+at_end-other number ((b ∷ line) ∷ []) ne = refl
+at_end-other number ([] ∷ next ∷ lines) ne = refl
+at_end-other number ((b ∷ line) ∷ next ∷ lines) ne = refl
+
+pub nothing_after : (rest : List ℕ) → lines_of rest ≡ [] ∷ [] → rest ≡ []
+nothing_after rest e = sym (join_with_byte-slice_split 10 rest) ∙ ap (join_with_byte 10) e
+
+-- the reading ends here
+pub record Ends {I : Type 0} (init front : List I) (all : Reading I) (last : Result (Unit {0}) TextEnd) : Type 0 where
+  pub end : all.end ≡ last
+  pub items : front ≡ init ++ all.items
+
+ends : {I : Type 0} (init front : List I) (all : Reading I) (end : Result (Unit {0}) TextEnd) → with_front front (record { items = []; end = end }) ≡ with_front init all → Ends init front all end
+ends {I} init front all end h =
+    record { end = ap (λ (r : Reading I). r.end) (sym h); items = sym (append-nil front) ∙ ap (λ (r : Reading I). r.items) h }
+
+module _ {L B I : Type 0} (rules : LineRules L B I) (before : B) (number : ℕ) (init front : List I) (all : Reading I) where
+  pub no_newline : {parts : List (List ℕ)} {line : List ℕ} → parts ≡ line ∷ [] → with_front front (read rules before number parts) ≡ with_front init all → Ends init front all (Err (Line number Form))
+  unfolding read
+  no_newline p h = ends init front all _ (rw p at h)
+
+  pub the_end : (next : List ℕ) {parts : List (List ℕ)} {line : List ℕ} → parts ≡ line ∷ lines_of next → bytes_eq line (codes "end") ≡ true → next ≡ [] → with_front front (read rules before number parts) ≡ with_front init all → Ends init front all (Ok tt)
+  unfolding read
+  the_end next p e n h = ends init front all _ (rw (p, n, e) at h)
+
+  pub text_after : (next : List ℕ) {parts : List (List ℕ)} {line : List ℕ} → parts ≡ line ∷ lines_of next → bytes_eq line (codes "end") ≡ true → (next ≡ [] → ⊥) → with_front front (read rules before number parts) ≡ with_front init all → Ends init front all (Err (Line (number + 1) Form))
+  unfolding read
+  text_after next p e n h =
+      some_line next (λ part parts q. let other = at_end-other {I = I} (number + 1) (part ∷ parts) (λ r. n (nothing_after next (q ∙ r))) in ends init front all _ (rw (p, q, e, other) at h))
+
+  -- a line that is refused
+  pub bad_line : (n : ℕ) (reason : _) (next : List ℕ) {parts : List (List ℕ)} {line : List ℕ} → parts ≡ line ∷ lines_of next → bytes_eq line (codes "end") ≡ false → judged rules before number (rules.spelled (words_of line)) ≡ Err (Line n reason) → with_front front (read rules before number parts) ≡ with_front init all → Ends init front all (Err (Line n reason))
+  unfolding read
+  bad_line n reason next p e a h =
+      some_line next (λ part parts q. ends init front all _ (rw (p, q, e, a) at h))
+
+  pub bad_line_end : (end : TextEnd) (next : List ℕ) {parts : List (List ℕ)} {line : List ℕ} → parts ≡ line ∷ lines_of next → bytes_eq line (codes "end") ≡ false → Answers {A = L} (Err end) (judged rules before number (rules.spelled (words_of line))) → with_front front (read rules before number parts) ≡ with_front init all → Answers {A = Unit {0}} (Err end) all.end
+  bad_line_end (Line n reason) next p e a h = (bad_line n reason next p e a h).end
+  bad_line_end NoMemory next p e a h = tt
+
+  pub bad_line_items : (end : TextEnd) (next : List ℕ) {parts : List (List ℕ)} {line : List ℕ} → parts ≡ line ∷ lines_of next → bytes_eq line (codes "end") ≡ false → Answers {A = L} (Err end) (judged rules before number (rules.spelled (words_of line))) → with_front front (read rules before number parts) ≡ with_front init all → UnlessNoMemory {A = Unit {0}} (Err end) (front ≡ init ++ all.items)
+  bad_line_items (Line n reason) next p e a h = (bad_line n reason next p e a h).items
+  bad_line_items NoMemory next p e a h = tt
+
+  pub good_line : (next : List ℕ) (l : L) {parts : List (List ℕ)} {line : List ℕ} → parts ≡ line ∷ lines_of next → bytes_eq line (codes "end") ≡ false → judged rules before number (rules.spelled (words_of line)) ≡ Ok l → with_front front (read rules before number parts) ≡ with_front init all → with_front (front ++ rules.items l) (read rules (rules.after l) (number + 1) (lines_of next)) ≡ with_front init all
+  unfolding read
+  good_line next l p e a h =
+      some_line next (λ part parts q. rw q (again (read rules (rules.after l) (number + 1) (part ∷ parts)) (rw (p, q, e, a) at h)))
+    where
+      again : (others : Reading I) → with_front front (with_front (rules.items l) others) ≡ with_front init all → with_front (front ++ rules.items l) others ≡ with_front init all
+      again others k = ap (λ (items : List I). let r : Reading I = record { items = items; end = others.end } in r) (append_assoc front (rules.items l) others.items) ∙ k
+
+-- the first line
+module _ (name : List ℕ) {parts : List (List ℕ)} {line : List ℕ} where
+  pub first_alone : parts ≡ line ∷ [] → after_name name parts ≡ Err (Line 1 Form)
+  unfolding after_name
+  first_alone p = rw p refl
+
+  pub first_other : (rest : List ℕ) → parts ≡ line ∷ lines_of rest → bytes_eq line name ≡ false → after_name name parts ≡ Err (Line 1 Form)
+  unfolding after_name
+  first_other rest p e = some_line rest (λ part others q. rw (p, q, e) refl)
+
+  pub first_right : (rest : List ℕ) → parts ≡ line ∷ lines_of rest → bytes_eq line name ≡ true → after_name name parts ≡ Ok (lines_of rest)
+  unfolding after_name
+  first_right rest p e = some_line rest (λ part others q. rw (p, q, e) refl)
