@@ -1,9 +1,8 @@
 -- A number of steps, of which the reader keeps each that is too large as one.
 use Rattle.std.proofs.Common.{◌≡◌, ℕ, Option, Some, None, refl, arith}
 use Rattle.std.specs.Option.{option_map, option_and_then}
-use Rattle.text_lines.specs.Decimal.{capped}
-use Rattle.text_lines.specs.Decimal.{MAX_STEP}
-use Rattle.cfi_tool.specs.Command.{at_most}
+use Rattle.text_lines.specs.Decimal.{MAX_STEP, capped}
+use Rattle.cfi_tool.specs.Commands.Run.{at_most}
 
 capped_at_most : (n : ℕ) → at_most MAX_STEP n ≡ at_most MAX_STEP (capped n)
 capped_at_most n = grind (arith)

@@ -1,7 +1,9 @@
 -- Reading the files that the words name, one after the other.
-use Rattle.std.specs.Prelude.{◌≡◌, ◌⊎◌, ◌≤◌, ◌<◌, ◌^◌, ℕ, List, [], ◌∷◌, length, ⊤, Option, Some, None, IfSome, Result, Ok, Err}
-use Rattle.cfi_tool.specs.declared.read.Unread.{Unread}
-use Rattle.cfi_tool.specs.declared.read.Unread.TheVariants.{Fault, TooLong, NoMemory}
+use Rattle.std.specs.Prelude.{◌≡◌, ◌⊎◌, ◌≤◌, ◌<◌, ◌++◌, ◌^◌, ℕ, List, [], ◌∷◌, codes, length, ⊤, Option, Some, None, IfSome, Result, Ok, Err}
+use Rattle.cfi_tool.specs.declared.read.Stop.{Stop}
+use Rattle.cfi_tool.specs.declared.read.Stop.TheVariants as stop
+use Rattle.cfi_tool.specs.declared.read.Unread.{Unread as UnreadFile}
+use Rattle.cfi_tool.specs.declared.read.Unread.TheVariants.{Fault, TooLong}
 
 -- how many bytes a file may have
 abbrev pub file_limit : ℕ
@@ -16,37 +18,55 @@ pub record Gave (held : Option (List ℕ)) (bytes : List ℕ) : Type 0 where
   pub all : IfSome held (λ told. bytes ≡ told)
   pub within : length bytes ≤ file_limit
 
--- no file was named, or its read gave these bytes
-abbrev pub GaveIfNamed : Content → Option (List ℕ) → Option (List ℕ) → Type 0
-GaveIfNamed content None None = ⊤
-GaveIfNamed content None (Some bytes) = ⊥
-GaveIfNamed content (Some name) None = ⊥
-GaveIfNamed content (Some name) (Some bytes) = Gave (content name) bytes
+-- a file was named, and its read gave these bytes; where none was named there are none
+abbrev pub GaveNamed : Content → Option (List ℕ) → List ℕ → Type 0
+GaveNamed content None bytes = bytes ≡ []
+GaveNamed content (Some name) bytes = Gave (content name) bytes
+
+-- so each of several names, in their order
+abbrev pub GaveAll : Content → List (Option (List ℕ)) → List (List ℕ) → Type 0
+GaveAll content [] [] = ⊤
+GaveAll content [] (bytes ∷ others) = ⊥
+GaveAll content (name ∷ names) [] = ⊥
+GaveAll content (name ∷ names) (bytes ∷ others) = GaveNamed content name bytes × GaveAll content names others
 
 -- the read of a name is reached: each file before it gave its bytes
-abbrev pub IsReached : Content → List (List ℕ) → List ℕ → Type 0
+abbrev pub IsReached : Content → List (Option (List ℕ)) → List ℕ → Type 0
 IsReached content [] name = ⊥
-IsReached content (first ∷ rest) name =
-    (name ≡ first) ⊎ (((bytes : List ℕ) × Gave (content first) bytes) × IsReached content rest name)
+IsReached content (None ∷ names) name = IsReached content names name
+IsReached content (Some first ∷ names) name =
+    (name ≡ first) ⊎ (((bytes : List ℕ) × Gave (content first) bytes) × IsReached content names name)
 
 -- a file holds more than it may, where that is told
 abbrev pub IsLong : Option (List ℕ) → Type 0
 IsLong held = IfSome held (λ bytes. file_limit < length bytes)
 
--- why a read of these files gave no bytes; `failed` is the name of the last read that failed
-abbrev pub IsUnread : Content → List ℕ → List (List ℕ) → Unread → Type 0
+-- why the read of one of these names gave no bytes; `failed` is the name of the last read that failed
+abbrev pub IsUnread : Content → List ℕ → List (Option (List ℕ)) → UnreadFile → Type 0
 IsUnread content failed names (Fault name) = IsReached content names name.now × (failed ≡ name.now)
 IsUnread content failed names (TooLong name) = IsReached content names name.now × IsLong (content name.now)
-IsUnread content failed names NoMemory = ⊤
 
-abbrev pub IsFault : {A : Type 0} → Result A Unread → Type 0
+-- why a command that reads these names stopped; only want of memory is free
+abbrev pub IsStop : Content → List ℕ → List (Option (List ℕ)) → Stop → Type 0
+IsStop content failed names (stop.Unread unread) = IsUnread content failed names unread
+IsStop content failed names stop.NoMemory = ⊤
+
+abbrev pub IsFault : {A : Type 0} → Result A Stop → Type 0
 IsFault (Ok x) = ⊥
-IsFault (Err (Fault name)) = ⊤
-IsFault (Err (TooLong name)) = ⊥
-IsFault (Err NoMemory) = ⊥
+IsFault (Err (stop.Unread (Fault name))) = ⊤
+IsFault (Err (stop.Unread (TooLong name))) = ⊥
+IsFault (Err stop.NoMemory) = ⊥
 
-abbrev pub IsLongRead : {A : Type 0} → Result A Unread → Type 0
-IsLongRead (Ok x) = ⊥
-IsLongRead (Err (Fault name)) = ⊥
-IsLongRead (Err (TooLong name)) = ⊤
-IsLongRead (Err NoMemory) = ⊥
+abbrev pub IsTooLong : {A : Type 0} → Result A Stop → Type 0
+IsTooLong (Ok x) = ⊥
+IsTooLong (Err (stop.Unread (Fault name))) = ⊥
+IsTooLong (Err (stop.Unread (TooLong name))) = ⊤
+IsTooLong (Err stop.NoMemory) = ⊥
+
+abbrev pub unread_line : UnreadFile → List ℕ
+unread_line (Fault name) = codes "read fault " ++ name.now
+unread_line (TooLong name) = codes "too long " ++ name.now
+
+abbrev pub unread_status : UnreadFile → ℕ
+unread_status (Fault name) = 3
+unread_status (TooLong name) = 6

@@ -1,17 +1,19 @@
-ghost use Rattle.std.specs.Prelude.{◌≡◌, ◌↔◌, ◌≢◌, ◌⊎◌, ◌<◌, ◌≤◌, ℕ, List, None, IfOk, OnOk};
+ghost use Rattle.std.specs.Prelude.{◌≡◌, ◌≢◌, ◌⊎◌, ◌<◌, ◌≤◌, ℕ, List, None, IfOk, OnOk};
 ghost use Rattle.std.specs.Io.KnownBytes.{Appends, Keeps};
 ghost use Rattle.tool_io.specs.Faults.{Counts, Rose};
-ghost use Rattle.cfi_tool.specs.Causes.{Explains, IsPart, IsReadFault, IsTooLong};
-ghost use Rattle.cfi_tool.specs.Command.{RunWords, request_of, run, spelled, verify};
-ghost use Rattle.cfi_tool.specs.Headline.{IsAccepted, IsRan};
+ghost use Rattle.tool_io.specs.Reading.{CountsReads, IsOnlyRead};
+ghost use Rattle.cfi_tool.specs.Commands.Run.{IsRan, RunWords};
+ghost use Rattle.cfi_tool.specs.Commands.Verify.{IsAccepted, VerifyWords};
+ghost use Rattle.cfi_tool.specs.Explains.{Explains, IsPart, IsReadFault, IsTooLongFile};
+ghost use Rattle.cfi_tool.specs.Lines.{spelled};
 ghost use Rattle.cfi_tool.specs.Outcomes.{outcome_status, outcome_text};
+ghost use Rattle.cfi_tool.specs.Request.{request_of, run, verify};
 ghost use Rattle.cfi_tool.specs.declared.outcome.Outcome.{Outcome};
 
-use crate::outcome::{Notice, Outcome};
-use crate::request::{Request, requested};
-use crate::run_files::run_files;
+use crate::outcome::Outcome;
+use crate::read::Stop;
+use crate::request::requested;
 use crate::status;
-use crate::verify::verify_files;
 use rv_word::NoMemory;
 use std::alloc::Global;
 use tool_io::{Files, OutEnd, Sink};
@@ -24,20 +26,16 @@ fn command<'a, F: Files>(
 ) -> Result<Outcome<'a>, NoMemory>
     ensures explained { IfOk result
         (Explains (F.content files.old) (F.failed_name files.new) (spelled words.now)) }
-    ensures reads { IfOk result
-        (λ o. Counts (IsReadFault o) (F.read_faults files.old) (F.read_faults files.new)) }
-    ensures long_reads { IfOk result
-        (λ o. Counts (IsTooLong o) (F.long_reads files.old) (F.long_reads files.new)) }
-    ensures reads_later { F.read_faults files.old ≤ F.read_faults files.new }
-    ensures long_reads_later { F.long_reads files.old ≤ F.long_reads files.new }
-    ensures writes { F.write_faults files.new ≡ F.write_faults files.old }
-    ensures kept { (name : List ℕ) → F.content files.new name ≡ F.content files.old name }
-    ensures absence_kept { (name : List ℕ) → F.is_absent files.new name ↔ F.is_absent files.old name }
+    ensures only_read { IsOnlyRead F.Files files.old files.new }
+    ensures counted { CountsReads F.Files files.old files.new (IsReadFault result) (IsTooLongFile result) }
 {
-    match requested(words) {
-        None => Ok(Outcome::Told(Notice::Usage)),
-        Some(Request::Verify(image, graph)) => verify_files(alloc, image, graph, files),
-        Some(Request::Run(request)) => run_files(alloc, &request, files),
+    let Some(request) = requested(words) else {
+        return Ok(Outcome::Usage);
+    };
+    match request.answer(alloc, files) {
+        Ok(outcome) => Ok(outcome),
+        Err(Stop::Unread(unread)) => Ok(Outcome::Unread(unread)),
+        Err(Stop::NoMemory) => Err(NoMemory),
     }
 }
 
@@ -63,14 +61,8 @@ fn put_text<K: Sink>(alloc: Global, outcome: &Outcome<'_>, out: &mut K) -> Resul
 /// handler, 11 where it broke or a load failed, and 12 where it took as many steps as it may. Its text
 /// is put last, in one piece.
 pub fn rvcfi<F: Files, K: Sink>(alloc: Global, words: &[String], files: &mut F, out: &mut K) -> u8
-    // Each file is as before, and none is made or removed.
-    ensures files_kept { (name : List ℕ) → F.content files.new name ≡ F.content files.old name }
-    ensures absence_kept { (name : List ℕ) → F.is_absent files.new name ↔ F.is_absent files.old name }
-    ensures no_write { F.write_faults files.new ≡ F.write_faults files.old }
-
-    // No count of faults falls.
-    ensures read_faults_later { F.read_faults files.old ≤ F.read_faults files.new }
-    ensures long_reads_later { F.long_reads files.old ≤ F.long_reads files.new }
+    // Each file is as before, none is made or removed, and no count of faults falls.
+    ensures only_read { IsOnlyRead F.Files files.old files.new }
     ensures write_faults_later { K.faults out.old ≤ K.faults out.new }
 
     // All but 4 and 5: the status and the text of an outcome that has its cause.
@@ -80,8 +72,8 @@ pub fn rvcfi<F: Files, K: Sink>(alloc: Global, words: &[String], files: &mut F, 
         × Appends (K.written out.old) (K.written out.new) (outcome_text outcome) }
 
     // 0 of `verify`: the files spell an image and a graph that are safe.
-    ensures accepted { result ≡ 0 → (image graph : List ℕ) → request_of (spelled words.now) ≡ Some (verify image graph)
-        → (text : List ℕ) × IsAccepted (F.content files.old) image graph text × Appends (K.written out.old) (K.written out.new) text }
+    ensures accepted { result ≡ 0 → (asks : VerifyWords) → request_of (spelled words.now) ≡ Some (verify asks)
+        → (text : List ℕ) × IsAccepted (F.content files.old) asks text × Appends (K.written out.old) (K.written out.new) text }
 
     // 0 and from 10 on of `run`: the files spell such a pair, and the text is the report of its run.
     ensures ran { (result ≡ 0) ⊎ (10 ≤ result) → (asks : RunWords) → request_of (spelled words.now) ≡ Some (run asks)

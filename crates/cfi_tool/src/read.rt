@@ -1,9 +1,11 @@
-ghost use Rattle.std.specs.Prelude.{◌≡◌, ◌↔◌, ◌∷◌, ◌++◌, [], ℕ, List, IfOk, IfErr, option_map};
-ghost use Rattle.tool_io.specs.Faults.{Counts};
-ghost use Rattle.cfi_tool.specs.Command.{listed};
-ghost use Rattle.cfi_tool.specs.Reads.{Gave, GaveIfNamed, IsFault, IsLongRead, IsUnread};
+ghost use Rattle.std.specs.Prelude.{◌≡◌, ◌∷◌, [], IfOk, IfErr, length, map, option_map, vec_len};
+ghost use Rattle.tool_io.specs.Reading.{CountsReads, IsOnlyRead};
+ghost use Rattle.cfi_tool.specs.Reads.{GaveAll, GaveNamed, IsFault, IsStop, IsTooLong, unread_status};
 
-use std::alloc::Global;
+use crate::status;
+use rv_word::NoMemory;
+use std::alloc::{AllocFailed, Global};
+use std::fmt;
 use tool_io::{Files, ReadEnd};
 
 /// How many bytes a file may have.
@@ -16,99 +18,103 @@ pub(crate) enum Unread<'a> {
     Fault(&'a str),
     /// The file of this name has too many bytes.
     TooLong(&'a str),
+}
+
+impl Unread<'_> {
+    /// The status with which the program ends.
+    pub(crate) fn status(&self) -> u8
+        ensures { result ≡ unread_status self.now }
+    {
+        match self {
+            Unread::Fault(_) => status::READ_FAULT,
+            Unread::TooLong(_) => status::TOO_LONG,
+        }
+    }
+}
+
+impl fmt::Display for Unread<'_> {
+    ghost use Rattle.std.specs.Prelude.{Some};
+    ghost use Rattle.cfi_tool.specs.Reads.{unread_line};
+
+    ghost output = { λ unread. Some (unread_line unread) };
+
+    fn fmt<W: fmt::Write>(&self, f: &mut fmt::Formatter<W>) -> fmt::Result {
+        match self {
+            Unread::Fault(name) => write!(f, "read fault {name}"),
+            Unread::TooLong(name) => write!(f, "too long {name}"),
+        }
+    }
+}
+
+/// Why a command came to no outcome of its own.
+#[derive(Clone, Copy)]
+pub(crate) enum Stop<'a> {
+    /// A file was not read.
+    Unread(Unread<'a>),
     NoMemory,
 }
 
-/// The bytes of a file.
-fn read<'a, F: Files>(alloc: Global, name: &'a str, files: &mut F) -> Result<Vec<u8>, Unread<'a>>
-    ensures gave { IfOk result (λ v. Gave (F.content files.old name.now) v.items) }
-    ensures unread { IfErr result (IsUnread (F.content files.old) (F.failed_name files.new) (name.now ∷ [])) }
-    ensures reads { Counts (IsFault result) (F.read_faults files.old) (F.read_faults files.new) }
-    ensures long_reads { Counts (IsLongRead result) (F.long_reads files.old) (F.long_reads files.new) }
-    ensures writes { F.write_faults files.new ≡ F.write_faults files.old }
-    ensures kept { (other : List ℕ) → F.content files.new other ≡ F.content files.old other }
-    ensures absence_kept { (other : List ℕ) → F.is_absent files.new other ↔ F.is_absent files.old other }
-{
-    match files.read(alloc, name, LIMIT) {
-        Ok(bytes) => Ok(bytes),
-        Err(ReadEnd::Failed) => Err(Unread::Fault(name)),
-        Err(ReadEnd::TooLong) => Err(Unread::TooLong(name)),
-        Err(ReadEnd::NoMemory) => Err(Unread::NoMemory),
+impl From<NoMemory> for Stop<'_> {
+    ghost use Rattle.std.specs.Prelude.{◌≡◌};
+    ghost use Rattle.cfi_tool.specs.declared.read.Stop.TheVariants as stop;
+
+    ghost from_gives = { λ _ s. s ≡ stop.NoMemory };
+
+    fn from(_: NoMemory) -> Self {
+        Stop::NoMemory
     }
 }
 
-/// The bytes of an image and of its graph, read in this order.
-pub(crate) fn read_pair<'a, F: Files>(
-    alloc: Global,
-    image: &'a str,
-    graph: &'a str,
-    files: &mut F,
-) -> Result<(Vec<u8>, Vec<u8>), Unread<'a>>
-    ensures image { IfOk result (λ r. Gave (F.content files.old image.now) r.0.items) }
-    ensures graph { IfOk result (λ r. Gave (F.content files.old graph.now) r.1.items) }
-    ensures unread { IfErr result (IsUnread (F.content files.old) (F.failed_name files.new) (image.now ∷ graph.now ∷ [])) }
-    ensures reads { Counts (IsFault result) (F.read_faults files.old) (F.read_faults files.new) }
-    ensures long_reads { Counts (IsLongRead result) (F.long_reads files.old) (F.long_reads files.new) }
-    ensures writes { F.write_faults files.new ≡ F.write_faults files.old }
-    ensures kept { (other : List ℕ) → F.content files.new other ≡ F.content files.old other }
-    ensures absence_kept { (other : List ℕ) → F.is_absent files.new other ↔ F.is_absent files.old other }
-{
-    let image = match read(alloc, image, files) {
-        Ok(bytes) => bytes,
-        Err(unread) => return Err(unread),
-    };
-    match read(alloc, graph, files) {
-        Ok(graph) => Ok((image, graph)),
-        Err(unread) => Err(unread),
+impl<T: Drop> From<AllocFailed<T>> for Stop<'_> {
+    ghost use Rattle.std.specs.Prelude.{◌≡◌};
+    ghost use Rattle.cfi_tool.specs.declared.read.Stop.TheVariants as stop;
+
+    ghost from_gives = { λ _ s. s ≡ stop.NoMemory };
+
+    fn from(_: AllocFailed<T>) -> Self {
+        Stop::NoMemory
     }
 }
 
-/// The bytes of a file, if one is named.
-fn read_if_named<'a, F: Files>(
+/// The bytes of a file, if one is named; else none.
+fn read_named<'a, F: Files>(
     alloc: Global,
     name: Option<&'a str>,
     files: &mut F,
-) -> Result<Option<Vec<u8>>, Unread<'a>>
-    ensures gave { IfOk result (λ v. GaveIfNamed (F.content files.old) (option_map (λ n. n.now) name.entry) (option_map (λ b. b.items) v)) }
-    ensures unread { IfErr result (IsUnread (F.content files.old) (F.failed_name files.new) (listed (option_map (λ n. n.now) name.entry))) }
-    ensures reads { Counts (IsFault result) (F.read_faults files.old) (F.read_faults files.new) }
-    ensures long_reads { Counts (IsLongRead result) (F.long_reads files.old) (F.long_reads files.new) }
-    ensures writes { F.write_faults files.new ≡ F.write_faults files.old }
-    ensures kept { (other : List ℕ) → F.content files.new other ≡ F.content files.old other }
-    ensures absence_kept { (other : List ℕ) → F.is_absent files.new other ↔ F.is_absent files.old other }
+) -> Result<Vec<u8>, Stop<'a>>
+    ensures gave { IfOk result (λ v. GaveNamed (F.content files.old) (option_map (λ n. n.now) name.entry) v.items) }
+    ensures stopped { IfErr result (IsStop (F.content files.old) (F.failed_name files.new) (option_map (λ n. n.now) name.entry ∷ [])) }
+    ensures only_read { IsOnlyRead F.Files files.old files.new }
+    ensures counted { CountsReads F.Files files.old files.new (IsFault result) (IsTooLong result) }
 {
-    match name {
-        None => Ok(None),
-        Some(name) => match read(alloc, name, files) {
-            Ok(bytes) => Ok(Some(bytes)),
-            Err(unread) => Err(unread),
-        },
+    let Some(name) = name else {
+        return Ok(Vec::new(alloc));
+    };
+    match files.read(alloc, name, LIMIT) {
+        Ok(bytes) => Ok(bytes),
+        Err(ReadEnd::Failed) => Err(Stop::Unread(Unread::Fault(name))),
+        Err(ReadEnd::TooLong) => Err(Stop::Unread(Unread::TooLong(name))),
+        Err(ReadEnd::NoMemory) => Err(Stop::NoMemory),
     }
 }
 
-/// The bytes of a script and of an input, as far as they are named, read in this order.
-pub(crate) fn read_named<'a, F: Files>(
+/// The bytes of the files of these names, which are read in this order; none where no file is named.
+pub(crate) fn read_all<'a, F: Files>(
     alloc: Global,
-    script: Option<&'a str>,
-    input: Option<&'a str>,
+    names: &[Option<&'a str>],
     files: &mut F,
-) -> Result<(Option<Vec<u8>>, Option<Vec<u8>>), Unread<'a>>
-    ensures script { IfOk result (λ r. GaveIfNamed (F.content files.old) (option_map (λ n. n.now) script.entry) (option_map (λ b. b.items) r.0)) }
-    ensures input { IfOk result (λ r. GaveIfNamed (F.content files.old) (option_map (λ n. n.now) input.entry) (option_map (λ b. b.items) r.1)) }
-    ensures unread { IfErr result (IsUnread (F.content files.old) (F.failed_name files.new)
-        (listed (option_map (λ n. n.now) script.entry) ++ listed (option_map (λ n. n.now) input.entry))) }
-    ensures reads { Counts (IsFault result) (F.read_faults files.old) (F.read_faults files.new) }
-    ensures long_reads { Counts (IsLongRead result) (F.long_reads files.old) (F.long_reads files.new) }
-    ensures writes { F.write_faults files.new ≡ F.write_faults files.old }
-    ensures kept { (other : List ℕ) → F.content files.new other ≡ F.content files.old other }
-    ensures absence_kept { (other : List ℕ) → F.is_absent files.new other ↔ F.is_absent files.old other }
+) -> Result<Vec<Vec<u8>>, Stop<'a>>
+    ensures count { IfOk result (λ all. vec_len all ≡ length names.now) }
+    ensures gave { IfOk result (λ all. GaveAll (F.content files.old)
+        (map (option_map (λ n. n.now)) names.now) (map (λ b. b.items) all.items)) }
+    ensures stopped { IfErr result (IsStop (F.content files.old) (F.failed_name files.new)
+        (map (option_map (λ n. n.now)) names.now)) }
+    ensures only_read { IsOnlyRead F.Files files.old files.new }
+    ensures counted { CountsReads F.Files files.old files.new (IsFault result) (IsTooLong result) }
 {
-    let script = match read_if_named(alloc, script, files) {
-        Ok(script) => script,
-        Err(unread) => return Err(unread),
-    };
-    match read_if_named(alloc, input, files) {
-        Ok(input) => Ok((script, input)),
-        Err(unread) => Err(unread),
+    let mut all = Vec::new(alloc);
+    for name in names {
+        all.push(read_named(alloc, *name, files)?)?;
     }
+    Ok(all)
 }

@@ -2,12 +2,12 @@ ghost use Rattle.std.specs.Prelude.{◌≡◌, ◌++◌, codes, IfOk, OnOk};
 ghost use Rattle.text_lines.specs.Hex.{hex_text};
 ghost use Rattle.cfi_tool.specs.ReportText.{end_status, handler_name, report_end, report_head, report_text, trail_text};
 
-use crate::address::{Address, LongAddress};
 use crate::status;
 use cfi_step::{Handler, RunEnd, RunReport};
 use rv_word::NoMemory;
 use std::alloc::Global;
 use std::fmt;
+use text_lines::{Address, LongAddress};
 
 /// The symbol of a handler.
 fn handler_name(handler: Handler) -> &'static str

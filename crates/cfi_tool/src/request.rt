@@ -1,71 +1,54 @@
-ghost use Rattle.std.specs.Prelude.{◌≡◌, option_map};
-ghost use Rattle.std.specs.Str.{bytes_eq};
-ghost use Rattle.cfi_tool.specs.Command.{file_word, request_of, spelled, steps_of};
-ghost use Rattle.cfi_tool.specs.Asked.{asked};
+ghost use Rattle.std.specs.Prelude.{◌≡◌, IfOk, IfErr, option_map};
+ghost use Rattle.tool_io.specs.Reading.{CountsReads, IsOnlyRead};
+ghost use Rattle.cfi_tool.specs.Explains.{ExplainsRequest};
+ghost use Rattle.cfi_tool.specs.Lines.{spelled};
+ghost use Rattle.cfi_tool.specs.Reads.{IsFault, IsStop, IsTooLong};
+ghost use Rattle.cfi_tool.specs.Request.{asked, names_of, request_of};
 
-use text_lines::{MAX_STEP, capped_number};
-
-/// What a run is asked for: its files, and how many steps it takes at most.
-#[derive(Clone, Copy)]
-pub(crate) struct RunRequest<'a> {
-    pub(crate) image: &'a str,
-    pub(crate) graph: &'a str,
-    pub(crate) script: Option<&'a str>,
-    pub(crate) input: Option<&'a str>,
-    pub(crate) limit: u64,
-}
+use crate::commands::run::{RunRequest, run_files};
+use crate::commands::verify::{VerifyRequest, verify_files};
+use crate::outcome::Outcome;
+use crate::read::Stop;
+use std::alloc::Global;
+use tool_io::Files;
 
 /// What the words of a command line ask for.
 #[derive(Clone, Copy)]
 pub(crate) enum Request<'a> {
-    /// An image and its graph are verified.
-    Verify(&'a str, &'a str),
+    Verify(VerifyRequest<'a>),
     Run(RunRequest<'a>),
 }
 
-/// The name of a file, if the word is one.
-fn file_word(word: &str) -> Option<&str>
-    ensures { option_map (λ name. name.now) result ≡ file_word word.now }
-{
-    if word == "none" { None } else { Some(word) }
-}
-
-/// The number of steps that a word asks for.
-#[tactic(auto, using(crate::proofs::Steps::steps_capped))]
-fn steps(word: &str) -> Option<u64>
-    ensures { result ≡ steps_of word.now }
-{
-    let digits = word.as_bytes();
-    if digits.is_empty() || digits.len() > 10 {
-        return None;
-    }
-    let steps = capped_number(digits)?;
-    if steps <= MAX_STEP { Some(steps) } else { None }
-}
-
 /// What the words ask for, if they are taken.
-pub(crate) fn requested<'a>(words: &'a [String]) -> Option<Request<'a>>
+pub(crate) fn requested(words: &[String]) -> Option<Request<'_>>
     ensures { option_map asked result ≡ request_of (spelled words.now) }
 {
-    match words {
-        [_, command, image, graph] => {
-            if command.as_str() != "verify" {
-                return None;
-            }
-            Some(Request::Verify(image.as_str(), graph.as_str()))
-        }
-        [_, command, image, graph, script, input, limit] => {
-            if command.as_str() != "run" {
-                return None;
-            }
-            Some(Request::Run(RunRequest {
-                image: image.as_str(),
-                graph: graph.as_str(),
-                script: file_word(script.as_str()),
-                input: file_word(input.as_str()),
-                limit: steps(limit.as_str())?,
-            }))
-        }
+    let [_, command, words @ ..] = words else {
+        return None;
+    };
+    match command.as_str() {
+        "verify" => Some(Request::Verify(VerifyRequest::of(words)?)),
+        "run" => Some(Request::Run(RunRequest::of(words)?)),
         _ => None,
+    }
+}
+
+impl<'a> Request<'a> {
+    /// What the command comes to, unless it stops at one of its files.
+    pub(crate) fn answer<F: Files>(
+        &self,
+        alloc: Global,
+        files: &mut F,
+    ) -> Result<Outcome<'a>, Stop<'a>>
+        ensures explained { IfOk result (ExplainsRequest (F.content files.old) (asked self.now)) }
+        ensures stopped { IfErr result
+            (IsStop (F.content files.old) (F.failed_name files.new) (names_of (asked self.now))) }
+        ensures only_read { IsOnlyRead F.Files files.old files.new }
+        ensures counted { CountsReads F.Files files.old files.new (IsFault result) (IsTooLong result) }
+    {
+        Ok(match self {
+            Request::Verify(request) => Outcome::Verify(verify_files(alloc, request, files)?),
+            Request::Run(request) => Outcome::Run(run_files(alloc, request, files)?),
+        })
     }
 }

@@ -11,3 +11,4 @@ pub mod Laws
 pub mod Seen
 pub mod Scan
 pub mod Answer
+pub mod RejectText

@@ -1,3 +1,6 @@
+use std::fmt;
+use text_lines::Address;
+
 /// The rules that have an address, in the order in which they are asked.
 #[derive(Clone, Copy, Debug)]
 pub enum Rule {
@@ -21,6 +24,27 @@ pub enum Rule {
     End,
 }
 
+impl fmt::Display for Rule {
+    ghost use Rattle.std.specs.Prelude.{Some};
+    ghost use Rattle.cfi_verify.specs.RejectText.{rule_text};
+
+    ghost output = { λ rule. Some (rule_text rule) };
+
+    fn fmt<W: fmt::Write>(&self, f: &mut fmt::Formatter<W>) -> fmt::Result {
+        match self {
+            Rule::Prologue => write!(f, "Prologue"),
+            Rule::Unit => write!(f, "Unit"),
+            Rule::Target => write!(f, "Target"),
+            Rule::Unlisted => write!(f, "Unlisted"),
+            Rule::Unused => write!(f, "Unused"),
+            Rule::Site => write!(f, "Site"),
+            Rule::Gate => write!(f, "Gate"),
+            Rule::Astray => write!(f, "Astray"),
+            Rule::End => write!(f, "End"),
+        }
+    }
+}
+
 /// Why an image and a graph are rejected.
 #[derive(Clone, Copy, Debug)]
 pub enum Reject {
@@ -28,4 +52,21 @@ pub enum Reject {
     Length(u32, u32),
     /// The first rule that fails, and the least address at which it does.
     At(Rule, u64),
+}
+
+impl fmt::Display for Reject {
+    ghost use Rattle.std.specs.Prelude.{Some};
+    ghost use Rattle.cfi_verify.specs.RejectText.{reject_text};
+
+    ghost output = { λ reject. Some (reject_text reject) };
+
+    fn fmt<W: fmt::Write>(&self, f: &mut fmt::Formatter<W>) -> fmt::Result {
+        match *self {
+            Reject::Length(code, graph) => write!(f, "Length {code} {graph}"),
+            Reject::At(rule, address) => {
+                let address = Address(address);
+                write!(f, "{rule} {address}")
+            }
+        }
+    }
 }

@@ -4,4 +4,5 @@ pub mod Table
 pub mod Symbol
 pub mod Stray
 pub mod Fault
+pub mod FaultText
 pub mod Laws

@@ -1,34 +1,70 @@
+ghost use Rattle.std.specs.Prelude.{◌≡◌};
+ghost use Rattle.elf_object.specs.FaultText.{fault_number};
+
 use rv_word::NoMemory;
+use std::{error, fmt};
 use thiserror::Error;
 
 /// What is wrong with an object: the first of these that is, in this order, at its least index.
-#[derive(Clone, Copy, Debug, Error)]
+#[derive(Clone, Copy, Debug)]
 pub enum ObjectFault {
     /// The file is no 64-bit little-endian ELF file.
-    #[error("NotElf")]
     NotElf,
     /// It is not relocatable, but has this `e_type`.
-    #[error("NotRelocatable {0}")]
     NotRelocatable(u16),
     /// It is not for RISC-V, but for this `e_machine`.
-    #[error("NotRiscv {0}")]
     NotRiscv(u16),
     /// Its `e_flags` ask for more than RV64I with the soft-float calling convention.
-    #[error("Flags {0}")]
     Flags(u32),
     /// What begins at this offset, the section header table or a section, leaves the file.
-    #[error("Truncated {0}")]
     Truncated(u64),
     /// The section with this index is a wrong table, or has a wrong name.
-    #[error("BadTable {0}")]
     BadTable(u32),
     /// The section with this index is of a kind that is not taken.
-    #[error("SectionKind {0}")]
     SectionKind(u32),
     /// The symbol with this number is wrong, or is named by a relocation and not there.
-    #[error("BadSymbol {0}")]
     BadSymbol(u64),
 }
+
+impl ObjectFault {
+    /// Which of the eight tests failed, from 1.
+    pub fn number(&self) -> u8
+        ensures { result ≡ fault_number self.now }
+    {
+        match self {
+            ObjectFault::NotElf => 1,
+            ObjectFault::NotRelocatable(_) => 2,
+            ObjectFault::NotRiscv(_) => 3,
+            ObjectFault::Flags(_) => 4,
+            ObjectFault::Truncated(_) => 5,
+            ObjectFault::BadTable(_) => 6,
+            ObjectFault::SectionKind(_) => 7,
+            ObjectFault::BadSymbol(_) => 8,
+        }
+    }
+}
+
+impl fmt::Display for ObjectFault {
+    ghost use Rattle.std.specs.Prelude.{Some};
+    ghost use Rattle.elf_object.specs.FaultText.{fault_text};
+
+    ghost output = { λ fault. Some (fault_text fault) };
+
+    fn fmt<W: fmt::Write>(&self, f: &mut fmt::Formatter<W>) -> fmt::Result {
+        match self {
+            ObjectFault::NotElf => write!(f, "NotElf"),
+            ObjectFault::NotRelocatable(kind) => write!(f, "NotRelocatable {kind}"),
+            ObjectFault::NotRiscv(machine) => write!(f, "NotRiscv {machine}"),
+            ObjectFault::Flags(flags) => write!(f, "Flags {flags}"),
+            ObjectFault::Truncated(offset) => write!(f, "Truncated {offset}"),
+            ObjectFault::BadTable(index) => write!(f, "BadTable {index}"),
+            ObjectFault::SectionKind(index) => write!(f, "SectionKind {index}"),
+            ObjectFault::BadSymbol(number) => write!(f, "BadSymbol {number}"),
+        }
+    }
+}
+
+impl error::Error for ObjectFault {}
 
 /// Why an object could not be read: a fault of its bytes, or want of memory.
 #[derive(Clone, Copy, Debug, Error)]

@@ -1,4 +1,6 @@
 pub mod Faults
+pub mod Reading
+pub mod Counted
 pub mod Contents
 pub mod Entries
 pub mod Memory

@@ -2,7 +2,7 @@ ghost use Rattle.std.specs.Prelude.{◌≡◌};
 
 use crate::faults::Faults;
 use crate::transfer::{read_opened, write_opened};
-use crate::{Files, OutEnd, ReadEnd};
+use crate::{Counted, Files, OutEnd, ReadEnd};
 use std::alloc::Global;
 use std::{fs, rt};
 
@@ -44,7 +44,8 @@ impl<'a, R: rt::Files> Files for HostFiles<'a, R> {
 
     fn read(&mut self, alloc: Global, name: &str, limit: u64) -> Result<Vec<u8>, ReadEnd> {
         let named = String::from_str(alloc, name)?;
-        let end = read_opened(alloc, fs::open(self.rt, name), limit);
+        let mut opened = fs::open(self.rt, name).map(Counted::new);
+        let end = read_opened(alloc, &mut opened, limit);
         self.faults.note_read(named, &end);
         end
     }

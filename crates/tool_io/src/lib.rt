@@ -2,6 +2,7 @@
 //! faults. Implementations in memory for tests, and over the host for the program.
 #![tactic(auto)]
 
+pub use counted::Counted;
 pub use ends::{OutEnd, ReadEnd};
 pub use files::Files;
 pub use host_files::HostFiles;
@@ -12,6 +13,7 @@ pub use sink::Sink;
 pub use transfer::read_within;
 
 mod calls;
+mod counted;
 mod ends;
 mod faults;
 mod files;

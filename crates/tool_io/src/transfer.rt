@@ -1,8 +1,9 @@
-ghost use Rattle.std.specs.Prelude.{◌≡◌, ◌+◌, ◌<◌, ◌≤◌, ℕ, List, length, take, Some, IfOk, IfErr, IfSome, IsOkAnd, OnOk, OnErr};
+ghost use Rattle.std.specs.Prelude.{◌≡◌, ◌+◌, ◌<◌, ◌≤◌, ℕ, List, length, take, IfOk, IfErr, IfSome, IsOkAnd, OnOk, OnErr};
 ghost use Rattle.std.specs.Io.KnownBytes.{Appends, Consumes};
+ghost use Rattle.tool_io.specs.Counted.{given};
 ghost use Rattle.tool_io.specs.declared.ends.OutEnd.TheVariants.{Failed};
 
-use crate::{OutEnd, ReadEnd};
+use crate::{Counted, OutEnd, ReadEnd};
 use std::alloc::Global;
 use std::io;
 use std::io::{Read, Write};
@@ -10,13 +11,19 @@ use std::io::{Read, Write};
 /// How many bytes one read asks for at most.
 const PIECE: usize = 4096;
 
-/// All that a reader gives until a read of 0 bytes, where that is at most `limit` bytes. At most
-/// `limit + 1` bytes are taken from it.
-pub fn read_within<R: Read>(alloc: Global, source: &mut R, limit: u64) -> Result<Vec<u8>, ReadEnd>
-    ensures all { IfOk result (λ v. IfSome (R.remaining source.old) (λ xs. v.items ≡ xs)) }
+/// All that a reader gives until a read of 0 bytes, where that is at most `limit` bytes. Of every reader,
+/// also one that does not tell its bytes, at most `limit + 1` bytes are taken.
+pub fn read_within<R: Read>(
+    alloc: Global,
+    source: &mut Counted<R>,
+    limit: u64,
+) -> Result<Vec<u8>, ReadEnd>
+    ensures all { IfOk result (λ v. IfSome (⟦<Counted<R> as Read>⟧.remaining source.old) (λ xs. v.items ≡ xs)) }
     ensures within { IfOk result (λ v. length v.items ≤ limit) }
-    ensures too_long { result ≡ Err ReadEnd.TooLong → IfSome (R.remaining source.old) (λ xs. limit < length xs) }
-    ensures bound { (taken : List ℕ) × (length taken ≤ limit + 1) × Consumes (R.remaining source.old) (R.remaining source.new) taken }
+    ensures too_long { result ≡ Err ReadEnd.TooLong → IfSome (⟦<Counted<R> as Read>⟧.remaining source.old) (λ xs. limit < length xs) }
+    ensures bound { given source.new ≤ given source.old + (limit + 1) }
+    ensures taken { (taken : List ℕ) × (length taken ≤ limit + 1)
+        × Consumes (⟦<Counted<R> as Read>⟧.remaining source.old) (⟦<Counted<R> as Read>⟧.remaining source.new) taken }
 {
     let mut bytes = Vec::new(alloc);
     let mut piece = [0u8; PIECE];
@@ -33,18 +40,19 @@ pub fn read_within<R: Read>(alloc: Global, source: &mut R, limit: u64) -> Result
 }
 
 /// All that a reader gives that could be opened.
-pub(crate) fn read_opened<R: Read + Drop>(
+pub(crate) fn read_opened<R: Read>(
     alloc: Global,
-    opened: io::Result<R>,
+    opened: &mut io::Result<Counted<R>>,
     limit: u64,
 ) -> Result<Vec<u8>, ReadEnd>
-    ensures shut { IfErr opened (λ _. result ≡ Err ReadEnd.Failed) }
-    ensures all { IfOk opened (λ source. IfOk result (λ v. IfSome (R.remaining source) (λ xs. v.items ≡ xs))) }
+    ensures shut { IfErr opened.old (λ _. result ≡ Err ReadEnd.Failed) }
+    ensures all { IfOk opened.old (λ source. IfOk result (λ v. IfSome (⟦<Counted<R> as Read>⟧.remaining source) (λ xs. v.items ≡ xs))) }
     ensures within { IfOk result (λ v. length v.items ≤ limit) }
-    ensures too_long { IfOk opened (λ source. result ≡ Err ReadEnd.TooLong → IfSome (R.remaining source) (λ xs. limit < length xs)) }
+    ensures too_long { IfOk opened.old (λ source. result ≡ Err ReadEnd.TooLong → IfSome (⟦<Counted<R> as Read>⟧.remaining source) (λ xs. limit < length xs)) }
+    ensures bound { IfOk opened.old (λ before. IsOkAnd opened.new (λ after. given after ≤ given before + (limit + 1))) }
 {
     match opened {
-        Ok(mut source) => read_within(alloc, &mut source, limit),
+        Ok(source) => read_within(alloc, source, limit),
         Err(_) => Err(ReadEnd::Failed),
     }
 }

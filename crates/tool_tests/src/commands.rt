@@ -2,12 +2,12 @@
 
 use crate::calls::check;
 use crate::pairs::{image_of, verifies};
-use cfi_graph::Reason;
-use cfi_tool::Verdict;
+use cfi_tool::{Refusal, Verdict};
 use cfi_verify::{Reject, Rule};
 use elf_image::ImageRefusal;
 use sample_programs::{A, A_GRAPH};
 use std::alloc::Global;
+use text_lines::Reason;
 
 /// Command lines, with the status and the text of each, in the form of `calls::check`.
 const COMMANDS: &[u8] = b"\
@@ -56,22 +56,26 @@ fn cut_images(rt: HostRuntime) {
 }
 
 /// Verdicts, and the line of each.
-static LINES: [(Verdict, &str); 7] = [
+static LINES: [(Verdict, &str); 8] = [
     (
-        Verdict::BadImage(ImageRefusal::Byte(16)),
+        Verdict::Refused(Refusal::Image(ImageRefusal::Byte(16))),
         "refused 22 Byte 16",
     ),
     (
-        Verdict::BadImage(ImageRefusal::Long(8192)),
+        Verdict::Refused(Refusal::Image(ImageRefusal::Long(8192))),
         "refused 22 Long 8192",
     ),
     (
-        Verdict::BadGraph(3, Reason::Form),
+        Verdict::Refused(Refusal::Graph(3, Reason::Form)),
         "refused 23 Graph 3 Form",
     ),
     (
-        Verdict::BadGraph(12, Reason::Order),
+        Verdict::Refused(Refusal::Graph(12, Reason::Order)),
         "refused 23 Graph 12 Order",
+    ),
+    (
+        Verdict::Refused(Refusal::Script(2, Reason::Range)),
+        "refused 25 Script 2 Range",
     ),
     (
         Verdict::Rejected(Reject::Length(80, 84)),

@@ -4,7 +4,9 @@ use std::alloc::Global;
 use std::io;
 use std::io::{Read, Write};
 use std::process::Abort;
-use tool_io::{Files, HostFiles, HostSink, MemFiles, MemSink, OutEnd, ReadEnd, Sink, read_within};
+use tool_io::{
+    Counted, Files, HostFiles, HostSink, MemFiles, MemSink, OutEnd, ReadEnd, Sink, read_within,
+};
 
 /// A source that fills each buffer, so often, and then fails.
 #[derive(Drop)]
@@ -217,7 +219,8 @@ static SOURCES: [(u32, u64, ReadEnd); 6] = [
 ];
 
 fn source_ends(alloc: Global, row: &(u32, u64, ReadEnd)) -> bool {
-    let end = read_within(alloc, &mut Source { left: row.0 }, row.1);
+    let mut source = Counted::new(Source { left: row.0 });
+    let end = read_within(alloc, &mut source, row.1);
     end.err() == Some(row.2)
 }
 

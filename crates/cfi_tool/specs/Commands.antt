@@ -1,0 +1,3 @@
+-- The commands: for each its words, the files that it reads, what it comes to, and what that says.
+pub mod Verify
+pub mod Run

@@ -1,0 +1,209 @@
+ghost use Rattle.std.specs.Prelude.{◌≡◌, IfOk, IfErr, option_map};
+ghost use Rattle.tool_io.specs.Reading.{CountsReads, IsOnlyRead};
+ghost use Rattle.text_lines.specs.Answers.{Answers};
+ghost use Rattle.cfi_tool.specs.Lines.{spelled};
+ghost use Rattle.cfi_tool.specs.Opening.{IsOpenEnd, Spell, script_given};
+ghost use Rattle.cfi_tool.specs.Reads.{IsFault, IsStop, IsTooLong};
+ghost use Rattle.cfi_tool.specs.Commands.Run.{ExplainsRun, IsRunOf, IsRunOfPair, file_word, run_asked, run_names, run_status, run_text, run_words, steps_of, text_named};
+
+use crate::commands::verify::Verdict;
+use crate::line::line;
+use crate::opening::{OpenEnd, Pair, open_pair};
+use crate::read::{Stop, read_all};
+use crate::refusal::Refusal;
+use crate::report::{end_status, report_text};
+use crate::status;
+use cfi_step::{RunReport, Script, run};
+use cfi_verify::{Reject, VerifyEnd, verify};
+use rv_word::NoMemory;
+use std::alloc::Global;
+use text_lines::{MAX_STEP, TextEnd, capped_number};
+use tool_io::Files;
+
+/// What a run is asked for: its files, and how many steps it takes at most.
+#[derive(Clone, Copy)]
+pub(crate) struct RunRequest<'a> {
+    image: &'a str,
+    graph: &'a str,
+    script: Option<&'a str>,
+    input: Option<&'a str>,
+    limit: u64,
+}
+
+/// The name of a file, if the word is one.
+fn file_word(word: &str) -> Option<&str>
+    ensures { option_map (λ name. name.now) result ≡ file_word word.now }
+{
+    if word == "none" { None } else { Some(word) }
+}
+
+/// The number of steps that a word asks for.
+#[tactic(auto, using(crate::proofs::Steps::steps_capped))]
+fn steps(word: &str) -> Option<u64>
+    ensures { result ≡ steps_of word.now }
+{
+    let digits = word.as_bytes();
+    if digits.is_empty() || digits.len() > 10 {
+        return None;
+    }
+    let steps = capped_number(digits)?;
+    if steps <= MAX_STEP { Some(steps) } else { None }
+}
+
+impl<'a> RunRequest<'a> {
+    /// What the words after the command ask for, if they are taken.
+    pub(crate) fn of(words: &'a [String]) -> Option<Self>
+        ensures { option_map run_asked result ≡ run_words (spelled words.now) }
+    {
+        match words {
+            [image, graph, script, input, limit] => Some(RunRequest {
+                image: image.as_str(),
+                graph: graph.as_str(),
+                script: file_word(script.as_str()),
+                input: file_word(input.as_str()),
+                limit: steps(limit.as_str())?,
+            }),
+            _ => None,
+        }
+    }
+}
+
+/// What a run comes to.
+#[derive(Drop)]
+pub(crate) enum RunOutcome {
+    /// One of the files is not what it should be: the image, else the graph, else the script.
+    Refused(Refusal),
+    /// The image breaks a rule: the first that fails.
+    Rejected(Reject),
+    Ran(RunReport),
+}
+
+impl RunOutcome {
+    /// The status with which the program ends.
+    pub(crate) fn status(&self) -> u8
+        ensures { result ≡ run_status self.now }
+    {
+        match self {
+            RunOutcome::Refused(_) | RunOutcome::Rejected(_) => status::REFUSED,
+            RunOutcome::Ran(report) => end_status(report.end),
+        }
+    }
+
+    /// The text that is put.
+    pub(crate) fn text(&self, alloc: Global) -> Result<Vec<u8>, NoMemory>
+        ensures { IfOk result (λ text. text.items ≡ run_text self.now) }
+    {
+        match self {
+            RunOutcome::Refused(refusal) => line(alloc, refusal),
+            RunOutcome::Rejected(reject) => line(alloc, &Verdict::Rejected(*reject)),
+            RunOutcome::Ran(report) => report_text(alloc, report),
+        }
+    }
+}
+
+/// The script that a text spells; without a text it has no changes.
+fn script_of(alloc: Global, text: Option<&[u8]>) -> Result<Script, TextEnd>
+    ensures { Answers result (script_given (option_map (λ t. t.now) text.entry)) }
+{
+    match text {
+        None => Ok(Script::none(alloc)),
+        Some(text) => Script::read(alloc, text),
+    }
+}
+
+/// The image, the graph and the script that files spell.
+fn open_all<'a>(
+    alloc: Global,
+    image: &'a [u8],
+    graph: &[u8],
+    script: Option<&[u8]>,
+) -> Result<(Pair<'a>, Script), OpenEnd>
+    ensures spelled { IfOk result (λ all. Spell image.now graph.now all.0.image all.0.graph) }
+    ensures given { IfOk result (λ all. script_given (option_map (λ t. t.now) script.entry) ≡ Ok all.1) }
+    ensures refused { IfErr result (IsOpenEnd image.now graph.now (option_map (λ t. t.now) script.entry)) }
+{
+    let pair = match open_pair(alloc, image, graph) {
+        Ok(pair) => pair,
+        Err(end) => return Err(end),
+    };
+    match script_of(alloc, script) {
+        Ok(script) => Ok((pair, script)),
+        Err(TextEnd::Line(line, reason)) => Err(OpenEnd::Refused(Refusal::Script(line, reason))),
+        Err(TextEnd::NoMemory) => Err(OpenEnd::NoMemory),
+    }
+}
+
+/// Runs an image, if it goes with its graph.
+fn run_pair(
+    alloc: Global,
+    pair: &Pair<'_>,
+    script: &mut Script,
+    input: &[u8],
+    limit: u64,
+) -> Result<RunOutcome, NoMemory>
+    ensures { IfOk result (IsRunOfPair pair.now.image pair.now.graph script.old input.now limit) }
+{
+    match verify(alloc, &pair.image, &pair.graph) {
+        Ok(checked) => Ok(RunOutcome::Ran(run(alloc, &checked, input, script, limit)?)),
+        Err(VerifyEnd::Reject(reject)) => Ok(RunOutcome::Rejected(reject)),
+        Err(VerifyEnd::NoMemory) => Err(NoMemory),
+    }
+}
+
+/// Runs the image that some bytes spell, if others spell its graph and a script.
+fn run_bytes(
+    alloc: Global,
+    image: &[u8],
+    graph: &[u8],
+    script: Option<&[u8]>,
+    input: &[u8],
+    limit: u64,
+) -> Result<RunOutcome, NoMemory>
+    ensures { IfOk result (IsRunOf image.now graph.now (option_map (λ t. t.now) script.entry) input.now limit) }
+{
+    match open_all(alloc, image, graph, script) {
+        Ok((pair, mut script)) => run_pair(alloc, &pair, &mut script, input, limit),
+        Err(OpenEnd::Refused(refusal)) => Ok(RunOutcome::Refused(refusal)),
+        Err(OpenEnd::NoMemory) => Err(NoMemory),
+    }
+}
+
+/// The text of a file, where one was named.
+fn text_named<'a>(name: Option<&str>, bytes: &'a [u8]) -> Option<&'a [u8]>
+    ensures { option_map (λ t. t.now) result ≡ text_named (option_map (λ n. n.now) name.entry) bytes.now }
+{
+    match name {
+        Some(_) => Some(bytes),
+        None => None,
+    }
+}
+
+/// Reads the files of a run and runs the image.
+pub(crate) fn run_files<'a, F: Files>(
+    alloc: Global,
+    request: &RunRequest<'a>,
+    files: &mut F,
+) -> Result<RunOutcome, Stop<'a>>
+    ensures explained { IfOk result (ExplainsRun (F.content files.old) (run_asked request.now)) }
+    ensures stopped { IfErr result
+        (IsStop (F.content files.old) (F.failed_name files.new) (run_names (run_asked request.now))) }
+    ensures only_read { IsOnlyRead F.Files files.old files.new }
+    ensures counted { CountsReads F.Files files.old files.new (IsFault result) (IsTooLong result) }
+{
+    let names = [
+        Some(request.image),
+        Some(request.graph),
+        request.script,
+        request.input,
+    ];
+    let bytes = read_all(alloc, &names, files)?;
+    let script = text_named(request.script, &bytes[2]);
+    Ok(run_bytes(
+        alloc,
+        &bytes[0],
+        &bytes[1],
+        script,
+        &bytes[3],
+        request.limit,
+    )?)
+}
