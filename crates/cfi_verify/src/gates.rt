@@ -1,4 +1,4 @@
-ghost use Rattle.std.specs.Prelude.{◌≡◌, ◌&&◌, not, option_and_then};
+ghost use Rattle.std.specs.Prelude.{◌≡◌, ◌&&◌, not};
 ghost use Rattle.rv_word.specs.Layout.{version_1};
 ghost use Rattle.std.specs.Option.{option_copied};
 ghost use Rattle.least.specs.Least.{IsLeast};

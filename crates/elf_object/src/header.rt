@@ -1,4 +1,4 @@
-ghost use Rattle.std.specs.Prelude.{◌≡◌, ◌+◌, ◌*◌, ◌≤◌, ◌<◌, length, None, ◌==◌};
+ghost use Rattle.std.specs.Prelude.{◌≡◌, ◌<◌, None, ◌==◌};
 ghost use Rattle.elf_object.specs.Header.{is_elf, are_flags_taken};
 ghost use Rattle.elf_object.specs.Fault.{header_fault};
 

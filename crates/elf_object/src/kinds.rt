@@ -1,7 +1,7 @@
 ghost use Rattle.std.specs.Prelude.{◌≡◌, ◌<◌};
 ghost use Rattle.elf_tables.specs.Header.{e_shnum};
 ghost use Rattle.least.specs.First.{first_below};
-ghost use Rattle.elf_object.specs.Kind.{is_alignment, is_wrong_code, is_wrong_data, is_wrong_kept, is_wrong_kind};
+ghost use Rattle.elf_object.specs.Kind.{is_alignment, is_wrong_code, is_wrong_kept, is_wrong_kind};
 
 use elf_tables::constants::{SHT_GROUP, SHT_NOBITS, SHT_PROGBITS};
 use elf_tables::{Lookup, SectionHeader};

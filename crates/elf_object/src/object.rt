@@ -1,4 +1,4 @@
-ghost use Rattle.std.specs.Prelude.{◌≡◌, ◌<◌, ◌/◌, ◌+◌, ◌*◌, None, Some, [], unwrap_or, length, true};
+ghost use Rattle.std.specs.Prelude.{◌≡◌, ◌<◌, ◌/◌, None, Some, [], unwrap_or, length, true};
 ghost use Rattle.elf_tables.specs.Header.{e_shnum};
 ghost use Rattle.elf_tables.specs.Section.{content, is_in_file, section_header, section_name};
 ghost use Rattle.elf_tables.specs.Kept.{has_flag, is_code, is_kept, is_named};

@@ -1,5 +1,4 @@
-ghost use Rattle.std.specs.Prelude.{◌≡◌, ◌<◌, ◌≤◌};
-ghost use Rattle.elf_tables.specs.Header.{e_shnum};
+ghost use Rattle.std.specs.Prelude.{◌≡◌, ◌<◌};
 ghost use Rattle.least.specs.First.{first_below};
 ghost use Rattle.elf_tables.specs.Symbol.{symbol_count};
 ghost use Rattle.elf_object.specs.Symbol.{has_no_place, has_wrong_alignment, has_wrong_type, is_past_end, is_wrong_entry, is_wrong_symbol};

@@ -1,4 +1,4 @@
-ghost use Rattle.std.specs.Prelude.{◌≡◌, ◌+◌, ◌*◌, ◌≤◌, ◌<◌, ◌/◌, length};
+ghost use Rattle.std.specs.Prelude.{◌≡◌, ◌+◌, ◌*◌, ◌≤◌, length};
 ghost use Rattle.elf_tables.specs.Symbol.{symbol_binding, symbol_in, symbol_type};
 ghost use Rattle.elf_tables.specs.Relocation.{relocation_in};
 

@@ -6,7 +6,7 @@ ghost use Rattle.elf_tables.specs.Table.{has_entries};
 use crate::constants::{
     ENTRY_SIZE, SHF_ALLOC, SHF_EXECINSTR, SHF_TLS, SHF_WRITE, SHT_NOBITS, SHT_NULL,
 };
-use crate::field::{half, long, word};
+use crate::field::{long, word};
 
 /// A section header (System V gABI, "Section Header"), without its address.
 #[derive(Clone, Copy)]

@@ -1,11 +1,10 @@
-ghost use Rattle.std.specs.Prelude.{◌≡◌, ◌+◌, ◌*◌, ◌<◌, ◌≤◌, ◌/◌, unwrap_or, is_some, IfOk, Some, [], length};
+ghost use Rattle.std.specs.Prelude.{◌≡◌, ◌<◌, ◌/◌, unwrap_or, is_some, IfOk, Some, []};
 ghost use Rattle.elf_bytes.specs.Fields.{string_at};
 ghost use Rattle.elf_tables.specs.Header.{e_shnum};
-ghost use Rattle.least.specs.First.{first_below};
-ghost use Rattle.elf_tables.specs.Section.{content, section_header, section_name, section_names};
-ghost use Rattle.elf_tables.specs.Kept.{is_kept, is_kept_by, is_named};
+ghost use Rattle.elf_tables.specs.Section.{section_header, section_names};
+ghost use Rattle.elf_tables.specs.Kept.{is_kept, is_named};
 ghost use Rattle.elf_tables.specs.Table.{is_symbol_table, symbol_table};
-ghost use Rattle.elf_tables.specs.Symbol.{bytes_of, linked_bytes, symbol, symbol_bytes, symbol_count, symbol_names};
+ghost use Rattle.elf_tables.specs.Symbol.{bytes_of, linked_bytes, symbol, symbol_count, symbol_names};
 ghost use Rattle.elf_tables.specs.Relocation.{relocation_bytes, relocations_of};
 
 use crate::constants::{ENTRY_SIZE, SHT_NOTE, SHT_SYMTAB};

@@ -1,4 +1,4 @@
-ghost use Rattle.std.specs.Prelude.{◌≡◌, ◌+◌, ◌*◌, ◌≤◌, ◌<◌, length, IfSome, OnSome, IfNone, take, drop, Option, MatchOption};
+ghost use Rattle.std.specs.Prelude.{◌≡◌, ◌+◌, ◌*◌, ◌≤◌, ◌<◌, length, IfSome, OnSome, IfNone, take, drop, Option};
 ghost use Rattle.elf_tables.specs.Header.{e_shentsize, e_shnum, e_shoff, e_shstrndx, section_headers_end};
 ghost use Rattle.elf_tables.specs.Section.{content, section_bytes, section_header};
 

@@ -1,4 +1,4 @@
-ghost use Rattle.std.specs.Prelude.{◌≡◌, is_some, unwrap_or, [], drop, option_map, take};
+ghost use Rattle.std.specs.Prelude.{◌≡◌, is_some, unwrap_or, [], take};
 ghost use Rattle.elf_bytes.specs.Fields.{string_at, string_of};
 ghost use Rattle.elf_tables.specs.Kept.{is_named};
 ghost use Rattle.elf_tables.specs.Names.{IsLastEnd};

@@ -15,7 +15,8 @@ pub fn lesser(a: Option<u64>, b: Option<u64>) -> Option<u64>
 /// The least of the numbers that a function gives for the indexes below `n`.
 pub fn least_below<F: Fn(u32) -> Option<u64>>(n: u32, given: F) -> Option<u64>
     requires { (k : ℕ) → k < n → F.pre given k }
-    ensures { (g : ℕ → Option ℕ) → ((k : ℕ) (one : Option ℕ) → k < n → F.post given k one → one ≡ g k) → result ≡ least_below g n }
+    ensures { (g : ℕ → Option ℕ) → ((k : ℕ) (one : Option ℕ) → k < n → F.post given k one → one ≡ g k)
+        → result ≡ least_below g n }
 {
     let mut least = None;
     for index in 0..n {
@@ -27,7 +28,8 @@ pub fn least_below<F: Fn(u32) -> Option<u64>>(n: u32, given: F) -> Option<u64>
 /// The same of 64 bits.
 pub fn least_below_u64<F: Fn(u64) -> Option<u64>>(n: u64, given: F) -> Option<u64>
     requires { (k : ℕ) → k < n → F.pre given k }
-    ensures { (g : ℕ → Option ℕ) → ((k : ℕ) (one : Option ℕ) → k < n → F.post given k one → one ≡ g k) → result ≡ least_below g n }
+    ensures { (g : ℕ → Option ℕ) → ((k : ℕ) (one : Option ℕ) → k < n → F.post given k one → one ≡ g k)
+        → result ≡ least_below g n }
 {
     let mut least = None;
     for number in 0..n {

@@ -40,7 +40,8 @@ pub fn nearer<T: Copy>(a: Option<Found<T>>, b: Option<Found<T>>) -> Option<Found
 /// The nearest of what a function finds for the indexes below `n`.
 pub fn nearest_below<T: Copy, F: Fn(u32) -> Option<Found<T>>>(n: u32, given: F) -> Option<Found<T>>
     requires { (k : ℕ) → k < n → F.pre given k }
-    ensures { (g : ℕ → Option (Found T)) → ((k : ℕ) (one : Option (Found T)) → k < n → F.post given k one → one ≡ g k) → result ≡ nearest_below (λ f. f.place) g n }
+    ensures { (g : ℕ → Option (Found T)) → ((k : ℕ) (one : Option (Found T)) → k < n → F.post given k one → one ≡ g k)
+        → result ≡ nearest_below (λ f. f.place) g n }
 {
     let mut least = None;
     for index in 0..n {
@@ -55,7 +56,9 @@ pub fn nearest<X: Copy, T: Copy, F: Fn(X) -> Option<Found<T>>>(
     given: F,
 ) -> Option<Found<T>>
     requires { F.IsAlwaysCallable given }
-    ensures { (g : X → Option (Found T)) → ((k : ℕ) (x : X) (one : Option (Found T)) → slice_get items.now k ≡ Some x → F.post given x one → one ≡ g x) → result ≡ nearest (λ f. f.place) (filter_map g items.now) }
+    ensures { (g : X → Option (Found T))
+        → ((k : ℕ) (x : X) (one : Option (Found T)) → slice_get items.now k ≡ Some x → F.post given x one → one ≡ g x)
+        → result ≡ nearest (λ f. f.place) (filter_map g items.now) }
 {
     let mut least = None;
     for x in items {
