@@ -26,7 +26,7 @@ use Rattle.cfi_unit.specs.Effect.{UnitDoes}
 use Rattle.cfi_unit.specs.EffectLaw.{Enters, GoesOn, Inside, DoneWithin, UnitEffect, UnitKeepsRegisters}
 use Rattle.cfi_unit.proofs.Context.{kept_data}
 use Rattle.cfi_unit.proofs.EffectSteps.{IsHarmless, Now, RunsOn, before}
-use Rattle.cfi_unit.proofs.EffectUnits.{plain_does, ecall_does, ebreak_does, stop_does, gate_does, jump_does, branch_does, store_does}
+use Rattle.cfi_unit.proofs.EffectUnits.{plain_does, ecall_does, ebreak_does, stop_does, gate_does, jump_does, branch_does, near_does, store_does}
 use Rattle.cfi_unit.proofs.EffectTransfers.{call_does, return_does, ijump_does, icall_does}
 
 module _ (may : Shared → Shared → Type 0) (harmless : IsHarmless may) (p : Profile) (part : ℕ) (image base : Memory) (h : Hart) (s : Shared) where
@@ -40,6 +40,7 @@ module _ (may : Shared → Shared → Type 0) (harmless : IsHarmless may) (p : P
     body_does (V.Gate label) pending stand some most w c x3 = gate_does at (first pending c) e x3 label w
     body_does (V.Plain instr) pending stand some most w c x3 = plain_does at (first pending c) e instr stand.0.1 w
     body_does (V.Branch op rs1 rs2 target) pending stand some most w c x3 = branch_does at (first pending c) e x3 op rs1 rs2 target stand.0 w
+    body_does (V.Near op rs1 rs2 target) pending stand some most w c x3 = near_does at (first pending c) e x3 op rs1 rs2 target stand.0 w
     body_does (V.Jump target) pending stand some most w c x3 = jump_does at (first pending c) e x3 target stand.0 w
     body_does V.Stop pending stand some most w c x3 = stop_does at (first pending c) e stand.0 w
     body_does (V.System S.Ecall) pending stand some most w c x3 = ecall_does at (first pending c) e w
@@ -123,6 +124,7 @@ one_word : (unit : U.Unit) → suc (word_count unit - 1) ≡ word_count unit
 one_word (V.Gate label) = refl
 one_word (V.Plain instr) = refl
 one_word (V.Branch op rs1 rs2 target) = refl
+one_word (V.Near op rs1 rs2 target) = refl
 one_word (V.Jump target) = refl
 one_word V.Stop = refl
 one_word (V.System op) = refl

@@ -11,7 +11,7 @@ use Rattle.rv_instr.specs.declared.instr.Instr.TheVariants.{Upper, Jal, Jalr, Br
 use Rattle.rv_instr.specs.declared.instr.UpperOp.TheVariants.{Lui, Auipc}
 use Rattle.rv_instr.specs.declared.instr.BranchOp.{BranchOp}
 use Rattle.rv_instr.specs.declared.instr.StoreOp.{StoreOp}
-use Rattle.rv_code.specs.Arithmetic.{load_size, load_result, store_size}
+use Rattle.rv_code.specs.Arithmetic.{branch_taken, load_size, load_result, store_size}
 use Rattle.rv_code.specs.State.{Hart, Shared, After}
 use Rattle.rv_code.specs.Step.{exec, puts, stops, address}
 use Rattle.rv_code.specs.SystemCall.{system_call, write_call, read_call}
@@ -29,6 +29,7 @@ use Rattle.cfi_unit.specs.Leads.{sum_of}
 use Rattle.cfi_unit.specs.Leaving.{LeftTo, HaltsAt, Executes, Stores, result_register, with_memory}
 use Rattle.cfi_unit.specs.Effect.{UnitDoes}
 use Rattle.cfi_unit.proofs.Context.{kept_data}
+use Rattle.cfi_unit.proofs.Jumps.{near_leads}
 use Rattle.cfi_unit.proofs.Regions.{store_size-small, can_store_data}
 use Rattle.cfi_unit.proofs.EffectSteps.{Now, RunsOn, before, moved, onto, onto_put, onto_branch, onto_jump, onto_store}
 
@@ -194,6 +195,16 @@ module _ {may : Shared → Shared → Type 0} {p : Profile} {part : ℕ} {image 
         RunsOn may p h.regs 0 (Does (V.Jump target)) (before h s)
     jump_does target fits w =
         onto_jump 0 (Does (V.Jump target)) now w 0 (omega arith) at target refl (omega arith) fits.1 (λ pc s' to on. left_to target on to x3)
+
+    pub near_does : (op : BranchOp) (rs1 rs2 target : ℕ) → Fits (V.Near op rs1 rs2 target) at →
+        Stand image at (instrs_of (V.Near op rs1 rs2 target) at) → RunsOn may p h.regs 0 (Does (V.Near op rs1 rs2 target)) (before h s)
+    near_does op rs1 rs2 target fits w =
+        onto 0 (Does (V.Near op rs1 rs2 target)) now w 0 (omega arith) _ refl
+        (λ s' on.
+        elim (cases_Bool (branch_taken op (get_reg h.regs rs1) (get_reg h.regs rs2))) [
+          | inl taken ↦ rw taken (left_to target (moved on (record { pc = _; regs = h.regs }) on.same) (near_leads h.pc at target e fits.2) x3)
+          | inr not_taken ↦ rw not_taken (left_to (at + 4) (moved on (record { pc = h.pc + 4; regs = h.regs }) on.same) (omega arith) x3)
+        ])
 
     pub branch_does : (op : BranchOp) (rs1 rs2 target : ℕ) → Fits (V.Branch op rs1 rs2 target) at →
         Stand image at (instrs_of (V.Branch op rs1 rs2 target) at) → RunsOn may p h.regs 1 (Does (V.Branch op rs1 rs2 target)) (before h s)

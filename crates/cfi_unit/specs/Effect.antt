@@ -30,12 +30,14 @@ module _ (p : Profile) (part : ℕ) (image base : Memory) (may : Shared → Shar
       ((h.regs 1 ≡ site) × LeftTo part image base site pending h.regs (may s) after)
       ⊎ ((h.regs 1 ≢ site) × HaltsAt part image base BAD_RETURN (site ∷ pending) h.regs (may s) after)
 
-  -- a branch is over the jump that follows it, so its target is where its condition is not met
+  -- a branch over a jump goes to its target where its condition is not met, a near one where it is
   abbrev pub DoesPast : U.Unit → ℕ → List ℕ → After → Type 0
   DoesPast (V.Gate label) past pending after = LeftTo part image base past pending h.regs (may s) after
   DoesPast (V.Plain instr) past pending after = Executes p part image base instr pending h (may s) after
   DoesPast (V.Branch op rs1 rs2 target) past pending after =
       LeftTo part image base (if branch_taken op (get_reg h.regs rs1) (get_reg h.regs rs2) then past else target) pending h.regs (may s) after
+  DoesPast (V.Near op rs1 rs2 target) past pending after =
+      LeftTo part image base (if branch_taken op (get_reg h.regs rs1) (get_reg h.regs rs2) then target else past) pending h.regs (may s) after
   DoesPast (V.Jump target) past pending after = LeftTo part image base target pending h.regs (may s) after
   DoesPast V.Stop past pending after = HaltsAt part image base BAD_TARGET pending h.regs (may s) after
   DoesPast (V.System op) past pending after = Executes p part image base (system_instr op) pending h (may s) after

@@ -1,6 +1,6 @@
 -- What the opening and the closing do, from the first word of each on, where nothing is changed
--- between their words.
-use Rattle.std.specs.Prelude.{◌≡◌, ℕ, ◌+◌, ◌^◌, List, [], ◌∷◌, replicate}
+-- between their words: each is done within as many steps as it has words.
+use Rattle.std.specs.Prelude.{◌≡◌, ℕ, ◌+◌, ◌^◌, List, [], ◌∷◌, length, replicate}
 use Rattle.rv_word.specs.Layout.{Profile, SHADOW_START}
 use Rattle.rv_word.specs.Memory.{Memory}
 use Rattle.rv_instr.specs.Registers.{set_reg}
@@ -35,6 +35,7 @@ pub record ClosingDoes (p : Profile) (may : Shared → Shared → Type 0) (h : H
   pub may_see : may s seen
   pub executed : after ≡ exec p Ecall (record { pc = h.pc + 4; regs = set_reg h.regs 17 93 }) seen
 
+-- a hart is at the opening that stands in code, with nothing on its shadow stack
 pub record EntersOpening (p : Profile) (image base : Memory) (entry : ℕ) (h : Hart) (s : Shared) : Type 0 where
   pub own : IsPart p SHADOW_START
   pub fits : Fits (V.Call entry) (OPENING + 12)
@@ -42,6 +43,7 @@ pub record EntersOpening (p : Profile) (image base : Memory) (entry : ℕ) (h : 
   pub context : Context SHADOW_START image base [] s
   pub pc : h.pc ≡ OPENING
 
+-- a hart is at a closing that stands in code
 pub record EntersClosing (p : Profile) (part : ℕ) (image base : Memory) (at : ℕ) (pending : List ℕ) (h : Hart) (s : Shared) : Type 0 where
   pub own : IsPart p part
   pub stands : Stand image at closing_instrs
@@ -51,10 +53,10 @@ pub record EntersClosing (p : Profile) (part : ℕ) (image base : Memory) (at : 
 abbrev pub OpeningEffect : Type 0
 OpeningEffect =
     (p : Profile) (image base : Memory) (entry : ℕ) (h : Hart) (s : Shared) → EntersOpening p image base entry h s →
-    DoneWithin p 11 h s (replicate 11 []) GoesOn (OpeningDoes SHADOW_START image base Unchanged entry h s)
+    DoneWithin p (length (opening_instrs entry)) h s (replicate (length (opening_instrs entry)) []) GoesOn (OpeningDoes SHADOW_START image base Unchanged entry h s)
 
 abbrev pub ClosingEffect : Type 0
 ClosingEffect =
     (p : Profile) (part : ℕ) (image base : Memory) (at : ℕ) (pending : List ℕ) (h : Hart) (s : Shared) →
     EntersClosing p part image base at pending h s →
-    DoneWithin p 2 h s (replicate 2 []) GoesOn (ClosingDoes p Unchanged h s)
+    DoneWithin p (length closing_instrs) h s (replicate (length closing_instrs) []) GoesOn (ClosingDoes p Unchanged h s)

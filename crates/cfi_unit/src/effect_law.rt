@@ -1,8 +1,9 @@
+//! What units, the opening and the closing do. Each function states one law; nothing is computed.
 ghost use Rattle.cfi_unit.specs.EffectLaw.{UnitEffect, UnitKeepsRegisters};
 ghost use Rattle.cfi_unit.specs.PrologueEffect.{ClosingEffect, OpeningEffect};
 
-/// What a unit does, as the contract of a function that computes nothing: where nothing is changed
-/// between its words, it does what its row says within as many steps as it has words.
+/// What a unit does where nothing is changed between its words: within as many steps as it has words
+/// it is left as its row says, or has ended the run.
 pub fn unit_effect()
     ensures { UnitEffect }
 {}
