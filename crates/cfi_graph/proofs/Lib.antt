@@ -8,3 +8,4 @@ pub mod Laws
 pub mod Printed
 pub mod MapLaws
 pub mod MapWritten
+pub mod PolicyWords

@@ -4,3 +4,4 @@ pub mod Lines
 pub mod Reading
 pub mod Map
 pub mod MapText
+pub mod Policy

@@ -6,6 +6,8 @@ pub use graph::{Graph, GraphLines};
 pub use line::{GraphLine, Key, SiteKind};
 pub use map::{Map, MapLine};
 pub use map_form::{read_map, write_map};
+pub use policy::{PlaceName, PlaceNames, Policy, PolicyLine};
+pub use policy_form::{read_policy, read_policy_part};
 pub use read::read_graph;
 pub use write::write_graph;
 
@@ -15,6 +17,8 @@ mod graph_form;
 mod line;
 mod map;
 mod map_form;
+mod policy;
+mod policy_form;
 mod read;
 mod rules;
 mod write;

@@ -1,0 +1,60 @@
+-- A policy: lines that each give a site its targets, in any order. A place is named by a symbol and an
+-- offset from it. What a text is read as.
+use Rattle.std.specs.Prelude.{ℕ, ◌+◌, ◌==◌, nat_lt, true, if◌then◌else◌, List, [], ◌∷◌, codes, drop, take, Option, Some, None, option_map, option_and_then, Result}
+use Rattle.std.specs.Option.{option_or}
+use Rattle.std.specs.Str.{bytes_eq}
+use Rattle.text_lines.specs.declared.hexadecimal.Case.TheVariants.{Either}
+use Rattle.text_lines.specs.Hex.{short_hex}
+use Rattle.text_lines.specs.Reading.{LineRules, Reading, read_text, whole}
+use Rattle.text_lines.specs.declared.end.TextEnd.{TextEnd}
+use Rattle.cfi_graph.specs.declared.policy.PlaceName.{PlaceName}
+use Rattle.cfi_graph.specs.declared.policy.PolicyLine.{PolicyLine}
+
+-- where the last `+` of a word stands
+unfoldable pub last_plus : List ℕ → Option ℕ
+last_plus [] = None
+last_plus (b ∷ rest) = option_or (option_map (λ k. k + 1) (last_plus rest)) (if b == 43 then Some 0 else None)
+
+-- before the last `+` stands a symbol, which has a byte at least, after it 1 to 8 digits of either case
+abbrev pub named_at : List ℕ → ℕ → Option PlaceName
+named_at word k =
+    if nat_lt 0 k then option_map (λ o. record { symbol = take k word; offset = o }) (short_hex Either (drop (k + 1) word)) else None
+
+-- the place that a word names, if it names one
+abbrev pub place_of : List ℕ → Option PlaceName
+place_of word = option_and_then (named_at word) (last_plus word)
+
+-- the places that words name
+unfoldable pub places_of : List (List ℕ) → Option (List PlaceName)
+places_of [] = Some []
+places_of (word ∷ rest) =
+    option_and_then (λ p. option_map (λ others. p ∷ others) (places_of rest)) (place_of word)
+
+-- after `site`: a place, and then its targets, none or more
+abbrev pub site_line_of : List (List ℕ) → Option PolicyLine
+site_line_of [] = None
+site_line_of (site ∷ rest) =
+    option_and_then (λ s. option_map (λ targets. record { site = s; targets = targets }) (places_of rest)) (place_of site)
+
+-- the line that words spell, if they spell one
+abbrev pub policy_line_of : List (List ℕ) → Option PolicyLine
+policy_line_of [] = None
+policy_line_of (name ∷ words) = if bytes_eq name (codes "site") then site_line_of words else None
+
+-- the form of a policy's lines: each number is allowed, and each order
+abbrev pub policy_rules : LineRules PolicyLine (Unit {0}) PolicyLine
+policy_rules = record {
+  spelled = policy_line_of;
+  in_range = λ line. true;
+  in_order = λ before line. true;
+  after = λ line. tt;
+  items = λ line. line ∷ [];
+}
+
+-- the lines before the first fault, and the fault, if there is one
+unfoldable pub policy_read : List ℕ → Reading PolicyLine
+policy_read text = read_text policy_rules tt (codes "rvcfi-policy 1") text
+
+-- what a text is read as
+unfoldable pub policy_of : List ℕ → Result (List PolicyLine) TextEnd
+policy_of text = whole (policy_read text)

@@ -1,0 +1,101 @@
+ghost use Rattle.std.specs.Prelude.{◌≡◌, ◌==◌, [], length};
+
+use rv_word::Bytes;
+use std::alloc::Global;
+use std::marker::Model;
+
+/// The name of a place: a symbol, and an offset from it in bytes.
+#[derive(Drop)]
+pub struct PlaceName {
+    /// The symbol's name.
+    pub symbol: Bytes,
+    /// The place's distance from it.
+    pub offset: u32,
+}
+
+/// A list of places' names that owns its memory.
+#[derive(Drop)]
+pub struct PlaceNames {
+    items: Vec<PlaceName>,
+}
+
+impl Model for PlaceNames {
+    ghost use Rattle.std.specs.Prelude.{List};
+    ghost use Rattle.cfi_graph.specs.declared.policy.PlaceName.{PlaceName};
+
+    ghost Value = { List PlaceName };
+
+    ghost view = { λ p. p.items.items };
+}
+
+impl PlaceNames {
+    /// The list with these names, in their order.
+    pub fn of(items: Vec<PlaceName>) -> Self
+        ensures { result ≡ items.items }
+    {
+        PlaceNames { items }
+    }
+
+    /// The names, lent.
+    pub fn as_slice(&self) -> &[PlaceName]
+        ensures { result.now ≡ self.now }
+    {
+        self.items.as_slice()
+    }
+}
+
+/// A line of a policy: a site, and where it may go.
+#[derive(Drop)]
+pub struct PolicyLine {
+    /// The site.
+    pub site: PlaceName,
+    /// Its targets.
+    pub targets: PlaceNames,
+}
+
+/// A policy: sites with their targets, in any order.
+#[derive(Drop)]
+pub struct Policy {
+    pub(crate) lines: Vec<PolicyLine>,
+}
+
+impl Model for Policy {
+    ghost use Rattle.std.specs.Prelude.{List};
+    ghost use Rattle.cfi_graph.specs.declared.policy.PolicyLine.{PolicyLine};
+
+    ghost Value = { List PolicyLine };
+
+    ghost view = { λ p. p.lines.items };
+}
+
+impl Policy {
+    /// The policy without lines. It takes no memory.
+    pub fn none(alloc: Global) -> Policy
+        ensures { result ≡ [] }
+    {
+        Policy {
+            lines: Vec::new(alloc),
+        }
+    }
+
+    /// The lines.
+    pub fn as_slice(&self) -> &[PolicyLine]
+        ensures { result.now ≡ self.now }
+    {
+        self.lines.as_slice()
+    }
+
+    /// How many lines there are.
+    pub fn len(&self) -> usize
+        ensures { result ≡ length self.now }
+    {
+        self.lines.len()
+    }
+
+    /// Whether there is no line.
+    pub fn is_empty(&self) -> bool
+        ensures { result ≡ (length self.now == 0) }
+    {
+        self.lines.is_empty()
+    }
+}
