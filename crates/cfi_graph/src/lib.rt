@@ -1,5 +1,6 @@
-//! Graphs of control flow as text: a graph is read from its one spelling, or refused at the first
-//! line that fails with the first reason, and is written back to the same bytes.
+//! Graphs of control flow, maps and policies as text: each is read, or refused at the first line that
+//! fails with the first reason. A graph or a map is read from its one spelling, and is written back to the
+//! same bytes.
 #![tactic(auto)]
 
 pub use graph::{Graph, GraphLines};

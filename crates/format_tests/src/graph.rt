@@ -147,7 +147,7 @@ fn joined(alloc: Global, head: &[u8], rest: &str) -> Result<Vec<u8>, AllocError>
 }
 
 /// Puts a newline in place of each `/`.
-fn break_lines(text: &mut [u8]) {
+pub(crate) fn break_lines(text: &mut [u8]) {
     for byte in text {
         if *byte == b'/' {
             *byte = b'\n';

@@ -1,0 +1,103 @@
+use crate::common::{is_told_as, rows};
+use cfi_graph::{PlaceName, Policy, read_policy, read_policy_part};
+use std::alloc::{AllocError, Global};
+
+/// A text after its first line, with `/` for each newline, how many lines are right, and as what the text
+/// is refused, if it is.
+const TEXTS: &[u8] = b"\
+    end/|0|\n\
+    |0|line 2: Form\n\
+    end//|0|line 3: Form\n\
+    site main+1c f+0/end/|1|\n\
+    site main+1C/site b+FFFFFFFF a+b+7 c+4/end/|2|\n\
+    site main+1c f+0/site g+4 h+00/end/|1|line 3: Form\n\
+    site main+1c f+0/site g+4 h/end/|1|line 3: Form\n\
+    site main+1c f+0/site g+4 +4/end/|1|line 3: Form\n\
+    site main+1c f+0/site g+4 h+/end/|1|line 3: Form\n\
+    site main+1c f+0/site g+4 h+100000000/end/|1|line 3: Form\n\
+    site main+1c f+0/site g+4  h+4/end/|1|line 3: Form\n\
+    site main+1c f+0/site/end/|1|line 3: Form\n\
+    site main+1c f+0/sites g+4/end/|1|line 3: Form\n\
+    site main+1c f+0/site g+4 h+0|1|line 3: Form\n\
+    site main+1c f+0/site g+4 h+0/|2|line 4: Form\n\
+";
+
+/// Whether a text is read as these words say, up to a fault and as a whole.
+fn is_read_as(alloc: Global, text: &[u8], count: &str, expected: &str) -> bool {
+    let (policy, end) = read_policy_part(alloc, text);
+    match end {
+        Ok(()) => expected.is_empty() && is_told_as(alloc, &policy.len(), count),
+        Err(end) => {
+            is_told_as(alloc, &end, expected)
+                && is_told_as(alloc, &policy.len(), count)
+                && is_refused_as(alloc, text, expected)
+        }
+    }
+}
+
+/// Whether a text is refused so.
+fn is_refused_as(alloc: Global, text: &[u8], expected: &str) -> bool {
+    match read_policy(alloc, text) {
+        Ok(_) => false,
+        Err(end) => is_told_as(alloc, &end, expected),
+    }
+}
+
+/// The text of a row, with its first line.
+fn text_of(alloc: Global, rest: &str) -> Result<Vec<u8>, AllocError> {
+    [b"rvcfi-policy 1\n", rest.as_bytes()].concat(alloc)
+}
+
+/// Whether a row says what its text is read as.
+fn is_right(alloc: Global, row: &str) -> bool {
+    let Some((rest, expected)) = row.split_once('|') else {
+        return false;
+    };
+    let Some((count, expected)) = expected.split_once('|') else {
+        return false;
+    };
+    match text_of(alloc, rest) {
+        Ok(mut text) => {
+            crate::graph::break_lines(&mut text);
+            is_read_as(alloc, &text, count, expected)
+        }
+        Err(_) => false,
+    }
+}
+
+#[test]
+fn policy_texts(rt: HostRuntime) {
+    for row in rows(TEXTS, 15).lines() {
+        assert!(rt; is_right(rt.alloc(), row), "{row}");
+    }
+}
+
+/// Whether a place has this name.
+fn is_place(place: &PlaceName, symbol: &[u8], offset: u32) -> bool {
+    place.symbol.as_slice() == symbol && place.offset == offset
+}
+
+/// Whether a policy has the one line of the worked text.
+fn has_the_line(policy: &Policy) -> bool {
+    let Some(line) = policy.as_slice().first() else {
+        return false;
+    };
+    let Some(target) = line.targets.as_slice().first() else {
+        return false;
+    };
+    is_place(&line.site, b"a+b", 0x1c) && is_place(target, b"f", 4)
+}
+
+/// Whether the worked text is read as its line.
+fn is_worked(alloc: Global) -> bool {
+    match read_policy(alloc, b"rvcfi-policy 1\nsite a+b+1C f+4\nend\n") {
+        Ok(policy) => has_the_line(&policy),
+        Err(_) => false,
+    }
+}
+
+#[test]
+fn names(rt: HostRuntime) {
+    assert!(rt; is_worked(rt.alloc()));
+    assert!(rt; Policy::none(rt.alloc()).is_empty());
+}
