@@ -1,5 +1,5 @@
 //! Words of the machine: exact bit numbers, the regions of memory, an image's bytes, and the
-//! answer for want of memory. All crates but `elf_bytes` and `tool_io` stand on this one.
+//! answer for want of memory. All crates but `rv_instr`, `elf_bytes` and `tool_io` stand on this one.
 #![tactic(auto)]
 
 pub use bits::{add64, field, low32, sext};
