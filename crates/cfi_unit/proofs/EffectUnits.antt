@@ -220,16 +220,18 @@ module _ {may : Shared → Shared → Type 0} {p : Profile} {part : ℕ} {image 
         (exec p (Store op rs1 rs2 imm) h s').shared ≡ with_memory s' (write (store_size op) s'.memory (sum_of h.regs rs1 imm) (get_reg h.regs rs2))
     own_store op rs1 rs2 imm s' can = rw can refl
 
-    stores_so : (op : StoreOp) (rs1 rs2 imm a v : ℕ) (s' : Shared) → Now may p part image base pending h.regs s h s' → a < 2 ^ 28 →
-        (sum_of h.regs rs1 imm < 2 ^ 28 → a ≡ sum_of h.regs rs1 imm) → (rs2 ≢ 31 → v ≡ get_reg h.regs rs2) →
+    stores_so : (op : StoreOp) (rs1 rs2 imm a v : ℕ) (s' : Shared) → Now may p part image base pending h.regs s h s' →
+        a ≡ sum_of h.regs rs1 imm % 2 ^ 28 → (rs2 ≢ 31 → v ≡ get_reg h.regs rs2) →
         Stores p op rs1 rs2 imm h (may s) (with_memory s' (write (store_size op) s'.memory a v))
-    stores_so op rs1 rs2 imm a v s' on near place value = record {
+    stores_so op rs1 rs2 imm a v s' on place value = record {
       seen = s';
       may_see = on.since;
       memory_alone = refl;
+      masked = λ other. rw (place, value other) refl;
       stored = λ low other.
           let can = can_store_data p (sum_of h.regs rs1 imm) (store_size op) low (store_size-small op) in
-          rw (place low, value other) (sym (own_store op rs1 rs2 imm s' can));
+          let same : a ≡ sum_of h.regs rs1 imm = omega arith in
+          rw (same, value other) (sym (own_store op rs1 rs2 imm s' can));
     }
 
     -- data alone is written
@@ -261,7 +263,7 @@ module _ {may : Shared → Shared → Type 0} {p : Profile} {part : ℕ} {image 
           pc = omega arith;
           regs = now4.same;
           pointer = x3;
-          shared = stores_so op rs1 rs2 imm masked (get_reg regs rs2) s4 (moved now4 h (record { same = λ k free. refl })) near (λ low. omega arith)
+          shared = stores_so op rs1 rs2 imm masked (get_reg regs rs2) s4 (moved now4 h (record { same = λ k free. refl })) refl
               (λ other. get_other h.regs regs rs2 (unwritten h.regs sum (sum * 2 ^ 36 % 2 ^ 64) masked rs2 other));
           context = written_context op masked (get_reg regs rs2) s4 now4.own near now4.context;
         })))))))

@@ -1,13 +1,14 @@
 -- How a unit is left: to where, with which registers and pending sites, and what harts then share.
-use Rattle.std.specs.Prelude.{◌≡◌, ◌≢◌, ℕ, ◌+◌, ◌^◌, ◌<◌, false, List, length, Option, Some}
+use Rattle.std.specs.Prelude.{◌≡◌, ◌≢◌, ℕ, ◌+◌, ◌%◌, ◌^◌, ◌<◌, false, List, length, Option, Some}
 use Rattle.rv_word.specs.Layout.{Profile}
 use Rattle.rv_word.specs.Memory.{Memory, write}
 use Rattle.rv_instr.specs.Operands.{written}
-use Rattle.rv_instr.specs.Registers.{Registers}
+use Rattle.rv_instr.specs.Registers.{Registers, get_reg}
 use Rattle.rv_instr.specs.Reserved.{is_reserved}
 use Rattle.rv_instr.specs.declared.instr.Instr.{Instr}
 use Rattle.rv_instr.specs.declared.instr.Instr.TheVariants.{Store, Ecall}
 use Rattle.rv_instr.specs.declared.instr.StoreOp.{StoreOp}
+use Rattle.rv_code.specs.Arithmetic.{store_size}
 use Rattle.rv_code.specs.State.{Hart, Shared, After}
 use Rattle.rv_code.specs.Step.{exec}
 use Rattle.rv_code.specs.declared.turn.Turn.TheVariants.{Ran}
@@ -61,10 +62,13 @@ pub record Executes (p : Profile) (part : ℕ) (image base : Memory) (instr : In
   pub context : after.turn ≡ Ran → Context part image base pending after.shared
   pub pc : after.turn ≡ Ran → after.hart.pc ≡ h.pc + 4
 
--- a store writes memory alone; where its address lies below 2 ^ 28, and it does not store x31, it
--- leaves what its own instruction leaves
+-- a store writes memory alone: its register's value, at its address modulo 2 ^ 28; so where the
+-- address lies below 2 ^ 28 it leaves what its own instruction leaves. x31 is not stored, as the unit
+-- itself writes it
 pub record Stores (p : Profile) (op : StoreOp) (rs1 rs2 imm : ℕ) (h : Hart) (IsShared : Shared → Type 0) (s' : Shared) : Type 0 where
   pub seen : Shared
   pub may_see : IsShared seen
   pub memory_alone : s' ≡ with_memory seen s'.memory
+  pub masked : rs2 ≢ 31 →
+      s' ≡ with_memory seen (write (store_size op) seen.memory (sum_of h.regs rs1 imm % 2 ^ 28) (get_reg h.regs rs2))
   pub stored : sum_of h.regs rs1 imm < 2 ^ 28 → rs2 ≢ 31 → s' ≡ (exec p (Store op rs1 rs2 imm) h seen).shared
