@@ -5,7 +5,7 @@
 
 pub use graph::{Graph, GraphLines};
 pub use line::{GraphLine, Key, SiteKind};
-pub use map::{Map, MapLine};
+pub use map::{Map, MapLine, MapLines};
 pub use map_form::{read_map, write_map};
 pub use policy::{PlaceName, PlaceNames, Policy, PolicyLine};
 pub use policy_form::{read_policy, read_policy_part};

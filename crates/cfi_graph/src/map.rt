@@ -1,7 +1,9 @@
-ghost use Rattle.std.specs.Prelude.{◌≡◌, ◌<◌, ◌==◌, length, slice_get, Some};
+ghost use Rattle.std.specs.Prelude.{◌≡◌, ◌<◌, ◌==◌, ◌++◌, ◌∷◌, [], length, slice_get, Ok, OnErr, OnOk, Some};
 ghost use Rattle.cfi_graph.specs.Map.{IsMap, is_gate, map_line_below, map_line_in_range, place_below};
 
+use rv_word::NoMemory;
 use rv_word::memory_map::{CODE_SIZE, CODE_START};
+use std::alloc::Global;
 use std::marker::Model;
 
 /// A line of a map: a place of a program, which is a section's number and an offset, and its gate.
@@ -46,10 +48,64 @@ impl MapLine {
     }
 }
 
+/// A list of a map's lines that owns its memory.
+#[derive(Drop)]
+pub struct MapLines {
+    items: Vec<MapLine>,
+}
+
+impl Model for MapLines {
+    ghost use Rattle.std.specs.Prelude.{List};
+    ghost use Rattle.cfi_graph.specs.declared.map.MapLine.{MapLine};
+
+    ghost Value = { List MapLine };
+
+    ghost view = { λ l. l.items.items };
+}
+
+impl MapLines {
+    /// The list with these lines, in their order.
+    pub fn of(items: Vec<MapLine>) -> Self
+        ensures { result ≡ items.items }
+    {
+        MapLines { items }
+    }
+
+    /// Puts a line at the end; a refusal leaves the list as it was.
+    pub(crate) fn push(&mut self, line: MapLine) -> Result<(), NoMemory>
+        ensures grown { OnOk result (self.new ≡ self.old ++ line ∷ []) }
+        ensures refused { OnErr result (self.new ≡ self.old) }
+    {
+        self.items.push(line)?;
+        Ok(())
+    }
+
+    /// The lines, as a slice.
+    pub fn as_slice(&self) -> &[MapLine]
+        ensures { result.now ≡ self.now }
+    {
+        self.items.as_slice()
+    }
+
+    /// How many lines there are.
+    pub fn len(&self) -> usize
+        ensures { result ≡ length self.now }
+    {
+        self.items.len()
+    }
+
+    /// Whether there is no line.
+    pub fn is_empty(&self) -> bool
+        ensures { result ≡ (length self.now == 0) }
+    {
+        self.items.is_empty()
+    }
+}
+
 /// A map: the gates of a program's places, in order.
 #[derive(Drop)]
 pub struct Map {
-    pub(crate) lines: Vec<MapLine>,
+    pub(crate) lines: MapLines,
 }
 
 impl Model for Map {
@@ -59,18 +115,18 @@ impl Model for Map {
 
     ghost Value = { List MapLine };
 
-    ghost view = { λ m. m.lines.items };
+    ghost view = { λ m. m.lines };
 
-    ghost invariant = { λ m. IsMap m.lines.items };
+    ghost invariant = { λ m. IsMap m.lines };
 }
 
 impl Map {
     /// The map with these lines, which are those that a map may have. It takes no memory.
-    pub fn of(lines: Vec<MapLine>) -> Map
-        requires { IsMap lines.items }
-        ensures { result ≡ lines.items }
+    pub fn of(_alloc: Global, lines: MapLines) -> Result<Map, NoMemory>
+        requires { IsMap lines }
+        ensures { result ≡ Ok lines }
     {
-        Map { lines }
+        Ok(Map { lines })
     }
 
     /// The lines.
@@ -81,17 +137,18 @@ impl Map {
         self.lines.as_slice()
     }
 
-    /// How many lines there are.
-    pub fn len(&self) -> usize
+    /// The number of lines.
+    pub fn lines(&self) -> u64
         ensures { result ≡ length self.now }
     {
-        self.lines.len()
+        self.lines.len() as u64
     }
 
-    /// Whether there is no line.
-    pub fn is_empty(&self) -> bool
-        ensures { result ≡ (length self.now == 0) }
+    /// The line with the index `k`, from 0.
+    pub fn line(&self, k: u64) -> &MapLine
+        requires { k < length self.now }
+        ensures { slice_get self.now k ≡ Some result.now }
     {
-        self.lines.is_empty()
+        &self.lines.as_slice()[k as usize]
     }
 }

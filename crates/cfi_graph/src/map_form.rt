@@ -6,7 +6,7 @@ ghost use Rattle.cfi_graph.specs.declared.map.MapLine.{MapLine};
 ghost use Rattle.cfi_graph.specs.Map.{IsMap};
 ghost use Rattle.cfi_graph.specs.MapText.{in_map_order, map_line_of, map_of, map_rules, map_text, map_words};
 
-use crate::map::{Map, MapLine};
+use crate::map::{Map, MapLine, MapLines};
 use rv_word::NoMemory;
 use std::alloc::Global;
 use text_lines::{LineForm, TextEnd, cut, hex_of, is_word, push_number, read_text};
@@ -39,7 +39,7 @@ fn map_line_of(line: &[u8]) -> Option<MapLine>
 #[derive(Drop)]
 struct MapForm {
     before: Option<MapLine>,
-    lines: Vec<MapLine>,
+    lines: MapLines,
 }
 
 impl LineForm for MapForm {
@@ -53,7 +53,7 @@ impl LineForm for MapForm {
 
     ghost before = { λ form. form.before };
 
-    ghost items = { λ form. form.lines.items };
+    ghost items = { λ form. form.lines };
 
     fn line_of(&self, _alloc: Global, line: &[u8]) -> Result<Option<MapLine>, NoMemory> {
         Ok(map_line_of(line))
@@ -91,7 +91,7 @@ pub fn read_map(alloc: Global, text: &[u8]) -> Result<Map, TextEnd>
 {
     let mut form = MapForm {
         before: None,
-        lines: Vec::new(alloc),
+        lines: MapLines::of(Vec::new(alloc)),
     };
     read_text(alloc, &mut form, b"rvcfi-map 1", text)?;
     Ok(Map { lines: form.lines })

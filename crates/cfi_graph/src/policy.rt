@@ -1,4 +1,4 @@
-ghost use Rattle.std.specs.Prelude.{◌≡◌, ◌==◌, [], length};
+ghost use Rattle.std.specs.Prelude.{◌≡◌, ◌<◌, [], length, slice_get, Some};
 
 use rv_word::Bytes;
 use std::alloc::Global;
@@ -85,17 +85,18 @@ impl Policy {
         self.lines.as_slice()
     }
 
-    /// How many lines there are.
-    pub fn len(&self) -> usize
+    /// The number of lines.
+    pub fn lines(&self) -> u64
         ensures { result ≡ length self.now }
     {
-        self.lines.len()
+        self.lines.len() as u64
     }
 
-    /// Whether there is no line.
-    pub fn is_empty(&self) -> bool
-        ensures { result ≡ (length self.now == 0) }
+    /// The line with the index `k`, from 0.
+    pub fn line(&self, k: u64) -> &PolicyLine
+        requires { k < length self.now }
+        ensures { slice_get self.now k ≡ Some result.now }
     {
-        self.lines.is_empty()
+        &self.lines.as_slice()[k as usize]
     }
 }

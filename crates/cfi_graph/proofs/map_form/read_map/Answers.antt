@@ -21,22 +21,22 @@ pub returns-in_err-read_text-clause-only : goal.returns-in_err-read_text-clause-
 returns-in_err-read_text-clause-only c = (reading c.args.text.now c.from_residual.result (refused c)).only
 
 -- the lines that were collected are those that are read
-collected : (c : In_ok-read_text) → map_of c.args.text.now ≡ Ok c.read_text.new.form.lines.items
+collected : (c : In_ok-read_text) → map_of c.args.text.now ≡ Ok c.read_text.new.form.lines
 unfolding map_of
 collected c =
-    lines_whole (read_text map_rules None (codes "rvcfi-map 1") c.args.text.now) c.read_text.new.form.lines.items c.in_ok-read_text.ensures.exact (rw c.new.ensures.items at c.in_ok-read_text.ensures.collected)
+    lines_whole (read_text map_rules None (codes "rvcfi-map 1") c.args.text.now) c.read_text.new.form.lines c.in_ok-read_text.ensures.exact (rw (c.of.ensures, c.new.ensures.items) at c.in_ok-read_text.ensures.collected)
 
 pub invariant_of-result : goal.invariant_of-result
-invariant_of-result c = map_of_allowed c.args.text.now c.read_text.new.form.lines.items (collected c)
+invariant_of-result c = map_of_allowed c.args.text.now c.read_text.new.form.lines (collected c)
 
 pub returns-clause-exact : goal.returns-clause-exact
 returns-clause-exact c = collected c
 
 pub returns-clause-allowed : goal.returns-clause-allowed
-returns-clause-allowed c = (reading c.args.text.now (Ok c.read_text.new.form.lines.items) (collected c)).allowed
+returns-clause-allowed c = (reading c.args.text.now (Ok c.read_text.new.form.lines) (collected c)).allowed
 
 pub returns-clause-spelled : goal.returns-clause-spelled
-returns-clause-spelled c = (reading c.args.text.now (Ok c.read_text.new.form.lines.items) (collected c)).spelled
+returns-clause-spelled c = (reading c.args.text.now (Ok c.read_text.new.form.lines) (collected c)).spelled
 
 pub returns-clause-only : goal.returns-clause-only
-returns-clause-only c = (reading c.args.text.now (Ok c.read_text.new.form.lines.items) (collected c)).only
+returns-clause-only c = (reading c.args.text.now (Ok c.read_text.new.form.lines) (collected c)).only

@@ -9,7 +9,7 @@ use Rattle.cfi_graph.proofs.map_form.write_map.Goals as goal
 
 written : (c : In_ok-extend_from_slice-2) → c.extend_from_slice-2.new.self.items ≡ map_text c.args.map.now
 written c =
-    let lines = c.in_ok-push_lines.ensures ∙ ap (λ ls. c.extend_from_slice.new.self.items ++ flat_map (λ l. spaced (map_words l) ++ 10 ∷ []) ls) c.as_slice.ensures.value in
+    let lines = c.in_ok-push_lines.ensures ∙ ap (λ ls. c.extend_from_slice.new.self.items ++ flat_map (λ l. spaced (map_words l) ++ 10 ∷ []) ls) c.as_slice.ensures in
     rw (← c.map.view_is) (map_written _ c.new-out.ensures.items c.in_ok-extend_from_slice.ensures.items lines c.in_ok-extend_from_slice-2.ensures.items)
 
 pub returns-clause-text : goal.returns-clause-text
