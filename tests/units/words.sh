@@ -14,6 +14,6 @@ words() {
 }
 
 words prologue 0x40000000
-for name in b h p other exits deep loop astray break load status; do
+for name in b h p other exits deep loop astray break load status near skips; do
     words "$name" 0x40000040
 done
