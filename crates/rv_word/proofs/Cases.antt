@@ -12,11 +12,6 @@ pub chosen : {A : Type 0} (b : Bool) (x y z : A) → (if b then x else y) ≡ z 
 chosen true x y z e = inl (refl, e)
 chosen false x y z e = inr (refl, e)
 
--- an answer that is given only where a test holds
-pub guarded : {A : Type 0} (b : Bool) (x : Option A) (y : A) → (if b then x else None) ≡ Some y → (b ≡ true) × (x ≡ Some y)
-guarded true x y e = (refl, e)
-guarded false x y e = absurd (none-some y e)
-
 -- an answer that was made of another
 pub mapped : {A B : Type 0} (f : A → B) (o : Option A) (y : B) → option_map f o ≡ Some y → (x : A) × (o ≡ Some x) × (f x ≡ y)
 mapped f None y e = absurd (none-some y e)
