@@ -205,7 +205,8 @@ is_jump other = false
 abbrev pub skips_jump : ℕ → Option Instr → Bool
 skips_jump imm next = (imm == skip_offset) && is_jump next
 
--- words may follow a unit at an address: all may, but a near branch over a jump is another unit
+-- these words may follow a unit at an address: a near branch and the jump that it leads over are one
+-- other unit
 abbrev pub may_precede : U.Unit → ℕ → List ℕ → Bool
 may_precede (V.Near op rs1 rs2 target) at rest = not (skips_jump (near_offset at target) (instr_at rest 0))
 may_precede other at rest = true

@@ -23,7 +23,8 @@ use crate::unit::{SystemOp, Unit};
 use rv_code::decode;
 use rv_instr::{BranchOp, Immediate, Instr, Reg, UpperOp};
 
-/// The unit that begins a list of words at an address, and how many words it has.
+/// The unit that begins a list of words at an address, and how many words it has. A branch is read with
+/// the word after it, so a list that ends before the code does may give another unit at its end.
 pub fn recognise(words: &[u32], at: u64) -> Option<(Unit, u32)>
     requires { at < CODE_START + CODE_SIZE }
     ensures value { result ≡ option_map (λ u. (u, word_count u)) (recognised words.now at) }

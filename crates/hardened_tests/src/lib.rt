@@ -5,6 +5,8 @@
 #[cfg(test)]
 mod class;
 #[cfg(test)]
+mod near;
+#[cfg(test)]
 mod run;
 #[cfg(test)]
 mod script;
