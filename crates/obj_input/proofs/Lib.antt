@@ -3,3 +3,4 @@ mod Found
 mod Wholes
 mod Busy
 mod Reach
+mod Rows

@@ -5,7 +5,8 @@ use Rattle.obj_input.specs.declared.parts.Sort.{Sort}
 use Rattle.obj_input.specs.declared.parts.Block.{Block}
 use Rattle.obj_input.specs.Input.{InputParts, SectionParts, section_of, is_data_sort, is_zeros_sort}
 use Rattle.obj_input.specs.Listed.{listed}
-use Rattle.obj_input.specs.Layout.{address_by, after, after_if, aligned, block, block_address, blocks_reach, data_start, init_end, no_block, reach, section_address, zeros_end}
+use Rattle.obj_input.specs.Layout.{address_by, after, after_if, aligned, block, block_address, blocks_reach, init_end, no_block, reach, section_address, zeros_end}
+use Rattle.rv_word.specs.Layout.{DATA_START}
 
 pub reach_begins : (input : InputParts) (wanted : Sort → Bool) (start : ℕ) → start ≡ reach input wanted start 0
 unfolding reach
@@ -36,7 +37,7 @@ unfolding listed
 listed_next given k so_far next x here is e = rw (add-one, ← here, ← is) e
 
 pub section_address_is : (input : InputParts) (k init rest address : ℕ) (section : SectionParts)
-    → init ≡ reach input is_data_sort data_start k → rest ≡ reach input is_zeros_sort (init_end input) k → section ≡ section_of input k
+    → init ≡ reach input is_data_sort DATA_START k → rest ≡ reach input is_zeros_sort (init_end input) k → section ≡ section_of input k
     → address ≡ address_by section.sort init rest section.align → address ≡ section_address input k
 unfolding section_address
 section_address_is input k init rest address section d z is e = rw (← d, ← z, ← is) e

@@ -1,14 +1,12 @@
--- Where data stand: from 10000h on the sections with bytes in the file, in their order, then those
+-- Where data stand: from DATA_START on the sections with bytes in the file, in their order, then those
 -- without, then the blocks, each at its alignment.
 use Rattle.std.specs.Prelude.{ℕ, zero, suc, ◌+◌, ◌-◌, ◌*◌, ◌/◌, max, Bool, if◌then◌else◌, List, length, slice_index_or}
+use Rattle.rv_word.specs.Layout.{DATA_START}
 use Rattle.obj_input.specs.declared.parts.Sort.{Sort}
 use Rattle.obj_input.specs.declared.parts.Sort.TheVariants.{Data, Zeros}
 use Rattle.obj_input.specs.declared.parts.Block.{Block}
 use Rattle.obj_input.specs.Listed.{listed}
 use Rattle.obj_input.specs.Input.{InputParts, is_data_sort, is_zeros_sort, section_count, section_of}
-
-abbrev pub data_start : ℕ
-data_start = 0x10000
 
 -- the next multiple; an alignment of 0 is one of 1
 abbrev pub aligned : ℕ → ℕ → ℕ
@@ -27,7 +25,7 @@ reach input wanted start (suc k) =
     after_if (wanted (section_of input k).sort) (reach input wanted start k) (section_of input k).size (section_of input k).align
 
 unfoldable pub init_end : InputParts → ℕ
-init_end input = reach input is_data_sort data_start (section_count input)
+init_end input = reach input is_data_sort DATA_START (section_count input)
 
 unfoldable pub zeros_end : InputParts → ℕ
 zeros_end input = reach input is_zeros_sort (init_end input) (section_count input)
@@ -53,7 +51,7 @@ address_by other init rest align = 0
 
 unfoldable pub section_address : InputParts → ℕ → ℕ
 section_address input k =
-    address_by (section_of input k).sort (reach input is_data_sort data_start k) (reach input is_zeros_sort (init_end input) k)
+    address_by (section_of input k).sort (reach input is_data_sort DATA_START k) (reach input is_zeros_sort (init_end input) k)
     (section_of input k).align
 
 unfoldable pub block_address : InputParts → ℕ → ℕ

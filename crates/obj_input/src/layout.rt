@@ -7,11 +7,9 @@ use crate::input::Input;
 use crate::parts::{Block, Sort};
 use crate::section::Section;
 use rv_word::NoMemory;
+use rv_word::memory_map::DATA_START;
 use std::alloc::Global;
 use std::marker::Model;
-
-/// Where data begin.
-const DATA_START: u128 = 0x1_0000;
 
 /// The next address that is a multiple of an alignment; an alignment of 0 is one of 1.
 fn aligned(at: u128, align: u64) -> u128
@@ -51,7 +49,7 @@ fn init_end(input: &Input) -> u128
     ensures value { result ≡ init_end input.now }
     ensures bound { result ≤ 2 ^ 98 }
 {
-    let mut at = DATA_START;
+    let mut at = u128::from(DATA_START);
     for k in 0..input.section_count() {
         let section = input.section(k);
         at = after_if(section.is_data(), at, section);
@@ -94,7 +92,7 @@ fn section_addresses(alloc: Global, input: &Input, start: u128) -> Result<Vec<u1
     requires small { start ≤ 2 ^ 98 }
     ensures { IfOk result (λ v. v.items ≡ listed (section_address input.now) (section_count input.now)) }
 {
-    let mut init = DATA_START;
+    let mut init = u128::from(DATA_START);
     let mut rest = start;
     let mut addresses = Vec::new(alloc);
     for k in 0..input.section_count() {
@@ -129,7 +127,7 @@ fn placed_blocks(alloc: Global, input: &Input, start: u128) -> Result<Placed, No
     Ok(Placed { addresses, end })
 }
 
-/// Where data stand: from 10000h on the sections with bytes in the file, then those without, then the blocks. No
+/// Where data stand: from `DATA_START` on the sections with bytes in the file, then those without, then the blocks. No
 /// address wraps; whether they fit into memory is not asked here.
 #[derive(Drop)]
 pub struct Layout {

@@ -1,7 +1,8 @@
 use Rattle.std.proofs.Common.{◌≡◌, ◌≤◌, ◌+◌, ◌*◌, ◌^◌}
 use Rattle.obj_input.specs.Input.{is_data_sort}
-use Rattle.obj_input.specs.Layout.{data_start, reach}
+use Rattle.obj_input.specs.Layout.{reach}
+use Rattle.rv_word.specs.Layout.{DATA_START}
 use Rattle.obj_input.proofs.layout.init_end.Given as goal
 
 abbrev pub invariant-loop-k : goal.invariant-loop-k
-invariant-loop-k l = (l.at ≡ reach l.input is_data_sort data_start l.k) × (l.at ≤ 2 ^ 16 + l.k * 2 ^ 65)
+invariant-loop-k l = (l.at ≡ reach l.input is_data_sort DATA_START l.k) × (l.at ≤ 2 ^ 16 + l.k * 2 ^ 65)

@@ -1,12 +1,13 @@
 use Rattle.std.proofs.Common.{arith, ◌∙◌}
 use Rattle.obj_input.specs.Input.{is_data_sort, is_zeros_sort}
-use Rattle.obj_input.specs.Layout.{data_start, init_end, section_address}
+use Rattle.obj_input.specs.Layout.{init_end, section_address}
+use Rattle.rv_word.specs.Layout.{DATA_START}
 use Rattle.obj_input.proofs.Reach.{listed_begins, listed_next, reach_begins, reach_next, section_address_is}
 use Rattle.obj_input.proofs.layout.section_addresses.Goals as goal
 
 pub loop-k-init : goal.loop-k-init
 loop-k-init c = (
-  reach_begins c.args.input.now is_data_sort data_start,
+  c.from-init.ensures ∙ reach_begins c.args.input.now is_data_sort DATA_START,
   omega arith,
   c.requires.start ∙ reach_begins c.args.input.now is_zeros_sort (init_end c.args.input.now),
   omega arith,
@@ -15,7 +16,7 @@ loop-k-init c = (
 
 pub loop-k-preserved : goal.loop-k-preserved
 loop-k-preserved c = (
-  reach_next c.args.input.now is_data_sort data_start c.loop-k.k _ _ _ _ c.loop-k.invariant.0 c.section-section.ensures c.is_data.ensures c.after_if-init.ensures.value,
+  reach_next c.args.input.now is_data_sort DATA_START c.loop-k.k _ _ _ _ c.loop-k.invariant.0 c.section-section.ensures c.is_data.ensures c.after_if-init.ensures.value,
   omega arith,
   reach_next c.args.input.now is_zeros_sort (init_end c.args.input.now) c.loop-k.k _ _ _ _ c.loop-k.invariant.2 c.section-section.ensures c.is_zeros.ensures
       c.after_if-rest.ensures.value,

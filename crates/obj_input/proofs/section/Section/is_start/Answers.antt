@@ -1,4 +1,4 @@
-use Rattle.std.proofs.Common.{◌≡◌, ◌∙◌, sym, true}
+use Rattle.std.proofs.Common.{◌∙◌, sym}
 use Rattle.obj_input.proofs.Wholes.{start_parts}
 use Rattle.obj_input.proofs.section.Section.is_start.Goals as goal
 
