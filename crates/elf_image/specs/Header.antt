@@ -1,6 +1,6 @@
 -- The headers of an image, field by field in the order of the file (System V gABI, "ELF Header" and "Program Header").
-use Rattle.std.specs.Prelude.{ℕ, ◌+◌, ◌*◌, ◌/◌, ◌^◌, min, max, nat_le, Bool, ◌&&◌, List, [], ◌∷◌, ◌++◌}
-use Rattle.rv_word.specs.Layout.{START}
+use Rattle.std.specs.Prelude.{ℕ, ◌+◌, ◌-◌, ◌*◌, ◌/◌, ◌^◌, min, max, nat_le, Bool, ◌&&◌, List, [], ◌∷◌, ◌++◌}
+use Rattle.rv_word.specs.Layout.{CODE_SIZE, CODE_START, DATA_END, DATA_START, SHADOW_START, START, version_1}
 use Rattle.elf_image.specs.declared.field.Field.{Field}
 use Rattle.elf_image.specs.declared.field.Segment.{Segment}
 
@@ -64,15 +64,15 @@ data_length init = min init (2 ^ 25)
 
 -- data: PF_R and PF_W
 abbrev pub data_segment : ℕ → ℕ → Segment
-data_segment code init = record { flags = 6; offset = data_start code; address = 0x10000; file_size = data_length init; memory_size = 0xfff1000 }
+data_segment code init = record { flags = 6; offset = data_start code; address = DATA_START; file_size = data_length init; memory_size = DATA_END - DATA_START }
 
 -- code: PF_R and PF_X
 abbrev pub code_segment : ℕ → Segment
-code_segment code = record { flags = 5; offset = 0x1000; address = 0x40000000; file_size = code_length code; memory_size = 0x100000 }
+code_segment code = record { flags = 5; offset = 0x1000; address = CODE_START; file_size = code_length code; memory_size = CODE_SIZE }
 
 -- the shadow stack: PF_R and PF_W, nothing of it in the file
 abbrev pub shadow_segment : Segment
-shadow_segment = record { flags = 6; offset = 0; address = 0x60000000; file_size = 0; memory_size = 0x10000 }
+shadow_segment = record { flags = 6; offset = 0; address = SHADOW_START; file_size = 0; memory_size = version_1.shadow_size }
 
 -- the fields of a file with `code` bytes of code and `init` of data: 232 bytes
 abbrev pub fields_of : ℕ → ℕ → List Field

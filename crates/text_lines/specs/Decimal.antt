@@ -1,9 +1,10 @@
 -- Numbers in decimal digits.
 use Rattle.std.specs.Prelude.{ℕ, ◌+◌, ◌-◌, ◌*◌, ◌==◌, nat_le, ◌&&◌, if◌then◌else◌, List, [], ◌∷◌, Option, Some, None, option_and_then}
+use Rattle.text_lines.specs.declared.decimal.TheConstants as constants
 
 -- the largest number of steps that may be asked for
 abbrev pub MAX_STEP : ℕ
-MAX_STEP = 1000000000
+MAX_STEP = constants.MAX_STEP
 
 abbrev pub decimal_digit : ℕ → Option ℕ
 decimal_digit b = if nat_le 48 b && nat_le b 57 then Some (b - 48) else None
