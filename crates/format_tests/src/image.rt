@@ -1,8 +1,8 @@
 ghost use Rattle.std.specs.Prelude.{◌≡◌, length};
 
-use crate::common::{is_told_as, put};
+use crate::common::put;
 use elf_image::{ImageRefusal, read_image, write_image};
-use sample_programs::{A, code};
+use sample_programs::{A, code, is_told_as};
 use std::alloc::Global;
 
 /// The headers of the image of a program that exits with 7, by hand, 8 bytes a line.

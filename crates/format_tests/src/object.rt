@@ -1,6 +1,7 @@
-use crate::common::{is_told_as, put, rows};
+use crate::common::put;
 use elf_object::{Object, Reloc, Relocs, Section, Symbol};
 use elf_tables::constants::{SHT_NOBITS, STB_GLOBAL, STT_OBJECT};
+use sample_programs::{is_told_as, rows};
 use std::alloc::{AllocError, Global};
 
 /// The sizes of the fields of a header, of a section's header, of a symbol and of a relocation.

@@ -1,5 +1,5 @@
-//! Tests of hardened code through the public calls: classes, units, the verifier, walks, runs and
-//! scripts. They stand beside the crates that they test, so that these are proved once.
+//! Tests of hardened code through the public calls: classes, units, the verifier, walks and
+//! runs. They stand beside the crates that they test, so that these are proved once.
 #![tactic(auto)]
 
 #[cfg(test)]
@@ -8,8 +8,6 @@ mod class;
 mod near;
 #[cfg(test)]
 mod run;
-#[cfg(test)]
-mod script;
 #[cfg(test)]
 mod unit;
 #[cfg(test)]

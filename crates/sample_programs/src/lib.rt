@@ -1,5 +1,6 @@
 //! Programs that tests verify and run: the words of their units, their graphs and their data, and what
-//! makes their code of them. They stand here alone, since several crates of tests use them.
+//! makes their code of them; and how tables of tests are read. They stand here alone, since several crates
+//! of tests use them.
 #![tactic(auto)]
 
 pub use bytes::code;
@@ -9,6 +10,7 @@ pub use graphs::{
     H_GRAPH, JUMP_GRAPH, LOAD_GRAPH, LOOP_GRAPH, NARROW_GRAPH, NOWHERE_GRAPH, P_GRAPH,
     RELABELLED_GRAPH, STATUS_GRAPH,
 };
+pub use tables::{is_told_as, rows};
 pub use units::{
     A, AIMED, ASTRAY, B, BREAK, DEEP, ECHO, EDGE, H, JUMP, LOAD, LOOP, NARROW, NOWHERE, OTHER, P,
     PROLOGUE, RELABELLED, STATUS,
@@ -17,4 +19,5 @@ pub use units::{
 mod bytes;
 mod data;
 mod graphs;
+mod tables;
 mod units;

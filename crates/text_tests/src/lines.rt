@@ -1,4 +1,4 @@
-use crate::common::is_told_as;
+use sample_programs::is_told_as;
 use std::alloc::Global;
 use text_lines::{
     Address, Case, LongAddress, Reason, capped_number, decimal_of, hex_of, short_hex_of,

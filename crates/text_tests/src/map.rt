@@ -1,6 +1,6 @@
-use crate::common::{is_told_as, rows};
 use cfi_graph::{Map, MapLine, MapLines, read_map, write_map};
 use rv_word::NoMemory;
+use sample_programs::{is_told_as, rows};
 use std::alloc::{AllocError, Global};
 
 /// A text after its first line, with `/` for each newline, and what it is read as.

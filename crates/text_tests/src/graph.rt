@@ -1,7 +1,6 @@
-use crate::common::{is_told_as, rows};
 use cfi_graph::{Graph, GraphLine, GraphLines, read_graph, write_graph};
 use rv_word::NoMemory;
-use sample_programs::P_GRAPH;
+use sample_programs::{P_GRAPH, is_told_as, rows};
 use std::alloc::{AllocError, Global};
 
 const FIRST: &[u8] = b"rvcfi-graph 1\n";

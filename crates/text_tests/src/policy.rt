@@ -1,5 +1,5 @@
-use crate::common::{is_told_as, rows};
 use cfi_graph::{PlaceName, Policy, read_policy, read_policy_part};
+use sample_programs::{is_told_as, rows};
 use std::alloc::{AllocError, Global};
 
 /// A text after its first line, with `/` for each newline, how many lines are right, and as what the text
