@@ -1,5 +1,6 @@
 //! Tests of the readers and writers of files through their public calls: numbers, images, objects by hand and of
-//! compilers, and graphs. They stand beside the crates that they test, so that these are proved once.
+//! compilers, what is wrong with objects' instructions and relocations, and graphs. They stand beside the crates that
+//! they test, so that these are proved once.
 #![tactic(auto)]
 
 #[cfg(test)]
@@ -12,6 +13,10 @@ mod compiled;
 mod graph;
 #[cfg(test)]
 mod image;
+#[cfg(test)]
+mod item_rows;
+#[cfg(test)]
+mod items;
 #[cfg(test)]
 mod object;
 #[cfg(test)]
