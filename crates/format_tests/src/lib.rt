@@ -1,5 +1,6 @@
-//! Tests of the readers and writers of files through their public calls: numbers, images, and objects by hand and of
-//! compilers. They stand beside the crates that they test, so that these are proved once.
+//! Tests of the readers and writers of files through their public calls: numbers, images, objects by hand and of
+//! compilers, and what is wrong with objects' instructions and relocations. They stand beside the crates that they
+//! test, so that these are proved once.
 #![tactic(auto)]
 
 #[cfg(test)]
@@ -10,6 +11,10 @@ mod common;
 mod compiled;
 #[cfg(test)]
 mod image;
+#[cfg(test)]
+mod item_rows;
+#[cfg(test)]
+mod items;
 #[cfg(test)]
 mod object;
 #[cfg(test)]

@@ -169,7 +169,7 @@ fn put_all_fields(file: &mut [u8]) {
 }
 
 /// The object: its fields, its code, the names of its symbols and of its sections, and else zeros.
-fn object() -> [u8; 1152] {
+pub(crate) fn object() -> [u8; 1152] {
     let mut file = [0; 1152];
     put_all_fields(&mut file);
     put(&mut file, 64, b"\x13\x05\x70\x00\x67\x80\x00\x00");

@@ -1,0 +1,163 @@
+use crate::item_rows;
+use crate::object::object;
+use elf_object::Object;
+use obj_input::{Block, Definition, Func, Input, Section, Sort, Use};
+use obj_items::{fault_in, input_of};
+use obj_rules::ItemFault;
+use sample_programs::{is_told_as, rows};
+use std::alloc::Global;
+
+/// A table of objects with what is wrong with each, and how many there are.
+fn table(number: u32) -> (&'static [u8], usize) {
+    match number {
+        0 => (item_rows::WORDS, 13),
+        1 => (item_rows::TRANSFERS, 9),
+        2 => (item_rows::MORE_TRANSFERS, 9),
+        3 => (item_rows::PLACES, 13),
+        4 => (item_rows::KINDS, 11),
+        5 => (item_rows::POINTERS, 5),
+        _ => (item_rows::FAULTLESS, 11),
+    }
+}
+
+/// Whether a fault is told by these words, and none by `none`.
+fn is_told(alloc: Global, fault: Option<ItemFault>, words: &str) -> bool {
+    match fault {
+        Some(fault) => is_told_as(alloc, &fault, words),
+        None => words == "none",
+    }
+}
+
+/// Whether an object has the fault of these words.
+fn has_fault(alloc: Global, object: &Object, words: &str) -> bool {
+    match fault_in(alloc, object) {
+        Ok(fault) => is_told(alloc, fault, words),
+        Err(_) => false,
+    }
+}
+
+/// Whether a file is an object with the fault of these words.
+fn is_read_with(alloc: Global, file: &[u8], words: &str) -> bool {
+    match Object::read(alloc, file) {
+        Ok(object) => has_fault(alloc, &object, words),
+        Err(_) => false,
+    }
+}
+
+/// Whether a row says what is wrong with its object.
+fn is_right(alloc: Global, row: &str) -> bool {
+    let Some((words, digits)) = row.split_once('|') else {
+        return false;
+    };
+    match hex::decode(alloc, digits) {
+        Ok(file) => is_read_with(alloc, &file, words),
+        Err(_) => false,
+    }
+}
+
+/// Whether all rows of a table are right.
+fn are_right(alloc: Global, number: u32) -> bool {
+    let (table, count) = table(number);
+    for row in rows(table, count).lines() {
+        if !is_right(alloc, row) {
+            return false;
+        }
+    }
+    true
+}
+
+#[test]
+fn tells_what_is_wrong(rt: HostRuntime) {
+    for number in 0..7 {
+        assert!(rt; are_right(rt.alloc(), number), "table {number}");
+    }
+}
+
+/// What the symbols of the object that the tests change stand for, from number 1 on.
+static DEFINITIONS: [Definition; 11] = [
+    Definition::Within(1, 0),
+    Definition::Within(1, 0),
+    Definition::Absolute(u64::MAX),
+    Definition::Common(0),
+    Definition::Missing(5),
+    Definition::Within(3, 8),
+    Definition::Within(4, 16),
+    Definition::Missing(8),
+    Definition::Missing(9),
+    Definition::Absolute(0),
+    Definition::Within(1, 4),
+];
+
+/// Its common block.
+static BLOCK: Block = Block { size: 4, align: 8 };
+
+/// Its function.
+static FUNC: Func = Func {
+    section: 1,
+    offset: 0,
+    size: 8,
+};
+
+/// The relocation of its code.
+static MARK: Use = Use {
+    offset: 4,
+    number: 51,
+    addend: -2,
+    definition: Definition::Within(1, 0),
+};
+
+/// Whether the names stand for what the symbols do.
+fn has_names(input: &Input) -> bool {
+    let names = input.names();
+    if names.len() != 11 {
+        return false;
+    }
+    for k in 0..11 {
+        if names[k].definition() != DEFINITIONS[k] {
+            return false;
+        }
+    }
+    true
+}
+
+/// Whether an input has just one common block and one function.
+fn has_block_and_func(input: &Input) -> bool {
+    let (blocks, funcs) = (input.blocks(), input.funcs());
+    blocks.len() == 1 && blocks[0] == BLOCK && funcs.len() == 1 && funcs[0] == FUNC
+}
+
+/// Whether a section is the code of the object, with its relocation.
+fn is_its_code(section: &Section) -> bool {
+    let uses = section.uses();
+    section.is_code() && uses.len() == 1 && uses[0] == MARK
+}
+
+/// Whether an input has the sections of the object: code, data, zeros, and others that are dropped.
+fn has_sections(input: &Input) -> bool {
+    input.section_count() == 10
+        && is_its_code(input.section(1))
+        && input.section(3).is_data()
+        && input.section(4).is_zeros()
+        && input.section(5).sort() == Sort::Dropped
+}
+
+/// Whether an object has its parts as an input.
+fn has_parts(alloc: Global, object: &Object) -> bool {
+    match input_of(alloc, object) {
+        Ok(input) => has_names(&input) && has_block_and_func(&input) && has_sections(&input),
+        Err(_) => false,
+    }
+}
+
+/// Whether the object that the tests change has its parts as an input.
+fn is_input(alloc: Global) -> bool {
+    match Object::read(alloc, &object()) {
+        Ok(object) => has_parts(alloc, &object),
+        Err(_) => false,
+    }
+}
+
+#[test]
+fn tells_what_symbols_stand_for(rt: HostRuntime) {
+    assert!(rt; is_input(rt.alloc()));
+}

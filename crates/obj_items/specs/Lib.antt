@@ -1,0 +1,4 @@
+pub mod Definitions
+pub mod Sections
+pub mod Symbols
+pub mod FromObject

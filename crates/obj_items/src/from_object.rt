@@ -1,0 +1,23 @@
+ghost use Rattle.std.specs.Prelude.{◌≡◌, IfOk};
+ghost use Rattle.obj_items.specs.FromObject.{input_of};
+
+use crate::definitions::definitions;
+use crate::sections::sections;
+use crate::symbols::{blocks, funcs, names};
+use elf_object::Object;
+use obj_input::Input;
+use rv_word::NoMemory;
+use std::alloc::Global;
+
+/// The input that an object is. It borrows the bytes of the object's file.
+#[tactic(auto, unfolding(crate::specs::FromObject::input_of))]
+pub fn input_of<'a>(alloc: Global, object: &Object<'a>) -> Result<Input<'a>, NoMemory>
+    ensures { IfOk result (λ i. i ≡ input_of object.now) }
+{
+    let definitions = definitions(alloc, object)?;
+    let blocks = blocks(alloc, object)?;
+    let names = names(alloc, object, &definitions)?;
+    let funcs = funcs(alloc, object)?;
+    let sections = sections(alloc, object, &definitions)?;
+    Ok(Input::of(sections, blocks, names, funcs))
+}

@@ -1,0 +1,12 @@
+//! What an object's bytes say as an input: its sections with the definitions of the symbols that their relocations name,
+//! its common blocks, names and functions. Above it every question is one of the input.
+#![tactic(auto)]
+
+pub use fault::fault_in;
+pub use from_object::input_of;
+
+mod definitions;
+mod fault;
+mod from_object;
+mod sections;
+mod symbols;

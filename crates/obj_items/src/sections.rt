@@ -1,0 +1,120 @@
+ghost use Rattle.std.specs.Prelude.{◌≡◌, ◌<◌, ◌^◌, IfOk, true, length};
+ghost use Rattle.elf_tables.specs.Header.{e_shnum};
+ghost use Rattle.elf_tables.specs.Section.{content, section_header};
+ghost use Rattle.obj_input.specs.Input.{has_bytes};
+ghost use Rattle.obj_items.specs.Definitions.{definitions_of};
+ghost use Rattle.obj_items.specs.Sections.{kept_sort, section_in, sections_of, sort_of, uses_of};
+
+use elf_object::{Object, Reloc, SectionHeader};
+use elf_tables::constants::SHT_NOBITS;
+use obj_input::{Definition, Section, Sort, Use};
+use rv_word::NoMemory;
+use std::alloc::Global;
+
+/// What a kept section with this header holds.
+fn kept_sort(header: &SectionHeader) -> Sort
+    ensures { result ≡ kept_sort header.now }
+{
+    if header.is_executable() {
+        Sort::Code
+    } else if header.kind == SHT_NOBITS {
+        Sort::Zeros
+    } else {
+        Sort::Data
+    }
+}
+
+/// What the section with this index holds.
+fn sort_of(object: &Object, k: u32) -> Sort
+    requires { k < e_shnum object.now }
+    ensures { result ≡ sort_of object.now k }
+{
+    if object.is_kept(k) {
+        kept_sort(&object.header(k))
+    } else {
+        Sort::Dropped
+    }
+}
+
+/// The bytes of the section with this index: all of code and data.
+fn content<'a>(object: &Object<'a>, k: u32) -> &'a [u8]
+    requires { k < e_shnum object.now }
+    ensures value { result.now ≡ content object.now (section_header object.now k) }
+    ensures whole { has_bytes (sort_of object.now k) ≡ true → length result.now ≡ (section_header object.now k).size }
+{
+    let _count = object.sections();
+    object.content(k)
+}
+
+/// A relocation whose symbol stands for this.
+fn with_definition(reloc: &Reloc, definition: Definition) -> Use
+    ensures { result ≡ record { offset = reloc.now.offset; number = reloc.now.kind; addend = reloc.now.addend; definition = definition } }
+{
+    Use {
+        offset: reloc.offset,
+        number: reloc.kind,
+        addend: reloc.addend,
+        definition,
+    }
+}
+
+/// The relocations of the section with this index.
+fn uses(
+    alloc: Global,
+    object: &Object,
+    definitions: &[Definition],
+    k: u32,
+) -> Result<Vec<Use>, NoMemory>
+    requires below { k < e_shnum object.now }
+    requires definitions { definitions.now ≡ definitions_of object.now }
+    ensures { IfOk result (λ v. v.items ≡ uses_of object.now k) }
+{
+    let _count = object.sections();
+    let relocs = object.relocs(k);
+    let mut uses = Vec::new(alloc);
+    for j in 0..relocs.count() {
+        let reloc = relocs.get(j);
+        uses.push(with_definition(&reloc, definitions[reloc.symbol as usize]))?;
+    }
+    Ok(uses)
+}
+
+/// The section with this index.
+fn section<'a>(
+    alloc: Global,
+    object: &Object<'a>,
+    definitions: &[Definition],
+    k: u32,
+) -> Result<Section<'a>, NoMemory>
+    requires below { k < e_shnum object.now }
+    requires definitions { definitions.now ≡ definitions_of object.now }
+    ensures { IfOk result (λ s. s ≡ section_in object.now k) }
+{
+    let header = object.header(k);
+    let uses = uses(alloc, object, definitions, k)?;
+    Section::of(
+        alloc,
+        sort_of(object, k),
+        header.size,
+        header.align,
+        content(object, k),
+        uses,
+    )
+}
+
+/// The sections.
+pub(crate) fn sections<'a>(
+    alloc: Global,
+    object: &Object<'a>,
+    definitions: &[Definition],
+) -> Result<Vec<Section<'a>>, NoMemory>
+    requires { definitions.now ≡ definitions_of object.now }
+    ensures value { IfOk result (λ v. v.items ≡ sections_of object.now) }
+    ensures few { IfOk result (λ v. length v.items < 2 ^ 32) }
+{
+    let mut sections = Vec::new(alloc);
+    for k in 0..object.sections() {
+        sections.push(section(alloc, object, definitions, k)?)?;
+    }
+    Ok(sections)
+}
