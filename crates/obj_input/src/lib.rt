@@ -5,6 +5,7 @@
 
 pub use code::is_auipc;
 pub use input::{Input, Name};
+pub use item_kind::ItemKind;
 pub use layout::Layout;
 pub use parts::{Block, Definition, Func, Sort, Use};
 pub use reloc_kind::RelocKind;
@@ -12,6 +13,7 @@ pub use section::Section;
 
 mod code;
 mod input;
+mod item_kind;
 mod layout;
 mod offsets;
 mod parts;

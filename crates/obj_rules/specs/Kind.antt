@@ -6,8 +6,8 @@ use Rattle.rv_instr.specs.declared.instr.UpperOp.{UpperOp}
 use Rattle.rv_instr.specs.declared.instr.UpperOp.TheVariants.{Lui, Auipc}
 use Rattle.obj_input.specs.Input.{SectionParts, busy_at}
 use Rattle.obj_input.specs.Code.{instr, is_pair}
-use Rattle.obj_rules.specs.declared.kind.ItemKind.{ItemKind}
-use Rattle.obj_rules.specs.declared.kind.ItemKind.TheVariants as is
+use Rattle.obj_input.specs.declared.item_kind.ItemKind.{ItemKind}
+use Rattle.obj_input.specs.declared.item_kind.ItemKind.TheVariants as is
 
 -- what links to x0 jumps, and what links to x1 calls
 abbrev pub by_link : ℕ → Option ItemKind

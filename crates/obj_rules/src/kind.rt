@@ -3,35 +3,8 @@ ghost use Rattle.obj_input.specs.Input.{is_code};
 ghost use Rattle.obj_input.specs.Code.{word_count};
 ghost use Rattle.obj_rules.specs.Kind.{by_link, computed_kind, kind_at, pair_kind, single_kind, upper_kind, word_kind};
 
-use obj_input::Section;
+use obj_input::{ItemKind, Section};
 use rv_instr::{Immediate, Instr, Reg, UpperOp};
-
-/// What a place is: an instruction of one of the kinds that are done differently, or the end of a section of code.
-#[derive(Clone, Copy, PartialEq, Eq)]
-pub enum ItemKind {
-    /// `lui x0`, whose number may be taken for a label.
-    Gate,
-    /// An instruction that goes to the next one and writes no memory.
-    Plain,
-    /// A store.
-    Store,
-    /// ECALL, EBREAK.
-    System,
-    /// A conditional branch.
-    Branch,
-    /// A direct jump.
-    Jump,
-    /// A direct call.
-    Call,
-    /// A return.
-    Return,
-    /// A jump to a computed address.
-    Ijump,
-    /// A call of a computed address.
-    Icall,
-    /// The end of a section.
-    End,
-}
 
 /// The kind of a direct transfer, by its link register.
 fn by_link(link: Reg) -> Option<ItemKind>

@@ -4,7 +4,7 @@
 #![tactic(auto)]
 
 pub use fault::ItemFault;
-pub use kind::{ItemKind, kind_at};
+pub use kind::kind_at;
 pub use order::fault_of;
 pub use target::{Aim, Direct, aim_at, direct_at};
 

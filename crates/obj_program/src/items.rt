@@ -1,0 +1,100 @@
+ghost use Rattle.std.specs.Prelude.{◌≡◌, ◌<◌, length, slice_get, Some};
+ghost use Rattle.obj_program.specs.Program.{count, item_of};
+ghost use Rattle.obj_program.specs.Sound.{IsSound};
+
+use crate::item::{DataReloc, Item};
+use obj_input::{Func, Name};
+use std::marker::Model;
+
+/// A program. Names are borrowed from the object's tables.
+#[derive(Drop)]
+pub struct Items<'a> {
+    items: Vec<Item>,
+    init: Vec<u8>,
+    relocations: Vec<DataReloc>,
+    data_end: u128,
+    funcs: Vec<Func>,
+    names: Vec<Name<'a>>,
+}
+
+impl<'a> Model for Items<'a> {
+    ghost use Rattle.obj_program.specs.Program.{Program};
+    ghost use Rattle.obj_program.specs.Sound.{IsSound};
+
+    ghost Value = { Program };
+
+    ghost view = { λ p. record { items = p.items.items; init = p.init.items; relocations = p.relocations.items; data_end = p.data_end; funcs = p.funcs.items; names = p.names.items } };
+
+    ghost invariant = { λ p. IsSound (record { items = p.items.items; init = p.init.items; relocations = p.relocations.items; data_end = p.data_end; funcs = p.funcs.items; names = p.names.items }) };
+}
+
+impl<'a> Items<'a> {
+    /// The program of these parts.
+    pub fn of(
+        items: Vec<Item>,
+        init: Vec<u8>,
+        relocations: Vec<DataReloc>,
+        data_end: u128,
+        funcs: Vec<Func>,
+        names: Vec<Name<'a>>,
+    ) -> Items<'a>
+        requires { IsSound (record { items = items.items; init = init.items; relocations = relocations.items; data_end = data_end; funcs = funcs.items; names = names.items }) }
+        ensures { result ≡ record { items = items.items; init = init.items; relocations = relocations.items; data_end = data_end; funcs = funcs.items; names = names.entry.items } }
+    {
+        Items {
+            items,
+            init,
+            relocations,
+            data_end,
+            funcs,
+            names,
+        }
+    }
+
+    /// How many places there are.
+    pub fn count(&self) -> u64
+        ensures value { result ≡ count self.now }
+        ensures sound { IsSound self.now }
+    {
+        self.items.len() as u64
+    }
+
+    /// The places in their order: sections by index, offsets rising.
+    pub fn places(&self) -> &[Item]
+        ensures value { result.now ≡ self.now.items }
+        ensures sound { IsSound self.now }
+    {
+        self.items.as_slice()
+    }
+
+    /// The place with this index.
+    pub fn item(&self, k: u64) -> Item
+        requires { k < count self.now }
+        ensures { result ≡ item_of self.now k }
+    {
+        self.items[k as usize]
+    }
+
+    /// Whether a relocation takes the address of the instruction with this index.
+    pub fn pointed(&self, k: u64) -> bool
+        requires { k < count self.now }
+        ensures { result ≡ (item_of self.now k).taken }
+    {
+        self.item(k).taken
+    }
+
+    /// How many symbols of functions in code there are.
+    pub fn funcs(&self) -> u64
+        ensures { result ≡ length self.now.funcs }
+    {
+        self.funcs.len() as u64
+    }
+
+    /// The function with this index, in the order of the symbol table.
+    pub fn func(&self, j: u64) -> Func
+        requires { j < length self.now.funcs }
+        ensures { slice_get self.now.funcs j ≡ Some result }
+    {
+        self.funcs[j as usize]
+    }
+}
