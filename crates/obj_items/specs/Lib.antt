@@ -2,3 +2,8 @@ pub mod Definitions
 pub mod Sections
 pub mod Symbols
 pub mod FromObject
+pub mod Outline
+pub mod Values
+pub mod Links
+pub mod InitialData
+pub mod ProgramOf
