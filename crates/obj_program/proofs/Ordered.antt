@@ -68,13 +68,15 @@ module _ (items : List Item) (in_order : AreInOrder items) (section offset : ℕ
         rw (is, lt-ltb k (length items) below) refl
 
     pub no_place : ((i : ℕ) → k ≤ i → i < length items → is_before (get_or items i no_item) section offset ≡ false)
-        → (k < length items → is_spot section offset (get_or items k no_item) ≡ false) → None ≡ place_of items section offset
-    no_place from other =
+        → (d : Item) → (k < length items → is_spot section offset (get_or items k d) ≡ false) → None ≡ place_of items section offset
+    no_place from d other =
         let is = position_or_len_is (is_spot section offset) items (length items) no_item (omega arith)
         (λ i inside. elim (cases_lt i k) [
           | inl less ↦ not_there (get_or items i no_item) section offset (before i less)
           | inr more ↦ elim (cases_eq k i) [
-            | inl same ↦ subst (λ (n : ℕ). is_spot section offset (get_or items n no_item) ≡ false) same (other (omega arith))
+            | inl same ↦ subst (λ (n : ℕ). is_spot section offset (get_or items n no_item) ≡ false) same
+                (let here : k < length items = omega arith in
+                subst (λ (x : Item). is_spot section offset x ≡ false) (get_or_default items k d no_item here) (other here))
             | inr past ↦ false_from_ne_true _ (λ there.
                 let less : k < i = omega arith in
                 let parts = and_parts ((get_or items i no_item).section == section) ((get_or items i no_item).offset == offset) there in

@@ -12,7 +12,7 @@ returns-then-is_at c =
 pub returns-else-k-items : goal.returns-else-k-items
 returns-else-k-items c =
     no_place c.args.items.now c.requires c.args.section c.args.offset _ c.count_before-k.ensures.bound c.count_before-k.ensures.before
-    c.count_before-k.ensures.from
+    c.count_before-k.ensures.from _
     (λ below. elim c.else-k-items.branch [
       | else-k-items-via-then-k-items+else-is_at w ↦ sym w.is_at.ensures ∙ w.if-is_at.false
       | else-k-items-via-else-k-items w ↦ absurd (omega arith)
