@@ -4,8 +4,10 @@
 #![tactic(auto)]
 
 pub use code::is_auipc;
-pub use input::{Input, Name};
+pub use input::Input;
 pub use layout::Layout;
+pub use name::Name;
+pub use names::Names;
 pub use parts::{Block, Definition, Func, Sort, Use};
 pub use reloc_kind::RelocKind;
 pub use section::Section;
@@ -13,6 +15,8 @@ pub use section::Section;
 mod code;
 mod input;
 mod layout;
+mod name;
+mod names;
 mod offsets;
 mod parts;
 mod reloc_kind;
