@@ -1,3 +1,4 @@
 mod Steps
 mod Whole
 mod Next
+pub mod InOrder

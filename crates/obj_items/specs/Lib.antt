@@ -7,3 +7,4 @@ pub mod Values
 pub mod Links
 pub mod InitialData
 pub mod ProgramOf
+pub mod Before
