@@ -3,7 +3,7 @@
 //! such input as one object does.
 #![tactic(auto)]
 
-pub use code::is_auipc;
+pub use code::{is_auipc, natural};
 pub use input::{Input, Name};
 pub use item_kind::ItemKind;
 pub use layout::Layout;
