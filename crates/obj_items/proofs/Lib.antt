@@ -2,3 +2,6 @@ mod Steps
 mod Whole
 mod Next
 pub mod InOrder
+pub mod Pushed
+mod Addresses
+mod Instructions

@@ -8,5 +8,8 @@ pub use from_object::input_of;
 mod definitions;
 mod fault;
 mod from_object;
+mod links;
+mod outline;
 mod sections;
 mod symbols;
+mod values;
