@@ -3,3 +3,7 @@ mod Whole
 mod Next
 mod Data
 mod Marks
+pub mod InOrder
+pub mod Pushed
+mod Addresses
+mod Instructions

@@ -7,3 +7,5 @@ pub mod Values
 pub mod Links
 pub mod InitialData
 pub mod ProgramOf
+pub mod Before
+pub mod Standing
