@@ -2,3 +2,6 @@ mod Steps
 mod Whole
 mod Next
 pub mod InOrder
+pub mod Suited
+pub mod NoFault
+pub mod LookUp
