@@ -5,3 +5,4 @@ pub mod InOrder
 pub mod Suited
 pub mod NoFault
 pub mod LookUp
+pub mod Starts
