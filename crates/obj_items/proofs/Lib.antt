@@ -6,3 +6,4 @@ pub mod Suited
 pub mod NoFault
 pub mod LookUp
 pub mod Starts
+pub mod Targets

@@ -117,11 +117,11 @@ right_start input right k i code starts =
       )
     ]
 
-pair_kind_is : (s : SectionParts) (i : ℕ) → is_pair s i ≡ true → kind_at s i ≡ pair_kind (instr s (i + 1))
+pub pair_kind_is : (s : SectionParts) (i : ℕ) → is_pair s i ≡ true → kind_at s i ≡ pair_kind (instr s (i + 1))
 unfolding kind_at
 pair_kind_is s i e = rw e refl
 
-single_kind_is : (s : SectionParts) (i : ℕ) → is_pair s i ≡ false → kind_at s i ≡ word_kind (length (busy_at s (4 * i)) == 0) (instr s i)
+pub single_kind_is : (s : SectionParts) (i : ℕ) → is_pair s i ≡ false → kind_at s i ≡ word_kind (length (busy_at s (4 * i)) == 0) (instr s i)
 unfolding kind_at
 single_kind_is s i e = rw e refl
 
