@@ -7,3 +7,5 @@ pub mod NoFault
 pub mod LookUp
 pub mod Starts
 pub mod Targets
+pub mod Bounds
+pub mod Patches

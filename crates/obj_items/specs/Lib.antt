@@ -8,3 +8,4 @@ pub mod Links
 pub mod InitialData
 pub mod ProgramOf
 pub mod Before
+pub mod Ranges
