@@ -1,5 +1,5 @@
 -- How large the addresses of an input's data are, and what relocations refer to.
-use Rattle.std.proofs.Common.{◌≡◌, ℕ, ℤ, pos, negsuc, neg_ℤ, zero, suc, ◌+◌, ◌-◌, ◌*◌, ◌/◌, ◌^◌, ◌<◌, ◌≤◌, ◌+ℤ◌, int_le, leb, Bool, true, false, ◌&&◌, Option, Some, None, List, [], length, All, FitsSigned, inl, inr, refl, sym, ap, subst, ◌∙◌, arith}
+use Rattle.std.proofs.Common.{◌≡◌, ℕ, ℤ, pos, negsuc, zero, suc, ◌+◌, ◌-◌, ◌*◌, ◌^◌, ◌<◌, ◌≤◌, ◌+ℤ◌, Bool, true, false, List, length, FitsSigned, inl, inr, refl, sym, ap, subst, ◌∙◌, arith}
 use Rattle.std.specs.Prelude.{max}
 use Rattle.std.specs.Int.{w64}
 use Rattle.std.proofs.Math.Nat.{div-mul-le_self}
@@ -14,15 +14,14 @@ use Rattle.obj_input.specs.declared.parts.Block.{Block}
 use Rattle.obj_input.specs.declared.parts.Definition.{Definition}
 use Rattle.obj_input.specs.declared.parts.Definition.TheVariants.{Zero, Absolute, Within, Common, Missing}
 use Rattle.obj_input.specs.declared.parts.Sort.{Sort}
-use Rattle.obj_input.specs.declared.parts.Sort.TheVariants.{Code, Data, Zeros, Dropped}
+use Rattle.obj_input.specs.declared.parts.Sort.TheVariants.{Data, Zeros, Dropped}
 use Rattle.obj_input.specs.Input.{InputParts, SectionParts, is_code, is_data_sort, is_zeros_sort, no_section, section_count, section_of}
 use Rattle.obj_input.specs.Layout.{address_by, after, after_if, aligned, block, block_address, blocks_reach, init_end, no_block, reach, section_address, zeros_end}
 use Rattle.obj_program.specs.declared.item.Item.{Item}
-use Rattle.obj_program.specs.declared.item.Value.{Value}
-use Rattle.obj_program.specs.declared.item.Value.TheVariants.{Number, GateOf}
+use Rattle.obj_program.specs.declared.item.Value.TheVariants.{Number}
 use Rattle.obj_program.specs.Program.{is_spot, no_item, place_of}
 use Rattle.obj_program.specs.Sound.{is_value}
-use Rattle.obj_items.specs.Ranges.{HasSmall, IsBlock, IsInput, IsSection, IsSmallUse}
+use Rattle.obj_items.specs.Ranges.{HasSmall, IsInput, IsSection, IsSmallUse}
 use Rattle.obj_items.specs.Values.{gate_value, place_at, value_of}
 use Rattle.obj_items.proofs.NoFault.{past_sections}
 

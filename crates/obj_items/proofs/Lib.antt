@@ -9,3 +9,5 @@ pub mod Starts
 pub mod Targets
 pub mod Bounds
 pub mod Patches
+pub mod DataLies
+pub mod ProgramSound

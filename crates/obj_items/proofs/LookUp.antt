@@ -1,20 +1,17 @@
 -- A place is found in the outline exactly where the input has one, and what is found is that place.
-use Rattle.std.proofs.Common.{◌≡◌, ◌==◌, ◌⊎◌, ◌↔◌, ℕ, zero, suc, ◌+◌, ◌*◌, ◌/◌, ◌%◌, ◌<◌, ◌≤◌, nat_lt, get_or, Bool, true, false, not, ◌&&◌, ◌||◌, if◌then◌else◌, Option, Some, None, List, [], ◌∷◌, ◌++◌, length, unwrap_or, inl, inr, refl, sym, ap, subst, ◌∙◌, arith}
+use Rattle.std.proofs.Common.{◌≡◌, ◌==◌, ◌⊎◌, ℕ, zero, suc, ◌+◌, ◌*◌, ◌/◌, ◌%◌, ◌<◌, nat_lt, get_or, Bool, true, false, not, ◌&&◌, Some, List, [], ◌∷◌, length, inl, inr, refl, sym, ap, subst, ◌∙◌, arith}
 use Rattle.std.specs.Prelude.{position}
 use Rattle.std.specs.List.{All, list_any, position_or_len}
-use Rattle.std.proofs.lemmas.Bool.{cases_Bool, cases_lt, and_parts, and_from, eqb-true, eq-eqb, lt-ltb, ltb-true, or_left, or_right, or_cases, false_from_ne_true}
+use Rattle.std.proofs.lemmas.Bool.{cases_Bool, cases_lt, and_parts, and_from, eqb-true, eq-eqb, lt-ltb, ltb-true, or_left, or_right, or_cases}
 use Rattle.std.proofs.lemmas.List.Elements.{All-nil, All-cons, All-append, All-get_or}
-use Rattle.std.proofs.lemmas.List.Folds.{list_any-append, list_any_at}
+use Rattle.std.proofs.lemmas.List.Folds.{list_any-append}
 use Rattle.std.proofs.lemmas.List.Quantifiers.{position-Some}
-use Rattle.rv_word.proofs.Cases.{cases_Option}
 use Rattle.least.specs.Nearest.{joined}
-use Rattle.obj_input.specs.declared.item_kind.ItemKind.TheVariants as is
 use Rattle.obj_input.specs.Input.{InputParts, SectionParts, is_code, section_count, section_of}
 use Rattle.obj_input.specs.Code.{is_inside, is_place, is_start, starts_at, word_count}
-use Rattle.obj_rules.specs.Kind.{kind_at}
 use Rattle.obj_program.specs.declared.item.Item.{Item}
 use Rattle.obj_program.specs.Program.{is_spot, no_item, place_of}
-use Rattle.obj_items.specs.Outline.{code_items, end_at, outline, section_items, start_at, start_item}
+use Rattle.obj_items.specs.Outline.{end_at, outline, section_items, start_at, start_item}
 use Rattle.obj_items.proofs.NoFault.{code_there}
 
 -- a place of the outline: an instruction's start, or the end of its section
@@ -24,7 +21,7 @@ pub record IsOfOutline (input : InputParts) (x : Item) : Type 0 where
       ⊎ (x ≡ end_at (section_of input x.section) x.section)
 
 module _ {A : Type 0} (P : A → Type 0) (parts : ℕ → List A) (each : (k : ℕ) → All P (parts k)) where
-  all_joined : (n : ℕ) → All P (joined parts n)
+  pub all_joined : (n : ℕ) → All P (joined parts n)
   unfolding joined
   all_joined zero = All-nil P
   all_joined (suc n) = All-append P (joined parts n) (parts n) (all_joined n) (each n)
@@ -176,8 +173,7 @@ the_start input k at x e section offset placed =
 pub place_there : (input : InputParts) (k at : ℕ) → is_start (section_of input k) at ≡ true → (j : ℕ) × IsStartFound input k at j
 place_there input k at e =
     let found = any_found (is_spot k at) (outline input) (start_listed input k at e) in
-    let is = found_is input k at found.0 found.1 in
-    (
+    let is = found_is input k at found.0 found.1 in (
       found.0,
       record {
         found = found.1;

@@ -1,11 +1,11 @@
 -- What the instructions and relocations of an input are that has no fault.
-use Rattle.std.proofs.Common.{◌≡◌, ◌==◌, ℕ, pos, zero, suc, ◌+◌, ◌*◌, ◌/◌, ◌<◌, ◌≤◌, Bool, true, false, ◌&&◌, if◌then◌else◌, Option, Some, None, List, [], ◌∷◌, length, get_or, inl, inr, refl, sym, ap, subst, ◌∙◌, arith}
-use Rattle.std.specs.Prelude.{option_map, slice_get}
+use Rattle.std.proofs.Common.{◌≡◌, ◌==◌, ℕ, pos, zero, suc, ◌<◌, ◌≤◌, Bool, true, false, ◌&&◌, if◌then◌else◌, Option, Some, None, List, [], ◌∷◌, length, get_or, inl, inr, refl, sym, ap, subst, ◌∙◌, arith}
+use Rattle.std.specs.Prelude.{option_map}
 use Rattle.std.specs.List.{All, filter_map}
-use Rattle.std.proofs.lemmas.Bool.{cases_Bool, cases_lt, and_parts, eqb-true, false_from_ne_true}
+use Rattle.std.proofs.lemmas.Bool.{cases_Bool, cases_lt}
 use Rattle.std.proofs.lemmas.List.{get_or_past}
 use Rattle.std.proofs.lemmas.Option.{slice_get-get_or}
-use Rattle.std.proofs.lemmas.List.Elements.{All-nil, All-cons, All-filter, All-from_get_or, All-get_or, All-head, All-rest, All-weaker, filter_passes}
+use Rattle.std.proofs.lemmas.List.Elements.{All-nil, All-cons, All-filter, All-from_get_or, All-get_or, All-weaker, filter_passes}
 use Rattle.rv_word.proofs.Cases.{cases_Option, neither, unmapped}
 use Rattle.least.specs.declared.place.Found.{Found}
 use Rattle.least.specs.declared.place.Place.{Place}
@@ -173,12 +173,12 @@ module _ (input : InputParts) where
         transfers = goes three.0;
         uses =
             λ k.
-                All-from_get_or (IsRightUse input k) (section_of input k).uses no_use
-                (λ j less. record {
-                  low = All-get_or (λ u. is_wrong_low input k u ≡ false) (section_of input k).uses j no_use less (lows three.1 k);
-                  standing = All-get_or (λ u. is_wrong_place (section_of input k) u ≡ false) (section_of input k).uses j no_use less (standing five.0 k);
-                  defined = All-get_or (λ u. missing_in_use u ≡ None) (section_of input k).uses j no_use less (defines six.0 k);
-                });
+            All-from_get_or (IsRightUse input k) (section_of input k).uses no_use
+            (λ j less. record {
+              low = All-get_or (λ u. is_wrong_low input k u ≡ false) (section_of input k).uses j no_use less (lows three.1 k);
+              standing = All-get_or (λ u. is_wrong_place (section_of input k) u ≡ false) (section_of input k).uses j no_use less (standing five.0 k);
+              defined = All-get_or (λ u. missing_in_use u ≡ None) (section_of input k).uses j no_use less (defines six.0 k);
+            });
       }
 
 -- what stands at an offset, if it is listed there

@@ -1,5 +1,5 @@
 -- What relocations do to the instructions of an input without a fault: their values are there, and a low part has its high part.
-use Rattle.std.proofs.Common.{◌≡◌, ◌==◌, ℕ, ℤ, pos, ◌+◌, ◌*◌, ◌/◌, ◌%◌, ◌<◌, nat_lt, Bool, true, false, not, ◌&&◌, ◌||◌, Option, Some, None, List, [], ◌∷◌, length, unwrap_or, All, inl, inr, refl, sym, ap, subst, ◌∙◌, arith}
+use Rattle.std.proofs.Common.{◌≡◌, ◌==◌, ℕ, pos, ◌*◌, ◌/◌, ◌<◌, true, false, not, ◌&&◌, ◌||◌, Option, None, List, [], ◌∷◌, length, unwrap_or, All, inl, inr, refl, sym, ap, ◌∙◌, arith}
 use Rattle.std.specs.List.{list_any}
 use Rattle.std.specs.Ordering.{int_eq}
 use Rattle.std.proofs.lemmas.Bool.{and_parts, eqb-true, lt-ltb, not-false, or_cases, or_parts}
@@ -7,31 +7,29 @@ use Rattle.std.proofs.lemmas.List.{length-map}
 use Rattle.std.proofs.lemmas.List.Elements.{All-filter, All-head, All-same}
 use Rattle.obj_input.specs.declared.parts.Use.{Use}
 use Rattle.obj_input.specs.declared.parts.Definition.{Definition}
-use Rattle.obj_input.specs.declared.parts.Definition.TheVariants.{Zero, Absolute, Within, Common, Missing}
-use Rattle.obj_input.specs.declared.item_kind.ItemKind.{ItemKind}
+use Rattle.obj_input.specs.declared.parts.Definition.TheVariants.{Within, Missing}
 use Rattle.obj_input.specs.declared.reloc_kind.RelocKind.{RelocKind}
 use Rattle.obj_input.specs.declared.reloc_kind.RelocKind.TheVariants.{RelativeHigh, RelativeLowI, RelativeLowS, High, LowI, LowS}
 use Rattle.obj_input.specs.Kinds.{is_relative_high, is_relative_low, kind_of}
 use Rattle.obj_input.specs.Use.{is_busy}
-use Rattle.obj_input.specs.Input.{InputParts, SectionParts, busy_at, is_code, section_of}
-use Rattle.obj_input.specs.Code.{has_high_part, instr, is_auipc, is_start, starts_at}
-use Rattle.obj_rules.specs.BadPair.{has_relative_high, is_auipc_at, is_wrong_low, names_high}
-use Rattle.obj_rules.specs.Undefined.{missing_in_use, missing_symbol}
+use Rattle.obj_input.specs.Input.{InputParts, busy_at, is_code, section_of}
+use Rattle.obj_input.specs.Code.{has_high_part, instr, is_auipc, is_start}
+use Rattle.obj_rules.specs.BadPair.{has_relative_high, is_auipc_at, names_high}
+use Rattle.obj_rules.specs.Undefined.{missing_symbol}
 use Rattle.obj_program.specs.declared.item.Item.{Item}
-use Rattle.obj_program.specs.declared.item.Patch.{Patch}
 use Rattle.obj_program.specs.declared.item.Patch.TheVariants as put
-use Rattle.obj_program.specs.Program.{Program, count, item_of, place_of}
+use Rattle.obj_program.specs.Program.{count, item_of, place_of}
 use Rattle.obj_program.specs.Sound.{is_high_patch, is_patch, is_value}
 use Rattle.obj_items.specs.Links.{item_with, named_place, patch_by, patch_from}
 use Rattle.obj_items.specs.Outline.{outline}
 use Rattle.obj_items.specs.ProgramOf.{program_with}
-use Rattle.obj_items.specs.Ranges.{HasSmall, IsInput, IsSmallUse}
+use Rattle.obj_items.specs.Ranges.{IsInput, IsSmallUse}
 use Rattle.obj_items.specs.Values.{use_value}
 use Rattle.obj_items.proofs.Bounds.{each_section, value_right}
 use Rattle.obj_items.proofs.LookUp.{start_parts}
 use Rattle.obj_items.proofs.NoFault.{IsRight, IsRightUse}
-use Rattle.obj_items.proofs.Starts.{IsSole, and_rest, linked_at, sole}
-use Rattle.obj_items.proofs.Targets.{IsStartItem, start_item_there}
+use Rattle.obj_items.proofs.Starts.{and_rest, sole}
+use Rattle.obj_items.proofs.Targets.{start_item_there}
 
 small_there : (input : InputParts) → IsInput input → (k at : ℕ) → All IsSmallUse (busy_at (section_of input k) at)
 unfolding busy_at

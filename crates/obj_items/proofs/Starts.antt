@@ -1,8 +1,8 @@
 -- What an instruction of an input without a fault is: of its kind, free of reserved registers, and with a relocation of its form.
-use Rattle.std.proofs.Common.{◌≡◌, ◌==◌, ◌⊎◌, ℕ, zero, suc, ◌+◌, ◌*◌, ◌/◌, ◌<◌, ◌≤◌, nat_lt, Bool, true, false, not, ◌&&◌, ◌||◌, if◌then◌else◌, Option, Some, None, List, [], ◌∷◌, length, unwrap_or, inl, inr, refl, sym, ap, subst, ◌∙◌, arith}
+use Rattle.std.proofs.Common.{◌≡◌, ◌==◌, ℕ, ◌+◌, ◌*◌, ◌/◌, nat_lt, Bool, true, false, not, ◌&&◌, ◌||◌, Option, Some, None, List, [], ◌∷◌, length, inl, inr, refl, sym, ap, subst, ◌∙◌, arith}
 use Rattle.std.specs.Prelude.{is_none}
-use Rattle.std.specs.List.{All, list_any}
-use Rattle.std.proofs.lemmas.Bool.{cases_Bool, and_parts, eqb-true, lt-ltb, not-false, not-true, or_parts, or_cases}
+use Rattle.std.specs.List.{list_any}
+use Rattle.std.proofs.lemmas.Bool.{cases_Bool, and_parts, eqb-true, not-false, or_parts, or_cases}
 use Rattle.std.proofs.lemmas.List.Elements.{All-head, All-same}
 use Rattle.rv_word.proofs.Cases.{cases_Option}
 use Rattle.rv_instr.specs.declared.instr.Instr.{Instr}
@@ -10,26 +10,25 @@ use Rattle.rv_instr.specs.declared.instr.Instr.TheVariants.{Jalr}
 use Rattle.rv_code.specs.Decode.{decoded}
 use Rattle.obj_input.specs.declared.parts.Use.{Use}
 use Rattle.obj_input.specs.declared.item_kind.ItemKind.{ItemKind}
-use Rattle.obj_input.specs.declared.item_kind.ItemKind.TheVariants as is
 use Rattle.obj_input.specs.declared.reloc_kind.RelocKind.{RelocKind}
-use Rattle.obj_input.specs.declared.reloc_kind.RelocKind.TheVariants.{Nothing, Mark, BranchTarget, JalTarget, PairTarget, RelativeHigh, RelativeLowI, RelativeLowS, High, LowI, LowS, InData, Unknown}
+use Rattle.obj_input.specs.declared.reloc_kind.RelocKind.TheVariants.{PairTarget, RelativeHigh, RelativeLowI, RelativeLowS, High, LowI, LowS}
 use Rattle.obj_input.specs.Kinds.{is_pair_target, kind_of}
 use Rattle.obj_input.specs.Use.{is_busy}
 use Rattle.obj_input.specs.Input.{InputParts, SectionParts, busy_at, is_code, section_of}
-use Rattle.obj_input.specs.Code.{are_pair, are_same, auipc_register, has_pair_target, instr, is_inside, is_pair, is_start, jalr_base, starts_at, word, word_count}
+use Rattle.obj_input.specs.Code.{are_pair, are_same, auipc_register, has_pair_target, instr, is_inside, is_pair, is_start, starts_at, word, word_count}
 use Rattle.obj_rules.specs.Kind.{kind_at, pair_kind, single_kind, word_kind}
 use Rattle.obj_rules.specs.Target.{direct_at, goes_right}
 use Rattle.obj_rules.specs.Reserved.{some_reserved}
 use Rattle.obj_rules.specs.Reserved as rule
-use Rattle.obj_rules.specs.WrongPlace.{fits_on, has_form, stands, stands_in_code, word_has_form}
+use Rattle.obj_rules.specs.WrongPlace.{fits_on, has_form, stands, stands_in_code}
 use Rattle.obj_program.specs.declared.item.Item.{Item}
 use Rattle.obj_program.specs.declared.item.Patch.{Patch}
 use Rattle.obj_program.specs.declared.item.Patch.TheVariants as put
 use Rattle.obj_program.specs.Program.{is_end}
-use Rattle.obj_program.specs.Sound.{is_of, is_read}
+use Rattle.obj_program.specs.Sound.{is_read}
 use Rattle.obj_program.specs.Suits.{names_reserved, stands_on, suits}
 use Rattle.obj_items.specs.Links.{is_taken, item_with, patch_by, patch_from, target_of}
-use Rattle.obj_items.specs.Outline.{end_at, own_word, start_at}
+use Rattle.obj_items.specs.Outline.{own_word, start_at}
 use Rattle.obj_items.proofs.NoFault.{IsRight, IsRightUse, busy_right, busy_there}
 use Rattle.obj_items.proofs.LookUp.{start_below}
 use Rattle.obj_items.proofs.Suited.{auipc_stands, lower_stands, no_end, none_reserved, pair_suits, single_suits, store_stands, upper_stands}
@@ -211,10 +210,13 @@ start_read input right places k i code starts =
           let free : some_reserved (Jalr link base imm) ≡ false =
           ap rule.names_reserved (sym second) ∙ and_rest (is_pair (section_of input k) i) _ (or_parts (rule.names_reserved (instr (section_of input k) i)) _ one.unreserved).1 pair in
           let word_is : own_word (section_of input k) i ≡ word (section_of input k) (i + 1) = rw pair refl in
-          let read : decoded (own_word (section_of input k) i) ≡ Some (Jalr link base imm) = ap decoded word_is ∙ word_of (section_of input k) (i + 1) (Jalr link base imm) second in
-          (kind, one.kind_is, going,
-          reads (linked_at input places k i kind) (Jalr link base imm) going read suited (none_reserved (Jalr link base imm) free)
-          (ap (λ (p : Patch). stands_on p kind (Jalr link base imm)) (pair_patch input right places k i code pair)))
+          let read : decoded (own_word (section_of input k) i) ≡ Some (Jalr link base imm) = ap decoded word_is ∙ word_of (section_of input k) (i + 1) (Jalr link base imm) second in (
+            kind,
+            one.kind_is,
+            going,
+            reads (linked_at input places k i kind) (Jalr link base imm) going read suited (none_reserved (Jalr link base imm) free)
+                (ap (λ (p : Patch). stands_on p kind (Jalr link base imm)) (pair_patch input right places k i code pair)),
+          )
       | inr single ↦ elim (cases_Option (instr (section_of input k) i)) [
         | inl none ↦ let no : true ≡ false = rw none at one.decoded in absurd (cc)
         | inr (ins, is) ↦
@@ -224,8 +226,11 @@ start_read input right places k i code starts =
             let going = no_end ins kind suited in
             let free : some_reserved ins ≡ false = ap rule.names_reserved (sym is) ∙ (or_parts (rule.names_reserved (instr (section_of input k) i)) _ one.unreserved).0 in
             let word_is : own_word (section_of input k) i ≡ word (section_of input k) i = rw single refl in
-            let read : decoded (own_word (section_of input k) i) ≡ Some ins = ap decoded word_is ∙ word_of (section_of input k) i ins is in
-            (kind, one.kind_is, going,
-            reads (linked_at input places k i kind) ins going read suited (none_reserved ins free) (single_patch input right places k i ins kind code single is counted))
+            let read : decoded (own_word (section_of input k) i) ≡ Some ins = ap decoded word_is ∙ word_of (section_of input k) i ins is in (
+              kind,
+              one.kind_is,
+              going,
+              reads (linked_at input places k i kind) ins going read suited (none_reserved ins free) (single_patch input right places k i ins kind code single is counted),
+            )
       ]
     ]

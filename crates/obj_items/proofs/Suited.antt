@@ -1,10 +1,9 @@
 -- An instruction is of the kind that it has, and a relocation of its form may stand on it.
-use Rattle.std.proofs.Common.{◌≡◌, ℕ, ◌<◌, ◌==◌, Bool, true, false, not, ◌&&◌, ◌||◌, if◌then◌else◌, Option, Some, None, inl, inr, refl, sym, ap, subst, ◌∙◌, arith}
-use Rattle.std.proofs.lemmas.Bool.{cases_Bool, eqb-true, not-true, or_from, and_cases, cases_lt}
-use Rattle.std.proofs.lemmas.Option.{same_Some, none-some}
+use Rattle.std.proofs.Common.{◌≡◌, ℕ, ◌<◌, ◌==◌, Bool, true, false, ◌&&◌, Option, Some, None, inl, inr, refl, sym, ap, subst, arith}
+use Rattle.std.proofs.lemmas.Bool.{cases_Bool, not-true}
+use Rattle.std.proofs.lemmas.Option.{same_Some}
 use Rattle.rv_instr.specs.declared.instr.Instr.{Instr}
 use Rattle.rv_instr.specs.declared.instr.Instr.TheVariants.{Upper, Jal, Jalr, Branch, Load, Store, Immediate, Shift, ShiftWord, Register, Fence, Ecall, Ebreak}
-use Rattle.rv_instr.specs.declared.instr.UpperOp.{UpperOp}
 use Rattle.rv_instr.specs.declared.instr.UpperOp.TheVariants.{Lui, Auipc}
 use Rattle.rv_instr.specs.Operands.{names}
 use Rattle.rv_instr.specs.Reserved.{is_reserved}
@@ -18,7 +17,7 @@ use Rattle.obj_rules.specs.Kind.{by_link, computed_kind, single_kind}
 use Rattle.obj_rules.specs.WrongPlace.{is_i_form, is_upper_form}
 use Rattle.obj_rules.specs.WrongPlace as place
 use Rattle.obj_rules.specs.Reserved.{is_reserved_name, some_reserved}
-use Rattle.obj_program.specs.Suits.{has_lower, is_upper, links, may_be_patched, names_reserved, suits}
+use Rattle.obj_program.specs.Suits.{has_lower, is_upper, may_be_patched, names_reserved, suits}
 use Rattle.obj_program.specs.Program.{is_end}
 
 same_kind : (k kind : ItemKind) (i : Instr) → Some k ≡ Some kind → suits k i ≡ true → suits kind i ≡ true

@@ -1,6 +1,6 @@
 -- Direct transfers of an input without a fault, and no others, go to instructions.
-use Rattle.std.proofs.Common.{◌≡◌, ◌==◌, ℕ, ℤ, pos, negsuc, ◌+◌, ◌*◌, ◌/◌, ◌<◌, nat_lt, Bool, true, false, not, ◌&&◌, if◌then◌else◌, Option, Some, None, List, [], ◌∷◌, length, get_or, inl, inr, refl, sym, ap, subst, ◌∙◌, arith}
-use Rattle.std.specs.Prelude.{is_some, map}
+use Rattle.std.proofs.Common.{◌≡◌, ◌==◌, ℕ, ℤ, pos, negsuc, ◌+◌, ◌*◌, ◌/◌, ◌<◌, Bool, true, false, ◌&&◌, Option, Some, None, List, [], ◌∷◌, length, inl, inr, refl, sym, ap, subst, ◌∙◌, arith}
+use Rattle.std.specs.Prelude.{is_some}
 use Rattle.std.specs.List.{All, find}
 use Rattle.std.proofs.lemmas.Bool.{cases_Bool, and_parts, lt-ltb}
 use Rattle.std.proofs.lemmas.List.{get_or-map, length-map}
@@ -25,17 +25,17 @@ use Rattle.obj_rules.specs.declared.target.Aim.{Aim}
 use Rattle.obj_rules.specs.declared.target.Aim.TheVariants.{At, Astray}
 use Rattle.obj_rules.specs.declared.target.Aim.TheVariants as aim
 use Rattle.obj_rules.specs.Kind.{by_link, computed_kind, kind_at, pair_kind, single_kind, word_kind}
-use Rattle.obj_rules.specs.Target.{aim_at, aim_of, direct_at, direct_word, goes_right, guide_at, guided, guides, may_aim, own_aim}
+use Rattle.obj_rules.specs.Target.{aim_at, aim_of, direct_at, direct_word, goes_right, guide_at, guides, may_aim, own_aim}
 use Rattle.obj_rules.specs.Undefined.{missing_in_use}
 use Rattle.obj_program.specs.declared.item.Item.{Item}
 use Rattle.obj_program.specs.Program.{Program, count, is_end, item_of, no_item, place_of}
 use Rattle.obj_program.specs.Sound.{aims, is_direct}
 use Rattle.obj_items.specs.Links.{aimed_place, item_with, target_of}
-use Rattle.obj_items.specs.Outline.{outline, start_at}
+use Rattle.obj_items.specs.Outline.{outline}
 use Rattle.obj_items.specs.ProgramOf.{program_with}
 use Rattle.obj_items.proofs.NoFault.{IsRight, IsRightUse, busy_right, busy_there}
-use Rattle.obj_items.proofs.LookUp.{IsStartFound, place_there, start_parts}
-use Rattle.obj_items.proofs.Starts.{and_rest, IsRightStart, linked_at, linked_is, pair_jalr, pair_kind_is, pair_parts, right_start, single_kind_is, start_read}
+use Rattle.obj_items.proofs.LookUp.{place_there, start_parts}
+use Rattle.obj_items.proofs.Starts.{linked_at, linked_is, pair_jalr, pair_kind_is, pair_parts, right_start, single_kind_is, start_read}
 
 -- the place of the instruction that starts at an offset, in the program
 pub record IsStartItem (input : InputParts) (k at j : ℕ) (kind : ItemKind) : Type 0 where
@@ -51,8 +51,7 @@ start_item_there input right k at e =
     let j = there.0 in
     let parts = start_parts (section_of input k) at e in
     let read = start_read input right (outline input) k (at / 4) parts.0 parts.2 in
-    let size = length-map (outline input) (item_with input (outline input)) in
-    (
+    let size = length-map (outline input) (item_with input (outline input)) in (
       j,
       read.0,
       record {

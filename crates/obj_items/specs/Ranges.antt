@@ -3,7 +3,7 @@ use Rattle.std.specs.Prelude.{◌≡◌, ℕ, ◌<◌, ◌^◌, true, length, Al
 use Rattle.std.specs.Int.{w64}
 use Rattle.obj_input.specs.declared.parts.Block.{Block}
 use Rattle.obj_input.specs.declared.parts.Definition.{Definition}
-use Rattle.obj_input.specs.declared.parts.Definition.TheVariants.{Zero, Absolute, Within, Common, Missing}
+use Rattle.obj_input.specs.declared.parts.Definition.TheVariants.{Absolute, Within}
 use Rattle.obj_input.specs.declared.parts.Use.{Use}
 use Rattle.obj_input.specs.InOrder.{AreFew}
 use Rattle.obj_input.specs.Input.{InputParts, SectionParts, has_bytes, section_count, section_of}
