@@ -2,6 +2,8 @@ pub mod Split
 pub mod Kinds
 pub mod Lines
 pub mod Rules
+pub mod Placed
+pub mod Sound
 pub mod Walk
 pub mod Along
 pub mod Walks

@@ -1,5 +1,5 @@
 //! What holds of accepted pairs and of their runs. Each function states one law; nothing is computed.
-ghost use Rattle.cfi_verify.specs.Laws.{CodeIsSplit, WellFormedIsSafe, SafeStaysInPlace, SafeWalksGraph};
+ghost use Rattle.cfi_verify.specs.Laws.{CodeIsSplit, PlacedAreSplit, PlacedEntry, PlacedIsWellFormed, PlacedUnits, SafeStaysInPlace, SafeWalksGraph, SplitUnits, WellFormedIsSafe};
 ghost use Rattle.cfi_verify.specs.Unsafe.{MiddleIsUnsafe, BareReturnIsUnsafe, BareStoreIsUnsafe, MovedPointerIsUnsafe, WrongStopsAreUnsafe, WrongTransfersAreUnsafe, WrongShadowsAreUnsafe};
 
 /// An image and a graph that meet the rules are safe.
@@ -12,6 +12,32 @@ pub fn well_formed_is_safe()
 /// exactly where one of the split does.
 pub fn code_is_split()
     ensures { CodeIsSplit }
+{}
+
+/// Units that fit one after another, each before words that may follow it, are the split of their words.
+pub fn placed_are_split()
+    ensures { PlacedAreSplit }
+{}
+
+/// A unit starts at an address of a code exactly where one of the code's split does, and it is that unit.
+pub fn split_units()
+    ensures { SplitUnits }
+{}
+
+/// In a code that is the prologue and placed units, these units start and no others.
+pub fn placed_units()
+    ensures { PlacedUnits }
+{}
+
+/// The opening of such a code calls the entry, where its call reaches the entry.
+pub fn placed_entry()
+    ensures { PlacedEntry }
+{}
+
+/// An image whose code is the prologue and placed units that are sound meets the rules with the lines of
+/// these units.
+pub fn placed_is_well_formed()
+    ensures { PlacedIsWellFormed }
 {}
 
 /// The walk of each run of a safe pair is a list of steps of the graph walk.
