@@ -17,6 +17,7 @@ pub mod Ahead
 pub mod PlacedLines
 pub mod PlacedRules
 pub mod PlacedCode
+pub mod PlacedGraph
 pub mod PlacedRows
 pub mod Walks
 pub mod Trails

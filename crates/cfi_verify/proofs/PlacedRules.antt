@@ -16,7 +16,7 @@ use Rattle.cfi_unit.specs.declared.place.Place.{Place}
 use Rattle.cfi_unit.specs.declared.place.Place.TheVariants.{Handler as handler, Opening as opening, Closing as closing, Body as body}
 use Rattle.cfi_unit.specs.Prologue.{OPENING}
 use Rattle.cfi_unit.specs.Split.{IsSplit}
-use Rattle.cfi_unit.specs.UnitWords.{BAD_TARGET, BAD_RETURN, DEEP, word_count}
+use Rattle.cfi_unit.specs.UnitWords.{word_count}
 use Rattle.cfi_verify.specs.Lines.{class_of, holds_of, is_among, line_at}
 use Rattle.cfi_verify.specs.Placed.{code_from, line_of, lines_from, placed_lines}
 use Rattle.cfi_verify.specs.Rules.{Holds, call_of, edge_of, fails_prologue, is_astray, is_bad_end, is_call_to, is_edge_to, is_lone_site, is_site_with, is_stop, is_unused, site_of}
@@ -26,6 +26,7 @@ use Rattle.cfi_verify.specs.declared.reject.Rule.{Rule}
 use Rattle.cfi_verify.specs.declared.reject.Rule.TheVariants as R
 use Rattle.cfi_verify.proofs.Marks.{some_word}
 use Rattle.cfi_verify.proofs.PlacedLines.{class_before, gates_stand, line_in, line_past, no_class, none_lacks}
+use Rattle.cfi_verify.proofs.Places.{not_handler}
 use Rattle.cfi_verify.proofs.PlacedSplit.{reaches_end, start_is, unit_is}
 use Rattle.cfi_verify.proofs.UnitIn.{in_here, in_later, length-code_from, lies}
 
@@ -114,9 +115,6 @@ module _ (p : Profile) (words : List ℕ) (entry : ℕ) (us : List U.Unit) (clas
 
   unit : (a : ℕ) → unit_at p words a ≡ unit_in us p.units_from a
   unit = unit_is p low placed.round words us placed.split
-
-  not_handler : (a : ℕ) → DEEP < a → is_handler a ≡ false
-  not_handler a above = rw (ne_eqb a BAD_TARGET (λ e. omega arith), ne_eqb a BAD_RETURN (λ e. omega arith), ne_eqb a DEEP (λ e. omega arith)) refl
 
   -- handlers and the closing are no transfers
   calm : {A : Type 0} (f : Place → Option A) (a : ℕ) → f handler ≡ None → f closing ≡ None → a ≢ OPENING → unit_in us p.units_from a ≡ None → option_and_then f (place_at p words a) ≡ None

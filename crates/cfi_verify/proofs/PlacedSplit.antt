@@ -3,7 +3,7 @@
 use Rattle.std.proofs.Common.{◌≡◌, ℕ, zero, suc, ◌+◌, ◌-◌, ◌*◌, ◌/◌, ◌%◌, ◌≤◌, ◌<◌, inl, inr, List, [], ◌∷◌, ◌++◌, length, length-drop, drop, refl, sym, ap, subst, ◌∙◌, Some, None, arith}
 use Rattle.std.specs.Prelude.{slice_get, is_some}
 use Rattle.std.proofs.lemmas.Bool.{cases_eq, cases_lt, le-leb, lt-leb, ne_eqb}
-use Rattle.std.proofs.lemmas.List.{drop-drop, drop_at, length-take}
+use Rattle.std.proofs.lemmas.List.{drop-drop, drop_at}
 use Rattle.rv_word.specs.Layout.{CODE_START, Profile}
 use Rattle.rv_word.proofs.Cases.{cases_Option}
 use Rattle.cfi_unit.specs.declared.unit.Unit as U
@@ -13,7 +13,7 @@ use Rattle.cfi_unit.specs.UnitWords.{Begins, word_count, words_of}
 use Rattle.cfi_unit.proofs.Found.{begins, begins_recognised, words_counted}
 use Rattle.cfi_verify.specs.Placed.{AllAhead, AllFit, code_from}
 use Rattle.cfi_verify.specs.Split.{is_marked, is_start, starts, unit_at, unit_in, unit_words}
-use Rattle.cfi_verify.proofs.Marks.{head_after, head_inner, head_length, head_mark, none_in_none, some_word}
+use Rattle.cfi_verify.proofs.Marks.{begins_room, head_after, head_inner, head_length, head_mark, none_in_none, some_word}
 use Rattle.cfi_verify.proofs.UnitIn.{in_here, in_later, in_none, lies}
 
 pub placed_split : (us : List U.Unit) (at : ℕ) → AllFit at us → AllAhead at us → IsSplit (code_from at us) at us
@@ -35,13 +35,6 @@ pub record SplitMarks (ws : List ℕ) (at : ℕ) (us : List U.Unit) : Type 0 whe
 marks_end : (at : ℕ) → SplitMarks [] at []
 unfolding starts unit_in
 marks_end at = record { reached = refl; marked = λ i. refl; found = λ i u e. absurd (cc) }
-
-begins_room : (ws : List ℕ) (at : ℕ) (u : U.Unit) → Begins ws at u → word_count u ≤ length ws
-begins_room ws at u b =
-    let same = ap length b.words_are in
-    let whole = length-take (word_count u) ws in
-    let counted = words_counted u at in
-    omega (arith, same, whole, counted)
 
 module _ (w : ℕ) (ws : List ℕ) (at : ℕ) (u : U.Unit) (us : List U.Unit) (b : Begins (w ∷ ws) at u) (rest : SplitMarks (drop (word_count u) (w ∷ ws)) (at + 4 * word_count u) us) where
   first : recognised (w ∷ ws) at ≡ Some u

@@ -1,12 +1,12 @@
 -- What holds of well-formed pairs and of runs along a graph.
-use Rattle.std.specs.Prelude.{◌≡◌, ℕ, ◌%◌, ◌<◌, ◌≤◌, ◌^◌, List, length, slice_index, Some, is_some}
+use Rattle.std.specs.Prelude.{◌≡◌, ℕ, ◌*◌, ◌%◌, ◌<◌, ◌≤◌, ◌^◌, List, length, slice_index, Some, is_some}
 use Rattle.std.specs.List.{AllByRecursion}
 use Rattle.rv_word.specs.Image.{Contents, IsImageSize}
 use Rattle.rv_word.specs.Layout.{CODE_START, Profile, version_1}
 use Rattle.rv_code.specs.Run.{ByteChange}
 use Rattle.rv_code.specs.State.{start_hart, start_shared}
 use Rattle.cfi_graph.specs.declared.line.GraphLine.{GraphLine}
-use Rattle.cfi_graph.specs.Graph.{GraphParts}
+use Rattle.cfi_graph.specs.Graph.{GraphParts, IsGraph}
 use Rattle.cfi_unit.specs.declared.unit.Unit as U
 use Rattle.cfi_unit.specs.Split.{IsSplit}
 use Rattle.cfi_unit.specs.UnitWords.{Reaches}
@@ -69,6 +69,13 @@ abbrev pub PlacedEntry : Type 0
 PlacedEntry =
     (entry : ℕ) (units : List U.Unit) → Reaches version_1.opening_call entry →
     entry_of version_1 (placed_code version_1 entry units) ≡ Some entry
+
+-- where the class lines are those of a graph of such a code, all lines of sound units are
+abbrev pub PlacedIsGraph : Type 0
+PlacedIsGraph =
+    (entry : ℕ) (units : List U.Unit) (classes : List GraphLine) → IsSound version_1 entry units classes →
+    IsGraph (record { code = 4 * length (placed_code version_1 entry units); lines = classes }) →
+    IsGraph (record { code = 4 * length (placed_code version_1 entry units); lines = placed_lines version_1 entry units classes })
 
 -- a code of placed units that are sound, with their lines, is well formed
 abbrev pub PlacedIsWellFormed : Type 0

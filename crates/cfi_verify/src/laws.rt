@@ -1,5 +1,5 @@
 //! What holds of accepted pairs and of their runs. Each function states one law; nothing is computed.
-ghost use Rattle.cfi_verify.specs.Laws.{CodeIsSplit, PlacedAreSplit, PlacedEntry, PlacedIsWellFormed, PlacedUnits, SafeStaysInPlace, SafeWalksGraph, SplitUnits, WellFormedIsSafe};
+ghost use Rattle.cfi_verify.specs.Laws.{CodeIsSplit, PlacedAreSplit, PlacedEntry, PlacedIsGraph, PlacedIsWellFormed, PlacedUnits, SafeStaysInPlace, SafeWalksGraph, SplitUnits, WellFormedIsSafe};
 ghost use Rattle.cfi_verify.specs.Unsafe.{MiddleIsUnsafe, BareReturnIsUnsafe, BareStoreIsUnsafe, MovedPointerIsUnsafe, WrongStopsAreUnsafe, WrongTransfersAreUnsafe, WrongShadowsAreUnsafe};
 
 /// An image and a graph that meet the rules are safe.
@@ -32,6 +32,12 @@ pub fn placed_units()
 /// The opening of such a code calls the entry, where its call reaches the entry.
 pub fn placed_entry()
     ensures { PlacedEntry }
+{}
+
+/// The lines of sound units and their classes, with the opening's call, are a graph's where the lines of
+/// the classes alone are.
+pub fn placed_is_graph()
+    ensures { PlacedIsGraph }
 {}
 
 /// An image whose code is the prologue and placed units that are sound meets the rules with the lines of
