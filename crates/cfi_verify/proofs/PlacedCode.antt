@@ -1,6 +1,6 @@
 -- A whole code of placed units: its prologue stands and calls the entry, its units are its split, and with
 -- its lines it is well formed.
-use Rattle.std.proofs.Common.{◌≡◌, ℕ, zero, suc, ◌+◌, ◌-◌, ◌/◌, ◌%◌, ◌≤◌, ◌<◌, ◌==◌, inl, inr, true, false, List, [], ◌∷◌, ◌++◌, length, length-append, get_or, map, refl, sym, ap, subst, ◌∙◌, lit<, lit≤, Some, arith}
+use Rattle.std.proofs.Common.{◌≡◌, ℕ, zero, suc, ◌+◌, ◌-◌, ◌/◌, ◌%◌, ◌≤◌, ◌<◌, ◌==◌, inl, inr, true, false, List, [], ◌∷◌, ◌++◌, get_or, map, refl, sym, ap, subst, ◌∙◌, lit<, lit≤, Some, arith}
 use Rattle.std.specs.Prelude.{not, ◌&&◌, slice_get, slice_index, option_map, nat_le}
 use Rattle.std.proofs.lemmas.Bool.{and_parts, and_left, and_right, cases_Bool, cases_eq, eq-eqb, leb-true, ne_eqb, not_from_true}
 use Rattle.std.proofs.lemmas.Option.{same_Some, slice_get-map, slice_get-get_or}
@@ -16,7 +16,7 @@ use Rattle.cfi_unit.specs.Prologue.{prologue_instrs}
 use Rattle.cfi_unit.specs.Recognise.{target_in}
 use Rattle.cfi_unit.specs.UnitWords.{Reaches, jump_offset}
 use Rattle.cfi_unit.proofs.Found.{is_jump_instr}
-use Rattle.cfi_verify.specs.Laws.{PlacedEntry, PlacedIsWellFormed, PlacedUnits, SplitUnits}
+use Rattle.cfi_verify.specs.PlacedLaws.{PlacedEntry, PlacedIsWellFormed, PlacedUnits, SplitUnits}
 use Rattle.cfi_verify.specs.Placed.{code_from, placed_code}
 use Rattle.cfi_verify.specs.Rules.{Holds, fails_prologue, is_link, prologue_word_fits, prologue_words}
 use Rattle.cfi_verify.specs.Sound.{IsSound}
@@ -24,6 +24,7 @@ use Rattle.cfi_verify.specs.Split.{entry_of}
 use Rattle.cfi_verify.proofs.Opening.{word_at}
 use Rattle.cfi_verify.proofs.PlacedRules.{IsPlaced, rules_hold}
 use Rattle.cfi_verify.proofs.PlacedSplit.{placed_split, start_is, unit_is}
+use Rattle.cfi_verify.proofs.UnitIn.{length-placed_code}
 
 get_left : {A : Type 0} (xs ys : List A) (k : ℕ) (x : A) → slice_get xs k ≡ Some x → slice_get (xs ++ ys) k ≡ Some x
 get_left [] ys k x e = absurd (cc)
@@ -89,8 +90,7 @@ module _ (entry : ℕ) (us : List U.Unit) where
     call = entry_there sound.entry_reached;
     split = placed_split us UNITS_START sound.fit sound.ahead;
     size =
-        let whole : length the_code ≡ 16 + length (code_from UNITS_START us) =
-        length-append (map code_of (prologue_instrs entry)) (code_from UNITS_START us) in
+        let whole = length-placed_code entry us in
         omega arith;
   }
 

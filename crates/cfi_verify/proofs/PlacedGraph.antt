@@ -1,5 +1,5 @@
 -- The lines of sound placed units are a graph's, where its class lines are.
-use Rattle.std.proofs.Common.{inl, inr, ◌≡◌, ℕ, ◌+◌, ◌*◌, ◌%◌, ◌≤◌, ◌<◌, ◌==◌, Bool, true, false, List, [], ◌∷◌, ◌++◌, length, length-append, map, refl, sym, ap, ◌∙◌, Some, None, lit<, arith}
+use Rattle.std.proofs.Common.{inl, inr, ◌≡◌, ℕ, ◌+◌, ◌*◌, ◌%◌, ◌≤◌, ◌<◌, ◌==◌, Bool, true, false, List, [], ◌∷◌, ◌++◌, length, map, refl, sym, ap, ◌∙◌, Some, None, lit<, arith}
 use Rattle.std.specs.Prelude.{Option, IsTrue, nat_le, nat_lt, ◌&&◌, is_some}
 use Rattle.std.specs.List.{list_all}
 use Rattle.std.proofs.lemmas.Bool.{and_from, and_parts, cases_Bool, eq-eqb, eqb-true, le-leb, lt-ltb}
@@ -7,7 +7,6 @@ use Rattle.std.proofs.lemmas.List.Folds.{list_all-append}
 use Rattle.std.proofs.lemmas.Option.{same_Some}
 use Rattle.rv_word.specs.Layout.{CODE_START, version_1}
 use Rattle.rv_word.proofs.Cases.{cases_Option}
-use Rattle.rv_code.specs.Encode.{code_of}
 use Rattle.cfi_graph.specs.declared.line.GraphLine.{GraphLine}
 use Rattle.cfi_graph.specs.declared.line.GraphLine.TheVariants.{Class, Site, Edge, Call}
 use Rattle.cfi_graph.specs.declared.line.Key.TheVariants.{Address}
@@ -17,16 +16,16 @@ use Rattle.cfi_graph.specs.Graph.{IsGraph, is_class, is_code_address, is_label, 
 use Rattle.cfi_unit.specs.declared.unit.Unit as U
 use Rattle.cfi_unit.specs.declared.unit.Unit.TheVariants as V
 use Rattle.cfi_unit.specs.declared.place.Place.TheVariants.{Body as body}
-use Rattle.cfi_unit.specs.Prologue.{OPENING, prologue_instrs}
+use Rattle.cfi_unit.specs.Prologue.{OPENING}
 use Rattle.cfi_unit.specs.UnitWords.{word_count}
-use Rattle.cfi_verify.specs.Laws.{PlacedIsGraph}
+use Rattle.cfi_verify.specs.PlacedLaws.{PlacedIsGraph}
 use Rattle.cfi_verify.specs.Lines.{class_of}
-use Rattle.cfi_verify.specs.Placed.{code_from, line_of, lines_from, placed_code, placed_lines, with_line}
+use Rattle.cfi_verify.specs.Placed.{line_of, lines_from, placed_code, placed_lines, with_line}
 use Rattle.cfi_verify.specs.Rules.{site_of}
 use Rattle.cfi_verify.specs.Sound.{IsSound, StartsIn, target_of}
 use Rattle.cfi_verify.specs.Split.{unit_in}
 use Rattle.cfi_verify.proofs.Marks.{some_word}
-use Rattle.cfi_verify.proofs.UnitIn.{in_here, in_past, lies}
+use Rattle.cfi_verify.proofs.UnitIn.{in_here, in_past, length-placed_code, lies}
 
 -- what holds of each unit's line holds of all lines
 all_with : (test : GraphLine → Bool) (o : Option GraphLine) (rest : List GraphLine) → ((line : GraphLine) → o ≡ Some line → test line ≡ true) → list_all test rest ≡ true → list_all test (with_line o rest) ≡ true
@@ -130,9 +129,6 @@ module _ (entry : ℕ) (us : List U.Unit) (classes : List GraphLine) (sound : Is
   abbrev size : ℕ
   size = 4 * length (placed_code version_1 entry us)
 
-  whole : length (placed_code version_1 entry us) ≡ 16 + length (code_from version_1.units_from us)
-  whole = length-append (map code_of (prologue_instrs entry)) (code_from version_1.units_from us)
-
   code_address : (a : ℕ) → CODE_START ≤ a → a < CODE_START + size → a % 4 ≡ 0 → is_code_address size a ≡ true
   code_address a low high round =
       and_from (a % 4 == 0 && nat_le CODE_START a) (nat_lt a (CODE_START + size))
@@ -141,7 +137,7 @@ module _ (entry : ℕ) (us : List U.Unit) (classes : List GraphLine) (sound : Is
   start_address : (a : ℕ) (u : U.Unit) → unit_in us version_1.units_from a ≡ Some u → is_code_address size a ≡ true
   start_address a u e =
       let some = some_word u in
-      let words = whole in
+      let words = length-placed_code entry us in
       let from = (lies us version_1.units_from a u e).from in
       let to = (lies us version_1.units_from a u e).to in
       let round = (lies us version_1.units_from a u e).round in
@@ -155,7 +151,7 @@ module _ (entry : ℕ) (us : List U.Unit) (classes : List GraphLine) (sound : Is
       ]
 
   opening_address : is_code_address size OPENING ≡ true
-  opening_address = let words = whole in code_address OPENING (omega arith) (omega arith) refl
+  opening_address = let words = length-placed_code entry us in code_address OPENING (omega arith) (omega arith) refl
 
   pub placed_graph : IsGraph (record { code = size; lines = classes }) → IsGraph (record { code = size; lines = placed_lines version_1 entry us classes })
   placed_graph graph =

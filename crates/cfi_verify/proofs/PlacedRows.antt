@@ -29,6 +29,7 @@ use Rattle.cfi_verify.specs.Sound.{IsSound, target_of}
 use Rattle.cfi_verify.specs.Split.{unit_in}
 use Rattle.cfi_verify.proofs.UnitIn.{in_here, in_later}
 
+-- a computed call of one of two functions (p.s)
 abbrev p_units : List U.Unit
 p_units =
     V.Plain (Immediate Addi 2 2 0xff0)
@@ -59,6 +60,7 @@ p_lines : placed_lines version_1 0x40000040 p_units p_classes ≡ Class 1 (0x400
 unfolding lines_from
 p_lines = refl
 
+-- a computed jump to one of two places (jump.s)
 abbrev jump_units : List U.Unit
 jump_units =
     V.Plain (Upper Lui 5 0x10)
@@ -81,6 +83,7 @@ jump_lines : lines_from 0x40000040 jump_units ≡ Site 0x40000048 K.Jump 1 ∷ [
 unfolding lines_from
 jump_lines = refl
 
+-- a function that calls itself (deep.s)
 abbrev deep_units : List U.Unit
 deep_units =
     V.Plain (Upper Lui 10 2)
@@ -105,6 +108,7 @@ deep_lines : placed_lines version_1 0x40000040 deep_units [] ≡ Call 0x4000000c
 unfolding lines_from
 deep_lines = refl
 
+-- a loop of short branches (near.s)
 abbrev near_units : List U.Unit
 near_units =
     V.Plain (Immediate Addi 5 0 8)

@@ -1,11 +1,14 @@
 -- Which unit of a list stands at an address, and where it lies.
-use Rattle.std.proofs.Common.{◌≡◌, ◌≢◌, ℕ, ◌+◌, ◌*◌, ◌%◌, ◌≤◌, ◌<◌, inl, inr, List, [], ◌∷◌, length, length-append, refl, sym, ap, ◌∙◌, Some, None, arith}
+use Rattle.std.proofs.Common.{◌≡◌, ◌≢◌, ℕ, ◌+◌, ◌*◌, ◌%◌, ◌≤◌, ◌<◌, inl, inr, List, [], ◌∷◌, length, length-append, map, refl, sym, ap, ◌∙◌, Some, None, arith}
 use Rattle.std.proofs.lemmas.Bool.{cases_eq, eq-eqb, ne_eqb}
 use Rattle.std.proofs.lemmas.Option.{same_Some}
+use Rattle.rv_word.specs.Layout.{version_1}
+use Rattle.rv_code.specs.Encode.{code_of}
 use Rattle.cfi_unit.specs.declared.unit.Unit as U
+use Rattle.cfi_unit.specs.Prologue.{prologue_instrs}
 use Rattle.cfi_unit.specs.UnitWords.{word_count, words_of}
 use Rattle.cfi_unit.proofs.Found.{words_counted}
-use Rattle.cfi_verify.specs.Placed.{code_from}
+use Rattle.cfi_verify.specs.Placed.{code_from, placed_code}
 use Rattle.cfi_verify.specs.Split.{unit_in}
 use Rattle.cfi_verify.proofs.Marks.{some_word}
 
@@ -34,6 +37,10 @@ unfolding code_from
 length-code_from u us at =
     length-append (words_of u at) (code_from (at + 4 * word_count u) us)
     ∙ ap (λ n. n + length (code_from (at + 4 * word_count u) us)) (words_counted u at)
+
+-- the prologue has sixteen words
+pub length-placed_code : (entry : ℕ) (us : List U.Unit) → length (placed_code version_1 entry us) ≡ 16 + length (code_from version_1.units_from us)
+length-placed_code entry us = length-append (map code_of (prologue_instrs entry)) (code_from version_1.units_from us)
 
 pub lies : (us : List U.Unit) (at a : ℕ) (u : U.Unit) → unit_in us at a ≡ Some u → Lies us at a u
 unfolding unit_in

@@ -10,6 +10,7 @@ pub mod Walks
 pub mod Trails
 pub mod Unsafe
 pub mod Laws
+pub mod PlacedLaws
 pub mod Seen
 pub mod Scan
 pub mod Answer

@@ -22,7 +22,7 @@ unfoldable pub AllFit : ℕ → List U.Unit → Type 0
 AllFit at [] = Unit {0}
 AllFit at (unit ∷ units) = Fits unit at × AllFit (after_unit unit at) units
 
--- the words of the units that follow a unit may follow it
+-- and each before the words of those that follow it
 unfoldable pub AllAhead : ℕ → List U.Unit → Type 0
 AllAhead at [] = Unit {0}
 AllAhead at (unit ∷ units) =

@@ -1,5 +1,7 @@
-//! What holds of accepted pairs and of their runs. Each function states one law; nothing is computed.
-ghost use Rattle.cfi_verify.specs.Laws.{CodeIsSplit, PlacedAreSplit, PlacedEntry, PlacedIsGraph, PlacedIsWellFormed, PlacedUnits, SafeStaysInPlace, SafeWalksGraph, SplitUnits, WellFormedIsSafe};
+//! What holds of accepted pairs and of their runs, and of units placed one after another. Each function
+//! states one law; nothing is computed.
+ghost use Rattle.cfi_verify.specs.Laws.{CodeIsSplit, WellFormedIsSafe, SafeStaysInPlace, SafeWalksGraph};
+ghost use Rattle.cfi_verify.specs.PlacedLaws.{PlacedAreSplit, PlacedEntry, PlacedIsGraph, PlacedIsWellFormed, PlacedUnits, SplitUnits};
 ghost use Rattle.cfi_verify.specs.Unsafe.{MiddleIsUnsafe, BareReturnIsUnsafe, BareStoreIsUnsafe, MovedPointerIsUnsafe, WrongStopsAreUnsafe, WrongTransfersAreUnsafe, WrongShadowsAreUnsafe};
 
 /// An image and a graph that meet the rules are safe.
@@ -12,6 +14,17 @@ pub fn well_formed_is_safe()
 /// exactly where one of the split does.
 pub fn code_is_split()
     ensures { CodeIsSplit }
+{}
+
+/// The walk of each run of a safe pair is a list of steps of the graph walk.
+pub fn safe_walks_graph()
+    ensures { SafeWalksGraph }
+{}
+
+/// Each begun instruction of each run of a safe pair is a word of what stands at the newest address of
+/// the walk, and ends as it may there.
+pub fn safe_stays_in_place()
+    ensures { SafeStaysInPlace }
 {}
 
 /// Units that fit one after another, each before words that may follow it, are the split of their words.
@@ -44,17 +57,6 @@ pub fn placed_is_graph()
 /// these units.
 pub fn placed_is_well_formed()
     ensures { PlacedIsWellFormed }
-{}
-
-/// The walk of each run of a safe pair is a list of steps of the graph walk.
-pub fn safe_walks_graph()
-    ensures { SafeWalksGraph }
-{}
-
-/// Each begun instruction of each run of a safe pair is a word of what stands at the newest address of
-/// the walk, and ends as it may there.
-pub fn safe_stays_in_place()
-    ensures { SafeStaysInPlace }
 {}
 
 /// An image with a jump into the middle of a store unit is not safe.
