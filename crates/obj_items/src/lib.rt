@@ -4,6 +4,7 @@
 
 pub use fault::fault_in;
 pub use from_object::input_of;
+pub use program::{ItemEnd, items};
 
 mod definitions;
 mod fault;
@@ -11,6 +12,8 @@ mod from_object;
 mod init;
 mod links;
 mod outline;
+mod program;
+mod ranges;
 mod relocs;
 mod sections;
 mod symbols;
