@@ -11,3 +11,5 @@ pub mod Bounds
 pub mod Patches
 pub mod DataLies
 pub mod ProgramSound
+mod Data
+mod Marks

@@ -1,3 +1,6 @@
+ghost use Rattle.std.specs.Prelude.{◌≡◌};
+ghost use Rattle.obj_program.specs.Program.{is_spot};
+
 use obj_input::ItemKind;
 use rv_reloc::DataPatch;
 
@@ -40,6 +43,15 @@ pub struct Item {
     pub target: Option<u64>,
     /// Whether a relocation takes the instruction's address.
     pub taken: bool,
+}
+
+impl Item {
+    /// Whether it stands at this offset, in bytes, of the section with this index.
+    pub fn is_at(&self, section: u32, offset: u64) -> bool
+        ensures { result ≡ is_spot section offset self.now }
+    {
+        self.section == section && self.offset == offset
+    }
 }
 
 /// A relocation of initialised data.

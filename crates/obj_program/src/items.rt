@@ -1,8 +1,9 @@
 ghost use Rattle.std.specs.Prelude.{◌≡◌, ◌<◌, length, slice_get, Some};
-ghost use Rattle.obj_program.specs.Program.{count, item_of};
+ghost use Rattle.obj_program.specs.Program.{count, item_of, place_of};
 ghost use Rattle.obj_program.specs.Sound.{IsSound};
 
 use crate::item::{DataReloc, Item};
+use crate::place::place_in;
 use obj_input::{Func, Name};
 use std::marker::Model;
 
@@ -96,5 +97,12 @@ impl<'a> Items<'a> {
         ensures { slice_get self.now.funcs j ≡ Some result }
     {
         self.funcs[j as usize]
+    }
+
+    /// The index of the place with this section and offset, in bytes.
+    pub fn place_of(&self, section: u32, offset: u64) -> Option<u64>
+        ensures { result ≡ place_of self.now.items section offset }
+    {
+        place_in(&self.items, section, offset)
     }
 }

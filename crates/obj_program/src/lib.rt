@@ -4,6 +4,8 @@
 
 pub use item::{DataReloc, Item, Patch, Value};
 pub use items::Items;
+pub use place::place_in;
 
 mod item;
 mod items;
+mod place;
