@@ -36,7 +36,7 @@ placed_length so_far bytes address =
     let gap : List ℕ = replicate (address - (DATA_START + length so_far)) 0 in
     let outer = length-append (so_far ++ gap) bytes in
     let inner = length-append so_far gap in
-    let zeros = length-replicate {A = ℕ} (address - (DATA_START + length so_far)) 0 in
+    let zeros : length gap ≡ address - (DATA_START + length so_far) = length-replicate (address - (DATA_START + length so_far)) 0 in
     omega arith
 
 placed_longer : (so_far bytes : List ℕ) (address : ℕ) → length so_far ≤ length (placed so_far address bytes)

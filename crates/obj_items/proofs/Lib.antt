@@ -1,7 +1,12 @@
 mod Steps
 mod Whole
 mod Next
+mod Data
+mod Marks
 pub mod InOrder
+pub mod Pushed
+mod Addresses
+mod Instructions
 pub mod Suited
 pub mod NoFault
 pub mod LookUp
@@ -11,5 +16,3 @@ pub mod Bounds
 pub mod Patches
 pub mod DataLies
 pub mod ProgramSound
-mod Data
-mod Marks

@@ -8,5 +8,6 @@ pub mod Links
 pub mod InitialData
 pub mod ProgramOf
 pub mod Before
+pub mod Standing
 pub mod Ranges
 pub mod Laws

@@ -1,7 +1,12 @@
-ghost use Rattle.std.specs.Prelude.{All};
+ghost use Rattle.std.specs.Prelude.{◌≡◌, ◌<◌, ◌^◌, All, None, length};
+ghost use Rattle.obj_rules.specs.Fault.{fault_of};
+ghost use Rattle.obj_program.specs.Sound.{IsSound};
+ghost use Rattle.obj_items.specs.Outline.{outline};
+ghost use Rattle.obj_items.specs.ProgramOf.{program_of};
 ghost use Rattle.obj_items.specs.Ranges.{AreSections, HasSmall, IsBlock, IsInput, IsSection, IsSmallUse};
 
 use obj_input::{Block, Definition, Input, Section, Use};
+use obj_program::Item;
 
 /// The numbers of a definition have 64 bits.
 fn definition_fits(definition: Definition)
@@ -68,10 +73,25 @@ fn blocks_fit(blocks: &[Block])
 }
 
 /// The numbers of an input are as their types say.
-pub(crate) fn input_fits(input: &Input)
+fn input_fits(input: &Input)
     ensures { IsInput input.now }
 {
     let _sections = input.section_count();
     sections_fit(input);
     blocks_fit(input.blocks());
+}
+
+/// Places are few, since each takes bytes.
+fn are_few(places: &[Item])
+    ensures { length places.now < 2 ^ 62 }
+{}
+
+/// The program of an input without a fault, whose places these are, is sound.
+pub(crate) fn program_is_sound(input: &Input, places: &[Item])
+    requires places { places.now ≡ outline input.now }
+    requires right { fault_of input.now ≡ None }
+    ensures { IsSound (program_of input.now) }
+{
+    input_fits(input);
+    are_few(places);
 }
