@@ -6,7 +6,7 @@ use Rattle.std.proofs.Math.Nat.{div-mul-le_self}
 use Rattle.std.proofs.lemmas.Bool.{cases_Bool, cases_lt, le-leb, lt-ltb}
 use Rattle.std.proofs.lemmas.Int.{ints}
 use Rattle.std.proofs.lemmas.List.{get_or_past}
-use Rattle.std.proofs.lemmas.List.Elements.{All-nil}
+use Rattle.std.proofs.lemmas.List.Elements.{All-get_or, All-nil}
 use Rattle.std.proofs.lemmas.List.Quantifiers.{position-Some}
 use Rattle.rv_word.specs.Layout.{DATA_START}
 use Rattle.rv_word.proofs.Cases.{cases_Option}
@@ -22,7 +22,7 @@ use Rattle.obj_program.specs.declared.item.Item.{Item}
 use Rattle.obj_program.specs.declared.item.Value.TheVariants.{Number}
 use Rattle.obj_program.specs.Program.{is_spot, no_item, place_of}
 use Rattle.obj_program.specs.Sound.{is_value}
-use Rattle.obj_items.specs.Ranges.{HasSmall, IsInput, IsSection, IsSmallUse}
+use Rattle.obj_items.specs.Ranges.{HasSmall, IsBlock, IsInput, IsSection, IsSmallUse}
 use Rattle.obj_items.specs.Values.{gate_value, place_at, value_of}
 use Rattle.obj_items.proofs.NoFault.{past_sections}
 
@@ -77,7 +77,7 @@ module _ (input : InputParts) (is : IsInput input) where
   unfolding blocks_reach
   blocks_bound zero below = let before = zeros_bound in omega arith
   blocks_bound (suc c) below =
-      let b = is.blocks c (omega arith) in
+      let b = All-get_or IsBlock input.blocks c no_block (omega arith) is.blocks in
       let so_far = blocks_bound c (omega arith) in
       let next = after_bound (blocks_reach input c) (block input c).size (block input c).align b.size b.align in
       omega arith
@@ -108,7 +108,7 @@ module _ (input : InputParts) (is : IsInput input) where
 
   each_block : (c : ℕ) → (block input c).align < 2 ^ 64
   each_block c = elim (cases_lt c (length input.blocks)) [
-    | inl below ↦ (is.blocks c below).align
+    | inl below ↦ (All-get_or IsBlock input.blocks c no_block below is.blocks).align
     | inr past ↦ subst (λ (b : Block). b.align < 2 ^ 64) (sym (get_or_past input.blocks c no_block past)) (omega arith)
   ]
 

@@ -11,3 +11,4 @@ pub mod Before
 pub mod Standing
 pub mod Ranges
 pub mod ItemEnd
+pub mod Laws

@@ -10,6 +10,7 @@ mod definitions;
 mod fault;
 mod from_object;
 mod init;
+pub mod laws;
 mod links;
 mod outline;
 mod program;
