@@ -1,1 +1,5 @@
 pub mod Ordered
+pub mod Read
+pub mod Applied
+pub mod Kept
+pub mod Ranges
