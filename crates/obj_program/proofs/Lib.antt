@@ -3,3 +3,5 @@ pub mod Read
 pub mod Applied
 pub mod Kept
 pub mod Ranges
+pub mod Exact
+mod Rows

@@ -4,3 +4,4 @@ pub mod Sound
 pub mod AtMap
 pub mod DataAtMap
 pub mod Range
+pub mod Laws

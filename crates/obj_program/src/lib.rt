@@ -11,5 +11,6 @@ mod at_map;
 mod data_at_map;
 mod item;
 mod items;
+pub mod laws;
 mod place;
 mod range;
