@@ -1,5 +1,5 @@
 -- A relocation changes data from its offset on.
-use Rattle.std.proofs.Common.{◌≡◌, ℕ, ℤ, ◌+◌, ◌-◌, ◌≤◌, List, [], ◌++◌, take, drop, length, true, refl, ap, ◌∙◌, arith, OnOk, Result, Ok, Err, length-drop}
+use Rattle.std.proofs.Common.{◌≡◌, ℕ, ℤ, ◌-◌, List, ◌++◌, take, drop, length, ap, ◌∙◌, arith, OnOk, Result, Ok, Err, length-drop}
 use Rattle.std.proofs.lemmas.List.{take_all, drop_all, append-nil}
 use borrow.Rule.Slice.PartMut.{put_mid, mid_of}
 use Rattle.rv_reloc.specs.Data.{patched}

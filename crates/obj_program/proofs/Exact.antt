@@ -1,19 +1,15 @@
 -- Where a value leaves its range, and that none does where no place is told.
 use Rattle.std.proofs.Common.{◌≡◌, ℕ, ◌<◌, Bool, true, false, Option, Some, None, List, [], ◌∷◌, inl, inr, refl, subst}
-use Rattle.std.specs.Prelude.{if◌then◌else◌, is_some, option_map, option_and_then}
+use Rattle.std.specs.Prelude.{if◌then◌else◌, is_some, option_map}
 use Rattle.std.specs.List.{filter_map, list_all}
 use Rattle.std.proofs.lemmas.Bool.{cases_Bool, and_parts}
-use Rattle.rv_word.proofs.Cases.{cases_Option}
-use Rattle.rv_instr.specs.declared.instr.Instr.{Instr}
-use Rattle.rv_code.specs.Decode.{decoded}
-use Rattle.rv_reloc.specs.Word.{reaches}
 use Rattle.least.specs.declared.place.Found.{Found}
 use Rattle.least.specs.First.{first_below}
 use Rattle.least.specs.Nearest.{IsNearest, is_before, nearer, nearest}
 use Rattle.least.proofs.Firsts.{first_none, none_first}
 use Rattle.least.proofs.Nearests.{nearest_begins, nearest_first}
 use Rattle.obj_program.specs.declared.item.DataReloc.{DataReloc}
-use Rattle.obj_program.specs.Program.{Program, count, item_of}
+use Rattle.obj_program.specs.Program.{count, item_of}
 use Rattle.obj_program.specs.DataAtMap.{data_at, is_in_range}
 use Rattle.obj_program.specs.Range.{found_at, found_item, first_instr, first_reloc, is_astray, out_of_range, place_found, reloc_astray}
 use Rattle.obj_program.specs.Laws.{NoneOutOfRange}
@@ -56,6 +52,7 @@ some_data true bytes e = refl
 some_data false bytes e = absurd (cc)
 
 pub none_out_of_range : NoneOutOfRange
+unfolding out_of_range data_at
 none_out_of_range program gates words = (forth, back)
   where
     forth : out_of_range program gates words ≡ None

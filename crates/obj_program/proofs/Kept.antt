@@ -1,12 +1,12 @@
 -- A relocation changes nothing but an immediate.
-use Rattle.std.proofs.Common.{◌≡◌, ℕ, ◌<◌, Bool, true, false, not, ◌&&◌, Option, Some, None, refl, ap, ◌∙◌, sym, subst, inl, inr, rules}
+use Rattle.std.proofs.Common.{◌≡◌, ℕ, ◌<◌, Bool, true, false, not, ◌&&◌, Option, Some, None, refl, subst, inl, inr}
 use Rattle.std.proofs.lemmas.Bool.{cases_Bool, and_parts}
-use Rattle.std.specs.Prelude.{ℤ, List, length, option_and_then}
+use Rattle.std.specs.Prelude.{ℤ, List, option_and_then}
 use Rattle.rv_word.proofs.Cases.{cases_Option}
 use Rattle.rv_reloc.specs.Value.{hi20, lo12, low_bits}
 use Rattle.rv_reloc.specs.Word.{reaches}
 use Rattle.rv_instr.specs.declared.instr.Instr.{Instr}
-use Rattle.rv_instr.specs.declared.instr.Instr.TheVariants.{Upper, Jal, Jalr, Branch, Load, Store, Immediate, Shift, ShiftWord, Register, Fence, Ecall, Ebreak}
+use Rattle.rv_instr.specs.declared.instr.Instr.TheVariants.{Upper, Jalr, Load, Store, Immediate}
 use Rattle.rv_code.specs.Decode.{decoded}
 use Rattle.obj_input.specs.declared.item_kind.ItemKind.{ItemKind}
 use Rattle.obj_input.specs.declared.item_kind.ItemKind.TheVariants as is
@@ -98,8 +98,9 @@ instr_fine program gates words k kind patch (Some i) j read gives =
 pub kept : (program : Program) (gates words : List ℕ) (k : ℕ) (j : Instr) → IsSound program → k < count program
     → is_end (item_of program k).kind ≡ false → instr_at program gates words k ≡ Some j
     → (suits (item_of program k).kind j ≡ true) × (names_reserved j ≡ false)
+unfolding instr_at
 kept program gates words k j sound below some gives =
     let fine = instr_fine program gates words k (item_of program k).kind (item_of program k).patch (decoded (item_of program k).word) j
-      (read_there program k sound below some) gives in
+    (read_there program k sound below some) gives in
     let parts = and_parts (suits (item_of program k).kind j) (not (names_reserved j)) fine in
     (parts.0, not_true (names_reserved j) parts.1)

@@ -3,7 +3,7 @@ use Rattle.std.proofs.Common.{◌≡◌, ℕ, ◌<◌, true, false}
 use Rattle.rv_code.specs.Decode.{decoded}
 use Rattle.obj_program.specs.declared.item.Patch.{Patch}
 use Rattle.obj_program.specs.Program.{Program, count, is_end, item_of}
-use Rattle.obj_program.specs.Sound.{IsSound, is_of, is_patch, is_read}
+use Rattle.obj_program.specs.Sound.{IsSound, is_of, is_patch}
 
 pub patch_there : (program : Program) (k : ℕ) (patch : Patch) → IsSound program → k < count program → patch ≡ (item_of program k).patch
     → is_patch program patch ≡ true

@@ -1,5 +1,5 @@
 -- Worked rows of the definitions, computed: instructions and data at a map, from a linker and by hand.
-use Rattle.std.proofs.Common.{◌≡◌, ℕ, ℤ, pos, negsuc, List, [], ◌∷◌, Option, Some, None, true, false, map, refl}
+use Rattle.std.proofs.Common.{◌≡◌, ℕ, ℤ, pos, negsuc, List, [], ◌∷◌, Option, Some, None, false, refl}
 use Rattle.rv_instr.specs.declared.instr.Instr.{Instr}
 use Rattle.rv_code.specs.Decode.{decoded}
 use Rattle.rv_reloc.specs.declared.kinds.DataPatch.{DataPatch}
@@ -34,22 +34,22 @@ program items init relocations = record { items = items; init = init; relocation
 -- `main` loads a pointer from data and calls what it points to, `f` and `g` answer 1 and 2, and data hold pointers to both
 pointers : Program
 pointers = program
-  (at 0 is.Plain 0xff010113 Own
-  ∷ at 4 is.Store 0x00113423 Own
-  ∷ at 8 is.Plain 0x000002b7 (High (Number (pos 0x10000)))
-  ∷ at 12 is.Plain 0x0002b283 (Low (Number (pos 0x10000)))
-  ∷ at 16 is.Icall 0x000280e7 Own
-  ∷ at 20 is.Plain 0x00813083 Own
-  ∷ at 24 is.Plain 0x01010113 Own
-  ∷ at 28 is.Return 0x00008067 Own
-  ∷ at 32 is.Plain 0x00100513 Own
-  ∷ at 36 is.Return 0x00008067 Own
-  ∷ at 40 is.Plain 0x00200513 Own
-  ∷ at 44 is.Return 0x00008067 Own
-  ∷ at 48 is.End 0 Own
-  ∷ [])
-  (0 ∷ 0 ∷ 0 ∷ 0 ∷ 0 ∷ 0 ∷ 0 ∷ 0 ∷ 0 ∷ 0 ∷ 0 ∷ 0 ∷ 0 ∷ 0 ∷ 0 ∷ 0 ∷ [])
-  (put 0 Abs64 (GateOf 8) ∷ put 8 Abs64 (GateOf 10) ∷ [])
+    (at 0 is.Plain 0xff010113 Own
+    ∷ at 4 is.Store 0x00113423 Own
+    ∷ at 8 is.Plain 0x000002b7 (High (Number (pos 0x10000)))
+    ∷ at 12 is.Plain 0x0002b283 (Low (Number (pos 0x10000)))
+    ∷ at 16 is.Icall 0x000280e7 Own
+    ∷ at 20 is.Plain 0x00813083 Own
+    ∷ at 24 is.Plain 0x01010113 Own
+    ∷ at 28 is.Return 0x00008067 Own
+    ∷ at 32 is.Plain 0x00100513 Own
+    ∷ at 36 is.Return 0x00008067 Own
+    ∷ at 40 is.Plain 0x00200513 Own
+    ∷ at 44 is.Return 0x00008067 Own
+    ∷ at 48 is.End 0 Own
+    ∷ [])
+    (0 ∷ 0 ∷ 0 ∷ 0 ∷ 0 ∷ 0 ∷ 0 ∷ 0 ∷ 0 ∷ 0 ∷ 0 ∷ 0 ∷ 0 ∷ 0 ∷ 0 ∷ 0 ∷ [])
+    (put 0 Abs64 (GateOf 8) ∷ put 8 Abs64 (GateOf 10) ∷ [])
 
 -- gates, of which those of `f` and `g` have a word of a label before the instruction's own
 pointer_gates : List ℕ
@@ -67,30 +67,30 @@ pointer_rows : (instr_at pointers pointer_gates pointer_words 2 ≡ decoded 0x00
     × (instr_at pointers pointer_gates pointer_words 4 ≡ decoded 0x000280e7)
     × (data_at pointers pointer_gates ≡ Some (0xc8 ∷ 0 ∷ 0 ∷ 0x40 ∷ 0 ∷ 0 ∷ 0 ∷ 0 ∷ 0xe4 ∷ 0 ∷ 0 ∷ 0x40 ∷ 0 ∷ 0 ∷ 0 ∷ 0 ∷ []))
     × (out_of_range pointers pointer_gates pointer_words ≡ None)
-unfolding at put program pointers pointer_gates pointer_words decoded first_below nearest
+unfolding at put program pointers pointer_gates pointer_words decoded first_below nearest instr_at data_at out_of_range
 pointer_rows = (refl, refl, refl, refl, refl)
 
 -- `main` calls `put`, which writes three bytes of data whose address an AUIPC and an ADDI make
 greeting : Program
 greeting = program
-  (at 0 is.Plain 0xff010113 Own
-  ∷ at 4 is.Store 0x00113423 Own
-  ∷ at 8 is.Call 0x000080e7 Own
-  ∷ at 16 is.Plain 0x00000513 Own
-  ∷ at 20 is.Plain 0x00813083 Own
-  ∷ at 24 is.Plain 0x01010113 Own
-  ∷ at 28 is.Return 0x00008067 Own
-  ∷ at 32 is.Plain 0x00000597 (RelativeHigh (Number (pos 0x10000)))
-  ∷ at 36 is.Plain 0x00058593 (RelativeLow 7)
-  ∷ at 40 is.Plain 0x00100513 Own
-  ∷ at 44 is.Plain 0x00300613 Own
-  ∷ at 48 is.Plain 0x04000893 Own
-  ∷ at 52 is.System 0x00000073 Own
-  ∷ at 56 is.Return 0x00008067 Own
-  ∷ at 60 is.End 0 Own
-  ∷ [])
-  (0x68 ∷ 0x69 ∷ 0x0a ∷ [])
-  []
+    (at 0 is.Plain 0xff010113 Own
+    ∷ at 4 is.Store 0x00113423 Own
+    ∷ at 8 is.Call 0x000080e7 Own
+    ∷ at 16 is.Plain 0x00000513 Own
+    ∷ at 20 is.Plain 0x00813083 Own
+    ∷ at 24 is.Plain 0x01010113 Own
+    ∷ at 28 is.Return 0x00008067 Own
+    ∷ at 32 is.Plain 0x00000597 (RelativeHigh (Number (pos 0x10000)))
+    ∷ at 36 is.Plain 0x00058593 (RelativeLow 7)
+    ∷ at 40 is.Plain 0x00100513 Own
+    ∷ at 44 is.Plain 0x00300613 Own
+    ∷ at 48 is.Plain 0x04000893 Own
+    ∷ at 52 is.System 0x00000073 Own
+    ∷ at 56 is.Return 0x00008067 Own
+    ∷ at 60 is.End 0 Own
+    ∷ [])
+    (0x68 ∷ 0x69 ∷ 0x0a ∷ [])
+    []
 
 greeting_gates : List ℕ
 greeting_gates =
@@ -101,7 +101,7 @@ greeting_rows : (instr_at greeting greeting_gates greeting_gates 7 ≡ decoded 0
     × (instr_at greeting greeting_gates greeting_gates 8 ≡ decoded 0xf6c58593)
     × (data_at greeting greeting_gates ≡ Some (0x68 ∷ 0x69 ∷ 0x0a ∷ []))
     × (out_of_range greeting greeting_gates greeting_gates ≡ None)
-unfolding at put program greeting greeting_gates decoded first_below nearest
+unfolding at put program greeting greeting_gates decoded first_below nearest instr_at data_at out_of_range
 greeting_rows = (refl, refl, refl, refl)
 
 -- a LUI with a number
@@ -114,18 +114,18 @@ reach_rows : (lui_of (pos 0x7ffff7ff) ≡ decoded 0x7ffff2b7)
     × (lui_of (negsuc 0x800007ff) ≡ decoded 0x800002b7)
     × (lui_of (negsuc 0x80000800) ≡ None)
     × (lui_of (pos 0x12345800) ≡ decoded 0x123462b7)
-unfolding lui_of at program decoded
+unfolding lui_of at program decoded instr_at
 reach_rows = (refl, refl, refl, refl, refl)
 
 -- an AUIPC and a store with the distance to a gate ahead, and an AUIPC and an ADDI with that to a gate behind: distances are from the word of the AUIPC
 relative : Program
 relative = program
-  (at 0 is.Plain 0x00000297 (RelativeHigh (GateOf 3))
-  ∷ at 4 is.Store 0x0062b023 (RelativeLow 0)
-  ∷ at 8 is.Plain 0x00000297 (RelativeHigh (GateOf 0))
-  ∷ at 12 is.Plain 0x00028293 (RelativeLow 2)
-  ∷ [])
-  [] []
+    (at 0 is.Plain 0x00000297 (RelativeHigh (GateOf 3))
+    ∷ at 4 is.Store 0x0062b023 (RelativeLow 0)
+    ∷ at 8 is.Plain 0x00000297 (RelativeHigh (GateOf 0))
+    ∷ at 12 is.Plain 0x00028293 (RelativeLow 2)
+    ∷ [])
+    [] []
 
 relative_gates : List ℕ
 relative_gates = 0x40000000 ∷ 0x40000008 ∷ 0x40001000 ∷ 0x40001828 ∷ []
@@ -138,7 +138,7 @@ relative_rows : (instr_at relative relative_gates relative_words 0 ≡ decoded 0
     × (instr_at relative relative_gates relative_words 1 ≡ decoded 0x8262b223)
     × (instr_at relative relative_gates relative_words 2 ≡ decoded 0xfffff297)
     × (instr_at relative relative_gates relative_words 3 ≡ decoded 0x00028293)
-unfolding at program relative relative_gates relative_words decoded
+unfolding at program relative relative_gates relative_words decoded instr_at
 relative_rows = (refl, refl, refl, refl)
 
 -- data with relocations
@@ -150,7 +150,7 @@ address_rows : (data_of (0 ∷ 1 ∷ 2 ∷ 3 ∷ 4 ∷ []) (put 0 Abs32 (Number 
     × (data_of (0 ∷ 1 ∷ 2 ∷ 3 ∷ 4 ∷ []) (put 1 Abs32 (Number (pos 0xffffffff)) ∷ []) ≡ Some (0 ∷ 0xff ∷ 0xff ∷ 0xff ∷ 0xff ∷ []))
     × (data_of (0 ∷ 1 ∷ 2 ∷ 3 ∷ []) (put 0 Abs32 (Number (negsuc 0x80000000)) ∷ []) ≡ None)
     × (data_of (0 ∷ 1 ∷ 2 ∷ 3 ∷ []) (put 0 Abs32 (Number (pos 0x100000000)) ∷ []) ≡ None)
-unfolding data_of put program
+unfolding data_of put program data_at
 address_rows = (refl, refl, refl, refl)
 
 -- sums and differences are modulo their width, and of two relocations at one offset the first of the table goes first
@@ -159,7 +159,7 @@ sum_rows : (data_of (5 ∷ 9 ∷ []) (put 0 Add8 (Number (pos 0xfe)) ∷ []) ≡
     × (data_of (1 ∷ 0 ∷ 0 ∷ 0 ∷ []) (put 0 Abs32 (Number (pos 16)) ∷ put 0 Add32 (Number (pos 5)) ∷ []) ≡ Some (21 ∷ 0 ∷ 0 ∷ 0 ∷ []))
     × (data_of (1 ∷ 0 ∷ 0 ∷ 0 ∷ []) (put 0 Add32 (Number (pos 5)) ∷ put 0 Abs32 (Number (pos 16)) ∷ []) ≡ Some (16 ∷ 0 ∷ 0 ∷ 0 ∷ []))
     × (data_of (1 ∷ 0 ∷ 0 ∷ 0 ∷ []) (put 0 Add32 (Number (pos 0x300)) ∷ put 0 Sub32 (Number (pos 0x100)) ∷ []) ≡ Some (1 ∷ 2 ∷ 0 ∷ 0 ∷ []))
-unfolding data_of put program
+unfolding data_of put program data_at
 sum_rows = (refl, refl, refl, refl, refl)
 
 -- where a value leaves its range first
@@ -186,5 +186,5 @@ first_rows : (first_of (in_first far) (in_third far) (put 0 Abs32 far ∷ []) �
     × (first_of (in_first near) (in_third far) (put 4 Abs32 far ∷ put 0 Abs32 near ∷ []) ≡ Some (place 2 4))
     × (first_of (in_first near) (in_third far) (put 0 Abs32 near ∷ []) ≡ Some (place 3 0))
     × (first_of (in_first near) (in_third near) (put 0 Abs32 near ∷ []) ≡ None)
-unfolding far near first_of in_first in_third place at put program decoded first_below nearest
+unfolding far near first_of in_first in_third place at put program decoded first_below nearest instr_at out_of_range
 first_rows = (refl, refl, refl, refl, refl)

@@ -1,6 +1,6 @@
 -- Instructions at a map. A map gives each place its gate, the address that pointers to it have, and its word, the address
 -- that an instruction reads as its own (RISC-V ELF psABI, "Absolute Addresses" and "PC-Relative Symbol Addresses").
-use Rattle.std.specs.Prelude.{ℕ, ℤ, pos, ◌-ℤ◌, if◌then◌else◌, Option, Some, None, option_and_then, option_map, List, slice_index}
+use Rattle.std.specs.Prelude.{ℕ, ℤ, pos, ◌-ℤ◌, if◌then◌else◌, Bool, true, Option, Some, None, option_and_then, option_map, List, slice_index}
 use Rattle.rv_instr.specs.declared.instr.Instr.{Instr}
 use Rattle.rv_instr.specs.declared.instr.Instr.TheVariants.{Upper, Jalr, Load, Store, Immediate}
 use Rattle.rv_code.specs.Decode.{decoded}
@@ -44,6 +44,12 @@ high_part i value = if reaches value then Some (with_upper i (low_bits 20 (hi20 
 abbrev pub low_part : Instr → ℤ → Instr
 low_part i value = with_lower i (low_bits 12 (lo12 value))
 
+-- LUI and AUIPC reach the value whose high part a patch gives to the instruction with the index k
+abbrev pub is_reached : List ℕ → List ℕ → ℕ → Patch → Bool
+is_reached gates words k (put.High v) = reaches (value_at gates v)
+is_reached gates words k (put.RelativeHigh v) = reaches (distance_to gates words k v)
+is_reached gates words k other = true
+
 -- an instruction at the place with the index k after a patch
 abbrev pub patched_instr : Program → List ℕ → List ℕ → ℕ → Instr → Patch → Option Instr
 patched_instr program gates words k i put.Own = Some i
@@ -53,6 +59,6 @@ patched_instr program gates words k i (put.RelativeHigh v) = high_part i (distan
 patched_instr program gates words k i (put.RelativeLow j) = option_map (low_part i) (distance gates words j (item_of program j).patch)
 
 -- the instruction at the place with the index k; none where a value leaves its range
-abbrev pub instr_at : Program → List ℕ → List ℕ → ℕ → Option Instr
+unfoldable pub instr_at : Program → List ℕ → List ℕ → ℕ → Option Instr
 instr_at program gates words k =
     option_and_then (λ i. patched_instr program gates words k i (item_of program k).patch) (decoded (item_of program k).word)

@@ -15,7 +15,7 @@ abbrev pub with_reloc : List ℕ → List ℕ → DataReloc → List ℕ
 with_reloc gates bytes r = take r.offset bytes ++ patched r.patch (value_at gates r.value) (drop r.offset bytes)
 
 -- the initialised data after all relocations in their order; none where a value leaves its range
-abbrev pub data_at : Program → List ℕ → Option (List ℕ)
+unfoldable pub data_at : Program → List ℕ → Option (List ℕ)
 data_at program gates =
     if list_all (is_in_range gates) program.relocations
     then Some (fold (with_reloc gates) program.init program.relocations) else None

@@ -1,5 +1,5 @@
 -- What holds of programs at maps.
-use Rattle.std.specs.Prelude.{◌≡◌, ◌↔◌, ℕ, ◌<◌, true, false, Option, None, is_some, List}
+use Rattle.std.specs.Prelude.{◌≡◌, ◌↔◌, ℕ, ◌<◌, true, false, None, is_some, List}
 use Rattle.obj_program.specs.Program.{Program, count}
 use Rattle.obj_program.specs.DataAtMap.{data_at}
 use Rattle.obj_program.specs.Range.{is_astray, out_of_range}

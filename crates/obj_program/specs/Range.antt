@@ -38,6 +38,6 @@ abbrev pub first_reloc : Program → List ℕ → Option (Found (Unit {0}))
 first_reloc program gates = nearest place_found (filter_map (reloc_astray gates) program.relocations)
 
 -- the least place of both
-abbrev pub out_of_range : Program → List ℕ → List ℕ → Option Place
+unfoldable pub out_of_range : Program → List ℕ → List ℕ → Option Place
 out_of_range program gates words =
     option_map place_found (nearer place_found (first_instr program gates words) (first_reloc program gates))

@@ -1,8 +1,8 @@
-ghost use Rattle.std.specs.Prelude.{◌≡◌, ◌<◌, ◌^◌, not, true, false, length, IfOk, OnOk, Some, Option};
+ghost use Rattle.std.specs.Prelude.{◌≡◌, ◌<◌, ◌^◌, not, true, false, length, IfOk, OnOk, OnErr, Some, Option};
 ghost use Rattle.std.specs.Result.{result_ok};
 ghost use Rattle.rv_code.specs.Decode.{decoded};
 ghost use Rattle.rv_instr.specs.InRange.{IsInstr};
-ghost use Rattle.obj_program.specs.AtMap.{distance, distance_to, high_part, instr_at, low_part, patched_instr, value_at, with_lower, with_upper};
+ghost use Rattle.obj_program.specs.AtMap.{distance, distance_to, high_part, instr_at, is_reached, low_part, patched_instr, value_at, with_lower, with_upper};
 ghost use Rattle.obj_program.specs.Program.{count, is_end, item_of};
 ghost use Rattle.obj_program.specs.Sound.{is_of, is_own, is_small, is_value};
 ghost use Rattle.obj_program.specs.Suits.{names_reserved, suits};
@@ -12,6 +12,37 @@ use crate::items::Items;
 use rv_code::decode;
 use rv_instr::{Immediate, Instr};
 use rv_reloc::{RelocRange, high, low};
+
+impl<'a> Items<'a> {
+    /// Whether the immediate of the instruction with this index comes from a relocation.
+    pub fn patched(&self, k: u64) -> bool
+        requires { k < count self.now }
+        ensures { result ≡ not (is_own (item_of self.now k).patch) }
+    {
+        !matches!(self.patch(k), Patch::Own)
+    }
+
+    /// The instruction with this index where the places' gates and words, which are addresses, are these. `RelocRange`
+    /// comes where a high part does not reach its value (RISC-V ELF psABI, "Relocations").
+    #[tactic(auto, unfolding(crate::specs::AtMap::instr_at))]
+    pub fn instr_at(&self, k: u64, gates: &[u64], words: &[u64]) -> Result<Instr, RelocRange>
+        requires place { k < count self.now }
+        requires instruction { is_end (item_of self.now k).kind ≡ false }
+        requires gates { length gates.now ≡ count self.now }
+        requires words { length words.now ≡ count self.now }
+        ensures value { result_ok result ≡ instr_at self.now gates.now words.now k }
+        ensures taken { OnOk result (is_reached gates.now words.now k (item_of self.now k).patch ≡ true) }
+        ensures refused { OnErr result (is_reached gates.now words.now k (item_of self.now k).patch ≡ false) }
+        ensures kind { IfOk result (λ i. suits (item_of self.now k).kind i ≡ true) }
+        ensures reserved { IfOk result (λ i. names_reserved i ≡ false) }
+        ensures in_range { IfOk result IsInstr }
+    {
+        let _count = self.count();
+        let instr = instr_at(self, gates, words, k)?;
+        instr.in_range();
+        Ok(instr)
+    }
+}
 
 /// What a value is at a map.
 pub(crate) fn value_at(gates: &[u64], value: Value) -> i128
@@ -123,6 +154,7 @@ fn own_instr(items: &Items, k: u64) -> Instr
 }
 
 /// The instruction at the place with this index.
+#[tactic(auto, unfolding(crate::specs::AtMap::instr_at))]
 pub(crate) fn instr_at(
     items: &Items,
     gates: &[u64],
@@ -137,32 +169,4 @@ pub(crate) fn instr_at(
 {
     let instr = own_instr(items, k);
     patched_instr(items, gates, words, k, instr)
-}
-
-impl<'a> Items<'a> {
-    /// Whether the immediate of the instruction with this index comes from a relocation.
-    pub fn patched(&self, k: u64) -> bool
-        requires { k < count self.now }
-        ensures { result ≡ not (is_own (item_of self.now k).patch) }
-    {
-        !matches!(self.patch(k), Patch::Own)
-    }
-
-    /// The instruction with this index where the places' gates and words, which are addresses, are these. `RelocRange`
-    /// comes where a high part does not reach its value (RISC-V ELF psABI, "Relocations").
-    pub fn instr_at(&self, k: u64, gates: &[u64], words: &[u64]) -> Result<Instr, RelocRange>
-        requires place { k < count self.now }
-        requires instruction { is_end (item_of self.now k).kind ≡ false }
-        requires gates { length gates.now ≡ count self.now }
-        requires words { length words.now ≡ count self.now }
-        ensures value { result_ok result ≡ instr_at self.now gates.now words.now k }
-        ensures kind { IfOk result (λ i. suits (item_of self.now k).kind i ≡ true) }
-        ensures reserved { IfOk result (λ i. names_reserved i ≡ false) }
-        ensures in_range { IfOk result IsInstr }
-    {
-        let _count = self.count();
-        let instr = instr_at(self, gates, words, k)?;
-        instr.in_range();
-        Ok(instr)
-    }
 }

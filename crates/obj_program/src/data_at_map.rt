@@ -1,7 +1,7 @@
 ghost use Rattle.std.specs.Prelude.{◌≡◌, ℕ, true, false, length, slice_get, Some, None, OnOk, OnErr, IfOk, IfErr};
 ghost use Rattle.std.specs.List.{fold, list_all};
 ghost use Rattle.obj_program.specs.declared.item.DataReloc.{DataReloc};
-ghost use Rattle.obj_program.specs.DataAtMap.{data_at, is_in_range, with_reloc};
+ghost use Rattle.obj_program.specs.DataAtMap.{data_at, init_size, is_in_range, with_reloc};
 ghost use Rattle.obj_program.specs.Program.{count};
 ghost use Rattle.obj_program.specs.Sound.{is_there};
 
@@ -45,6 +45,24 @@ impl From<RelocRange> for DataEnd {
     }
 }
 
+impl<'a> Items<'a> {
+    ghost use Rattle.obj_program.specs.declared.data_at_map.DataEnd.TheVariants as ends;
+
+    /// The initialised data where the places' gates, which are addresses, are these. `RelocRange` comes where a value leaves
+    /// the range of its relocation (RISC-V ELF psABI, "Relocations").
+    #[tactic(auto, unfolding(crate::specs::DataAtMap::data_at))]
+    pub fn data_at(&self, alloc: Global, gates: &[u64]) -> Result<Vec<u8>, DataEnd>
+        requires { length gates.now ≡ count self.now }
+        ensures value { IfOk result (λ v. data_at self.now gates.now ≡ Some v.items) }
+        ensures length { IfOk result (λ v. length v.items ≡ init_size self.now) }
+        ensures refused { IfErr result (λ e. e ≡ ends.RelocRange → data_at self.now gates.now ≡ None) }
+    {
+        let mut bytes = Vec::from_slice(alloc, self.init()).map_err(NoMemory::from)?;
+        apply_all(bytes.as_mut_slice(), gates, self.relocations())?;
+        Ok(bytes)
+    }
+}
+
 /// Applies a relocation to the data in which it lies.
 fn apply(bytes: &mut [u8], gates: &[u64], reloc: DataReloc) -> Result<(), RelocRange>
     requires { is_there (length bytes.old) (length gates.now) reloc ≡ true }
@@ -67,20 +85,4 @@ fn apply_all(bytes: &mut [u8], gates: &[u64], relocs: &[DataReloc]) -> Result<()
         apply(bytes, gates, *reloc)?;
     }
     Ok(())
-}
-
-impl<'a> Items<'a> {
-    ghost use Rattle.obj_program.specs.declared.data_at_map.DataEnd.TheVariants as ends;
-
-    /// The initialised data where the places' gates, which are addresses, are these. `RelocRange` comes where a value leaves
-    /// the range of its relocation (RISC-V ELF psABI, "Relocations").
-    pub fn data_at(&self, alloc: Global, gates: &[u64]) -> Result<Vec<u8>, DataEnd>
-        requires { length gates.now ≡ count self.now }
-        ensures value { IfOk result (λ v. data_at self.now gates.now ≡ Some v.items) }
-        ensures refused { IfErr result (λ e. e ≡ ends.RelocRange → data_at self.now gates.now ≡ None) }
-    {
-        let mut bytes = Vec::from_slice(alloc, self.init()).map_err(NoMemory::from)?;
-        apply_all(bytes.as_mut_slice(), gates, self.relocations())?;
-        Ok(bytes)
-    }
 }

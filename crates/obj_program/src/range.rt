@@ -14,6 +14,21 @@ use least::{Found, Place, first_below_u64, nearer};
 use obj_input::ItemKind;
 use rv_reloc::patch_data;
 
+impl<'a> Items<'a> {
+    /// The section and the offset where a value leaves the range of its relocation first, for these gates and words: at an
+    /// instruction that is given none, or at a relocation of initialised data.
+    #[tactic(auto, unfolding(crate::specs::Range::out_of_range))]
+    pub fn out_of_range(&self, gates: &[u64], words: &[u64]) -> Option<Place>
+        requires gates { length gates.now ≡ count self.now }
+        requires words { length words.now ≡ count self.now }
+        ensures { result ≡ out_of_range self.now gates.now words.now }
+    {
+        let instr = first_instr(self, gates, words);
+        let reloc = first_reloc(gates, self.relocations());
+        nearer(instr, reloc).map(|found| found.place)
+    }
+}
+
 /// What is found at a section and an offset.
 fn found_at(section: u32, offset: u64) -> Found<()>
     ensures { result ≡ found_at section offset }
@@ -45,7 +60,7 @@ fn first_instr(items: &Items, gates: &[u64], words: &[u64]) -> Option<Found<()>>
     Some(found_at(item.section, item.offset))
 }
 
-/// Whether a relocation takes its value, of which eight bytes of data tell.
+/// Whether a relocation takes its value; it is tried on bytes of its own.
 #[tactic(auto, using(crate::proofs::Ranges::sizes))]
 fn is_in_range(gates: &[u64], reloc: DataReloc) -> bool
     requires { is_value (length gates.now) reloc.value ≡ true }
@@ -77,18 +92,4 @@ fn first_reloc(gates: &[u64], relocs: &[DataReloc]) -> Option<Found<()>>
         least = nearer(least, reloc_astray(gates, *reloc));
     }
     least
-}
-
-impl<'a> Items<'a> {
-    /// The section and the offset where a value leaves the range of its relocation first, for these gates and words: at an
-    /// instruction that is given none, or at a relocation of initialised data.
-    pub fn out_of_range(&self, gates: &[u64], words: &[u64]) -> Option<Place>
-        requires gates { length gates.now ≡ count self.now }
-        requires words { length words.now ≡ count self.now }
-        ensures { result ≡ out_of_range self.now gates.now words.now }
-    {
-        let instr = first_instr(self, gates, words);
-        let reloc = first_reloc(gates, self.relocations());
-        nearer(instr, reloc).map(|found| found.place)
-    }
 }

@@ -12,4 +12,4 @@ reloc_astray-requires c = c.requires c.loop-reloc.reloc-index _ (slice_get-get_o
 pub loop-reloc-preserved : goal.loop-reloc-preserved
 loop-reloc-preserved c =
     c.nearer-least.ensures ∙ astray_step c.args.gates.now c.args.relocs.now c.loop-reloc.reloc-index _ c.loop-reloc.least c.reloc_astray.result
-      (slice_get-get_or c.args.relocs.now c.loop-reloc.reloc-index _ c.loop-reloc-test.true) c.loop-reloc.invariant c.reloc_astray.ensures
+    (slice_get-get_or c.args.relocs.now c.loop-reloc.reloc-index _ c.loop-reloc-test.true) c.loop-reloc.invariant c.reloc_astray.ensures
