@@ -2,6 +2,7 @@ mod Steps
 mod Whole
 mod Next
 mod Data
+mod Parts
 mod Marks
 pub mod InOrder
 pub mod Pushed

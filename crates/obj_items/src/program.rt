@@ -1,4 +1,4 @@
-ghost use Rattle.std.specs.Prelude.{◌≡◌, None, IfOk, MatchResult};
+ghost use Rattle.std.specs.Prelude.{◌≡◌, None, IfOk};
 ghost use Rattle.obj_rules.specs.Fault.{fault_of};
 ghost use Rattle.obj_items.specs.FromObject.{input_of};
 ghost use Rattle.obj_items.specs.ItemEnd.{IsTold};
@@ -8,7 +8,7 @@ use crate::from_object::input_of;
 use crate::init::init;
 use crate::links::linked_places;
 use crate::outline::outline;
-use crate::ranges::input_is_small;
+use crate::ranges::program_is_sound;
 use crate::relocs::relocs;
 use crate::taken::taken;
 use elf_object::Object;
@@ -36,14 +36,13 @@ impl From<NoMemory> for ItemEnd {
 }
 
 /// The program of an input without a fault.
-#[tactic(auto, unfolding(crate::specs::ProgramOf::program_of))]
 fn program_of<'a>(alloc: Global, input: Input<'a>) -> Result<Items<'a>, NoMemory>
     requires { fault_of input ≡ None }
     ensures { IfOk result (λ p. p ≡ program_of input.entry) }
 {
-    input_is_small(&input);
     let layout = Layout::of(alloc, &input)?;
     let places = outline(alloc, &input)?;
+    program_is_sound(&input, &places);
     let marks = taken(alloc, &input, &places)?;
     let items = linked_places(alloc, &input, &layout, &places, &marks)?;
     let init = init(alloc, &input, &layout)?;
