@@ -5,3 +5,6 @@ pub mod InOrder
 pub mod Pushed
 mod Addresses
 mod Instructions
+mod Data
+mod Marks
+mod Rows
