@@ -65,27 +65,27 @@ own offset kind word = place offset kind word put.Own None false
 pointers : InputParts
 pointers = input
     (code
-      (0xff010113 ∷ 0x00113423 ∷ 0x000002b7 ∷ 0x0002b283 ∷ 0x000280e7 ∷ 0x00813083 ∷ 0x01010113 ∷ 0x00008067 ∷ 0x00100513 ∷ 0x00008067 ∷ 0x00200513 ∷ 0x00008067 ∷ [])
-      (at 8 26 (Within 2 0) ∷ at 12 27 (Within 2 0) ∷ [])
+    (0xff010113 ∷ 0x00113423 ∷ 0x000002b7 ∷ 0x0002b283 ∷ 0x000280e7 ∷ 0x00813083 ∷ 0x01010113 ∷ 0x00008067 ∷ 0x00100513 ∷ 0x00008067 ∷ 0x00200513 ∷ 0x00008067 ∷ [])
+    (at 8 26 (Within 2 0) ∷ at 12 27 (Within 2 0) ∷ [])
     ∷ numbers 8 (0 ∷ 0 ∷ 0 ∷ 0 ∷ 0 ∷ 0 ∷ 0 ∷ 0 ∷ 0 ∷ 0 ∷ 0 ∷ 0 ∷ 0 ∷ 0 ∷ 0 ∷ 0 ∷ []) (at 0 2 (Within 1 32) ∷ at 8 2 (Within 1 40) ∷ []) ∷ [])
 
 pointers_row : program_of pointers ≡ record {
   items = own 0 is.Plain 0xff010113
-    ∷ own 4 is.Store 0x00113423
-    ∷ place 8 is.Plain 0x000002b7 (put.High (Number (pos 0x10000))) None false
-    ∷ place 12 is.Plain 0x0002b283 (put.Low (Number (pos 0x10000))) None false
-    ∷ own 16 is.Icall 0x000280e7
-    ∷ own 20 is.Plain 0x00813083
-    ∷ own 24 is.Plain 0x01010113
-    ∷ own 28 is.Return 0x00008067
-    ∷ place 32 is.Plain 0x00100513 put.Own None true
-    ∷ own 36 is.Return 0x00008067
-    ∷ place 40 is.Plain 0x00200513 put.Own None true
-    ∷ own 44 is.Return 0x00008067
-    ∷ own 48 is.End 0 ∷ [];
+      ∷ own 4 is.Store 0x00113423
+      ∷ place 8 is.Plain 0x000002b7 (put.High (Number (pos 0x10000))) None false
+      ∷ place 12 is.Plain 0x0002b283 (put.Low (Number (pos 0x10000))) None false
+      ∷ own 16 is.Icall 0x000280e7
+      ∷ own 20 is.Plain 0x00813083
+      ∷ own 24 is.Plain 0x01010113
+      ∷ own 28 is.Return 0x00008067
+      ∷ place 32 is.Plain 0x00100513 put.Own None true
+      ∷ own 36 is.Return 0x00008067
+      ∷ place 40 is.Plain 0x00200513 put.Own None true
+      ∷ own 44 is.Return 0x00008067
+      ∷ own 48 is.End 0 ∷ [];
   init = 0 ∷ 0 ∷ 0 ∷ 0 ∷ 0 ∷ 0 ∷ 0 ∷ 0 ∷ 0 ∷ 0 ∷ 0 ∷ 0 ∷ 0 ∷ 0 ∷ 0 ∷ 0 ∷ [];
   relocations = record { section = 2; at = 0; offset = 0; patch = Abs64; value = GateOf 8 }
-    ∷ record { section = 2; at = 8; offset = 8; patch = Abs64; value = GateOf 10 } ∷ [];
+      ∷ record { section = 2; at = 8; offset = 8; patch = Abs64; value = GateOf 10 } ∷ [];
   data_end = 0x10010;
   funcs = [];
   names = [];
@@ -99,26 +99,26 @@ pointers_row = refl
 printer : InputParts
 printer = input
     (code
-      (0xff010113 ∷ 0x00113423 ∷ 0x00000097 ∷ 0x000080e7 ∷ 0x00000513 ∷ 0x00813083 ∷ 0x01010113 ∷ 0x00008067 ∷ 0x00000597 ∷ 0x00058593 ∷ 0x00100513 ∷ 0x00300613 ∷ 0x04000893 ∷ 0x00000073 ∷ 0x00008067 ∷ [])
-      (at 8 19 (Within 1 32) ∷ at 8 51 Zero ∷ at 32 23 (Within 2 0) ∷ at 32 51 Zero ∷ at 36 24 (Within 1 32) ∷ at 36 51 Zero ∷ [])
+    (0xff010113 ∷ 0x00113423 ∷ 0x00000097 ∷ 0x000080e7 ∷ 0x00000513 ∷ 0x00813083 ∷ 0x01010113 ∷ 0x00008067 ∷ 0x00000597 ∷ 0x00058593 ∷ 0x00100513 ∷ 0x00300613 ∷ 0x04000893 ∷ 0x00000073 ∷ 0x00008067 ∷ [])
+    (at 8 19 (Within 1 32) ∷ at 8 51 Zero ∷ at 32 23 (Within 2 0) ∷ at 32 51 Zero ∷ at 36 24 (Within 1 32) ∷ at 36 51 Zero ∷ [])
     ∷ numbers 1 (0x68 ∷ 0x69 ∷ 0x0a ∷ []) [] ∷ [])
 
 printer_row : program_of printer ≡ record {
   items = own 0 is.Plain 0xff010113
-    ∷ own 4 is.Store 0x00113423
-    ∷ place 8 is.Call 0x000080e7 put.Own (Some 7) false
-    ∷ own 16 is.Plain 0x00000513
-    ∷ own 20 is.Plain 0x00813083
-    ∷ own 24 is.Plain 0x01010113
-    ∷ own 28 is.Return 0x00008067
-    ∷ place 32 is.Plain 0x00000597 (put.RelativeHigh (Number (pos 0x10000))) None false
-    ∷ place 36 is.Plain 0x00058593 (put.RelativeLow 7) None false
-    ∷ own 40 is.Plain 0x00100513
-    ∷ own 44 is.Plain 0x00300613
-    ∷ own 48 is.Plain 0x04000893
-    ∷ own 52 is.System 0x00000073
-    ∷ own 56 is.Return 0x00008067
-    ∷ own 60 is.End 0 ∷ [];
+      ∷ own 4 is.Store 0x00113423
+      ∷ place 8 is.Call 0x000080e7 put.Own (Some 7) false
+      ∷ own 16 is.Plain 0x00000513
+      ∷ own 20 is.Plain 0x00813083
+      ∷ own 24 is.Plain 0x01010113
+      ∷ own 28 is.Return 0x00008067
+      ∷ place 32 is.Plain 0x00000597 (put.RelativeHigh (Number (pos 0x10000))) None false
+      ∷ place 36 is.Plain 0x00058593 (put.RelativeLow 7) None false
+      ∷ own 40 is.Plain 0x00100513
+      ∷ own 44 is.Plain 0x00300613
+      ∷ own 48 is.Plain 0x04000893
+      ∷ own 52 is.System 0x00000073
+      ∷ own 56 is.Return 0x00008067
+      ∷ own 60 is.End 0 ∷ [];
   init = 0x68 ∷ 0x69 ∷ 0x0a ∷ [];
   relocations = [];
   data_end = 0x10003;
@@ -134,8 +134,8 @@ printer_row = refl
 recursion : List Use → InputParts
 recursion uses = input
     (code
-      (0x00002537 ∷ 0xffe50513 ∷ 0x0040006f ∷ 0x00050e63 ∷ 0xff010113 ∷ 0x00113423 ∷ 0xfff50513 ∷ 0xff1ff0ef ∷ 0x00813083 ∷ 0x01010113 ∷ 0x00008067 ∷ [])
-      uses ∷ [])
+    (0x00002537 ∷ 0xffe50513 ∷ 0x0040006f ∷ 0x00050e63 ∷ 0xff010113 ∷ 0x00113423 ∷ 0xfff50513 ∷ 0xff1ff0ef ∷ 0x00813083 ∷ 0x01010113 ∷ 0x00008067 ∷ [])
+    uses ∷ [])
 
 targets : InputParts → List (Option ℕ)
 targets parts = map (λ (item : Item). item.target) (program_of parts).items
