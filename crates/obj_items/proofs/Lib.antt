@@ -1,10 +1,19 @@
 mod Steps
 mod Whole
 mod Next
+mod Data
+mod Marks
 pub mod InOrder
 pub mod Pushed
 mod Addresses
 mod Instructions
-mod Data
-mod Marks
+pub mod Suited
+pub mod NoFault
+pub mod LookUp
+pub mod Starts
+pub mod Targets
+pub mod Bounds
+pub mod Patches
+pub mod DataLies
+pub mod ProgramSound
 mod Rows

@@ -9,3 +9,4 @@ pub mod InitialData
 pub mod ProgramOf
 pub mod Before
 pub mod Standing
+pub mod Ranges
