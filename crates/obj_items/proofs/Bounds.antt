@@ -15,6 +15,7 @@ use Rattle.obj_input.specs.declared.parts.Definition.{Definition}
 use Rattle.obj_input.specs.declared.parts.Definition.TheVariants.{Zero, Absolute, Within, Common, Missing}
 use Rattle.obj_input.specs.declared.parts.Sort.{Sort}
 use Rattle.obj_input.specs.declared.parts.Sort.TheVariants.{Data, Zeros, Dropped}
+use Rattle.obj_input.specs.Code.{natural}
 use Rattle.obj_input.specs.Input.{InputParts, SectionParts, is_code, is_data_sort, is_zeros_sort, no_section, section_count, section_of}
 use Rattle.obj_input.specs.Layout.{address_by, after, after_if, aligned, block, block_address, blocks_reach, init_end, no_block, reach, section_address, zeros_end}
 use Rattle.obj_program.specs.declared.item.Item.{Item}
@@ -165,14 +166,19 @@ sum_small m places (negsuc n) small fits =
           ap (λ z. is_value places (Number z)) same ∙ below_zero (n - m) places (omega arith)
     ]
 
-gate_there : (places : List Item) (count : ℕ) → length places ≡ count → (k : ℕ) (z : ℤ) → is_value count (gate_value (place_at places k z)) ≡ true
-gate_there places count size k (pos n) = elim (cases_Option (place_of places k n)) [
+gate_at : (places : List Item) (count : ℕ) → length places ≡ count → (k n : ℕ) → is_value count (gate_value (place_of places k n)) ≡ true
+gate_at places count size k n = elim (cases_Option (place_of places k n)) [
   | inl none ↦ rw none (not_below 0 count (omega arith))
   | inr (j, some) ↦
       let there = position-Some (is_spot k n) places j no_item some in
       rw some (lt-ltb j count (let below = there.0 in omega arith))
 ]
-gate_there places count size k (negsuc n) = not_below 0 count (omega arith)
+
+gate_there : (places : List Item) (count : ℕ) → length places ≡ count → (k : ℕ) (z : ℤ) → is_value count (gate_value (place_at places k z)) ≡ true
+gate_there places count size k z = elim (cases_Option (natural z)) [
+  | inl none ↦ rw none (not_below 0 count (omega arith))
+  | inr (n, some) ↦ rw some (gate_at places count size k n)
+]
 
 -- what relocations refer to is far from what 128 bits hold, or a place that is there
 pub value_right : (input : InputParts) → IsInput input → (places : List Item) (count : ℕ) → length places ≡ count → (d : Definition) (z : ℤ)

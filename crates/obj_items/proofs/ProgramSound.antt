@@ -43,7 +43,7 @@ module _ (input : InputParts) (is : IsInput input) (right : IsRight input) where
         let sound : IsSoundItem (program_with input (outline input)) (linked_at input (outline input) k i kind) = record {
           read = read;
           patch = start_patch input is right k (4 * i) placed.code;
-          target = start_aims input right k i kind placed.code starts kind_is;
+          target = start_aims input is right k i kind placed.code starts kind_is;
         } in
         subst (λ (y : Item). IsSoundItem (program_with input (outline input)) y) (sym same) sound
     | inr e ↦

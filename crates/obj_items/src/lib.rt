@@ -11,6 +11,7 @@ mod from_object;
 mod init;
 mod links;
 mod outline;
+mod relocs;
 mod sections;
 mod symbols;
 mod taken;
