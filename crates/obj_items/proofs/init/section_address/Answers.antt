@@ -1,4 +1,4 @@
-use Rattle.std.proofs.Common.{◌≡◌, ◌∙◌}
+use Rattle.std.proofs.Common.{◌∙◌}
 use Rattle.obj_items.proofs.Addresses.{section_read}
 use Rattle.obj_items.proofs.init.section_address.Goals as goal
 
