@@ -17,3 +17,4 @@ pub mod Bounds
 pub mod Patches
 pub mod DataLies
 pub mod ProgramSound
+mod Rows
