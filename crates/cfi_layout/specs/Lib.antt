@@ -1,0 +1,4 @@
+pub mod Starts
+pub mod LongSet
+pub mod Laws
+pub mod Lengthening
