@@ -4,7 +4,7 @@
 
 pub use end::PlaceEnd;
 pub use placement::{Placement, place};
-pub use short::Short;
+pub use short::{Short, are_shorts};
 pub use shortening::shorten;
 
 mod end;
