@@ -39,7 +39,7 @@ in_closed branches sizes long distances i b shorts going counted is far other cl
       | inr beyond ↦
           let more : (k : ℕ) → flag long k ≡ true → is_whole branches other k ≡ true = λ k set_k.
           whole_grows branches (flag long) other (going.within other closed) k (or_left _ _ set_k) in
-          let short = shorts i b is in
+          let short = shorts.each i b is in
           let grows = gap_grows (flag long) (is_whole branches other) sizes b more short in
           let least = counted i b is in
           let far_now : reach b < gap (starts_where (is_whole branches other) sizes) b = omega (arith, ltb-true (reach b) (get_or distances i 0) beyond, grows, least) in
@@ -67,7 +67,7 @@ pub count_on : (branches : List Short) (sizes : List ℕ) (long : List Bool) (di
     AreCounted branches (starts_with long sizes) distances → part < length sizes → 4 ≤ get_or sizes part 0 → flag long part ≡ false →
     IsWidened branches part distances after → AreCounted branches (starts_with (set long part true) sizes) after
 count_on branches sizes long distances after part shorts counted lt four no_flag widened i b is =
-    let short = shorts i b is in
+    let short = shorts.each i b is in
     let least = counted i b is in
     let more : (k : ℕ) → flag long k ≡ true → flag (set long part true) k ≡ true = λ k set_k. flag_kept long part k set_k in
     elim (cases_Bool (spans b part)) [
@@ -96,7 +96,7 @@ pub lengthened : (branches : List Short) (long : List Bool) (distances after : L
 lengthened branches long distances after i b is far no_flag widened = record {
   going = λ sizes shorts going counted. go_on branches sizes long distances i b shorts going counted is far;
   counted = λ sizes shorts going counted.
-      let short = shorts i b is in
+      let short = shorts.each i b is in
       let size = short.size in
       count_on branches sizes long distances after b.at shorts counted short.at_is (omega arith) no_flag widened;
 }
@@ -142,7 +142,7 @@ pub finish : (branches : List Short) (sizes : List ℕ) (long : List Bool) → A
     IsLongSet branches sizes (flag long)
 finish branches sizes long shorts going settled = record {
   closed = λ i b is forced.
-      settled i b is (far_is sizes long b (shorts i b is) (subst (λ (starts : List ℕ). is_forced starts b ≡ true) (starts_same branches sizes long going.only) forced));
+      settled i b is (far_is sizes long b (shorts.each i b is) (subst (λ (starts : List ℕ). is_forced starts b ≡ true) (starts_same branches sizes long going.only) forced));
   least = going.within;
 }
 

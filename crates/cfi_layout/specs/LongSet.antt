@@ -60,5 +60,5 @@ pub record IsShort (sizes : List ℕ) (b : Short) : Type 0 where
   pub target_is : b.target < length sizes
   pub size : slice_index sizes b.at ≡ b.lead + 8
 
-abbrev pub AreShorts : List Short → List ℕ → Type 0
-AreShorts branches sizes = (i : ℕ) (b : Short) → slice_get branches i ≡ Some b → IsShort sizes b
+pub record AreShorts (branches : List Short) (sizes : List ℕ) : Type 0 where
+  pub each : (i : ℕ) (b : Short) → slice_get branches i ≡ Some b → IsShort sizes b

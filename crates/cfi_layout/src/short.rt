@@ -20,9 +20,7 @@ fn is_short(sizes: &[u32], branch: Short) -> bool
 {
     let at = branch.at as usize;
     let target = branch.target as usize;
-    at < sizes.len()
-        && target < sizes.len()
-        && u64::from(sizes[at]) == u64::from(branch.lead) + 8
+    at < sizes.len() && target < sizes.len() && u64::from(sizes[at]) == u64::from(branch.lead) + 8
 }
 
 /// Whether these may be branches of parts of these sizes, in bytes: what `shorten` asks of them.

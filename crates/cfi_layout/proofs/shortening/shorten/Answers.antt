@@ -7,11 +7,11 @@ use Rattle.cfi_layout.proofs.Lengthening.{finish}
 use Rattle.cfi_layout.proofs.shortening.shorten.Goals as goal
 
 pub all_short-requires : goal.all_short-requires
-all_short-requires c = λ i b is. (c.requires.shorts i b is).at_is
+all_short-requires c = λ i b is. (c.requires.shorts.each i b is).at_is
 
 pub lengthen-requires-clause-parts : goal.lengthen-requires-clause-parts
 lengthen-requires-clause-parts c = λ i b is.
-    let short = c.requires.shorts i b is in
+    let short = c.requires.shorts.each i b is in
     let at = short.at_is in
     let target = short.target_is in
     (omega (arith, c.lengthening.invariant.count), omega (arith, c.lengthening.invariant.count))
