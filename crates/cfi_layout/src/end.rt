@@ -1,14 +1,12 @@
 use rv_word::NoMemory;
-use thiserror::Error;
+use std::{error, fmt};
 
 /// Why parts could not be placed.
-#[derive(Clone, Copy, Debug, Error)]
+#[derive(Clone, Copy, Debug)]
 pub enum PlaceEnd {
     /// The code has this many bytes, which are more than its region has.
-    #[error("code of {0} bytes is too large")]
     CodeTooLarge(u128),
     /// Memory could not be had.
-    #[error("out of memory")]
     NoMemory,
 }
 
@@ -22,3 +20,19 @@ impl From<NoMemory> for PlaceEnd {
         PlaceEnd::NoMemory
     }
 }
+
+impl fmt::Display for PlaceEnd {
+    ghost use Rattle.std.specs.Prelude.{Some};
+    ghost use Rattle.cfi_layout.specs.EndText.{end_text};
+
+    ghost output = { λ end. Some (end_text end) };
+
+    fn fmt<W: fmt::Write>(&self, f: &mut fmt::Formatter<W>) -> fmt::Result {
+        match self {
+            PlaceEnd::CodeTooLarge(bytes) => write!(f, "CodeTooLarge {bytes}"),
+            PlaceEnd::NoMemory => write!(f, "out of memory"),
+        }
+    }
+}
+
+impl error::Error for PlaceEnd {}

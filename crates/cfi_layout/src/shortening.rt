@@ -1,4 +1,4 @@
-ghost use Rattle.std.specs.Prelude.{◌≡◌, ℕ, ◌<◌, ◌≤◌, not, IfOk, Some, length, slice_get};
+ghost use Rattle.std.specs.Prelude.{◌≡◌, ℕ, ◌<◌, ◌≤◌, false, not, IfOk, IsTrue, Some, length, slice_get};
 ghost use Rattle.rv_word.specs.Layout.{CODE_SIZE};
 ghost use Rattle.cfi_layout.specs.declared.short.Short.{Short};
 ghost use Rattle.cfi_layout.specs.LongSet.{AreShorts, IsLongSet, is_branch, starts_under};
@@ -25,12 +25,14 @@ fn all_short(alloc: Global, count: usize, branches: &[Short]) -> Result<Vec<bool
 }
 
 /// Places parts with each branch short that can be: exactly the branches of the long set have their
-/// whole size, in bytes, and any other a word less. `place` accepts the sizes. The time is that of a
-/// few passes, and of 2,048 branches near each that is long, where branches stand in the order of their parts.
+/// whole size, in bytes, and any other a word less. The sizes are some that `place` takes. Where the
+/// branches stand in the order of their parts it makes two or three passes, and looks at 2,048
+/// branches for each that is made long.
 pub fn shorten(alloc: Global, sizes: &[u32], branches: &[Short]) -> Result<Placement, NoMemory>
     requires shorts { AreShorts branches.now sizes.now }
     requires room { code_size sizes.now ≤ CODE_SIZE }
     ensures starts { IfOk result (λ p. p.starts ≡ starts_under (flag p.long) branches.now sizes.now) }
+    ensures only { IfOk result (λ p. (k : ℕ) → flag p.long k ≡ false → IsTrue (is_branch branches.now k)) }
     ensures long { IfOk result (λ p. IsLongSet branches.now sizes.now (flag p.long)) }
 {
     let mut long = all_short(alloc, sizes.len(), branches)?;

@@ -36,8 +36,8 @@ use crate::short::Short;
 use rv_word::NoMemory;
 use std::alloc::Global;
 
-/// How many branches before or after one may lie over its part and reach: each has a word at least
-/// between.
+/// How many branches before a part, and how many after it, can lie over it and still reach: each one
+/// between takes four bytes at least.
 const NEAR: usize = 1024;
 
 /// Counts a word more between each branch that lies over a part, and its target; puts those that are
