@@ -57,7 +57,8 @@ pub fn place(alloc: Global, sizes: &[u32]) -> Result<Placement, PlaceEnd>
     ensures starts { IfOk result (λ p. p.starts ≡ starts_from UNITS_START sizes.now) }
     ensures long { IfOk result (λ p. p.long ≡ []) }
     ensures fits { IfOk result (λ _. code_size sizes.now ≤ CODE_SIZE) }
-    ensures too_large { CODE_SIZE < code_size sizes.now → result ≡ Err (CodeTooLarge (code_size sizes.now)) }
+    ensures too_large { CODE_SIZE < code_size sizes.now →
+        result ≡ Err (CodeTooLarge (code_size sizes.now)) }
     ensures refused { IfErr result (λ end. code_size sizes.now ≤ CODE_SIZE → end ≡ NoPlaceMemory) }
 {
     let bytes = code_size(sizes);

@@ -56,7 +56,8 @@ impl Short {
 
 /// The gap of each branch.
 pub(crate) fn gaps(alloc: Global, starts: &[u64], branches: &[Short]) -> Result<Vec<u64>, NoMemory>
-    requires parts { (i : ℕ) (b : Short) → slice_get branches.now i ≡ Some b → (b.at < length starts.now) × (b.target < length starts.now) }
+    requires parts { (i : ℕ) (b : Short) → slice_get branches.now i ≡ Some b →
+        (b.at < length starts.now) × (b.target < length starts.now) }
     requires low { (k : ℕ) → slice_index starts.now k < 2 ^ 32 }
     ensures { IfOk result (λ v. v.items ≡ map (gap starts.now) branches.now) }
 {

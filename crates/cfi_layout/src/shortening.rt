@@ -32,7 +32,8 @@ pub fn shorten(alloc: Global, sizes: &[u32], branches: &[Short]) -> Result<Place
     requires shorts { AreShorts branches.now sizes.now }
     requires room { code_size sizes.now ≤ CODE_SIZE }
     ensures starts { IfOk result (λ p. p.starts ≡ starts_under (flag p.long) branches.now sizes.now) }
-    ensures only { IfOk result (λ p. (k : ℕ) → flag p.long k ≡ false → IsTrue (is_branch branches.now k)) }
+    ensures only { IfOk result (λ p. (k : ℕ) →
+        flag p.long k ≡ false → IsTrue (is_branch branches.now k)) }
     ensures long { IfOk result (λ p. IsLongSet branches.now sizes.now (flag p.long)) }
 {
     let mut long = all_short(alloc, sizes.len(), branches)?;

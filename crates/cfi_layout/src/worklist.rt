@@ -82,7 +82,8 @@ fn settle(
     work: &mut Vec<usize>,
 ) -> Result<bool, NoMemory>
     requires index { index < length branches.now }
-    requires parts { (i : ℕ) (b : Short) → slice_get branches.now i ≡ Some b → b.at < length long.old.items }
+    requires parts { (i : ℕ) (b : Short) → slice_get branches.now i ≡ Some b →
+        b.at < length long.old.items }
     requires counted { length distances.old.items ≡ length branches.now }
     requires indexes { All (λ i. i < length branches.now) work.old.items }
     ensures long { length long.new.items ≡ length long.old.items }
@@ -114,7 +115,8 @@ fn settle_each(
     distances: &mut Vec<u64>,
     work: &mut Vec<usize>,
 ) -> Result<bool, NoMemory>
-    requires parts { (i : ℕ) (b : Short) → slice_get branches.now i ≡ Some b → b.at < length long.old.items }
+    requires parts { (i : ℕ) (b : Short) → slice_get branches.now i ≡ Some b →
+        b.at < length long.old.items }
     requires counted { length distances.old.items ≡ length branches.now }
     requires indexes { All (λ i. i < length branches.now) work.old.items }
     ensures long { length long.new.items ≡ length long.old.items }
@@ -143,7 +145,8 @@ fn settle_rest(
     distances: &mut Vec<u64>,
     work: &mut Vec<usize>,
 ) -> Result<(), NoMemory>
-    requires parts { (i : ℕ) (b : Short) → slice_get branches.now i ≡ Some b → b.at < length long.old.items }
+    requires parts { (i : ℕ) (b : Short) → slice_get branches.now i ≡ Some b →
+        b.at < length long.old.items }
     requires counted { length distances.old.items ≡ length branches.now }
     requires indexes { All (λ i. i < length branches.now) work.old.items }
     ensures long { length long.new.items ≡ length long.old.items }
@@ -170,8 +173,9 @@ pub(crate) fn lengthen(
     requires starts { length starts.now ≡ length long.old.items + 1 }
     requires low { (k : ℕ) → slice_index starts.now k < 2 ^ 32 }
     ensures len { length long.new.items ≡ length long.old.items }
-    ensures going { OnOk result ((sizes : List ℕ) → AreShorts branches.now sizes → Going branches.now sizes long.old.items →
-        starts.now ≡ starts_with long.old.items sizes → Going branches.now sizes long.new.items) }
+    ensures going { OnOk result ((sizes : List ℕ) → AreShorts branches.now sizes →
+        Going branches.now sizes long.old.items → starts.now ≡ starts_with long.old.items sizes →
+        Going branches.now sizes long.new.items) }
     ensures unchanged { result ≡ Ok false → long.new.items ≡ long.old.items }
     ensures settled { result ≡ Ok false → (i : ℕ) (b : Short) → slice_get branches.now i ≡ Some b →
         IsTrue (is_far b (gap starts.now b)) → IsTrue (flag long.old.items b.at) }
