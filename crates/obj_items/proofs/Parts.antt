@@ -1,11 +1,10 @@
 -- A program is its parts.
-use Rattle.std.proofs.Common.{◌≡◌, ℕ, List, refl, ◌∙◌, map}
+use Rattle.std.proofs.Common.{◌≡◌, ℕ, List, refl, map}
 use Rattle.obj_input.specs.declared.parts.Func.{Func}
 use Rattle.obj_input.specs.Input.{InputParts, Named, section_count}
-use Rattle.obj_input.specs.Layout.{LayoutParts, data_end, layout_of}
+use Rattle.obj_input.specs.Layout.{LayoutParts, layout_of}
 use Rattle.obj_program.specs.declared.item.DataReloc.{DataReloc}
 use Rattle.obj_program.specs.declared.item.Item.{Item}
-use Rattle.obj_program.specs.Program.{Program}
 use Rattle.obj_items.specs.InitialData.{init_below, relocs_of}
 use Rattle.obj_items.specs.Links.{item_with}
 use Rattle.obj_items.specs.Outline.{outline}

@@ -6,6 +6,7 @@ ghost use Rattle.obj_items.specs.ProgramOf.{program_of};
 
 use crate::from_object::input_of;
 use crate::init::init;
+use crate::item_end::ItemEnd;
 use crate::links::linked_places;
 use crate::outline::outline;
 use crate::ranges::program_is_sound;
@@ -14,26 +15,9 @@ use crate::taken::taken;
 use elf_object::Object;
 use obj_input::{Input, Layout};
 use obj_program::Items;
-use obj_rules::{ItemFault, fault_of};
+use obj_rules::fault_of;
 use rv_word::NoMemory;
 use std::alloc::Global;
-use thiserror::Error;
-
-/// Why no program was given.
-#[derive(Debug, Drop, Error)]
-pub enum ItemEnd {
-    /// What is wrong with the object's instructions and relocations.
-    #[error("{0}")]
-    Refused(ItemFault),
-    #[error("out of memory")]
-    NoMemory,
-}
-
-impl From<NoMemory> for ItemEnd {
-    fn from(_: NoMemory) -> Self {
-        ItemEnd::NoMemory
-    }
-}
 
 /// The program of an input without a fault.
 fn program_of<'a>(alloc: Global, input: Input<'a>) -> Result<Items<'a>, NoMemory>
@@ -41,12 +25,13 @@ fn program_of<'a>(alloc: Global, input: Input<'a>) -> Result<Items<'a>, NoMemory
     ensures { IfOk result (λ p. p ≡ program_of input.entry) }
 {
     let layout = Layout::of(alloc, &input)?;
-    let places = outline(alloc, &input)?;
-    program_is_sound(&input, &places);
-    let marks = taken(alloc, &input, &places)?;
-    let items = linked_places(alloc, &input, &layout, &places, &marks)?;
+    let outline = outline(alloc, &input)?;
+    let places = outline.as_slice();
+    program_is_sound(&input, places);
+    let marks = taken(alloc, &input, places)?;
+    let items = linked_places(alloc, &input, &layout, places, &marks)?;
     let init = init(alloc, &input, &layout)?;
-    let relocations = relocs(alloc, &input, &layout, &places)?;
+    let relocations = relocs(alloc, &input, &layout, places)?;
     let (names, funcs) = input.into_symbols();
     Ok(Items::of(items, init, relocations, layout.data_end(), funcs, names))
 }
