@@ -1,0 +1,3 @@
+pub mod Listing
+mod Keeping
+mod Finding

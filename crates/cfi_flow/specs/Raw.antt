@@ -1,0 +1,15 @@
+-- The raw graph: the sites with their targets, and which places are taken.
+use Rattle.std.specs.Prelude.{ℕ, Bool, List, [], slice_index_or}
+use Rattle.cfi_graph.specs.declared.line.SiteKind.TheVariants as site
+use Rattle.cfi_flow.specs.Sites.{RawSite}
+
+pub record RawGraph : Type 0 where
+  pub sites : List RawSite
+  -- of each place, whether a relocation takes its address
+  pub taken : List Bool
+
+abbrev pub no_site : RawSite
+no_site = record { place = 0; kind = site.Jump; targets = [] }
+
+abbrev pub site_of : RawGraph → ℕ → RawSite
+site_of raw k = slice_index_or raw.sites k no_site
