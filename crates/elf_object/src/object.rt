@@ -1,8 +1,9 @@
-ghost use Rattle.std.specs.Prelude.{◌≡◌, ◌<◌, ◌/◌, None, Some, [], unwrap_or, length, true};
+ghost use Rattle.std.specs.Prelude.{◌≡◌, ◌≢◌, ◌<◌, ◌/◌, None, Some, IsSome, [], unwrap_or, length, drop, true};
+ghost use Rattle.elf_bytes.specs.Fields.{string_of};
 ghost use Rattle.elf_tables.specs.Header.{e_shnum};
 ghost use Rattle.elf_tables.specs.Section.{content, is_in_file, section_header, section_name};
 ghost use Rattle.elf_tables.specs.Kept.{has_flag, is_code, is_kept, is_named};
-ghost use Rattle.elf_tables.specs.Symbol.{symbol, symbol_binding, symbol_count, symbol_name, symbol_type};
+ghost use Rattle.elf_tables.specs.Symbol.{symbol, symbol_binding, symbol_count, symbol_name, symbol_names, symbol_type};
 ghost use Rattle.elf_tables.specs.Relocation.{relocation_bytes, relocation_count, relocation_in};
 ghost use Rattle.elf_object.specs.Fault.{Answers, fault_of};
 
@@ -215,6 +216,17 @@ impl<'a> Object<'a> {
         ensures { result ≡ symbol self.now k }
     {
         self.lookup.symbol(k)
+    }
+
+    /// The table of the symbols' names from the name of the symbol with the number `k` on, to the table's end. The name
+    /// is what stands there before the first NUL. It costs no search for that NUL, which is there unless `k` is 0.
+    pub fn symbol_name_rest(&self, k: u64) -> &'a [u8]
+        requires { k < symbol_count self.now }
+        ensures rest { result.now ≡ drop (symbol self.now k).name (symbol_names self.now) }
+        ensures name { string_of result.now ≡ symbol_name self.now k }
+        ensures ended { k ≢ 0 → IsSome (string_of result.now) }
+    {
+        self.lookup.symbol_name_rest(&self.lookup.symbol(k))
     }
 
     /// Whether the symbol with the number `k` has a name, and has this one. It looks at one byte of the table of

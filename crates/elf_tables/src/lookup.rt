@@ -1,4 +1,4 @@
-ghost use Rattle.std.specs.Prelude.{◌≡◌, ◌<◌, ◌/◌, unwrap_or, is_some, IfOk, Some, []};
+ghost use Rattle.std.specs.Prelude.{◌≡◌, ◌<◌, ◌/◌, unwrap_or, is_some, IfOk, Some, [], drop};
 ghost use Rattle.elf_bytes.specs.Fields.{string_at};
 ghost use Rattle.elf_tables.specs.Header.{e_shnum};
 ghost use Rattle.elf_tables.specs.Section.{section_header, section_names};
@@ -142,6 +142,13 @@ impl<'a> Lookup<'a> {
         ensures { result.now ≡ unwrap_or (string_at (symbol_names self.now) entry.now.name) [] }
     {
         self.symbol_names.get(entry.name)
+    }
+
+    /// The table of the symbols' names from this symbol's name on, to its end. No name's end is looked for.
+    pub fn symbol_name_rest(&self, entry: &SymbolEntry) -> &'a [u8]
+        ensures { result.now ≡ drop entry.now.name (symbol_names self.now) }
+    {
+        self.symbol_names.rest(entry.name)
     }
 
     /// Whether a symbol has this name. It looks at one byte of the names more than this one has.

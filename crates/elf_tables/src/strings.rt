@@ -1,4 +1,4 @@
-ghost use Rattle.std.specs.Prelude.{◌≡◌, is_some, unwrap_or, [], take};
+ghost use Rattle.std.specs.Prelude.{◌≡◌, is_some, unwrap_or, [], take, drop};
 ghost use Rattle.elf_bytes.specs.Fields.{string_at, string_of};
 ghost use Rattle.elf_tables.specs.Kept.{is_named};
 ghost use Rattle.elf_tables.specs.Names.{IsLastEnd};
@@ -49,11 +49,18 @@ impl<'a> Strings<'a> {
         name_at(self.bytes, u64::from(at)).unwrap_or(&[])
     }
 
+    /// The table from `at` on, none of it where `at` is past its end. Nothing is looked for.
+    pub(crate) fn rest(&self, at: u32) -> &'a [u8]
+        ensures { result.now ≡ drop at self.now }
+    {
+        self.bytes.get(at as usize..).unwrap_or(&[])
+    }
+
     /// Whether the string that begins at `at` is this one. It looks at one byte more than the name has.
     pub(crate) fn is(&self, at: u32, name: &[u8]) -> bool
         ensures { result ≡ is_named name.now (string_at self.now at) }
     {
-        begin_with(self.bytes.get(at as usize..).unwrap_or(&[]), name)
+        begin_with(self.rest(at), name)
     }
 }
 

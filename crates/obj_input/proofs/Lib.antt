@@ -4,3 +4,5 @@ mod Wholes
 mod Busy
 mod Reach
 mod Rows
+mod Front
+mod Called

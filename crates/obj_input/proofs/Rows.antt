@@ -1,12 +1,15 @@
--- Worked rows of the definitions, computed: where the instructions of a pair and after it start, and where data stand.
-use Rattle.std.proofs.Common.{◌≡◌, ℕ, pos, [], ◌∷◌, true, false, refl}
+-- Worked rows of the definitions, computed: where the instructions of a pair and after it start, where data stand, and where names do.
+use Rattle.std.proofs.Common.{◌≡◌, ℕ, pos, List, [], ◌∷◌, Some, None, true, false, refl}
+use Rattle.std.specs.Prelude.{codes}
 use Rattle.elf_bytes.specs.Fields.{number_at}
 use Rattle.rv_code.specs.Decode.{decoded}
 use Rattle.obj_input.specs.declared.parts.Sort.{Sort}
 use Rattle.obj_input.specs.declared.parts.Sort.TheVariants.{Code, Data, Zeros}
-use Rattle.obj_input.specs.declared.parts.Definition.TheVariants.{Within}
+use Rattle.obj_input.specs.declared.parts.Definition.{Definition}
+use Rattle.obj_input.specs.declared.parts.Definition.TheVariants.{Absolute, Missing, Within}
 use Rattle.obj_input.specs.Kinds.{kind_of}
-use Rattle.obj_input.specs.Input.{InputParts, SectionParts, busy_at, no_section}
+use Rattle.obj_input.specs.Input.{InputParts, Named, SectionParts, busy_at, no_section}
+use Rattle.obj_input.specs.Names.{find_spot}
 use Rattle.obj_input.specs.Code.{instr, is_pair, is_place, is_start}
 use Rattle.obj_input.specs.Listed.{listed}
 use Rattle.obj_input.specs.Layout.{block_address, blocks_reach, init_end, layout_of, reach, section_address, zeros_end}
@@ -47,3 +50,17 @@ layout_row : layout_of parts ≡ record {
 }
 unfolding part parts layout_of listed section_address block_address reach init_end zeros_end blocks_reach
 layout_row = refl
+
+called : List ℕ → Definition → Named
+called name definition = record { name = name; definition = definition }
+
+symbols : List Named
+symbols =
+    called [] (Within 1 4) ∷ called (codes "main") (Within 1 0) ∷ called (codes "put") (Missing 3) ∷ called (codes "main") (Within 2 8)
+    ∷ called (codes "put") (Within 1 12) ∷ called (codes "end") (Absolute 64) ∷ []
+
+-- the first of a name counts, also where it stands in no section; an empty name is not found, nor the end of another
+name_rows : (find_spot symbols (codes "main") ≡ Some (1, 0)) × (find_spot symbols (codes "put") ≡ None) × (find_spot symbols (codes "end") ≡ None)
+    × (find_spot symbols [] ≡ None) × (find_spot symbols (codes "ain") ≡ None)
+unfolding symbols called
+name_rows = (refl, refl, refl, refl, refl)

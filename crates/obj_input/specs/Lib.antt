@@ -5,3 +5,5 @@ pub mod Code
 pub mod InOrder
 pub mod Layout
 pub mod Listed
+pub mod Names
+pub mod Indexed

@@ -2,47 +2,10 @@ ghost use Rattle.std.specs.Prelude.{◌≡◌, ◌<◌, ◌^◌, length, slice_g
 ghost use Rattle.obj_input.specs.Input.{is_code, section_count, section_of};
 ghost use Rattle.obj_input.specs.Code.{at_whole, is_place, is_start};
 
-use crate::parts::{Block, Definition, Func};
+use crate::name::Name;
+use crate::parts::{Block, Func};
 use crate::section::Section;
 use std::marker::Model;
-
-/// A symbol with a name, which is borrowed from the table of names, and what it stands for.
-#[derive(Drop)]
-pub struct Name<'a> {
-    bytes: &'a [u8],
-    definition: Definition,
-}
-
-impl<'a> Model for Name<'a> {
-    ghost use Rattle.obj_input.specs.Input.{Named};
-
-    ghost Value = { Named };
-
-    ghost view = { λ n. record { name = n.bytes.now; definition = n.definition } };
-}
-
-impl<'a> Name<'a> {
-    /// The symbol with this name, which may be empty, and this definition.
-    pub fn of(bytes: &'a [u8], definition: Definition) -> Name<'a>
-        ensures { result ≡ record { name = bytes.now; definition = definition } }
-    {
-        Name { bytes, definition }
-    }
-
-    /// The bytes of the name.
-    pub fn bytes(&self) -> &'a [u8]
-        ensures { result.now ≡ self.now.name }
-    {
-        self.bytes
-    }
-
-    /// What the symbol stands for.
-    pub fn definition(&self) -> Definition
-        ensures { result ≡ self.now.definition }
-    {
-        self.definition
-    }
-}
 
 /// All that is said of a program before its places are known.
 #[derive(Drop)]

@@ -3,10 +3,12 @@
 //! such input as one object does.
 #![tactic(auto)]
 
-pub use code::is_auipc;
-pub use input::{Input, Name};
+pub use code::{is_auipc, natural};
+pub use input::Input;
 pub use item_kind::ItemKind;
 pub use layout::Layout;
+pub use name::Name;
+pub use names::Names;
 pub use parts::{Block, Definition, Func, Sort, Use};
 pub use reloc_kind::RelocKind;
 pub use section::Section;
@@ -15,6 +17,8 @@ mod code;
 mod input;
 mod item_kind;
 mod layout;
+mod name;
+mod names;
 mod offsets;
 mod parts;
 mod reloc_kind;

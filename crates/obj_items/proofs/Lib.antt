@@ -1,3 +1,5 @@
 mod Steps
 mod Whole
 mod Next
+mod Data
+mod Marks

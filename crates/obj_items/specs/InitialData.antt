@@ -1,6 +1,6 @@
 -- The initialised data of an input before relocations, and the relocations of data.
-use Rattle.std.specs.Prelude.{ℕ, zero, suc, ◌+◌, ◌-◌, if◌then◌else◌, List, [], ◌∷◌, ◌++◌, length}
-use Rattle.std.specs.List.{repeat, flat_map}
+use Rattle.std.specs.Prelude.{ℕ, zero, suc, ◌+◌, ◌-◌, if◌then◌else◌, List, [], ◌∷◌, ◌++◌, length, replicate}
+use Rattle.std.specs.List.{flat_map}
 use Rattle.rv_word.specs.Layout.{DATA_START}
 use Rattle.least.specs.Nearest.{joined}
 use Rattle.obj_input.specs.declared.parts.Use.{Use}
@@ -15,7 +15,7 @@ use Rattle.obj_items.specs.Values.{use_value}
 
 -- bytes with zeros before them, so that they begin at an address
 abbrev pub placed : List ℕ → ℕ → List ℕ → List ℕ
-placed so_far address bytes = so_far ++ repeat (address - (DATA_START + length so_far)) (0 ∷ []) ++ bytes
+placed so_far address bytes = so_far ++ replicate (address - (DATA_START + length so_far)) 0 ++ bytes
 
 -- the data of the sections before number `k` that have bytes in the file
 unfoldable pub init_below : InputParts → ℕ → List ℕ

@@ -8,5 +8,7 @@ pub use from_object::input_of;
 mod definitions;
 mod fault;
 mod from_object;
+mod init;
 mod sections;
 mod symbols;
+mod taken;

@@ -1,4 +1,4 @@
-ghost use Rattle.std.specs.Prelude.{◌≡◌, ◌<◌, IfOk, length};
+ghost use Rattle.std.specs.Prelude.{◌≡◌, ◌≢◌, ◌<◌, IfOk, length};
 ghost use Rattle.elf_tables.specs.Symbol.{symbol_count};
 ghost use Rattle.obj_items.specs.Definitions.{definitions_of};
 ghost use Rattle.obj_items.specs.Symbols.{block_at, blocks_of, func_at, funcs_of, is_func, name_at, names_of};
@@ -35,13 +35,14 @@ pub(crate) fn blocks(alloc: Global, object: &Object) -> Result<Vec<Block>, NoMem
     Ok(blocks)
 }
 
-/// The name of the symbol with this number, and what it stands for.
+/// The name of the symbol with this number, which is not looked at, and what it stands for.
 fn name_at<'a>(object: &Object<'a>, definitions: &[Definition], number: u64) -> Name<'a>
     requires below { number < length definitions.now }
     requires definitions { definitions.now ≡ definitions_of object.now }
+    requires named { number ≢ 0 }
     ensures { result ≡ name_at object.now number }
 {
-    Name::of(object.symbol(number).name, definitions[number as usize])
+    Name::of(object.symbol_name_rest(number), definitions[number as usize])
 }
 
 /// The names of all symbols but number 0.

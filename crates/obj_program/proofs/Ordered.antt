@@ -1,8 +1,7 @@
 -- Places in their order: those before a section and an offset come first, and a place is found behind them.
-use Rattle.std.proofs.Common.{◌≡◌, ◌==◌, ℕ, ◌<◌, ◌≤◌, ◌⊎◌, nat_lt, Bool, true, false, ◌&&◌, ◌||◌, List, length, get_or, Option, Some, None, inl, inr, refl, sym, ap, subst, ◌∙◌, arith}
-use Rattle.std.specs.List.{position}
+use Rattle.std.proofs.Common.{◌≡◌, ◌==◌, ℕ, ◌<◌, ◌≤◌, ◌⊎◌, nat_lt, true, false, ◌&&◌, List, length, get_or, Some, None, inl, inr, refl, sym, subst, ◌∙◌, arith}
 use Rattle.std.specs.List.Sorted.{IsPartitionedBy}
-use Rattle.std.proofs.lemmas.Bool.{cases_eq, cases_lt, and_parts, or_cases, or_left, or_right, eq-eqb, eqb-true, ne_eqb, lt-ltb, ltb-true, le-ltb, false_from_ne_true}
+use Rattle.std.proofs.lemmas.Bool.{cases_eq, cases_lt, cases_order, and_parts, or_cases, or_left, or_right, eq-eqb, eqb-true, lt-ltb, ltb-true, le-ltb, false_from_ne_true}
 use Rattle.std.proofs.lemmas.List.{get_or_default}
 use Rattle.std.proofs.lemmas.List.Sums.{position_or_len_is}
 use Rattle.obj_program.specs.declared.item.Item.{Item}
@@ -59,6 +58,16 @@ module _ (items : List Item) (in_order : AreInOrder items) (section offset : ℕ
             (subst (λ (x : Item). is_before x section offset ≡ true) (get_or_default items j d no_item below) holds))
       ]
 
+  later : (i k : ℕ) → i < k → k < length items → is_spot section offset (get_or items i no_item) ≡ true
+      → is_spot section offset (get_or items k no_item) ≡ true → ⊥
+  later i k less here first second =
+      let parts = and_parts ((get_or items k no_item).section == section) ((get_or items k no_item).offset == offset) second in
+      let before : is_before (get_or items i no_item) section offset ≡ true =
+      subst (λ (o : ℕ). is_before (get_or items i no_item) section o ≡ true) (eqb-true _ _ parts.1)
+      (subst (λ (s : ℕ). is_before (get_or items i no_item) s (get_or items k no_item).offset ≡ true) (eqb-true _ _ parts.0) (in_order i k less here)) in
+      let no : true ≡ false = sym first ∙ not_there (get_or items i no_item) section offset before in
+      cc
+
   module _ (k : ℕ) (bound : k ≤ length items) (before : (i : ℕ) → i < k → is_before (get_or items i no_item) section offset ≡ true) where
     pub place_is : (d : Item) → k < length items → is_spot section offset (get_or items k d) ≡ true → Some k ≡ place_of items section offset
     place_is d below there =
@@ -91,3 +100,14 @@ module _ (items : List Item) (in_order : AreInOrder items) (section offset : ℕ
         ])
         (λ less. absurd (omega arith)) in
         rw (is, le-ltb (length items) (length items) (omega arith)) refl
+
+  -- no other place stands where one stands
+  pub spot_once : (i k : ℕ) → i < length items → k < length items → is_spot section offset (get_or items i no_item) ≡ true
+      → is_spot section offset (get_or items k no_item) ≡ true → i ≡ k
+  spot_once i k there here first second = elim (cases_order i k) [
+    | inl same ↦ same
+    | inr other ↦ elim other [
+      | inl less ↦ absurd (later i k less here first second)
+      | inr more ↦ absurd (later k i more there second first)
+    ]
+  ]

@@ -1,5 +1,4 @@
-use Rattle.std.proofs.Common.{◌≡◌, ◌<◌, length, get_or, false, sym, ◌∙◌, arith}
-use Rattle.obj_program.specs.Program.{is_spot, no_item}
+use Rattle.std.proofs.Common.{sym, ◌∙◌, arith}
 use Rattle.obj_program.proofs.Ordered.{place_is, no_place}
 use Rattle.obj_program.proofs.place.place_in.Goals as goal
 use Rattle.obj_program.proofs.place.place_in.Goals.{else-k-items-via-then-k-items+else-is_at, else-k-items-via-else-k-items}
