@@ -1,8 +1,10 @@
 pub mod Below
 pub mod Sites
 pub mod Raw
-pub mod Kept
-pub mod Labels
 pub mod Closed
+pub mod Labels
+pub mod Kept
+pub mod Marks
+pub mod Drawn
 pub mod Tables
 pub mod Found

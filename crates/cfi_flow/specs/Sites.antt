@@ -5,7 +5,7 @@ use Rattle.obj_input.specs.declared.parts.Func.{Func}
 use Rattle.obj_input.specs.declared.item_kind.ItemKind.{ItemKind}
 use Rattle.obj_input.specs.declared.item_kind.ItemKind.TheVariants as is
 use Rattle.obj_program.specs.declared.item.Item.{Item}
-use Rattle.obj_program.specs.Program.{Program, count, item_of}
+use Rattle.obj_program.specs.Program.{Program, count, is_spot, item_of}
 use Rattle.cfi_graph.specs.declared.line.SiteKind.{SiteKind}
 use Rattle.cfi_graph.specs.declared.line.SiteKind.TheVariants as site
 use Rattle.cfi_flow.specs.Below.{where_below}
@@ -18,7 +18,7 @@ site_kind other = None
 
 -- a function begins at an instruction
 abbrev pub begins : Item → Func → Bool
-begins i f = f.section == i.section && f.offset == i.offset
+begins i f = is_spot f.section f.offset i
 
 -- a function covers an instruction: its value is inside, its value + size not
 abbrev pub covers : Item → Func → Bool

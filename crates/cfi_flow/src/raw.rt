@@ -1,7 +1,9 @@
 ghost use Rattle.std.specs.Prelude.{◌≡◌, ℕ, ◌<◌, ◌++◌, ◌∷◌, [], false, IfOk, length, slice_index_or};
 ghost use Rattle.std.specs.List.{All};
-ghost use Rattle.cfi_flow.specs.Raw.{site_of};
+ghost use Rattle.cfi_flow.specs.Closed.{AreClasses, sets_of};
+ghost use Rattle.cfi_flow.specs.Raw.{IsThere, site_of};
 
+use cfi_class::classes;
 use cfi_graph::SiteKind;
 use rv_word::{NoMemory, Places};
 use std::alloc::Global;
@@ -121,7 +123,8 @@ impl Raw {
 
     /// How many places the program has.
     pub fn places(&self) -> u64
-        ensures { result ≡ length self.now.taken }
+        ensures value { result ≡ length self.now.taken }
+        ensures there { IsThere self.now }
     {
         self.taken.len() as u64
     }
@@ -132,5 +135,21 @@ impl Raw {
         ensures { result ≡ slice_index_or self.now.taken place false }
     {
         self.taken[place as usize]
+    }
+
+    /// Of each place, whether it is taken.
+    pub(crate) fn marks(&self) -> &[bool]
+        ensures { result.now ≡ self.now.taken }
+    {
+        self.taken.as_slice()
+    }
+
+    /// The classes of the targets.
+    pub(crate) fn classes(&self, alloc: Global) -> Result<Vec<Places>, NoMemory>
+        ensures are { IfOk result (λ v. AreClasses (sets_of self.now.sites) v.items) }
+        ensures there { IfOk result (λ v. All (All (λ t. t < length self.now.taken)) v.items) }
+    {
+        let found = classes(alloc, self.sets.as_slice())?;
+        Ok(found)
     }
 }

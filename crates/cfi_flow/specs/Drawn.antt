@@ -1,0 +1,59 @@
+-- Words of private contracts: what is known of a program's places before its sites are drawn, and sites that share their sets.
+use Rattle.std.specs.Prelude.{◌≡◌, ℕ, ◌<◌, Bool, true, false, ◌==◌, ◌&&◌, ◌||◌, Option, Some, None, List, length, map, slice_index_or}
+use Rattle.std.specs.List.{list_any}
+use Rattle.obj_input.specs.declared.parts.Func.{Func}
+use Rattle.obj_program.specs.declared.item.Item.{Item}
+use Rattle.obj_program.specs.Program.{Program, count, item_of}
+use Rattle.cfi_graph.specs.declared.line.SiteKind.{SiteKind}
+use Rattle.cfi_graph.specs.declared.line.SiteKind.TheVariants as site
+use Rattle.cfi_flow.specs.declared.draw.Drawing.{Drawing}
+use Rattle.cfi_flow.specs.declared.draw.Shared.{Shared}
+use Rattle.cfi_flow.specs.declared.reach.Reach.{Reach}
+use Rattle.cfi_flow.specs.Below.{where_below}
+use Rattle.cfi_flow.specs.Raw.{RawGraph, site_of}
+use Rattle.cfi_flow.specs.Sites.{covers, is_function}
+
+abbrev pub no_func : Func
+no_func = record { section = 0; offset = 0; size = 0 }
+
+abbrev pub func_of : Program → ℕ → Func
+func_of program j = slice_index_or program.funcs j no_func
+
+abbrev pub is_jump : SiteKind → Bool
+is_jump site.Call = false
+is_jump site.Jump = true
+
+-- the indexes of the functions through which a site of a kind may go to places inside
+abbrev pub covering : Program → SiteKind → Item → List ℕ
+covering program kind from = where_below (λ j. is_jump kind && covers from (func_of program j)) (length program.funcs)
+
+abbrev pub is_in_some : Program → List ℕ → Item → Bool
+is_in_some program indexes to = list_any (λ j. covers to (func_of program j)) indexes
+
+abbrev pub is_open : Program → List ℕ → ℕ → Bool
+is_open program indexes t = is_function program (item_of program t) || is_in_some program indexes (item_of program t)
+
+-- where a site may go that may go inside these functions
+abbrev pub through : Program → List ℕ → List ℕ
+through program indexes = where_below (λ t. (item_of program t).taken && is_open program indexes t) (count program)
+
+-- the taken places, and of each place whether a function begins there
+pub record IsReach (program : Program) (reach : Reach) : Type 0 where
+  pub taken : reach.taken.items ≡ where_below (λ t. (item_of program t).taken) (count program)
+  pub size : length reach.begun.items ≡ count program
+  pub begun : (k : ℕ) → k < count program → slice_index_or reach.begun.items k false ≡ is_function program (item_of program k)
+
+-- a site whose set others may have that may go inside the same functions
+abbrev pub IsShared : Program → RawGraph → Option Shared → Type 0
+IsShared program raw None = Unit {0}
+IsShared program raw (Some s) = (s.site < length raw.sites) × ((site_of raw s.site).targets ≡ through program s.covering.items)
+
+pub record AreShared (program : Program) (drawing : Drawing) : Type 0 where
+  pub places : length drawing.raw.taken ≡ count program
+  pub outside : IsShared program drawing.raw drawing.outside
+  pub inside : IsShared program drawing.raw drawing.inside
+
+-- the site that is shared has these covering functions
+abbrev pub Has : Option Shared → List ℕ → ℕ → Type 0
+Has None indexes i = ⊥
+Has (Some s) indexes i = (s.covering.items ≡ indexes) × (s.site ≡ i)
