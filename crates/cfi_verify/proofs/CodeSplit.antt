@@ -1,7 +1,7 @@
 -- The code of a well-formed pair is split into units, and a unit starts at an address exactly where one
 -- of the split does.
-use Rattle.std.proofs.Common.{◌≡◌, ◌≢◌, ℕ, zero, suc, ◌+◌, ◌-◌, ◌*◌, ◌/◌, ◌%◌, ◌≤◌, ◌<◌, inl, inr, true, List, [], ◌∷◌, length, drop, length-drop, refl, sym, ap, subst, ◌∙◌, Some, None, arith}
-use Rattle.std.proofs.lemmas.Bool.{cases_Bool, cases_eq, cases_lt, eq-eqb, ne_eqb}
+use Rattle.std.proofs.Common.{◌≡◌, ℕ, zero, suc, ◌+◌, ◌-◌, ◌*◌, ◌/◌, ◌%◌, ◌≤◌, ◌<◌, inl, inr, true, List, [], ◌∷◌, length, drop, length-drop, refl, sym, ap, subst, ◌∙◌, None, arith}
+use Rattle.std.proofs.lemmas.Bool.{cases_Bool, cases_eq, cases_lt}
 use Rattle.std.proofs.lemmas.List.{drop-drop, drop_all}
 use Rattle.rv_word.specs.Layout.{CODE_START, version_1, UNITS_START}
 use Rattle.cfi_unit.specs.declared.unit.Unit as U
@@ -12,20 +12,7 @@ use Rattle.cfi_verify.specs.Split.{code_words, starts, is_start, unit_at, unit_i
 use Rattle.cfi_verify.proofs.Find.{IsWhole, UnitHere, start_at, no_start_below, no_unit, unit_here}
 use Rattle.cfi_verify.proofs.Marks.{first_marked, some_word}
 use Rattle.cfi_verify.proofs.Places.{is_whole}
-
-in_here : (u : U.Unit) (us : List U.Unit) (at : ℕ) → unit_in (u ∷ us) at at ≡ Some u
-unfolding unit_in
-in_here u us at = rw (eq-eqb at at refl) refl
-
-in_later : (u : U.Unit) (us : List U.Unit) (at a : ℕ) → a ≢ at → unit_in (u ∷ us) at a ≡ unit_in us (at + 4 * word_count u) a
-unfolding unit_in
-in_later u us at a other = rw (ne_eqb a at other) refl
-
--- no unit starts before the first
-in_none : (us : List U.Unit) (at a : ℕ) → a < at → unit_in us at a ≡ None
-unfolding unit_in
-in_none [] at a below = refl
-in_none (u ∷ us) at a below = in_later u us at a (λ e. omega arith) ∙ in_none us (at + 4 * word_count u) a (omega arith)
+use Rattle.cfi_verify.proofs.UnitIn.{in_here, in_later, in_none}
 
 module _ (words : List ℕ) (whole : IsWhole words) where
   -- the units from an address on

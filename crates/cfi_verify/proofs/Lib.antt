@@ -10,7 +10,15 @@ pub mod RuleFacts
 pub mod Labels
 pub mod Moves
 pub mod Safety
+pub mod UnitIn
 pub mod CodeSplit
+pub mod PlacedSplit
+pub mod Ahead
+pub mod PlacedLines
+pub mod PlacedRules
+pub mod PlacedCode
+pub mod PlacedGraph
+pub mod PlacedRows
 pub mod Walks
 pub mod Trails
 pub mod Unsafe

@@ -9,7 +9,7 @@ use Rattle.cfi_unit.specs.declared.unit.Unit as U
 use Rattle.cfi_unit.specs.declared.unit.Unit.TheVariants as V
 use Rattle.cfi_unit.specs.Laws.{AreWords}
 use Rattle.cfi_unit.specs.Recognise.{recognised}
-use Rattle.cfi_unit.specs.UnitWords.{word_count}
+use Rattle.cfi_unit.specs.UnitWords.{Begins, word_count}
 use Rattle.cfi_unit.proofs.Found.{words_counted}
 use Rattle.cfi_unit.proofs.Told.{recognised_begins}
 use Rattle.cfi_verify.specs.Split.{starts}
@@ -85,14 +85,16 @@ pub record Marked (ws : List ℕ) (at i : ℕ) (u : U.Unit) : Type 0 where
   pub next : i + word_count u < length (starts 0 ws at) → slice_get (starts 0 ws at) (i + word_count u) ≡ Some true
   pub room : i + word_count u ≤ length (starts 0 ws at)
 
--- a unit that is recognised has no more words than there are
-pub recognised_room : (ws : List ℕ) (at : ℕ) (u : U.Unit) → AreWords ws → recognised ws at ≡ Some u → word_count u ≤ length ws
-recognised_room ws at u words e =
-    let b = recognised_begins ws at u words e in
+-- a unit that begins some words has no more words than there are
+pub begins_room : (ws : List ℕ) (at : ℕ) (u : U.Unit) → Begins ws at u → word_count u ≤ length ws
+begins_room ws at u b =
     let same = ap length b.words_are in
     let whole = length-take (word_count u) ws in
     let counted = words_counted u at in
     omega (arith, same, whole, counted)
+
+recognised_room : (ws : List ℕ) (at : ℕ) (u : U.Unit) → AreWords ws → recognised ws at ≡ Some u → word_count u ≤ length ws
+recognised_room ws at u words e = begins_room ws at u (recognised_begins ws at u words e)
 
 module _ (w : ℕ) (ws : List ℕ) (at : ℕ) (u : U.Unit) (e : recognised (w ∷ ws) at ≡ Some u) (room : word_count u ≤ length (w ∷ ws)) where
   -- the marks of the words after the first unit are the marks of the split from there

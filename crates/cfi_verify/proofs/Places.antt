@@ -23,6 +23,10 @@ use Rattle.cfi_verify.proofs.Find.{IsWhole, UnitHere, unit_here, no_start_below,
 use Rattle.cfi_verify.proofs.Marks.{marks_room}
 use Rattle.cfi_verify.proofs.Opening.{HasPrologue, prologue_stands}
 
+-- handlers stand below the opening
+pub not_handler : (a : ℕ) → DEEP < a → is_handler a ≡ false
+not_handler a above = rw (ne_eqb a BAD_TARGET (λ e. omega arith), ne_eqb a BAD_RETURN (λ e. omega arith), ne_eqb a DEEP (λ e. omega arith)) refl
+
 module _ (image : Contents) (graph : GraphParts) (bytes : AreBytes image) (formed : IsWellFormed version_1 image graph) where
   abbrev the_words : List ℕ
   the_words = code_words image.code
@@ -93,9 +97,6 @@ module _ (image : Contents) (graph : GraphParts) (bytes : AreBytes image) (forme
           ]
         ]
       ]
-
-  not_handler : (a : ℕ) → DEEP < a → is_handler a ≡ false
-  not_handler a above = rw (ne_eqb a BAD_TARGET (λ e. omega arith), ne_eqb a BAD_RETURN (λ e. omega arith), ne_eqb a DEEP (λ e. omega arith)) refl
 
   -- from the first unit on, what stands is a unit or nothing
   pub at_unit : (a : ℕ) → UNITS_START ≤ a → place_at version_1 the_words a ≡ option_map body (unit_at version_1 the_words a)

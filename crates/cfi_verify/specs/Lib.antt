@@ -2,12 +2,15 @@ pub mod Split
 pub mod Kinds
 pub mod Lines
 pub mod Rules
+pub mod Placed
+pub mod Sound
 pub mod Walk
 pub mod Along
 pub mod Walks
 pub mod Trails
 pub mod Unsafe
 pub mod Laws
+pub mod PlacedLaws
 pub mod Seen
 pub mod Scan
 pub mod Answer

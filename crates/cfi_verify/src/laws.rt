@@ -1,5 +1,7 @@
-//! What holds of accepted pairs and of their runs. Each function states one law; nothing is computed.
+//! What holds of accepted pairs and of their runs, and of units placed one after another. Each function
+//! states one law; nothing is computed.
 ghost use Rattle.cfi_verify.specs.Laws.{CodeIsSplit, WellFormedIsSafe, SafeStaysInPlace, SafeWalksGraph};
+ghost use Rattle.cfi_verify.specs.PlacedLaws.{PlacedAreSplit, PlacedEntry, PlacedIsGraph, PlacedIsWellFormed, PlacedUnits, SplitUnits};
 ghost use Rattle.cfi_verify.specs.Unsafe.{MiddleIsUnsafe, BareReturnIsUnsafe, BareStoreIsUnsafe, MovedPointerIsUnsafe, WrongStopsAreUnsafe, WrongTransfersAreUnsafe, WrongShadowsAreUnsafe};
 
 /// An image and a graph that meet the rules are safe.
@@ -23,6 +25,38 @@ pub fn safe_walks_graph()
 /// the walk, and ends as it may there.
 pub fn safe_stays_in_place()
     ensures { SafeStaysInPlace }
+{}
+
+/// Units that fit one after another, each before words that may follow it, are the split of their words.
+pub fn placed_are_split()
+    ensures { PlacedAreSplit }
+{}
+
+/// A unit starts at an address of a code exactly where one of the code's split does, and it is that unit.
+pub fn split_units()
+    ensures { SplitUnits }
+{}
+
+/// In a code that is the prologue and placed units, these units start and no others.
+pub fn placed_units()
+    ensures { PlacedUnits }
+{}
+
+/// The opening of such a code calls the entry, where its call reaches the entry.
+pub fn placed_entry()
+    ensures { PlacedEntry }
+{}
+
+/// The lines of sound units and their classes, with the opening's call, are a graph's where the lines of
+/// the classes alone are.
+pub fn placed_is_graph()
+    ensures { PlacedIsGraph }
+{}
+
+/// An image whose code is the prologue and placed units that are sound meets the rules with the lines of
+/// these units.
+pub fn placed_is_well_formed()
+    ensures { PlacedIsWellFormed }
 {}
 
 /// An image with a jump into the middle of a store unit is not safe.

@@ -108,7 +108,7 @@ static MARK: Use = Use {
 
 /// Whether the names stand for what the symbols do.
 fn has_names(input: &Input) -> bool {
-    let names = input.names();
+    let names = input.names().as_slice();
     if names.len() != 11 {
         return false;
     }

@@ -1,10 +1,12 @@
 -- How far data reach, one section or one block further, and their addresses by index.
 use Rattle.std.proofs.lemmas.List.{get_or_default}
-use Rattle.std.proofs.Common.{◌≡◌, ℕ, ◌+◌, ◌<◌, get_or, Bool, List, [], ◌∷◌, ◌++◌, length, refl, ap, ◌∙◌, add-one}
+use Rattle.std.proofs.lemmas.List.Elements.{All-push}
+use Rattle.std.proofs.Common.{◌≡◌, ℕ, ◌+◌, ◌<◌, ◌^◌, get_or, Bool, List, [], ◌∷◌, ◌++◌, length, refl, ap, sym, subst, ◌∙◌, add-one, arith}
 use Rattle.obj_input.specs.declared.parts.Sort.{Sort}
 use Rattle.obj_input.specs.declared.parts.Block.{Block}
 use Rattle.obj_input.specs.Input.{InputParts, SectionParts, section_of, is_data_sort, is_zeros_sort}
 use Rattle.obj_input.specs.Listed.{listed}
+use Rattle.obj_input.specs.InOrder.{AreSmall}
 use Rattle.obj_input.specs.Layout.{address_by, after, after_if, aligned, block, block_address, blocks_reach, init_end, no_block, reach, section_address, zeros_end}
 use Rattle.rv_word.specs.Layout.{DATA_START}
 
@@ -50,3 +52,9 @@ block_address_is input c at address b here is e = rw (← here, ← is) e
 pub block_read : (input : InputParts) (blocks : List Block) (c : ℕ) (d : Block) → blocks ≡ input.blocks → c < length blocks
     → get_or blocks c d ≡ block input c
 block_read input blocks c d same below = get_or_default blocks c d no_block below ∙ ap (λ (bs : List Block). get_or bs c no_block) same
+
+pub none_small : (none : List ℕ) → none ≡ [] → AreSmall none
+none_small none e = rw e (λ k d below. absurd (omega arith))
+
+pub small_next : (so_far next : List ℕ) (a : ℕ) → AreSmall so_far → a < 2 ^ 126 → next ≡ so_far ++ a ∷ [] → AreSmall next
+small_next so_far next a small below e = subst (λ (xs : List ℕ). AreSmall xs) (sym e) (All-push (λ (n : ℕ). n < 2 ^ 126) so_far a small below)

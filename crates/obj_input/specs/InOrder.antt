@@ -1,6 +1,6 @@
 -- How a section keeps its relocations. Only invariants and private contracts cite this.
 use Rattle.std.specs.Prelude.{◌≡◌, ℕ, ◌<◌, ◌^◌, Bool, true, ◌==◌, List, length, filter}
-use Rattle.std.specs.List.{list_any}
+use Rattle.std.specs.List.{All, list_any}
 use Rattle.std.specs.List.Sorted.{IsNonDecreasingBy}
 use Rattle.obj_input.specs.declared.parts.Use.{Use}
 use Rattle.obj_input.specs.Kinds.{is_pair_target, is_relative_high, kind_of}
@@ -33,3 +33,12 @@ pub record IsKept (section : SectionParts) (busy : List Use) (pairs highs : List
 pub record AreFew (sections blocks : ℕ) : Type 0 where
   pub sections_few : sections < 2 ^ 32
   pub blocks_few : blocks < 2 ^ 60
+
+-- addresses far below what 128 bits hold
+abbrev pub AreSmall : List ℕ → Type 0
+AreSmall addresses = All (λ a. a < 2 ^ 126) addresses
+
+pub record AreAddresses (sections blocks : List ℕ) (end : ℕ) : Type 0 where
+  pub sections_small : AreSmall sections
+  pub blocks_small : AreSmall blocks
+  pub end_small : end < 2 ^ 126

@@ -2,7 +2,7 @@ ghost use Rattle.std.specs.Prelude.{◌≡◌, ◌<◌, ◌^◌, length, slice_g
 ghost use Rattle.obj_input.specs.Input.{is_code, section_count, section_of};
 ghost use Rattle.obj_input.specs.Code.{at_whole, is_place, is_start};
 
-use crate::name::Name;
+use crate::names::Names;
 use crate::parts::{Block, Func};
 use crate::section::Section;
 use std::marker::Model;
@@ -12,7 +12,7 @@ use std::marker::Model;
 pub struct Input<'a> {
     sections: Vec<Section<'a>>,
     blocks: Vec<Block>,
-    names: Vec<Name<'a>>,
+    names: Names<'a>,
     funcs: Vec<Func>,
 }
 
@@ -23,7 +23,7 @@ impl<'a> Model for Input<'a> {
 
     ghost Value = { InputParts };
 
-    ghost view = { λ i. record { sections = i.sections.items; blocks = i.blocks.items; names = i.names.items; funcs = i.funcs.items } };
+    ghost view = { λ i. record { sections = i.sections.items; blocks = i.blocks.items; names = i.names; funcs = i.funcs.items } };
 
     ghost invariant = { λ i. AreFew (length i.sections.items) (length i.blocks.items) };
 }
@@ -34,12 +34,12 @@ impl<'a> Input<'a> {
     pub fn of(
         sections: Vec<Section<'a>>,
         blocks: Vec<Block>,
-        names: Vec<Name<'a>>,
+        names: Names<'a>,
         funcs: Vec<Func>,
     ) -> Input<'a>
         requires sections { length sections.items < 2 ^ 32 }
         requires blocks { length blocks.items < 2 ^ 60 }
-        ensures { result ≡ record { sections = sections.entry.items; blocks = blocks.items; names = names.entry.items; funcs = funcs.items } }
+        ensures { result ≡ record { sections = sections.entry.items; blocks = blocks.items; names = names.entry; funcs = funcs.items } }
     {
         Input {
             sections,
@@ -73,10 +73,10 @@ impl<'a> Input<'a> {
     }
 
     /// The names in the order in which they are looked for.
-    pub fn names(&self) -> &[Name<'a>]
+    pub fn names(&self) -> &Names<'a>
         ensures { result.now ≡ self.now.names }
     {
-        self.names.as_slice()
+        &self.names
     }
 
     /// The functions in code, in the order of their table.
@@ -84,6 +84,14 @@ impl<'a> Input<'a> {
         ensures { result.now ≡ self.now.funcs }
     {
         self.funcs.as_slice()
+    }
+
+    /// The names, and the functions in code, in the order of their table; what else there is goes.
+    pub fn into_symbols(self) -> (Names<'a>, Vec<Func>)
+        ensures names { result.0 ≡ self.entry.names }
+        ensures funcs { result.1.items ≡ self.entry.funcs }
+    {
+        (self.names, self.funcs)
     }
 
     /// Whether the section with this index is there and is code.

@@ -1,6 +1,7 @@
-ghost use Rattle.std.specs.Prelude.{◌≡◌, ◌+◌, ◌*◌, ◌^◌, ◌<◌, ◌≤◌, length, IfOk, slice_get, Some};
+ghost use Rattle.std.specs.Prelude.{◌≡◌, ◌+◌, ◌*◌, ◌^◌, ◌<◌, ◌≤◌, length, IfOk, slice_index_or};
 ghost use Rattle.obj_input.specs.Input.{section_count};
 ghost use Rattle.obj_input.specs.Listed.{listed};
+ghost use Rattle.obj_input.specs.InOrder.{AreSmall};
 ghost use Rattle.obj_input.specs.Layout.{address_by, after, after_if, aligned, block_address, blocks_reach, data_end, init_end, layout_of, section_address, zeros_end};
 
 use crate::input::Input;
@@ -77,7 +78,8 @@ fn zeros_end(input: &Input, start: u128) -> u128
 fn address(section: &Section, init: u128, rest: u128) -> u128
     requires init { init < 2 ^ 127 }
     requires rest { rest < 2 ^ 127 }
-    ensures { result ≡ address_by section.now.sort init rest section.now.align }
+    ensures value { result ≡ address_by section.now.sort init rest section.now.align }
+    ensures bound { result < init + rest + 2 ^ 64 }
 {
     match section.sort() {
         Sort::Data => aligned(init, section.align()),
@@ -90,7 +92,8 @@ fn address(section: &Section, init: u128, rest: u128) -> u128
 fn section_addresses(alloc: Global, input: &Input, start: u128) -> Result<Vec<u128>, NoMemory>
     requires start { start ≡ init_end input.now }
     requires small { start ≤ 2 ^ 98 }
-    ensures { IfOk result (λ v. v.items ≡ listed (section_address input.now) (section_count input.now)) }
+    ensures value { IfOk result (λ v. v.items ≡ listed (section_address input.now) (section_count input.now)) }
+    ensures small { IfOk result (λ v. AreSmall v.items) }
 {
     let mut init = u128::from(DATA_START);
     let mut rest = start;
@@ -116,7 +119,9 @@ fn placed_blocks(alloc: Global, input: &Input, start: u128) -> Result<Placed, No
     requires start { start ≡ zeros_end input.now }
     requires small { start ≤ 2 ^ 99 }
     ensures addresses { IfOk result (λ p. p.addresses.items ≡ listed (block_address input.now) (length input.now.blocks)) }
+    ensures small { IfOk result (λ p. AreSmall p.addresses.items) }
     ensures end { IfOk result (λ p. p.end ≡ data_end input.now) }
+    ensures end_small { IfOk result (λ p. p.end < 2 ^ 126) }
 {
     let mut end = start;
     let mut addresses = Vec::new(alloc);
@@ -125,6 +130,16 @@ fn placed_blocks(alloc: Global, input: &Input, start: u128) -> Result<Placed, No
         end = after(end, block.size, block.align);
     }
     Ok(Placed { addresses, end })
+}
+
+/// The address with this index, and this one where there is none.
+fn address_at(addresses: &[u128], index: u64, otherwise: u128) -> u128
+    requires addresses { AreSmall addresses.now }
+    requires otherwise { otherwise < 2 ^ 126 }
+    ensures value { result ≡ slice_index_or addresses.now index otherwise }
+    ensures small { result < 2 ^ 126 }
+{
+    addresses.get(index as usize).copied().unwrap_or(otherwise)
 }
 
 /// Where data stand: from `DATA_START` on the sections with bytes in the file, then those without, then the blocks. No
@@ -139,10 +154,13 @@ pub struct Layout {
 
 impl Model for Layout {
     ghost use Rattle.obj_input.specs.Layout.{LayoutParts};
+    ghost use Rattle.obj_input.specs.InOrder.{AreAddresses};
 
     ghost Value = { LayoutParts };
 
     ghost view = { λ l. record { sections = l.sections.items; blocks = l.blocks.items; init_end = l.init_end; data_end = l.data_end } };
+
+    ghost invariant = { λ l. AreAddresses l.sections.items l.blocks.items l.data_end };
 }
 
 impl Layout {
@@ -162,18 +180,20 @@ impl Layout {
         })
     }
 
-    /// The addresses of the sections by their index, 0 of those that are no data.
-    pub fn sections(&self) -> &[u128]
-        ensures { result.now ≡ self.now.sections }
+    /// The address of the section with this index; 0 of one that is no data or not there.
+    pub fn section(&self, k: u32) -> u128
+        ensures value { result ≡ slice_index_or self.now.sections k 0 }
+        ensures small { result < 2 ^ 126 }
     {
-        self.sections.as_slice()
+        address_at(&self.sections, u64::from(k), 0)
     }
 
-    /// The addresses of the common blocks by their index.
-    pub fn blocks(&self) -> &[u128]
-        ensures { result.now ≡ self.now.blocks }
+    /// The address of the common block with this index; of one that is not there where all data end.
+    pub fn block(&self, c: u64) -> u128
+        ensures value { result ≡ slice_index_or self.now.blocks c self.now.data_end }
+        ensures small { result < 2 ^ 126 }
     {
-        self.blocks.as_slice()
+        address_at(&self.blocks, c, self.data_end)
     }
 
     /// Where the data with bytes in the file end.

@@ -42,6 +42,13 @@ impl<'a> Names<'a> {
         Ok(Names { names, index })
     }
 
+    /// The names in their order.
+    pub fn as_slice(&self) -> &[Name<'a>]
+        ensures { result.now ≡ self.now }
+    {
+        self.names.as_slice()
+    }
+
     /// Where the first symbol of this name stands: the index of its section and its offset there; none where no
     /// symbol has the name, or where that symbol stands in no section. No symbol is found by an empty name.
     pub fn find(&self, name: &[u8]) -> Option<(u32, u64)>

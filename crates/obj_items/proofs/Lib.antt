@@ -3,3 +3,16 @@ mod Whole
 mod Next
 mod Data
 mod Marks
+pub mod InOrder
+pub mod Pushed
+mod Addresses
+mod Instructions
+pub mod Suited
+pub mod NoFault
+pub mod LookUp
+pub mod Starts
+pub mod Targets
+pub mod Bounds
+pub mod Patches
+pub mod DataLies
+pub mod ProgramSound

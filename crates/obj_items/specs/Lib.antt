@@ -7,3 +7,6 @@ pub mod Values
 pub mod Links
 pub mod InitialData
 pub mod ProgramOf
+pub mod Before
+pub mod Standing
+pub mod Ranges

@@ -1,20 +1,20 @@
 -- What relocations refer to (RISC-V ELF psABI, "Relocations": the symbol's address and the addend), where code has places
 -- in the place of addresses. `places` are the places of the input.
-use Rattle.std.specs.Prelude.{ℕ, ℤ, pos, negsuc, ◌+◌, ◌+ℤ◌, if◌then◌else◌, Option, Some, None, List}
+use Rattle.std.specs.Prelude.{ℕ, ℤ, pos, ◌+◌, ◌+ℤ◌, if◌then◌else◌, Option, Some, None, option_and_then, List}
 use Rattle.obj_input.specs.declared.parts.Use.{Use}
 use Rattle.obj_input.specs.declared.parts.Definition.{Definition}
 use Rattle.obj_input.specs.declared.parts.Definition.TheVariants.{Zero, Absolute, Within, Common, Missing}
 use Rattle.obj_input.specs.Input.{InputParts, is_code, section_of}
+use Rattle.obj_input.specs.Code.{natural}
 use Rattle.obj_input.specs.Layout.{block_address, section_address}
 use Rattle.obj_program.specs.declared.item.Item.{Item}
 use Rattle.obj_program.specs.declared.item.Value.{Value}
 use Rattle.obj_program.specs.declared.item.Value.TheVariants.{Number, GateOf}
 use Rattle.obj_program.specs.Program.{place_of}
 
--- the place at a whole number of bytes of a section
+-- the place at a whole number of bytes of a section; an offset has 64 bits
 abbrev pub place_at : List Item → ℕ → ℤ → Option ℕ
-place_at places k (pos offset) = place_of places k offset
-place_at places k (negsuc n) = None
+place_at places k at = option_and_then (λ offset. place_of places k offset) (natural at)
 
 -- an address of code is the gate of a place; an input without a fault names no other
 abbrev pub gate_value : Option ℕ → Value

@@ -5,7 +5,7 @@ use crate::definitions::definitions;
 use crate::sections::sections;
 use crate::symbols::{blocks, funcs, names};
 use elf_object::Object;
-use obj_input::Input;
+use obj_input::{Input, Names};
 use rv_word::NoMemory;
 use std::alloc::Global;
 
@@ -16,7 +16,7 @@ pub fn input_of<'a>(alloc: Global, object: &Object<'a>) -> Result<Input<'a>, NoM
 {
     let definitions = definitions(alloc, object)?;
     let blocks = blocks(alloc, object)?;
-    let names = names(alloc, object, &definitions)?;
+    let names = Names::of(alloc, names(alloc, object, &definitions)?)?;
     let funcs = funcs(alloc, object)?;
     let sections = sections(alloc, object, &definitions)?;
     Ok(Input::of(sections, blocks, names, funcs))

@@ -17,7 +17,7 @@ use Rattle.obj_program.specs.Suits.{names_reserved, stands_on, suits}
 
 -- a number far from what 128 bits hold, or the gate of a place that is there
 abbrev pub is_value : ℕ → Value → Bool
-is_value places (Number z) = int_le (neg_ℤ (pos (2 ^ 100))) z && int_le z (pos (2 ^ 100))
+is_value places (Number z) = int_le (neg_ℤ (pos (2 ^ 126))) z && int_le z (pos (2 ^ 126))
 is_value places (GateOf k) = nat_lt k places
 
 abbrev pub is_high_patch : Patch → Bool

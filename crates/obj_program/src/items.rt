@@ -1,10 +1,11 @@
 ghost use Rattle.std.specs.Prelude.{◌≡◌, ◌<◌, length, slice_get, Some};
+ghost use Rattle.obj_input.specs.Names.{find_spot};
 ghost use Rattle.obj_program.specs.Program.{count, item_of, place_of};
 ghost use Rattle.obj_program.specs.Sound.{IsSound};
 
 use crate::item::{DataReloc, Item};
 use crate::place::place_in;
-use obj_input::{Func, Name};
+use obj_input::{Func, Names};
 use std::marker::Model;
 
 /// A program. Names are borrowed from the object's tables.
@@ -15,7 +16,7 @@ pub struct Items<'a> {
     relocations: Vec<DataReloc>,
     data_end: u128,
     funcs: Vec<Func>,
-    names: Vec<Name<'a>>,
+    names: Names<'a>,
 }
 
 impl<'a> Model for Items<'a> {
@@ -24,9 +25,9 @@ impl<'a> Model for Items<'a> {
 
     ghost Value = { Program };
 
-    ghost view = { λ p. record { items = p.items.items; init = p.init.items; relocations = p.relocations.items; data_end = p.data_end; funcs = p.funcs.items; names = p.names.items } };
+    ghost view = { λ p. record { items = p.items.items; init = p.init.items; relocations = p.relocations.items; data_end = p.data_end; funcs = p.funcs.items; names = p.names } };
 
-    ghost invariant = { λ p. IsSound (record { items = p.items.items; init = p.init.items; relocations = p.relocations.items; data_end = p.data_end; funcs = p.funcs.items; names = p.names.items }) };
+    ghost invariant = { λ p. IsSound (record { items = p.items.items; init = p.init.items; relocations = p.relocations.items; data_end = p.data_end; funcs = p.funcs.items; names = p.names }) };
 }
 
 impl<'a> Items<'a> {
@@ -37,10 +38,10 @@ impl<'a> Items<'a> {
         relocations: Vec<DataReloc>,
         data_end: u128,
         funcs: Vec<Func>,
-        names: Vec<Name<'a>>,
+        names: Names<'a>,
     ) -> Items<'a>
-        requires { IsSound (record { items = items.items; init = init.items; relocations = relocations.items; data_end = data_end; funcs = funcs.items; names = names.items }) }
-        ensures { result ≡ record { items = items.items; init = init.items; relocations = relocations.items; data_end = data_end; funcs = funcs.items; names = names.entry.items } }
+        requires { IsSound (record { items = items.items; init = init.items; relocations = relocations.items; data_end = data_end; funcs = funcs.items; names = names }) }
+        ensures { result ≡ record { items = items.items; init = init.items; relocations = relocations.items; data_end = data_end; funcs = funcs.items; names = names.entry } }
     {
         Items {
             items,
@@ -104,5 +105,13 @@ impl<'a> Items<'a> {
         ensures { result ≡ place_of self.now.items section offset }
     {
         place_in(&self.items, section, offset)
+    }
+
+    /// Where the first symbol of this name stands: the index of its section and its offset there, in bytes; none where no
+    /// symbol has the name, or where that symbol stands in no section that is kept.
+    pub fn find(&self, name: &[u8]) -> Option<(u32, u64)>
+        ensures { result ≡ find_spot self.now.names name.now }
+    {
+        self.names.find(name)
     }
 }

@@ -1,0 +1,56 @@
+-- Units placed one after another from an address on: their words, and the lines of a graph that belong
+-- to them. A whole code is the prologue, with its call of the entry, and then units.
+use Rattle.std.specs.Prelude.{ℕ, IsTrue, List, [], ◌∷◌, ◌++◌, map, Option, Some, None}
+use Rattle.rv_word.specs.Layout.{Profile}
+use Rattle.rv_code.specs.Encode.{code_of}
+use Rattle.cfi_graph.specs.declared.line.GraphLine.{GraphLine}
+use Rattle.cfi_graph.specs.declared.line.GraphLine.TheVariants.{Site, Edge, Call}
+use Rattle.cfi_graph.specs.declared.line.SiteKind.TheVariants as K
+use Rattle.cfi_unit.specs.declared.unit.Unit as U
+use Rattle.cfi_unit.specs.declared.unit.Unit.TheVariants as V
+use Rattle.cfi_unit.specs.Prologue.{OPENING, prologue_instrs}
+use Rattle.cfi_unit.specs.UnitWords.{Fits, after_unit, may_precede, words_of}
+
+-- the words of units, the first of which stands at an address and each next one where the one before
+-- ends
+unfoldable pub code_from : ℕ → List U.Unit → List ℕ
+code_from at [] = []
+code_from at (unit ∷ units) = words_of unit at ++ code_from (after_unit unit at) units
+
+-- each unit may stand where it does
+unfoldable pub AllFit : ℕ → List U.Unit → Type 0
+AllFit at [] = Unit {0}
+AllFit at (unit ∷ units) = Fits unit at × AllFit (after_unit unit at) units
+
+-- and each before the words of those that follow it
+unfoldable pub AllAhead : ℕ → List U.Unit → Type 0
+AllAhead at [] = Unit {0}
+AllAhead at (unit ∷ units) =
+    IsTrue (may_precede unit at (code_from (after_unit unit at) units)) × AllAhead (after_unit unit at) units
+
+-- the line of a unit at an address: an edge, a call or a site
+abbrev pub line_of : ℕ → U.Unit → Option GraphLine
+line_of at (V.Branch op rs1 rs2 target) = Some (Edge at target)
+line_of at (V.Near op rs1 rs2 target) = Some (Edge at target)
+line_of at (V.Jump target) = Some (Edge at target)
+line_of at (V.Call target) = Some (Call at target)
+line_of at (V.Ijump rs1 imm label) = Some (Site at K.Jump label)
+line_of at (V.Icall rs1 imm label) = Some (Site at K.Call label)
+line_of at other = None
+
+abbrev pub with_line : Option GraphLine → List GraphLine → List GraphLine
+with_line None lines = lines
+with_line (Some line) lines = line ∷ lines
+
+-- the lines of units, in the order of their addresses
+unfoldable pub lines_from : ℕ → List U.Unit → List GraphLine
+lines_from at [] = []
+lines_from at (unit ∷ units) = with_line (line_of at unit) (lines_from (after_unit unit at) units)
+
+-- a whole code
+abbrev pub placed_code : Profile → ℕ → List U.Unit → List ℕ
+placed_code p entry units = map code_of (prologue_instrs entry) ++ code_from p.units_from units
+
+-- and its lines: those of classes, the opening's call, those of the units
+abbrev pub placed_lines : Profile → ℕ → List U.Unit → List GraphLine → List GraphLine
+placed_lines p entry units classes = classes ++ (Call OPENING entry ∷ lines_from p.units_from units)

@@ -1,0 +1,7 @@
+use Rattle.std.proofs.Common.{◌≡◌, ◌++◌}
+use Rattle.least.specs.Nearest.{joined}
+use Rattle.obj_items.specs.Outline.{start_item}
+use Rattle.obj_items.proofs.outline.with_starts.Given as goal
+
+abbrev pub invariant-loop-index : goal.invariant-loop-index
+invariant-loop-index l = l.items.items ≡ l.fn.items.items ++ joined (start_item l.section l.k) l.index

@@ -1,0 +1,121 @@
+ghost use Rattle.std.specs.Prelude.{◌≡◌, ◌<◌, ◌++◌, ◌∷◌, [], IfOk, true};
+ghost use Rattle.least.specs.Nearest.{joined};
+ghost use Rattle.obj_input.specs.Input.{is_code, section_count, section_of};
+ghost use Rattle.obj_input.specs.Code.{word_count};
+ghost use Rattle.obj_program.specs.Program.{AreInOrder};
+ghost use Rattle.obj_items.specs.Outline.{end_at, outline, own_word, section_items, start_at, start_item};
+
+use obj_input::{Input, ItemKind, Section};
+use obj_program::{Item, Patch};
+use obj_rules::kind_at;
+use rv_word::NoMemory;
+use std::alloc::Global;
+
+/// The word of the instruction that starts at this word of code: of a pair that of its JALR.
+fn own_word(section: &Section, index: u64) -> u32
+    requires code { is_code section.now ≡ true }
+    requires below { index < word_count section.now }
+    ensures { result ≡ own_word section.now index }
+{
+    let _count = section.word_count();
+    if section.is_pair(index) {
+        section.word(index + 1)
+    } else {
+        section.word(index)
+    }
+}
+
+/// The instruction that starts at this word of code of the section `k`, without what its relocation does.
+fn start_at(section: &Section, k: u32, index: u64) -> Item
+    requires code { is_code section.now ≡ true }
+    requires below { index < word_count section.now }
+    ensures { result ≡ start_at section.now k index }
+{
+    Item {
+        section: k,
+        offset: section.offset_of(index),
+        kind: kind_at(section, index).unwrap_or(ItemKind::Plain),
+        word: own_word(section, index),
+        patch: Patch::Own,
+        target: None,
+        taken: false,
+    }
+}
+
+/// The end of the section `k`.
+fn end_at(section: &Section, k: u32) -> Item
+    ensures { result ≡ end_at section.now k }
+{
+    Item {
+        section: k,
+        offset: section.size(),
+        kind: ItemKind::End,
+        word: 0,
+        patch: Patch::Own,
+        target: None,
+        taken: false,
+    }
+}
+
+/// These places, with what starts at this word of code of the section `k` behind them.
+fn with_start(
+    mut items: Vec<Item>,
+    section: &Section,
+    k: u32,
+    index: u64,
+) -> Result<Vec<Item>, NoMemory>
+    requires code { is_code section.now ≡ true }
+    requires below { index < word_count section.now }
+    ensures { IfOk result (λ v. v.items ≡ items.items ++ start_item section.now k index) }
+{
+    if section.starts_at(index) {
+        items.push(start_at(section, k, index))?;
+    }
+    Ok(items)
+}
+
+/// These places, with the instructions of the section `k`, which is code, behind them.
+fn with_starts(mut items: Vec<Item>, section: &Section, k: u32) -> Result<Vec<Item>, NoMemory>
+    requires { is_code section.now ≡ true }
+    ensures { IfOk result (λ v. v.items ≡ items.items ++ joined (start_item section.now k) (word_count section.now)) }
+{
+    for index in 0..section.word_count() {
+        items = with_start(items, section, k, index)?;
+    }
+    Ok(items)
+}
+
+/// These places, with those of the section `k` behind them.
+fn with_section(items: Vec<Item>, input: &Input, k: u32) -> Result<Vec<Item>, NoMemory>
+    requires { k < section_count input.now }
+    ensures { IfOk result (λ v. v.items ≡ items.items ++ section_items input.now k) }
+{
+    let section = input.section(k);
+    if !section.is_code() {
+        return Ok(items);
+    }
+    let mut items = with_starts(items, section, k)?;
+    items.push(end_at(section, k))?;
+    Ok(items)
+}
+
+/// The places of an input in their order.
+#[tactic(auto, unfolding(crate::specs::Outline::outline))]
+fn outline_of(alloc: Global, input: &Input) -> Result<Vec<Item>, NoMemory>
+    ensures { IfOk result (λ v. v.items ≡ outline input.now) }
+{
+    let mut items = Vec::new(alloc);
+    for k in 0..input.section_count() {
+        items = with_section(items, input, k)?;
+    }
+    Ok(items)
+}
+
+/// The places of an input in their order: of each section of code its instructions and its end.
+pub(crate) fn outline(alloc: Global, input: &Input) -> Result<Vec<Item>, NoMemory>
+    ensures value { IfOk result (λ v. v.items ≡ outline input.now) }
+    ensures order { IfOk result (λ v. AreInOrder v.items) }
+{
+    let items = outline_of(alloc, input)?;
+    Ok(items)
+}
