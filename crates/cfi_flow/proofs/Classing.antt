@@ -88,10 +88,10 @@ module _ (sites : List KeptSite) (sets : List (List ℕ)) (places : ℕ) (are : 
   pub members_there : (classes : List (List ℕ)) → ((a : ℕ) → IsInSome classes a → IsInSome sets a) → All (All (λ (t : ℕ). t < places)) classes
   members_there classes among =
       All-from_get_or (All (λ (t : ℕ). t < places)) classes [] (λ i inside.
-        All-from_get_or (λ (t : ℕ). t < places) (get_or classes i []) 0 (λ k below.
-          let a : ℕ = get_or (get_or classes i []) k 0 in
-          let h = among a (i, Contains-get_or (get_or classes i []) k 0 below) in
-          All-contains (λ (t : ℕ). t < places) (get_or sets h.0 []) a (are.targets_there h.0 [] (list_there sets h.0 a h.1)) h.1))
+      All-from_get_or (λ (t : ℕ). t < places) (get_or classes i []) 0 (λ k below.
+      let a : ℕ = get_or (get_or classes i []) k 0 in
+      let h = among a (i, Contains-get_or (get_or classes i []) k 0 below) in
+      All-contains (λ (t : ℕ). t < places) (get_or sets h.0 []) a (are.targets_there h.0 [] (list_there sets h.0 a h.1)) h.1))
 
   -- the sites and their targets are places
   pub there : (r : RawGraph) → map (with_set sets) sites ≡ r.sites → length r.taken ≡ places → IsThere r
@@ -102,7 +102,7 @@ module _ (sites : List KeptSite) (sets : List (List ℕ)) (places : ℕ) (are : 
     targets = subst (All (λ (s : RawSite). All (λ (t : ℕ). t < length r.taken) s.targets)) is (λ i d inside.
         let below : i < length sites = omega (arith, length-map sites (with_set sets)) in
         rw many (subst (λ (s : RawSite). All (λ (t : ℕ). t < places) s.targets) (sym (get_or-map (with_set sets) sites i no_kept d below))
-          (are.targets_there (get_or sites i no_kept).set [] (are.set_there i no_kept below))));
+        (are.targets_there (get_or sites i no_kept).set [] (are.set_there i no_kept below))));
   }
 
 abbrev site_with_class : RawSite → Option ℕ → Site
@@ -127,6 +127,6 @@ pub closed_by_table : (classes : List (List ℕ)) (places : ℕ) (table : List (
 closed_by_table classes places table is [] there = refl
 closed_by_table classes places table is (s ∷ sites) there =
     let first : by_table table s ≡ with_class classes s =
-        ap (λ (class : Option ℕ). site_with_class s class) (first_is classes places table is s.targets (there 0 s (omega arith))) in
+    ap (λ (class : Option ℕ). site_with_class s class) (first_is classes places table is s.targets (there 0 s (omega arith))) in
     let rest = closed_by_table classes places table is sites (λ k d below. rw add-one at (there (k + 1) d (omega arith))) in
     cc

@@ -58,11 +58,11 @@ position_more p xs i d below =
           let less : j < i = omega (arith, parts.0) in
           let at = ap p (get_or-take i xs j d less) in
           rw e (position_is p (take (i + 1) xs) j d (omega arith)
-            (ap p (get_or-take (i + 1) xs j d (omega arith)) ∙ sym at ∙ parts.1)
-            (λ k before. ap p (get_or-take (i + 1) xs k d (omega arith)) ∙ sym (ap p (get_or-take i xs k d (omega arith))) ∙ parts.2 k before))
+          (ap p (get_or-take (i + 1) xs j d (omega arith)) ∙ sym at ∙ parts.1)
+          (λ k before. ap p (get_or-take (i + 1) xs k d (omega arith)) ∙ sym (ap p (get_or-take i xs k d (omega arith))) ∙ parts.2 k before))
       | inl e ↦
           let fails : (k : ℕ) → k < i → p (get_or xs k d) ≡ false =
-            λ k before. sym (ap p (get_or-take i xs k d before)) ∙ none_fails p (take i xs) d k e (omega arith) in
+          λ k before. sym (ap p (get_or-take i xs k d before)) ∙ none_fails p (take i xs) d k e (omega arith) in
           elim (cases_Bool (p (get_or xs i d))) [
             | inl holds ↦ rw (e, holds) (position_is p (take (i + 1) xs) i d (omega arith)
                 (ap p (get_or-take (i + 1) xs i d (omega arith)) ∙ holds)

@@ -22,9 +22,11 @@ module _ (sites : List KeptSite) (sets : List (List ℕ)) (places : ℕ) (are : 
     set_there = all_with (λ (s : KeptSite). s.set < length sets) sites (kept place kind set) are.set_there there;
     used = λ j below.
         let u = are.used j below in
-        let less : u.0 < length sites = u.1 in
-        (u.0, omega (arith, length-append sites (kept place kind set ∷ [])),
-          ap (λ (s : KeptSite). s.set) (get_or-append sites (kept place kind set ∷ []) no_kept u.0 less) ∙ u.2);
+        let less : u.0 < length sites = u.1 in (
+          u.0,
+          omega (arith, length-append sites (kept place kind set ∷ [])),
+          ap (λ (s : KeptSite). s.set) (get_or-append sites (kept place kind set ∷ []) no_kept u.0 less) ∙ u.2,
+        );
     targets_there = are.targets_there;
   }
 
@@ -42,13 +44,17 @@ module _ (sites : List KeptSite) (sets : List (List ℕ)) (places : ℕ) (are : 
         used = λ j below. elim (cases_lt j (length sets)) [
           | inl less ↦
               let u = are.used j less in
-              let inside : u.0 < length sites = u.1 in
-              (u.0, omega (arith, length-append sites (site ∷ [])),
-                ap (λ (s : KeptSite). s.set) (get_or-append sites (site ∷ []) no_kept u.0 inside) ∙ u.2)
+              let inside : u.0 < length sites = u.1 in (
+                u.0,
+                omega (arith, length-append sites (site ∷ [])),
+                ap (λ (s : KeptSite). s.set) (get_or-append sites (site ∷ []) no_kept u.0 inside) ∙ u.2,
+              )
           | inr last ↦
-              let same : length sets ≡ j = omega arith in
-              (length sites, omega (arith, length-append sites (site ∷ [])),
-                ap (λ (s : KeptSite). s.set) (get_or-append_seam sites site [] no_kept) ∙ same)
+              let same : length sets ≡ j = omega arith in (
+                length sites,
+                omega (arith, length-append sites (site ∷ [])),
+                ap (λ (s : KeptSite). s.set) (get_or-append_seam sites site [] no_kept) ∙ same,
+              )
         ];
         targets_there = all_with (All (λ (t : ℕ). t < places)) sets targets are.targets_there there;
       }
@@ -63,7 +69,7 @@ sites_stay [] sets more there = refl
 sites_stay (s ∷ sites) sets more there =
     let first : s.set < length sets = there 0 s (omega arith) in
     let same : with_set (sets ++ more) s ≡ with_set sets s =
-        ap (λ (targets : List ℕ). site_with s targets) (get_or-append sets more [] s.set first) in
+    ap (λ (targets : List ℕ). site_with s targets) (get_or-append sets more [] s.set first) in
     let rest = sites_stay sites sets more (λ k d below. rw add-one at (there (k + 1) d (omega arith))) in
     cc
 
@@ -74,7 +80,7 @@ view_again sites sets s = map-append (with_set sets) sites (s ∷ [])
 pub view_anew : (sites : List KeptSite) (sets : List (List ℕ)) (place : ℕ) (kind : SiteKind) (targets : List ℕ)
     → All (λ (s : KeptSite). s.set < length sets) sites
     → map (with_set (sets ++ targets ∷ [])) (sites ++ kept place kind (length sets) ∷ [])
-      ≡ map (with_set sets) sites ++ record { place = place; kind = kind; targets = targets } ∷ []
+    ≡ map (with_set sets) sites ++ record { place = place; kind = kind; targets = targets } ∷ []
 view_anew sites sets place kind targets there =
     view_again sites (sets ++ targets ∷ []) (kept place kind (length sets))
     ∙ ap (λ (xs : List RawSite). xs ++ with_set (sets ++ targets ∷ []) (kept place kind (length sets)) ∷ []) (sites_stay sites sets (targets ∷ []) there)

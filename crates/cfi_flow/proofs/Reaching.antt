@@ -14,7 +14,8 @@ use Rattle.obj_program.specs.Program.{AreInOrder, Program, count, is_before, is_
 use Rattle.obj_program.proofs.Ordered.{not_there}
 use Rattle.cfi_flow.specs.Below.{where_below}
 use Rattle.cfi_flow.specs.Drawn.{no_func}
-use Rattle.cfi_flow.specs.Marks.{AreBegun, is_number}
+use Rattle.cfi_flow.specs.Marks.{AreBegun}
+use Rattle.cfi_flow.specs.Policy.{is_number}
 use Rattle.cfi_flow.specs.Sites.{begins}
 use Rattle.cfi_flow.proofs.Finding.{none_fails}
 
@@ -24,7 +25,7 @@ not_at i j section offset before there =
     let parts = and_parts (j.section == section) (j.offset == offset) there in
     not_there i section offset
     (subst (λ (o : ℕ). is_before i section o ≡ true) (eqb-true _ _ parts.1)
-      (subst (λ (s : ℕ). is_before i s j.offset ≡ true) (eqb-true _ _ parts.0) before))
+    (subst (λ (s : ℕ). is_before i s j.offset ≡ true) (eqb-true _ _ parts.0) before))
 
 -- one place alone is at a section and an offset
 pub spot_only : (items : List Item) → AreInOrder items → (section offset k : ℕ) → k < length items

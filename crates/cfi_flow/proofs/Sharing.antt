@@ -38,7 +38,7 @@ any_below p q funcs zero few = refl
 any_below p q funcs (suc n) few =
     let before = any_below p q funcs n (omega arith) in
     let more : list_any (λ f. p f && q f) (take (suc n) funcs) ≡ (list_any (λ f. p f && q f) (take n funcs) || (p (get_or funcs n no_func) && q (get_or funcs n no_func))) =
-        rw (← add-one) (list_any_more (λ f. p f && q f) funcs n no_func (omega arith)) in
+    rw (← add-one) (list_any_more (λ f. p f && q f) funcs n no_func (omega arith)) in
     elim (cases_Bool (p (get_or funcs n no_func))) [
       | inl holds ↦
           rw (holds, list_any-append, before)
@@ -47,7 +47,7 @@ any_below p q funcs (suc n) few =
       | inr fails ↦
           rw (fails, append-nil)
           (before ∙ sym (more ∙ ap (λ (b : Bool). list_any (λ f. p f && q f) (take n funcs) || (b && q (get_or funcs n no_func))) fails
-            ∙ or_false (list_any (λ f. p f && q f) (take n funcs))))
+          ∙ or_false (list_any (λ f. p f && q f) (take n funcs))))
     ]
 
 no_below : (n : ℕ) → where_below (λ j. false) n ≡ []
@@ -60,10 +60,10 @@ pub reached_through : (program : Program) (kind : SiteKind) (k : ℕ)
     → through program (covering program kind (item_of program k)) ≡ reached program kind k
 reached_through program site.Call k =
     below_same _ _ (count program) (λ t below.
-      ap (λ (js : List ℕ). (item_of program t).taken && (is_function program (item_of program t) || is_in_some program js (item_of program t))) (no_below (length program.funcs))
-      ∙ ap (λ (b : Bool). (item_of program t).taken && b) (or_false (is_function program (item_of program t))))
+    ap (λ (js : List ℕ). (item_of program t).taken && (is_function program (item_of program t) || is_in_some program js (item_of program t))) (no_below (length program.funcs))
+    ∙ ap (λ (b : Bool). (item_of program t).taken && b) (or_false (is_function program (item_of program t))))
 reached_through program site.Jump k =
     below_same _ _ (count program) (λ t below.
-      ap (λ (b : Bool). (item_of program t).taken && (is_function program (item_of program t) || b))
-      (any_below (covers (item_of program k)) (covers (item_of program t)) program.funcs (length program.funcs) (omega arith)
-        ∙ ap (list_any (λ f. covers (item_of program k) f && covers (item_of program t) f)) (take-length program.funcs)))
+    ap (λ (b : Bool). (item_of program t).taken && (is_function program (item_of program t) || b))
+    (any_below (covers (item_of program k)) (covers (item_of program t)) program.funcs (length program.funcs) (omega arith)
+    ∙ ap (list_any (λ f. covers (item_of program k) f && covers (item_of program t) f)) (take-length program.funcs)))

@@ -1,17 +1,21 @@
 -- Words of private contracts: what is known of a program's places before its sites are drawn, and sites that share their sets.
-use Rattle.std.specs.Prelude.{◌≡◌, ℕ, ◌<◌, Bool, true, false, ◌==◌, ◌&&◌, ◌||◌, Option, Some, None, List, length, map, slice_index_or}
-use Rattle.std.specs.List.{list_any}
+use Rattle.std.specs.Prelude.{◌≡◌, ℕ, ◌<◌, Bool, true, false, ◌==◌, ◌&&◌, ◌||◌, not, if◌then◌else◌, Option, Some, None, option_and_then, List, length, map, slice_index_or}
+use Rattle.std.specs.List.{list_any, position}
+use Rattle.std.specs.Option.{is_none, is_some}
 use Rattle.obj_input.specs.declared.parts.Func.{Func}
 use Rattle.obj_program.specs.declared.item.Item.{Item}
 use Rattle.obj_program.specs.Program.{Program, count, item_of}
 use Rattle.cfi_graph.specs.declared.line.SiteKind.{SiteKind}
 use Rattle.cfi_graph.specs.declared.line.SiteKind.TheVariants as site
+use Rattle.cfi_graph.specs.declared.policy.PolicyLine.{PolicyLine}
 use Rattle.cfi_flow.specs.declared.draw.Drawing.{Drawing}
 use Rattle.cfi_flow.specs.declared.draw.Shared.{Shared}
 use Rattle.cfi_flow.specs.declared.reach.Reach.{Reach}
 use Rattle.cfi_flow.specs.Below.{where_below}
+use Rattle.cfi_flow.specs.Policy.{misses_target, names_site, place_named, targets_under}
 use Rattle.cfi_flow.specs.Raw.{RawGraph, site_of}
-use Rattle.cfi_flow.specs.Sites.{covers, is_function}
+use Rattle.cfi_flow.specs.Sites.{covers, is_function, site_kind, sites_below}
+use Rattle.cfi_flow.specs.Tables.{entry}
 
 abbrev pub no_func : Func
 no_func = record { section = 0; offset = 0; size = 0 }
@@ -57,3 +61,21 @@ pub record AreShared (program : Program) (drawing : Drawing) : Type 0 where
 abbrev pub Has : Option Shared → List ℕ → ℕ → Type 0
 Has None indexes i = ⊥
 Has (Some s) indexes i = (s.covering.items ≡ indexes) × (s.site ≡ i)
+
+-- a raw graph that is drawn as far as the first places reach
+pub record IsDrawn (program : Program) (lines : List PolicyLine) (k : ℕ) (drawing : Drawing) : Type 0 where
+  pub sites : drawing.raw.sites ≡ sites_below program (targets_under program lines) k
+  pub taken : drawing.raw.taken ≡ map (λ (i : Item). i.taken) program.items
+  pub shared : AreShared program drawing
+
+-- the index of the line that names each site
+abbrev pub line_for : Program → List PolicyLine → ℕ → Option ℕ
+line_for program lines k = position (names_site program k) lines
+
+-- the site that a line may speak of, where a table has the lines before it
+abbrev pub site_if_free : Program → List (Option ℕ) → PolicyLine → ℕ → Option ℕ
+site_if_free program table line k =
+    if is_some (site_kind (item_of program k).kind) && is_none (entry table k) && not (misses_target program line) then Some k else None
+
+abbrev pub free_site : Program → List (Option ℕ) → PolicyLine → Option ℕ
+free_site program table line = option_and_then (site_if_free program table line) (place_named program line.site)

@@ -1,6 +1,8 @@
 pub mod Below
 pub mod Sites
 pub mod Raw
+pub mod Policy
+pub mod Entry
 pub mod Closed
 pub mod Labels
 pub mod Kept

@@ -1,13 +1,9 @@
 -- Words of private contracts: marks of the places at which functions begin.
-use Rattle.std.specs.Prelude.{◌≡◌, ℕ, ◌<◌, Bool, false, ◌==◌, Option, Some, None, List, length, slice_index_or}
+use Rattle.std.specs.Prelude.{◌≡◌, ℕ, ◌<◌, Bool, false, List, length, slice_index_or}
 use Rattle.std.specs.List.{list_any}
 use Rattle.obj_input.specs.declared.parts.Func.{Func}
 use Rattle.obj_program.specs.Program.{Program, count, item_of}
 use Rattle.cfi_flow.specs.Sites.{begins}
-
-abbrev pub is_number : ℕ → Option ℕ → Bool
-is_number k None = false
-is_number k (Some j) = j == k
 
 -- the places at which some of these functions begin
 pub record AreBegun (program : Program) (funcs : List Func) (marks : List Bool) : Type 0 where

@@ -71,8 +71,9 @@ impl Drawing {
         requires place { place < count items.now }
         requires targets { All (λ t. t < count items.now) targets }
         ensures raw { IfOk result (λ d. d.raw ≡ record {
-            sites = self.raw.sites ++ record { place = place; kind = kind; targets = targets } ∷ [];
-            taken = self.raw.taken }) }
+          sites = self.raw.sites ++ record { place = place; kind = kind; targets = targets } ∷ [];
+          taken = self.raw.taken;
+        }) }
         ensures shared { IfOk result (λ d. AreShared items.now d) }
     {
         let raw = self.raw.with_targets(place, kind, targets)?;
@@ -94,8 +95,9 @@ impl Drawing {
         requires place { place < count items.now }
         requires like { like < length self.raw.sites }
         ensures raw { IfOk result (λ d. d.raw ≡ record {
-            sites = self.raw.sites ++ record { place = place; kind = kind; targets = (site_of self.raw like).targets } ∷ [];
-            taken = self.raw.taken }) }
+          sites = self.raw.sites ++ record { place = place; kind = kind; targets = (site_of self.raw like).targets } ∷ [];
+          taken = self.raw.taken;
+        }) }
         ensures shared { IfOk result (λ d. AreShared items.now d) }
     {
         let raw = self.raw.with_those_of(place, kind, like)?;
@@ -120,13 +122,20 @@ impl Drawing {
         requires targets { All (λ t. t < count items.now) targets }
         requires value { targets ≡ through items.now indexes.items }
         ensures raw { IfOk result (λ d. d.raw ≡ record {
-            sites = self.raw.sites ++ record { place = place; kind = kind; targets = targets } ∷ [];
-            taken = self.raw.taken }) }
+          sites = self.raw.sites ++ record { place = place; kind = kind; targets = targets } ∷ [];
+          taken = self.raw.taken;
+        }) }
         ensures shared { IfOk result (λ d. AreShared items.now d) }
     {
         let site = self.raw.sites();
         let drawing = self.with_targets(items, place, kind, targets)?;
-        Ok(drawing.sharing(items, Shared { covering: indexes, site }))
+        Ok(drawing.sharing(
+            items,
+            Shared {
+                covering: indexes,
+                site,
+            },
+        ))
     }
 
     /// The drawing in which a site is the last of its sort.
@@ -164,8 +173,9 @@ impl Drawing {
         requires place { place < count items.now }
         requires reach { IsReach items.now reach.now }
         ensures raw { IfOk result (λ d. d.raw ≡ record {
-            sites = self.raw.sites ++ record { place = place; kind = kind; targets = reached items.now kind place } ∷ [];
-            taken = self.raw.taken }) }
+          sites = self.raw.sites ++ record { place = place; kind = kind; targets = reached items.now kind place } ∷ [];
+          taken = self.raw.taken;
+        }) }
         ensures shared { IfOk result (λ d. AreShared items.now d) }
     {
         let indexes = covering(alloc, items, kind, &items.item(place))?;

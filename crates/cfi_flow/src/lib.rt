@@ -2,17 +2,24 @@
 //! classes that chains of these make, the place where the program is entered, and the labels that it has for itself.
 #![tactic(auto)]
 
-pub use closing::close;
 pub use closed::{Closed, Site};
+pub use closing::close;
+pub use end::FlowEnd;
+pub use graph::raw_graph;
 pub use label::used_labels;
+pub use named::entry_place;
 pub use raw::{Raw, RawSite};
 
 mod below;
-mod closing;
 mod closed;
+mod closing;
 mod draw;
+mod end;
+mod graph;
 mod kind;
 mod label;
+mod named;
+mod policy;
 mod raw;
 mod reach;
 mod table;

@@ -66,8 +66,9 @@ impl Raw {
         requires place { place < length self.taken }
         requires targets { All (λ t. t < length self.taken) targets }
         ensures { IfOk result (λ r. r ≡ record {
-            sites = self.sites ++ record { place = place; kind = kind; targets = targets } ∷ [];
-            taken = self.taken }) }
+          sites = self.sites ++ record { place = place; kind = kind; targets = targets } ∷ [];
+          taken = self.taken;
+        }) }
     {
         let set = self.sets.len();
         self.sets.push(targets)?;
@@ -85,8 +86,9 @@ impl Raw {
         requires place { place < length self.taken }
         requires like { like < length self.sites }
         ensures { IfOk result (λ r. r ≡ record {
-            sites = self.sites ++ record { place = place; kind = kind; targets = (site_of self like).targets } ∷ [];
-            taken = self.taken }) }
+          sites = self.sites ++ record { place = place; kind = kind; targets = (site_of self like).targets } ∷ [];
+          taken = self.taken;
+        }) }
     {
         let set = self.sites[like as usize].set;
         self.sites.push(KeptSite { place, kind, set })?;

@@ -2,7 +2,8 @@ ghost use Rattle.std.specs.Prelude.{◌≡◌, ◌<◌, ◌||◌, ℕ, false, If
 ghost use Rattle.std.specs.List.{All};
 ghost use Rattle.obj_program.specs.Program.{count, item_of};
 ghost use Rattle.cfi_flow.specs.Drawn.{IsReach, covering, is_in_some, is_open, through};
-ghost use Rattle.cfi_flow.specs.Marks.{AreBegun, is_number};
+ghost use Rattle.cfi_flow.specs.Marks.{AreBegun};
+ghost use Rattle.cfi_flow.specs.Policy.{is_number};
 
 use crate::below::where_below;
 use crate::kind::covers;

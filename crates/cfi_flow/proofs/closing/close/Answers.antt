@@ -33,7 +33,7 @@ returns c =
     let many = c.places-places.ensures.value in
     let classes = subst (λ (classes : List (List ℕ)). IsTable (class_with classes) c.places-places.result c.in_ok-class_at.class_at.items) c.as_slice.ensures.value c.in_ok-class_at.ensures in
     let table = subst (λ (m : ℕ). IsTable (class_with c.in_ok-classes.classes.items) m c.as_slice-2.result.now) many
-        (subst (λ (t : List (Option ℕ)). IsTable (class_with c.in_ok-classes.classes.items) c.places-places.result t) (sym c.as_slice-2.ensures.value) classes) in
+    (subst (λ (t : List (Option ℕ)). IsTable (class_with c.in_ok-classes.classes.items) c.places-places.result t) (sym c.as_slice-2.ensures.value) classes) in
     record {
       classes = c.in_ok-classes.ensures.are;
       sites = c.in_ok-sites.ensures

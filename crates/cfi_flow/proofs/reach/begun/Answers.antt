@@ -1,5 +1,5 @@
 use Rattle.std.proofs.Common.{ℕ, false, ◌||◌, Option, get_or, ap, ◌∙◌}
-use Rattle.cfi_flow.specs.Marks.{is_number}
+use Rattle.cfi_flow.specs.Policy.{is_number}
 use Rattle.cfi_flow.proofs.Reaching.{begun_more}
 use Rattle.cfi_flow.proofs.reach.begun.Goals as goal
 

@@ -11,4 +11,4 @@ loop-i-preserved c =
     more_noted has c.args.classes.now c.args.places c.loop-i.i [] c.loop-i.table.items c.note_all.new.table.items c.loop-i-test.true c.loop-i.invariant
     c.note_all.ensures.size
     (λ k. c.note_all.ensures.each k
-      ∙ ap (λ (xs : List ℕ). noted (entry c.loop-i.table.items k) (has k xs) c.loop-i.i) (sym class))
+    ∙ ap (λ (xs : List ℕ). noted (entry c.loop-i.table.items k) (has k xs) c.loop-i.i) (sym class))

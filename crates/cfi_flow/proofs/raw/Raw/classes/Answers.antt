@@ -19,11 +19,11 @@ returns-clause-are c =
     } in
     subst (λ (r : RawGraph). AreClasses (sets_of r.sites) found) c.self.view_is
     (classes_of c.self.inside.sites.items c.self.inside.sets.items _ c.self.invariant found
-      (subst (λ (s : List (List ℕ)). AreClasses s found) c.as_slice.ensures.value are))
+    (subst (λ (s : List (List ℕ)). AreClasses s found) c.as_slice.ensures.value are))
 
 pub returns-clause-there : goal.returns-clause-there
 returns-clause-there c =
     let found = c.in_ok-found.found.items in
     subst (λ (r : RawGraph). All (All (λ (t : ℕ). t < length r.taken)) found) c.self.view_is
     (members_there c.self.inside.sites.items c.self.inside.sets.items _ c.self.invariant found
-      (λ a h. subst (λ (s : List (List ℕ)). IsInSome s a) c.as_slice.ensures.value ((c.in_ok-found.ensures.members a).0 h)))
+    (λ a h. subst (λ (s : List (List ℕ)). IsInSome s a) c.as_slice.ensures.value ((c.in_ok-found.ensures.members a).0 h)))

@@ -20,8 +20,8 @@ returns c =
     let one : RawSite = record { place = c.args.place; kind = c.args.kind; targets = c.args.targets } in
     let set : c.len-set.result ≡ length c.self.inside.sets.items = cc in
     let is : map (with_set c.push.new.self.items) c.push-2.new.self.items ≡ map (with_set c.self.inside.sets.items) c.self.inside.sites.items ++ one ∷ [] =
-        rw (c.in_ok-push-2.ensures.items, c.in_ok-push.ensures.items, set)
-        (view_anew c.self.inside.sites.items c.self.inside.sets.items c.args.place c.args.kind c.args.targets c.self.invariant.set_there) in
+    rw (c.in_ok-push-2.ensures.items, c.in_ok-push.ensures.items, set)
+    (view_anew c.self.inside.sites.items c.self.inside.sets.items c.args.place c.args.kind c.args.targets c.self.invariant.set_there) in
     let first : RawGraph = record { sites = map (with_set c.self.inside.sets.items) c.self.inside.sites.items; taken = c.self.inside.taken.items } in
     let grown : RawGraph → RawGraph = λ r. record { sites = r.sites ++ one ∷ []; taken = r.taken } in
     let with_sites : List RawSite → RawGraph = λ xs. record { sites = xs; taken = c.self.inside.taken.items } in

@@ -12,7 +12,7 @@ invariant_of-self c =
     let like = subst (λ (r : RawGraph). c.args.like < length r.sites) (sym c.self.view_is) c.requires.like in
     let inside : c.args.like < length c.self.inside.sites.items = rw length-map at like in
     let there : c.index.result.now.set < length c.self.inside.sets.items =
-        subst (λ (s : KeptSite). s.set < length c.self.inside.sets.items) (sym c.index.ensures)
-        (c.self.invariant.set_there c.args.like c.index.result.now inside) in
+    subst (λ (s : KeptSite). s.set < length c.self.inside.sets.items) (sym c.index.ensures)
+    (c.self.invariant.set_there c.args.like c.index.result.now inside) in
     rw c.in_ok-push.ensures.items
     (kept_again c.self.inside.sites.items c.self.inside.sets.items _ c.self.invariant c.args.place c.args.kind here c.index.result.now.set there)
