@@ -9,7 +9,8 @@ use Rattle.obj_program.specs.Program.{Program, count, item_of}
 use Rattle.cfi_graph.specs.declared.line.SiteKind.{SiteKind}
 use Rattle.cfi_graph.specs.declared.policy.PolicyLine.{PolicyLine}
 use Rattle.cfi_flow.specs.declared.draw.Drawing.{Drawing}
-use Rattle.cfi_flow.specs.Drawn.{AreShared, IsDrawn, line_for}
+use Rattle.cfi_flow.specs.declared.reach.Reach.{Reach}
+use Rattle.cfi_flow.specs.Drawn.{AreShared, IsDrawn, IsReach, line_for}
 use Rattle.cfi_flow.specs.Policy.{names_site, no_line, targets_by, targets_under, allowed}
 use Rattle.cfi_flow.specs.Raw.{RawGraph}
 use Rattle.cfi_flow.specs.Sites.{RawSite, reached, site_at, site_kind, sites_below}
@@ -55,13 +56,13 @@ drawn_none program lines k drawing drawn is = record {
   shared = drawn.shared;
 }
 
-pub drawn_first : (program : Program) (lines : List PolicyLine) (drawing : Drawing) (raw : RawGraph)
-    → drawing ≡ record { raw = raw; outside = None; inside = None } → raw.sites ≡ [] → raw.taken ≡ map (λ (i : Item). i.taken) program.items
+pub drawn_first : (program : Program) (lines : List PolicyLine) (drawing : Drawing) (raw : RawGraph) (reach : Reach)
+    → drawing ≡ record { raw = raw; reach = reach; outside = None; inside = None } → IsReach program reach → raw.sites ≡ [] → raw.taken ≡ map (λ (i : Item). i.taken) program.items
     → IsDrawn program lines 0 drawing
 unfolding sites_below
-drawn_first program lines drawing raw is none taken =
+drawn_first program lines drawing raw reach is known none taken =
     subst (IsDrawn program lines 0) (sym is) record {
       sites = none;
       taken = taken;
-      shared = record { places = ap length taken ∙ length-map program.items (λ (i : Item). i.taken); outside = tt; inside = tt };
+      shared = record { reach = known; places = ap length taken ∙ length-map program.items (λ (i : Item). i.taken); outside = tt; inside = tt };
     }

@@ -48,6 +48,11 @@ pub record IsClosed (raw : RawGraph) (closed : ClosedGraph) : Type 0 where
   pub sites : closed.sites ≡ map (with_class closed.classes) raw.sites
   pub taken : closed.taken ≡ raw.taken
 
+-- its sites and the members of its classes are places
+pub record IsInside (closed : ClosedGraph) : Type 0 where
+  pub members : All (All (λ t. t < length closed.taken)) closed.classes
+  pub sites : All (λ (s : Site). s.place < length closed.taken) closed.sites
+
 abbrev pub class_at : ClosedGraph → ℕ → Option ℕ
 class_at closed k = class_with closed.classes k
 

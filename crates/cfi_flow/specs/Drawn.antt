@@ -27,9 +27,22 @@ abbrev pub is_jump : SiteKind → Bool
 is_jump site.Call = false
 is_jump site.Jump = true
 
--- the indexes of the functions through which a site of a kind may go to places inside
+-- the taken places at which no function begins
+abbrev pub is_inner : Program → ℕ → Bool
+is_inner program k = (item_of program k).taken && not (is_function program (item_of program k))
+
+abbrev pub inner_places : Program → List ℕ
+inner_places program = where_below (is_inner program) (count program)
+
+abbrev pub has_inner : Program → Func → Bool
+has_inner program f = list_any (λ t. covers (item_of program t) f) (inner_places program)
+
+abbrev pub leads_inside : Program → Item → ℕ → Bool
+leads_inside program from j = covers from (func_of program j) && has_inner program (func_of program j)
+
+-- the indexes of the functions through which a site of a kind may go to such places
 abbrev pub covering : Program → SiteKind → Item → List ℕ
-covering program kind from = where_below (λ j. is_jump kind && covers from (func_of program j)) (length program.funcs)
+covering program kind from = where_below (λ j. is_jump kind && leads_inside program from j) (length program.funcs)
 
 abbrev pub is_in_some : Program → List ℕ → Item → Bool
 is_in_some program indexes to = list_any (λ j. covers to (func_of program j)) indexes
@@ -41,9 +54,10 @@ is_open program indexes t = is_function program (item_of program t) || is_in_som
 abbrev pub through : Program → List ℕ → List ℕ
 through program indexes = where_below (λ t. (item_of program t).taken && is_open program indexes t) (count program)
 
--- the taken places, and of each place whether a function begins there
+-- the taken places, those at which no function begins, and of each place whether a function begins there
 pub record IsReach (program : Program) (reach : Reach) : Type 0 where
   pub taken : reach.taken.items ≡ where_below (λ t. (item_of program t).taken) (count program)
+  pub inner : reach.inner.items ≡ inner_places program
   pub size : length reach.begun.items ≡ count program
   pub begun : (k : ℕ) → k < count program → slice_index_or reach.begun.items k false ≡ is_function program (item_of program k)
 
@@ -53,6 +67,7 @@ IsShared program raw None = Unit {0}
 IsShared program raw (Some s) = (s.site < length raw.sites) × ((site_of raw s.site).targets ≡ through program s.covering.items)
 
 pub record AreShared (program : Program) (drawing : Drawing) : Type 0 where
+  pub reach : IsReach program drawing.reach
   pub places : length drawing.raw.taken ≡ count program
   pub outside : IsShared program drawing.raw drawing.outside
   pub inside : IsShared program drawing.raw drawing.inside

@@ -1,5 +1,5 @@
 ghost use Rattle.std.specs.Prelude.{◌≡◌, ◌<◌, IfSome, Some, [], false, length, slice_get, slice_index_or};
-ghost use Rattle.cfi_flow.specs.Closed.{class_at, class_of};
+ghost use Rattle.cfi_flow.specs.Closed.{IsInside, class_at, class_of};
 ghost use Rattle.cfi_flow.specs.Found.{site_with};
 
 use rv_word::Places;
@@ -67,7 +67,8 @@ impl Closed {
 
     /// How many places the program has.
     pub fn places(&self) -> u64
-        ensures { result ≡ length self.now.taken }
+        ensures value { result ≡ length self.now.taken }
+        ensures inside { IsInside self.now }
     {
         self.taken.len() as u64
     }

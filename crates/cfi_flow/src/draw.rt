@@ -1,12 +1,12 @@
 ghost use Rattle.std.specs.Prelude.{◌≡◌, ◌<◌, ◌++◌, ◌∷◌, [], IfOk, IfSome, None, Some, length};
 ghost use Rattle.std.specs.List.{All};
 ghost use Rattle.obj_program.specs.Program.{count};
-ghost use Rattle.cfi_flow.specs.Drawn.{AreShared, Has, IsReach, IsShared, through};
+ghost use Rattle.cfi_flow.specs.Drawn.{AreShared, Has, IsShared, through};
 ghost use Rattle.cfi_flow.specs.Raw.{site_of};
 ghost use Rattle.cfi_flow.specs.Sites.{reached};
 
 use crate::raw::Raw;
-use crate::reach::{Reach, covering};
+use crate::reach::Reach;
 use cfi_graph::SiteKind;
 use obj_program::Items;
 use rv_word::{NoMemory, Places};
@@ -19,11 +19,12 @@ pub(crate) struct Shared {
     site: u64,
 }
 
-/// A raw graph that is being drawn: its sites so far, the last one that goes inside no function and the last one that
-/// goes inside some.
+/// A raw graph that is being drawn: its sites so far, what is known of the places, the last site that goes inside no
+/// function and the last one that goes inside some.
 #[derive(Drop)]
 pub(crate) struct Drawing {
     pub(crate) raw: Raw,
+    reach: Reach,
     outside: Option<Shared>,
     inside: Option<Shared>,
 }
@@ -40,11 +41,12 @@ fn site_like(shared: &Option<Shared>, indexes: &[u64]) -> Option<u64>
 
 impl Drawing {
     /// The drawing without sites.
-    pub(crate) fn of(raw: Raw) -> Drawing
-        ensures { result ≡ record { raw = raw; outside = None; inside = None } }
+    pub(crate) fn of(raw: Raw, reach: Reach) -> Drawing
+        ensures { result ≡ record { raw = raw; reach = reach; outside = None; inside = None } }
     {
         Drawing {
             raw,
+            reach,
             outside: None,
             inside: None,
         }
@@ -79,6 +81,7 @@ impl Drawing {
         let raw = self.raw.with_targets(place, kind, targets)?;
         Ok(Drawing {
             raw,
+            reach: self.reach,
             outside: self.outside,
             inside: self.inside,
         })
@@ -103,6 +106,7 @@ impl Drawing {
         let raw = self.raw.with_those_of(place, kind, like)?;
         Ok(Drawing {
             raw,
+            reach: self.reach,
             outside: self.outside,
             inside: self.inside,
         })
@@ -148,12 +152,14 @@ impl Drawing {
         if shared.covering.is_empty() {
             Drawing {
                 raw: self.raw,
+                reach: self.reach,
                 outside: Some(shared),
                 inside: self.inside,
             }
         } else {
             Drawing {
                 raw: self.raw,
+                reach: self.reach,
                 outside: self.outside,
                 inside: Some(shared),
             }
@@ -165,24 +171,22 @@ impl Drawing {
         self,
         alloc: Global,
         items: &Items,
-        reach: &Reach,
         place: u64,
         kind: SiteKind,
     ) -> Result<Drawing, NoMemory>
         requires shared { AreShared items.now self }
         requires place { place < count items.now }
-        requires reach { IsReach items.now reach.now }
         ensures raw { IfOk result (λ d. d.raw ≡ record {
           sites = self.raw.sites ++ record { place = place; kind = kind; targets = reached items.now kind place } ∷ [];
           taken = self.raw.taken;
         }) }
         ensures shared { IfOk result (λ d. AreShared items.now d) }
     {
-        let indexes = covering(alloc, items, kind, &items.item(place))?;
+        let indexes = self.reach.covering(alloc, items, kind, &items.item(place))?;
         match self.site_through(items, indexes.as_slice()) {
             Some(like) => self.with_those_of(items, place, kind, like),
             None => {
-                let targets = reach.through(alloc, items, indexes.as_slice())?;
+                let targets = self.reach.through(alloc, items, indexes.as_slice())?;
                 self.with_through(items, place, kind, indexes, targets)
             }
         }

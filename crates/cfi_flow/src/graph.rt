@@ -1,7 +1,7 @@
 ghost use Rattle.std.specs.Prelude.{◌≡◌, ◌+◌, ◌++◌, ◌∷◌, ◌<◌, [], IfOk, MatchResult, map};
 ghost use Rattle.obj_program.specs.declared.item.Item.{Item};
 ghost use Rattle.obj_program.specs.Program.{count};
-ghost use Rattle.cfi_flow.specs.Drawn.{AreShared, IsDrawn, IsReach, line_for};
+ghost use Rattle.cfi_flow.specs.Drawn.{AreShared, IsDrawn, line_for};
 ghost use Rattle.cfi_flow.specs.Policy.{Ends, IsRaw, raw_sites, targets_under};
 ghost use Rattle.cfi_flow.specs.Tables.{IsTable};
 
@@ -10,7 +10,7 @@ use crate::end::FlowEnd;
 use crate::kind::site_kind;
 use crate::policy::{allowed, lines_by_site};
 use crate::raw::Raw;
-use crate::reach::{Reach, reach_of};
+use crate::reach::reach_of;
 use cfi_graph::{Policy, PolicyLine, SiteKind};
 use obj_program::Items;
 use rv_word::NoMemory;
@@ -30,7 +30,6 @@ fn with_site(
     items: &Items,
     lines: &[PolicyLine],
     table: &[Option<u64>],
-    reach: &Reach,
     drawing: Drawing,
     k: u64,
     kind: SiteKind,
@@ -38,7 +37,6 @@ fn with_site(
     requires shared { AreShared items.now drawing }
     requires place { k < count items.now }
     requires table { IsTable (line_for items.now lines.now) (count items.now) table.now }
-    requires reach { IsReach items.now reach.now }
     ensures raw { IfOk result (λ d. d.raw ≡ record {
       sites = drawing.raw.sites ++ record { place = k; kind = kind; targets = targets_under items.now lines.now kind k } ∷ [];
       taken = drawing.raw.taken;
@@ -50,7 +48,7 @@ fn with_site(
             let targets = allowed(alloc, items, &lines[j as usize])?;
             drawing.with_targets(items, k, kind, targets)
         }
-        None => drawing.with_reached(alloc, items, reach, k, kind),
+        None => drawing.with_reached(alloc, items, k, kind),
     }
 }
 
@@ -60,19 +58,17 @@ fn with_place(
     items: &Items,
     lines: &[PolicyLine],
     table: &[Option<u64>],
-    reach: &Reach,
     drawing: Drawing,
     k: u64,
 ) -> Result<Drawing, NoMemory>
     requires drawn { IsDrawn items.now lines.now k drawing }
     requires place { k < count items.now }
     requires table { IsTable (line_for items.now lines.now) (count items.now) table.now }
-    requires reach { IsReach items.now reach.now }
     ensures { IfOk result (λ d. IsDrawn items.now lines.now (k + 1) d) }
 {
     match site_kind(items.item(k).kind) {
         Some(kind) => {
-            let drawing = with_site(alloc, items, lines, table, reach, drawing, k, kind)?;
+            let drawing = with_site(alloc, items, lines, table, drawing, k, kind)?;
             Ok(drawing)
         }
         None => Ok(drawing),
@@ -91,9 +87,10 @@ fn drawn(
     ensures taken { IfOk result (λ r. r.taken ≡ map (λ (i : Item). i.taken) items.now.items) }
 {
     let reach = reach_of(alloc, items)?;
-    let mut drawing = Drawing::of(Raw::none(alloc, taken_places(alloc, items)?));
+    let raw = Raw::none(alloc, taken_places(alloc, items)?);
+    let mut drawing = Drawing::of(raw, reach);
     for k in 0..items.count() {
-        drawing = with_place(alloc, items, lines, table, &reach, drawing, k)?;
+        drawing = with_place(alloc, items, lines, table, drawing, k)?;
     }
     Ok(drawing.raw)
 }

@@ -1,21 +1,24 @@
 ghost use Rattle.std.specs.Prelude.{◌≡◌, ◌<◌, ◌||◌, ℕ, false, IfOk, IfSome, length, slice_index_or};
 ghost use Rattle.std.specs.List.{All};
 ghost use Rattle.obj_program.specs.Program.{count, item_of};
-ghost use Rattle.cfi_flow.specs.Drawn.{IsReach, covering, is_in_some, is_open, through};
+ghost use Rattle.cfi_flow.specs.Drawn.{IsReach, covering, has_inner, inner_places, is_in_some, is_inner, is_open, leads_inside, through};
 ghost use Rattle.cfi_flow.specs.Marks.{AreBegun};
 ghost use Rattle.cfi_flow.specs.Policy.{is_number};
 
 use crate::below::where_below;
 use crate::kind::covers;
 use cfi_graph::SiteKind;
+use obj_input::Func;
 use obj_program::{Item, Items};
 use rv_word::{NoMemory, Places};
 use std::alloc::Global;
 
-/// What is known of all places of a program: those that are taken, and of each whether a function begins there.
+/// What is known of all places of a program: those that are taken, those of them at which no function begins, and of each
+/// place whether a function begins there.
 #[derive(Drop)]
 pub(crate) struct Reach {
     taken: Vec<u64>,
+    inner: Vec<u64>,
     begun: Vec<bool>,
 }
 
@@ -55,41 +58,35 @@ fn begun(alloc: Global, items: &Items) -> Result<Vec<bool>, NoMemory>
     Ok(marks)
 }
 
+/// Whether a place is taken though no function begins there.
+fn is_inner(items: &Items, begun: &[bool], k: u64) -> bool
+    requires begun { AreBegun items.now items.now.funcs begun.now }
+    requires place { k < count items.now }
+    ensures { result ≡ is_inner items.now k }
+{
+    items.pointed(k) && !begun[k as usize]
+}
+
+/// The taken places at which no function begins.
+fn inner_places(alloc: Global, items: &Items, begun: &[bool]) -> Result<Vec<u64>, NoMemory>
+    requires { AreBegun items.now items.now.funcs begun.now }
+    ensures { IfOk result (λ v. v.items ≡ inner_places items.now) }
+{
+    where_below(alloc, items.count(), |k| is_inner(items, begun, k))
+}
+
 /// What is known of the places of a program.
 pub(crate) fn reach_of(alloc: Global, items: &Items) -> Result<Reach, NoMemory>
     ensures { IfOk result (λ r. IsReach items.now r) }
 {
     let taken = where_below(alloc, items.count(), |k| items.pointed(k))?;
     let begun = begun(alloc, items)?;
-    Ok(Reach { taken, begun })
-}
-
-/// The indexes of the functions through which a site of a kind may go to places inside.
-fn indexes_covering(
-    alloc: Global,
-    items: &Items,
-    kind: SiteKind,
-    from: &Item,
-) -> Result<Vec<u64>, NoMemory>
-    ensures { IfOk result (λ v. v.items ≡ covering items.now kind from.now) }
-{
-    where_below(alloc, items.funcs(), |j| {
-        kind == SiteKind::Jump && covers(from, items.func(j))
+    let inner = inner_places(alloc, items, begun.as_slice())?;
+    Ok(Reach {
+        taken,
+        inner,
+        begun,
     })
-}
-
-/// The indexes of the functions through which a site of a kind may go to places inside: for a jump those that cover it.
-pub(crate) fn covering(
-    alloc: Global,
-    items: &Items,
-    kind: SiteKind,
-    from: &Item,
-) -> Result<Vec<u64>, NoMemory>
-    ensures value { IfOk result (λ v. v.items ≡ covering items.now kind from.now) }
-    ensures there { IfOk result (λ v. All (λ j. j < length items.now.funcs) v.items) }
-{
-    let indexes = indexes_covering(alloc, items, kind, from)?;
-    Ok(indexes)
 }
 
 /// Whether one of the functions with these indexes covers a place.
@@ -106,6 +103,62 @@ fn is_in_some(items: &Items, indexes: &[u64], to: &Item) -> bool
 }
 
 impl Reach {
+    /// Whether a function covers a taken place at which no function begins.
+    fn has_inner(&self, items: &Items, func: Func) -> bool
+        requires { IsReach items.now self.now }
+        ensures { result ≡ has_inner items.now func }
+    {
+        for t in &self.inner {
+            if covers(&items.item(*t), func) {
+                return true;
+            }
+        }
+        false
+    }
+
+    /// Whether a jump may go through a function to a place at which none begins.
+    fn leads_inside(&self, items: &Items, from: &Item, j: u64) -> bool
+        requires reach { IsReach items.now self.now }
+        requires there { j < length items.now.funcs }
+        ensures { result ≡ leads_inside items.now from.now j }
+    {
+        let func = items.func(j);
+        covers(from, func) && self.has_inner(items, func)
+    }
+
+    /// The indexes of the functions through which a site of a kind may go to places inside.
+    fn indexes_covering(
+        &self,
+        alloc: Global,
+        items: &Items,
+        kind: SiteKind,
+        from: &Item,
+    ) -> Result<Vec<u64>, NoMemory>
+        requires { IsReach items.now self.now }
+        ensures { IfOk result (λ v. v.items ≡ covering items.now kind from.now) }
+    {
+        where_below(alloc, items.funcs(), |j| {
+            kind == SiteKind::Jump && self.leads_inside(items, from, j)
+        })
+    }
+
+    /// The indexes of the functions through which a site of a kind may go to places at which no function begins: for a
+    /// jump those that cover it and such a place.
+    pub(crate) fn covering(
+        &self,
+        alloc: Global,
+        items: &Items,
+        kind: SiteKind,
+        from: &Item,
+    ) -> Result<Vec<u64>, NoMemory>
+        requires { IsReach items.now self.now }
+        ensures value { IfOk result (λ v. v.items ≡ covering items.now kind from.now) }
+        ensures there { IfOk result (λ v. All (λ j. j < length items.now.funcs) v.items) }
+    {
+        let indexes = self.indexes_covering(alloc, items, kind, from)?;
+        Ok(indexes)
+    }
+
     /// Whether a site may go to a taken place, if it may go inside the functions with these indexes.
     fn is_open(&self, items: &Items, indexes: &[u64], t: u64) -> bool
         requires reach { IsReach items.now self.now }

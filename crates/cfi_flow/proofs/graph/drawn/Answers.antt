@@ -5,5 +5,5 @@ use Rattle.cfi_flow.proofs.graph.drawn.Goals as goal
 
 pub loop-k-init : goal.loop-k-init
 loop-k-init c =
-    drawn_first c.args.items.now c.args.lines.now c.of-drawing.result c.none.result c.of-drawing.ensures
-    (ap (λ (r : RawGraph). r.sites) c.none.ensures) (ap (λ (r : RawGraph). r.taken) c.none.ensures ∙ c.in_ok-taken_places.ensures)
+    drawn_first c.args.items.now c.args.lines.now c.of-drawing.result c.none-raw.result c.in_ok-reach.reach c.of-drawing.ensures c.in_ok-reach.ensures
+    (ap (λ (r : RawGraph). r.sites) c.none-raw.ensures) (ap (λ (r : RawGraph). r.taken) c.none-raw.ensures ∙ c.in_ok-taken_places.ensures)

@@ -1,7 +1,7 @@
 use Rattle.std.proofs.Common.{ℕ, ◌<◌, length, sym, subst}
 use Rattle.std.specs.List.{All}
 use Rattle.cfi_flow.proofs.Listing.{below_all}
-use Rattle.cfi_flow.proofs.reach.covering.Goals as goal
+use Rattle.cfi_flow.proofs.reach.Reach.covering.Goals as goal
 
 pub returns-clause-there : goal.returns-clause-there
 returns-clause-there c =
