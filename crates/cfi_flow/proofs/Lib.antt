@@ -1,0 +1,11 @@
+pub mod Laws
+pub mod Listing
+pub mod Rising
+mod Keeping
+mod Finding
+mod Classing
+mod Sharing
+mod Reaching
+mod Judged
+mod Stepping
+mod Rows

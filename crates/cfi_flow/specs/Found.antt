@@ -1,0 +1,25 @@
+-- Words of private contracts: the tables by which classes and sites are found at a place.
+use Rattle.std.specs.Prelude.{ℕ, ◌<◌, ◌==◌, Option, None, List, [], ◌∷◌}
+use Rattle.std.specs.List.{All, position}
+use Rattle.cfi_flow.specs.declared.closed.Site.{Site}
+use Rattle.cfi_flow.specs.Closed.{class_with}
+use Rattle.cfi_flow.specs.Sites.{RawSite}
+use Rattle.cfi_flow.specs.Tables.{IsTable, entry}
+
+abbrev pub site_with : List Site → ℕ → Option ℕ
+site_with sites k = position (λ (s : Site). s.place == k) sites
+
+pub record AreFound (classes : List (List ℕ)) (sites : List Site) (places : ℕ) (class_at site_at : List (Option ℕ)) : Type 0 where
+  pub members_there : All (All (λ t. t < places)) classes
+  pub sites_there : All (λ (s : Site). s.place < places) sites
+  pub class_table : IsTable (class_with classes) places class_at
+  pub site_table : IsTable (site_with sites) places site_at
+
+-- what a table has for the first of some places
+abbrev pub first_entry : List (Option ℕ) → List ℕ → Option ℕ
+first_entry table [] = None
+first_entry table (t ∷ targets) = entry table t
+
+-- a site with what a table has for its targets
+abbrev pub by_table : List (Option ℕ) → RawSite → Site
+by_table table s = record { place = s.place; class = first_entry table s.targets }

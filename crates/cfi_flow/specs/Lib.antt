@@ -1,0 +1,12 @@
+pub mod Below
+pub mod Sites
+pub mod Raw
+pub mod Policy
+pub mod Entry
+pub mod Closed
+pub mod Labels
+pub mod Kept
+pub mod Marks
+pub mod Drawn
+pub mod Tables
+pub mod Found

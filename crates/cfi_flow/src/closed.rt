@@ -1,0 +1,116 @@
+ghost use Rattle.std.specs.Prelude.{◌≡◌, ◌<◌, IfSome, Some, [], false, length, slice_get, slice_index_or};
+ghost use Rattle.cfi_flow.specs.Closed.{IsInside, class_at, class_of};
+ghost use Rattle.cfi_flow.specs.Found.{site_with};
+
+use rv_word::Places;
+use std::marker::Model;
+
+/// A site in the closed graph: its place, and the index of its class; without targets it has none.
+#[derive(Clone, Copy)]
+pub struct Site {
+    pub place: u64,
+    pub class: Option<u64>,
+}
+
+/// The closed graph of a program.
+#[derive(Drop)]
+pub struct Closed {
+    pub(crate) classes: Vec<Places>,
+    pub(crate) sites: Vec<Site>,
+    pub(crate) taken: Vec<bool>,
+    pub(crate) class_at: Vec<Option<u64>>,
+    pub(crate) site_at: Vec<Option<u64>>,
+}
+
+impl Model for Closed {
+    ghost use Rattle.std.specs.Prelude.{length};
+    ghost use Rattle.cfi_flow.specs.Closed.{ClosedGraph};
+    ghost use Rattle.cfi_flow.specs.Found.{AreFound};
+
+    ghost Value = { ClosedGraph };
+
+    ghost view = { λ c. record { classes = c.classes.items; sites = c.sites.items; taken = c.taken.items } };
+
+    ghost invariant = { λ c. AreFound c.classes.items c.sites.items (length c.taken.items) c.class_at.items c.site_at.items };
+}
+
+impl Closed {
+    /// How many classes there are.
+    pub fn classes(&self) -> u64
+        ensures { result ≡ length self.now.classes }
+    {
+        self.classes.len() as u64
+    }
+
+    /// The class with this index by its places, rising; classes stand in the order of their least members.
+    pub fn class(&self, k: u64) -> &Places
+        requires { k < length self.now.classes }
+        ensures { result.now ≡ slice_index_or self.now.classes k [] }
+    {
+        &self.classes[k as usize]
+    }
+
+    /// How many sites there are.
+    pub fn sites(&self) -> u64
+        ensures { result ≡ length self.now.sites }
+    {
+        self.sites.len() as u64
+    }
+
+    /// The site with this index; sites stand in the order of their places.
+    pub fn site(&self, k: u64) -> Site
+        requires { k < length self.now.sites }
+        ensures { slice_get self.now.sites k ≡ Some result }
+    {
+        self.sites[k as usize]
+    }
+
+    /// How many places the program has.
+    pub fn places(&self) -> u64
+        ensures value { result ≡ length self.now.taken }
+        ensures inside { IsInside self.now }
+    {
+        self.taken.len() as u64
+    }
+
+    /// Whether a relocation takes the address of the instruction at this place.
+    pub fn taken(&self, place: u64) -> bool
+        requires { place < length self.now.taken }
+        ensures { result ≡ slice_index_or self.now.taken place false }
+    {
+        self.taken[place as usize]
+    }
+
+    /// The index of the class that has this place, if one has it.
+    pub fn class_at(&self, place: u64) -> Option<u64>
+        ensures { result ≡ class_at self.now place }
+    {
+        if place < self.places() {
+            self.class_at[place as usize]
+        } else {
+            None
+        }
+    }
+
+    /// The index of the site at this place.
+    fn site_at(&self, place: u64) -> Option<u64>
+        ensures value { result ≡ site_with self.now.sites place }
+        ensures below { IfSome result (λ k. k < length self.now.sites) }
+    {
+        if place < self.places() {
+            self.site_at[place as usize]
+        } else {
+            None
+        }
+    }
+
+    /// The index of the class of the site at this place. None: the site has no targets, or there is no site.
+    pub fn class_of(&self, place: u64) -> Option<u64>
+        ensures { result ≡ class_of self.now place }
+    {
+        match self.site_at(place) {
+            Some(k) => self.site(k).class,
+            None => None,
+        }
+    }
+}

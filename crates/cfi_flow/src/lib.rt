@@ -1,0 +1,25 @@
+//! The flow of a program: its sites with the places that each may go to, by the program itself or by a policy, the
+//! classes that chains of these make, the place where the program is entered, and the labels that it has for itself.
+#![tactic(auto)]
+
+pub use closed::{Closed, Site};
+pub use closing::close;
+pub use end::FlowEnd;
+pub use graph::raw_graph;
+pub use label::used_labels;
+pub use named::entry_place;
+pub use raw::{Raw, RawSite};
+
+mod below;
+mod closed;
+mod closing;
+mod draw;
+mod end;
+mod graph;
+mod kind;
+mod label;
+mod named;
+mod policy;
+mod raw;
+mod reach;
+mod table;

@@ -1,0 +1,56 @@
+ghost use Rattle.std.specs.Prelude.{◌≡◌, ◌==◌, ◌<◌, ℕ, IfOk, length, None};
+ghost use Rattle.std.specs.List.{All};
+ghost use Rattle.cfi_flow.specs.Closed.{class_with, has};
+ghost use Rattle.cfi_flow.specs.Tables.{IsTable, entry, noted};
+
+use rv_word::{NoMemory, Places};
+use std::alloc::Global;
+
+/// A table of this many places at which nothing is noted.
+pub(crate) fn blank(alloc: Global, places: u64) -> Result<Vec<Option<u64>>, NoMemory>
+    ensures { IfOk result (λ v. IsTable (λ k. None) places v.items) }
+{
+    let mut table = Vec::new(alloc);
+    for _k in 0..places {
+        table.push(None)?;
+    }
+    Ok(table)
+}
+
+/// Notes a number for a place, if none is noted there.
+pub(crate) fn note(table: &mut Vec<Option<u64>>, place: u64, n: u64)
+    requires { place < length table.old.items }
+    ensures size { length table.new.items ≡ length table.old.items }
+    ensures each { (k : ℕ) → entry table.new.items k ≡ noted (entry table.old.items k) (place == k) n }
+{
+    if table[place as usize].is_none() {
+        table[place as usize] = Some(n);
+    }
+}
+
+/// Notes a number for each of these places at which none is noted.
+fn note_all(table: &mut Vec<Option<u64>>, places: &[u64], n: u64)
+    requires { All (λ t. t < length table.old.items) places.now }
+    ensures size { length table.new.items ≡ length table.old.items }
+    ensures each { (k : ℕ) → entry table.new.items k ≡ noted (entry table.old.items k) (has k places.now) n }
+{
+    for place in places {
+        note(table, *place, n);
+    }
+}
+
+/// The table of the classes that have the places.
+pub(crate) fn table_of(
+    alloc: Global,
+    places: u64,
+    classes: &[Places],
+) -> Result<Vec<Option<u64>>, NoMemory>
+    requires { All (All (λ t. t < places)) classes.now }
+    ensures { IfOk result (λ v. IsTable (class_with classes.now) places v.items) }
+{
+    let mut table = blank(alloc, places)?;
+    for i in 0..classes.len() {
+        note_all(&mut table, classes[i].as_slice(), i as u64);
+    }
+    Ok(table)
+}
