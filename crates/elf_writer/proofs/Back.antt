@@ -27,7 +27,7 @@ headers_stand name at (e ∷ es) (suc k) below =
     let step : length (header_bytes name (up8 at) e.heading) + 64 * k ≡ 64 * suc k = omega (arith, length-header name (up8 at) e.heading) in
     stands_at step (stands_within (stands_second (header_bytes name (up8 at) e.heading) (headers_from (name + length e.name + 1) (up8 at + length e.content) es)) s)
 
-length-headers : (name at : ℕ) (es : List Entry) → length (headers_from name at es) ≡ 64 * length es
+pub length-headers : (name at : ℕ) (es : List Entry) → length (headers_from name at es) ≡ 64 * length es
 unfolding headers_from
 length-headers name at [] = refl
 length-headers name at (e ∷ es) =

@@ -19,7 +19,7 @@ use Rattle.elf_writer.specs.Tables.{null_symbol, relocation_entry_bytes, relocat
 use Rattle.elf_writer.specs.Right.{AreObjectParts, IsReloc, no_reloc, no_relocations, no_symbol}
 use Rattle.elf_writer.specs.Holds.{null_entry}
 use Rattle.elf_writer.proofs.Stands.{StandsAt, name_stands, stands_at, stands_first, stands_room, stands_second, stands_within}
-use Rattle.elf_writer.proofs.Fields.{SymbolHasRoom, length-relocation, length-symbol, relocation_read, symbol_of_part, symbol_read}
+use Rattle.elf_writer.proofs.Fields.{SymbolHasRoom, length-relocation, length-symbol, length-symbols, relocation_read, symbol_of_part, symbol_read}
 use Rattle.elf_writer.proofs.Back.{stands_is, string_read}
 use Rattle.elf_writer.proofs.Indexes.{small}
 use Rattle.elf_writer.proofs.Reading.{file, names_found, only_tables, relocations_are, shnum_is, symbol_bytes_are, symbol_names_are, table_found}
@@ -33,18 +33,6 @@ symbols_stand name (x ∷ ss) zero below = stands_first (symbol_bytes name x) (s
 symbols_stand name (x ∷ ss) (suc k) below =
     let step : length (symbol_bytes name x) + 24 * k ≡ 24 * suc k = omega (arith, length-symbol name x) in
     stands_at step (stands_within (stands_second (symbol_bytes name x) (symbols_from (name + length x.name + 1) ss)) (symbols_stand (name + length x.name + 1) ss k (omega arith)))
-
-length-symbols_from : (name : ℕ) (ss : List SymbolPart) → length (symbols_from name ss) ≡ 24 * length ss
-unfolding symbols_from
-length-symbols_from name [] = refl
-length-symbols_from name (x ∷ ss) =
-    length-append (symbol_bytes name x) (symbols_from (name + length x.name + 1) ss)
-    ∙ omega (arith, length-symbol name x, length-symbols_from (name + length x.name + 1) ss)
-
-pub length-symbols : (ss : List SymbolPart) → length (symbols_bytes ss) ≡ 24 * (length ss + 1)
-unfolding symbols_bytes
-length-symbols ss =
-    length-append (symbol_bytes 0 null_symbol) (symbols_from 1 ss) ∙ omega (arith, length-symbol 0 null_symbol, length-symbols_from 1 ss)
 
 null_read : (ss : List SymbolPart) → symbol_in (symbols_bytes ss) 0 ≡ null_entry
 unfolding symbols_bytes

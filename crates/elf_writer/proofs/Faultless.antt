@@ -25,12 +25,12 @@ use Rattle.elf_writer.specs.Parts.{ObjectParts, symbol_names as part_names}
 use Rattle.elf_writer.specs.Tables.{relocations_bytes}
 use Rattle.elf_writer.specs.Object.{entries_of, section_count, symbol_index}
 use Rattle.elf_writer.specs.Right.{AreObjectParts, is_kept_part, no_reloc, no_relocations, no_section, no_symbol}
-use Rattle.elf_writer.proofs.Fields.{IsElfHeader, symbol_of_part}
+use Rattle.elf_writer.proofs.Fields.{IsElfHeader, length-symbols, symbol_of_part}
 use Rattle.elf_writer.proofs.Back.{table_room}
 use Rattle.elf_writer.proofs.Found.{Found, elf_is, first_dropped, is_kept_entry, names_are_there}
 use Rattle.elf_writer.proofs.Indexes.{all_of, are_clean, are_entries, are_whole, length-all}
 use Rattle.elf_writer.proofs.Reading.{each_index, file, kinds_of, names_found, no_symbols_before, none_before, null_is, own_found, section_found, shnum_is, symbol_table_is, symbols_found, table_found}
-use Rattle.elf_writer.proofs.Entries.{empty_name, length-relocations, length-symbols, name_read, reloc_count, reloc_read, relocations_cases, symbol_count_is, symbol_is}
+use Rattle.elf_writer.proofs.Entries.{empty_name, length-relocations, name_read, reloc_count, reloc_read, relocations_cases, symbol_count_is, symbol_is}
 
 -- a file that begins with an ELF header begins with its mark
 starts_elf : (flags at sections : ℕ) (rest : List ℕ) → starts_with nat_eq (elf_header flags at sections ++ rest) ident ≡ true

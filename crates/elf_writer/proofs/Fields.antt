@@ -1,5 +1,5 @@
 -- Numbers in a row are read as they were written: headers, symbols and relocations.
-use Rattle.std.proofs.Common.{◌≡◌, ℕ, ◌+◌, ◌*◌, ◌/◌, ◌%◌, ◌^◌, ◌<◌, FitsSigned, pos, negsuc, ℤ, List, [], ◌∷◌, length, drop, get_or, slice_index, refl, sym, ap, ◌∙◌, arith, add-zero, lit<}
+use Rattle.std.proofs.Common.{◌≡◌, ℕ, ◌+◌, ◌*◌, ◌/◌, ◌%◌, ◌^◌, ◌<◌, FitsSigned, pos, negsuc, ℤ, List, [], ◌∷◌, length, length-append, drop, get_or, slice_index, refl, sym, ap, ◌∙◌, arith, add-zero, lit<}
 use Rattle.std.specs.Int.{cast_unsigned, w64}
 use Rattle.std.proofs.lemmas.Int.{to_z-of_z}
 use Rattle.std.proofs.lemmas.List.{get_or-drop}
@@ -15,7 +15,7 @@ use Rattle.elf_writer.specs.declared.heading.Heading.{Heading}
 use Rattle.elf_writer.specs.Numbers.{number_bytes, numbers}
 use Rattle.elf_writer.specs.Header.{elf_header, elf_numbers, header_bytes, header_of, section_numbers}
 use Rattle.elf_writer.specs.Parts.{SymbolPart}
-use Rattle.elf_writer.specs.Tables.{relocation_entry_bytes, relocation_numbers, symbol_bytes, symbol_numbers}
+use Rattle.elf_writer.specs.Tables.{null_symbol, relocation_entry_bytes, relocation_numbers, symbol_bytes, symbol_numbers, symbols_bytes, symbols_from}
 use Rattle.elf_writer.specs.Right.{IsReloc}
 use Rattle.elf_writer.proofs.Stands.{StandsAt, stands_at, stands_first, stands_number, stands_second, stands_within}
 
@@ -135,6 +135,19 @@ symbol_read table number name p f s =
 pub length-symbol : (name : ℕ) (p : SymbolPart) → length (symbol_bytes name p) ≡ 24
 unfolding symbol_numbers
 length-symbol name p = refl
+
+-- how many bytes symbols have
+length-symbols_from : (name : ℕ) (ss : List SymbolPart) → length (symbols_from name ss) ≡ 24 * length ss
+unfolding symbols_from
+length-symbols_from name [] = refl
+length-symbols_from name (x ∷ ss) =
+    length-append (symbol_bytes name x) (symbols_from (name + length x.name + 1) ss)
+    ∙ omega (arith, length-symbol name x, length-symbols_from (name + length x.name + 1) ss)
+
+pub length-symbols : (ss : List SymbolPart) → length (symbols_bytes ss) ≡ 24 * (length ss + 1)
+unfolding symbols_bytes
+length-symbols ss =
+    length-append (symbol_bytes 0 null_symbol) (symbols_from 1 ss) ∙ omega (arith, length-symbol 0 null_symbol, length-symbols_from 1 ss)
 
 -- a number that stands for a signed one has room
 unsigned_fits : (z : ℤ) → FitsSigned w64 z → cast_unsigned w64 z < 2 ^ 64

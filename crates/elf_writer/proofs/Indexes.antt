@@ -2,14 +2,15 @@
 use Rattle.std.proofs.Common.{◌≡◌, ◌==◌, ℕ, ◌+◌, ◌-◌, ◌^◌, ◌<◌, true, List, [], ◌∷◌, ◌++◌, length, get_or, map, inl, inr, refl, sym, ap, subst, ◌∙◌, arith, codes, length-append, add-zero, lit<}
 use Rattle.std.proofs.lemmas.Bool.{cases_Bool, cases_lt, eqb-true}
 use Rattle.std.proofs.lemmas.List.{get_or-append-add, get_or-map, get_or_append_left, length-map}
+use Rattle.std.proofs.lemmas.List.Sums.{count_by-le-length}
 use Rattle.elf_object.specs.Header.{are_flags_taken}
 use Rattle.elf_writer.specs.Names.{is_clean, string_table}
 use Rattle.elf_writer.specs.File.{Entry, all_names, file_of, strings_entry, with_names}
 use Rattle.elf_writer.specs.Parts.{ObjectParts}
-use Rattle.elf_writer.specs.Object.{entries_of, object_bytes, relocations_entry, section_entry, symbol_index, symbol_names_entry, symbols_entry}
+use Rattle.elf_writer.specs.Object.{first_global, is_local, entries_of, object_bytes, relocations_entry, section_entry, symbol_index, symbol_names_entry, symbols_entry}
 use Rattle.elf_writer.specs.Right.{AreObjectParts, no_relocations, no_section}
 use Rattle.elf_writer.proofs.Stands.{stands_room}
-use Rattle.elf_writer.proofs.Fields.{HasRoom}
+use Rattle.elf_writer.proofs.Fields.{HasRoom, length-symbols}
 use Rattle.elf_writer.proofs.Back.{AreEntries, content_there, no_entry, own_entry}
 use Rattle.elf_writer.proofs.Closing.{length-entries}
 use Rattle.elf_writer.proofs.Found.{IsWhole}
@@ -129,20 +130,20 @@ module _ (parts : ObjectParts) (right : AreObjectParts parts) where
   small = right.small
 
   -- the bytes of each section have room in the file
-  content_small : (k : ℕ) (e : Entry) → k < length (all_of parts) → get_or (all_of parts) k no_entry ≡ e → length e.content < 2 ^ 64
+  content_small : (k : ℕ) (e : Entry) → k < length (all_of parts) → get_or (all_of parts) k no_entry ≡ e → length e.content < 2 ^ 32
   content_small k e below is =
       let long : length (get_or (all_of parts) k no_entry).content ≡ length e.content = ap (λ (x : Entry). length x.content) is in
       omega (arith, stands_room (content_there parts.flags (all_of parts) k below), small, long)
 
   -- values of tables have room
-  table_room : (kind size link info align entry : ℕ) → kind < 2 ^ 32 → size < 2 ^ 64 → link < 2 ^ 32 → info < 2 ^ 32 → align < 2 ^ 64 → entry < 2 ^ 64
+  table_room : (kind size link info align entry : ℕ) → kind < 2 ^ 32 → size < 2 ^ 32 → link < 2 ^ 32 → info < 2 ^ 32 → align < 2 ^ 64 → entry < 2 ^ 64
       → HasRoom 0 0 (record { kind = kind; flags = 0; size = size; link = link; info = info; align = align; entry_size = entry })
   table_room kind size link info align entry p q t u v w = record {
     name_fits = lit< tt;
     kind_fits = p;
     flags_fit = lit< tt;
     offset_fits = lit< tt;
-    size_fits = q;
+    size_fits = omega (arith, q);
     link_fits = t;
     info_fits = u;
     align_fits = v;
@@ -168,8 +169,9 @@ module _ (parts : ObjectParts) (right : AreObjectParts parts) where
       table_room 4 _ (symbol_index parts) (get_or parts.relocations j no_relocations).target 8 24 (lit< tt)
       (content_small (length parts.sections + j) _ place (at_table parts j below)) (omega (arith, right.few))
       (omega (arith, (right.relocations j below).target_to, right.few)) (lit< tt) (lit< tt))
-      (table_room 2 _ (symbol_index parts + 1) 1 8 24 (lit< tt)
-      (content_small (length parts.sections + length parts.relocations) _ (omega (arith, length-all parts)) (at_symbols parts)) (omega (arith, right.few)) (lit< tt) (lit< tt) (lit< tt))
+      (let small_table = content_small (length parts.sections + length parts.relocations) _ (omega (arith, length-all parts)) (at_symbols parts) in
+      table_room 2 _ (symbol_index parts + 1) (first_global parts.symbols) 8 24 (lit< tt) small_table (omega (arith, right.few))
+      (omega (arith, small_table, length-symbols parts.symbols, count_by-le-length is_local parts.symbols)) (lit< tt) (lit< tt))
       (table_room 3 _ 0 0 1 0 (lit< tt)
       (content_small (length parts.sections + length parts.relocations + 1) _ (omega (arith, length-all parts)) (at_names parts)) (lit< tt) (lit< tt) (lit< tt) (lit< tt))
       (table_room 3 _ 0 0 1 0 (lit< tt)

@@ -10,3 +10,5 @@ pub mod Reading
 pub mod Entries
 pub mod Faultless
 pub mod Holding
+pub mod Sizes
+pub mod Rows

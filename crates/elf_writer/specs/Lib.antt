@@ -8,4 +8,5 @@ pub mod Tables
 pub mod Object
 pub mod Right
 pub mod Holds
+pub mod Size
 pub mod Writing

@@ -1,5 +1,6 @@
 -- The file of an object: its sections, the relocations, the symbol table, and the names of symbols and of sections.
-use Rattle.std.specs.Prelude.{ℕ, ◌+◌, List, [], ◌∷◌, ◌++◌, length, map, codes}
+use Rattle.std.specs.Prelude.{ℕ, Bool, ◌==◌, count_by, ◌+◌, List, [], ◌∷◌, ◌++◌, length, map, codes}
+use Rattle.elf_tables.specs.Symbol.{symbol_binding}
 use Rattle.elf_writer.specs.declared.heading.Heading.{Heading}
 use Rattle.elf_writer.specs.Names.{string_table}
 use Rattle.elf_writer.specs.File.{Entry, entry, strings_entry, with_names, file_of}
@@ -21,10 +22,18 @@ abbrev pub relocations_entry : ℕ → RelocationsPart → Entry
 relocations_entry symbols r =
     entry r.name (entries_heading 4 (length (relocations_bytes r.entries)) symbols r.target) (relocations_bytes r.entries)
 
+-- a local symbol: STB_LOCAL
+abbrev pub is_local : SymbolPart → Bool
+is_local s = symbol_binding s.info == 0
+
+-- the number of the first symbol that is not local, where the local ones stand first
+abbrev pub first_global : List SymbolPart → ℕ
+first_global ss = count_by is_local ss + 1
+
 -- SHT_SYMTAB, the section with this index, whose names are the next section
 abbrev pub symbols_entry : ℕ → List SymbolPart → Entry
 symbols_entry index ss =
-    entry (codes ".symtab") (entries_heading 2 (length (symbols_bytes ss)) (index + 1) 1) (symbols_bytes ss)
+    entry (codes ".symtab") (entries_heading 2 (length (symbols_bytes ss)) (index + 1) (first_global ss)) (symbols_bytes ss)
 
 abbrev pub symbol_names_entry : List SymbolPart → Entry
 symbol_names_entry ss = strings_entry (codes ".strtab") (string_table (symbol_names ss))

@@ -6,14 +6,15 @@ ghost use Rattle.elf_writer.specs.Header.{elf_numbers, null_heading, section_num
 use crate::number::{Number, half, long, word};
 use elf_tables::constants::{EM_RISCV, ET_REL, SECTION_HEADER_SIZE};
 
-/// What a section's header says beside where its name and its bytes stand, by the names of its fields.
+/// What a section's header says beside where its name and its bytes stand, by the names of its fields. Of
+/// `sh_info` the lowest 32 bits are written.
 #[derive(Clone, Copy)]
 pub(crate) struct Heading {
     pub(crate) kind: u32,
     pub(crate) flags: u64,
     pub(crate) size: u64,
     pub(crate) link: u32,
-    pub(crate) info: u32,
+    pub(crate) info: u64,
     pub(crate) align: u64,
     pub(crate) entry_size: u64,
 }
@@ -47,7 +48,7 @@ pub(crate) fn section_numbers(name: u64, offset: u64, heading: &Heading) -> [Num
         long(offset), // sh_offset
         long(heading.size), // sh_size
         word(u64::from(heading.link)), // sh_link
-        word(u64::from(heading.info)), // sh_info
+        word(heading.info), // sh_info
         long(heading.align), // sh_addralign
         long(heading.entry_size), // sh_entsize
     ]

@@ -6,6 +6,7 @@ pub use parts::{Parts, Relocations, Section, Symbol};
 pub use write::write_object;
 
 mod heading;
+pub mod laws;
 mod number;
 mod parts;
 mod tables;

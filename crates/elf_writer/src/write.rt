@@ -1,6 +1,6 @@
 ghost use Rattle.std.specs.Prelude.{◌≡◌, ◌<◌, IfOk, OnOk, map, length};
 ghost use Rattle.elf_writer.specs.Parts.{parts_of, relocations_of, section_of, symbol_of};
-ghost use Rattle.elf_writer.specs.Object.{object_bytes, relocations_entry, section_count, section_entry, symbol_index, symbols_entry, symbol_names_entry};
+ghost use Rattle.elf_writer.specs.Object.{first_global, object_bytes, relocations_entry, section_count, section_entry, symbol_index, symbols_entry, symbol_names_entry};
 ghost use Rattle.elf_writer.specs.Right.{AreObjectParts};
 ghost use Rattle.elf_writer.specs.Holds.{Holds};
 ghost use Rattle.elf_writer.specs.Writing.{added, view_of, written};
@@ -9,7 +9,7 @@ use crate::heading::Heading;
 use crate::parts::{Parts, Relocations, Section, Symbol};
 use crate::tables::{relocations_bytes, symbol_tables};
 use crate::writer::{Writer, names_heading};
-use elf_tables::constants::{ENTRY_SIZE, SHT_RELA, SHT_SYMTAB};
+use elf_tables::constants::{ENTRY_SIZE, SHT_RELA, SHT_SYMTAB, STB_LOCAL};
 use rv_word::NoMemory;
 use std::alloc::{AllocError, Global};
 
@@ -95,11 +95,22 @@ fn add_table(
         flags: 0,
         size: content.len() as u64,
         link: symbols,
-        info: table.target,
+        info: u64::from(table.target),
         align: 8,
         entry_size: ENTRY_SIZE,
     };
     writer.add(table.name, &heading, &content)
+}
+
+/// The number of the first symbol that is not local, where the local ones stand first.
+fn first_global(symbols: &[Symbol]) -> u64
+    ensures { result ≡ first_global (map symbol_of symbols.now) }
+{
+    let locals = symbols
+        .iter()
+        .filter(|symbol| symbol.info >> 4 == STB_LOCAL)
+        .count();
+    locals as u64 + 1
 }
 
 /// Adds the symbol table, the section with the index `symbols`, and the names of the symbols.
@@ -118,7 +129,7 @@ fn add_symbols(
         flags: 0,
         size: tables.entries.len() as u64,
         link: index + 1,
-        info: 1,
+        info: first_global(symbols),
         align: 8,
         entry_size: ENTRY_SIZE,
     };
