@@ -1,6 +1,7 @@
 -- Worked rows of the definitions, computed.
-use Rattle.std.proofs.Common.{◌≡◌, ℕ, negsuc, List, [], ◌∷◌, true, false, refl, codes}
+use Rattle.std.proofs.Common.{◌≡◌, ℕ, negsuc, List, [], ◌∷◌, true, false, refl, codes, zero, suc, ◌<◌, ◌≤◌, length, get_or, arith, lit<, lit≤}
 use Rattle.std.specs.List.{flat_map}
+use lib.Count.{ones}
 use Rattle.byteorder.specs.Endian.{little_bytes}
 use Rattle.elf_writer.specs.Layout.{laid_out, place_of, up8}
 use Rattle.elf_writer.specs.Names.{is_clean, name_place, string_table}
@@ -9,8 +10,11 @@ use Rattle.elf_writer.specs.File.{file_of, headers_from, table}
 use Rattle.elf_writer.specs.Parts.{ObjectParts, RelocationsPart, SectionPart, SymbolPart}
 use Rattle.elf_writer.specs.Tables.{relocation_numbers, relocations_bytes, symbol_numbers, symbols_bytes, symbols_from}
 use Rattle.elf_writer.specs.Object.{object_bytes}
-use Rattle.elf_writer.specs.Right.{is_content_kind, is_kept_part}
+use Rattle.elf_writer.specs.Right.{AreObjectParts, IsReloc, IsRightRelocations, IsRightSection, IsRightSymbol, is_content_kind, is_kept_part, no_reloc, no_relocations, no_section, no_symbol}
+use Rattle.elf_writer.specs.Holds.{Holds}
 use Rattle.elf_writer.specs.Size.{size_bound}
+use Rattle.elf_writer.proofs.Holding.{holds}
+use Rattle.elf_writer.proofs.Sizes.{objects_small}
 
 places : (up8 0 ≡ 0) × (up8 1 ≡ 8) × (up8 8 ≡ 8) × (up8 65 ≡ 72)
 places = (refl, refl, refl, refl)
@@ -77,3 +81,64 @@ kept_rows : (is_kept_part text ≡ true) × (is_kept_part (record text { flags =
     × (is_kept_part (record text { name = codes ".eh_frame" }) ≡ false) × (is_content_kind 1 ≡ true) × (is_content_kind 4 ≡ false)
 unfolding text
 kept_rows = (refl, refl, refl, refl, refl, refl)
+
+-- the small object is right, so its file holds it
+right_sections : (k : ℕ) → k < length small_object.sections → IsRightSection (get_or small_object.sections k no_section)
+unfolding small_object text bss ones
+right_sections zero below = record { clean = refl; kind = lit< tt; flags = lit< tt; size = lit< tt; align = lit< tt; taken = refl; right = λ kept. refl; whole = λ there. refl }
+right_sections (suc zero) below = record { clean = refl; kind = lit< tt; flags = lit< tt; size = lit< tt; align = lit< tt; taken = refl; right = λ kept. refl; whole = λ there. absurd (cc) }
+right_sections (suc (suc k)) below = absurd (omega arith)
+
+right_relocs : (k : ℕ) → k < length low_part.entries → IsReloc (get_or low_part.entries k no_reloc)
+unfolding low_part
+right_relocs zero below = record { offset = lit< tt; symbol = lit< tt; kind = lit< tt; addend = record { sfits = lit< tt } }
+right_relocs (suc k) below = absurd (omega arith)
+
+named_relocs : (k : ℕ) → k < length low_part.entries → (get_or low_part.entries k no_reloc).symbol ≤ length small_object.symbols
+unfolding small_object low_part
+named_relocs zero below = lit≤ tt
+named_relocs (suc k) below = absurd (omega arith)
+
+right_tables : (k : ℕ) → k < length small_object.relocations → IsRightRelocations small_object (get_or small_object.relocations k no_relocations)
+unfolding small_object low_part
+right_tables zero below = record { clean = refl; target_from = lit≤ tt; target_to = lit≤ tt; each = right_relocs; named = named_relocs }
+right_tables (suc k) below = absurd (omega arith)
+
+within_bss : (k : ℕ) → local.section ≡ suc k → k < length small_object.sections → is_kept_part (get_or small_object.sections k no_section) ≡ true
+    → local.value ≤ (get_or small_object.sections k no_section).size
+unfolding small_object local text bss
+within_bss zero e below kept = absurd (omega arith)
+within_bss (suc zero) e below kept = lit≤ tt
+within_bss (suc (suc k)) e below kept = absurd (omega arith)
+
+within_text : (k : ℕ) → function.section ≡ suc k → k < length small_object.sections → is_kept_part (get_or small_object.sections k no_section) ≡ true
+    → function.value ≤ (get_or small_object.sections k no_section).size
+unfolding small_object function text
+within_text zero e below kept = lit≤ tt
+within_text (suc k) e below kept = absurd (omega arith)
+
+right_symbols : (k : ℕ) → k < length small_object.symbols → IsRightSymbol small_object (get_or small_object.symbols k no_symbol)
+unfolding small_object local function
+right_symbols zero below = record { clean = refl; info = lit< tt; section = lit< tt; value = lit< tt; size = lit< tt; placed = refl; kind = refl; within = within_bss; aligned = refl }
+right_symbols (suc zero) below = record { clean = refl; info = lit< tt; section = lit< tt; value = lit< tt; size = lit< tt; placed = refl; kind = refl; within = within_text; aligned = refl }
+right_symbols (suc (suc k)) below = absurd (omega arith)
+
+one_table : (i j : ℕ) → i < j → j < length small_object.relocations
+    → (get_or small_object.relocations i no_relocations).target ≡ (get_or small_object.relocations j no_relocations).target → ⊥
+unfolding small_object
+one_table i j less below same = omega arith
+
+right_row : AreObjectParts small_object
+unfolding small_object
+right_row = record {
+  flags = refl;
+  few = lit< tt;
+  small = omega (arith, objects_small small_object, size_row);
+  sections = right_sections;
+  relocations = right_tables;
+  apart = one_table;
+  symbols = right_symbols;
+}
+
+holds_row : Holds small_object (object_bytes small_object)
+holds_row = holds small_object right_row

@@ -1,10 +1,10 @@
 ghost use Rattle.std.specs.Prelude.{◌≡◌, ◌<◌, ◌^◌, IsTrue};
 ghost use Rattle.std.specs.List.{list_all};
 ghost use Rattle.elf_writer.specs.Numbers.{is_number};
-ghost use Rattle.elf_writer.specs.Header.{elf_numbers, null_heading, section_numbers};
+ghost use Rattle.elf_writer.specs.Header.{elf_numbers, names_heading, null_heading, section_numbers};
 
 use crate::number::{Number, half, long, word};
-use elf_tables::constants::{EM_RISCV, ET_REL, SECTION_HEADER_SIZE};
+use elf_tables::constants::{EM_RISCV, ET_REL, SECTION_HEADER_SIZE, SHT_STRTAB};
 
 /// What a section's header says beside where its name and its bytes stand, by the names of its fields. Of
 /// `sh_info` the lowest 32 bits are written.
@@ -31,6 +31,18 @@ pub(crate) fn null_heading() -> Heading
         info: 0,
         align: 0,
         entry_size: 0,
+    }
+}
+
+/// The heading of a table of names with this many bytes.
+pub(crate) fn names_heading(len: usize) -> Heading
+    ensures { result ≡ names_heading len }
+{
+    Heading {
+        kind: SHT_STRTAB,
+        size: len as u64,
+        align: 1,
+        ..null_heading()
     }
 }
 

@@ -34,7 +34,8 @@ pub struct Symbol {
 }
 
 /// What an object is made of: its `e_flags`, its sections, which have the indexes from 1 on, the tables
-/// of relocations, which have the indexes after them, and its symbols, which have the numbers from 1 on.
+/// of relocations, which have the indexes after them, and its symbols, the local ones first, which have the
+/// numbers from 1 on.
 #[derive(Clone, Copy)]
 pub struct Parts<'a> {
     pub flags: u32,

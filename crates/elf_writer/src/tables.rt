@@ -99,7 +99,7 @@ fn relocation_numbers(reloc: Reloc) -> [Number; 3]
 {
     [
         long(reloc.offset), // r_offset
-        long(u64::from(reloc.symbol) * 2u64.pow(32) + u64::from(reloc.kind)), // r_info
+        long((u64::from(reloc.symbol) << 32) + u64::from(reloc.kind)), // r_info
         long(reloc.addend.cast_unsigned()), // r_addend
     ]
 }

@@ -5,16 +5,19 @@ ghost use Rattle.elf_writer.specs.Right.{AreObjectParts};
 ghost use Rattle.elf_writer.specs.Holds.{Holds};
 ghost use Rattle.elf_writer.specs.Writing.{added, view_of, written};
 
-use crate::heading::Heading;
+use crate::heading::{Heading, names_heading};
 use crate::parts::{Parts, Relocations, Section, Symbol};
 use crate::tables::{relocations_bytes, symbol_tables};
-use crate::writer::{Writer, names_heading};
+use crate::writer::Writer;
 use elf_tables::constants::{ENTRY_SIZE, SHT_RELA, SHT_SYMTAB, STB_LOCAL};
 use rv_word::NoMemory;
 use std::alloc::{AllocError, Global};
 
-/// The bytes of a relocatable object with these parts. Of right parts, which `AreObjectParts` says, the
-/// file has no fault, and each section, relocation and symbol is found in it by its number.
+/// The bytes of a relocatable object with these parts: the ELF header, the contents, each at the next
+/// multiple of 8, and the section headers (System V gABI, "Object Files"). There are four sections more
+/// than the parts have: section 0, the symbol table and two tables of names. Of right parts, which
+/// `AreObjectParts` says, the file has no fault, and each section, relocation and symbol is found in it by
+/// its number. The only refusal is want of memory.
 pub fn write_object(alloc: Global, parts: &Parts) -> Result<Vec<u8>, NoMemory>
     requires { section_count (parts_of parts.now) < 0xff00 }
     ensures bytes { IfOk result (λ file. file.items ≡ object_bytes (parts_of parts.now)) }

@@ -1,13 +1,12 @@
 ghost use Rattle.std.specs.Prelude.{◌≡◌, ◌<◌, ◌^◌, ◌++◌, IfOk, OnOk, length, drop};
-ghost use Rattle.elf_writer.specs.Header.{header_bytes, names_heading, null_heading};
+ghost use Rattle.elf_writer.specs.Header.{header_bytes, null_heading};
 ghost use Rattle.elf_writer.specs.File.{entry};
 ghost use Rattle.elf_writer.specs.Layout.{padded};
 ghost use Rattle.elf_writer.specs.Writing.{added, begun, finished, own_names, room, view_of};
 
-use crate::heading::{Heading, elf_numbers, null_heading, section_numbers};
+use crate::heading::{Heading, elf_numbers, names_heading, null_heading, section_numbers};
 use crate::number::{put_numbers, zeros};
 use crate::tables::{no_names, put_name};
-use elf_tables::constants::SHT_STRTAB;
 use std::alloc::{AllocError, Global};
 
 /// How many bytes the ELF header has.
@@ -23,18 +22,6 @@ pub(crate) struct Writer {
     pub(crate) body: Vec<u8>,
     pub(crate) headers: Vec<u8>,
     pub(crate) names: Vec<u8>,
-}
-
-/// The heading of a table of names with this many bytes.
-pub(crate) fn names_heading(len: usize) -> Heading
-    ensures { result ≡ names_heading len }
-{
-    Heading {
-        kind: SHT_STRTAB,
-        size: len as u64,
-        align: 1,
-        ..null_heading()
-    }
 }
 
 /// Appends zeros up to the next multiple of 8.
