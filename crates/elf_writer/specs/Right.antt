@@ -1,11 +1,12 @@
 -- When the parts of an object are right (System V gABI, "Sections", "Symbol Table", "Relocation").
-use Rattle.std.specs.Prelude.{◌≡◌, ℕ, suc, pos, FitsSigned, ◌^◌, ◌%◌, ◌<◌, ◌≤◌, nat_lt, nat_le, Bool, true, false, ◌==◌, ◌&&◌, ◌||◌, not, [], length, get_or, codes}
+use Rattle.std.specs.Prelude.{◌≡◌, ℕ, suc, pos, FitsSigned, ◌^◌, ◌<◌, ◌≤◌, nat_lt, nat_le, Bool, true, false, ◌==◌, ◌&&◌, ◌||◌, not, [], length, get_or, codes}
 use Rattle.std.specs.Int.{w64}
 use Rattle.std.specs.Str.{bytes_eq}
 use Rattle.elf_tables.specs.declared.entry.Reloc.{Reloc}
 use Rattle.elf_tables.specs.declared.header.SectionHeader.{SectionHeader}
 use Rattle.elf_tables.specs.Section.{is_in_file}
 use Rattle.elf_tables.specs.Kept.{is_allocated}
+use Rattle.elf_tables.specs.Symbol.{symbol_type}
 use Rattle.elf_object.specs.Header.{are_flags_taken}
 use Rattle.elf_object.specs.Kind.{is_alignment, is_wrong_kept}
 use Rattle.elf_writer.specs.Names.{is_clean}
@@ -71,7 +72,7 @@ pub record IsRightSymbol (parts : ObjectParts) (s : SymbolPart) : Type 0 where
   pub value : s.value < 2 ^ 64
   pub size : s.size < 2 ^ 64
   pub placed : (nat_lt s.section (section_count parts) || s.section == 0xfff1 || s.section == 0xfff2) ≡ true
-  pub kind : (s.info % 2 ^ 4 == 6 || s.info % 2 ^ 4 == 10) ≡ false
+  pub kind : (symbol_type s.info == 6 || symbol_type s.info == 10) ≡ false
   pub within : (k : ℕ) → s.section ≡ suc k → k < length parts.sections → is_kept_part (get_or parts.sections k no_section) ≡ true
       → s.value ≤ (get_or parts.sections k no_section).size
   pub aligned : (s.section == 0xfff2 && not (is_alignment s.value && nat_le s.value 4096)) ≡ false

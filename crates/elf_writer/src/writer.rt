@@ -1,7 +1,7 @@
 ghost use Rattle.std.specs.Prelude.{◌≡◌, ◌<◌, ◌^◌, ◌++◌, IfOk, OnOk, length, drop};
 ghost use Rattle.elf_writer.specs.Header.{header_bytes, null_heading};
 ghost use Rattle.elf_writer.specs.File.{entry};
-ghost use Rattle.elf_writer.specs.Layout.{padded};
+ghost use Rattle.elf_writer.specs.Layout.{padded, up8};
 ghost use Rattle.elf_writer.specs.Writing.{added, begun, finished, own_names, room, view_of};
 
 use crate::heading::{Heading, elf_numbers, names_heading, null_heading, section_numbers};
@@ -45,6 +45,22 @@ fn put_header(
         headers,
         &section_numbers(name as u64, offset as u64, heading),
     )
+}
+
+/// Appends a section's bytes and its header. Its name begins at `name`.
+fn put_section(
+    body: &mut Vec<u8>,
+    headers: &mut Vec<u8>,
+    name: usize,
+    heading: &Heading,
+    content: &[u8],
+) -> Result<(), AllocError>
+    ensures body { OnOk result (body.new.items ≡ padded body.old.items ++ content.now) }
+    ensures headers { OnOk result (headers.new.items ≡ headers.old.items ++ header_bytes name (up8 (length body.old.items)) heading.now) }
+{
+    pad(body)?;
+    put_header(headers, name, body.len(), heading)?;
+    body.extend_from_slice(content)
 }
 
 /// Section headers with that of section 0 alone.
@@ -92,14 +108,8 @@ impl Writer {
     ) -> Result<(), AllocError>
         ensures { OnOk result (view_of self.new ≡ added (view_of self.old) (entry name.now heading.now content.now)) }
     {
-        pad(&mut self.body)?;
-        put_header(
-            &mut self.headers,
-            self.names.len(),
-            self.body.len(),
-            heading,
-        )?;
-        self.body.extend_from_slice(content)?;
+        let at = self.names.len();
+        put_section(&mut self.body, &mut self.headers, at, heading, content)?;
         put_name(&mut self.names, name)
     }
 
@@ -109,14 +119,8 @@ impl Writer {
     {
         let at = self.names.len();
         put_name(&mut self.names, NAMES)?;
-        pad(&mut self.body)?;
-        put_header(
-            &mut self.headers,
-            at,
-            self.body.len(),
-            &names_heading(self.names.len()),
-        )?;
-        self.body.extend_from_slice(&self.names)
+        let heading = names_heading(self.names.len());
+        put_section(&mut self.body, &mut self.headers, at, &heading, &self.names)
     }
 
     /// The file, with this many sections beside section 0.
