@@ -1,0 +1,76 @@
+-- The units that are written for a program at a map: at each place its unit, behind a gate word where the place is a class's target.
+use Rattle.std.specs.Prelude.{ℕ, ◌+◌, Bool, true, false, Option, Some, None, unwrap_or, List, [], ◌∷◌}
+use Rattle.rv_instr.specs.declared.instr.BranchOp.{BranchOp}
+use Rattle.rv_instr.specs.declared.instr.BranchOp.TheVariants.{Beq, Bne, Blt, Bge, Bltu, Bgeu}
+use Rattle.rv_instr.specs.declared.instr.Instr.{Instr}
+use Rattle.rv_instr.specs.declared.instr.Instr.TheVariants as I
+use Rattle.obj_input.specs.declared.item_kind.ItemKind.{ItemKind}
+use Rattle.obj_input.specs.declared.item_kind.ItemKind.TheVariants as is
+use Rattle.obj_program.specs.declared.item.Item.{Item}
+use Rattle.obj_program.specs.AtMap.{instr_at}
+use Rattle.cfi_flow.specs.GraphAtMap.{Layout, gate, gate_to}
+use Rattle.cfi_flow.specs.LabelOf.{label_at, site_label}
+use Rattle.cfi_flow.specs.Placement.{is_long, words_from}
+use Rattle.cfi_unit.specs.declared.unit.Unit as U
+use Rattle.cfi_unit.specs.declared.unit.Unit.TheVariants as V
+use Rattle.cfi_unit.specs.declared.unit.SystemOp.TheVariants as S
+
+-- a program at a map with what is chosen for it: which branches are long, and the labels of all classes
+pub record Choice : Type 0 where
+  pub layout : Layout
+  pub long : List Bool
+  pub labels : List ℕ
+
+-- the instruction of a place at the map
+abbrev pub instr_of : Choice → ℕ → Instr
+instr_of m k = unwrap_or (instr_at m.layout.program m.layout.gates (words_from m.layout.closed.classes 0 m.layout.gates) k) I.Ebreak
+
+-- the condition that holds where another does not
+abbrev pub inverse : BranchOp → BranchOp
+inverse Beq = Bne
+inverse Bne = Beq
+inverse Blt = Bge
+inverse Bge = Blt
+inverse Bltu = Bgeu
+inverse Bgeu = Bltu
+
+-- a long branch leads over a jump where its condition does not hold
+abbrev pub branch_of : Bool → BranchOp → ℕ → ℕ → ℕ → U.Unit
+branch_of true op rs1 rs2 target = V.Branch (inverse op) rs1 rs2 target
+branch_of false op rs1 rs2 target = V.Near op rs1 rs2 target
+
+-- the unit of an instruction of a kind, with its target's gate and its class's label
+abbrev pub unit_of : ItemKind → Instr → Bool → ℕ → ℕ → U.Unit
+unit_of is.Gate (I.Upper op rd imm) long target label = V.Gate imm
+unit_of is.Plain instr long target label = V.Plain instr
+unit_of is.Store (I.Store op rs1 rs2 imm) long target label = V.Store op rs1 rs2 imm
+unit_of is.System I.Ecall long target label = V.System S.Ecall
+unit_of is.System I.Ebreak long target label = V.System S.Ebreak
+unit_of is.Branch (I.Branch op rs1 rs2 imm) long target label = branch_of long op rs1 rs2 target
+unit_of is.Jump instr long target label = V.Jump target
+unit_of is.Call instr long target label = V.Call target
+unit_of is.Return instr long target label = V.Return
+unit_of is.Ijump (I.Jalr rd rs1 imm) long target label = V.Ijump rs1 imm label
+unit_of is.Icall (I.Jalr rd rs1 imm) long target label = V.Icall rs1 imm label
+unit_of kind instr long target label = V.Stop
+
+-- the unit of a place
+abbrev pub unit_for : Choice → ℕ → Item → U.Unit
+unit_for m k item =
+    unit_of item.kind (instr_of m k) (is_long m.long k) (gate_to m.layout item.target) (site_label m.labels m.layout.closed k)
+
+abbrev pub with_gate : Option ℕ → List U.Unit → List U.Unit
+with_gate None units = units
+with_gate (Some label) units = V.Gate label ∷ units
+
+-- the units of places from index k on
+unfoldable pub units_from : Choice → ℕ → List Item → List U.Unit
+units_from m k [] = []
+units_from m k (item ∷ items) = with_gate (label_at m.labels m.layout.closed.classes k) (unit_for m k item ∷ units_from m (k + 1) items)
+
+abbrev pub units : Choice → List U.Unit
+units m = units_from m 0 m.layout.program.items
+
+-- the gate where the program is entered
+abbrev pub entry_gate : Choice → ℕ
+entry_gate m = gate m.layout m.layout.entry

@@ -1,0 +1,2 @@
+//! Hardened code of a program: the units that stand at its places, and that they meet the verifier's rules.
+#![tactic(auto)]
