@@ -1,12 +1,10 @@
 -- Lines of a policy: which are wrong, told by a table of the lines before them.
-use Rattle.std.proofs.Common.{◌≡◌, ◌==◌, ℕ, ◌+◌, ◌<◌, ◌≤◌, Bool, true, false, not, ◌&&◌, ◌||◌, if◌then◌else◌, List, length, get_or, take, Option, Some, None, option_and_then, inl, inr, refl, sym, ap, subst, ◌∙◌, arith}
-use Rattle.std.specs.List.{position}
+use Rattle.std.proofs.Common.{◌≡◌, ◌==◌, ℕ, ◌+◌, ◌<◌, Bool, true, false, not, ◌&&◌, ◌||◌, if◌then◌else◌, List, length, take, Option, Some, None, option_and_then, inl, inr, refl, sym, ap, subst, ◌∙◌}
 use Rattle.std.specs.Option.{is_none, is_some}
 use Rattle.std.proofs.lemmas.Bool.{cases_Bool}
 use Rattle.std.proofs.lemmas.List.Quantifiers.{position-Some}
 use Rattle.least.specs.First.{first_below}
-use Rattle.least.proofs.Firsts.{first_found, first_passed}
-use Rattle.obj_program.specs.declared.item.Item.{Item}
+use Rattle.least.proofs.Firsts.{first_found}
 use Rattle.obj_program.specs.Program.{Program, count, is_end, item_of, is_spot, no_item, place_of}
 use Rattle.cfi_graph.specs.declared.policy.PlaceName.{PlaceName}
 use Rattle.cfi_graph.specs.declared.policy.PolicyLine.{PolicyLine}

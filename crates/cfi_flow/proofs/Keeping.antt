@@ -1,5 +1,5 @@
 -- Sites that are kept with the indexes of their sets, as they grow by one.
-use Rattle.std.proofs.Common.{◌≡◌, ℕ, ◌+◌, ◌<◌, ◌≤◌, List, [], ◌∷◌, ◌++◌, length, map, get_or, inl, inr, refl, sym, ap, subst, ◌∙◌, arith, add-one}
+use Rattle.std.proofs.Common.{◌≡◌, ℕ, ◌+◌, ◌<◌, List, [], ◌∷◌, ◌++◌, length, map, inl, inr, refl, ap, ◌∙◌, arith, add-one}
 use Rattle.std.specs.List.{All}
 use Rattle.std.proofs.Math.ListN.{get_or-append}
 use Rattle.std.proofs.Math.Seq.{get_or-append_seam}
@@ -7,7 +7,7 @@ use Rattle.std.proofs.lemmas.Bool.{cases_lt}
 use Rattle.std.proofs.lemmas.List.{length-append, map-append}
 use Rattle.cfi_graph.specs.declared.line.SiteKind.{SiteKind}
 use Rattle.cfi_flow.specs.declared.raw.KeptSite.{KeptSite}
-use Rattle.cfi_flow.specs.Kept.{AreKept, no_kept, set_at, with_set}
+use Rattle.cfi_flow.specs.Kept.{AreKept, no_kept, with_set}
 use Rattle.cfi_flow.specs.Sites.{RawSite}
 use Rattle.cfi_flow.proofs.Listing.{all_with}
 

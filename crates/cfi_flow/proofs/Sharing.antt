@@ -1,5 +1,5 @@
 -- Sites that share their sets: what a site reaches is told by the functions that cover it.
-use Rattle.std.proofs.Common.{◌≡◌, ℕ, zero, suc, ◌+◌, ◌<◌, ◌≤◌, Bool, true, false, ◌&&◌, ◌||◌, if◌then◌else◌, List, [], ◌∷◌, ◌++◌, length, get_or, take, Option, Some, None, inl, inr, refl, sym, ap, ◌∙◌, arith, add-one}
+use Rattle.std.proofs.Common.{◌≡◌, ℕ, zero, suc, ◌<◌, ◌≤◌, Bool, true, false, ◌&&◌, ◌||◌, List, [], ◌∷◌, ◌++◌, length, get_or, take, Option, Some, None, inl, inr, refl, sym, ap, ◌∙◌, arith, add-one}
 use Rattle.std.specs.List.{list_any}
 use Rattle.std.proofs.Math.ListN.{get_or-append}
 use Rattle.std.proofs.Math.Seq.{take-length}
@@ -14,8 +14,8 @@ use Rattle.cfi_graph.specs.declared.line.SiteKind.TheVariants as site
 use Rattle.cfi_flow.specs.declared.draw.Shared.{Shared}
 use Rattle.cfi_flow.specs.Below.{where_below}
 use Rattle.cfi_flow.specs.Drawn.{IsShared, covering, has_inner, inner_places, is_in_some, is_inner, no_func, through}
-use Rattle.cfi_flow.specs.Raw.{RawGraph, no_site, site_of}
-use Rattle.cfi_flow.specs.Sites.{RawSite, are_in_one, covers, is_function, reached, reaches}
+use Rattle.cfi_flow.specs.Raw.{no_site}
+use Rattle.cfi_flow.specs.Sites.{RawSite, are_in_one, covers, is_function, reached}
 use Rattle.cfi_flow.proofs.Listing.{below_same}
 use Rattle.cfi_flow.proofs.Rising.{below_found}
 
@@ -85,8 +85,8 @@ inner_enough program t below inner from f = elim (cases_Bool (covers (item_of pr
 -- where no function begins, only the functions that have such places count
 one_open : (program : Program) (from : Item) (t : ℕ) → t < count program
     → ((item_of program t).taken && (is_function program (item_of program t)
-        || list_any (λ f. (covers from f && has_inner program f) && covers (item_of program t) f) program.funcs))
-      ≡ ((item_of program t).taken && (is_function program (item_of program t) || are_in_one program from (item_of program t)))
+    || list_any (λ f. (covers from f && has_inner program f) && covers (item_of program t) f) program.funcs))
+    ≡ ((item_of program t).taken && (is_function program (item_of program t) || are_in_one program from (item_of program t)))
 one_open program from t below = elim (cases_Bool (item_of program t).taken) [
   | inl taken ↦ elim (cases_Bool (is_function program (item_of program t))) [
     | inl begins ↦ rw begins refl
@@ -94,7 +94,7 @@ one_open program from t below = elim (cases_Bool (item_of program t).taken) [
         let inner : is_inner program t ≡ true = rw (taken, none) refl in
         ap (λ (b : Bool). (item_of program t).taken && (is_function program (item_of program t) || b))
         (any_same (λ (f : Func). (covers from f && has_inner program f) && covers (item_of program t) f)
-          (λ (f : Func). covers from f && covers (item_of program t) f) (inner_enough program t below inner from) program.funcs)
+        (λ (f : Func). covers from f && covers (item_of program t) f) (inner_enough program t below inner from) program.funcs)
   ]
   | inr free ↦ rw free refl
 ]
@@ -108,7 +108,7 @@ reached_through program site.Call k =
     ∙ ap (λ (b : Bool). (item_of program t).taken && b) (or_false (is_function program (item_of program t))))
 reached_through program site.Jump k =
     below_same _ _ (count program) (λ t below.
-      ap (λ (b : Bool). (item_of program t).taken && (is_function program (item_of program t) || b))
-      (any_below (λ (f : Func). covers (item_of program k) f && has_inner program f) (covers (item_of program t)) program.funcs (length program.funcs) (omega arith)
-        ∙ ap (list_any (λ (f : Func). (covers (item_of program k) f && has_inner program f) && covers (item_of program t) f)) (take-length program.funcs))
-      ∙ one_open program (item_of program k) t below)
+    ap (λ (b : Bool). (item_of program t).taken && (is_function program (item_of program t) || b))
+    (any_below (λ (f : Func). covers (item_of program k) f && has_inner program f) (covers (item_of program t)) program.funcs (length program.funcs) (omega arith)
+    ∙ ap (list_any (λ (f : Func). (covers (item_of program k) f && has_inner program f) && covers (item_of program t) f)) (take-length program.funcs))
+    ∙ one_open program (item_of program k) t below)

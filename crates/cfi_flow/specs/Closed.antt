@@ -1,5 +1,5 @@
 -- The closed graph: each site reaches the whole class of its targets.
-use Rattle.std.specs.Prelude.{◌≡◌, ◌↔◌, ℕ, ◌<◌, Bool, ◌==◌, Option, Some, None, option_and_then, List, [], ◌∷◌, length, map, slice_index}
+use Rattle.std.specs.Prelude.{◌≡◌, ◌↔◌, ℕ, ◌<◌, Bool, ◌==◌, Option, Some, None, List, [], ◌∷◌, length, map, slice_index}
 use Rattle.std.specs.List.{All, AllPairs, find, list_any, position}
 use Rattle.std.specs.List.Sorted.{IsStrictlyIncreasing}
 use Rattle.cfi_class.specs.Classes.{AreInOne, IsIn, IsInSome, Joined}

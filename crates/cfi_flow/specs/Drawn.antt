@@ -1,5 +1,5 @@
 -- Words of private contracts: what is known of a program's places before its sites are drawn, and sites that share their sets.
-use Rattle.std.specs.Prelude.{◌≡◌, ℕ, ◌<◌, Bool, true, false, ◌==◌, ◌&&◌, ◌||◌, not, if◌then◌else◌, Option, Some, None, option_and_then, List, length, map, slice_index_or}
+use Rattle.std.specs.Prelude.{◌≡◌, ℕ, ◌<◌, Bool, true, false, ◌&&◌, ◌||◌, not, if◌then◌else◌, Option, Some, None, option_and_then, List, length, map, slice_index_or}
 use Rattle.std.specs.List.{list_any, position}
 use Rattle.std.specs.Option.{is_none, is_some}
 use Rattle.obj_input.specs.declared.parts.Func.{Func}

@@ -1,5 +1,5 @@
 -- Words of private contracts: tables that have, for each place, the number of the first that is noted there.
-use Rattle.std.specs.Prelude.{◌≡◌, ℕ, ◌<◌, Bool, ◌==◌, if◌then◌else◌, Option, Some, None, List, length, slice_index_or}
+use Rattle.std.specs.Prelude.{◌≡◌, ℕ, ◌<◌, Bool, if◌then◌else◌, Option, Some, None, List, length, slice_index_or}
 use Rattle.std.specs.Option.{option_or}
 
 abbrev pub entry : List (Option ℕ) → ℕ → Option ℕ

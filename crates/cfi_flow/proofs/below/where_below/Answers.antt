@@ -1,7 +1,7 @@
 use Rattle.cfi_flow.proofs.Listing.{below_begins, below_member, below_passed}
 use Rattle.cfi_flow.proofs.below.where_below.Goals as goal
 use Rattle.cfi_flow.proofs.below.where_below.Goals.{then-test+in_ok-push, else-test}
-use Rattle.std.proofs.Common.{sym, ◌∙◌, arith}
+use Rattle.std.proofs.Common.{sym, ◌∙◌}
 
 pub loop-k-init : goal.loop-k-init
 loop-k-init g c = λ p computes. below_begins p _ c.new-found.ensures.items

@@ -1,4 +1,4 @@
-use Rattle.std.proofs.Common.{ℕ, [], ◌≡◌, get_or, sym, subst, ap, ◌∙◌, List}
+use Rattle.std.proofs.Common.{ℕ, [], sym, ap, ◌∙◌, List}
 use Rattle.std.proofs.lemmas.List.{get_or_default}
 use Rattle.cfi_flow.specs.Closed.{has}
 use Rattle.cfi_flow.specs.Tables.{entry, noted}

@@ -1,5 +1,5 @@
-use Rattle.std.proofs.Common.{[], ◌≡◌, ◌∙◌, None, sym, ap, subst, arith, ◌≤◌, length}
-use Rattle.cfi_flow.specs.Closed.{ClosedGraph, class_at, class_with, has}
+use Rattle.std.proofs.Common.{[], ◌∙◌, sym, ap, subst, ◌≤◌, length}
+use Rattle.cfi_flow.specs.Closed.{ClosedGraph, class_at, has}
 use Rattle.cfi_flow.proofs.Finding.{has_not, position_none}
 use Rattle.cfi_flow.proofs.closed.Closed.class_at.Goals as goal
 

@@ -1,4 +1,4 @@
-use Rattle.std.proofs.Common.{ℕ, ◌==◌, ◌≡◌, ◌∙◌, Option, sym, ap}
+use Rattle.std.proofs.Common.{◌==◌, ◌∙◌, sym, ap}
 use Rattle.cfi_flow.specs.declared.closed.Site.{Site}
 use Rattle.cfi_flow.specs.Closed.{class_if}
 use Rattle.cfi_flow.proofs.Finding.{find_none, find_some}

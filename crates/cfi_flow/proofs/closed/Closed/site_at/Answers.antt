@@ -1,4 +1,4 @@
-use Rattle.std.proofs.Common.{ℕ, ◌==◌, ◌≡◌, ◌∙◌, None, sym, ap, subst, arith, ◌≤◌, length}
+use Rattle.std.proofs.Common.{◌==◌, ◌∙◌, None, sym, ap, subst, arith, ◌≤◌, length}
 use Rattle.std.proofs.lemmas.Bool.{ne_eqb}
 use Rattle.cfi_flow.specs.declared.closed.Site.{Site}
 use Rattle.cfi_flow.specs.Closed.{ClosedGraph}

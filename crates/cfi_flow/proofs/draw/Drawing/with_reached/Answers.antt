@@ -1,5 +1,4 @@
-use Rattle.std.proofs.Common.{ℕ, ◌≡◌, ◌++◌, ◌∷◌, [], List, IfOk, subst, ap, sym, ◌∙◌}
-use Rattle.obj_program.specs.declared.item.Item.{Item}
+use Rattle.std.proofs.Common.{ℕ, ◌≡◌, ◌++◌, ◌∷◌, [], List, IfOk, subst, ap, ◌∙◌}
 use Rattle.cfi_flow.specs.declared.draw.Drawing.{Drawing}
 use Rattle.cfi_flow.specs.Drawn.{covering, through}
 use Rattle.cfi_flow.proofs.Sharing.{reached_through}

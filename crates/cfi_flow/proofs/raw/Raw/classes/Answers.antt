@@ -1,4 +1,4 @@
-use Rattle.std.proofs.Common.{ℕ, ◌<◌, List, length, subst, ap, sym, ◌∙◌}
+use Rattle.std.proofs.Common.{ℕ, ◌<◌, List, length, subst}
 use Rattle.std.specs.List.{All}
 use Rattle.cfi_class.specs.Classes.{IsInSome}
 use Rattle.cfi_flow.specs.Closed.{AreClasses, sets_of}

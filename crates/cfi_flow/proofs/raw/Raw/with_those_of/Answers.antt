@@ -1,7 +1,6 @@
-use Rattle.std.proofs.Common.{length, map, ◌<◌, ◌≡◌, sym, subst, ◌∙◌}
+use Rattle.std.proofs.Common.{length, ◌<◌, sym, subst}
 use Rattle.std.proofs.lemmas.List.{length-map}
 use Rattle.cfi_flow.specs.declared.raw.KeptSite.{KeptSite}
-use Rattle.cfi_flow.specs.Kept.{with_set}
 use Rattle.cfi_flow.specs.Raw.{RawGraph}
 use Rattle.cfi_flow.proofs.Keeping.{kept_again}
 use Rattle.cfi_flow.proofs.raw.Raw.with_those_of.Goals as goal

@@ -1,4 +1,4 @@
-use Rattle.std.proofs.Common.{ℕ, ◌≡◌, ◌<◌, ◌≤◌, List, length, true, false, ◌||◌, ◌+◌, get_or, take, sym, subst, ap, ◌∙◌}
+use Rattle.std.proofs.Common.{ℕ, ◌≡◌, ◌<◌, ◌≤◌, List, length, true, false, ◌+◌, get_or, take, sym, subst, ap, ◌∙◌}
 use Rattle.std.specs.List.{All, list_any}
 use Rattle.std.proofs.lemmas.Bool.{or_from}
 use Rattle.std.proofs.lemmas.List.{take_all}
@@ -21,7 +21,7 @@ returns-then-covers c =
     let test = λ (t : ℕ). covers (item_of c.args.items.now t) c.args.func in
     let here = ap (λ (i : Item). covers i c.args.func) (sym c.item.ensures) ∙ sym c.covers.ensures ∙ c.if-covers.true in
     sym (subst (λ (xs : List ℕ). list_any test xs ≡ true) (c.deref-t-items.ensures.value ∙ c.requires.inner)
-      (list_any_at test c.deref-t-items.result.now c.loop-t.t-index 0 c.loop-t-test.true here))
+    (list_any_at test c.deref-t-items.result.now c.loop-t.t-index 0 c.loop-t-test.true here))
 
 pub loop-t-preserved : goal.loop-t-preserved
 loop-t-preserved c =
@@ -30,7 +30,7 @@ loop-t-preserved c =
     let so_far = subst (λ (xs : List ℕ). list_any test (take c.loop-t.t-index xs) ≡ false) (sym c.deref-t-items.ensures.value) c.loop-t.invariant in
     subst (λ (xs : List ℕ). list_any test (take (c.loop-t.t-index + 1) xs) ≡ false) c.deref-t-items.ensures.value
     (list_any_more test c.deref-t-items.result.now c.loop-t.t-index 0 c.loop-t-test.true
-      ∙ or_from (list_any test (take c.loop-t.t-index c.deref-t-items.result.now)) (test (get_or c.deref-t-items.result.now c.loop-t.t-index 0)) so_far here)
+    ∙ or_from (list_any test (take c.loop-t.t-index c.deref-t-items.result.now)) (test (get_or c.deref-t-items.result.now c.loop-t.t-index 0)) so_far here)
 
 pub returns : goal.returns
 returns c =
