@@ -10,3 +10,8 @@ pub mod Marks
 pub mod Drawn
 pub mod Tables
 pub mod Found
+pub mod Placement
+pub mod LegalMap
+pub mod LabelOf
+pub mod GraphAtMap
+pub mod Reached

@@ -1,6 +1,5 @@
 -- What is known of the bytes of an object without a fault.
 use Rattle.std.proofs.Common.{◌≡◌, ℕ, ◌+◌, ◌<◌, ◌≤◌, nat_lt, ◌&&◌, List, [], length, drop, true, false, is_none, unwrap_or, Option, Some, None, option_map, inl, inr, refl, arith}
-use Rattle.std.specs.Option.{option_or}
 use Rattle.std.proofs.lemmas.Bool.{cases_Bool, or_parts, ltb-false}
 use Rattle.std.proofs.lemmas.List.{length-take-le, length-drop}
 use Rattle.rv_word.proofs.Cases.{neither, unmapped}

@@ -1,7 +1,7 @@
 use crate::item_rows;
 use crate::object::object;
 use elf_object::Object;
-use obj_input::{Block, Definition, Func, Input, Section, Sort, Use};
+use obj_input::{Block, Definition, Func, Input, Name, Names, Section, Sort, Use};
 use obj_items::{fault_in, input_of};
 use obj_rules::ItemFault;
 use sample_programs::{is_told_as, rows};
@@ -160,4 +160,50 @@ fn is_input(alloc: Global) -> bool {
 #[test]
 fn tells_what_symbols_stand_for(rt: HostRuntime) {
     assert!(rt; is_input(rt.alloc()));
+}
+
+/// The names of the object's symbols from number 1 on, and what they stand for.
+fn names<'a>(alloc: Global, object: &Object<'a>) -> Option<Names<'a>> {
+    let mut names = Vec::new(alloc);
+    for k in 1..object.symbols() {
+        let definition = *DEFINITIONS.get(k as usize - 1)?;
+        let name = Name::of(object.symbol_name_rest(k), definition);
+        if names.push(name).is_err() {
+            return None;
+        }
+    }
+    match Names::of(alloc, names) {
+        Ok(names) => Some(names),
+        Err(_) => None,
+    }
+}
+
+/// Whether the first symbol of a name is found, and none by the end of a name, an empty or a long one.
+fn are_found(names: &Names) -> bool {
+    names.find(b"main") == Some((1, 0))
+        && names.find(b"in").is_none()
+        && names.find(b"ain").is_none()
+        && names.find(b"").is_none()
+        && names.find(&[b'm'; 257]).is_none()
+}
+
+/// Whether the names of an object's symbols are found.
+fn has_found(alloc: Global, object: &Object) -> bool {
+    match names(alloc, object) {
+        Some(names) => are_found(&names),
+        None => false,
+    }
+}
+
+/// Whether the names of the object that the tests change are found.
+fn is_found(alloc: Global) -> bool {
+    match Object::read(alloc, &object()) {
+        Ok(object) => has_found(alloc, &object),
+        Err(_) => false,
+    }
+}
+
+#[test]
+fn finds_names(rt: HostRuntime) {
+    assert!(rt; is_found(rt.alloc()));
 }

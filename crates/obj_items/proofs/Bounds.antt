@@ -6,7 +6,7 @@ use Rattle.std.proofs.Math.Nat.{div-mul-le_self}
 use Rattle.std.proofs.lemmas.Bool.{cases_Bool, cases_lt, le-leb, lt-ltb}
 use Rattle.std.proofs.lemmas.Int.{ints}
 use Rattle.std.proofs.lemmas.List.{get_or_past}
-use Rattle.std.proofs.lemmas.List.Elements.{All-nil}
+use Rattle.std.proofs.lemmas.List.Elements.{All-get_or, All-nil}
 use Rattle.std.proofs.lemmas.List.Quantifiers.{position-Some}
 use Rattle.rv_word.specs.Layout.{DATA_START}
 use Rattle.rv_word.proofs.Cases.{cases_Option}
@@ -15,13 +15,14 @@ use Rattle.obj_input.specs.declared.parts.Definition.{Definition}
 use Rattle.obj_input.specs.declared.parts.Definition.TheVariants.{Zero, Absolute, Within, Common, Missing}
 use Rattle.obj_input.specs.declared.parts.Sort.{Sort}
 use Rattle.obj_input.specs.declared.parts.Sort.TheVariants.{Data, Zeros, Dropped}
+use Rattle.obj_input.specs.Code.{natural}
 use Rattle.obj_input.specs.Input.{InputParts, SectionParts, is_code, is_data_sort, is_zeros_sort, no_section, section_count, section_of}
 use Rattle.obj_input.specs.Layout.{address_by, after, after_if, aligned, block, block_address, blocks_reach, init_end, no_block, reach, section_address, zeros_end}
 use Rattle.obj_program.specs.declared.item.Item.{Item}
 use Rattle.obj_program.specs.declared.item.Value.TheVariants.{Number}
 use Rattle.obj_program.specs.Program.{is_spot, no_item, place_of}
 use Rattle.obj_program.specs.Sound.{is_value}
-use Rattle.obj_items.specs.Ranges.{HasSmall, IsInput, IsSection, IsSmallUse}
+use Rattle.obj_items.specs.Ranges.{HasSmall, IsBlock, IsInput, IsSection, IsSmallUse}
 use Rattle.obj_items.specs.Values.{gate_value, place_at, value_of}
 use Rattle.obj_items.proofs.NoFault.{past_sections}
 
@@ -76,7 +77,7 @@ module _ (input : InputParts) (is : IsInput input) where
   unfolding blocks_reach
   blocks_bound zero below = let before = zeros_bound in omega arith
   blocks_bound (suc c) below =
-      let b = is.blocks c (omega arith) in
+      let b = All-get_or IsBlock input.blocks c no_block (omega arith) is.blocks in
       let so_far = blocks_bound c (omega arith) in
       let next = after_bound (blocks_reach input c) (block input c).size (block input c).align b.size b.align in
       omega arith
@@ -107,7 +108,7 @@ module _ (input : InputParts) (is : IsInput input) where
 
   each_block : (c : ℕ) → (block input c).align < 2 ^ 64
   each_block c = elim (cases_lt c (length input.blocks)) [
-    | inl below ↦ (is.blocks c below).align
+    | inl below ↦ (All-get_or IsBlock input.blocks c no_block below is.blocks).align
     | inr past ↦ subst (λ (b : Block). b.align < 2 ^ 64) (sym (get_or_past input.blocks c no_block past)) (omega arith)
   ]
 
@@ -165,14 +166,19 @@ sum_small m places (negsuc n) small fits =
           ap (λ z. is_value places (Number z)) same ∙ below_zero (n - m) places (omega arith)
     ]
 
-gate_there : (places : List Item) (count : ℕ) → length places ≡ count → (k : ℕ) (z : ℤ) → is_value count (gate_value (place_at places k z)) ≡ true
-gate_there places count size k (pos n) = elim (cases_Option (place_of places k n)) [
+gate_at : (places : List Item) (count : ℕ) → length places ≡ count → (k n : ℕ) → is_value count (gate_value (place_of places k n)) ≡ true
+gate_at places count size k n = elim (cases_Option (place_of places k n)) [
   | inl none ↦ rw none (not_below 0 count (omega arith))
   | inr (j, some) ↦
       let there = position-Some (is_spot k n) places j no_item some in
       rw some (lt-ltb j count (let below = there.0 in omega arith))
 ]
-gate_there places count size k (negsuc n) = not_below 0 count (omega arith)
+
+gate_there : (places : List Item) (count : ℕ) → length places ≡ count → (k : ℕ) (z : ℤ) → is_value count (gate_value (place_at places k z)) ≡ true
+gate_there places count size k z = elim (cases_Option (natural z)) [
+  | inl none ↦ rw none (not_below 0 count (omega arith))
+  | inr (n, some) ↦ rw some (gate_at places count size k n)
+]
 
 -- what relocations refer to is far from what 128 bits hold, or a place that is there
 pub value_right : (input : InputParts) → IsInput input → (places : List Item) (count : ℕ) → length places ≡ count → (d : Definition) (z : ℤ)

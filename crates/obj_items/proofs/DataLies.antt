@@ -1,8 +1,8 @@
 -- The relocations of data of an input without a fault lie in the initialised data.
-use Rattle.std.proofs.Common.{◌≡◌, ℕ, zero, suc, ◌+◌, ◌-◌, ◌<◌, ◌≤◌, get_or, nat_lt, true, false, not, List, [], ◌∷◌, ◌++◌, length, All, inl, inr, refl, sym, ap, subst, arith}
-use Rattle.std.specs.List.{flat_map, repeat}
+use Rattle.std.proofs.Common.{◌≡◌, ℕ, zero, suc, ◌+◌, ◌-◌, ◌<◌, ◌≤◌, get_or, nat_lt, true, false, not, List, [], ◌∷◌, ◌++◌, length, replicate, All, inl, inr, refl, sym, ap, subst, arith}
+use Rattle.std.specs.List.{flat_map}
 use Rattle.std.proofs.lemmas.Bool.{cases_Bool, cases_lt, and_parts, and_from, le-leb, ltb-false, not-false, not-true}
-use Rattle.std.proofs.lemmas.List.{length-append, length-map}
+use Rattle.std.proofs.lemmas.List.{length-append, length-map, length-replicate}
 use Rattle.std.proofs.lemmas.List.Elements.{All-nil, All-cons, All-append, All-from_get_or, All-get_or, All-head, All-tail}
 use Rattle.rv_word.specs.Layout.{DATA_START}
 use Rattle.rv_reloc.specs.Data.{size_of}
@@ -30,22 +30,18 @@ use Rattle.obj_items.proofs.Bounds.{each_section, value_right}
 use Rattle.obj_items.proofs.NoFault.{IsRight, IsRightUse, no_use}
 use Rattle.obj_items.proofs.Starts.{and_rest}
 
-zeros_length : (n : ℕ) → length {A = ℕ} (repeat n (0 ∷ [])) ≡ n
-zeros_length zero = refl
-zeros_length (suc n) = let rest = zeros_length n in omega arith
-
 -- what is placed reaches from its address on
 placed_length : (so_far bytes : List ℕ) (address : ℕ) → address - DATA_START + length bytes ≤ length (placed so_far address bytes)
 placed_length so_far bytes address =
-    let gap : List ℕ = repeat (address - (DATA_START + length so_far)) (0 ∷ []) in
+    let gap : List ℕ = replicate (address - (DATA_START + length so_far)) 0 in
     let outer = length-append (so_far ++ gap) bytes in
     let inner = length-append so_far gap in
-    let zeros = zeros_length (address - (DATA_START + length so_far)) in
+    let zeros : length gap ≡ address - (DATA_START + length so_far) = length-replicate (address - (DATA_START + length so_far)) 0 in
     omega arith
 
 placed_longer : (so_far bytes : List ℕ) (address : ℕ) → length so_far ≤ length (placed so_far address bytes)
 placed_longer so_far bytes address =
-    let gap : List ℕ = repeat (address - (DATA_START + length so_far)) (0 ∷ []) in
+    let gap : List ℕ = replicate (address - (DATA_START + length so_far)) 0 in
     let outer = length-append (so_far ++ gap) bytes in
     let inner = length-append so_far gap in
     omega arith

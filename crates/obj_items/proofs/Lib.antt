@@ -2,6 +2,7 @@ mod Steps
 mod Whole
 mod Next
 mod Data
+mod Parts
 mod Marks
 pub mod InOrder
 pub mod Pushed
@@ -16,3 +17,4 @@ pub mod Bounds
 pub mod Patches
 pub mod DataLies
 pub mod ProgramSound
+mod Rows

@@ -1,16 +1,16 @@
 -- The program of an input without a fault is sound.
-use Rattle.std.proofs.Common.{◌≡◌, ℕ, ◌*◌, ◌^◌, ◌<◌, get_or, true, Some, None, length, inl, inr, refl, sym, ap, subst, ◌∙◌, arith}
+use Rattle.std.proofs.Common.{◌≡◌, ℕ, ◌*◌, ◌^◌, ◌<◌, get_or, true, Some, length, inl, inr, refl, sym, ap, subst, ◌∙◌, arith}
 use Rattle.std.specs.Prelude.{slice_get}
 use Rattle.std.proofs.lemmas.List.{get_or-map, length-map}
 use Rattle.std.proofs.lemmas.List.Elements.{All-get_or}
 use Rattle.std.proofs.lemmas.Option.{get_or_from_slice_get, slice_get_within}
 use Rattle.obj_input.specs.Input.{InputParts, section_of}
-use Rattle.obj_rules.specs.Fault.{fault_of}
 use Rattle.obj_program.specs.declared.item.DataReloc.{DataReloc}
 use Rattle.obj_program.specs.declared.item.Item.{Item}
 use Rattle.obj_program.specs.Program.{Program, count, item_of, no_item}
 use Rattle.obj_program.specs.Sound.{IsSound, aims, is_patch, is_read, lies}
 use Rattle.obj_items.specs.InitialData.{relocs_of}
+use Rattle.obj_items.specs.Laws.{ProgramsAreSound}
 use Rattle.obj_items.specs.Links.{item_with}
 use Rattle.obj_items.specs.Outline.{end_at, outline}
 use Rattle.obj_items.specs.ProgramOf.{program_of, program_with}
@@ -43,7 +43,7 @@ module _ (input : InputParts) (is : IsInput input) (right : IsRight input) where
         let sound : IsSoundItem (program_with input (outline input)) (linked_at input (outline input) k i kind) = record {
           read = read;
           patch = start_patch input is right k (4 * i) placed.code;
-          target = start_aims input right k i kind placed.code starts kind_is;
+          target = start_aims input is right k i kind placed.code starts kind_is;
         } in
         subst (λ (y : Item). IsSoundItem (program_with input (outline input)) y) (sym same) sound
     | inr e ↦
@@ -76,6 +76,6 @@ module _ (input : InputParts) (is : IsInput input) (right : IsRight input) where
     relocations = relocs_at;
   }
 
-pub program_sound : (input : InputParts) → IsInput input → length (outline input) < 2 ^ 62 → fault_of input ≡ None → IsSound (program_of input)
+pub program_sound : ProgramsAreSound
 unfolding program_of
 program_sound input is few none = sound input is (right input none) few

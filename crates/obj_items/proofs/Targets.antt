@@ -1,5 +1,5 @@
 -- Direct transfers of an input without a fault, and no others, go to instructions.
-use Rattle.std.proofs.Common.{◌≡◌, ◌==◌, ℕ, ℤ, pos, negsuc, ◌+◌, ◌*◌, ◌/◌, ◌<◌, Bool, true, false, ◌&&◌, Option, Some, None, List, [], ◌∷◌, length, inl, inr, refl, sym, ap, subst, ◌∙◌, arith}
+use Rattle.std.proofs.Common.{◌≡◌, ◌==◌, ℕ, ℤ, pos, negsuc, ◌+◌, ◌*◌, ◌/◌, ◌^◌, ◌<◌, Bool, true, false, ◌&&◌, Option, Some, None, List, [], ◌∷◌, length, inl, inr, refl, sym, ap, subst, ◌∙◌, arith}
 use Rattle.std.specs.Prelude.{is_some}
 use Rattle.std.specs.List.{All, find}
 use Rattle.std.proofs.lemmas.Bool.{cases_Bool, and_parts, lt-ltb}
@@ -33,8 +33,10 @@ use Rattle.obj_program.specs.Sound.{aims, is_direct}
 use Rattle.obj_items.specs.Links.{aimed_place, item_with, target_of}
 use Rattle.obj_items.specs.Outline.{outline}
 use Rattle.obj_items.specs.ProgramOf.{program_with}
+use Rattle.obj_items.specs.Ranges.{IsInput}
+use Rattle.obj_items.proofs.Bounds.{each_section}
 use Rattle.obj_items.proofs.NoFault.{IsRight, IsRightUse, busy_right, busy_there}
-use Rattle.obj_items.proofs.LookUp.{place_there, start_parts}
+use Rattle.obj_items.proofs.LookUp.{place_there, start_below, start_parts}
 use Rattle.obj_items.proofs.Starts.{linked_at, linked_is, pair_jalr, pair_kind_is, pair_parts, right_start, single_kind_is, start_read}
 
 -- the place of the instruction that starts at an offset, in the program
@@ -177,13 +179,16 @@ abbrev AimsAt : InputParts → Aim → Type 0
 AimsAt input a = (j : ℕ) × (aimed_place (outline input) a ≡ Some j) × (j < count (program_with input (outline input)))
     × (is_end (item_of (program_with input (outline input)) j).kind ≡ false)
 
-aimed : (input : InputParts) → IsRight input → (a : Aim) → may_aim input a ≡ true → (a ≡ aim.Unknown → ⊥) → AimsAt input a
-aimed input right (At k (pos n)) e known =
+aimed : (input : InputParts) → IsInput input → IsRight input → (a : Aim) → may_aim input a ≡ true → (a ≡ aim.Unknown → ⊥) → AimsAt input a
+aimed input is right (At k (pos n)) e known =
     let there = start_item_there input right k n e in
-    (there.0, there.2.found, there.2.below, ap (λ (x : Item). is_end x.kind) there.2.item ∙ there.2.going)
-aimed input right (At k (negsuc n)) e known = absurd (cc)
-aimed input right Astray e known = absurd (cc)
-aimed input right aim.Unknown e known = absurd (known refl)
+    let size = (each_section input is k).size in
+    let inside = start_below (section_of input k) (n / 4) (start_parts (section_of input k) n e).2 in
+    let below : n < 2 ^ 64 = omega arith in
+    (there.0, rw (lt-ltb n (2 ^ 64) below) there.2.found, there.2.below, ap (λ (x : Item). is_end x.kind) there.2.item ∙ there.2.going)
+aimed input is right (At k (negsuc n)) e known = absurd (cc)
+aimed input is right Astray e known = absurd (cc)
+aimed input is right aim.Unknown e known = absurd (known refl)
 
 aims_from : (p : Program) (kind : ItemKind) (target : Option ℕ) (j : ℕ) → target ≡ Some j → is_direct kind ≡ true → j < count p
     → is_end (item_of p j).kind ≡ false → aims p kind target ≡ true
@@ -192,10 +197,10 @@ aims_from p kind target j e direct below going = rw (e, direct, lt-ltb j (count 
 aims_none : (p : Program) (kind : ItemKind) (target : Option ℕ) → target ≡ None → is_direct kind ≡ false → aims p kind target ≡ true
 aims_none p kind target e direct = rw (e, direct) refl
 
-pub start_aims : (input : InputParts) → IsRight input → (k i : ℕ) (kind : ItemKind) → is_code (section_of input k) ≡ true
+pub start_aims : (input : InputParts) → IsInput input → IsRight input → (k i : ℕ) (kind : ItemKind) → is_code (section_of input k) ≡ true
     → starts_at (section_of input k) i ≡ true → kind_at (section_of input k) i ≡ Some kind
     → aims (program_with input (outline input)) kind (target_of input (outline input) k i) ≡ true
-start_aims input right k i kind code starts e =
+start_aims input is right k i kind code starts e =
     let direct = direct_kind (section_of input k) i kind e in
     let found = right_start input right k i code starts in
     elim (cases_Option (direct_at (section_of input k) i)) [
@@ -204,7 +209,7 @@ start_aims input right k i kind code starts e =
           aims_none (program_with input (outline input)) kind (target_of input (outline input) k i) target (sym direct ∙ ap is_some none)
       | inr (d, some) ↦
           let goes : may_aim input (aim_at input k i d) ≡ true = ap (goes_right input k i) (sym some) ∙ found.1.goes in
-          let at = aimed input right (aim_at input k i d) goes (never_unknown input right k i d) in
+          let at = aimed input is right (aim_at input k i d) goes (never_unknown input right k i d) in
           let target : target_of input (outline input) k i ≡ aimed_place (outline input) (aim_at input k i d) = rw some refl in
           aims_at (aim_at input k i d) at target (sym direct ∙ ap is_some some)
     ]

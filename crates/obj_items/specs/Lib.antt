@@ -10,3 +10,5 @@ pub mod ProgramOf
 pub mod Before
 pub mod Standing
 pub mod Ranges
+pub mod ItemEnd
+pub mod Laws

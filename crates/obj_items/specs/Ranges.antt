@@ -7,7 +7,6 @@ use Rattle.obj_input.specs.declared.parts.Definition.TheVariants.{Absolute, With
 use Rattle.obj_input.specs.declared.parts.Use.{Use}
 use Rattle.obj_input.specs.InOrder.{AreFew}
 use Rattle.obj_input.specs.Input.{InputParts, SectionParts, has_bytes, section_count, section_of}
-use Rattle.obj_input.specs.Layout.{block}
 
 abbrev pub HasSmall : Definition → Type 0
 HasSmall (Absolute value) = value < 2 ^ 64
@@ -29,7 +28,10 @@ pub record IsBlock (b : Block) : Type 0 where
   pub size : b.size < 2 ^ 64
   pub align : b.align < 2 ^ 64
 
+abbrev pub AreSections : InputParts → Type 0
+AreSections input = (k : ℕ) → k < section_count input → IsSection (section_of input k)
+
 pub record IsInput (input : InputParts) : Type 0 where
   pub few : AreFew (section_count input) (length input.blocks)
-  pub sections : (k : ℕ) → k < section_count input → IsSection (section_of input k)
-  pub blocks : (c : ℕ) → c < length input.blocks → IsBlock (block input c)
+  pub sections : AreSections input
+  pub blocks : All IsBlock input.blocks

@@ -1,4 +1,4 @@
-ghost use Rattle.std.specs.Prelude.{◌≡◌, ◌<◌, IfOk, OnOk};
+ghost use Rattle.std.specs.Prelude.{◌≡◌, ◌<◌, ◌^◌, IfOk, OnOk};
 ghost use Rattle.obj_input.specs.Input.{section_count};
 ghost use Rattle.obj_input.specs.Layout.{layout_of, section_address};
 ghost use Rattle.obj_items.specs.InitialData.{init_below, placed};
@@ -8,14 +8,13 @@ use rv_word::NoMemory;
 use rv_word::memory_map::DATA_START;
 use std::alloc::Global;
 
-/// The address of the section of data with this index.
-#[tactic(auto, unfolding(obj_input::specs::Layout::layout_of))]
+/// The address of the section with this index, 0 of one that is no data.
 pub(crate) fn section_address(input: &Input, layout: &Layout, k: u32) -> u128
-    requires layout { layout.now ≡ layout_of input.now }
-    requires below { k < section_count input.now }
-    ensures { result ≡ section_address input.now k }
+    requires { layout.now ≡ layout_of input.now }
+    ensures value { result ≡ section_address input.now k }
+    ensures small { result < 2 ^ 126 }
 {
-    layout.sections()[k as usize]
+    layout.section(k)
 }
 
 /// Puts bytes behind others, so that they begin at this address; the first of all stands at `DATA_START`. What needs more

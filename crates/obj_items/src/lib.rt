@@ -4,13 +4,20 @@
 
 pub use fault::fault_in;
 pub use from_object::input_of;
+pub use item_end::ItemEnd;
+pub use program::items;
 
 mod definitions;
 mod fault;
 mod from_object;
 mod init;
+mod item_end;
+pub mod laws;
 mod links;
 mod outline;
+mod program;
+mod ranges;
+mod relocs;
 mod sections;
 mod symbols;
 mod taken;

@@ -42,7 +42,10 @@ fn name_at<'a>(object: &Object<'a>, definitions: &[Definition], number: u64) -> 
     requires named { number ≢ 0 }
     ensures { result ≡ name_at object.now number }
 {
-    Name::of(object.symbol_name_rest(number), definitions[number as usize])
+    Name::of(
+        object.symbol_name_rest(number),
+        definitions[number as usize],
+    )
 }
 
 /// The names of all symbols but number 0.

@@ -49,7 +49,8 @@ fn section_value(
         let at = i128::from(value) + i128::from(addend);
         gate_value(place_at(places, section, at))
     } else {
-        sum(layout.section(section) + u128::from(value), addend)
+        let value = u128::from(value);
+        sum(layout.section(section) + value, addend)
     }
 }
 

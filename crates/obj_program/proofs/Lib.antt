@@ -1,1 +1,7 @@
 pub mod Ordered
+pub mod Read
+pub mod Applied
+pub mod Kept
+pub mod Ranges
+pub mod Exact
+mod Rows

@@ -1,6 +1,6 @@
 -- What holds of each program: its places are in order, its words are instructions of their kinds that name no register
 -- which the units keep, and what it refers to by an index is there.
-use Rattle.std.specs.Prelude.{◌≡◌, ℕ, pos, neg_ℤ, ◌+◌, ◌^◌, ◌<◌, nat_lt, nat_le, int_le, if◌then◌else◌, Bool, true, false, not, ◌&&◌, Option, Some, None, length, slice_get}
+use Rattle.std.specs.Prelude.{◌≡◌, ℕ, ℤ, pos, neg_ℤ, ◌+◌, ◌^◌, ◌<◌, nat_lt, nat_le, int_le, if◌then◌else◌, Bool, true, false, not, ◌&&◌, Option, Some, None, length, slice_get}
 use Rattle.rv_instr.specs.declared.instr.Instr.{Instr}
 use Rattle.rv_code.specs.Decode.{decoded}
 use Rattle.rv_reloc.specs.Data.{size_of}
@@ -15,9 +15,13 @@ use Rattle.obj_program.specs.declared.item.Value.TheVariants.{Number, GateOf}
 use Rattle.obj_program.specs.Program.{AreInOrder, Program, count, is_end, item_of}
 use Rattle.obj_program.specs.Suits.{names_reserved, stands_on, suits}
 
--- a number far from what 128 bits hold, or the gate of a place that is there
+-- far from what 128 bits hold
+abbrev pub is_small : ℤ → Bool
+is_small z = int_le (neg_ℤ (pos (2 ^ 126))) z && int_le z (pos (2 ^ 126))
+
+-- a small number, or the gate of a place that is there
 abbrev pub is_value : ℕ → Value → Bool
-is_value places (Number z) = int_le (neg_ℤ (pos (2 ^ 126))) z && int_le z (pos (2 ^ 126))
+is_value places (Number z) = is_small z
 is_value places (GateOf k) = nat_lt k places
 
 abbrev pub is_high_patch : Patch → Bool
@@ -55,9 +59,12 @@ abbrev pub aims : Program → ItemKind → Option ℕ → Bool
 aims program kind None = not (is_direct kind)
 aims program kind (Some t) = is_direct kind && nat_lt t (count program) && not (is_end (item_of program t).kind)
 
--- a relocation of data lies in them
+-- a relocation lies in so many bytes of data, and its value is there
+abbrev pub is_there : ℕ → ℕ → DataReloc → Bool
+is_there size places r = nat_le (r.offset + size_of r.patch) size && is_value places r.value
+
 abbrev pub lies : Program → DataReloc → Bool
-lies program r = nat_le (r.offset + size_of r.patch) (length program.init) && is_value (count program) r.value
+lies program r = is_there (length program.init) (count program) r
 
 pub record IsSound (program : Program) : Type 0 where
   pub in_order : AreInOrder program.items

@@ -1,12 +1,22 @@
-ghost use Rattle.std.specs.Prelude.{◌≡◌, ◌<◌, length, slice_get, Some};
+ghost use Rattle.std.specs.Prelude.{◌≡◌, ◌<◌, length, slice_get, Some, true};
 ghost use Rattle.obj_input.specs.Names.{find_spot};
+ghost use Rattle.obj_program.specs.DataAtMap.{init_size};
 ghost use Rattle.obj_program.specs.Program.{count, item_of, place_of};
-ghost use Rattle.obj_program.specs.Sound.{IsSound};
+ghost use Rattle.obj_program.specs.Sound.{IsSound, is_patch};
 
-use crate::item::{DataReloc, Item};
+use crate::item::{DataReloc, Item, Patch};
 use crate::place::place_in;
 use obj_input::{Func, Names};
 use std::marker::Model;
+
+/// How far data reach.
+#[derive(Clone, Copy)]
+pub struct Extent {
+    /// How many bytes initialised data have, from `DATA_START` on.
+    pub init: u128,
+    /// The address where data end, those without bytes in the file among them.
+    pub end: u128,
+}
 
 /// A program. Names are borrowed from the object's tables.
 #[derive(Drop)]
@@ -21,7 +31,7 @@ pub struct Items<'a> {
 
 impl<'a> Model for Items<'a> {
     ghost use Rattle.obj_program.specs.Program.{Program};
-    ghost use Rattle.obj_program.specs.Sound.{IsSound};
+    ghost use Rattle.obj_program.specs.Sound.{IsSound, is_patch};
 
     ghost Value = { Program };
 
@@ -75,6 +85,42 @@ impl<'a> Items<'a> {
         ensures { result ≡ item_of self.now k }
     {
         self.items[k as usize]
+    }
+
+    /// The initialised data before relocations.
+    pub(crate) fn init(&self) -> &[u8]
+        ensures { result.now ≡ self.now.init }
+    {
+        self.init.as_slice()
+    }
+
+    /// The relocations of initialised data.
+    pub(crate) fn relocations(&self) -> &[DataReloc]
+        ensures value { result.now ≡ self.now.relocations }
+        ensures sound { IsSound self.now }
+    {
+        self.relocations.as_slice()
+    }
+
+    /// How far data reach.
+    pub fn data_extent(&self) -> Extent
+        ensures init { result.init ≡ init_size self.now }
+        ensures end { result.end ≡ self.now.data_end }
+    {
+        Extent {
+            init: self.init.len() as u128,
+            end: self.data_end,
+        }
+    }
+
+    /// The patch of the place with this index. What it refers to is there.
+    pub(crate) fn patch(&self, k: u64) -> Patch
+        requires { k < count self.now }
+        ensures value { result ≡ (item_of self.now k).patch }
+        ensures there { is_patch self.now result ≡ true }
+    {
+        let _count = self.count();
+        self.item(k).patch
     }
 
     /// Whether a relocation takes the address of the instruction with this index.

@@ -2,10 +2,15 @@
 //! have. A map from places to addresses makes instructions and data of it again. Above it nobody sees the object's bytes.
 #![tactic(auto)]
 
+pub use data_at_map::DataEnd;
 pub use item::{DataReloc, Item, Patch, Value};
-pub use items::Items;
+pub use items::{Extent, Items};
 pub use place::place_in;
 
+mod at_map;
+mod data_at_map;
 mod item;
 mod items;
+pub mod laws;
 mod place;
+mod range;

@@ -12,7 +12,7 @@ loop-k-preserved c =
       | then-is_data+in_ok-put_at w ↦
           rw w.init-is
           (init_next c.args.input.now c.loop-k.k _ _ c.loop-k.invariant c.section-section.ensures _ _ _ (sym w.if-is_data.true ∙ c.is_data.ensures)
-          w.section_address.ensures w.content.ensures.value w.in_ok-put_at.ensures)
+          w.section_address.ensures.value w.content.ensures.value w.in_ok-put_at.ensures)
       | else-is_data w ↦
           rw w.init-is
           (init_passed c.args.input.now c.loop-k.k _ _ c.loop-k.invariant c.section-section.ensures (sym w.if-is_data.false ∙ c.is_data.ensures))

@@ -1,0 +1,8 @@
+use Rattle.cfi_layout.specs.Lengthening.{short_count, Going}
+use Rattle.cfi_layout.proofs.shortening.shorten.Given as goal
+
+abbrev pub invariant-lengthening : goal.invariant-lengthening
+invariant-lengthening l = Going l.branches l.sizes l.long.items
+
+abbrev pub decreases-lengthening : goal.decreases-lengthening
+decreases-lengthening l = short_count l.long.items

@@ -1,0 +1,5 @@
+pub mod Starts
+pub mod EndText
+pub mod LongSet
+pub mod Laws
+pub mod Lengthening

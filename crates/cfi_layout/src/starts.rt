@@ -1,0 +1,69 @@
+ghost use Rattle.std.specs.Prelude.{◌≡◌, ℕ, ◌+◌, ◌-◌, ◌<◌, ◌≤◌, ◌^◌, if◌then◌else◌, IfOk, length, slice_index};
+ghost use Rattle.rv_word.specs.Layout.{CODE_SIZE, UNITS_START};
+ghost use Rattle.cfi_layout.specs.Lengthening.{starts_with};
+ghost use Rattle.cfi_layout.specs.LongSet.{sizes_where};
+ghost use Rattle.cfi_layout.specs.Starts.{code_size, flag, starts_from};
+
+use rv_word::NoMemory;
+use rv_word::memory_map::CODE_START;
+use rv_word::profile::UNITS_START;
+use std::alloc::Global;
+
+/// How many bytes the code of parts of these sizes has, the prologue counted.
+pub(crate) fn code_size(sizes: &[u32]) -> u128
+    ensures { result ≡ code_size sizes.now }
+{
+    let parts: u128 = sizes.iter().map(|size| u128::from(*size)).sum();
+    u128::from(UNITS_START - CODE_START) + parts
+}
+
+/// The addresses at which parts of these sizes start, and at which the last ends.
+pub(crate) fn starts_of(alloc: Global, sizes: &[u32]) -> Result<Vec<u64>, NoMemory>
+    requires { code_size sizes.now ≤ CODE_SIZE }
+    ensures { IfOk result (λ v. v.items ≡ starts_from UNITS_START sizes.now) }
+{
+    let mut starts = Vec::new(alloc);
+    let mut at = UNITS_START;
+    for size in sizes {
+        starts.push(at)?;
+        at += u64::from(*size);
+    }
+    starts.push(at)?;
+    Ok(starts)
+}
+
+/// The size of a part, in bytes: where it is not long it has one word less.
+fn size_of(size: u32, is_long: bool) -> u32
+    ensures { result ≡ (if is_long then size else size - 4) }
+{
+    if is_long {
+        size
+    } else {
+        size.saturating_sub(4)
+    }
+}
+
+/// The sizes of parts, in bytes: one that is not long has one word less.
+pub(crate) fn sizes_of(alloc: Global, sizes: &[u32], long: &[bool]) -> Result<Vec<u32>, NoMemory>
+    requires { length long.now ≡ length sizes.now }
+    ensures { IfOk result (λ v. v.items ≡ sizes_where (flag long.now) 0 sizes.now) }
+{
+    let mut left = Vec::new(alloc);
+    for (k, size) in sizes.iter().enumerate() {
+        left.push(size_of(*size, long[k]))?;
+    }
+    Ok(left)
+}
+
+/// The addresses at which parts start, and at which the last ends, where one that is not long has one
+/// word less.
+pub(crate) fn starts_with(alloc: Global, sizes: &[u32], long: &[bool]) -> Result<Vec<u64>, NoMemory>
+    requires count { length long.now ≡ length sizes.now }
+    requires room { code_size sizes.now ≤ CODE_SIZE }
+    ensures starts { IfOk result (λ v. v.items ≡ starts_with long.now sizes.now) }
+    ensures len { IfOk result (λ v. length v.items ≡ length sizes.now + 1) }
+    ensures low { IfOk result (λ v. (k : ℕ) → slice_index v.items k < 2 ^ 32) }
+{
+    let left = sizes_of(alloc, sizes, long)?;
+    starts_of(alloc, left.as_slice())
+}

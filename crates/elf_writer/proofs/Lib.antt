@@ -1,0 +1,14 @@
+pub mod Bytes
+pub mod Stands
+pub mod Loops
+pub mod Closing
+pub mod Fields
+pub mod Back
+pub mod Found
+pub mod Indexes
+pub mod Reading
+pub mod Entries
+pub mod Faultless
+pub mod Holding
+pub mod Sizes
+pub mod Rows

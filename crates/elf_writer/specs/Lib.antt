@@ -1,0 +1,12 @@
+pub mod Numbers
+pub mod Layout
+pub mod Names
+pub mod Header
+pub mod File
+pub mod Parts
+pub mod Tables
+pub mod Object
+pub mod Right
+pub mod Holds
+pub mod Size
+pub mod Writing

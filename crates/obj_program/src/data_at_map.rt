@@ -1,0 +1,88 @@
+ghost use Rattle.std.specs.Prelude.{◌≡◌, ℕ, true, false, length, slice_get, Some, None, OnOk, OnErr, IfOk, IfErr};
+ghost use Rattle.std.specs.List.{fold, list_all};
+ghost use Rattle.obj_program.specs.declared.item.DataReloc.{DataReloc};
+ghost use Rattle.obj_program.specs.DataAtMap.{data_at, init_size, is_in_range, with_reloc};
+ghost use Rattle.obj_program.specs.Program.{count};
+ghost use Rattle.obj_program.specs.Sound.{is_there};
+
+use crate::at_map::value_at;
+use crate::item::DataReloc;
+use crate::items::Items;
+use rv_reloc::{RelocRange, patch_data};
+use rv_word::NoMemory;
+use std::alloc::Global;
+use thiserror::Error;
+
+/// Why data have no value at a map: a value leaves the range of its relocation, or want of memory.
+#[derive(Clone, Copy, Debug, Error)]
+pub enum DataEnd {
+    #[error("relocation out of range")]
+    RelocRange,
+    /// Memory could not be had.
+    #[error("out of memory")]
+    NoMemory,
+}
+
+impl From<NoMemory> for DataEnd {
+    ghost use Rattle.std.specs.Prelude.{◌≡◌};
+    ghost use Rattle.obj_program.specs.declared.data_at_map.DataEnd.TheVariants as ends;
+
+    ghost from_gives = { λ e r. r ≡ ends.NoMemory };
+
+    fn from(_: NoMemory) -> Self {
+        DataEnd::NoMemory
+    }
+}
+
+impl From<RelocRange> for DataEnd {
+    ghost use Rattle.std.specs.Prelude.{◌≡◌};
+    ghost use Rattle.obj_program.specs.declared.data_at_map.DataEnd.TheVariants as ends;
+
+    ghost from_gives = { λ e r. r ≡ ends.RelocRange };
+
+    fn from(_: RelocRange) -> Self {
+        DataEnd::RelocRange
+    }
+}
+
+impl<'a> Items<'a> {
+    ghost use Rattle.obj_program.specs.declared.data_at_map.DataEnd.TheVariants as ends;
+
+    /// The initialised data where the places' gates, which are addresses, are these. `RelocRange` comes where a value leaves
+    /// the range of its relocation (RISC-V ELF psABI, "Relocations").
+    #[tactic(auto, unfolding(crate::specs::DataAtMap::data_at))]
+    pub fn data_at(&self, alloc: Global, gates: &[u64]) -> Result<Vec<u8>, DataEnd>
+        requires { length gates.now ≡ count self.now }
+        ensures value { IfOk result (λ v. data_at self.now gates.now ≡ Some v.items) }
+        ensures length { IfOk result (λ v. length v.items ≡ init_size self.now) }
+        ensures refused { IfErr result (λ e. e ≡ ends.RelocRange → data_at self.now gates.now ≡ None) }
+    {
+        let mut bytes = Vec::from_slice(alloc, self.init()).map_err(NoMemory::from)?;
+        apply_all(bytes.as_mut_slice(), gates, self.relocations())?;
+        Ok(bytes)
+    }
+}
+
+/// Applies a relocation to the data in which it lies.
+fn apply(bytes: &mut [u8], gates: &[u64], reloc: DataReloc) -> Result<(), RelocRange>
+    requires { is_there (length bytes.old) (length gates.now) reloc ≡ true }
+    ensures value { OnOk result (bytes.new ≡ with_reloc gates.now bytes.old reloc) }
+    ensures taken { OnOk result (is_in_range gates.now reloc ≡ true) }
+    ensures refused { OnErr result (is_in_range gates.now reloc ≡ false) }
+{
+    let value = value_at(gates, reloc.value);
+    patch_data(reloc.patch, &mut bytes[reloc.offset as usize..], value)
+}
+
+/// Applies relocations in their order.
+fn apply_all(bytes: &mut [u8], gates: &[u64], relocs: &[DataReloc]) -> Result<(), RelocRange>
+    requires { (j : ℕ) (r : DataReloc) → slice_get relocs.now j ≡ Some r → is_there (length bytes.old) (length gates.now) r ≡ true }
+    ensures value { OnOk result (bytes.new ≡ fold (with_reloc gates.now) bytes.old relocs.now) }
+    ensures taken { OnOk result (list_all (is_in_range gates.now) relocs.now ≡ true) }
+    ensures refused { OnErr result (list_all (is_in_range gates.now) relocs.now ≡ false) }
+{
+    for reloc in relocs {
+        apply(bytes, gates, *reloc)?;
+    }
+    Ok(())
+}
