@@ -12,15 +12,15 @@ use obj_program::Items;
 use rv_word::{NoMemory, Places};
 use std::alloc::Global;
 
-/// A site whose set others may have that may go inside the same functions.
+/// A site whose set others may have that may go through the same functions to places inside.
 #[derive(Drop)]
 pub(crate) struct Shared {
     covering: Vec<u64>,
     site: u64,
 }
 
-/// A raw graph that is being drawn: its sites so far, what is known of the places, the last site that goes inside no
-/// function and the last one that goes inside some.
+/// A raw graph that is being drawn: its sites so far, what is known of the places, the last site that goes through no
+/// function and the last one that goes through some.
 #[derive(Drop)]
 pub(crate) struct Drawing {
     pub(crate) raw: Raw,
@@ -86,6 +86,7 @@ impl Drawing {
             inside: self.inside,
         })
     }
+
     /// The drawing with one site more, which has the targets of the site with the index `like`.
     fn with_those_of(
         self,

@@ -1,4 +1,4 @@
--- What a run that is under way comes to, from the state at which it began.
+-- What a run that is under way comes to, from the state at which it began. Only private contracts cite this.
 use Rattle.std.specs.Prelude.{◌≡◌, ℕ, Bool, true, false, List, [], length, map, Some}
 use Rattle.std.specs.List.{AllByRecursion}
 use Rattle.rv_word.specs.Image.{Contents}

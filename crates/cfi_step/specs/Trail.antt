@@ -1,4 +1,4 @@
--- What is kept of a walk: the number of its addresses, and the last of them.
+-- What is kept of a walk: the number of its addresses, and the last of them. Only private contracts cite this.
 use Rattle.std.specs.Prelude.{◌≡◌, ℕ, List, length}
 use Rattle.cfi_step.specs.Report.{trail}
 

@@ -1,4 +1,4 @@
--- What a verifier keeps while it asks the rules, and after.
+-- What a verifier keeps while it asks the rules, and after. Only private contracts cite this.
 use Rattle.std.specs.Prelude.{◌≡◌, ℕ, ◌*◌, ◌≤◌, Bool, List, Option, length}
 use Rattle.rv_word.specs.Layout.{CODE_SIZE, version_1}
 use Rattle.rv_word.specs.Image.{Contents}

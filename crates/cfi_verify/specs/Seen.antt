@@ -1,4 +1,4 @@
--- The verifier's values as the rules see them.
+-- The verifier's values as the rules see them. Only private contracts cite this.
 use Rattle.std.specs.Prelude.{ℕ, Option, Some, None}
 use Rattle.cfi_unit.specs.declared.unit.Unit as U
 use Rattle.cfi_unit.specs.declared.unit.Unit.TheVariants as V

@@ -1,5 +1,6 @@
-//! What an object's bytes say as an input: its sections with the definitions of the symbols that their relocations name,
-//! its common blocks, names and functions. Above it every question is one of the input.
+//! The program of an object: first what the object's bytes say as an input (sections with the definitions of the symbols
+//! that their relocations name, common blocks, names, functions), then, where nothing is wrong with its instructions and
+//! relocations, its places with their words, patches and targets, its data and its names. Its main call is `items`.
 #![tactic(auto)]
 
 pub use fault::fault_in;
