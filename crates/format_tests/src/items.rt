@@ -2,8 +2,7 @@ use crate::item_rows;
 use crate::object::object;
 use elf_object::Object;
 use obj_input::{Block, Definition, Func, Input, Name, Names, Section, Sort, Use};
-use obj_items::{fault_in, input_of};
-use obj_rules::ItemFault;
+use obj_items::{input_of, items};
 use sample_programs::{is_told_as, rows};
 use std::alloc::Global;
 
@@ -20,19 +19,11 @@ fn table(number: u32) -> (&'static [u8], usize) {
     }
 }
 
-/// Whether a fault is told by these words, and none by `none`.
-fn is_told(alloc: Global, fault: Option<ItemFault>, words: &str) -> bool {
-    match fault {
-        Some(fault) => is_told_as(alloc, &fault, words),
-        None => words == "none",
-    }
-}
-
-/// Whether an object has the fault of these words.
+/// Whether an object has the fault of these words, and is a program where they are `none`.
 fn has_fault(alloc: Global, object: &Object, words: &str) -> bool {
-    match fault_in(alloc, object) {
-        Ok(fault) => is_told(alloc, fault, words),
-        Err(_) => false,
+    match items(alloc, object) {
+        Ok(_) => words == "none",
+        Err(end) => is_told_as(alloc, &end, words),
     }
 }
 

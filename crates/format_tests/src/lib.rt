@@ -1,14 +1,12 @@
-//! Tests of the readers and writers of files through their public calls: numbers, images, objects by hand and of
-//! compilers, and what is wrong with objects' instructions and relocations. They stand beside the crates that they
-//! test, so that these are proved once.
+//! Tests of the readers and writers of files through their public calls: numbers, images, objects by hand, and what is
+//! wrong with objects' instructions and relocations. They stand beside the crates that they test, so that these are proved
+//! once.
 #![tactic(auto)]
 
 #[cfg(test)]
 mod bytes;
 #[cfg(test)]
 mod common;
-#[cfg(test)]
-mod compiled;
 #[cfg(test)]
 mod image;
 #[cfg(test)]
@@ -17,5 +15,3 @@ mod item_rows;
 mod items;
 #[cfg(test)]
 mod object;
-#[cfg(test)]
-mod samples;

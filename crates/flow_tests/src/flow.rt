@@ -1,0 +1,71 @@
+use crate::object::file;
+use crate::row::{Row, row_of};
+use crate::rows;
+use crate::told::told;
+use elf_object::Object;
+use obj_items::items;
+use obj_program::Items;
+use std::alloc::Global;
+
+/// A table of programs, and how many there are.
+fn table(number: u32) -> (&'static [u8], usize) {
+    match number {
+        0 => (rows::REACHED, 26),
+        1 => (rows::POLICIES, 28),
+        2 => (rows::SECTIONS, 6),
+        _ => (rows::ASKED, 17),
+    }
+}
+
+/// Whether a program is told as its row says.
+fn is_told(alloc: Global, items: &Items, row: &Row) -> bool {
+    match told(alloc, items, row.asked) {
+        Some(text) => text.as_str() == row.told,
+        None => false,
+    }
+}
+
+/// Whether an object is a program that is told as its row says.
+fn is_program(alloc: Global, object: &Object, row: &Row) -> bool {
+    match items(alloc, object) {
+        Ok(items) => is_told(alloc, &items, row),
+        Err(_) => false,
+    }
+}
+
+/// Whether a file is an object that is told as its row says.
+fn is_object(alloc: Global, file: &[u8], row: &Row) -> bool {
+    match Object::read(alloc, file) {
+        Ok(object) => is_program(alloc, &object, row),
+        Err(_) => false,
+    }
+}
+
+/// Whether a row tells its program right.
+fn is_right(alloc: Global, text: &str) -> bool {
+    let Some(row) = row_of(text) else {
+        return false;
+    };
+    match file(alloc, &row) {
+        Some(file) => is_object(alloc, &file, &row),
+        None => false,
+    }
+}
+
+/// The first row of a table that is not right, or an empty text.
+fn first_wrong(alloc: Global, number: u32) -> &'static str {
+    let (table, count) = table(number);
+    for row in sample_programs::rows(table, count).lines() {
+        if !is_right(alloc, row) {
+            return row;
+        }
+    }
+    ""
+}
+
+#[test]
+fn tells_the_flow_of_programs(rt: HostRuntime) {
+    for number in 0..4 {
+        assert_eq!(rt; first_wrong(rt.alloc(), number), "");
+    }
+}

@@ -1,0 +1,152 @@
+//! What is told of a program's flow, as text: the taken places; each site by its kind and place, its targets and its
+//! class; and each class by its members. Places and classes are told by their indexes.
+
+use cfi_flow::{Closed, FlowEnd, Raw, RawSite, close, entry_place, raw_graph, used_labels};
+use cfi_graph::{Policy, SiteKind, read_policy};
+use obj_program::Items;
+use std::alloc::{AllocError, Global};
+use std::fmt::Write;
+
+/// Adds numbers, each behind a space.
+fn add_numbers(text: &mut String, numbers: &[u64]) -> Result<(), AllocError> {
+    for number in numbers {
+        write!(text, " {number}")?;
+    }
+    Ok(())
+}
+
+/// Adds the taken places.
+fn add_taken(text: &mut String, closed: &Closed) -> Result<(), AllocError> {
+    text.push_str("taken")?;
+    for place in 0..closed.places() {
+        if closed.taken(place) {
+            write!(text, " {place}")?;
+        }
+    }
+    Ok(())
+}
+
+/// The name of a kind of site.
+fn kind_name(kind: SiteKind) -> &'static str {
+    match kind {
+        SiteKind::Call => "call",
+        SiteKind::Jump => "jump",
+    }
+}
+
+/// Adds the class that a site has.
+fn add_class(text: &mut String, class: Option<u64>) -> Result<(), AllocError> {
+    match class {
+        Some(class) => write!(text, " in {class}"),
+        None => text.push_str(" in none"),
+    }
+}
+
+/// Adds a site with its targets and its class.
+fn add_site(
+    text: &mut String,
+    site: RawSite,
+    targets: &[u64],
+    class: Option<u64>,
+) -> Result<(), AllocError> {
+    let (kind, place) = (kind_name(site.kind), site.place);
+    write!(text, ", {kind} {place} to")?;
+    add_numbers(text, targets)?;
+    add_class(text, class)
+}
+
+/// Adds the sites.
+fn add_sites(text: &mut String, raw: &Raw, closed: &Closed) -> Result<(), AllocError> {
+    for k in 0..raw.sites() {
+        let site = raw.site(k);
+        let class = closed.class_of(site.place);
+        add_site(text, site, raw.targets(k).as_slice(), class)?;
+    }
+    Ok(())
+}
+
+/// Adds the classes.
+fn add_classes(text: &mut String, closed: &Closed) -> Result<(), AllocError> {
+    for k in 0..closed.classes() {
+        write!(text, ", {k} has")?;
+        add_numbers(text, closed.class(k).as_slice())?;
+    }
+    Ok(())
+}
+
+/// What is told of a closed graph and the raw one that it is of.
+fn told_of(alloc: Global, raw: &Raw, closed: &Closed) -> Result<String, AllocError> {
+    let mut text = String::new(alloc);
+    add_taken(&mut text, closed)?;
+    add_sites(&mut text, raw, closed)?;
+    add_classes(&mut text, closed)?;
+    Ok(text)
+}
+
+/// What is told of the graph of a program with these sites.
+fn told_of_raw(alloc: Global, raw: &Raw) -> Option<String> {
+    match close(alloc, raw) {
+        Ok(closed) => told_of(alloc, raw, &closed).ok(),
+        Err(_) => None,
+    }
+}
+
+/// What is told of a program's flow under a policy: `Policy` and the number of its first wrong line, if one is wrong.
+fn told_under(alloc: Global, items: &Items, policy: &Policy) -> Option<String> {
+    match raw_graph(alloc, items, policy) {
+        Ok(raw) => told_of_raw(alloc, &raw),
+        Err(FlowEnd::Policy(line)) => format!(in alloc; "Policy {line}").ok(),
+        Err(FlowEnd::NoMemory) => None,
+    }
+}
+
+/// The text of a policy with these lines, of which each two have a `;` between them.
+fn policy_text(alloc: Global, lines: &str) -> Result<String, AllocError> {
+    let mut text = String::from_str(alloc, "rvcfi-policy 1\n")?;
+    for line in lines.split(';') {
+        writeln!(text, "{line}")?;
+    }
+    text.push_str("end\n")?;
+    Ok(text)
+}
+
+/// The policy with these lines.
+fn policy_of(alloc: Global, lines: &str) -> Option<Policy> {
+    match policy_text(alloc, lines) {
+        Ok(text) => read_policy(alloc, text.as_bytes()).ok(),
+        Err(_) => None,
+    }
+}
+
+/// What is told of a program's flow under the policy with these lines.
+fn told_under_lines(alloc: Global, items: &Items, lines: &str) -> Option<String> {
+    let policy = policy_of(alloc, lines)?;
+    told_under(alloc, items, &policy)
+}
+
+/// What is told of a place, if there is one.
+fn told_of_place(alloc: Global, place: Option<u64>) -> Option<String> {
+    match place {
+        Some(place) => place.to_string(alloc).ok(),
+        None => String::from_str(alloc, "none").ok(),
+    }
+}
+
+/// What is told of the labels that a program has.
+fn told_of_labels(alloc: Global, items: &Items) -> Option<String> {
+    let mut text = String::from_str(alloc, "labels").ok()?;
+    for label in &used_labels(alloc, items).ok()? {
+        write!(text, " {label}").ok()?;
+    }
+    Some(text)
+}
+
+/// What is told of a program when this is asked.
+pub(crate) fn told(alloc: Global, items: &Items, asked: &str) -> Option<String> {
+    match asked.split_once(' ') {
+        Some(("enter", name)) => told_of_place(alloc, entry_place(items, name.as_bytes())),
+        Some(_) => told_under_lines(alloc, items, asked),
+        None if asked == "labels" => told_of_labels(alloc, items),
+        None => told_under(alloc, items, &Policy::none(alloc)),
+    }
+}
