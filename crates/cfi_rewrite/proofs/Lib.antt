@@ -1,0 +1,6 @@
+pub mod PartSizes
+mod ShortList
+mod Shortened
+mod Placements
+mod Few
+mod PlacingRows
