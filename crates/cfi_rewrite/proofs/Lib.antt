@@ -1,0 +1,2 @@
+pub mod InstrAt
+pub mod UnitOf
