@@ -1,6 +1,6 @@
 -- The instruction of a place at a map has its fields in range, and `lui x0` has the number that its word has.
-use Rattle.std.proofs.Common.{◌≡◌, ℕ, ◌+◌, ◌/◌, ◌^◌, ◌<◌, inl, inr, true, false, List, Option, Some, None, refl, sym, ap, subst, ◌∙◌, lit<, arith, rules, unwrap_or}
-use Rattle.std.specs.Prelude.{ℤ, pos, negsuc, option_and_then, option_map, ◌&&◌, not}
+use Rattle.std.proofs.Common.{◌≡◌, ℕ, ◌/◌, ◌^◌, ◌<◌, inl, inr, true, List, Some, None, ap, subst, ◌∙◌, lit<, arith, rules, unwrap_or}
+use Rattle.std.specs.Prelude.{ℤ, pos, negsuc, ◌&&◌, not}
 use Rattle.std.proofs.lemmas.Bool.{and_parts}
 use Rattle.std.proofs.lemmas.Option.{cond_some, same_Some}
 use Rattle.rv_word.proofs.Cases.{cases_Option, mapped}
@@ -14,10 +14,9 @@ use Rattle.rv_instr.specs.declared.instr.UpperOp.TheVariants.{Lui, Auipc}
 use Rattle.rv_code.specs.Decode.{decoded}
 use Rattle.rv_code.specs.Encode.{code_of}
 use Rattle.rv_code.proofs.Inverse.{code_of-decoded, decoded-in_range}
-use Rattle.obj_input.specs.declared.item_kind.ItemKind.{ItemKind}
 use Rattle.obj_input.specs.declared.item_kind.ItemKind.TheVariants as is
 use Rattle.obj_program.specs.AtMap.{distance, distance_to, high_part, instr_at, low_part, patched_instr, value_at, with_lower, with_upper}
-use Rattle.obj_program.specs.Program.{Program, count, item_of}
+use Rattle.obj_program.specs.Program.{Program, item_of}
 use Rattle.obj_program.specs.Sound.{is_of}
 use Rattle.obj_program.specs.Suits.{names_reserved, stands_on, suits}
 use Rattle.obj_program.specs.declared.item.Patch.{Patch}

@@ -1,2 +1,3 @@
 pub mod InstrAt
 pub mod UnitOf
+pub mod Runs

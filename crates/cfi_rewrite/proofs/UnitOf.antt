@@ -1,6 +1,6 @@
 -- The unit of an instruction that is of its kind: its size, its line, where it leads.
-use Rattle.std.proofs.Common.{◌≡◌, ℕ, ◌+◌, ◌*◌, ◌^◌, ◌<◌, inl, inr, Bool, true, false, Option, Some, None, refl, sym, ap, subst, ◌∙◌, arith}
-use Rattle.std.specs.Prelude.{◌&&◌, ◌||◌, ◌==◌, not}
+use Rattle.std.proofs.Common.{◌≡◌, ℕ, ◌*◌, Bool, true, false, Some, refl, ap}
+use Rattle.std.specs.Prelude.{◌&&◌, ◌||◌, not}
 use Rattle.std.proofs.lemmas.Option.{some_pair_parts}
 use Rattle.rv_instr.specs.declared.instr.UpperOp.{UpperOp}
 use Rattle.rv_instr.specs.declared.instr.Instr.{Instr}
@@ -16,7 +16,6 @@ use Rattle.cfi_flow.specs.GraphAtMap.{line_of_kind}
 use Rattle.cfi_flow.specs.Placement.{size_of}
 use Rattle.cfi_flow.specs.Sites.{site_kind}
 use Rattle.cfi_unit.specs.declared.place.Place.TheVariants.{Body as body}
-use Rattle.cfi_unit.specs.declared.unit.Unit as U
 use Rattle.cfi_unit.specs.declared.unit.Unit.TheVariants as V
 use Rattle.cfi_unit.specs.UnitWords.{word_count}
 use Rattle.cfi_verify.specs.Placed.{line_of}
