@@ -3,3 +3,5 @@ pub mod UnitOf
 pub mod Runs
 pub mod Standing
 pub mod Fitting
+pub mod Labelled
+pub mod ClassLines
