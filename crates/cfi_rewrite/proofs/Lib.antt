@@ -5,3 +5,4 @@ pub mod Standing
 pub mod Fitting
 pub mod Labelled
 pub mod ClassLines
+pub mod Leading
