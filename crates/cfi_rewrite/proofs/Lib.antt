@@ -6,3 +6,4 @@ pub mod Fitting
 pub mod Labelled
 pub mod ClassLines
 pub mod Leading
+pub mod SoundCode
