@@ -4,3 +4,12 @@ mod Shortened
 mod Placements
 mod Few
 mod PlacingRows
+pub mod InstrAt
+pub mod UnitOf
+pub mod Runs
+pub mod Standing
+pub mod Fitting
+pub mod Labelled
+pub mod ClassLines
+pub mod Leading
+pub mod SoundCode

@@ -9,3 +9,4 @@ pub mod Sizes
 pub mod Shorts
 pub mod Placing
 pub mod GraphOf
+pub mod Laws
