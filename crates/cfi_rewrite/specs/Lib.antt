@@ -10,3 +10,5 @@ pub mod Shorts
 pub mod Placing
 pub mod GraphOf
 pub mod Laws
+pub mod Chosen
+pub mod Hardened

@@ -2,6 +2,8 @@
 use Rattle.std.specs.Prelude.{◌≡◌}
 use Rattle.cfi_flow.specs.declared.end.FlowEnd.{FlowEnd}
 use Rattle.cfi_flow.specs.declared.end.FlowEnd.TheVariants as flow
+use Rattle.cfi_layout.specs.declared.end.PlaceEnd.{PlaceEnd}
+use Rattle.cfi_layout.specs.declared.end.PlaceEnd.TheVariants as place
 use Rattle.elf_object.specs.declared.fault.ObjectEnd.{ObjectEnd}
 use Rattle.elf_object.specs.declared.fault.ObjectEnd.TheVariants as object
 use Rattle.obj_items.specs.declared.item_end.ItemEnd.{ItemEnd}
@@ -20,3 +22,7 @@ IsOfItems items.NoMemory r = r ≡ refused.NoMemory
 abbrev pub IsOfFlow : FlowEnd → Refusal → Type 0
 IsOfFlow (flow.Policy number) r = r ≡ refused.Policy number
 IsOfFlow flow.NoMemory r = r ≡ refused.NoMemory
+
+abbrev pub IsOfPlace : PlaceEnd → Refusal → Type 0
+IsOfPlace (place.CodeTooLarge bytes) r = r ≡ refused.CodeTooLarge bytes
+IsOfPlace place.NoMemory r = r ≡ refused.NoMemory

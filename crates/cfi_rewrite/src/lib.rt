@@ -1,15 +1,17 @@
-//! Hardened code of a program: the units that stand at its places, and that they meet the verifier's rules.
+//! Hardened code of a program: an object becomes an image, its graph and its map, which the verifier accepts, or the first
+//! thing that stands against that is told. Its main calls are `prepare`, which reads an object as a program with its closed
+//! graph, and `place_program`, which finds where its units stand.
 #![tactic(auto)]
 
+pub use numbering::class_labels;
 pub use prepared::{Prepared, prepare};
 pub use refusal::Refusal;
+pub use spacing::{Spacing, place_program};
 
 mod closing;
+mod numbering;
 mod prepared;
 mod refusal;
-pub use numbering::class_labels;
-pub use spacing::{Spacing, place_program};
-mod numbering;
 mod shorts;
 mod sizes;
 mod spacing;

@@ -1,4 +1,5 @@
 use cfi_flow::FlowEnd;
+use cfi_layout::PlaceEnd;
 use elf_object::{ObjectEnd, ObjectFault};
 use obj_items::ItemEnd;
 use obj_rules::ItemFault;
@@ -15,6 +16,12 @@ pub enum Refusal {
     NoEntry,
     /// The line with this number, from 1, of the policy is not of its form, or names what it may not.
     Policy(u64),
+    /// The code has so many bytes with every branch long, the prologue counted, more than its region.
+    CodeTooLarge(u128),
+    /// Initialised data have so many bytes, or all data end at this address, more than there is room for.
+    DataTooLarge(u128, u128),
+    /// A value leaves the range of the relocation at this section and offset.
+    RelocRange(u32, u64),
     /// There was no memory.
     NoMemory,
 }
@@ -65,6 +72,19 @@ impl From<FlowEnd> for Refusal {
         match end {
             FlowEnd::Policy(number) => Refusal::Policy(number),
             FlowEnd::NoMemory => Refusal::NoMemory,
+        }
+    }
+}
+
+impl From<PlaceEnd> for Refusal {
+    ghost use Rattle.cfi_rewrite.specs.RefusalOf.{IsOfPlace};
+
+    ghost from_gives = { IsOfPlace };
+
+    fn from(end: PlaceEnd) -> Self {
+        match end {
+            PlaceEnd::CodeTooLarge(bytes) => Refusal::CodeTooLarge(bytes),
+            PlaceEnd::NoMemory => Refusal::NoMemory,
         }
     }
 }
