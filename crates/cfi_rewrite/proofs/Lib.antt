@@ -7,3 +7,4 @@ pub mod Labelled
 pub mod ClassLines
 pub mod Leading
 pub mod SoundCode
+pub mod Written
