@@ -1,7 +1,7 @@
--- The graph of a program at a map: its classes by the gates of their targets, the prologue's call of the entry, and a line for each
--- transfer at its word.
+-- The graph of a program at a map: its classes by the gates of their targets, the opening's call of the entry, which stands where a
+-- run starts, and a line for each transfer at its word.
 use Rattle.std.specs.Prelude.{ℕ, ◌+◌, Option, Some, None, List, [], ◌∷◌, ◌++◌, map, slice_index}
-use Rattle.rv_word.specs.Layout.{Profile}
+use Rattle.rv_word.specs.Layout.{Profile, START}
 use Rattle.obj_input.specs.declared.item_kind.ItemKind.{ItemKind}
 use Rattle.obj_input.specs.declared.item_kind.ItemKind.TheVariants as is
 use Rattle.obj_program.specs.declared.item.Item.{Item}
@@ -60,4 +60,4 @@ place_lines layout labels k (item ∷ items) = with_line (line_for layout labels
 abbrev pub graph_lines : Layout → List ℕ → List GraphLine
 graph_lines layout labels =
     class_lines layout.gates labels (all_classes layout.closed)
-    ++ (line.Call layout.profile.opening_call (gate layout layout.entry) ∷ place_lines layout labels 0 layout.program.items)
+    ++ (line.Call START (gate layout layout.entry) ∷ place_lines layout labels 0 layout.program.items)

@@ -13,3 +13,4 @@ pub mod Labelled
 pub mod ClassLines
 pub mod Leading
 pub mod SoundCode
+pub mod Written

@@ -136,7 +136,7 @@ module _ (m : Choice) (ok : IsAccepted m) where
   asks : (k a label : ℕ) (u : U.Unit) (kind : SiteKind) → k < count m.layout.program → IsUnit m k (item_of m.layout.program k) a u → site_of (body u) ≡ Some (kind, label) →
       is_some (class_of (written_classes m) label) ≡ true
   asks k a label u kind below (gate_word l some here gate_is) e =
-      let wrong : None ≡ Some (kind, label) = sym (ap (λ (v : U.Unit). site_of (body v)) gate_is) ∙ e in absurd (cc)
+      let wrong : false ≡ true = sym (ap (λ (v : U.Unit). is_some (site_of (body v))) gate_is) ∙ ap is_some e in absurd (cc)
   asks k a label u kind below (own here unit_is) e =
       let of : site_of (body (unit_for m k (item_of m.layout.program k))) ≡ Some (kind, label) = sym (ap (λ (v : U.Unit). site_of (body v)) unit_is) ∙ e in
       let site = unit_site (item_of m.layout.program k).kind (instr_of m k) (is_long m.long k) (gate_to m.layout (item_of m.layout.program k).target)

@@ -15,3 +15,8 @@ mod refusal;
 mod shorts;
 mod sizes;
 mod spacing;
+mod laws;
+pub use laws::{
+    written_entry, written_is_graph, written_is_sound, written_is_well_formed, written_lines,
+    written_units,
+};
