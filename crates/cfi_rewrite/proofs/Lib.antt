@@ -1,0 +1,7 @@
+pub mod InstrAt
+pub mod UnitOf
+pub mod Runs
+pub mod Standing
+pub mod Fitting
+pub mod Labelled
+pub mod ClassLines

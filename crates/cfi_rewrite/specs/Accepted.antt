@@ -44,8 +44,9 @@ pub record IsShortAt (layout : Layout) (k target : ℕ) : Type 0 where
 -- what a choice is made of
 pub record IsAccepted (m : Choice) : Type 0 where
   pub profile : m.layout.profile ≡ version_1
-  -- the program is sound and ends in a section's end; it is entered at one of its places
+  -- the program is sound, its words have 32 bits, and it ends in a section's end; it is entered at one of its places
   pub sound : IsSound m.layout.program
+  pub words : (k : ℕ) → k < count m.layout.program → (item_of m.layout.program k).word < 2 ^ 32
   pub last : (k : ℕ) × (count m.layout.program ≡ k + 1) × (is_end (item_of m.layout.program k).kind ≡ true)
   pub entry_there : m.layout.entry < count m.layout.program
   -- its gates are a placement's, its code has room, and each instruction has its values
