@@ -5,3 +5,7 @@ pub mod Standing
 pub mod Fitting
 pub mod Labelled
 pub mod ClassLines
+pub mod EntryThere
+pub mod SitesThere
+pub mod CodeBytes
+pub mod Accepting

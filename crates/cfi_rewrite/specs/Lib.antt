@@ -5,3 +5,7 @@ pub mod Prepared
 pub mod Refused
 pub mod RefusalOf
 pub mod Closing
+pub mod Sizes
+pub mod Shorts
+pub mod Placing
+pub mod Chosen
