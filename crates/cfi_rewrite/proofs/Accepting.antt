@@ -1,5 +1,5 @@
 -- A placement in which no value leaves its range, with labels, makes an accepted choice of a program with its closed graph.
-use Rattle.std.proofs.Common.{◌≡◌, ◌≢◌, ℕ, ◌+◌, ◌*◌, ◌^◌, ◌≤◌, ◌<◌, Bool, true, false, List, length, Option, Some, None, refl, sym, ap, subst, ◌∙◌, arith}
+use Rattle.std.proofs.Common.{◌≡◌, ◌≢◌, ℕ, ◌+◌, ◌-◌, ◌*◌, ◌^◌, ◌≤◌, ◌<◌, Bool, true, false, List, length, Option, Some, None, refl, sym, ap, subst, ◌∙◌, arith}
 use Rattle.std.specs.Prelude.{◌&&◌, not, is_none, is_some, slice_get, sum}
 use Rattle.std.specs.List.{All}
 use Rattle.std.specs.List.Sorted.{IsStrictlyIncreasing}
@@ -31,6 +31,7 @@ use Rattle.cfi_rewrite.specs.Units.{Choice, entry_gate, unit_for, units}
 use Rattle.cfi_rewrite.proofs.CodeBytes.{bytes_are, size_is}
 use Rattle.cfi_rewrite.proofs.EntryThere.{entry_there}
 use Rattle.cfi_rewrite.proofs.SitesThere.{site_class_there, site_there}
+use Rattle.cfi_rewrite.proofs.WordsThere.{AreBytes, words_small}
 
 -- each instruction has its values
 there_if : (last none : Bool) → (not last && none) ≡ false → last ≡ false → none ≡ false
@@ -50,10 +51,6 @@ values_there program gates words none k below some =
 -- and so have the data
 pub data_there : (program : Program) (gates words : List ℕ) → out_of_range program gates words ≡ None → is_some (data_at program gates) ≡ true
 data_there program gates words none = ((none_out_of_range program gates words).0 none).1
-
--- the last place is a section's end
-abbrev pub EndsWell : Program → Type 0
-EndsWell program = (k : ℕ) × (count program ≡ k + 1) × (is_end (item_of program k).kind ≡ true)
 
 -- labels for all classes
 pub record AreGiven (program : Program) (closed : ClosedGraph) (labels : List ℕ) : Type 0 where
@@ -75,34 +72,54 @@ room_there m few sound values room =
     (λ i item get. subst (λ (n : ℕ). size_of item.kind (is_long m.long n) ≡ 4 * word_count (unit_for m n item)) (zero_more i) (size_is m sound values i item get)) in
     omega arith
 
-pub accepted : (request : Request) (p : PreparedParts) → IsPrepared request p → IsSound p.program → EndsWell p.program →
-    ((k : ℕ) → k < count p.program → (item_of p.program k).word < 2 ^ 32) →
-    (s : Spaced) → IsPlaced p.program p.closed s → out_of_range p.program s.gates s.words ≡ None →
-    (labels : List ℕ) → AreGiven p.program p.closed labels →
-    IsAccepted (choice_of p.program p.closed s.gates s.long labels p.entry)
-accepted request p prepared sound last small s placed none labels given =
-    let drawn = prepared.closed.drawn in
-    let raw = drawn.0 in
-    let few : length p.closed.classes ≤ length labels = let all = length-append p.closed.classes (empty_classes p.closed.sites) in let counted = given.counted in omega arith in
-    let values = subst (λ (words : List ℕ). (k : ℕ) → k < count p.program → is_end (item_of p.program k).kind ≡ false → is_some (instr_at p.program s.gates words k) ≡ true)
-    placed.words (values_there p.program s.gates s.words none) in
-    record {
-      profile = refl;
-      sound = sound;
-      words = small;
-      last = last;
-      entry_there = (entry_there p.program request.entry p.entry prepared.entry).0;
-      legal = placed.legal;
-      room = room_there (choice_of p.program p.closed s.gates s.long labels p.entry) few sound values placed.size;
-      values = values;
-      members = λ c k h. members_there p.program _ raw p.closed drawn.1 drawn.2 k (c, h);
-      rising = drawn.2.classes.rising;
-      apart = λ i j k. drawn.2.classes.apart i j k;
-      sites = λ k below some. site_there p.program _ raw p.closed drawn.1 drawn.2 k below some;
-      site_classes = λ i c site. site_class_there p.program _ raw p.closed drawn.1 drawn.2 i c site;
-      counted = given.counted;
-      labels = given.least;
-      labels_rise = given.rising;
-      labels_small = given.small;
-      shorts = λ k target below branch short aims. placed.shorts p.entry k target below branch short aims;
-    }
+-- the last place of a program that has any
+last_there : (program : Program) → 0 < count program → is_end (item_of program (count program - 1)).kind ≡ true →
+    (k : ℕ) × (count program ≡ k + 1) × (is_end (item_of program k).kind ≡ true)
+last_there program some last = (count program - 1, omega arith, last)
+
+-- what is chosen for a request that is prepared: a placement in which no value leaves its range, and labels
+module _ (request : Request) (p : PreparedParts) (prepared : IsPrepared request p) (bytes : AreBytes request.object) (sound : IsSound p.program)
+    (last : is_end (item_of p.program (count p.program - 1)).kind ≡ true)
+    (s : Spaced) (placed : IsPlaced p.program p.closed s) (none : out_of_range p.program s.gates s.words ≡ None)
+    (labels : List ℕ) (given : AreGiven p.program p.closed labels) where
+  small : (k : ℕ) → k < count p.program → (item_of p.program k).word < 2 ^ 32
+  small = subst (λ (program : Program). (k : ℕ) → k < count program → (item_of program k).word < 2 ^ 32) (sym prepared.program) (words_small request.object bytes)
+
+  values : (k : ℕ) → k < count p.program → is_end (item_of p.program k).kind ≡ false →
+      is_some (instr_at p.program s.gates (words_from p.closed.classes 0 s.gates) k) ≡ true
+  values =
+      subst (λ (words : List ℕ). (k : ℕ) → k < count p.program → is_end (item_of p.program k).kind ≡ false → is_some (instr_at p.program s.gates words k) ≡ true)
+      placed.words (values_there p.program s.gates s.words none)
+
+  labels_suffice : length p.closed.classes ≤ length labels
+  labels_suffice =
+      let all = length-append p.closed.classes (empty_classes p.closed.sites) in
+      let counted = given.counted in
+      omega arith
+
+  entered : p.entry < count p.program
+  entered = (entry_there p.program request.entry p.entry prepared.entry).0
+
+  pub accepted : IsAccepted (choice_of p.program p.closed s.gates s.long labels p.entry)
+  accepted =
+      let (raw, is, of) = prepared.closed.drawn in
+      record {
+        profile = refl;
+        sound = sound;
+        words = small;
+        last = let below = entered in last_there p.program (omega arith) last;
+        entry_there = entered;
+        legal = placed.legal;
+        room = room_there (choice_of p.program p.closed s.gates s.long labels p.entry) labels_suffice sound values placed.size;
+        values = values;
+        members = λ c k h. members_there p.program _ raw p.closed is of k (c, h);
+        rising = of.classes.rising;
+        apart = λ i j k. of.classes.apart i j k;
+        sites = λ k below some. site_there p.program _ raw p.closed is of k below some;
+        site_classes = λ i c site. site_class_there p.program _ raw p.closed is of i c site;
+        counted = given.counted;
+        labels = given.least;
+        labels_rise = given.rising;
+        labels_small = given.small;
+        shorts = λ k target below branch short aims. placed.shorts p.entry k target below branch short aims;
+      }

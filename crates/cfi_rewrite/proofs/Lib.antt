@@ -9,3 +9,5 @@ pub mod EntryThere
 pub mod SitesThere
 pub mod CodeBytes
 pub mod Accepting
+pub mod WordsThere
+pub mod MapFits

@@ -9,3 +9,4 @@ pub mod Sizes
 pub mod Shorts
 pub mod Placing
 pub mod Chosen
+pub mod MapLines
