@@ -10,3 +10,4 @@ pub mod Shorts
 pub mod Placing
 pub mod Chosen
 pub mod MapLines
+pub mod GraphOf
