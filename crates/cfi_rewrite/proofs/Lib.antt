@@ -14,3 +14,15 @@ pub mod ClassLines
 pub mod Leading
 pub mod SoundCode
 pub mod Written
+pub mod EntryThere
+pub mod SitesThere
+pub mod CodeBytes
+pub mod Accepting
+pub mod WordsThere
+pub mod MapFits
+pub mod PartSizes
+mod ShortList
+mod Shortened
+mod Placements
+mod Few
+mod PlacingRows

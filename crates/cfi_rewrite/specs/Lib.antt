@@ -8,6 +8,8 @@ pub mod Closing
 pub mod Sizes
 pub mod Shorts
 pub mod Placing
+pub mod Chosen
+pub mod MapLines
 pub mod GraphOf
 pub mod Laws
 pub mod Chosen
