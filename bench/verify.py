@@ -151,4 +151,5 @@ def main():
     report(rows, base, start)
 
 
-main()
+if __name__ == "__main__":
+    main()

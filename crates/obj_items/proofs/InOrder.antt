@@ -116,10 +116,10 @@ unfolding outline
 outline_in_order input = (sections_follow input (section_count input)).in_order
 
 -- what relocations make of an instruction changes neither its section nor its offset
-same_section : (input : InputParts) (places : List Item) (x : Item) → (item_with input places x).section ≡ x.section
+pub same_section : (input : InputParts) (places : List Item) (x : Item) → (item_with input places x).section ≡ x.section
 same_section input places x = elim (cases_Bool (is_end x.kind)) [ inl e ↦ rw e refl | inr e ↦ rw e refl ]
 
-same_offset : (input : InputParts) (places : List Item) (x : Item) → (item_with input places x).offset ≡ x.offset
+pub same_offset : (input : InputParts) (places : List Item) (x : Item) → (item_with input places x).offset ≡ x.offset
 same_offset input places x = elim (cases_Bool (is_end x.kind)) [ inl e ↦ rw e refl | inr e ↦ rw e refl ]
 
 kept_before : (x y a b : Item) → a.section ≡ x.section → a.offset ≡ x.offset → b.section ≡ y.section → b.offset ≡ y.offset

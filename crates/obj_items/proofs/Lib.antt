@@ -17,4 +17,6 @@ pub mod Bounds
 pub mod Patches
 pub mod DataLies
 pub mod ProgramSound
+pub mod MapFit
+pub mod LastEnds
 mod Rows

@@ -11,4 +11,5 @@ pub mod Before
 pub mod Standing
 pub mod Ranges
 pub mod ItemEnd
+pub mod MapFit
 pub mod Laws

@@ -1,0 +1,202 @@
+"""Objects that are hard to read as programs, each family of any size, and a compiled one.
+
+Everything is drawn from a seed, so a family has one object of a size. All are programs.
+"""
+
+import os
+import random
+import struct
+import subprocess
+
+PROGBITS, SYMTAB, STRTAB, RELA = 1, 2, 3, 4
+DATA, CODE = 3, 6  # flags of sections
+COMMON = 0xFFF2
+ABS64, ADD64, PCREL_HI20, PCREL_LO12_I, RELAX = 2, 36, 23, 24, 51
+HEADER, ENTRY, RELOCATION = 64, 24, 24
+FUNC, OBJECT = 0x12, 0x11  # global symbols
+RETURN, AUIPC, ADDI = 0x00008067, 0x00000297, 0x00028293
+MOST_SECTIONS = 0xFEFF
+
+
+def symbol(name, info, section, value, size=0):
+    return struct.pack("<IBBHQQ", name, info, 0, section, value, size)
+
+
+def relocation(offset, symbol_number, kind, addend=0):
+    return struct.pack("<QIIq", offset, kind, symbol_number, addend)
+
+
+def words(*code):
+    return struct.pack("<%dI" % len(code), *code)
+
+
+class Section:
+    """A section; its offset and size in the file may be those of others."""
+
+    def __init__(self, kind, content, flags=0, link=0, info=0, align=1, entry=0, shared=None, name=0):
+        self.kind, self.content, self.flags, self.link, self.info = kind, content, flags, link, info
+        self.align, self.entry, self.shared, self.name = align, entry, shared, name
+
+
+def object_file(sections):
+    """A file of these sections from number 1 on; the last one has their names."""
+    body, headers = bytearray(64), bytearray(HEADER)
+    where = {}
+    for number, section in enumerate(sections, 1):
+        body += bytes(-len(body) % 8)
+        where[number] = (len(body), len(section.content))
+        body += section.content
+    for number, section in enumerate(sections, 1):
+        at, size = where[section.shared or number]
+        headers += struct.pack("<IIQQQQIIQQ", section.name, section.kind, section.flags, 0, at, size, section.link,
+                               section.info, section.align, section.entry)
+    body += bytes(-len(body) % 8)
+    body[:64] = b"\x7fELF\2\1\1" + bytes(9) + struct.pack(
+        "<HHIQQQIHHHHHH", 1, 243, 1, 0, 0, len(body), 0, 64, 0, 0, HEADER, 1 + len(sections), len(sections))
+    return bytes(body + headers)
+
+
+def with_tables(parts, tables, symbols, names=b"\0", shared=None):
+    """These sections, then the relocations of some by their number, the symbols, and names. Where `shared` is a
+    section's number, empty tables are that section's bytes."""
+    symtab = 1 + len(parts) + len(tables)
+    rows = [Section(RELA, content, link=symtab, info=number, align=8, entry=RELOCATION,
+                    shared=None if content else shared) for number, content in tables]
+    table = Section(SYMTAB, bytes(ENTRY) + symbols, link=symtab + 1, info=1, align=8, entry=ENTRY)
+    return object_file(parts + rows + [table, Section(STRTAB, names)])
+
+
+def returns(count):
+    return Section(PROGBITS, words(*[RETURN] * count), CODE, align=4)
+
+
+def shuffled(size):
+    """Relocations of data in no order, each to a place of its own."""
+    count = size // (RELOCATION + 8)
+    code, order = 1 << 12, list(range(count))
+    random.Random(count).shuffle(order)
+    rows = b"".join(relocation(8 * k, 1, ABS64, 4 * (k % code)) for k in order)
+    return with_tables([returns(code), Section(PROGBITS, bytes(8 * count), DATA, align=8)], [(2, rows)],
+                       symbol(1, FUNC, 1, 0, 4 * code), b"\0f\0")
+
+
+def one_place(size):
+    """Relocations that all stand at one place of data."""
+    rows = relocation(0, 1, ADD64) * (size // RELOCATION)
+    parts = [returns(1), Section(PROGBITS, bytes(8), DATA, align=8)]
+    return with_tables(parts, [(2, rows)], symbol(1, FUNC, 1, 0, 4), b"\0f\0")
+
+
+def one_name(size):
+    """Symbols of one name."""
+    symbols = symbol(1, FUNC, 1, 0, 4) * (size // ENTRY)
+    return with_tables([returns(1)], [], symbols, b"\0" + b"n" * 200 + b"\0")
+
+
+def nested_names(size):
+    """Symbols whose names are each other's ends in one long string."""
+    count = size // (ENTRY + 1)
+    symbols = b"".join(symbol(k, FUNC, 1, 0, 4) for k in range(1, count + 1))
+    return with_tables([returns(1)], [], symbols, b"\0" + b"n" * count + b"\0")
+
+
+def many_sections(size):
+    """Many sections of data, with few relocations each."""
+    count = min(size // (2 * HEADER + 4 * RELOCATION + 32), (MOST_SECTIONS - 4) // 2)
+    each = max(1, size // count // (RELOCATION + 8) - 4)
+    parts, tables = [returns(1)], []
+    for number in range(2, count + 2):
+        parts.append(Section(PROGBITS, bytes(8 * each), DATA, align=8))
+        tables.append((number, b"".join(relocation(8 * k, 1, ABS64) for k in range(each))))
+    return with_tables(parts, tables, symbol(1, FUNC, 1, 0, 4), b"\0f\0")
+
+
+def marks(size):
+    """Low parts that all name one AUIPC, at which there are as many marks."""
+    count = size // (4 + 2 * RELOCATION)
+    rows = relocation(0, 0, RELAX) * count + relocation(0, 2, PCREL_HI20)
+    rows += b"".join(relocation(4 * k, 1, PCREL_LO12_I) for k in range(1, count + 1))
+    code = Section(PROGBITS, words(AUIPC, *[ADDI] * count, RETURN), CODE, align=4)
+    return with_tables([code, Section(PROGBITS, bytes(8), DATA, align=8)], [(1, rows)],
+                       symbol(1, 0x10, 1, 0) + symbol(3, OBJECT, 2, 0, 8), b"\0l\0d\0")
+
+
+def commons(size):
+    """Commons, each named by a relocation."""
+    count = size // (ENTRY + RELOCATION + 8)
+    symbols = b"".join(symbol(1, OBJECT, COMMON, 1 << k % 13, 8) for k in range(count))
+    rows = b"".join(relocation(8 * k, k + 1, ABS64) for k in range(count))
+    return with_tables([returns(1), Section(PROGBITS, bytes(8 * count), DATA, align=8)], [(2, rows)], symbols, b"\0c\0")
+
+
+def section_names(size):
+    """Sections whose names are each other's ends in one long string."""
+    count = min(size // (2 * HEADER), MOST_SECTIONS - 4)
+    parts = [returns(1)] + [Section(PROGBITS, b"d", DATA, name=k + 1) for k in range(count)]
+    return with_tables(parts, [], symbol(1, FUNC, 1, 0, 4), b"\0" + b"n" * (size - HEADER * count) + b"\0")
+
+
+def sparse(size):
+    """Sections of one byte of data, each aligned at 4096."""
+    count = min(size // (HEADER + 8), MOST_SECTIONS - 4)
+    parts = [returns(1)] + [Section(PROGBITS, b"d", DATA, align=4096) for _ in range(count)]
+    return with_tables(parts, [], symbol(1, FUNC, 1, 0, 4), b"\0f\0")
+
+
+def overlapping_data(size):
+    """Sections of data that all are the same bytes: half of the file is those, the other half headers."""
+    count = size // 2 // HEADER
+    parts = [returns(1), Section(PROGBITS, bytes(size // 2), DATA)]
+    parts += [Section(PROGBITS, b"", DATA, shared=2) for _ in range(count)]
+    return with_tables(parts, [], symbol(1, FUNC, 1, 0, 4), b"\0f\0")
+
+
+def overlapping_code(size):
+    """The same of code."""
+    count = size // 2 // HEADER
+    parts = [returns(size // 8)] + [Section(PROGBITS, b"", CODE, align=4, shared=1) for _ in range(count)]
+    return with_tables(parts, [], symbol(1, FUNC, 1, 0, 4), b"\0f\0")
+
+
+def overlapping_relocations(size):
+    """Sections of data whose relocations all are the same bytes: half of the file, the other half headers."""
+    count = size // 2 // (2 * HEADER)
+    parts = [returns(1)] + [Section(PROGBITS, bytes(8), DATA, align=8) for _ in range(count)]
+    tables = [(2 + k, b"" if k else relocation(0, 1, ABS64) * (size // 2 // RELOCATION)) for k in range(count)]
+    return with_tables(parts, tables, symbol(1, FUNC, 1, 0, 4), b"\0f\0", shared=2 + count)
+
+
+FAMILIES = [shuffled, one_place, one_name, nested_names, many_sections, marks, commons, section_names,
+            sparse]
+OVERLAPPING = [overlapping_data, overlapping_code, overlapping_relocations]
+
+GCC = ["riscv64-linux-gnu-gcc", "-march=rv64i", "-mabi=lp64", "-mcmodel=medany", "-O1", "-ffreestanding", "-fno-pic",
+       "-fno-stack-protector", "-fno-asynchronous-unwind-tables", "-ffixed-t5", "-ffixed-t6", "-msmall-data-limit=0"]
+
+
+def source(functions):
+    """A program in C: each function reads and writes a table, and calls others, some by a table or in a switch."""
+    draw = random.Random(functions)
+    lines = ["long table[%d];" % functions]
+    lines += ["long f%d(long);" % k for k in range(functions)]
+    lines += ["long (*const pointers[])(long) = {%s};" % ", ".join("f%d" % k for k in range(0, functions, 7))]
+    for k in range(functions):
+        a, b, c = (draw.randrange(functions) for _ in range(3))
+        lines += ["long f%d(long n)" % k, "{", "    table[%d] += n ^ %d;" % (k, draw.randrange(1 << 20)),
+                  "    if (n < %d) return f%d(n + %d) - f%d(table[%d]);" % (draw.randrange(99), a, draw.randrange(9), b, c)]
+        if k % 5 == 0:
+            lines += ["    switch (n & 15) {"]
+            lines += ["    case %d: return f%d(n >> %d);" % (case, draw.randrange(functions), case) for case in range(9)]
+            lines += ["    }"]
+        lines += ["    return pointers[n & 7](n << %d);" % draw.randrange(1, 9), "}"]
+    return "\n".join(lines) + "\n"
+
+
+def compiled(folder, functions):
+    """The bytes of an object that gcc makes of so many functions."""
+    text, made = os.path.join(folder, "compiled.c"), os.path.join(folder, "compiled.o")
+    with open(text, "w") as out:
+        out.write(source(functions))
+    subprocess.run(GCC + ["-c", text, "-o", made], check=True)
+    with open(made, "rb") as file:
+        return file.read()
