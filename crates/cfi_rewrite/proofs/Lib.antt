@@ -20,9 +20,3 @@ pub mod CodeBytes
 pub mod Accepting
 pub mod WordsThere
 pub mod MapFits
-pub mod PartSizes
-mod ShortList
-mod Shortened
-mod Placements
-mod Few
-mod PlacingRows

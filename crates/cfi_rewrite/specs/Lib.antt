@@ -12,5 +12,4 @@ pub mod Chosen
 pub mod MapLines
 pub mod GraphOf
 pub mod Laws
-pub mod Chosen
 pub mod Hardened

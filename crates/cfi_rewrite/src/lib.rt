@@ -9,14 +9,10 @@ pub use refusal::Refusal;
 pub use spacing::{Spacing, place_program};
 
 mod closing;
+pub mod laws;
 mod numbering;
 mod prepared;
 mod refusal;
 mod shorts;
 mod sizes;
 mod spacing;
-mod laws;
-pub use laws::{
-    written_entry, written_is_graph, written_is_sound, written_is_well_formed, written_lines,
-    written_units,
-};
