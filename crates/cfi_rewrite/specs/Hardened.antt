@@ -57,10 +57,14 @@ pub record IsWritten (p : PreparedParts) (s : Spaced) (labels code init : List �
   -- image and graph meet the verifier's rules
   pub well_formed : IsWellFormed version_1 (record { code = code; init = init }) h.graph
 
+-- a prepared program is written at some placement that fits
+abbrev pub IsWrittenOf : PreparedParts → HardenedParts → Type 0
+IsWrittenOf p h =
+    (s : Spaced) × (labels : List ℕ) × (code : List ℕ) × (init : List ℕ)
+    × IsPlaced p.program p.closed s × HasDataRoom p.program × (out_of_range p.program s.gates s.words ≡ None)
+    × IsWritten p s labels code init h
+
 -- the hardened program of a request: it is placed with as many short branches as can be, its data have room, no value leaves its
 -- range, and it is written
 abbrev pub IsHardened : Request → HardenedParts → Type 0
-IsHardened request h =
-    (p : PreparedParts) × (s : Spaced) × (labels : List ℕ) × (code : List ℕ) × (init : List ℕ)
-    × IsPrepared request p × IsPlaced p.program p.closed s × HasDataRoom p.program × (out_of_range p.program s.gates s.words ≡ None)
-    × IsWritten p s labels code init h
+IsHardened request h = (p : PreparedParts) × IsPrepared request p × IsWrittenOf p h

@@ -13,3 +13,4 @@ pub mod MapLines
 pub mod GraphOf
 pub mod Laws
 pub mod Hardened
+pub mod Fitting

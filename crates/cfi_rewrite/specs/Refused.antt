@@ -1,17 +1,13 @@
 -- When a request is refused: the refusal stands, and none before it does.
-use Rattle.std.specs.Prelude.{◌≡◌, ◌<◌, ◌≤◌, Some, None, IsSome, Result, Ok, Err}
-use Rattle.rv_word.specs.Layout.{CODE_SIZE}
-use Rattle.obj_program.specs.DataAtMap.{init_size}
-use Rattle.obj_program.specs.Range.{out_of_range}
+use Rattle.std.specs.Prelude.{◌≡◌, Some, None, IsSome, Result, Ok, Err}
 use Rattle.elf_object.specs.Fault.{fault_of as object_fault}
 use Rattle.obj_rules.specs.Fault.{fault_of}
 use Rattle.obj_items.specs.FromObject.{input_of}
 use Rattle.cfi_flow.specs.Entry.{entry_place}
 use Rattle.cfi_rewrite.specs.declared.refusal.Refusal.{Refusal}
-use Rattle.cfi_rewrite.specs.declared.refusal.Refusal.TheVariants.{Object, Items, NoEntry, Policy, CodeTooLarge, DataTooLarge, RelocRange, NoMemory}
-use Rattle.cfi_rewrite.specs.Hardened.{HardenedParts, HasDataRoom, IsHardened}
-use Rattle.cfi_rewrite.specs.Placing.{IsPlaced, Spaced}
-use Rattle.cfi_rewrite.specs.Sizes.{whole_size}
+use Rattle.cfi_rewrite.specs.declared.refusal.Refusal.TheVariants.{Object, Items, NoEntry, Policy, NoMemory}
+use Rattle.cfi_rewrite.specs.Fitting.{RefusesPlaced}
+use Rattle.cfi_rewrite.specs.Hardened.{HardenedParts, IsHardened}
 use Rattle.cfi_rewrite.specs.Request.{Request, program_in}
 use Rattle.cfi_rewrite.specs.Prepared.{IsPrepared, IsProgram, IsWrongPolicy, PreparedParts}
 
@@ -22,15 +18,8 @@ Refuses request NoEntry = IsProgram request.object × (entry_place (program_in r
 Refuses request (Policy n) =
     IsProgram request.object × IsSome (entry_place (program_in request.object) request.entry)
     × IsWrongPolicy (program_in request.object) request.policy n
-Refuses request (CodeTooLarge bytes) =
-    (p : PreparedParts) × IsPrepared request p × (bytes ≡ whole_size p.program p.closed) × (CODE_SIZE < bytes)
-Refuses request (DataTooLarge init end) =
-    (p : PreparedParts) × IsPrepared request p × (whole_size p.program p.closed ≤ CODE_SIZE) × (init ≡ init_size p.program)
-    × (end ≡ p.program.data_end) × (HasDataRoom p.program → ⊥)
-Refuses request (RelocRange section offset) =
-    (p : PreparedParts) × (s : Spaced) × IsPrepared request p × IsPlaced p.program p.closed s × HasDataRoom p.program
-    × (out_of_range p.program s.gates s.words ≡ Some (record { section = section; offset = offset }))
 Refuses request NoMemory = Unit {0}
+Refuses request late = (p : PreparedParts) × IsPrepared request p × RefusesPlaced p late
 
 -- what hardening a request comes to
 abbrev pub Hardens : Request → Result HardenedParts Refusal → Type 0

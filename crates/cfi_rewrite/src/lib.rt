@@ -13,6 +13,7 @@ pub mod laws;
 mod numbering;
 mod prepared;
 mod refusal;
+mod room;
 mod shorts;
 mod sizes;
 mod spacing;
