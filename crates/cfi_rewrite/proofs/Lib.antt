@@ -1,0 +1,3 @@
+pub mod ClassLabels
+pub mod SiteNumbers
+pub mod Gates
