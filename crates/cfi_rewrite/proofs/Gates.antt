@@ -1,10 +1,10 @@
 -- Gates and words of a placement by their places.
-use Rattle.std.proofs.Common.{◌≡◌, ℕ, zero, suc, ◌+◌, ◌<◌, Bool, List, [], ◌∷◌, refl, length, arith, ap, ◌∙◌, sym, subst}
+use Rattle.std.proofs.Common.{◌≡◌, ℕ, zero, suc, ◌+◌, ◌<◌, Bool, List, [], ◌∷◌, refl, length, arith, ap, ◌∙◌}
 use Rattle.std.specs.Prelude.{slice_index}
 use Rattle.obj_program.specs.declared.item.Item.{Item}
 use Rattle.obj_program.specs.Program.{count}
 use Rattle.cfi_flow.specs.GraphAtMap.{word}
-use Rattle.cfi_flow.specs.Placement.{AreGates, gate_size, size_of, is_long, words_from}
+use Rattle.cfi_flow.specs.Placement.{AreGates, gate_size, words_from}
 use Rattle.cfi_rewrite.specs.Accepted.{IsAccepted}
 use Rattle.cfi_rewrite.specs.Chosen.{words_of}
 use Rattle.cfi_rewrite.specs.Units.{Choice}

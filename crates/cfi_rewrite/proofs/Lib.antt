@@ -1,3 +1,10 @@
 pub mod ClassLabels
 pub mod SiteNumbers
 pub mod Gates
+pub mod Aims
+pub mod UnitList
+pub mod CodeBytes
+pub mod CodeWritten
+pub mod LineList
+pub mod PlaceLines
+pub mod WriteRows

@@ -1,5 +1,5 @@
 -- The numbers of sites' classes, from the last site to the first.
-use Rattle.std.proofs.Common.{◌≡◌, ◌≢◌, ℕ, zero, suc, ◌+◌, ◌<◌, ◌≤◌, ◌==◌, Bool, false, Option, Some, None, List, [], ◌∷◌, refl, inl, inr, length, length-append, drop, arith, ap, ◌∙◌, sym, get_or, subst, ◌-◌, true, IsTrue}
+use Rattle.std.proofs.Common.{◌≡◌, ℕ, zero, suc, ◌+◌, ◌<◌, ◌≤◌, false, Option, Some, None, List, [], ◌∷◌, refl, inl, inr, length, length-append, drop, arith, ap, ◌∙◌, sym, subst, ◌-◌, true}
 use Rattle.std.specs.Prelude.{slice_get, slice_index, unwrap_or, is_some}
 use Rattle.std.proofs.Math.ListN.{drop_of_length-le, length-replicate, replicate}
 use Rattle.std.proofs.lemmas.Option.{get_or_from_slice_get, slice_get_within}
@@ -64,7 +64,7 @@ pub started : (labels table : List ℕ) (sites : List Site) (n places : ℕ) →
 started labels table sites n places all zeros =
     let none : drop n sites ≡ [] = drop_of_length-le sites (omega arith) in
     subst (λ (ss : List Site). IsNumbered labels ss (length labels) table) (sym none)
-        (none_numbered labels table (λ k. ap (λ (t : List ℕ). slice_index t k) zeros ∙ zero_at places k))
+    (none_numbered labels table (λ k. ap (λ (t : List ℕ). slice_index t k) zeros ∙ zero_at places k))
 
 last_site : (sites : List Site) (i : ℕ) (site : Site) → slice_get sites (i - 1) ≡ Some site → 0 < i → drop (i - 1) sites ≡ site ∷ drop i sites
 last_site sites i site is some =
@@ -79,7 +79,7 @@ pub stepped : (labels table : List ℕ) (sites : List Site) (i next before value
     → value ≡ slice_index labels (number site.class before) → IsNumbered labels (drop (i - 1) sites) before (set table site.place value)
 stepped labels table sites i next before value site numbered is some below after value_is =
     subst (λ (ss : List Site). IsNumbered labels ss before (set table site.place value)) (sym (last_site sites i site is some))
-        (one_numbered labels table site (drop i sites) next before value numbered below after value_is)
+    (one_numbered labels table site (drop i sites) next before value numbered below after value_is)
 
 pub number_is : (class : Option ℕ) (next : ℕ) → unwrap_or class next ≡ number class next
 number_is None next = refl

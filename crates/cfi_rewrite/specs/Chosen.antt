@@ -1,13 +1,14 @@
 -- What is kept beside a choice while its code and graph are written.
-use Rattle.std.specs.Prelude.{◌≡◌, ℕ, ◌<◌, Bool, List, length, slice_index}
+use Rattle.std.specs.Prelude.{◌≡◌, ℕ, ◌<◌, if◌then◌else◌, Bool, Option, Some, None, List, length, slice_index}
 use Rattle.rv_word.specs.Layout.{version_1}
-use Rattle.obj_program.specs.Program.{Program, count}
+use Rattle.rv_instr.specs.declared.instr.Instr.{Instr}
+use Rattle.obj_program.specs.Program.{Program, count, is_end, item_of}
 use Rattle.cfi_flow.specs.Closed.{ClosedGraph}
 use Rattle.cfi_flow.specs.GraphAtMap.{word}
 use Rattle.cfi_flow.specs.LabelOf.{site_label}
 use Rattle.cfi_flow.specs.Placement.{words_from}
 use Rattle.cfi_rewrite.specs.Accepted.{IsAccepted}
-use Rattle.cfi_rewrite.specs.Units.{Choice}
+use Rattle.cfi_rewrite.specs.Units.{Choice, instr_of}
 
 -- the choice of these parts
 abbrev pub choice_of : Program → ClosedGraph → List ℕ → List Bool → List ℕ → ℕ → Choice
@@ -16,6 +17,10 @@ choice_of program closed gates long labels entry =
 
 abbrev pub words_of : Choice → List ℕ
 words_of m = words_from m.layout.closed.classes 0 m.layout.gates
+
+-- the instruction of a place; none at a section's end
+abbrev pub instr_if : Choice → ℕ → Option Instr
+instr_if m k = if is_end (item_of m.layout.program k).kind then None else Some (instr_of m k)
 
 -- a choice that is accepted, with the words of its places, and of each place the label that its site asks for
 pub record IsChosen (m : Choice) (words sites : List ℕ) : Type 0 where

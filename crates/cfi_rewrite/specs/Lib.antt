@@ -1,3 +1,5 @@
 pub mod Units
 pub mod Accepted
 pub mod Chosen
+pub mod Prologue
+pub mod MapLines

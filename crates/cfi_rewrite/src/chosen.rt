@@ -1,17 +1,16 @@
-ghost use Rattle.std.specs.Prelude.{◌≡◌, ◌<◌, IfOk, false, length, slice_index};
-ghost use Rattle.obj_program.specs.AtMap.{instr_at};
-ghost use Rattle.obj_program.specs.Program.{count, is_end, item_of};
+ghost use Rattle.std.specs.Prelude.{◌≡◌, ◌<◌, ◌^◌, IfOk, IfSome, length, slice_index};
+ghost use Rattle.obj_program.specs.Program.{count, item_of};
 ghost use Rattle.cfi_flow.specs.GraphAtMap.{gate, gate_to, word};
-ghost use Rattle.cfi_flow.specs.LabelOf.{label_at, site_label};
+ghost use Rattle.cfi_flow.specs.LabelOf.{all_classes, label_at, site_label};
 ghost use Rattle.cfi_flow.specs.Placement.{is_long};
 ghost use Rattle.cfi_rewrite.specs.Accepted.{IsAccepted};
-ghost use Rattle.cfi_rewrite.specs.Chosen.{choice_of, words_of};
-ghost use Rattle.cfi_rewrite.specs.Units.{instr_of};
+ghost use Rattle.cfi_rewrite.specs.Chosen.{choice_of, instr_if, words_of};
 
 use crate::labels::{label_at, label_or_zero, site_labels};
 use cfi_flow::Closed;
+use obj_input::ItemKind;
 use obj_program::{Item, Items};
-use rv_instr::{Immediate, Instr};
+use rv_instr::Instr;
 use rv_word::NoMemory;
 use std::alloc::Global;
 use std::marker::Model;
@@ -19,7 +18,9 @@ use std::marker::Model;
 /// A program with its closed graph at a map.
 #[derive(Clone, Copy)]
 pub struct Mapped<'a> {
+    /// The program.
     pub items: &'a Items<'a>,
+    /// Its closed graph.
     pub closed: &'a Closed,
     /// The gate of each place: the address that pointers to it have.
     pub gates: &'a [u64],
@@ -88,6 +89,22 @@ impl<'a> Chosen<'a> {
         self.mapped.items.count()
     }
 
+    /// The closed graph.
+    pub(crate) fn closed(&self) -> &'a Closed
+        ensures value { result.now ≡ self.now.layout.closed }
+        ensures accepted { IsAccepted self.now }
+    {
+        self.mapped.closed
+    }
+
+    /// The labels of all classes, in their order.
+    pub(crate) fn labels(&self) -> &'a [u32]
+        ensures value { result.now ≡ self.now.labels }
+        ensures counted { length result.now ≡ length (all_classes self.now.layout.closed) }
+    {
+        self.labels
+    }
+
     /// The place with this index.
     pub(crate) fn item(&self, k: u64) -> Item
         requires { k < count self.now.layout.program }
@@ -112,26 +129,41 @@ impl<'a> Chosen<'a> {
         address_at(self.mapped.words, k)
     }
 
+    /// The gate of the place that a direct transfer at a place goes to; 0 where there is none.
+    #[tactic(auto, using(crate::proofs::Aims::target_there))]
+    pub(crate) fn target(&self, k: u64) -> u64
+        requires { k < count self.now.layout.program }
+        ensures { result ≡ gate_to self.now.layout (item_of self.now.layout.program k).target }
+    {
+        let _count = self.mapped.items.count();
+        match self.item(k).target {
+            Some(target) => self.gate(target),
+            None => 0,
+        }
+    }
+
     /// The gate where the program is entered.
-    pub(crate) fn entry_gate(&self) -> u64
-        ensures { result ≡ gate self.now.layout self.now.layout.entry }
+    pub fn entry_gate(&self) -> u64
+        ensures value { result ≡ gate self.now.layout self.now.layout.entry }
+        ensures accepted { IsAccepted self.now }
     {
         address_at(self.mapped.gates, self.entry)
     }
 
     /// The label of the class that has a place, if one has it.
-    pub(crate) fn label_at(&self, k: u64) -> Option<Immediate<20>>
-        ensures { result ≡ label_at self.now.labels self.now.layout.closed.classes k }
+    pub(crate) fn label_at(&self, k: u64) -> Option<u32>
+        ensures value { result ≡ label_at self.now.labels self.now.layout.closed.classes k }
+        ensures small { IfSome result (λ label. label < 2 ^ 20) }
     {
-        let label = label_at(self.mapped.closed, self.labels, k)?;
-        Some(Immediate::of(label))
+        label_at(self.mapped.closed, self.labels, k)
     }
 
     /// The label that the site at a place asks for; 0 where no site stands.
-    pub(crate) fn site_label(&self, k: u64) -> Immediate<20>
-        ensures { result ≡ site_label self.now.labels self.now.layout.closed k }
+    pub(crate) fn site_label(&self, k: u64) -> u32
+        ensures value { result ≡ site_label self.now.labels self.now.layout.closed k }
+        ensures small { result < 2 ^ 20 }
     {
-        Immediate::of(label_or_zero(&self.sites, k))
+        label_or_zero(&self.sites, k)
     }
 
     /// Whether the branch at a place is long.
@@ -141,13 +173,21 @@ impl<'a> Chosen<'a> {
         self.long.get(k as usize).copied().unwrap_or(true)
     }
 
-    /// The instruction of a place.
-    pub(crate) fn instr(&self, k: u64) -> Instr
-        requires place { k < count self.now.layout.program }
-        requires instruction { is_end (item_of self.now.layout.program k).kind ≡ false }
-        ensures { result ≡ instr_of self.now k }
+    /// The instruction of a place; none at a section's end.
+    pub(crate) fn instr(&self, k: u64) -> Option<Instr>
+        requires { k < count self.now.layout.program }
+        ensures { result ≡ instr_if self.now k }
     {
         let mapped = self.mapped;
-        mapped.items.instr_at(k, mapped.gates, mapped.words).unwrap()
+        if matches!(self.item(k).kind, ItemKind::End) {
+            None
+        } else {
+            Some(
+                mapped
+                    .items
+                    .instr_at(k, mapped.gates, mapped.words)
+                    .unwrap(),
+            )
+        }
     }
 }

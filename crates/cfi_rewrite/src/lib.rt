@@ -2,7 +2,11 @@
 #![tactic(auto)]
 
 pub use chosen::{Chosen, Mapped};
+pub use code::code_bytes;
 
 mod chosen;
+mod code;
 mod labels;
+mod lines;
+mod places;
 mod units;

@@ -1,7 +1,8 @@
-ghost use Rattle.std.specs.Prelude.{◌≡◌, ◌<◌, IfOk};
+ghost use Rattle.std.specs.Prelude.{◌≡◌, ◌<◌, ◌++◌, ◌∷◌, [], IfOk, OnOk};
 ghost use Rattle.obj_program.specs.Program.{count, item_of};
-ghost use Rattle.cfi_flow.specs.GraphAtMap.{gate_to};
-ghost use Rattle.cfi_rewrite.specs.Units.{inverse, unit_for, unit_of, units};
+ghost use Rattle.cfi_flow.specs.LabelOf.{label_at};
+ghost use Rattle.cfi_rewrite.specs.Chosen.{instr_if};
+ghost use Rattle.cfi_rewrite.specs.Units.{inverse, unit_for, unit_of, units, with_gate};
 
 use crate::chosen::Chosen;
 use cfi_unit::{SystemOp, Unit};
@@ -48,5 +49,51 @@ fn unit_of(kind: ItemKind, instr: &Instr, long: bool, target: u64, label: Immedi
         (ItemKind::Ijump, Instr::Jalr(_, rs1, imm)) => Unit::Ijump(rs1, imm, label),
         (ItemKind::Icall, Instr::Jalr(_, rs1, imm)) => Unit::Icall(rs1, imm, label),
         _ => Unit::Stop,
+    }
+}
+
+impl<'a> Chosen<'a> {
+    /// The unit of a place, of which this is the instruction.
+    fn unit(&self, k: u64, instr: Option<Instr>) -> Unit
+        requires place { k < count self.now.layout.program }
+        requires instruction { instr ≡ instr_if self.now k }
+        ensures { result ≡ unit_for self.now k (item_of self.now.layout.program k) }
+    {
+        let Some(instr) = instr else {
+            return Unit::Stop;
+        };
+        let label = Immediate::of(self.site_label(k));
+        unit_of(
+            self.item(k).kind,
+            &instr,
+            self.is_long(k),
+            self.target(k),
+            label,
+        )
+    }
+
+    /// Puts the unit of a place at the end, behind its gate word if it has one.
+    fn push_units(&self, units: &mut Vec<Unit>, k: u64) -> Result<(), NoMemory>
+        requires { k < count self.now.layout.program }
+        ensures { OnOk result (units.new.items ≡ units.old.items ++ with_gate (label_at self.now.labels self.now.layout.closed.classes k) (unit_for self.now k (item_of self.now.layout.program k) ∷ [])) }
+    {
+        if let Some(label) = self.label_at(k) {
+            units.push(Unit::Gate(Immediate::of(label)))?;
+        }
+        let instr = self.instr(k);
+        units.push(self.unit(k, instr))?;
+        Ok(())
+    }
+
+    /// The units of all places, each behind its gate word if it has one.
+    #[tactic(auto, using(crate::proofs::UnitList::next_units, crate::proofs::UnitList::all_units))]
+    pub fn units(&self, alloc: Global) -> Result<Vec<Unit>, NoMemory>
+        ensures { IfOk result (λ v. v.items ≡ units self.now) }
+    {
+        let mut units = Vec::new(alloc);
+        for k in 0..self.count() {
+            self.push_units(&mut units, k)?;
+        }
+        Ok(units)
     }
 }

@@ -1,4 +1,3 @@
-use Rattle.std.proofs.Common.{ℕ}
 use Rattle.cfi_rewrite.specs.Chosen.{choice_of}
 use Rattle.cfi_rewrite.specs.Units.{Choice}
 use Rattle.cfi_rewrite.proofs.Gates.{gates_counted, word_found, words_counted}
