@@ -20,3 +20,12 @@ pub mod CodeBytes
 pub mod Accepting
 pub mod WordsThere
 pub mod MapFits
+pub mod ClassLabels
+pub mod SiteNumbers
+pub mod Gates
+pub mod Aims
+pub mod UnitList
+pub mod CodeWritten
+pub mod LineList
+pub mod PlaceLines
+pub mod WriteRows

@@ -14,3 +14,4 @@ pub mod GraphOf
 pub mod Laws
 pub mod Hardened
 pub mod Fitting
+pub mod Prologue

@@ -9,3 +9,14 @@ map_line item gate = record { gate = gate; section = item.section; offset = item
 unfoldable pub map_lines : List Item → List ℕ → List MapLine
 map_lines (item ∷ items) (gate ∷ gates) = map_line item gate ∷ map_lines items gates
 map_lines items gates = []
+-- The lines of a map: each place with its gate, in the order of the places.
+use Rattle.std.specs.Prelude.{ℕ, ◌+◌, List, [], ◌∷◌}
+use Rattle.cfi_flow.specs.GraphAtMap.{Layout, gate}
+abbrev pub map_line : Layout → ℕ → Item → MapLine
+map_line layout k item = record { gate = gate layout k; section = item.section; offset = item.offset }
+-- the lines of places from index k on
+unfoldable pub lines_from : Layout → ℕ → List Item → List MapLine
+lines_from layout k [] = []
+lines_from layout k (item ∷ items) = map_line layout k item ∷ lines_from layout (k + 1) items
+abbrev pub map_lines : Layout → List MapLine
+map_lines layout = lines_from layout 0 layout.program.items

@@ -1,0 +1,113 @@
+ghost use Rattle.std.specs.Prelude.{◌≡◌, ◌<◌, ◌≤◌, ◌++◌, ◌∷◌, [], IfOk, OnOk, length, map, slice_index, slice_index_or};
+ghost use Rattle.std.specs.List.{All};
+ghost use Rattle.obj_program.specs.Program.{count, item_of};
+ghost use Rattle.cfi_graph.specs.Graph.{IsGraph};
+ghost use Rattle.cfi_flow.specs.GraphAtMap.{class_lines, graph_lines, line_for, place_lines, with_line};
+ghost use Rattle.cfi_flow.specs.LabelOf.{all_classes};
+
+use crate::chosen::Chosen;
+use cfi_graph::{Graph, GraphLine, GraphLines, SiteKind};
+use obj_input::ItemKind;
+use rv_word::profile::OPENING_CALL;
+use rv_word::{NoMemory, Places};
+use std::alloc::Global;
+
+/// Puts a line at the end, if there is one.
+fn push_line(lines: &mut Vec<GraphLine>, line: Option<GraphLine>) -> Result<(), NoMemory>
+    ensures { OnOk result (lines.new.items ≡ lines.old.items ++ with_line line []) }
+{
+    if let Some(line) = line {
+        lines.push(line)?;
+    }
+    Ok(())
+}
+
+impl<'a> Chosen<'a> {
+    /// The gates of places.
+    fn gates_of(&self, alloc: Global, places: &[u64]) -> Result<Places, NoMemory>
+        requires { All (λ t. t < count self.now.layout.program) places.now }
+        ensures { IfOk result (λ gates. gates ≡ map (slice_index self.now.layout.gates) places.now) }
+    {
+        let mut gates = Vec::new(alloc);
+        for place in places {
+            gates.push(self.gate(*place))?;
+        }
+        Ok(Places::of(gates))
+    }
+
+    /// The gates of the targets that the class with this index has, among all classes.
+    #[tactic(auto, using(crate::proofs::LineList::class_within, crate::proofs::LineList::class_past, crate::proofs::LineList::members_there))]
+    fn class_gates(&self, alloc: Global, k: u64) -> Result<Places, NoMemory>
+        ensures { IfOk result (λ gates. gates ≡ map (slice_index self.now.layout.gates) (slice_index_or (all_classes self.now.layout.closed) k [])) }
+    {
+        let closed = self.closed();
+        if k < closed.classes() {
+            self.gates_of(alloc, closed.class(k).as_slice())
+        } else {
+            Ok(Places::of(Vec::new(alloc)))
+        }
+    }
+
+    /// The lines of all classes.
+    #[tactic(auto, using(crate::proofs::LineList::next_class, crate::proofs::LineList::all_class_lines))]
+    fn class_lines(&self, alloc: Global) -> Result<Vec<GraphLine>, NoMemory>
+        ensures { IfOk result (λ v. v.items ≡ class_lines self.now.layout.gates self.now.labels (all_classes self.now.layout.closed)) }
+    {
+        let labels = self.labels();
+        let mut lines = Vec::new(alloc);
+        for k in 0..labels.len() {
+            let gates = self.class_gates(alloc, k as u64)?;
+            lines.push(GraphLine::Class(labels[k], gates))?;
+        }
+        Ok(lines)
+    }
+
+    /// The line of a place, if it has one.
+    fn line(&self, k: u64) -> Option<GraphLine>
+        requires { k < count self.now.layout.program }
+        ensures { result ≡ line_for self.now.layout self.now.labels k (item_of self.now.layout.program k) }
+    {
+        let at = self.word(k);
+        match self.item(k).kind {
+            ItemKind::Branch | ItemKind::Jump => Some(GraphLine::Edge(at, self.target(k))),
+            ItemKind::Call => Some(GraphLine::Call(at, self.target(k))),
+            ItemKind::Ijump => Some(GraphLine::Site(at, SiteKind::Jump, self.site_label(k))),
+            ItemKind::Icall => Some(GraphLine::Site(at, SiteKind::Call, self.site_label(k))),
+            ItemKind::Gate
+            | ItemKind::Plain
+            | ItemKind::Store
+            | ItemKind::System
+            | ItemKind::Return
+            | ItemKind::End => None,
+        }
+    }
+
+    /// Puts the lines of all places at the end.
+    fn push_place_lines(&self, lines: &mut Vec<GraphLine>) -> Result<(), NoMemory>
+        ensures { OnOk result (lines.new.items ≡ lines.old.items ++ place_lines self.now.layout self.now.labels 0 self.now.layout.program.items) }
+    {
+        for k in 0..self.count() {
+            push_line(lines, self.line(k))?;
+        }
+        Ok(())
+    }
+
+    /// The lines of the graph: those of the classes, the prologue's call of the entry, one for each transfer.
+    pub fn lines(&self, alloc: Global) -> Result<GraphLines, NoMemory>
+        ensures { IfOk result (λ lines. lines ≡ graph_lines self.now.layout self.now.labels) }
+    {
+        let mut lines = self.class_lines(alloc)?;
+        lines.push(GraphLine::Call(OPENING_CALL, self.entry_gate()))?;
+        self.push_place_lines(&mut lines)?;
+        Ok(GraphLines::of(lines))
+    }
+
+    /// The graph of a code of this many bytes, where it may have these lines.
+    pub fn graph(&self, alloc: Global, code: u32) -> Result<Graph, NoMemory>
+        requires { IsGraph (record { code = code; lines = graph_lines self.now.layout self.now.labels }) }
+        ensures { IfOk result (λ graph. graph ≡ record { code = code; lines = graph_lines self.now.layout self.now.labels }) }
+    {
+        let lines = self.lines(alloc)?;
+        Graph::of(alloc, code, lines)
+    }
+}
