@@ -8,3 +8,4 @@ pub mod ClassLines
 pub mod Leading
 pub mod SoundCode
 pub mod Written
+mod WrittenRows
