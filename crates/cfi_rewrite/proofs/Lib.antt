@@ -9,3 +9,4 @@ pub mod Leading
 pub mod SoundCode
 pub mod Written
 mod WrittenRows
+mod AcceptedRow

@@ -21,7 +21,7 @@ use Rattle.cfi_rewrite.specs.Accepted.{is_kept}
 use Rattle.cfi_rewrite.specs.Laws.{written_code}
 use Rattle.cfi_rewrite.specs.Units.{Choice, units_from}
 
-place : ℕ → ItemKind → ℕ → Option ℕ → Item
+abbrev pub place : ℕ → ItemKind → ℕ → Option ℕ → Item
 place offset kind word target = record { section = 1; offset = offset; kind = kind; word = word; patch = put.Own; target = target; taken = false }
 
 -- `beq x10, x0, +8`, an instruction of a kind, `ret`
@@ -45,7 +45,7 @@ layout program gates = record {
 }
 
 -- over `addi x10, x0, 1`: short
-abbrev short : Choice
+abbrev pub short : Choice
 short = record {
   layout = layout (program is.Plain 0x00100513 None) (0x40000040 ∷ 0x40000044 ∷ 0x40000048 ∷ 0x4000005c ∷ []);
   long = false ∷ [];
@@ -53,7 +53,7 @@ short = record {
 }
 
 -- over `j +4`: long
-abbrev long : Choice
+abbrev pub long : Choice
 long = record {
   layout = layout (program is.Jump 0x0040006f (Some 2)) (0x40000040 ∷ 0x40000048 ∷ 0x4000004c ∷ 0x40000060 ∷ []);
   long = true ∷ [];
@@ -63,12 +63,12 @@ long = record {
 short_rows : (length (written_code short) ≡ 24) × (slice_get (written_code short) 16 ≡ Some 0x00050463) × (slice_get (written_code short) 17 ≡ Some 0x00100513)
     × (is_kept short.layout 0 2 ≡ false)
     × (graph_lines short.layout [] ≡ Call 0x4000000c 0x40000040 ∷ Edge 0x40000040 0x40000048 ∷ [])
-unfolding place units_from code_from words_of code_of instr_at decoded words_from label_at site_number class_lines place_lines empty_classes
+unfolding units_from code_from words_of code_of instr_at decoded words_from label_at site_number class_lines place_lines empty_classes
 short_rows = (refl, refl, refl, refl, refl)
 
 -- the long one is `bne x10, x0, +8` and `j` to the place of `ret`
 long_rows : (length (written_code long) ≡ 25) × (slice_get (written_code long) 16 ≡ Some 0x00051463) × (slice_get (written_code long) 17 ≡ Some 0x0080006f)
     × (slice_get (written_code long) 18 ≡ Some 0x0040006f) × (is_kept long.layout 0 2 ≡ true)
     × (graph_lines long.layout [] ≡ Call 0x4000000c 0x40000040 ∷ Edge 0x40000040 0x4000004c ∷ Edge 0x40000048 0x4000004c ∷ [])
-unfolding place units_from code_from words_of code_of instr_at decoded words_from label_at site_number class_lines place_lines empty_classes
+unfolding units_from code_from words_of code_of instr_at decoded words_from label_at site_number class_lines place_lines empty_classes
 long_rows = (refl, refl, refl, refl, refl, refl)
