@@ -29,3 +29,5 @@ pub mod CodeWritten
 pub mod LineList
 pub mod PlaceLines
 pub mod WriteRows
+mod WrittenRows
+mod AcceptedRow

@@ -25,3 +25,10 @@ mod labels;
 mod lines;
 mod places;
 mod units;
+mod laws;
+mod word_range;
+pub use laws::{
+    written_entry, written_is_graph, written_is_sound, written_is_well_formed, written_lines,
+    written_units,
+};
+pub use word_range::program_words_fit;

@@ -1,0 +1,27 @@
+ghost use Rattle.std.specs.Prelude.{ℕ, ◌<◌, ◌^◌, length, slice_index_or};
+ghost use Rattle.obj_program.specs.Program.{count, item_of, no_item};
+
+use obj_program::{Item, Items};
+
+/// The word of a place has 32 bits.
+fn word_fits(item: &Item)
+    ensures { item.now.word < 2 ^ 32 }
+{
+    let _word = item.word;
+}
+
+/// The words of these places have 32 bits.
+fn words_fit(items: &[Item])
+    ensures { (k : ℕ) → k < length items.now → (slice_index_or items.now k no_item).word < 2 ^ 32 }
+{
+    for item in items {
+        word_fits(item);
+    }
+}
+
+/// The words of a program's places have 32 bits.
+pub fn program_words_fit(items: &Items)
+    ensures { (k : ℕ) → k < count items.now → (item_of items.now k).word < 2 ^ 32 }
+{
+    words_fit(items.places());
+}
