@@ -1,6 +1,6 @@
 -- A placement in which no value leaves its range, with labels, makes an accepted choice of a program with its closed graph.
-use Rattle.std.proofs.Common.{◌≡◌, ◌≢◌, ℕ, ◌+◌, ◌-◌, ◌*◌, ◌^◌, ◌≤◌, ◌<◌, Bool, true, false, List, length, Option, Some, None, refl, sym, ap, subst, ◌∙◌, arith}
-use Rattle.std.specs.Prelude.{◌&&◌, not, is_none, is_some, slice_get, sum}
+use Rattle.std.proofs.Common.{◌≡◌, ℕ, ◌+◌, ◌-◌, ◌*◌, ◌^◌, ◌≤◌, ◌<◌, Bool, true, false, List, length, Option, Some, None, refl, sym, subst, arith}
+use Rattle.std.specs.Prelude.{◌&&◌, not, is_none, is_some}
 use Rattle.std.specs.List.{All}
 use Rattle.std.specs.List.Sorted.{IsStrictlyIncreasing}
 use Rattle.std.proofs.lemmas.List.{length-append}
@@ -8,9 +8,11 @@ use Rattle.rv_word.specs.Layout.{CODE_SIZE, UNITS_START, version_1}
 use Rattle.obj_program.specs.AtMap.{instr_at}
 use Rattle.obj_program.specs.DataAtMap.{data_at}
 use Rattle.obj_program.specs.Program.{Program, count, is_end, item_of}
-use Rattle.obj_program.specs.Range.{is_astray, out_of_range}
+use Rattle.obj_program.specs.Range.{out_of_range}
 use Rattle.obj_program.specs.Sound.{IsSound}
 use Rattle.obj_program.proofs.Exact.{none_out_of_range}
+use Rattle.obj_items.specs.FromObject.{input_of}
+use Rattle.obj_items.proofs.LastEnds.{last_ends}
 use Rattle.cfi_class.specs.Labels.{AreLabels}
 use Rattle.cfi_layout.specs.Starts.{code_size}
 use Rattle.cfi_flow.specs.Closed.{ClosedGraph}
@@ -19,19 +21,19 @@ use Rattle.cfi_flow.specs.Labels.{used_labels}
 use Rattle.cfi_flow.specs.Placement.{is_long, size_of, words_from}
 use Rattle.cfi_flow.proofs.Laws.{members_there}
 use Rattle.cfi_unit.specs.UnitWords.{word_count}
-use Rattle.cfi_verify.specs.Placed.{code_from, placed_code}
+use Rattle.cfi_verify.specs.Placed.{placed_code}
 use Rattle.cfi_verify.proofs.UnitIn.{length-placed_code}
 use Rattle.cfi_rewrite.specs.Accepted.{IsAccepted}
 use Rattle.cfi_rewrite.specs.Chosen.{choice_of}
+use Rattle.cfi_rewrite.specs.GraphOf.{IsGraphOf}
 use Rattle.cfi_rewrite.specs.Placing.{IsPlaced, Spaced}
 use Rattle.cfi_rewrite.specs.Prepared.{IsClosedUnder, IsPrepared, PreparedParts}
-use Rattle.cfi_rewrite.specs.Request.{Request}
+use Rattle.cfi_rewrite.specs.Request.{Request, program_in}
 use Rattle.cfi_rewrite.specs.Sizes.{part_sizes}
 use Rattle.cfi_rewrite.specs.Units.{Choice, entry_gate, unit_for, units}
-use Rattle.cfi_rewrite.proofs.CodeBytes.{bytes_are, size_is}
-use Rattle.cfi_rewrite.proofs.EntryThere.{entry_there}
+use Rattle.cfi_rewrite.specs.Writing.{IsReady}
+use Rattle.cfi_rewrite.proofs.CodeRoom.{bytes_are, size_is}
 use Rattle.cfi_rewrite.proofs.SitesThere.{site_class_there, site_there}
-use Rattle.cfi_rewrite.proofs.WordsThere.{AreBytes, words_small}
 
 -- each instruction has its values
 there_if : (last none : Bool) → (not last && none) ≡ false → last ≡ false → none ≡ false
@@ -62,7 +64,7 @@ pub record AreGiven (program : Program) (closed : ClosedGraph) (labels : List �
 -- the code has room where the parts have
 pub room_there : (m : Choice) → length m.layout.closed.classes ≤ length m.labels → IsSound m.layout.program →
     ((k : ℕ) → k < count m.layout.program → is_end (item_of m.layout.program k).kind ≡ false →
-        is_some (instr_at m.layout.program m.layout.gates (words_from m.layout.closed.classes 0 m.layout.gates) k) ≡ true) →
+    is_some (instr_at m.layout.program m.layout.gates (words_from m.layout.closed.classes 0 m.layout.gates) k) ≡ true) →
     code_size (part_sizes m.layout.closed.classes m.long 0 m.layout.program.items) ≤ CODE_SIZE →
     4 * length (placed_code version_1 (entry_gate m) (units m)) ≤ CODE_SIZE
 room_there m few sound values room =
@@ -72,24 +74,33 @@ room_there m few sound values room =
     (λ i item get. subst (λ (n : ℕ). size_of item.kind (is_long m.long n) ≡ 4 * word_count (unit_for m n item)) (zero_more i) (size_is m sound values i item get)) in
     omega arith
 
+-- a closed graph under a policy is one of its program
+pub graph_there : (program : Program) (policy : Option (List ℕ)) (closed : ClosedGraph) → IsClosedUnder program policy closed → IsGraphOf program closed
+graph_there program policy closed under = let (raw, is, of) = under.drawn in (_, raw, is, of)
+
+-- the last place of an object's program is a section's end
+last_there : (object : List ℕ) (program : Program) → program ≡ program_in object → 0 < count program →
+    (k : ℕ) × (count program ≡ k + 1) × (is_end (item_of program k).kind ≡ true)
+last_there object program is some =
+    let P : Program → Type 0 = λ q. 0 < count q → is_end (item_of q (count q - 1)).kind ≡ true in
+    (count program - 1, omega arith, subst P (sym is) (last_ends (input_of object)) some)
+
+-- a closed graph under a policy is one of its program
+pub graph_there : (program : Program) (policy : Option (List ℕ)) (closed : ClosedGraph) → IsClosedUnder program policy closed → IsGraphOf program closed
+graph_there program policy closed under = let (raw, is, of) = under.drawn in (_, raw, is, of)
+
 -- the last place of a program that has any
 last_there : (program : Program) → 0 < count program → is_end (item_of program (count program - 1)).kind ≡ true →
     (k : ℕ) × (count program ≡ k + 1) × (is_end (item_of program k).kind ≡ true)
 last_there program some last = (count program - 1, omega arith, last)
 
--- what is chosen for a request that is prepared: a placement in which no value leaves its range, and labels
-module _ (request : Request) (p : PreparedParts) (prepared : IsPrepared request p) (bytes : AreBytes request.object) (sound : IsSound p.program)
-    (last : is_end (item_of p.program (count p.program - 1)).kind ≡ true)
-    (s : Spaced) (placed : IsPlaced p.program p.closed s) (none : out_of_range p.program s.gates s.words ≡ None)
-    (labels : List ℕ) (given : AreGiven p.program p.closed labels) where
-  small : (k : ℕ) → k < count p.program → (item_of p.program k).word < 2 ^ 32
-  small = subst (λ (program : Program). (k : ℕ) → k < count program → (item_of program k).word < 2 ^ 32) (sym prepared.program) (words_small request.object bytes)
-
+-- what is chosen for a program: a placement in which no value leaves its range, and labels
+module _ (p : PreparedParts) (ready : IsReady p) (s : Spaced) (fitting : IsFitting p s) (labels : List ℕ) (given : AreGiven p.program p.closed labels) where
   values : (k : ℕ) → k < count p.program → is_end (item_of p.program k).kind ≡ false →
       is_some (instr_at p.program s.gates (words_from p.closed.classes 0 s.gates) k) ≡ true
   values =
       subst (λ (words : List ℕ). (k : ℕ) → k < count p.program → is_end (item_of p.program k).kind ≡ false → is_some (instr_at p.program s.gates words k) ≡ true)
-      placed.words (values_there p.program s.gates s.words none)
+      fitting.placed.words (values_there p.program s.gates s.words fitting.in_range)
 
   labels_suffice : length p.closed.classes ≤ length labels
   labels_suffice =
@@ -97,29 +108,26 @@ module _ (request : Request) (p : PreparedParts) (prepared : IsPrepared request 
       let counted = given.counted in
       omega arith
 
-  entered : p.entry < count p.program
-  entered = (entry_there p.program request.entry p.entry prepared.entry).0
-
-  pub accepted : IsAccepted (choice_of p.program p.closed s.gates s.long labels p.entry)
+  pub accepted : IsAccepted (chosen p s labels)
   accepted =
-      let (raw, is, of) = prepared.closed.drawn in
+      let (lines, raw, is, of) = ready.graph in
       record {
         profile = refl;
-        sound = sound;
-        words = small;
-        last = let below = entered in last_there p.program (omega arith) last;
-        entry_there = entered;
-        legal = placed.legal;
-        room = room_there (choice_of p.program p.closed s.gates s.long labels p.entry) labels_suffice sound values placed.size;
+        sound = ready.sound;
+        words = ready.words;
+        last = let below = ready.entered in last_there p.program (omega arith) ready.last;
+        entry_there = ready.entered;
+        legal = fitting.placed.legal;
+        room = room_there (chosen p s labels) labels_suffice ready.sound values fitting.placed.size;
         values = values;
-        members = λ c k h. members_there p.program _ raw p.closed is of k (c, h);
+        members = λ c k h. members_there p.program lines raw p.closed is of k (c, h);
         rising = of.classes.rising;
         apart = λ i j k. of.classes.apart i j k;
-        sites = λ k below some. site_there p.program _ raw p.closed is of k below some;
-        site_classes = λ i c site. site_class_there p.program _ raw p.closed is of i c site;
+        sites = λ k below some. site_there p.program lines raw p.closed is of k below some;
+        site_classes = λ i c site. site_class_there p.program lines raw p.closed is of i c site;
         counted = given.counted;
         labels = given.least;
         labels_rise = given.rising;
         labels_small = given.small;
-        shorts = λ k target below branch short aims. placed.shorts p.entry k target below branch short aims;
+        shorts = λ k target below branch short aims. fitting.placed.shorts p.entry k target below branch short aims;
       }

@@ -5,7 +5,7 @@ use Rattle.std.specs.List.{All}
 use Rattle.std.proofs.Math.ListN.{drop_of_length-le}
 use Rattle.std.proofs.Math.Seq.{drop-cons}
 use Rattle.std.proofs.lemmas.List.{get_or_append_left, get_or-append-add, get_or_default}
-use Rattle.rv_word.specs.Layout.{OPENING_CALL, Profile, version_1}
+use Rattle.rv_word.specs.Layout.{START}
 use Rattle.obj_program.specs.declared.item.Item.{Item}
 use Rattle.obj_program.specs.Program.{count, item_of, no_item}
 use Rattle.cfi_graph.specs.declared.line.GraphLine.{GraphLine}
@@ -114,14 +114,13 @@ members_there m c accepted below i d inside =
     let class = slice_index_or m.layout.closed.classes c [] in
     accepted.members c (get_or class i d) (i, inside, get_or_default class i (get_or class i d) d inside)
 
-pub joined : (layout : Layout) (labels : List ℕ) (entry : ℕ) (first second third : List GraphLine) → layout.profile ≡ version_1
+pub joined : (layout : Layout) (labels : List ℕ) (entry : ℕ) (first second third : List GraphLine)
     → entry ≡ gate layout layout.entry → first ≡ class_lines layout.gates labels (all_classes layout.closed)
-    → second ≡ first ++ line.Call OPENING_CALL entry ∷ [] → third ≡ second ++ place_lines layout labels 0 layout.program.items
+    → second ≡ first ++ line.Call START entry ∷ [] → third ≡ second ++ place_lines layout labels 0 layout.program.items
     → third ≡ graph_lines layout labels
-joined layout labels entry first second third profile entry_is first_is second_is third_is =
+joined layout labels entry first second third entry_is first_is second_is third_is =
     let classes = class_lines layout.gates labels (all_classes layout.closed) in
     let places = place_lines layout labels 0 layout.program.items in
-    third_is ∙ ap (λ (ls : List GraphLine). ls ++ places) second_is ∙ append_assoc first (line.Call OPENING_CALL entry ∷ []) places
-    ∙ ap (λ (ls : List GraphLine). ls ++ (line.Call OPENING_CALL entry ∷ places)) first_is
-    ∙ ap (λ (a : ℕ). classes ++ (line.Call OPENING_CALL a ∷ places)) entry_is
-    ∙ ap (λ (p : Profile). classes ++ (line.Call p.opening_call (gate layout layout.entry) ∷ places)) (sym profile)
+    third_is ∙ ap (λ (ls : List GraphLine). ls ++ places) second_is ∙ append_assoc first (line.Call START entry ∷ []) places
+    ∙ ap (λ (ls : List GraphLine). ls ++ (line.Call START entry ∷ places)) first_is
+    ∙ ap (λ (a : ℕ). classes ++ (line.Call START a ∷ places)) entry_is

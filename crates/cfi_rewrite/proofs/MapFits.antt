@@ -1,6 +1,6 @@
 -- The lines of an accepted choice are a map.
-use Rattle.std.proofs.Common.{◌≡◌, ℕ, zero, suc, ◌+◌, ◌*◌, ◌%◌, ◌^◌, ◌≤◌, ◌<◌, ◌==◌, nat_lt, nat_le, Bool, true, false, List, [], ◌∷◌, length, get_or, map, Option, Some, None, refl, sym, ap, subst, ◌∙◌, arith}
-use Rattle.std.specs.Prelude.{◌&&◌, ◌||◌, IsTrue, slice_get, slice_index}
+use Rattle.std.proofs.Common.{◌≡◌, ℕ, zero, suc, ◌+◌, ◌*◌, ◌%◌, ◌^◌, ◌≤◌, ◌<◌, ◌==◌, nat_lt, nat_le, Bool, true, List, [], ◌∷◌, length, get_or, Some, refl, sym, ap, subst, ◌∙◌, arith}
+use Rattle.std.specs.Prelude.{◌&&◌, slice_get, slice_index}
 use Rattle.std.specs.List.{list_all}
 use Rattle.std.proofs.lemmas.Bool.{and_from, eq-eqb, le-leb, lt-ltb}
 use Rattle.std.proofs.lemmas.Option.{same_Some, slice_get_within}
@@ -10,14 +10,34 @@ use Rattle.cfi_graph.specs.Graph.{is_rising}
 use Rattle.cfi_graph.specs.Map.{IsMap, is_gate, map_line_below, map_line_in_range, place_below}
 use Rattle.obj_program.specs.declared.item.Item.{Item}
 use Rattle.obj_program.specs.Program.{Program, count, item_of, no_item}
-use Rattle.cfi_flow.specs.GraphAtMap.{gate}
-use Rattle.cfi_flow.specs.LegalMap.{IsLegalMap, gates_of}
-use Rattle.cfi_flow.specs.Placement.{AreGates}
+use Rattle.obj_items.proofs.MapFit.{places_fit}
+use Rattle.cfi_flow.specs.GraphAtMap.{Layout, gate}
 use Rattle.cfi_rewrite.specs.Accepted.{IsAccepted}
-use Rattle.cfi_rewrite.specs.MapLines.{map_line, map_lines}
+use Rattle.cfi_rewrite.specs.MapLines.{lines_from, map_lines as lines_of}
+use Rattle.cfi_rewrite.specs.Prepared.{IsPrepared, PreparedParts}
+use Rattle.cfi_rewrite.specs.Request.{Request, program_in}
 use Rattle.cfi_rewrite.specs.Units.{Choice}
 use Rattle.cfi_rewrite.proofs.Runs.{gates_counted}
 use Rattle.cfi_rewrite.proofs.Standing.{gate_lies, gates_rise}
+
+-- the lines of places with gates
+abbrev map_line : Item → ℕ → MapLine
+map_line item gate = record { gate = gate; section = item.section; offset = item.offset }
+
+unfoldable map_lines : List Item → List ℕ → List MapLine
+map_lines (item ∷ items) (gate ∷ gates) = map_line item gate ∷ map_lines items gates
+map_lines items gates = []
+
+-- they are the lines of a map, where the gates are its own
+lines_are : (layout : Layout) (k : ℕ) (items : List Item) (gates : List ℕ) → length gates ≡ length items →
+    ((i : ℕ) → slice_index gates i ≡ slice_index layout.gates (k + i)) → lines_from layout k items ≡ map_lines items gates
+unfolding map_lines lines_from
+lines_are layout k [] gates same own = refl
+lines_are layout k (item ∷ items) [] same own = absurd (omega arith)
+lines_are layout k (item ∷ items) (g ∷ gates) same own =
+    let first : g ≡ slice_index layout.gates k = own 0 ∙ ap (slice_index layout.gates) (omega arith) in
+    let rest = lines_are layout (k + 1) items gates (omega arith) (λ i. own (suc i) ∙ ap (slice_index layout.gates) (omega arith)) in
+    ap (λ (g : ℕ). map_line item g ∷ lines_from layout (k + 1) items) (sym first) ∙ ap (λ (ls : List MapLine). map_line item g ∷ ls) rest
 
 -- what holds of each member, and of each two neighbours
 all_from : {A : Type 0} (p : A → Bool) (xs : List A) → ((k : ℕ) (x : A) → slice_get xs k ≡ Some x → p x ≡ true) → list_all p xs ≡ true
@@ -48,33 +68,16 @@ line_at (item ∷ items) [] k line same get = absurd (omega arith)
 line_at (item ∷ items) (g ∷ gates) zero line same get = sym (same_Some (map_line item g) line get)
 line_at (item ∷ items) (g ∷ gates) (suc k) line same get = line_at items gates k line (omega arith) get
 
-sections_are : (items : List Item) (gates : List ℕ) → length gates ≡ length items →
-    map (λ (l : MapLine). l.section) (map_lines items gates) ≡ map (λ (i : Item). i.section) items
-unfolding map_lines
-sections_are [] [] same = refl
-sections_are [] (g ∷ gates) same = refl
-sections_are (item ∷ items) [] same = absurd (omega arith)
-sections_are (item ∷ items) (g ∷ gates) same = ap (λ (xs : List ℕ). item.section ∷ xs) (sections_are items gates (omega arith))
-
-offsets_are : (items : List Item) (gates : List ℕ) → length gates ≡ length items →
-    map (λ (l : MapLine). l.offset) (map_lines items gates) ≡ map (λ (i : Item). i.offset) items
-unfolding map_lines
-offsets_are [] [] same = refl
-offsets_are [] (g ∷ gates) same = refl
-offsets_are (item ∷ items) [] same = absurd (omega arith)
-offsets_are (item ∷ items) (g ∷ gates) same = ap (λ (xs : List ℕ). item.offset ∷ xs) (offsets_are items gates (omega arith))
-
-gates_are : (items : List Item) (gates : List ℕ) → length gates ≡ length items → gates_of (map_lines items gates) ≡ gates
-unfolding map_lines
-gates_are [] [] same = refl
-gates_are [] (g ∷ gates) same = absurd (omega arith)
-gates_are (item ∷ items) [] same = refl
-gates_are (item ∷ items) (g ∷ gates) same = ap (λ (xs : List ℕ). g ∷ xs) (gates_are items gates (omega arith))
-
 -- what a map asks of each place: a section's index of 16 bits, the offset of a word, which is near
 pub AreNear : Program → Type 0
 AreNear program = (k : ℕ) → k < count program →
     ((item_of program k).section < 2 ^ 16) × ((item_of program k).offset % 4 ≡ 0) × ((item_of program k).offset ≤ 8 * k)
+
+-- and what holds of each place of a request that is prepared
+pub near_there : (request : Request) (p : PreparedParts) → IsPrepared request p → AreNear p.program
+near_there request p prepared =
+    let near : AreNear (program_in request.object) = λ k below. let fits = places_fit request.object k prepared.object.sound below in (fits.section, fits.whole, fits.near) in
+    subst AreNear (sym prepared.program) near
 
 module _ (m : Choice) (ok : IsAccepted m) where
   -- gates are as many as places
@@ -98,16 +101,6 @@ module _ (m : Choice) (ok : IsAccepted m) where
       (and_from (gate m.layout k % 4 == 0) (nat_le (CODE_START + 64) (gate m.layout k)) (eq-eqb (gate m.layout k % 4) 0 at.2) (le-leb (CODE_START + 64) (gate m.layout k) (omega arith)))
       (lt-ltb (gate m.layout k) (CODE_START + CODE_SIZE) (omega arith))
 
-  -- the gates of the map are the placement's
-  pub legal_map : IsLegalMap m.layout.program m.layout.closed (map_lines m.layout.program.items m.layout.gates)
-  legal_map = record {
-    sections = sections_are m.layout.program.items m.layout.gates counted;
-    offsets = offsets_are m.layout.program.items m.layout.gates counted;
-    gates =
-        (m.long, subst (λ (gates : List ℕ). AreGates m.layout.closed.classes m.long 0 UNITS_START m.layout.program.items gates)
-            (sym (gates_are m.layout.program.items m.layout.gates counted)) ok.legal);
-  }
-
   line_is : (k : ℕ) (line : MapLine) → slice_get (map_lines m.layout.program.items m.layout.gates) k ≡ Some line →
       (k < count m.layout.program) × (line ≡ map_line (item_of m.layout.program k) (gate m.layout k))
   line_is k line get =
@@ -126,7 +119,7 @@ module _ (m : Choice) (ok : IsAccepted m) where
         let offset_near : item.offset ≤ 8 * k = fits.2 in
         and_from (is_gate (gate m.layout k) && item.offset % 4 == 0 && nat_lt item.section (2 ^ 16)) (nat_lt item.offset (2 ^ 32))
         (and_from (is_gate (gate m.layout k) && item.offset % 4 == 0) (nat_lt item.section (2 ^ 16))
-            (and_from (is_gate (gate m.layout k)) (item.offset % 4 == 0) (gate_is k below) (eq-eqb (item.offset % 4) 0 fits.1)) (lt-ltb item.section (2 ^ 16) fits.0))
+        (and_from (is_gate (gate m.layout k)) (item.offset % 4 == 0) (gate_is k below) (eq-eqb (item.offset % 4) 0 fits.1)) (lt-ltb item.section (2 ^ 16) fits.0))
         (lt-ltb item.offset (2 ^ 32) (omega arith))
 
     in_order : (k : ℕ) → suc k < count m.layout.program →
@@ -137,15 +130,19 @@ module _ (m : Choice) (ok : IsAccepted m) where
         and_from (place_below line next) (nat_lt (gate m.layout k) (gate m.layout (suc k))) (ok.sound.in_order k (suc k) (omega arith) below)
         (lt-ltb (gate m.layout k) (gate m.layout (suc k)) (gates_rise m ok k (suc k) (omega arith) below))
 
-    pub accepted_map : IsMap (map_lines m.layout.program.items m.layout.gates)
-    accepted_map = record {
+    zipped_map : IsMap (map_lines m.layout.program.items m.layout.gates)
+    zipped_map = record {
       range = all_from map_line_in_range (map_lines m.layout.program.items m.layout.gates)
           (λ k line get. let at = line_is k line get in subst (λ (l : MapLine). map_line_in_range l ≡ true) (sym at.1) (in_range k at.0));
       order = rising_from map_line_below (map_lines m.layout.program.items m.layout.gates)
           (λ k line next one two.
-              let a = line_is k line one in
-              let b = line_is (suc k) next two in
-              let both : map_line_below line next ≡ map_line_below (map_line (item_of m.layout.program k) (gate m.layout k)) (map_line (item_of m.layout.program (suc k)) (gate m.layout (suc k))) =
-              ap (λ (l : MapLine). map_line_below l next) a.1 ∙ ap (map_line_below (map_line (item_of m.layout.program k) (gate m.layout k))) b.1 in
-              both ∙ in_order k b.0);
+          let a = line_is k line one in
+          let b = line_is (suc k) next two in
+          let both : map_line_below line next ≡ map_line_below (map_line (item_of m.layout.program k) (gate m.layout k)) (map_line (item_of m.layout.program (suc k)) (gate m.layout (suc k))) =
+          ap (λ (l : MapLine). map_line_below l next) a.1 ∙ ap (map_line_below (map_line (item_of m.layout.program k) (gate m.layout k))) b.1 in
+          both ∙ in_order k b.0);
     }
+
+    pub accepted_map : IsMap (lines_of m.layout)
+    accepted_map =
+        subst IsMap (sym (lines_are m.layout 0 m.layout.program.items m.layout.gates counted (λ i. ap (slice_index m.layout.gates) (omega arith)))) zipped_map

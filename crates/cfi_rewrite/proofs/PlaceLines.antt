@@ -66,12 +66,13 @@ legal_gates : (m : Choice) → IsAccepted m → (gates : List ℕ) → gates ≡
 legal_gates m accepted gates is =
     subst (λ (gs : List ℕ). AreGates m.layout.closed.classes m.long 0 UNITS_START m.layout.program.items gs) (sym is) accepted.legal
 
+pub gates_are : (m : Choice) → IsAccepted m → gates_of (map_lines m.layout) ≡ m.layout.gates
+gates_are m accepted = let counted = gates_counted m accepted in gates_from m.layout 0 m.layout.program.items (omega arith)
+
 pub legal_map : (m : Choice) → IsAccepted m → IsLegalMap m.layout.program m.layout.closed (map_lines m.layout)
 legal_map m accepted =
-    let counted = gates_counted m accepted in
-    let gates : gates_of (map_lines m.layout) ≡ m.layout.gates = gates_from m.layout 0 m.layout.program.items (omega arith) in
     record {
       sections = sections_of m.layout 0 m.layout.program.items;
       offsets = offsets_of m.layout 0 m.layout.program.items;
-      gates = (m.long, legal_gates m accepted (gates_of (map_lines m.layout)) gates);
+      gates = (m.long, legal_gates m accepted (gates_of (map_lines m.layout)) (gates_are m accepted));
     }

@@ -1,8 +1,8 @@
 -- The sites of a closed graph: each computed transfer is one, and its class is there.
-use Rattle.std.proofs.Common.{◌≡◌, ℕ, ◌<◌, true, List, [], ◌∷◌, length, get_or, map, Option, Some, None, Contains, sym, subst, ap, ◌∙◌}
-use Rattle.std.specs.Prelude.{is_some, option_map, position, slice_get}
+use Rattle.std.proofs.Common.{◌≡◌, ℕ, ◌<◌, true, List, [], ◌∷◌, length, map, Some, Contains, sym, subst, ap, ◌∙◌}
+use Rattle.std.specs.Prelude.{is_some, option_map, slice_get}
 use Rattle.std.proofs.lemmas.List.Quantifiers.{position-Some}
-use Rattle.std.proofs.lemmas.Option.{same_Some, slice_get-get_or, slice_get-map}
+use Rattle.std.proofs.lemmas.Option.{slice_get-get_or, slice_get-map}
 use Rattle.rv_word.proofs.Cases.{mapped}
 use Rattle.obj_program.specs.Program.{Program, count, item_of}
 use Rattle.cfi_graph.specs.declared.policy.PolicyLine.{PolicyLine}
@@ -11,7 +11,7 @@ use Rattle.cfi_flow.specs.Below.{where_below}
 use Rattle.cfi_flow.specs.Closed.{ClosedGraph, IsClosed, class_reached, has, with_class}
 use Rattle.cfi_flow.specs.Policy.{IsRaw}
 use Rattle.cfi_flow.specs.Raw.{RawGraph}
-use Rattle.cfi_flow.specs.Sites.{RawSite, site_kind}
+use Rattle.cfi_flow.specs.Sites.{site_kind}
 use Rattle.cfi_flow.proofs.Laws.{closed_places, is_site, place_of_site}
 use Rattle.cfi_flow.proofs.Rising.{below_found}
 

@@ -15,3 +15,4 @@ pub mod Laws
 pub mod Hardened
 pub mod Fitting
 pub mod Prologue
+pub mod Writing

@@ -1,22 +1,16 @@
--- The map of a program at its gates: a line for each place.
-use Rattle.std.specs.Prelude.{ℕ, List, [], ◌∷◌}
-use Rattle.cfi_graph.specs.declared.map.MapLine.{MapLine}
-use Rattle.obj_program.specs.declared.item.Item.{Item}
-
-abbrev pub map_line : Item → ℕ → MapLine
-map_line item gate = record { gate = gate; section = item.section; offset = item.offset }
-
-unfoldable pub map_lines : List Item → List ℕ → List MapLine
-map_lines (item ∷ items) (gate ∷ gates) = map_line item gate ∷ map_lines items gates
-map_lines items gates = []
 -- The lines of a map: each place with its gate, in the order of the places.
 use Rattle.std.specs.Prelude.{ℕ, ◌+◌, List, [], ◌∷◌}
+use Rattle.obj_program.specs.declared.item.Item.{Item}
+use Rattle.cfi_graph.specs.declared.map.MapLine.{MapLine}
 use Rattle.cfi_flow.specs.GraphAtMap.{Layout, gate}
+
 abbrev pub map_line : Layout → ℕ → Item → MapLine
 map_line layout k item = record { gate = gate layout k; section = item.section; offset = item.offset }
+
 -- the lines of places from index k on
 unfoldable pub lines_from : Layout → ℕ → List Item → List MapLine
 lines_from layout k [] = []
 lines_from layout k (item ∷ items) = map_line layout k item ∷ lines_from layout (k + 1) items
+
 abbrev pub map_lines : Layout → List MapLine
 map_lines layout = lines_from layout 0 layout.program.items

@@ -17,9 +17,9 @@ use std::marker::Model;
 
 /// A program with its closed graph at a map.
 #[derive(Clone, Copy)]
-pub struct Mapped<'a> {
+pub struct Mapped<'a, 'b> {
     /// The program.
-    pub items: &'a Items<'a>,
+    pub items: &'a Items<'b>,
     /// Its closed graph.
     pub closed: &'a Closed,
     /// The gate of each place: the address that pointers to it have.
@@ -30,15 +30,15 @@ pub struct Mapped<'a> {
 
 /// A program at a map with what is chosen for it, and of each place the label that its site asks for.
 #[derive(Drop)]
-pub struct Chosen<'a> {
-    mapped: Mapped<'a>,
+pub struct Chosen<'a, 'b> {
+    mapped: Mapped<'a, 'b>,
     long: &'a [bool],
     labels: &'a [u32],
     sites: Vec<u32>,
     entry: u64,
 }
 
-impl<'a> Model for Chosen<'a> {
+impl<'a, 'b> Model for Chosen<'a, 'b> {
     ghost use Rattle.cfi_rewrite.specs.Chosen.{IsChosen, choice_of};
     ghost use Rattle.cfi_rewrite.specs.Units.{Choice};
 
@@ -57,16 +57,16 @@ fn address_at(addresses: &[u64], k: u64) -> u64
     addresses[k as usize]
 }
 
-impl<'a> Chosen<'a> {
+impl<'a, 'b> Chosen<'a, 'b> {
     /// The choice of these parts: of each place whether its branch is long (beyond their end each is), the labels of all
     /// classes in their order, and the place where the program is entered.
     pub fn of(
         alloc: Global,
-        mapped: Mapped<'a>,
+        mapped: Mapped<'a, 'b>,
         long: &'a [bool],
         labels: &'a [u32],
         entry: u64,
-    ) -> Result<Chosen<'a>, NoMemory>
+    ) -> Result<Chosen<'a, 'b>, NoMemory>
         requires accepted { IsAccepted (choice_of mapped.items.now mapped.closed.now mapped.gates.now long.now labels.now entry) }
         requires words { mapped.words.now ≡ words_of (choice_of mapped.items.now mapped.closed.now mapped.gates.now long.now labels.now entry) }
         ensures { IfOk result (λ c. c ≡ choice_of mapped.entry.items.now mapped.entry.closed.now mapped.entry.gates.now long.now labels.now entry) }

@@ -8,7 +8,7 @@ ghost use Rattle.cfi_flow.specs.LabelOf.{all_classes};
 use crate::chosen::Chosen;
 use cfi_graph::{Graph, GraphLine, GraphLines, SiteKind};
 use obj_input::ItemKind;
-use rv_word::profile::OPENING_CALL;
+use rv_word::profile::START;
 use rv_word::{NoMemory, Places};
 use std::alloc::Global;
 
@@ -22,7 +22,7 @@ fn push_line(lines: &mut Vec<GraphLine>, line: Option<GraphLine>) -> Result<(), 
     Ok(())
 }
 
-impl<'a> Chosen<'a> {
+impl<'a, 'b> Chosen<'a, 'b> {
     /// The gates of places.
     fn gates_of(&self, alloc: Global, places: &[u64]) -> Result<Places, NoMemory>
         requires { All (λ t. t < count self.now.layout.program) places.now }
@@ -97,7 +97,7 @@ impl<'a> Chosen<'a> {
         ensures { IfOk result (λ lines. lines ≡ graph_lines self.now.layout self.now.labels) }
     {
         let mut lines = self.class_lines(alloc)?;
-        lines.push(GraphLine::Call(OPENING_CALL, self.entry_gate()))?;
+        lines.push(GraphLine::Call(START, self.entry_gate()))?;
         self.push_place_lines(&mut lines)?;
         Ok(GraphLines::of(lines))
     }

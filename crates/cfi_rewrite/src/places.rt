@@ -8,7 +8,7 @@ use cfi_graph::{Map, MapLine, MapLines};
 use rv_word::NoMemory;
 use std::alloc::Global;
 
-impl<'a> Chosen<'a> {
+impl<'a, 'b> Chosen<'a, 'b> {
     /// The lines of the map: each place's section and offset with its gate.
     #[tactic(auto, using(crate::proofs::PlaceLines::next_places, crate::proofs::PlaceLines::all_places))]
     pub fn map_lines(&self, alloc: Global) -> Result<MapLines, NoMemory>

@@ -52,7 +52,7 @@ fn unit_of(kind: ItemKind, instr: &Instr, long: bool, target: u64, label: Immedi
     }
 }
 
-impl<'a> Chosen<'a> {
+impl<'a, 'b> Chosen<'a, 'b> {
     /// The unit of a place, of which this is the instruction.
     fn unit(&self, k: u64, instr: Option<Instr>) -> Unit
         requires place { k < count self.now.layout.program }

@@ -1,5 +1,6 @@
 ghost use Rattle.std.specs.Prelude.{ℕ, ◌<◌, ◌^◌, length, slice_index_or};
 ghost use Rattle.obj_program.specs.Program.{count, item_of, no_item};
+ghost use Rattle.obj_program.specs.Sound.{IsSound};
 
 use obj_program::{Item, Items};
 
@@ -19,9 +20,10 @@ fn words_fit(items: &[Item])
     }
 }
 
-/// The words of a program's places have 32 bits.
-pub fn program_words_fit(items: &Items)
-    ensures { (k : ℕ) → k < count items.now → (item_of items.now k).word < 2 ^ 32 }
+/// The words of a program's places have 32 bits, and it is sound.
+pub(crate) fn program_words_fit(items: &Items)
+    ensures sound { IsSound items.now }
+    ensures words { (k : ℕ) → k < count items.now → (item_of items.now k).word < 2 ^ 32 }
 {
     words_fit(items.places());
 }

@@ -6,5 +6,5 @@ pub returns : goal.returns
 returns c =
     c.of.ensures
     ∙ joined c.args.self.now.layout c.args.self.now.labels c.entry_gate.result c.in_ok-lines.lines.items c.push.new.self.items
-    c.push_place_lines.new.lines.items c.entry_gate.ensures.accepted.profile c.entry_gate.ensures.value c.in_ok-lines.ensures
+    c.push_place_lines.new.lines.items c.entry_gate.ensures.value c.in_ok-lines.ensures
     c.in_ok-push.ensures.items c.in_ok-push_place_lines.ensures

@@ -1,0 +1,104 @@
+ghost use Rattle.std.specs.Prelude.{◌≡◌, ◌*◌, ◌≤◌, true, IfOk, Some, is_some, length};
+ghost use Rattle.rv_word.specs.Layout.{CODE_SIZE};
+ghost use Rattle.cfi_flow.specs.GraphAtMap.{graph_lines};
+ghost use Rattle.cfi_verify.specs.Split.{code_words};
+ghost use Rattle.obj_program.specs.DataAtMap.{data_at, init_size};
+ghost use Rattle.obj_program.specs.Program.{count};
+ghost use Rattle.cfi_rewrite.specs.Hardened.{INIT_ROOM, chosen};
+ghost use Rattle.cfi_rewrite.specs.Laws.{written_code};
+ghost use Rattle.cfi_rewrite.specs.Writing.{IsWrittenAs, IsWritable};
+
+use crate::chosen::{Chosen, Mapped};
+use crate::code::code_bytes;
+use crate::prepared::Prepared;
+use crate::spacing::Spacing;
+use cfi_graph::{Graph, Map};
+use elf_image::write_image;
+use obj_program::{DataEnd, Items};
+use rv_word::NoMemory;
+use std::alloc::Global;
+use std::marker::Model;
+
+/// A hardened program.
+#[derive(Drop)]
+pub struct Hardened {
+    /// The bytes of its image.
+    pub image: Vec<u8>,
+    /// Its graph.
+    pub graph: Graph,
+    /// Its map: of each place its gate.
+    pub map: Map,
+}
+
+impl Model for Hardened {
+    ghost use Rattle.cfi_rewrite.specs.Hardened.{HardenedParts};
+
+    ghost Value = { HardenedParts };
+
+    ghost view = { λ h. record { image = h.image.items; graph = h.graph; map = h.map } };
+}
+
+impl<'a, 'b> Chosen<'a, 'b> {
+    /// The bytes of the code.
+    #[tactic(auto, using(crate::proofs::WholeImage::reaches, crate::proofs::WholeImage::all_fit, crate::proofs::WholeImage::in_room))]
+    fn code(&self, alloc: Global) -> Result<Vec<u8>, NoMemory>
+        ensures words { IfOk result (λ v. code_words v.items ≡ written_code self.now) }
+        ensures size { IfOk result (λ v. length v.items ≡ 4 * length (written_code self.now)) }
+        ensures room { 4 * length (written_code self.now) ≤ CODE_SIZE }
+    {
+        let units = self.units(alloc)?;
+        code_bytes(alloc, self.entry_gate(), units.as_slice())
+    }
+
+    /// The graph of this code.
+    #[tactic(auto, using(crate::proofs::WholeImage::is_graph))]
+    fn graph_of(&self, alloc: Global, code: &[u8]) -> Result<Graph, NoMemory>
+        requires size { length code.now ≡ 4 * length (written_code self.now) }
+        requires room { 4 * length (written_code self.now) ≤ CODE_SIZE }
+        ensures { IfOk result (λ graph. graph ≡ record { code = length code.now; lines = graph_lines self.now.layout self.now.labels }) }
+    {
+        let _count = self.count();
+        self.graph(alloc, code.len() as u32)
+    }
+}
+
+/// The initialised data at these gates, where they have a value.
+fn init_at(alloc: Global, items: &Items, gates: &[u64]) -> Result<Vec<u8>, NoMemory>
+    requires counted { length gates.now ≡ count items.now }
+    requires there { is_some (data_at items.now gates.now) ≡ true }
+    ensures value { IfOk result (λ v. data_at items.now gates.now ≡ Some v.items) }
+    ensures length { IfOk result (λ v. length v.items ≡ init_size items.now) }
+{
+    match items.data_at(alloc, gates) {
+        Ok(init) => Ok(init),
+        Err(DataEnd::RelocRange) => unreachable!(),
+        Err(DataEnd::NoMemory) => Err(NoMemory),
+    }
+}
+
+/// Writes a prepared program with these labels at a placement.
+#[tactic(auto, using(crate::proofs::WholeImage::image_size, crate::proofs::WholeImage::written_as))]
+pub(crate) fn written<'a>(
+    alloc: Global,
+    prepared: &'a Prepared,
+    spacing: &'a Spacing,
+    labels: &'a [u32],
+) -> Result<Hardened, NoMemory>
+    requires { IsWritable prepared.now spacing.now labels.now }
+    ensures { IfOk result (λ h. IsWrittenAs prepared.now spacing.now labels.now h) }
+{
+    let items = &prepared.items;
+    let mapped = Mapped {
+        items,
+        closed: &prepared.closed,
+        gates: spacing.gates(),
+        words: spacing.words(),
+    };
+    let chosen = Chosen::of(alloc, mapped, spacing.long(), labels, prepared.entry)?;
+    let code = chosen.code(alloc)?;
+    let graph = chosen.graph_of(alloc, code.as_slice())?;
+    let map = chosen.map(alloc)?;
+    let init = init_at(alloc, items, spacing.gates())?;
+    let image = write_image(alloc, code.as_slice(), init.as_slice())?;
+    Ok(Hardened { image, graph, map })
+}

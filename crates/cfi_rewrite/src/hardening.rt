@@ -1,0 +1,44 @@
+ghost use Rattle.std.specs.Prelude.{option_copied};
+ghost use Rattle.cfi_rewrite.specs.Refused.{Hardens};
+ghost use Rattle.cfi_rewrite.specs.Request.{Request};
+ghost use Rattle.cfi_rewrite.specs.Writing.{IsReady, WritesOr};
+
+use crate::hardened::{Hardened, written};
+use crate::numbering::class_labels;
+use crate::prepared::{Prepared, prepare};
+use crate::refusal::Refusal;
+use crate::room::spaced_in_room;
+use crate::word_range::program_words_fit;
+use obj_items::laws::{last_place_ends, places_fit};
+use std::alloc::Global;
+
+/// Places a prepared program, with labels, and writes it.
+#[tactic(auto, using(crate::proofs::Ready::writable, crate::proofs::Ready::written_of))]
+fn placed_and_written(alloc: Global, prepared: &Prepared) -> Result<Hardened, Refusal>
+    requires { IsReady prepared.now }
+    ensures { WritesOr prepared.now result }
+{
+    let spacing = spaced_in_room(alloc, prepared)?;
+    let labels = class_labels(alloc, &prepared.items, &prepared.closed)?;
+    let hardened = written(alloc, prepared, &spacing, labels.as_slice())?;
+    Ok(hardened)
+}
+
+/// Hardens an object (System V gABI, "Object Files"; RISC-V ELF psABI): its image, its graph and its map, or the first that
+/// stands against that. The program is entered at the first symbol with the entry's name. A policy is a text that narrows
+/// what computed transfers may go to.
+#[tactic(auto, using(crate::proofs::Ready::ready, crate::proofs::Ready::hardens))]
+pub fn rewrite(
+    alloc: Global,
+    object: &[u8],
+    entry: &[u8],
+    policy: Option<&[u8]>,
+) -> Result<Hardened, Refusal>
+    ensures { Hardens (record { object = object.now; entry = entry.now; policy = option_copied policy.entry }) result }
+{
+    last_place_ends();
+    places_fit();
+    let prepared = prepare(alloc, object, entry, policy)?;
+    program_words_fit(&prepared.items);
+    placed_and_written(alloc, &prepared)
+}
