@@ -1,5 +1,5 @@
-ghost use Rattle.std.specs.Prelude.{◌≡◌, length, true};
-ghost use Rattle.obj_program.specs.Program.{count};
+ghost use Rattle.std.specs.Prelude.{◌≡◌, ◌<◌, length, true, false};
+ghost use Rattle.obj_program.specs.Program.{count, is_end, item_of};
 
 use crate::{samples, vectors};
 use elf_object::Object;
@@ -111,14 +111,33 @@ fn fits(items: &Items, gates: &[u64], words: &[u64]) -> bool
     gates.len() as u64 == items.count() && words.len() as u64 == items.count()
 }
 
-/// The word of an instruction at a map; none where it has none, or where there is no instruction.
-pub(crate) fn word_at(items: &Items, gates: &[u64], words: &[u64], k: u64) -> Option<u32> {
-    if !fits(items, gates, words) || k >= items.count() || items.item(k).kind == ItemKind::End {
-        return None;
-    }
+/// The word of the instruction with this index at a map, if it has one.
+fn instr_word(items: &Items, gates: &[u64], words: &[u64], k: u64) -> Option<u32>
+    requires place { k < count items.now }
+    requires instruction { is_end (item_of items.now k).kind ≡ false }
+    requires gates { length gates.now ≡ count items.now }
+    requires words { length words.now ≡ count items.now }
+{
     match items.instr_at(k, gates, words) {
         Ok(instr) => Some(encode(instr)),
         Err(_) => None,
+    }
+}
+
+/// Whether an instruction has this index.
+fn is_instr(items: &Items, k: u64) -> bool
+    ensures below { result ≡ true → k < count items.now }
+    ensures instruction { result ≡ true → is_end (item_of items.now k).kind ≡ false }
+{
+    k < items.count() && !matches!(items.item(k).kind, ItemKind::End)
+}
+
+/// The word of an instruction at a map; none where it has none, or where there is no instruction.
+pub(crate) fn word_at(items: &Items, gates: &[u64], words: &[u64], k: u64) -> Option<u32> {
+    if fits(items, gates, words) && is_instr(items, k) {
+        instr_word(items, gates, words, k)
+    } else {
+        None
     }
 }
 
