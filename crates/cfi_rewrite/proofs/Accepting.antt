@@ -1,8 +1,6 @@
 -- A placement in which no value leaves its range, with labels, makes an accepted choice of a program with its closed graph.
 use Rattle.std.proofs.Common.{◌≡◌, ℕ, ◌+◌, ◌-◌, ◌*◌, ◌^◌, ◌≤◌, ◌<◌, Bool, true, false, List, length, Option, Some, None, refl, sym, subst, arith}
 use Rattle.std.specs.Prelude.{◌&&◌, not, is_none, is_some}
-use Rattle.std.specs.List.{All}
-use Rattle.std.specs.List.Sorted.{IsStrictlyIncreasing}
 use Rattle.std.proofs.lemmas.List.{length-append}
 use Rattle.rv_word.specs.Layout.{CODE_SIZE, UNITS_START, version_1}
 use Rattle.obj_program.specs.AtMap.{instr_at}
@@ -11,27 +9,23 @@ use Rattle.obj_program.specs.Program.{Program, count, is_end, item_of}
 use Rattle.obj_program.specs.Range.{out_of_range}
 use Rattle.obj_program.specs.Sound.{IsSound}
 use Rattle.obj_program.proofs.Exact.{none_out_of_range}
-use Rattle.obj_items.specs.FromObject.{input_of}
-use Rattle.obj_items.proofs.LastEnds.{last_ends}
-use Rattle.cfi_class.specs.Labels.{AreLabels}
 use Rattle.cfi_layout.specs.Starts.{code_size}
 use Rattle.cfi_flow.specs.Closed.{ClosedGraph}
-use Rattle.cfi_flow.specs.LabelOf.{all_classes, empty_classes}
-use Rattle.cfi_flow.specs.Labels.{used_labels}
+use Rattle.cfi_flow.specs.LabelOf.{empty_classes}
 use Rattle.cfi_flow.specs.Placement.{is_long, size_of, words_from}
 use Rattle.cfi_flow.proofs.Laws.{members_there}
 use Rattle.cfi_unit.specs.UnitWords.{word_count}
 use Rattle.cfi_verify.specs.Placed.{placed_code}
 use Rattle.cfi_verify.proofs.UnitIn.{length-placed_code}
 use Rattle.cfi_rewrite.specs.Accepted.{IsAccepted}
-use Rattle.cfi_rewrite.specs.Chosen.{choice_of}
+use Rattle.cfi_rewrite.specs.Fitting.{IsFitting}
 use Rattle.cfi_rewrite.specs.GraphOf.{IsGraphOf}
-use Rattle.cfi_rewrite.specs.Placing.{IsPlaced, Spaced}
-use Rattle.cfi_rewrite.specs.Prepared.{IsClosedUnder, IsPrepared, PreparedParts}
-use Rattle.cfi_rewrite.specs.Request.{Request, program_in}
+use Rattle.cfi_rewrite.specs.Hardened.{chosen}
+use Rattle.cfi_rewrite.specs.Placing.{Spaced}
+use Rattle.cfi_rewrite.specs.Prepared.{IsClosedUnder, PreparedParts}
 use Rattle.cfi_rewrite.specs.Sizes.{part_sizes}
 use Rattle.cfi_rewrite.specs.Units.{Choice, entry_gate, unit_for, units}
-use Rattle.cfi_rewrite.specs.Writing.{IsReady}
+use Rattle.cfi_rewrite.specs.Writing.{AreGiven, IsReady}
 use Rattle.cfi_rewrite.proofs.CodeRoom.{bytes_are, size_is}
 use Rattle.cfi_rewrite.proofs.SitesThere.{site_class_there, site_there}
 
@@ -54,13 +48,6 @@ values_there program gates words none k below some =
 pub data_there : (program : Program) (gates words : List ℕ) → out_of_range program gates words ≡ None → is_some (data_at program gates) ≡ true
 data_there program gates words none = ((none_out_of_range program gates words).0 none).1
 
--- labels for all classes
-pub record AreGiven (program : Program) (closed : ClosedGraph) (labels : List ℕ) : Type 0 where
-  pub counted : length labels ≡ length (all_classes closed)
-  pub least : AreLabels (used_labels program) labels
-  pub rising : IsStrictlyIncreasing labels
-  pub small : All (λ label. label < 2 ^ 20) labels
-
 -- the code has room where the parts have
 pub room_there : (m : Choice) → length m.layout.closed.classes ≤ length m.labels → IsSound m.layout.program →
     ((k : ℕ) → k < count m.layout.program → is_end (item_of m.layout.program k).kind ≡ false →
@@ -73,17 +60,6 @@ room_there m few sound values room =
     let bytes = bytes_are m 0 UNITS_START m.layout.program.items few
     (λ i item get. subst (λ (n : ℕ). size_of item.kind (is_long m.long n) ≡ 4 * word_count (unit_for m n item)) (zero_more i) (size_is m sound values i item get)) in
     omega arith
-
--- a closed graph under a policy is one of its program
-pub graph_there : (program : Program) (policy : Option (List ℕ)) (closed : ClosedGraph) → IsClosedUnder program policy closed → IsGraphOf program closed
-graph_there program policy closed under = let (raw, is, of) = under.drawn in (_, raw, is, of)
-
--- the last place of an object's program is a section's end
-last_there : (object : List ℕ) (program : Program) → program ≡ program_in object → 0 < count program →
-    (k : ℕ) × (count program ≡ k + 1) × (is_end (item_of program k).kind ≡ true)
-last_there object program is some =
-    let P : Program → Type 0 = λ q. 0 < count q → is_end (item_of q (count q - 1)).kind ≡ true in
-    (count program - 1, omega arith, subst P (sym is) (last_ends (input_of object)) some)
 
 -- a closed graph under a policy is one of its program
 pub graph_there : (program : Program) (policy : Option (List ℕ)) (closed : ClosedGraph) → IsClosedUnder program policy closed → IsGraphOf program closed

@@ -10,12 +10,9 @@ use Rattle.cfi_graph.specs.Graph.{is_rising}
 use Rattle.cfi_graph.specs.Map.{IsMap, is_gate, map_line_below, map_line_in_range, place_below}
 use Rattle.obj_program.specs.declared.item.Item.{Item}
 use Rattle.obj_program.specs.Program.{Program, count, item_of, no_item}
-use Rattle.obj_items.proofs.MapFit.{places_fit}
 use Rattle.cfi_flow.specs.GraphAtMap.{Layout, gate}
 use Rattle.cfi_rewrite.specs.Accepted.{IsAccepted}
 use Rattle.cfi_rewrite.specs.MapLines.{lines_from, map_lines as lines_of}
-use Rattle.cfi_rewrite.specs.Prepared.{IsPrepared, PreparedParts}
-use Rattle.cfi_rewrite.specs.Request.{Request, program_in}
 use Rattle.cfi_rewrite.specs.Units.{Choice}
 use Rattle.cfi_rewrite.proofs.Runs.{gates_counted}
 use Rattle.cfi_rewrite.proofs.Standing.{gate_lies, gates_rise}
@@ -69,15 +66,9 @@ line_at (item ∷ items) (g ∷ gates) zero line same get = sym (same_Some (map_
 line_at (item ∷ items) (g ∷ gates) (suc k) line same get = line_at items gates k line (omega arith) get
 
 -- what a map asks of each place: a section's index of 16 bits, the offset of a word, which is near
-pub AreNear : Program → Type 0
+abbrev pub AreNear : Program → Type 0
 AreNear program = (k : ℕ) → k < count program →
     ((item_of program k).section < 2 ^ 16) × ((item_of program k).offset % 4 ≡ 0) × ((item_of program k).offset ≤ 8 * k)
-
--- and what holds of each place of a request that is prepared
-pub near_there : (request : Request) (p : PreparedParts) → IsPrepared request p → AreNear p.program
-near_there request p prepared =
-    let near : AreNear (program_in request.object) = λ k below. let fits = places_fit request.object k prepared.object.sound below in (fits.section, fits.whole, fits.near) in
-    subst AreNear (sym prepared.program) near
 
 module _ (m : Choice) (ok : IsAccepted m) where
   -- gates are as many as places
@@ -110,7 +101,6 @@ module _ (m : Choice) (ok : IsAccepted m) where
 
   module _ (near : AreNear m.layout.program) where
     in_range : (k : ℕ) → k < count m.layout.program → map_line_in_range (map_line (item_of m.layout.program k) (gate m.layout k)) ≡ true
-    unfolding AreNear
     in_range k below =
         let item = item_of m.layout.program k in
         let fits = near k below in

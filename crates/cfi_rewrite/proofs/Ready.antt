@@ -1,16 +1,11 @@
 -- A request that is prepared is ready to be written, and what its writing comes to is what the request comes to.
 use Rattle.std.proofs.Common.{◌≡◌, ℕ, ◌-◌, ◌^◌, ◌<◌, true, List, length, Some, Option, Result, Ok, Err, refl, sym, subst, arith}
-use Rattle.std.specs.List.{All}
-use Rattle.std.specs.List.Sorted.{IsStrictlyIncreasing}
 use Rattle.obj_program.specs.Program.{Program, count, is_end, item_of}
 use Rattle.obj_program.specs.Sound.{IsSound}
 use Rattle.obj_items.specs.FromObject.{input_of}
 use Rattle.obj_items.specs.Laws.{LastEnds}
 use Rattle.obj_items.specs.MapFit.{FitsMap, PlacesFit}
 use Rattle.obj_items.specs.ProgramOf.{program_of}
-use Rattle.cfi_class.specs.Labels.{AreLabels}
-use Rattle.cfi_flow.specs.LabelOf.{all_classes}
-use Rattle.cfi_flow.specs.Labels.{used_labels}
 use Rattle.cfi_rewrite.specs.declared.refusal.Refusal.{Refusal}
 use Rattle.cfi_rewrite.specs.declared.refusal.Refusal.TheVariants as R
 use Rattle.cfi_rewrite.specs.Fitting.{IsFitting, RefusesPlaced}
@@ -19,7 +14,7 @@ use Rattle.cfi_rewrite.specs.Placing.{Spaced}
 use Rattle.cfi_rewrite.specs.Prepared.{IsPrepared, PreparedParts}
 use Rattle.cfi_rewrite.specs.Refused.{Hardens, Refuses}
 use Rattle.cfi_rewrite.specs.Request.{Request, program_in}
-use Rattle.cfi_rewrite.specs.Writing.{IsReady, IsWritable, IsWrittenAs, WritesOr}
+use Rattle.cfi_rewrite.specs.Writing.{AreGiven, IsReady, IsWritable, IsWrittenAs, WritesOr}
 use Rattle.cfi_rewrite.proofs.Accepting.{accepted, data_there, graph_there}
 use Rattle.cfi_rewrite.proofs.EntryThere.{entry_there}
 use Rattle.cfi_rewrite.proofs.MapFits.{accepted_map}
@@ -39,11 +34,9 @@ ready request p ends fit prepared sound small =
       entered = entered;
     }
 
-pub writable : (p : PreparedParts) (s : Spaced) (labels : List ℕ) → IsReady p → IsFitting p s →
-    length labels ≡ length (all_classes p.closed) → AreLabels (used_labels p.program) labels → IsStrictlyIncreasing labels →
-    All (λ label. label < 2 ^ 20) labels → IsWritable p s labels
-writable p s labels ready fitting counted least rising small =
-    let ok = accepted p ready s fitting labels (record { counted = counted; least = least; rising = rising; small = small }) in
+pub writable : (p : PreparedParts) (s : Spaced) (labels : List ℕ) → IsReady p → IsFitting p s → AreGiven p.program p.closed labels → IsWritable p s labels
+writable p s labels ready fitting given =
+    let ok = accepted p ready s fitting labels given in
     record {
       accepted = ok;
       words = fitting.placed.words;
@@ -54,7 +47,7 @@ writable p s labels ready fitting counted least rising small =
     }
 
 pub written_of : (p : PreparedParts) (s : Spaced) (labels : List ℕ) (h : HardenedParts) → IsFitting p s → IsWrittenAs p s labels h → IsWrittenOf p h
-written_of p s labels h fitting is = (s, labels, is.0, is.1.0, fitting.placed, fitting.room, fitting.in_range, is.1.1)
+written_of p s labels h fitting (code, init, written) = (s, labels, code, init, fitting.placed, fitting.room, fitting.in_range, written)
 
 late : (request : Request) (p : PreparedParts) (refusal : Refusal) → IsPrepared request p → RefusesPlaced p refusal → Refuses request refusal
 late request p (R.CodeTooLarge bytes) prepared refuses = (p, prepared, refuses)

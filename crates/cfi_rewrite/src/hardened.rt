@@ -1,10 +1,12 @@
-ghost use Rattle.std.specs.Prelude.{◌≡◌, ◌*◌, ◌≤◌, true, IfOk, Some, is_some, length};
+ghost use Rattle.std.specs.Prelude.{◌≡◌, ◌*◌, ◌≤◌, true, IfOk, OnOk, Some, is_some, length};
 ghost use Rattle.rv_word.specs.Layout.{CODE_SIZE};
 ghost use Rattle.cfi_flow.specs.GraphAtMap.{graph_lines};
+ghost use Rattle.cfi_flow.specs.Placement.{words_from};
 ghost use Rattle.cfi_verify.specs.Split.{code_words};
 ghost use Rattle.obj_program.specs.DataAtMap.{data_at, init_size};
 ghost use Rattle.obj_program.specs.Program.{count};
-ghost use Rattle.cfi_rewrite.specs.Hardened.{INIT_ROOM, chosen};
+ghost use Rattle.cfi_rewrite.specs.Accepted.{IsAccepted};
+ghost use Rattle.cfi_rewrite.specs.Hardened.{chosen};
 ghost use Rattle.cfi_rewrite.specs.Laws.{written_code};
 ghost use Rattle.cfi_rewrite.specs.Writing.{IsWrittenAs, IsWritable};
 
@@ -14,7 +16,7 @@ use crate::prepared::Prepared;
 use crate::spacing::Spacing;
 use cfi_graph::{Graph, Map};
 use elf_image::write_image;
-use obj_program::{DataEnd, Items};
+use obj_program::DataEnd;
 use rv_word::NoMemory;
 use std::alloc::Global;
 use std::marker::Model;
@@ -44,7 +46,7 @@ impl<'a, 'b> Chosen<'a, 'b> {
     fn code(&self, alloc: Global) -> Result<Vec<u8>, NoMemory>
         ensures words { IfOk result (λ v. code_words v.items ≡ written_code self.now) }
         ensures size { IfOk result (λ v. length v.items ≡ 4 * length (written_code self.now)) }
-        ensures room { 4 * length (written_code self.now) ≤ CODE_SIZE }
+        ensures room { OnOk result (4 * length (written_code self.now) ≤ CODE_SIZE) }
     {
         let units = self.units(alloc)?;
         code_bytes(alloc, self.entry_gate(), units.as_slice())
@@ -62,43 +64,57 @@ impl<'a, 'b> Chosen<'a, 'b> {
     }
 }
 
-/// The initialised data at these gates, where they have a value.
-fn init_at(alloc: Global, items: &Items, gates: &[u64]) -> Result<Vec<u8>, NoMemory>
-    requires counted { length gates.now ≡ count items.now }
-    requires there { is_some (data_at items.now gates.now) ≡ true }
-    ensures value { IfOk result (λ v. data_at items.now gates.now ≡ Some v.items) }
-    ensures length { IfOk result (λ v. length v.items ≡ init_size items.now) }
+/// The initialised data of a prepared program at a placement, where they have a value.
+fn init_at(alloc: Global, prepared: &Prepared, spacing: &Spacing) -> Result<Vec<u8>, NoMemory>
+    requires counted { length spacing.now.gates ≡ count prepared.now.program }
+    requires there { is_some (data_at prepared.now.program spacing.now.gates) ≡ true }
+    ensures value { IfOk result (λ v. data_at prepared.now.program spacing.now.gates ≡ Some v.items) }
+    ensures length { IfOk result (λ v. length v.items ≡ init_size prepared.now.program) }
 {
-    match items.data_at(alloc, gates) {
+    match prepared.items.data_at(alloc, spacing.gates()) {
         Ok(init) => Ok(init),
         Err(DataEnd::RelocRange) => unreachable!(),
         Err(DataEnd::NoMemory) => Err(NoMemory),
     }
 }
 
-/// Writes a prepared program with these labels at a placement.
-#[tactic(auto, using(crate::proofs::WholeImage::image_size, crate::proofs::WholeImage::written_as))]
-pub(crate) fn written<'a>(
+/// A prepared program at a placement with these labels.
+fn chosen_of<'a, 'b>(
     alloc: Global,
-    prepared: &'a Prepared,
+    prepared: &'a Prepared<'b>,
     spacing: &'a Spacing,
     labels: &'a [u32],
-) -> Result<Hardened, NoMemory>
-    requires { IsWritable prepared.now spacing.now labels.now }
-    ensures { IfOk result (λ h. IsWrittenAs prepared.now spacing.now labels.now h) }
+) -> Result<Chosen<'a, 'b>, NoMemory>
+    requires accepted { IsAccepted (chosen prepared.now spacing.now labels.now) }
+    requires words { spacing.now.words ≡ words_from prepared.now.closed.classes 0 spacing.now.gates }
+    ensures { IfOk result (λ c. c ≡ chosen prepared.now spacing.now labels.now) }
 {
-    let items = &prepared.items;
     let mapped = Mapped {
-        items,
+        items: &prepared.items,
         closed: &prepared.closed,
         gates: spacing.gates(),
         words: spacing.words(),
     };
-    let chosen = Chosen::of(alloc, mapped, spacing.long(), labels, prepared.entry)?;
+    Chosen::of(alloc, mapped, spacing.long(), labels, prepared.entry)
+}
+
+/// Writes a prepared program with these labels at a placement.
+#[tactic(auto, using(crate::proofs::WholeImage::image_size))]
+pub(crate) fn written(
+    alloc: Global,
+    prepared: &Prepared,
+    spacing: &Spacing,
+    labels: &[u32],
+) -> Result<Hardened, NoMemory>
+    requires { IsWritable prepared.now spacing.now labels.now }
+    ensures { IfOk result (λ h. IsWrittenAs prepared.now spacing.now labels.now h) }
+{
+    let chosen = chosen_of(alloc, prepared, spacing, labels)?;
     let code = chosen.code(alloc)?;
-    let graph = chosen.graph_of(alloc, code.as_slice())?;
+    let bytes = code.as_slice();
+    let graph = chosen.graph_of(alloc, bytes)?;
     let map = chosen.map(alloc)?;
-    let init = init_at(alloc, items, spacing.gates())?;
-    let image = write_image(alloc, code.as_slice(), init.as_slice())?;
+    let init = init_at(alloc, prepared, spacing)?;
+    let image = write_image(alloc, bytes, init.as_slice())?;
     Ok(Hardened { image, graph, map })
 }

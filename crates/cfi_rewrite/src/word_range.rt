@@ -2,6 +2,7 @@ ghost use Rattle.std.specs.Prelude.{ℕ, ◌<◌, ◌^◌, length, slice_index_o
 ghost use Rattle.obj_program.specs.Program.{count, item_of, no_item};
 ghost use Rattle.obj_program.specs.Sound.{IsSound};
 
+use crate::prepared::Prepared;
 use obj_program::{Item, Items};
 
 /// The word of a place has 32 bits.
@@ -21,9 +22,17 @@ fn words_fit(items: &[Item])
 }
 
 /// The words of a program's places have 32 bits, and it is sound.
-pub(crate) fn program_words_fit(items: &Items)
+fn program_words_fit(items: &Items)
     ensures sound { IsSound items.now }
     ensures words { (k : ℕ) → k < count items.now → (item_of items.now k).word < 2 ^ 32 }
 {
     words_fit(items.places());
+}
+
+/// The same of a prepared program.
+pub(crate) fn words_fit_in(prepared: &Prepared)
+    ensures sound { IsSound prepared.now.program }
+    ensures words { (k : ℕ) → k < count prepared.now.program → (item_of prepared.now.program k).word < 2 ^ 32 }
+{
+    program_words_fit(&prepared.items);
 }

@@ -1,0 +1,24 @@
+use Rattle.std.proofs.Common.{◌∙◌, ap, length, subst}
+use Rattle.cfi_graph.specs.Graph.{GraphParts}
+use Rattle.cfi_flow.specs.GraphAtMap.{graph_lines}
+use Rattle.cfi_flow.specs.LegalMap.{IsLegalMap}
+use Rattle.cfi_verify.specs.Split.{code_words}
+use Rattle.cfi_rewrite.specs.Laws.{written_code}
+use Rattle.cfi_rewrite.specs.MapLines.{map_lines}
+use Rattle.cfi_rewrite.specs.Units.{Choice}
+use Rattle.elf_image.specs.Spelling.{spelling}
+use Rattle.cfi_rewrite.proofs.WholeImage.{written_as}
+use Rattle.cfi_rewrite.proofs.hardened.written.Goals as goal
+
+pub returns : goal.returns
+returns c =
+    let bytes = c.as_slice-bytes.result.now in
+    let is = c.in_ok-chosen.ensures in
+    written_as c.args.prepared.now c.args.spacing.now c.args.labels.now bytes c.in_ok-init.init.items c.in_ok-image.image.items
+    c.in_ok-graph.graph c.in_ok-map.map c.requires
+    (ap code_words c.as_slice-bytes.ensures.value ∙ c.in_ok-code.ensures.words ∙ ap written_code is)
+    c.in_ok-init.ensures.value
+    (c.in_ok-image.ensures ∙ ap (spelling bytes) c.as_slice.ensures.value)
+    (c.in_ok-graph.ensures ∙ ap (λ (m : Choice). record { code = length bytes; lines = graph_lines m.layout m.labels }) is)
+    (c.in_ok-map.ensures.lines ∙ ap (λ (m : Choice). map_lines m.layout) is)
+    (subst (λ (m : Choice). IsLegalMap m.layout.program m.layout.closed c.in_ok-map.map) is c.in_ok-map.ensures.legal)
