@@ -1,11 +1,10 @@
 -- A request that is prepared is ready to be written, and what its writing comes to is what the request comes to.
-use Rattle.std.proofs.Common.{◌≡◌, ℕ, ◌-◌, ◌^◌, ◌<◌, true, List, length, Some, Option, Result, Ok, Err, refl, sym, subst, arith}
+use Rattle.std.proofs.Common.{◌≡◌, ℕ, ◌-◌, ◌^◌, ◌<◌, true, List, Result, Ok, Err, sym, subst, arith}
 use Rattle.obj_program.specs.Program.{Program, count, is_end, item_of}
 use Rattle.obj_program.specs.Sound.{IsSound}
 use Rattle.obj_items.specs.FromObject.{input_of}
 use Rattle.obj_items.specs.Laws.{LastEnds}
 use Rattle.obj_items.specs.MapFit.{FitsMap, PlacesFit}
-use Rattle.obj_items.specs.ProgramOf.{program_of}
 use Rattle.cfi_rewrite.specs.declared.refusal.Refusal.{Refusal}
 use Rattle.cfi_rewrite.specs.declared.refusal.Refusal.TheVariants as R
 use Rattle.cfi_rewrite.specs.Fitting.{IsFitting, RefusesPlaced}
@@ -13,7 +12,7 @@ use Rattle.cfi_rewrite.specs.Hardened.{HardenedParts, IsWrittenOf, chosen}
 use Rattle.cfi_rewrite.specs.Placing.{Spaced}
 use Rattle.cfi_rewrite.specs.Prepared.{IsPrepared, PreparedParts}
 use Rattle.cfi_rewrite.specs.Refused.{Hardens, Refuses}
-use Rattle.cfi_rewrite.specs.Request.{Request, program_in}
+use Rattle.cfi_rewrite.specs.Request.{Request}
 use Rattle.cfi_rewrite.specs.Writing.{AreGiven, IsReady, IsWritable, IsWrittenAs, WritesOr}
 use Rattle.cfi_rewrite.proofs.Accepting.{accepted, data_there, graph_there}
 use Rattle.cfi_rewrite.proofs.EntryThere.{entry_there}

@@ -1,21 +1,21 @@
 -- A prepared program that is written, with its graph and map.
-use Rattle.std.proofs.Common.{◌≡◌, ℕ, ◌+◌, ◌*◌, ◌%◌, ◌^◌, ◌≤◌, ◌<◌, List, length, map, Some, refl, sym, ap, subst, ◌∙◌, arith}
+use Rattle.std.proofs.Common.{◌≡◌, ℕ, ◌*◌, ◌≤◌, List, length, Some, sym, ap, subst, ◌∙◌, arith}
 use Rattle.rv_word.specs.Image.{IsImageSize}
 use Rattle.rv_word.specs.Layout.{CODE_SIZE, OPENING_CALL, version_1}
 use Rattle.elf_image.specs.Spelling.{spelling}
 use Rattle.cfi_graph.specs.Graph.{GraphParts, IsGraph}
 use Rattle.cfi_graph.specs.declared.map.MapLine.{MapLine}
-use Rattle.obj_program.specs.DataAtMap.{data_at, init_size}
+use Rattle.obj_program.specs.DataAtMap.{data_at}
 use Rattle.cfi_flow.specs.GraphAtMap.{graph_lines}
 use Rattle.cfi_flow.specs.LegalMap.{IsLegalMap, gates_of}
 use Rattle.cfi_unit.specs.UnitWords.{Reaches}
-use Rattle.cfi_verify.specs.Placed.{AllFit, placed_code}
+use Rattle.cfi_verify.specs.Placed.{AllFit}
 use Rattle.cfi_verify.specs.Split.{code_words}
 use Rattle.cfi_verify.proofs.UnitIn.{length-placed_code}
 use Rattle.cfi_rewrite.specs.Accepted.{IsAccepted}
-use Rattle.cfi_rewrite.specs.Hardened.{HardenedParts, INIT_ROOM, IsWritten, chosen}
+use Rattle.cfi_rewrite.specs.Hardened.{INIT_ROOM, chosen}
 use Rattle.cfi_rewrite.specs.Laws.{written_code}
-use Rattle.cfi_rewrite.specs.MapLines.{lines_from, map_lines}
+use Rattle.cfi_rewrite.specs.MapLines.{map_lines}
 use Rattle.cfi_rewrite.specs.Placing.{Spaced}
 use Rattle.cfi_rewrite.specs.Prepared.{PreparedParts}
 use Rattle.cfi_rewrite.specs.Units.{Choice, entry_gate, units}
@@ -52,16 +52,19 @@ pub written_as : (p : PreparedParts) (s : Spaced) (labels code init image : List
     IsLegalMap p.program p.closed lines →
     IsWrittenAs p s labels (record { image = image; graph = graph; map = lines })
 written_as p s labels code init image graph lines able code_is init_is image_is graph_is lines_are legal =
-    let m = chosen p s labels in
-    (code, init, record {
-      counted = able.accepted.counted;
-      labels_are = able.accepted.labels;
-      code_is = code_is;
-      init_is = init_is;
-      image = image_is;
-      graph = graph_is;
-      map = legal;
-      gates = ap gates_of lines_are ∙ gates_are m able.accepted;
-      well_formed = written_well_formed m (record { code = code; init = init }) graph able.accepted code_is
-          (ap (λ (g : GraphParts). g.lines) graph_is) (ap (λ (g : GraphParts). g.code) graph_is);
-    })
+    let m = chosen p s labels in (
+      code,
+      init,
+      record {
+        counted = able.accepted.counted;
+        labels_are = able.accepted.labels;
+        code_is = code_is;
+        init_is = init_is;
+        image = image_is;
+        graph = graph_is;
+        map = legal;
+        gates = ap gates_of lines_are ∙ gates_are m able.accepted;
+        well_formed = written_well_formed m (record { code = code; init = init }) graph able.accepted code_is
+            (ap (λ (g : GraphParts). g.lines) graph_is) (ap (λ (g : GraphParts). g.code) graph_is);
+      },
+    )

@@ -8,7 +8,6 @@ use Rattle.cfi_class.specs.Labels.{AreLabels}
 use Rattle.obj_program.specs.DataAtMap.{data_at, init_size}
 use Rattle.obj_program.specs.Program.{Program}
 use Rattle.obj_program.specs.Range.{out_of_range}
-use Rattle.cfi_flow.specs.Closed.{ClosedGraph}
 use Rattle.cfi_flow.specs.GraphAtMap.{graph_lines}
 use Rattle.cfi_flow.specs.LabelOf.{all_classes}
 use Rattle.cfi_flow.specs.Labels.{used_labels}

@@ -1,11 +1,9 @@
 -- What a request comes to before anything is placed: the object's program with its closed graph under the policy and its entry, or the
 -- first of what stands against that: a fault of the object, one of its instructions and relocations, an entry that is not there, a
 -- wrong line of the policy.
-use Rattle.std.specs.Prelude.{◌≡◌, ℕ, ◌⊎◌, List, Option, Some, None, Result, Ok, Err, IsSome}
+use Rattle.std.specs.Prelude.{◌≡◌, ℕ, ◌⊎◌, List, Option, Some, None, Result, Ok, Err}
 use Rattle.text_lines.specs.declared.end.TextEnd.{TextEnd}
-use Rattle.text_lines.specs.declared.end.TextEnd.TheVariants.{Line, NoMemory}
-use Rattle.text_lines.specs.Reading.{Reading}
-use Rattle.cfi_graph.specs.declared.policy.PolicyLine.{PolicyLine}
+use Rattle.text_lines.specs.declared.end.TextEnd.TheVariants.{Line}
 use Rattle.elf_object.specs.Fault.{fault_of as object_fault}
 use Rattle.obj_rules.specs.Fault.{fault_of}
 use Rattle.obj_program.specs.Program.{Program}

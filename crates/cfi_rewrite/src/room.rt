@@ -11,6 +11,7 @@ use std::alloc::Global;
 /// How many bytes of initialised data an image has room for, and the address before which data end: there the stack's room
 /// begins.
 pub const INIT_ROOM: u128 = 1 << 25;
+
 pub const DATA_ROOM: u128 = 0x0ff0_0000;
 
 /// Whether the data of a program have room.

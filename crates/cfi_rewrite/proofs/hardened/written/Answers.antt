@@ -1,5 +1,4 @@
 use Rattle.std.proofs.Common.{◌∙◌, ap, length, subst}
-use Rattle.cfi_graph.specs.Graph.{GraphParts}
 use Rattle.cfi_flow.specs.GraphAtMap.{graph_lines}
 use Rattle.cfi_flow.specs.LegalMap.{IsLegalMap}
 use Rattle.cfi_verify.specs.Split.{code_words}
