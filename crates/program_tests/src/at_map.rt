@@ -1,7 +1,7 @@
 ghost use Rattle.std.specs.Prelude.{◌≡◌, ◌<◌, length, true, false};
 ghost use Rattle.obj_program.specs.Program.{count, is_end, item_of};
 
-use crate::{samples, vectors};
+use crate::samples;
 use elf_object::Object;
 use least::Place;
 use obj_input::ItemKind;
@@ -55,7 +55,7 @@ struct Asked {
 fn asked_of(number: u32) -> Asked {
     match number {
         0 => Asked {
-            digits: vectors::P,
+            digits: sample_objects::P,
             gates: &P_GATES,
             words: &P_WORDS,
             instructions: [
@@ -67,7 +67,7 @@ fn asked_of(number: u32) -> Asked {
             out_of_range: None,
         },
         1 => Asked {
-            digits: vectors::H,
+            digits: sample_objects::H,
             gates: &H_GATES,
             words: &H_GATES,
             instructions: [
@@ -79,7 +79,7 @@ fn asked_of(number: u32) -> Asked {
             out_of_range: None,
         },
         2 => Asked {
-            digits: vectors::H,
+            digits: sample_objects::H,
             gates: &H_FAR,
             words: &H_FAR,
             instructions: [(7, None), (6, Some(0x00008067)), (14, None)],

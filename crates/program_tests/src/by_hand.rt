@@ -9,10 +9,10 @@ use std::fmt::Write;
 /// An object in hexadecimal, and the program that it is.
 fn vector(number: u32) -> (&'static [u8], &'static [u8]) {
     match number {
-        0 => (vectors::B, vectors::B_TEXT),
-        1 => (vectors::P, vectors::P_TEXT),
-        2 => (vectors::H, vectors::H_TEXT),
-        _ => (vectors::R, vectors::R_TEXT),
+        0 => (sample_objects::B, vectors::B_TEXT),
+        1 => (sample_objects::P, vectors::P_TEXT),
+        2 => (sample_objects::H, vectors::H_TEXT),
+        _ => (sample_objects::R, vectors::R_TEXT),
     }
 }
 

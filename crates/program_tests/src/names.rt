@@ -1,4 +1,3 @@
-use crate::vectors;
 use elf_object::Object;
 use obj_items::items;
 use obj_program::Items;
@@ -33,6 +32,6 @@ fn is_found(alloc: Global, file: &[u8]) -> bool {
 
 #[test]
 fn finds_names(rt: HostRuntime) {
-    let file = hex::decode(rt.alloc(), vectors::R);
+    let file = hex::decode(rt.alloc(), sample_objects::R);
     assert!(rt; matches!(&file, Ok(file) if is_found(rt.alloc(), file)));
 }
