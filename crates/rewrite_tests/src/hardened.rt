@@ -1,0 +1,72 @@
+use crate::given::{answer, file};
+use crate::image::is_image_of;
+use crate::programs::{PROGRAMS, Program};
+use cfi_graph::{Graph, Map, write_graph, write_map};
+use cfi_rewrite::Hardened;
+use cfi_verify::verify;
+use elf_image::read_image;
+use rv_word::Image;
+use std::alloc::Global;
+
+/// Whether a graph is written as this text.
+fn is_graph(alloc: Global, graph: &Graph, text: &[u8]) -> bool {
+    match write_graph(alloc, graph) {
+        Ok(written) => written.as_slice() == text,
+        Err(_) => false,
+    }
+}
+
+/// Whether a map is written as this text.
+fn is_map(alloc: Global, map: &Map, text: &[u8]) -> bool {
+    match write_map(alloc, map) {
+        Ok(written) => written.as_slice() == text,
+        Err(_) => false,
+    }
+}
+
+/// Whether the verifier accepts an image with a graph.
+fn is_verified(alloc: Global, image: &Image<'_>, graph: &Graph) -> bool {
+    match verify(alloc, image, graph) {
+        Ok(_) => true,
+        Err(_) => false,
+    }
+}
+
+/// Whether the verifier accepts the image that a file is with a graph.
+fn is_accepted(alloc: Global, file: &[u8], graph: &Graph) -> bool {
+    match read_image(file) {
+        Ok(image) => is_verified(alloc, &image, graph),
+        Err(_) => false,
+    }
+}
+
+/// Whether a hardened program is the one that is wanted, and is accepted.
+fn is_wanted(alloc: Global, hardened: &Hardened, program: &Program) -> bool {
+    is_image_of(alloc, &hardened.image, program)
+        && is_graph(alloc, &hardened.graph, program.6)
+        && is_map(alloc, &hardened.map, program.7)
+        && is_accepted(alloc, &hardened.image, &hardened.graph)
+}
+
+/// Whether a file becomes the program that is wanted.
+fn becomes(alloc: Global, file: &[u8], program: &Program) -> bool {
+    match answer(alloc, file, &program.0) {
+        Ok(hardened) => is_wanted(alloc, &hardened, program),
+        Err(_) => false,
+    }
+}
+
+/// Whether an object becomes its program, and the same again.
+fn is_right(alloc: Global, program: &Program) -> bool {
+    match file(alloc, &program.0) {
+        Some(file) => becomes(alloc, &file, program) && becomes(alloc, &file, program),
+        None => false,
+    }
+}
+
+#[test]
+fn hardens(rt: HostRuntime) {
+    for (k, program) in PROGRAMS.iter().enumerate() {
+        assert!(rt; is_right(rt.alloc(), program), "program {k}");
+    }
+}
