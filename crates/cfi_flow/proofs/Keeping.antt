@@ -1,87 +1,89 @@
--- Sites that are kept with the indexes of their sets, as they grow by one.
-use Rattle.std.proofs.Common.{◌≡◌, ℕ, ◌+◌, ◌<◌, List, [], ◌∷◌, ◌++◌, length, map, inl, inr, refl, ap, ◌∙◌, arith, add-one}
-use Rattle.std.specs.List.{All}
+-- Sites that are kept with the indexes of their lists or with spans, as they grow by one.
+use Rattle.std.proofs.Common.{◌≡◌, ℕ, ◌+◌, ◌<◌, Bool, List, [], ◌∷◌, ◌++◌, length, map, get_or, Option, IfSome, refl, sym, ap, subst, ◌∙◌, arith, add-one}
+use Rattle.std.specs.List.{All, slice_get}
 use Rattle.std.proofs.Math.ListN.{get_or-append}
 use Rattle.std.proofs.Math.Seq.{get_or-append_seam}
-use Rattle.std.proofs.lemmas.Bool.{cases_lt}
-use Rattle.std.proofs.lemmas.List.{length-append, map-append}
+use Rattle.std.proofs.lemmas.List.{get_or-map, length-map, map-append}
 use Rattle.cfi_graph.specs.declared.line.SiteKind.{SiteKind}
-use Rattle.cfi_flow.specs.declared.raw.KeptSite.{KeptSite}
-use Rattle.cfi_flow.specs.Kept.{AreKept, no_kept, with_set}
+use Rattle.cfi_flow.specs.declared.draw.Aim.{Aim}
+use Rattle.cfi_flow.specs.declared.draw.Aim.TheVariants as aim
+use Rattle.cfi_flow.specs.declared.draw.Drawing.{Drawing}
+use Rattle.cfi_flow.specs.declared.draw.KeptSite.{KeptSite}
+use Rattle.cfi_flow.specs.Kept.{AreKept, IsAimed, no_kept, raw_site, site_with, sites_of, targets_of}
+use Rattle.cfi_flow.specs.Closed.{sets_of}
+use Rattle.cfi_flow.specs.Raw.{IsThere, no_site}
 use Rattle.cfi_flow.specs.Sites.{RawSite}
-use Rattle.cfi_flow.proofs.Listing.{all_with}
+use Rattle.cfi_flow.proofs.Listing.{below_all}
 
-abbrev pub kept : ℕ → SiteKind → ℕ → KeptSite
-kept place kind set = record { place = place; kind = kind; set = set }
+abbrev pub kept : ℕ → SiteKind → Aim → KeptSite
+kept place kind a = record { place = place; kind = kind; aim = a }
 
-module _ (sites : List KeptSite) (sets : List (List ℕ)) (places : ℕ) (are : AreKept sites sets places) (place : ℕ) (kind : SiteKind) (here : place < places) where
-  -- a site with the set of another
-  pub kept_again : (set : ℕ) → set < length sets → AreKept (sites ++ kept place kind set ∷ []) sets places
-  kept_again set there = record {
-    place_there = all_with (λ (s : KeptSite). s.place < places) sites (kept place kind set) are.place_there here;
-    set_there = all_with (λ (s : KeptSite). s.set < length sets) sites (kept place kind set) are.set_there there;
-    used = λ j below.
-        let u = are.used j below in
-        let less : u.0 < length sites = u.1 in (
-          u.0,
-          omega (arith, length-append sites (kept place kind set ∷ [])),
-          ap (λ (s : KeptSite). s.set) (get_or-append sites (kept place kind set ∷ []) no_kept u.0 less) ∙ u.2,
-        );
-    targets_there = are.targets_there;
-  }
+-- a list that comes later changes no site
+target_stays : (lists : List (List ℕ)) (more : List ℕ) (taken begun : List Bool) (a : Aim) → IsAimed (length lists) a
+    → targets_of (lists ++ more ∷ []) taken begun a ≡ targets_of lists taken begun a
+target_stays lists more taken begun (aim.Listed j) h = get_or-append lists (more ∷ []) [] j h
+target_stays lists more taken begun (aim.Open span) h = refl
 
-  -- a site with a set of its own
-  pub kept_anew : (targets : List ℕ) → All (λ t. t < places) targets
-      → AreKept (sites ++ kept place kind (length sets) ∷ []) (sets ++ targets ∷ []) places
-  kept_anew targets there =
-      let more = length-append sets (targets ∷ []) in
-      let site = kept place kind (length sets) in
-      record {
-        place_there = all_with (λ (s : KeptSite). s.place < places) sites site are.place_there here;
-        set_there = all_with (λ (s : KeptSite). s.set < length (sets ++ targets ∷ [])) sites site
-            (λ k d below. let old = are.set_there k d below in omega arith)
-            (omega arith);
-        used = λ j below. elim (cases_lt j (length sets)) [
-          | inl less ↦
-              let u = are.used j less in
-              let inside : u.0 < length sites = u.1 in (
-                u.0,
-                omega (arith, length-append sites (site ∷ [])),
-                ap (λ (s : KeptSite). s.set) (get_or-append sites (site ∷ []) no_kept u.0 inside) ∙ u.2,
-              )
-          | inr last ↦
-              let same : length sets ≡ j = omega arith in (
-                length sites,
-                omega (arith, length-append sites (site ∷ [])),
-                ap (λ (s : KeptSite). s.set) (get_or-append_seam sites site [] no_kept) ∙ same,
-              )
-        ];
-        targets_there = all_with (All (λ (t : ℕ). t < places)) sets targets are.targets_there there;
-      }
-
-abbrev site_with : KeptSite → List ℕ → RawSite
-site_with s targets = record { place = s.place; kind = s.kind; targets = targets }
-
--- sets that come later change no site
-pub sites_stay : (sites : List KeptSite) (sets more : List (List ℕ)) → All (λ (s : KeptSite). s.set < length sets) sites
-    → map (with_set (sets ++ more)) sites ≡ map (with_set sets) sites
-sites_stay [] sets more there = refl
-sites_stay (s ∷ sites) sets more there =
-    let first : s.set < length sets = there 0 s (omega arith) in
-    let same : with_set (sets ++ more) s ≡ with_set sets s =
-    ap (λ (targets : List ℕ). site_with s targets) (get_or-append sets more [] s.set first) in
-    let rest = sites_stay sites sets more (λ k d below. rw add-one at (there (k + 1) d (omega arith))) in
+sites_stay : (lists : List (List ℕ)) (more : List ℕ) (taken begun : List Bool) (sites : List KeptSite)
+    → All (λ (s : KeptSite). IsAimed (length lists) s.aim) sites
+    → map (raw_site (lists ++ more ∷ []) taken begun) sites ≡ map (raw_site lists taken begun) sites
+sites_stay lists more taken begun [] there = refl
+sites_stay lists more taken begun (s ∷ sites) there =
+    let same : raw_site (lists ++ more ∷ []) taken begun s ≡ raw_site lists taken begun s =
+    ap (λ (ts : List ℕ). site_with s.place s.kind ts) (target_stays lists more taken begun s.aim (there 0 s (omega arith))) in
+    let rest = sites_stay lists more taken begun sites (λ k d below. rw add-one at (there (k + 1) d (omega arith))) in
     cc
 
-pub view_again : (sites : List KeptSite) (sets : List (List ℕ)) (s : KeptSite)
-    → map (with_set sets) (sites ++ s ∷ []) ≡ map (with_set sets) sites ++ with_set sets s ∷ []
-view_again sites sets s = map-append (with_set sets) sites (s ∷ [])
+module _ (d n : Drawing) (is : AreKept d) (place : ℕ) (kind : SiteKind) (here : place < length d.taken.items)
+    (taken : n.taken.items ≡ d.taken.items) (begun : n.begun.items ≡ d.begun.items) where
+  -- a site with a list of its own
+  pub listed_sites : (targets : List ℕ) → n.lists.items ≡ d.lists.items ++ targets ∷ []
+      → n.sites.items ≡ d.sites.items ++ kept place kind (aim.Listed (length d.lists.items)) ∷ []
+      → sites_of n ≡ sites_of d ++ site_with place kind targets ∷ []
+  listed_sites targets lists sites =
+      rw (sites, lists, taken, begun)
+      (map-append (raw_site (d.lists.items ++ targets ∷ []) d.taken.items d.begun.items) d.sites.items (kept place kind (aim.Listed (length d.lists.items)) ∷ [])
+      ∙ ap (λ (xs : List RawSite). xs ++ site_with place kind (get_or (d.lists.items ++ targets ∷ []) (length d.lists.items) []) ∷ [])
+      (sites_stay d.lists.items targets d.taken.items d.begun.items d.sites.items is.aims)
+      ∙ ap (λ (ts : List ℕ). sites_of d ++ site_with place kind ts ∷ []) (get_or-append_seam d.lists.items targets [] []))
 
-pub view_anew : (sites : List KeptSite) (sets : List (List ℕ)) (place : ℕ) (kind : SiteKind) (targets : List ℕ)
-    → All (λ (s : KeptSite). s.set < length sets) sites
-    → map (with_set (sets ++ targets ∷ [])) (sites ++ kept place kind (length sets) ∷ [])
-    ≡ map (with_set sets) sites ++ record { place = place; kind = kind; targets = targets } ∷ []
-view_anew sites sets place kind targets there =
-    view_again sites (sets ++ targets ∷ []) (kept place kind (length sets))
-    ∙ ap (λ (xs : List RawSite). xs ++ with_set (sets ++ targets ∷ []) (kept place kind (length sets)) ∷ []) (sites_stay sites sets (targets ∷ []) there)
-    ∙ ap (λ (ts : List ℕ). map (with_set sets) sites ++ record { place = place; kind = kind; targets = ts } ∷ []) (get_or-append_seam sets targets [] [])
+-- targets are places
+aimed_there : (lists : List (List ℕ)) (taken begun : List Bool) (a : Aim) → IsAimed (length lists) a → All (All (λ (t : ℕ). t < length taken)) lists
+    → All (λ (t : ℕ). t < length taken) (targets_of lists taken begun a)
+aimed_there lists taken begun (aim.Listed j) there all = all j [] there
+aimed_there lists taken begun (aim.Open span) there all = below_all (λ (t : ℕ). t < length taken) _ (length taken) (λ k less holds. less)
+
+pub there : (d : Drawing) → AreKept d → IsThere (record { sites = sites_of d; taken = d.taken.items })
+there d is =
+    let raw : KeptSite → RawSite = raw_site d.lists.items d.taken.items d.begun.items in
+    record {
+      sites = λ i e inside.
+          let below : i < length d.sites.items = omega (arith, length-map d.sites.items raw) in
+          subst (λ (s : RawSite). s.place < length d.taken.items) (sym (get_or-map raw d.sites.items i no_kept e below)) (is.places i no_kept below);
+      targets = λ i e inside.
+          let below : i < length d.sites.items = omega (arith, length-map d.sites.items raw) in
+          subst (λ (s : RawSite). All (λ (t : ℕ). t < length d.taken.items) s.targets) (sym (get_or-map raw d.sites.items i no_kept e below))
+          (aimed_there d.lists.items d.taken.items d.begun.items (get_or d.sites.items i no_kept).aim (is.aims i no_kept below) is.lists);
+    }
+
+-- the set of a site
+pub set_of_site : (d : Drawing) (k : ℕ) → k < length d.sites.items
+    → get_or (sets_of (sites_of d)) k [] ≡ targets_of d.lists.items d.taken.items d.begun.items (get_or d.sites.items k no_kept).aim
+set_of_site d k below =
+    let raw : KeptSite → RawSite = raw_site d.lists.items d.taken.items d.begun.items in
+    get_or-map (λ (s : RawSite). s.targets) (sites_of d) k no_site [] (omega (arith, length-map d.sites.items raw))
+    ∙ ap (λ (s : RawSite). s.targets) (get_or-map raw d.sites.items k no_kept no_site below)
+
+pub sets_many : (d : Drawing) → length (sets_of (sites_of d)) ≡ length d.sites.items
+sets_many d = length-map (sites_of d) (λ (s : RawSite). s.targets) ∙ length-map d.sites.items (raw_site d.lists.items d.taken.items d.begun.items)
+
+first_bound : (xs : List ℕ) (n : ℕ) → All (λ (t : ℕ). t < n) xs → (o : Option ℕ) → o ≡ slice_get xs 0 → IfSome o (λ t. t < n)
+first_bound [] n all o is = subst (λ (p : Option ℕ). IfSome p (λ t. t < n)) (sym is) tt
+first_bound (x ∷ xs) n all o is = subst (λ (p : Option ℕ). IfSome p (λ t. t < n)) (sym is) (all 0 0 (omega arith))
+
+-- the first target of a site is a place
+pub first_there : (d : Drawing) → AreKept d → (a : Aim) → IsAimed (length d.lists.items) a → (n : ℕ) → length d.taken.items ≡ n → (o : Option ℕ)
+    → o ≡ slice_get (targets_of d.lists.items d.taken.items d.begun.items a) 0 → IfSome o (λ t. t < n)
+first_there d is a aimed n many o first =
+    subst (λ (m : ℕ). IfSome o (λ t. t < m)) many
+    (first_bound _ (length d.taken.items) (aimed_there d.lists.items d.taken.items d.begun.items a aimed is.lists) o first)

@@ -1,10 +1,12 @@
 pub mod Laws
 pub mod Listing
 pub mod Rising
-mod Keeping
 mod Finding
 mod Classing
-mod Sharing
+mod Spanning
+mod Pointing
+mod Merging
+mod Keeping
 mod Reaching
 mod Judged
 mod Stepping

@@ -1,9 +1,7 @@
 -- Where functions begin: the places that they name by section and offset are marked, and no others.
-use Rattle.std.proofs.Common.{◌≡◌, ◌==◌, ℕ, zero, suc, ◌+◌, ◌<◌, Bool, true, false, ◌&&◌, ◌||◌, List, [], ◌++◌, length, get_or, take, Some, inl, inr, refl, sym, ap, subst, ◌∙◌, arith}
-use Rattle.std.specs.List.{filter, list_any, slice_get}
-use Rattle.std.proofs.lemmas.Bool.{and_parts, cases_Bool, cases_eq, cases_lt, eq-eqb, eqb-true, false_from_ne_true, ne_eqb}
-use Rattle.std.proofs.lemmas.List.{append-nil}
-use Rattle.std.proofs.lemmas.List.Elements.{filter-append}
+use Rattle.std.proofs.Common.{◌≡◌, ◌==◌, ℕ, ◌+◌, ◌<◌, Bool, true, false, ◌||◌, List, [], length, get_or, take, Some, inl, inr, sym, ap, subst, ◌∙◌, arith}
+use Rattle.std.specs.List.{list_any, slice_get}
+use Rattle.std.proofs.lemmas.Bool.{and_parts, cases_eq, cases_lt, eq-eqb, eqb-true, false_from_ne_true, ne_eqb}
 use Rattle.std.proofs.lemmas.List.Folds.{list_any_more}
 use Rattle.std.proofs.lemmas.List.Quantifiers.{position-Some}
 use Rattle.std.proofs.lemmas.Option.{get_or_from_slice_get, slice_get_within}
@@ -12,7 +10,6 @@ use Rattle.obj_input.specs.declared.parts.Func.{Func}
 use Rattle.obj_program.specs.declared.item.Item.{Item}
 use Rattle.obj_program.specs.Program.{AreInOrder, Program, count, is_before, is_spot, item_of, no_item, place_of}
 use Rattle.obj_program.proofs.Ordered.{not_there}
-use Rattle.cfi_flow.specs.Below.{where_below}
 use Rattle.cfi_flow.specs.Drawn.{no_func}
 use Rattle.cfi_flow.specs.Marks.{AreBegun}
 use Rattle.cfi_flow.specs.Policy.{is_number}
@@ -72,17 +69,3 @@ begun_more program j f old new in_order there so_far same each = record {
       ∙ ap (λ (g : Func). list_any (begins i) (take j program.funcs) || begins i g) (sym (get_or_from_slice_get program.funcs j f no_func there))
       ∙ sym (list_any_more (begins i) program.funcs j no_func (slice_get_within program.funcs j f there));
 }
-
--- of the numbers that meet a test, those that meet another as well
-pub filter_below : (p q : ℕ → Bool) (n : ℕ) → filter q (where_below p n) ≡ where_below (λ t. p t && q t) n
-unfolding where_below
-filter_below p q zero = refl
-filter_below p q (suc n) =
-    let before = filter_below p q n in
-    elim (cases_Bool (p n)) [
-      | inl holds ↦ elim (cases_Bool (q n)) [
-        | inl also ↦ rw (holds, filter-append, also, before) refl
-        | inr not ↦ rw (holds, filter-append, not) (ap (λ (xs : List ℕ). xs ++ []) before)
-      ]
-      | inr fails ↦ rw fails (ap (filter q) (append-nil (where_below p n)) ∙ before ∙ sym (append-nil (where_below (λ t. p t && q t) n)))
-    ]

@@ -1,5 +1,5 @@
 -- Words of private contracts: the tables by which classes and sites are found at a place.
-use Rattle.std.specs.Prelude.{ℕ, ◌<◌, ◌==◌, Option, None, List, [], ◌∷◌}
+use Rattle.std.specs.Prelude.{ℕ, ◌<◌, ◌==◌, Option, option_and_then, List, slice_get}
 use Rattle.std.specs.List.{All, position}
 use Rattle.cfi_flow.specs.declared.closed.Site.{Site}
 use Rattle.cfi_flow.specs.Closed.{class_with}
@@ -17,8 +17,7 @@ pub record AreFound (classes : List (List ℕ)) (sites : List Site) (places : �
 
 -- what a table has for the first of some places
 abbrev pub first_entry : List (Option ℕ) → List ℕ → Option ℕ
-first_entry table [] = None
-first_entry table (t ∷ targets) = entry table t
+first_entry table targets = option_and_then (entry table) (slice_get targets 0)
 
 -- a site with what a table has for its targets
 abbrev pub by_table : List (Option ℕ) → RawSite → Site

@@ -1,4 +1,5 @@
 pub mod Below
+pub mod Spans
 pub mod Sites
 pub mod Raw
 pub mod Policy
@@ -6,6 +7,8 @@ pub mod Entry
 pub mod Closed
 pub mod Labels
 pub mod Kept
+pub mod Pointed
+pub mod Joins
 pub mod Marks
 pub mod Drawn
 pub mod Tables

@@ -1,8 +1,8 @@
-ghost use Rattle.std.specs.Prelude.{◌≡◌, ◌<◌, IfOk, length, map};
+ghost use Rattle.std.specs.Prelude.{◌≡◌, ◌<◌, IfOk, length};
 ghost use Rattle.std.specs.List.{All};
 ghost use Rattle.cfi_flow.specs.declared.closed.Site.{Site};
 ghost use Rattle.cfi_flow.specs.Closed.{IsClosed};
-ghost use Rattle.cfi_flow.specs.Found.{by_table, first_entry, site_with};
+ghost use Rattle.cfi_flow.specs.Found.{site_with};
 ghost use Rattle.cfi_flow.specs.Tables.{IsTable};
 
 use crate::closed::{Closed, Site};
@@ -10,32 +10,6 @@ use crate::raw::Raw;
 use crate::table::{blank, note, table_of};
 use rv_word::NoMemory;
 use std::alloc::Global;
-
-/// What a table has for the first of some places.
-fn first_entry(table: &[Option<u64>], places: &[u64]) -> Option<u64>
-    requires { All (λ t. t < length table.now) places.now }
-    ensures { result ≡ first_entry table.now places.now }
-{
-    match places {
-        [] => None,
-        [first, ..] => table[*first as usize],
-    }
-}
-
-/// The sites, each with what a table has for its targets.
-fn sites_by(alloc: Global, raw: &Raw, table: &[Option<u64>]) -> Result<Vec<Site>, NoMemory>
-    requires { length table.now ≡ length raw.now.taken }
-    ensures { IfOk result (λ v. v.items ≡ map (by_table table.now) raw.now.sites) }
-{
-    let _places = raw.places();
-    let mut sites = Vec::new(alloc);
-    for k in 0..raw.sites() {
-        let place = raw.site(k).place;
-        let class = first_entry(table, raw.targets(k).as_slice());
-        sites.push(Site { place, class })?;
-    }
-    Ok(sites)
-}
 
 /// The table of the sites that stand at the places.
 fn site_table(alloc: Global, places: u64, sites: &[Site]) -> Result<Vec<Option<u64>>, NoMemory>
@@ -57,7 +31,7 @@ pub fn close(alloc: Global, raw: &Raw) -> Result<Closed, NoMemory>
     let places = raw.places();
     let classes = raw.classes(alloc)?;
     let class_at = table_of(alloc, places, classes.as_slice())?;
-    let sites = sites_by(alloc, raw, class_at.as_slice())?;
+    let sites = raw.sites_by(alloc, class_at.as_slice())?;
     let site_at = site_table(alloc, places, sites.as_slice())?;
     let taken = Vec::from_slice(alloc, raw.marks())?;
     Ok(Closed {

@@ -1,195 +1,132 @@
-ghost use Rattle.std.specs.Prelude.{◌≡◌, ◌<◌, ◌++◌, ◌∷◌, [], IfOk, IfSome, None, Some, length};
+ghost use Rattle.std.specs.Prelude.{◌≡◌, ◌<◌, ◌++◌, ◌∷◌, [], IfOk, length, slice_index_or};
 ghost use Rattle.std.specs.List.{All};
-ghost use Rattle.obj_program.specs.Program.{count};
-ghost use Rattle.cfi_flow.specs.Drawn.{AreShared, Has, IsShared, through};
-ghost use Rattle.cfi_flow.specs.Raw.{site_of};
-ghost use Rattle.cfi_flow.specs.Sites.{reached};
+ghost use Rattle.cfi_flow.specs.Kept.{AreKept, is_open, no_kept, open_targets, site_with, sites_of, targets_of};
 
-use crate::raw::Raw;
-use crate::reach::Reach;
+use crate::below::where_below;
+use crate::span::Span;
 use cfi_graph::SiteKind;
-use obj_program::Items;
 use rv_word::{NoMemory, Places};
 use std::alloc::Global;
 
-/// A site whose set others may have that may go through the same functions to places inside.
-#[derive(Drop)]
-pub(crate) struct Shared {
-    covering: Vec<u64>,
-    site: u64,
+/// Where a site may go.
+#[derive(Clone, Copy)]
+pub(crate) enum Aim {
+    /// To the members of the list with this index.
+    Listed(u64),
+    /// To the taken places at which functions begin, and to those in a span.
+    Open(Span),
 }
 
-/// A raw graph that is being drawn: its sites so far, what is known of the places, the last site that goes through no
-/// function and the last one that goes through some.
+/// A site, as it is kept.
+#[derive(Clone, Copy)]
+pub(crate) struct KeptSite {
+    pub(crate) place: u64,
+    pub(crate) kind: SiteKind,
+    pub(crate) aim: Aim,
+}
+
+/// The sites of a program, of each of its places whether it is taken and whether a function begins there, and the lists
+/// of those sites that have a line of a policy.
 #[derive(Drop)]
 pub(crate) struct Drawing {
-    pub(crate) raw: Raw,
-    reach: Reach,
-    outside: Option<Shared>,
-    inside: Option<Shared>,
-}
-
-/// The site that is shared, if it has these covering functions.
-fn site_like(shared: &Option<Shared>, indexes: &[u64]) -> Option<u64>
-    ensures { IfSome result (λ i. Has shared.now indexes.now i) }
-{
-    match shared {
-        Some(shared) if shared.covering.as_slice() == indexes => Some(shared.site),
-        _ => None,
-    }
+    pub(crate) sites: Vec<KeptSite>,
+    pub(crate) lists: Vec<Places>,
+    pub(crate) taken: Vec<bool>,
+    pub(crate) begun: Vec<bool>,
 }
 
 impl Drawing {
-    /// The drawing without sites.
-    pub(crate) fn of(raw: Raw, reach: Reach) -> Drawing
-        ensures { result ≡ record { raw = raw; reach = reach; outside = None; inside = None } }
-    {
-        Drawing {
-            raw,
-            reach,
-            outside: None,
-            inside: None,
-        }
-    }
-
-    /// The site whose set has all that may be reached through these functions, if there is one.
-    fn site_through(&self, items: &Items, indexes: &[u64]) -> Option<u64>
-        requires { AreShared items.now self.now }
-        ensures { IfSome result (λ i. (i < length self.now.raw.sites)
-            × ((site_of self.now.raw i).targets ≡ through items.now indexes.now)) }
-    {
-        site_like(&self.outside, indexes).or(site_like(&self.inside, indexes))
-    }
-
-    /// The drawing with one site more, which has these targets.
-    pub(crate) fn with_targets(
-        self,
-        items: &Items,
+    /// The drawing with one site more, which has a list of its own.
+    pub(crate) fn with_listed(
+        mut self,
         place: u64,
         kind: SiteKind,
         targets: Places,
     ) -> Result<Drawing, NoMemory>
-        requires shared { AreShared items.now self }
-        requires place { place < count items.now }
-        requires targets { All (λ t. t < count items.now) targets }
-        ensures raw { IfOk result (λ d. d.raw ≡ record {
-          sites = self.raw.sites ++ record { place = place; kind = kind; targets = targets } ∷ [];
-          taken = self.raw.taken;
-        }) }
-        ensures shared { IfOk result (λ d. AreShared items.now d) }
+        requires kept { AreKept self }
+        requires place { place < length self.taken.items }
+        requires targets { All (λ t. t < length self.taken.items) targets }
+        ensures sites { IfOk result (λ d. sites_of d ≡ sites_of self ++ site_with place kind targets ∷ []) }
+        ensures taken { IfOk result (λ d. d.taken.items ≡ self.taken.items) }
+        ensures begun { IfOk result (λ d. d.begun.items ≡ self.begun.items) }
+        ensures kept { IfOk result (λ d. AreKept d) }
     {
-        let raw = self.raw.with_targets(place, kind, targets)?;
-        Ok(Drawing {
-            raw,
-            reach: self.reach,
-            outside: self.outside,
-            inside: self.inside,
-        })
+        let aim = Aim::Listed(self.lists.len() as u64);
+        self.lists.push(targets)?;
+        self.sites.push(KeptSite { place, kind, aim })?;
+        Ok(self)
     }
 
-    /// The drawing with one site more, which has the targets of the site with the index `like`.
-    fn with_those_of(
-        self,
-        items: &Items,
+    /// The drawing with one site more, which may go to the starts of functions and into a span.
+    pub(crate) fn with_open(
+        mut self,
         place: u64,
         kind: SiteKind,
-        like: u64,
+        span: Span,
     ) -> Result<Drawing, NoMemory>
-        requires shared { AreShared items.now self }
-        requires place { place < count items.now }
-        requires like { like < length self.raw.sites }
-        ensures raw { IfOk result (λ d. d.raw ≡ record {
-          sites = self.raw.sites ++ record { place = place; kind = kind; targets = (site_of self.raw like).targets } ∷ [];
-          taken = self.raw.taken;
-        }) }
-        ensures shared { IfOk result (λ d. AreShared items.now d) }
+        requires kept { AreKept self }
+        requires place { place < length self.taken.items }
+        ensures sites { IfOk result (λ d. sites_of d ≡ sites_of self
+            ++ site_with place kind (open_targets self.taken.items self.begun.items span) ∷ []) }
+        ensures taken { IfOk result (λ d. d.taken.items ≡ self.taken.items) }
+        ensures begun { IfOk result (λ d. d.begun.items ≡ self.begun.items) }
+        ensures kept { IfOk result (λ d. AreKept d) }
     {
-        let raw = self.raw.with_those_of(place, kind, like)?;
-        Ok(Drawing {
-            raw,
-            reach: self.reach,
-            outside: self.outside,
-            inside: self.inside,
-        })
+        let aim = Aim::Open(span);
+        self.sites.push(KeptSite { place, kind, aim })?;
+        Ok(self)
     }
 
-    /// The drawing with one site more, which may go to what is reached through these functions.
-    fn with_through(
-        self,
-        items: &Items,
-        place: u64,
-        kind: SiteKind,
-        indexes: Vec<u64>,
-        targets: Places,
-    ) -> Result<Drawing, NoMemory>
-        requires shared { AreShared items.now self }
-        requires place { place < count items.now }
-        requires targets { All (λ t. t < count items.now) targets }
-        requires value { targets ≡ through items.now indexes.items }
-        ensures raw { IfOk result (λ d. d.raw ≡ record {
-          sites = self.raw.sites ++ record { place = place; kind = kind; targets = targets } ∷ [];
-          taken = self.raw.taken;
-        }) }
-        ensures shared { IfOk result (λ d. AreShared items.now d) }
+    /// The targets of the site with this index.
+    pub(crate) fn targets(&self, alloc: Global, k: u64) -> Result<Places, NoMemory>
+        requires kept { AreKept self.now }
+        requires there { k < length self.now.sites.items }
+        ensures { IfOk result (λ v. v ≡ targets_of self.now.lists.items self.now.taken.items self.now.begun.items
+            (slice_index_or self.now.sites.items k no_kept).aim) }
     {
-        let site = self.raw.sites();
-        let drawing = self.with_targets(items, place, kind, targets)?;
-        Ok(drawing.sharing(
-            items,
-            Shared {
-                covering: indexes,
-                site,
-            },
-        ))
-    }
-
-    /// The drawing in which a site is the last of its sort.
-    fn sharing(self, items: &Items, shared: Shared) -> Drawing
-        requires shared { AreShared items.now self }
-        requires is { IsShared items.now self.raw (Some shared) }
-        ensures raw { result.raw ≡ self.raw }
-        ensures shared { AreShared items.now result }
-    {
-        if shared.covering.is_empty() {
-            Drawing {
-                raw: self.raw,
-                reach: self.reach,
-                outside: Some(shared),
-                inside: self.inside,
-            }
-        } else {
-            Drawing {
-                raw: self.raw,
-                reach: self.reach,
-                outside: self.outside,
-                inside: Some(shared),
-            }
+        match self.sites[k as usize].aim {
+            Aim::Listed(j) => copied(alloc, self.lists[j as usize].as_slice()),
+            Aim::Open(span) => open_targets(
+                alloc,
+                self.taken.as_slice(),
+                self.begun.as_slice(),
+                span,
+            ),
         }
     }
+}
 
-    /// The drawing with one site more, which may go where its program lets it.
-    pub(crate) fn with_reached(
-        self,
-        alloc: Global,
-        items: &Items,
-        place: u64,
-        kind: SiteKind,
-    ) -> Result<Drawing, NoMemory>
-        requires shared { AreShared items.now self }
-        requires place { place < count items.now }
-        ensures raw { IfOk result (λ d. d.raw ≡ record {
-          sites = self.raw.sites ++ record { place = place; kind = kind; targets = reached items.now kind place } ∷ [];
-          taken = self.raw.taken;
-        }) }
-        ensures shared { IfOk result (λ d. AreShared items.now d) }
-    {
-        let indexes = self.reach.covering(alloc, items, kind, &items.item(place))?;
-        match self.site_through(items, indexes.as_slice()) {
-            Some(like) => self.with_those_of(items, place, kind, like),
-            None => {
-                let targets = self.reach.through(alloc, items, indexes.as_slice())?;
-                self.with_through(items, place, kind, indexes, targets)
-            }
-        }
-    }
+/// The same places once more.
+pub(crate) fn copied(alloc: Global, places: &[u64]) -> Result<Places, NoMemory>
+    ensures { IfOk result (λ v. v ≡ places.now) }
+{
+    let places = Vec::from_slice(alloc, places)?;
+    Ok(Places::of(places))
+}
+
+/// Whether a place is taken at which a function begins, or which is in a span.
+fn is_open(taken: &[bool], begun: &[bool], span: Span, t: u64) -> bool
+    requires taken { t < length taken.now }
+    requires begun { t < length begun.now }
+    ensures { result ≡ is_open taken.now begun.now span t }
+{
+    taken[t as usize] && (begun[t as usize] || span.from <= t && t < span.to)
+}
+
+/// The taken places at which functions begin, and those in a span.
+fn open_targets(
+    alloc: Global,
+    taken: &[bool],
+    begun: &[bool],
+    span: Span,
+) -> Result<Places, NoMemory>
+    requires { length begun.now ≡ length taken.now }
+    ensures { IfOk result (λ v. v ≡ open_targets taken.now begun.now span) }
+{
+    let found = where_below(
+        alloc,
+        taken.len() as u64,
+        |t| is_open(taken, begun, span, t),
+    )?;
+    Ok(Places::of(found))
 }

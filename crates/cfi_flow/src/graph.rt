@@ -1,16 +1,19 @@
-ghost use Rattle.std.specs.Prelude.{◌≡◌, ◌+◌, ◌++◌, ◌∷◌, ◌<◌, [], IfOk, MatchResult, map};
+ghost use Rattle.std.specs.Prelude.{◌≡◌, ◌+◌, ◌++◌, ◌∷◌, ◌<◌, ℕ, [], IfOk, MatchResult, map};
 ghost use Rattle.obj_program.specs.declared.item.Item.{Item};
-ghost use Rattle.obj_program.specs.Program.{count};
-ghost use Rattle.cfi_flow.specs.Drawn.{AreShared, IsDrawn, line_for};
-ghost use Rattle.cfi_flow.specs.Policy.{Ends, IsRaw, raw_sites, targets_under};
+ghost use Rattle.obj_program.specs.Program.{count, item_of};
+ghost use Rattle.cfi_flow.specs.Drawn.{IsDrawn, IsOf, line_for};
+ghost use Rattle.cfi_flow.specs.Kept.{sites_of, site_with};
+ghost use Rattle.cfi_flow.specs.Policy.{Ends, IsRaw, targets_under};
+ghost use Rattle.cfi_flow.specs.Spans.{IsReach};
 ghost use Rattle.cfi_flow.specs.Tables.{IsTable};
 
+use crate::begin::begun;
 use crate::draw::Drawing;
 use crate::end::FlowEnd;
 use crate::kind::site_kind;
 use crate::policy::{allowed, lines_by_site};
 use crate::raw::Raw;
-use crate::reach::reach_of;
+use crate::span::{reach, span_into};
 use cfi_graph::{Policy, PolicyLine, SiteKind};
 use obj_program::Items;
 use rv_word::NoMemory;
@@ -29,26 +32,25 @@ fn with_site(
     alloc: Global,
     items: &Items,
     lines: &[PolicyLine],
-    table: &[Option<u64>],
+    line: Option<u64>,
+    reach: &[u64],
     drawing: Drawing,
     k: u64,
     kind: SiteKind,
 ) -> Result<Drawing, NoMemory>
-    requires shared { AreShared items.now drawing }
+    requires of { IsOf items.now drawing }
     requires place { k < count items.now }
-    requires table { IsTable (line_for items.now lines.now) (count items.now) table.now }
-    ensures raw { IfOk result (λ d. d.raw ≡ record {
-      sites = drawing.raw.sites ++ record { place = k; kind = kind; targets = targets_under items.now lines.now kind k } ∷ [];
-      taken = drawing.raw.taken;
-    }) }
-    ensures shared { IfOk result (λ d. AreShared items.now d) }
+    requires line { line ≡ line_for items.now lines.now k }
+    requires reach { IsReach items.now reach.now }
+    ensures sites { IfOk result (λ d. sites_of d ≡ sites_of drawing ++ site_with k kind (targets_under items.now lines.now kind k) ∷ []) }
+    ensures of { IfOk result (λ d. IsOf items.now d) }
 {
-    match table[k as usize] {
+    match line {
         Some(j) => {
             let targets = allowed(alloc, items, &lines[j as usize])?;
-            drawing.with_targets(items, k, kind, targets)
+            drawing.with_listed(k, kind, targets)
         }
-        None => drawing.with_reached(alloc, items, k, kind),
+        None => drawing.with_open(k, kind, span_into(reach, k, kind)),
     }
 }
 
@@ -58,21 +60,39 @@ fn with_place(
     items: &Items,
     lines: &[PolicyLine],
     table: &[Option<u64>],
+    reach: &[u64],
     drawing: Drawing,
     k: u64,
 ) -> Result<Drawing, NoMemory>
     requires drawn { IsDrawn items.now lines.now k drawing }
     requires place { k < count items.now }
     requires table { IsTable (line_for items.now lines.now) (count items.now) table.now }
+    requires reach { IsReach items.now reach.now }
     ensures { IfOk result (λ d. IsDrawn items.now lines.now (k + 1) d) }
 {
     match site_kind(items.item(k).kind) {
         Some(kind) => {
-            let drawing = with_site(alloc, items, lines, table, drawing, k, kind)?;
+            let line = table[k as usize];
+            let drawing = with_site(alloc, items, lines, line, reach, drawing, k, kind)?;
             Ok(drawing)
         }
         None => Ok(drawing),
     }
+}
+
+/// The drawing without sites.
+fn without_sites(alloc: Global, items: &Items) -> Result<Drawing, NoMemory>
+    ensures sites { IfOk result (λ d. sites_of d ≡ []) }
+    ensures of { IfOk result (λ d. IsOf items.now d) }
+{
+    let taken = taken_places(alloc, items)?;
+    let begun = begun(alloc, items)?;
+    Ok(Drawing {
+        sites: Vec::new(alloc),
+        lists: Vec::new(alloc),
+        taken,
+        begun,
+    })
 }
 
 /// All sites of a program, where a table has the lines of the policy that name them.
@@ -81,18 +101,16 @@ fn drawn(
     items: &Items,
     lines: &[PolicyLine],
     table: &[Option<u64>],
-) -> Result<Raw, NoMemory>
+) -> Result<Drawing, NoMemory>
     requires { IsTable (line_for items.now lines.now) (count items.now) table.now }
-    ensures sites { IfOk result (λ r. r.sites ≡ raw_sites items.now lines.now) }
-    ensures taken { IfOk result (λ r. r.taken ≡ map (λ (i : Item). i.taken) items.now.items) }
+    ensures { IfOk result (λ d. IsDrawn items.now lines.now (count items.now) d) }
 {
-    let reach = reach_of(alloc, items)?;
-    let raw = Raw::none(alloc, taken_places(alloc, items)?);
-    let mut drawing = Drawing::of(raw, reach);
+    let reach = reach(alloc, items)?;
+    let mut drawing = without_sites(alloc, items)?;
     for k in 0..items.count() {
-        drawing = with_place(alloc, items, lines, table, drawing, k)?;
+        drawing = with_place(alloc, items, lines, table, reach.as_slice(), drawing, k)?;
     }
-    Ok(drawing.raw)
+    Ok(drawing)
 }
 
 /// The raw graph of a program under a policy: its computed calls and jumps with the places that each may go to. A line of
@@ -102,6 +120,6 @@ pub fn raw_graph(alloc: Global, items: &Items, policy: &Policy) -> Result<Raw, F
 {
     let lines = policy.as_slice();
     let table = lines_by_site(alloc, items, lines)?;
-    let raw = drawn(alloc, items, lines, table.as_slice())?;
-    Ok(raw)
+    let drawing = drawn(alloc, items, lines, table.as_slice())?;
+    Ok(Raw::of(drawing))
 }

@@ -15,7 +15,7 @@ fn is_at(place: &Item, section: u32, offset: u128) -> bool
 }
 
 /// How many places are before this section and offset.
-fn count_before(places: &[Item], section: u32, offset: u128) -> usize
+pub(crate) fn count_before(places: &[Item], section: u32, offset: u128) -> usize
     requires { AreInOrder places.now }
     ensures bound { result ≤ length places.now }
     ensures before { (k : ℕ) → k < result → is_before (slice_index_or places.now k no_item) section offset ≡ true }

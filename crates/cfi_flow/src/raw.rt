@@ -1,40 +1,35 @@
-ghost use Rattle.std.specs.Prelude.{◌≡◌, ℕ, ◌<◌, ◌++◌, ◌∷◌, [], false, IfOk, length, slice_index_or};
+ghost use Rattle.std.specs.Prelude.{◌≡◌, ℕ, ◌<◌, false, IfOk, length, map, slice_index_or};
 ghost use Rattle.std.specs.List.{All};
 ghost use Rattle.cfi_flow.specs.Closed.{AreClasses, sets_of};
+ghost use Rattle.cfi_flow.specs.Found.{by_table};
+ghost use Rattle.cfi_flow.specs.Kept.{AreKept, sites_of};
 ghost use Rattle.cfi_flow.specs.Raw.{IsThere, site_of};
 
+use crate::closed::Site;
+use crate::draw::Drawing;
+use crate::found::sites_by;
+use crate::join::joined;
 use cfi_class::classes;
 use cfi_graph::SiteKind;
 use rv_word::{NoMemory, Places};
 use std::alloc::Global;
 use std::marker::Model;
 
-/// A site with the index of the set of its targets.
-#[derive(Clone, Copy)]
-struct KeptSite {
-    place: u64,
-    kind: SiteKind,
-    set: usize,
-}
-
-/// The raw graph of a program: its sites with their targets. A set that several sites have is kept once.
+/// The raw graph of a program: its sites with their targets. What sites have in common is kept once.
 #[derive(Drop)]
 pub struct Raw {
-    sites: Vec<KeptSite>,
-    sets: Vec<Places>,
-    taken: Vec<bool>,
+    drawing: Drawing,
 }
 
 impl Model for Raw {
-    ghost use Rattle.std.specs.Prelude.{length, map};
     ghost use Rattle.cfi_flow.specs.Raw.{RawGraph};
-    ghost use Rattle.cfi_flow.specs.Kept.{AreKept, with_set};
+    ghost use Rattle.cfi_flow.specs.Kept.{AreKept, sites_of};
 
     ghost Value = { RawGraph };
 
-    ghost view = { λ r. record { sites = map (with_set r.sets.items) r.sites.items; taken = r.taken.items } };
+    ghost view = { λ r. record { sites = sites_of r.drawing; taken = r.drawing.taken.items } };
 
-    ghost invariant = { λ r. AreKept r.sites.items r.sets.items (length r.taken.items) };
+    ghost invariant = { λ r. AreKept r.drawing };
 }
 
 /// A site: its place, and its kind.
@@ -45,61 +40,19 @@ pub struct RawSite {
 }
 
 impl Raw {
-    /// The raw graph without sites of a program whose places are taken or not, one by one.
-    pub(crate) fn none(alloc: Global, taken: Vec<bool>) -> Raw
-        ensures { result ≡ record { sites = []; taken = taken.items } }
+    /// The raw graph that is drawn.
+    pub(crate) fn of(drawing: Drawing) -> Raw
+        requires { AreKept drawing }
+        ensures { result ≡ record { sites = sites_of drawing; taken = drawing.taken.items } }
     {
-        Raw {
-            sites: Vec::new(alloc),
-            sets: Vec::new(alloc),
-            taken,
-        }
-    }
-
-    /// The same with a site behind the others.
-    pub(crate) fn with_targets(
-        mut self,
-        place: u64,
-        kind: SiteKind,
-        targets: Places,
-    ) -> Result<Raw, NoMemory>
-        requires place { place < length self.taken }
-        requires targets { All (λ t. t < length self.taken) targets }
-        ensures { IfOk result (λ r. r ≡ record {
-          sites = self.sites ++ record { place = place; kind = kind; targets = targets } ∷ [];
-          taken = self.taken;
-        }) }
-    {
-        let set = self.sets.len();
-        self.sets.push(targets)?;
-        self.sites.push(KeptSite { place, kind, set })?;
-        Ok(self)
-    }
-
-    /// The same with a site behind the others that has the targets of the site with the index `like`.
-    pub(crate) fn with_those_of(
-        mut self,
-        place: u64,
-        kind: SiteKind,
-        like: u64,
-    ) -> Result<Raw, NoMemory>
-        requires place { place < length self.taken }
-        requires like { like < length self.sites }
-        ensures { IfOk result (λ r. r ≡ record {
-          sites = self.sites ++ record { place = place; kind = kind; targets = (site_of self like).targets } ∷ [];
-          taken = self.taken;
-        }) }
-    {
-        let set = self.sites[like as usize].set;
-        self.sites.push(KeptSite { place, kind, set })?;
-        Ok(self)
+        Raw { drawing }
     }
 
     /// How many sites there are.
     pub fn sites(&self) -> u64
         ensures { result ≡ length self.now.sites }
     {
-        self.sites.len() as u64
+        self.drawing.sites.len() as u64
     }
 
     /// The site with this index; sites stand in the order of their places.
@@ -108,19 +61,20 @@ impl Raw {
         ensures place { result.place ≡ (site_of self.now k).place }
         ensures kind { result.kind ≡ (site_of self.now k).kind }
     {
-        let site = self.sites[k as usize];
+        let site = self.drawing.sites[k as usize];
         RawSite {
             place: site.place,
             kind: site.kind,
         }
     }
 
-    /// The targets of the site with this index by their places, rising.
-    pub fn targets(&self, k: u64) -> &Places
+    /// The targets of the site with this index by their places, rising. They are listed anew at each call.
+    pub fn targets(&self, alloc: Global, k: u64) -> Result<Places, NoMemory>
         requires { k < length self.now.sites }
-        ensures { result.now ≡ (site_of self.now k).targets }
+        ensures { IfOk result (λ v. v ≡ (site_of self.now k).targets) }
     {
-        &self.sets[self.sites[k as usize].set]
+        let targets = self.drawing.targets(alloc, k)?;
+        Ok(targets)
     }
 
     /// How many places the program has.
@@ -128,7 +82,7 @@ impl Raw {
         ensures value { result ≡ length self.now.taken }
         ensures there { IsThere self.now }
     {
-        self.taken.len() as u64
+        self.drawing.taken.len() as u64
     }
 
     /// Whether a relocation takes the address of the instruction at this place.
@@ -136,14 +90,14 @@ impl Raw {
         requires { place < length self.now.taken }
         ensures { result ≡ slice_index_or self.now.taken place false }
     {
-        self.taken[place as usize]
+        self.drawing.taken[place as usize]
     }
 
     /// Of each place, whether it is taken.
     pub(crate) fn marks(&self) -> &[bool]
         ensures { result.now ≡ self.now.taken }
     {
-        self.taken.as_slice()
+        self.drawing.taken.as_slice()
     }
 
     /// The classes of the targets.
@@ -151,7 +105,21 @@ impl Raw {
         ensures are { IfOk result (λ v. AreClasses (sets_of self.now.sites) v.items) }
         ensures there { IfOk result (λ v. All (All (λ t. t < length self.now.taken)) v.items) }
     {
-        let found = classes(alloc, self.sets.as_slice())?;
+        let lists = joined(alloc, &self.drawing)?;
+        let found = classes(alloc, lists.as_slice())?;
         Ok(found)
+    }
+
+    /// The sites, each with what a table has for the first of its targets.
+    pub(crate) fn sites_by(
+        &self,
+        alloc: Global,
+        table: &[Option<u64>],
+    ) -> Result<Vec<Site>, NoMemory>
+        requires { length table.now ≡ length self.now.taken }
+        ensures { IfOk result (λ v. v.items ≡ map (by_table table.now) self.now.sites) }
+    {
+        let sites = sites_by(alloc, &self.drawing, table)?;
+        Ok(sites)
     }
 }

@@ -1,0 +1,13 @@
+use Rattle.std.proofs.Common.{◌<◌, ap, length, subst, sym, ◌∙◌, []}
+use Rattle.std.proofs.lemmas.List.{get_or_default}
+use Rattle.cfi_flow.specs.declared.draw.Aim.{Aim}
+use Rattle.cfi_flow.specs.Kept.{IsAimed, targets_of}
+use Rattle.cfi_flow.proofs.join.Joining.with_site.Goals as goal
+
+pub returns-in_ok-joining-in-Listed : goal.returns-in_ok-joining-in-Listed
+returns-in_ok-joining-in-Listed c = λ sets taken begun k are is at.
+    let below : c.in-Listed.j < length c.args.lists.now = subst (IsAimed (length c.args.lists.now)) c.in-Listed.is c.requires.aimed in
+    c.in_ok-joining-in-Listed.ensures sets taken begun k is
+    (at ∙ ap (λ (a : Aim). targets_of c.args.lists.now taken begun a) c.in-Listed.is
+    ∙ sym (c.in_ok-list-in-Listed.ensures ∙ c.as_slice.ensures ∙ c.index-lists-j.is
+    ∙ get_or_default c.args.lists.now c.in-Listed.j c.index-lists-j.result [] below))
