@@ -1,7 +1,8 @@
 use cfi_rewrite::{Hardened, Refusal, rewrite};
-use std::alloc::Global;
+use std::alloc::{AllocError, Global};
 
-/// An object written by hand, or an empty file.
+/// An object written by hand, or an empty file. `Coded` is the one that returns with other code, and `Idle` with so many
+/// instructions that do nothing for it.
 #[derive(Clone, Copy)]
 pub(crate) enum Source {
     Empty,
@@ -9,10 +10,12 @@ pub(crate) enum Source {
     Calling,
     Writing,
     Recursive,
+    Coded,
+    Idle(u32),
 }
 
-/// What is hardened: an object, an offset in its file and the bytes, in hexadecimal, that are put there, the
-/// name of the entry, and a policy.
+/// What is hardened: an object, an offset in its file and the bytes, in hexadecimal, that are put there (of `Coded` its
+/// code), the name of the entry, and a policy.
 pub(crate) struct Given(
     pub(crate) Source,
     pub(crate) usize,
@@ -25,7 +28,7 @@ pub(crate) struct Given(
 fn digits(source: Source) -> &'static [u8] {
     match source {
         Source::Empty => b"",
-        Source::Returning => sample_objects::B,
+        Source::Returning | Source::Coded | Source::Idle(_) => sample_objects::B,
         Source::Calling => sample_objects::P,
         Source::Writing => sample_objects::H,
         Source::Recursive => sample_objects::R,
@@ -43,11 +46,48 @@ pub(crate) fn put(file: &mut [u8], at: usize, bytes: &[u8]) -> bool {
     }
 }
 
+/// Where the header of the section of code tells its offset and then its size, in the object that returns.
+const SECTION: usize = 216;
+
+/// Gives the object that returns other code, which stands at the file's end. It is false where it can't.
+fn recode(file: &mut Vec<u8>, code: &[u8]) -> bool {
+    let (at, size) = (file.len() as u64, code.len() as u64);
+    put(file, SECTION, &at.to_le_bytes())
+        && put(file, SECTION + 8, &size.to_le_bytes())
+        && file.extend_from_slice(code).is_ok()
+}
+
+/// So many instructions that do nothing.
+fn idle(alloc: Global, count: u32) -> Result<Vec<u8>, AllocError> {
+    let mut code = Vec::new(alloc);
+    for _ in 0..count {
+        code.extend_from_slice(&[0x13, 0, 0, 0])?;
+    }
+    Ok(code)
+}
+
+/// Gives the object that returns so many instructions that do nothing for its code.
+fn idle_through(alloc: Global, file: &mut Vec<u8>, count: u32) -> bool {
+    match idle(alloc, count) {
+        Ok(code) => recode(file, &code),
+        Err(_) => false,
+    }
+}
+
 /// Puts the bytes of a change into a file. It is false where it can't.
-fn change(alloc: Global, file: &mut [u8], given: &Given) -> bool {
+fn put_digits(alloc: Global, file: &mut Vec<u8>, given: &Given) -> bool {
     match hex::decode(alloc, given.2) {
+        Ok(bytes) if matches!(given.0, Source::Coded) => recode(file, &bytes),
         Ok(bytes) => put(file, given.1, &bytes),
         Err(_) => false,
+    }
+}
+
+/// Makes the change of a file. It is false where it can't.
+fn change(alloc: Global, file: &mut Vec<u8>, given: &Given) -> bool {
+    match given.0 {
+        Source::Idle(count) => idle_through(alloc, file, count),
+        _ => put_digits(alloc, file, given),
     }
 }
 

@@ -1,6 +1,6 @@
 //! Tests of the call that hardens an object: its image, its graph and its map are compared with those worked out by hand,
-//! and its refusals with what is wrong with each object. They stand beside the crates that they test, so that these are
-//! proved once.
+//! its refusals with what is wrong with each object, and the runs of its images with what is counted by hand. They stand
+//! beside the crates that they test, so that these are proved once.
 #![tactic(auto)]
 
 #[cfg(test)]
@@ -17,3 +17,5 @@ mod maps;
 mod programs;
 #[cfg(test)]
 mod refused;
+#[cfg(test)]
+mod runs;

@@ -72,8 +72,14 @@ static REFUSED: [Refused; 24] = [
     Refused(Given(Source::Writing, 200, b"0000000001000000", b"main", None), "RelocRange 1 32"),
 ];
 
+/// One instruction more than the region of code has room for.
+static TOO_MANY: Refused = Refused(
+    Given(Source::Idle(262_128), 0, b"", b"main", None),
+    "CodeTooLarge 1048580",
+);
+
 /// Whether words are a name and then one number.
-fn is_number(alloc: Global, words: &str, name: &str, number: u64) -> bool {
+fn is_number(alloc: Global, words: &str, name: &str, number: u128) -> bool {
     match words.split_once(' ') {
         Some((first, rest)) => first == name && is_told_as(alloc, &number, rest),
         None => false,
@@ -101,7 +107,8 @@ fn is_told(alloc: Global, refusal: Refusal, words: &str) -> bool {
         Refusal::Object(fault) => is_told_as(alloc, &fault, words),
         Refusal::Items(fault) => is_told_as(alloc, &fault, words),
         Refusal::NoEntry => words == "NoEntry",
-        Refusal::Policy(line) => is_number(alloc, words, "Policy", line),
+        Refusal::Policy(line) => is_number(alloc, words, "Policy", u128::from(line)),
+        Refusal::CodeTooLarge(bytes) => is_number(alloc, words, "CodeTooLarge", bytes),
         Refusal::DataTooLarge(init, end) => {
             are_numbers(alloc, words, "DataTooLarge", (init, end))
         }
@@ -113,7 +120,7 @@ fn is_told(alloc: Global, refusal: Refusal, words: &str) -> bool {
                 (section as u128, offset as u128),
             )
         }
-        Refusal::CodeTooLarge(_) | Refusal::NoMemory => false,
+        Refusal::NoMemory => false,
     }
 }
 
@@ -138,4 +145,9 @@ fn refuses(rt: HostRuntime) {
     for (k, row) in REFUSED.iter().enumerate() {
         assert!(rt; is_right(rt.alloc(), row), "{k}: {}", row.1);
     }
+}
+
+#[test]
+fn one_too_many(rt: HostRuntime) {
+    assert!(rt; is_right(rt.alloc(), &TOO_MANY));
 }
