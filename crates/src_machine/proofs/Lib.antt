@@ -1,0 +1,5 @@
+mod Gates
+mod Inside
+mod LegalGates
+mod LegalLines
+mod Beginnings
