@@ -9,3 +9,4 @@ mod Reaching
 mod Judged
 mod Stepping
 mod Rows
+mod SourceRows

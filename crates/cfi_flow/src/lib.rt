@@ -9,6 +9,7 @@ pub use graph::raw_graph;
 pub use label::used_labels;
 pub use named::entry_place;
 pub use raw::{Raw, RawSite};
+pub use reason::Reason;
 
 mod below;
 mod closed;
@@ -22,4 +23,5 @@ mod named;
 mod policy;
 mod raw;
 mod reach;
+mod reason;
 mod table;

@@ -9,7 +9,7 @@ use Rattle.std.proofs.lemmas.List.Folds.{list_any_at, list_any_none}
 use Rattle.std.proofs.lemmas.List.Quantifiers.{position-Some}
 use Rattle.std.proofs.lemmas.List.Sums.{fails_before_first, position_or_len_is}
 use Rattle.rv_word.proofs.Cases.{cases_Option}
-use Rattle.src_machine.specs.Untame.{place_with_gate}
+use Rattle.cfi_flow.specs.Untame.{place_with_gate}
 
 -- there is a first that meets a test where there is any
 pub some_is_any : {X : Type 0} (p : X → Bool) (xs : List X) (d : X) → is_some (position p xs) ≡ list_any p xs

@@ -19,15 +19,15 @@ use Rattle.obj_program.specs.declared.item.Item.{Item}
 use Rattle.obj_program.specs.Program.{Program, count, is_end, item_of}
 use Rattle.obj_program.specs.Sound.{IsSound, aims, is_direct}
 use Rattle.cfi_flow.specs.GraphAtMap.{Layout}
-use Rattle.src_machine.specs.declared.reason.Reason.{Reason}
-use Rattle.src_machine.specs.declared.reason.Reason.TheVariants as why
+use Rattle.cfi_flow.specs.declared.reason.Reason.{Reason}
+use Rattle.cfi_flow.specs.declared.reason.Reason.TheVariants as why
 use Rattle.src_machine.specs.declared.turn.SourceTurn.{SourceTurn}
 use Rattle.src_machine.specs.declared.turn.SourceTurn.TheVariants.{Exit}
 use Rattle.src_machine.specs.Placed.{EndsLast}
-use Rattle.src_machine.specs.Source.{Source, instr_here}
-use Rattle.src_machine.specs.SourceStep.{SourceAfter, acts, branches, closes, exits, goes_to, if_taken, place_after, returns_from, source_step, step_at, step_item, unless, unless_ended}
+use Rattle.cfi_flow.specs.Source.{Source, instr_here}
+use Rattle.cfi_flow.specs.SourceStep.{SourceAfter, acts, branches, closes, exits, goes_to, if_taken, place_after, returns_from, source_step, step_at, step_item, unless, unless_ended}
 use Rattle.src_machine.specs.State.{IsInside, IsThere, Leaves, StateParts, source_in}
-use Rattle.src_machine.specs.Untame.{computed, computed_place, if_reached, is_off_graph, is_off_window, is_too_deep, is_wrong_return, place_with_gate, reaches, reason, return_address}
+use Rattle.cfi_flow.specs.Untame.{computed, computed_place, if_reached, is_off_graph, is_off_window, is_too_deep, is_wrong_return, place_with_gate, reaches, reason, return_address}
 use Rattle.src_machine.proofs.Gates.{place_below}
 
 -- behind an instruction another place follows

@@ -12,7 +12,7 @@ use Rattle.obj_program.specs.Program.{Program, count, is_spot, item_of, no_item}
 use Rattle.cfi_flow.specs.Closed.{ClosedGraph}
 use Rattle.cfi_flow.specs.LegalMap.{IsLegalMap, gates_of}
 use Rattle.cfi_flow.specs.Placement.{IsLegal, is_long}
-use Rattle.src_machine.specs.MapFault.{BeginsLegal, IsWrongLine}
+use Rattle.cfi_flow.specs.MapFault.{BeginsLegal, IsWrongLine}
 use Rattle.src_machine.specs.MapLine.{follows, is_right, is_wrong, line_at, no_line, stands}
 use Rattle.src_machine.proofs.LegalGates.{counted, first_gate, follows_by, kind_in, next_gate, placed_by}
 

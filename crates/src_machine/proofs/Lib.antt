@@ -3,3 +3,4 @@ mod Inside
 mod LegalGates
 mod LegalLines
 mod Beginnings
+mod Prefixes

@@ -8,10 +8,10 @@ use Rattle.cfi_flow.specs.GraphAtMap.{Layout}
 use Rattle.cfi_flow.specs.LegalMap.{IsLegalMap, gates_of}
 use Rattle.cfi_flow.specs.Placement.{words_from}
 use Rattle.cfi_flow.specs.Policy.{instruction_at}
-use Rattle.src_machine.specs.MapFault.{IsWrongLine}
+use Rattle.cfi_flow.specs.MapFault.{IsWrongLine}
 use Rattle.src_machine.specs.Placed.{layout_of}
-use Rattle.src_machine.specs.Source.{Source, source_start}
-use Rattle.src_machine.specs.SourceStep.{source_step}
+use Rattle.cfi_flow.specs.Source.{Source, source_start}
+use Rattle.cfi_flow.specs.SourceStep.{source_step}
 use Rattle.src_machine.specs.State.{StateParts, source_in}
 use Rattle.src_machine.specs.Told.{told}
 use Rattle.src_machine.specs.declared.source_end.SourceEnd.{SourceEnd}

@@ -1,9 +1,6 @@
-pub mod Source
-pub mod Untame
-pub mod SourceStep
-pub mod MapFault
 pub mod Told
 pub mod State
 pub mod Placed
 pub mod MapLine
 pub mod Beginning
+pub mod Laws

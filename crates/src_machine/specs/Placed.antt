@@ -13,7 +13,7 @@ use Rattle.cfi_flow.specs.Placement.{words_from}
 use Rattle.obj_program.specs.Program.{Program, count, is_end, item_of}
 use Rattle.cfi_flow.specs.Closed.{ClosedGraph}
 use Rattle.cfi_flow.specs.GraphAtMap.{Layout, gate}
-use Rattle.src_machine.specs.Source.{instr_here}
+use Rattle.cfi_flow.specs.Source.{instr_here}
 
 abbrev pub layout_of : Program → ClosedGraph → List ℕ → ℕ → Layout
 layout_of program closed gates entry = record { profile = version_1; program = program; closed = closed; gates = gates; entry = entry }

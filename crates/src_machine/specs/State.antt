@@ -3,8 +3,8 @@ use Rattle.std.specs.Prelude.{◌≡◌, ℕ, ◌<◌, Option, Some, None, List}
 use Rattle.std.specs.List.{All}
 use Rattle.rv_machine.specs.Parts.{Parts, hart_in, shared_in}
 use Rattle.obj_program.specs.Program.{Program}
-use Rattle.src_machine.specs.Source.{Source}
-use Rattle.src_machine.specs.SourceStep.{SourceAfter}
+use Rattle.cfi_flow.specs.Source.{Source}
+use Rattle.cfi_flow.specs.SourceStep.{SourceAfter}
 use Rattle.src_machine.specs.Told.{told}
 use Rattle.src_machine.specs.declared.turn.SourceTurn.{SourceTurn}
 

@@ -3,7 +3,7 @@ ghost use Rattle.least.specs.First.{first_below};
 ghost use Rattle.obj_program.specs.Program.{count, item_of};
 ghost use Rattle.cfi_flow.specs.LegalMap.{IsLegalMap};
 ghost use Rattle.cfi_flow.specs.Placement.{size_of};
-ghost use Rattle.src_machine.specs.MapFault.{IsWrongLine};
+ghost use Rattle.cfi_flow.specs.MapFault.{IsWrongLine};
 ghost use Rattle.src_machine.specs.MapLine.{follows, is_right, is_wrong, stands};
 
 use crate::placed::gate_size;

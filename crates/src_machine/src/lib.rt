@@ -2,15 +2,15 @@
 //! no units. Its main calls are `SourceRun::new` and `SourceRun::step`.
 #![tactic(auto)]
 
-pub use reason::Reason;
+pub use cfi_flow::Reason;
 pub use run::SourceRun;
 pub use source_end::SourceEnd;
 pub use turn::SourceTurn;
 
 mod begin;
+pub mod laws;
 mod legal;
 mod placed;
-mod reason;
 mod run;
 mod source_end;
 mod state;

@@ -6,8 +6,8 @@ ghost use Rattle.cfi_flow.specs.Placement.{gate_size};
 ghost use Rattle.rv_word.specs.Layout.{version_1};
 ghost use Rattle.obj_program.specs.Sound.{IsSound};
 ghost use Rattle.src_machine.specs.Placed.{EndsLast};
-ghost use Rattle.src_machine.specs.Source.{instr_here};
-ghost use Rattle.src_machine.specs.Untame.{if_reached, place_with_gate, reaches};
+ghost use Rattle.cfi_flow.specs.Source.{instr_here};
+ghost use Rattle.cfi_flow.specs.Untame.{if_reached, place_with_gate, reaches};
 
 use cfi_flow::Closed;
 use obj_program::{Item, Items};

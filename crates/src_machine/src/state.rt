@@ -4,9 +4,9 @@ ghost use Rattle.rv_word.specs.Memory.{placed, zeros};
 ghost use Rattle.rv_instr.specs.Registers.{cleared, get_reg, set_reg};
 ghost use Rattle.rv_code.specs.Step.{exec};
 ghost use Rattle.rv_code.specs.State.{last_exit};
-ghost use Rattle.src_machine.specs.SourceStep.{closes, exits, goes_to, hart_at, leaves, place_after, returns_from, turn_at};
+ghost use Rattle.cfi_flow.specs.SourceStep.{closes, exits, goes_to, hart_at, leaves, place_after, returns_from, turn_at};
 ghost use Rattle.src_machine.specs.State.{source_in};
-ghost use Rattle.src_machine.specs.Untame.{sum_of};
+ghost use Rattle.cfi_flow.specs.Untame.{sum_of};
 ghost use Rattle.cfi_flow.specs.GraphAtMap.{Layout};
 
 use rv_code::immediate_value;

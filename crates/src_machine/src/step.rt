@@ -2,14 +2,14 @@ ghost use Rattle.std.specs.Prelude.{◌≡◌, ◌<◌, ◌+◌, ◌^◌, false,
 ghost use Rattle.std.specs.List.{All};
 ghost use Rattle.obj_program.specs.Program.{Program, count, is_end, item_of};
 ghost use Rattle.src_machine.specs.State.{IsInside, Leaves, source_in};
-ghost use Rattle.src_machine.specs.SourceStep.{acts, branches, calls, executes, goes_to, source_step, step_at, step_item, turn_at};
+ghost use Rattle.cfi_flow.specs.SourceStep.{acts, branches, calls, executes, goes_to, source_step, step_at, step_item, turn_at};
 ghost use Rattle.src_machine.specs.Told.{told};
 
 use crate::placed::Placed;
-use crate::reason::Reason;
 use crate::state::State;
 use crate::tame::{computed_place, reason};
 use crate::turn::SourceTurn;
+use cfi_flow::Reason;
 use obj_input::ItemKind;
 use obj_program::Item;
 use rv_instr::Instr;
@@ -173,7 +173,7 @@ fn step_at(placed: &Placed, state: &mut State) -> Result<SourceTurn, NoMemory>
 }
 
 /// One step.
-#[tactic(auto, unfolding(crate::specs::SourceStep::source_step))]
+#[tactic(auto, unfolding(cfi_flow::specs::SourceStep::source_step))]
 pub(crate) fn step(placed: &Placed, state: &mut State) -> Result<SourceTurn, NoMemory>
     requires { IsInside (count placed.now.program) (source_in state.old) }
     ensures stepped { IfOk result (λ turn. Leaves placed.now.program (source_step placed.now (source_in state.old)) turn state.new) }

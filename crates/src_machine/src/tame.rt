@@ -3,11 +3,11 @@ ghost use Rattle.std.specs.List.{All};
 ghost use Rattle.rv_code.specs.Arithmetic.{load_size, store_size};
 ghost use Rattle.obj_program.specs.Program.{count, is_end};
 ghost use Rattle.src_machine.specs.State.{source_in};
-ghost use Rattle.src_machine.specs.Untame.{computed, computed_place, is_off_graph, is_off_window, is_too_deep, is_wrong_return, reason, return_address, touched, WINDOW};
+ghost use Rattle.cfi_flow.specs.Untame.{computed, computed_place, is_off_graph, is_off_window, is_too_deep, is_wrong_return, reason, return_address, touched, WINDOW};
 
 use crate::placed::Placed;
-use crate::reason::Reason;
 use crate::state::State;
+use cfi_flow::Reason;
 use obj_input::ItemKind;
 use rv_instr::{Instr, LoadOp, Reg, StoreOp};
 use rv_word::profile::CLOSING;

@@ -1,5 +1,5 @@
 use Rattle.obj_program.specs.Program.{count}
-use Rattle.src_machine.specs.SourceStep.{step_at}
+use Rattle.cfi_flow.specs.SourceStep.{step_at}
 use Rattle.src_machine.specs.State.{source_in}
 use Rattle.src_machine.proofs.Inside.{either_inside, place_there}
 use Rattle.src_machine.proofs.step.step.Goals as goal

@@ -14,10 +14,10 @@ use Rattle.obj_input.specs.declared.item_kind.ItemKind.TheVariants as is
 use Rattle.obj_program.specs.declared.item.Item.{Item}
 use Rattle.obj_program.specs.Program.{item_of}
 use Rattle.cfi_flow.specs.GraphAtMap.{Layout, gate, word}
-use Rattle.src_machine.specs.declared.reason.Reason.{Reason}
-use Rattle.src_machine.specs.declared.reason.Reason.TheVariants as why
-use Rattle.src_machine.specs.Source.{Source, instr_here}
-use Rattle.src_machine.specs.Untame.{computed_place, reason}
+use Rattle.cfi_flow.specs.declared.reason.Reason.{Reason}
+use Rattle.cfi_flow.specs.declared.reason.Reason.TheVariants as why
+use Rattle.cfi_flow.specs.Source.{Source, instr_here}
+use Rattle.cfi_flow.specs.Untame.{computed_place, reason}
 
 -- how a step ended: the next may come; an exit with a status; a break at a place; a reason against the step at a place
 pub data StepTurn : Type 0 where

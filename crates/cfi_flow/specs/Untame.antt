@@ -13,9 +13,9 @@ use Rattle.obj_input.specs.declared.item_kind.ItemKind.TheVariants as is
 use Rattle.obj_program.specs.Program.{is_end}
 use Rattle.cfi_flow.specs.Closed.{ClosedGraph, class_at, class_of}
 use Rattle.cfi_flow.specs.GraphAtMap.{Layout, gate}
-use Rattle.src_machine.specs.declared.reason.Reason.{Reason}
-use Rattle.src_machine.specs.declared.reason.Reason.TheVariants as why
-use Rattle.src_machine.specs.Source.{Source}
+use Rattle.cfi_flow.specs.declared.reason.Reason.{Reason}
+use Rattle.cfi_flow.specs.declared.reason.Reason.TheVariants as why
+use Rattle.cfi_flow.specs.Source.{Source}
 
 -- the window of data, [0, 2 ^ 28)
 abbrev pub WINDOW : ℕ
