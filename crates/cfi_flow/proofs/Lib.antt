@@ -11,3 +11,4 @@ mod Reaching
 mod Judged
 mod Stepping
 mod Rows
+mod SourceRows

@@ -18,3 +18,7 @@ pub mod LegalMap
 pub mod LabelOf
 pub mod GraphAtMap
 pub mod Reached
+pub mod Source
+pub mod Untame
+pub mod SourceStep
+pub mod MapFault

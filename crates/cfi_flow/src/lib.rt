@@ -9,6 +9,7 @@ pub use graph::raw_graph;
 pub use label::used_labels;
 pub use named::entry_place;
 pub use raw::{Raw, RawSite};
+pub use reason::Reason;
 
 mod begin;
 mod below;
@@ -25,5 +26,6 @@ mod named;
 mod points;
 mod policy;
 mod raw;
+mod reason;
 mod span;
 mod table;

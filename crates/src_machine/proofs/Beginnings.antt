@@ -1,0 +1,93 @@
+-- How a program is placed at a legal map.
+use Rattle.std.proofs.Common.{◌≡◌, ℕ, zero, suc, ◌+◌, ◌^◌, ◌%◌, ◌<◌, ◌≤◌, ◌==◌, nat_lt, nat_le, Bool, true, false, List, [], ◌∷◌, ◌++◌, length, get_or, map, take, drop, drop-cons, Some, None, refl, sym, ap, subst, ◌∙◌, arith, add-one, append_assoc}
+use Rattle.std.specs.Prelude.{◌&&◌, slice_index}
+use Rattle.std.specs.List.{list_all}
+use Rattle.std.specs.List.Sorted.{IsStrictlyIncreasing}
+use Rattle.std.proofs.lemmas.Bool.{and_parts, ltb-true}
+use Rattle.std.proofs.lemmas.List.{append-nil, drop_all, get_or-map, length-map}
+use Rattle.rv_word.specs.Layout.{CODE_SIZE, CODE_START, UNITS_START}
+use Rattle.cfi_graph.specs.declared.map.MapLine.{MapLine}
+use Rattle.cfi_graph.specs.Graph.{is_rising}
+use Rattle.cfi_graph.specs.Map.{IsMap, is_gate, map_line_below, map_line_in_range, place_below}
+use Rattle.obj_program.specs.Program.{Program, count}
+use Rattle.cfi_flow.specs.Closed.{ClosedGraph}
+use Rattle.cfi_flow.specs.LegalMap.{IsLegalMap, gates_of}
+use Rattle.cfi_flow.specs.Placement.{gate_size, words_from}
+use Rattle.src_machine.specs.Placed.{AreRead, EndsLast, IsPlaced, instr_in, layout_of}
+use Rattle.src_machine.proofs.LegalGates.{counted}
+
+drop_step : {X : Type 0} (xs : List X) (k : ℕ) (d : X) → k < length xs → drop k xs ≡ get_or xs k d ∷ drop (k + 1) xs
+drop_step xs k d lt = rw (add-one, drop-cons xs k d) refl
+
+pub words_more : (classes : List (List ℕ)) (k : ℕ) (gates made all : List ℕ) (word : ℕ) → k < length gates →
+    word ≡ get_or gates k 0 + gate_size classes k →
+    made ++ words_from classes k (drop k gates) ≡ all → (made ++ word ∷ []) ++ words_from classes (k + 1) (drop (k + 1) gates) ≡ all
+unfolding words_from
+words_more classes k gates made all word lt is so_far = rw (append_assoc, is) (rw (drop_step gates k 0 lt) at so_far)
+
+pub words_end : (classes : List (List ℕ)) (k : ℕ) (gates made all : List ℕ) → length gates ≤ k →
+    made ++ words_from classes k (drop k gates) ≡ all → made ≡ all
+unfolding words_from
+words_end classes k gates made all past so_far = sym (append-nil made) ∙ (rw (drop_all k gates past) at so_far)
+
+pub length_words : (classes : List (List ℕ)) (k : ℕ) (gates : List ℕ) → length (words_from classes k gates) ≡ length gates
+unfolding words_from
+length_words classes k [] = refl
+length_words classes k (gate ∷ gates) = let e = length_words classes (k + 1) gates in omega arith
+
+words_counted : (classes : List (List ℕ)) (k : ℕ) (gates : List ℕ) → length (words_from classes k gates) ≡ length gates
+unfolding words_from
+words_counted classes k [] = refl
+words_counted classes k (gate ∷ gates) = ap suc (words_counted classes (k + 1) gates)
+
+-- a gate of a map lies in code
+gate_small : (line : MapLine) → map_line_in_range line ≡ true → line.gate < 2 ^ 32
+gate_small line fits =
+    let three = and_parts (is_gate line.gate && line.offset % 4 == 0 && nat_lt line.section (2 ^ 16)) (nat_lt line.offset (2 ^ 32)) fits in
+    let two = and_parts (is_gate line.gate && line.offset % 4 == 0) (nat_lt line.section (2 ^ 16)) three.0 in
+    let one = and_parts (is_gate line.gate) (line.offset % 4 == 0) two.0 in
+    let end = and_parts (line.gate % 4 == 0 && nat_le (CODE_START + 64) line.gate) (nat_lt line.gate (CODE_START + CODE_SIZE)) one.0 in
+    let high = ltb-true line.gate (CODE_START + CODE_SIZE) end.1 in
+    omega arith
+
+small_all : (lines : List MapLine) → list_all map_line_in_range lines ≡ true → (k : ℕ) → slice_index (gates_of lines) k < 2 ^ 32
+small_all [] fits k = omega arith
+small_all (line ∷ lines) fits zero = gate_small line (and_parts (map_line_in_range line) (list_all map_line_in_range lines) fits).0
+small_all (line ∷ lines) fits (suc k) = small_all lines (and_parts (map_line_in_range line) (list_all map_line_in_range lines) fits).1 k
+
+pub gates_small : (lines : List MapLine) → IsMap lines → (gates : List ℕ) → gates ≡ gates_of lines → (k : ℕ) → slice_index gates k < 2 ^ 32
+gates_small lines map gates is k = subst (λ (gs : List ℕ). slice_index gs k < 2 ^ 32) (sym is) (small_all lines map.range k)
+
+rise_all : (lines : List MapLine) → is_rising map_line_below lines ≡ true → (k : ℕ) → k + 1 < length (gates_of lines) →
+    slice_index (gates_of lines) k < slice_index (gates_of lines) (k + 1)
+rise_all [] order k below = absurd (omega arith)
+rise_all (line ∷ []) order k below = absurd (omega arith)
+rise_all (line ∷ next ∷ lines) order zero below =
+    let first = (and_parts (map_line_below line next) (is_rising map_line_below (next ∷ lines)) order).0 in
+    ltb-true line.gate next.gate (and_parts (place_below line next) (nat_lt line.gate next.gate) first).1
+rise_all (line ∷ next ∷ lines) order (suc k) below =
+    let same : suc (k + 1) ≡ suc k + 1 = omega arith in
+    let step = rise_all (next ∷ lines) (and_parts (map_line_below line next) (is_rising map_line_below (next ∷ lines)) order).1 k (omega arith) in
+    subst (λ (n : ℕ). slice_index (gates_of (next ∷ lines)) k < slice_index (line.gate ∷ gates_of (next ∷ lines)) n) same step
+
+module _ (program : Program) (closed : ClosedGraph) (lines : List MapLine) (map : IsMap lines) (legal : IsLegalMap program closed lines)
+    (gates : List ℕ) (are : gates ≡ gates_of lines) where
+  pub gates_counted : length gates ≡ count program
+  gates_counted = ap length are ∙ counted closed.classes legal.gates.0 0 UNITS_START program.items (gates_of lines) legal.gates.1
+
+  pub words_there : (words : List ℕ) → words ≡ words_from closed.classes 0 gates → length words ≡ count program
+  words_there words is = ap length is ∙ words_counted closed.classes 0 gates ∙ gates_counted
+
+  pub is_placed : (entry : ℕ) (gs ws code : List ℕ) → EndsLast program → entry < count program → gs ≡ gates → ws ≡ words_from closed.classes 0 gates →
+      AreRead program gs ws (count program) code → IsPlaced (layout_of program closed gates entry) code
+  is_placed entry gs ws code last below same words read = record {
+    profile = refl;
+    last = last;
+    gates = gates_counted;
+    near = λ k inside. let small = gates_small lines map gates are k in omega arith;
+    rising = subst IsStrictlyIncreasing (sym are) (rise_all lines map.order);
+    coded = read.counted;
+    words = λ k inside instruction. read.read k inside instruction
+        ∙ ap (λ (g : List ℕ). Some (instr_in program g ws k)) same ∙ ap (λ (w : List ℕ). Some (instr_in program gates w k)) words;
+    entry = below;
+  }

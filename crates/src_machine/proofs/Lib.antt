@@ -1,0 +1,6 @@
+mod Gates
+mod Inside
+mod LegalGates
+mod LegalLines
+mod Beginnings
+mod Prefixes

@@ -1,0 +1,112 @@
+ghost use Rattle.std.specs.Prelude.{◌≡◌, ◌==◌, ◌<◌, ◌≤◌, ◌+◌, ◌^◌, ℕ, IfSome, IfNone, length};
+ghost use Rattle.least.specs.First.{first_below};
+ghost use Rattle.obj_program.specs.Program.{count, item_of};
+ghost use Rattle.cfi_flow.specs.LegalMap.{IsLegalMap};
+ghost use Rattle.cfi_flow.specs.Placement.{size_of};
+ghost use Rattle.cfi_flow.specs.MapFault.{IsWrongLine};
+ghost use Rattle.src_machine.specs.MapLine.{follows, is_right, is_wrong, stands};
+
+use crate::placed::gate_size;
+use cfi_flow::Closed;
+use cfi_graph::MapLine;
+use least::first_below_u64;
+use obj_input::ItemKind;
+use obj_program::Items;
+use rv_word::profile::UNITS_START;
+
+/// How many bytes the unit of a kind of place has, with its branch long or short.
+fn unit_size(kind: ItemKind, long: bool) -> u64
+    ensures value { result ≡ size_of kind long }
+    ensures small { result < 2 ^ 32 }
+{
+    match kind {
+        ItemKind::Store => 16,
+        ItemKind::Branch if long => 8,
+        ItemKind::Call => 32,
+        ItemKind::Return => 20,
+        ItemKind::Ijump => 52,
+        ItemKind::Icall => 80,
+        _ => 4,
+    }
+}
+
+/// Whether an address is so many bytes behind another.
+fn is_behind(address: u64, next: u64, bytes: u64) -> bool
+    ensures { result ≡ (next == address + bytes) }
+{
+    address <= next && next - address == bytes
+}
+
+/// Whether a gate stands behind the unit of the place `k`, whose gate is this one.
+fn follows(closed: &Closed, kind: ItemKind, k: u64, gate: u64, next: u64) -> bool
+    ensures { result ≡ follows closed.now.classes kind k gate next }
+{
+    let lead = gate_size(closed, k);
+    is_behind(gate, next, lead + unit_size(kind, true))
+        || is_behind(gate, next, lead + unit_size(kind, false))
+}
+
+/// Whether the gate of a line is where the line before it lets it be.
+fn stands(items: &Items, closed: &Closed, lines: &[MapLine], j: u64) -> bool
+    requires line { j < length lines.now }
+    requires place { j < count items.now }
+    ensures { result ≡ stands items.now closed.now lines.now j }
+{
+    if j == 0 {
+        lines[0].gate == UNITS_START
+    } else {
+        let k = j - 1;
+        let kind = items.item(k).kind;
+        follows(
+            closed,
+            kind,
+            k,
+            lines[k as usize].gate,
+            lines[j as usize].gate,
+        )
+    }
+}
+
+/// Whether a line is that of its place.
+fn is_right(items: &Items, closed: &Closed, lines: &[MapLine], j: u64) -> bool
+    requires line { j < length lines.now }
+    requires place { j < count items.now }
+    ensures { result ≡ is_right items.now closed.now lines.now j }
+{
+    let line = lines[j as usize];
+    items.item(j).is_at(line.section, line.offset) && stands(items, closed, lines, j)
+}
+
+/// Whether a line is wrong; past the last one, whether lines are missing.
+fn is_wrong(items: &Items, closed: &Closed, lines: &[MapLine], j: u64) -> bool
+    requires { j ≤ length lines.now }
+    ensures { result ≡ is_wrong items.now closed.now lines.now j }
+{
+    if j < lines.len() as u64 {
+        !(j < items.count() && is_right(items, closed, lines, j))
+    } else {
+        j < items.count()
+    }
+}
+
+/// The index of the first wrong line.
+fn first_wrong(items: &Items, closed: &Closed, lines: &[MapLine]) -> Option<u64>
+    ensures small { IfSome result (λ j. j < 2 ^ 63) }
+    ensures value { result ≡ first_below (is_wrong items.now closed.now lines.now) (length lines.now + 1) }
+{
+    first_below_u64(
+        lines.len() as u64 + 1,
+        |j| is_wrong(items, closed, lines, j),
+    )
+}
+
+/// The number of the first line of a map that is no legal placement's; that of its line `end` where lines are missing.
+pub(crate) fn wrong_line(items: &Items, closed: &Closed, lines: &[MapLine]) -> Option<u64>
+    ensures wrong { IfSome result (IsWrongLine items.now closed.now lines.now) }
+    ensures legal { IfNone result (IsLegalMap items.now closed.now lines.now) }
+{
+    match first_wrong(items, closed, lines) {
+        Some(j) => Some(j + 2),
+        None => None,
+    }
+}

@@ -1,0 +1,70 @@
+ghost use Rattle.std.specs.Prelude.{◌≡◌, ◌<◌, ◌+◌, ◌^◌, IfOk, OnErr};
+ghost use Rattle.rv_machine.specs.Parts.{shared_in};
+ghost use Rattle.src_machine.specs.Beginning.{IsStep, IsUnchanged, counted};
+
+use crate::placed::Placed;
+use crate::state::State;
+use crate::step::step;
+use crate::turn::SourceTurn;
+use rv_machine::Machine;
+use rv_word::NoMemory;
+use std::marker::Model;
+
+/// A run of a program at a legal map, as the standard says its instructions run.
+#[derive(Drop)]
+pub struct SourceRun<'a, 'b> {
+    pub(crate) placed: Placed<'a, 'b>,
+    pub(crate) state: State,
+    pub(crate) steps: u64,
+}
+
+impl<'a, 'b> Model for SourceRun<'a, 'b> {
+    ghost use Rattle.obj_program.specs.Program.{count};
+    ghost use Rattle.src_machine.specs.Beginning.{SourceParts};
+    ghost use Rattle.src_machine.specs.State.{IsInside, source_in};
+
+    ghost Value = { SourceParts };
+
+    ghost view = { λ r. record { layout = r.placed; state = r.state; steps = r.steps } };
+
+    ghost invariant = { λ r. IsInside (count r.placed.program) (source_in r.state) };
+}
+
+/// How many steps are taken after one that ended so.
+fn counted(turn: SourceTurn, steps: u64) -> u64
+    requires { steps + 1 < 2 ^ 64 }
+    ensures { result ≡ counted turn steps }
+{
+    match turn {
+        SourceTurn::Untame(_, _, _) => steps,
+        SourceTurn::Ran | SourceTurn::Exit(_) | SourceTurn::Break(_, _) => steps + 1,
+    }
+}
+
+impl<'a, 'b> SourceRun<'a, 'b> {
+    /// How many steps were taken: those that were not untame.
+    pub fn steps(&self) -> u64
+        ensures { result ≡ self.now.steps }
+    {
+        self.steps
+    }
+
+    /// The machine on which its instructions run: its registers, its memory and its system calls are the run's.
+    pub fn machine(&self) -> &Machine
+        ensures { result.now ≡ self.now.state.machine }
+    {
+        self.state.machine()
+    }
+
+    /// One step, or the first reason against it, which leaves the run as it was. After an exit each step answers it again.
+    /// A refusal leaves all as it was.
+    pub fn step(&mut self) -> Result<SourceTurn, NoMemory>
+        requires { self.old.steps + 1 < 2 ^ 64 }
+        ensures stepped { IfOk result (λ turn. IsStep self.old turn self.new) }
+        ensures refused { OnErr result (IsUnchanged self.old self.new) }
+    {
+        let turn = step(&self.placed, &mut self.state)?;
+        self.steps = counted(turn, self.steps);
+        Ok(turn)
+    }
+}

@@ -1,0 +1,160 @@
+ghost use Rattle.std.specs.Prelude.{◌≡◌, ◌<◌, ◌+◌, false, IfSome, nat_le, not};
+ghost use Rattle.std.specs.List.{All};
+ghost use Rattle.rv_code.specs.Arithmetic.{load_size, store_size};
+ghost use Rattle.obj_program.specs.Program.{count, is_end};
+ghost use Rattle.src_machine.specs.State.{source_in};
+ghost use Rattle.cfi_flow.specs.Untame.{computed, computed_place, is_off_graph, is_off_window, is_too_deep, is_wrong_return, reason, return_address, touched, WINDOW};
+
+use crate::placed::Placed;
+use crate::state::State;
+use cfi_flow::Reason;
+use obj_input::ItemKind;
+use rv_instr::{Instr, LoadOp, Reg, StoreOp};
+use rv_word::profile::CLOSING;
+
+/// The end of the window of data.
+const WINDOW: u64 = 1 << 28;
+
+/// How many calls may be pending.
+const MOST_CALLS: u64 = 8190;
+
+/// Where a computed transfer goes.
+fn computed(instr: &Instr, state: &State) -> u64
+    ensures { result ≡ computed instr.now (source_in state.now).regs }
+{
+    match *instr {
+        Instr::Jalr(_, rs1, imm) => {
+            let sum = state.sum(rs1, imm);
+            sum - sum % 2
+        }
+        _ => 0,
+    }
+}
+
+/// The place that a computed transfer goes to, where the closed graph has it.
+pub(crate) fn computed_place(placed: &Placed, k: u64, instr: &Instr, state: &State) -> Option<u64>
+    ensures value { result ≡ computed_place placed.now k instr.now (source_in state.now).regs }
+    ensures there { IfSome result (λ target. target < count placed.now.program) }
+{
+    placed.place_reached(k, computed(instr, state))
+}
+
+/// Whether a computed transfer leaves the closed graph.
+fn is_off_graph(placed: &Placed, k: u64, kind: ItemKind, instr: &Instr, state: &State) -> bool
+    ensures { result ≡ is_off_graph placed.now k kind instr.now (source_in state.now) }
+{
+    match kind {
+        ItemKind::Ijump | ItemKind::Icall => computed_place(placed, k, instr, state).is_none(),
+        _ => false,
+    }
+}
+
+/// Where x1 has to lead at a return.
+fn return_address(placed: &Placed, state: &State) -> u64
+    requires { All (λ k. k < count placed.now.program) state.now.pending }
+    ensures { result ≡ return_address placed.now state.now.pending }
+{
+    let _count = placed.count();
+    match state.newest() {
+        Some(k) => placed.gate(k),
+        None => CLOSING,
+    }
+}
+
+/// Whether a return does not lead back to its call.
+fn is_wrong_return(placed: &Placed, kind: ItemKind, state: &State) -> bool
+    requires { All (λ k. k < count placed.now.program) state.now.pending }
+    ensures { result ≡ is_wrong_return placed.now kind (source_in state.now) }
+{
+    match kind {
+        ItemKind::Return => state.reg(Reg::of(1)) != return_address(placed, state),
+        _ => false,
+    }
+}
+
+/// How many bytes a load reads.
+fn loaded_bytes(op: LoadOp) -> u64
+    ensures { result ≡ load_size op }
+{
+    match op {
+        LoadOp::Lb | LoadOp::Lbu => 1,
+        LoadOp::Lh | LoadOp::Lhu => 2,
+        LoadOp::Lw | LoadOp::Lwu => 4,
+        LoadOp::Ld => 8,
+    }
+}
+
+/// How many bytes a store writes.
+fn stored_bytes(op: StoreOp) -> u64
+    ensures { result ≡ store_size op }
+{
+    match op {
+        StoreOp::Sb => 1,
+        StoreOp::Sh => 2,
+        StoreOp::Sw => 4,
+        StoreOp::Sd => 8,
+    }
+}
+
+/// Whether so many bytes at an address are not all in the window.
+fn leaves_window(address: u64, bytes: u64) -> bool
+    ensures { result ≡ not (nat_le (address + bytes) WINDOW) }
+{
+    address > WINDOW || bytes > WINDOW - address
+}
+
+/// Whether a load or a store leaves the window.
+fn touches_outside(instr: &Instr, state: &State) -> bool
+    ensures { result ≡ not (nat_le (touched instr.now (source_in state.now).regs) WINDOW) }
+{
+    match *instr {
+        Instr::Load(op, _, rs1, imm) => leaves_window(state.sum(rs1, imm), loaded_bytes(op)),
+        Instr::Store(op, rs1, _, imm) => leaves_window(state.sum(rs1, imm), stored_bytes(op)),
+        _ => false,
+    }
+}
+
+/// The same of an instruction of a kind.
+fn is_off_window(kind: ItemKind, instr: &Instr, state: &State) -> bool
+    ensures { result ≡ is_off_window kind instr.now (source_in state.now) }
+{
+    match kind {
+        ItemKind::Plain | ItemKind::Store => touches_outside(instr, state),
+        _ => false,
+    }
+}
+
+/// Whether a call is too deep.
+fn is_too_deep(kind: ItemKind, state: &State) -> bool
+    ensures { result ≡ is_too_deep kind (source_in state.now) }
+{
+    match kind {
+        ItemKind::Call | ItemKind::Icall => state.depth() >= MOST_CALLS,
+        _ => false,
+    }
+}
+
+/// The first reason against the step of an instruction, if there is one.
+pub(crate) fn reason(
+    placed: &Placed,
+    k: u64,
+    kind: ItemKind,
+    instr: &Instr,
+    state: &State,
+) -> Option<Reason>
+    requires pending { All (λ k. k < count placed.now.program) state.now.pending }
+    requires instruction { is_end kind ≡ false }
+    ensures { result ≡ reason placed.now k kind instr.now (source_in state.now) }
+{
+    if is_off_graph(placed, k, kind, instr, state) {
+        Some(Reason::Graph)
+    } else if is_wrong_return(placed, kind, state) {
+        Some(Reason::Return)
+    } else if is_off_window(kind, instr, state) {
+        Some(Reason::Window)
+    } else if is_too_deep(kind, state) {
+        Some(Reason::Deep)
+    } else {
+        None
+    }
+}
