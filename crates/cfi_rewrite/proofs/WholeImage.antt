@@ -49,9 +49,9 @@ pub written_as : (p : PreparedParts) (s : Spaced) (labels code init image : List
     IsWritable p s labels →
     code_words code ≡ written_code (chosen p s labels) → data_at p.program s.gates ≡ Some init → image ≡ spelling code init →
     graph ≡ record { code = length code; lines = graph_lines (chosen p s labels).layout labels } → lines ≡ map_lines (chosen p s labels).layout →
-    IsLegalMap p.program p.closed lines →
+    IsLegalMap p.program p.closed lines → IsImageSize (length code) (length init) →
     IsWrittenAs p s labels (record { image = image; graph = graph; map = lines })
-written_as p s labels code init image graph lines able code_is init_is image_is graph_is lines_are legal =
+written_as p s labels code init image graph lines able code_is init_is image_is graph_is lines_are legal size =
     let m = chosen p s labels in (
       code,
       init,
@@ -60,6 +60,7 @@ written_as p s labels code init image graph lines able code_is init_is image_is 
         labels_are = able.accepted.labels;
         code_is = code_is;
         init_is = init_is;
+        size = size;
         image = image_is;
         graph = graph_is;
         map = legal;

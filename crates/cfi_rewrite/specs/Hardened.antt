@@ -1,5 +1,6 @@
 -- A hardened program: its image, its graph and its map.
 use Rattle.std.specs.Prelude.{◌≡◌, ℕ, ◌≤◌, ◌^◌, List, length, Some, None}
+use Rattle.rv_word.specs.Image.{IsImageSize}
 use Rattle.rv_word.specs.Layout.{version_1}
 use Rattle.elf_image.specs.Spelling.{spelling}
 use Rattle.cfi_graph.specs.Graph.{GraphParts}
@@ -49,6 +50,7 @@ pub record IsWritten (p : PreparedParts) (s : Spaced) (labels code init : List �
   pub labels_are : AreLabels (used_labels p.program) labels
   pub code_is : code_words code ≡ written_code (chosen p s labels)
   pub init_is : data_at p.program s.gates ≡ Some init
+  pub size : IsImageSize (length code) (length init)
   pub image : h.image ≡ spelling code init
   pub graph : h.graph ≡ record { code = length code; lines = graph_lines (chosen p s labels).layout labels }
   pub map : IsLegalMap p.program p.closed h.map

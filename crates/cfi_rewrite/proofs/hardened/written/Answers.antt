@@ -1,4 +1,4 @@
-use Rattle.std.proofs.Common.{◌∙◌, ap, length, subst}
+use Rattle.std.proofs.Common.{ℕ, ◌∙◌, ◌*◌, ◌≤◌, ap, length, subst, sym}
 use Rattle.cfi_flow.specs.GraphAtMap.{graph_lines}
 use Rattle.cfi_flow.specs.LegalMap.{IsLegalMap}
 use Rattle.cfi_verify.specs.Split.{code_words}
@@ -6,7 +6,8 @@ use Rattle.cfi_rewrite.specs.Laws.{written_code}
 use Rattle.cfi_rewrite.specs.MapLines.{map_lines}
 use Rattle.cfi_rewrite.specs.Units.{Choice}
 use Rattle.elf_image.specs.Spelling.{spelling}
-use Rattle.cfi_rewrite.proofs.WholeImage.{written_as}
+use Rattle.cfi_rewrite.specs.Hardened.{INIT_ROOM, chosen}
+use Rattle.cfi_rewrite.proofs.WholeImage.{image_size, in_room, written_as}
 use Rattle.cfi_rewrite.proofs.hardened.written.Goals as goal
 
 pub returns : goal.returns
@@ -21,3 +22,7 @@ returns c =
     (c.in_ok-graph.ensures ∙ ap (λ (m : Choice). record { code = length bytes; lines = graph_lines m.layout m.labels }) is)
     (c.in_ok-map.ensures.lines ∙ ap (λ (m : Choice). map_lines m.layout) is)
     (subst (λ (m : Choice). IsLegalMap m.layout.program m.layout.closed c.in_ok-map.map) is c.in_ok-map.ensures.legal)
+    (image_size (chosen c.args.prepared.now c.args.spacing.now c.args.labels.now) (length bytes) (length c.in_ok-init.init.items)
+        (ap length c.as_slice-bytes.ensures.value ∙ c.in_ok-code.ensures.size ∙ ap (λ (m : Choice). 4 * length (written_code m)) is)
+        (in_room (chosen c.args.prepared.now c.args.spacing.now c.args.labels.now) c.requires.accepted)
+        (subst (λ (n : ℕ). n ≤ INIT_ROOM) (sym c.in_ok-init.ensures.length) c.requires.room))
