@@ -172,4 +172,5 @@ def main():
                      options.runs, start)
 
 
-main()
+if __name__ == "__main__":
+    main()

@@ -24,6 +24,7 @@ sys.dont_write_bytecode = True
 HERE = os.path.dirname(os.path.abspath(__file__))
 sys.path.insert(0, os.path.join(HERE, "..", "..", "bench"))
 
+from families import CODE as CODE_FLAGS, FUNC, PROGBITS, Section, symbol, with_tables, words as code_of
 from images import CODE, OPENING, UNITS, addi, image_file, jal, prologue, u_form
 
 ECALL = 0x00000073
@@ -59,6 +60,21 @@ def report(output, status, units):
     lines = "\nstop exit %d\nsteps %d\nwalk %d\ntrail %s\n" % (
         status, 10 + units, len(walk), " ".join("%08x" % at for at in walk[-16:]))
     return b"output %d\n" % len(output) + output + lines.encode()
+
+
+# an object whose main returns 7; the units of its code, which are the word, a return of five words and a stop
+RETURNS = with_tables([Section(PROGBITS, code_of(addi(10, 0, 7), 0x00008067), CODE_FLAGS, align=4)], [],
+                      symbol(1, FUNC, 1, 0), b"\0main\0")
+HARDENED = [addi(10, 0, 7), 0xFF81BF83, 0xFF818193, 0x001F8463, 0xFB5FF06F, 0x000F8067, 0xFA9FF06F]
+MAP = b"rvcfi-map 1\nat 40000040 0001 00000000\nat 40000044 0001 00000004\nat 40000058 0001 00000008\nend\n"
+REWRITTEN = b"rewritten code 92 data 0 classes 0 sites 0\n"
+
+
+def hardened_files():
+    """The image, the graph and the map of that object."""
+    code = struct.pack("<%dI" % (16 + len(HARDENED)), *prologue(UNITS), *HARDENED)
+    graph = b"rvcfi-graph 1\ncode 40000000 0000005c\ncall 4000000c 40000040\nend\n"
+    return image_file(code, b""), graph, MAP
 
 
 class Cases:
@@ -179,13 +195,16 @@ def files_that_cannot_be_read(cases):
     unreadable(cases)
 
 
+def other_user():
+    """Options for a run as a user who is not root."""
+    return {"user": NOBODY, "group": NOBODY, "extra_groups": []} if os.geteuid() == 0 else {}
+
+
 def unreadable(cases):
     """A file whose mode lets nobody read it; root may read any, so the program runs as another user."""
-    what, words, options = "an unreadable file", ["verify", "a.img", "closed"], {}
-    if os.geteuid() == 0:
-        options = {"user": NOBODY, "group": NOBODY, "extra_groups": []}
+    what, words = "an unreadable file", ["verify", "a.img", "closed"]
     try:
-        cases.expect(what, words, 3, b"read fault closed\n", **options)
+        cases.expect(what, words, 3, b"read fault closed\n", **other_user())
     except (PermissionError, OSError, subprocess.SubprocessError) as error:
         cases.skip(what, "another user cannot run the program here (%s)" % error)
 
@@ -281,7 +300,65 @@ def little_of_everything(cases):
     cases.tell("no more open files", got, (3, b"read fault a.graph\n", b""))
 
 
-CASES = (files_that_cannot_be_read, files_of_other_kinds, words_of_other_kinds, outputs_that_fail, outputs_in_parts, little_of_everything)
+def read_or_none(path):
+    try:
+        with open(path, "rb") as file:
+            return file.read()
+    except OSError:
+        return None
+
+
+def rewrites(cases, what, words, status, text, written, **options):
+    """The program ends in this way, and of the image, the graph and the map those that are named are whole, and no other is
+    there. What it wrote goes after that."""
+    cases.expect(what, ["rewrite"] + words, status, text, **options)
+    paths = [cases.path(word) for word in words[3:]]
+    whole = hardened_files()
+    got = [None if os.path.isdir(path) or path.startswith("/dev") else read_or_none(path) for path in paths]
+    cases.tell(what + ": the files", got, [whole[k] if k in written else None for k in range(3)])
+    for path in paths:
+        if os.path.isfile(path):
+            os.remove(path)
+
+
+def hardened_programs(cases):
+    names = ["i", "g", "m"]
+    rewrites(cases, "an object", ["b.o", "main", "none"] + names, 0, REWRITTEN, (0, 1, 2))
+    with open(cases.path("b.o"), "rb") as source, open(cases.path("own"), "wb") as copy:
+        copy.write(source.read())
+    rewrites(cases, "an object as its own image", ["own", "main", "none", "own", "g", "m"], 0, REWRITTEN, (0, 1, 2))
+    with open(cases.path("i"), "wb") as old:
+        old.write(bytes(100000))
+    rewrites(cases, "a longer file in the image's place", ["b.o", "main", "none"] + names, 0, REWRITTEN, (0, 1, 2))
+    writer = fed(cases.path("pipe"), [b"rvcfi-policy 1\nen", b"d\n"])
+    rewrites(cases, "a policy from a named pipe", ["b.o", "main", "pipe"] + names, 0, REWRITTEN, (0, 1, 2))
+    writer.join(1)
+    writer = fed(cases.path("pipe"), [b"rvcfi-policy 1\n"])
+    rewrites(cases, "a policy that ends early", ["b.o", "main", "pipe"] + names, 1, b"refused 18 Policy 2\n", ())
+    writer.join(1)
+    rewrites(cases, "a refused object", ["a.img", "main", "none"] + names, 1, b"refused 2 NotRelocatable 2\n", ())
+    rewrites(cases, "no such object", ["absent", "main", "none"] + names, 3, b"read fault absent\n", ())
+    rewrites(cases, "one name for two", ["b.o", "main", "none", "i", "g", "i"], 2, b"usage: rvcfi rewrite|verify|run|compare|demo\n", ())
+
+
+def hardened_programs_that_are_not_written(cases):
+    rewrites(cases, "no folder for the image", ["b.o", "main", "none", "nowhere/i", "g", "m"], 4, b"", ())
+    rewrites(cases, "no folder for the graph", ["b.o", "main", "none", "i", "nowhere/g", "m"], 4, b"", (0,))
+    rewrites(cases, "no folder for the map", ["b.o", "main", "none", "i", "g", "nowhere/m"], 4, b"", (0, 1))
+    rewrites(cases, "a directory as the image", ["b.o", "main", "none", "folder", "g", "m"], 4, b"", ())
+    rewrites(cases, "a full device as the image", ["b.o", "main", "none", "/dev/full", "g", "m"], 4, b"", ())
+    rewrites(cases, "a full device as the map", ["b.o", "main", "none", "i", "g", "/dev/full"], 4, b"", (0, 1))
+    with open("/dev/full", "wb") as full:
+        rewrites(cases, "a full device as the output", ["b.o", "main", "none", "i", "g", "m"], 4, None, (0, 1, 2), stdout=full)
+    what = "a folder that may not be written"
+    try:
+        rewrites(cases, what, ["b.o", "main", "none", "kept/i", "g", "m"], 4, b"", (), **other_user())
+    except (PermissionError, OSError, subprocess.SubprocessError) as error:
+        cases.skip(what, "another user cannot run the program here (%s)" % error)
+
+
+CASES = (files_that_cannot_be_read, files_of_other_kinds, words_of_other_kinds, outputs_that_fail, outputs_in_parts, little_of_everything,
+         hardened_programs, hardened_programs_that_are_not_written)
 
 
 def lay_out(folder):
@@ -300,6 +377,9 @@ def lay_out(folder):
     for name, size in (("most", LIMIT), ("over", LIMIT + 1)):
         with open(name, "wb") as out:
             out.truncate(size)
+    os.mkdir("kept")
+    with open("b.o", "wb") as out:
+        out.write(RETURNS)
     for name, (image, graph) in (("puts", PUTS), ("echoes", ECHOES)):
         for end, content in ((".img", image), (".graph", graph)):
             with open(name + end, "wb") as out:
@@ -307,7 +387,8 @@ def lay_out(folder):
 
 
 def state(folder):
-    """What stands in the folder: names, kinds, sizes and the times of the last change. Two are written by the cases."""
+    """What stands in the folder: names, kinds, sizes and the times of the last change. Two are written by the cases, and those
+    that `rewrite` writes are removed again."""
     return {name: (it.st_mode, it.st_size, it.st_mtime_ns)
             for name in os.listdir(folder) if name not in ("out", "pipe") for it in [os.lstat(os.path.join(folder, name))]}
 

@@ -2,16 +2,18 @@
 use Rattle.std.specs.Prelude.{◌≡◌, ℕ, List, take, ⊤, Option, Some, None, Result, Ok}
 use Rattle.std.specs.Io.KnownBytes.{Appends}
 use Rattle.rv_word.specs.declared.no_memory.NoMemory.{NoMemory}
+use Rattle.cfi_tool.specs.Commands.Rewrite.{ExplainsRewrite}
 use Rattle.cfi_tool.specs.Commands.Run.{ExplainsRun}
 use Rattle.cfi_tool.specs.Commands.Verify.{ExplainsVerdict}
 use Rattle.cfi_tool.specs.Reads.{Content, IsUnread}
-use Rattle.cfi_tool.specs.Request.{Request, names_of, request_of, run as runs, verify as verifies}
+use Rattle.cfi_tool.specs.Request.{Request, names_of, request_of, rewrite as rewrites, run as runs, verify as verifies}
 use Rattle.cfi_tool.specs.declared.outcome.Outcome.{Outcome}
-use Rattle.cfi_tool.specs.declared.outcome.Outcome.TheVariants.{Usage, Unread, Verify, Run}
+use Rattle.cfi_tool.specs.declared.outcome.Outcome.TheVariants.{Usage, Unread, Rewrite, Verify, Run}
 use Rattle.cfi_tool.specs.declared.read.Unread.TheVariants.{Fault, TooLong}
 
 -- what a command's own outcome says of what was asked for
 abbrev pub ExplainsRequest : Content → Request → Outcome → Type 0
+ExplainsRequest content (rewrites asks) (Rewrite outcome) = ExplainsRewrite content asks outcome
 ExplainsRequest content (verifies asks) (Verify verdict) = ExplainsVerdict content asks verdict
 ExplainsRequest content (runs asks) (Run outcome) = ExplainsRun content asks outcome
 ExplainsRequest content request other = ⊥

@@ -1,4 +1,6 @@
 pub mod Lines
+pub mod Words
+pub mod Writes
 pub mod Refusals
 pub mod Reads
 pub mod Opening
@@ -7,3 +9,4 @@ pub mod Commands
 pub mod Request
 pub mod Explains
 pub mod Outcomes
+pub mod Finishing

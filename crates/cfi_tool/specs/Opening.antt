@@ -38,6 +38,7 @@ IsRefusal image graph script (Image refusal) = fault_of image ≡ Some refusal
 IsRefusal image graph script (Graph line reason) = (fault_of image ≡ None) × (graph_of graph ≡ Err (Line line reason))
 IsRefusal image graph script (Script line reason) =
     ((parts : GraphParts) × AreRead image graph parts) × (script_given script ≡ Err (Line line reason))
+IsRefusal image graph script other = ⊥
 
 -- why the files are not opened; only want of memory is free
 abbrev pub IsOpenEnd : List ℕ → List ℕ → Option (List ℕ) → OpenEnd → Type 0

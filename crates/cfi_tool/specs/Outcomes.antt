@@ -1,11 +1,13 @@
 -- The text and the status of what a command comes to.
-use Rattle.std.specs.Prelude.{ℕ, List, codes}
+use Rattle.std.specs.Prelude.{ℕ, List, [], codes}
+use Rattle.cfi_tool.specs.Commands.Rewrite.{rewrite_line, rewrite_outputs, rewrite_status}
 use Rattle.cfi_tool.specs.Commands.Run.{run_status, run_text}
 use Rattle.cfi_tool.specs.Commands.Verify.{verdict_line, verdict_status}
 use Rattle.cfi_tool.specs.Lines.{with_newline}
+use Rattle.cfi_tool.specs.Writes.{OutputParts}
 use Rattle.cfi_tool.specs.Reads.{unread_line, unread_status}
 use Rattle.cfi_tool.specs.declared.outcome.Outcome.{Outcome}
-use Rattle.cfi_tool.specs.declared.outcome.Outcome.TheVariants.{Usage, Unread, Verify, Run}
+use Rattle.cfi_tool.specs.declared.outcome.Outcome.TheVariants.{Usage, Unread, Rewrite, Verify, Run}
 
 abbrev pub usage_line : List ℕ
 usage_line = codes "usage: rvcfi rewrite|verify|run|compare|demo"
@@ -13,11 +15,21 @@ usage_line = codes "usage: rvcfi rewrite|verify|run|compare|demo"
 abbrev pub outcome_text : Outcome → List ℕ
 outcome_text Usage = with_newline usage_line
 outcome_text (Unread unread) = with_newline (unread_line unread)
+outcome_text (Rewrite outcome) = with_newline (rewrite_line outcome)
 outcome_text (Verify verdict) = with_newline (verdict_line verdict)
 outcome_text (Run outcome) = run_text outcome
 
 abbrev pub outcome_status : Outcome → ℕ
 outcome_status Usage = 2
 outcome_status (Unread unread) = unread_status unread
+outcome_status (Rewrite outcome) = rewrite_status outcome
 outcome_status (Verify verdict) = verdict_status verdict
 outcome_status (Run outcome) = run_status outcome
+
+-- the files that are written, in their order
+abbrev pub outcome_outputs : Outcome → List OutputParts
+outcome_outputs (Rewrite outcome) = rewrite_outputs outcome
+outcome_outputs Usage = []
+outcome_outputs (Unread unread) = []
+outcome_outputs (Verify verdict) = []
+outcome_outputs (Run outcome) = []

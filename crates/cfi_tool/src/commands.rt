@@ -1,2 +1,3 @@
+pub(crate) mod rewrite;
 pub(crate) mod run;
 pub(crate) mod verify;

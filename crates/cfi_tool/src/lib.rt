@@ -18,3 +18,5 @@ mod refusal;
 mod report;
 mod request;
 mod status;
+mod words;
+mod write;

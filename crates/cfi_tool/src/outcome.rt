@@ -1,6 +1,11 @@
-ghost use Rattle.std.specs.Prelude.{◌≡◌, IfOk};
-ghost use Rattle.cfi_tool.specs.Outcomes.{outcome_status, outcome_text};
+ghost use Rattle.std.specs.Prelude.{◌≡◌, [], None, Err, IfOk, OnOk};
+ghost use Rattle.tool_io.specs.Faults.{Counts};
+ghost use Rattle.tool_io.specs.Reading.{IsOnlyRead};
+ghost use Rattle.tool_io.specs.declared.ends.OutEnd.TheVariants as OutEnd;
+ghost use Rattle.cfi_tool.specs.Outcomes.{outcome_outputs, outcome_status, outcome_text};
+ghost use Rattle.cfi_tool.specs.Writes.{AreApart, IsCut, IsTorn, KeepsReads, Wrote};
 
+use crate::commands::rewrite::RewriteOutcome;
 use crate::commands::run::RunOutcome;
 use crate::commands::verify::Verdict;
 use crate::line::line;
@@ -8,6 +13,7 @@ use crate::read::Unread;
 use crate::status;
 use rv_word::NoMemory;
 use std::alloc::Global;
+use tool_io::{Files, OutEnd};
 
 /// What a command line comes to.
 #[derive(Drop)]
@@ -16,6 +22,7 @@ pub(crate) enum Outcome<'a> {
     Usage,
     /// A file of the command was not read.
     Unread(Unread<'a>),
+    Rewrite(RewriteOutcome<'a>),
     Verify(Verdict),
     Run(RunOutcome),
 }
@@ -28,8 +35,25 @@ impl Outcome<'_> {
         match self {
             Outcome::Usage => status::USAGE,
             Outcome::Unread(unread) => unread.status(),
+            Outcome::Rewrite(outcome) => outcome.status(),
             Outcome::Verify(verdict) => verdict.status(),
             Outcome::Run(outcome) => outcome.status(),
+        }
+    }
+
+    /// Writes the files of the outcome, if there are any, in their order.
+    pub(crate) fn write<F: Files>(&self, files: &mut F) -> Result<(), OutEnd>
+        requires apart { AreApart (outcome_outputs self.now) }
+        ensures whole { OnOk result (Wrote F.Files files.old files.new (outcome_outputs self.now) None) }
+        ensures torn { result ≡ Err OutEnd.Failed → IsTorn F.Files files.old files.new (outcome_outputs self.now) }
+        ensures cut { result ≡ Err OutEnd.NoMemory → IsCut F.Files files.old files.new (outcome_outputs self.now) }
+        ensures faults { Counts (result ≡ Err OutEnd.Failed) (F.write_faults files.old) (F.write_faults files.new) }
+        ensures reads { KeepsReads F.Files files.old files.new }
+        ensures unwritten { outcome_outputs self.now ≡ [] → IsOnlyRead F.Files files.old files.new }
+    {
+        match self {
+            Outcome::Rewrite(outcome) => outcome.write(files),
+            Outcome::Usage | Outcome::Unread(_) | Outcome::Verify(_) | Outcome::Run(_) => Ok(()),
         }
     }
 
@@ -40,6 +64,7 @@ impl Outcome<'_> {
         match self {
             Outcome::Usage => line(alloc, &"usage: rvcfi rewrite|verify|run|compare|demo"),
             Outcome::Unread(unread) => line(alloc, unread),
+            Outcome::Rewrite(outcome) => line(alloc, outcome),
             Outcome::Verify(verdict) => line(alloc, verdict),
             Outcome::Run(outcome) => outcome.text(alloc),
         }

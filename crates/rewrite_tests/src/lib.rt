@@ -12,8 +12,6 @@ mod hardened;
 #[cfg(test)]
 mod image;
 #[cfg(test)]
-mod maps;
-#[cfg(test)]
 mod programs;
 #[cfg(test)]
 mod refused;

@@ -4,7 +4,7 @@ use crate::branches::{
     KEPT, KEPT_GRAPH, KEPT_MAP, OVER, OVER_GRAPH, OVER_MAP, R, R_GRAPH, R_MAP, REC_GRAPH,
 };
 use crate::given::{Given, Source};
-use crate::maps::{B_MAP, H_MAP, NARROW_MAP, NOWHERE_MAP, P_MAP};
+use sample_objects::{B_MAP, H_MAP, NARROW_MAP, NOWHERE_MAP, P_MAP};
 use sample_programs::{
     B, B_GRAPH, H, H_GRAPH, NARROW, NARROW_GRAPH, NOWHERE, NOWHERE_GRAPH, P, P_DATA, P_GRAPH,
     RELABELLED, RELABELLED_GRAPH,

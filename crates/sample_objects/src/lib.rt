@@ -1,6 +1,11 @@
-//! Four small objects that are written by hand, in hexadecimal. They stand here alone, since several crates of tests use
+//! Four small objects that are written by hand, in hexadecimal, and the maps that they and some like them get. They stand
+//! here alone, since several crates of tests use
 //! them.
 #![tactic(auto)]
+
+pub use maps::{B_MAP, H_MAP, NARROW_MAP, NOWHERE_MAP, P_MAP};
+
+mod maps;
 
 /// Returns 7.
 pub static B: &[u8] = b"\

@@ -1,14 +1,14 @@
 //! The maps of the programs, as texts.
 
 /// The map of an object that returns 7.
-pub(crate) const B_MAP: &[u8] = b"rvcfi-map 1\n\
+pub const B_MAP: &[u8] = b"rvcfi-map 1\n\
     at 40000040 0001 00000000\n\
     at 40000044 0001 00000004\n\
     at 40000058 0001 00000008\n\
     end\n";
 
 /// That of one that calls one of two functions through a table: a gate's word stands before each of the two.
-pub(crate) const P_MAP: &[u8] = b"rvcfi-map 1\n\
+pub const P_MAP: &[u8] = b"rvcfi-map 1\n\
     at 40000040 0001 00000000\n\
     at 40000044 0001 00000004\n\
     at 40000054 0001 00000008\n\
@@ -25,7 +25,7 @@ pub(crate) const P_MAP: &[u8] = b"rvcfi-map 1\n\
     end\n";
 
 /// The same where only the first of the two may be called.
-pub(crate) const NARROW_MAP: &[u8] = b"rvcfi-map 1\n\
+pub const NARROW_MAP: &[u8] = b"rvcfi-map 1\n\
     at 40000040 0001 00000000\n\
     at 40000044 0001 00000004\n\
     at 40000054 0001 00000008\n\
@@ -42,7 +42,7 @@ pub(crate) const NARROW_MAP: &[u8] = b"rvcfi-map 1\n\
     end\n";
 
 /// That of one that writes a text: an AUIPC and the JALR after it are one place.
-pub(crate) const H_MAP: &[u8] = b"rvcfi-map 1\n\
+pub const H_MAP: &[u8] = b"rvcfi-map 1\n\
     at 40000040 0001 00000000\n\
     at 40000044 0001 00000004\n\
     at 40000054 0001 00000008\n\
@@ -61,7 +61,7 @@ pub(crate) const H_MAP: &[u8] = b"rvcfi-map 1\n\
     end\n";
 
 /// That of one whose computed call goes nowhere.
-pub(crate) const NOWHERE_MAP: &[u8] = b"rvcfi-map 1\n\
+pub const NOWHERE_MAP: &[u8] = b"rvcfi-map 1\n\
     at 40000040 0001 00000000\n\
     at 40000090 0001 00000004\n\
     at 400000a4 0001 00000008\n\

@@ -75,12 +75,23 @@ fn is_answered(alloc: Global, row: &str, files: &mut MemFiles) -> bool {
     answers(alloc, line, files, status, text)
 }
 
-/// Checks that a table has so many rows, and that each is answered.
+/// Checks that a table has so many rows, and that each is answered over these files.
+pub(crate) fn check_over(
+    rt: &impl Abort,
+    alloc: Global,
+    files: &mut MemFiles,
+    table: &[u8],
+    count: usize,
+) {
+    assert!(rt; len(table) == count);
+    for row in rows(table) {
+        assert!(rt; is_answered(alloc, row, files), "{row}");
+    }
+}
+
+/// Checks the same over the files of the tests.
 pub(crate) fn check(rt: &impl Abort, alloc: Global, table: &[u8], count: usize) {
     let mut files = MemFiles::new(alloc, Vec::new(alloc));
     assert!(rt; add_files(alloc, &mut files).is_ok());
-    assert!(rt; len(table) == count);
-    for row in rows(table) {
-        assert!(rt; is_answered(alloc, row, &mut files), "{row}");
-    }
+    check_over(rt, alloc, &mut files, table, count);
 }

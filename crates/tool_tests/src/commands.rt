@@ -56,7 +56,24 @@ fn cut_images(rt: HostRuntime) {
 }
 
 /// Verdicts, and the line of each.
-static LINES: [(Verdict, &str); 8] = [
+static LINES: [(Verdict, &str); 13] = [
+    (Verdict::Refused(Refusal::NoEntry), "refused 17 NoEntry"),
+    (
+        Verdict::Refused(Refusal::Policy(300)),
+        "refused 18 Policy 300",
+    ),
+    (
+        Verdict::Refused(Refusal::CodeTooLarge(1_048_580)),
+        "refused 19 CodeTooLarge 1048580",
+    ),
+    (
+        Verdict::Refused(Refusal::DataTooLarge(33_554_433, 65_537)),
+        "refused 20 DataTooLarge 33554433 65537",
+    ),
+    (
+        Verdict::Refused(Refusal::RelocRange(2, 24)),
+        "refused 21 RelocRange 2 24",
+    ),
     (
         Verdict::Refused(Refusal::Image(ImageRefusal::Byte(16))),
         "refused 22 Byte 16",

@@ -1,4 +1,4 @@
-//! Tests of the tool through its public calls: command lines, verdicts, runs, and files and outputs that
+//! Tests of the tool through its public calls: command lines, verdicts, runs, hardened objects, and files and outputs that
 //! fail. They stand beside the crates that they test, so that these are proved once.
 #![tactic(auto)]
 
@@ -15,8 +15,12 @@ mod jumps;
 #[cfg(test)]
 mod longest;
 #[cfg(test)]
+mod objects;
+#[cfg(test)]
 mod outside;
 #[cfg(test)]
 mod pairs;
+#[cfg(test)]
+mod rewrites;
 #[cfg(test)]
 mod runs;

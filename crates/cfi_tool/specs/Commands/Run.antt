@@ -1,7 +1,6 @@
 -- `run IMAGE GRAPH SCRIPT INPUT STEPS`: a run of an accepted image. The word `none` for SCRIPT or INPUT
 -- means no file.
 use Rattle.std.specs.Prelude.{◌≡◌, ℕ, nat_le, ◌&&◌, if◌then◌else◌, List, [], ◌∷◌, ◌++◌, length, codes, Option, Some, None, option_map, option_and_then, Ok}
-use Rattle.std.specs.Str.{bytes_eq}
 use Rattle.rv_word.specs.Image.{Contents}
 use Rattle.rv_word.specs.Layout.{version_1}
 use Rattle.rv_code.specs.State.{start_hart, start_shared}
@@ -19,6 +18,7 @@ use Rattle.cfi_tool.specs.Opening.{IsRefusal, Spell, script_given}
 use Rattle.cfi_tool.specs.Reads.{Content, Gave, GaveNamed}
 use Rattle.cfi_tool.specs.Refusals.{refusal_line}
 use Rattle.cfi_tool.specs.ReportText.{end_status, report_text}
+use Rattle.cfi_tool.specs.Words.{file_word, text_named}
 use Rattle.cfi_tool.specs.declared.commands.run.RunOutcome.{RunOutcome}
 use Rattle.cfi_tool.specs.declared.commands.run.RunOutcome.TheVariants.{Refused, Rejected, Ran}
 use Rattle.cfi_tool.specs.declared.commands.run.RunRequest.{RunRequest}
@@ -30,10 +30,6 @@ pub record RunWords : Type 0 where
   pub script : Option (List ℕ)
   pub input : Option (List ℕ)
   pub limit : ℕ
-
--- the name of a file, if there is one
-abbrev pub file_word : List ℕ → Option (List ℕ)
-file_word word = if bytes_eq word (codes "none") then None else Some word
 
 abbrev pub at_most : ℕ → ℕ → Option ℕ
 at_most limit n = if nat_le n limit then Some n else None
@@ -80,10 +76,6 @@ abbrev pub IsRunOf : List ℕ → List ℕ → Option (List ℕ) → List ℕ �
 IsRunOf image graph script input limit (Refused refusal) = IsRefusal image graph script refusal
 IsRunOf image graph script input limit (Rejected reject) = IsRunOfSpelled image graph script input limit (Rejected reject)
 IsRunOf image graph script input limit (Ran report) = IsRunOfSpelled image graph script input limit (Ran report)
-
--- the text of a script, where one was named
-abbrev pub text_named : Option (List ℕ) → List ℕ → Option (List ℕ)
-text_named name bytes = option_map (λ n. bytes) name
 
 -- the files gave bytes of which the run comes to this
 pub record ExplainsRun (content : Content) (asks : RunWords) (outcome : RunOutcome) : Type 0 where

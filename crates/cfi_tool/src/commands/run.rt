@@ -4,7 +4,7 @@ ghost use Rattle.text_lines.specs.Answers.{Answers};
 ghost use Rattle.cfi_tool.specs.Lines.{spelled};
 ghost use Rattle.cfi_tool.specs.Opening.{IsOpenEnd, Spell, script_given};
 ghost use Rattle.cfi_tool.specs.Reads.{IsFault, IsStop, IsTooLong};
-ghost use Rattle.cfi_tool.specs.Commands.Run.{ExplainsRun, IsRunOf, IsRunOfPair, file_word, run_asked, run_names, run_status, run_text, run_words, steps_of, text_named};
+ghost use Rattle.cfi_tool.specs.Commands.Run.{ExplainsRun, IsRunOf, IsRunOfPair, run_asked, run_names, run_status, run_text, run_words, steps_of};
 
 use crate::commands::verify::Verdict;
 use crate::line::line;
@@ -13,6 +13,7 @@ use crate::read::{Stop, read_all};
 use crate::refusal::Refusal;
 use crate::report::{end_status, report_text};
 use crate::status;
+use crate::words::{file_word, text_named};
 use cfi_step::{RunReport, Script, run};
 use cfi_verify::{Reject, VerifyEnd, verify};
 use rv_word::NoMemory;
@@ -28,13 +29,6 @@ pub(crate) struct RunRequest<'a> {
     script: Option<&'a str>,
     input: Option<&'a str>,
     limit: u64,
-}
-
-/// The name of a file, if the word is one.
-fn file_word(word: &str) -> Option<&str>
-    ensures { option_map (λ name. name.now) result ≡ file_word word.now }
-{
-    if word == "none" { None } else { Some(word) }
 }
 
 /// The number of steps that a word asks for.
@@ -165,16 +159,6 @@ fn run_bytes(
         Ok((pair, mut script)) => run_pair(alloc, &pair, &mut script, input, limit),
         Err(OpenEnd::Refused(refusal)) => Ok(RunOutcome::Refused(refusal)),
         Err(OpenEnd::NoMemory) => Err(NoMemory),
-    }
-}
-
-/// The text of a file, where one was named.
-fn text_named<'a>(name: Option<&str>, bytes: &'a [u8]) -> Option<&'a [u8]>
-    ensures { option_map (λ t. t.now) result ≡ text_named (option_map (λ n. n.now) name.entry) bytes.now }
-{
-    match name {
-        Some(_) => Some(bytes),
-        None => None,
     }
 }
 
