@@ -1,4 +1,4 @@
-ghost use Rattle.std.specs.Prelude.{◌≡◌, ◌<◌, IfOk, length};
+ghost use Rattle.std.specs.Prelude.{◌<◌, IfOk};
 ghost use Rattle.std.specs.List.{All};
 ghost use Rattle.cfi_flow.specs.declared.closed.Site.{Site};
 ghost use Rattle.cfi_flow.specs.Closed.{IsClosed};

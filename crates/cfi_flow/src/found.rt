@@ -1,7 +1,6 @@
 ghost use Rattle.std.specs.Prelude.{◌≡◌, ◌<◌, Bool, List, IfOk, IfSome, length, map, option_and_then, slice_get};
-ghost use Rattle.std.specs.List.{All};
 ghost use Rattle.std.specs.List.Sorted.{IsStrictlyIncreasing};
-ghost use Rattle.cfi_flow.specs.Found.{by_table, first_entry};
+ghost use Rattle.cfi_flow.specs.Found.{by_table};
 ghost use Rattle.cfi_flow.specs.Kept.{AreKept, IsAimed, sites_of, targets_of};
 ghost use Rattle.cfi_flow.specs.Pointed.{ArePoints};
 ghost use Rattle.cfi_flow.specs.Tables.{entry};

@@ -1,6 +1,6 @@
-ghost use Rattle.std.specs.Prelude.{◌≡◌, ◌+◌, ◌++◌, ◌∷◌, ◌<◌, ℕ, [], IfOk, MatchResult, map};
+ghost use Rattle.std.specs.Prelude.{◌≡◌, ◌+◌, ◌++◌, ◌∷◌, ◌<◌, [], IfOk, MatchResult, map};
 ghost use Rattle.obj_program.specs.declared.item.Item.{Item};
-ghost use Rattle.obj_program.specs.Program.{count, item_of};
+ghost use Rattle.obj_program.specs.Program.{count};
 ghost use Rattle.cfi_flow.specs.Drawn.{IsDrawn, IsOf, line_for};
 ghost use Rattle.cfi_flow.specs.Kept.{sites_of, site_with};
 ghost use Rattle.cfi_flow.specs.Policy.{Ends, IsRaw, targets_under};

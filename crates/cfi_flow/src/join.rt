@@ -1,6 +1,5 @@
 ghost use Rattle.std.specs.Prelude.{◌≡◌, ◌+◌, ◌<◌, ◌≤◌, ℕ, Bool, List, [], IfOk, Some, length, slice_index_or};
 ghost use Rattle.std.specs.Bool.{OnTrue};
-ghost use Rattle.std.specs.List.{Contains};
 ghost use Rattle.std.specs.List.Sorted.{IsStrictlyIncreasing};
 ghost use Rattle.cfi_flow.specs.Closed.{sets_of};
 ghost use Rattle.cfi_flow.specs.Joins.{HaveCommon, IsJoining, JoinAs};
@@ -164,7 +163,8 @@ impl Joining {
     }
 }
 
-/// Lists that join the same targets as the sites' sets, and are no longer together than places and lists of a policy.
+/// Lists that join the same targets as the sites' sets, and have together about as many members as there are places and names in
+/// the policy.
 pub(crate) fn joined(alloc: Global, drawing: &Drawing) -> Result<Vec<Places>, NoMemory>
     requires { AreKept drawing.now }
     ensures { IfOk result (λ v. JoinAs (sets_of (sites_of drawing.now)) v.items) }

@@ -1,5 +1,4 @@
-ghost use Rattle.std.specs.Prelude.{◌≡◌, ◌+◌, ◌||◌, ◌<◌, ◌≤◌, nat_lt, ℕ, IfOk, length, slice_index, take};
-ghost use Rattle.std.specs.List.{list_any};
+ghost use Rattle.std.specs.Prelude.{◌≡◌, ◌+◌, ◌||◌, ◌<◌, ◌≤◌, nat_lt, ℕ, IfOk, length, slice_index};
 ghost use Rattle.obj_program.specs.Program.{Program, count, item_of};
 ghost use Rattle.cfi_flow.specs.Sites.{are_in_one, covers};
 ghost use Rattle.cfi_flow.specs.Spans.{AreEnds, AreFarthest, AreSpans, IsReach, begins_past, goes_inside, in_span, IsRising};
