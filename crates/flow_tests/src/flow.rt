@@ -10,7 +10,7 @@ use std::alloc::Global;
 /// A table of programs, and how many there are.
 fn table(number: u32) -> (&'static [u8], usize) {
     match number {
-        0 => (rows::REACHED, 26),
+        0 => (rows::REACHED, 29),
         1 => (rows::POLICIES, 28),
         2 => (rows::SECTIONS, 6),
         _ => (rows::ASKED, 17),

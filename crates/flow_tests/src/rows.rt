@@ -39,6 +39,17 @@ pub(crate) static REACHED: &[u8] = b"\
     two sites without a common target are of two classes|\
     00028067 00000013 00028067 00000013 00008067|f,FUNC,1,0,8 h,FUNC,1,8,8 g,FUNC,1,16,4|2,0,64,f,4 2,8,64,h,4|\
     none|taken 1 3, jump 0 to 1 in 0, jump 2 to 3 in 1, 0 has 1, 1 has 3\n\
+    sites in functions that overlap are of one class, each by a target in common with the next|\
+    00028067 00000013 00000013 00000013 00028067 00000013 00000013 00000013 00028067 00000013 00008067|\
+    a,FUNC,1,0,16 b,FUNC,1,8,24 c,FUNC,1,24,20|2,0,64,a,12 2,8,64,a,28 2,16,64,a,36|none|\
+    taken 3 7 9, jump 0 to 3 in 0, jump 4 to 3 7 in 0, jump 8 to 7 9 in 0, 0 has 3 7 9\n\
+    sites in functions that overlap where no place is taken are of two classes|\
+    00028067 00000013 00000013 00000013 00028067 00000013 00008067|a,FUNC,1,0,16 b,FUNC,1,8,20|\
+    2,0,64,a,4 2,8,64,a,20|none|taken 1 5, jump 0 to 1 in 0, jump 4 to 5 in 1, 0 has 1, 1 has 5\n\
+    a call between jumps in two functions is of their class|\
+    00028067 00000013 000280E7 00028067 00000013 00008067|f,FUNC,1,0,8 h,FUNC,1,12,8 g,FUNC,1,20,4|\
+    2,0,64,f,4 2,8,64,h,4 2,16,64,g,0|none|\
+    taken 1 4 5, jump 0 to 1 5 in 0, call 2 to 5 in 0, jump 3 to 4 5 in 0, 0 has 1 4 5\n\
     a site without targets has no class|\
     000280E7 00008067|main,NOTYPE,1,0,0||none|taken, call 0 to in none\n\
     a call does not reach a taken place where no function begins|\

@@ -56,13 +56,14 @@ fn add_site(
 }
 
 /// Adds the sites.
-fn add_sites(text: &mut String, raw: &Raw, closed: &Closed) -> Result<(), AllocError> {
+fn add_sites(alloc: Global, text: &mut String, raw: &Raw, closed: &Closed) -> Option<()> {
     for k in 0..raw.sites() {
         let site = raw.site(k);
         let class = closed.class_of(site.place);
-        add_site(text, site, raw.targets(k).as_slice(), class)?;
+        let targets = raw.targets(alloc, k).ok()?;
+        add_site(text, site, targets.as_slice(), class).ok()?;
     }
-    Ok(())
+    Some(())
 }
 
 /// Adds the classes.
@@ -75,18 +76,18 @@ fn add_classes(text: &mut String, closed: &Closed) -> Result<(), AllocError> {
 }
 
 /// What is told of a closed graph and the raw one that it is of.
-fn told_of(alloc: Global, raw: &Raw, closed: &Closed) -> Result<String, AllocError> {
+fn told_of(alloc: Global, raw: &Raw, closed: &Closed) -> Option<String> {
     let mut text = String::new(alloc);
-    add_taken(&mut text, closed)?;
-    add_sites(&mut text, raw, closed)?;
-    add_classes(&mut text, closed)?;
-    Ok(text)
+    add_taken(&mut text, closed).ok()?;
+    add_sites(alloc, &mut text, raw, closed)?;
+    add_classes(&mut text, closed).ok()?;
+    Some(text)
 }
 
 /// What is told of the graph of a program with these sites.
 fn told_of_raw(alloc: Global, raw: &Raw) -> Option<String> {
     match close(alloc, raw) {
-        Ok(closed) => told_of(alloc, raw, &closed).ok(),
+        Ok(closed) => told_of(alloc, raw, &closed),
         Err(_) => None,
     }
 }
