@@ -1,13 +1,12 @@
 -- Worked programs on the source machine: where they stand after so many steps, what stops them, and which reason is told. Words,
 -- gates and counts of steps are worked out by hand.
-use Rattle.std.proofs.Common.{◌≡◌, ℕ, ◌+◌, ◌-◌, ◌^◌, Bool, true, false, List, [], ◌∷◌, Option, Some, None, length, replicate, pos, refl}
+use Rattle.std.proofs.Common.{◌≡◌, ℕ, ◌+◌, ◌-◌, ◌^◌, true, false, List, [], ◌∷◌, Option, Some, None, length, replicate, pos, refl}
 use Rattle.std.specs.Prelude.{option_map}
 use Rattle.rv_word.specs.Layout.{CLOSING, version_1}
 use Rattle.rv_word.specs.Memory.{placed, write}
 use Rattle.rv_instr.specs.Registers.{set_reg}
 use Rattle.rv_code.specs.Decode.{decoded}
 use Rattle.rv_code.specs.State.{last_exit}
-use Rattle.rv_code.specs.declared.event.Event.{Event}
 use Rattle.rv_reloc.specs.declared.kinds.DataPatch.TheVariants.{Abs64}
 use Rattle.obj_input.specs.declared.item_kind.ItemKind.{ItemKind}
 use Rattle.obj_input.specs.declared.item_kind.ItemKind.TheVariants as is
@@ -17,7 +16,6 @@ use Rattle.obj_program.specs.declared.item.Patch.TheVariants as put
 use Rattle.obj_program.specs.declared.item.Value.TheVariants.{GateOf, Number}
 use Rattle.obj_program.specs.AtMap.{instr_at}
 use Rattle.obj_program.specs.DataAtMap.{data_at}
-use Rattle.cfi_flow.specs.declared.closed.Site.{Site}
 use Rattle.cfi_flow.specs.Closed.{ClosedGraph}
 use Rattle.cfi_flow.specs.GraphAtMap.{Layout}
 use Rattle.cfi_flow.specs.Placement.{words_from}

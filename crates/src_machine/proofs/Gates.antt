@@ -1,5 +1,5 @@
 -- Gates that rise: a place is found by its gate, behind those of lesser ones.
-use Rattle.std.proofs.Common.{◌≡◌, ◌==◌, ℕ, zero, suc, ◌+◌, ◌<◌, ◌≤◌, nat_lt, Bool, true, false, List, length, get_or, Some, None, inl, inr, refl, sym, subst, ◌∙◌, arith}
+use Rattle.std.proofs.Common.{◌≡◌, ◌==◌, ℕ, zero, suc, ◌+◌, ◌<◌, ◌≤◌, nat_lt, Bool, true, false, List, length, Some, None, inl, inr, refl, sym, subst, arith}
 use Rattle.std.specs.Prelude.{is_some, slice_index}
 use Rattle.std.specs.List.{list_any, position, position_or_len}
 use Rattle.std.specs.List.Sorted.{IsPartitionedBy, IsStrictlyIncreasing}

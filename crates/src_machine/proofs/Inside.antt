@@ -1,5 +1,5 @@
 -- A step leads to a place that is there, and calls return to places.
-use Rattle.std.proofs.Common.{◌≡◌, ℕ, ◌+◌, ◌-◌, ◌<◌, nat_lt, ◌⊎◌, Bool, true, false, List, [], ◌∷◌, length, All, Option, Some, None, inl, inr, refl, sym, ap, subst, ◌∙◌, arith}
+use Rattle.std.proofs.Common.{◌≡◌, ℕ, ◌+◌, ◌-◌, ◌<◌, nat_lt, Bool, true, false, List, [], ◌∷◌, length, All, Option, Some, None, inl, inr, refl, sym, ap, subst, ◌∙◌, arith}
 use Rattle.std.specs.Prelude.{◌&&◌, not, if◌then◌else◌, option_and_then, slice_get, unwrap_or, Result, Ok, Err, IfOk, OnErr}
 use Rattle.std.proofs.lemmas.Bool.{and_parts, cases_Bool, cases_eq, ltb-true}
 use Rattle.std.proofs.lemmas.List.Elements.{All-cons, All-head, All-tail}
@@ -12,10 +12,8 @@ use Rattle.rv_code.specs.State.{last_exit}
 use Rattle.rv_code.specs.declared.turn.Turn.{Turn}
 use Rattle.rv_code.specs.declared.turn.Turn.TheVariants.{Ran}
 use Rattle.rv_instr.specs.Registers.{Registers, get_reg}
-use Rattle.rv_word.proofs.Cases.{cases_Option}
 use Rattle.obj_input.specs.declared.item_kind.ItemKind.{ItemKind}
 use Rattle.obj_input.specs.declared.item_kind.ItemKind.TheVariants as is
-use Rattle.obj_program.specs.declared.item.Item.{Item}
 use Rattle.obj_program.specs.Program.{Program, count, is_end, item_of}
 use Rattle.obj_program.specs.Sound.{IsSound, aims, is_direct}
 use Rattle.cfi_flow.specs.GraphAtMap.{Layout}
@@ -23,9 +21,9 @@ use Rattle.cfi_flow.specs.declared.reason.Reason.{Reason}
 use Rattle.cfi_flow.specs.declared.reason.Reason.TheVariants as why
 use Rattle.src_machine.specs.declared.turn.SourceTurn.{SourceTurn}
 use Rattle.src_machine.specs.declared.turn.SourceTurn.TheVariants.{Exit}
-use Rattle.src_machine.specs.Placed.{EndsLast}
+use Rattle.src_machine.specs.ProgramAt.{EndsLast}
 use Rattle.cfi_flow.specs.Source.{Source, instr_here}
-use Rattle.cfi_flow.specs.SourceStep.{SourceAfter, acts, branches, closes, exits, goes_to, if_taken, place_after, returns_from, source_step, step_at, step_item, unless, unless_ended}
+use Rattle.cfi_flow.specs.SourceStep.{SourceAfter, acts, branches, closes, exits, if_taken, place_after, returns_from, source_step, step_at, step_item, unless, unless_ended}
 use Rattle.src_machine.specs.State.{IsInside, IsThere, Leaves, StateParts, source_in}
 use Rattle.cfi_flow.specs.Untame.{computed, computed_place, if_reached, is_off_graph, is_off_window, is_too_deep, is_wrong_return, place_with_gate, reaches, reason, return_address}
 use Rattle.src_machine.proofs.Gates.{place_below}

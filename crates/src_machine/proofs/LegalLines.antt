@@ -1,7 +1,7 @@
 -- A map is legal where none of its lines is wrong, and the first wrong line is no legal placement's.
-use Rattle.std.proofs.Common.{◌≡◌, ◌==◌, ℕ, zero, suc, ◌+◌, ◌-◌, ◌<◌, ◌≤◌, nat_lt, Bool, true, false, List, [], ◌∷◌, length, map, take, get_or, Option, Some, None, inl, inr, refl, sym, ap, subst, ◌∙◌, arith}
+use Rattle.std.proofs.Common.{◌≡◌, ◌==◌, ℕ, zero, suc, ◌+◌, ◌-◌, ◌<◌, ◌≤◌, nat_lt, true, false, List, length, map, take, get_or, Some, None, inl, inr, refl, sym, ap, subst, ◌∙◌, arith}
 use Rattle.std.specs.Prelude.{◌&&◌, not, slice_index}
-use Rattle.std.proofs.lemmas.Bool.{and_from, and_parts, cases_Bool, cases_lt, eqb-true, eq-eqb, false_from_ne_true, lt-ltb, ltb-true, le-ltb, ltb-false, not-false, not-true}
+use Rattle.std.proofs.lemmas.Bool.{and_from, and_parts, cases_lt, eqb-true, eq-eqb, false_from_ne_true, lt-ltb, ltb-true, le-ltb, ltb-false, not-false, not-true}
 use Rattle.std.proofs.lemmas.List.{ext_get_or, get_or-map, get_or-take, length-map, length-take, length-take-le, take_all}
 use Rattle.least.specs.First.{first_below}
 use Rattle.least.proofs.Firsts.{first_none, found_parts}
@@ -14,7 +14,7 @@ use Rattle.cfi_flow.specs.LegalMap.{IsLegalMap, gates_of}
 use Rattle.cfi_flow.specs.Placement.{IsLegal, is_long}
 use Rattle.cfi_flow.specs.MapFault.{BeginsLegal, IsWrongLine}
 use Rattle.src_machine.specs.MapLine.{follows, is_right, is_wrong, line_at, no_line, stands}
-use Rattle.src_machine.proofs.LegalGates.{counted, first_gate, follows_by, kind_in, next_gate, placed_by}
+use Rattle.src_machine.proofs.LegalGates.{first_gate, follows_by, kind_in, next_gate, placed_by}
 
 -- a member of what a function gives for the first members
 mapped : {A B : Type 0} (f : A → B) (xs : List A) (n i : ℕ) (d : A) (e : B) → i < n → n ≤ length xs → get_or (map f (take n xs)) i e ≡ f (get_or xs i d)

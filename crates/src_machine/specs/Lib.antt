@@ -1,6 +1,8 @@
 pub mod Told
 pub mod State
+pub mod ProgramAt
 pub mod Placed
 pub mod MapLine
+pub mod Running
 pub mod Beginning
 pub mod Laws

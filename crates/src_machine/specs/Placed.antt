@@ -1,5 +1,5 @@
--- A program that is placed, as a source machine keeps it.
-use Rattle.std.specs.Prelude.{◌≡◌, ℕ, ◌+◌, ◌-◌, ◌^◌, ◌<◌, true, false, Some, None, unwrap_or, List, length, slice_index}
+-- A program that is placed, as a source machine keeps it. Only private contracts cite this.
+use Rattle.std.specs.Prelude.{◌≡◌, ℕ, ◌^◌, ◌<◌, false, Some, None, unwrap_or, List, length, slice_index}
 use Rattle.std.specs.List.Sorted.{IsStrictlyIncreasing}
 use Rattle.rv_word.specs.Layout.{version_1}
 use Rattle.rv_code.specs.Decode.{decoded}
@@ -14,13 +14,7 @@ use Rattle.obj_program.specs.Program.{Program, count, is_end, item_of}
 use Rattle.cfi_flow.specs.Closed.{ClosedGraph}
 use Rattle.cfi_flow.specs.GraphAtMap.{Layout, gate}
 use Rattle.cfi_flow.specs.Source.{instr_here}
-
-abbrev pub layout_of : Program → ClosedGraph → List ℕ → ℕ → Layout
-layout_of program closed gates entry = record { profile = version_1; program = program; closed = closed; gates = gates; entry = entry }
-
--- the last place of a program that has any is the end of a section
-abbrev pub EndsLast : Program → Type 0
-EndsLast program = 0 < count program → is_end (item_of program (count program - 1)).kind ≡ true
+use Rattle.src_machine.specs.ProgramAt.{EndsLast, layout_of}
 
 -- the instruction of a place at these gates and words
 abbrev pub instr_in : Program → List ℕ → List ℕ → ℕ → Instr

@@ -11,7 +11,8 @@ ghost use Rattle.cfi_flow.specs.Placement.{words_from};
 ghost use Rattle.cfi_flow.specs.Policy.{instruction_at};
 ghost use Rattle.cfi_graph.specs.Map.{IsMap};
 ghost use Rattle.src_machine.specs.Beginning.{Ends, IsBegun};
-ghost use Rattle.src_machine.specs.Placed.{AreAt, AreRead, EndsLast, instr_in};
+ghost use Rattle.src_machine.specs.Placed.{AreAt, AreRead, instr_in};
+ghost use Rattle.src_machine.specs.ProgramAt.{EndsLast};
 ghost use Rattle.cfi_flow.specs.Source.{source_start};
 ghost use Rattle.src_machine.specs.State.{source_in};
 

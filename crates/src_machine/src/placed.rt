@@ -5,7 +5,7 @@ ghost use Rattle.cfi_flow.specs.GraphAtMap.{gate, word};
 ghost use Rattle.cfi_flow.specs.Placement.{gate_size};
 ghost use Rattle.rv_word.specs.Layout.{version_1};
 ghost use Rattle.obj_program.specs.Sound.{IsSound};
-ghost use Rattle.src_machine.specs.Placed.{EndsLast};
+ghost use Rattle.src_machine.specs.ProgramAt.{EndsLast};
 ghost use Rattle.cfi_flow.specs.Source.{instr_here};
 ghost use Rattle.cfi_flow.specs.Untame.{if_reached, place_with_gate, reaches};
 
@@ -28,7 +28,8 @@ pub(crate) struct Placed<'a, 'b> {
 
 impl<'a, 'b> Model for Placed<'a, 'b> {
     ghost use Rattle.cfi_flow.specs.GraphAtMap.{Layout};
-    ghost use Rattle.src_machine.specs.Placed.{IsPlaced, layout_of};
+    ghost use Rattle.src_machine.specs.Placed.{IsPlaced};
+    ghost use Rattle.src_machine.specs.ProgramAt.{layout_of};
 
     ghost Value = { Layout };
 

@@ -1,6 +1,6 @@
 ghost use Rattle.std.specs.Prelude.{◌≡◌, ◌<◌, ◌+◌, ◌^◌, IfOk, OnErr};
 ghost use Rattle.rv_machine.specs.Parts.{shared_in};
-ghost use Rattle.src_machine.specs.Beginning.{IsStep, IsUnchanged, counted};
+ghost use Rattle.src_machine.specs.Running.{IsStep, IsUnchanged, counted};
 
 use crate::placed::Placed;
 use crate::state::State;
@@ -20,7 +20,7 @@ pub struct SourceRun<'a, 'b> {
 
 impl<'a, 'b> Model for SourceRun<'a, 'b> {
     ghost use Rattle.obj_program.specs.Program.{count};
-    ghost use Rattle.src_machine.specs.Beginning.{SourceParts};
+    ghost use Rattle.src_machine.specs.Running.{SourceParts};
     ghost use Rattle.src_machine.specs.State.{IsInside, source_in};
 
     ghost Value = { SourceParts };

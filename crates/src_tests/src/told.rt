@@ -2,7 +2,7 @@ ghost use Rattle.std.specs.Prelude.{◌≡◌, ◌+◌, ◌≤◌, true, is_some
 ghost use Rattle.rv_word.specs.Layout.{DATA_END, DATA_START};
 ghost use Rattle.obj_program.specs.DataAtMap.{init_size};
 ghost use Rattle.cfi_flow.specs.Policy.{instruction_at};
-ghost use Rattle.src_machine.specs.Placed.{EndsLast};
+ghost use Rattle.src_machine.specs.ProgramAt.{EndsLast};
 
 use cfi_flow::{Closed, close, entry_place, raw_graph};
 use cfi_graph::{Map, Policy, read_map};

@@ -1,6 +1,6 @@
 use Rattle.std.proofs.Common.{length, ◌∙◌, ap}
 use Rattle.cfi_flow.specs.Placement.{words_from}
-use Rattle.src_machine.proofs.Beginnings.{gates_counted, gates_small, is_placed, words_there}
+use Rattle.src_machine.proofs.Beginnings.{gates_small, is_placed, words_there}
 use Rattle.src_machine.proofs.begin.placed.Goals as goal
 
 pub words-requires : goal.words-requires
