@@ -28,19 +28,19 @@ pub enum Patch {
     RelativeLow(u64),
 }
 
-/// A place: an instruction's start, or the end of a section of code.
+/// A place: an instruction's start, or the end of a section of code. (Its larger fields stand first, so that none is padded.)
 #[derive(Clone, Copy)]
 pub struct Item {
-    /// The index of its section.
-    pub section: u32,
-    /// Where it stands in its section, in bytes.
-    pub offset: u64,
-    pub kind: ItemKind,
-    /// The instruction's word; of a pair that of its JALR, of an end 0.
-    pub word: u32,
     pub patch: Patch,
     /// The index of the place that a direct transfer goes to.
     pub target: Option<u64>,
+    /// Where it stands in its section, in bytes.
+    pub offset: u64,
+    /// The index of its section.
+    pub section: u32,
+    /// The instruction's word; of a pair that of its JALR, of an end 0.
+    pub word: u32,
+    pub kind: ItemKind,
     /// Whether a relocation takes the instruction's address.
     pub taken: bool,
 }
