@@ -1,5 +1,5 @@
-//! What holds of maps that are not legal. Each function states one law; nothing is computed.
-ghost use Rattle.src_machine.specs.Laws.{OneIsFirst, WrongIsNotLegal};
+//! What holds of maps and their first wrong lines. Each function states one law; nothing is computed.
+ghost use Rattle.src_machine.specs.Laws.{BeginsAsLegal, OneIsFirst, WrongIsNotLegal};
 
 /// A map with a wrong line is not legal.
 pub fn wrong_is_not_legal()
@@ -9,4 +9,9 @@ pub fn wrong_is_not_legal()
 /// The first wrong line of a map is one.
 pub fn one_is_first()
     ensures { OneIsFirst }
+{}
+
+/// The lines before the first wrong one are those of a legal map, and with that line they are no legal map's.
+pub fn begins_as_legal()
+    ensures { BeginsAsLegal }
 {}
