@@ -1,5 +1,5 @@
 -- How a run of a source machine begins, and why none does.
-use Rattle.std.specs.Prelude.{◌≡◌, ℕ, Bool, true, Some, None, is_some, List}
+use Rattle.std.specs.Prelude.{◌≡◌, ℕ, Some, None, List}
 use Rattle.cfi_graph.specs.declared.map.MapLine.{MapLine}
 use Rattle.obj_program.specs.Program.{Program}
 use Rattle.obj_program.specs.Range.{out_of_range}
@@ -14,10 +14,6 @@ use Rattle.cfi_flow.specs.Source.{source_start}
 use Rattle.src_machine.specs.declared.source_end.SourceEnd.{SourceEnd}
 use Rattle.src_machine.specs.declared.source_end.SourceEnd.TheVariants as ends
 
--- some value leaves its range at a map
-abbrev pub leaves_range : Program → ClosedGraph → List MapLine → Bool
-leaves_range program closed lines = is_some (out_of_range program (gates_of lines) (words_from closed.classes 0 (gates_of lines)))
-
 -- a run at a map that begins at the instruction with a section and an offset
 pub record IsBegun (program : Program) (closed : ClosedGraph) (lines : List MapLine) (section offset : ℕ) (input : List ℕ) (run : SourceParts) : Type 0 where
   pub legal : IsLegalMap program closed lines
@@ -30,5 +26,7 @@ pub record IsBegun (program : Program) (closed : ClosedGraph) (lines : List MapL
 -- why there is none
 abbrev pub Ends : Program → ClosedGraph → List MapLine → SourceEnd → Type 0
 Ends program closed lines (ends.BadMap number) = IsWrongLine program closed lines number
-Ends program closed lines ends.RelocRange = IsLegalMap program closed lines × (leaves_range program closed lines ≡ true)
+Ends program closed lines (ends.RelocRange section offset) =
+    IsLegalMap program closed lines
+    × (out_of_range program (gates_of lines) (words_from closed.classes 0 (gates_of lines)) ≡ Some (record { section = section; offset = offset }))
 Ends program closed lines ends.NoMemory = Unit {0}

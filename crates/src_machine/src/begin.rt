@@ -95,8 +95,8 @@ fn placed<'a, 'b>(
 {
     let gates = gates(alloc, lines)?;
     let words = words(alloc, closed, &gates)?;
-    if items.out_of_range(&gates, &words).is_some() {
-        return Err(SourceEnd::RelocRange);
+    if let Some(place) = items.out_of_range(&gates, &words) {
+        return Err(SourceEnd::RelocRange(place.section, place.offset));
     }
     let code = code(alloc, items, &gates, &words)?;
     Ok(Placed {

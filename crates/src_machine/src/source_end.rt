@@ -8,9 +8,9 @@ pub enum SourceEnd {
     /// The line with this number, from 1, is the first that is no legal placement's; that of `end` where lines are missing.
     #[error("line {0} of the map")]
     BadMap(u64),
-    /// A value leaves the range of its relocation.
-    #[error("relocation out of range")]
-    RelocRange,
+    /// A value leaves the range of the relocation at this section and offset, the first that does.
+    #[error("relocation out of range at {0} {1}")]
+    RelocRange(u32, u64),
     /// Memory could not be had.
     #[error("out of memory")]
     NoMemory,

@@ -28,7 +28,7 @@ static ROWS: [Row; 29] = [
     Row(Given(Source::Calling, 80, b"e7801200"), maps::P, b"", "exit 1 after 11"),
     Row(Given(Source::Calling, 80, b"e7802200"), maps::P, b"", "untame graph 1 16 after 4"),
     Row(Given(Source::Calling, 80, b"e7804200"), maps::P, b"", "untame graph 1 16 after 4"),
-    Row(Given(Source::Calling, 144, b"ffffff7f"), maps::P, b"", "range"),
+    Row(Given(Source::Calling, 144, b"ffffff7f"), maps::P, b"", "range 1 8"),
     Row(Given(Source::Calling, 0, b""), maps::NO_GATE_WORD, b"", "line 11"),
     Row(Given(Source::Recursive, 0, b""), maps::BRANCH_OF_12, b"", "line 6"),
     Row(Given(Source::Returning, 0, b""), maps::LATE, b"", "line 2"),

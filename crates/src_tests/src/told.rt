@@ -9,7 +9,7 @@ use cfi_graph::{Map, Policy, read_map};
 use obj_input::ItemKind;
 use obj_program::Items;
 use src_machine::{Reason, SourceEnd, SourceRun, SourceTurn};
-use std::alloc::Global;
+use std::alloc::{AllocError, Global};
 
 /// More steps than any program of the tests takes.
 const LIMIT: u64 = 100_000;
@@ -80,14 +80,21 @@ fn runs_so(alloc: Global, run: &mut SourceRun, output: &[u8], told: &str) -> boo
     stops_so(alloc, run, told) && run.machine().system().output().as_slice() == output
 }
 
+/// Whether a text is this one.
+fn is_text(text: Result<String, AllocError>, told: &str) -> bool {
+    match text {
+        Ok(text) => text.as_str() == told,
+        Err(_) => false,
+    }
+}
+
 /// Whether it is told why no run begins.
 fn ends_so(alloc: Global, end: SourceEnd, told: &str) -> bool {
     match end {
-        SourceEnd::BadMap(number) => match format!(in alloc; "line {number}") {
-            Ok(text) => text.as_str() == told,
-            Err(_) => false,
-        },
-        SourceEnd::RelocRange => told == "range",
+        SourceEnd::BadMap(number) => is_text(format!(in alloc; "line {number}"), told),
+        SourceEnd::RelocRange(section, offset) => {
+            is_text(format!(in alloc; "range {section} {offset}"), told)
+        }
         SourceEnd::NoMemory => false,
     }
 }
