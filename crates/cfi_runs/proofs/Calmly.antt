@@ -1,0 +1,46 @@
+-- Nothing happens from outside: the count of steps with that written out, and without.
+use Rattle.std.proofs.Common.{◌≡◌, ℕ, zero, suc, ◌≤◌, inl, inr, List, [], ◌∷◌, take, replicate, refl, sym, ap, subst, arith}
+use Rattle.std.proofs.lemmas.List.{take-replicate}
+use Rattle.rv_word.specs.Layout.{Profile}
+use Rattle.rv_code.specs.Continue.{continue}
+use Rattle.rv_code.specs.Run.{ByteChange}
+use Rattle.rv_code.specs.State.{Hart, Shared, After}
+use Rattle.rv_code.specs.Step.{step}
+use Rattle.rv_code.proofs.Within as told
+use Rattle.cfi_unit.specs.Between.{Unchanged}
+use Rattle.cfi_unit.specs.EffectLaw.{GoesOn}
+use Rattle.cfi_unit.proofs.EffectSteps.{before}
+use Rattle.cfi_runs.specs.Within.{Within}
+
+module _ (p : Profile) (Q R : After → Type 0) (weaker : (b : After) → Q b → R b) where
+  pub calmly : (n : ℕ) (a : After) → told.Within GoesOn Unchanged p n Q a → Within p n R a
+  calmly zero a q = weaker a q
+  calmly (suc n) a (inl q) = inl (weaker a q)
+  calmly (suc n) a (inr on) = inr (on.0, calmly n (step p a.hart a.shared) (on.1 a.shared refl))
+
+  pub from_first : (n : ℕ) (h : Hart) (s : Shared) → told.Onward GoesOn Unchanged p n Q (before h s) → Within p n R (step p h s)
+  from_first n h s on = calmly n (step p h s) (on.1 s refl)
+
+whatever : (p : Profile) (Q : After → Type 0) (n : ℕ) (a : After) → Within p n Q a → told.Within GoesOn Unchanged p n Q a
+whatever p Q zero a q = q
+whatever p Q (suc n) a (inl q) = inl q
+whatever p Q (suc n) a (inr on) =
+    inr (
+      on.0,
+      λ s t. subst (λ (x : Shared). told.Within GoesOn Unchanged p n Q (step p a.hart x)) (sym t) (whatever p Q n (step p a.hart a.shared) on.1),
+    )
+
+-- so a run that goes on from there comes to it
+pub record Reached (p : Profile) (n : ℕ) (Q : After → Type 0) (a : After) : Type 0 where
+  pub steps : ℕ
+  pub few : steps ≤ n
+  pub met : Q (continue p a (replicate steps []))
+
+pub reached : (p : Profile) (n : ℕ) (Q : After → Type 0) (a : After) → Within p n Q a → Reached p n Q a
+reached p n Q a q =
+    let c = told.comes_to_calmly GoesOn Unchanged p (λ b here. here) Q n a (λ s. refl) (whatever p Q n a q) in
+    record {
+      steps = c.steps;
+      few = c.few;
+      met = subst (λ (changes : List (List ByteChange)). Q (continue p a changes)) (take-replicate c.steps n [] c.few) c.met;
+    }

@@ -1,0 +1,2 @@
+pub mod Calmly
+pub mod UnitRuns

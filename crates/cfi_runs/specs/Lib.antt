@@ -1,0 +1,4 @@
+pub mod Within
+pub mod Passes
+pub mod StandsFor
+pub mod Laws

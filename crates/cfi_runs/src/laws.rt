@@ -1,0 +1,17 @@
+//! Each function states one law; nothing is computed.
+ghost use Rattle.cfi_runs.specs.Laws.{ClosingRuns, OpeningRuns, UnitRuns};
+
+/// A unit that passes on is left, within as many steps as it has words, as its row says.
+pub fn unit_runs()
+    ensures { UnitRuns }
+{}
+
+/// The opening is left to the entry.
+pub fn opening_runs()
+    ensures { OpeningRuns }
+{}
+
+/// The closing makes system call 93.
+pub fn closing_runs()
+    ensures { ClosingRuns }
+{}
