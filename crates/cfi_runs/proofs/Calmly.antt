@@ -44,3 +44,9 @@ reached p n Q a q =
       few = c.few;
       met = subst (λ (changes : List (List ByteChange)). Q (continue p a changes)) (take-replicate c.steps n [] c.few) c.met;
     }
+
+-- something weaker
+pub within_weaker : (p : Profile) (Q R : After → Type 0) → ((b : After) → Q b → R b) → (n : ℕ) (a : After) → Within p n Q a → Within p n R a
+within_weaker p Q R weaker zero a q = weaker a q
+within_weaker p Q R weaker (suc n) a (inl q) = inl (weaker a q)
+within_weaker p Q R weaker (suc n) a (inr on) = inr (on.0, within_weaker p Q R weaker n (step p a.hart a.shared) on.1)

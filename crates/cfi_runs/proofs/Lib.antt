@@ -1,2 +1,6 @@
 pub mod Calmly
 pub mod UnitRuns
+pub mod Same
+pub mod Alike
+pub mod AlikeCalls
+pub mod Matched

@@ -1,5 +1,5 @@
 //! Each function states one law; nothing is computed.
-ghost use Rattle.cfi_runs.specs.Laws.{ClosingRuns, OpeningRuns, UnitRuns};
+ghost use Rattle.cfi_runs.specs.Laws.{ClosingRuns, OpeningRuns, UnitKeepsMatch, UnitRuns};
 
 /// A unit that passes on is left, within as many steps as it has words, as its row says.
 pub fn unit_runs()
@@ -14,4 +14,10 @@ pub fn opening_runs()
 /// The closing makes system call 93.
 pub fn closing_runs()
     ensures { ClosingRuns }
+{}
+
+/// A tame step of the program's own is matched: within as many steps as the unit has words the machine
+/// has the same registers, data, input, output and system calls, and stands where the program does.
+pub fn unit_keeps_match()
+    ensures { UnitKeepsMatch }
 {}
