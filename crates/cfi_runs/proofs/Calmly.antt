@@ -1,11 +1,13 @@
 -- Nothing happens from outside: the count of steps with that written out, and without.
-use Rattle.std.proofs.Common.{◌≡◌, ℕ, zero, suc, ◌≤◌, inl, inr, List, [], ◌∷◌, take, replicate, refl, sym, ap, subst, arith}
+use Rattle.std.proofs.Common.{◌≡◌, ℕ, zero, suc, ◌+◌, ◌≤◌, inl, inr, List, [], ◌∷◌, take, replicate, refl, sym, ap, subst, arith}
 use Rattle.std.proofs.lemmas.List.{take-replicate}
 use Rattle.rv_word.specs.Layout.{Profile}
 use Rattle.rv_code.specs.Continue.{continue}
 use Rattle.rv_code.specs.Run.{ByteChange}
 use Rattle.rv_code.specs.State.{Hart, Shared, After}
-use Rattle.rv_code.specs.Step.{step}
+use Rattle.rv_code.specs.Step.{step, stops}
+use Rattle.rv_code.specs.declared.turn.Turn.{Turn}
+use Rattle.rv_code.specs.declared.turn.Turn.TheVariants.{Ran}
 use Rattle.rv_code.proofs.Within as told
 use Rattle.cfi_unit.specs.Between.{Unchanged}
 use Rattle.cfi_unit.specs.EffectLaw.{GoesOn}
@@ -50,3 +52,24 @@ pub within_weaker : (p : Profile) (Q R : After → Type 0) → ((b : After) → 
 within_weaker p Q R weaker zero a q = weaker a q
 within_weaker p Q R weaker (suc n) a (inl q) = inl (weaker a q)
 within_weaker p Q R weaker (suc n) a (inr on) = inr (on.0, within_weaker p Q R weaker n (step p a.hart a.shared) on.1)
+
+-- in more steps
+pub within_more : (p : Profile) (Q : After → Type 0) (m n : ℕ) (a : After) → m ≤ n → Within p m Q a → Within p n Q a
+within_more p Q zero zero a few q = q
+within_more p Q zero (suc n) a few q = inl q
+within_more p Q (suc m) zero a few q = absurd (omega arith)
+within_more p Q (suc m) (suc n) a few (inl q) = inl q
+within_more p Q (suc m) (suc n) a few (inr on) = inr (on.0, within_more p Q m n (step p a.hart a.shared) (omega arith) on.1)
+
+-- one part, then another
+pub within_then : (p : Profile) (R Q : After → Type 0) (m n : ℕ) (a : After) → Within p m R a → ((b : After) → R b → Within p n Q b) →
+    Within p (m + n) Q a
+within_then p R Q zero n a r next = within_more p Q n (zero + n) a (omega arith) (next a r)
+within_then p R Q (suc m) n a (inl r) next = within_more p Q n (suc m + n) a (omega arith) (next a r)
+within_then p R Q (suc m) n a (inr on) next =
+    let e : suc (m + n) ≡ suc m + n = omega arith in
+    subst (λ (j : ℕ). Within p j Q a) e (inr (on.0, within_then p R Q m n (step p a.hart a.shared) on.1 next))
+
+-- a state from which the run goes on, as one that begins
+pub within_going : (p : Profile) (Q : After → Type 0) (n : ℕ) (a : After) → a.turn ≡ Ran → Within p n Q (stops a.hart a.shared Ran) → Within p n Q a
+within_going p Q n a going q = subst (λ (turn : Turn). Within p n Q (stops a.hart a.shared turn)) (sym going) q

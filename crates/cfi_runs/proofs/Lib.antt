@@ -4,3 +4,5 @@ pub mod Same
 pub mod Alike
 pub mod AlikeCalls
 pub mod Matched
+pub mod Paths
+pub mod Ends

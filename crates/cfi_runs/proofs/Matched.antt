@@ -15,6 +15,7 @@ use Rattle.rv_instr.specs.declared.instr.StoreOp.TheVariants.{Sb, Sh, Sw, Sd}
 use Rattle.rv_code.specs.Arithmetic.{branch_taken, store_size}
 use Rattle.rv_code.specs.State.{Hart, Shared, After}
 use Rattle.rv_code.specs.Step.{exec, ran, step}
+use Rattle.rv_code.specs.declared.turn.Turn.TheVariants.{Ran}
 use Rattle.rv_code.proofs.Frames.{write_outside}
 use Rattle.cfi_unit.specs.declared.unit.Unit as U
 use Rattle.cfi_unit.specs.declared.unit.Unit.TheVariants as V
@@ -22,16 +23,18 @@ use Rattle.cfi_unit.specs.declared.unit.SystemOp.TheVariants as S
 use Rattle.cfi_unit.specs.UnitWords.{Fits, word_count}
 use Rattle.cfi_unit.specs.Shadow.{slot, MOST_PENDING}
 use Rattle.cfi_unit.specs.Between.{Unchanged}
+use Rattle.cfi_unit.specs.UnitLaw.{ReturnsTo}
 use Rattle.cfi_unit.specs.Leads.{HasLabel, sum_of, destination}
 use Rattle.cfi_unit.specs.Leaving.{SameRegisters, LeftTo, Executes, pushed, with_memory}
 use Rattle.cfi_unit.specs.EffectLaw.{Enters}
 use Rattle.cfi_unit.proofs.EffectSteps.{same_link}
 use Rattle.cfi_unit.proofs.Regions.{can_store_data, store_size-small}
-use Rattle.cfi_runs.specs.Laws as law
-use Rattle.cfi_runs.specs.Matching.{SameData, MatchesAfter}
-use Rattle.cfi_runs.specs.OwnStep.{OwnAfter, computed, executes, own_step}
+use Rattle.cfi_runs.specs.MatchLaws as law
+use Rattle.cfi_runs.specs.Matching.{SameData, Matches, MatchesAfter}
+use Rattle.cfi_runs.specs.Own.{Own, OwnAfter, calls, computed, executes, goes, own_step, returns}
+use Rattle.cfi_runs.specs.OwnRuns.{SitesFit}
 use Rattle.cfi_runs.specs.Passes.{Passes}
-use Rattle.cfi_runs.specs.StandsFor.{StandsFor}
+use Rattle.cfi_runs.specs.StandsFor.{StandsFor, StandsPast, Called}
 use Rattle.cfi_runs.specs.Tame.{IsTame, NamesNoReserved, touched}
 use Rattle.cfi_runs.proofs.Alike.{AlikeAfter, sum_same, is_self, or_first, or_second, plain_alike, break_alike}
 use Rattle.cfi_runs.proofs.AlikeCalls.{call_alike}
@@ -57,56 +60,69 @@ not_scratch k free e = let is : is_reserved k ≡ true = ap is_reserved e in cc
 
 module _ (part : ℕ) (image base : Memory) where
   -- a unit that is left to an address
-  left_matches : (next next' : ℕ) (newer : List ℕ) (r regs : Registers) (t s : Shared) → next' ≡ next → SameRegisters r regs → SameData t s →
-      (after : After) → LeftTo part image base next' newer regs (Unchanged s) after →
-      MatchesAfter part image base (record { after = ran next r t; pending = newer }) after
-  left_matches next next' newer r regs t s e same alike after left = record {
-    turn = left.turn;
-    shared = subst (λ (x : Shared). SameData t x) (sym left.shared) alike;
-    pc = λ ran. left.pc ∙ e;
-    regs = same_trans r regs after.hart.regs same left.regs;
-    pointer = λ ran. left.pointer;
-    context = λ ran. left.context;
-  }
-
-  -- a unit that is one instruction of the program's
-  executed_matches : (p : Profile) (instr : Instr) (own h : Hart) (t s : Shared) (pending : List ℕ) (past : ℕ) → past ≡ h.pc + 4 →
-      h.regs 3 ≡ slot part (length pending) → AlikeAfter (exec p instr own t) (exec p instr h s) →
-      (after : After) → Executes p part image base instr pending h (Unchanged s) after →
-      MatchesAfter part image base (executes p own t instr past pending) after
-  executed_matches p instr own h t s pending past next x3 alike after does =
-      let e : after ≡ exec p instr h s = does.executed ∙ ap (exec p instr h) does.may_see in
-      let turn : after.turn ≡ (exec p instr own t).turn = ap (λ (a : After). a.turn) e ∙ alike.turn in
+  left_matches : (o : Own) (next : ℕ) (regs : Registers) (s : Shared) → next ≡ o.pc → SameRegisters o.regs regs → SameData o.shared s →
+      (after : After) → LeftTo part image base next o.pending regs (Unchanged s) after →
+      MatchesAfter part image base (record { state = o; turn = Ran }) after
+  left_matches o next regs s e same alike after left =
+      let shared = subst (λ (x : Shared). SameData o.shared x) (sym left.shared) alike in
       record {
-        turn = turn;
-        shared = subst (λ (a : After). SameData (exec p instr own t).shared a.shared) (sym e) alike.shared;
-        pc = λ ran. does.pc (turn ∙ ran) ∙ sym next;
-        regs = subst (λ (a : After). SameRegisters (exec p instr own t).hart.regs a.hart.regs) (sym e) alike.regs;
-        pointer = λ ran. does.pointer ∙ x3;
-        context = λ ran. does.context (turn ∙ ran);
+        turn = left.turn;
+        shared = shared;
+        going = λ ran. record {
+          pc = left.pc ∙ e;
+          regs = same_trans o.regs regs after.hart.regs same left.regs;
+          shared = shared;
+          pointer = left.pointer;
+          context = left.context;
+        };
       }
 
-module _ (p : Profile) (part : ℕ) (image base : Memory) (at : ℕ) (pending : List ℕ) (r : Registers) (t : Shared) (h : Hart) (s : Shared) (low : SHADOW_START ≤ part) (x3 : h.regs 3 ≡ slot part (length pending)) (here : h.pc ≡ at) (same : SameRegisters r h.regs) (alike : SameData t s) where
-  abbrev own : Hart
-  own = record { pc = at; regs = r }
+  -- a unit that is one instruction of the program's
+  executed_matches : (p : Profile) (instr : Instr) (o : Own) (past : ℕ) (h : Hart) (s : Shared) → past ≡ h.pc + 4 →
+      h.regs 3 ≡ slot part (length o.pending) → AlikeAfter (exec p instr (record { pc = o.pc; regs = o.regs }) o.shared) (exec p instr h s) →
+      (after : After) → Executes p part image base instr o.pending h (Unchanged s) after →
+      MatchesAfter part image base (executes p o instr o.regs past) after
+  executed_matches p instr o past h s next x3 alike after does =
+      let own = exec p instr (record { pc = o.pc; regs = o.regs }) o.shared in
+      let e : after ≡ exec p instr h s = does.executed ∙ ap (exec p instr h) does.may_see in
+      let turn : after.turn ≡ own.turn = ap (λ (a : After). a.turn) e ∙ alike.turn in
+      let shared = subst (λ (a : After). SameData own.shared a.shared) (sym e) alike.shared in
+      record {
+        turn = turn;
+        shared = shared;
+        going = λ ran. record {
+          pc = does.pc (turn ∙ ran) ∙ sym next;
+          regs = subst (λ (a : After). SameRegisters own.hart.regs a.hart.regs) (sym e) alike.regs;
+          shared = shared;
+          pointer = does.pointer ∙ x3;
+          context = does.context (turn ∙ ran);
+        };
+      }
 
-  sum_here : (rs1 imm : ℕ) → is_reserved rs1 ≡ false → sum_of h.regs rs1 imm ≡ sum_of r rs1 imm
-  sum_here rs1 imm free = sum_same r h.regs rs1 imm free same
+module _ (p : Profile) (part : ℕ) (image base : Memory) (o : Own) (h : Hart) (s : Shared) (low : SHADOW_START ≤ part) (m : Matches part image base o h s) where
+  same : SameRegisters o.regs h.regs
+  same = m.regs
+
+  alike : SameData o.shared s
+  alike = m.shared
+
+  sum_here : (rs1 imm : ℕ) → is_reserved rs1 ≡ false → sum_of h.regs rs1 imm ≡ sum_of o.regs rs1 imm
+  sum_here rs1 imm free = sum_same o.regs h.regs rs1 imm free same
 
   -- a gate's address is a multiple of 4
-  computed_here : (rs1 imm label : ℕ) → is_reserved rs1 ≡ false → HasLabel image label (computed r rs1 imm) →
-      destination h.regs rs1 imm ≡ computed r rs1 imm
+  computed_here : (rs1 imm label : ℕ) → is_reserved rs1 ≡ false → HasLabel image label (computed o.regs rs1 imm) →
+      destination h.regs rs1 imm ≡ computed o.regs rs1 imm
   computed_here rs1 imm label free has = let e = sum_here rs1 imm free in let round = has.round in omega arith
 
-  bears : (rs1 imm label : ℕ) → is_reserved rs1 ≡ false → HasLabel image label (computed r rs1 imm) →
+  bears : (rs1 imm label : ℕ) → is_reserved rs1 ≡ false → HasLabel image label (computed o.regs rs1 imm) →
       HasLabel image label (destination h.regs rs1 imm)
   bears rs1 imm label free has = subst (HasLabel image label) (sym (computed_here rs1 imm label free has)) has
 
-  returns : (sites : List ℕ) → IsTame image V.Return sites r → Passes image V.Return sites h.regs
-  returns [] tame = tame
-  returns (site ∷ sites) tame = same.same 1 refl ∙ tame
+  returns_so : (sites : List ℕ) → IsTame image V.Return sites o.regs → Passes image V.Return sites h.regs
+  returns_so [] tame = tame
+  returns_so (site ∷ sites) tame = same.same 1 refl ∙ tame
 
-  pub passes : (unit : U.Unit) → NamesNoReserved unit → IsTame image unit pending r → Passes image unit pending h.regs
+  passes : (unit : U.Unit) → NamesNoReserved unit → IsTame image unit o.pending o.regs → Passes image unit o.pending h.regs
   passes (V.Gate label) free tame = tt
   passes (V.Plain instr) free tame = tt
   passes (V.Branch op rs1 rs2 target) free tame = tt
@@ -120,87 +136,117 @@ module _ (p : Profile) (part : ℕ) (image base : Memory) (at : ℕ) (pending : 
   passes (V.Call target) free tame = tame
   passes (V.Ijump rs1 imm label) free tame = bears rs1 imm label (free rs1 (is_self rs1)) tame
   passes (V.Icall rs1 imm label) free tame = (bears rs1 imm label (free rs1 (is_self rs1)) tame.0, tame.1)
-  passes V.Return free tame = returns pending tame
+  passes V.Return free tame = returns_so o.pending tame
 
   taken_here : (op : BranchOp) (rs1 rs2 : ℕ) → is_reserved rs1 ≡ false → is_reserved rs2 ≡ false →
-      branch_taken op (get_reg h.regs rs1) (get_reg h.regs rs2) ≡ branch_taken op (get_reg r rs1) (get_reg r rs2)
+      branch_taken op (get_reg h.regs rs1) (get_reg h.regs rs2) ≡ branch_taken op (get_reg o.regs rs1) (get_reg o.regs rs2)
   taken_here op rs1 rs2 free1 free2 =
-      ap (λ (x : ℕ). branch_taken op x (get_reg h.regs rs2)) (get_same r h.regs rs1 free1 same)
-      ∙ ap (branch_taken op (get_reg r rs1)) (get_same r h.regs rs2 free2 same)
+      ap (λ (x : ℕ). branch_taken op x (get_reg h.regs rs2)) (get_same o.regs h.regs rs1 free1 same)
+      ∙ ap (branch_taken op (get_reg o.regs rs1)) (get_same o.regs h.regs rs2 free2 same)
 
-  own_store : (op : StoreOp) (rs1 rs2 imm past : ℕ) → sum_of r rs1 imm < 2 ^ 28 →
-      executes p own t (Store op rs1 rs2 imm) past pending ≡
-      record { after = ran past r (with_memory t (write (store_size op) t.memory (sum_of r rs1 imm) (get_reg r rs2))); pending = pending }
+  -- the program's memory after its own store
+  abbrev stored : StoreOp → ℕ → ℕ → ℕ → Shared
+  stored op rs1 rs2 imm = with_memory o.shared (write (store_size op) o.shared.memory (sum_of o.regs rs1 imm) (get_reg o.regs rs2))
+
+  own_store : (op : StoreOp) (rs1 rs2 imm past : ℕ) → sum_of o.regs rs1 imm < 2 ^ 28 →
+      executes p o (Store op rs1 rs2 imm) o.regs past ≡ record { state = record o { pc = past; shared = stored op rs1 rs2 imm }; turn = Ran }
   own_store op rs1 rs2 imm past below =
-      let can = can_store_data p (sum_of r rs1 imm) (store_size op) below (store_size-small op) in rw can refl
+      let can = can_store_data p (sum_of o.regs rs1 imm) (store_size op) below (store_size-small op) in rw can refl
 
   stored_here : (op : StoreOp) (rs1 rs2 imm : ℕ) → is_reserved rs1 ≡ false → is_reserved rs2 ≡ false →
-      SameData (with_memory t (write (store_size op) t.memory (sum_of r rs1 imm) (get_reg r rs2)))
-      (with_memory s (write (store_size op) s.memory (sum_of h.regs rs1 imm) (get_reg h.regs rs2)))
+      SameData (stored op rs1 rs2 imm) (with_memory s (write (store_size op) s.memory (sum_of h.regs rs1 imm) (get_reg h.regs rs2)))
   stored_here op rs1 rs2 imm free1 free2 =
       let n = store_size op in
-      data_written t s _ _ alike
+      data_written o.shared s _ _ alike
       (λ a low.
       ap (λ (x : ℕ). write n s.memory x (get_reg h.regs rs2) a) (sum_here rs1 imm free1)
-      ∙ ap (λ (v : ℕ). write n s.memory (sum_of r rs1 imm) v a) (get_same r h.regs rs2 free2 same)
-      ∙ write_alike n t.memory s.memory (sum_of r rs1 imm) (get_reg r rs2) alike.memory a low)
+      ∙ ap (λ (v : ℕ). write n s.memory (sum_of o.regs rs1 imm) v a) (get_same o.regs h.regs rs2 free2 same)
+      ∙ write_alike n o.shared.memory s.memory (sum_of o.regs rs1 imm) (get_reg o.regs rs2) alike.memory a low)
 
-  pushed_here : (site : ℕ) → SameData t (pushed part (length pending) site s)
+  pushed_here : (site : ℕ) → SameData o.shared (pushed part (length o.pending) site s)
   pushed_here site = record {
-    memory = λ a below. write_outside 8 s.memory (slot part (length pending)) site a (inl (omega arith)) ∙ alike.memory a below;
+    memory = λ a below. write_outside 8 s.memory (slot part (length o.pending)) site a (inl (omega arith)) ∙ alike.memory a below;
     left = alike.left;
     output = alike.output;
     events = alike.events;
   }
 
   -- the instruction at the unit's address, where AUIPC is executed
-  at_here : (instr : Instr) → AlikeAfter (exec p instr (record { pc = h.pc; regs = r }) t) (exec p instr h s) →
-      AlikeAfter (exec p instr own t) (exec p instr h s)
-  at_here instr = subst (λ (x : ℕ). AlikeAfter (exec p instr (record { pc = x; regs = r }) t) (exec p instr h s)) here
+  at_here : (instr : Instr) → AlikeAfter (exec p instr (record { pc = h.pc; regs = o.regs }) o.shared) (exec p instr h s) →
+      AlikeAfter (exec p instr (record { pc = o.pc; regs = o.regs }) o.shared) (exec p instr h s)
+  at_here instr = subst (λ (x : ℕ). AlikeAfter (exec p instr (record { pc = x; regs = o.regs }) o.shared) (exec p instr h s)) m.pc
 
-  returned : (after : After) (sites : List ℕ) → StandsFor p part image base h s V.Return at sites after →
-      MatchesAfter part image base (own_step p V.Return at sites r t) after
-  returned after [] does = absurd does
-  returned after (site ∷ sites) does = left_matches part image base site site sites r h.regs t s refl same alike after does
+  goes_so : (next next' : ℕ) → next' ≡ next → (after : After) → LeftTo part image base next' o.pending h.regs (Unchanged s) after →
+      MatchesAfter part image base (goes p o next) after
+  goes_so next next' e = left_matches part image base (record o { pc = next }) next' h.regs s e same alike
 
-  row : (unit : U.Unit) → Fits unit at → NamesNoReserved unit → IsTame image unit pending r → (after : After) →
-      StandsFor p part image base h s unit at pending after → MatchesAfter part image base (own_step p unit at pending r t) after
-  row (V.Gate label) fits free tame after does = left_matches part image base _ _ pending r h.regs t s refl same alike after does
+  calls_so : (target target' site : ℕ) → target' ≡ target → (after : After) → Called p part image base h s target' site o.pending after →
+      MatchesAfter part image base (calls p o target site) after
+  calls_so target target' site e =
+      left_matches part image base (record o { pc = target; regs = set_reg o.regs 1 site; pending = site ∷ o.pending }) target' _ _ e
+      (same_link o.regs h.regs site site refl same) (pushed_here site)
+
+  returned : (past : ℕ) (sites : List ℕ) (after : After) → StandsPast p part image base h s V.Return past sites after →
+      MatchesAfter part image base (returns p o sites) after
+  returned past [] after does = absurd does
+  returned past (site ∷ sites) after does =
+      left_matches part image base (record o { pc = site; pending = sites }) site h.regs s refl same alike after does
+
+  row : (unit : U.Unit) → Fits unit o.pc → NamesNoReserved unit → IsTame image unit o.pending o.regs → (after : After) →
+      StandsFor p part image base h s unit o.pc o.pending after → MatchesAfter part image base (own_step p o unit) after
+  row (V.Gate label) fits free tame after does = goes_so _ _ refl after does
   row (V.Plain instr) fits free tame after does =
-      executed_matches part image base p instr own h t s pending _ (omega arith) x3
-      (at_here instr (plain_alike p r t h s same alike instr fits.1 free tame)) after does
+      let e = m.pc in
+      executed_matches part image base p instr o _ h s (omega arith) m.pointer
+      (at_here instr (plain_alike p o.regs o.shared h s same alike instr fits.1 free tame)) after does
   row (V.Branch op rs1 rs2 target) fits free tame after does =
-      left_matches part image base _ _ pending r h.regs t s
-      (ap (λ (b : Bool). if b then at + 8 else target) (taken_here op rs1 rs2 (first_free rs1 rs2 free) (second_free rs1 rs2 free)))
-      same alike after does
+      goes_so _ _
+      (ap (λ (b : Bool). if b then o.pc + 8 else target) (taken_here op rs1 rs2 (first_free rs1 rs2 free) (second_free rs1 rs2 free)))
+      after does
   row (V.Near op rs1 rs2 target) fits free tame after does =
-      left_matches part image base _ _ pending r h.regs t s
-      (ap (λ (b : Bool). if b then target else at + 4) (taken_here op rs1 rs2 (first_free rs1 rs2 free) (second_free rs1 rs2 free)))
-      same alike after does
-  row (V.Jump target) fits free tame after does = left_matches part image base _ _ pending r h.regs t s refl same alike after does
+      goes_so _ _
+      (ap (λ (b : Bool). if b then target else o.pc + 4) (taken_here op rs1 rs2 (first_free rs1 rs2 free) (second_free rs1 rs2 free)))
+      after does
+  row (V.Jump target) fits free tame after does = goes_so _ _ refl after does
   row V.Stop fits free tame after does = absurd tame
   row (V.System S.Ecall) fits free tame after does =
-      executed_matches part image base p Ecall own h t s pending _ (omega arith) x3 (at_here Ecall (call_alike r h same t s alike)) after does
+      let e = m.pc in
+      executed_matches part image base p Ecall o _ h s (omega arith) m.pointer (at_here Ecall (call_alike o.regs h same o.shared s alike)) after does
   row (V.System S.Ebreak) fits free tame after does =
-      executed_matches part image base p Ebreak own h t s pending _ (omega arith) x3 (at_here Ebreak (break_alike p r t h s same alike)) after does
+      let e = m.pc in
+      executed_matches part image base p Ebreak o _ h s (omega arith) m.pointer
+      (at_here Ebreak (break_alike p o.regs o.shared h s same alike)) after does
   row (V.Store op rs1 rs2 imm) fits free tame after does =
       let some = size_some op in
-      subst (λ (o : OwnAfter). MatchesAfter part image base o after) (sym (own_store op rs1 rs2 imm (at + 16) (omega arith)))
-      (left_matches part image base _ _ pending r h.regs _ _ refl same
+      subst (λ (a : OwnAfter). MatchesAfter part image base a after) (sym (own_store op rs1 rs2 imm (o.pc + 16) (omega arith)))
+      (left_matches part image base (record o { pc = o.pc + 16; shared = stored op rs1 rs2 imm }) _ _ _ refl same
       (stored_here op rs1 rs2 imm (first_free rs1 rs2 free) (second_free rs1 rs2 free)) after does)
-  row (V.Call target) fits free tame after does =
-      left_matches part image base _ _ _ _ _ t _ refl (same_link r h.regs (at + 32) (at + 32) refl same) (pushed_here (at + 32)) after does
-  row (V.Ijump rs1 imm label) fits free tame after does =
-      left_matches part image base _ _ pending r h.regs t s (computed_here rs1 imm label (free rs1 (is_self rs1)) tame) same alike after does
+  row (V.Call target) fits free tame after does = calls_so _ _ _ refl after does
+  row (V.Ijump rs1 imm label) fits free tame after does = goes_so _ _ (computed_here rs1 imm label (free rs1 (is_self rs1)) tame) after does
   row (V.Icall rs1 imm label) fits free tame after does =
-      left_matches part image base _ _ _ _ _ t _ (computed_here rs1 imm label (free rs1 (is_self rs1)) tame.0)
-      (same_link r h.regs (at + 80) (at + 80) refl same) (pushed_here (at + 80)) after does
-  row V.Return fits free tame after does = returned after pending does
+      calls_so _ _ _ (computed_here rs1 imm label (free rs1 (is_self rs1)) tame.0) after does
+  row V.Return fits free tame after does = returned (o.pc + 20) o.pending after does
+
+-- the newest site is an instruction's address
+returns_to : (pending : List ℕ) → SitesFit pending → ReturnsTo pending
+returns_to [] fit = tt
+returns_to (site ∷ pending) fit = fit.each.0
 
 pub unit_keeps_match : law.UnitKeepsMatch
-unit_keeps_match p part image base unit at pending r t h s i same alike free tame =
-    let own = i.own in
-    within_weaker p (StandsFor p part image base h s unit at pending) (MatchesAfter part image base (own_step p unit at pending r t))
-    (row p part image base at pending r t h s (own.low) i.pointer i.pc same alike unit i.may_stand.0 free tame)
+unit_keeps_match p part image base unit o h s own bytes fit step_is m =
+    let i : Enters p part image base unit o.pc o.pending h s = record {
+      own = own;
+      bytes = bytes;
+      may_stand = (step_is.fits, returns_to o.pending fit);
+      some = step_is.some;
+      most = fit.most;
+      stands = step_is.stands;
+      context = m.context;
+      pc = m.pc;
+      pointer = m.pointer;
+    } in
+    within_weaker p (StandsFor p part image base h s unit o.pc o.pending) (MatchesAfter part image base (own_step p o unit))
+    (row p part image base o h s own.low m unit step_is.fits step_is.free step_is.tame)
     (word_count unit - 1) (step p h s)
-    (unit_runs p part image base unit at pending h s i (passes p part image base at pending r t h s (own.low) i.pointer i.pc same alike unit free tame))
+    (unit_runs p part image base unit o.pc o.pending h s i
+    (passes p part image base o h s own.low m unit step_is.free step_is.tame))

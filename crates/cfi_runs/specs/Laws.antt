@@ -4,7 +4,6 @@
 use Rattle.std.specs.Prelude.{ℕ, ◌-◌, List, length}
 use Rattle.rv_word.specs.Layout.{Profile, SHADOW_START}
 use Rattle.rv_word.specs.Memory.{Memory}
-use Rattle.rv_instr.specs.Registers.{Registers}
 use Rattle.rv_code.specs.State.{Hart, Shared, After}
 use Rattle.rv_code.specs.Step.{step}
 use Rattle.cfi_unit.specs.declared.unit.Unit as U
@@ -13,11 +12,7 @@ use Rattle.cfi_unit.specs.Prologue.{opening_instrs, closing_instrs}
 use Rattle.cfi_unit.specs.Between.{Unchanged}
 use Rattle.cfi_unit.specs.EffectLaw.{Enters}
 use Rattle.cfi_unit.specs.PrologueEffect.{OpeningDoes, ClosingDoes, EntersOpening, EntersClosing}
-use Rattle.cfi_runs.specs.Tame.{IsTame, NamesNoReserved}
 use Rattle.cfi_runs.specs.Within.{Within}
-use Rattle.cfi_unit.specs.Leaving.{SameRegisters}
-use Rattle.cfi_runs.specs.Matching.{SameData, MatchesAfter}
-use Rattle.cfi_runs.specs.OwnStep.{own_step}
 use Rattle.cfi_runs.specs.Passes.{Passes}
 use Rattle.cfi_runs.specs.StandsFor.{StandsFor}
 
@@ -37,12 +32,3 @@ ClosingRuns =
     (p : Profile) (part : ℕ) (image base : Memory) (at : ℕ) (pending : List ℕ) (h : Hart) (s : Shared) →
     EntersClosing p part image base at pending h s →
     Within p (length closing_instrs - 1) (ClosingDoes p Unchanged h s) (step p h s)
-
--- so a step of the program's own, from a state that the machine's matches at the unit's first word, is
--- matched within the unit's words
-abbrev pub UnitKeepsMatch : Type 0
-UnitKeepsMatch =
-    (p : Profile) (part : ℕ) (image base : Memory) (unit : U.Unit) (at : ℕ) (pending : List ℕ) (r : Registers) (t : Shared) (h : Hart) (s : Shared) →
-    Enters p part image base unit at pending h s → SameRegisters r h.regs → SameData t s →
-    NamesNoReserved unit → IsTame image unit pending r →
-    Within p (word_count unit - 1) (MatchesAfter part image base (own_step p unit at pending r t)) (step p h s)

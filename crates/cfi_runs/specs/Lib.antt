@@ -1,7 +1,9 @@
 pub mod Within
 pub mod Passes
 pub mod StandsFor
-pub mod OwnStep
+pub mod Laws
+pub mod Own
 pub mod Tame
 pub mod Matching
-pub mod Laws
+pub mod OwnRuns
+pub mod MatchLaws

@@ -1,6 +1,6 @@
--- Where the program's own step is one that its unit keeps: it stays in the window of data, [0, 2 ^ 28),
--- calls no deeper than the shadow stack, goes to a gate of its class, returns to its newest site; and
--- it names no register that units keep for themselves.
+-- Which steps of the program's own its units keep: those that stay in the window of data, [0, 2 ^ 28),
+-- call no deeper than the shadow stack, go to a gate of their class and return to their newest site,
+-- and name no register that units keep for themselves.
 use Rattle.std.specs.Prelude.{◌≡◌, ℕ, ◌+◌, ◌^◌, ◌≤◌, ◌<◌, ◌==◌, ◌||◌, Bool, true, false, List, [], ◌∷◌, length}
 use Rattle.rv_word.specs.Memory.{Memory}
 use Rattle.rv_instr.specs.Operands.{names}
@@ -11,9 +11,11 @@ use Rattle.rv_instr.specs.declared.instr.Instr.TheVariants.{Load, Store}
 use Rattle.rv_code.specs.Arithmetic.{load_size, store_size}
 use Rattle.cfi_unit.specs.declared.unit.Unit as U
 use Rattle.cfi_unit.specs.declared.unit.Unit.TheVariants as V
+use Rattle.cfi_unit.specs.UnitWords.{Fits, instrs_of}
 use Rattle.cfi_unit.specs.Shadow.{MOST_PENDING}
+use Rattle.cfi_unit.specs.Stand.{Stand}
 use Rattle.cfi_unit.specs.Leads.{HasLabel, sum_of}
-use Rattle.cfi_runs.specs.OwnStep.{computed}
+use Rattle.cfi_runs.specs.Own.{Own, computed}
 
 -- the end of the bytes that a load or a store touches
 abbrev pub touched : Instr → Registers → ℕ
@@ -48,3 +50,11 @@ own_names other k = false
 
 abbrev pub NamesNoReserved : U.Unit → Type 0
 NamesNoReserved unit = (k : ℕ) → own_names unit k ≡ true → is_reserved k ≡ false
+
+-- a unit whose words stand at the pc takes a tame step; something is pending until the closing is reached
+pub record TameStep (image : Memory) (unit : U.Unit) (o : Own) : Type 0 where
+  pub fits : Fits unit o.pc
+  pub stands : Stand image o.pc (instrs_of unit o.pc)
+  pub free : NamesNoReserved unit
+  pub some : 0 < length o.pending
+  pub tame : IsTame image unit o.pending o.regs

@@ -1,5 +1,6 @@
 //! Each function states one law; nothing is computed.
-ghost use Rattle.cfi_runs.specs.Laws.{ClosingRuns, OpeningRuns, UnitKeepsMatch, UnitRuns};
+ghost use Rattle.cfi_runs.specs.Laws.{ClosingRuns, OpeningRuns, UnitRuns};
+ghost use Rattle.cfi_runs.specs.MatchLaws.{ClosingKeepsMatch, OpeningKeepsMatch, PathKeepsMatch, UnitKeepsMatch};
 
 /// A unit that passes on is left, within as many steps as it has words, as its row says.
 pub fn unit_runs()
@@ -20,4 +21,19 @@ pub fn closing_runs()
 /// has the same registers, data, input, output and system calls, and stands where the program does.
 pub fn unit_keeps_match()
     ensures { UnitKeepsMatch }
+{}
+
+/// So is a path of tame steps.
+pub fn path_keeps_match()
+    ensures { PathKeepsMatch }
+{}
+
+/// After the opening the machine matches the program's own start.
+pub fn opening_keeps_match()
+    ensures { OpeningKeepsMatch }
+{}
+
+/// The closing ends the run as the program's own end does.
+pub fn closing_keeps_match()
+    ensures { ClosingKeepsMatch }
 {}
