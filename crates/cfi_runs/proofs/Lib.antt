@@ -6,3 +6,4 @@ pub mod AlikeCalls
 pub mod Matched
 pub mod Paths
 pub mod Ends
+pub mod WholeRun

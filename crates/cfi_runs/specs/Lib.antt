@@ -7,3 +7,4 @@ pub mod Tame
 pub mod Matching
 pub mod OwnRuns
 pub mod MatchLaws
+pub mod WholeRun

@@ -1,6 +1,7 @@
 //! Each function states one law; nothing is computed.
 ghost use Rattle.cfi_runs.specs.Laws.{ClosingRuns, OpeningRuns, UnitRuns};
 ghost use Rattle.cfi_runs.specs.MatchLaws.{ClosingKeepsMatch, OpeningKeepsMatch, PathKeepsMatch, UnitKeepsMatch};
+ghost use Rattle.cfi_runs.specs.WholeRun.{RunKeepsMatch};
 
 /// A unit that passes on is left, within as many steps as it has words, as its row says.
 pub fn unit_runs()
@@ -36,4 +37,9 @@ pub fn opening_keeps_match()
 /// The closing ends the run as the program's own end does.
 pub fn closing_keeps_match()
     ensures { ClosingKeepsMatch }
+{}
+
+/// The whole undisturbed run of an image keeps the program's own run along a path of tame steps.
+pub fn run_keeps_match()
+    ensures { RunKeepsMatch }
 {}
