@@ -1,21 +1,19 @@
 -- An instruction that is executed on states that are the same to the program leaves such states.
-use Rattle.std.proofs.Common.{◌≡◌, ℕ, ◌+◌, ◌*◌, ◌^◌, ◌==◌, ◌||◌, ◌≤◌, inl, inr, true, false, Bool, refl, sym, ap, subst, ◌∙◌, arith}
+use Rattle.std.proofs.Common.{◌≡◌, ℕ, ◌+◌, ◌^◌, ◌==◌, ◌||◌, ◌≤◌, true, false, Bool, refl, sym, ap, subst, ◌∙◌, arith}
 use Rattle.std.proofs.lemmas.Bool.{eq-eqb}
 use Rattle.std.proofs.lemmas.Bool.Decides.{nat_tests}
 use Rattle.rv_word.specs.Bits.{wrap}
 use Rattle.rv_word.specs.Layout.{Profile, can_load}
-use Rattle.rv_word.specs.Memory.{read}
 use Rattle.rv_instr.specs.Operands.{names}
-use Rattle.rv_instr.specs.Registers.{Registers, get_reg, set_reg}
+use Rattle.rv_instr.specs.Registers.{Registers, get_reg}
 use Rattle.rv_instr.specs.Reserved.{is_reserved}
 use Rattle.rv_instr.specs.declared.instr.Instr.{Instr}
-use Rattle.rv_instr.specs.declared.instr.Instr.TheVariants.{Upper, Jal, Jalr, Branch, Load, Store, Immediate, Shift, ShiftWord, Register, Fence, Ecall, Ebreak}
+use Rattle.rv_instr.specs.declared.instr.Instr.TheVariants.{Upper, Load, Immediate, Shift, ShiftWord, Register, Fence, Ebreak}
 use Rattle.rv_instr.specs.declared.instr.UpperOp.TheVariants.{Lui, Auipc}
 use Rattle.rv_instr.specs.declared.instr.LoadOp.{LoadOp}
-use Rattle.rv_instr.specs.declared.instr.LoadOp.TheVariants.{Lb, Lh, Lw, Ld, Lbu, Lhu, Lwu}
 use Rattle.rv_code.specs.Arithmetic.{immediate_result, shift_result, shift_word_result, register_result, load_size, load_result}
 use Rattle.rv_code.specs.State.{Hart, Shared, After}
-use Rattle.rv_code.specs.Step.{exec, load_at, offset, puts, ran, stops}
+use Rattle.rv_code.specs.Step.{exec, load_at, offset, puts}
 use Rattle.cfi_unit.specs.UnitWords.{is_plain}
 use Rattle.cfi_unit.specs.Leads.{sum_of}
 use Rattle.cfi_unit.specs.Leaving.{SameRegisters}

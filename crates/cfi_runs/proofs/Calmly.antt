@@ -1,5 +1,5 @@
 -- Nothing happens from outside: the count of steps with that written out, and without.
-use Rattle.std.proofs.Common.{◌≡◌, ℕ, zero, suc, ◌+◌, ◌≤◌, inl, inr, List, [], ◌∷◌, take, replicate, refl, sym, ap, subst, arith}
+use Rattle.std.proofs.Common.{◌≡◌, ℕ, zero, suc, ◌+◌, ◌≤◌, inl, inr, List, [], replicate, refl, sym, subst, arith}
 use Rattle.std.proofs.lemmas.List.{take-replicate}
 use Rattle.rv_word.specs.Layout.{Profile}
 use Rattle.rv_code.specs.Continue.{continue}

@@ -1,22 +1,19 @@
 -- The opening comes to the program's own start, the closing to its own end.
-use Rattle.std.proofs.Common.{◌≡◌, ℕ, ◌+◌, ◌^◌, ◌<◌, ◌≤◌, inl, List, [], ◌∷◌, length, refl, sym, ap, subst, ◌∙◌, arith}
-use Rattle.rv_word.specs.Layout.{Profile, SHADOW_START, DATA_END}
-use Rattle.rv_word.specs.Memory.{Memory}
-use Rattle.rv_instr.specs.Registers.{Registers, set_reg}
+use Rattle.std.proofs.Common.{◌≡◌, ℕ, ◌+◌, ◌^◌, ◌≤◌, inl, refl, sym, ap, subst, ◌∙◌, arith}
+use Rattle.rv_word.specs.Layout.{Profile, SHADOW_START}
+use Rattle.rv_instr.specs.Registers.{set_reg}
 use Rattle.rv_instr.specs.declared.instr.Instr.TheVariants.{Ecall}
 use Rattle.rv_code.specs.State.{Hart, Shared, After}
 use Rattle.rv_code.specs.Step.{exec, step}
-use Rattle.rv_code.specs.SystemCall.{ends}
 use Rattle.rv_code.specs.declared.turn.Turn.TheVariants.{Ran}
 use Rattle.rv_code.proofs.Frames.{write_outside}
 use Rattle.cfi_unit.specs.Between.{Unchanged}
-use Rattle.cfi_unit.specs.Leaving.{SameRegisters, pushed}
+use Rattle.cfi_unit.specs.Leaving.{pushed}
 use Rattle.cfi_unit.specs.PrologueEffect.{OpeningDoes, ClosingDoes, closing_site}
-use Rattle.cfi_unit.specs.Shadow.{IsPart, slot}
-use Rattle.cfi_unit.specs.Stand.{Stand}
+use Rattle.cfi_unit.specs.Shadow.{slot}
 use Rattle.cfi_runs.specs.MatchLaws as law
 use Rattle.cfi_runs.specs.MatchLaws.{ComesTo}
-use Rattle.cfi_runs.specs.Matching.{SameData, Matches, MatchesAfter}
+use Rattle.cfi_runs.specs.Matching.{SameData, MatchesAfter}
 use Rattle.cfi_runs.specs.Own.{Own, own_closing, own_start}
 use Rattle.cfi_runs.proofs.AlikeCalls.{call_alike}
 use Rattle.cfi_runs.proofs.Calmly.{within_weaker}

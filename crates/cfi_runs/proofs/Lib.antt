@@ -7,3 +7,4 @@ pub mod Matched
 pub mod Paths
 pub mod Ends
 pub mod WholeRun
+pub mod Worked

@@ -1,10 +1,8 @@
 -- Each unit's row, seen from the program: what the unit is left with matches what the program's own
 -- step leaves.
-use Rattle.std.proofs.Common.{◌≡◌, ◌≢◌, ℕ, ◌+◌, ◌-◌, ◌*◌, ◌/◌, ◌%◌, ◌^◌, ◌==◌, ◌<◌, ◌≤◌, ◌||◌, Bool, true, false, List, [], ◌∷◌, length, inl, inr, if◌then◌else◌, refl, sym, ap, subst, ◌∙◌, arith}
-use Rattle.std.proofs.lemmas.Bool.{eq-eqb}
-use Rattle.rv_word.specs.Layout.{Profile, DATA_END, SHADOW_START}
+use Rattle.std.proofs.Common.{◌≡◌, ◌≢◌, ℕ, ◌+◌, ◌-◌, ◌^◌, ◌==◌, ◌<◌, ◌≤◌, ◌||◌, Bool, true, false, List, [], ◌∷◌, length, inl, if◌then◌else◌, refl, sym, ap, subst, ◌∙◌, arith}
+use Rattle.rv_word.specs.Layout.{Profile, SHADOW_START}
 use Rattle.rv_word.specs.Memory.{Memory, write}
-use Rattle.rv_instr.specs.Operands.{names}
 use Rattle.rv_instr.specs.Registers.{Registers, get_reg, set_reg}
 use Rattle.rv_instr.specs.Reserved.{is_reserved}
 use Rattle.rv_instr.specs.declared.instr.Instr.{Instr}
@@ -14,14 +12,14 @@ use Rattle.rv_instr.specs.declared.instr.StoreOp.{StoreOp}
 use Rattle.rv_instr.specs.declared.instr.StoreOp.TheVariants.{Sb, Sh, Sw, Sd}
 use Rattle.rv_code.specs.Arithmetic.{branch_taken, store_size}
 use Rattle.rv_code.specs.State.{Hart, Shared, After}
-use Rattle.rv_code.specs.Step.{exec, ran, step}
+use Rattle.rv_code.specs.Step.{exec, step}
 use Rattle.rv_code.specs.declared.turn.Turn.TheVariants.{Ran}
 use Rattle.rv_code.proofs.Frames.{write_outside}
 use Rattle.cfi_unit.specs.declared.unit.Unit as U
 use Rattle.cfi_unit.specs.declared.unit.Unit.TheVariants as V
 use Rattle.cfi_unit.specs.declared.unit.SystemOp.TheVariants as S
 use Rattle.cfi_unit.specs.UnitWords.{Fits, word_count}
-use Rattle.cfi_unit.specs.Shadow.{slot, MOST_PENDING}
+use Rattle.cfi_unit.specs.Shadow.{slot}
 use Rattle.cfi_unit.specs.Between.{Unchanged}
 use Rattle.cfi_unit.specs.UnitLaw.{ReturnsTo}
 use Rattle.cfi_unit.specs.Leads.{HasLabel, sum_of, destination}
@@ -35,7 +33,7 @@ use Rattle.cfi_runs.specs.Own.{Own, OwnAfter, calls, computed, executes, goes, o
 use Rattle.cfi_runs.specs.OwnRuns.{SitesFit}
 use Rattle.cfi_runs.specs.Passes.{Passes}
 use Rattle.cfi_runs.specs.StandsFor.{StandsFor, StandsPast, Called}
-use Rattle.cfi_runs.specs.Tame.{IsTame, NamesNoReserved, touched}
+use Rattle.cfi_runs.specs.Tame.{IsTame, NamesNoReserved}
 use Rattle.cfi_runs.proofs.Alike.{AlikeAfter, sum_same, is_self, or_first, or_second, plain_alike, break_alike}
 use Rattle.cfi_runs.proofs.AlikeCalls.{call_alike}
 use Rattle.cfi_runs.proofs.Calmly.{within_weaker}

@@ -1,11 +1,9 @@
 -- A path of tame steps is matched, unit after unit.
-use Rattle.std.proofs.Common.{◌≡◌, ℕ, suc, ◌+◌, ◌-◌, ◌*◌, ◌%◌, ◌^◌, ◌<◌, ◌≤◌, inr, List, [], ◌∷◌, length, refl, sym, ap, subst, ◌∙◌, arith}
-use Rattle.std.specs.List.{AllByRecursion}
-use Rattle.rv_word.specs.Layout.{Profile, CODE_START, CODE_SIZE}
+use Rattle.std.proofs.Common.{◌≡◌, ℕ, suc, ◌-◌, ◌%◌, ◌^◌, ◌<◌, inr, List, [], ◌∷◌, length, refl, sym, subst, ◌∙◌, arith}
+use Rattle.rv_word.specs.Layout.{Profile}
 use Rattle.rv_word.specs.Memory.{Memory}
 use Rattle.rv_code.specs.State.{Hart, Shared, After}
-use Rattle.rv_code.specs.Step.{step, stops}
-use Rattle.rv_code.specs.declared.turn.Turn.{Turn}
+use Rattle.rv_code.specs.Step.{stops}
 use Rattle.rv_code.specs.declared.turn.Turn.TheVariants.{Ran}
 use Rattle.cfi_unit.specs.declared.unit.Unit as U
 use Rattle.cfi_unit.specs.declared.unit.Unit.TheVariants as V
@@ -16,7 +14,7 @@ use Rattle.cfi_runs.specs.MatchLaws as law
 use Rattle.cfi_runs.specs.MatchLaws.{ComesTo}
 use Rattle.cfi_runs.specs.Matching.{Matches, MatchesAfter}
 use Rattle.cfi_runs.specs.Own.{Own, own_step, returns}
-use Rattle.cfi_runs.specs.OwnRuns.{OwnRuns, SitesFit, words_along}
+use Rattle.cfi_runs.specs.OwnRuns.{SitesFit, words_along}
 use Rattle.cfi_runs.specs.Tame.{IsTame, TameStep}
 use Rattle.cfi_runs.specs.Within.{Within}
 use Rattle.cfi_runs.proofs.Calmly.{within_going, within_then}

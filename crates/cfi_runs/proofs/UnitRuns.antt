@@ -1,5 +1,5 @@
 -- What a unit does is what it stands for, where it passes on.
-use Rattle.std.proofs.Common.{◌≡◌, ◌≢◌, ℕ, ◌-◌, ◌%◌, ◌^◌, ◌<◌, inl, inr, List, [], ◌∷◌, length, refl, sym, ap, subst, ◌∙◌, arith}
+use Rattle.std.proofs.Common.{◌≡◌, ℕ, ◌-◌, ◌%◌, ◌^◌, ◌<◌, inl, inr, List, [], ◌∷◌, length, ap, ◌∙◌, arith}
 use Rattle.rv_word.specs.Layout.{Profile, SHADOW_START}
 use Rattle.rv_word.specs.Memory.{Memory, write}
 use Rattle.rv_instr.specs.Registers.{get_reg}
@@ -11,14 +11,14 @@ use Rattle.cfi_unit.specs.UnitWords.{word_count}
 use Rattle.cfi_unit.specs.Shadow.{MOST_PENDING}
 use Rattle.cfi_unit.specs.Between.{Unchanged}
 use Rattle.cfi_unit.specs.Leads.{sum_of}
-use Rattle.cfi_unit.specs.Leaving.{LeftTo, Stores, with_memory}
+use Rattle.cfi_unit.specs.Leaving.{with_memory}
 use Rattle.cfi_unit.specs.Effect.{UnitDoes, CallDoes}
 use Rattle.cfi_unit.specs.PrologueEffect.{OpeningDoes, ClosingDoes}
 use Rattle.cfi_unit.proofs.EffectRows.{unit_within, unchanged_harmless}
 use Rattle.cfi_unit.proofs.PrologueEffect.{opening_does, closing_does}
 use Rattle.cfi_runs.specs.Laws as law
 use Rattle.cfi_runs.specs.Passes.{Passes}
-use Rattle.cfi_runs.specs.StandsFor.{StandsFor, Comes, Called}
+use Rattle.cfi_runs.specs.StandsFor.{StandsFor, Called}
 use Rattle.cfi_runs.proofs.Calmly.{from_first}
 
 module _ (p : Profile) (part : ℕ) (image base : Memory) (h : Hart) (s : Shared) where

@@ -1,24 +1,22 @@
 -- The opening, then a path, then a step or the closing: all of it is one run.
-use Rattle.std.proofs.Common.{◌≡◌, ℕ, ◌+◌, ◌%◌, ◌^◌, ◌<◌, ◌≤◌, inr, List, [], ◌∷◌, None, refl, sym, subst, arith}
+use Rattle.std.proofs.Common.{◌≡◌, ℕ, ◌+◌, inr, List, [], ◌∷◌, None, refl, sym, subst, arith}
 use Rattle.rv_word.specs.Image.{Contents}
 use Rattle.rv_word.specs.Layout.{Profile, SHADOW_START}
 use Rattle.rv_word.specs.Memory.{Memory, loaded}
 use Rattle.rv_instr.specs.Registers.{cleared}
 use Rattle.rv_code.specs.State.{Hart, Shared, After, start_hart, start_shared, last_exit}
-use Rattle.rv_code.specs.Step.{step, stops}
+use Rattle.rv_code.specs.Step.{stops}
 use Rattle.rv_code.specs.declared.turn.Turn.TheVariants.{Ran}
 use Rattle.cfi_unit.specs.declared.unit.Unit as U
 use Rattle.cfi_unit.specs.UnitWords.{word_count}
-use Rattle.cfi_unit.specs.Context.{Context}
 use Rattle.cfi_unit.specs.Prologue.{closing_instrs}
-use Rattle.cfi_unit.specs.PrologueEffect.{EntersOpening, closing_site}
+use Rattle.cfi_unit.specs.PrologueEffect.{EntersOpening}
 use Rattle.cfi_unit.specs.Stand.{Stand}
 use Rattle.cfi_runs.specs.Matching.{SameData, MatchesAfter}
 use Rattle.cfi_runs.specs.MatchLaws.{ComesTo}
 use Rattle.cfi_runs.specs.Own.{Own, own_step, own_closing, own_start}
 use Rattle.cfi_runs.specs.OwnRuns.{OwnRuns, SitesFit, words_along}
-use Rattle.cfi_runs.specs.Tame.{TameStep}
-use Rattle.cfi_runs.specs.WholeRun.{CLOSING_WORDS, OPENING_WORDS, Ends, HasPrologue, Keeps, Reaches, RunKeepsMatch}
+use Rattle.cfi_runs.specs.WholeRun.{CLOSING_WORDS, OPENING_WORDS, HasPrologue, Keeps, Reaches, RunKeepsMatch}
 use Rattle.cfi_runs.specs.Within.{Within}
 use Rattle.cfi_runs.proofs.Calmly.{reached, within_going, within_then}
 use Rattle.cfi_runs.proofs.Ends.{opening_keeps_match, closing_keeps_match}

@@ -4,7 +4,7 @@
 use Rattle.std.specs.Prelude.{ℕ, ◌-◌, List, length}
 use Rattle.rv_word.specs.Layout.{Profile, SHADOW_START}
 use Rattle.rv_word.specs.Memory.{Memory}
-use Rattle.rv_code.specs.State.{Hart, Shared, After}
+use Rattle.rv_code.specs.State.{Hart, Shared}
 use Rattle.rv_code.specs.Step.{step}
 use Rattle.cfi_unit.specs.declared.unit.Unit as U
 use Rattle.cfi_unit.specs.UnitWords.{word_count}
