@@ -1,12 +1,13 @@
 -- The opening, then a path, then a step or the closing: all of it is one run.
-use Rattle.std.proofs.Common.{◌≡◌, ℕ, ◌+◌, inr, List, [], ◌∷◌, None, refl, sym, subst, arith}
+use Rattle.std.proofs.Common.{inl, ◌≡◌, ℕ, ◌+◌, inr, List, [], ◌∷◌, None, refl, sym, subst, arith}
 use Rattle.rv_word.specs.Image.{Contents}
-use Rattle.rv_word.specs.Layout.{Profile, SHADOW_START}
+use Rattle.rv_word.specs.Layout.{CODE_START, Profile, SHADOW_START}
 use Rattle.rv_word.specs.Memory.{Memory, loaded}
 use Rattle.rv_instr.specs.Registers.{cleared}
 use Rattle.rv_code.specs.State.{Hart, Shared, After, start_hart, start_shared, last_exit}
 use Rattle.rv_code.specs.Step.{stops}
 use Rattle.rv_code.specs.declared.turn.Turn.TheVariants.{Ran}
+use Rattle.rv_code.proofs.Frames.{placed_outside}
 use Rattle.cfi_unit.specs.declared.unit.Unit as U
 use Rattle.cfi_unit.specs.UnitWords.{word_count}
 use Rattle.cfi_unit.specs.Prologue.{closing_instrs}
@@ -16,13 +17,13 @@ use Rattle.cfi_runs.specs.Matching.{SameData, MatchesAfter}
 use Rattle.cfi_runs.specs.MatchLaws.{ComesTo}
 use Rattle.cfi_runs.specs.Own.{Own, own_step, own_closing, own_start}
 use Rattle.cfi_runs.specs.OwnRuns.{OwnRuns, SitesFit, words_along}
-use Rattle.cfi_runs.specs.WholeRun.{CLOSING_WORDS, OPENING_WORDS, HasPrologue, Keeps, Reaches, RunKeepsMatch}
+use Rattle.cfi_runs.specs.WholeRun.{own_shared, CLOSING_WORDS, OPENING_WORDS, HasPrologue, Keeps, RunsTo, RunKeepsMatch}
 use Rattle.cfi_runs.specs.Within.{Within}
 use Rattle.cfi_runs.proofs.Calmly.{reached, within_going, within_then}
 use Rattle.cfi_runs.proofs.Ends.{opening_keeps_match, closing_keeps_match}
 use Rattle.cfi_runs.proofs.Paths.{path_keeps_match, sites_fit, unit_within}
 
-module _ (p : Profile) (image : Contents) (input : List ℕ) (entry : ℕ) (t : Shared) (has : HasPrologue p image entry) (alike : SameData t (start_shared image input)) where
+module _ (p : Profile) (image : Contents) (input : List ℕ) (entry : ℕ) (has : HasPrologue p image entry) where
   abbrev memory : Memory
   memory = loaded image
 
@@ -30,7 +31,17 @@ module _ (p : Profile) (image : Contents) (input : List ℕ) (entry : ℕ) (t : 
   start = stops start_hart (start_shared image input) Ran
 
   abbrev first : Own
-  first = own_start entry cleared t
+  first = own_start entry cleared (own_shared image input)
+
+  -- code is no data
+  same_start : SameData (own_shared image input) (start_shared image input)
+  unfolding loaded
+  same_start = record {
+    memory = λ a low. placed_outside _ CODE_START image.code a (inl (omega arith));
+    left = refl;
+    output = refl;
+    events = refl;
+  }
 
   abbrev At : Own → After → Type 0
   At o = ComesTo SHADOW_START memory memory o
@@ -49,7 +60,7 @@ module _ (p : Profile) (image : Contents) (input : List ℕ) (entry : ℕ) (t : 
   }
 
   opened : Within p OPENING_WORDS (At first) start
-  opened = inr (refl, opening_keeps_match p memory memory entry cleared t start_hart (start_shared image input) enters (record { same = λ k free. refl }) alike)
+  opened = inr (refl, opening_keeps_match p memory memory entry cleared (own_shared image input) start_hart (start_shared image input) enters (record { same = λ k free. refl }) same_start)
 
   first_fit : SitesFit first.pending
   first_fit = record { each = ((omega arith, omega arith), tt); most = omega arith }
@@ -64,11 +75,11 @@ module _ (p : Profile) (image : Contents) (input : List ℕ) (entry : ℕ) (t : 
   path_fit [] from o same fit = subst (λ (x : Own). SitesFit x.pending) (sym same) fit
   path_fit (unit ∷ path) from o on fit = path_fit path (own_step p from unit).state o on.2 (sites_fit p memory unit from on.0 fit)
 
-  told : (most : ℕ) (Q : After → Type 0) → Within p most Q start → Reaches p image input most Q
+  told : (most : ℕ) (Q : After → Type 0) → Within p most Q start → RunsTo p image input most Q
   told most Q on = let r = reached p most Q start on in (r.steps, r.few, r.met)
 
   last : (path : List U.Unit) (o : Own) (n : ℕ) (Q : After → Type 0) → OwnRuns p memory path first o →
-      ((h : Hart) (s : Shared) → At o (stops h s Ran) → Within p n Q (stops h s Ran)) → Reaches p image input (OPENING_WORDS + (words_along path + n)) Q
+      ((h : Hart) (s : Shared) → At o (stops h s Ran) → Within p n Q (stops h s Ran)) → RunsTo p image input (OPENING_WORDS + (words_along path + n)) Q
   last path o n Q on next =
       let e : OPENING_WORDS + words_along path + n ≡ OPENING_WORDS + (words_along path + n) = omega arith in
       told (OPENING_WORDS + (words_along path + n)) Q
@@ -89,4 +100,4 @@ module _ (p : Profile) (image : Contents) (input : List ℕ) (entry : ℕ) (t : 
   }
 
 pub run_keeps_match : RunKeepsMatch
-run_keeps_match p image input entry t path o has alike on = keeps p image input entry t has alike path o on
+run_keeps_match p image input entry path o has on = keeps p image input entry has path o on

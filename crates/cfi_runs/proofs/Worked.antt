@@ -24,7 +24,7 @@ use Rattle.cfi_runs.specs.Matching.{SameData}
 use Rattle.cfi_runs.specs.Own.{Own, own_start, own_step}
 use Rattle.cfi_runs.specs.OwnRuns.{OwnRuns}
 use Rattle.cfi_runs.specs.Tame.{NamesNoReserved}
-use Rattle.cfi_runs.specs.WholeRun.{HasPrologue, Reaches}
+use Rattle.cfi_runs.specs.WholeRun.{HasPrologue, RunsTo, own_shared}
 use Rattle.cfi_runs.proofs.WholeRun.{run_keeps_match}
 
 -- after the prologue `addi x10,x0,7`, a return, and a stop
@@ -102,25 +102,8 @@ has_prologue = record {
   closing = record { round = refl; low = lit≤ tt; high = lit≤ tt; words = closing_words };
 }
 
--- the program's own data: none are initialised
-abbrev shared : Shared
-shared = record { memory = zeros; left = []; output = []; events = [] }
-
-no_data : (a : ℕ) → placed zeros DATA_START [] a ≡ 0
-unfolding placed
-no_data a = cond_both _ _ _ (λ (b : ℕ). b ≡ 0) (λ inside. refl) (λ outside. refl)
-
-same_start : SameData shared (start_shared image [])
-unfolding loaded
-same_start = record {
-  memory = λ a low. placed_outside _ CODE_START image.code a (inl (omega arith)) ∙ no_data a;
-  left = refl;
-  output = refl;
-  events = refl;
-}
-
 abbrev first : Own
-first = own_start entry cleared shared
+first = own_start entry cleared (own_shared image [])
 
 other_of : (a b : Bool) → a ≡ false → (a || b) ≡ true → b ≡ true
 other_of true b fails either = absurd (cc)
@@ -162,8 +145,8 @@ steps = (
   ),
 )
 
-exits : Reaches version_1 image [] 19 (λ (a : After). a.turn ≡ Exit 7)
+exits : RunsTo version_1 image [] 19 (λ (a : After). a.turn ≡ Exit 7)
 exits =
-    let kept = run_keeps_match version_1 image [] entry shared (V.Plain seven ∷ V.Return ∷ []) last has_prologue same_start steps in
+    let kept = run_keeps_match version_1 image [] entry (V.Plain seven ∷ V.Return ∷ []) last has_prologue steps in
     let end = kept.closes refl in
     (end.0, end.1, end.2.turn)
