@@ -1,0 +1,2 @@
+pub mod PlaceRuns
+pub mod KindStep
