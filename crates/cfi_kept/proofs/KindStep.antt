@@ -1,5 +1,5 @@
 -- The own step of a place's unit is that of its instruction's kind.
-use Rattle.std.proofs.Common.{◌≡◌, ℕ, zero, suc, ◌+◌, ◌*◌, ◌==◌, true, false, not, Bool, if◌then◌else◌, refl, sym, ap, ◌∙◌, arith}
+use Rattle.std.proofs.Common.{◌≡◌, ℕ, zero, suc, ◌+◌, ◌==◌, true, false, not, Bool, if◌then◌else◌, refl, sym, ap, ◌∙◌, arith}
 use Rattle.std.specs.Prelude.{nat_lt}
 use Rattle.std.proofs.lemmas.Bool.{eqb-true}
 use Rattle.rv_word.specs.Layout.{version_1}
@@ -15,15 +15,15 @@ use Rattle.obj_input.specs.declared.item_kind.ItemKind.TheVariants as is
 use Rattle.obj_program.specs.Program.{is_end, item_of}
 use Rattle.obj_program.specs.Suits.{suits}
 use Rattle.obj_program.proofs.Kept.{kept}
-use Rattle.cfi_flow.specs.GraphAtMap.{gate, gate_to, word}
+use Rattle.cfi_flow.specs.GraphAtMap.{gate, gate_to}
 use Rattle.cfi_flow.specs.LabelOf.{site_label}
 use Rattle.cfi_flow.specs.Placement.{is_long, words_from}
 use Rattle.cfi_runs.specs.Own.{Own, goes, own_past}
-use Rattle.cfi_rewrite.specs.Units.{Choice, instr_of, inverse, unit_of}
+use Rattle.cfi_rewrite.specs.Units.{instr_of, inverse, unit_of}
 use Rattle.cfi_rewrite.proofs.Standing.{instr_is}
 use Rattle.cfi_kept.specs.KindStep as law
 use Rattle.cfi_kept.specs.KindStep.{kind_step}
-use Rattle.cfi_kept.specs.PlaceRuns.{IsPlace, at_word, unit_here}
+use Rattle.cfi_kept.specs.PlaceRuns.{at_word, unit_here}
 use Rattle.cfi_kept.proofs.Places.{next_gate}
 
 not_twice : (b : Bool) → not (not b) ≡ b

@@ -1,28 +1,25 @@
 -- From a place's gate its gate word, if it has one, leads to its unit.
-use Rattle.std.proofs.Common.{◌≡◌, ℕ, ◌+◌, ◌-◌, ◌*◌, ◌/◌, ◌^◌, ◌<◌, ◌≤◌, inl, inr, true, false, List, [], ◌∷◌, length, Some, None, refl, sym, ap, subst, ◌∙◌, arith}
+use Rattle.std.proofs.Common.{◌≡◌, ℕ, ◌+◌, ◌<◌, inl, inr, true, List, [], ◌∷◌, Some, refl, sym, ap, subst, ◌∙◌, arith}
 use Rattle.std.proofs.lemmas.Bool.{cases_lt}
 use Rattle.rv_word.specs.Image.{Contents}
 use Rattle.rv_word.specs.Layout.{version_1}
-use Rattle.rv_word.specs.Memory.{Memory, loaded}
+use Rattle.rv_word.specs.Memory.{loaded}
 use Rattle.rv_word.proofs.Cases.{cases_Option}
-use Rattle.obj_program.specs.declared.item.Item.{Item}
 use Rattle.obj_program.specs.Program.{count, is_end, item_of}
 use Rattle.obj_program.proofs.Kept.{kept}
 use Rattle.cfi_flow.specs.GraphAtMap.{gate, gate_to, word}
-use Rattle.cfi_flow.specs.LabelOf.{label_at, site_label}
+use Rattle.cfi_flow.specs.LabelOf.{site_label}
 use Rattle.cfi_flow.specs.Placement.{is_long, words_from}
 use Rattle.cfi_unit.specs.declared.unit.Unit as U
 use Rattle.cfi_unit.specs.declared.unit.Unit.TheVariants as V
 use Rattle.cfi_unit.specs.Stand.{Stand}
-use Rattle.cfi_unit.specs.UnitWords.{Fits, instrs_of, word_count}
-use Rattle.cfi_runs.specs.Own.{Own, own_step}
-use Rattle.cfi_runs.specs.OwnRuns.{OwnRuns}
-use Rattle.cfi_runs.specs.Tame.{IsTame, NamesNoReserved, TameStep}
+use Rattle.cfi_unit.specs.UnitWords.{Fits, instrs_of}
+use Rattle.cfi_runs.specs.Own.{Own}
+use Rattle.cfi_runs.specs.Tame.{NamesNoReserved, TameStep}
 use Rattle.cfi_verify.specs.Split.{code_words, unit_at}
 use Rattle.cfi_verify.proofs.Find.{UnitHere}
 use Rattle.cfi_verify.proofs.Places.{unit_facts}
 use Rattle.cfi_verify.proofs.Standing.{unit_stands}
-use Rattle.cfi_rewrite.specs.Accepted.{IsAccepted}
 use Rattle.cfi_rewrite.specs.Units.{Choice, instr_of}
 use Rattle.cfi_rewrite.proofs.Runs.{gate_bytes, label_of}
 use Rattle.cfi_rewrite.proofs.Standing.{at_gate, gate_after, instr_is, word_is}

@@ -1,5 +1,5 @@
 -- What is written meets the rules, so its prologue stands.
-use Rattle.std.proofs.Common.{◌≡◌, ℕ, ◌+◌, ◌*◌, length, Some, refl, sym, ap, subst, ◌∙◌, lit≤}
+use Rattle.std.proofs.Common.{◌≡◌, ℕ, length, refl, sym, ap, subst, ◌∙◌, lit≤}
 use Rattle.std.proofs.lemmas.Option.{same_Some}
 use Rattle.rv_word.specs.Image.{Contents}
 use Rattle.rv_word.specs.Layout.{version_1}

@@ -1,20 +1,18 @@
 -- The gates of a computed transfer's targets bear its label.
-use Rattle.std.proofs.Common.{◌≡◌, ℕ, zero, suc, ◌+◌, ◌*◌, ◌/◌, ◌%◌, ◌^◌, ◌<◌, ◌≤◌, ◌==◌, inl, inr, true, false, List, [], ◌∷◌, length, Some, None, refl, sym, ap, subst, ◌∙◌, arith, Contains}
+use Rattle.std.proofs.Common.{◌≡◌, ℕ, suc, ◌+◌, ◌*◌, ◌^◌, ◌<◌, ◌==◌, inl, inr, List, [], ◌∷◌, length, Some, refl, sym, subst, ◌∙◌, arith, Contains}
 use Rattle.std.specs.Prelude.{slice_get, slice_index, slice_index_or}
 use Rattle.std.specs.List.{find}
 use Rattle.std.proofs.lemmas.Bool.{cases_Bool}
 use Rattle.std.proofs.lemmas.Option.{get_or_from_slice_get, slice_get-get_or}
 use Rattle.rv_word.specs.Image.{Contents}
-use Rattle.rv_word.specs.Layout.{CODE_START, CODE_SIZE, version_1}
 use Rattle.rv_word.specs.Memory.{loaded, read}
 use Rattle.rv_code.specs.Encode.{code_of}
 use Rattle.rv_code.proofs.Inverse.{code_of-decoded}
 use Rattle.obj_program.specs.Program.{count}
-use Rattle.cfi_class.specs.Classes.{IsIn}
 use Rattle.cfi_flow.specs.declared.closed.Site.{Site}
-use Rattle.cfi_flow.specs.Closed.{class_at, class_if, class_of, has}
-use Rattle.cfi_flow.specs.GraphAtMap.{gate, word}
-use Rattle.cfi_flow.specs.LabelOf.{label_at, next_after, number, site_label, site_number}
+use Rattle.cfi_flow.specs.Closed.{class_at, class_if, class_of}
+use Rattle.cfi_flow.specs.GraphAtMap.{gate}
+use Rattle.cfi_flow.specs.LabelOf.{label_at, next_after, site_label, site_number}
 use Rattle.cfi_unit.specs.declared.unit.Unit.TheVariants as V
 use Rattle.cfi_unit.specs.Leads.{HasLabel}
 use Rattle.cfi_unit.specs.Stand.{Stand}

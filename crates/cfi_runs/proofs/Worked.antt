@@ -1,26 +1,24 @@
 -- The whole run of an image that returns 7, of its prologue and three units: its premises are met, so
 -- the law says that the run exits with 7 within 19 steps (it takes 17).
-use Rattle.std.proofs.Common.{◌≡◌, ℕ, zero, suc, ◌+◌, ◌*◌, ◌-◌, ◌^◌, ◌<◌, ◌==◌, ◌&&◌, ◌||◌, inl, inr, Bool, true, false, List, [], ◌∷◌, length, Some, lit<, lit≤, refl, sym, ap, ◌∙◌, arith}
+use Rattle.std.proofs.Common.{◌≡◌, ℕ, zero, suc, ◌+◌, ◌*◌, ◌-◌, ◌^◌, ◌<◌, ◌==◌, ◌&&◌, ◌||◌, inl, inr, Bool, true, false, List, [], ◌∷◌, length, Some, lit<, lit≤, refl, sym, ap}
 use Rattle.std.specs.Prelude.{nat_le, nat_lt, slice_get, slice_index}
 use Rattle.std.specs.List.{list_all}
 use Rattle.std.proofs.lemmas.Bool.{cases_Bool, cond_both, and_parts, eqb-true, ltb-true}
 use Rattle.rv_word.specs.Image.{Contents}
 use Rattle.rv_word.specs.Layout.{CODE_START, DATA_START, version_1}
-use Rattle.rv_word.specs.Memory.{loaded, placed, read, zeros}
+use Rattle.rv_word.specs.Memory.{loaded, placed, read}
 use Rattle.rv_instr.specs.Registers.{cleared}
 use Rattle.rv_instr.specs.Reserved.{is_reserved}
 use Rattle.rv_instr.specs.declared.instr.Instr.{Instr}
 use Rattle.rv_instr.specs.declared.instr.Instr.TheVariants.{Immediate}
 use Rattle.rv_instr.specs.declared.instr.ImmediateOp.TheVariants.{Addi}
 use Rattle.rv_code.specs.Decode.{decoded}
-use Rattle.rv_code.specs.State.{Shared, After, start_shared}
+use Rattle.rv_code.specs.State.{After}
 use Rattle.rv_code.specs.declared.turn.Turn.TheVariants.{Exit}
-use Rattle.rv_code.proofs.Frames.{placed_outside}
 use Rattle.cfi_unit.specs.declared.unit.Unit.TheVariants as V
 use Rattle.cfi_unit.specs.UnitWords.{instrs_of}
 use Rattle.cfi_unit.specs.Prologue.{OPENING, opening_instrs, closing_instrs}
 use Rattle.cfi_unit.specs.PrologueEffect.{closing_site}
-use Rattle.cfi_runs.specs.Matching.{SameData}
 use Rattle.cfi_runs.specs.Own.{Own, own_start, own_step}
 use Rattle.cfi_runs.specs.OwnRuns.{OwnRuns}
 use Rattle.cfi_runs.specs.Tame.{NamesNoReserved}
