@@ -15,8 +15,10 @@ use Rattle.cfi_runs.specs.OwnRuns.{OwnRuns, words_along}
 use Rattle.cfi_runs.specs.WholeRun.{RunsTo, own_shared}
 use Rattle.cfi_runs.proofs.WholeRun.{run_keeps_match}
 use Rattle.cfi_rewrite.specs.Units.{Choice, entry_gate}
-use Rattle.cfi_kept.specs.PlaceRuns as law
-use Rattle.cfi_kept.specs.PlaceRuns.{IsImageOf, KeepsPlaces, PlacesRun, at_word, bound, place_step, unit_here}
+use Rattle.cfi_kept.specs.PlacesKept as law
+use Rattle.cfi_kept.specs.ImageOf.{IsImageOf, unit_here}
+use Rattle.cfi_kept.specs.PlaceSteps.{PlacesRun, at_word, place_step}
+use Rattle.cfi_kept.specs.PlacesKept.{KeepsPlaces, bound}
 use Rattle.cfi_kept.proofs.Places.{place_runs}
 use Rattle.cfi_kept.proofs.Prologue.{written_prologue}
 

@@ -23,7 +23,8 @@ use Rattle.cfi_rewrite.specs.Units.{instr_of, inverse, unit_of}
 use Rattle.cfi_rewrite.proofs.Standing.{instr_is}
 use Rattle.cfi_kept.specs.KindStep as law
 use Rattle.cfi_kept.specs.KindStep.{kind_step}
-use Rattle.cfi_kept.specs.PlaceRuns.{at_word, unit_here}
+use Rattle.cfi_kept.specs.ImageOf.{unit_here}
+use Rattle.cfi_kept.specs.PlaceSteps.{at_word}
 use Rattle.cfi_kept.proofs.Places.{next_gate}
 
 not_twice : (b : Bool) → not (not b) ≡ b

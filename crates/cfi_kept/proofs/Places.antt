@@ -24,8 +24,10 @@ use Rattle.cfi_rewrite.specs.Units.{Choice, instr_of}
 use Rattle.cfi_rewrite.proofs.Runs.{gate_bytes, label_of}
 use Rattle.cfi_rewrite.proofs.Standing.{at_gate, gate_after, instr_is, word_is}
 use Rattle.cfi_rewrite.proofs.Written.{written_units}
-use Rattle.cfi_kept.specs.PlaceRuns as law
-use Rattle.cfi_kept.specs.PlaceRuns.{ComesToPlace, IsImageOf, IsPlace, TamePlace, at_word, unit_here}
+use Rattle.cfi_kept.specs.PlaceLaws as law
+use Rattle.cfi_kept.specs.ImageOf.{IsImageOf, IsPlace, unit_here}
+use Rattle.cfi_kept.specs.PlaceLaws.{ComesToPlace}
+use Rattle.cfi_kept.specs.PlaceSteps.{TamePlace, at_word}
 use Rattle.cfi_kept.proofs.Names.{unit_free}
 use Rattle.cfi_kept.proofs.Prologue.{formed, written_graph}
 

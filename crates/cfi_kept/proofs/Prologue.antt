@@ -14,8 +14,8 @@ use Rattle.cfi_verify.proofs.Bytes.{loaded_small}
 use Rattle.cfi_verify.proofs.Places.{prologue}
 use Rattle.cfi_rewrite.specs.Units.{Choice, entry_gate}
 use Rattle.cfi_rewrite.proofs.Written.{written_entry, written_well_formed}
-use Rattle.cfi_kept.specs.PlaceRuns as law
-use Rattle.cfi_kept.specs.PlaceRuns.{IsImageOf}
+use Rattle.cfi_kept.specs.PlaceLaws as law
+use Rattle.cfi_kept.specs.ImageOf.{IsImageOf}
 
 module _ (m : Choice) (image : Contents) (of : IsImageOf m image) where
   -- the graph that is written

@@ -24,8 +24,8 @@ use Rattle.cfi_rewrite.specs.Units.{Choice}
 use Rattle.cfi_rewrite.proofs.ClassLabels.{found_at}
 use Rattle.cfi_rewrite.proofs.Labelled.{has_in, labelled}
 use Rattle.cfi_rewrite.proofs.Standing.{labels_suffice}
-use Rattle.cfi_kept.specs.PlaceRuns as law
-use Rattle.cfi_kept.specs.PlaceRuns.{IsImageOf}
+use Rattle.cfi_kept.specs.PlaceLaws as law
+use Rattle.cfi_kept.specs.ImageOf.{IsImageOf}
 use Rattle.cfi_kept.proofs.Places.{gate_written, stands_here}
 
 -- a site, and the number of its class

@@ -13,7 +13,8 @@ use Rattle.cfi_flow.specs.GraphAtMap.{gate, gate_to}
 use Rattle.cfi_runs.specs.Own.{Own, OwnAfter, calls, computed, executes, goes, returns}
 use Rattle.cfi_rewrite.specs.Accepted.{IsAccepted}
 use Rattle.cfi_rewrite.specs.Units.{Choice, instr_of}
-use Rattle.cfi_kept.specs.PlaceRuns.{IsPlace, at_word, place_step}
+use Rattle.cfi_kept.specs.ImageOf.{IsPlace}
+use Rattle.cfi_kept.specs.PlaceSteps.{at_word, place_step}
 
 -- with the gates of its target and of the next place
 abbrev pub kind_step : ItemKind → Instr → ℕ → ℕ → Own → OwnAfter

@@ -1,6 +1,7 @@
 //! Each function states one law; nothing is computed.
 ghost use Rattle.cfi_kept.specs.KindStep.{StepOfKind};
-ghost use Rattle.cfi_kept.specs.PlaceRuns.{NextGate, PlaceRuns, PlacesKept, TargetBears, WrittenPrologue};
+ghost use Rattle.cfi_kept.specs.PlaceLaws.{NextGate, PlaceRuns, TargetBears, WrittenPrologue};
+ghost use Rattle.cfi_kept.specs.PlacesKept.{PlacesKept};
 
 /// The opening and the closing stand in an image of what is written.
 pub fn written_prologue()
