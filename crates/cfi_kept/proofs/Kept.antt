@@ -70,7 +70,7 @@ walked m image (k ∷ places) o last of on =
       leads = paths_join (loaded image) here.path (unit_here m k ∷ rest.path) o (at_word m k o) last here.leads (here.step, on.1, rest.leads);
     }
 
-more_steps : (image : Contents) (input : List ℕ) (most more : ℕ) (Q : After → Type 0) → most ≤ more → RunsTo version_1 image input most Q → RunsTo version_1 image input more Q
+pub more_steps : (image : Contents) (input : List ℕ) (most more : ℕ) (Q : After → Type 0) → most ≤ more → RunsTo version_1 image input most Q → RunsTo version_1 image input more Q
 more_steps image input most more Q few runs = (runs.0, (let bound = runs.1 in omega arith), runs.2)
 
 pub places_kept : law.PlacesKept
