@@ -1,0 +1,5 @@
+pub mod Found
+pub mod KindTame
+pub mod KindActs
+pub mod Steps
+pub mod Kept

@@ -1,0 +1,5 @@
+pub mod Reason
+pub mod Source
+pub mod Untame
+pub mod SourceStep
+pub mod Meaning
