@@ -1,24 +1,23 @@
 -- Meaning kept, by induction on the source machine's steps.
-use Rattle.std.proofs.Common.{◌≡◌, ℕ, zero, suc, ◌+◌, ◌*◌, ◌%◌, ◌^◌, ◌≤◌, List, [], ◌∷◌, ◌++◌, length, length-append, Some, None, refl, sym, ap, subst, ◌∙◌, arith}
+use Rattle.std.proofs.Common.{◌≡◌, ℕ, zero, suc, ◌+◌, ◌%◌, ◌^◌, List, [], ◌∷◌, ◌++◌, length, length-append, Some, None, refl, sym, ap, subst, ◌∙◌, arith}
 use Rattle.std.proofs.lemmas.Option.{option_and_then_some, same_Some}
 use Rattle.rv_word.specs.Image.{Contents}
 use Rattle.rv_word.specs.Layout.{DATA_START, Profile, SHADOW_START, version_1}
 use Rattle.rv_word.specs.Memory.{loaded, placed, zeros}
 use Rattle.rv_instr.specs.Registers.{cleared, set_reg}
 use Rattle.rv_code.specs.State.{After, Shared, last_exit}
-use Rattle.rv_code.specs.declared.turn.Turn.TheVariants.{Ran, Exit}
+use Rattle.rv_code.specs.declared.turn.Turn.TheVariants.{Ran}
 use Rattle.cfi_flow.specs.GraphAtMap.{gate}
 use Rattle.cfi_unit.specs.PrologueEffect.{closing_site}
-use Rattle.cfi_runs.specs.MatchLaws.{ComesTo}
 use Rattle.cfi_runs.specs.Matching.{MatchesAfter, SameData}
-use Rattle.cfi_runs.specs.Own.{Own, OwnAfter, own_closing, own_start}
+use Rattle.cfi_runs.specs.Own.{Own, OwnAfter, own_start}
 use Rattle.cfi_runs.specs.WholeRun.{RunsTo, own_shared, undisturbed}
 use Rattle.cfi_rewrite.specs.Units.{Choice, entry_gate}
 use Rattle.cfi_kept.specs.ImageOf.{IsImageOf}
 use Rattle.cfi_kept.specs.PlaceSteps.{PlacesRun, TamePlace, place_step}
 use Rattle.cfi_kept.specs.PlacesKept.{KeepsPlaces, bound}
-use Rattle.cfi_kept.proofs.Kept.{more_steps, places_kept}
-use Rattle.cfi_meaning.specs.Meaning.{Answers, KeepsMeaning, Matches, MeaningKept, address_of, own_of}
+use Rattle.cfi_kept.proofs.Kept.{places_kept}
+use Rattle.cfi_meaning.specs.Meaning.{Answers, Matches, MeaningKept, address_of, own_of}
 use Rattle.cfi_meaning.specs.Source.{Source, init_here, source_start}
 use Rattle.cfi_meaning.specs.SourceStep.{SourceAfter, StepTurn, after_steps, breaks, closes, exits, going_on, ran, source_step, untame}
 use Rattle.cfi_meaning.proofs.KindActs.{IsOwn}
@@ -111,9 +110,8 @@ module _ (m : Choice) (image : Contents) (of : IsImageOf m image) (input : List 
     answers ran next o own after matches =
         let those = subst (λ (a : OwnAfter). MatchesAfter SHADOW_START (loaded image) (loaded image) a after) own matches in (those.turn, those.going refl)
     answers (exits status) next o own after matches = (matches.turn ∙ own.0, subst (λ (s : Shared). SameData s after.shared) own.1 matches.shared)
-    answers (breaks k) next o own after matches = (matches.turn ∙ own.0, subst (λ (s : Shared). SameData s after.shared) own.1 matches.shared)
+    answers (breaks k) next o own after matches = (matches.turn ∙ own.0, own.1, subst (λ (s : Shared). SameData s after.shared) own.2 matches.shared)
     answers (untame why k) next o own after matches = tt
-
 
     ends_so : (n : ℕ) (st : Source) → after_steps m.layout n start ≡ Some st → Stepped m image st →
         RunsTo version_1 image input (bound (n + 1)) (Answers m image (source_step m.layout st).turn (source_step m.layout st).state)
@@ -133,8 +131,7 @@ module _ (m : Choice) (image : Contents) (of : IsImageOf m image) (input : List 
         let l = led n st e in
         let close = (kept n st l).closes (ap (address_of m.layout) nowhere ∙ closing_is) in
         let few = close.1 in
-        let counted = l.counted in
-        (
+        let counted = l.counted in (
           close.0,
           omega arith,
           subst (λ (a : SourceAfter). Answers m image a.turn a.state (undisturbed version_1 image input close.0)) (sym is) (close.2.turn, close.2.shared),

@@ -1,8 +1,8 @@
 -- The source machine's step of a kind is the own step of that kind, by addresses.
-use Rattle.std.proofs.Common.{◌≡◌, ℕ, ◌+◌, ◌*◌, ◌^◌, ◌%◌, ◌==◌, ◌||◌, Bool, true, false, inl, inr, List, [], ◌∷◌, Option, Some, None, refl, sym, ap, subst, ◌∙◌, if◌then◌else◌, unwrap_or}
+use Rattle.std.proofs.Common.{◌≡◌, ℕ, ◌+◌, ◌≤◌, Bool, true, false, List, [], ◌∷◌, Option, Some, refl, sym, ap, subst, ◌∙◌, if◌then◌else◌, unwrap_or}
 use Rattle.std.proofs.lemmas.Bool.{cond_both}
-use Rattle.rv_word.specs.Layout.{Profile, can_load, can_store, version_1}
-use Rattle.rv_instr.specs.Registers.{Registers, get_reg, set_reg}
+use Rattle.rv_word.specs.Layout.{Profile, UNITS_START, can_load, can_store, version_1}
+use Rattle.rv_instr.specs.Registers.{Registers, get_reg}
 use Rattle.rv_instr.specs.declared.instr.Instr.{Instr}
 use Rattle.rv_instr.specs.declared.instr.Instr.TheVariants as I
 use Rattle.rv_instr.specs.declared.instr.UpperOp.TheVariants.{Lui, Auipc}
@@ -14,18 +14,16 @@ use Rattle.rv_code.specs.declared.turn.Turn.TheVariants.{Ran, Exit, Break, LoadF
 use Rattle.rv_code.proofs.Calls.{AfterCall, after_call, answered, ended}
 use Rattle.obj_input.specs.declared.item_kind.ItemKind.{ItemKind}
 use Rattle.obj_input.specs.declared.item_kind.ItemKind.TheVariants as is
-use Rattle.obj_program.specs.Program.{is_end}
 use Rattle.obj_program.specs.Sound.{is_direct}
 use Rattle.obj_program.specs.Suits.{suits}
 use Rattle.cfi_flow.specs.GraphAtMap.{Layout, gate, gate_to, word}
 use Rattle.cfi_runs.specs.Own.{Own, OwnAfter, goes, calls, returns}
 use Rattle.cfi_kept.specs.KindStep.{kind_step}
 use Rattle.cfi_meaning.specs.Meaning.{own_of, sites_of}
-use Rattle.cfi_meaning.specs.Reason.{Reason}
 use Rattle.cfi_meaning.specs.Source.{Source}
 use Rattle.cfi_meaning.specs.SourceStep.{SourceAfter, StepTurn, acts, breaks, exits, goes_to, if_taken, leaves, place_after, ran, returns_from, turn_at, untame}
 use Rattle.cfi_meaning.specs.SourceStep as source
-use Rattle.cfi_meaning.specs.Untame.{computed, computed_place}
+use Rattle.cfi_meaning.specs.Untame.{computed}
 use Rattle.cfi_meaning.proofs.Found.{place_found, some_found}
 use Rattle.cfi_meaning.proofs.KindTame.{NoReason}
 
@@ -33,7 +31,7 @@ use Rattle.cfi_meaning.proofs.KindTame.{NoReason}
 abbrev pub IsOwn : Layout → OwnAfter → StepTurn → Source → Type 0
 IsOwn g o ran st = o ≡ record { state = own_of g st; turn = Ran }
 IsOwn g o (exits status) st = (o.turn ≡ Exit status) × (o.state.shared ≡ st.shared)
-IsOwn g o (breaks k) st = (o.turn ≡ Break (word g k)) × (o.state.shared ≡ st.shared)
+IsOwn g o (breaks k) st = (o.turn ≡ Break (word g k)) × (UNITS_START ≤ word g k) × (o.state.shared ≡ st.shared)
 IsOwn g o (untame why k) st = Unit {0}
 
 -- an instruction breaks at its own pc alone
@@ -64,7 +62,7 @@ module _ (h : Hart) (s : Shared) (pc : ℕ) where
   exec_breaks I.Ecall e = call_breaks _ (after_call h s) e
   exec_breaks I.Ebreak e = cc
 
-module _ (g : Layout) (one : g.profile ≡ version_1) (k : ℕ) (r : Registers) (t : Shared) (pending : List ℕ) where
+module _ (g : Layout) (one : g.profile ≡ version_1) (k : ℕ) (past : UNITS_START ≤ word g k) (r : Registers) (t : Shared) (pending : List ℕ) where
   -- at a place
   abbrev here : Source
   here = record { place = Some k; regs = r; shared = t; pending = pending }
@@ -77,7 +75,7 @@ module _ (g : Layout) (one : g.profile ≡ version_1) (k : ℕ) (r : Registers) 
       (record here { place = place_after k turn; regs = regs; shared = s })
   turn_is Ran regs s stays = refl
   turn_is (Exit status) regs s stays = (refl, refl)
-  turn_is (Break pc) regs s stays = (ap Break (stays pc refl), refl)
+  turn_is (Break pc) regs s stays = (ap Break (stays pc refl), past, refl)
   turn_is (LoadFault pc a) regs s stays = tt
   turn_is (StoreFault pc a) regs s stays = tt
   turn_is (FetchFault pc) regs s stays = tt

@@ -1,10 +1,10 @@
 -- A step against which no reason stands is one that its unit keeps.
-use Rattle.std.proofs.Common.{◌≡◌, ℕ, suc, ◌+◌, ◌^◌, ◌<◌, ◌≤◌, ◌==◌, Bool, true, false, not, List, [], ◌∷◌, length, Some, None, refl, sym, ap, subst, ◌∙◌, arith}
+use Rattle.std.proofs.Common.{◌≡◌, ℕ, suc, ◌<◌, ◌==◌, Bool, true, false, List, [], ◌∷◌, length, Some, None, refl, ap, subst, arith}
 use Rattle.std.specs.Prelude.{nat_le, if◌then◌else◌}
 use Rattle.std.proofs.lemmas.Bool.{eqb-true, leb-false, leb-true, not-false}
 use Rattle.rv_word.specs.Image.{Contents}
 use Rattle.rv_word.specs.Memory.{loaded}
-use Rattle.rv_instr.specs.Registers.{Registers, get_reg}
+use Rattle.rv_instr.specs.Registers.{get_reg}
 use Rattle.rv_instr.specs.declared.instr.Instr.{Instr}
 use Rattle.rv_instr.specs.declared.instr.Instr.TheVariants as I
 use Rattle.obj_input.specs.declared.item_kind.ItemKind.{ItemKind}
@@ -23,8 +23,8 @@ use Rattle.cfi_meaning.specs.Meaning.{sites_of}
 use Rattle.cfi_meaning.specs.Reason.{Reason}
 use Rattle.cfi_meaning.specs.Reason as why
 use Rattle.cfi_meaning.specs.Source.{Source}
-use Rattle.cfi_meaning.specs.Untame.{MOST_CALLS, WINDOW, computed_place, is_off_graph, is_off_window, is_too_deep, is_wrong_return, return_address, touched}
-use Rattle.cfi_meaning.proofs.Found.{IsFound, place_found, some_found}
+use Rattle.cfi_meaning.specs.Untame.{MOST_CALLS, is_off_graph, is_off_window, is_too_deep, is_wrong_return, return_address}
+use Rattle.cfi_meaning.proofs.Found.{place_found, some_found}
 
 -- no reason stands
 pub record NoReason (g : Layout) (k : ℕ) (kind : ItemKind) (i : Instr) (st : Source) : Type 0 where

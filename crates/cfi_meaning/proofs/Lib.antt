@@ -3,3 +3,4 @@ pub mod KindTame
 pub mod KindActs
 pub mod Steps
 pub mod Kept
+pub mod NeverDiffers

@@ -1,9 +1,10 @@
 -- One step of the source machine, seen from the image: it has ended, it is untame, it is the own step
 -- of its place, or the closing's.
-use Rattle.std.proofs.Common.{◌≡◌, ℕ, suc, ◌+◌, ◌%◌, ◌^◌, ◌<◌, ◌≤◌, inl, inr, true, false, List, [], ◌∷◌, length, Option, Some, None, refl, sym, ap, subst, ◌∙◌, arith, unwrap_or}
+use Rattle.std.proofs.Common.{◌≡◌, ℕ, ◌≤◌, inl, inr, true, List, Option, Some, None, refl, sym, ap, subst, ◌∙◌, arith, unwrap_or}
 use Rattle.std.proofs.lemmas.Bool.{cases_lt}
 use Rattle.std.proofs.lemmas.List.{get_or_past}
 use Rattle.rv_word.specs.Image.{Contents}
+use Rattle.rv_word.specs.Layout.{UNITS_START}
 use Rattle.rv_word.proofs.Cases.{cases_Option}
 use Rattle.rv_instr.specs.Registers.{Registers}
 use Rattle.rv_code.specs.State.{Shared, last_exit}
@@ -12,12 +13,12 @@ use Rattle.obj_program.specs.Program.{count, is_end, item_of, no_item}
 use Rattle.obj_program.specs.Sound.{is_direct}
 use Rattle.obj_program.specs.Suits.{suits}
 use Rattle.obj_program.proofs.Kept.{kept}
-use Rattle.cfi_flow.specs.GraphAtMap.{Layout, gate, gate_to}
+use Rattle.cfi_flow.specs.GraphAtMap.{Layout, gate, gate_to, word}
 use Rattle.cfi_flow.specs.LabelOf.{site_label}
 use Rattle.cfi_flow.specs.Placement.{is_long, words_from}
 use Rattle.cfi_rewrite.specs.Units.{Choice, instr_of}
 use Rattle.cfi_rewrite.proofs.Leading.{direct}
-use Rattle.cfi_rewrite.proofs.Standing.{instr_is}
+use Rattle.cfi_rewrite.proofs.Standing.{gate_lies, instr_is, word_is}
 use Rattle.cfi_kept.specs.ImageOf.{IsImageOf, IsPlace}
 use Rattle.cfi_kept.specs.PlaceSteps.{TamePlace, place_step}
 use Rattle.cfi_kept.proofs.KindStep.{step_of_kind}
@@ -25,7 +26,7 @@ use Rattle.cfi_kept.proofs.Targets.{target_bears}
 use Rattle.cfi_meaning.specs.Meaning.{own_of}
 use Rattle.cfi_meaning.specs.Reason.{Reason}
 use Rattle.cfi_meaning.specs.Source.{Source, instr_here}
-use Rattle.cfi_meaning.specs.SourceStep.{SourceAfter, StepTurn, acts, closes, exits, source_step, step_at, unless, unless_ended, untame}
+use Rattle.cfi_meaning.specs.SourceStep.{SourceAfter, acts, closes, exits, source_step, step_at, unless, unless_ended, untame}
 use Rattle.cfi_meaning.specs.Untame.{is_off_graph, is_off_window, is_too_deep, is_wrong_return, reason}
 use Rattle.cfi_meaning.proofs.KindActs.{IsOwn, own_acts}
 use Rattle.cfi_meaning.proofs.KindTame.{NoReason, all_false, sites_counted, tame_of_kind}
@@ -36,7 +37,6 @@ module _ (m : Choice) (image : Contents) (of : IsImageOf m image) (k : ℕ) wher
 
   abbrev item : Item
   item = item_of m.layout.program k
-
 
   module _ (r : Registers) (t : Shared) (pending : List ℕ) where
     abbrev here : Source
@@ -52,12 +52,12 @@ module _ (m : Choice) (image : Contents) (of : IsImageOf m image) (k : ℕ) wher
       place : IsPlace m k
       place = record {
         below = elim (cases_lt k (count m.layout.program)) [
-            | inl less ↦ less
-            | inr past ↦
-                let last : is_end item.kind ≡ true = ap (λ (x : Item). is_end x.kind) (get_or_past m.layout.program.items k no_item past) in
-                let some = no_reason.no_end in
-                absurd (cc)
-          ];
+          | inl less ↦ less
+          | inr past ↦
+              let last : is_end item.kind ≡ true = ap (λ (x : Item). is_end x.kind) (get_or_past m.layout.program.items k no_item past) in
+              let some = no_reason.no_end in
+              absurd (cc)
+        ];
         no_end = no_reason.no_end;
       }
 
@@ -80,12 +80,19 @@ module _ (m : Choice) (image : Contents) (of : IsImageOf m image) (k : ℕ) wher
             item.kind (instr_of m k) (is_long m.long k) (gate_to g item.target) suit no_reason;
       }
 
+      past : UNITS_START ≤ word g k
+      past =
+          let lies = gate_lies m of.accepted k place.below in
+          let from = lies.0 in
+          let behind = word_is m of.accepted k in
+          omega arith
+
       own_here : IsOwn g (place_step m k (own_of g here)) (acts g k item.kind (instr_here g k) (unwrap_or item.target 0) here).turn
           (acts g k item.kind (instr_here g k) (unwrap_or item.target 0) here).state
       own_here =
           subst (λ o. IsOwn g o (acts g k item.kind (instr_here g k) (unwrap_or item.target 0) here).turn (acts g k item.kind (instr_here g k) (unwrap_or item.target 0) here).state)
           (sym (step_of_kind m k (own_of g here) of.accepted place))
-          (own_acts g of.accepted.profile k r t pending item.kind (instr_of m k) item.target suit no_reason aim)
+          (own_acts g of.accepted.profile k past r t pending item.kind (instr_of m k) item.target suit no_reason aim)
 
 -- what a step is
 pub data Stepped (m : Choice) (image : Contents) (st : Source) : Type 0 where

@@ -3,3 +3,4 @@ pub mod Source
 pub mod Untame
 pub mod SourceStep
 pub mod Meaning
+pub mod Compared

@@ -1,9 +1,9 @@
 -- Meaning kept: after n tame steps of the source machine, none of which ends the run, the undisturbed
 -- run of the image is at a matching state within 21 n + 13 steps; and the next step's end is the image's
 -- within 21 more.
-use Rattle.std.specs.Prelude.{◌≡◌, ℕ, ◌+◌, Option, Some, None, List, [], ◌∷◌}
+use Rattle.std.specs.Prelude.{◌≡◌, ℕ, ◌+◌, ◌≤◌, Option, Some, None, List, [], ◌∷◌}
 use Rattle.rv_word.specs.Image.{Contents}
-use Rattle.rv_word.specs.Layout.{SHADOW_START, version_1}
+use Rattle.rv_word.specs.Layout.{SHADOW_START, UNITS_START, version_1}
 use Rattle.rv_word.specs.Memory.{loaded}
 use Rattle.rv_code.specs.State.{After}
 use Rattle.rv_code.specs.declared.turn.Turn.TheVariants.{Exit, Break}
@@ -43,11 +43,12 @@ own_of layout st = record {
 abbrev pub Matches : Choice → Contents → Source → After → Type 0
 Matches m image st after = ComesTo SHADOW_START (loaded image) (loaded image) (own_of m.layout st) after
 
--- the image ends as the source machine's step does
+-- the image ends as the source machine's step does: at a break in no handler
 abbrev pub Answers : Choice → Contents → StepTurn → Source → After → Type 0
 Answers m image ran st after = Matches m image st after
 Answers m image (exits status) st after = (after.turn ≡ Exit status) × SameData st.shared after.shared
-Answers m image (breaks k) st after = (after.turn ≡ Break (word m.layout k)) × SameData st.shared after.shared
+Answers m image (breaks k) st after =
+    (after.turn ≡ Break (word m.layout k)) × (UNITS_START ≤ word m.layout k) × SameData st.shared after.shared
 Answers m image (untame why k) st after = Unit {0}
 
 pub record KeepsMeaning (m : Choice) (image : Contents) (input : List ℕ) : Type 0 where

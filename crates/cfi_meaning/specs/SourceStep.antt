@@ -1,6 +1,6 @@
 -- One step of the source machine. An instruction that goes nowhere else has the effect that the hart gives it at the word of
 -- its place, and the following place is next; links and pointers are gates. A reason against a step leaves all as it was.
-use Rattle.std.specs.Prelude.{ℕ, zero, suc, ◌+◌, Bool, if◌then◌else◌, Option, Some, None, option_and_then, unwrap_or, slice_get, List, [], ◌∷◌}
+use Rattle.std.specs.Prelude.{ℕ, zero, suc, ◌+◌, Bool, if◌then◌else◌, Option, Some, None, option_and_then, unwrap_or, List, [], ◌∷◌}
 use Rattle.rv_instr.specs.declared.instr.Instr.{Instr}
 use Rattle.rv_instr.specs.declared.instr.Instr.TheVariants.{Branch, Ecall}
 use Rattle.rv_instr.specs.Registers.{Registers, get_reg, set_reg}

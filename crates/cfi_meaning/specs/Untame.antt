@@ -1,6 +1,6 @@
 -- What makes a step untame, in the order in which it is told: a source machine takes no step that goes where its closed
 -- graph does not, returns elsewhere than its call says, leaves the window of data, calls too deep or runs into a section's end.
-use Rattle.std.specs.Prelude.{ℕ, ◌+◌, ◌*◌, ◌/◌, ◌^◌, nat_le, Bool, true, false, not, ◌==◌, if◌then◌else◌, Option, Some, None, option_and_then, position, List, [], ◌∷◌, length}
+use Rattle.std.specs.Prelude.{ℕ, ◌+◌, ◌*◌, ◌/◌, ◌^◌, nat_le, Bool, false, not, ◌==◌, if◌then◌else◌, Option, Some, None, option_and_then, position, List, [], ◌∷◌, length}
 use Rattle.std.specs.Option.{is_none}
 use Rattle.rv_word.specs.Bits.{wrap}
 use Rattle.rv_instr.specs.declared.instr.Instr.{Instr}
