@@ -11,7 +11,7 @@ use Rattle.rv_instr.specs.Registers.{Registers}
 use Rattle.rv_instr.specs.declared.instr.Instr.{Instr}
 use Rattle.cfi_flow.specs.Closed.{class_at, class_of}
 use Rattle.cfi_flow.specs.GraphAtMap.{Layout, gate}
-use Rattle.cfi_meaning.specs.Untame.{computed, computed_place, if_reached, is_same, place_with_gate, reaches}
+use Rattle.cfi_flow.specs.Untame.{computed, computed_place, if_reached, is_same, place_with_gate, reaches}
 
 pub record IsFound (g : Layout) (k v t : ℕ) : Type 0 where
   pub gate_is : gate g t ≡ v

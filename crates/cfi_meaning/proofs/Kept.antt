@@ -18,8 +18,8 @@ use Rattle.cfi_kept.specs.PlaceSteps.{PlacesRun, TamePlace, place_step}
 use Rattle.cfi_kept.specs.PlacesKept.{KeepsPlaces, bound}
 use Rattle.cfi_kept.proofs.Kept.{places_kept}
 use Rattle.cfi_meaning.specs.Meaning.{Answers, Matches, MeaningKept, address_of, own_of}
-use Rattle.cfi_meaning.specs.Source.{Source, init_here, source_start}
-use Rattle.cfi_meaning.specs.SourceStep.{SourceAfter, StepTurn, after_steps, breaks, closes, exits, going_on, ran, source_step, untame}
+use Rattle.cfi_flow.specs.Source.{Source, init_here, source_start}
+use Rattle.cfi_flow.specs.SourceStep.{SourceAfter, StepTurn, after_steps, breaks, closes, exits, going_on, ran, source_step, untame}
 use Rattle.cfi_meaning.proofs.KindActs.{IsOwn}
 use Rattle.cfi_meaning.proofs.Steps.{Stepped, at_closing, at_place, has_ended, is_untame, stepped}
 

@@ -20,10 +20,10 @@ use Rattle.cfi_runs.specs.Own as own
 use Rattle.cfi_runs.specs.Tame.{IsTame}
 use Rattle.cfi_rewrite.specs.Units.{unit_of}
 use Rattle.cfi_meaning.specs.Meaning.{sites_of}
-use Rattle.cfi_meaning.specs.Reason.{Reason}
-use Rattle.cfi_meaning.specs.Reason as why
-use Rattle.cfi_meaning.specs.Source.{Source}
-use Rattle.cfi_meaning.specs.Untame.{MOST_CALLS, is_off_graph, is_off_window, is_too_deep, is_wrong_return, return_address}
+use Rattle.cfi_flow.specs.declared.reason.Reason.{Reason}
+use Rattle.cfi_flow.specs.declared.reason.Reason.TheVariants as why
+use Rattle.cfi_flow.specs.Source.{Source}
+use Rattle.cfi_flow.specs.Untame.{MOST_CALLS, is_off_graph, is_off_window, is_too_deep, is_wrong_return, return_address}
 use Rattle.cfi_meaning.proofs.Found.{place_found, some_found}
 
 -- no reason stands

@@ -19,8 +19,8 @@ use Rattle.cfi_kept.specs.PlacesKept.{bound}
 use Rattle.cfi_meaning.specs.Compared as law
 use Rattle.cfi_meaning.specs.Compared.{Compared, Difference, SourceRun, TraceItem, broke, called, compared, differs, exited, first_difference, has_ended, image_end, limited, run_from, running, same_bytes, same_event, same_item, source_end, source_run, stopped, trace, verdict}
 use Rattle.cfi_meaning.specs.Meaning.{Answers, KeepsMeaning}
-use Rattle.cfi_meaning.specs.Source.{Source, source_start}
-use Rattle.cfi_meaning.specs.SourceStep.{SourceAfter, StepTurn, after_steps, breaks, exits, ran, source_step, untame}
+use Rattle.cfi_flow.specs.Source.{Source, source_start}
+use Rattle.cfi_flow.specs.SourceStep.{SourceAfter, StepTurn, after_steps, breaks, exits, ran, source_step, untame}
 use Rattle.cfi_meaning.proofs.Kept.{meaning_kept}
 
 self : (n : ℕ) → (n == n) ≡ true

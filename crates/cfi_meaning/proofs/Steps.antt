@@ -24,10 +24,10 @@ use Rattle.cfi_kept.specs.PlaceSteps.{TamePlace, place_step}
 use Rattle.cfi_kept.proofs.KindStep.{step_of_kind}
 use Rattle.cfi_kept.proofs.Targets.{target_bears}
 use Rattle.cfi_meaning.specs.Meaning.{own_of}
-use Rattle.cfi_meaning.specs.Reason.{Reason}
-use Rattle.cfi_meaning.specs.Source.{Source, instr_here}
-use Rattle.cfi_meaning.specs.SourceStep.{SourceAfter, acts, closes, exits, source_step, step_at, unless, unless_ended, untame}
-use Rattle.cfi_meaning.specs.Untame.{is_off_graph, is_off_window, is_too_deep, is_wrong_return, reason}
+use Rattle.cfi_flow.specs.declared.reason.Reason.{Reason}
+use Rattle.cfi_flow.specs.Source.{Source, instr_here}
+use Rattle.cfi_flow.specs.SourceStep.{SourceAfter, acts, closes, exits, source_step, step_at, unless, unless_ended, untame}
+use Rattle.cfi_flow.specs.Untame.{is_off_graph, is_off_window, is_too_deep, is_wrong_return, reason}
 use Rattle.cfi_meaning.proofs.KindActs.{IsOwn, own_acts}
 use Rattle.cfi_meaning.proofs.KindTame.{NoReason, all_false, sites_counted, tame_of_kind}
 

@@ -12,9 +12,9 @@ use Rattle.cfi_runs.specs.WholeRun.{undisturbed}
 use Rattle.cfi_rewrite.specs.Units.{Choice}
 use Rattle.cfi_kept.specs.ImageOf.{IsImageOf}
 use Rattle.cfi_kept.specs.PlacesKept.{bound}
-use Rattle.cfi_meaning.specs.Reason.{Reason}
-use Rattle.cfi_meaning.specs.Source.{Source, init_here, source_start}
-use Rattle.cfi_meaning.specs.SourceStep.{StepTurn, breaks, exits, ran, source_step, untame}
+use Rattle.cfi_flow.specs.declared.reason.Reason.{Reason}
+use Rattle.cfi_flow.specs.Source.{Source, init_here, source_start}
+use Rattle.cfi_flow.specs.SourceStep.{StepTurn, breaks, exits, ran, source_step, untame}
 
 -- the source machine's run of so many steps at most: the step that ends it counts, an untame one does not
 pub record SourceRun : Type 0 where

@@ -15,8 +15,8 @@ use Rattle.cfi_runs.specs.WholeRun.{RunsTo}
 use Rattle.cfi_rewrite.specs.Units.{Choice}
 use Rattle.cfi_kept.specs.ImageOf.{IsImageOf}
 use Rattle.cfi_kept.specs.PlacesKept.{bound}
-use Rattle.cfi_meaning.specs.Source.{Source, init_here, source_start}
-use Rattle.cfi_meaning.specs.SourceStep.{StepTurn, after_steps, breaks, exits, ran, source_step, untame}
+use Rattle.cfi_flow.specs.Source.{Source, init_here, source_start}
+use Rattle.cfi_flow.specs.SourceStep.{StepTurn, after_steps, breaks, exits, ran, source_step, untame}
 
 abbrev pub address_of : Layout → Option ℕ → ℕ
 address_of layout None = layout.profile.closing
