@@ -20,12 +20,12 @@ use Rattle.cfi_verify.proofs.UnitIn.{length-placed_code}
 use Rattle.cfi_rewrite.specs.Accepted.{IsAccepted}
 use Rattle.cfi_rewrite.specs.Fitting.{IsFitting}
 use Rattle.cfi_rewrite.specs.GraphOf.{IsGraphOf}
-use Rattle.cfi_rewrite.specs.Hardened.{chosen}
+use Rattle.cfi_rewrite.specs.Hardened.{AreGiven, chosen}
 use Rattle.cfi_rewrite.specs.Placing.{Spaced}
 use Rattle.cfi_rewrite.specs.Prepared.{IsClosedUnder, PreparedParts}
 use Rattle.cfi_rewrite.specs.Sizes.{part_sizes}
 use Rattle.cfi_rewrite.specs.Units.{Choice, entry_gate, unit_for, units}
-use Rattle.cfi_rewrite.specs.Writing.{AreGiven, IsReady}
+use Rattle.cfi_rewrite.specs.Writing.{IsReady}
 use Rattle.cfi_rewrite.proofs.CodeRoom.{bytes_are, size_is}
 use Rattle.cfi_rewrite.proofs.SitesThere.{site_class_there, site_there}
 

@@ -5,15 +5,18 @@ use Rattle.obj_program.specs.Sound.{IsSound}
 use Rattle.obj_items.specs.FromObject.{input_of}
 use Rattle.obj_items.specs.Laws.{LastEnds}
 use Rattle.obj_items.specs.MapFit.{FitsMap, PlacesFit}
+use Rattle.obj_items.proofs.LastEnds.{last_ends}
+use Rattle.obj_items.proofs.MapFit.{places_fit}
 use Rattle.cfi_rewrite.specs.declared.refusal.Refusal.{Refusal}
 use Rattle.cfi_rewrite.specs.declared.refusal.Refusal.TheVariants as R
 use Rattle.cfi_rewrite.specs.Fitting.{IsFitting, RefusesPlaced}
-use Rattle.cfi_rewrite.specs.Hardened.{HardenedParts, IsWrittenOf, chosen}
+use Rattle.cfi_rewrite.specs.Hardened.{AreGiven, HardenedParts, IsWrittenOf, chosen}
+use Rattle.cfi_rewrite.specs.HardenedLaws.{WrittenIsAccepted}
 use Rattle.cfi_rewrite.specs.Placing.{Spaced}
 use Rattle.cfi_rewrite.specs.Prepared.{IsPrepared, PreparedParts}
 use Rattle.cfi_rewrite.specs.Refused.{Hardens, Refuses}
 use Rattle.cfi_rewrite.specs.Request.{Request}
-use Rattle.cfi_rewrite.specs.Writing.{AreGiven, IsReady, IsWritable, IsWrittenAs, WritesOr}
+use Rattle.cfi_rewrite.specs.Writing.{IsReady, IsWritable, IsWrittenAs, WritesOr}
 use Rattle.cfi_rewrite.proofs.Accepting.{accepted, data_there, graph_there}
 use Rattle.cfi_rewrite.proofs.EntryThere.{entry_there}
 use Rattle.cfi_rewrite.proofs.MapFits.{accepted_map}
@@ -32,6 +35,11 @@ ready request p ends fit prepared sound small =
       graph = graph_there p.program request.policy p.closed prepared.closed;
       entered = entered;
     }
+
+-- what is written of a prepared request is an accepted choice
+pub written_accepted : WrittenIsAccepted
+written_accepted request p s labels code init h prepared fitting written =
+    accepted p (ready request p last_ends places_fit prepared written.sound written.words) s fitting labels written.labelled
 
 pub writable : (p : PreparedParts) (s : Spaced) (labels : List ℕ) → IsReady p → IsFitting p s → AreGiven p.program p.closed labels → IsWritable p s labels
 writable p s labels ready fitting given =

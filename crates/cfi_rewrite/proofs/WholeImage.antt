@@ -1,5 +1,6 @@
 -- A prepared program that is written, with its graph and map.
-use Rattle.std.proofs.Common.{◌≡◌, ℕ, ◌*◌, ◌≤◌, List, length, Some, sym, ap, subst, ◌∙◌, arith}
+use Rattle.std.proofs.Common.{◌≡◌, ℕ, ◌*◌, ◌^◌, ◌<◌, ◌≤◌, List, length, Some, sym, ap, subst, ◌∙◌, arith}
+use Rattle.std.specs.Prelude.{slice_index}
 use Rattle.rv_word.specs.Image.{IsImageSize}
 use Rattle.rv_word.specs.Layout.{CODE_SIZE, OPENING_CALL, version_1}
 use Rattle.elf_image.specs.Spelling.{spelling}
@@ -9,6 +10,7 @@ use Rattle.obj_program.specs.DataAtMap.{data_at}
 use Rattle.cfi_flow.specs.GraphAtMap.{graph_lines}
 use Rattle.cfi_flow.specs.LegalMap.{IsLegalMap, gates_of}
 use Rattle.cfi_unit.specs.UnitWords.{Reaches}
+use Rattle.cfi_verify.specs.Laws.{AreBytes}
 use Rattle.cfi_verify.specs.Placed.{AllFit}
 use Rattle.cfi_verify.specs.Split.{code_words}
 use Rattle.cfi_verify.proofs.UnitIn.{length-placed_code}
@@ -44,23 +46,34 @@ image_size m code init same room less =
     let whole = length-placed_code (entry_gate m) (units m) in
     record { some = omega arith; most = omega arith; words = omega arith; data_most = less }
 
+-- code and data are bytes
+pub are_bytes : (code init : List ℕ) → ((k : ℕ) → slice_index code k < 2 ^ 8) → ((k : ℕ) → slice_index init k < 2 ^ 8) →
+    IsImageSize (length code) (length init) → AreBytes (record { code = code; init = init })
+are_bytes code init of_code of_init size = record { code = of_code; init = of_init; size = size }
+
 -- everything that is written of an accepted choice
 pub written_as : (p : PreparedParts) (s : Spaced) (labels code init image : List ℕ) (graph : GraphParts) (lines : List MapLine) →
     IsWritable p s labels →
     code_words code ≡ written_code (chosen p s labels) → data_at p.program s.gates ≡ Some init → image ≡ spelling code init →
     graph ≡ record { code = length code; lines = graph_lines (chosen p s labels).layout labels } → lines ≡ map_lines (chosen p s labels).layout →
-    IsLegalMap p.program p.closed lines → IsImageSize (length code) (length init) →
+    IsLegalMap p.program p.closed lines → AreBytes (record { code = code; init = init }) →
     IsWrittenAs p s labels (record { image = image; graph = graph; map = lines })
-written_as p s labels code init image graph lines able code_is init_is image_is graph_is lines_are legal size =
+written_as p s labels code init image graph lines able code_is init_is image_is graph_is lines_are legal bytes =
     let m = chosen p s labels in (
       code,
       init,
       record {
-        counted = able.accepted.counted;
-        labels_are = able.accepted.labels;
+        sound = able.accepted.sound;
+        words = able.accepted.words;
+        labelled = record {
+          counted = able.accepted.counted;
+          least = able.accepted.labels;
+          rising = able.accepted.labels_rise;
+          small = able.accepted.labels_small;
+        };
         code_is = code_is;
         init_is = init_is;
-        size = size;
+        bytes = bytes;
         image = image_is;
         graph = graph_is;
         map = legal;

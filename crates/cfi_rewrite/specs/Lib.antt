@@ -14,5 +14,6 @@ pub mod GraphOf
 pub mod Laws
 pub mod Hardened
 pub mod Fitting
+pub mod HardenedLaws
 pub mod Prologue
 pub mod Writing

@@ -1,16 +1,10 @@
 -- What a prepared program, a placement and labels have before units are written. Only private contracts cite this.
 use Rattle.std.specs.Prelude.{◌≡◌, ℕ, ◌-◌, ◌<◌, ◌≤◌, ◌^◌, true, List, Result, Ok, Err, is_some, length}
-use Rattle.std.specs.List.{All}
-use Rattle.std.specs.List.Sorted.{IsStrictlyIncreasing}
 use Rattle.cfi_graph.specs.Map.{IsMap}
-use Rattle.cfi_class.specs.Labels.{AreLabels}
 use Rattle.obj_program.specs.DataAtMap.{data_at, init_size}
-use Rattle.obj_program.specs.Program.{Program, count, is_end, item_of}
+use Rattle.obj_program.specs.Program.{count, is_end, item_of}
 use Rattle.obj_program.specs.Sound.{IsSound}
 use Rattle.obj_items.specs.MapFit.{FitsMap}
-use Rattle.cfi_flow.specs.Closed.{ClosedGraph}
-use Rattle.cfi_flow.specs.LabelOf.{all_classes}
-use Rattle.cfi_flow.specs.Labels.{used_labels}
 use Rattle.cfi_flow.specs.Placement.{words_from}
 use Rattle.cfi_rewrite.specs.declared.refusal.Refusal.{Refusal}
 use Rattle.cfi_rewrite.specs.Accepted.{IsAccepted}
@@ -29,13 +23,6 @@ pub record IsReady (p : PreparedParts) : Type 0 where
   pub near : (k : ℕ) → k < count p.program → FitsMap k (item_of p.program k)
   pub graph : IsGraphOf p.program p.closed
   pub entered : p.entry < count p.program
-
--- labels for all classes
-pub record AreGiven (program : Program) (closed : ClosedGraph) (labels : List ℕ) : Type 0 where
-  pub counted : length labels ≡ length (all_classes closed)
-  pub least : AreLabels (used_labels program) labels
-  pub rising : IsStrictlyIncreasing labels
-  pub small : All (λ label. label < 2 ^ 20) labels
 
 -- what can be written
 pub record IsWritable (p : PreparedParts) (s : Spaced) (labels : List ℕ) : Type 0 where

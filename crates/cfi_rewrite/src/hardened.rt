@@ -1,4 +1,4 @@
-ghost use Rattle.std.specs.Prelude.{◌≡◌, ◌*◌, ◌≤◌, true, IfOk, OnOk, Some, is_some, length};
+ghost use Rattle.std.specs.Prelude.{◌≡◌, ◌*◌, ◌<◌, ◌≤◌, ◌^◌, ℕ, true, IfOk, OnOk, Some, is_some, length, slice_index};
 ghost use Rattle.rv_word.specs.Layout.{CODE_SIZE};
 ghost use Rattle.cfi_flow.specs.GraphAtMap.{graph_lines};
 ghost use Rattle.cfi_flow.specs.Placement.{words_from};
@@ -98,6 +98,14 @@ fn chosen_of<'a, 'b>(
     Chosen::of(alloc, mapped, spacing.long(), labels, prepared.entry)
 }
 
+/// These are bytes.
+fn are_small(bytes: &[u8])
+    ensures { (k : ℕ) → slice_index bytes.now k < 2 ^ 8 }
+{
+    // Tells the proof the range of each byte.
+    let _len = bytes.len();
+}
+
 /// Writes a prepared program with these labels at a placement.
 #[tactic(auto, using(crate::proofs::WholeImage::image_size))]
 pub(crate) fn written(
@@ -115,6 +123,9 @@ pub(crate) fn written(
     let graph = chosen.graph_of(alloc, bytes)?;
     let map = chosen.map(alloc)?;
     let init = init_at(alloc, prepared, spacing)?;
-    let image = write_image(alloc, bytes, init.as_slice())?;
+    let data = init.as_slice();
+    are_small(bytes);
+    are_small(data);
+    let image = write_image(alloc, bytes, data)?;
     Ok(Hardened { image, graph, map })
 }

@@ -1,10 +1,11 @@
 ghost use Rattle.std.specs.Prelude.{◌≤◌, IfOk, option_copied};
 ghost use Rattle.rv_word.specs.Layout.{CODE_SIZE};
 ghost use Rattle.cfi_rewrite.specs.GraphOf.{IsGraphOf};
+ghost use Rattle.cfi_rewrite.specs.Hardened.{AreGiven};
 ghost use Rattle.cfi_rewrite.specs.Refused.{Hardens};
 ghost use Rattle.cfi_rewrite.specs.Request.{Request};
 ghost use Rattle.cfi_rewrite.specs.Sizes.{whole_size};
-ghost use Rattle.cfi_rewrite.specs.Writing.{AreGiven, IsReady, WritesOr};
+ghost use Rattle.cfi_rewrite.specs.Writing.{IsReady, WritesOr};
 
 use crate::hardened::{Hardened, written};
 use crate::numbering::class_labels;

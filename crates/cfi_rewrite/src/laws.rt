@@ -1,5 +1,11 @@
 //! What holds of code that is written for an accepted choice. Each function states one law; nothing is computed.
+ghost use Rattle.cfi_rewrite.specs.HardenedLaws.{WrittenIsAccepted};
 ghost use Rattle.cfi_rewrite.specs.Laws.{WrittenEntry, WrittenIsGraph, WrittenIsSound, WrittenIsWellFormed, WrittenLines, WrittenUnits};
+
+/// What is written of a prepared request at a placement that fits is an accepted choice.
+pub fn written_is_accepted()
+    ensures { WrittenIsAccepted }
+{}
 
 /// The units and classes of an accepted choice are sound.
 pub fn written_is_sound()
