@@ -100,13 +100,13 @@ module _ (m : Choice) (image : Contents) (of : IsImageOf m image) (input : List 
     kept n st l =
         places_kept m image input l.places (own_of m.layout st) of (subst (λ (o : Own). PlacesRun m image l.places o (own_of m.layout st)) starts l.run)
 
-    goes : (n : ℕ) (st : Source) → after_steps m.layout n start ≡ Some st → RunsTo version_1 image input (bound n) (Matches m image st)
+    goes : (n : ℕ) (st : Source) → after_steps m.layout n start ≡ Some st → RunsTo version_1 image input (bound n) (Matches m.layout image st)
     goes n st e =
         let l = led n st e in
-        subst (λ (j : ℕ). RunsTo version_1 image input (bound j) (Matches m image st)) l.counted (kept n st l).goes
+        subst (λ (j : ℕ). RunsTo version_1 image input (bound j) (Matches m.layout image st)) l.counted (kept n st l).goes
 
     answers : (turn : StepTurn) (next : Source) (o : OwnAfter) → IsOwn m.layout o turn next → (after : After) →
-        MatchesAfter SHADOW_START (loaded image) (loaded image) o after → Answers m image turn next after
+        MatchesAfter SHADOW_START (loaded image) (loaded image) o after → Answers m.layout image turn next after
     answers ran next o own after matches =
         let those = subst (λ (a : OwnAfter). MatchesAfter SHADOW_START (loaded image) (loaded image) a after) own matches in (those.turn, those.going refl)
     answers (exits status) next o own after matches = (matches.turn ∙ own.0, subst (λ (s : Shared). SameData s after.shared) own.1 matches.shared)
@@ -114,13 +114,13 @@ module _ (m : Choice) (image : Contents) (of : IsImageOf m image) (input : List 
     answers (untame why k) next o own after matches = tt
 
     ends_so : (n : ℕ) (st : Source) → after_steps m.layout n start ≡ Some st → Stepped m image st →
-        RunsTo version_1 image input (bound (n + 1)) (Answers m image (source_step m.layout st).turn (source_step m.layout st).state)
+        RunsTo version_1 image input (bound (n + 1)) (Answers m.layout image (source_step m.layout st).turn (source_step m.layout st).state)
     ends_so n st e (has_ended status ended is) =
         let (steps, few, comes) = goes n st e in
         let none : last_exit st.shared.events ≡ None = sym (ap last_exit comes.1.shared.events) ∙ comes.1.context.going in
         absurd (cc)
     ends_so n st e (is_untame why k is) =
-        subst (λ (t : StepTurn). RunsTo version_1 image input (bound (n + 1)) (Answers m image t (source_step m.layout st).state)) (sym is) (0, omega arith, tt)
+        subst (λ (t : StepTurn). RunsTo version_1 image input (bound (n + 1)) (Answers m.layout image t (source_step m.layout st).state)) (sym is) (0, omega arith, tt)
     ends_so n st e (at_place k now own) =
         let l = led n st e in
         let next = (kept n st l).next k now in
@@ -134,7 +134,7 @@ module _ (m : Choice) (image : Contents) (of : IsImageOf m image) (input : List 
         let counted = l.counted in (
           close.0,
           omega arith,
-          subst (λ (a : SourceAfter). Answers m image a.turn a.state (undisturbed version_1 image input close.0)) (sym is) (close.2.turn, close.2.shared),
+          subst (λ (a : SourceAfter). Answers m.layout image a.turn a.state (undisturbed version_1 image input close.0)) (sym is) (close.2.turn, close.2.shared),
         )
 
 pub meaning_kept : MeaningKept

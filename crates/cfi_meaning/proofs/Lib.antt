@@ -4,3 +4,4 @@ pub mod KindActs
 pub mod Steps
 pub mod Kept
 pub mod NeverDiffers
+pub mod Hardened

@@ -16,9 +16,9 @@ use Rattle.cfi_unit.specs.Prologue.{OPENING}
 use Rattle.cfi_runs.specs.WholeRun.{undisturbed}
 use Rattle.cfi_rewrite.specs.Units.{Choice}
 use Rattle.cfi_kept.specs.PlacesKept.{bound}
-use Rattle.cfi_meaning.specs.Compared as law
 use Rattle.cfi_meaning.specs.Compared.{Compared, Difference, SourceRun, TraceItem, broke, called, compared, differs, exited, first_difference, has_ended, image_end, limited, run_from, running, same_bytes, same_event, same_item, source_end, source_run, stopped, trace, verdict}
 use Rattle.cfi_meaning.specs.Meaning.{Answers, KeepsMeaning}
+use Rattle.cfi_meaning.specs.NeverDiffers as law
 use Rattle.cfi_flow.specs.Source.{Source, source_start}
 use Rattle.cfi_flow.specs.SourceStep.{SourceAfter, StepTurn, after_steps, breaks, exits, ran, source_step, untame}
 use Rattle.cfi_meaning.proofs.Kept.{meaning_kept}
@@ -142,7 +142,7 @@ module _ (m : Choice) (image : Contents) (input : List ℕ) where
       ∙ ap (first_difference k ended (map called events)) (ap (λ (xs : List TraceItem). xs ++ end) (map_join events more) ∙ append_assoc (map called events) (map called more) end)
       ∙ prefix_same k ended (map called events) (map called more ++ end)
 
-  ended_same : (turn : StepTurn) (st : Source) (few most : ℕ) → few ≤ most → Answers m image turn st (after few) → (turn ≡ ran → ⊥) → (d : Difference) →
+  ended_same : (turn : StepTurn) (st : Source) (few most : ℕ) → few ≤ most → Answers m.layout image turn st (after few) → (turn ≡ ran → ⊥) → (d : Difference) →
       verdict turn (first_difference 0 (has_ended turn) (trace st.shared.events (source_end turn)) (trace (after most).shared.events (image_end (after most).turn))) (length st.shared.events) ≡ differs d → ⊥
   ended_same ran st few most less answer not_ran d e = not_ran refl
   ended_same (exits status) st few most less answer not_ran d e =
@@ -167,7 +167,7 @@ module _ (m : Choice) (image : Contents) (input : List ℕ) where
       none_differs (breaks k) (length st.shared.events) d (ap (λ (o : Option Difference). verdict (breaks k) o (length st.shared.events)) (sym none) ∙ e)
   ended_same (untame why k) st few most less answer not_ran d e = cc
 
-  module _ (kept : KeepsMeaning m image input) where
+  module _ (kept : KeepsMeaning m.layout image input) where
     abbrev start : Source
     start = source_start m.layout input
 
@@ -194,14 +194,14 @@ module _ (m : Choice) (image : Contents) (input : List ℕ) where
     never r (at_end before i counted e is not_ran) d differ =
         let there = kept.ends i before (subst (λ (j : ℕ). after_steps m.layout j start ≡ Some before) (let s : 0 + i ≡ i = omega arith in s) e) in
         let few = there.1 in
-        let answer : Answers m image r.turn r.state (after there.0) =
-        subst (λ (a : SourceAfter). Answers m image a.turn a.state (after there.0)) is there.2 in
+        let answer : Answers m.layout image r.turn r.state (after there.0) =
+        subst (λ (a : SourceAfter). Answers m.layout image a.turn a.state (after there.0)) is there.2 in
         ended_same r.turn r.state there.0 (bound r.steps) (omega arith) answer not_ran d differ
     never r (off_way why k is) d differ = untame_differs r.turn why k _ _ d is differ
 
 pub never_differs : law.NeverDiffers
 unfolding compared after_steps
-never_differs m image input limit d of init differ =
+never_differs m image of init input limit d differ =
     never m image input (meaning_kept m image input of init) (source_run m.layout limit (source_start m.layout input))
     (where_is m.layout (source_start m.layout input) limit (source_start m.layout input) 0 (begins m input)) d differ
   where

@@ -9,8 +9,6 @@ use Rattle.rv_code.specs.declared.turn.Turn.TheVariants.{Ran, Exit, Break}
 use Rattle.cfi_flow.specs.GraphAtMap.{Layout}
 use Rattle.cfi_unit.specs.Prologue.{OPENING}
 use Rattle.cfi_runs.specs.WholeRun.{undisturbed}
-use Rattle.cfi_rewrite.specs.Units.{Choice}
-use Rattle.cfi_kept.specs.ImageOf.{IsImageOf}
 use Rattle.cfi_kept.specs.PlacesKept.{bound}
 use Rattle.cfi_flow.specs.declared.reason.Reason.{Reason}
 use Rattle.cfi_flow.specs.Source.{Source, init_here, source_start}
@@ -112,8 +110,3 @@ compared layout image input limit =
     verdict r.turn
     (first_difference 0 (has_ended r.turn) (trace r.state.shared.events (source_end r.turn)) (trace a.shared.events (image_end a.turn)))
     (length r.state.shared.events)
-
-abbrev pub NeverDiffers : Type 0
-NeverDiffers =
-    (m : Choice) (image : Contents) (input : List ℕ) (limit : ℕ) (d : Difference) → IsImageOf m image → image.init ≡ init_here m.layout →
-    compared m.layout image input limit ≡ differs d → ⊥

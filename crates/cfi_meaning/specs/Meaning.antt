@@ -40,23 +40,23 @@ own_of layout st = record {
   pending = sites_at layout st.place st.pending;
 }
 
-abbrev pub Matches : Choice → Contents → Source → After → Type 0
-Matches m image st after = ComesTo SHADOW_START (loaded image) (loaded image) (own_of m.layout st) after
+abbrev pub Matches : Layout → Contents → Source → After → Type 0
+Matches layout image st after = ComesTo SHADOW_START (loaded image) (loaded image) (own_of layout st) after
 
 -- the image ends as the source machine's step does: at a break in no handler
-abbrev pub Answers : Choice → Contents → StepTurn → Source → After → Type 0
-Answers m image ran st after = Matches m image st after
-Answers m image (exits status) st after = (after.turn ≡ Exit status) × SameData st.shared after.shared
-Answers m image (breaks k) st after =
-    (after.turn ≡ Break (word m.layout k)) × (UNITS_START ≤ word m.layout k) × SameData st.shared after.shared
-Answers m image (untame why k) st after = Unit {0}
+abbrev pub Answers : Layout → Contents → StepTurn → Source → After → Type 0
+Answers layout image ran st after = Matches layout image st after
+Answers layout image (exits status) st after = (after.turn ≡ Exit status) × SameData st.shared after.shared
+Answers layout image (breaks k) st after =
+    (after.turn ≡ Break (word layout k)) × (UNITS_START ≤ word layout k) × SameData st.shared after.shared
+Answers layout image (untame why k) st after = Unit {0}
 
-pub record KeepsMeaning (m : Choice) (image : Contents) (input : List ℕ) : Type 0 where
-  pub goes : (n : ℕ) (st : Source) → after_steps m.layout n (source_start m.layout input) ≡ Some st →
-      RunsTo version_1 image input (bound n) (Matches m image st)
-  pub ends : (n : ℕ) (st : Source) → after_steps m.layout n (source_start m.layout input) ≡ Some st →
-      RunsTo version_1 image input (bound (n + 1)) (Answers m image (source_step m.layout st).turn (source_step m.layout st).state)
+pub record KeepsMeaning (layout : Layout) (image : Contents) (input : List ℕ) : Type 0 where
+  pub goes : (n : ℕ) (st : Source) → after_steps layout n (source_start layout input) ≡ Some st →
+      RunsTo version_1 image input (bound n) (Matches layout image st)
+  pub ends : (n : ℕ) (st : Source) → after_steps layout n (source_start layout input) ≡ Some st →
+      RunsTo version_1 image input (bound (n + 1)) (Answers layout image (source_step layout st).turn (source_step layout st).state)
 
 abbrev pub MeaningKept : Type 0
 MeaningKept =
-    (m : Choice) (image : Contents) (input : List ℕ) → IsImageOf m image → image.init ≡ init_here m.layout → KeepsMeaning m image input
+    (m : Choice) (image : Contents) (input : List ℕ) → IsImageOf m image → image.init ≡ init_here m.layout → KeepsMeaning m.layout image input
