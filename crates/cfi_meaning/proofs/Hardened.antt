@@ -4,9 +4,7 @@ use Rattle.rv_word.specs.Image.{Contents}
 use Rattle.rv_word.specs.Layout.{version_1}
 use Rattle.cfi_flow.specs.GraphAtMap.{Layout}
 use Rattle.cfi_flow.specs.Source.{init_here}
-use Rattle.cfi_rewrite.specs.Hardened.{HardenedParts, IsHardened, IsWritten, chosen}
-use Rattle.cfi_rewrite.specs.Placing.{Spaced}
-use Rattle.cfi_rewrite.specs.Prepared.{IsPrepared, PreparedParts}
+use Rattle.cfi_rewrite.specs.Hardened.{HardenedParts, IsHardened, chosen}
 use Rattle.cfi_rewrite.specs.Request.{Request}
 use Rattle.cfi_rewrite.specs.Units.{Choice}
 use Rattle.cfi_rewrite.proofs.Ready.{written_accepted}

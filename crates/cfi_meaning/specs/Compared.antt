@@ -1,6 +1,6 @@
 -- A program's run and the undisturbed run of its image, compared: the events of both in order and how
 -- each ended, to the first that differs. The image runs 21 n + 13 steps for n of the program's.
-use Rattle.std.specs.Prelude.{◌≡◌, ℕ, zero, suc, ◌==◌, ◌&&◌, Bool, true, false, nat_lt, if◌then◌else◌, Option, Some, None, List, [], ◌∷◌, ◌++◌, length, map}
+use Rattle.std.specs.Prelude.{ℕ, zero, suc, ◌==◌, ◌&&◌, Bool, true, false, nat_lt, if◌then◌else◌, Option, Some, None, List, [], ◌∷◌, ◌++◌, length, map}
 use Rattle.rv_word.specs.Image.{Contents}
 use Rattle.rv_word.specs.Layout.{version_1}
 use Rattle.rv_code.specs.declared.event.Event.{Event}
@@ -11,7 +11,7 @@ use Rattle.cfi_unit.specs.Prologue.{OPENING}
 use Rattle.cfi_runs.specs.WholeRun.{undisturbed}
 use Rattle.cfi_kept.specs.PlacesKept.{bound}
 use Rattle.cfi_flow.specs.declared.reason.Reason.{Reason}
-use Rattle.cfi_flow.specs.Source.{Source, init_here, source_start}
+use Rattle.cfi_flow.specs.Source.{Source, source_start}
 use Rattle.cfi_flow.specs.SourceStep.{StepTurn, breaks, exits, ran, source_step, untame}
 
 -- the source machine's run of so many steps at most: the step that ends it counts, an untame one does not

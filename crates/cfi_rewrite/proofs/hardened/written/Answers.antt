@@ -24,8 +24,8 @@ returns c =
     (c.in_ok-map.ensures.lines ∙ ap (λ (m : Choice). map_lines m.layout) is)
     (subst (λ (m : Choice). IsLegalMap m.layout.program m.layout.closed c.in_ok-map.map) is c.in_ok-map.ensures.legal)
     (are_bytes bytes c.in_ok-init.init.items c.are_small.ensures
-        (subst (λ (l : List ℕ). (k : ℕ) → slice_index l k < 2 ^ 8) c.as_slice-data.ensures.value c.are_small-2.ensures)
-        (image_size (chosen c.args.prepared.now c.args.spacing.now c.args.labels.now) (length bytes) (length c.in_ok-init.init.items)
-        (ap length c.as_slice-bytes.ensures.value ∙ c.in_ok-code.ensures.size ∙ ap (λ (m : Choice). 4 * length (written_code m)) is)
-        (in_room (chosen c.args.prepared.now c.args.spacing.now c.args.labels.now) c.requires.accepted)
-        (subst (λ (n : ℕ). n ≤ INIT_ROOM) (sym c.in_ok-init.ensures.length) c.requires.room)))
+    (subst (λ (l : List ℕ). (k : ℕ) → slice_index l k < 2 ^ 8) c.as_slice-data.ensures.value c.are_small-2.ensures)
+    (image_size (chosen c.args.prepared.now c.args.spacing.now c.args.labels.now) (length bytes) (length c.in_ok-init.init.items)
+    (ap length c.as_slice-bytes.ensures.value ∙ c.in_ok-code.ensures.size ∙ ap (λ (m : Choice). 4 * length (written_code m)) is)
+    (in_room (chosen c.args.prepared.now c.args.spacing.now c.args.labels.now) c.requires.accepted)
+    (subst (λ (n : ℕ). n ≤ INIT_ROOM) (sym c.in_ok-init.ensures.length) c.requires.room)))
