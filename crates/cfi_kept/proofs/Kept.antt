@@ -14,7 +14,7 @@ use Rattle.cfi_runs.specs.Own.{Own, own_closing, own_start, own_step}
 use Rattle.cfi_runs.specs.OwnRuns.{OwnRuns, words_along}
 use Rattle.cfi_runs.specs.WholeRun.{RunsTo, own_shared}
 use Rattle.cfi_runs.proofs.WholeRun.{run_keeps_match}
-use Rattle.cfi_rewrite.specs.Units.{Choice, entry_gate}
+use Rattle.cfi_harden.specs.Units.{Choice, entry_gate}
 use Rattle.cfi_kept.specs.PlacesKept as law
 use Rattle.cfi_kept.specs.ImageOf.{IsImageOf, unit_here}
 use Rattle.cfi_kept.specs.PlaceSteps.{PlacesRun, at_word, place_step}

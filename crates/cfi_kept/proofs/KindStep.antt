@@ -19,8 +19,8 @@ use Rattle.cfi_flow.specs.GraphAtMap.{gate, gate_to}
 use Rattle.cfi_flow.specs.LabelOf.{site_label}
 use Rattle.cfi_flow.specs.Placement.{is_long, words_from}
 use Rattle.cfi_runs.specs.Own.{Own, goes, own_past}
-use Rattle.cfi_rewrite.specs.Units.{instr_of, inverse, unit_of}
-use Rattle.cfi_rewrite.proofs.Standing.{instr_is}
+use Rattle.cfi_harden.specs.Units.{instr_of, inverse, unit_of}
+use Rattle.cfi_harden.proofs.Standing.{instr_is}
 use Rattle.cfi_kept.specs.KindStep as law
 use Rattle.cfi_kept.specs.KindStep.{kind_step}
 use Rattle.cfi_kept.specs.ImageOf.{unit_here}

@@ -10,7 +10,7 @@ use Rattle.obj_input.specs.declared.item_kind.ItemKind.TheVariants as is
 use Rattle.obj_program.specs.Program.{is_end}
 use Rattle.obj_program.specs.Suits.{names_reserved, suits}
 use Rattle.cfi_runs.specs.Tame.{NamesNoReserved}
-use Rattle.cfi_rewrite.specs.Units.{unit_of}
+use Rattle.cfi_harden.specs.Units.{unit_of}
 
 -- a test of four, each of which fails
 none_of : (a b c d : Bool) → (a || b || c || d) ≡ false → (a ≡ false) × (b ≡ false) × (c ≡ false) × (d ≡ false)

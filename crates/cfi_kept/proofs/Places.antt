@@ -20,10 +20,10 @@ use Rattle.cfi_verify.specs.Split.{code_words, unit_at}
 use Rattle.cfi_verify.proofs.Find.{UnitHere}
 use Rattle.cfi_verify.proofs.Places.{unit_facts}
 use Rattle.cfi_verify.proofs.Standing.{unit_stands}
-use Rattle.cfi_rewrite.specs.Units.{Choice, instr_of}
-use Rattle.cfi_rewrite.proofs.Runs.{gate_bytes, label_of}
-use Rattle.cfi_rewrite.proofs.Standing.{at_gate, gate_after, instr_is, word_is}
-use Rattle.cfi_rewrite.proofs.Written.{written_units}
+use Rattle.cfi_harden.specs.Units.{Choice, instr_of}
+use Rattle.cfi_harden.proofs.Runs.{gate_bytes, label_of}
+use Rattle.cfi_harden.proofs.Standing.{at_gate, gate_after, instr_is, word_is}
+use Rattle.cfi_harden.proofs.Written.{written_units}
 use Rattle.cfi_kept.specs.PlaceLaws as law
 use Rattle.cfi_kept.specs.ImageOf.{IsImageOf, IsPlace, unit_here}
 use Rattle.cfi_kept.specs.PlaceLaws.{ComesToPlace}

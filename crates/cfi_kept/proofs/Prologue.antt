@@ -12,8 +12,8 @@ use Rattle.cfi_verify.specs.Rules.{IsWellFormed}
 use Rattle.cfi_verify.specs.Split.{entry_of}
 use Rattle.cfi_verify.proofs.Bytes.{loaded_small}
 use Rattle.cfi_verify.proofs.Places.{prologue}
-use Rattle.cfi_rewrite.specs.Units.{Choice, entry_gate}
-use Rattle.cfi_rewrite.proofs.Written.{written_entry, written_well_formed}
+use Rattle.cfi_harden.specs.Units.{Choice, entry_gate}
+use Rattle.cfi_harden.proofs.Written.{written_entry, written_well_formed}
 use Rattle.cfi_kept.specs.PlaceLaws as law
 use Rattle.cfi_kept.specs.ImageOf.{IsImageOf}
 

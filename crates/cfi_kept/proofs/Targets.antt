@@ -20,10 +20,10 @@ use Rattle.cfi_unit.specs.UnitWords.{instrs_of}
 use Rattle.cfi_unit.specs.UnitWords as words
 use Rattle.cfi_unit.proofs.Labels.{word_small}
 use Rattle.cfi_verify.proofs.Bytes.{loaded_small}
-use Rattle.cfi_rewrite.specs.Units.{Choice}
-use Rattle.cfi_rewrite.proofs.ClassLabels.{found_at}
-use Rattle.cfi_rewrite.proofs.Labelled.{has_in, labelled}
-use Rattle.cfi_rewrite.proofs.Standing.{labels_suffice}
+use Rattle.cfi_harden.specs.Units.{Choice}
+use Rattle.cfi_harden.proofs.ClassLabels.{found_at}
+use Rattle.cfi_harden.proofs.Labelled.{has_in, labelled}
+use Rattle.cfi_harden.proofs.Standing.{labels_suffice}
 use Rattle.cfi_kept.specs.PlaceLaws as law
 use Rattle.cfi_kept.specs.ImageOf.{IsImageOf}
 use Rattle.cfi_kept.proofs.Places.{gate_written, stands_here}

@@ -5,9 +5,9 @@ use Rattle.obj_program.specs.Program.{count, is_end, item_of}
 use Rattle.cfi_unit.specs.declared.unit.Unit as U
 use Rattle.cfi_verify.specs.Laws.{AreBytes}
 use Rattle.cfi_verify.specs.Split.{code_words}
-use Rattle.cfi_rewrite.specs.Accepted.{IsAccepted}
-use Rattle.cfi_rewrite.specs.Laws.{written_code}
-use Rattle.cfi_rewrite.specs.Units.{Choice, unit_for}
+use Rattle.cfi_harden.specs.Accepted.{IsAccepted}
+use Rattle.cfi_harden.specs.Laws.{written_code}
+use Rattle.cfi_harden.specs.Units.{Choice, unit_for}
 
 -- the image's code is what is written for a choice that is accepted
 pub record IsImageOf (m : Choice) (image : Contents) : Type 0 where

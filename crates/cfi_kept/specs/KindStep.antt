@@ -11,8 +11,8 @@ use Rattle.obj_input.specs.declared.item_kind.ItemKind.TheVariants as is
 use Rattle.obj_program.specs.Program.{item_of}
 use Rattle.cfi_flow.specs.GraphAtMap.{gate, gate_to}
 use Rattle.cfi_runs.specs.Own.{Own, OwnAfter, calls, computed, executes, goes, returns}
-use Rattle.cfi_rewrite.specs.Accepted.{IsAccepted}
-use Rattle.cfi_rewrite.specs.Units.{Choice, instr_of}
+use Rattle.cfi_harden.specs.Accepted.{IsAccepted}
+use Rattle.cfi_harden.specs.Units.{Choice, instr_of}
 use Rattle.cfi_kept.specs.ImageOf.{IsPlace}
 use Rattle.cfi_kept.specs.PlaceSteps.{at_word, place_step}
 

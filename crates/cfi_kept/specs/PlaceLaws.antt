@@ -14,8 +14,8 @@ use Rattle.cfi_runs.specs.Own.{Own}
 use Rattle.cfi_runs.specs.OwnRuns.{OwnRuns, words_along}
 use Rattle.cfi_runs.specs.Tame.{TameStep}
 use Rattle.cfi_runs.specs.WholeRun.{HasPrologue}
-use Rattle.cfi_rewrite.specs.Accepted.{IsAccepted}
-use Rattle.cfi_rewrite.specs.Units.{Choice, entry_gate}
+use Rattle.cfi_harden.specs.Accepted.{IsAccepted}
+use Rattle.cfi_harden.specs.Units.{Choice, entry_gate}
 use Rattle.cfi_kept.specs.ImageOf.{IsImageOf, IsPlace, unit_here}
 use Rattle.cfi_kept.specs.PlaceSteps.{TamePlace, at_word}
 

@@ -9,7 +9,7 @@ use Rattle.cfi_unit.specs.PrologueEffect.{closing_site}
 use Rattle.cfi_runs.specs.MatchLaws.{ComesTo}
 use Rattle.cfi_runs.specs.Own.{Own, own_closing, own_start}
 use Rattle.cfi_runs.specs.WholeRun.{Ends, RunsTo, own_shared}
-use Rattle.cfi_rewrite.specs.Units.{Choice, entry_gate}
+use Rattle.cfi_harden.specs.Units.{Choice, entry_gate}
 use Rattle.cfi_kept.specs.ImageOf.{IsImageOf}
 use Rattle.cfi_kept.specs.PlaceSteps.{PlacesRun, TamePlace, place_step}
 

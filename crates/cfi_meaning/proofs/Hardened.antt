@@ -4,10 +4,10 @@ use Rattle.rv_word.specs.Image.{Contents}
 use Rattle.rv_word.specs.Layout.{version_1}
 use Rattle.cfi_flow.specs.GraphAtMap.{Layout}
 use Rattle.cfi_flow.specs.Source.{init_here}
-use Rattle.cfi_rewrite.specs.Hardened.{HardenedParts, IsHardened, chosen}
-use Rattle.cfi_rewrite.specs.Request.{Request}
-use Rattle.cfi_rewrite.specs.Units.{Choice}
-use Rattle.cfi_rewrite.proofs.Ready.{written_accepted}
+use Rattle.cfi_harden.specs.Hardened.{HardenedParts, IsHardened, chosen}
+use Rattle.cfi_harden.specs.Request.{Request}
+use Rattle.cfi_harden.specs.Units.{Choice}
+use Rattle.cfi_harden.proofs.Ready.{written_accepted}
 use Rattle.cfi_kept.specs.ImageOf.{IsImageOf}
 use Rattle.cfi_meaning.specs.Hardened.{HardenedKeepsMeaning, HardenedNeverDiffers, HoldsAtMap}
 use Rattle.cfi_meaning.specs.Meaning.{KeepsMeaning}

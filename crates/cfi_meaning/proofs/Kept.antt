@@ -12,7 +12,7 @@ use Rattle.cfi_unit.specs.PrologueEffect.{closing_site}
 use Rattle.cfi_runs.specs.Matching.{MatchesAfter, SameData}
 use Rattle.cfi_runs.specs.Own.{Own, OwnAfter, own_start}
 use Rattle.cfi_runs.specs.WholeRun.{RunsTo, own_shared, undisturbed}
-use Rattle.cfi_rewrite.specs.Units.{Choice, entry_gate}
+use Rattle.cfi_harden.specs.Units.{Choice, entry_gate}
 use Rattle.cfi_kept.specs.ImageOf.{IsImageOf}
 use Rattle.cfi_kept.specs.PlaceSteps.{PlacesRun, TamePlace, place_step}
 use Rattle.cfi_kept.specs.PlacesKept.{KeepsPlaces, bound}

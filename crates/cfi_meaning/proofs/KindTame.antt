@@ -18,7 +18,7 @@ use Rattle.cfi_unit.specs.Leads.{HasLabel}
 use Rattle.cfi_unit.specs.Shadow.{MOST_PENDING}
 use Rattle.cfi_runs.specs.Own as own
 use Rattle.cfi_runs.specs.Tame.{IsTame}
-use Rattle.cfi_rewrite.specs.Units.{unit_of}
+use Rattle.cfi_harden.specs.Units.{unit_of}
 use Rattle.cfi_meaning.specs.Meaning.{sites_of}
 use Rattle.cfi_flow.specs.declared.reason.Reason.TheVariants as why
 use Rattle.cfi_flow.specs.Source.{Source}

@@ -14,7 +14,7 @@ use Rattle.rv_code.proofs.Continued.{events_added, run_in_parts}
 use Rattle.cfi_flow.specs.GraphAtMap.{Layout, word}
 use Rattle.cfi_unit.specs.Prologue.{OPENING}
 use Rattle.cfi_runs.specs.WholeRun.{undisturbed}
-use Rattle.cfi_rewrite.specs.Units.{Choice}
+use Rattle.cfi_harden.specs.Units.{Choice}
 use Rattle.cfi_kept.specs.PlacesKept.{bound}
 use Rattle.cfi_meaning.specs.Compared.{Compared, Difference, SourceRun, TraceItem, broke, called, compared, differs, exited, first_difference, has_ended, image_end, run_from, running, same_bytes, same_event, same_item, source_end, source_run, stopped, trace, verdict}
 use Rattle.cfi_meaning.specs.Meaning.{Answers, KeepsMeaning}

@@ -16,9 +16,9 @@ use Rattle.obj_program.proofs.Kept.{kept}
 use Rattle.cfi_flow.specs.GraphAtMap.{Layout, gate, gate_to, word}
 use Rattle.cfi_flow.specs.LabelOf.{site_label}
 use Rattle.cfi_flow.specs.Placement.{is_long, words_from}
-use Rattle.cfi_rewrite.specs.Units.{Choice, instr_of}
-use Rattle.cfi_rewrite.proofs.Leading.{direct}
-use Rattle.cfi_rewrite.proofs.Standing.{gate_lies, instr_is, word_is}
+use Rattle.cfi_harden.specs.Units.{Choice, instr_of}
+use Rattle.cfi_harden.proofs.Leading.{direct}
+use Rattle.cfi_harden.proofs.Standing.{gate_lies, instr_is, word_is}
 use Rattle.cfi_kept.specs.ImageOf.{IsImageOf, IsPlace}
 use Rattle.cfi_kept.specs.PlaceSteps.{TamePlace, place_step}
 use Rattle.cfi_kept.proofs.KindStep.{step_of_kind}

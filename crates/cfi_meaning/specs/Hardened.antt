@@ -5,9 +5,9 @@ use Rattle.rv_word.specs.Layout.{version_1}
 use Rattle.elf_image.specs.Spelling.{spelling}
 use Rattle.cfi_flow.specs.GraphAtMap.{Layout}
 use Rattle.cfi_flow.specs.LegalMap.{IsLegalMap, gates_of}
-use Rattle.cfi_rewrite.specs.Hardened.{HardenedParts, IsHardened}
-use Rattle.cfi_rewrite.specs.Prepared.{IsPrepared, PreparedParts}
-use Rattle.cfi_rewrite.specs.Request.{Request}
+use Rattle.cfi_harden.specs.Hardened.{HardenedParts, IsHardened}
+use Rattle.cfi_harden.specs.Prepared.{IsPrepared, PreparedParts}
+use Rattle.cfi_harden.specs.Request.{Request}
 use Rattle.cfi_meaning.specs.Meaning.{KeepsMeaning}
 use Rattle.cfi_meaning.specs.NeverDiffers.{NoRunDiffers}
 

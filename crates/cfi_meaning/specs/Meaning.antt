@@ -12,7 +12,7 @@ use Rattle.cfi_runs.specs.MatchLaws.{ComesTo}
 use Rattle.cfi_runs.specs.Matching.{SameData}
 use Rattle.cfi_runs.specs.Own.{Own}
 use Rattle.cfi_runs.specs.WholeRun.{RunsTo}
-use Rattle.cfi_rewrite.specs.Units.{Choice}
+use Rattle.cfi_harden.specs.Units.{Choice}
 use Rattle.cfi_kept.specs.ImageOf.{IsImageOf}
 use Rattle.cfi_kept.specs.PlacesKept.{bound}
 use Rattle.cfi_flow.specs.Source.{Source, init_here, source_start}

@@ -3,7 +3,7 @@ use Rattle.std.specs.Prelude.{◌≡◌, ℕ, List}
 use Rattle.rv_word.specs.Image.{Contents}
 use Rattle.cfi_flow.specs.GraphAtMap.{Layout}
 use Rattle.cfi_flow.specs.Source.{init_here}
-use Rattle.cfi_rewrite.specs.Units.{Choice}
+use Rattle.cfi_harden.specs.Units.{Choice}
 use Rattle.cfi_kept.specs.ImageOf.{IsImageOf}
 use Rattle.cfi_meaning.specs.Compared.{Difference, compared, differs}
 
