@@ -1,31 +1,8 @@
-//! Hardened code of a program: an object becomes an image, its graph and its map, which the verifier accepts, or the first
-//! thing that stands against that is told. Its main call is `rewrite`.
+//! Hardening whose meaning is kept: an object becomes an image, its graph and its map, and the image runs as the program of the
+//! object does. Its main call is `rewrite`.
 #![tactic(auto)]
 
-pub use chosen::{Chosen, Mapped};
-pub use code::code_bytes;
-pub use hardened::Hardened;
-pub use hardening::rewrite;
-pub use numbering::class_labels;
-pub use prepared::{Prepared, prepare};
-pub use refusal::Refusal;
-pub use spacing::{Spacing, place_program};
+pub use cfi_harden::{Hardened, Refusal};
+pub use rewriting::rewrite;
 
-mod chosen;
-mod closing;
-mod code;
-mod hardened;
-mod hardening;
-mod labels;
-pub mod laws;
-mod lines;
-mod numbering;
-mod places;
-mod prepared;
-mod refusal;
-mod room;
-mod shorts;
-mod sizes;
-mod spacing;
-mod units;
-mod word_range;
+mod rewriting;

@@ -6,7 +6,7 @@ use Rattle.cfi_tool.specs.Outcomes.{outcome_outputs}
 use Rattle.cfi_tool.specs.Reads.{Content}
 use Rattle.cfi_tool.specs.Request.{Request, WritesNone, rewrite as rewrites, run as runs, verify as verifies}
 use Rattle.cfi_tool.specs.Writes.{AreApart, OutputParts}
-use Rattle.cfi_rewrite.specs.Hardened.{HardenedParts}
+use Rattle.cfi_harden.specs.Hardened.{HardenedParts}
 use Rattle.cfi_tool.specs.declared.commands.rewrite.Rewritten.{Rewritten}
 use Rattle.cfi_tool.specs.declared.commands.rewrite.RewriteOutcome.TheVariants as outcome
 use Rattle.cfi_tool.specs.declared.outcome.Outcome.{Outcome}

@@ -8,10 +8,11 @@ use Rattle.elf_image.specs.Spelling.{spelling}
 use Rattle.cfi_graph.specs.Graph.{GraphParts, is_class, is_site}
 use Rattle.cfi_graph.specs.MapText.{map_text}
 use Rattle.cfi_graph.specs.Text.{graph_text}
-use Rattle.cfi_rewrite.specs.Hardened.{HardenedParts, IsHardened}
-use Rattle.cfi_rewrite.specs.Refused.{Refuses}
-use Rattle.cfi_rewrite.specs.Request as asks
-use Rattle.cfi_rewrite.specs.declared.refusal.Refusal.TheVariants as rewriter
+use Rattle.cfi_harden.specs.Hardened.{HardenedParts, IsHardened}
+use Rattle.cfi_harden.specs.Refused.{Refuses}
+use Rattle.cfi_harden.specs.Request as asks
+use Rattle.cfi_harden.specs.declared.refusal.Refusal.TheVariants as rewriter
+use Rattle.cfi_meaning.specs.Hardened.{KeepsMeaningAtMap, NeverDiffersAtMap}
 use Rattle.cfi_tool.specs.Lines.{with_newline}
 use Rattle.cfi_tool.specs.Reads.{Content, Gave, GaveNamed}
 use Rattle.cfi_tool.specs.Refusals.{refusal_line}
@@ -92,11 +93,17 @@ pub record IsSpelledOut (words : RewriteWords) (hardened : HardenedParts) (writt
   pub map : written.map ≡ record { name = words.map; bytes = map_text hardened.map }
   pub sizes : HasSizes hardened.image hardened.graph written.sizes
 
+-- a hardened program of a request, which means what the request's program means
+pub record IsMade (request : asks.Request) (hardened : HardenedParts) : Type 0 where
+  pub is_hardened : IsHardened request hardened
+  pub meaning_kept : KeepsMeaningAtMap request hardened
+  pub never_differs : NeverDiffersAtMap request hardened
+
 -- the object is refused, or hardened
 abbrev pub IsRewriteOf : RewriteWords → List ℕ → Option (List ℕ) → RewriteOutcome → Type 0
 IsRewriteOf words object policy (outcome.Refused refusal) = IsRefused (request_of words object policy) refusal
 IsRewriteOf words object policy (outcome.Rewritten written) =
-    (hardened : HardenedParts) × IsHardened (request_of words object policy) hardened × IsSpelledOut words hardened written
+    (hardened : HardenedParts) × IsMade (request_of words object policy) hardened × IsSpelledOut words hardened written
 
 -- the files gave an object and a policy of which the rewriting comes to this
 pub record ExplainsRewrite (content : Content) (words : RewriteWords) (result : RewriteOutcome) : Type 0 where

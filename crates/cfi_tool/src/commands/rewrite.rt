@@ -2,8 +2,8 @@ ghost use Rattle.std.specs.Prelude.{◌≡◌, [], None, Err, IfOk, IfErr, IfSom
 ghost use Rattle.tool_io.specs.Faults.{Counts};
 ghost use Rattle.tool_io.specs.Reading.{CountsReads, IsOnlyRead};
 ghost use Rattle.tool_io.specs.declared.ends.OutEnd.TheVariants as OutEnd;
-ghost use Rattle.cfi_rewrite.specs.Refused.{Refuses};
-ghost use Rattle.cfi_rewrite.specs.Request.{Request};
+ghost use Rattle.cfi_harden.specs.Refused.{Refuses};
+ghost use Rattle.cfi_harden.specs.Request.{Request};
 ghost use Rattle.cfi_tool.specs.Lines.{spelled};
 ghost use Rattle.cfi_tool.specs.Reads.{IsFault, IsStop, IsTooLong};
 ghost use Rattle.cfi_tool.specs.Words.{text_named};

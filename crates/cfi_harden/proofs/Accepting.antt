@@ -1,0 +1,109 @@
+-- A placement in which no value leaves its range, with labels, makes an accepted choice of a program with its closed graph.
+use Rattle.std.proofs.Common.{◌≡◌, ℕ, ◌+◌, ◌-◌, ◌*◌, ◌≤◌, ◌<◌, Bool, true, false, List, length, Option, Some, None, refl, subst, arith}
+use Rattle.std.specs.Prelude.{◌&&◌, not, is_none, is_some}
+use Rattle.std.proofs.lemmas.List.{length-append}
+use Rattle.rv_word.specs.Layout.{CODE_SIZE, UNITS_START, version_1}
+use Rattle.obj_program.specs.AtMap.{instr_at}
+use Rattle.obj_program.specs.DataAtMap.{data_at}
+use Rattle.obj_program.specs.Program.{Program, count, is_end, item_of}
+use Rattle.obj_program.specs.Range.{out_of_range}
+use Rattle.obj_program.specs.Sound.{IsSound}
+use Rattle.obj_program.proofs.Exact.{none_out_of_range}
+use Rattle.cfi_layout.specs.Starts.{code_size}
+use Rattle.cfi_flow.specs.Closed.{ClosedGraph}
+use Rattle.cfi_flow.specs.LabelOf.{empty_classes}
+use Rattle.cfi_flow.specs.Placement.{is_long, size_of, words_from}
+use Rattle.cfi_flow.proofs.Laws.{members_there}
+use Rattle.cfi_unit.specs.UnitWords.{word_count}
+use Rattle.cfi_verify.specs.Placed.{placed_code}
+use Rattle.cfi_verify.proofs.UnitIn.{length-placed_code}
+use Rattle.cfi_harden.specs.Accepted.{IsAccepted}
+use Rattle.cfi_harden.specs.Fitting.{IsFitting}
+use Rattle.cfi_harden.specs.GraphOf.{IsGraphOf}
+use Rattle.cfi_harden.specs.Hardened.{AreGiven, chosen}
+use Rattle.cfi_harden.specs.Placing.{Spaced}
+use Rattle.cfi_harden.specs.Prepared.{IsClosedUnder, PreparedParts}
+use Rattle.cfi_harden.specs.Sizes.{part_sizes}
+use Rattle.cfi_harden.specs.Units.{Choice, entry_gate, unit_for, units}
+use Rattle.cfi_harden.specs.Writing.{IsReady}
+use Rattle.cfi_harden.proofs.CodeRoom.{bytes_are, size_is}
+use Rattle.cfi_harden.proofs.SitesThere.{site_class_there, site_there}
+
+-- each instruction has its values
+there_if : (last none : Bool) → (not last && none) ≡ false → last ≡ false → none ≡ false
+there_if true none e some = absurd (cc)
+there_if false none e some = e
+
+is_there : {A : Type 0} (o : Option A) → is_none o ≡ false → is_some o ≡ true
+is_there None e = absurd (cc)
+is_there (Some x) e = refl
+
+pub values_there : (program : Program) (gates words : List ℕ) → out_of_range program gates words ≡ None →
+    (k : ℕ) → k < count program → is_end (item_of program k).kind ≡ false → is_some (instr_at program gates words k) ≡ true
+values_there program gates words none k below some =
+    is_there (instr_at program gates words k)
+    (there_if (is_end (item_of program k).kind) (is_none (instr_at program gates words k)) (((none_out_of_range program gates words).0 none).0 k below) some)
+
+-- and so have the data
+pub data_there : (program : Program) (gates words : List ℕ) → out_of_range program gates words ≡ None → is_some (data_at program gates) ≡ true
+data_there program gates words none = ((none_out_of_range program gates words).0 none).1
+
+-- the code has room where the parts have
+pub room_there : (m : Choice) → length m.layout.closed.classes ≤ length m.labels → IsSound m.layout.program →
+    ((k : ℕ) → k < count m.layout.program → is_end (item_of m.layout.program k).kind ≡ false →
+    is_some (instr_at m.layout.program m.layout.gates (words_from m.layout.closed.classes 0 m.layout.gates) k) ≡ true) →
+    code_size (part_sizes m.layout.closed.classes m.long 0 m.layout.program.items) ≤ CODE_SIZE →
+    4 * length (placed_code version_1 (entry_gate m) (units m)) ≤ CODE_SIZE
+room_there m few sound values room =
+    let whole = length-placed_code (entry_gate m) (units m) in
+    let zero_more : (n : ℕ) → n ≡ 0 + n = λ n. omega arith in
+    let bytes = bytes_are m 0 UNITS_START m.layout.program.items few
+    (λ i item get. subst (λ (n : ℕ). size_of item.kind (is_long m.long n) ≡ 4 * word_count (unit_for m n item)) (zero_more i) (size_is m sound values i item get)) in
+    omega arith
+
+-- a closed graph under a policy is one of its program
+pub graph_there : (program : Program) (policy : Option (List ℕ)) (closed : ClosedGraph) → IsClosedUnder program policy closed → IsGraphOf program closed
+graph_there program policy closed under = let (raw, is, of) = under.drawn in (_, raw, is, of)
+
+-- the last place of a program that has any
+last_there : (program : Program) → 0 < count program → is_end (item_of program (count program - 1)).kind ≡ true →
+    (k : ℕ) × (count program ≡ k + 1) × (is_end (item_of program k).kind ≡ true)
+last_there program some last = (count program - 1, omega arith, last)
+
+-- what is chosen for a program: a placement in which no value leaves its range, and labels
+module _ (p : PreparedParts) (ready : IsReady p) (s : Spaced) (fitting : IsFitting p s) (labels : List ℕ) (given : AreGiven p.program p.closed labels) where
+  values : (k : ℕ) → k < count p.program → is_end (item_of p.program k).kind ≡ false →
+      is_some (instr_at p.program s.gates (words_from p.closed.classes 0 s.gates) k) ≡ true
+  values =
+      subst (λ (words : List ℕ). (k : ℕ) → k < count p.program → is_end (item_of p.program k).kind ≡ false → is_some (instr_at p.program s.gates words k) ≡ true)
+      fitting.placed.words (values_there p.program s.gates s.words fitting.in_range)
+
+  labels_suffice : length p.closed.classes ≤ length labels
+  labels_suffice =
+      let all = length-append p.closed.classes (empty_classes p.closed.sites) in
+      let counted = given.counted in
+      omega arith
+
+  pub accepted : IsAccepted (chosen p s labels)
+  accepted =
+      let (lines, raw, is, of) = ready.graph in
+      record {
+        profile = refl;
+        sound = ready.sound;
+        words = ready.words;
+        last = let below = ready.entered in last_there p.program (omega arith) ready.last;
+        entry_there = ready.entered;
+        legal = fitting.placed.legal;
+        room = room_there (chosen p s labels) labels_suffice ready.sound values fitting.placed.size;
+        values = values;
+        members = λ c k h. members_there p.program lines raw p.closed is of k (c, h);
+        rising = of.classes.rising;
+        apart = λ i j k. of.classes.apart i j k;
+        sites = λ k below some. site_there p.program lines raw p.closed is of k below some;
+        site_classes = λ i c site. site_class_there p.program lines raw p.closed is of i c site;
+        counted = given.counted;
+        labels = given.least;
+        labels_rise = given.rising;
+        labels_small = given.small;
+        shorts = λ k target below branch short aims. fitting.placed.shorts p.entry k target below branch short aims;
+      }

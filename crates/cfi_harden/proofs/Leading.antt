@@ -1,0 +1,230 @@
+-- Where direct transfers lead; each unit fits, and no short branch leads over just a jump or a stop.
+use Rattle.std.proofs.Common.{◌≡◌, ℕ, ◌+◌, ◌*◌, ◌^◌, ◌≤◌, ◌<◌, ◌==◌, inl, inr, Bool, true, false, length, Option, Some, None, refl, sym, ap, subst, ◌∙◌, lit<, arith}
+use Rattle.std.specs.Prelude.{◌&&◌, not, nat_lt, is_some, slice_index}
+use Rattle.std.proofs.lemmas.Bool.{and_from, and_parts, cases_lt, cases_order, eq-eqb, ltb-true}
+use Rattle.std.proofs.lemmas.List.{get_or_past}
+use Rattle.std.proofs.lemmas.Option.{get_or_from_slice_get, same_Some}
+use Rattle.rv_word.specs.Bits.{wrap}
+use Rattle.rv_word.specs.Layout.{UNITS_START}
+use Rattle.rv_word.proofs.Cases.{cases_Option}
+use Rattle.rv_instr.specs.declared.instr.Instr.{Instr}
+use Rattle.rv_instr.specs.declared.instr.Instr.TheVariants as I
+use Rattle.rv_code.specs.Step.{offset}
+use Rattle.obj_input.specs.declared.item_kind.ItemKind.{ItemKind}
+use Rattle.obj_input.specs.declared.item_kind.ItemKind.TheVariants as is
+use Rattle.obj_program.specs.Program.{Program, count, is_end, item_of}
+use Rattle.obj_program.specs.Sound.{aims, is_direct}
+use Rattle.cfi_flow.specs.GraphAtMap.{gate, gate_to, word}
+use Rattle.cfi_flow.specs.Placement.{is_long, is_target}
+use Rattle.cfi_unit.specs.declared.unit.Unit as U
+use Rattle.cfi_unit.specs.declared.unit.Unit.TheVariants as V
+use Rattle.cfi_unit.specs.Laws.{IsShortSkip}
+use Rattle.cfi_unit.specs.UnitWords.{Fits, IsNear, near_offset, skip_offset, word_count}
+use Rattle.cfi_verify.specs.Placed.{AllAhead, AllFit}
+use Rattle.cfi_verify.specs.Split.{unit_in}
+use Rattle.cfi_verify.proofs.Ahead.{all_ahead, all_fit, is_jump_unit}
+use Rattle.cfi_harden.specs.Accepted.{IsAccepted, is_branch, is_kept, is_skipped}
+use Rattle.cfi_harden.specs.Units.{Choice, instr_of, unit_for, unit_of, units}
+use Rattle.cfi_harden.proofs.Fitting.{IsThere, near_target, unit_fits}
+use Rattle.cfi_harden.proofs.Labelled.{labelled}
+use Rattle.cfi_harden.proofs.Runs.{IsUnit, gate_word, label_of, own, target_labelled}
+use Rattle.cfi_harden.proofs.Standing.{at_gate, found, gate_after, gate_lies, gate_there, gates_rise, instr_in_range, labels_suffice, right, unit_lies, unit_there}
+use Rattle.cfi_harden.proofs.UnitOf.{is_right}
+
+aims_there : (program : Program) (kind : ItemKind) (o : Option ℕ) → is_direct kind ≡ true → aims program kind o ≡ true →
+    (t : ℕ) × (o ≡ Some t) × (t < count program)
+aims_there program kind None direct aim = let wrong : false ≡ true = rw direct at aim in absurd (cc)
+aims_there program kind (Some t) direct aim =
+    let parts = and_parts (is_direct kind && nat_lt t (count program)) (not (is_end (item_of program t).kind)) aim in
+    let two = and_parts (is_direct kind) (nat_lt t (count program)) parts.0 in
+    (t, refl, ltb-true t (count program) two.1)
+
+branch_leads : (kind : ItemKind) → is_branch kind ≡ true → is_direct kind ≡ true
+branch_leads is.Branch e = refl
+branch_leads other e = absurd (cc)
+
+branch_goes_on : (kind : ItemKind) → is_branch kind ≡ true → is_end kind ≡ true → ⊥
+branch_goes_on is.Branch e last = absurd (cc)
+branch_goes_on other e last = absurd (cc)
+
+-- only a short branch over one word is a short skip
+skip_kind : (kind : ItemKind) (i : Instr) (long : Bool) (target label a : ℕ) → is_right kind i ≡ true → IsShortSkip (unit_of kind i long target label) a →
+    (is_branch kind ≡ true) × (long ≡ false) × (near_offset a target ≡ skip_offset) × (word_count (unit_of kind i long target label) ≡ 1)
+skip_kind is.Branch (I.Branch op rs1 rs2 imm) false target label a right skip = (refl, refl, skip, refl)
+skip_kind is.Branch (I.Branch op rs1 rs2 imm) true target label a right skip = absurd skip
+skip_kind is.Gate (I.Upper op rd imm) long target label a right skip = absurd skip
+skip_kind is.Plain i long target label a right skip = absurd skip
+skip_kind is.Store (I.Store op rs1 rs2 imm) long target label a right skip = absurd skip
+skip_kind is.System I.Ecall long target label a right skip = absurd skip
+skip_kind is.System I.Ebreak long target label a right skip = absurd skip
+skip_kind is.Jump i long target label a right skip = absurd skip
+skip_kind is.Call i long target label a right skip = absurd skip
+skip_kind is.Return i long target label a right skip = absurd skip
+skip_kind is.Ijump (I.Jalr rd rs1 imm) long target label a right skip = absurd skip
+skip_kind is.Icall (I.Jalr rd rs1 imm) long target label a right skip = absurd skip
+skip_kind is.End i long target label a right skip = absurd skip
+skip_kind kind i long target label a right skip = absurd (cc)
+
+-- what begins with a jump is a jump or a stop
+jump_kind : (kind : ItemKind) (i : Instr) (long : Bool) (target label : ℕ) → is_right kind i ≡ true → is_jump_unit (unit_of kind i long target label) ≡ true →
+    is_skipped kind false ≡ true
+jump_kind is.Jump i long target label right jump = refl
+jump_kind is.End i long target label right jump = refl
+jump_kind is.Branch (I.Branch op rs1 rs2 imm) false target label right jump = absurd (cc)
+jump_kind is.Branch (I.Branch op rs1 rs2 imm) true target label right jump = absurd (cc)
+jump_kind is.Gate (I.Upper op rd imm) long target label right jump = absurd (cc)
+jump_kind is.Plain i long target label right jump = absurd (cc)
+jump_kind is.Store (I.Store op rs1 rs2 imm) long target label right jump = absurd (cc)
+jump_kind is.System I.Ecall long target label right jump = absurd (cc)
+jump_kind is.System I.Ebreak long target label right jump = absurd (cc)
+jump_kind is.Call i long target label right jump = absurd (cc)
+jump_kind is.Return i long target label right jump = absurd (cc)
+jump_kind is.Ijump (I.Jalr rd rs1 imm) long target label right jump = absurd (cc)
+jump_kind is.Icall (I.Jalr rd rs1 imm) long target label right jump = absurd (cc)
+jump_kind kind i long target label right jump = absurd (cc)
+
+jump_size : (u : U.Unit) → is_jump_unit u ≡ true → word_count u ≡ 1
+jump_size (V.Jump target) e = refl
+jump_size V.Stop e = refl
+jump_size other e = absurd (cc)
+
+skips_to : (at target : ℕ) → at < 2 ^ 63 → IsNear at target → near_offset at target ≡ skip_offset → target ≡ at + 8
+skips_to at target low near skip =
+    let here : wrap (at + offset 13 (skip_offset * 2)) ≡ target = ap (λ n. wrap (at + offset 13 (n * 2))) (sym skip) ∙ near in
+    omega arith
+
+module _ (m : Choice) (ok : IsAccepted m) where
+  pub direct : (k : ℕ) → k < count m.layout.program → is_direct (item_of m.layout.program k).kind ≡ true →
+      (t : ℕ) × ((item_of m.layout.program k).target ≡ Some t) × (t < count m.layout.program)
+  direct k below leads = aims_there m.layout.program (item_of m.layout.program k).kind (item_of m.layout.program k).target leads (ok.sound.targets k below)
+
+  gate_in : (t : ℕ) → t < count m.layout.program → IsThere (gate m.layout t)
+  gate_in t below = let (from, to, round) = gate_lies m ok t below in record { from = from; to = to; round = round }
+
+  target_in : (k : ℕ) → k < count m.layout.program → is_direct (item_of m.layout.program k).kind ≡ true →
+      IsThere (gate_to m.layout (item_of m.layout.program k).target)
+  target_in k below leads =
+      let (t, some, there) = direct k below leads in
+      subst (λ (o : Option ℕ). IsThere (gate_to m.layout o)) (sym some) (gate_in t there)
+
+  pub label_small : (n : ℕ) → slice_index m.labels n < 2 ^ 20
+  label_small n =
+      elim (cases_lt n (length m.labels)) [
+        | inl there ↦ ok.labels_small n 0 there
+        | inr past ↦ let none = get_or_past m.labels n 0 past in rw none (lit< tt)
+      ]
+
+  short_near : (k : ℕ) → k < count m.layout.program → is_branch (item_of m.layout.program k).kind ≡ true → is_long m.long k ≡ false →
+      (word m.layout k ≤ gate_to m.layout (item_of m.layout.program k).target + 4096) × (gate_to m.layout (item_of m.layout.program k).target ≤ word m.layout k + 4092)
+  short_near k below branch short =
+      let (t, some, there) = direct k below (branch_leads (item_of m.layout.program k).kind branch) in
+      let at = ok.shorts k t below branch short some in
+      subst (λ (o : Option ℕ). (word m.layout k ≤ gate_to m.layout o + 4096) × (gate_to m.layout o ≤ word m.layout k + 4092)) (sym some) (at.back, at.ahead)
+
+  own_fits : (k : ℕ) → k < count m.layout.program → Fits (unit_for m k (item_of m.layout.program k)) (word m.layout k)
+  own_fits k below =
+      let at = unit_lies m ok (word m.layout k) (unit_for m k (item_of m.layout.program k)) (unit_there m ok k below) in
+      unit_fits (item_of m.layout.program k).kind (instr_of m k) (is_long m.long k) _ _ (word m.layout k) (right m ok k below) (instr_in_range m ok k below)
+      (label_small _) at.from at.to at.round (target_in k below) (short_near k below)
+
+  is_fit : (k a : ℕ) (u : U.Unit) → k < count m.layout.program → IsUnit m k (item_of m.layout.program k) a u → Fits u a
+  is_fit k a u below (gate_word label some here gate_is) =
+      let of = labelled m.labels m.layout.closed.classes k label some in
+      let small : label < 2 ^ 20 = subst (λ n. n < 2 ^ 20) (get_or_from_slice_get m.labels of.index label 0 of.label_is) (label_small of.index) in
+      subst (λ (v : U.Unit). Fits v a) (sym gate_is) small
+  is_fit k a u below (own here unit_is) =
+      subst (λ (v : U.Unit). Fits v a) (sym unit_is) (subst (λ (b : ℕ). Fits (unit_for m k (item_of m.layout.program k)) b) (sym here) (own_fits k below))
+
+  pub units_fit : AllFit UNITS_START (units m)
+  units_fit = all_fit (units m) UNITS_START (λ a u e. let at = found m ok a u e in is_fit at.index a u at.below at.unit)
+
+  -- the place after a branch
+  goes_on : (k : ℕ) → k < count m.layout.program → is_branch (item_of m.layout.program k).kind ≡ true → k + 1 < count m.layout.program
+  goes_on k below branch =
+      elim (cases_lt (k + 1) (count m.layout.program)) [
+        | inl more ↦ more
+        | inr last ↦
+            let (n, counted, ends) = ok.last in
+            let same : n ≡ k = omega arith in
+            absurd (branch_goes_on (item_of m.layout.program k).kind branch (ap (λ j. is_end (item_of m.layout.program j).kind) (sym same) ∙ ends))
+      ]
+
+  -- two places after a jump without a gate word at the next one
+  second_after : (k t : ℕ) → k + 1 < count m.layout.program → t < count m.layout.program → gate m.layout t ≡ gate m.layout (k + 1) + 4 → word m.layout (k + 1) ≡ gate m.layout (k + 1) →
+      word_count (unit_for m (k + 1) (item_of m.layout.program (k + 1))) ≡ 1 → t ≡ k + 2
+  second_after k t more there four at one =
+      elim (cases_order t (k + 2)) [
+        | inl same ↦ same
+        | inr other ↦ elim other [
+          | inl before ↦ elim (cases_order t (k + 1)) [
+            | inl same ↦ let e : gate m.layout t ≡ gate m.layout (k + 1) = ap (gate m.layout) same in absurd (omega arith)
+            | inr apart ↦ elim apart [
+              | inl less ↦ let rise = gates_rise m ok t (k + 1) less more in absurd (omega arith)
+              | inr past ↦ absurd (omega arith)
+            ]
+          ]
+          | inr behind ↦
+              let after = gate_after m ok (k + 1) (omega arith) in
+              let two : k + 1 + 1 ≡ k + 2 = omega arith in
+              let next : gate m.layout (k + 1 + 1) ≡ gate m.layout (k + 2) = ap (gate m.layout) two in
+              let rise = gates_rise m ok (k + 2) t behind there in
+              absurd (omega arith)
+        ]
+      ]
+
+  skip_own : (k : ℕ) (v : U.Unit) → k < count m.layout.program →
+      unit_in (units m) UNITS_START (word m.layout k + 4 * word_count (unit_for m k (item_of m.layout.program k))) ≡ Some v → is_jump_unit v ≡ true →
+      IsShortSkip (unit_for m k (item_of m.layout.program k)) (word m.layout k) → ⊥
+  skip_own k v below next jump skip =
+      let s = skip_kind (item_of m.layout.program k).kind (instr_of m k) (is_long m.long k) _ _ (word m.layout k) (right m ok k below) skip in
+      let (t, some, there) = direct k below (branch_leads (item_of m.layout.program k).kind s.0) in
+      let short = ok.shorts k t below s.0 s.1 some in
+      let back = short.back in
+      let ahead = short.ahead in
+      let more = goes_on k below s.0 in
+      let after = gate_after m ok k more in
+      let at = unit_lies m ok (word m.layout k) (unit_for m k (item_of m.layout.program k)) (unit_there m ok k below) in
+      let from = at.from in
+      let to = at.to in
+      let one = s.3 in
+      let near : IsNear (word m.layout k) (gate m.layout t) = near_target (word m.layout k) (gate m.layout t) from (omega arith) at.round (gate_in t there) back ahead in
+      let to_gate : near_offset (word m.layout k) (gate m.layout t) ≡ skip_offset = ap (λ (o : Option ℕ). near_offset (word m.layout k) (gate_to m.layout o)) (sym some) ∙ s.2 in
+      let two : gate m.layout t ≡ word m.layout k + 8 = skips_to (word m.layout k) (gate m.layout t) (omega arith) near to_gate in
+      let here : unit_in (units m) UNITS_START (gate m.layout (k + 1)) ≡ Some v = ap (unit_in (units m) UNITS_START) after ∙ next in
+      elim (cases_Option (label_of m (k + 1))) [
+        | inr (label, labelled_so) ↦
+            let same : V.Gate label ≡ v = same_Some (V.Gate label) v (sym (gate_there m ok (k + 1) label more labelled_so) ∙ here) in
+            let wrong : false ≡ true = ap is_jump_unit same ∙ jump in
+            absurd (cc)
+        | inl none ↦
+            let stands = at_gate m ok (k + 1) none in
+            let same : unit_for m (k + 1) (item_of m.layout.program (k + 1)) ≡ v =
+            same_Some _ v (sym (unit_there m ok (k + 1) more) ∙ ap (unit_in (units m) UNITS_START) stands ∙ here) in
+            let jumps = ap is_jump_unit same ∙ jump in
+            let skipped : is_skipped (item_of m.layout.program (k + 1)).kind false ≡ true =
+            jump_kind (item_of m.layout.program (k + 1)).kind (instr_of m (k + 1)) (is_long m.long (k + 1)) _ _ (right m ok (k + 1) more) jumps in
+            let no_target : is_target m.layout.closed.classes (k + 1) ≡ false =
+            target_labelled m.labels m.layout.closed.classes (k + 1) (labels_suffice m ok) ∙ ap is_some none in
+            let second : t ≡ k + 2 = second_after k t more there (omega arith) stands (jump_size _ jumps) in
+            let held : is_kept m.layout k t ≡ true =
+            and_from (t == k + 2) (is_skipped (item_of m.layout.program (k + 1)).kind (is_target m.layout.closed.classes (k + 1))) (eq-eqb t (k + 2) second)
+            (ap (is_skipped (item_of m.layout.program (k + 1)).kind) no_target ∙ skipped) in
+            let wrong : true ≡ false = sym held ∙ short.free in
+            absurd (cc)
+      ]
+
+  no_skip : (k a : ℕ) (u v : U.Unit) → k < count m.layout.program → IsUnit m k (item_of m.layout.program k) a u → unit_in (units m) UNITS_START (a + 4 * word_count u) ≡ Some v →
+      is_jump_unit v ≡ true → IsShortSkip u a → ⊥
+  no_skip k a u v below (gate_word label some here gate_is) next jump skip = subst (λ (w : U.Unit). IsShortSkip w a) gate_is skip
+  no_skip k a u v below (own here unit_is) next jump skip =
+      let own_skip : IsShortSkip (unit_for m k (item_of m.layout.program k)) (word m.layout k) =
+      subst (λ (b : ℕ). IsShortSkip (unit_for m k (item_of m.layout.program k)) b) here (subst (λ (w : U.Unit). IsShortSkip w a) unit_is skip) in
+      let own_next : unit_in (units m) UNITS_START (word m.layout k + 4 * word_count (unit_for m k (item_of m.layout.program k))) ≡ Some v =
+      subst (λ (b : ℕ). unit_in (units m) UNITS_START (b + 4 * word_count (unit_for m k (item_of m.layout.program k))) ≡ Some v) here
+      (subst (λ (w : U.Unit). unit_in (units m) UNITS_START (a + 4 * word_count w) ≡ Some v) unit_is next) in
+      skip_own k v below own_next jump own_skip
+
+  pub units_ahead : AllAhead UNITS_START (units m)
+  units_ahead =
+      all_ahead (units m) UNITS_START units_fit
+      (λ a u v e next jump skip. let at = found m ok a u e in no_skip at.index a u v at.below at.unit next jump skip)

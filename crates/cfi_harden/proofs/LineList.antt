@@ -1,0 +1,126 @@
+-- The lines of classes and of places, one after another.
+use Rattle.std.proofs.Common.{◌≡◌, ℕ, zero, suc, ◌+◌, ◌<◌, ◌≤◌, ◌-◌, Option, Some, None, List, [], ◌∷◌, ◌++◌, refl, length, map, drop, arith, ap, ◌∙◌, sym, subst, append_assoc, append-nil, get_or}
+use Rattle.std.specs.Prelude.{slice_index, slice_index_or}
+use Rattle.std.specs.List.{All}
+use Rattle.std.proofs.Math.ListN.{drop_of_length-le}
+use Rattle.std.proofs.Math.Seq.{drop-cons}
+use Rattle.std.proofs.lemmas.List.{get_or_append_left, get_or-append-add, get_or_default}
+use Rattle.rv_word.specs.Layout.{START}
+use Rattle.obj_program.specs.declared.item.Item.{Item}
+use Rattle.obj_program.specs.Program.{count, item_of, no_item}
+use Rattle.cfi_graph.specs.declared.line.GraphLine.{GraphLine}
+use Rattle.cfi_graph.specs.declared.line.GraphLine.TheVariants as line
+use Rattle.cfi_flow.specs.declared.closed.Site.{Site}
+use Rattle.cfi_flow.specs.Closed.{ClosedGraph}
+use Rattle.cfi_flow.specs.GraphAtMap.{Layout, class_lines, gate, graph_lines, line_for, place_lines, with_line}
+use Rattle.cfi_flow.specs.LabelOf.{all_classes, empty_classes, with_empty}
+use Rattle.cfi_harden.specs.Accepted.{IsAccepted}
+use Rattle.cfi_harden.specs.Units.{Choice}
+
+-- these are lines before those of the places from index k on
+abbrev pub AreLines : Layout → List ℕ → ℕ → List GraphLine → List GraphLine → Type 0
+AreLines layout labels k first whole = first ++ place_lines layout labels k (drop k layout.program.items) ≡ whole
+
+split_line : (one : Option GraphLine) (rest : List GraphLine) → with_line one [] ++ rest ≡ with_line one rest
+split_line None rest = refl
+split_line (Some one) rest = refl
+
+pub next_lines : (layout : Layout) (labels : List ℕ) (k : ℕ) (first more whole : List GraphLine) → k < count layout.program
+    → AreLines layout labels k first whole → more ≡ first ++ with_line (line_for layout labels k (item_of layout.program k)) []
+    → AreLines layout labels (k + 1) more whole
+unfolding place_lines
+next_lines layout labels k first more whole below are is =
+    let one = line_for layout labels k (item_of layout.program k) in
+    let rest = place_lines layout labels (k + 1) (drop (suc k) layout.program.items) in
+    let next : k + 1 ≡ suc k = omega arith in
+    let left : drop k layout.program.items ≡ item_of layout.program k ∷ drop (suc k) layout.program.items =
+    drop-cons layout.program.items k no_item below in
+    let all : first ++ place_lines layout labels k (item_of layout.program k ∷ drop (suc k) layout.program.items) ≡ whole =
+    subst (λ (items : List Item). first ++ place_lines layout labels k items ≡ whole) left are in
+    subst (λ (j : ℕ). more ++ place_lines layout labels (k + 1) (drop j layout.program.items) ≡ whole) (sym next)
+    (ap (λ (ls : List GraphLine). ls ++ rest) is ∙ append_assoc first (with_line one []) rest
+    ∙ ap (λ (ls : List GraphLine). first ++ ls) (split_line one rest) ∙ all)
+
+pub all_lines : (layout : Layout) (labels : List ℕ) (k : ℕ) (first whole : List GraphLine) → count layout.program ≤ k
+    → AreLines layout labels k first whole → first ≡ whole
+unfolding place_lines
+all_lines layout labels k first whole past are =
+    let none : drop k layout.program.items ≡ [] = drop_of_length-le layout.program.items past in
+    sym (append-nil first) ∙ subst (λ (items : List Item). first ++ place_lines layout labels k items ≡ whole) none are
+
+-- these are lines before those of the classes from index k on
+abbrev pub AreClassLines : List ℕ → List ℕ → List (List ℕ) → ℕ → List GraphLine → Type 0
+AreClassLines gates labels classes k first = first ++ class_lines gates (drop k labels) (drop k classes) ≡ class_lines gates labels classes
+
+pub next_class : (gates labels : List ℕ) (classes : List (List ℕ)) (k label : ℕ) (class : List ℕ) (first more : List GraphLine)
+    → k < length labels → length labels ≡ length classes → AreClassLines gates labels classes k first
+    → label ≡ slice_index labels k → class ≡ map (slice_index gates) (slice_index_or classes k [])
+    → more ≡ first ++ line.Class label class ∷ [] → AreClassLines gates labels classes (k + 1) more
+unfolding class_lines
+next_class gates labels classes k label class first more below all are label_is class_is is =
+    let next : k + 1 ≡ suc k = omega arith in
+    let here : k < length classes = omega arith in
+    let ls = drop-cons labels k 0 below in
+    let cs = drop-cons classes k [] here in
+    let rest = class_lines gates (drop (suc k) labels) (drop (suc k) classes) in
+    let whole : first ++ class_lines gates (slice_index labels k ∷ drop (suc k) labels) (slice_index_or classes k [] ∷ drop (suc k) classes)
+    ≡ class_lines gates labels classes =
+    subst (λ (c : List (List ℕ)). first ++ class_lines gates (slice_index labels k ∷ drop (suc k) labels) c ≡ class_lines gates labels classes) cs
+    (subst (λ (l : List ℕ). first ++ class_lines gates l (drop k classes) ≡ class_lines gates labels classes) ls are) in
+    subst (λ (j : ℕ). more ++ class_lines gates (drop j labels) (drop j classes) ≡ class_lines gates labels classes) (sym next)
+    (ap (λ (lines : List GraphLine). lines ++ rest) is ∙ append_assoc first (line.Class label class ∷ []) rest
+    ∙ ap (λ l. first ++ (line.Class l class ∷ rest)) label_is
+    ∙ ap (λ (c : List ℕ). first ++ (line.Class (slice_index labels k) c ∷ rest)) class_is ∙ whole)
+
+no_lines : (gates : List ℕ) (classes : List (List ℕ)) → class_lines gates [] classes ≡ []
+unfolding class_lines
+no_lines gates [] = refl
+no_lines gates (class ∷ classes) = refl
+
+pub all_class_lines : (gates labels : List ℕ) (classes : List (List ℕ)) (k : ℕ) (first : List GraphLine) → length labels ≤ k
+    → AreClassLines gates labels classes k first → first ≡ class_lines gates labels classes
+unfolding class_lines
+all_class_lines gates labels classes k first past are =
+    let none : drop k labels ≡ [] = drop_of_length-le labels past in
+    let empty : class_lines gates [] (drop k classes) ≡ [] = no_lines gates (drop k classes) in
+    sym (append-nil first) ∙ ap (λ (ls : List GraphLine). first ++ ls) (sym empty)
+    ∙ subst (λ (l : List ℕ). first ++ class_lines gates l (drop k classes) ≡ class_lines gates labels classes) none are
+
+-- the classes of sites without targets have none
+empty_with : (class : Option ℕ) (rest : List (List ℕ)) (i : ℕ) → ((j : ℕ) → slice_index_or rest j [] ≡ []) → slice_index_or (with_empty class rest) i [] ≡ []
+empty_with (Some c) rest i none = none i
+empty_with None rest zero none = refl
+empty_with None rest (suc i) none = none i
+
+empty_at : (sites : List Site) (i : ℕ) → slice_index_or (empty_classes sites) i [] ≡ []
+unfolding empty_classes
+empty_at [] i = refl
+empty_at (site ∷ sites) i = empty_with site.class (empty_classes sites) i (empty_at sites)
+
+pub class_within : (closed : ClosedGraph) (k : ℕ) → k < length closed.classes
+    → slice_index_or closed.classes k [] ≡ slice_index_or (all_classes closed) k []
+class_within closed k below = sym (get_or_append_left closed.classes (empty_classes closed.sites) [] k below)
+
+pub class_past : (closed : ClosedGraph) (k : ℕ) → length closed.classes ≤ k → slice_index_or (all_classes closed) k [] ≡ []
+class_past closed k past =
+    let same : length closed.classes + (k - length closed.classes) ≡ k = omega arith in
+    ap (λ j. slice_index_or (all_classes closed) j []) (sym same)
+    ∙ get_or-append-add closed.classes (empty_classes closed.sites) (k - length closed.classes) [] ∙ empty_at closed.sites (k - length closed.classes)
+
+-- the members of a class are places
+pub members_there : (m : Choice) (c : ℕ) → IsAccepted m → c < length m.layout.closed.classes
+    → All (λ t. t < count m.layout.program) (slice_index_or m.layout.closed.classes c [])
+members_there m c accepted below i d inside =
+    let class = slice_index_or m.layout.closed.classes c [] in
+    accepted.members c (get_or class i d) (i, inside, get_or_default class i (get_or class i d) d inside)
+
+pub joined : (layout : Layout) (labels : List ℕ) (entry : ℕ) (first second third : List GraphLine)
+    → entry ≡ gate layout layout.entry → first ≡ class_lines layout.gates labels (all_classes layout.closed)
+    → second ≡ first ++ line.Call START entry ∷ [] → third ≡ second ++ place_lines layout labels 0 layout.program.items
+    → third ≡ graph_lines layout labels
+joined layout labels entry first second third entry_is first_is second_is third_is =
+    let classes = class_lines layout.gates labels (all_classes layout.closed) in
+    let places = place_lines layout labels 0 layout.program.items in
+    third_is ∙ ap (λ (ls : List GraphLine). ls ++ places) second_is ∙ append_assoc first (line.Call START entry ∷ []) places
+    ∙ ap (λ (ls : List GraphLine). ls ++ (line.Call START entry ∷ places)) first_is
+    ∙ ap (λ (a : ℕ). classes ++ (line.Call START a ∷ places)) entry_is

@@ -1,0 +1,118 @@
+-- Branches of a program that are written short: its parts then have the sizes of their units, and each reaches.
+use Rattle.std.proofs.Common.{◌≡◌, ℕ, suc, ◌+◌, ◌-◌, ◌<◌, ◌≤◌, ◌^◌, Bool, true, false, not, List, [], ◌∷◌, length, get_or, take, Some, refl, sym, ap, subst, ◌∙◌, arith, if◌then◌else◌, inl, inr}
+use Rattle.std.specs.Prelude.{◌||◌, nat_le, slice_get}
+use Rattle.std.proofs.lemmas.Bool.{cases_Bool, leb-true, and_parts, or_parts}
+use Rattle.std.proofs.lemmas.List.{get_or-take}
+use Rattle.std.proofs.lemmas.Option.{slice_get_within, get_or_from_slice_get, slice_get-get_or}
+use Rattle.rv_word.specs.Layout.{CODE_SIZE, UNITS_START}
+use Rattle.obj_input.specs.declared.item_kind.ItemKind.{ItemKind}
+use Rattle.obj_input.specs.declared.item_kind.ItemKind.TheVariants as is
+use Rattle.obj_program.specs.declared.item.Item.{Item}
+use Rattle.obj_program.specs.Program.{Program, count, item_of, no_item}
+use Rattle.obj_program.specs.Sound.{IsSound}
+use Rattle.cfi_layout.specs.declared.short.Short.{Short}
+use Rattle.cfi_layout.specs.LongSet.{AreShorts, IsClosed, IsShort, is_forced, is_whole, reaches, sizes_under, sizes_where, starts_under, word}
+use Rattle.cfi_layout.specs.Starts.{starts_from}
+use Rattle.cfi_flow.specs.Closed.{ClosedGraph}
+use Rattle.cfi_flow.specs.Placement.{gate_size, is_long, size_of}
+use Rattle.cfi_harden.specs.Accepted.{IsShortAt, is_branch}
+use Rattle.cfi_harden.specs.Shorts.{layout_of, short_to, shorts_of}
+use Rattle.cfi_harden.specs.Sizes.{part_sizes, whole_size, whole_sizes}
+use Rattle.cfi_harden.proofs.PartSizes.{length_sizes, parts_many, size_at}
+use Rattle.cfi_harden.proofs.ShortList.{branch_aims, branch_listed, parts_are, short_is, told}
+
+-- a program whose code has room has few places
+pub few_places : (program : Program) (closed : ClosedGraph) → whole_size program closed ≤ CODE_SIZE → count program < 2 ^ 32
+few_places program closed room = omega (arith, parts_many closed.classes [] 0 program.items)
+
+branch_size : (kind : ItemKind) → is_branch kind ≡ true → size_of kind true ≡ 8
+branch_size is.Branch yes_branch = refl
+branch_size other yes_branch = absurd (cc)
+
+-- the branches may be placed in parts of the whole sizes
+pub branches_fit : (program : Program) (closed : ClosedGraph) → IsSound program → AreShorts (shorts_of program closed) (whole_sizes program closed)
+branches_fit program closed sound = record {
+  each = λ i b is.
+      let shorts = shorts_of program closed in
+      let at = told program closed (count program) b (i, slice_get_within shorts i b is, get_or_from_slice_get shorts i b b is) in
+      let of = short_is program closed at.0 b at.2 in
+      let aim = branch_aims program at.0 sound at.1 of.1 in
+      let same : Some of.0 ≡ Some aim.0 = sym of.2 ∙ aim.1 in
+      let target : of.0 ≡ aim.0 = cc in
+      let start : 0 + at.0 ≡ at.0 = omega arith in
+      let size = rw start at (size_at closed.classes [] 0 program.items at.0 at.1) in
+      subst (IsShort (whole_sizes program closed)) of.3 (record {
+        at_is = omega (arith, at.1, length_sizes closed.classes [] 0 program.items);
+        target_is = omega (arith, target, aim.2, length_sizes closed.classes [] 0 program.items);
+        size = size ∙ ap (λ (n : ℕ). gate_size closed.classes at.0 + n) (branch_size (item_of program at.0).kind of.1);
+      });
+}
+
+one_size : (gate : ℕ) (kind : ItemKind) (long whole : Bool) → whole ≡ (long || not (is_branch kind)) →
+    (if whole then gate + size_of kind true else gate + size_of kind true - 4) ≡ gate + size_of kind long
+one_size gate kind true whole is = rw is refl
+one_size gate is.Branch false whole is = rw is (omega arith)
+one_size gate other false whole is = rw is refl
+
+-- where the branches that are not long have a word less, each part has its gate word's and its unit's size
+sizes_from : (classes : List (List ℕ)) (long : List Bool) (whole : ℕ → Bool) (k : ℕ) (items : List Item) →
+    ((i : ℕ) → i < length items → whole (k + i) ≡ (is_long long (k + i) || not (is_branch (get_or items i no_item).kind))) →
+    sizes_where whole k (part_sizes classes [] k items) ≡ part_sizes classes long k items
+unfolding part_sizes sizes_where
+sizes_from classes long whole k [] are = refl
+sizes_from classes long whole k (item ∷ items) are =
+    let start : k + 0 ≡ k = omega arith in
+    let here = one_size (gate_size classes k) item.kind (is_long long k) (whole k) (rw start at (are 0 (omega arith))) in
+    let later : (i : ℕ) → i < length items → whole (k + 1 + i) ≡ (is_long long (k + 1 + i) || not (is_branch (get_or items i no_item).kind)) =
+    λ i lt. let e : k + 1 + i ≡ k + suc i = omega arith in rw e (are (suc i) (omega arith)) in
+    let rest = sizes_from classes long whole (k + 1) items later in
+    ap (λ (n : ℕ). n ∷ sizes_where whole (k + 1) (part_sizes classes [] (k + 1) items)) here
+    ∙ ap (λ (xs : List ℕ). (gate_size classes k + size_of item.kind (is_long long k)) ∷ xs) rest
+
+pub sizes_are : (program : Program) (closed : ClosedGraph) (long : List Bool) → IsSound program →
+    sizes_under (is_long long) (shorts_of program closed) (whole_sizes program closed) ≡ part_sizes closed.classes long 0 program.items
+sizes_are program closed long sound =
+    sizes_from closed.classes long (is_whole (shorts_of program closed) (is_long long)) 0 program.items (λ i lt.
+    let start : 0 + i ≡ i = omega arith in
+    rw start (ap (λ (b : Bool). is_long long i || not b) (parts_are program closed i sound lt)))
+
+pub starts_are : (program : Program) (closed : ClosedGraph) (long : List Bool) → IsSound program →
+    starts_under (is_long long) (shorts_of program closed) (whole_sizes program closed) ≡ starts_from UNITS_START (part_sizes closed.classes long 0 program.items)
+starts_are program closed long sound = ap (starts_from UNITS_START) (sizes_are program closed long sound)
+
+negated : (b : Bool) → not b ≡ false → b ≡ true
+negated true e = refl
+negated false e = absurd (cc)
+
+-- a branch that is not long reaches, where the long ones are closed
+pub branch_reaches : (program : Program) (closed : ClosedGraph) (long : List Bool) → IsSound program →
+    IsClosed (shorts_of program closed) (whole_sizes program closed) (is_long long) →
+    (entry k target : ℕ) → k < count program → is_branch (item_of program k).kind ≡ true → is_long long k ≡ false →
+    (item_of program k).target ≡ Some target →
+    IsShortAt (layout_of program closed (take (count program) (starts_from UNITS_START (part_sizes closed.classes long 0 program.items))) entry) k target
+branch_reaches program closed long sound set entry k target lt yes_branch short aim =
+    let shorts = shorts_of program closed in
+    let starts = starts_from UNITS_START (part_sizes closed.classes long 0 program.items) in
+    let b = short_to program closed k target in
+    let has = branch_listed program closed (count program) k target lt yes_branch aim in
+    let at : slice_get shorts has.0 ≡ Some b = slice_get-get_or shorts has.0 b has.1 ∙ ap (λ (x : Short). Some x) has.2 in
+    let there = branch_aims program k sound lt yes_branch in
+    let same : Some target ≡ Some there.0 = sym aim ∙ there.1 in
+    let inside : target ≡ there.0 = cc in
+    let free : is_forced (starts_under (is_long long) shorts (whole_sizes program closed)) b ≡ false =
+    elim (cases_Bool (is_forced (starts_under (is_long long) shorts (whole_sizes program closed)) b)) [
+      | inl forced ↦ let no : true ≡ false = sym (set has.0 b at forced) ∙ short in absurd (cc)
+      | inr free ↦ free
+    ] in
+    let forced = subst (λ (xs : List ℕ). is_forced xs b ≡ false) (starts_are program closed long sound) free in
+    let parts = or_parts b.keep (not (reaches starts b)) forced in
+    let both = and_parts (nat_le (word starts b) (get_or starts target 0 + 4096)) (nat_le (get_or starts target 0) (word starts b + 4092)) (negated (reaches starts b) parts.1) in
+    let back : word starts b ≤ get_or starts target 0 + 4096 = leb-true _ _ both.0 in
+    let ahead : get_or starts target 0 ≤ word starts b + 4092 = leb-true _ _ both.1 in
+    let gate = get_or-take (count program) starts k 0 lt in
+    let to = get_or-take (count program) starts target 0 (omega (arith, inside, there.2)) in
+    record {
+      back = omega (arith, back, gate, to);
+      ahead = omega (arith, ahead, gate, to);
+      free = parts.0;
+    }

@@ -1,0 +1,144 @@
+-- Worked programs as they are written, computed: a return alone, a branch over an instruction, which is written short, one over a jump,
+-- which is kept long, and a call through a pointer. Their words, gates, lengths and lines are worked out by hand from the formats of
+-- instructions and the sizes of units.
+use Rattle.std.proofs.Common.{◌≡◌, ℕ, true, false, List, [], ◌∷◌, ◌++◌, Some, None, length, take, drop, pos, refl}
+use Rattle.std.specs.Prelude.{Option, slice_get}
+use Rattle.rv_word.specs.Layout.{UNITS_START, version_1}
+use Rattle.rv_code.specs.Decode.{decoded}
+use Rattle.rv_code.specs.Encode.{code_of}
+use Rattle.obj_input.specs.declared.item_kind.ItemKind.{ItemKind}
+use Rattle.obj_input.specs.declared.item_kind.ItemKind.TheVariants as is
+use Rattle.obj_program.specs.declared.item.Item.{Item}
+use Rattle.obj_program.specs.declared.item.Patch.{Patch}
+use Rattle.obj_program.specs.declared.item.Patch.TheVariants as put
+use Rattle.obj_program.specs.declared.item.Value.TheVariants.{Number}
+use Rattle.obj_program.specs.AtMap.{instr_at}
+use Rattle.obj_program.specs.Program.{Program}
+use Rattle.cfi_graph.specs.declared.line.GraphLine.TheVariants.{Call, Class, Edge, Site}
+use Rattle.cfi_graph.specs.declared.line.SiteKind.TheVariants as site
+use Rattle.cfi_flow.specs.GraphAtMap.{Layout, class_lines, graph_lines, place_lines}
+use Rattle.cfi_flow.specs.LabelOf.{empty_classes, label_at, site_number}
+use Rattle.cfi_flow.specs.Placement.{AreGates, words_from}
+use Rattle.cfi_unit.specs.UnitWords.{words_of}
+use Rattle.cfi_verify.specs.Placed.{code_from}
+use Rattle.cfi_harden.specs.Accepted.{is_kept}
+use Rattle.cfi_harden.specs.Laws.{written_code}
+use Rattle.cfi_harden.specs.Units.{Choice, units_from}
+
+abbrev pub place : ℕ → ItemKind → ℕ → Option ℕ → Item
+place offset kind word target = record { section = 1; offset = offset; kind = kind; word = word; patch = put.Own; target = target; taken = false }
+
+-- `beq x10, x0, +8`, an instruction of a kind, `ret`
+abbrev program : ItemKind → ℕ → Option ℕ → Program
+program kind word target = record {
+  items = place 0 is.Branch 0x00050463 (Some 2) ∷ place 4 kind word target ∷ place 8 is.Return 0x00008067 None ∷ place 12 is.End 0 None ∷ [];
+  init = [];
+  relocations = [];
+  data_end = 0x10000;
+  funcs = [];
+  names = [];
+}
+
+abbrev layout : Program → List ℕ → Layout
+layout program gates = record {
+  profile = version_1;
+  program = program;
+  closed = record { classes = []; sites = []; taken = false ∷ false ∷ false ∷ false ∷ [] };
+  gates = gates;
+  entry = 0;
+}
+
+-- over `addi x10, x0, 1`: short
+abbrev pub short : Choice
+short = record {
+  layout = layout (program is.Plain 0x00100513 None) (0x40000040 ∷ 0x40000044 ∷ 0x40000048 ∷ 0x4000005c ∷ []);
+  long = false ∷ [];
+  labels = [];
+}
+
+-- over `j +4`: long
+abbrev pub long : Choice
+long = record {
+  layout = layout (program is.Jump 0x0040006f (Some 2)) (0x40000040 ∷ 0x40000048 ∷ 0x4000004c ∷ 0x40000060 ∷ []);
+  long = true ∷ [];
+  labels = [];
+}
+
+short_rows : (length (written_code short) ≡ 24) × (slice_get (written_code short) 16 ≡ Some 0x00050463) × (slice_get (written_code short) 17 ≡ Some 0x00100513)
+    × (is_kept short.layout 0 2 ≡ false)
+    × (graph_lines short.layout [] ≡ Call 0x4000000c 0x40000040 ∷ Edge 0x40000040 0x40000048 ∷ [])
+unfolding units_from code_from words_of code_of instr_at decoded words_from label_at site_number class_lines place_lines empty_classes
+short_rows = (refl, refl, refl, refl, refl)
+
+-- the long one is `bne x10, x0, +8` and `j` to the place of `ret`
+long_rows : (length (written_code long) ≡ 25) × (slice_get (written_code long) 16 ≡ Some 0x00051463) × (slice_get (written_code long) 17 ≡ Some 0x0080006f)
+    × (slice_get (written_code long) 18 ≡ Some 0x0040006f) × (is_kept long.layout 0 2 ≡ true)
+    × (graph_lines long.layout [] ≡ Call 0x4000000c 0x40000040 ∷ Edge 0x40000040 0x4000004c ∷ Edge 0x40000048 0x4000004c ∷ [])
+unfolding units_from code_from words_of code_of instr_at decoded words_from label_at site_number class_lines place_lines empty_classes
+long_rows = (refl, refl, refl, refl, refl, refl)
+
+head : List ℕ
+head =
+    0x00100073 ∷ 0x00100073 ∷ 0x00100073 ∷ 0x10000137 ∷ 0x600001b7 ∷ 0x00818193 ∷ 0x03019f13 ∷ 0x000f1463 ∷ 0xfe9ff06f ∷ 0x00000f17 ∷ 0x014f0f13
+    ∷ 0x01e1b023 ∷ 0x00818193 ∷ 0x00c000ef ∷ 0x05d00893 ∷ 0x00000073 ∷ []
+
+-- `addi x10, x0, 7` and `ret`, the whole code
+abbrev pub returning : Choice
+returning = record {
+  layout = layout (record {
+    items = place 0 is.Plain 0x00700513 None ∷ place 4 is.Return 0x00008067 None ∷ place 8 is.End 0 None ∷ [];
+    init = [];
+    relocations = [];
+    data_end = 0x10000;
+    funcs = [];
+    names = [];
+  }) (0x40000040 ∷ 0x40000044 ∷ 0x40000058 ∷ []);
+  long = [];
+  labels = [];
+}
+
+returning_row : written_code returning
+    ≡ head ++ 0x00700513 ∷ 0xff81bf83 ∷ 0xff818193 ∷ 0x001f8463 ∷ 0xfb5ff06f ∷ 0x000f8067 ∷ 0xfa9ff06f ∷ []
+unfolding head units_from code_from words_of code_of instr_at decoded words_from label_at site_number
+returning_row = refl
+
+-- a function that calls one of two others through a pointer at 10000h, which a relocated LUI and load read
+abbrev with_patch : Item → Patch → Item
+with_patch item patch = record item { patch = patch }
+
+abbrev pub pointer : Choice
+pointer = record {
+  layout = record {
+    profile = version_1;
+    program = record {
+      items =
+          place 0 is.Plain 0xff010113 None ∷ place 4 is.Store 0x00113423 None ∷ with_patch (place 8 is.Plain 0x000002b7 None) (put.High (Number (pos 0x10000)))
+          ∷ with_patch (place 12 is.Plain 0x0002b283 None) (put.Low (Number (pos 0x10000))) ∷ place 16 is.Icall 0x000280e7 None ∷ place 20 is.Plain 0x00813083 None
+          ∷ place 24 is.Plain 0x01010113 None ∷ place 28 is.Return 0x00008067 None ∷ place 32 is.Plain 0x00100513 None ∷ place 36 is.Return 0x00008067 None
+          ∷ place 40 is.Plain 0x00200513 None ∷ place 44 is.Return 0x00008067 None ∷ place 48 is.End 0 None ∷ [];
+      init = [];
+      relocations = [];
+      data_end = 0x10010;
+      funcs = [];
+      names = [];
+    };
+    closed = record { classes = (8 ∷ 10 ∷ []) ∷ []; sites = record { place = 4; class = Some 0 } ∷ []; taken = [] };
+    gates = 0x40000040 ∷ 0x40000044 ∷ 0x40000054 ∷ 0x40000058 ∷ 0x4000005c ∷ 0x400000ac ∷ 0x400000b0 ∷ 0x400000b4 ∷ 0x400000c8 ∷ 0x400000d0 ∷ 0x400000e4 ∷ 0x400000ec ∷ 0x40000100 ∷ [];
+    entry = 0;
+  };
+  long = [];
+  labels = 1 ∷ [];
+}
+
+pointer_gates : AreGates pointer.layout.closed.classes [] 0 UNITS_START pointer.layout.program.items pointer.layout.gates
+unfolding AreGates
+pointer_gates = (refl, (refl, (refl, (refl, (refl, (refl, (refl, (refl, (refl, (refl, (refl, (refl, (refl, tt)))))))))))))
+
+-- a store's unit, the patched words, the label that the call's check compares with, and the gate word of a target
+pointer_rows : (length (written_code pointer) ≡ 65)
+    × (take 6 (drop 17 (written_code pointer)) ≡ 0x00810f93 ∷ 0x024f9f93 ∷ 0x024fdf93 ∷ 0x001fb023 ∷ 0x000102b7 ∷ 0x0002b283 ∷ [])
+    × (slice_get (written_code pointer) 31 ≡ Some 0x00001237) × (slice_get (written_code pointer) 50 ≡ Some 0x00001037)
+    × (graph_lines pointer.layout pointer.labels
+    ≡ Class 1 (0x400000c8 ∷ 0x400000e4 ∷ []) ∷ Call 0x4000000c 0x40000040 ∷ Site 0x4000005c site.Call 1 ∷ [])
+unfolding units_from code_from words_of code_of instr_at decoded words_from label_at site_number class_lines place_lines empty_classes
+pointer_rows = (refl, refl, refl, refl, refl)

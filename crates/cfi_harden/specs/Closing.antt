@@ -1,0 +1,20 @@
+-- What a program and a policy come to: a closed graph, or a wrong line of the policy.
+use Rattle.std.specs.Prelude.{ℕ, List, Option, Some, None, Result, Ok, Err}
+use Rattle.text_lines.specs.declared.end.TextEnd.{TextEnd}
+use Rattle.text_lines.specs.declared.end.TextEnd.TheVariants.{Line}
+use Rattle.obj_program.specs.Program.{Program}
+use Rattle.cfi_flow.specs.Closed.{ClosedGraph}
+use Rattle.cfi_harden.specs.declared.refusal.Refusal.{Refusal}
+use Rattle.cfi_harden.specs.declared.refusal.Refusal.TheVariants.{Policy, NoMemory}
+use Rattle.cfi_harden.specs.Prepared.{IsClosedUnder, IsWrongPolicy}
+
+abbrev pub Closes : Program → Option (List ℕ) → Result ClosedGraph Refusal → Type 0
+Closes program policy (Ok closed) = IsClosedUnder program policy closed
+Closes program policy (Err (Policy n)) = IsWrongPolicy program policy n
+Closes program policy (Err NoMemory) = Unit {0}
+Closes program policy (Err other) = ⊥
+
+-- the line at which a text fails
+abbrev pub failed_line : Result (Unit {0}) TextEnd → Option ℕ
+failed_line (Err (Line number reason)) = Some number
+failed_line other = None

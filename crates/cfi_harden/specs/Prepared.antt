@@ -1,0 +1,48 @@
+-- What a request comes to before anything is placed: the object's program with its closed graph under the policy and its entry, or the
+-- first of what stands against that: a fault of the object, one of its instructions and relocations, an entry that is not there, a
+-- wrong line of the policy.
+use Rattle.std.specs.Prelude.{◌≡◌, ℕ, ◌⊎◌, List, Option, Some, None, Result, Ok, Err}
+use Rattle.text_lines.specs.declared.end.TextEnd.{TextEnd}
+use Rattle.text_lines.specs.declared.end.TextEnd.TheVariants.{Line}
+use Rattle.elf_object.specs.Fault.{fault_of as object_fault}
+use Rattle.obj_rules.specs.Fault.{fault_of}
+use Rattle.obj_program.specs.Program.{Program}
+use Rattle.obj_items.specs.FromObject.{input_of}
+use Rattle.cfi_flow.specs.Closed.{ClosedGraph, IsClosed}
+use Rattle.cfi_flow.specs.Entry.{entry_place}
+use Rattle.cfi_flow.specs.Policy.{IsRaw, wrong_line}
+use Rattle.cfi_flow.specs.Raw.{RawGraph}
+use Rattle.cfi_harden.specs.Request.{Request, policy_reading, program_in}
+
+-- the object is a program
+pub record IsProgram (object : List ℕ) : Type 0 where
+  pub sound : object_fault object ≡ None
+  pub right : fault_of (input_of object) ≡ None
+
+-- the closed graph of a program under a policy that has no wrong line
+pub record IsClosedUnder (program : Program) (policy : Option (List ℕ)) (closed : ClosedGraph) : Type 0 where
+  pub whole : (policy_reading policy).end ≡ Ok tt
+  pub drawn : (raw : RawGraph) × IsRaw program (policy_reading policy).items raw × IsClosed raw closed
+
+pub record PreparedParts : Type 0 where
+  pub program : Program
+  pub closed : ClosedGraph
+  pub entry : ℕ
+
+pub record IsPrepared (request : Request) (p : PreparedParts) : Type 0 where
+  pub object : IsProgram request.object
+  pub program : p.program ≡ program_in request.object
+  pub entry : entry_place p.program request.entry ≡ Some p.entry
+  pub closed : IsClosedUnder p.program request.policy p.closed
+
+-- the text of a policy fails at a line
+abbrev pub FailsAt : Result (Unit {0}) TextEnd → ℕ → Type 0
+FailsAt (Err (Line number reason)) n = number ≡ n
+FailsAt other n = ⊥
+
+-- the first wrong line of a policy: one of the right lines of its text that names what it may not, or else the line at which the
+-- text fails
+abbrev pub IsWrongPolicy : Program → Option (List ℕ) → ℕ → Type 0
+IsWrongPolicy program policy n =
+    (wrong_line program (policy_reading policy).items ≡ Some n)
+    ⊎ ((wrong_line program (policy_reading policy).items ≡ None) × FailsAt (policy_reading policy).end n)

@@ -1,0 +1,41 @@
+-- When a request is refused: the refusal stands, and none before it does.
+use Rattle.std.specs.Prelude.{◌≡◌, Some, None, IsSome, Result, Ok, Err}
+use Rattle.elf_object.specs.Fault.{fault_of as object_fault}
+use Rattle.obj_rules.specs.Fault.{fault_of}
+use Rattle.obj_items.specs.FromObject.{input_of}
+use Rattle.cfi_flow.specs.Entry.{entry_place}
+use Rattle.cfi_harden.specs.declared.refusal.Refusal.{Refusal}
+use Rattle.cfi_harden.specs.declared.refusal.Refusal.TheVariants.{Object, Items, NoEntry, Policy, NoMemory}
+use Rattle.cfi_harden.specs.Fitting.{RefusesPlaced}
+use Rattle.cfi_harden.specs.Hardened.{HardenedParts, IsHardened}
+use Rattle.cfi_harden.specs.Request.{Request, program_in}
+use Rattle.cfi_harden.specs.Prepared.{IsPrepared, IsProgram, IsWrongPolicy, PreparedParts}
+
+abbrev pub Refuses : Request → Refusal → Type 0
+Refuses request (Object fault) = object_fault request.object ≡ Some fault
+Refuses request (Items fault) = (object_fault request.object ≡ None) × (fault_of (input_of request.object) ≡ Some fault)
+Refuses request NoEntry = IsProgram request.object × (entry_place (program_in request.object) request.entry ≡ None)
+Refuses request (Policy n) =
+    IsProgram request.object × IsSome (entry_place (program_in request.object) request.entry)
+    × IsWrongPolicy (program_in request.object) request.policy n
+Refuses request NoMemory = Unit {0}
+Refuses request late = (p : PreparedParts) × IsPrepared request p × RefusesPlaced p late
+
+-- a refusal that comes before anything is placed
+abbrev pub IsEarly : Refusal → Type 0
+IsEarly (Object fault) = Unit {0}
+IsEarly (Items fault) = Unit {0}
+IsEarly NoEntry = Unit {0}
+IsEarly (Policy n) = Unit {0}
+IsEarly NoMemory = Unit {0}
+IsEarly late = ⊥
+
+-- what hardening a request comes to
+abbrev pub Hardens : Request → Result HardenedParts Refusal → Type 0
+Hardens request (Ok hardened) = IsHardened request hardened
+Hardens request (Err refusal) = Refuses request refusal
+
+-- what a request comes to before anything is placed
+abbrev pub Prepares : Request → Result PreparedParts Refusal → Type 0
+Prepares request (Ok prepared) = IsPrepared request prepared
+Prepares request (Err refusal) = Refuses request refusal

@@ -1,0 +1,42 @@
+-- What a prepared program, a placement and labels have before units are written. Only private contracts cite this.
+use Rattle.std.specs.Prelude.{◌≡◌, ℕ, ◌-◌, ◌<◌, ◌≤◌, ◌^◌, true, List, Result, Ok, Err, is_some, length}
+use Rattle.cfi_graph.specs.Map.{IsMap}
+use Rattle.obj_program.specs.DataAtMap.{data_at, init_size}
+use Rattle.obj_program.specs.Program.{count, is_end, item_of}
+use Rattle.obj_program.specs.Sound.{IsSound}
+use Rattle.obj_items.specs.MapFit.{FitsMap}
+use Rattle.cfi_flow.specs.Placement.{words_from}
+use Rattle.cfi_harden.specs.declared.refusal.Refusal.{Refusal}
+use Rattle.cfi_harden.specs.Accepted.{IsAccepted}
+use Rattle.cfi_harden.specs.Fitting.{RefusesPlaced}
+use Rattle.cfi_harden.specs.GraphOf.{IsGraphOf}
+use Rattle.cfi_harden.specs.Hardened.{HardenedParts, INIT_ROOM, IsWritten, IsWrittenOf, chosen}
+use Rattle.cfi_harden.specs.MapLines.{map_lines}
+use Rattle.cfi_harden.specs.Placing.{Spaced}
+use Rattle.cfi_harden.specs.Prepared.{PreparedParts}
+
+-- a program of an object, with its closed graph and an entry that is there
+pub record IsReady (p : PreparedParts) : Type 0 where
+  pub sound : IsSound p.program
+  pub words : (k : ℕ) → k < count p.program → (item_of p.program k).word < 2 ^ 32
+  pub last : is_end (item_of p.program (count p.program - 1)).kind ≡ true
+  pub near : (k : ℕ) → k < count p.program → FitsMap k (item_of p.program k)
+  pub graph : IsGraphOf p.program p.closed
+  pub entered : p.entry < count p.program
+
+-- what can be written
+pub record IsWritable (p : PreparedParts) (s : Spaced) (labels : List ℕ) : Type 0 where
+  pub accepted : IsAccepted (chosen p s labels)
+  pub words : s.words ≡ words_from p.closed.classes 0 s.gates
+  pub fits : IsMap (map_lines (chosen p s labels).layout)
+  pub counted : length s.gates ≡ count p.program
+  pub init_there : is_some (data_at p.program s.gates) ≡ true
+  pub room : init_size p.program ≤ INIT_ROOM
+
+-- written, with some code and some data
+abbrev pub IsWrittenAs : PreparedParts → Spaced → List ℕ → HardenedParts → Type 0
+IsWrittenAs p s labels h = (code : List ℕ) × (init : List ℕ) × IsWritten p s labels code init h
+
+abbrev pub WritesOr : PreparedParts → Result HardenedParts Refusal → Type 0
+WritesOr p (Ok h) = IsWrittenOf p h
+WritesOr p (Err refusal) = RefusesPlaced p refusal

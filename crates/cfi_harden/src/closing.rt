@@ -1,0 +1,51 @@
+ghost use Rattle.std.specs.Prelude.{◌≡◌, Ok, option_copied};
+ghost use Rattle.text_lines.specs.Answers.{Answers, UnlessNoMemory};
+ghost use Rattle.cfi_harden.specs.Closing.{Closes, failed_line};
+ghost use Rattle.cfi_harden.specs.Request.{policy_reading};
+
+use crate::refusal::Refusal;
+use cfi_flow::{Closed, close, raw_graph};
+use cfi_graph::{Policy, read_policy_part};
+use obj_program::Items;
+use std::alloc::Global;
+use text_lines::TextEnd;
+
+/// The right lines of a policy before its first fault, and that fault; without a text there are none.
+fn policy_part(alloc: Global, policy: Option<&[u8]>) -> (Policy, Result<(), TextEnd>)
+    ensures exact { Answers result.1 (policy_reading (option_copied policy.entry)).end }
+    ensures lines { UnlessNoMemory result.1 (result.0 ≡ (policy_reading (option_copied policy.entry)).items) }
+{
+    match policy {
+        Some(text) => read_policy_part(alloc, text),
+        None => (Policy::none(alloc), Ok(())),
+    }
+}
+
+/// The line at which the text of a policy fails, if it does.
+fn failed_line(end: &Result<(), TextEnd>) -> Option<u64>
+    ensures { result ≡ failed_line end.now }
+{
+    match end {
+        Err(TextEnd::Line(number, _)) => Some(*number),
+        _ => None,
+    }
+}
+
+/// The closed graph of a program under a policy, if there is one.
+pub(crate) fn closed_under(
+    alloc: Global,
+    items: &Items,
+    policy: Option<&[u8]>,
+) -> Result<Closed, Refusal>
+    ensures { Closes items.now (option_copied policy.entry) result }
+{
+    let (policy, end) = policy_part(alloc, policy);
+    if let Err(TextEnd::NoMemory) = end {
+        return Err(Refusal::NoMemory);
+    }
+    let raw = raw_graph(alloc, items, &policy)?;
+    if let Some(number) = failed_line(&end) {
+        return Err(Refusal::Policy(number));
+    }
+    Ok(close(alloc, &raw)?)
+}

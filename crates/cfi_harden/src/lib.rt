@@ -1,0 +1,32 @@
+//! Hardened code of a program: an object becomes an image, its graph and its map, which the verifier accepts, or the first
+//! thing that stands against that is told. Its main call is `harden`.
+#![tactic(auto)]
+
+pub use chosen::{Chosen, Mapped};
+pub use code::code_bytes;
+pub use hardened::Hardened;
+pub use hardening::harden;
+pub use numbering::class_labels;
+pub use prepared::{Prepared, prepare};
+pub use refusal::Refusal;
+pub use room::has_data_room;
+pub use spacing::{Spacing, place_program};
+
+mod chosen;
+mod closing;
+mod code;
+mod hardened;
+mod hardening;
+mod labels;
+pub mod laws;
+mod lines;
+mod numbering;
+mod places;
+mod prepared;
+mod refusal;
+mod room;
+mod shorts;
+mod sizes;
+mod spacing;
+mod units;
+mod word_range;

@@ -1,0 +1,40 @@
+ghost use Rattle.std.specs.Prelude.{◌≡◌, IfOk};
+ghost use Rattle.cfi_graph.specs.Map.{IsMap};
+ghost use Rattle.cfi_flow.specs.LegalMap.{IsLegalMap};
+ghost use Rattle.cfi_harden.specs.MapLines.{map_lines};
+
+use crate::chosen::Chosen;
+use cfi_graph::{Map, MapLine, MapLines};
+use rv_word::NoMemory;
+use std::alloc::Global;
+
+impl<'a, 'b> Chosen<'a, 'b> {
+    /// The lines of the map: each place's section and offset with its gate.
+    #[tactic(auto, using(crate::proofs::PlaceLines::next_places, crate::proofs::PlaceLines::all_places))]
+    pub fn map_lines(&self, alloc: Global) -> Result<MapLines, NoMemory>
+        ensures { IfOk result (λ lines. lines ≡ map_lines self.now.layout) }
+    {
+        let mut lines = Vec::new(alloc);
+        for k in 0..self.count() {
+            let item = self.item(k);
+            lines.push(MapLine {
+                gate: self.gate(k),
+                section: item.section,
+                offset: item.offset,
+            })?;
+        }
+        Ok(MapLines::of(lines))
+    }
+
+    /// The map, where it may have these lines. It is a legal one.
+    #[tactic(auto, using(crate::proofs::PlaceLines::legal_map))]
+    pub fn map(&self, alloc: Global) -> Result<Map, NoMemory>
+        requires { IsMap (map_lines self.now.layout) }
+        ensures lines { IfOk result (λ map. map ≡ map_lines self.now.layout) }
+        ensures legal { IfOk result (λ map. IsLegalMap self.now.layout.program self.now.layout.closed map) }
+    {
+        let _count = self.count();
+        let lines = self.map_lines(alloc)?;
+        Map::of(alloc, lines)
+    }
+}

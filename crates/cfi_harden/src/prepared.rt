@@ -1,0 +1,51 @@
+ghost use Rattle.std.specs.Prelude.{IfErr, option_copied};
+ghost use Rattle.cfi_harden.specs.Refused.{IsEarly, Prepares};
+ghost use Rattle.cfi_harden.specs.Request.{Request};
+
+use crate::closing::closed_under;
+use crate::refusal::Refusal;
+use cfi_flow::{Closed, entry_place};
+use elf_object::Object;
+use obj_items::items;
+use obj_program::Items;
+use std::alloc::Global;
+use std::marker::Model;
+
+/// A program with its closed graph under a policy and the place where it is entered.
+#[derive(Drop)]
+pub struct Prepared<'a> {
+    pub items: Items<'a>,
+    pub closed: Closed,
+    pub entry: u64,
+}
+
+impl<'a> Model for Prepared<'a> {
+    ghost use Rattle.cfi_harden.specs.Prepared.{PreparedParts};
+
+    ghost Value = { PreparedParts };
+
+    ghost view = { λ p. record { program = p.items; closed = p.closed; entry = p.entry } };
+}
+
+/// The program of an object with its closed graph under a policy, if there is one, entered at the first symbol of a name.
+pub fn prepare<'a>(
+    alloc: Global,
+    object: &'a [u8],
+    entry: &[u8],
+    policy: Option<&[u8]>,
+) -> Result<Prepared<'a>, Refusal>
+    ensures prepares { Prepares (record { object = object.now; entry = entry.now; policy = option_copied policy.entry }) result }
+    ensures early { IfErr result IsEarly }
+{
+    let object = Object::read(alloc, object)?;
+    let items = items(alloc, &object)?;
+    let Some(entry) = entry_place(&items, entry) else {
+        return Err(Refusal::NoEntry);
+    };
+    let closed = closed_under(alloc, &items, policy)?;
+    Ok(Prepared {
+        items,
+        closed,
+        entry,
+    })
+}

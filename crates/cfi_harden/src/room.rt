@@ -1,0 +1,39 @@
+ghost use Rattle.std.specs.Prelude.{◌↔◌, IsTrue};
+ghost use Rattle.cfi_harden.specs.Fitting.{FitsOr};
+ghost use Rattle.cfi_harden.specs.Hardened.{HasDataRoom};
+
+use crate::prepared::Prepared;
+use crate::refusal::Refusal;
+use crate::spacing::{Spacing, place_program};
+use obj_program::Items;
+use std::alloc::Global;
+
+/// How many bytes of initialised data an image has room for, and the address before which data end: there the stack's room
+/// begins.
+pub const INIT_ROOM: u128 = 1 << 25;
+
+pub const DATA_ROOM: u128 = 0x0ff0_0000;
+
+/// Whether the data of a program have room.
+pub fn has_data_room(items: &Items) -> bool
+    ensures { IsTrue result ↔ HasDataRoom items.now }
+{
+    let extent = items.data_extent();
+    extent.init <= INIT_ROOM && extent.end <= DATA_ROOM
+}
+
+/// A placement of a prepared program in which its data have room and no value leaves its range.
+pub(crate) fn spaced_in_room(alloc: Global, prepared: &Prepared) -> Result<Spacing, Refusal>
+    ensures { FitsOr prepared.now result }
+{
+    let items = &prepared.items;
+    let spacing = place_program(alloc, items, &prepared.closed)?;
+    if !has_data_room(items) {
+        let extent = items.data_extent();
+        return Err(Refusal::DataTooLarge(extent.init, extent.end));
+    }
+    if let Some(place) = items.out_of_range(spacing.gates(), spacing.words()) {
+        return Err(Refusal::RelocRange(place.section, place.offset));
+    }
+    Ok(spacing)
+}

@@ -1,0 +1,5 @@
+pub mod ImageOf
+pub mod PlaceSteps
+pub mod PlaceLaws
+pub mod PlacesKept
+pub mod KindStep

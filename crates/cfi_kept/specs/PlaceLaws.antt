@@ -1,0 +1,46 @@
+-- What stands at places, and where their gate words lead.
+use Rattle.std.specs.Prelude.{◌≡◌, ℕ, ◌+◌, ◌*◌, ◌≤◌, ◌<◌, Some, List}
+use Rattle.rv_word.specs.Image.{Contents}
+use Rattle.rv_word.specs.Layout.{version_1}
+use Rattle.rv_word.specs.Memory.{loaded}
+use Rattle.obj_program.specs.Program.{count}
+use Rattle.cfi_flow.specs.Closed.{class_at, class_of}
+use Rattle.cfi_flow.specs.GraphAtMap.{gate, word}
+use Rattle.cfi_flow.specs.LabelOf.{site_label}
+use Rattle.cfi_unit.specs.declared.unit.Unit as U
+use Rattle.cfi_unit.specs.Leads.{HasLabel}
+use Rattle.cfi_unit.specs.UnitWords.{word_count}
+use Rattle.cfi_runs.specs.Own.{Own}
+use Rattle.cfi_runs.specs.OwnRuns.{OwnRuns, words_along}
+use Rattle.cfi_runs.specs.Tame.{TameStep}
+use Rattle.cfi_runs.specs.WholeRun.{HasPrologue}
+use Rattle.cfi_harden.specs.Accepted.{IsAccepted}
+use Rattle.cfi_harden.specs.Units.{Choice, entry_gate}
+use Rattle.cfi_kept.specs.ImageOf.{IsImageOf, IsPlace, unit_here}
+use Rattle.cfi_kept.specs.PlaceSteps.{TamePlace, at_word}
+
+-- from a place's gate a path of no more than its gate word leads to its unit, whose step is tame
+pub record ComesToPlace (m : Choice) (image : Contents) (k : ℕ) (o : Own) : Type 0 where
+  pub path : List U.Unit
+  pub few : words_along path ≤ 1
+  pub leads : OwnRuns version_1 (loaded image) path o (at_word m k o)
+  pub step : TameStep (loaded image) (unit_here m k) (at_word m k o)
+
+abbrev pub WrittenPrologue : Type 0
+WrittenPrologue = (m : Choice) (image : Contents) → IsImageOf m image → HasPrologue version_1 image (entry_gate m)
+
+abbrev pub PlaceRuns : Type 0
+PlaceRuns = (m : Choice) (image : Contents) (k : ℕ) (o : Own) → IsImageOf m image → TamePlace m image k o → ComesToPlace m image k o
+
+-- the gate of the next place is behind the unit
+abbrev pub NextGate : Type 0
+NextGate =
+    (m : Choice) (k : ℕ) → IsAccepted m → IsPlace m k →
+    (k + 1 < count m.layout.program) × (gate m.layout (k + 1) ≡ word m.layout k + 4 * word_count (unit_here m k))
+
+-- the gates of a computed transfer's targets bear its label
+abbrev pub TargetBears : Type 0
+TargetBears =
+    (m : Choice) (image : Contents) (k t class : ℕ) → IsImageOf m image →
+    class_of m.layout.closed k ≡ Some class → class_at m.layout.closed t ≡ Some class →
+    HasLabel (loaded image) (site_label m.labels m.layout.closed k) (gate m.layout t)

@@ -1,0 +1,41 @@
+-- A hardened program of a request is an image of an accepted choice, at the gates of its map.
+use Rattle.std.proofs.Common.{◌≡◌, ℕ, List, [], Option, sym, ap, subst, unwrap_or}
+use Rattle.rv_word.specs.Image.{Contents}
+use Rattle.rv_word.specs.Layout.{version_1}
+use Rattle.cfi_flow.specs.GraphAtMap.{Layout}
+use Rattle.cfi_flow.specs.Source.{init_here}
+use Rattle.cfi_harden.specs.Hardened.{HardenedParts, IsHardened, chosen}
+use Rattle.cfi_harden.specs.Request.{Request}
+use Rattle.cfi_harden.specs.Units.{Choice}
+use Rattle.cfi_harden.proofs.Ready.{written_accepted}
+use Rattle.cfi_kept.specs.ImageOf.{IsImageOf}
+use Rattle.cfi_meaning.specs.Hardened.{HardenedKeepsMeaning, HardenedNeverDiffers, HoldsAtMap}
+use Rattle.cfi_meaning.specs.Meaning.{KeepsMeaning}
+use Rattle.cfi_meaning.specs.NeverDiffers.{NoRunDiffers}
+use Rattle.cfi_meaning.proofs.Kept.{meaning_kept}
+use Rattle.cfi_meaning.proofs.NeverDiffers.{never_differs}
+
+-- what holds of each image of an accepted choice with its data
+module _ (Holds : Layout → Contents → Type 0)
+    (each : (m : Choice) (image : Contents) → IsImageOf m image → image.init ≡ init_here m.layout → Holds m.layout image) where
+  pub at_map : (request : Request) (h : HardenedParts) → IsHardened request h → HoldsAtMap Holds request h
+  at_map request h (p, prepared, (s, labels, code, init, placed, room, in_range, written)) =
+      let m = chosen p s labels in
+      let image : Contents = record { code = code; init = init } in
+      let accepted = written_accepted request p s labels code init h prepared (record { placed = placed; room = room; in_range = in_range }) written in
+      record {
+        p = p;
+        contents = image;
+        prepared = prepared;
+        map = written.map;
+        image = written.image;
+        holds = subst (λ (gates : List ℕ). Holds (record { profile = version_1; program = p.program; closed = p.closed; gates = gates; entry = p.entry }) image) (sym written.gates)
+            (each m image (record { accepted = accepted; bytes = written.bytes; code = written.code_is })
+            (sym (ap (λ (o : Option (List ℕ)). unwrap_or o []) written.init_is)));
+      }
+
+pub hardened_keeps_meaning : HardenedKeepsMeaning
+hardened_keeps_meaning = at_map (λ layout image. (input : List ℕ) → KeepsMeaning layout image input) (λ m image of init input. meaning_kept m image input of init)
+
+pub hardened_never_differs : HardenedNeverDiffers
+hardened_never_differs = at_map NoRunDiffers (λ m image of init. never_differs m image of init)

@@ -1,0 +1,78 @@
+-- A step against which no reason stands is one that its unit keeps.
+use Rattle.std.proofs.Common.{◌≡◌, ℕ, suc, ◌<◌, ◌==◌, Bool, true, false, List, [], ◌∷◌, length, Some, None, refl, ap, subst, arith}
+use Rattle.std.specs.Prelude.{nat_le, if◌then◌else◌}
+use Rattle.std.proofs.lemmas.Bool.{eqb-true, leb-false, leb-true, not-false}
+use Rattle.rv_word.specs.Image.{Contents}
+use Rattle.rv_word.specs.Memory.{loaded}
+use Rattle.rv_instr.specs.Registers.{get_reg}
+use Rattle.rv_instr.specs.declared.instr.Instr.{Instr}
+use Rattle.rv_instr.specs.declared.instr.Instr.TheVariants as I
+use Rattle.obj_input.specs.declared.item_kind.ItemKind.{ItemKind}
+use Rattle.obj_input.specs.declared.item_kind.ItemKind.TheVariants as is
+use Rattle.obj_program.specs.Program.{is_end}
+use Rattle.obj_program.specs.Suits.{suits}
+use Rattle.cfi_flow.specs.Closed.{class_at, class_of}
+use Rattle.cfi_flow.specs.GraphAtMap.{Layout, gate}
+use Rattle.cfi_unit.specs.declared.unit.Unit.TheVariants as V
+use Rattle.cfi_unit.specs.Leads.{HasLabel}
+use Rattle.cfi_unit.specs.Shadow.{MOST_PENDING}
+use Rattle.cfi_runs.specs.Own as own
+use Rattle.cfi_runs.specs.Tame.{IsTame}
+use Rattle.cfi_harden.specs.Units.{unit_of}
+use Rattle.cfi_meaning.specs.Meaning.{sites_of}
+use Rattle.cfi_flow.specs.declared.reason.Reason.TheVariants as why
+use Rattle.cfi_flow.specs.Source.{Source}
+use Rattle.cfi_flow.specs.Untame.{MOST_CALLS, is_off_graph, is_off_window, is_too_deep, is_wrong_return, return_address}
+use Rattle.cfi_meaning.proofs.Found.{place_found, some_found}
+
+-- no reason stands
+pub record NoReason (g : Layout) (k : ℕ) (kind : ItemKind) (i : Instr) (st : Source) : Type 0 where
+  pub graph : is_off_graph g k kind i st ≡ false
+  pub return : is_wrong_return g kind st ≡ false
+  pub window : is_off_window kind i st ≡ false
+  pub deep : is_too_deep kind st ≡ false
+  pub no_end : is_end kind ≡ false
+
+pub all_false : (a b c d e : Bool) →
+    (if a then Some why.Graph else if b then Some why.Return else if c then Some why.Window else if d then Some why.Deep else if e then Some why.End else None) ≡ None →
+    (a ≡ false) × (b ≡ false) × (c ≡ false) × (d ≡ false) × (e ≡ false)
+all_false false false false false false none = (refl, refl, refl, refl, refl)
+all_false true b c d e none = absurd (cc)
+all_false false true c d e none = absurd (cc)
+all_false false false true d e none = absurd (cc)
+all_false false false false true e none = absurd (cc)
+all_false false false false false true none = absurd (cc)
+
+pub sites_counted : (g : Layout) (pending : List ℕ) → length (sites_of g pending) ≡ suc (length pending)
+sites_counted g [] = refl
+sites_counted g (k ∷ pending) = ap suc (sites_counted g pending)
+
+module _ (image : Contents) (g : Layout) (k label : ℕ) (st : Source) (bears : (t class : ℕ) → class_of g.closed k ≡ Some class → class_at g.closed t ≡ Some class → HasLabel (loaded image) label (gate g t)) where
+  returns_tame : (pending : List ℕ) → (get_reg st.regs 1 == return_address g pending) ≡ true → IsTame (loaded image) V.Return (sites_of g pending) st.regs
+  returns_tame [] e = eqb-true (get_reg st.regs 1) g.profile.closing e
+  returns_tame (k' ∷ pending) e = eqb-true (get_reg st.regs 1) (gate g k') e
+
+  room : nat_le MOST_CALLS (length st.pending) ≡ false → length (sites_of g st.pending) < MOST_PENDING
+  room few = let counted = sites_counted g st.pending in let less = leb-false MOST_CALLS (length st.pending) few in omega arith
+
+  goes_to_gate : (rd rs1 imm : ℕ) → is_off_graph g k is.Ijump (I.Jalr rd rs1 imm) st ≡ false → HasLabel (loaded image) label (own.computed st.regs rs1 imm)
+  goes_to_gate rd rs1 imm on =
+      let (t, some) = some_found g k (I.Jalr rd rs1 imm) st.regs on in
+      let found = place_found g k (I.Jalr rd rs1 imm) st.regs t some in
+      subst (HasLabel (loaded image) label) found.gate_is (bears t found.class found.site found.place)
+
+  pub tame_of_kind : (kind : ItemKind) (i : Instr) (long : Bool) (target : ℕ) → suits kind i ≡ true → NoReason g k kind i st →
+      IsTame (loaded image) (unit_of kind i long target label) (sites_of g st.pending) st.regs
+  tame_of_kind is.Gate (I.Upper op rd imm) long target suit no_reason = tt
+  tame_of_kind is.Plain i long target suit no_reason = leb-true _ _ (not-false _ no_reason.window)
+  tame_of_kind is.Store (I.Store op rs1 rs2 imm) long target suit no_reason = leb-true _ _ (not-false _ no_reason.window)
+  tame_of_kind is.System I.Ecall long target suit no_reason = tt
+  tame_of_kind is.System I.Ebreak long target suit no_reason = tt
+  tame_of_kind is.Branch (I.Branch op rs1 rs2 imm) true target suit no_reason = tt
+  tame_of_kind is.Branch (I.Branch op rs1 rs2 imm) false target suit no_reason = tt
+  tame_of_kind is.Jump i long target suit no_reason = tt
+  tame_of_kind is.Call i long target suit no_reason = room no_reason.deep
+  tame_of_kind is.Return i long target suit no_reason = returns_tame st.pending (not-false _ no_reason.return)
+  tame_of_kind is.Ijump (I.Jalr rd rs1 imm) long target suit no_reason = goes_to_gate rd rs1 imm no_reason.graph
+  tame_of_kind is.Icall (I.Jalr rd rs1 imm) long target suit no_reason = (goes_to_gate rd rs1 imm no_reason.graph, room no_reason.deep)
+  tame_of_kind kind i long target suit no_reason = let some = no_reason.no_end in absurd (cc)

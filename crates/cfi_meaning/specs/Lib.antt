@@ -1,0 +1,4 @@
+pub mod Meaning
+pub mod Compared
+pub mod NeverDiffers
+pub mod Hardened

@@ -1,6 +1,0 @@
-use Rattle.cfi_flow.specs.LabelOf.{all_classes}
-use Rattle.cfi_rewrite.proofs.LineList.{AreClassLines}
-use Rattle.cfi_rewrite.proofs.chosen.Chosen.class_lines.Given as goal
-
-abbrev pub invariant-loop-k : goal.invariant-loop-k
-invariant-loop-k l = AreClassLines l.self.layout.gates l.self.labels (all_classes l.self.layout.closed) l.k l.lines.items

@@ -1,8 +1,0 @@
-use Rattle.std.specs.Prelude.{option_copied}
-use Rattle.cfi_rewrite.proofs.Ready.{ready}
-use Rattle.cfi_rewrite.proofs.hardening.rewrite.Goals as goal
-
-pub placed_and_written-requires : goal.placed_and_written-requires
-placed_and_written-requires c =
-    ready (record { object = c.args.object.now; entry = c.args.entry.now; policy = option_copied c.args.policy })
-    c.in_ok-prepared.prepared c.last_place_ends.ensures c.places_fit.ensures c.in_ok-prepared.ensures c.words_fit_in.ensures.sound c.words_fit_in.ensures.words

@@ -1,0 +1,10 @@
+pub mod Calmly
+pub mod UnitRuns
+pub mod Same
+pub mod Alike
+pub mod AlikeCalls
+pub mod Matched
+pub mod Paths
+pub mod Ends
+pub mod WholeRun
+pub mod Worked

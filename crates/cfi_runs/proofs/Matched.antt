@@ -1,0 +1,250 @@
+-- Each unit's row, seen from the program: what the unit is left with matches what the program's own
+-- step leaves.
+use Rattle.std.proofs.Common.{◌≡◌, ◌≢◌, ℕ, ◌+◌, ◌-◌, ◌^◌, ◌==◌, ◌<◌, ◌≤◌, ◌||◌, Bool, true, false, List, [], ◌∷◌, length, inl, if◌then◌else◌, refl, sym, ap, subst, ◌∙◌, arith}
+use Rattle.rv_word.specs.Layout.{Profile, SHADOW_START}
+use Rattle.rv_word.specs.Memory.{Memory, write}
+use Rattle.rv_instr.specs.Registers.{Registers, get_reg, set_reg}
+use Rattle.rv_instr.specs.Reserved.{is_reserved}
+use Rattle.rv_instr.specs.declared.instr.Instr.{Instr}
+use Rattle.rv_instr.specs.declared.instr.Instr.TheVariants.{Store, Ecall, Ebreak}
+use Rattle.rv_instr.specs.declared.instr.BranchOp.{BranchOp}
+use Rattle.rv_instr.specs.declared.instr.StoreOp.{StoreOp}
+use Rattle.rv_instr.specs.declared.instr.StoreOp.TheVariants.{Sb, Sh, Sw, Sd}
+use Rattle.rv_code.specs.Arithmetic.{branch_taken, store_size}
+use Rattle.rv_code.specs.State.{Hart, Shared, After}
+use Rattle.rv_code.specs.Step.{exec, step}
+use Rattle.rv_code.specs.declared.turn.Turn.TheVariants.{Ran}
+use Rattle.rv_code.proofs.Frames.{write_outside}
+use Rattle.cfi_unit.specs.declared.unit.Unit as U
+use Rattle.cfi_unit.specs.declared.unit.Unit.TheVariants as V
+use Rattle.cfi_unit.specs.declared.unit.SystemOp.TheVariants as S
+use Rattle.cfi_unit.specs.UnitWords.{Fits, word_count}
+use Rattle.cfi_unit.specs.Shadow.{slot}
+use Rattle.cfi_unit.specs.Between.{Unchanged}
+use Rattle.cfi_unit.specs.UnitLaw.{ReturnsTo}
+use Rattle.cfi_unit.specs.Leads.{HasLabel, sum_of, destination}
+use Rattle.cfi_unit.specs.Leaving.{SameRegisters, LeftTo, Executes, pushed, with_memory}
+use Rattle.cfi_unit.specs.EffectLaw.{Enters}
+use Rattle.cfi_unit.proofs.EffectSteps.{same_link}
+use Rattle.cfi_unit.proofs.Regions.{can_store_data, store_size-small}
+use Rattle.cfi_runs.specs.MatchLaws as law
+use Rattle.cfi_runs.specs.Matching.{SameData, Matches, MatchesAfter}
+use Rattle.cfi_runs.specs.Own.{Own, OwnAfter, calls, computed, executes, goes, own_step, returns}
+use Rattle.cfi_runs.specs.OwnRuns.{SitesFit}
+use Rattle.cfi_runs.specs.Passes.{Passes}
+use Rattle.cfi_runs.specs.StandsFor.{StandsFor, StandsPast, Called}
+use Rattle.cfi_runs.specs.Tame.{IsTame, NamesNoReserved}
+use Rattle.cfi_runs.proofs.Alike.{AlikeAfter, sum_same, is_self, or_first, or_second, plain_alike, break_alike}
+use Rattle.cfi_runs.proofs.AlikeCalls.{call_alike}
+use Rattle.cfi_runs.proofs.Calmly.{within_weaker}
+use Rattle.cfi_runs.proofs.Same.{same_trans, get_same, write_alike, data_written}
+use Rattle.cfi_runs.proofs.UnitRuns.{unit_runs}
+
+size_some : (op : StoreOp) → 0 < store_size op
+size_some Sb = omega arith
+size_some Sh = omega arith
+size_some Sw = omega arith
+size_some Sd = omega arith
+
+-- the operands of a branch or a store
+first_free : (rs1 rs2 : ℕ) → ((k : ℕ) → (rs1 == k || rs2 == k) ≡ true → is_reserved k ≡ false) → is_reserved rs1 ≡ false
+first_free rs1 rs2 free = free rs1 (or_first (rs1 == rs1) (rs2 == rs1) (is_self rs1))
+
+second_free : (rs1 rs2 : ℕ) → ((k : ℕ) → (rs1 == k || rs2 == k) ≡ true → is_reserved k ≡ false) → is_reserved rs2 ≡ false
+second_free rs1 rs2 free = free rs2 (or_second (rs1 == rs2) (rs2 == rs2) (is_self rs2))
+
+not_scratch : (k : ℕ) → is_reserved k ≡ false → k ≢ 31
+not_scratch k free e = let is : is_reserved k ≡ true = ap is_reserved e in cc
+
+module _ (part : ℕ) (image base : Memory) where
+  -- a unit that is left to an address
+  left_matches : (o : Own) (next : ℕ) (regs : Registers) (s : Shared) → next ≡ o.pc → SameRegisters o.regs regs → SameData o.shared s →
+      (after : After) → LeftTo part image base next o.pending regs (Unchanged s) after →
+      MatchesAfter part image base (record { state = o; turn = Ran }) after
+  left_matches o next regs s e same alike after left =
+      let shared = subst (λ (x : Shared). SameData o.shared x) (sym left.shared) alike in
+      record {
+        turn = left.turn;
+        shared = shared;
+        going = λ ran. record {
+          pc = left.pc ∙ e;
+          regs = same_trans o.regs regs after.hart.regs same left.regs;
+          shared = shared;
+          pointer = left.pointer;
+          context = left.context;
+        };
+      }
+
+  -- a unit that is one instruction of the program's
+  executed_matches : (p : Profile) (instr : Instr) (o : Own) (past : ℕ) (h : Hart) (s : Shared) → past ≡ h.pc + 4 →
+      h.regs 3 ≡ slot part (length o.pending) → AlikeAfter (exec p instr (record { pc = o.pc; regs = o.regs }) o.shared) (exec p instr h s) →
+      (after : After) → Executes p part image base instr o.pending h (Unchanged s) after →
+      MatchesAfter part image base (executes p o instr o.regs past) after
+  executed_matches p instr o past h s next x3 alike after does =
+      let own = exec p instr (record { pc = o.pc; regs = o.regs }) o.shared in
+      let e : after ≡ exec p instr h s = does.executed ∙ ap (exec p instr h) does.may_see in
+      let turn : after.turn ≡ own.turn = ap (λ (a : After). a.turn) e ∙ alike.turn in
+      let shared = subst (λ (a : After). SameData own.shared a.shared) (sym e) alike.shared in
+      record {
+        turn = turn;
+        shared = shared;
+        going = λ ran. record {
+          pc = does.pc (turn ∙ ran) ∙ sym next;
+          regs = subst (λ (a : After). SameRegisters own.hart.regs a.hart.regs) (sym e) alike.regs;
+          shared = shared;
+          pointer = does.pointer ∙ x3;
+          context = does.context (turn ∙ ran);
+        };
+      }
+
+module _ (p : Profile) (part : ℕ) (image base : Memory) (o : Own) (h : Hart) (s : Shared) (low : SHADOW_START ≤ part) (m : Matches part image base o h s) where
+  same : SameRegisters o.regs h.regs
+  same = m.regs
+
+  alike : SameData o.shared s
+  alike = m.shared
+
+  sum_here : (rs1 imm : ℕ) → is_reserved rs1 ≡ false → sum_of h.regs rs1 imm ≡ sum_of o.regs rs1 imm
+  sum_here rs1 imm free = sum_same o.regs h.regs rs1 imm free same
+
+  -- a gate's address is a multiple of 4
+  computed_here : (rs1 imm label : ℕ) → is_reserved rs1 ≡ false → HasLabel image label (computed o.regs rs1 imm) →
+      destination h.regs rs1 imm ≡ computed o.regs rs1 imm
+  computed_here rs1 imm label free has = let e = sum_here rs1 imm free in let round = has.round in omega arith
+
+  bears : (rs1 imm label : ℕ) → is_reserved rs1 ≡ false → HasLabel image label (computed o.regs rs1 imm) →
+      HasLabel image label (destination h.regs rs1 imm)
+  bears rs1 imm label free has = subst (HasLabel image label) (sym (computed_here rs1 imm label free has)) has
+
+  returns_so : (sites : List ℕ) → IsTame image V.Return sites o.regs → Passes image V.Return sites h.regs
+  returns_so [] tame = tame
+  returns_so (site ∷ sites) tame = same.same 1 refl ∙ tame
+
+  passes : (unit : U.Unit) → NamesNoReserved unit → IsTame image unit o.pending o.regs → Passes image unit o.pending h.regs
+  passes (V.Gate label) free tame = tt
+  passes (V.Plain instr) free tame = tt
+  passes (V.Branch op rs1 rs2 target) free tame = tt
+  passes (V.Near op rs1 rs2 target) free tame = tt
+  passes (V.Jump target) free tame = tt
+  passes V.Stop free tame = tt
+  passes (V.System op) free tame = tt
+  passes (V.Store op rs1 rs2 imm) free tame =
+      let e = sum_here rs1 imm (first_free rs1 rs2 free) in
+      let some = size_some op in (omega arith, not_scratch rs2 (second_free rs1 rs2 free))
+  passes (V.Call target) free tame = tame
+  passes (V.Ijump rs1 imm label) free tame = bears rs1 imm label (free rs1 (is_self rs1)) tame
+  passes (V.Icall rs1 imm label) free tame = (bears rs1 imm label (free rs1 (is_self rs1)) tame.0, tame.1)
+  passes V.Return free tame = returns_so o.pending tame
+
+  taken_here : (op : BranchOp) (rs1 rs2 : ℕ) → is_reserved rs1 ≡ false → is_reserved rs2 ≡ false →
+      branch_taken op (get_reg h.regs rs1) (get_reg h.regs rs2) ≡ branch_taken op (get_reg o.regs rs1) (get_reg o.regs rs2)
+  taken_here op rs1 rs2 free1 free2 =
+      ap (λ (x : ℕ). branch_taken op x (get_reg h.regs rs2)) (get_same o.regs h.regs rs1 free1 same)
+      ∙ ap (branch_taken op (get_reg o.regs rs1)) (get_same o.regs h.regs rs2 free2 same)
+
+  -- the program's memory after its own store
+  abbrev stored : StoreOp → ℕ → ℕ → ℕ → Shared
+  stored op rs1 rs2 imm = with_memory o.shared (write (store_size op) o.shared.memory (sum_of o.regs rs1 imm) (get_reg o.regs rs2))
+
+  own_store : (op : StoreOp) (rs1 rs2 imm past : ℕ) → sum_of o.regs rs1 imm < 2 ^ 28 →
+      executes p o (Store op rs1 rs2 imm) o.regs past ≡ record { state = record o { pc = past; shared = stored op rs1 rs2 imm }; turn = Ran }
+  own_store op rs1 rs2 imm past below =
+      let can = can_store_data p (sum_of o.regs rs1 imm) (store_size op) below (store_size-small op) in rw can refl
+
+  stored_here : (op : StoreOp) (rs1 rs2 imm : ℕ) → is_reserved rs1 ≡ false → is_reserved rs2 ≡ false →
+      SameData (stored op rs1 rs2 imm) (with_memory s (write (store_size op) s.memory (sum_of h.regs rs1 imm) (get_reg h.regs rs2)))
+  stored_here op rs1 rs2 imm free1 free2 =
+      let n = store_size op in
+      data_written o.shared s _ _ alike
+      (λ a low.
+      ap (λ (x : ℕ). write n s.memory x (get_reg h.regs rs2) a) (sum_here rs1 imm free1)
+      ∙ ap (λ (v : ℕ). write n s.memory (sum_of o.regs rs1 imm) v a) (get_same o.regs h.regs rs2 free2 same)
+      ∙ write_alike n o.shared.memory s.memory (sum_of o.regs rs1 imm) (get_reg o.regs rs2) alike.memory a low)
+
+  pushed_here : (site : ℕ) → SameData o.shared (pushed part (length o.pending) site s)
+  pushed_here site = record {
+    memory = λ a below. write_outside 8 s.memory (slot part (length o.pending)) site a (inl (omega arith)) ∙ alike.memory a below;
+    left = alike.left;
+    output = alike.output;
+    events = alike.events;
+  }
+
+  -- the instruction at the unit's address, where AUIPC is executed
+  at_here : (instr : Instr) → AlikeAfter (exec p instr (record { pc = h.pc; regs = o.regs }) o.shared) (exec p instr h s) →
+      AlikeAfter (exec p instr (record { pc = o.pc; regs = o.regs }) o.shared) (exec p instr h s)
+  at_here instr = subst (λ (x : ℕ). AlikeAfter (exec p instr (record { pc = x; regs = o.regs }) o.shared) (exec p instr h s)) m.pc
+
+  goes_so : (next next' : ℕ) → next' ≡ next → (after : After) → LeftTo part image base next' o.pending h.regs (Unchanged s) after →
+      MatchesAfter part image base (goes p o next) after
+  goes_so next next' e = left_matches part image base (record o { pc = next }) next' h.regs s e same alike
+
+  calls_so : (target target' site : ℕ) → target' ≡ target → (after : After) → Called p part image base h s target' site o.pending after →
+      MatchesAfter part image base (calls p o target site) after
+  calls_so target target' site e =
+      left_matches part image base (record o { pc = target; regs = set_reg o.regs 1 site; pending = site ∷ o.pending }) target' _ _ e
+      (same_link o.regs h.regs site site refl same) (pushed_here site)
+
+  returned : (past : ℕ) (sites : List ℕ) (after : After) → StandsPast p part image base h s V.Return past sites after →
+      MatchesAfter part image base (returns p o sites) after
+  returned past [] after does = absurd does
+  returned past (site ∷ sites) after does =
+      left_matches part image base (record o { pc = site; pending = sites }) site h.regs s refl same alike after does
+
+  row : (unit : U.Unit) → Fits unit o.pc → NamesNoReserved unit → IsTame image unit o.pending o.regs → (after : After) →
+      StandsFor p part image base h s unit o.pc o.pending after → MatchesAfter part image base (own_step p o unit) after
+  row (V.Gate label) fits free tame after does = goes_so _ _ refl after does
+  row (V.Plain instr) fits free tame after does =
+      let e = m.pc in
+      executed_matches part image base p instr o _ h s (omega arith) m.pointer
+      (at_here instr (plain_alike p o.regs o.shared h s same alike instr fits.1 free tame)) after does
+  row (V.Branch op rs1 rs2 target) fits free tame after does =
+      goes_so _ _
+      (ap (λ (b : Bool). if b then o.pc + 8 else target) (taken_here op rs1 rs2 (first_free rs1 rs2 free) (second_free rs1 rs2 free)))
+      after does
+  row (V.Near op rs1 rs2 target) fits free tame after does =
+      goes_so _ _
+      (ap (λ (b : Bool). if b then target else o.pc + 4) (taken_here op rs1 rs2 (first_free rs1 rs2 free) (second_free rs1 rs2 free)))
+      after does
+  row (V.Jump target) fits free tame after does = goes_so _ _ refl after does
+  row V.Stop fits free tame after does = absurd tame
+  row (V.System S.Ecall) fits free tame after does =
+      let e = m.pc in
+      executed_matches part image base p Ecall o _ h s (omega arith) m.pointer (at_here Ecall (call_alike o.regs h same o.shared s alike)) after does
+  row (V.System S.Ebreak) fits free tame after does =
+      let e = m.pc in
+      executed_matches part image base p Ebreak o _ h s (omega arith) m.pointer
+      (at_here Ebreak (break_alike p o.regs o.shared h s same alike)) after does
+  row (V.Store op rs1 rs2 imm) fits free tame after does =
+      let some = size_some op in
+      subst (λ (a : OwnAfter). MatchesAfter part image base a after) (sym (own_store op rs1 rs2 imm (o.pc + 16) (omega arith)))
+      (left_matches part image base (record o { pc = o.pc + 16; shared = stored op rs1 rs2 imm }) _ _ _ refl same
+      (stored_here op rs1 rs2 imm (first_free rs1 rs2 free) (second_free rs1 rs2 free)) after does)
+  row (V.Call target) fits free tame after does = calls_so _ _ _ refl after does
+  row (V.Ijump rs1 imm label) fits free tame after does = goes_so _ _ (computed_here rs1 imm label (free rs1 (is_self rs1)) tame) after does
+  row (V.Icall rs1 imm label) fits free tame after does =
+      calls_so _ _ _ (computed_here rs1 imm label (free rs1 (is_self rs1)) tame.0) after does
+  row V.Return fits free tame after does = returned (o.pc + 20) o.pending after does
+
+-- the newest site is an instruction's address
+returns_to : (pending : List ℕ) → SitesFit pending → ReturnsTo pending
+returns_to [] fit = tt
+returns_to (site ∷ pending) fit = fit.each.0
+
+pub unit_keeps_match : law.UnitKeepsMatch
+unit_keeps_match p part image base unit o h s own bytes fit step_is m =
+    let i : Enters p part image base unit o.pc o.pending h s = record {
+      own = own;
+      bytes = bytes;
+      may_stand = (step_is.fits, returns_to o.pending fit);
+      some = step_is.some;
+      most = fit.most;
+      stands = step_is.stands;
+      context = m.context;
+      pc = m.pc;
+      pointer = m.pointer;
+    } in
+    within_weaker p (StandsFor p part image base h s unit o.pc o.pending) (MatchesAfter part image base (own_step p o unit))
+    (row p part image base o h s own.low m unit step_is.fits step_is.free step_is.tame)
+    (word_count unit - 1) (step p h s)
+    (unit_runs p part image base unit o.pc o.pending h s i
+    (passes p part image base o h s own.low m unit step_is.free step_is.tame))

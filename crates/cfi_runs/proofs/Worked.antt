@@ -1,0 +1,150 @@
+-- The whole run of an image that returns 7, of its prologue and three units: its premises are met, so
+-- the law says that the run exits with 7 within 19 steps (it takes 17).
+use Rattle.std.proofs.Common.{◌≡◌, ℕ, zero, suc, ◌+◌, ◌*◌, ◌-◌, ◌^◌, ◌<◌, ◌==◌, ◌&&◌, ◌||◌, inl, inr, Bool, true, false, List, [], ◌∷◌, length, Some, lit<, lit≤, refl, sym, ap}
+use Rattle.std.specs.Prelude.{nat_le, nat_lt, slice_get, slice_index}
+use Rattle.std.specs.List.{list_all}
+use Rattle.std.proofs.lemmas.Bool.{cases_Bool, cond_both, and_parts, eqb-true, ltb-true}
+use Rattle.rv_word.specs.Image.{Contents}
+use Rattle.rv_word.specs.Layout.{CODE_START, DATA_START, version_1}
+use Rattle.rv_word.specs.Memory.{loaded, placed, read}
+use Rattle.rv_instr.specs.Registers.{cleared}
+use Rattle.rv_instr.specs.Reserved.{is_reserved}
+use Rattle.rv_instr.specs.declared.instr.Instr.{Instr}
+use Rattle.rv_instr.specs.declared.instr.Instr.TheVariants.{Immediate}
+use Rattle.rv_instr.specs.declared.instr.ImmediateOp.TheVariants.{Addi}
+use Rattle.rv_code.specs.Decode.{decoded}
+use Rattle.rv_code.specs.State.{After}
+use Rattle.rv_code.specs.declared.turn.Turn.TheVariants.{Exit}
+use Rattle.cfi_unit.specs.declared.unit.Unit.TheVariants as V
+use Rattle.cfi_unit.specs.UnitWords.{instrs_of}
+use Rattle.cfi_unit.specs.Prologue.{OPENING, opening_instrs, closing_instrs}
+use Rattle.cfi_unit.specs.PrologueEffect.{closing_site}
+use Rattle.cfi_runs.specs.Own.{Own, own_start, own_step}
+use Rattle.cfi_runs.specs.OwnRuns.{OwnRuns}
+use Rattle.cfi_runs.specs.Tame.{NamesNoReserved}
+use Rattle.cfi_runs.specs.WholeRun.{HasPrologue, RunsTo, own_shared}
+use Rattle.cfi_runs.proofs.WholeRun.{run_keeps_match}
+
+-- after the prologue `addi x10,x0,7`, a return, and a stop
+abbrev image : Contents
+image = record {
+  init = [];
+  code = 115 ∷ 0 ∷ 16 ∷ 0 ∷ 115 ∷ 0 ∷ 16 ∷ 0 ∷ 115 ∷ 0 ∷ 16 ∷ 0 ∷ 55 ∷ 1 ∷ 0 ∷ 16 ∷ 183 ∷ 1 ∷ 0 ∷ 96 ∷ 147 ∷ 129 ∷ 129 ∷ 0 ∷ 19 ∷ 159 ∷ 1 ∷ 3 ∷ 99 ∷ 20 ∷ 15 ∷ 0 ∷ 111 ∷ 240 ∷ 159 ∷ 254 ∷ 23 ∷ 15 ∷ 0 ∷ 0 ∷ 19 ∷ 15 ∷ 79 ∷ 1 ∷ 35 ∷ 176 ∷ 225 ∷ 1 ∷ 147 ∷ 129 ∷ 129 ∷ 0 ∷ 239 ∷ 0 ∷ 192 ∷ 0 ∷ 147 ∷ 8 ∷ 208 ∷ 5 ∷ 115 ∷ 0 ∷ 0 ∷ 0 ∷ 19 ∷ 5 ∷ 112 ∷ 0 ∷ 131 ∷ 191 ∷ 129 ∷ 255 ∷ 147 ∷ 129 ∷ 129 ∷ 255 ∷ 99 ∷ 132 ∷ 31 ∷ 0 ∷ 111 ∷ 240 ∷ 95 ∷ 251 ∷ 103 ∷ 128 ∷ 15 ∷ 0 ∷ 111 ∷ 240 ∷ 159 ∷ 250 ∷ [];
+}
+
+abbrev entry : ℕ
+entry = 0x40000040
+
+abbrev seven : Instr
+seven = Immediate Addi 10 0 7
+
+opening_words : (k : ℕ) (i : Instr) → slice_get (opening_instrs entry) k ≡ Some i → decoded (read 4 (loaded image) (OPENING + 4 * k)) ≡ Some i
+unfolding loaded placed decoded
+opening_words zero i is = is
+opening_words (suc zero) i is = is
+opening_words (suc (suc zero)) i is = is
+opening_words (suc (suc (suc zero))) i is = is
+opening_words (suc (suc (suc (suc zero)))) i is = is
+opening_words (suc (suc (suc (suc (suc zero))))) i is = is
+opening_words (suc (suc (suc (suc (suc (suc zero)))))) i is = is
+opening_words (suc (suc (suc (suc (suc (suc (suc zero))))))) i is = is
+opening_words (suc (suc (suc (suc (suc (suc (suc (suc zero)))))))) i is = is
+opening_words (suc (suc (suc (suc (suc (suc (suc (suc (suc zero))))))))) i is = is
+opening_words (suc (suc (suc (suc (suc (suc (suc (suc (suc (suc zero)))))))))) i is = is
+opening_words (suc (suc (suc (suc (suc (suc (suc (suc (suc (suc (suc k))))))))))) i is = absurd (cc)
+
+closing_words : (k : ℕ) (i : Instr) → slice_get (closing_instrs) k ≡ Some i → decoded (read 4 (loaded image) (closing_site entry + 4 * k)) ≡ Some i
+unfolding loaded placed decoded
+closing_words zero i is = is
+closing_words (suc zero) i is = is
+closing_words (suc (suc k)) i is = absurd (cc)
+
+seven_word : (k : ℕ) (i : Instr) → slice_get (instrs_of (V.Plain seven) entry) k ≡ Some i → decoded (read 4 (loaded image) (entry + 4 * k)) ≡ Some i
+unfolding loaded placed decoded
+seven_word zero i is = is
+seven_word (suc k) i is = absurd (cc)
+
+return_words : (k : ℕ) (i : Instr) → slice_get (instrs_of V.Return 0x40000044) k ≡ Some i → decoded (read 4 (loaded image) (0x40000044 + 4 * k)) ≡ Some i
+unfolding loaded placed decoded
+return_words zero i is = is
+return_words (suc zero) i is = is
+return_words (suc (suc zero)) i is = is
+return_words (suc (suc (suc zero))) i is = is
+return_words (suc (suc (suc (suc zero)))) i is = is
+return_words (suc (suc (suc (suc (suc k))))) i is = absurd (cc)
+
+-- each byte is one
+abbrev is_byte : ℕ → Bool
+is_byte b = nat_lt b (2 ^ 8)
+
+byte_at : (bytes : List ℕ) (k : ℕ) → list_all is_byte bytes ≡ true → slice_index bytes k < 2 ^ 8
+byte_at [] k all = lit< tt
+byte_at (b ∷ bytes) zero all = ltb-true b (2 ^ 8) (and_parts _ _ all).0
+byte_at (b ∷ bytes) (suc k) all = byte_at bytes k (and_parts (is_byte b) (list_all is_byte bytes) all).1
+
+bytes : (k : ℕ) → loaded image k < 2 ^ 8
+unfolding loaded placed
+bytes k =
+    cond_both (nat_le CODE_START k && nat_lt k (CODE_START + length image.code)) _ _ (λ (b : ℕ). b < 2 ^ 8)
+    (λ inside. byte_at image.code (k - CODE_START) refl)
+    (λ outside.
+    cond_both (nat_le DATA_START k && nat_lt k (DATA_START + 0)) (slice_index image.init (k - DATA_START)) 0 (λ (b : ℕ). b < 2 ^ 8)
+    (λ inside. lit< tt) (λ out. lit< tt))
+
+has_prologue : HasPrologue version_1 image entry
+has_prologue = record {
+  own = record { low = lit≤ tt; high = lit≤ tt; aligned = refl; most = lit≤ tt };
+  bytes = bytes;
+  fits = (refl, refl);
+  opening = record { round = refl; low = lit≤ tt; high = lit≤ tt; words = opening_words };
+  closing = record { round = refl; low = lit≤ tt; high = lit≤ tt; words = closing_words };
+}
+
+abbrev first : Own
+first = own_start entry cleared (own_shared image [])
+
+other_of : (a b : Bool) → a ≡ false → (a || b) ≡ true → b ≡ true
+other_of true b fails either = absurd (cc)
+other_of false b fails either = either
+
+seven_free : NamesNoReserved (V.Plain seven)
+seven_free k named =
+    elim (cases_Bool (10 == k)) [
+      | inl is ↦ ap is_reserved (sym (eqb-true 10 k is))
+      | inr other ↦ ap is_reserved (sym (eqb-true 0 k (other_of (10 == k) (0 == k) other named)))
+    ]
+
+abbrev second : Own
+second = (own_step version_1 first (V.Plain seven)).state
+
+abbrev last : Own
+last = (own_step version_1 second V.Return).state
+
+steps : OwnRuns version_1 (loaded image) (V.Plain seven ∷ V.Return ∷ []) first last
+steps = (
+  record {
+    fits = ((lit< tt, lit< tt, lit< tt), refl);
+    stands = record { round = refl; low = lit≤ tt; high = lit≤ tt; words = seven_word };
+    free = seven_free;
+    some = lit< tt;
+    tame = lit≤ tt;
+  },
+  refl,
+  (
+    record {
+      fits = refl;
+      stands = record { round = refl; low = lit≤ tt; high = lit≤ tt; words = return_words };
+      free = λ k named. absurd (cc);
+      some = lit< tt;
+      tame = refl;
+    },
+    refl,
+    refl,
+  ),
+)
+
+exits : RunsTo version_1 image [] 19 (λ (a : After). a.turn ≡ Exit 7)
+exits =
+    let kept = run_keeps_match version_1 image [] entry (V.Plain seven ∷ V.Return ∷ []) last has_prologue steps in
+    let end = kept.closes refl in
+    (end.0, end.1, end.2.turn)

@@ -1,0 +1,5 @@
+use Rattle.cfi_runs.proofs.UnitRuns as proof
+use Rattle.cfi_runs.proofs.laws.opening_runs.Goals as goal
+
+pub returns : goal.returns
+returns c = proof.opening_runs

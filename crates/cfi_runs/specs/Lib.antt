@@ -1,0 +1,10 @@
+pub mod Within
+pub mod Passes
+pub mod StandsFor
+pub mod Laws
+pub mod Own
+pub mod Tame
+pub mod Matching
+pub mod OwnRuns
+pub mod MatchLaws
+pub mod WholeRun

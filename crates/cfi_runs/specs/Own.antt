@@ -1,0 +1,85 @@
+-- The program's own run, one instruction a step: what each unit stands for, on registers and memory in
+-- which no word of a unit has a part. The pending sites are a list of their own, the newest first.
+use Rattle.std.specs.Prelude.{ℕ, ◌*◌, ◌/◌, ◌^◌, if◌then◌else◌, List, [], ◌∷◌}
+use Rattle.rv_word.specs.Layout.{Profile}
+use Rattle.rv_instr.specs.Registers.{Registers, get_reg, set_reg}
+use Rattle.rv_instr.specs.declared.instr.Instr.{Instr}
+use Rattle.rv_instr.specs.declared.instr.Instr.TheVariants.{Store, Ecall}
+use Rattle.rv_code.specs.Arithmetic.{branch_taken}
+use Rattle.rv_code.specs.State.{Shared}
+use Rattle.rv_code.specs.Step.{exec}
+use Rattle.rv_code.specs.declared.turn.Turn.{Turn}
+use Rattle.rv_code.specs.declared.turn.Turn.TheVariants.{Ran}
+use Rattle.cfi_unit.specs.declared.unit.Unit as U
+use Rattle.cfi_unit.specs.declared.unit.Unit.TheVariants as V
+use Rattle.cfi_unit.specs.UnitWords.{BAD_TARGET, BAD_RETURN, after_unit, system_instr}
+use Rattle.cfi_unit.specs.Leads.{sum_of}
+use Rattle.cfi_unit.specs.PrologueEffect.{closing_site}
+
+pub record Own : Type 0 where
+  pub pc : ℕ
+  pub regs : Registers
+  pub shared : Shared
+  pub pending : List ℕ
+
+pub record OwnAfter : Type 0 where
+  pub state : Own
+  pub turn : Turn
+
+-- where a computed transfer goes: bit 0 is cleared
+abbrev pub computed : Registers → ℕ → ℕ → ℕ
+computed r rs1 imm = sum_of r rs1 imm / 2 * 2
+
+module _ (p : Profile) (o : Own) where
+  abbrev pub goes : ℕ → OwnAfter
+  goes next = record { state = record o { pc = next }; turn = Ran }
+
+  -- an instruction at this pc, after which the next is at `past`
+  abbrev pub executes : Instr → Registers → ℕ → OwnAfter
+  executes instr r past =
+      let after = exec p instr (record { pc = o.pc; regs = r }) o.shared in
+      record { state = record o { pc = past; regs = after.hart.regs; shared = after.shared }; turn = after.turn }
+
+  -- a call puts its site into x1
+  abbrev pub calls : ℕ → ℕ → OwnAfter
+  calls target site =
+      record { state = record o { pc = target; regs = set_reg o.regs 1 site; pending = site ∷ o.pending }; turn = Ran }
+
+  -- a return goes to the newest site; with none it is not tame
+  abbrev pub returns : List ℕ → OwnAfter
+  returns [] = goes BAD_RETURN
+  returns (site ∷ pending) = record { state = record o { pc = site; pending = pending }; turn = Ran }
+
+  -- a stop is a section's end, where no step is tame
+  abbrev pub own_past : U.Unit → ℕ → OwnAfter
+  own_past (V.Gate label) past = goes past
+  own_past (V.Plain instr) past = executes instr o.regs past
+  own_past (V.Branch op rs1 rs2 target) past =
+      goes (if branch_taken op (get_reg o.regs rs1) (get_reg o.regs rs2) then past else target)
+  own_past (V.Near op rs1 rs2 target) past =
+      goes (if branch_taken op (get_reg o.regs rs1) (get_reg o.regs rs2) then target else past)
+  own_past (V.Jump target) past = goes target
+  own_past V.Stop past = goes BAD_TARGET
+  own_past (V.System op) past = executes (system_instr op) o.regs past
+  own_past (V.Store op rs1 rs2 imm) past = executes (Store op rs1 rs2 imm) o.regs past
+  own_past (V.Call target) past = calls target past
+  own_past (V.Ijump rs1 imm label) past = goes (computed o.regs rs1 imm)
+  own_past (V.Icall rs1 imm label) past = calls (computed o.regs rs1 imm) past
+  own_past V.Return past = returns o.pending
+
+  -- of a unit that stands at the pc
+  abbrev pub own_step : U.Unit → OwnAfter
+  own_step unit = own_past unit (after_unit unit o.pc)
+
+  -- of the closing: system call 93
+  abbrev pub own_closing : OwnAfter
+  own_closing = executes Ecall (set_reg o.regs 17 93) o.pc
+
+-- a run starts at the entry, x1 has it return to the closing, and x2 is the end of the window of data
+abbrev pub own_start : ℕ → Registers → Shared → Own
+own_start entry r t = record {
+  pc = entry;
+  regs = set_reg (set_reg r 2 (2 ^ 28)) 1 (closing_site entry);
+  shared = t;
+  pending = closing_site entry ∷ [];
+}

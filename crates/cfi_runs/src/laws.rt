@@ -1,0 +1,45 @@
+//! Each function states one law; nothing is computed.
+ghost use Rattle.cfi_runs.specs.Laws.{ClosingRuns, OpeningRuns, UnitRuns};
+ghost use Rattle.cfi_runs.specs.MatchLaws.{ClosingKeepsMatch, OpeningKeepsMatch, PathKeepsMatch, UnitKeepsMatch};
+ghost use Rattle.cfi_runs.specs.WholeRun.{RunKeepsMatch};
+
+/// A unit that passes on is left, within as many steps as it has words, as its row says.
+pub fn unit_runs()
+    ensures { UnitRuns }
+{}
+
+/// The opening is left to the entry.
+pub fn opening_runs()
+    ensures { OpeningRuns }
+{}
+
+/// The closing makes system call 93.
+pub fn closing_runs()
+    ensures { ClosingRuns }
+{}
+
+/// A tame step of the program's own is matched: within as many steps as the unit has words the machine
+/// has the same registers, data, input, output and system calls, and stands where the program does.
+pub fn unit_keeps_match()
+    ensures { UnitKeepsMatch }
+{}
+
+/// So is a path of tame steps.
+pub fn path_keeps_match()
+    ensures { PathKeepsMatch }
+{}
+
+/// After the opening the machine matches the program's own start.
+pub fn opening_keeps_match()
+    ensures { OpeningKeepsMatch }
+{}
+
+/// The closing ends the run as the program's own end does.
+pub fn closing_keeps_match()
+    ensures { ClosingKeepsMatch }
+{}
+
+/// The whole undisturbed run of an image keeps the program's own run along a path of tame steps.
+pub fn run_keeps_match()
+    ensures { RunKeepsMatch }
+{}
