@@ -1,0 +1,4 @@
+mod ProgramRuns
+mod ImageRuns
+mod Deciding
+mod TwoDigits

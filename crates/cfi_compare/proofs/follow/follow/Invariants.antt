@@ -1,0 +1,19 @@
+use Rattle.std.proofs.Common.{◌≡◌, ◌-◌, ◌≤◌, List, [], length, replicate}
+use Rattle.rv_word.specs.Layout.{version_1}
+use Rattle.rv_code.specs.Run.{ByteChange, run}
+use Rattle.rv_machine.specs.Parts.{hart_in, shared_in}
+use Rattle.cfi_compare.specs.Followed.{Agree}
+use Rattle.cfi_compare.proofs.follow.follow.Given as goal
+
+-- all system calls are alike, and what is left of the run leads to what the whole leads to
+abbrev pub invariant-loop-steps : goal.invariant-loop-steps
+invariant-loop-steps l = record {
+  count : l.steps ≤ l.most;
+  agree : Agree l.index l.events (shared_in l.machine).events;
+  all : l.index ≡ length (shared_in l.machine).events;
+  left : run version_1 (hart_in l.initial.machine) (shared_in l.initial.machine) (replicate {A = List ByteChange} l.most [])
+      ≡ run version_1 (hart_in l.machine) (shared_in l.machine) (replicate {A = List ByteChange} (l.most - l.steps) []);
+}
+
+abbrev pub decreases-loop-steps : goal.decreases-loop-steps
+decreases-loop-steps l = l.most - l.steps

@@ -1,0 +1,113 @@
+ghost use Rattle.std.specs.Prelude.{◌≡◌, ◌≤◌, ◌^◌, IfOk, is_some, option_map, slice_get};
+ghost use Rattle.rv_word.specs.Layout.{version_1};
+ghost use Rattle.cfi_flow.specs.Source.{source_start};
+ghost use Rattle.src_machine.specs.Running.{source_of};
+ghost use Rattle.cfi_meaning.specs.Compared.{compared, image_end};
+ghost use Rattle.cfi_compare.specs.Followed.{IsAnswered, end_told, item_or, settled, settled_items};
+ghost use Rattle.cfi_compare.specs.Told.{IsOwnState, told_answer, told_item};
+ghost use Rattle.cfi_kept.specs.PlacesKept.{bound};
+ghost use Rattle.cfi_runs.specs.WholeRun.{undisturbed};
+
+use crate::answer::Compared;
+use crate::follow::follow;
+use crate::item::{SideItem, image_end, item_at, same_item, source_end};
+use crate::source::finish;
+use rv_code::Events;
+use rv_machine::{Machine, Turn};
+use rv_word::{Image, NoMemory};
+use src_machine::{SourceRun, SourceTurn};
+use std::alloc::Global;
+
+/// The answer at an index where both lists have an item.
+fn settle_items(index: u64, ours: SideItem, theirs: SideItem) -> Compared
+    ensures { result ≡ settled_items index ours theirs }
+{
+    if same_item(&ours, &theirs) {
+        Compared::Same(index)
+    } else {
+        Compared::Differs(index, ours, theirs)
+    }
+}
+
+/// The answer where both lists are the same before an index.
+fn settle(index: u64, has_ended: bool, ours: Option<SideItem>, theirs: Option<SideItem>) -> Compared
+    ensures { result ≡ settled index has_ended ours theirs }
+{
+    let Some(ours) = ours else {
+        return Compared::Limit;
+    };
+    match theirs {
+        Some(theirs) => settle_items(index, ours, theirs),
+        None if has_ended => Compared::Differs(index, ours, SideItem::Running),
+        None => Compared::Limit,
+    }
+}
+
+/// The answer for two runs that are alike before an index, by their system calls and how their last steps ended.
+fn answer_at(
+    alloc: Global,
+    index: usize,
+    ours: &Events,
+    ours_end: SourceTurn,
+    theirs: &Events,
+    theirs_end: Turn,
+) -> Result<Compared, NoMemory>
+    ensures { IfOk result (λ answer. answer ≡ settled index (is_some (end_told ours_end))
+        (item_or (slice_get ours.now index) (end_told ours_end))
+        (item_or (slice_get theirs.now index) (option_map told_item (slice_get (image_end theirs_end) 0)))) }
+{
+    let end = source_end(ours_end);
+    let has_ended = end.is_some();
+    let ours = item_at(alloc, ours, index, end)?;
+    let theirs = item_at(alloc, theirs, index, image_end(theirs_end))?;
+    Ok(settle(index as u64, has_ended, ours, theirs))
+}
+
+/// The answer for a program's run that made these system calls in so many steps, the last of which was not untame.
+fn with_image(
+    alloc: Global,
+    events: &Events,
+    turn: SourceTurn,
+    steps: u64,
+    image: &Image,
+    input: &[u8],
+) -> Result<Compared, NoMemory>
+    requires { steps ≤ 2 ^ 58 }
+    ensures { IfOk result (λ answer. IsAnswered events.now turn (undisturbed version_1 image.now input.now (bound steps)) answer) }
+{
+    let mut machine = Machine::new(alloc, image, input)?;
+    let (end, index) = follow(&mut machine, events, 21 * steps + 13)?;
+    let answer = answer_at(alloc, index, events, turn, machine.system().events(), end)?;
+    Ok(answer)
+}
+
+/// Runs a program, from its start, until it ends, is untame or has taken `limit` steps, and its image with the same input for
+/// 21 steps for each of those and 13 more at most; tells the first item at which they differ.
+pub fn compare(
+    alloc: Global,
+    source: &mut SourceRun,
+    image: &Image,
+    input: &[u8],
+    limit: u64,
+) -> Result<Compared, NoMemory>
+    requires fresh { source.old.steps ≡ 0 }
+    requires begun { source_of source.old ≡ source_start source.old.layout input.now }
+    requires limit { limit ≤ 2 ^ 58 }
+
+    // The answer is that of the definition.
+    ensures compared { IfOk result (λ answer. answer ≡ told_answer source.old.layout.program (compared source.old.layout image.now input.now limit)) }
+
+    // The program's run is where its own steps have led it, also where there was no memory.
+    ensures own { IsOwnState source.old limit source.new }
+{
+    match finish(source, limit)? {
+        SourceTurn::Untame(because, section, offset) => Ok(Compared::Untame(
+            because, section, offset,
+        )),
+        turn => {
+            let events = source.machine().system().events();
+            let answer = with_image(alloc, events, turn, source.steps(), image, input)?;
+            Ok(answer)
+        }
+    }
+}
