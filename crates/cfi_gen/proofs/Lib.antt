@@ -1,0 +1,5 @@
+pub mod Every
+pub mod Writing
+pub mod Bounds
+pub mod Right
+pub mod Rows
