@@ -1,0 +1,91 @@
+-- A generated object without a fault, whose code has room, is refused for want of memory alone.
+use Rattle.std.proofs.Common.{◌≡◌, ℕ, ◌≤◌, Some, None, List, codes, refl, sym, ap, subst, ◌∙◌, arith}
+use Rattle.rv_word.specs.Layout.{CODE_SIZE}
+use Rattle.elf_writer.specs.Object.{object_bytes}
+use Rattle.elf_writer.specs.Holds.{Holds}
+use Rattle.obj_input.specs.Input.{InputParts}
+use Rattle.obj_rules.specs.Fault.{fault_of}
+use Rattle.obj_program.specs.Program.{Program}
+use Rattle.obj_program.specs.Range.{out_of_range}
+use Rattle.obj_items.specs.FromObject.{input_of}
+use Rattle.obj_items.specs.ProgramOf.{program_of}
+use Rattle.cfi_flow.specs.Closed.{ClosedGraph}
+use Rattle.cfi_flow.specs.Entry.{entry_place}
+use Rattle.cfi_gen.specs.declared.function.Function.{Function}
+use Rattle.cfi_gen.specs.Demo.{demo_parts, parts_with}
+use Rattle.cfi_gen.specs.Drawing.{functions_from}
+use Rattle.gen_program.specs.Generated.{IsGenerated}
+use Rattle.gen_program.proofs.Reading.{generated_is}
+use Rattle.cfi_harden.specs.declared.refusal.Refusal.TheVariants.{Object, Items, NoEntry, Policy, CodeTooLarge, DataTooLarge, RelocRange, NoMemory}
+use Rattle.cfi_harden.specs.Hardened.{HasDataRoom}
+use Rattle.cfi_harden.specs.Prepared.{IsPrepared, PreparedParts}
+use Rattle.cfi_harden.specs.Request.{program_in}
+use Rattle.cfi_harden.specs.Sizes.{whole_size}
+use Rattle.gen_hardened.specs.Laws.{DemoIsNeverRefused, IsNeverRefused, entered}
+use Rattle.cfi_gen.proofs.Right.{demo_holds}
+use Rattle.gen_program.proofs.Drawn.{length-functions}
+use Rattle.gen_program.proofs.NoFault.{no_fault}
+use Rattle.gen_hardened.proofs.AllInRange.{all_in_range}
+use Rattle.gen_hardened.proofs.DataRoom.{data_room}
+use Rattle.gen_hardened.proofs.EnteredAtMain.{entered_at_main}
+use Rattle.gen_hardened.proofs.NoPolicy.{no_wrong_line}
+use Rattle.gen_hardened.proofs.Room.{code_has_room}
+use Rattle.gen_hardened.proofs.Small.{AreSmall, small_functions}
+
+-- its code has room, whatever its graph
+abbrev pub HasCodeRoom : List ℕ → Type 0
+HasCodeRoom object = (closed : ClosedGraph) → whole_size (program_in object) closed ≤ CODE_SIZE
+
+module _ (fs : List Function) (small : AreSmall fs) (object : List ℕ) (holds : Holds (parts_with fs) object)
+    (sound : fault_of (input_of object) ≡ None) (room : HasCodeRoom object) where
+  is_generated : IsGenerated fs (input_of object)
+  is_generated = generated_is fs object holds
+
+  main_there : entry_place (program_in object) (codes "main") ≡ Some 0
+  main_there = entered_at_main is_generated
+
+  code_room : (p : PreparedParts) → IsPrepared (entered object) p → whole_size p.program p.closed ≤ CODE_SIZE
+  code_room p is = subst (λ (x : Program). whole_size x p.closed ≤ CODE_SIZE) (sym is.program) (room p.closed)
+
+  room_there : (p : PreparedParts) → IsPrepared (entered object) p → HasDataRoom p.program
+  room_there p is = subst HasDataRoom (sym is.program) (data_room is_generated)
+
+  none_astray : (p : PreparedParts) → IsPrepared (entered object) p → (gates words : List ℕ)
+      → out_of_range p.program gates words ≡ None
+  none_astray p is gates words =
+      ap (λ (x : Program). out_of_range x gates words) is.program ∙ all_in_range is_generated small sound gates words
+
+  pub nothing_refused : IsNeverRefused (entered object)
+  nothing_refused (Object fault) stands = let none = holds.sound in absurd (cc)
+  nothing_refused (Items fault) stands = let some = stands.1 in absurd (cc)
+  nothing_refused NoEntry stands = let none = stands.1 in let some = main_there in absurd (cc)
+  nothing_refused (Policy n) stands = absurd (no_wrong_line (program_in object) n stands.2)
+  nothing_refused (CodeTooLarge bytes) (p, is, refused) =
+      let fits = code_room p is in
+      let bytes_are = refused.0 in
+      let more = refused.1 in
+      absurd (omega arith)
+  nothing_refused (DataTooLarge init end) (p, is, refused) = absurd (refused.3 (room_there p is))
+  nothing_refused (RelocRange section offset) (p, is, refused) =
+      let none = none_astray p is refused.0.gates refused.0.words in
+      let some = refused.3 in
+      absurd (cc)
+  nothing_refused NoMemory stands = refl
+
+-- the object of each number, where it holds its parts, has no fault, and its code has room
+pub demo_never_refused : ((number : ℕ) → Holds (demo_parts number) (object_bytes (demo_parts number)))
+    → ((number : ℕ) (input : InputParts) → IsGenerated (functions_from 2000 0 number) input → fault_of input ≡ None)
+    → ((number : ℕ) (input : InputParts) (closed : ClosedGraph) → IsGenerated (functions_from 2000 0 number) input
+    → whole_size (program_of input) closed ≤ CODE_SIZE)
+    → DemoIsNeverRefused
+demo_never_refused holds sound room number =
+    let fs = functions_from 2000 0 number in
+    let object = object_bytes (demo_parts number) in
+    let is = generated_is fs object (holds number) in
+    nothing_refused fs (small_functions 2000 0 number (omega arith)) object (holds number) (sound number (input_of object) is)
+    (λ closed. room number (input_of object) closed is)
+
+pub never_refused : DemoIsNeverRefused
+never_refused =
+    demo_never_refused (λ number. demo_holds number (object_bytes (demo_parts number)) refl) no_fault
+    (λ number input closed is. code_has_room (functions_from 2000 0 number) input closed (length-functions 2000 0 number) is)

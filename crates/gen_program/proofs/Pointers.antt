@@ -1,0 +1,61 @@
+-- No fault of relocations stands of the table, whose relocations name the functions.
+use Rattle.std.proofs.Common.{◌≡◌, ℕ, pos, zero, suc, ◌+◌, ◌*◌, ◌<◌, ◌≤◌, true, List, [], map, filter_map, Option, None, refl, ap, ◌∙◌, arith, le-ltb}
+use Rattle.obj_input.specs.declared.parts.Use.{Use}
+use Rattle.obj_input.specs.declared.parts.Definition.{Definition}
+use Rattle.obj_input.specs.declared.parts.Sort.TheVariants.{Data}
+use Rattle.obj_input.specs.Kinds.{kind_of}
+use Rattle.obj_input.specs.Input.{InputParts, SectionParts, section_of}
+use Rattle.obj_input.specs.Code.{is_start}
+use Rattle.obj_rules.specs.BadPair.{low_at}
+use Rattle.obj_rules.specs.WrongKind.{kind_found}
+use Rattle.obj_rules.specs.WrongPlace.{place_found}
+use Rattle.obj_rules.specs.CodePointer.{pointer_found, points_right}
+use Rattle.cfi_gen.specs.Code.{function_symbol}
+use Rattle.cfi_gen.specs.Demo.{table_relocs}
+use Rattle.cfi_gen.specs.Lines.{Line}
+use Rattle.gen_program.proofs.Bridge.{use_by}
+use Rattle.gen_program.proofs.Standing.{IsCode, starts}
+use Rattle.gen_program.proofs.Transfers.{AreStarts}
+
+-- the address of a function
+abbrev pub pointer : (ℕ → Definition) → ℕ → Use
+pointer definition j = record { offset = 8 * j; number = 2; addend = pos 0; definition = definition (function_symbol j) }
+
+pub none_pointed : {Y : Type 0} (definition : ℕ → Definition) (f : Use → Option Y) (count i : ℕ)
+    → ((j : ℕ) → i ≤ j → j < i + count → f (pointer definition j) ≡ None)
+    → filter_map f (map (use_by definition) (table_relocs count i)) ≡ []
+unfolding table_relocs
+none_pointed definition f zero i none = refl
+none_pointed definition f (suc count) i none =
+    rw (
+      none i (omega arith) (omega arith),
+      none_pointed definition f count (i + 1) (λ j more less. none j (omega arith) (omega arith)),
+    ) refl
+
+module _ (definition : ℕ → Definition) (s : SectionParts) (sort : s.sort ≡ Data) (index j : ℕ) where
+  pub pointer_taken : kind_found s index (pointer definition j) ≡ None
+  unfolding kind_of
+  pointer_taken = rw sort refl
+
+  pub pointer_fits : 8 * j + 8 ≤ s.size → place_found s index (pointer definition j) ≡ None
+  unfolding kind_of
+  pointer_fits inside = rw (le-ltb s.size (8 * j + 8) inside, sort) refl
+
+  pub pointer_no_low : (input : InputParts) → low_at input index (pointer definition j) ≡ None
+  unfolding kind_of
+  pointer_no_low input = refl
+
+module _ {definition : ℕ → Definition} {n : ℕ} {ls : List Line} (input : InputParts) (index : ℕ)
+    (code : IsCode definition n ls (section_of input index)) (entries : AreStarts definition n ls index) where
+  -- the start of a function is a place
+  start_pointed : (j : ℕ) → j < n → points_right input (definition (function_symbol j)) (pos 0) ≡ true
+  start_pointed j below =
+      let (t, entry, stands) = entries j below in
+      let place : 4 * t + 0 ≡ 4 * t = omega arith in
+      let start : is_start (section_of input index) (4 * t + 0) ≡ true =
+      ap (is_start (section_of input index)) place ∙ starts code t entry in
+      ap (λ d. points_right input d (pos 0)) stands ∙ rw (start, code.sort) refl
+
+  pub pointer_right : (from j : ℕ) → j < n → pointer_found input from (pointer definition j) ≡ None
+  unfolding kind_of
+  pointer_right from j below = rw (start_pointed j below) refl

@@ -1,0 +1,48 @@
+-- What a section of an object that holds some parts is: its sort, its bytes, and its relocations with what their symbols stand for.
+use Rattle.std.proofs.Common.{◌≡◌, ℕ, ◌<◌, false, None, List, [], map, refl, ap, ◌∙◌, arith}
+use Rattle.std.proofs.lemmas.Bool.{lt-ltb}
+use Rattle.elf_tables.specs.declared.entry.Reloc.{Reloc}
+use Rattle.elf_tables.specs.Header.{e_shnum}
+use Rattle.elf_tables.specs.Section.{content, section_bytes, section_header}
+use Rattle.elf_tables.specs.Kept.{is_kept}
+use Rattle.elf_tables.specs.Symbol.{symbol_count}
+use Rattle.elf_tables.specs.Relocation.{relocation_bytes, relocation_count, relocation_in}
+use Rattle.elf_object.specs.Fault.{fault_of}
+use Rattle.elf_object.proofs.Right.{relocations_named}
+use Rattle.elf_writer.specs.Parts.{RelocationsPart}
+use Rattle.elf_writer.specs.Right.{no_reloc}
+use Rattle.elf_writer.specs.Holds.{AreRelocations}
+use Rattle.obj_input.specs.declared.parts.Sort.TheVariants.{Dropped}
+use Rattle.obj_input.specs.declared.parts.Use.{Use}
+use Rattle.obj_input.specs.Input.{SectionParts}
+use Rattle.obj_input.specs.Listed.{listed}
+use Rattle.obj_items.specs.Sections.{sort_of, use_at, use_of, uses_of}
+use Rattle.gen_program.proofs.Listings.{listed_map}
+
+pub content_there : (file : List ℕ) (k : ℕ) → k < e_shnum file → section_bytes file k ≡ content file (section_header file k)
+unfolding section_bytes
+content_there file k below = rw (lt-ltb _ _ below) refl
+
+-- the relocations of a section, by what each is for a symbol that is there
+pub uses_are : (file : List ℕ) (k : ℕ) (r : RelocationsPart) (use_for : Reloc → Use) → fault_of file ≡ None → k < e_shnum file → AreRelocations file k r
+    → ((x : Reloc) → x.symbol < symbol_count file → use_of file x ≡ use_for x) → uses_of file k ≡ map use_for r.entries
+uses_are file k r use_for sound below are is =
+    ap (listed (use_at file k)) are.count
+    ∙ listed_map (use_at file k) use_for r.entries no_reloc
+    (λ j inside.
+    let counted : j < relocation_count (relocation_bytes file k) = let count = are.count in omega arith in
+    is (relocation_in (relocation_bytes file k) j) (relocations_named file k j sound below counted) ∙ ap use_for (are.each j inside))
+
+-- a section that is not kept
+pub dropped_sort : (file : List ℕ) (k : ℕ) → is_kept file k ≡ false → sort_of file k ≡ Dropped
+dropped_sort file k dropped = rw dropped refl
+
+pub dropped_uses : (file : List ℕ) (k : ℕ) → is_kept file k ≡ false → uses_of file k ≡ []
+unfolding listed
+dropped_uses file k dropped =
+    let none : relocation_bytes file k ≡ [] = rw dropped refl in
+    ap (λ (table : List ℕ). listed (use_at file k) (relocation_count table)) none
+
+-- sections with the same fields
+pub section_is : (s t : SectionParts) → s.sort ≡ t.sort → s.size ≡ t.size → s.align ≡ t.align → s.content ≡ t.content → s.uses ≡ t.uses → s ≡ t
+section_is s t sort size align content uses = λ i. record { sort = sort i; size = size i; align = align i; content = content i; uses = uses i }
