@@ -1,0 +1,36 @@
+-- One program with one closed graph and one entry is right for a request.
+use Rattle.std.proofs.Common.{◌≡◌, ℕ, List, Option, Some, sym, ap, subst, ◌∙◌}
+use Rattle.std.proofs.lemmas.Option.{same_Some}
+use Rattle.obj_program.specs.Program.{Program}
+use Rattle.cfi_flow.specs.Closed.{ClosedGraph, IsClosed}
+use Rattle.cfi_flow.specs.Entry.{entry_place}
+use Rattle.cfi_flow.specs.Raw.{RawGraph}
+use Rattle.cfi_harden.specs.Prepared.{IsClosedUnder}
+use Rattle.cfi_harden.specs.Request.{policy_reading}
+use Rattle.cfi_single.specs.OneWay.{PreparedInOneWay}
+use Rattle.cfi_single.proofs.Graphs.{closed_unique, raw_unique}
+
+-- the closed graph of a program under the text of a policy
+pub closed_under_unique : (program : Program) (policy : Option (List ℕ)) (c d : ClosedGraph) → IsClosedUnder program policy c
+    → IsClosedUnder program policy d → c ≡ d
+closed_under_unique program policy c d hc hd =
+    let (r, is_r, of_r) = hc.drawn in
+    let (s, is_s, of_s) = hd.drawn in
+    let same : r ≡ s = raw_unique program (policy_reading policy).items r s is_r is_s in
+    closed_unique r c d of_r (subst (λ (raw : RawGraph). IsClosed raw d) (sym same) of_s)
+
+entry_unique : (program : Program) (name : List ℕ) (a b : ℕ) → entry_place program name ≡ Some a
+    → entry_place program name ≡ Some b → a ≡ b
+entry_unique program name a b ea eb = same_Some a b (sym ea ∙ eb)
+
+-- what a request comes to before anything is placed
+pub prepared_unique : PreparedInOneWay
+prepared_unique request p q hp hq =
+    let program : p.program ≡ q.program = hp.program ∙ sym hq.program in
+    let enters : entry_place p.program request.entry ≡ Some q.entry =
+    ap (λ (x : Program). entry_place x request.entry) program ∙ hq.entry in
+    let entry : p.entry ≡ q.entry = entry_unique p.program request.entry p.entry q.entry hp.entry enters in
+    let under : IsClosedUnder p.program request.policy q.closed =
+    subst (λ (x : Program). IsClosedUnder x request.policy q.closed) (sym program) hq.closed in
+    let closed : p.closed ≡ q.closed = closed_under_unique p.program request.policy p.closed q.closed hp.closed under in
+    λ i. record { program = program i; closed = closed i; entry = entry i }
