@@ -1,0 +1,51 @@
+-- What `clap` answers is what the words are read as.
+use Rattle.std.proofs.Common.{◌≡◌, ◌∙◌, true, List, [], Option, Err, inl, inr, ap, ap₂, sym, subst, refl}
+use Rattle.std.specs.Prelude.{option_and_then, option_map}
+use Rattle.clap.specs.Words.{App, HasKind, HasMatchesOf, Text, fault_of, is_simple, is_simple_and_free, kind_of, subcommand_of, subcommand_rows_of}
+use Rattle.clap.specs.declared.error.Error.{Error}
+use Rattle.clap.specs.declared.parser.matches.ArgMatches.{ArgMatches}
+use Rattle.clap.specs.Kinds.{IsAmong}
+use Rattle.clap.specs.declared.error.kind.ErrorKind.TheVariants.{DisplayHelp, DisplayVersion, OutOfMemory}
+use Rattle.clap.proofs.OnLiterals.{clap_on_literals}
+use Rattle.cfi_words.specs.CommandLine.{command_line}
+use Rattle.cfi_words.specs.Reading.{EndsBy, Gives, asked_or_refused, reading, reading_by, request_in, request_of, told}
+use Rattle.cfi_words.specs.declared.asked.Asked.{Asked}
+use Rattle.cfi_words.specs.declared.end.WordsEnd.{WordsEnd}
+use Rattle.cfi_words.specs.declared.end.WordsEnd.TheVariants.{Help, Version, Refused, NoMemory}
+use Rattle.cfi_words.proofs.Alike.{of_command_line}
+
+simple_and_free : is_simple_and_free command_line ≡ true
+unfolding clap_on_literals
+simple_and_free = refl
+
+simple : is_simple command_line ≡ true
+unfolding clap_on_literals
+simple = refl
+
+not_help : DisplayHelp ≡ OutOfMemory → ⊥
+not_help e = absurd (cc)
+
+not_version : DisplayVersion ≡ OutOfMemory → ⊥
+not_version e = absurd (cc)
+
+module _ (app : App) (words : List Text) (same : app ≡ command_line) where
+  pub read_as_asked : (matches : ArgMatches) (asked : Option Asked) → (is_simple_and_free app ≡ true → fault_of app words ≡ [])
+      → HasMatchesOf app words matches → option_map request_of asked ≡ option_and_then request_in (subcommand_rows_of matches)
+      → reading words ≡ asked_or_refused (option_map request_of asked)
+  read_as_asked matches asked free has is =
+      let faultless : fault_of command_line words ≡ [] = ap (λ a. fault_of a words) (sym same) ∙ free (ap is_simple_and_free same ∙ simple_and_free) in
+      let entered : subcommand_rows_of matches ≡ subcommand_of command_line words = (has (ap is_simple same ∙ simple)).1 ∙ ap (λ a. subcommand_of a words) same in
+      ap₂ reading_by faultless (ap (option_and_then request_in) (sym entered) ∙ sym is)
+
+  told_same : (error : Error) → HasKind (fault_of app words) error → (kind_of error ≡ OutOfMemory → ⊥) → reading words ≡ told (kind_of error)
+  told_same error (inl memory) other = absurd (other memory)
+  told_same error (inr among) other = (of_command_line words).same (kind_of error) _ (subst (λ a. IsAmong (kind_of error) (fault_of a words)) same among)
+
+  pub read_as_told : (error : Error) (end : WordsEnd) → (is_simple_and_free app ≡ true → HasKind (fault_of app words) error)
+      → EndsBy (kind_of error) end → Gives (reading words) (Err end)
+  read_as_told error NoMemory free ends = tt
+  read_as_told error (Help text) free ends =
+      told_same error (free (ap is_simple_and_free same ∙ simple_and_free)) (λ memory. not_help (sym ends ∙ memory)) ∙ ap told ends
+  read_as_told error (Version text) free ends =
+      told_same error (free (ap is_simple_and_free same ∙ simple_and_free)) (λ memory. not_version (sym ends ∙ memory)) ∙ ap told ends
+  read_as_told error Refused free ends = told_same error (free (ap is_simple_and_free same ∙ simple_and_free)) ends.0 ∙ ends.1

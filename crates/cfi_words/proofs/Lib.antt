@@ -1,0 +1,6 @@
+mod Alike
+mod Answered
+mod Commands
+mod Leaf
+mod Numbers
+mod Top

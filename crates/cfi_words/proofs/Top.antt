@@ -1,0 +1,265 @@
+-- The words of a command line: the program's name, a command's, and the command's own words.
+use Rattle.std.proofs.Common.{◌≡◌, ◌∙◌, ◌||◌, ◌++◌, ℕ, Bool, cond, true, false, List, [], ◌∷◌, length, drop, Option, Some, None, inl, inr, ap, ap₂, sym, subst, refl, append-nil, append_assoc}
+use Rattle.std.specs.Prelude.{codes, find, fold, is_some, option_and_then, option_map}
+use Rattle.std.specs.List.{list_all}
+use Rattle.std.specs.Str.{bytes_eq}
+use Rattle.std.proofs.lemmas.Bool.{cases_Bool}
+use Rattle.std.proofs.lemmas.Slice.Eq.{bytes_eq-Decides}
+use Rattle.clap.specs.Faults.{check_fault, defaults_fault, entered_fault, fault_of, level_fault, settle_fault, turn_fault, walk_fault}
+use Rattle.clap.specs.Kinds.{Kinds, or_else}
+use Rattle.clap.specs.Simple.{App, built, entered, names_of, rows_at, subcommand_of}
+use Rattle.clap.specs.Walk.{Names, Row, Text, Walk, answers_to, finished, idle, nothing_held, settled, subcommand_met, walk, walk_from, walked}
+use Rattle.clap.proofs.FaultLemmas.{stopped_fault}
+use Rattle.clap.proofs.OnLiterals.{clap_on_literals}
+use Rattle.cfi_words.specs.CommandLine.{command_line, compare, demo, rewrite, run, verify}
+use Rattle.cfi_words.specs.Plain.{AsksFor, AsksIfFaultless, IsAmong, IsPlainRequest, Operands, TakesPlain, commands, is_plain}
+use Rattle.cfi_words.specs.Reading.{asks, reading, reading_by, request_in}
+use Rattle.cfi_words.proofs.Leaf.{cases_option, fault_from, held_after, is_flat, is_word_or_request, kind_of_word, or_else_none, plain_faults, words_read, stand}
+use Rattle.cfi_words.proofs.Numbers.{asked_of, compare_asks, compare_right, demo_asks, demo_right, leaf, rewrite_asks, rewrite_right, run_asks, run_right, some_wrong, verify_asks, verify_right, wrong}
+
+abbrev pub app : App
+app = built command_line
+
+abbrev pub start : Walk
+start = walk_from nothing_held
+
+abbrev pub stopped_at : Text → List Text → Walk
+stopped_at name words = record start { stopped = Some (name, words) }
+
+-- what is known of a command: its flags, its number of words, and how the walk comes to it
+record IsKnown (command : App) (name : Text) (count : ℕ) : Type 0 where
+  flat : list_all is_flat (leaf command).rules ≡ true
+  only : list_all is_word_or_request (leaf command).rules ≡ true
+  asks : (values : List Text) → wrong command values ≡ [] → asked_of command values ≡ Some (name ∷ values)
+  right : (values : List Text) → length values ≡ count → wrong command values ≡ []
+  fault_is : (words : List Text) → entered_fault app (Some (name, words)) ≡ level_fault (leaf command) [] nothing_held words false []
+  entered_is : (words : List Text) → entered app (Some (name, words)) ≡ Some (rows_at (leaf command) words)
+  request_is : (rows : List Row) → request_in ((leaf command).name, rows) ≡ request_in (name, rows)
+  begins : walked app.top.rules (names_of app) start name ≡ stopped_at name []
+  quiet : turn_fault app.top (names_of app) start name ≡ []
+
+rewrite_known : IsKnown rewrite (codes "rewrite") 6
+unfolding clap_on_literals
+rewrite_known = record { flat = refl; only = refl; asks = rewrite_asks; right = rewrite_right; fault_is = λ words. refl; entered_is = λ words. refl; request_is = λ rows. refl; begins = refl; quiet = refl }
+
+verify_known : IsKnown verify (codes "verify") 2
+unfolding clap_on_literals
+verify_known = record { flat = refl; only = refl; asks = verify_asks; right = verify_right; fault_is = λ words. refl; entered_is = λ words. refl; request_is = λ rows. refl; begins = refl; quiet = refl }
+
+run_known : IsKnown run (codes "run") 5
+unfolding clap_on_literals
+run_known = record { flat = refl; only = refl; asks = run_asks; right = run_right; fault_is = λ words. refl; entered_is = λ words. refl; request_is = λ rows. refl; begins = refl; quiet = refl }
+
+compare_known : IsKnown compare (codes "compare") 7
+unfolding clap_on_literals
+compare_known = record { flat = refl; only = refl; asks = compare_asks; right = compare_right; fault_is = λ words. refl; entered_is = λ words. refl; request_is = λ rows. refl; begins = refl; quiet = refl }
+
+demo_known : IsKnown demo (codes "demo") 1
+unfolding clap_on_literals
+demo_known = record { flat = refl; only = refl; asks = demo_asks; right = demo_right; fault_is = λ words. refl; entered_is = λ words. refl; request_is = λ rows. refl; begins = refl; quiet = refl }
+
+-- ---- the walk after a command's name
+
+walks_on : (name : Text) (before words : List Text) → fold (walked app.top.rules (names_of app)) (stopped_at name before) words ≡ stopped_at name (before ++ words)
+unfolding walked
+walks_on name before [] = ap (stopped_at name) (sym (append-nil before))
+walks_on name before (word ∷ rest) = walks_on name (before ++ word ∷ []) rest ∙ ap (stopped_at name) (append_assoc before (word ∷ []) rest)
+
+-- what is wrong at the top, by where the walk stops
+abbrev top_fault : Walk → Kinds → Kinds
+top_fault w faults = or_else faults (or_else (entered_fault app w.stopped) (or_else (settle_fault app.top.rules app.top.args_override_self w.held)
+    (or_else (defaults_fault (settled app.top.rules w.held).rows app.top.rules)
+    (check_fault app.top (finished app.top.rules w.held) (is_some (entered app w.stopped))))))
+
+abbrev args_walk : List Text → Walk
+args_walk args = walk app.top.rules (names_of app) nothing_held args
+
+abbrev args_fault : List Text → Kinds
+args_fault args = walk_fault app.top (names_of app) start args
+
+fault_is_top : (words : List Text) → fault_of command_line words ≡ top_fault (args_walk (drop 1 words)) (args_fault (drop 1 words))
+fault_is_top words = refl
+
+subcommand_is : (words : List Text) → subcommand_of command_line words ≡ entered app (args_walk (drop 1 words)).stopped
+subcommand_is words = refl
+
+top_quiet : (stop : Option (Text × List Text)) (p : Text × List Row) → entered app stop ≡ Some p
+    → or_else (settle_fault app.top.rules app.top.args_override_self nothing_held) (or_else (defaults_fault (settled app.top.rules nothing_held).rows app.top.rules)
+    (check_fault app.top (finished app.top.rules nothing_held) (is_some (entered app stop)))) ≡ []
+unfolding clap_on_literals
+top_quiet stop p e = rw e refl
+
+module _ (command : App) (name : Text) (count : ℕ) (known : IsKnown command name count) (program : Text) (words : List Text) (plain : list_all is_plain words ≡ true)
+    (size : length words ≡ count) where
+  walk_is : args_walk (name ∷ words) ≡ stopped_at name words
+  walk_is = ap (λ w. fold (walked app.top.rules (names_of app)) w words) known.begins ∙ walks_on name [] words
+
+  walk_quiet : args_fault (name ∷ words) ≡ []
+  unfolding walk_fault
+  walk_quiet = ap₂ or_else known.quiet (ap (λ w. walk_fault app.top (names_of app) w words) known.begins ∙ stopped_fault app.top (names_of app) start (name, []) words)
+
+  same : (fault_from (leaf command) (stand false nothing_held 1) words ≡ wrong command words)
+      × (held_after (leaf command) (stand false nothing_held 1) words ≡ held_after (leaf command) (stand true nothing_held 1) words)
+  same = plain_faults (leaf command) known.flat words nothing_held 1 plain
+
+  entered_quiet : entered_fault app (Some (name, words)) ≡ []
+  entered_quiet = known.fault_is words ∙ same.0 ∙ known.right words size
+
+  faultless : fault_of command_line (program ∷ name ∷ words) ≡ []
+  faultless = ap₂ top_fault walk_is walk_quiet
+      ∙ ap₂ or_else entered_quiet (top_quiet (Some (name, words)) (rows_at (leaf command) words) (known.entered_is words))
+
+  asked_is : option_and_then request_in (subcommand_of command_line (program ∷ name ∷ words)) ≡ Some (name ∷ words)
+  asked_is = ap (λ (w : Walk). option_and_then request_in (entered app w.stopped)) walk_is ∙ ap (option_and_then request_in) (known.entered_is words)
+      ∙ ap (λ h. request_in ((leaf command).name, finished (leaf command).rules h)) same.1 ∙ known.asks words (known.right words size)
+
+  plain_known : reading (program ∷ name ∷ words) ≡ asks (name ∷ words)
+  plain_known = ap₂ reading_by faultless asked_is
+
+-- a command's name and exactly its words, each of them plain, are taken
+pub plain_taken : (program name : Text) (words : List Text) → IsPlainRequest name words → reading (program ∷ name ∷ words) ≡ asks (name ∷ words)
+plain_taken program name words request = by request.known
+  where
+    as_named : (known : Text) → known ≡ name → reading (program ∷ known ∷ words) ≡ asks (known ∷ words) → reading (program ∷ name ∷ words) ≡ asks (name ∷ words)
+    as_named known e is = subst (λ n. reading (program ∷ n ∷ words) ≡ asks (n ∷ words)) e is
+
+    by : IsAmong commands name words → reading (program ∷ name ∷ words) ≡ asks (name ∷ words)
+    by (inl is) = as_named _ is.0 (plain_known rewrite _ 6 rewrite_known program words request.plain (sym is.1))
+    by (inr (inl is)) = as_named _ is.0 (plain_known verify _ 2 verify_known program words request.plain (sym is.1))
+    by (inr (inr (inl is))) = as_named _ is.0 (plain_known run _ 5 run_known program words request.plain (sym is.1))
+    by (inr (inr (inr (inl is)))) = as_named _ is.0 (plain_known compare _ 7 compare_known program words request.plain (sym is.1))
+    by (inr (inr (inr (inr (inl is))))) = as_named _ is.0 (plain_known demo _ 1 demo_known program words request.plain (sym is.1))
+    by (inr (inr (inr (inr (inr no_more))))) = absurd no_more
+
+-- ---- words without a fault
+
+abbrev Entered : Text → List Text → Type 0
+Entered name rest = (values : List Text) × Operands rest values × (option_and_then request_in (entered app (Some (name, rest))) ≡ Some (name ∷ values))
+
+known_entered : (command : App) (name : Text) (count : ℕ) → IsKnown command name count → (rest : List Text)
+    → entered_fault app (Some (name, rest)) ≡ [] → Entered name rest
+known_entered command name count known rest quiet =
+    let read = words_read (leaf command) known.flat known.only rest nothing_held 1 refl (sym (known.fault_is rest) ∙ quiet) in (
+      read.values,
+      read.operands,
+      ap (option_and_then request_in) (known.entered_is rest)
+          ∙ ap (λ h. request_in ((leaf command).name, finished (leaf command).rules h)) read.held_is ∙ known.asks read.values read.faultless,
+    )
+
+named_as : (known name : Text) → bytes_eq known name ≡ true → known ≡ name
+named_as known name e = (bytes_eq-Decides known name).0 e
+
+entered_by_name : (name : Text) (rest : List Text) → is_some (entered app (Some (name, rest))) ≡ true → entered_fault app (Some (name, rest)) ≡ [] → Entered name rest
+entered_by_name name rest has quiet = elim (cases_Bool (bytes_eq (codes "rewrite") name)) [
+  | inl e ↦ as_known _ _ _ rewrite_known (named_as _ name e)
+  | inr one ↦ elim (cases_Bool (bytes_eq (codes "verify") name)) [
+    | inl e ↦ as_known _ _ _ verify_known (named_as _ name e)
+    | inr two ↦ elim (cases_Bool (bytes_eq (codes "run") name)) [
+      | inl e ↦ as_known _ _ _ run_known (named_as _ name e)
+      | inr three ↦ elim (cases_Bool (bytes_eq (codes "compare") name)) [
+        | inl e ↦ as_known _ _ _ compare_known (named_as _ name e)
+        | inr four ↦ elim (cases_Bool (bytes_eq (codes "demo") name)) [
+          | inl e ↦ as_known _ _ _ demo_known (named_as _ name e)
+          | inr five ↦ let bad : false ≡ true = rw (one, two, three, four, five) at has in absurd (cc)
+        ]
+      ]
+    ]
+  ]
+]
+  where
+    as_known : (command : App) (known : Text) (count : ℕ) → IsKnown command known count → known ≡ name → Entered name rest
+    as_known command known count is e = subst (λ n. entered_fault app (Some (n, rest)) ≡ [] → Entered n rest) e (known_entered command known count is rest) quiet
+
+abbrev has_no_alias : Text × List Text → Bool
+has_no_alias (name, []) = true
+has_no_alias (name, alias ∷ aliases) = false
+
+-- a command that is met has the word's name
+met_name : (word n : Text) (names : Names) → list_all has_no_alias names ≡ true → option_map (λ s. s.0) (find (answers_to word) names) ≡ Some n → n ≡ word
+met_name word n [] all e = absurd (cc)
+met_name word n ((known, []) ∷ rest) all e = go (bytes_eq known word) refl (met_name word n rest all) e
+  where
+    go : (b : Bool) → bytes_eq known word ≡ b → (option_map (λ s. s.0) (find (answers_to word) rest) ≡ Some n → n ≡ word)
+        → option_map (λ s. s.0) (cond (b || false) (Some (known, [])) (find (answers_to word) rest)) ≡ Some n → n ≡ word
+    go true is later e =
+        let same_name : known ≡ n = cc in
+        sym same_name ∙ named_as known word is
+    go false is later e = later e
+met_name word n ((known, alias ∷ aliases) ∷ rest) all e = absurd (cc)
+
+turn_apart : (word : Text) → subcommand_met (names_of app) idle word ≡ None
+    → turn_fault app.top (names_of app) start word ≡ turn_fault app.top [] start word
+turn_apart word none = rw none refl
+
+walked_apart : (word : Text) → subcommand_met (names_of app) idle word ≡ None
+    → walked app.top.rules (names_of app) start word ≡ walked app.top.rules [] start word
+unfolding walked
+walked_apart word none = rw none refl
+
+walked_met : (word n : Text) → subcommand_met (names_of app) idle word ≡ Some n → walked app.top.rules (names_of app) start word ≡ stopped_at n []
+unfolding walked
+walked_met word n met = rw met refl
+
+-- after `--` no command is met
+none_after_mark : (rest : List Text) (p : Text × List Text) → walk_fault app.top (names_of app) (stand true nothing_held 1) rest ≡ []
+    → (fold (walked app.top.rules (names_of app)) (stand true nothing_held 1) rest).stopped ≡ Some p → ⊥
+unfolding walk_fault
+none_after_mark [] p quiet stop = absurd (cc)
+none_after_mark (word ∷ rest) p quiet stop = some_wrong (or_else_none (turn_fault app.top (names_of app) (stand true nothing_held 1) word)
+    (walk_fault app.top (names_of app) (walked app.top.rules (names_of app) (stand true nothing_held 1) word) rest) quiet).0
+
+args_are : (args : List Text) (p : Text × List Text) → args_fault args ≡ [] → (args_walk args).stopped ≡ Some p → args ≡ p.0 ∷ p.1
+unfolding walk_fault
+args_are [] p quiet stop = absurd (cc)
+args_are (word ∷ rest) p quiet stop = elim (cases_option (subcommand_met (names_of app) idle word)) [
+  | inr (n, met) ↦
+      let walk_is = ap (λ w. fold (walked app.top.rules (names_of app)) w rest) (walked_met word n met) ∙ walks_on n [] rest in
+      let same_stop : Some (n, rest) ≡ Some p = sym (ap (λ (w : Walk). w.stopped) walk_is) ∙ stop in
+      let pair : (n, rest) ≡ p = cc in
+      ap₂ (λ w ws. w ∷ ws) (sym (met_name word n (names_of app) refl met) ∙ ap (λ (q : Text × List Text). q.0) pair) (ap (λ (q : Text × List Text). q.1) pair)
+  | inl none ↦
+      let parts = or_else_none (turn_fault app.top (names_of app) start word) _ quiet in
+      apart none parts.0 parts.1
+]
+  where
+    apart : subcommand_met (names_of app) idle word ≡ None → turn_fault app.top (names_of app) start word ≡ []
+        → walk_fault app.top (names_of app) (walked app.top.rules (names_of app) start word) rest ≡ [] → word ∷ rest ≡ p.0 ∷ p.1
+    apart none here later = elim (kind_of_word app.top refl refl nothing_held 1 word refl (sym (turn_apart word none) ∙ here)) [
+      | inl mark ↦
+          let next = walked_apart word none ∙ mark.1 in
+          absurd (none_after_mark rest p (ap (λ w. walk_fault app.top (names_of app) w rest) (sym next) ∙ later)
+          (ap (λ w. (fold (walked app.top.rules (names_of app)) w rest).stopped) (sym next) ∙ stop))
+      | inr taken ↦ absurd (some_wrong (sym taken.0 ∙ sym (turn_apart word none) ∙ here))
+    ]
+
+needs_command : (rows : List Row) (has : Bool) → check_fault app.top rows has ≡ [] → has ≡ true
+needs_command rows true quiet = refl
+needs_command rows false quiet = absurd (some_wrong quiet)
+
+by_stop : (words : List Text) (stop : Option (Text × List Text)) → fault_of command_line words ≡ [] → args_fault (drop 1 words) ≡ []
+    → (args_walk (drop 1 words)).stopped ≡ stop → entered_fault app stop ≡ [] → is_some (entered app stop) ≡ true → AsksFor words
+by_stop words None none quiet is faults has = absurd (cc)
+by_stop [] (Some p) none quiet is faults has = absurd (cc)
+by_stop (program ∷ args) (Some (name, rest)) none quiet is faults has =
+    let entered_as = entered_by_name name rest has faults in
+    record {
+      program = program;
+      name = name;
+      rest = rest;
+      values = entered_as.0;
+      words_are = ap (λ ws. program ∷ ws) (args_are args (name, rest) quiet is);
+      operands = entered_as.1;
+      reading_is = ap₂ reading_by none (ap (λ s. option_and_then request_in (entered app s)) is ∙ entered_as.2);
+    }
+
+pub asks_if_faultless : (words : List Text) → AsksIfFaultless words
+asks_if_faultless words none =
+    let w = args_walk (drop 1 words) in
+    let one = or_else_none (args_fault (drop 1 words)) _ none in
+    let two = or_else_none (entered_fault app w.stopped) _ one.1 in
+    let three = or_else_none (settle_fault app.top.rules app.top.args_override_self w.held) _ two.1 in
+    let four = or_else_none (defaults_fault (settled app.top.rules w.held).rows app.top.rules) _ three.1 in
+    by_stop words w.stopped none one.0 refl two.0 (needs_command (finished app.top.rules w.held) (is_some (entered app w.stopped)) four.1)
+
+pub takes_plain : (words : List Text) → TakesPlain words
+takes_plain words program name own request is = subst (λ ws. reading ws ≡ asks (name ∷ own)) (sym is) (plain_taken program name own request)

@@ -1,0 +1,69 @@
+-- The command line as `clap` has it: the program's commands, each with the words that it wants.
+use Rattle.std.specs.Prelude.{◌≡◌, true, false, List, [], ◌∷◌, map, fold, codes}
+use Rattle.std.specs.Borrow.{Bor}
+use Rattle.clap.specs.Words.{App, Rule, Text, app_of, new_app, new_rule, with_rule, with_subcommand}
+use Rattle.clap.specs.declared.builder.command.Command.{Command}
+use Rattle.clap.specs.declared.builder.command.Command.TheViews.{out-Command}
+
+-- a word that a command wants
+abbrev pub operand : Text → Rule
+operand name = record (new_rule name) { required = true }
+
+abbrev pub with_operand : App → Text → App
+with_operand app name = with_rule app (operand name)
+
+-- the names of words, each of which stands with what it is
+abbrev pub names : List (Bor Text × Bor Text) → List Text
+names = map (λ o. o.0.now)
+
+-- a command and the names of its words
+abbrev pub form : Text → List Text → App
+form name operands = fold with_operand (new_app name) operands
+
+-- the names of the words of each command, in their order
+abbrev pub rewrite_operands : List Text
+rewrite_operands = codes "OBJECT" ∷ codes "ENTRY" ∷ codes "POLICY" ∷ codes "IMAGE" ∷ codes "GRAPH" ∷ codes "MAP" ∷ []
+
+abbrev pub verify_operands : List Text
+verify_operands = codes "IMAGE" ∷ codes "GRAPH" ∷ []
+
+abbrev pub run_operands : List Text
+run_operands = codes "IMAGE" ∷ codes "GRAPH" ∷ codes "SCRIPT" ∷ codes "INPUT" ∷ codes "STEPS" ∷ []
+
+abbrev pub compare_operands : List Text
+compare_operands = codes "OBJECT" ∷ codes "ENTRY" ∷ codes "POLICY" ∷ codes "IMAGE" ∷ codes "MAP" ∷ codes "INPUT" ∷ codes "STEPS" ∷ []
+
+abbrev pub demo_operands : List Text
+demo_operands = codes "NUMBER" ∷ []
+
+abbrev pub rewrite : App
+rewrite = form (codes "rewrite") rewrite_operands
+
+abbrev pub verify : App
+verify = form (codes "verify") verify_operands
+
+abbrev pub run : App
+run = form (codes "run") run_operands
+
+abbrev pub compare : App
+compare = form (codes "compare") compare_operands
+
+abbrev pub demo : App
+demo = form (codes "demo") demo_operands
+
+-- the program without its commands: it has a version, wants a command, and has no command for help
+abbrev pub program : App
+program = record {
+  top = record (new_app (codes "rvcfi")).top { has_version = true; subcommand_required = true; disable_help_subcommand = true };
+  subs = [];
+}
+
+abbrev pub with_command : App → App → App
+with_command app command = with_subcommand app command.top
+
+abbrev pub command_line : App
+command_line = fold with_command program (rewrite ∷ verify ∷ run ∷ compare ∷ demo ∷ [])
+
+-- a command has this form, and no argument that holds for others
+abbrev pub IsCommand : App → Command → Type 0
+IsCommand app command = (app_of command ≡ app) × ((out-Command command).has_globals ≡ false)

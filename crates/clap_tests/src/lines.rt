@@ -1,0 +1,173 @@
+//! Command lines, with what each is read as.
+
+use cfi_words::{Asked, WordsEnd, read_words};
+use std::alloc::Global;
+
+/// Command lines, each with what it is read as: the name of a command and its words, a text, or that it is not taken. Words have a
+/// comma between each two.
+const ROWS: &[u8] = b"\
+    rvcfi,rewrite,o,e,p,i,g,m = rewrite,o,e,p,i,g,m;\
+    rvcfi,verify,i,g = verify,i,g;\
+    rvcfi,run,i,g,none,in,100 = run,i,g,none,in,100;\
+    rvcfi,compare,o,e,none,i,m,in,7 = compare,o,e,none,i,m,in,7;\
+    rvcfi,demo,1 = demo,1;\
+    ,verify,i,g = verify,i,g;\
+    ./bin/rvcfi,verify,i,i = verify,i,i;\
+    rvcfi,verify,verify,help = verify,verify,help;\
+    rvcfi,verify,,g = verify,,g;\
+    rvcfi,verify,-,g = verify,-,g;\
+    rvcfi,verify,--,-i,--help = verify,-i,--help;\
+    rvcfi,verify,i,--,-g = verify,i,-g;\
+    rvcfi,verify,i,g,-- = verify,i,g;\
+    rvcfi,verify,--,-- = refused;\
+    rvcfi,verify,i,--,-- = verify,i,--;\
+    rvcfi,demo,x = demo,x;\
+    rvcfi,rewrite,o,e,p,i,i,i = rewrite,o,e,p,i,i,i;\
+    rvcfi,verify,i = refused;\
+    rvcfi,verify,i,g,x = refused;\
+    rvcfi,run,i,g,s,in = refused;\
+    rvcfi,rewrite,o,e,p,i,g = refused;\
+    rvcfi,compare,o,e,p,i,m,in,7,8 = refused;\
+    rvcfi,demo = refused;\
+    rvcfi,verify,-x,g = refused;\
+    rvcfi,verify,i,--graph = refused;\
+    rvcfi,verify,i,-- = refused;\
+    rvcfi,verif,i,g = refused;\
+    rvcfi,Verify,i,g = refused;\
+    rvcfi,--,verify,i,g = refused;\
+    rvcfi,-x,verify,i,g = refused;\
+    rvcfi, = refused;\
+    rvcfi = refused;\
+    rvcfi,x = refused;\
+    rvcfi,help = refused;\
+    rvcfi,verify,--version = refused;\
+    rvcfi,--help = help;\
+    rvcfi,-h = help;\
+    rvcfi,--help,verify = help;\
+    rvcfi,-hV = help;\
+    rvcfi,--help=1 = refused;\
+    rvcfi,verify,--help = help;\
+    rvcfi,verify,i,-h = help;\
+    rvcfi,verify,i,g,--help = help;\
+    rvcfi,verify,i,g,x,--help = refused;\
+    rvcfi,--version = version;\
+    rvcfi,-V = version;\
+    rvcfi,-Vh,x = version";
+
+/// The words of a command line.
+fn words(alloc: Global, line: &str) -> Option<Vec<String>> {
+    let mut words = Vec::new(alloc);
+    for word in line.split(',') {
+        words.push(String::from_str(alloc, word).ok()?).ok()?;
+    }
+    Some(words)
+}
+
+/// What is asked for, as text.
+fn request(alloc: Global, asked: &Asked<'_>) -> Option<String> {
+    match asked {
+        Asked::Rewrite(w) => format!(in alloc;
+            "rewrite,{},{},{},{},{},{}",
+            w.object, w.entry, w.policy, w.image, w.graph, w.map
+        ),
+        Asked::Verify(w) => format!(in alloc; "verify,{},{}", w.image, w.graph),
+        Asked::Run(w) => format!(in alloc;
+            "run,{},{},{},{},{}",
+            w.image, w.graph, w.script, w.input, w.steps
+        ),
+        Asked::Compare(w) => format!(in alloc;
+            "compare,{},{},{},{},{},{},{}",
+            w.object, w.entry, w.policy, w.image, w.map, w.input, w.steps
+        ),
+        Asked::Demo(w) => format!(in alloc; "demo,{}", w.number),
+    }
+    .ok()
+}
+
+/// What words are read as, as text.
+fn told(alloc: Global, words: &[String]) -> Option<String> {
+    match read_words(alloc, words) {
+        Ok(asked) => request(alloc, &asked),
+        Err(WordsEnd::Help(_)) => String::from_str(alloc, "help").ok(),
+        Err(WordsEnd::Version(_)) => String::from_str(alloc, "version").ok(),
+        Err(WordsEnd::Refused) => String::from_str(alloc, "refused").ok(),
+        Err(WordsEnd::NoMemory) => None,
+    }
+}
+
+/// Whether a row is a command line with what it is read as.
+fn is_read(alloc: Global, row: &str) -> bool {
+    let (line, expected) = row.split_once(" = ").unwrap_or((row, ""));
+    let Some(words) = words(alloc, line) else {
+        return false;
+    };
+    match told(alloc, &words) {
+        Some(told) => told.as_str() == expected,
+        None => false,
+    }
+}
+
+#[test]
+fn lines(rt: HostRuntime) {
+    let rows = str::from_utf8(ROWS).unwrap_or("");
+    assert!(rt; rows.split(';').count() == 47);
+    for row in rows.split(';') {
+        assert!(rt; is_read(rt.alloc(), row), "{row}");
+    }
+}
+
+/// No words at all are not taken.
+#[test]
+fn no_words(rt: HostRuntime) {
+    let told = told(rt.alloc(), &[]);
+    assert!(rt; told.is_some_and(|told| told.as_str() == "refused"));
+}
+
+const HELP: &str = "\
+Control-flow integrity for RV64I programs
+
+Usage: rvcfi <COMMAND>
+
+Commands:
+  rewrite  Hardens an object: writes an image, its graph and its map
+  verify   Tells whether an image keeps to its graph
+  run      Runs an accepted image, and reports on the run
+  compare  Compares the run of an object with that of its image
+  demo     Makes an object from a number, hardens, runs and compares it
+
+Options:
+  -h, --help     Print help
+  -V, --version  Print version
+";
+
+const VERIFY_HELP: &str = "\
+Tells whether an image keeps to its graph
+
+Usage: rvcfi verify <IMAGE> <GRAPH>
+
+Arguments:
+  <IMAGE>  The image to read
+  <GRAPH>  The graph to read
+
+Options:
+  -h, --help  Print help
+";
+
+/// Whether a command line asks for this text.
+fn shows(alloc: Global, line: &str, expected: &str) -> bool {
+    let Some(words) = words(alloc, line) else {
+        return false;
+    };
+    match read_words(alloc, &words) {
+        Err(WordsEnd::Help(text)) => text.as_str() == expected,
+        Err(WordsEnd::Version(text)) => text.as_str() == expected,
+        _ => false,
+    }
+}
+
+#[test]
+fn texts(rt: HostRuntime) {
+    assert!(rt; shows(rt.alloc(), "rvcfi,--help", HELP));
+    assert!(rt; shows(rt.alloc(), "./rvcfi,verify,-h", VERIFY_HELP));
+    assert!(rt; shows(rt.alloc(), "rvcfi,--version", "rvcfi 1.0.0\n"));
+}
