@@ -235,11 +235,21 @@ def files_of_other_kinds(cases):
     cases.expect("a name with a newline that is not there", ["verify", "no\nfile", "a.graph"], 3, b"read fault no\nfile\n")
 
 
+DEMONSTRATION = b"""object 228872 functions 2000
+image 192128 code 170952 classes 1 sites 455
+run exit 198 steps 111341 walk 38361
+compare same 1
+"""
+
+
 def words_of_other_kinds(cases):
     usage = b"usage: rvcfi rewrite|verify|run|compare|demo\n"
     cases.expect("no words", [], 2, usage)
     cases.expect("words that are not text", ["verify", b"\xff\xfe", "a.graph"], 2, usage)
     cases.expect("words of thousands", ["verify"] * 3000, 2, usage)
+    cases.expect("the version", ["--version"], 0, b"rvcfi 1.0.0\n")
+    cases.expect("a demonstration of no number", ["demo", "-1"], 2, usage)
+    cases.expect("a demonstration", ["demo", "1"], 0, DEMONSTRATION)
 
 
 def outputs_that_fail(cases):

@@ -1,16 +1,16 @@
 -- The files of an outcome that is explained.
 use Rattle.std.proofs.Common.{◌≡◌, ◌∙◌, ℕ, List, [], Some, ap, refl, sym}
-use Rattle.cfi_tool.specs.Commands.Rewrite.{IsSpelledOut, RewriteWords, AreNamedApart, outputs_of}
+use Rattle.cfi_commands.specs.Rewrite.{IsSpelledOut, RewriteWords, AreNamedApart, outputs_of}
 use Rattle.cfi_tool.specs.Explains.{ExplainsRequest}
 use Rattle.cfi_tool.specs.Outcomes.{outcome_outputs}
-use Rattle.cfi_tool.specs.Reads.{Content}
-use Rattle.cfi_tool.specs.Request.{Request, WritesNone, rewrite as rewrites, run as runs, verify as verifies}
-use Rattle.cfi_tool.specs.Writes.{AreApart, OutputParts}
+use Rattle.cfi_files.specs.Reads.{Content}
+use Rattle.cfi_tool.specs.Request.{Request, WritesNone, asks, compare as compares, demo as demos, rewrite as rewrites, run as runs, verify as verifies}
+use Rattle.cfi_files.specs.Writes.{AreApart, OutputParts}
 use Rattle.cfi_harden.specs.Hardened.{HardenedParts}
-use Rattle.cfi_tool.specs.declared.commands.rewrite.Rewritten.{Rewritten}
-use Rattle.cfi_tool.specs.declared.commands.rewrite.RewriteOutcome.TheVariants as outcome
+use Rattle.cfi_commands.specs.declared.rewrite.Rewritten.{Rewritten}
+use Rattle.cfi_commands.specs.declared.rewrite.RewriteOutcome.TheVariants as outcome
 use Rattle.cfi_tool.specs.declared.outcome.Outcome.{Outcome}
-use Rattle.cfi_tool.specs.declared.outcome.Outcome.TheVariants.{Usage, Unread, Rewrite, Verify, Run}
+use Rattle.cfi_tool.specs.declared.outcome.Outcome.TheVariants.{Usage, Help, Version, Unread, Rewrite, Verify, Run, Compare, Demo}
 
 written_apart : (words : RewriteWords) (hardened : HardenedParts) (written : Rewritten) → AreNamedApart words → IsSpelledOut words hardened written
     → AreApart (outputs_of written)
@@ -30,12 +30,16 @@ explained_apart content (rewrites words) (Rewrite (outcome.Rewritten written)) i
     written_apart words hardened written is.apart spelled
 explained_apart content (verifies words) (Verify verdict) is = tt
 explained_apart content (runs words) (Run given) is = tt
+explained_apart content (compares words) (Compare given) is = tt
+explained_apart content (demos number) (Demo given) is = tt
 explained_apart content request other is = absurd is
 
 -- a request that asks for no file to be written comes to no file
-pub explained_unwritten : (content : Content) (request : Request) (given : Outcome) → ExplainsRequest content request given → WritesNone (Some request)
+pub explained_unwritten : (content : Content) (request : Request) (given : Outcome) → ExplainsRequest content request given → WritesNone (asks request)
     → outcome_outputs given ≡ []
 explained_unwritten content (verifies words) (Verify verdict) is none = refl
 explained_unwritten content (runs words) (Run given) is none = refl
+explained_unwritten content (compares words) (Compare given) is none = refl
+explained_unwritten content (demos number) (Demo given) is none = refl
 explained_unwritten content (rewrites words) given is none = absurd none
 explained_unwritten content request other is none = absurd is

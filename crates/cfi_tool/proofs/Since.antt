@@ -5,10 +5,10 @@ use Rattle.tool_io.specs.Reading.{IsOnlyRead}
 use Rattle.tool_io.specs.declared.files.Files.{Ghosts}
 use Rattle.cfi_tool.specs.Finishing.{IsShort, IsStopped}
 use Rattle.cfi_tool.specs.Outcomes.{outcome_outputs, outcome_status}
-use Rattle.cfi_tool.specs.Writes.{AreWhole, IsCut, IsTorn, OutputParts, Wrote}
-use Rattle.cfi_tool.specs.declared.commands.rewrite.RewriteOutcome.TheVariants as outcome
+use Rattle.cfi_files.specs.Writes.{AreWhole, IsCut, IsTorn, OutputParts, Wrote}
+use Rattle.cfi_commands.specs.declared.rewrite.RewriteOutcome.TheVariants as outcome
 use Rattle.cfi_tool.specs.declared.outcome.Outcome.{Outcome}
-use Rattle.cfi_tool.specs.declared.outcome.Outcome.TheVariants.{Usage, Unread, Rewrite, Verify, Run}
+use Rattle.cfi_tool.specs.declared.outcome.Outcome.TheVariants.{Usage, Help, Version, Unread, Rewrite, Verify, Run, Compare, Demo}
 
 module _ {S : Type 0} (files : Ghosts S) (a b c : S) (read : IsOnlyRead files a b) where
   whole_since : (outputs : List OutputParts) → AreWhole files b c outputs → AreWhole files a c outputs
@@ -51,6 +51,10 @@ pub status_unwritten : (given : Outcome)
 status_unwritten (Rewrite (outcome.Refused refusal)) is = refl
 status_unwritten (Rewrite (outcome.Rewritten written)) is = absurd (no_status 0 refl is)
 status_unwritten Usage is = refl
+status_unwritten (Help text) is = refl
+status_unwritten (Version text) is = refl
 status_unwritten (Unread unread) is = refl
 status_unwritten (Verify verdict) is = refl
 status_unwritten (Run given) is = refl
+status_unwritten (Compare given) is = refl
+status_unwritten (Demo given) is = refl

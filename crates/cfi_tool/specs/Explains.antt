@@ -2,29 +2,35 @@
 use Rattle.std.specs.Prelude.{◌≡◌, ℕ, List, take, ⊤, Option, Some, None, Result, Ok}
 use Rattle.std.specs.Io.KnownBytes.{Appends}
 use Rattle.rv_word.specs.declared.no_memory.NoMemory.{NoMemory}
-use Rattle.cfi_tool.specs.Commands.Rewrite.{ExplainsRewrite}
-use Rattle.cfi_tool.specs.Commands.Run.{ExplainsRun}
-use Rattle.cfi_tool.specs.Commands.Verify.{ExplainsVerdict}
-use Rattle.cfi_tool.specs.Reads.{Content, IsUnread}
-use Rattle.cfi_tool.specs.Request.{Request, names_of, request_of, rewrite as rewrites, run as runs, verify as verifies}
+use Rattle.cfi_commands.specs.Compare.{ExplainsCompare}
+use Rattle.cfi_commands.specs.Demo.{ExplainsDemo}
+use Rattle.cfi_commands.specs.Rewrite.{ExplainsRewrite}
+use Rattle.cfi_commands.specs.Run.{ExplainsRun}
+use Rattle.cfi_commands.specs.Verify.{ExplainsVerdict}
+use Rattle.cfi_files.specs.Reads.{Content, IsUnread}
+use Rattle.cfi_tool.specs.Request.{Request, compare as compares, demo as demos, names_of, helps, asks, taken, tells_version, untaken, rewrite as rewrites, run as runs, verify as verifies}
 use Rattle.cfi_tool.specs.declared.outcome.Outcome.{Outcome}
-use Rattle.cfi_tool.specs.declared.outcome.Outcome.TheVariants.{Usage, Unread, Rewrite, Verify, Run}
-use Rattle.cfi_tool.specs.declared.read.Unread.TheVariants.{Fault, TooLong}
+use Rattle.cfi_tool.specs.declared.outcome.Outcome.TheVariants.{Usage, Help, Version, Unread, Rewrite, Verify, Run, Compare, Demo}
+use Rattle.cfi_files.specs.declared.read.Unread.TheVariants.{Fault, TooLong}
 
 -- what a command's own outcome says of what was asked for
 abbrev pub ExplainsRequest : Content → Request → Outcome → Type 0
-ExplainsRequest content (rewrites asks) (Rewrite outcome) = ExplainsRewrite content asks outcome
-ExplainsRequest content (verifies asks) (Verify verdict) = ExplainsVerdict content asks verdict
-ExplainsRequest content (runs asks) (Run outcome) = ExplainsRun content asks outcome
+ExplainsRequest content (rewrites words) (Rewrite outcome) = ExplainsRewrite content words outcome
+ExplainsRequest content (verifies words) (Verify verdict) = ExplainsVerdict content words verdict
+ExplainsRequest content (runs words) (Run outcome) = ExplainsRun content words outcome
+ExplainsRequest content (compares words) (Compare outcome) = ExplainsCompare content words outcome
+ExplainsRequest content (demos number) (Demo outcome) = ExplainsDemo number outcome
 ExplainsRequest content request other = ⊥
 
 -- the words are taken, and ask for this
 abbrev pub Asks : List (List ℕ) → (Request → Type 0) → Type 0
-Asks words holds = (request : Request) × (request_of words ≡ Some request) × holds request
+Asks words holds = (request : Request) × (taken words ≡ asks request) × holds request
 
 -- what an outcome says of the words; `failed` is the name of the last read that failed
 abbrev pub Explains : Content → List ℕ → List (List ℕ) → Outcome → Type 0
-Explains content failed words Usage = request_of words ≡ None
+Explains content failed words Usage = taken words ≡ untaken
+Explains content failed words (Help text) = taken words ≡ helps
+Explains content failed words (Version text) = taken words ≡ tells_version
 Explains content failed words (Unread unread) = Asks words (λ request. IsUnread content failed (names_of request) unread)
 Explains content failed words outcome = Asks words (λ request. ExplainsRequest content request outcome)
 

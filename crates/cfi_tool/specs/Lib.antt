@@ -1,11 +1,3 @@
-pub mod Lines
-pub mod Words
-pub mod Writes
-pub mod Refusals
-pub mod Reads
-pub mod Opening
-pub mod ReportText
-pub mod Commands
 pub mod Request
 pub mod Explains
 pub mod Outcomes

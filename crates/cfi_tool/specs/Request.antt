@@ -1,46 +1,100 @@
--- The words of the command line: the program's name, the command's, and the command's own words.
-use Rattle.std.specs.Prelude.{ℕ, if◌then◌else◌, List, ◌∷◌, codes, ⊤, Option, Some, None, option_map}
+-- What the words of a command line ask for. Which words are taken, and which word is which, is what `clap` says of the command line.
+use Rattle.std.specs.Prelude.{◌≡◌, ℕ, ◌≤◌, if◌then◌else◌, List, [], ◌∷◌, codes, ⊤, Option, Some, None, option_map}
 use Rattle.std.specs.Str.{bytes_eq}
-use Rattle.cfi_tool.specs.Commands.Rewrite.{AreNamedApart, RewriteWords, rewrite_asked, rewrite_names, rewrite_words}
-use Rattle.cfi_tool.specs.Commands.Run.{RunWords, run_asked, run_names, run_words}
-use Rattle.cfi_tool.specs.Commands.Verify.{VerifyWords, verify_asked, verify_names, verify_words}
+use Rattle.text_lines.specs.Decimal.{MAX_STEP}
+use Rattle.cfi_words.specs.Reading as reads
+use Rattle.cfi_words.specs.Reading.{Reading, reading}
+use Rattle.cfi_words.specs.Plain.{IsPlainRequest}
+use Rattle.cfi_words.specs.declared.end.WordsEnd.{WordsEnd}
+use Rattle.cfi_words.specs.declared.end.WordsEnd.TheVariants as ends
+use Rattle.cfi_commands.specs.Compare.{CompareWords, compare_asked, compare_names, compare_words}
+use Rattle.cfi_commands.specs.Demo.{demo_asked, demo_words}
+use Rattle.cfi_commands.specs.Rewrite.{AreNamedApart, RewriteWords, rewrite_asked, rewrite_names, rewrite_words}
+use Rattle.cfi_commands.specs.Run.{RunWords, run_asked, run_names, run_words}
+use Rattle.cfi_commands.specs.Verify.{VerifyWords, verify_asked, verify_names, verify_words}
 use Rattle.cfi_tool.specs.declared.request.Request as R
-use Rattle.cfi_tool.specs.declared.request.Request.TheVariants.{Rewrite, Verify, Run}
+use Rattle.cfi_tool.specs.declared.request.Request.TheVariants.{Rewrite, Verify, Run, Compare, Demo}
 
 pub data Request : Type 0 where
   rewrite : RewriteWords → Request
   verify : VerifyWords → Request
   run : RunWords → Request
+  compare : CompareWords → Request
+  demo : ℕ → Request
 
--- what the words ask for, if they are taken
+-- what a command is asked for, by its name and its words, if a number is as it should be and names of files to write are apart
 abbrev pub request_of : List (List ℕ) → Option Request
-request_of (program ∷ command ∷ words) =
+request_of [] = None
+request_of (command ∷ words) =
     if bytes_eq command (codes "rewrite") then option_map rewrite (rewrite_words words) else
     if bytes_eq command (codes "verify") then option_map verify (verify_words words) else
-    if bytes_eq command (codes "run") then option_map run (run_words words) else None
-request_of words = None
+    if bytes_eq command (codes "run") then option_map run (run_words words) else
+    if bytes_eq command (codes "compare") then option_map compare (compare_words words) else
+    if bytes_eq command (codes "demo") then option_map demo (demo_words words) else None
+
+-- what a command line is taken for: a request, or one for help or for the version, or none of these
+pub data Taken : Type 0 where
+  asks : Request → Taken
+  helps : Taken
+  tells_version : Taken
+  untaken : Taken
+
+abbrev pub if_request : Option Request → Taken
+if_request (Some request) = asks request
+if_request None = untaken
+
+abbrev pub taken_by : Reading → Taken
+taken_by (reads.asks words) = if_request (request_of words)
+taken_by reads.help = helps
+taken_by reads.version = tells_version
+taken_by reads.refused = untaken
+
+unfoldable pub taken : List (List ℕ) → Taken
+taken words = taken_by (reading words)
+
+-- a program's name, a command's name and exactly its words, none empty and none with a hyphen first, are taken for just what they ask for
+abbrev pub TakenPlainly : List (List ℕ) → Type 0
+TakenPlainly words =
+    (program name : List ℕ) (own : List (List ℕ)) → IsPlainRequest name own → words ≡ program ∷ name ∷ own
+    → taken words ≡ if_request (request_of (name ∷ own))
 
 -- the files that are read, in their order
 abbrev pub names_of : Request → List (Option (List ℕ))
 names_of (rewrite asks) = rewrite_names asks
 names_of (verify asks) = verify_names asks
 names_of (run asks) = run_names asks
+names_of (compare asks) = compare_names asks
+names_of (demo number) = []
 
--- no two of the files that a request writes have one name
-abbrev pub IsApart : Request → Type 0
-IsApart (rewrite asks) = AreNamedApart asks
-IsApart (verify asks) = ⊤
-IsApart (run asks) = ⊤
+-- no two of the files that a request writes have one name, and a comparison is of no more steps than a word asks for
+abbrev pub IsRight : Request → Type 0
+IsRight (rewrite asks) = AreNamedApart asks
+IsRight (verify asks) = ⊤
+IsRight (run asks) = ⊤
+IsRight (compare asks) = asks.limit ≤ MAX_STEP
+IsRight (demo number) = ⊤
 
--- the words ask for no file to be written
-abbrev pub WritesNone : Option Request → Type 0
-WritesNone (Some (rewrite asks)) = ⊥
-WritesNone (Some (verify asks)) = ⊤
-WritesNone (Some (run asks)) = ⊤
-WritesNone None = ⊤
+-- no file is asked to be written
+abbrev pub WritesNone : Taken → Type 0
+WritesNone (asks (rewrite words)) = ⊥
+WritesNone other = ⊤
 
 -- a request as the tool keeps it
 abbrev pub asked : R.Request → Request
 asked (Rewrite r) = rewrite (rewrite_asked r)
 asked (Verify r) = verify (verify_asked r)
 asked (Run r) = run (run_asked r)
+asked (Compare r) = compare (compare_asked r)
+asked (Demo r) = demo (demo_asked r)
+
+-- what is kept of a command line
+pub record IsKept (line : Taken) (request : R.Request) : Type 0 where
+  pub asked_is : line ≡ asks (asked request)
+  pub right : IsRight (asked request)
+
+-- why a command line is no request; only want of memory is free
+abbrev pub IsWordsEnd : Taken → WordsEnd → Type 0
+IsWordsEnd line (ends.Help text) = line ≡ helps
+IsWordsEnd line (ends.Version text) = line ≡ tells_version
+IsWordsEnd line ends.Refused = line ≡ untaken
+IsWordsEnd line ends.NoMemory = ⊤

@@ -2,21 +2,23 @@ ghost use Rattle.std.specs.Prelude.{◌≡◌, ◌≢◌, ◌⊎◌, ◌<◌, �
 ghost use Rattle.std.specs.Io.KnownBytes.{Appends, Keeps};
 ghost use Rattle.tool_io.specs.Faults.{Counts, Rose};
 ghost use Rattle.tool_io.specs.Reading.{CountsReads, IsOnlyRead};
-ghost use Rattle.cfi_tool.specs.Commands.Rewrite.{IsRewritten, RewriteWords};
-ghost use Rattle.cfi_tool.specs.Commands.Run.{IsRan, RunWords};
-ghost use Rattle.cfi_tool.specs.Commands.Verify.{IsAccepted, VerifyWords};
+ghost use Rattle.cfi_commands.specs.Compare.{CompareWords, IsTold};
+ghost use Rattle.cfi_commands.specs.Demo.{IsDemonstrated};
+ghost use Rattle.cfi_commands.specs.Rewrite.{IsRewritten, RewriteWords};
+ghost use Rattle.cfi_commands.specs.Run.{IsRan, RunWords};
+ghost use Rattle.cfi_commands.specs.Verify.{IsAccepted, VerifyWords};
 ghost use Rattle.cfi_tool.specs.Explains.{Explains, IsPart, IsReadFault, IsTooLongFile};
 ghost use Rattle.cfi_tool.specs.Finishing.{IsShort, IsStopped};
-ghost use Rattle.cfi_tool.specs.Lines.{spelled};
+ghost use Rattle.cfi_words.specs.Reading.{spelled};
 ghost use Rattle.cfi_tool.specs.Outcomes.{outcome_outputs, outcome_status, outcome_text};
-ghost use Rattle.cfi_tool.specs.Request.{WritesNone, request_of, rewrite, run, verify};
-ghost use Rattle.cfi_tool.specs.Writes.{AreApart, KeepsReads, Wrote};
+ghost use Rattle.cfi_tool.specs.Request.{TakenPlainly, WritesNone, asks, compare, demo, rewrite, run, taken, untaken, verify};
+ghost use Rattle.cfi_files.specs.Writes.{AreApart, KeepsReads, Wrote};
 ghost use Rattle.cfi_tool.specs.declared.outcome.Outcome.{Outcome};
 
 use crate::outcome::Outcome;
-use crate::read::Stop;
 use crate::request::requested;
-use crate::status;
+use cfi_files::{Stop, status};
+use cfi_words::WordsEnd;
 use rv_word::NoMemory;
 use std::alloc::Global;
 use tool_io::{Files, OutEnd, Sink};
@@ -33,10 +35,15 @@ fn command<'a, F: Files>(
     ensures only_read { IsOnlyRead F.Files files.old files.new }
     ensures counted { CountsReads F.Files files.old files.new (IsReadFault result) (IsTooLongFile result) }
     ensures apart { IfOk result (λ outcome. AreApart (outcome_outputs outcome)) }
-    ensures unwritten { WritesNone (request_of (spelled words.now)) → IfOk result (λ outcome. outcome_outputs outcome ≡ []) }
+    ensures plain { TakenPlainly (spelled words.now) }
+    ensures unwritten { WritesNone (taken (spelled words.now)) → IfOk result (λ outcome. outcome_outputs outcome ≡ []) }
 {
-    let Some(request) = requested(words) else {
-        return Ok(Outcome::Usage);
+    let request = match requested(alloc, words) {
+        Ok(request) => request,
+        Err(WordsEnd::Help(text)) => return Ok(Outcome::Help(text)),
+        Err(WordsEnd::Version(text)) => return Ok(Outcome::Version(text)),
+        Err(WordsEnd::Refused) => return Ok(Outcome::Usage),
+        Err(WordsEnd::NoMemory) => return Err(NoMemory),
     };
     match request.answer(alloc, files) {
         Ok(outcome) => Ok(outcome),
@@ -91,12 +98,13 @@ fn finish<F: Files, K: Sink>(
 /// with which the program ends: 0 where all is well, 1 where a file is refused or the image rejected,
 /// 2 where the words are not taken, 3 where a read failed, 4 where a write or the output failed, 5 where
 /// there was no memory, and 6 where a file has more than 2^26 bytes; for a run also 10 where it came to a
-/// handler, 11 where it broke or a load failed, and 12 where it took as many steps as it may. All files
+/// handler, 11 where it broke or a load failed; for a run and a comparison 12 where as many steps were taken as
+/// may be, and for a comparison 13 where the program takes no such step. 1 is also where they differ. All files
 /// are read first, then `rewrite` writes its three, and the text is put last, in one piece.
 #[tactic(auto, using(crate::proofs::Since::wrote_since, crate::proofs::Since::short_since, crate::proofs::Since::stopped_since, crate::proofs::Since::status_unwritten))]
 pub fn rvcfi<F: Files, K: Sink>(alloc: Global, words: &[String], files: &mut F, out: &mut K) -> u8
     // Where no file is to be written each is as before, none is made or removed, and no count of faults falls.
-    ensures only_read { WritesNone (request_of (spelled words.now)) → IsOnlyRead F.Files files.old files.new }
+    ensures only_read { WritesNone (taken (spelled words.now)) → IsOnlyRead F.Files files.old files.new }
     ensures refused_writes_none { (result ≡ 1) ⊎ (result ≡ 2) ⊎ (result ≡ 3) ⊎ (result ≡ 6)
         → IsOnlyRead F.Files files.old files.new }
     ensures read_faults_later { F.read_faults files.old ≤ F.read_faults files.new }
@@ -112,20 +120,35 @@ pub fn rvcfi<F: Files, K: Sink>(alloc: Global, words: &[String], files: &mut F, 
         × Appends (K.written out.old) (K.written out.new) (outcome_text outcome) }
 
     // 0 of `rewrite`: the files hold the hardened program of the object, and the text tells its sizes.
-    ensures rewritten { result ≡ 0 → (asks : RewriteWords) → request_of (spelled words.now) ≡ Some (rewrite asks)
-        → (text : List ℕ) × IsRewritten F.Files files.old files.new asks text × Appends (K.written out.old) (K.written out.new) text }
+    ensures rewritten { result ≡ 0 → (given : RewriteWords) → taken (spelled words.now) ≡ asks (rewrite given)
+        → (text : List ℕ) × IsRewritten F.Files files.old files.new given text × Appends (K.written out.old) (K.written out.new) text }
 
     // 0 of `verify`: the files spell an image and a graph that are safe.
-    ensures accepted { result ≡ 0 → (asks : VerifyWords) → request_of (spelled words.now) ≡ Some (verify asks)
-        → (text : List ℕ) × IsAccepted (F.content files.old) asks text × Appends (K.written out.old) (K.written out.new) text }
+    ensures accepted { result ≡ 0 → (given : VerifyWords) → taken (spelled words.now) ≡ asks (verify given)
+        → (text : List ℕ) × IsAccepted (F.content files.old) given text × Appends (K.written out.old) (K.written out.new) text }
 
     // 0 and from 10 on of `run`: the files spell such a pair, and the text is the report of its run.
-    ensures ran { (result ≡ 0) ⊎ (10 ≤ result) → (asks : RunWords) → request_of (spelled words.now) ≡ Some (run asks)
-        → (text : List ℕ) × IsRan (F.content files.old) asks result text × Appends (K.written out.old) (K.written out.new) text }
+    ensures ran { (result ≡ 0) ⊎ (10 ≤ result) → (given : RunWords) → taken (spelled words.now) ≡ asks (run given)
+        → (text : List ℕ) × IsRan (F.content files.old) given result text × Appends (K.written out.old) (K.written out.new) text }
+
+    // 0, 12 and 13 of `compare`: the files spell an object, an image and a map, and the text tells how they compare.
+    ensures compared { (result ≡ 0) ⊎ (10 ≤ result) → (given : CompareWords) → taken (spelled words.now) ≡ asks (compare given)
+        → (text : List ℕ) × IsTold (F.content files.old) given result text × Appends (K.written out.old) (K.written out.new) text }
+
+    // 0 and from 10 on of `demo`: the number's object is hardened, its image is safe and is run, and compared where the run exits.
+    ensures demonstrated { (result ≡ 0) ⊎ (10 ≤ result) → (number : ℕ) → taken (spelled words.now) ≡ asks (demo number)
+        → (text : List ℕ) × IsDemonstrated number result text × Appends (K.written out.old) (K.written out.new) text }
+
+    // No other but 4 and 5, since nothing is refused of a number's object, its image is accepted and nothing differs.
+    ensures demo_never_refused { (number : ℕ) → taken (spelled words.now) ≡ asks (demo number)
+        → (result ≡ 0) ⊎ (result ≡ 4) ⊎ (result ≡ 5) ⊎ (10 ≤ result) }
+
+    // A program's name, a command's name and exactly its words, none empty and none with a hyphen first, are always taken.
+    ensures plain { TakenPlainly (spelled words.now) }
 
     // 2, and no other, where the words are not taken.
-    ensures usage { result ≡ 2 → request_of (spelled words.now) ≡ None }
-    ensures usage_when { request_of (spelled words.now) ≡ None
+    ensures usage { result ≡ 2 → taken (spelled words.now) ≡ untaken }
+    ensures usage_when { taken (spelled words.now) ≡ untaken
         → (result ≡ 2) ⊎ (result ≡ 4) ⊎ (result ≡ 5) }
 
     // 3: a read failed.

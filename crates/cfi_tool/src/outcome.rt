@@ -3,14 +3,10 @@ ghost use Rattle.tool_io.specs.Faults.{Counts};
 ghost use Rattle.tool_io.specs.Reading.{IsOnlyRead};
 ghost use Rattle.tool_io.specs.declared.ends.OutEnd.TheVariants as OutEnd;
 ghost use Rattle.cfi_tool.specs.Outcomes.{outcome_outputs, outcome_status, outcome_text};
-ghost use Rattle.cfi_tool.specs.Writes.{AreApart, IsCut, IsTorn, KeepsReads, Wrote};
+ghost use Rattle.cfi_files.specs.Writes.{AreApart, IsCut, IsTorn, KeepsReads, Wrote};
 
-use crate::commands::rewrite::RewriteOutcome;
-use crate::commands::run::RunOutcome;
-use crate::commands::verify::Verdict;
-use crate::line::line;
-use crate::read::Unread;
-use crate::status;
+use cfi_commands::{CompareOutcome, DemoOutcome, RewriteOutcome, RunOutcome, Verdict};
+use cfi_files::{Unread, line, status};
 use rv_word::NoMemory;
 use std::alloc::Global;
 use tool_io::{Files, OutEnd};
@@ -20,11 +16,17 @@ use tool_io::{Files, OutEnd};
 pub(crate) enum Outcome<'a> {
     /// The words are none that are taken.
     Usage,
+    /// Help was asked for: its text.
+    Help(String),
+    /// The version was asked for: its text.
+    Version(String),
     /// A file of the command was not read.
     Unread(Unread<'a>),
     Rewrite(RewriteOutcome<'a>),
     Verify(Verdict),
     Run(RunOutcome),
+    Compare(CompareOutcome),
+    Demo(DemoOutcome),
 }
 
 impl Outcome<'_> {
@@ -34,10 +36,13 @@ impl Outcome<'_> {
     {
         match self {
             Outcome::Usage => status::USAGE,
+            Outcome::Help(_) | Outcome::Version(_) => status::WELL,
             Outcome::Unread(unread) => unread.status(),
             Outcome::Rewrite(outcome) => outcome.status(),
             Outcome::Verify(verdict) => verdict.status(),
             Outcome::Run(outcome) => outcome.status(),
+            Outcome::Compare(outcome) => outcome.status(),
+            Outcome::Demo(outcome) => outcome.status(),
         }
     }
 
@@ -53,7 +58,14 @@ impl Outcome<'_> {
     {
         match self {
             Outcome::Rewrite(outcome) => outcome.write(files),
-            Outcome::Usage | Outcome::Unread(_) | Outcome::Verify(_) | Outcome::Run(_) => Ok(()),
+            Outcome::Usage
+            | Outcome::Help(_)
+            | Outcome::Version(_)
+            | Outcome::Unread(_)
+            | Outcome::Verify(_)
+            | Outcome::Run(_)
+            | Outcome::Compare(_)
+            | Outcome::Demo(_) => Ok(()),
         }
     }
 
@@ -63,10 +75,13 @@ impl Outcome<'_> {
     {
         match self {
             Outcome::Usage => line(alloc, &"usage: rvcfi rewrite|verify|run|compare|demo"),
+            Outcome::Help(text) | Outcome::Version(text) => Ok(Vec::from_slice(alloc, text.as_bytes())?),
             Outcome::Unread(unread) => line(alloc, unread),
             Outcome::Rewrite(outcome) => line(alloc, outcome),
             Outcome::Verify(verdict) => line(alloc, verdict),
             Outcome::Run(outcome) => outcome.text(alloc),
+            Outcome::Compare(outcome) => line(alloc, outcome),
+            Outcome::Demo(outcome) => outcome.text(alloc),
         }
     }
 }

@@ -1,15 +1,17 @@
-ghost use Rattle.std.specs.Prelude.{◌≡◌, IfOk, IfErr, IfSome, option_map};
+ghost use Rattle.std.specs.Prelude.{◌≡◌, IfOk, IfErr, IfSome, MatchResult, option_map};
 ghost use Rattle.tool_io.specs.Reading.{CountsReads, IsOnlyRead};
 ghost use Rattle.cfi_tool.specs.Explains.{ExplainsRequest};
-ghost use Rattle.cfi_tool.specs.Lines.{spelled};
-ghost use Rattle.cfi_tool.specs.Reads.{IsFault, IsStop, IsTooLong};
-ghost use Rattle.cfi_tool.specs.Request.{IsApart, asked, names_of, request_of};
+ghost use Rattle.cfi_files.specs.Reads.{IsFault, IsStop, IsTooLong};
+ghost use Rattle.cfi_tool.specs.Request.{IsKept, IsRight, IsWordsEnd, TakenPlainly, asked, names_of, request_of, taken};
+ghost use Rattle.cfi_words.specs.Reading.{request_of as words_of, spelled};
 
-use crate::commands::rewrite::{RewriteRequest, rewrite_files};
-use crate::commands::run::{RunRequest, run_files};
-use crate::commands::verify::{VerifyRequest, verify_files};
+use cfi_commands::{
+    CompareRequest, DemoRequest, RewriteRequest, RunRequest, VerifyRequest, compare_files, demonstrate,
+    rewrite_files, run_files, verify_files,
+};
+use cfi_files::Stop;
+use cfi_words::{Asked, WordsEnd, read_words};
 use crate::outcome::Outcome;
-use crate::read::Stop;
 use std::alloc::Global;
 use tool_io::Files;
 
@@ -19,32 +21,45 @@ pub(crate) enum Request<'a> {
     Rewrite(RewriteRequest<'a>),
     Verify(VerifyRequest<'a>),
     Run(RunRequest<'a>),
+    Compare(CompareRequest<'a>),
+    Demo(DemoRequest),
 }
 
-/// What the words ask for, if they are taken.
-pub(crate) fn requested(words: &[String]) -> Option<Request<'_>>
-    ensures asked { option_map asked result ≡ request_of (spelled words.now) }
-    ensures apart { IfSome result (λ request. IsApart (asked request)) }
+/// What the words of a command line ask for.
+#[tactic(auto, using(crate::proofs::Taken::taken_plainly, crate::proofs::Taken::kept, crate::proofs::Taken::not_kept, crate::proofs::Taken::words_end))]
+pub(crate) fn requested<'a>(alloc: Global, words: &'a [String]) -> Result<Request<'a>, WordsEnd>
+    ensures plain { TakenPlainly (spelled words.now) }
+    ensures taken { MatchResult result (IsKept (taken (spelled words.now))) (IsWordsEnd (taken (spelled words.now))) }
 {
-    let [_, command, words @ ..] = words else {
-        return None;
-    };
-    match command.as_str() {
-        "rewrite" => Some(Request::Rewrite(RewriteRequest::of(words)?)),
-        "verify" => Some(Request::Verify(VerifyRequest::of(words)?)),
-        "run" => Some(Request::Run(RunRequest::of(words)?)),
-        _ => None,
+    let asked = read_words(alloc, words)?;
+    match Request::of(asked) {
+        Some(request) => Ok(request),
+        None => Err(WordsEnd::Refused),
     }
 }
 
 impl<'a> Request<'a> {
+    /// What a command is asked for, if a number is as it should be and names of files to write are apart.
+    fn of(words: Asked<'a>) -> Option<Self>
+        ensures asked { option_map asked result ≡ request_of (words_of words) }
+        ensures right { IfSome result (λ request. IsRight (asked request)) }
+    {
+        Some(match words {
+            Asked::Rewrite(words) => Request::Rewrite(RewriteRequest::of(words)?),
+            Asked::Verify(words) => Request::Verify(VerifyRequest::of(words)),
+            Asked::Run(words) => Request::Run(RunRequest::of(words)?),
+            Asked::Compare(words) => Request::Compare(CompareRequest::of(words)?),
+            Asked::Demo(words) => Request::Demo(DemoRequest::of(words)?),
+        })
+    }
+
     /// What the command comes to, unless it stops at one of its files.
     pub(crate) fn answer<F: Files>(
         &self,
         alloc: Global,
         files: &mut F,
     ) -> Result<Outcome<'a>, Stop<'a>>
-        requires apart { IsApart (asked self.now) }
+        requires right { IsRight (asked self.now) }
         ensures explained { IfOk result (ExplainsRequest (F.content files.old) (asked self.now)) }
         ensures stopped { IfErr result
             (IsStop (F.content files.old) (F.failed_name files.new) (names_of (asked self.now))) }
@@ -54,7 +69,9 @@ impl<'a> Request<'a> {
         Ok(match self {
             Request::Rewrite(request) => Outcome::Rewrite(rewrite_files(alloc, request, files)?),
             Request::Verify(request) => Outcome::Verify(verify_files(alloc, request, files)?),
+            Request::Compare(request) => Outcome::Compare(compare_files(alloc, request, files)?),
             Request::Run(request) => Outcome::Run(run_files(alloc, request, files)?),
+            Request::Demo(request) => Outcome::Demo(demonstrate(alloc, request)?),
         })
     }
 }

@@ -22,13 +22,17 @@ const COMMANDS: &[u8] = b"\
     rvcfi,verify,image,graph,graph = 2: usage: rvcfi rewrite|verify|run|compare|demo\n;\
     rvcfi,run,image = 2: usage: rvcfi rewrite|verify|run|compare|demo\n;\
     rvcfi = 2: usage: rvcfi rewrite|verify|run|compare|demo\n;\
+    rvcfi,verify,-image,graph = 2: usage: rvcfi rewrite|verify|run|compare|demo\n;\
+    rvcfi,verify,--,-image,graph = 3: read fault -image\n;\
+    rvcfi,--version = 0: rvcfi 1.0.0\n;\
+    ,verify,image,graph = 0: accepted\n;\
     rvcfi,verify,absent,nothing = 3: read fault absent\n;\
     rvcfi,verify,image,nothing = 3: read fault nothing\n;\
     rvcfi,verify,image,long = 6: too long long\n";
 
 #[test]
 fn commands(rt: HostRuntime) {
-    check(&rt, rt.alloc(), COMMANDS, 14);
+    check(&rt, rt.alloc(), COMMANDS, 18);
 }
 
 /// Whether an image that is cut to this length is refused by it.

@@ -7,6 +7,10 @@ mod calls;
 #[cfg(test)]
 mod commands;
 #[cfg(test)]
+mod compares;
+#[cfg(test)]
+mod demos;
+#[cfg(test)]
 mod faults;
 #[cfg(test)]
 mod files;

@@ -10,6 +10,7 @@ pub(crate) enum Source {
     Returning,
     Calling,
     Writing,
+    Recursive,
 }
 
 /// An object, an offset in its file and the bytes, in hexadecimal, that are put there.
@@ -25,6 +26,7 @@ fn digits(source: Source) -> &'static [u8] {
         Source::Returning => sample_objects::B,
         Source::Calling => sample_objects::P,
         Source::Writing => sample_objects::H,
+        Source::Recursive => sample_objects::R,
     }
 }
 

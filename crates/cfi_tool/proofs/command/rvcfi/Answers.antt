@@ -1,8 +1,11 @@
-use Rattle.std.proofs.Common.{◌≡◌, ◌⊎◌, ◌≤◌, ℕ, inr, rules, subst, sym}
-use Rattle.cfi_tool.specs.Commands.Run.{IsRan}
-use Rattle.cfi_tool.specs.Lines.{spelled}
-use Rattle.cfi_tool.specs.Outcomes.{outcome_outputs, outcome_text}
-use Rattle.cfi_tool.proofs.Headline.{headline_ran, headline_rewritten}
+use Rattle.std.proofs.Common.{◌≡◌, ◌⊎◌, ◌≤◌, ℕ, inl, inr, rules, subst, sym}
+use Rattle.cfi_words.specs.Reading.{spelled}
+use Rattle.cfi_commands.specs.Compare.{IsTold}
+use Rattle.cfi_commands.specs.Demo.{IsDemonstrated}
+use Rattle.cfi_commands.specs.Run.{IsRan}
+use Rattle.cfi_tool.specs.Outcomes.{outcome_outputs, outcome_status, outcome_text}
+use Rattle.cfi_tool.specs.Request.{compare, demo, rewrite, run}
+use Rattle.cfi_tool.proofs.Headline.{IsDone, demo_ends, explained_request, ran_is, rewritten_is, shown_is, told_is}
 use Rattle.cfi_tool.proofs.Since.{short_since, stopped_since, wrote_since}
 use Rattle.cfi_tool.proofs.command.rvcfi.Goals as goal
 
@@ -17,23 +20,26 @@ returns-in-Err-Failed-clause-write_fault_text g c = λ _. (
 pub returns-in-Ok-finish-clause-ran : goal.returns-in-Ok-finish-clause-ran
 returns-in-Ok-finish-clause-ran g c = λ ends asks asked.
     let content = g.F.Files.content c.args.files.now in
-    let text = outcome_text c.in-Ok.outcome in (
+    let text = outcome_text c.in-Ok.outcome in
+    let done = subst IsDone c.status.ensures ends in (
       text,
-      subst (λ (n : ℕ). IsRan content asks n text) (sym c.status.ensures)
-          (headline_ran (g.F.Files.failed_name c.command.new.files) (spelled c.args.words.now) content asks asked c.in-Ok.outcome
-          c.in-Ok.ensures.explained (subst (λ (n : ℕ). (n ≡ 0) ⊎ (10 ≤ n)) c.status.ensures ends)),
+      subst (λ (n : ℕ). IsRan content asks n text) (sym c.status.ensures) (ran_is content asks c.in-Ok.outcome
+          (explained_request content (g.F.Files.failed_name c.command.new.files) (spelled c.args.words.now) (run asks) asked c.in-Ok.outcome
+          c.in-Ok.ensures.explained done) done),
       c.in-Ok-finish.ensures.whole,
     )
 
 pub returns-in-Ok-finish-clause-rewritten : goal.returns-in-Ok-finish-clause-rewritten
-returns-in-Ok-finish-clause-rewritten g c = λ zero asks asked. (
-  outcome_text c.in-Ok.outcome,
-  headline_rewritten (g.F.Files.failed_name c.command.new.files) (spelled c.args.words.now) g.F.Files c.args.files.now c.finish.new.files asks asked
-      c.in-Ok.outcome c.in-Ok.ensures.explained (subst (λ (n : ℕ). n ≡ 0) c.status.ensures zero)
-      (wrote_since g.F.Files c.args.files.now c.command.new.files c.finish.new.files c.in-Ok.ensures.only_read (outcome_outputs c.in-Ok.outcome) _
-      c.in-Ok-finish.ensures.wrote),
-  c.in-Ok-finish.ensures.whole,
-)
+returns-in-Ok-finish-clause-rewritten g c = λ zero asks asked.
+    let none = subst (λ (n : ℕ). n ≡ 0) c.status.ensures zero in (
+      outcome_text c.in-Ok.outcome,
+      rewritten_is g.F.Files c.args.files.now c.finish.new.files asks c.in-Ok.outcome
+          (explained_request (g.F.Files.content c.args.files.now) (g.F.Files.failed_name c.command.new.files) (spelled c.args.words.now) (rewrite asks)
+          asked c.in-Ok.outcome c.in-Ok.ensures.explained (inl none)) none
+          (wrote_since g.F.Files c.args.files.now c.command.new.files c.finish.new.files c.in-Ok.ensures.only_read
+          (outcome_outputs c.in-Ok.outcome) _ c.in-Ok-finish.ensures.wrote),
+      c.in-Ok-finish.ensures.whole,
+    )
 
 pub returns-clause-first_written : goal.returns-clause-first_written
 returns-clause-first_written g c = λ _. inr (
@@ -42,3 +48,35 @@ returns-clause-first_written g c = λ _. inr (
   short_since g.F.Files c.args.files.now c.command.new.files c.finish.new.files c.in-Ok.ensures.only_read c.in-Ok.outcome
       (c.in-Err-NoMemory.ensures.short (search rules)),
 )
+
+pub returns-in-Ok-finish-clause-compared : goal.returns-in-Ok-finish-clause-compared
+returns-in-Ok-finish-clause-compared g c = λ ends asks asked.
+    let content = g.F.Files.content c.args.files.now in
+    let text = outcome_text c.in-Ok.outcome in
+    let done = subst IsDone c.status.ensures ends in (
+      text,
+      subst (λ (n : ℕ). IsTold content asks n text) (sym c.status.ensures) (told_is content asks c.in-Ok.outcome
+          (explained_request content (g.F.Files.failed_name c.command.new.files) (spelled c.args.words.now) (compare asks) asked c.in-Ok.outcome
+          c.in-Ok.ensures.explained done) done),
+      c.in-Ok-finish.ensures.whole,
+    )
+
+pub returns-in-Ok-finish-clause-demonstrated : goal.returns-in-Ok-finish-clause-demonstrated
+returns-in-Ok-finish-clause-demonstrated g c = λ ends number asked.
+    let content = g.F.Files.content c.args.files.now in
+    let text = outcome_text c.in-Ok.outcome in (
+      text,
+      subst (λ (n : ℕ). IsDemonstrated number n text) (sym c.status.ensures) (shown_is content number c.in-Ok.outcome
+          (explained_request content (g.F.Files.failed_name c.command.new.files) (spelled c.args.words.now) (demo number) asked c.in-Ok.outcome
+          c.in-Ok.ensures.explained (subst IsDone c.status.ensures ends))),
+      c.in-Ok-finish.ensures.whole,
+    )
+
+pub returns-in-Ok-finish-clause-demo_never_refused : goal.returns-in-Ok-finish-clause-demo_never_refused
+returns-in-Ok-finish-clause-demo_never_refused g c = λ number asked.
+    let ends = demo_ends (g.F.Files.content c.args.files.now) (g.F.Files.failed_name c.command.new.files) (spelled c.args.words.now) number asked
+        c.in-Ok.outcome c.in-Ok.ensures.explained in
+    elim (subst IsDone (sym c.status.ensures) ends) [
+      inl zero ↦ inl zero
+    | inr large ↦ inr (inr (inr large))
+    ]

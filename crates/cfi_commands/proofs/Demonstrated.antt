@@ -1,0 +1,73 @@
+-- What a demonstration needs of a hardened program: its file is an image, which meets the rules; its program runs at its map; and no
+-- run of that differs from the image's.
+use Rattle.std.proofs.Common.{◌≡◌, ℕ, List, [], Option, ap, refl, subst, sym, unwrap_or}
+use Rattle.rv_word.specs.Image.{Contents}
+use Rattle.rv_word.specs.Layout.{version_1}
+use Rattle.cfi_graph.specs.declared.map.MapLine.{MapLine}
+use Rattle.cfi_flow.specs.GraphAtMap.{Layout}
+use Rattle.cfi_flow.specs.LegalMap.{gates_of}
+use Rattle.cfi_verify.specs.Rules.{IsWellFormed}
+use Rattle.obj_program.specs.Program.{Program}
+use Rattle.cfi_harden.specs.Hardened.{HardenedParts, IsHardened, chosen}
+use Rattle.cfi_harden.specs.Prepared.{IsPrepared, PreparedParts}
+use Rattle.cfi_harden.specs.Request.{Request}
+use Rattle.cfi_harden.proofs.Ready.{written_accepted}
+use Rattle.cfi_meaning.specs.Compared as runs
+use Rattle.cfi_meaning.specs.NeverDiffers.{NoRunDiffers}
+use Rattle.cfi_meaning.proofs.NeverDiffers.{never_differs}
+use Rattle.src_machine.specs.ProgramAt.{layout_of}
+use Rattle.src_machine.specs.Running.{SourceParts}
+use Rattle.cfi_single.specs.OneWay.{PreparedInOneWay}
+use Rattle.cfi_compare.specs.Told.{told_answer}
+use Rattle.cfi_compare.specs.declared.answer.Compared.{Compared}
+use Rattle.cfi_commands.specs.Demonstration.{CanRunAt, Fits, IsDifference, IsImageIn, IsSourceOn, NoneDiffers}
+use Rattle.cfi_commands.specs.Rewrite.{IsSpelled}
+
+module _ (request : Request) (h : HardenedParts) (hardens : IsHardened request h) where
+  pub spelled_of : IsSpelled h.image
+  spelled_of =
+      let (p, prepared, (s, labels, code, init, placed, room, in_range, written)) = hardens in
+      (code, init, written.bytes.size, written.image)
+
+  pub well_formed_of : (image : Contents) → IsImageIn h.image image → IsWellFormed version_1 image h.graph
+  well_formed_of image is =
+      let (p, prepared, (s, labels, code, init, placed, room, in_range, written)) = hardens in
+      let (code_is, init_is) = is.only code init written.bytes.size written.image in
+      let same : image ≡ record { code = code; init = init } = λ i. record { code = code_is i; init = init_is i } in
+      subst (λ (x : Contents). IsWellFormed version_1 x h.graph) (sym same) written.well_formed
+
+  pub fits_of : PreparedInOneWay → Fits request h.map
+  fits_of one p is =
+      let (q, prepared, (s, labels, code, init, placed, room, in_range, written)) = hardens in
+      subst (λ (x : PreparedParts). CanRunAt x h.map) (one request q p prepared is)
+          (record { legal = written.map; room = room; in_range = rw (written.gates, sym placed.words) in_range })
+
+  pub none_differs : PreparedInOneWay → (image : Contents) → IsImageIn h.image image → NoneDiffers request h.map image
+  none_differs one image is p of =
+      let (q, prepared, (s, labels, code, init, placed, room, in_range, written)) = hardens in
+      let (code_is, init_is) = is.only code init written.bytes.size written.image in
+      let own : Contents = record { code = code; init = init } in
+      let same : image ≡ own = λ i. record { code = code_is i; init = init_is i } in
+      let m = chosen q s labels in
+      let accepted = written_accepted request q s labels code init h prepared (record { placed = placed; room = room; in_range = in_range }) written in
+      let never : NoRunDiffers m.layout own = never_differs m own (record { accepted = accepted; bytes = written.bytes; code = written.code_is })
+          (sym (ap (λ (o : Option (List ℕ)). unwrap_or o []) written.init_is)) in
+      let at_map : NoRunDiffers (layout_of q.program q.closed (gates_of h.map) q.entry) own =
+          subst (λ (gates : List ℕ). NoRunDiffers (layout_of q.program q.closed gates q.entry) own) (sym written.gates) never in
+      subst (λ (x : PreparedParts). NoRunDiffers (layout_of x.program x.closed (gates_of h.map) x.entry) image) (one request q p prepared of)
+          (subst (λ (x : Contents). NoRunDiffers (layout_of q.program q.closed (gates_of h.map) q.entry) x) (sym same) at_map)
+
+-- an answer is no difference where none was found
+no_difference : (program : Program) (found : runs.Compared) (result : Compared) → ((d : runs.Difference) → found ≡ runs.differs d → ⊥)
+    → result ≡ told_answer program found → IsDifference result → ⊥
+no_difference program (runs.untame_at because k) result none is difference = subst IsDifference is difference
+no_difference program (runs.differs d) result none is difference = none d refl
+no_difference program (runs.same events) result none is difference = subst IsDifference is difference
+no_difference program runs.limited result none is difference = subst IsDifference is difference
+
+pub never_told : (request : Request) (map : List MapLine) (image : Contents) (p : PreparedParts) (run : SourceParts) (limit : ℕ) (answer : Compared)
+    → NoneDiffers request map image → IsPrepared request p → IsSourceOn p map [] run
+    → answer ≡ told_answer run.layout.program (runs.compared run.layout image [] limit) → IsDifference answer → ⊥
+never_told request map image p run limit answer never is on told =
+    no_difference run.layout.program (runs.compared run.layout image [] limit) answer
+    (subst (λ (l : Layout). (d : runs.Difference) → runs.compared l image [] limit ≡ runs.differs d → ⊥) (sym on.layout) (never p is [] limit)) told

@@ -1,0 +1,4 @@
+mod Trail
+pub mod Writing
+pub mod Sources
+pub mod Demonstrated

@@ -1,0 +1,92 @@
+-- A program at the map that a text spells, and what comes of it and of a file that should be an image.
+use Rattle.std.proofs.Common.{◌≡◌, ◌+◌, ◌≤◌, ◌<◌, ℕ, List, Option, None, Some, Ok, Err, sym, subst, arith}
+use Rattle.rv_word.specs.Layout.{DATA_END, DATA_START}
+use Rattle.text_lines.specs.declared.reason.Reason.{Reason}
+use Rattle.text_lines.specs.declared.end.TextEnd.TheVariants.{Line}
+use Rattle.obj_program.specs.DataAtMap.{init_size}
+use Rattle.obj_program.specs.Program.{Program}
+use Rattle.obj_items.specs.FromObject.{input_of}
+use Rattle.obj_items.specs.Laws.{LastEnds}
+use Rattle.cfi_graph.specs.MapText.{map_of}
+use Rattle.cfi_graph.specs.declared.map.MapLine.{MapLine}
+use Rattle.cfi_flow.specs.GraphAtMap.{Layout}
+use Rattle.cfi_flow.specs.LegalMap.{gates_of}
+use Rattle.cfi_flow.specs.MapFault.{IsWrongLine}
+use Rattle.cfi_flow.specs.Policy.{instruction_at}
+use Rattle.cfi_harden.specs.Hardened.{HasDataRoom}
+use Rattle.cfi_harden.specs.Prepared.{IsPrepared, PreparedParts}
+use Rattle.cfi_harden.specs.Request.{Request}
+use Rattle.src_machine.specs.Beginning.{IsBegun}
+use Rattle.src_machine.specs.Laws.{WrongIsNotLegal}
+use Rattle.src_machine.specs.ProgramAt.{EndsLast, layout_of}
+use Rattle.src_machine.specs.Running.{SourceParts}
+use Rattle.cfi_meaning.specs.Compared.{compared}
+use Rattle.cfi_compare.specs.Told.{told_answer}
+use Rattle.cfi_compare.specs.declared.answer.Compared as A
+use Rattle.cfi_commands.specs.Compare.{IsComparison, IsResult, IsRoomy, IsRunnable, IsSourceAt, first_out}
+use Rattle.cfi_commands.specs.Demonstration.{IsSourceOn}
+
+pub roomy_ends : (request : Request) (p : PreparedParts) → LastEnds → IsPrepared request p → EndsLast p.program
+roomy_ends request p ends prepared = subst (λ (program : Program). EndsLast program) (sym prepared.program) (ends (input_of request.object))
+
+pub data_fits : (p : PreparedParts) → HasDataRoom p.program → DATA_START + init_size p.program ≤ DATA_END
+data_fits p room = omega (arith, room.init)
+
+-- a run that is begun at the entry's section and offset is the program's from its start
+pub source_on : (p : PreparedParts) (input : List ℕ) (lines : List MapLine) (section offset : ℕ) (run : SourceParts)
+    → instruction_at p.program (section, offset) ≡ Some p.entry
+    → IsBegun p.program p.closed lines section offset input run → IsSourceOn p lines input run
+source_on p input lines section offset run at begun =
+    let same : run.layout.entry ≡ p.entry = cc (begun.entry, at) in
+    record {
+      legal = begun.legal;
+      in_range = begun.in_range;
+      layout = subst (λ (entry : ℕ). run.layout ≡ layout_of p.program p.closed (gates_of lines) entry) same begun.layout;
+      state = begun.state;
+      steps = begun.steps;
+    }
+
+pub source_is : (p : PreparedParts) (map input : List ℕ) (lines : List MapLine) (run : SourceParts)
+    → map_of map ≡ Ok lines → IsSourceOn p lines input run → IsSourceAt p map input run
+source_is p map input lines run read on = record {
+  lines = lines;
+  map_is = record { read = read; legal = on.legal };
+  in_range = on.in_range;
+  layout = on.layout;
+  state = on.state;
+  steps = on.steps;
+}
+
+module _ (request : Request) (p : PreparedParts) (map : List ℕ) (roomy : IsRoomy request p) where
+  pub runnable_source : (input : List ℕ) (run : SourceParts) → IsSourceAt p map input run → IsRunnable request p map
+  runnable_source input run source = record {
+    roomy = roomy;
+    in_range = λ lines is.
+        let same : lines ≡ source.lines = cc (is.read, source.map_is.read) in
+        subst (λ (ls : List MapLine). first_out p ls ≡ None) (sym same) source.in_range;
+  }
+
+  pub runnable_text : (line : ℕ) (reason : Reason) → map_of map ≡ Err (Line line reason) → IsRunnable request p map
+  runnable_text line reason wrong = record { roomy = roomy; in_range = λ lines is. absurd (cc (is.read, wrong)) }
+
+  pub runnable_place : (lines : List MapLine) (line : ℕ) → WrongIsNotLegal → map_of map ≡ Ok lines → IsWrongLine p.program p.closed lines line
+      → IsRunnable request p map
+  runnable_place lines line law read wrong = record {
+    roomy = roomy;
+    in_range = λ others is.
+        let same : others ≡ lines = cc (is.read, read) in
+        absurd (law p.program p.closed others line (subst (λ (ls : List MapLine). IsWrongLine p.program p.closed ls line) (sym same) wrong) is.legal);
+  }
+
+  -- what comes of the program's run from its start is the comparison
+  pub comparison_is : (image input : List ℕ) (limit : ℕ) (run : SourceParts) (result : A.Compared) → IsSourceAt p map input run
+      → IsResult run image input limit result → IsComparison request image map input limit result
+  comparison_is image input limit run result source is = record {
+    program = p;
+    lines = source.lines;
+    contents = is.contents;
+    runnable = runnable_source input run source;
+    map_is = source.map_is;
+    image_is = is.image_is;
+    result_is = subst (λ (l : Layout). result ≡ told_answer l.program (compared l is.contents input limit)) source.layout is.result_is;
+  }

@@ -1,0 +1,185 @@
+-- `compare OBJECT ENTRY POLICY IMAGE MAP INPUT STEPS`: the system calls of an image against those of its object, which is run as a
+-- program at the map. The word `none` for POLICY or INPUT means no file.
+use Rattle.std.specs.Prelude.{◌≡◌, ℕ, ◌⊎◌, List, [], ◌∷◌, ◌++◌, codes, ⊤, Option, Some, None, option_map, Ok, Err}
+use Rattle.rv_word.specs.Image.{Contents}
+use Rattle.text_lines.specs.declared.end.TextEnd.TheVariants.{Line}
+use Rattle.elf_image.specs.Fault.{fault_of}
+use Rattle.obj_program.specs.DataAtMap.{init_size}
+use Rattle.obj_program.specs.Range.{out_of_range}
+use Rattle.least.specs.declared.place.Place as found
+use Rattle.cfi_graph.specs.MapText.{map_of}
+use Rattle.cfi_graph.specs.declared.map.MapLine.{MapLine}
+use Rattle.cfi_flow.specs.LegalMap.{IsLegalMap, gates_of}
+use Rattle.cfi_flow.specs.MapFault.{IsWrongLine}
+use Rattle.cfi_flow.specs.Placement.{words_from}
+use Rattle.cfi_harden.specs.Hardened.{HasDataRoom}
+use Rattle.cfi_harden.specs.Prepared.{IsPrepared, PreparedParts}
+use Rattle.cfi_harden.specs.Refused.{Refuses}
+use Rattle.cfi_harden.specs.Request as asks
+use Rattle.cfi_harden.specs.declared.refusal.Refusal.TheVariants as rewriter
+use Rattle.cfi_flow.specs.Source.{source_start}
+use Rattle.src_machine.specs.ProgramAt.{layout_of}
+use Rattle.src_machine.specs.Running.{SourceParts, source_of}
+use Rattle.cfi_meaning.specs.Compared.{compared}
+use Rattle.cfi_compare.specs.Text.{answer_text}
+use Rattle.cfi_compare.specs.Told.{told_answer}
+use Rattle.cfi_compare.specs.declared.answer.Compared as A
+use Rattle.cfi_compare.specs.declared.answer.Compared.TheVariants as answer
+use Rattle.cfi_commands.specs.Opening.{IsImage}
+use Rattle.cfi_files.specs.Reads.{Content, Gave, GaveNamed}
+use Rattle.cfi_files.specs.Refusals.{refusal_line}
+use Rattle.cfi_files.specs.Words.{file_word, steps_of, text_named}
+use Rattle.cfi_commands.specs.declared.compare.CompareOutcome.{CompareOutcome}
+use Rattle.cfi_commands.specs.declared.compare.CompareOutcome.TheVariants as outcome
+use Rattle.cfi_commands.specs.declared.compare.CompareRequest.{CompareRequest}
+use Rattle.cfi_commands.specs.declared.opening.OpenEnd.{OpenEnd}
+use Rattle.cfi_commands.specs.declared.opening.OpenEnd.TheVariants as ends
+use Rattle.cfi_commands.specs.declared.source.MapEnd.{MapEnd}
+use Rattle.cfi_commands.specs.declared.source.MapEnd.TheVariants as at
+use Rattle.cfi_files.specs.declared.refusal.Refusal.{Refusal}
+use Rattle.cfi_files.specs.declared.refusal.Refusal.TheVariants.{Object, Items, NoEntry, Policy, DataTooLarge, RelocRange, Image, Map, MapPlace}
+
+-- what is asked for: the names of the files and of the entry, and how many steps the program takes at most
+pub record CompareWords : Type 0 where
+  pub object : List ℕ
+  pub entry : List ℕ
+  pub policy : Option (List ℕ)
+  pub image : List ℕ
+  pub map : List ℕ
+  pub input : Option (List ℕ)
+  pub limit : ℕ
+
+-- what the words after the command ask for, if they are taken
+abbrev pub compare_words : List (List ℕ) → Option CompareWords
+compare_words (object ∷ entry ∷ policy ∷ image ∷ map ∷ input ∷ steps ∷ []) =
+    option_map (λ limit. record { object = object; entry = entry; policy = file_word policy; image = image; map = map; input = file_word input; limit = limit }) (steps_of steps)
+compare_words words = None
+
+-- the files that are read, in their order
+abbrev pub compare_names : CompareWords → List (Option (List ℕ))
+compare_names asks = Some asks.object ∷ asks.policy ∷ Some asks.image ∷ Some asks.map ∷ asks.input ∷ []
+
+-- a request as the tool keeps it
+abbrev pub compare_asked : CompareRequest → CompareWords
+compare_asked r = record { object = r.object.now; entry = r.entry.now; policy = option_map (λ name. name.now) r.policy; image = r.image.now; map = r.map.now; input = option_map (λ name. name.now) r.input; limit = r.limit }
+
+-- an object is a program, is entered and has a right policy, and its data have room
+pub record IsRoomy (request : asks.Request) (p : PreparedParts) : Type 0 where
+  pub prepared : IsPrepared request p
+  pub room : HasDataRoom p.program
+
+-- the text is a legal map of the program, with these lines
+pub record IsMapOf (p : PreparedParts) (text : List ℕ) (lines : List MapLine) : Type 0 where
+  pub read : map_of text ≡ Ok lines
+  pub legal : IsLegalMap p.program p.closed lines
+
+-- where a value first leaves its range at the map
+abbrev pub first_out : PreparedParts → List MapLine → Option found.Place
+first_out p lines = out_of_range p.program (gates_of lines) (words_from p.closed.classes 0 (gates_of lines))
+
+-- a program that can be run, as far as the map is one
+pub record IsRunnable (request : asks.Request) (p : PreparedParts) (map : List ℕ) : Type 0 where
+  pub roomy : IsRoomy request p
+  pub in_range : (lines : List MapLine) → IsMapOf p map lines → first_out p lines ≡ None
+
+-- a refusal stands, and none before it: of the object, its entry or the policy, of room for data, of a value out of its range at a legal
+-- map, of the image, of the map
+abbrev pub IsCompareRefused : asks.Request → List ℕ → List ℕ → Refusal → Type 0
+IsCompareRefused request image map (Object fault) = Refuses request (rewriter.Object fault)
+IsCompareRefused request image map (Items fault) = Refuses request (rewriter.Items fault)
+IsCompareRefused request image map NoEntry = Refuses request rewriter.NoEntry
+IsCompareRefused request image map (Policy line) = Refuses request (rewriter.Policy line)
+IsCompareRefused request image map (DataTooLarge init last) =
+    (p : PreparedParts) × IsPrepared request p × (init ≡ init_size p.program) × (last ≡ p.program.data_end) × (HasDataRoom p.program → ⊥)
+IsCompareRefused request image map (RelocRange section offset) =
+    (p : PreparedParts) × (lines : List MapLine) × IsRoomy request p × IsMapOf p map lines × (first_out p lines ≡ Some (record { section = section; offset = offset }))
+IsCompareRefused request image map (Image refusal) = (p : PreparedParts) × IsRunnable request p map × (fault_of image ≡ Some refusal)
+IsCompareRefused request image map (Map line reason) =
+    (p : PreparedParts) × IsRunnable request p map × (fault_of image ≡ None) × (map_of map ≡ Err (Line line reason))
+IsCompareRefused request image map (MapPlace line) =
+    (p : PreparedParts) × (lines : List MapLine) × IsRunnable request p map × (fault_of image ≡ None) × (map_of map ≡ Ok lines) × IsWrongLine p.program p.closed lines line
+IsCompareRefused request image map other = ⊥
+
+-- why files are not opened, where only want of memory is free. Only private contracts cite this
+abbrev pub IsCompareEnd : asks.Request → List ℕ → List ℕ → OpenEnd → Type 0
+IsCompareEnd request image map (ends.Refused refusal) = IsCompareRefused request image map refusal
+IsCompareEnd request image map ends.NoMemory = ⊤
+
+-- why a text is no map at which a program runs
+abbrev pub IsMapEnd : PreparedParts → List ℕ → MapEnd → Type 0
+IsMapEnd p map (at.OutOfRange section offset) = (lines : List MapLine) × IsMapOf p map lines × (first_out p lines ≡ Some (record { section = section; offset = offset }))
+IsMapEnd p map (at.Text line reason) = map_of map ≡ Err (Line line reason)
+IsMapEnd p map (at.Place line) = (lines : List MapLine) × (map_of map ≡ Ok lines) × IsWrongLine p.program p.closed lines line
+IsMapEnd p map at.NoMemory = ⊤
+
+-- a program at the map that a text spells, from its start
+pub record IsSourceAt (p : PreparedParts) (map input : List ℕ) (run : SourceParts) : Type 0 where
+  pub lines : List MapLine
+  pub map_is : IsMapOf p map lines
+  pub in_range : first_out p lines ≡ None
+  pub layout : run.layout ≡ layout_of p.program p.closed (gates_of lines) p.entry
+  pub state : source_of run ≡ source_start run.layout input
+  pub steps : run.steps ≡ 0
+
+-- a program's run is at its start
+pub record IsFresh (input : List ℕ) (run : SourceParts) : Type 0 where
+  pub steps : run.steps ≡ 0
+  pub state : source_of run ≡ source_start run.layout input
+
+-- what comes of a program at its start and of a file that should be an image
+pub record IsResult (run : SourceParts) (image input : List ℕ) (limit : ℕ) (result : A.Compared) : Type 0 where
+  pub contents : Contents
+  pub image_is : IsImage image contents
+  pub result_is : result ≡ told_answer run.layout.program (compared run.layout contents input limit)
+
+abbrev pub IsImageCompared : SourceParts → List ℕ → List ℕ → ℕ → CompareOutcome → Type 0
+IsImageCompared run image input limit (outcome.Refused (Image refusal)) = fault_of image ≡ Some refusal
+IsImageCompared run image input limit (outcome.Refused other) = ⊥
+IsImageCompared run image input limit (outcome.Compared result) = IsResult run image input limit result
+
+-- the object is run at the map, the image beside it, and this is how they compare
+pub record IsComparison (request : asks.Request) (image map input : List ℕ) (limit : ℕ) (result : A.Compared) : Type 0 where
+  pub program : PreparedParts
+  pub lines : List MapLine
+  pub contents : Contents
+  pub runnable : IsRunnable request program map
+  pub map_is : IsMapOf program map lines
+  pub image_is : IsImage image contents
+  pub result_is : result ≡ told_answer program.program (compared (layout_of program.program program.closed (gates_of lines) program.entry) contents input limit)
+
+abbrev pub IsCompareOf : asks.Request → List ℕ → List ℕ → List ℕ → ℕ → CompareOutcome → Type 0
+IsCompareOf request image map input limit (outcome.Refused refusal) = IsCompareRefused request image map refusal
+IsCompareOf request image map input limit (outcome.Compared result) = IsComparison request image map input limit result
+
+-- the files gave bytes of which the comparison comes to this
+pub record ExplainsCompare (content : Content) (words : CompareWords) (result : CompareOutcome) : Type 0 where
+  pub object_bytes : List ℕ
+  pub policy_bytes : List ℕ
+  pub image_bytes : List ℕ
+  pub map_bytes : List ℕ
+  pub input_bytes : List ℕ
+  pub object_gave : Gave (content words.object) object_bytes
+  pub policy_gave : GaveNamed content words.policy policy_bytes
+  pub image_gave : Gave (content words.image) image_bytes
+  pub map_gave : Gave (content words.map) map_bytes
+  pub input_gave : GaveNamed content words.input input_bytes
+  pub compare_is : IsCompareOf (record { object = object_bytes; entry = words.entry; policy = text_named words.policy policy_bytes }) image_bytes map_bytes input_bytes words.limit result
+
+abbrev pub compare_line : CompareOutcome → List ℕ
+compare_line (outcome.Refused refusal) = refusal_line refusal
+compare_line (outcome.Compared result) = answer_text result
+
+abbrev pub answer_status : A.Compared → ℕ
+answer_status (answer.Same events) = 0
+answer_status (answer.Differs index source image) = 1
+answer_status (answer.Untame because section offset) = 13
+answer_status answer.Limit = 12
+
+abbrev pub compare_status : CompareOutcome → ℕ
+compare_status (outcome.Refused refusal) = 1
+compare_status (outcome.Compared result) = answer_status result
+
+-- the files spell an object, an image and a map of which the comparison comes to this; the text tells it
+abbrev pub IsTold : Content → CompareWords → ℕ → List ℕ → Type 0
+IsTold content words status text =
+    (result : A.Compared) × ExplainsCompare content words (outcome.Compared result) × (status ≡ answer_status result) × (text ≡ answer_text result ++ codes "\n")

@@ -1,0 +1,52 @@
+-- Words of private contracts: a generated object as a request, and a map at which its program runs.
+use Rattle.std.specs.Prelude.{◌≡◌, ℕ, List, codes, length, ⊤, None}
+use Rattle.rv_word.specs.Image.{Contents, IsImageSize}
+use Rattle.elf_image.specs.Spelling.{spelling}
+use Rattle.elf_writer.specs.Object.{object_bytes}
+use Rattle.cfi_graph.specs.declared.map.MapLine.{MapLine}
+use Rattle.cfi_flow.specs.LegalMap.{IsLegalMap, gates_of}
+use Rattle.cfi_flow.specs.Source.{source_start}
+use Rattle.cfi_harden.specs.Hardened.{HasDataRoom}
+use Rattle.cfi_harden.specs.Prepared.{IsPrepared, PreparedParts}
+use Rattle.cfi_harden.specs.Request as asks
+use Rattle.cfi_meaning.specs.NeverDiffers.{NoRunDiffers}
+use Rattle.cfi_compare.specs.declared.answer.Compared.{Compared}
+use Rattle.cfi_compare.specs.declared.answer.Compared.TheVariants.{Differs}
+use Rattle.src_machine.specs.ProgramAt.{layout_of}
+use Rattle.src_machine.specs.Running.{SourceParts, source_of}
+use Rattle.cfi_gen.specs.Demo.{demo_parts}
+use Rattle.cfi_commands.specs.Compare.{first_out}
+
+abbrev pub IsDrawn : List ℕ → Type 0
+IsDrawn object = (number : ℕ) × (object ≡ object_bytes (demo_parts number))
+
+pub record CanRunAt (p : PreparedParts) (map : List MapLine) : Type 0 where
+  pub legal : IsLegalMap p.program p.closed map
+  pub room : HasDataRoom p.program
+  pub in_range : first_out p map ≡ None
+
+-- a request's program runs at the map
+abbrev pub Fits : asks.Request → List MapLine → Type 0
+Fits request map = (p : PreparedParts) → IsPrepared request p → CanRunAt p map
+
+-- a program's run is at its start, at a map
+pub record IsSourceOn (p : PreparedParts) (map : List MapLine) (input : List ℕ) (run : SourceParts) : Type 0 where
+  pub legal : IsLegalMap p.program p.closed map
+  pub in_range : first_out p map ≡ None
+  pub layout : run.layout ≡ layout_of p.program p.closed (gates_of map) p.entry
+  pub state : source_of run ≡ source_start run.layout input
+  pub steps : run.steps ≡ 0
+
+-- an image is the one that a file spells
+pub record IsImageIn (bytes : List ℕ) (image : Contents) : Type 0 where
+  pub image_is : bytes ≡ spelling image.code image.init
+  pub only : (code init : List ℕ) → IsImageSize (length code) (length init) → bytes ≡ spelling code init → (image.code ≡ code) × (image.init ≡ init)
+
+-- no run of a request's program at a map differs from the image's
+abbrev pub NoneDiffers : asks.Request → List MapLine → Contents → Type 0
+NoneDiffers request map image =
+    (p : PreparedParts) → IsPrepared request p → NoRunDiffers (layout_of p.program p.closed (gates_of map) p.entry) image
+
+abbrev pub IsDifference : Compared → Type 0
+IsDifference (Differs index source image) = ⊤
+IsDifference other = ⊥

@@ -1,0 +1,143 @@
+-- `rewrite OBJECT ENTRY POLICY IMAGE GRAPH MAP`: a hardened image of an object, its graph and its map. The word `none` for POLICY
+-- means no file.
+use Rattle.std.specs.Prelude.{◌≡◌, ◌≢◌, ℕ, ◌||◌, if◌then◌else◌, List, [], ◌∷◌, ◌++◌, length, count_by, codes, Option, Some, None, option_map}
+use Rattle.std.specs.Fmt.{decimal}
+use Rattle.std.specs.Str.{bytes_eq}
+use Rattle.rv_word.specs.Image.{IsImageSize}
+use Rattle.elf_image.specs.Spelling.{spelling}
+use Rattle.cfi_graph.specs.Graph.{GraphParts, is_class, is_site}
+use Rattle.cfi_graph.specs.MapText.{map_text}
+use Rattle.cfi_graph.specs.Text.{graph_text}
+use Rattle.cfi_harden.specs.Hardened.{HardenedParts, IsHardened}
+use Rattle.cfi_harden.specs.Refused.{Refuses}
+use Rattle.cfi_harden.specs.Request as asks
+use Rattle.cfi_harden.specs.declared.refusal.Refusal.TheVariants as rewriter
+use Rattle.cfi_meaning.specs.Hardened.{KeepsMeaningAtMap, NeverDiffersAtMap}
+use Rattle.cfi_files.specs.Lines.{with_newline}
+use Rattle.cfi_files.specs.Reads.{Content, Gave, GaveNamed}
+use Rattle.cfi_files.specs.Refusals.{refusal_line}
+use Rattle.cfi_files.specs.Words.{file_word, text_named}
+use Rattle.cfi_files.specs.Writes.{OutputParts, Wrote}
+use Rattle.cfi_commands.specs.declared.rewrite.RewriteOutcome.{RewriteOutcome}
+use Rattle.cfi_commands.specs.declared.rewrite.RewriteOutcome.TheVariants as outcome
+use Rattle.cfi_commands.specs.declared.rewrite.RewriteRequest.{RewriteRequest}
+use Rattle.cfi_commands.specs.declared.rewrite.Rewritten.{Rewritten}
+use Rattle.cfi_commands.specs.declared.rewrite.Sizes.{Sizes}
+use Rattle.cfi_files.specs.declared.refusal.Refusal.{Refusal}
+use Rattle.cfi_files.specs.declared.refusal.Refusal.TheVariants.{Object, Items, NoEntry, Policy, CodeTooLarge, DataTooLarge, RelocRange}
+use Rattle.tool_io.specs.declared.files.Files.{Ghosts}
+
+-- what is asked for: the names of the files that are read and of those that are written, and that of the entry
+pub record RewriteWords : Type 0 where
+  pub object : List ℕ
+  pub entry : List ℕ
+  pub policy : Option (List ℕ)
+  pub image : List ℕ
+  pub graph : List ℕ
+  pub map : List ℕ
+
+-- what the words after the command ask for, if they are taken: no two names of files that are written are equal
+abbrev pub rewrite_words : List (List ℕ) → Option RewriteWords
+rewrite_words (object ∷ entry ∷ policy ∷ image ∷ graph ∷ map ∷ []) =
+    if bytes_eq image graph || bytes_eq image map || bytes_eq graph map then None
+    else Some (record { object = object; entry = entry; policy = file_word policy; image = image; graph = graph; map = map })
+rewrite_words words = None
+
+-- no two of the files that are written have one name
+pub record AreNamedApart (words : RewriteWords) : Type 0 where
+  pub image_graph : words.image ≢ words.graph
+  pub image_map : words.image ≢ words.map
+  pub graph_map : words.graph ≢ words.map
+
+-- the files that are read, in their order
+abbrev pub rewrite_names : RewriteWords → List (Option (List ℕ))
+rewrite_names asks = Some asks.object ∷ asks.policy ∷ []
+
+-- a request as the tool keeps it
+abbrev pub rewrite_asked : RewriteRequest → RewriteWords
+rewrite_asked r = record { object = r.object.now; entry = r.entry.now; policy = option_map (λ name. name.now) r.policy; image = r.image.now; graph = r.graph.now; map = r.map.now }
+
+-- an object that some bytes spell, under a policy that others may spell, is to be hardened
+abbrev pub request_of : RewriteWords → List ℕ → Option (List ℕ) → asks.Request
+request_of words object policy = record { object = object; entry = words.entry; policy = policy }
+
+-- a refusal stands against a request, and none before it
+abbrev pub IsRefused : asks.Request → Refusal → Type 0
+IsRefused request (Object fault) = Refuses request (rewriter.Object fault)
+IsRefused request (Items fault) = Refuses request (rewriter.Items fault)
+IsRefused request NoEntry = Refuses request rewriter.NoEntry
+IsRefused request (Policy line) = Refuses request (rewriter.Policy line)
+IsRefused request (CodeTooLarge bytes) = Refuses request (rewriter.CodeTooLarge bytes)
+IsRefused request (DataTooLarge init last) = Refuses request (rewriter.DataTooLarge init last)
+IsRefused request (RelocRange section offset) = Refuses request (rewriter.RelocRange section offset)
+IsRefused request other = ⊥
+
+-- the bytes of a file are an image's
+abbrev pub IsSpelled : List ℕ → Type 0
+IsSpelled bytes = (code : List ℕ) × (init : List ℕ) × IsImageSize (length code) (length init) × (bytes ≡ spelling code init)
+
+-- what is told of an image and its graph: the lengths of code and initialised data, and the numbers of lines
+pub record HasSizes (image : List ℕ) (graph : GraphParts) (sizes : Sizes) : Type 0 where
+  pub code : List ℕ
+  pub init : List ℕ
+  pub image_is : image ≡ spelling code init
+  pub code_size : sizes.code ≡ length code
+  pub data_size : sizes.data ≡ length init
+  pub classes : sizes.classes ≡ count_by is_class graph.lines
+  pub sites : sizes.sites ≡ count_by is_site graph.lines
+
+-- a hardened program as it is written: its image, and the spellings of its graph and its map, under the names that were asked for
+pub record IsSpelledOut (words : RewriteWords) (hardened : HardenedParts) (written : Rewritten) : Type 0 where
+  pub image : written.image ≡ record { name = words.image; bytes = hardened.image }
+  pub graph : written.graph ≡ record { name = words.graph; bytes = graph_text hardened.graph }
+  pub map : written.map ≡ record { name = words.map; bytes = map_text hardened.map }
+  pub sizes : HasSizes hardened.image hardened.graph written.sizes
+
+-- a hardened program of a request, which means what the request's program means
+pub record IsMade (request : asks.Request) (hardened : HardenedParts) : Type 0 where
+  pub is_hardened : IsHardened request hardened
+  pub meaning_kept : KeepsMeaningAtMap request hardened
+  pub never_differs : NeverDiffersAtMap request hardened
+
+-- the object is refused, or hardened
+abbrev pub IsRewriteOf : RewriteWords → List ℕ → Option (List ℕ) → RewriteOutcome → Type 0
+IsRewriteOf words object policy (outcome.Refused refusal) = IsRefused (request_of words object policy) refusal
+IsRewriteOf words object policy (outcome.Rewritten written) =
+    (hardened : HardenedParts) × IsMade (request_of words object policy) hardened × IsSpelledOut words hardened written
+
+-- the files gave an object and a policy of which the rewriting comes to this
+pub record ExplainsRewrite (content : Content) (words : RewriteWords) (result : RewriteOutcome) : Type 0 where
+  pub object_bytes : List ℕ
+  pub policy_bytes : List ℕ
+  pub object_gave : Gave (content words.object) object_bytes
+  pub policy_gave : GaveNamed content words.policy policy_bytes
+  pub apart : AreNamedApart words
+  pub rewrite_is : IsRewriteOf words object_bytes (text_named words.policy policy_bytes) result
+
+-- the files of a hardened program, in the order in which they are written
+abbrev pub outputs_of : Rewritten → List OutputParts
+outputs_of written = written.image ∷ written.graph ∷ written.map ∷ []
+
+abbrev pub rewrite_outputs : RewriteOutcome → List OutputParts
+rewrite_outputs (outcome.Refused refusal) = []
+rewrite_outputs (outcome.Rewritten written) = outputs_of written
+
+abbrev pub sizes_text : Sizes → List ℕ
+sizes_text sizes =
+    codes "code " ++ decimal sizes.code ++ codes " data " ++ decimal sizes.data ++ codes " classes " ++ decimal sizes.classes ++ codes " sites " ++ decimal sizes.sites
+
+abbrev pub rewrite_line : RewriteOutcome → List ℕ
+rewrite_line (outcome.Refused refusal) = refusal_line refusal
+rewrite_line (outcome.Rewritten written) = codes "rewritten " ++ sizes_text written.sizes
+
+abbrev pub rewrite_status : RewriteOutcome → ℕ
+rewrite_status (outcome.Refused refusal) = 1
+rewrite_status (outcome.Rewritten written) = 0
+
+-- the files gave an object and a policy; the image, the graph and the map of the hardened program were written, each whole; the text
+-- tells their sizes
+pub record IsRewritten {S : Type 0} (files : Ghosts S) (before now : S) (words : RewriteWords) (text : List ℕ) : Type 0 where
+  pub written : Rewritten
+  pub explained : ExplainsRewrite (files.content before) words (outcome.Rewritten written)
+  pub wrote : Wrote files before now (outputs_of written) None
+  pub text_is : text ≡ with_newline (codes "rewritten " ++ sizes_text written.sizes)

@@ -1,0 +1,176 @@
+ghost use Rattle.std.specs.Prelude.{◌≡◌, ◌≤◌, IfOk, IfSome, option_map, ◌∷◌, []};
+ghost use Rattle.text_lines.specs.Decimal.{MAX_STEP};
+ghost use Rattle.cfi_commands.specs.Demo.{ExplainsDemo, demo_asked, demo_status, demo_text, demo_words};
+
+use crate::compare::answer_status;
+use crate::demonstration::{compare_at, image_in, made, run_accepted};
+use crate::report::{end_status, report_text};
+use cfi_compare::Compared;
+use cfi_files::{line, status, steps};
+use cfi_gen::object_of;
+use cfi_single::laws::prepared_in_one_way;
+use cfi_words::DemoWords;
+use cfi_step::{RunEnd, RunReport};
+use rv_word::NoMemory;
+use std::alloc::Global;
+use std::fmt;
+
+/// What `demo` is asked for: the number that an object is made from.
+#[derive(Clone, Copy)]
+pub struct DemoRequest {
+    number: u32,
+}
+
+impl DemoRequest {
+    /// What the words after the command ask for, if they are taken.
+    pub fn of(words: DemoWords<'_>) -> Option<Self>
+        ensures { option_map demo_asked result ≡ demo_words (words.entry.number.now ∷ []) }
+    {
+        Some(DemoRequest {
+            number: steps(words.number)? as u32,
+        })
+    }
+}
+
+/// What is told where all went well: the bytes of the object, of the image and of its code, how many classes and sites the graph
+/// has, how the run ended and how long it and its walk were, and how many system calls were compared.
+#[derive(Clone, Copy)]
+pub struct Shown {
+    object: usize,
+    image: usize,
+    code: usize,
+    classes: u64,
+    sites: u64,
+    exit: u8,
+    steps: u64,
+    walk: u64,
+    calls: u64,
+}
+
+/// What a demonstration comes to.
+#[derive(Drop)]
+pub enum DemoOutcome {
+    /// The run did not come to an exit.
+    Ran(RunReport),
+    /// It did, and the comparison came to no end.
+    Compared(Compared),
+    /// It did, and the program's run has the same system calls and the same end.
+    Shown(Shown),
+}
+
+/// What is told of the image, and of the run.
+#[derive(Clone, Copy)]
+struct ImageLine(Shown);
+
+#[derive(Clone, Copy)]
+struct RunLine(Shown);
+
+impl fmt::Display for ImageLine {
+    ghost use Rattle.std.specs.Prelude.{Some};
+    ghost use Rattle.cfi_commands.specs.Demo.{image_line};
+
+    ghost output = { λ line. Some (image_line line.0) };
+
+    fn fmt<W: fmt::Write>(&self, f: &mut fmt::Formatter<W>) -> fmt::Result {
+        let Shown {
+            image,
+            code,
+            classes,
+            sites,
+            ..
+        } = self.0;
+        write!(
+            f,
+            "image {image} code {code} classes {classes} sites {sites}"
+        )
+    }
+}
+
+impl fmt::Display for RunLine {
+    ghost use Rattle.std.specs.Prelude.{Some};
+    ghost use Rattle.cfi_commands.specs.Demo.{run_line};
+
+    ghost output = { λ line. Some (run_line line.0) };
+
+    fn fmt<W: fmt::Write>(&self, f: &mut fmt::Formatter<W>) -> fmt::Result {
+        let Shown {
+            exit, steps, walk, ..
+        } = self.0;
+        write!(f, "run exit {exit} steps {steps} walk {walk}")
+    }
+}
+
+impl fmt::Display for Shown {
+    ghost use Rattle.std.specs.Prelude.{Some};
+    ghost use Rattle.cfi_commands.specs.Demo.{shown_text};
+
+    ghost output = { λ shown. Some (shown_text shown) };
+
+    fn fmt<W: fmt::Write>(&self, f: &mut fmt::Formatter<W>) -> fmt::Result {
+        let Shown { object, calls, .. } = *self;
+        let image = ImageLine(*self);
+        let run = RunLine(*self);
+        write!(
+            f,
+            "object {object} functions 2000\n{image}\n{run}\ncompare same {calls}"
+        )
+    }
+}
+
+impl DemoOutcome {
+    /// The status with which the program ends.
+    pub fn status(&self) -> u8
+        ensures { result ≡ demo_status self.now }
+    {
+        match self {
+            DemoOutcome::Ran(report) => end_status(report.end),
+            DemoOutcome::Compared(compared) => answer_status(compared),
+            DemoOutcome::Shown(_) => status::WELL,
+        }
+    }
+
+    /// The text that is put.
+    pub fn text(&self, alloc: Global) -> Result<Vec<u8>, NoMemory>
+        ensures { IfOk result (λ text. text.items ≡ demo_text self.now) }
+    {
+        match self {
+            DemoOutcome::Ran(report) => report_text(alloc, report),
+            DemoOutcome::Compared(compared) => line(alloc, compared),
+            DemoOutcome::Shown(shown) => line(alloc, shown),
+        }
+    }
+}
+
+/// Hardens the object of a number, verifies its image, runs it, and compares the program's run with it.
+#[tactic(auto, using(crate::proofs::Demonstrated::spelled_of, crate::proofs::Demonstrated::well_formed_of, crate::proofs::Demonstrated::fits_of, crate::proofs::Demonstrated::none_differs))]
+pub fn demonstrate(alloc: Global, request: &DemoRequest) -> Result<DemoOutcome, NoMemory>
+    ensures { IfOk result (ExplainsDemo request.now.number) }
+{
+    prepared_in_one_way();
+    let file = object_of(alloc, request.number)?;
+    let object = file.as_slice();
+    let hardened = made(alloc, object)?;
+    let image = image_in(&hardened.image);
+    let report = run_accepted(alloc, &image, &hardened.graph)?;
+    let RunEnd::Exit(exit) = report.end else {
+        return Ok(DemoOutcome::Ran(report));
+    };
+    match compare_at(alloc, object, &hardened.map, &image)? {
+        Compared::Same(calls) => Ok(DemoOutcome::Shown(Shown {
+            object: object.len(),
+            image: hardened.image.len(),
+            code: image.code().len(),
+            classes: hardened.graph.classes(),
+            sites: hardened.graph.sites(),
+            exit,
+            steps: report.steps,
+            walk: report.walk,
+            calls,
+        })),
+        Compared::Differs(..) => unreachable!(),
+        Compared::Untame(reason, section, offset) => Ok(DemoOutcome::Compared(Compared::Untame(
+            reason, section, offset,
+        ))),
+        Compared::Limit => Ok(DemoOutcome::Compared(Compared::Limit)),
+    }
+}

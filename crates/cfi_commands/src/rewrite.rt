@@ -1,0 +1,245 @@
+ghost use Rattle.std.specs.Prelude.{◌≡◌, [], None, Err, IfOk, IfErr, IfSome, OnOk, option_copied, option_map, ◌∷◌};
+ghost use Rattle.tool_io.specs.Faults.{Counts};
+ghost use Rattle.tool_io.specs.Reading.{CountsReads, IsOnlyRead};
+ghost use Rattle.tool_io.specs.declared.ends.OutEnd.TheVariants as OutEnd;
+ghost use Rattle.cfi_harden.specs.Refused.{Refuses};
+ghost use Rattle.cfi_harden.specs.Request.{Request};
+ghost use Rattle.cfi_files.specs.Reads.{IsFault, IsStop, IsTooLong};
+ghost use Rattle.cfi_files.specs.Words.{text_named};
+ghost use Rattle.cfi_files.specs.Writes.{AreApart, IsCut, IsTorn, KeepsReads, Wrote};
+ghost use Rattle.cfi_commands.specs.Rewrite.{AreNamedApart, ExplainsRewrite, HasSizes, IsRefused, IsRewriteOf, IsSpelled, IsSpelledOut, outputs_of, rewrite_asked, rewrite_names, rewrite_outputs, rewrite_status, rewrite_words};
+
+use cfi_files::{Output, Refusal, Stop, file_word, read_all, status, text_named};
+use cfi_graph::{Graph, write_graph, write_map};
+use cfi_words::RewriteWords;
+use cfi_rewrite::{Hardened, rewrite};
+use elf_image::read_image;
+use rv_word::NoMemory;
+use std::alloc::Global;
+use std::fmt;
+use tool_io::{Files, OutEnd};
+
+/// What `rewrite` is asked for: the names of an object, of its entry and of a policy, and those of the image, the graph and the
+/// map that it writes.
+#[derive(Clone, Copy)]
+pub struct RewriteRequest<'a> {
+    object: &'a str,
+    entry: &'a str,
+    policy: Option<&'a str>,
+    image: &'a str,
+    graph: &'a str,
+    map: &'a str,
+}
+
+impl<'a> RewriteRequest<'a> {
+    /// What the words after the command ask for, if they are taken: no two of the names of files to write are equal.
+    pub fn of(words: RewriteWords<'a>) -> Option<Self>
+        ensures asked { option_map rewrite_asked result
+            ≡ rewrite_words (words.entry.object.now ∷ words.entry.entry.now ∷ words.entry.policy.now ∷ words.entry.image.now ∷ words.entry.graph.now ∷ words.entry.map.now ∷ []) }
+        ensures apart { IfSome result (λ request. AreNamedApart (rewrite_asked request)) }
+    {
+        if words.image == words.graph || words.image == words.map || words.graph == words.map {
+            return None;
+        }
+        Some(RewriteRequest {
+            object: words.object,
+            entry: words.entry,
+            policy: file_word(words.policy),
+            image: words.image,
+            graph: words.graph,
+            map: words.map,
+        })
+    }
+}
+
+/// A hardened program as it is written: three files, and the sizes that are told of it.
+#[derive(Drop)]
+pub struct Rewritten<'a> {
+    image: Output<'a>,
+    graph: Output<'a>,
+    map: Output<'a>,
+    sizes: Sizes,
+}
+
+/// How many bytes of code and of initialised data an image has, and how many classes and sites its graph has.
+#[derive(Clone, Copy)]
+pub struct Sizes {
+    code: usize,
+    data: usize,
+    classes: u64,
+    sites: u64,
+}
+
+/// What `rewrite` comes to.
+#[derive(Drop)]
+pub enum RewriteOutcome<'a> {
+    /// The object is not hardened.
+    Refused(Refusal),
+    Rewritten(Rewritten<'a>),
+}
+
+impl fmt::Display for RewriteOutcome<'_> {
+    ghost use Rattle.std.specs.Prelude.{Some};
+    ghost use Rattle.cfi_commands.specs.Rewrite.{rewrite_line};
+
+    ghost output = { λ outcome. Some (rewrite_line outcome) };
+
+    fn fmt<W: fmt::Write>(&self, f: &mut fmt::Formatter<W>) -> fmt::Result {
+        match self {
+            RewriteOutcome::Refused(refusal) => write!(f, "{refusal}"),
+            RewriteOutcome::Rewritten(written) => {
+                let Sizes {
+                    code,
+                    data,
+                    classes,
+                    sites,
+                } = written.sizes;
+                write!(
+                    f,
+                    "rewritten code {code} data {data} classes {classes} sites {sites}"
+                )
+            }
+        }
+    }
+}
+
+impl Rewritten<'_> {
+    /// Writes the image, the graph and the map, in this order.
+    #[tactic(auto, using(crate::proofs::Writing::first_torn, crate::proofs::Writing::second_torn, crate::proofs::Writing::third_torn, crate::proofs::Writing::first_cut, crate::proofs::Writing::second_cut, crate::proofs::Writing::third_cut, crate::proofs::Writing::three_whole))]
+    fn write<F: Files>(&self, files: &mut F) -> Result<(), OutEnd>
+        requires apart { AreApart (outputs_of self.now) }
+        ensures whole { OnOk result (Wrote F.Files files.old files.new (outputs_of self.now) None) }
+        ensures torn { result ≡ Err OutEnd.Failed → IsTorn F.Files files.old files.new (outputs_of self.now) }
+        ensures cut { result ≡ Err OutEnd.NoMemory → IsCut F.Files files.old files.new (outputs_of self.now) }
+        ensures faults { Counts (result ≡ Err OutEnd.Failed) (F.write_faults files.old) (F.write_faults files.new) }
+        ensures reads { KeepsReads F.Files files.old files.new }
+    {
+        self.image.write(files)?;
+        self.graph.write(files)?;
+        self.map.write(files)
+    }
+}
+
+impl RewriteOutcome<'_> {
+    /// The status with which the program ends.
+    pub fn status(&self) -> u8
+        ensures { result ≡ rewrite_status self.now }
+    {
+        match self {
+            RewriteOutcome::Refused(_) => status::REFUSED,
+            RewriteOutcome::Rewritten(_) => status::WELL,
+        }
+    }
+
+    /// Writes the files, if there are any.
+    pub fn write<F: Files>(&self, files: &mut F) -> Result<(), OutEnd>
+        requires apart { AreApart (rewrite_outputs self.now) }
+        ensures whole { OnOk result (Wrote F.Files files.old files.new (rewrite_outputs self.now) None) }
+        ensures torn { result ≡ Err OutEnd.Failed → IsTorn F.Files files.old files.new (rewrite_outputs self.now) }
+        ensures cut { result ≡ Err OutEnd.NoMemory → IsCut F.Files files.old files.new (rewrite_outputs self.now) }
+        ensures faults { Counts (result ≡ Err OutEnd.Failed) (F.write_faults files.old) (F.write_faults files.new) }
+        ensures reads { KeepsReads F.Files files.old files.new }
+        ensures unwritten { rewrite_outputs self.now ≡ [] → IsOnlyRead F.Files files.old files.new }
+    {
+        match self {
+            RewriteOutcome::Refused(_) => Ok(()),
+            RewriteOutcome::Rewritten(written) => written.write(files),
+        }
+    }
+}
+
+/// A refusal of the rewriter as one of the tool, unless it is want of memory.
+fn refused(refusal: cfi_rewrite::Refusal) -> Result<Refusal, NoMemory>
+    ensures { (request : Request) → Refuses request refusal → IfOk result (IsRefused request) }
+{
+    Ok(match refusal {
+        cfi_rewrite::Refusal::Object(fault) => Refusal::Object(fault),
+        cfi_rewrite::Refusal::Items(fault) => Refusal::Items(fault),
+        cfi_rewrite::Refusal::NoEntry => Refusal::NoEntry,
+        cfi_rewrite::Refusal::Policy(line) => Refusal::Policy(line),
+        cfi_rewrite::Refusal::CodeTooLarge(bytes) => Refusal::CodeTooLarge(bytes),
+        cfi_rewrite::Refusal::DataTooLarge(init, end) => Refusal::DataTooLarge(init, end),
+        cfi_rewrite::Refusal::RelocRange(section, offset) => Refusal::RelocRange(section, offset),
+        cfi_rewrite::Refusal::NoMemory => return Err(NoMemory),
+    })
+}
+
+/// What is told of an image and its graph.
+fn sizes_of(image: &[u8], graph: &Graph) -> Sizes
+    requires { IsSpelled image.now }
+    ensures { HasSizes image.now graph.now result }
+{
+    match read_image(image) {
+        Ok(image) => Sizes {
+            code: image.code().len(),
+            data: image.init().len(),
+            classes: graph.classes(),
+            sites: graph.sites(),
+        },
+        Err(_) => unreachable!(),
+    }
+}
+
+/// A hardened program as it is to be written.
+fn spelled_out<'a>(
+    alloc: Global,
+    request: &RewriteRequest<'a>,
+    hardened: Hardened,
+) -> Result<Rewritten<'a>, NoMemory>
+    requires { IsSpelled hardened.image }
+    ensures { IfOk result (IsSpelledOut (rewrite_asked request.now) hardened) }
+{
+    let Hardened { image, graph, map } = hardened;
+    let sizes = sizes_of(image.as_slice(), &graph);
+    let graph = write_graph(alloc, &graph)?;
+    let map = write_map(alloc, &map)?;
+    Ok(Rewritten {
+        image: Output {
+            name: request.image,
+            bytes: image,
+        },
+        graph: Output {
+            name: request.graph,
+            bytes: graph,
+        },
+        map: Output {
+            name: request.map,
+            bytes: map,
+        },
+        sizes,
+    })
+}
+
+/// Hardens an object that some bytes spell, under a policy that others spell.
+fn rewrite_bytes<'a>(
+    alloc: Global,
+    request: &RewriteRequest<'a>,
+    object: &[u8],
+    policy: Option<&[u8]>,
+) -> Result<RewriteOutcome<'a>, NoMemory>
+    ensures { IfOk result (IsRewriteOf (rewrite_asked request.now) object.now (option_copied policy.entry)) }
+{
+    match rewrite(alloc, object, request.entry.as_bytes(), policy) {
+        Ok(hardened) => Ok(RewriteOutcome::Rewritten(spelled_out(alloc, request, hardened)?)),
+        Err(refusal) => Ok(RewriteOutcome::Refused(refused(refusal)?)),
+    }
+}
+
+/// Reads the object and the policy and hardens the object.
+pub fn rewrite_files<'a, F: Files>(
+    alloc: Global,
+    request: &RewriteRequest<'a>,
+    files: &mut F,
+) -> Result<RewriteOutcome<'a>, Stop<'a>>
+    requires apart { AreNamedApart (rewrite_asked request.now) }
+    ensures explained { IfOk result (ExplainsRewrite (F.content files.old) (rewrite_asked request.now)) }
+    ensures stopped { IfErr result
+        (IsStop (F.content files.old) (F.failed_name files.new) (rewrite_names (rewrite_asked request.now))) }
+    ensures only_read { IsOnlyRead F.Files files.old files.new }
+    ensures counted { CountsReads F.Files files.old files.new (IsFault result) (IsTooLong result) }
+{
+    let names = [Some(request.object), request.policy];
+    let bytes = read_all(alloc, &names, files)?;
+    let policy = text_named(request.policy, &bytes[1]);
+    Ok(rewrite_bytes(alloc, request, &bytes[0], policy)?)
+}

@@ -1,0 +1,3 @@
+pub mod Capped
+pub mod Gathered
+pub mod Unchanged

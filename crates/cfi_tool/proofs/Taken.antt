@@ -1,0 +1,31 @@
+-- What a command line is taken for, by how `clap` reads it.
+use Rattle.std.proofs.Common.{◌≡◌, ◌∙◌, ℕ, List, Option, None, Some, Ok, Err, ap, sym}
+use Rattle.std.specs.Option.{option_map}
+use Rattle.cfi_words.specs.Plain.{TakesPlain}
+use Rattle.cfi_words.specs.Reading.{Gives, reading, request_of as words_of}
+use Rattle.cfi_words.specs.declared.asked.Asked.{Asked}
+use Rattle.cfi_words.specs.declared.end.WordsEnd.{WordsEnd}
+use Rattle.cfi_words.specs.declared.end.WordsEnd.TheVariants.{Help, Version, Refused, NoMemory}
+use Rattle.cfi_tool.specs.Request.{IsKept, IsRight, IsWordsEnd, TakenPlainly, asked, if_request, request_of, taken, taken_by, untaken}
+use Rattle.cfi_tool.specs.declared.request.Request as R
+
+module _ (words : List (List ℕ)) where
+  pub taken_plainly : TakesPlain words → TakenPlainly words
+  unfolding taken
+  taken_plainly takes program name own plain are = ap taken_by (takes program name own plain are)
+
+  pub kept : (given : Asked) (request : R.Request) → Gives (reading words) (Ok given) → option_map asked (Some request) ≡ request_of (words_of given)
+      → IsRight (asked request) → IsKept (taken words) request
+  unfolding taken
+  kept given request gives same right = record { asked_is = ap taken_by gives ∙ sym (ap if_request same); right = right }
+
+  pub not_kept : (given : Asked) → Gives (reading words) (Ok given) → option_map asked None ≡ request_of (words_of given) → taken words ≡ untaken
+  unfolding taken
+  not_kept given gives same = ap taken_by gives ∙ sym (ap if_request same)
+
+  pub words_end : (end : WordsEnd) → Gives (reading words) (Err end) → IsWordsEnd (taken words) end
+  unfolding taken
+  words_end (Help text) gives = ap taken_by gives
+  words_end (Version text) gives = ap taken_by gives
+  words_end Refused gives = ap taken_by gives
+  words_end NoMemory gives = gives

@@ -1,3 +1,0 @@
-pub(crate) mod rewrite;
-pub(crate) mod run;
-pub(crate) mod verify;
