@@ -1,5 +1,5 @@
-/* What a compiler calls for products, quotients and remainders, which RV64I has no instructions for. A compiler's own library
-   has these functions in assembly that links to t0, which hardening refuses. */
+/* What a compiler calls for products, quotients and remainders, which RV64I has no instructions for. In gcc's own library the
+   signed quotients return through t0, which is a computed jump to a place that no graph lists (docs/COMPILING.md). */
 
 typedef unsigned long word;
 

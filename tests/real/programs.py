@@ -89,8 +89,9 @@ def run(command, given=b"", **options):
 
 
 def must(command):
+    """The output of a command that must end well."""
     done = run(command)
-    if done.returncode or done.stderr:
+    if done.returncode:
         raise RuntimeError("%s: status %d\n%s" % (" ".join(command), done.returncode, (done.stdout + done.stderr).decode()))
     return done.stdout
 

@@ -126,8 +126,8 @@ def main():
     words.add_argument("--keep", metavar="FOLDER", help="leaves all files there")
     options = words.parse_args()
     try:
-        for name in ("qemu-riscv64", "gcc"):
-            programs.tool(name)
+        programs.tool("qemu-riscv64", "qemu-riscv64-static")
+        programs.tool("gcc", "cc", "clang")
         programs.binutils("ld")
     except Missing as what:
         print("not run, since there is no %s: tests/real/run.py" % what)
