@@ -123,8 +123,10 @@ def try_cases(found, tool, folder):
 def main():
     words = argparse.ArgumentParser(description=__doc__, formatter_class=argparse.RawDescriptionHelpFormatter)
     words.add_argument("--program", default=programs.PROGRAM)
-    words.add_argument("--keep", metavar="FOLDER", help="leaves all files there")
+    words.add_argument("--keep", metavar="FOLDER", help="leaves all files in this new folder")
     options = words.parse_args()
+    if options.keep and os.path.exists(options.keep):
+        words.error("%s is there already" % options.keep)
     try:
         programs.tool("qemu-riscv64", "qemu-riscv64-static")
         programs.tool("gcc", "cc", "clang")
