@@ -7,7 +7,7 @@ Each program is compiled by gcc and by clang at -O0, -O1, -O2, -O3 and -Os, and 
 and its status must be those of the same files compiled for the host, also under qemu-riscv64 (the plain program, and the
 hardened image) and in the machine; the steps of the hardened image must be those that qemu counts. `visitors` is attacked
 twice: the plain program must open the door, the hardened one must end in the named handler. One line a case has the steps
-and the bytes of code, plain and hardened.
+and the bytes of code, plain and hardened. Then objects that are refused must be refused as docs/COMPILING.md says.
 
 The program is crates/rvcfi/out/rvcfi where none is named, as `rt ci` or `rt run` leaves it. It needs Python 3.9, Linux and
 what docs/COMPILING.md lists. Where a tool is missing, what it is for is told as not run. The last line counts what was
@@ -25,6 +25,7 @@ import tempfile
 sys.dont_write_bytecode = True
 
 import programs
+import refusals
 from attack import ATTACKS
 from programs import LEVELS, PROGRAMS, Hardened, Missing
 
@@ -120,6 +121,14 @@ def try_cases(found, tool, folder):
     return cases
 
 
+def try_all(found, tool, folder):
+    """The lines of all cases and of the refusals, and how many of what was asked passed."""
+    cases = try_cases(found, tool, folder)
+    failed, rows = refusals.tried(tool, folder, found)
+    lines = [line for case in cases for line in case.lines]
+    return lines + failed, sum(case.passed for case in cases) + rows - len(failed)
+
+
 def main():
     words = argparse.ArgumentParser(description=__doc__, formatter_class=argparse.RawDescriptionHelpFormatter)
     words.add_argument("--program", default=programs.PROGRAM)
@@ -141,11 +150,10 @@ def main():
     with tempfile.TemporaryDirectory() as scratch:
         folder = options.keep or scratch
         os.makedirs(folder, exist_ok=True)
-        cases = try_cases(found, os.path.abspath(options.program), folder) if found else []
-    for case in cases:
-        print("\n".join(case.lines))
-    failed = sum(line.startswith("FAILED") for case in cases for line in case.lines)
-    print("%d passed, %d failed" % (sum(case.passed for case in cases), failed))
+        lines, passed = try_all(found, os.path.abspath(options.program), folder) if found else ([], 0)
+    print("\n".join(lines))
+    failed = sum(line.startswith("FAILED") for line in lines)
+    print("%d passed, %d failed" % (passed, failed))
     return 1 if failed else 0
 
 
