@@ -1,0 +1,2 @@
+/* Opens the door and ends the program. */
+_Noreturn void open_door(void);

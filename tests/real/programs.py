@@ -1,0 +1,218 @@
+"""The programs of this folder, and how they are compiled, joined, linked, hardened and run.
+
+For tests/real/run.py and bench/overhead.py. The options are those of docs/COMPILING.md.
+"""
+
+import os
+import shutil
+import struct
+import subprocess
+import sys
+from typing import NamedTuple
+
+HERE = os.path.dirname(os.path.abspath(__file__))
+PROGRAM = os.path.join(HERE, "..", "..", "crates", "rvcfi", "out", "rvcfi")
+FOR_QEMU = os.path.join(HERE, "..", "..", "docs", "tutorial", "for_qemu.py")
+LEVELS = ["-O0", "-O1", "-O2", "-O3", "-Os"]
+ENTRY = "_start"
+STEPS = "100000000"
+SECONDS = 60
+MACHINE = ["-march=rv64i", "-mabi=lp64"]
+OPTIONS = ["-mcmodel=medlow", "-fno-pic", "-ffreestanding", "-fno-stack-protector", "-Wall", "-Wextra"]
+LIBRARY = ["start.s", "arithmetic.c", "memory.c", "text.c"]
+
+
+class Program(NamedTuple):
+    """A program's name, its files beside those of the library, and an input."""
+    name: str
+    files: list
+    input: bytes
+
+
+PROGRAMS = [
+    Program("sorter", ["sorter.c", "orders.c"], b"abcdefgx"),
+    Program("digest", ["digest.c", "sha256.c"], bytes(range(256)) + b"two pieces and a bit"),
+    Program("interpreter", ["interpreter.c", "bytecode.c"], b""),
+    Program("calculator", ["calculator.c", "grammar.c"],
+            b"1+2*3\n(4 - 10) * -7 % 5\n2*(3\n1000/7/2 - 1\n9/0\n((((8))))*12345678901\n\n- - (-(2))"),
+    Program("visitors", ["visitors.c", "door.c"], b"n\3Anng\2m\5hellon\5Ernstg\1m\3abc?\0o\5opensg\1o\6sesame"),
+]
+
+
+class Compiler(NamedTuple):
+    """A compiler's name, the command that assembles, what a C file needs besides, and the command that joins objects."""
+    name: str
+    command: list
+    options: list
+    join: list
+
+
+class Missing(Exception):
+    """What is not there."""
+
+
+def tool(*names):
+    """The first of these commands that is there."""
+    for name in names:
+        if shutil.which(name):
+            return name
+    raise Missing(" or ".join(names))
+
+
+def binutils(name):
+    return tool("riscv64-linux-gnu-" + name, "riscv64-unknown-elf-" + name)
+
+
+def keeps_registers(command):
+    """Whether this clang keeps the registers that it is told to keep: clang 14 takes the options and does nothing."""
+    done = run(command + ["-S", "-emit-llvm", "-x", "c", "-", "-o", "-"], b"void nothing(void) {}\n")
+    return b"+reserve-x30" in done.stdout
+
+
+def gcc():
+    command = [tool("riscv64-linux-gnu-gcc", "riscv64-unknown-elf-gcc")] + MACHINE
+    return Compiler("gcc", command, ["-ffixed-t5", "-ffixed-t6"] + OPTIONS, [binutils("ld"), "-r"])
+
+
+def clang():
+    options = ["-ffixed-x30", "-ffixed-x31"] + OPTIONS
+    for name in ["clang-%d" % version for version in range(30, 14, -1)] + ["clang"]:
+        command = [name, "--target=riscv64"] + MACHINE
+        if shutil.which(name) and keeps_registers(command + options):
+            return Compiler("clang", command, options, [tool("ld.lld", name.replace("clang", "ld.lld")), "-r"])
+    raise Missing("clang of version 15 or later")
+
+
+def run(command, given=b"", **options):
+    """What a command comes to that is given this input."""
+    return subprocess.run(command, input=given, stdout=subprocess.PIPE, stderr=subprocess.PIPE, timeout=SECONDS, **options)
+
+
+def must(command):
+    """The output of a command that must end well."""
+    done = run(command)
+    if done.returncode:
+        raise RuntimeError("%s: status %d\n%s" % (" ".join(command), done.returncode, (done.stdout + done.stderr).decode()))
+    return done.stdout
+
+
+def source(name):
+    return os.path.join(HERE, name)
+
+
+def compiled(compiler, level, name, folder):
+    """Compiles a file of this folder, once for a compiler and a level, and answers the object's path."""
+    path = os.path.join(folder, "%s%s_%s.o" % (compiler.name, level, name.split(".")[0]))
+    if not os.path.exists(path):
+        options = [] if name.endswith(".s") else compiler.options + [level]
+        must(compiler.command + options + ["-c", source(name), "-o", path])
+    return path
+
+
+def joined(compiler, level, program, folder):
+    """Compiles a program's files, joins them to one object and answers its path."""
+    path = os.path.join(folder, "%s%s_%s_joined.o" % (compiler.name, level, program.name))
+    objects = [compiled(compiler, level, name, folder) for name in LIBRARY + program.files]
+    must(compiler.join + ["-o", path] + objects)
+    return path
+
+
+def linked(joined_object):
+    """Links an object to a program that is not hardened, and answers its path."""
+    path = joined_object.replace("_joined.o", ".elf")
+    must([binutils("ld"), "-T", source("plain.ld"), "-o", path, joined_object])
+    return path
+
+
+def on_host(program, folder):
+    """The output and the status of a program that is compiled for the host."""
+    path = os.path.join(folder, program.name)
+    must([tool("gcc", "cc", "clang"), "-O1", "-o", path] + [source(name) for name in ["host.c", "text.c"] + program.files])
+    done = run([path], program.input)
+    return done.stdout, done.returncode
+
+
+def under_qemu(path, given):
+    """The output and the status of a program under qemu's user mode; a signal's number is negative."""
+    done = run([tool("qemu-riscv64", "qemu-riscv64-static"), path], given)
+    return done.stdout, done.returncode
+
+
+def addresses_run(path, given):
+    """The addresses of the instructions that qemu runs, in their order."""
+    qemu = tool("qemu-riscv64", "qemu-riscv64-static")
+    single = "-one-insn-per-tb" if b"one-insn-per-tb" in run([qemu, "-help"]).stdout else "-singlestep"
+    done = run([qemu, single, "-d", "nochain,exec", "-D", "/dev/stderr", path], given)
+    return [int(line.split(b"/")[1], 16) for line in done.stderr.splitlines() if line.startswith(b"Trace ")]
+
+
+def for_qemu(image):
+    """Makes the file for qemu's user mode of an image, and answers its path."""
+    path = image.replace(".img", ".qemu")
+    must([sys.executable, FOR_QEMU, image, path])
+    return path
+
+
+def symbol(path, wanted):
+    """The section and the value of a symbol of an object or a linked program."""
+    with open(path, "rb") as file:
+        content = file.read()
+    start, = struct.unpack_from("<Q", content, 40)
+    count, = struct.unpack_from("<H", content, 60)
+    sections = [struct.unpack_from("<IIQQQQIIQQ", content, start + 64 * k) for k in range(count)]
+    table = next(section for section in sections if section[1] == 2)
+    names = sections[table[6]][4]
+    for at in range(table[4], table[4] + table[5], 24):
+        name, _, _, section, value, _ = struct.unpack_from("<IBBHQQ", content, at)
+        if content[names + name:].split(b"\0", 1)[0] == wanted.encode():
+            return section, value
+    raise KeyError(wanted)
+
+
+def code_size(path):
+    """The bytes of a linked program's code."""
+    lines = must([binutils("size"), "-A", path]).decode().splitlines()
+    return next(int(line.split()[1]) for line in lines if line.startswith(".text "))
+
+
+class Hardened:
+    """A hardened object: its files, and what the tool says of them."""
+
+    def __init__(self, tool_path, joined_object):
+        self.tool, self.object = tool_path, joined_object
+        self.image, self.graph, self.map = (joined_object.replace("_joined.o", end) for end in (".img", ".graph", ".map"))
+        self.told = self.asked(["rewrite", self.object, ENTRY, "none", self.image, self.graph, self.map])
+
+    def asked(self, words, given=b""):
+        done = run([self.tool] + words, given)
+        return done.returncode, done.stdout
+
+    def input_file(self, given):
+        path = self.image + ".input"
+        with open(path, "wb") as file:
+            file.write(given)
+        return path
+
+    def verified(self):
+        return self.asked(["verify", self.image, self.graph])
+
+    def run(self, given):
+        """The status, the output, and the words of each line of the report of a run."""
+        status, text = self.asked(["run", self.image, self.graph, "none", self.input_file(given), STEPS])
+        first, rest = text.split(b"\n", 1)
+        length = int(first.split()[1])
+        lines = [line.split() for line in rest[length + 1:].decode().splitlines()]
+        return status, rest[:length], {line[0]: line[1:] for line in lines}
+
+    def compared(self, given):
+        return self.asked(["compare", self.object, ENTRY, "none", self.image, self.map, self.input_file(given), STEPS])
+
+    def gate(self, name):
+        """The address of a function in the image, by the map."""
+        section, offset = symbol(self.object, name)
+        with open(self.map) as file:
+            lines = [line.split() for line in file]
+        return next(int(line[1], 16) for line in lines if line[2:] == ["%04x" % section, "%08x" % offset])
+
+    def code_size(self):
+        return int(self.told[1].split()[2])

@@ -1,0 +1,112 @@
+"""What compilers and hands give that is refused: the table of docs/COMPILING.md, but for a broken table of a file (6).
+
+Each row is a refusal, a source in C, the options of docs/COMPILING.md that are left out, and options that are added.
+"""
+
+import os
+
+import programs
+from programs import MACHINE
+
+PLAIN = "int main(void) { return 0; }"
+NAMES_Q = "extern int q; int main(void) { return q; }\n"
+MANY = "long f(long *p) { long s = 0; for (int k = 0; k < 30; k++) p[k] += p[29 - k] ^ s, s += p[k] << k; return s; }\n"
+PRODUCT = "int main(int n, char **words) { return n * **words; }"
+
+GCC_ROWS = [
+    ("4 Flags", PLAIN, MACHINE, []),
+    ("7 SectionKind", "static int k; __attribute__((constructor)) void f(void) { k = 1; } int main(void) { return k; }", [], []),
+    ("7 SectionKind", "__thread int k = 3; int main(void) { return k; }", [], []),
+    ("8 BadSymbol", PLAIN + " void f(void); void *p = f; __asm__(\".type f, %gnu_indirect_function\");", [], []),
+    ("9 Undecodable", PRODUCT, ["-march=rv64i"], ["-march=rv64im"]),
+    ("9 Undecodable", "int main(void) { long t; __asm__ volatile(\"rdcycle %0\" : \"=r\"(t)); return t; }", [], []),
+    ("10 ReservedRegister", MANY + PLAIN, ["-ffixed-t5", "-ffixed-t6"], ["-funroll-all-loops"]),
+    ("11 BadTransfer", "int g(int); int main(void) { return g(g(3)) + 1; }", [], ["-msave-restore"]),
+    ("12 BadPair", NAMES_Q, ["-fno-pic"], ["-fpic"]),
+    ("13 RelocKind", "int main(void) { return 0; } __asm__(\".data\\n.reloc ., R_RISCV_32_PCREL, main\\n.word 0\");", [], []),
+    ("14 RelocPlace", "int main(void) { return 0; } __asm__(\".bss\\n.reloc ., R_RISCV_64, main\\n.zero 8\");", [], []),
+    ("15 Undefined", PRODUCT, [], []),
+    ("15 Undefined", "int f(char *); int main(void) { char a[9]; return f(a); } int f(char *a) { return *a; }", [],
+     ["-fstack-protector-all"]),
+    ("16 BadCodePointer", PLAIN + " char *p = (char *)main + 2;", [], []),
+    ("17 NoEntry", "int start(void) { return 0; }", [], []),
+    ("19 CodeTooLarge", PLAIN + " __asm__(\".text\\n.rept 262200\\nnop\\n.endr\");", [], []),
+    ("20 DataTooLarge", "char a[268000000]; int main(void) { return a[5]; }", [], []),
+]
+CLANG_ROWS = [
+    ("1 NotElf", PLAIN, [], ["-flto"]),
+    ("9 Undecodable", "int main(void) { __builtin_trap(); }", [], []),
+    ("12 BadPair", "__attribute__((noinline)) static int f(int n) { return n + 1; } int main(void) { return f(f(2)); }", [],
+     ["-mno-relax"]),
+]
+
+
+def compiled(compiler, text, without, more, path):
+    """Compiles a text with so many options less and more, and answers the object's path."""
+    options = [word for word in compiler.command + compiler.options if word not in without]
+    with open(path + ".c", "w") as file:
+        file.write(text + "\n")
+    programs.must(options + ["-O2"] + more + ["-c", path + ".c", "-o", path])
+    return path
+
+
+class Asked:
+    """The tool's commands over files of a folder."""
+
+    def __init__(self, tool, folder):
+        self.tool, self.folder = tool, folder
+        self.written = [self.path("plain" + end) for end in (".img", ".graph", ".map")]
+
+    def path(self, name):
+        return os.path.join(self.folder, name)
+
+    def file(self, name, content):
+        with open(self.path(name), "wb") as file:
+            file.write(content)
+        return self.path(name)
+
+    def answer(self, *words):
+        return programs.run([self.tool] + list(words)).stdout.decode()
+
+    def rewrite(self, path, policy="none", files=("other.img", "other.graph", "other.map")):
+        return self.answer("rewrite", path, "main", policy, *(self.path(name) for name in files))
+
+
+def of_compilers(asked, compilers):
+    """Each row's refusal, and the answer to the row's object."""
+    tables = {"gcc": GCC_ROWS, "clang": CLANG_ROWS}
+    for compiler in compilers:
+        for number, (refusal, *row) in enumerate(tables[compiler.name]):
+            yield refusal, asked.rewrite(compiled(compiler, *row, asked.path("%s_row_%d.o" % (compiler.name, number))))
+
+
+def of_files(asked, compiler):
+    """The refusals of other files: programs, objects of the host, cut ones, and files in the place of others."""
+    plain = compiled(compiler, PLAIN, [], [], asked.path("plain.o"))
+    with open(plain, "rb") as file:
+        content = file.read()
+    image, graph, map_file = asked.written
+    yield "1 NotElf", asked.rewrite(plain + ".c")
+    programs.must([programs.binutils("ld"), "-e", "main", "-o", asked.path("linked"), plain])
+    yield "2 NotRelocatable 2", asked.rewrite(asked.path("linked"))
+    programs.must([programs.tool("gcc", "cc", "clang"), "-c", plain + ".c", "-o", asked.path("host.o")])
+    yield "3 NotRiscv", asked.rewrite(asked.path("host.o"))
+    yield "5 Truncated", asked.rewrite(asked.file("cut.o", content[:200]))
+    yield "18 Policy 2", asked.rewrite(plain, asked.file("policy", b"rvcfi-policy 1\nsite main+0 main+0\nend\n"))
+    asked.rewrite(plain, files=("plain.img", "plain.graph", "plain.map"))
+    far = compiled(compiler, NAMES_Q, [], [], asked.path("far.o"))
+    programs.must([programs.binutils("ld"), "-r", "--defsym=q=0x123456789", "-o", asked.path("range.o"), far])
+    yield "21 RelocRange", asked.rewrite(asked.path("range.o"))
+    yield "22 Byte 16", asked.answer("verify", plain, graph)
+    yield "22 Byte 160", asked.answer("verify", programs.for_qemu(image), graph)
+    yield "23 Graph 1 Form", asked.answer("verify", image, map_file)
+    yield "24 Map 1 Form", asked.answer("compare", plain, "main", "none", image, graph, "none", "9")
+    yield "25 Script 1 Form", asked.answer("run", image, graph, map_file, "none", "9")
+
+
+def tried(tool, folder, compilers):
+    """The failures of all rows, and how many there are."""
+    asked = Asked(tool, folder)
+    rows = list(of_compilers(asked, compilers)) + list(of_files(asked, compilers[0]))
+    failed = ["FAILED refusal %s: %.200r" % row for row in rows if not row[1].startswith("refused %s" % row[0])]
+    return failed, len(rows)
