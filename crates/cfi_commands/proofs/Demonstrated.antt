@@ -40,7 +40,7 @@ module _ (request : Request) (h : HardenedParts) (hardens : IsHardened request h
   fits_of one p is =
       let (q, prepared, (s, labels, code, init, placed, room, in_range, written)) = hardens in
       subst (λ (x : PreparedParts). CanRunAt x h.map) (one request q p prepared is)
-          (record { legal = written.map; room = room; in_range = rw (written.gates, sym placed.words) in_range })
+      (record { legal = written.map; room = room; in_range = rw (written.gates, sym placed.words) in_range })
 
   pub none_differs : PreparedInOneWay → (image : Contents) → IsImageIn h.image image → NoneDiffers request h.map image
   none_differs one image is p of =
@@ -51,11 +51,11 @@ module _ (request : Request) (h : HardenedParts) (hardens : IsHardened request h
       let m = chosen q s labels in
       let accepted = written_accepted request q s labels code init h prepared (record { placed = placed; room = room; in_range = in_range }) written in
       let never : NoRunDiffers m.layout own = never_differs m own (record { accepted = accepted; bytes = written.bytes; code = written.code_is })
-          (sym (ap (λ (o : Option (List ℕ)). unwrap_or o []) written.init_is)) in
+      (sym (ap (λ (o : Option (List ℕ)). unwrap_or o []) written.init_is)) in
       let at_map : NoRunDiffers (layout_of q.program q.closed (gates_of h.map) q.entry) own =
-          subst (λ (gates : List ℕ). NoRunDiffers (layout_of q.program q.closed gates q.entry) own) (sym written.gates) never in
+      subst (λ (gates : List ℕ). NoRunDiffers (layout_of q.program q.closed gates q.entry) own) (sym written.gates) never in
       subst (λ (x : PreparedParts). NoRunDiffers (layout_of x.program x.closed (gates_of h.map) x.entry) image) (one request q p prepared of)
-          (subst (λ (x : Contents). NoRunDiffers (layout_of q.program q.closed (gates_of h.map) q.entry) x) (sym same) at_map)
+      (subst (λ (x : Contents). NoRunDiffers (layout_of q.program q.closed (gates_of h.map) q.entry) x) (sym same) at_map)
 
 -- an answer is no difference where none was found
 no_difference : (program : Program) (found : runs.Compared) (result : Compared) → ((d : runs.Difference) → found ≡ runs.differs d → ⊥)

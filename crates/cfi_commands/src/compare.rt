@@ -10,11 +10,11 @@ ghost use Rattle.cfi_files.specs.declared.refusal.Refusal.TheVariants as refused
 ghost use Rattle.cfi_commands.specs.declared.source.MapEnd.TheVariants as MapEnd;
 ghost use Rattle.cfi_commands.specs.Compare.{ExplainsCompare, IsCompareEnd, IsCompareOf, IsFresh, IsImageCompared, IsMapEnd, IsRoomy, IsSourceAt, answer_status, compare_asked, compare_names, compare_status, compare_words};
 
-use cfi_files::{Refusal, Stop, file_word, read_all, status, steps, text_named};
 use crate::opening::OpenEnd;
 use crate::source::{MapEnd, roomy, source_at};
-use cfi_words::CompareWords;
 use cfi_compare::{Compared, compare};
+use cfi_files::{Refusal, Stop, file_word, read_all, status, steps, text_named};
+use cfi_words::CompareWords;
 use elf_image::read_image;
 use rv_word::NoMemory;
 use src_machine::SourceRun;

@@ -9,8 +9,8 @@ use cfi_compare::Compared;
 use cfi_files::{line, status, steps};
 use cfi_gen::object_of;
 use cfi_single::laws::prepared_in_one_way;
-use cfi_words::DemoWords;
 use cfi_step::{RunEnd, RunReport};
+use cfi_words::DemoWords;
 use rv_word::NoMemory;
 use std::alloc::Global;
 use std::fmt;
@@ -94,7 +94,10 @@ impl fmt::Display for RunLine {
 
     fn fmt<W: fmt::Write>(&self, f: &mut fmt::Formatter<W>) -> fmt::Result {
         let Shown {
-            exit, steps, walk, ..
+            exit,
+            steps,
+            walk,
+            ..
         } = self.0;
         write!(f, "run exit {exit} steps {steps} walk {walk}")
     }

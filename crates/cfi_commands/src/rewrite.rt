@@ -11,8 +11,8 @@ ghost use Rattle.cfi_commands.specs.Rewrite.{AreNamedApart, ExplainsRewrite, Has
 
 use cfi_files::{Output, Refusal, Stop, file_word, read_all, status, text_named};
 use cfi_graph::{Graph, write_graph, write_map};
-use cfi_words::RewriteWords;
 use cfi_rewrite::{Hardened, rewrite};
+use cfi_words::RewriteWords;
 use elf_image::read_image;
 use rv_word::NoMemory;
 use std::alloc::Global;

@@ -5,13 +5,13 @@ ghost use Rattle.cfi_commands.specs.Opening.{IsOpenEnd, Spell, script_given};
 ghost use Rattle.cfi_files.specs.Reads.{IsFault, IsStop, IsTooLong};
 ghost use Rattle.cfi_commands.specs.Run.{ExplainsRun, IsRunOf, IsRunOfPair, run_asked, run_names, run_status, run_text, run_words};
 
-use cfi_files::{Refusal, Stop, file_word, line, read_all, status, steps, text_named};
-use crate::verify::Verdict;
 use crate::opening::{OpenEnd, Pair, open_pair};
 use crate::report::{end_status, report_text};
+use crate::verify::Verdict;
+use cfi_files::{Refusal, Stop, file_word, line, read_all, status, steps, text_named};
 use cfi_step::{RunReport, Script, run};
-use cfi_words::RunWords;
 use cfi_verify::{Reject, VerifyEnd, verify};
+use cfi_words::RunWords;
 use rv_word::NoMemory;
 use std::alloc::Global;
 use text_lines::TextEnd;

@@ -10,8 +10,8 @@ ghost use Rattle.src_machine.specs.ProgramAt.{EndsLast};
 ghost use Rattle.cfi_commands.specs.Compare.{IsCompareEnd, IsMapEnd, IsRoomy, IsSourceAt};
 ghost use Rattle.cfi_commands.specs.Demonstration.{IsSourceOn};
 
-use cfi_files::Refusal;
 use crate::opening::OpenEnd;
+use cfi_files::Refusal;
 use cfi_graph::{Map, read_map};
 use cfi_harden::{Prepared, has_data_room, prepare};
 use obj_items::laws::last_place_ends;

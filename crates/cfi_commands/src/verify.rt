@@ -3,10 +3,10 @@ ghost use Rattle.tool_io.specs.Reading.{CountsReads, IsOnlyRead};
 ghost use Rattle.cfi_files.specs.Reads.{IsFault, IsStop, IsTooLong};
 ghost use Rattle.cfi_commands.specs.Verify.{ExplainsVerdict, IsJudgement, IsVerdictOf, verdict_status, verify_asked, verify_names, verify_words};
 
-use cfi_files::{Refusal, Stop, read_all, status};
 use crate::opening::{OpenEnd, Pair, open_pair};
-use cfi_words::VerifyWords;
+use cfi_files::{Refusal, Stop, read_all, status};
 use cfi_verify::{Reject, VerifyEnd, verify};
+use cfi_words::VerifyWords;
 use rv_word::NoMemory;
 use std::alloc::Global;
 use std::fmt;

@@ -75,7 +75,10 @@ impl Outcome<'_> {
     {
         match self {
             Outcome::Usage => line(alloc, &"usage: rvcfi rewrite|verify|run|compare|demo"),
-            Outcome::Help(text) | Outcome::Version(text) => Ok(Vec::from_slice(alloc, text.as_bytes())?),
+            Outcome::Help(text) | Outcome::Version(text) => Ok(Vec::from_slice(
+                alloc,
+                text.as_bytes(),
+            )?),
             Outcome::Unread(unread) => line(alloc, unread),
             Outcome::Rewrite(outcome) => line(alloc, outcome),
             Outcome::Verify(verdict) => line(alloc, verdict),

@@ -5,13 +5,13 @@ ghost use Rattle.cfi_files.specs.Reads.{IsFault, IsStop, IsTooLong};
 ghost use Rattle.cfi_tool.specs.Request.{IsKept, IsRight, IsWordsEnd, TakenPlainly, asked, names_of, request_of, taken};
 ghost use Rattle.cfi_words.specs.Reading.{request_of as words_of, spelled};
 
+use crate::outcome::Outcome;
 use cfi_commands::{
-    CompareRequest, DemoRequest, RewriteRequest, RunRequest, VerifyRequest, compare_files, demonstrate,
-    rewrite_files, run_files, verify_files,
+    CompareRequest, DemoRequest, RewriteRequest, RunRequest, VerifyRequest, compare_files,
+    demonstrate, rewrite_files, run_files, verify_files,
 };
 use cfi_files::Stop;
 use cfi_words::{Asked, WordsEnd, read_words};
-use crate::outcome::Outcome;
 use std::alloc::Global;
 use tool_io::Files;
 

@@ -36,7 +36,10 @@ static OBJECTS: [(&str, Given); 16] = [
 
 /// Maps that are wrong at the first line, at the line `end` and by a number; an object that is none, and an empty file.
 static TEXTS: [(&str, &[u8]); 5] = [
-    ("first", b"rvcfi-map 1\nat 40000044 0001 00000000\nat 40000048 0001 00000004\nat 4000005c 0001 00000008\nend\n"),
+    (
+        "first",
+        b"rvcfi-map 1\nat 40000044 0001 00000000\nat 40000048 0001 00000004\nat 4000005c 0001 00000008\nend\n",
+    ),
     ("short", b"rvcfi-map 1\nat 40000040 0001 00000000\nend\n"),
     ("odd", b"rvcfi-map 1\nat 40000041 0001 00000000\nend\n"),
     ("1", b"none"),

@@ -75,8 +75,8 @@ returns-in-Ok-finish-clause-demonstrated g c = λ ends number asked.
 pub returns-in-Ok-finish-clause-demo_never_refused : goal.returns-in-Ok-finish-clause-demo_never_refused
 returns-in-Ok-finish-clause-demo_never_refused g c = λ number asked.
     let ends = demo_ends (g.F.Files.content c.args.files.now) (g.F.Files.failed_name c.command.new.files) (spelled c.args.words.now) number asked
-        c.in-Ok.outcome c.in-Ok.ensures.explained in
+    c.in-Ok.outcome c.in-Ok.ensures.explained in
     elim (subst IsDone (sym c.status.ensures) ends) [
-      inl zero ↦ inl zero
-    | inr large ↦ inr (inr (inr large))
+      | inl zero ↦ inl zero
+      | inr large ↦ inr (inr (inr large))
     ]
