@@ -1,5 +1,5 @@
 -- What status 0 says of a command that was asked for, and what a report's status does.
-use Rattle.std.proofs.Common.{◌≡◌, ◌⊎◌, ◌≤◌, ℕ, List, [], None, Some, inl, inr, refl, subst, arith}
+use Rattle.std.proofs.Common.{◌≡◌, ◌⊎◌, ◌≤◌, ℕ, List, [], None, Some, inl, inr, refl, subst, arith, lit≤}
 use Rattle.tool_io.specs.declared.files.Files.{Ghosts}
 use Rattle.cfi_compare.specs.declared.answer.Compared.{Compared}
 use Rattle.cfi_compare.specs.declared.answer.Compared.TheVariants as compared
@@ -89,20 +89,20 @@ rewritten_is files before now words other is zero wrote = absurd is
 
 -- an end that is no exit, and a comparison without an end, have large statuses
 end_large : (end : RunEnd) → (IsExit end → ⊥) → 10 ≤ end_status end
-end_large (ends.Exit status) no = absurd (no tt)
-end_large (ends.Handler handler) no = arith
-end_large (ends.Break pc) no = arith
-end_large (ends.LoadFault pc address) no = arith
-end_large ends.Limit no = arith
+end_large (ends.Exit status) open_end = absurd (open_end tt)
+end_large (ends.Handler handler) open_end = lit≤ tt
+end_large (ends.Break pc) open_end = lit≤ tt
+end_large (ends.LoadFault pc address) open_end = lit≤ tt
+end_large ends.Limit open_end = lit≤ tt
 
 unsettled_large : (result : Compared) → IsUnsettled result → 10 ≤ answer_status result
-unsettled_large (compared.Untame because section offset) is = arith
-unsettled_large compared.Limit is = arith
+unsettled_large (compared.Untame because section offset) is = lit≤ tt
+unsettled_large compared.Limit is = lit≤ tt
 unsettled_large (compared.Same events) is = absurd is
 unsettled_large (compared.Differs index source image) is = absurd is
 
-demo_done : (number : ℕ) (result : DemoOutcome) → ExplainsDemo number result → IsDone (demo_status result)
-demo_done number (shown.Ran report) (hardened, image, run, no) = inr (end_large report.end no)
+pub demo_done : (number : ℕ) (result : DemoOutcome) → ExplainsDemo number result → IsDone (demo_status result)
+demo_done number (shown.Ran report) (hardened, image, run, open_end) = inr (end_large report.end open_end)
 demo_done number (shown.Compared result) (hardened, image, report, exit, run, unsettled) = inr (unsettled_large result unsettled)
 demo_done number (shown.Shown told) is = inl refl
 

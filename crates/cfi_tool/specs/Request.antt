@@ -60,18 +60,18 @@ TakenPlainly words =
 
 -- the files that are read, in their order
 abbrev pub names_of : Request → List (Option (List ℕ))
-names_of (rewrite asks) = rewrite_names asks
-names_of (verify asks) = verify_names asks
-names_of (run asks) = run_names asks
-names_of (compare asks) = compare_names asks
+names_of (rewrite words) = rewrite_names words
+names_of (verify words) = verify_names words
+names_of (run words) = run_names words
+names_of (compare words) = compare_names words
 names_of (demo number) = []
 
 -- no two of the files that a request writes have one name, and a comparison is of no more steps than a word asks for
 abbrev pub IsRight : Request → Type 0
-IsRight (rewrite asks) = AreNamedApart asks
-IsRight (verify asks) = ⊤
-IsRight (run asks) = ⊤
-IsRight (compare asks) = asks.limit ≤ MAX_STEP
+IsRight (rewrite words) = AreNamedApart words
+IsRight (verify words) = ⊤
+IsRight (run words) = ⊤
+IsRight (compare words) = words.limit ≤ MAX_STEP
 IsRight (demo number) = ⊤
 
 -- no file is asked to be written

@@ -41,7 +41,7 @@ pub(crate) fn requested<'a>(alloc: Global, words: &'a [String]) -> Result<Reques
 impl<'a> Request<'a> {
     /// What a command is asked for, if a number is as it should be and names of files to write are apart.
     fn of(words: Asked<'a>) -> Option<Self>
-        ensures asked { option_map asked result ≡ request_of (words_of words) }
+        ensures asked { option_map asked result ≡ request_of (words_of words.entry) }
         ensures right { IfSome result (λ request. IsRight (asked request)) }
     {
         Some(match words {
