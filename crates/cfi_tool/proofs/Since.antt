@@ -21,6 +21,23 @@ module _ {S : Type 0} (files : Ghosts S) (a b c : S) (read : IsOnlyRead files a 
     whole_since outputs whole.1,
   )
 
+  pub only_read_since : IsOnlyRead files b c → IsOnlyRead files a c
+  only_read_since later =
+      let faults = read.read_faults_later in
+      let later_faults = later.read_faults_later in
+      let long = read.long_reads_later in
+      let later_long = later.long_reads_later in
+      record {
+        kept = λ name. later.kept name ∙ read.kept name;
+        absence_kept = λ name.
+            let next = later.absence_kept name in
+            let earlier = read.absence_kept name in
+            (λ absent. earlier.0 (next.0 absent), λ absent. next.1 (earlier.1 absent));
+        no_write = later.no_write ∙ read.no_write;
+        read_faults_later = omega arith;
+        long_reads_later = omega arith;
+      }
+
   pub wrote_since : (outputs : List OutputParts) (torn : Option (List ℕ)) → Wrote files b c outputs torn → Wrote files a c outputs torn
   wrote_since outputs torn wrote = record {
     whole = whole_since outputs wrote.whole;

@@ -6,7 +6,7 @@ use Rattle.cfi_commands.specs.Run.{IsRan}
 use Rattle.cfi_tool.specs.Outcomes.{outcome_outputs, outcome_status, outcome_text}
 use Rattle.cfi_tool.specs.Request.{compare, demo, rewrite, run}
 use Rattle.cfi_tool.proofs.Headline.{IsDone, demo_ends, explained_request, ran_is, rewritten_is, shown_is, told_is}
-use Rattle.cfi_tool.proofs.Since.{short_since, stopped_since, wrote_since}
+use Rattle.cfi_tool.proofs.Since.{only_read_since, short_since, status_unwritten, stopped_since, wrote_since}
 use Rattle.cfi_tool.proofs.command.rvcfi.Goals as goal
 
 pub returns-in-Err-Failed-clause-write_fault_text : goal.returns-in-Err-Failed-clause-write_fault_text
@@ -80,3 +80,19 @@ returns-in-Ok-finish-clause-demo_never_refused g c = λ number asked.
       | inl zero ↦ inl zero
       | inr large ↦ inr (inr (inr large))
     ]
+
+pub returns-in-Ok-finish-clause-refused_writes_none : goal.returns-in-Ok-finish-clause-refused_writes_none
+returns-in-Ok-finish-clause-refused_writes_none g c = λ small.
+    only_read_since g.F.Files c.args.files.now c.command.new.files c.finish.new.files c.in-Ok.ensures.only_read
+    (c.finish.ensures.unwritten (status_unwritten c.in-Ok.outcome
+    (subst (λ (n : ℕ). (n ≡ 1) ⊎ (n ≡ 2) ⊎ (n ≡ 3) ⊎ (n ≡ 6)) c.status.ensures small)))
+
+pub returns-in-Ok-finish-clause-told : goal.returns-in-Ok-finish-clause-told
+returns-in-Ok-finish-clause-told g c = λ _ _. (
+  c.in-Ok.outcome,
+  c.status.ensures,
+  rw c.finish.ensures.reads.failed_name c.in-Ok.ensures.explained,
+  wrote_since g.F.Files c.args.files.now c.command.new.files c.finish.new.files c.in-Ok.ensures.only_read
+      (outcome_outputs c.in-Ok.outcome) _ c.in-Ok-finish.ensures.wrote,
+  c.in-Ok-finish.ensures.whole,
+)
