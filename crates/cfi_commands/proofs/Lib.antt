@@ -1,4 +1,5 @@
 mod Trail
 pub mod Writing
+pub mod Complete
 pub mod Sources
 pub mod Demonstrated

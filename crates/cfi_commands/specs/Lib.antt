@@ -6,3 +6,4 @@ pub mod Verify
 pub mod Run
 pub mod Demo
 pub mod Demonstration
+pub mod Complete

@@ -11,6 +11,18 @@ use Rattle.cfi_tool.specs.declared.outcome.Outcome.{Outcome}
 use Rattle.cfi_tool.specs.declared.outcome.Outcome.TheVariants.{Usage, Help, Version, Unread, Rewrite, Verify, Run, Compare, Demo}
 
 module _ {S : Type 0} (files : Ghosts S) (a b c : S) (read : IsOnlyRead files a b) where
+  pub only_read_since : IsOnlyRead files b c → IsOnlyRead files a c
+  only_read_since later = record {
+    kept = λ name. later.kept name ∙ read.kept name;
+    absence_kept = λ name.
+        let after = later.absence_kept name in
+        let before = read.absence_kept name in
+        (λ absent. before.0 (after.0 absent), λ absent. after.1 (before.1 absent));
+    no_write = later.no_write ∙ read.no_write;
+    read_faults_later = omega (arith, read.read_faults_later, later.read_faults_later);
+    long_reads_later = omega (arith, read.long_reads_later, later.long_reads_later);
+  }
+
   whole_since : (outputs : List OutputParts) → AreWhole files b c outputs → AreWhole files a c outputs
   whole_since [] whole = tt
   whole_since (output ∷ outputs) whole = (
@@ -20,23 +32,6 @@ module _ {S : Type 0} (files : Ghosts S) (a b c : S) (read : IsOnlyRead files a 
     },
     whole_since outputs whole.1,
   )
-
-  pub only_read_since : IsOnlyRead files b c → IsOnlyRead files a c
-  only_read_since later =
-      let faults = read.read_faults_later in
-      let later_faults = later.read_faults_later in
-      let long = read.long_reads_later in
-      let later_long = later.long_reads_later in
-      record {
-        kept = λ name. later.kept name ∙ read.kept name;
-        absence_kept = λ name.
-            let next = later.absence_kept name in
-            let earlier = read.absence_kept name in
-            (λ absent. earlier.0 (next.0 absent), λ absent. next.1 (earlier.1 absent));
-        no_write = later.no_write ∙ read.no_write;
-        read_faults_later = omega arith;
-        long_reads_later = omega arith;
-      }
 
   pub wrote_since : (outputs : List OutputParts) (torn : Option (List ℕ)) → Wrote files b c outputs torn → Wrote files a c outputs torn
   wrote_since outputs torn wrote = record {

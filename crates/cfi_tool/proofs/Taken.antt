@@ -12,7 +12,7 @@ use Rattle.cfi_tool.specs.declared.request.Request as R
 module _ (words : List (List ℕ)) where
   pub taken_plainly : TakesPlain words → TakenPlainly words
   unfolding taken
-  taken_plainly takes = record { plainly = λ program name own plain are. ap taken_by (takes program name own plain are) }
+  taken_plainly takes program name own plain are = ap taken_by (takes program name own plain are)
 
   pub kept : (given : Asked) (request : R.Request) → Gives (reading words) (Ok given) → option_map asked (Some request) ≡ request_of (words_of given)
       → IsRight (asked request) → IsKept (taken words) request

@@ -2,3 +2,4 @@ pub mod Request
 pub mod Explains
 pub mod Outcomes
 pub mod Finishing
+pub mod Complete

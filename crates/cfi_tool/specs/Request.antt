@@ -53,9 +53,10 @@ unfoldable pub taken : List (List ℕ) → Taken
 taken words = taken_by (reading words)
 
 -- a program's name, a command's name and exactly its words, none empty and none with a hyphen first, are taken for just what they ask for
-pub record TakenPlainly (words : List (List ℕ)) : Type 0 where
-  pub plainly : (program name : List ℕ) (own : List (List ℕ)) → IsPlainRequest name own → words ≡ program ∷ name ∷ own
-      → taken words ≡ if_request (request_of (name ∷ own))
+abbrev pub TakenPlainly : List (List ℕ) → Type 0
+TakenPlainly words =
+    (program name : List ℕ) (own : List (List ℕ)) → IsPlainRequest name own → words ≡ program ∷ name ∷ own
+    → taken words ≡ if_request (request_of (name ∷ own))
 
 -- the files that are read, in their order
 abbrev pub names_of : Request → List (Option (List ℕ))

@@ -7,11 +7,12 @@ ghost use Rattle.cfi_commands.specs.Demo.{IsDemonstrated};
 ghost use Rattle.cfi_commands.specs.Rewrite.{IsRewritten, RewriteWords};
 ghost use Rattle.cfi_commands.specs.Run.{IsRan, RunWords};
 ghost use Rattle.cfi_commands.specs.Verify.{IsAccepted, VerifyWords};
+ghost use Rattle.cfi_tool.specs.Complete.{IsComplete};
 ghost use Rattle.cfi_tool.specs.Explains.{Explains, IsPart, IsReadFault, IsTooLongFile};
 ghost use Rattle.cfi_tool.specs.Finishing.{IsShort, IsStopped};
 ghost use Rattle.cfi_words.specs.Reading.{spelled};
 ghost use Rattle.cfi_tool.specs.Outcomes.{outcome_outputs, outcome_status, outcome_text};
-ghost use Rattle.cfi_tool.specs.Request.{TakenPlainly, WritesNone, asks, compare, demo, rewrite, run, taken, untaken, verify};
+ghost use Rattle.cfi_tool.specs.Request.{Request, TakenPlainly, WritesNone, asks, compare, demo, rewrite, run, taken, untaken, verify};
 ghost use Rattle.cfi_files.specs.Writes.{AreApart, KeepsReads, Wrote};
 ghost use Rattle.cfi_tool.specs.declared.outcome.Outcome.{Outcome};
 
@@ -142,6 +143,11 @@ pub fn rvcfi<F: Files, K: Sink>(alloc: Global, words: &[String], files: &mut F, 
     // No other but 4 and 5, since nothing is refused of a number's object, its image is accepted and nothing differs.
     ensures demo_never_refused { (number : ℕ) → taken (spelled words.now) ≡ asks (demo number)
         → (result ≡ 0) ⊎ (result ≡ 4) ⊎ (result ≡ 5) ⊎ (10 ≤ result) }
+
+    // Complete: where no fault is counted and there is memory, what the words ask for is done wherever the files allow it.
+    ensures complete { result ≢ 5 → ¬ Rose (F.read_faults files.old) (F.read_faults files.new)
+        → ¬ Rose (F.write_faults files.old) (F.write_faults files.new) → ¬ Rose (K.faults out.old) (K.faults out.new)
+        → (request : Request) → taken (spelled words.now) ≡ asks request → IsComplete (F.content files.old) request result }
 
     // A program's name, a command's name and exactly its words, none empty and none with a hyphen first, are always taken.
     ensures plain { TakenPlainly (spelled words.now) }

@@ -26,7 +26,7 @@ pub(crate) enum Request<'a> {
 }
 
 /// What the words of a command line ask for.
-#[tactic(auto, using(crate::proofs::Taken::kept, crate::proofs::Taken::words_end))]
+#[tactic(auto, using(crate::proofs::Taken::taken_plainly, crate::proofs::Taken::kept, crate::proofs::Taken::not_kept, crate::proofs::Taken::words_end))]
 pub(crate) fn requested<'a>(alloc: Global, words: &'a [String]) -> Result<Request<'a>, WordsEnd>
     ensures plain { TakenPlainly (spelled words.now) }
     ensures taken { MatchResult result (IsKept (taken (spelled words.now))) (IsWordsEnd (taken (spelled words.now))) }

@@ -5,6 +5,8 @@ use Rattle.cfi_commands.specs.Demo.{IsDemonstrated}
 use Rattle.cfi_commands.specs.Run.{IsRan}
 use Rattle.cfi_tool.specs.Outcomes.{outcome_outputs, outcome_status, outcome_text}
 use Rattle.cfi_tool.specs.Request.{compare, demo, rewrite, run}
+use Rattle.cfi_tool.specs.Complete.{IsComplete}
+use Rattle.cfi_tool.proofs.Complete.{complete_is}
 use Rattle.cfi_tool.proofs.Headline.{IsDone, demo_ends, explained_request, ran_is, rewritten_is, shown_is, told_is}
 use Rattle.cfi_tool.proofs.Since.{only_read_since, short_since, status_unwritten, stopped_since, wrote_since}
 use Rattle.cfi_tool.proofs.command.rvcfi.Goals as goal
@@ -81,18 +83,28 @@ returns-in-Ok-finish-clause-demo_never_refused g c = λ number asked.
       | inr large ↦ inr (inr (inr large))
     ]
 
-pub returns-in-Ok-finish-clause-refused_writes_none : goal.returns-in-Ok-finish-clause-refused_writes_none
-returns-in-Ok-finish-clause-refused_writes_none g c = λ small.
-    only_read_since g.F.Files c.args.files.now c.command.new.files c.finish.new.files c.in-Ok.ensures.only_read
-    (c.finish.ensures.unwritten (status_unwritten c.in-Ok.outcome
-    (subst (λ (n : ℕ). (n ≡ 1) ⊎ (n ≡ 2) ⊎ (n ≡ 3) ⊎ (n ≡ 6)) c.status.ensures small)))
+pub returns-in-Ok-finish-clause-complete : goal.returns-in-Ok-finish-clause-complete
+returns-in-Ok-finish-clause-complete g c = λ memory unread unwritten unput request asked.
+    let content = g.F.Files.content c.args.files.now in
+    subst (λ (n : ℕ). IsComplete content request n) (sym c.status.ensures) (complete_is content (g.F.Files.failed_name c.command.new.files)
+    (spelled c.args.words.now) request asked c.in-Ok.outcome c.in-Ok.ensures.explained
+    (λ fault. unread (rw c.finish.ensures.reads.read_faults (c.in-Ok.ensures.counted.read_faults.rose fault))))
 
 pub returns-in-Ok-finish-clause-told : goal.returns-in-Ok-finish-clause-told
-returns-in-Ok-finish-clause-told g c = λ _ _. (
+returns-in-Ok-finish-clause-told g c = λ written memory. (
   c.in-Ok.outcome,
   c.status.ensures,
   rw c.finish.ensures.reads.failed_name c.in-Ok.ensures.explained,
-  wrote_since g.F.Files c.args.files.now c.command.new.files c.finish.new.files c.in-Ok.ensures.only_read
-      (outcome_outputs c.in-Ok.outcome) _ c.in-Ok-finish.ensures.wrote,
+  wrote_since g.F.Files c.args.files.now c.command.new.files c.finish.new.files c.in-Ok.ensures.only_read (outcome_outputs c.in-Ok.outcome) _
+      c.in-Ok-finish.ensures.wrote,
   c.in-Ok-finish.ensures.whole,
 )
+
+-- a status with which nothing is written
+abbrev IsSmall : ℕ → Type 0
+IsSmall n = (n ≡ 1) ⊎ (n ≡ 2) ⊎ (n ≡ 3) ⊎ (n ≡ 6)
+
+pub returns-in-Ok-finish-clause-refused_writes_none : goal.returns-in-Ok-finish-clause-refused_writes_none
+returns-in-Ok-finish-clause-refused_writes_none g c = λ small.
+    only_read_since g.F.Files c.args.files.now c.command.new.files c.finish.new.files c.in-Ok.ensures.only_read
+    (c.finish.ensures.unwritten (status_unwritten c.in-Ok.outcome (subst IsSmall c.status.ensures small)))

@@ -3,13 +3,13 @@ use Rattle.cfi_tool.proofs.Taken.{not_kept, taken_plainly}
 use Rattle.cfi_tool.proofs.request.requested.Goals as goal
 
 pub returns-in_err-asked-clause-plain : goal.returns-in_err-asked-clause-plain
-returns-in_err-asked-clause-plain c = taken_plainly (spelled c.args.words.now) c.in_err-asked.ensures.plain
+returns-in_err-asked-clause-plain c = taken_plainly (spelled c.args.words.now) c.read_words.ensures.plain
 
 pub returns-in-Some-clause-plain : goal.returns-in-Some-clause-plain
-returns-in-Some-clause-plain c = taken_plainly (spelled c.args.words.now) c.in_ok-asked.ensures.plain
+returns-in-Some-clause-plain c = taken_plainly (spelled c.args.words.now) c.read_words.ensures.plain
 
 pub returns-in-None-clause-plain : goal.returns-in-None-clause-plain
-returns-in-None-clause-plain c = taken_plainly (spelled c.args.words.now) c.in_ok-asked.ensures.plain
+returns-in-None-clause-plain c = taken_plainly (spelled c.args.words.now) c.read_words.ensures.plain
 
 pub returns-in-None-clause-taken : goal.returns-in-None-clause-taken
 returns-in-None-clause-taken c = not_kept (spelled c.args.words.now) c.in_ok-asked.asked c.in_ok-asked.ensures.reading c.in-None.ensures.asked
