@@ -1,0 +1,90 @@
+"""What README.md and docs/FORMATS.md let each command say: for each status the forms of its text."""
+
+import re
+
+NUMBER, ADDRESS, LONG = rb"(?:0|[1-9][0-9]*)", rb"[0-9a-f]{8}", rb"[0-9a-f]{16}"
+BYTE = rb"(?:[0-9]|[1-9][0-9]|1[0-9][0-9]|2[0-4][0-9]|25[0-5])"
+REASON = rb"(?:Form|Range|Order)"
+USAGE = rb"usage: rvcfi rewrite\|verify\|run\|compare\|demo"
+
+REFUSALS = {
+    1: rb"NotElf", 2: rb"NotRelocatable N", 3: rb"NotRiscv N", 4: rb"Flags N", 5: rb"Truncated N", 6: rb"BadTable N",
+    7: rb"SectionKind N", 8: rb"BadSymbol N", 9: rb"Undecodable N N N", 10: rb"ReservedRegister N N", 11: rb"BadTransfer N N",
+    12: rb"BadPair N N", 13: rb"RelocKind N N N", 14: rb"RelocPlace N N", 15: rb"Undefined N", 16: rb"BadCodePointer N N",
+    17: rb"NoEntry", 18: rb"Policy N", 19: rb"CodeTooLarge N", 20: rb"DataTooLarge N N", 21: rb"RelocRange N N",
+    22: rb"(?:Short|Byte|Long) N", 23: rb"Graph N " + REASON, 24: rb"Map N (?:Place|" + REASON + rb")",
+    25: rb"Script N " + REASON,
+}
+RULES = rb"(?:Prologue|Unit|Target|Unlisted|Unused|Site|Gate|Astray|End)"
+REJECTED = [rb"rejected " + RULES + rb" " + ADDRESS, rb"rejected Length N N"]
+ITEM = rb"(?:" + rb" ".join([LONG] * 8) + rb" (?:-|(?:[0-9a-f]{2})+)|exit " + BYTE + rb"|break|stop|running)"
+DIFFERS = rb"differs N\nsource " + ITEM + rb"\nimage " + ITEM
+
+
+def refused(*numbers):
+    return [b"refused %d " % number + REFUSALS[number] for number in numbers]
+
+
+def report(stop):
+    """A run's report, whose output is cut out."""
+    return [rb"output N\n\nstop " + stop + rb"\nsteps N\nwalk N\ntrail(?: " + ADDRESS + rb"){0,16}"]
+
+
+def forms(texts):
+    """One form of these texts, each with a newline after it."""
+    return re.compile(re.sub(rb"\bN\b", lambda _: NUMBER, rb"(?:" + rb"|".join(texts) + rb")\n"), re.DOTALL)
+
+
+COMMON = {2: [USAGE], 3: [rb"read fault .*"], 6: [rb"too long .*"]}
+FORMS = {
+    b"rewrite": {0: [rb"rewritten code N data N classes N sites N"], 1: refused(*range(1, 22))},
+    b"verify": {0: [rb"accepted"], 1: refused(22, 23) + REJECTED},
+    b"run": {0: report(b"exit " + BYTE), 1: refused(22, 23, 25) + REJECTED,
+             10: report(rb"handler __cfi_(?:bad_target|bad_return|deep)"),
+             11: report(rb"(?:break " + ADDRESS + rb"|load " + ADDRESS + rb" " + LONG + rb")"), 12: report(rb"limit")},
+    b"compare": {0: [rb"same N"], 1: refused(*range(1, 19), 20, 21, 22, 24) + [DIFFERS], 12: [rb"limit"],
+                 13: [rb"untame (?:graph|return|window|deep|end) N N"]},
+}
+FORMS = {command: {status: forms(texts) for status, texts in {**rows, **COMMON}.items()} for command, rows in FORMS.items()}
+FORMS[b"rewrite"][4] = re.compile(rb"")
+NO_WORDS = {2: forms([USAGE])}
+
+
+def without_output(text):
+    """A report with its program's output cut out, and that output."""
+    head, found, rest = text.partition(b"\n")
+    words = head.split(b" ")
+    if not found or len(words) != 2 or words[0] != b"output" or not words[1].isdigit():
+        return text, b""
+    length = int(words[1])
+    return head + b"\n" + rest[length:], rest[:length]
+
+
+def counts_wrong(text, steps):
+    """What is wrong with the counts of a report without its output, or None."""
+    rows = {line.split()[0]: line.split()[1:] for line in text.splitlines() if line}
+    taken, walked, trail = int(rows[b"steps"][0]), int(rows[b"walk"][0]), len(rows[b"trail"])
+    if taken > steps or rows[b"stop"] == [b"limit"] and taken != steps:
+        return "%d steps of %d" % (taken, steps)
+    if walked > taken or trail != min(walked, 16):
+        return "a walk of %d and a trail of %d in %d steps" % (walked, trail, taken)
+    return None
+
+
+def wrong(words, call):
+    """What is wrong with how a call ended and what it said, or None."""
+    if call.status < 0:
+        return "it ended by signal %d" % -call.status
+    if call.error:
+        return "it wrote to standard error"
+    if call.status == 5:
+        return "it says that there was no memory"
+    rows = FORMS.get(words[0] if words else b"", NO_WORDS)
+    if call.status not in rows:
+        return "its status is not one of the command's"
+    text = without_output(call.output)[0] if words[:1] == [b"run"] else call.output
+    if not rows[call.status].fullmatch(text):
+        return "its text is not one of the status"
+    if words[:1] == [b"run"] and text.startswith(b"output"):
+        return counts_wrong(text, int(words[-1]))
+    return None

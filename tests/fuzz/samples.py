@@ -1,0 +1,138 @@
+"""What is turned: objects, and the images, graphs and maps that the program makes of them, with policies and scripts.
+
+The objects are those of tests/objects, those of bench/families.py that do not name the same bytes as two sections, and, where
+compilers are there, the programs of tests/real.
+"""
+
+import os
+import struct
+import sys
+from typing import NamedTuple, Optional
+
+sys.dont_write_bytecode = True
+HERE = os.path.dirname(os.path.abspath(__file__))
+sys.path[:0] = [os.path.join(HERE, "..", "real"), os.path.join(HERE, "..", "..", "bench")]
+
+import families
+import programs
+from turns import SYMTAB, sections
+
+LEVELS = ["-O0", "-O2"]
+SIZES = 3000, 50000  # bytes of an object of a family
+USUAL = 20000  # bytes of a sample: larger ones are drawn less often
+DATA, STACK = 0x10000, 0x10000000
+INPUT = b"1+2*3\n(4 - 10) * -7\n" + programs.PROGRAMS[-1].input
+
+
+class Symbol(NamedTuple):
+    name: bytes
+    section: int
+    value: int
+
+
+class Sample(NamedTuple):
+    """An object with a name of a function of it, its image, graph and map where it can be hardened, and a policy of it."""
+    name: str
+    object: bytes
+    entry: bytes
+    image: Optional[bytes]
+    graph: Optional[bytes]
+    map: Optional[bytes]
+    policy: Optional[bytes]
+
+
+def symbols(content):
+    """The symbols of an object that have a name."""
+    found = sections(content)
+    table = next((it for it in found if it.kind == SYMTAB), None)
+    if table is None or table.link >= len(found):
+        return []
+    names = content[found[table.link].start:][:found[table.link].size]
+    rows = [struct.unpack_from("<IBBHQQ", content, at) for at in range(table.start, table.start + table.size - 23, 24)]
+    named = [Symbol(names[row[0]:].split(b"\0", 1)[0], row[3], row[4]) for row in rows]
+    return [it for it in named if it.name and not set(it.name) & set(b" \n$")]
+
+
+def entries(content):
+    """The names that may be an object's entry, those first that programs have."""
+    found = sections(content)
+    names = [it.name for it in symbols(content) if it.section < len(found) and found[it.section].is_code]
+    return sorted(dict.fromkeys(names), key=lambda name: (name not in (b"_start", b"main"), names.index(name)))
+
+
+def place_of(content, rows, address):
+    """The PLACE of an instruction at an address of the image, by the rows of the map, or None."""
+    before = [(section, offset) for gate, section, offset in rows if gate <= address]
+    if not before:
+        return None
+    section, offset = before[-1]
+    near = [it for it in symbols(content) if it.section == section and it.value <= offset]
+    return b"%s+%x" % (near[-1].name, offset - near[-1].value) if near else None
+
+
+def policy_of(content, graph, map_file):
+    """A policy that lets each computed transfer go where the graph has it, as far as symbols name the places."""
+    rows = [tuple(int(word, 16) for word in line.split()[1:]) for line in map_file.splitlines() if line.startswith(b"at ")]
+    lines = [line.split() for line in graph.splitlines()]
+    classes = {words[1]: [place_of(content, rows, int(word, 16)) for word in words[2:]] for words in lines if words[0] == b"class"}
+    sites = [[place_of(content, rows, int(words[1], 16))] + classes[words[3]] for words in lines if words[0] == b"site"]
+    whole = [b" ".join([b"site"] + [it for it in places if it]) for places in sites if places[0]]
+    return b"\n".join([b"rvcfi-policy 1"] + whole + [b"end", b""])
+
+
+def script_of(draw):
+    """A script of a few changes of data, most of them where programs have data or a stack."""
+    lines, step = [], 0
+    for _ in range(draw.randrange(6)):
+        step += draw.choice([0, 1, draw.randrange(100), draw.randrange(3000)])
+        base = draw.choice([DATA, STACK - 512, STACK - 128, STACK - 128, STACK + 2048, 0])
+        at = min(max(0, base + draw.randrange(0, draw.choice([129, 512, 4096]), 8)), STACK + 4080)
+        lines.append(b"at %d %08x %s" % (step, at, draw.randbytes(draw.choice([1, 8, 16])).hex().encode()))
+    return b"\n".join([b"rvcfi-script 1"] + lines + [b"end", b""])
+
+
+def of_compilers(folder):
+    """The programs of tests/real by each compiler that is there: names and bytes."""
+    found = {}
+    for compiler in (programs.gcc, programs.clang):
+        try:
+            found.update(compiled(compiler(), folder))
+        except programs.Missing as what:
+            print("without the programs of %s, since there is no %s" % (compiler.__name__, what))
+    return found
+
+
+def compiled(compiler, folder):
+    paths = [programs.joined(compiler, level, program, folder) for level in LEVELS for program in programs.PROGRAMS]
+    return {os.path.basename(path): read(path) for path in paths}
+
+
+def read(path):
+    with open(path, "rb") as file:
+        return file.read()
+
+
+def objects(folder):
+    """All objects: names and bytes."""
+    stored = os.path.join(HERE, "..", "objects")
+    found = {name: read(os.path.join(stored, name)) for name in sorted(os.listdir(stored)) if name.endswith(".o")}
+    found.update({"%s_%d" % (family.__name__, size): family(size) for family in families.FAMILIES for size in SIZES})
+    return {**found, **of_compilers(folder)}
+
+
+def sample(name, content, program, folder):
+    """A sample of an object, hardened at the first of its names that is taken."""
+    path = os.path.join(folder, "object")
+    with open(path, "wb") as file:
+        file.write(content)
+    made = [os.path.join(folder, end) for end in ("image", "graph", "map")]
+    names = entries(content)[:5] or [b"main"]
+    for entry in names:
+        if program.call([b"rewrite", path, entry, b"none"] + made, folder).status == 0:
+            image, graph, map_file = (read(path) for path in made)
+            return Sample(name, content, entry, image, graph, map_file, policy_of(content, graph, map_file))
+    return Sample(name, content, names[0], None, None, None, None)
+
+
+def samples(program, folder):
+    return [sample(name, content, program, folder) for name, content in objects(folder).items()]
