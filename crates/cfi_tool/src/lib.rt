@@ -1,12 +1,14 @@
 //! The tool: the words of a command line, over files and an output that are handed in, to a status.
-//! Its one call is `rvcfi`.
+//! Its call is `rvcfi`; another is the same over files that never fail.
 #![tactic(auto)]
 
 pub use cfi_commands::Verdict;
 pub use cfi_files::Refusal;
 pub use cfi_files::status::NO_MEMORY;
 pub use command::rvcfi;
+pub use sure::rvcfi_over_sure_files;
 
 mod command;
 mod outcome;
 mod request;
+mod sure;

@@ -1,11 +1,9 @@
-//! Command lines, with the status and the text of each.
+//! Command lines, with the status and the text of each, and the lines of verdicts.
 
 use crate::calls::check;
-use crate::pairs::{image_of, verifies};
 use cfi_tool::{Refusal, Verdict};
 use cfi_verify::{Reject, Rule};
 use elf_image::ImageRefusal;
-use sample_programs::{A, A_GRAPH};
 use std::alloc::Global;
 use text_lines::Reason;
 
@@ -33,30 +31,6 @@ const COMMANDS: &[u8] = b"\
 #[test]
 fn commands(rt: HostRuntime) {
     check(&rt, rt.alloc(), COMMANDS, 18);
-}
-
-/// Whether an image that is cut to this length is refused by it.
-fn is_refused(alloc: Global, image: &[u8], cut: usize) -> bool {
-    let Ok(line) = format!(in alloc; "refused 22 Short {cut}\n") else {
-        return false;
-    };
-    verifies(alloc, image, A_GRAPH, line.as_str())
-}
-
-/// Whether an image of two pages is refused where only its first bytes are left.
-fn cut_is_refused(alloc: Global, cut: usize) -> bool {
-    let Ok(image) = image_of(alloc, &A, &[]) else {
-        return false;
-    };
-    image.len() == 8192 && is_refused(alloc, image.get(..cut).unwrap_or(&image), cut)
-}
-
-/// Every image that is cut short is refused, by its length alone.
-#[test]
-fn cut_images(rt: HostRuntime) {
-    for cut in 0..300_usize {
-        assert!(rt; cut_is_refused(rt.alloc(), cut), "{cut}");
-    }
 }
 
 /// Verdicts, and the line of each.

@@ -1,9 +1,8 @@
 //! The command `compare`: programs against images, theirs and others', and what is refused.
 
 use crate::calls::check_over;
-use crate::files::add_texts;
-use crate::objects::{Given, Source, add_object};
 use rv_word::NoMemory;
+use sample_calls::{Given, Source, add_object, add_texts};
 use std::alloc::Global;
 use tool_io::MemFiles;
 
@@ -34,14 +33,13 @@ static OBJECTS: [(&str, Given); 16] = [
     ("range", Given(Source::Calling, 144, b"ffffff7f")),
 ];
 
-/// Maps that are wrong at the first line, at the line `end` and by a number; an object that is none, and an empty file.
-static TEXTS: [(&str, &[u8]); 5] = [
+/// Maps that are wrong at the first line and at the line `end`; an object that is none, and an empty file.
+static TEXTS: [(&str, &[u8]); 4] = [
     (
         "first",
         b"rvcfi-map 1\nat 40000044 0001 00000000\nat 40000048 0001 00000004\nat 4000005c 0001 00000008\nend\n",
     ),
     ("short", b"rvcfi-map 1\nat 40000040 0001 00000000\nend\n"),
-    ("odd", b"rvcfi-map 1\nat 40000041 0001 00000000\nend\n"),
     ("1", b"none"),
     ("empty", b""),
 ];
@@ -92,7 +90,6 @@ const LINES: &[u8] = b"\
     rvcfi,compare,b.o,main,none,b.img,p.map,none,9 = 1: refused 24 Map 4 Place\n;\
     rvcfi,compare,b.o,main,none,b.img,first,none,9 = 1: refused 24 Map 2 Place\n;\
     rvcfi,compare,b.o,main,none,b.img,short,none,9 = 1: refused 24 Map 3 Place\n;\
-    rvcfi,compare,b.o,main,none,b.img,odd,none,9 = 1: refused 24 Map 2 Range\n;\
     rvcfi,compare,b.o,main,none,b.img,b.map,none,1000000001 = 2: usage: rvcfi rewrite|verify|run|compare|demo\n;\
     rvcfi,compare,b.o,main,none,b.img,b.map,none = 2: usage: rvcfi rewrite|verify|run|compare|demo\n;\
     rvcfi,compare,b.o,main,b.img,b.map,none,9 = 2: usage: rvcfi rewrite|verify|run|compare|demo\n;\
@@ -114,5 +111,5 @@ fn add_all(alloc: Global, files: &mut MemFiles) -> Result<(), NoMemory> {
 fn compared(rt: HostRuntime) {
     let mut files = MemFiles::new(rt.alloc(), Vec::new(rt.alloc()));
     assert!(rt; add_all(rt.alloc(), &mut files).is_ok());
-    check_over(&rt, rt.alloc(), &mut files, LINES, 53);
+    check_over(&rt, rt.alloc(), &mut files, LINES, 52);
 }

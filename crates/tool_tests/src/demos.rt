@@ -1,6 +1,7 @@
 //! The command `demo`: the lines that another generator, hardener and interpreter gave for three numbers.
 
-use crate::calls::{check_over, ends_with};
+use crate::calls::check_over;
+use sample_calls::ends_with;
 use std::alloc::Global;
 use tool_io::{MemFiles, MemSink};
 

@@ -1,7 +1,7 @@
 //! The files that the tool reads in the tests.
 
-use crate::pairs::image_of;
 use rv_word::NoMemory;
+use sample_calls::{add_image, add_texts};
 use sample_programs::{
     A, A_CLASS_GRAPH, A_GRAPH, AIMED, AIMED_GRAPH, ASTRAY, B, B_GRAPH, BREAK, BREAK_GRAPH, DEEP,
     DEEP_GRAPH, ECHO, ECHO_GRAPH, EDGE, EDGE_GRAPH, H, H_GRAPH, LOAD, LOAD_GRAPH, LOOP, LOOP_GRAPH,
@@ -33,7 +33,7 @@ static IMAGES: [(&str, &[u32], &[u8]); 17] = [
 ];
 
 /// Graphs, scripts, inputs and files that are none of these, by their names.
-static TEXTS: [(&str, &[u8]); 33] = [
+static TEXTS: [(&str, &[u8]); 31] = [
     ("graph", A_GRAPH),
     ("a.graph", A_GRAPH),
     ("b.graph", B_GRAPH),
@@ -63,11 +63,6 @@ static TEXTS: [(&str, &[u8]); 33] = [
         b"rvcfi-script 1\nat 11 00010000 05\nat 11 00010000 06\nend\n",
     ),
     ("range", b"rvcfi-script 1\nat 1 10001000 00\nend\n"),
-    ("form", b"rvcfi-script 1\nat 1 00010000 0\nend\n"),
-    (
-        "order",
-        b"rvcfi-script 1\nat 2 00000000 00\nat 1 00000000 00\nend\n",
-    ),
     ("./none", b"rvcfi-script 1\nat 11 00010000 09\nend\n"),
     ("digits", b"0123456789"),
     ("empty", b""),
@@ -86,22 +81,4 @@ pub(crate) fn add_files(alloc: Global, files: &mut MemFiles) -> Result<(), NoMem
     add_texts(files, &TEXTS)?;
     let zeros = vec![in alloc; 0; 67_108_865]?;
     Ok(files.insert("long", &zeros)?)
-}
-
-/// Adds the image of its units and data.
-pub(crate) fn add_image(
-    alloc: Global,
-    files: &mut MemFiles,
-    image: &(&str, &[u32], &[u8]),
-) -> Result<(), NoMemory> {
-    let bytes = image_of(alloc, image.1, image.2)?;
-    Ok(files.insert(image.0, &bytes)?)
-}
-
-/// Adds files by their names and bytes.
-pub(crate) fn add_texts(files: &mut MemFiles, texts: &[(&str, &[u8])]) -> Result<(), NoMemory> {
-    for text in texts {
-        files.insert(text.0, text.1)?;
-    }
-    Ok(())
 }

@@ -1,9 +1,8 @@
 //! A computed jump whose destination a script turns before each step of its words. The counts of steps and
 //! the walks are worked out by hand.
 
-use crate::calls::answers;
-use crate::files::add_image;
 use rv_word::NoMemory;
+use sample_calls::{add_image, answers};
 use sample_programs::{JUMP, JUMP_DATA, JUMP_GRAPH};
 use std::alloc::Global;
 use tool_io::MemFiles;

@@ -1,5 +1,5 @@
-//! Tests of the tool through its public calls: command lines, verdicts, runs, hardened objects, and files and outputs that
-//! fail. They stand beside the crates that they test, so that these are proved once.
+//! Tests of the tool through its public calls: command lines, verdicts, runs, hardened objects, comparisons and demos. They
+//! stand beside the crates that they test, so that these are proved once.
 #![tactic(auto)]
 
 #[cfg(test)]
@@ -11,19 +11,11 @@ mod compares;
 #[cfg(test)]
 mod demos;
 #[cfg(test)]
-mod faults;
-#[cfg(test)]
 mod files;
 #[cfg(test)]
 mod jumps;
 #[cfg(test)]
 mod longest;
-#[cfg(test)]
-mod objects;
-#[cfg(test)]
-mod outside;
-#[cfg(test)]
-mod pairs;
 #[cfg(test)]
 mod rewrites;
 #[cfg(test)]

@@ -1,8 +1,7 @@
 //! As much code as an image may have: instructions that do nothing, and a stop.
 
-use crate::calls::answers;
-use crate::files::add_image;
 use rv_word::NoMemory;
+use sample_calls::{add_image, answers};
 use std::alloc::{AllocError, Global};
 use tool_io::MemFiles;
 

@@ -1,16 +1,16 @@
 //! The command `rewrite`: what it puts, and the files that it writes.
 
-use crate::calls::{answers, check_over, ends_with, holds};
-use crate::files::{add_files, add_image, add_texts};
-use crate::objects::{Given, Source, add_object};
+use crate::calls::check_over;
+use crate::files::add_files;
 use rv_word::NoMemory;
+use sample_calls::{Given, Source, add_image, add_object, add_texts, answers};
 use sample_objects::{B_MAP, H_MAP, NARROW_MAP, NOWHERE_MAP, P_MAP};
 use sample_programs::{
     B, B_GRAPH, H, H_GRAPH, NARROW, NARROW_GRAPH, NOWHERE, NOWHERE_GRAPH, P, P_DATA, P_GRAPH,
     RELABELLED, RELABELLED_GRAPH,
 };
 use std::alloc::Global;
-use tool_io::{MemFiles, MemSink};
+use tool_io::MemFiles;
 
 const POLICY: &[u8] = b"rvcfi-policy 1\nsite main+10 f+0\nend\n";
 
@@ -110,20 +110,11 @@ fn hardened(rt: HostRuntime) {
 
 /// Objects by their names: the first are named by the number of the refusal of their one fault.
 #[rattlefmt::skip]
-static OBJECTS: [(&str, Given); 27] = [
-    ("1", Given(Source::Returning, 4, b"01")),
-    ("2", Given(Source::Returning, 16, b"0200")),
-    ("3", Given(Source::Returning, 18, b"3e00")),
-    ("4", Given(Source::Returning, 48, b"01000000")),
+static OBJECTS: [(&str, Given); 12] = [
     // Ten sections from an offset after the file's end.
     ("5", Given(Source::Returning, 40, b"00020000000000000000000040000000000040000a00")),
-    ("6", Given(Source::Returning, 58, b"3f00")),
-    ("7", Given(Source::Returning, 200, b"07")),
-    ("8", Given(Source::Returning, 100, b"1a")),
     ("9", Given(Source::Returning, 64, b"130f100000000000")),
     ("10", Given(Source::Returning, 64, b"130f100067800000")),
-    ("11", Given(Source::Returning, 64, b"e7820200")),
-    ("12", Given(Source::Returning, 64, b"17050000")),
     // A relocation of a kind that is for data, and of one that is for branches.
     ("13", Given(Source::Calling, 136, b"02")),
     ("14", Given(Source::Calling, 136, b"10")),
@@ -138,13 +129,6 @@ static OBJECTS: [(&str, Given); 27] = [
     ),
     // An AUIPC that is to reach four gigabytes further.
     ("21", Given(Source::Writing, 200, b"0000000001000000")),
-    ("align", Given(Source::Returning, 240, b"03")),
-    ("group", Given(Source::Returning, 196, b"11")),
-    ("nobits", Given(Source::Returning, 196, b"08")),
-    ("section", Given(Source::Returning, 102, b"f3ff")),
-    ("value", Given(Source::Returning, 104, b"09")),
-    // The flag of total store ordering (RISC-V ELF psABI, "File Header") is taken.
-    ("ordered", Given(Source::Returning, 48, b"10")),
     ("b.o", Given(Source::Returning, 0, b"")),
     ("p.o", Given(Source::Calling, 0, b"")),
     ("own", Given(Source::Returning, 0, b"")),
@@ -160,24 +144,10 @@ static POLICIES: [(&str, &[u8]); 2] = [
 /// image.
 const LINES: &[u8] = b"\
     rvcfi,rewrite,empty,main,none,i,g,m = 1: refused 1 NotElf\n;\
-    rvcfi,rewrite,1,main,none,i,g,m = 1: refused 1 NotElf\n;\
-    rvcfi,rewrite,2,main,none,i,g,m = 1: refused 2 NotRelocatable 2\n;\
-    rvcfi,rewrite,3,main,none,i,g,m = 1: refused 3 NotRiscv 62\n;\
-    rvcfi,rewrite,4,main,none,i,g,m = 1: refused 4 Flags 1\n;\
     rvcfi,rewrite,5,main,none,i,g,m = 1: refused 5 Truncated 512\n;\
-    rvcfi,rewrite,6,main,none,i,g,m = 1: refused 6 BadTable 0\n;\
-    rvcfi,rewrite,7,main,none,i,g,m = 1: refused 7 SectionKind 1\n;\
-    rvcfi,rewrite,align,main,none,i,g,m = 1: refused 7 SectionKind 1\n;\
-    rvcfi,rewrite,group,main,none,i,g,m = 1: refused 7 SectionKind 1\n;\
-    rvcfi,rewrite,nobits,main,none,i,g,m = 1: refused 7 SectionKind 1\n;\
-    rvcfi,rewrite,8,main,none,i,g,m = 1: refused 8 BadSymbol 1\n;\
-    rvcfi,rewrite,section,main,none,i,g,m = 1: refused 8 BadSymbol 1\n;\
-    rvcfi,rewrite,value,main,none,i,g,m = 1: refused 8 BadSymbol 1\n;\
     rvcfi,rewrite,9,main,none,i,g,m = 1: refused 9 Undecodable 1 4 0\n;\
     rvcfi,rewrite,10,main,none,i,g,m = 1: refused 10 ReservedRegister 1 0\n;\
     rvcfi,rewrite,10,nain,empty,i,g,m = 1: refused 10 ReservedRegister 1 0\n;\
-    rvcfi,rewrite,11,main,none,i,g,m = 1: refused 11 BadTransfer 1 0\n;\
-    rvcfi,rewrite,12,main,none,i,g,m = 1: refused 12 BadPair 1 0\n;\
     rvcfi,rewrite,13,main,none,i,g,m = 1: refused 13 RelocKind 1 8 2\n;\
     rvcfi,rewrite,14,main,none,i,g,m = 1: refused 14 RelocPlace 1 8\n;\
     rvcfi,rewrite,15,main,none,i,g,m = 1: refused 15 Undefined 4\n;\
@@ -194,13 +164,12 @@ const LINES: &[u8] = b"\
     rvcfi,rewrite,b.o,main,none,i,g = 2: usage: rvcfi rewrite|verify|run|compare|demo\n;\
     rvcfi,rewrite,b.o,main,none,i,g,m,m = 2: usage: rvcfi rewrite|verify|run|compare|demo\n;\
     rvcfi,rewrite,absent,main,nothing,i,g,m = 3: read fault absent\n;\
-    rvcfi,rewrite,1,main,nothing,i,g,m = 3: read fault nothing\n;\
+    rvcfi,rewrite,9,main,nothing,i,g,m = 3: read fault nothing\n;\
     rvcfi,rewrite,long,main,nothing,i,g,m = 6: too long long\n;\
-    rvcfi,rewrite,1,main,long,i,g,m = 6: too long long\n;\
+    rvcfi,rewrite,9,main,long,i,g,m = 6: too long long\n;\
     rvcfi,verify,i,g = 3: read fault i\n;\
     rvcfi,verify,a.img,g = 3: read fault g\n;\
     rvcfi,verify,a.img,m = 3: read fault m\n;\
-    rvcfi,rewrite,ordered,main,none,i,g,m = 0: rewritten code 92 data 0 classes 0 sites 0\n;\
     rvcfi,rewrite,p.o,main,policy,i,g,m = 0: rewritten code 256 data 16 classes 1 sites 1\n;\
     rvcfi,rewrite,p.o,f,none,i,g,m = 0: rewritten code 260 data 16 classes 1 sites 1\n;\
     rvcfi,verify,i,g = 0: accepted\n;\
@@ -221,68 +190,5 @@ fn lines(rt: HostRuntime) {
     let mut files = MemFiles::new(rt.alloc(), Vec::new(rt.alloc()));
     assert!(rt; add_files(rt.alloc(), &mut files).is_ok());
     assert!(rt; add_objects(rt.alloc(), &mut files).is_ok());
-    check_over(&rt, rt.alloc(), &mut files, LINES, 48);
-}
-
-/// The calls of the files and of the output that fail, the status, the text, and whether each of the image, the graph and the map
-/// is written.
-struct Fault(&'static [u64], &'static [u64], u8, &'static str, [bool; 3]);
-
-#[rattlefmt::skip]
-static FAULTS: [Fault; 8] = [
-    Fault(&[0], &[], 3, "read fault object\n", [false, false, false]),
-    Fault(&[1], &[], 3, "read fault policy\n", [false, false, false]),
-    Fault(&[2], &[], 4, "", [false, false, false]),
-    Fault(&[3], &[], 4, "", [true, false, false]),
-    Fault(&[4], &[], 4, "", [true, true, false]),
-    Fault(&[], &[0], 4, "", [true, true, true]),
-    Fault(&[0], &[0], 4, "", [false, false, false]),
-    Fault(&[], &[], 0, "rewritten code 92 data 0 classes 0 sites 0\n", [true, true, true]),
-];
-
-/// Whether the files are there that should be, each whole.
-fn are_whole(files: &MemFiles, there: &[bool; 3]) -> bool {
-    (files.get("image") == files.get("wanted")) == there[0]
-        && has(files, "graph", B_GRAPH) == there[1]
-        && has(files, "map", B_MAP) == there[2]
-}
-
-/// Adds an object that returns 7, its image and a policy without a line.
-fn add_returning(alloc: Global, files: &mut MemFiles) -> Result<(), NoMemory> {
-    add_object(alloc, files, "object", &Given(Source::Returning, 0, b""))?;
-    add_image(alloc, files, &("wanted", &B, b""))?;
-    Ok(files.insert("policy", b"rvcfi-policy 1\nend\n")?)
-}
-
-/// Whether the tool ends as a fault's row says.
-fn ends_as(alloc: Global, files: &mut MemFiles, fault: &Fault) -> bool {
-    let Ok(puts) = Vec::from_slice(alloc, fault.1) else {
-        return false;
-    };
-    let mut out = MemSink::new(alloc, puts);
-    ends_with(
-        alloc,
-        "rvcfi,rewrite,object,main,policy,image,graph,map",
-        files,
-        &mut out,
-        fault.2,
-    ) && holds(&out, fault.3, "")
-}
-
-/// Whether what stands after a fault is as its row says.
-fn is_told(alloc: Global, fault: &Fault) -> bool {
-    let Ok(calls) = Vec::from_slice(alloc, fault.0) else {
-        return false;
-    };
-    let mut files = MemFiles::new(alloc, calls);
-    add_returning(alloc, &mut files).is_ok()
-        && ends_as(alloc, &mut files, fault)
-        && are_whole(&files, &fault.4)
-}
-
-#[test]
-fn faults(rt: HostRuntime) {
-    for fault in &FAULTS {
-        assert!(rt; is_told(rt.alloc(), fault), "{:?} {:?}", fault.0, fault.1);
-    }
+    check_over(&rt, rt.alloc(), &mut files, LINES, 33);
 }

@@ -35,9 +35,6 @@ const RUNS: &[u8] = b"\
     rvcfi,run,echo.img,echo.graph,none,digits,100 = 0: output 10\n0123456789\nstop exit 0\nsteps 54\nwalk 40\ntrail 4000004c 40000050 40000054 40000058 40000060 40000064 40000068 4000006c 40000044 40000048 4000004c 40000050 40000054 40000058 40000070 40000038\n;\
     rvcfi,run,echo.img,echo.graph,none,none,100 = 0: output 0\n\nstop exit 0\nsteps 24\nwalk 10\ntrail 4000000c 40000040 40000044 40000048 4000004c 40000050 40000054 40000058 40000070 40000038\n;\
     rvcfi,run,class.img,class.graph,none,none,100 = 1: rejected Astray 40000040\n;\
-    rvcfi,run,a.img,a.graph,range,none,100 = 1: refused 25 Script 2 Range\n;\
-    rvcfi,run,a.img,a.graph,form,none,100 = 1: refused 25 Script 2 Form\n;\
-    rvcfi,run,a.img,a.graph,order,none,100 = 1: refused 25 Script 3 Order\n;\
     rvcfi,run,a.img,a.graph,empty,none,100 = 1: refused 25 Script 1 Form\n;\
     rvcfi,run,a.img,b.graph,range,none,100 = 1: refused 25 Script 2 Range\n;\
     rvcfi,run,a.img,b.graph,none,none,100 = 1: rejected Length 80 92\n;\
@@ -60,5 +57,5 @@ const RUNS: &[u8] = b"\
 
 #[test]
 fn runs(rt: HostRuntime) {
-    check(&rt, rt.alloc(), RUNS, 52);
+    check(&rt, rt.alloc(), RUNS, 49);
 }

@@ -1,6 +1,6 @@
 use Rattle.std.proofs.Common.{arith}
 use Rattle.std.proofs.lemmas.Map.Text.{text_keys}
-use Rattle.tool_io.proofs.mem_files.put_entry.Goals as goal
+use Rattle.tool_io.proofs.entries.put_entry.Goals as goal
 
 pub returns-clause-others : goal.returns-clause-others
 returns-clause-others c = grind (arith, text_keys)

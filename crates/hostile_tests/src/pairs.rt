@@ -1,8 +1,7 @@
 //! Pairs of an image and a graph, and the line that is printed of each.
 
-use crate::calls::answers;
-use elf_image::write_image;
 use rv_word::NoMemory;
+use sample_calls::{answers, image, image_of, put};
 use sample_programs::{A, A_CLASS_GRAPH, A_GRAPH, B, B_GRAPH, P, P_GRAPH, code};
 use std::alloc::{AllocError, Global};
 use tool_io::MemFiles;
@@ -64,78 +63,10 @@ static CASES: [Case; 22] = [
     Case(&P, 0xcc, 0x00001037, P_GRAPH, "rejected Astray 400000cc\n"),
 ];
 
-/// Texts that are no graph of the program that exits.
-static GRAPHS: [Case; 7] = [
-    Case(&A, 0x00, 0x00100073, b"", "refused 23 Graph 1 Form\n"),
-    Case(
-        &A,
-        0x00,
-        0x00100073,
-        b"rvcfi-graph 9\ncode 40000000 00000050\ncall 4000000c 40000040\nend\n",
-        "refused 23 Graph 1 Form\n",
-    ),
-    Case(
-        &A,
-        0x00,
-        0x00100073,
-        b"rvcfi-graph 1\ncode 40000000 00000052\ncall 4000000c 40000040\nend\n",
-        "refused 23 Graph 2 Range\n",
-    ),
-    Case(
-        &A,
-        0x00,
-        0x00100073,
-        b"rvcfi-graph 1\ncode 40000000 00000050\ncall 4000000c 40000050\nend\n",
-        "refused 23 Graph 3 Range\n",
-    ),
-    Case(
-        &A,
-        0x00,
-        0x00100073,
-        b"rvcfi-graph 1\ncode 40000000 00000050\ncall 4000000c 40000040\ncall 4000000c 40000040\nend\n",
-        "refused 23 Graph 4 Order\n",
-    ),
-    Case(
-        &A,
-        0x00,
-        0x00100073,
-        b"rvcfi-graph 1\ncode 40000000 00000050\ncall 4000000c 40000040\nend",
-        "refused 23 Graph 4 Form\n",
-    ),
-    Case(
-        &A,
-        0x00,
-        0x00100073,
-        b"rvcfi-graph 1\ncode 40000000 00000050\ncall 4000000c 40000040\nend\nend\n",
-        "refused 23 Graph 5 Form\n",
-    ),
-];
-
-/// The image of some code and data; none of code that no image may have.
-fn image(alloc: Global, code: &[u8], data: &[u8]) -> Result<Vec<u8>, NoMemory> {
-    let (len, init) = (code.len(), data.len());
-    if len < 4 || len > 0x10_0000 || len % 4 != 0 || init > 0x200_0000 {
-        return Ok(Vec::new(alloc));
-    }
-    write_image(alloc, code, data)
-}
-
-/// The image of the prologue, some units and data.
-pub(crate) fn image_of(alloc: Global, units: &[u32], data: &[u8]) -> Result<Vec<u8>, NoMemory> {
-    image(alloc, &code(alloc, units)?, data)
-}
-
-/// Puts one word in place of that at an offset of code, if it lies there.
-fn put(code: &mut [u8], at: usize, word: u32) {
-    if let Some(place) = code.get_mut(at..at.saturating_add(4)) {
-        place.copy_from_slice(&word.to_le_bytes());
-    }
-}
-
 /// The code of the prologue and some units, with one word in place of that at an offset.
 fn code_with(alloc: Global, units: &[u32], at: usize, word: u32) -> Result<Vec<u8>, AllocError> {
     let mut bytes = code(alloc, units)?;
-    put(&mut bytes, at, word);
+    put(&mut bytes, at, &word.to_le_bytes());
     Ok(bytes)
 }
 
@@ -145,7 +76,7 @@ fn image_with(alloc: Global, case: &Case) -> Result<Vec<u8>, NoMemory> {
 }
 
 /// Whether the tool puts a text of an image and a graph, and ends with its status.
-pub(crate) fn verifies(alloc: Global, image: &[u8], graph: &[u8], text: &str) -> bool {
+fn verifies(alloc: Global, image: &[u8], graph: &[u8], text: &str) -> bool {
     let mut files = MemFiles::new(alloc, Vec::new(alloc));
     let status = u8::from(text != "accepted\n");
     files.insert("image", image).is_ok()
@@ -168,9 +99,26 @@ fn pairs(rt: HostRuntime) {
     }
 }
 
+/// Whether an image that is cut to this length is refused by it.
+fn is_refused(alloc: Global, image: &[u8], cut: usize) -> bool {
+    let Ok(line) = format!(in alloc; "refused 22 Short {cut}\n") else {
+        return false;
+    };
+    verifies(alloc, image, A_GRAPH, line.as_str())
+}
+
+/// Whether an image of two pages is refused where only its first bytes are left.
+fn cut_is_refused(alloc: Global, cut: usize) -> bool {
+    let Ok(image) = image_of(alloc, &A, &[]) else {
+        return false;
+    };
+    image.len() == 8192 && is_refused(alloc, image.get(..cut).unwrap_or(&image), cut)
+}
+
+/// Every image that is cut short is refused, by its length alone.
 #[test]
-fn graphs(rt: HostRuntime) {
-    for case in &GRAPHS {
-        assert!(rt; is_right(rt.alloc(), case), "{}", case.4);
+fn cut_images(rt: HostRuntime) {
+    for cut in 0..300_usize {
+        assert!(rt; cut_is_refused(rt.alloc(), cut), "{cut}");
     }
 }

@@ -1,0 +1,11 @@
+//! How tests call the tool: command lines over files in memory, which have images of sample programs and sample objects.
+//! They stand here alone, since several crates of tests use them.
+#![tactic(auto)]
+
+pub use calls::{answers, ends_with, holds};
+pub use files::{add_image, add_texts, image, image_of};
+pub use objects::{Given, Source, add_object, bytes_of, decoded, put};
+
+mod calls;
+mod files;
+mod objects;
