@@ -1,4 +1,5 @@
 pub mod LineForms
+pub mod Fixed
 pub mod Rising
 pub mod Spelled
 pub mod Whole

@@ -1,4 +1,4 @@
-ghost use Rattle.std.specs.Prelude.{◌≡◌, IfOk, option_map};
+ghost use Rattle.std.specs.Prelude.{◌≡◌, IfOk, IfSome, Some, option_map};
 ghost use Rattle.cfi_graph.specs.Lines.{
   addresses_of,
   class_of,
@@ -94,9 +94,35 @@ fn pair(words: Option<&[u8]>) -> Option<(u64, u64)>
     Some((u64::from(from), u64::from(to)))
 }
 
-/// The line of a graph that these bytes spell, if they have the form of one.
+/// The length of a line of a name of four letters and two addresses.
+const PAIR_LINE: usize = 22;
+
+/// The edge or call that a line of four letters, a space, eight digits, a space and eight digits spells:
+/// most lines of a graph, so they are read without a search for their spaces. Of any other line it says
+/// nothing.
+fn pair_line(line: &[u8]) -> Option<GraphLine>
+    ensures { IfSome result (λ l. line_of (words_of line.now) ≡ Some l) }
+{
+    if line.len() != PAIR_LINE {
+        return None;
+    }
+    if line[4] != b' ' || line[13] != b' ' {
+        return None;
+    }
+    let from = hex_of(&line[5..13], 8)?;
+    let to = hex_of(&line[14..], 8)?;
+    if is_word(&line[..4], b"edge") {
+        return Some(GraphLine::Edge(u64::from(from), u64::from(to)));
+    }
+    if is_word(&line[..4], b"call") {
+        return Some(GraphLine::Call(u64::from(from), u64::from(to)));
+    }
+    None
+}
+
+/// The line of a graph that the words of these bytes spell, if they spell one.
 #[tactic(auto, unfolding(crate::specs::Lines::line_of))]
-pub(crate) fn line_of(alloc: Global, line: &[u8]) -> Result<Option<GraphLine>, NoMemory>
+fn line_of_words(alloc: Global, line: &[u8]) -> Result<Option<GraphLine>, NoMemory>
     ensures { IfOk result (λ r. r ≡ line_of (words_of line.now)) }
 {
     let (name, words) = cut(line, b' ');
@@ -113,6 +139,16 @@ pub(crate) fn line_of(alloc: Global, line: &[u8]) -> Result<Option<GraphLine>, N
         return Ok(pair(words).map(|(from, to)| GraphLine::Call(from, to)));
     }
     Ok(None)
+}
+
+/// The line of a graph that these bytes spell, if they have the form of one.
+pub(crate) fn line_of(alloc: Global, line: &[u8]) -> Result<Option<GraphLine>, NoMemory>
+    ensures { IfOk result (λ r. r ≡ line_of (words_of line.now)) }
+{
+    if let Some(found) = pair_line(line) {
+        return Ok(Some(found));
+    }
+    line_of_words(alloc, line)
 }
 
 /// The length of the code that the second line gives, if the line has its form.

@@ -1,6 +1,7 @@
-ghost use Rattle.std.specs.Prelude.{◌≡◌, ◌<◌, IfOk, IfSome, length, option_map};
-ghost use Rattle.text_lines.specs.Answers.{Answers, UnlessNoMemory};
+ghost use Rattle.std.specs.Prelude.{◌≡◌, ◌<◌, [], IfOk, IfSome, length, option_map};
+ghost use Rattle.text_lines.specs.Answers.{AfterNoMemory, Answers, UnlessNoMemory};
 ghost use Rattle.text_lines.specs.Lines.{parts_after, words_of};
+ghost use Rattle.text_lines.specs.Reading.{FirstCollected};
 ghost use Rattle.cfi_graph.specs.Policy.{
   last_plus,
   named_at,
@@ -146,6 +147,9 @@ impl LineForm for PolicyForm {
 pub fn read_policy_part(alloc: Global, text: &[u8]) -> (Policy, Result<(), TextEnd>)
     ensures exact { Answers result.1 (policy_read text.now).end }
     ensures lines { UnlessNoMemory result.1 (result.0 ≡ (policy_read text.now).items) }
+
+    // After want of memory the first of these were collected.
+    ensures begun { AfterNoMemory result.1 (FirstCollected [] result.0 (policy_read text.now).items) }
 {
     let mut form = PolicyForm {
         lines: Vec::new(alloc),

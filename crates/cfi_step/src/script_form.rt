@@ -1,4 +1,4 @@
-ghost use Rattle.std.specs.Prelude.{◌≡◌, ◌++◌, true, IfOk, OnOk};
+ghost use Rattle.std.specs.Prelude.{◌≡◌, ◌++◌, true, IfOk, OnOk, OnErr};
 ghost use Rattle.text_lines.specs.Answers.{Answers};
 ghost use Rattle.cfi_step.specs.Script.{IsScript};
 ghost use Rattle.cfi_step.specs.ScriptText.{line_changes, in_range, script_of, script_rules};
@@ -18,15 +18,17 @@ fn in_range(line: &ScriptLine) -> bool
     line.step <= MAX_STEP && len <= DATA_END && u64::from(line.address) <= DATA_END - len
 }
 
-/// Adds the changes of a line.
+/// Adds the changes of a line, all of them or none.
 fn push_line(changes: &mut Vec<(u64, Change)>, line: &ScriptLine) -> Result<(), NoMemory>
     requires { in_range line.now ≡ true }
-    ensures { OnOk result (changes.new.items ≡ changes.old.items ++ line_changes line.now) }
+    ensures pushed { OnOk result (changes.new.items ≡ changes.old.items ++ line_changes line.now) }
+    ensures refused { OnErr result (changes.new.items ≡ changes.old.items) }
 {
+    changes.reserve(line.bytes.len())?;
     let mut address = u64::from(line.address);
     for byte in line.bytes.as_slice() {
         if let Some(change) = Change::new(address, *byte) {
-            changes.push((line.step, change))?;
+            changes.push_reserved((line.step, change));
         }
         address += 1;
     }
@@ -84,8 +86,6 @@ impl Script {
             changes: Vec::new(alloc),
         };
         read_text(alloc, &mut form, b"rvcfi-script 1", text)?;
-        Ok(Script {
-            changes: form.changes,
-        })
+        Ok(Script::with(form.changes))
     }
 }

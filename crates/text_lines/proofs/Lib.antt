@@ -1,6 +1,8 @@
 pub mod Cuts
+pub mod Blocks
 pub mod Options
 pub mod Digits
+pub mod DigitTable
 pub mod DigitsOut
 pub mod Numbers
 pub mod Written

@@ -1,13 +1,14 @@
 -- The lines of a text, one step of their reading at a time. `all` is what the whole text gives after
 -- `init`, and `front` what was collected before this line.
-use Rattle.std.proofs.Common.{◌≡◌, ℕ, ◌+◌, true, false, List, [], ◌∷◌, ◌++◌, codes, Result, Ok, Err, refl, sym, ◌∙◌, ap, append_assoc}
+use Rattle.std.proofs.Common.{◌≡◌, ℕ, ◌+◌, true, false, List, [], ◌∷◌, ◌++◌, length, take, codes, Result, Ok, Err, refl, sym, ◌∙◌, ap, append_assoc}
 use Rattle.std.specs.List.{join_with_byte}
 use Rattle.std.specs.Str.{bytes_eq}
-use Rattle.std.proofs.lemmas.List.{append-nil}
+use Rattle.std.proofs.Math.Seq.{take-append_seam}
+use Rattle.std.proofs.lemmas.List.{append-nil, append_cancel_left}
 use Rattle.std.proofs.lemmas.List.Splits.{join_with_byte-slice_split}
-use Rattle.text_lines.specs.Answers.{Answers, UnlessNoMemory}
+use Rattle.text_lines.specs.Answers.{AfterNoMemory, Answers, UnlessNoMemory}
 use Rattle.text_lines.specs.Lines.{lines_of, words_of}
-use Rattle.text_lines.specs.Reading.{LineRules, Reading, after_name, at_end, judged, read, refused, with_front}
+use Rattle.text_lines.specs.Reading.{FirstCollected, LineRules, Reading, after_name, at_end, judged, read, refused, with_front}
 use Rattle.text_lines.specs.declared.reason.Reason.TheVariants.{Form}
 use Rattle.text_lines.specs.declared.end.TextEnd.{TextEnd}
 use Rattle.text_lines.specs.declared.end.TextEnd.TheVariants.{Line, NoMemory}
@@ -26,6 +27,26 @@ at_end-other number ((b ∷ line) ∷ next ∷ lines) ne = refl
 
 pub nothing_after : (rest : List ℕ) → lines_of rest ≡ [] ∷ [] → rest ≡ []
 nothing_after rest e = sym (join_with_byte-slice_split 10 rest) ∙ ap (join_with_byte 10) e
+
+-- more was put at the end
+abbrev pub Grown : {I : Type 0} → List I → List I → Type 0
+Grown {I} init front = (more : List I) × (front ≡ init ++ more)
+
+pub grown_more : {I : Type 0} (init front items : List I) → Grown init front → Grown init (front ++ items)
+grown_more init front items (more, e) = (more ++ items, ap (λ xs. xs ++ items) e ∙ append_assoc init more items)
+
+-- what was collected before this line is the first of what the whole text gives
+pub first_items : {I : Type 0} (init front : List I) (rest all : Reading I) → Grown init front → with_front front rest ≡ with_front init all → FirstCollected init front all.items
+first_items init front rest all (more, e) h =
+    let parts = sym (append_assoc init more rest.items) ∙ ap (λ xs. xs ++ rest.items) (sym e) ∙ ap (λ (r : Reading _). r.items) h in
+    let whole = append_cancel_left init (more ++ rest.items) all.items parts in
+    (length more, e ∙ ap (λ xs. init ++ xs) (sym (take-append_seam more rest.items) ∙ ap (λ xs. take (length more) xs) whole))
+
+-- what holds anyhow holds after want of memory
+pub after_any : {A P : Type 0} (answer : Result A TextEnd) → P → AfterNoMemory answer P
+after_any (Ok x) p = tt
+after_any (Err (Line n reason)) p = tt
+after_any (Err NoMemory) p = p
 
 -- the reading ends here
 pub record Ends {I : Type 0} (init front : List I) (all : Reading I) (last : Result (Unit {0}) TextEnd) : Type 0 where

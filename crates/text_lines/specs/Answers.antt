@@ -14,3 +14,9 @@ abbrev pub UnlessNoMemory : {A : Type 0} → Result A TextEnd → Type 0 → Typ
 UnlessNoMemory (Ok x) p = p
 UnlessNoMemory (Err (Line number reason)) p = p
 UnlessNoMemory (Err NoMemory) p = Unit {0}
+
+-- after want of memory
+abbrev pub AfterNoMemory : {A : Type 0} → Result A TextEnd → Type 0 → Type 0
+AfterNoMemory (Ok x) p = Unit {0}
+AfterNoMemory (Err (Line number reason)) p = Unit {0}
+AfterNoMemory (Err NoMemory) p = p

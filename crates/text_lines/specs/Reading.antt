@@ -2,7 +2,7 @@
 -- fails is named by its number, with the first of three reasons. Form: it is no line that may stand
 -- there, or it has no newline. Range: a number in it is not allowed. Order: it may not stand after
 -- the line before it.
-use Rattle.std.specs.Prelude.{ℕ, ◌+◌, Bool, not, if◌then◌else◌, List, [], ◌∷◌, ◌++◌, codes, Option, Some, None, Result, Ok, Err}
+use Rattle.std.specs.Prelude.{ℕ, ◌+◌, Bool, not, if◌then◌else◌, List, [], ◌∷◌, ◌++◌, take, ◌≡◌, codes, Option, Some, None, Result, Ok, Err}
 use Rattle.std.specs.Str.{bytes_eq}
 use Rattle.text_lines.specs.Lines.{lines_of, words_of}
 use Rattle.text_lines.specs.declared.end.TextEnd.{TextEnd}
@@ -24,6 +24,10 @@ pub record LineRules (Line Before Item : Type 0) : Type 0 where
 pub record Reading (Item : Type 0) : Type 0 where
   pub items : List Item
   pub end : Result (Unit {0}) TextEnd
+
+-- what was there before, and after it the first of these items
+abbrev pub FirstCollected : {Item : Type 0} → List Item → List Item → List Item → Type 0
+FirstCollected before now items = (n : ℕ) × (now ≡ before ++ take n items)
 
 abbrev pub refused : {Item : Type 0} → ℕ → Reason → Reading Item
 refused number reason = record { items = []; end = Err (Line number reason) }

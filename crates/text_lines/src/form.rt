@@ -1,4 +1,4 @@
-ghost use Rattle.std.specs.Prelude.{◌≡◌, ◌++◌, true, List, IfOk, OnOk};
+ghost use Rattle.std.specs.Prelude.{◌≡◌, ◌++◌, true, List, IfOk, OnOk, OnErr};
 ghost use Rattle.text_lines.specs.Lines.{words_of};
 ghost use Rattle.text_lines.specs.Reading.{LineRules};
 
@@ -36,10 +36,12 @@ pub trait LineForm {
     fn in_order(&self, line: &Self::Line) -> bool
         ensures { result ≡ (rules self.now).in_order (before self.now) line.now };
 
-    /// Collects a line. What is collected after a refusal is not said.
+    /// Collects a line; a refusal leaves the form as it was.
     fn add(&mut self, line: Self::Line) -> Result<(), NoMemory>
         requires { (rules self.old).in_range line ≡ true }
         ensures added { OnOk result (items self.new ≡ items self.old ++ (rules self.old).items line) }
         ensures after { OnOk result (before self.new ≡ (rules self.old).after line) }
+        ensures refused { OnErr result (items self.new ≡ items self.old) }
+        ensures stays { OnErr result (before self.new ≡ before self.old) }
         ensures kept { rules self.new ≡ rules self.old };
 }

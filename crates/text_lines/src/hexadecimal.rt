@@ -1,4 +1,5 @@
-ghost use Rattle.std.specs.Prelude.{◌≡◌, ◌<◌, ◌≤◌, IfSome, length};
+ghost use Rattle.std.specs.Prelude.{◌≡◌, ◌≤◌, ◌^◌, length};
+ghost use Rattle.std.specs.Option.{unwrap_or};
 ghost use Rattle.text_lines.specs.Hex.{digit_of, digit_value, has_leading_zero, hex, hex_from, short_hex};
 
 /// Which letters may stand as digits.
@@ -10,40 +11,56 @@ pub enum Case {
     Either,
 }
 
-/// The value of a hexadecimal digit in lower case.
-fn digit_value(byte: u8) -> Option<u32>
-    ensures value { result ≡ digit_value byte }
-    ensures small { IfSome result (λ d. d < 16) }
+/// What stands for a byte that is no digit: more than each number of eight digits.
+const NO: u64 = 0x1_0000_0000;
+
+/// The value of each byte as a hexadecimal digit in lower case, or `NO`.
+const DIGITS: [u64; 256] = [
+    NO, NO, NO, NO, NO, NO, NO, NO, NO, NO, NO, NO, NO, NO, NO, NO, NO, NO, NO, NO, NO, NO, NO, NO,
+    NO, NO, NO, NO, NO, NO, NO, NO, NO, NO, NO, NO, NO, NO, NO, NO, NO, NO, NO, NO, NO, NO, NO, NO,
+    0, 1, 2, 3, 4, 5, 6, 7, 8, 9, NO, NO, NO, NO, NO, NO, NO, NO, NO, NO, NO, NO, NO, NO, NO, NO,
+    NO, NO, NO, NO, NO, NO, NO, NO, NO, NO, NO, NO, NO, NO, NO, NO, NO, NO, NO, NO, NO, NO, NO, 10,
+    11, 12, 13, 14, 15, NO, NO, NO, NO, NO, NO, NO, NO, NO, NO, NO, NO, NO, NO, NO, NO, NO, NO, NO,
+    NO, NO, NO, NO, NO, NO, NO, NO, NO, NO, NO, NO, NO, NO, NO, NO, NO, NO, NO, NO, NO, NO, NO, NO,
+    NO, NO, NO, NO, NO, NO, NO, NO, NO, NO, NO, NO, NO, NO, NO, NO, NO, NO, NO, NO, NO, NO, NO, NO,
+    NO, NO, NO, NO, NO, NO, NO, NO, NO, NO, NO, NO, NO, NO, NO, NO, NO, NO, NO, NO, NO, NO, NO, NO,
+    NO, NO, NO, NO, NO, NO, NO, NO, NO, NO, NO, NO, NO, NO, NO, NO, NO, NO, NO, NO, NO, NO, NO, NO,
+    NO, NO, NO, NO, NO, NO, NO, NO, NO, NO, NO, NO, NO, NO, NO, NO, NO, NO, NO, NO, NO, NO, NO, NO,
+    NO, NO, NO, NO, NO, NO, NO, NO, NO, NO, NO, NO, NO, NO,
+];
+
+/// The value of a hexadecimal digit in lower case, or `NO`.
+fn digit_value(byte: u8) -> u64
+    ensures { result ≡ unwrap_or (digit_value byte) (2 ^ 32) }
 {
-    match byte {
-        b'0'..=b'9' => Some(u32::from(byte - b'0')),
-        b'a'..=b'f' => Some(u32::from(byte - b'a' + 10)),
-        _ => None,
-    }
+    DIGITS[byte as usize]
 }
 
-/// The value of a hexadecimal digit.
-fn digit_of(case: Case, byte: u8) -> Option<u32>
-    ensures value { result ≡ digit_of case byte }
-    ensures small { IfSome result (λ d. d < 16) }
+/// The value of a hexadecimal digit, or `NO`.
+fn digit_of(case: Case, byte: u8) -> u64
+    ensures { result ≡ unwrap_or (digit_of case byte) (2 ^ 32) }
 {
     match case {
         Case::Lower => digit_value(byte),
         Case::Either => match byte {
-            b'A'..=b'F' => Some(u32::from(byte - b'A' + 10)),
+            b'A'..=b'F' => u64::from(byte - b'A' + 10),
             _ => digit_value(byte),
         },
     }
 }
 
-/// The number that a word of digits spells.
+/// The number that a word of digits spells. A byte that is no digit makes the sum too large, so that one
+/// test at the end finds it.
 fn number_of(case: Case, word: &[u8]) -> Option<u32>
     requires { length word.now ≤ 8 }
     ensures { result ≡ hex_from case 0 word.now }
 {
     let mut number = 0u64;
     for byte in word {
-        number = 16 * number + u64::from(digit_of(case, *byte)?);
+        number = 16 * number + digit_of(case, *byte);
+    }
+    if number >= NO {
+        return None;
     }
     Some(number as u32)
 }

@@ -1,7 +1,7 @@
 ghost use Rattle.std.specs.Prelude.{◌≡◌, ◌++◌, true, IfOk, MatchResult, Ok, Err};
-ghost use Rattle.text_lines.specs.Answers.{Answers, UnlessNoMemory};
+ghost use Rattle.text_lines.specs.Answers.{AfterNoMemory, Answers, UnlessNoMemory};
 ghost use Rattle.text_lines.specs.Lines.{lines_of, words_of};
-ghost use Rattle.text_lines.specs.Reading.{after_name, judged, read, read_text};
+ghost use Rattle.text_lines.specs.Reading.{FirstCollected, after_name, judged, read, read_text};
 
 use crate::end::TextEnd;
 use crate::form::LineForm;
@@ -63,6 +63,10 @@ pub fn read_lines<F: LineForm>(
     // What was collected, at a fault too.
     ensures collected { UnlessNoMemory result (F.items form.new ≡ F.items form.old
         ++ (read (F.rules form.old) (F.before form.old) first (lines_of text.now)).items) }
+
+    // After want of memory the first of these were collected.
+    ensures begun { AfterNoMemory result (FirstCollected (F.items form.old) (F.items form.new)
+        (read (F.rules form.old) (F.before form.old) first (lines_of text.now)).items) }
     ensures kept { F.rules form.new ≡ F.rules form.old }
 {
     let mut number = u64::from(first);
@@ -99,6 +103,10 @@ pub fn read_text<F: LineForm>(
     // What was collected, at a fault too.
     ensures collected { UnlessNoMemory result (F.items form.new ≡ F.items form.old
         ++ (read_text (F.rules form.old) (F.before form.old) name.now text.now).items) }
+
+    // After want of memory the first of these were collected.
+    ensures begun { AfterNoMemory result (FirstCollected (F.items form.old) (F.items form.new)
+        (read_text (F.rules form.old) (F.before form.old) name.now text.now).items) }
     ensures kept { F.rules form.new ≡ F.rules form.old }
 {
     let rest = after_name(text, name)?;

@@ -1,4 +1,4 @@
-ghost use Rattle.std.specs.Prelude.{◌≡◌, ◌<◌, ◌≤◌, ◌∷◌, ◌++◌, OnOk};
+ghost use Rattle.std.specs.Prelude.{◌≡◌, ◌<◌, ◌≤◌, ◌∷◌, ◌++◌, OnOk, OnErr};
 ghost use Rattle.text_lines.specs.Hex.{hex_digit, hex_text};
 
 use rv_word::NoMemory;
@@ -14,16 +14,18 @@ fn hex_digit(digit: u8) -> u8
     }
 }
 
-/// Adds a space and the last `count` hexadecimal digits of a number.
+/// Adds a space and the last `count` hexadecimal digits of a number; a refusal leaves `out` as it was.
 pub fn push_number(out: &mut Vec<u8>, number: u64, count: u32) -> Result<(), NoMemory>
     requires { count ≤ 16 }
-    ensures { OnOk result (out.new.items ≡ out.old.items ++ 32 ∷ hex_text count number) }
+    ensures pushed { OnOk result (out.new.items ≡ out.old.items ++ 32 ∷ hex_text count number) }
+    ensures refused { OnErr result (out.new.items ≡ out.old.items) }
 {
-    out.push(b' ')?;
+    out.reserve(1 + count as usize)?;
+    out.push_reserved(b' ');
     let mut left = count;
     while left > 0 {
         left -= 1;
-        out.push(hex_digit((number >> (4 * left) & 0xf) as u8))?;
+        out.push_reserved(hex_digit((number >> (4 * left) & 0xf) as u8));
     }
     Ok(())
 }

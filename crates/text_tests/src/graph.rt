@@ -97,6 +97,17 @@ const TEXTS: &[u8] = b"\
     from 3|edge 40000040/end/|line 3: Form\n\
     from 3|edge 40000040 40000050 40000060/end/|line 3: Form\n\
     from 3|edge 40000040 4000005O/end/|line 3: Form\n\
+    from 3|edge 4000040 40000050/end/|line 3: Form\n\
+    from 3|edge 40000040 4000050/end/|line 3: Form\n\
+    from 3|edge 040000040 40000050/end/|line 3: Form\n\
+    from 3|edge 40000040 040000050/end/|line 3: Form\n\
+    from 3|edge 040000040 4000050/end/|line 3: Form\n\
+    from 3|edge 4000040 040000050/end/|line 3: Form\n\
+    from 3|edge  40000040 4000050/end/|line 3: Form\n\
+    from 3|edge 40000040  4000050/end/|line 3: Form\n\
+    from 3|edge 40000040 4000050 /end/|line 3: Form\n\
+    from 3|site 40000040 40000050/end/|line 3: Form\n\
+    from 3|code 40000040 40000050/end/|line 3: Form\n\
     from 3|edge 40000040 40000041/end/|line 3: Range\n\
     from 3|edge 40000104 40000040/end/|line 3: Range\n\
     from 3|edge 40000042 40000040/end/|line 3: Range\n\
@@ -189,7 +200,7 @@ fn is_right(alloc: Global, row: &str) -> bool {
 
 #[test]
 fn texts(rt: HostRuntime) {
-    for row in rows(TEXTS, 119).lines() {
+    for row in rows(TEXTS, 130).lines() {
         assert!(rt; is_right(rt.alloc(), row), "{row}");
     }
 }
@@ -200,6 +211,31 @@ fn no_text(rt: HostRuntime) {
 }
 
 const MADE: &[u8] = b"rvcfi-graph 1\ncode 40000000 00000104\nedge 40000040 40000050\nend\n";
+
+/// Bytes that stand in no line of a graph, those beside the digits and the letters among them.
+const WRONG: &[u8] = b"\0\t\r!/:@AFG`hz{\xff";
+
+/// Whether the text of a graph of one edge is refused at that line where this byte stands at this place.
+fn is_refused_with(alloc: Global, place: usize, byte: u8) -> bool {
+    match joined(alloc, MADE, "") {
+        Ok(mut text) => {
+            if let Some(old) = text.get_mut(place) {
+                *old = byte;
+            }
+            is_read_as(alloc, &text, "line 3: Form")
+        }
+        Err(_) => false,
+    }
+}
+
+#[test]
+fn wrong_bytes(rt: HostRuntime) {
+    for place in 37..60 {
+        for byte in WRONG {
+            assert!(rt; is_refused_with(rt.alloc(), place, *byte), "{place} {byte}");
+        }
+    }
+}
 
 /// Whether a graph has the counts of the worked one, and the opening's call as its second line.
 fn has_parts(graph: &Graph) -> bool {

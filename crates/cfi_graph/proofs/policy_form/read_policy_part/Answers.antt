@@ -8,3 +8,7 @@ returns-clause-exact c = c.read_text-end.ensures.exact
 pub returns-clause-lines : goal.returns-clause-lines
 unfolding policy_read
 returns-clause-lines c = rw c.new.ensures.items at c.read_text-end.ensures.collected
+
+pub returns-clause-begun : goal.returns-clause-begun
+unfolding policy_read
+returns-clause-begun c = rw c.new.ensures.items at c.read_text-end.ensures.begun

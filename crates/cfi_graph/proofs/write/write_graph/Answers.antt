@@ -8,7 +8,7 @@ use Rattle.cfi_graph.proofs.write.write_graph.Goals as goal
 
 written : (c : goal.In_ok-extend_from_slice-2) → c.extend_from_slice-2.new.self.items ≡ graph_text c.args.graph.now
 written c =
-    let code = c.in_ok-push_number.ensures ∙ ap (λ n. c.extend_from_slice.new.self.items ++ 32 ∷ hex_text 8 n) c.from.ensures in
+    let code = c.in_ok-push_number.ensures.pushed ∙ ap (λ n. c.extend_from_slice.new.self.items ++ 32 ∷ hex_text 8 n) c.from.ensures in
     let lines = c.in_ok-push_lines.ensures ∙ ap (λ ls. c.push.new.self.items ++ flat_map line_text ls) c.as_slice.ensures in
     rw (← c.graph.view_is) (graph_written _ c.new-out.ensures.items c.in_ok-extend_from_slice.ensures.items code c.in_ok-push.ensures.items lines c.in_ok-extend_from_slice-2.ensures.items)
 

@@ -1,6 +1,9 @@
-use Rattle.std.proofs.Common.{◌≡◌, ◌*◌, ◌^◌, ◌<◌, drop}
-use Rattle.text_lines.specs.Hex.{hex_from}
+use Rattle.std.proofs.Common.{◌+◌, ◌*◌, ◌^◌, ◌≤◌}
+use Rattle.text_lines.proofs.Digits.{Counted}
 use Rattle.text_lines.proofs.hexadecimal.number_of.Given as goal
 
 abbrev pub invariant-loop-byte : goal.invariant-loop-byte
-invariant-loop-byte l = (l.number < 2 ^ (4 * l.byte-index)) × (hex_from l.case l.number (drop l.byte-index l.word) ≡ hex_from l.case 0 l.word)
+invariant-loop-byte l = record {
+  counted : Counted l.case l.word l.byte-index l.number;
+  bound : 15 * l.number + 2 ^ 32 ≤ 2 ^ (32 + 4 * l.byte-index);
+}

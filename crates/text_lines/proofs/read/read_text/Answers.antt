@@ -19,3 +19,7 @@ returns-clause-exact g c =
 pub returns-clause-collected : goal.returns-clause-collected
 returns-clause-collected g c =
     rw (named_right (g.F.LineForm.rules c.args.form.now) (g.F.LineForm.before c.args.form.now) c.args.name.now c.args.text.now c.in_ok-rest.rest.now c.in_ok-rest.ensures) c.read_lines.ensures.collected
+
+pub returns-clause-begun : goal.returns-clause-begun
+returns-clause-begun g c =
+    rw (named_right (g.F.LineForm.rules c.args.form.now) (g.F.LineForm.before c.args.form.now) c.args.name.now c.args.text.now c.in_ok-rest.rest.now c.in_ok-rest.ensures) c.read_lines.ensures.begun
