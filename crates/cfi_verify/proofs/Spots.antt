@@ -14,7 +14,7 @@ use Rattle.cfi_verify.specs.Lines.{holds_of, line_at, class_of}
 use Rattle.cfi_verify.specs.Rules.{fails, edge_of, call_of, site_of, is_edge_to, is_call_to, is_site_with, is_unused, is_lone_site, is_astray, is_bad_end}
 use Rattle.cfi_verify.specs.declared.reject.Rule.{Rule}
 use Rattle.cfi_verify.specs.declared.reject.Rule.TheVariants as R
-use Rattle.cfi_verify.proofs.Starts.{start_within}
+use Rattle.cfi_verify.proofs.InUnits.{start_within}
 
 -- a word of the code, or one of the first seventeen places
 pub record IsSpot (words : List ℕ) (a : ℕ) : Type 0 where
@@ -65,7 +65,7 @@ place_spot words a place e =
       ]
     ]
 
-line_in : (len : ℕ) (lines : List GraphLine) (a : ℕ) (line : GraphLine) → list_all (line_in_range len) lines ≡ true → line_at lines a ≡ Some line → is_code_address len a ≡ true
+pub line_in : (len : ℕ) (lines : List GraphLine) (a : ℕ) (line : GraphLine) → list_all (line_in_range len) lines ≡ true → line_at lines a ≡ Some line → is_code_address len a ≡ true
 unfolding line_at
 line_in len [] a line r e = absurd (false≢true (ap is_some e))
 line_in len (Class label targets ∷ lines) a line r e = line_in len lines a line (and_parts _ _ r).1 e

@@ -1,5 +1,4 @@
 pub mod Split
-pub mod Kinds
 pub mod Lines
 pub mod Rules
 pub mod Placed
@@ -11,7 +10,8 @@ pub mod Trails
 pub mod Unsafe
 pub mod Laws
 pub mod PlacedLaws
-pub mod Seen
 pub mod Scan
 pub mod Answer
 pub mod RejectText
+pub mod Entries
+pub mod Pass

@@ -1,6 +1,5 @@
 -- What a graph says of an address and of a label.
-use Rattle.std.specs.Prelude.{◌≡◌, ℕ, ◌+◌, ◌*◌, ◌==◌, ◌||◌, Bool, false, List, [], ◌∷◌, Option, Some, None, find, slice_get, if◌then◌else◌}
-use Rattle.rv_word.specs.Layout.{CODE_START}
+use Rattle.std.specs.Prelude.{ℕ, ◌==◌, ◌||◌, Bool, false, List, [], ◌∷◌, Option, Some, None, find, if◌then◌else◌}
 use Rattle.cfi_graph.specs.declared.line.GraphLine.{GraphLine}
 use Rattle.cfi_graph.specs.declared.line.GraphLine.TheVariants.{Class, Site, Edge, Call}
 use Rattle.cfi_graph.specs.declared.line.Key.{Key}
@@ -51,7 +50,3 @@ same_key (Address a) (Address b) = a == b
 -- the line with a key
 unfoldable pub line_with : List GraphLine → Key → Option GraphLine
 line_with lines key = find (λ line. same_key (key_of line) key) lines
-
--- a flag for each word of a code: where it is not set, no line stands
-abbrev pub KnowsUnlisted : List Bool → List GraphLine → Type 0
-KnowsUnlisted flags lines = (k : ℕ) → slice_get flags k ≡ Some false → line_at lines (CODE_START + 4 * k) ≡ None

@@ -1,34 +1,44 @@
--- What a verifier keeps while it asks the rules, and after. Only private contracts cite this.
-use Rattle.std.specs.Prelude.{◌≡◌, ℕ, ◌*◌, ◌≤◌, Bool, List, Option, length}
-use Rattle.rv_word.specs.Layout.{CODE_SIZE, version_1}
+-- What a scan has seen, what it leaves, and an accepted pair.
+use Rattle.std.specs.Prelude.{◌≡◌, ℕ, ◌-◌, ◌/◌, ◌==◌, Bool, ◌||◌, ◌&&◌, List, is_some, length}
+use Rattle.rv_word.specs.Layout.{Profile, version_1}
 use Rattle.rv_word.specs.Image.{Contents}
 use Rattle.cfi_graph.specs.Graph.{GraphParts, IsGraph}
-use Rattle.cfi_verify.specs.Split.{code_words, unit_words}
-use Rattle.cfi_verify.specs.Kinds.{AreKinds}
-use Rattle.cfi_verify.specs.Lines.{KnowsUnlisted}
-use Rattle.cfi_verify.specs.declared.kind.Kind.{Kind}
+use Rattle.cfi_unit.specs.Prologue.{OPENING}
+use Rattle.cfi_scan.specs.Pieces.{Listed, Sight}
+use Rattle.cfi_verify.specs.Entries.{Tells}
 use Rattle.cfi_verify.specs.Rules.{IsWellFormed}
+use Rattle.cfi_verify.specs.Split.{code_words, entry_of, is_handler}
 
--- the words of a code, and a graph that gives the code's length
-pub record ScanParts : Type 0 where
-  pub words : List ℕ
+-- what a scan has seen of a code, and the graph
+pub record Scanned : Type 0 where
+  pub seen : Sight
   pub graph : GraphParts
 
--- the words lie in the code's region, these are the kinds of their units, and these flags tell where no
--- line stands
-pub record IsScan (words : List ℕ) (kinds : List (Option Kind)) (listed : List Bool) (graph : GraphParts) : Type 0 where
-  pub kinds_are : AreKinds kinds (unit_words version_1 words) version_1.units_from
-  pub unlisted : KnowsUnlisted listed graph.lines
-  pub room : 4 * length words ≤ CODE_SIZE
-  pub same_length : graph.code ≡ 4 * length words
+-- there is room for a code of the graph's length
+pub record IsScan (seen : Sight) (graph : GraphParts) : Type 0 where
+  pub room : length seen.entries ≡ graph.code / 4 - 16
   pub graph_is : IsGraph graph
+
+-- what is left of a code that has ended, and the graph
+pub record StartParts : Type 0 where
+  pub listing : Listed
+  pub graph : GraphParts
+
+-- the graph gives the code's length
+pub record AreStarts (listing : Listed) (graph : GraphParts) : Type 0 where
+  pub same_length : listing.fed ≡ graph.code
+  pub graph_is : IsGraph graph
+
+-- a part of the prologue starts at an address
+abbrev pub starts_prologue : Profile → List ℕ → ℕ → Bool
+starts_prologue p words a = is_handler a || (a == p.closing || (a == OPENING && is_some (entry_of p words)))
 
 -- an image and a graph
 pub record Pair : Type 0 where
   pub image : Contents
   pub graph : GraphParts
 
--- a pair that is well formed, with the words of its code
-pub record IsChecked (image : Contents) (scan : ScanParts) : Type 0 where
-  pub words_are : scan.words ≡ code_words image.code
-  pub well_formed : IsWellFormed version_1 image scan.graph
+-- a pair that is well formed, with what a listing tells of its code
+pub record IsChecked (image : Contents) (starts : StartParts) : Type 0 where
+  pub told : Tells starts.listing (code_words image.code)
+  pub well_formed : IsWellFormed version_1 image starts.graph

@@ -1,18 +1,19 @@
-ghost use Rattle.std.specs.Prelude.{◌≡◌, ◌≢◌, ◌+◌, ◌*◌, ◌^◌, ◌<◌, ◌≤◌, IfSome, MatchOption};
+ghost use Rattle.std.specs.Prelude.{◌≡◌, ◌≢◌, ◌+◌, ◌*◌, ◌^◌, ◌<◌, ◌≤◌, ℕ, List, IfSome, MatchOption};
 ghost use Rattle.rv_word.specs.Layout.{version_1};
 ghost use Rattle.least.specs.First.{first_below};
 ghost use Rattle.least.specs.Least.{IsLeast};
+ghost use Rattle.cfi_verify.specs.Entries.{Tells, fails_at};
 ghost use Rattle.cfi_verify.specs.Rules.{Holds, IsFirst, fails};
 ghost use Rattle.cfi_verify.specs.declared.reject.Rule.{Rule};
 ghost use Rattle.cfi_verify.specs.declared.reject.Rule.TheVariants as R;
 
 use crate::reject::Rule;
-use crate::scan::Scan;
+use crate::starts::Starts;
 use least::first_below_u64;
 use rv_word::memory_map::CODE_START;
 
 /// The rules in the order in which they are asked.
-const RULES: [Rule; 9] = [
+pub(crate) const RULES: [Rule; 9] = [
     Rule::Prologue,
     Rule::Unit,
     Rule::Target,
@@ -24,10 +25,21 @@ const RULES: [Rule; 9] = [
     Rule::End,
 ];
 
-impl<'a> Scan<'a> {
+impl<'a> Starts<'a> {
     /// The first rule that fails, and the least address at which it does.
     pub(crate) fn first_failure(&self) -> Option<(Rule, u64)>
-        ensures { MatchOption result ((rule : Rule) → Holds version_1 self.now.words self.now.graph.lines rule) (λ found. IsFirst version_1 self.now.words self.now.graph.lines found.0 found.1) }
+        ensures { (words : List ℕ) → Tells self.now.listing words → MatchOption result ((rule : Rule) → Holds version_1 words self.now.graph.lines rule) (λ found. IsFirst version_1 words self.now.graph.lines found.0 found.1) }
+    {
+        if self.all_hold() {
+            None
+        } else {
+            self.first_of_rules()
+        }
+    }
+
+    /// The same, by asking each rule in turn.
+    fn first_of_rules(&self) -> Option<(Rule, u64)>
+        ensures { (words : List ℕ) → Tells self.now.listing words → MatchOption result ((rule : Rule) → Holds version_1 words self.now.graph.lines rule) (λ found. IsFirst version_1 words self.now.graph.lines found.0 found.1) }
     {
         for rule in &RULES {
             if let Some(address) = self.first(*rule) {
@@ -39,7 +51,7 @@ impl<'a> Scan<'a> {
 
     /// The least address at which a rule fails.
     fn first(&self, rule: Rule) -> Option<u64>
-        ensures { IsLeast (fails rule version_1 self.now.words self.now.graph.lines) result }
+        ensures { (words : List ℕ) → Tells self.now.listing words → IsLeast (fails rule version_1 words self.now.graph.lines) result }
     {
         match rule {
             Rule::Gate => self.first_without_gate(),
@@ -51,19 +63,19 @@ impl<'a> Scan<'a> {
     /// prologue's missing words.
     fn first_by_address(&self, rule: Rule) -> Option<u64>
         requires { rule ≢ R.Gate }
-        ensures { IsLeast (fails rule version_1 self.now.words self.now.graph.lines) result }
+        ensures { (words : List ℕ) → Tells self.now.listing words → IsLeast (fails rule version_1 words self.now.graph.lines) result }
     {
-        let words = self.words();
-        let index = self.first_index(rule, words.len().max(17) as u64)?;
+        let count = u64::from(self.count()).max(17);
+        let index = self.first_index(rule, count)?;
         Some(CODE_START + 4 * index)
     }
 
     /// The index of the first of so many words from the start of code on at which a rule fails.
-    fn first_index(&self, rule: Rule, count: u64) -> Option<u64>
+    pub(crate) fn first_index(&self, rule: Rule, count: u64) -> Option<u64>
         requires by_address { rule ≢ R.Gate }
         requires room { count ≤ 2 ^ 28 }
         ensures inside { IfSome result (λ k. k < count) }
-        ensures first { result ≡ first_below (λ k. fails rule version_1 self.now.words self.now.graph.lines (0x40000000 + 4 * k)) count }
+        ensures first { result ≡ first_below (λ k. fails_at rule self.now.listing self.now.graph.lines (0x40000000 + 4 * k)) count }
     {
         first_below_u64(count, |index| self.fails(rule, CODE_START + 4 * index))
     }

@@ -4,19 +4,23 @@
 
 pub use cfi_unit::Place;
 pub use lines::is_among;
+pub use pieces::scan_pieces;
 pub use reject::{Reject, Rule};
+pub use scan::Scan;
+pub use starts::Starts;
 pub use verifier::{Checked, VerifyEnd, verify};
 
+mod all_hold;
+mod code;
 mod first;
 mod gates;
-mod kind;
 pub mod laws;
 mod lines;
-mod listed;
+mod pieces;
 mod place;
 mod reject;
 mod rules;
 mod scan;
-mod split;
+mod starts;
 mod verifier;
-mod words;
+mod window;

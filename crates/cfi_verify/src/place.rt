@@ -1,102 +1,74 @@
-ghost use Rattle.std.specs.Prelude.{◌≡◌, option_and_then};
-ghost use Rattle.std.specs.Option.{option_copied};
-ghost use Rattle.cfi_verify.specs.Seen.{gate_label};
-ghost use Rattle.cfi_verify.specs.Rules.{call_of, edge_of, site_of};
-ghost use Rattle.cfi_verify.specs.Split.{place_at, unit_at};
-ghost use Rattle.rv_word.specs.Layout.{version_1};
+ghost use Rattle.std.specs.Prelude.{◌≡◌, ◌<◌, ◌^◌};
+ghost use Rattle.cfi_unit.specs.Recognise.{led_to, near_to};
+ghost use Rattle.cfi_verify.specs.Entries.{call_at, edge_at, gate_at, site_at};
 
-use crate::kind::Kind;
-use crate::scan::Scan;
+use crate::starts::Starts;
 use cfi_graph::SiteKind;
-use cfi_unit::{Place, Unit};
+use cfi_scan::Entry;
+use rv_instr::Immediate;
 use rv_word::profile::START;
+use rv_word::sext;
 
-/// Where a branch or a jump leads.
-fn edge_of(place: Option<&Place>) -> Option<u64>
-    ensures { result ≡ option_and_then edge_of (option_copied place.entry) }
+/// Where a jump at an address leads by its offset field.
+fn led(at: u64, field: Immediate<20>) -> u64
+    ensures { result ≡ led_to at field }
 {
-    match place? {
-        Place::Body(Unit::Branch(_, _, _, target)) => Some(*target),
-        Place::Body(Unit::Near(_, _, _, target)) => Some(*target),
-        Place::Body(Unit::Jump(target)) => Some(*target),
-        _ => None,
-    }
+    at.wrapping_add(sext(u64::from(field.bits()) * 2, 21))
 }
 
-/// Where the opening or a call leads.
-fn call_of(place: Option<&Place>) -> Option<u64>
-    ensures { result ≡ option_and_then call_of (option_copied place.entry) }
+/// Where a near branch at an address leads by its offset field.
+fn led_near(at: u64, field: Immediate<12>) -> u64
+    ensures { result ≡ near_to at field }
 {
-    match place? {
-        Place::Opening(entry) => Some(*entry),
-        Place::Body(Unit::Call(target)) => Some(*target),
-        _ => None,
-    }
+    at.wrapping_add(sext(u64::from(field.bits()) * 2, 13))
 }
 
-/// The kind and the label of a computed transfer.
-fn site_of(place: Option<&Place>) -> Option<(SiteKind, u32)>
-    ensures { result ≡ option_and_then site_of (option_copied place.entry) }
-{
-    match place? {
-        Place::Body(Unit::Ijump(_, _, label)) => Some((SiteKind::Jump, label.bits())),
-        Place::Body(Unit::Icall(_, _, label)) => Some((SiteKind::Call, label.bits())),
-        _ => None,
-    }
-}
-
-/// The label of a gate.
-fn gate_label(unit: Option<&Unit>) -> Option<u32>
-    ensures { result ≡ option_and_then gate_label (option_copied unit.entry) }
-{
-    match unit? {
-        Unit::Gate(label) => Some(label.bits()),
-        _ => None,
-    }
-}
-
-impl<'a> Scan<'a> {
+impl<'a> Starts<'a> {
     /// Where the branch or the jump at an address leads.
     pub(crate) fn edge_at(&self, address: u64) -> Option<u64>
-        ensures { result ≡ option_and_then edge_of (place_at version_1 self.now.words address) }
+        requires { address < 2 ^ 32 }
+        ensures { result ≡ edge_at self.now.listing address }
     {
-        if self.has_kind(address, Kind::Edge) {
-            edge_of(self.place_at(address).as_ref())
-        } else {
-            None
+        match self.entry_at(address) {
+            Entry::Near(field) => Some(led_near(address, field)),
+            Entry::Branch(field) => Some(led(address + 4, field)),
+            Entry::Jump(field) => Some(led(address, field)),
+            _ => None,
         }
     }
 
     /// Where the opening or the call at an address leads.
     pub(crate) fn call_at(&self, address: u64) -> Option<u64>
-        ensures { result ≡ option_and_then call_of (place_at version_1 self.now.words address) }
+        requires { address < 2 ^ 32 }
+        ensures { result ≡ call_at self.now.listing address }
     {
-        if address == START || self.has_kind(address, Kind::Call) {
-            call_of(self.place_at(address).as_ref())
-        } else {
-            None
+        if address == START {
+            return self.entry();
+        }
+        match self.entry_at(address) {
+            Entry::Call(field) => Some(led(address + 28, field)),
+            _ => None,
         }
     }
 
     /// The kind and the label of the computed transfer at an address.
     pub(crate) fn site_at(&self, address: u64) -> Option<(SiteKind, u32)>
-        ensures { result ≡ option_and_then site_of (place_at version_1 self.now.words address) }
+        ensures { result ≡ site_at self.now.listing address }
     {
-        if self.has_kind(address, Kind::Computed) {
-            site_of(self.place_at(address).as_ref())
-        } else {
-            None
+        match self.entry_at(address) {
+            Entry::Ijump(label) => Some((SiteKind::Jump, label.bits())),
+            Entry::Icall(label) => Some((SiteKind::Call, label.bits())),
+            _ => None,
         }
     }
 
     /// The label of the gate at an address.
     pub(crate) fn gate_at(&self, address: u64) -> Option<u32>
-        ensures { result ≡ option_and_then gate_label (unit_at version_1 self.now.words address) }
+        ensures { result ≡ gate_at self.now.listing address }
     {
-        if self.has_kind(address, Kind::Gate) {
-            gate_label(self.unit_at(address).as_ref())
-        } else {
-            None
+        match self.entry_at(address) {
+            Entry::Gate(label) => Some(label.bits()),
+            _ => None,
         }
     }
 }

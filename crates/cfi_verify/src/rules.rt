@@ -1,57 +1,40 @@
-ghost use Rattle.std.specs.Prelude.{
-  ◌≡◌,
-  ◌≢◌,
-  ◌+◌,
-  ◌*◌,
-  ◌<◌,
-  ◌==◌,
-  ◌^◌,
-  not,
-  option_and_then,
-  slice_get,
-};
-ghost use Rattle.rv_code.specs.Decode.{decoded};
-ghost use Rattle.rv_word.specs.Layout.{version_1};
+ghost use Rattle.std.specs.Prelude.{◌≡◌, ◌≢◌, ◌+◌, ◌*◌, ◌<◌, ◌==◌, ◌^◌, not};
 ghost use Rattle.std.specs.Option.{option_copied};
+ghost use Rattle.cfi_verify.specs.Entries.{
+  count_of,
+  fails_astray_at,
+  fails_at,
+  fails_end_at,
+  fails_site_at,
+  fails_target_at,
+  fails_unit_at,
+  fails_unlisted_at,
+  fails_unused_at,
+  is_bad_end_at,
+  is_outside,
+  is_stop_entry,
+  misses_start,
+};
+ghost use Rattle.cfi_verify.specs.Lines.{holds_of, line_at};
 ghost use Rattle.cfi_verify.specs.Rules.{
-  fails,
-  fails_astray,
-  fails_end,
   fails_prologue,
-  fails_site,
-  fails_target,
-  fails_unit,
-  fails_unlisted,
-  fails_unused,
-  is_astray,
-  is_bad_end,
   is_call_to,
   is_edge_to,
-  is_gate_with,
   is_link,
-  is_lone_site,
   is_site_with,
-  is_stop,
-  is_unused,
   prologue_word_fits,
-  same_kind,
 };
-ghost use Rattle.cfi_verify.specs.Lines.{class_of, holds_of, is_among};
-ghost use Rattle.cfi_verify.specs.Split.{is_start, place_at, unit_at};
 ghost use Rattle.cfi_verify.specs.declared.reject.Rule.TheVariants as R;
 
 use crate::lines::is_among;
 use crate::reject::Rule;
-use crate::scan::Scan;
+use crate::starts::Starts;
 use cfi_graph::{GraphLine, SiteKind};
-use cfi_unit::Unit;
+use cfi_scan::Entry;
 use rv_code::decode;
 use rv_instr::Instr;
 use rv_word::memory_map::CODE_START;
 use rv_word::profile::UNITS_START;
-
-/// How many bytes the longest unit has, a computed call.
-const LONGEST_UNIT: u64 = 80;
 
 /// The prologue's words. Word 13 is the opening's `jal x1` to the entry, which may lead anywhere.
 const PROLOGUE: [u32; 16] = [
@@ -96,12 +79,12 @@ fn is_link(instr: Option<&Instr>) -> bool
     }
 }
 
-impl<'a> Scan<'a> {
+impl<'a> Starts<'a> {
     /// Whether a rule other than Gate fails at an address.
     pub(crate) fn fails(&self, rule: Rule, address: u64) -> bool
         requires by_address { rule ≢ R.Gate }
         requires small { address < 2 ^ 32 }
-        ensures { result ≡ fails rule version_1 self.now.words self.now.graph.lines address }
+        ensures { result ≡ fails_at rule self.now.listing self.now.graph.lines address }
     {
         match rule {
             Rule::Prologue => self.fails_prologue(address),
@@ -117,24 +100,32 @@ impl<'a> Scan<'a> {
     }
 
     fn fails_prologue(&self, address: u64) -> bool
-        ensures { result ≡ fails_prologue self.now.words address }
+        ensures { result ≡ fails_prologue self.now.listing.prologue address }
     {
         if address < CODE_START || address > CODE_START + 60 || address % 4 != 0 {
             return false;
         }
         let index = ((address - CODE_START) / 4) as usize;
-        !is_prologue_word(index, self.words().get(index).copied())
+        !is_prologue_word(index, self.listing().prologue().get(index).copied())
+    }
+
+    /// How many words follow the prologue.
+    pub(crate) fn count_after(&self) -> u64
+        ensures value { result ≡ count_of self.now.listing }
+        ensures room { result < 2 ^ 32 }
+    {
+        u64::from(self.count().saturating_sub(16))
     }
 
     fn fails_unit(&self, address: u64) -> bool
-        ensures { result ≡ fails_unit version_1 self.now.words address }
+        ensures { result ≡ fails_unit_at self.now.listing address }
     {
-        let covered = self.split_words();
-        address == UNITS_START + 4 * covered as u64 && covered < self.units().len()
+        let done = self.listing().done() as u64;
+        done < self.count_after() && address == UNITS_START + 4 * done
     }
 
     fn misses_start(&self, target: Option<u64>) -> bool
-        ensures { result ≡ holds_of target (λ t. not (is_start version_1 self.now.words t)) }
+        ensures { result ≡ misses_start self.now.listing target }
     {
         match target {
             Some(target) => !self.is_start(target),
@@ -143,25 +134,41 @@ impl<'a> Scan<'a> {
     }
 
     fn fails_target(&self, address: u64) -> bool
-        ensures { result ≡ fails_target version_1 self.now.words address }
+        requires { address < 2 ^ 32 }
+        ensures { result ≡ fails_target_at self.now.listing address }
     {
         self.misses_start(self.edge_at(address)) || self.misses_start(self.call_at(address))
     }
 
-    fn fails_unlisted(&self, address: u64) -> bool
-        ensures { result ≡ fails_unlisted version_1 self.now.words self.now.graph.lines address }
+    fn lacks_edge(&self, address: u64, target: Option<u64>) -> bool
+        ensures { result ≡ holds_of target (λ to. not (is_edge_to (line_at self.now.graph.lines address) to)) }
     {
-        if let Some(target) = self.edge_at(address) {
-            return !is_edge_to(self.line_at(address), target);
+        match target {
+            Some(target) => !is_edge_to(self.line_at(address), target),
+            None => false,
         }
-        match self.call_at(address) {
+    }
+
+    fn lacks_call(&self, address: u64, target: Option<u64>) -> bool
+        ensures { result ≡ holds_of target (λ to. not (is_call_to (line_at self.now.graph.lines address) to)) }
+    {
+        match target {
             Some(target) => !is_call_to(self.line_at(address), target),
             None => false,
         }
     }
 
+    fn fails_unlisted(&self, address: u64) -> bool
+        requires { address < 2 ^ 32 }
+        ensures { result ≡ fails_unlisted_at self.now.listing self.now.graph.lines address }
+    {
+        self.lacks_edge(address, self.edge_at(address))
+            || self.lacks_call(address, self.call_at(address))
+    }
+
     fn fails_unused(&self, address: u64) -> bool
-        ensures { result ≡ fails_unused version_1 self.now.words self.now.graph.lines address }
+        requires { address < 2 ^ 32 }
+        ensures { result ≡ fails_unused_at self.now.listing self.now.graph.lines address }
     {
         match self.line_at(address) {
             Some(GraphLine::Edge(..)) => self.edge_at(address).is_none(),
@@ -171,7 +178,7 @@ impl<'a> Scan<'a> {
     }
 
     fn fails_site(&self, address: u64) -> bool
-        ensures { result ≡ fails_site version_1 self.now.words self.now.graph.lines address }
+        ensures { result ≡ fails_site_at self.now.listing self.now.graph.lines address }
     {
         let line = self.line_at(address);
         match self.site_at(address) {
@@ -183,7 +190,7 @@ impl<'a> Scan<'a> {
     }
 
     fn fails_astray(&self, address: u64) -> bool
-        ensures { result ≡ fails_astray version_1 self.now.words self.now.graph.lines address }
+        ensures { result ≡ fails_astray_at self.now.listing self.now.graph.lines address }
     {
         match self.gate_at(address) {
             Some(label) => self.is_outside(label, address),
@@ -192,8 +199,8 @@ impl<'a> Scan<'a> {
     }
 
     /// Whether a label is a class's and an address is none of its targets.
-    fn is_outside(&self, label: u32, address: u64) -> bool
-        ensures { result ≡ holds_of (class_of self.now.graph.lines label) (λ targets. not (is_among address targets)) }
+    pub(crate) fn is_outside(&self, label: u32, address: u64) -> bool
+        ensures { result ≡ is_outside self.now.graph.lines label address }
     {
         match self.class_of(label) {
             Some(targets) => !is_among(address, targets),
@@ -201,22 +208,29 @@ impl<'a> Scan<'a> {
         }
     }
 
-    fn fails_end(&self, address: u64) -> bool
-        requires { address < 2 ^ 32 }
-        ensures { result ≡ fails_end version_1 self.now.words address }
+    /// Whether the last unit starts at an address, ends the code and is no stop.
+    fn is_bad_end(&self, address: u64) -> bool
+        ensures { result ≡ is_bad_end_at self.now.listing address }
     {
-        let end = CODE_START + 4 * self.words().len() as u64;
-        if address + LONGEST_UNIT < end {
-            return false;
-        }
-        match self.counted_unit_at(address) {
-            Some((unit, count)) => {
-                (address + 4 * u64::from(count) == end && unit != Unit::Stop)
-                    || (address == UNITS_START && end <= UNITS_START)
-            }
-            None => address == UNITS_START && end <= UNITS_START,
-        }
+        let done = self.listing().done() as u64;
+        let last = self.listing().last() as u64;
+        done == self.count_after()
+            && last < done
+            && address == UNITS_START + 4 * last
+            && !is_stop(self.entry_at(address))
     }
+
+    fn fails_end(&self, address: u64) -> bool
+        ensures { result ≡ fails_end_at self.now.listing address }
+    {
+        self.is_bad_end(address) || (address == UNITS_START && self.count() <= 16)
+    }
+}
+
+pub(crate) fn is_stop(entry: Entry) -> bool
+    ensures { result ≡ is_stop_entry entry }
+{
+    matches!(entry, Entry::Stop)
 }
 
 fn is_edge_to(line: Option<&GraphLine>, target: u64) -> bool

@@ -1,4 +1,4 @@
-ghost use Rattle.std.specs.Prelude.{◌≡◌, ◌<◌, ◌^◌, ℕ, IfErr, IfOk, IfSome, IsTrue, OnOk, nat_lt, option_map, slice_index};
+ghost use Rattle.std.specs.Prelude.{◌≡◌, ◌+◌, ◌<◌, ◌^◌, ◌++◌, ℕ, List, length, IfErr, IfOk, IfSome, IsTrue, OnOk, is_some, nat_lt};
 ghost use Rattle.std.specs.Option.{option_copied};
 ghost use Rattle.rv_word.specs.Layout.{version_1};
 ghost use Rattle.cfi_graph.specs.Graph.{is_rising};
@@ -7,17 +7,28 @@ ghost use Rattle.cfi_verify.specs.Answer.{IsCause};
 ghost use Rattle.cfi_verify.specs.Laws.{AreBytes};
 ghost use Rattle.cfi_verify.specs.Lines.{class_of};
 ghost use Rattle.cfi_verify.specs.Rules.{IsWellFormed};
-ghost use Rattle.cfi_verify.specs.Split.{code_words, place_at, unit_at};
+ghost use Rattle.cfi_scan.specs.Pieces.{HasSeen};
+ghost use Rattle.cfi_verify.specs.Scan.{starts_prologue};
+ghost use Rattle.cfi_verify.specs.Split.{code_words, entry_of, is_handler, place_at, unit_at};
 
+use crate::code::{are_small, unit_of};
 use crate::laws::well_formed_is_safe;
 use crate::reject::Reject;
 use crate::scan::Scan;
+use crate::starts::Starts;
 use cfi_graph::Graph;
+use cfi_scan::Steps;
+use cfi_unit::handlers::{BAD_RETURN, BAD_TARGET, DEEP};
 use cfi_unit::{Place, Unit};
+use rv_word::profile::{CLOSING, START, UNITS_START};
 use rv_word::{Image, NoMemory};
 use std::alloc::Global;
-use std::marker::Model;
+use std::marker::{Brand, Model};
+use std::sync::ledger::{Blank, Ledger};
 use thiserror::Error;
+
+/// How many bytes of a code are fed at a time.
+const PAGE: usize = 4_096;
 
 /// Why a pair was not accepted.
 #[derive(Clone, Copy, Debug, Error)]
@@ -45,7 +56,7 @@ impl From<NoMemory> for VerifyEnd {
 #[derive(Drop)]
 pub struct Checked<'a> {
     image: &'a Image<'a>,
-    scan: Scan<'a>,
+    starts: Starts<'a>,
 }
 
 impl<'a> Model for Checked<'a> {
@@ -53,9 +64,9 @@ impl<'a> Model for Checked<'a> {
 
     ghost Value = { Pair };
 
-    ghost view = { λ c. record { image = c.image.now; graph = c.scan.graph } };
+    ghost view = { λ c. record { image = c.image.now; graph = c.starts.graph } };
 
-    ghost invariant = { λ c. IsChecked c.image.now c.scan };
+    ghost invariant = { λ c. IsChecked c.image.now c.starts };
 }
 
 impl<'a> Checked<'a> {
@@ -72,7 +83,7 @@ impl<'a> Checked<'a> {
         ensures value { result.now ≡ self.now.graph }
         ensures well_formed { IsWellFormed version_1 self.now.image self.now.graph }
     {
-        self.scan.graph()
+        self.starts.graph()
     }
 
     /// Tells a proof that the pair is safe; nothing is computed.
@@ -89,14 +100,50 @@ impl<'a> Checked<'a> {
     pub fn unit_at(&self, address: u64) -> Option<Unit>
         ensures { result ≡ unit_at version_1 (code_words self.now.image.code) address }
     {
-        self.scan.unit_at(address)
+        if self.starts.is_start(address) {
+            unit_of(self.image.code(), address)
+        } else {
+            None
+        }
+    }
+
+    /// Where the opening's call leads.
+    fn entry(&self) -> Option<u64>
+        ensures { result ≡ entry_of version_1 (code_words self.now.image.code) }
+    {
+        self.starts.entry()
     }
 
     /// What stands at an address, the prologue's parts among it; `None` where nothing starts.
+    #[tactic(auto, unfolding(crate::specs::Split::place_at))]
     pub fn place_at(&self, address: u64) -> Option<Place>
         ensures { result ≡ place_at version_1 (code_words self.now.image.code) address }
     {
-        self.scan.place_at(address)
+        if is_handler(address) {
+            return Some(Place::Handler);
+        }
+        match address {
+            START => Some(Place::Opening(self.entry()?)),
+            CLOSING => Some(Place::Closing),
+            _ => Some(Place::Body(self.unit_at(address)?)),
+        }
+    }
+
+    /// Whether something starts at an address: `place_at` without reading what it is.
+    pub fn is_place(&self, address: u64) -> bool
+        ensures { result ≡ is_some (place_at version_1 (code_words self.now.image.code) address) }
+    {
+        if address >= UNITS_START {
+            return self.starts.is_start(address);
+        }
+        self.is_prologue(address)
+    }
+
+    /// Whether a part of the prologue starts at an address.
+    fn is_prologue(&self, address: u64) -> bool
+        ensures { result ≡ starts_prologue version_1 (code_words self.now.image.code) address }
+    {
+        is_handler(address) || address == CLOSING || address == START && self.entry().is_some()
     }
 
     /// The targets of the graph's class with a label.
@@ -104,7 +151,7 @@ impl<'a> Checked<'a> {
         ensures value { option_copied result ≡ class_of self.now.graph.lines label }
         ensures rising { IfSome result (λ targets. IsTrue (is_rising nat_lt targets.now)) }
     {
-        self.scan.class_of(label)
+        self.starts.class_of(label)
     }
 }
 
@@ -116,15 +163,14 @@ fn are_bytes(image: &Image<'_>)
     are_small(image.init());
 }
 
-fn are_small(bytes: &[u8])
-    ensures { (k : ℕ) → slice_index bytes.now k < 2 ^ 8 }
+fn is_handler(address: u64) -> bool
+    ensures { result ≡ is_handler address }
 {
-    // Tells the proof the range of each byte.
-    let _len = bytes.len();
+    address == BAD_TARGET || address == BAD_RETURN || address == DEEP
 }
 
 /// Asks the ten rules of an image and a graph, in their order. Takes time in proportion to the code
-/// and the graph, but for searches among the graph's lines, and seven bytes for each word of the code.
+/// and the graph, but for searches among the graph's lines, and memory as a scan does.
 pub fn verify<'a>(
     alloc: Global,
     image: &'a Image<'a>,
@@ -134,14 +180,30 @@ pub fn verify<'a>(
     ensures safe { OnOk result (IsSafe image.now graph.now) }
     ensures rejected { IfErr result (IsCause version_1 image.now graph.now) }
 {
-    let length = image.code().len() as u32;
-    if graph.code() != length {
-        return Err(VerifyEnd::Reject(Reject::Length(length, graph.code())));
-    }
     are_bytes(image);
-    let scan = Scan::of(alloc, image, graph)?;
-    match scan.first_failure() {
-        Some((rule, address)) => Err(VerifyEnd::Reject(Reject::At(rule, address))),
-        None => Ok(Checked { image, scan }),
+    let mut scan = Scan::new(alloc, graph)?;
+    feed_code::<Brand>(&mut scan, image.code(), Blank::new(1));
+    match scan.finish() {
+        Err(reject) => Err(VerifyEnd::Reject(reject)),
+        Ok(starts) => Ok(Checked { image, starts }),
     }
+}
+
+/// Feeds a whole code, by pieces of a page, and counts no steps for the caller.
+fn feed_code<L: Ledger>(scan: &mut Scan<'_>, code: &[u8], blank: Blank)
+    requires name { blank.name ≡ L.name }
+    requires parts { blank.parts ≡ L.parts }
+    requires some { 0 < L.parts }
+    requires small { scan.old.seen.fed + length code.now < 2 ^ 32 }
+    ensures seen { (bytes : List ℕ) → HasSeen version_1 scan.old.seen bytes → HasSeen version_1 scan.new.seen (bytes ++ code.now) }
+    ensures graph { scan.new.graph ≡ scan.old.graph }
+{
+    let mut steps = Steps::<L>::new(blank);
+    let mut rest = code;
+    while rest.len() > PAGE {
+        let (page, next) = rest.split_at(PAGE);
+        scan.feed(page, &mut steps);
+        rest = next;
+    }
+    scan.feed(rest, &mut steps);
 }

@@ -13,7 +13,7 @@ use Rattle.cfi_unit.specs.Recognise.{recognised}
 use Rattle.cfi_unit.specs.UnitWords.{BAD_TARGET, BAD_RETURN, DEEP}
 use Rattle.cfi_verify.specs.Split.{code_words, is_start, unit_at, is_handler, entry_of, place_at}
 use Rattle.cfi_verify.proofs.Bytes.{length-code_words}
-use Rattle.cfi_verify.proofs.Starts.{IsInUnits, start_within}
+use Rattle.cfi_verify.proofs.InUnits.{IsInUnits, start_within}
 
 pub unit_within : (words : List ℕ) (a : ℕ) (u : U.Unit) → unit_at version_1 words a ≡ Some u → IsInUnits words a
 unfolding unit_at

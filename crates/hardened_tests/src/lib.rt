@@ -7,6 +7,8 @@ mod class;
 #[cfg(test)]
 mod near;
 #[cfg(test)]
+mod pieces;
+#[cfg(test)]
 mod run;
 #[cfg(test)]
 mod unit;

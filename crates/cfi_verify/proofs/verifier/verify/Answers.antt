@@ -4,7 +4,7 @@ use Rattle.cfi_verify.specs.Rules.{IsWellFormed}
 use Rattle.cfi_verify.proofs.Safety.{well_formed_safe}
 use Rattle.cfi_verify.proofs.verifier.verify.Goals as goal
 
-pub returns-clause-safe : goal.returns-clause-safe
-returns-clause-safe c =
+pub returns-in-Ok-clause-safe : goal.returns-in-Ok-clause-safe
+returns-in-Ok-clause-safe c =
     let formed : IsWellFormed version_1 c.args.image.now c.args.graph.now = search rules in
     well_formed_safe c.args.image.now c.args.graph.now c.are_bytes.ensures formed

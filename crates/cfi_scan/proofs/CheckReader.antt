@@ -1,0 +1,497 @@
+-- A computed transfer, read word by word: its label is told by word 8, and whether it is a jump or a call
+-- by word 12.
+use Rattle.std.proofs.Common.{◌≡◌, ◌≢◌, ℕ, zero, suc, ◌+◌, ◌-◌, ◌*◌, ◌%◌, ◌^◌, ◌<◌, ◌≤◌, ◌==◌, ◌&&◌, Bool, true, false, arith, lit<, lit≤, refl, ap, sym, subst, ◌∙◌, List, [], ◌∷◌, ◌++◌, length, take, drop, inl, inr, ◌⊎◌, Some, None}
+use Rattle.std.specs.Prelude.{Option, option_map, slice_get, if◌then◌else◌}
+use Rattle.std.proofs.lemmas.Bool.{and_parts, eqb-true}
+use Rattle.rv_word.proofs.Cases.{guarded, mapped}
+use Rattle.rv_instr.specs.declared.instr.Instr.{Instr}
+use Rattle.rv_instr.specs.declared.instr.Instr.TheVariants.{Upper, Jalr, Immediate, Shift}
+use Rattle.rv_instr.specs.declared.instr.UpperOp.TheVariants.{Lui, Auipc}
+use Rattle.rv_instr.specs.declared.instr.ImmediateOp.TheVariants.{Addi, Andi}
+use Rattle.rv_instr.specs.declared.instr.ShiftOp.TheVariants.{Slli}
+use Rattle.rv_instr.specs.declared.instr.StoreOp.TheVariants.{Sd}
+use Rattle.rv_code.specs.Decode.{decoded}
+use Rattle.rv_code.specs.Encode.{code_of}
+use Rattle.rv_code.proofs.Inverse.{code_of-decoded, decoded-in_range}
+use Rattle.rv_code.proofs.ReadBack.{decoded-code_of}
+use Rattle.cfi_unit.specs.declared.unit.Unit as U
+use Rattle.cfi_unit.specs.declared.unit.Unit.TheVariants as V
+use Rattle.cfi_unit.specs.Recognise.{address_unit, computed_unit, label_in, recognised, store_unit}
+use Rattle.cfi_unit.specs.UnitWords.{BAD_TARGET, DEEP, MINUS_FOUR, instr_at, is_lui, word_count, words_of}
+use Rattle.cfi_scan.specs.declared.entry.Entry.TheVariants as E
+use Rattle.cfi_scan.specs.declared.reader.Reader.TheVariants as R
+use Rattle.cfi_scan.specs.declared.reader.Step.TheVariants.{More, Done}
+use Rattle.cfi_scan.specs.Fields.{label_field}
+use Rattle.cfi_scan.specs.Stream.{IsCode, IsPart, IsReading, LeadsOn}
+use Rattle.cfi_scan.proofs.Template.{Agree, first_tells, get_take, is_next, more_part, more_words, never, next_decoded, part_length, unfinished, was_read, wrong_word}
+use Rattle.cfi_scan.proofs.Transfers.{IsCallCode, halt_reached, stored}
+
+-- a unit that has these words is a computed transfer
+record IsTransfer (ws : List ℕ) (rs1 imm : ℕ) (v : U.Unit) : Type 0 where
+  label : ℕ
+  labelled : label_in (instr_at ws 8) ≡ Some label
+  same : computed_unit rs1 imm (instr_at ws 12) label ≡ v
+
+module _ (u : U.Unit) (count : ℕ) (held : List ℕ) (at rs1 imm : ℕ) (low : rs1 < 32) (small : imm < 2 ^ 12) (some : 2 ≤ count)
+    (part : IsPart u count held at) (one : slice_get (words_of u at) 0 ≡ Some (code_of (Immediate Addi 31 rs1 imm)))
+    (two : slice_get (words_of u at) 1 ≡ Some (code_of (Immediate Andi 31 31 MINUS_FOUR))) where
+  check_is : (v : U.Unit) (rest : List ℕ) → recognised (held ++ rest) at ≡ Some v → IsTransfer (held ++ rest) rs1 imm v
+  check_is v rest e =
+      let i : Instr = Immediate Addi 31 rs1 imm in
+      let ws : List ℕ = held ++ rest in
+      let first : instr_at ws 0 ≡ Some i = was_read u count held at part rest 0 i (omega (arith, some)) one (lit< tt, low, small) in
+      let second : instr_at ws 1 ≡ Some (Immediate Andi 31 31 MINUS_FOUR) =
+      was_read u count held at part rest 1 (Immediate Andi 31 31 MINUS_FOUR) (omega (arith, some)) two (lit< tt, lit< tt, lit< tt) in
+      let (label, labelled, same) =
+      mapped (computed_unit rs1 imm (instr_at ws 12)) (label_in (instr_at ws 8)) v
+      (sym (ap (address_unit ws rs1 imm) second) ∙ first_tells ws at i v first e) in
+      record { label = label; labelled = labelled; same = same }
+
+-- jumps and calls have the same check
+same_begin : (rs1 imm label at : ℕ) (o : Option Instr) →
+    take 8 (words_of (computed_unit rs1 imm o label) at) ≡ take 8 (words_of (V.Ijump rs1 imm 0) at)
+unfolding words_of
+same_begin rs1 imm label at (Some (Jalr rd base offset)) = refl
+same_begin rs1 imm label at other = refl
+
+same_check : (rs1 imm label at : ℕ) (o : Option Instr) →
+    take 12 (words_of (computed_unit rs1 imm o label) at) ≡ take 12 (words_of (V.Ijump rs1 imm label) at)
+unfolding words_of
+same_check rs1 imm label at (Some (Jalr rd base offset)) = refl
+same_check rs1 imm label at other = refl
+
+longer : (rs1 imm label : ℕ) (o : Option Instr) → 13 ≤ word_count (computed_unit rs1 imm o label)
+longer rs1 imm label (Some (Jalr rd base offset)) = lit≤ tt
+longer rs1 imm label other = lit≤ tt
+
+-- and after it one of two words
+after_check : (rs1 imm label at : ℕ) (o : Option Instr) →
+    (slice_get (words_of (computed_unit rs1 imm o label) at) 12 ≡ Some (code_of (Jalr 0 31 0)))
+    ⊎ (slice_get (words_of (computed_unit rs1 imm o label) at) 12 ≡ Some (code_of (Shift Slli 30 3 48)))
+unfolding words_of
+after_check rs1 imm label at (Some (Jalr rd base offset)) = inl refl
+after_check rs1 imm label at other = inr refl
+
+label_word_is : (rs1 imm label at : ℕ) (o : Option Instr) →
+    slice_get (words_of (computed_unit rs1 imm o label) at) 8 ≡ Some (code_of (Upper Lui 4 label))
+unfolding words_of
+label_word_is rs1 imm label at (Some (Jalr rd base offset)) = refl
+label_word_is rs1 imm label at other = refl
+
+-- the word after the first
+second_word : (rs1 imm label at : ℕ) (o : Option Instr) →
+    slice_get (words_of (computed_unit rs1 imm o label) at) 1 ≡ Some (code_of (Immediate Andi 31 31 MINUS_FOUR))
+unfolding words_of
+second_word rs1 imm label at (Some (Jalr rd base offset)) = refl
+second_word rs1 imm label at other = refl
+
+record HasSecond (v : U.Unit) (at : ℕ) : Type 0 where
+  more : 2 ≤ word_count v
+  second : (slice_get (words_of v at) 1 ≡ Some (code_of (Shift Slli 31 31 36)))
+      ⊎ (slice_get (words_of v at) 1 ≡ Some (code_of (Immediate Andi 31 31 MINUS_FOUR)))
+
+store_second : (ws : List ℕ) (at rs1 imm : ℕ) (last : Option Instr) (v : U.Unit) → store_unit rs1 imm last ≡ Some v → HasSecond v at
+unfolding words_of
+store_second ws at rs1 imm last v e =
+    let s = stored rs1 imm last v e in
+    subst (λ (u : U.Unit). HasSecond u at) s.same (record { more = lit≤ tt; second = inl refl })
+
+check_second : (ws : List ℕ) (at rs1 imm : ℕ) (v : U.Unit) →
+    option_map (computed_unit rs1 imm (instr_at ws 12)) (label_in (instr_at ws 8)) ≡ Some v → HasSecond v at
+check_second ws at rs1 imm v e =
+    let (label, labelled, same) = mapped (computed_unit rs1 imm (instr_at ws 12)) (label_in (instr_at ws 8)) v e in
+    let enough : 13 ≤ word_count (computed_unit rs1 imm (instr_at ws 12) label) = longer rs1 imm label (instr_at ws 12) in
+    subst (λ (u : U.Unit). HasSecond u at) same (record {
+      more = omega (arith, enough);
+      second = inr (second_word rs1 imm label at (instr_at ws 12));
+    })
+
+address_second : (ws : List ℕ) (at rs1 imm : ℕ) (o : Option Instr) (v : U.Unit) → address_unit ws rs1 imm o ≡ Some v → HasSecond v at
+address_second ws at rs1 imm (Some (Shift op rd rs amount)) v e = store_second ws at rs1 imm (instr_at ws 3) v e
+address_second ws at rs1 imm other v e = check_second ws at rs1 imm v e
+
+-- an address was put into x31
+address_is : (held : List ℕ) (at rs1 imm : ℕ) → rs1 < 32 → imm < 2 ^ 12 → held ≡ code_of (Immediate Addi 31 rs1 imm) ∷ [] →
+    (v : U.Unit) (rest : List ℕ) → recognised (held ++ rest) at ≡ Some v → HasSecond v at
+address_is held at rs1 imm low small is v rest e =
+    let i : Instr = Immediate Addi 31 rs1 imm in
+    let ws : List ℕ = held ++ rest in
+    let first : instr_at ws 0 ≡ Some i =
+    ap (λ (l : List ℕ). instr_at (l ++ rest) 0) is ∙ decoded-code_of i (lit< tt, low, small) in
+    address_second ws at rs1 imm (instr_at ws 1) v (first_tells ws at i v first e)
+
+pub address_open : (held : List ℕ) (at : ℕ) → IsReading R.Address held at → recognised held at ≡ None
+address_open held at (rs1, imm, (low, small, is)) =
+    let n : length held ≡ 1 = ap length is in
+    unfinished held at 2 (omega (arith, n)) (λ v e. let s = address_is held at rs1 imm low small is v [] e in s.more)
+
+pub address_shifts : (word here : ℕ) → word ≡ 0x24f9f93 → LeadsOn R.Address word here (More (R.Store 2))
+unfolding words_of code_of
+address_shifts word here same held at (rs1, imm, (low, small, is)) place = (
+  Sd,
+  rs1,
+  imm,
+  (
+    low,
+    small,
+    lit≤ tt,
+    more_part (V.Store Sd rs1 0 imm) 1 held word at (record { held_is = is; below = lit< tt }) (lit< tt) (ap Some (sym same)),
+  ),
+)
+
+pub address_clears : (word here : ℕ) → word ≡ 0xffcfff93 → LeadsOn R.Address word here (More (R.Check 2))
+unfolding words_of code_of
+address_clears word here same held at (rs1, imm, (low, small, is)) place = (
+  rs1,
+  imm,
+  (
+    low,
+    small,
+    lit≤ tt,
+    lit≤ tt,
+    more_part (V.Ijump rs1 imm 0) 1 held word at (record { held_is = is; below = lit< tt }) (lit< tt) (ap Some (sym same)),
+  ),
+)
+
+pub address_wrong : (word here : ℕ) → word ≢ 0x24f9f93 → word ≢ 0xffcfff93 → LeadsOn R.Address word here (More R.Stuck)
+unfolding code_of
+address_wrong word here no_shift no_clear held at (rs1, imm, (low, small, is)) place =
+    let n : length held ≡ 1 = ap length is in
+    never held word at (λ v rest e.
+    let s = address_is held at rs1 imm low small is v (word ∷ rest) e in
+    elim s.second [
+      | inl shifts ↦ no_shift (is_next held word at rest v 0x24f9f93 e (ap (slice_get (words_of v at)) n ∙ shifts))
+      | inr clears ↦ no_clear (is_next held word at rest v 0xffcfff93 e (ap (slice_get (words_of v at)) n ∙ clears))
+    ])
+
+-- the label of a `lui x4`
+labelled_is : (i : Option Instr) (label : ℕ) → label_field i ≡ Some label → i ≡ Some (Upper Lui 4 label)
+labelled_is (Some (Upper Lui rd imm)) label e =
+    let made = guarded (rd == 4) (Some imm) label e in
+    let four : rd ≡ 4 = eqb-true rd 4 made.0 in
+    let given : Some imm ≡ Some label = made.1 in
+    let same : imm ≡ label = cc in
+    rw (four, same) refl
+labelled_is other label e = absurd (cc)
+
+upper_range : (word : ℕ) (label : ℕ) → word < 2 ^ 32 → label_in (decoded word) ≡ Some label → label < 2 ^ 20
+upper_range word label small e = range (decoded word) refl e
+  where
+    range : (i : Option Instr) → decoded word ≡ i → label_in i ≡ Some label → label < 2 ^ 20
+    range (Some (Upper op rd imm)) is e =
+        let r = decoded-in_range word (Upper op rd imm) small is in
+        let same : imm ≡ label = cc in
+        subst (λ n. n < 2 ^ 20) same r.1
+    range other is e = absurd (cc)
+
+-- a word of a check that stands at an address; none is told of the label
+abbrev pub IsCheckCode : ℕ → ℕ → ℕ → Type 0
+IsCheckCode count here code =
+    0 < count → count ≢ 8 → (rs1 imm label at : ℕ) → here ≡ at + 4 * count →
+    slice_get (words_of (V.Ijump rs1 imm label) at) count ≡ Some code
+
+-- a check before its label
+module _ (count : ℕ) (held : List ℕ) (at rs1 imm : ℕ) (low : rs1 < 32) (small : imm < 2 ^ 12) (some : 2 ≤ count)
+    (part : IsPart (V.Ijump rs1 imm 0) count held at) where
+  begin_is : (v : U.Unit) (rest : List ℕ) → recognised (held ++ rest) at ≡ Some v → IsTransfer (held ++ rest) rs1 imm v
+  unfolding words_of
+  begin_is = check_is (V.Ijump rs1 imm 0) count held at rs1 imm low small some part refl refl
+
+  begin_agree : Agree held at 8 (words_of (V.Ijump rs1 imm 0) at)
+  begin_agree v rest e =
+      let t = begin_is v rest e in
+      subst (λ (u : U.Unit). take 8 (words_of u at) ≡ take 8 (words_of (V.Ijump rs1 imm 0) at)) t.same
+      (same_begin rs1 imm t.label at (instr_at (held ++ rest) 12))
+
+pub check_open : (count : ℕ) (held : List ℕ) (at : ℕ) → IsReading (R.Check count) held at → recognised held at ≡ None
+check_open count held at (rs1, imm, (low, small, some, most, part)) =
+    let n = part_length (V.Ijump rs1 imm 0) count held at part in
+    unfinished held at 13 (omega (arith, n, most)) (λ v e.
+    let t = begin_is count held at rs1 imm low small some part v [] e in
+    subst (λ (u : U.Unit). 13 ≤ word_count u) t.same (longer rs1 imm t.label (instr_at (held ++ []) 12)))
+
+pub check_more : (count word here : ℕ) → count < 8 → IsCheckCode count here word → LeadsOn (R.Check count) word here (More (R.Check (count + 1)))
+check_more count word here before code held at (rs1, imm, (low, small, some, most, part)) place =
+    let n = part_length (V.Ijump rs1 imm 0) count held at part in
+    let code' = code (omega (arith, some)) (λ e. omega (arith, e, before)) rs1 imm 0 at (omega (arith, place, n)) in (
+      rs1,
+      imm,
+      (
+        low,
+        small,
+        omega (arith, some),
+        omega (arith, before),
+        more_part (V.Ijump rs1 imm 0) count held word at part (omega (arith, before)) code',
+      ),
+    )
+
+pub check_wrong : (count word here code : ℕ) → count < 8 → IsCheckCode count here code → word ≢ code →
+    LeadsOn (R.Check count) word here (More R.Stuck)
+check_wrong count word here code before is other held at (rs1, imm, (low, small, some, most, part)) place =
+    let n = part_length (V.Ijump rs1 imm 0) count held at part in
+    let is' = is (omega (arith, some)) (λ e. omega (arith, e, before)) rs1 imm 0 at (omega (arith, place, n)) in
+    wrong_word held word at 8 (words_of (V.Ijump rs1 imm 0) at) code (begin_agree count held at rs1 imm low small some part)
+    (omega (arith, n, before)) (ap (slice_get (words_of (V.Ijump rs1 imm 0) at)) n ∙ is') other
+
+pub check_labelled : (count word here label : ℕ) → 8 ≤ count → word < 2 ^ 32 → label_field (decoded word) ≡ Some label →
+    LeadsOn (R.Check count) word here (More (R.Labelled 9 label))
+unfolding words_of
+check_labelled count word here label after fits e held at (rs1, imm, (low, small, some, most, part)) place =
+    let eight : count ≡ 8 = omega (arith, after, most) in
+    let i : Instr = Upper Lui 4 label in
+    let is : decoded word ≡ Some i = labelled_is (decoded word) label e in
+    let range = decoded-in_range word i fits is in
+    let u : U.Unit = V.Ijump rs1 imm label in
+    let part' : held ≡ take 8 (words_of u at) = part.held_is ∙ ap (λ k. take k (words_of (V.Ijump rs1 imm 0) at)) eight in (
+      rs1,
+      imm,
+      (
+        low,
+        small,
+        range.1,
+        lit≤ tt,
+        more_part u 8 held word at (record { held_is = part'; below = lit< tt }) (lit< tt) (ap Some (code_of-decoded word i fits is)),
+      ),
+    )
+
+pub check_unlabelled : (count word here : ℕ) → 8 ≤ count → word < 2 ^ 32 → label_field (decoded word) ≡ None →
+    LeadsOn (R.Check count) word here (More R.Stuck)
+check_unlabelled count word here after fits none held at (rs1, imm, (low, small, some, most, part)) place =
+    let m = part_length (V.Ijump rs1 imm 0) count held at part in
+    let n : length held ≡ 8 = omega (arith, m, after, most) in
+    never held word at (λ v rest e.
+    let ws : List ℕ = held ++ (word ∷ rest) in
+    let t = begin_is count held at rs1 imm low small some part v (word ∷ rest) e in
+    let i : Instr = Upper Lui 4 t.label in
+    let range : t.label < 2 ^ 20 = upper_range word t.label fits (sym (ap label_in (next_decoded held word rest 8 n)) ∙ t.labelled) in
+    let theirs : slice_get (words_of v at) (length held) ≡ Some (code_of i) =
+    ap (slice_get (words_of v at)) n
+    ∙ subst (λ (u : U.Unit). slice_get (words_of u at) 8 ≡ Some (code_of i)) t.same (label_word_is rs1 imm t.label at (instr_at ws 12)) in
+    let is : word ≡ code_of i = is_next held word at rest v (code_of i) e theirs in
+    let back : decoded word ≡ Some i = ap decoded is ∙ decoded-code_of i (lit< tt, range) in
+    let labels : label_field (decoded word) ≡ Some t.label = ap label_field back in
+    cc)
+
+-- a check whose label is told
+module _ (u : U.Unit) (count : ℕ) (held : List ℕ) (at rs1 imm label : ℕ) (low : rs1 < 32) (small : imm < 2 ^ 12) (fits : label < 2 ^ 20)
+    (some : 9 ≤ count) (part : IsPart u count held at) (one : slice_get (words_of u at) 0 ≡ Some (code_of (Immediate Addi 31 rs1 imm)))
+    (two : slice_get (words_of u at) 1 ≡ Some (code_of (Immediate Andi 31 31 MINUS_FOUR)))
+    (eight : slice_get (words_of u at) 8 ≡ Some (code_of (Upper Lui 4 label))) where
+  told_is : (v : U.Unit) (rest : List ℕ) → recognised (held ++ rest) at ≡ Some v → computed_unit rs1 imm (instr_at (held ++ rest) 12) label ≡ v
+  told_is v rest e =
+      let ws : List ℕ = held ++ rest in
+      let t = check_is u count held at rs1 imm low small (omega (arith, some)) part one two v rest e in
+      let lui : instr_at ws 8 ≡ Some (Upper Lui 4 label) =
+      was_read u count held at part rest 8 (Upper Lui 4 label) (omega (arith, some)) eight (lit< tt, fits) in
+      let given : Some label ≡ Some t.label = sym (ap label_in lui) ∙ t.labelled in
+      let same : label ≡ t.label = cc in
+      ap (computed_unit rs1 imm (instr_at ws 12)) same ∙ t.same
+
+module _ (count : ℕ) (held : List ℕ) (at rs1 imm label : ℕ) (low : rs1 < 32) (small : imm < 2 ^ 12) (fits : label < 2 ^ 20)
+    (some : 9 ≤ count) (part : IsPart (V.Ijump rs1 imm label) count held at) where
+  jump_is : (v : U.Unit) (rest : List ℕ) → recognised (held ++ rest) at ≡ Some v → computed_unit rs1 imm (instr_at (held ++ rest) 12) label ≡ v
+  unfolding words_of
+  jump_is = told_is (V.Ijump rs1 imm label) count held at rs1 imm label low small fits some part refl refl refl
+
+  told_agree : Agree held at 12 (words_of (V.Ijump rs1 imm label) at)
+  told_agree v rest e =
+      subst (λ (u : U.Unit). take 12 (words_of u at) ≡ take 12 (words_of (V.Ijump rs1 imm label) at)) (jump_is v rest e)
+      (same_check rs1 imm label at (instr_at (held ++ rest) 12))
+
+pub label_open : (count label : ℕ) (held : List ℕ) (at : ℕ) → IsReading (R.Labelled count label) held at → recognised held at ≡ None
+label_open count label held at (rs1, imm, (low, small, fits, some, part)) =
+    let n = part_length (V.Ijump rs1 imm label) count held at part in
+    let below : count < 13 = part.below in
+    unfinished held at 13 (omega (arith, n, below)) (λ v e.
+    subst (λ (u : U.Unit). 13 ≤ word_count u) (jump_is count held at rs1 imm label low small fits some part v [] e)
+    (longer rs1 imm label (instr_at (held ++ []) 12)))
+
+pub label_more : (count label word here : ℕ) → count < 12 → IsCheckCode count here word →
+    LeadsOn (R.Labelled count label) word here (More (R.Labelled (count + 1) label))
+label_more count label word here before code held at (rs1, imm, (low, small, fits, some, part)) place =
+    let n = part_length (V.Ijump rs1 imm label) count held at part in
+    let code' = code (omega (arith, some)) (λ e. omega (arith, e, some)) rs1 imm label at (omega (arith, place, n)) in (
+      rs1,
+      imm,
+      (
+        low,
+        small,
+        fits,
+        omega (arith, some),
+        more_part (V.Ijump rs1 imm label) count held word at part (omega (arith, before)) code',
+      ),
+    )
+
+pub label_wrong : (count label word here code : ℕ) → count < 12 → IsCheckCode count here code → word ≢ code →
+    LeadsOn (R.Labelled count label) word here (More R.Stuck)
+label_wrong count label word here code before is other held at (rs1, imm, (low, small, fits, some, part)) place =
+    let n = part_length (V.Ijump rs1 imm label) count held at part in
+    let is' = is (omega (arith, some)) (λ e. omega (arith, e, some)) rs1 imm label at (omega (arith, place, n)) in
+    wrong_word held word at 12 (words_of (V.Ijump rs1 imm label) at) code (told_agree count held at rs1 imm label low small fits some part)
+    (omega (arith, n, before)) (ap (slice_get (words_of (V.Ijump rs1 imm label) at)) n ∙ is') other
+
+pub label_jumps : (count label word here : ℕ) → IsCode here → 12 ≤ count → word ≡ 0xf8067 →
+    LeadsOn (R.Labelled count label) word here (Done (E.Ijump label))
+unfolding words_of code_of
+label_jumps count label word here code after is held at (rs1, imm, (low, small, fits, some, part)) place =
+    let u : U.Unit = V.Ijump rs1 imm label in
+    let n = part_length u count held at part in
+    let below : count < 13 = part.below in
+    let twelve : count ≡ 12 = omega (arith, after, below) in
+    let here_is : here ≡ at + 48 = omega (arith, place, n, twelve) in
+    let round = code.round in
+    let part' : held ≡ take 12 (words_of u at) = part.held_is ∙ ap (λ k. take k (words_of u at)) twelve in (
+      u,
+      (
+        (
+          low,
+          small,
+          fits,
+          halt_reached here (at + 24) BAD_TARGET code (omega (arith, here_is)) (omega (arith, here_is)) (omega (arith, here_is, round)) refl (lit≤ tt) (lit< tt),
+          halt_reached here (at + 44) BAD_TARGET code (omega (arith, here_is)) (omega (arith, here_is)) (omega (arith, here_is, round)) refl (lit≤ tt) (lit< tt),
+        ),
+        refl,
+        more_words u 12 held word at part' (ap Some (sym is)),
+        λ rest. refl,
+      ),
+    )
+
+pub label_pushes : (count label word here : ℕ) → 12 ≤ count → word ≡ 0x3019f13 →
+    LeadsOn (R.Labelled count label) word here (More (R.Push 13 label))
+unfolding words_of code_of
+label_pushes count label word here after is held at (rs1, imm, (low, small, fits, some, part)) place =
+    let below : count < 13 = part.below in
+    let twelve : count ≡ 12 = omega (arith, after, below) in
+    let part' : held ≡ take 12 (words_of (V.Icall rs1 imm label) at) =
+    part.held_is ∙ ap (λ k. take k (words_of (V.Ijump rs1 imm label) at)) twelve in (
+      rs1,
+      imm,
+      (
+        low,
+        small,
+        fits,
+        lit≤ tt,
+        more_part (V.Icall rs1 imm label) 12 held word at (record { held_is = part'; below = lit< tt }) (lit< tt) (ap Some (sym is)),
+      ),
+    )
+
+pub label_fails : (count label word here : ℕ) → 12 ≤ count → word ≢ 0xf8067 → word ≢ 0x3019f13 →
+    LeadsOn (R.Labelled count label) word here (More R.Stuck)
+unfolding code_of
+label_fails count label word here after no_jump no_push held at (rs1, imm, (low, small, fits, some, part)) place =
+    let m = part_length (V.Ijump rs1 imm label) count held at part in
+    let below : count < 13 = part.below in
+    let n : length held ≡ 12 = omega (arith, m, after, below) in
+    never held word at (λ v rest e.
+    let o : Option Instr = instr_at (held ++ (word ∷ rest)) 12 in
+    let same : computed_unit rs1 imm o label ≡ v = jump_is count held at rs1 imm label low small fits some part v (word ∷ rest) e in
+    let at_12 : slice_get (words_of v at) (length held) ≡ slice_get (words_of (computed_unit rs1 imm o label) at) 12 =
+    ap (slice_get (words_of v at)) n ∙ ap (λ (u : U.Unit). slice_get (words_of u at) 12) (sym same) in
+    elim (after_check rs1 imm label at o) [
+      | inl jumps ↦ no_jump (is_next held word at rest v 0xf8067 e (at_12 ∙ jumps))
+      | inr pushes ↦ no_push (is_next held word at rest v 0x3019f13 e (at_12 ∙ pushes))
+    ])
+
+-- a computed call after its check
+module _ (count : ℕ) (held : List ℕ) (at rs1 imm label : ℕ) (low : rs1 < 32) (small : imm < 2 ^ 12) (fits : label < 2 ^ 20)
+    (some : 13 ≤ count) (part : IsPart (V.Icall rs1 imm label) count held at) where
+  push_is : (v : U.Unit) (rest : List ℕ) → recognised (held ++ rest) at ≡ Some v → V.Icall rs1 imm label ≡ v
+  unfolding words_of
+  push_is v rest e =
+      let u : U.Unit = V.Icall rs1 imm label in
+      let i : Instr = Shift Slli 30 3 48 in
+      let after : instr_at (held ++ rest) 12 ≡ Some i =
+      was_read u count held at part rest 12 i (omega (arith, some)) refl (lit< tt, lit< tt, lit< tt) in
+      sym (ap (λ o. computed_unit rs1 imm o label) after)
+      ∙ told_is u count held at rs1 imm label low small fits (omega (arith, some)) part refl refl refl v rest e
+
+  push_agree : Agree held at 20 (words_of (V.Icall rs1 imm label) at)
+  push_agree v rest e = ap (λ (u : U.Unit). take 20 (words_of u at)) (sym (push_is v rest e))
+
+pub push_open : (count label : ℕ) (held : List ℕ) (at : ℕ) → IsReading (R.Push count label) held at → recognised held at ≡ None
+push_open count label held at (rs1, imm, (low, small, fits, some, part)) =
+    let n = part_length (V.Icall rs1 imm label) count held at part in
+    let below : count < 20 = part.below in
+    unfinished held at 20 (omega (arith, n, below)) (λ v e.
+    subst (λ (u : U.Unit). 20 ≤ word_count u) (push_is count held at rs1 imm label low small fits some part v [] e) (lit≤ tt))
+
+get_drop : (n : ℕ) (xs : List ℕ) (j : ℕ) → slice_get (drop n xs) j ≡ slice_get xs (n + j)
+get_drop zero xs j = let k : 0 + j ≡ j = omega arith in ap (slice_get xs) (sym k)
+get_drop (suc n) [] j = refl
+get_drop (suc n) (x ∷ xs) j = let k : suc n + j ≡ suc (n + j) = omega arith in get_drop n xs j ∙ ap (slice_get (x ∷ xs)) (sym k)
+
+-- its push is that of a call
+push_code : (count rs1 imm label at here code j : ℕ) → count ≡ 12 + j → count < 19 → IsCallCode j here code → here ≡ at + 4 * count →
+    slice_get (words_of (V.Icall rs1 imm label) at) count ≡ Some code
+unfolding words_of
+push_code count rs1 imm label at here code j k before is place =
+    let u : U.Unit = V.Icall rs1 imm label in
+    let c : U.Unit = V.Call (at + 48 + 28) in
+    let below : j < 7 = omega (arith, before, k) in
+    let same : take 7 (drop 12 (words_of u at)) ≡ take 7 (words_of c (at + 48)) = refl in
+    ap (slice_get (words_of u at)) k ∙ sym (get_drop 12 (words_of u at) j)
+    ∙ sym (get_take 7 (drop 12 (words_of u at)) j below) ∙ ap (λ (l : List ℕ). slice_get l j) same
+    ∙ get_take 7 (words_of c (at + 48)) j below ∙ is (at + 48) (omega (arith, place, k))
+
+pub push_more : (count label word here index : ℕ) → count < 19 → index ≡ count - 12 → IsCallCode index here word →
+    LeadsOn (R.Push count label) word here (More (R.Push (count + 1) label))
+push_more count label word here index before offset code held at (rs1, imm, (low, small, fits, some, part)) place =
+    let n = part_length (V.Icall rs1 imm label) count held at part in
+    let code' = push_code count rs1 imm label at here word index (omega (arith, some, offset)) before code (omega (arith, place, n)) in (
+      rs1,
+      imm,
+      (
+        low,
+        small,
+        fits,
+        omega (arith, some),
+        more_part (V.Icall rs1 imm label) count held word at part (omega (arith, before)) code',
+      ),
+    )
+
+pub push_wrong : (count label word here index code : ℕ) → count < 19 → index ≡ count - 12 → IsCallCode index here code → word ≢ code →
+    LeadsOn (R.Push count label) word here (More R.Stuck)
+push_wrong count label word here index code before offset is other held at (rs1, imm, (low, small, fits, some, part)) place =
+    let n = part_length (V.Icall rs1 imm label) count held at part in
+    let is' = push_code count rs1 imm label at here code index (omega (arith, some, offset)) before is (omega (arith, place, n)) in
+    wrong_word held word at 20 (words_of (V.Icall rs1 imm label) at) code (push_agree count held at rs1 imm label low small fits some part)
+    (omega (arith, n, before)) (ap (slice_get (words_of (V.Icall rs1 imm label) at)) n ∙ is') other
+
+pub push_ends : (count label word here : ℕ) → IsCode here → 19 ≤ count → word ≡ 0xf80e7 →
+    LeadsOn (R.Push count label) word here (Done (E.Icall label))
+unfolding words_of code_of
+push_ends count label word here code after is held at (rs1, imm, (low, small, fits, some, part)) place =
+    let u : U.Unit = V.Icall rs1 imm label in
+    let n = part_length u count held at part in
+    let below : count < 20 = part.below in
+    let last : count ≡ 19 = omega (arith, after, below) in
+    let here_is : here ≡ at + 76 = omega (arith, place, n, last) in
+    let round = code.round in
+    let part' : held ≡ take 19 (words_of u at) = part.held_is ∙ ap (λ k. take k (words_of u at)) last in (
+      u,
+      (
+        (
+          (
+            low,
+            small,
+            fits,
+            halt_reached here (at + 24) BAD_TARGET code (omega (arith, here_is)) (omega (arith, here_is)) (omega (arith, here_is, round)) refl (lit≤ tt) (lit< tt),
+            halt_reached here (at + 44) BAD_TARGET code (omega (arith, here_is)) (omega (arith, here_is)) (omega (arith, here_is, round)) refl (lit≤ tt) (lit< tt),
+          ),
+          halt_reached here (at + 56) DEEP code (omega (arith, here_is)) (omega (arith, here_is)) (omega (arith, here_is, round)) refl (lit≤ tt) (lit< tt),
+        ),
+        refl,
+        more_words u 19 held word at part' (ap Some (sym is)),
+        λ rest. refl,
+      ),
+    )
+
+pub push_fails : (count label word here : ℕ) → 19 ≤ count → word ≢ 0xf80e7 → LeadsOn (R.Push count label) word here (More R.Stuck)
+unfolding words_of code_of
+push_fails count label word here after other held at (rs1, imm, (low, small, fits, some, part)) place =
+    let u : U.Unit = V.Icall rs1 imm label in
+    let m = part_length u count held at part in
+    let below : count < 20 = part.below in
+    let n : length held ≡ 19 = omega (arith, m, after, below) in
+    wrong_word held word at 20 (words_of u at) 0xf80e7 (push_agree count held at rs1 imm label low small fits some part)
+    (omega (arith, n)) (ap (slice_get (words_of u at)) n) other

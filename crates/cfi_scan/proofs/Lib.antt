@@ -1,0 +1,11 @@
+pub mod Template
+pub mod Transfers
+pub mod CheckReader
+pub mod LedBack
+pub mod FirstWord
+pub mod JumpWord
+pub mod Row
+pub mod Open
+pub mod Ended
+pub mod Pieces
+pub mod PlainWord

@@ -1,0 +1,197 @@
+-- Bytes that are cut into words, one byte or one word more, and what is kept of them.
+use Rattle.std.proofs.Common.{◌≡◌, ℕ, ◌+◌, ◌*◌, ◌/◌, ◌%◌, ◌<◌, ◌≤◌, List, [], ◌∷◌, ◌++◌, length, get_or, set, take, drop, Some, None, inl, inr, refl, sym, ap, ◌∙◌, subst, arith}
+use Rattle.std.proofs.lemmas.List.{append-nil, append_assoc, length_push, length-append, take_more_set, take_all, nil_from_length}
+use Rattle.std.proofs.lemmas.Bool.{cases_eq, eq-eqb, ne_eqb}
+use Rattle.rv_word.specs.Layout.{Profile}
+use Rattle.cfi_scan.specs.declared.entry.Entry.{Entry}
+use Rattle.cfi_scan.specs.declared.kept.Kept.{Kept}
+use Rattle.cfi_scan.specs.declared.reader.Reader.TheVariants as R
+use Rattle.cfi_scan.specs.Carry.{Taken, after_byte, made, word_of}
+use Rattle.cfi_scan.specs.Entries.{entries_of, inside}
+use Rattle.cfi_scan.specs.Pieces.{HasSeen, IsCut, IsOf, Keeps, Sight, ends, goes_on, prologue_count}
+use Rattle.cfi_scan.specs.Stream.{AllStand, IsSplitUp, Splits, last_of, spelled, width}
+
+-- fewer than four bytes are left, and the others are four a word
+pub cut_left : {bytes words left : List ℕ} → IsCut bytes words left → length left < 4
+cut_left (ends left low) = low
+cut_left (goes_on a b c d bytes words left cut) = cut_left cut
+
+pub cut_length : {bytes words left : List ℕ} → IsCut bytes words left → length bytes ≡ 4 * length words + length left
+cut_length (ends left low) = omega arith
+cut_length (goes_on a b c d bytes words left cut) = let e = cut_length cut in omega arith
+
+pub cut_count : {bytes words left : List ℕ} → IsCut bytes words left → length words ≡ length bytes / 4
+cut_count cut = omega (arith, cut_length cut, cut_left cut)
+
+pub cut_rest : {bytes words left : List ℕ} → IsCut bytes words left → length left ≡ length bytes % 4
+cut_rest cut = omega (arith, cut_length cut, cut_left cut)
+
+-- what follows is cut as if it came after the bytes that are left
+pub cut_append : {bytes words left : List ℕ} → IsCut bytes words left → (more others rest : List ℕ) → IsCut (left ++ more) others rest → IsCut (bytes ++ more) (words ++ others) rest
+cut_append (ends left low) more others rest next = next
+cut_append (goes_on a b c d bytes words left cut) more others rest next =
+    goes_on a b c d (bytes ++ more) (words ++ others) rest (cut_append cut more others rest next)
+
+-- one byte more, which makes no word whole
+pub cut_byte : {bytes words left : List ℕ} → (byte : ℕ) → IsCut bytes words left → length left < 3 → IsCut (bytes ++ byte ∷ []) words (left ++ byte ∷ [])
+cut_byte {bytes} {words} {left} byte cut low =
+    subst (λ (ws : List ℕ). IsCut (bytes ++ byte ∷ []) ws (left ++ byte ∷ [])) (append-nil words)
+    (cut_append cut (byte ∷ []) [] (left ++ byte ∷ []) (ends (left ++ byte ∷ []) (omega (arith, length_push left byte))))
+
+three_more : (left : List ℕ) (byte : ℕ) → length left ≡ 3 → IsCut (left ++ byte ∷ []) (word_of (get_or left 0 0) (get_or left 1 0) (get_or left 2 0) byte ∷ []) []
+three_more [] byte e = absurd (omega arith)
+three_more (a ∷ []) byte e = absurd (omega arith)
+three_more (a ∷ b ∷ []) byte e = absurd (omega arith)
+three_more (a ∷ b ∷ c ∷ []) byte e = goes_on a b c byte [] [] [] (ends [] (omega arith))
+three_more (a ∷ b ∷ c ∷ d ∷ left) byte e = absurd (omega arith)
+
+-- one byte more, which does
+pub cut_word : {bytes words left : List ℕ} → (byte : ℕ) → IsCut bytes words left → length left ≡ 3 → IsCut (bytes ++ byte ∷ []) (words ++ word_of (get_or left 0 0) (get_or left 1 0) (get_or left 2 0) byte ∷ []) []
+cut_word {bytes} {words} {left} byte cut full =
+    cut_append cut (byte ∷ []) (word_of (get_or left 0 0) (get_or left 1 0) (get_or left 2 0) byte ∷ []) [] (three_more left byte full)
+
+-- four bytes more, where none is left
+pub cut_quad : {bytes words left : List ℕ} → (a b c d : ℕ) → IsCut bytes words left → length left ≡ 0 → IsCut (bytes ++ a ∷ b ∷ c ∷ d ∷ []) (words ++ word_of a b c d ∷ []) []
+cut_quad {bytes} {words} {left} a b c d cut none =
+    let four : IsCut (a ∷ b ∷ c ∷ d ∷ []) (word_of a b c d ∷ []) [] = goes_on a b c d [] [] [] (ends [] (omega arith)) in
+    cut_append cut (a ∷ b ∷ c ∷ d ∷ []) (word_of a b c d ∷ []) []
+    (subst (λ (l : List ℕ). IsCut (l ++ a ∷ b ∷ c ∷ d ∷ []) (word_of a b c d ∷ []) []) (sym (nil_from_length left none)) four)
+
+-- the prologue's words with one more
+pub keeps_prologue : (prologue words : List ℕ) (index word : ℕ) → length prologue ≡ 16 → index < 16 → length words ≡ index → take (length words) prologue ≡ take 16 words →
+    take (length (words ++ word ∷ [])) (set prologue index word) ≡ take 16 (words ++ word ∷ [])
+keeps_prologue prologue words index word sixteen low count kept =
+    let longer = length_push words word in
+    rw (longer, count, take_more_set prologue index word (omega arith), take_all 16 (words ++ word ∷ []) (omega arith))
+    (ap (λ (ws : List ℕ). ws ++ word ∷ []) (ap (λ (n : ℕ). take n prologue) (sym count) ∙ kept ∙ take_all 16 words (omega arith)))
+
+-- no word yet
+pub splits_none : (from room : ℕ) → Splits from [] (inside room) 0 0 R.Start []
+unfolding spelled width last_of AllStand entries_of
+splits_none from room = record {
+  units = [];
+  held = [];
+  room = room;
+  words_are = refl;
+  stand = λ rest. tt;
+  entries_are = refl;
+  done_is = refl;
+  last_is = refl;
+  reading = refl;
+}
+
+-- what is kept of words, and what a feeder shows of it
+abbrev pub KeepsWords : Profile → Kept → List ℕ → Type 0
+KeepsWords p k words = Keeps p k.prologue k.units.entries.items k.units.done k.units.last k.units.reader words
+
+abbrev pub sight : Kept → Taken → Sight
+sight k t = record {
+  prologue = take (t.fed / 4) k.prologue;
+  entries = k.units.entries.items;
+  done = k.units.done;
+  last = k.units.last;
+  reader = k.units.reader;
+  left = t.left;
+  fed = t.fed;
+}
+
+pub seen_from : (p : Profile) (k : Kept) (t : Taken) (bytes words : List ℕ) → IsCut bytes words t.left → t.fed ≡ length bytes → KeepsWords p k words → HasSeen p (sight k t) bytes
+seen_from p k t bytes words cut fed keeps = record {
+  words = words;
+  cut = cut;
+  fed = fed;
+  prologue = ap (λ (n : ℕ). take n k.prologue) (ap (λ (n : ℕ). n / 4) fed ∙ sym (cut_count cut)) ∙ keeps.prologue_is;
+  split = keeps.split;
+}
+
+pub seen_count : (p : Profile) (k : Kept) (t : Taken) (bytes : List ℕ) (seen : HasSeen p (sight k t) bytes) → length seen.words ≡ t.fed / 4
+seen_count p k t bytes seen = cut_count seen.cut ∙ ap (λ (n : ℕ). n / 4) (sym seen.fed)
+
+pub seen_left : (p : Profile) (k : Kept) (t : Taken) (bytes : List ℕ) (seen : HasSeen p (sight k t) bytes) → length t.left ≡ t.fed % 4
+seen_left p k t bytes seen = cut_rest seen.cut ∙ ap (λ (n : ℕ). n % 4) (sym seen.fed)
+
+pub keeps_from : (p : Profile) (k : Kept) (t : Taken) (bytes : List ℕ) (seen : HasSeen p (sight k t) bytes) → KeepsWords p k seen.words
+keeps_from p k t bytes seen = record {
+  prologue_is = ap (λ (n : ℕ). take n k.prologue) (seen_count p k t bytes seen) ∙ seen.prologue;
+  split = seen.split;
+}
+
+-- what a byte makes of those of the word that is not whole
+pub made_whole : (t : Taken) (byte word : ℕ) → Some word ≡ made t byte →
+    (t.fed % 4 ≡ 3) × ((word ≡ word_of (get_or t.left 0 0) (get_or t.left 1 0) (get_or t.left 2 0) byte) × (after_byte t byte ≡ record { left = []; fed = t.fed + 1 }))
+made_whole t byte word e =
+    elim (cases_eq (t.fed % 4) 3) [
+      | inl full ↦ let test = eq-eqb (t.fed % 4) 3 full in (full, (cc, rw test refl))
+      | inr part ↦ let test = ne_eqb (t.fed % 4) 3 part in absurd (cc)
+    ]
+
+pub made_none : (t : Taken) (byte : ℕ) → None ≡ made t byte →
+    (t.fed % 4 ≡ 3 → ⊥) × (after_byte t byte ≡ record { left = t.left ++ byte ∷ []; fed = t.fed + 1 })
+made_none t byte e =
+    elim (cases_eq (t.fed % 4) 3) [
+      | inl full ↦ let test = eq-eqb (t.fed % 4) 3 full in absurd (cc)
+      | inr part ↦ let test = ne_eqb (t.fed % 4) 3 part in (part, rw test refl)
+    ]
+
+-- a byte that makes no word whole
+pub seen_byte : (p : Profile) (k : Kept) (t after : Taken) (byte : ℕ) → None ≡ made t byte → after ≡ after_byte t byte →
+    (bytes : List ℕ) → HasSeen p (sight k t) bytes → HasSeen p (sight k after) (bytes ++ byte ∷ [])
+seen_byte p k t after byte none is bytes seen =
+    let m = made_none t byte none in
+    subst (λ (a : Taken). HasSeen p (sight k a) (bytes ++ byte ∷ [])) (sym (is ∙ m.1))
+    (seen_from p k (record { left = t.left ++ byte ∷ []; fed = t.fed + 1 }) (bytes ++ byte ∷ []) seen.words
+    (cut_byte byte seen.cut (omega (arith, m.0, seen_left p k t bytes seen)))
+    (omega (arith, seen.fed, length_push bytes byte))
+    (keeps_from p k t bytes seen))
+
+-- one that does
+pub seen_word : (p : Profile) (k next : Kept) (t after : Taken) (byte word : ℕ) → Some word ≡ made t byte → after ≡ after_byte t byte →
+    ((words : List ℕ) → length words ≡ t.fed / 4 → KeepsWords p k words → KeepsWords p next (words ++ word ∷ [])) →
+    (bytes : List ℕ) → HasSeen p (sight k t) bytes → HasSeen p (sight next after) (bytes ++ byte ∷ [])
+seen_word p k next t after byte word some is keeps bytes seen =
+    let m = made_whole t byte word some in
+    subst (λ (a : Taken). HasSeen p (sight next a) (bytes ++ byte ∷ [])) (sym (is ∙ m.1.1))
+    (seen_from p next (record { left = []; fed = t.fed + 1 }) (bytes ++ byte ∷ []) (seen.words ++ word ∷ [])
+    (subst (λ (w : ℕ). IsCut (bytes ++ byte ∷ []) (seen.words ++ w ∷ []) []) (sym m.1.0)
+    (cut_word byte seen.cut (seen_left p k t bytes seen ∙ m.0)))
+    (omega (arith, seen.fed, length_push bytes byte))
+    (keeps seen.words (seen_count p k t bytes seen) (keeps_from p k t bytes seen)))
+
+-- four bytes that are a word
+pub seen_quad : (p : Profile) (k next : Kept) (t after : Taken) (a b c d word : ℕ) → t.fed % 4 ≡ 0 → word ≡ word_of a b c d → after ≡ record { left = []; fed = t.fed + 4 } →
+    ((words : List ℕ) → length words ≡ t.fed / 4 → KeepsWords p k words → KeepsWords p next (words ++ word ∷ [])) →
+    (bytes : List ℕ) → HasSeen p (sight k t) bytes → HasSeen p (sight next after) (bytes ++ a ∷ b ∷ c ∷ d ∷ [])
+seen_quad p k next t after a b c d word whole made is keeps bytes seen =
+    subst (λ (x : Taken). HasSeen p (sight next x) (bytes ++ a ∷ b ∷ c ∷ d ∷ [])) (sym is)
+    (seen_from p next (record { left = []; fed = t.fed + 4 }) (bytes ++ a ∷ b ∷ c ∷ d ∷ []) (seen.words ++ word ∷ [])
+    (subst (λ (w : ℕ). IsCut (bytes ++ a ∷ b ∷ c ∷ d ∷ []) (seen.words ++ w ∷ []) []) (sym made)
+    (cut_quad a b c d seen.cut (seen_left p k t bytes seen ∙ whole)))
+    (let e : length (bytes ++ a ∷ b ∷ c ∷ d ∷ []) ≡ length bytes + 4 = omega (arith, length-append bytes (a ∷ b ∷ c ∷ d ∷ [])) in omega (arith, seen.fed))
+    (keeps seen.words (seen_count p k t bytes seen) (keeps_from p k t bytes seen)))
+
+-- the first four bytes of what is left are taken
+pub four_first : (rest : List ℕ) → 4 ≤ length rest → get_or rest 0 0 ∷ get_or rest 1 0 ∷ get_or rest 2 0 ∷ get_or rest 3 0 ∷ drop 4 rest ≡ rest
+four_first [] room = absurd (omega arith)
+four_first (a ∷ []) room = absurd (omega arith)
+four_first (a ∷ b ∷ []) room = absurd (omega arith)
+four_first (a ∷ b ∷ c ∷ []) room = absurd (omega arith)
+four_first (a ∷ b ∷ c ∷ d ∷ rest) room = refl
+
+pub four_taken : (taken rest piece : List ℕ) → 4 ≤ length rest → taken ++ rest ≡ piece →
+    taken ++ get_or rest 0 0 ∷ get_or rest 1 0 ∷ get_or rest 2 0 ∷ get_or rest 3 0 ∷ [] ++ drop 4 rest ≡ piece
+four_taken taken rest piece room joined =
+    append_assoc taken (get_or rest 0 0 ∷ get_or rest 1 0 ∷ get_or rest 2 0 ∷ get_or rest 3 0 ∷ []) (drop 4 rest)
+    ∙ ap (λ (r : List ℕ). taken ++ r) (four_first rest room) ∙ joined
+
+-- a code that has ended
+pub ended : (p : Profile) (k : Kept) (t : Taken) (entries : List Entry) (done last fed : ℕ) (bytes : List ℕ) (seen : HasSeen p (sight k t) bytes) → fed ≡ t.fed → length entries ≡ length k.units.entries.items →
+    (length (drop (prologue_count p) seen.words) ≤ length k.units.entries.items → Splits p.units_from [] k.units.entries.items k.units.done k.units.last k.units.reader (drop (prologue_count p) seen.words) → IsSplitUp p.units_from entries done last (drop (prologue_count p) seen.words)) →
+    IsOf p (record { prologue = take (fed / 4) k.prologue; entries = entries; done = done; last = last; fed = fed }) bytes
+ended p k t entries done last fed bytes seen same room close = record {
+  words = seen.words;
+  left = t.left;
+  cut = seen.cut;
+  fed = same ∙ seen.fed;
+  prologue = ap (λ (n : ℕ). take (n / 4) k.prologue) same ∙ seen.prologue;
+  split = λ fits. let before : length (drop (prologue_count p) seen.words) ≤ length k.units.entries.items = omega (arith, fits, room) in close before (seen.split before);
+}

@@ -1,0 +1,14 @@
+use Rattle.std.proofs.Common.{◌≡◌, ◌+◌, ◌/◌, ℕ, List, ◌++◌, length, take}
+use Rattle.rv_word.specs.Layout.{version_1}
+use Rattle.cfi_scan.specs.Pieces.{HasSeen, Sight}
+use Rattle.cfi_scan.proofs.feeder.Feeder.bytes.Given as goal
+
+-- these bytes are taken
+pub record HasTaken (before now : Sight) (bytes : List ℕ) (ticked ticks : ℕ) : Type 0 where
+  pub seen : (earlier : List ℕ) → HasSeen version_1 before earlier → HasSeen version_1 now (earlier ++ bytes)
+  pub fed : now.fed ≡ before.fed + length bytes
+  pub room : length now.entries ≡ length before.entries
+  pub cost : ticks + before.fed / 4 ≡ ticked + now.fed / 4
+
+abbrev pub invariant-loop-byte : goal.invariant-loop-byte
+invariant-loop-byte g l = HasTaken l.fn.self l.self (take l.byte-index l.piece) l.fn.steps l.steps

@@ -1,0 +1,36 @@
+use Rattle.std.proofs.Common.{◌-◌, ◌+◌, ℕ, List, [], ◌∷◌, ◌++◌, ◌∙◌, subst, ap, length, get_or, drop, arith}
+use Rattle.std.proofs.lemmas.List.{append_assoc, length-drop, take_all}
+use Rattle.rv_word.specs.Layout.{version_1}
+use Rattle.cfi_scan.specs.Pieces.{HasSeen}
+use Rattle.cfi_scan.proofs.Pieces.{four_taken}
+use Rattle.cfi_scan.proofs.feeder.Feeder.words.Goals as goal
+
+-- one word more is taken
+pub loop-rest-preserved : goal.loop-rest-preserved
+loop-rest-preserved g c =
+    let before = c.loop-rest.invariant in
+    let rest : List ℕ = c.loop-rest.rest.now in
+    let four : List ℕ = get_or rest 0 0 ∷ get_or rest 1 0 ∷ get_or rest 2 0 ∷ get_or rest 3 0 ∷ [] in
+    let room = c.in-len4-up.len_at_least in
+    let all = take_all (length rest - 4) (drop 4 rest) (omega (arith, length-drop 4 rest)) in
+    record {
+      seen = λ bytes earlier.
+          let (taken, (joined, seen)) = before.seen bytes earlier in (
+            taken ++ four,
+            (
+              rw all (four_taken taken rest c.args.piece.now room joined),
+              subst (λ (bs : List ℕ). HasSeen version_1 c.quad.new.self bs) (append_assoc bytes taken four) (c.quad.ensures.seen (bytes ++ taken) seen),
+            ),
+          );
+      whole = omega (arith, c.quad.ensures.fed, before.whole);
+      fed = rw all (omega (arith, c.quad.ensures.fed, before.fed, length-drop 4 rest));
+      room = c.quad.ensures.room ∙ before.room;
+      cost = omega (arith, c.quad.ensures.cost, before.cost);
+    }
+
+pub returns-clause-seen : goal.returns-clause-seen
+returns-clause-seen g c bytes earlier =
+    let (taken, (joined, seen)) = c.loop-rest.invariant.seen bytes earlier in
+    subst (λ (bs : List ℕ). HasSeen version_1 c.bytes.new.self bs)
+    (append_assoc bytes taken c.loop-rest.rest.now ∙ ap (λ (bs : List ℕ). bytes ++ bs) joined)
+    (c.bytes.ensures.seen (bytes ++ taken) seen)

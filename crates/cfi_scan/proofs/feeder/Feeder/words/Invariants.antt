@@ -1,0 +1,19 @@
+use Rattle.std.proofs.Common.{◌≡◌, ◌+◌, ◌*◌, ◌/◌, ◌%◌, ℕ, List, ◌++◌, length}
+use Rattle.rv_word.specs.Layout.{version_1}
+use Rattle.cfi_scan.specs.Pieces.{HasSeen, Sight}
+use Rattle.cfi_scan.proofs.feeder.Feeder.words.Given as goal
+
+-- some bytes of the piece are taken, whole words of them
+pub record HasTaken (before now : Sight) (piece rest : List ℕ) (ticked : ℕ) (ticks : ℕ) : Type 0 where
+  pub seen : (bytes : List ℕ) → HasSeen version_1 before bytes →
+      (taken : List ℕ) × ((taken ++ rest ≡ piece) × HasSeen version_1 now (bytes ++ taken))
+  pub whole : now.fed % 4 ≡ 0
+  pub fed : now.fed + length rest ≡ before.fed + length piece
+  pub room : length now.entries ≡ length before.entries
+  pub cost : ticks + before.fed / 4 ≡ ticked + now.fed / 4
+
+abbrev pub invariant-loop-rest : goal.invariant-loop-rest
+invariant-loop-rest g l = HasTaken l.fn.self l.self l.fn.piece l.rest l.fn.steps l.steps
+
+abbrev pub decreases-loop-rest : goal.decreases-loop-rest
+decreases-loop-rest g l = length l.rest

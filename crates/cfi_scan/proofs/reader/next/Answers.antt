@@ -1,0 +1,29 @@
+use Rattle.cfi_scan.proofs.reader.next.Goals as goal
+
+-- src/reader.rt:47:1
+pub returns-in-Start : goal.returns-in-Start
+returns-in-Start c = rw c.in-Start.is c.first_word.ensures
+
+-- src/reader.rt:47:1
+pub returns-in-Branch : goal.returns-in-Branch
+returns-in-Branch c = rw c.in-Branch.is c.jump_word.ensures
+
+-- src/reader.rt:47:1
+pub returns-in-Address : goal.returns-in-Address
+returns-in-Address c = rw c.in-Address.is c.address_word.ensures
+
+-- src/reader.rt:47:1
+pub returns-in-Store : goal.returns-in-Store
+returns-in-Store c = rw c.in-Store.is c.store_word.ensures
+
+-- src/reader.rt:47:1
+pub returns-in-Check : goal.returns-in-Check
+returns-in-Check c = rw c.in-Check.is c.check_word.ensures
+
+-- src/reader.rt:47:1
+pub returns-in-Labelled : goal.returns-in-Labelled
+returns-in-Labelled c = rw c.in-Labelled.is c.label_word.ensures
+
+-- src/reader.rt:47:1
+pub returns-in-Push : goal.returns-in-Push
+returns-in-Push c = rw c.in-Push.is c.push_word.ensures

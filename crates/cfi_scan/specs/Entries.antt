@@ -1,0 +1,41 @@
+-- What is kept of a unit: its kind, and its label or the offset field of its jump or branch. The field,
+-- and not the target, so that nothing is lost where a jump leads out of the code.
+use Rattle.std.specs.Prelude.{ℕ, zero, suc, ◌+◌, ◌-◌, Bool, true, false, List, [], ◌∷◌, ◌++◌}
+use Rattle.cfi_unit.specs.declared.unit.Unit as U
+use Rattle.cfi_unit.specs.declared.unit.Unit.TheVariants as V
+use Rattle.cfi_unit.specs.UnitWords.{after_unit, jump_offset, near_offset, word_count}
+use Rattle.cfi_scan.specs.declared.entry.Entry.{Entry}
+use Rattle.cfi_scan.specs.declared.entry.Entry.TheVariants as E
+
+-- the entry of a unit at an address
+abbrev pub entry_of : U.Unit → ℕ → Entry
+entry_of (V.Gate label) at = E.Gate label
+entry_of (V.Plain instr) at = E.Other
+entry_of (V.Branch op rs1 rs2 target) at = E.Branch (jump_offset (at + 4) target)
+entry_of (V.Near op rs1 rs2 target) at = E.Near (near_offset at target)
+entry_of (V.Jump target) at = E.Jump (jump_offset at target)
+entry_of V.Stop at = E.Stop
+entry_of (V.System op) at = E.Other
+entry_of (V.Store op rs1 rs2 imm) at = E.Other
+entry_of (V.Call target) at = E.Call (jump_offset (at + 28) target)
+entry_of (V.Ijump rs1 imm label) at = E.Ijump label
+entry_of (V.Icall rs1 imm label) at = E.Icall label
+entry_of V.Return at = E.Other
+
+-- the entry is of no transfer and of no gate
+abbrev pub is_quiet : Entry → Bool
+is_quiet E.Inside = true
+is_quiet E.Stop = true
+is_quiet E.Other = true
+is_quiet _ = false
+
+-- the entries of words at which no unit starts
+unfoldable pub inside : ℕ → List Entry
+inside zero = []
+inside (suc n) = E.Inside ∷ inside n
+
+-- one entry for each word of units in a row from an address on
+unfoldable pub entries_of : List U.Unit → ℕ → List Entry
+entries_of [] at = []
+entries_of (unit ∷ units) at =
+    (entry_of unit at ∷ inside (word_count unit - 1)) ++ entries_of units (after_unit unit at)

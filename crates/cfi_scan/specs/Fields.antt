@@ -1,0 +1,21 @@
+-- What single words of units say beyond that they are there: the offset field of a call's transfer, the
+-- label of a computed transfer, and that a word stores at x31. Only private contracts cite these.
+use Rattle.std.specs.Prelude.{ℕ, ◌==◌, ◌&&◌, Bool, false, Option, Some, None, if◌then◌else◌}
+use Rattle.rv_instr.specs.declared.instr.Instr.{Instr}
+use Rattle.rv_instr.specs.declared.instr.Instr.TheVariants.{Upper, Jal, Store}
+use Rattle.cfi_unit.specs.UnitWords.{is_lui}
+
+-- the offset field of a `jal x1`
+abbrev pub link_field : Option Instr → Option ℕ
+link_field (Some (Jal rd imm)) = if rd == 1 then Some imm else None
+link_field other = None
+
+-- the label of a `lui x4`
+abbrev pub label_field : Option Instr → Option ℕ
+label_field (Some (Upper op rd imm)) = if is_lui op && (rd == 4) then Some imm else None
+label_field other = None
+
+-- a store at the address in x31
+abbrev pub stores_there : Option Instr → Bool
+stores_there (Some (Store op base rs2 imm)) = (base == 31) && (imm == 0)
+stores_there other = false

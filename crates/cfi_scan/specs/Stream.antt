@@ -1,0 +1,124 @@
+-- Units in a row, of words that come one by one: the units that have ended, and how far the one is read
+-- that has begun.
+use Rattle.std.specs.Prelude.{◌≡◌, ◌≢◌, ℕ, ◌+◌, ◌-◌, ◌*◌, ◌%◌, ◌<◌, ◌≤◌, ◌^◌, IsTrue, List, [], ◌∷◌, ◌++◌, length, take, Option, Some, None, true}
+use Rattle.rv_word.specs.Layout.{CODE_START, CODE_SIZE}
+use Rattle.rv_instr.specs.declared.instr.BranchOp.{BranchOp}
+use Rattle.rv_instr.specs.declared.instr.StoreOp.{StoreOp}
+use Rattle.rv_instr.specs.declared.instr.Instr.TheVariants.{Branch, Immediate}
+use Rattle.rv_instr.specs.declared.instr.ImmediateOp.TheVariants.{Addi}
+use Rattle.rv_code.specs.Encode.{code_of}
+use Rattle.cfi_unit.specs.declared.unit.Unit as U
+use Rattle.cfi_unit.specs.declared.unit.Unit.TheVariants as V
+use Rattle.cfi_unit.specs.UnitWords.{Fits, after_unit, instr_at, is_jump, may_precede, skip_offset, word_count, words_of}
+use Rattle.cfi_unit.specs.Recognise.{recognised}
+use Rattle.cfi_scan.specs.declared.entry.Entry.{Entry}
+use Rattle.cfi_scan.specs.declared.reader.Reader.{Reader}
+use Rattle.cfi_scan.specs.declared.reader.Reader.TheVariants as R
+use Rattle.cfi_scan.specs.declared.reader.Step.{Step}
+use Rattle.cfi_scan.specs.declared.reader.Step.TheVariants.{More, Done}
+use Rattle.cfi_scan.specs.Entries.{entries_of, entry_of, inside}
+
+-- an address at which a word of code may stand
+pub record IsCode (at : ℕ) : Type 0 where
+  pub low : CODE_START ≤ at
+  pub high : at < CODE_START + CODE_SIZE
+  pub round : at % 4 ≡ 0
+
+-- the words of units in a row from an address on, and how many they are
+unfoldable pub spelled : List U.Unit → ℕ → List ℕ
+spelled [] at = []
+spelled (unit ∷ units) at = words_of unit at ++ spelled units (after_unit unit at)
+
+unfoldable pub width : List U.Unit → ℕ
+width [] = 0
+width (unit ∷ units) = word_count unit + width units
+
+-- where the last of them starts, in words from the first
+unfoldable pub last_of : List U.Unit → ℕ
+last_of [] = 0
+last_of (unit ∷ []) = 0
+last_of (unit ∷ next ∷ units) = word_count unit + last_of (next ∷ units)
+
+-- each of them may stand where it does, before what follows it
+unfoldable pub AllStand : List U.Unit → ℕ → List ℕ → Type 0
+AllStand [] at tail = Unit {0}
+AllStand (unit ∷ units) at tail =
+    Fits unit at
+    × IsTrue (may_precede unit at (spelled units (after_unit unit at) ++ tail))
+    × AllStand units (after_unit unit at) tail
+
+-- no unit begins with these words, whatever follows
+abbrev pub NeverBegins : List ℕ → ℕ → Type 0
+NeverBegins held at = (rest : List ℕ) → recognised (held ++ rest) at ≡ None
+
+-- the first words of a unit, which has more
+pub record IsPart (unit : U.Unit) (count : ℕ) (held : List ℕ) (at : ℕ) : Type 0 where
+  pub held_is : held ≡ take count (words_of unit at)
+  pub below : count < word_count unit
+
+-- what is held of a unit that has begun, by how far it is read. Fields that no word has told yet are
+-- zero here, and so is a call's distance: only its last word has it.
+abbrev pub IsReading : Reader → List ℕ → ℕ → Type 0
+IsReading R.Start held at = held ≡ []
+IsReading R.Branch held at =
+    (op : BranchOp) × (rs1 : ℕ) × (rs2 : ℕ)
+    × ((rs1 < 32) × (rs2 < 32) × (held ≡ code_of (Branch op rs1 rs2 skip_offset) ∷ []))
+IsReading R.Address held at =
+    (rs1 : ℕ) × (imm : ℕ) × ((rs1 < 32) × (imm < 2 ^ 12) × (held ≡ code_of (Immediate Addi 31 rs1 imm) ∷ []))
+IsReading (R.Store count) held at =
+    (op : StoreOp) × (rs1 : ℕ) × (imm : ℕ)
+    × ((rs1 < 32) × (imm < 2 ^ 12) × (2 ≤ count) × IsPart (V.Store op rs1 0 imm) count held at)
+IsReading (R.Call count) held at = (1 ≤ count) × IsPart (V.Call (at + 28)) count held at
+IsReading (R.Check count) held at =
+    (rs1 : ℕ) × (imm : ℕ)
+    × ((rs1 < 32) × (imm < 2 ^ 12) × (2 ≤ count) × (count ≤ 8) × IsPart (V.Ijump rs1 imm 0) count held at)
+IsReading (R.Labelled count label) held at =
+    (rs1 : ℕ) × (imm : ℕ)
+    × ((rs1 < 32) × (imm < 2 ^ 12) × (label < 2 ^ 20) × (9 ≤ count) × IsPart (V.Ijump rs1 imm label) count held at)
+IsReading (R.Push count label) held at =
+    (rs1 : ℕ) × (imm : ℕ)
+    × ((rs1 < 32) × (imm < 2 ^ 12) × (label < 2 ^ 20) × (13 ≤ count) × IsPart (V.Icall rs1 imm label) count held at)
+IsReading (R.Return count) held at = (1 ≤ count) × IsPart V.Return count held at
+IsReading R.Stuck held at = NeverBegins held at
+
+-- where one word more leads: the unit is read further, or it has ended and nothing that follows changes it
+abbrev pub Leads : List ℕ → ℕ → ℕ → Step → Type 0
+Leads held word at (More reader) = IsReading reader (held ++ word ∷ []) at
+Leads held word at (Done entry) =
+    (unit : U.Unit)
+    × (Fits unit at × (entry ≡ entry_of unit at) × (held ++ word ∷ [] ≡ words_of unit at)
+    × ((rest : List ℕ) → may_precede unit at rest ≡ true))
+
+-- a word of code at an address is the next of a unit that has begun
+abbrev pub LeadsOn : Reader → ℕ → ℕ → Step → Type 0
+LeadsOn reader word here step =
+    (held : List ℕ) (at : ℕ) → IsReading reader held at → here ≡ at + 4 * length held → Leads held word at step
+
+-- a reader may take a word: a branch over the next word is no unit of its own only where that jumps
+abbrev pub MayTake : Reader → ℕ → Type 0
+MayTake reader word = reader ≡ R.Branch → is_jump (instr_at (word ∷ []) 0) ≡ true
+
+-- the words so far, of which `next` are known to follow, are these units and a part of one: one entry
+-- for each word that there is room for
+pub record Splits (from : ℕ) (next : List ℕ) (entries : List Entry) (done last : ℕ) (reader : Reader) (words : List ℕ) : Type 0 where
+  pub units : List U.Unit
+  pub held : List ℕ
+  pub room : ℕ
+  pub words_are : words ≡ spelled units from ++ held
+  pub stand : (rest : List ℕ) → AllStand units from (held ++ (next ++ rest))
+  pub entries_are : entries ≡ entries_of units from ++ inside room
+  pub done_is : done ≡ width units
+  pub last_is : last ≡ last_of units
+  pub reading : IsReading reader held (from + 4 * width units)
+
+-- the words are these units and, past them, words with which no unit begins
+pub record IsSplitUp (from : ℕ) (entries : List Entry) (done last : ℕ) (words : List ℕ) : Type 0 where
+  pub units : List U.Unit
+  pub past : List ℕ
+  pub room : ℕ
+  pub words_are : words ≡ spelled units from ++ past
+  pub stand : AllStand units from past
+  pub entries_are : entries ≡ entries_of units from ++ inside room
+  pub done_is : done ≡ width units
+  pub last_is : last ≡ last_of units
+  pub none : recognised past (from + 4 * width units) ≡ None

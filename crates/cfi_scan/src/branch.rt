@@ -1,0 +1,38 @@
+ghost use Rattle.std.specs.Prelude.{◌≡◌, []};
+ghost use Rattle.std.specs.Prelude.{◌∷◌};
+ghost use Rattle.cfi_scan.specs.Stream.{IsCode, LeadsOn, MayTake};
+ghost use Rattle.cfi_scan.specs.declared.reader.Reader.TheVariants as R;
+ghost use Rattle.cfi_unit.specs.UnitWords.{instr_at, is_jump};
+
+use crate::entry::Entry;
+use crate::reader::{Reader, Step};
+use rv_code::decode;
+use rv_instr::Instr;
+
+/// Whether a word is `jal x0`.
+pub(crate) fn is_jump(word: u32) -> bool
+    ensures { result ≡ is_jump (instr_at (word ∷ []) 0) }
+{
+    let Some(instr) = decode(word) else {
+        return false;
+    };
+    match instr {
+        Instr::Jal(rd, _) => rd.number() == 0,
+        _ => false,
+    }
+}
+
+/// Reads the jump after a branch over it.
+pub(crate) fn jump_word(word: u32, here: u64) -> Step
+    requires place { IsCode here }
+    requires taken { MayTake R.Branch word }
+    ensures { LeadsOn R.Branch word here result }
+{
+    let Some(instr) = decode(word) else {
+        return Step::More(Reader::Stuck);
+    };
+    match instr {
+        Instr::Jal(_, field) => Step::Done(Entry::Branch(field)),
+        _ => Step::More(Reader::Stuck),
+    }
+}

@@ -1,0 +1,27 @@
+use rv_instr::Immediate;
+
+/// What is kept of a word of code: that a unit starts there, of which kind, and its label or the offset
+/// field of its jump or branch, in multiples of two bytes.
+#[derive(Clone, Copy, PartialEq, Eq)]
+pub enum Entry {
+    /// No unit starts there.
+    Inside,
+    /// A near branch.
+    Near(Immediate<12>),
+    /// A branch over the jump that follows it, which has the field.
+    Branch(Immediate<20>),
+    /// A jump to a target that is not the handler of bad targets.
+    Jump(Immediate<20>),
+    /// A jump to the handler of bad targets.
+    Stop,
+    /// A call, whose last word has the field.
+    Call(Immediate<20>),
+    /// A computed jump; its label.
+    Ijump(Immediate<20>),
+    /// A computed call; its label.
+    Icall(Immediate<20>),
+    /// A gate; its label.
+    Gate(Immediate<20>),
+    /// Any other unit.
+    Other,
+}

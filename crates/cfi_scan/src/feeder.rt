@@ -1,0 +1,167 @@
+ghost use Rattle.std.specs.Prelude.{◌≡◌, ◌+◌, ◌-◌, ◌*◌, ◌/◌, ◌%◌, ◌<◌, ◌≤◌, ◌^◌, ℕ, List, IfOk, [], ◌∷◌, ◌++◌, length};
+ghost use Rattle.rv_word.specs.Layout.{CODE_SIZE, version_1};
+ghost use Rattle.cfi_scan.specs.Carry.{word_of};
+ghost use Rattle.cfi_scan.specs.Pieces.{HasSeen, IsOf};
+
+use crate::carry::Carry;
+use crate::kept::Kept;
+use crate::listing::Listing;
+use crate::splitter::Splitter;
+use crate::steps::Steps;
+use rv_word::NoMemory;
+use std::alloc::Global;
+use std::marker::Model;
+use std::sync::ledger::Ledger;
+
+/// Takes a code in pieces, cut anywhere. It keeps the sixteen words of the prologue and one entry for
+/// each word after it that there is room for; bytes past the room are only counted.
+#[derive(Drop)]
+pub struct Feeder {
+    kept: Kept,
+    carry: Carry,
+}
+
+impl Model for Feeder {
+    ghost use Rattle.std.specs.Prelude.{◌/◌, ◌+◌, ◌*◌, ◌≤◌, length, take};
+    ghost use Rattle.rv_word.specs.Layout.{CODE_SIZE};
+    ghost use Rattle.cfi_scan.specs.Pieces.{Sight};
+
+    ghost Value = { Sight };
+
+    ghost view = { λ f. record {
+      prologue = take (f.carry.fed / 4) f.kept.prologue;
+      entries = f.kept.units.entries.items;
+      done = f.kept.units.done;
+      last = f.kept.units.last;
+      reader = f.kept.units.reader;
+      left = f.carry.left;
+      fed = f.carry.fed;
+    } };
+
+    ghost invariant = { λ f. 4 * length f.kept.units.entries.items + 64 ≤ CODE_SIZE };
+}
+
+impl Feeder {
+    /// No byte yet, and room for a code of so many words.
+    pub fn new(alloc: Global, words: usize) -> Result<Feeder, NoMemory>
+        requires { 4 * words ≤ CODE_SIZE }
+        ensures seen { IfOk result (λ f. HasSeen version_1 f []) }
+        ensures room { IfOk result (λ f. length f.entries ≡ words - 16) }
+    {
+        Ok(Feeder {
+            kept: Kept::new(alloc, words)?,
+            carry: Carry::new(),
+        })
+    }
+
+    /// How many bytes came.
+    pub fn fed(&self) -> u32
+        ensures { result ≡ self.now.fed }
+    {
+        self.carry.fed()
+    }
+
+    /// Takes a piece. Each word is read once, when its last byte has come.
+    pub fn feed<L: Ledger>(&mut self, piece: &[u8], steps: &mut Steps<L>)
+        requires small { self.old.fed + length piece.now < 2 ^ 32 }
+        ensures seen { (bytes : List ℕ) → HasSeen version_1 self.old bytes → HasSeen version_1 self.new (bytes ++ piece.now) }
+        ensures fed { self.new.fed ≡ self.old.fed + length piece.now }
+        ensures room { length self.new.entries ≡ length self.old.entries }
+        ensures cost { steps.new + self.old.fed / 4 ≡ steps.old + self.new.fed / 4 }
+    {
+        let missing = ((4 - self.fed() % 4) % 4) as usize;
+        if piece.len() <= missing {
+            self.bytes(piece, steps);
+        } else {
+            let (first, rest) = piece.split_at(missing);
+            self.bytes(first, steps);
+            self.words(rest, steps);
+        }
+    }
+
+    /// Takes bytes one by one.
+    fn bytes<L: Ledger>(&mut self, piece: &[u8], steps: &mut Steps<L>)
+        requires small { self.old.fed + length piece.now < 2 ^ 32 }
+        ensures seen { (bytes : List ℕ) → HasSeen version_1 self.old bytes → HasSeen version_1 self.new (bytes ++ piece.now) }
+        ensures fed { self.new.fed ≡ self.old.fed + length piece.now }
+        ensures room { length self.new.entries ≡ length self.old.entries }
+        ensures cost { steps.new + self.old.fed / 4 ≡ steps.old + self.new.fed / 4 }
+    {
+        for byte in piece {
+            self.byte(*byte, steps);
+        }
+    }
+
+    /// Takes words whole, and then the bytes that are left.
+    fn words<L: Ledger>(&mut self, piece: &[u8], steps: &mut Steps<L>)
+        requires small { self.old.fed + length piece.now < 2 ^ 32 }
+        requires whole { self.old.fed % 4 ≡ 0 }
+        ensures seen { (bytes : List ℕ) → HasSeen version_1 self.old bytes → HasSeen version_1 self.new (bytes ++ piece.now) }
+        ensures fed { self.new.fed ≡ self.old.fed + length piece.now }
+        ensures room { length self.new.entries ≡ length self.old.entries }
+        ensures cost { steps.new + self.old.fed / 4 ≡ steps.old + self.new.fed / 4 }
+    {
+        let mut rest = piece;
+        while let [a, b, c, d, next @ ..] = rest {
+            self.quad(*a, *b, *c, *d, steps);
+            rest = next;
+        }
+        self.bytes(rest, steps);
+    }
+
+    /// Takes one byte.
+    fn byte<L: Ledger>(&mut self, byte: u8, steps: &mut Steps<L>)
+        requires small { self.old.fed + 1 < 2 ^ 32 }
+        ensures seen { (bytes : List ℕ) → HasSeen version_1 self.old bytes → HasSeen version_1 self.new (bytes ++ byte ∷ []) }
+        ensures fed { self.new.fed ≡ self.old.fed + 1 }
+        ensures room { length self.new.entries ≡ length self.old.entries }
+        ensures cost { steps.new + self.old.fed / 4 ≡ steps.old + self.new.fed / 4 }
+    {
+        let index = (self.carry.fed() / 4) as usize;
+        if let Some(word) = self.carry.push(byte) {
+            self.kept.take(word, index, steps);
+        }
+    }
+
+    /// Takes a word whole, by its four bytes.
+    fn quad<L: Ledger>(&mut self, a: u8, b: u8, c: u8, d: u8, steps: &mut Steps<L>)
+        requires small { self.old.fed + 4 < 2 ^ 32 }
+        requires whole { self.old.fed % 4 ≡ 0 }
+        ensures seen { (bytes : List ℕ) → HasSeen version_1 self.old bytes → HasSeen version_1 self.new (bytes ++ a ∷ b ∷ c ∷ d ∷ []) }
+        ensures fed { self.new.fed ≡ self.old.fed + 4 }
+        ensures room { length self.new.entries ≡ length self.old.entries }
+        ensures cost { steps.new + self.old.fed / 4 ≡ steps.old + self.new.fed / 4 }
+    {
+        let index = (self.carry.fed() / 4) as usize;
+        self.carry.pass_word();
+        self.kept
+            .take(u32::from_le_bytes([a, b, c, d]), index, steps);
+    }
+
+    /// Ends the code.
+    pub fn finish(self) -> Listing
+        ensures of { (bytes : List ℕ) → HasSeen version_1 self bytes → IsOf version_1 result bytes }
+        ensures room { length result.entries ≡ length self.entries }
+    {
+        let Feeder { kept, carry } = self;
+        let fed = carry.fed();
+        let Kept {
+            prologue,
+            mut units,
+        } = kept;
+        units.close(((fed / 4) as usize).saturating_sub(16));
+        let Splitter {
+            entries,
+            done,
+            last,
+            reader: _,
+        } = units;
+        Listing {
+            prologue,
+            entries,
+            done,
+            last,
+            fed,
+        }
+    }
+}

@@ -1,0 +1,97 @@
+ghost use Rattle.std.specs.Prelude.{◌≡◌, ◌<◌, ◌≤◌, ℕ, Some, slice_get, true};
+ghost use Rattle.cfi_scan.specs.Entries.{is_quiet};
+ghost use Rattle.cfi_scan.specs.declared.entry.Entry.{Entry};
+
+use crate::entry::Entry;
+use crate::packed::Packed;
+use std::marker::Model;
+
+/// What is left of a code that has ended: the words of its prologue, and one entry for each word after
+/// it.
+#[derive(Drop)]
+pub struct Listing {
+    pub(crate) prologue: [u32; 16],
+    pub(crate) entries: Vec<Packed>,
+    pub(crate) done: usize,
+    pub(crate) last: usize,
+    pub(crate) fed: u32,
+}
+
+impl Model for Listing {
+    ghost use Rattle.std.specs.Prelude.{◌/◌, ◌+◌, ◌*◌, ◌≤◌, length, take};
+    ghost use Rattle.rv_word.specs.Layout.{CODE_SIZE};
+    ghost use Rattle.cfi_scan.specs.Pieces.{Listed};
+
+    ghost Value = { Listed };
+
+    ghost view = { λ t. record {
+      prologue = take (t.fed / 4) t.prologue;
+      entries = t.entries.items;
+      done = t.done;
+      last = t.last;
+      fed = t.fed;
+    } };
+
+    ghost invariant = { λ t. 4 * length t.entries.items + 64 ≤ CODE_SIZE };
+}
+
+impl Listing {
+    /// The entry of a word, counted from the first after the prologue.
+    pub fn entry(&self, index: usize) -> Option<Entry>
+        ensures { result ≡ slice_get self.now.entries index }
+    {
+        self.entries.get(index).map(|packed| packed.entry())
+    }
+
+    /// The first word from `from` on, and before `to`, with the entry of a transfer or a gate; `to` where
+    /// there is none, and `from` where these are not words of the code.
+    pub fn next_busy(&self, from: usize, to: usize) -> usize
+        requires { from < to }
+        ensures low { from ≤ result }
+        ensures high { result ≤ to }
+        ensures quiet { (k : ℕ) (entry : Entry) → from ≤ k → k < result → slice_get self.now.entries k ≡ Some entry → is_quiet entry ≡ true }
+    {
+        let entries = self.entries.as_slice();
+        if to > entries.len() {
+            return from;
+        }
+        let mut index = from;
+        while index < to && entries[index].is_quiet() {
+            index += 1;
+        }
+        index
+    }
+
+    /// The words of the prologue that there are.
+    pub fn prologue(&self) -> &[u32]
+        ensures { result.now ≡ self.now.prologue }
+    {
+        let count = (self.fed / 4) as usize;
+        if count < 16 {
+            &self.prologue[..count]
+        } else {
+            &self.prologue
+        }
+    }
+
+    /// How many words after the prologue belong to units.
+    pub fn done(&self) -> usize
+        ensures { result ≡ self.now.done }
+    {
+        self.done
+    }
+
+    /// Where the last unit starts, in words after the prologue.
+    pub fn last(&self) -> usize
+        ensures { result ≡ self.now.last }
+    {
+        self.last
+    }
+
+    /// How many bytes the code has.
+    pub fn fed(&self) -> u32
+        ensures { result ≡ self.now.fed }
+    {
+        self.fed
+    }
+}

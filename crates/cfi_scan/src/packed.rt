@@ -1,0 +1,112 @@
+ghost use Rattle.std.specs.Prelude.{◌≡◌};
+ghost use Rattle.cfi_scan.specs.Entries.{is_quiet};
+ghost use Rattle.cfi_scan.specs.Packed.{of_kind, packed, unpacked};
+
+use crate::entry::Entry;
+use rv_instr::Immediate;
+use std::marker::Model;
+
+/// An entry in four bytes: the number of its kind above its field.
+#[derive(Clone, Copy)]
+pub(crate) struct Packed {
+    word: u32,
+}
+
+impl Model for Packed {
+    ghost use Rattle.cfi_scan.specs.declared.entry.Entry.{Entry};
+
+    ghost Value = { Entry };
+
+    ghost use Rattle.cfi_scan.specs.Packed.{IsPacked, packed, unpacked};
+
+    ghost view = { λ p. unpacked p.word };
+
+    ghost invariant = { λ p. IsPacked p.word };
+
+    ghost inverse = { λ e. record { word = packed e } };
+
+    ghost inverse_ok = { λ a h i. record { word = h i } };
+}
+
+impl Packed {
+    /// No unit starts there.
+    pub(crate) fn of(entry: Entry) -> Self
+        ensures { result ≡ entry }
+    {
+        Packed {
+            word: word_of(entry),
+        }
+    }
+
+    /// Whether the entry is of no transfer and of no gate.
+    pub(crate) fn is_quiet(&self) -> bool
+        ensures { result ≡ is_quiet self.now }
+    {
+        is_quiet_kind(self.word / FIELDS, self.word % FIELDS)
+    }
+
+    /// The entry.
+    pub(crate) fn entry(&self) -> Entry
+        ensures { result ≡ self.now }
+    {
+        entry_of(self.word)
+    }
+}
+
+/// How many values a field has.
+const FIELDS: u32 = 1 << 20;
+
+/// The word of an entry.
+fn word_of(entry: Entry) -> u32
+    ensures word { result ≡ packed entry }
+    ensures back { unpacked result ≡ entry }
+{
+    match entry {
+        Entry::Inside => 0,
+        Entry::Near(field) => FIELDS + field.bits(),
+        Entry::Branch(field) => 2 * FIELDS + field.bits(),
+        Entry::Jump(field) => 3 * FIELDS + field.bits(),
+        Entry::Stop => 4 * FIELDS,
+        Entry::Call(field) => 5 * FIELDS + field.bits(),
+        Entry::Ijump(label) => 6 * FIELDS + label.bits(),
+        Entry::Icall(label) => 7 * FIELDS + label.bits(),
+        Entry::Gate(label) => 8 * FIELDS + label.bits(),
+        Entry::Other => 9 * FIELDS,
+    }
+}
+
+/// The same of the number of its kind.
+fn is_quiet_kind(kind: u32, _field: u32) -> bool
+    ensures { result ≡ is_quiet (of_kind kind _field) }
+{
+    kind == 0 || kind == 4 || kind >= 9
+}
+
+/// The entry of a word.
+fn entry_of(word: u32) -> Entry
+    ensures { result ≡ unpacked word }
+{
+    let kind = word / FIELDS;
+    let field = word % FIELDS;
+    if kind == 0 {
+        Entry::Inside
+    } else if kind == 1 {
+        Entry::Near(Immediate::of(field % 4096))
+    } else if kind == 2 {
+        Entry::Branch(Immediate::of(field))
+    } else if kind == 3 {
+        Entry::Jump(Immediate::of(field))
+    } else if kind == 4 {
+        Entry::Stop
+    } else if kind == 5 {
+        Entry::Call(Immediate::of(field))
+    } else if kind == 6 {
+        Entry::Ijump(Immediate::of(field))
+    } else if kind == 7 {
+        Entry::Icall(Immediate::of(field))
+    } else if kind == 8 {
+        Entry::Gate(Immediate::of(field))
+    } else {
+        Entry::Other
+    }
+}

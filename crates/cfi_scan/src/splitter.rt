@@ -1,0 +1,131 @@
+ghost use Rattle.std.specs.Prelude.{◌≡◌, ◌+◌, ◌*◌, ◌<◌, ◌≤◌, ℕ, List, IfOk, [], ◌∷◌, ◌++◌, length, slice_set};
+ghost use Rattle.rv_word.specs.Layout.{CODE_SIZE, version_1};
+ghost use Rattle.cfi_scan.specs.Entries.{inside};
+ghost use Rattle.cfi_scan.specs.Stream.{IsSplitUp, MayTake, Splits};
+ghost use Rattle.cfi_scan.specs.declared.reader.Reader.TheVariants as R;
+
+use crate::branch::is_jump;
+use crate::entry::Entry;
+use crate::packed::Packed;
+use crate::plain::is_plain_word;
+use crate::reader::{Reader, Step, next};
+use rv_instr::Immediate;
+use rv_word::NoMemory;
+use rv_word::profile::UNITS_START;
+use std::alloc::Global;
+
+/// The units of the words so far: one entry for each word that there is room for, how many words belong
+/// to units that have ended, where the last of these starts, and how far the next one is read.
+#[derive(Drop)]
+pub(crate) struct Splitter {
+    pub(crate) entries: Vec<Packed>,
+    pub(crate) done: usize,
+    pub(crate) last: usize,
+    pub(crate) reader: Reader,
+}
+
+impl Splitter {
+    /// No word yet, and room for some.
+    pub(crate) fn new(alloc: Global, room: usize) -> Result<Splitter, NoMemory>
+        ensures empty { IfOk result (λ s. (s.entries.items ≡ inside room) × (s.done ≡ 0) × (s.last ≡ 0) × (s.reader ≡ R.Start)) }
+        ensures room { IfOk result (λ s. length s.entries.items ≡ room) }
+    {
+        Ok(Splitter {
+            entries: nothing(alloc, room)?,
+            done: 0,
+            last: 0,
+            reader: Reader::Start,
+        })
+    }
+
+    /// Takes the next word, before which so many came.
+    pub(crate) fn take(&mut self, word: u32, index: usize)
+        requires room { index < length self.old.entries.items }
+        requires small { 4 * length self.old.entries.items + 64 ≤ CODE_SIZE }
+        ensures splits { (words : List ℕ) → length words ≡ index → Splits version_1.units_from [] self.old.entries.items self.old.done self.old.last self.old.reader words → Splits version_1.units_from [] self.new.entries.items self.new.done self.new.last self.new.reader (words ++ word ∷ []) }
+        ensures room { length self.new.entries.items ≡ length self.old.entries.items }
+    {
+        if self.reader == Reader::Start && is_plain_word(word) {
+            self.end(Entry::Other, index + 1);
+        } else if self.reader == Reader::Branch {
+            self.after_branch(word, index);
+        } else {
+            self.read(word, index);
+        }
+    }
+
+    /// Takes the word after a branch over it, which it ends first where that is no jump.
+    #[inline(never)]
+    fn after_branch(&mut self, word: u32, index: usize)
+        requires room { index < length self.old.entries.items }
+        requires small { 4 * length self.old.entries.items + 64 ≤ CODE_SIZE }
+        ensures splits { (words : List ℕ) → length words ≡ index → Splits version_1.units_from [] self.old.entries.items self.old.done self.old.last self.old.reader words → Splits version_1.units_from [] self.new.entries.items self.new.done self.new.last self.new.reader (words ++ word ∷ []) }
+        ensures room { length self.new.entries.items ≡ length self.old.entries.items }
+    {
+        self.settle(word, index);
+        self.read(word, index);
+    }
+
+    /// Takes the next word by what is read of its unit, where no branch is left to be ended.
+    #[inline(never)]
+    fn read(&mut self, word: u32, index: usize)
+        requires room { index < length self.old.entries.items }
+        requires small { 4 * length self.old.entries.items + 64 ≤ CODE_SIZE }
+        requires taken { MayTake self.old.reader word }
+        ensures splits { (words : List ℕ) → length words ≡ index → Splits version_1.units_from (word ∷ []) self.old.entries.items self.old.done self.old.last self.old.reader words → Splits version_1.units_from [] self.new.entries.items self.new.done self.new.last self.new.reader (words ++ word ∷ []) }
+        ensures room { length self.new.entries.items ≡ length self.old.entries.items }
+    {
+        match next(self.reader, word, UNITS_START + 4 * index as u64) {
+            Step::More(reader) => self.reader = reader,
+            Step::Done(entry) => self.end(entry, index + 1),
+        }
+    }
+
+    /// Ends a branch over the next word where that is no jump: then it is a unit of its own.
+    fn settle(&mut self, word: u32, index: usize)
+        requires room { index ≤ length self.old.entries.items }
+        requires small { 4 * length self.old.entries.items + 64 ≤ CODE_SIZE }
+        ensures splits { (words : List ℕ) → length words ≡ index → Splits version_1.units_from [] self.old.entries.items self.old.done self.old.last self.old.reader words → Splits version_1.units_from (word ∷ []) self.new.entries.items self.new.done self.new.last self.new.reader words }
+        ensures taken { MayTake self.new.reader word }
+        ensures room { length self.new.entries.items ≡ length self.old.entries.items }
+    {
+        if self.reader == Reader::Branch && !is_jump(word) {
+            self.end(Entry::Near(Immediate::of(4)), index);
+        }
+    }
+
+    /// Ends the code, which has so many words: a branch over the word that would come next is a unit of
+    /// its own.
+    pub(crate) fn close(&mut self, count: usize)
+        requires small { 4 * length self.old.entries.items + 64 ≤ CODE_SIZE }
+        ensures splits { (words : List ℕ) → length words ≡ count → count ≤ length self.old.entries.items → Splits version_1.units_from [] self.old.entries.items self.old.done self.old.last self.old.reader words → IsSplitUp version_1.units_from self.new.entries.items self.new.done self.new.last words }
+        ensures room { length self.new.entries.items ≡ length self.old.entries.items }
+    {
+        if self.reader == Reader::Branch {
+            self.end(Entry::Near(Immediate::of(4)), count);
+        }
+    }
+
+    /// Ends the unit that is read, which ends after so many words.
+    fn end(&mut self, entry: Entry, count: usize)
+        ensures entries { self.new.entries.items ≡ slice_set self.old.entries.items self.old.done entry }
+        ensures done { self.new.done ≡ count }
+        ensures last { self.new.last ≡ self.old.done }
+        ensures reader { self.new.reader ≡ R.Start }
+        ensures room { length self.new.entries.items ≡ length self.old.entries.items }
+    {
+        if self.done < self.entries.len() {
+            self.entries[self.done] = Packed::of(entry);
+        }
+        self.last = self.done;
+        self.done = count;
+        self.reader = Reader::Start;
+    }
+}
+
+/// The entries of words at which no unit starts.
+fn nothing(alloc: Global, count: usize) -> Result<Vec<Packed>, NoMemory>
+    ensures { IfOk result (λ v. v.items ≡ inside count) }
+{
+    Ok(vec![in alloc; Packed::of(Entry::Inside); count]?)
+}

@@ -1,0 +1,27 @@
+-- Whether something starts at an address of the prologue.
+use Rattle.std.proofs.Common.{◌≡◌, ℕ, ◌<◌, ◌==◌, false, List, Option, Some, None, refl, sym, arith, inl, inr}
+use Rattle.std.specs.Prelude.{is_some, nat_le, option_map}
+use Rattle.std.proofs.lemmas.Bool.{cases_Bool, eqb-true, ne_eqb, lt-leb}
+use Rattle.rv_word.specs.Layout.{version_1, START, CLOSING, UNITS_START}
+use Rattle.cfi_verify.specs.Split.{is_handler, is_start, entry_of, unit_at, place_at}
+use Rattle.cfi_verify.specs.Scan.{starts_prologue}
+
+some_of : {A B : Type 0} (f : A → B) (x : Option A) → is_some (option_map f x) ≡ is_some x
+some_of f None = refl
+some_of f (Some x) = refl
+
+-- below the first unit, a part of the prologue
+pub place_below : (words : List ℕ) (a : ℕ) → a < UNITS_START → starts_prologue version_1 words a ≡ is_some (place_at version_1 words a)
+unfolding place_at unit_at is_start
+place_below words a below =
+    let under : nat_le UNITS_START a ≡ false = lt-leb UNITS_START a below in
+    elim (cases_Bool (is_handler a)) [
+      | inl handler ↦ rw (handler, place_at) refl
+      | inr other ↦ elim (cases_Bool (a == START)) [
+        | inl opening ↦ let not_closing = ne_eqb a CLOSING (λ e. let is = eqb-true a START opening in omega arith) in rw (other, opening, not_closing, place_at) (sym (some_of _ (entry_of version_1 words)))
+        | inr elsewhere ↦ elim (cases_Bool (a == CLOSING)) [
+          | inl closing ↦ rw (other, elsewhere, closing, place_at) refl
+          | inr nowhere ↦ rw (other, elsewhere, nowhere, place_at, unit_at, is_start, under) refl
+        ]
+      ]
+    ]

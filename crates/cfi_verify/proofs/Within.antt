@@ -1,0 +1,79 @@
+-- A unit is recognised from the 21 words with which it begins and what follows it.
+use Rattle.std.proofs.Common.{◌≡◌, ◌≤◌, ◌<◌, inl, inr, ℕ, zero, suc, ◌^◌, List, [], ◌∷◌, take, drop, Some, None, refl, sym, ap, subst, ◌∙◌, arith}
+use Rattle.std.specs.Prelude.{Option, IsTrue, not, option_map}
+use Rattle.std.proofs.lemmas.Option.{some_pair_parts}
+use Rattle.std.proofs.lemmas.List.Elements.{All-take}
+use Rattle.rv_word.proofs.Cases.{cases_Option}
+use Rattle.cfi_unit.specs.declared.unit.Unit as U
+use Rattle.cfi_unit.specs.declared.unit.Unit.TheVariants as V
+use Rattle.cfi_unit.specs.Laws.{AreWords}
+use Rattle.cfi_unit.specs.Recognise.{recognised}
+use Rattle.cfi_unit.specs.UnitWords.{Begins, instr_at, may_precede, near_offset, skips_jump, word_count}
+use Rattle.cfi_unit.proofs.Found.{begins_recognised}
+use Rattle.cfi_unit.proofs.Told.{recognised_begins}
+
+-- the longest unit has twenty words
+most_words : (u : U.Unit) → word_count u ≤ 20
+most_words (V.Gate label) = omega arith
+most_words (V.Plain i) = omega arith
+most_words (V.Branch op rs1 rs2 target) = omega arith
+most_words (V.Near op rs1 rs2 target) = omega arith
+most_words (V.Jump target) = omega arith
+most_words V.Stop = omega arith
+most_words (V.System op) = omega arith
+most_words (V.Store op rs1 rs2 imm) = omega arith
+most_words (V.Call target) = omega arith
+most_words (V.Ijump rs1 imm label) = omega arith
+most_words (V.Icall rs1 imm label) = omega arith
+most_words V.Return = omega arith
+
+take_less : (n m : ℕ) (xs : List ℕ) → n ≤ m → take n (take m xs) ≡ take n xs
+take_less zero m xs below = refl
+take_less (suc n) zero xs below = absurd (omega arith)
+take_less (suc n) (suc m) [] below = refl
+take_less (suc n) (suc m) (x ∷ xs) below = ap (λ ys. x ∷ ys) (take_less n m xs (omega arith))
+
+second : (ws : List ℕ) → instr_at (drop 1 (take 21 ws)) 0 ≡ instr_at (drop 1 ws) 0
+second [] = refl
+second (w ∷ []) = refl
+second (w ∷ v ∷ ws) = refl
+
+ahead_same : (u : U.Unit) (at : ℕ) (ws : List ℕ) → may_precede u at (drop (word_count u) (take 21 ws)) ≡ may_precede u at (drop (word_count u) ws)
+ahead_same (V.Near op rs1 rs2 target) at ws = ap (λ i. not (skips_jump (near_offset at target) i)) (second ws)
+ahead_same _ at ws = refl
+
+less : (ws : List ℕ) (at : ℕ) (u : U.Unit) → Begins ws at u → Begins (take 21 ws) at u
+less ws at u b = record {
+  fits = b.fits;
+  words_are = take_less (word_count u) 21 ws (let most = most_words u in omega arith) ∙ b.words_are;
+  ahead = subst IsTrue (sym (ahead_same u at ws)) b.ahead;
+}
+
+more : (ws : List ℕ) (at : ℕ) (u : U.Unit) → Begins (take 21 ws) at u → Begins ws at u
+more ws at u b = record {
+  fits = b.fits;
+  words_are = sym (take_less (word_count u) 21 ws (let most = most_words u in omega arith)) ∙ b.words_are;
+  ahead = subst IsTrue (ahead_same u at ws) b.ahead;
+}
+
+pub within : (ws : List ℕ) (at : ℕ) → AreWords ws → recognised (take 21 ws) at ≡ recognised ws at
+within ws at words =
+    elim (cases_Option (recognised ws at)) [
+      | inr (u, e) ↦ begins_recognised (take 21 ws) at u (less ws at u (recognised_begins ws at u words e)) ∙ sym e
+      | inl none ↦ elim (cases_Option (recognised (take 21 ws) at)) [
+        | inl none_too ↦ none_too ∙ sym none
+        | inr (u, e) ↦
+            let b = recognised_begins (take 21 ws) at u (All-take (λ w. w < 2 ^ 32) 21 ws words) e in
+            let found : recognised ws at ≡ Some u = begins_recognised ws at u (more ws at u b) in
+            absurd (cc)
+      ]
+    ]
+
+-- what an answer of a unit with its number of words says of the unit
+pub unit_found : (o : Option U.Unit) (unit : U.Unit) (n : ℕ) → ◌≡◌ {A = Option (U.Unit × ℕ)} (Some (unit, n)) (option_map (λ u. (u, word_count u)) o) → o ≡ Some unit
+unit_found None unit n e = cc
+unit_found (Some u) unit n e = ap Some (sym (some_pair_parts unit u n (word_count u) e).0)
+
+pub unit_missing : (o : Option U.Unit) → ◌≡◌ {A = Option (U.Unit × ℕ)} None (option_map (λ u. (u, word_count u)) o) → o ≡ None
+unit_missing None e = refl
+unit_missing (Some u) e = cc

@@ -1,0 +1,10 @@
+use Rattle.std.proofs.Common.{sym}
+use Rattle.least.proofs.Leasts.{least_same}
+use Rattle.cfi_verify.specs.declared.reject.Rule.TheVariants as R
+use Rattle.cfi_verify.proofs.Told.{fails_told}
+use Rattle.cfi_verify.proofs.starts.Starts.first.Goals as goal
+
+pub returns-in-Gate : goal.returns-in-Gate
+returns-in-Gate c =
+    rw c.in-Gate.is (λ words told.
+    least_same _ _ (λ a. sym (fails_told c.args.self.now.listing words told R.Gate c.args.self.now.graph.lines a)) _ c.first_without_gate.ensures)

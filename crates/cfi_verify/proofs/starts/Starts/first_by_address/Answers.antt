@@ -1,0 +1,26 @@
+use Rattle.std.proofs.Common.{◌≡◌, ◌∙◌, ◌*◌, ◌≤◌, max, ap, sym, length, arith}
+use Rattle.least.proofs.Firsts.{found_parts, first_none}
+use Rattle.cfi_verify.proofs.Spots.{none_before, none_anywhere}
+use Rattle.cfi_verify.proofs.Told.{fails_told}
+use Rattle.cfi_verify.proofs.starts.Starts.first_by_address.Goals as goal
+
+pub returns-in_err-index : goal.returns-in_err-index
+returns-in_err-index c =
+    rw c.from_residual.ensures (λ words told.
+    let count = c.count.ensures.value ∙ told.count in
+    let given : c.args.self.now.graph.code ≡ 4 * length words = c.count.ensures.same_length ∙ ap (λ n. 4 * n) count in
+    let most = c.max-count.ensures in
+    let all : max (length words) 17 ≤ c.max-count.result = omega arith in
+    let none = sym c.first_index.ensures.first ∙ c.in_err-index.was in
+    none_anywhere c.args.rule words c.args.self.now.graph c.max-count.result all c.requires c.count.ensures.graph_is given
+    (λ k below. fails_told c.args.self.now.listing words told c.args.rule c.args.self.now.graph.lines _ ∙ first_none _ _ k none below))
+
+pub returns : goal.returns
+returns c = λ words told.
+    let count = c.count.ensures.value ∙ told.count in
+    let given : c.args.self.now.graph.code ≡ 4 * length words = c.count.ensures.same_length ∙ ap (λ n. 4 * n) count in
+    let found = found_parts _ _ c.in_ok-index.index (sym c.first_index.ensures.first ∙ c.in_ok-index.was) in (
+      fails_told c.args.self.now.listing words told c.args.rule c.args.self.now.graph.lines _ ∙ found.1,
+      none_before c.args.rule words c.args.self.now.graph c.in_ok-index.index c.requires c.count.ensures.graph_is given
+          (λ k below. fails_told c.args.self.now.listing words told c.args.rule c.args.self.now.graph.lines _ ∙ first_none _ _ k found.2 below),
+    )

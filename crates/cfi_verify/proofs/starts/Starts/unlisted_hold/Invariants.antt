@@ -1,0 +1,13 @@
+use Rattle.std.proofs.Common.{◌≤◌, ◌<◌, ◌-◌, ℕ, ◌+◌, ◌*◌}
+use Rattle.rv_word.specs.Layout.{UNITS_START}
+use Rattle.cfi_verify.specs.Pass.{HoldsAt}
+use Rattle.cfi_verify.proofs.starts.Starts.unlisted_hold.Given as goal
+
+abbrev pub invariant-loop-index : goal.invariant-loop-index
+invariant-loop-index l = record {
+  low : l.from ≤ l.index;
+  holds : (k : ℕ) → l.from ≤ k → k < l.index → HoldsAt l.self.listing l.self.graph.lines (UNITS_START + 4 * k);
+}
+
+abbrev pub decreases-loop-index : goal.decreases-loop-index
+decreases-loop-index l = l.to - l.index

@@ -1,0 +1,34 @@
+use Rattle.std.proofs.Common.{◌-◌, ◌/◌, ◌∙◌, ap, arith, drop, sym}
+use Rattle.rv_word.specs.Layout.{CODE_START, version_1}
+use Rattle.cfi_unit.specs.Recognise.{recognised}
+use Rattle.cfi_verify.specs.Scan.{Pair}
+use Rattle.cfi_verify.specs.Split.{code_words, unit_at}
+use Rattle.cfi_verify.proofs.Bytes.{length-code_words}
+use Rattle.cfi_verify.proofs.InUnits.{start_within}
+use Rattle.cfi_verify.proofs.Told.{start_told, unit_told, unit_untold}
+use Rattle.cfi_verify.proofs.verifier.Checked.unit_at.Goals as goal
+
+pub unit_of-requires-clause-low : goal.unit_of-requires-clause-low
+unit_of-requires-clause-low c =
+    let within = start_within _ c.args.address (start_told _ _ c.self.invariant.told c.args.address ∙ sym c.is_start.ensures ∙ c.if-is_start.true) in
+    let low = within.low in omega arith
+
+pub unit_of-requires-clause-high : goal.unit_of-requires-clause-high
+unit_of-requires-clause-high c =
+    let within = start_within _ c.args.address (start_told _ _ c.self.invariant.told c.args.address ∙ sym c.is_start.ensures ∙ c.if-is_start.true) in
+    let end = within.end in
+    let words = length-code_words _ c.code.ensures.size.words in
+    let most = c.code.ensures.size.most in
+    omega arith
+
+pub returns-then-is_start : goal.returns-then-is_start
+returns-then-is_start c =
+    c.unit_of.ensures
+    ∙ ap (λ bytes. recognised (drop ((c.args.address - CODE_START) / 4) (code_words bytes)) c.args.address) c.code.ensures.value
+    ∙ sym (unit_told _ _ c.self.invariant.told c.args.address (sym c.is_start.ensures ∙ c.if-is_start.true))
+    ∙ ap (λ (p : Pair). unit_at version_1 (code_words p.image.code) c.args.address) c.self.view_is
+
+pub returns-else-is_start : goal.returns-else-is_start
+returns-else-is_start c =
+    sym (unit_untold _ _ c.self.invariant.told c.args.address (sym c.is_start.ensures ∙ c.if-is_start.false))
+    ∙ ap (λ (p : Pair). unit_at version_1 (code_words p.image.code) c.args.address) c.self.view_is

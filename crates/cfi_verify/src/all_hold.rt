@@ -1,0 +1,168 @@
+ghost use Rattle.std.specs.Prelude.{◌≡◌, ◌+◌, ◌*◌, ◌<◌, ◌≤◌, ◌^◌, ℕ, IfSome, List, None, Some, false, length, option_map, true};
+ghost use Rattle.rv_word.specs.Layout.{UNITS_START, version_1};
+ghost use Rattle.cfi_unit.specs.declared.unit.Unit.TheVariants as V;
+ghost use Rattle.cfi_scan.specs.Entries.{is_quiet};
+ghost use Rattle.cfi_verify.specs.Entries.{Tells, count_of, entry_at, fails_gate_at, gate_at};
+ghost use Rattle.cfi_verify.specs.Lines.{line_at};
+ghost use Rattle.cfi_verify.specs.Pass.{HasPassed, HoldsAt, HoldsEarly, NoneStands, ends_in_stop};
+ghost use Rattle.cfi_verify.specs.Rules.{Holds, lacks_gate};
+ghost use Rattle.cfi_verify.specs.declared.reject.Rule.{Rule};
+
+use crate::first::RULES;
+use crate::reject::Rule;
+use crate::rules::is_stop;
+use crate::starts::Starts;
+use cfi_graph::{GraphLine, Key};
+use cfi_scan::Entry;
+use rv_word::profile::UNITS_START;
+
+impl<'a> Starts<'a> {
+    /// Whether every rule holds, by one pass over the words and the graph's lines. `false` leaves it
+    /// open.
+    pub(crate) fn all_hold(&self) -> bool
+        ensures { result ≡ true → (words : List ℕ) → Tells self.now.listing words → (rule : Rule) → Holds version_1 words self.now.graph.lines rule }
+    {
+        let _count = self.count();
+        if !self.prologue_holds() || !self.ends_in_stop() {
+            return false;
+        }
+        self.lines_hold()
+    }
+
+    /// Whether no rule that is asked address by address fails at a word of the prologue.
+    fn prologue_holds(&self) -> bool
+        ensures { result ≡ true → (rule : Rule) → HoldsEarly self.now.listing self.now.graph.lines rule }
+    {
+        for rule in &RULES {
+            if !self.holds_early(*rule) {
+                return false;
+            }
+        }
+        true
+    }
+
+    fn holds_early(&self, rule: Rule) -> bool
+        ensures { result ≡ true → HoldsEarly self.now.listing self.now.graph.lines rule }
+    {
+        match rule {
+            Rule::Gate => true,
+            _ => self.first_index(rule, 16).is_none(),
+        }
+    }
+
+    /// Whether units cover the code and the last of them is a stop.
+    fn ends_in_stop(&self) -> bool
+        ensures { result ≡ ends_in_stop self.now.listing }
+    {
+        let done = self.listing().done() as u64;
+        let last = self.listing().last() as u64;
+        done == self.count_after() && last < done && is_stop(self.entry_at(UNITS_START + 4 * last))
+    }
+
+    /// Whether the rules that ask for transfers, gates and lines hold at each word after the prologue
+    /// and of each class. Lines stand in the order of their addresses: from one to the next no line
+    /// stands.
+    fn lines_hold(&self) -> bool
+        ensures words { result ≡ true → (k : ℕ) → k < count_of self.now.listing → HoldsAt self.now.listing self.now.graph.lines (UNITS_START + 4 * k) }
+        ensures gates { result ≡ true → (a : ℕ) → fails_gate_at self.now.listing self.now.graph.lines a ≡ false }
+    {
+        let mut next = 0;
+        for k in 0..self.graph().lines() {
+            match self.after_line(k, next) {
+                Some(after) => next = after,
+                None => return false,
+            }
+        }
+        self.unlisted_hold(next, self.count_after())
+    }
+
+    /// The word after the line with an index, if the rules hold at its word and at those from `next`
+    /// to it; of a class, if its targets have its gates.
+    fn after_line(&self, k: u64, next: u64) -> Option<u64>
+        requires within { k < length self.now.graph.lines }
+        requires passed { HasPassed self.now.listing self.now.graph.lines k next }
+        ensures { IfSome result (λ after. HasPassed self.now.listing self.now.graph.lines (k + 1) after) }
+    {
+        let line = self.graph().line(k);
+        let Key::Address(address) = line.key() else {
+            return self.after_class(line, next);
+        };
+        if address < UNITS_START {
+            return Some(next);
+        }
+        let index = (address - UNITS_START) / 4;
+        if self.unlisted_hold(next, index) && self.listed_holds(address, line) {
+            Some(index + 1)
+        } else {
+            None
+        }
+    }
+
+    /// `next`, if each target of a class has the class's gate.
+    fn after_class(&self, line: &GraphLine, next: u64) -> Option<u64>
+        ensures { IfSome result (λ after. (after ≡ next) × ((a : ℕ) → lacks_gate (option_map V.Gate (gate_at self.now.listing a)) a line.now ≡ false)) }
+    {
+        match self.target_without_gate(line) {
+            Some(_) => None,
+            None => Some(next),
+        }
+    }
+
+    /// Whether the rules hold at the word with a line.
+    fn listed_holds(&self, address: u64, line: &GraphLine) -> bool
+        requires low { UNITS_START ≤ address }
+        requires small { address < 2 ^ 32 }
+        requires here { line_at self.now.graph.lines address ≡ Some line.now }
+        ensures { result ≡ true → HoldsAt self.now.listing self.now.graph.lines address }
+    {
+        match line {
+            GraphLine::Edge(_, to) => self.edge_at(address) == Some(*to) && self.is_start(*to),
+            GraphLine::Call(_, to) => self.call_at(address) == Some(*to) && self.is_start(*to),
+            GraphLine::Site(_, kind, label) => {
+                self.site_at(address) == Some((*kind, *label)) && self.class_of(*label).is_some()
+            }
+            GraphLine::Class(..) => false,
+        }
+    }
+
+    /// Whether the rules hold at some words, at none of which a line stands.
+    fn unlisted_hold(&self, from: u64, to: u64) -> bool
+        requires small { to < 2 ^ 32 }
+        requires unlisted { NoneStands self.now.graph.lines from to }
+        ensures { result ≡ true → (k : ℕ) → from ≤ k → k < to → HoldsAt self.now.listing self.now.graph.lines (UNITS_START + 4 * k) }
+    {
+        let mut index = from;
+        while index < to {
+            index = self.next_busy(index, to);
+            if index < to {
+                if !self.unlisted_holds(index) {
+                    return false;
+                }
+                index += 1;
+            }
+        }
+        true
+    }
+
+    /// The first of some words with the entry of a transfer or a gate, or their end.
+    fn next_busy(&self, from: u64, to: u64) -> u64
+        requires { from < to }
+        ensures low { from ≤ result }
+        ensures high { result ≤ to }
+        ensures quiet { (k : ℕ) → from ≤ k → k < result → is_quiet (entry_at self.now.listing.entries (UNITS_START + 4 * k)) ≡ true }
+    {
+        self.listing().next_busy(from as usize, to as usize) as u64
+    }
+
+    fn unlisted_holds(&self, index: u64) -> bool
+        requires small { index < 2 ^ 32 }
+        requires unlisted { line_at self.now.graph.lines (UNITS_START + 4 * index) ≡ None }
+        ensures { result ≡ true → HoldsAt self.now.listing self.now.graph.lines (UNITS_START + 4 * index) }
+    {
+        match self.word(index) {
+            Entry::Gate(label) => !self.is_outside(label.bits(), UNITS_START + 4 * index),
+            Entry::Inside | Entry::Stop | Entry::Other => true,
+            _ => false,
+        }
+    }
+}

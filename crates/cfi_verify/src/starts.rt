@@ -1,0 +1,138 @@
+ghost use Rattle.std.specs.Prelude.{◌≡◌, ◌+◌, ◌*◌, ◌/◌, ◌≤◌, IfSome, IsTrue, nat_lt};
+ghost use Rattle.std.specs.Option.{option_copied};
+ghost use Rattle.rv_word.specs.Layout.{CODE_SIZE, UNITS_START, version_1};
+ghost use Rattle.cfi_graph.specs.Graph.{IsGraph, is_rising};
+ghost use Rattle.cfi_scan.specs.declared.entry.Entry.TheVariants as E;
+ghost use Rattle.cfi_verify.specs.Entries.{entry_at, is_unit, or_inside, starts_at};
+ghost use Rattle.cfi_verify.specs.Lines.{class_of, line_at};
+ghost use Rattle.cfi_verify.specs.Scan.{AreStarts};
+ghost use Rattle.cfi_verify.specs.Split.{entry_of};
+
+use crate::lines;
+use cfi_graph::{Graph, GraphLine};
+use cfi_scan::{Entry, Listing};
+use rv_code::decode;
+use rv_instr::Instr;
+use rv_word::profile::{OPENING_CALL, UNITS_START};
+use rv_word::sext;
+use std::marker::Model;
+
+/// Where the units of a code start, of which kind each is, and the graph.
+#[derive(Drop)]
+pub struct Starts<'a> {
+    listing: Listing,
+    graph: &'a Graph,
+}
+
+impl<'a> Model for Starts<'a> {
+    ghost use Rattle.cfi_verify.specs.Scan.{AreStarts, StartParts};
+
+    ghost Value = { StartParts };
+
+    ghost view = { λ s. record { listing = s.listing; graph = s.graph.now } };
+
+    ghost invariant = { λ s. AreStarts s.listing s.graph.now };
+}
+
+impl<'a> Starts<'a> {
+    /// What a listing leaves, for a graph that gives its length.
+    pub(crate) fn of(listing: Listing, graph: &'a Graph) -> Starts<'a>
+        requires { AreStarts listing graph.now }
+        ensures { result ≡ record { listing = listing; graph = graph.now } }
+    {
+        Starts { listing, graph }
+    }
+
+    /// How many words the code has.
+    pub(crate) fn count(&self) -> u32
+        ensures value { result ≡ self.now.listing.fed / 4 }
+        ensures same_length { self.now.graph.code ≡ 4 * result }
+        ensures room { 4 * result ≤ CODE_SIZE }
+        ensures graph_is { IsGraph self.now.graph }
+    {
+        self.listing.fed() / 4
+    }
+
+    /// What is left of the code.
+    pub(crate) fn listing(&self) -> &Listing
+        ensures { result.now ≡ self.now.listing }
+    {
+        &self.listing
+    }
+
+    pub(crate) fn graph(&self) -> &'a Graph
+        ensures value { result.now ≡ self.now.graph }
+        ensures graph_is { IsGraph result.now }
+    {
+        self.graph
+    }
+
+    /// The entry of the word at an address.
+    #[tactic(auto, unfolding(crate::specs::Entries::entry_at))]
+    pub(crate) fn entry_at(&self, address: u64) -> Entry
+        ensures { result ≡ entry_at self.now.listing.entries address }
+    {
+        if address >= UNITS_START && address % 4 == 0 {
+            or_inside(self.listing.entry(((address - UNITS_START) / 4) as usize))
+        } else {
+            Entry::Inside
+        }
+    }
+
+    /// The entry of a word, counted from the first after the prologue.
+    #[tactic(auto, unfolding(crate::specs::Entries::entry_at))]
+    pub(crate) fn word(&self, index: u64) -> Entry
+        ensures { result ≡ entry_at self.now.listing.entries (UNITS_START + 4 * index) }
+    {
+        or_inside(self.listing.entry(index as usize))
+    }
+
+    /// Whether an address is the start of a unit.
+    pub(crate) fn is_start(&self, address: u64) -> bool
+        ensures { result ≡ starts_at self.now.listing address }
+    {
+        is_unit(self.entry_at(address))
+    }
+
+    /// Where the opening's call leads.
+    pub(crate) fn entry(&self) -> Option<u64>
+        ensures { result ≡ entry_of version_1 self.now.listing.prologue }
+    {
+        match decode(*self.listing.prologue().get(13)?)? {
+            Instr::Jal(_, field) => {
+                Some(OPENING_CALL.wrapping_add(sext(u64::from(field.bits()) * 2, 21)))
+            }
+            _ => None,
+        }
+    }
+
+    /// The line at an address.
+    pub(crate) fn line_at(&self, address: u64) -> Option<&'a GraphLine>
+        ensures { option_copied result ≡ line_at self.now.graph.lines address }
+    {
+        lines::line_at(self.graph, address)
+    }
+
+    /// The targets of the class with a label.
+    pub(crate) fn class_of(&self, label: u32) -> Option<&'a [u64]>
+        ensures value { option_copied result ≡ class_of self.now.graph.lines label }
+        ensures rising { IfSome result (λ targets. IsTrue (is_rising nat_lt targets.now)) }
+    {
+        lines::class_of(self.graph, label)
+    }
+}
+
+fn or_inside(entry: Option<Entry>) -> Entry
+    ensures { result ≡ or_inside entry }
+{
+    match entry {
+        Some(entry) => entry,
+        None => Entry::Inside,
+    }
+}
+
+fn is_unit(entry: Entry) -> bool
+    ensures { result ≡ is_unit entry }
+{
+    !matches!(entry, Entry::Inside)
+}

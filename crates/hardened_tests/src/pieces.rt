@@ -1,0 +1,134 @@
+//! Codes that come in pieces: wherever they are cut, the answer is that on the whole. The rules and addresses are those
+//! that the definitions of the rules give.
+ghost use Rattle.std.specs.Prelude.{◌≡◌, ◌<◌};
+
+use cfi_graph::{Graph, read_graph};
+use cfi_scan::Steps;
+use cfi_verify::Scan;
+use sample_programs::{
+    A, A_GRAPH, B, B_GRAPH, H, H_GRAPH, JUMP, JUMP_GRAPH, LOOP, LOOP_GRAPH, NARROW, NARROW_GRAPH,
+    NOWHERE, NOWHERE_GRAPH, P, P_GRAPH, code,
+};
+use std::alloc::Global;
+use std::marker::Brand;
+use std::sync::ledger::{Blank, Ledger};
+
+/// The units of a program, its graph, where in the code a word is put, the word, and the rule that fails with its address;
+/// no text where the code is accepted.
+struct Row(&'static [u32], &'static [u8], usize, u32, &'static str);
+
+/// The prologue's first word, which changes nothing where it is put first.
+const SAME: u32 = 0x0010_0073;
+
+#[rattlefmt::skip]
+static ROWS: [Row; 21] = [
+    Row(&A, A_GRAPH, 0, SAME, ""),
+    Row(&B, B_GRAPH, 0, SAME, ""),
+    Row(&H, H_GRAPH, 0, SAME, ""),
+    Row(&P, P_GRAPH, 0, SAME, ""),
+    Row(&JUMP, JUMP_GRAPH, 0, SAME, ""),
+    Row(&LOOP, LOOP_GRAPH, 0, SAME, ""),
+    Row(&NARROW, NARROW_GRAPH, 0, SAME, ""),
+    Row(&NOWHERE, NOWHERE_GRAPH, 0, SAME, ""),
+    Row(&A, A_GRAPH, 0x8, 0x0000_0013, "Prologue 40000008"),
+    Row(&A, B_GRAPH, 0, SAME, "Length 80 92"),
+    Row(&B, A_GRAPH, 0, SAME, "Length 92 80"),
+    Row(&A, A_GRAPH, 0x40, 0x0010_0f13, "Unit 40000040"),
+    Row(&A, A_GRAPH, 0x34, 0x0040_00ef, "Target 4000000c"),
+    Row(&A, A_GRAPH, 0x40, 0x0080_006f, "Unlisted 40000040"),
+    Row(&A, A_GRAPH, 0x4c, 0x0000_0013, "End 4000004c"),
+    Row(&B, B_GRAPH, 0x54, 0x0000_8067, "Unit 40000044"),
+    Row(&P, P_GRAPH, 0x48, 0x022f_9f93, "Unit 40000044"),
+    Row(&P, P_GRAPH, 0x90, 0x0000_0013, "Unit 4000005c"),
+    Row(&P, P_GRAPH, 0x7c, 0x0000_2237, "Site 4000005c"),
+    Row(&P, P_GRAPH, 0xe4, 0x0000_2037, "Gate 400000e4"),
+    Row(&P, P_GRAPH, 0xcc, 0x0000_1037, "Astray 400000cc"),
+];
+
+/// The sizes of pieces.
+const SIZES: [usize; 7] = [1, 3, 4, 5, 13, 64, 260];
+
+/// The answer on a code in pieces of a size, of which each is cut once more at a place that is drawn.
+fn scanned<L: Ledger>(
+    alloc: Global,
+    blank: Blank,
+    graph: &Graph,
+    bytes: &[u8],
+    size: usize,
+) -> Option<String>
+    requires name { blank.name ≡ L.name }
+    requires parts { blank.parts ≡ L.parts }
+    requires some { 0 < L.parts }
+    requires size { 0 < size }
+{
+    let mut steps = Steps::<L>::new(blank);
+    let mut scan = Scan::new(alloc, graph).ok()?;
+    let mut drawn: u32 = 1;
+    for piece in bytes.chunks(size) {
+        if scan.fed() > 1_000_000 || piece.len() > 1_000_000 {
+            return None;
+        }
+        drawn = drawn.wrapping_mul(1_103_515_245).wrapping_add(12_345);
+        let (first, rest) = piece.split_at((drawn >> 16) as usize % (piece.len() + 1));
+        scan.feed(first, &mut steps);
+        scan.feed(rest, &mut steps);
+    }
+    match scan.finish() {
+        Ok(_) => Some(String::new(alloc)),
+        Err(reject) => format!(in alloc; "{reject}").ok(),
+    }
+}
+
+/// The same under a ledger of its own.
+fn answer(alloc: Global, graph: &Graph, bytes: &[u8], size: usize) -> Option<String>
+    requires { 0 < size }
+{
+    scanned::<Brand>(alloc, Blank::new(1), graph, bytes, size)
+}
+
+/// Puts a word into a code; it is false where it does not lie there.
+fn put(code: &mut [u8], at: usize, word: u32) -> bool {
+    match code.get_mut(at..at.saturating_add(4)) {
+        Some(place) => {
+            place.copy_from_slice(&word.to_le_bytes());
+            true
+        }
+        None => false,
+    }
+}
+
+/// Whether a code is answered as its row says, in pieces of a size.
+fn is_answered(alloc: Global, row: &Row, size: usize) -> bool
+    requires { 0 < size }
+{
+    let Ok(mut bytes) = code(alloc, row.0) else {
+        return false;
+    };
+    let Ok(graph) = read_graph(alloc, row.1) else {
+        return false;
+    };
+    if !put(&mut bytes, row.2, row.3) {
+        return false;
+    }
+    match answer(alloc, &graph, &bytes, size) {
+        Some(text) => text.as_str() == row.4,
+        None => false,
+    }
+}
+
+/// Whether the same holds of each size.
+fn is_right(alloc: Global, row: &Row) -> bool {
+    for size in &SIZES {
+        if *size == 0 || !is_answered(alloc, row, *size) {
+            return false;
+        }
+    }
+    true
+}
+
+#[test]
+fn pieces(rt: HostRuntime) {
+    for row in &ROWS {
+        assert!(rt; is_right(rt.alloc(), row), "{} at {}", row.4, row.2);
+    }
+}

@@ -1,0 +1,244 @@
+ghost use Rattle.std.specs.Prelude.{◌≡◌, ◌<◌, ◌^◌};
+
+use cfi_scan::{Entry, Feeder, Listing, Steps};
+use cfi_unit::{Unit, recognise};
+use sample_programs::{
+    A, AIMED, B, BREAK, DEEP, ECHO, EDGE, H, JUMP, LOAD, LOOP, NOWHERE, OTHER, P, PROLOGUE, STATUS,
+    code,
+};
+use std::alloc::Global;
+use std::marker::Brand;
+use std::sync::ledger::{Blank, Ledger};
+
+/// Where the first unit of an image stands.
+const FIRST: u64 = 0x4000_0040;
+
+/// The words of skips.s in tests/units at the top of the repository, as binutils makes them: branches by
+/// their offset and by what follows them.
+const SKIPS: [u32; 15] = [
+    0x0062e463, 0x0340006f, 0x0062e463, 0x02c000ef, 0x0062e463, 0xfadff06f, 0x0062e463, 0x00000013,
+    0x0062e663, 0x0140006f, 0x0062e063, 0x00c0006f, 0x7e62efe3, 0x8062e063, 0x0062e463,
+];
+
+/// Those of near.s: a loop of short branches.
+const NEAR: [u32; 8] = [
+    0x00800293, 0x00000513, 0x00150513, 0x00550463, 0xfe051ce3, 0x05d00893, 0x00000073, 0xfa5ff06f,
+];
+
+/// A code in pieces of a size, with room for so many words.
+fn fed<L: Ledger>(
+    alloc: Global,
+    blank: Blank,
+    bytes: &[u8],
+    room: usize,
+    size: usize,
+) -> Option<Listing>
+    requires name { blank.name ≡ L.name }
+    requires parts { blank.parts ≡ L.parts }
+    requires some { 0 < L.parts }
+    requires size { 0 < size }
+{
+    if room > 1000 {
+        return None;
+    }
+    let mut steps = Steps::<L>::new(blank);
+    let mut feeder = Feeder::new(alloc, room).ok()?;
+    for piece in bytes.chunks(size) {
+        if feeder.fed() > 1_000_000 || piece.len() > 1_000_000 {
+            return None;
+        }
+        feeder.feed(piece, &mut steps);
+    }
+    Some(feeder.finish())
+}
+
+/// The same under a ledger of its own.
+fn listed(alloc: Global, bytes: &[u8], room: usize, size: usize) -> Option<Listing>
+    requires { 0 < size }
+{
+    fed::<Brand>(alloc, Blank::new(1), bytes, room, size)
+}
+
+/// Where a field leads from an address, whose offsets are below a bound each way.
+fn target(from: u64, field: u32, bound: u64) -> u64
+    requires from { from < 2 ^ 33 }
+    requires bound { bound < 2 ^ 33 }
+{
+    let there = from + 2 * field as u64;
+    if 2 * field as u64 >= bound {
+        there.wrapping_sub(2 * bound)
+    } else {
+        there
+    }
+}
+
+/// An entry at an address by the number of its kind, and its label or target.
+fn told(entry: Entry, at: u64) -> (u8, u64)
+    requires { at < 2 ^ 32 }
+{
+    match entry {
+        Entry::Inside => (0, 0),
+        Entry::Near(field) => (1, target(at, field.bits(), 0x1000)),
+        Entry::Branch(field) => (2, target(at + 4, field.bits(), 0x10_0000)),
+        Entry::Jump(field) => (3, target(at, field.bits(), 0x10_0000)),
+        Entry::Stop => (4, 0),
+        Entry::Call(field) => (5, target(at + 28, field.bits(), 0x10_0000)),
+        Entry::Ijump(label) => (6, label.bits() as u64),
+        Entry::Icall(label) => (7, label.bits() as u64),
+        Entry::Gate(label) => (8, label.bits() as u64),
+        Entry::Other => (9, 0),
+    }
+}
+
+/// A unit by the number of its entry's kind, and its label or target.
+fn of_unit(unit: &Unit) -> (u8, u64) {
+    match unit {
+        Unit::Gate(label) => (8, label.bits() as u64),
+        Unit::Branch(_, _, _, target) => (2, *target),
+        Unit::Near(_, _, _, target) => (1, *target),
+        Unit::Jump(target) => (3, *target),
+        Unit::Stop => (4, 0),
+        Unit::Call(target) => (5, *target),
+        Unit::Ijump(_, _, label) => (6, label.bits() as u64),
+        Unit::Icall(_, _, label) => (7, label.bits() as u64),
+        Unit::Plain(_) => (9, 0),
+        Unit::System(_) => (9, 0),
+        Unit::Store(_, _, _, _) => (9, 0),
+        Unit::Return => (9, 0),
+    }
+}
+
+/// How many words the unit at an index has, if the listing has its entry there: none where no unit
+/// begins and none is listed.
+fn count_at(listing: &Listing, words: &[u32], k: usize) -> Option<usize> {
+    if k >= words.len() || k > 10_000 {
+        return None;
+    }
+    let at = FIRST + 4 * k as u64;
+    let entry = listing.entry(k)?;
+    let Some((unit, count)) = recognise(&words[k..], at) else {
+        return if entry == Entry::Inside {
+            Some(0)
+        } else {
+            None
+        };
+    };
+    if told(entry, at) == of_unit(&unit) {
+        Some(count as usize)
+    } else {
+        None
+    }
+}
+
+/// Whether the listing of a code says of each word what its units are.
+fn is_listed(listing: &Listing, words: &[u32]) -> bool {
+    let mut next = 0;
+    let mut last = 0;
+    for k in 0..words.len() {
+        if k == next {
+            let Some(count) = count_at(listing, words, k) else {
+                return false;
+            };
+            if count > 0 {
+                last = k;
+                next = k.saturating_add(count);
+            }
+        } else if listing.entry(k) != Some(Entry::Inside) {
+            return false;
+        }
+    }
+    listing.done() == next && listing.last() == last
+}
+
+/// Whether a code is listed as its units are, in pieces of a size.
+fn is_right(alloc: Global, words: &[u32], size: usize) -> bool
+    requires { 0 < size }
+{
+    if words.len() > 900 {
+        return false;
+    }
+    let Ok(bytes) = code(alloc, words) else {
+        return false;
+    };
+    let Some(listing) = listed(alloc, &bytes, words.len() + 16, size) else {
+        return false;
+    };
+    listing.prologue() == PROLOGUE.as_slice()
+        && listing.fed() as usize == bytes.len()
+        && is_listed(&listing, words)
+}
+
+/// Whether it is so of the code with each bit of each word turned.
+fn are_right(alloc: Global, words: &[u32]) -> bool {
+    let Ok(mut turned) = Vec::from_slice(alloc, words) else {
+        return false;
+    };
+    for k in 0..turned.len() {
+        for bit in 0..32_u32 {
+            turned[k] ^= 1 << bit;
+            if !is_right(alloc, &turned, 4096) {
+                return false;
+            }
+            turned[k] ^= 1 << bit;
+        }
+    }
+    true
+}
+
+/// Whether a code with room for less, or cut off in a word, keeps what it has room for and counts its bytes.
+fn is_kept(alloc: Global, bytes: &[u8], room: usize, prologue: usize, done: usize) -> bool {
+    let Some(listing) = listed(alloc, bytes, room, 7) else {
+        return false;
+    };
+    listing.prologue().len() == prologue
+        && listing.fed() as usize == bytes.len()
+        && listing.done() == done
+        && listing.entry(room.saturating_sub(16)).is_none()
+}
+
+#[test]
+fn cut_anywhere(rt: HostRuntime) {
+    for size in 1..9 {
+        assert!(rt; is_right(rt.alloc(), &A, size), "A {size}");
+        assert!(rt; is_right(rt.alloc(), &B, size), "B {size}");
+        assert!(rt; is_right(rt.alloc(), &H, size), "H {size}");
+        assert!(rt; is_right(rt.alloc(), &P, size), "P {size}");
+        assert!(rt; is_right(rt.alloc(), &SKIPS, size), "skips.s {size}");
+        assert!(rt; is_right(rt.alloc(), &NEAR, size), "near.s {size}");
+    }
+}
+
+#[test]
+fn in_one_piece(rt: HostRuntime) {
+    assert!(rt; is_right(rt.alloc(), &AIMED, 4096), "AIMED");
+    assert!(rt; is_right(rt.alloc(), &BREAK, 4096), "BREAK");
+    assert!(rt; is_right(rt.alloc(), &DEEP, 4096), "DEEP");
+    assert!(rt; is_right(rt.alloc(), &ECHO, 4096), "ECHO");
+    assert!(rt; is_right(rt.alloc(), &EDGE, 4096), "EDGE");
+    assert!(rt; is_right(rt.alloc(), &JUMP, 4096), "JUMP");
+    assert!(rt; is_right(rt.alloc(), &LOAD, 4096), "LOAD");
+    assert!(rt; is_right(rt.alloc(), &LOOP, 4096), "LOOP");
+    assert!(rt; is_right(rt.alloc(), &NOWHERE, 4096), "NOWHERE");
+    assert!(rt; is_right(rt.alloc(), &OTHER, 4096), "OTHER");
+    assert!(rt; is_right(rt.alloc(), &STATUS, 4096), "STATUS");
+}
+
+#[test]
+fn with_a_bit_turned(rt: HostRuntime) {
+    assert!(rt; are_right(rt.alloc(), &P), "P");
+    assert!(rt; are_right(rt.alloc(), &H), "H");
+    assert!(rt; are_right(rt.alloc(), &SKIPS), "skips.s");
+    assert!(rt; are_right(rt.alloc(), &NEAR), "near.s");
+}
+
+#[test]
+fn with_room_for_less(rt: HostRuntime) {
+    let zeros = [0; 100];
+    assert!(rt; is_kept(rt.alloc(), &zeros[..0], 0, 0, 0), "nothing");
+    assert!(rt;
+        is_kept(rt.alloc(), &zeros[..63], 16, 15, 0),
+        "a byte less than a prologue"
+    );
+    assert!(rt; is_kept(rt.alloc(), &zeros[..64], 16, 16, 0), "a prologue");
+    assert!(rt; is_kept(rt.alloc(), &zeros, 17, 16, 0), "past the room");
+}
