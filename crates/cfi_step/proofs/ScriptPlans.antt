@@ -1,11 +1,12 @@
 -- The changes of one step stand together, since step numbers do not fall.
-use Rattle.std.proofs.Common.{◌≡◌, ℕ, ◌+◌, ◌<◌, ◌≤◌, ◌==◌, false, List, [], ◌∷◌, ◌++◌, length, get_or, drop, take, nat_lt, zero, suc, codes, Ok, refl, sym, ap, ◌∙◌, arith}
+use Rattle.std.proofs.Common.{◌≡◌, ℕ, ◌+◌, inl, inr, ◌<◌, ◌≤◌, ◌==◌, false, List, [], ◌∷◌, ◌++◌, length, get_or, drop, take, nat_lt, zero, suc, codes, Ok, refl, sym, ap, ◌∙◌, arith}
 use Rattle.std.specs.List.{All, filter}
-use Rattle.std.proofs.lemmas.Bool.{leb-true, ltb-false, ne_eqb}
+use Rattle.std.proofs.lemmas.Bool.{cases_lt, leb-true, ltb-false, ne_eqb}
 use Rattle.std.proofs.lemmas.List.{append-nil, get_or_default, get_or-drop, get_or-take, length-drop, length-take, take-append-drop}
 use Rattle.std.proofs.lemmas.List.Elements.{All-cons, All-head, All-tail, filter-append}
 use Rattle.text_lines.proofs.Accepts.{Accepts, end_only, line_first}
 use Rattle.text_lines.proofs.Whole.{text_accepts}
+use Rattle.cfi_step.specs.Quiet.{IsQuiet}
 use Rattle.cfi_step.specs.Script.{Changes, IsScript}
 use Rattle.cfi_step.specs.ScriptText.{changes_from, line_changes, script_of, script_rules}
 
@@ -42,6 +43,28 @@ rest_from step i changes above k d within =
     let up = ltb-false _ _ (above (i + k) d (omega arith) place) in
     let at = get_or-drop i changes k d in
     omega (arith, up, ap (λ c. c.0) at)
+
+-- between two numbers of steps where no change comes
+pub quiet_between : (from next step : ℕ) (changes : Changes) → IsQuiet from next changes → from ≤ step → step < next → of_step step changes ≡ []
+quiet_between from next step changes quiet low high = none_of_step step changes (λ k d q e. elim (quiet k d q) [
+  | inl earlier ↦ omega (arith, earlier, e)
+  | inr later ↦ omega (arith, later, e)
+])
+
+-- from those that come earlier on, up to the next change
+pub quiet_to : (from place next : ℕ) (changes : Changes) → IsScript changes → ((k : ℕ) (d : ℕ × (ℕ × ℕ)) → k < place → (get_or changes k d).0 < from) → (place < length changes → next ≡ (get_or changes place (0, (0, 0))).0) → IsQuiet from next changes
+quiet_to from place next changes ordered below is k d q = elim (cases_lt k place) [
+  | inl earlier ↦ inl (below k d earlier)
+  | inr later ↦
+      let first = is (omega arith) in
+      let up = ordered place k (0, (0, 0)) later q in
+      let same = get_or_default changes k d (0, (0, 0)) q in
+      inr (omega (arith, first, up, ap (λ c. c.0) same))
+]
+
+-- between 0 and 0 there is nothing
+pub quiet_nowhere : (changes : Changes) → IsQuiet 0 0 changes
+quiet_nowhere changes k d q = inr (omega arith)
 
 -- ---- what is read is a script
 

@@ -4,5 +4,6 @@ pub mod Trail
 pub mod Running
 pub mod Hostile
 pub mod Script
+pub mod Quiet
 pub mod ScriptText
 pub mod ScriptNumbers

@@ -112,6 +112,10 @@ impl Meddler for Hostile {
 
     ghost plan = { λ hostile. hostile_plan };
 
+    fn is_quiet(&self, _step: u64) -> bool {
+        false
+    }
+
     fn meddle(
         &mut self,
         alloc: Global,

@@ -1,4 +1,4 @@
-ghost use Rattle.std.specs.Prelude.{◌≡◌, ◌++◌, ℕ, List, OnOk, OnErr};
+ghost use Rattle.std.specs.Prelude.{◌≡◌, ◌++◌, [], ℕ, List, true, OnOk, OnErr};
 ghost use Rattle.rv_code.specs.State.{Hart, Shared};
 ghost use Rattle.rv_machine.specs.Parts.{hart_in, shared_in};
 
@@ -11,6 +11,11 @@ pub trait Meddler {
     /// The changes before each step, by the number of steps taken and the state then: each an address
     /// and a byte.
     ghost plan: { Self → ℕ → Hart → Shared → List (ℕ × ℕ) };
+
+    /// Whether it is known without a look at the state that no change comes before the next step, `step` being
+    /// the number of steps taken; `false` is always right.
+    fn is_quiet(&self, step: u64) -> bool
+        ensures { result ≡ true → (hart : Hart) (shared : Shared) → plan self.now step hart shared ≡ [] };
 
     /// Appends the changes that come before the next step, `step` being the number of steps taken. A
     /// refusal leaves `into` as it was.

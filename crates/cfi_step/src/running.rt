@@ -71,6 +71,31 @@ impl Running {
         Ok(())
     }
 
+    /// Makes the changes that a meddler has before the step with a number.
+    fn disturb<M: Meddler>(
+        &mut self,
+        alloc: Global,
+        meddler: &mut M,
+        step: u64,
+    ) -> Result<(), NoMemory>
+        ensures allowed { OnOk result (AllByRecursion IsDataChange
+            (changes_of (M.plan meddler.old step (hart_in self.old.machine) (shared_in self.old.machine)))) }
+        ensures hart { OnOk result (hart_in self.new.machine ≡ hart_in self.old.machine) }
+        ensures shared { OnOk result (shared_in self.new.machine ≡ disturbed (shared_in self.old.machine)
+            (changes_of (M.plan meddler.old step (hart_in self.old.machine) (shared_in self.old.machine)))) }
+        ensures made { OnOk result (self.new.made ≡ self.old.made ++ map (λ c. (step, c))
+            (M.plan meddler.old step (hart_in self.old.machine) (shared_in self.old.machine))) }
+        ensures trail { OnOk result (self.new.trail ≡ self.old.trail) }
+        ensures kept { M.plan meddler.new ≡ M.plan meddler.old }
+    {
+        if meddler.is_quiet(step) {
+            return Ok(());
+        }
+        let mut changes = Vec::new(alloc);
+        meddler.meddle(alloc, step, &self.machine, &mut changes)?;
+        self.change(step, &changes)
+    }
+
     /// Notes the address of the next step, where something starts there.
     fn note(&mut self, checked: &Checked<'_>)
         requires { self.old.trail.count + 1 < 2 ^ 64 }
@@ -80,7 +105,7 @@ impl Running {
             → IsTrailOf (walk ++ if_starts (place_at version_1 (code_words checked.now.image.code) self.old.machine.pc) self.old.machine.pc []) self.new.trail }
     {
         let pc = self.machine.pc();
-        if checked.place_at(pc).is_some() {
+        if checked.is_place(pc) {
             self.trail.note(pc);
         }
     }
@@ -105,9 +130,7 @@ impl Running {
             → IsTrailOf (walk ++ if_starts (place_at version_1 (code_words checked.now.image.code) self.old.machine.pc) self.old.machine.pc []) self.new.trail) }
         ensures kept { M.plan meddler.new ≡ M.plan meddler.old }
     {
-        let mut changes = Vec::new(alloc);
-        meddler.meddle(alloc, step, &self.machine, &mut changes)?;
-        self.change(step, &changes)?;
+        self.disturb(alloc, meddler, step)?;
         self.note(checked);
         self.machine.step()
     }

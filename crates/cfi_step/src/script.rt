@@ -1,6 +1,7 @@
-ghost use Rattle.std.specs.Prelude.{◌≡◌, ◌++◌, ◌==◌, ◌≤◌, List, [], map, OnOk, OnErr, IfOk};
+ghost use Rattle.std.specs.Prelude.{◌≡◌, ◌++◌, ◌==◌, ◌≤◌, ◌<◌, List, [], get_or, length, map, true, OnOk, OnErr, IfOk};
 ghost use Rattle.std.specs.List.{All, filter};
 ghost use Rattle.cfi_step.specs.Script.{IsScript, script_plan};
+ghost use Rattle.cfi_step.specs.Quiet.{IsQuiet};
 
 use crate::meddler::Meddler;
 use rv_machine::{Change, Machine};
@@ -12,18 +13,22 @@ use std::marker::Model;
 /// fall.
 #[derive(Drop)]
 pub struct Script {
-    pub(crate) changes: Vec<(u64, Change)>,
+    changes: Vec<(u64, Change)>,
+    /// No change comes after so many steps or more, up to `next`.
+    from: u64,
+    next: u64,
 }
 
 impl Model for Script {
     ghost use Rattle.std.specs.Prelude.{ℕ, List};
     ghost use Rattle.cfi_step.specs.Script.{IsScript};
+    ghost use Rattle.cfi_step.specs.Quiet.{IsQuiet};
 
     ghost Value = { List (ℕ × (ℕ × ℕ)) };
 
     ghost view = { λ s. s.changes.items };
 
-    ghost invariant = { λ s. IsScript s.changes.items };
+    ghost invariant = { λ s. (IsScript s.changes.items) × (IsQuiet s.from s.next s.changes.items) };
 }
 
 impl Script {
@@ -31,8 +36,18 @@ impl Script {
     pub fn none(alloc: Global) -> Self
         ensures { result ≡ [] }
     {
+        Script::with(Vec::new(alloc))
+    }
+
+    /// The script that these changes are.
+    pub(crate) fn with(changes: Vec<(u64, Change)>) -> Self
+        requires { IsScript changes.items }
+        ensures { result ≡ changes.items }
+    {
         Script {
-            changes: Vec::new(alloc),
+            changes,
+            from: 0,
+            next: 0,
         }
     }
 
@@ -43,7 +58,7 @@ impl Script {
     {
         let mut items = Vec::new(alloc);
         items.extend_from_slice(changes)?;
-        Ok(Script { changes: items })
+        Ok(Script::with(items))
     }
 
     /// The changes, each with its number of steps.
@@ -87,10 +102,36 @@ fn from_step(changes: &[(u64, Change)], step: u64) -> &[(u64, Change)]
     &changes[start..]
 }
 
+/// How many steps are taken before the change at a place.
+fn step_at(changes: &[(u64, Change)], place: usize) -> u64
+    requires { place < length changes.now }
+    ensures { result ≡ (get_or changes.now place (0, (0, 0))).0 }
+{
+    changes[place].0
+}
+
+/// The number of steps before the first change that comes after `from` steps or more; the greatest number where
+/// there is none.
+fn next_from(changes: &[(u64, Change)], from: u64) -> u64
+    requires { IsScript changes.now }
+    ensures { IsQuiet from result changes.now }
+{
+    let place = changes.partition_point(|c| c.0 < from);
+    if place < changes.len() {
+        step_at(changes, place)
+    } else {
+        u64::MAX
+    }
+}
+
 impl Meddler for Script {
     ghost use Rattle.cfi_step.specs.Script.{script_plan};
 
     ghost plan = { λ s. script_plan s };
+
+    fn is_quiet(&self, step: u64) -> bool {
+        self.from <= step && step < self.next
+    }
 
     fn meddle(
         &mut self,
@@ -99,6 +140,11 @@ impl Meddler for Script {
         _seen: &Machine,
         into: &mut Vec<Change>,
     ) -> Result<(), NoMemory> {
-        append(into, step, from_step(self.changes.as_slice(), step))
+        let changes = self.changes.as_slice();
+        append(into, step, from_step(changes, step))?;
+        let from = step.saturating_add(1);
+        self.next = next_from(changes, from);
+        self.from = from;
+        Ok(())
     }
 }

@@ -6,24 +6,25 @@ use std::alloc::Global;
 use std::marker::Model;
 
 /// How many addresses of a walk are kept.
-const KEPT: usize = 16;
+const KEPT: u64 = 16;
 
-/// How many addresses a walk has, and the last of them.
+/// How many addresses a walk has, and the last of them. These stand in a ring: the address with number k,
+/// from 0 on, at k modulo 16.
 #[derive(Drop)]
 pub(crate) struct Trail {
     count: u64,
-    last: Vec<u64>,
+    ring: Vec<u64>,
 }
 
 impl Model for Trail {
-    ghost use Rattle.std.specs.Prelude.{◌≤◌, length, vec_capacity};
-    ghost use Rattle.cfi_step.specs.Trail.{TrailParts};
+    ghost use Rattle.std.specs.Prelude.{◌≡◌, ◌≤◌, ◌%◌, length, min, vec_capacity};
+    ghost use Rattle.cfi_step.specs.Trail.{TrailParts, turned};
 
     ghost Value = { TrailParts };
 
-    ghost view = { λ t. record { count = t.count; last = t.last.items } };
+    ghost view = { λ t. record { count = t.count; last = turned (t.count % 16) t.ring.items } };
 
-    ghost invariant = { λ t. (length t.last.items ≤ 16) × (16 ≤ vec_capacity t.last) };
+    ghost invariant = { λ t. (length t.ring.items ≡ min t.count 16) × (16 ≤ vec_capacity t.ring) };
 }
 
 impl Trail {
@@ -33,7 +34,7 @@ impl Trail {
     {
         Ok(Trail {
             count: 0,
-            last: Vec::with_capacity(alloc, KEPT)?,
+            ring: Vec::with_capacity(alloc, KEPT as usize)?,
         })
     }
 
@@ -42,10 +43,11 @@ impl Trail {
         requires { self.old.count + 1 < 2 ^ 64 }
         ensures { (walk : List ℕ) → IsTrailOf walk self.old → IsTrailOf (walk ++ address ∷ []) self.new }
     {
-        if self.last.len() == KEPT {
-            self.last.remove(0);
+        if self.count < KEPT {
+            self.ring.push_reserved(address);
+        } else {
+            self.ring[(self.count % KEPT) as usize] = address;
         }
-        self.last.push_reserved(address);
         self.count += 1;
     }
 
@@ -55,9 +57,12 @@ impl Trail {
         self.count
     }
 
+    /// The last addresses, oldest first.
     pub(crate) fn into_last(self) -> Places
         ensures { result ≡ self.last }
     {
-        Places::of(self.last)
+        let mut last = self.ring;
+        last.rotate_left((self.count % KEPT) as usize);
+        Places::of(last)
     }
 }

@@ -458,7 +458,9 @@ fn runs_to_exit(machine: &mut Machine, row: &Exit) -> bool {
 
 fn run_exits(alloc: Global, row: &Exit) -> bool {
     match started(alloc, row.0) {
-        Some(mut machine) => runs_to_exit(&mut machine, row),
+        Some(mut machine) => {
+            machine.reserve_pages(0x1_0000, 1).is_ok() && runs_to_exit(&mut machine, row)
+        }
         None => false,
     }
 }

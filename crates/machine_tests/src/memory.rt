@@ -1,6 +1,7 @@
+use crate::rows::{name, number, rows};
 use rv_mem::{Change, LoadFault, Memory, WriteRefusal, region};
 use rv_word::{Image, Region};
-use std::alloc::Global;
+use std::alloc::{AllocError, Global};
 use std::process::Abort;
 
 type Access = (u64, u8, bool, bool, u64);
@@ -137,7 +138,7 @@ fn sets_in_room(memory: &mut Memory, addr: u64) -> bool {
     if addr > 0x1_0000 && addr != 0x6000_0000 {
         return false;
     }
-    if memory.make_room(addr, 3).is_err() || !holds(memory, addr, 0) {
+    if memory.reserve_pages(addr, 3).is_err() || !holds(memory, addr, 0) {
         return false;
     }
     memory.set_all(addr, &[0xa1, 0xb2, 0xc3]);
@@ -149,5 +150,248 @@ fn bytes_are_set_where_room_was_made(rt: HostRuntime) {
     let mut memory = Memory::new(rt.alloc()).ok().expect(&rt, "memory");
     for addr in [0, 0xfff, 0x1_0000, 0x6000_0000] {
         assert!(rt; sets_in_room(&mut memory, addr), "{addr:x}");
+    }
+}
+
+/// Accesses at the edges of pages and regions, a line each: the name; a write (address, size and
+/// number; of size 0, none), a range to reserve, and another write; then a read, and what it reads,
+/// or - where it faults. All numbers are hexadecimal, and stand lowest byte first in memory.
+const EDGES: &[u8] = b"\
+    never-written 0 0 0 0 0 0 0 0 ff8 8 0\n\
+    never-written 0 0 0 0 0 0 0 0 ffd 8 0\n\
+    never-written 0 0 0 0 0 0 0 0 ffe 4 0\n\
+    never-written 0 0 0 0 0 0 0 0 fff 2 0\n\
+    never-written 0 0 0 0 0 0 0 0 fff 1 0\n\
+    never-written 0 0 0 0 0 0 0 0 1000 1 0\n\
+    below fff 1 88 0 0 0 0 0 fff 1 88\n\
+    below fff 1 88 0 0 0 0 0 fff 2 88\n\
+    below fff 1 88 0 0 0 0 0 ffe 2 8800\n\
+    below fff 1 88 0 0 0 0 0 ffe 4 8800\n\
+    below fff 1 88 0 0 0 0 0 ffd 4 880000\n\
+    below fff 1 88 0 0 0 0 0 ff9 8 88000000000000\n\
+    below fff 1 88 0 0 0 0 0 ff8 8 8800000000000000\n\
+    below fff 1 88 0 0 0 0 0 1000 8 0\n\
+    above 1000 1 99 0 0 0 0 0 1000 1 99\n\
+    above 1000 1 99 0 0 0 0 0 fff 1 0\n\
+    above 1000 1 99 0 0 0 0 0 fff 2 9900\n\
+    above 1000 1 99 0 0 0 0 0 ffe 4 990000\n\
+    above 1000 1 99 0 0 0 0 0 ffc 8 9900000000\n\
+    above 1000 1 99 0 0 0 0 0 ff8 8 0\n\
+    both ff8 8 1122334455667788 0 0 1000 8 99aabbccddeeff00 fff 2 11\n\
+    both ff8 8 1122334455667788 0 0 1000 8 99aabbccddeeff00 ffe 4 ff001122\n\
+    both ff8 8 1122334455667788 0 0 1000 8 99aabbccddeeff00 ffd 4 112233\n\
+    both ff8 8 1122334455667788 0 0 1000 8 99aabbccddeeff00 fff 4 eeff0011\n\
+    both ff8 8 1122334455667788 0 0 1000 8 99aabbccddeeff00 ff9 8 11223344556677\n\
+    both ff8 8 1122334455667788 0 0 1000 8 99aabbccddeeff00 ffc 8 ddeeff0011223344\n\
+    both ff8 8 1122334455667788 0 0 1000 8 99aabbccddeeff00 fff 8 aabbccddeeff0011\n\
+    one-side ff8 8 1122334455667788 0 0 0 0 0 ff8 8 1122334455667788\n\
+    one-side ff8 8 1122334455667788 0 0 0 0 0 1000 8 0\n\
+    one-side 1000 8 1122334455667788 0 0 0 0 0 1000 8 1122334455667788\n\
+    one-side 1000 8 1122334455667788 0 0 0 0 0 ff8 8 0\n\
+    over fff 2 aabb 0 0 0 0 0 fff 1 bb\n\
+    over fff 2 aabb 0 0 0 0 0 1000 1 aa\n\
+    over fff 2 aabb 0 0 0 0 0 fff 2 aabb\n\
+    over ffd 4 aabbccdd 0 0 0 0 0 1000 1 aa\n\
+    over ffe 4 aabbccdd 0 0 0 0 0 ffe 2 ccdd\n\
+    over ffe 4 aabbccdd 0 0 0 0 0 1000 2 aabb\n\
+    over fff 4 aabbccdd 0 0 0 0 0 1000 4 aabbcc\n\
+    over ff9 8 1122334455667788 0 0 0 0 0 1000 1 11\n\
+    over ff9 8 1122334455667788 0 0 0 0 0 ff9 4 55667788\n\
+    over ffc 8 1122334455667788 0 0 0 0 0 1000 4 11223344\n\
+    over ffc 8 1122334455667788 0 0 0 0 0 ffc 4 55667788\n\
+    over ffc 8 1122334455667788 0 0 0 0 0 ffa 4 77880000\n\
+    over ffc 8 1122334455667788 0 0 0 0 0 1002 4 1122\n\
+    over ffc 8 1122334455667788 0 0 0 0 0 fff 2 4455\n\
+    over fff 8 1122334455667788 0 0 0 0 0 fff 1 88\n\
+    over fff 8 1122334455667788 0 0 0 0 0 1000 8 11223344556677\n\
+    over fff 8 1122334455667788 0 0 ffe 4 aabbccdd ffe 8 22334455aabbccdd\n\
+    over-what-stands 1000 8 1122334455667788 0 0 fff 2 aabb 1000 8 11223344556677aa\n\
+    reserved 0 0 0 ffc 8 ffc 8 1122334455667788 1000 4 11223344\n\
+    reserved 0 0 0 ffc 8 ffc 8 1122334455667788 ffc 4 55667788\n\
+    reserved 0 0 0 ffc 8 0 0 0 ffc 8 0\n\
+    reserved 0 0 0 1000 0 0 0 0 1000 1 0\n\
+    reserved 0 0 0 10001000 0 0 0 0 10000fff 1 0\n\
+    reserved 0 0 0 fff 3002 3ffc 8 1122334455667788 4000 4 11223344\n\
+    reserved-over-what-stands 1000 8 1122334455667788 ffc 8 0 0 0 1000 8 1122334455667788\n\
+    reserved-over-what-stands ff8 8 1122334455667788 ffc 8 0 0 0 ff8 8 1122334455667788\n\
+    data-first 0 1 5a 0 0 0 0 0 0 8 5a\n\
+    data-first 0 8 1122334455667788 0 0 0 0 0 0 4 55667788\n\
+    data-first 0 8 1122334455667788 0 0 0 0 0 1 2 6677\n\
+    data-last 10000fff 1 5a 0 0 0 0 0 10000ff8 8 5a00000000000000\n\
+    data-last 10000ff8 8 1122334455667788 0 0 0 0 0 10000fff 1 11\n\
+    data-last 10000ff8 8 1122334455667788 0 0 0 0 0 10000ffe 2 1122\n\
+    data-last 10000ffc 4 aabbccdd 0 0 0 0 0 10000ff8 8 aabbccdd00000000\n\
+    data-last 0 0 0 10000ff8 8 10000ff8 8 1122334455667788 10000ff8 8 1122334455667788\n\
+    data-last ffffffc 8 1122334455667788 0 0 0 0 0 10000000 4 11223344\n\
+    data-last 10000ff8 8 1122334455667788 0 0 0 0 0 60000000 8 0\n\
+    shadow-first 60000000 1 5a 0 0 0 0 0 60000000 8 5a\n\
+    shadow-first 60000000 8 1122334455667788 0 0 0 0 0 60000004 4 11223344\n\
+    shadow-first 60000000 8 1122334455667788 0 0 0 0 0 10000ff8 8 0\n\
+    shadow-over 60000ffc 8 1122334455667788 0 0 0 0 0 60001000 4 11223344\n\
+    shadow-over 60000ffc 8 1122334455667788 0 0 0 0 0 60000fff 2 4455\n\
+    shadow-last 6000fff8 8 1122334455667788 0 0 0 0 0 6000ffff 1 11\n\
+    shadow-last 6000ffff 1 5a 0 0 0 0 0 6000fffe 2 5a00\n\
+    shadow-last 0 0 0 6000fff8 8 6000fffc 4 aabbccdd 6000fff8 8 aabbccdd00000000\n\
+    shadow-last 6000fff8 8 1122334455667788 0 0 0 0 0 0 8 0\n\
+    code-first 0 0 0 0 0 0 0 0 40000000 1 a0\n\
+    code-first 0 0 0 0 0 0 0 0 40000000 8 d100c0b0a0\n\
+    code-first 0 0 0 0 0 0 0 0 40000001 8 d100c0b0\n\
+    code-end 0 0 0 0 0 0 0 0 40000004 8 d1\n\
+    code-end 0 0 0 0 0 0 0 0 40000007 2 0\n\
+    code-end 0 0 0 0 0 0 0 0 40000ffc 8 0\n\
+    code-last 0 0 0 0 0 0 0 0 400ffff8 8 0\n\
+    code-last 0 0 0 0 0 0 0 0 400fffff 1 0\n\
+    loaded 0 0 0 0 0 0 0 0 ffff 4 80700\n\
+    loaded 0 0 0 0 0 0 0 0 fffc 8 80700000000\n\
+    loaded ffff 1 99 0 0 0 0 0 fffe 4 8079900\n\
+    fault 0 0 0 0 0 0 0 0 10000fff 2 -\n\
+    fault 0 0 0 0 0 0 0 0 10000ffd 4 -\n\
+    fault 0 0 0 0 0 0 0 0 10000ff9 8 -\n\
+    fault 0 0 0 0 0 0 0 0 10001000 1 -\n\
+    fault 0 0 0 0 0 0 0 0 3fffffff 1 -\n\
+    fault 0 0 0 0 0 0 0 0 3ffffffc 8 -\n\
+    fault 0 0 0 0 0 0 0 0 400fffff 2 -\n\
+    fault 0 0 0 0 0 0 0 0 400ffffd 4 -\n\
+    fault 0 0 0 0 0 0 0 0 400ffff9 8 -\n\
+    fault 0 0 0 0 0 0 0 0 40100000 1 -\n\
+    fault 0 0 0 0 0 0 0 0 5fffffff 1 -\n\
+    fault 0 0 0 0 0 0 0 0 5ffffffc 8 -\n\
+    fault 0 0 0 0 0 0 0 0 6000ffff 2 -\n\
+    fault 0 0 0 0 0 0 0 0 6000fffd 4 -\n\
+    fault 0 0 0 0 0 0 0 0 6000fff9 8 -\n\
+    fault 0 0 0 0 0 0 0 0 60010000 1 -\n\
+";
+
+/// Whether a row's write is done, whose numbers stand from a place on.
+fn is_written(memory: &mut Memory, row: &str, at: [usize; 3]) -> bool {
+    let [addr, size, value] = at;
+    match (number(row, addr), number(row, size), number(row, value)) {
+        (Some(_), Some(0), Some(_)) => true,
+        (Some(addr), Some(1), Some(value)) => memory.write(addr, 1, value).is_ok(),
+        (Some(addr), Some(2), Some(value)) => memory.write(addr, 2, value).is_ok(),
+        (Some(addr), Some(4), Some(value)) => memory.write(addr, 4, value).is_ok(),
+        (Some(addr), Some(8), Some(value)) => memory.write(addr, 8, value).is_ok(),
+        _ => false,
+    }
+}
+
+/// Whether the pages of a range of data or shadow are reserved.
+fn reserves(memory: &mut Memory, addr: u64, len: u64) -> bool {
+    let in_data = addr <= 0x1000_1000 && len <= 0x1000_1000 - addr;
+    if in_data {
+        return memory.reserve_pages(addr, len).is_ok();
+    }
+    if addr < 0x6000_0000 || addr > 0x6001_0000 || len > 0x6001_0000 - addr {
+        return false;
+    }
+    memory.reserve_pages(addr, len).is_ok()
+}
+
+/// Whether a row's range is reserved.
+fn is_reserved(memory: &mut Memory, row: &str) -> bool {
+    match (number(row, 4), number(row, 5)) {
+        (Some(addr), Some(len)) => reserves(memory, addr, len),
+        _ => false,
+    }
+}
+
+/// What is read at an address, if such a load is taken.
+fn read_of(memory: &Memory, addr: u64, n: u64) -> Option<u64> {
+    match n {
+        1 => memory.read(addr, 1).ok(),
+        2 => memory.read(addr, 2).ok(),
+        4 => memory.read(addr, 4).ok(),
+        8 => memory.read(addr, 8).ok(),
+        _ => None,
+    }
+}
+
+/// Whether a row's read, whose numbers stand from a place on, reads what it says.
+fn is_read(memory: &Memory, row: &str, at: [usize; 3]) -> bool {
+    let [addr, size, value] = at;
+    match (number(row, addr), number(row, size)) {
+        (Some(addr), Some(n)) => read_of(memory, addr, n) == number(row, value),
+        _ => false,
+    }
+}
+
+/// Whether the accesses of a row do what it says.
+fn edge_holds(alloc: Global, row: &str) -> bool {
+    let Some(mut memory) = memory(alloc) else {
+        return false;
+    };
+    is_written(&mut memory, row, [1, 2, 3])
+        && is_reserved(&mut memory, row)
+        && is_written(&mut memory, row, [6, 7, 8])
+        && is_read(&memory, row, [9, 10, 11])
+}
+
+#[test]
+fn accesses_at_edges(rt: HostRuntime) {
+    let table = EDGES;
+    assert!(rt; rows(table).count() == 103);
+    for row in rows(table) {
+        assert!(rt; edge_holds(rt.alloc(), row), "{row}");
+    }
+}
+
+/// Where 8,200 bytes stand over three pages, loaded from 10000h on or written from 1ffeh on: a read,
+/// and what it reads. Byte k is the remainder of k by 251.
+const SPANS: &[u8] = b"\
+    loaded fff8 8 0\n\
+    loaded 10000 8 706050403020100\n\
+    loaded 10ffe 4 51504f4e\n\
+    loaded 10ffc 8 535251504f4e4d4c\n\
+    loaded 11ffe 4 a1a09f9e\n\
+    loaded 12004 8 a7a6a5a4\n\
+    loaded 12008 8 0\n\
+    written 1ff6 8 0\n\
+    written 1ffe 8 706050403020100\n\
+    written 2ffe 4 53525150\n\
+    written 2ffc 8 5554535251504f4e\n\
+    written 3ffe 4 a3a2a1a0\n\
+    written 4002 8 a7a6a5a4\n\
+    written 4006 8 0\n\
+";
+
+/// The bytes that are loaded or written.
+fn many_bytes(alloc: Global) -> Result<Vec<u8>, AllocError> {
+    let mut bytes = Vec::new(alloc);
+    for k in 0..8200_u32 {
+        bytes.push((k % 251) as u8)?;
+    }
+    Ok(bytes)
+}
+
+/// The memory into which these bytes were loaded or written.
+fn spanned(alloc: Global, bytes: &[u8], how: &str) -> Option<Memory> {
+    if bytes.len() > 0x1_0000 {
+        return None;
+    }
+    if how == "loaded" {
+        return Memory::with_data(alloc, bytes).ok();
+    }
+    let mut memory = Memory::new(alloc).ok()?;
+    memory.write_bytes(0x1ffe, bytes).ok()?;
+    Some(memory)
+}
+
+/// Whether a row's read reads what it says.
+fn span_holds(alloc: Global, row: &str) -> bool {
+    let Ok(bytes) = many_bytes(alloc) else {
+        return false;
+    };
+    match spanned(alloc, &bytes, name(row)) {
+        Some(memory) => is_read(&memory, row, [1, 2, 3]),
+        None => false,
+    }
+}
+
+#[test]
+fn bytes_over_pages(rt: HostRuntime) {
+    let table = SPANS;
+    assert!(rt; rows(table).count() == 14);
+    for row in rows(table) {
+        assert!(rt; span_holds(rt.alloc(), row), "{row}");
     }
 }

@@ -1,5 +1,7 @@
-ghost use Rattle.std.specs.Prelude.{◌≡◌, ◌<◌, ◌%◌, ◌^◌};
+ghost use Rattle.std.specs.Prelude.{◌≡◌, ◌<◌, ◌*◌, ◌%◌, ◌^◌};
 ghost use Rattle.rv_mem.specs.Access.{IsAccessSize};
+ghost use Rattle.rv_word.specs.Bits.{sign_extended};
+ghost use Rattle.rv_code.specs.Step.{offset};
 ghost use Rattle.rv_code.specs.Arithmetic.{
   branch_taken,
   immediate_result,
@@ -12,8 +14,48 @@ ghost use Rattle.rv_code.specs.Arithmetic.{
   store_size,
 };
 
-use rv_instr::{BranchOp, ImmediateOp, LoadOp, RegisterOp, ShiftOp, ShiftWordOp, StoreOp};
+use rv_instr::{
+    BranchOp, Immediate, ImmediateOp, LoadOp, RegisterOp, ShiftOp, ShiftWordOp, StoreOp,
+};
 use rv_word::{low32, sext};
+
+/// The low 32 bits, sign-extended.
+pub(crate) fn word(value: u64) -> u64
+    ensures { result ≡ sign_extended value 32 }
+{
+    i64::from(low32(value).cast_signed()).cast_unsigned()
+}
+
+/// The immediate of a computation, a load, a store or a JALR, sign-extended.
+pub(crate) fn immediate_value(imm: Immediate<12>) -> u64
+    ensures { result ≡ offset 12 imm }
+{
+    let bits = u64::from(imm.bits());
+    if bits < 0x800 {
+        bits
+    } else {
+        bits.wrapping_sub(0x1000)
+    }
+}
+
+/// How many bytes a branch goes on.
+pub(crate) fn branch_offset(imm: Immediate<12>) -> u64
+    ensures { result ≡ offset 13 (imm * 2) }
+{
+    immediate_value(imm).wrapping_mul(2)
+}
+
+/// How many bytes a JAL goes on.
+pub(crate) fn jump_offset(imm: Immediate<20>) -> u64
+    ensures { result ≡ offset 21 (imm * 2) }
+{
+    let offset = u64::from(imm.bits()) * 2;
+    if offset < 0x10_0000 {
+        offset
+    } else {
+        offset.wrapping_sub(0x20_0000)
+    }
+}
 
 /// A computation with an immediate, which is sign-extended.
 pub(crate) fn immediate(op: ImmediateOp, a: u64, i: u64) -> u64
@@ -26,7 +68,7 @@ pub(crate) fn immediate(op: ImmediateOp, a: u64, i: u64) -> u64
         ImmediateOp::Xori => a ^ i,
         ImmediateOp::Ori => a | i,
         ImmediateOp::Andi => a & i,
-        ImmediateOp::Addiw => sext(a.wrapping_add(i), 32),
+        ImmediateOp::Addiw => word(a.wrapping_add(i)),
     }
 }
 
@@ -45,8 +87,8 @@ pub(crate) fn register(op: RegisterOp, a: u64, b: u64) -> u64
         RegisterOp::Sra => shift(ShiftOp::Srai, a, amount(b)),
         RegisterOp::Or => a | b,
         RegisterOp::And => a & b,
-        RegisterOp::Addw => sext(a.wrapping_add(b), 32),
-        RegisterOp::Subw => sext(a.wrapping_sub(b), 32),
+        RegisterOp::Addw => word(a.wrapping_add(b)),
+        RegisterOp::Subw => word(a.wrapping_sub(b)),
         RegisterOp::Sllw => shift_word(ShiftWordOp::Slliw, a, word_amount(b)),
         RegisterOp::Srlw => shift_word(ShiftWordOp::Srliw, a, word_amount(b)),
         RegisterOp::Sraw => shift_word(ShiftWordOp::Sraiw, a, word_amount(b)),
@@ -88,8 +130,8 @@ pub(crate) fn shift_word(op: ShiftWordOp, a: u64, amount: u32) -> u64
 {
     let low = u64::from(low32(a));
     match op {
-        ShiftWordOp::Slliw => sext(a << amount, 32),
-        ShiftWordOp::Srliw => sext(low >> amount, 32),
+        ShiftWordOp::Slliw => word(a << amount),
+        ShiftWordOp::Srliw => word(low >> amount),
         ShiftWordOp::Sraiw => sext(low >> amount, 32 - amount),
     }
 }
@@ -135,7 +177,7 @@ pub(crate) fn loaded(op: LoadOp, value: u64) -> u64
     match op {
         LoadOp::Lb => sext(value, 8),
         LoadOp::Lh => sext(value, 16),
-        LoadOp::Lw => sext(value, 32),
+        LoadOp::Lw => word(value),
         LoadOp::Ld | LoadOp::Lbu | LoadOp::Lhu | LoadOp::Lwu => value,
     }
 }

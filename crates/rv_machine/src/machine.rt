@@ -1,24 +1,32 @@
-ghost use Rattle.std.specs.Prelude.{◌≡◌, ◌+◌, ◌*◌, ◌/◌, ◌<◌, ◌≤◌, ◌^◌, [], ◌∷◌, length, true, IfOk, OnOk, OnErr};
-ghost use Rattle.rv_word.specs.Layout.{version_1, DATA_START, DATA_END};
-ghost use Rattle.rv_word.specs.Memory.{placed, zeros};
+ghost use Rattle.std.specs.Prelude.{◌≡◌, ◌+◌, ◌*◌, ◌/◌, ◌<◌, ◌≤◌, ◌^◌, [], ◌∷◌, length, true, IfOk, OnOk, OnErr, IsTrue};
+ghost use Rattle.rv_word.specs.Layout.{can_store, version_1, DATA_START, DATA_END};
+ghost use Rattle.rv_word.specs.Memory.{placed, read, zeros};
 ghost use Rattle.rv_instr.specs.Registers.{get_reg, set_reg};
+ghost use Rattle.rv_code.specs.Decode.{decoded};
 ghost use Rattle.rv_code.specs.Run.{disturbed};
-ghost use Rattle.rv_code.specs.State.{start_hart, start_shared};
+ghost use Rattle.rv_code.specs.State.{last_exit, start_hart, start_shared};
 ghost use Rattle.rv_code.specs.Step.{address, can_fetch, exec, offset, puts, ran, step};
+ghost use Rattle.rv_mem.specs.Cells.{HasRoom, has_room};
+ghost use Rattle.rv_machine.specs.Room.{KeepsRoom, LacksRoom, LacksRoomAtPc};
 ghost use Rattle.rv_machine.specs.Parts.{after_step, hart_in, may_take_memory, shared_in, MayTakeMemory};
 
 use crate::arithmetic;
-use rv_code::{Events, Turn, decode, immediate_value};
+use crate::code::Code;
+use rv_code::{Events, Turn};
 use rv_instr::{
     BranchOp, Immediate, ImmediateOp, Instr, LoadOp, Reg, RegisterOp, Regs, ShiftOp, ShiftWordOp,
     StoreOp, UpperOp,
 };
-use rv_mem::{Change, LoadFault, Memory, WriteRefusal, region};
+use rv_mem::{Change, LoadFault, Memory, WriteRefusal};
 use rv_sys::{SysEnd, System};
+use rv_word::memory_map::{CODE_SIZE, CODE_START};
 use rv_word::profile::START;
-use rv_word::{Bytes, Image, NoMemory, Region, sext};
+use rv_word::{Bytes, Image, NoMemory};
 use std::alloc::Global;
 use std::marker::Model;
+
+/// The end of code's region.
+const CODE_END: u64 = CODE_START + CODE_SIZE;
 
 /// A machine with one hart, in the middle of a run.
 #[derive(Drop)]
@@ -27,27 +35,38 @@ pub struct Machine {
     regs: Regs,
     memory: Memory,
     system: System,
+    code: Code,
+    ended: Option<u8>,
 }
 
 impl Model for Machine {
+    ghost use Rattle.rv_mem.specs.Cells.{memory_of};
+    ghost use Rattle.rv_machine.specs.Code.{IsKept};
     ghost use Rattle.rv_machine.specs.Parts.{Parts};
 
     ghost Value = { Parts };
 
     ghost view = { λ m. record { pc = m.pc; regs = m.regs; memory = m.memory; calls = m.system } };
+
+    ghost invariant = { λ m. IsKept m.code (memory_of m.memory) m.ended m.system.events };
 }
 
 impl Machine {
-    /// The machine in which a run of an image starts; the input is copied.
+    /// The machine in which a run of an image starts; the input is copied, and the code is decoded.
     pub fn new(alloc: Global, image: &Image, input: &[u8]) -> Result<Machine, NoMemory>
         ensures hart { IfOk result (λ machine. hart_in machine ≡ start_hart) }
         ensures shared { IfOk result (λ machine. shared_in machine ≡ start_shared image.now input.now) }
     {
+        let system = System::new(alloc, input)?;
+        let memory = Memory::load(alloc, image)?;
+        let code = Code::of(alloc, &memory, image.code().len() / 4)?;
         Ok(Machine {
             pc: START,
             regs: Regs::new(),
-            memory: Memory::load(alloc, image)?,
-            system: System::new(alloc, input)?,
+            memory,
+            system,
+            code,
+            ended: None,
         })
     }
 
@@ -63,6 +82,8 @@ impl Machine {
             regs: Regs::new(),
             memory: Memory::with_data(alloc, init)?,
             system: System::new(alloc, input)?,
+            code: Code::none(alloc),
+            ended: None,
         })
     }
 
@@ -91,6 +112,7 @@ impl Machine {
     pub fn set_reg(&mut self, reg: Reg, value: u64)
         ensures hart { hart_in self.new ≡ record (hart_in self.old) { regs = set_reg (hart_in self.old).regs reg value } }
         ensures shared { shared_in self.new ≡ shared_in self.old }
+        ensures kept { KeepsRoom self.old self.new }
     {
         self.regs.set(reg, value);
     }
@@ -118,25 +140,55 @@ impl Machine {
 
     /// One step: fetches the word at the pc, decodes and executes it. After an exit each step
     /// answers it again. A refusal leaves all as it was, and comes from a store into data or shadow
-    /// or a system call alone.
+    /// whose pages were not all made, or from a system call alone. Pages that were made stay so.
     #[tactic(auto, unfolding(rv_code::specs::Step::step))]
     pub fn step(&mut self) -> Result<Turn, NoMemory>
         ensures stepped { IfOk result (λ turn. after_step self.new turn ≡ step version_1 (hart_in self.old) (shared_in self.old)) }
         ensures hart { OnErr result (hart_in self.new ≡ hart_in self.old) }
         ensures shared { OnErr result (shared_in self.new ≡ shared_in self.old) }
         ensures wants { OnErr result (MayTakeMemory version_1 (hart_in self.old) (shared_in self.old)) }
+        ensures room { OnErr result (LacksRoomAtPc self.old) }
+        ensures kept { KeepsRoom self.old self.new }
     {
-        if let Some(status) = self.system().ended() {
+        if let Some(status) = self.ended() {
             return Ok(Turn::Exit(status));
         }
         let pc = self.pc();
         if !is_place(pc) {
             return Ok(Turn::FetchFault(pc));
         }
-        match decode(self.mem().word(pc)) {
+        match self.fetch(pc) {
             Some(instr) => self.execute(&instr),
             None => Ok(Turn::Illegal(pc)),
         }
+    }
+
+    /// The status with which the run has ended, if it has.
+    fn ended(&self) -> Option<u8>
+        ensures { result ≡ last_exit (shared_in self.now).events }
+    {
+        self.ended
+    }
+
+    /// The instruction that stands at an address, if its word is one.
+    fn fetch(&self, pc: u64) -> Option<Instr>
+        requires { can_fetch pc ≡ true }
+        ensures { result ≡ decoded (read 4 (shared_in self.now).memory pc) }
+    {
+        self.code.get(((pc - CODE_START) / 4) as usize)
+    }
+
+    /// Makes the pages of memory of the `len` bytes from `addr` on: no store there wants memory from
+    /// then on. Nothing else changes, and it takes time for the pages, not for the bytes.
+    pub fn reserve_pages(&mut self, addr: u64, len: u64) -> Result<(), NoMemory>
+        requires { IsTrue (can_store version_1 addr len) }
+        ensures hart { hart_in self.new ≡ hart_in self.old }
+        ensures shared { shared_in self.new ≡ shared_in self.old }
+        ensures room { OnOk result (HasRoom self.new.memory addr len) }
+        ensures wants { OnErr result (¬ HasRoom self.old.memory addr len) }
+        ensures kept { KeepsRoom self.old self.new }
+    {
+        self.memory.reserve_pages(addr, len)
     }
 
     /// Sets one data byte from outside. A refusal leaves all as it was.
@@ -145,6 +197,8 @@ impl Machine {
         ensures hart { hart_in self.new ≡ hart_in self.old }
         ensures changed { OnOk result (shared_in self.new ≡ disturbed (shared_in self.old) (record { address = change.0; byte = change.1 } ∷ [])) }
         ensures refused { OnErr result (shared_in self.new ≡ shared_in self.old) }
+        ensures room { OnErr result (¬ IsTrue (has_room self.old.memory change.0)) }
+        ensures kept { KeepsRoom self.old self.new }
     {
         self.memory.change(change)
     }
@@ -158,6 +212,8 @@ impl Machine {
         ensures hart { OnErr result (hart_in self.new ≡ hart_in self.old) }
         ensures shared { OnErr result (shared_in self.new ≡ shared_in self.old) }
         ensures wants { OnErr result (may_take_memory version_1 instr.now (hart_in self.old) ≡ true) }
+        ensures room { OnErr result (LacksRoom self.old instr.now) }
+        ensures kept { KeepsRoom self.old self.new }
     {
         Ok(match *instr {
             Instr::Upper(op, rd, imm) => self.upper(op, rd, imm),
@@ -183,7 +239,8 @@ impl Machine {
     /// Puts a value into a register; the next instruction is next.
     fn put(&mut self, rd: Reg, value: u64)
         requires { self.old.pc < 2 ^ 63 }
-        ensures { after_step self.new Turn.Ran ≡ puts (hart_in self.old) (shared_in self.old) rd value }
+        ensures executed { after_step self.new Turn.Ran ≡ puts (hart_in self.old) (shared_in self.old) rd value }
+        ensures kept { KeepsRoom self.old self.new }
     {
         self.regs.set(rd, value);
         self.pc += 4;
@@ -192,7 +249,8 @@ impl Machine {
     /// Goes to an address, and links to the next instruction.
     fn link(&mut self, rd: Reg, target: u64)
         requires { self.old.pc < 2 ^ 63 }
-        ensures { after_step self.new Turn.Ran ≡ ran target (set_reg (hart_in self.old).regs rd (self.old.pc + 4)) (shared_in self.old) }
+        ensures executed { after_step self.new Turn.Ran ≡ ran target (set_reg (hart_in self.old).regs rd (self.old.pc + 4)) (shared_in self.old) }
+        ensures kept { KeepsRoom self.old self.new }
     {
         self.regs.set(rd, self.pc + 4);
         self.pc = target;
@@ -202,14 +260,15 @@ impl Machine {
     fn address_of(&self, rs1: Reg, imm: Immediate<12>) -> u64
         ensures { result ≡ address (hart_in self.now) rs1 imm }
     {
-        self.reg(rs1).wrapping_add(immediate_value(imm))
+        self.reg(rs1).wrapping_add(arithmetic::immediate_value(imm))
     }
 
     fn upper(&mut self, op: UpperOp, rd: Reg, imm: Immediate<20>) -> Turn
         requires { self.old.pc < 2 ^ 63 }
-        ensures { after_step self.new result ≡ exec version_1 (Instr.Upper op rd imm) (hart_in self.old) (shared_in self.old) }
+        ensures executed { after_step self.new result ≡ exec version_1 (Instr.Upper op rd imm) (hart_in self.old) (shared_in self.old) }
+        ensures kept { KeepsRoom self.old self.new }
     {
-        let offset = sext(u64::from(imm.bits()) << 12, 32);
+        let offset = arithmetic::word(u64::from(imm.bits()) << 12);
         match op {
             UpperOp::Lui => self.put(rd, offset),
             UpperOp::Auipc => self.put(rd, self.pc.wrapping_add(offset)),
@@ -219,16 +278,18 @@ impl Machine {
 
     fn jump(&mut self, rd: Reg, imm: Immediate<20>) -> Turn
         requires { self.old.pc < 2 ^ 63 }
-        ensures { after_step self.new result ≡ exec version_1 (Instr.Jal rd imm) (hart_in self.old) (shared_in self.old) }
+        ensures executed { after_step self.new result ≡ exec version_1 (Instr.Jal rd imm) (hart_in self.old) (shared_in self.old) }
+        ensures kept { KeepsRoom self.old self.new }
     {
-        let offset = sext(u64::from(imm.bits()) << 1, 21);
+        let offset = arithmetic::jump_offset(imm);
         self.link(rd, self.pc.wrapping_add(offset));
         Turn::Ran
     }
 
     fn jump_register(&mut self, rd: Reg, rs1: Reg, imm: Immediate<12>) -> Turn
         requires { self.old.pc < 2 ^ 63 }
-        ensures { after_step self.new result ≡ exec version_1 (Instr.Jalr rd rs1 imm) (hart_in self.old) (shared_in self.old) }
+        ensures executed { after_step self.new result ≡ exec version_1 (Instr.Jalr rd rs1 imm) (hart_in self.old) (shared_in self.old) }
+        ensures kept { KeepsRoom self.old self.new }
     {
         let target = self.address_of(rs1, imm);
         self.link(rd, target - target % 2);
@@ -237,9 +298,10 @@ impl Machine {
 
     fn branch(&mut self, op: BranchOp, rs1: Reg, rs2: Reg, imm: Immediate<12>) -> Turn
         requires { self.old.pc < 2 ^ 63 }
-        ensures { after_step self.new result ≡ exec version_1 (Instr.Branch op rs1 rs2 imm) (hart_in self.old) (shared_in self.old) }
+        ensures executed { after_step self.new result ≡ exec version_1 (Instr.Branch op rs1 rs2 imm) (hart_in self.old) (shared_in self.old) }
+        ensures kept { KeepsRoom self.old self.new }
     {
-        let offset = sext(u64::from(imm.bits()) << 1, 13);
+        let offset = arithmetic::branch_offset(imm);
         let pc = self.pc();
         if arithmetic::branches(op, self.reg(rs1), self.reg(rs2)) {
             self.set_pc(pc.wrapping_add(offset));
@@ -251,7 +313,8 @@ impl Machine {
 
     fn load(&mut self, op: LoadOp, rd: Reg, rs1: Reg, imm: Immediate<12>) -> Turn
         requires { self.old.pc < 2 ^ 63 }
-        ensures { after_step self.new result ≡ exec version_1 (Instr.Load op rd rs1 imm) (hart_in self.old) (shared_in self.old) }
+        ensures executed { after_step self.new result ≡ exec version_1 (Instr.Load op rd rs1 imm) (hart_in self.old) (shared_in self.old) }
+        ensures kept { KeepsRoom self.old self.new }
     {
         let addr = self.address_of(rs1, imm);
         match self.mem().read(addr, arithmetic::loaded_bytes(op)) {
@@ -275,6 +338,8 @@ impl Machine {
         ensures hart { OnErr result (hart_in self.new ≡ hart_in self.old) }
         ensures shared { OnErr result (shared_in self.new ≡ shared_in self.old) }
         ensures wants { OnErr result (may_take_memory version_1 (Instr.Store op rs1 rs2 imm) (hart_in self.old) ≡ true) }
+        ensures room { OnErr result (LacksRoom self.old (Instr.Store op rs1 rs2 imm)) }
+        ensures kept { KeepsRoom self.old self.new }
     {
         let addr = self.address_of(rs1, imm);
         let value = self.reg(rs2);
@@ -293,30 +358,37 @@ impl Machine {
         ensures executed { IfOk result (λ turn. after_step self.new turn ≡ exec version_1 Instr.Ecall (hart_in self.old) (shared_in self.old)) }
         ensures hart { OnErr result (hart_in self.new ≡ hart_in self.old) }
         ensures shared { OnErr result (shared_in self.new ≡ shared_in self.old) }
+        ensures kept { KeepsRoom self.old self.new }
     {
         match self.system.call(&mut self.regs, &mut self.memory)? {
             SysEnd::Goes => {
                 self.pc += 4;
+                self.ended = None;
                 Ok(Turn::Ran)
             }
-            SysEnd::Exit(status) => Ok(Turn::Exit(status)),
+            SysEnd::Exit(status) => {
+                self.ended = Some(status);
+                Ok(Turn::Exit(status))
+            }
         }
     }
 
     fn immediate(&mut self, op: ImmediateOp, rd: Reg, rs1: Reg, imm: Immediate<12>) -> Turn
         requires { self.old.pc < 2 ^ 63 }
-        ensures { after_step self.new result ≡ exec version_1 (Instr.Immediate op rd rs1 imm) (hart_in self.old) (shared_in self.old) }
+        ensures executed { after_step self.new result ≡ exec version_1 (Instr.Immediate op rd rs1 imm) (hart_in self.old) (shared_in self.old) }
+        ensures kept { KeepsRoom self.old self.new }
     {
         self.put(
             rd,
-            arithmetic::immediate(op, self.reg(rs1), immediate_value(imm)),
+            arithmetic::immediate(op, self.reg(rs1), arithmetic::immediate_value(imm)),
         );
         Turn::Ran
     }
 
     fn shift(&mut self, op: ShiftOp, rd: Reg, rs1: Reg, amount: Immediate<6>) -> Turn
         requires { self.old.pc < 2 ^ 63 }
-        ensures { after_step self.new result ≡ exec version_1 (Instr.Shift op rd rs1 amount) (hart_in self.old) (shared_in self.old) }
+        ensures executed { after_step self.new result ≡ exec version_1 (Instr.Shift op rd rs1 amount) (hart_in self.old) (shared_in self.old) }
+        ensures kept { KeepsRoom self.old self.new }
     {
         self.put(rd, arithmetic::shift(op, self.reg(rs1), amount.bits()));
         Turn::Ran
@@ -324,7 +396,8 @@ impl Machine {
 
     fn shift_word(&mut self, op: ShiftWordOp, rd: Reg, rs1: Reg, amount: Immediate<5>) -> Turn
         requires { self.old.pc < 2 ^ 63 }
-        ensures { after_step self.new result ≡ exec version_1 (Instr.ShiftWord op rd rs1 amount) (hart_in self.old) (shared_in self.old) }
+        ensures executed { after_step self.new result ≡ exec version_1 (Instr.ShiftWord op rd rs1 amount) (hart_in self.old) (shared_in self.old) }
+        ensures kept { KeepsRoom self.old self.new }
     {
         self.put(rd, arithmetic::shift_word(op, self.reg(rs1), amount.bits()));
         Turn::Ran
@@ -332,7 +405,8 @@ impl Machine {
 
     fn register(&mut self, op: RegisterOp, rd: Reg, rs1: Reg, rs2: Reg) -> Turn
         requires { self.old.pc < 2 ^ 63 }
-        ensures { after_step self.new result ≡ exec version_1 (Instr.Register op rd rs1 rs2) (hart_in self.old) (shared_in self.old) }
+        ensures executed { after_step self.new result ≡ exec version_1 (Instr.Register op rd rs1 rs2) (hart_in self.old) (shared_in self.old) }
+        ensures kept { KeepsRoom self.old self.new }
     {
         self.put(rd, arithmetic::register(op, self.reg(rs1), self.reg(rs2)));
         Turn::Ran
@@ -343,5 +417,5 @@ impl Machine {
 fn is_place(pc: u64) -> bool
     ensures { result ≡ can_fetch pc }
 {
-    pc % 4 == 0 && matches!(region(pc), Some(Region::Code))
+    pc % 4 == 0 && CODE_START <= pc && pc < CODE_END
 }

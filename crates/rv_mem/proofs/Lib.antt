@@ -1,3 +1,4 @@
-pub mod Room
+pub mod InMemory
+pub mod InPages
+pub mod OverBytes
 pub mod Placed
-pub mod Fresh

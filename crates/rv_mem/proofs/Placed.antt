@@ -1,8 +1,8 @@
 -- Bytes that stand in memory one after the other.
-use Rattle.std.proofs.Common.{◌≡◌, ℕ, zero, suc, ◌+◌, ◌/◌, ◌%◌, ◌^◌, ◌<◌, ◌≤◌, List, [], take, length, get_or, refl, arith, w64}
+use Rattle.std.proofs.Common.{◌≡◌, ℕ, zero, suc, ◌+◌, ◌/◌, ◌%◌, ◌^◌, ◌<◌, ◌≤◌, List, [], take, drop, length, length-drop, get_or, refl, arith, w64}
 use Rattle.std.specs.Int.{to_le_bytes}
 use Rattle.std.proofs.lemmas.Bool.Decides.{nat_tests}
-use Rattle.std.proofs.lemmas.List.{get_or-take, length-take-le}
+use Rattle.std.proofs.lemmas.List.{get_or-take, get_or-drop, length-take-le}
 use Rattle.std.proofs.Math.Path.{fun_ext}
 use Rattle.rv_word.specs.Memory.{Memory, placed, write}
 use Rattle.rv_mem.specs.Cells.{with_byte}
@@ -37,3 +37,13 @@ unfolding placed write
 write-placed n m a v small = fun_ext (λ k.
     let long : length (take n (to_le_bytes w64 v)) ≡ n = length-take-le n (to_le_bytes w64 v) small in
     rw long (grind (arith, nat_tests, byte_of, get_or-take {A = ℕ})))
+
+-- some bytes and then more
+pub placed-on : (m : Memory) (a i n : ℕ) (bs : List ℕ) → i + n ≤ length bs →
+    placed (placed m a (take i bs)) (a + i) (take n (drop i bs)) ≡ placed m a (take (i + n) bs)
+unfolding placed
+placed-on m a i n bs low = fun_ext (λ k.
+    let now : length (take i bs) ≡ i = length-take-le i bs (omega arith) in
+    let rest : length (take n (drop i bs)) ≡ n = length-take-le n (drop i bs) (omega (arith, length-drop i bs)) in
+    let all : length (take (i + n) bs) ≡ i + n = length-take-le (i + n) bs low in
+    rw (now, rest, all) (grind (arith, nat_tests, get_or-take {A = ℕ}, get_or-drop {A = ℕ})))

@@ -1,35 +1,31 @@
 -- How memory is kept, and what it holds at each address.
-use Rattle.std.specs.Prelude.{◌≡◌, ℕ, ◌+◌, ◌-◌, ◌≤◌, ◌<◌, ◌^◌, ◌==◌, Bool, ◌||◌, ◌&&◌, if◌then◌else◌, List, slice_index, length, is_some, unwrap_or, Option, IsTrue}
-use Rattle.std.specs.BTreeMap.{is_at}
-use Rattle.std.specs.Map.{lookup}
-use Rattle.std.specs.Ordering.{nat_cmp}
+use Rattle.std.specs.Prelude.{ℕ, ◌+◌, ◌-◌, ◌/◌, ◌≤◌, ◌<◌, ◌^◌, ◌==◌, nat_lt, Bool, ◌||◌, ◌&&◌, if◌then◌else◌, List, slice_index, length, IsTrue}
 use Rattle.rv_word.specs.Layout.{DATA_END, CODE_START, CODE_SIZE, SHADOW_START, PART_SIZE, lies_within}
 use Rattle.rv_word.specs.Memory.{Memory}
+use Rattle.rv_mem.specs.Pages.{PAGE_SIZE, Paged, byte_of, is_made}
 
--- the bytes of code and of shadow, and those data bytes that were ever written, each with its address
+-- the bytes of code that an image has, and the pages of data and shadow
 pub record Cells : Type 0 where
   pub code : List ℕ
-  pub shadow : List ℕ
-  pub written : List (ℕ × ℕ)
+  pub pages : Paged
 
--- the data byte that was written at an address, if one was
-abbrev pub written_at : List (ℕ × ℕ) → ℕ → Option ℕ
-written_at entries a = lookup (is_at (nat_cmp a)) entries
+-- the place of an address in the pages: data's come first, then shadow's
+abbrev pub place_of : ℕ → ℕ
+place_of a = if nat_lt a DATA_END then a else DATA_END + (a - SHADOW_START)
 
--- the data bytes, if these were written: 0 where nothing was
-abbrev pub data_of : List (ℕ × ℕ) → Memory
-data_of entries = λ a. unwrap_or (written_at entries a) 0
+-- an address of data or shadow, which are kept in pages
+abbrev pub is_paged : ℕ → Bool
+is_paged a = lies_within 0 DATA_END a 1 || lies_within SHADOW_START PART_SIZE a 1
 
 -- what memory holds at each address
 unfoldable pub memory_of : Cells → Memory
 memory_of cells = λ a.
     if lies_within CODE_START CODE_SIZE a 1 then slice_index cells.code (a - CODE_START) else
-    if lies_within SHADOW_START PART_SIZE a 1 then slice_index cells.shadow (a - SHADOW_START) else
-    data_of cells.written a
+    if is_paged a then byte_of cells.pages (place_of a) else 0
 
--- whether a byte can be set at an address without taking memory
+-- whether a byte can be set at an address without taking memory: its page was made
 unfoldable pub has_room : Cells → ℕ → Bool
-has_room cells a = lies_within SHADOW_START PART_SIZE a 1 || lies_within 0 DATA_END a 1 && is_some (written_at cells.written a)
+has_room cells a = is_paged a && is_made cells.pages (place_of a / PAGE_SIZE)
 
 -- the same for the `n` bytes from `a` on
 abbrev pub HasRoom : Cells → ℕ → ℕ → Type 0
@@ -43,8 +39,7 @@ with_byte m a b = λ k. if k == a then b else m k
 abbrev pub AreBytes : Memory → Type 0
 AreBytes m = (a : ℕ) → m a < 2 ^ 8
 
--- what is so of every memory: code and shadow are there whole, and each address holds a byte
+-- what is so of every memory: code is no longer than its region, and each address holds a byte
 pub record IsWhole (cells : Cells) : Type 0 where
-  pub code : length cells.code ≡ CODE_SIZE
-  pub shadow : length cells.shadow ≡ PART_SIZE
+  pub code : length cells.code ≤ CODE_SIZE
   pub bytes : AreBytes (memory_of cells)

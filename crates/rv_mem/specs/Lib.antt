@@ -1,2 +1,3 @@
-pub mod Cells
 pub mod Access
+pub mod Cells
+pub mod Pages

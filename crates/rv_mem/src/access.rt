@@ -1,5 +1,6 @@
 ghost use Rattle.std.specs.Prelude.{◌≡◌, ◌≤◌, ◌+◌, ◌<◌, ◌^◌};
 ghost use Rattle.rv_word.specs.Layout.{can_load, can_store, lies_within, region_of, version_1};
+ghost use Rattle.rv_mem.specs.Cells.{is_paged};
 
 use rv_word::Region;
 use rv_word::memory_map::{CODE_SIZE, CODE_START, DATA_END, SHADOW_SIZE, SHADOW_START};
@@ -29,6 +30,13 @@ pub(crate) fn is_storable(addr: u64, n: u8) -> bool
 {
     let n = u64::from(n);
     is_within(0, DATA_END, addr, n) || is_within(SHADOW_START, SHADOW_SIZE, addr, n)
+}
+
+/// Whether an address is one of data or shadow, which are kept in pages.
+pub(crate) fn is_paged(addr: u64) -> bool
+    ensures { result ≡ is_paged addr }
+{
+    is_within(0, DATA_END, addr, 1) || is_within(SHADOW_START, SHADOW_SIZE, addr, 1)
 }
 
 /// The region of an address, if it is in one.

@@ -1,5 +1,5 @@
 //! The machine's memory: three regions, of which code may not be written and only code is fetched,
-//! read and written a byte or a little-endian number at a time.
+//! read and written a byte or a little-endian number at a time. Data and shadow are kept in pages.
 #![tactic(auto)]
 
 pub use access::region;
@@ -9,5 +9,8 @@ pub use refusal::{LoadFault, WriteRefusal};
 
 mod access;
 mod change;
+mod little_endian;
 mod memory;
+mod page;
+mod pages;
 mod refusal;

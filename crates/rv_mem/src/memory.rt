@@ -1,24 +1,27 @@
-ghost use Rattle.std.specs.Prelude.{◌≡◌, ℕ, ◌+◌, ◌≤◌, ◌<◌, ◌^◌, ◌↔◌, IfOk, OnOk, OnErr, IsErr, IsErrOf, IsTrue, true, false, length, Result, slice_index};
+ghost use Rattle.std.specs.Prelude.{◌≡◌, ℕ, ◌+◌, ◌%◌, ◌≤◌, ◌<◌, ◌^◌, ◌↔◌, nat_le, IfOk, OnOk, OnErr, IsErr, IsErrOf, IsTrue, true, false, length, Result, slice_index};
 ghost use Rattle.rv_word.specs.Layout.{can_load, can_store, version_1, DATA_START, DATA_END, CODE_START, CODE_SIZE};
 ghost use Rattle.rv_word.specs.Memory.{placed, read, write, zeros, loaded};
 ghost use Rattle.rv_mem.specs.Access.{IsAccessSize};
-ghost use Rattle.rv_mem.specs.Cells.{memory_of, data_of, has_room, HasRoom, with_byte, AreBytes};
+ghost use Rattle.rv_mem.specs.Cells.{memory_of, has_room, HasRoom, with_byte, AreBytes, place_of};
+ghost use Rattle.rv_mem.specs.Pages.{PAGE_SIZE};
 
-use crate::access::{is_loadable, is_storable, is_within};
+use crate::access::{is_loadable, is_paged, is_storable, is_within};
 use crate::change::Change;
+use crate::little_endian::{double_word_at, half_word_at, rest, word_at};
+use crate::page::PAGE_SIZE;
+use crate::pages::Pages;
 use crate::refusal::{LoadFault, WriteRefusal};
-use rv_word::memory_map::{CODE_SIZE, CODE_START, DATA_END, DATA_START, SHADOW_SIZE, SHADOW_START};
+use rv_word::memory_map::{CODE_SIZE, CODE_START, DATA_END, DATA_START, SHADOW_START};
 use rv_word::{Image, NoMemory};
 use std::alloc::Global;
-use std::collections::BTreeMap;
 use std::marker::Model;
 
-/// The machine's memory. Code and shadow are kept whole, data as the bytes that were written.
+/// The machine's memory. Code is kept as the bytes that an image has, data and shadow in pages, each
+/// made at the first write to it.
 #[derive(Drop)]
 pub struct Memory {
     code: Vec<u8>,
-    shadow: Vec<u8>,
-    written: BTreeMap<u64, u8>,
+    pages: Pages,
 }
 
 impl Model for Memory {
@@ -26,9 +29,9 @@ impl Model for Memory {
 
     ghost Value = { Cells };
 
-    ghost view = { λ m. record { code = m.code.items; shadow = m.shadow.items; written = m.written.entries } };
+    ghost view = { λ m. record { code = m.code.items; pages = m.pages } };
 
-    ghost invariant = { λ m. IsWhole (record { code = m.code.items; shadow = m.shadow.items; written = m.written.entries }) };
+    ghost invariant = { λ m. IsWhole (record { code = m.code.items; pages = m.pages }) };
 }
 
 impl Memory {
@@ -60,79 +63,61 @@ impl Memory {
         requires init { DATA_START + length init.now ≤ DATA_END }
         ensures { IfOk result (λ memory. memory_of memory ≡ placed (placed zeros DATA_START init.now) CODE_START code.now) }
     {
+        let mut memory = Memory::with_code(alloc, code)?;
+        memory.write_bytes(DATA_START, init)?;
+        Ok(memory)
+    }
+
+    /// The memory in which this code stands alone.
+    fn with_code(alloc: Global, code: &[u8]) -> Result<Memory, NoMemory>
+        requires { length code.now ≤ CODE_SIZE }
+        ensures { IfOk result (λ memory. memory_of memory ≡ placed zeros CODE_START code.now) }
+    {
         Ok(Memory {
-            code: padded(alloc, code, CODE_SIZE as usize)?,
-            shadow: padded(alloc, &[], SHADOW_SIZE as usize)?,
-            written: data_bytes(alloc, init)?,
+            code: Vec::from_slice(alloc, code)?,
+            pages: Pages::new(alloc)?,
         })
     }
 
     /// Tells a proof that each address holds a byte; nothing is computed.
-    #[tactic(auto, unfolding(crate::specs::Cells::memory_of))]
     pub fn in_range(&self)
         ensures { AreBytes (memory_of self.now) }
     {
         let _ = &self.code;
     }
 
+    /// What stands from an address to the end of its page, or of code, but for zeros at its end.
+    fn rest_of_page(&self, addr: u64) -> &[u8]
+        ensures within { (k : ℕ) → k < length result.now → slice_index result.now k ≡ memory_of self.now (addr + k) }
+        ensures past { (k : ℕ) → addr % PAGE_SIZE + k < PAGE_SIZE → slice_index result.now k ≡ memory_of self.now (addr + k) }
+    {
+        if is_paged(addr) {
+            let place = place(addr);
+            rest(self.pages.page(place / PAGE_SIZE), place % PAGE_SIZE)
+        } else if is_within(CODE_START, CODE_SIZE, addr, 1) {
+            rest(&self.code, (addr - CODE_START) as usize)
+        } else {
+            &[]
+        }
+    }
+
     /// The byte at an address: 0 where nothing was written, and outside of all regions.
-    #[tactic(auto, unfolding(crate::specs::Cells::memory_of))]
     pub fn byte(&self, addr: u64) -> u8
         ensures { result ≡ memory_of self.now addr }
     {
-        if is_within(CODE_START, CODE_SIZE, addr, 1) {
-            self.code[(addr - CODE_START) as usize]
-        } else if is_within(SHADOW_START, SHADOW_SIZE, addr, 1) {
-            self.shadow[(addr - SHADOW_START) as usize]
-        } else {
-            self.written.get(&addr).copied().unwrap_or(0)
-        }
+        self.rest_of_page(addr).first().copied().unwrap_or(0)
     }
 
-    /// Makes room for one data byte.
-    #[tactic(auto, unfolding(crate::specs::Cells::memory_of, crate::specs::Cells::has_room))]
-    fn make_room_at(&mut self, addr: u64) -> Result<(), NoMemory>
-        requires { addr < DATA_END }
+    /// Makes the pages of the `len` bytes from `addr` on, where they were never made: no write there
+    /// wants memory from then on. It takes time for the pages, and not for the bytes.
+    pub fn reserve_pages(&mut self, addr: u64, len: u64) -> Result<(), NoMemory>
+        requires { IsTrue (can_store version_1 addr len) }
         ensures memory { memory_of self.new ≡ memory_of self.old }
-        ensures room { OnOk result (IsTrue (has_room self.new addr)) }
-        ensures wants { OnErr result (¬ IsTrue (has_room self.old addr)) }
+        ensures room { OnOk result (HasRoom self.new addr len) }
+        ensures wants { OnErr result (¬ HasRoom self.old addr len) }
         ensures kept { (k : ℕ) → IsTrue (has_room self.old k) → IsTrue (has_room self.new k) }
     {
-        if !self.written.contains_key(&addr) {
-            self.written.insert(addr, 0)?;
-        }
-        Ok(())
-    }
-
-    /// Sets a byte where there is room for it.
-    #[tactic(auto, unfolding(crate::specs::Cells::memory_of, crate::specs::Cells::has_room, crate::specs::Cells::with_byte))]
-    fn set(&mut self, addr: u64, byte: u8)
-        requires { IsTrue (has_room self.old addr) }
-        ensures memory { memory_of self.new ≡ with_byte (memory_of self.old) addr byte }
-        ensures kept { (k : ℕ) → IsTrue (has_room self.old k) → IsTrue (has_room self.new k) }
-    {
-        if is_within(SHADOW_START, SHADOW_SIZE, addr, 1) {
-            self.shadow[(addr - SHADOW_START) as usize] = byte;
-        } else {
-            let _ = self.written.insert(addr, byte);
-        }
-    }
-
-    /// Makes room for the `n` bytes from `addr` on, where they have none.
-    #[tactic(auto, unfolding(crate::specs::Cells::has_room))]
-    pub fn make_room(&mut self, addr: u64, n: u64) -> Result<(), NoMemory>
-        requires { IsTrue (can_store version_1 addr n) }
-        ensures memory { memory_of self.new ≡ memory_of self.old }
-        ensures room { OnOk result (HasRoom self.new addr n) }
-        ensures wants { OnErr result (¬ HasRoom self.old addr n) }
-        ensures kept { (k : ℕ) → IsTrue (has_room self.old k) → IsTrue (has_room self.new k) }
-    {
-        if addr < DATA_END {
-            for k in addr..addr + n {
-                self.make_room_at(k)?;
-            }
-        }
-        Ok(())
+        self.pages.make_all(place(addr), len as usize)
     }
 
     /// Sets bytes where there is room for them.
@@ -142,13 +127,11 @@ impl Memory {
         ensures memory { memory_of self.new ≡ placed (memory_of self.old) addr bytes.now }
         ensures kept { (k : ℕ) → IsTrue (has_room self.old k) → IsTrue (has_room self.new k) }
     {
-        for (i, byte) in bytes.iter().enumerate() {
-            self.set(addr + i as u64, *byte);
-        }
+        self.pages.put_all(place(addr), bytes);
     }
 
     /// Writes the low `n` bytes of `value`, the lowest first. A write into data or shadow may want
-    /// memory, unless room was made for it.
+    /// memory, unless its pages were made.
     pub fn write(&mut self, addr: u64, n: u8, value: u64) -> Result<(), WriteRefusal>
         requires { IsAccessSize n }
         ensures written { OnOk result (memory_of self.new ≡ write n (memory_of self.old) addr value) }
@@ -156,13 +139,33 @@ impl Memory {
         ensures wants { IsErrOf result WriteRefusal.NoMemory → can_store version_1 addr n ≡ true }
         ensures room { IsErrOf result WriteRefusal.NoMemory → ¬ HasRoom self.old addr n }
         ensures refused { OnErr result (memory_of self.new ≡ memory_of self.old) }
+        ensures kept { (k : ℕ) → IsTrue (has_room self.old k) → IsTrue (has_room self.new k) }
     {
         if !is_storable(addr, n) {
             return Err(WriteRefusal::StoreFault);
         }
-        self.make_room(addr, u64::from(n))?;
-        self.set_all(addr, &value.to_le_bytes()[..usize::from(n)]);
+        let bytes = value.to_le_bytes();
+        let bytes = &bytes[..usize::from(n)];
+        if ends_in_page(addr, u64::from(n)) {
+            self.write_in_page(addr, bytes)?;
+        } else {
+            self.reserve_pages(addr, u64::from(n))?;
+            self.set_all(addr, bytes);
+        }
         Ok(())
+    }
+
+    /// Writes bytes into one page.
+    fn write_in_page(&mut self, addr: u64, bytes: &[u8]) -> Result<(), NoMemory>
+        requires some { 0 < length bytes.now }
+        requires one { addr % PAGE_SIZE + length bytes.now ≤ PAGE_SIZE }
+        requires store { IsTrue (can_store version_1 addr (length bytes.now)) }
+        ensures written { OnOk result (memory_of self.new ≡ placed (memory_of self.old) addr bytes.now) }
+        ensures wants { OnErr result (¬ HasRoom self.old addr (length bytes.now)) }
+        ensures refused { OnErr result (memory_of self.new ≡ memory_of self.old) }
+        ensures kept { (k : ℕ) → IsTrue (has_room self.old k) → IsTrue (has_room self.new k) }
+    {
+        self.pages.write(place(addr), bytes)
     }
 
     /// Writes bytes into data, all of them or none.
@@ -171,8 +174,9 @@ impl Memory {
         ensures written { OnOk result (memory_of self.new ≡ placed (memory_of self.old) addr bytes.now) }
         ensures wants { OnErr result (¬ HasRoom self.old addr (length bytes.now)) }
         ensures refused { OnErr result (memory_of self.new ≡ memory_of self.old) }
+        ensures kept { (k : ℕ) → IsTrue (has_room self.old k) → IsTrue (has_room self.new k) }
     {
-        self.make_room(addr, bytes.len() as u64)?;
+        self.reserve_pages(addr, bytes.len() as u64)?;
         self.set_all(addr, bytes);
         Ok(())
     }
@@ -198,7 +202,14 @@ impl Memory {
         requires { addr < 2 ^ 63 }
         ensures { result ≡ read 2 (memory_of self.now) addr }
     {
-        u16::from(self.byte(addr)) + (u16::from(self.byte(addr + 1)) << 8)
+        let bytes = self.rest_of_page(addr);
+        if bytes.len() >= 2 {
+            half_word_at(bytes, 0)
+        } else if bytes.is_empty() && ends_in_page(addr, 2) {
+            0
+        } else {
+            u16::from(self.byte(addr)) + (u16::from(self.byte(addr + 1)) << 8)
+        }
     }
 
     /// The word at an address.
@@ -206,7 +217,14 @@ impl Memory {
         requires { addr < 2 ^ 62 }
         ensures { result ≡ read 4 (memory_of self.now) addr }
     {
-        u32::from(self.half_word(addr)) + (u32::from(self.half_word(addr + 2)) << 16)
+        let bytes = self.rest_of_page(addr);
+        if bytes.len() >= 4 {
+            word_at(bytes, 0)
+        } else if bytes.is_empty() && ends_in_page(addr, 4) {
+            0
+        } else {
+            u32::from(self.half_word(addr)) + (u32::from(self.half_word(addr + 2)) << 16)
+        }
     }
 
     /// The double word at an address.
@@ -214,39 +232,42 @@ impl Memory {
         requires { addr < 2 ^ 61 }
         ensures { result ≡ read 8 (memory_of self.now) addr }
     {
-        u64::from(self.word(addr)) + (u64::from(self.word(addr + 4)) << 32)
+        let bytes = self.rest_of_page(addr);
+        if bytes.len() >= 8 {
+            double_word_at(bytes, 0)
+        } else if bytes.is_empty() && ends_in_page(addr, 8) {
+            0
+        } else {
+            u64::from(self.word(addr)) + (u64::from(self.word(addr + 4)) << 32)
+        }
     }
 
     /// Sets one data byte.
     pub fn change(&mut self, change: Change) -> Result<(), NoMemory>
         ensures changed { OnOk result (memory_of self.new ≡ with_byte (memory_of self.old) change.0 change.1) }
         ensures refused { OnErr result (memory_of self.new ≡ memory_of self.old) }
+        ensures wants { OnErr result (¬ IsTrue (has_room self.old change.0)) }
+        ensures kept { (k : ℕ) → IsTrue (has_room self.old k) → IsTrue (has_room self.new k) }
     {
-        self.make_room_at(change.addr())?;
-        self.set(change.addr(), change.byte());
-        Ok(())
+        self.write_bytes(change.addr(), &[change.byte()])
     }
 }
 
-/// The bytes of initialised data, each at its address.
-fn data_bytes(alloc: Global, init: &[u8]) -> Result<BTreeMap<u64, u8>, NoMemory>
-    requires { DATA_START + length init.now ≤ DATA_END }
-    ensures { IfOk result (λ bytes. data_of bytes.entries ≡ placed zeros DATA_START init.now) }
+/// The place of an address of data or shadow in the pages.
+fn place(addr: u64) -> usize
+    ensures { result ≡ place_of addr }
 {
-    let mut bytes = BTreeMap::new(alloc);
-    for (i, byte) in init.iter().enumerate() {
-        bytes.insert(DATA_START + i as u64, *byte)?;
+    if addr < DATA_END {
+        addr as usize
+    } else {
+        (DATA_END + addr.saturating_sub(SHADOW_START)) as usize
     }
-    Ok(bytes)
 }
 
-/// A list of `n` bytes that begins with these and goes on with zeros.
-fn padded(alloc: Global, bytes: &[u8], n: usize) -> Result<Vec<u8>, NoMemory>
-    requires { length bytes.now ≤ n }
-    ensures len { IfOk result (λ v. length v.items ≡ n) }
-    ensures items { IfOk result (λ v. (k : ℕ) → slice_index v.items k ≡ slice_index bytes.now k) }
+/// Whether the `n` bytes from `addr` on are in one page.
+fn ends_in_page(addr: u64, n: u64) -> bool
+    requires { n ≤ PAGE_SIZE }
+    ensures { result ≡ nat_le (addr % PAGE_SIZE + n) PAGE_SIZE }
 {
-    let mut items = Vec::from_slice(alloc, bytes)?;
-    items.resize(n, 0)?;
-    Ok(items)
+    addr % PAGE_SIZE as u64 <= PAGE_SIZE as u64 - n
 }

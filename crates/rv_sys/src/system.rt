@@ -1,6 +1,6 @@
-ghost use Rattle.std.specs.Prelude.{◌≡◌, ℕ, ◌+◌, ◌-◌, ◌≤◌, ◌<◌, ◌^◌, ◌++◌, ◌∷◌, [], length, take, drop, nat_le, IfOk, OnOk, OnErr};
+ghost use Rattle.std.specs.Prelude.{◌≡◌, ℕ, ◌+◌, ◌-◌, ◌≤◌, ◌<◌, ◌^◌, ◌++◌, ◌∷◌, [], length, take, drop, nat_le, IfOk, OnOk, OnErr, IsTrue};
 ghost use Rattle.rv_instr.specs.Registers.{regs_of};
-ghost use Rattle.rv_mem.specs.Cells.{Cells, memory_of};
+ghost use Rattle.rv_mem.specs.Cells.{Cells, has_room, memory_of};
 ghost use Rattle.rv_code.specs.State.{exit_of, last_exit};
 ghost use Rattle.rv_code.specs.SystemCall.{bytes_of, ends, event_of, read_call, reads_input, system_call, write_call, writes_output};
 ghost use Rattle.rv_sys.specs.Answered.{IsAnswered};
@@ -142,11 +142,13 @@ impl System {
     }
 
     /// Makes one system call. What it is asked stands in x17 and x10 to x15, its answer goes to
-    /// x10. A refusal changes nothing.
+    /// x10. A refusal changes nothing: any call may want memory, since each is recorded. Pages of
+    /// memory that were made stay so.
     pub fn call(&mut self, regs: &mut Regs, memory: &mut Memory) -> Result<SysEnd, NoMemory>
         ensures called { IfOk result (λ end. (pc : ℕ) → after_call end pc regs.new memory.new self.new ≡ system_call (hart_of pc regs.old) (shared_of memory.old self.old)) }
         ensures registers { OnErr result (regs.new ≡ regs.old) }
         ensures memory { OnErr result (memory_of memory.new ≡ memory_of memory.old) }
+        ensures kept { (k : ℕ) → IsTrue (has_room memory.old k) → IsTrue (has_room memory.new k) }
         ensures refused { OnErr result (self.new ≡ self.old) }
     {
         match regs.get(number_register()) {
@@ -200,6 +202,7 @@ impl System {
         ensures called { IfOk result (λ end. (pc : ℕ) → after_call end pc regs.new memory.new self.new ≡ read_call (hart_of pc regs.old) (shared_of memory.old self.old)) }
         ensures registers { OnErr result (regs.new ≡ regs.old) }
         ensures memory { OnErr result (memory_of memory.new ≡ memory_of memory.old) }
+        ensures kept { (k : ℕ) → IsTrue (has_room memory.old k) → IsTrue (has_room memory.new k) }
         ensures refused { OnErr result (self.new ≡ self.old) }
     {
         if argument(regs, 0) != 0 {
@@ -218,11 +221,12 @@ impl System {
         ensures called { IfOk result (λ end. (pc : ℕ) → after_call end pc regs.new memory.new self.new ≡ reads_input (hart_of pc regs.old) (shared_of memory.old self.old)) }
         ensures registers { OnErr result (regs.new ≡ regs.old) }
         ensures memory { OnErr result (memory_of memory.new ≡ memory_of memory.old) }
+        ensures kept { (k : ℕ) → IsTrue (has_room memory.old k) → IsTrue (has_room memory.new k) }
         ensures refused { OnErr result (self.new ≡ self.old) }
     {
         let addr = argument(regs, 1);
         let count = argument(regs, 2).min(self.left() as u64);
-        memory.make_room(addr, count)?;
+        memory.reserve_pages(addr, count)?;
         self.answer_only(regs, count)?;
         memory.set_all(addr, self.next(count as usize));
         self.take(count as usize);

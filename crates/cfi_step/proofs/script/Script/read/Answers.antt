@@ -1,10 +1,10 @@
-use Rattle.std.proofs.Common.{◌≡◌, Ok, codes}
+use Rattle.std.proofs.Common.{◌≡◌, ◌∙◌, Ok, ap, codes, sym}
 use Rattle.std.proofs.lemmas.Result.{err_from_is_err_and}
 use Rattle.text_lines.specs.Reading.{read_text}
 use Rattle.text_lines.proofs.Whole.{ends_items, lines_whole}
 use Rattle.cfi_step.specs.ScriptText.{script_of, script_rules}
 use Rattle.cfi_step.proofs.ScriptPlans.{ordered}
-use Rattle.cfi_step.proofs.script.Script.read.Goals.{In_ok-read_text}
+use Rattle.cfi_step.proofs.script.Script.read.Goals.{After-with, In_ok-read_text}
 use Rattle.cfi_step.proofs.script.Script.read.Goals as goal
 
 pub returns-in_err-read_text-clause-exact : goal.returns-in_err-read_text-clause-exact
@@ -19,11 +19,18 @@ unfolding script_of
 collected c =
     lines_whole (read_text script_rules 0 (codes "rvcfi-script 1") c.args.text.now) c.read_text.new.form.changes.items c.in_ok-read_text.ensures.exact (rw c.new.ensures.items at c.in_ok-read_text.ensures.collected)
 
-pub invariant_of-result : goal.invariant_of-result
-invariant_of-result c = ordered c.args.text.now c.read_text.new.form.changes.items (collected c)
+pub with-requires : goal.with-requires
+with-requires c = ordered c.args.text.now c.read_text.new.form.changes.items (collected c)
+
+-- and those of the script
+made : (c : After-with) → script_of c.args.text.now ≡ Ok c.with.result
+unfolding script_of
+made c =
+    let given = lines_whole (read_text script_rules 0 (codes "rvcfi-script 1") c.args.text.now) c.read_text.new.form.changes.items c.in_ok-read_text.ensures.exact (rw c.new.ensures.items at c.in_ok-read_text.ensures.collected) in
+    given ∙ ap Ok (sym c.with.ensures)
 
 pub returns-clause-exact : goal.returns-clause-exact
-returns-clause-exact c = collected c
+returns-clause-exact c = made c
 
 pub returns-clause-ordered : goal.returns-clause-ordered
-returns-clause-ordered c = ordered c.args.text.now c.read_text.new.form.changes.items (collected c)
+returns-clause-ordered c = ordered c.args.text.now c.with.result (made c)

@@ -1,14 +1,32 @@
-use Rattle.std.proofs.Common.{◌∙◌, ap, ◌+◌, get_or}
-use Rattle.rv_mem.proofs.Placed.{placed-none, placed-more}
-use Rattle.rv_mem.specs.Cells.{memory_of, with_byte}
+use Rattle.std.proofs.Common.{sym, ◌∙◌, ap, subst, arith, length, IsTrue}
+use Rattle.rv_word.specs.Memory.{Memory, placed}
+use Rattle.rv_mem.specs.Cells.{Cells, AreBytes, HasRoom, has_room, memory_of}
+use Rattle.rv_mem.proofs.InMemory.{bytes_placed, made_for_room, memory_of-put, room_kept}
 use Rattle.rv_mem.proofs.memory.Memory.set_all.Goals as goal
 
-pub loop-i-init : goal.loop-i-init
-loop-i-init c = record { memory = placed-none _ _; kept = λ k before. before; room = c.requires.room }
+pub put_all-requires-clause-made : goal.put_all-requires-clause-made
+put_all-requires-clause-made c =
+    let cells : Cells = record { code = c.self.inside.code.items; pages = c.self.inside.pages } in
+    let room = subst (λ (m : Cells). HasRoom m c.args.addr (length c.args.bytes.now)) (sym c.self.view_is) c.requires.room in
+    rw c.place.ensures (made_for_room cells c.args.addr (length c.args.bytes.now) room)
 
-pub loop-i-preserved : goal.loop-i-preserved
-loop-i-preserved c = record {
-  memory = c.set.ensures.memory ∙ ap (λ m. with_byte m (c.args.addr + c.loop-i.i) (get_or c.args.bytes.now c.loop-i.i 0)) c.loop-i.invariant.memory ∙ placed-more (memory_of c.args.self.now) c.args.addr c.loop-i.i c.args.bytes.now c.loop-i-test.true;
-  kept = λ k before. c.set.ensures.kept k (c.loop-i.invariant.kept k before);
-  room = λ k from to. c.set.ensures.kept k (c.loop-i.invariant.room k from to);
-}
+pub invariant_of-self : goal.invariant_of-self
+invariant_of-self c =
+    let cells : Cells = record { code = c.self.inside.code.items; pages = c.self.inside.pages } in
+    let room = subst (λ (m : Cells). HasRoom m c.args.addr (length c.args.bytes.now)) (sym c.self.view_is) c.requires.room in
+    let new = memory_of-put cells c.put_all.new.self c.args.addr c.args.bytes.now room (rw c.place.ensures at c.put_all.ensures.bytes) in
+    record {
+      code = c.self.invariant.code;
+      bytes = subst (λ (m : Memory). AreBytes m) (sym new) (bytes_placed (memory_of cells) c.args.addr c.args.bytes.now c.self.invariant.bytes (λ k. omega (arith, c.type_inv.bytes k)));
+    }
+
+pub returns-clause-memory : goal.returns-clause-memory
+returns-clause-memory c =
+    let cells : Cells = record { code = c.self.inside.code.items; pages = c.self.inside.pages } in
+    let room = subst (λ (m : Cells). HasRoom m c.args.addr (length c.args.bytes.now)) (sym c.self.view_is) c.requires.room in
+    memory_of-put cells c.put_all.new.self c.args.addr c.args.bytes.now room (rw c.place.ensures at c.put_all.ensures.bytes)
+    ∙ ap (λ (m : Cells). placed (memory_of m) c.args.addr c.args.bytes.now) c.self.view_is
+
+pub returns-clause-kept : goal.returns-clause-kept
+returns-clause-kept c = λ k before.
+    room_kept c.self.inside.code.items c.self.inside.pages c.put_all.new.self c.put_all.ensures.kept k (subst (λ (m : Cells). IsTrue (has_room m k)) (sym c.self.view_is) before)

@@ -1,13 +1,9 @@
-use Rattle.std.proofs.Common.{arith}
-use Rattle.rv_mem.proofs.Fresh.{memory_of-fresh, whole_when_fresh}
+use Rattle.std.proofs.Common.{◌∙◌, ap}
+use Rattle.rv_word.specs.Layout.{DATA_START}
+use Rattle.rv_word.specs.Memory.{Memory, placed}
+use Rattle.rv_mem.proofs.InMemory.{placed-swap}
 use Rattle.rv_mem.proofs.memory.Memory.with_contents.Goals as goal
 
-pub invariant_of-result : goal.invariant_of-result
-invariant_of-result c =
-    let code = c.in_ok-padded.ensures in
-    let shadow = c.in_ok-padded-2.ensures in
-    whole_when_fresh _ _ c.args.code.now c.args.init.now _ code.items shadow.items c.in_ok-data_bytes.ensures c.requires.code c.requires.init code.len shadow.len
-    (λ k. omega (arith, c.type_inv.code k)) (λ k. omega (arith, c.type_inv.init k))
-
 pub returns : goal.returns
-returns c = memory_of-fresh _ _ c.args.code.now c.args.init.now _ c.in_ok-padded.ensures.items c.in_ok-padded-2.ensures.items c.in_ok-data_bytes.ensures c.requires.code c.requires.init
+returns c = c.in_ok-write_bytes.ensures.written ∙ ap (λ (m : Memory). placed m DATA_START c.args.init.now) c.in_ok-memory.ensures
+    ∙ placed-swap c.args.code.now c.args.init.now c.requires.init

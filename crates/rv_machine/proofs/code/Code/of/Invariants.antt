@@ -1,0 +1,13 @@
+use Rattle.std.proofs.Common.{◌≡◌, ℕ, ◌+◌, ◌*◌, ◌<◌, length, Some}
+use Rattle.std.specs.Prelude.{slice_get}
+use Rattle.rv_word.specs.Layout.{CODE_START}
+use Rattle.rv_word.specs.Memory.{read}
+use Rattle.rv_mem.specs.Cells.{memory_of}
+use Rattle.rv_code.specs.Decode.{decoded}
+use Rattle.rv_machine.proofs.code.Code.of.Given as goal
+
+abbrev pub invariant-loop-k : goal.invariant-loop-k
+invariant-loop-k l = record {
+  len : length l.instrs.items ≡ l.k;
+  each : (j : ℕ) → j < l.k → slice_get l.instrs.items j ≡ Some (decoded (read 4 (memory_of l.memory) (CODE_START + 4 * j)));
+}
