@@ -22,6 +22,7 @@ struct Machine {
     code: Vec<u8>,
     shadow: Vec<u8>,
     input: Vec<u8>,
+    taken: usize,
     output: Vec<u8>,
 }
 
@@ -78,9 +79,10 @@ impl Machine {
                 count
             }
             63 => {
-                let (addr, count) = (addr as usize, self.input.len().min(count as usize));
-                self.data[addr..addr + count].copy_from_slice(&self.input[..count]);
-                self.input.drain(..count);
+                let left = &self.input[self.taken..];
+                let (addr, count) = (addr as usize, left.len().min(count as usize));
+                self.data[addr..addr + count].copy_from_slice(&left[..count]);
+                self.taken += count;
                 count as u64
             }
             _ => -38i64 as u64,
@@ -185,7 +187,7 @@ fn main() -> std::io::Result<()> {
     code[..filled].copy_from_slice(&image[4096..4096 + filled]);
     data[DATA_START..DATA_START + given.len()].copy_from_slice(given);
     let shadow = vec![0; SHADOW_LENGTH];
-    let mut machine = Machine { x: [0; 32], pc: CODE + 12, data, code, shadow, input, output: Vec::new() };
+    let mut machine = Machine { x: [0; 32], pc: CODE + 12, data, code, shadow, input, taken: 0, output: Vec::new() };
     let (mut steps, mut end) = (0, Ok(()));
     while steps < limit && end.is_ok() {
         steps += 1;

@@ -1,5 +1,5 @@
 #!/usr/bin/env python3
-"""Times `rvcfi run` on a loop, beside a plain interpreter of the same machine, and prints their ratio.
+"""Times `rvcfi run` on a loop and on compiled programs, beside a plain interpreter of the same machine, and prints their ratios.
 
     python3 bench/run.py [--program PATH] [--steps N] [--runs N]
 
@@ -7,22 +7,85 @@ README.md beside this file says what is measured and how the program is built.
 """
 
 import argparse
+import hashlib
 import os
+import random
 import shutil
 import struct
 import subprocess
 import sys
 import tempfile
 import time
+from typing import Callable, NamedTuple
 
 sys.dont_write_bytecode = True
+HERE = os.path.dirname(os.path.abspath(__file__))
+REAL = os.path.join(HERE, "..", "tests", "real")
+sys.path.insert(0, REAL)
 
+import programs
 from images import CODE, OPENING, UNITS, addi, branch, image_file, jal, prologue, u_form
 
-HERE = os.path.dirname(os.path.abspath(__file__))
 PROGRAM = os.path.join(HERE, "..", "crates", "rvcfi", "out", "rvcfi")
 MANY, FEW = u_form(0x37, 5, 0x10000), addi(5, 0, 100)  # the loop's count, put into x5
 USAGE, LIMIT = 2, 12  # statuses of rvcfi
+MOST_STEPS = 1000000000
+LEVEL = "-O2"
+ROW = "%-9s %10s   %9s %9s   %9s %9s   %6s %6s   %s"
+
+
+class Compiled(NamedTuple):
+    """A C program: its name, the files of tests/real that it needs besides, its input, what it has to put, and the least ratio
+    of its steps per second to the interpreter's that is aimed at."""
+    name: str
+    files: list
+    input: bytes
+    is_right: Callable
+    aim: float
+
+
+class Case(NamedTuple):
+    """What is timed: a name, the files of the image and the input, how many steps at most, the status of rvcfi, and the aim."""
+    name: str
+    paths: list
+    given: str
+    steps: int
+    status: int
+    aim: float
+
+
+def text(length):
+    """Words with a space between, drawn from a seed, the first ones of a list more often."""
+    rng = random.Random(5)
+    words = ["".join(rng.choice("etaoinshrdlu") for _ in range(rng.randrange(2, 9))) for _ in range(700)]
+    drawn = " ".join(words[min(int(rng.expovariate(0.01)), 699)] for _ in range(length // 4))
+    return drawn[:length].encode()
+
+
+def unpacked(packed):
+    """What programs/packer.c packed."""
+    plain, at = bytearray(), 0
+    while at < len(packed):
+        flags, at = packed[at], at + 1
+        for flag in range(8):
+            if at == len(packed):
+                break
+            if flags >> flag & 1:
+                back, count, at = packed[at] | packed[at + 1] << 8, packed[at + 2] + 3, at + 3
+                for _ in range(count):
+                    plain.append(plain[-back])
+            else:
+                plain.append(packed[at])
+                at += 1
+    return bytes(plain)
+
+
+TEXT = text(100000)
+COMPILED = [
+    Compiled("hasher", ["sha256.c"], TEXT, lambda put: put == hashlib.sha256(TEXT).hexdigest().encode() + b"\n", 1.0),
+    Compiled("packer", [], TEXT, lambda put: len(put) < len(TEXT) and unpacked(put) == TEXT, 1.0),
+    Compiled("filler", [], b"", lambda put: put == b"%08x\n" % (2 * sum(range(60))), 0.7),
+]
 
 
 def loop(count):
@@ -36,25 +99,42 @@ def loop(count):
     return image_file(code, b""), "\n".join(lines).encode()
 
 
+def write(path, content):
+    with open(path, "wb") as out:
+        out.write(content)
+    return path
+
+
 def write_loop(folder, name, count):
-    paths = [os.path.join(folder, name + end) for end in (".img", ".graph")]
-    for path, content in zip(paths, loop(count)):
-        with open(path, "wb") as out:
-            out.write(content)
-    return paths
+    return [write(os.path.join(folder, name + end), content) for end, content in zip((".img", ".graph"), loop(count))]
+
+
+def hardened(tool, compiler, program, folder):
+    """Compiles and hardens a program of the folder programs, and answers the paths of its image and graph."""
+    objects = [programs.compiled(compiler, LEVEL, name, folder) for name in programs.LIBRARY + program.files]
+    own = os.path.join(folder, program.name + ".o")
+    source = os.path.join(HERE, "programs", program.name + ".c")
+    programs.must(compiler.command + compiler.options + [LEVEL, "-I", REAL, "-c", source, "-o", own])
+    joined = os.path.join(folder, program.name + "_joined.o")
+    programs.must(compiler.join + ["-o", joined, own] + objects)
+    made = programs.Hardened(tool, joined)
+    if made.told[0] or made.verified() != (0, b"accepted\n"):
+        sys.exit("%s: %s" % (program.name, made.told[1].decode()))
+    return [made.image, made.graph]
 
 
 def called(command, statuses):
-    """The wall time of a command in seconds, and the `output`, `stop` and `steps` lines it printed."""
+    """The wall time of a command in seconds, what its program put, and its lines `stop` and `steps`."""
     begun = time.perf_counter()
     done = subprocess.run(command, stdout=subprocess.PIPE, stderr=subprocess.STDOUT)
     wall = time.perf_counter() - begun
-    text = done.stdout.decode(errors="replace")
-    if done.returncode == USAGE and text.startswith("usage:"):
-        sys.exit("%s has no command run: it answers `%s`. %s" % (command[0], text.strip(), how_to_build()))
-    if done.returncode not in statuses:
-        sys.exit("%s: status %d, printed %r" % (" ".join(command), done.returncode, text))
-    return wall, [line for line in text.splitlines() if line.split(" ")[0] in ("output", "stop", "steps")]
+    if done.returncode == USAGE and done.stdout.startswith(b"usage:"):
+        sys.exit("%s has no command run: it answers `%s`. %s" % (command[0], done.stdout.decode().strip(), how_to_build()))
+    if done.returncode not in statuses or not done.stdout.startswith(b"output "):
+        sys.exit("%s: status %d, printed %r" % (" ".join(command), done.returncode, done.stdout[:1000]))
+    first, rest = done.stdout.split(b"\n", 1)
+    length = int(first.split()[1])
+    return wall, rest[:length], rest[length + 1:].decode().splitlines()[:2]
 
 
 def how_to_build():
@@ -69,47 +149,84 @@ def build_interpreter(folder):
     return built
 
 
-def same_end(commands, want):
-    """Runs each command once: all have to end in this way."""
-    for command, statuses in commands:
-        _, lines = called(command, statuses)
-        if lines != want:
-            sys.exit("%s: ended with %r, not %r" % (" ".join(command), lines, want))
+class Pair:
+    """The two programs that are timed."""
+
+    def __init__(self, tool, plain):
+        self.tool, self.plain = tool, plain
+
+    def commands(self, case, steps, status):
+        """The two commands that run a case for so many steps, each with the statuses that it may end with."""
+        return (([self.tool, "run"] + case.paths + ["none", case.given, str(steps)], (status,)),
+                ([self.plain, case.paths[0], case.given, str(steps)], (0,)))
+
+    def same(self, case, is_right):
+        """Runs both once and answers the steps; they have to put the same, stop alike and count the same steps."""
+        ends = [called(*command)[1:] for command in self.commands(case, case.steps, case.status)]
+        if ends[0] != ends[1]:
+            sys.exit("%s: rvcfi run ends with %r, the interpreter with %r" % (case.name, ends[0][1], ends[1][1]))
+        output, (stop, steps) = ends[0]
+        if not is_right(output, stop):
+            sys.exit("%s: ended with %s after %d bytes of output" % (case.name, stop, len(output)))
+        return int(steps.split()[1])
+
+    def times(self, case, runs):
+        """The least wall time of each of the two, of all steps and of none, the runs taken in turn."""
+        least = [float("inf")] * 4
+        for _ in range(runs):
+            both = self.commands(case, case.steps, case.status) + self.commands(case, 0, LIMIT)
+            for k, command in enumerate(both):
+                least[k] = min(least[k], called(*command)[0])
+        return least
+
+
+def compiled_cases(tool, folder):
+    """The cases of the compiled programs, each with the test of what it puts."""
+    try:
+        compiler = programs.gcc()
+    except programs.Missing as what:
+        print("not measured, since there is no %s: the compiled programs" % what)
+        return []
+    cases = []
+    for program in COMPILED:
+        given = write(os.path.join(folder, program.name + ".input"), program.input)
+        case = Case(program.name, hardened(tool, compiler, program, folder), given, MOST_STEPS, 0, program.aim)
+        cases.append((case, lambda output, stop, is_right=program.is_right: stop == "stop exit 0" and is_right(output)))
+    return cases
+
+
+def print_row(case, steps, least):
+    rates = [steps / seconds for seconds in least[:2]]
+    alone = [steps / (full - start) if full > start else float("nan") for full, start in zip(least[:2], least[2:])]
+    ratios = rates[0] / rates[1], alone[0] / alone[1]
+    print(ROW % (case.name, steps, "%.2f" % (1000 * least[0]), "%.2f" % (1000 * least[1]), "%.1f" % (rates[0] / 1e6),
+                 "%.1f" % (rates[1] / 1e6), "%.2f" % ratios[0], "%.2f" % ratios[1],
+                 "" if ratios[0] >= case.aim else "below %.2f" % case.aim))
 
 
 def main():
     parser = argparse.ArgumentParser(description="Times rvcfi run.")
     parser.add_argument("--program", default=PROGRAM, help="the rvcfi that is timed")
-    parser.add_argument("--steps", type=int, default=1000000, help="at most 800000000, where the loop still goes on")
+    parser.add_argument("--steps", type=int, default=5000000, help="of the loop; at most 800000000, where it still goes on")
     parser.add_argument("--runs", type=int, default=5)
     options = parser.parse_args()
     if not 0 < options.steps <= 800000000 or options.runs < 1:
         parser.error("--steps is from 1 to 800000000, --runs at least 1")
     if not os.path.exists(options.program):
         sys.exit("%s is not there. %s" % (options.program, how_to_build()))
-    program = os.path.abspath(options.program)
+    tool = os.path.abspath(options.program)
     with tempfile.TemporaryDirectory() as folder:
-        plain = build_interpreter(folder)
-        long, short = write_loop(folder, "long", MANY), write_loop(folder, "short", FEW)
-
-        def both(paths, steps, status):
-            return (([program, "run"] + paths + ["none", "none", str(steps)], (status,)),
-                    ([plain, paths[0], "none", str(steps)], (0,)))
-
+        pair = Pair(tool, build_interpreter(folder))
         # 10 steps of the opening, 1 for the count, 2 or 3 for each turn of the loop, 3 to the exit
-        same_end(both(short, 1000, 0), ["output 0", "stop exit 7", "steps %d" % (10 + 1 + 3 * 100 - 1 + 3)])
-        same_end(both(long, options.steps, LIMIT), ["output 0", "stop limit", "steps %d" % options.steps])
-        print("both exit with 7 after 313 steps of the short loop, and stop at the limit of the long one")
-        rates = []
-        for name, full, start in zip(("rvcfi run", "interpreter"), both(long, options.steps, LIMIT), both(long, 0, LIMIT)):
-            wall = min(called(*full)[0] for _ in range(options.runs))
-            begin = min(called(*start)[0] for _ in range(options.runs))
-            rates.append((options.steps / wall, options.steps / (wall - begin) if wall > begin else float("nan")))
-            print("%-12s %d steps in %9.2f ms, 0 steps in %6.2f ms: %12.0f steps per second, %12.0f without the start" % (
-                (name, options.steps, 1000 * wall, 1000 * begin) + rates[-1]))
-    (run, run_alone), (other, other_alone) = rates
-    print("ratio: the interpreter is %.2f times as fast, %.2f times without the start" % (
-        other / run, other_alone / run_alone))
+        short = Case("short", write_loop(folder, "short", FEW), "none", 1000, 0, 0)
+        if pair.same(short, lambda output, stop: stop == "stop exit 7") != 10 + 1 + 3 * 100 - 1 + 3:
+            sys.exit("the short loop took another number of steps than 313")
+        long = Case("loop", write_loop(folder, "long", MANY), "none", options.steps, LIMIT, 1.0)
+        cases = [(long, lambda output, stop: stop == "stop limit")] + compiled_cases(tool, folder)
+        print(ROW % ("", "steps", "run ms", "other ms", "run M/s", "other M/s", "ratio", "alone", ""))
+        for case, is_right in cases:
+            print_row(case, pair.same(case, is_right), pair.times(case, options.runs))
 
 
-main()
+if __name__ == "__main__":
+    main()

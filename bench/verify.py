@@ -1,5 +1,5 @@
 #!/usr/bin/env python3
-"""Times `rvcfi verify` on images of three sizes, beside a disassembler on the same files, with its peak memory.
+"""Times `rvcfi verify` on images of three sizes, beside a hash and a disassembler of the same files, with its peak memory.
 
     python3 bench/verify.py [--program PATH] [--runs N] [--sizes KIB,KIB,..] [--keep FOLDER]
 
@@ -44,17 +44,19 @@ def processor_time():
     return used.ru_utime + used.ru_stime
 
 
-def best_time(command, runs, want=None, status=0):
-    """The least wall time and the least processor time of several runs, in milliseconds."""
-    walls, used = [], []
+def best_times(commands, runs, wants):
+    """For each of some commands the least wall time and the least processor time of several runs, in milliseconds. The
+    commands are run in turn, so that a machine's load meets all of them."""
+    walls, used = [[] for _ in commands], [[] for _ in commands]
     for _ in range(runs):
-        before, begun = processor_time(), time.perf_counter()
-        done = subprocess.run(command, stdout=subprocess.DEVNULL if want is None else subprocess.PIPE)
-        walls.append(1000 * (time.perf_counter() - begun))
-        used.append(1000 * (processor_time() - before))
-        if done.returncode != status or want not in (None, done.stdout):
-            sys.exit("%s: status %d, printed %r" % (" ".join(command), done.returncode, done.stdout))
-    return Times(min(walls), min(used))
+        for command, want, wall, processor in zip(commands, wants, walls, used):
+            before, begun = processor_time(), time.perf_counter()
+            done = subprocess.run(command, stdout=subprocess.DEVNULL if want is None else subprocess.PIPE)
+            wall.append(1000 * (time.perf_counter() - begun))
+            processor.append(1000 * (processor_time() - before))
+            if want is not None and done.stdout != want or want is None and done.returncode:
+                sys.exit("%s: status %d, printed %r" % (" ".join(command), done.returncode, done.stdout))
+    return [Times(min(wall), min(processor)) for wall, processor in zip(walls, used)]
 
 
 def waiting(child):
@@ -102,8 +104,8 @@ def measure(program, folder, kib, runs):
     ends = ["--start-address=%d" % PAGE, "--stop-address=%d" % (PAGE + kib * 1024)]
     dump = [OBJDUMP, "-D", "-b", "binary", "-m", "riscv:rv64"] + ends + [paths[0]]
     row = {"kib": kib, "image": len(image), "graph": len(graph), "units": sum(counts.values()), "counts": counts}
-    row["verify"] = best_time(verify, runs, b"accepted\n")
-    row["objdump"] = best_time(dump, max(2, runs // 3))
+    row["verify"], row["hash"] = best_times([verify, ["sha256sum"] + paths], runs, [b"accepted\n", None])
+    row["objdump"], = best_times([dump], max(2, runs // 3), [None])
     row["peak"] = peak_memory(verify)
     row["files"] = len(image) + len(graph)
     return row
@@ -114,12 +116,16 @@ def report(rows, base, start):
     print("the usage line alone: %.2f ms, peak %d KiB" % (start.wall, base // 1024))
     print()
     print("milliseconds, wall / processor: the least of the runs")
-    print("%8s %7s %8s %8s  %16s  %18s  %13s" % ("code KiB", "units", "image", "graph", "verify", "objdump", "ratio"))
+    print("%8s %7s %8s %8s  %16s  %16s  %13s  %18s  %13s" % (
+        "code KiB", "units", "image", "graph", "verify", "sha256sum", "ratio", "objdump", "ratio"))
     for row in rows:
-        verify, objdump = row["verify"], row["objdump"]
-        print("%8d %7d %8d %8d  %7.2f / %6.2f  %8.2f / %7.2f  %5.1f / %5.1f" % (
-            row["kib"], row["units"], row["image"], row["graph"], verify.wall, verify.processor,
+        verify, hashed, objdump = row["verify"], row["hash"], row["objdump"]
+        print("%8d %7d %8d %8d  %7.2f / %6.2f  %7.2f / %6.2f  %5.2f / %5.2f  %8.2f / %7.2f  %5.1f / %5.1f" % (
+            row["kib"], row["units"], row["image"], row["graph"], verify.wall, verify.processor, hashed.wall, hashed.processor,
+            hashed.wall / verify.wall, hashed.processor / verify.processor,
             objdump.wall, objdump.processor, objdump.wall / verify.wall, objdump.processor / verify.processor))
+    if rows[-1]["hash"].wall < rows[-1]["verify"].wall:
+        print("verify of the largest takes longer than sha256sum of the same files")
     print()
     for before, row in zip(rows, rows[1:]):
         print("from %d to %d KiB: code times %.2f, files times %.2f, verify times %.2f (without the time of the usage line)" % (
@@ -146,7 +152,8 @@ def main():
     with tempfile.TemporaryDirectory() as work:
         folder = options.keep or work
         os.makedirs(folder, exist_ok=True)
-        base, start = peak_memory([program]), best_time([program], options.runs, status=2)
+        usage = subprocess.run([program], stdout=subprocess.PIPE).stdout
+        base, (start,) = peak_memory([program]), best_times([[program]], options.runs, [usage])
         rows = [measure(program, folder, int(kib), options.runs) for kib in options.sizes.split(",")]
     report(rows, base, start)
 
