@@ -63,23 +63,23 @@ fn word_of(entry: Entry) -> u32
 {
     match entry {
         Entry::Inside => 0,
-        Entry::Near(field) => FIELDS + field.bits(),
-        Entry::Branch(field) => 2 * FIELDS + field.bits(),
-        Entry::Jump(field) => 3 * FIELDS + field.bits(),
-        Entry::Stop => 4 * FIELDS,
-        Entry::Call(field) => 5 * FIELDS + field.bits(),
-        Entry::Ijump(label) => 6 * FIELDS + label.bits(),
-        Entry::Icall(label) => 7 * FIELDS + label.bits(),
-        Entry::Gate(label) => 8 * FIELDS + label.bits(),
-        Entry::Other => 9 * FIELDS,
+        Entry::Stop => FIELDS,
+        Entry::Other => 2 * FIELDS,
+        Entry::Near(field) => 3 * FIELDS + field.bits(),
+        Entry::Branch(field) => 4 * FIELDS + field.bits(),
+        Entry::Jump(field) => 5 * FIELDS + field.bits(),
+        Entry::Call(field) => 6 * FIELDS + field.bits(),
+        Entry::Ijump(label) => 7 * FIELDS + label.bits(),
+        Entry::Icall(label) => 8 * FIELDS + label.bits(),
+        Entry::Gate(label) => 9 * FIELDS + label.bits(),
     }
 }
 
-/// The same of the number of its kind.
+/// Whether the kind with a number is no transfer and no gate, whatever the field.
 fn is_quiet_kind(kind: u32, _field: u32) -> bool
     ensures { result ≡ is_quiet (of_kind kind _field) }
 {
-    kind == 0 || kind == 4 || kind >= 9
+    kind < 3
 }
 
 /// The entry of a word.
@@ -91,22 +91,22 @@ fn entry_of(word: u32) -> Entry
     if kind == 0 {
         Entry::Inside
     } else if kind == 1 {
-        Entry::Near(Immediate::of(field % 4096))
-    } else if kind == 2 {
-        Entry::Branch(Immediate::of(field))
-    } else if kind == 3 {
-        Entry::Jump(Immediate::of(field))
-    } else if kind == 4 {
         Entry::Stop
-    } else if kind == 5 {
-        Entry::Call(Immediate::of(field))
-    } else if kind == 6 {
-        Entry::Ijump(Immediate::of(field))
-    } else if kind == 7 {
-        Entry::Icall(Immediate::of(field))
-    } else if kind == 8 {
-        Entry::Gate(Immediate::of(field))
-    } else {
+    } else if kind == 2 {
         Entry::Other
+    } else if kind == 3 {
+        Entry::Near(Immediate::of(field % 4096))
+    } else if kind == 4 {
+        Entry::Branch(Immediate::of(field))
+    } else if kind == 5 {
+        Entry::Jump(Immediate::of(field))
+    } else if kind == 6 {
+        Entry::Call(Immediate::of(field))
+    } else if kind == 7 {
+        Entry::Ijump(Immediate::of(field))
+    } else if kind == 8 {
+        Entry::Icall(Immediate::of(field))
+    } else {
+        Entry::Gate(Immediate::of(field))
     }
 }
