@@ -1,15 +1,18 @@
 #!/usr/bin/env python3
-"""Refuses each allocation of `rvcfi verify` and `rvcfi run` in turn, on the real program.
+"""Refuses each allocation of the commands in turn, on the real program.
 
-    python3 tests/memory/refused_allocations.py [--program PATH]
+    python3 tests/memory/refused_allocations.py [--program PATH] [--each]
 
-Each refusal has to end with status 5, with nothing printed. It needs Linux with glibc, cc, and the program, which
-`cd crates/rvcfi && rt run` builds. It prints for each command how many allocations it makes, and last how many were
-refused in all. A command that makes none is an error.
+Each refusal has to end with status 5, with nothing printed; what it may write are the first of the files that the
+command writes where nothing is refused, each whole, and no file else may change. `demo` makes many thousand
+allocations, of which some 200 are refused, evenly spread, or all with --each. It needs Linux with glibc, cc, and the
+program, which `cd crates/rvcfi && rt run` builds. It prints for each command how many allocations it makes, and last
+how many were refused in all. A command that makes none is an error.
 """
 
 import argparse
 import os
+import re
 import struct
 import subprocess
 import sys
@@ -45,19 +48,65 @@ PROGRAMS = {
     "status": (STATUS, b"", ""),
 }
 
-# The words, and the status and the first line of the answer where nothing is refused.
+# Objects that tests use, by their names in crates/sample_objects: one returns 7, one puts a text, one calls one of two
+# functions through a table, one calls itself as often as a symbol says.
+OBJECTS = {"returns.o": "B", "puts.o": "H", "calls.o": "P", "recurs.o": "R"}
+MOST, TOO_DEEP = b"\xf1\xff\xfe\x1f", b"\xf1\xff\xff\x1f"  # the symbol's section and how often: 8190, 8191
+
+TEXTS = {
+    "script": "rvcfi-script 1\nat 11 00010000 05\nend\n",
+    "other": "rvcfi-script 1\nat 0 00010000 e4000040\nend\n",
+    "policy": "rvcfi-policy 1\nsite main+10 f+0\nend\n",
+    "wrong": "rvcfi-policy 1\nsite main+14 f+0\nend\n",
+}
+
+# The words, the status and a line of the answer where nothing is refused, and the files that are written.
+THREE = ("image", "graph", "map")
 COMMANDS = [
-    ("verify exits.img exits.graph", 0, "accepted"),
-    ("verify returns.img returns.graph", 0, "accepted"),
-    ("verify writes.img writes.graph", 0, "accepted"),
-    ("verify exits.img returns.graph", 1, "rejected Length 80 92"),
-    ("verify exits.img script", 1, "refused 23 Graph 1 Form"),
-    ("run exits.img exits.graph none none 100", 0, "output 0"),
-    ("run returns.img returns.graph none none 100", 0, "output 0"),
-    ("run writes.img writes.graph none script 100", 0, "output 3"),
-    ("run status.img status.graph script none 100", 0, "output 0"),
-    ("run status.img status.graph exits.graph none 100", 1, "refused 25 Script 1 Form"),
+    ("verify exits.img exits.graph", 0, "accepted", ()),
+    ("verify returns.img returns.graph", 0, "accepted", ()),
+    ("verify writes.img writes.graph", 0, "accepted", ()),
+    ("verify exits.img returns.graph", 1, "rejected Length 80 92", ()),
+    ("verify exits.img script", 1, "refused 23 Graph 1 Form", ()),
+    ("run exits.img exits.graph none none 100", 0, "stop exit 7", ()),
+    ("run returns.img returns.graph none none 100", 0, "steps 17", ()),
+    ("run writes.img writes.graph none script 100", 0, "steps 41", ()),
+    ("run status.img status.graph script none 100", 0, "stop exit 5", ()),
+    ("run status.img status.graph exits.graph none 100", 1, "refused 25 Script 1 Form", ()),
+    ("rewrite returns.o main none image graph map", 0, "rewritten code 92 data 0 classes 0 sites 0", THREE),
+    ("verify image graph", 0, "accepted", ()),
+    ("run image graph none none 100", 0, "stop exit 7", ()),
+    ("compare returns.o main none image graph map none 100", 0, "same 1", ()),
+    ("rewrite returns.o nain none image graph map", 1, "refused 17 NoEntry", ()),
+    ("rewrite puts.o main none image graph map", 0, "rewritten code 196 data 3 classes 0 sites 0", THREE),
+    ("run image graph none none 100", 0, "steps 41", ()),
+    ("compare puts.o main none image graph map none 100", 0, "same 2", ()),
+    ("rewrite recurs.o main none image graph map", 0, None, THREE),
+    ("compare recurs.o main none image graph map none 100000", 0, "same 1", ()),
+    ("rewrite deep.o main none image graph map", 0, None, THREE),
+    ("compare deep.o main none image graph map none 100000", 13, "untame deep 1 28", ()),
+    ("run image graph none none 200000", 10, "steps 114684", ()),
+    ("rewrite calls.o main policy image graph map", 0, "rewritten code 256 data 16 classes 1 sites 1", THREE),
+    ("run image graph other none 100", 10, "stop handler __cfi_bad_target", ()),
+    ("rewrite calls.o main wrong image graph map", 1, "refused 18 Policy 2", ()),
+    ("demo 1", 0, "compare same 1", ()),
 ]
+
+
+def sample_objects():
+    """The bytes of the objects that tests use."""
+    with open(os.path.join(ROOT, "crates", "sample_objects", "src", "lib.rt")) as source:
+        found = dict(re.findall(r'static (\w+): &\[u8\] = b"([^"]*)"', source.read()))
+    objects = {name: bytes.fromhex(re.sub(r"[\\\s]", "", found[key])) for name, key in OBJECTS.items()}
+    objects["deep.o"] = objects["recurs.o"].replace(MOST, TOO_DEEP)
+    if objects["deep.o"] == objects["recurs.o"]:
+        sys.exit("the object that calls itself has no such symbol")
+    return objects
+
+
+def write_file(folder, name, content):
+    with open(os.path.join(folder, name), "wb") as out:
+        out.write(content)
 
 
 def write_files(folder):
@@ -65,11 +114,12 @@ def write_files(folder):
         words = prologue(UNITS) + units
         code = struct.pack("<%dI" % len(words), *words)
         graph = "rvcfi-graph 1\ncode 40000000 %08x\ncall 4000000c 40000040\n%send\n" % (len(code), calls)
-        for end, content in ((".img", image_file(code, data)), (".graph", graph.encode())):
-            with open(os.path.join(folder, name + end), "wb") as out:
-                out.write(content)
-    with open(os.path.join(folder, "script"), "w") as out:
-        out.write("rvcfi-script 1\nat 11 00010000 05\nend\n")
+        write_file(folder, name + ".img", image_file(code, data))
+        write_file(folder, name + ".graph", graph.encode())
+    for name, text in TEXTS.items():
+        write_file(folder, name, text.encode())
+    for name, content in sample_objects().items():
+        write_file(folder, name, content)
 
 
 def answer(program, folder, words, refused):
@@ -79,28 +129,65 @@ def answer(program, folder, words, refused):
     return done.returncode, done.stdout, done.stderr
 
 
+def held(folder):
+    """What each file of a folder holds."""
+    files = {}
+    for name in os.listdir(folder):
+        with open(os.path.join(folder, name), "rb") as file:
+            files[name] = file.read()
+    return files
+
+
+def restore(folder, files):
+    for name in os.listdir(folder):
+        if name not in files:
+            os.remove(os.path.join(folder, name))
+    for name, content in files.items():
+        write_file(folder, name, content)
+
+
 def allocations(program, folder, words, status, line):
     """How many allocations a command makes, which ends in this way where none is refused."""
     found, text, taken = answer(program, folder, words, 0)
-    if found != status or text.split(b"\n")[0] != line.encode():
+    if found != status or line is not None and line.encode() not in text.split(b"\n"):
         sys.exit("%s: status %d, printed %r" % (words, found, text))
     if not taken.strip().isdigit() or int(taken) == 0:
         sys.exit("%s: no allocation was counted, but told was %r" % (words, taken))
     return int(taken)
 
 
-def refuse_each(program, folder, words, count):
-    """Refuses each of so many allocations of a command in turn: it has to end with status 5, and print nothing."""
-    for refused in range(1, count + 1):
+def first_states(before, after, written):
+    """The files after each number of the files that a command writes, from none to all."""
+    return [{**before, **{name: after[name] for name in written[:count]}} for count in range(len(written) + 1)]
+
+
+def refuse_each(program, folder, words, numbers, written, before, after):
+    """Refuses allocations of a command in turn: it has to end with status 5 and print nothing, and leave the files
+    with the first of those written that it writes, if any."""
+    states = first_states(before, after, written)
+    for refused in numbers:
         found = answer(program, folder, words, refused)
         if found != (NO_MEMORY, b"", b""):
             sys.exit("%s: allocation %d refused: status %d, printed %r %r" % (words, refused, *found))
+        now = held(folder)
+        if now not in states:
+            changed = sorted(name for name in set(now) | set(before) if now.get(name) != before.get(name))
+            sys.exit("%s: allocation %d refused: changed files %s" % (words, refused, changed))
+        if now != before:
+            restore(folder, before)
+
+
+def chosen(words, count, each):
+    step = 1 if each or not words.startswith("demo") else max(1, count // 200)
+    return range(1, count + 1, step)
 
 
 def main():
     parser = argparse.ArgumentParser(description="Refuses each allocation of rvcfi in turn.")
     parser.add_argument("--program", default=os.path.join(ROOT, "crates", "rvcfi", "out", "rvcfi"))
-    program = os.path.abspath(parser.parse_args().program)
+    parser.add_argument("--each", action="store_true", help="each allocation of demo, too")
+    options = parser.parse_args()
+    program = os.path.abspath(options.program)
     if not os.path.exists(program):
         sys.exit("%s is not there: `cd crates/rvcfi && rt run` builds it" % program)
     total = 0
@@ -108,11 +195,16 @@ def main():
         shim = os.path.join(folder, "refuse.so")
         subprocess.run(["cc", "-O1", "-shared", "-fPIC", "-o", shim, os.path.join(HERE, "refuse.c")], check=True)
         write_files(folder)
-        for words, status, line in COMMANDS:
+        for words, status, line, written in COMMANDS:
+            before = held(folder)
             count = allocations(program, folder, words, status, line)
-            refuse_each(program, folder, words, count)
-            print("%-50s %4d allocations, each refused with status 5" % (words, count))
-            total += count
+            after = held(folder)
+            restore(folder, before)
+            numbers = chosen(words, count, options.each)
+            refuse_each(program, folder, words, numbers, written, before, after)
+            restore(folder, after)
+            print("%-60s %6d allocations, %d refused" % (words, count, len(numbers)), flush=True)
+            total += len(numbers)
     print("%d allocations were refused, each with status 5 and nothing printed" % total)
 
 
