@@ -4,10 +4,11 @@
     python3 tests/memory/refused_allocations.py [--program PATH] [--each]
 
 Each refusal has to end with status 5, with nothing printed; what it may write are the first of the files that the
-command writes where nothing is refused, each whole, and no file else may change. `demo` makes many thousand
-allocations, of which some 200 are refused, evenly spread, or all with --each. It needs Linux with glibc, cc, and the
-program, which `cd crates/rvcfi && rt run` builds. It prints for each command how many allocations it makes, and last
-how many were refused in all. A command that makes none is an error.
+command writes where nothing is refused, each whole, and no file else may change. Or the command does without the
+memory: then status, text and files are those where nothing is refused. `demo` makes many thousand allocations, of
+which some 200 are refused, evenly spread, or all with --each. It needs Linux with glibc, cc, and the program, which
+`cd crates/rvcfi && rt run` builds. It prints for each command how many allocations it makes, how many were refused
+and how many of these it did without. A command that makes none is an error.
 """
 
 import argparse
@@ -49,9 +50,9 @@ PROGRAMS = {
 }
 
 # Objects that tests use, by their names in crates/sample_objects: one returns 7, one puts a text, one calls one of two
-# functions through a table, one calls itself as often as a symbol says.
+# functions through a table, one calls itself 8,190 times.
 OBJECTS = {"returns.o": "B", "puts.o": "H", "calls.o": "P", "recurs.o": "R"}
-MOST, TOO_DEEP = b"\xf1\xff\xfe\x1f", b"\xf1\xff\xff\x1f"  # the symbol's section and how often: 8190, 8191
+MOST, TOO_DEEP = bytes.fromhex("1305e5ff"), bytes.fromhex("1305f5ff")  # addi a0,a0,-2 and -1, after lui a0,2
 
 TEXTS = {
     "script": "rvcfi-script 1\nat 11 00010000 05\nend\n",
@@ -76,15 +77,15 @@ COMMANDS = [
     ("rewrite returns.o main none image graph map", 0, "rewritten code 92 data 0 classes 0 sites 0", THREE),
     ("verify image graph", 0, "accepted", ()),
     ("run image graph none none 100", 0, "stop exit 7", ()),
-    ("compare returns.o main none image graph map none 100", 0, "same 1", ()),
+    ("compare returns.o main none image map none 100", 0, "same 1", ()),
     ("rewrite returns.o nain none image graph map", 1, "refused 17 NoEntry", ()),
     ("rewrite puts.o main none image graph map", 0, "rewritten code 196 data 3 classes 0 sites 0", THREE),
     ("run image graph none none 100", 0, "steps 41", ()),
-    ("compare puts.o main none image graph map none 100", 0, "same 2", ()),
+    ("compare puts.o main none image map none 100", 0, "same 2", ()),
     ("rewrite recurs.o main none image graph map", 0, None, THREE),
-    ("compare recurs.o main none image graph map none 100000", 0, "same 1", ()),
+    ("compare recurs.o main none image map none 100000", 0, "same 1", ()),
     ("rewrite deep.o main none image graph map", 0, None, THREE),
-    ("compare deep.o main none image graph map none 100000", 13, "untame deep 1 28", ()),
+    ("compare deep.o main none image map none 100000", 13, "untame deep 1 28", ()),
     ("run image graph none none 200000", 10, "steps 114684", ()),
     ("rewrite calls.o main policy image graph map", 0, "rewritten code 256 data 16 classes 1 sites 1", THREE),
     ("run image graph other none 100", 10, "stop handler __cfi_bad_target", ()),
@@ -100,7 +101,7 @@ def sample_objects():
     objects = {name: bytes.fromhex(re.sub(r"[\\\s]", "", found[key])) for name, key in OBJECTS.items()}
     objects["deep.o"] = objects["recurs.o"].replace(MOST, TOO_DEEP)
     if objects["deep.o"] == objects["recurs.o"]:
-        sys.exit("the object that calls itself has no such symbol")
+        sys.exit("the object that calls itself has no such instruction")
     return objects
 
 
@@ -146,14 +147,14 @@ def restore(folder, files):
         write_file(folder, name, content)
 
 
-def allocations(program, folder, words, status, line):
-    """How many allocations a command makes, which ends in this way where none is refused."""
+def undisturbed(program, folder, words, status, line):
+    """The text of a command, which ends in this way where nothing is refused, and how many allocations it makes."""
     found, text, taken = answer(program, folder, words, 0)
     if found != status or line is not None and line.encode() not in text.split(b"\n"):
         sys.exit("%s: status %d, printed %r" % (words, found, text))
     if not taken.strip().isdigit() or int(taken) == 0:
         sys.exit("%s: no allocation was counted, but told was %r" % (words, taken))
-    return int(taken)
+    return text, int(taken)
 
 
 def first_states(before, after, written):
@@ -161,20 +162,22 @@ def first_states(before, after, written):
     return [{**before, **{name: after[name] for name in written[:count]}} for count in range(len(written) + 1)]
 
 
-def refuse_each(program, folder, words, numbers, written, before, after):
-    """Refuses allocations of a command in turn: it has to end with status 5 and print nothing, and leave the files
-    with the first of those written that it writes, if any."""
-    states = first_states(before, after, written)
+def refuse_each(program, folder, words, numbers, done, states):
+    """Refuses allocations of a command in turn, and gives how many of them it did without. `done` is how it ends where
+    nothing is refused, `states` are the files with none, the first ones and all of those that it writes."""
+    without = 0
     for refused in numbers:
-        found = answer(program, folder, words, refused)
-        if found != (NO_MEMORY, b"", b""):
+        found, now = answer(program, folder, words, refused), held(folder)
+        if found == done and now == states[-1]:
+            without += 1
+        elif found != (NO_MEMORY, b"", b""):
             sys.exit("%s: allocation %d refused: status %d, printed %r %r" % (words, refused, *found))
-        now = held(folder)
-        if now not in states:
-            changed = sorted(name for name in set(now) | set(before) if now.get(name) != before.get(name))
+        elif now not in states:
+            changed = sorted(name for name in set(now) | set(states[0]) if now.get(name) != states[0].get(name))
             sys.exit("%s: allocation %d refused: changed files %s" % (words, refused, changed))
-        if now != before:
-            restore(folder, before)
+        if now != states[0]:
+            restore(folder, states[0])
+    return without
 
 
 def chosen(words, count, each):
@@ -190,22 +193,22 @@ def main():
     program = os.path.abspath(options.program)
     if not os.path.exists(program):
         sys.exit("%s is not there: `cd crates/rvcfi && rt run` builds it" % program)
-    total = 0
+    total = spared = 0
     with tempfile.TemporaryDirectory() as folder:
         shim = os.path.join(folder, "refuse.so")
         subprocess.run(["cc", "-O1", "-shared", "-fPIC", "-o", shim, os.path.join(HERE, "refuse.c")], check=True)
         write_files(folder)
         for words, status, line, written in COMMANDS:
             before = held(folder)
-            count = allocations(program, folder, words, status, line)
+            text, count = undisturbed(program, folder, words, status, line)
             after = held(folder)
             restore(folder, before)
             numbers = chosen(words, count, options.each)
-            refuse_each(program, folder, words, numbers, written, before, after)
+            without = refuse_each(program, folder, words, numbers, (status, text, b""), first_states(before, after, written))
             restore(folder, after)
-            print("%-60s %6d allocations, %d refused" % (words, count, len(numbers)), flush=True)
-            total += len(numbers)
-    print("%d allocations were refused, each with status 5 and nothing printed" % total)
+            print("%-60s %6d allocations, %d refused, %d done without" % (words, count, len(numbers), without), flush=True)
+            total, spared = total + len(numbers), spared + without
+    print("%d allocations were refused, %d of them done without, all others with status 5 and nothing printed" % (total, spared))
 
 
 main()
