@@ -1,12 +1,12 @@
 -- A computed transfer, read word by word: its label is told by word 8, and whether it is a jump or a call
 -- by word 12.
-use Rattle.std.proofs.Common.{◌≡◌, ◌≢◌, ℕ, zero, suc, ◌+◌, ◌-◌, ◌*◌, ◌%◌, ◌^◌, ◌<◌, ◌≤◌, ◌==◌, ◌&&◌, Bool, true, false, arith, lit<, lit≤, refl, ap, sym, subst, ◌∙◌, List, [], ◌∷◌, ◌++◌, length, take, drop, inl, inr, ◌⊎◌, Some, None}
-use Rattle.std.specs.Prelude.{Option, option_map, slice_get, if◌then◌else◌}
-use Rattle.std.proofs.lemmas.Bool.{and_parts, eqb-true}
+use Rattle.std.proofs.Common.{◌≡◌, ◌≢◌, ℕ, zero, suc, ◌+◌, ◌-◌, ◌*◌, ◌^◌, ◌<◌, ◌≤◌, ◌==◌, arith, lit<, lit≤, refl, ap, sym, subst, ◌∙◌, List, [], ◌∷◌, ◌++◌, length, take, drop, inl, inr, ◌⊎◌, Some, None}
+use Rattle.std.specs.Prelude.{Option, option_map, slice_get}
+use Rattle.std.proofs.lemmas.Bool.{eqb-true}
 use Rattle.rv_word.proofs.Cases.{guarded, mapped}
 use Rattle.rv_instr.specs.declared.instr.Instr.{Instr}
 use Rattle.rv_instr.specs.declared.instr.Instr.TheVariants.{Upper, Jalr, Immediate, Shift}
-use Rattle.rv_instr.specs.declared.instr.UpperOp.TheVariants.{Lui, Auipc}
+use Rattle.rv_instr.specs.declared.instr.UpperOp.TheVariants.{Lui}
 use Rattle.rv_instr.specs.declared.instr.ImmediateOp.TheVariants.{Addi, Andi}
 use Rattle.rv_instr.specs.declared.instr.ShiftOp.TheVariants.{Slli}
 use Rattle.rv_instr.specs.declared.instr.StoreOp.TheVariants.{Sd}
@@ -17,7 +17,7 @@ use Rattle.rv_code.proofs.ReadBack.{decoded-code_of}
 use Rattle.cfi_unit.specs.declared.unit.Unit as U
 use Rattle.cfi_unit.specs.declared.unit.Unit.TheVariants as V
 use Rattle.cfi_unit.specs.Recognise.{address_unit, computed_unit, label_in, recognised, store_unit}
-use Rattle.cfi_unit.specs.UnitWords.{BAD_TARGET, DEEP, MINUS_FOUR, instr_at, is_lui, word_count, words_of}
+use Rattle.cfi_unit.specs.UnitWords.{BAD_TARGET, DEEP, MINUS_FOUR, instr_at, word_count, words_of}
 use Rattle.cfi_scan.specs.declared.entry.Entry.TheVariants as E
 use Rattle.cfi_scan.specs.declared.reader.Reader.TheVariants as R
 use Rattle.cfi_scan.specs.declared.reader.Step.TheVariants.{More, Done}

@@ -1,7 +1,7 @@
 -- What the words that are read so far say of the unit that they begin: which it may be, what its next
 -- word is, and that it has more.
-use Rattle.std.proofs.Common.{◌≡◌, ◌≢◌, ℕ, zero, suc, ◌+◌, ◌*◌, ◌<◌, ◌≤◌, arith, refl, ap, sym, subst, ◌∙◌, List, [], ◌∷◌, ◌++◌, length, take, drop, inl, inr, true, Some, None}
-use Rattle.std.specs.Prelude.{nat_eq, slice_get, option_and_then, min}
+use Rattle.std.proofs.Common.{◌≡◌, ◌≢◌, ℕ, zero, suc, ◌+◌, ◌<◌, ◌≤◌, arith, refl, ap, sym, subst, ◌∙◌, List, [], ◌∷◌, ◌++◌, length, take, drop, inl, inr, true, Some, None}
+use Rattle.std.specs.Prelude.{nat_eq, slice_get, option_and_then}
 use Rattle.std.specs.List.{starts_with}
 use Rattle.std.proofs.lemmas.Bool.Decides.{Decides-eqb}
 use Rattle.std.proofs.lemmas.List.{append_assoc, append-nil, length-append, length-take-le, take_more}

@@ -1,12 +1,11 @@
 -- The units that one address does not decide: a call, a return and a store, read word by word.
-use Rattle.std.proofs.Common.{◌≡◌, ◌≢◌, ℕ, zero, suc, ◌+◌, ◌-◌, ◌*◌, ◌/◌, ◌%◌, ◌^◌, ◌<◌, ◌≤◌, ◌==◌, ◌&&◌, Bool, true, false, arith, lit<, lit≤, refl, ap, sym, subst, ◌∙◌, List, [], ◌∷◌, ◌++◌, length, take, drop, inl, inr, ◌⊎◌, Some, None}
-use Rattle.std.specs.Prelude.{Option, nat_lt, slice_get, if◌then◌else◌}
-use Rattle.std.proofs.lemmas.Bool.{and_parts, cases_lt, eqb-true, lt-ltb, le-ltb}
-use Rattle.rv_word.specs.Layout.{CODE_START, CODE_SIZE}
+use Rattle.std.proofs.Common.{◌≡◌, ◌≢◌, ℕ, ◌+◌, ◌*◌, ◌%◌, ◌^◌, ◌<◌, ◌≤◌, ◌==◌, true, false, arith, lit<, lit≤, refl, ap, sym, subst, ◌∙◌, List, [], ◌∷◌, ◌++◌, length, take, Some, None}
+use Rattle.std.specs.Prelude.{Option, slice_get}
+use Rattle.std.proofs.lemmas.Bool.{and_parts, eqb-true}
+use Rattle.rv_word.specs.Layout.{CODE_START}
 use Rattle.rv_word.proofs.Cases.{guarded, mapped}
-use Rattle.rv_instr.specs.InRange.{IsInstr}
 use Rattle.rv_instr.specs.declared.instr.Instr.{Instr}
-use Rattle.rv_instr.specs.declared.instr.Instr.TheVariants.{Upper, Jal, Jalr, Branch, Load, Store, Immediate, Shift, ShiftWord, Register, Fence, Ecall, Ebreak}
+use Rattle.rv_instr.specs.declared.instr.Instr.TheVariants.{Jal, Load, Store, Immediate, Shift}
 use Rattle.rv_instr.specs.declared.instr.ImmediateOp.TheVariants.{Addi}
 use Rattle.rv_instr.specs.declared.instr.ShiftOp.TheVariants.{Slli}
 use Rattle.rv_instr.specs.declared.instr.LoadOp.TheVariants.{Ld}
@@ -18,7 +17,7 @@ use Rattle.rv_code.proofs.ReadBack.{decoded-code_of}
 use Rattle.cfi_unit.specs.declared.unit.Unit as U
 use Rattle.cfi_unit.specs.declared.unit.Unit.TheVariants as V
 use Rattle.cfi_unit.specs.Recognise.{address_unit, led_to, recognised, store_unit, target_in}
-use Rattle.cfi_unit.specs.UnitWords.{BAD_RETURN, DEEP, Fits, MINUS_EIGHT, Reaches, instr_at, jump_offset, word_count, words_of}
+use Rattle.cfi_unit.specs.UnitWords.{BAD_RETURN, DEEP, MINUS_EIGHT, Reaches, instr_at, jump_offset, word_count, words_of}
 use Rattle.cfi_unit.proofs.Found.{is_jump_instr}
 use Rattle.cfi_unit.proofs.Near.{near_reached}
 use Rattle.cfi_scan.specs.declared.entry.Entry.TheVariants as E

@@ -1,6 +1,6 @@
 -- What is kept of a unit: its kind, and its label or the offset field of its jump or branch. The field,
 -- and not the target, so that nothing is lost where a jump leads out of the code.
-use Rattle.std.specs.Prelude.{ℕ, zero, suc, ◌+◌, ◌-◌, Bool, true, false, List, [], ◌∷◌, ◌++◌}
+use Rattle.std.specs.Prelude.{ℕ, zero, suc, ◌+◌, ◌-◌, Bool, true, false, List, [], ◌∷◌, ◌++◌, Option, Some, None}
 use Rattle.cfi_unit.specs.declared.unit.Unit as U
 use Rattle.cfi_unit.specs.declared.unit.Unit.TheVariants as V
 use Rattle.cfi_unit.specs.UnitWords.{after_unit, jump_offset, near_offset, word_count}
@@ -21,6 +21,15 @@ entry_of (V.Call target) at = E.Call (jump_offset (at + 28) target)
 entry_of (V.Ijump rs1 imm label) at = E.Ijump label
 entry_of (V.Icall rs1 imm label) at = E.Icall label
 entry_of V.Return at = E.Other
+
+-- a unit starts at a word with this entry
+abbrev pub is_unit : Entry → Bool
+is_unit E.Inside = false
+is_unit _ = true
+
+abbrev pub is_started : Option Entry → Bool
+is_started None = false
+is_started (Some entry) = is_unit entry
 
 -- the entry is of no transfer and of no gate
 abbrev pub is_quiet : Entry → Bool

@@ -1,5 +1,5 @@
 ghost use Rattle.std.specs.Prelude.{◌≡◌, ◌<◌, ◌≤◌, ℕ, Some, slice_get, true};
-ghost use Rattle.cfi_scan.specs.Entries.{is_quiet};
+ghost use Rattle.cfi_scan.specs.Entries.{is_quiet, is_started};
 ghost use Rattle.cfi_scan.specs.declared.entry.Entry.{Entry};
 
 use crate::entry::Entry;
@@ -60,6 +60,16 @@ impl Listing {
             index += 1;
         }
         index
+    }
+
+    /// Whether a unit starts at a word, counted from the first after the prologue: the entry is not taken apart.
+    pub fn starts(&self, index: usize) -> bool
+        ensures { result ≡ is_started (slice_get self.now.entries index) }
+    {
+        match self.entries.get(index) {
+            Some(entry) => entry.is_unit(),
+            None => false,
+        }
     }
 
     /// The words of the prologue that there are.

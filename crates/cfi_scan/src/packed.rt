@@ -1,5 +1,5 @@
 ghost use Rattle.std.specs.Prelude.{◌≡◌};
-ghost use Rattle.cfi_scan.specs.Entries.{is_quiet};
+ghost use Rattle.cfi_scan.specs.Entries.{is_quiet, is_unit};
 ghost use Rattle.cfi_scan.specs.Packed.{of_kind, packed, unpacked};
 
 use crate::entry::Entry;
@@ -45,6 +45,13 @@ impl Packed {
         is_quiet_kind(self.word / FIELDS, self.word % FIELDS)
     }
 
+    /// Whether a unit starts there.
+    pub(crate) fn is_unit(&self) -> bool
+        ensures { result ≡ is_unit self.now }
+    {
+        is_unit_kind(self.word / FIELDS, self.word % FIELDS)
+    }
+
     /// The entry.
     pub(crate) fn entry(&self) -> Entry
         ensures { result ≡ self.now }
@@ -80,6 +87,13 @@ fn is_quiet_kind(kind: u32, _field: u32) -> bool
     ensures { result ≡ is_quiet (of_kind kind _field) }
 {
     kind < 3
+}
+
+/// Whether the kind with a number is that of a unit, whatever the field.
+fn is_unit_kind(kind: u32, _field: u32) -> bool
+    ensures { result ≡ is_unit (of_kind kind _field) }
+{
+    kind != 0
 }
 
 /// The entry of a word.

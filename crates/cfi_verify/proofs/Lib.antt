@@ -33,6 +33,7 @@ pub mod LeastOf
 pub mod RuleOrder
 pub mod Cut
 pub mod Lookup
+pub mod Started
 pub mod Told
 pub mod Within
 pub mod Fed

@@ -19,7 +19,8 @@ use Rattle.cfi_scan.specs.declared.entry.Entry.TheVariants as E
 use Rattle.cfi_scan.specs.Entries.{entry_of as entry_of_unit}
 use Rattle.cfi_scan.specs.Pieces.{IsOf, Listed}
 use Rattle.cfi_scan.specs.Stream.{IsSplitUp, last_of, spelled, width}
-use Rattle.cfi_verify.specs.Entries.{Tells, call_at, call_in, count_of, edge_at, edge_in, entry_at, fails_at, gate_at, gate_in, is_bad_end_at, is_lone_at, is_outside, is_stop_entry, is_unit, is_unused_at, misses_start, or_inside, site_at, site_in, starts_at}
+use Rattle.cfi_scan.specs.Entries.{is_unit}
+use Rattle.cfi_verify.specs.Entries.{Tells, call_at, call_in, count_of, edge_at, edge_in, entry_at, fails_at, gate_at, gate_in, is_bad_end_at, is_lone_at, is_outside, is_stop_entry, is_unused_at, misses_start, or_inside, site_at, site_in, starts_at}
 use Rattle.cfi_verify.specs.Lines.{holds_of, line_at, class_of, is_among}
 use Rattle.cfi_verify.specs.Rules.{call_of, edge_of, fails, fails_prologue, is_astray, is_bad_end, is_call_to, is_edge_to, is_gate_with, is_lone_site, is_site_with, is_stop, is_unused, lacks_gate, prologue_word_fits, site_of}
 use Rattle.cfi_verify.specs.Split.{code_words, entry_of, is_handler, is_marked, is_start, place_at, starts, unit_at, unit_starts}

@@ -10,6 +10,7 @@ use Rattle.cfi_unit.specs.declared.unit.Unit.TheVariants as V
 use Rattle.cfi_unit.specs.Recognise.{led_to, near_to}
 use Rattle.cfi_scan.specs.declared.entry.Entry.{Entry}
 use Rattle.cfi_scan.specs.declared.entry.Entry.TheVariants as E
+use Rattle.cfi_scan.specs.Entries.{is_unit}
 use Rattle.cfi_scan.specs.Pieces.{Listed}
 use Rattle.cfi_scan.specs.Stream.{IsSplitUp}
 use Rattle.cfi_verify.specs.Lines.{holds_of, line_at, class_of, is_among}
@@ -33,11 +34,6 @@ or_inside (Some entry) = entry
 unfoldable pub entry_at : List Entry → ℕ → Entry
 entry_at entries a =
     if nat_le UNITS_START a && (a % 4 == 0) then or_inside (slice_get entries ((a - UNITS_START) / 4)) else E.Inside
-
--- a unit starts there
-abbrev pub is_unit : Entry → Bool
-is_unit E.Inside = false
-is_unit _ = true
 
 abbrev pub is_stop_entry : Entry → Bool
 is_stop_entry E.Stop = true

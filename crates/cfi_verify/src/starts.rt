@@ -3,7 +3,7 @@ ghost use Rattle.std.specs.Option.{option_copied};
 ghost use Rattle.rv_word.specs.Layout.{CODE_SIZE, UNITS_START, version_1};
 ghost use Rattle.cfi_graph.specs.Graph.{IsGraph, is_rising};
 ghost use Rattle.cfi_scan.specs.declared.entry.Entry.TheVariants as E;
-ghost use Rattle.cfi_verify.specs.Entries.{entry_at, is_unit, or_inside, starts_at};
+ghost use Rattle.cfi_verify.specs.Entries.{entry_at, or_inside, starts_at};
 ghost use Rattle.cfi_verify.specs.Lines.{class_of, line_at};
 ghost use Rattle.cfi_verify.specs.Scan.{AreStarts};
 ghost use Rattle.cfi_verify.specs.Split.{entry_of};
@@ -88,10 +88,15 @@ impl<'a> Starts<'a> {
     }
 
     /// Whether an address is the start of a unit.
+    #[tactic(auto, unfolding(crate::specs::Entries::entry_at), using(crate::proofs::Started::started))]
     pub(crate) fn is_start(&self, address: u64) -> bool
         ensures { result ≡ starts_at self.now.listing address }
     {
-        is_unit(self.entry_at(address))
+        if address >= UNITS_START && address % 4 == 0 {
+            self.listing.starts(((address - UNITS_START) / 4) as usize)
+        } else {
+            false
+        }
     }
 
     /// Where the opening's call leads.
@@ -129,10 +134,4 @@ fn or_inside(entry: Option<Entry>) -> Entry
         Some(entry) => entry,
         None => Entry::Inside,
     }
-}
-
-fn is_unit(entry: Entry) -> bool
-    ensures { result ≡ is_unit entry }
-{
-    !matches!(entry, Entry::Inside)
 }

@@ -1,4 +1,4 @@
-use Rattle.std.proofs.Common.{◌+◌, [], ◌∷◌, ◌++◌, rules, arith}
+use Rattle.std.proofs.Common.{[], ◌∷◌, ◌++◌, rules, arith}
 use Rattle.std.proofs.lemmas.List.{drop_all, length_push}
 use Rattle.cfi_scan.proofs.Pieces.{keeps_prologue}
 use Rattle.cfi_scan.proofs.kept.Kept.take.Goals as goal
