@@ -19,6 +19,7 @@ use rv_instr::{FenceWord, ImmediateOp, Instr, UpperOp};
 
 /// The instruction that a word is (RISC-V unprivileged ISA, "RV32/64G Instruction Set Listings",
 /// the rows of RV32I and RV64I); `None` where no row fits.
+#[inline(always)]
 pub fn decode(word: u32) -> Option<Instr>
     ensures value { result ≡ decoded word }
     ensures spelled { IfSome result (λ i. code_of i ≡ word) }
@@ -26,6 +27,7 @@ pub fn decode(word: u32) -> Option<Instr>
     by_opcode(word)
 }
 
+#[inline(always)]
 #[tactic(auto, unfolding(crate::specs::Decode::decoded))]
 fn by_opcode(word: u32) -> Option<Instr>
     ensures { result ≡ decoded word }
