@@ -9,7 +9,7 @@ use std::io;
 use std::io::{Read, Write};
 
 /// How many bytes one read asks for at most.
-const PIECE: usize = 4096;
+const PIECE: usize = 16_384;
 
 /// All that a reader gives until a read of 0 bytes, where that is at most `limit` bytes. Of every reader,
 /// also one that does not tell its bytes, at most `limit + 1` bytes are taken.
