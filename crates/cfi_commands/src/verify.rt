@@ -80,11 +80,13 @@ fn judge(alloc: Global, pair: &Pair<'_>) -> Result<Verdict, NoMemory>
     }
 }
 
-/// The verdict on the bytes of an image and of its graph.
-fn verdict_of(alloc: Global, image: &[u8], graph: &[u8]) -> Result<Verdict, NoMemory>
-    ensures { IfOk result (IsVerdictOf image.now graph.now) }
+/// The verdict on the bytes of an image and of its graph, whose text is let go once it is read.
+fn verdict_of(alloc: Global, image: &[u8], graph: Vec<u8>) -> Result<Verdict, NoMemory>
+    ensures { IfOk result (IsVerdictOf image.now graph.items) }
 {
-    match open_pair(alloc, image, graph) {
+    let opened = open_pair(alloc, image, &graph);
+    drop(graph);
+    match opened {
         Ok(pair) => judge(alloc, &pair),
         Err(OpenEnd::Refused(refusal)) => Ok(Verdict::Refused(refusal)),
         Err(OpenEnd::NoMemory) => Err(NoMemory),
@@ -104,6 +106,7 @@ pub fn verify_files<'a, F: Files>(
     ensures counted { CountsReads F.Files files.old files.new (IsFault result) (IsTooLong result) }
 {
     let names = [Some(request.image), Some(request.graph)];
-    let bytes = read_all(alloc, &names, files)?;
-    Ok(verdict_of(alloc, &bytes[0], &bytes[1])?)
+    let mut bytes = read_all(alloc, &names, files)?;
+    let graph = bytes.remove(1);
+    Ok(verdict_of(alloc, &bytes[0], graph)?)
 }
