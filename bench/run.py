@@ -1,5 +1,6 @@
 #!/usr/bin/env python3
-"""Times `rvcfi run` on a loop and on compiled programs, beside a plain interpreter of the same machine, and prints their ratios.
+"""Times `rvcfi run` on a loop and on compiled programs, beside a plain interpreter of the same machine, and prints their ratios;
+then the memory that a page of data takes which a program stores to.
 
     python3 bench/run.py [--program PATH] [--steps N] [--runs N]
 
@@ -24,12 +25,14 @@ REAL = os.path.join(HERE, "..", "tests", "real")
 sys.path.insert(0, REAL)
 
 import programs
-from images import CODE, OPENING, UNITS, addi, branch, image_file, jal, prologue, u_form
+from images import CODE, OPENING, PAGE, UNITS, addi, branch, i_form, image_file, jal, prologue, r_form, s_form, u_form
+from verify import peak_memory
 
 PROGRAM = os.path.join(HERE, "..", "crates", "rvcfi", "out", "rvcfi")
 MANY, FEW = u_form(0x37, 5, 0x10000), addi(5, 0, 100)  # the loop's count, put into x5
 USAGE, LIMIT = 2, 12  # statuses of rvcfi
 MOST_STEPS = 1000000000
+MOST_PAGES = 2001
 LEVEL = "-O2"
 ROW = "%-9s %10s   %9s %9s   %9s %9s   %6s %6s   %s"
 
@@ -99,14 +102,27 @@ def loop(count):
     return image_file(code, b""), "\n".join(lines).encode()
 
 
+def toucher(pages):
+    """An image that stores a byte into each of at most 2,047 pages of data and then exits with 7, and its graph."""
+    again = UNITS + 12
+    words = prologue(UNITS) + [u_form(0x37, 5, 0x100), u_form(0x37, 7, 1), addi(6, 0, pages)]
+    words += [addi(31, 5, 0), i_form(0x13, 1, 31, 31, 36), i_form(0x13, 5, 31, 31, 36), s_form(0, 31, 6, 0)]
+    words += [r_form(0x33, 0, 0, 5, 5, 7), addi(6, 6, -1), branch(0, 6, 0, 8), jal(0, again + 28, again)]
+    words += [addi(10, 0, 7), addi(17, 0, 93), 0x00000073, jal(0, UNITS + 56, CODE)]
+    code = struct.pack("<%dI" % len(words), *words)
+    lines = ["rvcfi-graph 1", "code %08x %08x" % (CODE, len(code)), "call %08x %08x" % (OPENING, UNITS),
+             "edge %08x %08x" % (again + 24, again), "end", ""]
+    return image_file(code, b""), "\n".join(lines).encode()
+
+
 def write(path, content):
     with open(path, "wb") as out:
         out.write(content)
     return path
 
 
-def write_loop(folder, name, count):
-    return [write(os.path.join(folder, name + end), content) for end, content in zip((".img", ".graph"), loop(count))]
+def write_pair(folder, name, pair):
+    return [write(os.path.join(folder, name + end), content) for end, content in zip((".img", ".graph"), pair)]
 
 
 def hardened(tool, compiler, program, folder):
@@ -195,6 +211,20 @@ def compiled_cases(tool, folder):
     return cases
 
 
+def print_memory(tool, folder):
+    """The peak memory of runs that store to one page and to many, and what each page more takes."""
+    peaks = []
+    for pages in (1, MOST_PAGES):
+        paths = write_pair(folder, "toucher%d" % pages, toucher(pages))
+        command = [tool, "run"] + paths + ["none", "none", "100000"]
+        if called(command, (0,))[2] != ["stop exit 7", "steps %d" % (10 + 3 + 8 * pages - 1 + 3)]:
+            sys.exit("the program that stores to %d pages took another end or number of steps" % pages)
+        peaks.append(peak_memory(command))
+    each = (peaks[1] - peaks[0]) / (MOST_PAGES - 1)
+    print("\npeak memory of a run that stores to 1 page: %d KiB, to %d pages: %d KiB; %.0f bytes for each page more, %.3f of a page" % (
+        peaks[0] // 1024, MOST_PAGES, peaks[1] // 1024, each, each / PAGE))
+
+
 def print_row(case, steps, least):
     rates = [steps / seconds for seconds in least[:2]]
     alone = [steps / (full - start) if full > start else float("nan") for full, start in zip(least[:2], least[2:])]
@@ -218,14 +248,15 @@ def main():
     with tempfile.TemporaryDirectory() as folder:
         pair = Pair(tool, build_interpreter(folder))
         # 10 steps of the opening, 1 for the count, 2 or 3 for each turn of the loop, 3 to the exit
-        short = Case("short", write_loop(folder, "short", FEW), "none", 1000, 0, 0)
+        short = Case("short", write_pair(folder, "short", loop(FEW)), "none", 1000, 0, 0)
         if pair.same(short, lambda output, stop: stop == "stop exit 7") != 10 + 1 + 3 * 100 - 1 + 3:
             sys.exit("the short loop took another number of steps than 313")
-        long = Case("loop", write_loop(folder, "long", MANY), "none", options.steps, LIMIT, 1.0)
+        long = Case("loop", write_pair(folder, "long", loop(MANY)), "none", options.steps, LIMIT, 1.0)
         cases = [(long, lambda output, stop: stop == "stop limit")] + compiled_cases(tool, folder)
         print(ROW % ("", "steps", "run ms", "other ms", "run M/s", "other M/s", "ratio", "alone", ""))
         for case, is_right in cases:
             print_row(case, pair.same(case, is_right), pair.times(case, options.runs))
+        print_memory(tool, folder)
 
 
 if __name__ == "__main__":
