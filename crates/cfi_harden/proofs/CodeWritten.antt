@@ -7,6 +7,7 @@ use Rattle.cfi_unit.specs.declared.unit.Unit as U
 use Rattle.cfi_unit.specs.declared.unit.Unit.TheVariants as V
 use Rattle.cfi_unit.specs.Prologue.{closing_instrs, prologue_instrs}
 use Rattle.cfi_unit.specs.UnitWords.{Fits, after_unit, word_count, words_of}
+use Rattle.cfi_unit.proofs.Counts.{some_word}
 use Rattle.cfi_unit.proofs.Found.{words_counted}
 use Rattle.cfi_verify.specs.Placed.{AllFit, code_from, placed_code}
 use Rattle.cfi_verify.specs.Split.{code_words}
@@ -30,20 +31,6 @@ pub record IsWritten (whole : List ℕ) (units : List U.Unit) (bytes : List ℕ)
   pub size : length bytes ≡ 4 * length (code_words bytes)
   pub fit : AllFit (CODE_START + length bytes) units
 
-some_words : (unit : U.Unit) → 0 < word_count unit
-some_words (V.Gate label) = omega arith
-some_words (V.Plain i) = omega arith
-some_words (V.Branch op rs1 rs2 target) = omega arith
-some_words (V.Near op rs1 rs2 target) = omega arith
-some_words (V.Jump target) = omega arith
-some_words V.Stop = omega arith
-some_words (V.System op) = omega arith
-some_words (V.Store op rs1 rs2 imm) = omega arith
-some_words (V.Call target) = omega arith
-some_words (V.Ijump rs1 imm label) = omega arith
-some_words (V.Icall rs1 imm label) = omega arith
-some_words V.Return = omega arith
-
 -- the first of the units that are left
 pub next_is : (units : List U.Unit) (i : ℕ) (unit : U.Unit) → i < length units → get_or units i unit ≡ unit → drop i units ≡ unit ∷ drop (i + 1) units
 next_is units i unit below is =
@@ -61,7 +48,7 @@ module _ (whole : List ℕ) (unit : U.Unit) (rest : List U.Unit) (bytes : List �
       let at = CODE_START + length bytes in
       let after = code_from (after_unit unit (CODE_START + length bytes)) rest in
       let words = ap length written.words in
-      let some = some_words unit in
+      let some = some_word unit in
       let size = written.size in
       omega (
         arith,

@@ -13,7 +13,7 @@ use Rattle.cfi_unit.specs.declared.unit.Unit as U
 use Rattle.cfi_unit.specs.declared.unit.Unit.TheVariants as V
 use Rattle.cfi_unit.specs.UnitWords.{word_count}
 use Rattle.cfi_verify.specs.Split.{unit_in}
-use Rattle.cfi_verify.proofs.Marks.{some_word}
+use Rattle.cfi_unit.proofs.Counts.{some_word}
 use Rattle.cfi_verify.proofs.UnitIn.{in_here, in_later, in_past}
 use Rattle.cfi_harden.specs.Units.{Choice, unit_for, units_from, with_gate}
 

@@ -22,7 +22,7 @@ use Rattle.cfi_unit.specs.declared.unit.Unit.TheVariants as V
 use Rattle.cfi_unit.specs.UnitWords.{word_count}
 use Rattle.cfi_verify.specs.Sound.{StartsIn}
 use Rattle.cfi_verify.specs.Split.{unit_in}
-use Rattle.cfi_verify.proofs.Marks.{some_word}
+use Rattle.cfi_unit.proofs.Counts.{some_word}
 use Rattle.cfi_verify.proofs.UnitIn.{length-placed_code, lies}
 use Rattle.cfi_harden.specs.Accepted.{IsAccepted}
 use Rattle.cfi_harden.specs.Units.{Choice, entry_gate, instr_of, unit_for, units}

@@ -20,7 +20,7 @@ use Rattle.cfi_verify.specs.Placed.{line_of, lines_from, with_line}
 use Rattle.cfi_verify.specs.Split.{unit_at, unit_in}
 use Rattle.cfi_verify.proofs.PlacedCode.{placed_entry, placed_units, placed_well_formed}
 use Rattle.cfi_verify.proofs.PlacedGraph.{placed_is_graph}
-use Rattle.cfi_verify.proofs.Marks.{some_word}
+use Rattle.cfi_unit.proofs.Counts.{some_word}
 use Rattle.cfi_verify.proofs.UnitIn.{length-placed_code, lies}
 use Rattle.cfi_harden.specs.Accepted.{IsAccepted}
 use Rattle.cfi_harden.specs.Laws.{WrittenEntry, WrittenIsGraph, WrittenIsWellFormed, WrittenLines, WrittenUnits, written_classes, written_code}

@@ -6,8 +6,7 @@ use Rattle.rv_word.specs.Memory.{Memory, loaded}
 use Rattle.rv_instr.specs.Registers.{cleared}
 use Rattle.rv_code.specs.State.{After}
 use Rattle.cfi_unit.specs.declared.unit.Unit as U
-use Rattle.cfi_unit.specs.declared.unit.Unit.TheVariants as V
-use Rattle.cfi_unit.specs.UnitWords.{word_count}
+use Rattle.cfi_unit.proofs.Counts.{most_words}
 use Rattle.cfi_runs.specs.MatchLaws.{ComesTo}
 use Rattle.cfi_runs.specs.Matching.{MatchesAfter}
 use Rattle.cfi_runs.specs.Own.{Own, own_closing, own_start, own_step}
@@ -21,20 +20,6 @@ use Rattle.cfi_kept.specs.PlaceSteps.{PlacesRun, at_word, place_step}
 use Rattle.cfi_kept.specs.PlacesKept.{KeepsPlaces, bound}
 use Rattle.cfi_kept.proofs.Places.{place_runs}
 use Rattle.cfi_kept.proofs.Prologue.{written_prologue}
-
-few_words : (unit : U.Unit) → word_count unit ≤ 20
-few_words (V.Gate label) = omega arith
-few_words (V.Plain instr) = omega arith
-few_words (V.Branch op rs1 rs2 target) = omega arith
-few_words (V.Near op rs1 rs2 target) = omega arith
-few_words (V.Jump target) = omega arith
-few_words V.Stop = omega arith
-few_words (V.System op) = omega arith
-few_words (V.Store op rs1 rs2 imm) = omega arith
-few_words (V.Call target) = omega arith
-few_words (V.Ijump rs1 imm label) = omega arith
-few_words (V.Icall rs1 imm label) = omega arith
-few_words V.Return = omega arith
 
 -- one path, then another
 paths_join : (image : Memory) (path more : List U.Unit) (o middle last : Own) → OwnRuns version_1 image path o middle → OwnRuns version_1 image more middle last →
@@ -62,7 +47,7 @@ walked m image (k ∷ places) o last of on =
     let path = here.path ++ unit_here m k ∷ rest.path in
     let counted = words_join here.path (unit_here m k ∷ rest.path) in
     let one = here.few in
-    let some = few_words (unit_here m k) in
+    let some = most_words (unit_here m k) in
     let others = rest.few in
     record {
       path = here.path ++ unit_here m k ∷ rest.path;
@@ -87,7 +72,7 @@ places_kept m image input places o of on =
           let joined = paths_join (loaded image) walk.path here.path first o (at_word m k o) walk.leads here.leads in
           let counted = words_join walk.path here.path in
           let one = here.few in
-          let some = few_words (unit_here m k) in
+          let some = most_words (unit_here m k) in
           let then = run_keeps_match version_1 image input (entry_gate m) (walk.path ++ here.path) (at_word m k o) has joined in
           more_steps image input _ (bound (length places + 1)) (MatchesAfter SHADOW_START (loaded image) (loaded image) (place_step m k o)) (omega arith) (then.next (unit_here m k) here.step);
       closes = λ end. more_steps image input _ (bound (length places)) (MatchesAfter SHADOW_START (loaded image) (loaded image) (own_closing version_1 o)) (omega arith) (kept.closes end);

@@ -2,27 +2,13 @@
 use Rattle.std.proofs.Common.{◌≡◌, ℕ, zero, suc, ◌+◌, ◌-◌, ◌*◌, ◌≤◌, IsTrue, List, [], ◌∷◌, ◌++◌, length, replicate, slice_set, arith, refl, ap, ap₂, sym, subst, ◌∙◌, append_assoc, append-nil, length-append}
 use Rattle.std.proofs.lemmas.List.{set-append_right}
 use Rattle.cfi_unit.specs.declared.unit.Unit as U
-use Rattle.cfi_unit.specs.declared.unit.Unit.TheVariants as V
 use Rattle.cfi_unit.specs.UnitWords.{Fits, after_unit, may_precede, word_count, words_of}
+use Rattle.cfi_unit.proofs.Counts.{some_word}
 use Rattle.cfi_unit.proofs.Found.{words_counted}
 use Rattle.cfi_scan.specs.declared.entry.Entry.{Entry}
 use Rattle.cfi_scan.specs.declared.entry.Entry.TheVariants as E
 use Rattle.cfi_scan.specs.Entries.{entries_of, entry_of, inside}
 use Rattle.cfi_scan.specs.Stream.{AllStand, last_of, spelled, width}
-
-pub count_some : (unit : U.Unit) → 1 ≤ word_count unit
-count_some (V.Gate label) = omega arith
-count_some (V.Plain instr) = omega arith
-count_some (V.Branch op rs1 rs2 target) = omega arith
-count_some (V.Near op rs1 rs2 target) = omega arith
-count_some (V.Jump target) = omega arith
-count_some V.Stop = omega arith
-count_some (V.System op) = omega arith
-count_some (V.Store op rs1 rs2 imm) = omega arith
-count_some (V.Call target) = omega arith
-count_some (V.Ijump rs1 imm label) = omega arith
-count_some (V.Icall rs1 imm label) = omega arith
-count_some V.Return = omega arith
 
 -- where the units after the first of them end
 after_first : (unit : U.Unit) (units : List U.Unit) (at : ℕ) → after_unit unit at + 4 * width units ≡ at + 4 * width (unit ∷ units)
@@ -80,7 +66,7 @@ unit_entries unit at = entry_of unit at ∷ inside (word_count unit - 1)
 unit_entries_length : (unit : U.Unit) (at : ℕ) → length (unit_entries unit at) ≡ word_count unit
 unfolding unit_entries
 unit_entries_length unit at =
-    let some : 1 ≤ word_count unit = count_some unit in
+    let some : 1 ≤ word_count unit = some_word unit in
     let whole : suc (word_count unit - 1) ≡ word_count unit = omega arith in
     ap suc (inside_length (word_count unit - 1)) ∙ whole
 
@@ -131,7 +117,7 @@ pub entries_set : (units : List U.Unit) (unit : U.Unit) (at room : ℕ) → word
 unfolding inside unit_entries
 entries_set units unit at room fits =
     let here : ℕ = at + 4 * width units in
-    let some : 1 ≤ word_count unit = count_some unit in
+    let some : 1 ≤ word_count unit = some_word unit in
     let parts : room ≡ suc (word_count unit - 1 + (room - word_count unit)) = omega arith in
     let none : width units - width units ≡ 0 = omega arith in
     let free : inside room ≡ E.Inside ∷ (inside (word_count unit - 1) ++ inside (room - word_count unit)) =

@@ -1,4 +1,5 @@
 pub mod Stand
+pub mod Counts
 pub mod Found
 pub mod Told
 pub mod Splits

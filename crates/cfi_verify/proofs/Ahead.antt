@@ -17,7 +17,7 @@ use Rattle.cfi_unit.proofs.Found.{found, words_counted}
 use Rattle.cfi_unit.proofs.Splits.{precedes_nothing}
 use Rattle.cfi_verify.specs.Placed.{AllAhead, AllFit, code_from}
 use Rattle.cfi_verify.specs.Split.{unit_in}
-use Rattle.cfi_verify.proofs.Marks.{some_word}
+use Rattle.cfi_unit.proofs.Counts.{some_word}
 use Rattle.cfi_verify.proofs.UnitIn.{in_here, in_past}
 
 -- a unit whose first word is `jal x0`

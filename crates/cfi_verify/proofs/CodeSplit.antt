@@ -10,7 +10,8 @@ use Rattle.cfi_unit.specs.UnitWords.{word_count}
 use Rattle.cfi_verify.specs.Laws.{CodeIsSplit}
 use Rattle.cfi_verify.specs.Split.{code_words, starts, is_start, unit_at, unit_in}
 use Rattle.cfi_verify.proofs.Find.{IsWhole, UnitHere, start_at, no_start_below, no_unit, unit_here}
-use Rattle.cfi_verify.proofs.Marks.{first_marked, some_word}
+use Rattle.cfi_unit.proofs.Counts.{some_word}
+use Rattle.cfi_verify.proofs.Marks.{first_marked}
 use Rattle.cfi_verify.proofs.Places.{is_whole}
 use Rattle.cfi_verify.proofs.UnitIn.{in_here, in_later, in_none}
 

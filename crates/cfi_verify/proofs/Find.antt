@@ -11,7 +11,8 @@ use Rattle.cfi_unit.specs.Laws.{AreWords}
 use Rattle.cfi_unit.specs.Recognise.{recognised}
 use Rattle.cfi_unit.specs.UnitWords.{word_count, Begins}
 use Rattle.cfi_unit.proofs.Told.{recognised_begins}
-use Rattle.cfi_verify.proofs.Marks.{Marked, marked, covered, some_word}
+use Rattle.cfi_unit.proofs.Counts.{some_word}
+use Rattle.cfi_verify.proofs.Marks.{Marked, marked, covered}
 use Rattle.cfi_verify.specs.Split.{starts, unit_words, unit_starts, is_marked, is_start, unit_at}
 
 -- the words are such, and the split reaches their end

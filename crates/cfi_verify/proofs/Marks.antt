@@ -6,28 +6,13 @@ use Rattle.std.proofs.lemmas.List.{length-take, drop-drop}
 use Rattle.std.proofs.lemmas.List.Elements.{All-drop}
 use Rattle.rv_word.proofs.Cases.{cases_Option}
 use Rattle.cfi_unit.specs.declared.unit.Unit as U
-use Rattle.cfi_unit.specs.declared.unit.Unit.TheVariants as V
 use Rattle.cfi_unit.specs.Laws.{AreWords}
 use Rattle.cfi_unit.specs.Recognise.{recognised}
 use Rattle.cfi_unit.specs.UnitWords.{Begins, word_count}
+use Rattle.cfi_unit.proofs.Counts.{some_word}
 use Rattle.cfi_unit.proofs.Found.{words_counted}
 use Rattle.cfi_unit.proofs.Told.{recognised_begins}
 use Rattle.cfi_verify.specs.Split.{starts}
-
--- every unit has a word
-pub some_word : (u : U.Unit) → 1 ≤ word_count u
-some_word (V.Gate label) = lit≤ tt
-some_word (V.Plain instr) = lit≤ tt
-some_word (V.Branch op rs1 rs2 target) = lit≤ tt
-some_word (V.Near op rs1 rs2 target) = lit≤ tt
-some_word (V.Jump target) = lit≤ tt
-some_word V.Stop = lit≤ tt
-some_word (V.System op) = lit≤ tt
-some_word (V.Store op rs1 rs2 imm) = lit≤ tt
-some_word (V.Call target) = lit≤ tt
-some_word (V.Ijump rs1 imm label) = lit≤ tt
-some_word (V.Icall rs1 imm label) = lit≤ tt
-some_word V.Return = lit≤ tt
 
 -- words that belong to a unit that began before bear no mark, and the marks go on after them
 pub mark_inside : (k : ℕ) (ws : List ℕ) (at : ℕ) → k ≤ length ws → (j : ℕ) → j < k → slice_get (starts k ws at) j ≡ Some false

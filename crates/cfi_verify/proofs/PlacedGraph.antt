@@ -24,7 +24,7 @@ use Rattle.cfi_verify.specs.Placed.{line_of, lines_from, placed_code, placed_lin
 use Rattle.cfi_verify.specs.Rules.{site_of}
 use Rattle.cfi_verify.specs.Sound.{IsSound, StartsIn, target_of}
 use Rattle.cfi_verify.specs.Split.{unit_in}
-use Rattle.cfi_verify.proofs.Marks.{some_word}
+use Rattle.cfi_unit.proofs.Counts.{some_word}
 use Rattle.cfi_verify.proofs.UnitIn.{in_here, in_past, length-placed_code, lies}
 
 -- what holds of each unit's line holds of all lines

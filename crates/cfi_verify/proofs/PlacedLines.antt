@@ -13,7 +13,7 @@ use Rattle.cfi_verify.specs.Lines.{class_of, is_among, line_at, or_targets}
 use Rattle.cfi_verify.specs.Placed.{line_of, lines_from, with_line}
 use Rattle.cfi_verify.specs.Rules.{is_gate_with, lacks_gate}
 use Rattle.cfi_verify.specs.Split.{unit_in}
-use Rattle.cfi_verify.proofs.Marks.{some_word}
+use Rattle.cfi_unit.proofs.Counts.{some_word}
 use Rattle.cfi_verify.proofs.UnitIn.{in_here, in_later, in_none}
 
 line_here : (u : U.Unit) (at : ℕ) (rest : List GraphLine) → line_at rest at ≡ None → line_at (with_line (line_of at u) rest) at ≡ line_of at u

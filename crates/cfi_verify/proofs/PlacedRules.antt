@@ -24,7 +24,7 @@ use Rattle.cfi_verify.specs.Sound.{IsSound, StartsIn, target_of}
 use Rattle.cfi_verify.specs.Split.{entry_of, is_handler, is_start, place_at, unit_at, unit_in, unit_starts, unit_words}
 use Rattle.cfi_verify.specs.declared.reject.Rule.{Rule}
 use Rattle.cfi_verify.specs.declared.reject.Rule.TheVariants as R
-use Rattle.cfi_verify.proofs.Marks.{some_word}
+use Rattle.cfi_unit.proofs.Counts.{some_word}
 use Rattle.cfi_verify.proofs.PlacedLines.{class_before, gates_stand, line_in, line_past, no_class, none_lacks}
 use Rattle.cfi_verify.proofs.Places.{not_handler}
 use Rattle.cfi_verify.proofs.PlacedSplit.{reaches_end, start_is, unit_is}

@@ -13,7 +13,8 @@ use Rattle.cfi_unit.specs.UnitWords.{Begins, word_count, words_of}
 use Rattle.cfi_unit.proofs.Found.{begins, begins_recognised, words_counted}
 use Rattle.cfi_verify.specs.Placed.{AllAhead, AllFit, code_from}
 use Rattle.cfi_verify.specs.Split.{is_marked, is_start, starts, unit_at, unit_in, unit_words}
-use Rattle.cfi_verify.proofs.Marks.{begins_room, head_after, head_inner, head_length, head_mark, none_in_none, some_word}
+use Rattle.cfi_unit.proofs.Counts.{some_word}
+use Rattle.cfi_verify.proofs.Marks.{begins_room, head_after, head_inner, head_length, head_mark, none_in_none}
 use Rattle.cfi_verify.proofs.UnitIn.{in_here, in_later, in_none, lies}
 
 pub placed_split : (us : List U.Unit) (at : ℕ) → AllFit at us → AllAhead at us → IsSplit (code_from at us) at us

@@ -29,7 +29,7 @@ use Rattle.cfi_verify.specs.declared.reject.Rule.TheVariants as R
 use Rattle.cfi_verify.proofs.Cut.{cut_count, cut_is}
 use Rattle.cfi_verify.proofs.Find.{no_start_below, no_start_odd, no_unit}
 use Rattle.cfi_verify.proofs.Lookup.{Looks, lookup, lookup_count}
-use Rattle.cfi_verify.proofs.Marks.{some_word}
+use Rattle.cfi_unit.proofs.Counts.{some_word}
 use Rattle.cfi_verify.proofs.InUnits.{length-starts}
 
 -- no unit starts at an address, and its entry says so

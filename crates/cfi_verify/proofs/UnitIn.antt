@@ -10,7 +10,7 @@ use Rattle.cfi_unit.specs.UnitWords.{word_count, words_of}
 use Rattle.cfi_unit.proofs.Found.{words_counted}
 use Rattle.cfi_verify.specs.Placed.{code_from, placed_code}
 use Rattle.cfi_verify.specs.Split.{unit_in}
-use Rattle.cfi_verify.proofs.Marks.{some_word}
+use Rattle.cfi_unit.proofs.Counts.{some_word}
 
 pub in_here : (u : U.Unit) (us : List U.Unit) (at : ℕ) → unit_in (u ∷ us) at at ≡ Some u
 unfolding unit_in

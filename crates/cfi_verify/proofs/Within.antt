@@ -9,23 +9,9 @@ use Rattle.cfi_unit.specs.declared.unit.Unit.TheVariants as V
 use Rattle.cfi_unit.specs.Laws.{AreWords}
 use Rattle.cfi_unit.specs.Recognise.{recognised}
 use Rattle.cfi_unit.specs.UnitWords.{Begins, instr_at, may_precede, near_offset, skips_jump, word_count}
+use Rattle.cfi_unit.proofs.Counts.{most_words}
 use Rattle.cfi_unit.proofs.Found.{begins_recognised}
 use Rattle.cfi_unit.proofs.Told.{recognised_begins}
-
--- the longest unit has twenty words
-most_words : (u : U.Unit) → word_count u ≤ 20
-most_words (V.Gate label) = omega arith
-most_words (V.Plain i) = omega arith
-most_words (V.Branch op rs1 rs2 target) = omega arith
-most_words (V.Near op rs1 rs2 target) = omega arith
-most_words (V.Jump target) = omega arith
-most_words V.Stop = omega arith
-most_words (V.System op) = omega arith
-most_words (V.Store op rs1 rs2 imm) = omega arith
-most_words (V.Call target) = omega arith
-most_words (V.Ijump rs1 imm label) = omega arith
-most_words (V.Icall rs1 imm label) = omega arith
-most_words V.Return = omega arith
 
 take_less : (n m : ℕ) (xs : List ℕ) → n ≤ m → take n (take m xs) ≡ take n xs
 take_less zero m xs below = refl
