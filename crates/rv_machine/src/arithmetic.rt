@@ -73,6 +73,7 @@ pub(crate) fn immediate(op: ImmediateOp, a: u64, i: u64) -> u64
 }
 
 /// A computation on two registers.
+#[inline(always)]
 pub(crate) fn register(op: RegisterOp, a: u64, b: u64) -> u64
     ensures { result ≡ register_result op a b }
 {

@@ -142,6 +142,7 @@ impl Machine {
     /// answers it again. A refusal leaves all as it was, and comes from a store into data or shadow
     /// whose pages were not all made, or from a system call alone. Pages that were made stay so.
     #[tactic(auto, unfolding(rv_code::specs::Step::step))]
+    #[inline(always)]
     pub fn step(&mut self) -> Result<Turn, NoMemory>
         ensures stepped { IfOk result (λ turn. after_step self.new turn ≡ step version_1 (hart_in self.old) (shared_in self.old)) }
         ensures hart { OnErr result (hart_in self.new ≡ hart_in self.old) }
@@ -164,6 +165,7 @@ impl Machine {
     }
 
     /// The status with which the run has ended, if it has.
+    #[inline(always)]
     fn ended(&self) -> Option<u8>
         ensures { result ≡ last_exit (shared_in self.now).events }
     {
@@ -171,6 +173,7 @@ impl Machine {
     }
 
     /// The instruction that stands at an address, if its word is one.
+    #[inline(always)]
     fn fetch(&self, pc: u64) -> Option<Instr>
         requires { can_fetch pc ≡ true }
         ensures { result ≡ decoded (read 4 (shared_in self.now).memory pc) }
@@ -206,6 +209,7 @@ impl Machine {
     /// Executes an instruction as if it stood at the pc, whatever memory holds there and whether or
     /// not the run has ended. A refusal leaves all as it was. The bound on the pc lets the next
     /// instruction's address be a number of 64 bits; every pc in code is below it.
+    #[inline(always)]
     pub fn execute(&mut self, instr: &Instr) -> Result<Turn, NoMemory>
         requires { self.old.pc < 2 ^ 63 }
         ensures executed { IfOk result (λ turn. after_step self.new turn ≡ exec version_1 instr.now (hart_in self.old) (shared_in self.old)) }
@@ -237,6 +241,7 @@ impl Machine {
     }
 
     /// Puts a value into a register; the next instruction is next.
+    #[inline(always)]
     fn put(&mut self, rd: Reg, value: u64)
         requires { self.old.pc < 2 ^ 63 }
         ensures executed { after_step self.new Turn.Ran ≡ puts (hart_in self.old) (shared_in self.old) rd value }
@@ -247,6 +252,7 @@ impl Machine {
     }
 
     /// Goes to an address, and links to the next instruction.
+    #[inline(always)]
     fn link(&mut self, rd: Reg, target: u64)
         requires { self.old.pc < 2 ^ 63 }
         ensures executed { after_step self.new Turn.Ran ≡ ran target (set_reg (hart_in self.old).regs rd (self.old.pc + 4)) (shared_in self.old) }
@@ -257,12 +263,14 @@ impl Machine {
     }
 
     /// The address in a register and an offset.
+    #[inline(always)]
     fn address_of(&self, rs1: Reg, imm: Immediate<12>) -> u64
         ensures { result ≡ address (hart_in self.now) rs1 imm }
     {
         self.reg(rs1).wrapping_add(arithmetic::immediate_value(imm))
     }
 
+    #[inline(always)]
     fn upper(&mut self, op: UpperOp, rd: Reg, imm: Immediate<20>) -> Turn
         requires { self.old.pc < 2 ^ 63 }
         ensures executed { after_step self.new result ≡ exec version_1 (Instr.Upper op rd imm) (hart_in self.old) (shared_in self.old) }
@@ -276,6 +284,7 @@ impl Machine {
         Turn::Ran
     }
 
+    #[inline(always)]
     fn jump(&mut self, rd: Reg, imm: Immediate<20>) -> Turn
         requires { self.old.pc < 2 ^ 63 }
         ensures executed { after_step self.new result ≡ exec version_1 (Instr.Jal rd imm) (hart_in self.old) (shared_in self.old) }
@@ -286,6 +295,7 @@ impl Machine {
         Turn::Ran
     }
 
+    #[inline(always)]
     fn jump_register(&mut self, rd: Reg, rs1: Reg, imm: Immediate<12>) -> Turn
         requires { self.old.pc < 2 ^ 63 }
         ensures executed { after_step self.new result ≡ exec version_1 (Instr.Jalr rd rs1 imm) (hart_in self.old) (shared_in self.old) }
@@ -296,6 +306,7 @@ impl Machine {
         Turn::Ran
     }
 
+    #[inline(always)]
     fn branch(&mut self, op: BranchOp, rs1: Reg, rs2: Reg, imm: Immediate<12>) -> Turn
         requires { self.old.pc < 2 ^ 63 }
         ensures executed { after_step self.new result ≡ exec version_1 (Instr.Branch op rs1 rs2 imm) (hart_in self.old) (shared_in self.old) }
@@ -311,6 +322,7 @@ impl Machine {
         Turn::Ran
     }
 
+    #[inline(always)]
     fn load(&mut self, op: LoadOp, rd: Reg, rs1: Reg, imm: Immediate<12>) -> Turn
         requires { self.old.pc < 2 ^ 63 }
         ensures executed { after_step self.new result ≡ exec version_1 (Instr.Load op rd rs1 imm) (hart_in self.old) (shared_in self.old) }
@@ -326,6 +338,7 @@ impl Machine {
         }
     }
 
+    #[inline(always)]
     fn store(
         &mut self,
         op: StoreOp,
@@ -373,6 +386,7 @@ impl Machine {
         }
     }
 
+    #[inline(always)]
     fn immediate(&mut self, op: ImmediateOp, rd: Reg, rs1: Reg, imm: Immediate<12>) -> Turn
         requires { self.old.pc < 2 ^ 63 }
         ensures executed { after_step self.new result ≡ exec version_1 (Instr.Immediate op rd rs1 imm) (hart_in self.old) (shared_in self.old) }
@@ -385,6 +399,7 @@ impl Machine {
         Turn::Ran
     }
 
+    #[inline(always)]
     fn shift(&mut self, op: ShiftOp, rd: Reg, rs1: Reg, amount: Immediate<6>) -> Turn
         requires { self.old.pc < 2 ^ 63 }
         ensures executed { after_step self.new result ≡ exec version_1 (Instr.Shift op rd rs1 amount) (hart_in self.old) (shared_in self.old) }
@@ -394,6 +409,7 @@ impl Machine {
         Turn::Ran
     }
 
+    #[inline(always)]
     fn shift_word(&mut self, op: ShiftWordOp, rd: Reg, rs1: Reg, amount: Immediate<5>) -> Turn
         requires { self.old.pc < 2 ^ 63 }
         ensures executed { after_step self.new result ≡ exec version_1 (Instr.ShiftWord op rd rs1 amount) (hart_in self.old) (shared_in self.old) }
@@ -403,6 +419,7 @@ impl Machine {
         Turn::Ran
     }
 
+    #[inline(always)]
     fn register(&mut self, op: RegisterOp, rd: Reg, rs1: Reg, rs2: Reg) -> Turn
         requires { self.old.pc < 2 ^ 63 }
         ensures executed { after_step self.new result ≡ exec version_1 (Instr.Register op rd rs1 rs2) (hart_in self.old) (shared_in self.old) }

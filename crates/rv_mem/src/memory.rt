@@ -132,6 +132,7 @@ impl Memory {
 
     /// Writes the low `n` bytes of `value`, the lowest first. A write into data or shadow may want
     /// memory, unless its pages were made.
+    #[inline(always)]
     pub fn write(&mut self, addr: u64, n: u8, value: u64) -> Result<(), WriteRefusal>
         requires { IsAccessSize n }
         ensures written { OnOk result (memory_of self.new ≡ write n (memory_of self.old) addr value) }
@@ -182,6 +183,7 @@ impl Memory {
     }
 
     /// The number in the `n` bytes from `addr` on, the lowest byte first.
+    #[inline(always)]
     pub fn read(&self, addr: u64, n: u8) -> Result<u64, LoadFault>
         requires { IsAccessSize n }
         ensures value { IfOk result (λ value. value ≡ read n (memory_of self.now) addr) }
