@@ -13,7 +13,7 @@ and its own number, so `--seed TEXT --case NUMBER` is that case again, by the sa
 - it changes, makes and removes no file but the three of a `rewrite` that ends with status 0 or 4;
 - it takes at most a second of a processor, or one for each 64 KiB that it reads, prints or writes;
 - its memory is at most 64 times what it reads, prints and writes, beside what each call has: the pages of the program and of the
-  C library, and 160 KiB; for `run` also 1,088 KiB, a machine's code and shadow stack, for `compare` those of two;
+  C library, and 176 KiB; for `run` also 320 KiB, a machine's table of pages and the first of them, for `compare` those of two;
 - what `rewrite` makes, `verify` accepts, `compare` takes and never says `differs` of, and `run` runs; and `run` says of a pair
   that is refused or rejected just what `verify` says.
 
