@@ -20,8 +20,11 @@ class Failed(Exception):
 
 
 def written_by(words, call):
-    """The names of the files that a call may write."""
-    return set(words[4:7]) if words[:1] == [b"rewrite"] and call.status in (0, 4) else set()
+    """The names of the files that a call may write; the first `--` is none of its words."""
+    named = list(words)
+    if b"--" in named:
+        named.remove(b"--")
+    return set(named[4:7]) if named[:1] == [b"rewrite"] and call.status in (0, 4) else set()
 
 
 def beyond(words, call):
