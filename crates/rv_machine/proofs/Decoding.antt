@@ -23,6 +23,7 @@ use Rattle.rv_machine.specs.Code.{IsCodeOf}
 -- code is the same as long as nothing writes its region
 pub code_kept : (instrs : List (Option Instr)) (m m' : Memory) → SameOn CODE_START (CODE_START + CODE_SIZE) m m' → IsCodeOf instrs m → IsCodeOf instrs m'
 code_kept instrs m m' same is = record {
+  within = is.within;
   each = λ k low. is.each k low ∙ ap decoded (sym (read_same 4 m m' (CODE_START + 4 * k) (λ j from to. same j (omega arith) (omega arith))));
 }
 
@@ -64,14 +65,16 @@ no_instr m a zero = rw (read_same 4 zeros m a zero) refl
 -- without code, code holds zeros
 pub code_none : (init : List ℕ) (m : Memory) → DATA_START + length init ≤ DATA_END → m ≡ placed zeros DATA_START init → IsCodeOf [] m
 code_none init m fits e = record {
+  within = omega arith;
   each = λ k low. sym (no_instr m (CODE_START + 4 * k) (λ j from to. ap (λ (w : Memory). w j) e ∙ placed_outside zeros DATA_START init j (inr (omega arith))));
 }
 
 -- the code of an image, with zeros past it
-pub code_loaded : (image : Contents) (m : Memory) (instrs : List (Option Instr)) (n : ℕ) → m ≡ loaded image → 4 * n ≡ length image.code → DATA_START + length image.init ≤ DATA_END → length instrs ≡ n →
+pub code_loaded : (image : Contents) (m : Memory) (instrs : List (Option Instr)) (n : ℕ) → m ≡ loaded image → 4 * n ≡ length image.code → length image.code ≤ CODE_SIZE → DATA_START + length image.init ≤ DATA_END → length instrs ≡ n →
     ((k : ℕ) → k < n → slice_get instrs k ≡ Some (decoded (read 4 m (CODE_START + 4 * k)))) → IsCodeOf instrs m
 unfolding loaded
-code_loaded image m instrs n e whole fits count is = record {
+code_loaded image m instrs n e whole room fits count is = record {
+  within = omega arith;
   each = λ k low. elim (cases_lt k n) [
     | inl inside ↦ ap (option_and_then (λ instr. instr)) (is k inside)
     | inr past ↦ ap (option_and_then (λ instr. instr)) (slice_get_past instrs k (omega arith)) ∙ sym (no_instr m (CODE_START + 4 * k) (beyond k past))

@@ -1,6 +1,6 @@
 -- The instructions of code, each word decoded before the run. Nothing writes code, so they stay those of memory.
 -- Only private contracts cite this.
-use Rattle.std.specs.Prelude.{◌≡◌, ℕ, ◌+◌, ◌*◌, ◌<◌, List, Option, slice_get, option_and_then}
+use Rattle.std.specs.Prelude.{◌≡◌, ℕ, ◌+◌, ◌*◌, ◌<◌, ◌≤◌, List, Option, length, slice_get, option_and_then}
 use Rattle.rv_word.specs.Layout.{CODE_START, CODE_SIZE}
 use Rattle.rv_word.specs.Memory.{Memory, read}
 use Rattle.rv_instr.specs.declared.instr.Instr.{Instr}
@@ -12,8 +12,9 @@ use Rattle.rv_code.specs.declared.event.Event.{Event}
 abbrev pub instr_in : List (Option Instr) → ℕ → Option Instr
 instr_in instrs k = option_and_then (λ instr. instr) (slice_get instrs k)
 
--- at each word of code memory holds the word of the instruction that is kept of it
+-- at each word of code memory holds the word of the instruction that is kept of it, and no more are kept
 pub record IsCodeOf (instrs : List (Option Instr)) (m : Memory) : Type 0 where
+  pub within : 4 * length instrs ≤ CODE_SIZE
   pub each : (k : ℕ) → 4 * k < CODE_SIZE → instr_in instrs k ≡ decoded (read 4 m (CODE_START + 4 * k))
 
 -- what a machine keeps beside its memory and its calls, so that a step need not ask them: its code, and the

@@ -30,12 +30,7 @@ pub(crate) fn word(value: u64) -> u64
 pub(crate) fn immediate_value(imm: Immediate<12>) -> u64
     ensures { result ≡ offset 12 imm }
 {
-    let bits = u64::from(imm.bits());
-    if bits < 0x800 {
-        bits
-    } else {
-        bits.wrapping_sub(0x1000)
-    }
+    (u64::from(imm.bits()) ^ 0x800).wrapping_sub(0x800)
 }
 
 /// How many bytes a branch goes on.

@@ -1,4 +1,4 @@
-ghost use Rattle.std.specs.Prelude.{◌≡◌, ◌+◌, ◌*◌, ◌/◌, ◌<◌, ◌≤◌, ◌^◌, [], ◌∷◌, length, true, IfOk, OnOk, OnErr, IsTrue};
+ghost use Rattle.std.specs.Prelude.{◌≡◌, ◌+◌, ◌*◌, ◌/◌, ◌<◌, ◌≤◌, ◌^◌, [], ◌∷◌, length, true, IfOk, IsSome, OnOk, OnErr, IsTrue};
 ghost use Rattle.rv_word.specs.Layout.{can_store, version_1, DATA_START, DATA_END};
 ghost use Rattle.rv_word.specs.Memory.{placed, read, zeros};
 ghost use Rattle.rv_instr.specs.Registers.{get_reg, set_reg};
@@ -155,12 +155,10 @@ impl Machine {
             return Ok(Turn::Exit(status));
         }
         let pc = self.pc();
-        if !is_place(pc) {
-            return Ok(Turn::FetchFault(pc));
-        }
         match self.fetch(pc) {
             Some(instr) => self.execute(&instr),
-            None => Ok(Turn::Illegal(pc)),
+            None if is_place(pc) => Ok(Turn::Illegal(pc)),
+            None => Ok(Turn::FetchFault(pc)),
         }
     }
 
@@ -172,13 +170,18 @@ impl Machine {
         self.ended
     }
 
-    /// The instruction that stands at an address, if its word is one.
+    /// The instruction that stands at an address, if it is one of code and its word is an instruction.
     #[inline(always)]
     fn fetch(&self, pc: u64) -> Option<Instr>
-        requires { can_fetch pc ≡ true }
-        ensures { result ≡ decoded (read 4 (shared_in self.now).memory pc) }
+        ensures place { IsSome result → can_fetch pc ≡ true }
+        ensures instr { can_fetch pc ≡ true → result ≡ decoded (read 4 (shared_in self.now).memory pc) }
     {
-        self.code.get(((pc - CODE_START) / 4) as usize)
+        let offset = pc.wrapping_sub(CODE_START);
+        if offset % 4 == 0 {
+            self.code.get((offset / 4) as usize)
+        } else {
+            None
+        }
     }
 
     /// Makes the pages of memory of the `len` bytes from `addr` on: no store there wants memory from

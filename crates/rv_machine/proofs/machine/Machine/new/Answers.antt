@@ -8,4 +8,4 @@ invariant_of-result c =
     let size = c.code.ensures.size in
     let same = ap length c.code.ensures.value in
     let whole : 4 * (length c.code.result.now / 4) ≡ length c.args.image.now.code = omega (arith, size.words, same) in
-    record { code = code_loaded c.args.image.now _ c.in_ok-code.code _ c.in_ok-memory.ensures whole (omega (arith, size.data_most)) c.in_ok-code.ensures.len c.in_ok-code.ensures.each; exit = rw c.in_ok-system.ensures none_yet }
+    record { code = code_loaded c.args.image.now _ c.in_ok-code.code _ c.in_ok-memory.ensures whole (omega (arith, size.most, same)) (omega (arith, size.data_most)) c.in_ok-code.ensures.len c.in_ok-code.ensures.each; exit = rw c.in_ok-system.ensures none_yet }
