@@ -251,7 +251,7 @@ all_taken image h0 s0 whole plan k limit running left before =
 
 -- a run of a safe pair begins in its place
 pub begins : (image : Contents) (graph : GraphParts) (input : List ℕ) (running : Running) → SafeStaysInPlace → IsSafe image graph
-    → hart_in running.machine ≡ start_hart → shared_in running.machine ≡ start_shared image input → running.made ≡ [] → IsTrailOf [] running.trail → IsBegun image running
-begins image graph input running law safe hart shared made empty =
+    → hart_in running.machine ≡ start_hart → shared_in running.machine ≡ start_shared image input → running.made ≡ [] → IsTrailOf [] running.trail → running.quiet ≡ 0 → IsBegun image running
+begins image graph input running law safe hart shared made empty quiet =
     let stays : StaysFrom image 0 start_hart (start_shared image input) = λ changes all. law image graph input changes safe all in
-    record { made = made; trail = empty; stays = (0, rw (hart, shared) stays) }
+    record { made = made; trail = empty; quiet = quiet; stays = (0, rw (hart, shared) stays) }

@@ -2,11 +2,11 @@
 use Rattle.std.proofs.Common.{◌≡◌, ℕ, ◌+◌, ◌-◌, ◌%◌, ◌≤◌, ◌<◌, List, [], ◌∷◌, ◌++◌, length, drop, take, set, min, refl, sym, ap, ◌∙◌, arith, inl, inr}
 use Rattle.std.proofs.lemmas.Bool.{cases_lt}
 use Rattle.std.proofs.lemmas.Grind.{drop-set_at, take-set_at}
-use Rattle.std.proofs.lemmas.List.{append-nil, append_assoc, drop-append-le, drop-drop, drop_all, length-append, length-drop, length-set, take_all}
+use Rattle.std.proofs.lemmas.List.{append-nil, append_assoc, drop-append-le, drop-drop, drop_all, length-append, length-drop, length-set, length-take, take_all}
 use Rattle.cfi_step.specs.Trail.{IsTrailOf, turned}
 
 -- a ring that is not yet full, or just full, begins at its front
-pub front : (n : ℕ) (ring : List ℕ) → length ring ≡ n → n ≤ 16 → turned (n % 16) ring ≡ ring
+front : (n : ℕ) (ring : List ℕ) → length ring ≡ n → n ≤ 16 → turned (n % 16) ring ≡ ring
 front n ring count most = elim (cases_lt n 16) [
   | inl less ↦
       let same : n % 16 ≡ n = omega arith in
@@ -45,7 +45,7 @@ replaced at next ring a count low is = new ∙ sym old
         ∙ append_assoc (drop (at + 1) ring) (take at ring) (a ∷ [])
 
 -- the walk goes on to an address, and the ring takes it
-pub ring_grows : (walk ring : List ℕ) (n a : ℕ) → length ring ≡ min n 16 → n < 16 → IsTrailOf walk (record { count = n; last = turned (n % 16) ring }) → IsTrailOf (walk ++ a ∷ []) (record { count = n + 1; last = turned ((n + 1) % 16) (ring ++ a ∷ []) })
+ring_grows : (walk ring : List ℕ) (n a : ℕ) → length ring ≡ min n 16 → n < 16 → IsTrailOf walk (record { count = n; last = turned (n % 16) ring }) → IsTrailOf (walk ++ a ∷ []) (record { count = n + 1; last = turned ((n + 1) % 16) (ring ++ a ∷ []) })
 ring_grows walk ring n a len less is =
     let count : length ring ≡ n = omega arith in
     let longer : length (ring ++ a ∷ []) ≡ n + 1 = omega (arith, length-append ring (a ∷ [])) in
@@ -55,7 +55,7 @@ ring_grows walk ring n a len less is =
     let before : ring ≡ walk = sym (front n ring count (omega arith)) ∙ is.1 ∙ ap (λ k. drop k walk) none in
     (sym walked, front (n + 1) (ring ++ a ∷ []) longer (omega arith) ∙ ap (λ xs. xs ++ a ∷ []) before ∙ sym (ap (λ k. drop k (walk ++ a ∷ [])) none_now))
 
-pub ring_turns : (walk ring : List ℕ) (n a : ℕ) → length ring ≡ min n 16 → 16 ≤ n → IsTrailOf walk (record { count = n; last = turned (n % 16) ring }) → IsTrailOf (walk ++ a ∷ []) (record { count = n + 1; last = turned ((n + 1) % 16) (set ring (n % 16) a) })
+ring_turns : (walk ring : List ℕ) (n a : ℕ) → length ring ≡ min n 16 → 16 ≤ n → IsTrailOf walk (record { count = n; last = turned (n % 16) ring }) → IsTrailOf (walk ++ a ∷ []) (record { count = n + 1; last = turned ((n + 1) % 16) (set ring (n % 16) a) })
 ring_turns walk ring n a len more is =
     let count : length ring ≡ 16 = omega arith in
     let walked : length (walk ++ a ∷ []) ≡ n + 1 = omega (arith, length-append walk (a ∷ []), is.0) in
@@ -67,3 +67,27 @@ ring_turns walk ring n a len more is =
           ∙ ap (λ xs. xs ++ a ∷ []) (drop-drop 1 (length walk - 16) walk)
           ∙ sym (ap (λ k. drop k (walk ++ a ∷ [])) skip ∙ drop-append-le (length walk - 16 + 1) walk (a ∷ []) within),
     )
+
+-- the walk goes on to an address, and the next cell takes it
+pub ring_takes : (walk ring : List ℕ) (n a : ℕ) → length ring ≡ 16
+    → IsTrailOf walk (record { count = n; last = turned (n % 16) (take (min n 16) ring) })
+    → IsTrailOf (walk ++ a ∷ []) (record { count = n + 1; last = turned ((n + 1) % 16) (take (min (n + 1) 16) (set ring (n % 16) a)) })
+ring_takes walk ring n a len is = elim (cases_lt n 16) [
+  | inl less ↦
+      let at : n % 16 ≡ n = omega arith in
+      let few : min n 16 ≡ n = omega arith in
+      let more : min (n + 1) 16 ≡ n + 1 = omega arith in
+      let front_now : take (n + 1) (set ring n a) ≡ take n ring ++ a ∷ [] = take-set_at ring n (n + 1) a refl (omega arith) in
+      let here : IsTrailOf walk (record { count = n; last = turned (n % 16) (take n ring) }) = rw few at is in
+      let kept : length (take n ring) ≡ min n 16 = omega (arith, length-take n ring) in
+      let grown = ring_grows walk (take n ring) n a kept less here in
+      rw (at, more, front_now) grown
+  | inr more ↦
+      let all : min n 16 ≡ 16 = omega arith in
+      let all_now : min (n + 1) 16 ≡ 16 = omega arith in
+      let whole : take 16 ring ≡ ring = take_all 16 ring (omega arith) in
+      let whole_now : take 16 (set ring (n % 16) a) ≡ set ring (n % 16) a = take_all 16 (set ring (n % 16) a) (omega (arith, length-set ring (n % 16) a)) in
+      let here : IsTrailOf walk (record { count = n; last = turned (n % 16) ring }) = rw (all, whole) at is in
+      let turned_now = ring_turns walk ring n a (omega arith) more here in
+      rw (all_now, whole_now) turned_now
+]

@@ -1,12 +1,16 @@
 -- What a meddler does to a run. Its plan answers, for each step number and state, the changes that come
 -- before that step: each an address and a byte.
-use Rattle.std.specs.Prelude.{ℕ, zero, suc, ◌+◌, List, [], ◌∷◌, ◌++◌, map}
+use Rattle.std.specs.Prelude.{◌≡◌, ◌≤◌, ◌<◌, ℕ, zero, suc, ◌+◌, List, [], ◌∷◌, ◌++◌, map}
 use Rattle.rv_word.specs.Layout.{Profile}
 use Rattle.rv_code.specs.Run.{ByteChange, disturbed_step, if_ran}
 use Rattle.rv_code.specs.State.{Hart, Shared}
 
 abbrev pub Plan : Type 0
 Plan = ℕ → Hart → Shared → List (ℕ × ℕ)
+
+-- no change comes after `from` steps or more, but fewer than `next`, whatever the state
+abbrev pub IsQuietPlan : ℕ → ℕ → Plan → Type 0
+IsQuietPlan from next plan = (step : ℕ) → from ≤ step → step < next → (hart : Hart) (shared : Shared) → plan step hart shared ≡ []
 
 abbrev pub change_of : ℕ × ℕ → ByteChange
 change_of c = record { address = c.0; byte = c.1 }

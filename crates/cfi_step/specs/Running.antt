@@ -38,6 +38,7 @@ StaysFrom image newest h s =
 pub record IsBegun (image : Contents) (running : Running) : Type 0 where
   pub made : running.made ≡ []
   pub trail : IsTrailOf [] running.trail
+  pub quiet : running.quiet ≡ 0
   pub stays : (newest : ℕ) × StaysFrom image newest (hart_in running.machine) (shared_in running.machine)
 
 -- the run from a state under these changes is over

@@ -112,8 +112,8 @@ impl Meddler for Hostile {
 
     ghost plan = { λ hostile. hostile_plan };
 
-    fn is_quiet(&self, _step: u64) -> bool {
-        false
+    fn quiet_until(&self, step: u64) -> u64 {
+        step
     }
 
     fn meddle(

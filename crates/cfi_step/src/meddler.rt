@@ -1,6 +1,7 @@
-ghost use Rattle.std.specs.Prelude.{◌≡◌, ◌++◌, [], ℕ, List, true, OnOk, OnErr};
+ghost use Rattle.std.specs.Prelude.{◌≡◌, ◌++◌, ℕ, List, OnOk, OnErr};
 ghost use Rattle.rv_code.specs.State.{Hart, Shared};
 ghost use Rattle.rv_machine.specs.Parts.{hart_in, shared_in};
+ghost use Rattle.cfi_step.specs.Plan.{IsQuietPlan};
 
 use rv_machine::{Change, Machine};
 use rv_word::NoMemory;
@@ -12,10 +13,10 @@ pub trait Meddler {
     /// and a byte.
     ghost plan: { Self → ℕ → Hart → Shared → List (ℕ × ℕ) };
 
-    /// Whether it is known without a look at the state that no change comes before the next step, `step` being
-    /// the number of steps taken; `false` is always right.
-    fn is_quiet(&self, step: u64) -> bool
-        ensures { result ≡ true → (hart : Hart) (shared : Shared) → plan self.now step hart shared ≡ [] };
+    /// The number of steps up to which it is known without a look at the state that no change comes, `step`
+    /// being the number of steps taken; `step` itself is always right.
+    fn quiet_until(&self, step: u64) -> u64
+        ensures { IsQuietPlan step result (plan self.now) };
 
     /// Appends the changes that come before the next step, `step` being the number of steps taken. A
     /// refusal leaves `into` as it was.

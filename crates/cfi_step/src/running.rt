@@ -6,7 +6,7 @@ ghost use Rattle.rv_code.specs.State.{start_hart, start_shared};
 ghost use Rattle.rv_machine.specs.Parts.{after_step, hart_in, shared_in};
 ghost use Rattle.cfi_verify.specs.Split.{code_words, place_at};
 ghost use Rattle.cfi_verify.specs.Walks.{if_starts};
-ghost use Rattle.cfi_step.specs.Plan.{change_of, changes_of};
+ghost use Rattle.cfi_step.specs.Plan.{IsQuietPlan, change_of, changes_of};
 ghost use Rattle.cfi_step.specs.Trail.{IsTrailOf};
 
 use crate::meddler::Meddler;
@@ -24,6 +24,8 @@ pub(crate) struct Running {
     machine: Machine,
     made: Record,
     trail: Trail,
+    /// No change comes before this number of steps is taken.
+    quiet: u64,
 }
 
 impl Running {
@@ -33,13 +35,13 @@ impl Running {
         ensures shared { IfOk result (λ r. shared_in r.machine ≡ start_shared image.now input.now) }
         ensures made { IfOk result (λ r. r.made ≡ []) }
         ensures trail { IfOk result (λ r. IsTrailOf [] r.trail) }
+        ensures quiet { IfOk result (λ r. r.quiet ≡ 0) }
     {
-        let trail = Trail::new(alloc)?;
-        let machine = Machine::new(alloc, image, input)?;
         Ok(Running {
-            machine,
+            machine: Machine::new(alloc, image, input)?,
             made: Record::new(alloc),
-            trail,
+            trail: Trail::new(),
+            quiet: 0,
         })
     }
 
@@ -78,6 +80,8 @@ impl Running {
         meddler: &mut M,
         step: u64,
     ) -> Result<(), NoMemory>
+        requires more { step + 1 < 2 ^ 64 }
+        requires quiet { IsQuietPlan step self.old.quiet (M.plan meddler.old) }
         ensures allowed { OnOk result (AllByRecursion IsDataChange
             (changes_of (M.plan meddler.old step (hart_in self.old.machine) (shared_in self.old.machine)))) }
         ensures hart { OnOk result (hart_in self.new.machine ≡ hart_in self.old.machine) }
@@ -86,14 +90,17 @@ impl Running {
         ensures made { OnOk result (self.new.made ≡ self.old.made ++ map (λ c. (step, c))
             (M.plan meddler.old step (hart_in self.old.machine) (shared_in self.old.machine))) }
         ensures trail { OnOk result (self.new.trail ≡ self.old.trail) }
+        ensures still { OnOk result (IsQuietPlan (step + 1) self.new.quiet (M.plan meddler.old)) }
         ensures kept { M.plan meddler.new ≡ M.plan meddler.old }
     {
-        if meddler.is_quiet(step) {
+        if step < self.quiet {
             return Ok(());
         }
         let mut changes = Vec::new(alloc);
         meddler.meddle(alloc, step, &self.machine, &mut changes)?;
-        self.change(step, &changes)
+        self.change(step, &changes)?;
+        self.quiet = meddler.quiet_until(step + 1);
+        Ok(())
     }
 
     /// Notes the address of the next step, where something starts there.
@@ -101,6 +108,7 @@ impl Running {
         requires { self.old.trail.count + 1 < 2 ^ 64 }
         ensures machine { self.new.machine ≡ self.old.machine }
         ensures made { self.new.made ≡ self.old.made }
+        ensures quiet { self.new.quiet ≡ self.old.quiet }
         ensures trail { (walk : List ℕ) → IsTrailOf walk self.old.trail
             → IsTrailOf (walk ++ if_starts (place_at version_1 (code_words checked.now.image.code) self.old.machine.pc) self.old.machine.pc []) self.new.trail }
     {
@@ -118,7 +126,9 @@ impl Running {
         meddler: &mut M,
         step: u64,
     ) -> Result<Turn, NoMemory>
-        requires { self.old.trail.count + 1 < 2 ^ 64 }
+        requires room { self.old.trail.count + 1 < 2 ^ 64 }
+        requires more { step + 1 < 2 ^ 64 }
+        requires quiet { IsQuietPlan step self.old.quiet (M.plan meddler.old) }
         ensures stepped { IfOk result (λ turn. after_step self.new.machine turn
             ≡ disturbed_step version_1 (hart_in self.old.machine) (shared_in self.old.machine)
             (changes_of (M.plan meddler.old step (hart_in self.old.machine) (shared_in self.old.machine)))) }
@@ -128,6 +138,7 @@ impl Running {
             (M.plan meddler.old step (hart_in self.old.machine) (shared_in self.old.machine))) }
         ensures trail { OnOk result ((walk : List ℕ) → IsTrailOf walk self.old.trail
             → IsTrailOf (walk ++ if_starts (place_at version_1 (code_words checked.now.image.code) self.old.machine.pc) self.old.machine.pc []) self.new.trail) }
+        ensures still { OnOk result (IsQuietPlan (step + 1) self.new.quiet (M.plan meddler.old)) }
         ensures kept { M.plan meddler.new ≡ M.plan meddler.old }
     {
         self.disturb(alloc, meddler, step)?;
@@ -136,8 +147,13 @@ impl Running {
     }
 
     /// The report, of a run that ended so after this many steps.
-    pub(crate) fn into_report(self, end: RunEnd, steps: u64) -> RunReport
-        ensures { result ≡ record {
+    pub(crate) fn into_report(
+        self,
+        alloc: Global,
+        end: RunEnd,
+        steps: u64,
+    ) -> Result<RunReport, NoMemory>
+        ensures { IfOk result (λ report. report ≡ record {
           end = end;
           steps = steps;
           output = self.machine.calls.output;
@@ -145,17 +161,18 @@ impl Running {
           made = self.made;
           walk = self.trail.count;
           trail = self.trail.last;
-        } }
+        }) }
     {
+        let trail = self.trail.last(alloc)?;
         let (output, events) = self.machine.into_results();
-        RunReport {
+        Ok(RunReport {
             end,
             steps,
             output,
             events,
             made: self.made,
             walk: self.trail.count(),
-            trail: self.trail.into_last(),
-        }
+            trail,
+        })
     }
 }

@@ -80,5 +80,6 @@ pub fn run<M: Meddler>(
     safe_walks_graph();
     let mut running = Running::new(alloc, checked.image(), input)?;
     let (end, steps) = finish(alloc, checked, meddler, limit, &mut running)?;
-    Ok(running.into_report(end, steps))
+    let report = running.into_report(alloc, end, steps)?;
+    Ok(report)
 }

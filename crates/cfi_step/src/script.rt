@@ -129,8 +129,8 @@ impl Meddler for Script {
 
     ghost plan = { λ s. script_plan s };
 
-    fn is_quiet(&self, step: u64) -> bool {
-        self.from <= step && step < self.next
+    fn quiet_until(&self, step: u64) -> u64 {
+        if self.from <= step { self.next } else { step }
     }
 
     fn meddle(

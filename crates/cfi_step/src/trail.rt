@@ -1,4 +1,4 @@
-ghost use Rattle.std.specs.Prelude.{◌≡◌, ◌+◌, ◌++◌, ◌∷◌, [], ◌<◌, ◌^◌, ℕ, List, IfOk};
+ghost use Rattle.std.specs.Prelude.{◌≡◌, ◌+◌, ◌++◌, ◌∷◌, [], ◌<◌, ◌^◌, ℕ, List, IfOk, min};
 ghost use Rattle.cfi_step.specs.Trail.{IsTrailOf};
 
 use rv_word::{NoMemory, Places};
@@ -13,29 +13,27 @@ const KEPT: u64 = 16;
 #[derive(Drop)]
 pub(crate) struct Trail {
     count: u64,
-    ring: Vec<u64>,
+    ring: [u64; KEPT as usize],
 }
 
 impl Model for Trail {
-    ghost use Rattle.std.specs.Prelude.{◌≡◌, ◌≤◌, ◌%◌, length, min, vec_capacity};
+    ghost use Rattle.std.specs.Prelude.{◌%◌, min, take};
     ghost use Rattle.cfi_step.specs.Trail.{TrailParts, turned};
 
     ghost Value = { TrailParts };
 
-    ghost view = { λ t. record { count = t.count; last = turned (t.count % 16) t.ring.items } };
-
-    ghost invariant = { λ t. (length t.ring.items ≡ min t.count 16) × (16 ≤ vec_capacity t.ring) };
+    ghost view = { λ t. record { count = t.count; last = turned (t.count % 16) (take (min t.count 16) t.ring) } };
 }
 
 impl Trail {
     /// The trail of a walk without addresses.
-    pub(crate) fn new(alloc: Global) -> Result<Trail, NoMemory>
-        ensures { IfOk result (IsTrailOf []) }
+    pub(crate) fn new() -> Trail
+        ensures { IsTrailOf [] result }
     {
-        Ok(Trail {
+        Trail {
             count: 0,
-            ring: Vec::with_capacity(alloc, KEPT as usize)?,
-        })
+            ring: [0; KEPT as usize],
+        }
     }
 
     /// The walk goes on to an address.
@@ -43,11 +41,7 @@ impl Trail {
         requires { self.old.count + 1 < 2 ^ 64 }
         ensures { (walk : List ℕ) → IsTrailOf walk self.old → IsTrailOf (walk ++ address ∷ []) self.new }
     {
-        if self.count < KEPT {
-            self.ring.push_reserved(address);
-        } else {
-            self.ring[(self.count % KEPT) as usize] = address;
-        }
+        self.ring[(self.count % KEPT) as usize] = address;
         self.count += 1;
     }
 
@@ -58,11 +52,22 @@ impl Trail {
     }
 
     /// The last addresses, oldest first.
-    pub(crate) fn into_last(self) -> Places
-        ensures { result ≡ self.last }
+    pub(crate) fn last(&self, alloc: Global) -> Result<Places, NoMemory>
+        ensures { IfOk result (λ places. places ≡ self.now.last) }
     {
-        let mut last = self.ring;
+        let mut last = Vec::from_slice(alloc, &self.ring[..kept(self.count)])?;
         last.rotate_left((self.count % KEPT) as usize);
-        Places::of(last)
+        Ok(Places::of(last))
+    }
+}
+
+/// How many of so many addresses are kept.
+fn kept(count: u64) -> usize
+    ensures { result ≡ min count 16 }
+{
+    if count < KEPT {
+        count as usize
+    } else {
+        KEPT as usize
     }
 }

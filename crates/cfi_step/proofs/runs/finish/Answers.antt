@@ -1,4 +1,5 @@
-use Rattle.std.proofs.Common.{◌-◌, ◌+◌, ◌∙◌, sym, arith}
+use Rattle.std.proofs.Common.{◌-◌, ◌+◌, ◌∙◌, sym, subst, arith}
+use Rattle.cfi_step.specs.Plan.{IsQuietPlan, Plan}
 use Rattle.cfi_step.proofs.Continues.{all_taken, count_next, has_end, next, stays_next, stopped}
 use Rattle.cfi_step.proofs.runs.finish.Goals as goal
 
@@ -7,6 +8,9 @@ end_of-requires g c =
     let stepped = rw c.loop-steps.invariant.plan at c.in_ok-turn.ensures.stepped in
     let allowed = rw c.loop-steps.invariant.plan at c.in_ok-turn.ensures.allowed in
     has_end c.args.checked.now.image _ _ _ c.loop-steps.invariant.stays.0 c.loop-steps.invariant.stays.1 allowed _ stepped
+
+pub turn-requires-clause-quiet : goal.turn-requires-clause-quiet
+turn-requires-clause-quiet g c = c.loop-steps.invariant.quiet
 
 pub returns-then-is_stop-clause-over : goal.returns-then-is_stop-clause-over
 returns-then-is_stop-clause-over g c =
@@ -28,6 +32,7 @@ loop-steps-preserved g c =
       bound = omega (arith, c.loop-steps-test.true);
       count = omega (arith, count, c.loop-steps.invariant.count);
       plan = c.turn.ensures.kept ∙ c.loop-steps.invariant.plan;
+      quiet = subst (λ (plan : Plan). IsQuietPlan (c.loop-steps.steps + 1) c.turn.new.self.quiet plan) (sym c.turn.ensures.kept) c.in_ok-turn.ensures.still;
       stays = stays_next c.args.checked.now.image _ _ _ c.loop-steps.invariant.stays.0 c.loop-steps.invariant.stays.1 allowed _ stepped goes;
       continues = next c.args.checked.now.image _ _ _ _ _ (c.args.limit - (c.loop-steps.steps + 1)) _ _ _ _ c.args.limit (omega (arith, c.loop-steps-test.true)) _ stepped goes c.turn.new.self.made c.turn.new.self.trail
           c.loop-steps.invariant.continues made c.in_ok-turn.ensures.trail allowed;

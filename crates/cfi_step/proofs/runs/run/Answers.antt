@@ -12,18 +12,18 @@ pub finish-requires : goal.finish-requires
 finish-requires g c =
     let shared = rw c.image.ensures.value at c.in_ok-running.ensures.shared in
     begins c.args.checked.now.image c.args.checked.now.graph c.args.input.now c.in_ok-running.running c.safe_stays_in_place.ensures c.is_safe.ensures
-    c.in_ok-running.ensures.hart shared c.in_ok-running.ensures.made c.in_ok-running.ensures.trail
+    c.in_ok-running.ensures.hart shared c.in_ok-running.ensures.made c.in_ok-running.ensures.trail c.in_ok-running.ensures.quiet
 
 pub returns-clause-script : goal.returns-clause-script
 returns-clause-script g c =
-    let made = ap (λ (r : RunReport). r.made) c.into_report.ensures ∙ c.in_ok-end.ensures.over.made in
+    let made = ap (λ (r : RunReport). r.made) c.in_ok-report.ensures ∙ c.in_ok-end.ensures.over.made in
     rw made (in_order 0 _).0
 
 pub returns-clause-replayed : goal.returns-clause-replayed
 returns-clause-replayed g c =
     let shared = rw c.image.ensures.value at c.in_ok-running.ensures.shared in
     let made = rw (c.in_ok-running.ensures.hart, shared) at c.in_ok-end.ensures.over.made in
-    let whole = ap (λ (r : RunReport). r.made) c.into_report.ensures ∙ made in
+    let whole = ap (λ (r : RunReport). r.made) c.in_ok-report.ensures ∙ made in
     ap (λ (m : List (ℕ × (ℕ × ℕ))). planned version_1 (script_plan m) 0 start_hart (start_shared c.args.checked.now.image c.args.input.now) c.args.limit) whole
     ∙ replays version_1 _ c.args.limit start_hart (start_shared c.args.checked.now.image c.args.input.now)
 
