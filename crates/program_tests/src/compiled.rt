@@ -1,19 +1,6 @@
-use crate::samples;
 use elf_object::{Object, Section, SymbolEntry};
 use std::alloc::{AllocError, Global};
 use std::fmt::Write;
-
-/// An object in hexadecimal, and what `readelf` says of it.
-fn sample(number: u32) -> (&'static [u8], &'static [u8]) {
-    match number {
-        0 => (samples::DIFFERENCES, samples::DIFFERENCES_TEXT),
-        1 => (samples::SWITCH_MEDLOW, samples::SWITCH_MEDLOW_TEXT),
-        2 => (samples::ADDRESSING_CLANG, samples::ADDRESSING_CLANG_TEXT),
-        3 => (samples::SWITCH_CLANG, samples::SWITCH_CLANG_TEXT),
-        4 => (samples::POINTERS_CLANG, samples::POINTERS_CLANG_TEXT),
-        _ => (samples::STRINGS_CLANG, samples::STRINGS_CLANG_TEXT),
-    }
-}
 
 /// A name, a dash for an empty one.
 fn in_words(name: &[u8]) -> &str {
@@ -74,31 +61,7 @@ fn add_symbols(text: &mut String, object: &Object) -> bool {
 }
 
 /// Whether an object is described by these words.
-fn is_described(alloc: Global, object: &Object, words: &[u8]) -> bool {
+pub(crate) fn is_described(alloc: Global, object: &Object, words: &[u8]) -> bool {
     let mut text = String::new(alloc);
     add_sections(&mut text, object) && add_symbols(&mut text, object) && text.as_bytes() == words
-}
-
-/// Whether a file is read as an object that these words describe.
-fn is_read_as(alloc: Global, file: &[u8], words: &[u8]) -> bool {
-    match Object::read(alloc, file) {
-        Ok(object) => is_described(alloc, &object, words),
-        Err(_) => false,
-    }
-}
-
-/// Whether a sample is read as the object that its words describe.
-fn is_right(alloc: Global, number: u32) -> bool {
-    let (digits, words) = sample(number);
-    match hex::decode(alloc, digits) {
-        Ok(file) => is_read_as(alloc, &file, words),
-        Err(_) => false,
-    }
-}
-
-#[test]
-fn agrees_with_readelf(rt: HostRuntime) {
-    for number in 0..6 {
-        assert!(rt; is_right(rt.alloc(), number), "sample {number}");
-    }
 }

@@ -1,28 +1,11 @@
 use crate::by_hand::add_extent;
 use crate::kinds::KINDS;
-use crate::samples;
 use elf_object::{Object, Relocs};
 use obj_input::ItemKind;
 use obj_items::{ItemEnd, items};
 use obj_program::Items;
 use std::alloc::Global;
 use std::fmt::Write;
-
-/// An object in hexadecimal, and what binutils say of it as a program.
-fn sample(number: u32) -> (&'static [u8], &'static [u8]) {
-    match number {
-        0 => (samples::DIFFERENCES, samples::DIFFERENCES_PROGRAM),
-        1 => (samples::SWITCH_MEDLOW, samples::SWITCH_MEDLOW_PROGRAM),
-        2 => (samples::ADDRESSING_CLANG, samples::ADDRESSING_CLANG_PROGRAM),
-        3 => (samples::SWITCH_CLANG, samples::SWITCH_CLANG_PROGRAM),
-        4 => (samples::POINTERS_CLANG, samples::POINTERS_CLANG_PROGRAM),
-        5 => (samples::STRINGS_CLANG, samples::STRINGS_CLANG_PROGRAM),
-        6 => (samples::MENU, samples::MENU_PROGRAM),
-        7 => (samples::TREE, samples::TREE_PROGRAM),
-        8 => (samples::SPANS, samples::SPANS_PROGRAM),
-        _ => (samples::SHARED, samples::SHARED_PROGRAM),
-    }
-}
 
 /// Adds a word and a number, unless that is 0.
 fn add_some(text: &mut String, words: &str, count: u64) -> bool {
@@ -123,33 +106,9 @@ fn is_told(alloc: Global, end: &ItemEnd, words: &[u8]) -> bool {
 }
 
 /// Whether an object is as these words say.
-fn is_as(alloc: Global, object: &Object, words: &[u8]) -> bool {
+pub(crate) fn is_as(alloc: Global, object: &Object, words: &[u8]) -> bool {
     match items(alloc, object) {
         Ok(items) => is_described(alloc, object, &items, words),
         Err(end) => is_told(alloc, &end, words),
-    }
-}
-
-/// Whether a file is read as such an object.
-fn is_read_as(alloc: Global, file: &[u8], words: &[u8]) -> bool {
-    match Object::read(alloc, file) {
-        Ok(object) => is_as(alloc, &object, words),
-        Err(_) => false,
-    }
-}
-
-/// Whether a sample is as its words say.
-fn is_right(alloc: Global, number: u32) -> bool {
-    let (digits, words) = sample(number);
-    match hex::decode(alloc, digits) {
-        Ok(file) => is_read_as(alloc, &file, words),
-        Err(_) => false,
-    }
-}
-
-#[test]
-fn agrees_with_binutils(rt: HostRuntime) {
-    for number in 0..10 {
-        assert!(rt; is_right(rt.alloc(), number), "sample {number}");
     }
 }

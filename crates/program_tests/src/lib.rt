@@ -10,6 +10,8 @@ mod by_hand;
 #[cfg(test)]
 mod compiled;
 #[cfg(test)]
+mod compilers;
+#[cfg(test)]
 mod counts;
 #[cfg(test)]
 mod kinds;

@@ -1,5 +1,4 @@
 use crate::at_map::word_at;
-use crate::samples;
 use elf_object::Object;
 use obj_items::items;
 use obj_program::Items;
@@ -8,19 +7,6 @@ use std::fmt::Write;
 
 /// Where GNU ld put code.
 const CODE: u64 = 0x40000040;
-
-/// An object in hexadecimal, and what GNU ld makes of its instructions and data.
-fn sample(number: u32) -> (&'static [u8], &'static [u8]) {
-    match number {
-        0 => (samples::SWITCH_MEDLOW, samples::SWITCH_MEDLOW_LINKED),
-        1 => (samples::SWITCH_CLANG, samples::SWITCH_CLANG_LINKED),
-        2 => (samples::POINTERS_CLANG, samples::POINTERS_CLANG_LINKED),
-        3 => (samples::MENU, samples::MENU_LINKED),
-        4 => (samples::TREE, samples::TREE_LINKED),
-        5 => (samples::SPANS, samples::SPANS_LINKED),
-        _ => (samples::SHARED, samples::SHARED_LINKED),
-    }
-}
 
 /// The addresses of the places where the section of code stands as it is in the object.
 fn gates_of(alloc: Global, items: &Items) -> Option<Vec<u64>> {
@@ -88,33 +74,9 @@ fn is_linked(alloc: Global, items: &Items, words: &[u8]) -> bool {
 }
 
 /// Whether an object's program is.
-fn is_as(alloc: Global, object: &Object, words: &[u8]) -> bool {
+pub(crate) fn is_as(alloc: Global, object: &Object, words: &[u8]) -> bool {
     match items(alloc, object) {
         Ok(items) => is_linked(alloc, &items, words),
         Err(_) => false,
-    }
-}
-
-/// Whether a file is read as such an object.
-fn is_read_as(alloc: Global, file: &[u8], words: &[u8]) -> bool {
-    match Object::read(alloc, file) {
-        Ok(object) => is_as(alloc, &object, words),
-        Err(_) => false,
-    }
-}
-
-/// Whether a sample is as the linker makes it.
-fn is_right(alloc: Global, number: u32) -> bool {
-    let (digits, words) = sample(number);
-    match hex::decode(alloc, digits) {
-        Ok(file) => is_read_as(alloc, &file, words),
-        Err(_) => false,
-    }
-}
-
-#[test]
-fn agrees_with_a_linker(rt: HostRuntime) {
-    for number in 0..7 {
-        assert!(rt; is_right(rt.alloc(), number), "sample {number}");
     }
 }

@@ -1,47 +1,5 @@
-//! Maps as texts: for the programs that run, worked out by hand from the sizes of units, and such as are not legal.
-
-/// That of an object that returns 7.
-pub(crate) const B: &[u8] = b"rvcfi-map 1\n\
-    at 40000040 0001 00000000\n\
-    at 40000044 0001 00000004\n\
-    at 40000058 0001 00000008\n\
-    end\n";
-
-/// That of one that calls one of two functions through a table: a gate's word stands before each of the two.
-pub(crate) const P: &[u8] = b"rvcfi-map 1\n\
-    at 40000040 0001 00000000\n\
-    at 40000044 0001 00000004\n\
-    at 40000054 0001 00000008\n\
-    at 40000058 0001 0000000c\n\
-    at 4000005c 0001 00000010\n\
-    at 400000ac 0001 00000014\n\
-    at 400000b0 0001 00000018\n\
-    at 400000b4 0001 0000001c\n\
-    at 400000c8 0001 00000020\n\
-    at 400000d0 0001 00000024\n\
-    at 400000e4 0001 00000028\n\
-    at 400000ec 0001 0000002c\n\
-    at 40000100 0001 00000030\n\
-    end\n";
-
-/// That of one that writes a text: an AUIPC and the JALR after it are one place.
-pub(crate) const H: &[u8] = b"rvcfi-map 1\n\
-    at 40000040 0001 00000000\n\
-    at 40000044 0001 00000004\n\
-    at 40000054 0001 00000008\n\
-    at 40000074 0001 00000010\n\
-    at 40000078 0001 00000014\n\
-    at 4000007c 0001 00000018\n\
-    at 40000080 0001 0000001c\n\
-    at 40000094 0001 00000020\n\
-    at 40000098 0001 00000024\n\
-    at 4000009c 0001 00000028\n\
-    at 400000a0 0001 0000002c\n\
-    at 400000a4 0001 00000030\n\
-    at 400000a8 0001 00000034\n\
-    at 400000ac 0001 00000038\n\
-    at 400000c0 0001 0000003c\n\
-    end\n";
+//! Maps as texts beside those of `sample_objects`: for programs that run, worked out by hand from the sizes of units, and
+//! such as are not legal.
 
 /// That of one that calls itself, with its branch short.
 pub(crate) const R: &[u8] = b"rvcfi-map 1\n\
@@ -96,13 +54,6 @@ pub(crate) const INTO_CODE: &[u8] = b"rvcfi-map 1\n\
     at 400000a8 0001 00000024\n\
     at 400000ac 0001 00000028\n\
     at 400000c0 0001 0000002c\n\
-    end\n";
-
-/// That of a computed call and a return.
-pub(crate) const NOWHERE: &[u8] = b"rvcfi-map 1\n\
-    at 40000040 0001 00000000\n\
-    at 40000090 0001 00000004\n\
-    at 400000a4 0001 00000008\n\
     end\n";
 
 /// That of two instructions that go on.
