@@ -6,6 +6,7 @@ pub mod Outline
 pub mod Values
 pub mod Links
 pub mod InitialData
+pub mod Contents
 pub mod ProgramOf
 pub mod Before
 pub mod Standing
