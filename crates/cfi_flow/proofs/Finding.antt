@@ -1,5 +1,5 @@
 -- The first that meets a test, by its index; and tables of such indexes.
-use Rattle.std.proofs.Common.{◌≡◌, ◌==◌, ℕ, ◌+◌, ◌<◌, ◌≤◌, Bool, true, false, if◌then◌else◌, List, length, get_or, take, Option, Some, None, inl, inr, refl, sym, ap, ◌∙◌, arith}
+use Rattle.std.proofs.Common.{◌≡◌, ◌==◌, ℕ, ◌+◌, ◌<◌, ◌≤◌, Bool, true, false, ◌||◌, if◌then◌else◌, List, length, get_or, take, Option, Some, None, inl, inr, refl, sym, ap, ◌∙◌, arith}
 use Rattle.std.specs.List.{All, find, list_any, position, position_or_len, slice_get}
 use Rattle.std.specs.Option.{option_or}
 use Rattle.std.proofs.lemmas.Bool.{cases_lt, cases_Bool, lt-ltb, le-ltb, ne_eqb}
@@ -88,6 +88,12 @@ more_noted p xs places i d old new below table same each = record {
       ∙ ap (λ (o : Option ℕ). noted o (p k (get_or xs i d)) i) (table.each k inside)
       ∙ sym (position_more (p k) xs i d below);
 }
+
+-- a number that is noted twice
+pub noted_twice : (old : Option ℕ) (a b : Bool) (n : ℕ) → noted (noted old a n) b n ≡ noted old (a || b) n
+noted_twice (Some x) a b n = refl
+noted_twice None true b n = refl
+noted_twice None false b n = refl
 
 -- no list has a number past those that all its members are below
 pub has_not : (places k : ℕ) (class : List ℕ) → All (λ t. t < places) class → places ≤ k → list_any (λ t. t == k) class ≡ false

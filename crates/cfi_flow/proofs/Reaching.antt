@@ -1,5 +1,5 @@
 -- Where functions begin: the places that they name by section and offset are marked, and no others.
-use Rattle.std.proofs.Common.{◌≡◌, ◌==◌, ℕ, ◌+◌, ◌<◌, Bool, true, false, ◌||◌, List, [], length, get_or, take, Some, inl, inr, sym, ap, subst, ◌∙◌, arith}
+use Rattle.std.proofs.Common.{◌≡◌, ◌==◌, ℕ, zero, suc, ◌+◌, ◌<◌, Bool, true, false, ◌||◌, List, [], ◌∷◌, ◌++◌, length, get_or, take, Option, Some, None, IfSome, inl, inr, refl, sym, ap, subst, ◌∙◌, arith}
 use Rattle.std.specs.List.{list_any, slice_get}
 use Rattle.std.proofs.lemmas.Bool.{and_parts, cases_eq, cases_lt, eq-eqb, eqb-true, false_from_ne_true, ne_eqb}
 use Rattle.std.proofs.lemmas.List.Folds.{list_any_more}
@@ -49,6 +49,18 @@ spot_only items in_order section offset k below = elim (cases_Option (place_of i
 
 pub place_there : (items : List Item) (section offset k : ℕ) → place_of items section offset ≡ Some k → k < length items
 place_there items section offset k e = (position-Some (is_spot section offset) items k no_item e).0
+
+pub place_within : (items : List Item) (section offset : ℕ) (o : Option ℕ) (n : ℕ) → o ≡ place_of items section offset → n ≡ length items
+    → IfSome o (λ k. k < n)
+place_within items section offset None n e many = tt
+place_within items section offset (Some k) n e many = let there = place_there items section offset k (sym e) in omega arith
+
+-- one place more that is not marked
+pub unmarked_more : (marks : List Bool) → ((k : ℕ) → get_or marks k false ≡ false) → (k : ℕ) → get_or (marks ++ false ∷ []) k false ≡ false
+unmarked_more [] none zero = refl
+unmarked_more [] none (suc k) = refl
+unmarked_more (m ∷ marks) none zero = none 0
+unmarked_more (m ∷ marks) none (suc k) = unmarked_more marks (λ i. none (suc i)) k
 
 pub begun_none : (program : Program) (marks : List Bool) → length marks ≡ count program → ((k : ℕ) → get_or marks k false ≡ false)
     → AreBegun program [] marks

@@ -1,4 +1,4 @@
-use Rattle.std.proofs.Common.{◌≡◌, ℕ, ◌<◌, ◌≤◌, Bool, List, length, get_or, map, sym, subst, ap, ◌∙◌}
+use Rattle.std.proofs.Common.{◌≡◌, ℕ, ◌<◌, ◌≤◌, Bool, List, Option, length, get_or, map, option_and_then, sym, subst, ap, ◌∙◌}
 use Rattle.std.specs.List.{slice_get}
 use Rattle.std.specs.List.Sorted.{IsStrictlyIncreasing}
 use Rattle.std.proofs.lemmas.List.{take_all}
@@ -7,10 +7,12 @@ use Rattle.cfi_graph.specs.declared.line.SiteKind.TheVariants as site
 use Rattle.cfi_flow.specs.declared.draw.Aim.{Aim}
 use Rattle.cfi_flow.specs.declared.draw.Aim.TheVariants as aim
 use Rattle.cfi_flow.specs.declared.draw.KeptSite.{KeptSite}
+use Rattle.cfi_flow.specs.declared.closed.Site.{Site}
 use Rattle.cfi_flow.specs.Found.{by_table}
 use Rattle.cfi_flow.specs.Kept.{IsAimed, raw_site, targets_of}
 use Rattle.cfi_flow.specs.Pointed.{ArePoints}
-use Rattle.cfi_flow.proofs.Keeping.{first_there}
+use Rattle.cfi_flow.specs.Tables.{entry}
+use Rattle.cfi_flow.proofs.Keeping.{first_there, map_more}
 use Rattle.cfi_flow.proofs.Rising.{below_rising}
 use Rattle.cfi_flow.proofs.found.sites_by.Goals as goal
 
@@ -31,6 +33,25 @@ entry_of-class-requires c =
     let first = subst (λ (ls : List (List ℕ)). c.first_target-first.result ≡ slice_get (targets_of ls d.taken.items d.begun.items a) 0)
     c.as_slice-in-loop-site.ensures.value (c.first_target-first.ensures d.taken.items d.begun.items are) in
     first_there d c.requires.kept a aimed (length c.args.table.now) (sym c.requires.table) c.first_target-first.result first
+
+pub loop-site-preserved : goal.loop-site-preserved
+loop-site-preserved c =
+    let d = c.args.drawing.now in
+    let k : ℕ = c.loop-site.site-index in
+    let points = c.in_ok-points.points in
+    let are = subst (λ (b : List Bool). ArePoints d.taken.items b points) c.as_slice-2.ensures.value
+    (subst (λ (t : List Bool). ArePoints t c.as_slice-2.result.now points) c.as_slice.ensures.value c.in_ok-points.ensures) in
+    let other : KeptSite = record { place = 0; kind = site.Call; aim = aim.Listed 0 } in
+    let s : KeptSite = get_or c.deref-site-items.result.now k other in
+    let below : k < length d.sites.items = rw c.deref-site-items.ensures.value at c.loop-site-test.true in
+    let told : KeptSite → Site = λ s. by_table c.args.table.now (raw_site d.lists.items d.taken.items d.begun.items s) in
+    let first = subst (λ (ls : List (List ℕ)). c.first_target-first.result ≡ slice_get (targets_of ls d.taken.items d.begun.items s.aim) 0)
+    c.as_slice-in-loop-site.ensures.value (c.first_target-first.ensures d.taken.items d.begun.items are) in
+    let class = c.entry_of-class.ensures ∙ ap (option_and_then (entry c.args.table.now)) first in
+    map_more told d.sites.items k other c.loop-site.sites.items c.push.new.self.items (record { place = s.place; class = c.entry_of-class.result }) below
+    c.loop-site.invariant
+    (ap (λ (o : Option ℕ). record { place = s.place; class = o }) class ∙ ap (λ (xs : List KeptSite). told (get_or xs k other)) c.deref-site-items.ensures.value)
+    c.in_ok-push.ensures.items
 
 pub returns : goal.returns
 returns c =
