@@ -1,3 +1,6 @@
+ghost use Rattle.std.specs.Prelude.{◌≡◌};
+ghost use Rattle.cfi_verify.specs.RejectText.{rule_text};
+
 use std::fmt;
 use text_lines::Address;
 
@@ -24,6 +27,23 @@ pub enum Rule {
     End,
 }
 
+/// The name of a rule.
+fn rule_name(rule: Rule) -> &'static str
+    ensures { result.now ≡ rule_text rule }
+{
+    match rule {
+        Rule::Prologue => "Prologue",
+        Rule::Unit => "Unit",
+        Rule::Target => "Target",
+        Rule::Unlisted => "Unlisted",
+        Rule::Unused => "Unused",
+        Rule::Site => "Site",
+        Rule::Gate => "Gate",
+        Rule::Astray => "Astray",
+        Rule::End => "End",
+    }
+}
+
 impl fmt::Display for Rule {
     ghost use Rattle.std.specs.Prelude.{Some};
     ghost use Rattle.cfi_verify.specs.RejectText.{rule_text};
@@ -31,17 +51,7 @@ impl fmt::Display for Rule {
     ghost output = { λ rule. Some (rule_text rule) };
 
     fn fmt<W: fmt::Write>(&self, f: &mut fmt::Formatter<W>) -> fmt::Result {
-        match self {
-            Rule::Prologue => write!(f, "Prologue"),
-            Rule::Unit => write!(f, "Unit"),
-            Rule::Target => write!(f, "Target"),
-            Rule::Unlisted => write!(f, "Unlisted"),
-            Rule::Unused => write!(f, "Unused"),
-            Rule::Site => write!(f, "Site"),
-            Rule::Gate => write!(f, "Gate"),
-            Rule::Astray => write!(f, "Astray"),
-            Rule::End => write!(f, "End"),
-        }
+        f.write_str(rule_name(*self))
     }
 }
 
