@@ -20,7 +20,8 @@ use Rattle.src_machine.specs.Running.{SourceParts}
 use Rattle.cfi_single.specs.OneWay.{PreparedInOneWay}
 use Rattle.cfi_compare.specs.Told.{told_answer}
 use Rattle.cfi_compare.specs.declared.answer.Compared.{Compared}
-use Rattle.cfi_commands.specs.Demonstration.{CanRunAt, Fits, IsDifference, IsImageIn, IsSourceOn, NoneDiffers}
+use Rattle.cfi_commands.specs.Demo.{IsComparedAt, STEP_LIMIT}
+use Rattle.cfi_commands.specs.Demonstration.{CanRunAt, Fits, IsAnswerAt, IsDifference, IsImageIn, IsSourceOn, NoneDiffers}
 use Rattle.cfi_commands.specs.Rewrite.{IsSpelled}
 
 module _ (request : Request) (h : HardenedParts) (hardens : IsHardened request h) where
@@ -65,9 +66,17 @@ no_difference program (runs.differs d) result none is difference = none d refl
 no_difference program (runs.same events) result none is difference = subst IsDifference is difference
 no_difference program runs.limited result none is difference = subst IsDifference is difference
 
-pub never_told : (request : Request) (map : List MapLine) (image : Contents) (p : PreparedParts) (run : SourceParts) (limit : ℕ) (answer : Compared)
-    → NoneDiffers request map image → IsPrepared request p → IsSourceOn p map [] run
-    → answer ≡ told_answer run.layout.program (runs.compared run.layout image [] limit) → IsDifference answer → ⊥
-never_told request map image p run limit answer never is on told =
-    no_difference run.layout.program (runs.compared run.layout image [] limit) answer
-    (subst (λ (l : Layout). (d : runs.Difference) → runs.compared l image [] limit ≡ runs.differs d → ⊥) (sym on.layout) (never p is [] limit)) told
+module _ (p : PreparedParts) (map : List MapLine) (image : Contents) where
+  pub answer_at : (run : SourceParts) (answer : Compared) → IsSourceOn p map [] run
+      → answer ≡ told_answer run.layout.program (runs.compared run.layout image [] STEP_LIMIT) → IsAnswerAt p map image answer
+  answer_at run answer on told =
+      subst (λ (l : Layout). answer ≡ told_answer l.program (runs.compared l image [] STEP_LIMIT)) on.layout told
+
+  module _ (request : Request) (prepared : IsPrepared request p) (answer : Compared) (is : IsAnswerAt p map image answer) where
+    pub compared_at : Fits request map → IsComparedAt request map image answer
+    compared_at fits = record { program = p; prepared = prepared; map_is = (fits p prepared).legal; result_is = is }
+
+    pub never_told : NoneDiffers request map image → IsDifference answer → ⊥
+    never_told never =
+        let l = layout_of p.program p.closed (gates_of map) p.entry in
+        no_difference p.program (runs.compared l image [] STEP_LIMIT) answer (never p prepared [] STEP_LIMIT) is

@@ -1,5 +1,5 @@
 -- Words of private contracts: a generated object as a request, and a map at which its program runs.
-use Rattle.std.specs.Prelude.{◌≡◌, ℕ, List, codes, length, ⊤, None}
+use Rattle.std.specs.Prelude.{◌≡◌, ℕ, List, [], length, ⊤, None}
 use Rattle.rv_word.specs.Image.{Contents, IsImageSize}
 use Rattle.elf_image.specs.Spelling.{spelling}
 use Rattle.elf_writer.specs.Object.{object_bytes}
@@ -9,13 +9,16 @@ use Rattle.cfi_flow.specs.Source.{source_start}
 use Rattle.cfi_harden.specs.Hardened.{HasDataRoom}
 use Rattle.cfi_harden.specs.Prepared.{IsPrepared, PreparedParts}
 use Rattle.cfi_harden.specs.Request as asks
+use Rattle.cfi_meaning.specs.Compared.{compared}
 use Rattle.cfi_meaning.specs.NeverDiffers.{NoRunDiffers}
+use Rattle.cfi_compare.specs.Told.{told_answer}
 use Rattle.cfi_compare.specs.declared.answer.Compared.{Compared}
 use Rattle.cfi_compare.specs.declared.answer.Compared.TheVariants.{Differs}
 use Rattle.src_machine.specs.ProgramAt.{layout_of}
 use Rattle.src_machine.specs.Running.{SourceParts, source_of}
 use Rattle.cfi_gen.specs.Demo.{demo_parts}
 use Rattle.cfi_commands.specs.Compare.{first_out}
+use Rattle.cfi_commands.specs.Demo.{STEP_LIMIT}
 
 abbrev pub IsDrawn : List ℕ → Type 0
 IsDrawn object = (number : ℕ) × (object ≡ object_bytes (demo_parts number))
@@ -36,6 +39,11 @@ pub record IsSourceOn (p : PreparedParts) (map : List MapLine) (input : List ℕ
   pub layout : run.layout ≡ layout_of p.program p.closed (gates_of map) p.entry
   pub state : source_of run ≡ source_start run.layout input
   pub steps : run.steps ≡ 0
+
+-- an answer is that of a program's run without input at a map, beside an image's
+abbrev pub IsAnswerAt : PreparedParts → List MapLine → Contents → Compared → Type 0
+IsAnswerAt p map image answer =
+    answer ≡ told_answer p.program (compared (layout_of p.program p.closed (gates_of map) p.entry) image [] STEP_LIMIT)
 
 -- an image is the one that a file spells
 pub record IsImageIn (bytes : List ℕ) (image : Contents) : Type 0 where

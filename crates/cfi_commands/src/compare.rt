@@ -125,14 +125,14 @@ fn after_a_wrong_line(image: &[u8], line: u64) -> CompareOutcome
 /// Compares a program at a map, at its start, with a file that should be an image.
 fn compare_image(
     alloc: Global,
-    mut source: SourceRun<'_, '_>,
+    source: &mut SourceRun<'_, '_>,
     image: &[u8],
     input: &[u8],
     limit: u64,
 ) -> Result<CompareOutcome, NoMemory>
-    requires fresh { IsFresh input.now source }
+    requires fresh { IsFresh input.now source.old }
     requires few { limit ≤ MAX_STEP }
-    ensures { IfOk result (IsImageCompared source.entry image.now input.now limit) }
+    ensures { IfOk result (IsImageCompared source.old image.now input.now limit) }
 {
     let image = match read_image(image) {
         Ok(image) => image,
@@ -140,7 +140,7 @@ fn compare_image(
     };
     // Computes nothing: it tells the proof the sizes of the image.
     let _code = image.code();
-    let compared = compare(alloc, &mut source, &image, input, limit)?;
+    let compared = compare(alloc, source, &image, input, limit)?;
     Ok(CompareOutcome::Compared(compared))
 }
 
@@ -159,7 +159,7 @@ fn compare_source(
         → IfOk result (IsCompareOf request image.now map input.now limit) }
 {
     match source {
-        Ok(source) => compare_image(alloc, source, image, input, limit),
+        Ok(mut source) => compare_image(alloc, &mut source, image, input, limit),
         Err(MapEnd::OutOfRange(section, offset)) => {
             Ok(CompareOutcome::Refused(Refusal::RelocRange(section, offset)))
         }

@@ -1,6 +1,12 @@
-ghost use Rattle.std.specs.Prelude.{◌≡◌, ◌≤◌, IfOk, IfSome, option_map, ◌∷◌, []};
+ghost use Rattle.std.specs.Prelude.{◌≡◌, ◌≤◌, ℕ, IfOk, IfSome, option_map, ◌∷◌, []};
 ghost use Rattle.text_lines.specs.Decimal.{MAX_STEP};
-ghost use Rattle.cfi_commands.specs.Demo.{ExplainsDemo, demo_asked, demo_status, demo_text, demo_words};
+ghost use Rattle.elf_writer.specs.Object.{object_bytes};
+ghost use Rattle.cfi_gen.specs.Demo.{demo_parts};
+ghost use Rattle.cfi_step.specs.declared.report.RunEnd.TheVariants as ends;
+ghost use Rattle.gen_hardened.specs.Laws.{entered};
+ghost use Rattle.cfi_commands.specs.Demonstration.{Fits, IsDifference, IsDrawn, NoneDiffers};
+ghost use Rattle.cfi_commands.specs.Rewrite.{IsMade};
+ghost use Rattle.cfi_commands.specs.Demo.{ExplainsDemo, IsDemoCompared, IsDemoRun, demo_asked, demo_status, demo_text, demo_words};
 
 use crate::compare::answer_status;
 use crate::demonstration::{compare_at, image_in, made, run_accepted};
@@ -8,10 +14,11 @@ use crate::report::{end_status, report_text};
 use cfi_compare::Compared;
 use cfi_files::{line, status, steps};
 use cfi_gen::object_of;
+use cfi_rewrite::Hardened;
 use cfi_single::laws::prepared_in_one_way;
 use cfi_step::{RunEnd, RunReport};
 use cfi_words::DemoWords;
-use rv_word::NoMemory;
+use rv_word::{Image, NoMemory};
 use std::alloc::Global;
 use std::fmt;
 
@@ -144,22 +151,21 @@ impl DemoOutcome {
     }
 }
 
-/// Hardens the object of a number, verifies its image, runs it, and compares the program's run with it.
-#[tactic(auto, using(crate::proofs::Demonstrated::spelled_of, crate::proofs::Demonstrated::well_formed_of, crate::proofs::Demonstrated::fits_of, crate::proofs::Demonstrated::none_differs))]
-pub fn demonstrate(alloc: Global, request: &DemoRequest) -> Result<DemoOutcome, NoMemory>
-    ensures { IfOk result (ExplainsDemo request.now.number) }
+/// What is told of a comparison that finds no difference, after a run that exits.
+fn told(
+    object: &[u8],
+    hardened: &Hardened,
+    image: &Image<'_>,
+    report: &RunReport,
+    exit: u8,
+    compared: &Compared,
+) -> DemoOutcome
+    requires { ¬ IsDifference compared.now }
+    ensures { (number : ℕ) → object.now ≡ object_bytes (demo_parts number)
+        → IsDemoCompared number hardened.now image.now report.now exit compared.now → ExplainsDemo number result }
 {
-    prepared_in_one_way();
-    let file = object_of(alloc, request.number)?;
-    let object = file.as_slice();
-    let hardened = made(alloc, object)?;
-    let image = image_in(&hardened.image);
-    let report = run_accepted(alloc, &image, &hardened.graph)?;
-    let RunEnd::Exit(exit) = report.end else {
-        return Ok(DemoOutcome::Ran(report));
-    };
-    match compare_at(alloc, object, &hardened.map, &image)? {
-        Compared::Same(calls) => Ok(DemoOutcome::Shown(Shown {
+    match compared {
+        Compared::Same(calls) => DemoOutcome::Shown(Shown {
             object: object.len(),
             image: hardened.image.len(),
             code: image.code().len(),
@@ -168,12 +174,80 @@ pub fn demonstrate(alloc: Global, request: &DemoRequest) -> Result<DemoOutcome, 
             exit,
             steps: report.steps,
             walk: report.walk,
-            calls,
-        })),
+            calls: *calls,
+        }),
         Compared::Differs(..) => unreachable!(),
-        Compared::Untame(reason, section, offset) => Ok(DemoOutcome::Compared(Compared::Untame(
-            reason, section, offset,
-        ))),
-        Compared::Limit => Ok(DemoOutcome::Compared(Compared::Limit)),
+        Compared::Untame(reason, section, offset) => {
+            DemoOutcome::Compared(Compared::Untame(*reason, *section, *offset))
+        }
+        Compared::Limit => DemoOutcome::Compared(Compared::Limit),
     }
+}
+
+/// Compares the program's run with a run of the image that exits.
+fn after_exit(
+    alloc: Global,
+    object: &[u8],
+    hardened: &Hardened,
+    image: &Image<'_>,
+    report: &RunReport,
+    exit: u8,
+) -> Result<DemoOutcome, NoMemory>
+    requires drawn { IsDrawn object.now }
+    requires fits { Fits (entered object.now) hardened.now.map }
+    requires same { NoneDiffers (entered object.now) hardened.now.map image.now }
+    ensures { (number : ℕ) → object.now ≡ object_bytes (demo_parts number)
+        → IsDemoRun number hardened.now image.now report.now → report.now.end ≡ ends.Exit exit → IfOk result (ExplainsDemo number) }
+{
+    let compared = compare_at(alloc, object, &hardened.map, image)?;
+    Ok(told(object, hardened, image, report, exit, &compared))
+}
+
+/// Compares the program's run with a run of the image, if that exits.
+fn after_run(
+    alloc: Global,
+    object: &[u8],
+    hardened: &Hardened,
+    image: &Image<'_>,
+    report: RunReport,
+) -> Result<DemoOutcome, NoMemory>
+    requires drawn { IsDrawn object.now }
+    requires fits { Fits (entered object.now) hardened.now.map }
+    requires same { NoneDiffers (entered object.now) hardened.now.map image.now }
+    ensures { (number : ℕ) → object.now ≡ object_bytes (demo_parts number)
+        → IsDemoRun number hardened.now image.now report → IfOk result (ExplainsDemo number) }
+{
+    let RunEnd::Exit(exit) = report.end else {
+        return Ok(DemoOutcome::Ran(report));
+    };
+    after_exit(alloc, object, hardened, image, &report, exit)
+}
+
+/// Verifies and runs the image of a generated object that is hardened, and compares the program's run with it.
+fn of_hardened(alloc: Global, object: &[u8], hardened: &Hardened) -> Result<DemoOutcome, NoMemory>
+    requires drawn { IsDrawn object.now }
+    requires made { IsMade (entered object.now) hardened.now }
+    ensures { (number : ℕ) → object.now ≡ object_bytes (demo_parts number) → IfOk result (ExplainsDemo number) }
+{
+    prepared_in_one_way();
+    let image = image_in(&hardened.image);
+    let report = run_accepted(alloc, &image, &hardened.graph)?;
+    after_run(alloc, object, hardened, &image, report)
+}
+
+/// Hardens a generated object, verifies its image, runs it, and compares the program's run with it.
+fn of_object(alloc: Global, object: &[u8]) -> Result<DemoOutcome, NoMemory>
+    requires { IsDrawn object.now }
+    ensures { (number : ℕ) → object.now ≡ object_bytes (demo_parts number) → IfOk result (ExplainsDemo number) }
+{
+    let hardened = made(alloc, object)?;
+    of_hardened(alloc, object, &hardened)
+}
+
+/// Hardens the object of a number, verifies its image, runs it, and compares the program's run with it.
+pub fn demonstrate(alloc: Global, request: &DemoRequest) -> Result<DemoOutcome, NoMemory>
+    ensures { IfOk result (ExplainsDemo request.now.number) }
+{
+    let file = object_of(alloc, request.number)?;
+    of_object(alloc, &file)
 }

@@ -6,7 +6,7 @@ ghost use Rattle.cfi_harden.specs.Prepared.{IsPrepared};
 ghost use Rattle.src_machine.specs.ProgramAt.{EndsLast};
 ghost use Rattle.gen_hardened.specs.Laws.{entered};
 ghost use Rattle.cfi_commands.specs.Demo.{IsComparedAt, STEP_LIMIT};
-ghost use Rattle.cfi_commands.specs.Demonstration.{CanRunAt, Fits, IsDifference, IsDrawn, IsImageIn, IsSourceOn, NoneDiffers};
+ghost use Rattle.cfi_commands.specs.Demonstration.{CanRunAt, Fits, IsAnswerAt, IsDifference, IsDrawn, IsImageIn, IsSourceOn, NoneDiffers};
 ghost use Rattle.cfi_commands.specs.Rewrite.{IsMade, IsSpelled};
 ghost use Rattle.cfi_commands.specs.Run.{IsSafeRun};
 
@@ -106,6 +106,22 @@ fn begun<'a, 'b>(
     }
 }
 
+/// Compares the run of a generated object's program at a map, which is prepared, with that of an image.
+fn compare_prepared(
+    alloc: Global,
+    prepared: &Prepared<'_>,
+    map: &Map,
+    image: &Image<'_>,
+) -> Result<Compared, NoMemory>
+    requires last { EndsLast prepared.now.program }
+    requires entry { entry_place prepared.now.program (codes "main") ≡ Some prepared.now.entry }
+    requires fits { CanRunAt prepared.now map.now }
+    ensures { IfOk result (IsAnswerAt prepared.now map.now image.now) }
+{
+    let mut source = begun(alloc, prepared, map)?;
+    compare(alloc, &mut source, image, &[], STEP_LIMIT)
+}
+
 /// Compares the run of a generated object's program at a map with that of an image.
 pub(crate) fn compare_at(
     alloc: Global,
@@ -120,7 +136,5 @@ pub(crate) fn compare_at(
     ensures same { IfOk result (λ answer. ¬ IsDifference answer) }
 {
     let prepared = prepared(alloc, object)?;
-    let mut source = begun(alloc, &prepared, map)?;
-    let answer = compare(alloc, &mut source, image, &[], STEP_LIMIT)?;
-    Ok(answer)
+    compare_prepared(alloc, &prepared, map, image)
 }
