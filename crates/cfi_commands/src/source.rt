@@ -1,5 +1,6 @@
-ghost use Rattle.std.specs.Prelude.{◌≡◌, ◌<◌, ◌≤◌, ℕ, List, IfOk, IfErr, MatchResult, Some, option_copied};
+ghost use Rattle.std.specs.Prelude.{◌≡◌, ◌<◌, ◌≤◌, ℕ, List, IfOk, IfErr, MatchResult, Ok, Some, option_copied};
 ghost use Rattle.obj_items.specs.Laws.{LastEnds};
+ghost use Rattle.cfi_graph.specs.MapText.{map_of};
 ghost use Rattle.cfi_flow.specs.Entry.{entry_place};
 ghost use Rattle.cfi_flow.specs.Policy.{instruction_at};
 ghost use Rattle.cfi_harden.specs.Hardened.{HasDataRoom};
@@ -99,8 +100,30 @@ pub(crate) fn source_on<'a, 'b>(
     SourceRun::new(alloc, &prepared.items, &prepared.closed, map, spot, input)
 }
 
-/// A program at the map that a text spells, from its start.
+/// A program at a map that is read, from its start.
 #[tactic(auto, using(crate::proofs::Sources::source_is))]
+fn source_read<'a, 'b>(
+    alloc: Global,
+    prepared: &'a Prepared<'b>,
+    entry: &[u8],
+    map: &Map,
+    input: &[u8],
+) -> Result<SourceRun<'a, 'b>, MapEnd>
+    requires last { EndsLast prepared.now.program }
+    requires room { HasDataRoom prepared.now.program }
+    requires entry { entry_place prepared.now.program entry.now ≡ Some prepared.now.entry }
+    ensures { (text : List ℕ) → map_of text ≡ Ok map.now
+        → MatchResult result (IsSourceAt prepared.now text input.now) (IsMapEnd prepared.now text) }
+{
+    match source_on(alloc, prepared, entry, map, input) {
+        Ok(source) => Ok(source),
+        Err(SourceEnd::BadMap(line)) => Err(MapEnd::Place(line)),
+        Err(SourceEnd::RelocRange(section, offset)) => Err(MapEnd::OutOfRange(section, offset)),
+        Err(SourceEnd::NoMemory) => Err(MapEnd::NoMemory),
+    }
+}
+
+/// A program at the map that a text spells, from its start.
 pub(crate) fn source_at<'a, 'b>(
     alloc: Global,
     prepared: &'a Prepared<'b>,
@@ -113,15 +136,9 @@ pub(crate) fn source_at<'a, 'b>(
     requires entry { entry_place prepared.now.program entry.now ≡ Some prepared.now.entry }
     ensures { MatchResult result (IsSourceAt prepared.now map.now input.now) (IsMapEnd prepared.now map.now) }
 {
-    let map = match read_map(alloc, map) {
-        Ok(map) => map,
-        Err(TextEnd::Line(line, reason)) => return Err(MapEnd::Text(line, reason)),
-        Err(TextEnd::NoMemory) => return Err(MapEnd::NoMemory),
-    };
-    match source_on(alloc, prepared, entry, &map, input) {
-        Ok(source) => Ok(source),
-        Err(SourceEnd::BadMap(line)) => Err(MapEnd::Place(line)),
-        Err(SourceEnd::RelocRange(section, offset)) => Err(MapEnd::OutOfRange(section, offset)),
-        Err(SourceEnd::NoMemory) => Err(MapEnd::NoMemory),
+    match read_map(alloc, map) {
+        Ok(map) => source_read(alloc, prepared, entry, &map, input),
+        Err(TextEnd::Line(line, reason)) => Err(MapEnd::Text(line, reason)),
+        Err(TextEnd::NoMemory) => Err(MapEnd::NoMemory),
     }
 }
