@@ -105,7 +105,7 @@ impl fmt::Display for RewriteOutcome<'_> {
 
 impl Rewritten<'_> {
     /// Writes the image, the graph and the map, in this order.
-    #[tactic(auto, using(crate::proofs::Writing::first_torn, crate::proofs::Writing::second_torn, crate::proofs::Writing::third_torn, crate::proofs::Writing::first_cut, crate::proofs::Writing::second_cut, crate::proofs::Writing::third_cut, crate::proofs::Writing::three_whole))]
+    #[tactic(auto, using(crate::proofs::Writing::three_whole))]
     fn write<F: Files>(&self, files: &mut F) -> Result<(), OutEnd>
         requires apart { AreApart (outputs_of self.now) }
         ensures whole { OnOk result (Wrote F.Files files.old files.new (outputs_of self.now) None) }
