@@ -1,3 +1,4 @@
+pub mod Gave
 mod Trail
 pub mod Writing
 pub mod Complete
