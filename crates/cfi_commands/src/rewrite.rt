@@ -10,7 +10,7 @@ ghost use Rattle.cfi_files.specs.Writes.{AreApart, IsCut, IsTorn, KeepsReads, Wr
 ghost use Rattle.cfi_commands.specs.Rewrite.{AreNamedApart, ExplainsRewrite, HasSizes, IsRefused, IsRewriteOf, IsSpelled, IsSpelledOut, outputs_of, rewrite_asked, rewrite_names, rewrite_outputs, rewrite_status, rewrite_words};
 
 use cfi_files::{Output, Refusal, Stop, file_word, read_all, status, text_named};
-use cfi_graph::{Graph, write_graph, write_map};
+use cfi_graph::{Graph, Map, write_graph, write_map};
 use cfi_rewrite::{Hardened, rewrite};
 use cfi_words::RewriteWords;
 use elf_image::read_image;
@@ -180,19 +180,20 @@ fn sizes_of(image: &[u8], graph: &Graph) -> Sizes
     }
 }
 
-/// A hardened program as it is to be written.
-fn spelled_out<'a>(
+/// An image, with the texts of its graph and its map, as they are to be written.
+fn with_texts<'a>(
     alloc: Global,
     request: &RewriteRequest<'a>,
-    hardened: Hardened,
+    image: Vec<u8>,
+    graph: &Graph,
+    map: &Map,
 ) -> Result<Rewritten<'a>, NoMemory>
-    requires { IsSpelled hardened.image }
-    ensures { IfOk result (IsSpelledOut (rewrite_asked request.now) hardened) }
+    requires { IsSpelled image.items }
+    ensures { IfOk result (IsSpelledOut (rewrite_asked request.now) (record { image = image.items; graph = graph.now; map = map.now })) }
 {
-    let Hardened { image, graph, map } = hardened;
-    let sizes = sizes_of(image.as_slice(), &graph);
-    let graph = write_graph(alloc, &graph)?;
-    let map = write_map(alloc, &map)?;
+    let sizes = sizes_of(image.as_slice(), graph);
+    let graph = write_graph(alloc, graph)?;
+    let map = write_map(alloc, map)?;
     Ok(Rewritten {
         image: Output {
             name: request.image,
@@ -208,6 +209,19 @@ fn spelled_out<'a>(
         },
         sizes,
     })
+}
+
+/// A hardened program as it is to be written.
+fn spelled_out<'a>(
+    alloc: Global,
+    request: &RewriteRequest<'a>,
+    hardened: Hardened,
+) -> Result<Rewritten<'a>, NoMemory>
+    requires { IsSpelled hardened.image }
+    ensures { IfOk result (IsSpelledOut (rewrite_asked request.now) hardened) }
+{
+    let Hardened { image, graph, map } = hardened;
+    with_texts(alloc, request, image, &graph, &map)
 }
 
 /// Hardens an object that some bytes spell, under a policy that others spell.

@@ -1,6 +1,6 @@
 use Rattle.std.proofs.Common.{◌≡◌, Err, rules}
 use Rattle.tool_io.specs.declared.ends.OutEnd.TheVariants as ends
-use Rattle.cfi_commands.proofs.Writing.{first_cut, first_torn, second_cut, second_torn, third_cut, third_torn, three_whole}
+use Rattle.cfi_commands.proofs.Writing.{first_cut, first_torn, second_cut, second_torn, third_cut, third_torn}
 use Rattle.cfi_commands.proofs.rewrite.Rewritten.write.Goals as goal
 
 pub returns-in_err-write-clause-torn : goal.returns-in_err-write-clause-torn
