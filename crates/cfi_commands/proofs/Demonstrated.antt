@@ -1,12 +1,9 @@
--- What a demonstration needs of a hardened program: its file is an image, which meets the rules; its program runs at its map; and no
--- run of that differs from the image's.
+-- What a demonstration needs of a hardened program: its program runs at its map, and no run of that differs from the image's.
 use Rattle.std.proofs.Common.{◌≡◌, ℕ, List, [], Option, ap, refl, subst, sym, unwrap_or}
 use Rattle.rv_word.specs.Image.{Contents}
-use Rattle.rv_word.specs.Layout.{version_1}
 use Rattle.cfi_graph.specs.declared.map.MapLine.{MapLine}
 use Rattle.cfi_flow.specs.GraphAtMap.{Layout}
 use Rattle.cfi_flow.specs.LegalMap.{gates_of}
-use Rattle.cfi_verify.specs.Rules.{IsWellFormed}
 use Rattle.obj_program.specs.Program.{Program}
 use Rattle.cfi_harden.specs.Hardened.{HardenedParts, IsHardened, chosen}
 use Rattle.cfi_harden.specs.Prepared.{IsPrepared, PreparedParts}
@@ -22,21 +19,8 @@ use Rattle.cfi_compare.specs.Told.{told_answer}
 use Rattle.cfi_compare.specs.declared.answer.Compared.{Compared}
 use Rattle.cfi_commands.specs.Demo.{IsComparedAt, STEP_LIMIT}
 use Rattle.cfi_commands.specs.Demonstration.{CanRunAt, Fits, IsAnswerAt, IsDifference, IsImageIn, IsSourceOn, NoneDiffers}
-use Rattle.cfi_commands.specs.Rewrite.{IsSpelled}
 
 module _ (request : Request) (h : HardenedParts) (hardens : IsHardened request h) where
-  pub spelled_of : IsSpelled h.image
-  spelled_of =
-      let (p, prepared, (s, labels, code, init, placed, room, in_range, written)) = hardens in
-      (code, init, written.bytes.size, written.image)
-
-  pub well_formed_of : (image : Contents) → IsImageIn h.image image → IsWellFormed version_1 image h.graph
-  well_formed_of image is =
-      let (p, prepared, (s, labels, code, init, placed, room, in_range, written)) = hardens in
-      let (code_is, init_is) = is.only code init written.bytes.size written.image in
-      let same : image ≡ record { code = code; init = init } = λ i. record { code = code_is i; init = init_is i } in
-      subst (λ (x : Contents). IsWellFormed version_1 x h.graph) (sym same) written.well_formed
-
   pub fits_of : PreparedInOneWay → Fits request h.map
   fits_of one p is =
       let (q, prepared, (s, labels, code, init, placed, room, in_range, written)) = hardens in
