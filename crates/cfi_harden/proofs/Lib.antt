@@ -19,6 +19,8 @@ pub mod SitesThere
 pub mod CodeBytes
 pub mod CodeRoom
 pub mod Accepting
+mod Preparing
+mod Drawing
 pub mod MapFits
 pub mod ClassLabels
 pub mod Ready

@@ -1,10 +1,10 @@
 -- The lines of classes and of places, one after another.
-use Rattle.std.proofs.Common.{◌≡◌, ℕ, zero, suc, ◌+◌, ◌<◌, ◌≤◌, ◌-◌, Option, Some, None, List, [], ◌∷◌, ◌++◌, refl, length, map, drop, arith, ap, ◌∙◌, sym, subst, append_assoc, append-nil, get_or}
+use Rattle.std.proofs.Common.{◌≡◌, ℕ, zero, suc, ◌+◌, ◌<◌, ◌≤◌, ◌-◌, Option, Some, None, List, [], ◌∷◌, ◌++◌, refl, length, map, take, drop, arith, ap, ◌∙◌, sym, subst, append_assoc, append-nil, get_or}
 use Rattle.std.specs.Prelude.{slice_index, slice_index_or}
 use Rattle.std.specs.List.{All}
 use Rattle.std.proofs.Math.ListN.{drop_of_length-le}
-use Rattle.std.proofs.Math.Seq.{drop-cons}
-use Rattle.std.proofs.lemmas.List.{get_or_append_left, get_or-append-add, get_or_default}
+use Rattle.std.proofs.Math.Seq.{drop-cons, take-suc}
+use Rattle.std.proofs.lemmas.List.{get_or_append_left, get_or-append-add, get_or_default, map-append, take_all}
 use Rattle.rv_word.specs.Layout.{START}
 use Rattle.obj_program.specs.declared.item.Item.{Item}
 use Rattle.obj_program.specs.Program.{count, item_of, no_item}
@@ -124,3 +124,15 @@ joined layout labels entry first second third entry_is first_is second_is third_
     third_is ∙ ap (λ (ls : List GraphLine). ls ++ places) second_is ∙ append_assoc first (line.Call START entry ∷ []) places
     ∙ ap (λ (ls : List GraphLine). ls ++ (line.Call START entry ∷ places)) first_is
     ∙ ap (λ (a : ℕ). classes ++ (line.Call START a ∷ places)) entry_is
+
+-- a list that is made of the members of another, one after another
+pub next_mapped : (f : ℕ → ℕ) (xs first more : List ℕ) (k y : ℕ) → k < length xs → first ≡ map f (take k xs)
+    → y ≡ f (get_or xs k 0) → more ≡ first ++ y ∷ [] → more ≡ map f (take (k + 1) xs)
+next_mapped f xs first more k y below first_is y_is is =
+    let next : k + 1 ≡ suc k = omega arith in
+    is ∙ ap (λ (ys : List ℕ). ys ++ y ∷ []) first_is ∙ ap (λ z. map f (take k xs) ++ z ∷ []) y_is
+    ∙ sym (map-append f (take k xs) (get_or xs k 0 ∷ []))
+    ∙ ap (λ (ys : List ℕ). map f ys) (sym (take-suc xs k 0 below)) ∙ ap (λ n. map f (take n xs)) (sym next)
+
+pub all_mapped : (f : ℕ → ℕ) (xs first : List ℕ) (k : ℕ) → length xs ≤ k → first ≡ map f (take k xs) → first ≡ map f xs
+all_mapped f xs first k past is = is ∙ ap (λ (ys : List ℕ). map f ys) (take_all k xs past)

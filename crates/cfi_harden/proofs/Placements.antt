@@ -1,10 +1,11 @@
 -- The placement of a program whose branches are short where they can be.
-use Rattle.std.proofs.Common.{◌≡◌, ℕ, ◌+◌, ◌<◌, ◌≤◌, ◌^◌, Bool, false, List, [], length, get_or, take, refl, sym, ap, subst, ◌∙◌, arith, inl, inr}
+use Rattle.std.proofs.Common.{◌≡◌, ℕ, ◌+◌, ◌<◌, ◌≤◌, ◌^◌, Bool, true, false, List, [], ◌∷◌, ◌++◌, length, get_or, take, refl, sym, ap, subst, ◌∙◌, arith, inl, inr}
 use Rattle.std.specs.Prelude.{sum}
 use Rattle.std.proofs.Math.ListN.{get_or-eq_default}
 use Rattle.std.proofs.Math.Path.{fun_ext}
-use Rattle.std.proofs.lemmas.Bool.{cases_lt}
-use Rattle.std.proofs.lemmas.List.{get_or-take, length-take-le}
+use Rattle.std.proofs.Math.Seq.{get_or-append_seam}
+use Rattle.std.proofs.lemmas.Bool.{cases_Bool, cases_lt}
+use Rattle.std.proofs.lemmas.List.{get_or-take, get_or_append_left, length-take-le}
 use Rattle.rv_word.specs.Layout.{CODE_SIZE, UNITS_START}
 use Rattle.obj_program.specs.Program.{Program, count}
 use Rattle.obj_program.specs.Sound.{IsSound}
@@ -101,3 +102,28 @@ module _ (program : Program) (closed : ClosedGraph) (p : Placed) (is : IsShorten
         let there = behind ∙ ap (words_from closed.classes 0) are in
         subst (λ (xs : List ℕ). IsPlaced program closed (record { gates = xs; words = words; long = long })) (sym are)
         (subst (λ (ws : List ℕ). IsPlaced program closed (record { gates = take (count program) p.starts; words = ws; long = long })) (sym there) at_starts)
+
+-- flags that are read one after another, from the first
+pub flag_more : (flags long more : List Bool) (k : ℕ) (b : Bool) → length long ≡ k → ((j : ℕ) → j < k → is_long long j ≡ flag flags j) →
+    b ≡ flag flags k → more ≡ long ++ b ∷ [] → (j : ℕ) → j < k + 1 → is_long more j ≡ flag flags j
+flag_more flags long more k b len each b_is is j below =
+    ap (λ (bs : List Bool). is_long bs j) is
+    ∙ elim (cases_lt j k) [
+      | inl before ↦ get_or_append_left long (b ∷ []) true j (omega arith) ∙ each j before
+      | inr past ↦
+          let here : j ≡ length long = omega arith in
+          ap (λ n. get_or (long ++ b ∷ []) n true) here ∙ get_or-append_seam long b [] true ∙ b_is ∙ ap (flag flags) (omega arith)
+    ]
+
+pub flags_all : (flags long : List Bool) (k n : ℕ) → length long ≡ k → n ≤ k → ((j : ℕ) → flag flags j ≡ false → j < n) →
+    ((j : ℕ) → j < k → is_long long j ≡ flag flags j) → (j : ℕ) → is_long long j ≡ flag flags j
+flags_all flags long k n len past within each j =
+    elim (cases_lt j k) [
+      | inl before ↦ each j before
+      | inr over ↦
+          get_or-eq_default long true (omega arith)
+          ∙ elim (cases_Bool (flag flags j)) [
+            | inl set ↦ sym set
+            | inr clear ↦ absurd (omega (arith, within j clear))
+          ]
+    ]

@@ -6,7 +6,7 @@ use Rattle.rv_word.specs.Layout.{CODE_SIZE, OPENING_CALL, version_1}
 use Rattle.elf_image.specs.Spelling.{spelling}
 use Rattle.cfi_graph.specs.Graph.{GraphParts, IsGraph}
 use Rattle.cfi_graph.specs.declared.map.MapLine.{MapLine}
-use Rattle.obj_program.specs.DataAtMap.{data_at}
+use Rattle.obj_program.specs.DataAtMap.{data_at, init_size}
 use Rattle.cfi_flow.specs.GraphAtMap.{graph_lines}
 use Rattle.cfi_flow.specs.LegalMap.{IsLegalMap, gates_of}
 use Rattle.cfi_unit.specs.UnitWords.{Reaches}
@@ -21,7 +21,7 @@ use Rattle.cfi_harden.specs.MapLines.{map_lines}
 use Rattle.cfi_harden.specs.Placing.{Spaced}
 use Rattle.cfi_harden.specs.Prepared.{PreparedParts}
 use Rattle.cfi_harden.specs.Units.{Choice, entry_gate, units}
-use Rattle.cfi_harden.specs.Writing.{IsWritable, IsWrittenAs}
+use Rattle.cfi_harden.specs.Writing.{IsCoded, IsImageWith, IsWritable, IsWrittenAs}
 use Rattle.cfi_harden.proofs.Written.{written_graph, written_well_formed}
 use Rattle.cfi_harden.proofs.SoundCode.{written_sound}
 use Rattle.cfi_harden.proofs.PlaceLines.{gates_are}
@@ -82,3 +82,17 @@ written_as p s labels code init image graph lines able code_is init_is image_is 
             (ap (λ (g : GraphParts). g.lines) graph_is) (ap (λ (g : GraphParts). g.code) graph_is);
       },
     )
+
+-- the same from the parts that are made one after another
+pub written_with : (p : PreparedParts) (s : Spaced) (labels code image : List ℕ) (graph : GraphParts) (lines : List MapLine) →
+    IsWritable p s labels → IsCoded (chosen p s labels) code graph → lines ≡ map_lines (chosen p s labels).layout →
+    IsLegalMap p.program p.closed lines → IsImageWith p s code image →
+    IsWrittenAs p s labels (record { image = image; graph = graph; map = lines })
+written_with p s labels code image graph lines able coded lines_are legal (init, of) =
+    written_as p s labels code init image graph lines able coded.words of.data_is of.image_is coded.graph_is lines_are legal of.bytes
+
+-- the size of an image with the data of a program
+pub program_size : (p : PreparedParts) (s : Spaced) (labels code : List ℕ) (graph : GraphParts) → IsWritable p s labels → IsCoded (chosen p s labels) code graph →
+    IsImageSize (length code) (init_size p.program)
+program_size p s labels code graph able coded =
+    image_size (chosen p s labels) (length code) (init_size p.program) coded.size (in_room (chosen p s labels) able.accepted) able.room

@@ -5,6 +5,7 @@ pub mod Prepared
 pub mod Refused
 pub mod RefusalOf
 pub mod Closing
+pub mod Preparing
 pub mod Sizes
 pub mod Shorts
 pub mod Placing

@@ -1,19 +1,26 @@
 -- What a prepared program, a placement and labels have before units are written. Only private contracts cite this.
-use Rattle.std.specs.Prelude.{◌≡◌, ℕ, ◌-◌, ◌<◌, ◌≤◌, ◌^◌, true, List, Result, Ok, Err, is_some, length}
+use Rattle.std.specs.Prelude.{◌≡◌, ℕ, ◌-◌, ◌*◌, ◌<◌, ◌≤◌, ◌^◌, true, List, Result, Ok, Err, Some, is_some, length}
+use Rattle.elf_image.specs.Spelling.{spelling}
+use Rattle.cfi_graph.specs.Graph.{GraphParts}
 use Rattle.cfi_graph.specs.Map.{IsMap}
 use Rattle.obj_program.specs.DataAtMap.{data_at, init_size}
 use Rattle.obj_program.specs.Program.{count, is_end, item_of}
 use Rattle.obj_program.specs.Sound.{IsSound}
 use Rattle.obj_items.specs.MapFit.{FitsMap}
+use Rattle.cfi_flow.specs.GraphAtMap.{graph_lines}
 use Rattle.cfi_flow.specs.Placement.{words_from}
+use Rattle.cfi_verify.specs.Laws.{AreBytes}
+use Rattle.cfi_verify.specs.Split.{code_words}
 use Rattle.cfi_harden.specs.declared.refusal.Refusal.{Refusal}
 use Rattle.cfi_harden.specs.Accepted.{IsAccepted}
 use Rattle.cfi_harden.specs.Fitting.{RefusesPlaced}
 use Rattle.cfi_harden.specs.GraphOf.{IsGraphOf}
 use Rattle.cfi_harden.specs.Hardened.{HardenedParts, INIT_ROOM, IsWritten, IsWrittenOf, chosen}
+use Rattle.cfi_harden.specs.Laws.{written_code}
 use Rattle.cfi_harden.specs.MapLines.{map_lines}
 use Rattle.cfi_harden.specs.Placing.{Spaced}
 use Rattle.cfi_harden.specs.Prepared.{PreparedParts}
+use Rattle.cfi_harden.specs.Units.{Choice}
 
 -- a program of an object, with its closed graph and an entry that is there
 pub record IsReady (p : PreparedParts) : Type 0 where
@@ -32,6 +39,21 @@ pub record IsWritable (p : PreparedParts) (s : Spaced) (labels : List ℕ) : Typ
   pub counted : length s.gates ≡ count p.program
   pub init_there : is_some (data_at p.program s.gates) ≡ true
   pub room : init_size p.program ≤ INIT_ROOM
+
+-- the bytes of a choice's code, with their graph
+pub record IsCoded (m : Choice) (code : List ℕ) (graph : GraphParts) : Type 0 where
+  pub words : code_words code ≡ written_code m
+  pub size : length code ≡ 4 * length (written_code m)
+  pub graph_is : graph ≡ record { code = length code; lines = graph_lines m.layout m.labels }
+
+-- the image of some code with these data, and with some data
+pub record IsImageOf (p : PreparedParts) (s : Spaced) (code init image : List ℕ) : Type 0 where
+  pub data_is : data_at p.program s.gates ≡ Some init
+  pub bytes : AreBytes (record { code = code; init = init })
+  pub image_is : image ≡ spelling code init
+
+abbrev pub IsImageWith : PreparedParts → Spaced → List ℕ → List ℕ → Type 0
+IsImageWith p s code image = (init : List ℕ) × IsImageOf p s code init image
 
 -- written, with some code and some data
 abbrev pub IsWrittenAs : PreparedParts → Spaced → List ℕ → HardenedParts → Type 0

@@ -1,4 +1,5 @@
 ghost use Rattle.std.specs.Prelude.{◌≡◌, ◌*◌, ◌<◌, ◌≤◌, ◌^◌, ℕ, true, IfOk, OnOk, Some, is_some, length, slice_index};
+ghost use Rattle.rv_word.specs.Image.{IsImageSize};
 ghost use Rattle.rv_word.specs.Layout.{CODE_SIZE};
 ghost use Rattle.cfi_flow.specs.GraphAtMap.{graph_lines};
 ghost use Rattle.cfi_flow.specs.Placement.{words_from};
@@ -8,7 +9,7 @@ ghost use Rattle.obj_program.specs.Program.{count};
 ghost use Rattle.cfi_harden.specs.Accepted.{IsAccepted};
 ghost use Rattle.cfi_harden.specs.Hardened.{chosen};
 ghost use Rattle.cfi_harden.specs.Laws.{written_code};
-ghost use Rattle.cfi_harden.specs.Writing.{IsWrittenAs, IsWritable};
+ghost use Rattle.cfi_harden.specs.Writing.{IsCoded, IsImageWith, IsWrittenAs, IsWritable};
 
 use crate::chosen::{Chosen, Mapped};
 use crate::code::code_bytes;
@@ -62,6 +63,15 @@ impl<'a, 'b> Chosen<'a, 'b> {
         let _count = self.count();
         self.graph(alloc, code.len() as u32)
     }
+
+    /// The bytes of the code, with their graph.
+    fn coded(&self, alloc: Global) -> Result<(Vec<u8>, Graph), NoMemory>
+        ensures { IfOk result (λ c. IsCoded self.now c.0.items c.1) }
+    {
+        let code = self.code(alloc)?;
+        let graph = self.graph_of(alloc, code.as_slice())?;
+        Ok((code, graph))
+    }
 }
 
 /// The initialised data of a prepared program at a placement, where they have a value.
@@ -106,8 +116,27 @@ fn are_small(bytes: &[u8])
     let _len = bytes.len();
 }
 
+/// The image of this code with the data of a prepared program at a placement.
+fn image_of(
+    alloc: Global,
+    prepared: &Prepared,
+    spacing: &Spacing,
+    code: &[u8],
+) -> Result<Vec<u8>, NoMemory>
+    requires counted { length spacing.now.gates ≡ count prepared.now.program }
+    requires there { is_some (data_at prepared.now.program spacing.now.gates) ≡ true }
+    requires size { IsImageSize (length code.now) (init_size prepared.now.program) }
+    ensures { IfOk result (λ v. IsImageWith prepared.now spacing.now code.now v.items) }
+{
+    let init = init_at(alloc, prepared, spacing)?;
+    let data = init.as_slice();
+    are_small(code);
+    are_small(data);
+    let image = write_image(alloc, code, data)?;
+    Ok(image)
+}
+
 /// Writes a prepared program with these labels at a placement.
-#[tactic(auto, using(crate::proofs::WholeImage::image_size))]
 pub(crate) fn written(
     alloc: Global,
     prepared: &Prepared,
@@ -118,14 +147,8 @@ pub(crate) fn written(
     ensures { IfOk result (λ h. IsWrittenAs prepared.now spacing.now labels.now h) }
 {
     let chosen = chosen_of(alloc, prepared, spacing, labels)?;
-    let code = chosen.code(alloc)?;
-    let bytes = code.as_slice();
-    let graph = chosen.graph_of(alloc, bytes)?;
+    let (code, graph) = chosen.coded(alloc)?;
     let map = chosen.map(alloc)?;
-    let init = init_at(alloc, prepared, spacing)?;
-    let data = init.as_slice();
-    are_small(bytes);
-    are_small(data);
-    let image = write_image(alloc, bytes, data)?;
+    let image = image_of(alloc, prepared, spacing, code.as_slice())?;
     Ok(Hardened { image, graph, map })
 }

@@ -1,4 +1,5 @@
 ghost use Rattle.std.specs.Prelude.{IfErr, option_copied};
+ghost use Rattle.cfi_harden.specs.Preparing.{Enters, Reads};
 ghost use Rattle.cfi_harden.specs.Refused.{IsEarly, Prepares};
 ghost use Rattle.cfi_harden.specs.Request.{Request};
 
@@ -27,7 +28,33 @@ impl<'a> Model for Prepared<'a> {
     ghost view = { λ p. record { program = p.items; closed = p.closed; entry = p.entry } };
 }
 
+/// The program of an object.
+fn program_of<'a>(alloc: Global, object: &'a [u8]) -> Result<Items<'a>, Refusal>
+    ensures { Reads object.now result }
+{
+    let object = Object::read(alloc, object)?;
+    let items = items(alloc, &object)?;
+    Ok(items)
+}
+
+/// The place where a program is entered, at the first symbol of a name, and its closed graph under a policy, if there is one.
+fn entered(
+    alloc: Global,
+    items: &Items,
+    entry: &[u8],
+    policy: Option<&[u8]>,
+) -> Result<(u64, Closed), Refusal>
+    ensures { Enters items.now entry.now (option_copied policy.entry) result }
+{
+    let Some(entry) = entry_place(items, entry) else {
+        return Err(Refusal::NoEntry);
+    };
+    let closed = closed_under(alloc, items, policy)?;
+    Ok((entry, closed))
+}
+
 /// The program of an object with its closed graph under a policy, if there is one, entered at the first symbol of a name.
+#[tactic(auto, using(crate::proofs::Preparing::is_prepared, crate::proofs::Preparing::not_entered, crate::proofs::Preparing::not_read))]
 pub fn prepare<'a>(
     alloc: Global,
     object: &'a [u8],
@@ -37,12 +64,8 @@ pub fn prepare<'a>(
     ensures prepares { Prepares (record { object = object.now; entry = entry.now; policy = option_copied policy.entry }) result }
     ensures early { IfErr result IsEarly }
 {
-    let object = Object::read(alloc, object)?;
-    let items = items(alloc, &object)?;
-    let Some(entry) = entry_place(&items, entry) else {
-        return Err(Refusal::NoEntry);
-    };
-    let closed = closed_under(alloc, &items, policy)?;
+    let items = program_of(alloc, object)?;
+    let (entry, closed) = entered(alloc, &items, entry, policy)?;
     Ok(Prepared {
         items,
         closed,

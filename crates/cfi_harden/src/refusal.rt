@@ -6,7 +6,7 @@ use obj_rules::ItemFault;
 use rv_word::NoMemory;
 
 /// Why an object is not hardened. A later one comes only where no earlier one stands.
-#[derive(Clone, Copy, Debug)]
+#[derive(Clone, Copy)]
 pub enum Refusal {
     /// A fault of the file as an object.
     Object(ObjectFault),
