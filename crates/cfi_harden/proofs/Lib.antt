@@ -20,7 +20,6 @@ pub mod CodeBytes
 pub mod CodeRoom
 pub mod Accepting
 mod Preparing
-mod Drawing
 pub mod MapFits
 pub mod ClassLabels
 pub mod Ready

@@ -21,7 +21,7 @@ use Rattle.cfi_harden.specs.MapLines.{map_lines}
 use Rattle.cfi_harden.specs.Placing.{Spaced}
 use Rattle.cfi_harden.specs.Prepared.{PreparedParts}
 use Rattle.cfi_harden.specs.Units.{Choice, entry_gate, units}
-use Rattle.cfi_harden.specs.Writing.{IsCoded, IsImageWith, IsWritable, IsWrittenAs}
+use Rattle.cfi_harden.specs.Writing.{IsCoded, IsDescribed, IsImageWith, IsWritable, IsWrittenAs}
 use Rattle.cfi_harden.proofs.Written.{written_graph, written_well_formed}
 use Rattle.cfi_harden.proofs.SoundCode.{written_sound}
 use Rattle.cfi_harden.proofs.PlaceLines.{gates_are}
@@ -85,11 +85,10 @@ written_as p s labels code init image graph lines able code_is init_is image_is 
 
 -- the same from the parts that are made one after another
 pub written_with : (p : PreparedParts) (s : Spaced) (labels code image : List ℕ) (graph : GraphParts) (lines : List MapLine) →
-    IsWritable p s labels → IsCoded (chosen p s labels) code graph → lines ≡ map_lines (chosen p s labels).layout →
-    IsLegalMap p.program p.closed lines → IsImageWith p s code image →
+    IsWritable p s labels → IsDescribed (chosen p s labels) code graph lines → IsImageWith p s code image →
     IsWrittenAs p s labels (record { image = image; graph = graph; map = lines })
-written_with p s labels code image graph lines able coded lines_are legal (init, of) =
-    written_as p s labels code init image graph lines able coded.words of.data_is of.image_is coded.graph_is lines_are legal of.bytes
+written_with p s labels code image graph lines able is (init, of) =
+    written_as p s labels code init image graph lines able is.coded.words of.data_is of.image_is is.coded.graph_is is.lines is.legal of.bytes
 
 -- the size of an image with the data of a program
 pub program_size : (p : PreparedParts) (s : Spaced) (labels code : List ℕ) (graph : GraphParts) → IsWritable p s labels → IsCoded (chosen p s labels) code graph →

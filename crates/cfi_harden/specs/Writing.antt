@@ -3,11 +3,13 @@ use Rattle.std.specs.Prelude.{◌≡◌, ℕ, ◌-◌, ◌*◌, ◌<◌, ◌≤�
 use Rattle.elf_image.specs.Spelling.{spelling}
 use Rattle.cfi_graph.specs.Graph.{GraphParts}
 use Rattle.cfi_graph.specs.Map.{IsMap}
+use Rattle.cfi_graph.specs.declared.map.MapLine.{MapLine}
 use Rattle.obj_program.specs.DataAtMap.{data_at, init_size}
 use Rattle.obj_program.specs.Program.{count, is_end, item_of}
 use Rattle.obj_program.specs.Sound.{IsSound}
 use Rattle.obj_items.specs.MapFit.{FitsMap}
 use Rattle.cfi_flow.specs.GraphAtMap.{graph_lines}
+use Rattle.cfi_flow.specs.LegalMap.{IsLegalMap}
 use Rattle.cfi_flow.specs.Placement.{words_from}
 use Rattle.cfi_verify.specs.Laws.{AreBytes}
 use Rattle.cfi_verify.specs.Split.{code_words}
@@ -19,7 +21,8 @@ use Rattle.cfi_harden.specs.Hardened.{HardenedParts, INIT_ROOM, IsWritten, IsWri
 use Rattle.cfi_harden.specs.Laws.{written_code}
 use Rattle.cfi_harden.specs.MapLines.{map_lines}
 use Rattle.cfi_harden.specs.Placing.{Spaced}
-use Rattle.cfi_harden.specs.Prepared.{PreparedParts}
+use Rattle.cfi_harden.specs.Prepared.{IsPrepared, PreparedParts}
+use Rattle.cfi_harden.specs.Request.{Request}
 use Rattle.cfi_harden.specs.Units.{Choice}
 
 -- a program of an object, with its closed graph and an entry that is there
@@ -30,6 +33,10 @@ pub record IsReady (p : PreparedParts) : Type 0 where
   pub near : (k : ℕ) → k < count p.program → FitsMap k (item_of p.program k)
   pub graph : IsGraphOf p.program p.closed
   pub entered : p.entry < count p.program
+
+-- what some request comes to
+abbrev pub IsOfRequest : PreparedParts → Type 0
+IsOfRequest p = (request : Request) × IsPrepared request p
 
 -- what can be written
 pub record IsWritable (p : PreparedParts) (s : Spaced) (labels : List ℕ) : Type 0 where
@@ -45,6 +52,12 @@ pub record IsCoded (m : Choice) (code : List ℕ) (graph : GraphParts) : Type 0 
   pub words : code_words code ≡ written_code m
   pub size : length code ≡ 4 * length (written_code m)
   pub graph_is : graph ≡ record { code = length code; lines = graph_lines m.layout m.labels }
+
+-- the same with its map, which is legal
+pub record IsDescribed (m : Choice) (code : List ℕ) (graph : GraphParts) (map : List MapLine) : Type 0 where
+  pub coded : IsCoded m code graph
+  pub lines : map ≡ map_lines m.layout
+  pub legal : IsLegalMap m.layout.program m.layout.closed map
 
 -- the image of some code with these data, and with some data
 pub record IsImageOf (p : PreparedParts) (s : Spaced) (code init image : List ℕ) : Type 0 where

@@ -1,10 +1,10 @@
 ghost use Rattle.std.specs.Prelude.{◌≡◌, Ok, option_copied};
 ghost use Rattle.text_lines.specs.Answers.{Answers, UnlessNoMemory};
-ghost use Rattle.cfi_harden.specs.Closing.{Closes, Draws, failed_line};
+ghost use Rattle.cfi_harden.specs.Closing.{Closes, failed_line};
 ghost use Rattle.cfi_harden.specs.Request.{policy_reading};
 
 use crate::refusal::Refusal;
-use cfi_flow::{Closed, Raw, close, raw_graph};
+use cfi_flow::{Closed, close, raw_graph};
 use cfi_graph::{Policy, read_policy_part};
 use obj_program::Items;
 use std::alloc::Global;
@@ -31,27 +31,7 @@ fn failed_line(end: &Result<(), TextEnd>) -> Option<u64>
     }
 }
 
-/// The raw graph of a program under the right lines of a policy, if neither these nor the text are wrong.
-fn raw_of(
-    alloc: Global,
-    items: &Items,
-    policy: &Policy,
-    end: &Result<(), TextEnd>,
-) -> Result<Raw, Refusal>
-    ensures { Draws items.now policy.now end.now result }
-{
-    if let Err(TextEnd::NoMemory) = end {
-        return Err(Refusal::NoMemory);
-    }
-    let raw = raw_graph(alloc, items, policy)?;
-    if let Some(number) = failed_line(end) {
-        return Err(Refusal::Policy(number));
-    }
-    Ok(raw)
-}
-
 /// The closed graph of a program under a policy, if there is one.
-#[tactic(auto, using(crate::proofs::Drawing::is_closed, crate::proofs::Drawing::not_drawn))]
 pub(crate) fn closed_under(
     alloc: Global,
     items: &Items,
@@ -60,7 +40,12 @@ pub(crate) fn closed_under(
     ensures { Closes items.now (option_copied policy.entry) result }
 {
     let (policy, end) = policy_part(alloc, policy);
-    let raw = raw_of(alloc, items, &policy, &end)?;
-    let closed = close(alloc, &raw)?;
-    Ok(closed)
+    if let Err(TextEnd::NoMemory) = end {
+        return Err(Refusal::NoMemory);
+    }
+    let raw = raw_graph(alloc, items, &policy)?;
+    if let Some(number) = failed_line(&end) {
+        return Err(Refusal::Policy(number));
+    }
+    Ok(close(alloc, &raw)?)
 }

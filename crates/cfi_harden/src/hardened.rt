@@ -1,6 +1,7 @@
 ghost use Rattle.std.specs.Prelude.{◌≡◌, ◌*◌, ◌<◌, ◌≤◌, ◌^◌, ℕ, true, IfOk, OnOk, Some, is_some, length, slice_index};
 ghost use Rattle.rv_word.specs.Image.{IsImageSize};
 ghost use Rattle.rv_word.specs.Layout.{CODE_SIZE};
+ghost use Rattle.cfi_graph.specs.Map.{IsMap};
 ghost use Rattle.cfi_flow.specs.GraphAtMap.{graph_lines};
 ghost use Rattle.cfi_flow.specs.Placement.{words_from};
 ghost use Rattle.cfi_verify.specs.Split.{code_words};
@@ -9,7 +10,8 @@ ghost use Rattle.obj_program.specs.Program.{count};
 ghost use Rattle.cfi_harden.specs.Accepted.{IsAccepted};
 ghost use Rattle.cfi_harden.specs.Hardened.{chosen};
 ghost use Rattle.cfi_harden.specs.Laws.{written_code};
-ghost use Rattle.cfi_harden.specs.Writing.{IsCoded, IsImageWith, IsWrittenAs, IsWritable};
+ghost use Rattle.cfi_harden.specs.MapLines.{map_lines};
+ghost use Rattle.cfi_harden.specs.Writing.{IsCoded, IsDescribed, IsImageWith, IsWrittenAs, IsWritable};
 
 use crate::chosen::{Chosen, Mapped};
 use crate::code::code_bytes;
@@ -72,6 +74,16 @@ impl<'a, 'b> Chosen<'a, 'b> {
         let graph = self.graph_of(alloc, code.as_slice())?;
         Ok((code, graph))
     }
+
+    /// The bytes of the code, with their graph, and the map.
+    fn described(&self, alloc: Global) -> Result<(Vec<u8>, Graph, Map), NoMemory>
+        requires { IsMap (map_lines self.now.layout) }
+        ensures { IfOk result (λ d. IsDescribed self.now d.0.items d.1 d.2) }
+    {
+        let (code, graph) = self.coded(alloc)?;
+        let map = self.map(alloc)?;
+        Ok((code, graph, map))
+    }
 }
 
 /// The initialised data of a prepared program at a placement, where they have a value.
@@ -106,6 +118,21 @@ fn chosen_of<'a, 'b>(
         words: spacing.words(),
     };
     Chosen::of(alloc, mapped, spacing.long(), labels, prepared.entry)
+}
+
+/// What is written of a prepared program with these labels at a placement, but for its data.
+fn described_of(
+    alloc: Global,
+    prepared: &Prepared,
+    spacing: &Spacing,
+    labels: &[u32],
+) -> Result<(Vec<u8>, Graph, Map), NoMemory>
+    requires { IsWritable prepared.now spacing.now labels.now }
+    ensures { IfOk result (λ d. IsDescribed (chosen prepared.now spacing.now labels.now) d.0.items d.1 d.2) }
+{
+    let chosen = chosen_of(alloc, prepared, spacing, labels)?;
+    let described = chosen.described(alloc)?;
+    Ok(described)
 }
 
 /// These are bytes.
@@ -146,9 +173,7 @@ pub(crate) fn written(
     requires { IsWritable prepared.now spacing.now labels.now }
     ensures { IfOk result (λ h. IsWrittenAs prepared.now spacing.now labels.now h) }
 {
-    let chosen = chosen_of(alloc, prepared, spacing, labels)?;
-    let (code, graph) = chosen.coded(alloc)?;
-    let map = chosen.map(alloc)?;
+    let (code, graph, map) = described_of(alloc, prepared, spacing, labels)?;
     let image = image_of(alloc, prepared, spacing, code.as_slice())?;
     Ok(Hardened { image, graph, map })
 }

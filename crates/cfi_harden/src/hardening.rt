@@ -5,7 +5,7 @@ ghost use Rattle.cfi_harden.specs.Hardened.{AreGiven};
 ghost use Rattle.cfi_harden.specs.Refused.{Hardens};
 ghost use Rattle.cfi_harden.specs.Request.{Request};
 ghost use Rattle.cfi_harden.specs.Sizes.{whole_size};
-ghost use Rattle.cfi_harden.specs.Writing.{IsReady, WritesOr};
+ghost use Rattle.cfi_harden.specs.Writing.{IsOfRequest, IsReady, WritesOr};
 
 use crate::hardened::{Hardened, written};
 use crate::numbering::class_labels;
@@ -38,6 +38,17 @@ fn placed_and_written(alloc: Global, prepared: &Prepared) -> Result<Hardened, Re
     Ok(hardened)
 }
 
+/// Hardens the prepared program of some request.
+fn harden_prepared(alloc: Global, prepared: &Prepared) -> Result<Hardened, Refusal>
+    requires { IsOfRequest prepared.now }
+    ensures { WritesOr prepared.now result }
+{
+    last_place_ends();
+    places_fit();
+    words_fit_in(prepared);
+    placed_and_written(alloc, prepared)
+}
+
 /// Hardens an object (System V gABI, "Object Files"; RISC-V ELF psABI): its image, its graph and its map, or the first that
 /// stands against that. The program is entered at the first symbol with the entry's name. A policy is a text that narrows
 /// what computed transfers may go to.
@@ -50,9 +61,6 @@ pub fn harden(
 ) -> Result<Hardened, Refusal>
     ensures { Hardens (record { object = object.now; entry = entry.now; policy = option_copied policy.entry }) result }
 {
-    last_place_ends();
-    places_fit();
     let prepared = prepare(alloc, object, entry, policy)?;
-    words_fit_in(&prepared);
-    placed_and_written(alloc, &prepared)
+    harden_prepared(alloc, &prepared)
 }
