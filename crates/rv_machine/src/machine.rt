@@ -369,6 +369,7 @@ impl Machine {
         }
     }
 
+    #[inline(always)]
     fn environment_call(&mut self) -> Result<Turn, NoMemory>
         requires { self.old.pc < 2 ^ 63 }
         ensures executed { IfOk result (λ turn. after_step self.new turn ≡ exec version_1 Instr.Ecall (hart_in self.old) (shared_in self.old)) }

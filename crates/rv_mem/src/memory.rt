@@ -102,6 +102,7 @@ impl Memory {
     }
 
     /// The byte at an address: 0 where nothing was written, and outside of all regions.
+    #[inline(always)]
     pub fn byte(&self, addr: u64) -> u8
         ensures { result ≡ memory_of self.now addr }
     {
@@ -157,6 +158,7 @@ impl Memory {
     }
 
     /// Writes bytes into one page.
+    #[inline(always)]
     fn write_in_page(&mut self, addr: u64, bytes: &[u8]) -> Result<(), NoMemory>
         requires some { 0 < length bytes.now }
         requires one { addr % PAGE_SIZE + length bytes.now ≤ PAGE_SIZE }
@@ -230,6 +232,7 @@ impl Memory {
     }
 
     /// The double word at an address.
+    #[inline(always)]
     pub fn double_word(&self, addr: u64) -> u64
         requires { addr < 2 ^ 61 }
         ensures { result ≡ read 8 (memory_of self.now) addr }
