@@ -86,5 +86,6 @@ def wrong(words, call):
     if not rows[call.status].fullmatch(text):
         return "its text is not one of the status"
     if words[:1] == [b"run"] and text.startswith(b"output"):
-        return counts_wrong(text, int(words[-1]))
+        # the hyphens that end options are no word, wherever they stand
+        return counts_wrong(text, int([word for word in words if word != b"--"][-1]))
     return None
