@@ -1,6 +1,7 @@
 -- What `clap` answers is what the words are read as.
-use Rattle.std.proofs.Common.{◌≡◌, ◌∙◌, true, List, [], Option, Err, inl, inr, ap, ap₂, sym, subst, refl}
+use Rattle.std.proofs.Common.{◌≡◌, ◌∙◌, true, List, [], Option, Some, None, Result, Err, inl, inr, ap, ap₂, sym, subst, refl}
 use Rattle.std.specs.Prelude.{option_and_then, option_map}
+use Rattle.std.specs.Option.{ok_or}
 use Rattle.clap.specs.Words.{App, HasKind, HasMatchesOf, Text, fault_of, is_simple, is_simple_and_free, kind_of, subcommand_of, subcommand_rows_of}
 use Rattle.clap.specs.declared.error.Error.{Error}
 use Rattle.clap.specs.declared.parser.matches.ArgMatches.{ArgMatches}
@@ -8,7 +9,7 @@ use Rattle.clap.specs.Kinds.{IsAmong}
 use Rattle.clap.specs.declared.error.kind.ErrorKind.TheVariants.{DisplayHelp, DisplayVersion, OutOfMemory}
 use Rattle.clap.proofs.OnLiterals.{clap_on_literals}
 use Rattle.cfi_words.specs.CommandLine.{command_line}
-use Rattle.cfi_words.specs.Reading.{EndsBy, Gives, asked_or_refused, reading, reading_by, request_in, request_of, told}
+use Rattle.cfi_words.specs.Reading.{EndsBy, Gives, asked_or_refused, asks, reading, reading_by, refused, request_in, request_of, told}
 use Rattle.cfi_words.specs.declared.asked.Asked.{Asked}
 use Rattle.cfi_words.specs.declared.end.WordsEnd.{WordsEnd}
 use Rattle.cfi_words.specs.declared.end.WordsEnd.TheVariants.{Help, Version, Refused, NoMemory}
@@ -28,14 +29,20 @@ not_help e = absurd (cc)
 not_version : DisplayVersion ≡ OutOfMemory → ⊥
 not_version e = absurd (cc)
 
+-- what was asked, or that the words are not taken
+gives_asked : (asked : Option Asked) (result : Result Asked WordsEnd) → result ≡ ok_or asked Refused → Gives (asked_or_refused (option_map request_of asked)) result
+gives_asked (Some asked) result is = subst (Gives (asks (request_of asked))) (sym is) refl
+gives_asked None result is = subst (Gives refused) (sym is) refl
+
 module _ (app : App) (words : List Text) (same : app ≡ command_line) where
   pub read_as_asked : (matches : ArgMatches) (asked : Option Asked) → (is_simple_and_free app ≡ true → fault_of app words ≡ [])
       → HasMatchesOf app words matches → option_map request_of asked ≡ option_and_then request_in (subcommand_rows_of matches)
-      → reading words ≡ asked_or_refused (option_map request_of asked)
-  read_as_asked matches asked free has is =
+      → (result : Result Asked WordsEnd) → result ≡ ok_or asked Refused → Gives (reading words) result
+  read_as_asked matches asked free has is result ends =
       let faultless : fault_of command_line words ≡ [] = ap (λ a. fault_of a words) (sym same) ∙ free (ap is_simple_and_free same ∙ simple_and_free) in
       let entered : subcommand_rows_of matches ≡ subcommand_of command_line words = (has (ap is_simple same ∙ simple)).1 ∙ ap (λ a. subcommand_of a words) same in
-      ap₂ reading_by faultless (ap (option_and_then request_in) (sym entered) ∙ sym is)
+      let reads : reading words ≡ asked_or_refused (option_map request_of asked) = ap₂ reading_by faultless (ap (option_and_then request_in) (sym entered) ∙ sym is) in
+      subst (λ r. Gives r result) (sym reads) (gives_asked asked result ends)
 
   told_same : (error : Error) → HasKind (fault_of app words) error → (kind_of error ≡ OutOfMemory → ⊥) → reading words ≡ told (kind_of error)
   told_same error (inl memory) other = absurd (other memory)

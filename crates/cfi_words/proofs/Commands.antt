@@ -1,14 +1,16 @@
--- A command with one word more, as the loop over its words makes it.
-use Rattle.std.proofs.Common.{◌≡◌, ◌∙◌, ◌<◌, ◌+◌, ◌||◌, ℕ, zero, suc, List, [], ◌∷◌, codes, Some, false, true, ap, ap₂, subst, arith, refl, take, length, get_or}
+-- A command with one word more, and the program with one command more, as the loops make them.
+use Rattle.std.proofs.Common.{◌≡◌, ◌∙◌, ◌<◌, ◌≤◌, ◌+◌, ◌||◌, ◌++◌, ℕ, zero, suc, List, [], ◌∷◌, codes, Some, map, false, true, ap, ap₂, subst, sym, arith, refl, take, length, get_or}
 use Rattle.std.specs.Borrow.{Bor}
+use Rattle.std.proofs.lemmas.List.{map_push, take_all, take_more}
+use Rattle.cfi_words.specs.declared.command.Form.{Form}
 use Rattle.std.specs.List.{fold}
-use Rattle.clap.specs.Words.{AddsArg, AddsSubcommand, App, Text, app_of, new_app, rule_of, with_rule, with_subcommand}
+use Rattle.clap.specs.Words.{AddsArg, AddsInTurn, AddsSubcommand, App, Rule, Text, app_of, new_app, new_rule, rule_of, with_rule, with_subcommand}
 use Rattle.clap.specs.Simple.{app_of_fields, on_top}
 use Rattle.clap.specs.declared.builder.command.Command.TheOpen.{Command-F}
 use Rattle.clap.specs.declared.builder.command.Command.TheViews.{out-Command}
 use Rattle.clap.specs.declared.builder.arg.Arg.{Arg}
 use Rattle.clap.specs.declared.builder.command.Command.{Command}
-use Rattle.cfi_words.specs.CommandLine.{IsCommand, names, operand, program, with_command, with_operand}
+use Rattle.cfi_words.specs.CommandLine.{AreCommands, IsCommand, form, form_of, names, operand, program, with_command, with_operand}
 
 pub added : (app : App) (old new : Command) (arg : Arg) (name : Text) → IsCommand app old → rule_of arg ≡ operand name → arg.global ≡ false
     → AddsArg old arg new → IsCommand (with_operand app name) new
@@ -17,28 +19,72 @@ added app old new arg name was is local adds = (
   adds.globals ∙ ap₂ (λ a b. a || b) was.1 local,
 )
 
-after_more : (app : App) (operands : List (Bor Text × Bor Text)) (i : ℕ) (d : Bor Text × Bor Text) → i < length operands
-    → with_operand (fold with_operand app (names (take i operands))) (get_or operands i d).0.now
-    ≡ fold with_operand app (names (take (suc i) operands))
-after_more app [] i d below = absurd (omega arith)
-after_more app (o ∷ os) zero d below = refl
-after_more app (o ∷ os) (suc i) d below = after_more (with_operand app o.0.now) os i d (omega arith)
+after_more : {X Y : Type 0} (step : App → Y → App) (word : X → Y) (app : App) (xs : List X) (i : ℕ) (d : X) → i < length xs
+    → step (fold step app (map word (take i xs))) (word (get_or xs i d)) ≡ fold step app (map word (take (suc i) xs))
+after_more step word app [] i d below = absurd (omega arith)
+after_more step word app (x ∷ xs) zero d below = refl
+after_more step word app (x ∷ xs) (suc i) d below = after_more step word (step app (word x)) xs i d (omega arith)
 
-pub one_more : (app : App) (operands : List (Bor Text × Bor Text)) (i : ℕ) (d : Bor Text × Bor Text) → i < length operands
-    → with_operand (fold with_operand app (names (take i operands))) (get_or operands i d).0.now
-    ≡ fold with_operand app (names (take (i + 1) operands))
-one_more app operands i d below =
+-- a loop that takes one step for each member has taken one more
+pub one_more : {X Y : Type 0} (step : App → Y → App) (word : X → Y) (app : App) (xs : List X) (i : ℕ) (d : X) → i < length xs
+    → step (fold step app (map word (take i xs))) (word (get_or xs i d)) ≡ fold step app (map word (take (i + 1) xs))
+one_more step word app xs i d below =
     let next : suc i ≡ i + 1 = omega arith in
-    subst (λ k. with_operand (fold with_operand app (names (take i operands))) (get_or operands i d).0.now
-    ≡ fold with_operand app (names (take k operands))) next (after_more app operands i d below)
+    subst (λ k. step (fold step app (map word (take i xs))) (word (get_or xs i d)) ≡ fold step app (map word (take k xs))) next
+    (after_more step word app xs i d below)
+
+-- a command that has its name and says what it does
+pub begun : (app : App) (new told : Command) (about : Bor Text) → app_of new ≡ app → (out-Command new).has_globals ≡ false
+    → out-Command told ≡ record (out-Command new) { about = Some about } → IsCommand app told
+begun app new told about is local e =
+    (ap app_of_fields e ∙ is, ap (λ (c : Command-F Command). c.has_globals) e ∙ local)
+
+-- a command with all its words
+pub ended : (name : Text) (operands : List (Bor Text × Bor Text)) (told command : Command) (i : ℕ) → app_of told ≡ new_app name → length operands ≤ i
+    → IsCommand (fold with_operand (app_of told) (names (take i operands))) command → IsCommand (form name (names operands)) command
+ended name operands told command i is past has =
+    subst (λ (app : App). IsCommand app command) (ap₂ (λ app os. fold with_operand app (names os)) is (take_all i operands past)) has
+
+-- a word that a command wants, with what it is
+pub wanted : (name : Text) (new required told : Arg) (help : Bor Text) → rule_of new ≡ new_rule name → new.global ≡ false
+    → required ≡ record new { required = true } → told ≡ record required { help = Some help } → (rule_of told ≡ operand name) × (told.global ≡ false)
+wanted name new required told help is local e1 e2 =
+    let whole = e2 ∙ ap (λ (a : Arg). record a { help = Some help }) e1 in
+    (ap rule_of whole ∙ ap (λ (r : Rule). record r { required = true }) is, ap (λ (a : Arg). a.global) whole ∙ local)
 
 -- the program with one command more
-pub commanded : (app command : App) (old sub new : Command) → IsCommand app old → IsCommand command sub → AddsSubcommand old sub new
+commanded : (app command : App) (old sub new : Command) → IsCommand app old → IsCommand command sub → AddsSubcommand old sub new
     → IsCommand (with_command app command) new
 commanded app command old sub new was is adds = (
   adds.shape is.1 ∙ ap₂ with_subcommand was.0 (ap (λ (a : App). a.top) is.0),
   adds.globals ∙ ap₂ (λ a b. a || b) was.1 is.1,
 )
+
+pushed : (apps : List App) (commands : List Command) (app : App) (command : Command) → AreCommands apps commands → IsCommand app command
+    → AreCommands (apps ++ app ∷ []) (commands ++ command ∷ [])
+pushed [] [] app command are is = (is, tt)
+pushed [] (c ∷ cs) app command are is = absurd are
+pushed (a ∷ rest) [] app command are is = absurd are
+pushed (a ∷ rest) (c ∷ cs) app command are is = (are.0, pushed rest cs app command are.1 is)
+
+-- a loop that makes the command of each row has made one more
+pub made_more : (rows : List Form) (i : ℕ) (d : Form) (commands more : List Command) (command : Command) → i < length rows
+    → more ≡ commands ++ command ∷ [] → AreCommands (map form_of (take i rows)) commands → IsCommand (form_of (get_or rows i d)) command
+    → AreCommands (map form_of (take (i + 1) rows)) more
+made_more rows i d commands more command below grown are is =
+    let next : map form_of (take (i + 1) rows) ≡ map form_of (take i rows) ++ form_of (get_or rows i d) ∷ [] =
+    ap (map form_of) (take_more rows i d below) ∙ map_push form_of (take i rows) (get_or rows i d) in
+    subst (AreCommands (map form_of (take (i + 1) rows))) (sym grown)
+    (subst (λ apps. AreCommands apps (commands ++ command ∷ [])) (sym next) (pushed (map form_of (take i rows)) commands _ command are is))
+
+-- the program with all of them
+pub all_added : (apps : List App) (commands : List Command) (app : App) (old new : Command) → IsCommand app old → AreCommands apps commands
+    → AddsInTurn AddsSubcommand old commands new → IsCommand (fold with_command app apps) new
+all_added [] [] app old new was are adds = subst (IsCommand app) adds was
+all_added [] (c ∷ cs) app old new was are adds = absurd are
+all_added (a ∷ rest) [] app old new was are adds = absurd are
+all_added (a ∷ rest) (c ∷ cs) app old new was are adds =
+    all_added rest cs (with_command app a) adds.0 new (commanded app a old c adds.0 was are.0 adds.1) are.1 adds.2
 
 -- the program before its commands
 pub fronted : (new versioned told wanting front : Command) (version about : Bor Text) → app_of new ≡ new_app (codes "rvcfi") → (out-Command new).has_globals ≡ false

@@ -1,9 +1,10 @@
 -- The command line as `clap` has it: the program's commands, each with the words that it wants.
-use Rattle.std.specs.Prelude.{◌≡◌, true, false, List, [], ◌∷◌, map, fold, codes}
+use Rattle.std.specs.Prelude.{◌≡◌, ⊤, true, false, List, [], ◌∷◌, map, fold, codes}
 use Rattle.std.specs.Borrow.{Bor}
 use Rattle.clap.specs.Words.{App, Rule, Text, app_of, new_app, new_rule, with_rule, with_subcommand}
 use Rattle.clap.specs.declared.builder.command.Command.{Command}
 use Rattle.clap.specs.declared.builder.command.Command.TheViews.{out-Command}
+use Rattle.cfi_words.specs.declared.command.Form.{Form}
 
 -- a word that a command wants
 abbrev pub operand : Text → Rule
@@ -19,6 +20,10 @@ names = map (λ o. o.0.now)
 -- a command and the names of its words
 abbrev pub form : Text → List Text → App
 form name operands = fold with_operand (new_app name) operands
+
+-- the command that a row of the program's table is
+abbrev pub form_of : Form → App
+form_of row = form row.name.now (names row.operands.now)
 
 -- the names of the words of each command, in their order
 abbrev pub rewrite_operands : List Text
@@ -67,3 +72,10 @@ command_line = fold with_command program (rewrite ∷ verify ∷ run ∷ compare
 -- a command has this form, and no argument that holds for others
 abbrev pub IsCommand : App → Command → Type 0
 IsCommand app command = (app_of command ≡ app) × ((out-Command command).has_globals ≡ false)
+
+-- commands that have these forms, one after the other
+abbrev pub AreCommands : List App → List Command → Type 0
+AreCommands [] [] = ⊤
+AreCommands [] (c ∷ cs) = ⊥
+AreCommands (a ∷ rest) [] = ⊥
+AreCommands (a ∷ rest) (c ∷ cs) = IsCommand a c × AreCommands rest cs

@@ -1,15 +1,15 @@
-ghost use Rattle.std.specs.Prelude.{◌≡◌, IfOk, option_and_then, option_map};
+ghost use Rattle.std.specs.Prelude.{◌≡◌, [], ◌∷◌, codes, option_and_then, option_map};
 ghost use Rattle.clap.specs.Words.{first_of, found_of, kind_of, rows_of, subcommand_rows_of};
 ghost use Rattle.cfi_words.specs.Plain.{AsksIfFaultless, TakesPlain};
 ghost use Rattle.cfi_words.specs.CommandLine.{compare_operands, demo_operands, rewrite_operands, run_operands, verify_operands};
-ghost use Rattle.cfi_words.specs.Reading.{EndsBy, Gives, compare_listed, demo_listed, listed_in, reading, request_in, request_of, rewrite_listed, run_listed, spelled, verify_listed};
+ghost use Rattle.cfi_words.specs.Reading.{EndsBy, Gives, listed_in, reading, request, request_in, request_of, spelled};
 
 use crate::asked::{Asked, CompareWords, DemoWords, RewriteWords, RunWords, VerifyWords};
 use crate::command::command_line;
 use crate::end::WordsEnd;
 use clap::error::ErrorKind;
 use clap::{ArgMatches, Error};
-use std::alloc::{AllocError, Global};
+use std::alloc::Global;
 
 /// The word of this name.
 fn word<'a>(matches: &ArgMatches<'a>, name: &str) -> Option<&'a str>
@@ -25,65 +25,79 @@ fn command<'m, 'a>(matches: &'m ArgMatches<'a>) -> Option<(&'a str, &'m ArgMatch
     matches.subcommand()
 }
 
-/// The words of `rewrite`, if each is there.
-fn rewrite_words<'a>(matches: &ArgMatches<'a>) -> Option<RewriteWords<'a>>
-    ensures { option_map rewrite_listed result ≡ listed_in rewrite_operands (rows_of (found_of matches.now)) }
+/// The words of two names, if both are there.
+fn two_words<'a>(matches: &ArgMatches<'a>, first: &str, second: &str) -> Option<(&'a str, &'a str)>
+    ensures { option_map (λ p. p.0.now ∷ p.1.now ∷ []) result ≡ listed_in (first.now ∷ second.now ∷ []) (rows_of (found_of matches.now)) }
 {
-    Some(RewriteWords {
-        object: word(matches, "OBJECT")?,
-        entry: word(matches, "ENTRY")?,
-        policy: word(matches, "POLICY")?,
-        image: word(matches, "IMAGE")?,
-        graph: word(matches, "GRAPH")?,
-        map: word(matches, "MAP")?,
-    })
+    word(matches, first).zip(word(matches, second))
 }
 
-/// The words of `verify`, if each is there.
-fn verify_words<'a>(matches: &ArgMatches<'a>) -> Option<VerifyWords<'a>>
-    ensures { option_map verify_listed result ≡ listed_in verify_operands (rows_of (found_of matches.now)) }
+/// `rewrite` and its words, if each is there.
+fn rewrite<'a>(matches: &ArgMatches<'a>) -> Option<Asked<'a>>
+    ensures { option_map request_of result ≡ request (codes "rewrite") rewrite_operands (rows_of (found_of matches.now)) }
 {
-    Some(VerifyWords {
-        image: word(matches, "IMAGE")?,
-        graph: word(matches, "GRAPH")?,
-    })
+    let (((object, entry), (policy, image)), (graph, map)) = two_words(matches, "OBJECT", "ENTRY")
+        .zip(two_words(matches, "POLICY", "IMAGE"))
+        .zip(two_words(matches, "GRAPH", "MAP"))?;
+    Some(Asked::Rewrite(RewriteWords {
+        object,
+        entry,
+        policy,
+        image,
+        graph,
+        map,
+    }))
 }
 
-/// The words of `run`, if each is there.
-fn run_words<'a>(matches: &ArgMatches<'a>) -> Option<RunWords<'a>>
-    ensures { option_map run_listed result ≡ listed_in run_operands (rows_of (found_of matches.now)) }
+/// `verify` and its words, if each is there.
+fn verify<'a>(matches: &ArgMatches<'a>) -> Option<Asked<'a>>
+    ensures { option_map request_of result ≡ request (codes "verify") verify_operands (rows_of (found_of matches.now)) }
 {
-    Some(RunWords {
-        image: word(matches, "IMAGE")?,
-        graph: word(matches, "GRAPH")?,
-        script: word(matches, "SCRIPT")?,
-        input: word(matches, "INPUT")?,
-        steps: word(matches, "STEPS")?,
-    })
+    let (image, graph) = two_words(matches, "IMAGE", "GRAPH")?;
+    Some(Asked::Verify(VerifyWords { image, graph }))
 }
 
-/// The words of `compare`, if each is there.
-fn compare_words<'a>(matches: &ArgMatches<'a>) -> Option<CompareWords<'a>>
-    ensures { option_map compare_listed result ≡ listed_in compare_operands (rows_of (found_of matches.now)) }
+/// `run` and its words, if each is there.
+fn run<'a>(matches: &ArgMatches<'a>) -> Option<Asked<'a>>
+    ensures { option_map request_of result ≡ request (codes "run") run_operands (rows_of (found_of matches.now)) }
 {
-    Some(CompareWords {
-        object: word(matches, "OBJECT")?,
-        entry: word(matches, "ENTRY")?,
-        policy: word(matches, "POLICY")?,
-        image: word(matches, "IMAGE")?,
-        map: word(matches, "MAP")?,
-        input: word(matches, "INPUT")?,
-        steps: word(matches, "STEPS")?,
-    })
+    let (((image, graph), (script, input)), steps) = two_words(matches, "IMAGE", "GRAPH")
+        .zip(two_words(matches, "SCRIPT", "INPUT"))
+        .zip(word(matches, "STEPS"))?;
+    Some(Asked::Run(RunWords {
+        image,
+        graph,
+        script,
+        input,
+        steps,
+    }))
 }
 
-/// The word of `demo`, if it is there.
-fn demo_words<'a>(matches: &ArgMatches<'a>) -> Option<DemoWords<'a>>
-    ensures { option_map demo_listed result ≡ listed_in demo_operands (rows_of (found_of matches.now)) }
+/// `compare` and its words, if each is there.
+fn compare<'a>(matches: &ArgMatches<'a>) -> Option<Asked<'a>>
+    ensures { option_map request_of result ≡ request (codes "compare") compare_operands (rows_of (found_of matches.now)) }
 {
-    Some(DemoWords {
-        number: word(matches, "NUMBER")?,
-    })
+    let (((object, entry), (policy, image)), (map, input)) = two_words(matches, "OBJECT", "ENTRY")
+        .zip(two_words(matches, "POLICY", "IMAGE"))
+        .zip(two_words(matches, "MAP", "INPUT"))?;
+    let steps = word(matches, "STEPS")?;
+    Some(Asked::Compare(CompareWords {
+        object,
+        entry,
+        policy,
+        image,
+        map,
+        input,
+        steps,
+    }))
+}
+
+/// `demo` and its word, if it is there.
+fn demo<'a>(matches: &ArgMatches<'a>) -> Option<Asked<'a>>
+    ensures { option_map request_of result ≡ request (codes "demo") demo_operands (rows_of (found_of matches.now)) }
+{
+    let number = word(matches, "NUMBER")?;
+    Some(Asked::Demo(DemoWords { number }))
 }
 
 /// What is asked for, if each of the command's words is there.
@@ -92,25 +106,31 @@ fn asked<'a>(matches: &ArgMatches<'a>) -> Option<Asked<'a>>
 {
     let (name, words) = command(matches)?;
     match name {
-        "rewrite" => Some(Asked::Rewrite(rewrite_words(words)?)),
-        "verify" => Some(Asked::Verify(verify_words(words)?)),
-        "run" => Some(Asked::Run(run_words(words)?)),
-        "compare" => Some(Asked::Compare(compare_words(words)?)),
-        "demo" => Some(Asked::Demo(demo_words(words)?)),
+        "rewrite" => rewrite(words),
+        "verify" => verify(words),
+        "run" => run(words),
+        "compare" => compare(words),
+        "demo" => demo(words),
         _ => None,
     }
 }
 
-/// What an error ends with: help and the version are texts to show.
-fn end_of(alloc: Global, error: &Error) -> Result<WordsEnd, AllocError>
-    ensures { IfOk result (EndsBy (kind_of error.now)) }
+/// What an error ends with: help and the version are texts to show, if there is memory for them.
+fn end_of(alloc: Global, error: &Error) -> WordsEnd
+    ensures { EndsBy (kind_of error.now) result }
 {
-    Ok(match error.kind() {
-        ErrorKind::DisplayHelp => WordsEnd::Help(format!(in alloc; "{error}")?),
-        ErrorKind::DisplayVersion => WordsEnd::Version(format!(in alloc; "{error}")?),
+    match error.kind() {
+        ErrorKind::DisplayHelp => match format!(in alloc; "{error}") {
+            Ok(text) => WordsEnd::Help(text),
+            Err(_) => WordsEnd::NoMemory,
+        },
+        ErrorKind::DisplayVersion => match format!(in alloc; "{error}") {
+            Ok(text) => WordsEnd::Version(text),
+            Err(_) => WordsEnd::NoMemory,
+        },
         ErrorKind::OutOfMemory => WordsEnd::NoMemory,
         _ => WordsEnd::Refused,
-    })
+    }
 }
 
 /// Reads the words of a command line, the program's name first. What the texts of help and of the version say is not told.
@@ -121,10 +141,7 @@ pub fn read_words<'a>(alloc: Global, words: &'a [String]) -> Result<Asked<'a>, W
 {
     let command = command_line(alloc)?;
     match command.try_get_matches_from(words) {
-        Ok(matches) => match asked(&matches) {
-            Some(asked) => Ok(asked),
-            None => Err(WordsEnd::Refused),
-        },
-        Err(error) => Err(end_of(alloc, &error)?),
+        Ok(matches) => asked(&matches).ok_or(WordsEnd::Refused),
+        Err(error) => Err(end_of(alloc, &error)),
     }
 }
