@@ -1,5 +1,7 @@
-ghost use Rattle.std.specs.Prelude.{◌≡◌, ◌≤◌, ◌^◌, IfOk, is_some, option_map, slice_get};
+ghost use Rattle.std.specs.Prelude.{◌≡◌, ◌≤◌, ◌^◌, [], IfOk, is_some, option_map, replicate, slice_get};
 ghost use Rattle.rv_word.specs.Layout.{version_1};
+ghost use Rattle.rv_code.specs.Run.{run};
+ghost use Rattle.rv_machine.specs.Parts.{hart_in, shared_in};
 ghost use Rattle.cfi_flow.specs.Source.{source_start};
 ghost use Rattle.src_machine.specs.Running.{source_of};
 ghost use Rattle.cfi_meaning.specs.Compared.{compared, image_end};
@@ -63,7 +65,26 @@ fn answer_at(
     Ok(settle(index as u64, has_ended, ours, theirs))
 }
 
-/// The answer for a program's run that made these system calls in so many steps, the last of which was not untame.
+/// The answer for a program's run that made these system calls in so many steps, the last of which was not untame, and a
+/// machine at the start of its image.
+fn with_machine(
+    alloc: Global,
+    events: &Events,
+    turn: SourceTurn,
+    steps: u64,
+    machine: &mut Machine,
+) -> Result<Compared, NoMemory>
+    requires few { steps ≤ 2 ^ 58 }
+    requires none { (shared_in machine.old).events ≡ [] }
+    ensures { IfOk result (λ answer. IsAnswered events.now turn
+        (run version_1 (hart_in machine.old) (shared_in machine.old) (replicate (bound steps) [])) answer) }
+{
+    let (end, index) = follow(machine, events, 21 * steps + 13)?;
+    let answer = answer_at(alloc, index, events, turn, machine.system().events(), end)?;
+    Ok(answer)
+}
+
+/// The same, by the image.
 fn with_image(
     alloc: Global,
     events: &Events,
@@ -76,9 +97,7 @@ fn with_image(
     ensures { IfOk result (λ answer. IsAnswered events.now turn (undisturbed version_1 image.now input.now (bound steps)) answer) }
 {
     let mut machine = Machine::new(alloc, image, input)?;
-    let (end, index) = follow(&mut machine, events, 21 * steps + 13)?;
-    let answer = answer_at(alloc, index, events, turn, machine.system().events(), end)?;
-    Ok(answer)
+    with_machine(alloc, events, turn, steps, &mut machine)
 }
 
 /// Runs a program, from its start, until it ends, is untame or has taken `limit` steps, and its image with the same input for
