@@ -68,14 +68,15 @@ fn put_text<K: Sink>(alloc: Global, outcome: &Outcome<'_>, out: &mut K) -> Resul
     out.put(&text)
 }
 
-/// Writes the files of an outcome, and puts its text.
+/// Writes the files of an outcome, puts its text, and answers its status.
 fn finish<F: Files, K: Sink>(
     alloc: Global,
     outcome: &Outcome<'_>,
     files: &mut F,
     out: &mut K,
-) -> Result<(), OutEnd>
+) -> Result<u8, OutEnd>
     requires apart { AreApart (outcome_outputs outcome.now) }
+    ensures status { IfOk result (λ status. status ≡ outcome_status outcome.now) }
     ensures wrote { OnOk result (Wrote F.Files files.old files.new (outcome_outputs outcome.now) None) }
     ensures whole { OnOk result (Appends (K.written out.old) (K.written out.new) (outcome_text outcome.now)) }
     ensures failed { result ≡ Err OutEnd.Failed
@@ -92,7 +93,8 @@ fn finish<F: Files, K: Sink>(
     ensures faults { ¬ (result ≡ Err OutEnd.Failed) → K.faults out.new ≡ K.faults out.old }
 {
     outcome.write(files)?;
-    put_text(alloc, outcome, out)
+    put_text(alloc, outcome, out)?;
+    Ok(outcome.status())
 }
 
 /// Does what the words of a command line ask for, the program's name first, and answers the status
@@ -185,8 +187,10 @@ pub fn rvcfi<F: Files, K: Sink>(alloc: Global, words: &[String], files: &mut F, 
     let Ok(outcome) = command(alloc, words, files) else {
         return status::NO_MEMORY;
     };
-    match finish(alloc, &outcome, files, out) {
-        Ok(()) => outcome.status(),
+    let end = finish(alloc, &outcome, files, out);
+    drop(outcome);
+    match end {
+        Ok(status) => status,
         Err(OutEnd::Failed) => status::WRITE_FAULT,
         Err(OutEnd::NoMemory) => status::NO_MEMORY,
     }

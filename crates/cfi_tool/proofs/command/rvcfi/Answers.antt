@@ -14,97 +14,97 @@ use Rattle.cfi_tool.proofs.command.rvcfi.Goals as goal
 pub returns-in-Err-Failed-clause-write_fault_text : goal.returns-in-Err-Failed-clause-write_fault_text
 returns-in-Err-Failed-clause-write_fault_text g c = λ _. (
   c.in-Ok.outcome,
-  rw c.finish.ensures.reads.failed_name c.in-Ok.ensures.explained,
-  stopped_since g.F.Files c.args.files.now c.command.new.files c.finish.new.files c.in-Ok.ensures.only_read _ _ c.in-Ok.outcome
-      (c.in-Err-Failed.ensures.failed (search rules)),
+  rw c.finish-end.ensures.reads.failed_name c.in-Ok.ensures.explained,
+  stopped_since g.F.Files c.args.files.now c.command.new.files c.finish-end.new.files c.in-Ok.ensures.only_read _ _ c.in-Ok.outcome
+      (c.finish-end.ensures.failed (search rules)),
 )
 
-pub returns-in-Ok-finish-clause-ran : goal.returns-in-Ok-finish-clause-ran
-returns-in-Ok-finish-clause-ran g c = λ ends asks asked.
+pub returns-in-Ok-end-clause-ran : goal.returns-in-Ok-end-clause-ran
+returns-in-Ok-end-clause-ran g c = λ ends asks asked.
     let content = g.F.Files.content c.args.files.now in
     let text = outcome_text c.in-Ok.outcome in
-    let done = subst IsDone c.status.ensures ends in (
+    let done = subst IsDone c.in-Ok-end.ensures.status ends in (
       text,
-      subst (λ (n : ℕ). IsRan content asks n text) (sym c.status.ensures) (ran_is content asks c.in-Ok.outcome
+      subst (λ (n : ℕ). IsRan content asks n text) (sym c.in-Ok-end.ensures.status) (ran_is content asks c.in-Ok.outcome
           (explained_request content (g.F.Files.failed_name c.command.new.files) (spelled c.args.words.now) (run asks) asked c.in-Ok.outcome
           c.in-Ok.ensures.explained done) done),
-      c.in-Ok-finish.ensures.whole,
+      c.in-Ok-end.ensures.whole,
     )
 
-pub returns-in-Ok-finish-clause-rewritten : goal.returns-in-Ok-finish-clause-rewritten
-returns-in-Ok-finish-clause-rewritten g c = λ zero asks asked.
-    let none = subst (λ (n : ℕ). n ≡ 0) c.status.ensures zero in (
+pub returns-in-Ok-end-clause-rewritten : goal.returns-in-Ok-end-clause-rewritten
+returns-in-Ok-end-clause-rewritten g c = λ zero asks asked.
+    let none = subst (λ (n : ℕ). n ≡ 0) c.in-Ok-end.ensures.status zero in (
       outcome_text c.in-Ok.outcome,
-      rewritten_is g.F.Files c.args.files.now c.finish.new.files asks c.in-Ok.outcome
+      rewritten_is g.F.Files c.args.files.now c.finish-end.new.files asks c.in-Ok.outcome
           (explained_request (g.F.Files.content c.args.files.now) (g.F.Files.failed_name c.command.new.files) (spelled c.args.words.now) (rewrite asks)
           asked c.in-Ok.outcome c.in-Ok.ensures.explained (inl none)) none
-          (wrote_since g.F.Files c.args.files.now c.command.new.files c.finish.new.files c.in-Ok.ensures.only_read
-          (outcome_outputs c.in-Ok.outcome) _ c.in-Ok-finish.ensures.wrote),
-      c.in-Ok-finish.ensures.whole,
+          (wrote_since g.F.Files c.args.files.now c.command.new.files c.finish-end.new.files c.in-Ok.ensures.only_read
+          (outcome_outputs c.in-Ok.outcome) _ c.in-Ok-end.ensures.wrote),
+      c.in-Ok-end.ensures.whole,
     )
 
-pub returns-clause-first_written : goal.returns-clause-first_written
-returns-clause-first_written g c = λ _. inr (
+pub returns-in-Err-NoMemory-clause-first_written : goal.returns-in-Err-NoMemory-clause-first_written
+returns-in-Err-NoMemory-clause-first_written g c = λ _. inr (
   c.in-Ok.outcome,
-  rw c.finish.ensures.reads.failed_name c.in-Ok.ensures.explained,
-  short_since g.F.Files c.args.files.now c.command.new.files c.finish.new.files c.in-Ok.ensures.only_read c.in-Ok.outcome
-      (c.in-Err-NoMemory.ensures.short (search rules)),
+  rw c.finish-end.ensures.reads.failed_name c.in-Ok.ensures.explained,
+  short_since g.F.Files c.args.files.now c.command.new.files c.finish-end.new.files c.in-Ok.ensures.only_read c.in-Ok.outcome
+      (c.finish-end.ensures.short (search rules)),
 )
 
-pub returns-in-Ok-finish-clause-compared : goal.returns-in-Ok-finish-clause-compared
-returns-in-Ok-finish-clause-compared g c = λ ends asks asked.
+pub returns-in-Ok-end-clause-compared : goal.returns-in-Ok-end-clause-compared
+returns-in-Ok-end-clause-compared g c = λ ends asks asked.
     let content = g.F.Files.content c.args.files.now in
     let text = outcome_text c.in-Ok.outcome in
-    let done = subst IsDone c.status.ensures ends in (
+    let done = subst IsDone c.in-Ok-end.ensures.status ends in (
       text,
-      subst (λ (n : ℕ). IsTold content asks n text) (sym c.status.ensures) (told_is content asks c.in-Ok.outcome
+      subst (λ (n : ℕ). IsTold content asks n text) (sym c.in-Ok-end.ensures.status) (told_is content asks c.in-Ok.outcome
           (explained_request content (g.F.Files.failed_name c.command.new.files) (spelled c.args.words.now) (compare asks) asked c.in-Ok.outcome
           c.in-Ok.ensures.explained done) done),
-      c.in-Ok-finish.ensures.whole,
+      c.in-Ok-end.ensures.whole,
     )
 
-pub returns-in-Ok-finish-clause-demonstrated : goal.returns-in-Ok-finish-clause-demonstrated
-returns-in-Ok-finish-clause-demonstrated g c = λ ends number asked.
+pub returns-in-Ok-end-clause-demonstrated : goal.returns-in-Ok-end-clause-demonstrated
+returns-in-Ok-end-clause-demonstrated g c = λ ends number asked.
     let content = g.F.Files.content c.args.files.now in
     let text = outcome_text c.in-Ok.outcome in (
       text,
-      subst (λ (n : ℕ). IsDemonstrated number n text) (sym c.status.ensures) (shown_is content number c.in-Ok.outcome
+      subst (λ (n : ℕ). IsDemonstrated number n text) (sym c.in-Ok-end.ensures.status) (shown_is content number c.in-Ok.outcome
           (explained_request content (g.F.Files.failed_name c.command.new.files) (spelled c.args.words.now) (demo number) asked c.in-Ok.outcome
-          c.in-Ok.ensures.explained (subst IsDone c.status.ensures ends))),
-      c.in-Ok-finish.ensures.whole,
+          c.in-Ok.ensures.explained (subst IsDone c.in-Ok-end.ensures.status ends))),
+      c.in-Ok-end.ensures.whole,
     )
 
-pub returns-in-Ok-finish-clause-demo_never_refused : goal.returns-in-Ok-finish-clause-demo_never_refused
-returns-in-Ok-finish-clause-demo_never_refused g c = λ number asked.
+pub returns-in-Ok-end-clause-demo_never_refused : goal.returns-in-Ok-end-clause-demo_never_refused
+returns-in-Ok-end-clause-demo_never_refused g c = λ number asked.
     let ends = demo_ends (g.F.Files.content c.args.files.now) (g.F.Files.failed_name c.command.new.files) (spelled c.args.words.now) number asked
     c.in-Ok.outcome c.in-Ok.ensures.explained in
-    elim (subst IsDone (sym c.status.ensures) ends) [
+    elim (subst IsDone (sym c.in-Ok-end.ensures.status) ends) [
       | inl zero ↦ inl zero
       | inr large ↦ inr (inr (inr large))
     ]
 
-pub returns-in-Ok-finish-clause-complete : goal.returns-in-Ok-finish-clause-complete
-returns-in-Ok-finish-clause-complete g c = λ memory unread unwritten unput request asked.
+pub returns-in-Ok-end-clause-complete : goal.returns-in-Ok-end-clause-complete
+returns-in-Ok-end-clause-complete g c = λ memory unread unwritten unput request asked.
     let content = g.F.Files.content c.args.files.now in
-    subst (λ (n : ℕ). IsComplete content request n) (sym c.status.ensures) (complete_is content (g.F.Files.failed_name c.command.new.files)
+    subst (λ (n : ℕ). IsComplete content request n) (sym c.in-Ok-end.ensures.status) (complete_is content (g.F.Files.failed_name c.command.new.files)
     (spelled c.args.words.now) request asked c.in-Ok.outcome c.in-Ok.ensures.explained
-    (λ fault. unread (rw c.finish.ensures.reads.read_faults (c.in-Ok.ensures.counted.read_faults.rose fault))))
+    (λ fault. unread (rw c.finish-end.ensures.reads.read_faults (c.in-Ok.ensures.counted.read_faults.rose fault))))
 
-pub returns-in-Ok-finish-clause-told : goal.returns-in-Ok-finish-clause-told
-returns-in-Ok-finish-clause-told g c = λ written memory. (
+pub returns-in-Ok-end-clause-told : goal.returns-in-Ok-end-clause-told
+returns-in-Ok-end-clause-told g c = λ written memory. (
   c.in-Ok.outcome,
-  c.status.ensures,
-  rw c.finish.ensures.reads.failed_name c.in-Ok.ensures.explained,
-  wrote_since g.F.Files c.args.files.now c.command.new.files c.finish.new.files c.in-Ok.ensures.only_read (outcome_outputs c.in-Ok.outcome) _
-      c.in-Ok-finish.ensures.wrote,
-  c.in-Ok-finish.ensures.whole,
+  c.in-Ok-end.ensures.status,
+  rw c.finish-end.ensures.reads.failed_name c.in-Ok.ensures.explained,
+  wrote_since g.F.Files c.args.files.now c.command.new.files c.finish-end.new.files c.in-Ok.ensures.only_read (outcome_outputs c.in-Ok.outcome) _
+      c.in-Ok-end.ensures.wrote,
+  c.in-Ok-end.ensures.whole,
 )
 
 -- a status with which nothing is written
 abbrev IsSmall : ℕ → Type 0
 IsSmall n = (n ≡ 1) ⊎ (n ≡ 2) ⊎ (n ≡ 3) ⊎ (n ≡ 6)
 
-pub returns-in-Ok-finish-clause-refused_writes_none : goal.returns-in-Ok-finish-clause-refused_writes_none
-returns-in-Ok-finish-clause-refused_writes_none g c = λ small.
-    only_read_since g.F.Files c.args.files.now c.command.new.files c.finish.new.files c.in-Ok.ensures.only_read
-    (c.finish.ensures.unwritten (status_unwritten c.in-Ok.outcome (subst IsSmall c.status.ensures small)))
+pub returns-in-Ok-end-clause-refused_writes_none : goal.returns-in-Ok-end-clause-refused_writes_none
+returns-in-Ok-end-clause-refused_writes_none g c = λ small.
+    only_read_since g.F.Files c.args.files.now c.command.new.files c.finish-end.new.files c.in-Ok.ensures.only_read
+    (c.finish-end.ensures.unwritten (status_unwritten c.in-Ok.outcome (subst IsSmall c.in-Ok-end.ensures.status small)))
