@@ -86,6 +86,10 @@ code_loaded image m instrs n e whole room fits count is = record {
         ap (λ (w : Memory). w j) e ∙ placed_outside (placed zeros DATA_START image.init) CODE_START image.code j (inr (omega arith))
         ∙ placed_outside zeros DATA_START image.init j (inr (omega arith))
 
+-- a word that was read at a place, and decoded
+pub decoded_at : (instr : Option Instr) (m : Memory) (a : ℕ) {word : ℕ} {m' : Memory} {a' : ℕ} → instr ≡ decoded word → word ≡ read 4 m' a' → m' ≡ m → a' ≡ a → instr ≡ decoded (read 4 m a)
+decoded_at instr m a {m'} {a'} is was p q = is ∙ ap decoded (was ∙ ap (λ n. read 4 n a') p ∙ ap (λ k. read 4 m k) q)
+
 -- a list of decoded words that grows by the next one
 pub one_more : (f : ℕ → Option Instr) (xs more : List (Option Instr)) (k : ℕ) (x : Option Instr) → more ≡ xs ++ x ∷ [] → length xs ≡ k → x ≡ f k → ((j : ℕ) → j < k → slice_get xs j ≡ Some (f j)) → (j : ℕ) → j < k + 1 → slice_get more j ≡ Some (f j)
 one_more f xs more k x grown count here is j low =

@@ -48,7 +48,7 @@ impl Code {
     {
         let mut instrs = Vec::with_capacity(alloc, words)?;
         for k in 0..words {
-            instrs.push(decode(memory.word(CODE_START + 4 * k as u64)))?;
+            instrs.push_reserved(decode(memory.word(CODE_START + 4 * k as u64)));
         }
         Ok(Code { instrs })
     }

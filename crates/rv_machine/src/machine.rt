@@ -6,7 +6,8 @@ ghost use Rattle.rv_code.specs.Decode.{decoded};
 ghost use Rattle.rv_code.specs.Run.{disturbed};
 ghost use Rattle.rv_code.specs.State.{last_exit, start_hart, start_shared};
 ghost use Rattle.rv_code.specs.Step.{address, can_fetch, exec, offset, puts, ran, step};
-ghost use Rattle.rv_mem.specs.Cells.{HasRoom, has_room};
+ghost use Rattle.rv_mem.specs.Cells.{HasRoom, has_room, memory_of};
+ghost use Rattle.rv_machine.specs.Code.{IsCodeOf};
 ghost use Rattle.rv_machine.specs.Room.{KeepsRoom, LacksRoom, LacksRoomAtPc};
 ghost use Rattle.rv_machine.specs.Parts.{after_step, hart_in, may_take_memory, shared_in, MayTakeMemory};
 
@@ -57,14 +58,27 @@ impl Machine {
         ensures hart { IfOk result (λ machine. hart_in machine ≡ start_hart) }
         ensures shared { IfOk result (λ machine. shared_in machine ≡ start_shared image.now input.now) }
     {
-        let system = System::new(alloc, input)?;
         let memory = Memory::load(alloc, image)?;
         let code = Code::of(alloc, &memory, image.code().len() / 4)?;
+        Machine::with_memory(alloc, memory, code, input)
+    }
+
+    /// The machine in which a run starts with this memory and its code; the input is copied.
+    fn with_memory(
+        alloc: Global,
+        memory: Memory,
+        code: Code,
+        input: &[u8],
+    ) -> Result<Machine, NoMemory>
+        requires { IsCodeOf code (memory_of memory) }
+        ensures hart { IfOk result (λ machine. hart_in machine ≡ start_hart) }
+        ensures shared { IfOk result (λ machine. shared_in machine ≡ record { memory = memory_of memory; left = input.now; output = []; events = [] }) }
+    {
         Ok(Machine {
             pc: START,
             regs: Regs::new(),
             memory,
-            system,
+            system: System::new(alloc, input)?,
             code,
             ended: None,
         })
@@ -77,14 +91,8 @@ impl Machine {
         ensures hart { IfOk result (λ machine. hart_in machine ≡ start_hart) }
         ensures shared { IfOk result (λ machine. shared_in machine ≡ record { memory = placed zeros DATA_START init.now; left = input.now; output = []; events = [] }) }
     {
-        Ok(Machine {
-            pc: START,
-            regs: Regs::new(),
-            memory: Memory::with_data(alloc, init)?,
-            system: System::new(alloc, input)?,
-            code: Code::none(alloc),
-            ended: None,
-        })
+        let memory = Memory::with_data(alloc, init)?;
+        Machine::with_memory(alloc, memory, Code::none(alloc), input)
     }
 
     /// The address of the next instruction.

@@ -1,4 +1,4 @@
-use Rattle.std.proofs.Common.{◌≡◌, ℕ, ◌+◌, ◌*◌, ◌<◌, length, Some}
+use Rattle.std.proofs.Common.{◌≡◌, ℕ, ◌+◌, ◌*◌, ◌<◌, ◌≤◌, length, vec_capacity, Some}
 use Rattle.std.specs.Prelude.{slice_get}
 use Rattle.rv_word.specs.Layout.{CODE_START}
 use Rattle.rv_word.specs.Memory.{read}
@@ -9,5 +9,6 @@ use Rattle.rv_machine.proofs.code.Code.of.Given as goal
 abbrev pub invariant-loop-k : goal.invariant-loop-k
 invariant-loop-k l = record {
   len : length l.instrs.items ≡ l.k;
+  room : l.words ≤ vec_capacity l.instrs;
   each : (j : ℕ) → j < l.k → slice_get l.instrs.items j ≡ Some (decoded (read 4 (memory_of l.memory) (CODE_START + 4 * j)));
 }

@@ -1,11 +1,10 @@
 use Rattle.std.proofs.Common.{◌*◌, ◌/◌, ◌≡◌, ap, arith, length}
 use Rattle.rv_machine.proofs.Decoding.{code_loaded}
-use Rattle.rv_machine.proofs.Exits.{none_yet}
 use Rattle.rv_machine.proofs.machine.Machine.new.Goals as goal
 
-pub invariant_of-result : goal.invariant_of-result
-invariant_of-result c =
+pub with_memory-requires : goal.with_memory-requires
+with_memory-requires c =
     let size = c.code.ensures.size in
     let same = ap length c.code.ensures.value in
     let whole : 4 * (length c.code.result.now / 4) ≡ length c.args.image.now.code = omega (arith, size.words, same) in
-    record { code = code_loaded c.args.image.now _ c.in_ok-code.code _ c.in_ok-memory.ensures whole (omega (arith, size.most, same)) (omega (arith, size.data_most)) c.in_ok-code.ensures.len c.in_ok-code.ensures.each; exit = rw c.in_ok-system.ensures none_yet }
+    code_loaded c.args.image.now _ c.in_ok-code.code _ c.in_ok-memory.ensures whole (omega (arith, size.most, same)) (omega (arith, size.data_most)) c.in_ok-code.ensures.len c.in_ok-code.ensures.each
