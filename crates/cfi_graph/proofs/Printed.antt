@@ -1,7 +1,7 @@
 -- A text as it is written, piece after piece.
-use Rattle.std.proofs.Common.{◌≡◌, ℕ, List, [], ◌∷◌, ◌++◌, codes, map, refl, sym, ◌∙◌, ap, append_assoc}
+use Rattle.std.proofs.Common.{◌≡◌, ℕ, List, [], ◌∷◌, ◌++◌, ◌+◌, ◌<◌, codes, get_or, length, take, map, refl, sym, ◌∙◌, ap, append_assoc}
 use Rattle.std.specs.List.{flat_map}
-use Rattle.std.proofs.lemmas.List.{append-nil}
+use Rattle.std.proofs.lemmas.List.{append-nil, take_more}
 use Rattle.cfi_graph.specs.declared.line.GraphLine.{GraphLine}
 use Rattle.cfi_graph.specs.declared.line.GraphLine.TheVariants.{Class}
 use Rattle.cfi_graph.specs.Graph.{GraphParts}
@@ -22,6 +22,14 @@ pub flat_map-append : {X : Type 0} (f : X → List ℕ) (xs ys : List X) → fla
 flat_map-append f [] ys = refl
 flat_map-append f (x ∷ xs) ys =
     ap (λ rest. f x ++ rest) (flat_map-append f xs ys) ∙ sym (append_assoc (f x) (flat_map f xs) (flat_map f ys))
+
+-- the pieces of the first ones, and then that of the next
+pub next_piece : {X : Type 0} (f : X → List ℕ) (xs : List X) (k : ℕ) (x d : X) (out : List ℕ) {before after : List ℕ} → k < length xs → x ≡ get_or xs k d → before ≡ out ++ flat_map f (take k xs) → after ≡ before ++ f x → after ≡ out ++ flat_map f (take (k + 1) xs)
+next_piece f xs k x d out {before} low is so more =
+    let first = flat_map f (take k xs) in
+    let next : take (k + 1) xs ≡ take k xs ++ x ∷ [] = take_more xs k d low ∙ ap (λ y. take k xs ++ y ∷ []) (sym is) in
+    let joined : flat_map f (take (k + 1) xs) ≡ first ++ f x = ap (flat_map f) next ∙ flat_map-append f (take k xs) (x ∷ []) ∙ ap (λ ys. first ++ ys) (append-nil (f x)) in
+    more ∙ ap (λ ys. ys ++ f x) so ∙ append_assoc out first (f x) ∙ ap (λ ys. out ++ ys) (sym joined)
 
 class_text : (label : ℕ) (targets : List ℕ) → spaced (codes "class" ∷ hex_text 5 label ∷ map (hex_text 8) targets) ≡ codes "class" ++ 32 ∷ hex_text 5 label ++ flat_map (λ n. 32 ∷ hex_text 8 n) targets
 class_text label targets =

@@ -25,15 +25,23 @@ kind_of name =
     if bytes_eq name (codes "call") then Some kind.Call else
     if bytes_eq name (codes "jump") then Some kind.Jump else None
 
+-- the line that an address, a kind and a label spell
+abbrev pub site_from : List ℕ → List ℕ → List ℕ → Option GraphLine
+site_from address name label =
+    option_and_then (λ a. option_and_then (λ k. option_map (λ l. Site a k l) (hex 5 label)) (kind_of name)) (hex 8 address)
+
 -- after `site`: an address, a kind, a label
 abbrev pub site_of : List (List ℕ) → Option GraphLine
-site_of (address ∷ name ∷ label ∷ []) =
-    option_and_then (λ a. option_and_then (λ k. option_map (λ l. Site a k l) (hex 5 label)) (kind_of name)) (hex 8 address)
+site_of (address ∷ name ∷ label ∷ []) = site_from address name label
 site_of words = None
+
+-- the addresses that two words spell
+abbrev pub two_addresses : List ℕ → List ℕ → Option (ℕ × ℕ)
+two_addresses from to = option_and_then (λ a. option_map (λ b. (a, b)) (hex 8 to)) (hex 8 from)
 
 -- after `edge` and `call`: two addresses
 abbrev pub pair_of : List (List ℕ) → Option (ℕ × ℕ)
-pair_of (from ∷ to ∷ []) = option_and_then (λ a. option_map (λ b. (a, b)) (hex 8 to)) (hex 8 from)
+pair_of (from ∷ to ∷ []) = two_addresses from to
 pair_of words = None
 
 abbrev pub named : List ℕ → List (List ℕ) → Option GraphLine

@@ -6,7 +6,9 @@ ghost use Rattle.cfi_graph.specs.Lines.{
   length_of,
   line_of,
   pair_of,
+  site_from,
   site_of,
+  two_addresses,
 };
 ghost use Rattle.text_lines.specs.Lines.{parts_after, words_of};
 
@@ -64,6 +66,16 @@ fn kind(name: &[u8]) -> Option<SiteKind>
     None
 }
 
+/// The site line of an address, a kind and a label.
+fn site_from(address: &[u8], name: &[u8], label: &[u8]) -> Option<GraphLine>
+    ensures { result ≡ site_from address.now name.now label.now }
+{
+    let address = hex_of(address, 8)?;
+    let kind = kind(name)?;
+    let label = hex_of(label, 5)?;
+    Some(GraphLine::Site(u64::from(address), kind, label))
+}
+
 /// The site line that has these words after its name.
 fn site(words: Option<&[u8]>) -> Option<GraphLine>
     ensures { result ≡ site_of (parts_after 32 (option_map (λ w. w.now) words.entry)) }
@@ -74,10 +86,16 @@ fn site(words: Option<&[u8]>) -> Option<GraphLine>
     if let Some(_more) = rest {
         return None;
     }
-    let address = hex_of(address, 8)?;
-    let kind = kind(name)?;
-    let label = hex_of(label, 5)?;
-    Some(GraphLine::Site(u64::from(address), kind, label))
+    site_from(address, name, label)
+}
+
+/// The addresses that two words spell.
+fn two_addresses(from: &[u8], to: &[u8]) -> Option<(u64, u64)>
+    ensures { result ≡ two_addresses from.now to.now }
+{
+    let from = hex_of(from, 8)?;
+    let to = hex_of(to, 8)?;
+    Some((u64::from(from), u64::from(to)))
 }
 
 /// The two addresses that these words spell.
@@ -89,9 +107,7 @@ fn pair(words: Option<&[u8]>) -> Option<(u64, u64)>
     if let Some(_more) = rest {
         return None;
     }
-    let from = hex_of(from, 8)?;
-    let to = hex_of(to, 8)?;
-    Some((u64::from(from), u64::from(to)))
+    two_addresses(from, to)
 }
 
 /// The length of a line of a name of four letters and two addresses.

@@ -2,6 +2,7 @@ ghost use Rattle.std.specs.Prelude.{◌≡◌, [], ◌∷◌, ◌++◌, IfOk, On
 ghost use Rattle.std.specs.List.{flat_map};
 ghost use Rattle.text_lines.specs.Hex.{hex_text};
 ghost use Rattle.text_lines.specs.Lines.{spaced};
+ghost use Rattle.cfi_graph.specs.declared.line.GraphLine.TheVariants.{Class, Site};
 ghost use Rattle.cfi_graph.specs.Text.{graph_text, words_of_line};
 ghost use Rattle.cfi_graph.specs.Reading.{graph_of};
 
@@ -21,34 +22,48 @@ fn push_numbers(out: &mut Vec<u8>, numbers: &[u64]) -> Result<(), NoMemory>
     Ok(())
 }
 
+/// Adds the words of a class's line.
+fn push_class(out: &mut Vec<u8>, label: u32, targets: &[u64]) -> Result<(), NoMemory>
+    ensures { OnOk result
+        (out.new.items ≡ out.old.items ++ spaced (words_of_line (Class label targets.now))) }
+{
+    out.extend_from_slice(b"class")?;
+    push_number(out, u64::from(label), 5)?;
+    push_numbers(out, targets)
+}
+
+/// Adds the words of a site's line.
+fn push_site(out: &mut Vec<u8>, address: u64, kind: SiteKind, label: u32) -> Result<(), NoMemory>
+    ensures { OnOk result
+        (out.new.items ≡ out.old.items ++ spaced (words_of_line (Site address kind label))) }
+{
+    out.extend_from_slice(b"site")?;
+    push_number(out, address, 8)?;
+    out.extend_from_slice(match kind {
+        SiteKind::Call => b" call",
+        SiteKind::Jump => b" jump",
+    })?;
+    push_number(out, u64::from(label), 5)
+}
+
+/// Adds a line's name and its two addresses.
+fn push_pair(out: &mut Vec<u8>, name: &[u8], from: u64, to: u64) -> Result<(), NoMemory>
+    ensures { OnOk result (out.new.items
+        ≡ out.old.items ++ spaced (name.now ∷ hex_text 8 from ∷ hex_text 8 to ∷ [])) }
+{
+    out.extend_from_slice(name)?;
+    push_numbers(out, &[from, to])
+}
+
 /// Adds the words of a line, with a space between each two.
 fn push_words(out: &mut Vec<u8>, line: &GraphLine) -> Result<(), NoMemory>
     ensures { OnOk result (out.new.items ≡ out.old.items ++ spaced (words_of_line line.now)) }
 {
     match line {
-        GraphLine::Class(label, targets) => {
-            out.extend_from_slice(b"class")?;
-            push_number(out, u64::from(*label), 5)?;
-            push_numbers(out, targets.as_slice())
-        }
-        GraphLine::Site(address, kind, label) => {
-            out.extend_from_slice(b"site")?;
-            push_number(out, *address, 8)?;
-            let name = match kind {
-                SiteKind::Call => b" call",
-                SiteKind::Jump => b" jump",
-            };
-            out.extend_from_slice(name)?;
-            push_number(out, u64::from(*label), 5)
-        }
-        GraphLine::Edge(from, to) => {
-            out.extend_from_slice(b"edge")?;
-            push_numbers(out, &[*from, *to])
-        }
-        GraphLine::Call(from, to) => {
-            out.extend_from_slice(b"call")?;
-            push_numbers(out, &[*from, *to])
-        }
+        GraphLine::Class(label, targets) => push_class(out, *label, targets.as_slice()),
+        GraphLine::Site(address, kind, label) => push_site(out, *address, *kind, *label),
+        GraphLine::Edge(from, to) => push_pair(out, b"edge", *from, *to),
+        GraphLine::Call(from, to) => push_pair(out, b"call", *from, *to),
     }
 }
 

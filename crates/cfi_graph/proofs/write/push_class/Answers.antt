@@ -1,0 +1,10 @@
+use Rattle.std.proofs.Common.{ap, ◌∙◌, ◌++◌, ◌∷◌}
+use Rattle.std.proofs.lemmas.Result.{IfOk-equal}
+use Rattle.text_lines.specs.Hex.{hex_text}
+use Rattle.cfi_graph.proofs.Printed.{class_written}
+use Rattle.cfi_graph.proofs.write.push_class.Goals as goal
+
+pub returns : goal.returns
+returns c =
+    let labelled = c.in_ok-push_number.ensures.pushed ∙ ap (λ n. c.extend_from_slice.new.self.items ++ 32 ∷ hex_text 5 n) c.from.ensures in
+    IfOk-equal c.push_numbers.result _ _ _ c.push_numbers.ensures (class_written _ _ _ c.args.label c.args.targets.now c.in_ok-extend_from_slice.ensures.items labelled)
