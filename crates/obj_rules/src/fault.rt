@@ -26,6 +26,42 @@ pub enum ItemFault {
     BadCodePointer(u32, u64),
 }
 
+impl ItemFault {
+    ghost use Rattle.obj_rules.specs.FaultText.{fault_text, told};
+
+    /// What is told of the fault: its name, its place and one number more.
+    fn parts(&self) -> (&'static str, Option<(u32, u64)>, Option<u64>)
+        ensures { told result.0.now result.1 result.2 ≡ fault_text self.now }
+    {
+        match *self {
+            ItemFault::Undecodable(section, offset, word) => {
+                (
+                    "Undecodable",
+                    Some((section, offset)),
+                    Some(u64::from(word)),
+                )
+            }
+            ItemFault::ReservedRegister(section, offset) => {
+                ("ReservedRegister", Some((section, offset)), None)
+            }
+            ItemFault::BadTransfer(section, offset) => {
+                ("BadTransfer", Some((section, offset)), None)
+            }
+            ItemFault::BadPair(section, offset) => ("BadPair", Some((section, offset)), None),
+            ItemFault::RelocKind(section, offset, kind) => {
+                ("RelocKind", Some((section, offset)), Some(u64::from(kind)))
+            }
+            ItemFault::RelocPlace(section, offset) => {
+                ("RelocPlace", Some((section, offset)), None)
+            }
+            ItemFault::Undefined(symbol) => ("Undefined", None, Some(symbol)),
+            ItemFault::BadCodePointer(section, offset) => {
+                ("BadCodePointer", Some((section, offset)), None)
+            }
+        }
+    }
+}
+
 impl fmt::Display for ItemFault {
     ghost use Rattle.std.specs.Prelude.{Some};
     ghost use Rattle.obj_rules.specs.FaultText.{fault_text};
@@ -33,23 +69,14 @@ impl fmt::Display for ItemFault {
     ghost output = { λ fault. Some (fault_text fault) };
 
     fn fmt<W: fmt::Write>(&self, f: &mut fmt::Formatter<W>) -> fmt::Result {
-        match *self {
-            ItemFault::Undecodable(section, offset, word) => {
-                write!(f, "Undecodable {section} {offset} {word}")
+        let (name, place, number) = self.parts();
+        match (place, number) {
+            (Some((section, offset)), Some(number)) => {
+                write!(f, "{name} {section} {offset} {number}")
             }
-            ItemFault::ReservedRegister(section, offset) => {
-                write!(f, "ReservedRegister {section} {offset}")
-            }
-            ItemFault::BadTransfer(section, offset) => write!(f, "BadTransfer {section} {offset}"),
-            ItemFault::BadPair(section, offset) => write!(f, "BadPair {section} {offset}"),
-            ItemFault::RelocKind(section, offset, kind) => {
-                write!(f, "RelocKind {section} {offset} {kind}")
-            }
-            ItemFault::RelocPlace(section, offset) => write!(f, "RelocPlace {section} {offset}"),
-            ItemFault::Undefined(symbol) => write!(f, "Undefined {symbol}"),
-            ItemFault::BadCodePointer(section, offset) => {
-                write!(f, "BadCodePointer {section} {offset}")
-            }
+            (Some((section, offset)), None) => write!(f, "{name} {section} {offset}"),
+            (None, Some(number)) => write!(f, "{name} {number}"),
+            (None, None) => f.write_str(name),
         }
     }
 }
