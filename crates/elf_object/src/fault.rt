@@ -44,6 +44,26 @@ impl ObjectFault {
     }
 }
 
+impl ObjectFault {
+    ghost use Rattle.elf_object.specs.FaultText.{fault_text, told};
+
+    /// What is told of the fault: its name, and a number.
+    fn parts(&self) -> (&'static str, Option<u64>)
+        ensures { told result.0.now result.1 ≡ fault_text self.now }
+    {
+        match *self {
+            ObjectFault::NotElf => ("NotElf", None),
+            ObjectFault::NotRelocatable(kind) => ("NotRelocatable", Some(u64::from(kind))),
+            ObjectFault::NotRiscv(machine) => ("NotRiscv", Some(u64::from(machine))),
+            ObjectFault::Flags(flags) => ("Flags", Some(u64::from(flags))),
+            ObjectFault::Truncated(offset) => ("Truncated", Some(offset)),
+            ObjectFault::BadTable(index) => ("BadTable", Some(u64::from(index))),
+            ObjectFault::SectionKind(index) => ("SectionKind", Some(u64::from(index))),
+            ObjectFault::BadSymbol(number) => ("BadSymbol", Some(number)),
+        }
+    }
+}
+
 impl fmt::Display for ObjectFault {
     ghost use Rattle.std.specs.Prelude.{Some};
     ghost use Rattle.elf_object.specs.FaultText.{fault_text};
@@ -51,15 +71,10 @@ impl fmt::Display for ObjectFault {
     ghost output = { λ fault. Some (fault_text fault) };
 
     fn fmt<W: fmt::Write>(&self, f: &mut fmt::Formatter<W>) -> fmt::Result {
-        match self {
-            ObjectFault::NotElf => write!(f, "NotElf"),
-            ObjectFault::NotRelocatable(kind) => write!(f, "NotRelocatable {kind}"),
-            ObjectFault::NotRiscv(machine) => write!(f, "NotRiscv {machine}"),
-            ObjectFault::Flags(flags) => write!(f, "Flags {flags}"),
-            ObjectFault::Truncated(offset) => write!(f, "Truncated {offset}"),
-            ObjectFault::BadTable(index) => write!(f, "BadTable {index}"),
-            ObjectFault::SectionKind(index) => write!(f, "SectionKind {index}"),
-            ObjectFault::BadSymbol(number) => write!(f, "BadSymbol {number}"),
+        let (name, number) = self.parts();
+        match number {
+            Some(number) => write!(f, "{name} {number}"),
+            None => f.write_str(name),
         }
     }
 }
