@@ -5,6 +5,8 @@
 #[cfg(test)]
 mod class;
 #[cfg(test)]
+mod cuts;
+#[cfg(test)]
 mod near;
 #[cfg(test)]
 mod pieces;

@@ -1,5 +1,5 @@
-//! Tests of the tool through its public calls: command lines, verdicts, runs, hardened objects, comparisons and demos. They
-//! stand beside the crates that they test, so that these are proved once.
+//! Tests of the tool through its public calls: command lines, verdicts, runs, hardened objects, comparisons, demos and what
+//! these generate. They stand beside the crates that they test, so that these are proved once.
 #![tactic(auto)]
 
 #[cfg(test)]
@@ -15,8 +15,12 @@ mod files;
 #[cfg(test)]
 mod jumps;
 #[cfg(test)]
+mod lines;
+#[cfg(test)]
 mod longest;
 #[cfg(test)]
 mod rewrites;
 #[cfg(test)]
 mod runs;
+#[cfg(test)]
+mod sums;

@@ -1,4 +1,4 @@
-use Rattle.scan_tests.proofs.pieces.listed.Given as goal
+use Rattle.hardened_tests.proofs.cuts.listed.Given as goal
 
 -- the name and the parts of the blank that is opened
 abbrev pub ghosts-fed : goal.ghosts-fed

@@ -1,3 +1,4 @@
+//! What is listed of codes that come in pieces, wherever they are cut: units, their entries and the prologue.
 ghost use Rattle.std.specs.Prelude.{◌≡◌, ◌<◌, ◌^◌};
 
 use cfi_scan::{Entry, Feeder, Listing, Steps};

@@ -1,3 +1,4 @@
+//! The generated objects, against those that a second program makes of the same rules.
 use cfi_gen::object_of;
 use std::alloc::Global;
 
