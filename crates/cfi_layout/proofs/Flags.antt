@@ -14,6 +14,10 @@ use Rattle.cfi_layout.specs.Starts.{flag}
 use Rattle.cfi_layout.specs.LongSet.{is_branch, is_whole}
 use Rattle.cfi_layout.specs.Lengthening.{short_count}
 
+-- what the elements of a list of branches are read with
+abbrev pub no_branch : Short
+no_branch = record { at = 0; target = 0; lead = 0; keep = false }
+
 -- a flag that is not set stands within the list
 pub flag_within : (long : List Bool) (k : ℕ) → flag long k ≡ false → k < length long
 flag_within long k no_flag = elim (cases_lt k (length long)) [

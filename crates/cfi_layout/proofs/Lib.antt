@@ -6,3 +6,4 @@ pub mod Loops
 pub mod Widening
 pub mod Passing
 pub mod Rows
+pub mod Exits

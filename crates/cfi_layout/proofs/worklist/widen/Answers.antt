@@ -2,9 +2,10 @@ use Rattle.std.proofs.Common.{◌≡◌, ℕ, Bool, List, ◌+◌, ◌<◌, true
 use Rattle.std.proofs.lemmas.List.{length-set, get_or_default}
 use Rattle.std.proofs.lemmas.List.Elements.{All-push}
 use Rattle.std.proofs.lemmas.Option.{slice_get-get_or, get_or_from_slice_get}
+use Rattle.std.proofs.lemmas.Result.{IfOk-from_err}
 use Rattle.cfi_layout.specs.declared.short.Short.{Short}
 use Rattle.cfi_layout.specs.Lengthening.{IsWidened, spans}
-use Rattle.cfi_layout.proofs.Widening.{Widening, widening_counts, widening_passes}
+use Rattle.cfi_layout.proofs.Widening.{Widening, widening_begins, widening_counts, widening_passes}
 use Rattle.cfi_layout.proofs.worklist.widen.Goals as goal
 use Rattle.cfi_layout.proofs.worklist.widen.Goals.{then-spans+then-not-is_far+then-is_far+in_ok-push, then-spans+else-not-is_far, else-spans}
 
@@ -50,3 +51,39 @@ at_branch branches index none b before now n is w =
 
 pub returns-clause-widened : goal.returns-clause-widened
 returns-clause-widened c = λ b is. at_branch c.args.branches.now c.args.index _ b c.args.distances.now.items c.loop-i.distances.items c.loop-i.i is c.loop-i.invariant.widening
+
+pub loop-i-init : goal.loop-i-init
+loop-i-init c = record {
+  widening = widening_begins c.args.branches.now _ c.args.distances.now.items c.saturating_sub-i.result;
+  counted = c.requires.counted;
+  indexes = c.requires.indexes;
+  few = omega arith;
+  within = omega (arith, c.requires.index, c.saturating_sub-i.ensures);
+}
+
+pub index-before-requires : goal.index-before-requires
+index-before-requires c = omega (arith, c.loop-i-test.true, c.min-end.ensures, c.loop-i.invariant.counted, c.loop-i.distances.ok.0)
+
+pub index_mut-requires : goal.index_mut-requires
+index_mut-requires c = omega (arith, c.loop-i-test.true, c.min-end.ensures, c.loop-i.invariant.counted, c.loop-i.distances.ok.0)
+
+pub returns-in_err-push-clause-still : goal.returns-in_err-push-clause-still
+returns-in_err-push-clause-still c = length-set c.loop-i.distances.items c.loop-i.i _ ∙ c.loop-i.invariant.counted ∙ sym c.requires.counted
+
+pub returns-in_err-push-clause-widened : goal.returns-in_err-push-clause-widened
+returns-in_err-push-clause-widened c = IfOk-from_err c.from_residual.result _ c.from_residual.ensures.0
+
+pub returns-in_err-push-clause-indexes : goal.returns-in_err-push-clause-indexes
+returns-in_err-push-clause-indexes c = IfOk-from_err c.from_residual.result _ c.from_residual.ensures.0
+
+pub returns-in_err-push-clause-few : goal.returns-in_err-push-clause-few
+returns-in_err-push-clause-few c = IfOk-from_err c.from_residual.result _ c.from_residual.ensures.0
+
+pub returns-clause-still : goal.returns-clause-still
+returns-clause-still c = c.loop-i.invariant.counted ∙ sym c.requires.counted
+
+pub returns-clause-indexes : goal.returns-clause-indexes
+returns-clause-indexes c = c.loop-i.invariant.indexes
+
+pub returns-clause-few : goal.returns-clause-few
+returns-clause-few c = omega (arith, c.loop-i.invariant.few, c.loop-i.invariant.within)
