@@ -1,8 +1,9 @@
 -- A set whose members have one number, and a table that marks the numbers of a set's members.
-use Rattle.std.proofs.Common.{◌≡◌, ◌↔◌, ℕ, ◌+◌, ◌<◌, ◌≤◌, Bool, true, false, List, length, get_or, set, inl, inr, refl, sym, ◌∙◌, ap, subst, arith}
+use Rattle.std.proofs.Common.{◌≡◌, ◌↔◌, ℕ, ◌+◌, ◌<◌, ◌≤◌, Bool, true, false, List, length, get_or, set, replicate, inl, inr, refl, sym, ◌∙◌, ap, subst, arith}
 use Rattle.std.specs.List.{All, Contains}
+use Rattle.std.proofs.Math.ListN.{get_or-eq_default}
 use Rattle.std.proofs.lemmas.Bool.{cases_lt, cases_eq}
-use Rattle.std.proofs.lemmas.List.{length-set, get_or_default, get_or-set_same, get_or-set_other}
+use Rattle.std.proofs.lemmas.List.{length-set, length-replicate, get_or-replicate, get_or_default, get_or-set_same, get_or-set_other}
 use Rattle.std.proofs.lemmas.List.Elements.{Contains-get_or}
 use Rattle.cfi_class.specs.Passes.{AreJoined, IsMarked}
 
@@ -41,11 +42,26 @@ agree_all targets numbers set number i past each range agree = record {
   only = λ a b ha hb e. inl e;
 }
 
+none_at : (n i : ℕ) → get_or (replicate n false) i false ≡ false
+none_at n i = elim (cases_lt i n) [
+  | inl lt ↦ get_or-replicate n i false false lt
+  | inr past ↦ get_or-eq_default (replicate n false) false (omega (arith, length-replicate n false))
+]
+
 -- the table after the first k members of the set
 pub record MarkedBelow (targets numbers set : List ℕ) (k : ℕ) (marked : List Bool) : Type 0 where
   pub all_numbers : length marked ≡ length targets
   pub only : (number : ℕ) → get_or marked number false ≡ true → IsMarked set targets numbers number
   pub each : (m i : ℕ) → m < k → i < length targets → get_or targets i 0 ≡ get_or set m 0 → get_or marked (get_or numbers i 0) false ≡ true
+
+pub none_marked : (targets numbers set : List ℕ) (marked : List Bool) → marked ≡ replicate (length targets) false → MarkedBelow targets numbers set 0 marked
+none_marked targets numbers set marked e = record {
+  all_numbers = rw e (length-replicate (length targets) false);
+  only = λ number is.
+      let both : false ≡ true = sym (none_at (length targets) number) ∙ ap (λ (xs : List Bool). get_or xs number false) (sym e) ∙ is in
+      absurd (cc);
+  each = λ m i below. absurd (omega arith);
+}
 
 pub mark_more : (targets numbers members : List ℕ) (k : ℕ) (marked : List Bool) (number : ℕ) →
     MarkedBelow targets numbers members k marked → k < length members → number < length targets →

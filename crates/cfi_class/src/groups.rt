@@ -17,8 +17,8 @@ pub(crate) fn grouped(
     requires in_range { All (λ number. number < length targets.now) numbers.now }
     ensures { IfOk result (λ v. AreGroups targets.now numbers.now v.items) }
 {
-    let mut groups: Vec<Places> = Vec::new(alloc);
     let mut places: Vec<Option<usize>> = vec![in alloc; None; targets.len()]?;
+    let mut groups: Vec<Places> = Vec::new(alloc);
     for i in 0..targets.len() {
         match places[numbers[i]] {
             Some(place) => groups[place].push(targets[i])?,
