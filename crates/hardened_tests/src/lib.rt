@@ -1,9 +1,7 @@
-//! Tests of hardened code through the public calls: classes, units, the verifier, walks and
+//! Tests of hardened code through the public calls: units, codes in pieces, the verifier, walks and
 //! runs. They stand beside the crates that they test, so that these are proved once.
 #![tactic(auto)]
 
-#[cfg(test)]
-mod class;
 #[cfg(test)]
 mod cuts;
 #[cfg(test)]

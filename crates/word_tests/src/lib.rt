@@ -1,10 +1,12 @@
 //! Tests of words through public calls: bits, lists of bytes and places, what relocations make of words and data,
-//! against values from outside, searches for the first and the least, and where parts of code stand. They stand
-//! beside the crates that they test, so that these are proved once.
+//! against values from outside, searches for the first and the least, classes of sets, and where parts of code stand.
+//! They stand beside the crates that they test, so that these are proved once.
 #![tactic(auto)]
 
 #[cfg(test)]
 mod bits;
+#[cfg(test)]
+mod class;
 #[cfg(test)]
 mod layout;
 #[cfg(test)]
