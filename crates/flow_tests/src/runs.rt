@@ -1,6 +1,6 @@
+use crate::ended::is_told;
 use crate::given::{Given, Source, file};
 use crate::maps;
-use crate::ended::is_told;
 use elf_object::Object;
 use obj_items::items;
 use sample_objects::{B_MAP, H_MAP, NOWHERE_MAP, P_MAP};
