@@ -1,6 +1,7 @@
 //! What is listed of codes that come in pieces, wherever they are cut: units, their entries and the prologue.
 ghost use Rattle.std.specs.Prelude.{◌≡◌, ◌<◌, ◌^◌};
 
+use crate::near::{FIRST, NEAR, SKIPS};
 use cfi_scan::{Entry, Feeder, Listing, Steps};
 use cfi_unit::{Unit, recognise};
 use sample_programs::{
@@ -10,21 +11,6 @@ use sample_programs::{
 use std::alloc::Global;
 use std::marker::Brand;
 use std::sync::ledger::{Blank, Ledger};
-
-/// Where the first unit of an image stands.
-const FIRST: u64 = 0x4000_0040;
-
-/// The words of skips.s in tests/units at the top of the repository, as binutils makes them: branches by
-/// their offset and by what follows them.
-const SKIPS: [u32; 15] = [
-    0x0062e463, 0x0340006f, 0x0062e463, 0x02c000ef, 0x0062e463, 0xfadff06f, 0x0062e463, 0x00000013,
-    0x0062e663, 0x0140006f, 0x0062e063, 0x00c0006f, 0x7e62efe3, 0x8062e063, 0x0062e463,
-];
-
-/// Those of near.s: a loop of short branches.
-const NEAR: [u32; 8] = [
-    0x00800293, 0x00000513, 0x00150513, 0x00550463, 0xfe051ce3, 0x05d00893, 0x00000073, 0xfa5ff06f,
-];
 
 /// A code in pieces of a size, with room for so many words.
 fn fed<L: Ledger>(
