@@ -25,7 +25,7 @@ HERE = Path(__file__).parent
 CRATES = HERE.parent.parent / "crates"
 CODE, CODE_SIZE, TESTED = 0x40000000, 0x100000, 0x40008000
 DATA, DATA_SIZE = 0x10000, 0x2000
-OFF = ["m", "a", "f", "d", "c", "Zifencei", "Zicsr", "zba", "zbb", "zbc", "zbs"]
+OFF = ["a", "f", "d", "c", "Zifencei", "Zicsr", "zba", "zbb", "zbc", "zbs"]
 QEMU = ["qemu-riscv64", "-cpu", ",".join(["rv64"] + [f"{name}=false" for name in OFF])]
 BATCH = 1000
 SECONDS = 5  # of a case under qemu at most
@@ -182,7 +182,7 @@ def case(rng):
     if rng.randrange(10):
         word = word & ~0x7F | rng.choice(OPCODES)
         if rng.randrange(4) and word & 0x7F in (0x1B, 0x33, 0x3B):
-            word = word & 0x01FFFFFF | rng.choice([0, 0x40000000])
+            word = word & 0x01FFFFFF | rng.choice([0, 0x40000000, 0x02000000])
     registers = [number(rng) for _ in range(31)]
     if word & 0x7F in (0x03, 0x23, 0x67) and rng.randrange(8):
         base = word >> 15 & 31

@@ -4,8 +4,10 @@
 Each instruction of steps.s is assembled by GNU binutils into a program that loads x10 to x12,
 points x13 to 16 bytes, and stands at the addresses that the machine of rv_machine has for code and
 data; qemu runs it. The words about it are jumps to an end that tells, by their link, where the
-instruction went, and writes that with x12 and the 8 bytes at x13.
+instruction went, and writes that with x12 and the 8 bytes at x13. Products and quotients follow, each
+of the same numbers: 0, 1, -1, the least numbers of both widths, and others drawn from a seed.
 """
+import random
 import subprocess
 import tempfile
 from pathlib import Path
@@ -54,14 +56,33 @@ ended:
     .byte {bytes}
 """
 
+PRODUCTS = "mul mulh mulhsu mulhu div divu rem remu mulw divw divuw remw remuw".split()
+ALL, LEAST, LEAST_WORD = 2**64 - 1, 2**63, 2**31
+EDGES = [
+    (0, 0), (0xFEDCBA9876543210, 0), (1, ALL), (ALL, 1), (ALL, ALL), (LEAST, ALL), (ALL, LEAST),
+    (LEAST, LEAST), (LEAST_WORD, ALL), (2**64 - LEAST_WORD, 2**32 - 1), (2**32 + LEAST_WORD, 2**32),
+]
+
+
+def operands():
+    """What is multiplied and divided: edges, then drawn numbers of each pair of signs, long by short."""
+    draw = random.Random(64)
+    return EDGES + [
+        (draw.getrandbits(63) | a << 63, draw.getrandbits(size) | b << 63)
+        for a, b, size in ((0, 1, 63), (1, 0, 20), (1, 1, 40))
+    ]
+
 
 def rows():
-    """Each instruction of the source with its x10 and x11."""
+    """Each instruction of the source with its x10 and x11, then each product and quotient."""
     for line in (HERE / "steps.s").read_text().splitlines():
         if line.startswith(" "):
             text, _, values = line.strip().partition(" # ")
             a, b = (int(value, 0) for value in values.split())
             yield text, a, b
+    for name in PRODUCTS:
+        for a, b in operands():
+            yield f"{name} x12, x10, x11", a, b
 
 
 def executed(line, a, b):
@@ -71,7 +92,7 @@ def executed(line, a, b):
         text, made, linked, flat = (f"{folder}/{name}" for name in ("s", "o", "elf", "bin"))
         Path(text).write_text(source)
         run = lambda *words: subprocess.run(words, check=True, stdout=subprocess.PIPE).stdout
-        run(TOOLS + "as", "-march=rv64i", "-o", made, text)
+        run(TOOLS + "as", "-march=rv64im", "-o", made, text)
         run(TOOLS + "ld", "--no-relax", f"-Ttext={CODE:#x}", f"-Tdata={DATA:#x}", "-o", linked, made)
         run(TOOLS + "objcopy", "-O", "binary", "-j", ".text", linked, flat)
         at = TESTED - CODE

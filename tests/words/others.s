@@ -1,4 +1,4 @@
-# Words that are no instruction of RV64I: operations of other extensions, and the word of zeros.
+# Words that are no instruction of RV64IM: operations of other extensions, and the word of zeros.
         .option norelax
         .word 0
         fence.i
@@ -9,12 +9,6 @@
         sret
         wfi
         sfence.vma x0,x0
-        mul x1,x2,x3
-        mulhu x31,x31,x31
-        div x1,x2,x3
-        remu x4,x5,x6
-        mulw x1,x2,x3
-        remuw x31,x0,x31
         lr.w x1,(x2)
         sc.d x1,x2,(x3)
         amoadd.w x1,x2,(x3)
@@ -53,6 +47,15 @@
         .insn r 0x33, 1, 0x20, x1, x2, x3
         .insn r 0x3b, 2, 0, x1, x2, x3
         .insn r 0x3b, 1, 0x20, x1, x2, x3
+        .insn r 0x3b, 1, 1, x1, x2, x3
+        .insn r 0x3b, 2, 1, x1, x2, x3
+        .insn r 0x3b, 3, 1, x1, x2, x3
+        .insn r 0x33, 0, 0x21, x1, x2, x3
+        .insn r 0x33, 5, 0x21, x1, x2, x3
+        .insn r 0x3b, 0, 0x21, x1, x2, x3
+        .insn r 0x3b, 4, 0, x1, x2, x3
+        .insn r 0x3b, 7, 0x41, x1, x2, x3
+        .insn r 0x33, 4, 3, x1, x2, x3
         .insn i 0x73, 0, x0, x0, 2
         .insn i 0x73, 0, x1, x0, 0
         .insn i 0x73, 0, x0, x1, 1

@@ -62,7 +62,7 @@ def literal(word):
 
 
 def main():
-    made, source = words("words.s", "rv64i"), lines("words.s")
+    made, source = words("words.s", "rv64im"), lines("words.s")
     assert len(made) == len(source)
     for word, line in zip(made, source):
         word, name, first, second, number = row(word, line)

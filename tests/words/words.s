@@ -1,4 +1,4 @@
-# Every operation of RV64I with registers 0 and 31 and extreme immediates, read by table.py.
+# Every operation of RV64IM with registers 0 and 31 and extreme immediates, read by table.py.
         .option norelax
 # U format
         lui x0,0x0
@@ -242,6 +242,58 @@
         sraw x31,x31,x31
         sraw x1,x2,x4
         sraw x16,x8,x31
+        mul x0,x0,x0
+        mul x31,x31,x31
+        mul x1,x2,x4
+        mul x16,x8,x31
+        mulh x0,x0,x0
+        mulh x31,x31,x31
+        mulh x1,x2,x4
+        mulh x16,x8,x31
+        mulhsu x0,x0,x0
+        mulhsu x31,x31,x31
+        mulhsu x1,x2,x4
+        mulhsu x16,x8,x31
+        mulhu x0,x0,x0
+        mulhu x31,x31,x31
+        mulhu x1,x2,x4
+        mulhu x16,x8,x31
+        div x0,x0,x0
+        div x31,x31,x31
+        div x1,x2,x4
+        div x16,x8,x31
+        divu x0,x0,x0
+        divu x31,x31,x31
+        divu x1,x2,x4
+        divu x16,x8,x31
+        rem x0,x0,x0
+        rem x31,x31,x31
+        rem x1,x2,x4
+        rem x16,x8,x31
+        remu x0,x0,x0
+        remu x31,x31,x31
+        remu x1,x2,x4
+        remu x16,x8,x31
+        mulw x0,x0,x0
+        mulw x31,x31,x31
+        mulw x1,x2,x4
+        mulw x16,x8,x31
+        divw x0,x0,x0
+        divw x31,x31,x31
+        divw x1,x2,x4
+        divw x16,x8,x31
+        divuw x0,x0,x0
+        divuw x31,x31,x31
+        divuw x1,x2,x4
+        divuw x16,x8,x31
+        remw x0,x0,x0
+        remw x31,x31,x31
+        remw x1,x2,x4
+        remw x16,x8,x31
+        remuw x0,x0,x0
+        remuw x31,x31,x31
+        remuw x1,x2,x4
+        remuw x16,x8,x31
 # fences, with fields that the standard reserves too
         fence
         fence r,w

@@ -241,6 +241,58 @@ const WORDS: &[u8] = b"\
     sraw 41ffdfbb 1f 1f 1f\n\
     sraw 404150bb 1 2 4\n\
     sraw 41f4583b 10 8 1f\n\
+    mul 02000033 0 0 0\n\
+    mul 03ff8fb3 1f 1f 1f\n\
+    mul 024100b3 1 2 4\n\
+    mul 03f40833 10 8 1f\n\
+    mulh 02001033 0 0 0\n\
+    mulh 03ff9fb3 1f 1f 1f\n\
+    mulh 024110b3 1 2 4\n\
+    mulh 03f41833 10 8 1f\n\
+    mulhsu 02002033 0 0 0\n\
+    mulhsu 03ffafb3 1f 1f 1f\n\
+    mulhsu 024120b3 1 2 4\n\
+    mulhsu 03f42833 10 8 1f\n\
+    mulhu 02003033 0 0 0\n\
+    mulhu 03ffbfb3 1f 1f 1f\n\
+    mulhu 024130b3 1 2 4\n\
+    mulhu 03f43833 10 8 1f\n\
+    div 02004033 0 0 0\n\
+    div 03ffcfb3 1f 1f 1f\n\
+    div 024140b3 1 2 4\n\
+    div 03f44833 10 8 1f\n\
+    divu 02005033 0 0 0\n\
+    divu 03ffdfb3 1f 1f 1f\n\
+    divu 024150b3 1 2 4\n\
+    divu 03f45833 10 8 1f\n\
+    rem 02006033 0 0 0\n\
+    rem 03ffefb3 1f 1f 1f\n\
+    rem 024160b3 1 2 4\n\
+    rem 03f46833 10 8 1f\n\
+    remu 02007033 0 0 0\n\
+    remu 03ffffb3 1f 1f 1f\n\
+    remu 024170b3 1 2 4\n\
+    remu 03f47833 10 8 1f\n\
+    mulw 0200003b 0 0 0\n\
+    mulw 03ff8fbb 1f 1f 1f\n\
+    mulw 024100bb 1 2 4\n\
+    mulw 03f4083b 10 8 1f\n\
+    divw 0200403b 0 0 0\n\
+    divw 03ffcfbb 1f 1f 1f\n\
+    divw 024140bb 1 2 4\n\
+    divw 03f4483b 10 8 1f\n\
+    divuw 0200503b 0 0 0\n\
+    divuw 03ffdfbb 1f 1f 1f\n\
+    divuw 024150bb 1 2 4\n\
+    divuw 03f4583b 10 8 1f\n\
+    remw 0200603b 0 0 0\n\
+    remw 03ffefbb 1f 1f 1f\n\
+    remw 024160bb 1 2 4\n\
+    remw 03f4683b 10 8 1f\n\
+    remuw 0200703b 0 0 0\n\
+    remuw 03ffffbb 1f 1f 1f\n\
+    remuw 024170bb 1 2 4\n\
+    remuw 03f4783b 10 8 1f\n\
     fence 0ff0000f 0 0 0\n\
     fence 0210000f 0 0 0\n\
     fence 0330000f 0 0 0\n\
@@ -291,7 +343,7 @@ const WORDS: &[u8] = b"\
 ";
 
 /// Words of other extensions and of none.
-static OTHERS: [u32; 57] = [
+static OTHERS: [u32; 60] = [
     0x0000_0000,
     0x0000_100f,
     0x3000_1073,
@@ -301,12 +353,6 @@ static OTHERS: [u32; 57] = [
     0x1020_0073,
     0x1050_0073,
     0x1200_0073,
-    0x0231_00b3,
-    0x03ff_bfb3,
-    0x0231_40b3,
-    0x0262_f233,
-    0x0231_00bb,
-    0x03f0_7fbb,
     0x1001_20af,
     0x1821_b0af,
     0x0021_a0af,
@@ -345,6 +391,15 @@ static OTHERS: [u32; 57] = [
     0x4031_10b3,
     0x0031_20bb,
     0x4031_10bb,
+    0x0231_10bb,
+    0x0231_20bb,
+    0x0231_30bb,
+    0x4231_00b3,
+    0x4231_50b3,
+    0x4231_00bb,
+    0x0031_40bb,
+    0x8231_70bb,
+    0x0631_40b3,
     0x0020_0073,
     0x0000_00f3,
     0x0010_8073,
@@ -368,7 +423,7 @@ enum Form {
     Ebreak,
 }
 
-static FORMS: [(&str, Form); 52] = [
+static FORMS: [(&str, Form); 65] = [
     ("lui", Form::Upper(UpperOp::Lui)),
     ("auipc", Form::Upper(UpperOp::Auipc)),
     ("jal", Form::Jal),
@@ -418,6 +473,19 @@ static FORMS: [(&str, Form); 52] = [
     ("sllw", Form::Register(RegisterOp::Sllw)),
     ("srlw", Form::Register(RegisterOp::Srlw)),
     ("sraw", Form::Register(RegisterOp::Sraw)),
+    ("mul", Form::Register(RegisterOp::Mul)),
+    ("mulh", Form::Register(RegisterOp::Mulh)),
+    ("mulhsu", Form::Register(RegisterOp::Mulhsu)),
+    ("mulhu", Form::Register(RegisterOp::Mulhu)),
+    ("div", Form::Register(RegisterOp::Div)),
+    ("divu", Form::Register(RegisterOp::Divu)),
+    ("rem", Form::Register(RegisterOp::Rem)),
+    ("remu", Form::Register(RegisterOp::Remu)),
+    ("mulw", Form::Register(RegisterOp::Mulw)),
+    ("divw", Form::Register(RegisterOp::Divw)),
+    ("divuw", Form::Register(RegisterOp::Divuw)),
+    ("remw", Form::Register(RegisterOp::Remw)),
+    ("remuw", Form::Register(RegisterOp::Remuw)),
     ("fence", Form::Fence),
     ("ecall", Form::Ecall),
     ("ebreak", Form::Ebreak),
@@ -482,7 +550,7 @@ fn is_right(row: &str) -> bool {
 #[test]
 fn words_of_an_assembler(rt: HostRuntime) {
     let table = WORDS;
-    assert!(rt; rows(table).count() == 280);
+    assert!(rt; rows(table).count() == 332);
     for row in rows(table) {
         assert!(rt; is_right(row), "{row}");
     }

@@ -1,5 +1,6 @@
 pub mod Words
 pub mod Rows
+pub mod MultiplyRows
 pub mod ReadBack
 pub mod Inverse
 pub mod Runs

@@ -14,7 +14,7 @@ use Rattle.rv_instr.specs.declared.instr.ShiftOp.TheVariants.{Slli, Srli, Srai}
 use Rattle.rv_instr.specs.declared.instr.ShiftWordOp.{ShiftWordOp}
 use Rattle.rv_instr.specs.declared.instr.ShiftWordOp.TheVariants.{Slliw, Srliw, Sraiw}
 use Rattle.rv_instr.specs.declared.instr.RegisterOp.{RegisterOp}
-use Rattle.rv_instr.specs.declared.instr.RegisterOp.TheVariants.{Add, Sub, Sll, Slt, Sltu, Xor, Srl, Sra, Or, And, Addw, Subw, Sllw, Srlw, Sraw}
+use Rattle.rv_instr.specs.declared.instr.RegisterOp.TheVariants.{Add, Sub, Sll, Slt, Sltu, Xor, Srl, Sra, Or, And, Addw, Subw, Sllw, Srlw, Sraw, Mul, Mulh, Mulhsu, Mulhu, Div, Divu, Rem, Remu, Mulw, Divw, Divuw, Remw, Remuw}
 use Rattle.rv_code.specs.Fields.{with_funct3}
 use Rattle.rv_code.specs.Tables.{row, branches, loads, stores, immediates, shifts, word_shifts, registers, word_registers}
 use Rattle.rv_code.specs.Encode.{fixed, branch_code, load_code, store_code, immediate_code, shift_code, word_shift_code, register_code}
@@ -99,3 +99,16 @@ register_row Subw = inr (0x20, 0, lit< tt, refl, refl)
 register_row Sllw = inr (0, 1, lit< tt, refl, refl)
 register_row Srlw = inr (0, 5, lit< tt, refl, refl)
 register_row Sraw = inr (0x20, 5, lit< tt, refl, refl)
+register_row Mul = inl (1, 0, lit< tt, refl, refl)
+register_row Mulh = inl (1, 1, lit< tt, refl, refl)
+register_row Mulhsu = inl (1, 2, lit< tt, refl, refl)
+register_row Mulhu = inl (1, 3, lit< tt, refl, refl)
+register_row Div = inl (1, 4, lit< tt, refl, refl)
+register_row Divu = inl (1, 5, lit< tt, refl, refl)
+register_row Rem = inl (1, 6, lit< tt, refl, refl)
+register_row Remu = inl (1, 7, lit< tt, refl, refl)
+register_row Mulw = inr (1, 0, lit< tt, refl, refl)
+register_row Divw = inr (1, 4, lit< tt, refl, refl)
+register_row Divuw = inr (1, 5, lit< tt, refl, refl)
+register_row Remw = inr (1, 6, lit< tt, refl, refl)
+register_row Remuw = inr (1, 7, lit< tt, refl, refl)

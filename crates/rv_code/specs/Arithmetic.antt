@@ -1,9 +1,12 @@
 -- What instructions compute (RISC-V unprivileged ISA, "Integer Computational Instructions" of RV32I
--- and RV64I). Register values are numbers below 2 ^ 64; sums wrap.
-use Rattle.std.specs.Prelude.{ℕ, ◌+◌, ◌-◌, ◌*◌, ◌/◌, ◌%◌, ◌^◌, nat_lt, ◌==◌, Bool, not, if◌then◌else◌, bit_and, bit_or, bit_xor}
-use Rattle.std.specs.Int.{cast_signed, w64}
+-- and RV64I, "M Extension for Integer Multiplication and Division"). Register values are numbers below
+-- 2 ^ 64; sums and products wrap.
+use Rattle.std.specs.Prelude.{ℕ, ◌+◌, ◌-◌, ◌*◌, ◌/◌, ◌%◌, ◌^◌, ◌*ℤ◌, nat_lt, ◌==◌, Bool, true, false, not, if◌then◌else◌, bit_and, bit_or, bit_xor}
+use Rattle.std.specs.Int.{cast_signed, w32, w64}
 use Rattle.std.specs.Int.Signed.{lt_z}
 use Rattle.rv_word.specs.Bits.{sign_extended, wrap}
+use Rattle.rv_word.specs.Multiply.{whole, high_bits}
+use Rattle.rv_word.specs.Divide.{quotient, remainder}
 use Rattle.rv_instr.specs.declared.instr.ImmediateOp.{ImmediateOp}
 use Rattle.rv_instr.specs.declared.instr.ImmediateOp.TheVariants.{Addi, Slti, Sltiu, Xori, Ori, Andi, Addiw}
 use Rattle.rv_instr.specs.declared.instr.ShiftOp.{ShiftOp}
@@ -11,7 +14,7 @@ use Rattle.rv_instr.specs.declared.instr.ShiftOp.TheVariants.{Slli, Srli, Srai}
 use Rattle.rv_instr.specs.declared.instr.ShiftWordOp.{ShiftWordOp}
 use Rattle.rv_instr.specs.declared.instr.ShiftWordOp.TheVariants.{Slliw, Srliw, Sraiw}
 use Rattle.rv_instr.specs.declared.instr.RegisterOp.{RegisterOp}
-use Rattle.rv_instr.specs.declared.instr.RegisterOp.TheVariants.{Add, Sub, Sll, Slt, Sltu, Xor, Srl, Sra, Or, And, Addw, Subw, Sllw, Srlw, Sraw}
+use Rattle.rv_instr.specs.declared.instr.RegisterOp.TheVariants.{Add, Sub, Sll, Slt, Sltu, Xor, Srl, Sra, Or, And, Addw, Subw, Sllw, Srlw, Sraw, Mul, Mulh, Mulhsu, Mulhu, Div, Divu, Rem, Remu, Mulw, Divw, Divuw, Remw, Remuw}
 use Rattle.rv_instr.specs.declared.instr.BranchOp.{BranchOp}
 use Rattle.rv_instr.specs.declared.instr.BranchOp.TheVariants.{Beq, Bne, Blt, Bge, Bltu, Bgeu}
 use Rattle.rv_instr.specs.declared.instr.LoadOp.{LoadOp}
@@ -62,7 +65,8 @@ shift_word_result Slliw a amount = word (a * 2 ^ amount)
 shift_word_result Srliw a amount = word (a % 2 ^ 32 / 2 ^ amount)
 shift_word_result Sraiw a amount = shifted_signed 32 a amount
 
--- a computation on two registers: shift amounts are the low 6 bits of b, or 5 for words
+-- a computation on two registers: shift amounts are the low 6 bits of b, or 5 for words; the upper
+-- half of a product is of two numbers with a sign, one with it, or none
 abbrev pub register_result : RegisterOp → ℕ → ℕ → ℕ
 register_result Add a b = wrap (a + b)
 register_result Sub a b = difference a b
@@ -79,6 +83,19 @@ register_result Subw a b = word (a + (2 ^ 64 - b))
 register_result Sllw a b = shift_word_result Slliw a (b % 2 ^ 5)
 register_result Srlw a b = shift_word_result Srliw a (b % 2 ^ 5)
 register_result Sraw a b = shift_word_result Sraiw a (b % 2 ^ 5)
+register_result Mul a b = wrap (a * b)
+register_result Mulh a b = high_bits (whole w64 true a *ℤ whole w64 true b)
+register_result Mulhsu a b = high_bits (whole w64 true a *ℤ whole w64 false b)
+register_result Mulhu a b = high_bits (whole w64 false a *ℤ whole w64 false b)
+register_result Div a b = quotient w64 true a b
+register_result Divu a b = quotient w64 false a b
+register_result Rem a b = remainder w64 true a b
+register_result Remu a b = remainder w64 false a b
+register_result Mulw a b = word (a * b)
+register_result Divw a b = word (quotient w32 true (a % 2 ^ 32) (b % 2 ^ 32))
+register_result Divuw a b = word (quotient w32 false (a % 2 ^ 32) (b % 2 ^ 32))
+register_result Remw a b = word (remainder w32 true (a % 2 ^ 32) (b % 2 ^ 32))
+register_result Remuw a b = word (remainder w32 false (a % 2 ^ 32) (b % 2 ^ 32))
 
 -- whether a branch is taken
 abbrev pub branch_taken : BranchOp → ℕ → ℕ → Bool

@@ -1,5 +1,6 @@
 -- The instruction that a word is (RISC-V unprivileged ISA, "RV32/64G Instruction Set Listings", the
--- rows of RV32I and RV64I). Every other word, the word of zeros among them, is no instruction.
+-- rows of RV32I, RV64I, RV32M and RV64M). Every other word, the word of zeros among them, is no
+-- instruction.
 use Rattle.std.specs.Prelude.{ℕ, ◌/◌, ◌==◌, if◌then◌else◌, Option, Some, None, option_map}
 use Rattle.std.specs.Option.{option_or}
 use Rattle.rv_instr.specs.declared.instr.Instr.{Instr}

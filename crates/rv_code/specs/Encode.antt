@@ -18,7 +18,7 @@ use Rattle.rv_instr.specs.declared.instr.ShiftOp.TheVariants.{Slli, Srli, Srai}
 use Rattle.rv_instr.specs.declared.instr.ShiftWordOp.{ShiftWordOp}
 use Rattle.rv_instr.specs.declared.instr.ShiftWordOp.TheVariants.{Slliw, Srliw, Sraiw}
 use Rattle.rv_instr.specs.declared.instr.RegisterOp.{RegisterOp}
-use Rattle.rv_instr.specs.declared.instr.RegisterOp.TheVariants.{Add, Sub, Sll, Slt, Sltu, Xor, Srl, Sra, Or, And, Addw, Subw, Sllw, Srlw, Sraw}
+use Rattle.rv_instr.specs.declared.instr.RegisterOp.TheVariants.{Add, Sub, Sll, Slt, Sltu, Xor, Srl, Sra, Or, And, Addw, Subw, Sllw, Srlw, Sraw, Mul, Mulh, Mulhsu, Mulhu, Div, Divu, Rem, Remu, Mulw, Divw, Divuw, Remw, Remuw}
 
 -- opcode, funct3 and funct7 at their places
 abbrev pub fixed : ℕ → ℕ → ℕ → ℕ
@@ -86,6 +86,19 @@ register_code Subw = fixed 0x3b 0 0x20
 register_code Sllw = fixed 0x3b 1 0
 register_code Srlw = fixed 0x3b 5 0
 register_code Sraw = fixed 0x3b 5 0x20
+register_code Mul = fixed 0x33 0 1
+register_code Mulh = fixed 0x33 1 1
+register_code Mulhsu = fixed 0x33 2 1
+register_code Mulhu = fixed 0x33 3 1
+register_code Div = fixed 0x33 4 1
+register_code Divu = fixed 0x33 5 1
+register_code Rem = fixed 0x33 6 1
+register_code Remu = fixed 0x33 7 1
+register_code Mulw = fixed 0x3b 0 1
+register_code Divw = fixed 0x3b 4 1
+register_code Divuw = fixed 0x3b 5 1
+register_code Remw = fixed 0x3b 6 1
+register_code Remuw = fixed 0x3b 7 1
 
 -- a field at its place
 abbrev pub at_rd : ℕ → ℕ

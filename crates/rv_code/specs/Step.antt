@@ -1,5 +1,5 @@
--- One step of the hart (RISC-V unprivileged ISA, RV32I and RV64I base instruction sets): fetch,
--- decode, execute. A stop changes nothing but what an exit's event adds. A jump to an address that is no
+-- One step of the hart (RISC-V unprivileged ISA, RV32I and RV64I base instruction sets and the M
+-- extension): fetch, decode, execute. A stop changes nothing but what an exit's event adds. A jump to an address that is no
 -- multiple of 4 is done, and the fetch after it stops (in the standard the jump itself traps).
 use Rattle.std.specs.Prelude.{ℕ, ◌+◌, ◌*◌, ◌/◌, ◌%◌, ◌^◌, ◌==◌, ◌&&◌, Bool, Option, Some, None, if◌then◌else◌}
 use Rattle.rv_word.specs.Bits.{sign_extended, wrap}

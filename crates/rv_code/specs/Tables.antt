@@ -14,7 +14,7 @@ use Rattle.rv_instr.specs.declared.instr.ShiftOp.TheVariants.{Slli, Srli, Srai}
 use Rattle.rv_instr.specs.declared.instr.ShiftWordOp.{ShiftWordOp}
 use Rattle.rv_instr.specs.declared.instr.ShiftWordOp.TheVariants.{Slliw, Srliw, Sraiw}
 use Rattle.rv_instr.specs.declared.instr.RegisterOp.{RegisterOp}
-use Rattle.rv_instr.specs.declared.instr.RegisterOp.TheVariants.{Add, Sub, Sll, Slt, Sltu, Xor, Srl, Sra, Or, And, Addw, Subw, Sllw, Srlw, Sraw}
+use Rattle.rv_instr.specs.declared.instr.RegisterOp.TheVariants.{Add, Sub, Sll, Slt, Sltu, Xor, Srl, Sra, Or, And, Addw, Subw, Sllw, Srlw, Sraw, Mul, Mulh, Mulhsu, Mulhu, Div, Divu, Rem, Remu, Mulw, Divw, Divuw, Remw, Remuw}
 use Rattle.rv_code.specs.Fields.{with_funct3}
 
 -- what a table has at a number
@@ -51,10 +51,14 @@ abbrev pub registers : List (ℕ × RegisterOp)
 registers =
     (with_funct3 0 0, Add) ∷ (with_funct3 0 1, Sll) ∷ (with_funct3 0 2, Slt) ∷ (with_funct3 0 3, Sltu)
     ∷ (with_funct3 0 4, Xor) ∷ (with_funct3 0 5, Srl) ∷ (with_funct3 0 6, Or) ∷ (with_funct3 0 7, And)
-    ∷ (with_funct3 0x20 0, Sub) ∷ (with_funct3 0x20 5, Sra) ∷ []
+    ∷ (with_funct3 0x20 0, Sub) ∷ (with_funct3 0x20 5, Sra)
+    ∷ (with_funct3 1 0, Mul) ∷ (with_funct3 1 1, Mulh) ∷ (with_funct3 1 2, Mulhsu) ∷ (with_funct3 1 3, Mulhu)
+    ∷ (with_funct3 1 4, Div) ∷ (with_funct3 1 5, Divu) ∷ (with_funct3 1 6, Rem) ∷ (with_funct3 1 7, Remu) ∷ []
 
 -- opcode 3Bh, by funct7 and funct3
 abbrev pub word_registers : List (ℕ × RegisterOp)
 word_registers =
     (with_funct3 0 0, Addw) ∷ (with_funct3 0 1, Sllw) ∷ (with_funct3 0 5, Srlw)
-    ∷ (with_funct3 0x20 0, Subw) ∷ (with_funct3 0x20 5, Sraw) ∷ []
+    ∷ (with_funct3 0x20 0, Subw) ∷ (with_funct3 0x20 5, Sraw)
+    ∷ (with_funct3 1 0, Mulw) ∷ (with_funct3 1 4, Divw) ∷ (with_funct3 1 5, Divuw)
+    ∷ (with_funct3 1 6, Remw) ∷ (with_funct3 1 7, Remuw) ∷ []

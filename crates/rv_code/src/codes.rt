@@ -120,5 +120,18 @@ pub(crate) fn register(op: RegisterOp) -> u32
         RegisterOp::Sllw => 0x103b,
         RegisterOp::Srlw => 0x503b,
         RegisterOp::Sraw => 0x4000_503b,
+        RegisterOp::Mul => 0x0200_0033,
+        RegisterOp::Mulh => 0x0200_1033,
+        RegisterOp::Mulhsu => 0x0200_2033,
+        RegisterOp::Mulhu => 0x0200_3033,
+        RegisterOp::Div => 0x0200_4033,
+        RegisterOp::Divu => 0x0200_5033,
+        RegisterOp::Rem => 0x0200_6033,
+        RegisterOp::Remu => 0x0200_7033,
+        RegisterOp::Mulw => 0x0200_003b,
+        RegisterOp::Divw => 0x0200_403b,
+        RegisterOp::Divuw => 0x0200_503b,
+        RegisterOp::Remw => 0x0200_603b,
+        RegisterOp::Remuw => 0x0200_703b,
     }
 }

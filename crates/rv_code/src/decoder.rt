@@ -18,7 +18,7 @@ use crate::operations;
 use rv_instr::{FenceWord, ImmediateOp, Instr, UpperOp};
 
 /// The instruction that a word is (RISC-V unprivileged ISA, "RV32/64G Instruction Set Listings",
-/// the rows of RV32I and RV64I); `None` where no row fits.
+/// the rows of RV32I, RV64I, RV32M and RV64M); `None` where no row fits.
 #[inline(always)]
 pub fn decode(word: u32) -> Option<Instr>
     ensures value { result ≡ decoded word }

@@ -104,6 +104,14 @@ pub(crate) fn register(function: u32) -> Option<RegisterOp>
         7 => Some(RegisterOp::And),
         0x100 => Some(RegisterOp::Sub),
         0x105 => Some(RegisterOp::Sra),
+        8 => Some(RegisterOp::Mul),
+        9 => Some(RegisterOp::Mulh),
+        10 => Some(RegisterOp::Mulhsu),
+        11 => Some(RegisterOp::Mulhu),
+        12 => Some(RegisterOp::Div),
+        13 => Some(RegisterOp::Divu),
+        14 => Some(RegisterOp::Rem),
+        15 => Some(RegisterOp::Remu),
         _ => None,
     }
 }
@@ -117,6 +125,11 @@ pub(crate) fn word_register(function: u32) -> Option<RegisterOp>
         5 => Some(RegisterOp::Srlw),
         0x100 => Some(RegisterOp::Subw),
         0x105 => Some(RegisterOp::Sraw),
+        8 => Some(RegisterOp::Mulw),
+        12 => Some(RegisterOp::Divw),
+        13 => Some(RegisterOp::Divuw),
+        14 => Some(RegisterOp::Remw),
+        15 => Some(RegisterOp::Remuw),
         _ => None,
     }
 }

@@ -4,9 +4,9 @@ use crate::immediate::Immediate;
 use crate::reg::Reg;
 use std::marker::Model;
 
-/// An instruction of RV64I (RISC-V unprivileged ISA, "RV32I Base Integer Instruction Set" and
-/// "RV64I Base Integer Instruction Set"), one variant for each format. Registers stand in the
-/// order of the assembler: destination, sources.
+/// An instruction of RV64IM (RISC-V unprivileged ISA, "RV32I Base Integer Instruction Set", "RV64I
+/// Base Integer Instruction Set" and "M Extension for Integer Multiplication and Division"), one
+/// variant for each format. Registers stand in the order of the assembler: destination, sources.
 #[derive(Clone, Copy, PartialEq, Eq)]
 pub enum Instr {
     /// LUI, AUIPC: rd, bits 31 to 12.
@@ -104,7 +104,8 @@ pub enum ShiftWordOp {
     Sraiw,
 }
 
-/// A computation on two registers; the last five are on the low 32 bits.
+/// A computation on two registers: ten of RV64I and five on the low 32 bits, then eight products,
+/// quotients and remainders and five on the low 32 bits.
 #[derive(Clone, Copy, PartialEq, Eq)]
 pub enum RegisterOp {
     Add,
@@ -122,6 +123,19 @@ pub enum RegisterOp {
     Sllw,
     Srlw,
     Sraw,
+    Mul,
+    Mulh,
+    Mulhsu,
+    Mulhu,
+    Div,
+    Divu,
+    Rem,
+    Remu,
+    Mulw,
+    Divw,
+    Divuw,
+    Remw,
+    Remuw,
 }
 
 /// A word that is a FENCE: opcode 0Fh with funct3 0.

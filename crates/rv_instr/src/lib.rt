@@ -1,4 +1,4 @@
-//! The instructions of RV64I as values: registers, immediates, one variant for each format.
+//! The instructions of RV64IM as values: registers, immediates, one variant for each format.
 #![tactic(auto)]
 
 pub use immediate::Immediate;

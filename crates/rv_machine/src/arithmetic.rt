@@ -1,4 +1,5 @@
-ghost use Rattle.std.specs.Prelude.{◌≡◌, ◌<◌, ◌*◌, ◌%◌, ◌^◌};
+ghost use Rattle.std.specs.Prelude.{◌≡◌, ◌<◌, ◌*◌, ◌%◌, ◌^◌, true};
+ghost use Rattle.rv_machine.specs.Long.{is_long};
 ghost use Rattle.rv_mem.specs.Access.{IsAccessSize};
 ghost use Rattle.rv_word.specs.Bits.{sign_extended};
 ghost use Rattle.rv_code.specs.Step.{offset};
@@ -17,7 +18,7 @@ ghost use Rattle.rv_code.specs.Arithmetic.{
 use rv_instr::{
     BranchOp, Immediate, ImmediateOp, LoadOp, RegisterOp, ShiftOp, ShiftWordOp, StoreOp,
 };
-use rv_word::{low32, sext};
+use rv_word::{div32, div64, low32, mul_high, rem32, rem64, sext};
 
 /// The low 32 bits, sign-extended.
 pub(crate) fn word(value: u64) -> u64
@@ -88,6 +89,42 @@ pub(crate) fn register(op: RegisterOp, a: u64, b: u64) -> u64
         RegisterOp::Sllw => shift_word(ShiftWordOp::Slliw, a, word_amount(b)),
         RegisterOp::Srlw => shift_word(ShiftWordOp::Srliw, a, word_amount(b)),
         RegisterOp::Sraw => shift_word(ShiftWordOp::Sraiw, a, word_amount(b)),
+        RegisterOp::Mul => a.wrapping_mul(b),
+        RegisterOp::Mulw => word(a.wrapping_mul(b)),
+        RegisterOp::Mulh
+        | RegisterOp::Mulhsu
+        | RegisterOp::Mulhu
+        | RegisterOp::Div
+        | RegisterOp::Divu
+        | RegisterOp::Rem
+        | RegisterOp::Remu
+        | RegisterOp::Divw
+        | RegisterOp::Divuw
+        | RegisterOp::Remw
+        | RegisterOp::Remuw => long(op, a, b),
+    }
+}
+
+/// The upper half of a product, a quotient or a remainder. It is called, so that what takes no time is
+/// near in the loop of a run.
+#[inline(never)]
+fn long(op: RegisterOp, a: u64, b: u64) -> u64
+    requires { is_long op ≡ true }
+    ensures { result ≡ register_result op a b }
+{
+    match op {
+        RegisterOp::Mulh => mul_high(a, true, b, true),
+        RegisterOp::Mulhsu => mul_high(a, true, b, false),
+        RegisterOp::Mulhu => mul_high(a, false, b, false),
+        RegisterOp::Div => div64(a, b, true),
+        RegisterOp::Divu => div64(a, b, false),
+        RegisterOp::Rem => rem64(a, b, true),
+        RegisterOp::Remu => rem64(a, b, false),
+        RegisterOp::Divw => word(u64::from(div32(low32(a), low32(b), true))),
+        RegisterOp::Divuw => word(u64::from(div32(low32(a), low32(b), false))),
+        RegisterOp::Remw => word(u64::from(rem32(low32(a), low32(b), true))),
+        RegisterOp::Remuw => word(u64::from(rem32(low32(a), low32(b), false))),
+        _ => unreachable!(),
     }
 }
 

@@ -1,2 +1,4 @@
 pub mod Masks
 pub mod Cases
+pub mod Products
+pub mod Division

@@ -3,3 +3,6 @@ pub mod Layout
 pub mod Memory
 pub mod Image
 pub mod Same
+pub mod Multiply
+pub mod Divide
+pub mod DivideLaws

@@ -1,18 +1,26 @@
-//! Words of the machine: exact bit numbers, the regions of memory, an image's bytes, and the
-//! answer for want of memory. All crates but `rv_instr`, `elf_bytes` and `tool_io` stand on this one.
+//! Words of the machine: exact bit numbers, their products and quotients, the regions of memory, an
+//! image's bytes, and the answer for want of memory. All crates but `rv_instr`, `elf_bytes` and
+//! `tool_io` stand on this one.
 #![tactic(auto)]
 
 pub use bits::{add64, field, low32, sext};
 pub use bytes::Bytes;
+pub use divide::{div64, rem64};
+pub use divide_word::{div32, rem32};
 pub use image::Image;
+pub use multiply::mul_high;
 pub use no_memory::NoMemory;
 pub use places::Places;
 pub use region::Region;
 
 mod bits;
 mod bytes;
+mod divide;
+mod divide_word;
 mod image;
+pub mod laws;
 pub mod memory_map;
+mod multiply;
 mod no_memory;
 mod places;
 pub mod profile;
