@@ -23,7 +23,7 @@ use Rattle.cfi_unit.specs.UnitLaw.{UnitMayStand}
 use Rattle.cfi_unit.specs.Between.{Unchanged, DataChanged}
 use Rattle.cfi_unit.specs.Leaving.{pushed}
 use Rattle.cfi_unit.specs.Effect.{UnitDoes}
-use Rattle.cfi_unit.specs.EffectLaw.{Enters, GoesOn, Inside, DoneWithin, UnitEffect, UnitKeepsRegisters}
+use Rattle.cfi_unit.specs.EffectLaw.{Enters, GoesOn, Inside, DoneWithin, UnitEffect, UnitIsDone, UnitKeepsRegisters}
 use Rattle.cfi_unit.proofs.Context.{kept_data}
 use Rattle.cfi_unit.proofs.EffectSteps.{IsHarmless, Now, RunsOn, before}
 use Rattle.cfi_unit.proofs.EffectUnits.{plain_does, ecall_does, ebreak_does, stop_does, gate_does, jump_does, branch_does, near_does, store_does}
@@ -36,7 +36,7 @@ module _ (may : Shared → Shared → Type 0) (harmless : IsHarmless may) (p : P
 
     body_does : (unit : U.Unit) (pending : List ℕ) → UnitMayStand unit at pending → 0 < length pending → length pending ≤ MOST_PENDING →
         Stand image at (instrs_of unit at) → Context part image base pending s → h.regs 3 ≡ slot part (length pending) →
-        RunsOn may p h.regs (word_count unit - 1) (UnitDoes p part image base may h s unit at pending) (before h s)
+        RunsOn may p h.regs (word_count unit - 1) (UnitIsDone p part image base may h s unit at pending) (before h s)
     body_does (V.Gate label) pending stand some most w c x3 = gate_does at (first pending c) e x3 label w
     body_does (V.Plain instr) pending stand some most w c x3 = plain_does at (first pending c) e instr stand.0.1 w
     body_does (V.Branch op rs1 rs2 target) pending stand some most w c x3 = branch_does at (first pending c) e x3 op rs1 rs2 target stand.0 w
@@ -54,7 +54,7 @@ module _ (may : Shared → Shared → Type 0) (harmless : IsHarmless may) (p : P
         return_does at site pending (first (site ∷ pending) c) e x3 most stand.1.0 stand.1.1 stand.0 w
 
   pub unit_does : (unit : U.Unit) (at : ℕ) (pending : List ℕ) → Enters p part image base unit at pending h s →
-      RunsOn may p h.regs (word_count unit - 1) (UnitDoes p part image base may h s unit at pending) (before h s)
+      RunsOn may p h.regs (word_count unit - 1) (UnitIsDone p part image base may h s unit at pending) (before h s)
   unit_does unit at pending i = body_does i.own i.bytes at i.pc unit pending i.may_stand i.some i.most i.stands i.context i.pointer
 
 goes_on : (r : Registers) (a : After) → Inside r a → a.turn ≡ Ran
@@ -111,7 +111,7 @@ changed_harmless = record {
   };
 }
 
-data_allowed : (changes : List (List ByteChange)) → AllByRecursion (AllByRecursion IsDataChange) changes →
+pub data_allowed : (changes : List (List ByteChange)) → AllByRecursion (AllByRecursion IsDataChange) changes →
     AllByRecursion (λ cs. (s : Shared) → DataChanged s (disturbed s cs)) changes
 data_allowed [] all = tt
 data_allowed (cs ∷ changes) all = (
@@ -137,7 +137,7 @@ one_word V.Return = refl
 pub unit_effect : UnitEffect
 unit_effect p part image base unit at pending h s i =
     let m = word_count unit - 1 in
-    let Q : After → Type 0 = UnitDoes p part image base Unchanged h s unit at pending in
+    let Q : After → Type 0 = UnitIsDone p part image base Unchanged h s unit at pending in
     subst (λ n. DoneWithin p n h s (replicate n []) (Inside h.regs) Q) (one_word unit)
     (done_within p (suc m) h s (replicate (suc m) []) (Inside h.regs) Q
     (comes_on_calmly (Inside h.regs) Unchanged p (goes_on h.regs) Q m (before h s) (λ s'. refl)
@@ -146,7 +146,7 @@ unit_effect p part image base unit at pending h s i =
 pub unit_keeps_registers : UnitKeepsRegisters
 unit_keeps_registers p part image base unit at pending h s i changes all long =
     let m = word_count unit - 1 in
-    let Q : After → Type 0 = UnitDoes p part image base DataChanged h s unit at pending in
+    let Q : After → Type 0 = UnitIsDone p part image base DataChanged h s unit at pending in
     subst (λ n. n ≤ length changes → DoneWithin p n h s changes (Inside h.regs) Q) (one_word unit)
     (λ whole. done_within p (suc m) h s changes (Inside h.regs) Q
     (comes_on (Inside h.regs) DataChanged p (goes_on h.regs) Q m (before h s) changes (data_allowed changes all) whole
@@ -161,5 +161,6 @@ unit_within p part image base unit at pending h s i =
     let Q : After → Type 0 = UnitDoes p part image base Unchanged h s unit at pending in
     let on = unit_does Unchanged unchanged_harmless p part image base h s unit at pending i in (
       refl,
-      λ s' t. within_map (Inside h.regs) Unchanged p GoesOn Unchanged (word_count unit - 1) Q Q (step p h s') (goes_on h.regs) (λ a b same. same) (λ b q. q) (on.1 s' t),
+      λ s' t. within_map (Inside h.regs) Unchanged p GoesOn Unchanged (word_count unit - 1) (UnitIsDone p part image base Unchanged h s unit at pending) Q (step p h s') (goes_on h.regs)
+          (λ a b same. same) (λ b q. q.0) (on.1 s' t),
     )

@@ -19,10 +19,9 @@ use Rattle.cfi_unit.specs.UnitWords.{BAD_TARGET, BAD_RETURN, DEEP, CheckFits, Fi
 use Rattle.cfi_unit.specs.Shadow.{slot, MOST_PENDING}
 use Rattle.cfi_unit.specs.Stand.{Stand}
 use Rattle.cfi_unit.specs.Context.{Context}
-use Rattle.cfi_unit.specs.EffectLaw.{Inside}
+use Rattle.cfi_unit.specs.EffectLaw.{Inside, UnitIsDone}
 use Rattle.cfi_unit.specs.Leads.{HasLabel, sum_of, destination}
-use Rattle.cfi_unit.specs.Leaving.{SameRegisters, LeftTo, pushed}
-use Rattle.cfi_unit.specs.Effect.{UnitDoes}
+use Rattle.cfi_unit.specs.Leaving.{SameRegisters, SameScratch, LeftTo, pushed}
 use Rattle.cfi_unit.proofs.Context.{kept_push, kept_pending, kept_popped, stand_front, stand_back}
 use Rattle.cfi_unit.proofs.Jumps.{jump_leads}
 use Rattle.cfi_unit.proofs.Labels.{word_small, same_word, word_same}
@@ -50,11 +49,11 @@ module _ {may : Shared → Shared → Type 0} {p : Profile} {part : ℕ} {image 
       }
 
   module _ (at : ℕ) (Q : After → Type 0) (h : Hart) (s : Shared) (now : Now may p part image base pending r start h s) (most : length pending ≤ MOST_PENDING) (e : h.pc ≡ at) (x3 : h.regs 3 ≡ slot part (length pending)) (w : Stand image at (push at)) (deep : Reaches (at + 8) DEEP) where
-    -- a push: x31 stays
+    -- a push: x4 and x31 stay
     pub push_does :
-        ((h' : Hart) (s' : Shared) → length pending < MOST_PENDING → h'.pc ≡ at + 28 → h'.regs 3 ≡ slot part (suc (length pending)) → h'.regs 31 ≡ h.regs 31 →
+        ((h' : Hart) (s' : Shared) → length pending < MOST_PENDING → h'.pc ≡ at + 28 → h'.regs 3 ≡ slot part (suc (length pending)) → h'.regs 4 ≡ h.regs 4 → h'.regs 31 ≡ h.regs 31 →
         Now may p part image base ((at + 32) ∷ pending) r (pushed part (length pending) (at + 32) start) h' s' → Q (before h' s')) →
-        ((h' : Hart) (s' : Shared) → length pending ≡ MOST_PENDING → h'.pc ≡ DEEP → Now may p part image base pending r start h' s' → Q (before h' s')) →
+        ((h' : Hart) (s' : Shared) → length pending ≡ MOST_PENDING → h'.pc ≡ DEEP → h'.regs 4 ≡ h.regs 4 → h'.regs 31 ≡ h.regs 31 → Now may p part image base pending r start h' s' → Q (before h' s')) →
         RunsOn may p r 6 Q (before h s)
     push_does has_room is_full =
         let own = now.own in
@@ -75,10 +74,10 @@ module _ {may : Shared → Shared → Type 0} {p : Profile} {part : ℕ} {image 
         inr (onto_store 2 Q now4 w 5 e4 Sd 3 30 0 refl (slot part n) (at + 32) (omega arith) refl can
         (λ pc5 s5 e5 now5.
         inr (onto_put 1 Q (after_push (at + 32) _ (record { pc = pc5; regs = regs }) s5 room (omega arith) now5 now5.same) w 6 e5 _ refl 3 _ (slot part (suc n)) refl (λ s6. refl) (omega arith)
-        (λ pc6 s6 e6 now6. inl (has_room _ s6 room (omega arith) refl refl now6))))))))))
+        (λ pc6 s6 e6 now6. inl (has_room _ s6 room (omega arith) refl refl refl now6))))))))))
         (λ not_taken pc2 s2 e2 now2.
         inr (onto_jump 4 Q now2 w 2 e2 (at + 8) DEEP refl (omega arith) deep
-        (λ pc3 s3 to now3. inl (is_full _ s3 (no_slot not_taken) to now3))))))
+        (λ pc3 s3 to now3. inl (is_full _ s3 (no_slot not_taken) to refl refl now3))))))
       where
         has_slot : not (slot part (length pending) * 2 ^ 48 % 2 ^ 64 == 0) ≡ true → length pending < MOST_PENDING
         has_slot taken =
@@ -150,7 +149,10 @@ module _ {may : Shared → Shared → Type 0} {p : Profile} {part : ℕ} {image 
 module _ {may : Shared → Shared → Type 0} {p : Profile} {part : ℕ} {image base : Memory} {h : Hart} {s : Shared} where
   module _ (at : ℕ) (pending : List ℕ) (now : Now may p part image base pending h.regs s h s) (e : h.pc ≡ at) (x3 : h.regs 3 ≡ slot part (length pending)) (most : length pending ≤ MOST_PENDING) where
     abbrev Does : U.Unit → After → Type 0
-    Does unit = UnitDoes p part image base may h s unit at pending
+    Does unit = UnitIsDone p part image base may h s unit at pending
+
+    x30_written : (target : ℕ) (regs : Registers) → regs 4 ≡ h.regs 4 → regs 31 ≡ h.regs 31 → SameScratch (instrs_of (V.Call target) at) h.regs regs
+    x30_written target regs x4 x31 = record { x4 = λ free. x4; x30 = λ free. absurd (cc); x31 = λ free. x31 }
 
     pub call_does : (target : ℕ) → Fits (V.Call target) at → Stand image at (instrs_of (V.Call target) at) →
         RunsOn may p h.regs 7 (Does (V.Call target)) (before h s)
@@ -159,20 +161,23 @@ module _ {may : Shared → Shared → Type 0} {p : Profile} {part : ℕ} {image 
         let R : After → Type 0 = Runs may p h.regs 1 Q in
         onward_then (Inside h.regs) may p 6 1 R Q (before h s)
         (push_does at R h s now most e x3 (stand_front (push at) _ w) fits.0
-        (λ h' s' room e' x3' x31 now'.
+        (λ h' s' room e' x3' x4 x31 now'.
         inr (onto 0 Q now' w 7 (omega arith) _ refl
-        (λ s'' on. inl (
-          room,
-          record {
-            turn = refl;
-            pc = jump_leads h'.pc (at + 28) target e' fits.1;
-            regs = same_link h.regs h'.regs (h'.pc + 4) (at + 32) (omega arith) on.same;
-            pointer = x3';
-            shared = on.since;
-            context = on.context;
-          },
+        (λ s'' on. (
+          inl (
+            room,
+            record {
+              turn = refl;
+              pc = jump_leads h'.pc (at + 28) target e' fits.1;
+              regs = same_link h.regs h'.regs (h'.pc + 4) (at + 32) (omega arith) on.same;
+              pointer = x3';
+              shared = on.since;
+              context = on.context;
+            },
+          ),
+          x30_written target _ x4 x31,
         ))))
-        (λ h' s' full to now'. inl (inr (full, halts_at DEEP now' to))))
+        (λ h' s' full to x4 x31 now'. inl (inr (full, halts_at DEEP now' to), x30_written target h'.regs x4 x31)))
         (λ b on. on)
 
     module _ (rs1 imm label : ℕ) (small : (k : ℕ) → image k < 2 ^ 8) where
@@ -187,6 +192,13 @@ module _ {may : Shared → Shared → Type 0} {p : Profile} {part : ℕ} {image 
       same_site to site site' after same left =
           subst (λ x. LeftTo part image base to (x ∷ pending) (set_reg h.regs 1 x) (may (pushed part (length pending) x s)) after) same left
 
+      -- a check writes all three
+      jump_writes : (regs : Registers) → SameScratch (instrs_of (V.Ijump rs1 imm label) at) h.regs regs
+      jump_writes regs = record { x4 = λ free. absurd (cc); x30 = λ free. absurd (cc); x31 = λ free. absurd (cc) }
+
+      call_writes : (regs : Registers) → SameScratch (instrs_of (V.Icall rs1 imm label) at) h.regs regs
+      call_writes regs = record { x4 = λ free. absurd (cc); x30 = λ free. absurd (cc); x31 = λ free. absurd (cc) }
+
       pub ijump_does : Fits (V.Ijump rs1 imm label) at → Stand image at (instrs_of (V.Ijump rs1 imm label) at) →
           RunsOn may p h.regs 12 (Does (V.Ijump rs1 imm label)) (before h s)
       ijump_does fits w =
@@ -197,18 +209,21 @@ module _ {may : Shared → Shared → Type 0} {p : Profile} {part : ℕ} {image 
           (check_does at rs1 imm label R h s now e x3 small fits (stand_front (check at rs1 imm label) _ w)
           (λ h' s' legal e' x3' x31 now'.
           inr (onto 0 Q now' w 12 e' _ refl
-          (λ s'' on. inl (
-            legal,
-            record {
-              turn = refl;
-              pc = arrives h'.pc v h'.regs x31 legal;
-              regs = on.same;
-              pointer = x3';
-              shared = on.since;
-              context = on.context;
-            },
+          (λ s'' on. (
+            inl (
+              legal,
+              record {
+                turn = refl;
+                pc = arrives h'.pc v h'.regs x31 legal;
+                regs = on.same;
+                pointer = x3';
+                shared = on.since;
+                context = on.context;
+              },
+            ),
+            jump_writes _,
           ))))
-          (λ h' s' illegal to now'. inl (inr (illegal, halts_at BAD_TARGET now' to))))
+          (λ h' s' illegal to now'. inl (inr (illegal, halts_at BAD_TARGET now' to), jump_writes h'.regs)))
           (λ b on. on)
 
       pub icall_does : Fits (V.Icall rs1 imm label) at → Stand image at (instrs_of (V.Icall rs1 imm label) at) →
@@ -225,32 +240,35 @@ module _ {may : Shared → Shared → Type 0} {p : Profile} {part : ℕ} {image 
           within_then (Inside h.regs) may p 7 1 R Q (before h' s')
           (inr (push_does (at + 48) R h' s' now' most e' x3' (stand_front (push (at + 48)) _ (stand_back (check at rs1 imm label) _ w))
           (subst (λ a. Reaches a DEEP) deep fits.1)
-          (λ h2 s2 room e2 x3_2 x31_2 now2.
+          (λ h2 s2 room e2 x3_2 x4_2 x31_2 now2.
           inr (onto 0 Q now2 w 19 (omega arith) _ refl
-          (λ s3 on. inl (
-            legal,
+          (λ s3 on. (
             inl (
-              room,
-              same_site v (at + 48 + 32) (at + 80) _ (omega arith) (record {
-                turn = refl;
-                pc = arrives h2.pc v h2.regs (x31_2 ∙ x31) legal;
-                regs = same_link h.regs h2.regs (h2.pc + 4) (at + 48 + 32) (omega arith) on.same;
-                pointer = x3_2;
-                shared = on.since;
-                context = on.context;
-              }),
+              legal,
+              inl (
+                room,
+                same_site v (at + 48 + 32) (at + 80) _ (omega arith) (record {
+                  turn = refl;
+                  pc = arrives h2.pc v h2.regs (x31_2 ∙ x31) legal;
+                  regs = same_link h.regs h2.regs (h2.pc + 4) (at + 48 + 32) (omega arith) on.same;
+                  pointer = x3_2;
+                  shared = on.since;
+                  context = on.context;
+                }),
+              ),
             ),
+            call_writes _,
           ))))
-          (λ h2 s2 full to now2. inl (inl (legal, inr (full, halts_at DEEP now2 to))))))
+          (λ h2 s2 full to x4_2 x31_2 now2. inl (inl (legal, inr (full, halts_at DEEP now2 to)), call_writes h2.regs))))
           (λ b on. on))
-          (λ h' s' illegal to now'. inl (inr (illegal, halts_at BAD_TARGET now' to))))
+          (λ h' s' illegal to now'. inl (inr (illegal, halts_at BAD_TARGET now' to), call_writes h'.regs)))
           (λ b on. on)
 
   module _ (at site : ℕ) (pending : List ℕ) (now : Now may p part image base (site ∷ pending) h.regs s h s) (e : h.pc ≡ at) (x3 : h.regs 3 ≡ slot part (suc (length pending))) (most : suc (length pending) ≤ MOST_PENDING) (even : site % 2 ≡ 0) (small : site < 2 ^ 64) where
     pub return_does : Fits V.Return at → Stand image at (instrs_of V.Return at) →
-        RunsOn may p h.regs 4 (UnitDoes p part image base may h s V.Return at (site ∷ pending)) (before h s)
+        RunsOn may p h.regs 4 (UnitIsDone p part image base may h s V.Return at (site ∷ pending)) (before h s)
     return_does fits w =
-        let Q : After → Type 0 = UnitDoes p part image base may h s V.Return at (site ∷ pending) in
+        let Q : After → Type 0 = UnitIsDone p part image base may h s V.Return at (site ∷ pending) in
         let own = now.own in
         let n = length pending in
         let can = can_load_part p part (slot part n) 8 own (omega arith) (omega arith) in
@@ -260,18 +278,24 @@ module _ {may : Shared → Shared → Type 0} {p : Profile} {part : ℕ} {image 
         (λ same pc3 s3 e3 now3.
         let equal = eqb-true site (h.regs 1) same in
         inr (onto 1 Q now3 w 4 e3 _ refl
-        (λ s4 on. inl (inl (
-          sym equal,
-          record {
-            turn = refl;
-            pc = omega arith;
-            regs = on.same;
-            pointer = refl;
-            shared = on.since;
-            context = record { going = on.context.going; kept = kept_popped site on.context.kept };
-          },
-        )))))
+        (λ s4 on. inl (
+          inl (
+            sym equal,
+            record {
+              turn = refl;
+              pc = omega arith;
+              regs = on.same;
+              pointer = refl;
+              shared = on.since;
+              context = record { going = on.context.going; kept = kept_popped site on.context.kept };
+            },
+          ),
+          record { x4 = λ free. refl; x30 = λ free. refl; x31 = λ free. absurd (cc) },
+        ))))
         (λ other pc3 s3 e3 now3.
         let apart = eqb-false site (h.regs 1) other in
         inr (onto_jump 1 Q now3 w 3 e3 (at + 12) BAD_RETURN refl (omega arith) fits
-        (λ pc4 s4 to now4. inl (inr (λ is. apart (sym is), halts_at BAD_RETURN now4 to)))))))))
+        (λ pc4 s4 to now4. inl (
+          inr (λ is. apart (sym is), halts_at BAD_RETURN now4 to),
+          record { x4 = λ free. refl; x30 = λ free. refl; x31 = λ free. absurd (cc) },
+        ))))))))

@@ -26,8 +26,8 @@ use Rattle.cfi_unit.specs.Shadow.{IsPart, slot}
 use Rattle.cfi_unit.specs.Stand.{Stand}
 use Rattle.cfi_unit.specs.Context.{Context, Kept}
 use Rattle.cfi_unit.specs.Leads.{sum_of}
-use Rattle.cfi_unit.specs.Leaving.{LeftTo, HaltsAt, Executes, Stores, result_register, with_memory}
-use Rattle.cfi_unit.specs.Effect.{UnitDoes}
+use Rattle.cfi_unit.specs.Leaving.{LeftTo, HaltsAt, Executes, SameScratch, Stores, result_register, with_memory}
+use Rattle.cfi_unit.specs.EffectLaw.{UnitIsDone}
 use Rattle.cfi_unit.proofs.Context.{kept_data}
 use Rattle.cfi_unit.proofs.Jumps.{near_leads}
 use Rattle.cfi_unit.proofs.Regions.{store_size-small, can_store_data}
@@ -167,34 +167,60 @@ module _ {may : Shared → Shared → Type 0} {p : Profile} {part : ℕ} {image 
   executes_break : Now may p part image base pending r start h s → Executes p part image base Ebreak pending h (may start) (exec p Ebreak h s)
   executes_break now = executes_so Ebreak (stops h s (Break h.pc)) now refl (λ same. cc) (λ k apart. refl) refl (λ t. absurd (cc))
 
+-- no register is written
+pub none_written : (instrs : List Instr) (r : Registers) → SameScratch instrs r r
+none_written instrs r = record { x4 = λ free. refl; x30 = λ free. refl; x31 = λ free. refl }
+
+-- an instruction that may write other registers alone
+others_written : (instrs : List Instr) (i : Instr) (r regs : Registers) → ((k : ℕ) → (result_register i ≡ Some k → ⊥) → regs k ≡ r k) →
+    ((k : ℕ) → is_reserved k ≡ true → result_register i ≡ Some k → ⊥) → SameScratch instrs r regs
+others_written instrs i r regs others spares = record {
+  x4 = λ free. others 4 (spares 4 refl);
+  x30 = λ free. others 30 (spares 30 refl);
+  x31 = λ free. others 31 (spares 31 refl);
+}
+
+-- a system call's result is in x10
+call_spares : (k : ℕ) → is_reserved k ≡ true → Some 10 ≡ Some k → ⊥
+call_spares k reserved same = let e : 10 ≡ k = cc in let t : is_reserved 10 ≡ true = ap is_reserved e ∙ reserved in cc
+
+break_spares : (k : ℕ) → is_reserved k ≡ true → result_register Ebreak ≡ Some k → ⊥
+break_spares k reserved same = cc
+
 -- the state at a unit's first word
 module _ {may : Shared → Shared → Type 0} {p : Profile} {part : ℕ} {image base : Memory} {pending : List ℕ} {h : Hart} {s : Shared} (at : ℕ) (now : Now may p part image base pending h.regs s h s) (e : h.pc ≡ at) where
   abbrev Does : U.Unit → After → Type 0
-  Does unit = UnitDoes p part image base may h s unit at pending
+  Does unit = UnitIsDone p part image base may h s unit at pending
+
+  -- an instruction that is executed alone
+  alone : (unit : List Instr) (i : Instr) (after : After) → ((k : ℕ) → is_reserved k ≡ true → result_register i ≡ Some k → ⊥) →
+      Executes p part image base i pending h (may s) after → Executes p part image base i pending h (may s) after × SameScratch unit h.regs after.hart.regs
+  alone unit i after spares does = (does, others_written unit i h.regs after.hart.regs does.others spares)
 
   pub plain_does : (i : Instr) → is_plain i ≡ true → Stand image at (instrs_of (V.Plain i) at) → RunsOn may p h.regs 0 (Does (V.Plain i)) (before h s)
-  plain_does i plain w = onto 0 (Does (V.Plain i)) now w 0 (omega arith) i refl (λ s' on. executes_plain i plain on)
+  plain_does i plain w = onto 0 (Does (V.Plain i)) now w 0 (omega arith) i refl (λ s' on. alone (instrs_of (V.Plain i) at) i _ (plain_spares i plain) (executes_plain i plain on))
 
   pub ecall_does : Stand image at (instrs_of (V.System S.Ecall) at) → RunsOn may p h.regs 0 (Does (V.System S.Ecall)) (before h s)
-  ecall_does w = onto 0 (Does (V.System S.Ecall)) now w 0 (omega arith) Ecall refl (λ s' on. executes_call _ refl (after_call h s') on)
+  ecall_does w = onto 0 (Does (V.System S.Ecall)) now w 0 (omega arith) Ecall refl (λ s' on. alone (instrs_of (V.System S.Ecall) at) Ecall _ call_spares (executes_call _ refl (after_call h s') on))
 
   pub ebreak_does : Stand image at (instrs_of (V.System S.Ebreak) at) → RunsOn may p h.regs 0 (Does (V.System S.Ebreak)) (before h s)
-  ebreak_does w = onto 0 (Does (V.System S.Ebreak)) now w 0 (omega arith) Ebreak refl (λ s' on. executes_break on)
+  ebreak_does w = onto 0 (Does (V.System S.Ebreak)) now w 0 (omega arith) Ebreak refl (λ s' on. alone (instrs_of (V.System S.Ebreak) at) Ebreak _ break_spares (executes_break on))
 
   pub stop_does : Fits V.Stop at → Stand image at (instrs_of V.Stop at) → RunsOn may p h.regs 0 (Does V.Stop) (before h s)
   stop_does fits w =
-      onto_jump 0 (Does V.Stop) now w 0 (omega arith) at BAD_TARGET refl (omega arith) fits (λ pc s' to on. halts_at BAD_TARGET on to)
+      onto_jump 0 (Does V.Stop) now w 0 (omega arith) at BAD_TARGET refl (omega arith) fits (λ pc s' to on. (halts_at BAD_TARGET on to, none_written (instrs_of V.Stop at) h.regs))
 
   module _ (x3 : h.regs 3 ≡ slot part (length pending)) where
     pub gate_does : (label : ℕ) → Stand image at (instrs_of (V.Gate label) at) → RunsOn may p h.regs 0 (Does (V.Gate label)) (before h s)
     gate_does label w =
         onto 0 (Does (V.Gate label)) now w 0 (omega arith) _ refl
-        (λ s' on. left_to (at + 4) (moved on (record { pc = h.pc + 4; regs = h.regs }) on.same) (omega arith) x3)
+        (λ s' on. (left_to (at + 4) (moved on (record { pc = h.pc + 4; regs = h.regs }) on.same) (omega arith) x3, none_written (instrs_of (V.Gate label) at) h.regs))
 
     pub jump_does : (target : ℕ) → Fits (V.Jump target) at → Stand image at (instrs_of (V.Jump target) at) →
         RunsOn may p h.regs 0 (Does (V.Jump target)) (before h s)
     jump_does target fits w =
-        onto_jump 0 (Does (V.Jump target)) now w 0 (omega arith) at target refl (omega arith) fits.1 (λ pc s' to on. left_to target on to x3)
+        onto_jump 0 (Does (V.Jump target)) now w 0 (omega arith) at target refl (omega arith) fits.1
+        (λ pc s' to on. (left_to target on to x3, none_written (instrs_of (V.Jump target) at) h.regs))
 
     pub near_does : (op : BranchOp) (rs1 rs2 target : ℕ) → Fits (V.Near op rs1 rs2 target) at →
         Stand image at (instrs_of (V.Near op rs1 rs2 target) at) → RunsOn may p h.regs 0 (Does (V.Near op rs1 rs2 target)) (before h s)
@@ -202,18 +228,20 @@ module _ {may : Shared → Shared → Type 0} {p : Profile} {part : ℕ} {image 
         onto 0 (Does (V.Near op rs1 rs2 target)) now w 0 (omega arith) _ refl
         (λ s' on.
         elim (cases_Bool (branch_taken op (get_reg h.regs rs1) (get_reg h.regs rs2))) [
-          | inl taken ↦ rw taken (left_to target (moved on (record { pc = _; regs = h.regs }) on.same) (near_leads h.pc at target e fits.2) x3)
-          | inr not_taken ↦ rw not_taken (left_to (at + 4) (moved on (record { pc = h.pc + 4; regs = h.regs }) on.same) (omega arith) x3)
+          | inl taken ↦
+              rw taken (left_to target (moved on (record { pc = _; regs = h.regs }) on.same) (near_leads h.pc at target e fits.2) x3, none_written (instrs_of (V.Near op rs1 rs2 target) at) h.regs)
+          | inr not_taken ↦
+              rw not_taken (left_to (at + 4) (moved on (record { pc = h.pc + 4; regs = h.regs }) on.same) (omega arith) x3, none_written (instrs_of (V.Near op rs1 rs2 target) at) h.regs)
         ])
 
     pub branch_does : (op : BranchOp) (rs1 rs2 target : ℕ) → Fits (V.Branch op rs1 rs2 target) at →
         Stand image at (instrs_of (V.Branch op rs1 rs2 target) at) → RunsOn may p h.regs 1 (Does (V.Branch op rs1 rs2 target)) (before h s)
     branch_does op rs1 rs2 target fits w =
         onto_branch 1 (Does (V.Branch op rs1 rs2 target)) now w 0 (omega arith) op rs1 rs2 refl
-        (λ taken pc s' to on. inl (rw taken (left_to (at + 8) on (omega arith) x3)))
+        (λ taken pc s' to on. inl (rw taken (left_to (at + 8) on (omega arith) x3, none_written (instrs_of (V.Branch op rs1 rs2 target) at) h.regs)))
         (λ not_taken pc s' to on.
         inr (onto_jump 0 (Does (V.Branch op rs1 rs2 target)) on w 1 to (at + 4) target refl (omega arith) fits.2
-        (λ pc' s'' goes there. rw not_taken (left_to target there goes x3))))
+        (λ pc' s'' goes there. rw not_taken (left_to target there goes x3, none_written (instrs_of (V.Branch op rs1 rs2 target) at) h.regs))))
 
     -- what a store's own instruction leaves
     own_store : (op : StoreOp) (rs1 rs2 imm : ℕ) (s' : Shared) → can_store p (sum_of h.regs rs1 imm) (store_size op) ≡ true →
@@ -221,13 +249,14 @@ module _ {may : Shared → Shared → Type 0} {p : Profile} {part : ℕ} {image 
     own_store op rs1 rs2 imm s' can = rw can refl
 
     stores_so : (op : StoreOp) (rs1 rs2 imm a v : ℕ) (s' : Shared) → Now may p part image base pending h.regs s h s' →
-        a ≡ sum_of h.regs rs1 imm % 2 ^ 28 → (rs2 ≢ 31 → v ≡ get_reg h.regs rs2) →
+        a ≡ sum_of h.regs rs1 imm % 2 ^ 28 → (rs2 ≢ 31 → v ≡ get_reg h.regs rs2) → (rs2 ≡ 31 → v ≡ a) →
         Stores p op rs1 rs2 imm h (may s) (with_memory s' (write (store_size op) s'.memory a v))
-    stores_so op rs1 rs2 imm a v s' on place value = record {
+    stores_so op rs1 rs2 imm a v s' on place value itself = record {
       seen = s';
       may_see = on.since;
       memory_alone = refl;
       masked = λ other. rw (place, value other) refl;
+      own = λ is. rw (itself is, place) refl;
       stored = λ low other.
           let can = can_store_data p (sum_of h.regs rs1 imm) (store_size op) low (store_size-small op) in
           let same : a ≡ sum_of h.regs rs1 imm = omega arith in
@@ -258,15 +287,22 @@ module _ {may : Shared → Shared → Type 0} {p : Profile} {part : ℕ} {image 
         let near : masked < 2 ^ 28 = omega arith in
         inr (onto_store 0 Q now3 w 3 e3 op 31 rs2 0 refl masked (get_reg regs rs2) (omega arith) refl
         (can_store_data p masked (store_size op) near (store_size-small op))
-        (λ pc4 s4 e4 now4. record {
-          turn = refl;
-          pc = omega arith;
-          regs = now4.same;
-          pointer = x3;
-          shared = stores_so op rs1 rs2 imm masked (get_reg regs rs2) s4 (moved now4 h (record { same = λ k free. refl })) refl
-              (λ other. get_other h.regs regs rs2 (unwritten h.regs sum (sum * 2 ^ 36 % 2 ^ 64) masked rs2 other));
-          context = written_context op masked (get_reg regs rs2) s4 now4.own near now4.context;
-        })))))))
+        (λ pc4 s4 e4 now4. (
+          record {
+            turn = refl;
+            pc = omega arith;
+            regs = now4.same;
+            pointer = x3;
+            shared = stores_so op rs1 rs2 imm masked (get_reg regs rs2) s4 (moved now4 h (record { same = λ k free. refl })) refl
+                (λ other. get_other h.regs regs rs2 (unwritten h.regs sum (sum * 2 ^ 36 % 2 ^ 64) masked rs2 other))
+                (λ is. got regs masked rs2 is refl);
+            context = written_context op masked (get_reg regs rs2) s4 now4.own near now4.context;
+          },
+          record { x4 = λ free. refl; x30 = λ free. refl; x31 = λ free. absurd (cc) },
+        ))))))))
       where
+        got : (regs : Registers) (v k : ℕ) → k ≡ 31 → regs 31 ≡ v → get_reg regs k ≡ v
+        got regs v k is holds = rw is holds
+
         unwritten : (regs : Registers) (u v w k : ℕ) → k ≢ 31 → set_reg (set_reg (set_reg regs 31 u) 31 v) 31 w k ≡ regs k
         unwritten regs u v w k other = rw (ne_eqb k 31 other) refl

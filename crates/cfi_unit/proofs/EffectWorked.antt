@@ -12,7 +12,7 @@ use Rattle.rv_code.specs.State.{Hart, Shared, last_exit}
 use Rattle.cfi_unit.specs.declared.unit.Unit as U
 use Rattle.cfi_unit.specs.declared.unit.Unit.TheVariants as V
 use Rattle.cfi_unit.specs.UnitWords.{instrs_of}
-use Rattle.cfi_unit.specs.Leaving.{LeftTo}
+use Rattle.cfi_unit.specs.Leaving.{LeftTo, SameScratch}
 use Rattle.cfi_unit.specs.EffectLaw.{DoneWithin, Enters, Inside}
 use Rattle.cfi_unit.proofs.EffectRows.{unit_effect}
 
@@ -78,9 +78,9 @@ enters v = record {
 }
 
 not_met : DoneWithin version_1 2 (hart 0) start ([] ∷ [] ∷ []) (Inside (hart 0).regs)
-    (LeftTo SHADOW_START memory memory 0x40000050 (0 ∷ []) (hart 0).regs (λ s'. s' ≡ start))
+    (λ after. LeftTo SHADOW_START memory memory 0x40000050 (0 ∷ []) (hart 0).regs (λ s'. s' ≡ start) after × SameScratch (instrs_of unit 0x40000040) (hart 0).regs after.hart.regs)
 not_met = unit_effect version_1 SHADOW_START memory memory unit 0x40000040 (0 ∷ []) (hart 0) start (enters 0)
 
 met : DoneWithin version_1 2 (hart 7) start ([] ∷ [] ∷ []) (Inside (hart 7).regs)
-    (LeftTo SHADOW_START memory memory 0x40000048 (0 ∷ []) (hart 7).regs (λ s'. s' ≡ start))
+    (λ after. LeftTo SHADOW_START memory memory 0x40000048 (0 ∷ []) (hart 7).regs (λ s'. s' ≡ start) after × SameScratch (instrs_of unit 0x40000040) (hart 7).regs after.hart.regs)
 met = unit_effect version_1 SHADOW_START memory memory unit 0x40000040 (0 ∷ []) (hart 7) start (enters 7)

@@ -6,21 +6,22 @@ use Rattle.rv_instr.specs.Registers.{Registers, set_reg}
 use Rattle.rv_instr.specs.declared.instr.Instr.TheVariants.{Upper, Immediate}
 use Rattle.rv_instr.specs.declared.instr.UpperOp.TheVariants.{Lui}
 use Rattle.rv_instr.specs.declared.instr.ImmediateOp.TheVariants.{Addi}
-use Rattle.rv_code.proofs.Within.{Onward, Within, comes_on_calmly, within_map}
+use Rattle.rv_code.proofs.Within.{Onward, Within, comes_on_calmly, comes_on, within_map}
 use Rattle.rv_code.specs.State.{Hart, Shared, After}
+use Rattle.rv_code.specs.Step.{step}
 use Rattle.cfi_unit.specs.declared.unit.Unit.TheVariants as V
-use Rattle.cfi_unit.specs.Prologue.{OPENING}
+use Rattle.cfi_unit.specs.UnitWords.{instrs_of}
+use Rattle.cfi_unit.specs.Prologue.{OPENING, opening_instrs}
 use Rattle.cfi_unit.specs.Shadow.{IsPart}
 use Rattle.cfi_unit.specs.Context.{Context}
-use Rattle.cfi_unit.specs.Between.{Unchanged}
-use Rattle.cfi_unit.specs.Leaving.{SameRegisters}
-use Rattle.cfi_unit.specs.Effect.{UnitDoes}
-use Rattle.cfi_unit.specs.EffectLaw.{GoesOn, Inside}
-use Rattle.cfi_unit.specs.PrologueEffect.{closing_site, OpeningDoes, ClosingDoes, EntersOpening, EntersClosing, OpeningEffect, ClosingEffect}
+use Rattle.cfi_unit.specs.Between.{Unchanged, DataChanged}
+use Rattle.cfi_unit.specs.Leaving.{SameRegisters, SameScratch}
+use Rattle.cfi_unit.specs.EffectLaw.{GoesOn, Inside, UnitIsDone}
+use Rattle.cfi_unit.specs.PrologueEffect.{closing_site, OpeningDoes, OpeningIsDone, ClosingDoes, EntersOpening, EntersClosing, OpeningEffect, OpeningKeepsRegisters, ClosingEffect, ClosingKeepsRegisters}
 use Rattle.cfi_unit.proofs.Context.{at_word, stand_back}
 use Rattle.cfi_unit.proofs.EffectSteps.{IsHarmless, Now, before, same_link, same_set}
 use Rattle.cfi_unit.proofs.EffectTransfers.{call_does}
-use Rattle.cfi_unit.proofs.EffectRows.{done_within, unchanged_harmless}
+use Rattle.cfi_unit.proofs.EffectRows.{done_within, unchanged_harmless, changed_harmless, data_allowed}
 
 same_trans : (r regs last : Registers) → SameRegisters r regs → SameRegisters regs last → SameRegisters r last
 same_trans r regs last one two = record { same = λ k free. two.same k free ∙ one.same k free }
@@ -34,7 +35,7 @@ module _ (may : Shared → Shared → Type 0) (harmless : IsHarmless may) (p : P
 
   module _ (entry : ℕ) (h : Hart) (s : Shared) (i : EntersOpening p image base entry h s) where
     abbrev Does : After → Type 0
-    Does = OpeningDoes SHADOW_START image base may entry h s
+    Does = OpeningIsDone SHADOW_START image base may entry h s
 
     -- the registers where the opening's call begins
     abbrev ready : Registers
@@ -46,19 +47,26 @@ module _ (may : Shared → Shared → Type 0) (harmless : IsHarmless may) (p : P
         (same_set (set_reg h.regs 2 (2 ^ 28)) (set_reg h.regs 2 (2 ^ 28)) 3 SHADOW_START refl (record { same = λ k free. refl }))
 
     module _ (pc : ℕ) (s3 : Shared) (since : may s s3) where
-      from_call : (after : After) → UnitDoes p SHADOW_START image base may (record { pc = pc; regs = ready }) s3 (V.Call entry) (OPENING + 12) [] after → Does after
-      from_call after (inl (room, left)) = record {
-        turn = left.turn;
-        pc = left.pc;
-        regs =
-            same_trans _ (set_reg ready 1 (closing_site entry)) _
-            (same_link (set_reg h.regs 2 (2 ^ 28)) ready (closing_site entry) (closing_site entry) refl same_ready) left.regs;
-        pointer = left.pointer;
-        shared =
-            harmless.further _ _ _ (harmless.pushes SHADOW_START 0 (closing_site entry) s s3 since) left.shared;
-        context = left.context;
-      }
-      from_call after (inr (full, halts)) = absurd (omega arith)
+      -- what the call has not written, the words before it have not
+      scratch_kept : (regs : Registers) → SameScratch (instrs_of (V.Call entry) (OPENING + 12)) ready regs → SameScratch (opening_instrs entry) h.regs regs
+      scratch_kept regs kept = record { x4 = λ free. kept.x4 refl; x30 = λ free. absurd (cc); x31 = λ free. kept.x31 refl }
+
+      from_call : (after : After) → UnitIsDone p SHADOW_START image base may (record { pc = pc; regs = ready }) s3 (V.Call entry) (OPENING + 12) [] after → Does after
+      from_call after (inl (room, left), scratch) = (
+        record {
+          turn = left.turn;
+          pc = left.pc;
+          regs =
+              same_trans _ (set_reg ready 1 (closing_site entry)) _
+              (same_link (set_reg h.regs 2 (2 ^ 28)) ready (closing_site entry) (closing_site entry) refl same_ready) left.regs;
+          pointer = left.pointer;
+          shared =
+              harmless.further _ _ _ (harmless.pushes SHADOW_START 0 (closing_site entry) s s3 since) left.shared;
+          context = left.context;
+        },
+        scratch_kept after.hart.regs scratch,
+      )
+      from_call after (inr (full, halts), scratch) = absurd (omega arith)
 
       called : pc ≡ OPENING + 12 → Context SHADOW_START image base [] s3 → Within GoesOn may p 8 Does (before (record { pc = pc; regs = ready }) s3)
       called e c =
@@ -70,13 +78,13 @@ module _ (may : Shared → Shared → Type 0) (harmless : IsHarmless may) (p : P
             context = c;
             same = record { same = λ k free. refl };
           } in
-          within_map (Inside ready) may p GoesOn may 8 (UnitDoes p SHADOW_START image base may h3 s3 (V.Call entry) (OPENING + 12) []) Does
+          within_map (Inside ready) may p GoesOn may 8 (UnitIsDone p SHADOW_START image base may h3 s3 (V.Call entry) (OPENING + 12) []) Does
           (before h3 s3) (λ b here. here.turn) (λ a b t. t) from_call
           (inr (call_does (OPENING + 12) [] now e refl (omega arith) entry i.fits
           (stand_back (Upper Lui 2 0x10000 ∷ Upper Lui 3 0x60000 ∷ Immediate Addi 3 3 8 ∷ []) _ i.stands)))
 
-    pub opening_does : Onward GoesOn may p 10 Does (before h s)
-    opening_does =
+    pub opening_done : Onward GoesOn may p 10 Does (before h s)
+    opening_done =
         let own = i.own in
         let e = i.pc in (
           refl,
@@ -98,6 +106,14 @@ module _ (may : Shared → Shared → Type 0) (harmless : IsHarmless may) (p : P
               )),
         )
 
+    -- for runs that go on after it
+    pub opening_does : Onward GoesOn may p 10 (OpeningDoes SHADOW_START image base may entry h s) (before h s)
+    opening_does = (
+      opening_done.0,
+      λ s' t. within_map GoesOn may p GoesOn may 10 Does (OpeningDoes SHADOW_START image base may entry h s) (step p h s')
+          (λ b on. on) (λ a b t'. t') (λ b q. q.0) (opening_done.1 s' t),
+    )
+
   pub closing_does : (part : ℕ) (at : ℕ) (pending : List ℕ) (h : Hart) (s : Shared) → EntersClosing p part image base at pending h s →
       Onward GoesOn may p 1 (ClosingDoes p may h s) (before h s)
   closing_does part at pending h s i =
@@ -118,10 +134,17 @@ module _ (may : Shared → Shared → Type 0) (harmless : IsHarmless may) (p : P
 
 pub opening_effect : OpeningEffect
 opening_effect p image base entry h s i =
-    let Q : After → Type 0 = OpeningDoes SHADOW_START image base Unchanged entry h s in
+    let Q : After → Type 0 = OpeningIsDone SHADOW_START image base Unchanged entry h s in
     done_within p 11 h s (replicate 11 []) GoesOn Q
     (comes_on_calmly GoesOn Unchanged p (λ a t. t) Q 10 (before h s) (λ s'. refl)
-    (opening_does Unchanged unchanged_harmless p image base entry h s i))
+    (opening_done Unchanged unchanged_harmless p image base entry h s i))
+
+pub opening_keeps_registers : OpeningKeepsRegisters
+opening_keeps_registers p image base entry h s i changes all long =
+    let Q : After → Type 0 = OpeningIsDone SHADOW_START image base DataChanged entry h s in
+    done_within p 11 h s changes GoesOn Q
+    (comes_on GoesOn DataChanged p (λ a t. t) Q 10 (before h s) changes (data_allowed changes all) long
+    (opening_done DataChanged changed_harmless p image base entry h s i))
 
 pub closing_effect : ClosingEffect
 closing_effect p part image base at pending h s i =
@@ -129,3 +152,10 @@ closing_effect p part image base at pending h s i =
     done_within p 2 h s (replicate 2 []) GoesOn Q
     (comes_on_calmly GoesOn Unchanged p (λ a t. t) Q 1 (before h s) (λ s'. refl)
     (closing_does Unchanged unchanged_harmless p image base part at pending h s i))
+
+pub closing_keeps_registers : ClosingKeepsRegisters
+closing_keeps_registers p part image base at pending h s i changes all long =
+    let Q : After → Type 0 = ClosingDoes p DataChanged h s in
+    done_within p 2 h s changes GoesOn Q
+    (comes_on GoesOn DataChanged p (λ a t. t) Q 1 (before h s) changes (data_allowed changes all) long
+    (closing_does DataChanged changed_harmless p image base part at pending h s i))

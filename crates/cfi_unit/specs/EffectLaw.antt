@@ -15,7 +15,7 @@ use Rattle.cfi_unit.specs.Stand.{Stand}
 use Rattle.cfi_unit.specs.Context.{Context}
 use Rattle.cfi_unit.specs.UnitLaw.{UnitMayStand}
 use Rattle.cfi_unit.specs.Between.{Unchanged, DataChanged}
-use Rattle.cfi_unit.specs.Leaving.{SameRegisters}
+use Rattle.cfi_unit.specs.Leaving.{SameRegisters, SameScratch}
 use Rattle.cfi_unit.specs.Effect.{UnitDoes}
 
 -- a hart is at the first word of a unit that stands in code, x3 past the newest pending site
@@ -35,6 +35,12 @@ pub record Inside (r : Registers) (after : After) : Type 0 where
   pub turn : after.turn ≡ Ran
   pub regs : SameRegisters r after.hart.regs
 
+-- a unit is done: it has done what its row says, and of the scratch registers it has written those
+-- alone into which some of its instructions puts its result
+abbrev pub UnitIsDone : Profile → ℕ → Memory → Memory → (Shared → Shared → Type 0) → Hart → Shared → U.Unit → ℕ → List ℕ → After → Type 0
+UnitIsDone p part image base may h s unit at pending after =
+    UnitDoes p part image base may h s unit at pending after × SameScratch (instrs_of unit at) h.regs after.hart.regs
+
 -- the run goes on
 abbrev pub GoesOn : After → Type 0
 GoesOn after = after.turn ≡ Ran
@@ -53,7 +59,7 @@ abbrev pub UnitEffect : Type 0
 UnitEffect =
     (p : Profile) (part : ℕ) (image base : Memory) (unit : U.Unit) (at : ℕ) (pending : List ℕ) (h : Hart) (s : Shared) →
     Enters p part image base unit at pending h s →
-    DoneWithin p (word_count unit) h s (replicate (word_count unit) []) (Inside h.regs) (UnitDoes p part image base Unchanged h s unit at pending)
+    DoneWithin p (word_count unit) h s (replicate (word_count unit) []) (Inside h.regs) (UnitIsDone p part image base Unchanged h s unit at pending)
 
 -- under any changes of data between its words: so no word of a unit writes a register of the program,
 -- but its own instruction's, and where the unit leads depends on no data
@@ -62,4 +68,4 @@ UnitKeepsRegisters =
     (p : Profile) (part : ℕ) (image base : Memory) (unit : U.Unit) (at : ℕ) (pending : List ℕ) (h : Hart) (s : Shared) →
     Enters p part image base unit at pending h s →
     (changes : List (List ByteChange)) → AllByRecursion (AllByRecursion IsDataChange) changes → word_count unit ≤ length changes →
-    DoneWithin p (word_count unit) h s changes (Inside h.regs) (UnitDoes p part image base DataChanged h s unit at pending)
+    DoneWithin p (word_count unit) h s changes (Inside h.regs) (UnitIsDone p part image base DataChanged h s unit at pending)

@@ -1,5 +1,6 @@
 -- How a unit is left: to where, with which registers and pending sites, and what harts then share.
-use Rattle.std.specs.Prelude.{◌≡◌, ◌≢◌, ℕ, ◌+◌, ◌%◌, ◌^◌, ◌<◌, false, List, length, Option, Some}
+use Rattle.std.specs.Prelude.{◌≡◌, ◌≢◌, ℕ, ◌+◌, ◌==◌, ◌%◌, ◌^◌, ◌<◌, Bool, false, List, length, Option, Some, None}
+use Rattle.std.specs.List.{list_any}
 use Rattle.rv_word.specs.Layout.{Profile}
 use Rattle.rv_word.specs.Memory.{Memory, write}
 use Rattle.rv_instr.specs.Operands.{written}
@@ -33,6 +34,20 @@ abbrev pub result_register : Instr → Option ℕ
 result_register Ecall = Some 10
 result_register other = written other
 
+-- some of these instructions puts its result into a register
+abbrev pub is_this : Option ℕ → ℕ → Bool
+is_this (Some rd) k = rd == k
+is_this None k = false
+
+abbrev pub write_register : List Instr → ℕ → Bool
+write_register instrs k = list_any (λ i. is_this (result_register i) k) instrs
+
+-- the scratch registers are the same, but for those into which some of these instructions puts its result
+pub record SameScratch (instrs : List Instr) (r regs : Registers) : Type 0 where
+  pub x4 : write_register instrs 4 ≡ false → regs 4 ≡ r 4
+  pub x30 : write_register instrs 30 ≡ false → regs 30 ≡ r 30
+  pub x31 : write_register instrs 31 ≡ false → regs 31 ≡ r 31
+
 -- the unit is left to `next`: the program's registers are `r`, x3 is past the newest pending site
 pub record LeftTo (part : ℕ) (image base : Memory) (next : ℕ) (pending : List ℕ) (r : Registers) (IsShared : Shared → Type 0) (after : After) : Type 0 where
   pub turn : after.turn ≡ Ran
@@ -63,12 +78,14 @@ pub record Executes (p : Profile) (part : ℕ) (image base : Memory) (instr : In
   pub pc : after.turn ≡ Ran → after.hart.pc ≡ h.pc + 4
 
 -- a store writes memory alone: its register's value, at its address modulo 2 ^ 28; so where the
--- address lies below 2 ^ 28 it leaves what its own instruction leaves. x31 is not stored, as the unit
--- itself writes it
+-- address lies below 2 ^ 28 it leaves what its own instruction leaves. Of x31, which the unit itself
+-- writes, it stores what the unit put there: the address modulo 2 ^ 28
 pub record Stores (p : Profile) (op : StoreOp) (rs1 rs2 imm : ℕ) (h : Hart) (IsShared : Shared → Type 0) (s' : Shared) : Type 0 where
   pub seen : Shared
   pub may_see : IsShared seen
   pub memory_alone : s' ≡ with_memory seen s'.memory
   pub masked : rs2 ≢ 31 →
       s' ≡ with_memory seen (write (store_size op) seen.memory (sum_of h.regs rs1 imm % 2 ^ 28) (get_reg h.regs rs2))
+  pub own : rs2 ≡ 31 →
+      s' ≡ with_memory seen (write (store_size op) seen.memory (sum_of h.regs rs1 imm % 2 ^ 28) (sum_of h.regs rs1 imm % 2 ^ 28))
   pub stored : sum_of h.regs rs1 imm < 2 ^ 28 → rs2 ≢ 31 → s' ≡ (exec p (Store op rs1 rs2 imm) h seen).shared

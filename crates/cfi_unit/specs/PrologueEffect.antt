@@ -1,10 +1,13 @@
--- What the opening and the closing do, from the first word of each on, where nothing is changed
--- between their words: each is done within as many steps as it has words.
-use Rattle.std.specs.Prelude.{◌≡◌, ℕ, ◌+◌, ◌^◌, List, [], ◌∷◌, length, replicate}
+-- What the opening and the closing do, from the first word of each on: each is done within as many
+-- steps as it has words. Once where nothing is changed between their words, and once under any changes
+-- of data.
+use Rattle.std.specs.Prelude.{◌≡◌, ℕ, ◌+◌, ◌^◌, ◌≤◌, List, [], ◌∷◌, length, replicate}
+use Rattle.std.specs.List.{AllByRecursion}
 use Rattle.rv_word.specs.Layout.{Profile, SHADOW_START}
 use Rattle.rv_word.specs.Memory.{Memory}
 use Rattle.rv_instr.specs.Registers.{set_reg}
 use Rattle.rv_instr.specs.declared.instr.Instr.TheVariants.{Ecall}
+use Rattle.rv_code.specs.Run.{ByteChange, IsDataChange}
 use Rattle.rv_code.specs.State.{Hart, Shared, After}
 use Rattle.rv_code.specs.Step.{exec}
 use Rattle.cfi_unit.specs.declared.unit.Unit.TheVariants as V
@@ -14,8 +17,8 @@ use Rattle.cfi_unit.specs.Place.{opening, place_size}
 use Rattle.cfi_unit.specs.Shadow.{IsPart}
 use Rattle.cfi_unit.specs.Stand.{Stand}
 use Rattle.cfi_unit.specs.Context.{Context}
-use Rattle.cfi_unit.specs.Between.{Unchanged}
-use Rattle.cfi_unit.specs.Leaving.{LeftTo, pushed}
+use Rattle.cfi_unit.specs.Between.{Unchanged, DataChanged}
+use Rattle.cfi_unit.specs.Leaving.{LeftTo, SameScratch, pushed}
 use Rattle.cfi_unit.specs.EffectLaw.{DoneWithin, GoesOn}
 
 -- where the closing stands: the site of the opening's call
@@ -29,7 +32,13 @@ OpeningDoes part image base may entry h s after =
     LeftTo part image base entry (closing_site entry ∷ []) (set_reg (set_reg h.regs 2 (2 ^ 28)) 1 (closing_site entry))
     (may (pushed part 0 (closing_site entry) s)) after
 
--- the closing makes system call 93
+-- and of the scratch registers it has written those alone into which some of its instructions puts its
+-- result
+abbrev pub OpeningIsDone : ℕ → Memory → Memory → (Shared → Shared → Type 0) → ℕ → Hart → Shared → After → Type 0
+OpeningIsDone part image base may entry h s after =
+    OpeningDoes part image base may entry h s after × SameScratch (opening_instrs entry) h.regs after.hart.regs
+
+-- the closing makes system call 93, with x17 the only register that it has written
 pub record ClosingDoes (p : Profile) (may : Shared → Shared → Type 0) (h : Hart) (s : Shared) (after : After) : Type 0 where
   pub seen : Shared
   pub may_see : may s seen
@@ -53,10 +62,25 @@ pub record EntersClosing (p : Profile) (part : ℕ) (image base : Memory) (at : 
 abbrev pub OpeningEffect : Type 0
 OpeningEffect =
     (p : Profile) (image base : Memory) (entry : ℕ) (h : Hart) (s : Shared) → EntersOpening p image base entry h s →
-    DoneWithin p (length (opening_instrs entry)) h s (replicate (length (opening_instrs entry)) []) GoesOn (OpeningDoes SHADOW_START image base Unchanged entry h s)
+    DoneWithin p (length (opening_instrs entry)) h s (replicate (length (opening_instrs entry)) []) GoesOn (OpeningIsDone SHADOW_START image base Unchanged entry h s)
+
+-- under any changes of data between its words: so x1 and x2 and where it is left to depend on no data
+abbrev pub OpeningKeepsRegisters : Type 0
+OpeningKeepsRegisters =
+    (p : Profile) (image base : Memory) (entry : ℕ) (h : Hart) (s : Shared) → EntersOpening p image base entry h s →
+    (changes : List (List ByteChange)) → AllByRecursion (AllByRecursion IsDataChange) changes → length (opening_instrs entry) ≤ length changes →
+    DoneWithin p (length (opening_instrs entry)) h s changes GoesOn (OpeningIsDone SHADOW_START image base DataChanged entry h s)
 
 abbrev pub ClosingEffect : Type 0
 ClosingEffect =
     (p : Profile) (part : ℕ) (image base : Memory) (at : ℕ) (pending : List ℕ) (h : Hart) (s : Shared) →
     EntersClosing p part image base at pending h s →
     DoneWithin p (length closing_instrs) h s (replicate (length closing_instrs) []) GoesOn (ClosingDoes p Unchanged h s)
+
+-- the same
+abbrev pub ClosingKeepsRegisters : Type 0
+ClosingKeepsRegisters =
+    (p : Profile) (part : ℕ) (image base : Memory) (at : ℕ) (pending : List ℕ) (h : Hart) (s : Shared) →
+    EntersClosing p part image base at pending h s →
+    (changes : List (List ByteChange)) → AllByRecursion (AllByRecursion IsDataChange) changes → length closing_instrs ≤ length changes →
+    DoneWithin p (length closing_instrs) h s changes GoesOn (ClosingDoes p DataChanged h s)

@@ -1,9 +1,15 @@
 //! What units, the opening and the closing do. Each function states one law; nothing is computed.
 ghost use Rattle.cfi_unit.specs.EffectLaw.{UnitEffect, UnitKeepsRegisters};
-ghost use Rattle.cfi_unit.specs.PrologueEffect.{ClosingEffect, OpeningEffect};
+ghost use Rattle.cfi_unit.specs.PrologueEffect.{
+  ClosingEffect,
+  ClosingKeepsRegisters,
+  OpeningEffect,
+  OpeningKeepsRegisters,
+};
 
 /// What a unit does where nothing is changed between its words: within as many steps as it has words
-/// it is left as its row says, or has ended the run.
+/// it is left as its row says, or has ended the run; of x4, x30 and x31 those are as before that no
+/// instruction of the unit writes.
 pub fn unit_effect()
     ensures { UnitEffect }
 {}
@@ -20,7 +26,18 @@ pub fn opening_effect()
     ensures { OpeningEffect }
 {}
 
+/// The same under any changes of data between its words: what x1 and x2 are then depends on no data.
+pub fn opening_keeps_registers()
+    ensures { OpeningKeepsRegisters }
+{}
+
 /// What the closing does: it makes system call 93.
 pub fn closing_effect()
     ensures { ClosingEffect }
+{}
+
+/// The same under any changes of data between its words: its call sees all registers but x17 as they
+/// were.
+pub fn closing_keeps_registers()
+    ensures { ClosingKeepsRegisters }
 {}
