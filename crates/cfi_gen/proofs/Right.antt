@@ -1,11 +1,11 @@
 -- The parts of each number's object are right, so its file holds them.
-use Rattle.std.proofs.Common.{◌≡◌, ℕ, zero, suc, ◌*◌, ◌%◌, ◌^◌, ◌<◌, ◌≤◌, true, ◌==◌, List, [], ◌∷◌, length, get_or, refl, sym, arith, lit<, lit≤, eq-eqb, subst}
+use Rattle.std.proofs.Common.{◌≡◌, ℕ, zero, suc, ◌*◌, ◌%◌, ◌^◌, ◌<◌, ◌≤◌, false, true, ◌==◌, ◌∙◌, List, [], ◌∷◌, length, get_or, refl, sym, arith, lit<, lit≤, eq-eqb, subst}
 use Rattle.elf_writer.specs.Names.{is_clean}
 use Rattle.std.proofs.lemmas.List.Sums.{sum_by-cons}
 use lib.Count.{ones}
 use Rattle.elf_writer.specs.Parts.{RelocationsPart, SymbolPart}
-use Rattle.elf_writer.specs.Object.{object_bytes}
-use Rattle.elf_writer.specs.Right.{AreObjectParts, IsRightRelocations, IsRightSection, IsRightSymbol, is_kept_part, no_reloc, no_relocations, no_section, no_symbol}
+use Rattle.elf_writer.specs.Object.{is_local, object_bytes}
+use Rattle.elf_writer.specs.Right.{AreLocalFirst, AreObjectParts, IsRightRelocations, IsRightSection, IsRightSymbol, is_kept_part, no_reloc, no_relocations, no_section, no_symbol}
 use Rattle.elf_writer.specs.Holds.{Holds}
 use Rattle.elf_writer.specs.Size.{relocations_size, section_size, symbol_size}
 use Rattle.elf_writer.proofs.Holding.{holds}
@@ -140,6 +140,21 @@ all_symbols_right fs many (suc (suc k)) below =
     code_symbol_right fs many _
     (every_at (IsCodeSymbol (code_size (program_lines fs))) (function_symbols (code_size main_lines) 0 fs) no_symbol k (function_symbols_are fs many) (omega arith))
 
+-- no symbol is local
+none_local : (fs : List Function) → length fs ≡ 2000 → (k : ℕ) → k < length (parts_with fs).symbols
+    → is_local (get_or (parts_with fs).symbols k no_symbol) ≡ false
+none_local fs many zero below = refl
+none_local fs many (suc zero) below = refl
+none_local fs many (suc (suc k)) below =
+    let one = every_at (IsCodeSymbol (code_size (program_lines fs))) (function_symbols (code_size main_lines) 0 fs) no_symbol k (function_symbols_are fs many) (omega arith) in
+    rw one.info refl
+
+locals_first : (fs : List Function) → length fs ≡ 2000 → AreLocalFirst (parts_with fs).symbols
+locals_first fs many i j less below local =
+    let none = none_local fs many j below in
+    let no : true ≡ false = sym local ∙ none in
+    absurd (cc)
+
 -- the file is small
 names_short : (total : ℕ) (ss : List SymbolPart) → Every (IsCodeSymbol total) ss → Every (λ s. symbol_size s ≤ 36) ss
 names_short total [] right = tt
@@ -176,6 +191,7 @@ parts_right fs many right = record {
   relocations = tables_right fs many right;
   apart = tables_apart fs;
   symbols = all_symbols_right fs many;
+  local_first = locals_first fs many;
 }
 
 pub demo_right : (number : ℕ) → AreObjectParts (demo_parts number)

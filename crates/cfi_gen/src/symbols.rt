@@ -8,6 +8,7 @@ use crate::constants::TABLE_SIZE;
 use crate::function::Function;
 use elf_tables::constants::{STB_GLOBAL, STT_FUNC, STT_OBJECT};
 use elf_writer::Symbol;
+use rv_word::Bytes;
 use std::alloc::{AllocError, Global};
 
 /// The section of the code.
@@ -20,25 +21,23 @@ const DATA: u16 = 2;
 const MAIN_SIZE: u64 = 68;
 
 /// A name's bytes.
-fn name(alloc: Global, text: &[u8]) -> Result<Vec<u8>, AllocError>
-    ensures { IfOk result (λ name. name.items ≡ text.now) }
+fn name(alloc: Global, text: &[u8]) -> Result<Bytes, AllocError>
+    ensures { IfOk result (λ name. name ≡ text.now) }
 {
-    let mut name = Vec::new(alloc);
-    name.extend_from_slice(text)?;
-    Ok(name)
+    Ok(Bytes::of(Vec::from_slice(alloc, text)?))
 }
 
 /// The name of the function with this number.
-fn function_name(alloc: Global, number: usize) -> Result<Vec<u8>, AllocError>
-    ensures { IfOk result (λ name. name.items ≡ function_name number) }
+fn function_name(alloc: Global, number: usize) -> Result<Bytes, AllocError>
+    ensures { IfOk result (λ name. name ≡ function_name number) }
 {
     let name = format!(in alloc; "f{number}")?;
-    Ok(name.into_bytes())
+    Ok(Bytes::of(name.into_bytes()))
 }
 
 /// A function of the code.
-fn code_symbol(name: Vec<u8>, at: u64, size: u64) -> Symbol
-    ensures { symbol_of result ≡ code_symbol name.items at size }
+fn code_symbol(name: Bytes, at: u64, size: u64) -> Symbol
+    ensures { symbol_of result ≡ code_symbol name at size }
 {
     Symbol {
         name,

@@ -45,19 +45,19 @@ next_symbol xs i x below e =
     ∙ ap (λ k. symbol_of x ∷ drop k (map symbol_of xs)) (sym (add-one i))
 
 pub symbols_next : (xs : List Symbol) (i : ℕ) (x : Symbol) (entries entries' names names' : List ℕ) (at : ℕ) → i < length xs → x ≡ get_or xs i x
-    → at ≡ length names → entries' ≡ entries ++ symbol_bytes at (symbol_of x) → names' ≡ names ++ ended x.name.items
+    → at ≡ length names → entries' ≡ entries ++ symbol_bytes at (symbol_of x) → names' ≡ names ++ ended x.name
     → entries' ++ symbols_from (length names') (drop (i + 1) (map symbol_of xs)) ≡ entries ++ symbols_from (length names) (drop i (map symbol_of xs))
 unfolding symbols_from
 symbols_next xs i x entries entries' names names' at below e place p q =
-    let long : length names' ≡ length names + length x.name.items + 1 =
-    ap length q ∙ length-append names (ended x.name.items) ∙ omega (arith, length-append x.name.items (0 ∷ [])) in
+    let long : length names' ≡ length names + length x.name + 1 =
+    ap length q ∙ length-append names (ended x.name) ∙ omega (arith, length-append x.name (0 ∷ [])) in
     rw (next_symbol xs i x below e, p, place, long) (append_assoc entries (symbol_bytes (length names) (symbol_of x)) _)
 
 pub names_next : (xs : List Symbol) (i : ℕ) (x : Symbol) (names names' : List ℕ) → i < length xs → x ≡ get_or xs i x
-    → names' ≡ names ++ ended x.name.items
+    → names' ≡ names ++ ended x.name
     → names' ++ flat_map ended (symbol_names (drop (i + 1) (map symbol_of xs))) ≡ names ++ flat_map ended (symbol_names (drop i (map symbol_of xs)))
 names_next xs i x names names' below e q =
-    rw (next_symbol xs i x below e, q) (append_assoc names (ended x.name.items) (flat_map ended (symbol_names (drop (i + 1) (map symbol_of xs)))))
+    rw (next_symbol xs i x below e, q) (append_assoc names (ended x.name) (flat_map ended (symbol_names (drop (i + 1) (map symbol_of xs)))))
 
 pub symbols_end : (xs : List Symbol) (i : ℕ) (entries : List ℕ) (at : ℕ) → length xs ≤ i
     → entries ≡ entries ++ symbols_from at (drop i (map symbol_of xs))

@@ -10,7 +10,7 @@ use Rattle.elf_writer.specs.File.{file_of, headers_from, table}
 use Rattle.elf_writer.specs.Parts.{ObjectParts, RelocationsPart, SectionPart, SymbolPart}
 use Rattle.elf_writer.specs.Tables.{relocation_numbers, relocations_bytes, symbol_numbers, symbols_bytes, symbols_from}
 use Rattle.elf_writer.specs.Object.{object_bytes}
-use Rattle.elf_writer.specs.Right.{AreObjectParts, IsReloc, IsRightRelocations, IsRightSection, IsRightSymbol, is_content_kind, is_kept_part, no_reloc, no_relocations, no_section, no_symbol}
+use Rattle.elf_writer.specs.Right.{AreLocalFirst, AreObjectParts, IsReloc, IsRightRelocations, IsRightSection, IsRightSymbol, is_content_kind, is_kept_part, no_reloc, no_relocations, no_section, no_symbol}
 use Rattle.elf_writer.specs.Holds.{Holds}
 use Rattle.elf_writer.specs.Size.{size_bound}
 use Rattle.elf_writer.proofs.Holding.{holds}
@@ -128,6 +128,19 @@ one_table : (i j : ℕ) → i < j → j < length small_object.relocations
 unfolding small_object
 one_table i j less below same = omega arith
 
+first_local : AreLocalFirst small_object.symbols
+unfolding small_object local function
+first_local zero (suc zero) less below local_too = refl
+first_local zero zero less below local_too = refl
+first_local (suc i) zero less below local_too = absurd (omega arith)
+first_local (suc i) (suc zero) less below local_too = absurd (omega arith)
+first_local i (suc (suc j)) less below local_too = absurd (omega arith)
+
+-- not with the function before the local symbol
+wrong_order : AreLocalFirst (function ∷ local ∷ []) → ⊥
+unfolding local function ones
+wrong_order first = let no : false ≡ true = first 0 1 (lit< tt) (lit< tt) refl in cc
+
 right_row : AreObjectParts small_object
 unfolding small_object
 right_row = record {
@@ -138,6 +151,7 @@ right_row = record {
   relocations = right_tables;
   apart = one_table;
   symbols = right_symbols;
+  local_first = first_local;
 }
 
 holds_row : Holds small_object (object_bytes small_object)

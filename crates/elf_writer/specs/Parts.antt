@@ -45,7 +45,7 @@ abbrev pub relocations_of : Relocations → RelocationsPart
 relocations_of r = record { name = r.name.now; target = r.target; entries = r.entries.now }
 
 abbrev pub symbol_of : Symbol → SymbolPart
-symbol_of s = record { name = s.name.items; info = s.info; section = s.section; value = s.value; size = s.size }
+symbol_of s = record { name = s.name; info = s.info; section = s.section; value = s.value; size = s.size }
 
 abbrev pub parts_of : Parts → ObjectParts
 parts_of p = record {

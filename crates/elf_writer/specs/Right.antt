@@ -1,5 +1,5 @@
 -- When the parts of an object are right (System V gABI, "Sections", "Symbol Table", "Relocation").
-use Rattle.std.specs.Prelude.{◌≡◌, ℕ, suc, pos, FitsSigned, ◌^◌, ◌<◌, ◌≤◌, nat_lt, nat_le, Bool, true, false, ◌==◌, ◌&&◌, ◌||◌, not, [], length, get_or, codes}
+use Rattle.std.specs.Prelude.{◌≡◌, ℕ, suc, pos, FitsSigned, ◌^◌, ◌<◌, ◌≤◌, nat_lt, nat_le, Bool, true, false, ◌==◌, ◌&&◌, ◌||◌, not, List, [], length, get_or, codes}
 use Rattle.std.specs.Int.{w64}
 use Rattle.std.specs.Str.{bytes_eq}
 use Rattle.elf_tables.specs.declared.entry.Reloc.{Reloc}
@@ -12,7 +12,7 @@ use Rattle.elf_object.specs.Kind.{is_alignment, is_wrong_kept}
 use Rattle.elf_writer.specs.Names.{is_clean}
 use Rattle.elf_writer.specs.Header.{header_of}
 use Rattle.elf_writer.specs.Parts.{SectionPart, SymbolPart, RelocationsPart, ObjectParts}
-use Rattle.elf_writer.specs.Object.{object_bytes, section_count, section_heading}
+use Rattle.elf_writer.specs.Object.{is_local, object_bytes, section_count, section_heading}
 
 -- what stands where there is no such part
 abbrev pub no_section : SectionPart
@@ -77,8 +77,12 @@ pub record IsRightSymbol (parts : ObjectParts) (s : SymbolPart) : Type 0 where
       → s.value ≤ (get_or parts.sections k no_section).size
   pub aligned : (s.section == 0xfff2 && not (is_alignment s.value && nat_le s.value 4096)) ≡ false
 
--- the parts of an object without a fault: each is right, no two tables have relocations of one section, and offsets in the file have
--- room in 32 bits
+-- a local symbol has no symbol before it that is not local
+abbrev pub AreLocalFirst : List SymbolPart → Type 0
+AreLocalFirst ss = (i j : ℕ) → i < j → j < length ss → is_local (get_or ss j no_symbol) ≡ true → is_local (get_or ss i no_symbol) ≡ true
+
+-- the parts of an object without a fault: each is right, no two tables have relocations of one section, local symbols stand first, and
+-- offsets in the file have room in 32 bits
 pub record AreObjectParts (parts : ObjectParts) : Type 0 where
   pub flags : are_flags_taken parts.flags ≡ true
   pub few : section_count parts < 0xff00
@@ -88,3 +92,4 @@ pub record AreObjectParts (parts : ObjectParts) : Type 0 where
   pub apart : (i j : ℕ) → i < j → j < length parts.relocations
       → (get_or parts.relocations i no_relocations).target ≡ (get_or parts.relocations j no_relocations).target → ⊥
   pub symbols : (k : ℕ) → k < length parts.symbols → IsRightSymbol parts (get_or parts.symbols k no_symbol)
+  pub local_first : AreLocalFirst parts.symbols

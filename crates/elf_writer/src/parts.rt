@@ -1,4 +1,5 @@
 use elf_tables::Reloc;
+use rv_word::Bytes;
 
 /// A section of an object: its name without a NUL, its `sh_type`, `sh_flags`, `sh_size` and
 /// `sh_addralign` (System V gABI, "Sections"), and its bytes in the file. A section of type
@@ -26,7 +27,7 @@ pub struct Relocations<'a> {
 /// gABI, "Symbol Table").
 #[derive(Drop)]
 pub struct Symbol {
-    pub name: Vec<u8>,
+    pub name: Bytes,
     pub info: u8,
     pub section: u16,
     pub value: u64,

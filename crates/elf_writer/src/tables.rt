@@ -86,7 +86,7 @@ pub(crate) fn symbol_tables(alloc: Global, symbols: &[Symbol]) -> Result<SymbolT
     let mut tables = no_symbols(alloc)?;
     for symbol in symbols {
         put_symbol(&mut tables.entries, tables.names.len() as u64, symbol)?;
-        put_name(&mut tables.names, &symbol.name)?;
+        put_name(&mut tables.names, symbol.name.as_slice())?;
     }
     Ok(tables)
 }

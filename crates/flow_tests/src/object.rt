@@ -8,6 +8,7 @@ use elf_tables::constants::{
     STT_OBJECT,
 };
 use elf_writer::{Parts, Relocations, Section, Symbol, write_object};
+use rv_word::Bytes;
 use std::alloc::Global;
 
 /// The words of the data.
@@ -35,7 +36,7 @@ fn symbol_type(name: &str) -> Option<u8> {
 fn symbol_of(alloc: Global, text: &str) -> Option<Symbol> {
     let info = (STB_GLOBAL << 4) | symbol_type(field(text, 1)?)?;
     Some(Symbol {
-        name: Vec::from_slice(alloc, field(text, 0)?.as_bytes()).ok()?,
+        name: Bytes::of(Vec::from_slice(alloc, field(text, 0)?.as_bytes()).ok()?),
         info,
         section: u16::try_from(number(text, 2)?).ok()?,
         value: number(text, 3)?,

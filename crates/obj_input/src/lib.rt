@@ -18,6 +18,7 @@ mod input;
 mod item_kind;
 mod layout;
 mod name;
+mod name_seed;
 mod names;
 mod offsets;
 mod parts;

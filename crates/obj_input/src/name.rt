@@ -43,6 +43,11 @@ impl<'a> Name<'a> {
         name_at(self.rest, 0).unwrap_or(&[])
     }
 
+    /// The table from the name on.
+    pub(crate) fn rest(&self) -> &'a [u8] {
+        self.rest
+    }
+
     /// The bytes of the name, if it has at most so many. No more bytes than these and one are looked at.
     pub(crate) fn within(&self, most: usize) -> Option<&'a [u8]>
         requires { most < usize.MAX }

@@ -4,10 +4,11 @@ ghost use Rattle.obj_input.specs.Indexed.{IsIndexed, first_definition, looked_up
 ghost use Rattle.obj_input.specs.Names.{find_spot, spot_within};
 
 use crate::name::Name;
+use crate::name_seed::NameSeed;
 use crate::parts::Definition;
+use indexmap::IndexMap;
 use rv_word::NoMemory;
 use std::alloc::Global;
-use std::collections::BTreeMap;
 use std::marker::Model;
 
 /// How many bytes a name has at most that is looked up in the index.
@@ -18,7 +19,7 @@ const MOST_INDEXED: usize = 256;
 #[derive(Drop)]
 pub struct Names<'a> {
     names: Vec<Name<'a>>,
-    index: BTreeMap<&'a [u8], Definition>,
+    index: IndexMap<&'a [u8], Definition, NameSeed>,
 }
 
 impl<'a> Model for Names<'a> {
@@ -83,7 +84,7 @@ fn spot_within(definition: Definition) -> Option<(u32, u64)>
 }
 
 /// What a name stands for by the index.
-fn look_up(index: &BTreeMap<&[u8], Definition>, name: &[u8]) -> Option<Definition>
+fn look_up(index: &IndexMap<&[u8], Definition, NameSeed>, name: &[u8]) -> Option<Definition>
     ensures { result ≡ looked_up name.now index.now }
 {
     index.get(name).copied()
@@ -97,7 +98,10 @@ fn first_definition(names: &[Name], name: &[u8]) -> Option<Definition>
 }
 
 /// Adds a name to the index, unless it is long or is there.
-fn note<'a>(index: &mut BTreeMap<&'a [u8], Definition>, name: &Name<'a>) -> Result<(), NoMemory>
+fn note<'a>(
+    index: &mut IndexMap<&'a [u8], Definition, NameSeed>,
+    name: &Name<'a>,
+) -> Result<(), NoMemory>
     ensures { OnOk result ((called : List ℕ) → length called ≤ 256 → looked_up called index.new ≡ noted name.now (looked_up called index.old) called) }
 {
     let Some(bytes) = name.within(MOST_INDEXED) else {
@@ -114,10 +118,10 @@ fn note<'a>(index: &mut BTreeMap<&'a [u8], Definition>, name: &Name<'a>) -> Resu
 fn index_of<'a>(
     alloc: Global,
     names: &[Name<'a>],
-) -> Result<BTreeMap<&'a [u8], Definition>, NoMemory>
+) -> Result<IndexMap<&'a [u8], Definition, NameSeed>, NoMemory>
     ensures { IfOk result (λ index. IsIndexed names.now index) }
 {
-    let mut index = BTreeMap::new(alloc);
+    let mut index = IndexMap::with_hasher(alloc, NameSeed::of(names));
     for name in names {
         note(&mut index, name)?;
     }

@@ -1,6 +1,12 @@
 ghost use Rattle.std.specs.Prelude.{◌≡◌};
 ghost use Rattle.obj_input.specs.Kinds.{data_kind, is_idle, is_pair_target, is_relative_high, is_relative_low, is_transfer, kind_of, takes_address};
 
+use elf_tables::constants::{
+    R_RISCV_32, R_RISCV_64, R_RISCV_ADD16, R_RISCV_ADD32, R_RISCV_ADD64, R_RISCV_ADD8,
+    R_RISCV_ALIGN, R_RISCV_BRANCH, R_RISCV_CALL, R_RISCV_CALL_PLT, R_RISCV_HI20, R_RISCV_JAL,
+    R_RISCV_LO12_I, R_RISCV_LO12_S, R_RISCV_NONE, R_RISCV_PCREL_HI20, R_RISCV_PCREL_LO12_I,
+    R_RISCV_PCREL_LO12_S, R_RISCV_RELAX, R_RISCV_SUB16, R_RISCV_SUB32, R_RISCV_SUB64, R_RISCV_SUB8,
+};
 use rv_reloc::DataPatch;
 
 /// What a relocation does, by its type (RISC-V ELF psABI, "Relocations").
@@ -39,16 +45,16 @@ fn data_kind(number: u32) -> RelocKind
     ensures { result ≡ data_kind number }
 {
     match number {
-        1 => RelocKind::InData(DataPatch::Abs32),
-        2 => RelocKind::InData(DataPatch::Abs64),
-        33 => RelocKind::InData(DataPatch::Add8),
-        34 => RelocKind::InData(DataPatch::Add16),
-        35 => RelocKind::InData(DataPatch::Add32),
-        36 => RelocKind::InData(DataPatch::Add64),
-        37 => RelocKind::InData(DataPatch::Sub8),
-        38 => RelocKind::InData(DataPatch::Sub16),
-        39 => RelocKind::InData(DataPatch::Sub32),
-        40 => RelocKind::InData(DataPatch::Sub64),
+        R_RISCV_32 => RelocKind::InData(DataPatch::Abs32),
+        R_RISCV_64 => RelocKind::InData(DataPatch::Abs64),
+        R_RISCV_ADD8 => RelocKind::InData(DataPatch::Add8),
+        R_RISCV_ADD16 => RelocKind::InData(DataPatch::Add16),
+        R_RISCV_ADD32 => RelocKind::InData(DataPatch::Add32),
+        R_RISCV_ADD64 => RelocKind::InData(DataPatch::Add64),
+        R_RISCV_SUB8 => RelocKind::InData(DataPatch::Sub8),
+        R_RISCV_SUB16 => RelocKind::InData(DataPatch::Sub16),
+        R_RISCV_SUB32 => RelocKind::InData(DataPatch::Sub32),
+        R_RISCV_SUB64 => RelocKind::InData(DataPatch::Sub64),
         _ => RelocKind::Unknown,
     }
 }
@@ -60,17 +66,17 @@ impl RelocKind {
         ensures { result ≡ kind_of number }
     {
         match number {
-            0 => RelocKind::Nothing,
-            43 | 51 => RelocKind::Mark,
-            16 => RelocKind::BranchTarget,
-            17 => RelocKind::JalTarget,
-            18 | 19 => RelocKind::PairTarget,
-            23 => RelocKind::RelativeHigh,
-            24 => RelocKind::RelativeLowI,
-            25 => RelocKind::RelativeLowS,
-            26 => RelocKind::High,
-            27 => RelocKind::LowI,
-            28 => RelocKind::LowS,
+            R_RISCV_NONE => RelocKind::Nothing,
+            R_RISCV_ALIGN | R_RISCV_RELAX => RelocKind::Mark,
+            R_RISCV_BRANCH => RelocKind::BranchTarget,
+            R_RISCV_JAL => RelocKind::JalTarget,
+            R_RISCV_CALL | R_RISCV_CALL_PLT => RelocKind::PairTarget,
+            R_RISCV_PCREL_HI20 => RelocKind::RelativeHigh,
+            R_RISCV_PCREL_LO12_I => RelocKind::RelativeLowI,
+            R_RISCV_PCREL_LO12_S => RelocKind::RelativeLowS,
+            R_RISCV_HI20 => RelocKind::High,
+            R_RISCV_LO12_I => RelocKind::LowI,
+            R_RISCV_LO12_S => RelocKind::LowS,
             other => data_kind(other),
         }
     }

@@ -8,6 +8,6 @@ use Rattle.obj_items.specs.Contents.{AreContents}
 use Rattle.obj_items.specs.ProgramOf.{program_of}
 
 pub program_is : (input : InputParts) (held : Held) (funcs : List Func) (names : List Named) → AreContents input held → funcs ≡ input.funcs → names ≡ input.names
-    → record { items = held.items.items; init = held.init.items; relocations = held.relocations.items; data_end = held.data_end; funcs = funcs; names = names } ≡ program_of input
+    → record { items = held.items.items; init = held.init; relocations = held.relocations.items; data_end = held.data_end; funcs = funcs; names = names } ≡ program_of input
 unfolding program_of layout_of
 program_is input held funcs names of f m = rw (of.items, of.init, of.relocations, of.data_end, f, m) refl

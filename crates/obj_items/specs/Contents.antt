@@ -10,6 +10,6 @@ use Rattle.obj_items.specs.Outline.{outline}
 -- that of an input
 pub record AreContents (input : InputParts) (held : Held) : Type 0 where
   pub items : held.items.items ≡ map (item_with input (outline input)) (outline input)
-  pub init : held.init.items ≡ init_below input (section_count input)
+  pub init : held.init ≡ init_below input (section_count input)
   pub relocations : held.relocations.items ≡ relocs_of input (outline input)
   pub data_end : held.data_end ≡ (layout_of input).data_end

@@ -4,6 +4,7 @@ ghost use Rattle.obj_input.specs.Layout.{layout_of, section_address};
 ghost use Rattle.obj_items.specs.InitialData.{init_below, placed};
 
 use obj_input::{Input, Layout};
+use obj_program::InitialData;
 use rv_word::NoMemory;
 use rv_word::memory_map::DATA_START;
 use std::alloc::Global;
@@ -17,27 +18,27 @@ pub(crate) fn section_address(input: &Input, layout: &Layout, k: u32) -> u128
     layout.section(k)
 }
 
-/// Puts bytes behind others, so that they begin at this address; the first of all stands at `DATA_START`. What needs more
-/// bytes than there are addresses wants memory.
-fn put_at(init: &mut Vec<u8>, address: u128, bytes: &[u8]) -> Result<(), NoMemory>
-    ensures { OnOk result (init.new.items ≡ placed init.old.items address bytes.now) }
+/// Puts bytes behind others, so that they begin at this address; the first of all stands at `DATA_START`.
+fn put_at<'a>(
+    init: &mut InitialData<'a>,
+    address: u128,
+    bytes: &'a [u8],
+) -> Result<(), NoMemory>
+    ensures { OnOk result (init.new ≡ placed init.old address bytes.now) }
 {
-    let Ok(start) = usize::try_from(address.saturating_sub(u128::from(DATA_START))) else {
-        return Err(NoMemory);
-    };
-    if start > init.len() {
-        init.resize(start, 0)?;
-    }
-    init.extend_from_slice(bytes)?;
-    Ok(())
+    init.put_at(address.saturating_sub(u128::from(DATA_START)), bytes)
 }
 
-/// The initialised data before relocations, from `DATA_START` on.
-pub(crate) fn init(alloc: Global, input: &Input, layout: &Layout) -> Result<Vec<u8>, NoMemory>
+/// The initialised data before relocations, from `DATA_START` on. No byte of them is copied.
+pub(crate) fn init<'a>(
+    alloc: Global,
+    input: &Input<'a>,
+    layout: &Layout,
+) -> Result<InitialData<'a>, NoMemory>
     requires { layout.now ≡ layout_of input.now }
-    ensures { IfOk result (λ v. v.items ≡ init_below input.now (section_count input.now)) }
+    ensures { IfOk result (λ v. v ≡ init_below input.now (section_count input.now)) }
 {
-    let mut init = Vec::new(alloc);
+    let mut init = InitialData::new(alloc);
     for k in 0..input.section_count() {
         let section = input.section(k);
         if section.is_data() {

@@ -20,16 +20,16 @@ use crate::relocs::relocs;
 use crate::taken::taken;
 use elf_object::Object;
 use obj_input::{Input, Layout};
-use obj_program::{DataReloc, Item, Items};
+use obj_program::{DataReloc, InitialData, Item, Items};
 use obj_rules::fault_of;
 use rv_word::NoMemory;
 use std::alloc::Global;
 
 /// What a program holds beside the symbols of its input.
 #[derive(Drop)]
-struct Held {
+struct Held<'a> {
     items: Vec<Item>,
-    init: Vec<u8>,
+    init: InitialData<'a>,
     relocations: Vec<DataReloc>,
     data_end: u128,
 }
@@ -51,12 +51,12 @@ fn with_links(
 }
 
 /// What the program of an input holds, whose places these are.
-fn contents(
+fn contents<'a>(
     alloc: Global,
-    input: &Input,
+    input: &Input<'a>,
     layout: &Layout,
     places: &[Item],
-) -> Result<Held, NoMemory>
+) -> Result<Held<'a>, NoMemory>
     requires layout { layout.now ≡ layout_of input.now }
     requires places { places.now ≡ outline input.now }
     requires order { AreInOrder places.now }
@@ -74,7 +74,7 @@ fn contents(
 }
 
 /// What the program of an input without a fault holds.
-fn contents_of(alloc: Global, input: &Input) -> Result<Held, NoMemory>
+fn contents_of<'a>(alloc: Global, input: &Input<'a>) -> Result<Held<'a>, NoMemory>
     requires { fault_of input.now ≡ None }
     ensures contents { IfOk result (AreContents input.now) }
     ensures sound { IfOk result (λ _. IsSound (program_of input.now)) }
@@ -93,18 +93,17 @@ fn program_of<'a>(alloc: Global, input: Input<'a>) -> Result<Items<'a>, NoMemory
 {
     let contents = contents_of(alloc, &input)?;
     let (names, funcs) = input.into_symbols();
-    Ok(Items::of(
-        contents.items,
-        contents.init,
-        contents.relocations,
-        contents.data_end,
-        funcs,
-        names,
-    ))
+    let Held {
+        items,
+        init,
+        relocations,
+        data_end,
+    } = contents;
+    Ok(Items::of(items, init, relocations, data_end, funcs, names))
 }
 
 /// The program that an object is, where nothing is wrong with its instructions and relocations; else what is wrong: the
-/// first of eight tests that fails anywhere, at its least section and offset. It borrows the object's names.
+/// first of eight tests that fails anywhere, at its least section and offset. It borrows the object's names and its data.
 pub fn items<'a>(alloc: Global, object: &Object<'a>) -> Result<Items<'a>, ItemEnd>
     ensures { IsTold (input_of object.now) result }
 {

@@ -1,3 +1,4 @@
+pub mod Pieces
 pub mod Program
 pub mod Suits
 pub mod Sound

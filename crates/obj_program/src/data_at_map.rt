@@ -57,7 +57,7 @@ impl<'a> Items<'a> {
         ensures length { IfOk result (λ v. length v.items ≡ init_size self.now) }
         ensures refused { IfErr result (λ e. e ≡ ends.RelocRange → data_at self.now gates.now ≡ None) }
     {
-        let mut bytes = Vec::from_slice(alloc, self.init()).map_err(NoMemory::from)?;
+        let mut bytes = self.init().copied(alloc)?;
         apply_all(bytes.as_mut_slice(), gates, self.relocations())?;
         Ok(bytes)
     }

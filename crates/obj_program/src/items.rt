@@ -4,6 +4,7 @@ ghost use Rattle.obj_program.specs.DataAtMap.{init_size};
 ghost use Rattle.obj_program.specs.Program.{count, item_of, place_of};
 ghost use Rattle.obj_program.specs.Sound.{IsSound, is_patch};
 
+use crate::initial_data::InitialData;
 use crate::item::{DataReloc, Item, Patch};
 use crate::place::place_in;
 use obj_input::{Func, Names};
@@ -18,11 +19,11 @@ pub struct Extent {
     pub end: u128,
 }
 
-/// A program. Names are borrowed from the object's tables.
+/// A program. Names and initialised data are borrowed from the object's file.
 #[derive(Drop)]
 pub struct Items<'a> {
     items: Vec<Item>,
-    init: Vec<u8>,
+    init: InitialData<'a>,
     relocations: Vec<DataReloc>,
     data_end: u128,
     funcs: Vec<Func>,
@@ -35,23 +36,23 @@ impl<'a> Model for Items<'a> {
 
     ghost Value = { Program };
 
-    ghost view = { λ p. record { items = p.items.items; init = p.init.items; relocations = p.relocations.items; data_end = p.data_end; funcs = p.funcs.items; names = p.names } };
+    ghost view = { λ p. record { items = p.items.items; init = p.init; relocations = p.relocations.items; data_end = p.data_end; funcs = p.funcs.items; names = p.names } };
 
-    ghost invariant = { λ p. IsSound (record { items = p.items.items; init = p.init.items; relocations = p.relocations.items; data_end = p.data_end; funcs = p.funcs.items; names = p.names }) };
+    ghost invariant = { λ p. IsSound (record { items = p.items.items; init = p.init; relocations = p.relocations.items; data_end = p.data_end; funcs = p.funcs.items; names = p.names }) };
 }
 
 impl<'a> Items<'a> {
     /// The program of these parts.
     pub fn of(
         items: Vec<Item>,
-        init: Vec<u8>,
+        init: InitialData<'a>,
         relocations: Vec<DataReloc>,
         data_end: u128,
         funcs: Vec<Func>,
         names: Names<'a>,
     ) -> Items<'a>
-        requires { IsSound (record { items = items.items; init = init.items; relocations = relocations.items; data_end = data_end; funcs = funcs.items; names = names }) }
-        ensures { result ≡ record { items = items.items; init = init.items; relocations = relocations.items; data_end = data_end; funcs = funcs.items; names = names.entry } }
+        requires { IsSound (record { items = items.items; init = init; relocations = relocations.items; data_end = data_end; funcs = funcs.items; names = names }) }
+        ensures { result ≡ record { items = items.items; init = init.entry; relocations = relocations.items; data_end = data_end; funcs = funcs.items; names = names.entry } }
     {
         Items {
             items,
@@ -88,10 +89,10 @@ impl<'a> Items<'a> {
     }
 
     /// The initialised data before relocations.
-    pub(crate) fn init(&self) -> &[u8]
+    pub(crate) fn init(&self) -> &InitialData<'a>
         ensures { result.now ≡ self.now.init }
     {
-        self.init.as_slice()
+        &self.init
     }
 
     /// The relocations of initialised data.
@@ -108,7 +109,7 @@ impl<'a> Items<'a> {
         ensures end { result.end ≡ self.now.data_end }
     {
         Extent {
-            init: self.init.len() as u128,
+            init: self.init.len(),
             end: self.data_end,
         }
     }

@@ -3,12 +3,14 @@
 #![tactic(auto)]
 
 pub use data_at_map::DataEnd;
+pub use initial_data::InitialData;
 pub use item::{DataReloc, Item, Patch, Value};
 pub use items::{Extent, Items};
 pub use place::place_in;
 
 mod at_map;
 mod data_at_map;
+mod initial_data;
 mod item;
 mod items;
 pub mod laws;

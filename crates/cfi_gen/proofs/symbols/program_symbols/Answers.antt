@@ -9,7 +9,7 @@ loop-number-init c = record { symbols = symbols_begin _ c.args.functions.now c.i
 pub loop-number-preserved : goal.loop-number-preserved
 loop-number-preserved c = record {
   symbols =
-      symbol_pushed c.loop-number.symbols.items c.push.new.self.items c.code_symbol.result c.args.functions.now c.index-functions-number.result c.loop-number.at c.size-size.result c.loop-number.number c.in_ok-function_name.field-0.items c.loop-number-test.true c.index-functions-number.is c.in_ok-push.ensures.items c.code_symbol.ensures c.in_ok-function_name.ensures c.size-size.ensures.value
+      symbol_pushed c.loop-number.symbols.items c.push.new.self.items c.code_symbol.result c.args.functions.now c.index-functions-number.result c.loop-number.at c.size-size.result c.loop-number.number c.in_ok-function_name.field-0 c.loop-number-test.true c.index-functions-number.is c.in_ok-push.ensures.items c.code_symbol.ensures c.in_ok-function_name.ensures c.size-size.ensures.value
       ∙ c.loop-number.invariant.symbols;
   small = omega (arith, c.loop-number.invariant.small, c.size-size.ensures.small);
 }

@@ -13,7 +13,7 @@ loop-symbol-init c = record {
 
 pub loop-symbol-preserved : goal.loop-symbol-preserved
 loop-symbol-preserved c =
-    let name = c.in_ok-put_name.ensures ∙ ap (λ n. c.loop-symbol.tables.names.items ++ ended n) c.deref.ensures.value in
+    let name = c.in_ok-put_name.ensures ∙ ap (λ n. c.loop-symbol.tables.names.items ++ ended n) c.as_slice.ensures in
     record {
       entries =
           symbols_next c.args.symbols.now c.loop-symbol.symbol-index c.symbol-item.result c.loop-symbol.tables.entries.items _ c.loop-symbol.tables.names.items _ _ c.loop-symbol-test.true c.symbol-item.is (c.len.ensures ∙ search rules) c.in_ok-put_symbol.ensures name

@@ -4,7 +4,7 @@ use Rattle.obj_items.proofs.init.init.Goals as goal
 use Rattle.obj_items.proofs.init.init.Goals.{then-is_data+in_ok-put_at, else-is_data}
 
 pub loop-k-init : goal.loop-k-init
-loop-k-init c = c.new-init.ensures.items ∙ init_begins c.args.input.now
+loop-k-init c = c.new-init.ensures ∙ init_begins c.args.input.now
 
 pub loop-k-preserved : goal.loop-k-preserved
 loop-k-preserved c =
