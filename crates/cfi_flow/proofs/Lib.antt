@@ -1,5 +1,6 @@
 pub mod Laws
 pub mod Listing
+pub mod Placing
 pub mod Rising
 mod Finding
 mod Classing

@@ -11,10 +11,10 @@ use Rattle.cfi_graph.specs.Map.{IsMap, is_gate, map_line_below, map_line_in_rang
 use Rattle.obj_program.specs.declared.item.Item.{Item}
 use Rattle.obj_program.specs.Program.{Program, count, item_of, no_item}
 use Rattle.cfi_flow.specs.GraphAtMap.{Layout, gate}
+use Rattle.cfi_flow.proofs.Placing.{as_many_gates}
 use Rattle.cfi_harden.specs.Accepted.{IsAccepted}
 use Rattle.cfi_harden.specs.MapLines.{lines_from, map_lines as lines_of}
 use Rattle.cfi_harden.specs.Units.{Choice}
-use Rattle.cfi_harden.proofs.Runs.{gates_counted}
 use Rattle.cfi_harden.proofs.Standing.{gate_lies, gates_rise}
 
 -- the lines of places with gates
@@ -73,7 +73,7 @@ AreNear program = (k : ℕ) → k < count program →
 module _ (m : Choice) (ok : IsAccepted m) where
   -- gates are as many as places
   pub counted : length m.layout.gates ≡ count m.layout.program
-  counted = gates_counted m.layout.closed.classes m.long 0 UNITS_START m.layout.program.items m.layout.gates ok.legal
+  counted = as_many_gates m.layout.closed.classes m.long 0 UNITS_START m.layout.program.items m.layout.gates ok.legal
 
   -- each place takes a byte at least
   places_far : (k : ℕ) → k < count m.layout.program → UNITS_START + k ≤ gate m.layout k

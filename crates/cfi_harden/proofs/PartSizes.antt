@@ -1,34 +1,16 @@
 -- Sizes of a program's parts, and the gates of parts that stand one after another.
-use Rattle.std.proofs.Common.{◌≡◌, ℕ, zero, suc, ◌+◌, ◌*◌, ◌<◌, ◌≤◌, Bool, true, false, List, [], ◌∷◌, ◌++◌, length, get_or, take, drop, drop-cons, Some, None, refl, sym, ◌∙◌, arith, add-one, append_assoc, inl, inr}
-use Rattle.std.specs.Prelude.{sum, is_some}
-use Rattle.std.specs.List.{list_any, position, position_or_len}
-use Rattle.std.proofs.lemmas.Bool.{cases_lt, lt-ltb}
+use Rattle.std.proofs.Common.{◌≡◌, ℕ, zero, suc, ◌+◌, ◌*◌, ◌<◌, ◌≤◌, Bool, true, false, List, [], ◌∷◌, ◌++◌, length, get_or, take, drop, refl, sym, ◌∙◌, arith, append_assoc}
+use Rattle.std.specs.Prelude.{sum}
 use Rattle.std.proofs.lemmas.List.{append-nil, drop_all}
-use Rattle.std.proofs.lemmas.List.Folds.{list_any_at, list_any_none}
-use Rattle.std.proofs.lemmas.List.Quantifiers.{position-Some}
-use Rattle.std.proofs.lemmas.List.Sums.{fails_before_first, sum_by-cons}
-use Rattle.rv_word.proofs.Cases.{cases_Option}
+use Rattle.std.proofs.lemmas.List.Sums.{sum_by-cons}
 use Rattle.obj_input.specs.declared.item_kind.ItemKind.{ItemKind}
 use Rattle.obj_input.specs.declared.item_kind.ItemKind.TheVariants as is
 use Rattle.obj_program.specs.declared.item.Item.{Item}
 use Rattle.obj_program.specs.Program.{no_item}
 use Rattle.cfi_layout.specs.Starts.{starts_from}
-use Rattle.cfi_flow.specs.Placement.{AreGates, gate_size, is_long, size_of, words_from}
+use Rattle.cfi_flow.specs.Placement.{AreGates, gate_size, is_long, size_of}
+use Rattle.cfi_flow.proofs.Placing.{drop_step}
 use Rattle.cfi_harden.specs.Sizes.{part_sizes}
-
--- there is a first that meets a test where there is any
-pub some_is_any : {X : Type 0} (p : X → Bool) (xs : List X) (d : X) → is_some (position p xs) ≡ list_any p xs
-some_is_any p xs d = elim (cases_Option (position p xs)) [
-  | inr (j, some) ↦
-      let at = position-Some p xs j d some in
-      rw some (sym (list_any_at p xs j d at.0 at.1))
-  | inl none ↦
-      let past : length xs ≤ position_or_len p xs = elim (cases_lt (position_or_len p xs) (length xs)) [
-        | inl less ↦ let no : Some (position_or_len p xs) ≡ None = rw (lt-ltb _ _ less) at none in absurd (cc)
-        | inr more ↦ more
-      ] in
-      rw none (sym (list_any_none p xs (λ i e inside. fails_before_first p xs i e (omega arith))))
-]
 
 pub length_sizes : (classes : List (List ℕ)) (long : List Bool) (k : ℕ) (items : List Item) → length (part_sizes classes long k items) ≡ length items
 unfolding part_sizes
@@ -44,9 +26,6 @@ size_at classes long k (item ∷ items) (suc i) lt =
     let e : k + 1 + i ≡ k + suc i = omega arith in
     size_at classes long (k + 1) items i (omega arith) ∙ rw e refl
 
-drop_step : {X : Type 0} (xs : List X) (k : ℕ) (d : X) → k < length xs → drop k xs ≡ get_or xs k d ∷ drop (k + 1) xs
-drop_step xs k d lt = rw (add-one, drop-cons xs k d) refl
-
 -- while a loop makes them
 pub sizes_more : (classes : List (List ℕ)) (k : ℕ) (items : List Item) (made all : List ℕ) (size : ℕ) → k < length items →
     size ≡ gate_size classes k + size_of (get_or items k no_item).kind true →
@@ -58,22 +37,6 @@ pub sizes_end : (classes : List (List ℕ)) (k : ℕ) (items : List Item) (made 
     made ++ part_sizes classes [] k (drop k items) ≡ all → made ≡ all
 unfolding part_sizes
 sizes_end classes k items made all past so_far = sym (append-nil made) ∙ (rw (drop_all k items past) at so_far)
-
-pub words_more : (classes : List (List ℕ)) (k : ℕ) (gates made all : List ℕ) (word : ℕ) → k < length gates →
-    word ≡ get_or gates k 0 + gate_size classes k →
-    made ++ words_from classes k (drop k gates) ≡ all → (made ++ word ∷ []) ++ words_from classes (k + 1) (drop (k + 1) gates) ≡ all
-unfolding words_from
-words_more classes k gates made all word lt is so_far = rw (append_assoc, is) (rw (drop_step gates k 0 lt) at so_far)
-
-pub words_end : (classes : List (List ℕ)) (k : ℕ) (gates made all : List ℕ) → length gates ≤ k →
-    made ++ words_from classes k (drop k gates) ≡ all → made ≡ all
-unfolding words_from
-words_end classes k gates made all past so_far = sym (append-nil made) ∙ (rw (drop_all k gates past) at so_far)
-
-pub length_words : (classes : List (List ℕ)) (k : ℕ) (gates : List ℕ) → length (words_from classes k gates) ≡ length gates
-unfolding words_from
-length_words classes k [] = refl
-length_words classes k (gate ∷ gates) = let e = length_words classes (k + 1) gates in omega arith
 
 -- a unit has one word at least
 pub unit_many : (kind : ItemKind) (long : Bool) → 4 ≤ size_of kind long

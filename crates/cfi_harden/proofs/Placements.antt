@@ -18,7 +18,8 @@ use Rattle.cfi_harden.specs.Placing.{IsPlaced, IsShortened}
 use Rattle.cfi_harden.specs.Accepted.{IsShortAt}
 use Rattle.cfi_harden.specs.Shorts.{layout_of, shorts_of}
 use Rattle.cfi_harden.specs.Sizes.{part_sizes, whole_sizes}
-use Rattle.cfi_harden.proofs.PartSizes.{gates_are, gates_many, length_sizes, length_words}
+use Rattle.cfi_flow.proofs.Placing.{as_many_words}
+use Rattle.cfi_harden.proofs.PartSizes.{gates_are, gates_many, length_sizes}
 use Rattle.cfi_harden.proofs.ShortList.{parts_within}
 use Rattle.cfi_harden.proofs.Shortened.{branch_reaches, sizes_are, starts_are}
 
@@ -88,7 +89,7 @@ module _ (program : Program) (closed : ClosedGraph) (p : Placed) (is : IsShorten
       legal = legal;
       words = refl;
       gate_count = gates_many closed.classes long 0 UNITS_START program.items (take (count program) p.starts) legal;
-      word_count = length_words closed.classes 0 (take (count program) p.starts)
+      word_count = as_many_words closed.classes 0 (take (count program) p.starts)
           ∙ gates_many closed.classes long 0 UNITS_START program.items (take (count program) p.starts) legal;
       shorts = λ entry k target lt branch short aim.
           subst (λ (xs : List ℕ). IsShortAt (layout_of program closed (take (count program) xs) entry) k target) (sym starts)

@@ -77,14 +77,6 @@ legal_run m k at (item ∷ items) (g ∷ gates) few same sizes legal =
           (λ i one get. subst (λ (n : ℕ). size_of one.kind (is_long m.long n) ≡ 4 * word_count (unit_for m n one)) (sym (next i)) (sizes (suc i) one get)) legal.1),
     )
 
-pub gates_counted : (classes : List (List ℕ)) (long : List Bool) (k at : ℕ) (items : List Item) (gates : List ℕ) → AreGates classes long k at items gates →
-    length gates ≡ length items
-unfolding AreGates
-gates_counted classes long k at [] [] legal = refl
-gates_counted classes long k at [] (g ∷ gates) legal = absurd legal
-gates_counted classes long k at (item ∷ items) [] legal = absurd legal
-gates_counted classes long k at (item ∷ items) (g ∷ gates) legal = ap suc (gates_counted classes long (k + 1) (at + gate_size classes k + size_of item.kind (is_long long k)) items gates legal.1)
-
 -- what stands at an address: the gate word of a place or its unit
 pub data IsUnit (m : Choice) (k : ℕ) (item : Item) (a : ℕ) (u : U.Unit) : Type 0 where
   gate_word : (label : ℕ) → label_of m k ≡ Some label → a ≡ gate m.layout k → u ≡ V.Gate label → IsUnit m k item a u

@@ -34,7 +34,7 @@ use Rattle.cfi_scan.specs.declared.entry.Entry.TheVariants as E
 use Rattle.cfi_scan.specs.declared.reader.Reader.TheVariants as R
 use Rattle.cfi_scan.specs.declared.reader.Step.{Step}
 use Rattle.cfi_scan.specs.declared.reader.Step.TheVariants as St
-use Rattle.cfi_scan.proofs.LedBack.{led_back, near_back}
+use Rattle.cfi_unit.proofs.LedBack.{led_back, near_back}
 
 -- a unit's first word is that of an instruction
 abbrev StartsAs : U.Unit → ℕ → Instr → Type 0

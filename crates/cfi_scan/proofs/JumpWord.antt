@@ -14,7 +14,7 @@ use Rattle.cfi_scan.specs.Stream.{Leads, LeadsOn}
 use Rattle.cfi_scan.specs.declared.entry.Entry.TheVariants as E
 use Rattle.cfi_scan.specs.declared.reader.Reader.TheVariants as R
 use Rattle.cfi_scan.specs.declared.reader.Step.TheVariants as St
-use Rattle.cfi_scan.proofs.LedBack.{led_back}
+use Rattle.cfi_unit.proofs.LedBack.{led_back}
 
 branch_ends : (word at imm : ℕ) (op : BranchOp) (rs1 rs2 : ℕ) → rs1 < 32 → rs2 < 32 → imm < 2 ^ 20 → at + 4 < 2 ^ 64 →
     word ≡ code_of (Jal 0 imm) → Leads (code_of (Branch op rs1 rs2 skip_offset) ∷ []) word at (St.Done (E.Branch imm))

@@ -1,7 +1,6 @@
 pub mod Template
 pub mod Transfers
 pub mod CheckReader
-pub mod LedBack
 pub mod FirstWord
 pub mod JumpWord
 pub mod Row

@@ -25,7 +25,7 @@ use Rattle.cfi_scan.specs.declared.reader.Reader.TheVariants as R
 use Rattle.cfi_scan.specs.declared.reader.Step.TheVariants.{More, Done}
 use Rattle.cfi_scan.specs.Fields.{link_field, stores_there}
 use Rattle.cfi_scan.specs.Stream.{IsCode, IsPart, IsReading, LeadsOn}
-use Rattle.cfi_scan.proofs.LedBack.{led_back}
+use Rattle.cfi_unit.proofs.LedBack.{led_back}
 use Rattle.cfi_scan.proofs.Template.{Agree, first_tells, is_next, more_part, more_words, never, next_decoded, part_length, unfinished, was_read, wrong_word}
 
 -- a unit's jump reaches the handler that stands at the begin of code

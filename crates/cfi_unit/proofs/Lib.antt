@@ -3,6 +3,7 @@ pub mod Counts
 pub mod Found
 pub mod Told
 pub mod Splits
+pub mod LedBack
 pub mod Near
 pub mod Context
 pub mod Regions

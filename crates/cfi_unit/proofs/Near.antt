@@ -10,6 +10,7 @@ use Rattle.rv_code.proofs.Inverse.{code_of-decoded, decoded-in_range}
 use Rattle.cfi_unit.specs.Laws.{BranchBegins}
 use Rattle.cfi_unit.specs.Recognise.{near_to}
 use Rattle.cfi_unit.specs.UnitWords.{IsNear, Reaches, instr_at, jump_offset, near_offset, skips_jump, words_of}
+use Rattle.cfi_unit.proofs.LedBack.{near_back}
 
 near_above : (from to : ℕ) → from ≤ to → to < from + 2 ^ 20 → to < 2 ^ 63 → from % 2 ≡ to % 2 → Reaches from to
 near_above from to le near small even =
@@ -57,14 +58,6 @@ branch_reached from to f t even below above =
     elim (cases_lt to from) [
       | inl lt ↦ branch_below from to lt below f even
       | inr le ↦ branch_above from to le above t even
-    ]
-
--- the offset of a branch is the field that leads there
-near_back : (at imm : ℕ) → at < 2 ^ 64 → imm < 2 ^ 12 → near_offset at (near_to at imm) ≡ imm
-near_back at imm low small =
-    elim (cases_lt (imm * 2 % 2 ^ 13) (2 ^ 12)) [
-      | inl positive ↦ rw (lt-ltb (imm * 2 % 2 ^ 13) (2 ^ 12) positive) (omega arith)
-      | inr negative ↦ rw (le-ltb (imm * 2 % 2 ^ 13) (2 ^ 12) negative) (omega arith)
     ]
 
 pub branch_begins : BranchBegins

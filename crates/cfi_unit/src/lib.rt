@@ -9,6 +9,7 @@ pub use place::Place;
 pub use recogniser::recognise;
 pub use step_law::unit_law;
 pub use unit::{SystemOp, Unit};
+pub use words::WordList;
 
 mod effect_law;
 mod emission;

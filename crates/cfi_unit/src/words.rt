@@ -1,4 +1,5 @@
-ghost use Rattle.std.specs.Prelude.{◌≡◌, ◌+◌, ◌<◌, ◌≤◌, [], ◌∷◌, ◌++◌, length, map};
+//! Short lists of words that take no memory.
+ghost use Rattle.std.specs.Prelude.{◌≡◌, ◌+◌, ◌<◌, ◌≤◌, ◌==◌, [], ◌∷◌, ◌++◌, length, map};
 ghost use Rattle.rv_code.specs.Encode.{code_of};
 
 use rv_code::encode;
@@ -6,49 +7,62 @@ use rv_instr::Instr;
 use std::marker::Model;
 
 /// The words of one unit: no unit has more than twenty.
+pub(crate) type UnitCode = WordList<20>;
+
+/// A list of at most `N` words.
 #[derive(Drop)]
-pub(crate) struct UnitCode {
-    words: [u32; 20],
+pub struct WordList<const N: usize> {
+    words: [u32; N],
     count: usize,
 }
 
-impl Model for UnitCode {
+impl<const N: usize> Model for WordList<N> {
     ghost use Rattle.std.specs.Prelude.{List, ℕ, ◌≤◌, take};
 
     ghost Value = { List ℕ };
 
-    ghost view = { λ u. take u.count u.words };
+    ghost view = { λ w. take w.count w.words };
 
-    ghost invariant = { λ u. u.count ≤ 20 };
+    ghost invariant = { λ w. w.count ≤ N };
 }
 
-impl UnitCode {
-    pub(crate) fn new() -> Self
+impl<const N: usize> WordList<N> {
+    /// No words.
+    pub fn new() -> Self
         ensures { result ≡ [] }
     {
-        UnitCode {
-            words: [0; 20],
+        WordList {
+            words: [0; N],
             count: 0,
         }
     }
 
-    pub(crate) fn push(&mut self, word: u32)
-        requires { length self.old < 20 }
+    /// Whether there is room for no more.
+    pub fn is_full(&self) -> bool
+        ensures { result ≡ (length self.now == N) }
+    {
+        self.count == N
+    }
+
+    /// Puts a word at the end.
+    pub fn push(&mut self, word: u32)
+        requires { length self.old < N }
         ensures { self.new ≡ self.old ++ word ∷ [] }
     {
         self.words[self.count] = word;
         self.count += 1;
     }
 
-    pub(crate) fn as_slice(&self) -> &[u32]
+    /// The words, lent.
+    pub fn as_slice(&self) -> &[u32]
         ensures { result.now ≡ self.now }
     {
         &self.words[..self.count]
     }
 
-    /// Adds the words of instructions.
+    /// Puts the words of instructions at the end.
     pub(crate) fn put(&mut self, instrs: &[Instr])
-        requires { length self.old + length instrs.now ≤ 20 }
+        requires { length self.old + length instrs.now ≤ N }
         ensures { self.new ≡ self.old ++ map code_of instrs.now }
     {
         for instr in instrs {

@@ -1,7 +1,7 @@
 -- The prologue stands in the loaded image, with the entry that its call has.
 use Rattle.std.proofs.Common.{◌≡◌, ℕ, zero, suc, ◌+◌, ◌-◌, ◌*◌, ◌/◌, ◌%◌, ◌^◌, ◌<◌, inl, inr, Bool, true, false, List, refl, sym, ap, subst, ◌∙◌, Option, Some, None, arith, lit≤, lit<}
 use Rattle.std.specs.Prelude.{slice_get, slice_index, ◌==◌, not}
-use Rattle.std.proofs.lemmas.Bool.{cases_lt, cases_eq, eqb-true, le-leb, lt-ltb, le-ltb, ne_eqb}
+use Rattle.std.proofs.lemmas.Bool.{cases_eq, eqb-true, le-leb, ne_eqb}
 use Rattle.std.proofs.lemmas.Option.{slice_get_within}
 use Rattle.rv_word.specs.Image.{Contents}
 use Rattle.rv_word.specs.Layout.{CODE_START, version_1, OPENING_CALL}
@@ -15,20 +15,13 @@ use Rattle.cfi_unit.specs.Prologue.{prologue_instrs}
 use Rattle.cfi_unit.specs.Recognise.{led_to}
 use Rattle.cfi_unit.specs.Stand.{Stand}
 use Rattle.cfi_unit.specs.UnitWords.{Reaches, jump_offset}
+use Rattle.cfi_unit.proofs.LedBack.{led_back}
 use Rattle.cfi_verify.specs.Split.{code_words, entry_of}
 use Rattle.cfi_verify.specs.Rules.{prologue_words, prologue_word_fits, is_link, fails_prologue}
 use Rattle.cfi_verify.specs.Laws.{AreBytes}
 use Rattle.cfi_verify.proofs.Bytes.{code_word, loaded_word}
 use Rattle.cfi_verify.proofs.InRange.{each_instr, prologue_in_range}
 use Rattle.cfi_verify.proofs.Standing.{fetched}
-
--- the offset of a jump that is near is the field that leads there
-pub offset_back : (at imm : ℕ) → at < 2 ^ 32 → imm < 2 ^ 20 → jump_offset at (led_to at imm) ≡ imm
-offset_back at imm low small =
-    elim (cases_lt (imm * 2 % 2 ^ 21) (2 ^ 20)) [
-      | inl positive ↦ rw (lt-ltb (imm * 2 % 2 ^ 21) (2 ^ 20) positive) (omega arith)
-      | inr negative ↦ rw (le-ltb (imm * 2 % 2 ^ 21) (2 ^ 20) negative) (omega arith)
-    ]
 
 -- all words of the prologue but the call's jump are the same for each entry
 pub word_at : (entry k : ℕ) (i : Instr) → (k ≡ 13 → ⊥) → slice_get (prologue_instrs entry) k ≡ Some i → slice_index prologue_words k ≡ code_of i
@@ -106,7 +99,7 @@ module _ (image : Contents) (bytes : AreBytes image) (holds : (a : ℕ) → fail
 
   call_word : (i : Instr) → slice_get (prologue_instrs the_entry) 13 ≡ Some i → decoded (read 4 (loaded image) (CODE_START + 4 * 13)) ≡ Some i
   call_word i e =
-      let back : jump_offset OPENING_CALL the_entry ≡ entry_imm.0 = offset_back OPENING_CALL entry_imm.0 (lit< tt) entry_small in
+      let back : jump_offset OPENING_CALL the_entry ≡ entry_imm.0 = led_back OPENING_CALL entry_imm.0 (lit< tt) entry_small in
       let here : decoded (read 4 (loaded image) (CODE_START + 4 * 13)) ≡ Some (Jal 1 entry_imm.0) = ap decoded (loaded_word image 13 entry_word.0 entry_word.1) ∙ entry_imm.1 in
       here ∙ ap (λ n. Some (Jal 1 n)) (sym back) ∙ e
 
@@ -115,7 +108,7 @@ module _ (image : Contents) (bytes : AreBytes image) (holds : (a : ℕ) → fail
     the_entry,
     record {
       is = rw (entry_word.1, entry_imm.1) refl;
-      reaches = ap (λ n. led_to OPENING_CALL n) (offset_back OPENING_CALL entry_imm.0 (lit< tt) entry_small);
+      reaches = ap (λ n. led_to OPENING_CALL n) (led_back OPENING_CALL entry_imm.0 (lit< tt) entry_small);
       stands = record {
         round = refl;
         low = lit≤ tt;

@@ -3,9 +3,11 @@ ghost use Rattle.rv_word.specs.Layout.{CODE_SIZE, CODE_START};
 ghost use Rattle.cfi_unit.specs.Recognise.{recognised};
 ghost use Rattle.cfi_verify.specs.Split.{code_words};
 
-use crate::window::Window;
-use cfi_unit::{Unit, recognise};
+use cfi_unit::{Unit, WordList, recognise};
 use rv_word::memory_map::CODE_START;
+
+/// The first words of some: as many as the longest unit has, and one more.
+type Window = WordList<21>;
 
 /// The unit that begins the words of a code at an address.
 pub(crate) fn unit_of(code: &[u8], address: u64) -> Option<Unit>

@@ -23,4 +23,3 @@ mod rules;
 mod scan;
 mod starts;
 mod verifier;
-mod window;

@@ -1,10 +1,9 @@
 -- How a program is placed at a legal map.
-use Rattle.std.proofs.Common.{◌≡◌, ℕ, zero, suc, ◌+◌, ◌^◌, ◌%◌, ◌<◌, ◌≤◌, ◌==◌, nat_lt, nat_le, true, List, [], ◌∷◌, ◌++◌, length, get_or, map, drop, drop-cons, Some, refl, sym, ap, subst, ◌∙◌, arith, add-one, append_assoc}
+use Rattle.std.proofs.Common.{◌≡◌, ℕ, zero, suc, ◌+◌, ◌^◌, ◌%◌, ◌<◌, ◌==◌, nat_lt, nat_le, true, List, [], ◌∷◌, length, map, Some, refl, sym, ap, subst, ◌∙◌, arith}
 use Rattle.std.specs.Prelude.{◌&&◌, slice_index}
 use Rattle.std.specs.List.{list_all}
 use Rattle.std.specs.List.Sorted.{IsStrictlyIncreasing}
 use Rattle.std.proofs.lemmas.Bool.{and_parts, ltb-true}
-use Rattle.std.proofs.lemmas.List.{append-nil, drop_all}
 use Rattle.rv_word.specs.Layout.{CODE_SIZE, CODE_START, UNITS_START}
 use Rattle.cfi_graph.specs.declared.map.MapLine.{MapLine}
 use Rattle.cfi_graph.specs.Graph.{is_rising}
@@ -12,34 +11,10 @@ use Rattle.cfi_graph.specs.Map.{IsMap, is_gate, map_line_below, map_line_in_rang
 use Rattle.obj_program.specs.Program.{Program, count}
 use Rattle.cfi_flow.specs.Closed.{ClosedGraph}
 use Rattle.cfi_flow.specs.LegalMap.{IsLegalMap, gates_of}
-use Rattle.cfi_flow.specs.Placement.{gate_size, words_from}
+use Rattle.cfi_flow.specs.Placement.{words_from}
 use Rattle.src_machine.specs.Placed.{AreRead, IsPlaced, instr_in}
 use Rattle.src_machine.specs.ProgramAt.{EndsLast, layout_of}
-use Rattle.src_machine.proofs.LegalGates.{counted}
-
-drop_step : {X : Type 0} (xs : List X) (k : ℕ) (d : X) → k < length xs → drop k xs ≡ get_or xs k d ∷ drop (k + 1) xs
-drop_step xs k d lt = rw (add-one, drop-cons xs k d) refl
-
-pub words_more : (classes : List (List ℕ)) (k : ℕ) (gates made all : List ℕ) (word : ℕ) → k < length gates →
-    word ≡ get_or gates k 0 + gate_size classes k →
-    made ++ words_from classes k (drop k gates) ≡ all → (made ++ word ∷ []) ++ words_from classes (k + 1) (drop (k + 1) gates) ≡ all
-unfolding words_from
-words_more classes k gates made all word lt is so_far = rw (append_assoc, is) (rw (drop_step gates k 0 lt) at so_far)
-
-pub words_end : (classes : List (List ℕ)) (k : ℕ) (gates made all : List ℕ) → length gates ≤ k →
-    made ++ words_from classes k (drop k gates) ≡ all → made ≡ all
-unfolding words_from
-words_end classes k gates made all past so_far = sym (append-nil made) ∙ (rw (drop_all k gates past) at so_far)
-
-pub length_words : (classes : List (List ℕ)) (k : ℕ) (gates : List ℕ) → length (words_from classes k gates) ≡ length gates
-unfolding words_from
-length_words classes k [] = refl
-length_words classes k (gate ∷ gates) = let e = length_words classes (k + 1) gates in omega arith
-
-words_counted : (classes : List (List ℕ)) (k : ℕ) (gates : List ℕ) → length (words_from classes k gates) ≡ length gates
-unfolding words_from
-words_counted classes k [] = refl
-words_counted classes k (gate ∷ gates) = ap suc (words_counted classes (k + 1) gates)
+use Rattle.cfi_flow.proofs.Placing.{as_many_gates, as_many_words}
 
 -- a gate of a map lies in code
 gate_small : (line : MapLine) → map_line_in_range line ≡ true → line.gate < 2 ^ 32
@@ -74,10 +49,10 @@ rise_all (line ∷ next ∷ lines) order (suc k) below =
 module _ (program : Program) (closed : ClosedGraph) (lines : List MapLine) (map : IsMap lines) (legal : IsLegalMap program closed lines)
     (gates : List ℕ) (are : gates ≡ gates_of lines) where
   pub gates_counted : length gates ≡ count program
-  gates_counted = ap length are ∙ counted closed.classes legal.gates.0 0 UNITS_START program.items (gates_of lines) legal.gates.1
+  gates_counted = ap length are ∙ as_many_gates closed.classes legal.gates.0 0 UNITS_START program.items (gates_of lines) legal.gates.1
 
   pub words_there : (words : List ℕ) → words ≡ words_from closed.classes 0 gates → length words ≡ count program
-  words_there words is = ap length is ∙ words_counted closed.classes 0 gates ∙ gates_counted
+  words_there words is = ap length is ∙ as_many_words closed.classes 0 gates ∙ gates_counted
 
   pub is_placed : (entry : ℕ) (gs ws code : List ℕ) → EndsLast program → entry < count program → gs ≡ gates → ws ≡ words_from closed.classes 0 gates →
       AreRead program gs ws (count program) code → IsPlaced (layout_of program closed gates entry) code

@@ -1,29 +1,12 @@
 -- Gates that rise: a place is found by its gate, behind those of lesser ones.
-use Rattle.std.proofs.Common.{◌≡◌, ◌==◌, ℕ, zero, suc, ◌+◌, ◌<◌, ◌≤◌, nat_lt, Bool, true, false, List, length, Some, None, inl, inr, refl, sym, subst, arith}
-use Rattle.std.specs.Prelude.{is_some, slice_index}
-use Rattle.std.specs.List.{list_any, position, position_or_len}
+use Rattle.std.proofs.Common.{◌≡◌, ◌==◌, ℕ, zero, suc, ◌+◌, ◌<◌, ◌≤◌, nat_lt, true, false, List, length, Some, None, inl, inr, refl, sym, subst, arith}
+use Rattle.std.specs.Prelude.{slice_index}
 use Rattle.std.specs.List.Sorted.{IsPartitionedBy, IsStrictlyIncreasing}
 use Rattle.std.proofs.lemmas.Bool.{cases_eq, cases_lt, eqb-true, false_from_ne_true, lt-ltb, ltb-true, le-ltb}
 use Rattle.std.proofs.lemmas.List.{get_or_default}
-use Rattle.std.proofs.lemmas.List.Folds.{list_any_at, list_any_none}
 use Rattle.std.proofs.lemmas.List.Quantifiers.{position-Some}
-use Rattle.std.proofs.lemmas.List.Sums.{fails_before_first, position_or_len_is}
-use Rattle.rv_word.proofs.Cases.{cases_Option}
+use Rattle.std.proofs.lemmas.List.Sums.{position_or_len_is}
 use Rattle.cfi_flow.specs.Untame.{place_with_gate}
-
--- there is a first that meets a test where there is any
-pub some_is_any : {X : Type 0} (p : X → Bool) (xs : List X) (d : X) → is_some (position p xs) ≡ list_any p xs
-some_is_any p xs d = elim (cases_Option (position p xs)) [
-  | inr (j, some) ↦
-      let at = position-Some p xs j d some in
-      rw some (sym (list_any_at p xs j d at.0 at.1))
-  | inl none ↦
-      let past : length xs ≤ position_or_len p xs = elim (cases_lt (position_or_len p xs) (length xs)) [
-        | inl less ↦ let no : Some (position_or_len p xs) ≡ None = rw (lt-ltb _ _ less) at none in absurd (cc)
-        | inr more ↦ more
-      ] in
-      rw none (sym (list_any_none p xs (λ i e inside. fails_before_first p xs i e (omega arith))))
-]
 
 pub rises : (gates : List ℕ) → IsStrictlyIncreasing gates → (i j : ℕ) → i < j → j < length gates → slice_index gates i < slice_index gates j
 rises gates rising i zero less below = absurd (omega arith)

@@ -1,5 +1,5 @@
 -- The gates of a placement by their places: the first stands where units begin, and each next one behind the unit before it.
-use Rattle.std.proofs.Common.{◌≡◌, ◌==◌, ℕ, zero, suc, ◌+◌, ◌<◌, Bool, true, false, List, [], ◌∷◌, length, map, get_or, inl, inr, refl, sym, ap, subst, ◌∙◌, arith}
+use Rattle.std.proofs.Common.{◌≡◌, ◌==◌, ℕ, zero, suc, ◌+◌, ◌<◌, Bool, true, false, List, [], ◌∷◌, length, map, get_or, inl, inr, sym, subst, ◌∙◌, arith}
 use Rattle.std.specs.Prelude.{slice_index}
 use Rattle.std.specs.List.{range_with_len}
 use Rattle.std.proofs.lemmas.Bool.{eqb-true, eq-eqb, or_cases, or_left, or_right}
@@ -13,14 +13,6 @@ use Rattle.src_machine.specs.MapLine.{follows}
 -- the kind of a place
 abbrev pub kind_in : List Item → ℕ → ItemKind
 kind_in items i = (get_or items i no_item).kind
-
-pub counted : (classes : List (List ℕ)) (long : List Bool) (k at : ℕ) (items : List Item) (gates : List ℕ)
-    → AreGates classes long k at items gates → length gates ≡ length items
-unfolding AreGates
-counted classes long k at [] [] are = refl
-counted classes long k at [] (gate ∷ gates) are = absurd are
-counted classes long k at (item ∷ items) [] are = absurd are
-counted classes long k at (item ∷ items) (gate ∷ gates) are = ap suc (counted classes long (k + 1) _ items gates are.1)
 
 pub first_gate : (classes : List (List ℕ)) (long : List Bool) (k at : ℕ) (items : List Item) (gates : List ℕ)
     → AreGates classes long k at items gates → 0 < length gates → slice_index gates 0 ≡ at

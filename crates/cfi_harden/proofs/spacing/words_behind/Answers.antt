@@ -1,5 +1,5 @@
 use Rattle.std.proofs.Common.{◌+◌, get_or, ap, ◌∙◌}
-use Rattle.cfi_harden.proofs.PartSizes.{words_end, words_more}
+use Rattle.cfi_flow.proofs.Placing.{words_end, words_more}
 use Rattle.cfi_harden.proofs.spacing.words_behind.Goals as goal
 
 pub loop-k-preserved : goal.loop-k-preserved

@@ -1,7 +1,7 @@
 use Rattle.std.proofs.Common.{[], refl, sym, ap, ◌∙◌}
 use Rattle.std.specs.Option.{is_some}
 use Rattle.cfi_flow.specs.Closed.{has}
-use Rattle.src_machine.proofs.Gates.{some_is_any}
+use Rattle.cfi_flow.proofs.Placing.{some_is_any}
 use Rattle.src_machine.proofs.placed.gate_size.Goals as goal
 
 pub returns-then-is_some : goal.returns-then-is_some
