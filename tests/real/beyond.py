@@ -8,9 +8,9 @@ write onto the shadow stack by `read`; no script can see that.
 import os
 
 import programs
+from pitfalls import MACHINE
 from programs import Hardened
 
-MACHINE = ["-march=rv64i", "-mabi=lp64"]
 ASKS = ["command", "shadow"]
 LEFT = 42
 

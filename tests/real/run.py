@@ -26,6 +26,7 @@ import tempfile
 sys.dont_write_bytecode = True
 
 import beyond
+import pitfalls
 import programs
 import refusals
 from attack import ATTACKS
@@ -127,7 +128,7 @@ def try_all(found, tool, folder):
     """The lines of all cases and of the refusals, and how many of what was asked passed."""
     cases = try_cases(found, tool, folder)
     lines, passed = [line for case in cases for line in case.lines], sum(case.passed for case in cases)
-    for failed, asked in (refusals.tried(tool, folder, found), beyond.tried(tool, folder)):
+    for failed, asked in (refusals.tried(tool, folder, found), pitfalls.tried(tool, folder, found), beyond.tried(tool, folder)):
         lines, passed = lines + failed, passed + asked - len(failed)
     return lines, passed
 
