@@ -3,7 +3,7 @@
 
 typedef unsigned long word;
 
-long __muldi3(long a, long b)
+__attribute__((weak)) long __muldi3(long a, long b)
 {
     word sum = 0;
     for (word x = (word)a, y = (word)b; y; x <<= 1, y >>= 1)

@@ -12,7 +12,7 @@ from typing import NamedTuple
 
 HERE = os.path.dirname(os.path.abspath(__file__))
 PROGRAM = os.path.join(HERE, "..", "..", "crates", "rvcfi", "out", "rvcfi")
-FOR_QEMU = os.path.join(HERE, "..", "..", "docs", "tutorial", "for_qemu.py")
+QEMU_SCRIPT = [sys.executable, os.path.join(HERE, "..", "..", "docs", "tutorial", "for_qemu.py")]
 LEVELS = ["-O0", "-O1", "-O2", "-O3", "-Os"]
 ENTRY = "_start"
 STEPS = "100000000"
@@ -149,7 +149,7 @@ def addresses_run(path, given):
 def for_qemu(image):
     """Makes the file for qemu's user mode of an image, and answers its path."""
     path = image.replace(".img", ".qemu")
-    must([sys.executable, FOR_QEMU, image, path])
+    must(QEMU_SCRIPT + [image, path])
     return path
 
 

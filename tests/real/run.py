@@ -7,7 +7,8 @@ Each program is compiled by gcc and by clang at -O0, -O1, -O2, -O3 and -Os, and 
 and its status must be those of the same files compiled for the host, also under qemu-riscv64 (the plain program, and the
 hardened image) and in the machine; the steps of the hardened image must be those that qemu counts. `visitors` is attacked
 twice: the plain program must open the door, the hardened one must end in the named handler. One line a case has the steps
-and the bytes of code, plain and hardened. Then objects that are refused must be refused as docs/COMPILING.md says.
+and the bytes of code, plain and hardened. Then objects that are refused must be refused as docs/COMPILING.md says, and images
+that qemu's user mode does not confine must end as docs/MACHINE.md says.
 
 The program is crates/rvcfi/out/rvcfi where none is named, as `rt ci` or `rt run` leaves it. It needs Python 3.9, Linux and
 what docs/COMPILING.md lists. Where a tool is missing, what it is for is told as not run. The last line counts what was
@@ -24,6 +25,8 @@ import tempfile
 
 sys.dont_write_bytecode = True
 
+import beyond
+import pitfalls
 import programs
 import refusals
 from attack import ATTACKS
@@ -124,9 +127,10 @@ def try_cases(found, tool, folder):
 def try_all(found, tool, folder):
     """The lines of all cases and of the refusals, and how many of what was asked passed."""
     cases = try_cases(found, tool, folder)
-    failed, rows = refusals.tried(tool, folder, found)
-    lines = [line for case in cases for line in case.lines]
-    return lines + failed, sum(case.passed for case in cases) + rows - len(failed)
+    lines, passed = [line for case in cases for line in case.lines], sum(case.passed for case in cases)
+    for failed, asked in (refusals.tried(tool, folder, found), pitfalls.tried(tool, folder, found), beyond.tried(tool, folder)):
+        lines, passed = lines + failed, passed + asked - len(failed)
+    return lines, passed
 
 
 def main():

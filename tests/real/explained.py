@@ -1,0 +1,225 @@
+#!/usr/bin/env python3
+"""Asks tools/explain.py of refusals, policies, an exploit, tables and images, and compares what it tells with other tools.
+
+    python3 tests/real/explained.py [--program PATH]
+
+The program is crates/rvcfi/out/rvcfi where none is named, as `rt ci` or `rt run` leaves it. It needs Python 3.9, Linux,
+pyelftools, and gcc and binutils for RISC-V; where one of these is missing nothing is run, and it says so. What is looked for
+is known from the sources, or is what readelf, nm and rvcfi's own files have. The last line counts what was asked, and the
+status is 1 where one failed.
+"""
+
+import argparse
+import os
+import re
+import subprocess
+import sys
+import tempfile
+
+sys.dont_write_bytecode = True
+
+import programs
+from attack import ATTACKS
+from pitfalls import CHANCES, MACHINE, Bench, policy_of
+from programs import Hardened, Missing
+from refusals import PLAIN, compiled
+
+TOOL = os.path.join(programs.HERE, "..", "..", "tools", "explain.py")
+CALLS = "int f(void), g(void); extern int n; int h(void) { return g(); } int main(void) { return f() + h() + n; }"
+
+
+def python_with_elftools():
+    """A Python that has pyelftools: this one, or the system's, to which Debian's package adds it."""
+    for python in (sys.executable, "/usr/bin/python3"):
+        if os.access(python, os.X_OK) and not programs.run([python, "-c", "import elftools"]).returncode:
+            return python
+    raise Missing("pyelftools (apt-get install python3-pyelftools)")
+
+
+class Asked:
+    """The script's answers, and what of them was looked for in vain."""
+
+    def __init__(self, tool, folder):
+        self.python = python_with_elftools()
+        self.compiler = programs.gcc()
+        self.bench = Bench(tool, folder, self.compiler)
+        self.tool, self.folder, self.count, self.failed = tool, folder, 0, []
+
+    def told(self, *words, given=b""):
+        done = programs.run([self.python, TOOL] + list(words), given)
+        if done.returncode:
+            return "status %d: %s" % (done.returncode, done.stderr.decode())
+        return done.stdout.decode()
+
+    def has(self, what, text, *wanted):
+        for part in wanted:
+            self.same("%s has %r" % (what, part), part in text, True, text)
+
+    def same(self, what, got, wanted, text=""):
+        self.count += 1
+        if got != wanted:
+            self.failed.append("FAILED explained, %s: %.300r, not %.300r\n%s" % (what, got, wanted, text))
+
+    def source(self, text, *more, without=()):
+        """The object of a source in C."""
+        return compiled(self.bench.compiler, text, without, list(more), self.bench.new(".o"))
+
+    def refusal(self, path, *wanted, entry="main", policy="none"):
+        files = [path + end for end in (".img", ".graph", ".map")]
+        answer = self.bench.asked.answer("rewrite", path, entry, policy, *files)
+        more = ["--policy", policy] if policy != "none" else []
+        self.has(answer.strip(), self.told("refusal", path, *more, given=answer.encode()), answer.strip(), "What to do: ", *wanted)
+
+
+def of_refusals(asked):
+    """Ten objects that are refused, and a file that is none."""
+    product = asked.source("int main(int n, char **words) { return n * **words; }")
+    asked.refusal(asked.source(PLAIN, without=MACHINE), "compressed instructions", "registers for double")
+    asked.refusal(asked.bench.case("macros.c", ["-g3"]), "of type GROUP", "The group is that of " + group_name(asked))
+    asked.refusal(asked.bench.case("anchors.c"), ".LANCHOR1", "at 1000", "past the end of .rodata")
+    asked.refusal(asked.source("int main(void) { long t; __asm__ volatile(\"rdcycle %0\" : \"=r\"(t)); return t; }"), ": main+0", "rdcycle")
+    asked.refusal(asked.bench.case("aligned.c", ["-falign-functions=16"]), "a zero word")
+    asked.refusal(asked.source("int main(void) { __asm__(\"mv t6, a0\"); return 0; }"), ": main+0", "x31 (t6)", "mv t6,a0")
+    asked.refusal(asked.source("int g(int); int main(void) { return g(g(3)) + 1; }", "-msave-restore"), ": main+0", "__riscv_save_0")
+    asked.refusal(asked.source("extern int q; int main(void) { return q; }", "-fpic", without=["-fno-pic"]), "It completes main+0", "GOT_HI20 q")
+    asked.refusal(product, "__muldi3 (symbol", "Undefined are 1 in all", "main+")
+    asked.refusal(asked.source(PLAIN + " char *p = (char *)main + 2;"), "It points to main+2", "In .sdata")
+    asked.refusal(asked.source(PLAIN), "Functions that all files see: main.", entry="start")
+    asked.refusal(asked.source("char a[268000000]; int main(void) { return a[5]; }"), "268000000 bytes  a")
+    asked.refusal(programs.source("memory.c"), "cannot be read")
+    asked.has("no refusal", asked.told("refusal", product, given=b"rewritten code 1"), "Nothing was refused")
+
+
+def group_name(asked):
+    lines = programs.must([programs.binutils("readelf"), "-gW", asked.bench.case("macros.c", ["-g3"])]).decode()
+    return re.search(r"COMDAT group section .* \[(\S+)\]", lines).group(1)
+
+
+def of_undefined(asked):
+    """All undefined names, as nm lists them."""
+    path = asked.source(CALLS)
+    names = programs.must([programs.binutils("nm"), "-u", path]).decode().split()[1::2]
+    asked.refusal(path, "Undefined are %d in all" % len(names), *("    %s " % name for name in names))
+
+
+def of_policies(asked):
+    """The lines of three policies that change nothing, and a line that does."""
+    path = asked.bench.case("chances.c", ["-fno-inline"])
+    apart = CHANCES[0].replace("add+0 take+0 ", ""), CHANCES[1]
+    rows = [("the second alone", CHANCES[1:], {2}, "by_wide+"), ("both", CHANCES, {2, 3}, "those of other lines"),
+            ("all that it reaches", [CHANCES[0]], {2}, "all that the site reaches anyway"), ("two that share nothing", apart, set(), "")]
+    for number, (what, lines, idle, why) in enumerate(rows):
+        policy = policy_of(asked.bench, path, list(lines))
+        os.rename(policy, policy + str(number))
+        files = [path + end for end in (".img", ".graph", ".map")]
+        asked.bench.asked.answer("rewrite", path, "main", policy + str(number), *files)
+        text = asked.told("graph", path, files[1], files[2], "--policy", policy + str(number))
+        found = {int(found) for found in re.findall(r"line (\d+) of the policy changes nothing", text)}
+        asked.same("a policy, " + what, found, idle, text)
+        asked.has("a policy, " + what, text, *([why] if why else []))
+        asked.same("a policy's classes, " + what, "not the classes" in text, False, text)
+    asked.has("another policy", asked.told("graph", path, files[1], files[2]), "These are not the classes")
+
+
+def of_names(asked):
+    """An entry that is a static function, while a global one of its name is there."""
+    path = asked.bench.joined(asked.bench.case("second_name.c"), asked.bench.case("first_name.c"))
+    files = [path + end for end in (".img", ".graph", ".map")]
+    asked.bench.asked.answer("rewrite", path, "begin", "none", *files)
+    text = asked.told("graph", path, files[1], files[2], "--entry", "begin")
+    asked.has("an entry", text, "the name begin stands for a static symbol, while a global one of that name is there")
+    asked.same("no such name", "stands for" in asked.told("graph", path, files[1], files[2], "--entry", "kept"), False)
+
+
+def hardened_programs(asked):
+    """The programs of this folder at -O2, hardened."""
+    for program in programs.PROGRAMS:
+        yield program, Hardened(asked.tool, programs.joined(asked.compiler, "-O2", program, asked.folder))
+
+
+def of_exploit(asked, made):
+    """The exploits of docs/TUTORIAL.md: the site that failed, in names."""
+    wanted = {"return": ["in __cfi_bad_return: what failed is take_message+", "ret"],
+              "pointer": ["in __cfi_bad_target: what failed is main+", "computed call of class 00001", "may go to: greet_politely, greet_briefly."]}
+    for attack, parts in wanted.items():
+        given = made.input_file(ATTACKS[attack](made.gate("open_door")))
+        report = made.asked(["run", made.image, made.graph, "none", given, programs.STEPS])[1]
+        asked.has(attack, asked.told("report", made.object, made.graph, made.map, given=report), *parts)
+        untame = made.asked(["compare", made.object, "_start", "none", made.image, made.map, given, programs.STEPS])[1]
+        asked.has(attack + ", compared", asked.told("report", made.object, made.graph, made.map, given=untame),
+                  "own run leaves", "take_message+" if attack == "return" else "main+")
+
+
+def of_system_calls(asked, made):
+    """Who calls the system, by what start.s has."""
+    text = asked.told("graph", made.object, made.graph, made.map)
+    asked.has("system calls", text, "ecall: 4 (_start 1, leave 1, read_input 1, write_output 1)", "ebreak: 2 (_start 1, leave 1)")
+    lines = asked.told("graph", made.object, made.graph, made.map, "--dot").splitlines()
+    for line in ('    "main" -> "take_message";', '    "the opening" -> "_start";', '    "class 00001" -> "greet_briefly" [style=bold];',
+                 '    "main" -> "class 00001" [style=bold, label=call];'):
+        asked.same("a line for Graphviz", line in lines, True, "\n".join(lines))
+
+
+def of_tables(asked):
+    """Labels and functions in one class: the labels of the table and the functions of the other."""
+    path = asked.bench.case("tables.c", ["-fno-gcse"])
+    asked.same("tables", asked.bench.ends(path), asked.bench.host("tables.c"))
+    text = asked.told("graph", path, path + ".graph", path + ".map")
+    asked.has("tables", text, "class 00001: 9 targets (3 functions, 6 labels)", "negate", "half", "next", "label          interpreted+")
+    asked.same("tables' classes", "not the classes" in text, False, text)
+
+
+def of_image(asked, program, made):
+    """The units of an image, and the lines of its graph."""
+    listing = asked.told("image", made.object, made.image, made.graph, made.map)
+    graph = [line.split() for line in open(made.graph)]
+    units = re.findall(r"^([0-9a-f]{8})  (\S+(?: \S+)*)  ", listing, re.M)
+    kinds = {"computed call": "site", "computed jump": "site", "branch": "edge", "near branch": "edge", "jump": "edge", "call": "call",
+             "opening": "call"}
+    for kind in ("site", "edge", "call"):
+        found = [address for address, unit in units if kinds.get(unit) == kind]
+        asked.same("%s, %s" % (program.name, kind), found, [line[1] for line in graph if line[0] == kind])
+    gates = {address for address, unit in units if unit == "gate"}
+    asked.same(program.name + ", gates", gates, {target for line in graph if line[0] == "class" for target in line[2:]})
+    text = asked.told("graph", made.object, made.graph, made.map)
+    asked.same(program.name + ", classes", "not the classes" in text or text.startswith("status"), False, text)
+
+
+def of_missing(asked):
+    """Where pyelftools is missing, how to get it."""
+    done = subprocess.run([sys.executable, "-I", "-S", TOOL, "graph"], stdout=subprocess.PIPE, stderr=subprocess.PIPE, check=False)
+    asked.same("no pyelftools", (done.returncode, b"apt-get install python3-pyelftools" in done.stderr), (1, True))
+
+
+def try_all(asked):
+    for part in (of_refusals, of_undefined, of_policies, of_names, of_tables, of_missing):
+        part(asked)
+    for program, made in hardened_programs(asked):
+        of_image(asked, program, made)
+        if program.name == "visitors":
+            of_exploit(asked, made)
+            of_system_calls(asked, made)
+
+
+def main():
+    words = argparse.ArgumentParser(description=__doc__, formatter_class=argparse.RawDescriptionHelpFormatter)
+    words.add_argument("--program", default=programs.PROGRAM)
+    options = words.parse_args()
+    if not os.access(options.program, os.X_OK):
+        print("%s is not there: cd crates/rvcfi && rt run -- verify data/a.img data/a.graph" % options.program)
+        return 1
+    with tempfile.TemporaryDirectory() as folder:
+        try:
+            programs.binutils("objdump")
+            programs.tool("gcc", "cc", "clang")
+            asked = Asked(os.path.abspath(options.program), folder)
+        except Missing as what:
+            print("not run, since there is no %s: tests/real/explained.py" % what)
+            return 0
+        try_all(asked)
+    print("\n".join(asked.failed + ["%d passed, %d failed" % (asked.count - len(asked.failed), len(asked.failed))]))
+    return 1 if asked.failed else 0
+
+
+if __name__ == "__main__":
+    sys.exit(main())

@@ -1,0 +1,109 @@
+#!/usr/bin/env python3
+"""Tells in names what rvcfi tells in numbers: refusals, graphs, images and the reports of runs.
+
+    rvcfi rewrite program.o ..  | python3 tools/explain.py refusal program.o
+    python3 tools/explain.py graph program.o program.graph program.map
+    python3 tools/explain.py image program.o program.img program.graph program.map
+    rvcfi run program.img .. | python3 tools/explain.py report program.o program.graph program.map
+
+It needs Python 3.9 and pyelftools (`apt-get install python3-pyelftools`), and prints instructions where objdump for RISC-V
+is there. Nothing of it is trusted, and what it prints proves nothing: `rvcfi verify` alone says whether an image is safe.
+Offsets in functions are hexadecimal, as a policy has them.
+"""
+
+import argparse
+import os
+import sys
+
+sys.dont_write_bytecode = True
+
+MISSING = """explain.py needs pyelftools: apt-get install python3-pyelftools (and then /usr/bin/python3), or python3 -m pip install
+pyelftools."""
+
+try:
+    from elftools.common.exceptions import ELFError
+except ImportError:
+    sys.exit(MISSING)
+
+from explain import dot, image, report
+from explain.disassembly import Disassembly
+from explain.elf import Object
+from explain.graph import Named
+from explain.refusal import Refusal
+from explain.texts import Graph, Map, Wrong, image_code
+
+
+def words_of_command():
+    words = argparse.ArgumentParser(description=__doc__, formatter_class=argparse.RawDescriptionHelpFormatter)
+    commands = words.add_subparsers(dest="command", required=True, metavar="refusal|graph|image|report")
+    command(commands, "refusal", "reads a refusal on standard input", ["OBJECT"]).add_argument("--policy")
+    graph = command(commands, "graph", "tells classes, sites and system calls by function", ["OBJECT", "GRAPH", "MAP"])
+    graph.add_argument("--entry", help="the entry's name, to see what it stands for")
+    graph.add_argument("--policy", help="the policy that the graph was made with")
+    graph.add_argument("--dot", action="store_true", help="prints a file for Graphviz in place of a text")
+    command(commands, "image", "lists the units of an image", ["OBJECT", "IMAGE", "GRAPH", "MAP"])
+    command(commands, "report", "reads what run, verify or compare printed on standard input", ["OBJECT", "GRAPH", "MAP"])
+    return words.parse_args()
+
+
+def command(commands, name, text, files):
+    made = commands.add_parser(name, help=text, description=text)
+    for file in files:
+        made.add_argument(file.lower(), metavar=file)
+    return made
+
+
+def object_of(path):
+    """An object, with a word of help where it cannot be read."""
+    try:
+        return Object(path)
+    except (ELFError, ValueError, KeyError, IndexError, TypeError, AttributeError) as fault:
+        raise Wrong("%s cannot be read as an object by pyelftools: %s" % (path, fault or type(fault).__name__)) from fault
+
+
+def refusal_lines(options):
+    words = sys.stdin.read().split()
+    if len(words) < 2 or words[0] != "refused" or not words[1].isdigit():
+        return ["Nothing was refused: " + (" ".join(words[:8]) or "there is no answer")]
+    try:
+        read = object_of(options.object)
+    except Wrong as wrong:
+        return refusal_alone(words, wrong)
+    return Refusal(words, read, Disassembly(options.object, read.names_of_code()), options.policy).lines()
+
+
+def refusal_alone(words, wrong):
+    """What is told of a refusal where the object cannot be read."""
+    refusal = Refusal(words, None, None, None)
+    return [refusal.heading(), str(wrong)] + list(refusal.told())
+
+
+def named_of(options):
+    return Named(object_of(options.object), Graph(options.graph), Map(options.map))
+
+
+def lines_of(options):
+    if options.command == "refusal":
+        return refusal_lines(options)
+    named = named_of(options)
+    if options.command == "graph":
+        return dot.lines(named) if options.dot else named.lines(options.entry, options.policy)
+    disassembly = Disassembly(options.object, named.read.names_of_code())
+    if options.command == "image":
+        return image.lines(named, disassembly, image_code(options.image))
+    return report.lines(named, disassembly, sys.stdin.buffer.read())
+
+
+def main():
+    options = words_of_command()
+    try:
+        for line in lines_of(options):
+            print(line)
+    except BrokenPipeError:
+        os.dup2(os.open(os.devnull, os.O_WRONLY), sys.stdout.fileno())
+    except (OSError, Wrong) as wrong:
+        sys.exit("explain.py: %s" % wrong)
+
+
+if __name__ == "__main__":
+    main()

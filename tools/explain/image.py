@@ -1,0 +1,39 @@
+"""The code of an image as units, with the object's functions, labels and instructions, and with where each unit goes."""
+
+from explain import units
+
+
+def goes(named, unit):
+    """Where a unit goes, in names."""
+    if unit.target is not None:
+        return "to %08x %s" % (unit.target, named.place(unit.target))
+    if unit.kind == "gate":
+        return "class " + unit.label if unit.label in named.graph.classes else "no class (%s)" % unit.label
+    if unit.label is not None:
+        targets = named.graph.classes.get(unit.label, [])
+        return "class %s: %s" % (unit.label, ", ".join(named.place(target) for target in targets) or "no target")
+    return ""
+
+
+def lines(named, disassembly, words):
+    """A line a unit, and a heading for each function and each label."""
+    place = None
+    for unit in units.split(words):
+        here = named.map.place(unit.address)
+        if here is None:
+            yield "%08x  %-26s %s" % (unit.address, unit.kind, goes(named, unit))
+            continue
+        if here != place:
+            yield from headings(named, here)
+        place = here
+        shown = unit.kind in ("gate", "stop")
+        text = "" if shown else disassembly.text(here, named.read.word_at(here))
+        yield ("%08x  %-14s  %-28s %-34s %s" % (unit.address, unit.kind, named.read.name(here), text, goes(named, unit))).rstrip()
+
+
+def headings(named, place):
+    function = named.read.function(place)
+    if function and function.value == place[1]:
+        yield ""
+    for symbol in named.read.at.get(place, []):
+        yield "%s:" % symbol.name

@@ -1,0 +1,176 @@
+"""A refusal of `rewrite` or `compare` in names: what is meant, where it stands, and what to do."""
+
+from explain import table
+from explain.elf import fields
+from explain.texts import place_words, policy_lines
+
+TYPES = {1: "an object", 2: "a linked program", 3: "a shared or position independent program", 4: "a core dump"}
+MACHINES = {3: "x86", 40: "ARM", 62: "x86-64", 183: "AArch64", 243: "RISC-V"}
+FLAGS = [(0x1, "compressed instructions"), (0x2, "registers for single floating point"), (0x4, "registers for double floating point"),
+         (0x8, "the ABI of 16 registers (RVE)"), (0x10, "total store order")]
+RELOCATIONS = {16: "BRANCH", 17: "JAL", 18: "CALL", 19: "CALL_PLT", 20: "GOT_HI20", 21: "TLS_GOT_HI20", 22: "TLS_GD_HI20",
+               23: "PCREL_HI20", 24: "PCREL_LO12_I", 25: "PCREL_LO12_S", 26: "HI20", 27: "LO12_I", 28: "LO12_S", 29: "TPREL_HI20",
+               30: "TPREL_LO12_I", 31: "TPREL_LO12_S", 32: "TPREL_ADD", 43: "ALIGN", 51: "RELAX", 1: "32", 2: "64", 57: "32_PCREL"}
+RESERVED = {3: "x3 (gp)", 4: "x4 (tp)", 30: "x30 (t5)", 31: "x31 (t6)"}
+AT_PLACES = {9, 10, 11, 12, 13, 14, 16, 21}
+PCREL_LO12 = {24, 25}
+LARGEST = 8
+
+
+class Refusal:
+    """A refusal's number, its name and the numbers behind them, with the files that it is of."""
+
+    def __init__(self, words, read, disassembly, policy):
+        self.number, self.name, self.values = int(words[1]), words[2] if len(words) > 2 else "", words[3:]
+        self.read, self.disassembly, self.policy = read, disassembly, policy
+
+    def heading(self):
+        return "refused %d %s" % (self.number, " ".join([self.name] + self.values))
+
+    def value(self, index):
+        return int(self.values[index]) if index < len(self.values) else 0
+
+    def lines(self):
+        """All that is told, where the object could be read."""
+        yield self.heading()
+        if self.number in AT_PLACES:
+            yield from self.at_place()
+        special = getattr(self, "of_%d" % self.number, None)
+        if special:
+            yield from special()
+        yield from self.told()
+
+    def told(self):
+        """What a refusal means and what to do, of whatever object."""
+        meaning, advice = table.rows().get(self.number, ("not in the table of docs/COMPILING.md", ""))
+        yield "It means: " + meaning
+        yield "What to do: " + advice
+        yield "The first refusal that stands is told: there may be more behind it."
+
+    def at_place(self):
+        place = self.value(0), self.value(1)
+        yield "In %s at offset %x: %s" % (self.read.section_name(place[0]), place[1], self.read.name(place))
+        if self.read.is_code(place[0]):
+            yield "The instruction: " + self.disassembly.text(place, self.read.word_at(place))
+        for row in self.read.at_place(place):
+            yield "A relocation there: %s against %s" % (RELOCATIONS.get(row.kind, row.kind), self.symbol_name(row))
+
+    def symbol_name(self, row):
+        if row.symbol >= len(self.read.symbols):
+            return "symbol %d, which is not in the table" % row.symbol
+        symbol = self.read.symbols[row.symbol]
+        name = symbol.name or (self.read.section_name(symbol.section) if isinstance(symbol.section, int) else "no symbol")
+        return "%s%+d" % (name, row.addend) if row.addend else name
+
+    def of_2(self):
+        yield "The file is %s." % TYPES.get(self.value(0), "of type %d" % self.value(0))
+
+    def of_3(self):
+        yield "The file is for %s." % MACHINES.get(self.value(0), "the processor %d" % self.value(0))
+
+    def of_4(self):
+        yield "It is built for " + ", ".join(text for bit, text in FLAGS if self.value(0) & bit) + "."
+
+    def of_6(self):
+        yield "The table is " + self.read.section_name(self.value(0)) + "."
+
+    def of_7(self):
+        number = self.value(0)
+        if number < len(self.read.headers):
+            header = self.read.headers[number]
+            kind = str(header["sh_type"]).replace("SHT_", "")
+            yield "The section: %s, of type %s, flags %x, %d bytes, aligned at %d." % (
+                self.read.section_name(number), kind, header["sh_flags"], header["sh_size"], header["sh_addralign"])
+            if kind == "GROUP" and header["sh_info"] < len(self.read.symbols):
+                yield "The group is that of %s." % self.read.symbols[header["sh_info"]].name
+
+    def of_8(self):
+        if self.value(0) >= len(self.read.symbols):
+            return
+        symbol = self.read.symbols[self.value(0)]
+        yield "The symbol: %s, of kind %s." % (symbol.told(), symbol.kind.replace("STT_", ""))
+        if isinstance(symbol.section, int):
+            size = self.read.headers[symbol.section]["sh_size"]
+            if symbol.value > size:
+                yield "It stands at %x, past the end of %s, which has %x bytes." % (
+                    symbol.value, self.read.section_name(symbol.section), size)
+
+    def of_9(self):
+        if self.value(2) == 0:
+            yield "It is a zero word: what the assembler fills in behind aligned functions, or data among code."
+
+    def of_10(self):
+        word = self.read.word_at((self.value(0), self.value(1)))
+        if word is not None:
+            named = {fields(word)[1], fields(word)[2], word >> 20 & 31} & set(RESERVED)
+            yield "Of the registers that units keep it may name " + ", ".join(RESERVED[number] for number in sorted(named)) + "."
+
+    def of_12(self):
+        for row in self.read.at_place((self.value(0), self.value(1))):
+            place = self.read.target(row) if row.kind in PCREL_LO12 else None
+            if place:
+                yield "It completes %s: %s" % (self.read.name(place), self.disassembly.text(place, self.read.word_at(place)))
+
+    def of_15(self):
+        if self.value(0) < len(self.read.symbols):
+            yield "The symbol: " + self.read.symbols[self.value(0)].told() + "."
+        uses = self.undefined()
+        yield "Undefined are %d in all, with how often each is named, and where first:" % len(uses)
+        for name, places in uses.items():
+            yield "    %-28s %5d  %s" % (name, len(places), self.read.name(places[0]))
+
+    def undefined(self):
+        """By the name of an undefined symbol the places that name it."""
+        found = {}
+        for row in self.read.relocations:
+            symbol = self.read.symbols[row.symbol] if row.symbol < len(self.read.symbols) else None
+            if symbol and symbol.index and symbol.section == "SHN_UNDEF":
+                found.setdefault(symbol.name, []).append((row.section, row.offset))
+        return dict(sorted(found.items()))
+
+    def of_16(self):
+        for row in self.read.at_place((self.value(0), self.value(1))):
+            target = self.read.target(row)
+            if target:
+                yield "It points to %s, offset %x of %s." % (self.read.name(target), target[1], self.read.section_name(target[0]))
+
+    def of_17(self):
+        names = [row.name for rows in self.read.functions.values() for row in rows if row.bind != "STB_LOCAL"]
+        yield "Functions that all files see: " + (", ".join(sorted(names)[:40]) or "none") + (", .." if len(names) > 40 else "") + "."
+
+    def of_18(self):
+        rows = dict(policy_lines(self.policy)) if self.policy else {}
+        number = self.value(0)
+        if number not in rows:
+            yield "Give the policy by --policy to see its line." if not self.policy else "The policy has no such line, or it is empty."
+            return
+        yield "Line %d: %s" % (number, " ".join(rows[number]))
+        for text in rows[number][1:]:
+            yield "    %-28s %s" % (text, self.policy_place(text))
+
+    def policy_place(self, text):
+        words = place_words(text)
+        if not words:
+            return "is no place: a name, + and hexadecimal digits without a leading zero"
+        found = self.read.named(words[0])
+        if not found:
+            return "no symbol has this name"
+        if not isinstance(found[0].section, int) or not self.read.is_code(found[0].section):
+            return "the symbol is not in code"
+        place = found[0].section, found[0].value + words[1]
+        known = place in dict(self.read.instructions())
+        return "%s: %s" % (self.read.name(place), self.disassembly.text(place, self.read.word_at(place))) if known else "no instruction starts there"
+
+    def of_19(self):
+        rows = [(row.size, row.name) for rows in self.read.functions.values() for row in rows]
+        yield from self.largest(rows, "functions, before they are hardened")
+
+    def of_20(self):
+        rows = [(row.size, row.name) for row in self.read.symbols if row.kind == "STT_OBJECT"]
+        yield from self.largest(rows, "variables")
+
+    @staticmethod
+    def largest(rows, what):
+        yield "The largest %s:" % what
+        for size, name in sorted(rows, reverse=True)[:LARGEST]:
+            yield "    %10d bytes  %s" % (size, name)

@@ -1,0 +1,106 @@
+"""The report of a run, or another answer about an image, in names."""
+
+from explain.texts import CLOSING, HANDLERS, OPENING, report_of
+
+CAUSES = {
+    "__cfi_bad_target": "the address that it was to go to is no target of its class",
+    "__cfi_bad_return": "the address that it was to return to is not its call's site",
+    "__cfi_deep": "8,191 calls were pending",
+}
+UNTAME = {
+    "graph": "it would go to what is not in its class",
+    "return": "it would return to another place than its call's",
+    "window": "it would load or store outside of 0 to 2^28 - 1",
+    "deep": "it would call with 8,190 calls pending",
+    "end": "the program ran over the end of a section",
+}
+
+
+def name_of(named, address):
+    """The name of an address of a walk."""
+    if address in HANDLERS:
+        return HANDLERS[address]
+    if address in (OPENING, CLOSING):
+        return "the opening" if address == OPENING else "the closing"
+    return named.place(address)
+
+
+def instruction(named, disassembly, address):
+    place = named.map.place(address)
+    if place is None:
+        return ""
+    return "the end of a section" if named.map.is_end(place) else disassembly.text(place, named.read.word_at(place))
+
+
+def lines(named, disassembly, text):
+    """What an answer says, by its first word."""
+    words = text.decode("ascii", "replace").split()
+    if not words:
+        yield "There is no answer: the program ended with status 4 or 5, or was not run."
+    elif words[0] == "output":
+        yield from of_run(named, disassembly, text)
+    elif words[0] == "rejected":
+        yield from of_rejected(named, disassembly, words)
+    elif words[0] == "untame":
+        yield from of_untame(named, disassembly, words)
+    else:
+        yield "Nothing in this answer has a name: " + " ".join(words[:8])
+
+
+def of_run(named, disassembly, text):
+    output, report = report_of(text)
+    trail = [int(word, 16) for word in report.get("trail", [])]
+    yield "%d bytes of output, %s steps, %s units begun" % (len(output), *report["steps"], *report["walk"])
+    yield "The last of them, the newest at the end:"
+    for address in trail:
+        yield ("    %08x  %-34s %s" % (address, name_of(named, address), instruction(named, disassembly, address))).rstrip()
+    yield from of_stop(named, disassembly, report["stop"], trail)
+
+
+def of_stop(named, disassembly, stop, trail):
+    """How the run ended, and where."""
+    last = trail[-1] if trail else None
+    if stop[0] == "handler":
+        yield from of_handler(named, disassembly, stop[1], trail)
+    elif stop[0] in ("break", "load"):
+        at = int(stop[1], 16)
+        what = "its own EBREAK" if stop[0] == "break" else "a load from %s, which is outside memory" % stop[2]
+        yield "The program ended in %s (%08x): %s, by %s." % (name_of(named, at), at, what, instruction(named, disassembly, at))
+    elif stop[0] == "exit":
+        yield "The program ended itself with status %s%s." % (stop[1], ", in " + name_of(named, last) if last else "")
+    else:
+        yield "The steps ended before the program%s." % (", in " + name_of(named, last) if last else "")
+
+
+def of_handler(named, disassembly, handler, trail):
+    if len(trail) < 2:
+        yield "The run ended in %s." % handler
+        return
+    site = trail[-2]
+    place = named.map.place(site)
+    if place and named.map.is_end(place):
+        yield "The run ended in %s: the program ran over the end of a section, behind %s." % (handler, name_of(named, site))
+        return
+    yield "The run ended in %s: what failed is %s (%08x), by %s: %s." % (
+        handler, name_of(named, site), site, instruction(named, disassembly, site), CAUSES[handler])
+    found = named.graph.site(site)
+    if found:
+        targets = named.graph.classes.get(found.label, [])
+        yield "It is a computed %s of class %s, which may go to: %s." % (
+            found.kind, found.label, ", ".join(name_of(named, target) for target in targets) or "nothing")
+    yield "The report tells no more: not the address that was refused, nor the calls that are pending."
+
+
+def of_rejected(named, disassembly, words):
+    if words[1] == "Length":
+        yield "The code has %s bytes, and the graph says %s." % (words[2], words[3])
+        return
+    at = int(words[2], 16)
+    yield "The rule %s fails at %08x: %s, %s." % (words[1], at, name_of(named, at), instruction(named, disassembly, at))
+    yield "docs/FORMATS.md says what each rule asks. The map may be another image's: verify reads none."
+
+
+def of_untame(named, disassembly, words):
+    place = int(words[2]), int(words[3])
+    yield "The object's own run leaves what is compared at %s: %s." % (named.read.name(place), UNTAME.get(words[1], words[1]))
+    yield "The instruction: " + disassembly.text(place, named.read.word_at(place))

@@ -1,0 +1,101 @@
+"""Graphs, maps, policies, images and reports, read as docs/FORMATS.md has them, without asking whether they are right."""
+
+import bisect
+import struct
+from typing import NamedTuple
+
+HANDLERS = {0x40000000: "__cfi_bad_target", 0x40000004: "__cfi_bad_return", 0x40000008: "__cfi_deep"}
+CODE, OPENING, CLOSING, UNITS = 0x40000000, 0x4000000C, 0x40000038, 0x40000040
+
+
+class Wrong(Exception):
+    """A file or a text that is not what it should be."""
+
+
+def words_of(path, head):
+    """The words of each line between a file's first line and `end`."""
+    with open(path, encoding="utf-8", errors="surrogateescape") as file:
+        lines = file.read().split("\n")
+    if lines[0] != head:
+        raise Wrong("%s is no file that begins with '%s'" % (path, head))
+    return [line.split(" ") for line in lines[1:lines.index("end") if "end" in lines else None] if line]
+
+
+class Site(NamedTuple):
+    address: int
+    kind: str
+    label: str
+
+
+class Graph:
+    """Classes by their label, the sites, and the edges and calls as pairs of addresses."""
+
+    def __init__(self, path):
+        self.classes, self.sites, self.edges, self.calls = {}, [], [], []
+        for first, *rest in words_of(path, "rvcfi-graph 1"):
+            if first == "class":
+                self.classes[rest[0]] = [int(word, 16) for word in rest[1:]]
+            elif first == "site":
+                self.sites.append(Site(int(rest[0], 16), rest[1], rest[2]))
+            elif first in ("edge", "call"):
+                getattr(self, first + "s").append((int(rest[0], 16), int(rest[1], 16)))
+
+    def site(self, address):
+        return next((site for site in self.sites if site.address == address), None)
+
+    def sites_of(self, label):
+        return [site for site in self.sites if site.label == label]
+
+
+class Map:
+    """The places of an object by the addresses that `rewrite` gave them."""
+
+    def __init__(self, path):
+        rows = [[int(word, 16) for word in line[1:]] for line in words_of(path, "rvcfi-map 1")]
+        self.gates = [row[0] for row in rows]
+        self.places = [(row[1], row[2]) for row in rows]
+
+    def place(self, address):
+        """The place whose gate or unit stands at an address, or None in the prologue."""
+        last = bisect.bisect_right(self.gates, address) - 1
+        return self.places[last] if last >= 0 else None
+
+    def is_end(self, place):
+        """Whether a place is a section's end, whose unit is a stop."""
+        at = self.places.index(place)
+        return at + 1 == len(self.places) or self.places[at + 1][0] != place[0]
+
+    def gate(self, place):
+        return self.gates[self.places.index(place)] if place in self.places else None
+
+
+def policy_lines(path):
+    """The lines of a policy, each with its number and its words."""
+    with open(path, encoding="utf-8", errors="surrogateescape") as file:
+        return [(number, line.split(" ")) for number, line in enumerate(file.read().split("\n"), 1) if line]
+
+
+def place_words(text):
+    """The name and the offset of a place of a policy, or None where it is none."""
+    name, plus, digits = text.rpartition("+")
+    right = name and plus and 0 < len(digits) <= 8 and all(digit in "0123456789abcdefABCDEF" for digit in digits)
+    return (name, int(digits, 16)) if right and (digits == "0" or digits[0] != "0") else None
+
+
+def image_code(path):
+    """The code of an image, as words."""
+    with open(path, "rb") as file:
+        content = file.read()
+    if len(content) < 232 or content[:4] != b"\x7fELF":
+        raise Wrong("%s is no image" % path)
+    length, = struct.unpack_from("<Q", content, 152)
+    code = content[0x1000:0x1000 + length]
+    return struct.unpack("<%dI" % (len(code) // 4), code[:len(code) // 4 * 4])
+
+
+def report_of(text):
+    """The output of a run, and the words of each line behind it."""
+    first, _, rest = text.partition(b"\n")
+    length = int(first.split()[1])
+    lines = [line.split() for line in rest[length + 1:].decode("ascii", "replace").splitlines()]
+    return rest[:length], {line[0]: line[1:] for line in lines if line}

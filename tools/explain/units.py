@@ -1,0 +1,80 @@
+"""The code of an image as units, as docs/MACHINE.md has them, without asking whether they are right."""
+
+from typing import NamedTuple
+
+from explain.texts import CLOSING, CODE, HANDLERS, OPENING, UNITS
+
+LUI, BRANCH, JAL, STORE, SYSTEM = 0x37, 0x63, 0x6F, 0x23, 0x73
+ROOM, MASK, RETURN = 0x03019F13, 0xFFCFFF93, 0xFF81BF83  # the words that tell calls, checks and returns
+SHIFT = 0x024F9F93
+JUMP_BACK = 0x000F8067
+
+
+class Unit(NamedTuple):
+    """Where a unit starts, its kind, its count of words, and its direct target or its label, if any."""
+    address: int
+    kind: str
+    size: int
+    target: object = None
+    label: object = None
+
+
+def jal_target(word, at):
+    """Where the JAL at an address goes."""
+    offset = (word >> 12 & 0xFF) << 12 | (word >> 20 & 1) << 11 | (word >> 21 & 0x3FF) << 1
+    return at + offset - ((word >> 31) << 20)
+
+
+def branch_offset(word):
+    offset = (word >> 7 & 1) << 11 | (word >> 8 & 15) << 1 | (word >> 25 & 63) << 5
+    return offset - ((word >> 31) << 12)
+
+
+def is_jump(word):
+    """Whether a word is `jal x0`."""
+    return word & 0xFFF == JAL
+
+
+def unit_at(words, index):
+    """The unit that begins with a word of the code."""
+    at, word = CODE + 4 * index, words[index]
+    following = words[index + 1] if index + 1 < len(words) else 0
+    if word & 0xFFF == LUI:
+        return Unit(at, "gate", 1, label="%05x" % (word >> 12))
+    if word & 127 == BRANCH:
+        if branch_offset(word) == 8 and is_jump(following):
+            return Unit(at, "branch", 2, jal_target(following, at + 4))
+        return Unit(at, "near branch", 1, at + branch_offset(word))
+    if is_jump(word):
+        target = jal_target(word, at)
+        return Unit(at, "stop", 1) if target == CODE else Unit(at, "jump", 1, target)
+    if word & 127 == SYSTEM:
+        return Unit(at, "system", 1)
+    return longer_unit(words, index, at, word, following)
+
+
+def longer_unit(words, index, at, word, following):
+    if word == ROOM and index + 8 <= len(words):
+        return Unit(at, "call", 8, jal_target(words[index + 7], at + 28))
+    if word == RETURN:
+        return Unit(at, "return", 5)
+    if following == SHIFT:
+        return Unit(at, "store", 4)
+    if following == MASK and index + 13 <= len(words):
+        label = "%05x" % (words[index + 8] >> 12)
+        jumps = words[index + 12] == JUMP_BACK
+        return Unit(at, "computed jump", 13, label=label) if jumps else Unit(at, "computed call", 20, label=label)
+    return Unit(at, "plain", 1)
+
+
+def split(words):
+    """The prologue's parts and then the units, one behind another."""
+    found = [Unit(at, "handler " + name, 1) for at, name in HANDLERS.items()]
+    found.append(Unit(OPENING, "opening", 11, jal_target(words[13], CODE + 52) if len(words) > 13 else None))
+    found.append(Unit(CLOSING, "closing", 2))
+    index = (UNITS - CODE) // 4
+    while index < len(words):
+        unit = unit_at(words, index)
+        found.append(unit)
+        index += unit.size
+    return found
