@@ -1,4 +1,4 @@
-"""What README.md and docs/FORMATS.md let each command say: for each status the forms of its text."""
+"""What docs/COMMANDS.md and docs/FORMATS.md let each command say: for each status the forms of its text."""
 
 import re
 

@@ -1,5 +1,5 @@
 #!/usr/bin/env python3
-"""Turns the bytes of files at random, and asks of each call of the program what README.md says of every call.
+"""Turns the bytes of files at random, and asks of each call of the program what docs/COMMANDS.md says of every call.
 
     python3 tests/fuzz/turn.py [--program PATH] [--minutes N] [--seed TEXT] [--case NUMBER] [--keep FOLDER]
 
@@ -8,7 +8,7 @@ tables, words of code, lines, numbers at their limits, cut and longer files (tur
 and its own number, so `--seed TEXT --case NUMBER` is that case again, by the same compilers and the same program. `rewrite`,
 `verify`, `run` and `compare` are asked, and of each call:
 
-- its status is one that README.md names for the command, and its text is one of the status's forms (answers.py);
+- its status is one that docs/COMMANDS.md names for the command, and its text is one of the status's forms (answers.py);
 - nothing goes to standard error, and no signal ends it;
 - it changes, makes and removes no file but the three of a `rewrite` that ends with status 0 or 4;
 - it takes at most a second of a processor, or one for each 64 KiB that it reads, prints or writes;

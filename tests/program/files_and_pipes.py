@@ -1,5 +1,5 @@
 #!/usr/bin/env python3
-"""Runs the program on real files, pipes and faults, and compares status, text and files with what README.md says.
+"""Runs the program on real files, pipes and faults, and compares status, text and files with what docs/COMMANDS.md says.
 
     python3 tests/program/files_and_pipes.py [--program PATH]
 
