@@ -10,8 +10,8 @@ use crate::constants::{FIRST_SYMBOL, TABLE_SIZE, TABLE_SYMBOL};
 use crate::function::{Function, Shape};
 use crate::mark::Mark;
 use crate::text::Text;
-use elf_tables::constants::{R_RISCV_CALL_PLT, R_RISCV_HI20, R_RISCV_LO12_I, R_RISCV_RELAX};
 use rv_instr::{Immediate, Instr};
+use rv_reloc::types::{R_RISCV_CALL_PLT, R_RISCV_HI20, R_RISCV_LO12_I, R_RISCV_RELAX};
 use std::alloc::{AllocError, Global};
 
 /// What `main` keeps for its end.

@@ -3,7 +3,7 @@ ghost use Rattle.cfi_gen.specs.Demo.{table_bytes, table_relocs};
 
 use crate::constants::{FIRST_SYMBOL, TABLE_SIZE};
 use elf_tables::Reloc;
-use elf_tables::constants::R_RISCV_64;
+use rv_reloc::types::R_RISCV_64;
 use std::alloc::{AllocError, Global};
 
 /// So many zeros.

@@ -10,3 +10,4 @@ mod code;
 mod data;
 mod kinds;
 pub mod laws;
+pub mod types;
