@@ -23,9 +23,6 @@ list_there lists k a h = elim (cases_lt k (length lists)) [
 pub in_all : (sets : List (List ℕ)) (k a : ℕ) → length sets ≤ k → IsInFirst sets k a ↔ IsInSome sets a
 in_all sets k a past = (λ h. (h.0, h.2), λ h. (h.0, omega (arith, list_there sets h.0 a h.1), h.1))
 
-pub no_members : (sets : List (List ℕ)) (a : ℕ) → Contains [] a ↔ IsInFirst sets 0 a
-no_members sets a = (λ h. absurd (in_none a h), λ h. absurd (omega (arith, h.1)))
-
 -- one set more
 pub more_members : (sets : List (List ℕ)) (k : ℕ) (members set : List ℕ) → get_or sets k [] ≡ set → ((a : ℕ) → Contains members a ↔ IsInFirst sets k a) → (a : ℕ) → Contains (members ++ set) a ↔ IsInFirst sets (k + 1) a
 more_members sets k members set e so_far a = (

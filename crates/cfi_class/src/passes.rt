@@ -1,3 +1,5 @@
+//! One pass over the sets: each set's targets get one number.
+
 ghost use Rattle.std.specs.Prelude.{
   ◌≡◌,
   ◌<◌,

@@ -1,3 +1,5 @@
+//! Sets that say again what the one before them said.
+
 ghost use Rattle.std.specs.Prelude.{◌<◌, ◌↔◌, length, IsTrue};
 ghost use Rattle.cfi_class.specs.Passes.{IsRepeated};
 

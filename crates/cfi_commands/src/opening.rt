@@ -1,3 +1,5 @@
+//! What `verify` and `run` begin with: an image and its graph, read as such.
+
 ghost use Rattle.std.specs.Prelude.{None, IfOk, IfErr};
 ghost use Rattle.cfi_commands.specs.Opening.{AreRead, IsOpenEnd, Spell};
 

@@ -1,3 +1,5 @@
+//! The text and the status of a run's report.
+
 ghost use Rattle.std.specs.Prelude.{◌≡◌, ◌++◌, codes, IfOk, OnOk};
 ghost use Rattle.text_lines.specs.Hex.{hex_text};
 ghost use Rattle.cfi_commands.specs.ReportText.{end_status, handler_name, report_end, report_head, report_text, trail_text};

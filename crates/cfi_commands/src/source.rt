@@ -1,3 +1,5 @@
+//! The program of an object at a map, as `compare` needs it, or why there is none.
+
 ghost use Rattle.std.specs.Prelude.{◌≡◌, ◌<◌, ◌≤◌, ℕ, List, IfOk, IfErr, MatchResult, Ok, Some, option_copied};
 ghost use Rattle.obj_items.specs.Laws.{LastEnds};
 ghost use Rattle.cfi_graph.specs.MapText.{map_of};

@@ -1,3 +1,5 @@
+//! System calls as text.
+
 ghost use Rattle.std.specs.Prelude.{◌≡◌, ◌<◌, ◌^◌};
 
 use rv_sys::Event;

@@ -1,3 +1,5 @@
+//! What a comparison looks at: a system call, or an end.
+
 ghost use Rattle.std.specs.Prelude.{◌≡◌, IfOk, Some, None, option_map, slice_get};
 ghost use Rattle.cfi_meaning.specs.Compared.{image_end, same_bytes, same_event};
 ghost use Rattle.cfi_compare.specs.Followed.{end_told, item_or, same_side};

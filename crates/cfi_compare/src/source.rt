@@ -1,3 +1,5 @@
+//! The program's run, taken to its end.
+
 ghost use Rattle.std.specs.Prelude.{◌≡◌, ◌↔◌, ◌≤◌, ◌^◌, true, IfOk};
 ghost use Rattle.cfi_compare.specs.Followed.{IsFinished};
 ghost use Rattle.cfi_compare.specs.Told.{IsOwnState};

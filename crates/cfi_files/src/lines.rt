@@ -1,3 +1,5 @@
+//! A line of output.
+
 ghost use Rattle.std.specs.Prelude.{◌≡◌, IfOk, IfSome};
 ghost use Rattle.cfi_files.specs.Lines.{with_newline};
 

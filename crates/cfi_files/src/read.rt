@@ -1,3 +1,5 @@
+//! Files that are read by name, or why one is not.
+
 ghost use Rattle.std.specs.Prelude.{◌≡◌, ◌∷◌, [], IfOk, IfErr, length, map, option_map, vec_len};
 ghost use Rattle.tool_io.specs.Reading.{CountsReads, IsOnlyRead};
 ghost use Rattle.cfi_files.specs.Reads.{GaveAll, GaveNamed, IsFault, IsStop, IsTooLong, unread_status};

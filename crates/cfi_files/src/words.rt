@@ -1,3 +1,5 @@
+//! Words of a command that name files or a number of steps.
+
 ghost use Rattle.std.specs.Prelude.{◌≡◌, ◌≤◌, IfSome, option_map};
 ghost use Rattle.text_lines.specs.Decimal.{MAX_STEP};
 ghost use Rattle.cfi_files.specs.Words.{file_word, steps_of, text_named};

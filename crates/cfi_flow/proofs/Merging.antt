@@ -1,5 +1,5 @@
 -- Lists that join what the sets of sites join, site by site.
-use Rattle.std.proofs.Common.{◌≡◌, ◌==◌, not, ◌⊎◌, ℕ, ◌+◌, ◌<◌, ◌≤◌, Bool, true, false, ◌&&◌, ◌||◌, List, [], ◌∷◌, ◌++◌, length, get_or, Option, Some, None, inl, inr, sym, ap, subst, ◌∙◌, arith}
+use Rattle.std.proofs.Common.{◌≡◌, ◌==◌, not, ◌⊎◌, ℕ, ◌+◌, ◌<◌, ◌≤◌, Bool, true, false, ◌&&◌, ◌||◌, List, [], ◌∷◌, ◌++◌, length, get_or, Option, Some, inl, inr, sym, ap, subst, ◌∙◌, arith}
 use Rattle.std.specs.List.{Contains}
 use Rattle.std.proofs.Math.ListN.{get_or-append}
 use Rattle.std.proofs.Math.Seq.{get_or-append_seam}
@@ -44,20 +44,6 @@ in_more lists xs a b h =
 
 abbrev Has : List (List ℕ) → List ℕ → ℕ → ℕ → Type 0
 Has lists group a b = AreInOne lists a b ⊎ (Contains group a × Contains group b)
-
-none_has : (a : ℕ) → Contains [] a → ⊥
-none_has a h = let below = h.1 in omega arith
-
-no_lists : (a b : ℕ) → AreInOne [] a b → ⊥
-no_lists a b h = let less = list_there [] h.0 a h.1 in omega arith
-
-pub none_joins : (sets : List (List ℕ)) (taken begun : List Bool) → AreJoining sets taken begun 0 [] [] None
-none_joins sets taken begun = record {
-  apart = λ a b h. absurd (no_lists a b h);
-  one = λ a b p q. absurd (none_has a p);
-  whole = λ i a b less p q. absurd (omega arith);
-  latest = tt;
-}
 
 module _ (sets : List (List ℕ)) (taken begun : List Bool) (k : ℕ) (lists : List (List ℕ)) (group : List ℕ) (last : Option Span)
     (is : AreJoining sets taken begun k lists group last) where

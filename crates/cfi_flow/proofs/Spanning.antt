@@ -88,15 +88,6 @@ lt_greater t a b m low high one = elim (cases_lt t a) [
   ])
 ]
 
-pub far_none : (ends far : List ℕ) → far ≡ [] → IsSoFar ends 0 0 far
-far_none ends far is = subst (IsSoFar ends 0 0) (sym is) record {
-  size = refl;
-  each = λ k t below. absurd (omega arith);
-  top = λ t. le-ltb t 0 (omega arith);
-  rising = λ i j order below. absurd (omega arith);
-  most = λ k below. absurd (omega arith);
-}
-
 pub far_more : (ends far : List ℕ) (i end next m : ℕ) → i < length ends → get_or ends i 0 ≡ next → end ≤ m → next ≤ m → ((end < m → m ≤ next))
     → IsSoFar ends i end far → IsSoFar ends (i + 1) m (far ++ m ∷ [])
 far_more ends far i end next m inside is low high one so_far =
@@ -139,13 +130,6 @@ far_more ends far i end next m inside is low high one so_far =
         | inr more ↦ let first = last k (omega arith) in omega arith
       ];
     }
-
-pub far_all : (ends far : List ℕ) (i end : ℕ) → i ≡ length ends → IsSoFar ends i end far → AreFarthest ends far
-far_all ends far i end all so_far = record {
-  size = so_far.size ∙ all;
-  each = λ k t below. so_far.each k t (omega arith);
-  rising = so_far.rising;
-}
 
 -- a span that begins at a place or before it
 up_to : (f k : ℕ) (c : Bool) → ((nat_lt f k && c) || ((f == k) && c)) ≡ (nat_lt f (k + 1) && c)

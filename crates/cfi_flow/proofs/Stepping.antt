@@ -1,5 +1,5 @@
 -- The drawing of a program's sites, place by place.
-use Rattle.std.proofs.Common.{◌≡◌, ℕ, ◌+◌, ◌<◌, Bool, false, ◌&&◌, ◌||◌, List, [], ◌∷◌, ◌++◌, length, get_or, Option, Some, None, refl, sym, ap, subst, ◌∙◌, add-one}
+use Rattle.std.proofs.Common.{◌≡◌, ℕ, ◌+◌, ◌<◌, Bool, false, ◌&&◌, ◌||◌, List, [], ◌∷◌, ◌++◌, length, get_or, Option, Some, None, refl, sym, ap, ◌∙◌, add-one}
 use Rattle.std.proofs.lemmas.List.{append-nil, get_or-map, length-map}
 use Rattle.std.proofs.lemmas.List.Quantifiers.{position-Some}
 use Rattle.std.proofs.lemmas.Option.{slice_get-get_or}
@@ -12,10 +12,9 @@ use Rattle.cfi_flow.specs.declared.draw.Drawing.{Drawing}
 use Rattle.cfi_flow.specs.declared.span.Span.{Span}
 use Rattle.cfi_flow.specs.Drawn.{IsDrawn, IsOf, line_for}
 use Rattle.cfi_flow.specs.Below.{where_below}
-use Rattle.cfi_flow.specs.Kept.{AreKept, mark_at, open_targets, site_with, sites_of}
-use Rattle.cfi_flow.specs.Marks.{AreBegun}
+use Rattle.cfi_flow.specs.Kept.{mark_at, open_targets, site_with, sites_of}
 use Rattle.cfi_flow.specs.Policy.{allowed, names_site, no_line, targets_by, targets_under}
-use Rattle.cfi_flow.specs.Sites.{RawSite, is_function, reached, reaches, site_at, site_kind, sites_below}
+use Rattle.cfi_flow.specs.Sites.{RawSite, is_function, reached, may_reach, site_at, site_kind, sites_below}
 use Rattle.cfi_flow.specs.Spans.{goes_inside, in_span}
 use Rattle.cfi_flow.proofs.Finding.{find_none, find_some}
 use Rattle.cfi_flow.proofs.Listing.{below_same}
@@ -34,7 +33,7 @@ module _ (program : Program) (lines : List PolicyLine) (k : ℕ) where
   by_none kind e = sym (ap (targets_by program kind k) (find_none (names_site program k) lines (sym e)))
 
 one_reached : (program : Program) (kind : SiteKind) (k t : ℕ)
-    → ((item_of program t).taken && (is_function program (item_of program t) || goes_inside program kind k t)) ≡ reaches program kind (item_of program k) (item_of program t)
+    → ((item_of program t).taken && (is_function program (item_of program t) || goes_inside program kind k t)) ≡ may_reach program kind (item_of program k) (item_of program t)
 one_reached program site.Call k t = ap (λ (b : Bool). (item_of program t).taken && b) (or_false (is_function program (item_of program t)))
 one_reached program site.Jump k t = refl
 
@@ -81,12 +80,3 @@ pub drawn_first : (program : Program) (lines : List PolicyLine) (drawing : Drawi
     → IsDrawn program lines 0 drawing
 unfolding sites_below
 drawn_first program lines drawing none of = record { sites = none; of = of }
-
--- a drawing that knows the same places
-pub still_of : (program : Program) (old new : Drawing) → IsOf program old → new.taken.items ≡ old.taken.items → new.begun.items ≡ old.begun.items
-    → AreKept new → IsOf program new
-still_of program old new of taken begun kept = record {
-  taken = taken ∙ of.taken;
-  begun = subst (AreBegun program program.funcs) (sym begun) of.begun;
-  kept = kept;
-}

@@ -17,7 +17,6 @@ pub mod Placement
 pub mod LegalMap
 pub mod LabelOf
 pub mod GraphAtMap
-pub mod Reached
 pub mod Source
 pub mod Untame
 pub mod SourceStep

@@ -1,3 +1,5 @@
+//! Where functions begin.
+
 ghost use Rattle.std.specs.Prelude.{◌≡◌, ◌<◌, ◌||◌, ℕ, false, IfOk, IfSome, length, slice_index_or};
 ghost use Rattle.cfi_flow.specs.Marks.{AreBegun};
 ghost use Rattle.cfi_flow.specs.Policy.{is_number};

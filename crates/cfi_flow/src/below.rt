@@ -1,3 +1,5 @@
+//! Numbers that meet a test, as a list.
+
 ghost use Rattle.std.specs.Prelude.{◌≡◌, ◌<◌, ℕ, Bool, IfOk};
 ghost use Rattle.cfi_flow.specs.Below.{where_below};
 

@@ -1,3 +1,5 @@
+//! What is known of a program's sites and taken places before the raw graph is lent.
+
 ghost use Rattle.std.specs.Prelude.{◌≡◌, ◌<◌, ◌++◌, ◌∷◌, [], IfOk, length, slice_index_or};
 ghost use Rattle.std.specs.List.{All};
 ghost use Rattle.cfi_flow.specs.Kept.{AreKept, is_open, no_kept, open_targets, site_with, sites_of, targets_of};

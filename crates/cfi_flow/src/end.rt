@@ -1,3 +1,5 @@
+//! Why there is no raw graph.
+
 use rv_word::NoMemory;
 use std::alloc::AllocFailed;
 use thiserror::Error;

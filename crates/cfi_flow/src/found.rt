@@ -1,3 +1,5 @@
+//! The classes of sites, found by their first targets.
+
 ghost use Rattle.std.specs.Prelude.{◌≡◌, ◌<◌, Bool, List, IfOk, IfSome, length, map, option_and_then, slice_get};
 ghost use Rattle.std.specs.List.Sorted.{IsStrictlyIncreasing};
 ghost use Rattle.cfi_flow.specs.Found.{by_table};

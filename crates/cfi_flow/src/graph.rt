@@ -1,3 +1,5 @@
+//! The raw graph of a program: its sites, and where each may go.
+
 ghost use Rattle.std.specs.Prelude.{◌≡◌, ◌+◌, ◌++◌, ◌∷◌, ◌<◌, [], IfOk, MatchResult, map};
 ghost use Rattle.obj_program.specs.declared.item.Item.{Item};
 ghost use Rattle.obj_program.specs.Program.{count};

@@ -1,3 +1,5 @@
+//! The labels that a program has in its own instructions.
+
 ghost use Rattle.std.specs.Prelude.{◌≡◌, IfOk};
 ghost use Rattle.cfi_flow.specs.Labels.{is_gate, used_labels};
 

@@ -1,3 +1,5 @@
+//! The places that a policy's lines name.
+
 ghost use Rattle.std.specs.Prelude.{◌≡◌, ℕ, ◌+◌, ◌<◌, ◌≤◌, true, false, IfSome, length, option_and_then, slice_index_or};
 ghost use Rattle.obj_program.specs.Program.{AreInOrder, count, is_before, is_spot, no_item, place_of};
 ghost use Rattle.cfi_flow.specs.Entry.{entry_place};

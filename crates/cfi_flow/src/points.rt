@@ -1,3 +1,5 @@
+//! Taken places as rising lists, searched by bounds.
+
 ghost use Rattle.std.specs.Prelude.{◌≡◌, ◌<◌, ◌≤◌, ◌-◌, ◌&&◌, ℕ, Bool, IfOk, length, slice_index, slice_get, take, drop, List};
 ghost use Rattle.std.specs.List.Sorted.{IsStrictlyIncreasing};
 ghost use Rattle.cfi_flow.specs.Below.{where_below};

@@ -1,3 +1,5 @@
+//! The spans of places that functions cover.
+
 ghost use Rattle.std.specs.Prelude.{◌≡◌, ◌+◌, ◌||◌, ◌<◌, ◌≤◌, nat_lt, ℕ, IfOk, length, slice_index};
 ghost use Rattle.obj_program.specs.Program.{Program, count, item_of};
 ghost use Rattle.cfi_flow.specs.Sites.{are_in_one, covers};

@@ -1,3 +1,5 @@
+//! Relocations of generated instructions.
+
 ghost use Rattle.std.specs.Prelude.{◌≡◌, ◌++◌, OnOk, map};
 ghost use Rattle.cfi_gen.specs.Lines.{mark_at};
 

@@ -1,3 +1,5 @@
+//! The code of `main` and of each shape of function.
+
 ghost use Rattle.std.specs.Prelude.{◌≡◌, ◌<◌, ◌∷◌, [], IfOk, OnOk, map};
 ghost use Rattle.cfi_gen.specs.declared.function.Shape.TheVariants.{Call, Table};
 ghost use Rattle.cfi_gen.specs.Assembly.{addi, bne, jalr, ld, lui, minus, sd};

@@ -1,3 +1,5 @@
+//! The symbols of the generated object.
+
 ghost use Rattle.std.specs.Prelude.{◌≡◌, ◌∷◌, ◌<◌, ◌^◌, [], IfOk, length, map};
 ghost use Rattle.elf_writer.specs.Parts.{symbol_of};
 ghost use Rattle.cfi_gen.specs.Lines.{code_size};

@@ -1,3 +1,5 @@
+//! The table of the functions' addresses.
+
 ghost use Rattle.std.specs.Prelude.{◌≡◌, ◌<◌, ◌^◌, IfOk, replicate};
 ghost use Rattle.cfi_gen.specs.Demo.{table_bytes, table_relocs};
 

@@ -1,3 +1,5 @@
+//! Code that is being written.
+
 ghost use Rattle.std.specs.Prelude.{◌≡◌, OnOk, map};
 ghost use Rattle.cfi_gen.specs.Lines.{marked, plain};
 ghost use Rattle.cfi_gen.specs.Writing.{nothing, with_line, with_lines, written_in};

@@ -47,11 +47,3 @@ key_transitive (Label k) (Address a) (Address b) p q = refl
 key_transitive (Address a) (Label l) z p q = cc
 key_transitive (Address a) (Address b) (Label m) p q = cc
 key_transitive (Address a) (Address b) (Address c) p q = less_transitive a b c p q
-
--- the addresses of a class
-pub targets_pairs : (xs : List ℕ) → is_rising nat_lt xs ≡ true → (i j : ℕ) (d : ℕ) → i < j → j < length xs → get_or xs i d < get_or xs j d
-targets_pairs xs e i j d h k = ltb-true _ _ (rising_pairs nat_lt less_transitive xs e i j d h k)
-
--- the lines of a graph
-pub keys_pairs : (keys : List Key) → is_rising key_below keys ≡ true → (i j : ℕ) (d : Key) → i < j → j < length keys → key_below (get_or keys i d) (get_or keys j d) ≡ true
-keys_pairs keys e i j d h k = rising_pairs key_below key_transitive keys e i j d h k

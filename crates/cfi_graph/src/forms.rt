@@ -1,3 +1,5 @@
+//! What the words of a graph's line spell.
+
 ghost use Rattle.std.specs.Prelude.{◌≡◌, IfOk, IfSome, Some, option_map};
 ghost use Rattle.cfi_graph.specs.Lines.{
   addresses_of,

@@ -1,3 +1,5 @@
+//! The ranges and the order that a graph's lines keep.
+
 ghost use Rattle.std.specs.Prelude.{◌≡◌, nat_lt};
 ghost use Rattle.std.specs.List.{list_all};
 ghost use Rattle.cfi_graph.specs.Graph.{

@@ -2,7 +2,7 @@
 use Rattle.std.proofs.Common.{◌≡◌, ℕ, zero, suc, ◌+◌, ◌/◌, ◌^◌, ◌≤◌, ◌<◌, ◌==◌, inl, inr, true, List, [], ◌∷◌, length, get_or, map, Option, Some, None, refl, ap, ◌∙◌, arith, add-one, Contains, filter}
 use Rattle.std.specs.Prelude.{slice_get, slice_index}
 use Rattle.std.specs.List.Sorted.{IsStrictlyIncreasing}
-use Rattle.std.proofs.lemmas.Bool.{cases_Bool, cases_lt, cases_order, eq-eqb, eqb-true, or_cases, or_left, or_right}
+use Rattle.std.proofs.lemmas.Bool.{cases_Bool, cases_lt, cases_order, eq-eqb, eqb-true, or_cases}
 use Rattle.std.proofs.lemmas.Option.{get_or_from_slice_get, same_Some, slice_get_within}
 use Rattle.obj_program.specs.declared.item.Item.{Item}
 use Rattle.cfi_flow.specs.Closed.{has}
@@ -18,22 +18,6 @@ has_in (x ∷ class) k e =
       | inl here ↦ (0, omega arith, eqb-true x k here)
       | inr later ↦ let rest = has_in class k later in let below = rest.1 in (suc rest.0, omega arith, rest.2)
     ]
-
-has_at : (class : List ℕ) (k i : ℕ) → i < length class → get_or class i k ≡ k → has k class ≡ true
-has_at [] k i below e = absurd (omega arith)
-has_at (x ∷ class) k zero below e = or_left (x == k) (has k class) (eq-eqb x k e)
-has_at (x ∷ class) k (suc i) below e = or_right (x == k) (has k class) (has_at class k i (omega arith) e)
-
-pub in_has : (class : List ℕ) (k : ℕ) → Contains class k → has k class ≡ true
-in_has class k (i, below, e) = has_at class k i below e
-
--- a label of a place is that of a class that has it
-pub record HasLabel (labels : List ℕ) (classes : List (List ℕ)) (k label : ℕ) : Type 0 where
-  pub index : ℕ
-  pub class : List ℕ
-  pub label_is : slice_get labels index ≡ Some label
-  pub class_is : slice_get classes index ≡ Some class
-  pub member : has k class ≡ true
 
 pub labelled : (labels : List ℕ) (classes : List (List ℕ)) (k label : ℕ) → label_at labels classes k ≡ Some label → HasLabel labels classes k label
 unfolding label_at

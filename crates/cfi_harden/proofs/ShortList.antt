@@ -9,7 +9,7 @@ use Rattle.rv_word.proofs.Cases.{cases_Option, guarded, mapped}
 use Rattle.obj_input.specs.declared.item_kind.ItemKind.{ItemKind}
 use Rattle.obj_input.specs.declared.item_kind.ItemKind.TheVariants as is
 use Rattle.obj_program.specs.Program.{Program, count, is_end, item_of}
-use Rattle.obj_program.specs.Sound.{IsSound, aims, is_direct}
+use Rattle.obj_program.specs.Sound.{IsSound, aims}
 use Rattle.cfi_layout.specs.declared.short.Short.{Short}
 use Rattle.cfi_layout.specs.LongSet.{is_branch as is_part}
 use Rattle.cfi_flow.specs.Closed.{ClosedGraph}
@@ -58,10 +58,6 @@ short_is program closed k b some =
     let at = guarded _ _ b some in
     let of = mapped (short_to program closed k) (item_of program k).target b at.1 in
     (of.0, at.0, of.1, of.2)
-
-branch_direct : (kind : ItemKind) → is_branch kind ≡ true → is_direct kind ≡ true
-branch_direct is.Branch yes_branch = refl
-branch_direct other yes_branch = absurd (cc)
 
 aims_at : (program : Program) (kind : ItemKind) (target : Option ℕ) → is_branch kind ≡ true → aims program kind target ≡ true →
     (t : ℕ) × (target ≡ Some t) × (t < count program)

@@ -1,3 +1,5 @@
+//! What is chosen for a program before it is written: a map, flags, labels and an entry.
+
 ghost use Rattle.std.specs.Prelude.{◌≡◌, ◌<◌, ◌^◌, IfOk, IfSome, length, slice_index};
 ghost use Rattle.obj_program.specs.Program.{count, item_of};
 ghost use Rattle.cfi_flow.specs.GraphAtMap.{gate, gate_to, word};

@@ -1,3 +1,5 @@
+//! Which label a place or a site has.
+
 ghost use Rattle.std.specs.Prelude.{◌≡◌, ◌<◌, ◌^◌, ℕ, IfOk, IfSome, length, slice_get, slice_index};
 ghost use Rattle.std.specs.List.{All};
 ghost use Rattle.cfi_flow.specs.LabelOf.{all_classes, label_at, site_label};

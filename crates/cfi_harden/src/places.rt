@@ -1,3 +1,5 @@
+//! The lines of the map that is written.
+
 ghost use Rattle.std.specs.Prelude.{◌≡◌, IfOk};
 ghost use Rattle.cfi_graph.specs.Map.{IsMap};
 ghost use Rattle.cfi_flow.specs.LegalMap.{IsLegalMap};

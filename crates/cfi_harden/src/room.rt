@@ -1,3 +1,5 @@
+//! Whether data and code have room.
+
 ghost use Rattle.std.specs.Prelude.{◌↔◌, IsTrue};
 ghost use Rattle.cfi_harden.specs.Fitting.{FitsOr};
 ghost use Rattle.cfi_harden.specs.Hardened.{HasDataRoom};

@@ -1,3 +1,5 @@
+//! How many bytes the unit of each place has.
+
 ghost use Rattle.std.specs.Prelude.{◌≡◌, ◌+◌, ◌<◌, true, IfOk};
 ghost use Rattle.obj_program.specs.Program.{count, item_of};
 ghost use Rattle.cfi_flow.specs.Placement.{gate_size, is_target, size_of};

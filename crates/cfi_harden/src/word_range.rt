@@ -1,3 +1,5 @@
+//! That the words of a program's places have 32 bits, as the prover needs it.
+
 ghost use Rattle.std.specs.Prelude.{ℕ, ◌<◌, ◌^◌, length, slice_index_or};
 ghost use Rattle.obj_program.specs.Program.{count, item_of, no_item};
 ghost use Rattle.obj_program.specs.Sound.{IsSound};

@@ -1,3 +1,5 @@
+//! How far a branch reaches in one word.
+
 ghost use Rattle.std.specs.Prelude.{◌≡◌, ℕ, ◌<◌, ◌^◌, IfOk, Some, length, map, slice_get, slice_index};
 ghost use Rattle.cfi_layout.specs.declared.short.Short.{Short};
 ghost use Rattle.cfi_layout.specs.Lengthening.{gap, is_far, reach, spans};

@@ -1,3 +1,5 @@
+//! The branches that are yet to be looked at while the long set is found.
+
 ghost use Rattle.std.specs.Prelude.{
   ◌≡◌,
   ℕ,

@@ -1,3 +1,5 @@
+//! The words of a label check.
+
 ghost use Rattle.std.specs.Prelude.{◌≡◌, ◌≢◌, ◌+◌, ◌*◌, ◌<◌, ℕ, Some, slice_get};
 ghost use Rattle.rv_code.specs.Decode.{decoded};
 ghost use Rattle.cfi_unit.specs.UnitWords.{words_of};

@@ -1,3 +1,5 @@
+//! The first word of a unit: which unit it can begin.
+
 ghost use Rattle.std.specs.Prelude.{◌≡◌};
 ghost use Rattle.cfi_scan.specs.FirstStep.{
   branch_step,

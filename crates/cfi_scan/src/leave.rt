@@ -1,3 +1,5 @@
+//! The words of a return.
+
 ghost use Rattle.std.specs.Prelude.{◌≡◌, ◌+◌, ◌*◌, ◌<◌, ℕ, Some, slice_get};
 ghost use Rattle.cfi_unit.specs.UnitWords.{words_of};
 ghost use Rattle.cfi_unit.specs.declared.unit.Unit.TheVariants as V;

@@ -1,3 +1,5 @@
+//! How far the unit that is being read is read, and one word more.
+
 ghost use Rattle.cfi_scan.specs.Stream.{IsCode, LeadsOn, MayTake};
 
 use crate::branch::jump_word;

@@ -1,3 +1,5 @@
+//! A count of words, which has no bytes.
+
 ghost use Rattle.std.specs.Prelude.{◌≡◌, ◌+◌};
 
 use std::marker::Model;

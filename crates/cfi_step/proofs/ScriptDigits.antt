@@ -10,7 +10,7 @@ use Rattle.hex.specs.declared.error.FromHexError.{FromHexError}
 use Rattle.text_lines.specs.Decimal.{MAX_STEP, capped, decimal}
 use Rattle.text_lines.specs.Hex.{digit_value, hex}
 use Rattle.text_lines.proofs.Cuts.{some_part}
-use Rattle.rv_word.specs.Layout.{DATA_END}
+use Rattle.rv_word.specs.MemoryMap.{DATA_END}
 use Rattle.cfi_step.specs.declared.script_line.ScriptLine.{ScriptLine}
 use Rattle.cfi_step.specs.Script.{Changes}
 use Rattle.cfi_step.specs.ScriptNumbers.{is_capital}
@@ -88,12 +88,6 @@ decoded s h =
 
 pub data_is : (s : List ℕ) → 2 ≤ length s → length s ≤ 8192 → data_of s ≡ bytes_of s
 data_is s h k = grind (arith)
-
-pub data_small : (s : List ℕ) → length s < 2 → data_of s ≡ None
-data_small s h = grind (arith)
-
-pub data_large : (s : List ℕ) → 8192 < length s → data_of s ≡ None
-data_large s h = grind (arith)
 
 -- ---- a line
 

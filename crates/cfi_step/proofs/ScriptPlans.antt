@@ -62,10 +62,6 @@ quiet_to from place next changes ordered below is k d q = elim (cases_lt k place
       inr (omega (arith, first, up, ap (λ c. c.0) same))
 ]
 
--- between 0 and 0 there is nothing
-pub quiet_nowhere : (changes : Changes) → IsQuiet 0 0 changes
-quiet_nowhere changes k d q = inr (omega arith)
-
 -- ---- what is read is a script
 
 pub first_of_script : (c : ℕ × (ℕ × ℕ)) (rest : Changes) → All (λ d. c.0 ≤ d.0) rest → IsScript rest → IsScript (c ∷ rest)

@@ -1,3 +1,5 @@
+//! The changes that a run has seen.
+
 ghost use Rattle.std.specs.Prelude.{◌≡◌, ◌==◌, ◌++◌, ◌∷◌, [], length, OnOk, OnErr};
 
 use rv_machine::Change;

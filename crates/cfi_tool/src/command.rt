@@ -1,3 +1,5 @@
+//! The top call: words to an outcome, and an outcome to text and status.
+
 ghost use Rattle.std.specs.Prelude.{◌≡◌, ◌≢◌, ◌⊎◌, ◌<◌, ◌≤◌, ℕ, List, [], Err, None, IfOk, OnOk};
 ghost use Rattle.std.specs.Io.KnownBytes.{Appends, Keeps};
 ghost use Rattle.tool_io.specs.Faults.{Counts, Rose};

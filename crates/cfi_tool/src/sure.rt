@@ -1,3 +1,5 @@
+//! The top call where files and output never fail.
+
 ghost use Rattle.std.specs.Prelude.{◌≡◌, ◌≢◌, [], None};
 ghost use Rattle.std.specs.Io.KnownBytes.{Appends};
 ghost use Rattle.cfi_words.specs.Reading.{spelled};

@@ -91,17 +91,3 @@ fits_stand (V.Ijump rs1 imm label) at f = check_tested at f.3 f.4
 fits_stand (V.Icall rs1 imm label) at f =
     and_both (check_reaches at) (reaches (at + 56) DEEP) (check_tested at f.0.3 f.0.4) (tested (at + 56) DEEP f.1)
 fits_stand V.Return at f = tested (at + 12) BAD_RETURN f
-
-pub fits_in_range : (unit : U.Unit) (at : ℕ) → Fits unit at → IsInRange unit
-fits_in_range (V.Gate label) at f = f
-fits_in_range (V.Plain instr) at f = f.0
-fits_in_range (V.Branch op rs1 rs2 target) at f = (f.0, f.1)
-fits_in_range (V.Near op rs1 rs2 target) at f = (f.0, f.1)
-fits_in_range (V.Jump target) at f = tt
-fits_in_range V.Stop at f = tt
-fits_in_range (V.System op) at f = tt
-fits_in_range (V.Store op rs1 rs2 imm) at f = f
-fits_in_range (V.Call target) at f = tt
-fits_in_range (V.Ijump rs1 imm label) at f = (f.0, f.1, f.2)
-fits_in_range (V.Icall rs1 imm label) at f = (f.0.0, f.0.1, f.0.2)
-fits_in_range V.Return at f = tt

@@ -1,3 +1,5 @@
+//! Offsets of jumps and branches: where they lead and what they reach.
+
 ghost use Rattle.std.specs.Prelude.{◌≡◌};
 ghost use Rattle.cfi_unit.specs.Recognise.{is_near, led_to, near_to, reaches};
 ghost use Rattle.cfi_unit.specs.UnitWords.{jump, jump_offset, near_offset};

@@ -1,9 +1,9 @@
 -- A code that is fed piece by piece: one piece more, and the end.
-use Rattle.std.proofs.Common.{◌≡◌, ◌≤◌, ◌<◌, ℕ, ◌+◌, List, [], ◌∷◌, ◌++◌, drop, get_or, length, length-append, refl, sym, ap, subst, ◌∙◌, arith, append_assoc}
+use Rattle.std.proofs.Common.{◌≡◌, ◌<◌, ℕ, ◌+◌, List, [], ◌∷◌, ◌++◌, drop, get_or, length, length-append, refl, sym, ap, subst, ◌∙◌, arith, append_assoc}
 use Rattle.std.specs.List.{concat}
-use Rattle.std.proofs.lemmas.List.{append-nil, drop_all, drop_more}
+use Rattle.std.proofs.lemmas.List.{append-nil, drop_more}
 use Rattle.std.proofs.lemmas.List.Concat.{concat_is, flat_map-cons}
-use Rattle.rv_word.specs.Layout.{version_1}
+use Rattle.rv_word.specs.MemoryMap.{version_1}
 use Rattle.cfi_scan.specs.Pieces.{HasSeen}
 use Rattle.cfi_verify.specs.Scan.{Scanned}
 
@@ -65,6 +65,3 @@ concat-cons xs xss = ap (λ ys. xs ++ ys) (concat_is xss) ∙ sym (flat_map-cons
 
 pub next_piece : (pieces : List (List ℕ)) (k : ℕ) (d : List ℕ) → k < length pieces → get_or pieces k d ++ concat (drop (k + 1) pieces) ≡ concat (drop k pieces)
 next_piece pieces k d below = concat-cons (get_or pieces k d) (drop (k + 1) pieces) ∙ ap concat (sym (drop_more pieces k d below))
-
-pub no_piece : (pieces : List (List ℕ)) (k : ℕ) → length pieces ≤ k → concat (drop k pieces) ≡ []
-no_piece pieces k past = ap concat (drop_all k pieces past) ∙ concat_is []

@@ -1,5 +1,5 @@
 -- The rules in the order in which they are asked.
-use Rattle.std.proofs.Common.{◌≡◌, ◌<◌, ℕ, zero, suc, ◌+◌, List, [], ◌∷◌, get_or, refl, ap, ◌∙◌, subst, arith, inl, inr}
+use Rattle.std.proofs.Common.{◌≡◌, ◌<◌, ℕ, ◌+◌, List, [], ◌∷◌, get_or, refl, ap, ◌∙◌, subst, arith, inl, inr}
 use Rattle.std.proofs.lemmas.Bool.{cases_lt}
 use Rattle.cfi_verify.specs.Rules.{order}
 use Rattle.cfi_verify.specs.declared.reject.Rule.{Rule}
@@ -29,16 +29,3 @@ rules_more P i d before here rule less =
           let same : i ≡ order rule = omega arith in
           subst P (ap (λ k. get_or rules_listed k d) same ∙ at_order rule d) here
     ]
-
--- the rule at a place has that order
-pub order_at : (i : ℕ) (d : Rule) → i < 9 → order (get_or rules_listed i d) ≡ i
-order_at zero d h = refl
-order_at (suc zero) d h = refl
-order_at (suc (suc zero)) d h = refl
-order_at (suc (suc (suc zero))) d h = refl
-order_at (suc (suc (suc (suc zero)))) d h = refl
-order_at (suc (suc (suc (suc (suc zero))))) d h = refl
-order_at (suc (suc (suc (suc (suc (suc zero)))))) d h = refl
-order_at (suc (suc (suc (suc (suc (suc (suc zero))))))) d h = refl
-order_at (suc (suc (suc (suc (suc (suc (suc (suc zero)))))))) d h = refl
-order_at (suc (suc (suc (suc (suc (suc (suc (suc (suc i))))))))) d h = absurd (omega arith)

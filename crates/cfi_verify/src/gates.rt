@@ -1,3 +1,5 @@
+//! Gates with the label of a class.
+
 ghost use Rattle.std.specs.Prelude.{◌≡◌, ◌&&◌, not, option_map};
 ghost use Rattle.cfi_unit.specs.declared.unit.Unit.TheVariants as V;
 ghost use Rattle.least.specs.Least.{IsLeast};

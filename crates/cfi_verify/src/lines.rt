@@ -1,3 +1,5 @@
+//! Look-ups among a graph's lines.
+
 ghost use Rattle.std.specs.Prelude.{◌≡◌, IfSome, IsTrue, map, nat_lt};
 ghost use Rattle.std.specs.List.{list_all};
 ghost use Rattle.std.specs.Option.{option_copied};

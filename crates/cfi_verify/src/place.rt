@@ -1,3 +1,5 @@
+//! Where the unit at an address leads.
+
 ghost use Rattle.std.specs.Prelude.{◌≡◌, ◌<◌, ◌^◌};
 ghost use Rattle.cfi_unit.specs.Recognise.{led_to, near_to};
 ghost use Rattle.cfi_verify.specs.Entries.{call_at, edge_at, gate_at, site_at};

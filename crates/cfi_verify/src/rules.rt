@@ -1,3 +1,5 @@
+//! Each rule, asked of one address.
+
 ghost use Rattle.std.specs.Prelude.{◌≡◌, ◌≢◌, ◌+◌, ◌*◌, ◌<◌, ◌==◌, ◌^◌, not};
 ghost use Rattle.std.specs.Option.{option_copied};
 ghost use Rattle.cfi_verify.specs.Entries.{

@@ -1,3 +1,5 @@
+//! Look-ups of classes for a walk.
+
 ghost use Rattle.std.specs.Prelude.{◌≡◌};
 ghost use Rattle.cfi_verify.specs.Lines.{class_of, holds_of, is_among};
 ghost use Rattle.cfi_verify.specs.Walk.{is_some_target};

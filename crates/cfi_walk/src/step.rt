@@ -1,3 +1,5 @@
+//! One step of the graph walk.
+
 ghost use Rattle.std.specs.Prelude.{◌<◌, ◌^◌, ◌⊎◌, ℕ, List};
 ghost use Rattle.cfi_verify.specs.Walk.{
   CallGoes,

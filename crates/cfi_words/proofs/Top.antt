@@ -77,12 +77,6 @@ args_walk args = walk app.top.rules (names_of app) nothing_held args
 abbrev args_fault : List Text → Kinds
 args_fault args = walk_fault app.top (names_of app) start args
 
-fault_is_top : (words : List Text) → fault_of command_line words ≡ top_fault (args_walk (drop 1 words)) (args_fault (drop 1 words))
-fault_is_top words = refl
-
-subcommand_is : (words : List Text) → subcommand_of command_line words ≡ entered app (args_walk (drop 1 words)).stopped
-subcommand_is words = refl
-
 top_quiet : (stop : Option (Text × List Text)) (p : Text × List Row) → entered app stop ≡ Some p
     → or_else (settle_fault app.top.rules app.top.args_override_self nothing_held) (or_else (defaults_fault (settled app.top.rules nothing_held).rows app.top.rules)
     (check_fault app.top (finished app.top.rules nothing_held) (is_some (entered app stop)))) ≡ []

@@ -1,3 +1,5 @@
+//! Why there is no command: help, the version, or words that are not taken.
+
 ghost use Rattle.std.specs.Prelude.{◌≡◌};
 
 use std::alloc::AllocError;

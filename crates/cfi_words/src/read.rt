@@ -1,3 +1,5 @@
+//! What `clap` matched, as a command and its words.
+
 ghost use Rattle.std.specs.Prelude.{◌≡◌, [], ◌∷◌, codes, option_and_then, option_map};
 ghost use Rattle.clap.specs.Words.{first_of, found_of, kind_of, rows_of, subcommand_rows_of};
 ghost use Rattle.cfi_words.specs.Plain.{AsksIfFaultless, TakesPlain};

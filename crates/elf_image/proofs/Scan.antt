@@ -1,6 +1,5 @@
 -- The scan over the fields of the headers.
-use Rattle.std.proofs.Common.{◌≡◌, ◌==◌, ℕ, ◌+◌, ◌<◌, ◌≤◌, List, [], ◌∷◌, ◌++◌, length, drop, get_or, true, false, if◌then◌else◌, Some, None, refl, add-one, drop-cons, eq-eqb}
-use Rattle.std.proofs.lemmas.List.{drop_all}
+use Rattle.std.proofs.Common.{◌≡◌, ◌==◌, ℕ, ◌+◌, ◌<◌, List, [], ◌∷◌, ◌++◌, length, drop, get_or, true, false, if◌then◌else◌, Some, refl, add-one, drop-cons, eq-eqb}
 use Rattle.std.specs.Option.{option_or}
 use Rattle.elf_bytes.specs.Fields.{number_at}
 use Rattle.elf_image.specs.declared.field.Field.{Field}
@@ -19,11 +18,6 @@ pub told : (bytes : List ℕ) (fs : List Field) (i : ℕ) (d : Field) → i < le
     → first_wrong bytes (drop i fs) ≡ Some (get_or fs i d).at
 unfolding first_wrong
 told bytes fs i d below other = rw (drop-cons fs i d below, other) refl
-
--- past the last there is none
-pub passed_all : (bytes : List ℕ) (fs : List Field) (i : ℕ) → length fs ≤ i → first_wrong bytes (drop i fs) ≡ None
-unfolding first_wrong
-passed_all bytes fs i end = rw (drop_all i fs end) refl
 
 -- the first wrong field of two lists is that of the first one, if it has one
 pub first_wrong-append : (bytes : List ℕ) (fs gs : List Field)

@@ -1,3 +1,5 @@
+//! Sections whose bytes leave the file.
+
 ghost use Rattle.std.specs.Prelude.{◌≡◌, ◌<◌, ◌≤◌, None, Some, IfOk, OnOk, IfErr, length};
 ghost use Rattle.elf_tables.specs.Header.{e_shnum};
 ghost use Rattle.least.specs.First.{first_below};

@@ -1,3 +1,5 @@
+//! Sections of kinds that are not taken.
+
 ghost use Rattle.std.specs.Prelude.{◌≡◌, ◌<◌};
 ghost use Rattle.elf_tables.specs.Header.{e_shnum};
 ghost use Rattle.least.specs.First.{first_below};

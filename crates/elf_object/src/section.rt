@@ -1,3 +1,5 @@
+//! What is wrong with an object's sections, tables and symbols, one test after another.
+
 ghost use Rattle.std.specs.Prelude.{◌≡◌};
 ghost use Rattle.std.specs.Option.{option_or};
 ghost use Rattle.least.specs.First.{first_below};

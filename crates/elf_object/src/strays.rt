@@ -1,3 +1,5 @@
+//! Relocations that name a symbol that is not there.
+
 ghost use Rattle.std.specs.Prelude.{◌≡◌, ◌<◌};
 ghost use Rattle.elf_tables.specs.Header.{e_shnum};
 ghost use Rattle.elf_tables.specs.Symbol.{symbol_count};

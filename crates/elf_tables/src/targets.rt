@@ -1,3 +1,5 @@
+//! Which sections have relocations.
+
 ghost use Rattle.std.specs.Prelude.{◌≡◌, ◌<◌, ◌==◌, ◌&&◌, ℕ, Option, None, Some, IfOk, length, replicate, slice_index_or, if◌then◌else◌};
 ghost use Rattle.std.specs.Option.{option_or};
 ghost use Rattle.elf_tables.specs.Header.{e_shnum};

@@ -4,7 +4,7 @@ use Rattle.std.specs.List.{flat_map}
 use Rattle.std.proofs.lemmas.List.{append_assoc, append-nil, drop_all, drop_at, get_or-map, length-map, length-replicate}
 use Rattle.std.proofs.lemmas.List.Concat.{flat_map-append}
 use Rattle.elf_writer.specs.declared.parts.Symbol.{Symbol}
-use Rattle.elf_writer.specs.Layout.{up8, laid_out, place_of, padded}
+use Rattle.elf_writer.specs.FileLayout.{up8, laid_out, place_of, padded}
 use Rattle.elf_writer.specs.Names.{ended, string_table}
 use Rattle.elf_writer.specs.Header.{elf_header, header_bytes}
 use Rattle.elf_writer.specs.File.{Entry, names, contents, headers_from, table, table_place, file_of, all_names, strings_entry, with_names}
@@ -65,12 +65,6 @@ unfolding symbols_from
 symbols_end xs i entries at past =
     let all : drop i (map symbol_of xs) ≡ [] = drop_all i (map symbol_of xs) (omega (arith, length-map xs symbol_of)) in
     rw all (sym (append-nil entries))
-
-pub names_end : (xs : List Symbol) (i : ℕ) (names : List ℕ) → length xs ≤ i
-    → names ≡ names ++ flat_map ended (symbol_names (drop i (map symbol_of xs)))
-names_end xs i names past =
-    let all : drop i (map symbol_of xs) ≡ [] = drop_all i (map symbol_of xs) (omega (arith, length-map xs symbol_of)) in
-    rw all (sym (append-nil names))
 
 -- sections that are added one after the other
 pub written-append : (w : Written) (xs ys : List Entry) → written w (xs ++ ys) ≡ written (written w xs) ys

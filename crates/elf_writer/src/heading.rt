@@ -1,3 +1,5 @@
+//! Section headers of a file that is written.
+
 ghost use Rattle.std.specs.Prelude.{◌≡◌, ◌<◌, ◌^◌, IsTrue};
 ghost use Rattle.std.specs.List.{list_all};
 ghost use Rattle.elf_writer.specs.Numbers.{is_number};

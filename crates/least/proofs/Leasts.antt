@@ -34,12 +34,6 @@ first_least test n past = elim (cases_Option (first_below test n)) [
       rw found (parts.1, λ j before. first_none test k j parts.2 before)
 ]
 
-pub lesser-assoc : (a b c : Option ℕ) → lesser (lesser a b) c ≡ lesser a (lesser b c)
-lesser-assoc None b c = refl
-lesser-assoc (Some a) None c = refl
-lesser-assoc (Some a) (Some b) None = refl
-lesser-assoc (Some a) (Some b) (Some c) = let same : min (min a b) c ≡ min a (min b c) = omega arith in ap Some same
-
 -- the least of the numbers below a bound, one step on
 pub least_begins : (given : ℕ → Option ℕ) → least_below given 0 ≡ None
 unfolding least_below

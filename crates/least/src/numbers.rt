@@ -1,3 +1,5 @@
+//! The least of numbers that are found.
+
 ghost use Rattle.std.specs.Prelude.{◌≡◌, ◌<◌, ℕ, Option};
 ghost use Rattle.least.specs.Least.{least_below, lesser};
 

@@ -1,3 +1,5 @@
+//! Words of code as instructions: pairs, and what a relocation at one asks for.
+
 ghost use Rattle.std.specs.Prelude.{◌≡◌, ◌<◌, ◌≤◌, ◌+◌, ◌*◌, ◌/◌, true, Option, Some, None};
 ghost use Rattle.obj_input.specs.Input.{is_code};
 ghost use Rattle.obj_input.specs.Code.{are_pair, are_same, at_whole, auipc_register, has_high_part, has_pair_target, if_auipc, instr, is_auipc, is_inside, is_pair, is_place, is_start, jalr_base, natural, starts_at, word, word_count};

@@ -1,3 +1,5 @@
+//! Symbols by name.
+
 ghost use Rattle.std.specs.Prelude.{◌≡◌, ◌≤◌, ℕ, List, [], None, IfOk, OnOk, length, find, option_map};
 ghost use Rattle.std.specs.Str.{bytes_eq};
 ghost use Rattle.obj_input.specs.Indexed.{IsIndexed, first_definition, looked_up, noted};

@@ -1,14 +1,14 @@
 -- A place is found in the outline exactly where the input has one, and what is found is that place.
-use Rattle.std.proofs.Common.{◌≡◌, ◌==◌, ◌⊎◌, ℕ, zero, suc, ◌+◌, ◌*◌, ◌/◌, ◌%◌, ◌<◌, nat_lt, get_or, Bool, true, false, not, ◌&&◌, Some, List, [], ◌∷◌, length, inl, inr, refl, sym, ap, subst, ◌∙◌, arith}
+use Rattle.std.proofs.Common.{◌≡◌, ◌==◌, ◌⊎◌, ℕ, zero, suc, ◌+◌, ◌*◌, ◌/◌, ◌%◌, ◌<◌, nat_lt, get_or, Bool, true, false, not, ◌&&◌, Some, List, [], ◌∷◌, length, inl, inr, refl, ap, subst, ◌∙◌, arith}
 use Rattle.std.specs.Prelude.{position}
 use Rattle.std.specs.List.{All, list_any, position_or_len}
-use Rattle.std.proofs.lemmas.Bool.{cases_Bool, cases_lt, and_parts, and_from, eqb-true, eq-eqb, lt-ltb, ltb-true, or_left, or_right, or_cases}
+use Rattle.std.proofs.lemmas.Bool.{cases_Bool, cases_lt, and_parts, and_from, eqb-true, eq-eqb, lt-ltb, ltb-true, or_left, or_right}
 use Rattle.std.proofs.lemmas.List.Elements.{All-nil, All-cons, All-append, All-get_or}
 use Rattle.std.proofs.lemmas.List.Folds.{list_any-append}
 use Rattle.std.proofs.lemmas.List.Quantifiers.{position-Some}
 use Rattle.least.specs.Nearest.{joined}
 use Rattle.obj_input.specs.Input.{InputParts, SectionParts, is_code, section_count, section_of}
-use Rattle.obj_input.specs.Code.{is_inside, is_place, is_start, starts_at, word_count}
+use Rattle.obj_input.specs.Code.{is_inside, is_start, starts_at, word_count}
 use Rattle.obj_program.specs.declared.item.Item.{Item}
 use Rattle.obj_program.specs.Program.{is_spot, no_item, place_of}
 use Rattle.obj_items.specs.Outline.{end_at, outline, section_items, start_at, start_item}
@@ -60,14 +60,6 @@ start_parts s at e =
 pub start_below : (s : SectionParts) (i : ℕ) → starts_at s i ≡ true → i < word_count s
 start_below s i e = ltb-true i (word_count s) (and_parts (nat_lt i (word_count s)) (not (is_inside s i)) e).0
 
-pub start_from : (s : SectionParts) (at i : ℕ) → is_code s ≡ true → at ≡ 4 * i → starts_at s i ≡ true → is_start s at ≡ true
-unfolding is_start
-start_from s at i code is starts =
-    let whole : at % 4 ≡ 0 = omega arith in
-    let index : at / 4 ≡ i = omega arith in
-    and_from (is_code s && at % 4 == 0) (starts_at s (at / 4)) (and_from (is_code s) (at % 4 == 0) code (eq-eqb (at % 4) 0 whole))
-    (ap (starts_at s) index ∙ starts)
-
 module _ {A : Type 0} (p : A → Bool) (parts : ℕ → List A) where
   any_joined : (n k : ℕ) → k < n → list_any p (parts k) ≡ true → list_any p (joined parts n) ≡ true
   unfolding joined
@@ -116,17 +108,6 @@ start_listed input k at e =
     let all : list_any (is_spot k at) (section_items input k) ≡ true =
     rw parts.0 (list_any-append (is_spot k at) starts (end_at (section_of input k) k ∷ []) ∙ or_left (list_any (is_spot k at) starts) _ listed) in
     any_joined (is_spot k at) (section_items input) (section_count input) k (code_there input k parts.0) all
-
-end_listed : (input : InputParts) (k : ℕ) → is_code (section_of input k) ≡ true → list_any (is_spot k (section_of input k).size) (outline input) ≡ true
-unfolding outline
-end_listed input k code =
-    let size = (section_of input k).size in
-    let starts = joined (start_item (section_of input k) k) (word_count (section_of input k)) in
-    let all : list_any (is_spot k size) (section_items input k) ≡ true =
-    rw code
-    (list_any-append (is_spot k size) starts (end_at (section_of input k) k ∷ [])
-    ∙ or_right (list_any (is_spot k size) starts) _ (any_one k size (end_at (section_of input k) k) (spot_is k size (end_at (section_of input k) k) refl refl))) in
-    any_joined (is_spot k size) (section_items input) (section_count input) k (code_there input k code) all
 
 -- what is found at an offset
 pub record IsFound (input : InputParts) (k at j : ℕ) : Type 0 where
@@ -181,30 +162,3 @@ place_there input k at e =
         item = the_start input k at (get_or (outline input) found.0 no_item) e is.section is.offset is.item;
       },
     )
-
--- at each place one is found, and nowhere else
-pub any_place_there : (input : InputParts) (k at : ℕ) → is_place (section_of input k) at ≡ true → (j : ℕ) × (place_of (outline input) k at ≡ Some j)
-any_place_there input k at e = elim (or_cases (is_start (section_of input k) at) (is_code (section_of input k) && at == (section_of input k).size) e) [
-  | inl start ↦ let there = place_there input k at start in (there.0, there.1.found)
-  | inr last ↦
-      let parts = and_parts (is_code (section_of input k)) (at == (section_of input k).size) last in
-      let same = eqb-true at (section_of input k).size parts.1 in
-      let listed = ap (λ n. list_any (is_spot k n) (outline input)) same ∙ end_listed input k parts.0 in
-      any_found (is_spot k at) (outline input) listed
-]
-
-pub only_places : (input : InputParts) (k at j : ℕ) → place_of (outline input) k at ≡ Some j → is_place (section_of input k) at ≡ true
-only_places input k at j e =
-    let is = found_is input k at j e in
-    let x = get_or (outline input) j no_item in
-    let code : is_code (section_of input k) ≡ true = ap (λ m. is_code (section_of input m)) (sym is.section) ∙ is.item.code in
-    elim is.item.either [
-      | inl (i, starts, placed) ↦
-          let start : starts_at (section_of input k) i ≡ true = ap (λ m. starts_at (section_of input m) i) (sym is.section) ∙ starts in
-          let word : x.offset ≡ 4 * i = ap (λ (y : Item). y.offset) placed in
-          or_left (is_start (section_of input k) at) _ (start_from (section_of input k) at i code (sym is.offset ∙ word) start)
-      | inr placed ↦
-          let last : x.offset ≡ (section_of input x.section).size = ap (λ (y : Item). y.offset) placed in
-          let same : at ≡ (section_of input k).size = sym is.offset ∙ last ∙ ap (λ m. (section_of input m).size) is.section in
-          or_right (is_start (section_of input k) at) _ (and_from (is_code (section_of input k)) _ code (eq-eqb at (section_of input k).size same))
-    ]

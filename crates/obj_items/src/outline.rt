@@ -1,3 +1,5 @@
+//! The places of an input, each with its own word.
+
 ghost use Rattle.std.specs.Prelude.{◌≡◌, ◌<◌, ◌++◌, ◌∷◌, [], IfOk, true};
 ghost use Rattle.least.specs.Nearest.{joined};
 ghost use Rattle.obj_input.specs.Input.{is_code, section_count, section_of};

@@ -11,7 +11,7 @@ use Rattle.least.specs.declared.place.Found.{Found}
 use Rattle.least.proofs.Nearests.{found_begins, found_step}
 use Rattle.obj_program.specs.declared.item.DataReloc.{DataReloc}
 use Rattle.obj_program.specs.Program.{Program, count}
-use Rattle.obj_program.specs.Sound.{IsSound, is_there, is_value, lies}
+use Rattle.obj_program.specs.Sound.{IsSound, is_value, lies}
 use Rattle.obj_program.specs.Range.{place_found, reloc_astray}
 
 pub sizes : (patch : DataPatch) → size_of patch ≤ 8
@@ -41,7 +41,3 @@ values_there program gates relocs sound e few j r get =
     let there : lies program r ≡ true = sound.relocations j r (rw (← e) get) in
     let parts = and_parts (nat_le (r.offset + size_of r.patch) (length program.init)) (is_value (count program) r.value) there in
     rw few parts.1
-
-pub all_there : (program : Program) (gates bytes : List ℕ) (relocs : List DataReloc) → IsSound program → relocs ≡ program.relocations → length gates ≡ count program
-    → bytes ≡ program.init → (j : ℕ) (r : DataReloc) → slice_get relocs j ≡ Some r → is_there (length bytes) (length gates) r ≡ true
-all_there program gates bytes relocs sound e few same j r get = rw (few, same) (sound.relocations j r (rw (← e) get))

@@ -1,3 +1,5 @@
+//! One place of a program.
+
 ghost use Rattle.std.specs.Prelude.{◌≡◌};
 ghost use Rattle.obj_program.specs.Program.{is_spot};
 

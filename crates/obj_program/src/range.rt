@@ -1,3 +1,5 @@
+//! Where a value first leaves the range of its relocation.
+
 ghost use Rattle.std.specs.Prelude.{◌≡◌, ◌<◌, ℕ, true, Some, length, slice_get};
 ghost use Rattle.std.specs.List.{filter_map};
 ghost use Rattle.least.specs.Nearest.{nearest};

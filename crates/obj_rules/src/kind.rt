@@ -1,3 +1,5 @@
+//! The kind of each instruction, by itself and with its relocation.
+
 ghost use Rattle.std.specs.Prelude.{◌≡◌, ◌<◌, true};
 ghost use Rattle.obj_input.specs.Input.{is_code};
 ghost use Rattle.obj_input.specs.Code.{word_count};
@@ -88,6 +90,6 @@ pub fn kind_at(section: &Section, index: u64) -> Option<ItemKind>
     if section.is_pair(index) {
         return pair_kind(section.instr_after(index));
     }
-    let plain = section.busy_at(section.offset_of(index)).is_empty();
+    let plain = section.acting_at(section.offset_of(index)).is_empty();
     word_kind(plain, section.instr(index))
 }

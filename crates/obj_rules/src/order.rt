@@ -1,3 +1,5 @@
+//! The tests of an input in their order.
+
 ghost use Rattle.std.specs.Prelude.{◌≡◌, ◌<◌};
 ghost use Rattle.obj_input.specs.Input.{section_count};
 ghost use Rattle.obj_rules.specs.Finding.{nearest_in};

@@ -1,3 +1,5 @@
+//! The fixed bits of each instruction's word.
+
 ghost use Rattle.std.specs.Prelude.{◌≡◌, ◌≤◌};
 ghost use Rattle.rv_code.specs.Encode.{
   branch_code,

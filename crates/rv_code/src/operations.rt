@@ -1,3 +1,5 @@
+//! Operations by their function codes.
+
 ghost use Rattle.std.specs.Prelude.{◌≡◌};
 ghost use Rattle.rv_code.specs.Tables.{
   branches,

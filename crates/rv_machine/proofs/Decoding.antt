@@ -1,17 +1,16 @@
 -- Code as it was decoded is that of the memory in which a run starts, and stays so under all that a machine does.
 use Rattle.std.proofs.Common.{◌≡◌, ℕ, ◌+◌, ◌*◌, ◌≤◌, ◌<◌, inl, inr, List, [], ◌∷◌, ◌++◌, ◌⊎◌, length, get_or, Bool, true, false, Option, Some, None, refl, sym, ap, ◌∙◌, arith}
 use Rattle.std.specs.Prelude.{slice_get, option_and_then, nat_le}
-use Rattle.std.proofs.lemmas.Bool.{ne_eqb, leb-true, and_parts, or_cases, cases_lt}
+use Rattle.std.proofs.lemmas.Bool.{leb-true, and_parts, or_cases, cases_lt}
 use Rattle.std.proofs.lemmas.Option.{slice_get_past, slice_get-get_or, get_or_from_slice_get}
 use Rattle.std.proofs.lemmas.List.{length-append}
 use Rattle.std.proofs.Math.ListN.{get_or-append}
 use Rattle.std.proofs.Math.Seq.{get_or-append_seam}
 use Rattle.rv_word.specs.Image.{Contents}
-use Rattle.rv_word.specs.Layout.{CODE_START, CODE_SIZE, DATA_START, DATA_END, SHADOW_START, can_store, lies_within, version_1}
+use Rattle.rv_word.specs.MemoryMap.{CODE_START, CODE_SIZE, DATA_START, DATA_END, SHADOW_START, can_store, lies_within, version_1}
 use Rattle.rv_word.specs.Memory.{Memory, loaded, placed, read, write, zeros}
 use Rattle.rv_word.specs.Same.{SameOn}
 use Rattle.rv_instr.specs.declared.instr.Instr.{Instr}
-use Rattle.rv_mem.specs.Cells.{with_byte}
 use Rattle.rv_code.specs.Decode.{decoded}
 use Rattle.rv_code.specs.State.{Hart, Shared, After}
 use Rattle.rv_code.specs.SystemCall.{system_call}
@@ -43,11 +42,6 @@ code_stored instrs m m' n a v may e = code_kept instrs m m' (λ k from to. ap (�
       | inl low ↦ let below = leb-true (a + n) DATA_END (and_parts (nat_le 0 a) (nat_le (a + n) DATA_END) low).1 in inr (omega (arith, below))
       | inr high ↦ let above = leb-true SHADOW_START a (and_parts (nat_le SHADOW_START a) (nat_le (a + n) (SHADOW_START + version_1.shadow_size)) high).0 in inl (omega (arith, above))
     ]
-
--- a change from outside is of data
-pub code_changed : (instrs : List (Option Instr)) (m m' : Memory) (a b : ℕ) → a < DATA_END → m' ≡ with_byte m a b → IsCodeOf instrs m → IsCodeOf instrs m'
-unfolding with_byte
-code_changed instrs m m' a b low e = code_kept instrs m m' (λ k from to. ap (λ (w : Memory). w k) e ∙ rw (ne_eqb k a (λ same. omega arith)) refl)
 
 -- a system call writes below 2 ^ 28
 pub code_called : (instrs : List (Option Instr)) (h : Hart) (s : Shared) (after : After) → after ≡ system_call h s → IsCodeOf instrs s.memory → IsCodeOf instrs after.shared.memory

@@ -5,20 +5,10 @@ use Rattle.std.proofs.lemmas.Bool.Decides.{nat_tests}
 use Rattle.std.proofs.lemmas.List.{get_or-take, get_or-drop, length-take-le}
 use Rattle.std.proofs.Math.Path.{fun_ext}
 use Rattle.rv_word.specs.Memory.{Memory, placed, write}
-use Rattle.rv_mem.specs.Cells.{with_byte}
 
 pub placed-none : (m : Memory) (a : ℕ) → m ≡ placed m a []
 unfolding placed
 placed-none m a = fun_ext (λ k. grind (arith, nat_tests))
-
--- the next byte
-pub placed-more : (m : Memory) (a i : ℕ) (bs : List ℕ) → i < length bs →
-    with_byte (placed m a (take i bs)) (a + i) (get_or bs i 0) ≡ placed m a (take (i + 1) bs)
-unfolding placed with_byte
-placed-more m a i bs low = fun_ext (λ k.
-    let now : length (take i bs) ≡ i = length-take-le i bs (omega arith) in
-    let next : length (take (i + 1) bs) ≡ i + 1 = length-take-le (i + 1) bs (omega arith) in
-    rw (now, next) (grind (arith, nat_tests, get_or-take {A = ℕ})))
 
 -- the bytes of a number
 byte_of : (v j : ℕ) → j < 8 → get_or (to_le_bytes w64 v) j 0 ≡ v / 256 ^ j % 256

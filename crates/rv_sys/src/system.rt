@@ -1,3 +1,5 @@
+//! System calls.
+
 ghost use Rattle.std.specs.Prelude.{◌≡◌, ℕ, ◌+◌, ◌-◌, ◌≤◌, ◌<◌, ◌^◌, ◌++◌, ◌∷◌, [], length, take, drop, nat_le, IfOk, OnOk, OnErr, IsTrue};
 ghost use Rattle.rv_instr.specs.Registers.{regs_of};
 ghost use Rattle.rv_mem.specs.Cells.{Cells, has_room, memory_of};

@@ -1,5 +1,5 @@
 //! The memory map in numbers: where the regions begin and end, as addresses and bytes. Definitions
-//! have them from here, by `specs/Layout.antt`.
+//! have them from here, by `specs/MemoryMap.antt`.
 
 /// Where an image's initialised data begin.
 pub const DATA_START: u64 = 0x1_0000;

@@ -1,3 +1,5 @@
+//! Whether a map is a placement's.
+
 ghost use Rattle.std.specs.Prelude.{◌≡◌, ◌==◌, ◌<◌, ◌≤◌, ◌+◌, ◌^◌, ℕ, IfSome, IfNone, length};
 ghost use Rattle.least.specs.First.{first_below};
 ghost use Rattle.obj_program.specs.Program.{count, item_of};

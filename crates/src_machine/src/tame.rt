@@ -1,3 +1,5 @@
+//! The reasons against a step.
+
 ghost use Rattle.std.specs.Prelude.{◌≡◌, ◌<◌, ◌+◌, false, IfSome, nat_le, not};
 ghost use Rattle.std.specs.List.{All};
 ghost use Rattle.rv_code.specs.Arithmetic.{load_size, store_size};

@@ -87,10 +87,6 @@ eight_digits n small = padded_with 8 (digits 16 false n) ∙ all_digits 64 7 n r
 pub sixteen_digits : (n : ℕ) → n < 2 ^ 64 → padded_integral (format_spec 32 0 4 16 (2 ^ 64 - 1)) false [] (digits 16 false n) ≡ hex_text 16 n
 sixteen_digits n small = padded_with 16 (digits 16 false n) ∙ all_digits 64 15 n refl (omega arith) small
 
--- the low 32 bits have the same eight digits
-low_digit : (n k : ℕ) → n % 2 ^ 32 / 2 ^ k % 2 ^ 4 ≡ n / 2 ^ k % 2 ^ 4 → hex_digit (n % 2 ^ 32 / 2 ^ k % 2 ^ 4) ≡ hex_digit (n / 2 ^ k % 2 ^ 4)
-low_digit n k e = ap hex_digit e
-
 pub eight_low_digits : (n : ℕ) → hex_text 8 (n % 2 ^ 32) ≡ hex_text 8 n
 unfolding hex_text
 eight_low_digits n =

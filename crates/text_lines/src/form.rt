@@ -1,3 +1,5 @@
+//! What a form of lines is.
+
 ghost use Rattle.std.specs.Prelude.{◌≡◌, ◌++◌, true, List, IfOk, OnOk, OnErr};
 ghost use Rattle.text_lines.specs.Lines.{words_of};
 ghost use Rattle.text_lines.specs.Reading.{LineRules};

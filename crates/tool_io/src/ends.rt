@@ -1,3 +1,5 @@
+//! How a read and a write may fail.
+
 ghost use Rattle.std.specs.Prelude.{◌≡◌};
 ghost use Rattle.tool_io.specs.declared.ends.ReadEnd.TheVariants.{NoMemory as NoReadMemory};
 ghost use Rattle.tool_io.specs.declared.ends.OutEnd.TheVariants.{NoMemory as NoOutMemory};
