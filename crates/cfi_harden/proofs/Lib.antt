@@ -1,5 +1,5 @@
 pub mod PartSizes
-mod ShortList
+pub mod ShortList
 mod Shortened
 mod Placements
 mod Few

@@ -85,6 +85,7 @@ module _ (program : Program) (closed : ClosedGraph) (p : Placed) (is : IsShorten
       long = long;
     })
     at_starts = record {
+      sound = sound;
       room = is.room;
       size = size;
       legal = legal;

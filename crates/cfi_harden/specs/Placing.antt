@@ -2,6 +2,7 @@
 use Rattle.std.specs.Prelude.{◌≡◌, ℕ, ◌≤◌, ◌<◌, Bool, true, false, Some, List, length}
 use Rattle.rv_word.specs.MemoryMap.{CODE_SIZE, UNITS_START}
 use Rattle.obj_program.specs.Program.{Program, count, item_of}
+use Rattle.obj_program.specs.Sound.{IsSound}
 use Rattle.cfi_layout.specs.declared.end.PlaceEnd.{PlaceEnd}
 use Rattle.cfi_layout.specs.declared.end.PlaceEnd.TheVariants as ends
 use Rattle.cfi_layout.specs.LongSet.{IsLongSet, starts_under}
@@ -21,6 +22,8 @@ pub record Spaced : Type 0 where
   pub long : List Bool
 
 pub record IsPlacement (program : Program) (closed : ClosedGraph) (s : Spaced) : Type 0 where
+  -- the program is sound: so each branch has a target
+  pub sound : IsSound program
   -- the code has room, also with every branch long
   pub room : whole_size program closed ≤ CODE_SIZE
   pub size : code_size (part_sizes closed.classes s.long 0 program.items) ≤ CODE_SIZE

@@ -2,25 +2,27 @@
 use Rattle.std.proofs.Common.{◌≡◌, ℕ, zero, suc, ◌+◌, ◌%◌, ◌^◌, List, [], ◌∷◌, ◌++◌, length, length-append, Some, None, refl, sym, ap, subst, ◌∙◌, arith}
 use Rattle.std.proofs.lemmas.Option.{option_and_then_some, same_Some}
 use Rattle.rv_word.specs.Image.{Contents}
-use Rattle.rv_word.specs.MemoryMap.{DATA_START, Profile, SHADOW_START, version_1}
-use Rattle.rv_word.specs.Memory.{loaded, placed, zeros}
+use Rattle.rv_word.specs.MemoryMap.{DATA_START, version_1}
+use Rattle.rv_word.specs.Memory.{placed, zeros}
 use Rattle.rv_instr.specs.Registers.{cleared, set_reg}
-use Rattle.rv_code.specs.State.{After, Shared, last_exit}
+use Rattle.rv_code.specs.State.{After, last_exit}
 use Rattle.rv_code.specs.declared.turn.Turn.TheVariants.{Ran}
 use Rattle.cfi_flow.specs.GraphAtMap.{gate}
-use Rattle.cfi_unit.specs.PrologueEffect.{closing_site}
-use Rattle.cfi_runs.specs.Matching.{MatchesAfter, SameData}
 use Rattle.cfi_runs.specs.Own.{Own, OwnAfter, own_start}
+use Rattle.cfi_runs.specs.OwnRuns.{SitesFit}
 use Rattle.cfi_runs.specs.WholeRun.{RunsTo, own_shared, undisturbed}
 use Rattle.cfi_harden.specs.Units.{Choice, entry_gate}
 use Rattle.cfi_kept.specs.ImageOf.{IsImageOf}
 use Rattle.cfi_kept.specs.PlaceSteps.{PlacesRun, TamePlace, place_step}
 use Rattle.cfi_kept.specs.PlacesKept.{KeepsPlaces, bound}
 use Rattle.cfi_kept.proofs.Kept.{places_kept}
-use Rattle.cfi_meaning.specs.Meaning.{Answers, Matches, MeaningKept, address_of, own_of}
+use Rattle.cfi_meaning.specs.Matches.{Matches, address_of, own_of}
+use Rattle.cfi_meaning.specs.Meaning.{Answers, EndsAs, MeaningKept}
 use Rattle.cfi_flow.specs.Source.{Source, init_here, source_start}
 use Rattle.cfi_flow.specs.SourceStep.{SourceAfter, StepTurn, after_steps, breaks, closes, exits, going_on, ran, source_step, untame}
 use Rattle.cfi_meaning.proofs.KindActs.{IsOwn}
+use Rattle.cfi_meaning.proofs.Matching.{fitting, from_own}
+use Rattle.cfi_meaning.proofs.StepKept.{answers, closing_is, sites_after, step_kept}
 use Rattle.cfi_meaning.proofs.Steps.{Stepped, at_closing, at_place, has_ended, is_untame, stepped}
 
 -- a step more at the end of a run over places
@@ -45,6 +47,7 @@ record Led (m : Choice) (image : Contents) (n : ℕ) (o last : Own) : Type 0 whe
   places : List ℕ
   counted : length places ≡ n
   run : PlacesRun m image places o last
+  fit : SitesFit last.pending
 
 module _ (m : Choice) (image : Contents) (of : IsImageOf m image) (input : List ℕ) where
   abbrev start : Source
@@ -72,18 +75,23 @@ module _ (m : Choice) (image : Contents) (of : IsImageOf m image) (input : List 
         places = led.places ++ k ∷ [];
         counted = omega arith;
         run = one_more m image led.places k (own_of m.layout start) (own_of m.layout s) (own_of m.layout st) led.run now is;
+        fit = subst (λ (a : OwnAfter). SitesFit a.state.pending) is (sites_after m image of k (own_of m.layout s) now led.fit);
       }
 
   led : (n : ℕ) (st : Source) → after_steps m.layout n start ≡ Some st → Led m image n (own_of m.layout start) (own_of m.layout st)
   unfolding after_steps
-  led zero st e = record { places = []; counted = refl; run = ap (own_of m.layout) (sym (same_Some start st e)) }
+  led zero st e =
+      let same : start ≡ st = same_Some start st e in
+      record {
+        places = [];
+        counted = refl;
+        run = ap (own_of m.layout) (sym same);
+        fit = subst (λ (x : Source). SitesFit (own_of m.layout x).pending) same (fitting m of.accepted start (omega arith));
+      }
   led (suc n) st e =
       option_and_then_some {P = Led m image (suc n) (own_of m.layout start) (own_of m.layout st)}
       (λ (s : Source). going_on (source_step m.layout s).turn (source_step m.layout s).state) (after_steps m.layout n start) st e
       (λ s before on. led_on n s st (led n s before) on (stepped m image of s))
-
-  closing_is : m.layout.profile.closing ≡ closing_site (entry_gate m)
-  closing_is = ap (λ (p : Profile). p.closing) of.accepted.profile
 
   module _ (init : image.init ≡ init_here m.layout) where
     starts : own_of m.layout start ≡ own_start (entry_gate m) cleared (own_shared image input)
@@ -93,7 +101,7 @@ module _ (m : Choice) (image : Contents) (of : IsImageOf m image) (input : List 
           regs = set_reg (set_reg cleared 2 (2 ^ 28)) 1 c;
           shared = start.shared;
           pending = c ∷ [];
-        }) closing_is
+        }) (closing_is m image of)
         ∙ ap (λ (bytes : List ℕ). own_start (entry_gate m) cleared (record { memory = placed zeros DATA_START bytes; left = input; output = []; events = [] })) (sym init)
 
     kept : (n : ℕ) (st : Source) → (l : Led m image n (own_of m.layout start) (own_of m.layout st)) → KeepsPlaces m image input l.places (own_of m.layout st)
@@ -103,42 +111,50 @@ module _ (m : Choice) (image : Contents) (of : IsImageOf m image) (input : List 
     goes : (n : ℕ) (st : Source) → after_steps m.layout n start ≡ Some st → RunsTo version_1 image input (bound n) (Matches m.layout image st)
     goes n st e =
         let l = led n st e in
-        subst (λ (j : ℕ). RunsTo version_1 image input (bound j) (Matches m.layout image st)) l.counted (kept n st l).goes
+        let comes = (kept n st l).goes in
+        let few = comes.1 in
+        let counted = l.counted in
+        (comes.0, omega arith, from_own m.layout image st (undisturbed version_1 image input comes.0) l.fit.most comes.2)
 
-    answers : (turn : StepTurn) (next : Source) (o : OwnAfter) → IsOwn m.layout o turn next → (after : After) →
-        MatchesAfter SHADOW_START (loaded image) (loaded image) o after → Answers m.layout image turn next after
-    answers ran next o own after matches =
-        let those = subst (λ (a : OwnAfter). MatchesAfter SHADOW_START (loaded image) (loaded image) a after) own matches in (those.turn, those.going refl)
-    answers (exits status) next o own after matches = (matches.turn ∙ own.0, subst (λ (s : Shared). SameData s after.shared) own.1 matches.shared)
-    answers (breaks k) next o own after matches = (matches.turn ∙ own.0, own.1, subst (λ (s : Shared). SameData s after.shared) own.2 matches.shared)
-    answers (untame why k) next o own after matches = tt
+    ended : (turn : StepTurn) (next : Source) (after : After) → Answers m.layout image turn next after → EndsAs m.layout turn next after
+    ended ran next after answer = tt
+    ended (exits status) next after answer = answer
+    ended (breaks k) next after answer = answer
+    ended (untame why k) next after answer = tt
 
     ends_so : (n : ℕ) (st : Source) → after_steps m.layout n start ≡ Some st → Stepped m image st →
-        RunsTo version_1 image input (bound (n + 1)) (Answers m.layout image (source_step m.layout st).turn (source_step m.layout st).state)
+        RunsTo version_1 image input (bound (n + 1)) (EndsAs m.layout (source_step m.layout st).turn (source_step m.layout st).state)
     ends_so n st e (has_ended status ended is) =
-        let (steps, few, comes) = goes n st e in
-        let none : last_exit st.shared.events ≡ None = sym (ap last_exit comes.1.shared.events) ∙ comes.1.context.going in
+        let (steps, few, same) = goes n st e in
+        let none : last_exit st.shared.events ≡ None = sym (ap last_exit same.events) ∙ same.going in
         absurd (cc)
     ends_so n st e (is_untame why k is) =
-        subst (λ (t : StepTurn). RunsTo version_1 image input (bound (n + 1)) (Answers m.layout image t (source_step m.layout st).state)) (sym is) (0, omega arith, tt)
+        subst (λ (t : StepTurn). RunsTo version_1 image input (bound (n + 1)) (EndsAs m.layout t (source_step m.layout st).state)) (sym is) (0, omega arith, tt)
     ends_so n st e (at_place k now own) =
         let l = led n st e in
         let next = (kept n st l).next k now in
         let few = next.1 in
         let counted = l.counted in
-        (next.0, omega arith, answers (source_step m.layout st).turn (source_step m.layout st).state (place_step m k (own_of m.layout st)) own (undisturbed version_1 image input next.0) next.2)
+        let turn = (source_step m.layout st).turn in
+        let state = (source_step m.layout st).state in
+        let after = undisturbed version_1 image input next.0 in (
+          next.0,
+          omega arith,
+          ended turn state after (answers m image of turn state (place_step m k (own_of m.layout st)) own (sites_after m image of k (own_of m.layout st) now l.fit) after next.2),
+        )
     ends_so n st e (at_closing nowhere is) =
         let l = led n st e in
-        let close = (kept n st l).closes (ap (address_of m.layout) nowhere ∙ closing_is) in
+        let close = (kept n st l).closes (ap (address_of m.layout) nowhere ∙ closing_is m image of) in
         let few = close.1 in
         let counted = l.counted in (
           close.0,
           omega arith,
-          subst (λ (a : SourceAfter). Answers m.layout image a.turn a.state (undisturbed version_1 image input close.0)) (sym is) (close.2.turn, close.2.shared),
+          subst (λ (a : SourceAfter). EndsAs m.layout a.turn a.state (undisturbed version_1 image input close.0)) (sym is) (close.2.turn, close.2.shared),
         )
 
 pub meaning_kept : MeaningKept
 meaning_kept m image input of init = record {
   goes = λ n st e. goes m image of input init n st e;
   ends = λ n st e. ends_so m image of input init n st e (stepped m image of st);
+  stays = step_kept m image of;
 }

@@ -19,7 +19,7 @@ use Rattle.cfi_unit.specs.Shadow.{MOST_PENDING}
 use Rattle.cfi_runs.specs.Own as own
 use Rattle.cfi_runs.specs.Tame.{IsTame}
 use Rattle.cfi_harden.specs.Units.{unit_of}
-use Rattle.cfi_meaning.specs.Meaning.{sites_of}
+use Rattle.cfi_meaning.specs.Matches.{sites_of}
 use Rattle.cfi_flow.specs.declared.reason.Reason.TheVariants as why
 use Rattle.cfi_flow.specs.Source.{Source}
 use Rattle.cfi_flow.specs.Untame.{MOST_CALLS, is_off_graph, is_off_window, is_too_deep, is_wrong_return, return_address}

@@ -2,6 +2,8 @@ pub mod Found
 pub mod KindTame
 pub mod KindActs
 pub mod Steps
+pub mod Matching
+pub mod StepKept
 pub mod Kept
 pub mod NeverDiffers
 pub mod Hardened

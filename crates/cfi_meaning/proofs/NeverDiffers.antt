@@ -17,7 +17,7 @@ use Rattle.cfi_runs.specs.WholeRun.{undisturbed}
 use Rattle.cfi_harden.specs.Units.{Choice}
 use Rattle.cfi_kept.specs.PlacesKept.{bound}
 use Rattle.cfi_meaning.specs.Compared.{Compared, Difference, SourceRun, TraceItem, broke, called, compared, differs, exited, first_difference, has_ended, image_end, run_from, running, same_bytes, same_event, same_item, source_end, source_run, stopped, trace, verdict}
-use Rattle.cfi_meaning.specs.Meaning.{Answers, KeepsMeaning}
+use Rattle.cfi_meaning.specs.Meaning.{EndsAs, KeepsMeaning}
 use Rattle.cfi_meaning.specs.NeverDiffers as law
 use Rattle.cfi_flow.specs.Source.{Source, source_start}
 use Rattle.cfi_flow.specs.SourceStep.{SourceAfter, StepTurn, after_steps, breaks, exits, ran, source_step, untame}
@@ -142,7 +142,7 @@ module _ (m : Choice) (image : Contents) (input : List ℕ) where
       ∙ ap (first_difference k ended (map called events)) (ap (λ (xs : List TraceItem). xs ++ end) (map_join events more) ∙ append_assoc (map called events) (map called more) end)
       ∙ prefix_same k ended (map called events) (map called more ++ end)
 
-  ended_same : (turn : StepTurn) (st : Source) (few most : ℕ) → few ≤ most → Answers m.layout image turn st (after few) → (turn ≡ ran → ⊥) → (d : Difference) →
+  ended_same : (turn : StepTurn) (st : Source) (few most : ℕ) → few ≤ most → EndsAs m.layout turn st (after few) → (turn ≡ ran → ⊥) → (d : Difference) →
       verdict turn (first_difference 0 (has_ended turn) (trace st.shared.events (source_end turn)) (trace (after most).shared.events (image_end (after most).turn))) (length st.shared.events) ≡ differs d → ⊥
   ended_same ran st few most less answer not_ran d e = not_ran refl
   ended_same (exits status) st few most less answer not_ran d e =
@@ -182,9 +182,9 @@ module _ (m : Choice) (image : Contents) (input : List ℕ) where
     never r (on_way t e) d differ =
         let here = kept.goes r.steps r.state (subst (λ (i : ℕ). after_steps m.layout i start ≡ Some r.state) (let s : 0 + r.steps ≡ r.steps = omega arith in s) e) in
         let most = bound r.steps in
-        let more = added here.0 most here.1 here.2.0 in
+        let more = added here.0 most here.1 here.2.turn in
         let es = r.state.shared.events in
-        let events : (after most).shared.events ≡ es ++ more.0 = more.1 ∙ ap (λ (old : List Event). old ++ more.0) here.2.1.shared.events in
+        let events : (after most).shared.events ≡ es ++ more.0 = more.1 ∙ ap (λ (old : List Event). old ++ more.0) here.2.events in
         let end = image_end (after most).turn in
         let none : first_difference 0 (has_ended r.turn) (trace es (source_end r.turn)) (trace (after most).shared.events end) ≡ None =
         ap (λ (x : StepTurn). first_difference 0 (has_ended r.turn) (trace es (source_end x)) (trace (after most).shared.events end)) t
@@ -194,8 +194,8 @@ module _ (m : Choice) (image : Contents) (input : List ℕ) where
     never r (at_end before i counted e is not_ran) d differ =
         let there = kept.ends i before (subst (λ (j : ℕ). after_steps m.layout j start ≡ Some before) (let s : 0 + i ≡ i = omega arith in s) e) in
         let few = there.1 in
-        let answer : Answers m.layout image r.turn r.state (after there.0) =
-        subst (λ (a : SourceAfter). Answers m.layout image a.turn a.state (after there.0)) is there.2 in
+        let answer : EndsAs m.layout r.turn r.state (after there.0) =
+        subst (λ (a : SourceAfter). EndsAs m.layout a.turn a.state (after there.0)) is there.2 in
         ended_same r.turn r.state there.0 (bound r.steps) (omega arith) answer not_ran d differ
     never r (off_way why k is) d differ = untame_differs r.turn why k _ _ d is differ
 

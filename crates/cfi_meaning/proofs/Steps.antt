@@ -23,7 +23,7 @@ use Rattle.cfi_kept.specs.ImageOf.{IsImageOf, IsPlace}
 use Rattle.cfi_kept.specs.PlaceSteps.{TamePlace, place_step}
 use Rattle.cfi_kept.proofs.KindStep.{step_of_kind}
 use Rattle.cfi_kept.proofs.Targets.{target_bears}
-use Rattle.cfi_meaning.specs.Meaning.{own_of}
+use Rattle.cfi_meaning.specs.Matches.{own_of}
 use Rattle.cfi_flow.specs.declared.reason.Reason.{Reason}
 use Rattle.cfi_flow.specs.Source.{Source, instr_here}
 use Rattle.cfi_flow.specs.SourceStep.{SourceAfter, acts, closes, exits, source_step, step_at, unless, unless_ended, untame}

@@ -1,3 +1,4 @@
+pub mod Matches
 pub mod Meaning
 pub mod Compared
 pub mod NeverDiffers

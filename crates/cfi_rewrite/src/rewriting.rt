@@ -20,7 +20,8 @@ pub fn rewrite(
     // does.
     ensures hardens { Hardens (record { object = object.now; entry = entry.now; policy = option_copied policy.entry }) result }
     // With each input: when the program at the map has run n tame steps and goes on, the image, which nothing disturbs, is within
-    // 21 n + 13 steps at a state that matches; and within 21 more it ends as the program's next step does, with the same events.
+    // 21 n + 13 steps at a state that matches; where the program's next step ends it, the image has ended alike within
+    // 21 (n + 1) + 13 in all, with the same events; and from any state that matches the next tame step is kept within 21.
     ensures meaning_kept { IfOk result (λ h. KeepsMeaningAtMap (record { object = object.now; entry = entry.now; policy = option_copied policy.entry }) h) }
     // With each input and each limit: comparing the events and the end of the program's run with those of the image's tells no
     // difference.

@@ -1,7 +1,22 @@
 //! Each function states one law; nothing is computed.
-ghost use Rattle.cfi_single.specs.OneWay.{PreparedInOneWay};
+ghost use Rattle.cfi_single.specs.OneWay.{HardenedInOneWay, HardenedIsNotRefused, PreparedInOneWay, RefusedInOneWay};
 
-/// What a request comes to before anything is placed is determined: its program, its closed graph and its entry.
+/// A request is prepared in one way.
 pub fn prepared_in_one_way()
     ensures { PreparedInOneWay }
+{}
+
+/// It is hardened in one way: its image, its graph and its map are determined by it.
+pub fn hardened_in_one_way()
+    ensures { HardenedInOneWay }
+{}
+
+/// Where it is hardened no refusal stands of it, but for want of memory.
+pub fn hardened_is_not_refused()
+    ensures { HardenedIsNotRefused }
+{}
+
+/// One refusal is the first that stands of it, but for want of memory.
+pub fn refused_in_one_way()
+    ensures { RefusedInOneWay }
 {}

@@ -1,5 +1,6 @@
-//! Laws that a request is prepared in one way: its object, its entry's name and its policy determine the program, the closed graph
-//! and the place where the program is entered.
+//! Laws that a request comes to one result, unless memory is wanting: its object, its entry's name and its policy determine what it
+//! is prepared to (the program, the closed graph and the place where the program is entered), what it is hardened to (image, graph
+//! and map) or which refusal is the first that stands.
 #![tactic(auto)]
 
 pub mod laws;

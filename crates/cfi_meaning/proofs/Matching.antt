@@ -1,0 +1,95 @@
+-- A state matches just where it is one that a run of the program's own comes to; its pending sites are addresses of instructions.
+use Rattle.std.proofs.Common.{◌≡◌, ℕ, ◌%◌, ◌^◌, ◌<◌, ◌≤◌, inl, inr, List, [], ◌∷◌, length, Option, Some, None, ap, arith}
+use Rattle.std.specs.List.{AllByRecursion}
+use Rattle.std.proofs.lemmas.Bool.{cases_lt}
+use Rattle.std.proofs.lemmas.List.{get_or_past}
+use Rattle.rv_word.specs.Image.{Contents}
+use Rattle.rv_word.specs.MemoryMap.{Profile, SHADOW_START}
+use Rattle.rv_word.specs.Memory.{loaded}
+use Rattle.rv_code.specs.State.{After}
+use Rattle.obj_program.specs.Program.{count}
+use Rattle.cfi_flow.specs.GraphAtMap.{ProgramAtMap, gate}
+use Rattle.cfi_flow.specs.Source.{Source}
+use Rattle.cfi_unit.specs.Shadow.{MOST_PENDING}
+use Rattle.cfi_runs.specs.MatchLaws.{ComesTo}
+use Rattle.cfi_runs.specs.OwnRuns.{SitesFit}
+use Rattle.cfi_harden.specs.Accepted.{IsAccepted}
+use Rattle.cfi_harden.specs.Units.{Choice}
+use Rattle.cfi_harden.proofs.Gates.{gates_counted}
+use Rattle.cfi_harden.proofs.Standing.{gate_lies}
+use Rattle.cfi_meaning.specs.Matches.{Matches, MatchesIsOwn, own_of, sites_at, sites_now, sites_of}
+
+module _ (layout : ProgramAtMap) (image : Contents) (st : Source) (after : After) where
+  -- a run of the program's own comes to this state
+  abbrev pub OwnComes : Type 0
+  OwnComes = ComesTo SHADOW_START (loaded image) (loaded image) (own_of layout st) after
+
+  -- of what is no data and no shadow stack code is a part
+  pub to_own : Matches layout image st after → OwnComes
+  to_own same = (
+    same.turn,
+    record {
+      pc = same.pc;
+      regs = record { same = same.regs };
+      shared = record { memory = same.in_data; left = same.left; output = same.output; events = same.events };
+      pointer = same.pointer;
+      context = record {
+        going = same.going;
+        kept = record { code = λ a from to. same.code a (omega arith) (inl (omega arith)); held = same.slots; frame = same.code };
+      };
+    },
+  )
+
+  pub from_own : length (sites_now layout st) ≤ MOST_PENDING → OwnComes → Matches layout image st after
+  from_own room comes = record {
+    turn = comes.0;
+    going = comes.1.context.going;
+    pc = comes.1.pc;
+    regs = comes.1.regs.same;
+    in_data = comes.1.shared.memory;
+    left = comes.1.shared.left;
+    output = comes.1.shared.output;
+    events = comes.1.shared.events;
+    pointer = comes.1.pointer;
+    slots = comes.1.context.kept.held;
+    room = room;
+    code = comes.1.context.kept.frame;
+  }
+
+pub matches_is_own : MatchesIsOwn
+matches_is_own layout image st after = (
+  λ same. (same.room, to_own layout image st after same),
+  λ comes. from_own layout image st after comes.0 comes.1,
+)
+
+-- sites
+abbrev IsSite : ℕ → Type 0
+IsSite site = (site % 2 ≡ 0) × (site < 2 ^ 64)
+
+module _ (m : Choice) (ok : IsAccepted m) where
+  closing_site : IsSite m.layout.profile.closing
+  closing_site = let is = ap (λ (p : Profile). p.closing) ok.profile in (omega arith, omega arith)
+
+  gate_site : (k : ℕ) → IsSite (gate m.layout k)
+  gate_site k = elim (cases_lt k (count m.layout.program)) [
+    | inl below ↦
+        let lies = gate_lies m ok k below in
+        let high = lies.1 in
+        let round = lies.2 in
+        (omega arith, omega arith)
+    | inr past ↦
+        let counted = gates_counted m ok in
+        let none = get_or_past m.layout.gates k 0 (omega arith) in
+        (omega arith, omega arith)
+  ]
+
+  all_sites : (pending : List ℕ) → AllByRecursion IsSite (sites_of m.layout pending)
+  all_sites [] = (closing_site, tt)
+  all_sites (k ∷ pending) = (gate_site k, all_sites pending)
+
+  sites_there : (place : Option ℕ) (pending : List ℕ) → AllByRecursion IsSite (sites_at m.layout place pending)
+  sites_there None pending = tt
+  sites_there (Some k) pending = all_sites pending
+
+  pub fitting : (st : Source) → length (sites_now m.layout st) ≤ MOST_PENDING → SitesFit (sites_now m.layout st)
+  fitting st room = record { each = sites_there st.place st.pending; most = room }
