@@ -4,3 +4,4 @@ pub mod Writing
 pub mod Complete
 pub mod Sources
 pub mod Demonstrated
+mod ImageSizes

@@ -76,11 +76,18 @@ IsRefused request other = ⊥
 abbrev pub IsSpelled : List ℕ → Type 0
 IsSpelled bytes = (code : List ℕ) × (init : List ℕ) × IsImageSize (length code) (length init) × (bytes ≡ spelling code init)
 
+-- so they are, and the code has the length that a graph tells. Only private contracts cite this
+abbrev pub IsSpelledWith : List ℕ → GraphParts → Type 0
+IsSpelledWith bytes graph =
+    (code : List ℕ) × (init : List ℕ) × IsImageSize (length code) (length init) × (bytes ≡ spelling code init) × (graph.code ≡ length code)
+
 -- what is told of an image and its graph: the lengths of code and initialised data, and the numbers of lines
 pub record HasSizes (image : List ℕ) (graph : GraphParts) (sizes : Sizes) : Type 0 where
   pub code : List ℕ
   pub init : List ℕ
   pub image_is : image ≡ spelling code init
+  -- of these lengths, so that no other code and data have this spelling
+  pub image_size : IsImageSize (length code) (length init)
   pub code_size : sizes.code ≡ length code
   pub data_size : sizes.data ≡ length init
   pub classes : sizes.classes ≡ count_by is_class graph.lines
