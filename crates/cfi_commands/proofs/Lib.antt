@@ -5,3 +5,4 @@ pub mod Complete
 pub mod Sources
 pub mod Demonstrated
 mod ImageSizes
+mod WrittenBack
