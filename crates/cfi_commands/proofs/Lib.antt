@@ -4,3 +4,5 @@ pub mod Writing
 pub mod Complete
 pub mod Sources
 pub mod Demonstrated
+mod ImageSizes
+mod WrittenBack

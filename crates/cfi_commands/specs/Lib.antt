@@ -7,3 +7,4 @@ pub mod Run
 pub mod Demo
 pub mod Demonstration
 pub mod Complete
+pub mod Laws

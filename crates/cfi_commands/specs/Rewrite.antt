@@ -5,7 +5,8 @@ use Rattle.std.specs.Fmt.{decimal}
 use Rattle.std.specs.Str.{bytes_eq}
 use Rattle.rv_word.specs.Image.{IsImageSize}
 use Rattle.elf_image.specs.Spelling.{spelling}
-use Rattle.cfi_graph.specs.Graph.{GraphParts, is_class, is_site}
+use Rattle.cfi_graph.specs.Graph.{GraphParts, IsGraph, is_class, is_site}
+use Rattle.cfi_graph.specs.Map.{IsMap}
 use Rattle.cfi_graph.specs.MapText.{map_text}
 use Rattle.cfi_graph.specs.Text.{graph_text}
 use Rattle.cfi_harden.specs.Hardened.{HardenedParts, IsHardened}
@@ -76,21 +77,31 @@ IsRefused request other = ⊥
 abbrev pub IsSpelled : List ℕ → Type 0
 IsSpelled bytes = (code : List ℕ) × (init : List ℕ) × IsImageSize (length code) (length init) × (bytes ≡ spelling code init)
 
+-- so they are, and the code has the length that a graph tells. Only private contracts cite this
+abbrev pub IsSpelledWith : List ℕ → GraphParts → Type 0
+IsSpelledWith bytes graph =
+    (code : List ℕ) × (init : List ℕ) × IsImageSize (length code) (length init) × (bytes ≡ spelling code init) × (graph.code ≡ length code)
+
 -- what is told of an image and its graph: the lengths of code and initialised data, and the numbers of lines
 pub record HasSizes (image : List ℕ) (graph : GraphParts) (sizes : Sizes) : Type 0 where
   pub code : List ℕ
   pub init : List ℕ
   pub image_is : image ≡ spelling code init
+  -- of these lengths, so that no other code and data have this spelling
+  pub image_size : IsImageSize (length code) (length init)
   pub code_size : sizes.code ≡ length code
   pub data_size : sizes.data ≡ length init
   pub classes : sizes.classes ≡ count_by is_class graph.lines
   pub sites : sizes.sites ≡ count_by is_site graph.lines
 
--- a hardened program as it is written: its image, and the spellings of its graph and its map, under the names that were asked for
+-- a hardened program as it is written: its image, and the spellings of its graph and its map, which are read back, under the names that
+-- were asked for
 pub record IsSpelledOut (words : RewriteWords) (hardened : HardenedParts) (written : Rewritten) : Type 0 where
   pub image : written.image ≡ record { name = words.image; bytes = hardened.image }
   pub graph : written.graph ≡ record { name = words.graph; bytes = graph_text hardened.graph }
   pub map : written.map ≡ record { name = words.map; bytes = map_text hardened.map }
+  pub graph_right : IsGraph hardened.graph
+  pub map_right : IsMap hardened.map
   pub sizes : HasSizes hardened.image hardened.graph written.sizes
 
 -- a hardened program of a request, which means what the request's program means

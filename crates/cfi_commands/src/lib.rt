@@ -10,6 +10,7 @@ pub use verify::{Verdict, VerifyRequest, verify_files};
 mod compare;
 mod demo;
 mod demonstration;
+pub mod laws;
 mod opening;
 mod report;
 mod rewrite;

@@ -1,19 +1,19 @@
-ghost use Rattle.std.specs.Prelude.{◌≡◌, [], None, Err, IfOk, IfErr, IfSome, OnOk, option_copied, option_map, ◌∷◌};
+ghost use Rattle.std.specs.Prelude.{◌≡◌, ◌≤◌, ◌^◌, [], None, Err, IfOk, IfErr, IfSome, OnOk, option_copied, option_map, ◌∷◌};
 ghost use Rattle.tool_io.specs.Faults.{Counts};
 ghost use Rattle.tool_io.specs.Reading.{CountsReads, IsOnlyRead};
 ghost use Rattle.tool_io.specs.declared.ends.OutEnd.TheVariants as OutEnd;
+ghost use Rattle.elf_image.specs.Header.{data_start};
 ghost use Rattle.cfi_harden.specs.Refused.{Refuses};
 ghost use Rattle.cfi_harden.specs.Request.{Request};
 ghost use Rattle.cfi_files.specs.Reads.{IsFault, IsStop, IsTooLong};
 ghost use Rattle.cfi_files.specs.Words.{text_named};
 ghost use Rattle.cfi_files.specs.Writes.{AreApart, IsCut, IsTorn, KeepsReads, Wrote};
-ghost use Rattle.cfi_commands.specs.Rewrite.{AreNamedApart, ExplainsRewrite, HasSizes, IsRefused, IsRewriteOf, IsSpelled, IsSpelledOut, outputs_of, rewrite_asked, rewrite_names, rewrite_outputs, rewrite_status, rewrite_words};
+ghost use Rattle.cfi_commands.specs.Rewrite.{AreNamedApart, ExplainsRewrite, HasSizes, IsRefused, IsRewriteOf, IsSpelledOut, IsSpelledWith, outputs_of, rewrite_asked, rewrite_names, rewrite_outputs, rewrite_status, rewrite_words};
 
 use cfi_files::{Output, Refusal, Stop, file_word, read_all, status, text_named};
 use cfi_graph::{Graph, Map, write_graph, write_map};
 use cfi_rewrite::{Hardened, rewrite};
 use cfi_words::RewriteWords;
-use elf_image::read_image;
 use rv_word::NoMemory;
 use std::alloc::Global;
 use std::fmt;
@@ -164,19 +164,26 @@ fn refused(refusal: cfi_rewrite::Refusal) -> Result<Refusal, NoMemory>
     })
 }
 
+/// Where the data of an image with so many bytes of code begin: on the page after the code.
+fn data_start(code: u32) -> usize
+    requires { code ≤ 2 ^ 20 }
+    ensures { result ≡ data_start code }
+{
+    0x1000 + (code as usize + 0xfff) / 0x1000 * 0x1000
+}
+
 /// What is told of an image and its graph.
+#[tactic(auto, using(crate::proofs::ImageSizes::few_code, crate::proofs::ImageSizes::data_inside, crate::proofs::ImageSizes::sizes_are))]
 fn sizes_of(image: &[u8], graph: &Graph) -> Sizes
-    requires { IsSpelled image.now }
+    requires { IsSpelledWith image.now graph.now }
     ensures { HasSizes image.now graph.now result }
 {
-    match read_image(image) {
-        Ok(image) => Sizes {
-            code: image.code().len(),
-            data: image.init().len(),
-            classes: graph.classes(),
-            sites: graph.sites(),
-        },
-        Err(_) => unreachable!(),
+    let code = graph.code();
+    Sizes {
+        code: code as usize,
+        data: image.len() - data_start(code),
+        classes: graph.classes(),
+        sites: graph.sites(),
     }
 }
 
@@ -188,9 +195,12 @@ fn with_texts<'a>(
     graph: &Graph,
     map: &Map,
 ) -> Result<Rewritten<'a>, NoMemory>
-    requires { IsSpelled image.items }
+    requires { IsSpelledWith image.items graph.now }
     ensures { IfOk result (IsSpelledOut (rewrite_asked request.now) (record { image = image.items; graph = graph.now; map = map.now })) }
 {
+    // These compute nothing: they tell the proof that graph and map are what is read back.
+    let _code = graph.code();
+    let _lines = map.as_slice();
     let sizes = sizes_of(image.as_slice(), graph);
     let graph = write_graph(alloc, graph)?;
     let map = write_map(alloc, map)?;
@@ -217,7 +227,7 @@ fn spelled_out<'a>(
     request: &RewriteRequest<'a>,
     hardened: Hardened,
 ) -> Result<Rewritten<'a>, NoMemory>
-    requires { IsSpelled hardened.image }
+    requires { IsSpelledWith hardened.image hardened.graph }
     ensures { IfOk result (IsSpelledOut (rewrite_asked request.now) hardened) }
 {
     let Hardened { image, graph, map } = hardened;

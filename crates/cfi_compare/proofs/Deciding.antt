@@ -4,7 +4,7 @@ use Rattle.std.proofs.lemmas.Bool.{cases_lt}
 use Rattle.rv_word.specs.Image.{Contents}
 use Rattle.rv_word.specs.MemoryMap.{version_1}
 use Rattle.cfi_flow.specs.GraphAtMap.{ProgramAtMap}
-use Rattle.cfi_flow.specs.Source.{source_start}
+use Rattle.cfi_flow.specs.Source.{Source}
 use Rattle.cfi_kept.specs.PlacesKept.{bound}
 use Rattle.cfi_runs.specs.WholeRun.{undisturbed}
 use Rattle.rv_code.specs.State.{After}
@@ -291,13 +291,13 @@ module _ (p : Program) where
       let place : offset ≡ here.offset = cc in
       rw (reason, part, place) refl
 
-module _ (layout : ProgramAtMap) (image : Contents) (input : List ℕ) (limit : ℕ) where
+module _ (layout : ProgramAtMap) (state : Source) (image : Contents) (input : List ℕ) (limit : ℕ) where
   abbrev r : compared.SourceRun
-  r = source_run layout limit (source_start layout input)
+  r = source_run layout limit state
 
   pub compared_untame : (because : Reason) (section offset : ℕ) → ends.Untame because section offset ≡ told layout.program r.turn →
-      answers.Untame because section offset ≡ told_answer layout.program (compared.compared layout image input limit)
-  unfolding compared.compared
+      answers.Untame because section offset ≡ told_answer layout.program (compared.compared_from layout state image input limit)
+  unfolding compared.compared_from
   compared_untame because section offset e = untame_answer layout.program r.turn because section offset _ _ e
 
   told_tame : (turn : StepTurn) (told_turn : SourceTurn) → told_turn ≡ told layout.program turn →
@@ -310,8 +310,15 @@ module _ (layout : ProgramAtMap) (image : Contents) (input : List ℕ) (limit : 
   pub compared_tame : (told_turn : SourceTurn) (es : List Event) (steps : ℕ) (answer : Compared) → told_turn ≡ told layout.program r.turn →
       ((because : Reason) (section offset : ℕ) → told_turn ≡ ends.Untame because section offset → ⊥) →
       es ≡ r.state.shared.events → steps ≡ r.steps → IsAnswered es told_turn (undisturbed version_1 image input (bound steps)) answer →
-      answer ≡ told_answer layout.program (compared.compared layout image input limit)
-  unfolding compared.compared
+      answer ≡ told_answer layout.program (compared.compared_from layout state image input limit)
+  unfolding compared.compared_from
   compared_tame t es steps answer e tame events count is =
       let moved : IsAnswered r.state.shared.events t (undisturbed version_1 image input (bound r.steps)) answer = rw (events, count) at is in
       tame_answer layout.program r.turn t r.state.shared.events (undisturbed version_1 image input (bound r.steps)) answer e (told_tame r.turn t e tame) moved
+
+-- a comparison from a state that is another
+pub from_same : (layout : ProgramAtMap) (state start : Source) (image : Contents) (input : List ℕ) (limit : ℕ) (answer : Compared) → state ≡ start
+    → answer ≡ told_answer layout.program (compared.compared_from layout state image input limit)
+    → answer ≡ told_answer layout.program (compared.compared_from layout start image input limit)
+from_same layout state start image input limit answer begun is =
+    is ∙ ap (λ (s : Source). told_answer layout.program (compared.compared_from layout s image input limit)) begun

@@ -4,9 +4,9 @@ ghost use Rattle.std.specs.Prelude.{◌≡◌, ◌≤◌, ◌^◌, [], IfOk, is_
 ghost use Rattle.rv_word.specs.MemoryMap.{version_1};
 ghost use Rattle.rv_code.specs.Run.{run};
 ghost use Rattle.rv_machine.specs.Parts.{hart_in, shared_in};
-ghost use Rattle.cfi_flow.specs.Source.{source_start};
 ghost use Rattle.src_machine.specs.Running.{source_of};
-ghost use Rattle.cfi_meaning.specs.Compared.{compared, image_end};
+ghost use Rattle.cfi_flow.specs.Source.{source_start};
+ghost use Rattle.cfi_meaning.specs.Compared.{compared, compared_from, image_end};
 ghost use Rattle.cfi_compare.specs.Followed.{IsAnswered, end_told, item_or, settled, settled_items};
 ghost use Rattle.cfi_compare.specs.Told.{IsOwnState, told_answer, told_item};
 ghost use Rattle.cfi_kept.specs.PlacesKept.{bound};
@@ -102,8 +102,8 @@ fn with_image(
     with_machine(alloc, events, turn, steps, &mut machine)
 }
 
-/// Runs a program, from its start, until it ends, is untame or has taken `limit` steps, and its image with the same input for
-/// 21 steps for each of those and 13 more at most; tells the first item at which they differ.
+/// Runs a program, from the state in which its run is, until it ends, is untame or has taken `limit` steps, and an image with an
+/// input for 21 steps for each of those and 13 more at most; tells the first item at which they differ.
 pub fn compare(
     alloc: Global,
     source: &mut SourceRun,
@@ -112,11 +112,15 @@ pub fn compare(
     limit: u64,
 ) -> Result<Compared, NoMemory>
     requires fresh { source.old.steps ≡ 0 }
-    requires begun { source_of source.old ≡ source_start source.old.layout input.now }
     requires limit { limit ≤ 2 ^ 58 }
 
-    // The answer is that of the definition.
-    ensures compared { IfOk result (λ answer. answer ≡ told_answer source.old.layout.program (compared source.old.layout image.now input.now limit)) }
+    // The answer is that of the definition, from the run's own state.
+    ensures compared { IfOk result (λ answer. answer
+        ≡ told_answer source.old.layout.program (compared_from source.old.layout (source_of source.old) image.now input.now limit)) }
+
+    // So it is the comparison of a program and an image where the run is at its start, with the same input.
+    ensures from_start { source_of source.old ≡ source_start source.old.layout input.now
+        → IfOk result (λ answer. answer ≡ told_answer source.old.layout.program (compared source.old.layout image.now input.now limit)) }
 
     // The program's run is where its own steps have led it, also where there was no memory.
     ensures own { IsOwnState source.old limit source.new }

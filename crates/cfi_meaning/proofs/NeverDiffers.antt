@@ -16,7 +16,7 @@ use Rattle.cfi_unit.specs.Prologue.{OPENING}
 use Rattle.cfi_runs.specs.WholeRun.{undisturbed}
 use Rattle.cfi_harden.specs.Units.{Choice}
 use Rattle.cfi_kept.specs.PlacesKept.{bound}
-use Rattle.cfi_meaning.specs.Compared.{Compared, Difference, SourceRun, TraceItem, broke, called, compared, differs, exited, first_difference, has_ended, image_end, run_from, running, same_bytes, same_event, same_item, source_end, source_run, stopped, trace, verdict}
+use Rattle.cfi_meaning.specs.Compared.{Compared, Difference, SourceRun, TraceItem, broke, called, compared_from, differs, exited, first_difference, has_ended, image_end, run_from, running, same_bytes, same_event, same_item, source_end, source_run, stopped, trace, verdict}
 use Rattle.cfi_meaning.specs.Meaning.{EndsAs, KeepsMeaning}
 use Rattle.cfi_meaning.specs.NeverDiffers as law
 use Rattle.cfi_flow.specs.Source.{Source, source_start}
@@ -200,7 +200,7 @@ module _ (m : Choice) (image : Contents) (input : List ℕ) where
     never r (off_way why k is) d differ = untame_differs r.turn why k _ _ d is differ
 
 pub never_differs : law.NeverDiffers
-unfolding compared after_steps
+unfolding compared_from after_steps
 never_differs m image of init input limit d differ =
     never m image input (meaning_kept m image input of init) (source_run m.layout limit (source_start m.layout input))
     (where_is m.layout (source_start m.layout input) limit (source_start m.layout input) 0 (begins m input)) d differ

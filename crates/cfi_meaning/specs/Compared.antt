@@ -103,10 +103,15 @@ verdict ran None events = limited
 verdict (exits status) None events = same events
 verdict (breaks k) None events = same events
 
-unfoldable pub compared : ProgramAtMap → Contents → List ℕ → ℕ → Compared
-compared layout image input limit =
-    let r = source_run layout limit (source_start layout input) in
+-- a program's run from a state, for so many steps at most, beside the run of an image with an input
+unfoldable pub compared_from : ProgramAtMap → Source → Contents → List ℕ → ℕ → Compared
+compared_from layout state image input limit =
+    let r = source_run layout limit state in
     let a = undisturbed version_1 image input (bound r.steps) in
     verdict r.turn
     (first_difference 0 (has_ended r.turn) (trace r.state.shared.events (source_end r.turn)) (trace a.shared.events (image_end a.turn)))
     (length r.state.shared.events)
+
+-- a program's run from its start, with the same input
+abbrev pub compared : ProgramAtMap → Contents → List ℕ → ℕ → Compared
+compared layout image input limit = compared_from layout (source_start layout input) image input limit
