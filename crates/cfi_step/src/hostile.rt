@@ -112,10 +112,6 @@ impl Meddler for Hostile {
 
     ghost plan = { λ hostile. hostile_plan };
 
-    fn quiet_until(&self, step: u64) -> u64 {
-        step
-    }
-
     fn meddle(
         &mut self,
         alloc: Global,
