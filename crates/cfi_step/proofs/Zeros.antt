@@ -1,10 +1,8 @@
 -- The hostile meddler's lists, one member at a time.
-use Rattle.std.proofs.Common.{◌≡◌, ℕ, zero, suc, ◌+◌, ◌-◌, ◌*◌, ◌<◌, ◌≤◌, false, nat_le, List, [], ◌∷◌, ◌++◌, refl, ◌∙◌, ap, arith, append_assoc, append-nil, ◌&&◌}
-use Rattle.std.proofs.lemmas.Bool.{le-leb, lt-leb}
-use Rattle.cfi_verify.specs.Lines.{is_among}
-use Rattle.rv_word.specs.MemoryMap.{DATA_END}
+use Rattle.std.proofs.Common.{◌≡◌, ℕ, suc, ◌+◌, ◌-◌, ◌*◌, ◌<◌, ◌≤◌, List, [], ◌∷◌, ◌++◌, arith, append_assoc, append-nil}
+use Rattle.rv_word.specs.Bits.{wrap}
 use Rattle.rv_word.specs.Memory.{Memory, read}
-use Rattle.cfi_step.specs.Hostile.{holds_site, site_zeros, sites_from, zeros_at, zeros_from}
+use Rattle.cfi_step.specs.Hostile.{site_zeros, sites_from, zeros_at, zeros_from}
 
 -- what is added and what is left
 pub more_zeros : (front after : List (ℕ × ℕ)) (a k : ℕ) → k < 8 → after ≡ front ++ (a + k, 0) ∷ [] → after ++ zeros_from (a + (k + 1)) (8 - (k + 1)) ≡ front ++ zeros_from (a + k) (8 - k)
@@ -34,23 +32,9 @@ all_sites m front a k count h =
     rw left (append-nil front)
 
 module _ (m : Memory) (sites : List ℕ) (a : ℕ) where
-  pub in_data : a + 8 ≤ DATA_END → holds_site m sites a ≡ is_among (read 8 m a) sites
-  in_data h = ap (λ t. t && is_among (read 8 m a) sites) (le-leb (a + 8) DATA_END h)
-
-  pub more_site_zeros : (front after : List (ℕ × ℕ)) (left n : ℕ) → left ≡ suc n → after ≡ front ++ zeros_at m sites a → after ++ site_zeros m sites (a + 8) n ≡ front ++ site_zeros m sites a left
+  pub more_site_zeros : (front after : List (ℕ × ℕ)) (left n : ℕ) → left ≡ suc n → after ≡ front ++ zeros_at m sites a → after ++ site_zeros m sites (wrap (a + 8)) n ≡ front ++ site_zeros m sites a left
   unfolding site_zeros
-  more_site_zeros front after left n one e = rw (e, one) (append_assoc front (zeros_at m sites a) (site_zeros m sites (a + 8) n))
-
--- past the end of data there is none
-pub none_past : (m : Memory) (sites : List ℕ) (a left : ℕ) → DATA_END < a + 8 → site_zeros m sites a left ≡ []
-unfolding site_zeros
-none_past m sites a zero past = refl
-none_past m sites a (suc left) past =
-    let test : nat_le (a + 8) DATA_END ≡ false = lt-leb (a + 8) DATA_END past in
-    rw test (none_past m sites (a + 8) left (omega arith))
-
-pub past_end : (m : Memory) (sites : List ℕ) (front : List (ℕ × ℕ)) (a left : ℕ) → DATA_END < a + 8 → front ++ site_zeros m sites a left ≡ front
-past_end m sites front a left past = ap (λ z. front ++ z) (none_past m sites a left past) ∙ append-nil front
+  more_site_zeros front after left n one e = rw (e, one) (append_assoc front (zeros_at m sites a) (site_zeros m sites (wrap (a + 8)) n))
 
 pub none_left : (m : Memory) (sites : List ℕ) (front : List (ℕ × ℕ)) (a left : ℕ) → left ≡ 0 → front ++ site_zeros m sites a left ≡ front
 unfolding site_zeros

@@ -1,6 +1,8 @@
--- What the hostile meddler changes. It goes over the 512 double words of data from x2 on, and zeroes each
--- that equals a pending site: the double word in a slot of the shadow stack below x3.
+-- What the hostile meddler changes. It goes over the 512 double words from x2 on, whose addresses are sums
+-- modulo 2 ^ 64, and zeroes each that lies in data and equals a pending site: the double word in a slot of
+-- the shadow stack below x3.
 use Rattle.std.specs.Prelude.{ℕ, zero, suc, ◌+◌, ◌-◌, ◌/◌, nat_le, ◌&&◌, Bool, List, [], ◌∷◌, ◌++◌, min, if◌then◌else◌}
+use Rattle.rv_word.specs.Bits.{wrap}
 use Rattle.rv_word.specs.MemoryMap.{DATA_END, SHADOW_START}
 use Rattle.rv_word.specs.Memory.{Memory, read}
 use Rattle.rv_instr.specs.Registers.{get_reg}
@@ -25,7 +27,7 @@ unfoldable pub zeros_from : ℕ → ℕ → List (ℕ × ℕ)
 zeros_from a zero = []
 zeros_from a (suc count) = (a, 0) ∷ zeros_from (a + 1) count
 
--- the double word at an address is data, and one of these sites
+-- the double word at an address is data, all of it, and one of these sites
 abbrev pub holds_site : Memory → List ℕ → ℕ → Bool
 holds_site m sites a = nat_le (a + 8) DATA_END && is_among (read 8 m a) sites
 
@@ -33,10 +35,11 @@ holds_site m sites a = nat_le (a + 8) DATA_END && is_among (read 8 m a) sites
 abbrev pub zeros_at : Memory → List ℕ → ℕ → List (ℕ × ℕ)
 zeros_at m sites a = if holds_site m sites a then zeros_from a 8 else []
 
--- zeros for those of the `count` double words from an address on that are sites
+-- zeros for those of the `count` double words from an address on that are sites; after the last address
+-- the first is next
 unfoldable pub site_zeros : Memory → List ℕ → ℕ → ℕ → List (ℕ × ℕ)
 site_zeros m sites a zero = []
-site_zeros m sites a (suc count) = zeros_at m sites a ++ site_zeros m sites (a + 8) count
+site_zeros m sites a (suc count) = zeros_at m sites a ++ site_zeros m sites (wrap (a + 8)) count
 
 abbrev pub hostile_plan : ℕ → Hart → Shared → List (ℕ × ℕ)
 hostile_plan step h s = site_zeros s.memory (pending_sites s.memory (get_reg h.regs 3)) (get_reg h.regs 2) 512

@@ -1,4 +1,4 @@
-ghost use Rattle.std.specs.Prelude.{◌≡◌, ◌+◌, ◌*◌, ◌≤◌, ◌<◌, ◌^◌, ◌++◌, IfOk, OnOk, OnErr, min};
+ghost use Rattle.std.specs.Prelude.{◌≡◌, ◌+◌, ◌*◌, ◌≤◌, ◌<◌, ◌^◌, ◌++◌, IfOk, OnOk, OnErr, IsTrue, min};
 ghost use Rattle.rv_word.specs.MemoryMap.{DATA_END, SHADOW_START};
 ghost use Rattle.rv_mem.specs.Cells.{memory_of};
 ghost use Rattle.cfi_verify.specs.Lines.{is_among};
@@ -20,7 +20,7 @@ const FIRST_SLOT: u64 = SHADOW_START + 8;
 const DOUBLE_WORDS: u64 = 512;
 
 /// A meddler that zeroes each double word of data, of the 4,096 bytes from x2 on, which holds a
-/// pending site.
+/// pending site. Addresses are sums modulo 2^64: behind the last comes the first.
 #[derive(Clone, Copy)]
 pub struct Hostile;
 
@@ -49,11 +49,14 @@ fn is_among(value: u64, sites: &[u64]) -> bool
     sites.contains(&value)
 }
 
-/// Whether a double word of data is a site.
+/// Whether the double word at an address is data, and a site.
 fn holds_site(memory: &Memory, sites: &[u64], address: u64) -> bool
-    requires { address + 8 ≤ DATA_END }
-    ensures { result ≡ holds_site (memory_of memory.now) sites.now address }
+    ensures value { result ≡ holds_site (memory_of memory.now) sites.now address }
+    ensures in_data { IsTrue result → address + 8 ≤ DATA_END }
 {
+    if address > DATA_END - 8 {
+        return false;
+    }
     is_among(memory.double_word(address), sites)
 }
 
@@ -71,14 +74,13 @@ fn add_zeros(zeros: &mut Vec<Change>, address: u64) -> Result<(), NoMemory>
     Ok(())
 }
 
-/// Adds zeros for a double word of data, if it is a site.
+/// Adds zeros for the double word at an address, if it is data and a site.
 fn add_if_site(
     zeros: &mut Vec<Change>,
     memory: &Memory,
     sites: &[u64],
     address: u64,
 ) -> Result<(), NoMemory>
-    requires { address + 8 ≤ DATA_END }
     ensures { OnOk result (zeros.new.items ≡ zeros.old.items ++ zeros_at (memory_of memory.now) sites.now address) }
 {
     if holds_site(memory, sites, address) {
@@ -99,9 +101,9 @@ fn site_zeros(
     let mut zeros = Vec::new(alloc);
     let mut address = from;
     let mut left = DOUBLE_WORDS;
-    while left > 0 && address <= DATA_END - 8 {
+    while left > 0 {
         add_if_site(&mut zeros, memory, sites, address)?;
-        address += 8;
+        address = address.wrapping_add(8);
         left -= 1;
     }
     Ok(zeros)
@@ -111,10 +113,6 @@ impl Meddler for Hostile {
     ghost use Rattle.cfi_step.specs.Hostile.{hostile_plan};
 
     ghost plan = { λ hostile. hostile_plan };
-
-    fn quiet_until(&self, step: u64) -> u64 {
-        step
-    }
 
     fn meddle(
         &mut self,

@@ -14,9 +14,13 @@ pub trait Meddler {
     ghost plan: { Self → ℕ → Hart → Shared → List (ℕ × ℕ) };
 
     /// The number of steps up to which it is known without a look at the state that no change comes, `step`
-    /// being the number of steps taken; `step` itself is always right.
+    /// being the number of steps taken. `step` itself is always right: a meddler that cannot tell leaves this
+    /// as it is.
     fn quiet_until(&self, step: u64) -> u64
-        ensures { IsQuietPlan step result (plan self.now) };
+        ensures { IsQuietPlan step result (plan self.now) }
+    {
+        step
+    }
 
     /// Appends the changes that come before the next step, `step` being the number of steps taken. A
     /// refusal leaves `into` as it was.

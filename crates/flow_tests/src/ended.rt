@@ -6,7 +6,7 @@ ghost use Rattle.cfi_flow.specs.Policy.{instruction_at};
 ghost use Rattle.src_machine.specs.ProgramAt.{EndsLast};
 
 use cfi_flow::{Closed, close, entry_place, raw_graph};
-use cfi_graph::{Map, Policy, read_map};
+use cfi_graph::{Map, Policy, read_map, read_policy};
 use obj_input::ItemKind;
 use obj_program::Items;
 use src_machine::{Reason, SourceEnd, SourceRun, SourceTurn};
@@ -14,6 +14,21 @@ use std::alloc::{AllocError, Global};
 
 /// More steps than any program of the tests takes.
 const LIMIT: u64 = 100_000;
+
+/// What a program is run with, and what is to come of it.
+#[derive(Clone, Copy)]
+pub(crate) struct Asked<'a> {
+    /// The text of a policy. Empty: there is none.
+    pub(crate) policy: &'a [u8],
+    /// The text of a map.
+    pub(crate) map: &'a [u8],
+    /// What the program may read.
+    pub(crate) input: &'a [u8],
+    /// What it writes.
+    pub(crate) output: &'a [u8],
+    /// How it ends after how many steps, or why its run does not begin.
+    pub(crate) told: &'a str,
+}
 
 /// The name of a reason.
 fn name(reason: Reason) -> &'static str {
@@ -123,42 +138,51 @@ fn entry(items: &Items) -> Option<(u32, u64)>
     items.find(b"main")
 }
 
-/// Whether a program with its closed graph runs at a map as it is told.
-fn is_told_at(
-    alloc: Global,
-    items: &Items,
-    closed: &Closed,
-    map: &Map,
-    output: &[u8],
-    told: &str,
-) -> bool {
+/// Whether a program with its closed graph runs at a map as is asked.
+fn is_told_at(alloc: Global, items: &Items, closed: &Closed, map: &Map, asked: &Asked<'_>) -> bool {
     let Some(entry) = entry(items) else {
         return false;
     };
     if !ends_last(items) || !is_small(items) {
         return false;
     }
-    match SourceRun::new(alloc, items, closed, map, entry, b"") {
-        Ok(mut run) => runs_so(alloc, &mut run, output, told),
-        Err(end) => ends_so(alloc, end, told),
+    match SourceRun::new(alloc, items, closed, map, entry, asked.input) {
+        Ok(mut run) => runs_so(alloc, &mut run, asked.output, asked.told),
+        Err(end) => ends_so(alloc, end, asked.told),
     }
 }
 
-/// The closed graph of a program under no policy.
-fn closed_of(alloc: Global, items: &Items) -> Option<Closed> {
-    match raw_graph(alloc, items, &Policy::none(alloc)) {
+/// The policy with a text; none where the text is empty.
+fn policy_of(alloc: Global, text: &[u8]) -> Option<Policy> {
+    if text.is_empty() {
+        return Some(Policy::none(alloc));
+    }
+    read_policy(alloc, text).ok()
+}
+
+/// The closed graph of a program under a policy.
+fn closed_of(alloc: Global, items: &Items, policy: &Policy) -> Option<Closed> {
+    match raw_graph(alloc, items, policy) {
         Ok(raw) => close(alloc, &raw).ok(),
         Err(_) => None,
     }
 }
 
-/// Whether a program runs at the map with a text as it is told.
-pub(crate) fn is_told(alloc: Global, items: &Items, map: &[u8], output: &[u8], told: &str) -> bool {
-    let Ok(map) = read_map(alloc, map) else {
+/// Whether a program under a policy runs as is asked.
+fn is_told_under(alloc: Global, items: &Items, policy: &Policy, asked: &Asked<'_>) -> bool {
+    let Ok(map) = read_map(alloc, asked.map) else {
         return false;
     };
-    match closed_of(alloc, items) {
-        Some(closed) => is_told_at(alloc, items, &closed, &map, output, told),
+    match closed_of(alloc, items, policy) {
+        Some(closed) => is_told_at(alloc, items, &closed, &map, asked),
+        None => false,
+    }
+}
+
+/// Whether a program runs as is asked.
+pub(crate) fn is_told(alloc: Global, items: &Items, asked: &Asked<'_>) -> bool {
+    match policy_of(alloc, asked.policy) {
+        Some(policy) => is_told_under(alloc, items, &policy, asked),
         None => false,
     }
 }

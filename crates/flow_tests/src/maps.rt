@@ -63,6 +63,89 @@ pub(crate) const PLAIN: &[u8] = b"rvcfi-map 1\n\
     at 40000048 0001 00000008\n\
     end\n";
 
+/// That of the two functions with a jump in place of the call.
+pub(crate) const JUMPING: &[u8] = b"rvcfi-map 1\n\
+    at 40000040 0001 00000000\n\
+    at 40000044 0001 00000004\n\
+    at 40000054 0001 00000008\n\
+    at 40000058 0001 0000000c\n\
+    at 4000005c 0001 00000010\n\
+    at 40000090 0001 00000014\n\
+    at 40000094 0001 00000018\n\
+    at 40000098 0001 0000001c\n\
+    at 400000ac 0001 00000020\n\
+    at 400000b4 0001 00000024\n\
+    at 400000c8 0001 00000028\n\
+    at 400000d0 0001 0000002c\n\
+    at 400000e4 0001 00000030\n\
+    end\n";
+
+/// The same with two computed calls, one after the other.
+pub(crate) const CALLING_TWICE: &[u8] = b"rvcfi-map 1\n\
+    at 40000040 0001 00000000\n\
+    at 40000044 0001 00000004\n\
+    at 40000054 0001 00000008\n\
+    at 40000058 0001 0000000c\n\
+    at 4000005c 0001 00000010\n\
+    at 400000ac 0001 00000014\n\
+    at 400000fc 0001 00000018\n\
+    at 40000100 0001 0000001c\n\
+    at 40000114 0001 00000020\n\
+    at 4000011c 0001 00000024\n\
+    at 40000130 0001 00000028\n\
+    at 40000138 0001 0000002c\n\
+    at 4000014c 0001 00000030\n\
+    end\n";
+
+/// The same where the first function begins with a computed call.
+pub(crate) const CALLING_ITSELF: &[u8] = b"rvcfi-map 1\n\
+    at 40000040 0001 00000000\n\
+    at 40000044 0001 00000004\n\
+    at 40000054 0001 00000008\n\
+    at 40000058 0001 0000000c\n\
+    at 4000005c 0001 00000010\n\
+    at 400000ac 0001 00000014\n\
+    at 400000b0 0001 00000018\n\
+    at 400000b4 0001 0000001c\n\
+    at 400000c8 0001 00000020\n\
+    at 4000011c 0001 00000024\n\
+    at 40000130 0001 00000028\n\
+    at 40000138 0001 0000002c\n\
+    at 4000014c 0001 00000030\n\
+    end\n";
+
+/// That of ten instructions and system calls before a return.
+pub(crate) const READING: &[u8] = b"rvcfi-map 1\n\
+    at 40000040 0001 00000000\n\
+    at 40000044 0001 00000004\n\
+    at 40000048 0001 00000008\n\
+    at 4000004c 0001 0000000c\n\
+    at 40000050 0001 00000010\n\
+    at 40000054 0001 00000014\n\
+    at 40000058 0001 00000018\n\
+    at 4000005c 0001 0000001c\n\
+    at 40000060 0001 00000020\n\
+    at 40000064 0001 00000024\n\
+    at 40000068 0001 00000028\n\
+    at 4000007c 0001 0000002c\n\
+    end\n";
+
+/// That of eleven instructions and system calls.
+pub(crate) const READING_TWICE: &[u8] = b"rvcfi-map 1\n\
+    at 40000040 0001 00000000\n\
+    at 40000044 0001 00000004\n\
+    at 40000048 0001 00000008\n\
+    at 4000004c 0001 0000000c\n\
+    at 40000050 0001 00000010\n\
+    at 40000054 0001 00000014\n\
+    at 40000058 0001 00000018\n\
+    at 4000005c 0001 0000001c\n\
+    at 40000060 0001 00000020\n\
+    at 40000064 0001 00000024\n\
+    at 40000068 0001 00000028\n\
+    at 4000006c 0001 0000002c\n\
+    end\n";
+
 /// That of the two functions without a gate's word before the first.
 pub(crate) const NO_GATE_WORD: &[u8] = b"rvcfi-map 1\n\
     at 40000040 0001 00000000\n\

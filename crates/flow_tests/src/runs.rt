@@ -1,16 +1,16 @@
-use crate::ended::is_told;
+use crate::ended::{Asked, is_told};
 use crate::given::{Given, Source, file};
 use crate::maps;
 use elf_object::Object;
 use obj_items::items;
-use sample_objects::{B_MAP, H_MAP, NOWHERE_MAP, P_MAP};
+use sample_objects::{B_MAP, H_MAP, NARROW_MAP, NOWHERE_MAP, P_MAP};
 use std::alloc::Global;
 
 /// An object, a map, what the run writes and how it is told: how it ends after how many steps, or why none begins.
 struct Row(Given, &'static [u8], &'static [u8], &'static str);
 
 #[rattlefmt::skip]
-static ROWS: [Row; 29] = [
+static ROWS: [Row; 41] = [
     Row(Given(Source::Returning, 0, b""), B_MAP, b"", "exit 7 after 3"),
     Row(Given(Source::Calling, 0, b""), P_MAP, b"", "exit 1 after 11"),
     Row(Given(Source::Writing, 0, b""), H_MAP, b"hi\n", "exit 0 after 15"),
@@ -29,6 +29,18 @@ static ROWS: [Row; 29] = [
     Row(Given(Source::Calling, 80, b"e7801200"), P_MAP, b"", "exit 1 after 11"),
     Row(Given(Source::Calling, 80, b"e7802200"), P_MAP, b"", "untame graph 1 16 after 4"),
     Row(Given(Source::Calling, 80, b"e7804200"), P_MAP, b"", "untame graph 1 16 after 4"),
+    Row(Given(Source::Calling, 80, b"e780c201"), P_MAP, b"", "exit 2 after 11"),
+    Row(Given(Source::Returning, 64, b"833291ff67800000"), B_MAP, b"", "untame window 1 0 after 0"),
+    Row(Given(Source::Returning, 64, b"833281ff67800000"), B_MAP, b"", "exit 0 after 3"),
+    Row(Given(Source::Returning, 64, b"8342010067800000"), B_MAP, b"", "untame window 1 0 after 0"),
+    Row(Given(Source::Returning, 64, b"8342f1ff67800000"), B_MAP, b"", "exit 0 after 3"),
+    Row(Given(Source::Returning, 64, b"8332f0ff67800000"), B_MAP, b"", "untame window 1 0 after 0"),
+    Row(Given(Source::Calling, 80, b"67800200"), maps::JUMPING, b"", "exit 1 after 8"),
+    Row(Given(Source::Calling, 80, b"67801200"), maps::JUMPING, b"", "exit 1 after 8"),
+    Row(Given(Source::Calling, 80, b"67802200"), maps::JUMPING, b"", "untame graph 1 16 after 4"),
+    Row(Given(Source::Calling, 80, b"67804200"), maps::JUMPING, b"", "untame graph 1 16 after 4"),
+    Row(Given(Source::Calling, 84, b"e7800200"), maps::CALLING_TWICE, b"", "untame return 1 28 after 11"),
+    Row(Given(Source::Calling, 96, b"e7800200"), maps::CALLING_ITSELF, b"", "untame deep 1 32 after 8194"),
     Row(Given(Source::Calling, 144, b"ffffff7f"), P_MAP, b"", "range 1 8"),
     Row(Given(Source::Calling, 0, b""), maps::NO_GATE_WORD, b"", "line 11"),
     Row(Given(Source::Recursive, 0, b""), maps::BRANCH_OF_12, b"", "line 6"),
@@ -42,33 +54,91 @@ static ROWS: [Row; 29] = [
     Row(Given(Source::Recursive, 0, b""), B_MAP, b"", "line 4"),
 ];
 
-/// Whether an object is told as its row says.
-fn is_object(alloc: Global, object: &Object, row: &Row) -> bool {
+/// An object that is run under a policy or with an input.
+struct Further(Given, Asked<'static>);
+
+/// The first of two computed calls may go to the one function, the second to the other.
+const APART: &[u8] = b"rvcfi-policy 1\n\
+    site main+10 f+0\n\
+    site main+14 g+0\n\
+    end\n";
+
+/// A computed call may go to the first of two functions alone.
+const FIRST_ALONE: &[u8] = b"rvcfi-policy 1\n\
+    site main+10 f+0\n\
+    end\n";
+
+/// Asks for four bytes, writes those that came and ends with their count.
+const READING: &[u8] = b"\
+    130640009308f0037300000013060500130510009308000473000000\
+    130506009308d0057300000067800000";
+
+/// The same of a file descriptor that is not read from.
+const READING_ELSEWHERE: &[u8] = b"\
+    130510009308f0037300000013060500130510009308000473000000\
+    130506009308d0057300000067800000";
+
+/// Asks for four bytes twice, writes those that came, and runs into the section's end.
+const READING_TWICE: &[u8] = b"\
+    130640009308f0037300000093050500130500007300000013064500\
+    93050000130510009308000473000000";
+
+#[rattlefmt::skip]
+static FURTHER: [Further; 7] = [
+    Further(Given(Source::Calling, 84, b"e7800200"), Asked { policy: APART, map: maps::CALLING_TWICE, input: b"", output: b"", told: "untame graph 1 20 after 7" }),
+    Further(Given(Source::Calling, 80, b"e780c201"), Asked { policy: FIRST_ALONE, map: NARROW_MAP, input: b"", output: b"", told: "untame graph 1 16 after 4" }),
+    Further(Given(Source::Recursive, 64, READING), Asked { policy: b"", map: maps::READING, input: b"ab", output: b"ab", told: "exit 2 after 10" }),
+    Further(Given(Source::Recursive, 64, READING), Asked { policy: b"", map: maps::READING, input: b"abcdef", output: b"abcd", told: "exit 4 after 10" }),
+    Further(Given(Source::Recursive, 64, READING), Asked { policy: b"", map: maps::READING, input: b"", output: b"", told: "exit 0 after 10" }),
+    Further(Given(Source::Recursive, 64, READING_ELSEWHERE), Asked { policy: b"", map: maps::READING, input: b"ab", output: b"", told: "exit 247 after 10" }),
+    Further(Given(Source::Recursive, 64, READING_TWICE), Asked { policy: b"", map: maps::READING_TWICE, input: b"abcdef", output: b"abcdef", told: "untame end 1 44 after 11" }),
+];
+
+/// Whether an object runs as is asked.
+fn is_object(alloc: Global, object: &Object, asked: &Asked<'_>) -> bool {
     match items(alloc, object) {
-        Ok(items) => is_told(alloc, &items, row.1, row.2, row.3),
+        Ok(items) => is_told(alloc, &items, asked),
         Err(_) => false,
     }
 }
 
-/// Whether a file is an object that is told as its row says.
-fn is_file(alloc: Global, file: &[u8], row: &Row) -> bool {
+/// Whether a file is an object that runs as is asked.
+fn is_file(alloc: Global, file: &[u8], asked: &Asked<'_>) -> bool {
     match Object::read(alloc, file) {
-        Ok(object) => is_object(alloc, &object, row),
+        Ok(object) => is_object(alloc, &object, asked),
         Err(_) => false,
     }
 }
 
-/// Whether a row is right.
-fn is_right(alloc: Global, row: &Row) -> bool {
-    match file(alloc, &row.0) {
-        Some(file) => is_file(alloc, &file, row),
+/// Whether an object runs as is asked.
+fn is_right(alloc: Global, given: &Given, asked: &Asked<'_>) -> bool {
+    match file(alloc, given) {
+        Some(file) => is_file(alloc, &file, asked),
         None => false,
+    }
+}
+
+/// What is asked of a row without a policy and an input.
+fn asked_of(row: &Row) -> Asked<'static> {
+    Asked {
+        policy: b"",
+        map: row.1,
+        input: b"",
+        output: row.2,
+        told: row.3,
     }
 }
 
 #[test]
 fn runs_programs(rt: HostRuntime) {
     for (k, row) in ROWS.iter().enumerate() {
-        assert!(rt; is_right(rt.alloc(), row), "row {k}");
+        assert!(rt; is_right(rt.alloc(), &row.0, &asked_of(row)), "row {k}");
+    }
+}
+
+#[test]
+fn runs_programs_further(rt: HostRuntime) {
+    for (k, row) in FURTHER.iter().enumerate() {
+        assert!(rt; is_right(rt.alloc(), &row.0, &row.1), "row {k}");
     }
 }

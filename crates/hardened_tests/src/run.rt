@@ -19,6 +19,19 @@ static CALLER: Program = Program(&P, P_GRAPH, P_DATA, b"");
 /// A program that writes what it reads.
 static READER: Program = Program(&ECHO, ECHO_GRAPH, b"", b"0123456789");
 
+/// The words of round.s in tests/units at the top of the repository, as binutils makes them: stores of the
+/// return address near address 0, with x2 near 2^64.
+const ROUND: [u32; 22] = [
+    0xff800113, 0x00000f93, 0x024f9f93, 0x024fdf93, 0x001fb023, 0x00800f93, 0x024f9f93, 0x024fdf93,
+    0x001fb023, 0xffc00113, 0x01000f93, 0x024f9f93, 0x024fdf93, 0x001fb023, 0x00400f93, 0x024f9f93,
+    0x024fdf93, 0x001fb023, 0x01003503, 0x05d00893, 0x00000073, 0xf6dff06f,
+];
+
+const ROUND_GRAPH: &[u8] = b"rvcfi-graph 1\ncode 40000000 00000098\ncall 4000000c 40000040\nend\n";
+
+/// A program of these words.
+static STORER: Program = Program(&ROUND, ROUND_GRAPH, b"", b"");
+
 /// How far a run goes whose first return address was changed.
 const TRAIL: [u64; 13] = [
     0x4000000c, 0x40000040, 0x40000044, 0x40000054, 0x40000058, 0x4000005c, 0x400000c8, 0x400000cc,
@@ -213,6 +226,41 @@ fn has_made(made: &[(u64, Change)], limit: u64) -> bool {
     } else {
         made.is_empty()
     }
+}
+
+/// The double words that the hostile meddler looks at go on at address 0: those at 0 and 8 are found from
+/// 2^64 - 8 on and the one at 4 from 2^64 - 4 on, but not that at 16, which the exit's status shows.
+#[test]
+fn hostile_goes_round(rt: HostRuntime) {
+    assert!(rt; goes_round(rt.alloc()));
+}
+
+/// Whether the return addresses that the program stores are zeroed, but the one.
+fn goes_round(alloc: Global) -> bool {
+    match report(alloc, &STORER, &mut Hostile, 100) {
+        Some(report) => {
+            matches!(report.end, RunEnd::Exit(0x38))
+                && report.steps == 31
+                && report.walk == 10
+                && zeroes_each_store(report.made.as_slice())
+        }
+        None => false,
+    }
+}
+
+/// Whether the changes are zeros at the eight bytes of three stores, each right after it.
+fn zeroes_each_store(made: &[(u64, Change)]) -> bool {
+    for (k, made) in made.iter().enumerate() {
+        let (step, from) = match k / 8 {
+            0 => (15, 0),
+            1 => (19, 8),
+            _ => (28, 4),
+        };
+        if made.0 != step || made.1.addr() != from + k as u64 % 8 || made.1.byte() != 0 {
+            return false;
+        }
+    }
+    made.len() == 24
 }
 
 /// The report of a run with one byte changed before one step.

@@ -1,7 +1,6 @@
 use Rattle.std.proofs.Common.{sym, ◌∙◌, arith}
 use Rattle.rv_mem.specs.Cells.{memory_of}
-use Rattle.cfi_step.proofs.Zeros.{more_site_zeros, none_left, past_end}
-use Rattle.cfi_step.proofs.hostile.site_zeros.Goals.{then-loop-left-test+else-address, else-loop-left-test}
+use Rattle.cfi_step.proofs.Zeros.{more_site_zeros, none_left}
 use Rattle.cfi_step.proofs.hostile.site_zeros.Goals as goal
 
 pub loop-left-preserved : goal.loop-left-preserved
@@ -11,9 +10,4 @@ loop-left-preserved c =
 
 pub returns : goal.returns
 returns c =
-    elim c.loop-left-test.branch [
-      | then-loop-left-test+else-address w ↦
-          sym (past_end (memory_of c.args.memory.now) c.args.sites.now c.loop-left.zeros.items c.loop-left.address c.loop-left.left (omega (arith, w.if-address))) ∙ c.loop-left.invariant
-      | else-loop-left-test w ↦
-          sym (none_left (memory_of c.args.memory.now) c.args.sites.now c.loop-left.zeros.items c.loop-left.address c.loop-left.left (omega (arith, w.loop-left-test))) ∙ c.loop-left.invariant
-    ]
+    sym (none_left (memory_of c.args.memory.now) c.args.sites.now c.loop-left.zeros.items c.loop-left.address c.loop-left.left (omega (arith, c.loop-left-test.false))) ∙ c.loop-left.invariant
