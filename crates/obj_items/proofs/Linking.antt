@@ -1,7 +1,7 @@
 -- Places that are given their links in place: what is found among them does not change, so each gets what it would get among those of
 -- before.
-use Rattle.std.proofs.Common.{◌≡◌, ℕ, ℤ, pos, ◌+◌, ◌+ℤ◌, ◌/◌, ◌<◌, ◌≤◌, nat_lt, get_or, ◌&&◌, ◌==◌, Bool, true, false, Option, Some, None, List, [], ◌∷◌, length, map, inl, inr, refl, sym, ap, subst, ◌∙◌, arith}
-use Rattle.std.specs.Prelude.{set, option_and_then, unwrap_or, if◌then◌else◌, position}
+use Rattle.std.proofs.Common.{◌≡◌, ℕ, ℤ, pos, ◌+◌, ◌+ℤ◌, ◌/◌, ◌<◌, ◌≤◌, get_or, false, Option, Some, None, List, [], ◌∷◌, length, map, inl, inr, refl, sym, ap, subst, ◌∙◌, arith}
+use Rattle.std.specs.Prelude.{set, option_and_then, unwrap_or}
 use Rattle.std.proofs.lemmas.Bool.{cases_Bool, cases_eq}
 use Rattle.std.proofs.lemmas.List.{length-set, length-map, get_or-set_same, get_or-set_other, get_or-map, get_or_default, ext_get_or}
 use Rattle.std.proofs.lemmas.List.Folds.{position_or_len-set}
@@ -12,20 +12,17 @@ use Rattle.obj_input.specs.declared.reloc_kind.RelocKind.{RelocKind}
 use Rattle.obj_input.specs.declared.reloc_kind.RelocKind.TheVariants.{Nothing, Mark, BranchTarget, JalTarget, PairTarget, RelativeHigh, RelativeLowI, RelativeLowS, High, LowI, LowS, InData, Unknown}
 use Rattle.obj_input.specs.Kinds.{kind_of}
 use Rattle.obj_input.specs.Input.{InputParts, busy_at, is_code, section_of}
-use Rattle.obj_input.specs.Layout.{section_address}
 use Rattle.obj_input.specs.Code.{natural}
 use Rattle.obj_rules.specs.declared.target.Direct.{Direct}
 use Rattle.obj_rules.specs.declared.target.Aim.{Aim}
 use Rattle.obj_rules.specs.declared.target.Aim.TheVariants as aim
 use Rattle.obj_rules.specs.Target.{aim_at, direct_at}
 use Rattle.obj_program.specs.declared.item.Item.{Item}
-use Rattle.obj_program.specs.declared.item.Patch.{Patch}
 use Rattle.obj_program.specs.declared.item.Patch.TheVariants as put
-use Rattle.obj_program.specs.declared.item.Value.TheVariants.{Number}
-use Rattle.obj_program.specs.Program.{AreInOrder, is_before, is_end, is_spot, no_item, place_of}
-use Rattle.obj_items.specs.Links.{aimed_place, item_with, linked, named_place, patch_by, patch_from, target_of}
+use Rattle.obj_program.specs.Program.{AreInOrder, is_end, is_spot, no_item, place_of}
+use Rattle.obj_items.specs.Links.{aimed_place, item_with, named_place, patch_by, patch_from}
 use Rattle.obj_items.specs.Linking.{AreLinkedTo}
-use Rattle.obj_items.specs.Values.{gate_value, place_at, section_value, use_value, value_of}
+use Rattle.obj_items.specs.Values.{gate_value, section_value, value_of}
 use Rattle.obj_items.specs.Outline.{outline}
 use Rattle.obj_items.specs.Standing.{IsInstruction}
 use Rattle.obj_items.proofs.InOrder.{outline_in_order, same_offset, same_section}
@@ -135,11 +132,11 @@ module _ (input : InputParts) (all : List Item) where
       → x ≡ get_or places j no_item → y ≡ item_with input places x → next ≡ set places j y → AreLinkedTo input all next (j + 1)
   one_linked places next j x y h below is e put =
       let section : y.section ≡ (get_or places j no_item).section =
-          ap (λ (z : Item). z.section) e ∙ same_section input places x ∙ ap (λ (z : Item). z.section) is in
+      ap (λ (z : Item). z.section) e ∙ same_section input places x ∙ ap (λ (z : Item). z.section) is in
       let offset : y.offset ≡ (get_or places j no_item).offset =
-          ap (λ (z : Item). z.offset) e ∙ same_offset input places x ∙ ap (λ (z : Item). z.offset) is in
+      ap (λ (z : Item). z.offset) e ∙ same_offset input places x ∙ ap (λ (z : Item). z.offset) is in
       let value : y ≡ item_with input all (get_or all j no_item) =
-          e ∙ item_same input places all h.found x ∙ ap (item_with input all) (is ∙ h.left j (omega arith)) in
+      e ∙ item_same input places all h.found x ∙ ap (item_with input all) (is ∙ h.left j (omega arith)) in
       rw put (record {
         size = length-set places j y ∙ h.size;
         done = λ i less inside. elim (cases_eq i j) [
