@@ -19,11 +19,7 @@ pub(crate) fn section_address(input: &Input, layout: &DataLayout, k: u32) -> u12
 }
 
 /// Puts bytes behind others, so that they begin at this address; the first of all stands at `DATA_START`.
-fn put_at<'a>(
-    init: &mut InitialData<'a>,
-    address: u128,
-    bytes: &'a [u8],
-) -> Result<(), NoMemory>
+fn put_at<'a>(init: &mut InitialData<'a>, address: u128, bytes: &'a [u8]) -> Result<(), NoMemory>
     ensures { OnOk result (init.new ≡ placed init.old address bytes.now) }
 {
     init.put_at(address.saturating_sub(u128::from(DATA_START)), bytes)
