@@ -143,27 +143,39 @@ def sparse(size):
     return with_tables(parts, [], symbol(1, FUNC, 1, 0, 4), b"\0f\0")
 
 
+def shared_data(count, size):
+    """So many sections of data that all are the same bytes."""
+    parts = [returns(1), Section(PROGBITS, bytes(size), DATA)]
+    parts += [Section(PROGBITS, b"", DATA, shared=2) for _ in range(count - 1)]
+    return with_tables(parts, [], symbol(1, FUNC, 1, 0, 4), b"\0f\0")
+
+
+def shared_code(count, size):
+    """The same of code."""
+    parts = [returns(size // 4)] + [Section(PROGBITS, b"", CODE, align=4, shared=1) for _ in range(count - 1)]
+    return with_tables(parts, [], symbol(1, FUNC, 1, 0, 4), b"\0f\0")
+
+
+def shared_relocations(count, each):
+    """So many sections of data whose relocations, so many each, all are the same bytes."""
+    parts = [returns(1)] + [Section(PROGBITS, bytes(8), DATA, align=8) for _ in range(count)]
+    tables = [(2 + k, b"" if k else relocation(0, 1, ABS64) * each) for k in range(count)]
+    return with_tables(parts, tables, symbol(1, FUNC, 1, 0, 4), b"\0f\0", shared=2 + count)
+
+
 def overlapping_data(size):
     """Sections of data that all are the same bytes: half of the file is those, the other half headers."""
-    count = size // 2 // HEADER
-    parts = [returns(1), Section(PROGBITS, bytes(size // 2), DATA)]
-    parts += [Section(PROGBITS, b"", DATA, shared=2) for _ in range(count)]
-    return with_tables(parts, [], symbol(1, FUNC, 1, 0, 4), b"\0f\0")
+    return shared_data(size // 2 // HEADER + 1, size // 2)
 
 
 def overlapping_code(size):
     """The same of code."""
-    count = size // 2 // HEADER
-    parts = [returns(size // 8)] + [Section(PROGBITS, b"", CODE, align=4, shared=1) for _ in range(count)]
-    return with_tables(parts, [], symbol(1, FUNC, 1, 0, 4), b"\0f\0")
+    return shared_code(size // 2 // HEADER + 1, size // 2)
 
 
 def overlapping_relocations(size):
     """Sections of data whose relocations all are the same bytes: half of the file, the other half headers."""
-    count = size // 2 // (2 * HEADER)
-    parts = [returns(1)] + [Section(PROGBITS, bytes(8), DATA, align=8) for _ in range(count)]
-    tables = [(2 + k, b"" if k else relocation(0, 1, ABS64) * (size // 2 // RELOCATION)) for k in range(count)]
-    return with_tables(parts, tables, symbol(1, FUNC, 1, 0, 4), b"\0f\0", shared=2 + count)
+    return shared_relocations(size // 2 // (2 * HEADER), size // 2 // RELOCATION)
 
 
 FAMILIES = [shuffled, one_place, one_name, nested_names, many_sections, marks, commons, section_names,

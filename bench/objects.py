@@ -2,6 +2,9 @@
 """Times how an object is read as a program, on objects that are hard to read and on a compiled one.
 
     python3 bench/objects.py [--program PATH] [--runs N] [--sizes MIB,MIB,..] [--families NAME,NAME,..] [--work FOLDER]
+    python3 bench/objects.py --tool PATH [--work FOLDER]
+
+The second form times `rvcfi rewrite` on objects of one to two megabytes whose sections are the same bytes of the file.
 
 README.md beside this file says what is measured and how the program is built.
 """
@@ -15,7 +18,7 @@ import tempfile
 
 sys.dont_write_bytecode = True
 
-from families import FAMILIES, GCC, OVERLAPPING, compiled
+from families import FAMILIES, GCC, OVERLAPPING, compiled, shared_code, shared_data, shared_relocations
 from verify import OBJDUMP, best_time, peak_memory
 
 TOP = os.path.join(os.path.dirname(os.path.abspath(__file__)), "..")
@@ -24,6 +27,12 @@ LIBRARIES = "elf_object obj_items obj_program tool_io"
 FUNCTIONS = 960  # of the compiled object, which has about 1 MiB then
 SMALL = 16, 32, 64  # KiB of a file whose sections are the same bytes: what is made of it grows with the square
 KIB, MIB = 1 << 10, 1 << 20
+SHARED = {  # objects of few bytes that ask for many
+    "10,000 sections of a megabyte of data": lambda: shared_data(10000, MIB),
+    "1,000 sections of data with 10,000 relocations": lambda: shared_relocations(1000, 10000),
+    "400 sections of a megabyte of code": lambda: shared_code(400, MIB),
+    "10,000 sections of a megabyte of code": lambda: shared_code(10000, MIB),
+}
 
 SOURCE = """\
 //! Reads a file as an object, and as a program.
@@ -144,6 +153,20 @@ def grow(program, folder, family, sizes, runs, start):
         before = row
 
 
+def shared(tool, folder):
+    """What `rewrite` says of each object whose sections are the same bytes, and what that costs."""
+    path, made = os.path.join(folder, "shared.o"), [os.path.join(folder, name) for name in ("image", "graph", "map")]
+    for name, content in SHARED.items():
+        with open(path, "wb") as out:
+            out.write(content())
+        command = ["time", "-f", "%e %U %S %M", tool, "rewrite", path, "f", "none"] + made
+        done = subprocess.run(command, capture_output=True, text=True)
+        wall, user, system, peak = done.stderr.split()[-4:]
+        print("%-47s %9d bytes  %7s s, processor %.2f s  %8d KiB  status %d  %s" % (
+            name, os.path.getsize(path), wall, float(user) + float(system), int(peak), done.returncode, done.stdout.strip()),
+            flush=True)
+
+
 def main():
     names = [family.__name__ for family in FAMILIES + OVERLAPPING]
     parser = argparse.ArgumentParser(description="Times how objects are read as programs.")
@@ -152,7 +175,12 @@ def main():
     parser.add_argument("--sizes", default="1,4,16,64", help="MiB of a file")
     parser.add_argument("--families", default=",".join(names), help="of " + ", ".join(names))
     parser.add_argument("--work", help="a folder for the crate and the files, which stay there")
+    parser.add_argument("--tool", help="the program rvcfi, which is timed on objects whose sections are the same bytes")
     options = parser.parse_args()
+    if options.tool:
+        with tempfile.TemporaryDirectory() as work:
+            shared(os.path.abspath(options.tool), options.work or work)
+        return
     for tool in (OBJDUMP, GCC[0]):
         if not shutil.which(tool):
             sys.exit("There is no %s. On Debian, `apt-get install gcc-riscv64-linux-gnu` installs it." % tool)

@@ -69,6 +69,14 @@ def objects_turned(case, sample):
         compared(case, sample, chosen)
 
 
+def data_shared(case, sample):
+    """An object whose sections of data are the same bytes of the file, and more than an image has room for: it is refused
+    before a byte of them is copied, as the bounds on time and memory ask of each call."""
+    case.put(b"object", samples.families.overlapping_data(case.draw.randrange(100 << 10, 2 << 20)))
+    call = case.ask(b"rewrite", b"object", b"f", b"none", *MADE)
+    case.must(call.output.startswith(b"refused 20 DataTooLarge "), "too much data is not refused")
+
+
 def images_turned(case, sample):
     turn(case, b"image", IMAGE)
     if case.draw.random() < 0.1:
@@ -116,7 +124,7 @@ def words_turned(case, sample):
         case.ask(*words)
 
 
-KINDS = {objects_turned: 34, images_turned: 22, graphs_turned: 14, maps_turned: 10, policies_turned: 8, scripts_turned: 7,
+KINDS = {objects_turned: 33, data_shared: 1, images_turned: 22, graphs_turned: 14, maps_turned: 10, policies_turned: 8, scripts_turned: 7,
          words_turned: 5}
 
 

@@ -19,7 +19,8 @@ and its own number, so `--seed TEXT --case NUMBER` is that case again, by the sa
 
 One kind of failure is known: a system call may write 2^28 bytes, so a turned program can keep `run` and `compare` busy for seconds
 and want hundreds of megabytes, however small STEPS is. Objects whose sections are the same bytes of the file, of which
-bench/README.md tells that time and memory grow with the square, are not among those that are turned.
+bench/README.md tells that time and memory grow with the square, are not among those that are turned; but of sections of data that
+are the same bytes, and more than there is room for, it is asked that `rewrite` refuses them within these bounds.
 
 What fails is left in a folder with its files and command line. It needs Python 3.9, Linux that lets a process trace its child,
 and the program; with the compilers of tests/real/run.py there are more objects. The status is 1 where a case failed.

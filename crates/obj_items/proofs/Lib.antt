@@ -8,6 +8,7 @@ pub mod InOrder
 pub mod Pushed
 mod Addresses
 mod Instructions
+mod Linking
 pub mod Suited
 pub mod NoFault
 pub mod LookUp

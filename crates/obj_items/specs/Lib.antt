@@ -5,6 +5,7 @@ pub mod FromObject
 pub mod Outline
 pub mod Values
 pub mod Links
+pub mod Linking
 pub mod InitialData
 pub mod Contents
 pub mod ProgramOf

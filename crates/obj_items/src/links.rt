@@ -1,12 +1,13 @@
 //! What relocations make of places: patches, targets and taken addresses.
 
-ghost use Rattle.std.specs.Prelude.{◌≡◌, ◌/◌, ◌<◌, ℕ, false, true, length, map, slice_index_or, IfOk};
+ghost use Rattle.std.specs.Prelude.{◌≡◌, ◌+◌, ◌/◌, ◌<◌, ℕ, false, true, length, map, slice_index_or};
 ghost use Rattle.obj_input.specs.Input.{acting_at, is_code, section_count, section_of};
 ghost use Rattle.obj_input.specs.Code.{word_count};
 ghost use Rattle.obj_input.specs.Kinds.{kind_of};
 ghost use Rattle.obj_input.specs.DataLayout.{data_layout_of};
 ghost use Rattle.obj_program.specs.Program.{AreInOrder, is_end, no_item};
 ghost use Rattle.obj_items.specs.Links.{aimed_place, is_taken, item_with, linked, named_place, patch_by, patch_from, target_of};
+ghost use Rattle.obj_items.specs.Linking.{AreLinkedTo};
 ghost use Rattle.obj_items.specs.Outline.{outline};
 ghost use Rattle.obj_items.specs.Standing.{IsInstruction};
 
@@ -14,8 +15,6 @@ use crate::values::{place_at, use_value};
 use obj_input::{DataLayout, Definition, Input, ItemKind, RelocKind, Relocation};
 use obj_program::{Item, Patch, place_in};
 use obj_rules::{Aim, aim_at, direct_at};
-use rv_word::NoMemory;
-use std::alloc::Global;
 
 /// The place of the AUIPC that a low part names.
 fn named_place(places: &[Item], definition: Definition) -> u64
@@ -113,23 +112,35 @@ fn item_with(input: &Input, layout: &DataLayout, places: &[Item], item: &Item, t
     }
 }
 
-/// The places of an input, which are these, with what relocations make of them; `taken` has a mark for each place.
+/// Gives the place with this index its links, where those before it have theirs.
+fn link_at(input: &Input, layout: &DataLayout, places: &mut Vec<Item>, j: usize, taken: bool)
+    requires layout { layout.now ≡ data_layout_of input.now }
+    requires linked { AreLinkedTo input.now (outline input.now) places.old.items j }
+    requires below { j < length places.old.items }
+    requires taken { taken ≡ is_taken input.now (slice_index_or (outline input.now) j no_item).section (slice_index_or (outline input.now) j no_item).offset }
+    ensures { AreLinkedTo input.now (outline input.now) places.new.items (j + 1) }
+{
+    let item = places[j];
+    let linked = item_with(input, layout, places, &item, taken);
+    places[j] = linked;
+}
+
+/// The places of an input, which are these, with what relocations make of them; `taken` has a mark for each place. They are
+/// changed where they stand.
 pub(crate) fn linked_places(
-    alloc: Global,
     input: &Input,
     layout: &DataLayout,
-    places: &[Item],
+    mut places: Vec<Item>,
     taken: &[bool],
-) -> Result<Vec<Item>, NoMemory>
+) -> Vec<Item>
     requires layout { layout.now ≡ data_layout_of input.now }
-    requires places { places.now ≡ outline input.now }
-    requires count { length taken.now ≡ length places.now }
-    requires taken { (j : ℕ) → j < length places.now → slice_index_or taken.now j false ≡ is_taken input.now (slice_index_or places.now j no_item).section (slice_index_or places.now j no_item).offset }
-    ensures { IfOk result (λ v. v.items ≡ map (item_with input.now places.now) places.now) }
+    requires places { places.items ≡ outline input.now }
+    requires count { length taken.now ≡ length places.items }
+    requires taken { (j : ℕ) → j < length places.items → slice_index_or taken.now j false ≡ is_taken input.now (slice_index_or places.items j no_item).section (slice_index_or places.items j no_item).offset }
+    ensures { result.items ≡ map (item_with input.now (outline input.now)) (outline input.now) }
 {
-    let mut linked = Vec::new(alloc);
-    for (j, item) in places.iter().enumerate() {
-        linked.push(item_with(input, layout, places, item, taken[j]))?;
+    for j in 0..taken.len() {
+        link_at(input, layout, &mut places, j, taken[j]);
     }
-    Ok(linked)
+    places
 }

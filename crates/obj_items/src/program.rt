@@ -39,15 +39,15 @@ fn with_links(
     alloc: Global,
     input: &Input,
     layout: &DataLayout,
-    places: &[Item],
+    places: Vec<Item>,
 ) -> Result<Vec<Item>, NoMemory>
     requires layout { layout.now ≡ data_layout_of input.now }
-    requires places { places.now ≡ outline input.now }
-    requires order { AreInOrder places.now }
-    ensures { IfOk result (λ v. v.items ≡ map (item_with input.now places.now) places.now) }
+    requires places { places.items ≡ outline input.now }
+    requires order { AreInOrder places.items }
+    ensures { IfOk result (λ v. v.items ≡ map (item_with input.now (outline input.now)) (outline input.now)) }
 {
-    let marks = taken(alloc, input, places)?;
-    linked_places(alloc, input, layout, places, &marks)
+    let marks = taken(alloc, input, &places)?;
+    Ok(linked_places(input, layout, places, &marks))
 }
 
 /// What the program of an input holds, whose places these are.
@@ -55,16 +55,16 @@ fn contents<'a>(
     alloc: Global,
     input: &Input<'a>,
     layout: &DataLayout,
-    places: &[Item],
+    places: Vec<Item>,
 ) -> Result<Held<'a>, NoMemory>
     requires layout { layout.now ≡ data_layout_of input.now }
-    requires places { places.now ≡ outline input.now }
-    requires order { AreInOrder places.now }
+    requires places { places.items ≡ outline input.now }
+    requires order { AreInOrder places.items }
     ensures { IfOk result (AreContents input.now) }
 {
+    let relocations = relocs(alloc, input, layout, &places)?;
     let items = with_links(alloc, input, layout, places)?;
     let init = init(alloc, input, layout)?;
-    let relocations = relocs(alloc, input, layout, places)?;
     Ok(Held {
         items,
         init,
@@ -80,9 +80,8 @@ fn contents_of<'a>(alloc: Global, input: &Input<'a>) -> Result<Held<'a>, NoMemor
     ensures sound { IfOk result (λ _. IsSound (program_of input.now)) }
 {
     let layout = DataLayout::of(alloc, input)?;
-    let outline = outline(alloc, input)?;
-    let places = outline.as_slice();
-    program_is_sound(input, places);
+    let places = outline(alloc, input)?;
+    program_is_sound(input, &places);
     contents(alloc, input, &layout, places)
 }
 

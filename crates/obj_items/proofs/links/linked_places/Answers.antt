@@ -1,12 +1,13 @@
-use Rattle.std.proofs.Common.{List, subst, sym}
+use Rattle.std.proofs.Common.{length, List, ap, arith}
 use Rattle.obj_program.specs.declared.item.Item.{Item}
-use Rattle.obj_program.specs.Program.{AreInOrder}
-use Rattle.obj_items.proofs.InOrder.{outline_in_order}
-use Rattle.obj_items.proofs.Instructions.{place_stands}
+use Rattle.obj_items.specs.Outline.{outline}
+use Rattle.obj_items.proofs.Linking.{all_linked, begins_linked}
 use Rattle.obj_items.proofs.links.linked_places.Goals as goal
 
-pub item_with-requires-clause-order : goal.item_with-requires-clause-order
-item_with-requires-clause-order c = subst (λ (items : List Item). AreInOrder items) (sym c.requires.places) (outline_in_order c.args.input.now)
+pub loop-j-init : goal.loop-j-init
+loop-j-init c = begins_linked c.args.input.now c.args.places.items c.requires.places
 
-pub item_with-requires-clause-instruction : goal.item_with-requires-clause-instruction
-item_with-requires-clause-instruction c = place_stands c.args.input.now c.args.places.now c.loop-j.j _ c.requires.places c.loop-j-test.true
+pub returns : goal.returns
+returns c =
+    let size = ap (λ (items : List Item). length items) c.requires.places in
+    all_linked c.args.input.now (outline c.args.input.now) c.loop-j.places.items c.loop-j.j c.loop-j.invariant (omega (arith, c.loop-j.invariant.size))

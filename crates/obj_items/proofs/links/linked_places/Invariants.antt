@@ -1,6 +1,6 @@
-use Rattle.std.proofs.Common.{◌≡◌, map, take}
-use Rattle.obj_items.specs.Links.{item_with}
+use Rattle.obj_items.specs.Outline.{outline}
+use Rattle.obj_items.specs.Linking.{AreLinkedTo}
 use Rattle.obj_items.proofs.links.linked_places.Given as goal
 
 abbrev pub invariant-loop-j : goal.invariant-loop-j
-invariant-loop-j l = l.linked.items ≡ map (item_with l.input l.places) (take l.j l.places)
+invariant-loop-j l = AreLinkedTo l.input (outline l.input) l.places.items l.j
