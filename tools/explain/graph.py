@@ -4,7 +4,7 @@ from explain import classes
 from explain.elf import EBREAK, ECALL
 from explain.texts import OPENING, place_words, policy_lines
 
-SHOWN = 4
+SHOWN, NAMED = 4, 8
 
 
 class Named:
@@ -21,6 +21,11 @@ class Named:
         if self.is_function(address):
             return self.owner(address)
         return self.read.name(place) if place else "%08x, in the prologue" % address
+
+    def names(self, addresses):
+        """The names of addresses, the first few of many."""
+        more = " and %d more" % (len(addresses) - NAMED) if len(addresses) > NAMED else ""
+        return (", ".join(self.place(address) for address in addresses[:NAMED]) or "nothing") + more
 
     def owner(self, address):
         """The function's name that an address is in."""
