@@ -86,6 +86,8 @@ def of_refusals(asked):
     asked.refusal(asked.source(PLAIN + " char *p = (char *)main + 2;"), "It points to main+2", "In .sdata")
     asked.refusal(asked.source(PLAIN), "Functions that all files see: main.", entry="start")
     asked.refusal(asked.source("char a[268000000]; int main(void) { return a[5]; }"), "268000000 bytes  a")
+    policy = asked.bench.asked.file("wrong.policy", b"rvcfi-policy 1\nsite main+0 nothing+0 main+2\nend\n")
+    asked.refusal(asked.source(PLAIN), "Line 2: site main+0", "no symbol has this name", "no instruction starts there", policy=policy)
     asked.refusal(programs.source("memory.c"), "cannot be read")
     asked.has("no refusal", asked.told("refusal", product, given=b"rewritten code 1"), "Nothing was refused")
 
