@@ -187,6 +187,18 @@ def of_image(asked, program, made):
     asked.same(program.name + ", classes", "not the classes" in text or text.startswith("status"), False, text)
 
 
+def of_strange_names(asked):
+    """Names are an object's own: nothing that a terminal would act on is printed."""
+    path = asked.source("void strange_one(void); int main(void) { strange_one(); return 0; }")
+    with open(path, "rb") as file:
+        content = file.read().replace(b"strange_one", b"strange\033[1m")
+    path = asked.bench.asked.file("strange.o", content)
+    answer = asked.bench.asked.answer("rewrite", path, "main", "none", *(path + end for end in (".img", ".graph", ".map")))
+    told = asked.told("refusal", path, given=answer.encode())
+    asked.has("a strange name", told, "strange?[1m")
+    asked.same("a strange name, unprintable", "\033" in told, False)
+
+
 def of_missing(asked):
     """Where pyelftools is missing, how to get it."""
     done = subprocess.run([sys.executable, "-I", "-S", TOOL, "graph"], stdout=subprocess.PIPE, stderr=subprocess.PIPE, check=False)
@@ -194,7 +206,7 @@ def of_missing(asked):
 
 
 def try_all(asked):
-    for part in (of_refusals, of_undefined, of_policies, of_names, of_tables, of_missing):
+    for part in (of_refusals, of_undefined, of_policies, of_names, of_tables, of_strange_names, of_missing):
         part(asked)
     for program, made in hardened_programs(asked):
         of_image(asked, program, made)
