@@ -83,7 +83,8 @@ def named_of(options):
     try:
         return Named(read, Graph(options.graph), Map(options.map))
     except (ValueError, IndexError) as fault:
-        raise Wrong("%s or %s has a line that is none of its kind (`rvcfi verify` tells which)" % (options.graph, options.map)) from fault
+        files = options.graph, options.map
+        raise Wrong("%s or %s has a line that is none of its kind: `rvcfi verify` tells which" % files) from fault
 
 
 def shown(line):

@@ -22,9 +22,10 @@ import programs
 from attack import ATTACKS
 from pitfalls import CHANCES, MACHINE, Bench, policy_of
 from programs import Hardened, Missing
-from refusals import PLAIN, compiled
+from refusals import NAMES_Q, PLAIN, compiled
 
 TOOL = os.path.join(programs.HERE, "..", "..", "tools", "explain.py")
+CYCLES = "int main(void) { long t; __asm__ volatile(\"rdcycle %0\" : \"=r\"(t)); return t; }"
 CALLS = "int f(void), g(void); extern int n; int h(void) { return g(); } int main(void) { return f() + h() + n; }"
 
 
@@ -77,11 +78,11 @@ def of_refusals(asked):
     asked.refusal(asked.source(PLAIN, without=MACHINE), "compressed instructions", "registers for double")
     asked.refusal(asked.bench.case("macros.c", ["-g3"]), "of type GROUP", "The group is that of " + group_name(asked))
     asked.refusal(asked.bench.case("anchors.c"), ".LANCHOR1", "at 1000", "past the end of .rodata")
-    asked.refusal(asked.source("int main(void) { long t; __asm__ volatile(\"rdcycle %0\" : \"=r\"(t)); return t; }"), ": main+0", "rdcycle")
+    asked.refusal(asked.source(CYCLES), ": main+0", "rdcycle")
     asked.refusal(asked.bench.case("aligned.c", ["-falign-functions=16"]), "a zero word")
     asked.refusal(asked.source("int main(void) { __asm__(\"mv t6, a0\"); return 0; }"), ": main+0", "x31 (t6)", "mv t6,a0")
     asked.refusal(asked.source("int g(int); int main(void) { return g(g(3)) + 1; }", "-msave-restore"), ": main+0", "__riscv_save_0")
-    asked.refusal(asked.source("extern int q; int main(void) { return q; }", "-fpic", without=["-fno-pic"]), "It completes main+0", "GOT_HI20 q")
+    asked.refusal(asked.source(NAMES_Q, "-fpic", without=["-fno-pic"]), "It completes main+0", "GOT_HI20 q")
     asked.refusal(product, "__muldi3 (symbol", "Undefined are 1 in all", "main+")
     asked.refusal(asked.source(PLAIN + " char *p = (char *)main + 2;"), "It points to main+2", "In .sdata")
     asked.refusal(asked.source(PLAIN), "Functions that all files see: main.", entry="start")
@@ -141,8 +142,11 @@ def hardened_programs(asked):
 
 def of_exploit(asked, made):
     """The exploits of docs/TUTORIAL.md: the site that failed, in names."""
-    wanted = {"return": ["in __cfi_bad_return: what failed is take_message+", "ret"],
-              "pointer": ["in __cfi_bad_target: what failed is main+", "computed call of class 00001", "may go to: greet_politely, greet_briefly."]}
+    wanted = {
+        "return": ["in __cfi_bad_return: what failed is take_message+", "ret"],
+        "pointer": ["in __cfi_bad_target: what failed is main+", "computed call of class 00001",
+                    "may go to: greet_politely, greet_briefly."],
+    }
     for attack, parts in wanted.items():
         given = made.input_file(ATTACKS[attack](made.gate("open_door")))
         report = made.asked(["run", made.image, made.graph, "none", given, programs.STEPS])[1]

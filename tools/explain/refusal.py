@@ -141,7 +141,7 @@ class Refusal:
         rows = dict(policy_lines(self.policy)) if self.policy else {}
         number = self.value(0)
         if number not in rows:
-            yield "Give the policy by --policy to see its line." if not self.policy else "The policy has no such line, or it is empty."
+            yield "The policy has no such line, or it is empty." if self.policy else "Give the policy by --policy to see its line."
             return
         yield "Line %d: %s" % (number, " ".join(rows[number]))
         for text in rows[number][1:]:
@@ -157,8 +157,9 @@ class Refusal:
         if not isinstance(found[0].section, int) or not self.read.is_code(found[0].section):
             return "the symbol is not in code"
         place = found[0].section, found[0].value + words[1]
-        known = place in dict(self.read.instructions())
-        return "%s: %s" % (self.read.name(place), self.disassembly.text(place, self.read.word_at(place))) if known else "no instruction starts there"
+        if place not in dict(self.read.instructions()):
+            return "no instruction starts there"
+        return "%s: %s" % (self.read.name(place), self.disassembly.text(place, self.read.word_at(place)))
 
     def largest_functions(self):
         rows = [(row.size, row.name) for rows in self.read.functions.values() for row in rows]
