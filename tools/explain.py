@@ -79,7 +79,17 @@ def refusal_alone(words, wrong):
 
 
 def named_of(options):
-    return Named(object_of(options.object), Graph(options.graph), Map(options.map))
+    read = object_of(options.object)
+    try:
+        return Named(read, Graph(options.graph), Map(options.map))
+    except (ValueError, IndexError) as fault:
+        files = options.graph, options.map
+        raise Wrong("%s or %s has a line that is none of its kind: `rvcfi verify` tells which" % files) from fault
+
+
+def shown(line):
+    """A line without what a terminal would act on: names of an object are whatever its maker likes."""
+    return "".join(letter if letter.isprintable() else "?" for letter in line)
 
 
 def lines_of(options):
@@ -98,7 +108,7 @@ def main():
     options = words_of_command()
     try:
         for line in lines_of(options):
-            print(line)
+            print(shown(line))
     except BrokenPipeError:
         os.dup2(os.open(os.devnull, os.O_WRONLY), sys.stdout.fileno())
     except (OSError, Wrong) as wrong:

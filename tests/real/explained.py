@@ -22,9 +22,10 @@ import programs
 from attack import ATTACKS
 from pitfalls import CHANCES, MACHINE, Bench, policy_of
 from programs import Hardened, Missing
-from refusals import PLAIN, compiled
+from refusals import NAMES_Q, PLAIN, compiled
 
 TOOL = os.path.join(programs.HERE, "..", "..", "tools", "explain.py")
+CYCLES = "int main(void) { long t; __asm__ volatile(\"rdcycle %0\" : \"=r\"(t)); return t; }"
 CALLS = "int f(void), g(void); extern int n; int h(void) { return g(); } int main(void) { return f() + h() + n; }"
 
 
@@ -77,15 +78,17 @@ def of_refusals(asked):
     asked.refusal(asked.source(PLAIN, without=MACHINE), "compressed instructions", "registers for double")
     asked.refusal(asked.bench.case("macros.c", ["-g3"]), "of type GROUP", "The group is that of " + group_name(asked))
     asked.refusal(asked.bench.case("anchors.c"), ".LANCHOR1", "at 1000", "past the end of .rodata")
-    asked.refusal(asked.source("int main(void) { long t; __asm__ volatile(\"rdcycle %0\" : \"=r\"(t)); return t; }"), ": main+0", "rdcycle")
+    asked.refusal(asked.source(CYCLES), ": main+0", "rdcycle")
     asked.refusal(asked.bench.case("aligned.c", ["-falign-functions=16"]), "a zero word")
     asked.refusal(asked.source("int main(void) { __asm__(\"mv t6, a0\"); return 0; }"), ": main+0", "x31 (t6)", "mv t6,a0")
     asked.refusal(asked.source("int g(int); int main(void) { return g(g(3)) + 1; }", "-msave-restore"), ": main+0", "__riscv_save_0")
-    asked.refusal(asked.source("extern int q; int main(void) { return q; }", "-fpic", without=["-fno-pic"]), "It completes main+0", "GOT_HI20 q")
+    asked.refusal(asked.source(NAMES_Q, "-fpic", without=["-fno-pic"]), "It completes main+0", "GOT_HI20 q")
     asked.refusal(product, "__muldi3 (symbol", "Undefined are 1 in all", "main+")
     asked.refusal(asked.source(PLAIN + " char *p = (char *)main + 2;"), "It points to main+2", "In .sdata")
     asked.refusal(asked.source(PLAIN), "Functions that all files see: main.", entry="start")
     asked.refusal(asked.source("char a[268000000]; int main(void) { return a[5]; }"), "268000000 bytes  a")
+    policy = asked.bench.asked.file("wrong.policy", b"rvcfi-policy 1\nsite main+0 nothing+0 main+2\nend\n")
+    asked.refusal(asked.source(PLAIN), "Line 2: site main+0", "no symbol has this name", "no instruction starts there", policy=policy)
     asked.refusal(programs.source("memory.c"), "cannot be read")
     asked.has("no refusal", asked.told("refusal", product, given=b"rewritten code 1"), "Nothing was refused")
 
@@ -139,8 +142,11 @@ def hardened_programs(asked):
 
 def of_exploit(asked, made):
     """The exploits of docs/TUTORIAL.md: the site that failed, in names."""
-    wanted = {"return": ["in __cfi_bad_return: what failed is take_message+", "ret"],
-              "pointer": ["in __cfi_bad_target: what failed is main+", "computed call of class 00001", "may go to: greet_politely, greet_briefly."]}
+    wanted = {
+        "return": ["in __cfi_bad_return: what failed is take_message+", "ret"],
+        "pointer": ["in __cfi_bad_target: what failed is main+", "computed call of class 00001",
+                    "may go to: greet_politely, greet_briefly."],
+    }
     for attack, parts in wanted.items():
         given = made.input_file(ATTACKS[attack](made.gate("open_door")))
         report = made.asked(["run", made.image, made.graph, "none", given, programs.STEPS])[1]
@@ -185,6 +191,18 @@ def of_image(asked, program, made):
     asked.same(program.name + ", classes", "not the classes" in text or text.startswith("status"), False, text)
 
 
+def of_strange_names(asked):
+    """Names are an object's own: nothing that a terminal would act on is printed."""
+    path = asked.source("void strange_one(void); int main(void) { strange_one(); return 0; }")
+    with open(path, "rb") as file:
+        content = file.read().replace(b"strange_one", b"strange\033[1m")
+    path = asked.bench.asked.file("strange.o", content)
+    answer = asked.bench.asked.answer("rewrite", path, "main", "none", *(path + end for end in (".img", ".graph", ".map")))
+    told = asked.told("refusal", path, given=answer.encode())
+    asked.has("a strange name", told, "strange?[1m")
+    asked.same("a strange name, unprintable", "\033" in told, False)
+
+
 def of_missing(asked):
     """Where pyelftools is missing, how to get it."""
     done = subprocess.run([sys.executable, "-I", "-S", TOOL, "graph"], stdout=subprocess.PIPE, stderr=subprocess.PIPE, check=False)
@@ -192,7 +210,7 @@ def of_missing(asked):
 
 
 def try_all(asked):
-    for part in (of_refusals, of_undefined, of_policies, of_names, of_tables, of_missing):
+    for part in (of_refusals, of_undefined, of_policies, of_names, of_tables, of_strange_names, of_missing):
         part(asked)
     for program, made in hardened_programs(asked):
         of_image(asked, program, made)

@@ -127,10 +127,15 @@ def try_cases(found, tool, folder):
 def try_all(found, tool, folder):
     """The lines of all cases and of the refusals, and how many of what was asked passed."""
     cases = try_cases(found, tool, folder)
-    lines, passed = [line for case in cases for line in case.lines], sum(case.passed for case in cases)
-    for failed, asked in (refusals.tried(tool, folder, found), pitfalls.tried(tool, folder, found), beyond.tried(tool, folder)):
-        lines, passed = lines + failed, passed + asked - len(failed)
-    return lines, passed
+    failed, rows = refusals.tried(tool, folder, found)
+    lines = [line for case in cases for line in case.lines]
+    return lines + failed, sum(case.passed for case in cases) + rows - len(failed)
+
+
+def try_more(found, tool, folder):
+    """The failures of what goes wrong on the way from C and of what qemu does beyond the machine, and how much passed."""
+    parts = [pitfalls.tried(tool, folder, found), beyond.tried(tool, folder)]
+    return [line for failed, _ in parts for line in failed], sum(asked - len(failed) for failed, asked in parts)
 
 
 def main():
@@ -155,6 +160,8 @@ def main():
         folder = options.keep or scratch
         os.makedirs(folder, exist_ok=True)
         lines, passed = try_all(found, os.path.abspath(options.program), folder) if found else ([], 0)
+        more, also = try_more(found, os.path.abspath(options.program), folder) if found else ([], 0)
+    lines, passed = lines + more, passed + also
     print("\n".join(lines))
     failed = sum(line.startswith("FAILED") for line in lines)
     print("%d passed, %d failed" % (passed, failed))

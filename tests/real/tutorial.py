@@ -64,6 +64,9 @@ def main():
     words.add_argument("--program", default=programs.PROGRAM)
     words.add_argument("--print", action="store_true", dest="shown")
     options = words.parse_args()
+    if not os.access(options.program, os.X_OK):
+        print("%s is not there: cd crates/rvcfi && rt run -- verify data/a.img data/a.graph" % options.program)
+        return 1
     try:
         need()
         python = python_with_elftools()

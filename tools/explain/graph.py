@@ -4,7 +4,7 @@ from explain import classes
 from explain.elf import EBREAK, ECALL
 from explain.texts import OPENING, place_words, policy_lines
 
-SHOWN = 4
+SHOWN, NAMED = 4, 8
 
 
 class Named:
@@ -21,6 +21,11 @@ class Named:
         if self.is_function(address):
             return self.owner(address)
         return self.read.name(place) if place else "%08x, in the prologue" % address
+
+    def names(self, addresses):
+        """The names of addresses, the first few of many."""
+        more = " and %d more" % (len(addresses) - NAMED) if len(addresses) > NAMED else ""
+        return (", ".join(self.place(address) for address in addresses[:NAMED]) or "nothing") + more
 
     def owner(self, address):
         """The function's name that an address is in."""
@@ -83,8 +88,9 @@ class Named:
         told = {self.map.place(site.address): {self.map.place(target) for target in self.graph.classes.get(site.label, [])}
                 for site in self.graph.sites}
         if told != {site: set(targets) for site, targets in wanted.items()}:
-            yield "These are not the classes that the object comes to%s: was it hardened with another policy, or is it another object?" % (
-                " with this policy" if policy else " without a policy")
+            how = "with this policy" if policy else "without a policy"
+            yield "These are not the classes that the object comes to %s." % how
+            yield "    Was it hardened with another policy, or is this another object?"
 
     def idle(self, policy):
         flow, lines = classes.Flow(self.read), classes.policy_of(self.read, policy)
@@ -103,7 +109,8 @@ class Named:
     def doubtful(self, names):
         for first, others in classes.doubtful_names(self.read, names):
             hidden = [other for other in others if other.bind != "STB_LOCAL" and first.bind == "STB_LOCAL"]
-            what = "a static symbol, while a global one of that name is there" if hidden else "the first of %d symbols" % (1 + len(others))
+            first_of = "the first of %d symbols" % (1 + len(others))
+            what = "a static symbol, while a global one of that name is there" if hidden else first_of
             yield "the name %s stands for %s: %s is meant, not %s" % (
                 first.name, what, first.told(), (hidden or others)[0].told())
 

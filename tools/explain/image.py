@@ -10,8 +10,7 @@ def goes(named, unit):
     if unit.kind == "gate":
         return "class " + unit.label if unit.label in named.graph.classes else "no class (%s)" % unit.label
     if unit.label is not None:
-        targets = named.graph.classes.get(unit.label, [])
-        return "class %s: %s" % (unit.label, ", ".join(named.place(target) for target in targets) or "no target")
+        return "class %s: %s" % (unit.label, named.names(named.graph.classes.get(unit.label, [])))
     return ""
 
 

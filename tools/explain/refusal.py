@@ -35,9 +35,8 @@ class Refusal:
         yield self.heading()
         if self.number in AT_PLACES:
             yield from self.at_place()
-        special = getattr(self, "of_%d" % self.number, None)
-        if special:
-            yield from special()
+        if self.number in SPECIAL:
+            yield from SPECIAL[self.number](self)
         yield from self.told()
 
     def told(self):
@@ -62,19 +61,19 @@ class Refusal:
         name = symbol.name or (self.read.section_name(symbol.section) if isinstance(symbol.section, int) else "no symbol")
         return "%s%+d" % (name, row.addend) if row.addend else name
 
-    def of_2(self):
+    def file_type(self):
         yield "The file is %s." % TYPES.get(self.value(0), "of type %d" % self.value(0))
 
-    def of_3(self):
+    def processor(self):
         yield "The file is for %s." % MACHINES.get(self.value(0), "the processor %d" % self.value(0))
 
-    def of_4(self):
+    def flags(self):
         yield "It is built for " + ", ".join(text for bit, text in FLAGS if self.value(0) & bit) + "."
 
-    def of_6(self):
+    def broken_table(self):
         yield "The table is " + self.read.section_name(self.value(0)) + "."
 
-    def of_7(self):
+    def section(self):
         number = self.value(0)
         if number < len(self.read.headers):
             header = self.read.headers[number]
@@ -84,7 +83,7 @@ class Refusal:
             if kind == "GROUP" and header["sh_info"] < len(self.read.symbols):
                 yield "The group is that of %s." % self.read.symbols[header["sh_info"]].name
 
-    def of_8(self):
+    def symbol(self):
         if self.value(0) >= len(self.read.symbols):
             return
         symbol = self.read.symbols[self.value(0)]
@@ -95,23 +94,23 @@ class Refusal:
                 yield "It stands at %x, past the end of %s, which has %x bytes." % (
                     symbol.value, self.read.section_name(symbol.section), size)
 
-    def of_9(self):
+    def zero_word(self):
         if self.value(2) == 0:
             yield "It is a zero word: what the assembler fills in behind aligned functions, or data among code."
 
-    def of_10(self):
+    def reserved(self):
         word = self.read.word_at((self.value(0), self.value(1)))
         if word is not None:
             named = {fields(word)[1], fields(word)[2], word >> 20 & 31} & set(RESERVED)
             yield "Of the registers that units keep it may name " + ", ".join(RESERVED[number] for number in sorted(named)) + "."
 
-    def of_12(self):
+    def pair(self):
         for row in self.read.at_place((self.value(0), self.value(1))):
             place = self.read.target(row) if row.kind in PCREL_LO12 else None
             if place:
                 yield "It completes %s: %s" % (self.read.name(place), self.disassembly.text(place, self.read.word_at(place)))
 
-    def of_15(self):
+    def undefined_symbols(self):
         if self.value(0) < len(self.read.symbols):
             yield "The symbol: " + self.read.symbols[self.value(0)].told() + "."
         uses = self.undefined()
@@ -128,21 +127,21 @@ class Refusal:
                 found.setdefault(symbol.name, []).append((row.section, row.offset))
         return dict(sorted(found.items()))
 
-    def of_16(self):
+    def pointer(self):
         for row in self.read.at_place((self.value(0), self.value(1))):
             target = self.read.target(row)
             if target:
                 yield "It points to %s, offset %x of %s." % (self.read.name(target), target[1], self.read.section_name(target[0]))
 
-    def of_17(self):
+    def entries(self):
         names = [row.name for rows in self.read.functions.values() for row in rows if row.bind != "STB_LOCAL"]
         yield "Functions that all files see: " + (", ".join(sorted(names)[:40]) or "none") + (", .." if len(names) > 40 else "") + "."
 
-    def of_18(self):
+    def policy_line(self):
         rows = dict(policy_lines(self.policy)) if self.policy else {}
         number = self.value(0)
         if number not in rows:
-            yield "Give the policy by --policy to see its line." if not self.policy else "The policy has no such line, or it is empty."
+            yield "The policy has no such line, or it is empty." if self.policy else "Give the policy by --policy to see its line."
             return
         yield "Line %d: %s" % (number, " ".join(rows[number]))
         for text in rows[number][1:]:
@@ -158,14 +157,15 @@ class Refusal:
         if not isinstance(found[0].section, int) or not self.read.is_code(found[0].section):
             return "the symbol is not in code"
         place = found[0].section, found[0].value + words[1]
-        known = place in dict(self.read.instructions())
-        return "%s: %s" % (self.read.name(place), self.disassembly.text(place, self.read.word_at(place))) if known else "no instruction starts there"
+        if place not in dict(self.read.instructions()):
+            return "no instruction starts there"
+        return "%s: %s" % (self.read.name(place), self.disassembly.text(place, self.read.word_at(place)))
 
-    def of_19(self):
+    def largest_functions(self):
         rows = [(row.size, row.name) for rows in self.read.functions.values() for row in rows]
         yield from self.largest(rows, "functions, before they are hardened")
 
-    def of_20(self):
+    def largest_variables(self):
         rows = [(row.size, row.name) for row in self.read.symbols if row.kind == "STT_OBJECT"]
         yield from self.largest(rows, "variables")
 
@@ -174,3 +174,23 @@ class Refusal:
         yield "The largest %s:" % what
         for size, name in sorted(rows, reverse=True)[:LARGEST]:
             yield "    %10d bytes  %s" % (size, name)
+
+
+# what is told of one kind of refusal alone
+SPECIAL = {
+    2: Refusal.file_type,
+    3: Refusal.processor,
+    4: Refusal.flags,
+    6: Refusal.broken_table,
+    7: Refusal.section,
+    8: Refusal.symbol,
+    9: Refusal.zero_word,
+    10: Refusal.reserved,
+    12: Refusal.pair,
+    15: Refusal.undefined_symbols,
+    16: Refusal.pointer,
+    17: Refusal.entries,
+    18: Refusal.policy_line,
+    19: Refusal.largest_functions,
+    20: Refusal.largest_variables,
+}
