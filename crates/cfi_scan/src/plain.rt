@@ -3,12 +3,25 @@ ghost use Rattle.cfi_scan.specs.PlainWord.{IsPlainWord, is_named};
 
 use rv_instr::Reg;
 
-/// A bit above those of funct7.
+/// What is asked of a funct7: `SPREAD * funct7 + ASKED` has it in bits 6 to 0, a one in bit 7, a one in bit 8
+/// where it is even, and a one in bit 15 where it is above 20h.
+const SPREAD: u32 = 0x101;
+
+/// See `SPREAD`.
+const ASKED: u32 = 0x5f80;
+
+/// Bits of that which are 0 for no funct7.
 const NONE: u32 = 0x80;
 
-/// The bits of funct7 that are 0 in the instructions that compute or load a register, by bits 5 to 2 of
-/// the opcode (a row) and funct3 (a column); `NONE` where there are none (RISC-V unprivileged ISA,
-/// "RV32/64G Instruction Set Listings").
+/// Bits that are 0 for 1 alone, which products and quotients have.
+const ONE: u32 = 0x017e;
+
+/// Bits that are 0 for 0, 1 and 20h alone.
+const ANY: u32 = 0x805e;
+
+/// The bits of what is asked of funct7 that are 0 in the instructions that compute or load a register, by
+/// bits 5 to 2 of the opcode (a row) and funct3 (a column); `NONE` where there are none (RISC-V unprivileged
+/// ISA, "RV32/64G Instruction Set Listings").
 const UNSET: [u32; 128] = [
     // loads
     0, 0, 0, 0, 0, 0, 0, NONE, //
@@ -25,9 +38,9 @@ const UNSET: [u32; 128] = [
     NONE, NONE, NONE, NONE, NONE, NONE, NONE, NONE, //
     NONE, NONE, NONE, NONE, NONE, NONE, NONE, NONE, //
     // computations with registers, lui, computations with registers on 32 bits
-    0x5f, 0x7f, 0x7f, 0x7f, 0x7f, 0x5f, 0x7f, 0x7f, //
+    ANY, 0x7e, 0x7e, 0x7e, 0x7e, ANY, 0x7e, 0x7e, //
     0, 0, 0, 0, 0, 0, 0, 0, //
-    0x5f, 0x7f, NONE, NONE, NONE, 0x5f, NONE, NONE, //
+    ANY, 0x7f, NONE, NONE, ONE, ANY, ONE, ONE, //
     NONE, NONE, NONE, NONE, NONE, NONE, NONE, NONE,
 ];
 
@@ -36,10 +49,10 @@ const UNSET: [u32; 128] = [
 pub(crate) fn is_plain_word(word: u32) -> bool
     ensures { result ≡ true → IsPlainWord word }
 {
-    let funct7 = (word >> 25) + NONE;
+    let asked = (word >> 25) * SPREAD + ASKED;
     if word & 3 == 3
         && (word >> 6) & 1 == 0
-        && unset((word >> 2) & 0xf, (word >> 12) & 7) & funct7 == 0
+        && unset((word >> 2) & 0xf, (word >> 12) & 7) & asked == 0
     {
         is_named((word >> 7) & 0x1f)
     } else {

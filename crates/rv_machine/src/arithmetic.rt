@@ -1,5 +1,5 @@
 ghost use Rattle.std.specs.Prelude.{◌≡◌, ◌<◌, ◌*◌, ◌%◌, ◌^◌, true};
-ghost use Rattle.rv_machine.specs.Long.{is_long};
+ghost use Rattle.rv_machine.specs.LongLatency.{is_long_latency};
 ghost use Rattle.rv_mem.specs.Access.{IsAccessSize};
 ghost use Rattle.rv_word.specs.Bits.{sign_extended};
 ghost use Rattle.rv_code.specs.Step.{offset};
@@ -101,15 +101,15 @@ pub(crate) fn register(op: RegisterOp, a: u64, b: u64) -> u64
         | RegisterOp::Divw
         | RegisterOp::Divuw
         | RegisterOp::Remw
-        | RegisterOp::Remuw => long(op, a, b),
+        | RegisterOp::Remuw => long_latency(op, a, b),
     }
 }
 
-/// The upper half of a product, a quotient or a remainder. It is called, so that what takes no time is
-/// near in the loop of a run.
+/// The upper half of a product, a quotient or a remainder. It is not inlined, which keeps the loop of a
+/// run small.
 #[inline(never)]
-fn long(op: RegisterOp, a: u64, b: u64) -> u64
-    requires { is_long op ≡ true }
+fn long_latency(op: RegisterOp, a: u64, b: u64) -> u64
+    requires { is_long_latency op ≡ true }
     ensures { result ≡ register_result op a b }
 {
     match op {
