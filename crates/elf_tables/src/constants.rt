@@ -92,3 +92,9 @@ pub const STB_GLOBAL: u8 = 1;
 
 /// The binding of a symbol that yields to a global one of its name.
 pub const STB_WEAK: u8 = 2;
+
+/// The size of a section header, `Elf64_Shdr`.
+pub const SECTION_HEADER_SIZE: u64 = 64;
+
+/// The size of a symbol, `Elf64_Sym`, and of a relocation with an addend, `Elf64_Rela`.
+pub const ENTRY_SIZE: u64 = 24;

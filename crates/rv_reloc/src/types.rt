@@ -68,9 +68,3 @@ pub const R_RISCV_ALIGN: u32 = 43;
 
 /// A mark of instructions that a linker may shorten.
 pub const R_RISCV_RELAX: u32 = 51;
-
-/// The size of a section header, `Elf64_Shdr`.
-pub const SECTION_HEADER_SIZE: u64 = 64;
-
-/// The size of a symbol, `Elf64_Sym`, and of a relocation with an addend, `Elf64_Rela`.
-pub const ENTRY_SIZE: u64 = 24;
