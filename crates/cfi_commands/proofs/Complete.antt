@@ -15,11 +15,10 @@ use Rattle.cfi_verify.specs.Rules.{IsRejected, IsWellFormed}
 use Rattle.cfi_verify.specs.declared.reject.Reject as V
 use Rattle.cfi_verify.specs.declared.reject.Reject.TheVariants.{At, Length}
 use Rattle.cfi_harden.specs.Request as asks
-use Rattle.cfi_harden.specs.declared.refusal.Refusal.TheVariants as rewriter
 use Rattle.cfi_files.specs.Reads.{Content, Gave, GaveNamed, IsLong, IsReached, file_limit}
 use Rattle.cfi_files.specs.Words.{text_named}
 use Rattle.cfi_files.specs.declared.refusal.Refusal.{Refusal}
-use Rattle.cfi_files.specs.declared.refusal.Refusal.TheVariants.{CodeTooLarge, DataTooLarge, Graph, Image, Items, NoEntry, Object, Policy, RelocRange, Script}
+use Rattle.cfi_files.specs.declared.refusal.Refusal.TheVariants.{Graph, Image, Object, Script}
 use Rattle.cfi_commands.specs.Compare.{CompareWords, ExplainsCompare, IsCompareOf, compare_names, compare_status}
 use Rattle.cfi_commands.specs.Complete.{AreHeld, CompareIsComplete, IsHeld, IsHeldNamed, IsUnrefused, RewriteIsComplete, RunIsComplete, VerifyIsComplete}
 use Rattle.cfi_commands.specs.Opening.{IsImage, IsRefusal, Spell, script_given}
@@ -176,13 +175,7 @@ run_complete content words result is = λ image_bytes graph_bytes script_bytes i
     (subst (λ (i : List ℕ). IsRunOf i is.graph_bytes (text_named words.script is.script_bytes) is.input_bytes words.limit result) image_same is.run_is))))
 
 unrefused : (request : asks.Request) → IsUnrefused request → (refusal : Refusal) → IsRefused request refusal → ⊥
-unrefused request none (Object fault) is = let e = none (rewriter.Object fault) is in cc e
-unrefused request none (Items fault) is = let e = none (rewriter.Items fault) is in cc e
-unrefused request none NoEntry is = let e = none rewriter.NoEntry is in cc e
-unrefused request none (Policy line) is = let e = none (rewriter.Policy line) is in cc e
-unrefused request none (CodeTooLarge bytes) is = let e = none (rewriter.CodeTooLarge bytes) is in cc e
-unrefused request none (DataTooLarge init last) is = let e = none (rewriter.DataTooLarge init last) is in cc e
-unrefused request none (RelocRange section offset) is = let e = none (rewriter.RelocRange section offset) is in cc e
+unrefused request none (Object refusal) is = none refusal is
 unrefused request none other is = is
 
 pub rewrite_complete : (content : Content) (words : RewriteWords) (result : W.RewriteOutcome) → ExplainsRewrite content words result

@@ -5,41 +5,45 @@ use Rattle.cfi_graph.specs.declared.map.MapLine.{MapLine}
 use Rattle.cfi_flow.specs.GraphAtMap.{ProgramAtMap, program_at}
 use Rattle.cfi_flow.specs.LegalMap.{gates_of}
 use Rattle.obj_program.specs.Program.{Program}
-use Rattle.cfi_harden.specs.Hardened.{HardenedParts, IsHardened, chosen}
+use Rattle.cfi_harden.specs.Hardened.{HardenedParts, IsWrittenOf, chosen}
 use Rattle.cfi_harden.specs.Prepared.{IsPrepared, PreparedParts}
+use Rattle.cfi_harden.specs.Refused.{Refuses}
 use Rattle.cfi_harden.specs.Request.{Request}
+use Rattle.cfi_harden.specs.declared.refusal.Refusal.{Refusal}
 use Rattle.cfi_harden.proofs.Ready.{written_accepted}
 use Rattle.cfi_meaning.specs.Compared as runs
 use Rattle.cfi_meaning.specs.NeverDiffers.{NoRunDiffers}
 use Rattle.cfi_meaning.proofs.NeverDiffers.{never_differs}
 use Rattle.src_machine.specs.Running.{SourceParts}
-use Rattle.cfi_single.specs.OneWay.{PreparedInOneWay}
+use Rattle.gen_hardened.specs.Laws.{DemoIsNeverRefused, entered}
 use Rattle.cfi_compare.specs.Told.{told_answer}
 use Rattle.cfi_compare.specs.declared.answer.Compared.{Compared}
 use Rattle.cfi_commands.specs.Demo.{IsComparedAt, STEP_LIMIT}
-use Rattle.cfi_commands.specs.Demonstration.{CanRunAt, Fits, IsAnswerAt, IsDifference, IsImageIn, IsSourceOn, NoneDiffers}
+use Rattle.cfi_commands.specs.Demonstration.{CanRunAt, IsAnswerAt, IsDifference, IsDrawn, IsImageIn, IsSourceOn, NoneDiffers}
 
-module _ (request : Request) (h : HardenedParts) (hardens : IsHardened request h) where
-  pub fits_of : PreparedInOneWay → Fits request h.map
-  fits_of one p is =
-      let (q, prepared, (s, labels, code, init, placed, room, in_range, written)) = hardens in
-      subst (λ (x : PreparedParts). CanRunAt x h.map) (one request q p prepared is)
-      (record { legal = written.map; room = room; in_range = rw (written.gates, sym placed.words) in_range })
+module _ (request : Request) (p : PreparedParts) (prepared : IsPrepared request p) (h : HardenedParts) (hardened : IsWrittenOf p h) where
+  pub can_run : CanRunAt p h.map
+  can_run =
+      let (s, labels, code, init, placed, room, in_range, written) = hardened in
+      record { legal = written.map; room = room; in_range = rw (written.gates, sym placed.words) in_range }
 
-  pub none_differs : PreparedInOneWay → (image : Contents) → IsImageIn h.image image → NoneDiffers request h.map image
-  none_differs one image is p of =
-      let (q, prepared, (s, labels, code, init, placed, room, in_range, written)) = hardens in
+  pub none_differs : (image : Contents) → IsImageIn h.image image → NoneDiffers p h.map image
+  none_differs image is =
+      let (s, labels, code, init, placed, room, in_range, written) = hardened in
       let (code_is, init_is) = is.only code init written.bytes.size written.image in
       let own : Contents = record { code = code; init = init } in
       let same : image ≡ own = λ i. record { code = code_is i; init = init_is i } in
-      let m = chosen q s labels in
-      let accepted = written_accepted request q s labels code init h prepared (record { placed = placed; room = room; in_range = in_range }) written in
+      let m = chosen p s labels in
+      let accepted = written_accepted request p s labels code init h prepared (record { placed = placed; room = room; in_range = in_range }) written in
       let never : NoRunDiffers m.layout own = never_differs m own (record { accepted = accepted; bytes = written.bytes; code = written.code_is })
       (sym (ap (λ (o : Option (List ℕ)). unwrap_or o []) written.init_is)) in
-      let at_map : NoRunDiffers (program_at q.program q.closed (gates_of h.map) q.entry) own =
-      subst (λ (gates : List ℕ). NoRunDiffers (program_at q.program q.closed gates q.entry) own) (sym written.gates) never in
-      subst (λ (x : PreparedParts). NoRunDiffers (program_at x.program x.closed (gates_of h.map) x.entry) image) (one request q p prepared of)
-      (subst (λ (x : Contents). NoRunDiffers (program_at q.program q.closed (gates_of h.map) q.entry) x) (sym same) at_map)
+      let at_map : NoRunDiffers (program_at p.program p.closed (gates_of h.map) p.entry) own =
+      subst (λ (gates : List ℕ). NoRunDiffers (program_at p.program p.closed gates p.entry) own) (sym written.gates) never in
+      subst (λ (x : Contents). NoRunDiffers (program_at p.program p.closed (gates_of h.map) p.entry) x) (sym same) at_map
+
+-- a generated object is not refused
+pub unrefused : DemoIsNeverRefused → (object : List ℕ) → IsDrawn object → (refusal : Refusal) → Refuses (entered object) refusal → ⊥
+unrefused law object (number, is) refusal refuses = law number refusal (subst (λ (o : List ℕ). Refuses (entered o) refusal) is refuses)
 
 -- an answer is no difference where none was found
 no_difference : (program : Program) (found : runs.Compared) (result : Compared) → ((d : runs.Difference) → found ≡ runs.differs d → ⊥)
@@ -55,11 +59,11 @@ module _ (p : PreparedParts) (map : List MapLine) (image : Contents) where
   answer_at run answer on told =
       subst (λ (l : ProgramAtMap). answer ≡ told_answer l.program (runs.compared l image [] STEP_LIMIT)) on.layout told
 
-  module _ (request : Request) (prepared : IsPrepared request p) (answer : Compared) (is : IsAnswerAt p map image answer) where
-    pub compared_at : Fits request map → IsComparedAt request map image answer
-    compared_at fits = record { program = p; prepared = prepared; map_is = (fits p prepared).legal; result_is = is }
+  module _ (answer : Compared) (is : IsAnswerAt p map image answer) where
+    pub compared_at : (request : Request) → IsPrepared request p → CanRunAt p map → IsComparedAt request map image answer
+    compared_at request prepared fits = record { program = p; prepared = prepared; map_is = fits.legal; result_is = is }
 
-    pub never_told : NoneDiffers request map image → IsDifference answer → ⊥
+    pub never_told : NoneDiffers p map image → IsDifference answer → ⊥
     never_told never =
         let l = program_at p.program p.closed (gates_of map) p.entry in
-        no_difference p.program (runs.compared l image [] STEP_LIMIT) answer (never p prepared [] STEP_LIMIT) is
+        no_difference p.program (runs.compared l image [] STEP_LIMIT) answer (never [] STEP_LIMIT) is

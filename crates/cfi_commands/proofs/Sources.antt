@@ -1,11 +1,13 @@
 -- A program at the map that a text spells, and what comes of it and of a file that should be an image.
-use Rattle.std.proofs.Common.{◌≡◌, ◌+◌, ◌≤◌, ◌<◌, ℕ, List, Option, None, Some, Ok, Err, sym, subst, arith}
+use Rattle.std.proofs.Common.{◌≡◌, ◌+◌, ◌≤◌, ◌<◌, ℕ, List, Option, None, Some, Ok, Err, inl, inr, sym, subst, arith}
+use Rattle.rv_word.proofs.Cases.{cases_Option}
 use Rattle.rv_word.specs.MemoryMap.{DATA_END, DATA_START}
 use Rattle.text_lines.specs.declared.reason.Reason.{Reason}
 use Rattle.text_lines.specs.declared.end.TextEnd.TheVariants.{Line}
 use Rattle.obj_program.specs.DataAtMap.{init_size}
 use Rattle.obj_program.specs.Program.{Program}
 use Rattle.obj_items.specs.FromObject.{input_of}
+use Rattle.elf_image.specs.Fault.{fault_of}
 use Rattle.obj_items.specs.Laws.{LastEnds}
 use Rattle.cfi_graph.specs.MapText.{map_of}
 use Rattle.cfi_graph.specs.declared.map.MapLine.{MapLine}
@@ -15,7 +17,15 @@ use Rattle.cfi_flow.specs.MapFault.{IsWrongLine}
 use Rattle.cfi_flow.specs.Policy.{instruction_at}
 use Rattle.cfi_harden.specs.Hardened.{HasDataRoom}
 use Rattle.cfi_harden.specs.Prepared.{IsPrepared, PreparedParts}
+use Rattle.cfi_harden.specs.Refused.{IsEarly, Prepares, Refuses}
 use Rattle.cfi_harden.specs.Request.{Request}
+use Rattle.cfi_harden.specs.declared.refusal.HardenEnd.{HardenEnd}
+use Rattle.cfi_harden.specs.declared.refusal.HardenEnd.TheVariants as ends
+use Rattle.cfi_harden.specs.declared.refusal.Refusal.{Refusal}
+use Rattle.cfi_harden.specs.declared.refusal.Refusal.TheVariants as hardening
+use Rattle.cfi_files.specs.declared.refusal.MapReason.TheVariants.{Text, Place}
+use Rattle.cfi_files.specs.declared.refusal.Refusal.{Refusal as Refused}
+use Rattle.cfi_files.specs.declared.refusal.Refusal.TheVariants as refused
 use Rattle.src_machine.specs.Beginning.{IsBegun}
 use Rattle.src_machine.specs.Laws.{WrongIsNotLegal}
 use Rattle.src_machine.specs.ProgramAt.{EndsLast}
@@ -23,7 +33,9 @@ use Rattle.src_machine.specs.Running.{SourceParts}
 use Rattle.cfi_meaning.specs.Compared.{compared}
 use Rattle.cfi_compare.specs.Told.{told_answer}
 use Rattle.cfi_compare.specs.declared.answer.Compared as A
-use Rattle.cfi_commands.specs.Compare.{IsComparison, IsResult, IsRoomy, IsRunnable, IsSourceAt, first_out}
+use Rattle.cfi_commands.specs.declared.compare.CompareOutcome.{CompareOutcome}
+use Rattle.cfi_commands.specs.declared.compare.CompareOutcome.TheVariants as outcome
+use Rattle.cfi_commands.specs.Compare.{IsAfterImage, IsCompareOf, IsCompareRefused, IsComparison, IsImageCompared, IsResult, IsRoomy, IsRoomyEnd, IsRunnable, IsSourceAt, first_out}
 use Rattle.cfi_commands.specs.Demonstration.{IsSourceOn}
 
 pub roomy_ends : (request : Request) (p : PreparedParts) → LastEnds → IsPrepared request p → EndsLast p.program
@@ -56,6 +68,21 @@ source_is p map input lines run read on = record {
   state = on.state;
   steps = on.steps;
 }
+
+-- what a request comes to that is not prepared
+not_prepared : (request : Request) (refusal : Refusal) → Refuses request refusal → IsEarly refusal → (image map : List ℕ)
+    → IsCompareRefused request image map (refused.Object refusal)
+not_prepared request (hardening.Object fault) is early = λ image map. is
+not_prepared request (hardening.Items fault) is early = λ image map. is
+not_prepared request hardening.NoEntry is early = λ image map. is
+not_prepared request (hardening.Policy line) is early = λ image map. is
+not_prepared request (hardening.CodeTooLarge bytes) is early = absurd early
+not_prepared request (hardening.DataTooLarge init last) is early = absurd early
+not_prepared request (hardening.RelocRange section offset) is early = absurd early
+
+pub not_roomy : (request : Request) (end : HardenEnd) → Prepares request (Err end) → IsRoomyEnd request end
+not_roomy request (ends.Refused refusal) (is, early) = not_prepared request refusal is early
+not_roomy request ends.NoMemory is = tt
 
 module _ (request : Request) (p : PreparedParts) (map : List ℕ) (roomy : IsRoomy request p) where
   pub runnable_source : (input : List ℕ) (run : SourceParts) → IsSourceAt p map input run → IsRunnable request p map
@@ -90,3 +117,33 @@ module _ (request : Request) (p : PreparedParts) (map : List ℕ) (roomy : IsRoo
     image_is = is.image_is;
     result_is = subst (λ (l : ProgramAtMap). result ≡ told_answer l.program (compared l is.contents input limit)) source.layout is.result_is;
   }
+
+  -- what comes of the program's run from its start, whatever the file is that should be an image
+  pub compared_with : (image input : List ℕ) (limit : ℕ) (run : SourceParts) (result : CompareOutcome) → IsSourceAt p map input run
+      → IsImageCompared run image input limit result → IsCompareOf request image map input limit result
+  compared_with image input limit run (outcome.Refused (refused.Image refusal)) source is = (p, runnable_source input run source, is)
+  compared_with image input limit run (outcome.Refused (refused.Object refusal)) source is = absurd is
+  compared_with image input limit run (outcome.Refused (refused.Graph line reason)) source is = absurd is
+  compared_with image input limit run (outcome.Refused (refused.Map line reason)) source is = absurd is
+  compared_with image input limit run (outcome.Refused (refused.Script line reason)) source is = absurd is
+  compared_with image input limit run (outcome.Compared result) source is = comparison_is image input limit run result source is
+
+  module _ (image : List ℕ) (refusal : Refused) where
+    -- a map's line that is no legal placement's, and a text that is no map, after an image's own refusal
+    pub wrong_place : (lines : List MapLine) (line : ℕ) → WrongIsNotLegal → map_of map ≡ Ok lines → IsWrongLine p.program p.closed lines line
+        → IsAfterImage image (refused.Map line Place) refusal → IsCompareRefused request image map refusal
+    wrong_place lines line law read wrong after =
+        let runnable = runnable_place lines line law read wrong in
+        elim (cases_Option (fault_of image)) [
+          | inl none ↦ subst (λ (r : Refused). IsCompareRefused request image map r) (sym (after.right none)) (p, lines, runnable, none, read, wrong)
+          | inr (f, some) ↦ subst (λ (r : Refused). IsCompareRefused request image map r) (sym (after.wrong f some)) (p, runnable, some)
+        ]
+
+    pub wrong_text : (line : ℕ) (reason : Reason) → map_of map ≡ Err (Line line reason) → IsAfterImage image (refused.Map line (Text reason)) refusal
+        → IsCompareRefused request image map refusal
+    wrong_text line reason wrong after =
+        let runnable = runnable_text line reason wrong in
+        elim (cases_Option (fault_of image)) [
+          | inl none ↦ subst (λ (r : Refused). IsCompareRefused request image map r) (sym (after.right none)) (p, runnable, none, wrong)
+          | inr (f, some) ↦ subst (λ (r : Refused). IsCompareRefused request image map r) (sym (after.wrong f some)) (p, runnable, some)
+        ]

@@ -4,6 +4,7 @@ use Rattle.std.specs.Prelude.{◌≡◌, ℕ, ◌⊎◌, List, [], ◌∷◌, �
 use Rattle.rv_word.specs.Image.{Contents}
 use Rattle.text_lines.specs.declared.end.TextEnd.TheVariants.{Line}
 use Rattle.elf_image.specs.Fault.{fault_of}
+use Rattle.elf_image.specs.declared.refusal.ImageRefusal.{ImageRefusal}
 use Rattle.obj_program.specs.DataAtMap.{init_size}
 use Rattle.obj_program.specs.Range.{out_of_range}
 use Rattle.least.specs.declared.place.Place as found
@@ -16,6 +17,8 @@ use Rattle.cfi_harden.specs.Hardened.{HasDataRoom}
 use Rattle.cfi_harden.specs.Prepared.{IsPrepared, PreparedParts}
 use Rattle.cfi_harden.specs.Refused.{Refuses}
 use Rattle.cfi_harden.specs.Request as asks
+use Rattle.cfi_harden.specs.declared.refusal.HardenEnd.{HardenEnd}
+use Rattle.cfi_harden.specs.declared.refusal.HardenEnd.TheVariants as ends
 use Rattle.cfi_harden.specs.declared.refusal.Refusal.TheVariants as rewriter
 use Rattle.cfi_flow.specs.Source.{source_start}
 use Rattle.cfi_flow.specs.GraphAtMap.{program_at}
@@ -32,12 +35,9 @@ use Rattle.cfi_files.specs.Words.{file_word, steps_of, text_named}
 use Rattle.cfi_commands.specs.declared.compare.CompareOutcome.{CompareOutcome}
 use Rattle.cfi_commands.specs.declared.compare.CompareOutcome.TheVariants as outcome
 use Rattle.cfi_commands.specs.declared.compare.CompareRequest.{CompareRequest}
-use Rattle.cfi_commands.specs.declared.opening.OpenEnd.{OpenEnd}
-use Rattle.cfi_commands.specs.declared.opening.OpenEnd.TheVariants as ends
-use Rattle.cfi_commands.specs.declared.source.MapEnd.{MapEnd}
-use Rattle.cfi_commands.specs.declared.source.MapEnd.TheVariants as at
 use Rattle.cfi_files.specs.declared.refusal.Refusal.{Refusal}
-use Rattle.cfi_files.specs.declared.refusal.Refusal.TheVariants.{Object, Items, NoEntry, Policy, DataTooLarge, RelocRange, Image, Map, MapPlace}
+use Rattle.cfi_files.specs.declared.refusal.MapReason.TheVariants.{Text, Place}
+use Rattle.cfi_files.specs.declared.refusal.Refusal.TheVariants.{Object, Image, Map}
 
 -- what is asked for: the names of the files and of the entry, and how many steps the program takes at most
 pub record CompareWords : Type 0 where
@@ -85,32 +85,28 @@ pub record IsRunnable (request : asks.Request) (p : PreparedParts) (map : List �
 -- a refusal stands, and none before it: of the object, its entry or the policy, of room for data, of a value out of its range at a legal
 -- map, of the image, of the map
 abbrev pub IsCompareRefused : asks.Request → List ℕ → List ℕ → Refusal → Type 0
-IsCompareRefused request image map (Object fault) = Refuses request (rewriter.Object fault)
-IsCompareRefused request image map (Items fault) = Refuses request (rewriter.Items fault)
-IsCompareRefused request image map NoEntry = Refuses request rewriter.NoEntry
-IsCompareRefused request image map (Policy line) = Refuses request (rewriter.Policy line)
-IsCompareRefused request image map (DataTooLarge init last) =
+IsCompareRefused request image map (Object (rewriter.CodeTooLarge bytes)) = ⊥
+IsCompareRefused request image map (Object (rewriter.DataTooLarge init last)) =
     (p : PreparedParts) × IsPrepared request p × (init ≡ init_size p.program) × (last ≡ p.program.data_end) × (HasDataRoom p.program → ⊥)
-IsCompareRefused request image map (RelocRange section offset) =
+IsCompareRefused request image map (Object (rewriter.RelocRange section offset)) =
     (p : PreparedParts) × (lines : List MapLine) × IsRoomy request p × IsMapOf p map lines × (first_out p lines ≡ Some (record { section = section; offset = offset }))
+IsCompareRefused request image map (Object early) = Refuses request early
 IsCompareRefused request image map (Image refusal) = (p : PreparedParts) × IsRunnable request p map × (fault_of image ≡ Some refusal)
-IsCompareRefused request image map (Map line reason) =
+IsCompareRefused request image map (Map line (Text reason)) =
     (p : PreparedParts) × IsRunnable request p map × (fault_of image ≡ None) × (map_of map ≡ Err (Line line reason))
-IsCompareRefused request image map (MapPlace line) =
+IsCompareRefused request image map (Map line Place) =
     (p : PreparedParts) × (lines : List MapLine) × IsRunnable request p map × (fault_of image ≡ None) × (map_of map ≡ Ok lines) × IsWrongLine p.program p.closed lines line
 IsCompareRefused request image map other = ⊥
 
--- why files are not opened, where only want of memory is free. Only private contracts cite this
-abbrev pub IsCompareEnd : asks.Request → List ℕ → List ℕ → OpenEnd → Type 0
-IsCompareEnd request image map (ends.Refused refusal) = IsCompareRefused request image map refusal
-IsCompareEnd request image map ends.NoMemory = ⊤
+-- why there is no program whose data have room, where only want of memory is free. Only private contracts cite this
+abbrev pub IsRoomyEnd : asks.Request → HardenEnd → Type 0
+IsRoomyEnd request (ends.Refused refusal) = (image map : List ℕ) → IsCompareRefused request image map (Object refusal)
+IsRoomyEnd request ends.NoMemory = ⊤
 
--- why a text is no map at which a program runs
-abbrev pub IsMapEnd : PreparedParts → List ℕ → MapEnd → Type 0
-IsMapEnd p map (at.OutOfRange section offset) = (lines : List MapLine) × IsMapOf p map lines × (first_out p lines ≡ Some (record { section = section; offset = offset }))
-IsMapEnd p map (at.Text line reason) = map_of map ≡ Err (Line line reason)
-IsMapEnd p map (at.Place line) = (lines : List MapLine) × (map_of map ≡ Ok lines) × IsWrongLine p.program p.closed lines line
-IsMapEnd p map at.NoMemory = ⊤
+-- what is told of a map that is none, where an image's own refusal goes first. Only private contracts cite this
+pub record IsAfterImage (image : List ℕ) (map result : Refusal) : Type 0 where
+  pub wrong : (refusal : ImageRefusal) → fault_of image ≡ Some refusal → result ≡ Image refusal
+  pub right : fault_of image ≡ None → result ≡ map
 
 -- a program at the map that a text spells, from its start
 pub record IsSourceAt (p : PreparedParts) (map input : List ℕ) (run : SourceParts) : Type 0 where

@@ -10,7 +10,6 @@ use Rattle.cfi_compare.specs.declared.answer.Compared as A
 use Rattle.cfi_harden.specs.Refused.{Refuses}
 use Rattle.cfi_harden.specs.Request as asks
 use Rattle.cfi_harden.specs.declared.refusal.Refusal as R
-use Rattle.cfi_harden.specs.declared.refusal.Refusal.TheVariants.{NoMemory}
 use Rattle.cfi_files.specs.Reads.{Content, file_limit}
 use Rattle.cfi_files.specs.Words.{text_named}
 use Rattle.cfi_files.specs.declared.refusal.Refusal.{Refusal}
@@ -40,7 +39,7 @@ AreHeld content (name ∷ names) (bytes ∷ others) = IsHeldNamed content name b
 
 -- no refusal stands against a request
 abbrev pub IsUnrefused : asks.Request → Type 0
-IsUnrefused request = (refusal : R.Refusal) → Refuses request refusal → refusal ≡ NoMemory
+IsUnrefused request = (refusal : R.Refusal) → Refuses request refusal → ⊥
 
 -- an object against which no refusal stands is hardened
 abbrev pub RewriteIsComplete : Content → RewriteWords → ℕ → Type 0

@@ -8,15 +8,16 @@ use Rattle.cfi_flow.specs.LegalMap.{IsLegalMap, gates_of}
 use Rattle.cfi_flow.specs.Source.{source_start}
 use Rattle.cfi_harden.specs.Hardened.{HasDataRoom}
 use Rattle.cfi_harden.specs.Prepared.{IsPrepared, PreparedParts}
-use Rattle.cfi_harden.specs.Request as asks
 use Rattle.cfi_meaning.specs.Compared.{compared}
 use Rattle.cfi_meaning.specs.NeverDiffers.{NoRunDiffers}
 use Rattle.cfi_compare.specs.Told.{told_answer}
 use Rattle.cfi_compare.specs.declared.answer.Compared.{Compared}
 use Rattle.cfi_compare.specs.declared.answer.Compared.TheVariants.{Differs}
+use Rattle.src_machine.specs.ProgramAt.{EndsLast}
 use Rattle.cfi_flow.specs.GraphAtMap.{program_at}
 use Rattle.src_machine.specs.Running.{SourceParts, source_of}
 use Rattle.cfi_gen.specs.Demo.{demo_parts}
+use Rattle.gen_hardened.specs.Laws.{entered}
 use Rattle.cfi_commands.specs.Compare.{first_out}
 use Rattle.cfi_commands.specs.Demo.{STEP_LIMIT}
 
@@ -27,10 +28,6 @@ pub record CanRunAt (p : PreparedParts) (map : List MapLine) : Type 0 where
   pub legal : IsLegalMap p.program p.closed map
   pub room : HasDataRoom p.program
   pub in_range : first_out p map ≡ None
-
--- a request's program runs at the map
-abbrev pub Fits : asks.Request → List MapLine → Type 0
-Fits request map = (p : PreparedParts) → IsPrepared request p → CanRunAt p map
 
 -- a program's run is at its start, at a map
 pub record IsSourceOn (p : PreparedParts) (map : List MapLine) (input : List ℕ) (run : SourceParts) : Type 0 where
@@ -50,10 +47,21 @@ pub record IsImageIn (bytes : List ℕ) (image : Contents) : Type 0 where
   pub image_is : bytes ≡ spelling image.code image.init
   pub only : (code init : List ℕ) → IsImageSize (length code) (length init) → bytes ≡ spelling code init → (image.code ≡ code) × (image.init ≡ init)
 
--- no run of a request's program at a map differs from the image's
-abbrev pub NoneDiffers : asks.Request → List MapLine → Contents → Type 0
-NoneDiffers request map image =
-    (p : PreparedParts) → IsPrepared request p → NoRunDiffers (program_at p.program p.closed (gates_of map) p.entry) image
+-- no run of a program at a map differs from the image's
+abbrev pub NoneDiffers : PreparedParts → List MapLine → Contents → Type 0
+NoneDiffers p map image = NoRunDiffers (program_at p.program p.closed (gates_of map) p.entry) image
+
+-- a program is that of a generated object
+pub record IsDemoPrepared (object : List ℕ) (p : PreparedParts) : Type 0 where
+  pub drawn : IsDrawn object
+  pub prepared : IsPrepared (entered object) p
+  pub last : EndsLast p.program
+
+-- it runs at a map, and no run of it differs from an image's
+pub record IsComparable (object : List ℕ) (p : PreparedParts) (map : List MapLine) (image : Contents) : Type 0 where
+  pub ready : IsDemoPrepared object p
+  pub fits : CanRunAt p map
+  pub same : NoneDiffers p map image
 
 abbrev pub IsDifference : Compared → Type 0
 IsDifference (Differs index source image) = ⊤

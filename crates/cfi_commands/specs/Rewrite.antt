@@ -12,7 +12,6 @@ use Rattle.cfi_graph.specs.Text.{graph_text}
 use Rattle.cfi_harden.specs.Hardened.{HardenedParts, IsHardened}
 use Rattle.cfi_harden.specs.Refused.{Refuses}
 use Rattle.cfi_harden.specs.Request as asks
-use Rattle.cfi_harden.specs.declared.refusal.Refusal.TheVariants as rewriter
 use Rattle.cfi_meaning.specs.Hardened.{KeepsMeaningAtMap, NeverDiffersAtMap}
 use Rattle.cfi_files.specs.Lines.{with_newline}
 use Rattle.cfi_files.specs.Reads.{Content, Gave, GaveNamed}
@@ -25,7 +24,7 @@ use Rattle.cfi_commands.specs.declared.rewrite.RewriteRequest.{RewriteRequest}
 use Rattle.cfi_commands.specs.declared.rewrite.Rewritten.{Rewritten}
 use Rattle.cfi_commands.specs.declared.rewrite.Sizes.{Sizes}
 use Rattle.cfi_files.specs.declared.refusal.Refusal.{Refusal}
-use Rattle.cfi_files.specs.declared.refusal.Refusal.TheVariants.{Object, Items, NoEntry, Policy, CodeTooLarge, DataTooLarge, RelocRange}
+use Rattle.cfi_files.specs.declared.refusal.Refusal.TheVariants.{Object}
 use Rattle.tool_io.specs.declared.files.Files.{Ghosts}
 
 -- what is asked for: the names of the files that are read and of those that are written, and that of the entry
@@ -64,13 +63,7 @@ request_of words object policy = record { object = object; entry = words.entry; 
 
 -- a refusal stands against a request, and none before it
 abbrev pub IsRefused : asks.Request → Refusal → Type 0
-IsRefused request (Object fault) = Refuses request (rewriter.Object fault)
-IsRefused request (Items fault) = Refuses request (rewriter.Items fault)
-IsRefused request NoEntry = Refuses request rewriter.NoEntry
-IsRefused request (Policy line) = Refuses request (rewriter.Policy line)
-IsRefused request (CodeTooLarge bytes) = Refuses request (rewriter.CodeTooLarge bytes)
-IsRefused request (DataTooLarge init last) = Refuses request (rewriter.DataTooLarge init last)
-IsRefused request (RelocRange section offset) = Refuses request (rewriter.RelocRange section offset)
+IsRefused request (Object refusal) = Refuses request refusal
 IsRefused request other = ⊥
 
 -- the bytes of a file are an image's

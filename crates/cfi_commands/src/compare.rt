@@ -1,26 +1,27 @@
-ghost use Rattle.std.specs.Prelude.{◌≡◌, ◌≤◌, ℕ, List, None, Some, IfOk, IfErr, IfSome, MatchResult, option_copied, option_map, ◌∷◌, []};
+ghost use Rattle.std.specs.Prelude.{◌≡◌, ◌≤◌, ℕ, List, Ok, Some, IfOk, IfErr, IfSome, option_copied, option_map, ◌∷◌, []};
 ghost use Rattle.text_lines.specs.Decimal.{MAX_STEP};
 ghost use Rattle.tool_io.specs.Reading.{CountsReads, IsOnlyRead};
 ghost use Rattle.cfi_files.specs.Reads.{IsFault, IsStop, IsTooLong};
-ghost use Rattle.elf_image.specs.Fault.{fault_of};
-ghost use Rattle.elf_image.specs.declared.refusal.ImageRefusal.{ImageRefusal};
-ghost use Rattle.cfi_harden.specs.Prepared.{PreparedParts};
+ghost use Rattle.cfi_graph.specs.MapText.{map_of};
+ghost use Rattle.cfi_flow.specs.Entry.{entry_place};
+ghost use Rattle.cfi_harden.specs.Hardened.{HasDataRoom};
 ghost use Rattle.cfi_harden.specs.Request.{Request};
-ghost use Rattle.cfi_files.specs.declared.refusal.Refusal.TheVariants as refused;
-ghost use Rattle.cfi_commands.specs.declared.source.MapEnd.TheVariants as MapEnd;
-ghost use Rattle.cfi_commands.specs.Compare.{ExplainsCompare, IsCompareEnd, IsCompareOf, IsFresh, IsImageCompared, IsMapEnd, IsRoomy, IsSourceAt, answer_status, compare_asked, compare_names, compare_status, compare_words};
+ghost use Rattle.src_machine.specs.ProgramAt.{EndsLast};
+ghost use Rattle.cfi_commands.specs.Compare.{ExplainsCompare, IsAfterImage, IsCompareOf, IsFresh, IsImageCompared, IsRoomy, answer_status, compare_asked, compare_names, compare_status, compare_words};
 
-use crate::opening::OpenEnd;
-use crate::source::{MapEnd, roomy, source_at};
+use crate::source::{roomy, source_on};
 use cfi_compare::{Compared, compare};
-use cfi_files::{Refusal, Stop, file_word, read_all, status, steps, text_named};
+use cfi_files::{MapReason, Refusal, Stop, file_word, read_all, status, steps, text_named};
+use cfi_graph::{Map, read_map};
+use cfi_harden::{HardenEnd, Prepared};
 use cfi_words::CompareWords;
 use elf_image::read_image;
 use rv_word::NoMemory;
-use src_machine::SourceRun;
 use src_machine::laws::wrong_is_not_legal;
+use src_machine::{SourceEnd, SourceRun};
 use std::alloc::Global;
 use std::fmt;
+use text_lines::TextEnd;
 use tool_io::Files;
 
 /// What `compare` is asked for: the names of an object, of its entry, of a policy, an image, a map and an input, and how many
@@ -103,23 +104,12 @@ impl fmt::Display for CompareOutcome {
 
 /// What is told of a map that is none, where an image's own refusal goes first.
 fn after_the_image(image: &[u8], map: Refusal) -> Refusal
-    ensures wrong { (refusal : ImageRefusal) → fault_of image.now ≡ Some refusal → result ≡ refused.Image refusal }
-    ensures right { fault_of image.now ≡ None → result ≡ map }
+    ensures { IsAfterImage image.now map result }
 {
     match read_image(image) {
         Ok(_) => map,
         Err(refusal) => Refusal::Image(refusal),
     }
-}
-
-/// What is told where a line of a map is no legal placement's.
-fn after_a_wrong_line(image: &[u8], line: u64) -> CompareOutcome
-    ensures { (request : Request) (p : PreparedParts) (map input : List ℕ) (limit : ℕ) → IsRoomy request p
-        → IsMapEnd p map (MapEnd.Place line) → IsCompareOf request image.now map input limit result }
-{
-    wrong_is_not_legal();
-    let refusal = after_the_image(image, Refusal::MapPlace(line));
-    CompareOutcome::Refused(refusal)
 }
 
 /// Compares a program at a map, at its start, with a file that should be an image.
@@ -144,42 +134,60 @@ fn compare_image(
     Ok(CompareOutcome::Compared(compared))
 }
 
-/// Compares a program at a map, or tells why it is none.
-fn compare_source(
+/// Compares a prepared program at a map with a file that should be an image.
+fn compare_at(
     alloc: Global,
-    source: Result<SourceRun<'_, '_>, MapEnd>,
+    request: &CompareRequest<'_>,
+    prepared: &Prepared<'_>,
     image: &[u8],
+    map: &Map,
     input: &[u8],
-    limit: u64,
 ) -> Result<CompareOutcome, NoMemory>
-    requires fresh { IfOk source (IsFresh input.now) }
-    requires few { limit ≤ MAX_STEP }
-    ensures { (request : Request) (p : PreparedParts) (map : List ℕ) → IsRoomy request p
-        → MatchResult source.entry (IsSourceAt p map input.now) (IsMapEnd p map)
-        → IfOk result (IsCompareOf request image.now map input.now limit) }
+    requires last { EndsLast prepared.now.program }
+    requires room { HasDataRoom prepared.now.program }
+    requires entry { entry_place prepared.now.program request.now.entry.now ≡ Some prepared.now.entry }
+    requires few { request.now.limit ≤ MAX_STEP }
+    ensures { (asked : Request) (text : List ℕ) → IsRoomy asked prepared.now → map_of text ≡ Ok map.now
+        → IfOk result (IsCompareOf asked image.now text input.now request.now.limit) }
 {
-    match source {
-        Ok(mut source) => compare_image(alloc, &mut source, image, input, limit),
-        Err(MapEnd::OutOfRange(section, offset)) => {
-            Ok(CompareOutcome::Refused(Refusal::RelocRange(section, offset)))
+    wrong_is_not_legal();
+    match source_on(alloc, prepared, request.entry, map, input) {
+        Ok(mut source) => compare_image(alloc, &mut source, image, input, request.limit),
+        Err(SourceEnd::RelocRange(section, offset)) => {
+            let refusal = cfi_harden::Refusal::RelocRange(section, offset);
+            Ok(CompareOutcome::Refused(Refusal::Object(refusal)))
         }
-        Err(MapEnd::Text(line, reason)) => {
-            let refusal = after_the_image(image, Refusal::Map(line, reason));
+        Err(SourceEnd::BadMap(line)) => {
+            let refusal = after_the_image(image, Refusal::Map(line, MapReason::Place));
             Ok(CompareOutcome::Refused(refusal))
         }
-        Err(MapEnd::Place(line)) => Ok(after_a_wrong_line(image, line)),
-        Err(MapEnd::NoMemory) => Err(NoMemory),
+        Err(SourceEnd::NoMemory) => Err(NoMemory),
     }
 }
 
-/// The outcome where files are not opened.
-fn outcome_of(end: OpenEnd) -> Result<CompareOutcome, NoMemory>
-    ensures { (request : Request) (image map input : List ℕ) (limit : ℕ) → IsCompareEnd request image map end
-        → IfOk result (IsCompareOf request image map input limit) }
+/// Compares a prepared program at the map that a text should spell with a file that should be an image.
+fn compare_prepared(
+    alloc: Global,
+    request: &CompareRequest<'_>,
+    prepared: &Prepared<'_>,
+    image: &[u8],
+    map: &[u8],
+    input: &[u8],
+) -> Result<CompareOutcome, NoMemory>
+    requires last { EndsLast prepared.now.program }
+    requires room { HasDataRoom prepared.now.program }
+    requires entry { entry_place prepared.now.program request.now.entry.now ≡ Some prepared.now.entry }
+    requires few { request.now.limit ≤ MAX_STEP }
+    ensures { (asked : Request) → IsRoomy asked prepared.now
+        → IfOk result (IsCompareOf asked image.now map.now input.now request.now.limit) }
 {
-    match end {
-        OpenEnd::Refused(refusal) => Ok(CompareOutcome::Refused(refusal)),
-        OpenEnd::NoMemory => Err(NoMemory),
+    match read_map(alloc, map) {
+        Ok(map) => compare_at(alloc, request, prepared, image, &map, input),
+        Err(TextEnd::Line(line, reason)) => {
+            let refusal = after_the_image(image, Refusal::Map(line, MapReason::Text(reason)));
+            Ok(CompareOutcome::Refused(refusal))
+        }
+        Err(TextEnd::NoMemory) => Err(NoMemory),
     }
 }
 
@@ -197,13 +205,10 @@ fn compare_bytes(
     ensures { IfOk result (IsCompareOf (record { object = object.now; entry = request.now.entry.now; policy = option_copied policy.entry })
         image.now map.now input.now request.now.limit) }
 {
-    let entry = request.entry.as_bytes();
-    match roomy(alloc, object, entry, policy) {
-        Ok(prepared) => {
-            let source = source_at(alloc, &prepared, entry, map, input);
-            compare_source(alloc, source, image, input, request.limit)
-        }
-        Err(end) => outcome_of(end),
+    match roomy(alloc, object, request.entry, policy) {
+        Ok(prepared) => compare_prepared(alloc, request, &prepared, image, map, input),
+        Err(HardenEnd::Refused(refusal)) => Ok(CompareOutcome::Refused(Refusal::Object(refusal))),
+        Err(HardenEnd::NoMemory) => Err(NoMemory),
     }
 }
 

@@ -4,18 +4,19 @@ ghost use Rattle.elf_writer.specs.Object.{object_bytes};
 ghost use Rattle.cfi_gen.specs.Demo.{demo_parts};
 ghost use Rattle.cfi_step.specs.declared.report.RunEnd.TheVariants as ends;
 ghost use Rattle.gen_hardened.specs.Laws.{entered};
-ghost use Rattle.cfi_commands.specs.Demonstration.{Fits, IsDifference, IsDrawn, NoneDiffers};
+ghost use Rattle.cfi_harden.specs.Hardened.{IsWrittenOf};
+ghost use Rattle.cfi_commands.specs.Demonstration.{IsComparable, IsDemoPrepared, IsDifference, IsDrawn};
 ghost use Rattle.cfi_commands.specs.Rewrite.{IsMade};
 ghost use Rattle.cfi_commands.specs.Demo.{ExplainsDemo, IsDemoCompared, IsDemoRun, demo_asked, demo_status, demo_text, demo_words};
 
 use crate::compare::answer_status;
-use crate::demonstration::{compare_at, image_in, made, run_accepted};
+use crate::demonstration::{compare_at, image_in, made, prepared, run_accepted};
 use crate::report::{end_status, report_text};
 use cfi_compare::Compared;
 use cfi_files::{line, status, steps};
 use cfi_gen::object_of;
+use cfi_harden::Prepared;
 use cfi_rewrite::Hardened;
-use cfi_single::laws::prepared_in_one_way;
 use cfi_step::{RunEnd, RunReport};
 use cfi_words::DemoWords;
 use rv_word::{Image, NoMemory};
@@ -188,18 +189,17 @@ fn told(
 fn after_exit(
     alloc: Global,
     object: &[u8],
+    prepared: &Prepared<'_>,
     hardened: &Hardened,
     image: &Image<'_>,
     report: &RunReport,
     exit: u8,
 ) -> Result<DemoOutcome, NoMemory>
-    requires drawn { IsDrawn object.now }
-    requires fits { Fits (entered object.now) hardened.now.map }
-    requires same { NoneDiffers (entered object.now) hardened.now.map image.now }
+    requires { IsComparable object.now prepared.now hardened.now.map image.now }
     ensures { (number : ℕ) → object.now ≡ object_bytes (demo_parts number)
         → IsDemoRun number hardened.now image.now report.now → report.now.end ≡ ends.Exit exit → IfOk result (ExplainsDemo number) }
 {
-    let compared = compare_at(alloc, object, &hardened.map, image)?;
+    let compared = compare_at(alloc, prepared, &hardened.map, image)?;
     Ok(told(object, hardened, image, report, exit, &compared))
 }
 
@@ -207,41 +207,58 @@ fn after_exit(
 fn after_run(
     alloc: Global,
     object: &[u8],
+    prepared: &Prepared<'_>,
     hardened: &Hardened,
     image: &Image<'_>,
     report: RunReport,
 ) -> Result<DemoOutcome, NoMemory>
-    requires drawn { IsDrawn object.now }
-    requires fits { Fits (entered object.now) hardened.now.map }
-    requires same { NoneDiffers (entered object.now) hardened.now.map image.now }
+    requires { IsComparable object.now prepared.now hardened.now.map image.now }
     ensures { (number : ℕ) → object.now ≡ object_bytes (demo_parts number)
         → IsDemoRun number hardened.now image.now report → IfOk result (ExplainsDemo number) }
 {
     let RunEnd::Exit(exit) = report.end else {
         return Ok(DemoOutcome::Ran(report));
     };
-    after_exit(alloc, object, hardened, image, &report, exit)
+    after_exit(alloc, object, prepared, hardened, image, &report, exit)
 }
 
 /// Verifies and runs the image of a generated object that is hardened, and compares the program's run with it.
-fn of_hardened(alloc: Global, object: &[u8], hardened: &Hardened) -> Result<DemoOutcome, NoMemory>
-    requires drawn { IsDrawn object.now }
+fn of_hardened(
+    alloc: Global,
+    object: &[u8],
+    prepared: &Prepared<'_>,
+    hardened: &Hardened,
+) -> Result<DemoOutcome, NoMemory>
+    requires ready { IsDemoPrepared object.now prepared.now }
     requires made { IsMade (entered object.now) hardened.now }
+    requires written { IsWrittenOf prepared.now hardened.now }
     ensures { (number : ℕ) → object.now ≡ object_bytes (demo_parts number) → IfOk result (ExplainsDemo number) }
 {
-    prepared_in_one_way();
-    let image = image_in(&hardened.image);
+    let image = image_in(hardened.image.as_slice());
     let report = run_accepted(alloc, &image, &hardened.graph)?;
-    after_run(alloc, object, hardened, &image, report)
+    after_run(alloc, object, prepared, hardened, &image, report)
 }
 
-/// Hardens a generated object, verifies its image, runs it, and compares the program's run with it.
+/// Hardens a generated object that is prepared, verifies its image, runs it, and compares the program's run with it.
+fn of_prepared(
+    alloc: Global,
+    object: &[u8],
+    prepared: &Prepared<'_>,
+) -> Result<DemoOutcome, NoMemory>
+    requires { IsDemoPrepared object.now prepared.now }
+    ensures { (number : ℕ) → object.now ≡ object_bytes (demo_parts number) → IfOk result (ExplainsDemo number) }
+{
+    let hardened = made(alloc, prepared)?;
+    of_hardened(alloc, object, prepared, &hardened)
+}
+
+/// Prepares a generated object, hardens it, verifies its image, runs it, and compares the program's run with it.
 fn of_object(alloc: Global, object: &[u8]) -> Result<DemoOutcome, NoMemory>
     requires { IsDrawn object.now }
     ensures { (number : ℕ) → object.now ≡ object_bytes (demo_parts number) → IfOk result (ExplainsDemo number) }
 {
-    let hardened = made(alloc, object)?;
-    of_hardened(alloc, object, &hardened)
+    let prepared = prepared(alloc, object)?;
+    of_prepared(alloc, object, &prepared)
 }
 
 /// Hardens the object of a number, verifies its image, runs it, and compares the program's run with it.

@@ -1,14 +1,15 @@
 //! What `demo` does, in steps: an object is made, hardened, verified, run and compared.
 
-ghost use Rattle.std.specs.Prelude.{◌≡◌, [], IfOk, Some, codes};
+ghost use Rattle.std.specs.Prelude.{◌≡◌, ℕ, List, [], IfOk, Some, codes};
 ghost use Rattle.rv_word.specs.MemoryMap.{version_1};
 ghost use Rattle.cfi_verify.specs.Rules.{IsWellFormed};
 ghost use Rattle.cfi_flow.specs.Entry.{entry_place};
+ghost use Rattle.cfi_harden.specs.Hardened.{IsWrittenOf};
 ghost use Rattle.cfi_harden.specs.Prepared.{IsPrepared};
+ghost use Rattle.cfi_harden.specs.Request.{Request};
 ghost use Rattle.src_machine.specs.ProgramAt.{EndsLast};
-ghost use Rattle.gen_hardened.specs.Laws.{entered};
-ghost use Rattle.cfi_commands.specs.Demo.{IsComparedAt, STEP_LIMIT};
-ghost use Rattle.cfi_commands.specs.Demonstration.{CanRunAt, Fits, IsAnswerAt, IsDifference, IsDrawn, IsImageIn, IsSourceOn, NoneDiffers};
+ghost use Rattle.cfi_commands.specs.Demo.{STEP_LIMIT};
+ghost use Rattle.cfi_commands.specs.Demonstration.{CanRunAt, IsAnswerAt, IsDemoPrepared, IsDrawn, IsImageIn, IsSourceOn};
 ghost use Rattle.cfi_commands.specs.Rewrite.{IsMade, IsSpelled};
 ghost use Rattle.cfi_commands.specs.Run.{IsSafeRun};
 
@@ -16,7 +17,7 @@ use crate::source::source_on;
 use cfi_compare::{Compared, compare};
 use cfi_graph::{Graph, Map};
 use cfi_harden::{Prepared, prepare};
-use cfi_rewrite::{Hardened, Refusal, rewrite};
+use cfi_rewrite::{HardenEnd, Hardened, rewrite_prepared};
 use cfi_step::{RunReport, Script, run};
 use cfi_verify::{VerifyEnd, verify};
 use elf_image::read_image;
@@ -31,18 +32,34 @@ use std::alloc::Global;
 const STEP_LIMIT: u64 = 10_000_000;
 
 /// The symbol at which a program is entered.
-const ENTRY: &[u8] = b"main";
+const ENTRY: &str = "main";
 
-/// A generated object, hardened.
-pub(crate) fn made(alloc: Global, object: &[u8]) -> Result<Hardened, NoMemory>
+/// A generated object, prepared.
+#[tactic(auto, using(crate::proofs::Sources::roomy_ends))]
+pub(crate) fn prepared(alloc: Global, object: &[u8]) -> Result<Prepared<'_>, NoMemory>
     requires { IsDrawn object.now }
-    ensures { IfOk result (IsMade (entered object.now)) }
+    ensures { IfOk result (IsDemoPrepared object.now) }
 {
     demo_is_never_refused();
-    match rewrite(alloc, object, ENTRY, None) {
+    last_place_ends();
+    match prepare(alloc, object, ENTRY, None) {
+        Ok(prepared) => Ok(prepared),
+        Err(HardenEnd::NoMemory) => Err(NoMemory),
+        Err(HardenEnd::Refused(_)) => unreachable!(),
+    }
+}
+
+/// A generated object that is prepared, hardened.
+pub(crate) fn made(alloc: Global, prepared: &Prepared<'_>) -> Result<Hardened, NoMemory>
+    requires { (object : List ℕ) × IsDemoPrepared object prepared.now }
+    ensures written { IfOk result (IsWrittenOf prepared.now) }
+    ensures made { (request : Request) → IsPrepared request prepared.now → IfOk result (IsMade request) }
+{
+    demo_is_never_refused();
+    match rewrite_prepared(alloc, prepared) {
         Ok(hardened) => Ok(hardened),
-        Err(Refusal::NoMemory) => Err(NoMemory),
-        Err(_) => unreachable!(),
+        Err(HardenEnd::NoMemory) => Err(NoMemory),
+        Err(HardenEnd::Refused(_)) => unreachable!(),
     }
 }
 
@@ -73,22 +90,6 @@ pub(crate) fn run_accepted(
     }
 }
 
-/// A generated object, prepared.
-#[tactic(auto, using(crate::proofs::Sources::roomy_ends))]
-fn prepared(alloc: Global, object: &[u8]) -> Result<Prepared<'_>, NoMemory>
-    requires { IsDrawn object.now }
-    ensures prepared { IfOk result (IsPrepared (entered object.now)) }
-    ensures last { IfOk result (λ p. EndsLast p.program) }
-{
-    demo_is_never_refused();
-    last_place_ends();
-    match prepare(alloc, object, ENTRY, None) {
-        Ok(prepared) => Ok(prepared),
-        Err(Refusal::NoMemory) => Err(NoMemory),
-        Err(_) => unreachable!(),
-    }
-}
-
 /// The run of a generated object's program at a map, from its start.
 fn begun<'a, 'b>(
     alloc: Global,
@@ -108,8 +109,8 @@ fn begun<'a, 'b>(
     }
 }
 
-/// Compares the run of a generated object's program at a map, which is prepared, with that of an image.
-fn compare_prepared(
+/// Compares the run of a generated object's program at a map with that of an image.
+pub(crate) fn compare_at(
     alloc: Global,
     prepared: &Prepared<'_>,
     map: &Map,
@@ -122,21 +123,4 @@ fn compare_prepared(
 {
     let mut source = begun(alloc, prepared, map)?;
     compare(alloc, &mut source, image, &[], STEP_LIMIT)
-}
-
-/// Compares the run of a generated object's program at a map with that of an image.
-pub(crate) fn compare_at(
-    alloc: Global,
-    object: &[u8],
-    map: &Map,
-    image: &Image<'_>,
-) -> Result<Compared, NoMemory>
-    requires drawn { IsDrawn object.now }
-    requires fits { Fits (entered object.now) map.now }
-    requires same { NoneDiffers (entered object.now) map.now image.now }
-    ensures compared { IfOk result (IsComparedAt (entered object.now) map.now image.now) }
-    ensures same { IfOk result (λ answer. ¬ IsDifference answer) }
-{
-    let prepared = prepared(alloc, object)?;
-    compare_prepared(alloc, &prepared, map, image)
 }

@@ -3,16 +3,14 @@ ghost use Rattle.tool_io.specs.Faults.{Counts};
 ghost use Rattle.tool_io.specs.Reading.{CountsReads, IsOnlyRead};
 ghost use Rattle.tool_io.specs.declared.ends.OutEnd.TheVariants as OutEnd;
 ghost use Rattle.elf_image.specs.Header.{data_start};
-ghost use Rattle.cfi_harden.specs.Refused.{Refuses};
-ghost use Rattle.cfi_harden.specs.Request.{Request};
 ghost use Rattle.cfi_files.specs.Reads.{IsFault, IsStop, IsTooLong};
 ghost use Rattle.cfi_files.specs.Words.{text_named};
 ghost use Rattle.cfi_files.specs.Writes.{AreApart, IsCut, IsTorn, KeepsReads, Wrote};
-ghost use Rattle.cfi_commands.specs.Rewrite.{AreNamedApart, ExplainsRewrite, HasSizes, IsRefused, IsRewriteOf, IsSpelledOut, IsSpelledWith, outputs_of, rewrite_asked, rewrite_names, rewrite_outputs, rewrite_status, rewrite_words};
+ghost use Rattle.cfi_commands.specs.Rewrite.{AreNamedApart, ExplainsRewrite, HasSizes, IsRewriteOf, IsSpelledOut, IsSpelledWith, outputs_of, rewrite_asked, rewrite_names, rewrite_outputs, rewrite_status, rewrite_words};
 
 use cfi_files::{Output, Refusal, Stop, file_word, read_all, status, text_named};
 use cfi_graph::{Graph, Map, write_graph, write_map};
-use cfi_rewrite::{Hardened, rewrite};
+use cfi_rewrite::{HardenEnd, Hardened, rewrite};
 use cfi_words::RewriteWords;
 use rv_word::NoMemory;
 use std::alloc::Global;
@@ -148,22 +146,6 @@ impl RewriteOutcome<'_> {
     }
 }
 
-/// A refusal of the rewriter as one of the tool, unless it is want of memory.
-fn refused(refusal: cfi_rewrite::Refusal) -> Result<Refusal, NoMemory>
-    ensures { (request : Request) → Refuses request refusal → IfOk result (IsRefused request) }
-{
-    Ok(match refusal {
-        cfi_rewrite::Refusal::Object(fault) => Refusal::Object(fault),
-        cfi_rewrite::Refusal::Items(fault) => Refusal::Items(fault),
-        cfi_rewrite::Refusal::NoEntry => Refusal::NoEntry,
-        cfi_rewrite::Refusal::Policy(line) => Refusal::Policy(line),
-        cfi_rewrite::Refusal::CodeTooLarge(bytes) => Refusal::CodeTooLarge(bytes),
-        cfi_rewrite::Refusal::DataTooLarge(init, end) => Refusal::DataTooLarge(init, end),
-        cfi_rewrite::Refusal::RelocRange(section, offset) => Refusal::RelocRange(section, offset),
-        cfi_rewrite::Refusal::NoMemory => return Err(NoMemory),
-    })
-}
-
 /// Where the data of an image with so many bytes of code begin: on the page after the code.
 fn data_start(code: u32) -> usize
     requires { code ≤ 2 ^ 20 }
@@ -231,7 +213,7 @@ fn spelled_out<'a>(
     ensures { IfOk result (IsSpelledOut (rewrite_asked request.now) hardened) }
 {
     let Hardened { image, graph, map } = hardened;
-    with_texts(alloc, request, image, &graph, &map)
+    with_texts(alloc, request, image.into_vec(), &graph, &map)
 }
 
 /// Hardens an object that some bytes spell, under a policy that others spell.
@@ -243,9 +225,10 @@ fn rewrite_bytes<'a>(
 ) -> Result<RewriteOutcome<'a>, NoMemory>
     ensures { IfOk result (IsRewriteOf (rewrite_asked request.now) object.now (option_copied policy.entry)) }
 {
-    match rewrite(alloc, object, request.entry.as_bytes(), policy) {
+    match rewrite(alloc, object, request.entry, policy) {
         Ok(hardened) => Ok(RewriteOutcome::Rewritten(spelled_out(alloc, request, hardened)?)),
-        Err(refusal) => Ok(RewriteOutcome::Refused(refused(refusal)?)),
+        Err(HardenEnd::Refused(refusal)) => Ok(RewriteOutcome::Refused(Refusal::Object(refusal))),
+        Err(HardenEnd::NoMemory) => Err(NoMemory),
     }
 }
 

@@ -4,7 +4,7 @@
 
 pub use lines::line;
 pub use read::{Stop, Unread, read_all};
-pub use refusal::Refusal;
+pub use refusal::{MapReason, Refusal};
 pub use words::{file_word, steps, text_named};
 pub use write::Output;
 

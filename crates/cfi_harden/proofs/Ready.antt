@@ -7,6 +7,8 @@ use Rattle.obj_items.specs.Laws.{LastEnds}
 use Rattle.obj_items.specs.MapFit.{FitsMap, PlacesFit}
 use Rattle.obj_items.proofs.LastEnds.{last_ends}
 use Rattle.obj_items.proofs.MapFit.{places_fit}
+use Rattle.cfi_harden.specs.declared.refusal.HardenEnd.{HardenEnd}
+use Rattle.cfi_harden.specs.declared.refusal.HardenEnd.TheVariants as ends
 use Rattle.cfi_harden.specs.declared.refusal.Refusal.{Refusal}
 use Rattle.cfi_harden.specs.declared.refusal.Refusal.TheVariants as R
 use Rattle.cfi_harden.specs.Fitting.{IsFitting, RefusesPlaced}
@@ -14,9 +16,9 @@ use Rattle.cfi_harden.specs.Hardened.{AreGiven, HardenedParts, IsWrittenOf, chos
 use Rattle.cfi_harden.specs.HardenedLaws.{WrittenIsAccepted}
 use Rattle.cfi_harden.specs.Placing.{Spaced}
 use Rattle.cfi_harden.specs.Prepared.{IsPrepared, PreparedParts}
-use Rattle.cfi_harden.specs.Refused.{Hardens, Refuses}
+use Rattle.cfi_harden.specs.Refused.{Hardens, HardensPrepared, Refuses}
 use Rattle.cfi_harden.specs.Request.{Request}
-use Rattle.cfi_harden.specs.Writing.{IsReady, IsWritable, IsWrittenAs, WritesOr}
+use Rattle.cfi_harden.specs.Writing.{IsReady, IsWritable, IsWrittenAs}
 use Rattle.cfi_harden.proofs.Accepting.{accepted, data_there, graph_there}
 use Rattle.cfi_harden.proofs.EntryThere.{entry_there}
 use Rattle.cfi_harden.proofs.MapFits.{accepted_map}
@@ -60,12 +62,13 @@ late : (request : Request) (p : PreparedParts) (refusal : Refusal) → IsPrepare
 late request p (R.CodeTooLarge bytes) prepared refuses = (p, prepared, refuses)
 late request p (R.DataTooLarge init end) prepared refuses = (p, prepared, refuses)
 late request p (R.RelocRange section offset) prepared refuses = (p, prepared, refuses)
-late request p R.NoMemory prepared refuses = tt
 late request p (R.Object fault) prepared refuses = absurd refuses
 late request p (R.Items fault) prepared refuses = absurd refuses
 late request p R.NoEntry prepared refuses = absurd refuses
 late request p (R.Policy n) prepared refuses = absurd refuses
 
-pub hardens : (request : Request) (p : PreparedParts) (result : Result HardenedParts Refusal) → IsPrepared request p → WritesOr p result → Hardens request result
+pub hardens : (request : Request) (p : PreparedParts) (result : Result HardenedParts HardenEnd) → IsPrepared request p → HardensPrepared p result
+    → Hardens request result
 hardens request p (Ok h) prepared writes = (p, prepared, writes)
-hardens request p (Err refusal) prepared writes = late request p refusal prepared writes
+hardens request p (Err (ends.Refused refusal)) prepared writes = late request p refusal prepared writes
+hardens request p (Err ends.NoMemory) prepared writes = tt

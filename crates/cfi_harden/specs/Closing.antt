@@ -4,13 +4,14 @@ use Rattle.text_lines.specs.declared.end.TextEnd.{TextEnd}
 use Rattle.text_lines.specs.declared.end.TextEnd.TheVariants.{Line}
 use Rattle.obj_program.specs.Program.{Program}
 use Rattle.cfi_flow.specs.Closed.{ClosedGraph}
-use Rattle.cfi_harden.specs.declared.refusal.Refusal.{Refusal}
-use Rattle.cfi_harden.specs.declared.refusal.Refusal.TheVariants.{Policy, NoMemory}
+use Rattle.cfi_harden.specs.declared.refusal.HardenEnd.{HardenEnd}
+use Rattle.cfi_harden.specs.declared.refusal.HardenEnd.TheVariants.{Refused, NoMemory}
+use Rattle.cfi_harden.specs.declared.refusal.Refusal.TheVariants.{Policy}
 use Rattle.cfi_harden.specs.Prepared.{IsClosedUnder, IsWrongPolicy}
 
-abbrev pub Closes : Program → Option (List ℕ) → Result ClosedGraph Refusal → Type 0
+abbrev pub Closes : Program → Option (List ℕ) → Result ClosedGraph HardenEnd → Type 0
 Closes program policy (Ok closed) = IsClosedUnder program policy closed
-Closes program policy (Err (Policy n)) = IsWrongPolicy program policy n
+Closes program policy (Err (Refused (Policy n))) = IsWrongPolicy program policy n
 Closes program policy (Err NoMemory) = Unit {0}
 Closes program policy (Err other) = ⊥
 

@@ -4,8 +4,10 @@ use Rattle.std.specs.Prelude.{◌≡◌, ◌<◌, ◌≤◌, Some, None, Result,
 use Rattle.rv_word.specs.MemoryMap.{CODE_SIZE}
 use Rattle.obj_program.specs.DataAtMap.{init_size}
 use Rattle.obj_program.specs.Range.{out_of_range}
+use Rattle.cfi_harden.specs.declared.refusal.HardenEnd.{HardenEnd}
+use Rattle.cfi_harden.specs.declared.refusal.HardenEnd.TheVariants.{Refused, NoMemory}
 use Rattle.cfi_harden.specs.declared.refusal.Refusal.{Refusal}
-use Rattle.cfi_harden.specs.declared.refusal.Refusal.TheVariants.{CodeTooLarge, DataTooLarge, RelocRange, NoMemory}
+use Rattle.cfi_harden.specs.declared.refusal.Refusal.TheVariants.{CodeTooLarge, DataTooLarge, RelocRange}
 use Rattle.cfi_harden.specs.Hardened.{HasDataRoom}
 use Rattle.cfi_harden.specs.Placing.{IsPlacement, Spaced}
 use Rattle.cfi_harden.specs.Prepared.{PreparedParts}
@@ -24,9 +26,10 @@ RefusesPlaced p (DataTooLarge init end) =
 RefusesPlaced p (RelocRange section offset) =
     (s : Spaced) × IsPlacement p.program p.closed s × HasDataRoom p.program
     × (out_of_range p.program s.gates s.words ≡ Some (record { section = section; offset = offset }))
-RefusesPlaced p NoMemory = Unit {0}
 RefusesPlaced p other = ⊥
 
-abbrev pub FitsOr : PreparedParts → Result Spaced Refusal → Type 0
+-- only want of memory is free
+abbrev pub FitsOr : PreparedParts → Result Spaced HardenEnd → Type 0
 FitsOr p (Ok s) = IsFitting p s
-FitsOr p (Err refusal) = RefusesPlaced p refusal
+FitsOr p (Err (Refused refusal)) = RefusesPlaced p refusal
+FitsOr p (Err NoMemory) = Unit {0}

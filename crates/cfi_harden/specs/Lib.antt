@@ -4,6 +4,7 @@ pub mod Request
 pub mod Prepared
 pub mod Refused
 pub mod RefusalOf
+pub mod RefusalText
 pub mod Closing
 pub mod Preparing
 pub mod Sizes

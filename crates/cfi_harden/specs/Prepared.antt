@@ -35,6 +35,10 @@ pub record IsPrepared (request : Request) (p : PreparedParts) : Type 0 where
   pub entry : entry_place p.program request.entry ≡ Some p.entry
   pub closed : IsClosedUnder p.program request.policy p.closed
 
+-- what some request comes to
+abbrev pub IsOfRequest : PreparedParts → Type 0
+IsOfRequest p = (request : Request) × IsPrepared request p
+
 -- the text of a policy fails at a line
 abbrev pub FailsAt : Result (Unit {0}) TextEnd → ℕ → Type 0
 FailsAt (Err (Line number reason)) n = number ≡ n

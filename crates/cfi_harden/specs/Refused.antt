@@ -4,10 +4,12 @@ use Rattle.elf_object.specs.Fault.{fault_of as object_fault}
 use Rattle.obj_rules.specs.Fault.{fault_of}
 use Rattle.obj_items.specs.FromObject.{input_of}
 use Rattle.cfi_flow.specs.Entry.{entry_place}
+use Rattle.cfi_harden.specs.declared.refusal.HardenEnd.{HardenEnd}
+use Rattle.cfi_harden.specs.declared.refusal.HardenEnd.TheVariants.{Refused, NoMemory}
 use Rattle.cfi_harden.specs.declared.refusal.Refusal.{Refusal}
-use Rattle.cfi_harden.specs.declared.refusal.Refusal.TheVariants.{Object, Items, NoEntry, Policy, NoMemory}
+use Rattle.cfi_harden.specs.declared.refusal.Refusal.TheVariants.{Object, Items, NoEntry, Policy}
 use Rattle.cfi_harden.specs.Fitting.{RefusesPlaced}
-use Rattle.cfi_harden.specs.Hardened.{HardenedParts, IsHardened}
+use Rattle.cfi_harden.specs.Hardened.{HardenedParts, IsHardened, IsWrittenOf}
 use Rattle.cfi_harden.specs.Request.{Request, program_in}
 use Rattle.cfi_harden.specs.Prepared.{IsPrepared, IsProgram, IsWrongPolicy, PreparedParts}
 
@@ -18,7 +20,6 @@ Refuses request NoEntry = IsProgram request.object × (entry_place (program_in r
 Refuses request (Policy n) =
     IsProgram request.object × IsSome (entry_place (program_in request.object) request.entry)
     × IsWrongPolicy (program_in request.object) request.policy n
-Refuses request NoMemory = Unit {0}
 Refuses request late = (p : PreparedParts) × IsPrepared request p × RefusesPlaced p late
 
 -- a refusal that comes before anything is placed
@@ -27,15 +28,22 @@ IsEarly (Object fault) = Unit {0}
 IsEarly (Items fault) = Unit {0}
 IsEarly NoEntry = Unit {0}
 IsEarly (Policy n) = Unit {0}
-IsEarly NoMemory = Unit {0}
 IsEarly late = ⊥
 
--- what hardening a request comes to
-abbrev pub Hardens : Request → Result HardenedParts Refusal → Type 0
+-- what hardening a request comes to; only want of memory is free
+abbrev pub Hardens : Request → Result HardenedParts HardenEnd → Type 0
 Hardens request (Ok hardened) = IsHardened request hardened
-Hardens request (Err refusal) = Refuses request refusal
+Hardens request (Err (Refused refusal)) = Refuses request refusal
+Hardens request (Err NoMemory) = Unit {0}
 
 -- what a request comes to before anything is placed
-abbrev pub Prepares : Request → Result PreparedParts Refusal → Type 0
+abbrev pub Prepares : Request → Result PreparedParts HardenEnd → Type 0
 Prepares request (Ok prepared) = IsPrepared request prepared
-Prepares request (Err refusal) = Refuses request refusal
+Prepares request (Err (Refused refusal)) = Refuses request refusal × IsEarly refusal
+Prepares request (Err NoMemory) = Unit {0}
+
+-- what a prepared program comes to
+abbrev pub HardensPrepared : PreparedParts → Result HardenedParts HardenEnd → Type 0
+HardensPrepared p (Ok hardened) = IsWrittenOf p hardened
+HardensPrepared p (Err (Refused refusal)) = RefusesPlaced p refusal
+HardensPrepared p (Err NoMemory) = Unit {0}

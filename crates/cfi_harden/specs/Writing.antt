@@ -1,5 +1,5 @@
 -- What a prepared program, a placement and labels have before units are written. Only private contracts cite this.
-use Rattle.std.specs.Prelude.{◌≡◌, ℕ, ◌-◌, ◌*◌, ◌<◌, ◌≤◌, ◌^◌, true, List, Result, Ok, Err, Some, is_some, length}
+use Rattle.std.specs.Prelude.{◌≡◌, ℕ, ◌-◌, ◌*◌, ◌<◌, ◌≤◌, ◌^◌, true, List, Some, is_some, length}
 use Rattle.elf_image.specs.Spelling.{spelling}
 use Rattle.cfi_graph.specs.Graph.{GraphParts}
 use Rattle.cfi_graph.specs.Map.{IsMap}
@@ -13,16 +13,13 @@ use Rattle.cfi_flow.specs.LegalMap.{IsLegalMap}
 use Rattle.cfi_flow.specs.Placement.{words_from}
 use Rattle.cfi_verify.specs.Laws.{AreBytes}
 use Rattle.cfi_verify.specs.Split.{code_words}
-use Rattle.cfi_harden.specs.declared.refusal.Refusal.{Refusal}
 use Rattle.cfi_harden.specs.Accepted.{IsAccepted}
-use Rattle.cfi_harden.specs.Fitting.{RefusesPlaced}
 use Rattle.cfi_harden.specs.GraphOf.{IsGraphOf}
-use Rattle.cfi_harden.specs.Hardened.{HardenedParts, INIT_ROOM, IsWritten, IsWrittenOf, chosen}
+use Rattle.cfi_harden.specs.Hardened.{HardenedParts, INIT_ROOM, IsWritten, chosen}
 use Rattle.cfi_harden.specs.Laws.{written_code}
 use Rattle.cfi_harden.specs.MapLines.{map_lines}
 use Rattle.cfi_harden.specs.Placing.{Spaced}
-use Rattle.cfi_harden.specs.Prepared.{IsPrepared, PreparedParts}
-use Rattle.cfi_harden.specs.Request.{Request}
+use Rattle.cfi_harden.specs.Prepared.{PreparedParts}
 use Rattle.cfi_harden.specs.Units.{Choice}
 
 -- a program of an object, with its closed graph and an entry that is there
@@ -33,10 +30,6 @@ pub record IsReady (p : PreparedParts) : Type 0 where
   pub near : (k : ℕ) → k < count p.program → FitsMap k (item_of p.program k)
   pub graph : IsGraphOf p.program p.closed
   pub entered : p.entry < count p.program
-
--- what some request comes to
-abbrev pub IsOfRequest : PreparedParts → Type 0
-IsOfRequest p = (request : Request) × IsPrepared request p
 
 -- what can be written
 pub record IsWritable (p : PreparedParts) (s : Spaced) (labels : List ℕ) : Type 0 where
@@ -71,7 +64,3 @@ IsImageWith p s code image = (init : List ℕ) × IsWrittenImage p s code init i
 -- written, with some code and some data
 abbrev pub IsWrittenAs : PreparedParts → Spaced → List ℕ → HardenedParts → Type 0
 IsWrittenAs p s labels h = (code : List ℕ) × (init : List ℕ) × IsWritten p s labels code init h
-
-abbrev pub WritesOr : PreparedParts → Result HardenedParts Refusal → Type 0
-WritesOr p (Ok h) = IsWrittenOf p h
-WritesOr p (Err refusal) = RefusesPlaced p refusal

@@ -5,7 +5,7 @@ ghost use Rattle.text_lines.specs.Answers.{Answers, UnlessNoMemory};
 ghost use Rattle.cfi_harden.specs.Closing.{Closes, failed_line};
 ghost use Rattle.cfi_harden.specs.Request.{policy_reading};
 
-use crate::refusal::Refusal;
+use crate::refusal::{HardenEnd, Refusal};
 use cfi_flow::{Closed, close, raw_graph};
 use cfi_graph::{Policy, read_policy_part};
 use obj_program::Items;
@@ -38,16 +38,16 @@ pub(crate) fn closed_under(
     alloc: Global,
     items: &Items,
     policy: Option<&[u8]>,
-) -> Result<Closed, Refusal>
+) -> Result<Closed, HardenEnd>
     ensures { Closes items.now (option_copied policy.entry) result }
 {
     let (policy, end) = policy_part(alloc, policy);
     if let Err(TextEnd::NoMemory) = end {
-        return Err(Refusal::NoMemory);
+        return Err(HardenEnd::NoMemory);
     }
     let raw = raw_graph(alloc, items, &policy)?;
     if let Some(number) = failed_line(&end) {
-        return Err(Refusal::Policy(number));
+        return Err(HardenEnd::Refused(Refusal::Policy(number)));
     }
     Ok(close(alloc, &raw)?)
 }

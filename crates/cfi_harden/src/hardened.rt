@@ -20,7 +20,7 @@ use crate::spacing::Spacing;
 use cfi_graph::{Graph, Map};
 use elf_image::write_image;
 use obj_program::DataEnd;
-use rv_word::NoMemory;
+use rv_word::{Bytes, NoMemory};
 use std::alloc::Global;
 use std::marker::Model;
 
@@ -28,7 +28,7 @@ use std::marker::Model;
 #[derive(Drop)]
 pub struct Hardened {
     /// The bytes of its image.
-    pub image: Vec<u8>,
+    pub image: Bytes,
     /// Its graph.
     pub graph: Graph,
     /// Its map: of each place its gate.
@@ -40,7 +40,7 @@ impl Model for Hardened {
 
     ghost Value = { HardenedParts };
 
-    ghost view = { λ h. record { image = h.image.items; graph = h.graph; map = h.map } };
+    ghost view = { λ h. record { image = h.image; graph = h.graph; map = h.map } };
 }
 
 impl<'a, 'b> Chosen<'a, 'b> {
@@ -149,18 +149,18 @@ fn image_of(
     prepared: &Prepared,
     spacing: &Spacing,
     code: &[u8],
-) -> Result<Vec<u8>, NoMemory>
+) -> Result<Bytes, NoMemory>
     requires counted { length spacing.now.gates ≡ count prepared.now.program }
     requires there { is_some (data_at prepared.now.program spacing.now.gates) ≡ true }
     requires size { IsImageSize (length code.now) (init_size prepared.now.program) }
-    ensures { IfOk result (λ v. IsImageWith prepared.now spacing.now code.now v.items) }
+    ensures { IfOk result (IsImageWith prepared.now spacing.now code.now) }
 {
     let init = init_at(alloc, prepared, spacing)?;
     let data = init.as_slice();
     are_small(code);
     are_small(data);
     let image = write_image(alloc, code, data)?;
-    Ok(image)
+    Ok(Bytes::of(image))
 }
 
 /// Writes a prepared program with these labels at a placement.

@@ -4,15 +4,16 @@ ghost use Rattle.std.specs.Prelude.{◌≤◌, IfOk, option_copied};
 ghost use Rattle.rv_word.specs.MemoryMap.{CODE_SIZE};
 ghost use Rattle.cfi_harden.specs.GraphOf.{IsGraphOf};
 ghost use Rattle.cfi_harden.specs.Hardened.{AreGiven};
-ghost use Rattle.cfi_harden.specs.Refused.{Hardens};
+ghost use Rattle.cfi_harden.specs.Prepared.{IsOfRequest, IsPrepared};
+ghost use Rattle.cfi_harden.specs.Refused.{Hardens, HardensPrepared};
 ghost use Rattle.cfi_harden.specs.Request.{Request};
 ghost use Rattle.cfi_harden.specs.Sizes.{whole_size};
-ghost use Rattle.cfi_harden.specs.Writing.{IsOfRequest, IsReady, WritesOr};
+ghost use Rattle.cfi_harden.specs.Writing.{IsReady};
 
 use crate::hardened::{Hardened, written};
 use crate::numbering::class_labels;
 use crate::prepared::{Prepared, prepare};
-use crate::refusal::Refusal;
+use crate::refusal::HardenEnd;
 use crate::room::spaced_in_room;
 use crate::word_range::words_fit_in;
 use obj_items::laws::{last_place_ends, places_fit};
@@ -30,9 +31,9 @@ fn labels_of(alloc: Global, prepared: &Prepared) -> Result<Vec<u32>, NoMemory>
 
 /// Places a prepared program, with labels, and writes it.
 #[tactic(auto, using(crate::proofs::Ready::written_of))]
-fn placed_and_written(alloc: Global, prepared: &Prepared) -> Result<Hardened, Refusal>
+fn placed_and_written(alloc: Global, prepared: &Prepared) -> Result<Hardened, HardenEnd>
     requires { IsReady prepared.now }
-    ensures { WritesOr prepared.now result }
+    ensures { HardensPrepared prepared.now result }
 {
     let spacing = spaced_in_room(alloc, prepared)?;
     let labels = labels_of(alloc, prepared)?;
@@ -40,10 +41,12 @@ fn placed_and_written(alloc: Global, prepared: &Prepared) -> Result<Hardened, Re
     Ok(hardened)
 }
 
-/// Hardens the prepared program of some request.
-fn harden_prepared(alloc: Global, prepared: &Prepared) -> Result<Hardened, Refusal>
+/// Hardens a program that `prepare` gave: its image, its graph and its map, or the first that stands against placing it.
+pub fn harden_prepared(alloc: Global, prepared: &Prepared) -> Result<Hardened, HardenEnd>
     requires { IsOfRequest prepared.now }
-    ensures { WritesOr prepared.now result }
+    ensures placed { HardensPrepared prepared.now result }
+    // This is what each request comes to of which it is the prepared program.
+    ensures hardens { (request : Request) → IsPrepared request prepared.now → Hardens request result }
 {
     last_place_ends();
     places_fit();
@@ -54,13 +57,12 @@ fn harden_prepared(alloc: Global, prepared: &Prepared) -> Result<Hardened, Refus
 /// Hardens an object (System V gABI, "Object Files"; RISC-V ELF psABI): its image, its graph and its map, or the first that
 /// stands against that. The program is entered at the first symbol with the entry's name. A policy is a text that narrows
 /// what computed transfers may go to.
-#[tactic(auto, using(crate::proofs::Ready::hardens))]
 pub fn harden(
     alloc: Global,
     object: &[u8],
-    entry: &[u8],
+    entry: &str,
     policy: Option<&[u8]>,
-) -> Result<Hardened, Refusal>
+) -> Result<Hardened, HardenEnd>
     ensures { Hardens (record { object = object.now; entry = entry.now; policy = option_copied policy.entry }) result }
 {
     let prepared = prepare(alloc, object, entry, policy)?;

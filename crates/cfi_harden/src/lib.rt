@@ -5,10 +5,10 @@
 pub use chosen::{Chosen, Mapped};
 pub use code::code_bytes;
 pub use hardened::Hardened;
-pub use hardening::harden;
+pub use hardening::{harden, harden_prepared};
 pub use numbering::class_labels;
 pub use prepared::{Prepared, prepare};
-pub use refusal::Refusal;
+pub use refusal::{HardenEnd, Refusal};
 pub use room::has_data_room;
 pub use spacing::{Spacing, place_program};
 

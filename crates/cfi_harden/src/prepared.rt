@@ -1,10 +1,10 @@
-ghost use Rattle.std.specs.Prelude.{IfErr, option_copied};
+ghost use Rattle.std.specs.Prelude.{option_copied};
 ghost use Rattle.cfi_harden.specs.Preparing.{Enters, Reads};
-ghost use Rattle.cfi_harden.specs.Refused.{IsEarly, Prepares};
+ghost use Rattle.cfi_harden.specs.Refused.{Prepares};
 ghost use Rattle.cfi_harden.specs.Request.{Request};
 
 use crate::closing::closed_under;
-use crate::refusal::Refusal;
+use crate::refusal::{HardenEnd, Refusal};
 use cfi_flow::{Closed, entry_place};
 use elf_object::Object;
 use obj_items::items;
@@ -29,7 +29,7 @@ impl<'a> Model for Prepared<'a> {
 }
 
 /// The program of an object.
-fn program_of<'a>(alloc: Global, object: &'a [u8]) -> Result<Items<'a>, Refusal>
+fn program_of<'a>(alloc: Global, object: &'a [u8]) -> Result<Items<'a>, HardenEnd>
     ensures { Reads object.now result }
 {
     let object = Object::read(alloc, object)?;
@@ -41,13 +41,13 @@ fn program_of<'a>(alloc: Global, object: &'a [u8]) -> Result<Items<'a>, Refusal>
 fn entered(
     alloc: Global,
     items: &Items,
-    entry: &[u8],
+    entry: &str,
     policy: Option<&[u8]>,
-) -> Result<(u64, Closed), Refusal>
+) -> Result<(u64, Closed), HardenEnd>
     ensures { Enters items.now entry.now (option_copied policy.entry) result }
 {
-    let Some(entry) = entry_place(items, entry) else {
-        return Err(Refusal::NoEntry);
+    let Some(entry) = entry_place(items, entry.as_bytes()) else {
+        return Err(HardenEnd::Refused(Refusal::NoEntry));
     };
     let closed = closed_under(alloc, items, policy)?;
     Ok((entry, closed))
@@ -58,11 +58,10 @@ fn entered(
 pub fn prepare<'a>(
     alloc: Global,
     object: &'a [u8],
-    entry: &[u8],
+    entry: &str,
     policy: Option<&[u8]>,
-) -> Result<Prepared<'a>, Refusal>
-    ensures prepares { Prepares (record { object = object.now; entry = entry.now; policy = option_copied policy.entry }) result }
-    ensures early { IfErr result IsEarly }
+) -> Result<Prepared<'a>, HardenEnd>
+    ensures { Prepares (record { object = object.now; entry = entry.now; policy = option_copied policy.entry }) result }
 {
     let items = program_of(alloc, object)?;
     let (entry, closed) = entered(alloc, &items, entry, policy)?;

@@ -1,11 +1,15 @@
+ghost use Rattle.std.specs.Prelude.{◌≡◌};
+ghost use Rattle.cfi_harden.specs.RefusalText.{refusal_number};
+
 use cfi_flow::FlowEnd;
 use cfi_layout::PlaceEnd;
 use elf_object::{ObjectEnd, ObjectFault};
 use obj_items::ItemEnd;
 use obj_rules::ItemFault;
 use rv_word::NoMemory;
+use std::fmt;
 
-/// Why an object is not hardened. A later one comes only where no earlier one stands.
+/// What stands against hardening an object. A later one comes only where no earlier one stands.
 #[derive(Clone, Copy)]
 pub enum Refusal {
     /// A fault of the file as an object.
@@ -22,69 +26,112 @@ pub enum Refusal {
     DataTooLarge(u128, u128),
     /// A value leaves the range of the relocation at this section and offset.
     RelocRange(u32, u64),
+}
+
+impl Refusal {
+    /// The number that stands before what the refusal tells.
+    pub fn number(&self) -> u8
+        ensures { result ≡ refusal_number self.now }
+    {
+        match self {
+            Refusal::Object(fault) => fault.number(),
+            Refusal::Items(fault) => fault.number(),
+            Refusal::NoEntry => 17,
+            Refusal::Policy(_) => 18,
+            Refusal::CodeTooLarge(_) => 19,
+            Refusal::DataTooLarge(..) => 20,
+            Refusal::RelocRange(..) => 21,
+        }
+    }
+}
+
+impl fmt::Display for Refusal {
+    ghost use Rattle.std.specs.Prelude.{Some};
+    ghost use Rattle.cfi_harden.specs.RefusalText.{refusal_text};
+
+    ghost output = { λ refusal. Some (refusal_text refusal) };
+
+    fn fmt<W: fmt::Write>(&self, f: &mut fmt::Formatter<W>) -> fmt::Result {
+        match self {
+            Refusal::Object(fault) => write!(f, "{fault}"),
+            Refusal::Items(fault) => write!(f, "{fault}"),
+            Refusal::NoEntry => write!(f, "NoEntry"),
+            Refusal::Policy(line) => write!(f, "Policy {line}"),
+            Refusal::CodeTooLarge(bytes) => write!(f, "CodeTooLarge {bytes}"),
+            Refusal::DataTooLarge(init, end) => write!(f, "DataTooLarge {init} {end}"),
+            Refusal::RelocRange(section, offset) => write!(f, "RelocRange {section} {offset}"),
+        }
+    }
+}
+
+/// Why an object is not hardened: a refusal, or want of memory.
+#[derive(Clone, Copy)]
+pub enum HardenEnd {
+    /// This stands against it.
+    Refused(Refusal),
     /// There was no memory.
     NoMemory,
 }
 
-impl From<NoMemory> for Refusal {
+impl From<NoMemory> for HardenEnd {
     ghost use Rattle.std.specs.Prelude.{◌≡◌};
-    ghost use Rattle.cfi_harden.specs.declared.refusal.Refusal.TheVariants as refused;
+    ghost use Rattle.cfi_harden.specs.declared.refusal.HardenEnd.TheVariants as ends;
 
-    ghost from_gives = { λ _ r. r ≡ refused.NoMemory };
+    ghost from_gives = { λ _ e. e ≡ ends.NoMemory };
 
     fn from(_: NoMemory) -> Self {
-        Refusal::NoMemory
+        HardenEnd::NoMemory
     }
 }
 
-impl From<ObjectEnd> for Refusal {
+impl From<ObjectEnd> for HardenEnd {
     ghost use Rattle.cfi_harden.specs.RefusalOf.{IsOfObject};
 
     ghost from_gives = { IsOfObject };
 
     fn from(end: ObjectEnd) -> Self {
         match end {
-            ObjectEnd::Refused(fault) => Refusal::Object(fault),
-            ObjectEnd::NoMemory => Refusal::NoMemory,
+            ObjectEnd::Refused(fault) => HardenEnd::Refused(Refusal::Object(fault)),
+            ObjectEnd::NoMemory => HardenEnd::NoMemory,
         }
     }
 }
 
-impl From<ItemEnd> for Refusal {
+impl From<ItemEnd> for HardenEnd {
     ghost use Rattle.cfi_harden.specs.RefusalOf.{IsOfItems};
 
     ghost from_gives = { IsOfItems };
 
     fn from(end: ItemEnd) -> Self {
         match end {
-            ItemEnd::Refused(fault) => Refusal::Items(fault),
-            ItemEnd::NoMemory => Refusal::NoMemory,
+            ItemEnd::Refused(fault) => HardenEnd::Refused(Refusal::Items(fault)),
+            ItemEnd::NoMemory => HardenEnd::NoMemory,
         }
     }
 }
 
-impl From<FlowEnd> for Refusal {
+impl From<FlowEnd> for HardenEnd {
     ghost use Rattle.cfi_harden.specs.RefusalOf.{IsOfFlow};
 
     ghost from_gives = { IsOfFlow };
 
     fn from(end: FlowEnd) -> Self {
         match end {
-            FlowEnd::Policy(number) => Refusal::Policy(number),
-            FlowEnd::NoMemory => Refusal::NoMemory,
+            FlowEnd::Policy(number) => HardenEnd::Refused(Refusal::Policy(number)),
+            FlowEnd::NoMemory => HardenEnd::NoMemory,
         }
     }
 }
 
-impl From<PlaceEnd> for Refusal {
+impl From<PlaceEnd> for HardenEnd {
     ghost use Rattle.cfi_harden.specs.RefusalOf.{IsOfPlace};
 
     ghost from_gives = { IsOfPlace };
 
     fn from(end: PlaceEnd) -> Self {
         match end {
-            PlaceEnd::CodeTooLarge(bytes) => Refusal::CodeTooLarge(bytes),
-            PlaceEnd::NoMemory => Refusal::NoMemory,
+            PlaceEnd::CodeTooLarge(bytes) => HardenEnd::Refused(Refusal::CodeTooLarge(bytes)),
+            PlaceEnd::NoMemory => HardenEnd::NoMemory,
         }
     }
 }

@@ -5,7 +5,7 @@ ghost use Rattle.cfi_harden.specs.Fitting.{FitsOr};
 ghost use Rattle.cfi_harden.specs.Hardened.{HasDataRoom};
 
 use crate::prepared::Prepared;
-use crate::refusal::Refusal;
+use crate::refusal::{HardenEnd, Refusal};
 use crate::spacing::{Spacing, place_program};
 use obj_program::Items;
 use std::alloc::Global;
@@ -25,17 +25,17 @@ pub fn has_data_room(items: &Items) -> bool
 }
 
 /// A placement of a prepared program in which its data have room and no value leaves its range.
-pub(crate) fn spaced_in_room(alloc: Global, prepared: &Prepared) -> Result<Spacing, Refusal>
+pub(crate) fn spaced_in_room(alloc: Global, prepared: &Prepared) -> Result<Spacing, HardenEnd>
     ensures { FitsOr prepared.now result }
 {
     let items = &prepared.items;
     let spacing = place_program(alloc, items, &prepared.closed)?;
     if !has_data_room(items) {
         let extent = items.data_extent();
-        return Err(Refusal::DataTooLarge(extent.init, extent.end));
+        return Err(HardenEnd::Refused(Refusal::DataTooLarge(extent.init, extent.end)));
     }
     if let Some(place) = items.out_of_range(spacing.gates(), spacing.words()) {
-        return Err(Refusal::RelocRange(place.section, place.offset));
+        return Err(HardenEnd::Refused(Refusal::RelocRange(place.section, place.offset)));
     }
     Ok(spacing)
 }

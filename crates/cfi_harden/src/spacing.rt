@@ -10,9 +10,10 @@ ghost use Rattle.cfi_harden.specs.Sizes.{whole_size, whole_sizes};
 use crate::shorts::shorts;
 use crate::sizes::{gate_size, whole_sizes};
 use cfi_flow::Closed;
-use cfi_layout::{PlaceEnd, Placement, place, shorten};
+use cfi_layout::{PlaceEnd, Placement, code_size, shorten};
 use obj_program::Items;
 use rv_word::NoMemory;
+use rv_word::memory_map::CODE_SIZE;
 use std::alloc::Global;
 use std::marker::Model;
 
@@ -62,7 +63,10 @@ fn sizes_in_room(alloc: Global, items: &Items, closed: &Closed) -> Result<Vec<u3
         (λ e. PlaceEnds items.now closed.now e) }
 {
     let sizes = whole_sizes(alloc, items, closed)?;
-    let _whole = place(alloc, sizes.as_slice())?;
+    let bytes = code_size(sizes.as_slice());
+    if bytes > u128::from(CODE_SIZE) {
+        return Err(PlaceEnd::CodeTooLarge(bytes));
+    }
     Ok(sizes)
 }
 

@@ -6,6 +6,7 @@ pub use end::PlaceEnd;
 pub use placement::{Placement, place};
 pub use short::{Short, are_shorts};
 pub use shortening::shorten;
+pub use starts::code_size;
 
 mod end;
 pub mod laws;

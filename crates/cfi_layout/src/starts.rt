@@ -12,7 +12,7 @@ use rv_word::profile::UNITS_START;
 use std::alloc::Global;
 
 /// How many bytes the code of parts of these sizes has, the prologue counted.
-pub(crate) fn code_size(sizes: &[u32]) -> u128
+pub fn code_size(sizes: &[u32]) -> u128
     ensures { result ≡ code_size sizes.now }
 {
     let parts: u128 = sizes.iter().map(|size| u128::from(*size)).sum();

@@ -2,7 +2,7 @@
 //! object does. Its main call is `rewrite`.
 #![tactic(auto)]
 
-pub use cfi_harden::{Hardened, Refusal};
-pub use rewriting::rewrite;
+pub use cfi_harden::{HardenEnd, Hardened, Refusal};
+pub use rewriting::{rewrite, rewrite_prepared};
 
 mod rewriting;

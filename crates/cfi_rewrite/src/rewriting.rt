@@ -1,9 +1,10 @@
 ghost use Rattle.std.specs.Prelude.{IfOk, option_copied};
-ghost use Rattle.cfi_harden.specs.Refused.{Hardens};
+ghost use Rattle.cfi_harden.specs.Prepared.{IsOfRequest, IsPrepared};
+ghost use Rattle.cfi_harden.specs.Refused.{Hardens, HardensPrepared};
 ghost use Rattle.cfi_harden.specs.Request.{Request};
 ghost use Rattle.cfi_meaning.specs.Hardened.{KeepsMeaningAtMap, NeverDiffersAtMap};
 
-use cfi_harden::{Hardened, Refusal, harden};
+use cfi_harden::{HardenEnd, Hardened, Prepared, harden, harden_prepared};
 use cfi_meaning::laws::{hardened_keeps_meaning, hardened_never_differs};
 use std::alloc::Global;
 
@@ -13,9 +14,9 @@ use std::alloc::Global;
 pub fn rewrite(
     alloc: Global,
     object: &[u8],
-    entry: &[u8],
+    entry: &str,
     policy: Option<&[u8]>,
-) -> Result<Hardened, Refusal>
+) -> Result<Hardened, HardenEnd>
     // What is written meets the verifier's rules, and is that of the program at a legal map; a refusal stands, and none before it
     // does.
     ensures hardens { Hardens (record { object = object.now; entry = entry.now; policy = option_copied policy.entry }) result }
@@ -30,4 +31,19 @@ pub fn rewrite(
     hardened_keeps_meaning();
     hardened_never_differs();
     harden(alloc, object, entry, policy)
+}
+
+/// Hardens a program that `cfi_harden::prepare` gave: its image, its graph and its map, or the first that stands against placing
+/// it.
+pub fn rewrite_prepared(alloc: Global, prepared: &Prepared) -> Result<Hardened, HardenEnd>
+    requires { IsOfRequest prepared.now }
+    ensures placed { HardensPrepared prepared.now result }
+    // For each request of which it is the prepared program, this is what `rewrite` promises.
+    ensures hardens { (request : Request) → IsPrepared request prepared.now → Hardens request result }
+    ensures meaning_kept { (request : Request) → IsPrepared request prepared.now → IfOk result (λ h. KeepsMeaningAtMap request h) }
+    ensures never_differs { (request : Request) → IsPrepared request prepared.now → IfOk result (λ h. NeverDiffersAtMap request h) }
+{
+    hardened_keeps_meaning();
+    hardened_never_differs();
+    harden_prepared(alloc, prepared)
 }

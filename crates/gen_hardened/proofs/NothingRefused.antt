@@ -1,4 +1,4 @@
--- A generated object without a fault, whose code has room, is refused for want of memory alone.
+-- A generated object without a fault, whose code has room, is not refused.
 use Rattle.std.proofs.Common.{◌≡◌, ℕ, ◌≤◌, Some, None, List, codes, refl, sym, ap, subst, ◌∙◌, arith}
 use Rattle.rv_word.specs.MemoryMap.{CODE_SIZE}
 use Rattle.elf_writer.specs.Object.{object_bytes}
@@ -16,7 +16,7 @@ use Rattle.cfi_gen.specs.Demo.{demo_parts, parts_with}
 use Rattle.cfi_gen.specs.Drawing.{functions_from}
 use Rattle.gen_program.specs.Generated.{IsGenerated}
 use Rattle.gen_program.proofs.Reading.{generated_is}
-use Rattle.cfi_harden.specs.declared.refusal.Refusal.TheVariants.{Object, Items, NoEntry, Policy, CodeTooLarge, DataTooLarge, RelocRange, NoMemory}
+use Rattle.cfi_harden.specs.declared.refusal.Refusal.TheVariants.{Object, Items, NoEntry, Policy, CodeTooLarge, DataTooLarge, RelocRange}
 use Rattle.cfi_harden.specs.Hardened.{HasDataRoom}
 use Rattle.cfi_harden.specs.Prepared.{IsPrepared, PreparedParts}
 use Rattle.cfi_harden.specs.Request.{program_in}
@@ -56,21 +56,20 @@ module _ (fs : List Function) (small : AreSmall fs) (object : List ℕ) (holds :
       ap (λ (x : Program). out_of_range x gates words) is.program ∙ all_in_range is_generated small sound gates words
 
   pub nothing_refused : IsNeverRefused (entered object)
-  nothing_refused (Object fault) stands = let none = holds.sound in absurd (cc)
-  nothing_refused (Items fault) stands = let some = stands.1 in absurd (cc)
-  nothing_refused NoEntry stands = let none = stands.1 in let some = main_there in absurd (cc)
-  nothing_refused (Policy n) stands = absurd (no_wrong_line (program_in object) n stands.2)
+  nothing_refused (Object fault) stands = let none = holds.sound in cc
+  nothing_refused (Items fault) stands = let some = stands.1 in cc
+  nothing_refused NoEntry stands = let none = stands.1 in let some = main_there in cc
+  nothing_refused (Policy n) stands = no_wrong_line (program_in object) n stands.2
   nothing_refused (CodeTooLarge bytes) (p, is, refused) =
       let fits = code_room p is in
       let bytes_are = refused.0 in
       let more = refused.1 in
-      absurd (omega arith)
-  nothing_refused (DataTooLarge init end) (p, is, refused) = absurd (refused.3 (room_there p is))
+      omega arith
+  nothing_refused (DataTooLarge init end) (p, is, refused) = refused.3 (room_there p is)
   nothing_refused (RelocRange section offset) (p, is, refused) =
       let none = none_astray p is refused.0.gates refused.0.words in
       let some = refused.3 in
-      absurd (cc)
-  nothing_refused NoMemory stands = refl
+      cc
 
 -- the object of each number, where it holds its parts, has no fault, and its code has room
 pub demo_never_refused : ((number : ℕ) → Holds (demo_parts number) (object_bytes (demo_parts number)))

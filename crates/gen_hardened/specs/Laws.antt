@@ -1,9 +1,8 @@
 -- What holds of the generated object of each number: it is hardened, unless memory runs out.
-use Rattle.std.specs.Prelude.{◌≡◌, ℕ, None, List, codes}
+use Rattle.std.specs.Prelude.{ℕ, None, List, codes}
 use Rattle.elf_writer.specs.Object.{object_bytes}
 use Rattle.cfi_gen.specs.Demo.{demo_parts}
 use Rattle.cfi_harden.specs.declared.refusal.Refusal.{Refusal}
-use Rattle.cfi_harden.specs.declared.refusal.Refusal.TheVariants.{NoMemory}
 use Rattle.cfi_harden.specs.Refused.{Refuses}
 use Rattle.cfi_harden.specs.Request.{Request}
 
@@ -11,9 +10,9 @@ use Rattle.cfi_harden.specs.Request.{Request}
 abbrev pub entered : List ℕ → Request
 entered object = record { object = object; entry = codes "main"; policy = None }
 
--- nothing but want of memory stands against a request
+-- nothing stands against a request
 abbrev pub IsNeverRefused : Request → Type 0
-IsNeverRefused request = (refusal : Refusal) → Refuses request refusal → refusal ≡ NoMemory
+IsNeverRefused request = (refusal : Refusal) → Refuses request refusal → ⊥
 
 -- this holds of the object of each number
 abbrev pub DemoIsNeverRefused : Type 0

@@ -1,4 +1,4 @@
--- A fault as it is printed: its name, and its numbers in decimal.
+-- A fault as it is printed: its name, and its numbers in decimal; and its own number among all refusals.
 use Rattle.std.specs.Prelude.{ℕ, List, ◌++◌, codes, Option, Some, None}
 use Rattle.std.specs.Fmt.{decimal}
 use Rattle.obj_rules.specs.declared.fault.ItemFault.{ItemFault}
@@ -13,6 +13,17 @@ fault_text (RelocKind section offset kind) = codes "RelocKind " ++ decimal secti
 fault_text (RelocPlace section offset) = codes "RelocPlace " ++ decimal section ++ codes " " ++ decimal offset
 fault_text (Undefined symbol) = codes "Undefined " ++ decimal symbol
 fault_text (BadCodePointer section offset) = codes "BadCodePointer " ++ decimal section ++ codes " " ++ decimal offset
+
+-- the faults of the file as an object have the numbers 1 to 8
+abbrev pub fault_number : ItemFault → ℕ
+fault_number (Undecodable section offset word) = 9
+fault_number (ReservedRegister section offset) = 10
+fault_number (BadTransfer section offset) = 11
+fault_number (BadPair section offset) = 12
+fault_number (RelocKind section offset kind) = 13
+fault_number (RelocPlace section offset) = 14
+fault_number (Undefined symbol) = 15
+fault_number (BadCodePointer section offset) = 16
 
 -- the text of a name, of a section and an offset if there are such, and of one number more if there is one
 abbrev pub told : List ℕ → Option (ℕ × ℕ) → Option ℕ → List ℕ

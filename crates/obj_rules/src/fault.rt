@@ -1,4 +1,5 @@
 ghost use Rattle.std.specs.Prelude.{◌≡◌};
+ghost use Rattle.obj_rules.specs.FaultText.{fault_number};
 ghost use Rattle.obj_rules.specs.Finding.{found_at};
 
 use least::{Found, Place};
@@ -24,6 +25,24 @@ pub enum ItemFault {
     Undefined(u64),
     /// A relocation's address is in code and no place.
     BadCodePointer(u32, u64),
+}
+
+impl ItemFault {
+    /// The number of the fault among all refusals: those of the file as an object stand before it.
+    pub fn number(&self) -> u8
+        ensures { result ≡ fault_number self.now }
+    {
+        match self {
+            ItemFault::Undecodable(..) => 9,
+            ItemFault::ReservedRegister(..) => 10,
+            ItemFault::BadTransfer(..) => 11,
+            ItemFault::BadPair(..) => 12,
+            ItemFault::RelocKind(..) => 13,
+            ItemFault::RelocPlace(..) => 14,
+            ItemFault::Undefined(_) => 15,
+            ItemFault::BadCodePointer(..) => 16,
+        }
+    }
 }
 
 impl ItemFault {

@@ -1,4 +1,4 @@
-use cfi_rewrite::{Hardened, Refusal, rewrite};
+use cfi_rewrite::{HardenEnd, Hardened, rewrite};
 use std::alloc::{AllocError, Global};
 
 /// An object written by hand, or an empty file. `Coded` is the one that returns with other code, and `Idle` with so many
@@ -20,7 +20,7 @@ pub(crate) struct Given(
     pub(crate) Source,
     pub(crate) usize,
     pub(crate) &'static [u8],
-    pub(crate) &'static [u8],
+    pub(crate) &'static str,
     pub(crate) Option<&'static [u8]>,
 );
 
@@ -104,6 +104,6 @@ pub(crate) fn file(alloc: Global, given: &Given) -> Option<Vec<u8>> {
 }
 
 /// What a file is hardened to.
-pub(crate) fn answer(alloc: Global, file: &[u8], given: &Given) -> Result<Hardened, Refusal> {
+pub(crate) fn answer(alloc: Global, file: &[u8], given: &Given) -> Result<Hardened, HardenEnd> {
     rewrite(alloc, file, given.3, given.4)
 }

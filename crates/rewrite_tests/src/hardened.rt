@@ -42,10 +42,10 @@ fn is_accepted(alloc: Global, file: &[u8], graph: &Graph) -> bool {
 
 /// Whether a hardened program is the one that is wanted, and is accepted.
 fn is_wanted(alloc: Global, hardened: &Hardened, program: &Program) -> bool {
-    is_image_of(alloc, &hardened.image, program)
+    is_image_of(alloc, hardened.image.as_slice(), program)
         && is_graph(alloc, &hardened.graph, program.6)
         && is_map(alloc, &hardened.map, program.7)
-        && is_accepted(alloc, &hardened.image, &hardened.graph)
+        && is_accepted(alloc, hardened.image.as_slice(), &hardened.graph)
 }
 
 /// Whether a file becomes the program that is wanted.

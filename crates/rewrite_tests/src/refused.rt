@@ -1,5 +1,5 @@
 use crate::given::{Given, Source, answer, file};
-use cfi_rewrite::Refusal;
+use cfi_rewrite::HardenEnd;
 use sample_programs::is_told_as;
 use std::alloc::Global;
 
@@ -10,39 +10,39 @@ const POLICY_PLACE: &[u8] = b"rvcfi-policy 1\nsite main+14 f+0\nend\n";
 
 #[rattlefmt::skip]
 static REFUSED: [Refused; 24] = [
-    Refused(Given(Source::Empty, 0, b"", b"main", None), "NotElf"),
-    Refused(Given(Source::Returning, 4, b"01", b"main", None), "NotElf"),
-    Refused(Given(Source::Returning, 16, b"0200", b"main", None), "NotRelocatable 2"),
-    Refused(Given(Source::Returning, 18, b"3e00", b"main", None), "NotRiscv 62"),
-    Refused(Given(Source::Returning, 48, b"01000000", b"main", None), "Flags 1"),
+    Refused(Given(Source::Empty, 0, b"", "main", None), "NotElf"),
+    Refused(Given(Source::Returning, 4, b"01", "main", None), "NotElf"),
+    Refused(Given(Source::Returning, 16, b"0200", "main", None), "NotRelocatable 2"),
+    Refused(Given(Source::Returning, 18, b"3e00", "main", None), "NotRiscv 62"),
+    Refused(Given(Source::Returning, 48, b"01000000", "main", None), "Flags 1"),
     // Ten sections from an offset after the file's end.
     Refused(
         Given(Source::Returning, 40, b"000200000000000000000000400000000000\
-            40000a00", b"main", None),
+            40000a00", "main", None),
         "Truncated 512",
     ),
-    Refused(Given(Source::Returning, 64, b"130f100067800000", b"main", None), "ReservedRegister 1 0"),
-    Refused(Given(Source::Returning, 64, b"130f100000000000", b"main", None), "Undecodable 1 4 0"),
-    Refused(Given(Source::Returning, 64, b"130f100067800000", b"nain", None), "ReservedRegister 1 0"),
-    Refused(Given(Source::Returning, 0, b"", b"nain", None), "NoEntry"),
-    Refused(Given(Source::Returning, 0, b"", b"mai", None), "NoEntry"),
-    Refused(Given(Source::Returning, 0, b"", b"", None), "NoEntry"),
-    Refused(Given(Source::Calling, 0, b"", b"ptr", None), "NoEntry"),
-    Refused(Given(Source::Recursive, 0, b"", b"limit", None), "NoEntry"),
-    Refused(Given(Source::Calling, 0, b"", b"nain", Some(POLICY_PLACE)), "NoEntry"),
-    Refused(Given(Source::Calling, 0, b"", b"main", Some(POLICY_PLACE)), "Policy 2"),
-    Refused(Given(Source::Calling, 0, b"", b"main", Some(b"")), "Policy 1"),
-    Refused(Given(Source::Calling, 0, b"", b"main", Some(b"rvcfi-policy 1\n")), "Policy 2"),
+    Refused(Given(Source::Returning, 64, b"130f100067800000", "main", None), "ReservedRegister 1 0"),
+    Refused(Given(Source::Returning, 64, b"130f100000000000", "main", None), "Undecodable 1 4 0"),
+    Refused(Given(Source::Returning, 64, b"130f100067800000", "nain", None), "ReservedRegister 1 0"),
+    Refused(Given(Source::Returning, 0, b"", "nain", None), "NoEntry"),
+    Refused(Given(Source::Returning, 0, b"", "mai", None), "NoEntry"),
+    Refused(Given(Source::Returning, 0, b"", "", None), "NoEntry"),
+    Refused(Given(Source::Calling, 0, b"", "ptr", None), "NoEntry"),
+    Refused(Given(Source::Recursive, 0, b"", "limit", None), "NoEntry"),
+    Refused(Given(Source::Calling, 0, b"", "nain", Some(POLICY_PLACE)), "NoEntry"),
+    Refused(Given(Source::Calling, 0, b"", "main", Some(POLICY_PLACE)), "Policy 2"),
+    Refused(Given(Source::Calling, 0, b"", "main", Some(b"")), "Policy 1"),
+    Refused(Given(Source::Calling, 0, b"", "main", Some(b"rvcfi-policy 1\n")), "Policy 2"),
     Refused(
-        Given(Source::Calling, 0, b"", b"main", Some(b"rvcfi-policy 1\nsite main+10 h+0\nend\n")),
+        Given(Source::Calling, 0, b"", "main", Some(b"rvcfi-policy 1\nsite main+10 h+0\nend\n")),
         "Policy 2",
     ),
     Refused(
-        Given(Source::Calling, 0, b"", b"main", Some(b"rvcfi-policy 1\nsite main+10 f+2\nend\n")),
+        Given(Source::Calling, 0, b"", "main", Some(b"rvcfi-policy 1\nsite main+10 f+2\nend\n")),
         "Policy 2",
     ),
     Refused(
-        Given(Source::Calling, 0, b"", b"main", Some(b"rvcfi-policy 1\nsite main+10 f+0\nsite main+10 g+0\nend\n")),
+        Given(Source::Calling, 0, b"", "main", Some(b"rvcfi-policy 1\nsite main+10 f+0\nsite main+10 g+0\nend\n")),
         "Policy 3",
     ),
     // Data without bytes in the file that end one byte, and much, too far.
@@ -52,7 +52,7 @@ static REFUSED: [Refused; 24] = [
             556,
             b"08000000020000000000000000000000000000008000000000000000\
             0100ef0f00000000",
-            b"main",
+            "main",
             None,
         ),
         "DataTooLarge 0 267386881",
@@ -63,72 +63,26 @@ static REFUSED: [Refused; 24] = [
             556,
             b"08000000020000000000000000000000000000008000000000000000\
             0000f00f00000000",
-            b"main",
+            "main",
             None,
         ),
         "DataTooLarge 0 267452416",
     ),
     // An AUIPC that is to reach four gigabytes further.
-    Refused(Given(Source::Writing, 200, b"0000000001000000", b"main", None), "RelocRange 1 32"),
+    Refused(Given(Source::Writing, 200, b"0000000001000000", "main", None), "RelocRange 1 32"),
 ];
 
 /// One instruction more than the region of code has room for.
 static TOO_MANY: Refused = Refused(
-    Given(Source::Idle(262_128), 0, b"", b"main", None),
+    Given(Source::Idle(262_128), 0, b"", "main", None),
     "CodeTooLarge 1048580",
 );
-
-/// Whether words are a name and then one number.
-fn is_number(alloc: Global, words: &str, name: &str, number: u128) -> bool {
-    match words.split_once(' ') {
-        Some((first, rest)) => first == name && is_told_as(alloc, &number, rest),
-        None => false,
-    }
-}
-
-/// Whether words are a name and then two numbers.
-fn are_numbers(alloc: Global, words: &str, name: &str, numbers: (u128, u128)) -> bool {
-    let Some((first, rest)) = words.split_once(' ') else {
-        return false;
-    };
-    match rest.split_once(' ') {
-        Some((one, other)) => {
-            first == name
-                && is_told_as(alloc, &numbers.0, one)
-                && is_told_as(alloc, &numbers.1, other)
-        }
-        None => false,
-    }
-}
-
-/// Whether a refusal is told in these words.
-fn is_told(alloc: Global, refusal: Refusal, words: &str) -> bool {
-    match refusal {
-        Refusal::Object(fault) => is_told_as(alloc, &fault, words),
-        Refusal::Items(fault) => is_told_as(alloc, &fault, words),
-        Refusal::NoEntry => words == "NoEntry",
-        Refusal::Policy(line) => is_number(alloc, words, "Policy", u128::from(line)),
-        Refusal::CodeTooLarge(bytes) => is_number(alloc, words, "CodeTooLarge", bytes),
-        Refusal::DataTooLarge(init, end) => {
-            are_numbers(alloc, words, "DataTooLarge", (init, end))
-        }
-        Refusal::RelocRange(section, offset) => {
-            are_numbers(
-                alloc,
-                words,
-                "RelocRange",
-                (section as u128, offset as u128),
-            )
-        }
-        Refusal::NoMemory => false,
-    }
-}
 
 /// Whether a file is refused in these words.
 fn is_refused(alloc: Global, file: &[u8], given: &Given, words: &str) -> bool {
     match answer(alloc, file, given) {
-        Ok(_) => false,
-        Err(refusal) => is_told(alloc, refusal, words),
+        Ok(_) | Err(HardenEnd::NoMemory) => false,
+        Err(HardenEnd::Refused(refusal)) => is_told_as(alloc, &refusal, words),
     }
 }
 

@@ -15,29 +15,29 @@ struct Run(Given, u32, usize, RunEnd, u64, u64);
 static RUNS: [Run; 6] = [
     // One that calls itself 8,190 times, and one that does so once more, for which the shadow stack has no room.
     Run(
-        Given(Source::Recursive, 0, b"", b"main", None),
+        Given(Source::Recursive, 0, b"", "main", None),
         168, 8192, RunEnd::Exit(0), 163_820, 65_527,
     ),
     Run(
-        Given(Source::Recursive, 68, b"1305f5ff", b"main", None),
+        Given(Source::Recursive, 68, b"1305f5ff", "main", None),
         168, 8192, RunEnd::Handler(Handler::Deep), 114_684, 40_960,
     ),
     // Stores over the end of the stack, and to the start of the code.
     Run(
-        Given(Source::Coded, 0, b"a33f21fe67800000", b"main", None),
+        Given(Source::Coded, 0, b"a33f21fe67800000", "main", None),
         104, 8192, RunEnd::Exit(0), 20, 4,
     ),
     Run(
-        Given(Source::Coded, 0, b"b702004023b0520067800000", b"main", None),
+        Given(Source::Coded, 0, b"b702004023b0520067800000", "main", None),
         108, 8192, RunEnd::Exit(0), 21, 5,
     ),
     // Branches over an addition and over a jump.
     Run(
-        Given(Source::Coded, 0, b"630405001305100067800000", b"main", None),
+        Given(Source::Coded, 0, b"630405001305100067800000", "main", None),
         96, 8192, RunEnd::Exit(0), 17, 4,
     ),
     Run(
-        Given(Source::Coded, 0, b"630405006f00400067800000", b"main", None),
+        Given(Source::Coded, 0, b"630405006f00400067800000", "main", None),
         100, 8192, RunEnd::Exit(0), 18, 4,
     ),
 ];
@@ -45,7 +45,7 @@ static RUNS: [Run; 6] = [
 /// As many instructions that do nothing as the region of code has room for.
 #[rattlefmt::skip]
 static FULL: Run = Run(
-    Given(Source::Idle(262_127), 0, b"", b"main", None),
+    Given(Source::Idle(262_127), 0, b"", "main", None),
     1_048_576, 1_052_672, RunEnd::Handler(Handler::BadTarget), 262_139, 262_130,
 );
 
@@ -82,7 +82,7 @@ fn is_read(alloc: Global, file: &[u8], graph: &Graph, row: &Run) -> bool {
 fn is_wanted(alloc: Global, hardened: &Hardened, row: &Run) -> bool {
     hardened.graph.code() == row.1
         && hardened.image.len() == row.2
-        && is_read(alloc, &hardened.image, &hardened.graph, row)
+        && is_read(alloc, hardened.image.as_slice(), &hardened.graph, row)
 }
 
 /// Whether a file becomes a program that runs as its row says.

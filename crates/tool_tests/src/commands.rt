@@ -1,6 +1,7 @@
 //! Command lines, with the status and the text of each, and the lines of verdicts.
 
 use crate::calls::check;
+use cfi_harden::Refusal as ObjectRefusal;
 use cfi_tool::{Refusal, Verdict};
 use cfi_verify::{Reject, Rule};
 use elf_image::ImageRefusal;
@@ -35,21 +36,24 @@ fn commands(rt: HostRuntime) {
 
 /// Verdicts, and the line of each.
 static LINES: [(Verdict, &str); 13] = [
-    (Verdict::Refused(Refusal::NoEntry), "refused 17 NoEntry"),
     (
-        Verdict::Refused(Refusal::Policy(300)),
+        Verdict::Refused(Refusal::Object(ObjectRefusal::NoEntry)),
+        "refused 17 NoEntry",
+    ),
+    (
+        Verdict::Refused(Refusal::Object(ObjectRefusal::Policy(300))),
         "refused 18 Policy 300",
     ),
     (
-        Verdict::Refused(Refusal::CodeTooLarge(1_048_580)),
+        Verdict::Refused(Refusal::Object(ObjectRefusal::CodeTooLarge(1_048_580))),
         "refused 19 CodeTooLarge 1048580",
     ),
     (
-        Verdict::Refused(Refusal::DataTooLarge(33_554_433, 65_537)),
+        Verdict::Refused(Refusal::Object(ObjectRefusal::DataTooLarge(33_554_433, 65_537))),
         "refused 20 DataTooLarge 33554433 65537",
     ),
     (
-        Verdict::Refused(Refusal::RelocRange(2, 24)),
+        Verdict::Refused(Refusal::Object(ObjectRefusal::RelocRange(2, 24))),
         "refused 21 RelocRange 2 24",
     ),
     (

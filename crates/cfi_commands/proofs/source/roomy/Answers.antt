@@ -1,6 +1,7 @@
 use Rattle.std.specs.Prelude.{option_copied}
+use Rattle.cfi_commands.proofs.Sources.{not_roomy}
 use Rattle.cfi_commands.proofs.source.roomy.Goals as goal
 
 pub returns-in-Err-clause-refused : goal.returns-in-Err-clause-refused
-returns-in-Err-clause-refused c = λ image map.
-    c.early.ensures (record { object = c.args.object.now; entry = c.args.entry.now; policy = option_copied c.args.policy }) image map c.in-Err.ensures.prepares
+returns-in-Err-clause-refused c =
+    not_roomy (record { object = c.args.object.now; entry = c.args.entry.now; policy = option_copied c.args.policy }) c.in-Err.end c.in-Err.ensures

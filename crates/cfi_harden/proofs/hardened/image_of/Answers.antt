@@ -18,6 +18,6 @@ returns c =
         bytes = are_bytes c.args.code.now c.in_ok-init.init.items c.are_small.ensures
             (subst (λ (l : List ℕ). (k : ℕ) → slice_index l k < 2 ^ 8) is c.are_small-2.ensures)
             (subst (IsImageSize (length c.args.code.now)) (sym c.in_ok-init.ensures.length) c.requires.size);
-        image_is = c.in_ok-image.ensures ∙ ap (spelling c.args.code.now) is;
+        image_is = c.of.ensures ∙ c.in_ok-image.ensures ∙ ap (spelling c.args.code.now) is;
       },
     )

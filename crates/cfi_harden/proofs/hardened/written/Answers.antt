@@ -12,6 +12,6 @@ image_of-requires-clause-size c =
 
 pub returns : goal.returns
 returns c =
-    written_with c.args.prepared.now c.args.spacing.now c.args.labels.now c.in_ok-code.code.items c.in_ok-image.image.items c.in_ok-code.graph c.in_ok-code.map
+    written_with c.args.prepared.now c.args.spacing.now c.args.labels.now c.in_ok-code.code.items c.in_ok-image.image c.in_ok-code.graph c.in_ok-code.map
     c.requires c.in_ok-code.ensures
-    (subst (λ (code : List ℕ). IsImageWith c.args.prepared.now c.args.spacing.now code c.in_ok-image.image.items) c.as_slice.ensures.value c.in_ok-image.ensures)
+    (subst (λ (code : List ℕ). IsImageWith c.args.prepared.now c.args.spacing.now code c.in_ok-image.image) c.as_slice.ensures.value c.in_ok-image.ensures)
