@@ -1,12 +1,13 @@
 """The kinds of cases: which file of a sample is turned, and which commands are asked about it."""
 
 import samples
+from asked import COMMANDS
 from turns import IMAGE, OBJECT, TEXT, turned
 
 STEPS = [b"0", b"1", b"10", b"100", b"1000", b"3000", b"20000"]
 WORDS = [b"", b"-", b"--", b"-x", b"none", b"absent", b"folder", b"0", b"1000000001", b"01", b"+1", b"-1", b" 1", b"9" * 40, b"\xff",
-         b"verify", b"rewrite", b"n" * 300, b"n" * 5000, b"folder/none", b"object/none", b"demo"]
-NOT_ASKED = {b"-h", b"-V", b"--help", b"--version"}
+         b"verify", b"rewrite", b"n" * 300, b"n" * 5000, b"folder/none", b"object/none", b"demo", b"-h", b"--help", b"-V", b"--version"]
+HELP, VERSION = {b"-h", b"--help"}, {b"-V", b"--version"}
 MADE = [b"new.img", b"new.graph", b"new.map"]
 
 
@@ -111,6 +112,12 @@ def scripts_turned(case, sample):
     case.ask(b"run", b"image", b"graph", b"script", b"input", steps(case))
 
 
+def asks_text(words):
+    """Whether the words ask for help or for the version, and for nothing else."""
+    alone = len(words) == 1 and words[0] in HELP | VERSION
+    return alone or len(words) == 2 and words[0] in COMMANDS and words[1] in HELP
+
+
 def words_turned(case, sample):
     draw = case.draw
     words = draw.choice([[b"rewrite", b"object", sample.entry, policy(case)] + MADE, [b"verify", b"image", b"graph"],
@@ -120,7 +127,7 @@ def words_turned(case, sample):
         at = draw.randrange(len(words) + 1)
         word = draw.choice(WORDS + words + samples.entries(sample.object))
         words[at:at + draw.choice([0, 1, 1, 1])] = draw.choice([[word], [word], [word], []])
-    if not set(words) & NOT_ASKED and words[:1] != [b"demo"]:
+    if not asks_text(words) and words[:1] != [b"demo"]:
         case.ask(*words)
 
 

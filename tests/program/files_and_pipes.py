@@ -248,6 +248,8 @@ def words_of_other_kinds(cases):
     cases.expect("words that are not text", ["verify", b"\xff\xfe", "a.graph"], 2, usage)
     cases.expect("words of thousands", ["verify"] * 3000, 2, usage)
     cases.expect("the version", ["--version"], 0, b"rvcfi 1.0.0\n")
+    cases.expect("a file that is named as help is asked for", ["verify", "a.img", "-h"], 2, usage)
+    cases.expect("such a file behind `--`", ["verify", "--", "a.img", "-h"], 3, b"read fault -h\n")
     cases.expect("a demonstration of no number", ["demo", "-1"], 2, usage)
     cases.expect("a demonstration", ["demo", "1"], 0, DEMONSTRATION)
 

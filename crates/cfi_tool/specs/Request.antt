@@ -1,5 +1,5 @@
 -- What the words of a command line ask for. Which words are taken, and which word is which, is what `clap` says of the command line.
-use Rattle.std.specs.Prelude.{◌≡◌, ℕ, ◌≤◌, if◌then◌else◌, List, [], ◌∷◌, codes, ⊤, Option, Some, None, option_map}
+use Rattle.std.specs.Prelude.{◌≡◌, ◌⊎◌, ℕ, ◌≤◌, if◌then◌else◌, List, [], ◌∷◌, codes, ⊤, Option, Some, None, option_map}
 use Rattle.std.specs.Str.{bytes_eq}
 use Rattle.text_lines.specs.Decimal.{MAX_STEP}
 use Rattle.cfi_words.specs.Reading as reads
@@ -57,6 +57,13 @@ abbrev pub TakenPlainly : List (List ℕ) → Type 0
 TakenPlainly words =
     (program name : List ℕ) (own : List (List ℕ)) → IsPlainRequest name own → words ≡ program ∷ name ∷ own
     → taken words ≡ if_request (request_of (name ∷ own))
+
+-- a program's name, `verify` and two names, which may stand behind `--`
+abbrev pub Verifies : List (List ℕ) → VerifyWords → Type 0
+Verifies words given = (program : List ℕ) × (
+    (words ≡ program ∷ codes "verify" ∷ given.image ∷ given.graph ∷ [])
+    ⊎ (words ≡ program ∷ codes "verify" ∷ codes "--" ∷ given.image ∷ given.graph ∷ [])
+    )
 
 -- the files that are read, in their order
 abbrev pub names_of : Request → List (Option (List ℕ))

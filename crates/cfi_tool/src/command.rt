@@ -14,7 +14,7 @@ ghost use Rattle.cfi_tool.specs.Explains.{Explains, IsPart, IsReadFault, IsTooLo
 ghost use Rattle.cfi_tool.specs.Finishing.{IsShort, IsStopped};
 ghost use Rattle.cfi_words.specs.Reading.{spelled};
 ghost use Rattle.cfi_tool.specs.Outcomes.{outcome_outputs, outcome_status, outcome_text};
-ghost use Rattle.cfi_tool.specs.Request.{Request, TakenPlainly, WritesNone, asks, compare, demo, rewrite, run, taken, untaken, verify};
+ghost use Rattle.cfi_tool.specs.Request.{Request, TakenPlainly, Verifies, WritesNone, asks, compare, demo, rewrite, run, taken, untaken, verify};
 ghost use Rattle.cfi_files.specs.Writes.{AreApart, KeepsReads, Wrote};
 ghost use Rattle.cfi_tool.specs.declared.outcome.Outcome.{Outcome};
 
@@ -130,6 +130,10 @@ pub fn rvcfi<F: Files, K: Sink>(alloc: Global, words: &[String], files: &mut F, 
 
     // 0 of `verify`: the files spell an image and a graph that are safe.
     ensures accepted { result ≡ 0 → (given : VerifyWords) → taken (spelled words.now) ≡ asks (verify given)
+        → (text : List ℕ) × IsAccepted (F.content files.old) given text × Appends (K.written out.old) (K.written out.new) text }
+
+    // 0 where two names stand after `verify`, or after `verify --`: so it is of the files of these names, and nothing else was asked for.
+    ensures verified { result ≡ 0 → (given : VerifyWords) → Verifies (spelled words.now) given
         → (text : List ℕ) × IsAccepted (F.content files.old) given text × Appends (K.written out.old) (K.written out.new) text }
 
     // 0 and from 10 on of `run`: the files spell such a pair, and the text is the report of its run.

@@ -9,7 +9,7 @@ use Rattle.clap.specs.Kinds.{IsAmong}
 use Rattle.clap.specs.declared.error.kind.ErrorKind.TheVariants.{DisplayHelp, DisplayVersion, OutOfMemory}
 use Rattle.clap.proofs.OnLiterals.{clap_on_literals}
 use Rattle.cfi_words.specs.CommandLine.{command_line}
-use Rattle.cfi_words.specs.Reading.{EndsBy, Gives, asked_or_refused, asks, reading, reading_by, refused, request_in, request_of, told}
+use Rattle.cfi_words.specs.Reading.{EndsBy, Gives, asked_or_refused, asks, clap_reading, if_alone, reading, reading_by, refused, request_in, request_of, told}
 use Rattle.cfi_words.specs.declared.asked.Asked.{Asked}
 use Rattle.cfi_words.specs.declared.end.WordsEnd.{WordsEnd}
 use Rattle.cfi_words.specs.declared.end.WordsEnd.TheVariants.{Help, Version, Refused, NoMemory}
@@ -30,9 +30,10 @@ not_version : DisplayVersion ≡ OutOfMemory → ⊥
 not_version e = absurd (cc)
 
 -- what was asked, or that the words are not taken
-gives_asked : (asked : Option Asked) (result : Result Asked WordsEnd) → result ≡ ok_or asked Refused → Gives (asked_or_refused (option_map request_of asked)) result
-gives_asked (Some asked) result is = subst (Gives (asks (request_of asked))) (sym is) refl
-gives_asked None result is = subst (Gives refused) (sym is) refl
+gives_asked : (words : List Text) (asked : Option Asked) (result : Result Asked WordsEnd) → result ≡ ok_or asked Refused
+    → Gives (if_alone words (asked_or_refused (option_map request_of asked))) result
+gives_asked words (Some asked) result is = subst (Gives (asks (request_of asked))) (sym is) refl
+gives_asked words None result is = subst (Gives refused) (sym is) refl
 
 module _ (app : App) (words : List Text) (same : app ≡ command_line) where
   pub read_as_asked : (matches : ArgMatches) (asked : Option Asked) → (is_simple_and_free app ≡ true → fault_of app words ≡ [])
@@ -41,15 +42,15 @@ module _ (app : App) (words : List Text) (same : app ≡ command_line) where
   read_as_asked matches asked free has is result ends =
       let faultless : fault_of command_line words ≡ [] = ap (λ a. fault_of a words) (sym same) ∙ free (ap is_simple_and_free same ∙ simple_and_free) in
       let entered : subcommand_rows_of matches ≡ subcommand_of command_line words = (has (ap is_simple same ∙ simple)).1 ∙ ap (λ a. subcommand_of a words) same in
-      let reads : reading words ≡ asked_or_refused (option_map request_of asked) = ap₂ reading_by faultless (ap (option_and_then request_in) (sym entered) ∙ sym is) in
-      subst (λ r. Gives r result) (sym reads) (gives_asked asked result ends)
+      let reads : clap_reading words ≡ asked_or_refused (option_map request_of asked) = ap₂ reading_by faultless (ap (option_and_then request_in) (sym entered) ∙ sym is) in
+      subst (λ r. Gives (if_alone words r) result) (sym reads) (gives_asked words asked result ends)
 
-  told_same : (error : Error) → HasKind (fault_of app words) error → (kind_of error ≡ OutOfMemory → ⊥) → reading words ≡ told (kind_of error)
+  told_same : (error : Error) → HasKind (fault_of app words) error → (kind_of error ≡ OutOfMemory → ⊥) → clap_reading words ≡ told (kind_of error)
   told_same error (inl memory) other = absurd (other memory)
   told_same error (inr among) other = (of_command_line words).same (kind_of error) _ (subst (λ a. IsAmong (kind_of error) (fault_of a words)) same among)
 
   pub read_as_told : (error : Error) (end : WordsEnd) → (is_simple_and_free app ≡ true → HasKind (fault_of app words) error)
-      → EndsBy (kind_of error) end → Gives (reading words) (Err end)
+      → EndsBy (kind_of error) end → Gives (clap_reading words) (Err end)
   read_as_told error NoMemory free ends = tt
   read_as_told error (Help text) free ends =
       told_same error (free (ap is_simple_and_free same ∙ simple_and_free)) (λ memory. not_help (sym ends ∙ memory)) ∙ ap told ends

@@ -6,6 +6,7 @@ use Rattle.std.specs.List.{list_all}
 use Rattle.std.specs.Option.{option_map_or}
 use Rattle.std.specs.Str.{bytes_eq, chars}
 use Rattle.std.proofs.lemmas.Bool.{and_parts, cases_Bool}
+use Rattle.std.proofs.lemmas.Bool.Decides.{not_from_Decides}
 use Rattle.std.proofs.lemmas.Slice.Eq.{bytes_eq-Decides}
 use Rattle.cfi_words.specs.Plain.{Operands, is_plain, none_left, one_more, mark_left}
 use Rattle.clap.specs.Faults.{bundle_fault, check_fault, defaults_fault, flags_fault, action_fault, long_fault, option_fault, react_fault, settle_fault, short_fault, step_fault, turn_fault, walk_fault}
@@ -212,6 +213,7 @@ IsMark s h p word = (bytes_eq word (45 ∷ 45 ∷ []) ≡ true) × (walked s.rul
 abbrev pub IsValue : Shape → Held → ℕ → Text → Type 0
 IsValue s h p word = (turn_fault s [] (stand false h p) word ≡ step_fault s p h value)
     × (walked s.rules [] (stand false h p) word ≡ stand false (next_held s h p word) (next_place s p))
+    × (bytes_eq word (45 ∷ 45 ∷ []) ≡ false)
 
 abbrev pub held : List Row → Option (Text × List Text) → Held
 held rows pending = record { rows = rows; pending = pending; skip = 0 }
@@ -236,10 +238,12 @@ module _ (s : Shape) (flat : list_all is_flat s.rules ≡ true) (only : list_all
   empty_bundle rows pending p word [] mark long short none = (
     rw (mark, long, short) refl,
     rw (mark, long, short) (value_step s flat false (held rows pending) p word),
+    mark,
   )
   empty_bundle rows pending p word (y ∷ ys) mark long short none = (
     rw (mark, long, short, none) refl,
     rw (mark, long, short, none) (value_step s flat false (held rows pending) p word),
+    mark,
   )
 
   bundle_met_value : (rows : List Row) (pending : Option (Text × List Text)) (p : ℕ) (word flags : Text) (first : Option ℕ)
@@ -258,7 +262,7 @@ module _ (s : Shape) (flat : list_all is_flat s.rules ≡ true) (only : list_all
       → turn_fault s [] (stand false (held rows pending) p) word ≡ [] → IsValue s (held rows pending) p word
   no_mark rows pending p word mark none = elim (cases_option (long_of word)) [
     | inl long ↦ elim (cases_option (short_of word)) [
-      | inl short ↦ (value_turn s flat (held rows pending) p word mark long short, value_walked s flat (held rows pending) p word mark long short)
+      | inl short ↦ (value_turn s flat (held rows pending) p word mark long short, value_walked s flat (held rows pending) p word mark long short, mark)
       | inr (flags, short) ↦ bundle_met_value rows pending p word flags (slice_get (chars flags) 0) refl mark long short none
     ]
     | inr (q, long) ↦ absurd (long_faults s.rules s.args_override_self (arg_by_long s.rules q.0) q.1 (held rows pending)
@@ -307,7 +311,7 @@ module _ (s : Shape) (flat : list_all is_flat s.rules ≡ true) (only : list_all
       → IsRead s (next_held s h p word) (next_place s p) rest → IsRead s h p (word ∷ rest)
   taken word rest h p here none later = record {
     values = word ∷ later.values;
-    operands = one_more word rest later.values later.operands;
+    operands = one_more word rest later.values (not_from_Decides (bytes_eq word (45 ∷ 45 ∷ [])) (bytes_eq-Decides word (45 ∷ 45 ∷ [])) here.2) later.operands;
     faultless = unrolled s (stand true h p) word later.values
         ∙ ap₂ or_else none (ap (λ w. fault_from s w later.values) (past_walked s flat h p word) ∙ later.faultless);
     held_is = ap (λ w. held_after s w rest) here.1 ∙ later.held_is ∙ sym (ap (λ w. held_after s w later.values) (past_walked s flat h p word));

@@ -3,4 +3,4 @@ mod Answered
 mod Commands
 mod Leaf
 mod Numbers
-mod Top
+pub mod Top

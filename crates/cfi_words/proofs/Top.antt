@@ -1,6 +1,6 @@
 -- The words of a command line: the program's name, a command's, and the command's own words.
 use Rattle.std.proofs.Common.{◌≡◌, ◌∙◌, ◌||◌, ◌++◌, ℕ, Bool, cond, true, false, List, [], ◌∷◌, length, drop, Option, Some, None, inl, inr, ap, ap₂, sym, subst, refl, append-nil, append_assoc}
-use Rattle.std.specs.Prelude.{codes, find, fold, is_some, option_and_then, option_map}
+use Rattle.std.specs.Prelude.{codes, find, fold, if◌then◌else◌, is_some, option_and_then, option_map}
 use Rattle.std.specs.List.{list_all}
 use Rattle.std.specs.Str.{bytes_eq}
 use Rattle.std.proofs.lemmas.Bool.{cases_Bool}
@@ -12,8 +12,11 @@ use Rattle.clap.specs.Walk.{Names, Row, Text, Walk, answers_to, finished, idle, 
 use Rattle.clap.proofs.FaultLemmas.{stopped_fault}
 use Rattle.clap.proofs.OnLiterals.{clap_on_literals}
 use Rattle.cfi_words.specs.CommandLine.{command_line, compare, demo, rewrite, run, verify}
-use Rattle.cfi_words.specs.Plain.{AsksFor, AsksIfFaultless, IsAmong, IsPlainRequest, Operands, TakesPlain, commands, is_plain}
-use Rattle.cfi_words.specs.Reading.{asks, reading, reading_by, request_in}
+use Rattle.cfi_words.specs.Plain.{AsksAsRead, AsksFor, AsksIfFaultless, IsAmong, IsPlainRequest, Operands, TakesPlain, commands, is_plain}
+use Rattle.clap.specs.declared.error.kind.ErrorKind.{ErrorKind}
+use Rattle.clap.specs.declared.error.kind.ErrorKind.TheVariants.{DisplayHelp, DisplayVersion}
+use Rattle.cfi_words.specs.HelpWords.{asks_help, asks_version}
+use Rattle.cfi_words.specs.Reading.{Reading, asks, help, if_alone, reading, reading_by, refused, request_in, told, version}
 use Rattle.cfi_words.proofs.Leaf.{cases_option, fault_from, held_after, is_flat, is_word_or_request, kind_of_word, or_else_none, plain_faults, words_read, stand}
 use Rattle.cfi_words.proofs.Numbers.{asked_of, compare_asks, compare_right, demo_asks, demo_right, leaf, rewrite_asks, rewrite_right, run_asks, run_right, some_wrong, verify_asks, verify_right, wrong}
 
@@ -108,7 +111,7 @@ module _ (command : App) (name : Text) (count : ℕ) (known : IsKnown command na
       ∙ ap (λ h. request_in ((leaf command).name, finished (leaf command).rules h)) same.1 ∙ known.asks words (known.right words size)
 
   plain_known : reading (program ∷ name ∷ words) ≡ asks (name ∷ words)
-  plain_known = ap₂ reading_by faultless asked_is
+  plain_known = ap (if_alone (program ∷ name ∷ words)) (ap₂ reading_by faultless asked_is)
 
 -- a command's name and exactly its words, each of them plain, are taken
 pub plain_taken : (program name : Text) (words : List Text) → IsPlainRequest name words → reading (program ∷ name ∷ words) ≡ asks (name ∷ words)
@@ -243,7 +246,7 @@ by_stop (program ∷ args) (Some (name, rest)) none quiet is faults has =
       values = entered_as.0;
       words_are = ap (λ ws. program ∷ ws) (args_are args (name, rest) quiet is);
       operands = entered_as.1;
-      reading_is = ap₂ reading_by none (ap (λ s. option_and_then request_in (entered app s)) is ∙ entered_as.2);
+      reading_is = ap (if_alone (program ∷ args)) (ap₂ reading_by none (ap (λ s. option_and_then request_in (entered app s)) is ∙ entered_as.2));
     }
 
 pub asks_if_faultless : (words : List Text) → AsksIfFaultless words
@@ -254,6 +257,30 @@ asks_if_faultless words none =
     let three = or_else_none (settle_fault app.top.rules app.top.args_override_self w.held) _ two.1 in
     let four = or_else_none (defaults_fault (settled app.top.rules w.held).rows app.top.rules) _ three.1 in
     by_stop words w.stopped none one.0 refl two.0 (needs_command (finished app.top.rules w.held) (is_some (entered app w.stopped)) four.1)
+
+-- what is told for an error asks for nothing
+text_asks_none : (test : Bool) (text : Reading) (request : List Text) → (text ≡ asks request → ⊥) → (if test then text else refused) ≡ asks request → ⊥
+text_asks_none true text request none e = none e
+text_asks_none false text request none e = absurd (cc)
+
+help_asks_none : (request : List Text) → help ≡ asks request → ⊥
+help_asks_none request e = absurd (cc)
+
+version_asks_none : (request : List Text) → version ≡ asks request → ⊥
+version_asks_none request e = absurd (cc)
+
+told_asks_none : (words : List Text) (kind : ErrorKind) (request : List Text) → if_alone words (told kind) ≡ asks request → ⊥
+told_asks_none words DisplayHelp request e = text_asks_none (asks_help words) help request (help_asks_none request) e
+told_asks_none words DisplayVersion request e = text_asks_none (asks_version words) version request (version_asks_none request) e
+told_asks_none words other request e = absurd (cc)
+
+no_kinds : (words : List Text) (kinds : Kinds) (asked : Option (List Text)) (request : List Text) → if_alone words (reading_by kinds asked) ≡ asks request → kinds ≡ []
+no_kinds words [] asked request e = refl
+no_kinds words (kind ∷ kinds) asked request e = absurd (told_asks_none words kind request e)
+
+pub asks_as_read : (words : List Text) → AsksAsRead words
+asks_as_read words = λ request e.
+    asks_if_faultless words (no_kinds words (fault_of command_line words) (option_and_then request_in (subcommand_of command_line words)) request e)
 
 pub takes_plain : (words : List Text) → TakesPlain words
 takes_plain words program name own request is = subst (λ ws. reading ws ≡ asks (name ∷ own)) (sym is) (plain_taken program name own request)

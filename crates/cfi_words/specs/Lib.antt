@@ -1,3 +1,4 @@
 pub mod CommandLine
+pub mod HelpWords
 pub mod Plain
 pub mod Reading

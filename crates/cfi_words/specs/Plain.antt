@@ -1,5 +1,5 @@
 -- Words that are taken whatever they are, and the words of a command as they stand among those that follow its name.
-use Rattle.std.specs.Prelude.{◌≡◌, ◌⊎◌, ◌==◌, Bool, true, false, not, List, [], ◌∷◌, length, codes}
+use Rattle.std.specs.Prelude.{◌≡◌, ◌≢◌, ◌⊎◌, ◌==◌, Bool, true, false, not, List, [], ◌∷◌, length, codes}
 use Rattle.std.specs.List.{list_all}
 use Rattle.clap.specs.Words.{Text, fault_of}
 use Rattle.cfi_words.specs.Reading.{asks, reading}
@@ -25,10 +25,10 @@ pub record IsPlainRequest (name : Text) (words : List Text) : Type 0 where
   pub known : IsAmong commands name words
   pub plain : list_all is_plain words ≡ true
 
--- the values are the words, in their order, but for one `--` that may stand before, between or after them
+-- the values are the words, in their order, but for the first `--`, which may stand before, between or after them
 pub data Operands : List Text → List Text → Type 0 where
   none_left : Operands [] []
-  one_more : (value : Text) (words values : List Text) → Operands words values → Operands (value ∷ words) (value ∷ values)
+  one_more : (value : Text) (words values : List Text) → value ≢ codes "--" → Operands words values → Operands (value ∷ words) (value ∷ values)
   mark_left : (words : List Text) → Operands (codes "--" ∷ words) words
 
 -- the words ask for a command: they are the program's name, the command's and its words, but for one `--`
@@ -44,6 +44,10 @@ pub record AsksFor (words : List Text) : Type 0 where
 -- words in which `clap` finds no fault ask for a command
 abbrev pub AsksIfFaultless : List Text → Type 0
 AsksIfFaultless words = fault_of command_line words ≡ [] → AsksFor words
+
+-- so do words that are read as asking for one
+abbrev pub AsksAsRead : List Text → Type 0
+AsksAsRead words = (request : List Text) → reading words ≡ asks request → AsksFor words
 
 -- a command's name and exactly its words, each of them plain, are taken
 abbrev pub TakesPlain : List Text → Type 0

@@ -1,5 +1,5 @@
 -- What the words of a command line are read as. Whether they are taken, and what the words of a command are, is what `clap`'s own
--- definition says of the command line at these words.
+-- definition says of the command line at these words; but help and the version are told only where nothing else is asked for.
 use Rattle.std.specs.Prelude.{◌≡◌, ◌≢◌, ⊤, List, [], ◌∷◌, map, codes, Option, Some, None, option_map, option_and_then, Result, Ok, Err, if◌then◌else◌, String, string_bytes}
 use Rattle.std.specs.Str.{bytes_eq}
 use Rattle.std.specs.declared.alloc.Global.{Global}
@@ -7,6 +7,7 @@ use Rattle.clap.specs.Words.{Kinds, Row, Text, fault_of, first_of, subcommand_of
 use Rattle.clap.specs.declared.error.kind.ErrorKind.{ErrorKind}
 use Rattle.clap.specs.declared.error.kind.ErrorKind.TheVariants.{DisplayHelp, DisplayVersion, OutOfMemory}
 use Rattle.cfi_words.specs.CommandLine.{command_line, compare_operands, demo_operands, rewrite_operands, run_operands, verify_operands}
+use Rattle.cfi_words.specs.HelpWords.{asks_help, asks_version}
 use Rattle.cfi_words.specs.declared.asked.Asked.{Asked}
 use Rattle.cfi_words.specs.declared.asked.Asked.TheVariants.{Rewrite, Verify, Run, Compare, Demo}
 use Rattle.cfi_words.specs.declared.asked.RewriteWords.{RewriteWords}
@@ -64,8 +65,19 @@ abbrev pub reading_by : Kinds → Option (List Text) → Reading
 reading_by [] asked = asked_or_refused asked
 reading_by (kind ∷ kinds) asked = told kind
 
+-- what `clap` reads the words as
+abbrev pub clap_reading : List Text → Reading
+clap_reading words = reading_by (fault_of command_line words) (option_and_then request_in (subcommand_of command_line words))
+
+-- the same, where words that ask for help or for the version beside anything else are not taken
+abbrev pub if_alone : List Text → Reading → Reading
+if_alone words help = if asks_help words then help else refused
+if_alone words version = if asks_version words then version else refused
+if_alone words (asks request) = asks request
+if_alone words refused = refused
+
 abbrev pub reading : List Text → Reading
-reading words = reading_by (fault_of command_line words) (option_and_then request_in (subcommand_of command_line words))
+reading words = if_alone words (clap_reading words)
 
 -- the words of each command, in their order
 abbrev pub rewrite_listed : RewriteWords → List Text

@@ -9,4 +9,5 @@ pub use read::read_words;
 mod asked;
 mod command;
 mod end;
+mod help;
 mod read;

@@ -2,13 +2,14 @@
 
 ghost use Rattle.std.specs.Prelude.{◌≡◌, [], ◌∷◌, codes, option_and_then, option_map};
 ghost use Rattle.clap.specs.Words.{first_of, found_of, kind_of, rows_of, subcommand_rows_of};
-ghost use Rattle.cfi_words.specs.Plain.{AsksIfFaultless, TakesPlain};
+ghost use Rattle.cfi_words.specs.Plain.{AsksAsRead, AsksIfFaultless, TakesPlain};
 ghost use Rattle.cfi_words.specs.CommandLine.{compare_operands, demo_operands, rewrite_operands, run_operands, verify_operands};
 ghost use Rattle.cfi_words.specs.Reading.{EndsBy, Gives, listed_in, reading, request, request_in, request_of, spelled};
 
 use crate::asked::{Asked, CompareWords, DemoWords, RewriteWords, RunWords, VerifyWords};
 use crate::command::command_line;
 use crate::end::WordsEnd;
+use crate::help::if_alone;
 use clap::error::ErrorKind;
 use clap::{ArgMatches, Error};
 use std::alloc::Global;
@@ -139,11 +140,12 @@ fn end_of(alloc: Global, error: &Error) -> WordsEnd
 pub fn read_words<'a>(alloc: Global, words: &'a [String]) -> Result<Asked<'a>, WordsEnd>
     ensures reading { Gives (reading (spelled words.now)) result }
     ensures faultless { AsksIfFaultless (spelled words.now) }
+    ensures asked { AsksAsRead (spelled words.now) }
     ensures plain { TakesPlain (spelled words.now) }
 {
     let command = command_line(alloc)?;
     match command.try_get_matches_from(words) {
         Ok(matches) => asked(&matches).ok_or(WordsEnd::Refused),
-        Err(error) => Err(end_of(alloc, &error)),
+        Err(error) => Err(if_alone(words, end_of(alloc, &error))),
     }
 }

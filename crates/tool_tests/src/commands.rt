@@ -23,6 +23,12 @@ const COMMANDS: &[u8] = b"\
     rvcfi = 2: usage: rvcfi rewrite|verify|run|compare|demo\n;\
     rvcfi,verify,-image,graph = 2: usage: rvcfi rewrite|verify|run|compare|demo\n;\
     rvcfi,verify,--,-image,graph = 3: read fault -image\n;\
+    rvcfi,verify,--,-h,graph = 3: read fault -h\n;\
+    rvcfi,verify,--,image,graph = 0: accepted\n;\
+    rvcfi,verify,image,-h = 2: usage: rvcfi rewrite|verify|run|compare|demo\n;\
+    rvcfi,verify,--help,graph = 2: usage: rvcfi rewrite|verify|run|compare|demo\n;\
+    rvcfi,verify,-V,--version = 2: usage: rvcfi rewrite|verify|run|compare|demo\n;\
+    rvcfi,--help,verify,image,graph = 2: usage: rvcfi rewrite|verify|run|compare|demo\n;\
     rvcfi,--version = 0: rvcfi 1.0.0\n;\
     ,verify,image,graph = 0: accepted\n;\
     rvcfi,verify,absent,nothing = 3: read fault absent\n;\
@@ -31,7 +37,7 @@ const COMMANDS: &[u8] = b"\
 
 #[test]
 fn commands(rt: HostRuntime) {
-    check(&rt, rt.alloc(), COMMANDS, 18);
+    check(&rt, rt.alloc(), COMMANDS, 24);
 }
 
 /// Verdicts, and the line of each.

@@ -43,16 +43,32 @@ const ROWS: &[u8] = b"\
     rvcfi,verify,--version = refused;\
     rvcfi,--help = help;\
     rvcfi,-h = help;\
-    rvcfi,--help,verify = help;\
-    rvcfi,-hV = help;\
+    rvcfi,--help,verify = refused;\
+    rvcfi,-h,-h = refused;\
+    rvcfi,-hV = refused;\
     rvcfi,--help=1 = refused;\
     rvcfi,verify,--help = help;\
-    rvcfi,verify,i,-h = help;\
-    rvcfi,verify,i,g,--help = help;\
+    rvcfi,rewrite,-h = help;\
+    rvcfi,run,--help = help;\
+    rvcfi,compare,-h = help;\
+    ,demo,--help = help;\
+    rvcfi,verif,-h = refused;\
+    rvcfi,verify,-V = refused;\
+    rvcfi,verify,-hh = refused;\
+    rvcfi,verify,i,-h = refused;\
+    rvcfi,verify,-h,g = refused;\
+    rvcfi,verify,-h,-h = refused;\
+    rvcfi,verify,-h,-- = refused;\
+    rvcfi,verify,--,-h = refused;\
+    rvcfi,verify,--,-h,-V = verify,-h,-V;\
+    rvcfi,--,-h = refused;\
+    rvcfi,verify,i,g,--help = refused;\
     rvcfi,verify,i,g,x,--help = refused;\
     rvcfi,--version = version;\
     rvcfi,-V = version;\
-    rvcfi,-Vh,x = version";
+    rvcfi,-V,x = refused;\
+    rvcfi,-V,verify,i,g = refused;\
+    rvcfi,-Vh = refused";
 
 /// The words of a command line.
 fn words(alloc: Global, line: &str) -> Option<Vec<String>> {
@@ -110,7 +126,7 @@ fn is_read(alloc: Global, row: &str) -> bool {
 #[test]
 fn lines(rt: HostRuntime) {
     let rows = str::from_utf8(ROWS).unwrap_or("");
-    assert!(rt; rows.split(';').count() == 47);
+    assert!(rt; rows.split(';').count() == 63);
     for row in rows.split(';') {
         assert!(rt; is_read(rt.alloc(), row), "{row}");
     }

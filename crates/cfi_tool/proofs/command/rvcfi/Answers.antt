@@ -8,6 +8,7 @@ use Rattle.cfi_tool.specs.Request.{compare, demo, rewrite, run}
 use Rattle.cfi_tool.specs.Complete.{IsComplete}
 use Rattle.cfi_tool.proofs.Complete.{complete_is}
 use Rattle.cfi_tool.proofs.Headline.{IsDone, demo_ends, explained_request, ran_is, rewritten_is, shown_is, told_is}
+use Rattle.cfi_tool.proofs.Verified.{verified_is}
 use Rattle.cfi_tool.proofs.Since.{only_read_since, short_since, status_unwritten, stopped_since, wrote_since}
 use Rattle.cfi_tool.proofs.command.rvcfi.Goals as goal
 
@@ -108,3 +109,11 @@ pub returns-in-Ok-end-clause-refused_writes_none : goal.returns-in-Ok-end-clause
 returns-in-Ok-end-clause-refused_writes_none g c = λ small.
     only_read_since g.F.Files c.args.files.now c.command.new.files c.finish-end.new.files c.in-Ok.ensures.only_read
     (c.finish-end.ensures.unwritten (status_unwritten c.in-Ok.outcome (subst IsSmall c.in-Ok-end.ensures.status small)))
+
+pub returns-in-Ok-end-clause-verified : goal.returns-in-Ok-end-clause-verified
+returns-in-Ok-end-clause-verified g c = λ zero given verifies. (
+  outcome_text c.in-Ok.outcome,
+  verified_is (g.F.Files.content c.args.files.now) (g.F.Files.failed_name c.command.new.files) (spelled c.args.words.now) given verifies
+      c.in-Ok.outcome c.in-Ok.ensures.explained (subst (λ (n : ℕ). n ≡ 0) c.in-Ok-end.ensures.status zero),
+  c.in-Ok-end.ensures.whole,
+)

@@ -1,5 +1,5 @@
 use Rattle.cfi_words.specs.Reading.{spelled}
-use Rattle.cfi_tool.proofs.Taken.{not_kept, taken_plainly}
+use Rattle.cfi_tool.proofs.Taken.{kept, not_kept, taken_plainly}
 use Rattle.cfi_tool.proofs.request.requested.Goals as goal
 
 pub returns-in_err-asked-clause-plain : goal.returns-in_err-asked-clause-plain
@@ -13,3 +13,7 @@ returns-in-None-clause-plain c = taken_plainly (spelled c.args.words.now) c.read
 
 pub returns-in-None-clause-taken : goal.returns-in-None-clause-taken
 returns-in-None-clause-taken c = not_kept (spelled c.args.words.now) c.in_ok-asked.asked c.in_ok-asked.ensures.reading c.in-None.ensures.asked
+
+pub returns-in-Some-clause-taken : goal.returns-in-Some-clause-taken
+returns-in-Some-clause-taken c =
+    kept (spelled c.args.words.now) c.in_ok-asked.asked c.in-Some.request c.in_ok-asked.ensures.reading c.in-Some.ensures.asked c.in-Some.ensures.right
