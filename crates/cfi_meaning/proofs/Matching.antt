@@ -4,11 +4,11 @@ use Rattle.std.specs.List.{AllByRecursion}
 use Rattle.std.proofs.lemmas.Bool.{cases_lt}
 use Rattle.std.proofs.lemmas.List.{get_or_past}
 use Rattle.rv_word.specs.Image.{Contents}
-use Rattle.rv_word.specs.Layout.{Profile, SHADOW_START}
+use Rattle.rv_word.specs.MemoryMap.{Profile, SHADOW_START}
 use Rattle.rv_word.specs.Memory.{loaded}
 use Rattle.rv_code.specs.State.{After}
 use Rattle.obj_program.specs.Program.{count}
-use Rattle.cfi_flow.specs.GraphAtMap.{Layout, gate}
+use Rattle.cfi_flow.specs.GraphAtMap.{ProgramAtMap, gate}
 use Rattle.cfi_flow.specs.Source.{Source}
 use Rattle.cfi_unit.specs.Shadow.{MOST_PENDING}
 use Rattle.cfi_runs.specs.MatchLaws.{ComesTo}
@@ -19,7 +19,7 @@ use Rattle.cfi_harden.proofs.Gates.{gates_counted}
 use Rattle.cfi_harden.proofs.Standing.{gate_lies}
 use Rattle.cfi_meaning.specs.Matches.{Matches, MatchesIsOwn, own_of, sites_at, sites_now, sites_of}
 
-module _ (layout : Layout) (image : Contents) (st : Source) (after : After) where
+module _ (layout : ProgramAtMap) (image : Contents) (st : Source) (after : After) where
   -- a run of the program's own comes to this state
   abbrev pub OwnComes : Type 0
   OwnComes = ComesTo SHADOW_START (loaded image) (loaded image) (own_of layout st) after

@@ -1,7 +1,7 @@
 -- From any state that matches the next step is kept.
 use Rattle.std.proofs.Common.{◌≡◌, ℕ, suc, ◌+◌, ◌-◌, ◌≤◌, inl, List, [], ◌∷◌, None, refl, sym, ap, subst, ◌∙◌, arith}
 use Rattle.rv_word.specs.Image.{Contents}
-use Rattle.rv_word.specs.Layout.{Profile, SHADOW_START, version_1}
+use Rattle.rv_word.specs.MemoryMap.{Profile, SHADOW_START, version_1}
 use Rattle.rv_word.specs.Memory.{Memory, loaded}
 use Rattle.rv_code.specs.State.{After, Hart, Shared, last_exit}
 use Rattle.rv_code.specs.Step.{step, stops}

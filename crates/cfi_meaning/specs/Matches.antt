@@ -3,36 +3,36 @@
 -- no site is pending.
 use Rattle.std.specs.Prelude.{◌≡◌, ◌↔◌, ℕ, ◌+◌, ◌≤◌, ◌<◌, ◌⊎◌, false, Option, Some, None, List, [], ◌∷◌, length}
 use Rattle.rv_word.specs.Image.{Contents}
-use Rattle.rv_word.specs.Layout.{DATA_END, PART_SIZE, SHADOW_START}
+use Rattle.rv_word.specs.MemoryMap.{DATA_END, PART_SIZE, SHADOW_START}
 use Rattle.rv_word.specs.Memory.{loaded}
 use Rattle.rv_instr.specs.Reserved.{is_reserved}
 use Rattle.rv_code.specs.State.{After, last_exit}
 use Rattle.rv_code.specs.declared.turn.Turn.TheVariants.{Ran}
-use Rattle.cfi_flow.specs.GraphAtMap.{Layout, gate}
+use Rattle.cfi_flow.specs.GraphAtMap.{ProgramAtMap, gate}
 use Rattle.cfi_flow.specs.Source.{Source}
 use Rattle.cfi_unit.specs.Shadow.{Holds, MOST_PENDING, slot}
 use Rattle.cfi_runs.specs.MatchLaws.{ComesTo}
 use Rattle.cfi_runs.specs.Own.{Own}
 
 -- the address of a place that is next: its gate, or the closing
-abbrev pub address_of : Layout → Option ℕ → ℕ
+abbrev pub address_of : ProgramAtMap → Option ℕ → ℕ
 address_of layout None = layout.profile.closing
 address_of layout (Some k) = gate layout k
 
 -- the sites that are pending, the newest first: the gates of the places, and the closing beneath
-abbrev pub sites_of : Layout → List ℕ → List ℕ
+abbrev pub sites_of : ProgramAtMap → List ℕ → List ℕ
 sites_of layout [] = layout.profile.closing ∷ []
 sites_of layout (k ∷ pending) = gate layout k ∷ sites_of layout pending
 
 -- at the closing none is
-abbrev pub sites_at : Layout → Option ℕ → List ℕ → List ℕ
+abbrev pub sites_at : ProgramAtMap → Option ℕ → List ℕ → List ℕ
 sites_at layout None pending = []
 sites_at layout (Some k) pending = sites_of layout pending
 
-abbrev pub sites_now : Layout → Source → List ℕ
+abbrev pub sites_now : ProgramAtMap → Source → List ℕ
 sites_now layout st = sites_at layout st.place st.pending
 
-pub record Matches (layout : Layout) (image : Contents) (st : Source) (after : After) : Type 0 where
+pub record Matches (layout : ProgramAtMap) (image : Contents) (st : Source) (after : After) : Type 0 where
   -- the run goes on: neither the last step nor a system call before has ended it
   pub turn : after.turn ≡ Ran
   pub going : last_exit after.shared.events ≡ None
@@ -51,7 +51,7 @@ pub record Matches (layout : Layout) (image : Contents) (st : Source) (after : A
   pub code : (a : ℕ) → DATA_END ≤ a → (a < SHADOW_START) ⊎ (SHADOW_START + PART_SIZE ≤ a) → after.shared.memory a ≡ loaded image a
 
 -- the source machine's state by addresses
-abbrev pub own_of : Layout → Source → Own
+abbrev pub own_of : ProgramAtMap → Source → Own
 own_of layout st = record {
   pc = address_of layout st.place;
   regs = st.regs;
@@ -62,6 +62,6 @@ own_of layout st = record {
 -- so the state is one to which a run of the program's own, by addresses, comes with room for its sites
 abbrev pub MatchesIsOwn : Type 0
 MatchesIsOwn =
-    (layout : Layout) (image : Contents) (st : Source) (after : After) →
+    (layout : ProgramAtMap) (image : Contents) (st : Source) (after : After) →
     Matches layout image st after
     ↔ ((length (sites_now layout st) ≤ MOST_PENDING) × ComesTo SHADOW_START (loaded image) (loaded image) (own_of layout st) after)

@@ -3,11 +3,11 @@
 -- in all.
 use Rattle.std.specs.Prelude.{◌≡◌, ℕ, ◌+◌, ◌≤◌, Some, List}
 use Rattle.rv_word.specs.Image.{Contents}
-use Rattle.rv_word.specs.Layout.{UNITS_START, version_1}
+use Rattle.rv_word.specs.MemoryMap.{UNITS_START, version_1}
 use Rattle.rv_code.specs.State.{After}
 use Rattle.rv_code.specs.Step.{step}
 use Rattle.rv_code.specs.declared.turn.Turn.TheVariants.{Exit, Break}
-use Rattle.cfi_flow.specs.GraphAtMap.{Layout, word}
+use Rattle.cfi_flow.specs.GraphAtMap.{ProgramAtMap, word}
 use Rattle.cfi_runs.specs.Matching.{SameData}
 use Rattle.cfi_runs.specs.WholeRun.{RunsTo}
 use Rattle.cfi_runs.specs.Within.{Within}
@@ -20,26 +20,26 @@ use Rattle.cfi_meaning.specs.Matches.{Matches}
 
 -- the image has ended as the source machine's step did: with its status, or at a break in no handler. Of a step that goes on or is
 -- untame this says nothing
-abbrev pub EndsAs : Layout → StepTurn → Source → After → Type 0
+abbrev pub EndsAs : ProgramAtMap → StepTurn → Source → After → Type 0
 EndsAs layout (exits status) st after = (after.turn ≡ Exit status) × SameData st.shared after.shared
 EndsAs layout (breaks k) st after =
     (after.turn ≡ Break (word layout k)) × (UNITS_START ≤ word layout k) × SameData st.shared after.shared
 EndsAs layout other st after = Unit {0}
 
 -- the image goes on at a matching state, or has ended
-abbrev pub Answers : Layout → Contents → StepTurn → Source → After → Type 0
+abbrev pub Answers : ProgramAtMap → Contents → StepTurn → Source → After → Type 0
 Answers layout image ran st after = Matches layout image st after
 Answers layout image other st after = EndsAs layout other st after
 
 -- what matching is for: from any state that matches, whatever led to it, one step and at most 20 more come to a state that matches
 -- after the source machine's next step, or end as that does
-abbrev pub KeepsStep : Layout → Contents → Type 0
+abbrev pub KeepsStep : ProgramAtMap → Contents → Type 0
 KeepsStep layout image =
     (st : Source) (after : After) → Matches layout image st after →
     Within version_1 20 (Answers layout image (source_step layout st).turn (source_step layout st).state)
     (step version_1 after.hart after.shared)
 
-pub record KeepsMeaning (layout : Layout) (image : Contents) (input : List ℕ) : Type 0 where
+pub record KeepsMeaning (layout : ProgramAtMap) (image : Contents) (input : List ℕ) : Type 0 where
   pub goes : (n : ℕ) (st : Source) → after_steps layout n (source_start layout input) ≡ Some st →
       RunsTo version_1 image input (bound n) (Matches layout image st)
   pub ends : (n : ℕ) (st : Source) → after_steps layout n (source_start layout input) ≡ Some st →

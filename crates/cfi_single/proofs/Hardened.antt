@@ -1,17 +1,17 @@
 -- One hardened program is right for a request.
 use Rattle.std.proofs.Common.{◌≡◌, ℕ, List, length, sym, ap, subst, ◌∙◌}
 use Rattle.std.proofs.lemmas.Option.{same_Some}
-use Rattle.rv_word.specs.Layout.{version_1}
+use Rattle.rv_word.specs.MemoryMap.{version_1}
 use Rattle.elf_image.specs.Spelling.{spelling}
 use Rattle.cfi_graph.specs.Graph.{GraphParts}
 use Rattle.cfi_unit.specs.declared.unit.Unit as U
 use Rattle.obj_program.specs.DataAtMap.{data_at}
-use Rattle.cfi_flow.specs.GraphAtMap.{Layout, gate, graph_lines}
+use Rattle.cfi_flow.specs.GraphAtMap.{ProgramAtMap, gate, graph_lines}
 use Rattle.cfi_flow.specs.Labels.{used_labels}
 use Rattle.cfi_verify.specs.Placed.{placed_code}
 use Rattle.cfi_harden.specs.Hardened.{HardenedParts, IsWritten, IsWrittenOf, chosen}
 use Rattle.cfi_harden.specs.Laws.{written_code}
-use Rattle.cfi_harden.specs.Placing.{IsPlaced, Spaced}
+use Rattle.cfi_harden.specs.Placing.{IsPlacement, Spaced}
 use Rattle.cfi_harden.specs.Prepared.{PreparedParts}
 use Rattle.cfi_single.specs.OneWay.{HardenedInOneWay}
 use Rattle.cfi_single.proofs.Placed.{flags_same, gates_unique}
@@ -19,7 +19,7 @@ use Rattle.cfi_single.proofs.Prepared.{prepared_unique}
 use Rattle.cfi_single.proofs.Written.{bytes_same, labels_unique, lines_same, under, units_same}
 
 module _ (p : PreparedParts) (s t : Spaced) (labels others code more init filled : List ℕ) (h g : HardenedParts)
-    (hs : IsPlaced p.program p.closed s) (ht : IsPlaced p.program p.closed t)
+    (hs : IsPlacement p.program p.closed s) (ht : IsPlacement p.program p.closed t)
     (written : IsWritten p s labels code init h) (other : IsWritten p t others more filled g) where
   gates_are : s.gates ≡ t.gates
   gates_are = gates_unique p.program p.closed s t hs ht
@@ -30,7 +30,7 @@ module _ (p : PreparedParts) (s t : Spaced) (labels others code more init filled
       written.labelled.least other.labelled.least
 
   -- the program at these gates
-  abbrev layout : List ℕ → Layout
+  abbrev layout : List ℕ → ProgramAtMap
   layout gates = record { profile = version_1; program = p.program; closed = p.closed; gates = gates; entry = p.entry }
 
   code_written : written_code (chosen p s labels) ≡ written_code (chosen p t others)

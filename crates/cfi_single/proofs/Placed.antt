@@ -8,7 +8,7 @@ use Rattle.cfi_layout.specs.LongSet.{is_branch as is_part}
 use Rattle.cfi_flow.specs.Closed.{ClosedGraph}
 use Rattle.cfi_flow.specs.Placement.{AreGates, gate_size, is_long, size_of, words_from}
 use Rattle.cfi_harden.specs.Accepted.{is_branch}
-use Rattle.cfi_harden.specs.Placing.{IsPlaced, Spaced}
+use Rattle.cfi_harden.specs.Placing.{IsPlacement, Spaced}
 use Rattle.cfi_harden.specs.Shorts.{shorts_of}
 use Rattle.cfi_harden.proofs.ShortList.{parts_are}
 
@@ -57,7 +57,7 @@ gates_same classes long more k at (item ∷ items) (g ∷ gates) (o ∷ others) 
     let head : g ≡ o = a.0 ∙ sym b.0 in
     ap (λ (x : ℕ). x ∷ gates) head ∙ ap (λ (xs : List ℕ). o ∷ xs) rest
 
-module _ (program : Program) (closed : ClosedGraph) (s t : Spaced) (hs : IsPlaced program closed s) (ht : IsPlaced program closed t) where
+module _ (program : Program) (closed : ClosedGraph) (s t : Spaced) (hs : IsPlacement program closed s) (ht : IsPlacement program closed t) where
   -- each long set lies in the other
   pub flags_same : SameBranches s.long t.long 0 program.items
   flags_same i below branch =

@@ -11,7 +11,7 @@ use Rattle.obj_input.specs.declared.item_kind.ItemKind.TheVariants as is
 use Rattle.obj_program.specs.declared.item.Item.{Item}
 use Rattle.cfi_graph.specs.declared.map.MapLine.{MapLine}
 use Rattle.cfi_class.specs.Labels.{AreLabels, IsLeastFree}
-use Rattle.cfi_flow.specs.GraphAtMap.{Layout, gate_to}
+use Rattle.cfi_flow.specs.GraphAtMap.{ProgramAtMap, gate_to}
 use Rattle.cfi_flow.specs.LabelOf.{label_at, site_label}
 use Rattle.cfi_flow.specs.Placement.{is_long}
 use Rattle.cfi_unit.specs.declared.unit.Unit as U
@@ -64,10 +64,10 @@ unit_same is.Icall other a b target label same = refl
 unit_same kind i a b target label same = refl
 
 -- a program at a map with these labels, under these flags
-abbrev pub under : Layout → List ℕ → List Bool → Choice
+abbrev pub under : ProgramAtMap → List ℕ → List Bool → Choice
 under layout labels long = record { layout = layout; long = long; labels = labels }
 
-pub units_same : (layout : Layout) (labels : List ℕ) (long more : List Bool) (k : ℕ) (items : List Item) → SameBranches long more k items
+pub units_same : (layout : ProgramAtMap) (labels : List ℕ) (long more : List Bool) (k : ℕ) (items : List Item) → SameBranches long more k items
     → units_from (under layout labels long) k items ≡ units_from (under layout labels more) k items
 unfolding units_from
 units_same layout labels long more k [] same = refl
