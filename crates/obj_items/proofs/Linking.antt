@@ -5,13 +5,13 @@ use Rattle.std.specs.Prelude.{set, option_and_then, unwrap_or}
 use Rattle.std.proofs.lemmas.Bool.{cases_Bool, cases_eq}
 use Rattle.std.proofs.lemmas.List.{length-set, length-map, get_or-set_same, get_or-set_other, get_or-map, get_or_default, ext_get_or}
 use Rattle.std.proofs.lemmas.List.Folds.{position_or_len-set}
-use Rattle.obj_input.specs.declared.parts.Use.{Use}
+use Rattle.obj_input.specs.declared.parts.Relocation.{Relocation}
 use Rattle.obj_input.specs.declared.parts.Definition.{Definition}
 use Rattle.obj_input.specs.declared.parts.Definition.TheVariants.{Zero, Absolute, Within, Common, Missing}
 use Rattle.obj_input.specs.declared.reloc_kind.RelocKind.{RelocKind}
 use Rattle.obj_input.specs.declared.reloc_kind.RelocKind.TheVariants.{Nothing, Mark, BranchTarget, JalTarget, PairTarget, RelativeHigh, RelativeLowI, RelativeLowS, High, LowI, LowS, InData, Unknown}
 use Rattle.obj_input.specs.Kinds.{kind_of}
-use Rattle.obj_input.specs.Input.{InputParts, busy_at, is_code, section_of}
+use Rattle.obj_input.specs.Input.{InputParts, acting_at, is_code, section_of}
 use Rattle.obj_input.specs.Code.{natural}
 use Rattle.obj_rules.specs.declared.target.Direct.{Direct}
 use Rattle.obj_rules.specs.declared.target.Aim.{Aim}
@@ -55,7 +55,7 @@ module _ (input : InputParts) (p q : List Item) (same : (section offset : ℕ) �
   named_same (Common c) = refl
   named_same (Missing n) = refl
 
-  patch_same : (u : Use) (kind : RelocKind) → patch_by input p u kind ≡ patch_by input q u kind
+  patch_same : (u : Relocation) (kind : RelocKind) → patch_by input p u kind ≡ patch_by input q u kind
   patch_same u High = ap put.High (value_same u.definition u.addend)
   patch_same u LowI = ap put.Low (value_same u.definition u.addend)
   patch_same u LowS = ap put.Low (value_same u.definition u.addend)
@@ -70,7 +70,7 @@ module _ (input : InputParts) (p q : List Item) (same : (section offset : ℕ) �
   patch_same u (InData patch) = refl
   patch_same u Unknown = refl
 
-  patches_same : (uses : List Use) → patch_from input p uses ≡ patch_from input q uses
+  patches_same : (uses : List Relocation) → patch_from input p uses ≡ patch_from input q uses
   patches_same [] = refl
   patches_same (u ∷ uses) = patch_same u (kind_of u.number)
 
@@ -85,7 +85,7 @@ module _ (input : InputParts) (p q : List Item) (same : (section offset : ℕ) �
 
   pub item_same : (x : Item) → item_with input p x ≡ item_with input q x
   item_same x =
-      let patch = patches_same (busy_at (section_of input x.section) x.offset) in
+      let patch = patches_same (acting_at (section_of input x.section) x.offset) in
       let target = target_same x.section (x.offset / 4) (direct_at (section_of input x.section) (x.offset / 4)) in
       elim (cases_Bool (is_end x.kind)) [ inl e ↦ rw e refl | inr e ↦ rw e (rw (patch, target) refl) ]
 

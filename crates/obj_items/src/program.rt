@@ -1,5 +1,5 @@
 ghost use Rattle.std.specs.Prelude.{◌≡◌, None, IfOk, map};
-ghost use Rattle.obj_input.specs.Layout.{layout_of};
+ghost use Rattle.obj_input.specs.DataLayout.{data_layout_of};
 ghost use Rattle.obj_rules.specs.Fault.{fault_of};
 ghost use Rattle.obj_program.specs.Program.{AreInOrder};
 ghost use Rattle.obj_program.specs.Sound.{IsSound};
@@ -19,7 +19,7 @@ use crate::ranges::program_is_sound;
 use crate::relocs::relocs;
 use crate::taken::taken;
 use elf_object::Object;
-use obj_input::{Input, Layout};
+use obj_input::{Input, DataLayout};
 use obj_program::{DataReloc, InitialData, Item, Items};
 use obj_rules::fault_of;
 use rv_word::NoMemory;
@@ -38,10 +38,10 @@ struct Held<'a> {
 fn with_links(
     alloc: Global,
     input: &Input,
-    layout: &Layout,
+    layout: &DataLayout,
     places: Vec<Item>,
 ) -> Result<Vec<Item>, NoMemory>
-    requires layout { layout.now ≡ layout_of input.now }
+    requires layout { layout.now ≡ data_layout_of input.now }
     requires places { places.items ≡ outline input.now }
     requires order { AreInOrder places.items }
     ensures { IfOk result (λ v. v.items ≡ map (item_with input.now (outline input.now)) (outline input.now)) }
@@ -54,10 +54,10 @@ fn with_links(
 fn contents<'a>(
     alloc: Global,
     input: &Input<'a>,
-    layout: &Layout,
+    layout: &DataLayout,
     places: Vec<Item>,
 ) -> Result<Held<'a>, NoMemory>
-    requires layout { layout.now ≡ layout_of input.now }
+    requires layout { layout.now ≡ data_layout_of input.now }
     requires places { places.items ≡ outline input.now }
     requires order { AreInOrder places.items }
     ensures { IfOk result (AreContents input.now) }
@@ -79,7 +79,7 @@ fn contents_of<'a>(alloc: Global, input: &Input<'a>) -> Result<Held<'a>, NoMemor
     ensures contents { IfOk result (AreContents input.now) }
     ensures sound { IfOk result (λ _. IsSound (program_of input.now)) }
 {
-    let layout = Layout::of(alloc, input)?;
+    let layout = DataLayout::of(alloc, input)?;
     let places = outline(alloc, input)?;
     program_is_sound(input, &places);
     contents(alloc, input, &layout, places)
