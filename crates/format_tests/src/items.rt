@@ -12,7 +12,7 @@ fn table(number: u32) -> (&'static [u8], usize) {
         0 => (item_rows::WORDS, 13),
         1 => (item_rows::TRANSFERS, 9),
         2 => (item_rows::MORE_TRANSFERS, 9),
-        3 => (item_rows::PLACES, 13),
+        3 => (item_rows::PLACES, 18),
         4 => (item_rows::KINDS, 11),
         5 => (item_rows::POINTERS, 5),
         _ => (item_rows::FAULTLESS, 11),

@@ -1,8 +1,8 @@
 use cfi_rewrite::{HardenEnd, Hardened, rewrite};
 use std::alloc::{AllocError, Global};
 
-/// An object written by hand, or an empty file. `Coded` is the one that returns with other code, and `Idle` with so many
-/// instructions that do nothing for it.
+/// An object written by hand, or an empty file. `Coded` is the one that returns with other code, `Idle` with so many
+/// instructions that do nothing for it, and `Shared` with so many sections of data that are the same 56,000 bytes of the file.
 #[derive(Clone, Copy)]
 pub(crate) enum Source {
     Empty,
@@ -12,6 +12,7 @@ pub(crate) enum Source {
     Recursive,
     Coded,
     Idle(u32),
+    Shared(u16),
 }
 
 /// What is hardened: an object, an offset in its file and the bytes, in hexadecimal, that are put there (of `Coded` its
@@ -28,7 +29,9 @@ pub(crate) struct Given(
 fn digits(source: Source) -> &'static [u8] {
     match source {
         Source::Empty => b"",
-        Source::Returning | Source::Coded | Source::Idle(_) => sample_objects::B,
+        Source::Returning | Source::Coded | Source::Idle(_) | Source::Shared(_) => {
+            sample_objects::B
+        }
         Source::Calling => sample_objects::P,
         Source::Writing => sample_objects::H,
         Source::Recursive => sample_objects::R,
@@ -74,6 +77,66 @@ fn idle_through(alloc: Global, file: &mut Vec<u8>, count: u32) -> bool {
     }
 }
 
+/// Where the object that returns has its section headers, to the file's end: four of 64 bytes.
+const HEADERS: usize = 128;
+
+/// Puts words of 64 bits behind a file. It is false where it can't.
+fn put_words(file: &mut Vec<u8>, words: &[u64]) -> bool {
+    for word in words {
+        if file.extend_from_slice(&word.to_le_bytes()).is_err() {
+            return false;
+        }
+    }
+    true
+}
+
+/// Puts 56,000 bytes of data behind a file. It is false where it can't.
+fn put_data(file: &mut Vec<u8>) -> bool {
+    for _ in 0..1000 {
+        if file.extend_from_slice(&[7; 56]).is_err() {
+            return false;
+        }
+    }
+    true
+}
+
+/// Puts the section headers of the object that returns behind it once more. It is false where it can't.
+fn repeat_headers(file: &mut Vec<u8>) -> bool {
+    for k in HEADERS..HEADERS + 256 {
+        let Some(byte) = file.get(k).copied() else {
+            return false;
+        };
+        if file.push(byte).is_err() {
+            return false;
+        }
+    }
+    true
+}
+
+/// Puts the headers of so many sections of data behind a file, which are the same bytes of it, from an offset on. It is
+/// false where it can't.
+fn put_headers(file: &mut Vec<u8>, at: u64, count: u16) -> bool {
+    for _ in 0..count {
+        if !put_words(file, &[1 << 32, 3, 0, at, 56_000, 0, 1, 0]) {
+            return false;
+        }
+    }
+    true
+}
+
+/// Gives the object that returns so many sections of data, which share their bytes. It is false where it can't.
+fn share(file: &mut Vec<u8>, count: u16) -> bool {
+    let at = file.len() as u64;
+    if !put_data(file) {
+        return false;
+    }
+    let table = file.len() as u64;
+    repeat_headers(file)
+        && put_headers(file, at, count)
+        && put(file, 40, &table.to_le_bytes())
+        && put(file, 60, &count.saturating_add(4).to_le_bytes())
+}
+
 /// Puts the bytes of a change into a file. It is false where it can't.
 fn put_digits(alloc: Global, file: &mut Vec<u8>, given: &Given) -> bool {
     match hex::decode(alloc, given.2) {
@@ -87,6 +150,7 @@ fn put_digits(alloc: Global, file: &mut Vec<u8>, given: &Given) -> bool {
 fn change(alloc: Global, file: &mut Vec<u8>, given: &Given) -> bool {
     match given.0 {
         Source::Idle(count) => idle_through(alloc, file, count),
+        Source::Shared(count) => share(file, count),
         _ => put_digits(alloc, file, given),
     }
 }

@@ -9,7 +9,7 @@ struct Refused(Given, &'static str);
 const POLICY_PLACE: &[u8] = b"rvcfi-policy 1\nsite main+14 f+0\nend\n";
 
 #[rattlefmt::skip]
-static REFUSED: [Refused; 24] = [
+static REFUSED: [Refused; 26] = [
     Refused(Given(Source::Empty, 0, b"", "main", None), "NotElf"),
     Refused(Given(Source::Returning, 4, b"01", "main", None), "NotElf"),
     Refused(Given(Source::Returning, 16, b"0200", "main", None), "NotRelocatable 2"),
@@ -68,6 +68,9 @@ static REFUSED: [Refused; 24] = [
         ),
         "DataTooLarge 0 267452416",
     ),
+    // 600 sections of data that are the same 56,000 bytes, and as many that leave no room for all data.
+    Refused(Given(Source::Shared(600), 0, b"", "main", None), "DataTooLarge 33600000 33665536"),
+    Refused(Given(Source::Shared(65_000), 0, b"", "main", None), "DataTooLarge 3640000000 3640065536"),
     // An AUIPC that is to reach four gigabytes further.
     Refused(Given(Source::Writing, 200, b"0000000001000000", "main", None), "RelocRange 1 32"),
 ];
