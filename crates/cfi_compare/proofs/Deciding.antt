@@ -2,8 +2,8 @@
 use Rattle.std.proofs.Common.{◌≡◌, Bool, true, false, ℕ, zero, suc, ◌+◌, ◌<◌, ◌≤◌, List, [], ◌∷◌, length, slice_get, Option, Some, None, option_map, is_some, if◌then◌else◌, refl, sym, ap, ◌∙◌, arith, inl, inr}
 use Rattle.std.proofs.lemmas.Bool.{cases_lt}
 use Rattle.rv_word.specs.Image.{Contents}
-use Rattle.rv_word.specs.Layout.{version_1}
-use Rattle.cfi_flow.specs.GraphAtMap.{Layout}
+use Rattle.rv_word.specs.MemoryMap.{version_1}
+use Rattle.cfi_flow.specs.GraphAtMap.{ProgramAtMap}
 use Rattle.cfi_flow.specs.Source.{source_start}
 use Rattle.cfi_kept.specs.PlacesKept.{bound}
 use Rattle.cfi_runs.specs.WholeRun.{undisturbed}
@@ -291,7 +291,7 @@ module _ (p : Program) where
       let place : offset ≡ here.offset = cc in
       rw (reason, part, place) refl
 
-module _ (layout : Layout) (image : Contents) (input : List ℕ) (limit : ℕ) where
+module _ (layout : ProgramAtMap) (image : Contents) (input : List ℕ) (limit : ℕ) where
   abbrev r : compared.SourceRun
   r = source_run layout limit (source_start layout input)
 
