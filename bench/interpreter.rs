@@ -40,6 +40,31 @@ fn word32(value: u32) -> u64 {
     value as i32 as u64
 }
 
+/// What DIV, DIVU, REM and REMU give.
+fn divided(funct3: u32, a: u64, b: u64) -> u64 {
+    let (signed, other) = (a as i64, b as i64);
+    match funct3 {
+        4 if b == 0 => u64::MAX,
+        4 => signed.wrapping_div(other) as u64,
+        5 => a.checked_div(b).unwrap_or(u64::MAX),
+        _ if b == 0 => a,
+        6 => signed.wrapping_rem(other) as u64,
+        _ => a % b,
+    }
+}
+
+/// What MUL, MULH, MULHSU and MULHU give, and the quotients and remainders.
+fn multiplied(funct3: u32, a: u64, b: u64) -> u64 {
+    let signed = i128::from(a as i64);
+    match funct3 {
+        0 => a.wrapping_mul(b),
+        1 => (signed * i128::from(b as i64) >> 64) as u64,
+        2 => (signed * b as i128 >> 64) as u64,
+        3 => (u128::from(a) * u128::from(b) >> 64) as u64,
+        _ => divided(funct3, a, b),
+    }
+}
+
 impl Machine {
     /// The bytes of an access, if they lie in one region that allows it.
     fn bytes<const SIZE: usize>(&mut self, addr: u64, writes: bool) -> Option<&mut [u8]> {
@@ -156,6 +181,10 @@ impl Machine {
             (0x1b | 0x3b, 1, 0) => word32((a as u32) << (operand & 31)),
             (0x1b | 0x3b, 5, 0) => word32(a as u32 >> (operand & 31)),
             (0x1b | 0x3b, 5, 0x20) => (a as i32 >> (operand & 31)) as u64,
+            (0x33, _, 1) => multiplied(funct3, a, b),
+            (0x3b, 0, 1) => word32(a.wrapping_mul(b) as u32),
+            (0x3b, 4 | 6, 1) => word32(divided(funct3, word32(a as u32), word32(b as u32)) as u32),
+            (0x3b, 5 | 7, 1) => word32(divided(funct3, u64::from(a as u32), u64::from(b as u32)) as u32),
             (0x0f, 0, _) => return Ok(self.pc = next),
             (0x73, 0, 0) if word == 0x0000_0073 => {
                 self.system_call()?;

@@ -18,7 +18,7 @@ sys.path.insert(0, os.path.join(HERE, "..", "tests", "real"))
 import programs
 from programs import LEVELS, PROGRAMS, Hardened, Missing
 
-ROW = "%-12s %-6s %-6s %8s %8s %6s   %6s %8s %6s"
+ROW = "%-12s %-6s %-7s %-6s %8s %8s %6s   %6s %8s %6s"
 
 
 def measured(tool, compiler, level, program, folder):
@@ -26,10 +26,11 @@ def measured(tool, compiler, level, program, folder):
     plain = programs.linked(programs.joined(compiler, level, program, folder))
     hardened = Hardened(tool, plain.replace(".elf", "_joined.o"))
     if hardened.told[0] or hardened.verified()[0]:
-        sys.exit("%s %s %s: %s" % (program.name, compiler.name, level, hardened.told[1].decode()))
+        sys.exit("%s %s %s %s: %s" % (program.name, compiler.name, compiler.processor, level, hardened.told[1].decode()))
     status, _, report = hardened.run(program.input)
     if status:
-        sys.exit("%s %s %s: the run ended with status %d" % (program.name, compiler.name, level, status))
+        words = program.name, compiler.name, compiler.processor, level, status
+        sys.exit("%s %s %s %s: the run ended with status %d" % words)
     steps = len(programs.addresses_run(plain, program.input)), int(report["steps"][0])
     return steps, (programs.code_size(plain), hardened.code_size())
 
@@ -45,7 +46,7 @@ def compilers():
     found = []
     for compiler in (programs.gcc, programs.clang):
         try:
-            found.append(compiler())
+            found += [compiler(processor) for processor in programs.PROCESSORS]
         except Missing as what:
             print("not measured, since there is no %s: %s" % (what, compiler.__name__))
     return found
@@ -57,8 +58,9 @@ def print_level(tool, compiler, level, folder):
     for program in PROGRAMS:
         steps, sizes = measured(tool, compiler, level, program, folder)
         rows.append((steps[1] / steps[0], sizes[1] / sizes[0]))
-        print(ROW % (program.name, compiler.name, level, *steps, "%.2f" % rows[-1][0], *sizes, "%.2f" % rows[-1][1]))
-    print(ROW % ("mean", compiler.name, level, "", "", "%.2f" % mean([row[0] for row in rows]), "", "",
+        print(ROW % (program.name, compiler.name, compiler.processor, level, *steps, "%.2f" % rows[-1][0], *sizes,
+                     "%.2f" % rows[-1][1]))
+    print(ROW % ("mean", compiler.name, compiler.processor, level, "", "", "%.2f" % mean([row[0] for row in rows]), "", "",
                  "%.2f" % mean([row[1] for row in rows])))
     return rows
 
@@ -70,15 +72,16 @@ def main():
     options = words.parse_args()
     if not os.access(options.program, os.X_OK):
         sys.exit("%s is not there: cd crates/rvcfi && rt run -- verify data/a.img data/a.graph" % options.program)
-    rows = []
-    print(ROW % ("program", "by", "level", "steps", "hardened", "times", "bytes", "hardened", "times"))
+    rows = {}
+    print(ROW % ("program", "by", "for", "level", "steps", "hardened", "times", "bytes", "hardened", "times"))
     with tempfile.TemporaryDirectory() as folder:
         for compiler in compilers():
             for level in options.levels.split(","):
-                rows += print_level(os.path.abspath(options.program), compiler, level, folder)
-    for what, ratios in (("steps", [row[0] for row in rows]), ("bytes", [row[1] for row in rows])):
-        if ratios:
-            print("%s: %.2f to %.2f times, in the mean %.2f" % (what, min(ratios), max(ratios), mean(ratios)))
+                made = print_level(os.path.abspath(options.program), compiler, level, folder)
+                rows.setdefault(compiler.processor, []).extend(made)
+    for processor, pairs in rows.items():
+        for what, ratios in zip(("steps", "bytes"), zip(*pairs)):
+            print("%s, %s: %.2f to %.2f times, in the mean %.2f" % (processor, what, min(ratios), max(ratios), mean(ratios)))
 
 
 if __name__ == "__main__":

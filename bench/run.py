@@ -83,11 +83,41 @@ def unpacked(packed):
     return bytes(plain)
 
 
+def quotient(a, b):
+    """The quotient, rounded towards 0."""
+    return abs(a) // abs(b) * (1 if (a < 0) == (b < 0) else -1)
+
+
+def remainder(a, b):
+    return a - quotient(a, b) * b
+
+
+def signed(value, bits):
+    """The low bits as a number with a sign."""
+    value %= 1 << bits
+    return value - (value >> bits - 1 << bits)
+
+
+def powers():
+    """What programs/powers.c puts."""
+    state, quotients, prime = 1, 0, 1000000007
+    for k in range(100000):
+        number, divisor = signed(state >> 13, 32), k % 255 - 127
+        product = (state ^ 0x9E3779B97F4A7C15) * (0xD6E8FEB86659FD93 + k)
+        state = (product ^ product >> 64) % 2**64
+        if divisor:
+            small = quotient(number, divisor) + remainder(number, divisor)
+            quotients += small + remainder(quotient(signed(state, 64), divisor), 1000)
+    inverses = sum(pow(k, prime - 2, prime) for k in range(1, 10001))
+    return b"%016x\n%d\n%d\n" % (state, inverses, quotients)
+
+
 TEXT = text(100000)
 COMPILED = [
     Compiled("hasher", ["sha256.c"], TEXT, lambda put: put == hashlib.sha256(TEXT).hexdigest().encode() + b"\n", 1.0),
     Compiled("packer", [], TEXT, lambda put: len(put) < len(TEXT) and unpacked(put) == TEXT, 1.0),
     Compiled("filler", [], b"", lambda put: put == b"%08x\n" % (2 * sum(range(60))), 0.7),
+    Compiled("powers", [], b"", lambda put: put == powers(), 1.0),
 ]
 
 
@@ -127,7 +157,7 @@ def write_pair(folder, name, pair):
 
 def hardened(tool, compiler, program, folder):
     """Compiles and hardens a program of the folder programs, and answers the paths of its image and graph."""
-    objects = [programs.compiled(compiler, LEVEL, name, folder) for name in programs.LIBRARY + program.files]
+    objects = [programs.compiled(compiler, LEVEL, name, folder) for name in programs.LIBRARY[compiler.processor] + program.files]
     own = os.path.join(folder, program.name + ".o")
     source = os.path.join(HERE, "programs", program.name + ".c")
     programs.must(compiler.command + compiler.options + [LEVEL, "-I", REAL, "-c", source, "-o", own])

@@ -1,6 +1,7 @@
 """The programs of this folder, and how they are compiled, joined, linked, hardened and run.
 
-For tests/real/run.py and bench/overhead.py. The options are those of docs/COMPILING.md.
+For tests/real/run.py and bench/overhead.py. The options are those of docs/COMPILING.md, for a processor with instructions
+for products and quotients and for one without.
 """
 
 import os
@@ -17,9 +18,9 @@ LEVELS = ["-O0", "-O1", "-O2", "-O3", "-Os"]
 ENTRY = "_start"
 STEPS = "100000000"
 SECONDS = 60
-MACHINE = ["-march=rv64i", "-mabi=lp64"]
 OPTIONS = ["-mcmodel=medlow", "-fno-pic", "-ffreestanding", "-fno-stack-protector", "-Wall", "-Wextra"]
-LIBRARY = ["start.s", "arithmetic.c", "memory.c", "text.c"]
+LIBRARY = {"rv64im": ["start.s", "memory.c", "text.c"], "rv64i": ["start.s", "arithmetic.c", "memory.c", "text.c"]}
+PROCESSORS = list(LIBRARY)
 
 
 class Program(NamedTuple):
@@ -40,8 +41,10 @@ PROGRAMS = [
 
 
 class Compiler(NamedTuple):
-    """A compiler's name, the command that assembles, what a C file needs besides, and the command that joins objects."""
+    """A compiler's name, the processor, the command that assembles, what a C file needs besides, and the command that joins
+    objects."""
     name: str
+    processor: str
     command: list
     options: list
     join: list
@@ -69,17 +72,22 @@ def keeps_registers(command):
     return b"+reserve-x30" in done.stdout
 
 
-def gcc():
-    command = [tool("riscv64-linux-gnu-gcc", "riscv64-unknown-elf-gcc")] + MACHINE
-    return Compiler("gcc", command, ["-ffixed-t5", "-ffixed-t6"] + OPTIONS, [binutils("ld"), "-r"])
+def machine(processor):
+    """The options that name a processor and its calling convention."""
+    return ["-march=" + processor, "-mabi=lp64"]
 
 
-def clang():
+def gcc(processor="rv64im"):
+    command = [tool("riscv64-linux-gnu-gcc", "riscv64-unknown-elf-gcc")] + machine(processor)
+    return Compiler("gcc", processor, command, ["-ffixed-t5", "-ffixed-t6"] + OPTIONS, [binutils("ld"), "-r"])
+
+
+def clang(processor="rv64im"):
     options = ["-ffixed-x30", "-ffixed-x31"] + OPTIONS
     for name in ["clang-%d" % version for version in range(30, 14, -1)] + ["clang"]:
-        command = [name, "--target=riscv64"] + MACHINE
+        command = [name, "--target=riscv64"] + machine(processor)
         if shutil.which(name) and keeps_registers(command + options):
-            return Compiler("clang", command, options, [tool("ld.lld", name.replace("clang", "ld.lld")), "-r"])
+            return Compiler("clang", processor, command, options, [tool("ld.lld", name.replace("clang", "ld.lld")), "-r"])
     raise Missing("clang of version 15 or later")
 
 
@@ -102,7 +110,7 @@ def source(name):
 
 def compiled(compiler, level, name, folder):
     """Compiles a file of this folder, once for a compiler and a level, and answers the object's path."""
-    path = os.path.join(folder, "%s%s_%s.o" % (compiler.name, level, name.split(".")[0]))
+    path = os.path.join(folder, "%s_%s%s_%s.o" % (compiler.name, compiler.processor, level, name.split(".")[0]))
     if not os.path.exists(path):
         options = [] if name.endswith(".s") else compiler.options + [level]
         must(compiler.command + options + ["-c", source(name), "-o", path])
@@ -111,8 +119,8 @@ def compiled(compiler, level, name, folder):
 
 def joined(compiler, level, program, folder):
     """Compiles a program's files, joins them to one object and answers its path."""
-    path = os.path.join(folder, "%s%s_%s_joined.o" % (compiler.name, level, program.name))
-    objects = [compiled(compiler, level, name, folder) for name in LIBRARY + program.files]
+    path = os.path.join(folder, "%s_%s%s_%s_joined.o" % (compiler.name, compiler.processor, level, program.name))
+    objects = [compiled(compiler, level, name, folder) for name in LIBRARY[compiler.processor] + program.files]
     must(compiler.join + ["-o", path] + objects)
     return path
 

@@ -6,26 +6,29 @@ Each row is a refusal, a source in C, the options of docs/COMPILING.md that are 
 import os
 
 import programs
-from programs import MACHINE
+from programs import machine
 
 PLAIN = "int main(void) { return 0; }"
 NAMES_Q = "extern int q; int main(void) { return q; }\n"
+MACHINE, BASE = machine("rv64im"), machine("rv64i")
 MANY = "long f(long *p) { long s = 0; for (int k = 0; k < 30; k++) p[k] += p[29 - k] ^ s, s += p[k] << k; return s; }\n"
 PRODUCT = "int main(int n, char **words) { return n * **words; }"
+ATOMIC = "int k; int main(void) { return __atomic_fetch_add(&k, 1, 5); }"
 
 GCC_ROWS = [
     ("4 Flags", PLAIN, MACHINE, []),
     ("7 SectionKind", "static int k; __attribute__((constructor)) void f(void) { k = 1; } int main(void) { return k; }", [], []),
     ("7 SectionKind", "__thread int k = 3; int main(void) { return k; }", [], []),
     ("8 BadSymbol", PLAIN + " void f(void); void *p = f; __asm__(\".type f, %gnu_indirect_function\");", [], []),
-    ("9 Undecodable", PRODUCT, ["-march=rv64i"], ["-march=rv64im"]),
+    ("9 Undecodable", ATOMIC, MACHINE, ["-march=rv64ima", "-mabi=lp64"]),
     ("9 Undecodable", "int main(void) { long t; __asm__ volatile(\"rdcycle %0\" : \"=r\"(t)); return t; }", [], []),
     ("10 ReservedRegister", MANY + PLAIN, ["-ffixed-t5", "-ffixed-t6"], ["-funroll-all-loops"]),
     ("11 BadTransfer", "int g(int); int main(void) { return g(g(3)) + 1; }", [], ["-msave-restore"]),
     ("12 BadPair", NAMES_Q, ["-fno-pic"], ["-fpic"]),
     ("13 RelocKind", "int main(void) { return 0; } __asm__(\".data\\n.reloc ., R_RISCV_32_PCREL, main\\n.word 0\");", [], []),
     ("14 RelocPlace", "int main(void) { return 0; } __asm__(\".bss\\n.reloc ., R_RISCV_64, main\\n.zero 8\");", [], []),
-    ("15 Undefined", PRODUCT, [], []),
+    ("15 Undefined", PRODUCT, MACHINE, BASE),
+    ("15 Undefined", ATOMIC, [], []),
     ("15 Undefined", "int f(char *); int main(void) { char a[9]; return f(a); } int f(char *a) { return *a; }", [],
      ["-fstack-protector-all"]),
     ("16 BadCodePointer", PLAIN + " char *p = (char *)main + 2;", [], []),

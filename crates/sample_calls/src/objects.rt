@@ -9,6 +9,7 @@ pub enum Source {
     Calling,
     Writing,
     Recursive,
+    Dividing,
 }
 
 /// An object, an offset in its file and the bytes, in hexadecimal, that are put there.
@@ -21,6 +22,7 @@ fn digits(source: Source) -> &'static [u8] {
         Source::Calling => sample_objects::P,
         Source::Writing => sample_objects::H,
         Source::Recursive => sample_objects::R,
+        Source::Dividing => sample_objects::M,
     }
 }
 

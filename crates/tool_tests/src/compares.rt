@@ -8,11 +8,12 @@ use tool_io::MemFiles;
 
 /// Objects by their names. Some are refused with the number that they have as a name.
 #[rattlefmt::skip]
-static OBJECTS: [(&str, Given); 16] = [
+static OBJECTS: [(&str, Given); 20] = [
     ("b.o", Given(Source::Returning, 0, b"")),
     ("p.o", Given(Source::Calling, 0, b"")),
     ("h.o", Given(Source::Writing, 0, b"")),
     ("r.o", Given(Source::Recursive, 0, b"")),
+    ("m.o", Given(Source::Dividing, 0, b"")),
     // One call more than may be pending.
     ("deep", Given(Source::Recursive, 68, b"1305f5ff")),
     // A store whose last bytes are past the window, and one into code.
@@ -31,6 +32,10 @@ static OBJECTS: [(&str, Given); 16] = [
         Given(Source::Writing, 556, b"080000000200000000000000000000000000000080000000000000000100ef0f00000000"),
     ),
     ("range", Given(Source::Calling, 144, b"ffffff7f")),
+    // Words between those of products and quotients of 32 bits, which are no instructions.
+    ("word1", Given(Source::Returning, 64, b"bb103102")),
+    ("word2", Given(Source::Returning, 64, b"bb203102")),
+    ("word3", Given(Source::Returning, 64, b"bb303102")),
 ];
 
 /// Maps that are wrong at the first line and at the line `end`; an object that is none, and an empty file.
@@ -50,6 +55,13 @@ const LINES: &[u8] = b"\
     rvcfi,rewrite,p.o,main,none,p.img,p.graph,p.map = 0: rewritten code 260 data 16 classes 1 sites 1\n;\
     rvcfi,rewrite,h.o,main,none,h.img,h.graph,h.map = 0: rewritten code 196 data 3 classes 0 sites 0\n;\
     rvcfi,rewrite,r.o,main,none,r.img,r.graph,r.map = 0: rewritten code 168 data 0 classes 0 sites 0\n;\
+    rvcfi,rewrite,m.o,main,none,m.img,m.graph,m.map = 0: rewritten code 100 data 0 classes 0 sites 0\n;\
+    rvcfi,verify,m.img,m.graph = 0: accepted\n;\
+    rvcfi,run,m.img,m.graph,none,none,100 = 0: output 0\n\nstop exit 2\nsteps 19\nwalk 6\ntrail 4000000c 40000040 40000044 40000048 4000004c 40000038\n;\
+    rvcfi,compare,m.o,main,none,m.img,m.map,none,100 = 0: same 1\n;\
+    rvcfi,rewrite,word1,main,none,i,g,m = 1: refused 9 Undecodable 1 0 36769979\n;\
+    rvcfi,rewrite,word2,main,none,i,g,m = 1: refused 9 Undecodable 1 0 36774075\n;\
+    rvcfi,rewrite,word3,main,none,i,g,m = 1: refused 9 Undecodable 1 0 36778171\n;\
     rvcfi,compare,b.o,main,none,b.img,b.map,none,100 = 0: same 1\n;\
     rvcfi,compare,p.o,main,none,p.img,p.map,none,100 = 0: same 1\n;\
     rvcfi,compare,h.o,main,none,h.img,h.map,none,100 = 0: same 2\n;\
@@ -111,5 +123,5 @@ fn add_all(alloc: Global, files: &mut MemFiles) -> Result<(), NoMemory> {
 fn compared(rt: HostRuntime) {
     let mut files = MemFiles::new(rt.alloc(), Vec::new(rt.alloc()));
     assert!(rt; add_all(rt.alloc(), &mut files).is_ok());
-    check_over(&rt, rt.alloc(), &mut files, LINES, 52);
+    check_over(&rt, rt.alloc(), &mut files, LINES, 59);
 }
