@@ -1,5 +1,5 @@
 -- What is prepared is not refused before it is placed, what is hardened is not refused, and one refusal is the first.
-use Rattle.std.proofs.Common.{◌≡◌, ◌≢◌, ℕ, true, false, inl, inr, List, Option, Some, None, Result, Ok, Err, refl, sym, ap, subst, ◌∙◌, arith}
+use Rattle.std.proofs.Common.{◌≡◌, ℕ, true, false, inl, inr, List, Option, Some, None, Result, Ok, Err, refl, sym, ap, subst, ◌∙◌, arith}
 use Rattle.std.specs.Prelude.{IsSome}
 use Rattle.std.proofs.lemmas.Option.{same_Some}
 use Rattle.least.specs.declared.place.Place.{Place}
@@ -30,7 +30,6 @@ stage request (R.Object fault) x = early tt
 stage request (R.Items fault) x = early tt
 stage request R.NoEntry x = early tt
 stage request (R.Policy n) x = early tt
-stage request R.NoMemory x = early tt
 stage request (R.CodeTooLarge bytes) (p, prepared, x) = late p prepared x
 stage request (R.DataTooLarge init end) (p, prepared, x) = late p prepared x
 stage request (R.RelocRange section offset) (p, prepared, x) = late p prepared x
@@ -57,18 +56,17 @@ module _ (request : Request) (p : PreparedParts) (prepared : IsPrepared request 
       let (raw, is, of) = closed.drawn in
       no_wrong_policy (program_in request.object) request.policy n wrong (policy_reading request.policy).end refl closed.whole is.right
 
-  not_early : (r : Refusal) → IsEarly r → Refuses request r → r ≡ R.NoMemory
+  not_early : (r : Refusal) → IsEarly r → Refuses request r → ⊥
   not_early (R.Object fault) e x = let sound = prepared.object.sound in absurd (cc)
   not_early (R.Items fault) e x = let right = prepared.object.right in let wrong = x.1 in absurd (cc)
   not_early R.NoEntry e x = let there = entry_there in let none = x.1 in absurd (cc)
   not_early (R.Policy n) e x = absurd (policy_right n x.2)
-  not_early R.NoMemory e x = refl
   not_early (R.CodeTooLarge bytes) e x = absurd e
   not_early (R.DataTooLarge init end) e x = absurd e
   not_early (R.RelocRange section offset) e x = absurd e
 
 -- and where it is written it is not refused later
-written_fits : (p : PreparedParts) (h : HardenedParts) (r : Refusal) → IsWrittenOf p h → RefusesPlaced p r → r ≡ R.NoMemory
+written_fits : (p : PreparedParts) (h : HardenedParts) (r : Refusal) → IsWrittenOf p h → RefusesPlaced p r → ⊥
 written_fits p h (R.CodeTooLarge bytes) (s, labels, code, init, placed, room, fits, written) x =
     let large = x.1 in let size = x.0 in let small = placed.room in absurd (omega arith)
 written_fits p h (R.DataTooLarge init end) (s, labels, code, init', placed, room, fits, written) x = absurd (x.3 room)
@@ -78,7 +76,6 @@ written_fits p h (R.RelocRange section offset) (s, labels, code, init, placed, r
     let none : out_of_range p.program t.gates t.words ≡ None =
     ap (λ (ws : List ℕ). out_of_range p.program t.gates ws) (sym words) ∙ ap (λ (gs : List ℕ). out_of_range p.program gs s.words) (sym gates) ∙ fits in
     absurd (cc)
-written_fits p h R.NoMemory written x = refl
 written_fits p h (R.Object fault) written x = absurd x
 written_fits p h (R.Items fault) written x = absurd x
 written_fits p h R.NoEntry written x = absurd x
@@ -87,44 +84,42 @@ written_fits p h (R.Policy n) written x = absurd x
 pub not_refused : HardenedIsNotRefused
 not_refused request h r (p, prepared, written) refuses = at_stage (stage request r refuses)
   where
-    at_stage : Stage request r → r ≡ R.NoMemory
+    at_stage : Stage request r → ⊥
     at_stage (early e) = not_early request p prepared r e refuses
     at_stage (late q prepared' x) =
         let same : q ≡ p = prepared_unique request q p prepared' prepared in
         written_fits p h r written (subst (λ (y : PreparedParts). RefusesPlaced y r) same x)
 
 -- one refusal of what is prepared
-placed_one : (p : PreparedParts) (a b : Refusal) → RefusesPlaced p a → RefusesPlaced p b → a ≢ R.NoMemory → b ≢ R.NoMemory → a ≡ b
-placed_one p (R.CodeTooLarge bytes) (R.CodeTooLarge more) x y not_a not_b = ap R.CodeTooLarge (x.0 ∙ sym y.0)
-placed_one p (R.CodeTooLarge bytes) (R.DataTooLarge init end) x y not_a not_b =
+placed_one : (p : PreparedParts) (a b : Refusal) → RefusesPlaced p a → RefusesPlaced p b → a ≡ b
+placed_one p (R.CodeTooLarge bytes) (R.CodeTooLarge more) x y = ap R.CodeTooLarge (x.0 ∙ sym y.0)
+placed_one p (R.CodeTooLarge bytes) (R.DataTooLarge init end) x y =
     let size = x.0 in let large = x.1 in let small = y.0 in absurd (omega arith)
-placed_one p (R.CodeTooLarge bytes) (R.RelocRange section offset) x (s, placed, room, astray) not_a not_b =
+placed_one p (R.CodeTooLarge bytes) (R.RelocRange section offset) x (s, placed, room, astray) =
     let size = x.0 in let large = x.1 in let small = placed.room in absurd (omega arith)
-placed_one p (R.DataTooLarge init end) (R.CodeTooLarge bytes) x y not_a not_b =
+placed_one p (R.DataTooLarge init end) (R.CodeTooLarge bytes) x y =
     let size = y.0 in let large = y.1 in let small = x.0 in absurd (omega arith)
-placed_one p (R.DataTooLarge init end) (R.DataTooLarge more last) x y not_a not_b =
+placed_one p (R.DataTooLarge init end) (R.DataTooLarge more last) x y =
     ap (λ (n : ℕ). R.DataTooLarge n end) (x.1 ∙ sym y.1) ∙ ap (R.DataTooLarge more) (x.2 ∙ sym y.2)
-placed_one p (R.DataTooLarge init end) (R.RelocRange section offset) x (s, placed, room, astray) not_a not_b = absurd (x.3 room)
-placed_one p (R.RelocRange section offset) (R.CodeTooLarge bytes) (s, placed, room, astray) y not_a not_b =
+placed_one p (R.DataTooLarge init end) (R.RelocRange section offset) x (s, placed, room, astray) = absurd (x.3 room)
+placed_one p (R.RelocRange section offset) (R.CodeTooLarge bytes) (s, placed, room, astray) y =
     let size = y.0 in let large = y.1 in let small = placed.room in absurd (omega arith)
-placed_one p (R.RelocRange section offset) (R.DataTooLarge init end) (s, placed, room, astray) y not_a not_b = absurd (y.3 room)
-placed_one p (R.RelocRange section offset) (R.RelocRange section' offset') (s, placed, room, astray) (t, placed', room', astray') not_a not_b =
+placed_one p (R.RelocRange section offset) (R.DataTooLarge init end) (s, placed, room, astray) y = absurd (y.3 room)
+placed_one p (R.RelocRange section offset) (R.RelocRange section' offset') (s, placed, room, astray) (t, placed', room', astray') =
     let gates = gates_unique p.program p.closed s t placed placed' in
     let words = words_unique p.program p.closed s t placed placed' in
     let moved =
     ap (λ (ws : List ℕ). out_of_range p.program t.gates ws) (sym words) ∙ ap (λ (gs : List ℕ). out_of_range p.program gs s.words) (sym gates) in
     let same = same_Some _ _ (sym astray ∙ sym moved ∙ astray') in
     ap (λ (q : Place). R.RelocRange q.section q.offset) same
-placed_one p R.NoMemory b x y not_a not_b = absurd (not_a refl)
-placed_one p a R.NoMemory x y not_a not_b = absurd (not_b refl)
-placed_one p (R.Object fault) b x y not_a not_b = absurd x
-placed_one p (R.Items fault) b x y not_a not_b = absurd x
-placed_one p R.NoEntry b x y not_a not_b = absurd x
-placed_one p (R.Policy n) b x y not_a not_b = absurd x
-placed_one p a (R.Object fault) x y not_a not_b = absurd y
-placed_one p a (R.Items fault) x y not_a not_b = absurd y
-placed_one p a R.NoEntry x y not_a not_b = absurd y
-placed_one p a (R.Policy n) x y not_a not_b = absurd y
+placed_one p (R.Object fault) b x y = absurd x
+placed_one p (R.Items fault) b x y = absurd x
+placed_one p R.NoEntry b x y = absurd x
+placed_one p (R.Policy n) b x y = absurd x
+placed_one p a (R.Object fault) x y = absurd y
+placed_one p a (R.Items fault) x y = absurd y
+placed_one p a R.NoEntry x y = absurd y
+placed_one p a (R.Policy n) x y = absurd y
 
 -- the first wrong line is one
 fails_once : (end : Result (Unit {0}) TextEnd) (n m : ℕ) → FailsAt end n → FailsAt end m → n ≡ m
@@ -138,40 +133,38 @@ wrong_once program policy n m (inr x) (inl y) = let none = x.0 in absurd (cc)
 wrong_once program policy n m (inr x) (inr y) = fails_once (policy_reading policy).end n m x.1 y.1
 
 -- one refusal before anything is placed
-early_one : (request : Request) (a b : Refusal) → IsEarly a → IsEarly b → Refuses request a → Refuses request b → a ≢ R.NoMemory → b ≢ R.NoMemory → a ≡ b
-early_one request (R.Object f) (R.Object g) ea eb x y not_a not_b = ap R.Object (same_Some f g (sym x ∙ y))
-early_one request (R.Object f) (R.Items g) ea eb x y not_a not_b = let none = y.0 in absurd (cc)
-early_one request (R.Object f) R.NoEntry ea eb x y not_a not_b = let none = y.0.sound in absurd (cc)
-early_one request (R.Object f) (R.Policy n) ea eb x y not_a not_b = let none = y.0.sound in absurd (cc)
-early_one request (R.Items f) (R.Object g) ea eb x y not_a not_b = let none = x.0 in absurd (cc)
-early_one request (R.Items f) (R.Items g) ea eb x y not_a not_b = ap R.Items (same_Some f g (sym x.1 ∙ y.1))
-early_one request (R.Items f) R.NoEntry ea eb x y not_a not_b = let fault = x.1 in let none = y.0.right in absurd (cc)
-early_one request (R.Items f) (R.Policy n) ea eb x y not_a not_b = let fault = x.1 in let none = y.0.right in absurd (cc)
-early_one request R.NoEntry (R.Object g) ea eb x y not_a not_b = let none = x.0.sound in absurd (cc)
-early_one request R.NoEntry (R.Items g) ea eb x y not_a not_b = let none = x.0.right in let fault = y.1 in absurd (cc)
-early_one request R.NoEntry R.NoEntry ea eb x y not_a not_b = refl
-early_one request R.NoEntry (R.Policy n) ea eb x y not_a not_b = let no : false ≡ true = subst IsSome x.1 y.1 in absurd (cc)
-early_one request (R.Policy n) (R.Object g) ea eb x y not_a not_b = let none = x.0.sound in absurd (cc)
-early_one request (R.Policy n) (R.Items g) ea eb x y not_a not_b = let none = x.0.right in let fault = y.1 in absurd (cc)
-early_one request (R.Policy n) R.NoEntry ea eb x y not_a not_b = let no : false ≡ true = subst IsSome y.1 x.1 in absurd (cc)
-early_one request (R.Policy n) (R.Policy m) ea eb x y not_a not_b =
+early_one : (request : Request) (a b : Refusal) → IsEarly a → IsEarly b → Refuses request a → Refuses request b → a ≡ b
+early_one request (R.Object f) (R.Object g) ea eb x y = ap R.Object (same_Some f g (sym x ∙ y))
+early_one request (R.Object f) (R.Items g) ea eb x y = let none = y.0 in absurd (cc)
+early_one request (R.Object f) R.NoEntry ea eb x y = let none = y.0.sound in absurd (cc)
+early_one request (R.Object f) (R.Policy n) ea eb x y = let none = y.0.sound in absurd (cc)
+early_one request (R.Items f) (R.Object g) ea eb x y = let none = x.0 in absurd (cc)
+early_one request (R.Items f) (R.Items g) ea eb x y = ap R.Items (same_Some f g (sym x.1 ∙ y.1))
+early_one request (R.Items f) R.NoEntry ea eb x y = let fault = x.1 in let none = y.0.right in absurd (cc)
+early_one request (R.Items f) (R.Policy n) ea eb x y = let fault = x.1 in let none = y.0.right in absurd (cc)
+early_one request R.NoEntry (R.Object g) ea eb x y = let none = x.0.sound in absurd (cc)
+early_one request R.NoEntry (R.Items g) ea eb x y = let none = x.0.right in let fault = y.1 in absurd (cc)
+early_one request R.NoEntry R.NoEntry ea eb x y = refl
+early_one request R.NoEntry (R.Policy n) ea eb x y = let no : false ≡ true = subst IsSome x.1 y.1 in absurd (cc)
+early_one request (R.Policy n) (R.Object g) ea eb x y = let none = x.0.sound in absurd (cc)
+early_one request (R.Policy n) (R.Items g) ea eb x y = let none = x.0.right in let fault = y.1 in absurd (cc)
+early_one request (R.Policy n) R.NoEntry ea eb x y = let no : false ≡ true = subst IsSome y.1 x.1 in absurd (cc)
+early_one request (R.Policy n) (R.Policy m) ea eb x y =
     ap R.Policy (wrong_once (program_in request.object) request.policy n m x.2 y.2)
-early_one request R.NoMemory b ea eb x y not_a not_b = absurd (not_a refl)
-early_one request a R.NoMemory ea eb x y not_a not_b = absurd (not_b refl)
-early_one request (R.CodeTooLarge bytes) b ea eb x y not_a not_b = absurd ea
-early_one request (R.DataTooLarge init end) b ea eb x y not_a not_b = absurd ea
-early_one request (R.RelocRange section offset) b ea eb x y not_a not_b = absurd ea
-early_one request a (R.CodeTooLarge bytes) ea eb x y not_a not_b = absurd eb
-early_one request a (R.DataTooLarge init end) ea eb x y not_a not_b = absurd eb
-early_one request a (R.RelocRange section offset) ea eb x y not_a not_b = absurd eb
+early_one request (R.CodeTooLarge bytes) b ea eb x y = absurd ea
+early_one request (R.DataTooLarge init end) b ea eb x y = absurd ea
+early_one request (R.RelocRange section offset) b ea eb x y = absurd ea
+early_one request a (R.CodeTooLarge bytes) ea eb x y = absurd eb
+early_one request a (R.DataTooLarge init end) ea eb x y = absurd eb
+early_one request a (R.RelocRange section offset) ea eb x y = absurd eb
 
 pub refusal_unique : RefusedInOneWay
-refusal_unique request a b x y not_a not_b = at_stages (stage request a x) (stage request b y)
+refusal_unique request a b x y = at_stages (stage request a x) (stage request b y)
   where
     at_stages : Stage request a → Stage request b → a ≡ b
-    at_stages (early ea) (early eb) = early_one request a b ea eb x y not_a not_b
-    at_stages (early ea) (late q prepared refuses) = absurd (not_a (not_early request q prepared a ea x))
-    at_stages (late p prepared refuses) (early eb) = absurd (not_b (not_early request p prepared b eb y))
+    at_stages (early ea) (early eb) = early_one request a b ea eb x y
+    at_stages (early ea) (late q prepared refuses) = absurd (not_early request q prepared a ea x)
+    at_stages (late p prepared refuses) (early eb) = absurd (not_early request p prepared b eb y)
     at_stages (late p prepared refuses) (late q prepared' refuses') =
         let same : q ≡ p = prepared_unique request q p prepared' prepared in
-        placed_one p a b refuses (subst (λ (z : PreparedParts). RefusesPlaced z b) same refuses') not_a not_b
+        placed_one p a b refuses (subst (λ (z : PreparedParts). RefusesPlaced z b) same refuses')

@@ -1,7 +1,6 @@
 -- A request is prepared, hardened and refused in one way.
-use Rattle.std.specs.Prelude.{◌≡◌, ◌≢◌}
+use Rattle.std.specs.Prelude.{◌≡◌}
 use Rattle.cfi_harden.specs.declared.refusal.Refusal.{Refusal}
-use Rattle.cfi_harden.specs.declared.refusal.Refusal.TheVariants.{NoMemory}
 use Rattle.cfi_harden.specs.Hardened.{HardenedParts, IsHardened}
 use Rattle.cfi_harden.specs.Prepared.{IsPrepared, PreparedParts}
 use Rattle.cfi_harden.specs.Refused.{Refuses}
@@ -15,12 +14,10 @@ PreparedInOneWay = (request : Request) (p q : PreparedParts) → IsPrepared requ
 abbrev pub HardenedInOneWay : Type 0
 HardenedInOneWay = (request : Request) (h g : HardenedParts) → IsHardened request h → IsHardened request g → h ≡ g
 
--- what is hardened is refused by nothing but want of memory
+-- what is hardened is refused by nothing
 abbrev pub HardenedIsNotRefused : Type 0
-HardenedIsNotRefused = (request : Request) (h : HardenedParts) (refusal : Refusal) → IsHardened request h → Refuses request refusal → refusal ≡ NoMemory
+HardenedIsNotRefused = (request : Request) (h : HardenedParts) (refusal : Refusal) → IsHardened request h → Refuses request refusal → ⊥
 
--- and a request has one first refusal, if it has one besides want of memory
+-- and a request has one first refusal
 abbrev pub RefusedInOneWay : Type 0
-RefusedInOneWay =
-    (request : Request) (first other : Refusal) → Refuses request first → Refuses request other →
-    first ≢ NoMemory → other ≢ NoMemory → first ≡ other
+RefusedInOneWay = (request : Request) (first other : Refusal) → Refuses request first → Refuses request other → first ≡ other

@@ -11,12 +11,12 @@ pub fn hardened_in_one_way()
     ensures { HardenedInOneWay }
 {}
 
-/// Where it is hardened no refusal stands of it, but for want of memory.
+/// Where it is hardened no refusal stands of it.
 pub fn hardened_is_not_refused()
     ensures { HardenedIsNotRefused }
 {}
 
-/// One refusal is the first that stands of it, but for want of memory.
+/// One refusal is the first that stands of it.
 pub fn refused_in_one_way()
     ensures { RefusedInOneWay }
 {}
