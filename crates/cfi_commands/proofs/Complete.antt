@@ -1,7 +1,7 @@
 -- Each command is complete: where its files are delivered, an outcome that is explained is determined by them.
 use Rattle.std.proofs.Common.{◌≡◌, ◌∙◌, ℕ, ◌≤◌, List, [], ◌∷◌, length, take, drop, Option, Some, None, Ok, inl, inr, refl, sym, ap, subst, arith}
 use Rattle.rv_word.specs.Image.{Contents, IsImageSize}
-use Rattle.rv_word.specs.Layout.{version_1}
+use Rattle.rv_word.specs.MemoryMap.{version_1}
 use Rattle.elf_image.specs.Fault.{code_of, fault_of}
 use Rattle.elf_image.specs.Header.{data_start}
 use Rattle.elf_image.specs.Spelling.{spelling}

@@ -2,7 +2,7 @@
 use Rattle.std.proofs.Common.{◌≡◌, ℕ, List, [], Option, ap, refl, subst, sym, unwrap_or}
 use Rattle.rv_word.specs.Image.{Contents}
 use Rattle.cfi_graph.specs.declared.map.MapLine.{MapLine}
-use Rattle.cfi_flow.specs.GraphAtMap.{Layout}
+use Rattle.cfi_flow.specs.GraphAtMap.{ProgramAtMap, program_at}
 use Rattle.cfi_flow.specs.LegalMap.{gates_of}
 use Rattle.obj_program.specs.Program.{Program}
 use Rattle.cfi_harden.specs.Hardened.{HardenedParts, IsHardened, chosen}
@@ -12,7 +12,6 @@ use Rattle.cfi_harden.proofs.Ready.{written_accepted}
 use Rattle.cfi_meaning.specs.Compared as runs
 use Rattle.cfi_meaning.specs.NeverDiffers.{NoRunDiffers}
 use Rattle.cfi_meaning.proofs.NeverDiffers.{never_differs}
-use Rattle.src_machine.specs.ProgramAt.{layout_of}
 use Rattle.src_machine.specs.Running.{SourceParts}
 use Rattle.cfi_single.specs.OneWay.{PreparedInOneWay}
 use Rattle.cfi_compare.specs.Told.{told_answer}
@@ -37,10 +36,10 @@ module _ (request : Request) (h : HardenedParts) (hardens : IsHardened request h
       let accepted = written_accepted request q s labels code init h prepared (record { placed = placed; room = room; in_range = in_range }) written in
       let never : NoRunDiffers m.layout own = never_differs m own (record { accepted = accepted; bytes = written.bytes; code = written.code_is })
       (sym (ap (λ (o : Option (List ℕ)). unwrap_or o []) written.init_is)) in
-      let at_map : NoRunDiffers (layout_of q.program q.closed (gates_of h.map) q.entry) own =
-      subst (λ (gates : List ℕ). NoRunDiffers (layout_of q.program q.closed gates q.entry) own) (sym written.gates) never in
-      subst (λ (x : PreparedParts). NoRunDiffers (layout_of x.program x.closed (gates_of h.map) x.entry) image) (one request q p prepared of)
-      (subst (λ (x : Contents). NoRunDiffers (layout_of q.program q.closed (gates_of h.map) q.entry) x) (sym same) at_map)
+      let at_map : NoRunDiffers (program_at q.program q.closed (gates_of h.map) q.entry) own =
+      subst (λ (gates : List ℕ). NoRunDiffers (program_at q.program q.closed gates q.entry) own) (sym written.gates) never in
+      subst (λ (x : PreparedParts). NoRunDiffers (program_at x.program x.closed (gates_of h.map) x.entry) image) (one request q p prepared of)
+      (subst (λ (x : Contents). NoRunDiffers (program_at q.program q.closed (gates_of h.map) q.entry) x) (sym same) at_map)
 
 -- an answer is no difference where none was found
 no_difference : (program : Program) (found : runs.Compared) (result : Compared) → ((d : runs.Difference) → found ≡ runs.differs d → ⊥)
@@ -54,7 +53,7 @@ module _ (p : PreparedParts) (map : List MapLine) (image : Contents) where
   pub answer_at : (run : SourceParts) (answer : Compared) → IsSourceOn p map [] run
       → answer ≡ told_answer run.layout.program (runs.compared run.layout image [] STEP_LIMIT) → IsAnswerAt p map image answer
   answer_at run answer on told =
-      subst (λ (l : Layout). answer ≡ told_answer l.program (runs.compared l image [] STEP_LIMIT)) on.layout told
+      subst (λ (l : ProgramAtMap). answer ≡ told_answer l.program (runs.compared l image [] STEP_LIMIT)) on.layout told
 
   module _ (request : Request) (prepared : IsPrepared request p) (answer : Compared) (is : IsAnswerAt p map image answer) where
     pub compared_at : Fits request map → IsComparedAt request map image answer
@@ -62,5 +61,5 @@ module _ (p : PreparedParts) (map : List MapLine) (image : Contents) where
 
     pub never_told : NoneDiffers request map image → IsDifference answer → ⊥
     never_told never =
-        let l = layout_of p.program p.closed (gates_of map) p.entry in
+        let l = program_at p.program p.closed (gates_of map) p.entry in
         no_difference p.program (runs.compared l image [] STEP_LIMIT) answer (never p prepared [] STEP_LIMIT) is

@@ -1,6 +1,6 @@
 -- A program at the map that a text spells, and what comes of it and of a file that should be an image.
 use Rattle.std.proofs.Common.{◌≡◌, ◌+◌, ◌≤◌, ◌<◌, ℕ, List, Option, None, Some, Ok, Err, sym, subst, arith}
-use Rattle.rv_word.specs.Layout.{DATA_END, DATA_START}
+use Rattle.rv_word.specs.MemoryMap.{DATA_END, DATA_START}
 use Rattle.text_lines.specs.declared.reason.Reason.{Reason}
 use Rattle.text_lines.specs.declared.end.TextEnd.TheVariants.{Line}
 use Rattle.obj_program.specs.DataAtMap.{init_size}
@@ -9,7 +9,7 @@ use Rattle.obj_items.specs.FromObject.{input_of}
 use Rattle.obj_items.specs.Laws.{LastEnds}
 use Rattle.cfi_graph.specs.MapText.{map_of}
 use Rattle.cfi_graph.specs.declared.map.MapLine.{MapLine}
-use Rattle.cfi_flow.specs.GraphAtMap.{Layout}
+use Rattle.cfi_flow.specs.GraphAtMap.{ProgramAtMap, program_at}
 use Rattle.cfi_flow.specs.LegalMap.{gates_of}
 use Rattle.cfi_flow.specs.MapFault.{IsWrongLine}
 use Rattle.cfi_flow.specs.Policy.{instruction_at}
@@ -18,7 +18,7 @@ use Rattle.cfi_harden.specs.Prepared.{IsPrepared, PreparedParts}
 use Rattle.cfi_harden.specs.Request.{Request}
 use Rattle.src_machine.specs.Beginning.{IsBegun}
 use Rattle.src_machine.specs.Laws.{WrongIsNotLegal}
-use Rattle.src_machine.specs.ProgramAt.{EndsLast, layout_of}
+use Rattle.src_machine.specs.ProgramAt.{EndsLast}
 use Rattle.src_machine.specs.Running.{SourceParts}
 use Rattle.cfi_meaning.specs.Compared.{compared}
 use Rattle.cfi_compare.specs.Told.{told_answer}
@@ -41,7 +41,7 @@ source_on p input lines section offset run at begun =
     record {
       legal = begun.legal;
       in_range = begun.in_range;
-      layout = subst (λ (entry : ℕ). run.layout ≡ layout_of p.program p.closed (gates_of lines) entry) same begun.layout;
+      layout = subst (λ (entry : ℕ). run.layout ≡ program_at p.program p.closed (gates_of lines) entry) same begun.layout;
       state = begun.state;
       steps = begun.steps;
     }
@@ -88,5 +88,5 @@ module _ (request : Request) (p : PreparedParts) (map : List ℕ) (roomy : IsRoo
     runnable = runnable_source input run source;
     map_is = source.map_is;
     image_is = is.image_is;
-    result_is = subst (λ (l : Layout). result ≡ told_answer l.program (compared l is.contents input limit)) source.layout is.result_is;
+    result_is = subst (λ (l : ProgramAtMap). result ≡ told_answer l.program (compared l is.contents input limit)) source.layout is.result_is;
   }

@@ -18,7 +18,7 @@ use Rattle.cfi_harden.specs.Refused.{Refuses}
 use Rattle.cfi_harden.specs.Request as asks
 use Rattle.cfi_harden.specs.declared.refusal.Refusal.TheVariants as rewriter
 use Rattle.cfi_flow.specs.Source.{source_start}
-use Rattle.src_machine.specs.ProgramAt.{layout_of}
+use Rattle.cfi_flow.specs.GraphAtMap.{program_at}
 use Rattle.src_machine.specs.Running.{SourceParts, source_of}
 use Rattle.cfi_meaning.specs.Compared.{compared}
 use Rattle.cfi_compare.specs.Text.{answer_text}
@@ -117,7 +117,7 @@ pub record IsSourceAt (p : PreparedParts) (map input : List ℕ) (run : SourcePa
   pub lines : List MapLine
   pub map_is : IsMapOf p map lines
   pub in_range : first_out p lines ≡ None
-  pub layout : run.layout ≡ layout_of p.program p.closed (gates_of lines) p.entry
+  pub layout : run.layout ≡ program_at p.program p.closed (gates_of lines) p.entry
   pub state : source_of run ≡ source_start run.layout input
   pub steps : run.steps ≡ 0
 
@@ -145,7 +145,7 @@ pub record IsComparison (request : asks.Request) (image map input : List ℕ) (l
   pub runnable : IsRunnable request program map
   pub map_is : IsMapOf program map lines
   pub image_is : IsImage image contents
-  pub result_is : result ≡ told_answer program.program (compared (layout_of program.program program.closed (gates_of lines) program.entry) contents input limit)
+  pub result_is : result ≡ told_answer program.program (compared (program_at program.program program.closed (gates_of lines) program.entry) contents input limit)
 
 abbrev pub IsCompareOf : asks.Request → List ℕ → List ℕ → List ℕ → ℕ → CompareOutcome → Type 0
 IsCompareOf request image map input limit (outcome.Refused refusal) = IsCompareRefused request image map refusal

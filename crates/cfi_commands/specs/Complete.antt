@@ -1,7 +1,7 @@
 -- Completeness: where a command's files are delivered and nothing stands against what they hold, its status is that of its success.
 use Rattle.std.specs.Prelude.{◌≡◌, ℕ, ◌≤◌, List, [], ◌∷◌, length, ⊤, Option, Some, None, Ok}
 use Rattle.rv_word.specs.Image.{Contents}
-use Rattle.rv_word.specs.Layout.{version_1}
+use Rattle.rv_word.specs.MemoryMap.{version_1}
 use Rattle.cfi_graph.specs.Graph.{GraphParts}
 use Rattle.cfi_verify.specs.Rules.{IsWellFormed}
 use Rattle.cfi_step.specs.Script.{Changes}

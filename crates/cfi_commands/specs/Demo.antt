@@ -14,7 +14,7 @@ use Rattle.cfi_step.specs.declared.report.RunReport.{RunReport}
 use Rattle.cfi_harden.specs.Hardened.{HardenedParts}
 use Rattle.cfi_harden.specs.Prepared.{IsPrepared, PreparedParts}
 use Rattle.cfi_harden.specs.Request as asks
-use Rattle.src_machine.specs.ProgramAt.{layout_of}
+use Rattle.cfi_flow.specs.GraphAtMap.{program_at}
 use Rattle.cfi_meaning.specs.Compared.{compared}
 use Rattle.cfi_compare.specs.Text.{answer_text}
 use Rattle.cfi_compare.specs.Told.{told_answer}
@@ -56,7 +56,7 @@ pub record IsComparedAt (request : asks.Request) (map : List MapLine) (image : C
   pub program : PreparedParts
   pub prepared : IsPrepared request program
   pub map_is : IsLegalMap program.program program.closed map
-  pub result_is : result ≡ told_answer program.program (compared (layout_of program.program program.closed (gates_of map) program.entry) image [] STEP_LIMIT)
+  pub result_is : result ≡ told_answer program.program (compared (program_at program.program program.closed (gates_of map) program.entry) image [] STEP_LIMIT)
 
 abbrev pub IsExit : RunEnd → Type 0
 IsExit (ends.Exit status) = ⊤

@@ -14,7 +14,7 @@ use Rattle.cfi_meaning.specs.NeverDiffers.{NoRunDiffers}
 use Rattle.cfi_compare.specs.Told.{told_answer}
 use Rattle.cfi_compare.specs.declared.answer.Compared.{Compared}
 use Rattle.cfi_compare.specs.declared.answer.Compared.TheVariants.{Differs}
-use Rattle.src_machine.specs.ProgramAt.{layout_of}
+use Rattle.cfi_flow.specs.GraphAtMap.{program_at}
 use Rattle.src_machine.specs.Running.{SourceParts, source_of}
 use Rattle.cfi_gen.specs.Demo.{demo_parts}
 use Rattle.cfi_commands.specs.Compare.{first_out}
@@ -36,14 +36,14 @@ Fits request map = (p : PreparedParts) → IsPrepared request p → CanRunAt p m
 pub record IsSourceOn (p : PreparedParts) (map : List MapLine) (input : List ℕ) (run : SourceParts) : Type 0 where
   pub legal : IsLegalMap p.program p.closed map
   pub in_range : first_out p map ≡ None
-  pub layout : run.layout ≡ layout_of p.program p.closed (gates_of map) p.entry
+  pub layout : run.layout ≡ program_at p.program p.closed (gates_of map) p.entry
   pub state : source_of run ≡ source_start run.layout input
   pub steps : run.steps ≡ 0
 
 -- an answer is that of a program's run without input at a map, beside an image's
 abbrev pub IsAnswerAt : PreparedParts → List MapLine → Contents → Compared → Type 0
 IsAnswerAt p map image answer =
-    answer ≡ told_answer p.program (compared (layout_of p.program p.closed (gates_of map) p.entry) image [] STEP_LIMIT)
+    answer ≡ told_answer p.program (compared (program_at p.program p.closed (gates_of map) p.entry) image [] STEP_LIMIT)
 
 -- an image is the one that a file spells
 pub record IsImageIn (bytes : List ℕ) (image : Contents) : Type 0 where
@@ -53,7 +53,7 @@ pub record IsImageIn (bytes : List ℕ) (image : Contents) : Type 0 where
 -- no run of a request's program at a map differs from the image's
 abbrev pub NoneDiffers : asks.Request → List MapLine → Contents → Type 0
 NoneDiffers request map image =
-    (p : PreparedParts) → IsPrepared request p → NoRunDiffers (layout_of p.program p.closed (gates_of map) p.entry) image
+    (p : PreparedParts) → IsPrepared request p → NoRunDiffers (program_at p.program p.closed (gates_of map) p.entry) image
 
 abbrev pub IsDifference : Compared → Type 0
 IsDifference (Differs index source image) = ⊤

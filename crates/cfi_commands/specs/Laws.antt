@@ -1,7 +1,7 @@
 -- What `rewrite` writes is read back: `verify` reads its image and its graph, which meet every rule, and `compare` reads its map, which is
 -- legal.
 use Rattle.rv_word.specs.Image.{Contents}
-use Rattle.rv_word.specs.Layout.{version_1}
+use Rattle.rv_word.specs.MemoryMap.{version_1}
 use Rattle.cfi_verify.specs.Rules.{IsWellFormed}
 use Rattle.cfi_harden.specs.Hardened.{HardenedParts}
 use Rattle.cfi_harden.specs.Prepared.{IsPrepared, PreparedParts}

@@ -1,7 +1,7 @@
 -- `verify IMAGE GRAPH`: whether an image goes with its graph.
 use Rattle.std.specs.Prelude.{◌≡◌, ℕ, List, [], ◌∷◌, ◌++◌, codes, Option, Some, None}
 use Rattle.rv_word.specs.Image.{Contents}
-use Rattle.rv_word.specs.Layout.{version_1}
+use Rattle.rv_word.specs.MemoryMap.{version_1}
 use Rattle.cfi_graph.specs.Graph.{GraphParts}
 use Rattle.cfi_verify.specs.Along.{IsSafe}
 use Rattle.cfi_verify.specs.RejectText.{reject_text}

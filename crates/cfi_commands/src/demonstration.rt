@@ -1,5 +1,5 @@
 ghost use Rattle.std.specs.Prelude.{◌≡◌, [], IfOk, Some, codes};
-ghost use Rattle.rv_word.specs.Layout.{version_1};
+ghost use Rattle.rv_word.specs.MemoryMap.{version_1};
 ghost use Rattle.cfi_verify.specs.Rules.{IsWellFormed};
 ghost use Rattle.cfi_flow.specs.Entry.{entry_place};
 ghost use Rattle.cfi_harden.specs.Prepared.{IsPrepared};

@@ -2,8 +2,8 @@
 use Rattle.std.proofs.Common.{◌≡◌, Bool, true, false, ℕ, zero, suc, ◌+◌, ◌<◌, ◌≤◌, List, [], ◌∷◌, length, slice_get, Option, Some, None, option_map, is_some, if◌then◌else◌, refl, sym, ap, ◌∙◌, arith, inl, inr}
 use Rattle.std.proofs.lemmas.Bool.{cases_lt}
 use Rattle.rv_word.specs.Image.{Contents}
-use Rattle.rv_word.specs.Layout.{version_1}
-use Rattle.cfi_flow.specs.GraphAtMap.{Layout}
+use Rattle.rv_word.specs.MemoryMap.{version_1}
+use Rattle.cfi_flow.specs.GraphAtMap.{ProgramAtMap}
 use Rattle.cfi_flow.specs.Source.{Source}
 use Rattle.cfi_kept.specs.PlacesKept.{bound}
 use Rattle.cfi_runs.specs.WholeRun.{undisturbed}
@@ -291,7 +291,7 @@ module _ (p : Program) where
       let place : offset ≡ here.offset = cc in
       rw (reason, part, place) refl
 
-module _ (layout : Layout) (state : Source) (image : Contents) (input : List ℕ) (limit : ℕ) where
+module _ (layout : ProgramAtMap) (state : Source) (image : Contents) (input : List ℕ) (limit : ℕ) where
   abbrev r : compared.SourceRun
   r = source_run layout limit state
 
@@ -317,7 +317,7 @@ module _ (layout : Layout) (state : Source) (image : Contents) (input : List ℕ
       tame_answer layout.program r.turn t r.state.shared.events (undisturbed version_1 image input (bound r.steps)) answer e (told_tame r.turn t e tame) moved
 
 -- a comparison from a state that is another
-pub from_same : (layout : Layout) (state start : Source) (image : Contents) (input : List ℕ) (limit : ℕ) (answer : Compared) → state ≡ start
+pub from_same : (layout : ProgramAtMap) (state start : Source) (image : Contents) (input : List ℕ) (limit : ℕ) (answer : Compared) → state ≡ start
     → answer ≡ told_answer layout.program (compared.compared_from layout state image input limit)
     → answer ≡ told_answer layout.program (compared.compared_from layout start image input limit)
 from_same layout state start image input limit answer begun is =

@@ -1,7 +1,7 @@
 -- An image's run that is under way: one step of it, and the system calls that are alike so far.
 use Rattle.std.proofs.Common.{◌≡◌, true, false, ℕ, zero, suc, ◌+◌, ◌-◌, ◌<◌, ◌≤◌, List, [], ◌∷◌, ◌++◌, length, replicate, slice_get, Option, Some, None, append-nil, refl, sym, ap, ◌∙◌, arith}
 use Rattle.std.proofs.lemmas.Option.{slice_get_past, slice_get_within}
-use Rattle.rv_word.specs.Layout.{version_1}
+use Rattle.rv_word.specs.MemoryMap.{version_1}
 use Rattle.rv_code.specs.Run.{ByteChange, next_or_stop, run}
 use Rattle.rv_code.specs.State.{After, Hart, Shared}
 use Rattle.rv_code.specs.Step.{step}

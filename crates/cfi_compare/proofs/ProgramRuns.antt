@@ -1,6 +1,6 @@
 -- A program's run that is under way: its first steps, each of which ran, and what comes after them.
 use Rattle.std.proofs.Common.{◌≡◌, Bool, true, false, ℕ, zero, suc, ◌+◌, ◌-◌, ◌<◌, ◌≤◌, refl, sym, ap, ◌∙◌, arith}
-use Rattle.cfi_flow.specs.GraphAtMap.{Layout}
+use Rattle.cfi_flow.specs.GraphAtMap.{ProgramAtMap}
 use Rattle.cfi_flow.specs.Source.{Source}
 use Rattle.cfi_flow.specs.SourceStep.{StepTurn, breaks, exits, ran, source_step, untame}
 use Rattle.obj_program.specs.Program.{Program}
@@ -81,7 +81,7 @@ of_steps r k = record { steps = k; state = r.state; turn = r.turn }
 counts : (r : SourceRun) (a b : ℕ) → a ≡ b → of_steps r a ≡ of_steps r b
 counts r a b e = ap (λ (k : ℕ). of_steps r k) e
 
-module _ (layout : Layout) where
+module _ (layout : ProgramAtMap) where
   abbrev GoesOn : ℕ → Type 0
   GoesOn n = (m : ℕ) (st s : Source) → source_run layout n st ≡ going n s → source_run layout (n + m) st ≡ after n (source_run layout m s)
 

@@ -1,5 +1,5 @@
 ghost use Rattle.std.specs.Prelude.{◌≡◌, ◌≤◌, ◌^◌, [], IfOk, is_some, option_map, replicate, slice_get};
-ghost use Rattle.rv_word.specs.Layout.{version_1};
+ghost use Rattle.rv_word.specs.MemoryMap.{version_1};
 ghost use Rattle.rv_code.specs.Run.{run};
 ghost use Rattle.rv_machine.specs.Parts.{hart_in, shared_in};
 ghost use Rattle.src_machine.specs.Running.{source_of};

@@ -1,5 +1,5 @@
 ghost use Rattle.std.specs.Prelude.{◌≡◌, ◌≤◌, ◌^◌, [], false, IfOk, replicate};
-ghost use Rattle.rv_word.specs.Layout.{version_1};
+ghost use Rattle.rv_word.specs.MemoryMap.{version_1};
 ghost use Rattle.rv_code.specs.Run.{run};
 ghost use Rattle.rv_machine.specs.Parts.{hart_in, shared_in};
 ghost use Rattle.cfi_compare.specs.Followed.{Agree, IsFollowed, agree_at, is_stop};

@@ -2,7 +2,7 @@
 -- gates and counts of steps are worked out by hand.
 use Rattle.std.proofs.Common.{◌≡◌, ℕ, ◌+◌, ◌-◌, ◌^◌, true, false, List, [], ◌∷◌, Option, Some, None, length, replicate, pos, refl}
 use Rattle.std.specs.Prelude.{option_map}
-use Rattle.rv_word.specs.Layout.{CLOSING, version_1}
+use Rattle.rv_word.specs.MemoryMap.{CLOSING, version_1}
 use Rattle.rv_word.specs.Memory.{placed, write}
 use Rattle.rv_instr.specs.Registers.{set_reg}
 use Rattle.rv_code.specs.Decode.{decoded}
@@ -17,7 +17,7 @@ use Rattle.obj_program.specs.declared.item.Value.TheVariants.{GateOf, Number}
 use Rattle.obj_program.specs.AtMap.{instr_at}
 use Rattle.obj_program.specs.DataAtMap.{data_at}
 use Rattle.cfi_flow.specs.Closed.{ClosedGraph}
-use Rattle.cfi_flow.specs.GraphAtMap.{Layout}
+use Rattle.cfi_flow.specs.GraphAtMap.{ProgramAtMap}
 use Rattle.cfi_flow.specs.Placement.{words_from}
 use Rattle.cfi_flow.specs.declared.reason.Reason.TheVariants as why
 use Rattle.cfi_flow.specs.Source.{Source, source_start}
@@ -32,7 +32,7 @@ end offset = at offset is.End 0
 abbrev to : ℕ → Item → Item
 to target item = record item { target = Some target }
 
-abbrev program : List Item → List ℕ → List DataReloc → List ℕ → ClosedGraph → Layout
+abbrev program : List Item → List ℕ → List DataReloc → List ℕ → ClosedGraph → ProgramAtMap
 program items init relocations gates closed = record {
   profile = version_1;
   program = record { items = items; init = init; relocations = relocations; data_end = 0x10000; funcs = []; names = [] };
@@ -45,14 +45,14 @@ abbrev no_classes : ClosedGraph
 no_classes = record { classes = []; sites = []; taken = [] }
 
 -- what is seen after so many steps, and how the next one ends
-abbrev seen : {A : Type 0} → (Source → A) → Layout → ℕ → Option A
+abbrev seen : {A : Type 0} → (Source → A) → ProgramAtMap → ℕ → Option A
 seen see layout n = option_map see (after_steps layout n (source_start layout []))
 
-abbrev turn : Layout → ℕ → Option StepTurn
+abbrev turn : ProgramAtMap → ℕ → Option StepTurn
 turn layout n = seen (λ st. (source_step layout st).turn) layout n
 
 -- `addi x10, x0, 7; ret`
-abbrev seven : Layout
+abbrev seven : ProgramAtMap
 seven = program (at 0 is.Plain 0x00700513 ∷ at 4 is.Return 0x00008067 ∷ end 8 ∷ []) [] [] (0x40000040 ∷ 0x40000044 ∷ 0x40000058 ∷ []) no_classes
 
 -- the return leads to the closing, where the one step is an exit; asked again, it is told again, with no event more
@@ -71,7 +71,7 @@ unfolding source_step after_steps decoded instr_at words_from last_exit data_at
 seven_event = (refl, refl)
 
 -- `sd x2, -1(x2)` ends past 2 ^ 28, and leaves the state as it was
-abbrev over_the_end : Layout
+abbrev over_the_end : ProgramAtMap
 over_the_end = program (at 0 is.Store 0xfe213fa3 ∷ at 4 is.Return 0x00008067 ∷ end 8 ∷ []) [] [] (0x40000040 ∷ 0x40000050 ∷ 0x40000064 ∷ []) no_classes
 
 off_window : (turn over_the_end 0 ≡ Some (untame why.Window 0)) × (seen (λ st. (source_step over_the_end st).state.place) over_the_end 0 ≡ Some (Some 0))
@@ -79,7 +79,7 @@ unfolding source_step after_steps decoded instr_at words_from last_exit data_at
 off_window = (refl, refl)
 
 -- `sd x2, -8(x2)` ends just there
-abbrev to_the_end : Layout
+abbrev to_the_end : ProgramAtMap
 to_the_end = program (at 0 is.Store 0xfe213c23 ∷ at 4 is.Return 0x00008067 ∷ end 8 ∷ []) [] [] (0x40000040 ∷ 0x40000050 ∷ 0x40000064 ∷ []) no_classes
 
 in_window : (turn to_the_end 0 ≡ Some ran) × (seen (λ st. st.shared.memory 0x0ffffffb) to_the_end 1 ≡ Some 0x10) × (turn to_the_end 2 ≡ Some (exits 0))
@@ -87,7 +87,7 @@ unfolding source_step after_steps decoded instr_at words_from last_exit data_at 
 in_window = (refl, refl, refl)
 
 -- `lui x5, 40000h; sd x0, 0(x5)` goes to code
-abbrev into_code : Layout
+abbrev into_code : ProgramAtMap
 into_code = program (at 0 is.Plain 0x400002b7 ∷ at 4 is.Store 0x0002b023 ∷ at 8 is.Return 0x00008067 ∷ end 12 ∷ []) [] []
     (0x40000040 ∷ 0x40000044 ∷ 0x40000054 ∷ 0x40000068 ∷ []) no_classes
 
@@ -96,7 +96,7 @@ unfolding source_step after_steps decoded instr_at words_from last_exit data_at
 off_data = (refl, refl)
 
 -- `jalr x1, 0(x5)` whose site has no targets
-abbrev nowhere : Layout
+abbrev nowhere : ProgramAtMap
 nowhere = program (at 0 is.Icall 0x000280e7 ∷ at 4 is.Return 0x00008067 ∷ end 8 ∷ []) [] [] (0x40000040 ∷ 0x40000090 ∷ 0x400000a4 ∷ [])
     (record { classes = []; sites = record { place = 0; class = None } ∷ []; taken = false ∷ false ∷ false ∷ [] })
 
@@ -113,7 +113,7 @@ unfolding source_step after_steps decoded instr_at words_from last_exit data_at
 off_graph_first = refl
 
 -- a section that runs into its end
-abbrev into_the_end : Layout
+abbrev into_the_end : ProgramAtMap
 into_the_end = program (at 0 is.Plain 0x00000013 ∷ end 4 ∷ []) [] [] (0x40000040 ∷ 0x40000044 ∷ []) no_classes
 
 at_the_end : (turn into_the_end 0 ≡ Some ran) × (turn into_the_end 1 ≡ Some (untame why.End 1))
@@ -131,7 +131,7 @@ unfolding source_step after_steps decoded instr_at words_from last_exit data_at
 wrong_return = (refl, refl, refl)
 
 -- `jal x1` to the return; the place after the call is a target, so the link is its gate, and its AUIPC reads the word behind that
-abbrev linked : Layout
+abbrev linked : ProgramAtMap
 linked = program (to 2 (at 0 is.Call 0x008000ef) ∷ at 4 is.Plain 0x00000297 ∷ at 8 is.Return 0x00008067 ∷ end 12 ∷ []) [] []
     (0x40000040 ∷ 0x40000060 ∷ 0x40000068 ∷ 0x4000007c ∷ []) (record { classes = (1 ∷ []) ∷ []; sites = []; taken = false ∷ true ∷ false ∷ false ∷ [] })
 
@@ -147,7 +147,7 @@ unfolding source_step after_steps decoded instr_at words_from last_exit data_at
 deep = (refl, refl)
 
 -- `ebreak`, and system calls 94 and 1 by the program itself: x17 is 94, x10 is 263; of another number the answer is -38
-abbrev stopping : ℕ → ℕ → Layout
+abbrev stopping : ℕ → ℕ → ProgramAtMap
 stopping number word = program (at 0 is.Plain 0x10700513 ∷ at 4 is.Plain number ∷ at 8 is.System word ∷ at 12 is.Return 0x00008067 ∷ end 16 ∷ []) [] []
     (0x40000040 ∷ 0x40000044 ∷ 0x40000048 ∷ 0x4000004c ∷ 0x40000060 ∷ []) no_classes
 
@@ -158,7 +158,7 @@ unfolding source_step after_steps decoded instr_at words_from last_exit data_at
 stops = (refl, refl, refl, refl, refl)
 
 -- a branch that is taken, and one that is not
-abbrev branching : ℕ → Layout
+abbrev branching : ℕ → ProgramAtMap
 branching word = program (to 2 (at 0 is.Branch word) ∷ at 4 is.Plain 0x00100513 ∷ at 8 is.Return 0x00008067 ∷ end 12 ∷ []) [] []
     (0x40000040 ∷ 0x40000044 ∷ 0x40000048 ∷ 0x4000005c ∷ []) no_classes
 
@@ -171,7 +171,7 @@ branches_by_places = (refl, refl, refl, refl)
 abbrev relocated : ℕ → ℕ → DataReloc
 relocated offset target = record { section = 2; at = offset; offset = offset; patch = Abs64; value = GateOf target }
 
-abbrev pointer : Layout
+abbrev pointer : ProgramAtMap
 pointer = program
     (at 0 is.Plain 0xff010113 ∷ at 4 is.Store 0x00113423 ∷ record (at 8 is.Plain 0x000002b7) { patch = put.High (Number (pos 0x10000)) }
     ∷ record (at 12 is.Plain 0x0002b283) { patch = put.Low (Number (pos 0x10000)) } ∷ at 16 is.Icall 0x000280e7 ∷ at 20 is.Plain 0x00813083

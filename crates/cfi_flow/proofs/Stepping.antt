@@ -15,7 +15,7 @@ use Rattle.cfi_flow.specs.Below.{where_below}
 use Rattle.cfi_flow.specs.Kept.{AreKept, mark_at, open_targets, site_with, sites_of}
 use Rattle.cfi_flow.specs.Marks.{AreBegun}
 use Rattle.cfi_flow.specs.Policy.{allowed, names_site, no_line, targets_by, targets_under}
-use Rattle.cfi_flow.specs.Sites.{RawSite, is_function, reached, reaches, site_at, site_kind, sites_below}
+use Rattle.cfi_flow.specs.Sites.{RawSite, is_function, reached, may_reach, site_at, site_kind, sites_below}
 use Rattle.cfi_flow.specs.Spans.{goes_inside, in_span}
 use Rattle.cfi_flow.proofs.Finding.{find_none, find_some}
 use Rattle.cfi_flow.proofs.Listing.{below_same}
@@ -34,7 +34,7 @@ module _ (program : Program) (lines : List PolicyLine) (k : ℕ) where
   by_none kind e = sym (ap (targets_by program kind k) (find_none (names_site program k) lines (sym e)))
 
 one_reached : (program : Program) (kind : SiteKind) (k t : ℕ)
-    → ((item_of program t).taken && (is_function program (item_of program t) || goes_inside program kind k t)) ≡ reaches program kind (item_of program k) (item_of program t)
+    → ((item_of program t).taken && (is_function program (item_of program t) || goes_inside program kind k t)) ≡ may_reach program kind (item_of program k) (item_of program t)
 one_reached program site.Call k t = ap (λ (b : Bool). (item_of program t).taken && b) (or_false (is_function program (item_of program t)))
 one_reached program site.Jump k t = refl
 

@@ -1,7 +1,7 @@
 -- The graph of a program at a map: its classes by the gates of their targets, the opening's call of the entry, which stands where a
 -- run starts, and a line for each transfer at its word.
 use Rattle.std.specs.Prelude.{ℕ, ◌+◌, Option, Some, None, List, [], ◌∷◌, ◌++◌, map, slice_index}
-use Rattle.rv_word.specs.Layout.{Profile, START}
+use Rattle.rv_word.specs.MemoryMap.{Profile, START, version_1}
 use Rattle.obj_input.specs.declared.item_kind.ItemKind.{ItemKind}
 use Rattle.obj_input.specs.declared.item_kind.ItemKind.TheVariants as is
 use Rattle.obj_program.specs.declared.item.Item.{Item}
@@ -14,20 +14,24 @@ use Rattle.cfi_flow.specs.LabelOf.{all_classes, site_label}
 use Rattle.cfi_flow.specs.Placement.{word_of}
 
 -- a program with its closed graph at a map, entered at a place
-pub record Layout : Type 0 where
+pub record ProgramAtMap : Type 0 where
   pub profile : Profile
   pub program : Program
   pub closed : ClosedGraph
   pub gates : List ℕ
   pub entry : ℕ
 
-abbrev pub gate : Layout → ℕ → ℕ
+-- a program that is written for one hart, at these gates
+abbrev pub program_at : Program → ClosedGraph → List ℕ → ℕ → ProgramAtMap
+program_at program closed gates entry = record { profile = version_1; program = program; closed = closed; gates = gates; entry = entry }
+
+abbrev pub gate : ProgramAtMap → ℕ → ℕ
 gate layout k = slice_index layout.gates k
 
-abbrev pub word : Layout → ℕ → ℕ
+abbrev pub word : ProgramAtMap → ℕ → ℕ
 word layout k = word_of layout.closed.classes layout.gates k
 
-abbrev pub gate_to : Layout → Option ℕ → ℕ
+abbrev pub gate_to : ProgramAtMap → Option ℕ → ℕ
 gate_to layout None = 0
 gate_to layout (Some k) = gate layout k
 
@@ -45,19 +49,19 @@ line_of_kind is.Icall at target label = Some (line.Site at site.Call label)
 line_of_kind other at target label = None
 
 -- the line of a place
-abbrev pub line_for : Layout → List ℕ → ℕ → Item → Option GraphLine
+abbrev pub line_for : ProgramAtMap → List ℕ → ℕ → Item → Option GraphLine
 line_for layout labels k item = line_of_kind item.kind (word layout k) (gate_to layout item.target) (site_label labels layout.closed k)
 
 abbrev pub with_line : Option GraphLine → List GraphLine → List GraphLine
 with_line None lines = lines
 with_line (Some one) lines = one ∷ lines
 
-unfoldable pub place_lines : Layout → List ℕ → ℕ → List Item → List GraphLine
+unfoldable pub place_lines : ProgramAtMap → List ℕ → ℕ → List Item → List GraphLine
 place_lines layout labels k [] = []
 place_lines layout labels k (item ∷ items) = with_line (line_for layout labels k item) (place_lines layout labels (k + 1) items)
 
 -- all lines, under these labels of the classes
-abbrev pub graph_lines : Layout → List ℕ → List GraphLine
+abbrev pub graph_lines : ProgramAtMap → List ℕ → List GraphLine
 graph_lines layout labels =
     class_lines layout.gates labels (all_classes layout.closed)
     ++ (line.Call START (gate layout layout.entry) ∷ place_lines layout labels 0 layout.program.items)

@@ -2,7 +2,7 @@
 -- gate word where its place is some class's target; a section's end has a stop.
 use Rattle.std.specs.Prelude.{◌≡◌, ℕ, ◌+◌, Bool, true, if◌then◌else◌, List, [], ◌∷◌, slice_index, slice_index_or}
 use Rattle.std.specs.List.{list_any}
-use Rattle.rv_word.specs.Layout.{UNITS_START}
+use Rattle.rv_word.specs.MemoryMap.{UNITS_START}
 use Rattle.obj_input.specs.declared.item_kind.ItemKind.{ItemKind}
 use Rattle.obj_input.specs.declared.item_kind.ItemKind.TheVariants as is
 use Rattle.obj_program.specs.declared.item.Item.{Item}

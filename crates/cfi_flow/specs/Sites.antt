@@ -34,12 +34,12 @@ are_in_one program a b = list_any (λ f. covers a f && covers b f) program.funcs
 
 -- whether a site of a kind may go from a place to another: to functions whose address is taken; a jump also to taken places in
 -- the functions that cover it
-abbrev pub reaches : Program → SiteKind → Item → Item → Bool
-reaches program site.Call from to = to.taken && is_function program to
-reaches program site.Jump from to = to.taken && (is_function program to || are_in_one program from to)
+abbrev pub may_reach : Program → SiteKind → Item → Item → Bool
+may_reach program site.Call from to = to.taken && is_function program to
+may_reach program site.Jump from to = to.taken && (is_function program to || are_in_one program from to)
 
 abbrev pub reached : Program → SiteKind → ℕ → List ℕ
-reached program kind k = where_below (λ t. reaches program kind (item_of program k) (item_of program t)) (count program)
+reached program kind k = where_below (λ t. may_reach program kind (item_of program k) (item_of program t)) (count program)
 
 -- a site by its place, with its targets rising
 pub record RawSite : Type 0 where

@@ -1,7 +1,7 @@
 -- The source machine: a program at a map runs as the standard says, one instruction a step. It knows no units: where they
 -- stand, it sees by the gates and words of its places alone.
 use Rattle.std.specs.Prelude.{ℕ, ◌^◌, Option, Some, unwrap_or, List, []}
-use Rattle.rv_word.specs.Layout.{DATA_START}
+use Rattle.rv_word.specs.MemoryMap.{DATA_START}
 use Rattle.rv_word.specs.Memory.{placed, zeros}
 use Rattle.rv_instr.specs.declared.instr.Instr.{Instr}
 use Rattle.rv_instr.specs.declared.instr.Instr.TheVariants as I
@@ -9,7 +9,7 @@ use Rattle.rv_instr.specs.Registers.{Registers, cleared, set_reg}
 use Rattle.rv_code.specs.State.{Shared}
 use Rattle.obj_program.specs.AtMap.{instr_at}
 use Rattle.obj_program.specs.DataAtMap.{data_at}
-use Rattle.cfi_flow.specs.GraphAtMap.{Layout}
+use Rattle.cfi_flow.specs.GraphAtMap.{ProgramAtMap}
 use Rattle.cfi_flow.specs.Placement.{words_from}
 
 pub record Source : Type 0 where
@@ -21,15 +21,15 @@ pub record Source : Type 0 where
   pub pending : List ℕ
 
 -- the instruction of a place, with the values of its relocations; at a legal map in range only a section's end has none
-abbrev pub instr_here : Layout → ℕ → Instr
+abbrev pub instr_here : ProgramAtMap → ℕ → Instr
 instr_here layout k = unwrap_or (instr_at layout.program layout.gates (words_from layout.closed.classes 0 layout.gates) k) I.Ebreak
 
 -- the initialised data, with the values of their relocations
-abbrev pub init_here : Layout → List ℕ
+abbrev pub init_here : ProgramAtMap → List ℕ
 init_here layout = unwrap_or (data_at layout.program layout.gates) []
 
 -- a run starts at the entry, which x1 has return to the closing; x2 is the end of the window
-abbrev pub source_start : Layout → List ℕ → Source
+abbrev pub source_start : ProgramAtMap → List ℕ → Source
 source_start layout input = record {
   place = Some layout.entry;
   regs = set_reg (set_reg cleared 2 (2 ^ 28)) 1 layout.profile.closing;

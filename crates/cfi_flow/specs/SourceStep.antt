@@ -13,7 +13,7 @@ use Rattle.obj_input.specs.declared.item_kind.ItemKind.{ItemKind}
 use Rattle.obj_input.specs.declared.item_kind.ItemKind.TheVariants as is
 use Rattle.obj_program.specs.declared.item.Item.{Item}
 use Rattle.obj_program.specs.Program.{item_of}
-use Rattle.cfi_flow.specs.GraphAtMap.{Layout, gate, word}
+use Rattle.cfi_flow.specs.GraphAtMap.{ProgramAtMap, gate, word}
 use Rattle.cfi_flow.specs.declared.reason.Reason.{Reason}
 use Rattle.cfi_flow.specs.declared.reason.Reason.TheVariants as why
 use Rattle.cfi_flow.specs.Source.{Source, instr_here}
@@ -42,7 +42,7 @@ branches k (Branch op rs1 rs2 imm) target st =
 branches k other target st = goes_to st (Some (k + 1))
 
 -- a call links x1 to the gate of the following place
-abbrev pub calls : Layout → ℕ → ℕ → Source → SourceAfter
+abbrev pub calls : ProgramAtMap → ℕ → ℕ → Source → SourceAfter
 calls layout k target st = record {
   state = record st { place = Some target; regs = set_reg st.regs 1 (gate layout (k + 1)); pending = (k + 1) ∷ st.pending };
   turn = ran;
@@ -72,11 +72,11 @@ leaves k st after = record {
 abbrev pub hart_at : ℕ → Registers → Hart
 hart_at pc regs = record { pc = pc; regs = regs }
 
-abbrev pub executes : Layout → ℕ → Instr → Source → SourceAfter
+abbrev pub executes : ProgramAtMap → ℕ → Instr → Source → SourceAfter
 executes layout k instr st = leaves k st (exec layout.profile instr (hart_at (word layout k) st.regs) st.shared)
 
 -- what an instruction of a kind does, with the place that a direct transfer goes to
-abbrev pub acts : Layout → ℕ → ItemKind → Instr → ℕ → Source → SourceAfter
+abbrev pub acts : ProgramAtMap → ℕ → ItemKind → Instr → ℕ → Source → SourceAfter
 acts layout k is.Branch instr target st = branches k instr target st
 acts layout k is.Jump instr target st = goes_to st (Some target)
 acts layout k is.Call instr target st = calls layout k target st
@@ -89,18 +89,18 @@ abbrev pub unless : Option Reason → ℕ → Source → SourceAfter → SourceA
 unless None k st after = after
 unless (Some because) k st after = record { state = st; turn = untame because k }
 
-abbrev pub step_item : Layout → ℕ → Item → Source → SourceAfter
+abbrev pub step_item : ProgramAtMap → ℕ → Item → Source → SourceAfter
 step_item layout k item st =
     unless (reason layout k item.kind (instr_here layout k) st) k st
     (acts layout k item.kind (instr_here layout k) (unwrap_or item.target 0) st)
 
 -- at the closing the one step is system call 93
-abbrev pub closes : Layout → Source → SourceAfter
+abbrev pub closes : ProgramAtMap → Source → SourceAfter
 closes layout st =
     let after = exec layout.profile Ecall (hart_at layout.profile.closing (set_reg st.regs 17 93)) st.shared in
     record { state = record st { shared = after.shared }; turn = turn_at 0 after.turn }
 
-abbrev pub step_at : Layout → Option ℕ → Source → SourceAfter
+abbrev pub step_at : ProgramAtMap → Option ℕ → Source → SourceAfter
 step_at layout None st = closes layout st
 step_at layout (Some k) st = step_item layout k (item_of layout.program k) st
 
@@ -109,7 +109,7 @@ abbrev pub unless_ended : Option ℕ → Source → SourceAfter → SourceAfter
 unless_ended (Some status) st after = record { state = st; turn = exits status }
 unless_ended None st after = after
 
-unfoldable pub source_step : Layout → Source → SourceAfter
+unfoldable pub source_step : ProgramAtMap → Source → SourceAfter
 source_step layout st = unless_ended (last_exit st.shared.events) st (step_at layout st.place st)
 
 -- the state after some steps, if each of them ran
@@ -117,7 +117,7 @@ abbrev pub going_on : StepTurn → Source → Option Source
 going_on ran st = Some st
 going_on other st = None
 
-unfoldable pub after_steps : Layout → ℕ → Source → Option Source
+unfoldable pub after_steps : ProgramAtMap → ℕ → Source → Option Source
 after_steps layout zero st = Some st
 after_steps layout (suc n) st =
     option_and_then (λ (s : Source). going_on (source_step layout s).turn (source_step layout s).state) (after_steps layout n st)

@@ -12,7 +12,7 @@ use Rattle.obj_input.specs.declared.item_kind.ItemKind.{ItemKind}
 use Rattle.obj_input.specs.declared.item_kind.ItemKind.TheVariants as is
 use Rattle.obj_program.specs.Program.{is_end}
 use Rattle.cfi_flow.specs.Closed.{ClosedGraph, class_at, class_of}
-use Rattle.cfi_flow.specs.GraphAtMap.{Layout, gate}
+use Rattle.cfi_flow.specs.GraphAtMap.{ProgramAtMap, gate}
 use Rattle.cfi_flow.specs.declared.reason.Reason.{Reason}
 use Rattle.cfi_flow.specs.declared.reason.Reason.TheVariants as why
 use Rattle.cfi_flow.specs.Source.{Source}
@@ -40,18 +40,18 @@ is_same (Some class) (Some other) = class == other
 is_same other another = false
 
 -- the class that the site at a place reaches has another place
-abbrev pub reaches : ClosedGraph → ℕ → ℕ → Bool
-reaches closed k target = is_same (class_of closed k) (class_at closed target)
+abbrev pub class_reaches : ClosedGraph → ℕ → ℕ → Bool
+class_reaches closed k target = is_same (class_of closed k) (class_at closed target)
 
 abbrev pub if_reached : ClosedGraph → ℕ → ℕ → Option ℕ
-if_reached closed k target = if reaches closed k target then Some target else None
+if_reached closed k target = if class_reaches closed k target then Some target else None
 
 -- the place with a gate
 abbrev pub place_with_gate : List ℕ → ℕ → Option ℕ
 place_with_gate gates address = position (λ g. g == address) gates
 
 -- the place that a computed transfer goes to, where the closed graph has it
-abbrev pub computed_place : Layout → ℕ → Instr → Registers → Option ℕ
+abbrev pub computed_place : ProgramAtMap → ℕ → Instr → Registers → Option ℕ
 computed_place layout k instr regs = option_and_then (if_reached layout.closed k) (place_with_gate layout.gates (computed instr regs))
 
 -- the end of the bytes that a load or a store touches
@@ -61,16 +61,16 @@ touched (Store op rs1 rs2 imm) regs = sum_of regs rs1 imm + store_size op
 touched other regs = 0
 
 -- where x1 has to lead at a return: the newest pending call's site, or the closing
-abbrev pub return_address : Layout → List ℕ → ℕ
+abbrev pub return_address : ProgramAtMap → List ℕ → ℕ
 return_address layout [] = layout.profile.closing
 return_address layout (k ∷ pending) = gate layout k
 
-abbrev pub is_off_graph : Layout → ℕ → ItemKind → Instr → Source → Bool
+abbrev pub is_off_graph : ProgramAtMap → ℕ → ItemKind → Instr → Source → Bool
 is_off_graph layout k is.Ijump instr st = is_none (computed_place layout k instr st.regs)
 is_off_graph layout k is.Icall instr st = is_none (computed_place layout k instr st.regs)
 is_off_graph layout k other instr st = false
 
-abbrev pub is_wrong_return : Layout → ItemKind → Source → Bool
+abbrev pub is_wrong_return : ProgramAtMap → ItemKind → Source → Bool
 is_wrong_return layout is.Return st = not (get_reg st.regs 1 == return_address layout st.pending)
 is_wrong_return layout other st = false
 
@@ -85,7 +85,7 @@ is_too_deep is.Icall st = nat_le MOST_CALLS (length st.pending)
 is_too_deep other st = false
 
 -- the first reason that stands against the step of an instruction of a kind at a place
-abbrev pub reason : Layout → ℕ → ItemKind → Instr → Source → Option Reason
+abbrev pub reason : ProgramAtMap → ℕ → ItemKind → Instr → Source → Option Reason
 reason layout k kind instr st =
     if is_off_graph layout k kind instr st then Some why.Graph else
     if is_wrong_return layout kind st then Some why.Return else

@@ -2,7 +2,7 @@
 -- offset in that section; a gate is an address of the code.
 use Rattle.std.specs.Prelude.{ℕ, ◌+◌, ◌%◌, ◌^◌, ◌==◌, nat_lt, nat_le, Bool, ◌&&◌, ◌||◌, IsTrue, List}
 use Rattle.std.specs.List.{list_all}
-use Rattle.rv_word.specs.Layout.{CODE_START, CODE_SIZE}
+use Rattle.rv_word.specs.MemoryMap.{CODE_START, CODE_SIZE}
 use Rattle.cfi_graph.specs.declared.map.MapLine.{MapLine}
 use Rattle.cfi_graph.specs.Graph.{is_rising}
 

@@ -2,7 +2,7 @@
 use Rattle.std.proofs.Common.{◌≡◌, ℕ, ◌+◌, ◌-◌, ◌*◌, ◌≤◌, ◌<◌, Bool, true, false, List, length, Option, Some, None, refl, subst, arith}
 use Rattle.std.specs.Prelude.{◌&&◌, not, is_none, is_some}
 use Rattle.std.proofs.lemmas.List.{length-append}
-use Rattle.rv_word.specs.Layout.{CODE_SIZE, UNITS_START, version_1}
+use Rattle.rv_word.specs.MemoryMap.{CODE_SIZE, UNITS_START, version_1}
 use Rattle.obj_program.specs.AtMap.{instr_at}
 use Rattle.obj_program.specs.DataAtMap.{data_at}
 use Rattle.obj_program.specs.Program.{Program, count, is_end, item_of}

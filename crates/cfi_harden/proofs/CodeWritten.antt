@@ -1,7 +1,7 @@
 -- The words of a code while it is written.
 use Rattle.std.proofs.Common.{◌≡◌, ℕ, suc, ◌+◌, ◌*◌, ◌<◌, ◌≤◌, List, [], ◌∷◌, ◌++◌, length, length-append, map, drop, arith, ap, ◌∙◌, sym, subst, append_assoc, append-nil, get_or}
 use Rattle.std.proofs.Math.Seq.{drop-cons}
-use Rattle.rv_word.specs.Layout.{CODE_SIZE, CODE_START, START, version_1}
+use Rattle.rv_word.specs.MemoryMap.{CODE_SIZE, CODE_START, START, version_1}
 use Rattle.rv_code.specs.Encode.{code_of}
 use Rattle.cfi_unit.specs.declared.unit.Unit as U
 use Rattle.cfi_unit.specs.declared.unit.Unit.TheVariants as V

@@ -5,7 +5,7 @@ use Rattle.std.proofs.lemmas.Bool.{and_parts}
 use Rattle.std.proofs.lemmas.Option.{cond_some, same_Some}
 use Rattle.rv_word.proofs.Cases.{cases_Option, mapped}
 use Rattle.rv_reloc.specs.Value.{hi20, lo12, low_bits}
-use Rattle.rv_reloc.specs.Word.{reaches}
+use Rattle.rv_reloc.specs.Word.{is_high_in_range}
 use Rattle.rv_instr.specs.InRange.{IsInstr}
 use Rattle.rv_instr.specs.declared.instr.Instr.{Instr}
 use Rattle.rv_instr.specs.declared.instr.Instr.TheVariants.{Upper, Jalr, Load, Store, Immediate}
@@ -39,7 +39,7 @@ lower_range other field small range = range
 
 high_range : (i j : Instr) (value : ℤ) → IsInstr i → high_part i value ≡ Some j → IsInstr j
 high_range i j value range gives =
-    let g = cond_some (reaches value) (with_upper i (low_bits 20 (hi20 value))) j gives in
+    let g = cond_some (is_high_in_range value) (with_upper i (low_bits 20 (hi20 value))) j gives in
     subst IsInstr g.1 (upper_range i (low_bits 20 (hi20 value)) (low_below 20 (hi20 value) (lit< tt)) range)
 
 low_range : (i j : Instr) (value : ℤ) → IsInstr i → low_part i value ≡ j → IsInstr j

@@ -5,7 +5,7 @@ use Rattle.std.proofs.lemmas.Bool.{and_from, and_parts, cases_lt, cases_order, e
 use Rattle.std.proofs.lemmas.List.{get_or_past}
 use Rattle.std.proofs.lemmas.Option.{get_or_from_slice_get, same_Some}
 use Rattle.rv_word.specs.Bits.{wrap}
-use Rattle.rv_word.specs.Layout.{UNITS_START}
+use Rattle.rv_word.specs.MemoryMap.{UNITS_START}
 use Rattle.rv_word.proofs.Cases.{cases_Option}
 use Rattle.rv_instr.specs.declared.instr.Instr.{Instr}
 use Rattle.rv_instr.specs.declared.instr.Instr.TheVariants as I

@@ -5,27 +5,27 @@ use Rattle.std.specs.List.{All}
 use Rattle.std.proofs.Math.ListN.{drop_of_length-le}
 use Rattle.std.proofs.Math.Seq.{drop-cons, take-suc}
 use Rattle.std.proofs.lemmas.List.{get_or_append_left, get_or-append-add, get_or_default, map-append, take_all}
-use Rattle.rv_word.specs.Layout.{START}
+use Rattle.rv_word.specs.MemoryMap.{START}
 use Rattle.obj_program.specs.declared.item.Item.{Item}
 use Rattle.obj_program.specs.Program.{count, item_of, no_item}
 use Rattle.cfi_graph.specs.declared.line.GraphLine.{GraphLine}
 use Rattle.cfi_graph.specs.declared.line.GraphLine.TheVariants as line
 use Rattle.cfi_flow.specs.declared.closed.Site.{Site}
 use Rattle.cfi_flow.specs.Closed.{ClosedGraph}
-use Rattle.cfi_flow.specs.GraphAtMap.{Layout, class_lines, gate, graph_lines, line_for, place_lines, with_line}
+use Rattle.cfi_flow.specs.GraphAtMap.{ProgramAtMap, class_lines, gate, graph_lines, line_for, place_lines, with_line}
 use Rattle.cfi_flow.specs.LabelOf.{all_classes, empty_classes, with_empty}
 use Rattle.cfi_harden.specs.Accepted.{IsAccepted}
 use Rattle.cfi_harden.specs.Units.{Choice}
 
 -- these are lines before those of the places from index k on
-abbrev pub AreLines : Layout → List ℕ → ℕ → List GraphLine → List GraphLine → Type 0
+abbrev pub AreLines : ProgramAtMap → List ℕ → ℕ → List GraphLine → List GraphLine → Type 0
 AreLines layout labels k first whole = first ++ place_lines layout labels k (drop k layout.program.items) ≡ whole
 
 split_line : (one : Option GraphLine) (rest : List GraphLine) → with_line one [] ++ rest ≡ with_line one rest
 split_line None rest = refl
 split_line (Some one) rest = refl
 
-pub next_lines : (layout : Layout) (labels : List ℕ) (k : ℕ) (first more whole : List GraphLine) → k < count layout.program
+pub next_lines : (layout : ProgramAtMap) (labels : List ℕ) (k : ℕ) (first more whole : List GraphLine) → k < count layout.program
     → AreLines layout labels k first whole → more ≡ first ++ with_line (line_for layout labels k (item_of layout.program k)) []
     → AreLines layout labels (k + 1) more whole
 unfolding place_lines
@@ -41,7 +41,7 @@ next_lines layout labels k first more whole below are is =
     (ap (λ (ls : List GraphLine). ls ++ rest) is ∙ append_assoc first (with_line one []) rest
     ∙ ap (λ (ls : List GraphLine). first ++ ls) (split_line one rest) ∙ all)
 
-pub all_lines : (layout : Layout) (labels : List ℕ) (k : ℕ) (first whole : List GraphLine) → count layout.program ≤ k
+pub all_lines : (layout : ProgramAtMap) (labels : List ℕ) (k : ℕ) (first whole : List GraphLine) → count layout.program ≤ k
     → AreLines layout labels k first whole → first ≡ whole
 unfolding place_lines
 all_lines layout labels k first whole past are =
@@ -114,7 +114,7 @@ members_there m c accepted below i d inside =
     let class = slice_index_or m.layout.closed.classes c [] in
     accepted.members c (get_or class i d) (i, inside, get_or_default class i (get_or class i d) d inside)
 
-pub joined : (layout : Layout) (labels : List ℕ) (entry : ℕ) (first second third : List GraphLine)
+pub joined : (layout : ProgramAtMap) (labels : List ℕ) (entry : ℕ) (first second third : List GraphLine)
     → entry ≡ gate layout layout.entry → first ≡ class_lines layout.gates labels (all_classes layout.closed)
     → second ≡ first ++ line.Call START entry ∷ [] → third ≡ second ++ place_lines layout labels 0 layout.program.items
     → third ≡ graph_lines layout labels

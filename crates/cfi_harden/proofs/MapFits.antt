@@ -4,13 +4,13 @@ use Rattle.std.specs.Prelude.{◌&&◌, slice_get, slice_index}
 use Rattle.std.specs.List.{list_all}
 use Rattle.std.proofs.lemmas.Bool.{and_from, eq-eqb, le-leb, lt-ltb}
 use Rattle.std.proofs.lemmas.Option.{same_Some, slice_get_within}
-use Rattle.rv_word.specs.Layout.{CODE_SIZE, CODE_START, UNITS_START}
+use Rattle.rv_word.specs.MemoryMap.{CODE_SIZE, CODE_START, UNITS_START}
 use Rattle.cfi_graph.specs.declared.map.MapLine.{MapLine}
 use Rattle.cfi_graph.specs.Graph.{is_rising}
 use Rattle.cfi_graph.specs.Map.{IsMap, is_gate, map_line_below, map_line_in_range, place_below}
 use Rattle.obj_program.specs.declared.item.Item.{Item}
 use Rattle.obj_program.specs.Program.{Program, count, item_of, no_item}
-use Rattle.cfi_flow.specs.GraphAtMap.{Layout, gate}
+use Rattle.cfi_flow.specs.GraphAtMap.{ProgramAtMap, gate}
 use Rattle.cfi_harden.specs.Accepted.{IsAccepted}
 use Rattle.cfi_harden.specs.MapLines.{lines_from, map_lines as lines_of}
 use Rattle.cfi_harden.specs.Units.{Choice}
@@ -26,7 +26,7 @@ map_lines (item ∷ items) (gate ∷ gates) = map_line item gate ∷ map_lines i
 map_lines items gates = []
 
 -- they are the lines of a map, where the gates are its own
-lines_are : (layout : Layout) (k : ℕ) (items : List Item) (gates : List ℕ) → length gates ≡ length items →
+lines_are : (layout : ProgramAtMap) (k : ℕ) (items : List Item) (gates : List ℕ) → length gates ≡ length items →
     ((i : ℕ) → slice_index gates i ≡ slice_index layout.gates (k + i)) → lines_from layout k items ≡ map_lines items gates
 unfolding map_lines lines_from
 lines_are layout k [] gates same own = refl

@@ -3,11 +3,11 @@ use Rattle.std.proofs.Common.{◌≡◌, ℕ, suc, ◌+◌, ◌<◌, ◌≤◌, 
 use Rattle.std.specs.Prelude.{slice_index}
 use Rattle.std.proofs.Math.ListN.{drop_of_length-le}
 use Rattle.std.proofs.Math.Seq.{drop-cons}
-use Rattle.rv_word.specs.Layout.{UNITS_START}
+use Rattle.rv_word.specs.MemoryMap.{UNITS_START}
 use Rattle.obj_program.specs.declared.item.Item.{Item}
 use Rattle.obj_program.specs.Program.{count, item_of, no_item}
 use Rattle.cfi_graph.specs.declared.map.MapLine.{MapLine}
-use Rattle.cfi_flow.specs.GraphAtMap.{Layout}
+use Rattle.cfi_flow.specs.GraphAtMap.{ProgramAtMap}
 use Rattle.cfi_flow.specs.LegalMap.{IsLegalMap, gates_of}
 use Rattle.cfi_flow.specs.Placement.{AreGates}
 use Rattle.cfi_harden.specs.Accepted.{IsAccepted}
@@ -16,10 +16,10 @@ use Rattle.cfi_harden.specs.Units.{Choice}
 use Rattle.cfi_harden.proofs.Gates.{gates_counted}
 
 -- these are the lines of the first places
-abbrev pub ArePlaces : Layout → ℕ → List MapLine → Type 0
+abbrev pub ArePlaces : ProgramAtMap → ℕ → List MapLine → Type 0
 ArePlaces layout k first = first ++ lines_from layout k (drop k layout.program.items) ≡ map_lines layout
 
-pub next_places : (layout : Layout) (k : ℕ) (first more : List MapLine) → k < count layout.program → ArePlaces layout k first
+pub next_places : (layout : ProgramAtMap) (k : ℕ) (first more : List MapLine) → k < count layout.program → ArePlaces layout k first
     → more ≡ first ++ map_line layout k (item_of layout.program k) ∷ [] → ArePlaces layout (k + 1) more
 unfolding lines_from
 next_places layout k first more below are is =
@@ -33,25 +33,25 @@ next_places layout k first more below are is =
     subst (λ (j : ℕ). more ++ lines_from layout (k + 1) (drop j layout.program.items) ≡ map_lines layout) (sym next)
     (ap (λ (ls : List MapLine). ls ++ rest) is ∙ append_assoc first (one ∷ []) rest ∙ all)
 
-pub all_places : (layout : Layout) (k : ℕ) (first : List MapLine) → count layout.program ≤ k → ArePlaces layout k first → first ≡ map_lines layout
+pub all_places : (layout : ProgramAtMap) (k : ℕ) (first : List MapLine) → count layout.program ≤ k → ArePlaces layout k first → first ≡ map_lines layout
 unfolding lines_from
 all_places layout k first past are =
     let none : drop k layout.program.items ≡ [] = drop_of_length-le layout.program.items past in
     sym (append-nil first) ∙ subst (λ (items : List Item). first ++ lines_from layout k items ≡ map_lines layout) none are
 
-sections_of : (layout : Layout) (k : ℕ) (items : List Item)
+sections_of : (layout : ProgramAtMap) (k : ℕ) (items : List Item)
     → map (λ (l : MapLine). l.section) (lines_from layout k items) ≡ map (λ (i : Item). i.section) items
 unfolding lines_from
 sections_of layout k [] = refl
 sections_of layout k (item ∷ items) = ap (λ (ns : List ℕ). item.section ∷ ns) (sections_of layout (k + 1) items)
 
-offsets_of : (layout : Layout) (k : ℕ) (items : List Item)
+offsets_of : (layout : ProgramAtMap) (k : ℕ) (items : List Item)
     → map (λ (l : MapLine). l.offset) (lines_from layout k items) ≡ map (λ (i : Item). i.offset) items
 unfolding lines_from
 offsets_of layout k [] = refl
 offsets_of layout k (item ∷ items) = ap (λ (ns : List ℕ). item.offset ∷ ns) (offsets_of layout (k + 1) items)
 
-gates_from : (layout : Layout) (k : ℕ) (items : List Item) → length layout.gates ≡ k + length items
+gates_from : (layout : ProgramAtMap) (k : ℕ) (items : List Item) → length layout.gates ≡ k + length items
     → gates_of (lines_from layout k items) ≡ drop k layout.gates
 unfolding lines_from
 gates_from layout k [] all = sym (drop_of_length-le layout.gates (omega arith))

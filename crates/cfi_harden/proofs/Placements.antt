@@ -6,7 +6,7 @@ use Rattle.std.proofs.Math.Path.{fun_ext}
 use Rattle.std.proofs.Math.Seq.{get_or-append_seam}
 use Rattle.std.proofs.lemmas.Bool.{cases_Bool, cases_lt}
 use Rattle.std.proofs.lemmas.List.{get_or-take, get_or_append_left, length-take-le}
-use Rattle.rv_word.specs.Layout.{CODE_SIZE, UNITS_START}
+use Rattle.rv_word.specs.MemoryMap.{CODE_SIZE, UNITS_START}
 use Rattle.obj_program.specs.Program.{Program, count}
 use Rattle.obj_program.specs.Sound.{IsSound}
 use Rattle.cfi_layout.specs.LongSet.{IsLongSet, is_whole, sizes_under, starts_under}
@@ -14,9 +14,10 @@ use Rattle.cfi_layout.specs.Starts.{Placed, code_size, flag, starts_from}
 use Rattle.cfi_layout.proofs.Offsets.{length_starts, length_where, start_most, sum_where}
 use Rattle.cfi_flow.specs.Closed.{ClosedGraph}
 use Rattle.cfi_flow.specs.Placement.{AreGates, is_long, words_from}
-use Rattle.cfi_harden.specs.Placing.{IsPlaced, IsShortened}
+use Rattle.cfi_harden.specs.Placing.{IsPlacement, IsShortened}
 use Rattle.cfi_harden.specs.Accepted.{IsShortAt}
-use Rattle.cfi_harden.specs.Shorts.{layout_of, shorts_of}
+use Rattle.cfi_harden.specs.Shorts.{shorts_of}
+use Rattle.cfi_flow.specs.GraphAtMap.{program_at}
 use Rattle.cfi_harden.specs.Sizes.{part_sizes, whole_sizes}
 use Rattle.cfi_harden.proofs.PartSizes.{gates_are, gates_many, length_sizes, length_words}
 use Rattle.cfi_harden.proofs.ShortList.{parts_within}
@@ -77,7 +78,7 @@ module _ (program : Program) (closed : ClosedGraph) (p : Placed) (is : IsShorten
         subst (λ (xs : List ℕ). AreGates closed.classes long 0 UNITS_START program.items (take (count program) xs)) (sym starts)
         (gates_are closed.classes long 0 UNITS_START program.items)
 
-    at_starts : IsPlaced program closed (record {
+    at_starts : IsPlacement program closed (record {
       gates = take (count program) p.starts;
       words = words_from closed.classes 0 (take (count program) p.starts);
       long = long;
@@ -91,17 +92,17 @@ module _ (program : Program) (closed : ClosedGraph) (p : Placed) (is : IsShorten
       word_count = length_words closed.classes 0 (take (count program) p.starts)
           ∙ gates_many closed.classes long 0 UNITS_START program.items (take (count program) p.starts) legal;
       shorts = λ entry k target lt branch short aim.
-          subst (λ (xs : List ℕ). IsShortAt (layout_of program closed (take (count program) xs) entry) k target) (sym starts)
+          subst (λ (xs : List ℕ). IsShortAt (program_at program closed (take (count program) xs) entry) k target) (sym starts)
           (branch_reaches program closed long sound least.closed entry k target lt branch short aim);
       least = least;
     }
 
     pub placed : (gates words : List ℕ) → gates ≡ take (count program) p.starts → words ≡ words_from closed.classes 0 gates →
-        IsPlaced program closed (record { gates = gates; words = words; long = long })
+        IsPlacement program closed (record { gates = gates; words = words; long = long })
     placed gates words are behind =
         let there = behind ∙ ap (words_from closed.classes 0) are in
-        subst (λ (xs : List ℕ). IsPlaced program closed (record { gates = xs; words = words; long = long })) (sym are)
-        (subst (λ (ws : List ℕ). IsPlaced program closed (record { gates = take (count program) p.starts; words = ws; long = long })) (sym there) at_starts)
+        subst (λ (xs : List ℕ). IsPlacement program closed (record { gates = xs; words = words; long = long })) (sym are)
+        (subst (λ (ws : List ℕ). IsPlacement program closed (record { gates = take (count program) p.starts; words = ws; long = long })) (sym there) at_starts)
 
 -- flags that are read one after another, from the first
 pub flag_more : (flags long more : List Bool) (k : ℕ) (b : Bool) → length long ≡ k → ((j : ℕ) → j < k → is_long long j ≡ flag flags j) →

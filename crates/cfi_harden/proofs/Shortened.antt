@@ -4,19 +4,20 @@ use Rattle.std.specs.Prelude.{◌||◌, nat_le, slice_get}
 use Rattle.std.proofs.lemmas.Bool.{cases_Bool, leb-true, and_parts, or_parts}
 use Rattle.std.proofs.lemmas.List.{get_or-take}
 use Rattle.std.proofs.lemmas.Option.{slice_get_within, get_or_from_slice_get, slice_get-get_or}
-use Rattle.rv_word.specs.Layout.{CODE_SIZE, UNITS_START}
+use Rattle.rv_word.specs.MemoryMap.{CODE_SIZE, UNITS_START}
 use Rattle.obj_input.specs.declared.item_kind.ItemKind.{ItemKind}
 use Rattle.obj_input.specs.declared.item_kind.ItemKind.TheVariants as is
 use Rattle.obj_program.specs.declared.item.Item.{Item}
 use Rattle.obj_program.specs.Program.{Program, count, item_of, no_item}
 use Rattle.obj_program.specs.Sound.{IsSound}
 use Rattle.cfi_layout.specs.declared.short.Short.{Short}
-use Rattle.cfi_layout.specs.LongSet.{AreShorts, IsClosed, IsShort, is_forced, is_whole, reaches, sizes_under, sizes_where, starts_under, word}
+use Rattle.cfi_layout.specs.LongSet.{AreShorts, HoldsAllForced, IsShort, is_forced, is_whole, is_in_reach, sizes_under, sizes_where, starts_under, word}
 use Rattle.cfi_layout.specs.Starts.{starts_from}
 use Rattle.cfi_flow.specs.Closed.{ClosedGraph}
 use Rattle.cfi_flow.specs.Placement.{gate_size, is_long, size_of}
 use Rattle.cfi_harden.specs.Accepted.{IsShortAt, is_branch}
-use Rattle.cfi_harden.specs.Shorts.{layout_of, short_to, shorts_of}
+use Rattle.cfi_harden.specs.Shorts.{short_to, shorts_of}
+use Rattle.cfi_flow.specs.GraphAtMap.{program_at}
 use Rattle.cfi_harden.specs.Sizes.{part_sizes, whole_size, whole_sizes}
 use Rattle.cfi_harden.proofs.PartSizes.{length_sizes, parts_many, size_at}
 use Rattle.cfi_harden.proofs.ShortList.{branch_aims, branch_listed, parts_are, short_is, told}
@@ -86,10 +87,10 @@ negated false e = absurd (cc)
 
 -- a branch that is not long reaches, where the long ones are closed
 pub branch_reaches : (program : Program) (closed : ClosedGraph) (long : List Bool) → IsSound program →
-    IsClosed (shorts_of program closed) (whole_sizes program closed) (is_long long) →
+    HoldsAllForced (shorts_of program closed) (whole_sizes program closed) (is_long long) →
     (entry k target : ℕ) → k < count program → is_branch (item_of program k).kind ≡ true → is_long long k ≡ false →
     (item_of program k).target ≡ Some target →
-    IsShortAt (layout_of program closed (take (count program) (starts_from UNITS_START (part_sizes closed.classes long 0 program.items))) entry) k target
+    IsShortAt (program_at program closed (take (count program) (starts_from UNITS_START (part_sizes closed.classes long 0 program.items))) entry) k target
 branch_reaches program closed long sound set entry k target lt yes_branch short aim =
     let shorts = shorts_of program closed in
     let starts = starts_from UNITS_START (part_sizes closed.classes long 0 program.items) in
@@ -105,8 +106,8 @@ branch_reaches program closed long sound set entry k target lt yes_branch short 
       | inr free ↦ free
     ] in
     let forced = subst (λ (xs : List ℕ). is_forced xs b ≡ false) (starts_are program closed long sound) free in
-    let parts = or_parts b.keep (not (reaches starts b)) forced in
-    let both = and_parts (nat_le (word starts b) (get_or starts target 0 + 4096)) (nat_le (get_or starts target 0) (word starts b + 4092)) (negated (reaches starts b) parts.1) in
+    let parts = or_parts b.keep (not (is_in_reach starts b)) forced in
+    let both = and_parts (nat_le (word starts b) (get_or starts target 0 + 4096)) (nat_le (get_or starts target 0) (word starts b + 4092)) (negated (is_in_reach starts b) parts.1) in
     let back : word starts b ≤ get_or starts target 0 + 4096 = leb-true _ _ both.0 in
     let ahead : get_or starts target 0 ≤ word starts b + 4092 = leb-true _ _ both.1 in
     let gate = get_or-take (count program) starts k 0 lt in

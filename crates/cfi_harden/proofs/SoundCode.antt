@@ -3,7 +3,7 @@ use Rattle.std.proofs.Common.{◌≡◌, ℕ, zero, suc, ◌+◌, ◌%◌, ◌/�
 use Rattle.std.specs.Prelude.{IsTrue, is_some, slice_get, slice_index, slice_index_or}
 use Rattle.std.specs.List.{last_or}
 use Rattle.std.proofs.lemmas.Option.{get_or_from_slice_get, same_Some, slice_get_within, slice_get-get_or}
-use Rattle.rv_word.specs.Layout.{CODE_SIZE, CODE_START, OPENING_CALL, UNITS_START, version_1}
+use Rattle.rv_word.specs.MemoryMap.{CODE_SIZE, CODE_START, OPENING_CALL, UNITS_START, version_1}
 use Rattle.rv_instr.specs.declared.instr.Instr.{Instr}
 use Rattle.obj_input.specs.declared.item_kind.ItemKind.{ItemKind}
 use Rattle.obj_input.specs.declared.item_kind.ItemKind.TheVariants as is

@@ -4,7 +4,7 @@ use Rattle.std.proofs.Common.{◌≡◌, ℕ, suc, ◌+◌, ◌*◌, ◌%◌, �
 use Rattle.std.specs.Prelude.{◌&&◌, not, is_some, slice_get}
 use Rattle.std.proofs.lemmas.Bool.{and_from, cases_Bool, not_from_false, or_left, or_right}
 use Rattle.std.proofs.lemmas.Option.{get_or_from_slice_get, slice_get-get_or, slice_get_within}
-use Rattle.rv_word.specs.Layout.{CODE_SIZE, CODE_START, UNITS_START, version_1}
+use Rattle.rv_word.specs.MemoryMap.{CODE_SIZE, CODE_START, UNITS_START, version_1}
 use Rattle.rv_word.proofs.Cases.{cases_Option}
 use Rattle.rv_instr.specs.InRange.{IsInstr}
 use Rattle.rv_instr.specs.declared.instr.Instr.{Instr}

@@ -2,7 +2,7 @@
 use Rattle.std.proofs.Common.{◌≡◌, ℕ, ◌*◌, ◌^◌, ◌<◌, ◌≤◌, List, length, Some, sym, ap, subst, ◌∙◌, arith}
 use Rattle.std.specs.Prelude.{slice_index}
 use Rattle.rv_word.specs.Image.{IsImageSize}
-use Rattle.rv_word.specs.Layout.{CODE_SIZE, OPENING_CALL, version_1}
+use Rattle.rv_word.specs.MemoryMap.{CODE_SIZE, OPENING_CALL, version_1}
 use Rattle.elf_image.specs.Spelling.{spelling}
 use Rattle.cfi_graph.specs.Graph.{GraphParts, IsGraph}
 use Rattle.cfi_graph.specs.declared.map.MapLine.{MapLine}

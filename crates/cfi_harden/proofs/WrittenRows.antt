@@ -3,7 +3,7 @@
 -- instructions and the sizes of units.
 use Rattle.std.proofs.Common.{◌≡◌, ℕ, true, false, List, [], ◌∷◌, ◌++◌, Some, None, length, take, drop, pos, refl}
 use Rattle.std.specs.Prelude.{Option, slice_get}
-use Rattle.rv_word.specs.Layout.{UNITS_START, version_1}
+use Rattle.rv_word.specs.MemoryMap.{UNITS_START, version_1}
 use Rattle.rv_code.specs.Decode.{decoded}
 use Rattle.rv_code.specs.Encode.{code_of}
 use Rattle.obj_input.specs.declared.item_kind.ItemKind.{ItemKind}
@@ -16,7 +16,7 @@ use Rattle.obj_program.specs.AtMap.{instr_at}
 use Rattle.obj_program.specs.Program.{Program}
 use Rattle.cfi_graph.specs.declared.line.GraphLine.TheVariants.{Call, Class, Edge, Site}
 use Rattle.cfi_graph.specs.declared.line.SiteKind.TheVariants as site
-use Rattle.cfi_flow.specs.GraphAtMap.{Layout, class_lines, graph_lines, place_lines}
+use Rattle.cfi_flow.specs.GraphAtMap.{ProgramAtMap, class_lines, graph_lines, place_lines}
 use Rattle.cfi_flow.specs.LabelOf.{empty_classes, label_at, site_number}
 use Rattle.cfi_flow.specs.Placement.{AreGates, words_from}
 use Rattle.cfi_unit.specs.UnitWords.{words_of}
@@ -39,7 +39,7 @@ program kind word target = record {
   names = [];
 }
 
-abbrev layout : Program → List ℕ → Layout
+abbrev layout : Program → List ℕ → ProgramAtMap
 layout program gates = record {
   profile = version_1;
   program = program;

@@ -3,7 +3,7 @@
 use Rattle.std.specs.Prelude.{◌≡◌, ℕ, ◌+◌, ◌*◌, ◌^◌, ◌≤◌, ◌<◌, ◌==◌, ◌&&◌, Bool, true, false, not, Some, is_some, length, slice_get}
 use Rattle.std.specs.List.{All}
 use Rattle.std.specs.List.Sorted.{IsStrictlyIncreasing}
-use Rattle.rv_word.specs.Layout.{CODE_SIZE, version_1}
+use Rattle.rv_word.specs.MemoryMap.{CODE_SIZE, version_1}
 use Rattle.obj_input.specs.declared.item_kind.ItemKind.{ItemKind}
 use Rattle.obj_input.specs.declared.item_kind.ItemKind.TheVariants as is
 use Rattle.obj_program.specs.AtMap.{instr_at}
@@ -12,7 +12,7 @@ use Rattle.obj_program.specs.Sound.{IsSound}
 use Rattle.cfi_class.specs.Labels.{AreLabels}
 use Rattle.cfi_class.specs.Classes.{IsIn}
 use Rattle.cfi_flow.specs.declared.closed.Site.{Site}
-use Rattle.cfi_flow.specs.GraphAtMap.{Layout, gate, word}
+use Rattle.cfi_flow.specs.GraphAtMap.{ProgramAtMap, gate, word}
 use Rattle.cfi_flow.specs.LabelOf.{all_classes}
 use Rattle.cfi_flow.specs.Labels.{used_labels}
 use Rattle.cfi_flow.specs.Placement.{AreGates, is_long, is_target, words_from}
@@ -31,12 +31,12 @@ is_skipped is.End target = true
 is_skipped kind target = false
 
 -- a branch over just one such place is kept long
-abbrev pub is_kept : Layout → ℕ → ℕ → Bool
+abbrev pub is_kept : ProgramAtMap → ℕ → ℕ → Bool
 is_kept layout k target =
     target == k + 2 && is_skipped (item_of layout.program (k + 1)).kind (is_target layout.closed.classes (k + 1))
 
 -- a short branch reaches its target, and is not kept
-pub record IsShortAt (layout : Layout) (k target : ℕ) : Type 0 where
+pub record IsShortAt (layout : ProgramAtMap) (k target : ℕ) : Type 0 where
   pub back : word layout k ≤ gate layout target + 4096
   pub ahead : gate layout target ≤ word layout k + 4092
   pub free : is_kept layout k target ≡ false

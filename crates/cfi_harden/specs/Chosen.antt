@@ -1,6 +1,6 @@
 -- What is kept beside a choice while its code and graph are written.
 use Rattle.std.specs.Prelude.{◌≡◌, ℕ, ◌<◌, if◌then◌else◌, Bool, Option, Some, None, List, length, slice_index}
-use Rattle.rv_word.specs.Layout.{version_1}
+use Rattle.rv_word.specs.MemoryMap.{version_1}
 use Rattle.rv_instr.specs.declared.instr.Instr.{Instr}
 use Rattle.obj_program.specs.Program.{Program, count, is_end, item_of}
 use Rattle.cfi_flow.specs.Closed.{ClosedGraph}

@@ -2,7 +2,7 @@
 use Rattle.std.specs.Prelude.{◌≡◌, ℕ, ◌<◌, ◌≤◌, ◌^◌, List, length, Some, None}
 use Rattle.std.specs.List.{All}
 use Rattle.std.specs.List.Sorted.{IsStrictlyIncreasing}
-use Rattle.rv_word.specs.Layout.{version_1}
+use Rattle.rv_word.specs.MemoryMap.{version_1}
 use Rattle.elf_image.specs.Spelling.{spelling}
 use Rattle.cfi_graph.specs.Graph.{GraphParts}
 use Rattle.cfi_graph.specs.declared.map.MapLine.{MapLine}
@@ -21,7 +21,7 @@ use Rattle.cfi_verify.specs.Rules.{IsWellFormed}
 use Rattle.cfi_verify.specs.Split.{code_words}
 use Rattle.cfi_harden.specs.Chosen.{choice_of}
 use Rattle.cfi_harden.specs.Laws.{written_code}
-use Rattle.cfi_harden.specs.Placing.{IsPlaced, Spaced}
+use Rattle.cfi_harden.specs.Placing.{IsPlacement, Spaced}
 use Rattle.cfi_harden.specs.Prepared.{IsPrepared, PreparedParts}
 use Rattle.cfi_harden.specs.Request.{Request}
 use Rattle.cfi_harden.specs.Units.{Choice}
@@ -75,7 +75,7 @@ pub record IsWritten (p : PreparedParts) (s : Spaced) (labels code init : List �
 abbrev pub IsWrittenOf : PreparedParts → HardenedParts → Type 0
 IsWrittenOf p h =
     (s : Spaced) × (labels : List ℕ) × (code : List ℕ) × (init : List ℕ)
-    × IsPlaced p.program p.closed s × HasDataRoom p.program × (out_of_range p.program s.gates s.words ≡ None)
+    × IsPlacement p.program p.closed s × HasDataRoom p.program × (out_of_range p.program s.gates s.words ≡ None)
     × IsWritten p s labels code init h
 
 -- the hardened program of a request: it is placed with as many short branches as can be, its data have room, no value leaves its

@@ -1,7 +1,7 @@
 -- What holds of a choice that is accepted: the code that is written for it, with its graph, meets the verifier's rules.
 use Rattle.std.specs.Prelude.{◌≡◌, ℕ, ◌*◌, ◌<◌, List, length, Some}
 use Rattle.rv_word.specs.Image.{Contents}
-use Rattle.rv_word.specs.Layout.{version_1}
+use Rattle.rv_word.specs.MemoryMap.{version_1}
 use Rattle.obj_program.specs.Program.{count, item_of}
 use Rattle.cfi_graph.specs.Graph.{GraphParts, IsGraph}
 use Rattle.cfi_graph.specs.declared.line.GraphLine.{GraphLine}

@@ -1,6 +1,6 @@
 -- A placement of a program's code with short branches, and why there is none.
 use Rattle.std.specs.Prelude.{◌≡◌, ℕ, ◌≤◌, ◌<◌, Bool, true, false, Some, List, length}
-use Rattle.rv_word.specs.Layout.{CODE_SIZE, UNITS_START}
+use Rattle.rv_word.specs.MemoryMap.{CODE_SIZE, UNITS_START}
 use Rattle.obj_program.specs.Program.{Program, count, item_of}
 use Rattle.cfi_layout.specs.declared.end.PlaceEnd.{PlaceEnd}
 use Rattle.cfi_layout.specs.declared.end.PlaceEnd.TheVariants as ends
@@ -10,7 +10,8 @@ use Rattle.cfi_layout.specs.Starts.{Placed, code_size, flag}
 use Rattle.cfi_flow.specs.Closed.{ClosedGraph}
 use Rattle.cfi_flow.specs.Placement.{AreGates, is_long, words_from}
 use Rattle.cfi_harden.specs.Accepted.{IsShortAt, is_branch}
-use Rattle.cfi_harden.specs.Shorts.{layout_of, shorts_of}
+use Rattle.cfi_harden.specs.Shorts.{shorts_of}
+use Rattle.cfi_flow.specs.GraphAtMap.{program_at}
 use Rattle.cfi_harden.specs.Sizes.{part_sizes, whole_size, whole_sizes}
 
 -- where places have their gates and words, and which branches are long
@@ -19,7 +20,7 @@ pub record Spaced : Type 0 where
   pub words : List ℕ
   pub long : List Bool
 
-pub record IsPlaced (program : Program) (closed : ClosedGraph) (s : Spaced) : Type 0 where
+pub record IsPlacement (program : Program) (closed : ClosedGraph) (s : Spaced) : Type 0 where
   -- the code has room, also with every branch long
   pub room : whole_size program closed ≤ CODE_SIZE
   pub size : code_size (part_sizes closed.classes s.long 0 program.items) ≤ CODE_SIZE
@@ -30,7 +31,7 @@ pub record IsPlaced (program : Program) (closed : ClosedGraph) (s : Spaced) : Ty
   pub word_count : length s.words ≡ count program
   -- each branch that is not long reaches its target, wherever the program is entered
   pub shorts : (entry k target : ℕ) → k < count program → is_branch (item_of program k).kind ≡ true → is_long s.long k ≡ false →
-      (item_of program k).target ≡ Some target → IsShortAt (layout_of program closed s.gates entry) k target
+      (item_of program k).target ≡ Some target → IsShortAt (program_at program closed s.gates entry) k target
   -- and no fewer branches may be long
   pub least : IsLongSet (shorts_of program closed) (whole_sizes program closed) (is_long s.long)
 

@@ -1,16 +1,11 @@
 -- The branches of a program that may be written short, as a placement of its parts is asked for them.
 use Rattle.std.specs.Prelude.{ℕ, zero, suc, if◌then◌else◌, Option, Some, None, option_map, List, [], ◌∷◌, ◌++◌}
-use Rattle.rv_word.specs.Layout.{version_1}
 use Rattle.obj_program.specs.Program.{Program, count, item_of}
 use Rattle.cfi_layout.specs.declared.short.Short.{Short}
 use Rattle.cfi_flow.specs.Closed.{ClosedGraph}
-use Rattle.cfi_flow.specs.GraphAtMap.{Layout}
+use Rattle.cfi_flow.specs.GraphAtMap.{program_at}
 use Rattle.cfi_flow.specs.Placement.{gate_size}
 use Rattle.cfi_harden.specs.Accepted.{is_branch, is_kept}
-
--- a program with its closed graph at these gates, entered at a place
-abbrev pub layout_of : Program → ClosedGraph → List ℕ → ℕ → Layout
-layout_of program closed gates entry = record { profile = version_1; program = program; closed = closed; gates = gates; entry = entry }
 
 -- the branch at a place to a target: behind the gate word of its part, if that has one; where it is kept, it is long wherever it stands
 abbrev pub short_to : Program → ClosedGraph → ℕ → ℕ → Short
@@ -18,7 +13,7 @@ short_to program closed k target = record {
   at = k;
   target = target;
   lead = gate_size closed.classes k;
-  keep = is_kept (layout_of program closed [] 0) k target;
+  keep = is_kept (program_at program closed [] 0) k target;
 }
 
 abbrev pub short_at : Program → ClosedGraph → ℕ → Option Short

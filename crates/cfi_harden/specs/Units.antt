@@ -8,7 +8,7 @@ use Rattle.obj_input.specs.declared.item_kind.ItemKind.{ItemKind}
 use Rattle.obj_input.specs.declared.item_kind.ItemKind.TheVariants as is
 use Rattle.obj_program.specs.declared.item.Item.{Item}
 use Rattle.obj_program.specs.AtMap.{instr_at}
-use Rattle.cfi_flow.specs.GraphAtMap.{Layout, gate, gate_to}
+use Rattle.cfi_flow.specs.GraphAtMap.{ProgramAtMap, gate, gate_to}
 use Rattle.cfi_flow.specs.LabelOf.{label_at, site_label}
 use Rattle.cfi_flow.specs.Placement.{is_long, words_from}
 use Rattle.cfi_unit.specs.declared.unit.Unit as U
@@ -17,7 +17,7 @@ use Rattle.cfi_unit.specs.declared.unit.SystemOp.TheVariants as S
 
 -- a program at a map with what is chosen for it: which branches are long, and the labels of all classes
 pub record Choice : Type 0 where
-  pub layout : Layout
+  pub layout : ProgramAtMap
   pub long : List Bool
   pub labels : List ℕ
 

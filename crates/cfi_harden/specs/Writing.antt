@@ -60,13 +60,13 @@ pub record IsDescribed (m : Choice) (code : List ℕ) (graph : GraphParts) (map 
   pub legal : IsLegalMap m.layout.program m.layout.closed map
 
 -- the image of some code with these data, and with some data
-pub record IsImageOf (p : PreparedParts) (s : Spaced) (code init image : List ℕ) : Type 0 where
+pub record IsWrittenImage (p : PreparedParts) (s : Spaced) (code init image : List ℕ) : Type 0 where
   pub data_is : data_at p.program s.gates ≡ Some init
   pub bytes : AreBytes (record { code = code; init = init })
   pub image_is : image ≡ spelling code init
 
 abbrev pub IsImageWith : PreparedParts → Spaced → List ℕ → List ℕ → Type 0
-IsImageWith p s code image = (init : List ℕ) × IsImageOf p s code init image
+IsImageWith p s code image = (init : List ℕ) × IsWrittenImage p s code init image
 
 -- written, with some code and some data
 abbrev pub IsWrittenAs : PreparedParts → Spaced → List ℕ → HardenedParts → Type 0

@@ -1,5 +1,5 @@
 ghost use Rattle.std.specs.Prelude.{◌≡◌, ◌+◌, ◌*◌, ◌%◌, ◌≤◌, ◌++◌, ◌∷◌, [], IfOk, OnOk, length, map};
-ghost use Rattle.rv_word.specs.Layout.{CODE_SIZE, CODE_START, OPENING_CALL, version_1};
+ghost use Rattle.rv_word.specs.MemoryMap.{CODE_SIZE, CODE_START, OPENING_CALL, version_1};
 ghost use Rattle.rv_code.specs.Encode.{code_of};
 ghost use Rattle.cfi_unit.specs.Prologue.{closing_instrs, prologue_instrs};
 ghost use Rattle.cfi_unit.specs.UnitWords.{Fits, Reaches, words_of};

@@ -1,6 +1,6 @@
 ghost use Rattle.std.specs.Prelude.{◌≡◌, ◌*◌, ◌<◌, ◌≤◌, ◌^◌, ℕ, true, IfOk, OnOk, Some, is_some, length, slice_index};
 ghost use Rattle.rv_word.specs.Image.{IsImageSize};
-ghost use Rattle.rv_word.specs.Layout.{CODE_SIZE};
+ghost use Rattle.rv_word.specs.MemoryMap.{CODE_SIZE};
 ghost use Rattle.cfi_graph.specs.Map.{IsMap};
 ghost use Rattle.cfi_flow.specs.GraphAtMap.{graph_lines};
 ghost use Rattle.cfi_flow.specs.Placement.{words_from};

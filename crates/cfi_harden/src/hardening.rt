@@ -1,5 +1,5 @@
 ghost use Rattle.std.specs.Prelude.{◌≤◌, IfOk, option_copied};
-ghost use Rattle.rv_word.specs.Layout.{CODE_SIZE};
+ghost use Rattle.rv_word.specs.MemoryMap.{CODE_SIZE};
 ghost use Rattle.cfi_harden.specs.GraphOf.{IsGraphOf};
 ghost use Rattle.cfi_harden.specs.Hardened.{AreGiven};
 ghost use Rattle.cfi_harden.specs.Refused.{Hardens};

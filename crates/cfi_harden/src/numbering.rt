@@ -1,7 +1,7 @@
 ghost use Rattle.std.specs.Prelude.{◌≡◌, ◌^◌, ◌<◌, ◌≤◌, IfOk, length};
 ghost use Rattle.std.specs.List.{All};
 ghost use Rattle.std.specs.List.Sorted.{IsStrictlyIncreasing};
-ghost use Rattle.rv_word.specs.Layout.{CODE_SIZE};
+ghost use Rattle.rv_word.specs.MemoryMap.{CODE_SIZE};
 ghost use Rattle.cfi_class.specs.Labels.{AreLabels};
 ghost use Rattle.cfi_flow.specs.LabelOf.{all_classes, empty_classes};
 ghost use Rattle.cfi_flow.specs.Labels.{used_labels};

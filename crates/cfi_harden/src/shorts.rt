@@ -1,9 +1,10 @@
 ghost use Rattle.std.specs.Prelude.{◌≡◌, ◌<◌, ◌≤◌, ◌^◌, [], IfOk, OnOk};
-ghost use Rattle.rv_word.specs.Layout.{CODE_SIZE};
+ghost use Rattle.rv_word.specs.MemoryMap.{CODE_SIZE};
 ghost use Rattle.obj_program.specs.Program.{count};
 ghost use Rattle.cfi_layout.specs.LongSet.{AreShorts};
 ghost use Rattle.cfi_harden.specs.Accepted.{is_branch, is_kept, is_skipped};
-ghost use Rattle.cfi_harden.specs.Shorts.{layout_of, short_at, shorts_of, with_short};
+ghost use Rattle.cfi_harden.specs.Shorts.{short_at, shorts_of, with_short};
+ghost use Rattle.cfi_flow.specs.GraphAtMap.{program_at};
 ghost use Rattle.cfi_harden.specs.Sizes.{whole_size, whole_sizes};
 
 use crate::sizes::{gate_size, is_target};
@@ -36,7 +37,7 @@ fn is_skipped(kind: ItemKind, is_target: bool) -> bool
 fn is_kept(items: &Items, closed: &Closed, place: u64, target: u64) -> bool
     requires place { place < count items.now }
     requires target { target < count items.now }
-    ensures { result ≡ is_kept (layout_of items.now closed.now [] 0) place target }
+    ensures { result ≡ is_kept (program_at items.now closed.now [] 0) place target }
 {
     let _sound = items.count();
     target == place + 2 && is_skipped(items.item(place + 1).kind, is_target(closed, place + 1))

@@ -1,8 +1,8 @@
 ghost use Rattle.std.specs.Prelude.{◌≡◌, ℕ, ◌<◌, ◌≤◌, ◌^◌, false, IfOk, MatchResult, slice_index};
-ghost use Rattle.rv_word.specs.Layout.{CODE_SIZE};
+ghost use Rattle.rv_word.specs.MemoryMap.{CODE_SIZE};
 ghost use Rattle.cfi_layout.specs.Starts.{flag};
 ghost use Rattle.cfi_flow.specs.Placement.{is_long, words_from};
-ghost use Rattle.cfi_harden.specs.Placing.{IsPlaced, IsShortened, PlaceEnds};
+ghost use Rattle.cfi_harden.specs.Placing.{IsPlacement, IsShortened, PlaceEnds};
 ghost use Rattle.cfi_harden.specs.Sizes.{whole_size, whole_sizes};
 
 use crate::shorts::shorts;
@@ -108,7 +108,7 @@ fn spaced(
     placement: &Placement,
 ) -> Result<Spacing, NoMemory>
     requires { IsShortened items.now closed.now placement.now }
-    ensures { IfOk result (λ s. IsPlaced items.now closed.now s) }
+    ensures { IfOk result (λ s. IsPlacement items.now closed.now s) }
 {
     let count = items.count() as usize;
     let gates = Vec::from_slice(alloc, &placement.starts()[..count])?;
@@ -121,7 +121,7 @@ fn spaced(
 /// bytes the code would have with every branch long, where these are more than its region has.
 pub fn place_program(alloc: Global, items: &Items, closed: &Closed) -> Result<Spacing, PlaceEnd>
     ensures { MatchResult result
-        (λ s. IsPlaced items.now closed.now s)
+        (λ s. IsPlacement items.now closed.now s)
         (λ e. PlaceEnds items.now closed.now e) }
 {
     let placement = shortened(alloc, items, closed)?;

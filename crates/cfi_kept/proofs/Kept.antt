@@ -1,7 +1,7 @@
 -- A run over places is a run along a path of units, of 21 words a place at most.
 use Rattle.std.proofs.Common.{◌≡◌, ℕ, ◌+◌, ◌*◌, ◌≤◌, List, [], ◌∷◌, ◌++◌, length, subst, arith}
 use Rattle.rv_word.specs.Image.{Contents}
-use Rattle.rv_word.specs.Layout.{SHADOW_START, version_1}
+use Rattle.rv_word.specs.MemoryMap.{SHADOW_START, version_1}
 use Rattle.rv_word.specs.Memory.{Memory, loaded}
 use Rattle.rv_instr.specs.Registers.{cleared}
 use Rattle.rv_code.specs.State.{After}

@@ -2,7 +2,7 @@
 use Rattle.std.proofs.Common.{◌≡◌, ℕ, length, refl, sym, ap, subst, ◌∙◌, lit≤}
 use Rattle.std.proofs.lemmas.Option.{same_Some}
 use Rattle.rv_word.specs.Image.{Contents}
-use Rattle.rv_word.specs.Layout.{version_1}
+use Rattle.rv_word.specs.MemoryMap.{version_1}
 use Rattle.rv_word.specs.Memory.{loaded}
 use Rattle.cfi_graph.specs.Graph.{GraphParts}
 use Rattle.cfi_flow.specs.GraphAtMap.{graph_lines}

@@ -1,7 +1,7 @@
 -- What stands at places, and where their gate words lead.
 use Rattle.std.specs.Prelude.{◌≡◌, ℕ, ◌+◌, ◌*◌, ◌≤◌, ◌<◌, Some, List}
 use Rattle.rv_word.specs.Image.{Contents}
-use Rattle.rv_word.specs.Layout.{version_1}
+use Rattle.rv_word.specs.MemoryMap.{version_1}
 use Rattle.rv_word.specs.Memory.{loaded}
 use Rattle.obj_program.specs.Program.{count}
 use Rattle.cfi_flow.specs.Closed.{class_at, class_of}

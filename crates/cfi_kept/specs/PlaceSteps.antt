@@ -1,7 +1,7 @@
 -- The program's own run by places: the step of a place is that of its unit, at the place's word.
 use Rattle.std.specs.Prelude.{◌≡◌, ℕ, ◌<◌, List, [], ◌∷◌, length}
 use Rattle.rv_word.specs.Image.{Contents}
-use Rattle.rv_word.specs.Layout.{version_1}
+use Rattle.rv_word.specs.MemoryMap.{version_1}
 use Rattle.rv_word.specs.Memory.{loaded}
 use Rattle.rv_code.specs.declared.turn.Turn.TheVariants.{Ran}
 use Rattle.cfi_flow.specs.GraphAtMap.{gate, word}

@@ -2,7 +2,7 @@
 -- matched within 21 n + 13 steps of the machine, and what ends the program ends the machine alike.
 use Rattle.std.specs.Prelude.{◌≡◌, ℕ, ◌+◌, ◌*◌, List, length}
 use Rattle.rv_word.specs.Image.{Contents}
-use Rattle.rv_word.specs.Layout.{SHADOW_START, version_1}
+use Rattle.rv_word.specs.MemoryMap.{SHADOW_START, version_1}
 use Rattle.rv_word.specs.Memory.{loaded}
 use Rattle.rv_instr.specs.Registers.{cleared}
 use Rattle.cfi_unit.specs.PrologueEffect.{closing_site}

@@ -4,10 +4,10 @@ use Rattle.std.specs.Prelude.{IsTrue, slice_get, nat_lt, map, Option, option_map
 use Rattle.std.proofs.lemmas.Bool.{cases_Bool, cases_eq, cases_lt, or_cases, or_left, or_right, not-true, not-false, not_from_false, ltb-true, lt-ltb}
 use Rattle.std.proofs.lemmas.List.{length-set}
 use Rattle.std.proofs.lemmas.Option.{get_or_from_slice_get, slice_get-map}
-use Rattle.rv_word.specs.Layout.{UNITS_START}
+use Rattle.rv_word.specs.MemoryMap.{UNITS_START}
 use Rattle.cfi_layout.specs.declared.short.Short.{Short}
 use Rattle.cfi_layout.specs.Starts.{starts_from, flag}
-use Rattle.cfi_layout.specs.LongSet.{sizes_under, starts_under, reaches, is_branch, is_forced, is_whole, IsClosed, IsWithin, IsLongSet, IsShort, AreShorts}
+use Rattle.cfi_layout.specs.LongSet.{sizes_under, starts_under, is_in_reach, is_branch, is_forced, is_whole, HoldsAllForced, IsWithin, IsLongSet, IsShort, AreShorts}
 use Rattle.cfi_layout.specs.Laws.{LeastCode}
 use Rattle.cfi_layout.specs.Lengthening.{gap, reach, spans, is_far, Going, AreCounted, IsWidened, StayOnWay, starts_with}
 use Rattle.cfi_layout.proofs.Offsets.{same_where, below_where, sum_below}
@@ -32,7 +32,7 @@ starts_same branches sizes long only =
 -- a branch that is known to be too far away is in every closed set
 in_closed : (branches : List Short) (sizes : List ℕ) (long : List Bool) (distances : List ℕ) (i : ℕ) (b : Short) → AreShorts branches sizes → Going branches sizes long →
     AreCounted branches (starts_with long sizes) distances → slice_get branches i ≡ Some b → is_far b (get_or distances i 0) ≡ true →
-    (other : ℕ → Bool) → IsClosed branches sizes other → other b.at ≡ true
+    (other : ℕ → Bool) → HoldsAllForced branches sizes other → other b.at ≡ true
 in_closed branches sizes long distances i b shorts going counted is far other closed =
     closed i b is (elim (or_cases b.keep (nat_lt (reach b) (get_or distances i 0)) far) [
       | inl kept ↦ or_left _ _ kept
@@ -114,13 +114,13 @@ gaps_counted branches starts distances are i b is = let e = gap_read branches st
 pub far_is : (sizes : List ℕ) (long : List Bool) (b : Short) → IsShort sizes b → is_forced (starts_with long sizes) b ≡ true → is_far b (gap (starts_with long sizes) b) ≡ true
 far_is sizes long b short forced =
     let starts = starts_with long sizes in
-    elim (or_cases b.keep (not (reaches starts b)) forced) [
+    elim (or_cases b.keep (not (is_in_reach starts b)) forced) [
       | inl kept ↦ or_left _ _ kept
       | inr out ↦ elim (cases_lt (reach b) (gap starts b)) [
         | inl beyond ↦ or_right b.keep _ (lt-ltb _ _ beyond)
         | inr near ↦
-            let reaches_it : reaches starts b ≡ true = (reaches_is (flag long) sizes b short).0 near in
-            let out_of_it = not-true (reaches starts b) out in
+            let reaches_it : is_in_reach starts b ≡ true = (reaches_is (flag long) sizes b short).0 near in
+            let out_of_it = not-true (is_in_reach starts b) out in
             absurd (cc)
       ]
     ]

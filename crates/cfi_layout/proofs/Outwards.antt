@@ -2,10 +2,10 @@
 use Rattle.std.proofs.Common.{◌≡◌, ℕ, ◌+◌, ◌-◌, ◌<◌, ◌≤◌, Bool, true, false, List, length, get_or, sym, ap, ◌∙◌, arith, if◌then◌else◌, inl, inr}
 use Rattle.std.specs.Prelude.{nat_le, nat_lt, ◌&&◌}
 use Rattle.std.proofs.lemmas.Bool.{cases_Bool, cases_lt, lt-ltb, le-ltb, le-leb, lt-leb, and_from, and_left, and_parts, or_cases, ltb-true, leb-true}
-use Rattle.rv_word.specs.Layout.{UNITS_START}
+use Rattle.rv_word.specs.MemoryMap.{UNITS_START}
 use Rattle.cfi_layout.specs.declared.short.Short.{Short}
 use Rattle.cfi_layout.specs.Starts.{starts_from}
-use Rattle.cfi_layout.specs.LongSet.{sizes_where, reaches, IsShort}
+use Rattle.cfi_layout.specs.LongSet.{sizes_where, is_in_reach, IsShort}
 use Rattle.cfi_layout.specs.Lengthening.{gap, reach, spans}
 use Rattle.cfi_layout.proofs.Offsets.{offset, start_is, offset_more, offset_rises, spread, length_where, size_where, below_where}
 
@@ -57,8 +57,8 @@ word_before whole sizes b is =
 
 -- a branch reaches exactly where the gap is at most the reach
 pub reaches_is : (whole : ℕ → Bool) (sizes : List ℕ) (b : Short) → IsShort sizes b →
-    (gap (starts_where whole sizes) b ≤ reach b → reaches (starts_where whole sizes) b ≡ true)
-    × (reach b < gap (starts_where whole sizes) b → reaches (starts_where whole sizes) b ≡ false)
+    (gap (starts_where whole sizes) b ≤ reach b → is_in_reach (starts_where whole sizes) b ≡ true)
+    × (reach b < gap (starts_where whole sizes) b → is_in_reach (starts_where whole sizes) b ≡ false)
 reaches_is whole sizes b is =
     let at : start whole sizes b.at + b.lead ≤ start whole sizes (b.at + 1) = word_before whole sizes b is in
     let at_in = is.at_is in

@@ -2,7 +2,7 @@
 use Rattle.std.proofs.Common.{◌≡◌, ℕ, ◌==◌, ◌||◌, Bool, true, false, List, [], ◌∷◌, refl}
 use Rattle.cfi_layout.specs.declared.short.Short.{Short}
 use Rattle.cfi_layout.specs.Starts.{starts_from, code_size}
-use Rattle.cfi_layout.specs.LongSet.{sizes_where, starts_under, reaches, is_forced}
+use Rattle.cfi_layout.specs.LongSet.{sizes_where, starts_under, is_in_reach, is_forced}
 
 -- three parts: a unit of one word, one with a gate word and two words, one of three words
 starts_row : (starts_from 0x40000040 (4 ∷ 12 ∷ 12 ∷ []) ≡ 0x40000040 ∷ 0x40000044 ∷ 0x40000050 ∷ 0x4000005c ∷ [])
@@ -17,10 +17,10 @@ behind : ℕ → Short
 behind lead = record { at = 1; target = 0; lead = lead; keep = false }
 
 -- the last distance that reaches and the first that does not, ahead and behind, from the branch's word and not from its gate word
-reach_rows : (reaches (0 ∷ 4092 ∷ []) (ahead 0) ≡ true) × (reaches (0 ∷ 4096 ∷ []) (ahead 0) ≡ false)
-    × (reaches (0 ∷ 4096 ∷ []) (ahead 4) ≡ true) × (reaches (0 ∷ 4100 ∷ []) (ahead 4) ≡ false)
-    × (reaches (0 ∷ 4096 ∷ []) (behind 0) ≡ true) × (reaches (0 ∷ 4100 ∷ []) (behind 0) ≡ false)
-    × (reaches (0 ∷ 4092 ∷ []) (behind 4) ≡ true) × (reaches (0 ∷ 4096 ∷ []) (behind 4) ≡ false)
+reach_rows : (is_in_reach (0 ∷ 4092 ∷ []) (ahead 0) ≡ true) × (is_in_reach (0 ∷ 4096 ∷ []) (ahead 0) ≡ false)
+    × (is_in_reach (0 ∷ 4096 ∷ []) (ahead 4) ≡ true) × (is_in_reach (0 ∷ 4100 ∷ []) (ahead 4) ≡ false)
+    × (is_in_reach (0 ∷ 4096 ∷ []) (behind 0) ≡ true) × (is_in_reach (0 ∷ 4100 ∷ []) (behind 0) ≡ false)
+    × (is_in_reach (0 ∷ 4092 ∷ []) (behind 4) ≡ true) × (is_in_reach (0 ∷ 4096 ∷ []) (behind 4) ≡ false)
 unfolding ahead behind
 reach_rows = (refl, refl, refl, refl, refl, refl, refl, refl)
 

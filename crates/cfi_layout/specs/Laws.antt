@@ -2,10 +2,10 @@
 use Rattle.std.specs.Prelude.{ℕ, ◌≤◌, Bool, List}
 use Rattle.cfi_layout.specs.declared.short.Short.{Short}
 use Rattle.cfi_layout.specs.Starts.{code_size}
-use Rattle.cfi_layout.specs.LongSet.{IsClosed, IsLongSet, sizes_under}
+use Rattle.cfi_layout.specs.LongSet.{HoldsAllForced, IsLongSet, sizes_under}
 
 -- no closed set gives less code
 abbrev pub LeastCode : Type 0
 LeastCode =
-    (branches : List Short) (sizes : List ℕ) (long other : ℕ → Bool) → IsLongSet branches sizes long → IsClosed branches sizes other →
+    (branches : List Short) (sizes : List ℕ) (long other : ℕ → Bool) → IsLongSet branches sizes long → HoldsAllForced branches sizes other →
     code_size (sizes_under long branches sizes) ≤ code_size (sizes_under other branches sizes)

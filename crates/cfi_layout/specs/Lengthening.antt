@@ -1,9 +1,9 @@
 -- While branches are lengthened: which are too far from their targets. Only private contracts cite this.
 use Rattle.std.specs.Prelude.{◌≡◌, ℕ, ◌+◌, ◌-◌, ◌≤◌, nat_lt, nat_le, Bool, false, ◌&&◌, ◌||◌, not, if◌then◌else◌, IsTrue, List, Some, length, count_by, slice_get, slice_index}
-use Rattle.rv_word.specs.Layout.{UNITS_START}
+use Rattle.rv_word.specs.MemoryMap.{UNITS_START}
 use Rattle.cfi_layout.specs.declared.short.Short.{Short}
 use Rattle.cfi_layout.specs.Starts.{starts_from, flag}
-use Rattle.cfi_layout.specs.LongSet.{word, sizes_where, is_branch, IsClosed, IsWithin, AreShorts}
+use Rattle.cfi_layout.specs.LongSet.{word, sizes_where, is_branch, HoldsAllForced, IsWithin, AreShorts}
 
 -- how many bytes a branch's word and the start of its target are apart, and how many they may be
 abbrev pub gap : List ℕ → Short → ℕ
@@ -29,7 +29,7 @@ short_count long = count_by not long
 pub record Going (branches : List Short) (sizes : List ℕ) (long : List Bool) : Type 0 where
   pub count : length long ≡ length sizes
   pub only : (k : ℕ) → flag long k ≡ false → IsTrue (is_branch branches k)
-  pub within : (other : ℕ → Bool) → IsClosed branches sizes other → IsWithin branches (flag long) other
+  pub within : (other : ℕ → Bool) → HoldsAllForced branches sizes other → IsWithin branches (flag long) other
 
 -- where parts start, if those with a flag are long
 abbrev pub starts_with : List Bool → List ℕ → List ℕ

@@ -2,7 +2,7 @@
 -- reaches from -4096 to 4094 bytes (RISC-V unprivileged ISA, 2.5.2, conditional branches); starts are multiples of 4.
 use Rattle.std.specs.Prelude.{◌≡◌, ℕ, ◌+◌, ◌-◌, ◌<◌, ◌==◌, nat_le, Bool, not, ◌&&◌, ◌||◌, if◌then◌else◌, IsTrue, List, [], ◌∷◌, Some, length, slice_get, slice_index}
 use Rattle.std.specs.List.{list_any}
-use Rattle.rv_word.specs.Layout.{UNITS_START}
+use Rattle.rv_word.specs.MemoryMap.{UNITS_START}
 use Rattle.cfi_layout.specs.declared.short.Short.{Short}
 use Rattle.cfi_layout.specs.Starts.{starts_from}
 
@@ -31,17 +31,17 @@ abbrev pub word : List ℕ → Short → ℕ
 word starts b = slice_index starts b.at + b.lead
 
 -- the start of its target, less its word, is at least -4096 and at most 4092
-abbrev pub reaches : List ℕ → Short → Bool
-reaches starts b =
+abbrev pub is_in_reach : List ℕ → Short → Bool
+is_in_reach starts b =
     nat_le (word starts b) (slice_index starts b.target + 4096) && nat_le (slice_index starts b.target) (word starts b + 4092)
 
 -- a branch is to be long: it is kept so, or does not reach
 abbrev pub is_forced : List ℕ → Short → Bool
-is_forced starts b = b.keep || not (reaches starts b)
+is_forced starts b = b.keep || not (is_in_reach starts b)
 
 -- a set is closed that holds each branch that is to be long where exactly those of the set are long
-abbrev pub IsClosed : List Short → List ℕ → (ℕ → Bool) → Type 0
-IsClosed branches sizes long =
+abbrev pub HoldsAllForced : List Short → List ℕ → (ℕ → Bool) → Type 0
+HoldsAllForced branches sizes long =
     (i : ℕ) (b : Short) → slice_get branches i ≡ Some b → IsTrue (is_forced (starts_under long branches sizes) b) → IsTrue (long b.at)
 
 -- the branches of one set are in another
@@ -50,8 +50,8 @@ IsWithin branches long other = (k : ℕ) → IsTrue (is_branch branches k) → I
 
 -- the long set: it is closed, and lies in every closed set
 pub record IsLongSet (branches : List Short) (sizes : List ℕ) (long : ℕ → Bool) : Type 0 where
-  pub closed : IsClosed branches sizes long
-  pub least : (other : ℕ → Bool) → IsClosed branches sizes other → IsWithin branches long other
+  pub closed : HoldsAllForced branches sizes long
+  pub least : (other : ℕ → Bool) → HoldsAllForced branches sizes other → IsWithin branches long other
 
 -- what is asked of a branch: its part and its target's are there, and long it has two words after the
 -- gate word

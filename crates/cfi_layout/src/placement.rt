@@ -1,5 +1,5 @@
 ghost use Rattle.std.specs.Prelude.{◌≡◌, ◌<◌, ◌≤◌, [], IfOk, IfErr, Err, length, slice_index};
-ghost use Rattle.rv_word.specs.Layout.{CODE_SIZE, UNITS_START};
+ghost use Rattle.rv_word.specs.MemoryMap.{CODE_SIZE, UNITS_START};
 ghost use Rattle.cfi_layout.specs.Starts.{code_size, flag, starts_from};
 ghost use Rattle.cfi_layout.specs.declared.end.PlaceEnd.TheVariants.{CodeTooLarge, NoMemory as NoPlaceMemory};
 

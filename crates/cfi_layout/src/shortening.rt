@@ -1,5 +1,5 @@
 ghost use Rattle.std.specs.Prelude.{◌≡◌, ℕ, ◌<◌, ◌≤◌, false, not, IfOk, IsTrue, Some, length, slice_get};
-ghost use Rattle.rv_word.specs.Layout.{CODE_SIZE};
+ghost use Rattle.rv_word.specs.MemoryMap.{CODE_SIZE};
 ghost use Rattle.cfi_layout.specs.declared.short.Short.{Short};
 ghost use Rattle.cfi_layout.specs.LongSet.{AreShorts, IsLongSet, is_branch, starts_under};
 ghost use Rattle.cfi_layout.specs.Starts.{code_size, flag};

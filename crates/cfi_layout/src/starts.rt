@@ -1,5 +1,5 @@
 ghost use Rattle.std.specs.Prelude.{◌≡◌, ℕ, ◌+◌, ◌-◌, ◌<◌, ◌≤◌, ◌^◌, if◌then◌else◌, IfOk, length, slice_index};
-ghost use Rattle.rv_word.specs.Layout.{CODE_SIZE, UNITS_START};
+ghost use Rattle.rv_word.specs.MemoryMap.{CODE_SIZE, UNITS_START};
 ghost use Rattle.cfi_layout.specs.Lengthening.{starts_with};
 ghost use Rattle.cfi_layout.specs.LongSet.{sizes_where};
 ghost use Rattle.cfi_layout.specs.Starts.{code_size, flag, starts_from};

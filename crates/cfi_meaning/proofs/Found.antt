@@ -10,10 +10,10 @@ use Rattle.rv_word.proofs.Cases.{cases_Option, chosen}
 use Rattle.rv_instr.specs.Registers.{Registers}
 use Rattle.rv_instr.specs.declared.instr.Instr.{Instr}
 use Rattle.cfi_flow.specs.Closed.{class_at, class_of}
-use Rattle.cfi_flow.specs.GraphAtMap.{Layout, gate}
-use Rattle.cfi_flow.specs.Untame.{computed, computed_place, if_reached, is_same, place_with_gate, reaches}
+use Rattle.cfi_flow.specs.GraphAtMap.{ProgramAtMap, gate}
+use Rattle.cfi_flow.specs.Untame.{computed, computed_place, if_reached, is_same, place_with_gate, class_reaches}
 
-pub record IsFound (g : Layout) (k v t : ℕ) : Type 0 where
+pub record IsFound (g : ProgramAtMap) (k v t : ℕ) : Type 0 where
   pub gate_is : gate g t ≡ v
   pub class : ℕ
   pub site : class_of g.closed k ≡ Some class
@@ -35,9 +35,9 @@ same_class None (Some b) e = absurd (cc)
 same_class (Some a) None e = absurd (cc)
 same_class (Some a) (Some b) e = (a, refl, ap Some (sym (eqb-true a b e)))
 
-reached : (g : Layout) (k v s t : ℕ) → gate g s ≡ v → if_reached g.closed k s ≡ Some t → IsFound g k v t
+reached : (g : ProgramAtMap) (k v s t : ℕ) → gate g s ≡ v → if_reached g.closed k s ≡ Some t → IsFound g k v t
 reached g k v s t gate_is e =
-    elim (chosen (reaches g.closed k s) (Some s) None (Some t) e) [
+    elim (chosen (class_reaches g.closed k s) (Some s) None (Some t) e) [
       | inl found ↦
           let same : s ≡ t = same_Some s t found.1 in
           let (class, site, place) = same_class (class_of g.closed k) (class_at g.closed s) found.0 in
@@ -45,12 +45,12 @@ reached g k v s t gate_is e =
       | inr none ↦ let wrong : None ≡ Some t = none.1 in absurd (cc)
     ]
 
-pub place_found : (g : Layout) (k : ℕ) (i : Instr) (r : Registers) (t : ℕ) → computed_place g k i r ≡ Some t → IsFound g k (computed i r) t
+pub place_found : (g : ProgramAtMap) (k : ℕ) (i : Instr) (r : Registers) (t : ℕ) → computed_place g k i r ≡ Some t → IsFound g k (computed i r) t
 place_found g k i r t e =
     option_and_then_some {P = IsFound g k (computed i r) t} (if_reached g.closed k) (place_with_gate g.gates (computed i r)) t e
     (λ s from of. reached g k (computed i r) s t (gate_found g.gates (computed i r) s from) of)
 
-pub some_found : (g : Layout) (k : ℕ) (i : Instr) (r : Registers) → is_none (computed_place g k i r) ≡ false →
+pub some_found : (g : ProgramAtMap) (k : ℕ) (i : Instr) (r : Registers) → is_none (computed_place g k i r) ≡ false →
     (t : ℕ) × (computed_place g k i r ≡ Some t)
 some_found g k i r e =
     elim (cases_Option (computed_place g k i r)) [

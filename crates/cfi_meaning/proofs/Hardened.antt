@@ -1,8 +1,8 @@
 -- A hardened program of a request is an image of an accepted choice, at the gates of its map.
 use Rattle.std.proofs.Common.{◌≡◌, ℕ, List, [], Option, sym, ap, subst, unwrap_or}
 use Rattle.rv_word.specs.Image.{Contents}
-use Rattle.rv_word.specs.Layout.{version_1}
-use Rattle.cfi_flow.specs.GraphAtMap.{Layout}
+use Rattle.rv_word.specs.MemoryMap.{version_1}
+use Rattle.cfi_flow.specs.GraphAtMap.{ProgramAtMap}
 use Rattle.cfi_flow.specs.Source.{init_here}
 use Rattle.cfi_harden.specs.Hardened.{HardenedParts, IsHardened, chosen}
 use Rattle.cfi_harden.specs.Request.{Request}
@@ -16,7 +16,7 @@ use Rattle.cfi_meaning.proofs.Kept.{meaning_kept}
 use Rattle.cfi_meaning.proofs.NeverDiffers.{never_differs}
 
 -- what holds of each image of an accepted choice with its data
-module _ (Holds : Layout → Contents → Type 0)
+module _ (Holds : ProgramAtMap → Contents → Type 0)
     (each : (m : Choice) (image : Contents) → IsImageOf m image → image.init ≡ init_here m.layout → Holds m.layout image) where
   pub at_map : (request : Request) (h : HardenedParts) → IsHardened request h → HoldsAtMap Holds request h
   at_map request h (p, prepared, (s, labels, code, init, placed, room, in_range, written)) =

@@ -2,7 +2,7 @@
 use Rattle.std.proofs.Common.{◌≡◌, ℕ, zero, suc, ◌+◌, ◌%◌, ◌^◌, List, [], ◌∷◌, ◌++◌, length, length-append, Some, None, refl, sym, ap, subst, ◌∙◌, arith}
 use Rattle.std.proofs.lemmas.Option.{option_and_then_some, same_Some}
 use Rattle.rv_word.specs.Image.{Contents}
-use Rattle.rv_word.specs.Layout.{DATA_START, Profile, SHADOW_START, version_1}
+use Rattle.rv_word.specs.MemoryMap.{DATA_START, Profile, SHADOW_START, version_1}
 use Rattle.rv_word.specs.Memory.{loaded, placed, zeros}
 use Rattle.rv_instr.specs.Registers.{cleared, set_reg}
 use Rattle.rv_code.specs.State.{After, Shared, last_exit}

@@ -1,7 +1,7 @@
 -- The source machine's step of a kind is the own step of that kind, by addresses.
 use Rattle.std.proofs.Common.{◌≡◌, ℕ, ◌+◌, ◌≤◌, Bool, true, false, List, [], ◌∷◌, Option, Some, refl, sym, ap, subst, ◌∙◌, if◌then◌else◌, unwrap_or}
 use Rattle.std.proofs.lemmas.Bool.{cond_both}
-use Rattle.rv_word.specs.Layout.{Profile, UNITS_START, can_load, can_store, version_1}
+use Rattle.rv_word.specs.MemoryMap.{Profile, UNITS_START, can_load, can_store, version_1}
 use Rattle.rv_instr.specs.Registers.{Registers, get_reg}
 use Rattle.rv_instr.specs.declared.instr.Instr.{Instr}
 use Rattle.rv_instr.specs.declared.instr.Instr.TheVariants as I
@@ -16,7 +16,7 @@ use Rattle.obj_input.specs.declared.item_kind.ItemKind.{ItemKind}
 use Rattle.obj_input.specs.declared.item_kind.ItemKind.TheVariants as is
 use Rattle.obj_program.specs.Sound.{is_direct}
 use Rattle.obj_program.specs.Suits.{suits}
-use Rattle.cfi_flow.specs.GraphAtMap.{Layout, gate, gate_to, word}
+use Rattle.cfi_flow.specs.GraphAtMap.{ProgramAtMap, gate, gate_to, word}
 use Rattle.cfi_runs.specs.Own.{Own, OwnAfter, goes, calls, returns}
 use Rattle.cfi_kept.specs.KindStep.{kind_step}
 use Rattle.cfi_meaning.specs.Meaning.{own_of, sites_of}
@@ -28,7 +28,7 @@ use Rattle.cfi_meaning.proofs.Found.{place_found, some_found}
 use Rattle.cfi_meaning.proofs.KindTame.{NoReason}
 
 -- an own step is the source machine's
-abbrev pub IsOwn : Layout → OwnAfter → StepTurn → Source → Type 0
+abbrev pub IsOwn : ProgramAtMap → OwnAfter → StepTurn → Source → Type 0
 IsOwn g o ran st = o ≡ record { state = own_of g st; turn = Ran }
 IsOwn g o (exits status) st = (o.turn ≡ Exit status) × (o.state.shared ≡ st.shared)
 IsOwn g o (breaks k) st = (o.turn ≡ Break (word g k)) × (UNITS_START ≤ word g k) × (o.state.shared ≡ st.shared)
@@ -62,7 +62,7 @@ module _ (h : Hart) (s : Shared) (pc : ℕ) where
   exec_breaks I.Ecall e = call_breaks _ (after_call h s) e
   exec_breaks I.Ebreak e = cc
 
-module _ (g : Layout) (one : g.profile ≡ version_1) (k : ℕ) (past : UNITS_START ≤ word g k) (r : Registers) (t : Shared) (pending : List ℕ) where
+module _ (g : ProgramAtMap) (one : g.profile ≡ version_1) (k : ℕ) (past : UNITS_START ≤ word g k) (r : Registers) (t : Shared) (pending : List ℕ) where
   -- at a place
   abbrev here : Source
   here = record { place = Some k; regs = r; shared = t; pending = pending }

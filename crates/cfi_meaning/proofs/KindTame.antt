@@ -12,7 +12,7 @@ use Rattle.obj_input.specs.declared.item_kind.ItemKind.TheVariants as is
 use Rattle.obj_program.specs.Program.{is_end}
 use Rattle.obj_program.specs.Suits.{suits}
 use Rattle.cfi_flow.specs.Closed.{class_at, class_of}
-use Rattle.cfi_flow.specs.GraphAtMap.{Layout, gate}
+use Rattle.cfi_flow.specs.GraphAtMap.{ProgramAtMap, gate}
 use Rattle.cfi_unit.specs.declared.unit.Unit.TheVariants as V
 use Rattle.cfi_unit.specs.Leads.{HasLabel}
 use Rattle.cfi_unit.specs.Shadow.{MOST_PENDING}
@@ -26,7 +26,7 @@ use Rattle.cfi_flow.specs.Untame.{MOST_CALLS, is_off_graph, is_off_window, is_to
 use Rattle.cfi_meaning.proofs.Found.{place_found, some_found}
 
 -- no reason stands
-pub record NoReason (g : Layout) (k : ℕ) (kind : ItemKind) (i : Instr) (st : Source) : Type 0 where
+pub record NoReason (g : ProgramAtMap) (k : ℕ) (kind : ItemKind) (i : Instr) (st : Source) : Type 0 where
   pub graph : is_off_graph g k kind i st ≡ false
   pub return : is_wrong_return g kind st ≡ false
   pub window : is_off_window kind i st ≡ false
@@ -43,11 +43,11 @@ all_false false false true d e none = absurd (cc)
 all_false false false false true e none = absurd (cc)
 all_false false false false false true none = absurd (cc)
 
-pub sites_counted : (g : Layout) (pending : List ℕ) → length (sites_of g pending) ≡ suc (length pending)
+pub sites_counted : (g : ProgramAtMap) (pending : List ℕ) → length (sites_of g pending) ≡ suc (length pending)
 sites_counted g [] = refl
 sites_counted g (k ∷ pending) = ap suc (sites_counted g pending)
 
-module _ (image : Contents) (g : Layout) (k label : ℕ) (st : Source) (bears : (t class : ℕ) → class_of g.closed k ≡ Some class → class_at g.closed t ≡ Some class → HasLabel (loaded image) label (gate g t)) where
+module _ (image : Contents) (g : ProgramAtMap) (k label : ℕ) (st : Source) (bears : (t class : ℕ) → class_of g.closed k ≡ Some class → class_at g.closed t ≡ Some class → HasLabel (loaded image) label (gate g t)) where
   returns_tame : (pending : List ℕ) → (get_reg st.regs 1 == return_address g pending) ≡ true → IsTame (loaded image) V.Return (sites_of g pending) st.regs
   returns_tame [] e = eqb-true (get_reg st.regs 1) g.profile.closing e
   returns_tame (k' ∷ pending) e = eqb-true (get_reg st.regs 1) (gate g k') e

@@ -3,7 +3,7 @@
 use Rattle.std.proofs.Common.{◌≡◌, ℕ, zero, suc, ◌+◌, ◌-◌, ◌≤◌, ◌==◌, Bool, true, List, [], ◌∷◌, ◌++◌, length, map, Option, Some, None, append-nil, append_assoc, replicate, refl, sym, ap, subst, ◌∙◌, arith}
 use Rattle.std.proofs.lemmas.Bool.{eq-eqb, le-ltb}
 use Rattle.rv_word.specs.Image.{Contents}
-use Rattle.rv_word.specs.Layout.{UNITS_START, version_1}
+use Rattle.rv_word.specs.MemoryMap.{UNITS_START, version_1}
 use Rattle.rv_code.specs.Continue.{continue}
 use Rattle.rv_code.specs.Run.{ByteChange, next_or_stop, run}
 use Rattle.rv_code.specs.State.{After, start_hart, start_shared}
@@ -11,7 +11,7 @@ use Rattle.rv_code.specs.declared.event.Event.{Event}
 use Rattle.rv_code.specs.declared.turn.Turn.{Turn}
 use Rattle.rv_code.specs.declared.turn.Turn.TheVariants.{Ran, Exit, Break}
 use Rattle.rv_code.proofs.Continued.{events_added, run_in_parts}
-use Rattle.cfi_flow.specs.GraphAtMap.{Layout, word}
+use Rattle.cfi_flow.specs.GraphAtMap.{ProgramAtMap, word}
 use Rattle.cfi_unit.specs.Prologue.{OPENING}
 use Rattle.cfi_runs.specs.WholeRun.{undisturbed}
 use Rattle.cfi_harden.specs.Units.{Choice}
@@ -49,13 +49,13 @@ pub all_same : (k : ℕ) (ended : Bool) (xs : List TraceItem) → first_differen
 all_same k ended xs = ap (first_difference k ended xs) (sym (append-nil xs)) ∙ prefix_same k ended xs []
 
 -- where a run of the source machine is
-pub data Where (g : Layout) (start : Source) (j : ℕ) (r : SourceRun) : Type 0 where
+pub data Where (g : ProgramAtMap) (start : Source) (j : ℕ) (r : SourceRun) : Type 0 where
   on_way : r.turn ≡ ran → after_steps g (j + r.steps) start ≡ Some r.state → Where g start j r
   at_end : (before : Source) (i : ℕ) → r.steps ≡ i + 1 → after_steps g (j + i) start ≡ Some before → source_step g before ≡ record { state = r.state; turn = r.turn } →
       (r.turn ≡ ran → ⊥) → Where g start j r
   off_way : (why : _) (k : ℕ) → r.turn ≡ untame why k → Where g start j r
 
-module _ (g : Layout) (start : Source) where
+module _ (g : ProgramAtMap) (start : Source) where
   -- a step more
   step_more : (j : ℕ) (st : Source) → after_steps g j start ≡ Some st → (source_step g st).turn ≡ ran → after_steps g (suc j) start ≡ Some (source_step g st).state
   unfolding after_steps

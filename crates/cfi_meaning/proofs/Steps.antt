@@ -4,7 +4,7 @@ use Rattle.std.proofs.Common.{◌≡◌, ℕ, ◌≤◌, inl, inr, true, List, O
 use Rattle.std.proofs.lemmas.Bool.{cases_lt}
 use Rattle.std.proofs.lemmas.List.{get_or_past}
 use Rattle.rv_word.specs.Image.{Contents}
-use Rattle.rv_word.specs.Layout.{UNITS_START}
+use Rattle.rv_word.specs.MemoryMap.{UNITS_START}
 use Rattle.rv_word.proofs.Cases.{cases_Option}
 use Rattle.rv_instr.specs.Registers.{Registers}
 use Rattle.rv_code.specs.State.{Shared, last_exit}
@@ -13,7 +13,7 @@ use Rattle.obj_program.specs.Program.{count, is_end, item_of, no_item}
 use Rattle.obj_program.specs.Sound.{is_direct}
 use Rattle.obj_program.specs.Suits.{suits}
 use Rattle.obj_program.proofs.Kept.{kept}
-use Rattle.cfi_flow.specs.GraphAtMap.{Layout, gate, gate_to, word}
+use Rattle.cfi_flow.specs.GraphAtMap.{ProgramAtMap, gate, gate_to, word}
 use Rattle.cfi_flow.specs.LabelOf.{site_label}
 use Rattle.cfi_flow.specs.Placement.{is_long, words_from}
 use Rattle.cfi_harden.specs.Units.{Choice, instr_of}
@@ -32,7 +32,7 @@ use Rattle.cfi_meaning.proofs.KindActs.{IsOwn, own_acts}
 use Rattle.cfi_meaning.proofs.KindTame.{NoReason, all_false, sites_counted, tame_of_kind}
 
 module _ (m : Choice) (image : Contents) (of : IsImageOf m image) (k : ℕ) where
-  abbrev g : Layout
+  abbrev g : ProgramAtMap
   g = m.layout
 
   abbrev item : Item

@@ -2,11 +2,11 @@
 -- each ended, to the first that differs. The image runs 21 n + 13 steps for n of the program's.
 use Rattle.std.specs.Prelude.{ℕ, zero, suc, ◌==◌, ◌&&◌, Bool, true, false, nat_lt, if◌then◌else◌, Option, Some, None, List, [], ◌∷◌, ◌++◌, length, map}
 use Rattle.rv_word.specs.Image.{Contents}
-use Rattle.rv_word.specs.Layout.{version_1}
+use Rattle.rv_word.specs.MemoryMap.{version_1}
 use Rattle.rv_code.specs.declared.event.Event.{Event}
 use Rattle.rv_code.specs.declared.turn.Turn.{Turn}
 use Rattle.rv_code.specs.declared.turn.Turn.TheVariants.{Ran, Exit, Break}
-use Rattle.cfi_flow.specs.GraphAtMap.{Layout}
+use Rattle.cfi_flow.specs.GraphAtMap.{ProgramAtMap}
 use Rattle.cfi_unit.specs.Prologue.{OPENING}
 use Rattle.cfi_runs.specs.WholeRun.{undisturbed}
 use Rattle.cfi_kept.specs.PlacesKept.{bound}
@@ -26,7 +26,7 @@ run_from (exits status) st rest = record { steps = 1; state = st; turn = exits s
 run_from (breaks k) st rest = record { steps = 1; state = st; turn = breaks k }
 run_from (untame why k) st rest = record { steps = 0; state = st; turn = untame why k }
 
-unfoldable pub source_run : Layout → ℕ → Source → SourceRun
+unfoldable pub source_run : ProgramAtMap → ℕ → Source → SourceRun
 source_run layout zero st = record { steps = 0; state = st; turn = ran }
 source_run layout (suc n) st =
     run_from (source_step layout st).turn (source_step layout st).state (source_run layout n (source_step layout st).state)
@@ -104,7 +104,7 @@ verdict (exits status) None events = same events
 verdict (breaks k) None events = same events
 
 -- a program's run from a state, for so many steps at most, beside the run of an image with an input
-unfoldable pub compared_from : Layout → Source → Contents → List ℕ → ℕ → Compared
+unfoldable pub compared_from : ProgramAtMap → Source → Contents → List ℕ → ℕ → Compared
 compared_from layout state image input limit =
     let r = source_run layout limit state in
     let a = undisturbed version_1 image input (bound r.steps) in
@@ -113,5 +113,5 @@ compared_from layout state image input limit =
     (length r.state.shared.events)
 
 -- a program's run from its start, with the same input
-abbrev pub compared : Layout → Contents → List ℕ → ℕ → Compared
+abbrev pub compared : ProgramAtMap → Contents → List ℕ → ℕ → Compared
 compared layout image input limit = compared_from layout (source_start layout input) image input limit

@@ -1,9 +1,9 @@
 -- Meaning is kept by what a request comes to: its program, at the map that is told, runs as the image does that is told.
 use Rattle.std.specs.Prelude.{◌≡◌, ℕ, List}
 use Rattle.rv_word.specs.Image.{Contents}
-use Rattle.rv_word.specs.Layout.{version_1}
+use Rattle.rv_word.specs.MemoryMap.{version_1}
 use Rattle.elf_image.specs.Spelling.{spelling}
-use Rattle.cfi_flow.specs.GraphAtMap.{Layout}
+use Rattle.cfi_flow.specs.GraphAtMap.{ProgramAtMap}
 use Rattle.cfi_flow.specs.LegalMap.{IsLegalMap, gates_of}
 use Rattle.cfi_harden.specs.Hardened.{HardenedParts, IsHardened}
 use Rattle.cfi_harden.specs.Prepared.{IsPrepared, PreparedParts}
@@ -12,17 +12,17 @@ use Rattle.cfi_meaning.specs.Meaning.{KeepsMeaning}
 use Rattle.cfi_meaning.specs.NeverDiffers.{NoRunDiffers}
 
 -- a prepared program at the gates of a map
-abbrev pub layout_of : PreparedParts → HardenedParts → Layout
-layout_of p h = record { profile = version_1; program = p.program; closed = p.closed; gates = gates_of h.map; entry = p.entry }
+abbrev pub hardened_at_map : PreparedParts → HardenedParts → ProgramAtMap
+hardened_at_map p h = record { profile = version_1; program = p.program; closed = p.closed; gates = gates_of h.map; entry = p.entry }
 
 -- something holds of the request's program at the map, which is legal, and of what the image contains
-pub record HoldsAtMap (Holds : Layout → Contents → Type 0) (request : Request) (h : HardenedParts) : Type 0 where
+pub record HoldsAtMap (Holds : ProgramAtMap → Contents → Type 0) (request : Request) (h : HardenedParts) : Type 0 where
   pub p : PreparedParts
   pub contents : Contents
   pub prepared : IsPrepared request p
   pub map : IsLegalMap p.program p.closed h.map
   pub image : h.image ≡ spelling contents.code contents.init
-  pub holds : Holds (layout_of p h) contents
+  pub holds : Holds (hardened_at_map p h) contents
 
 -- with each input
 abbrev pub KeepsMeaningAtMap : Request → HardenedParts → Type 0

@@ -1,13 +1,13 @@
 -- Compared with its image, no run of a program differs.
 use Rattle.std.specs.Prelude.{◌≡◌, ℕ, List}
 use Rattle.rv_word.specs.Image.{Contents}
-use Rattle.cfi_flow.specs.GraphAtMap.{Layout}
+use Rattle.cfi_flow.specs.GraphAtMap.{ProgramAtMap}
 use Rattle.cfi_flow.specs.Source.{init_here}
 use Rattle.cfi_harden.specs.Units.{Choice}
 use Rattle.cfi_kept.specs.ImageOf.{IsImageOf}
 use Rattle.cfi_meaning.specs.Compared.{Difference, compared, differs}
 
-abbrev pub NoRunDiffers : Layout → Contents → Type 0
+abbrev pub NoRunDiffers : ProgramAtMap → Contents → Type 0
 NoRunDiffers layout image = (input : List ℕ) (limit : ℕ) (d : Difference) → compared layout image input limit ≡ differs d → ⊥
 
 abbrev pub NeverDiffers : Type 0

@@ -1,7 +1,7 @@
 -- Each unit's row, seen from the program: what the unit is left with matches what the program's own
 -- step leaves.
 use Rattle.std.proofs.Common.{◌≡◌, ◌≢◌, ℕ, ◌+◌, ◌-◌, ◌^◌, ◌==◌, ◌<◌, ◌≤◌, ◌||◌, Bool, true, false, List, [], ◌∷◌, length, inl, if◌then◌else◌, refl, sym, ap, subst, ◌∙◌, arith}
-use Rattle.rv_word.specs.Layout.{Profile, SHADOW_START}
+use Rattle.rv_word.specs.MemoryMap.{Profile, SHADOW_START}
 use Rattle.rv_word.specs.Memory.{Memory, write}
 use Rattle.rv_instr.specs.Registers.{Registers, get_reg, set_reg}
 use Rattle.rv_instr.specs.Reserved.{is_reserved}

@@ -1,6 +1,6 @@
 -- What a unit does is what it stands for, where it passes on.
 use Rattle.std.proofs.Common.{◌≡◌, ℕ, ◌-◌, ◌%◌, ◌^◌, ◌<◌, inl, inr, List, [], ◌∷◌, length, ap, ◌∙◌, arith}
-use Rattle.rv_word.specs.Layout.{Profile, SHADOW_START}
+use Rattle.rv_word.specs.MemoryMap.{Profile, SHADOW_START}
 use Rattle.rv_word.specs.Memory.{Memory, write}
 use Rattle.rv_instr.specs.Registers.{get_reg}
 use Rattle.rv_code.specs.Arithmetic.{store_size}

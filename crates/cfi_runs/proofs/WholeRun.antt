@@ -1,7 +1,7 @@
 -- The opening, then a path, then a step or the closing: all of it is one run.
 use Rattle.std.proofs.Common.{inl, ◌≡◌, ℕ, ◌+◌, inr, List, [], ◌∷◌, None, refl, sym, subst, arith}
 use Rattle.rv_word.specs.Image.{Contents}
-use Rattle.rv_word.specs.Layout.{CODE_START, Profile, SHADOW_START}
+use Rattle.rv_word.specs.MemoryMap.{CODE_START, Profile, SHADOW_START}
 use Rattle.rv_word.specs.Memory.{Memory, loaded}
 use Rattle.rv_instr.specs.Registers.{cleared}
 use Rattle.rv_code.specs.State.{Hart, Shared, After, start_hart, start_shared, last_exit}

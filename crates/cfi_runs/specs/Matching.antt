@@ -1,7 +1,7 @@
 -- The machine's state matches the program's own: the pc, the program's registers, data, the input left,
 -- the output and the system calls are the same, and its pending sites are those of the shadow stack.
 use Rattle.std.specs.Prelude.{◌≡◌, ℕ, ◌<◌, length}
-use Rattle.rv_word.specs.Layout.{DATA_END}
+use Rattle.rv_word.specs.MemoryMap.{DATA_END}
 use Rattle.rv_word.specs.Memory.{Memory}
 use Rattle.rv_code.specs.State.{Hart, Shared, After}
 use Rattle.rv_code.specs.declared.turn.Turn.TheVariants.{Ran}

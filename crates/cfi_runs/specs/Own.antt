@@ -1,7 +1,7 @@
 -- The program's own run, one instruction a step: what each unit stands for, on registers and memory in
 -- which no word of a unit has a part. The pending sites are a list of their own, the newest first.
 use Rattle.std.specs.Prelude.{ℕ, ◌*◌, ◌/◌, ◌^◌, if◌then◌else◌, List, [], ◌∷◌}
-use Rattle.rv_word.specs.Layout.{Profile}
+use Rattle.rv_word.specs.MemoryMap.{Profile}
 use Rattle.rv_instr.specs.Registers.{Registers, get_reg, set_reg}
 use Rattle.rv_instr.specs.declared.instr.Instr.{Instr}
 use Rattle.rv_instr.specs.declared.instr.Instr.TheVariants.{Store, Ecall}

@@ -2,7 +2,7 @@
 -- registers, the pending sites, and what harts share then. `h` and `s` are the hart and what is
 -- shared at the unit's first word.
 use Rattle.std.specs.Prelude.{ℕ, if◌then◌else◌, List, [], ◌∷◌, length}
-use Rattle.rv_word.specs.Layout.{Profile}
+use Rattle.rv_word.specs.MemoryMap.{Profile}
 use Rattle.rv_word.specs.Memory.{Memory, write}
 use Rattle.rv_instr.specs.Registers.{Registers, get_reg, set_reg}
 use Rattle.rv_code.specs.Arithmetic.{branch_taken, store_size}

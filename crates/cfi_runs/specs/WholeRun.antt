@@ -3,7 +3,7 @@
 -- the path have words; and where the program's next step ends its run, the machine's ends alike.
 use Rattle.std.specs.Prelude.{ℕ, ◌+◌, ◌^◌, ◌<◌, ◌≤◌, ◌≡◌, List, [], replicate}
 use Rattle.rv_word.specs.Image.{Contents}
-use Rattle.rv_word.specs.Layout.{DATA_START, Profile, SHADOW_START}
+use Rattle.rv_word.specs.MemoryMap.{DATA_START, Profile, SHADOW_START}
 use Rattle.rv_word.specs.Memory.{loaded, placed, zeros}
 use Rattle.rv_instr.specs.Registers.{cleared}
 use Rattle.rv_code.specs.Run.{ByteChange, run}

@@ -1,6 +1,6 @@
 -- A code that comes in pieces: what is kept of all the bytes that came.
 use Rattle.std.specs.Prelude.{◌≡◌, ℕ, ◌-◌, ◌/◌, ◌<◌, ◌≤◌, List, [], ◌∷◌, length, take, drop}
-use Rattle.rv_word.specs.Layout.{CODE_START, Profile}
+use Rattle.rv_word.specs.MemoryMap.{CODE_START, Profile}
 use Rattle.cfi_scan.specs.declared.entry.Entry.{Entry}
 use Rattle.cfi_scan.specs.declared.reader.Reader.{Reader}
 use Rattle.cfi_scan.specs.Carry.{word_of}

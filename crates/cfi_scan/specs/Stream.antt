@@ -1,7 +1,7 @@
 -- Units in a row, of words that come one by one: the units that have ended, and how far the one is read
 -- that has begun.
 use Rattle.std.specs.Prelude.{◌≡◌, ℕ, ◌+◌, ◌*◌, ◌%◌, ◌<◌, ◌≤◌, ◌^◌, IsTrue, List, [], ◌∷◌, ◌++◌, length, take, None, true}
-use Rattle.rv_word.specs.Layout.{CODE_START, CODE_SIZE}
+use Rattle.rv_word.specs.MemoryMap.{CODE_START, CODE_SIZE}
 use Rattle.rv_instr.specs.declared.instr.BranchOp.{BranchOp}
 use Rattle.rv_instr.specs.declared.instr.StoreOp.{StoreOp}
 use Rattle.rv_instr.specs.declared.instr.Instr.TheVariants.{Branch, Immediate}

@@ -1,5 +1,5 @@
 ghost use Rattle.std.specs.Prelude.{◌≡◌, ◌+◌, ◌-◌, ◌*◌, ◌/◌, ◌%◌, ◌<◌, ◌≤◌, ◌^◌, ℕ, List, IfOk, [], ◌∷◌, ◌++◌, length};
-ghost use Rattle.rv_word.specs.Layout.{CODE_SIZE, version_1};
+ghost use Rattle.rv_word.specs.MemoryMap.{CODE_SIZE, version_1};
 ghost use Rattle.cfi_scan.specs.Carry.{word_of};
 ghost use Rattle.cfi_scan.specs.Pieces.{HasSeen, IsOf};
 
@@ -23,7 +23,7 @@ pub struct Feeder {
 
 impl Model for Feeder {
     ghost use Rattle.std.specs.Prelude.{◌/◌, ◌+◌, ◌*◌, ◌≤◌, length, take};
-    ghost use Rattle.rv_word.specs.Layout.{CODE_SIZE};
+    ghost use Rattle.rv_word.specs.MemoryMap.{CODE_SIZE};
     ghost use Rattle.cfi_scan.specs.Pieces.{Sight};
 
     ghost Value = { Sight };

@@ -1,5 +1,5 @@
 ghost use Rattle.std.specs.Prelude.{◌≡◌, ◌+◌, ◌-◌, ◌*◌, ◌≤◌, ℕ, List, IfOk, [], ◌∷◌, ◌++◌, length};
-ghost use Rattle.rv_word.specs.Layout.{CODE_SIZE, version_1};
+ghost use Rattle.rv_word.specs.MemoryMap.{CODE_SIZE, version_1};
 ghost use Rattle.cfi_scan.specs.Pieces.{Keeps};
 
 use crate::splitter::Splitter;

@@ -19,7 +19,7 @@ pub struct Listing {
 
 impl Model for Listing {
     ghost use Rattle.std.specs.Prelude.{◌/◌, ◌+◌, ◌*◌, ◌≤◌, length, take};
-    ghost use Rattle.rv_word.specs.Layout.{CODE_SIZE};
+    ghost use Rattle.rv_word.specs.MemoryMap.{CODE_SIZE};
     ghost use Rattle.cfi_scan.specs.Pieces.{Listed};
 
     ghost Value = { Listed };

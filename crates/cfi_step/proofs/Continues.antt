@@ -3,7 +3,7 @@ use Rattle.std.proofs.Common.{◌≡◌, ℕ, suc, ◌+◌, ◌-◌, true, false
 use Rattle.std.proofs.lemmas.List.{length-append}
 use Rattle.std.specs.List.{AllByRecursion}
 use Rattle.rv_word.specs.Image.{Contents}
-use Rattle.rv_word.specs.Layout.{version_1}
+use Rattle.rv_word.specs.MemoryMap.{version_1}
 use Rattle.rv_code.specs.Run.{IsDataChange, disturbed_step, if_ran, next_or_stop, run}
 use Rattle.rv_code.specs.State.{After, Hart, Shared, start_hart, start_shared}
 use Rattle.rv_code.specs.declared.turn.Turn.{Turn}

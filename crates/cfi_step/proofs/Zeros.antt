@@ -2,7 +2,7 @@
 use Rattle.std.proofs.Common.{◌≡◌, ℕ, zero, suc, ◌+◌, ◌-◌, ◌*◌, ◌<◌, ◌≤◌, false, nat_le, List, [], ◌∷◌, ◌++◌, refl, ◌∙◌, ap, arith, append_assoc, append-nil, ◌&&◌}
 use Rattle.std.proofs.lemmas.Bool.{le-leb, lt-leb}
 use Rattle.cfi_verify.specs.Lines.{is_among}
-use Rattle.rv_word.specs.Layout.{DATA_END}
+use Rattle.rv_word.specs.MemoryMap.{DATA_END}
 use Rattle.rv_word.specs.Memory.{Memory, read}
 use Rattle.cfi_step.specs.Hostile.{holds_site, site_zeros, sites_from, zeros_at, zeros_from}
 

@@ -1,7 +1,7 @@
 -- What the hostile meddler changes. It goes over the 512 double words of data from x2 on, and zeroes each
 -- that equals a pending site: the double word in a slot of the shadow stack below x3.
 use Rattle.std.specs.Prelude.{ℕ, zero, suc, ◌+◌, ◌-◌, ◌/◌, nat_le, ◌&&◌, Bool, List, [], ◌∷◌, ◌++◌, min, if◌then◌else◌}
-use Rattle.rv_word.specs.Layout.{DATA_END, SHADOW_START}
+use Rattle.rv_word.specs.MemoryMap.{DATA_END, SHADOW_START}
 use Rattle.rv_word.specs.Memory.{Memory, read}
 use Rattle.rv_instr.specs.Registers.{get_reg}
 use Rattle.rv_code.specs.State.{Hart, Shared}

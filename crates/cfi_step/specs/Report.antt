@@ -2,7 +2,7 @@
 -- counted), its output, its system calls, and its walk, of which the last sixteen addresses are kept.
 use Rattle.std.specs.Prelude.{◌≡◌, ℕ, ◌-◌, ◌==◌, List, drop, length, map, Option, Some, None, if◌then◌else◌}
 use Rattle.rv_word.specs.Image.{Contents}
-use Rattle.rv_word.specs.Layout.{version_1}
+use Rattle.rv_word.specs.MemoryMap.{version_1}
 use Rattle.rv_code.specs.Run.{run}
 use Rattle.rv_code.specs.State.{start_hart, start_shared}
 use Rattle.rv_code.specs.declared.turn.Turn.{Turn}

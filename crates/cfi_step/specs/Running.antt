@@ -2,7 +2,7 @@
 use Rattle.std.specs.Prelude.{◌≡◌, ℕ, Bool, true, false, List, [], length, map, Some}
 use Rattle.std.specs.List.{AllByRecursion}
 use Rattle.rv_word.specs.Image.{Contents}
-use Rattle.rv_word.specs.Layout.{version_1}
+use Rattle.rv_word.specs.MemoryMap.{version_1}
 use Rattle.rv_code.specs.Run.{ByteChange, run}
 use Rattle.rv_code.specs.State.{Hart, Shared}
 use Rattle.rv_code.specs.declared.turn.Turn.{Turn}

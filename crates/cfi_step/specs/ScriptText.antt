@@ -3,7 +3,7 @@
 -- is below that of the line before it.
 use Rattle.std.specs.Prelude.{ℕ, ◌+◌, ◌*◌, nat_le, Bool, ◌&&◌, if◌then◌else◌, List, [], ◌∷◌, length, codes, Option, Some, None, option_map, option_and_then, Result}
 use Rattle.std.specs.Str.{bytes_eq}
-use Rattle.rv_word.specs.Layout.{DATA_END}
+use Rattle.rv_word.specs.MemoryMap.{DATA_END}
 use Rattle.text_lines.specs.Decimal.{MAX_STEP, capped, decimal}
 use Rattle.text_lines.specs.Hex.{digit_value, hex}
 use Rattle.text_lines.specs.Reading.{LineRules, read_text, whole}

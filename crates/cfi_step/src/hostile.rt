@@ -1,5 +1,5 @@
 ghost use Rattle.std.specs.Prelude.{◌≡◌, ◌+◌, ◌*◌, ◌≤◌, ◌<◌, ◌^◌, ◌++◌, IfOk, OnOk, OnErr, min};
-ghost use Rattle.rv_word.specs.Layout.{DATA_END, SHADOW_START};
+ghost use Rattle.rv_word.specs.MemoryMap.{DATA_END, SHADOW_START};
 ghost use Rattle.rv_mem.specs.Cells.{memory_of};
 ghost use Rattle.cfi_verify.specs.Lines.{is_among};
 ghost use Rattle.cfi_step.specs.Hostile.{holds_site, site_zeros, sites_from, slots_below, zeros_at, zeros_from};

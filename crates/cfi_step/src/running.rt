@@ -1,6 +1,6 @@
 ghost use Rattle.std.specs.Prelude.{◌≡◌, ◌<◌, ◌+◌, ◌^◌, ◌++◌, ◌∷◌, [], ℕ, List, map, IfOk, OnOk};
 ghost use Rattle.std.specs.List.{AllByRecursion};
-ghost use Rattle.rv_word.specs.Layout.{version_1};
+ghost use Rattle.rv_word.specs.MemoryMap.{version_1};
 ghost use Rattle.rv_code.specs.Run.{IsDataChange, disturbed, disturbed_step};
 ghost use Rattle.rv_code.specs.State.{start_hart, start_shared};
 ghost use Rattle.rv_machine.specs.Parts.{after_step, hart_in, shared_in};

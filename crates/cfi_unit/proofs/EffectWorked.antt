@@ -3,7 +3,7 @@
 use Rattle.std.proofs.Common.{◌≡◌, ℕ, zero, suc, ◌+◌, ◌*◌, ◌-◌, ◌==◌, ◌^◌, ◌<◌, ◌&&◌, List, [], ◌∷◌, Some, None, length, if◌then◌else◌, refl, lit<, lit≤}
 use Rattle.std.specs.Prelude.{nat_le, nat_lt, slice_get, slice_index}
 use Rattle.std.proofs.lemmas.Bool.{cond_both}
-use Rattle.rv_word.specs.Layout.{version_1, SHADOW_START}
+use Rattle.rv_word.specs.MemoryMap.{version_1, SHADOW_START}
 use Rattle.rv_word.specs.Memory.{Memory, placed, read, zeros}
 use Rattle.rv_instr.specs.declared.instr.Instr.{Instr}
 use Rattle.rv_instr.specs.declared.instr.BranchOp.TheVariants.{Bne}

@@ -1,6 +1,6 @@
 -- A store unit: its address is masked to lie below 2 ^ 28, so it writes data alone.
 use Rattle.std.proofs.Common.{ℕ, ◌^◌, ◌<◌, inl, inr, List, length, refl, arith}
-use Rattle.rv_word.specs.Layout.{Profile}
+use Rattle.rv_word.specs.MemoryMap.{Profile}
 use Rattle.rv_word.specs.Memory.{Memory, write}
 use Rattle.rv_instr.specs.Registers.{Registers, get_reg}
 use Rattle.rv_instr.specs.declared.instr.StoreOp.{StoreOp}

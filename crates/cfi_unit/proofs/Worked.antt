@@ -3,7 +3,7 @@
 use Rattle.std.proofs.Common.{◌≡◌, ℕ, zero, suc, ◌+◌, ◌*◌, ◌^◌, ◌<◌, [], ◌∷◌, Some, None, refl, arith}
 use Rattle.std.specs.Prelude.{slice_get}
 use Rattle.rv_word.specs.Image.{Contents}
-use Rattle.rv_word.specs.Layout.{version_1, SHADOW_START}
+use Rattle.rv_word.specs.MemoryMap.{version_1, SHADOW_START}
 use Rattle.rv_word.specs.Memory.{read, loaded, placed}
 use Rattle.rv_instr.specs.declared.instr.Instr.{Instr}
 use Rattle.rv_code.specs.Decode.{decoded}

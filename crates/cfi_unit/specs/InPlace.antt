@@ -3,7 +3,7 @@
 -- has found out. `n` counts the pending sites, `r` holds the registers at the unit's start.
 use Rattle.std.specs.Prelude.{◌≡◌, ◌≢◌, ℕ, suc, ◌+◌, ◌*◌, ◌/◌, ◌^◌, ◌<◌, ◌≤◌, List, [], ◌∷◌, length}
 use Rattle.rv_word.specs.Bits.{wrap}
-use Rattle.rv_word.specs.Layout.{CODE_START, CODE_SIZE, SHADOW_START}
+use Rattle.rv_word.specs.MemoryMap.{CODE_START, CODE_SIZE, SHADOW_START}
 use Rattle.rv_word.specs.Memory.{Memory, read}
 use Rattle.rv_instr.specs.Registers.{Registers}
 use Rattle.rv_code.specs.Arithmetic.{difference}

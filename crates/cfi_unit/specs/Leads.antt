@@ -2,7 +2,7 @@
 -- unit's start, `past` is the address after it; a computed destination is legal where code has the gate of the class's label.
 use Rattle.std.specs.Prelude.{◌≡◌, ◌≢◌, ℕ, ◌+◌, ◌*◌, ◌/◌, ◌%◌, ◌≤◌, ◌<◌, ◌⊎◌, List, [], ◌∷◌, length}
 use Rattle.rv_word.specs.Bits.{wrap}
-use Rattle.rv_word.specs.Layout.{CODE_START, CODE_SIZE}
+use Rattle.rv_word.specs.MemoryMap.{CODE_START, CODE_SIZE}
 use Rattle.rv_word.specs.Memory.{Memory, read}
 use Rattle.rv_instr.specs.Registers.{Registers, get_reg}
 use Rattle.rv_code.specs.Step.{offset}

@@ -1,6 +1,6 @@
 -- How a unit is left: to where, with which registers and pending sites, and what harts then share.
 use Rattle.std.specs.Prelude.{◌≡◌, ◌≢◌, ℕ, ◌+◌, ◌%◌, ◌^◌, ◌<◌, false, List, length, Option, Some}
-use Rattle.rv_word.specs.Layout.{Profile}
+use Rattle.rv_word.specs.MemoryMap.{Profile}
 use Rattle.rv_word.specs.Memory.{Memory, write}
 use Rattle.rv_instr.specs.Operands.{written}
 use Rattle.rv_instr.specs.Registers.{Registers, get_reg}

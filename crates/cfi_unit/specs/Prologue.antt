@@ -1,7 +1,7 @@
 -- The prologue of a hardened image: the three handlers, the opening, which sets up both stacks and
 -- calls the entry, and the closing, which exits.
 use Rattle.std.specs.Prelude.{ℕ, ◌+◌, List, [], ◌∷◌, ◌++◌}
-use Rattle.rv_word.specs.Layout.{START}
+use Rattle.rv_word.specs.MemoryMap.{START}
 use Rattle.rv_instr.specs.declared.instr.Instr.{Instr}
 use Rattle.rv_instr.specs.declared.instr.Instr.TheVariants.{Upper, Immediate, Ecall, Ebreak}
 use Rattle.rv_instr.specs.declared.instr.UpperOp.TheVariants.{Lui}

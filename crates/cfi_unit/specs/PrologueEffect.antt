@@ -1,7 +1,7 @@
 -- What the opening and the closing do, from the first word of each on, where nothing is changed
 -- between their words: each is done within as many steps as it has words.
 use Rattle.std.specs.Prelude.{◌≡◌, ℕ, ◌+◌, ◌^◌, List, [], ◌∷◌, length, replicate}
-use Rattle.rv_word.specs.Layout.{Profile, SHADOW_START}
+use Rattle.rv_word.specs.MemoryMap.{Profile, SHADOW_START}
 use Rattle.rv_word.specs.Memory.{Memory}
 use Rattle.rv_instr.specs.Registers.{set_reg}
 use Rattle.rv_instr.specs.declared.instr.Instr.TheVariants.{Ecall}

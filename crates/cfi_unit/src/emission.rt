@@ -1,5 +1,5 @@
 ghost use Rattle.std.specs.Prelude.{◌≡◌, ◌+◌, ◌*◌, ◌<◌, ◌↔◌, ◌++◌, IfOk, IsTrue, List, Some, length, ℕ};
-ghost use Rattle.rv_word.specs.Layout.{CODE_START, CODE_SIZE};
+ghost use Rattle.rv_word.specs.MemoryMap.{CODE_START, CODE_SIZE};
 ghost use Rattle.cfi_unit.specs.Recognise.{can_stand, check_reaches, recognised};
 ghost use Rattle.cfi_unit.specs.UnitWords.{Fits, is_plain, may_precede, word_count, words_of};
 

@@ -1,5 +1,5 @@
 ghost use Rattle.std.specs.Prelude.{◌≡◌, ◌+◌, ◌<◌, drop, option_map, IfSome, IsNone};
-ghost use Rattle.rv_word.specs.Layout.{CODE_START, CODE_SIZE};
+ghost use Rattle.rv_word.specs.MemoryMap.{CODE_START, CODE_SIZE};
 ghost use Rattle.cfi_unit.specs.Recognise.{
   address_unit,
   branch_unit,

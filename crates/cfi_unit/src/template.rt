@@ -1,5 +1,5 @@
 ghost use Rattle.std.specs.Prelude.{◌≡◌, ◌+◌, ◌<◌, ◌^◌};
-ghost use Rattle.rv_word.specs.Layout.{CODE_START, CODE_SIZE};
+ghost use Rattle.rv_word.specs.MemoryMap.{CODE_START, CODE_SIZE};
 ghost use Rattle.cfi_unit.specs.UnitWords.{check, gate, instrs_of, push, system_instr, words_of};
 ghost use Rattle.cfi_unit.specs.declared.unit.Unit.TheVariants as V;
 

@@ -5,7 +5,7 @@ use Rattle.std.specs.Prelude.{is_some}
 use Rattle.std.proofs.lemmas.Bool.{and_parts, false≢true}
 use Rattle.std.proofs.lemmas.Option.{same_Some}
 use Rattle.rv_word.specs.Image.{Contents}
-use Rattle.rv_word.specs.Layout.{SHADOW_START, version_1}
+use Rattle.rv_word.specs.MemoryMap.{SHADOW_START, version_1}
 use Rattle.rv_word.specs.Memory.{loaded, placed, write}
 use Rattle.rv_instr.specs.Registers.{Registers}
 use Rattle.rv_code.specs.Decode.{decoded}

@@ -1,7 +1,7 @@
 -- A scan that has come to the length that the graph gives: what its listing tells of the code.
 use Rattle.std.proofs.Common.{◌≡◌, ℕ, ◌-◌, ◌/◌, List, length, sym, ap, subst, ◌∙◌, arith}
 use Rattle.rv_word.specs.Image.{Contents}
-use Rattle.rv_word.specs.Layout.{version_1}
+use Rattle.rv_word.specs.MemoryMap.{version_1}
 use Rattle.cfi_graph.specs.Graph.{GraphParts}
 use Rattle.cfi_scan.specs.Pieces.{HasSeen, IsOf, Listed, Sight}
 use Rattle.cfi_verify.specs.Entries.{Tells}

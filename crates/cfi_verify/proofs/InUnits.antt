@@ -1,7 +1,7 @@
 -- Where units start: in the words from the first one on.
 use Rattle.std.proofs.Common.{◌/◌, ◌%◌, inl, inr, length-drop, ◌≡◌, ◌≤◌, ◌<◌, ℕ, zero, suc, ◌+◌, ◌-◌, ◌*◌, true, List, [], ◌∷◌, length, drop, arith}
 use Rattle.std.proofs.lemmas.Option.{slice_get_within}
-use Rattle.rv_word.specs.Layout.{version_1, UNITS_START}
+use Rattle.rv_word.specs.MemoryMap.{version_1, UNITS_START}
 use Rattle.rv_word.proofs.Cases.{cases_Option}
 use Rattle.cfi_unit.specs.Recognise.{recognised}
 use Rattle.cfi_unit.specs.UnitWords.{word_count}

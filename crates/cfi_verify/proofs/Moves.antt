@@ -3,7 +3,7 @@
 use Rattle.std.proofs.Common.{◌≡◌, ℕ, ◌+◌, ◌*◌, ◌^◌, ◌≤◌, ◌<◌, inl, inr, true, false, List, [], ◌∷◌, length, refl, sym, ap, subst, ◌∙◌, Some, arith, lit≤}
 use Rattle.std.specs.Prelude.{option_map}
 use Rattle.rv_word.specs.Image.{Contents}
-use Rattle.rv_word.specs.Layout.{version_1, CLOSING}
+use Rattle.rv_word.specs.MemoryMap.{version_1, CLOSING}
 use Rattle.rv_word.specs.Memory.{read, loaded}
 use Rattle.rv_word.proofs.Cases.{cases_Option}
 use Rattle.rv_instr.specs.Registers.{Registers}

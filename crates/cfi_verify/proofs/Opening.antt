@@ -4,7 +4,7 @@ use Rattle.std.specs.Prelude.{slice_get, slice_index, ◌==◌, not}
 use Rattle.std.proofs.lemmas.Bool.{cases_lt, cases_eq, eqb-true, le-leb, lt-ltb, le-ltb, ne_eqb}
 use Rattle.std.proofs.lemmas.Option.{slice_get_within}
 use Rattle.rv_word.specs.Image.{Contents}
-use Rattle.rv_word.specs.Layout.{CODE_START, version_1, OPENING_CALL}
+use Rattle.rv_word.specs.MemoryMap.{CODE_START, version_1, OPENING_CALL}
 use Rattle.rv_word.specs.Memory.{read, loaded}
 use Rattle.rv_instr.specs.declared.instr.Instr.{Instr}
 use Rattle.rv_instr.specs.declared.instr.Instr.TheVariants.{Jal}

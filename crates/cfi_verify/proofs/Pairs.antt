@@ -1,6 +1,6 @@
 -- Worked pairs, computed: which rule fails, and where.
 use Rattle.std.proofs.Common.{◌≡◌, [], ◌∷◌, refl, true, false}
-use Rattle.rv_word.specs.Layout.{version_1}
+use Rattle.rv_word.specs.MemoryMap.{version_1}
 use Rattle.rv_code.specs.Decode.{decoded}
 use Rattle.rv_code.specs.Encode.{code_of}
 use Rattle.cfi_graph.specs.declared.line.GraphLine.TheVariants.{Class, Edge, Call}

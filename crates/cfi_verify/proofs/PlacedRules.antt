@@ -4,7 +4,7 @@ use Rattle.std.specs.Prelude.{Option, nat_le, nat_lt, not, ◌&&◌, ◌||◌, i
 use Rattle.std.specs.List.{last_or}
 use Rattle.std.proofs.lemmas.Bool.{and_right, and_left, cases_Bool, cases_eq, eq-eqb, le-ltb, lt-leb, ne_eqb, or_from}
 use Rattle.std.proofs.lemmas.Option.{same_Some}
-use Rattle.rv_word.specs.Layout.{CODE_START, Profile}
+use Rattle.rv_word.specs.MemoryMap.{CODE_START, Profile}
 use Rattle.rv_word.proofs.Cases.{cases_Option, guarded}
 use Rattle.cfi_graph.specs.declared.line.GraphLine.{GraphLine}
 use Rattle.cfi_graph.specs.declared.line.GraphLine.TheVariants.{Call}

@@ -4,7 +4,7 @@ use Rattle.std.specs.Prelude.{nat_lt, ◌==◌, ◌&&◌, option_map}
 use Rattle.std.proofs.lemmas.Bool.{cases_eq, eqb-true, eq-eqb, ne_eqb, ltb-false}
 use Rattle.std.proofs.lemmas.List.Elements.{All-drop}
 use Rattle.rv_word.specs.Image.{Contents}
-use Rattle.rv_word.specs.Layout.{CODE_START, version_1, UNITS_START, CLOSING}
+use Rattle.rv_word.specs.MemoryMap.{CODE_START, version_1, UNITS_START, CLOSING}
 use Rattle.rv_word.proofs.Cases.{cases_Option, chosen}
 use Rattle.cfi_graph.specs.Graph.{GraphParts}
 use Rattle.cfi_unit.specs.declared.unit.Unit as U

@@ -4,7 +4,7 @@ use Rattle.std.specs.Prelude.{nat_le, ◌==◌, ◌&&◌, not, option_and_then, 
 use Rattle.std.specs.List.{list_any}
 use Rattle.std.proofs.lemmas.Bool.{cases_eq, eqb-true, eq-eqb, and_parts, or_parts}
 use Rattle.rv_word.specs.Image.{Contents}
-use Rattle.rv_word.specs.Layout.{CODE_START, version_1}
+use Rattle.rv_word.specs.MemoryMap.{CODE_START, version_1}
 use Rattle.rv_word.proofs.Cases.{chosen}
 use Rattle.cfi_graph.specs.declared.line.GraphLine.{GraphLine}
 use Rattle.cfi_graph.specs.declared.line.GraphLine.TheVariants.{Class, Site, Edge, Call}

@@ -5,7 +5,7 @@ use Rattle.std.specs.Prelude.{◌==◌, if◌then◌else◌}
 use Rattle.std.specs.List.{AllByRecursion}
 use Rattle.std.proofs.lemmas.Bool.{ne_eqb}
 use Rattle.rv_word.specs.Image.{Contents}
-use Rattle.rv_word.specs.Layout.{DATA_END, SHADOW_START, version_1}
+use Rattle.rv_word.specs.MemoryMap.{DATA_END, SHADOW_START, version_1}
 use Rattle.rv_word.specs.Memory.{Memory, loaded}
 use Rattle.rv_code.specs.Run.{ByteChange, IsDataChange, changed, disturbed}
 use Rattle.rv_code.specs.State.{Hart, Shared, After, start_hart, start_shared, last_exit}

@@ -4,7 +4,7 @@ use Rattle.std.specs.Prelude.{slice_get, nat_le, nat_lt, ◌&&◌, ◌||◌, not
 use Rattle.std.specs.List.{list_any}
 use Rattle.std.proofs.lemmas.Bool.{cases_Bool, cases_lt, cases_eq, le-leb, lt-leb, eqb-true, eq-eqb, ne_eqb, lt-ltb, ltb-true, and_parts, false_from_ne_true}
 use Rattle.std.proofs.lemmas.List.{drop-drop}
-use Rattle.rv_word.specs.Layout.{CODE_START, lies_within, version_1, START, CLOSING, UNITS_START}
+use Rattle.rv_word.specs.MemoryMap.{CODE_START, lies_within, version_1, START, CLOSING, UNITS_START}
 use Rattle.rv_code.specs.Decode.{decoded}
 use Rattle.cfi_graph.specs.declared.line.GraphLine.{GraphLine}
 use Rattle.cfi_graph.specs.declared.line.GraphLine.TheVariants.{Class, Site, Edge, Call}

@@ -2,7 +2,7 @@
 use Rattle.std.proofs.Common.{◌≡◌, ℕ, inl, inr, List, [], ◌∷◌, subst, Option, Some, None}
 use Rattle.std.specs.List.{AllByRecursion}
 use Rattle.rv_word.specs.Image.{Contents}
-use Rattle.rv_word.specs.Layout.{Profile, SHADOW_START, version_1}
+use Rattle.rv_word.specs.MemoryMap.{Profile, SHADOW_START, version_1}
 use Rattle.rv_word.specs.Memory.{loaded}
 use Rattle.rv_word.proofs.Cases.{cases_Option}
 use Rattle.rv_code.specs.Run.{ByteChange, disturbed_step, if_ran}

@@ -1,7 +1,7 @@
 -- The walk of a run along a graph is a list of steps of the graph walk.
 use Rattle.std.proofs.Common.{◌≡◌, ℕ, inl, inr, List, [], ◌∷◌, subst, Option, Some, None}
 use Rattle.rv_word.specs.Image.{Contents}
-use Rattle.rv_word.specs.Layout.{Profile, SHADOW_START, version_1}
+use Rattle.rv_word.specs.MemoryMap.{Profile, SHADOW_START, version_1}
 use Rattle.rv_word.specs.Memory.{loaded}
 use Rattle.rv_word.proofs.Cases.{cases_Option}
 use Rattle.rv_code.specs.Run.{ByteChange, disturbed_step, if_ran}

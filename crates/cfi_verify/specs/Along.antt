@@ -2,7 +2,7 @@
 -- at which something starts: the opening, the closing, a handler or a unit.
 use Rattle.std.specs.Prelude.{◌≡◌, ◌≢◌, ℕ, ◌<◌, ◌⊎◌, List, [], ◌∷◌, length, Option, Some, None}
 use Rattle.std.specs.List.{AllByRecursion}
-use Rattle.rv_word.specs.Layout.{SHADOW_START, Profile, version_1}
+use Rattle.rv_word.specs.MemoryMap.{SHADOW_START, Profile, version_1}
 use Rattle.rv_word.specs.Image.{Contents}
 use Rattle.rv_word.specs.Memory.{Memory, loaded}
 use Rattle.rv_instr.specs.Registers.{Registers, get_reg}

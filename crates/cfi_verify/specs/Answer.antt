@@ -1,5 +1,5 @@
 -- What the answer of the verifier says when it does not accept.
-use Rattle.rv_word.specs.Layout.{Profile}
+use Rattle.rv_word.specs.MemoryMap.{Profile}
 use Rattle.rv_word.specs.Image.{Contents}
 use Rattle.cfi_graph.specs.Graph.{GraphParts}
 use Rattle.cfi_verify.specs.Rules.{IsRejected}

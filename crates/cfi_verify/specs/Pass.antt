@@ -1,6 +1,6 @@
 -- What one pass over a code and a graph finds out.
 use Rattle.std.specs.Prelude.{◌≡◌, ◌≢◌, ℕ, ◌+◌, ◌*◌, ◌<◌, ◌≤◌, ◌==◌, ◌&&◌, nat_lt, Bool, true, false, List, Some, None, option_map, slice_get}
-use Rattle.rv_word.specs.Layout.{CODE_START, UNITS_START}
+use Rattle.rv_word.specs.MemoryMap.{CODE_START, UNITS_START}
 use Rattle.cfi_graph.specs.declared.line.GraphLine.{GraphLine}
 use Rattle.cfi_graph.specs.declared.line.Key.TheVariants.{Address}
 use Rattle.cfi_graph.specs.Graph.{key_below, key_of}

@@ -2,7 +2,7 @@
 -- their lines.
 use Rattle.std.specs.Prelude.{◌≡◌, ℕ, ◌*◌, ◌%◌, ◌≤◌, List, length, Some, is_some}
 use Rattle.rv_word.specs.Image.{Contents}
-use Rattle.rv_word.specs.Layout.{CODE_START, Profile, version_1}
+use Rattle.rv_word.specs.MemoryMap.{CODE_START, Profile, version_1}
 use Rattle.cfi_graph.specs.declared.line.GraphLine.{GraphLine}
 use Rattle.cfi_graph.specs.Graph.{GraphParts, IsGraph}
 use Rattle.cfi_unit.specs.declared.unit.Unit as U

@@ -1,6 +1,6 @@
 -- What a scan has seen, what it leaves, and an accepted pair.
 use Rattle.std.specs.Prelude.{◌≡◌, ℕ, ◌-◌, ◌/◌, ◌==◌, Bool, ◌||◌, ◌&&◌, List, is_some, length}
-use Rattle.rv_word.specs.Layout.{Profile, version_1}
+use Rattle.rv_word.specs.MemoryMap.{Profile, version_1}
 use Rattle.rv_word.specs.Image.{Contents}
 use Rattle.cfi_graph.specs.Graph.{GraphParts, IsGraph}
 use Rattle.cfi_unit.specs.Prologue.{OPENING}

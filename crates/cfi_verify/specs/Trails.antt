@@ -1,7 +1,7 @@
 -- What a run along a graph is, in a second sentence: each begun instruction is a word of what stands
 -- at the newest address of the walk so far, and ends as it may there.
 use Rattle.std.specs.Prelude.{◌≡◌, ℕ, List, [], ◌∷◌, Option, Some, None}
-use Rattle.rv_word.specs.Layout.{Profile}
+use Rattle.rv_word.specs.MemoryMap.{Profile}
 use Rattle.rv_code.specs.Run.{ByteChange, disturbed_step, if_ran}
 use Rattle.rv_code.specs.State.{Hart, Shared}
 use Rattle.rv_code.specs.declared.turn.Turn.{Turn}

@@ -1,6 +1,6 @@
 -- Small pairs with one fault each, which are not safe: so safety is not said of everything.
 use Rattle.std.specs.Prelude.{ℕ, ◌+◌, ◌/◌, ◌%◌, ◌^◌, List, [], ◌∷◌, ◌++◌, map, take, drop}
-use Rattle.rv_word.specs.Layout.{START, UNITS_START}
+use Rattle.rv_word.specs.MemoryMap.{START, UNITS_START}
 use Rattle.rv_word.specs.Image.{Contents}
 use Rattle.rv_code.specs.Encode.{code_of}
 use Rattle.cfi_graph.specs.Graph.{GraphParts}

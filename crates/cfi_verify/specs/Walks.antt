@@ -1,7 +1,7 @@
 -- What a run along a graph is, in one sentence: the addresses of its begun instructions at which
 -- something starts are a list of steps of the graph walk, from the opening with nothing pending.
 use Rattle.std.specs.Prelude.{◌≡◌, ℕ, List, [], ◌∷◌, Option, Some, None}
-use Rattle.rv_word.specs.Layout.{Profile}
+use Rattle.rv_word.specs.MemoryMap.{Profile}
 use Rattle.rv_code.specs.Run.{ByteChange, disturbed_step, if_ran}
 use Rattle.rv_code.specs.State.{Hart, Shared}
 use Rattle.cfi_graph.specs.declared.line.GraphLine.{GraphLine}

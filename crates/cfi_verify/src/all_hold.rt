@@ -1,5 +1,5 @@
 ghost use Rattle.std.specs.Prelude.{◌≡◌, ◌+◌, ◌*◌, ◌<◌, ◌≤◌, ◌^◌, ℕ, IfSome, List, None, Some, false, length, option_map, true};
-ghost use Rattle.rv_word.specs.Layout.{UNITS_START, version_1};
+ghost use Rattle.rv_word.specs.MemoryMap.{UNITS_START, version_1};
 ghost use Rattle.cfi_unit.specs.declared.unit.Unit.TheVariants as V;
 ghost use Rattle.cfi_scan.specs.Entries.{is_quiet};
 ghost use Rattle.cfi_verify.specs.Entries.{Tells, count_of, entry_at, fails_gate_at, gate_at};

@@ -1,5 +1,5 @@
 ghost use Rattle.std.specs.Prelude.{◌≡◌, ◌+◌, ◌-◌, ◌/◌, ◌<◌, ◌≤◌, ◌^◌, ℕ, drop, slice_index, take};
-ghost use Rattle.rv_word.specs.Layout.{CODE_SIZE, CODE_START};
+ghost use Rattle.rv_word.specs.MemoryMap.{CODE_SIZE, CODE_START};
 ghost use Rattle.cfi_unit.specs.Recognise.{recognised};
 ghost use Rattle.cfi_verify.specs.Split.{code_words};
 

@@ -1,5 +1,5 @@
 ghost use Rattle.std.specs.Prelude.{◌≡◌, ◌≢◌, ◌+◌, ◌*◌, ◌^◌, ◌<◌, ◌≤◌, ℕ, List, IfSome, MatchOption};
-ghost use Rattle.rv_word.specs.Layout.{version_1};
+ghost use Rattle.rv_word.specs.MemoryMap.{version_1};
 ghost use Rattle.least.specs.First.{first_below};
 ghost use Rattle.least.specs.Least.{IsLeast};
 ghost use Rattle.cfi_verify.specs.Entries.{Tells, fails_at};

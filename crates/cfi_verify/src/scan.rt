@@ -1,6 +1,6 @@
 ghost use Rattle.std.specs.Prelude.{◌≡◌, ◌≢◌, ◌+◌, ◌/◌, ◌<◌, ◌^◌, ℕ, List, IfErr, IfOk, [], ◌++◌, length};
 ghost use Rattle.rv_word.specs.Image.{Contents};
-ghost use Rattle.rv_word.specs.Layout.{version_1};
+ghost use Rattle.rv_word.specs.MemoryMap.{version_1};
 ghost use Rattle.cfi_scan.specs.Pieces.{HasSeen};
 ghost use Rattle.cfi_verify.specs.Entries.{Tells};
 ghost use Rattle.cfi_verify.specs.Rules.{IsRejected, IsWellFormed};

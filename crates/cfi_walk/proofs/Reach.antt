@@ -3,7 +3,7 @@ use Rattle.std.proofs.Common.{◌≡◌, ℕ, ◌*◌, ◌-◌, ◌/◌, ◌^◌
 use Rattle.std.specs.Prelude.{◌==◌, ◌||◌, true, option_map}
 use Rattle.std.proofs.lemmas.Bool.{eqb-true, or_cases}
 use Rattle.rv_word.specs.Image.{Contents, IsImageSize}
-use Rattle.rv_word.specs.Layout.{CODE_START, version_1}
+use Rattle.rv_word.specs.MemoryMap.{CODE_START, version_1}
 use Rattle.rv_word.proofs.Cases.{cases_Option, chosen}
 use Rattle.cfi_unit.specs.declared.unit.Unit as U
 use Rattle.cfi_unit.specs.declared.place.Place.{Place}

@@ -1,6 +1,6 @@
 -- A step leaves sites pending: what it puts on top lies above the handlers.
 use Rattle.std.proofs.Common.{◌≡◌, ℕ, ◌+◌, ◌<◌, ◌≤◌, inl, inr, List, [], ◌∷◌, sym, subst, arith}
-use Rattle.rv_word.specs.Layout.{CODE_START}
+use Rattle.rv_word.specs.MemoryMap.{CODE_START}
 use Rattle.cfi_graph.specs.declared.line.GraphLine.{GraphLine}
 use Rattle.cfi_unit.specs.declared.unit.Unit as U
 use Rattle.cfi_unit.specs.declared.unit.Unit.TheVariants as V

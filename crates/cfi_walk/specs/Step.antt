@@ -1,6 +1,6 @@
 -- A step of the walk along a graph, from a state to an address and the state there.
 use Rattle.std.specs.Prelude.{◌≡◌, ℕ, List, Some}
-use Rattle.rv_word.specs.Layout.{Profile}
+use Rattle.rv_word.specs.MemoryMap.{Profile}
 use Rattle.cfi_graph.specs.declared.line.GraphLine.{GraphLine}
 use Rattle.cfi_unit.specs.declared.place.Place.{Place}
 use Rattle.cfi_verify.specs.Split.{place_at}

@@ -1,5 +1,5 @@
 ghost use Rattle.std.specs.Prelude.{◌≡◌};
-ghost use Rattle.rv_word.specs.Layout.{version_1};
+ghost use Rattle.rv_word.specs.MemoryMap.{version_1};
 ghost use Rattle.cfi_verify.specs.Split.{code_words};
 ghost use Rattle.cfi_walk.specs.State.{WalkState};
 ghost use Rattle.cfi_walk.specs.Step.{IsStep};

@@ -6,7 +6,7 @@ use Rattle.std.proofs.lemmas.List.{append_assoc, get_or-map, get_or_append_left,
 use Rattle.std.proofs.Math.Seq.{get_or-append_seam}
 use Rattle.elf_bytes.specs.Fields.{string_at, string_of}
 use Rattle.elf_tables.specs.Section.{section_header_at}
-use Rattle.elf_writer.specs.Layout.{up8, laid_out, place_of}
+use Rattle.elf_writer.specs.FileLayout.{up8, laid_out, place_of}
 use Rattle.elf_writer.specs.Names.{ended, is_clean, name_place, string_table}
 use Rattle.elf_writer.specs.Header.{elf_header, header_bytes, header_of, null_heading}
 use Rattle.elf_writer.specs.File.{Entry, all_names, contents, entry, file_of, headers_from, names, strings_entry, table, table_place, with_names}

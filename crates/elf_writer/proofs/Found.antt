@@ -10,7 +10,7 @@ use Rattle.elf_tables.specs.Header.{e_shnum, e_shoff, e_shstrndx}
 use Rattle.elf_tables.specs.Section.{content, is_in_file, section_bytes, section_header, section_header_at, section_name, section_names}
 use Rattle.elf_tables.specs.Kept.{is_allocated, is_kept, is_kept_by}
 use Rattle.elf_writer.specs.declared.heading.Heading.{Heading}
-use Rattle.elf_writer.specs.Layout.{place_of}
+use Rattle.elf_writer.specs.FileLayout.{place_of}
 use Rattle.elf_writer.specs.Names.{ended, is_clean, name_place, string_table}
 use Rattle.elf_writer.specs.Header.{header_of, null_heading}
 use Rattle.elf_writer.specs.File.{Entry, all_names, contents, file_of, names, table_place, with_names}

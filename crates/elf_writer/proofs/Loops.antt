@@ -4,7 +4,7 @@ use Rattle.std.specs.List.{flat_map}
 use Rattle.std.proofs.lemmas.List.{append_assoc, append-nil, drop_all, drop_at, get_or-map, length-map, length-replicate}
 use Rattle.std.proofs.lemmas.List.Concat.{flat_map-append}
 use Rattle.elf_writer.specs.declared.parts.Symbol.{Symbol}
-use Rattle.elf_writer.specs.Layout.{up8, laid_out, place_of, padded}
+use Rattle.elf_writer.specs.FileLayout.{up8, laid_out, place_of, padded}
 use Rattle.elf_writer.specs.Names.{ended, string_table}
 use Rattle.elf_writer.specs.Header.{elf_header, header_bytes}
 use Rattle.elf_writer.specs.File.{Entry, names, contents, headers_from, table, table_place, file_of, all_names, strings_entry, with_names}

@@ -3,7 +3,7 @@ use Rattle.std.proofs.Common.{◌≡◌, ℕ, negsuc, List, [], ◌∷◌, true,
 use Rattle.std.specs.List.{flat_map}
 use lib.Count.{ones}
 use Rattle.byteorder.specs.Endian.{little_bytes}
-use Rattle.elf_writer.specs.Layout.{laid_out, place_of, up8}
+use Rattle.elf_writer.specs.FileLayout.{laid_out, place_of, up8}
 use Rattle.elf_writer.specs.Names.{is_clean, name_place, string_table}
 use Rattle.elf_writer.specs.Header.{elf_header, elf_numbers, section_numbers}
 use Rattle.elf_writer.specs.File.{file_of, headers_from, table}

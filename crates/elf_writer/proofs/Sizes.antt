@@ -4,7 +4,7 @@ use Rattle.std.specs.List.{flat_map, sum_by}
 use Rattle.std.proofs.lemmas.List.{length-replicate}
 use Rattle.std.proofs.lemmas.List.Sums.{sum_by-append, sum_by-cons}
 use Rattle.std.proofs.lemmas.List.Concat.{flat_map-append}
-use Rattle.elf_writer.specs.Layout.{laid_out, up8}
+use Rattle.elf_writer.specs.FileLayout.{laid_out, up8}
 use Rattle.elf_writer.specs.Names.{ended, string_table}
 use Rattle.elf_writer.specs.Header.{elf_header, header_bytes, null_heading}
 use Rattle.elf_writer.specs.File.{Entry, all_names, contents, file_of, headers_from, names, strings_entry, table, table_place, with_names}

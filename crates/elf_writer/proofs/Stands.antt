@@ -5,7 +5,7 @@ use Rattle.std.proofs.lemmas.List.{append_assoc, append-nil, take_at, drop_at, l
 use Rattle.byteorder.specs.Endian.{little_number, little_bytes}
 use Rattle.byteorder.specs.Numbers.{little_number-reads_back}
 use Rattle.elf_bytes.specs.Fields.{number_at}
-use Rattle.elf_writer.specs.Layout.{up8, laid_out, place_of}
+use Rattle.elf_writer.specs.FileLayout.{up8, laid_out, place_of}
 use Rattle.elf_writer.specs.Names.{ended, name_place}
 
 pub record StandsAt (file : List ℕ) (at : ℕ) (part : List ℕ) : Type 0 where

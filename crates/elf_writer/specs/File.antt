@@ -1,7 +1,7 @@
 -- An object file of sections: the ELF header, the contents, and the section headers (System V gABI, "Object Files").
 use Rattle.std.specs.Prelude.{ℕ, ◌+◌, List, [], ◌∷◌, ◌++◌, length, map, codes}
 use Rattle.elf_writer.specs.declared.heading.Heading.{Heading}
-use Rattle.elf_writer.specs.Layout.{up8, laid_out, place_of}
+use Rattle.elf_writer.specs.FileLayout.{up8, laid_out, place_of}
 use Rattle.elf_writer.specs.Names.{string_table}
 use Rattle.elf_writer.specs.Header.{elf_header, header_bytes, names_heading, null_heading}
 

@@ -1,5 +1,5 @@
 pub mod Numbers
-pub mod Layout
+pub mod FileLayout
 pub mod Names
 pub mod Header
 pub mod File

@@ -1,7 +1,7 @@
 -- A file that is being written, section by section.
 use Rattle.std.specs.Prelude.{ℕ, List, [], ◌∷◌, ◌++◌, length, drop, replicate, codes}
 use Rattle.elf_writer.specs.declared.writer.Writer.{Writer}
-use Rattle.elf_writer.specs.Layout.{up8, padded}
+use Rattle.elf_writer.specs.FileLayout.{up8, padded}
 use Rattle.elf_writer.specs.Names.{ended}
 use Rattle.elf_writer.specs.Header.{elf_header, header_bytes, null_heading}
 use Rattle.elf_writer.specs.File.{Entry, strings_entry}

@@ -1,7 +1,7 @@
 ghost use Rattle.std.specs.Prelude.{◌≡◌, ◌<◌, ◌^◌, ◌++◌, IfOk, OnOk, length, drop};
 ghost use Rattle.elf_writer.specs.Header.{header_bytes, null_heading};
 ghost use Rattle.elf_writer.specs.File.{entry};
-ghost use Rattle.elf_writer.specs.Layout.{padded, up8};
+ghost use Rattle.elf_writer.specs.FileLayout.{padded, up8};
 ghost use Rattle.elf_writer.specs.Writing.{added, begun, finished, own_names, room, view_of};
 
 use crate::heading::{Heading, elf_numbers, names_heading, null_heading, section_numbers};

@@ -1,6 +1,6 @@
 //! How a run of a source machine ends, as text: the calls it made, its end or the reason against its next step, and its steps.
 ghost use Rattle.std.specs.Prelude.{◌≡◌, ◌+◌, ◌≤◌, true, is_some, IfSome};
-ghost use Rattle.rv_word.specs.Layout.{DATA_END, DATA_START};
+ghost use Rattle.rv_word.specs.MemoryMap.{DATA_END, DATA_START};
 ghost use Rattle.obj_program.specs.DataAtMap.{init_size};
 ghost use Rattle.cfi_flow.specs.Policy.{instruction_at};
 ghost use Rattle.src_machine.specs.ProgramAt.{EndsLast};

@@ -1,7 +1,7 @@
 use crate::item_rows;
 use crate::object::object;
 use elf_object::Object;
-use obj_input::{Block, Definition, Func, Input, Name, Names, Section, Sort, Use};
+use obj_input::{Block, Definition, Func, Input, Name, Names, Section, Sort, Relocation};
 use obj_items::{input_of, items};
 use sample_programs::{is_told_as, rows};
 use std::alloc::Global;
@@ -90,7 +90,7 @@ static FUNC: Func = Func {
 };
 
 /// The relocation of its code.
-static MARK: Use = Use {
+static MARK: Relocation = Relocation {
     offset: 4,
     number: 51,
     addend: -2,

@@ -4,15 +4,15 @@ use Rattle.std.specs.List.{All, filter_map, flat_map}
 use Rattle.std.proofs.lemmas.Bool.{cases_eq}
 use Rattle.std.proofs.lemmas.List.{get_or-map, length-map}
 use Rattle.std.proofs.lemmas.List.Elements.{All-cons, All-filter, All-get_or, All-head, All-nil, All-tail}
-use Rattle.rv_word.specs.Layout.{DATA_START}
+use Rattle.rv_word.specs.MemoryMap.{DATA_START}
 use Rattle.least.specs.Nearest.{nearest}
 use Rattle.least.proofs.Firsts.{none_first}
-use Rattle.obj_input.specs.declared.parts.Use.{Use}
+use Rattle.obj_input.specs.declared.parts.Relocation.{Relocation}
 use Rattle.obj_input.specs.declared.reloc_kind.RelocKind.{RelocKind}
 use Rattle.obj_input.specs.declared.reloc_kind.RelocKind.TheVariants.{High, RelativeHigh, RelativeLowI, RelativeLowS}
 use Rattle.obj_input.specs.Kinds.{kind_of}
-use Rattle.obj_input.specs.Use.{is_busy}
-use Rattle.obj_input.specs.Input.{InputParts, SectionParts, busy_at, is_code, is_code_sort, section_count, section_of}
+use Rattle.obj_input.specs.Relocation.{is_acting}
+use Rattle.obj_input.specs.Input.{InputParts, SectionParts, acting_at, is_code, is_code_sort, section_count, section_of}
 use Rattle.obj_rules.specs.Fault.{fault_of}
 use Rattle.obj_program.specs.declared.item.DataReloc.{DataReloc}
 use Rattle.obj_program.specs.declared.item.Item.{Item}
@@ -52,33 +52,33 @@ module _ {fs : List Function} {input : InputParts} (g : IsGenerated fs input) wh
     text_reaches : All UseReaches (section_of input 1).uses
     text_reaches = rw (ap (λ (s : SectionParts). s.uses) g.text) (uses_reach fs small)
 
-    high_settled : (u : Use) → Reaches High u.definition u.addend → IsSettled (put.High (use_value input places u))
+    high_settled : (u : Relocation) → Reaches High u.definition u.addend → IsSettled (put.High (use_value input places u))
     high_settled u (definition, a, addend, below) =
         let no = ap is_code_sort (table_sort g) in
         let value : value_of input places u.definition u.addend ≡ Number (pos (DATA_START + 0 + a)) =
         rw (definition, addend, no, table_address g) refl in
         (DATA_START + 0 + a, value, omega arith)
 
-    kind_settled : (u : Use) (kind : RelocKind) → Reaches kind u.definition u.addend → IsSettled (patch_by input places u kind)
+    kind_settled : (u : Relocation) (kind : RelocKind) → Reaches kind u.definition u.addend → IsSettled (patch_by input places u kind)
     kind_settled u High there = high_settled u there
     kind_settled u RelativeHigh there = absurd there
     kind_settled u RelativeLowI there = absurd there
     kind_settled u RelativeLowS there = absurd there
     kind_settled u other there = tt
 
-    first_settled : (us : List Use) → All UseReaches us → IsSettled (patch_from input places us)
+    first_settled : (us : List Relocation) → All UseReaches us → IsSettled (patch_from input places us)
     first_settled [] all = tt
     first_settled (u ∷ us) all = kind_settled u (kind_of u.number) (All-head UseReaches u us all)
 
-    text_settled : (at : ℕ) → IsSettled (patch_from input places (busy_at (section_of input 1) at))
-    unfolding busy_at
+    text_settled : (at : ℕ) → IsSettled (patch_from input places (acting_at (section_of input 1) at))
+    unfolding acting_at
     text_settled at =
-        first_settled _ (All-filter (λ (u : Use). u.offset == at && is_busy u) UseReaches (section_of input 1).uses text_reaches)
+        first_settled _ (All-filter (λ (u : Relocation). u.offset == at && is_acting u) UseReaches (section_of input 1).uses text_reaches)
 
     code_settled : (k at : ℕ) → is_code (section_of input k) ≡ true
-        → IsSettled (patch_from input places (busy_at (section_of input k) at))
+        → IsSettled (patch_from input places (acting_at (section_of input k) at))
     code_settled k at code = elim (cases_eq k 1) [
-      | inl one ↦ subst (λ n. IsSettled (patch_from input places (busy_at (section_of input n) at))) (sym one) (text_settled at)
+      | inl one ↦ subst (λ n. IsSettled (patch_from input places (acting_at (section_of input n) at))) (sym one) (text_settled at)
       | inr other ↦ let no = no_code g k other in absurd (cc)
     ]
 

@@ -8,7 +8,7 @@ use Rattle.rv_instr.specs.declared.instr.Instr.{Instr}
 use Rattle.rv_instr.specs.declared.instr.Instr.TheVariants.{Jalr}
 use Rattle.least.specs.Nearest.{joined}
 use Rattle.obj_input.specs.declared.item_kind.ItemKind.{ItemKind}
-use Rattle.obj_input.specs.Input.{InputParts, Named, SectionParts, busy_at, is_code, section_count, section_of}
+use Rattle.obj_input.specs.Input.{InputParts, Named, SectionParts, acting_at, is_code, section_count, section_of}
 use Rattle.obj_input.specs.Code.{instr, is_pair, word_count}
 use Rattle.obj_input.specs.Names.{find_spot}
 use Rattle.obj_rules.specs.Kind.{kind_at, pair_kind, word_kind}
@@ -58,7 +58,7 @@ single_going plain None kind e = absurd (cc)
 kind_going : (s : SectionParts) (i : ℕ) (kind : ItemKind) → kind_at s i ≡ Some kind → is_end kind ≡ false
 kind_going s i kind e = elim (cases_Bool (is_pair s i)) [
   | inl pair ↦ pair_going (instr s (i + 1)) kind (sym (pair_kind_is s i pair) ∙ e)
-  | inr single ↦ single_going (length (busy_at s (4 * i)) == 0) (instr s i) kind (sym (single_kind_is s i single) ∙ e)
+  | inr single ↦ single_going (length (acting_at s (4 * i)) == 0) (instr s i) kind (sym (single_kind_is s i single) ∙ e)
 ]
 
 start_going : (s : SectionParts) (k i : ℕ) → is_end (start_at s k i).kind ≡ false

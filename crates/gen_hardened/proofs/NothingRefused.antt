@@ -1,6 +1,6 @@
 -- A generated object without a fault, whose code has room, is refused for want of memory alone.
 use Rattle.std.proofs.Common.{◌≡◌, ℕ, ◌≤◌, Some, None, List, codes, refl, sym, ap, subst, ◌∙◌, arith}
-use Rattle.rv_word.specs.Layout.{CODE_SIZE}
+use Rattle.rv_word.specs.MemoryMap.{CODE_SIZE}
 use Rattle.elf_writer.specs.Object.{object_bytes}
 use Rattle.elf_writer.specs.Holds.{Holds}
 use Rattle.obj_input.specs.Input.{InputParts}

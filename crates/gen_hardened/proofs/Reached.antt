@@ -7,7 +7,7 @@ use Rattle.std.proofs.lemmas.List.Elements.{All-append, All-cons, All-nil}
 use Rattle.std.proofs.lemmas.List.Folds.{list_all-append}
 use Rattle.obj_input.specs.declared.parts.Definition.{Definition}
 use Rattle.obj_input.specs.declared.parts.Definition.TheVariants.{Within}
-use Rattle.obj_input.specs.declared.parts.Use.{Use}
+use Rattle.obj_input.specs.declared.parts.Relocation.{Relocation}
 use Rattle.obj_input.specs.declared.reloc_kind.RelocKind.{RelocKind}
 use Rattle.obj_input.specs.declared.reloc_kind.RelocKind.TheVariants.{High, RelativeHigh, RelativeLowI, RelativeLowS}
 use Rattle.obj_input.specs.Kinds.{kind_of}
@@ -83,7 +83,7 @@ Reaches RelativeLowI definition addend = ⊥
 Reaches RelativeLowS definition addend = ⊥
 Reaches other definition addend = Unit {0}
 
-abbrev pub UseReaches : Use → Type 0
+abbrev pub UseReaches : Relocation → Type 0
 UseReaches u = Reaches (kind_of u.number) u.definition u.addend
 
 module _ (fs : List Function) where

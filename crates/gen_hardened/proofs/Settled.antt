@@ -5,7 +5,7 @@ use Rattle.std.proofs.lemmas.Bool.{and_right}
 use Rattle.rv_word.proofs.Cases.{cases_Option}
 use Rattle.rv_instr.specs.declared.instr.Instr.{Instr}
 use Rattle.rv_code.specs.Decode.{decoded}
-use Rattle.rv_reloc.specs.Word.{reaches}
+use Rattle.rv_reloc.specs.Word.{is_high_in_range}
 use Rattle.obj_program.specs.declared.item.Item.{Item}
 use Rattle.obj_program.specs.declared.item.Patch.{Patch}
 use Rattle.obj_program.specs.declared.item.Patch.TheVariants as put
@@ -15,7 +15,7 @@ use Rattle.obj_program.specs.Program.{Program, is_end}
 use Rattle.obj_program.specs.Sound.{is_read}
 
 -- LUI reaches a number that is some less than 2 GiB
-number_reached : (n : ℕ) → n + 0x800 < 2 ^ 31 → reaches (pos n) ≡ true
+number_reached : (n : ℕ) → n + 0x800 < 2 ^ 31 → is_high_in_range (pos n) ≡ true
 number_reached n below = let less = lt-ltb (n + 0x800) (2 ^ 31) below in rw less refl
 
 -- a high part is that of such a number, and none is of a distance

@@ -4,71 +4,71 @@ use Rattle.std.proofs.lemmas.Bool.{cases_Bool}
 use Rattle.std.proofs.lemmas.List.{map-append}
 use Rattle.std.proofs.lemmas.List.Elements.{filter-append, filter_map-append}
 use Rattle.elf_tables.specs.declared.entry.Reloc.{Reloc}
-use Rattle.obj_input.specs.declared.parts.Use.{Use}
+use Rattle.obj_input.specs.declared.parts.Relocation.{Relocation}
 use Rattle.obj_input.specs.declared.parts.Definition.{Definition}
 use Rattle.obj_input.specs.Kinds.{is_idle, kind_of}
-use Rattle.obj_input.specs.Input.{busy_among}
+use Rattle.obj_input.specs.Input.{acting_among}
 use Rattle.cfi_gen.specs.declared.mark.Mark.{Mark}
 use Rattle.cfi_gen.specs.Lines.{Line, mark_at, relocs_from}
 use Rattle.gen_program.proofs.Encoded.{line}
 
 -- a relocation with what its symbol stands for
-abbrev pub use_by : (ℕ → Definition) → Reloc → Use
+abbrev pub use_by : (ℕ → Definition) → Reloc → Relocation
 use_by definition r = record { offset = r.offset; number = r.kind; addend = r.addend; definition = definition r.symbol }
 
-abbrev pub uses_by : (ℕ → Definition) → ℕ → List Mark → List Use
+abbrev pub uses_by : (ℕ → Definition) → ℕ → List Mark → List Relocation
 uses_by definition at marks = map (use_by definition) (map (mark_at at) marks)
 
 -- the marks that do something
-abbrev pub is_busy_mark : Mark → Bool
-is_busy_mark m = not (is_idle (kind_of m.kind))
+abbrev pub is_acting_mark : Mark → Bool
+is_acting_mark m = not (is_idle (kind_of m.kind))
 
-abbrev pub busy_marks : List Mark → List Mark
-busy_marks marks = filter is_busy_mark marks
+abbrev pub acting_marks : List Mark → List Mark
+acting_marks marks = filter is_acting_mark marks
 
 module _ (definition : ℕ → Definition) where
-  none_elsewhere : (at place : ℕ) (marks : List Mark) → at ≢ place → busy_among (uses_by definition at marks) place ≡ []
+  none_elsewhere : (at place : ℕ) (marks : List Mark) → at ≢ place → acting_among (uses_by definition at marks) place ≡ []
   none_elsewhere at place [] other = refl
   none_elsewhere at place (m ∷ marks) other = rw (ne_eqb at place other) (none_elsewhere at place marks other)
 
-  busy_here : (at : ℕ) (marks : List Mark) → busy_among (uses_by definition at marks) at ≡ uses_by definition at (busy_marks marks)
-  busy_here at [] = refl
-  busy_here at (m ∷ marks) = elim (cases_Bool (is_busy_mark m)) [
-    | inl busy ↦ rw (eq-eqb at at refl, busy, busy_here at marks) refl
-    | inr idle ↦ rw (eq-eqb at at refl, idle) (busy_here at marks)
+  acting_here : (at : ℕ) (marks : List Mark) → acting_among (uses_by definition at marks) at ≡ uses_by definition at (acting_marks marks)
+  acting_here at [] = refl
+  acting_here at (m ∷ marks) = elim (cases_Bool (is_acting_mark m)) [
+    | inl acting ↦ rw (eq-eqb at at refl, acting, acting_here at marks) refl
+    | inr idle ↦ rw (eq-eqb at at refl, idle) (acting_here at marks)
   ]
 
-  in_two : (at place : ℕ) (l : Line) (ls : List Line) → busy_among (map (use_by definition) (relocs_from at (l ∷ ls))) place
-      ≡ busy_among (uses_by definition at l.marks) place ++ busy_among (map (use_by definition) (relocs_from (at + 4) ls)) place
+  in_two : (at place : ℕ) (l : Line) (ls : List Line) → acting_among (map (use_by definition) (relocs_from at (l ∷ ls))) place
+      ≡ acting_among (uses_by definition at l.marks) place ++ acting_among (map (use_by definition) (relocs_from (at + 4) ls)) place
   unfolding relocs_from
   in_two at place l ls =
-      ap (λ us. busy_among us place) (map-append (use_by definition) (map (mark_at at) l.marks) (relocs_from (at + 4) ls))
+      ap (λ us. acting_among us place) (map-append (use_by definition) (map (mark_at at) l.marks) (relocs_from (at + 4) ls))
       ∙ filter-append _ (uses_by definition at l.marks) (map (use_by definition) (relocs_from (at + 4) ls))
 
-  none_before : (at place : ℕ) (ls : List Line) → place < at → busy_among (map (use_by definition) (relocs_from at ls)) place ≡ []
+  none_before : (at place : ℕ) (ls : List Line) → place < at → acting_among (map (use_by definition) (relocs_from at ls)) place ≡ []
   unfolding relocs_from
   none_before at place [] before = refl
   none_before at place (l ∷ ls) before =
       in_two at place l ls ∙ rw (none_elsewhere at place l.marks (omega arith), none_before (at + 4) place ls (omega arith)) refl
 
-  pub busy_there : (at place k : ℕ) (ls : List Line) → k < length ls → place ≡ at + 4 * k
-      → busy_among (map (use_by definition) (relocs_from at ls)) place ≡ uses_by definition place (busy_marks (line ls k).marks)
-  busy_there at place k [] below is = absurd (omega arith)
-  busy_there at place zero (l ∷ ls) below is =
+  pub acting_there : (at place k : ℕ) (ls : List Line) → k < length ls → place ≡ at + 4 * k
+      → acting_among (map (use_by definition) (relocs_from at ls)) place ≡ uses_by definition place (acting_marks (line ls k).marks)
+  acting_there at place k [] below is = absurd (omega arith)
+  acting_there at place zero (l ∷ ls) below is =
       let same : at ≡ place = omega arith in
       let first = uses_by definition at l.marks in
       let rest = map (use_by definition) (relocs_from (at + 4) ls) in
-      let P : ℕ → Type 0 = λ p. busy_among first p ++ busy_among rest p
-      ≡ uses_by definition p (busy_marks l.marks) in
+      let P : ℕ → Type 0 = λ p. acting_among first p ++ acting_among rest p
+      ≡ uses_by definition p (acting_marks l.marks) in
       in_two at place l ls
       ∙ subst P same
-      (rw (busy_here at l.marks, none_before (at + 4) at ls (omega arith)) (append-nil (uses_by definition at (busy_marks l.marks))))
-  busy_there at place (suc k) (l ∷ ls) below is =
+      (rw (acting_here at l.marks, none_before (at + 4) at ls (omega arith)) (append-nil (uses_by definition at (acting_marks l.marks))))
+  acting_there at place (suc k) (l ∷ ls) below is =
       in_two at place l ls
-      ∙ rw (none_elsewhere at place l.marks (omega arith)) (busy_there (at + 4) place k ls (omega arith) (omega arith))
+      ∙ rw (none_elsewhere at place l.marks (omega arith)) (acting_there (at + 4) place k ls (omega arith) (omega arith))
 
   -- where a search finds nothing at any line, it finds nothing
-  pub none_found : {Y : Type 0} (f : Use → Option Y) (at : ℕ) (ls : List Line)
+  pub none_found : {Y : Type 0} (f : Relocation → Option Y) (at : ℕ) (ls : List Line)
       → ((k place : ℕ) → k < length ls → place ≡ at + 4 * k → filter_map f (uses_by definition place (line ls k).marks) ≡ [])
       → filter_map f (map (use_by definition) (relocs_from at ls)) ≡ []
   unfolding relocs_from

@@ -53,8 +53,8 @@ module _ {definition : ℕ → Definition} {n : ℕ} {ls : List Line} {s : Secti
   paired_right k below (high_there rd offset is good written) = rw (instr_is code k _ below is) refl
   paired_right k below (low_there i offset is good form) = rw (instr_is code k _ below is, (plain_parts i good).no_auipc) refl
   paired_right k below (first_there j near is inside next) =
-      let busy = uses_are code k _ below is in
-      rw (instr_is code k _ below is, busy, pair code k j inside is next) refl
+      let acting = uses_are code k _ below is in
+      rw (instr_is code k _ below is, acting, pair code k j inside is next) refl
   paired_right k below (second_there p j place first is) = rw (instr_is code k _ below is) refl
 
   pub all_paired : wrong_auipc s ≡ None

@@ -3,7 +3,7 @@ use Rattle.std.proofs.Common.{◌≡◌, ◌≢◌, ℕ, zero, suc, ◌<◌, fal
 use Rattle.std.proofs.lemmas.Bool.{cases_eq}
 use Rattle.least.specs.declared.place.Found.{Found}
 use Rattle.least.specs.Nearest.{nearest}
-use Rattle.obj_input.specs.declared.parts.Use.{Use}
+use Rattle.obj_input.specs.declared.parts.Relocation.{Relocation}
 use Rattle.obj_input.specs.declared.parts.Sort.TheVariants.{Data}
 use Rattle.obj_input.specs.Input.{InputParts, SectionParts, is_code, is_code_sort, section_count, section_of}
 use Rattle.obj_rules.specs.declared.fault.ItemFault.{ItemFault}
@@ -91,7 +91,7 @@ module _ (fs : List Function) (input : InputParts) (long : length fs ≡ 2000) (
   auipc_none = by_code (λ k. auipc_in input k ≡ None) (rw (all_paired code) refl) (λ k no. rw no refl)
 
   -- a search in the relocations of each section
-  none_used : (f : ℕ → Use → Option (Found ItemFault)) → FindsNone (symbol_definition fs) (program_lines fs) (f 1)
+  none_used : (f : ℕ → Relocation → Option (Found ItemFault)) → FindsNone (symbol_definition fs) (program_lines fs) (f 1)
       → ((j : ℕ) → j < 2000 → f 2 (pointer (symbol_definition fs) j) ≡ None)
       → (k : ℕ) → nearest place_of (filter_map (f k) (section_of input k).uses) ≡ None
   none_used f first second k = nearest_none (filter_map (f k) (section_of input k).uses) (elim (cases_eq k 1) [

@@ -1,6 +1,6 @@
 -- No fault of relocations stands of the table, whose relocations name the functions.
 use Rattle.std.proofs.Common.{◌≡◌, ℕ, pos, zero, suc, ◌+◌, ◌*◌, ◌<◌, ◌≤◌, true, List, [], map, filter_map, Option, None, refl, ap, ◌∙◌, arith, le-ltb}
-use Rattle.obj_input.specs.declared.parts.Use.{Use}
+use Rattle.obj_input.specs.declared.parts.Relocation.{Relocation}
 use Rattle.obj_input.specs.declared.parts.Definition.{Definition}
 use Rattle.obj_input.specs.declared.parts.Sort.TheVariants.{Data}
 use Rattle.obj_input.specs.Kinds.{kind_of}
@@ -18,10 +18,10 @@ use Rattle.gen_program.proofs.Standing.{IsCode, starts}
 use Rattle.gen_program.proofs.Transfers.{AreStarts}
 
 -- the address of a function
-abbrev pub pointer : (ℕ → Definition) → ℕ → Use
+abbrev pub pointer : (ℕ → Definition) → ℕ → Relocation
 pointer definition j = record { offset = 8 * j; number = 2; addend = pos 0; definition = definition (function_symbol j) }
 
-pub none_pointed : {Y : Type 0} (definition : ℕ → Definition) (f : Use → Option Y) (count i : ℕ)
+pub none_pointed : {Y : Type 0} (definition : ℕ → Definition) (f : Relocation → Option Y) (count i : ℕ)
     → ((j : ℕ) → i ≤ j → j < i + count → f (pointer definition j) ≡ None)
     → filter_map f (map (use_by definition) (table_relocs count i)) ≡ []
 unfolding table_relocs

@@ -2,7 +2,7 @@
 use Rattle.std.proofs.Common.{◌≡◌, ℕ, ◌+◌, ◌*◌, ◌/◌, ◌<◌, true, false, not, ◌==◌, List, [], length, filter_map, Option, None, is_some, refl, sym, ap, subst, ◌∙◌, arith}
 use Rattle.std.proofs.lemmas.Bool.{and_parts}
 use Rattle.rv_instr.specs.declared.instr.Instr.{Instr}
-use Rattle.obj_input.specs.declared.parts.Use.{Use}
+use Rattle.obj_input.specs.declared.parts.Relocation.{Relocation}
 use Rattle.obj_input.specs.declared.parts.Definition.{Definition}
 use Rattle.obj_input.specs.declared.parts.Definition.TheVariants.{Within}
 use Rattle.obj_input.specs.Kinds.{kind_of}
@@ -21,11 +21,11 @@ use Rattle.gen_program.proofs.Bridge.{none_found, use_by, uses_by}
 use Rattle.gen_program.proofs.Spots.{IsPlain, Spot, first_there, high_there, is_low, is_tail, low_there, plain_there, second_there}
 use Rattle.gen_program.proofs.Standing.{IsCode, instr_is, no_pair, pair, plain_parts, starts, uses_are}
 
-abbrev pub use_at : (ℕ → Definition) → ℕ → Mark → Use
+abbrev pub use_at : (ℕ → Definition) → ℕ → Mark → Relocation
 use_at definition k m = use_by definition (mark_at (4 * k) m)
 
 -- a search finds nothing at a relocation of any line
-pub record FindsNone {Y : Type 0} (definition : ℕ → Definition) (ls : List Line) (f : Use → Option Y) : Type 0 where
+pub record FindsNone {Y : Type 0} (definition : ℕ → Definition) (ls : List Line) (f : Relocation → Option Y) : Type 0 where
   pub highs : (k rd offset : ℕ) → k < length ls → line ls k ≡ marked (lui rd) (high offset) → not (rd == 0) ≡ true
       → f (use_at definition k (mark 26 table_symbol offset)) ≡ None
   pub lows : (k : ℕ) (i : Instr) (offset : ℕ) → k < length ls → line ls k ≡ marked i (low offset) → IsPlain i → is_low i ≡ true
@@ -34,7 +34,7 @@ pub record FindsNone {Y : Type 0} (definition : ℕ → Definition) (ls : List L
       → f (use_at definition k (mark 19 (function_symbol j) 0)) ≡ None
   pub relaxed : (k : ℕ) → f (use_at definition k (mark 51 0 0)) ≡ None
 
-none_here : {Y : Type 0} (definition : ℕ → Definition) (n : ℕ) (ls : List Line) (f : Use → Option Y) → FindsNone definition ls f
+none_here : {Y : Type 0} (definition : ℕ → Definition) (n : ℕ) (ls : List Line) (f : Relocation → Option Y) → FindsNone definition ls f
     → (k : ℕ) → k < length ls → Spot n ls k → filter_map f (uses_by definition (4 * k) (line ls k).marks) ≡ []
 none_here definition n ls f none k below (plain_there i is good goes) = rw is refl
 none_here definition n ls f none k below (high_there rd offset is good written) =
@@ -45,7 +45,7 @@ none_here definition n ls f none k below (first_there j near is inside next) =
 none_here definition n ls f none k below (second_there p j place first is) = rw is refl
 
 module _ {definition : ℕ → Definition} {n : ℕ} {ls : List Line} {s : SectionParts} (code : IsCode definition n ls s) where
-  pub none_among : {Y : Type 0} (f : Use → Option Y) → FindsNone definition ls f → filter_map f s.uses ≡ []
+  pub none_among : {Y : Type 0} (f : Relocation → Option Y) → FindsNone definition ls f → filter_map f s.uses ≡ []
   none_among {Y} f none =
       ap (filter_map f) code.uses
       ∙ none_found definition f 0 ls (λ k place below is.
@@ -78,12 +78,12 @@ module _ {definition : ℕ → Definition} {n : ℕ} {ls : List Line} {s : Secti
       → place_found s index (use_at definition k (mark 26 table_symbol offset)) ≡ None
   unfolding kind_of
   high_fits index k rd offset below is written =
-      let busy = uses_are code k (marked (lui rd) (high offset)) below is in
+      let acting = uses_are code k (marked (lui rd) (high offset)) below is in
       let there = instr_is code k (marked (lui rd) (high offset)) below is in
       let alone = no_pair code k (marked (lui rd) (high offset)) below is refl in
       let start = starts code k (record { below = below; whole = ap (λ (l : Line). is_tail l.instr) is }) in
       let place : 4 * k / 4 ≡ k = omega arith in
-      rw (busy, start, place, alone, there, written, code.sort) refl
+      rw (acting, start, place, alone, there, written, code.sort) refl
 
   low_fits : (index k : ℕ) (i : Instr) (offset : ℕ) → k < length ls → line ls k ≡ marked i (low offset) → IsPlain i
       → is_low i ≡ true → place_found s index (use_at definition k (mark 27 table_symbol offset)) ≡ None
@@ -91,23 +91,23 @@ module _ {definition : ℕ → Definition} {n : ℕ} {ls : List Line} {s : Secti
   low_fits index k i offset below is good form =
       let parts = plain_parts i good in
       let forms = and_parts (is_i_form i) (is_some (single_kind false i)) form in
-      let busy = uses_are code k (marked i (low offset)) below is in
+      let acting = uses_are code k (marked i (low offset)) below is in
       let there = instr_is code k (marked i (low offset)) below is in
       let alone = no_pair code k (marked i (low offset)) below is parts.no_auipc in
       let start = starts code k (record { below = below; whole = ap (λ (l : Line). is_tail l.instr) is ∙ parts.no_tail }) in
       let place : 4 * k / 4 ≡ k = omega arith in
-      rw (busy, start, place, alone, there, forms.0, code.sort) refl
+      rw (acting, start, place, alone, there, forms.0, code.sort) refl
 
   call_fits : (index k j : ℕ) → k + 1 < length ls → line ls k ≡ marked (auipc 1) (called j) → line ls (k + 1) ≡ plain (jalr 1 0 1)
       → place_found s index (use_at definition k (mark 19 (function_symbol j) 0)) ≡ None
   unfolding kind_of
   call_fits index k j inside is next =
       let below : k < length ls = omega arith in
-      let busy = uses_are code k (marked (auipc 1) (called j)) below is in
+      let acting = uses_are code k (marked (auipc 1) (called j)) below is in
       let two = pair code k j inside is next in
       let start = starts code k (record { below = below; whole = ap (λ (l : Line). is_tail l.instr) is }) in
       let place : 4 * k / 4 ≡ k = omega arith in
-      rw (busy, start, place, two, code.sort) refl
+      rw (acting, start, place, two, code.sort) refl
 
   pub all_fit : (index : ℕ) → FindsNone definition ls (place_found s index)
   unfolding kind_of

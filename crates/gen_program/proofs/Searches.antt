@@ -6,7 +6,7 @@ use Rattle.least.specs.declared.place.Found.{Found}
 use Rattle.least.specs.Least.{least_below}
 use Rattle.least.specs.Nearest.{nearest, nearest_below}
 use Rattle.obj_input.specs.declared.parts.Definition.{Definition}
-use Rattle.obj_input.specs.Use.{is_busy}
+use Rattle.obj_input.specs.Relocation.{is_acting}
 use Rattle.obj_input.specs.Input.{InputParts, section_count}
 use Rattle.obj_rules.specs.declared.fault.ItemFault.{ItemFault}
 use Rattle.obj_rules.specs.Finding.{nearest_in, place_of}
@@ -40,7 +40,7 @@ same_both false x = refl
 missing_nowhere : (definition : ℕ → Definition) → ((m : ℕ) → missing_symbol (definition m) ≡ None) → (rs : List Reloc) (j : ℕ)
     → missing_at (map (use_by definition) rs) j ≡ None
 missing_nowhere definition defined [] j = refl
-missing_nowhere definition defined (r ∷ rs) zero = rw (defined r.symbol) (same_both (is_busy (use_by definition r)) None)
+missing_nowhere definition defined (r ∷ rs) zero = rw (defined r.symbol) (same_both (is_acting (use_by definition r)) None)
 missing_nowhere definition defined (r ∷ rs) (suc j) = missing_nowhere definition defined rs j
 
 pub none_missing : (definition : ℕ → Definition) → ((m : ℕ) → missing_symbol (definition m) ≡ None) → (rs : List Reloc)

@@ -13,7 +13,7 @@ use Rattle.elf_writer.specs.Parts.{RelocationsPart}
 use Rattle.elf_writer.specs.Right.{no_reloc}
 use Rattle.elf_writer.specs.Holds.{AreRelocations}
 use Rattle.obj_input.specs.declared.parts.Sort.TheVariants.{Dropped}
-use Rattle.obj_input.specs.declared.parts.Use.{Use}
+use Rattle.obj_input.specs.declared.parts.Relocation.{Relocation}
 use Rattle.obj_input.specs.Input.{SectionParts}
 use Rattle.obj_input.specs.Listed.{listed}
 use Rattle.obj_items.specs.Sections.{sort_of, use_at, use_of, uses_of}
@@ -24,7 +24,7 @@ unfolding section_bytes
 content_there file k below = rw (lt-ltb _ _ below) refl
 
 -- the relocations of a section, by what each is for a symbol that is there
-pub uses_are : (file : List ℕ) (k : ℕ) (r : RelocationsPart) (use_for : Reloc → Use) → fault_of file ≡ None → k < e_shnum file → AreRelocations file k r
+pub uses_are : (file : List ℕ) (k : ℕ) (r : RelocationsPart) (use_for : Reloc → Relocation) → fault_of file ≡ None → k < e_shnum file → AreRelocations file k r
     → ((x : Reloc) → x.symbol < symbol_count file → use_of file x ≡ use_for x) → uses_of file k ≡ map use_for r.entries
 uses_are file k r use_for sound below are is =
     ap (listed (use_at file k)) are.count

@@ -10,7 +10,7 @@ use Rattle.elf_bytes.specs.Fields.{number_at}
 use Rattle.obj_input.specs.declared.parts.Definition.{Definition}
 use Rattle.obj_input.specs.declared.parts.Sort.TheVariants.{Code}
 use Rattle.obj_input.specs.Kinds.{kind_of}
-use Rattle.obj_input.specs.Input.{SectionParts, busy_among, busy_at}
+use Rattle.obj_input.specs.Input.{SectionParts, acting_among, acting_at}
 use Rattle.obj_input.specs.Code.{auipc_register, instr, is_auipc, is_inside, is_pair, is_start, word_count}
 use Rattle.obj_rules.specs.Kind.{single_kind}
 use Rattle.obj_rules.specs.Reserved.{some_reserved}
@@ -18,7 +18,7 @@ use Rattle.cfi_gen.specs.Assembly.{auipc, jalr}
 use Rattle.cfi_gen.specs.Code.{called}
 use Rattle.cfi_gen.specs.Lines.{Line, code_bytes, marked, plain, relocs_from}
 use Rattle.gen_program.proofs.Encoded.{line, word_decoded}
-use Rattle.gen_program.proofs.Bridge.{busy_marks, busy_there, use_by, uses_by}
+use Rattle.gen_program.proofs.Bridge.{acting_marks, acting_there, use_by, uses_by}
 use Rattle.gen_program.proofs.Spots.{IsEntry, IsPlain, Spot, first_there, high_there, is_tail, low_there, plain_there, second_there}
 
 -- a section holds these lines, whose symbols are looked up, and whose calls go to `n` functions
@@ -66,17 +66,17 @@ module _ {definition : ℕ → Definition} {n : ℕ} {ls : List Line} {s : Secti
       rw inside
       (ap (λ bytes. decoded (number_at bytes (4 * k) 4)) code.content ∙ word_decoded ls k below (in_range k (code.spots k below)))
 
-  busy_is : (k : ℕ) → k < length ls → busy_at s (4 * k) ≡ uses_by definition (4 * k) (busy_marks (line ls k).marks)
-  unfolding busy_at
-  busy_is k below = ap (λ uses. busy_among uses (4 * k)) code.uses ∙ busy_there definition 0 (4 * k) k ls below (omega arith)
+  acting_is : (k : ℕ) → k < length ls → acting_at s (4 * k) ≡ uses_by definition (4 * k) (acting_marks (line ls k).marks)
+  unfolding acting_at
+  acting_is k below = ap (λ uses. acting_among uses (4 * k)) code.uses ∙ acting_there definition 0 (4 * k) k ls below (omega arith)
 
   -- what stands at a line
   pub instr_is : (k : ℕ) (l : Line) → k < length ls → line ls k ≡ l → instr s k ≡ Some l.instr
   instr_is k l below is = instr_at k below ∙ ap (λ (x : Line). Some x.instr) is
 
   pub uses_are : (k : ℕ) (l : Line) → k < length ls → line ls k ≡ l
-      → busy_at s (4 * k) ≡ uses_by definition (4 * k) (busy_marks l.marks)
-  uses_are k l below is = busy_is k below ∙ ap (λ (x : Line). uses_by definition (4 * k) (busy_marks x.marks)) is
+      → acting_at s (4 * k) ≡ uses_by definition (4 * k) (acting_marks l.marks)
+  uses_are k l below is = acting_is k below ∙ ap (λ (x : Line). uses_by definition (4 * k) (acting_marks x.marks)) is
 
   pub no_pair : (k : ℕ) (l : Line) → k < length ls → line ls k ≡ l → is_auipc (Some l.instr) ≡ false → is_pair s k ≡ false
   unfolding is_pair

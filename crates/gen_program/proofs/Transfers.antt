@@ -6,7 +6,7 @@ use Rattle.rv_instr.specs.declared.instr.Instr.TheVariants.{Branch, Jal}
 use Rattle.obj_input.specs.declared.parts.Definition.{Definition}
 use Rattle.obj_input.specs.declared.parts.Definition.TheVariants.{Within}
 use Rattle.obj_input.specs.Kinds.{kind_of}
-use Rattle.obj_input.specs.Input.{InputParts, busy_at, section_of}
+use Rattle.obj_input.specs.Input.{InputParts, acting_at, section_of}
 use Rattle.obj_input.specs.Code.{at_whole, is_inside, is_start}
 use Rattle.obj_rules.specs.declared.target.Direct.{Direct}
 use Rattle.obj_rules.specs.declared.target.Direct.TheVariants.{ByBranch, ByJal, ByPair}
@@ -38,7 +38,7 @@ no_direct i form = refl
 module _ {definition : ℕ → Definition} {n : ℕ} {ls : List Line} (input : InputParts) (index : ℕ)
     (code : IsCode definition n ls (section_of input index)) (entries : AreStarts definition n ls index) where
   -- without a relocation a branch goes by its own offset
-  straight : (k : ℕ) (direct : Option Direct) → busy_at (section_of input index) (4 * k) ≡ [] → Goes ls k direct
+  straight : (k : ℕ) (direct : Option Direct) → acting_at (section_of input index) (4 * k) ≡ [] → Goes ls k direct
       → goes_right input index k direct ≡ true
   unfolding aim_at
   straight k None none goes = refl
@@ -66,23 +66,23 @@ module _ {definition : ℕ → Definition} {n : ℕ} {ls : List Line} (input : I
   unfolding kind_at direct_at kind_of
   right_transfer k below (plain_there i is good goes) =
       let parts = plain_parts i good in
-      let busy = uses_are code k (plain i) below is in
+      let acting = uses_are code k (plain i) below is in
       let there = instr_is code k (plain i) below is in
       let alone = no_pair code k (plain i) below is parts.no_auipc in
-      goes_well k (rw (alone, busy, there) (some-not_none (single_kind true i) parts.kind))
-      (rw (alone, there) (straight k (direct_word (Some i)) busy goes))
+      goes_well k (rw (alone, acting, there) (some-not_none (single_kind true i) parts.kind))
+      (rw (alone, there) (straight k (direct_word (Some i)) acting goes))
   right_transfer k below (high_there rd offset is good written) =
       let there = instr_is code k (marked (lui rd) (high offset)) below is in
-      let busy = uses_are code k (marked (lui rd) (high offset)) below is in
+      let acting = uses_are code k (marked (lui rd) (high offset)) below is in
       let alone = no_pair code k (marked (lui rd) (high offset)) below is refl in
-      goes_well k (rw (alone, busy, there) refl) (rw (alone, there) refl)
+      goes_well k (rw (alone, acting, there) refl) (rw (alone, there) refl)
   right_transfer k below (low_there i offset is good form) =
       let parts = plain_parts i good in
       let forms = and_parts (is_i_form i) (is_some (single_kind false i)) form in
       let there = instr_is code k (marked i (low offset)) below is in
-      let busy = uses_are code k (marked i (low offset)) below is in
+      let acting = uses_are code k (marked i (low offset)) below is in
       let alone = no_pair code k (marked i (low offset)) below is parts.no_auipc in
-      goes_well k (rw (alone, busy, there) (some-not_none (single_kind false i) forms.1))
+      goes_well k (rw (alone, acting, there) (some-not_none (single_kind false i) forms.1))
       (rw (alone, there, no_direct i forms.0) refl)
   right_transfer k below (first_there j near is inside next) =
       let two = pair code k j inside is next in

@@ -6,7 +6,7 @@ use Rattle.rv_instr.specs.declared.instr.Instr.TheVariants.{Upper, Jal, Jalr, Br
 use Rattle.rv_instr.specs.declared.instr.UpperOp.TheVariants.{Lui, Auipc}
 use Rattle.obj_input.specs.declared.item_kind.ItemKind.{ItemKind}
 use Rattle.obj_input.specs.declared.item_kind.ItemKind.TheVariants as is
-use Rattle.obj_input.specs.Input.{SectionParts, busy_at}
+use Rattle.obj_input.specs.Input.{SectionParts, acting_at}
 use Rattle.obj_input.specs.Code.{are_pair, has_pair_target, instr, is_pair}
 use Rattle.obj_rules.specs.Kind.{by_link, kind_at, pair_kind, single_kind, word_kind}
 
@@ -99,4 +99,4 @@ begun_weighs targeted plain (Some i) next = single_weighs plain i
 
 pub place_weighs : (s : SectionParts) (i : ℕ) → kind_weight (unwrap_or (kind_at s i) is.Plain) ≤ word_weight (instr s i)
 unfolding kind_at is_pair
-place_weighs s i = begun_weighs (has_pair_target s i) (length (busy_at s (4 * i)) == 0) (instr s i) (instr s (i + 1))
+place_weighs s i = begun_weighs (has_pair_target s i) (length (acting_at s (4 * i)) == 0) (instr s i) (instr s (i + 1))

@@ -6,7 +6,7 @@ use Rattle.elf_writer.specs.Right.{no_symbol}
 use Rattle.obj_input.specs.declared.parts.Definition.{Definition}
 use Rattle.obj_input.specs.declared.parts.Definition.TheVariants.{Zero, Within}
 use Rattle.obj_input.specs.declared.parts.Sort.TheVariants.{Code, Data, Dropped}
-use Rattle.obj_input.specs.declared.parts.Use.{Use}
+use Rattle.obj_input.specs.declared.parts.Relocation.{Relocation}
 use Rattle.obj_input.specs.Input.{InputParts, Named, SectionParts, section_count, section_of}
 use Rattle.cfi_gen.specs.declared.function.Function.{Function}
 use Rattle.cfi_gen.specs.Lines.{code_bytes, code_size, relocs_from}
@@ -22,7 +22,7 @@ abbrev pub symbol_definition : List Function → ℕ → Definition
 symbol_definition fs zero = Zero
 symbol_definition fs (suc n) = Within (get_or (symbols_of fs) n no_symbol).section (get_or (symbols_of fs) n no_symbol).value
 
-abbrev pub use_of : List Function → Reloc → Use
+abbrev pub use_of : List Function → Reloc → Relocation
 use_of fs r = record { offset = r.offset; number = r.kind; addend = r.addend; definition = symbol_definition fs r.symbol }
 
 -- section 1, code

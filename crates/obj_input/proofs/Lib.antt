@@ -1,7 +1,7 @@
 mod Standing
 mod Found
 mod Wholes
-mod Busy
+mod Acting
 mod Reach
 mod Rows
 mod Front

@@ -8,11 +8,11 @@ use Rattle.obj_input.specs.declared.parts.Sort.TheVariants.{Code, Data, Zeros}
 use Rattle.obj_input.specs.declared.parts.Definition.{Definition}
 use Rattle.obj_input.specs.declared.parts.Definition.TheVariants.{Absolute, Missing, Within}
 use Rattle.obj_input.specs.Kinds.{kind_of}
-use Rattle.obj_input.specs.Input.{InputParts, Named, SectionParts, busy_at, no_section}
+use Rattle.obj_input.specs.Input.{InputParts, Named, SectionParts, acting_at, no_section}
 use Rattle.obj_input.specs.Names.{find_spot}
 use Rattle.obj_input.specs.Code.{instr, is_pair, is_place, is_start}
 use Rattle.obj_input.specs.Listed.{listed}
-use Rattle.obj_input.specs.Layout.{block_address, blocks_reach, init_end, layout_of, reach, section_address, zeros_end}
+use Rattle.obj_input.specs.DataLayout.{block_address, blocks_reach, init_end, data_layout_of, reach, section_address, zeros_end}
 
 -- auipc x5,0; jalr x1,0(x5); jalr x0,0(x1), and a relocation of a type at 0
 calls : ℕ → SectionParts
@@ -27,7 +27,7 @@ calls number = record {
 -- R_RISCV_CALL makes a pair of the first two words, R_RISCV_PCREL_HI20 does not; the end is a place and no start
 pair_rows : (is_pair (calls 18) 0 ≡ true) × (is_start (calls 18) 4 ≡ false) × (is_start (calls 18) 8 ≡ true) × (is_start (calls 18) 6 ≡ false)
     × (is_pair (calls 23) 0 ≡ false) × (is_start (calls 23) 4 ≡ true) × (is_start (calls 18) 12 ≡ false) × (is_place (calls 18) 12 ≡ true)
-unfolding calls instr is_pair is_start busy_at kind_of number_at decoded
+unfolding calls instr is_pair is_start acting_at kind_of number_at decoded
 pair_rows = (refl, refl, refl, refl, refl, refl, refl, refl)
 
 part : Sort → ℕ → ℕ → SectionParts
@@ -42,13 +42,13 @@ parts = record {
   funcs = [];
 }
 
-layout_row : layout_of parts ≡ record {
+layout_row : data_layout_of parts ≡ record {
   sections = 0 ∷ 0x10000 ∷ 0x10008 ∷ 0x10004 ∷ [];
   blocks = 0x10010 ∷ [];
   init_end = 0x10008;
   data_end = 0x10011;
 }
-unfolding part parts layout_of listed section_address block_address reach init_end zeros_end blocks_reach
+unfolding part parts data_layout_of listed section_address block_address reach init_end zeros_end blocks_reach
 layout_row = refl
 
 called : List ℕ → Definition → Named

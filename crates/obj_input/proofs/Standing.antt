@@ -7,10 +7,10 @@ use Rattle.std.specs.Ordering.{is_lt, nat_cmp}
 use Rattle.std.proofs.lemmas.Bool.{cases_Bool, cases_lt, cases_order, eq-eqb, ne_eqb, lt-ltb, le-ltb}
 use Rattle.std.proofs.lemmas.List.Elements.{filter_agree}
 use Rattle.std.proofs.lemmas.Slice.{between_is}
-use Rattle.obj_input.specs.declared.parts.Use.{Use}
+use Rattle.obj_input.specs.declared.parts.Relocation.{Relocation}
 use Rattle.obj_input.specs.declared.parts.Definition.TheVariants.{Zero}
-use Rattle.obj_input.specs.Use.{is_busy}
-use Rattle.obj_input.specs.Input.{busy_among}
+use Rattle.obj_input.specs.Relocation.{is_acting}
+use Rattle.obj_input.specs.Input.{acting_among}
 use Rattle.obj_input.specs.InOrder.{has, standing_at}
 
 -- what a test takes from `i` to `j` and nowhere else
@@ -40,13 +40,13 @@ module _ {A : Type 0} (p : A → Bool) where
       (part xs zero zero (omega arith) (omega arith) (λ k d l h. absurd (omega arith)) (λ k d l h. absurd (omega arith))
       (λ k d l h. after (suc k) d (omega arith) (omega arith)))
 
-no_use : Use
+no_use : Relocation
 no_use = record { offset = 0; number = 0; addend = pos 0; definition = Zero }
 
 -- the bounds of those that stand at an offset
-module _ (uses : List Use) (at i j : ℕ) (low : i ≤ length uses) (high : j ≤ length uses) (below : AllWithin (λ (u : Use). u.offset < at) uses 0 i)
-    (from : AllWithin (λ (u : Use). at ≤ u.offset) uses i (length uses)) (to : AllWithin (λ (u : Use). u.offset ≤ at) uses 0 j)
-    (after : AllWithin (λ (u : Use). at < u.offset) uses j (length uses)) where
+module _ (uses : List Relocation) (at i j : ℕ) (low : i ≤ length uses) (high : j ≤ length uses) (below : AllWithin (λ (u : Relocation). u.offset < at) uses 0 i)
+    (from : AllWithin (λ (u : Relocation). at ≤ u.offset) uses i (length uses)) (to : AllWithin (λ (u : Relocation). u.offset ≤ at) uses 0 j)
+    (after : AllWithin (λ (u : Relocation). at < u.offset) uses j (length uses)) where
   pub bounds_order : i ≤ j
   bounds_order = elim (cases_lt j i) [
     | inl less ↦ let before = below j no_use (omega arith) less in let past = after j no_use (omega arith) (omega arith) in absurd (omega arith)
@@ -56,23 +56,23 @@ module _ (uses : List Use) (at i j : ℕ) (low : i ≤ length uses) (high : j �
   pub bounds_part : take (j - i) (drop i uses) ≡ standing_at at uses
   bounds_part =
       between_is uses i j
-      ∙ part (λ (u : Use). u.offset == at) uses i j bounds_order high
+      ∙ part (λ (u : Relocation). u.offset == at) uses i j bounds_order high
       (λ k d l h. let less = below k d l h in ne_eqb _ _ (λ same. absurd (omega arith)))
       (λ k d l h. let least = from k d l (omega arith) in let most = to k d (omega arith) h in eq-eqb _ _ (omega arith))
       (λ k d l h. let more = after k d l h in ne_eqb _ _ (λ same. absurd (omega arith)))
 
 -- an offset is among those of the relocations of a sort, all of which do something, exactly where one such stands there
-pub among : (p : Use → Bool) → ((u : Use) → p u ≡ true → is_busy u ≡ true) → (uses : List Use) (at : ℕ)
-    → has (map (λ (u : Use). u.offset) (filter p uses)) at ≡ list_any p (busy_among uses at)
-among p busy [] at = refl
-among p busy (u ∷ uses) at = elim (cases_Bool (p u)) [
+pub among : (p : Relocation → Bool) → ((u : Relocation) → p u ≡ true → is_acting u ≡ true) → (uses : List Relocation) (at : ℕ)
+    → has (map (λ (u : Relocation). u.offset) (filter p uses)) at ≡ list_any p (acting_among uses at)
+among p acting [] at = refl
+among p acting (u ∷ uses) at = elim (cases_Bool (p u)) [
   | inl takes ↦ elim (cases_Bool (u.offset == at)) [
-    | inl here ↦ rw (takes, here, busy u takes, takes) refl
-    | inr other ↦ rw (takes, other) (among p busy uses at)
+    | inl here ↦ rw (takes, here, acting u takes, takes) refl
+    | inr other ↦ rw (takes, other) (among p acting uses at)
   ]
-  | inr not ↦ elim (cases_Bool (u.offset == at && is_busy u)) [
-    | inl here ↦ rw (not, here, not) (among p busy uses at)
-    | inr other ↦ rw (not, other) (among p busy uses at)
+  | inr not ↦ elim (cases_Bool (u.offset == at && is_acting u)) [
+    | inl here ↦ rw (not, here, not) (among p acting uses at)
+    | inr other ↦ rw (not, other) (among p acting uses at)
   ]
 ]
 
@@ -86,7 +86,7 @@ tie a b = elim (cases_order a b) [
   ]
 ]
 
-both : (p q : Use → Bool) (xs : List Use) → filter p (filter q xs) ≡ filter (λ u. p u && q u) xs
+both : (p q : Relocation → Bool) (xs : List Relocation) → filter p (filter q xs) ≡ filter (λ u. p u && q u) xs
 both p q [] = refl
 both p q (u ∷ xs) = elim (cases_Bool (q u)) [
   | inl takes ↦ elim (cases_Bool (p u)) [
@@ -99,12 +99,12 @@ both p q (u ∷ xs) = elim (cases_Bool (q u)) [
   ]
 ]
 
-pub kept_at : (uses old new : List Use) → old ≡ filter is_busy uses → IsStableByKey (λ (u : Use). u.offset) nat_cmp old new
-    → (at : ℕ) → standing_at at new ≡ busy_among uses at
-kept_at uses old new busy stable at =
-    let probe : Use = record { offset = at; number = 0; addend = pos 0; definition = Zero } in
-    sym (filter_agree _ _ (λ (u : Use). tie at u.offset) new)
+pub kept_at : (uses old new : List Relocation) → old ≡ filter is_acting uses → IsStableByKey (λ (u : Relocation). u.offset) nat_cmp old new
+    → (at : ℕ) → standing_at at new ≡ acting_among uses at
+kept_at uses old new acting stable at =
+    let probe : Relocation = record { offset = at; number = 0; addend = pos 0; definition = Zero } in
+    sym (filter_agree _ _ (λ (u : Relocation). tie at u.offset) new)
     ∙ stable probe
-    ∙ filter_agree _ _ (λ (u : Use). tie at u.offset) old
-    ∙ ap (standing_at at) busy
-    ∙ both (λ (u : Use). u.offset == at) is_busy uses
+    ∙ filter_agree _ _ (λ (u : Relocation). tie at u.offset) old
+    ∙ ap (standing_at at) acting
+    ∙ both (λ (u : Relocation). u.offset == at) is_acting uses

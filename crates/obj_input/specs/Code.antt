@@ -9,7 +9,7 @@ use Rattle.rv_instr.specs.declared.instr.UpperOp.{UpperOp}
 use Rattle.rv_instr.specs.declared.instr.UpperOp.TheVariants.{Lui, Auipc}
 use Rattle.rv_code.specs.Decode.{decoded}
 use Rattle.obj_input.specs.Kinds.{is_pair_target, is_relative_high, kind_of}
-use Rattle.obj_input.specs.Input.{SectionParts, busy_at, is_code}
+use Rattle.obj_input.specs.Input.{SectionParts, acting_at, is_code}
 
 abbrev pub word_count : SectionParts → ℕ
 word_count section = section.size / 4
@@ -49,7 +49,7 @@ are_pair first second = are_same (auipc_register first) (jalr_base second)
 
 -- some relocation there names the target of a pair
 abbrev pub has_pair_target : SectionParts → ℕ → Bool
-has_pair_target section i = list_any (λ u. is_pair_target (kind_of u.number)) (busy_at section (4 * i))
+has_pair_target section i = list_any (λ u. is_pair_target (kind_of u.number)) (acting_at section (4 * i))
 
 unfoldable pub is_pair : SectionParts → ℕ → Bool
 is_pair section i = are_pair (instr section i) (instr section (i + 1)) && has_pair_target section i
@@ -72,7 +72,7 @@ is_place section at = is_start section at || is_code section && at == section.si
 
 -- some relocation at an offset is the high part of a distance
 abbrev pub has_high_part : SectionParts → ℕ → Bool
-has_high_part section at = list_any (λ u. is_relative_high (kind_of u.number)) (busy_at section at)
+has_high_part section at = list_any (λ u. is_relative_high (kind_of u.number)) (acting_at section at)
 
 -- the same of any whole number: none below 0 is one
 abbrev pub at_whole : (ℕ → Bool) → ℤ → Bool

@@ -2,32 +2,32 @@
 use Rattle.std.specs.Prelude.{◌≡◌, ℕ, ◌<◌, ◌^◌, Bool, true, ◌==◌, List, length, filter}
 use Rattle.std.specs.List.{All, list_any}
 use Rattle.std.specs.List.Sorted.{IsNonDecreasingBy}
-use Rattle.obj_input.specs.declared.parts.Use.{Use}
+use Rattle.obj_input.specs.declared.parts.Relocation.{Relocation}
 use Rattle.obj_input.specs.Kinds.{is_pair_target, is_relative_high, kind_of}
-use Rattle.obj_input.specs.Input.{SectionParts, busy_at, has_bytes}
+use Rattle.obj_input.specs.Input.{SectionParts, acting_at, has_bytes}
 
 -- an offset is among some
 abbrev pub has : List ℕ → ℕ → Bool
 has offsets at = list_any (λ a. a == at) offsets
 
 -- those that stand at an offset
-abbrev pub standing_at : ℕ → List Use → List Use
+abbrev pub standing_at : ℕ → List Relocation → List Relocation
 standing_at at uses = filter (λ u. u.offset == at) uses
 
-abbrev pub is_pair_use : Use → Bool
+abbrev pub is_pair_use : Relocation → Bool
 is_pair_use u = is_pair_target (kind_of u.number)
 
-abbrev pub is_high_use : Use → Bool
+abbrev pub is_high_use : Relocation → Bool
 is_high_use u = is_relative_high (kind_of u.number)
 
 -- the relocations that do something, in the order of their offsets, and of the table at one offset; and the offsets of
 -- those that name a pair's target and of those that are high parts
-pub record IsKept (section : SectionParts) (busy : List Use) (pairs highs : List ℕ) : Type 0 where
+pub record IsKept (section : SectionParts) (acting : List Relocation) (pairs highs : List ℕ) : Type 0 where
   pub whole : has_bytes section.sort ≡ true → length section.content ≡ section.size
-  pub in_order : IsNonDecreasingBy (λ (u : Use). u.offset) busy
-  pub found : (at : ℕ) → standing_at at busy ≡ busy_at section at
-  pub pair_at : (at : ℕ) → has pairs at ≡ list_any is_pair_use (busy_at section at)
-  pub high_at : (at : ℕ) → has highs at ≡ list_any is_high_use (busy_at section at)
+  pub in_order : IsNonDecreasingBy (λ (u : Relocation). u.offset) acting
+  pub found : (at : ℕ) → standing_at at acting ≡ acting_at section at
+  pub pair_at : (at : ℕ) → has pairs at ≡ list_any is_pair_use (acting_at section at)
+  pub high_at : (at : ℕ) → has highs at ≡ list_any is_high_use (acting_at section at)
 
 -- sections have indices of 32 bits, and the sizes of all of them and of the blocks sum up within 128 bits
 pub record AreFew (sections blocks : ℕ) : Type 0 where

@@ -1,13 +1,13 @@
 -- What a program is made of: sections with their relocations, whose symbols are looked up already.
 -- Nothing here is told of files; several files joined have such an input as one has.
 use Rattle.std.specs.Prelude.{ℕ, Bool, true, false, ◌==◌, ◌&&◌, List, [], length, filter, slice_index_or}
-use Rattle.obj_input.specs.declared.parts.Use.{Use}
+use Rattle.obj_input.specs.declared.parts.Relocation.{Relocation}
 use Rattle.obj_input.specs.declared.parts.Sort.{Sort}
 use Rattle.obj_input.specs.declared.parts.Sort.TheVariants.{Code, Data, Zeros, Dropped}
 use Rattle.obj_input.specs.declared.parts.Definition.{Definition}
 use Rattle.obj_input.specs.declared.parts.Block.{Block}
 use Rattle.obj_input.specs.declared.parts.Func.{Func}
-use Rattle.obj_input.specs.Use.{is_busy}
+use Rattle.obj_input.specs.Relocation.{is_acting}
 
 -- `uses` are the relocations in the order of their table
 pub record SectionParts : Type 0 where
@@ -15,7 +15,7 @@ pub record SectionParts : Type 0 where
   pub size : ℕ
   pub align : ℕ
   pub content : List ℕ
-  pub uses : List Use
+  pub uses : List Relocation
 
 -- a symbol with a name, and what it stands for
 pub record Named : Type 0 where
@@ -60,8 +60,8 @@ abbrev pub is_code : SectionParts → Bool
 is_code section = is_code_sort section.sort
 
 -- relocations that do something at an offset, in the order of their table
-abbrev pub busy_among : List Use → ℕ → List Use
-busy_among uses at = filter (λ u. u.offset == at && is_busy u) uses
+abbrev pub acting_among : List Relocation → ℕ → List Relocation
+acting_among uses at = filter (λ u. u.offset == at && is_acting u) uses
 
-unfoldable pub busy_at : SectionParts → ℕ → List Use
-busy_at section at = busy_among section.uses at
+unfoldable pub acting_at : SectionParts → ℕ → List Relocation
+acting_at section at = acting_among section.uses at

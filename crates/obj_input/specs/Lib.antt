@@ -1,9 +1,9 @@
 pub mod Kinds
-pub mod Use
+pub mod Relocation
 pub mod Input
 pub mod Code
 pub mod InOrder
-pub mod Layout
+pub mod DataLayout
 pub mod Listed
 pub mod Names
 pub mod Indexed

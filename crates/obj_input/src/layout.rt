@@ -2,7 +2,7 @@ ghost use Rattle.std.specs.Prelude.{◌≡◌, ◌+◌, ◌*◌, ◌^◌, ◌<�
 ghost use Rattle.obj_input.specs.Input.{section_count};
 ghost use Rattle.obj_input.specs.Listed.{listed};
 ghost use Rattle.obj_input.specs.InOrder.{AreSmall};
-ghost use Rattle.obj_input.specs.Layout.{address_by, after, after_if, aligned, block_address, blocks_reach, data_end, init_end, layout_of, section_address, zeros_end};
+ghost use Rattle.obj_input.specs.DataLayout.{address_by, after, after_if, aligned, block_address, blocks_reach, data_end, init_end, data_layout_of, section_address, zeros_end};
 
 use crate::input::Input;
 use crate::parts::{Block, Sort};
@@ -45,7 +45,7 @@ fn after_if(counts: bool, at: u128, section: &Section) -> u128
 }
 
 /// Where the sections with bytes in the file end.
-#[tactic(auto, unfolding(crate::specs::Layout::init_end))]
+#[tactic(auto, unfolding(crate::specs::DataLayout::init_end))]
 fn init_end(input: &Input) -> u128
     ensures value { result ≡ init_end input.now }
     ensures bound { result ≤ 2 ^ 98 }
@@ -59,7 +59,7 @@ fn init_end(input: &Input) -> u128
 }
 
 /// Where the sections without bytes in the file end.
-#[tactic(auto, unfolding(crate::specs::Layout::zeros_end))]
+#[tactic(auto, unfolding(crate::specs::DataLayout::zeros_end))]
 fn zeros_end(input: &Input, start: u128) -> u128
     requires start { start ≡ init_end input.now }
     requires small { start ≤ 2 ^ 98 }
@@ -145,34 +145,34 @@ fn address_at(addresses: &[u128], index: u64, otherwise: u128) -> u128
 /// Where data stand: from `DATA_START` on the sections with bytes in the file, then those without, then the blocks. No
 /// address wraps; whether they fit into memory is not asked here.
 #[derive(Drop)]
-pub struct Layout {
+pub struct DataLayout {
     sections: Vec<u128>,
     blocks: Vec<u128>,
     init_end: u128,
     data_end: u128,
 }
 
-impl Model for Layout {
-    ghost use Rattle.obj_input.specs.Layout.{LayoutParts};
+impl Model for DataLayout {
+    ghost use Rattle.obj_input.specs.DataLayout.{DataLayoutParts};
     ghost use Rattle.obj_input.specs.InOrder.{AreAddresses};
 
-    ghost Value = { LayoutParts };
+    ghost Value = { DataLayoutParts };
 
     ghost view = { λ l. record { sections = l.sections.items; blocks = l.blocks.items; init_end = l.init_end; data_end = l.data_end } };
 
     ghost invariant = { λ l. AreAddresses l.sections.items l.blocks.items l.data_end };
 }
 
-impl Layout {
+impl DataLayout {
     /// Where the data of an input stand.
-    #[tactic(auto, unfolding(crate::specs::Layout::layout_of))]
-    pub fn of(alloc: Global, input: &Input) -> Result<Layout, NoMemory>
-        ensures { IfOk result (λ l. l ≡ layout_of input.now) }
+    #[tactic(auto, unfolding(crate::specs::DataLayout::data_layout_of))]
+    pub fn of(alloc: Global, input: &Input) -> Result<DataLayout, NoMemory>
+        ensures { IfOk result (λ l. l ≡ data_layout_of input.now) }
     {
         let init_end = init_end(input);
         let sections = section_addresses(alloc, input, init_end)?;
         let placed = placed_blocks(alloc, input, zeros_end(input, init_end))?;
-        Ok(Layout {
+        Ok(DataLayout {
             sections,
             blocks: placed.addresses,
             init_end,

@@ -6,10 +6,10 @@
 pub use code::{is_auipc, natural};
 pub use input::Input;
 pub use item_kind::ItemKind;
-pub use layout::Layout;
+pub use layout::DataLayout;
 pub use name::Name;
 pub use names::Names;
-pub use parts::{Block, Definition, Func, Sort, Use};
+pub use parts::{Block, Definition, Func, Sort, Relocation};
 pub use reloc_kind::RelocKind;
 pub use section::Section;
 

@@ -1,6 +1,6 @@
 ghost use Rattle.std.specs.Prelude.{◌≡◌};
 ghost use Rattle.obj_input.specs.Kinds.{kind_of};
-ghost use Rattle.obj_input.specs.Use.{is_busy};
+ghost use Rattle.obj_input.specs.Relocation.{is_acting};
 
 use crate::reloc_kind::RelocKind;
 
@@ -34,7 +34,7 @@ pub enum Definition {
 
 /// A relocation with what its symbol stands for.
 #[derive(Clone, Copy, PartialEq, Eq)]
-pub struct Use {
+pub struct Relocation {
     /// Where it stands in its section.
     pub offset: u64,
     /// Its type, by the number (RISC-V ELF psABI, "Relocations").
@@ -43,7 +43,7 @@ pub struct Use {
     pub definition: Definition,
 }
 
-impl Use {
+impl Relocation {
     /// What it does.
     pub fn kind(&self) -> RelocKind
         ensures { result ≡ kind_of self.now.number }
@@ -52,8 +52,8 @@ impl Use {
     }
 
     /// Whether it does something.
-    pub fn is_busy(&self) -> bool
-        ensures { result ≡ is_busy self.now }
+    pub fn is_acting(&self) -> bool
+        ensures { result ≡ is_acting self.now }
     {
         !self.kind().is_idle()
     }

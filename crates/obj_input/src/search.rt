@@ -1,34 +1,34 @@
 ghost use Rattle.std.specs.Prelude.{◌≡◌, ◌-◌, ◌<◌, ◌≤◌, ℕ, IfOk, drop, filter, length, map, take};
 ghost use Rattle.std.specs.List.{AllWithin, list_any};
 ghost use Rattle.std.specs.List.Sorted.{IsNonDecreasingBy};
-ghost use Rattle.obj_input.specs.Use.{is_busy};
-ghost use Rattle.obj_input.specs.Input.{busy_among};
+ghost use Rattle.obj_input.specs.Relocation.{is_acting};
+ghost use Rattle.obj_input.specs.Input.{acting_among};
 ghost use Rattle.obj_input.specs.InOrder.{has, is_high_use, is_pair_use, standing_at};
 
 use crate::offsets::Offsets;
-use crate::parts::Use;
+use crate::parts::Relocation;
 use rv_word::NoMemory;
 use std::alloc::Global;
 
 /// Those that do something.
-fn busy(alloc: Global, uses: &[Use]) -> Result<Vec<Use>, NoMemory>
-    ensures { IfOk result (λ v. v.items ≡ filter is_busy uses.now) }
+fn acting(alloc: Global, uses: &[Relocation]) -> Result<Vec<Relocation>, NoMemory>
+    ensures { IfOk result (λ v. v.items ≡ filter is_acting uses.now) }
 {
-    Ok(uses.iter().filter(|u| u.is_busy()).copied().collect(alloc)?)
+    Ok(uses.iter().filter(|u| u.is_acting()).copied().collect(alloc)?)
 }
 
 /// Those that do something, by their offset; at one offset they keep the order of their table.
-pub(crate) fn busy_in_order(alloc: Global, uses: &[Use]) -> Result<Vec<Use>, NoMemory>
+pub(crate) fn acting_in_order(alloc: Global, uses: &[Relocation]) -> Result<Vec<Relocation>, NoMemory>
     ensures in_order { IfOk result (λ v. IsNonDecreasingBy (λ u. u.offset) v.items) }
-    ensures found { IfOk result (λ v. (at : ℕ) → standing_at at v.items ≡ busy_among uses.now at) }
+    ensures found { IfOk result (λ v. (at : ℕ) → standing_at at v.items ≡ acting_among uses.now at) }
 {
-    let mut busy = busy(alloc, uses)?;
-    busy.sort_by_key(|u| u.offset)?;
-    Ok(busy)
+    let mut acting = acting(alloc, uses)?;
+    acting.sort_by_key(|u| u.offset)?;
+    Ok(acting)
 }
 
 /// The offsets of those that name the target of a pair, in the order of their table.
-fn offsets_of_pairs(alloc: Global, uses: &[Use]) -> Result<Vec<u64>, NoMemory>
+fn offsets_of_pairs(alloc: Global, uses: &[Relocation]) -> Result<Vec<u64>, NoMemory>
     ensures { IfOk result (λ v. v.items ≡ map (λ u. u.offset) (filter is_pair_use uses.now)) }
 {
     Ok(
@@ -40,7 +40,7 @@ fn offsets_of_pairs(alloc: Global, uses: &[Use]) -> Result<Vec<u64>, NoMemory>
 }
 
 /// The offsets of those that are the high part of a distance, in the order of their table.
-fn offsets_of_highs(alloc: Global, uses: &[Use]) -> Result<Vec<u64>, NoMemory>
+fn offsets_of_highs(alloc: Global, uses: &[Relocation]) -> Result<Vec<u64>, NoMemory>
     ensures { IfOk result (λ v. v.items ≡ map (λ u. u.offset) (filter is_high_use uses.now)) }
 {
     Ok(
@@ -52,23 +52,23 @@ fn offsets_of_highs(alloc: Global, uses: &[Use]) -> Result<Vec<u64>, NoMemory>
 }
 
 /// The offsets of those that name the target of a pair.
-pub(crate) fn pair_offsets(alloc: Global, uses: &[Use]) -> Result<Offsets, NoMemory>
-    ensures { IfOk result (λ o. (at : ℕ) → has o at ≡ list_any is_pair_use (busy_among uses.now at)) }
+pub(crate) fn pair_offsets(alloc: Global, uses: &[Relocation]) -> Result<Offsets, NoMemory>
+    ensures { IfOk result (λ o. (at : ℕ) → has o at ≡ list_any is_pair_use (acting_among uses.now at)) }
 {
     let offsets = offsets_of_pairs(alloc, uses)?;
     Ok(Offsets::of(offsets))
 }
 
 /// The offsets of those that are the high part of a distance.
-pub(crate) fn high_offsets(alloc: Global, uses: &[Use]) -> Result<Offsets, NoMemory>
-    ensures { IfOk result (λ o. (at : ℕ) → has o at ≡ list_any is_high_use (busy_among uses.now at)) }
+pub(crate) fn high_offsets(alloc: Global, uses: &[Relocation]) -> Result<Offsets, NoMemory>
+    ensures { IfOk result (λ o. (at : ℕ) → has o at ≡ list_any is_high_use (acting_among uses.now at)) }
 {
     let offsets = offsets_of_highs(alloc, uses)?;
     Ok(Offsets::of(offsets))
 }
 
 /// How many stand below this offset.
-fn count_below(uses: &[Use], offset: u64) -> usize
+fn count_below(uses: &[Relocation], offset: u64) -> usize
     requires { IsNonDecreasingBy (λ u. u.offset) uses.now }
     ensures below { AllWithin (λ u. u.offset < offset) uses.now 0 result }
     ensures from { AllWithin (λ u. offset ≤ u.offset) uses.now result (length uses.now) }
@@ -78,7 +78,7 @@ fn count_below(uses: &[Use], offset: u64) -> usize
 }
 
 /// How many stand at this offset or below it.
-fn count_to(uses: &[Use], offset: u64) -> usize
+fn count_to(uses: &[Relocation], offset: u64) -> usize
     requires { IsNonDecreasingBy (λ u. u.offset) uses.now }
     ensures to { AllWithin (λ u. u.offset ≤ offset) uses.now 0 result }
     ensures after { AllWithin (λ u. offset < u.offset) uses.now result (length uses.now) }
@@ -88,7 +88,7 @@ fn count_to(uses: &[Use], offset: u64) -> usize
 }
 
 /// Where those that stand at this offset begin and end.
-fn bounds(uses: &[Use], offset: u64) -> (usize, usize)
+fn bounds(uses: &[Relocation], offset: u64) -> (usize, usize)
     requires { IsNonDecreasingBy (λ u. u.offset) uses.now }
     ensures order { result.0 ≤ result.1 }
     ensures inside { result.1 ≤ length uses.now }
@@ -98,7 +98,7 @@ fn bounds(uses: &[Use], offset: u64) -> (usize, usize)
 }
 
 /// Those that stand at this offset.
-pub(crate) fn standing_at(uses: &[Use], offset: u64) -> &[Use]
+pub(crate) fn standing_at(uses: &[Relocation], offset: u64) -> &[Relocation]
     requires { IsNonDecreasingBy (λ u. u.offset) uses.now }
     ensures { result.now ≡ standing_at offset uses.now }
 {

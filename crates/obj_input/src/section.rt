@@ -1,11 +1,11 @@
 ghost use Rattle.std.specs.Prelude.{◌≡◌, true, length, IfOk};
-ghost use Rattle.obj_input.specs.Input.{busy_at, has_bytes, is_code, is_data_sort, is_zeros_sort};
+ghost use Rattle.obj_input.specs.Input.{acting_at, has_bytes, is_code, is_data_sort, is_zeros_sort};
 ghost use Rattle.obj_input.specs.InOrder.{is_high_use, is_pair_use};
 ghost use Rattle.std.specs.List.{list_any};
 
 use crate::offsets::Offsets;
-use crate::parts::{Sort, Use};
-use crate::search::{busy_in_order, high_offsets, pair_offsets, standing_at};
+use crate::parts::{Sort, Relocation};
+use crate::search::{acting_in_order, high_offsets, pair_offsets, standing_at};
 use rv_word::NoMemory;
 use std::alloc::Global;
 use std::marker::Model;
@@ -17,8 +17,8 @@ pub struct Section<'a> {
     size: u64,
     align: u64,
     content: &'a [u8],
-    uses: Vec<Use>,
-    busy: Vec<Use>,
+    uses: Vec<Relocation>,
+    acting: Vec<Relocation>,
     pairs: Offsets,
     highs: Offsets,
 }
@@ -31,7 +31,7 @@ impl<'a> Model for Section<'a> {
 
     ghost view = { λ s. record { sort = s.sort; size = s.size; align = s.align; content = s.content.now; uses = s.uses.items } };
 
-    ghost invariant = { λ s. IsKept (record { sort = s.sort; size = s.size; align = s.align; content = s.content.now; uses = s.uses.items }) s.busy.items s.pairs s.highs };
+    ghost invariant = { λ s. IsKept (record { sort = s.sort; size = s.size; align = s.align; content = s.content.now; uses = s.uses.items }) s.acting.items s.pairs s.highs };
 }
 
 impl<'a> Section<'a> {
@@ -43,12 +43,12 @@ impl<'a> Section<'a> {
         size: u64,
         align: u64,
         content: &'a [u8],
-        uses: Vec<Use>,
+        uses: Vec<Relocation>,
     ) -> Result<Section<'a>, NoMemory>
         requires { has_bytes sort ≡ true → length content.now ≡ size }
         ensures { IfOk result (λ s. s ≡ record { sort = sort; size = size; align = align; content = content.now; uses = uses.items }) }
     {
-        let busy = busy_in_order(alloc, &uses)?;
+        let acting = acting_in_order(alloc, &uses)?;
         let pairs = pair_offsets(alloc, &uses)?;
         let highs = high_offsets(alloc, &uses)?;
         Ok(Section {
@@ -57,7 +57,7 @@ impl<'a> Section<'a> {
             align,
             content,
             uses,
-            busy,
+            acting,
             pairs,
             highs,
         })
@@ -114,29 +114,29 @@ impl<'a> Section<'a> {
     }
 
     /// Its relocations in the order of their table.
-    pub fn uses(&self) -> &[Use]
+    pub fn uses(&self) -> &[Relocation]
         ensures { result.now ≡ self.now.uses }
     {
         self.uses.as_slice()
     }
 
     /// The relocations that do something at this offset, in the order of their table.
-    pub fn busy_at(&self, offset: u64) -> &[Use]
-        ensures { result.now ≡ busy_at self.now offset }
+    pub fn acting_at(&self, offset: u64) -> &[Relocation]
+        ensures { result.now ≡ acting_at self.now offset }
     {
-        standing_at(&self.busy, offset)
+        standing_at(&self.acting, offset)
     }
 
     /// Whether one that names the target of a pair stands at this offset.
     pub(crate) fn has_pair_use(&self, offset: u64) -> bool
-        ensures { result ≡ list_any is_pair_use (busy_at self.now offset) }
+        ensures { result ≡ list_any is_pair_use (acting_at self.now offset) }
     {
         self.pairs.has(offset)
     }
 
     /// Whether one that is the high part of a distance stands at this offset.
     pub(crate) fn has_high_use(&self, offset: u64) -> bool
-        ensures { result ≡ list_any is_high_use (busy_at self.now offset) }
+        ensures { result ≡ list_any is_high_use (acting_at self.now offset) }
     {
         self.highs.has(offset)
     }

@@ -6,7 +6,7 @@ use Rattle.obj_input.specs.declared.parts.Definition.{Definition}
 use Rattle.obj_input.specs.declared.parts.Definition.TheVariants.{Common}
 use Rattle.obj_input.specs.Input.{InputParts, is_code, no_section, section_count, section_of}
 use Rattle.obj_input.specs.Listed.{listed}
-use Rattle.obj_input.specs.Layout.{LayoutParts, after, aligned, block_address, blocks_reach, data_end, layout_of, no_block, section_address}
+use Rattle.obj_input.specs.DataLayout.{DataLayoutParts, after, aligned, block_address, blocks_reach, data_end, data_layout_of, no_block, section_address}
 use Rattle.obj_program.specs.declared.item.Item.{Item}
 use Rattle.obj_program.specs.declared.item.Value.{Value}
 use Rattle.obj_program.specs.declared.item.Value.TheVariants.{Number}
@@ -17,10 +17,10 @@ no_address : (input : InputParts) (k : ℕ) → section_of input k ≡ no_sectio
 unfolding section_address
 no_address input k e = rw e refl
 
-pub section_read : (input : InputParts) (l : LayoutParts) (k : ℕ) → l ≡ layout_of input → get_or l.sections k 0 ≡ section_address input k
-unfolding layout_of
+pub section_read : (input : InputParts) (l : DataLayoutParts) (k : ℕ) → l ≡ data_layout_of input → get_or l.sections k 0 ≡ section_address input k
+unfolding data_layout_of
 section_read input l k e =
-    let all : l.sections ≡ listed (section_address input) (section_count input) = ap (λ (p : LayoutParts). p.sections) e in
+    let all : l.sections ≡ listed (section_address input) (section_count input) = ap (λ (p : DataLayoutParts). p.sections) e in
     elim (cases_lt k (section_count input)) [
       | inl below ↦ listed_read (section_address input) l.sections (section_count input) k 0 all below
       | inr past ↦
@@ -51,15 +51,15 @@ module _ (input : InputParts) where
   unfolding block_address
   block_past c past = rw (get_or_past input.blocks c no_block past) (sym (aligned_none (blocks_reach input c) ∙ reach_past c past))
 
-pub block_read : (input : InputParts) (l : LayoutParts) (c : ℕ) → l ≡ layout_of input → get_or l.blocks c l.data_end ≡ block_address input c
-unfolding layout_of
+pub block_read : (input : InputParts) (l : DataLayoutParts) (c : ℕ) → l ≡ data_layout_of input → get_or l.blocks c l.data_end ≡ block_address input c
+unfolding data_layout_of
 block_read input l c e =
-    let all : l.blocks ≡ listed (block_address input) (length input.blocks) = ap (λ (p : LayoutParts). p.blocks) e in
+    let all : l.blocks ≡ listed (block_address input) (length input.blocks) = ap (λ (p : DataLayoutParts). p.blocks) e in
     elim (cases_lt c (length input.blocks)) [
       | inl below ↦ listed_read (block_address input) l.blocks (length input.blocks) c l.data_end all below
       | inr past ↦
           let count = listed_count (block_address input) l.blocks (length input.blocks) all in
-          get_or_past l.blocks c l.data_end (omega arith) ∙ ap (λ (p : LayoutParts). p.data_end) e ∙ block_past input c past
+          get_or_past l.blocks c l.data_end (omega arith) ∙ ap (λ (p : DataLayoutParts). p.data_end) e ∙ block_past input c past
     ]
 
 -- an address with an addend is what an offset in data, or a common block, refers to

@@ -8,7 +8,7 @@ use Rattle.std.proofs.lemmas.Int.{ints}
 use Rattle.std.proofs.lemmas.List.{get_or_past}
 use Rattle.std.proofs.lemmas.List.Elements.{All-get_or, All-nil}
 use Rattle.std.proofs.lemmas.List.Quantifiers.{position-Some}
-use Rattle.rv_word.specs.Layout.{DATA_START}
+use Rattle.rv_word.specs.MemoryMap.{DATA_START}
 use Rattle.rv_word.proofs.Cases.{cases_Option}
 use Rattle.obj_input.specs.declared.parts.Block.{Block}
 use Rattle.obj_input.specs.declared.parts.Definition.{Definition}
@@ -17,7 +17,7 @@ use Rattle.obj_input.specs.declared.parts.Sort.{Sort}
 use Rattle.obj_input.specs.declared.parts.Sort.TheVariants.{Data, Zeros, Dropped}
 use Rattle.obj_input.specs.Code.{natural}
 use Rattle.obj_input.specs.Input.{InputParts, SectionParts, is_code, is_data_sort, is_zeros_sort, no_section, section_count, section_of}
-use Rattle.obj_input.specs.Layout.{address_by, after, after_if, aligned, block, block_address, blocks_reach, init_end, no_block, reach, section_address, zeros_end}
+use Rattle.obj_input.specs.DataLayout.{address_by, after, after_if, aligned, block, block_address, blocks_reach, init_end, no_block, reach, section_address, zeros_end}
 use Rattle.obj_program.specs.declared.item.Item.{Item}
 use Rattle.obj_program.specs.declared.item.Value.TheVariants.{Number}
 use Rattle.obj_program.specs.Program.{is_spot, no_item, place_of}

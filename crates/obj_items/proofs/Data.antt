@@ -4,7 +4,7 @@ use Rattle.std.specs.List.{flat_map}
 use Rattle.std.proofs.lemmas.List.{append-nil, take_more}
 use Rattle.std.proofs.lemmas.List.Concat.{flat_map-append}
 use Rattle.obj_input.specs.Input.{InputParts, SectionParts, is_data_sort, section_of}
-use Rattle.obj_input.specs.Layout.{section_address}
+use Rattle.obj_input.specs.DataLayout.{section_address}
 use Rattle.least.specs.Nearest.{joined}
 use Rattle.obj_program.specs.declared.item.DataReloc.{DataReloc}
 use Rattle.obj_program.specs.declared.item.Item.{Item}

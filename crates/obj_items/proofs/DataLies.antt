@@ -4,18 +4,18 @@ use Rattle.std.specs.List.{flat_map}
 use Rattle.std.proofs.lemmas.Bool.{cases_Bool, cases_lt, and_parts, and_from, le-leb, ltb-false, not-false, not-true}
 use Rattle.std.proofs.lemmas.List.{length-append, length-map, length-replicate}
 use Rattle.std.proofs.lemmas.List.Elements.{All-nil, All-cons, All-append, All-from_get_or, All-get_or, All-head, All-tail}
-use Rattle.rv_word.specs.Layout.{DATA_START}
+use Rattle.rv_word.specs.MemoryMap.{DATA_START}
 use Rattle.rv_reloc.specs.Data.{size_of}
 use Rattle.least.specs.Nearest.{joined}
-use Rattle.obj_input.specs.declared.parts.Use.{Use}
+use Rattle.obj_input.specs.declared.parts.Relocation.{Relocation}
 use Rattle.obj_input.specs.declared.parts.Sort.{Sort}
 use Rattle.obj_input.specs.declared.parts.Sort.TheVariants.{Data}
 use Rattle.obj_input.specs.declared.reloc_kind.RelocKind.{RelocKind}
 use Rattle.obj_input.specs.declared.reloc_kind.RelocKind.TheVariants.{InData}
 use Rattle.obj_input.specs.Kinds.{is_idle, kind_of}
-use Rattle.obj_input.specs.Use.{is_busy}
+use Rattle.obj_input.specs.Relocation.{is_acting}
 use Rattle.obj_input.specs.Input.{InputParts, has_bytes, is_code_sort, is_data_sort, is_zeros_sort, section_count, section_of}
-use Rattle.obj_input.specs.Layout.{section_address}
+use Rattle.obj_input.specs.DataLayout.{section_address}
 use Rattle.obj_rules.specs.WrongPlace.{stands, stands_in_data, width}
 use Rattle.obj_program.specs.declared.item.DataReloc.{DataReloc}
 use Rattle.obj_program.specs.Program.{count}
@@ -80,14 +80,14 @@ module _ (input : InputParts) (is : IsInput input) (right : IsRight input) where
   Lies : DataReloc → Type 0
   Lies r = lies (program_with input (outline input)) r ≡ true
 
-  one_lies : (k : ℕ) → k < section_count input → is_data_sort (section_of input k).sort ≡ true → (u : Use) → IsRightUse input k u → IsSmallUse u
+  one_lies : (k : ℕ) → k < section_count input → is_data_sort (section_of input k).sort ≡ true → (u : Relocation) → IsRightUse input k u → IsSmallUse u
       → (kind : RelocKind) → kind_of u.number ≡ kind → All Lies (reloc_by input (outline input) k u kind)
   unfolding Lies
   one_lies k below sort u one small (InData patch) e =
       let size = (each_section input is k).whole (data_has (section_of input k).sort sort).0 in
       let whole = section_lies input (section_count input) k below sort in
-      let busy : is_busy u ≡ true = ap (λ kind. not (is_idle kind)) e in
-      let stood : stands (section_of input k) u ≡ true = not-false (stands (section_of input k) u) (and_rest (is_busy u) _ one.standing busy) in
+      let acting : is_acting u ≡ true = ap (λ kind. not (is_idle kind)) e in
+      let stood : stands (section_of input k) u ≡ true = not-false (stands (section_of input k) u) (and_rest (is_acting u) _ one.standing acting) in
       let in_data : stands_in_data (section_of input k) u ≡ true = rw (data_has (section_of input k).sort sort).1 at stood in
       let fits = (and_parts (not (is_zeros_sort (section_of input k).sort)) (not (nat_lt (section_of input k).size (u.offset + width (kind_of u.number)))) in_data).1 in
       let inside : u.offset + width (kind_of u.number) ≤ (section_of input k).size = ltb-false _ _ (not-true _ fits) in

@@ -10,7 +10,7 @@ use Rattle.std.proofs.lemmas.List.Quantifiers.{position-Some}
 use Rattle.std.proofs.lemmas.List.Folds.{list_any_more}
 use Rattle.std.proofs.lemmas.List.Sums.{fails_before_first}
 use Rattle.least.specs.First.{first_below}
-use Rattle.obj_input.specs.declared.parts.Use.{Use}
+use Rattle.obj_input.specs.declared.parts.Relocation.{Relocation}
 use Rattle.obj_program.specs.declared.item.Item.{Item}
 use Rattle.obj_program.specs.Program.{AreInOrder, is_spot, no_item, place_of}
 use Rattle.obj_program.proofs.Ordered.{spot_once}
@@ -55,14 +55,14 @@ module _ (places : List Item) where
       sym (or-false (get_or marks i false)) ∙ ap (λ b. get_or marks i false || b) (sym (nowhere section offset none i below))
 
 -- what the first relocations of a section mark, and one more
-pub any_next : (before now next : Bool) (k offset : ℕ) (uses : List Use) (n : ℕ) (u : Use) (spot : Option (ℕ × ℕ)) → n < length uses
+pub any_next : (before now next : Bool) (k offset : ℕ) (uses : List Relocation) (n : ℕ) (u : Relocation) (spot : Option (ℕ × ℕ)) → n < length uses
     → now ≡ (before || list_any (takes k offset) (take n uses)) → u ≡ get_or uses n u → spot ≡ pointed u → next ≡ (now || is_the k offset spot)
     → next ≡ (before || list_any (takes k offset) (take (n + 1) uses))
 any_next before now next k offset uses n u spot below here is at e =
     e ∙ ap (λ b. b || is_the k offset spot) here ∙ or_assoc before (list_any (takes k offset) (take n uses)) (is_the k offset spot)
     ∙ ap (λ b. before || b)
     (ap (λ (s : Option (ℕ × ℕ)). list_any (takes k offset) (take n uses) || is_the k offset s) at
-    ∙ ap (λ (v : Use). list_any (takes k offset) (take n uses) || takes k offset v) is
+    ∙ ap (λ (v : Relocation). list_any (takes k offset) (take n uses) || takes k offset v) is
     ∙ sym (list_any_more (takes k offset) uses n u below))
 
 -- the same of sections

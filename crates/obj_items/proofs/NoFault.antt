@@ -14,10 +14,10 @@ use Rattle.least.specs.Nearest.{IsNearest, is_before, nearer, nearest, nearest_b
 use Rattle.least.proofs.Firsts.{first_none}
 use Rattle.least.proofs.Leasts.{least_none}
 use Rattle.least.proofs.Nearests.{nearest_first}
-use Rattle.obj_input.specs.declared.parts.Use.{Use}
+use Rattle.obj_input.specs.declared.parts.Relocation.{Relocation}
 use Rattle.obj_input.specs.declared.parts.Definition.TheVariants.{Zero}
-use Rattle.obj_input.specs.Use.{is_busy}
-use Rattle.obj_input.specs.Input.{InputParts, SectionParts, busy_at, is_code, no_section, section_count, section_of}
+use Rattle.obj_input.specs.Relocation.{is_acting}
+use Rattle.obj_input.specs.Input.{InputParts, SectionParts, acting_at, is_code, no_section, section_count, section_of}
 use Rattle.obj_input.specs.Code.{word_count}
 use Rattle.obj_rules.specs.declared.fault.ItemFault.{ItemFault}
 use Rattle.obj_rules.specs.declared.fault.ItemFault.TheVariants as fault
@@ -33,7 +33,7 @@ use Rattle.obj_rules.specs.CodePointer.{wrong_pointer}
 use Rattle.obj_rules.specs.Fault.{fault_of, instruction_fault, relocation_fault}
 
 -- a relocation of an input without a fault
-pub record IsRightUse (input : InputParts) (k : ℕ) (u : Use) : Type 0 where
+pub record IsRightUse (input : InputParts) (k : ℕ) (u : Relocation) : Type 0 where
   pub low : is_wrong_low input k u ≡ false
   pub standing : is_wrong_place (section_of input k) u ≡ false
   pub defined : missing_in_use u ≡ None
@@ -95,7 +95,7 @@ words_none : {A : Type 0} (f : ℕ → A) (b : Bool) (test : ℕ → Bool) (n i 
 words_none f true test n i e code below = first_none test n i (unmapped f (first_below test n) e) below
 words_none f false test n i e code below = absurd (cc)
 
-pub no_use : Use
+pub no_use : Relocation
 no_use = record { offset = 0; number = 0; addend = pos 0; definition = Zero }
 
 module _ (input : InputParts) where
@@ -124,13 +124,13 @@ module _ (input : InputParts) where
       (in_sections (bad_transfer_in input) k e (code_there input k code)) code below
 
   -- where a section is not there it has no relocations
-  over_uses : (P : ℕ → Use → Type 0) → ((k : ℕ) → k < section_count input → All (P k) (section_of input k).uses) → (k : ℕ) → All (P k) (section_of input k).uses
+  over_uses : (P : ℕ → Relocation → Type 0) → ((k : ℕ) → k < section_count input → All (P k) (section_of input k).uses) → (k : ℕ) → All (P k) (section_of input k).uses
   over_uses P there k = elim (cases_lt k (section_count input)) [
     | inl below ↦ there k below
     | inr past ↦ subst (λ (s : SectionParts). All (P k) s.uses) (sym (past_sections input k past)) (All-nil (P k))
   ]
 
-  uses_none : (given : ℕ → Use → Option (Found ItemFault)) (k : ℕ) → nearest place_of (filter_map (given k) (section_of input k).uses) ≡ None
+  uses_none : (given : ℕ → Relocation → Option (Found ItemFault)) (k : ℕ) → nearest place_of (filter_map (given k) (section_of input k).uses) ≡ None
       → All (λ u. given k u ≡ None) (section_of input k).uses
   uses_none given k e = none_kept (given k) (section_of input k).uses (none_listed place_of (filter_map (given k) (section_of input k).uses) e)
 
@@ -147,7 +147,7 @@ module _ (input : InputParts) where
       (λ u none. not_given (is_wrong_place (section_of input k) u) _ none) (section_of input k).uses
       (uses_none (λ j. place_found (section_of input k) j) k (in_sections (place_in input) k e below)))
 
-  each_defined : (uses : List Use) (j : ℕ) (d : Use) → j < length uses → missing_at uses j ≡ None → missing_in_use (get_or uses j d) ≡ None
+  each_defined : (uses : List Relocation) (j : ℕ) (d : Relocation) → j < length uses → missing_at uses j ≡ None → missing_in_use (get_or uses j d) ≡ None
   each_defined uses j d below e = rw (slice_get-get_or uses j d below) at e
 
   defines : undefined input ≡ None → (k : ℕ) → All (λ u. missing_in_use u ≡ None) (section_of input k).uses
@@ -182,10 +182,10 @@ module _ (input : InputParts) where
       }
 
 -- what stands at an offset, if it is listed there
-pub busy_right : (input : InputParts) → IsRight input → (k at : ℕ) → All (IsRightUse input k) (busy_at (section_of input k) at)
-unfolding busy_at
-busy_right input right k at = All-filter (λ (u : Use). u.offset == at && is_busy u) (IsRightUse input k) (section_of input k).uses (right.uses k)
+pub acting_right : (input : InputParts) → IsRight input → (k at : ℕ) → All (IsRightUse input k) (acting_at (section_of input k) at)
+unfolding acting_at
+acting_right input right k at = All-filter (λ (u : Relocation). u.offset == at && is_acting u) (IsRightUse input k) (section_of input k).uses (right.uses k)
 
-pub busy_there : (s : SectionParts) (at : ℕ) → All (λ (u : Use). (u.offset == at && is_busy u) ≡ true) (busy_at s at)
-unfolding busy_at
-busy_there s at = filter_passes (λ (u : Use). u.offset == at && is_busy u) s.uses
+pub acting_there : (s : SectionParts) (at : ℕ) → All (λ (u : Relocation). (u.offset == at && is_acting u) ≡ true) (acting_at s at)
+unfolding acting_at
+acting_there s at = filter_passes (λ (u : Relocation). u.offset == at && is_acting u) s.uses

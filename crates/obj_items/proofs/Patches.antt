@@ -5,14 +5,14 @@ use Rattle.std.specs.Ordering.{int_eq}
 use Rattle.std.proofs.lemmas.Bool.{and_parts, eqb-true, lt-ltb, not-false, or_cases, or_parts}
 use Rattle.std.proofs.lemmas.List.{length-map}
 use Rattle.std.proofs.lemmas.List.Elements.{All-filter, All-head, All-same}
-use Rattle.obj_input.specs.declared.parts.Use.{Use}
+use Rattle.obj_input.specs.declared.parts.Relocation.{Relocation}
 use Rattle.obj_input.specs.declared.parts.Definition.{Definition}
 use Rattle.obj_input.specs.declared.parts.Definition.TheVariants.{Within, Missing}
 use Rattle.obj_input.specs.declared.reloc_kind.RelocKind.{RelocKind}
 use Rattle.obj_input.specs.declared.reloc_kind.RelocKind.TheVariants.{RelativeHigh, RelativeLowI, RelativeLowS, High, LowI, LowS}
 use Rattle.obj_input.specs.Kinds.{is_relative_high, is_relative_low, kind_of}
-use Rattle.obj_input.specs.Use.{is_busy}
-use Rattle.obj_input.specs.Input.{InputParts, busy_at, is_code, section_of}
+use Rattle.obj_input.specs.Relocation.{is_acting}
+use Rattle.obj_input.specs.Input.{InputParts, acting_at, is_code, section_of}
 use Rattle.obj_input.specs.Code.{has_high_part, instr, is_auipc, is_start}
 use Rattle.obj_rules.specs.BadPair.{has_relative_high, is_auipc_at, names_high}
 use Rattle.obj_rules.specs.Undefined.{missing_symbol}
@@ -31,26 +31,26 @@ use Rattle.obj_items.proofs.NoFault.{IsRight, IsRightUse}
 use Rattle.obj_items.proofs.Starts.{and_rest, sole}
 use Rattle.obj_items.proofs.Targets.{start_item_there}
 
-small_there : (input : InputParts) → IsInput input → (k at : ℕ) → All IsSmallUse (busy_at (section_of input k) at)
-unfolding busy_at
-small_there input is k at = All-filter (λ (u : Use). u.offset == at && is_busy u) IsSmallUse (section_of input k).uses (each_section input is k).uses
+small_there : (input : InputParts) → IsInput input → (k at : ℕ) → All IsSmallUse (acting_at (section_of input k) at)
+unfolding acting_at
+small_there input is k at = All-filter (λ (u : Relocation). u.offset == at && is_acting u) IsSmallUse (section_of input k).uses (each_section input is k).uses
 
 -- the relocation at an AUIPC with a high part is that
 high_patch : (input : InputParts) → IsRight input → (places : List Item) (k at : ℕ) → is_code (section_of input k) ≡ true
-    → has_high_part (section_of input k) at ≡ true → is_high_patch (patch_from input places (busy_at (section_of input k) at)) ≡ true
-high_patch input right places k at code has = by (busy_at (section_of input k) at) refl
+    → has_high_part (section_of input k) at ≡ true → is_high_patch (patch_from input places (acting_at (section_of input k) at)) ≡ true
+high_patch input right places k at code has = by (acting_at (section_of input k) at) refl
   where
-    does : (u : Use) (kind : RelocKind) → is_relative_high kind ≡ true → is_high_patch (patch_by input places u kind) ≡ true
+    does : (u : Relocation) (kind : RelocKind) → is_relative_high kind ≡ true → is_high_patch (patch_by input places u kind) ≡ true
     does u RelativeHigh e = refl
     does u other e = absurd (cc)
 
-    by : (us : List Use) → busy_at (section_of input k) at ≡ us → is_high_patch (patch_from input places us) ≡ true
+    by : (us : List Relocation) → acting_at (section_of input k) at ≡ us → is_high_patch (patch_from input places us) ≡ true
     by [] e =
-        let never : false ≡ true = ap (λ (us : List Use). list_any (λ (u : Use). is_relative_high (kind_of u.number)) us) (sym e) ∙ has in absurd (cc)
+        let never : false ≡ true = ap (λ (us : List Relocation). list_any (λ (u : Relocation). is_relative_high (kind_of u.number)) us) (sym e) ∙ has in absurd (cc)
     by (u ∷ more) e =
         let one = sole input right k at code u more e in
-        let some : list_any (λ (v : Use). is_relative_high (kind_of v.number)) (u ∷ more) ≡ true =
-        ap (λ (us : List Use). list_any (λ (v : Use). is_relative_high (kind_of v.number)) us) (sym e) ∙ has in
+        let some : list_any (λ (v : Relocation). is_relative_high (kind_of v.number)) (u ∷ more) ≡ true =
+        ap (λ (us : List Relocation). list_any (λ (v : Relocation). is_relative_high (kind_of v.number)) us) (sym e) ∙ has in
         let here : (is_relative_high (kind_of u.number) || false) ≡ true = rw one.none_more at some in
         elim (or_cases (is_relative_high (kind_of u.number)) false here) [ inl high ↦ does u (kind_of u.number) high | inr never ↦ absurd (cc) ]
 
@@ -58,7 +58,7 @@ module _ (input : InputParts) (is : IsInput input) (right : IsRight input) where
   counted : length (outline input) ≡ count (program_with input (outline input))
   counted = sym (length-map (outline input) (item_with input (outline input)))
 
-  value_there : (u : Use) → IsSmallUse u → is_value (count (program_with input (outline input))) (use_value input (outline input) u) ≡ true
+  value_there : (u : Relocation) → IsSmallUse u → is_value (count (program_with input (outline input))) (use_value input (outline input) u) ≡ true
   value_there u small = value_right input is (outline input) (count (program_with input (outline input))) counted u.definition u.addend small.definition small.addend
 
   -- the place that a low part names has the high part
@@ -75,8 +75,8 @@ module _ (input : InputParts) (is : IsInput input) (right : IsRight input) where
       let whole : 4 * (value / 4) ≡ value = let even = (start_parts (section_of input k) value four.1).1 in omega arith in
       let named : named_place (outline input) (Within j value) ≡ t =
       ap (λ n. unwrap_or (place_of (outline input) n value) 0) same ∙ ap (λ (o : Option ℕ). unwrap_or o 0) there.2.found in
-      let at : (item_of (program_with input (outline input)) t).patch ≡ patch_from input (outline input) (busy_at (section_of input k) value) =
-      ap (λ (x : Item). x.patch) there.2.item ∙ ap (λ n. patch_from input (outline input) (busy_at (section_of input k) n)) whole in
+      let at : (item_of (program_with input (outline input)) t).patch ≡ patch_from input (outline input) (acting_at (section_of input k) value) =
+      ap (λ (x : Item). x.patch) there.2.item ∙ ap (λ n. patch_from input (outline input) (acting_at (section_of input k) n)) whole in
       let high : is_high_patch (item_of (program_with input (outline input)) t).patch ≡ true =
       ap is_high_patch at ∙ high_patch input right (outline input) k value four.0 two.1 in
       low_at (named_place (outline input) (Within j value)) t named there.2.below high
@@ -87,31 +87,31 @@ module _ (input : InputParts) (is : IsInput input) (right : IsRight input) where
   low_there k (Missing n) names none = absurd (cc)
   low_there k other names none = absurd (cc)
 
-  low_right : (k : ℕ) (u : Use) → IsRightUse input k u → is_busy u ≡ true → is_relative_low (kind_of u.number) ≡ true
+  low_right : (k : ℕ) (u : Relocation) → IsRightUse input k u → is_acting u ≡ true → is_relative_low (kind_of u.number) ≡ true
       → is_patch (program_with input (outline input)) (put.RelativeLow (named_place (outline input) u.definition)) ≡ true
-  low_right k u one busy low =
+  low_right k u one acting low =
       let names = (or_parts (not (int_eq u.addend (pos 0))) (not (names_high input k u.definition)) (and_rest (is_relative_low (kind_of u.number)) _ one.low low)).1 in
-      let none : missing_symbol u.definition ≡ None = let none = one.defined in rw busy at none in
+      let none : missing_symbol u.definition ≡ None = let none = one.defined in rw acting at none in
       low_there k u.definition (not-false (names_high input k u.definition) names) none
 
-  patch_right : (k : ℕ) (u : Use) → IsRightUse input k u → IsSmallUse u → is_busy u ≡ true → (kind : RelocKind) → kind_of u.number ≡ kind
+  patch_right : (k : ℕ) (u : Relocation) → IsRightUse input k u → IsSmallUse u → is_acting u ≡ true → (kind : RelocKind) → kind_of u.number ≡ kind
       → is_patch (program_with input (outline input)) (patch_by input (outline input) u kind) ≡ true
-  patch_right k u one small busy High e = value_there u small
-  patch_right k u one small busy LowI e = value_there u small
-  patch_right k u one small busy LowS e = value_there u small
-  patch_right k u one small busy RelativeHigh e = value_there u small
-  patch_right k u one small busy RelativeLowI e = low_right k u one busy (ap is_relative_low e)
-  patch_right k u one small busy RelativeLowS e = low_right k u one busy (ap is_relative_low e)
-  patch_right k u one small busy other e = refl
+  patch_right k u one small acting High e = value_there u small
+  patch_right k u one small acting LowI e = value_there u small
+  patch_right k u one small acting LowS e = value_there u small
+  patch_right k u one small acting RelativeHigh e = value_there u small
+  patch_right k u one small acting RelativeLowI e = low_right k u one acting (ap is_relative_low e)
+  patch_right k u one small acting RelativeLowS e = low_right k u one acting (ap is_relative_low e)
+  patch_right k u one small acting other e = refl
 
   -- what the relocation at an instruction's start does
   pub start_patch : (k at : ℕ) → is_code (section_of input k) ≡ true
-      → is_patch (program_with input (outline input)) (patch_from input (outline input) (busy_at (section_of input k) at)) ≡ true
-  start_patch k at code = by (busy_at (section_of input k) at) refl
+      → is_patch (program_with input (outline input)) (patch_from input (outline input) (acting_at (section_of input k) at)) ≡ true
+  start_patch k at code = by (acting_at (section_of input k) at) refl
     where
-      by : (us : List Use) → busy_at (section_of input k) at ≡ us → is_patch (program_with input (outline input)) (patch_from input (outline input) us) ≡ true
+      by : (us : List Relocation) → acting_at (section_of input k) at ≡ us → is_patch (program_with input (outline input)) (patch_from input (outline input) us) ≡ true
       by [] e = refl
       by (u ∷ more) e =
           let one = sole input right k at code u more e in
-          let small = All-head IsSmallUse u more (All-same IsSmallUse (u ∷ more) (busy_at (section_of input k) at) (sym e) (small_there input is k at)) in
-          patch_right k u one.right small one.busy (kind_of u.number) refl
+          let small = All-head IsSmallUse u more (All-same IsSmallUse (u ∷ more) (acting_at (section_of input k) at) (sym e) (small_there input is k at)) in
+          patch_right k u one.right small one.acting (kind_of u.number) refl

@@ -8,14 +8,14 @@ use Rattle.least.specs.First.{first_below}
 use Rattle.least.specs.Nearest.{joined}
 use Rattle.obj_input.specs.declared.item_kind.ItemKind.{ItemKind}
 use Rattle.obj_input.specs.declared.item_kind.ItemKind.TheVariants as is
-use Rattle.obj_input.specs.declared.parts.Use.{Use}
+use Rattle.obj_input.specs.declared.parts.Relocation.{Relocation}
 use Rattle.obj_input.specs.declared.parts.Sort.TheVariants.{Code, Data}
 use Rattle.obj_input.specs.declared.parts.Definition.{Definition}
 use Rattle.obj_input.specs.declared.parts.Definition.TheVariants.{Zero, Within}
 use Rattle.obj_input.specs.Kinds.{kind_of}
-use Rattle.obj_input.specs.Input.{InputParts, SectionParts, busy_at, no_section}
+use Rattle.obj_input.specs.Input.{InputParts, SectionParts, acting_at, no_section}
 use Rattle.obj_input.specs.Code.{instr, is_pair}
-use Rattle.obj_input.specs.Layout.{blocks_reach, init_end, reach, section_address, zeros_end}
+use Rattle.obj_input.specs.DataLayout.{blocks_reach, init_end, reach, section_address, zeros_end}
 use Rattle.obj_rules.specs.Kind.{kind_at}
 use Rattle.obj_rules.specs.Target.{aim_at, direct_at}
 use Rattle.obj_program.specs.declared.item.Item.{Item}
@@ -30,10 +30,10 @@ use Rattle.obj_items.specs.ProgramOf.{program_of}
 bytes_of : ℕ → List ℕ
 bytes_of w = w % 256 ∷ w / 256 % 256 ∷ w / 2 ^ 16 % 256 ∷ w / 2 ^ 24 ∷ []
 
-code : List ℕ → List Use → SectionParts
+code : List ℕ → List Relocation → SectionParts
 code words uses = record { sort = Code; size = 4 * length words; align = 4; content = flat_map bytes_of words; uses = uses }
 
-numbers : ℕ → List ℕ → List Use → SectionParts
+numbers : ℕ → List ℕ → List Relocation → SectionParts
 numbers align content uses = record { sort = Data; size = length content; align = align; content = content; uses = uses }
 
 -- sections of which the first has the index 1
@@ -41,7 +41,7 @@ input : List SectionParts → InputParts
 input sections = record { sections = no_section ∷ sections; blocks = []; names = []; funcs = [] }
 
 -- a relocation of a type at an offset
-at : ℕ → ℕ → Definition → Use
+at : ℕ → ℕ → Definition → Relocation
 at offset number definition = record { offset = offset; number = number; addend = pos 0; definition = definition }
 
 -- a place of section 1
@@ -91,7 +91,7 @@ pointers_row : program_of pointers ≡ record {
   names = [];
 }
 unfolding bytes_of code numbers input at place own pointers program_of outline joined is_taken first_below init_below relocs_of kind_at aim_at direct_at
-    instr is_pair busy_at kind_of number_at decoded section_address reach init_end zeros_end blocks_reach
+    instr is_pair acting_at kind_of number_at decoded section_address reach init_end zeros_end blocks_reach
 pointers_row = refl
 
 -- a pair (R_RISCV_CALL_PLT) that calls what stands at 32, which prints three bytes of data: auipc and addi of their address
@@ -126,12 +126,12 @@ printer_row : program_of printer ≡ record {
   names = [];
 }
 unfolding bytes_of code numbers input at place own printer program_of outline joined is_taken first_below init_below relocs_of kind_at aim_at direct_at
-    instr is_pair busy_at kind_of number_at decoded section_address reach init_end zeros_end blocks_reach
+    instr is_pair acting_at kind_of number_at decoded section_address reach init_end zeros_end blocks_reach
 printer_row = refl
 
 -- a recursion: jal x0 to 12, and there beq x10,x0 to 40 and, at 28, jal x1 back; the branch with a relocation (R_RISCV_BRANCH) goes where
 -- that says, to 36
-recursion : List Use → InputParts
+recursion : List Relocation → InputParts
 recursion uses = input
     (code
     (0x00002537 ∷ 0xffe50513 ∷ 0x0040006f ∷ 0x00050e63 ∷ 0xff010113 ∷ 0x00113423 ∷ 0xfff50513 ∷ 0xff1ff0ef ∷ 0x00813083 ∷ 0x01010113 ∷ 0x00008067 ∷ [])
@@ -143,5 +143,5 @@ targets parts = map (λ (item : Item). item.target) (program_of parts).items
 target_rows : (targets (recursion []) ≡ None ∷ None ∷ Some 3 ∷ Some 10 ∷ None ∷ None ∷ None ∷ Some 3 ∷ None ∷ None ∷ None ∷ None ∷ [])
     × (targets (recursion (at 12 16 (Within 1 36) ∷ [])) ≡ None ∷ None ∷ Some 3 ∷ Some 9 ∷ None ∷ None ∷ None ∷ Some 3 ∷ None ∷ None ∷ None ∷ None ∷ [])
 unfolding bytes_of code input at recursion targets program_of outline joined is_taken first_below init_below relocs_of kind_at aim_at direct_at
-    instr is_pair busy_at kind_of number_at decoded section_address reach init_end zeros_end blocks_reach
+    instr is_pair acting_at kind_of number_at decoded section_address reach init_end zeros_end blocks_reach
 target_rows = (refl, refl)

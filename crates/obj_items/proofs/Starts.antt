@@ -8,13 +8,13 @@ use Rattle.rv_word.proofs.Cases.{cases_Option}
 use Rattle.rv_instr.specs.declared.instr.Instr.{Instr}
 use Rattle.rv_instr.specs.declared.instr.Instr.TheVariants.{Jalr}
 use Rattle.rv_code.specs.Decode.{decoded}
-use Rattle.obj_input.specs.declared.parts.Use.{Use}
+use Rattle.obj_input.specs.declared.parts.Relocation.{Relocation}
 use Rattle.obj_input.specs.declared.item_kind.ItemKind.{ItemKind}
 use Rattle.obj_input.specs.declared.reloc_kind.RelocKind.{RelocKind}
 use Rattle.obj_input.specs.declared.reloc_kind.RelocKind.TheVariants.{PairTarget, RelativeHigh, RelativeLowI, RelativeLowS, High, LowI, LowS}
 use Rattle.obj_input.specs.Kinds.{is_pair_target, kind_of}
-use Rattle.obj_input.specs.Use.{is_busy}
-use Rattle.obj_input.specs.Input.{InputParts, SectionParts, busy_at, is_code, section_of}
+use Rattle.obj_input.specs.Relocation.{is_acting}
+use Rattle.obj_input.specs.Input.{InputParts, SectionParts, acting_at, is_code, section_of}
 use Rattle.obj_input.specs.Code.{are_pair, are_same, auipc_register, has_pair_target, instr, is_inside, is_pair, is_start, starts_at, word, word_count}
 use Rattle.obj_rules.specs.Kind.{kind_at, pair_kind, single_kind, word_kind}
 use Rattle.obj_rules.specs.Target.{direct_at, goes_right}
@@ -29,7 +29,7 @@ use Rattle.obj_program.specs.Sound.{is_read}
 use Rattle.obj_program.specs.Suits.{names_reserved, stands_on, suits}
 use Rattle.obj_items.specs.Links.{is_taken, item_with, patch_by, patch_from, target_of}
 use Rattle.obj_items.specs.Outline.{own_word, start_at}
-use Rattle.obj_items.proofs.NoFault.{IsRight, IsRightUse, busy_right, busy_there}
+use Rattle.obj_items.proofs.NoFault.{IsRight, IsRightUse, acting_right, acting_there}
 use Rattle.obj_items.proofs.LookUp.{start_below}
 use Rattle.obj_items.proofs.Suited.{auipc_stands, lower_stands, no_end, none_reserved, pair_suits, single_suits, store_stands, upper_stands}
 
@@ -38,35 +38,35 @@ and_rest true y e h = e
 and_rest false y e h = absurd (cc)
 
 -- the one relocation of code that does something at an offset
-pub record IsSole (input : InputParts) (k at : ℕ) (u : Use) (more : List Use) : Type 0 where
+pub record IsSole (input : InputParts) (k at : ℕ) (u : Relocation) (more : List Relocation) : Type 0 where
   pub none_more : more ≡ []
   pub start : is_start (section_of input k) at ≡ true
   pub fits : fits_on (section_of input k) (at / 4) (kind_of u.number) ≡ true
   pub right : IsRightUse input k u
   pub offset : u.offset ≡ at
-  pub busy : is_busy u ≡ true
+  pub acting : is_acting u ≡ true
 
-sole_rest : (u : Use) (more : List Use) → (length (u ∷ more) == 1) ≡ true → more ≡ []
+sole_rest : (u : Relocation) (more : List Relocation) → (length (u ∷ more) == 1) ≡ true → more ≡ []
 sole_rest u [] e = refl
 sole_rest u (v ∷ more) e = let no : length (u ∷ v ∷ more) ≡ 1 = eqb-true (length (u ∷ v ∷ more)) 1 e in absurd (omega arith)
 
-pub sole : (input : InputParts) → IsRight input → (k at : ℕ) → is_code (section_of input k) ≡ true → (u : Use) (more : List Use)
-    → busy_at (section_of input k) at ≡ u ∷ more → IsSole input k at u more
+pub sole : (input : InputParts) → IsRight input → (k at : ℕ) → is_code (section_of input k) ≡ true → (u : Relocation) (more : List Relocation)
+    → acting_at (section_of input k) at ≡ u ∷ more → IsSole input k at u more
 sole input right k at code u more e =
-    let one : IsRightUse input k u = All-head (IsRightUse input k) u more (All-same (IsRightUse input k) (u ∷ more) (busy_at (section_of input k) at) (sym e) (busy_right input right k at)) in
-    let takes : (u.offset == at && is_busy u) ≡ true =
-    All-head (λ (v : Use). (v.offset == at && is_busy v) ≡ true) u more
-    (All-same (λ (v : Use). (v.offset == at && is_busy v) ≡ true) (u ∷ more) (busy_at (section_of input k) at) (sym e) (busy_there (section_of input k) at)) in
-    let both = and_parts (u.offset == at) (is_busy u) takes in
+    let one : IsRightUse input k u = All-head (IsRightUse input k) u more (All-same (IsRightUse input k) (u ∷ more) (acting_at (section_of input k) at) (sym e) (acting_right input right k at)) in
+    let takes : (u.offset == at && is_acting u) ≡ true =
+    All-head (λ (v : Relocation). (v.offset == at && is_acting v) ≡ true) u more
+    (All-same (λ (v : Relocation). (v.offset == at && is_acting v) ≡ true) (u ∷ more) (acting_at (section_of input k) at) (sym e) (acting_there (section_of input k) at)) in
+    let both = and_parts (u.offset == at) (is_acting u) takes in
     let offset : u.offset ≡ at = eqb-true u.offset at both.0 in
-    let there : stands (section_of input k) u ≡ true = not-false (stands (section_of input k) u) (and_rest (is_busy u) _ one.standing both.1) in
+    let there : stands (section_of input k) u ≡ true = not-false (stands (section_of input k) u) (and_rest (is_acting u) _ one.standing both.1) in
     let stood : stands_in_code (section_of input k) u ≡ true = rw code at there in
-    let here : (length (busy_at (section_of input k) at) == 1 && is_start (section_of input k) at && fits_on (section_of input k) (at / 4) (kind_of u.number)) ≡ true =
-    subst (λ n. (length (busy_at (section_of input k) n) == 1 && is_start (section_of input k) n && fits_on (section_of input k) (n / 4) (kind_of u.number)) ≡ true) offset stood in
-    let parts = and_parts (length (busy_at (section_of input k) at) == 1 && is_start (section_of input k) at) (fits_on (section_of input k) (at / 4) (kind_of u.number)) here in
-    let two = and_parts (length (busy_at (section_of input k) at) == 1) (is_start (section_of input k) at) parts.0 in
-    let alone : (length (u ∷ more) == 1) ≡ true = ap (λ (us : List Use). length us == 1) (sym e) ∙ two.0 in
-    record { none_more = sole_rest u more alone; start = two.1; fits = parts.1; right = one; offset = offset; busy = both.1 }
+    let here : (length (acting_at (section_of input k) at) == 1 && is_start (section_of input k) at && fits_on (section_of input k) (at / 4) (kind_of u.number)) ≡ true =
+    subst (λ n. (length (acting_at (section_of input k) n) == 1 && is_start (section_of input k) n && fits_on (section_of input k) (n / 4) (kind_of u.number)) ≡ true) offset stood in
+    let parts = and_parts (length (acting_at (section_of input k) at) == 1 && is_start (section_of input k) at) (fits_on (section_of input k) (at / 4) (kind_of u.number)) here in
+    let two = and_parts (length (acting_at (section_of input k) at) == 1) (is_start (section_of input k) at) parts.0 in
+    let alone : (length (u ∷ more) == 1) ≡ true = ap (λ (us : List Relocation). length us == 1) (sym e) ∙ two.0 in
+    record { none_more = sole_rest u more alone; start = two.1; fits = parts.1; right = one; offset = offset; acting = both.1 }
 
 -- the second word of a pair is a JALR
 same_none : (o : Option ℕ) → are_same o None ≡ false
@@ -120,7 +120,7 @@ pub pair_kind_is : (s : SectionParts) (i : ℕ) → is_pair s i ≡ true → kin
 unfolding kind_at
 pair_kind_is s i e = rw e refl
 
-pub single_kind_is : (s : SectionParts) (i : ℕ) → is_pair s i ≡ false → kind_at s i ≡ word_kind (length (busy_at s (4 * i)) == 0) (instr s i)
+pub single_kind_is : (s : SectionParts) (i : ℕ) → is_pair s i ≡ false → kind_at s i ≡ word_kind (length (acting_at s (4 * i)) == 0) (instr s i)
 unfolding kind_at
 single_kind_is s i e = rw e refl
 
@@ -131,7 +131,7 @@ linked_at input places k i kind = record {
   offset = 4 * i;
   kind = kind;
   word = own_word (section_of input k) i;
-  patch = patch_from input places (busy_at (section_of input k) (4 * i));
+  patch = patch_from input places (acting_at (section_of input k) (4 * i));
   target = target_of input places k i;
   taken = is_taken input k (4 * i);
 }
@@ -148,15 +148,15 @@ pair_use PairTarget e = refl
 pair_use other e = absurd (cc)
 
 pub pair_patch : (input : InputParts) → IsRight input → (places : List Item) (k i : ℕ) → is_code (section_of input k) ≡ true → is_pair (section_of input k) i ≡ true
-    → patch_from input places (busy_at (section_of input k) (4 * i)) ≡ put.Own
-pair_patch input right places k i code pair = by (busy_at (section_of input k) (4 * i)) refl
+    → patch_from input places (acting_at (section_of input k) (4 * i)) ≡ put.Own
+pair_patch input right places k i code pair = by (acting_at (section_of input k) (4 * i)) refl
   where
-    by : (us : List Use) → busy_at (section_of input k) (4 * i) ≡ us → patch_from input places us ≡ put.Own
+    by : (us : List Relocation) → acting_at (section_of input k) (4 * i) ≡ us → patch_from input places us ≡ put.Own
     by [] e = refl
     by (u ∷ more) e =
         let one = sole input right k (4 * i) code u more e in
-        let some : list_any (λ (v : Use). is_pair_target (kind_of v.number)) (u ∷ more) ≡ true =
-        ap (λ (us : List Use). list_any (λ (v : Use). is_pair_target (kind_of v.number)) us) (sym e) ∙ (pair_parts (section_of input k) i pair).1 in
+        let some : list_any (λ (v : Relocation). is_pair_target (kind_of v.number)) (u ∷ more) ≡ true =
+        ap (λ (us : List Relocation). list_any (λ (v : Relocation). is_pair_target (kind_of v.number)) us) (sym e) ∙ (pair_parts (section_of input k) i pair).1 in
         let here : (is_pair_target (kind_of u.number) || false) ≡ true = rw one.none_more at some in
         elim (or_cases (is_pair_target (kind_of u.number)) false here) [
           | inl target ↦ ap (patch_by input places u) (pair_use (kind_of u.number) target)
@@ -164,7 +164,7 @@ pair_patch input right places k i code pair = by (busy_at (section_of input k) (
         ]
 
 -- what a relocation does to a single instruction of its form
-patch_stands : (input : InputParts) (places : List Item) (u : Use) (i : Instr) (kind : ItemKind) (does : RelocKind) → single_kind false i ≡ Some kind
+patch_stands : (input : InputParts) (places : List Item) (u : Relocation) (i : Instr) (kind : ItemKind) (does : RelocKind) → single_kind false i ≡ Some kind
     → has_form does i ≡ true → stands_on (patch_by input places u does) kind i ≡ true
 patch_stands input places u i kind High e form = upper_stands false i kind e form
 patch_stands input places u i kind RelativeHigh e form = auipc_stands false i kind e form
@@ -176,11 +176,11 @@ patch_stands input places u i kind other e form = refl
 
 single_patch : (input : InputParts) → IsRight input → (places : List Item) (k i : ℕ) (ins : Instr) (kind : ItemKind) → is_code (section_of input k) ≡ true
     → is_pair (section_of input k) i ≡ false → instr (section_of input k) i ≡ Some ins
-    → single_kind (length (busy_at (section_of input k) (4 * i)) == 0) ins ≡ Some kind
-    → stands_on (patch_from input places (busy_at (section_of input k) (4 * i))) kind ins ≡ true
-single_patch input right places k i ins kind code single is e = by (busy_at (section_of input k) (4 * i)) refl
+    → single_kind (length (acting_at (section_of input k) (4 * i)) == 0) ins ≡ Some kind
+    → stands_on (patch_from input places (acting_at (section_of input k) (4 * i))) kind ins ≡ true
+single_patch input right places k i ins kind code single is e = by (acting_at (section_of input k) (4 * i)) refl
   where
-    by : (us : List Use) → busy_at (section_of input k) (4 * i) ≡ us → stands_on (patch_from input places us) kind ins ≡ true
+    by : (us : List Relocation) → acting_at (section_of input k) (4 * i) ≡ us → stands_on (patch_from input places us) kind ins ≡ true
     by [] none = refl
     by (u ∷ more) some =
         let one = sole input right k (4 * i) code u more some in
@@ -220,7 +220,7 @@ start_read input right places k i code starts =
       | inr single ↦ elim (cases_Option (instr (section_of input k) i)) [
         | inl none ↦ let no : true ≡ false = rw none at one.decoded in absurd (cc)
         | inr (ins, is) ↦
-            let plain = length (busy_at (section_of input k) (4 * i)) == 0 in
+            let plain = length (acting_at (section_of input k) (4 * i)) == 0 in
             let counted : single_kind plain ins ≡ Some kind = ap (word_kind plain) (sym is) ∙ sym (single_kind_is (section_of input k) i single) ∙ one.kind_is in
             let suited = single_suits plain ins kind counted in
             let going = no_end ins kind suited in

@@ -10,14 +10,14 @@ use Rattle.rv_word.proofs.Cases.{cases_Option}
 use Rattle.rv_instr.specs.declared.instr.Instr.{Instr}
 use Rattle.rv_instr.specs.declared.instr.Instr.TheVariants.{Upper, Jal, Jalr, Branch, Load, Store, Immediate, Shift, ShiftWord, Register, Fence, Ecall, Ebreak}
 use Rattle.rv_instr.specs.declared.instr.UpperOp.TheVariants.{Lui, Auipc}
-use Rattle.obj_input.specs.declared.parts.Use.{Use}
+use Rattle.obj_input.specs.declared.parts.Relocation.{Relocation}
 use Rattle.obj_input.specs.declared.parts.Definition.{Definition}
 use Rattle.obj_input.specs.declared.parts.Definition.TheVariants.{Zero, Absolute, Within, Common, Missing}
 use Rattle.obj_input.specs.declared.item_kind.ItemKind.{ItemKind}
 use Rattle.obj_input.specs.declared.item_kind.ItemKind.TheVariants as is
 use Rattle.obj_input.specs.Kinds.{kind_of}
-use Rattle.obj_input.specs.Use.{is_busy}
-use Rattle.obj_input.specs.Input.{InputParts, SectionParts, busy_at, is_code, section_of}
+use Rattle.obj_input.specs.Relocation.{is_acting}
+use Rattle.obj_input.specs.Input.{InputParts, SectionParts, acting_at, is_code, section_of}
 use Rattle.obj_input.specs.Code.{instr, is_pair, is_start, starts_at}
 use Rattle.obj_rules.specs.declared.target.Direct.{Direct}
 use Rattle.obj_rules.specs.declared.target.Direct.TheVariants.{ByBranch, ByJal, ByPair}
@@ -35,7 +35,7 @@ use Rattle.obj_items.specs.Outline.{outline}
 use Rattle.obj_items.specs.ProgramOf.{program_with}
 use Rattle.obj_items.specs.Ranges.{IsInput}
 use Rattle.obj_items.proofs.Bounds.{each_section}
-use Rattle.obj_items.proofs.NoFault.{IsRight, IsRightUse, busy_right, busy_there}
+use Rattle.obj_items.proofs.NoFault.{IsRight, IsRightUse, acting_right, acting_there}
 use Rattle.obj_items.proofs.LookUp.{place_there, start_below, start_parts}
 use Rattle.obj_items.proofs.Starts.{linked_at, linked_is, pair_jalr, pair_kind_is, pair_parts, right_start, single_kind_is, start_read}
 
@@ -130,10 +130,10 @@ direct_kind s i kind e = elim (cases_Bool (is_pair s i)) [
       ap is_some (pair_direct_is s i pair) ∙ sym (link_direct link kind linked)
   | inr single ↦ elim (cases_Option (instr s i)) [
     | inl none ↦
-        let plain = length (busy_at s (4 * i)) == 0 in
+        let plain = length (acting_at s (4 * i)) == 0 in
         let never : None ≡ Some kind = ap (word_kind plain) (sym none) ∙ sym (single_kind_is s i single) ∙ e in absurd (cc)
     | inr (ins, some) ↦
-        let plain = length (busy_at s (4 * i)) == 0 in
+        let plain = length (acting_at s (4 * i)) == 0 in
         let counted : single_kind plain ins ≡ Some kind = ap (word_kind plain) (sym some) ∙ sym (single_kind_is s i single) ∙ e in
         ap is_some (single_direct_is s i single) ∙ ap (λ (o : Option Instr). is_some (direct_word o)) some ∙ single_direct plain ins kind counted
   ]
@@ -149,12 +149,12 @@ find_of p P (y ∷ xs) x e all = elim (cases_Bool (p y)) [
   | inr other ↦ let rest : find p xs ≡ Some x = rw other at e in find_of p P xs x rest (All-tail P y xs all)
 ]
 
-known : (u : Use) → is_busy u ≡ true → missing_in_use u ≡ None → (d : Definition) → u.definition ≡ d → (z : ℤ) → aim_of d z ≡ aim.Unknown → ⊥
-known u busy none Zero is z e = cc
-known u busy none (Absolute n) is z e = cc
-known u busy none (Within k n) is z e = cc
-known u busy none (Common n) is z e = cc
-known u busy none (Missing n) is z e = let never : Some n ≡ None = rw (busy, is) at none in cc
+known : (u : Relocation) → is_acting u ≡ true → missing_in_use u ≡ None → (d : Definition) → u.definition ≡ d → (z : ℤ) → aim_of d z ≡ aim.Unknown → ⊥
+known u acting none Zero is z e = cc
+known u acting none (Absolute n) is z e = cc
+known u acting none (Within k n) is z e = cc
+known u acting none (Common n) is z e = cc
+known u acting none (Missing n) is z e = let never : Some n ≡ None = rw (acting, is) at none in cc
 
 own_known : (k at : ℕ) (d : Direct) → own_aim k at d ≡ aim.Unknown → ⊥
 own_known k at (ByBranch z) e = cc
@@ -164,14 +164,14 @@ own_known k at ByPair e = cc
 never_unknown : (input : InputParts) → IsRight input → (k i : ℕ) (d : Direct) → aim_at input k i d ≡ aim.Unknown → ⊥
 unfolding aim_at
 never_unknown input right k i d e =
-    let busy = busy_at (section_of input k) (4 * i) in
+    let acting = acting_at (section_of input k) (4 * i) in
     elim (cases_Option (guide_at (section_of input k) (4 * i) d)) [
       | inl none ↦ let own : own_aim k (4 * i) d ≡ aim.Unknown = rw none at e in own_known k (4 * i) d own
       | inr (u, some) ↦
           let guide : aim_of u.definition u.addend ≡ aim.Unknown = rw some at e in
-          let right_use = find_of (λ (v : Use). guides d (kind_of v.number)) (IsRightUse input k) busy u some (busy_right input right k (4 * i)) in
-          let takes = find_of (λ (v : Use). guides d (kind_of v.number)) (λ (v : Use). (v.offset == 4 * i && is_busy v) ≡ true) busy u some (busy_there (section_of input k) (4 * i)) in
-          known u (and_parts (u.offset == 4 * i) (is_busy u) takes).1 right_use.defined u.definition refl u.addend guide
+          let right_use = find_of (λ (v : Relocation). guides d (kind_of v.number)) (IsRightUse input k) acting u some (acting_right input right k (4 * i)) in
+          let takes = find_of (λ (v : Relocation). guides d (kind_of v.number)) (λ (v : Relocation). (v.offset == 4 * i && is_acting v) ≡ true) acting u some (acting_there (section_of input k) (4 * i)) in
+          known u (and_parts (u.offset == 4 * i) (is_acting u) takes).1 right_use.defined u.definition refl u.addend guide
     ]
 
 -- where a right aim goes, an instruction is found

@@ -12,7 +12,7 @@ use Rattle.elf_object.specs.Fault.{fault_of}
 use Rattle.elf_object.specs.Laws.{IsRightKept}
 use Rattle.elf_object.proofs.Right.{kept_right, relocations_named, sections_whole}
 use Rattle.obj_input.specs.declared.parts.Definition.{Definition}
-use Rattle.obj_input.specs.declared.parts.Use.{Use}
+use Rattle.obj_input.specs.declared.parts.Relocation.{Relocation}
 use Rattle.obj_input.specs.Input.{has_bytes}
 use Rattle.obj_items.specs.Definitions.{definition}
 use Rattle.obj_items.specs.Sections.{kept_sort, sort_of, use_at}
@@ -50,7 +50,7 @@ symbol_there bytes table k j count reloc e below same counted less is =
     let one = ap (λ (r : Reloc). r.symbol) is ∙ ap (λ (t : List ℕ). (relocation_in t j).symbol) same in
     subst (λ n. n < symbol_count bytes) (sym one) (relocations_named bytes k j e below index)
 
-pub use_is : (bytes table : List ℕ) (k j : ℕ) (reloc : Reloc) (d : Definition) (u : Use) → table ≡ relocation_bytes bytes k → reloc ≡ relocation_in table j
+pub use_is : (bytes table : List ℕ) (k j : ℕ) (reloc : Reloc) (d : Definition) (u : Relocation) → table ≡ relocation_bytes bytes k → reloc ≡ relocation_in table j
     → d ≡ definition bytes reloc.symbol → u ≡ record { offset = reloc.offset; number = reloc.kind; addend = reloc.addend; definition = d }
     → u ≡ use_at bytes k j
 use_is bytes table k j reloc d u same is stands e = rw (← same, ← is, ← stands) e

@@ -1,7 +1,7 @@
 -- What a program holds beside the symbols of its input. Only private contracts cite this.
 use Rattle.std.specs.Prelude.{◌≡◌, map}
 use Rattle.obj_input.specs.Input.{InputParts, section_count}
-use Rattle.obj_input.specs.Layout.{layout_of}
+use Rattle.obj_input.specs.DataLayout.{data_layout_of}
 use Rattle.obj_items.specs.declared.program.Held.{Held}
 use Rattle.obj_items.specs.InitialData.{init_below, relocs_of}
 use Rattle.obj_items.specs.Links.{item_with}
@@ -12,4 +12,4 @@ pub record AreContents (input : InputParts) (held : Held) : Type 0 where
   pub items : held.items.items ≡ map (item_with input (outline input)) (outline input)
   pub init : held.init.items ≡ init_below input (section_count input)
   pub relocations : held.relocations.items ≡ relocs_of input (outline input)
-  pub data_end : held.data_end ≡ (layout_of input).data_end
+  pub data_end : held.data_end ≡ (data_layout_of input).data_end

@@ -1,14 +1,14 @@
 -- The initialised data of an input before relocations, and the relocations of data.
 use Rattle.std.specs.Prelude.{ℕ, zero, suc, ◌+◌, ◌-◌, if◌then◌else◌, List, [], ◌∷◌, ◌++◌, length, replicate}
 use Rattle.std.specs.List.{flat_map}
-use Rattle.rv_word.specs.Layout.{DATA_START}
+use Rattle.rv_word.specs.MemoryMap.{DATA_START}
 use Rattle.least.specs.Nearest.{joined}
-use Rattle.obj_input.specs.declared.parts.Use.{Use}
+use Rattle.obj_input.specs.declared.parts.Relocation.{Relocation}
 use Rattle.obj_input.specs.declared.reloc_kind.RelocKind.{RelocKind}
 use Rattle.obj_input.specs.declared.reloc_kind.RelocKind.TheVariants.{InData}
 use Rattle.obj_input.specs.Kinds.{kind_of}
 use Rattle.obj_input.specs.Input.{InputParts, is_data_sort, section_count, section_of}
-use Rattle.obj_input.specs.Layout.{section_address}
+use Rattle.obj_input.specs.DataLayout.{section_address}
 use Rattle.obj_program.specs.declared.item.Item.{Item}
 use Rattle.obj_program.specs.declared.item.DataReloc.{DataReloc}
 use Rattle.obj_items.specs.Values.{use_value}
@@ -25,7 +25,7 @@ init_below input (suc k) =
     then placed (init_below input k) (section_address input k) (section_of input k).content
     else init_below input k
 
-abbrev pub reloc_by : InputParts → List Item → ℕ → Use → RelocKind → List DataReloc
+abbrev pub reloc_by : InputParts → List Item → ℕ → Relocation → RelocKind → List DataReloc
 reloc_by input places k u (InData patch) = record {
   section = k;
   at = u.offset;
@@ -35,7 +35,7 @@ reloc_by input places k u (InData patch) = record {
 } ∷ []
 reloc_by input places k u other = []
 
-abbrev pub reloc_of : InputParts → List Item → ℕ → Use → List DataReloc
+abbrev pub reloc_of : InputParts → List Item → ℕ → Relocation → List DataReloc
 reloc_of input places k u = reloc_by input places k u (kind_of u.number)
 
 -- those of a section of data, in the order of its table

@@ -2,13 +2,13 @@
 use Rattle.std.specs.Prelude.{ℕ, ℤ, pos, ◌+ℤ◌, ◌/◌, Bool, false, ◌==◌, ◌&&◌, if◌then◌else◌, Option, Some, None, option_map, option_and_then, is_some, unwrap_or, List, [], ◌∷◌}
 use Rattle.std.specs.List.{list_any}
 use Rattle.least.specs.First.{first_below}
-use Rattle.obj_input.specs.declared.parts.Use.{Use}
+use Rattle.obj_input.specs.declared.parts.Relocation.{Relocation}
 use Rattle.obj_input.specs.declared.parts.Definition.{Definition}
 use Rattle.obj_input.specs.declared.parts.Definition.TheVariants.{Within}
 use Rattle.obj_input.specs.declared.reloc_kind.RelocKind.{RelocKind}
 use Rattle.obj_input.specs.declared.reloc_kind.RelocKind.TheVariants.{High, LowI, LowS, RelativeHigh, RelativeLowI, RelativeLowS}
 use Rattle.obj_input.specs.Kinds.{kind_of, takes_address}
-use Rattle.obj_input.specs.Input.{InputParts, busy_at, section_count, section_of}
+use Rattle.obj_input.specs.Input.{InputParts, acting_at, section_count, section_of}
 use Rattle.obj_input.specs.Code.{natural}
 use Rattle.obj_rules.specs.declared.target.Direct.{Direct}
 use Rattle.obj_rules.specs.declared.target.Aim.{Aim}
@@ -25,7 +25,7 @@ abbrev pub named_place : List Item → Definition → ℕ
 named_place places (Within k value) = unwrap_or (place_of places k value) 0
 named_place places other = 0
 
-abbrev pub patch_by : InputParts → List Item → Use → RelocKind → Patch
+abbrev pub patch_by : InputParts → List Item → Relocation → RelocKind → Patch
 patch_by input places u High = put.High (use_value input places u)
 patch_by input places u LowI = put.Low (use_value input places u)
 patch_by input places u LowS = put.Low (use_value input places u)
@@ -35,7 +35,7 @@ patch_by input places u RelativeLowS = put.RelativeLow (named_place places u.def
 patch_by input places u other = put.Own
 
 -- of the first relocation that stands there; an input without a fault has no other
-abbrev pub patch_from : InputParts → List Item → List Use → Patch
+abbrev pub patch_from : InputParts → List Item → List Relocation → Patch
 patch_from input places [] = put.Own
 patch_from input places (u ∷ uses) = patch_by input places u (kind_of u.number)
 
@@ -53,14 +53,14 @@ abbrev pub spot_of : Definition → ℤ → Option (ℕ × ℕ)
 spot_of (Within k value) addend = option_map (λ n. (k, n)) (natural (pos value +ℤ addend))
 spot_of other addend = None
 
-abbrev pub pointed : Use → Option (ℕ × ℕ)
+abbrev pub pointed : Relocation → Option (ℕ × ℕ)
 pointed u = if takes_address (kind_of u.number) then spot_of u.definition u.addend else None
 
 abbrev pub is_the : ℕ → ℕ → Option (ℕ × ℕ) → Bool
 is_the k offset None = false
 is_the k offset (Some spot) = k == spot.0 && offset == spot.1
 
-abbrev pub takes : ℕ → ℕ → Use → Bool
+abbrev pub takes : ℕ → ℕ → Relocation → Bool
 takes k offset u = is_the k offset (pointed u)
 
 abbrev pub some_takes : InputParts → ℕ → ℕ → ℕ → Bool
@@ -73,7 +73,7 @@ is_taken input k offset = is_some (first_below (some_takes input k offset) (sect
 -- an instruction with all three
 abbrev pub linked : InputParts → List Item → Item → Item
 linked input places item = record item {
-  patch = patch_from input places (busy_at (section_of input item.section) item.offset);
+  patch = patch_from input places (acting_at (section_of input item.section) item.offset);
   target = target_of input places item.section (item.offset / 4);
   taken = is_taken input item.section item.offset;
 }

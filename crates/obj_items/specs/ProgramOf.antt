@@ -1,7 +1,7 @@
 -- The program of an input.
 use Rattle.std.specs.Prelude.{List, map}
 use Rattle.obj_input.specs.Input.{InputParts, section_count}
-use Rattle.obj_input.specs.Layout.{data_end}
+use Rattle.obj_input.specs.DataLayout.{data_end}
 use Rattle.obj_program.specs.declared.item.Item.{Item}
 use Rattle.obj_program.specs.Program.{Program}
 use Rattle.obj_items.specs.Outline.{outline}

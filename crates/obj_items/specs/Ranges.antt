@@ -4,7 +4,7 @@ use Rattle.std.specs.Int.{w64}
 use Rattle.obj_input.specs.declared.parts.Block.{Block}
 use Rattle.obj_input.specs.declared.parts.Definition.{Definition}
 use Rattle.obj_input.specs.declared.parts.Definition.TheVariants.{Absolute, Within}
-use Rattle.obj_input.specs.declared.parts.Use.{Use}
+use Rattle.obj_input.specs.declared.parts.Relocation.{Relocation}
 use Rattle.obj_input.specs.InOrder.{AreFew}
 use Rattle.obj_input.specs.Input.{InputParts, SectionParts, has_bytes, section_count, section_of}
 
@@ -13,7 +13,7 @@ HasSmall (Absolute value) = value < 2 ^ 64
 HasSmall (Within k value) = value < 2 ^ 64
 HasSmall other = Unit {0}
 
-pub record IsSmallUse (u : Use) : Type 0 where
+pub record IsSmallUse (u : Relocation) : Type 0 where
   pub addend : FitsSigned w64 u.addend
   pub definition : HasSmall u.definition
 

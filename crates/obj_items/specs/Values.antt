@@ -1,12 +1,12 @@
 -- What relocations refer to (RISC-V ELF psABI, "Relocations": the symbol's address and the addend), where code has places
 -- in the place of addresses. `places` are the places of the input.
 use Rattle.std.specs.Prelude.{ℕ, ℤ, pos, ◌+◌, ◌+ℤ◌, if◌then◌else◌, Option, Some, None, option_and_then, List}
-use Rattle.obj_input.specs.declared.parts.Use.{Use}
+use Rattle.obj_input.specs.declared.parts.Relocation.{Relocation}
 use Rattle.obj_input.specs.declared.parts.Definition.{Definition}
 use Rattle.obj_input.specs.declared.parts.Definition.TheVariants.{Zero, Absolute, Within, Common, Missing}
 use Rattle.obj_input.specs.Input.{InputParts, is_code, section_of}
 use Rattle.obj_input.specs.Code.{natural}
-use Rattle.obj_input.specs.Layout.{block_address, section_address}
+use Rattle.obj_input.specs.DataLayout.{block_address, section_address}
 use Rattle.obj_program.specs.declared.item.Item.{Item}
 use Rattle.obj_program.specs.declared.item.Value.{Value}
 use Rattle.obj_program.specs.declared.item.Value.TheVariants.{Number, GateOf}
@@ -35,5 +35,5 @@ value_of input places (Within k value) addend = section_value input places k val
 value_of input places (Common c) addend = Number (pos (block_address input c) +ℤ addend)
 value_of input places (Missing n) addend = Number (pos 0)
 
-abbrev pub use_value : InputParts → List Item → Use → Value
+abbrev pub use_value : InputParts → List Item → Relocation → Value
 use_value input places u = value_of input places u.definition u.addend

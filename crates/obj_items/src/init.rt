@@ -1,16 +1,16 @@
 ghost use Rattle.std.specs.Prelude.{◌≡◌, ◌<◌, ◌^◌, IfOk, OnOk};
 ghost use Rattle.obj_input.specs.Input.{section_count};
-ghost use Rattle.obj_input.specs.Layout.{layout_of, section_address};
+ghost use Rattle.obj_input.specs.DataLayout.{data_layout_of, section_address};
 ghost use Rattle.obj_items.specs.InitialData.{init_below, placed};
 
-use obj_input::{Input, Layout};
+use obj_input::{Input, DataLayout};
 use rv_word::NoMemory;
 use rv_word::memory_map::DATA_START;
 use std::alloc::Global;
 
 /// The address of the section with this index, 0 of one that is no data.
-pub(crate) fn section_address(input: &Input, layout: &Layout, k: u32) -> u128
-    requires { layout.now ≡ layout_of input.now }
+pub(crate) fn section_address(input: &Input, layout: &DataLayout, k: u32) -> u128
+    requires { layout.now ≡ data_layout_of input.now }
     ensures value { result ≡ section_address input.now k }
     ensures small { result < 2 ^ 126 }
 {
@@ -33,8 +33,8 @@ fn put_at(init: &mut Vec<u8>, address: u128, bytes: &[u8]) -> Result<(), NoMemor
 }
 
 /// The initialised data before relocations, from `DATA_START` on.
-pub(crate) fn init(alloc: Global, input: &Input, layout: &Layout) -> Result<Vec<u8>, NoMemory>
-    requires { layout.now ≡ layout_of input.now }
+pub(crate) fn init(alloc: Global, input: &Input, layout: &DataLayout) -> Result<Vec<u8>, NoMemory>
+    requires { layout.now ≡ data_layout_of input.now }
     ensures { IfOk result (λ v. v.items ≡ init_below input.now (section_count input.now)) }
 {
     let mut init = Vec::new(alloc);

@@ -1,15 +1,15 @@
 ghost use Rattle.std.specs.Prelude.{◌≡◌, ◌/◌, ◌<◌, ℕ, false, true, length, map, slice_index_or, IfOk};
-ghost use Rattle.obj_input.specs.Input.{busy_at, is_code, section_count, section_of};
+ghost use Rattle.obj_input.specs.Input.{acting_at, is_code, section_count, section_of};
 ghost use Rattle.obj_input.specs.Code.{word_count};
 ghost use Rattle.obj_input.specs.Kinds.{kind_of};
-ghost use Rattle.obj_input.specs.Layout.{layout_of};
+ghost use Rattle.obj_input.specs.DataLayout.{data_layout_of};
 ghost use Rattle.obj_program.specs.Program.{AreInOrder, is_end, no_item};
 ghost use Rattle.obj_items.specs.Links.{aimed_place, is_taken, item_with, linked, named_place, patch_by, patch_from, target_of};
 ghost use Rattle.obj_items.specs.Outline.{outline};
 ghost use Rattle.obj_items.specs.Standing.{IsInstruction};
 
 use crate::values::{place_at, use_value};
-use obj_input::{Definition, Input, ItemKind, Layout, RelocKind, Use};
+use obj_input::{Definition, Input, ItemKind, DataLayout, RelocKind, Relocation};
 use obj_program::{Item, Patch, place_in};
 use obj_rules::{Aim, aim_at, direct_at};
 use rv_word::NoMemory;
@@ -27,9 +27,9 @@ fn named_place(places: &[Item], definition: Definition) -> u64
 }
 
 /// What a relocation does to the immediate of its instruction.
-fn patch_by(input: &Input, layout: &Layout, places: &[Item], u: &Use) -> Patch
+fn patch_by(input: &Input, layout: &DataLayout, places: &[Item], u: &Relocation) -> Patch
     requires order { AreInOrder places.now }
-    requires layout { layout.now ≡ layout_of input.now }
+    requires layout { layout.now ≡ data_layout_of input.now }
     ensures { result ≡ patch_by input.now places.now u.now (kind_of u.now.number) }
 {
     match u.kind() {
@@ -44,9 +44,9 @@ fn patch_by(input: &Input, layout: &Layout, places: &[Item], u: &Use) -> Patch
 }
 
 /// What the first of these relocations does to the immediate of their instruction.
-fn patch_from(input: &Input, layout: &Layout, places: &[Item], uses: &[Use]) -> Patch
+fn patch_from(input: &Input, layout: &DataLayout, places: &[Item], uses: &[Relocation]) -> Patch
     requires order { AreInOrder places.now }
-    requires layout { layout.now ≡ layout_of input.now }
+    requires layout { layout.now ≡ data_layout_of input.now }
     ensures { result ≡ patch_from input.now places.now uses.now }
 {
     match uses {
@@ -80,14 +80,14 @@ fn target_of(input: &Input, places: &[Item], k: u32, index: u64) -> Option<u64>
 }
 
 /// An instruction with its patch, its target and this mark, which says whether its address is taken.
-fn linked(input: &Input, layout: &Layout, places: &[Item], item: &Item, taken: bool) -> Item
+fn linked(input: &Input, layout: &DataLayout, places: &[Item], item: &Item, taken: bool) -> Item
     requires order { AreInOrder places.now }
-    requires layout { layout.now ≡ layout_of input.now }
+    requires layout { layout.now ≡ data_layout_of input.now }
     requires instruction { IsInstruction input.now item.now }
     requires taken { taken ≡ is_taken input.now item.now.section item.now.offset }
     ensures { result ≡ linked input.now places.now item.now }
 {
-    let uses = input.section(item.section).busy_at(item.offset);
+    let uses = input.section(item.section).acting_at(item.offset);
     Item {
         patch: patch_from(input, layout, places, uses),
         target: target_of(input, places, item.section, item.offset / 4),
@@ -97,9 +97,9 @@ fn linked(input: &Input, layout: &Layout, places: &[Item], item: &Item, taken: b
 }
 
 /// A place with its links; an end has none.
-fn item_with(input: &Input, layout: &Layout, places: &[Item], item: &Item, taken: bool) -> Item
+fn item_with(input: &Input, layout: &DataLayout, places: &[Item], item: &Item, taken: bool) -> Item
     requires order { AreInOrder places.now }
-    requires layout { layout.now ≡ layout_of input.now }
+    requires layout { layout.now ≡ data_layout_of input.now }
     requires instruction { is_end item.now.kind ≡ false → IsInstruction input.now item.now }
     requires taken { taken ≡ is_taken input.now item.now.section item.now.offset }
     ensures { result ≡ item_with input.now places.now item.now }
@@ -115,11 +115,11 @@ fn item_with(input: &Input, layout: &Layout, places: &[Item], item: &Item, taken
 pub(crate) fn linked_places(
     alloc: Global,
     input: &Input,
-    layout: &Layout,
+    layout: &DataLayout,
     places: &[Item],
     taken: &[bool],
 ) -> Result<Vec<Item>, NoMemory>
-    requires layout { layout.now ≡ layout_of input.now }
+    requires layout { layout.now ≡ data_layout_of input.now }
     requires places { places.now ≡ outline input.now }
     requires count { length taken.now ≡ length places.now }
     requires taken { (j : ℕ) → j < length places.now → slice_index_or taken.now j false ≡ is_taken input.now (slice_index_or places.now j no_item).section (slice_index_or places.now j no_item).offset }

@@ -1,5 +1,5 @@
 ghost use Rattle.std.specs.Prelude.{◌≡◌, None, IfOk, map};
-ghost use Rattle.obj_input.specs.Layout.{layout_of};
+ghost use Rattle.obj_input.specs.DataLayout.{data_layout_of};
 ghost use Rattle.obj_rules.specs.Fault.{fault_of};
 ghost use Rattle.obj_program.specs.Program.{AreInOrder};
 ghost use Rattle.obj_program.specs.Sound.{IsSound};
@@ -19,7 +19,7 @@ use crate::ranges::program_is_sound;
 use crate::relocs::relocs;
 use crate::taken::taken;
 use elf_object::Object;
-use obj_input::{Input, Layout};
+use obj_input::{Input, DataLayout};
 use obj_program::{DataReloc, Item, Items};
 use obj_rules::fault_of;
 use rv_word::NoMemory;
@@ -38,10 +38,10 @@ struct Held {
 fn with_links(
     alloc: Global,
     input: &Input,
-    layout: &Layout,
+    layout: &DataLayout,
     places: &[Item],
 ) -> Result<Vec<Item>, NoMemory>
-    requires layout { layout.now ≡ layout_of input.now }
+    requires layout { layout.now ≡ data_layout_of input.now }
     requires places { places.now ≡ outline input.now }
     requires order { AreInOrder places.now }
     ensures { IfOk result (λ v. v.items ≡ map (item_with input.now places.now) places.now) }
@@ -54,10 +54,10 @@ fn with_links(
 fn contents(
     alloc: Global,
     input: &Input,
-    layout: &Layout,
+    layout: &DataLayout,
     places: &[Item],
 ) -> Result<Held, NoMemory>
-    requires layout { layout.now ≡ layout_of input.now }
+    requires layout { layout.now ≡ data_layout_of input.now }
     requires places { places.now ≡ outline input.now }
     requires order { AreInOrder places.now }
     ensures { IfOk result (AreContents input.now) }
@@ -79,7 +79,7 @@ fn contents_of(alloc: Global, input: &Input) -> Result<Held, NoMemory>
     ensures contents { IfOk result (AreContents input.now) }
     ensures sound { IfOk result (λ _. IsSound (program_of input.now)) }
 {
-    let layout = Layout::of(alloc, input)?;
+    let layout = DataLayout::of(alloc, input)?;
     let outline = outline(alloc, input)?;
     let places = outline.as_slice();
     program_is_sound(input, places);

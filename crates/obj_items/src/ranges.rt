@@ -5,7 +5,7 @@ ghost use Rattle.obj_items.specs.Outline.{outline};
 ghost use Rattle.obj_items.specs.ProgramOf.{program_of};
 ghost use Rattle.obj_items.specs.Ranges.{AreSections, HasSmall, IsBlock, IsInput, IsSection, IsSmallUse};
 
-use obj_input::{Block, Definition, Input, Section, Use};
+use obj_input::{Block, Definition, Input, Section, Relocation};
 use obj_program::Item;
 
 /// The numbers of a definition have 64 bits.
@@ -20,7 +20,7 @@ fn definition_fits(definition: Definition)
 }
 
 /// The numbers of a relocation have 64 bits.
-fn use_fits(u: &Use)
+fn use_fits(u: &Relocation)
     ensures { IsSmallUse u.now }
 {
     let _addend = u.addend;
@@ -28,7 +28,7 @@ fn use_fits(u: &Use)
 }
 
 /// The same of all of these.
-fn uses_fit(uses: &[Use])
+fn uses_fit(uses: &[Relocation])
     ensures { All IsSmallUse uses.now }
 {
     for u in uses {

@@ -1,14 +1,14 @@
 ghost use Rattle.std.specs.Prelude.{◌≡◌, ◌++◌, ◌+◌, ◌-◌, ◌<◌, IfOk, OnOk};
 ghost use Rattle.std.specs.List.{flat_map};
-ghost use Rattle.rv_word.specs.Layout.{DATA_START};
+ghost use Rattle.rv_word.specs.MemoryMap.{DATA_START};
 ghost use Rattle.obj_input.specs.Input.{section_count, section_of};
-ghost use Rattle.obj_input.specs.Layout.{layout_of, section_address};
+ghost use Rattle.obj_input.specs.DataLayout.{data_layout_of, section_address};
 ghost use Rattle.obj_program.specs.Program.{AreInOrder};
 ghost use Rattle.obj_items.specs.InitialData.{reloc_of, relocs_of, section_relocs};
 
 use crate::init::section_address;
 use crate::values::use_value;
-use obj_input::{Input, Layout, RelocKind, Use};
+use obj_input::{Input, DataLayout, RelocKind, Relocation};
 use obj_program::{DataReloc, Item};
 use rv_word::NoMemory;
 use rv_word::memory_map::DATA_START;
@@ -16,8 +16,8 @@ use std::alloc::Global;
 
 /// Where an offset of the section of data with this index stands in initialised data. What needs more bytes than there
 /// are addresses wants memory.
-fn offset_in(input: &Input, layout: &Layout, k: u32, at: u64) -> Result<u64, NoMemory>
-    requires { layout.now ≡ layout_of input.now }
+fn offset_in(input: &Input, layout: &DataLayout, k: u32, at: u64) -> Result<u64, NoMemory>
+    requires { layout.now ≡ data_layout_of input.now }
     ensures { IfOk result (λ offset. offset ≡ section_address input.now k - DATA_START + at) }
 {
     let start = section_address(input, layout, k).saturating_sub(u128::from(DATA_START));
@@ -31,13 +31,13 @@ fn offset_in(input: &Input, layout: &Layout, k: u32, at: u64) -> Result<u64, NoM
 fn push_reloc(
     relocs: &mut Vec<DataReloc>,
     input: &Input,
-    layout: &Layout,
+    layout: &DataLayout,
     places: &[Item],
     k: u32,
-    u: &Use,
+    u: &Relocation,
 ) -> Result<(), NoMemory>
     requires order { AreInOrder places.now }
-    requires layout { layout.now ≡ layout_of input.now }
+    requires layout { layout.now ≡ data_layout_of input.now }
     ensures { OnOk result (relocs.new.items ≡ relocs.old.items ++ reloc_of input.now places.now k u.now) }
 {
     if let RelocKind::InData(patch) = u.kind() {
@@ -56,13 +56,13 @@ fn push_reloc(
 fn push_section(
     relocs: &mut Vec<DataReloc>,
     input: &Input,
-    layout: &Layout,
+    layout: &DataLayout,
     places: &[Item],
     k: u32,
 ) -> Result<(), NoMemory>
     requires below { k < section_count input.now }
     requires order { AreInOrder places.now }
-    requires layout { layout.now ≡ layout_of input.now }
+    requires layout { layout.now ≡ data_layout_of input.now }
     ensures { OnOk result (relocs.new.items ≡ relocs.old.items ++ flat_map (reloc_of input.now places.now k) (section_of input.now k).uses) }
 {
     let uses = input.section(k).uses();
@@ -77,11 +77,11 @@ fn push_section(
 pub(crate) fn relocs(
     alloc: Global,
     input: &Input,
-    layout: &Layout,
+    layout: &DataLayout,
     places: &[Item],
 ) -> Result<Vec<DataReloc>, NoMemory>
     requires order { AreInOrder places.now }
-    requires layout { layout.now ≡ layout_of input.now }
+    requires layout { layout.now ≡ data_layout_of input.now }
     ensures { IfOk result (λ v. v.items ≡ relocs_of input.now places.now) }
 {
     let mut relocs = Vec::new(alloc);

@@ -7,7 +7,7 @@ ghost use Rattle.obj_items.specs.Sections.{kept_sort, section_in, sections_of, s
 
 use elf_object::{Object, Reloc, SectionHeader};
 use elf_tables::constants::SHT_NOBITS;
-use obj_input::{Definition, Section, Sort, Use};
+use obj_input::{Definition, Section, Sort, Relocation};
 use rv_word::NoMemory;
 use std::alloc::Global;
 
@@ -47,10 +47,10 @@ fn content<'a>(object: &Object<'a>, k: u32) -> &'a [u8]
 }
 
 /// A relocation whose symbol stands for this.
-fn with_definition(reloc: &Reloc, definition: Definition) -> Use
+fn with_definition(reloc: &Reloc, definition: Definition) -> Relocation
     ensures { result ≡ record { offset = reloc.now.offset; number = reloc.now.kind; addend = reloc.now.addend; definition = definition } }
 {
-    Use {
+    Relocation {
         offset: reloc.offset,
         number: reloc.kind,
         addend: reloc.addend,
@@ -64,7 +64,7 @@ fn uses(
     object: &Object,
     definitions: &[Definition],
     k: u32,
-) -> Result<Vec<Use>, NoMemory>
+) -> Result<Vec<Relocation>, NoMemory>
     requires below { k < e_shnum object.now }
     requires definitions { definitions.now ≡ definitions_of object.now }
     ensures { IfOk result (λ v. v.items ≡ uses_of object.now k) }

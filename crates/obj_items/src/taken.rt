@@ -4,7 +4,7 @@ ghost use Rattle.obj_input.specs.Input.{section_count, section_of};
 ghost use Rattle.obj_program.specs.Program.{AreInOrder, no_item};
 ghost use Rattle.obj_items.specs.Links.{is_taken, is_the, pointed, some_takes, spot_of, takes};
 
-use obj_input::{Definition, Input, Use, natural};
+use obj_input::{Definition, Input, Relocation, natural};
 use obj_program::{Item, place_in};
 use rv_word::NoMemory;
 use std::alloc::Global;
@@ -22,7 +22,7 @@ fn spot_of(definition: Definition, addend: i64) -> Option<(u32, u64)>
 }
 
 /// The section and the offset of the address that a relocation takes.
-fn pointed(u: &Use) -> Option<(u32, u64)>
+fn pointed(u: &Relocation) -> Option<(u32, u64)>
     ensures { result ≡ pointed u.now }
 {
     if u.kind().takes_address() {

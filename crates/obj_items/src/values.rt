@@ -1,9 +1,9 @@
 ghost use Rattle.std.specs.Prelude.{◌≡◌, ◌+◌, ◌+ℤ◌, ◌≤◌, ◌^◌, pos};
-ghost use Rattle.obj_input.specs.Layout.{layout_of};
+ghost use Rattle.obj_input.specs.DataLayout.{data_layout_of};
 ghost use Rattle.obj_program.specs.Program.{AreInOrder};
 ghost use Rattle.obj_items.specs.Values.{gate_value, place_at, section_value, use_value, value_of};
 
-use obj_input::{Definition, Input, Layout, Use, natural};
+use obj_input::{Definition, Input, DataLayout, Relocation, natural};
 use obj_program::{Item, Value, place_in};
 
 /// The place at this whole number of bytes of a section, among places in their order.
@@ -35,14 +35,14 @@ fn sum(number: u128, addend: i64) -> Value
 /// What an offset in the section with this index refers to: a gate in code, and an address in data.
 fn section_value(
     input: &Input,
-    layout: &Layout,
+    layout: &DataLayout,
     places: &[Item],
     section: u32,
     value: u64,
     addend: i64,
 ) -> Value
     requires order { AreInOrder places.now }
-    requires layout { layout.now ≡ layout_of input.now }
+    requires layout { layout.now ≡ data_layout_of input.now }
     ensures { result ≡ section_value input.now places.now section value addend }
 {
     if input.is_code(section) {
@@ -58,13 +58,13 @@ fn section_value(
 /// nowhere is 0.
 fn value_of(
     input: &Input,
-    layout: &Layout,
+    layout: &DataLayout,
     places: &[Item],
     definition: Definition,
     addend: i64,
 ) -> Value
     requires order { AreInOrder places.now }
-    requires layout { layout.now ≡ layout_of input.now }
+    requires layout { layout.now ≡ data_layout_of input.now }
     ensures { result ≡ value_of input.now places.now definition addend }
 {
     match definition {
@@ -79,9 +79,9 @@ fn value_of(
 }
 
 /// What a relocation refers to: its symbol with the addend.
-pub(crate) fn use_value(input: &Input, layout: &Layout, places: &[Item], u: &Use) -> Value
+pub(crate) fn use_value(input: &Input, layout: &DataLayout, places: &[Item], u: &Relocation) -> Value
     requires order { AreInOrder places.now }
-    requires layout { layout.now ≡ layout_of input.now }
+    requires layout { layout.now ≡ data_layout_of input.now }
     ensures { result ≡ use_value input.now places.now u.now }
 {
     value_of(input, layout, places, u.definition, u.addend)

@@ -4,7 +4,7 @@ use Rattle.std.proofs.lemmas.Bool.{cases_Bool, and_parts}
 use Rattle.std.specs.Prelude.{ℤ, List, option_and_then}
 use Rattle.rv_word.proofs.Cases.{cases_Option}
 use Rattle.rv_reloc.specs.Value.{hi20, lo12, low_bits}
-use Rattle.rv_reloc.specs.Word.{reaches}
+use Rattle.rv_reloc.specs.Word.{is_high_in_range}
 use Rattle.rv_instr.specs.declared.instr.Instr.{Instr}
 use Rattle.rv_instr.specs.declared.instr.Instr.TheVariants.{Upper, Jalr, Load, Store, Immediate}
 use Rattle.rv_code.specs.Decode.{decoded}
@@ -58,7 +58,7 @@ lower_fine : (kind : ItemKind) (i : Instr) (field : ℕ) → may_be_patched kind
 lower_fine kind i field may fine = rw (lower_suits kind i field may, lower_reserved i field) fine
 
 high_fine : (kind : ItemKind) (i j : Instr) (value : ℤ) → is_fine kind i ≡ true → high_part i value ≡ Some j → is_fine kind j ≡ true
-high_fine kind i j value fine gives = elim (cases_Bool (reaches value)) [
+high_fine kind i j value fine gives = elim (cases_Bool (is_high_in_range value)) [
   | inl e ↦
       let same : Some (with_upper i (low_bits 20 (hi20 value))) ≡ Some j = rw e at gives in
       let one : with_upper i (low_bits 20 (hi20 value)) ≡ j = cc in

@@ -5,7 +5,7 @@ use Rattle.rv_instr.specs.declared.instr.Instr.{Instr}
 use Rattle.rv_instr.specs.declared.instr.Instr.TheVariants.{Upper, Jalr, Load, Store, Immediate}
 use Rattle.rv_code.specs.Decode.{decoded}
 use Rattle.rv_reloc.specs.Value.{hi20, lo12, low_bits}
-use Rattle.rv_reloc.specs.Word.{reaches}
+use Rattle.rv_reloc.specs.Word.{is_high_in_range}
 use Rattle.obj_program.specs.declared.item.Patch.{Patch}
 use Rattle.obj_program.specs.declared.item.Patch.TheVariants as put
 use Rattle.obj_program.specs.declared.item.Value.{Value}
@@ -39,15 +39,15 @@ with_lower other field = other
 
 -- an instruction with the high part of a value, if LUI and AUIPC reach it, or with the low part
 abbrev pub high_part : Instr → ℤ → Option Instr
-high_part i value = if reaches value then Some (with_upper i (low_bits 20 (hi20 value))) else None
+high_part i value = if is_high_in_range value then Some (with_upper i (low_bits 20 (hi20 value))) else None
 
 abbrev pub low_part : Instr → ℤ → Instr
 low_part i value = with_lower i (low_bits 12 (lo12 value))
 
 -- LUI and AUIPC reach the value whose high part a patch gives to the instruction with the index k
 abbrev pub is_reached : List ℕ → List ℕ → ℕ → Patch → Bool
-is_reached gates words k (put.High v) = reaches (value_at gates v)
-is_reached gates words k (put.RelativeHigh v) = reaches (distance_to gates words k v)
+is_reached gates words k (put.High v) = is_high_in_range (value_at gates v)
+is_reached gates words k (put.RelativeHigh v) = is_high_in_range (distance_to gates words k v)
 is_reached gates words k other = true
 
 -- an instruction at the place with the index k after a patch

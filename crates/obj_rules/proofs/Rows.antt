@@ -6,12 +6,12 @@ use Rattle.rv_code.specs.Decode.{decoded}
 use Rattle.least.specs.First.{first_below}
 use Rattle.least.specs.Least.{least_below}
 use Rattle.least.specs.Nearest.{nearest, nearest_below}
-use Rattle.obj_input.specs.declared.parts.Use.{Use}
+use Rattle.obj_input.specs.declared.parts.Relocation.{Relocation}
 use Rattle.obj_input.specs.declared.parts.Sort.TheVariants.{Code, Data}
 use Rattle.obj_input.specs.declared.parts.Definition.{Definition}
 use Rattle.obj_input.specs.declared.parts.Definition.TheVariants.{Zero, Within, Missing}
 use Rattle.obj_input.specs.Kinds.{kind_of}
-use Rattle.obj_input.specs.Input.{InputParts, SectionParts, busy_at, no_section}
+use Rattle.obj_input.specs.Input.{InputParts, SectionParts, acting_at, no_section}
 use Rattle.obj_input.specs.Code.{instr, is_pair, is_start}
 use Rattle.obj_rules.specs.declared.fault.ItemFault.TheVariants.{Undecodable, ReservedRegister, BadTransfer, BadPair, RelocKind, RelocPlace, Undefined, BadCodePointer}
 use Rattle.obj_rules.specs.Kind.{kind_at}
@@ -29,11 +29,11 @@ use Rattle.obj_rules.specs.Fault.{fault_of}
 bytes_of : ℕ → List ℕ
 bytes_of w = w % 256 ∷ w / 256 % 256 ∷ w / 2 ^ 16 % 256 ∷ w / 2 ^ 24 ∷ []
 
-code : List ℕ → List Use → SectionParts
+code : List ℕ → List Relocation → SectionParts
 code words uses = record { sort = Code; size = 4 * length words; align = 4; content = flat_map bytes_of words; uses = uses }
 
 -- eight bytes of data
-numbers : List Use → SectionParts
+numbers : List Relocation → SectionParts
 numbers uses = record { sort = Data; size = 8; align = 8; content = 0 ∷ 0 ∷ 0 ∷ 0 ∷ 0 ∷ 0 ∷ 0 ∷ 0 ∷ []; uses = uses }
 
 -- what is wrong with these sections, of which the first has the index 1
@@ -41,7 +41,7 @@ input : List SectionParts → InputParts
 input sections = record { sections = no_section ∷ sections; blocks = []; names = []; funcs = [] }
 
 -- a relocation of a type at an offset
-at : ℕ → ℕ → ℤ → Definition → Use
+at : ℕ → ℕ → ℤ → Definition → Relocation
 at offset number addend definition = record { offset = offset; number = number; addend = addend; definition = definition }
 
 -- jalr x0,0(x1)
@@ -55,7 +55,7 @@ word_rows : (fault_of (input (code (0x00100f13 ∷ 0 ∷ []) [] ∷ [])) ≡ Som
     × (fault_of (input (code (0x00000517 ∷ ret ∷ []) [] ∷ [])) ≡ Some (BadPair 1 0))
     × (fault_of (input (code (0x00100513 ∷ ret ∷ []) [] ∷ [])) ≡ None)
 unfolding bytes_of code input ret fault_of undecodable reserved some_reserved bad_transfer bad_pair wrong_kind wrong_place undefined wrong_pointer
-    kind_at aim_at direct_at instr is_pair is_start busy_at kind_of number_at decoded first_below least_below nearest nearest_below
+    kind_at aim_at direct_at instr is_pair is_start acting_at kind_of number_at decoded first_below least_below nearest nearest_below
 word_rows = (refl, refl, refl, refl, refl)
 
 -- a type that code does not take, one on another instruction, a symbol that is defined nowhere, a pointer between instructions and one to
@@ -67,7 +67,7 @@ relocation_rows : (fault_of (input (code (0x00700513 ∷ ret ∷ []) (at 0 2 (po
     × (fault_of (input (code (0x00700513 ∷ ret ∷ []) [] ∷ numbers (at 0 2 (pos 8) (Within 1 0) ∷ []) ∷ [])) ≡ None)
     × (fault_of (input (code (0x00700513 ∷ 0x00700513 ∷ ret ∷ []) (at 4 2 (pos 0) Zero ∷ at 0 1 (pos 0) Zero ∷ at 0 2 (pos 0) Zero ∷ []) ∷ [])) ≡ Some (RelocKind 1 0 1))
 unfolding bytes_of code numbers input at ret fault_of undecodable reserved some_reserved bad_transfer bad_pair wrong_kind wrong_place undefined
-    wrong_pointer kind_at aim_at direct_at instr is_pair is_start busy_at kind_of number_at decoded first_below least_below nearest nearest_below
+    wrong_pointer kind_at aim_at direct_at instr is_pair is_start acting_at kind_of number_at decoded first_below least_below nearest nearest_below
 relocation_rows = (refl, refl, refl, refl, refl, refl)
 
 -- the registers of both words of a pair are named, at the pair's place; a branch into a pair; a low part names a high part of its own section
@@ -77,5 +77,5 @@ pair_rows : (fault_of (input (code (0x00000297 ∷ 0x00028f67 ∷ ret ∷ []) (a
     × (fault_of (input (code (0x00000297 ∷ 0x00028293 ∷ ret ∷ []) (at 0 23 (pos 0) (Within 1 0) ∷ at 4 24 (pos 0) (Within 1 0) ∷ []) ∷ [])) ≡ None)
     × (fault_of (input (code (0x00000297 ∷ 0x00028293 ∷ ret ∷ []) (at 0 23 (pos 0) (Within 1 0) ∷ at 4 24 (pos 0) (Within 1 4) ∷ []) ∷ [])) ≡ Some (BadPair 1 4))
 unfolding bytes_of code input at ret fault_of undecodable reserved some_reserved bad_transfer bad_pair wrong_kind wrong_place undefined wrong_pointer
-    kind_at aim_at direct_at instr is_pair is_start busy_at kind_of number_at decoded first_below least_below nearest nearest_below
+    kind_at aim_at direct_at instr is_pair is_start acting_at kind_of number_at decoded first_below least_below nearest nearest_below
 pair_rows = (refl, refl, refl, refl, refl)

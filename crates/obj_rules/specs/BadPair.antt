@@ -5,11 +5,11 @@ use Rattle.std.specs.List.{filter_map}
 use Rattle.least.specs.declared.place.Found.{Found}
 use Rattle.least.specs.First.{first_below}
 use Rattle.least.specs.Nearest.{nearer, nearest}
-use Rattle.obj_input.specs.declared.parts.Use.{Use}
+use Rattle.obj_input.specs.declared.parts.Relocation.{Relocation}
 use Rattle.obj_input.specs.declared.parts.Definition.{Definition}
 use Rattle.obj_input.specs.declared.parts.Definition.TheVariants.{Within, Missing}
 use Rattle.obj_input.specs.Kinds.{is_relative_low, kind_of}
-use Rattle.obj_input.specs.Input.{InputParts, SectionParts, busy_at, is_code, section_of}
+use Rattle.obj_input.specs.Input.{InputParts, SectionParts, acting_at, is_code, section_of}
 use Rattle.obj_input.specs.Code.{has_high_part, has_pair_target, instr, is_auipc, is_pair, is_start, word_count}
 use Rattle.obj_rules.specs.declared.fault.ItemFault.{ItemFault}
 use Rattle.obj_rules.specs.declared.fault.ItemFault.TheVariants as fault
@@ -19,7 +19,7 @@ use Rattle.obj_rules.specs.Finding.{found_at, nearest_in, place_of}
 abbrev pub is_wrong_auipc : SectionParts → ℕ → Bool
 is_wrong_auipc section i =
     is_auipc (instr section i)
-    && (length (busy_at section (4 * i)) == 0 || has_pair_target section i && not (is_pair section i))
+    && (length (acting_at section (4 * i)) == 0 || has_pair_target section i && not (is_pair section i))
 
 abbrev pub wrong_auipc : SectionParts → Option ℕ
 wrong_auipc section = if is_code section then first_below (is_wrong_auipc section) (word_count section) else None
@@ -41,11 +41,11 @@ names_high input k (Within j value) = j == k && has_relative_high (section_of in
 names_high input k (Missing n) = true
 names_high input k other = false
 
-abbrev pub is_wrong_low : InputParts → ℕ → Use → Bool
+abbrev pub is_wrong_low : InputParts → ℕ → Relocation → Bool
 is_wrong_low input k u =
     is_relative_low (kind_of u.number) && (not (int_eq u.addend (pos 0)) || not (names_high input k u.definition))
 
-abbrev pub low_at : InputParts → ℕ → Use → Option (Found ItemFault)
+abbrev pub low_at : InputParts → ℕ → Relocation → Option (Found ItemFault)
 low_at input k u = if is_wrong_low input k u then Some (found_at k u.offset (fault.BadPair k u.offset)) else None
 
 abbrev pub low_in : InputParts → ℕ → Option (Found ItemFault)

@@ -3,11 +3,11 @@ use Rattle.std.specs.Prelude.{ℕ, ℤ, pos, ◌+ℤ◌, Bool, true, not, ◌&&�
 use Rattle.std.specs.List.{filter_map}
 use Rattle.least.specs.declared.place.Found.{Found}
 use Rattle.least.specs.Nearest.{nearest}
-use Rattle.obj_input.specs.declared.parts.Use.{Use}
+use Rattle.obj_input.specs.declared.parts.Relocation.{Relocation}
 use Rattle.obj_input.specs.declared.parts.Definition.{Definition}
 use Rattle.obj_input.specs.declared.parts.Definition.TheVariants.{Within}
 use Rattle.obj_input.specs.Kinds.{is_transfer, kind_of}
-use Rattle.obj_input.specs.Use.{is_busy}
+use Rattle.obj_input.specs.Relocation.{is_acting}
 use Rattle.obj_input.specs.Input.{InputParts, is_code, section_of}
 use Rattle.obj_input.specs.Code.{at_whole, is_place}
 use Rattle.obj_rules.specs.declared.fault.ItemFault.{ItemFault}
@@ -19,10 +19,10 @@ points_right input (Within k value) addend =
     not (is_code (section_of input k) && not (at_whole (is_place (section_of input k)) (pos value +ℤ addend)))
 points_right input other addend = true
 
-abbrev pub is_wrong_pointer : InputParts → Use → Bool
-is_wrong_pointer input u = is_busy u && not (is_transfer (kind_of u.number)) && not (points_right input u.definition u.addend)
+abbrev pub is_wrong_pointer : InputParts → Relocation → Bool
+is_wrong_pointer input u = is_acting u && not (is_transfer (kind_of u.number)) && not (points_right input u.definition u.addend)
 
-abbrev pub pointer_found : InputParts → ℕ → Use → Option (Found ItemFault)
+abbrev pub pointer_found : InputParts → ℕ → Relocation → Option (Found ItemFault)
 pointer_found input k u = if is_wrong_pointer input u then Some (found_at k u.offset (fault.BadCodePointer k u.offset)) else None
 
 abbrev pub pointer_in : InputParts → ℕ → Option (Found ItemFault)

@@ -4,7 +4,7 @@ use Rattle.rv_instr.specs.declared.instr.Instr.{Instr}
 use Rattle.rv_instr.specs.declared.instr.Instr.TheVariants.{Upper, Jal, Jalr, Branch, Store, Ecall, Ebreak}
 use Rattle.rv_instr.specs.declared.instr.UpperOp.{UpperOp}
 use Rattle.rv_instr.specs.declared.instr.UpperOp.TheVariants.{Lui, Auipc}
-use Rattle.obj_input.specs.Input.{SectionParts, busy_at}
+use Rattle.obj_input.specs.Input.{SectionParts, acting_at}
 use Rattle.obj_input.specs.Code.{instr, is_pair}
 use Rattle.obj_input.specs.declared.item_kind.ItemKind.{ItemKind}
 use Rattle.obj_input.specs.declared.item_kind.ItemKind.TheVariants as is
@@ -49,4 +49,4 @@ word_kind plain None = None
 unfoldable pub kind_at : SectionParts → ℕ → Option ItemKind
 kind_at section i =
     if is_pair section i then pair_kind (instr section (i + 1)) else
-    word_kind (length (busy_at section (4 * i)) == 0) (instr section i)
+    word_kind (length (acting_at section (4 * i)) == 0) (instr section i)

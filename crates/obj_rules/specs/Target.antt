@@ -2,13 +2,13 @@
 use Rattle.std.specs.Prelude.{ℕ, ℤ, pos, ◌+◌, ◌*◌, ◌^◌, ◌+ℤ◌, ◌-ℤ◌, ◌*ℤ◌, nat_lt, Bool, true, false, if◌then◌else◌, Option, Some, None, find}
 use Rattle.rv_instr.specs.declared.instr.Instr.{Instr}
 use Rattle.rv_instr.specs.declared.instr.Instr.TheVariants.{Jal, Branch}
-use Rattle.obj_input.specs.declared.parts.Use.{Use}
+use Rattle.obj_input.specs.declared.parts.Relocation.{Relocation}
 use Rattle.obj_input.specs.declared.parts.Definition.{Definition}
 use Rattle.obj_input.specs.declared.parts.Definition.TheVariants.{Within, Missing}
 use Rattle.obj_input.specs.declared.reloc_kind.RelocKind.{RelocKind}
 use Rattle.obj_input.specs.declared.reloc_kind.RelocKind.TheVariants.{BranchTarget, JalTarget, PairTarget}
 use Rattle.obj_input.specs.Kinds.{kind_of}
-use Rattle.obj_input.specs.Input.{InputParts, SectionParts, busy_at, section_of}
+use Rattle.obj_input.specs.Input.{InputParts, SectionParts, acting_at, section_of}
 use Rattle.obj_input.specs.Code.{at_whole, instr, is_pair, is_start}
 use Rattle.obj_rules.specs.declared.target.Direct.{Direct}
 use Rattle.obj_rules.specs.declared.target.Direct.TheVariants.{ByBranch, ByJal, ByPair}
@@ -40,7 +40,7 @@ aim_of (Within k value) addend = At k (pos value +ℤ addend)
 aim_of (Missing n) addend = Unknown
 aim_of other addend = Astray
 
-abbrev pub guided : Option Use → Aim → Aim
+abbrev pub guided : Option Relocation → Aim → Aim
 guided None own = own
 guided (Some u) own = aim_of u.definition u.addend
 
@@ -50,8 +50,8 @@ own_aim k at (ByJal z) = At k (pos at +ℤ z)
 own_aim k at ByPair = Astray
 
 -- the first relocation at an offset that tells where a transfer goes
-abbrev pub guide_at : SectionParts → ℕ → Direct → Option Use
-guide_at section at direct = find (λ u. guides direct (kind_of u.number)) (busy_at section at)
+abbrev pub guide_at : SectionParts → ℕ → Direct → Option Relocation
+guide_at section at direct = find (λ u. guides direct (kind_of u.number)) (acting_at section at)
 
 -- where the direct transfer goes that starts at a word
 unfoldable pub aim_at : InputParts → ℕ → ℕ → Direct → Aim

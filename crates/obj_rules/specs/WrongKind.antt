@@ -3,7 +3,7 @@ use Rattle.std.specs.Prelude.{ℕ, Bool, true, false, not, if◌then◌else◌, 
 use Rattle.std.specs.List.{filter_map}
 use Rattle.least.specs.declared.place.Found.{Found}
 use Rattle.least.specs.Nearest.{nearest}
-use Rattle.obj_input.specs.declared.parts.Use.{Use}
+use Rattle.obj_input.specs.declared.parts.Relocation.{Relocation}
 use Rattle.obj_input.specs.declared.reloc_kind.RelocKind.{RelocKind}
 use Rattle.obj_input.specs.declared.reloc_kind.RelocKind.TheVariants.{Nothing, InData, Unknown}
 use Rattle.obj_input.specs.Kinds.{kind_of}
@@ -22,10 +22,10 @@ is_for_data Nothing = true
 is_for_data (InData patch) = true
 is_for_data other = false
 
-abbrev pub is_wrong_kind : SectionParts → Use → Bool
+abbrev pub is_wrong_kind : SectionParts → Relocation → Bool
 is_wrong_kind section u = not (if is_code section then is_for_code (kind_of u.number) else is_for_data (kind_of u.number))
 
-abbrev pub kind_found : SectionParts → ℕ → Use → Option (Found ItemFault)
+abbrev pub kind_found : SectionParts → ℕ → Relocation → Option (Found ItemFault)
 kind_found section k u = if is_wrong_kind section u then Some (found_at k u.offset (fault.RelocKind k u.offset u.number)) else None
 
 abbrev pub kind_in : InputParts → ℕ → Option (Found ItemFault)

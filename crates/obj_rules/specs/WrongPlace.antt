@@ -8,12 +8,12 @@ use Rattle.rv_instr.specs.declared.instr.Instr.TheVariants.{Upper, Jal, Jalr, Br
 use Rattle.rv_instr.specs.declared.instr.UpperOp.{UpperOp}
 use Rattle.rv_instr.specs.declared.instr.UpperOp.TheVariants.{Lui, Auipc}
 use Rattle.rv_reloc.specs.Data.{size_of}
-use Rattle.obj_input.specs.declared.parts.Use.{Use}
+use Rattle.obj_input.specs.declared.parts.Relocation.{Relocation}
 use Rattle.obj_input.specs.declared.reloc_kind.RelocKind.{RelocKind}
 use Rattle.obj_input.specs.declared.reloc_kind.RelocKind.TheVariants.{BranchTarget, JalTarget, PairTarget, RelativeHigh, RelativeLowI, RelativeLowS, High, LowI, LowS, InData}
 use Rattle.obj_input.specs.Kinds.{kind_of}
-use Rattle.obj_input.specs.Use.{is_busy}
-use Rattle.obj_input.specs.Input.{InputParts, SectionParts, busy_at, is_code, is_zeros_sort, section_of}
+use Rattle.obj_input.specs.Relocation.{is_acting}
+use Rattle.obj_input.specs.Input.{InputParts, SectionParts, acting_at, is_code, is_zeros_sort, section_of}
 use Rattle.obj_input.specs.Code.{instr, is_auipc, is_pair, is_start}
 use Rattle.obj_rules.specs.declared.fault.ItemFault.{ItemFault}
 use Rattle.obj_rules.specs.declared.fault.ItemFault.TheVariants as fault
@@ -73,25 +73,25 @@ abbrev pub fits_on : SectionParts → ℕ → RelocKind → Bool
 fits_on section i kind = if is_pair section i then pair_has_form kind else word_has_form kind (instr section i)
 
 -- a relocation of code: on an instruction of its form, and alone there
-abbrev pub stands_in_code : SectionParts → Use → Bool
+abbrev pub stands_in_code : SectionParts → Relocation → Bool
 stands_in_code section u =
-    length (busy_at section u.offset) == 1 && is_start section u.offset && fits_on section (u.offset / 4) (kind_of u.number)
+    length (acting_at section u.offset) == 1 && is_start section u.offset && fits_on section (u.offset / 4) (kind_of u.number)
 
 abbrev pub width : RelocKind → ℕ
 width (InData patch) = size_of patch
 width other = 0
 
 -- a relocation of data: on bytes that are in the file
-abbrev pub stands_in_data : SectionParts → Use → Bool
+abbrev pub stands_in_data : SectionParts → Relocation → Bool
 stands_in_data section u = not (is_zeros_sort section.sort) && not (nat_lt section.size (u.offset + width (kind_of u.number)))
 
-abbrev pub stands : SectionParts → Use → Bool
+abbrev pub stands : SectionParts → Relocation → Bool
 stands section u = if is_code section then stands_in_code section u else stands_in_data section u
 
-abbrev pub is_wrong_place : SectionParts → Use → Bool
-is_wrong_place section u = is_busy u && not (stands section u)
+abbrev pub is_wrong_place : SectionParts → Relocation → Bool
+is_wrong_place section u = is_acting u && not (stands section u)
 
-abbrev pub place_found : SectionParts → ℕ → Use → Option (Found ItemFault)
+abbrev pub place_found : SectionParts → ℕ → Relocation → Option (Found ItemFault)
 place_found section k u = if is_wrong_place section u then Some (found_at k u.offset (fault.RelocPlace k u.offset)) else None
 
 abbrev pub place_in : InputParts → ℕ → Option (Found ItemFault)

@@ -4,7 +4,7 @@ ghost use Rattle.obj_rules.specs.CodePointer.{is_wrong_pointer, pointer_found, p
 
 use crate::fault::{ItemFault, found_at};
 use least::{Found, nearest};
-use obj_input::{Definition, Input, Use};
+use obj_input::{Definition, Input, Relocation};
 
 /// Whether a definition and an addend are no address in code, or a place.
 fn points_right(input: &Input, definition: Definition, addend: i64) -> bool
@@ -20,14 +20,14 @@ fn points_right(input: &Input, definition: Definition, addend: i64) -> bool
 }
 
 /// Whether the address of a relocation, which names no transfer's target, is in code and no place.
-fn is_wrong_pointer(input: &Input, u: &Use) -> bool
+fn is_wrong_pointer(input: &Input, u: &Relocation) -> bool
     ensures { result ≡ is_wrong_pointer input.now u.now }
 {
-    u.is_busy() && !u.kind().is_transfer() && !points_right(input, u.definition, u.addend)
+    u.is_acting() && !u.kind().is_transfer() && !points_right(input, u.definition, u.addend)
 }
 
 /// Such a relocation in the section with the index `k`, as a finding.
-fn pointer_found(input: &Input, k: u32, u: &Use) -> Option<Found<ItemFault>>
+fn pointer_found(input: &Input, k: u32, u: &Relocation) -> Option<Found<ItemFault>>
     ensures { result ≡ pointer_found input.now k u.now }
 {
     if is_wrong_pointer(input, u) {

@@ -88,6 +88,6 @@ pub fn kind_at(section: &Section, index: u64) -> Option<ItemKind>
     if section.is_pair(index) {
         return pair_kind(section.instr_after(index));
     }
-    let plain = section.busy_at(section.offset_of(index)).is_empty();
+    let plain = section.acting_at(section.offset_of(index)).is_empty();
     word_kind(plain, section.instr(index))
 }

@@ -5,7 +5,7 @@ ghost use Rattle.obj_rules.specs.BadPair.{auipc_in, bad_pair_in, has_relative_hi
 
 use crate::fault::{ItemFault, found_at};
 use least::{Found, first_below_u64, nearer, nearest};
-use obj_input::{Definition, Input, Section, Use, is_auipc};
+use obj_input::{Definition, Input, Section, Relocation, is_auipc};
 
 /// Whether the word of code with this index is an AUIPC without a relocation, or without the JALR that its relocation
 /// asks for.
@@ -15,7 +15,7 @@ fn is_wrong_auipc(section: &Section, index: u64) -> bool
     ensures { result ≡ is_wrong_auipc section.now index }
 {
     is_auipc(&section.instr(index))
-        && (section.busy_at(section.offset_of(index)).is_empty()
+        && (section.acting_at(section.offset_of(index)).is_empty()
             || section.has_pair_target(index) && !section.is_pair(index))
 }
 
@@ -71,7 +71,7 @@ fn names_high(input: &Input, k: u32, definition: Definition) -> bool
 }
 
 /// Whether a relocation is a low part without its high part.
-fn is_wrong_low(input: &Input, k: u32, u: &Use) -> bool
+fn is_wrong_low(input: &Input, k: u32, u: &Relocation) -> bool
     requires { k < section_count input.now }
     ensures { result ≡ is_wrong_low input.now k u.now }
 {
@@ -79,7 +79,7 @@ fn is_wrong_low(input: &Input, k: u32, u: &Use) -> bool
 }
 
 /// Such a relocation, as a finding.
-fn low_at(input: &Input, k: u32, u: &Use) -> Option<Found<ItemFault>>
+fn low_at(input: &Input, k: u32, u: &Relocation) -> Option<Found<ItemFault>>
     requires { k < section_count input.now }
     ensures { result ≡ low_at input.now k u.now }
 {

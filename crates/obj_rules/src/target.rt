@@ -1,10 +1,10 @@
 ghost use Rattle.std.specs.Prelude.{◌≡◌, ◌<◌, ◌*◌, pos, ◌*ℤ◌, true, find};
-ghost use Rattle.obj_input.specs.Input.{busy_at, is_code, section_count, section_of};
+ghost use Rattle.obj_input.specs.Input.{acting_at, is_code, section_count, section_of};
 ghost use Rattle.obj_input.specs.Code.{word_count};
 ghost use Rattle.obj_input.specs.Kinds.{kind_of};
 ghost use Rattle.obj_rules.specs.Target.{aim_at, aim_of, direct_at, direct_word, goes_right, guide_at, guided, guides, may_aim, own_aim, signed};
 
-use obj_input::{Definition, Input, RelocKind, Section, Use};
+use obj_input::{Definition, Input, RelocKind, Section, Relocation};
 use rv_instr::{Immediate, Instr};
 
 /// A transfer that says where it goes, with its own offset from where it stands.
@@ -114,18 +114,18 @@ fn own_aim(section: u32, offset: u64, direct: Direct) -> Aim
 }
 
 /// The first relocation that tells where the transfer at this offset goes.
-fn guide_at(section: &Section, offset: u64, direct: Direct) -> Option<Use>
+fn guide_at(section: &Section, offset: u64, direct: Direct) -> Option<Relocation>
     ensures { result ≡ guide_at section.now offset direct }
 {
     section
-        .busy_at(offset)
+        .acting_at(offset)
         .iter()
         .copied()
         .find(|u| guides(direct, u.kind()))
 }
 
 /// Where a relocation leads, if there is one, and else the transfer's own offset.
-fn guided(guide: Option<Use>, own: Aim) -> Aim
+fn guided(guide: Option<Relocation>, own: Aim) -> Aim
     ensures { result ≡ guided guide own }
 {
     match guide {

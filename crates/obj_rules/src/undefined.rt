@@ -4,7 +4,7 @@ ghost use Rattle.obj_rules.specs.Undefined.{missing_among, missing_at, missing_i
 
 use crate::fault::ItemFault;
 use least::{least_below, least_below_u64};
-use obj_input::{Definition, Input, Use};
+use obj_input::{Definition, Input, Relocation};
 
 /// The number of a symbol that is defined nowhere.
 fn missing_symbol(definition: Definition) -> Option<u64>
@@ -17,10 +17,10 @@ fn missing_symbol(definition: Definition) -> Option<u64>
 }
 
 /// The number of the symbol that a relocation that does something names, if that is defined nowhere.
-fn missing_in_use(u: &Use) -> Option<u64>
+fn missing_in_use(u: &Relocation) -> Option<u64>
     ensures { result ≡ missing_in_use u.now }
 {
-    if u.is_busy() {
+    if u.is_acting() {
         missing_symbol(u.definition)
     } else {
         None
@@ -28,14 +28,14 @@ fn missing_in_use(u: &Use) -> Option<u64>
 }
 
 /// The same of the relocation with this index.
-fn missing_at(uses: &[Use], index: u64) -> Option<u64>
+fn missing_at(uses: &[Relocation], index: u64) -> Option<u64>
     ensures { result ≡ missing_at uses.now index }
 {
     missing_in_use(uses.get(index as usize)?)
 }
 
 /// The least number of some relocations.
-fn missing_among(uses: &[Use]) -> Option<u64>
+fn missing_among(uses: &[Relocation]) -> Option<u64>
     ensures { result ≡ missing_among uses.now }
 {
     least_below_u64(uses.len() as u64, |index| missing_at(uses, index))

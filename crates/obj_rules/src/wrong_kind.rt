@@ -4,7 +4,7 @@ ghost use Rattle.obj_rules.specs.WrongKind.{is_for_code, is_for_data, is_wrong_k
 
 use crate::fault::{ItemFault, found_at};
 use least::{Found, nearest};
-use obj_input::{Input, RelocKind, Section, Use};
+use obj_input::{Input, RelocKind, Section, Relocation};
 
 /// Whether code takes relocations of this kind.
 fn is_for_code(kind: RelocKind) -> bool
@@ -21,7 +21,7 @@ fn is_for_data(kind: RelocKind) -> bool
 }
 
 /// Whether a relocation is of a kind that its section does not take.
-fn is_wrong_kind(section: &Section, u: &Use) -> bool
+fn is_wrong_kind(section: &Section, u: &Relocation) -> bool
     ensures { result ≡ is_wrong_kind section.now u.now }
 {
     if section.is_code() {
@@ -32,7 +32,7 @@ fn is_wrong_kind(section: &Section, u: &Use) -> bool
 }
 
 /// Such a relocation in the section with the index `k`, as a finding.
-fn kind_found(section: &Section, k: u32, u: &Use) -> Option<Found<ItemFault>>
+fn kind_found(section: &Section, k: u32, u: &Relocation) -> Option<Found<ItemFault>>
     ensures { result ≡ kind_found section.now k u.now }
 {
     if is_wrong_kind(section, u) {

@@ -5,7 +5,7 @@ ghost use Rattle.obj_rules.specs.WrongPlace.{fits_on, has_form, is_i_form, is_lu
 
 use crate::fault::{ItemFault, found_at};
 use least::{Found, nearest};
-use obj_input::{Input, RelocKind, Section, Use};
+use obj_input::{Input, RelocKind, Section, Relocation};
 use rv_instr::{Instr, Reg, UpperOp};
 
 /// Whether an instruction is of the I form with an immediate of 12 bits.
@@ -91,10 +91,10 @@ fn fits_on(section: &Section, index: u64, kind: RelocKind) -> bool
 }
 
 /// Whether a relocation stands on an instruction of its form, and alone.
-fn stands_in_code(section: &Section, u: &Use) -> bool
+fn stands_in_code(section: &Section, u: &Relocation) -> bool
     ensures { result ≡ stands_in_code section.now u.now }
 {
-    section.busy_at(u.offset).len() == 1
+    section.acting_at(u.offset).len() == 1
         && section.is_start(u.offset)
         && fits_on(section, u.offset / 4, u.kind())
 }
@@ -110,7 +110,7 @@ fn width(kind: RelocKind) -> u64
 }
 
 /// Whether a relocation stands on bytes that are in the file.
-fn stands_in_data(section: &Section, u: &Use) -> bool
+fn stands_in_data(section: &Section, u: &Relocation) -> bool
     ensures { result ≡ stands_in_data section.now u.now }
 {
     !section.is_zeros()
@@ -118,7 +118,7 @@ fn stands_in_data(section: &Section, u: &Use) -> bool
 }
 
 /// Whether a relocation stands where it may.
-fn stands(section: &Section, u: &Use) -> bool
+fn stands(section: &Section, u: &Relocation) -> bool
     ensures { result ≡ stands section.now u.now }
 {
     if section.is_code() {
@@ -129,14 +129,14 @@ fn stands(section: &Section, u: &Use) -> bool
 }
 
 /// Whether a relocation does something where it may not stand.
-fn is_wrong_place(section: &Section, u: &Use) -> bool
+fn is_wrong_place(section: &Section, u: &Relocation) -> bool
     ensures { result ≡ is_wrong_place section.now u.now }
 {
-    u.is_busy() && !stands(section, u)
+    u.is_acting() && !stands(section, u)
 }
 
 /// Such a relocation in the section with the index `k`, as a finding.
-fn place_found(section: &Section, k: u32, u: &Use) -> Option<Found<ItemFault>>
+fn place_found(section: &Section, k: u32, u: &Relocation) -> Option<Found<ItemFault>>
     ensures { result ≡ place_found section.now k u.now }
 {
     if is_wrong_place(section, u) {

@@ -1,7 +1,7 @@
 -- Worked runs, computed from the definition step by step: how many steps each takes to its stop.
 use Rattle.std.proofs.Common.{◌≡◌, ℕ, List, [], ◌∷◌, ◌++◌, refl, replicate}
 use Rattle.rv_word.specs.Image.{Contents}
-use Rattle.rv_word.specs.Layout.{version_1}
+use Rattle.rv_word.specs.MemoryMap.{version_1}
 use Rattle.rv_word.specs.Memory.{loaded, placed, write}
 use Rattle.rv_code.specs.Decode.{decoded}
 use Rattle.rv_code.specs.Run.{run, ByteChange}

@@ -1,6 +1,6 @@
 -- A disturbed run: before each step any list of changes to data bytes may happen.
 use Rattle.std.specs.Prelude.{ℕ, ◌<◌, ◌^◌, ◌==◌, List, [], ◌∷◌, if◌then◌else◌}
-use Rattle.rv_word.specs.Layout.{Profile, DATA_END}
+use Rattle.rv_word.specs.MemoryMap.{Profile, DATA_END}
 use Rattle.rv_word.specs.Memory.{Memory}
 use Rattle.rv_code.specs.State.{Hart, Shared, After}
 use Rattle.rv_code.specs.Step.{step, stops}

@@ -2,7 +2,7 @@
 -- left, the output, the system calls made).
 use Rattle.std.specs.Prelude.{ℕ, ◌%◌, ◌^◌, ◌==◌, ◌||◌, List, [], ◌∷◌, Option, Some, None, if◌then◌else◌}
 use Rattle.rv_word.specs.Image.{Contents}
-use Rattle.rv_word.specs.Layout.{START}
+use Rattle.rv_word.specs.MemoryMap.{START}
 use Rattle.rv_word.specs.Memory.{Memory, loaded}
 use Rattle.rv_instr.specs.Registers.{Registers}
 use Rattle.rv_code.specs.declared.event.Event.{Event}

@@ -7,7 +7,7 @@ use Rattle.std.proofs.lemmas.List.{length-append}
 use Rattle.std.proofs.Math.ListN.{get_or-append}
 use Rattle.std.proofs.Math.Seq.{get_or-append_seam}
 use Rattle.rv_word.specs.Image.{Contents}
-use Rattle.rv_word.specs.Layout.{CODE_START, CODE_SIZE, DATA_START, DATA_END, SHADOW_START, can_store, lies_within, version_1}
+use Rattle.rv_word.specs.MemoryMap.{CODE_START, CODE_SIZE, DATA_START, DATA_END, SHADOW_START, can_store, lies_within, version_1}
 use Rattle.rv_word.specs.Memory.{Memory, loaded, placed, read, write, zeros}
 use Rattle.rv_word.specs.Same.{SameOn}
 use Rattle.rv_instr.specs.declared.instr.Instr.{Instr}

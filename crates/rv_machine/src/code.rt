@@ -1,5 +1,5 @@
 ghost use Rattle.std.specs.Prelude.{◌≡◌, ◌+◌, ◌*◌, ◌<◌, ◌≤◌, [], ℕ, Some, IfOk, length, slice_get};
-ghost use Rattle.rv_word.specs.Layout.{CODE_SIZE, CODE_START};
+ghost use Rattle.rv_word.specs.MemoryMap.{CODE_SIZE, CODE_START};
 ghost use Rattle.rv_word.specs.Memory.{read};
 ghost use Rattle.rv_mem.specs.Cells.{memory_of};
 ghost use Rattle.rv_code.specs.Decode.{decoded};

@@ -1,5 +1,5 @@
 ghost use Rattle.std.specs.Prelude.{◌≡◌, ◌+◌, ◌*◌, ◌/◌, ◌<◌, ◌≤◌, ◌^◌, [], ◌∷◌, length, true, IfOk, IsSome, OnOk, OnErr, IsTrue};
-ghost use Rattle.rv_word.specs.Layout.{can_store, version_1, DATA_START, DATA_END};
+ghost use Rattle.rv_word.specs.MemoryMap.{can_store, version_1, DATA_START, DATA_END};
 ghost use Rattle.rv_word.specs.Memory.{placed, read, zeros};
 ghost use Rattle.rv_instr.specs.Registers.{get_reg, set_reg};
 ghost use Rattle.rv_code.specs.Decode.{decoded};

@@ -1,6 +1,6 @@
 -- How memory is kept, and what it holds at each address.
 use Rattle.std.specs.Prelude.{ℕ, ◌+◌, ◌-◌, ◌/◌, ◌≤◌, ◌<◌, ◌^◌, ◌==◌, nat_lt, Bool, ◌||◌, ◌&&◌, if◌then◌else◌, List, slice_index, length, IsTrue}
-use Rattle.rv_word.specs.Layout.{DATA_END, CODE_START, CODE_SIZE, SHADOW_START, PART_SIZE, lies_within}
+use Rattle.rv_word.specs.MemoryMap.{DATA_END, CODE_START, CODE_SIZE, SHADOW_START, PART_SIZE, lies_within}
 use Rattle.rv_word.specs.Memory.{Memory}
 use Rattle.rv_mem.specs.Pages.{PAGE_SIZE, Paged, byte_of, is_made}
 

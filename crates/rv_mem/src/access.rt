@@ -1,5 +1,5 @@
 ghost use Rattle.std.specs.Prelude.{◌≡◌, ◌≤◌, ◌+◌, ◌<◌, ◌^◌};
-ghost use Rattle.rv_word.specs.Layout.{can_load, can_store, lies_within, region_of, version_1};
+ghost use Rattle.rv_word.specs.MemoryMap.{can_load, can_store, lies_within, region_of, version_1};
 ghost use Rattle.rv_mem.specs.Cells.{is_paged};
 
 use rv_word::Region;

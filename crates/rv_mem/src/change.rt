@@ -1,5 +1,5 @@
 ghost use Rattle.std.specs.Prelude.{◌≡◌, ◌<◌, ◌^◌, ◌↔◌, IfSome, IsSome};
-ghost use Rattle.rv_word.specs.Layout.{DATA_END};
+ghost use Rattle.rv_word.specs.MemoryMap.{DATA_END};
 
 use rv_word::memory_map::DATA_END;
 use std::marker::Model;
@@ -13,7 +13,7 @@ pub struct Change {
 
 impl Model for Change {
     ghost use Rattle.std.specs.Prelude.{ℕ, ◌<◌};
-    ghost use Rattle.rv_word.specs.Layout.{DATA_END};
+    ghost use Rattle.rv_word.specs.MemoryMap.{DATA_END};
 
     ghost Value = { ℕ × ℕ };
 

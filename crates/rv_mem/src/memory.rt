@@ -1,5 +1,5 @@
 ghost use Rattle.std.specs.Prelude.{◌≡◌, ℕ, ◌+◌, ◌%◌, ◌≤◌, ◌<◌, ◌^◌, ◌↔◌, nat_le, IfOk, OnOk, OnErr, IsErr, IsErrOf, IsTrue, true, false, length, Result, slice_index};
-ghost use Rattle.rv_word.specs.Layout.{can_load, can_store, version_1, DATA_START, DATA_END, CODE_START, CODE_SIZE};
+ghost use Rattle.rv_word.specs.MemoryMap.{can_load, can_store, version_1, DATA_START, DATA_END, CODE_START, CODE_SIZE};
 ghost use Rattle.rv_word.specs.Memory.{placed, read, write, zeros, loaded};
 ghost use Rattle.rv_mem.specs.Access.{IsAccessSize};
 ghost use Rattle.rv_mem.specs.Cells.{memory_of, has_room, HasRoom, with_byte, AreBytes, place_of};

@@ -6,7 +6,7 @@ use Rattle.std.specs.Int.{int_div_euclid}
 use Rattle.std.proofs.lemmas.Bool.{cases_lt}
 use Rattle.std.proofs.lemmas.Int.{ints, int_rem_euclid_is}
 use Rattle.rv_reloc.specs.Value.{hi20, lo12, low_bits}
-use Rattle.rv_reloc.specs.Word.{with_u, with_i, with_s, reaches}
+use Rattle.rv_reloc.specs.Word.{with_u, with_i, with_s, is_high_in_range}
 use Rattle.rv_reloc.specs.Pair.{imm_u, imm_i, imm_s, sum_of, HighAndLow, LowIsSmall, PartsAddUp}
 
 in_u : (imm word : ℕ) → imm < 2 ^ 20 → word < 2 ^ 32 → imm_u (with_u imm word) ≡ imm * 2 ^ 12
@@ -53,7 +53,7 @@ negative_bits : (q : ℕ) → q < 2 ^ 20 → low_bits 20 (neg_ℤ (pos q)) ≡ (
 negative_bits zero h = refl
 negative_bits (suc q) h = omega arith
 
-sum : (z : ℤ) → IsTrue (reaches z) → sum_of (low_bits 20 (hi20 z) * 2 ^ 12) (low_bits 12 z) ≡ low_bits 64 z
+sum : (z : ℤ) → IsTrue (is_high_in_range z) → sum_of (low_bits 20 (hi20 z) * 2 ^ 12) (low_bits 12 z) ≡ low_bits 64 z
 sum (pos n) h =
     let b : n + 2048 < 2 ^ 31 = grind (arith, ints) in
     grind arith

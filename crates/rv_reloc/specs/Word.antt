@@ -26,12 +26,12 @@ patched Lo12I value word = with_i (low_bits 12 (lo12 value)) word
 patched Lo12S value word = with_s (low_bits 12 (lo12 value)) word
 
 -- LUI and AUIPC reach 2 GiB both ways
-abbrev pub reaches : ℤ → Bool
-reaches value = is_between (neg_ℤ (pos (2 ^ 31))) (pos (2 ^ 31)) (value +ℤ pos 0x800)
+abbrev pub is_high_in_range : ℤ → Bool
+is_high_in_range value = is_between (neg_ℤ (pos (2 ^ 31))) (pos (2 ^ 31)) (value +ℤ pos 0x800)
 
 -- the values that the relocation takes
 abbrev pub takes : CodePatch → ℤ → Bool
-takes Hi20 value = reaches value
-takes PcrelHi20 value = reaches value
+takes Hi20 value = is_high_in_range value
+takes PcrelHi20 value = is_high_in_range value
 takes Lo12I value = true
 takes Lo12S value = true

@@ -1,6 +1,6 @@
 ghost use Rattle.std.specs.Prelude.{◌≡◌, ◌<◌, ◌^◌, IfOk, OnOk, OnErr, IsTrue, IsFalse};
 ghost use Rattle.rv_reloc.specs.Value.{hi20, lo12, low_bits};
-ghost use Rattle.rv_reloc.specs.Word.{patched, reaches, takes, with_i, with_s, with_u};
+ghost use Rattle.rv_reloc.specs.Word.{patched, is_high_in_range, takes, with_i, with_s, with_u};
 
 use super::kinds::{CodePatch, RelocRange};
 
@@ -23,8 +23,8 @@ pub fn patch(kind: CodePatch, word: u32, value: i128) -> Result<u32, RelocRange>
 pub fn high(value: i128) -> Result<u32, RelocRange>
     ensures value { IfOk result (λ bits. bits ≡ low_bits 20 (hi20 value)) }
     ensures small { IfOk result (λ bits. bits < 2 ^ 20) }
-    ensures taken { OnOk result (IsTrue (reaches value)) }
-    ensures refused { OnErr result (IsFalse (reaches value)) }
+    ensures taken { OnOk result (IsTrue (is_high_in_range value)) }
+    ensures refused { OnErr result (IsFalse (is_high_in_range value)) }
 {
     if value < -0x8000_0800 || value > 0x7fff_f7ff {
         return Err(RelocRange);

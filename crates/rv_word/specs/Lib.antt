@@ -1,5 +1,5 @@
 pub mod Bits
-pub mod Layout
+pub mod MemoryMap
 pub mod Memory
 pub mod Image
 pub mod Same

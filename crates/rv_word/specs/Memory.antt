@@ -1,6 +1,6 @@
 -- Memory as a function from addresses to bytes, little-endian reads and writes.
 use Rattle.std.specs.Prelude.{ℕ, zero, suc, ◌+◌, ◌-◌, ◌*◌, ◌/◌, ◌%◌, ◌^◌, nat_lt, nat_le, ◌&&◌, if◌then◌else◌, List, slice_index, length}
-use Rattle.rv_word.specs.Layout.{CODE_START, DATA_START}
+use Rattle.rv_word.specs.MemoryMap.{CODE_START, DATA_START}
 use Rattle.rv_word.specs.Image.{Contents}
 
 abbrev pub Memory : Type 0

@@ -5,7 +5,7 @@ use Rattle.std.specs.List.{list_all}
 use Rattle.std.specs.List.Sorted.{IsStrictlyIncreasing}
 use Rattle.std.proofs.lemmas.Bool.{and_parts, ltb-true}
 use Rattle.std.proofs.lemmas.List.{append-nil, drop_all}
-use Rattle.rv_word.specs.Layout.{CODE_SIZE, CODE_START, UNITS_START}
+use Rattle.rv_word.specs.MemoryMap.{CODE_SIZE, CODE_START, UNITS_START}
 use Rattle.cfi_graph.specs.declared.map.MapLine.{MapLine}
 use Rattle.cfi_graph.specs.Graph.{is_rising}
 use Rattle.cfi_graph.specs.Map.{IsMap, is_gate, map_line_below, map_line_in_range, place_below}
@@ -13,8 +13,9 @@ use Rattle.obj_program.specs.Program.{Program, count}
 use Rattle.cfi_flow.specs.Closed.{ClosedGraph}
 use Rattle.cfi_flow.specs.LegalMap.{IsLegalMap, gates_of}
 use Rattle.cfi_flow.specs.Placement.{gate_size, words_from}
-use Rattle.src_machine.specs.Placed.{AreRead, IsPlaced, instr_in}
-use Rattle.src_machine.specs.ProgramAt.{EndsLast, layout_of}
+use Rattle.src_machine.specs.Placed.{AreRead, HoldsItsWords, instr_in}
+use Rattle.src_machine.specs.ProgramAt.{EndsLast}
+use Rattle.cfi_flow.specs.GraphAtMap.{program_at}
 use Rattle.src_machine.proofs.LegalGates.{counted}
 
 drop_step : {X : Type 0} (xs : List X) (k : ℕ) (d : X) → k < length xs → drop k xs ≡ get_or xs k d ∷ drop (k + 1) xs
@@ -80,7 +81,7 @@ module _ (program : Program) (closed : ClosedGraph) (lines : List MapLine) (map 
   words_there words is = ap length is ∙ words_counted closed.classes 0 gates ∙ gates_counted
 
   pub is_placed : (entry : ℕ) (gs ws code : List ℕ) → EndsLast program → entry < count program → gs ≡ gates → ws ≡ words_from closed.classes 0 gates →
-      AreRead program gs ws (count program) code → IsPlaced (layout_of program closed gates entry) code
+      AreRead program gs ws (count program) code → HoldsItsWords (program_at program closed gates entry) code
   is_placed entry gs ws code last below same words read = record {
     profile = refl;
     last = last;

@@ -3,7 +3,7 @@ use Rattle.std.proofs.Common.{◌≡◌, ℕ, ◌+◌, ◌-◌, ◌<◌, nat_lt,
 use Rattle.std.specs.Prelude.{◌&&◌, not, if◌then◌else◌, option_and_then, slice_get, unwrap_or, Result, Ok, Err, IfOk, OnErr}
 use Rattle.std.proofs.lemmas.Bool.{and_parts, cases_Bool, cases_eq, ltb-true}
 use Rattle.std.proofs.lemmas.List.Elements.{All-cons, All-head, All-tail}
-use Rattle.rv_word.specs.Layout.{version_1}
+use Rattle.rv_word.specs.MemoryMap.{version_1}
 use Rattle.rv_word.specs.declared.no_memory.NoMemory.{NoMemory}
 use Rattle.rv_instr.specs.declared.instr.Instr.{Instr}
 use Rattle.rv_instr.specs.declared.instr.Instr.TheVariants.{Branch}
@@ -16,7 +16,7 @@ use Rattle.obj_input.specs.declared.item_kind.ItemKind.{ItemKind}
 use Rattle.obj_input.specs.declared.item_kind.ItemKind.TheVariants as is
 use Rattle.obj_program.specs.Program.{Program, count, is_end, item_of}
 use Rattle.obj_program.specs.Sound.{IsSound, aims, is_direct}
-use Rattle.cfi_flow.specs.GraphAtMap.{Layout}
+use Rattle.cfi_flow.specs.GraphAtMap.{ProgramAtMap}
 use Rattle.cfi_flow.specs.declared.reason.Reason.{Reason}
 use Rattle.cfi_flow.specs.declared.reason.Reason.TheVariants as why
 use Rattle.src_machine.specs.declared.turn.SourceTurn.{SourceTurn}
@@ -25,11 +25,11 @@ use Rattle.src_machine.specs.ProgramAt.{EndsLast}
 use Rattle.cfi_flow.specs.Source.{Source, instr_here}
 use Rattle.cfi_flow.specs.SourceStep.{SourceAfter, acts, branches, closes, exits, if_taken, place_after, returns_from, source_step, step_at, step_item, unless, unless_ended}
 use Rattle.src_machine.specs.State.{IsInside, IsThere, Leaves, StateParts, source_in}
-use Rattle.cfi_flow.specs.Untame.{computed, computed_place, if_reached, is_off_graph, is_off_window, is_too_deep, is_wrong_return, place_with_gate, reaches, reason, return_address}
+use Rattle.cfi_flow.specs.Untame.{computed, computed_place, if_reached, is_off_graph, is_off_window, is_too_deep, is_wrong_return, place_with_gate, class_reaches, reason, return_address}
 use Rattle.src_machine.proofs.Gates.{place_below}
 
 -- behind an instruction another place follows
-pub next_there : (layout : Layout) (k : ℕ) → EndsLast layout.program → k < count layout.program → is_end (item_of layout.program k).kind ≡ false →
+pub next_there : (layout : ProgramAtMap) (k : ℕ) → EndsLast layout.program → k < count layout.program → is_end (item_of layout.program k).kind ≡ false →
     k + 1 < count layout.program
 next_there layout k last below instruction = elim (cases_eq (k + 1) (count layout.program)) [
   | inl same ↦
@@ -42,13 +42,13 @@ next_there layout k last below instruction = elim (cases_eq (k + 1) (count layou
 ]
 
 -- with no call pending a return leads to the closing
-pub returns_nowhere : (layout : Layout) (pending : List ℕ) → layout.profile ≡ version_1 → slice_get pending 0 ≡ None →
+pub returns_nowhere : (layout : ProgramAtMap) (pending : List ℕ) → layout.profile ≡ version_1 → slice_get pending 0 ≡ None →
     version_1.closing ≡ return_address layout pending
 returns_nowhere layout [] profile none = ap (λ p. p.closing) (sym profile)
 returns_nowhere layout (k ∷ pending) profile none = absurd (cc)
 
 -- what the step at the closing leaves
-pub closed : (layout : Layout) (place : Option ℕ) (st : Source) (parts : StateParts) (status : ℕ) → None ≡ place →
+pub closed : (layout : ProgramAtMap) (place : Option ℕ) (st : Source) (parts : StateParts) (status : ℕ) → None ≡ place →
     ◌≡◌ {A = SourceAfter} (record { state = source_in parts; turn = exits status }) (closes layout st) →
     Leaves layout.program (step_at layout place st) (Exit status) parts
 closed layout place st parts status at is =
@@ -105,10 +105,10 @@ target_below n None some each = some
 target_below n (Some t) some each = each t refl
 
 -- what a computed transfer goes to is a place
-if_reached_there : (layout : Layout) (n k : ℕ) (found : Option ℕ) → ((t : ℕ) → found ≡ Some t → t < n) →
+if_reached_there : (layout : ProgramAtMap) (n k : ℕ) (found : Option ℕ) → ((t : ℕ) → found ≡ Some t → t < n) →
     IsThere n (option_and_then (if_reached layout.closed k) found)
 if_reached_there layout n k None each = tt
-if_reached_there layout n k (Some t) each = elim (cases_Bool (reaches layout.closed k t)) [
+if_reached_there layout n k (Some t) each = elim (cases_Bool (class_reaches layout.closed k t)) [
   | inl yes_it ↦ rw yes_it (each t refl)
   | inr no_it ↦ rw no_it tt
 ]
@@ -124,7 +124,7 @@ aimed_below program kind (Some t) some aimed =
     let parts = and_parts (is_direct kind && nat_lt t (count program)) (not (is_end (item_of program t).kind)) aimed in
     ltb-true t (count program) (and_parts (is_direct kind) (nat_lt t (count program)) parts.0).1
 
-module _ (layout : Layout) (sound : IsSound layout.program) (last : EndsLast layout.program) (gates : length layout.gates ≡ count layout.program) where
+module _ (layout : ProgramAtMap) (sound : IsSound layout.program) (last : EndsLast layout.program) (gates : length layout.gates ≡ count layout.program) where
   computed_there : (k : ℕ) (instr : Instr) (regs : Registers) → IsThere (count layout.program) (computed_place layout k instr regs)
   computed_there k instr regs =
       if_reached_there layout (count layout.program) k (place_with_gate layout.gates (computed instr regs))

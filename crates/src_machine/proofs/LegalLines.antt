@@ -5,7 +5,7 @@ use Rattle.std.proofs.lemmas.Bool.{and_from, and_parts, cases_lt, eqb-true, eq-e
 use Rattle.std.proofs.lemmas.List.{ext_get_or, get_or-map, get_or-take, length-map, length-take, length-take-le, take_all}
 use Rattle.least.specs.First.{first_below}
 use Rattle.least.proofs.Firsts.{first_none, found_parts}
-use Rattle.rv_word.specs.Layout.{UNITS_START}
+use Rattle.rv_word.specs.MemoryMap.{UNITS_START}
 use Rattle.cfi_graph.specs.declared.map.MapLine.{MapLine}
 use Rattle.obj_program.specs.declared.item.Item.{Item}
 use Rattle.obj_program.specs.Program.{Program, count, is_spot, item_of, no_item}

@@ -8,7 +8,7 @@ use Rattle.cfi_flow.specs.LegalMap.{IsLegalMap, gates_of}
 use Rattle.cfi_flow.specs.Placement.{words_from}
 use Rattle.cfi_flow.specs.Policy.{instruction_at}
 use Rattle.cfi_flow.specs.MapFault.{IsWrongLine}
-use Rattle.src_machine.specs.ProgramAt.{layout_of}
+use Rattle.cfi_flow.specs.GraphAtMap.{program_at}
 use Rattle.src_machine.specs.Running.{SourceParts, source_of}
 use Rattle.cfi_flow.specs.Source.{source_start}
 use Rattle.src_machine.specs.declared.source_end.SourceEnd.{SourceEnd}
@@ -19,7 +19,7 @@ pub record IsBegun (program : Program) (closed : ClosedGraph) (lines : List MapL
   pub legal : IsLegalMap program closed lines
   pub in_range : out_of_range program (gates_of lines) (words_from closed.classes 0 (gates_of lines)) ≡ None
   pub entry : instruction_at program (section, offset) ≡ Some run.layout.entry
-  pub layout : run.layout ≡ layout_of program closed (gates_of lines) run.layout.entry
+  pub layout : run.layout ≡ program_at program closed (gates_of lines) run.layout.entry
   pub state : source_of run ≡ source_start run.layout input
   pub steps : run.steps ≡ 0
 

@@ -1,6 +1,6 @@
 -- Whether a line of a map follows from the lines before it. Only private contracts cite this: that it tells legal maps is proved.
 use Rattle.std.specs.Prelude.{ℕ, ◌+◌, ◌-◌, nat_lt, Bool, true, false, not, ◌==◌, ◌&&◌, ◌||◌, if◌then◌else◌, List, length, slice_index_or}
-use Rattle.rv_word.specs.Layout.{UNITS_START}
+use Rattle.rv_word.specs.MemoryMap.{UNITS_START}
 use Rattle.cfi_graph.specs.declared.map.MapLine.{MapLine}
 use Rattle.obj_input.specs.declared.item_kind.ItemKind.{ItemKind}
 use Rattle.obj_program.specs.Program.{Program, count, is_spot, item_of}

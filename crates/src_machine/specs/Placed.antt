@@ -1,7 +1,7 @@
 -- A program that is placed, as a source machine keeps it. Only private contracts cite this.
 use Rattle.std.specs.Prelude.{◌≡◌, ℕ, ◌^◌, ◌<◌, false, Some, None, unwrap_or, List, length, slice_index}
 use Rattle.std.specs.List.Sorted.{IsStrictlyIncreasing}
-use Rattle.rv_word.specs.Layout.{version_1}
+use Rattle.rv_word.specs.MemoryMap.{version_1}
 use Rattle.rv_code.specs.Decode.{decoded}
 use Rattle.rv_instr.specs.declared.instr.Instr.{Instr}
 use Rattle.rv_instr.specs.declared.instr.Instr.TheVariants as I
@@ -12,9 +12,9 @@ use Rattle.cfi_flow.specs.LegalMap.{gates_of}
 use Rattle.cfi_flow.specs.Placement.{words_from}
 use Rattle.obj_program.specs.Program.{Program, count, is_end, item_of}
 use Rattle.cfi_flow.specs.Closed.{ClosedGraph}
-use Rattle.cfi_flow.specs.GraphAtMap.{Layout, gate}
+use Rattle.cfi_flow.specs.GraphAtMap.{ProgramAtMap, gate, program_at}
 use Rattle.cfi_flow.specs.Source.{instr_here}
-use Rattle.src_machine.specs.ProgramAt.{EndsLast, layout_of}
+use Rattle.src_machine.specs.ProgramAt.{EndsLast}
 
 -- the instruction of a place at these gates and words
 abbrev pub instr_in : Program → List ℕ → List ℕ → ℕ → Instr
@@ -26,16 +26,16 @@ pub record AreRead (program : Program) (gates words : List ℕ) (n : ℕ) (code 
   pub read : (k : ℕ) → k < n → is_end (item_of program k).kind ≡ false → decoded (slice_index code k) ≡ Some (instr_in program gates words k)
 
 -- a layout is that of a program at a map where each value is in range
-pub record AreAt (program : Program) (closed : ClosedGraph) (lines : List MapLine) (entry : ℕ) (layout : Layout) : Type 0 where
-  pub layout_is : layout ≡ layout_of program closed (gates_of lines) entry
+pub record AreAt (program : Program) (closed : ClosedGraph) (lines : List MapLine) (entry : ℕ) (layout : ProgramAtMap) : Type 0 where
+  pub layout_is : layout ≡ program_at program closed (gates_of lines) entry
   pub in_range : out_of_range program (gates_of lines) (words_from closed.classes 0 (gates_of lines)) ≡ None
 
 -- the word of each instruction with the values of its relocations
-abbrev pub AreWords : Layout → List ℕ → Type 0
+abbrev pub AreWords : ProgramAtMap → List ℕ → Type 0
 AreWords layout code =
     (k : ℕ) → k < count layout.program → is_end (item_of layout.program k).kind ≡ false → decoded (slice_index code k) ≡ Some (instr_here layout k)
 
-pub record IsPlaced (layout : Layout) (code : List ℕ) : Type 0 where
+pub record HoldsItsWords (layout : ProgramAtMap) (code : List ℕ) : Type 0 where
   pub profile : layout.profile ≡ version_1
   pub last : EndsLast layout.program
   pub gates : length layout.gates ≡ count layout.program

@@ -1,6 +1,6 @@
 -- A run of a source machine, and one step of it.
 use Rattle.std.specs.Prelude.{◌≡◌, ℕ, ◌+◌}
-use Rattle.cfi_flow.specs.GraphAtMap.{Layout}
+use Rattle.cfi_flow.specs.GraphAtMap.{ProgramAtMap}
 use Rattle.cfi_flow.specs.Source.{Source}
 use Rattle.cfi_flow.specs.SourceStep.{source_step}
 use Rattle.src_machine.specs.State.{StateParts, source_in}
@@ -10,7 +10,7 @@ use Rattle.src_machine.specs.declared.turn.SourceTurn.TheVariants.{Untame}
 
 -- a run: the program at its map, the state, and how many steps were taken
 pub record SourceParts : Type 0 where
-  pub layout : Layout
+  pub layout : ProgramAtMap
   pub state : StateParts
   pub steps : ℕ
 

@@ -1,6 +1,6 @@
 ghost use Rattle.std.specs.Prelude.{◌≡◌, ◌<◌, ◌≤◌, ◌+◌, ◌^◌, ℕ, List, None, Some, true, false, IfOk, IfErr, MatchResult, is_some, length, slice_index};
 ghost use Rattle.std.specs.List.Sorted.{IsStrictlyIncreasing};
-ghost use Rattle.rv_word.specs.Layout.{DATA_END, DATA_START};
+ghost use Rattle.rv_word.specs.MemoryMap.{DATA_END, DATA_START};
 ghost use Rattle.rv_code.specs.Decode.{decoded};
 ghost use Rattle.obj_program.specs.AtMap.{instr_at};
 ghost use Rattle.obj_program.specs.DataAtMap.{data_at, init_size};

@@ -3,11 +3,11 @@ ghost use Rattle.std.specs.List.Sorted.{IsStrictlyIncreasing};
 ghost use Rattle.obj_program.specs.Program.{count, is_end, item_of};
 ghost use Rattle.cfi_flow.specs.GraphAtMap.{gate, word};
 ghost use Rattle.cfi_flow.specs.Placement.{gate_size};
-ghost use Rattle.rv_word.specs.Layout.{version_1};
+ghost use Rattle.rv_word.specs.MemoryMap.{version_1};
 ghost use Rattle.obj_program.specs.Sound.{IsSound};
 ghost use Rattle.src_machine.specs.ProgramAt.{EndsLast};
 ghost use Rattle.cfi_flow.specs.Source.{instr_here};
-ghost use Rattle.cfi_flow.specs.Untame.{if_reached, place_with_gate, reaches};
+ghost use Rattle.cfi_flow.specs.Untame.{if_reached, place_with_gate, class_reaches};
 
 use cfi_flow::Closed;
 use obj_program::{Item, Items};
@@ -27,15 +27,14 @@ pub(crate) struct Placed<'a, 'b> {
 }
 
 impl<'a, 'b> Model for Placed<'a, 'b> {
-    ghost use Rattle.cfi_flow.specs.GraphAtMap.{Layout};
-    ghost use Rattle.src_machine.specs.Placed.{IsPlaced};
-    ghost use Rattle.src_machine.specs.ProgramAt.{layout_of};
+    ghost use Rattle.cfi_flow.specs.GraphAtMap.{ProgramAtMap, program_at};
+    ghost use Rattle.src_machine.specs.Placed.{HoldsItsWords};
 
-    ghost Value = { Layout };
+    ghost Value = { ProgramAtMap };
 
-    ghost view = { λ p. layout_of p.items.now p.closed.now p.gates.items p.entry };
+    ghost view = { λ p. program_at p.items.now p.closed.now p.gates.items p.entry };
 
-    ghost invariant = { λ p. IsPlaced (layout_of p.items.now p.closed.now p.gates.items p.entry) p.code.items };
+    ghost invariant = { λ p. HoldsItsWords (program_at p.items.now p.closed.now p.gates.items p.entry) p.code.items };
 }
 
 /// The address of the place with this index.
@@ -89,8 +88,8 @@ fn place_with_gate(gates: &[u64], address: u64) -> Option<u64>
 }
 
 /// Whether the class that the site at a place reaches has another place.
-fn reaches(closed: &Closed, k: u64, target: u64) -> bool
-    ensures { result ≡ reaches closed.now k target }
+fn class_reaches(closed: &Closed, k: u64, target: u64) -> bool
+    ensures { result ≡ class_reaches closed.now k target }
 {
     match (closed.class_of(k), closed.class_at(target)) {
         (Some(class), Some(other)) => class == other,
@@ -151,7 +150,7 @@ impl<'a, 'b> Placed<'a, 'b> {
         ensures there { IfSome result (λ target. target < count self.now.program) }
     {
         let target = place_with_gate(&self.gates, address)?;
-        if reaches(self.closed, k, target) {
+        if class_reaches(self.closed, k, target) {
             Some(target)
         } else {
             None

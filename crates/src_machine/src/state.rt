@@ -1,5 +1,5 @@
 ghost use Rattle.std.specs.Prelude.{◌≡◌, ◌+◌, ◌^◌, ◌<◌, ◌∷◌, ◌≤◌, [], IfOk, OnOk, OnErr, None, Some, length, slice_get};
-ghost use Rattle.rv_word.specs.Layout.{DATA_END, DATA_START, version_1};
+ghost use Rattle.rv_word.specs.MemoryMap.{DATA_END, DATA_START, version_1};
 ghost use Rattle.rv_word.specs.Memory.{placed, zeros};
 ghost use Rattle.rv_instr.specs.Registers.{cleared, get_reg, set_reg};
 ghost use Rattle.rv_code.specs.Step.{exec};
@@ -7,7 +7,7 @@ ghost use Rattle.rv_code.specs.State.{last_exit};
 ghost use Rattle.cfi_flow.specs.SourceStep.{closes, exits, goes_to, hart_at, leaves, place_after, returns_from, turn_at};
 ghost use Rattle.src_machine.specs.State.{source_in};
 ghost use Rattle.cfi_flow.specs.Untame.{sum_of};
-ghost use Rattle.cfi_flow.specs.GraphAtMap.{Layout};
+ghost use Rattle.cfi_flow.specs.GraphAtMap.{ProgramAtMap};
 
 use rv_code::immediate_value;
 use rv_instr::{Immediate, Instr, Reg};
@@ -166,7 +166,7 @@ impl State {
 
     /// Makes the system call at the closing, and tells the status. A refusal leaves all as it was.
     pub(crate) fn close(&mut self) -> Result<u8, NoMemory>
-        ensures closed { IfOk result (λ status. (layout : Layout) → layout.profile ≡ version_1 → record { state = source_in self.new; turn = exits status } ≡ closes layout (source_in self.old)) }
+        ensures closed { IfOk result (λ status. (layout : ProgramAtMap) → layout.profile ≡ version_1 → record { state = source_in self.new; turn = exits status } ≡ closes layout (source_in self.old)) }
         ensures refused { OnErr result (source_in self.new ≡ source_in self.old) }
     {
         let number = Reg::of(17);

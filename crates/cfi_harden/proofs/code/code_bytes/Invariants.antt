@@ -1,5 +1,5 @@
 use Rattle.std.proofs.Common.{drop}
-use Rattle.rv_word.specs.Layout.{version_1}
+use Rattle.rv_word.specs.MemoryMap.{version_1}
 use Rattle.cfi_verify.specs.Placed.{placed_code}
 use Rattle.cfi_harden.proofs.CodeWritten.{IsWritten}
 use Rattle.cfi_harden.proofs.code.code_bytes.Given as goal

@@ -1,5 +1,5 @@
 use Rattle.std.proofs.Common.{◌≡◌, ◌+◌, ◌*◌, ◌-◌, ◌++◌}
-use Rattle.rv_word.specs.Layout.{SHADOW_START}
+use Rattle.rv_word.specs.MemoryMap.{SHADOW_START}
 use Rattle.rv_mem.specs.Cells.{memory_of}
 use Rattle.cfi_step.specs.Hostile.{sites_from}
 use Rattle.cfi_step.proofs.hostile.sites.Given as goal

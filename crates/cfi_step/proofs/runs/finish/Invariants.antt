@@ -1,5 +1,5 @@
 use Rattle.std.proofs.Common.{◌-◌, ◌≡◌, ℕ, ◌≤◌}
-use Rattle.rv_word.specs.Layout.{version_1}
+use Rattle.rv_word.specs.MemoryMap.{version_1}
 use Rattle.rv_machine.specs.Parts.{hart_in, shared_in}
 use Rattle.cfi_step.specs.Plan.{IsQuietPlan, planned}
 use Rattle.cfi_step.specs.Running.{StaysFrom}

@@ -1,5 +1,5 @@
 use Rattle.std.proofs.Common.{ℕ, List, ◌∙◌, ap}
-use Rattle.rv_word.specs.Layout.{version_1}
+use Rattle.rv_word.specs.MemoryMap.{version_1}
 use Rattle.rv_code.specs.State.{start_hart, start_shared}
 use Rattle.cfi_step.specs.Plan.{planned}
 use Rattle.cfi_step.specs.Script.{script_plan}

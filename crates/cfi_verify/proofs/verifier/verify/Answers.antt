@@ -1,5 +1,5 @@
 use Rattle.std.proofs.Common.{rules}
-use Rattle.rv_word.specs.Layout.{version_1}
+use Rattle.rv_word.specs.MemoryMap.{version_1}
 use Rattle.cfi_verify.specs.Rules.{IsWellFormed}
 use Rattle.cfi_verify.proofs.Safety.{well_formed_safe}
 use Rattle.cfi_verify.proofs.verifier.verify.Goals as goal

@@ -1,5 +1,5 @@
 use Rattle.std.proofs.Common.{◌≡◌, Some, refl}
-use Rattle.rv_word.specs.Layout.{version_1}
+use Rattle.rv_word.specs.MemoryMap.{version_1}
 use Rattle.cfi_verify.specs.Split.{code_words, place_at}
 use Rattle.cfi_walk.proofs.Reach.{code_low}
 use Rattle.cfi_walk.proofs.following.follow.Goals as goal

@@ -1,5 +1,5 @@
 use Rattle.std.proofs.Common.{arith, ◌∙◌}
-use Rattle.obj_input.specs.Layout.{block_address}
+use Rattle.obj_input.specs.DataLayout.{block_address}
 use Rattle.obj_input.proofs.Reach.{blocks_begin, block_read, blocks_next, block_address_is, listed_begins, listed_next, none_small, small_next}
 use Rattle.obj_input.proofs.layout.placed_blocks.Goals as goal
 

@@ -1,7 +1,7 @@
 use Rattle.std.proofs.Common.{◌≡◌, ◌≤◌, ◌+◌, ◌*◌, ◌^◌}
 use Rattle.obj_input.specs.Listed.{listed}
 use Rattle.obj_input.specs.InOrder.{AreSmall}
-use Rattle.obj_input.specs.Layout.{block_address, blocks_reach}
+use Rattle.obj_input.specs.DataLayout.{block_address, blocks_reach}
 use Rattle.obj_input.proofs.layout.placed_blocks.Given as goal
 
 abbrev pub invariant-loop-block : goal.invariant-loop-block

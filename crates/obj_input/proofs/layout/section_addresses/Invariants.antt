@@ -2,8 +2,8 @@ use Rattle.std.proofs.Common.{◌≡◌, ◌≤◌, ◌+◌, ◌*◌, ◌^◌}
 use Rattle.obj_input.specs.Input.{is_data_sort, is_zeros_sort}
 use Rattle.obj_input.specs.Listed.{listed}
 use Rattle.obj_input.specs.InOrder.{AreSmall}
-use Rattle.obj_input.specs.Layout.{init_end, reach, section_address}
-use Rattle.rv_word.specs.Layout.{DATA_START}
+use Rattle.obj_input.specs.DataLayout.{init_end, reach, section_address}
+use Rattle.rv_word.specs.MemoryMap.{DATA_START}
 use Rattle.obj_input.proofs.layout.section_addresses.Given as goal
 
 abbrev pub invariant-loop-k : goal.invariant-loop-k

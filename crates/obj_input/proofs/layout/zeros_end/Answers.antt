@@ -1,6 +1,6 @@
 use Rattle.std.proofs.Common.{arith, ◌∙◌}
 use Rattle.obj_input.specs.Input.{is_zeros_sort}
-use Rattle.obj_input.specs.Layout.{init_end}
+use Rattle.obj_input.specs.DataLayout.{init_end}
 use Rattle.obj_input.proofs.Reach.{reach_begins, reach_next}
 use Rattle.obj_input.proofs.layout.zeros_end.Goals as goal
 

@@ -1,6 +1,6 @@
 use Rattle.std.proofs.Common.{◌≡◌, ◌≤◌, ◌+◌, ◌*◌, ◌^◌}
 use Rattle.obj_input.specs.Input.{is_zeros_sort}
-use Rattle.obj_input.specs.Layout.{init_end, reach}
+use Rattle.obj_input.specs.DataLayout.{init_end, reach}
 use Rattle.obj_input.proofs.layout.zeros_end.Given as goal
 
 abbrev pub invariant-loop-k : goal.invariant-loop-k

@@ -1,8 +1,8 @@
 use Rattle.std.proofs.Common.{◌∙◌, ap}
 use Rattle.obj_input.specs.InOrder.{has, is_high_use}
 use Rattle.obj_input.proofs.Standing.{among}
-use Rattle.obj_input.proofs.Busy.{high_is_busy}
+use Rattle.obj_input.proofs.Acting.{high_is_acting}
 use Rattle.obj_input.proofs.search.high_offsets.Goals as goal
 
 pub returns : goal.returns
-returns c = λ at. c.of.ensures at ∙ ap (λ offsets. has offsets at) c.in_ok-offsets.ensures ∙ among is_high_use high_is_busy c.args.uses.now at
+returns c = λ at. c.of.ensures at ∙ ap (λ offsets. has offsets at) c.in_ok-offsets.ensures ∙ among is_high_use high_is_acting c.args.uses.now at

@@ -1,7 +1,7 @@
 use Rattle.std.proofs.Common.{◌++◌, ◌∙◌, List, ap}
 use Rattle.std.specs.List.{flat_map}
 use Rattle.std.proofs.lemmas.List.{get_or_default, take_all}
-use Rattle.obj_input.specs.declared.parts.Use.{Use}
+use Rattle.obj_input.specs.declared.parts.Relocation.{Relocation}
 use Rattle.obj_input.specs.Input.{SectionParts}
 use Rattle.obj_items.specs.InitialData.{reloc_of}
 use Rattle.obj_items.proofs.Data.{flat_map_more}
@@ -15,5 +15,5 @@ loop-u-preserved c =
 pub returns : goal.returns
 returns c =
     c.loop-u.invariant
-    ∙ ap (λ (us : List Use). c.args.relocs.now.items ++ flat_map (reloc_of c.args.input.now c.args.places.now c.args.k) us)
+    ∙ ap (λ (us : List Relocation). c.args.relocs.now.items ++ flat_map (reloc_of c.args.input.now c.args.places.now c.args.k) us)
     (take_all c.loop-u.u-index c.uses-uses.result.now c.loop-u-test.false ∙ c.uses-uses.ensures ∙ ap (λ (s : SectionParts). s.uses) c.section.ensures)

@@ -1,7 +1,7 @@
 use Rattle.std.proofs.Common.{◌||◌, ◌∙◌, List, ap, false, get_or}
 use Rattle.std.specs.List.{list_any}
 use Rattle.std.proofs.lemmas.List.{get_or_default, take_all}
-use Rattle.obj_input.specs.declared.parts.Use.{Use}
+use Rattle.obj_input.specs.declared.parts.Relocation.{Relocation}
 use Rattle.obj_input.specs.Input.{SectionParts}
 use Rattle.obj_program.specs.Program.{no_item}
 use Rattle.obj_items.specs.Links.{takes}
@@ -23,6 +23,6 @@ returns c = record {
   marks =
       λ i below.
       c.loop-u.invariant.1 i below
-      ∙ ap (λ (us : List Use). get_or c.args.marks.now.items i false || list_any (takes (get_or c.args.places.now i no_item).section (get_or c.args.places.now i no_item).offset) us)
+      ∙ ap (λ (us : List Relocation). get_or c.args.marks.now.items i false || list_any (takes (get_or c.args.places.now i no_item).section (get_or c.args.places.now i no_item).offset) us)
       (take_all c.loop-u.u-index c.uses-uses.result.now c.loop-u-test.false ∙ c.uses-uses.ensures ∙ ap (λ (s : SectionParts). s.uses) c.section.ensures);
 }

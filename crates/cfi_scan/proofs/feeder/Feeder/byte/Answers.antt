@@ -1,5 +1,5 @@
 use Rattle.std.proofs.Common.{ℕ, ◌/◌, sym, subst, ap, ◌∙◌}
-use Rattle.rv_word.specs.Layout.{version_1}
+use Rattle.rv_word.specs.MemoryMap.{version_1}
 use Rattle.cfi_scan.specs.Pieces.{HasSeen, Sight}
 use Rattle.cfi_scan.proofs.Pieces.{seen_byte, seen_word}
 use Rattle.cfi_scan.proofs.feeder.Feeder.byte.Goals as goal

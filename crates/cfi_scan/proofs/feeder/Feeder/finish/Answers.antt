@@ -1,6 +1,6 @@
 use Rattle.std.proofs.Common.{◌≡◌, sym, subst, length, drop, arith}
 use Rattle.std.proofs.lemmas.List.{length-drop}
-use Rattle.rv_word.specs.Layout.{version_1}
+use Rattle.rv_word.specs.MemoryMap.{version_1}
 use Rattle.cfi_scan.specs.Pieces.{HasSeen, Sight}
 use Rattle.cfi_scan.proofs.Pieces.{ended, seen_count}
 use Rattle.cfi_scan.proofs.feeder.Feeder.finish.Goals as goal

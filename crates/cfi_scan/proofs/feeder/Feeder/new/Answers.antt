@@ -1,5 +1,5 @@
 use Rattle.std.proofs.Common.{[], refl, sym, subst, arith}
-use Rattle.rv_word.specs.Layout.{version_1}
+use Rattle.rv_word.specs.MemoryMap.{version_1}
 use Rattle.cfi_scan.specs.Carry.{Taken}
 use Rattle.cfi_scan.specs.Pieces.{HasSeen, ends}
 use Rattle.cfi_scan.proofs.Pieces.{seen_from, sight}

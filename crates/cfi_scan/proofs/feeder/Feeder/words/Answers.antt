@@ -1,6 +1,6 @@
 use Rattle.std.proofs.Common.{◌-◌, ℕ, List, [], ◌∷◌, ◌++◌, ◌∙◌, subst, ap, length, get_or, drop, arith}
 use Rattle.std.proofs.lemmas.List.{append_assoc, length-drop, take_all}
-use Rattle.rv_word.specs.Layout.{version_1}
+use Rattle.rv_word.specs.MemoryMap.{version_1}
 use Rattle.cfi_scan.specs.Pieces.{HasSeen}
 use Rattle.cfi_scan.proofs.Pieces.{four_taken}
 use Rattle.cfi_scan.proofs.feeder.Feeder.words.Goals as goal

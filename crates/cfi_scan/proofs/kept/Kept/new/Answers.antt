@@ -1,5 +1,5 @@
 use Rattle.std.proofs.Common.{refl}
-use Rattle.rv_word.specs.Layout.{version_1}
+use Rattle.rv_word.specs.MemoryMap.{version_1}
 use Rattle.cfi_scan.proofs.Pieces.{splits_none}
 use Rattle.cfi_scan.proofs.kept.Kept.new.Goals as goal
 

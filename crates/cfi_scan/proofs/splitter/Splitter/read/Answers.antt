@@ -1,5 +1,5 @@
 use Rattle.std.proofs.Common.{◌≡◌, ◌+◌, ◌*◌, ◌<◌, ℕ, [], ◌∷◌, ◌++◌, length, ap, sym, ◌∙◌, subst, arith}
-use Rattle.rv_word.specs.Layout.{version_1}
+use Rattle.rv_word.specs.MemoryMap.{version_1}
 use Rattle.cfi_scan.specs.declared.reader.Step.TheVariants.{Done, More}
 use Rattle.cfi_scan.specs.Stream.{LeadsOn}
 use Rattle.cfi_scan.proofs.Ended.{as_ended, splits_on, splits_unit}

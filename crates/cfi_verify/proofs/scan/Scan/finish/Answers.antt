@@ -1,5 +1,5 @@
 use Rattle.std.proofs.Common.{◌∙◌, ap, subst, sym}
-use Rattle.rv_word.specs.Layout.{version_1}
+use Rattle.rv_word.specs.MemoryMap.{version_1}
 use Rattle.cfi_verify.specs.Entries.{Tells}
 use Rattle.cfi_verify.specs.Rules.{Holds, IsFirst}
 use Rattle.cfi_verify.specs.Scan.{Scanned, StartParts}

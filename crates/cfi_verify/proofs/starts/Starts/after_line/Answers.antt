@@ -1,5 +1,5 @@
 use Rattle.std.proofs.Common.{◌≤◌, ◌∙◌, arith, subst, sym}
-use Rattle.rv_word.specs.Layout.{UNITS_START}
+use Rattle.rv_word.specs.MemoryMap.{UNITS_START}
 use Rattle.cfi_graph.specs.Graph.{IsGraph}
 use Rattle.cfi_verify.proofs.OnePass.{line_there, none_between, standing, word_passed}
 use Rattle.cfi_verify.proofs.starts.Starts.after_line.Goals as goal

@@ -1,4 +1,4 @@
-use Rattle.rv_word.specs.Layout.{version_1}
+use Rattle.rv_word.specs.MemoryMap.{version_1}
 use Rattle.cfi_verify.specs.Rules.{Holds}
 use Rattle.cfi_verify.proofs.RuleOrder.{rules_more}
 use Rattle.cfi_verify.proofs.starts.Starts.first_of_rules.Goals as goal

@@ -1,5 +1,5 @@
 use Rattle.std.proofs.Common.{◌≤◌, ◌<◌, ◌-◌, ℕ, ◌+◌, ◌*◌}
-use Rattle.rv_word.specs.Layout.{UNITS_START}
+use Rattle.rv_word.specs.MemoryMap.{UNITS_START}
 use Rattle.cfi_verify.specs.Pass.{HoldsAt}
 use Rattle.cfi_verify.proofs.starts.Starts.unlisted_hold.Given as goal
 

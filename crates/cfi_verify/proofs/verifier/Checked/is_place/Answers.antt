@@ -1,6 +1,6 @@
 use Rattle.std.proofs.Common.{◌∙◌, ap, arith, sym}
 use Rattle.std.specs.Prelude.{is_some}
-use Rattle.rv_word.specs.Layout.{version_1}
+use Rattle.rv_word.specs.MemoryMap.{version_1}
 use Rattle.cfi_verify.specs.Scan.{Pair}
 use Rattle.cfi_verify.specs.Split.{code_words, place_at}
 use Rattle.cfi_verify.proofs.IsPlace.{place_below}

@@ -1,5 +1,5 @@
 use Rattle.std.proofs.Common.{◌-◌, ◌/◌, ◌∙◌, ap, arith, drop, sym}
-use Rattle.rv_word.specs.Layout.{CODE_START, version_1}
+use Rattle.rv_word.specs.MemoryMap.{CODE_START, version_1}
 use Rattle.cfi_unit.specs.Recognise.{recognised}
 use Rattle.cfi_verify.specs.Scan.{Pair}
 use Rattle.cfi_verify.specs.Split.{code_words, unit_at}

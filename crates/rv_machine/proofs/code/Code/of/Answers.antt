@@ -1,5 +1,5 @@
 use Rattle.std.proofs.Common.{◌∙◌, ◌+◌, ◌*◌, ◌∷◌, [], ap, arith, refl, length, length-append}
-use Rattle.rv_word.specs.Layout.{CODE_START}
+use Rattle.rv_word.specs.MemoryMap.{CODE_START}
 use Rattle.rv_word.specs.Memory.{read}
 use Rattle.rv_mem.specs.Cells.{memory_of}
 use Rattle.rv_code.specs.Decode.{decoded}

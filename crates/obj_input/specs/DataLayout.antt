@@ -1,7 +1,7 @@
 -- Where data stand: from DATA_START on the sections with bytes in the file, in their order, then those
 -- without, then the blocks, each at its alignment.
 use Rattle.std.specs.Prelude.{ℕ, zero, suc, ◌+◌, ◌-◌, ◌*◌, ◌/◌, max, Bool, if◌then◌else◌, List, length, slice_index_or}
-use Rattle.rv_word.specs.Layout.{DATA_START}
+use Rattle.rv_word.specs.MemoryMap.{DATA_START}
 use Rattle.obj_input.specs.declared.parts.Sort.{Sort}
 use Rattle.obj_input.specs.declared.parts.Sort.TheVariants.{Data, Zeros}
 use Rattle.obj_input.specs.declared.parts.Block.{Block}
@@ -58,14 +58,14 @@ unfoldable pub block_address : InputParts → ℕ → ℕ
 block_address input c = aligned (blocks_reach input c) (block input c).align
 
 -- all addresses by index, and where data end
-pub record LayoutParts : Type 0 where
+pub record DataLayoutParts : Type 0 where
   pub sections : List ℕ
   pub blocks : List ℕ
   pub init_end : ℕ
   pub data_end : ℕ
 
-unfoldable pub layout_of : InputParts → LayoutParts
-layout_of input = record {
+unfoldable pub data_layout_of : InputParts → DataLayoutParts
+data_layout_of input = record {
   sections = listed (section_address input) (section_count input);
   blocks = listed (block_address input) (length input.blocks);
   init_end = init_end input;
