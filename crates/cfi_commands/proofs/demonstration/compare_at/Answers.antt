@@ -16,4 +16,4 @@ returns c =
     (λ (answer : Compared). answer ≡ told_answer run.layout.program (compared run.layout c.args.image.now [] STEP_LIMIT))
     (IsAnswerAt p c.args.map.now c.args.image.now)
     (λ answer told. answer_at p c.args.map.now c.args.image.now run answer c.in_ok-source.ensures told)
-    c.compare.ensures.compared
+    (c.compare.ensures.from_start c.in_ok-source.ensures.state)
