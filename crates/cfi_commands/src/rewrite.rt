@@ -12,7 +12,7 @@ use cfi_files::{Output, Refusal, Stop, file_word, read_all, status, text_named};
 use cfi_graph::{Graph, Map, write_graph, write_map};
 use cfi_rewrite::{HardenEnd, Hardened, rewrite};
 use cfi_words::RewriteWords;
-use rv_word::NoMemory;
+use rv_word::{Bytes, NoMemory};
 use std::alloc::Global;
 use std::fmt;
 use tool_io::{Files, OutEnd};
@@ -173,12 +173,12 @@ fn sizes_of(image: &[u8], graph: &Graph) -> Sizes
 fn with_texts<'a>(
     alloc: Global,
     request: &RewriteRequest<'a>,
-    image: Vec<u8>,
+    image: Bytes,
     graph: &Graph,
     map: &Map,
 ) -> Result<Rewritten<'a>, NoMemory>
-    requires { IsSpelledWith image.items graph.now }
-    ensures { IfOk result (IsSpelledOut (rewrite_asked request.now) (record { image = image.items; graph = graph.now; map = map.now })) }
+    requires { IsSpelledWith image graph.now }
+    ensures { IfOk result (IsSpelledOut (rewrite_asked request.now) (record { image = image; graph = graph.now; map = map.now })) }
 {
     // These compute nothing: they tell the proof that graph and map are what is read back.
     let _code = graph.code();
@@ -193,11 +193,11 @@ fn with_texts<'a>(
         },
         graph: Output {
             name: request.graph,
-            bytes: graph,
+            bytes: Bytes::of(graph),
         },
         map: Output {
             name: request.map,
-            bytes: map,
+            bytes: Bytes::of(map),
         },
         sizes,
     })
@@ -213,7 +213,7 @@ fn spelled_out<'a>(
     ensures { IfOk result (IsSpelledOut (rewrite_asked request.now) hardened) }
 {
     let Hardened { image, graph, map } = hardened;
-    with_texts(alloc, request, image.into_vec(), &graph, &map)
+    with_texts(alloc, request, image, &graph, &map)
 }
 
 /// Hardens an object that some bytes spell, under a policy that others spell.

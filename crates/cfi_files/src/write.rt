@@ -5,6 +5,7 @@ ghost use Rattle.tool_io.specs.Faults.{Counts};
 ghost use Rattle.tool_io.specs.declared.ends.OutEnd.TheVariants as OutEnd;
 ghost use Rattle.cfi_files.specs.Writes.{KeepsReads, Wrote};
 
+use rv_word::Bytes;
 use std::marker::Model;
 use tool_io::{Files, OutEnd};
 
@@ -12,7 +13,7 @@ use tool_io::{Files, OutEnd};
 #[derive(Drop)]
 pub struct Output<'a> {
     pub name: &'a str,
-    pub bytes: Vec<u8>,
+    pub bytes: Bytes,
 }
 
 impl<'a> Model for Output<'a> {
@@ -20,7 +21,7 @@ impl<'a> Model for Output<'a> {
 
     ghost Value = { OutputParts };
 
-    ghost view = { λ o. record { name = o.name.now; bytes = o.bytes.items } };
+    ghost view = { λ o. record { name = o.name.now; bytes = o.bytes } };
 }
 
 impl Output<'_> {

@@ -19,6 +19,14 @@ has_in (x ∷ class) k e =
       | inr later ↦ let rest = has_in class k later in let below = rest.1 in (suc rest.0, omega arith, rest.2)
     ]
 
+-- a label of a place is that of a class that has it
+pub record HasLabel (labels : List ℕ) (classes : List (List ℕ)) (k label : ℕ) : Type 0 where
+  pub index : ℕ
+  pub class : List ℕ
+  pub label_is : slice_get labels index ≡ Some label
+  pub class_is : slice_get classes index ≡ Some class
+  pub member : has k class ≡ true
+
 pub labelled : (labels : List ℕ) (classes : List (List ℕ)) (k label : ℕ) → label_at labels classes k ≡ Some label → HasLabel labels classes k label
 unfolding label_at
 labelled [] [] k label e = absurd (cc)
