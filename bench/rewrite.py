@@ -9,6 +9,7 @@ bench/README.md says what is compared and what came out.
 import argparse
 import os
 import shutil
+import subprocess
 import sys
 import tempfile
 
@@ -65,7 +66,8 @@ def main():
     with tempfile.TemporaryDirectory() as work:
         folder = options.keep or work
         os.makedirs(folder, exist_ok=True)
-        start = best_time([program], options.runs, status=2)
+        usage = subprocess.run([program], stdout=subprocess.PIPE).stdout
+        start = best_time([program], options.runs, usage)
         print("processors: %d; the usage line alone: %.2f / %.2f ms" % (os.cpu_count(), *start))
         print("milliseconds, wall / processor of rewrite and wall of the others: the least of the runs")
         print("%8s %8s %8s %8s  %16s  %7s  %8s  %6s  %8s  %5s" % (

@@ -59,6 +59,11 @@ def best_times(commands, runs, wants):
     return [Times(min(wall), min(processor)) for wall, processor in zip(walls, used)]
 
 
+def best_time(command, runs, want=None):
+    """The same of one command."""
+    return best_times([command], runs, [want])[0]
+
+
 def waiting(child):
     """What /proc tells of a child, once it waits to write to a pipe. Where the kernel does not name what a process
     waits for, it waits for that once it sleeps, since it reads nothing but files."""
