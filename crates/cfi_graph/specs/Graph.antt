@@ -1,16 +1,31 @@
 -- A graph of control flow: the length of the code that it is of, and its lines. The rules here say
 -- which numbers a line may have and in which order lines stand.
-use Rattle.std.specs.Prelude.{ℕ, ◌+◌, ◌%◌, ◌^◌, ◌==◌, nat_lt, nat_le, Bool, true, false, ◌&&◌, IsTrue, List, [], ◌∷◌, map}
+use Rattle.std.specs.Prelude.{ℕ, ◌+◌, ◌%◌, ◌^◌, ◌==◌, nat_lt, nat_le, Bool, true, false, ◌&&◌, IsTrue, List, [], ◌∷◌, Option, Some, None, is_some, map}
 use Rattle.std.specs.List.{list_all}
 use Rattle.rv_word.specs.MemoryMap.{CODE_START, CODE_SIZE}
 use Rattle.cfi_graph.specs.declared.line.GraphLine.{GraphLine}
 use Rattle.cfi_graph.specs.declared.line.GraphLine.TheVariants.{Class, Site, Edge, Call}
+use Rattle.cfi_graph.specs.declared.line.Sort.{Sort}
+use Rattle.cfi_graph.specs.declared.line.Sort.TheVariants.{Both}
 use Rattle.cfi_graph.specs.declared.line.Key.{Key}
 use Rattle.cfi_graph.specs.declared.line.Key.TheVariants.{Label, Address}
 
 pub record GraphParts : Type 0 where
   pub code : ℕ
   pub lines : List GraphLine
+
+-- A class: which computed transfers it serves, its label, and the addresses of its targets
+pub record ClassLine : Type 0 where
+  pub sort : Sort
+  pub label : ℕ
+  pub targets : List ℕ
+
+-- the class of a line, where it is a class's
+abbrev pub class_in : GraphLine → Option ClassLine
+class_in (Class label targets) = Some (record { sort = Both; label = label; targets = targets })
+class_in (Site address kind label) = None
+class_in (Edge from to) = None
+class_in (Call from to) = None
 
 -- Range. A length of code is a multiple of 4 bytes, one word at least, and no more than the region holds
 abbrev pub is_code_length : ℕ → Bool
@@ -66,10 +81,7 @@ pub record IsGraph (graph : GraphParts) : Type 0 where
 
 -- what a line is a line of
 abbrev pub is_class : GraphLine → Bool
-is_class (Class label targets) = true
-is_class (Site address kind label) = false
-is_class (Edge from to) = false
-is_class (Call from to) = false
+is_class line = is_some (class_in line)
 
 abbrev pub is_site : GraphLine → Bool
 is_site (Class label targets) = false

@@ -4,7 +4,7 @@
 #![tactic(auto)]
 
 pub use graph::{Graph, GraphLines};
-pub use line::{GraphLine, Key, SiteKind};
+pub use line::{GraphLine, Key, SiteKind, Sort};
 pub use map::{Map, MapLine, MapLines};
 pub use map_form::{read_map, write_map};
 pub use policy::{PlaceName, PlaceNames, Policy, PolicyLine};

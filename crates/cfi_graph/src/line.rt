@@ -11,6 +11,13 @@ pub enum SiteKind {
     Jump,
 }
 
+/// Which computed transfers a class serves.
+#[derive(Clone, Copy)]
+pub enum Sort {
+    /// Computed calls and computed jumps.
+    Both,
+}
+
 /// A line of a graph.
 #[derive(Drop)]
 pub enum GraphLine {

@@ -1,5 +1,5 @@
 -- The lines of classes: which stands at an index and under a label, and that they are a graph's.
-use Rattle.std.proofs.Common.{◌≡◌, ℕ, zero, suc, ◌<◌, ◌==◌, inl, inr, true, List, [], ◌∷◌, length, map, Some, refl, sym, ap, arith, add-one}
+use Rattle.std.proofs.Common.{◌≡◌, ℕ, zero, suc, ◌<◌, ◌==◌, inl, inr, true, List, [], ◌∷◌, length, map, Some, refl, sym, ap, ◌∙◌, arith, add-one}
 use Rattle.std.specs.Prelude.{is_some, nat_lt, slice_get, slice_index}
 use Rattle.std.specs.List.{list_all}
 use Rattle.std.specs.List.Sorted.{IsStrictlyIncreasing}
@@ -7,10 +7,13 @@ use Rattle.std.proofs.lemmas.Bool.{and_from, cases_Bool, eq-eqb, eqb-true, lt-lt
 use Rattle.std.proofs.lemmas.Option.{same_Some}
 use Rattle.cfi_graph.specs.declared.line.GraphLine.{GraphLine}
 use Rattle.cfi_graph.specs.declared.line.GraphLine.TheVariants.{Class}
-use Rattle.cfi_graph.specs.Graph.{is_class, is_code_address, is_label, is_rising, key_below, key_of, line_in_range, targets_rise}
+use Rattle.cfi_graph.specs.declared.line.SiteKind.{SiteKind}
+use Rattle.cfi_graph.specs.declared.line.Sort.TheVariants.{Both}
+use Rattle.cfi_graph.specs.Graph.{ClassLine, is_class, is_code_address, is_label, is_rising, key_below, key_of, line_in_range, targets_rise}
 use Rattle.cfi_flow.specs.Closed.{has}
 use Rattle.cfi_flow.specs.GraphAtMap.{class_lines}
-use Rattle.cfi_verify.specs.Lines.{class_of, is_among}
+use Rattle.cfi_unit.specs.declared.target_word.TargetWord.TheVariants.{First}
+use Rattle.cfi_verify.specs.Lines.{class_with, is_among, targets_for}
 
 -- a gate is among those of a class just where its place is a member
 pub among_to : (gates : ℕ → ℕ) (class : List ℕ) (k : ℕ) → has k class ≡ true → is_among (gates k) (map gates class) ≡ true
@@ -55,42 +58,48 @@ all_classes_lines gates (l ∷ labels) [] = refl
 all_classes_lines gates [] (c ∷ classes) = refl
 all_classes_lines gates (l ∷ labels) (c ∷ classes) = all_classes_lines gates labels classes
 
--- the targets of a label are those of a class with that label
-pub record HasTargets (gates labels : List ℕ) (classes : List (List ℕ)) (label : ℕ) (targets : List ℕ) : Type 0 where
+-- what the line of a class says
+abbrev pub class_line : List ℕ → ℕ → List ℕ → ClassLine
+class_line gates label class = record { sort = Both; label = label; targets = map (slice_index gates) class }
+
+-- what is said under a label is said of a class with that label
+pub record HasTargets (gates labels : List ℕ) (classes : List (List ℕ)) (label : ℕ) (line : ClassLine) : Type 0 where
   pub index : ℕ
   pub class : List ℕ
   pub label_is : slice_get labels index ≡ Some label
   pub class_is : slice_get classes index ≡ Some class
-  pub targets_are : map (slice_index gates) class ≡ targets
+  pub line_is : class_line gates label class ≡ line
 
-pub targets_of : (gates labels : List ℕ) (classes : List (List ℕ)) (label : ℕ) (targets : List ℕ) → class_of (class_lines gates labels classes) label ≡ Some targets →
-    HasTargets gates labels classes label targets
-unfolding class_lines class_of
-targets_of gates [] [] label targets e = absurd (cc)
-targets_of gates (l ∷ labels) [] label targets e = absurd (cc)
-targets_of gates [] (c ∷ classes) label targets e = absurd (cc)
-targets_of gates (l ∷ labels) (c ∷ classes) label targets e =
+pub targets_of : (gates labels : List ℕ) (classes : List (List ℕ)) (label : ℕ) (line : ClassLine) → class_with (class_lines gates labels classes) label ≡ Some line →
+    HasTargets gates labels classes label line
+unfolding class_lines class_with
+targets_of gates [] [] label line e = absurd (cc)
+targets_of gates (l ∷ labels) [] label line e = absurd (cc)
+targets_of gates [] (c ∷ classes) label line e = absurd (cc)
+targets_of gates (l ∷ labels) (c ∷ classes) label line e =
     elim (cases_Bool (l == label)) [
       | inl here ↦
-          let first : Some (map (slice_index gates) c) ≡ Some targets = rw here at e in
-          record { index = 0; class = c; label_is = ap Some (eqb-true l label here); class_is = refl; targets_are = same_Some (map (slice_index gates) c) targets first }
+          let first : Some (class_line gates l c) ≡ Some line = rw here at e in
+          let same : l ≡ label = eqb-true l label here in
+          let line_is : class_line gates label c ≡ line = ap (λ (n : ℕ). class_line gates n c) (sym same) ∙ same_Some (class_line gates l c) line first in
+          record { index = 0; class = c; label_is = ap Some same; class_is = refl; line_is = line_is }
       | inr other ↦
-          let past : class_of (class_lines gates labels classes) label ≡ Some targets = rw other at e in
-          let rest = targets_of gates labels classes label targets past in
-          record { index = suc rest.index; class = rest.class; label_is = rest.label_is; class_is = rest.class_is; targets_are = rest.targets_are }
+          let past : class_with (class_lines gates labels classes) label ≡ Some line = rw other at e in
+          let rest = targets_of gates labels classes label line past in
+          record { index = suc rest.index; class = rest.class; label_is = rest.label_is; class_is = rest.class_is; line_is = rest.line_is }
     ]
 
--- each label that is given has a class
-pub class_given : (gates labels : List ℕ) (classes : List (List ℕ)) (n : ℕ) → n < length labels → length labels ≡ length classes →
-    is_some (class_of (class_lines gates labels classes) (slice_index labels n)) ≡ true
-unfolding class_lines class_of
-class_given gates [] classes n below same = absurd (omega arith)
-class_given gates (l ∷ labels) [] n below same = absurd (omega arith)
-class_given gates (l ∷ labels) (c ∷ classes) zero below same = rw (eq-eqb l l refl) refl
-class_given gates (l ∷ labels) (c ∷ classes) (suc n) below same =
+-- a class with each label that is given serves each computed transfer
+pub class_given : (gates labels : List ℕ) (classes : List (List ℕ)) (kind : SiteKind) (n : ℕ) → n < length labels → length labels ≡ length classes →
+    is_some (targets_for (class_lines gates labels classes) kind First (slice_index labels n)) ≡ true
+unfolding class_lines class_with targets_for
+class_given gates [] classes kind n below same = absurd (omega arith)
+class_given gates (l ∷ labels) [] kind n below same = absurd (omega arith)
+class_given gates (l ∷ labels) (c ∷ classes) kind zero below same = rw (eq-eqb l l refl) refl
+class_given gates (l ∷ labels) (c ∷ classes) kind (suc n) below same =
     elim (cases_Bool (l == slice_index labels n)) [
       | inl here ↦ rw here refl
-      | inr other ↦ rw other (class_given gates labels classes n (omega arith) (omega arith))
+      | inr other ↦ rw other (class_given gates labels classes kind n (omega arith) (omega arith))
     ]
 
 -- lines of classes are a graph's: labels and addresses are in range, targets and labels rise

@@ -1,9 +1,10 @@
 -- The units and classes that are written are sound.
-use Rattle.std.proofs.Common.{◌≡◌, ℕ, zero, suc, ◌+◌, ◌%◌, ◌/◌, ◌^◌, ◌≤◌, ◌<◌, inl, Bool, true, false, List, [], ◌∷◌, ◌++◌, length, length-append, map, Option, Some, None, refl, sym, ap, subst, ◌∙◌, arith, Contains}
-use Rattle.std.specs.Prelude.{IsTrue, is_some, slice_get, slice_index, slice_index_or}
+use Rattle.std.proofs.Common.{◌≡◌, ℕ, zero, suc, ◌+◌, ◌%◌, ◌/◌, ◌^◌, ◌≤◌, ◌<◌, inl, inr, Bool, true, false, List, [], ◌∷◌, ◌++◌, length, length-append, Option, Some, None, refl, sym, ap, subst, ◌∙◌, arith, Contains}
+use Rattle.std.specs.Prelude.{IsTrue, is_some, option_and_then, slice_get, slice_index, slice_index_or}
 use Rattle.std.specs.List.{last_or}
-use Rattle.std.proofs.lemmas.Option.{get_or_from_slice_get, same_Some, slice_get_within, slice_get-get_or}
+use Rattle.std.proofs.lemmas.Option.{get_or_from_slice_get, none-some, same_Some, slice_get_within, slice_get-get_or}
 use Rattle.rv_word.specs.MemoryMap.{CODE_SIZE, CODE_START, OPENING_CALL, UNITS_START, version_1}
+use Rattle.rv_word.proofs.Cases.{cases_Option}
 use Rattle.rv_instr.specs.declared.instr.Instr.{Instr}
 use Rattle.obj_input.specs.declared.item_kind.ItemKind.{ItemKind}
 use Rattle.obj_input.specs.declared.item_kind.ItemKind.TheVariants as is
@@ -13,8 +14,8 @@ use Rattle.rv_code.specs.Decode.{decoded}
 use Rattle.obj_program.specs.Program.{count, is_end, item_of, no_item}
 use Rattle.obj_program.proofs.Read.{read_there}
 use Rattle.cfi_class.specs.Classes.{IsIn}
-use Rattle.cfi_graph.specs.declared.line.GraphLine.TheVariants.{Class}
 use Rattle.cfi_graph.specs.declared.line.SiteKind.{SiteKind}
+use Rattle.cfi_graph.specs.Graph.{ClassLine, class_in}
 use Rattle.cfi_flow.specs.Closed.{has}
 use Rattle.cfi_flow.specs.GraphAtMap.{gate, gate_to}
 use Rattle.cfi_flow.specs.LabelOf.{all_classes, empty_classes, site_label, site_number, with_empty}
@@ -25,15 +26,17 @@ use Rattle.cfi_flow.specs.declared.closed.Site.{Site}
 use Rattle.cfi_unit.specs.declared.place.Place.TheVariants.{Body as body}
 use Rattle.cfi_unit.specs.declared.unit.Unit as U
 use Rattle.cfi_unit.specs.declared.unit.Unit.TheVariants as V
+use Rattle.cfi_unit.specs.declared.target_word.TargetWord.TheVariants.{First}
 use Rattle.cfi_unit.specs.UnitWords.{Reaches}
-use Rattle.cfi_verify.specs.Lines.{class_of, is_among}
+use Rattle.cfi_verify.specs.Lines.{class_with, is_among, is_word_of, read_of, targets_for}
 use Rattle.cfi_verify.specs.Rules.{site_of}
-use Rattle.cfi_verify.specs.Sound.{IsSound, StartsIn, target_of}
+use Rattle.cfi_verify.specs.Sound.{Bears, IsSound, StartsIn, target_of}
 use Rattle.cfi_verify.specs.Split.{unit_in}
+use Rattle.cfi_verify.specs.declared.place.Asks.{Asks}
 use Rattle.cfi_harden.specs.Accepted.{IsAccepted}
 use Rattle.cfi_harden.specs.Laws.{WrittenIsSound, written_classes}
 use Rattle.cfi_harden.specs.Units.{Choice, entry_gate, instr_of, unit_for, unit_of, units, units_from, with_gate}
-use Rattle.cfi_harden.proofs.ClassLines.{all_classes_lines, among_from, among_to, class_given, line_get, targets_of}
+use Rattle.cfi_harden.proofs.ClassLines.{all_classes_lines, class_line, among_from, among_to, class_given, line_get, targets_of}
 use Rattle.cfi_harden.proofs.Fitting.{IsInCode, reach}
 use Rattle.cfi_harden.proofs.InstrAt.{gate_number}
 use Rattle.cfi_harden.proofs.Labelled.{has_in, label_found, label_once, labelled, site_below, used_in}
@@ -123,25 +126,25 @@ module _ (m : Choice) (ok : IsAccepted m) where
       let same : gate m.layout t ≡ target = ap (gate_to m.layout) (sym some) ∙ aim.1 in
       subst (λ (b : ℕ). StartsIn version_1 (units m) b) same (starts m ok t there)
 
-  -- the label of a site is a class's
+  -- a class with the label of a site serves it
   site_given : (k : ℕ) (site : SiteKind) → k < count m.layout.program → site_kind (item_of m.layout.program k).kind ≡ Some site →
-      is_some (class_of (written_classes m) (site_label m.labels m.layout.closed k)) ≡ true
+      is_some (targets_for (written_classes m) site First (site_label m.labels m.layout.closed k)) ≡ true
   site_given k site below some =
       let (i, one, get, place) = ok.sites k below (ap is_some some) in
       let all = length-append m.layout.closed.classes (empty_classes m.layout.closed.sites) in
       let counted = ok.counted in
       let less = site_below m.layout.closed.sites (length m.layout.closed.classes) k (length m.layout.closed.classes) (omega arith) ok.site_classes i one get place in
-      class_given m.layout.gates m.labels (all_classes m.layout.closed) (site_number m.layout.closed.sites (length m.layout.closed.classes) k) (omega arith) counted
+      class_given m.layout.gates m.labels (all_classes m.layout.closed) site (site_number m.layout.closed.sites (length m.layout.closed.classes) k) (omega arith) counted
 
-  asks : (k a label : ℕ) (u : U.Unit) (kind : SiteKind) → k < count m.layout.program → IsUnit m k (item_of m.layout.program k) a u → site_of (body u) ≡ Some (kind, label) →
-      is_some (class_of (written_classes m) label) ≡ true
-  asks k a label u kind below (gate_word l some here gate_is) e =
+  site_served : (k a : ℕ) (u : U.Unit) (asked : Asks) → k < count m.layout.program → IsUnit m k (item_of m.layout.program k) a u → site_of (body u) ≡ Some asked →
+      is_some (targets_for (written_classes m) asked.kind asked.which asked.label) ≡ true
+  site_served k a u asked below (gate_word l some here gate_is) e =
       let wrong : false ≡ true = sym (ap (λ (v : U.Unit). is_some (site_of (body v))) gate_is) ∙ ap is_some e in absurd (cc)
-  asks k a label u kind below (own here unit_is) e =
-      let of : site_of (body (unit_for m k (item_of m.layout.program k))) ≡ Some (kind, label) = sym (ap (λ (v : U.Unit). site_of (body v)) unit_is) ∙ e in
-      let site = unit_site (item_of m.layout.program k).kind (instr_of m k) (is_long m.long k) (gate_to m.layout (item_of m.layout.program k).target)
-      (site_label m.labels m.layout.closed k) label kind (right m ok k below) of in
-      subst (λ (l : ℕ). is_some (class_of (written_classes m) l) ≡ true) site.1 (site_given k kind below site.0)
+  site_served k a u asked below (own here unit_is) e =
+      let of : site_of (body (unit_for m k (item_of m.layout.program k))) ≡ Some asked = sym (ap (λ (v : U.Unit). site_of (body v)) unit_is) ∙ e in
+      let (kind, site, same) = unit_site (item_of m.layout.program k).kind (instr_of m k) (is_long m.long k) (gate_to m.layout (item_of m.layout.program k).target)
+      (site_label m.labels m.layout.closed k) asked (right m ok k below) of in
+      subst (λ (s : Asks). is_some (targets_for (written_classes m) s.kind s.which s.label) ≡ true) same (site_given k kind below site)
 
   -- a member of a class
   is_in : (j k : ℕ) (class : List ℕ) → slice_get m.layout.closed.classes j ≡ Some class → has k class ≡ true → IsIn m.layout.closed.classes j k
@@ -160,36 +163,40 @@ module _ (m : Choice) (ok : IsAccepted m) where
       label_found m.labels m.layout.closed.classes j k label class label_is first there
       (λ i other at also. ok.apart i j k (is_in i k other at also) (is_in j k class first there))
 
-  gated : (j label a : ℕ) (targets : List ℕ) → slice_get (written_classes m) j ≡ Some (Class label targets) → IsTrue (is_among a targets) →
-      unit_in (units m) UNITS_START a ≡ Some (V.Gate label)
-  gated j label a targets get among =
-      let line = line_get m.layout.gates m.labels (all_classes m.layout.closed) j (Class label targets) get in
-      let line_is = line.line_is in
-      let same : label ≡ line.label = cc in
-      let those : targets ≡ map (slice_index m.layout.gates) line.class = cc in
-      let (k, there, here) = among_from (slice_index m.layout.gates) line.class a (ap (is_among a) (sym those) ∙ among) in
-      let below = member_there j k line.class line.class_is there in
-      ap (unit_in (units m) UNITS_START) (sym here)
-      ∙ gate_there m ok k line.label below (member_labelled j k line.label line.class line.label_is line.class_is there)
-      ∙ ap (λ (l : ℕ). Some (V.Gate l)) (sym same)
+  gated : (j a : ℕ) (class : ClassLine) → option_and_then class_in (slice_get (written_classes m) j) ≡ Some class → IsTrue (is_among a class.targets) →
+      Bears version_1 (units m) (read_of class.sort) a class.label
+  gated j a class e among =
+      elim (cases_Option (slice_get (written_classes m) j)) [
+        | inl none ↦ absurd (none-some class (sym (ap (option_and_then class_in) none) ∙ e))
+        | inr (given, get) ↦
+            let line = line_get m.layout.gates m.labels (all_classes m.layout.closed) j given get in
+            let said : Some (class_line m.layout.gates line.label line.class) ≡ Some class = sym (ap (option_and_then class_in) (get ∙ ap Some line.line_is)) ∙ e in
+            let same : class_line m.layout.gates line.label line.class ≡ class = same_Some (class_line m.layout.gates line.label line.class) class said in
+            let (k, there, here) = among_from (slice_index m.layout.gates) line.class a (ap (λ (c : ClassLine). is_among a c.targets) same ∙ among) in
+            let below = member_there j k line.class line.class_is there in
+            let stands : unit_in (units m) UNITS_START a ≡ Some (V.Gate line.label) =
+            ap (unit_in (units m) UNITS_START) (sym here)
+            ∙ gate_there m ok k line.label below (member_labelled j k line.label line.class line.label_is line.class_is there) in
+            subst (λ (c : ClassLine). Bears version_1 (units m) (read_of c.sort) a c.label) same stands
+      ]
 
   -- a gate with a class's label is one of its targets
-  astray_gate : (k label : ℕ) (targets : List ℕ) → label_of m k ≡ Some label → class_of (written_classes m) label ≡ Some targets →
-      is_among (gate m.layout k) targets ≡ true
-  astray_gate k label targets some e =
+  astray_gate : (k label : ℕ) (line : ClassLine) → label_of m k ≡ Some label → class_with (written_classes m) label ≡ Some line →
+      is_word_of (read_of line.sort) (gate m.layout k) line.targets ≡ true
+  astray_gate k label line some e =
       let of = labelled m.labels m.layout.closed.classes k label some in
-      let class = targets_of m.layout.gates m.labels (all_classes m.layout.closed) label targets e in
+      let class = targets_of m.layout.gates m.labels (all_classes m.layout.closed) label line e in
       let same : of.index ≡ class.index = label_once m.labels ok.labels_rise of.index class.index label of.label_is class.label_is in
       let at : slice_get (all_classes m.layout.closed) class.index ≡ Some of.class =
       ap (slice_get (all_classes m.layout.closed)) (sym same) ∙ in_more m.layout.closed.classes (empty_classes m.layout.closed.sites) of.index of.class of.class_is in
       let one : of.class ≡ class.class = same_Some of.class class.class (sym at ∙ class.class_is) in
-      ap (is_among (gate m.layout k)) (sym class.targets_are)
-      ∙ among_to (slice_index m.layout.gates) class.class k (ap (has k) (sym one) ∙ of.member)
+      subst (λ (c : ClassLine). is_word_of (read_of c.sort) (gate m.layout k) c.targets ≡ true) class.line_is
+      (among_to (slice_index m.layout.gates) class.class k (ap (has k) (sym one) ∙ of.member))
 
   -- and no `lui x0` of the program has a class's label
-  no_own : (k label : ℕ) (targets : List ℕ) → k < count m.layout.program → unit_for m k (item_of m.layout.program k) ≡ V.Gate label →
-      class_of (written_classes m) label ≡ Some targets → ⊥
-  no_own k label targets below e asked =
+  no_own : (k label : ℕ) (line : ClassLine) → k < count m.layout.program → unit_for m k (item_of m.layout.program k) ≡ V.Gate label →
+      class_with (written_classes m) label ≡ Some line → ⊥
+  no_own k label line below e asked =
       let (kind, (op, rd, instr)) = unit_gate (item_of m.layout.program k).kind (instr_of m k) (is_long m.long k) (gate_to m.layout (item_of m.layout.program k).target)
       (site_label m.labels m.layout.closed k) label (right m ok k below) e in
       let some = no_end (item_of m.layout.program k).kind kind in
@@ -198,17 +205,17 @@ module _ (m : Choice) (ok : IsAccepted m) where
       (instr_is m ok k below some ∙ ap Some instr) in
       let used : Contains (used_labels m.layout.program) ((item_of m.layout.program k).word / 2 ^ 12) =
       used_in m.layout.program.items k (item_of m.layout.program k) (slice_get-get_or m.layout.program.items k no_item below) (gate_is (item_of m.layout.program k).kind kind) in
-      let class = targets_of m.layout.gates m.labels (all_classes m.layout.closed) label targets asked in
+      let class = targets_of m.layout.gates m.labels (all_classes m.layout.closed) label line asked in
       let there = slice_get_within m.labels class.index label class.label_is in
       let label_is : slice_index m.labels class.index ≡ label = get_or_from_slice_get m.labels class.index label 0 class.label_is in
       (ok.labels class.index there).free (inl (subst (λ (n : ℕ). Contains (used_labels m.layout.program) n) (sym number ∙ sym label_is) used))
 
-  strays : (k label a : ℕ) (targets : List ℕ) → k < count m.layout.program → IsUnit m k (item_of m.layout.program k) a (V.Gate label) → class_of (written_classes m) label ≡ Some targets →
-      IsTrue (is_among a targets)
-  strays k label a targets below (gate_word l some here gate_is) asked =
+  strays : (k label a : ℕ) (line : ClassLine) → k < count m.layout.program → IsUnit m k (item_of m.layout.program k) a (V.Gate label) → class_with (written_classes m) label ≡ Some line →
+      IsTrue (is_word_of (read_of line.sort) a line.targets)
+  strays k label a line below (gate_word l some here gate_is) asked =
       let same : label ≡ l = cc in
-      ap (λ (b : ℕ). is_among b targets) here ∙ astray_gate k label targets (some ∙ ap Some (sym same)) asked
-  strays k label a targets below (own here unit_is) asked = absurd (no_own k label targets below (sym unit_is) asked)
+      ap (λ (b : ℕ). is_word_of (read_of line.sort) b line.targets) here ∙ astray_gate k label line (some ∙ ap Some (sym same)) asked
+  strays k label a line below (own here unit_is) asked = absurd (no_own k label line below (sym unit_is) asked)
 
   -- the last unit is a stop
   last_stops : last_or None (units m) ≡ Some V.Stop
@@ -229,9 +236,9 @@ module _ (m : Choice) (ok : IsAccepted m) where
     entry_starts = starts m ok m.layout.entry ok.entry_there;
     targets = λ a target u e leads_to. let at = found m ok a u e in leads at.index a target u at.below at.unit leads_to;
     classes_are = all_classes_lines m.layout.gates m.labels (all_classes m.layout.closed);
-    labels = λ a label u kind e asked. let at = found m ok a u e in asks at.index a label u kind at.below at.unit asked;
+    labels = λ a u asked e wants. let at = found m ok a u e in site_served at.index a u asked at.below at.unit wants;
     gates = gated;
-    astray = λ label a targets e asked. let at = found m ok a (V.Gate label) e in strays at.index label a targets at.below at.unit asked;
+    astray = λ label a line e asked. let at = found m ok a (V.Gate label) e in strays at.index label a line at.below at.unit asked;
     ends = last_stops;
   }
 

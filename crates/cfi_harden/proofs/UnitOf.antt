@@ -1,7 +1,7 @@
 -- The unit of an instruction that is of its kind: its size, its line, where it leads.
 use Rattle.std.proofs.Common.{◌≡◌, ℕ, ◌*◌, Bool, true, false, Some, refl, ap}
 use Rattle.std.specs.Prelude.{◌&&◌, ◌||◌, not}
-use Rattle.std.proofs.lemmas.Option.{some_pair_parts}
+use Rattle.std.proofs.lemmas.Option.{same_Some}
 use Rattle.rv_instr.specs.declared.instr.UpperOp.{UpperOp}
 use Rattle.rv_instr.specs.declared.instr.Instr.{Instr}
 use Rattle.rv_instr.specs.declared.instr.Instr.TheVariants as I
@@ -17,10 +17,12 @@ use Rattle.cfi_flow.specs.Placement.{size_of}
 use Rattle.cfi_flow.specs.Sites.{site_kind}
 use Rattle.cfi_unit.specs.declared.place.Place.TheVariants.{Body as body}
 use Rattle.cfi_unit.specs.declared.unit.Unit.TheVariants as V
+use Rattle.cfi_unit.specs.declared.target_word.TargetWord.TheVariants.{First}
 use Rattle.cfi_unit.specs.UnitWords.{word_count}
 use Rattle.cfi_verify.specs.Placed.{line_of}
-use Rattle.cfi_verify.specs.Rules.{site_of}
+use Rattle.cfi_verify.specs.Rules.{asks, site_of}
 use Rattle.cfi_verify.specs.Sound.{target_of}
+use Rattle.cfi_verify.specs.declared.place.Asks.{Asks}
 use Rattle.cfi_harden.specs.Units.{unit_of}
 
 -- what is known of the instruction of a place: it is of the place's kind and names no reserved register, or the place is an end
@@ -82,22 +84,22 @@ unit_target is.End i long target label t right e = absurd (cc)
 unit_target kind i long target label t right e = absurd (cc)
 
 -- it asks for its label, where its kind is a computed transfer's
-pub unit_site : (kind : ItemKind) (i : Instr) (long : Bool) (target label l : ℕ) (site : SiteKind) → is_right kind i ≡ true →
-    site_of (body (unit_of kind i long target label)) ≡ Some (site, l) → (site_kind kind ≡ Some site) × (label ≡ l)
-unit_site is.Ijump (I.Jalr rd rs1 imm) long target label l site right e = let parts = some_pair_parts K.Jump site label l e in (ap Some parts.0, parts.1)
-unit_site is.Icall (I.Jalr rd rs1 imm) long target label l site right e = let parts = some_pair_parts K.Call site label l e in (ap Some parts.0, parts.1)
-unit_site is.Branch (I.Branch op rs1 rs2 imm) true target label l site right e = absurd (cc)
-unit_site is.Branch (I.Branch op rs1 rs2 imm) false target label l site right e = absurd (cc)
-unit_site is.Jump i long target label l site right e = absurd (cc)
-unit_site is.Call i long target label l site right e = absurd (cc)
-unit_site is.Gate (I.Upper op rd imm) long target label l site right e = absurd (cc)
-unit_site is.Plain i long target label l site right e = absurd (cc)
-unit_site is.Store (I.Store op rs1 rs2 imm) long target label l site right e = absurd (cc)
-unit_site is.System I.Ecall long target label l site right e = absurd (cc)
-unit_site is.System I.Ebreak long target label l site right e = absurd (cc)
-unit_site is.Return i long target label l site right e = absurd (cc)
-unit_site is.End i long target label l site right e = absurd (cc)
-unit_site kind i long target label l site right e = absurd (cc)
+pub unit_site : (kind : ItemKind) (i : Instr) (long : Bool) (target label : ℕ) (asked : Asks) → is_right kind i ≡ true →
+    site_of (body (unit_of kind i long target label)) ≡ Some asked → (site : SiteKind) × (site_kind kind ≡ Some site) × (asks site First label ≡ asked)
+unit_site is.Ijump (I.Jalr rd rs1 imm) long target label asked right e = (K.Jump, refl, same_Some (asks K.Jump First label) asked e)
+unit_site is.Icall (I.Jalr rd rs1 imm) long target label asked right e = (K.Call, refl, same_Some (asks K.Call First label) asked e)
+unit_site is.Branch (I.Branch op rs1 rs2 imm) true target label asked right e = absurd (cc)
+unit_site is.Branch (I.Branch op rs1 rs2 imm) false target label asked right e = absurd (cc)
+unit_site is.Jump i long target label asked right e = absurd (cc)
+unit_site is.Call i long target label asked right e = absurd (cc)
+unit_site is.Gate (I.Upper op rd imm) long target label asked right e = absurd (cc)
+unit_site is.Plain i long target label asked right e = absurd (cc)
+unit_site is.Store (I.Store op rs1 rs2 imm) long target label asked right e = absurd (cc)
+unit_site is.System I.Ecall long target label asked right e = absurd (cc)
+unit_site is.System I.Ebreak long target label asked right e = absurd (cc)
+unit_site is.Return i long target label asked right e = absurd (cc)
+unit_site is.End i long target label asked right e = absurd (cc)
+unit_site kind i long target label asked right e = absurd (cc)
 
 -- a gate word is that of `lui x0`
 pub unit_gate : (kind : ItemKind) (i : Instr) (long : Bool) (target label l : ℕ) → is_right kind i ≡ true →

@@ -5,17 +5,17 @@ ghost use Rattle.obj_program.specs.Program.{count, item_of, no_item};
 ghost use Rattle.obj_program.specs.Sound.{IsSound};
 
 use crate::prepared::Prepared;
-use obj_program::{Item, Items};
+use obj_program::{Items, PackedItem};
 
 /// The word of a place has 32 bits.
-fn word_fits(item: &Item)
+fn word_fits(item: &PackedItem)
     ensures { item.now.word < 2 ^ 32 }
 {
-    let _word = item.word;
+    let _word = item.word();
 }
 
 /// The words of these places have 32 bits.
-fn words_fit(items: &[Item])
+fn words_fit(items: &[PackedItem])
     ensures { (k : ℕ) → k < length items.now → (slice_index_or items.now k no_item).word < 2 ^ 32 }
 {
     for item in items {

@@ -15,7 +15,6 @@ use Rattle.cfi_unit.specs.declared.unit.SystemOp.TheVariants as S
 use Rattle.cfi_unit.specs.UnitWords.{Fits, gate, instrs_of, is_plain, word_count}
 use Rattle.cfi_unit.specs.Place.{Place, handler, opening, closing, body, place_instrs, place_size}
 use Rattle.cfi_unit.specs.Stand.{Stand}
-use Rattle.cfi_unit.specs.Leads.{HasLabel}
 use Rattle.cfi_unit.specs.UnitLaw.{MayStand}
 
 -- the word that a check compares with is a gate
@@ -125,17 +124,16 @@ place_length (opening entry) at = refl
 place_length closing at = refl
 place_length (body unit) at = unit_size unit at
 
--- an address that bears a label, in a place, is the start of a gate of that label
+-- an address in a place at which a label's word stands is the start of a gate of that label
 pub label_is_gate : (image : Memory) (part : ℕ) (pending : List ℕ) (place : Place) (at label v : ℕ) → MayStand place part at pending →
-    Stand image at (place_instrs place at) → label < 2 ^ 20 → HasLabel image label v → at ≤ v → v < at + place_size place →
+    Stand image at (place_instrs place at) → label < 2 ^ 20 → v % 4 ≡ 0 → read 4 image v ≡ label * 4096 + 55 → at ≤ v → v < at + place_size place →
     (place ≡ body (V.Gate label)) × (v ≡ at)
-label_is_gate image part pending place at label v may w low has from to =
+label_is_gate image part pending place at label v may w low round_v word_v from to =
     let size = place_length place at in
     let round = w.round in
-    let round_v = has.round in
     let here : v ≡ at + 4 * ((v - at) / 4) = omega arith in
     let gate_here : decoded (read 4 image (at + 4 * ((v - at) / 4))) ≡ Some (gate label) =
-    gate_word _ label low (ap (read 4 image) (sym here) ∙ has.word) in
+    gate_word _ label low (ap (read 4 image) (sym here) ∙ word_v) in
     elim (slice_get_cases (place_instrs place at) ((v - at) / 4)).1 [
       | inl found ↦
           let word = w.words ((v - at) / 4) found.0 found.2 in

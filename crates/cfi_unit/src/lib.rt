@@ -8,6 +8,7 @@ pub use emission::{emit, fits, size};
 pub use place::Place;
 pub use recogniser::recognise;
 pub use step_law::unit_law;
+pub use target_word::TargetWord;
 pub use unit::{SystemOp, Unit};
 pub use words::WordList;
 
@@ -19,6 +20,7 @@ pub mod laws;
 mod place;
 mod recogniser;
 mod step_law;
+mod target_word;
 mod template;
 mod unit;
 mod words;

@@ -27,7 +27,7 @@ use Rattle.cfi_unit.specs.Recognise.{recognised}
 use Rattle.cfi_unit.specs.Shadow.{slot, Holds}
 use Rattle.cfi_unit.specs.UnitWords.{BAD_TARGET, DEEP, words_of}
 use Rattle.cfi_verify.specs.Along.{Walk, Arrives, JumpChooses, Chooses, ShadowStands, OnRan, RunsAlong, AreDataChanges, IsSafe}
-use Rattle.cfi_verify.specs.Lines.{class_of}
+use Rattle.cfi_verify.specs.Lines.{class_with, targets_for}
 use Rattle.cfi_verify.specs.Split.{code_words, starts, is_start, unit_at, place_at}
 use Rattle.cfi_verify.specs.Unsafe.{astray_call, astray_call_graph, halted_jump, halted_jump_graph, WrongTransfersAreUnsafe, high_pointer, lost_site, opening_graph, WrongShadowsAreUnsafe}
 use Rattle.cfi_verify.specs.Walk.{Goes}
@@ -181,7 +181,7 @@ pub wrong_shadows_unsafe : WrongShadowsAreUnsafe
 wrong_shadows_unsafe = record { pointer = pointer_unsafe; slot = slot_unsafe }
 
 astray_unsafe : IsSafe astray_call astray_call_graph → ⊥
-unfolding loaded placed decoded code_of step write last_exit code_words recognised words_of starts is_start unit_at place_at after_calm quiet is_ran class_of
+unfolding loaded placed decoded code_of step write last_exit code_words recognised words_of starts is_start unit_at place_at after_calm quiet is_ran class_with targets_for
 astray_unsafe safe =
     let call : Place = body (V.Icall 1 88 1) in
     let f = first astray_call astray_call_graph 0x40000040 call (calm 16 ++ ([] ∷ [])) refl (record { runs = refl; still = refl; there = refl }) (calm_is_data 17) safe in
@@ -194,7 +194,7 @@ astray_unsafe safe =
     ]
 
 halted_unsafe : IsSafe halted_jump halted_jump_graph → ⊥
-unfolding loaded placed decoded code_of step write last_exit code_words recognised words_of starts is_start unit_at place_at after_calm quiet is_ran class_of
+unfolding loaded placed decoded code_of step write last_exit code_words recognised words_of starts is_start unit_at place_at after_calm quiet is_ran class_with targets_for
 halted_unsafe safe =
     let jump : Place = body (V.Ijump 1 60 1) in
     let f = first halted_jump halted_jump_graph 0x40000040 jump (calm 10 ++ ([] ∷ [])) refl (record { runs = refl; still = refl; there = refl }) (calm_is_data 11) safe in

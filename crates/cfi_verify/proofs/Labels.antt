@@ -1,11 +1,13 @@
 -- What stands at each place does stand, and a word with a class's label stands only at the class's
 -- targets.
-use Rattle.std.proofs.Common.{◌≡◌, ℕ, ◌+◌, ◌-◌, ◌*◌, ◌^◌, ◌≤◌, ◌<◌, ◌⊎◌, inl, inr, List, [], length, refl, sym, ap, subst, ◌∙◌, Some, arith}
+use Rattle.std.proofs.Common.{◌≡◌, ℕ, ◌+◌, ◌-◌, ◌*◌, ◌%◌, ◌^◌, ◌≤◌, ◌<◌, ◌⊎◌, inl, inr, List, [], length, refl, sym, ap, subst, ◌∙◌, Some, arith}
 use Rattle.std.proofs.lemmas.Bool.{cases_lt}
 use Rattle.rv_word.specs.Image.{Contents}
 use Rattle.rv_word.specs.MemoryMap.{CODE_START, SHADOW_START, version_1, UNITS_START}
-use Rattle.rv_word.specs.Memory.{loaded}
+use Rattle.rv_word.specs.Memory.{loaded, read}
+use Rattle.cfi_graph.specs.declared.line.SiteKind.{SiteKind}
 use Rattle.cfi_graph.specs.Graph.{GraphParts}
+use Rattle.cfi_unit.specs.declared.target_word.TargetWord.TheVariants.{First}
 use Rattle.cfi_unit.specs.declared.unit.Unit.TheVariants as V
 use Rattle.cfi_unit.specs.Leads.{HasLabel}
 use Rattle.cfi_unit.specs.declared.place.Place.{Place}
@@ -17,7 +19,7 @@ use Rattle.cfi_unit.specs.UnitLaw.{ReturnsTo, MayStand}
 use Rattle.cfi_unit.specs.UnitWords.{BAD_TARGET, BAD_RETURN, DEEP}
 use Rattle.cfi_unit.proofs.Gates.{label_is_gate}
 use Rattle.cfi_unit.proofs.PrologueUnits.{PrologueStands, prologue_stands}
-use Rattle.cfi_verify.specs.Lines.{class_of}
+use Rattle.cfi_verify.specs.Lines.{holds_of, is_among, targets_for}
 use Rattle.cfi_verify.specs.Rules.{IsWellFormed}
 use Rattle.cfi_verify.specs.Split.{code_words, unit_at}
 use Rattle.cfi_verify.specs.Walk.{InClass}
@@ -59,13 +61,19 @@ module _ (image : Contents) (graph : GraphParts) (bytes : AreBytes image) (forme
   may_stand closing a pending facts first = tt
   may_stand (body unit) a pending facts first = (facts.begins.fits, first)
 
+  -- the word of `lui x0,label` stands at an address from the start of code on
+  record IsLabelAt (label v : ℕ) : Type 0 where
+    round : v % 4 ≡ 0
+    low : CODE_START ≤ v
+    word : read 4 (loaded image) v ≡ label * 4096 + 55
+
   -- no word of what stands before the first unit bears a label
-  before_units : (place : Place) (a label v : ℕ) → PlaceFacts image graph bytes formed place a → IsFirstCall place [] → label < 2 ^ 20 → HasLabel (loaded image) label v →
+  before_units : (place : Place) (a label v : ℕ) → PlaceFacts image graph bytes formed place a → IsFirstCall place [] → label < 2 ^ 20 → IsLabelAt label v →
       a ≤ v → v < a + place_size place → (place ≡ body (V.Gate label)) × (v ≡ a)
   before_units place a label v facts first low has from to =
-      label_is_gate (loaded image) SHADOW_START [] place a label v (may_stand place a [] facts first) (place_stands place a facts) low has from to
+      label_is_gate (loaded image) SHADOW_START [] place a label v (may_stand place a [] facts first) (place_stands place a facts) low has.round has.word from to
 
-  not_before : (label v : ℕ) → label < 2 ^ 20 → HasLabel (loaded image) label v → v < UNITS_START → ⊥
+  not_before : (label v : ℕ) → label < 2 ^ 20 → IsLabelAt label v → v < UNITS_START → ⊥
   not_before label v low has below =
       let code = has.low in
       elim (cases_lt v BAD_RETURN) [
@@ -87,9 +95,9 @@ module _ (image : Contents) (graph : GraphParts) (bytes : AreBytes image) (forme
   zero_past v past =
       ap (loaded image) (let z : v ≡ CODE_START + (v - CODE_START) = omega arith in z) ∙ loaded_past image bytes.size (v - CODE_START) (omega arith)
 
-  -- a word of code with a class's label is the gate of a target of the class
-  pub label_in_class : (label v : ℕ) (ts : List ℕ) → label < 2 ^ 20 → class_of graph.lines label ≡ Some ts → HasLabel (loaded image) label v → InClass graph.lines label v
-  label_in_class label v ts low class has =
+  -- a label's word stands in code only as the gate of the label
+  gate_there : (label v : ℕ) → label < 2 ^ 20 → IsLabelAt label v → unit_at version_1 (code_words image.code) v ≡ Some (V.Gate label)
+  gate_there label v low has =
       let whole = length-code_words image.code bytes.size.words in
       elim (cases_lt v (CODE_START + 4 * length (code_words image.code))) [
         | inl inside ↦ elim (cases_lt v UNITS_START) [
@@ -99,12 +107,17 @@ module _ (image : Contents) (graph : GraphParts) (bytes : AreBytes image) (forme
               let unit = around.1 in let s = around.0 in let place = around.2 in
               let found = before_units (body unit) s label v place.here tt low has place.from place.below in
               let gate : unit ≡ V.Gate label = let same = found.0 in cc in
-              let is : unit_at version_1 (code_words image.code) v ≡ Some (V.Gate label) =
-              ap (unit_at version_1 (code_words image.code)) found.1 ∙ place.here.is ∙ ap Some gate in
-              rw class (gate_listed image graph formed v label ts is class)
+              ap (unit_at version_1 (code_words image.code)) found.1 ∙ place.here.is ∙ ap Some gate
         ]
         | inr past ↦
             let z0 = zero_past v (omega arith) in let z1 = zero_past (v + 1) (omega arith) in
             let z2 = zero_past (v + 1 + 1) (omega arith) in let z3 = zero_past (v + 1 + 1 + 1) (omega arith) in
             let word = has.word in absurd (omega arith)
       ]
+
+  -- where a class's label is borne is a target of the class
+  pub label_in_class : (kind : SiteKind) (label v : ℕ) (ts : List ℕ) → label < 2 ^ 20 → targets_for graph.lines kind First label ≡ Some ts → HasLabel (loaded image) label v →
+      InClass graph.lines kind First label v
+  label_in_class kind label v ts low class has =
+      let is = gate_there label v low (record { round = has.round; low = has.low; word = has.word }) in
+      ap (λ o. holds_of o (is_among v)) class ∙ gate_listed image graph formed kind First v label ts is class

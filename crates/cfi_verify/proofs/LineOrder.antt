@@ -1,15 +1,15 @@
 -- Lines whose keys rise: a key stands at one place, and the line with a key is found by it.
 use Rattle.std.proofs.Common.{◌≡◌, ◌≢◌, ◌<◌, ℕ, zero, suc, ◌==◌, true, false, List, [], ◌∷◌, map, Option, Some, None, refl, sym, ap, ◌∙◌, arith, inl, inr}
-use Rattle.std.specs.Prelude.{slice_get, if◌then◌else◌}
+use Rattle.std.specs.Prelude.{slice_get, option_map, option_and_then, if◌then◌else◌}
 use Rattle.std.proofs.lemmas.Bool.{and_parts, cases_Bool, cases_order, ltb-true, ltb-false, eqb-true, eq-eqb, false≢true}
 use Rattle.std.proofs.lemmas.Option.{same_Some}
 use Rattle.cfi_graph.specs.declared.line.GraphLine.{GraphLine}
 use Rattle.cfi_graph.specs.declared.line.GraphLine.TheVariants.{Class, Site, Edge, Call}
 use Rattle.cfi_graph.specs.declared.line.Key.{Key}
 use Rattle.cfi_graph.specs.declared.line.Key.TheVariants.{Label, Address}
-use Rattle.cfi_graph.specs.Graph.{is_rising, key_below, key_of}
+use Rattle.cfi_graph.specs.Graph.{ClassLine, class_in, is_rising, key_below, key_of}
 use Rattle.cfi_graph.proofs.Rising.{key_transitive}
-use Rattle.cfi_verify.specs.Lines.{same_key, line_with, line_at, class_of}
+use Rattle.cfi_verify.specs.Lines.{same_key, line_with, line_at, class_of, class_with}
 
 pub below_self : (k : Key) → key_below k k ≡ true → ⊥
 below_self (Label a) e = let h : a < a = ltb-true a a e in omega arith
@@ -111,23 +111,27 @@ line_at-with (Site address kind label ∷ lines) a = ap (λ w. if address == a t
 line_at-with (Edge from to ∷ lines) a = ap (λ w. if from == a then Some (Edge from to) else w) (line_at-with lines a)
 line_at-with (Call from to ∷ lines) a = ap (λ w. if from == a then Some (Call from to) else w) (line_at-with lines a)
 
--- the targets in a class's line
-abbrev pub targets_of : Option GraphLine → Option (List ℕ)
-targets_of (Some (Class label targets)) = Some targets
-targets_of other = None
-
--- the class with a label is the one with that key
-pub class_of-with : (lines : List GraphLine) (l : ℕ) → class_of lines l ≡ targets_of (line_with lines (Label l))
-unfolding class_of line_with
-class_of-with [] l = refl
-class_of-with (Class label targets ∷ lines) l =
+-- the class with a label is that of the line with that key
+pub class_with-with : (lines : List GraphLine) (l : ℕ) → class_with lines l ≡ option_and_then class_in (line_with lines (Label l))
+unfolding class_with line_with
+class_with-with [] l = refl
+class_with-with (Class label targets ∷ lines) l =
     elim (cases_Bool (label == l)) [
       | inl s ↦ rw s refl
-      | inr s ↦ rw s (class_of-with lines l)
+      | inr s ↦ rw s (class_with-with lines l)
     ]
-class_of-with (Site address kind label ∷ lines) l = class_of-with lines l
-class_of-with (Edge from to ∷ lines) l = class_of-with lines l
-class_of-with (Call from to ∷ lines) l = class_of-with lines l
+class_with-with (Site address kind label ∷ lines) l = class_with-with lines l
+class_with-with (Edge from to ∷ lines) l = class_with-with lines l
+class_with-with (Call from to ∷ lines) l = class_with-with lines l
+
+-- the targets in a class's line
+abbrev pub targets_of : Option GraphLine → Option (List ℕ)
+targets_of line = option_map (λ (class : ClassLine). class.targets) (option_and_then class_in line)
+
+-- the targets of the class with a label are those of the line with that key
+pub class_of-with : (lines : List GraphLine) (l : ℕ) → class_of lines l ≡ targets_of (line_with lines (Label l))
+unfolding class_of
+class_of-with lines l = ap (option_map (λ (class : ClassLine). class.targets)) (class_with-with lines l)
 
 pub class_is : (lines : List GraphLine) (l : ℕ) (line : GraphLine) → line_with lines (Label l) ≡ Some line → targets_of (Some line) ≡ class_of lines l
 class_is lines l line e = ap targets_of (sym e) ∙ sym (class_of-with lines l)

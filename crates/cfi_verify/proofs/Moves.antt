@@ -2,6 +2,7 @@
 -- registers choose, with the pending sites that such a place asks for.
 use Rattle.std.proofs.Common.{◌≡◌, ℕ, ◌+◌, ◌*◌, ◌^◌, ◌≤◌, ◌<◌, inl, inr, true, false, List, [], ◌∷◌, length, refl, sym, ap, subst, ◌∙◌, Some, arith, lit≤}
 use Rattle.std.specs.Prelude.{option_map}
+use Rattle.std.proofs.lemmas.Bool.{false≢true}
 use Rattle.rv_word.specs.Image.{Contents}
 use Rattle.rv_word.specs.MemoryMap.{version_1, CLOSING}
 use Rattle.rv_word.specs.Memory.{read, loaded}
@@ -18,13 +19,14 @@ use Rattle.cfi_unit.specs.declared.unit.SystemOp.TheVariants as S
 use Rattle.cfi_unit.specs.Leads.{HasLabel, Leads, Returns, destination}
 use Rattle.cfi_unit.specs.declared.place.Place.{Place}
 use Rattle.cfi_unit.specs.declared.place.Place.TheVariants.{Handler as handler, Opening as opening, Closing as closing, Body as body}
-use Rattle.cfi_unit.specs.Prologue.{OPENING}
+use Rattle.cfi_unit.specs.declared.target_word.TargetWord.TheVariants.{First}
+use Rattle.cfi_unit.specs.Place.{place_size}
 use Rattle.cfi_unit.specs.Shadow.{MOST_PENDING}
-use Rattle.cfi_unit.specs.UnitWords.{BAD_TARGET, BAD_RETURN, DEEP, word_count, gate}
+use Rattle.cfi_unit.specs.UnitWords.{BAD_TARGET, BAD_RETURN, DEEP, after_unit, word_count, gate}
 use Rattle.cfi_unit.proofs.Labels.{word_small}
 use Rattle.cfi_verify.specs.Along.{Walk, ReturnChooses, Chooses}
-use Rattle.cfi_verify.specs.Lines.{class_of, is_among}
-use Rattle.cfi_verify.specs.Rules.{IsWellFormed, site_of, is_stop}
+use Rattle.cfi_verify.specs.Lines.{holds_of, is_among, targets_for}
+use Rattle.cfi_verify.specs.Rules.{IsWellFormed, asks, site_of, is_stop}
 use Rattle.cfi_verify.specs.Split.{code_words, is_start, place_at}
 use Rattle.cfi_verify.specs.Walk.{InClass, HasTarget, is_some_target, ReturnGoes, Goes}
 use Rattle.cfi_verify.specs.Laws.{AreBytes}
@@ -114,23 +116,23 @@ module _ (image : Contents) (graph : GraphParts) (bytes : AreBytes image) (forme
       let most = inside.most in
       to_start site v newer inside.sites.0 e (same_body (other ∷ more) newer same (record { sites = inside.sites.1; most = omega arith }))
 
-  class_parts : (label v : ℕ) → InClass graph.lines label v → (ts : List ℕ) × (class_of graph.lines label ≡ Some ts) × (is_among v ts ≡ true)
-  class_parts label v inside =
-      elim (cases_Option (class_of graph.lines label)) [
-        | inl none ↦ let e = rw none at inside in absurd (cc)
-        | inr (ts, some) ↦ (ts, some, rw some at inside)
+  class_parts : (kind : SiteKind) (label v : ℕ) → InClass graph.lines kind First label v → (ts : List ℕ) × (targets_for graph.lines kind First label ≡ Some ts) × (is_among v ts ≡ true)
+  class_parts kind label v inside =
+      elim (cases_Option (targets_for graph.lines kind First label)) [
+        | inl none ↦ absurd (false≢true (sym (ap (λ o. holds_of o (is_among v)) none) ∙ inside))
+        | inr (ts, some) ↦ (ts, some, sym (ap (λ o. holds_of o (is_among v)) some) ∙ inside)
       ]
 
   -- a target of a class is its gate, and bears its label
-  in_class_unit : (label v : ℕ) → InClass graph.lines label v → UnitHere W v (V.Gate label)
-  in_class_unit label v inside =
-      let c = class_parts label v inside in
-      unit_facts image graph bytes formed v (V.Gate label) (gate_stands image graph formed v label c.0 c.1 c.2)
+  in_class_unit : (kind : SiteKind) (label v : ℕ) → InClass graph.lines kind First label v → UnitHere W v (V.Gate label)
+  in_class_unit kind label v inside =
+      let c = class_parts kind label v inside in
+      unit_facts image graph bytes formed v (V.Gate label) (gate_stands image graph formed kind v label c.0 c.1 c.2)
 
-  pub in_class_label : (label v : ℕ) → InClass graph.lines label v → HasLabel (loaded image) label v
+  pub in_class_label : (kind : SiteKind) (label v : ℕ) → InClass graph.lines kind First label v → HasLabel (loaded image) label v
   unfolding code_of
-  in_class_label label v inside =
-      let here = in_class_unit label v inside in
+  in_class_label kind label v inside =
+      let here = in_class_unit kind label v inside in
       let stand = unit_stands image bytes v (V.Gate label) here in
       let first : v + 4 * 0 ≡ v = omega arith in
       let word : code_of (gate label) ≡ read 4 (loaded image) v =
@@ -139,20 +141,20 @@ module _ (image : Contents) (graph : GraphParts) (bytes : AreBytes image) (forme
       let low = here.low in let high = stand.high in
       record { round = here.round; low = omega arith; high = omega arith; word = omega arith }
 
-  has_target : (label v : ℕ) → InClass graph.lines label v → HasTarget graph.lines label
-  has_target label v inside =
-      let c = class_parts label v inside in rw c.1 (some_target c.0 c.2)
+  has_target : (kind : SiteKind) (label v : ℕ) → InClass graph.lines kind First label v → HasTarget graph.lines kind First label
+  has_target kind label v inside =
+      let c = class_parts kind label v inside in ap (λ o. holds_of o is_some_target) c.1 ∙ some_target c.0 c.2
     where
       some_target : (ts : List ℕ) → is_among v ts ≡ true → is_some_target ts ≡ true
       some_target [] e = absurd (cc)
       some_target (t ∷ ts) e = refl
 
   -- the label of a check is a class's, so what bears it is a target
-  labelled : (label v a : ℕ) (place : Place) (kind : SiteKind) → label < 2 ^ 20 → place_at version_1 W a ≡ Some place → site_of place ≡ Some (kind, label) →
-      HasLabel (loaded image) label v → InClass graph.lines label v
+  labelled : (label v a : ℕ) (place : Place) (kind : SiteKind) → label < 2 ^ 20 → place_at version_1 W a ≡ Some place → site_of place ≡ Some (asks kind First label) →
+      HasLabel (loaded image) label v → InClass graph.lines kind First label v
   labelled label v a place kind low here site has =
-      let c = site_class image graph formed a place kind label here site in
-      label_in_class image graph bytes formed label v c.0 low c.1 has
+      let c = site_class image graph formed a place (asks kind First label) here site in
+      label_in_class image graph bytes formed kind label v c.0 low c.1 has
 
   record Returned (regs : Registers) (pending : List ℕ) (v : ℕ) (newer : List ℕ) : Type 0 where
     goes : ReturnGoes pending v newer
@@ -175,7 +177,7 @@ module _ (image : Contents) (graph : GraphParts) (bytes : AreBytes image) (forme
       let start = call_starts image graph formed w.at (opening entry) entry is refl in
       let none : newer ≡ CLOSING ∷ [] = l.1 ∙ ap (λ ps. CLOSING ∷ ps) stage in
       record {
-        goes = inl (l.0, l.2, l.1 ∙ ap (λ n. n ∷ w.pending) (let z : OPENING + 44 ≡ w.at + 44 = ap (λ n. n + 44) (sym facts.0) in z));
+        goes = inl (l.0, l.2, l.1 ∙ ap (λ n. n ∷ w.pending) (ap (λ n. n + place_size (opening entry)) (sym facts.0)));
         chooses = tt;
         settled = to_start entry v newer start l.2 (subst (λ (ps : List ℕ). InBody ps) (sym none) (record { sites = refl; most = lit≤ tt }));
       }
@@ -207,21 +209,21 @@ module _ (image : Contents) (graph : GraphParts) (bytes : AreBytes image) (forme
   arrive (body (V.Call target)) w v newer is facts stage (inl l) =
       let start = call_starts image graph formed w.at (body (V.Call target)) target is refl in
       let site = next_starts image graph formed w.at (V.Call target) facts refl in
-      record { goes = inl (l.0, l.2, l.1); chooses = tt; settled = to_start target v newer start l.2 (pushed (w.at + 32) w.pending newer site stage l.0 l.1) }
+      record { goes = inl (l.0, l.2, l.1); chooses = tt; settled = to_start target v newer start l.2 (pushed (after_unit (V.Call target) w.at) w.pending newer site stage l.0 l.1) }
   arrive (body (V.Call target)) w v newer is facts stage (inr l) =
       record { goes = inr (l.0, (l.2, l.1)); chooses = tt; settled = to_deep v w.pending newer stage l.1 l.2 }
   arrive (body (V.Ijump rs1 imm label)) w v newer is facts stage (inl l) =
       let to = destination w.regs rs1 imm in
       let inside = labelled label to w.at (body (V.Ijump rs1 imm label)) K.Jump facts.begins.fits.2 is refl l.0 in
       record {
-        goes = inl (subst (λ (x : ℕ). InClass graph.lines label x) (sym l.1.1) inside, l.1.0);
+        goes = inl (subst (λ (x : ℕ). InClass graph.lines K.Jump First label x) (sym l.1.1) inside, l.1.0);
         chooses = inl (inside, l.1.1);
-        settled = settled_unit v (V.Gate label) newer (subst (λ (x : ℕ). UnitHere W x (V.Gate label)) (sym l.1.1) (in_class_unit label to inside)) (same_body w.pending newer l.1.0 stage);
+        settled = settled_unit v (V.Gate label) newer (subst (λ (x : ℕ). UnitHere W x (V.Gate label)) (sym l.1.1) (in_class_unit K.Jump label to inside)) (same_body w.pending newer l.1.0 stage);
       }
   arrive (body (V.Ijump rs1 imm label)) w v newer is facts stage (inr l) =
       record {
         goes = inr (l.1.1, l.1.0);
-        chooses = inr ((λ inside. l.0 (in_class_label label (destination w.regs rs1 imm) inside)), l.1.1);
+        chooses = inr ((λ inside. l.0 (in_class_label K.Jump label (destination w.regs rs1 imm) inside)), l.1.1);
         settled = to_bad_target v w.pending newer stage l.1.0 l.1.1;
       }
   arrive (body (V.Icall rs1 imm label)) w v newer is facts stage (inl l) =
@@ -230,13 +232,13 @@ module _ (image : Contents) (graph : GraphParts) (bytes : AreBytes image) (forme
       let site = next_starts image graph formed w.at (V.Icall rs1 imm label) facts refl in
       elim l.1 [
         | inl c ↦ record {
-          goes = inr (inl (c.0, subst (λ (x : ℕ). InClass graph.lines label x) (sym c.2) inside, c.1));
+          goes = inr (inl (c.0, subst (λ (x : ℕ). InClass graph.lines K.Call First label x) (sym c.2) inside, c.1));
           chooses = inl (inside, inl (c.0, c.2));
-          settled = settled_unit v (V.Gate label) newer (subst (λ (x : ℕ). UnitHere W x (V.Gate label)) (sym c.2) (in_class_unit label to inside))
-              (pushed (w.at + 80) w.pending newer site stage c.0 c.1);
+          settled = settled_unit v (V.Gate label) newer (subst (λ (x : ℕ). UnitHere W x (V.Gate label)) (sym c.2) (in_class_unit K.Call label to inside))
+              (pushed (after_unit (V.Icall rs1 imm label) w.at) w.pending newer site stage c.0 c.1);
         }
         | inr c ↦ record {
-          goes = inr (inr (c.0, has_target label to inside, (c.2, c.1)));
+          goes = inr (inr (c.0, has_target K.Call label to inside, (c.2, c.1)));
           chooses = inl (inside, inr (c.0, c.2));
           settled = to_deep v w.pending newer stage c.1 c.2;
         }
@@ -244,7 +246,7 @@ module _ (image : Contents) (graph : GraphParts) (bytes : AreBytes image) (forme
   arrive (body (V.Icall rs1 imm label)) w v newer is facts stage (inr l) =
       record {
         goes = inl (l.1.1, l.1.0);
-        chooses = inr ((λ inside. l.0 (in_class_label label (destination w.regs rs1 imm) inside)), l.1.1);
+        chooses = inr ((λ inside. l.0 (in_class_label K.Call label (destination w.regs rs1 imm) inside)), l.1.1);
         settled = to_bad_target v w.pending newer stage l.1.0 l.1.1;
       }
   arrive (body V.Return) w v newer is facts stage leads =

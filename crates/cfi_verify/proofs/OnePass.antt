@@ -1,6 +1,6 @@
 -- One pass over the words and the lines: what it has passed, line by line, and what it finds out at its end.
 use Rattle.std.proofs.Common.{◌≡◌, ◌≢◌, ◌<◌, ◌≤◌, inl, inr, ℕ, zero, suc, ◌+◌, ◌-◌, ◌*◌, ◌/◌, ◌%◌, ◌^◌, ◌==◌, ◌&&◌, ◌||◌, not, Bool, true, false, List, [], ◌∷◌, length, map, Option, Some, None, refl, sym, ap, subst, ◌∙◌, arith}
-use Rattle.std.specs.Prelude.{slice_get, nat_lt, nat_le, is_some, option_map}
+use Rattle.std.specs.Prelude.{slice_get, nat_lt, nat_le, is_some}
 use Rattle.std.specs.List.{list_any}
 use Rattle.std.proofs.lemmas.Bool.{and_left, and_parts, cases_eq, cases_lt, cases_order, eqb-true, le-ltb, leb-true, lt-leb, lt-ltb, ltb-true, ne_eqb}
 use Rattle.std.proofs.lemmas.Option.{same_Some, slice_get_within}
@@ -14,7 +14,6 @@ use Rattle.cfi_graph.proofs.Rising.{key_transitive}
 use Rattle.cfi_scan.specs.declared.entry.Entry.{Entry}
 use Rattle.cfi_scan.specs.Entries.{is_quiet}
 use Rattle.cfi_scan.specs.Pieces.{Listed}
-use Rattle.cfi_unit.specs.declared.unit.Unit.TheVariants as V
 use Rattle.cfi_verify.specs.Entries.{Tells, count_of, entry_at, fails_at, fails_end_at, fails_gate_at, fails_unit_at, gate_at, is_stop_entry, or_inside}
 use Rattle.cfi_verify.specs.Lines.{line_at}
 use Rattle.cfi_verify.specs.Pass.{HasPassed, HoldsAt, HoldsEarly, NoneStands, ends_in_stop}
@@ -53,7 +52,7 @@ standing graph k a line g at key =
 
 -- each target of a class has the class's gate
 abbrev pub HasGates : Listed → GraphLine → Type 0
-HasGates t line = (a : ℕ) → lacks_gate (option_map V.Gate (gate_at t a)) a line ≡ false
+HasGates t line = (a : ℕ) → lacks_gate (gate_at t) a line ≡ false
 
 -- only classes have targets
 pub no_class : (t : Listed) (line : GraphLine) (a : ℕ) → key_of line ≡ Address a → HasGates t line

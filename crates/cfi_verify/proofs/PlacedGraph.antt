@@ -10,20 +10,22 @@ use Rattle.rv_word.proofs.Cases.{cases_Option}
 use Rattle.cfi_graph.specs.declared.line.GraphLine.{GraphLine}
 use Rattle.cfi_graph.specs.declared.line.GraphLine.TheVariants.{Class, Site, Edge, Call}
 use Rattle.cfi_graph.specs.declared.line.Key.TheVariants.{Address}
-use Rattle.cfi_graph.specs.declared.line.SiteKind.{SiteKind}
 use Rattle.cfi_graph.specs.declared.line.SiteKind.TheVariants as K
 use Rattle.cfi_graph.specs.Graph.{IsGraph, is_class, is_code_address, is_label, is_rising, key_below, key_of, line_in_range, targets_rise}
 use Rattle.cfi_unit.specs.declared.unit.Unit as U
 use Rattle.cfi_unit.specs.declared.unit.Unit.TheVariants as V
 use Rattle.cfi_unit.specs.declared.place.Place.TheVariants.{Body as body}
+use Rattle.cfi_unit.specs.declared.target_word.TargetWord.TheVariants.{First}
 use Rattle.cfi_unit.specs.Prologue.{OPENING}
 use Rattle.cfi_unit.specs.UnitWords.{word_count}
 use Rattle.cfi_verify.specs.PlacedLaws.{PlacedIsGraph}
-use Rattle.cfi_verify.specs.Lines.{class_of}
+use Rattle.cfi_verify.specs.Lines.{class_with}
 use Rattle.cfi_verify.specs.Placed.{line_of, lines_from, placed_code, placed_lines, with_line}
-use Rattle.cfi_verify.specs.Rules.{site_of}
+use Rattle.cfi_verify.specs.Rules.{asks, site_of}
 use Rattle.cfi_verify.specs.Sound.{IsSound, StartsIn, target_of}
 use Rattle.cfi_verify.specs.Split.{unit_in}
+use Rattle.cfi_verify.specs.declared.place.Asks.{Asks}
+use Rattle.cfi_verify.proofs.Served.{some_class}
 use Rattle.cfi_unit.proofs.Counts.{some_word}
 use Rattle.cfi_verify.proofs.UnitIn.{in_here, in_past, length-placed_code, lies}
 
@@ -92,8 +94,8 @@ classes_rise (Edge a b ∷ classes) bound to rest all order above = absurd (cc)
 classes_rise (Call a b ∷ classes) bound to rest all order above = absurd (cc)
 
 -- a class's label is one
-class_label : (len : ℕ) (classes : List GraphLine) (l : ℕ) → list_all (line_in_range len) classes ≡ true → is_some (class_of classes l) ≡ true → is_label l ≡ true
-unfolding class_of
+class_label : (len : ℕ) (classes : List GraphLine) (l : ℕ) → list_all (line_in_range len) classes ≡ true → is_some (class_with classes l) ≡ true → is_label l ≡ true
+unfolding class_with
 class_label len [] l range some = absurd (cc)
 class_label len (Class k ts ∷ classes) l range some =
     let parts = and_parts (is_label k && list_all (is_code_address len) ts) (list_all (line_in_range len) classes) range in
@@ -110,20 +112,20 @@ class_label len (Call a b ∷ classes) l range some =
 
 -- a unit's line has addresses of the code, and a class's label
 unit_range : (len : ℕ) (u : U.Unit) (a : ℕ) (line : GraphLine) → is_code_address len a ≡ true → ((t : ℕ) → target_of u ≡ Some t → is_code_address len t ≡ true) →
-    ((kind : SiteKind) (l : ℕ) → site_of (body u) ≡ Some (kind, l) → is_label l ≡ true) → line_of a u ≡ Some line → line_in_range len line ≡ true
-unit_range len (V.Branch op rs1 rs2 target) a line here leads asks e =
+    ((asked : Asks) → site_of (body u) ≡ Some asked → is_label asked.label ≡ true) → line_of a u ≡ Some line → line_in_range len line ≡ true
+unit_range len (V.Branch op rs1 rs2 target) a line here leads known e =
     given (line_in_range len) (Edge a target) line e (and_from (is_code_address len a) (is_code_address len target) here (leads target refl))
-unit_range len (V.Near op rs1 rs2 target) a line here leads asks e =
+unit_range len (V.Near op rs1 rs2 target) a line here leads known e =
     given (line_in_range len) (Edge a target) line e (and_from (is_code_address len a) (is_code_address len target) here (leads target refl))
-unit_range len (V.Jump target) a line here leads asks e =
+unit_range len (V.Jump target) a line here leads known e =
     given (line_in_range len) (Edge a target) line e (and_from (is_code_address len a) (is_code_address len target) here (leads target refl))
-unit_range len (V.Call target) a line here leads asks e =
+unit_range len (V.Call target) a line here leads known e =
     given (line_in_range len) (Call a target) line e (and_from (is_code_address len a) (is_code_address len target) here (leads target refl))
-unit_range len (V.Ijump rs1 imm label) a line here leads asks e =
-    given (line_in_range len) (Site a K.Jump label) line e (and_from (is_code_address len a) (is_label label) here (asks K.Jump label refl))
-unit_range len (V.Icall rs1 imm label) a line here leads asks e =
-    given (line_in_range len) (Site a K.Call label) line e (and_from (is_code_address len a) (is_label label) here (asks K.Call label refl))
-unit_range len other a line here leads asks e = absurd (cc)
+unit_range len (V.Ijump rs1 imm label) a line here leads known e =
+    given (line_in_range len) (Site a K.Jump label) line e (and_from (is_code_address len a) (is_label label) here (known (asks K.Jump First label) refl))
+unit_range len (V.Icall rs1 imm label) a line here leads known e =
+    given (line_in_range len) (Site a K.Call label) line e (and_from (is_code_address len a) (is_label label) here (known (asks K.Call First label) refl))
+unit_range len other a line here leads known e = absurd (cc)
 
 module _ (entry : ℕ) (us : List U.Unit) (classes : List GraphLine) (sound : IsSound version_1 entry us classes) where
   abbrev size : ℕ
@@ -161,7 +163,7 @@ module _ (entry : ℕ) (us : List U.Unit) (classes : List GraphLine) (sound : Is
       let units : list_all (line_in_range size) (lines_from version_1.units_from us) ≡ true =
       all_lines (line_in_range size) us version_1.units_from (λ a u line here is. unit_range size u a line (start_address a u here)
       (λ t leads. begun_address t (sound.targets a t u here leads))
-      (λ kind l asks. class_label size classes l graph.range (sound.labels a l u kind here asks)) is) in
+      (λ asked wants. class_label size classes asked.label graph.range (some_class classes asked.kind asked.which asked.label (sound.labels a u asked here wants))) is) in
       let flats : list_all targets_rise (lines_from version_1.units_from us) ≡ true =
       all_lines targets_rise us version_1.units_from (λ a u line here is. flat u a line is) in
       record {

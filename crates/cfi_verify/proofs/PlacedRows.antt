@@ -1,9 +1,9 @@
 -- Worked codes of placed units: their words are what binutils make of the sources in tests/units, their
 -- lines those of the programs' graphs; and the units of one of them, which has a class, are sound.
 use Rattle.std.proofs.Common.{◌≡◌, ℕ, zero, suc, ◌==◌, inl, inr, Bool, true, false, List, [], ◌∷◌, refl, sym, ap, subst, ◌∙◌, lit<}
-use Rattle.std.specs.Prelude.{Some, IsTrue, ◌&&◌, ◌||◌, is_some, not, slice_get}
+use Rattle.std.specs.Prelude.{Some, IsTrue, ◌&&◌, ◌||◌, is_some, not, option_and_then, slice_get}
 use Rattle.std.proofs.lemmas.Bool.{and_parts, cases_eq, eqb-true, or_cases}
-use Rattle.std.proofs.lemmas.Option.{same_Some, some_pair_parts}
+use Rattle.std.proofs.lemmas.Option.{same_Some}
 use Rattle.rv_word.specs.MemoryMap.{version_1}
 use Rattle.rv_instr.specs.declared.instr.Instr.TheVariants.{Upper, Load, Immediate}
 use Rattle.rv_instr.specs.declared.instr.BranchOp.TheVariants.{Beq, Bne}
@@ -15,17 +15,20 @@ use Rattle.rv_code.specs.Decode.{decoded}
 use Rattle.rv_code.specs.Encode.{code_of}
 use Rattle.cfi_graph.specs.declared.line.GraphLine.{GraphLine}
 use Rattle.cfi_graph.specs.declared.line.GraphLine.TheVariants.{Class, Site, Edge, Call}
-use Rattle.cfi_graph.specs.declared.line.SiteKind.{SiteKind}
+use Rattle.cfi_graph.specs.declared.line.Sort.TheVariants.{Both}
+use Rattle.cfi_graph.specs.Graph.{ClassLine, class_in}
 use Rattle.cfi_graph.specs.declared.line.SiteKind.TheVariants as K
 use Rattle.cfi_unit.specs.declared.unit.Unit as U
 use Rattle.cfi_unit.specs.declared.unit.Unit.TheVariants as V
 use Rattle.cfi_unit.specs.declared.unit.SystemOp.TheVariants as S
 use Rattle.cfi_unit.specs.declared.place.Place.TheVariants.{Body as body}
+use Rattle.cfi_unit.specs.declared.target_word.TargetWord.TheVariants.{First}
 use Rattle.cfi_unit.specs.UnitWords.{after_unit, words_of}
-use Rattle.cfi_verify.specs.Lines.{class_of, is_among}
+use Rattle.cfi_verify.specs.declared.place.Asks.{Asks}
+use Rattle.cfi_verify.specs.Lines.{class_with, is_among, is_word_of, read_of, targets_for}
 use Rattle.cfi_verify.specs.Placed.{AllAhead, AllFit, code_from, lines_from, placed_code, placed_lines}
-use Rattle.cfi_verify.specs.Rules.{site_of}
-use Rattle.cfi_verify.specs.Sound.{IsSound, target_of}
+use Rattle.cfi_verify.specs.Rules.{asks, site_of}
+use Rattle.cfi_verify.specs.Sound.{Bears, IsSound, target_of}
 use Rattle.cfi_verify.specs.Split.{unit_in}
 use Rattle.cfi_verify.proofs.UnitIn.{in_here, in_later}
 
@@ -168,12 +171,12 @@ each_in test (v ∷ us) at a u all e =
 -- transfer
 abbrev is_right : ℕ → U.Unit → Bool
 is_right a (V.Gate label) = label == 1 && is_among a (0x400000c8 ∷ 0x400000e4 ∷ [])
-is_right a (V.Ijump rs1 imm label) = is_some (class_of p_classes label)
-is_right a (V.Icall rs1 imm label) = is_some (class_of p_classes label)
+is_right a (V.Ijump rs1 imm label) = is_some (targets_for p_classes K.Jump First label)
+is_right a (V.Icall rs1 imm label) = is_some (targets_for p_classes K.Call First label)
 is_right a u = not (is_some (target_of u))
 
 right_there : (a : ℕ) (u : U.Unit) → unit_in p_units 0x40000040 a ≡ Some u → is_right a u ≡ true
-unfolding all_from class_of
+unfolding all_from class_with targets_for
 right_there a u e = each_in is_right p_units 0x40000040 a u refl e
 
 no_transfer : (a : ℕ) (u : U.Unit) (t : ℕ) → is_right a u ≡ true → target_of u ≡ Some t → ⊥
@@ -183,33 +186,38 @@ no_transfer a (V.Jump target) t right e = absurd (cc)
 no_transfer a (V.Call target) t right e = absurd (cc)
 no_transfer a other t right e = absurd (cc)
 
-label_known : (a : ℕ) (u : U.Unit) (kind : SiteKind) (l : ℕ) → is_right a u ≡ true → site_of (body u) ≡ Some (kind, l) → is_some (class_of p_classes l) ≡ true
-label_known a (V.Ijump rs1 imm label) kind l right e = subst (λ (n : ℕ). is_some (class_of p_classes n) ≡ true) (some_pair_parts K.Jump kind label l e).1 right
-label_known a (V.Icall rs1 imm label) kind l right e = subst (λ (n : ℕ). is_some (class_of p_classes n) ≡ true) (some_pair_parts K.Call kind label l e).1 right
-label_known a other kind l right e = absurd (cc)
+label_known : (a : ℕ) (u : U.Unit) (asked : Asks) → is_right a u ≡ true → site_of (body u) ≡ Some asked → is_some (targets_for p_classes asked.kind asked.which asked.label) ≡ true
+label_known a (V.Ijump rs1 imm label) asked right e =
+    subst (λ (s : Asks). is_some (targets_for p_classes s.kind s.which s.label) ≡ true) (same_Some (asks K.Jump First label) asked e) right
+label_known a (V.Icall rs1 imm label) asked right e =
+    subst (λ (s : Asks). is_some (targets_for p_classes s.kind s.which s.label) ≡ true) (same_Some (asks K.Call First label) asked e) right
+label_known a other asked right e = absurd (cc)
 
-gate_there : (k l a : ℕ) (ts : List ℕ) → slice_get p_classes k ≡ Some (Class l ts) → IsTrue (is_among a ts) → unit_in p_units 0x40000040 a ≡ Some (V.Gate l)
+-- the one class
+abbrev p_class : ClassLine
+p_class = record { sort = Both; label = 1; targets = 0x400000c8 ∷ 0x400000e4 ∷ [] }
+
+gate_there : (k a : ℕ) (class : ClassLine) → option_and_then class_in (slice_get p_classes k) ≡ Some class → IsTrue (is_among a class.targets) →
+    Bears version_1 p_units (read_of class.sort) a class.label
 unfolding unit_in
-gate_there zero l a ts e among =
-    let line : Class 1 (0x400000c8 ∷ 0x400000e4 ∷ []) ≡ Class l ts = same_Some (Class 1 (0x400000c8 ∷ 0x400000e4 ∷ [])) (Class l ts) e in
-    let targets : ts ≡ 0x400000c8 ∷ 0x400000e4 ∷ [] = cc in
-    let label : 1 ≡ l = cc in
-    elim (or_cases (0x400000c8 == a) ((0x400000e4 == a) || false) (ap (is_among a) (sym targets) ∙ among)) [
-      | inl first ↦ subst (λ (b : ℕ). unit_in p_units 0x40000040 b ≡ Some (V.Gate l)) (eqb-true 0x400000c8 a first) (ap (λ n. Some (V.Gate n)) label)
+gate_there zero a class e among =
+    let same : p_class ≡ class = same_Some p_class class e in
+    let bears : Bears version_1 p_units First a 1 = elim (or_cases (0x400000c8 == a) ((0x400000e4 == a) || false) (ap (λ (c : ClassLine). is_among a c.targets) same ∙ among)) [
+      | inl first ↦ subst (λ (b : ℕ). unit_in p_units 0x40000040 b ≡ Some (V.Gate 1)) (eqb-true 0x400000c8 a first) refl
       | inr more ↦ elim (or_cases (0x400000e4 == a) false more) [
-        | inl second ↦ subst (λ (b : ℕ). unit_in p_units 0x40000040 b ≡ Some (V.Gate l)) (eqb-true 0x400000e4 a second) (ap (λ n. Some (V.Gate n)) label)
+        | inl second ↦ subst (λ (b : ℕ). unit_in p_units 0x40000040 b ≡ Some (V.Gate 1)) (eqb-true 0x400000e4 a second) refl
         | inr none ↦ absurd (cc)
       ]
-    ]
-gate_there (suc k) l a ts e among = absurd (cc)
+    ] in
+    subst (λ (c : ClassLine). Bears version_1 p_units (read_of c.sort) a c.label) same bears
+gate_there (suc k) a class e among = absurd (cc)
 
-listed : (l a : ℕ) (ts : List ℕ) → is_right a (V.Gate l) ≡ true → class_of p_classes l ≡ Some ts → IsTrue (is_among a ts)
-unfolding class_of
-listed l a ts right e =
+listed : (l a : ℕ) (class : ClassLine) → is_right a (V.Gate l) ≡ true → class_with p_classes l ≡ Some class → IsTrue (is_word_of (read_of class.sort) a class.targets)
+unfolding class_with
+listed l a class right e =
     let parts = and_parts (l == 1) (is_among a (0x400000c8 ∷ 0x400000e4 ∷ [])) right in
-    let class : Some (0x400000c8 ∷ 0x400000e4 ∷ []) ≡ Some ts =
-    ap (class_of p_classes) (sym (eqb-true l 1 parts.0)) ∙ e in
-    ap (is_among a) (sym (same_Some (0x400000c8 ∷ 0x400000e4 ∷ []) ts class)) ∙ parts.1
+    let is : Some p_class ≡ Some class = ap (class_with p_classes) (sym (eqb-true l 1 parts.0)) ∙ e in
+    subst (λ (c : ClassLine). is_word_of (read_of c.sort) a c.targets ≡ true) (same_Some p_class class is) parts.1
 
 p_sound : IsSound version_1 0x40000040 p_units p_classes
 unfolding unit_in
@@ -220,8 +228,8 @@ p_sound = record {
   entry_starts = refl;
   targets = λ a t u here leads. absurd (no_transfer a u t (right_there a u here) leads);
   classes_are = refl;
-  labels = λ a l u kind here asks. label_known a u kind l (right_there a u here) asks;
+  labels = λ a u asked here is. label_known a u asked (right_there a u here) is;
   gates = gate_there;
-  astray = λ l a ts here class. listed l a ts (right_there a (V.Gate l) here) class;
+  astray = λ l a class here is. listed l a class (right_there a (V.Gate l) here) is;
   ends = refl;
 }

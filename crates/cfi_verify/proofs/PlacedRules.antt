@@ -14,14 +14,18 @@ use Rattle.cfi_unit.specs.declared.unit.Unit as U
 use Rattle.cfi_unit.specs.declared.unit.Unit.TheVariants as V
 use Rattle.cfi_unit.specs.declared.place.Place.{Place}
 use Rattle.cfi_unit.specs.declared.place.Place.TheVariants.{Handler as handler, Opening as opening, Closing as closing, Body as body}
+use Rattle.cfi_graph.specs.Graph.{ClassLine}
+use Rattle.cfi_unit.specs.declared.target_word.TargetWord.{TargetWord}
+use Rattle.cfi_unit.specs.declared.target_word.TargetWord.TheVariants.{First}
 use Rattle.cfi_unit.specs.Prologue.{OPENING}
 use Rattle.cfi_unit.specs.Split.{IsSplit}
 use Rattle.cfi_unit.specs.UnitWords.{word_count}
-use Rattle.cfi_verify.specs.Lines.{class_of, holds_of, is_among, line_at}
+use Rattle.cfi_verify.specs.Lines.{class_with, holds_of, if_serves, is_beside, is_word_of, line_at, read_of, targets_for}
 use Rattle.cfi_verify.specs.Placed.{code_from, line_of, lines_from, placed_lines}
-use Rattle.cfi_verify.specs.Rules.{Holds, call_of, edge_of, fails_prologue, is_astray, is_bad_end, is_call_to, is_edge_to, is_lone_site, is_site_with, is_stop, is_unused, site_of}
-use Rattle.cfi_verify.specs.Sound.{IsSound, StartsIn, target_of}
+use Rattle.cfi_verify.specs.Rules.{Holds, asks, call_of, edge_of, fails_prologue, gate_label, gate_of, is_astray, is_bad_end, is_borne, is_call_to, is_edge_to, is_label, is_lone_site, is_site_with, is_stop, is_unused, site_of}
+use Rattle.cfi_verify.specs.Sound.{Bears, IsSound, StartsIn, target_of}
 use Rattle.cfi_verify.specs.Split.{entry_of, is_handler, is_start, place_at, unit_at, unit_in, unit_starts, unit_words}
+use Rattle.cfi_verify.specs.declared.place.Asks.{Asks}
 use Rattle.cfi_verify.specs.declared.reject.Rule.{Rule}
 use Rattle.cfi_verify.specs.declared.reject.Rule.TheVariants as R
 use Rattle.cfi_unit.proofs.Counts.{some_word}
@@ -56,22 +60,23 @@ unused_unit (V.Ijump rs1 imm label) a = refl
 unused_unit (V.Icall rs1 imm label) a = refl
 unused_unit other a = refl
 
-site_unit : (u : U.Unit) (a : ℕ) (lines : List GraphLine) → ((kind : SiteKind) (l : ℕ) → site_of (body u) ≡ Some (kind, l) → is_some (class_of lines l) ≡ true) →
-    holds_of (site_of (body u)) (λ s. not (is_site_with (line_of a u) s && is_some (class_of lines s.1))) || holds_of (line_of a u) (is_lone_site (Some (body u))) ≡ false
+site_unit : (u : U.Unit) (a : ℕ) (lines : List GraphLine) → ((asked : Asks) → site_of (body u) ≡ Some asked → is_some (targets_for lines asked.kind asked.which asked.label) ≡ true) →
+    holds_of (site_of (body u)) (λ (s : Asks). not (is_site_with (line_of a u) s && is_some (targets_for lines s.kind s.which s.label))) || holds_of (line_of a u) (is_lone_site (Some (body u))) ≡ false
 site_unit (V.Branch op rs1 rs2 target) a lines known = refl
 site_unit (V.Near op rs1 rs2 target) a lines known = refl
 site_unit (V.Jump target) a lines known = refl
 site_unit (V.Call target) a lines known = refl
-site_unit (V.Ijump rs1 imm label) a lines known = rw (eq-eqb label label refl, known K.Jump label refl) refl
-site_unit (V.Icall rs1 imm label) a lines known = rw (eq-eqb label label refl, known K.Call label refl) refl
+site_unit (V.Ijump rs1 imm label) a lines known = rw (eq-eqb label label refl, known (asks K.Jump First label) refl) refl
+site_unit (V.Icall rs1 imm label) a lines known = rw (eq-eqb label label refl, known (asks K.Call First label) refl) refl
 site_unit other a lines known = refl
 
-astray_unit : (u : U.Unit) (a : ℕ) (lines : List GraphLine) → ((l : ℕ) (ts : List ℕ) → u ≡ V.Gate l → class_of lines l ≡ Some ts → is_among a ts ≡ true) →
+astray_unit : (u : U.Unit) (a : ℕ) (lines : List GraphLine) →
+    ((l : ℕ) (class : ClassLine) → u ≡ V.Gate l → class_with lines l ≡ Some class → is_word_of (read_of class.sort) a class.targets ≡ true) →
     is_astray lines a u ≡ false
 astray_unit (V.Gate label) a lines listed =
-    elim (cases_Option (class_of lines label)) [
-      | inl none ↦ rw none refl
-      | inr (ts, some) ↦ rw (some, listed label ts refl some) refl
+    elim (cases_Option (class_with lines label)) [
+      | inl none ↦ ap (λ o. holds_of o (λ (class : ClassLine). is_beside class a)) none
+      | inr (class, some) ↦ ap (λ o. holds_of o (λ (class : ClassLine). is_beside class a)) some ∙ ap not (listed label class refl some)
     ]
 astray_unit other a lines listed = refl
 
@@ -151,9 +156,13 @@ module _ (p : Profile) (words : List ℕ) (entry : ℕ) (us : List U.Unit) (clas
   unfolding line_at
   line_opening = line_past classes (Call OPENING entry ∷ lines_from p.units_from us) OPENING sound.classes_are
 
-  class_is : (l : ℕ) → class_of the_lines l ≡ class_of classes l
-  unfolding class_of
+  class_is : (l : ℕ) → class_with the_lines l ≡ class_with classes l
+  unfolding class_with
   class_is l = class_before classes (Call OPENING entry ∷ lines_from p.units_from us) l (no_class us p.units_from l)
+
+  targets_are : (kind : SiteKind) (which : TargetWord) (l : ℕ) → targets_for the_lines kind which l ≡ targets_for classes kind which l
+  unfolding targets_for
+  targets_are kind which l = ap (option_and_then (if_serves kind which)) (class_is l)
 
   -- what stands at an address, and its line
   data Spot (a : ℕ) : Type 0 where
@@ -209,21 +218,24 @@ module _ (p : Profile) (words : List ℕ) (entry : ℕ) (us : List U.Unit) (clas
       elim (spot a) [
         | opens place line ↦ rw (place, line) refl
         | stands u here place line ↦ rw (place, line)
-            (site_unit u a the_lines (λ kind l asks. ap is_some (class_is l) ∙ sound.labels a l u kind here asks))
+            (site_unit u a the_lines (λ asked is. ap is_some (targets_are asked.kind asked.which asked.label) ∙ sound.labels a u asked here is))
         | quiet edge call site line ↦ rw (site, line) refl
       ]
 
+  borne : (which : TargetWord) (a label : ℕ) → Bears p us which a label → is_borne (gate_label p words) which a label ≡ true
+  borne First a label bears = ap (λ o. is_label (option_and_then gate_of o) label) (unit a ∙ bears) ∙ eq-eqb label label refl
+
   gate_holds : Holds p words the_lines R.Gate
   gate_holds a =
-      gates_stand classes (Call OPENING entry ∷ lines_from p.units_from us) a (unit_at p words a)
-      (λ k l ts e among. unit a ∙ sound.gates k l a ts e among) (none_lacks us p.units_from a (unit_at p words a))
+      gates_stand classes (Call OPENING entry ∷ lines_from p.units_from us) a (gate_label p words)
+      (λ k class is among. borne (read_of class.sort) a class.label (sound.gates k a class is among)) (none_lacks us p.units_from a (gate_label p words))
 
   astray_holds : Holds p words the_lines R.Astray
   astray_holds a =
       elim (cases_Option (unit_in us p.units_from a)) [
         | inl none ↦ rw (unit a ∙ none) refl
         | inr (u, e) ↦ rw (unit a ∙ e) (astray_unit u a the_lines
-            (λ l ts gate class. sound.astray l a ts (e ∙ ap Some gate) (sym (class_is l) ∙ class)))
+            (λ l class gate is. sound.astray l a class (e ∙ ap Some gate) (sym (class_is l) ∙ is)))
       ]
 
   unit_holds : Holds p words the_lines R.Unit

@@ -1,30 +1,34 @@
 -- What each rule of a well-formed pair says, in the form that the walk needs.
-use Rattle.std.proofs.Common.{◌≡◌, ℕ, ◌+◌, ◌*◌, inl, inr, Bool, true, false, List, [], ◌∷◌, length, refl, ap, subst, ◌∙◌, Option, Some, None, arith}
+use Rattle.std.proofs.Common.{◌≡◌, ℕ, ◌+◌, ◌*◌, inl, inr, Bool, true, false, List, [], ◌∷◌, length, refl, sym, ap, subst, ◌∙◌, Option, Some, None, arith}
 use Rattle.std.specs.Prelude.{nat_le, ◌==◌, ◌&&◌, not, option_and_then, is_some}
 use Rattle.std.specs.List.{list_any}
 use Rattle.std.proofs.lemmas.Bool.{cases_eq, eqb-true, eq-eqb, and_parts, or_parts}
 use Rattle.rv_word.specs.Image.{Contents}
 use Rattle.rv_word.specs.MemoryMap.{CODE_START, version_1}
-use Rattle.rv_word.proofs.Cases.{chosen}
+use Rattle.std.proofs.lemmas.Option.{none-some, same_Some}
+use Rattle.rv_word.proofs.Cases.{cases_Option, chosen}
 use Rattle.cfi_graph.specs.declared.line.GraphLine.{GraphLine}
-use Rattle.cfi_graph.specs.declared.line.GraphLine.TheVariants.{Class, Site, Edge, Call}
 use Rattle.cfi_graph.specs.declared.line.SiteKind.{SiteKind}
-use Rattle.cfi_graph.specs.Graph.{GraphParts}
+use Rattle.cfi_graph.specs.Graph.{ClassLine, GraphParts, class_in}
 use Rattle.cfi_unit.specs.declared.unit.Unit as U
 use Rattle.cfi_unit.specs.declared.unit.Unit.TheVariants as V
 use Rattle.cfi_unit.specs.declared.place.Place.{Place}
+use Rattle.cfi_unit.specs.declared.target_word.TargetWord.{TargetWord}
+use Rattle.cfi_unit.specs.declared.target_word.TargetWord.TheVariants.{First}
 use Rattle.cfi_unit.specs.UnitWords.{word_count}
-use Rattle.cfi_verify.specs.Lines.{holds_of, line_at, class_of, is_among}
+use Rattle.cfi_verify.specs.Lines.{holds_of, line_at, class_with, or_class, targets_for, is_among, is_beside, is_word_of, read_of}
 use Rattle.cfi_verify.specs.Split.{code_words, is_start, unit_at, place_at}
-use Rattle.cfi_verify.specs.Rules.{IsWellFormed, edge_of, call_of, site_of, is_gate_with, is_stop, is_bad_end, lacks_gate, is_lone_site, is_site_with}
+use Rattle.cfi_verify.specs.Rules.{IsWellFormed, edge_of, call_of, site_of, gate_of, gate_label, is_label, is_astray, is_borne, is_stop, is_bad_end, lacks_gate, is_lone_site, is_site_with}
+use Rattle.cfi_verify.specs.declared.place.Asks.{Asks}
 use Rattle.cfi_verify.specs.declared.reject.Rule.TheVariants as R
 use Rattle.cfi_verify.proofs.Find.{UnitHere}
+use Rattle.cfi_verify.proofs.Served.{reads_it, served}
 
 pub not_false : (b : Bool) → not b ≡ false → b ≡ true
 not_false true e = refl
 not_false false e = absurd (cc)
 
-gate_is : (unit : Option U.Unit) (label : ℕ) → is_gate_with unit label ≡ true → unit ≡ Some (V.Gate label)
+gate_is : (unit : Option U.Unit) (label : ℕ) → is_label (option_and_then gate_of unit) label ≡ true → unit ≡ Some (V.Gate label)
 gate_is (Some (V.Gate l)) label e = ap (λ n. Some (V.Gate n)) (eqb-true l label e)
 gate_is other label e = absurd (cc)
 
@@ -33,25 +37,31 @@ some_is None e = absurd (cc)
 some_is (Some x) e = (x, refl)
 
 -- a class whose targets all have their gates
-gate_of_class : (lines : List GraphLine) (unit : Option U.Unit) (v l : ℕ) (ts : List ℕ) → class_of lines l ≡ Some ts →
-    list_any (lacks_gate unit v) lines ≡ false → is_among v ts ≡ true → is_gate_with unit l ≡ true
-unfolding class_of
-gate_of_class [] unit v l ts e rule among = absurd (cc)
-gate_of_class (Class label targets ∷ lines) unit v l ts e rule among =
-    let here = or_parts (is_among v targets && not (is_gate_with unit label)) (list_any (lacks_gate unit v) lines) rule in
-    elim (chosen (label == l) (Some targets) (class_of lines l) (Some ts) e) [
-      | inl found ↦
-          let same : targets ≡ ts = let f = found.1 in cc in
-          let gate : is_gate_with unit label ≡ true = not_false (is_gate_with unit label) (rw (ap (is_among v) same ∙ among) at here.0) in
-          subst (λ (n : ℕ). is_gate_with unit n ≡ true) (eqb-true label l found.0) gate
-      | inr later ↦ gate_of_class lines unit v l ts later.1 here.1 among
+borne_of_class : (lines : List GraphLine) (gate : ℕ → Option ℕ) (v l : ℕ) (class : ClassLine) → class_with lines l ≡ Some class →
+    list_any (lacks_gate gate v) lines ≡ false → is_among v class.targets ≡ true → is_borne gate (read_of class.sort) v l ≡ true
+unfolding class_with
+borne_of_class [] gate v l class e rule among = absurd (none-some class e)
+borne_of_class (line ∷ lines) gate v l class e rule among =
+    let parts = or_parts (lacks_gate gate v line) (list_any (lacks_gate gate v) lines) rule in
+    elim (cases_Option (class_in line)) [
+      | inl none ↦ borne_of_class lines gate v l class (sym (ap (λ o. or_class l o (class_with lines l)) none) ∙ e) parts.1 among
+      | inr (here, some) ↦
+          let stands : is_among v here.targets && not (is_borne gate (read_of here.sort) v here.label) ≡ false =
+          sym (ap (λ o. holds_of o (λ (c : ClassLine). is_among v c.targets && not (is_borne gate (read_of c.sort) v c.label))) some) ∙ parts.0 in
+          elim (chosen (here.label == l) (Some here) (class_with lines l) (Some class) (sym (ap (λ o. or_class l o (class_with lines l)) some) ∙ e)) [
+            | inl found ↦
+                let same : here ≡ class = same_Some here class found.1 in
+                let there : is_among v here.targets ≡ true = ap (λ (c : ClassLine). is_among v c.targets) same ∙ among in
+                let borne : is_borne gate (read_of here.sort) v here.label ≡ true =
+                not_false (is_borne gate (read_of here.sort) v here.label)
+                (sym (ap (λ b. b && not (is_borne gate (read_of here.sort) v here.label)) there) ∙ stands) in
+                let of_class : is_borne gate (read_of class.sort) v class.label ≡ true =
+                subst (λ (c : ClassLine). is_borne gate (read_of c.sort) v c.label ≡ true) same borne in
+                let label : class.label ≡ l = ap (λ (c : ClassLine). c.label) (sym same) ∙ eqb-true here.label l found.0 in
+                subst (λ (n : ℕ). is_borne gate (read_of class.sort) v n ≡ true) label of_class
+            | inr later ↦ borne_of_class lines gate v l class later.1 parts.1 among
+          ]
     ]
-gate_of_class (Site address kind label ∷ lines) unit v l ts e rule among =
-    gate_of_class lines unit v l ts e (or_parts false (list_any (lacks_gate unit v) lines) rule).1 among
-gate_of_class (Edge from to ∷ lines) unit v l ts e rule among =
-    gate_of_class lines unit v l ts e (or_parts false (list_any (lacks_gate unit v) lines) rule).1 among
-gate_of_class (Call from to ∷ lines) unit v l ts e rule among =
-    gate_of_class lines unit v l ts e (or_parts false (list_any (lacks_gate unit v) lines) rule).1 among
 
 module _ (image : Contents) (graph : GraphParts) (formed : IsWellFormed version_1 image graph) where
   pub edge_starts : (a : ℕ) (place : Place) (t : ℕ) → place_at version_1 (code_words image.code) a ≡ Some place → edge_of place ≡ Some t →
@@ -81,21 +91,38 @@ module _ (image : Contents) (graph : GraphParts) (formed : IsWellFormed version_
         | inr more ↦ here.next (omega arith)
       ]
 
-  -- a class's target has the class's gate
-  pub gate_stands : (v l : ℕ) (ts : List ℕ) → class_of graph.lines l ≡ Some ts → is_among v ts ≡ true → unit_at version_1 (code_words image.code) v ≡ Some (V.Gate l)
-  gate_stands v l ts class among =
-      gate_is _ l (gate_of_class graph.lines (unit_at version_1 (code_words image.code) v) v l ts class (formed.rules R.Gate v) among)
+  -- a target bears the label at the word that the check of a transfer that the class serves reads
+  target_bears : (kind : SiteKind) (which : TargetWord) (v l : ℕ) (ts : List ℕ) → targets_for graph.lines kind which l ≡ Some ts → is_among v ts ≡ true →
+      is_borne (gate_label version_1 (code_words image.code)) which v l ≡ true
+  target_bears kind which v l ts class among =
+      let s = served graph.lines kind which l ts class in
+      let borne = borne_of_class graph.lines (gate_label version_1 (code_words image.code)) v l s.class s.is (formed.rules R.Gate v) (ap (is_among v) s.targets ∙ among) in
+      subst (λ (word : TargetWord). is_borne (gate_label version_1 (code_words image.code)) word v l ≡ true) (reads_it s.class.sort kind which s.serving) borne
 
-  -- a gate with a class's label is a target of the class
-  pub gate_listed : (v l : ℕ) (ts : List ℕ) → unit_at version_1 (code_words image.code) v ≡ Some (V.Gate l) → class_of graph.lines l ≡ Some ts → is_among v ts ≡ true
-  gate_listed v l ts here class = not_false (is_among v ts) (rw (here, class) at (formed.rules R.Astray v))
+  -- so where it is the first word the target has the class's gate
+  pub gate_stands : (kind : SiteKind) (v l : ℕ) (ts : List ℕ) → targets_for graph.lines kind First l ≡ Some ts → is_among v ts ≡ true →
+      unit_at version_1 (code_words image.code) v ≡ Some (V.Gate l)
+  gate_stands kind v l ts class among = gate_is (unit_at version_1 (code_words image.code) v) l (target_bears kind First v l ts class among)
 
-  -- a computed transfer's label is a class's
-  pub site_class : (a : ℕ) (place : Place) (kind : SiteKind) (l : ℕ) → place_at version_1 (code_words image.code) a ≡ Some place → site_of place ≡ Some (kind, l) →
-      (ts : List ℕ) × (class_of graph.lines l ≡ Some ts)
-  site_class a place kind l here site =
+  -- a gate with a class's label is at the word of a target
+  pub gate_listed : (kind : SiteKind) (which : TargetWord) (v l : ℕ) (ts : List ℕ) → unit_at version_1 (code_words image.code) v ≡ Some (V.Gate l) →
+      targets_for graph.lines kind which l ≡ Some ts → is_word_of which v ts ≡ true
+  gate_listed kind which v l ts here class =
+      let s = served graph.lines kind which l ts class in
+      let rule : not (is_word_of (read_of s.class.sort) v s.class.targets) ≡ false =
+      sym (ap (λ o. holds_of o (λ (c : ClassLine). is_beside c v)) s.is) ∙ sym (ap (λ o. holds_of o (is_astray graph.lines v)) here) ∙ formed.rules R.Astray v in
+      let word : is_word_of (read_of s.class.sort) v s.class.targets ≡ true = not_false (is_word_of (read_of s.class.sort) v s.class.targets) rule in
+      let read : is_word_of which v s.class.targets ≡ true =
+      subst (λ (w : TargetWord). is_word_of w v s.class.targets ≡ true) (reads_it s.class.sort kind which s.serving) word in
+      subst (λ (xs : List ℕ). is_word_of which v xs ≡ true) s.targets read
+
+  -- a class serves each computed transfer
+  pub site_class : (a : ℕ) (place : Place) (asked : Asks) → place_at version_1 (code_words image.code) a ≡ Some place → site_of place ≡ Some asked →
+      (ts : List ℕ) × (targets_for graph.lines asked.kind asked.which asked.label ≡ Some ts)
+  site_class a place asked here site =
       let rule = (or_parts (holds_of (option_and_then site_of (place_at version_1 (code_words image.code) a))
-      (λ s. not (is_site_with (line_at graph.lines a) s && is_some (class_of graph.lines s.1))))
+      (λ (s : Asks). not (is_site_with (line_at graph.lines a) s && is_some (targets_for graph.lines s.kind s.which s.label))))
       (holds_of (line_at graph.lines a) (is_lone_site (place_at version_1 (code_words image.code) a))) (formed.rules R.Site a)).0 in
-      let both = not_false (is_site_with (line_at graph.lines a) (kind, l) && is_some (class_of graph.lines l)) (rw (here, site) at rule) in
-      some_is (class_of graph.lines l) (and_parts (is_site_with (line_at graph.lines a) (kind, l)) (is_some (class_of graph.lines l)) both).1
+      let both = not_false (is_site_with (line_at graph.lines a) asked && is_some (targets_for graph.lines asked.kind asked.which asked.label)) (rw (here, site) at rule) in
+      some_is (targets_for graph.lines asked.kind asked.which asked.label)
+      (and_parts (is_site_with (line_at graph.lines a) asked) (is_some (targets_for graph.lines asked.kind asked.which asked.label)) both).1

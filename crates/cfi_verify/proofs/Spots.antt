@@ -10,8 +10,9 @@ use Rattle.cfi_graph.specs.Graph.{GraphParts, IsGraph, is_code_address, line_in_
 use Rattle.cfi_unit.specs.declared.unit.Unit as U
 use Rattle.cfi_unit.specs.declared.place.Place.{Place}
 use Rattle.cfi_verify.specs.Split.{unit_starts, is_start, unit_at, place_at, is_handler}
-use Rattle.cfi_verify.specs.Lines.{holds_of, line_at, class_of}
+use Rattle.cfi_verify.specs.Lines.{holds_of, line_at, targets_for}
 use Rattle.cfi_verify.specs.Rules.{fails, edge_of, call_of, site_of, is_edge_to, is_call_to, is_site_with, is_unused, is_lone_site, is_astray, is_bad_end}
+use Rattle.cfi_verify.specs.declared.place.Asks.{Asks}
 use Rattle.cfi_verify.specs.declared.reject.Rule.{Rule}
 use Rattle.cfi_verify.specs.declared.reject.Rule.TheVariants as R
 use Rattle.cfi_verify.proofs.InUnits.{start_within}
@@ -120,7 +121,7 @@ fails_spot R.Unused words graph a n g len e =
 fails_spot R.Site words graph a n g len e =
     elim (or_cases _ _ e) [
       | inl without ↦
-          let place = there (place_at version_1 words a) (λ place. holds_of (option_and_then site_of place) (λ site. not (is_site_with (line_at graph.lines a) site && is_some (class_of graph.lines site.1)))) refl without in
+          let place = there (place_at version_1 words a) (λ place. holds_of (option_and_then site_of place) (λ (asked : Asks). not (is_site_with (line_at graph.lines a) asked && is_some (targets_for graph.lines asked.kind asked.which asked.label)))) refl without in
           place_spot words a place.0 place.1
       | inr lone ↦
           let line = there (line_at graph.lines a) (λ line. holds_of line (is_lone_site (place_at version_1 words a))) refl lone in

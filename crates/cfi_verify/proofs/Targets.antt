@@ -6,25 +6,34 @@ use Rattle.std.specs.List.{list_all}
 use Rattle.std.specs.List.Sorted.{IsBinarySearchResult}
 use Rattle.std.specs.Ordering.{nat_cmp}
 use Rattle.std.proofs.lemmas.Bool.{and_parts, cases_Bool, cases_lt, or_left, or_right, or_from, ltb-true, eq-eqb, ne_eqb}
-use Rattle.std.proofs.lemmas.Option.{same_Some}
+use Rattle.std.proofs.lemmas.Option.{none-some, same_Some}
+use Rattle.rv_word.proofs.Cases.{mapped}
 use Rattle.std.proofs.lemmas.List.Sorted.{searched}
 use Rattle.cfi_graph.specs.declared.line.GraphLine.{GraphLine}
 use Rattle.cfi_graph.specs.declared.line.GraphLine.TheVariants.{Class, Site, Edge, Call}
-use Rattle.cfi_graph.specs.Graph.{is_rising, targets_rise}
-use Rattle.cfi_verify.specs.Lines.{class_of, is_among}
+use Rattle.cfi_graph.specs.declared.line.Sort.TheVariants.{Both}
+use Rattle.cfi_graph.specs.Graph.{ClassLine, is_rising, targets_rise}
+use Rattle.cfi_verify.specs.Lines.{class_of, class_with, is_among}
 
-pub class_rises : (lines : List GraphLine) (l : ℕ) (targets : List ℕ) → list_all targets_rise lines ≡ true → class_of lines l ≡ Some targets → is_rising nat_lt targets ≡ true
-unfolding class_of
-class_rises [] l targets r e = cc
-class_rises (Class label members ∷ lines) l targets r e =
+pub class_rises : (lines : List GraphLine) (l : ℕ) (class : ClassLine) → list_all targets_rise lines ≡ true → class_with lines l ≡ Some class → is_rising nat_lt class.targets ≡ true
+unfolding class_with
+class_rises [] l class r e = absurd (none-some class e)
+class_rises (Class label members ∷ lines) l class r e =
     let parts = and_parts _ _ r in
+    let here : ClassLine = record { sort = Both; label = label; targets = members } in
     elim (cases_Bool (label == l)) [
-      | inl s ↦ ap (is_rising nat_lt) (sym (same_Some members targets (rw s at e))) ∙ parts.0
-      | inr s ↦ class_rises lines l targets parts.1 (rw s at e)
+      | inl s ↦ ap (λ (c : ClassLine). is_rising nat_lt c.targets) (sym (same_Some here class (rw s at e))) ∙ parts.0
+      | inr s ↦ class_rises lines l class parts.1 (rw s at e)
     ]
-class_rises (Site address kind label ∷ lines) l targets r e = class_rises lines l targets r e
-class_rises (Edge from to ∷ lines) l targets r e = class_rises lines l targets r e
-class_rises (Call from to ∷ lines) l targets r e = class_rises lines l targets r e
+class_rises (Site address kind label ∷ lines) l class r e = class_rises lines l class r e
+class_rises (Edge from to ∷ lines) l class r e = class_rises lines l class r e
+class_rises (Call from to ∷ lines) l class r e = class_rises lines l class r e
+
+targets_rise_of : (lines : List GraphLine) (l : ℕ) (targets : List ℕ) → list_all targets_rise lines ≡ true → class_of lines l ≡ Some targets → is_rising nat_lt targets ≡ true
+unfolding class_of
+targets_rise_of lines l targets r e =
+    let (class, is, same) = mapped (λ (c : ClassLine). c.targets) (class_with lines l) targets e in
+    ap (is_rising nat_lt) (sym same) ∙ class_rises lines l class r is
 
 tail_rises : (x : ℕ) (xs : List ℕ) → is_rising nat_lt (x ∷ xs) ≡ true → is_rising nat_lt xs ≡ true
 tail_rises x [] r = refl
@@ -69,4 +78,4 @@ search_finds xs a (Err i) rise h =
 
 pub found_rises : (lines : List GraphLine) (l : ℕ) (found : Option (Bor (List ℕ))) → list_all targets_rise lines ≡ true → option_copied found ≡ class_of lines l → IfSome found (λ targets. is_rising nat_lt targets.now ≡ true)
 found_rises lines l None r e = tt
-found_rises lines l (Some targets) r e = class_rises lines l targets.now r (sym e)
+found_rises lines l (Some targets) r e = targets_rise_of lines l targets.now r (sym e)

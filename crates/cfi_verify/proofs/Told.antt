@@ -8,6 +8,9 @@ use Rattle.rv_word.specs.MemoryMap.{CODE_START, lies_within, version_1, START, C
 use Rattle.rv_code.specs.Decode.{decoded}
 use Rattle.cfi_graph.specs.declared.line.GraphLine.{GraphLine}
 use Rattle.cfi_graph.specs.declared.line.GraphLine.TheVariants.{Class, Site, Edge, Call}
+use Rattle.cfi_graph.specs.Graph.{ClassLine, class_in}
+use Rattle.cfi_unit.specs.declared.target_word.TargetWord.{TargetWord}
+use Rattle.cfi_unit.specs.declared.target_word.TargetWord.TheVariants.{First}
 use Rattle.cfi_unit.specs.declared.unit.Unit as U
 use Rattle.cfi_unit.specs.declared.unit.Unit.TheVariants as V
 use Rattle.cfi_unit.specs.declared.place.Place.{Place}
@@ -21,9 +24,10 @@ use Rattle.cfi_scan.specs.Pieces.{IsOf, Listed}
 use Rattle.cfi_scan.specs.Stream.{IsSplitUp, last_of, spelled, width}
 use Rattle.cfi_scan.specs.Entries.{is_unit}
 use Rattle.cfi_verify.specs.Entries.{Tells, call_at, call_in, count_of, edge_at, edge_in, entry_at, fails_at, gate_at, gate_in, is_bad_end_at, is_lone_at, is_outside, is_stop_entry, is_unused_at, misses_start, or_inside, site_at, site_in, starts_at}
-use Rattle.cfi_verify.specs.Lines.{holds_of, line_at, class_of, is_among}
-use Rattle.cfi_verify.specs.Rules.{call_of, edge_of, fails, fails_prologue, is_astray, is_bad_end, is_call_to, is_edge_to, is_gate_with, is_lone_site, is_site_with, is_stop, is_unused, lacks_gate, prologue_word_fits, site_of}
+use Rattle.cfi_verify.specs.Lines.{holds_of, line_at, targets_for, is_among, read_of}
+use Rattle.cfi_verify.specs.Rules.{call_of, edge_of, fails, fails_prologue, gate_label, gate_of, is_astray, is_bad_end, is_borne, is_call_to, is_edge_to, is_label, is_lone_site, is_site_with, is_stop, is_unused, lacks_gate, prologue_word_fits, site_of}
 use Rattle.cfi_verify.specs.Split.{code_words, entry_of, is_handler, is_marked, is_start, place_at, starts, unit_at, unit_starts}
+use Rattle.cfi_verify.specs.declared.place.Asks.{Asks}
 use Rattle.cfi_verify.specs.declared.reject.Rule.{Rule}
 use Rattle.cfi_verify.specs.declared.reject.Rule.TheVariants as R
 use Rattle.cfi_verify.proofs.Cut.{cut_count, cut_is}
@@ -185,9 +189,9 @@ site_is (V.Ijump rs1 imm label) a = refl
 site_is (V.Icall rs1 imm label) a = refl
 site_is _ a = refl
 
-gate_is : (u : U.Unit) (a label : ℕ) → is_gate_with (Some u) label ≡ is_gate_with (option_map V.Gate (gate_in (entry_of_unit u a))) label
-gate_is (V.Gate l) a label = refl
-gate_is _ a label = refl
+gate_is : (u : U.Unit) (a : ℕ) → gate_of u ≡ gate_in (entry_of_unit u a)
+gate_is (V.Gate l) a = refl
+gate_is _ a = refl
 
 astray_is : (lines : List GraphLine) (u : U.Unit) (a : ℕ) → is_astray lines a u ≡ holds_of (gate_in (entry_of_unit u a)) (λ label. is_outside lines label a)
 astray_is lines (V.Gate l) a = refl
@@ -307,12 +311,15 @@ module _ (t : Listed) (words : List ℕ) (w : Tells t words) where
         | inr (u, h) ↦ h.start ∙ sym (unit_is u a) ∙ ap is_unit (sym h.entry)
       ]
 
-  gate_told : (a label : ℕ) → is_gate_with (unit_at version_1 words a) label ≡ is_gate_with (option_map V.Gate (gate_at t a)) label
-  gate_told a label =
+  gate_told : (a : ℕ) → gate_label version_1 words a ≡ gate_at t a
+  gate_told a =
       elim (at_address a) [
-        | inl n ↦ ap (λ o. is_gate_with o label) (no_unit words a n.start) ∙ ap (λ e. is_gate_with (option_map V.Gate (gate_in e)) label) (sym n.entry)
-        | inr (u, h) ↦ ap (λ o. is_gate_with o label) h.is ∙ gate_is u a label ∙ ap (λ e. is_gate_with (option_map V.Gate (gate_in e)) label) (sym h.entry)
+        | inl n ↦ ap (option_and_then gate_of) (no_unit words a n.start) ∙ ap gate_in (sym n.entry)
+        | inr (u, h) ↦ ap (option_and_then gate_of) h.is ∙ gate_is u a ∙ ap gate_in (sym h.entry)
       ]
+
+  borne_told : (which : TargetWord) (a label : ℕ) → is_borne (gate_label version_1 words) which a label ≡ is_borne (gate_at t) which a label
+  borne_told First a label = ap (λ o. is_label o label) (gate_told a)
 
   astray_told : (lines : List GraphLine) (a : ℕ) → holds_of (unit_at version_1 words a) (is_astray lines a) ≡ holds_of (gate_at t a) (λ label. is_outside lines label a)
   astray_told lines a =
@@ -321,11 +328,11 @@ module _ (t : Listed) (words : List ℕ) (w : Tells t words) where
         | inr (u, h) ↦ ap (λ o. holds_of o (is_astray lines a)) h.is ∙ astray_is lines u a ∙ ap (λ e. holds_of (gate_in e) (λ label. is_outside lines label a)) (sym h.entry)
       ]
 
-  lacks_told : (a : ℕ) (line : GraphLine) → lacks_gate (unit_at version_1 words a) a line ≡ lacks_gate (option_map V.Gate (gate_at t a)) a line
-  lacks_told a (Class label targets) = ap (λ b. is_among a targets && not b) (gate_told a label)
-  lacks_told a (Site address kind label) = refl
-  lacks_told a (Edge from to) = refl
-  lacks_told a (Call from to) = refl
+  lacks_told : (a : ℕ) (line : GraphLine) → lacks_gate (gate_label version_1 words) a line ≡ lacks_gate (gate_at t) a line
+  lacks_told a line =
+      same_test (class_in line) (λ (c : ClassLine). is_among a c.targets && not (is_borne (gate_label version_1 words) (read_of c.sort) a c.label))
+      (λ (c : ClassLine). is_among a c.targets && not (is_borne (gate_at t) (read_of c.sort) a c.label))
+      (λ (c : ClassLine). ap (λ b. is_among a c.targets && not b) (borne_told (read_of c.sort) a c.label))
 
   unused_told : (a : ℕ) (line : GraphLine) → is_unused (place_at version_1 words a) line ≡ is_unused_at t a line
   unused_told a (Class label targets) = refl
@@ -421,7 +428,7 @@ module _ (t : Listed) (words : List ℕ) (w : Tells t words) where
       (ap (λ o. holds_of o (λ target. not (is_call_to (line_at lines a) target))) (call_told a))
   fails_told R.Unused lines a = same_test (line_at lines a) _ _ (unused_told a)
   fails_told R.Site lines a =
-      or_same (ap (λ o. holds_of o (λ site. not (is_site_with (line_at lines a) site && is_some (class_of lines site.1)))) (site_told a))
+      or_same (ap (λ o. holds_of o (λ (asked : Asks). not (is_site_with (line_at lines a) asked && is_some (targets_for lines asked.kind asked.which asked.label)))) (site_told a))
       (same_test (line_at lines a) _ _ (lone_told a))
   fails_told R.Gate lines a = same_any _ _ lines (lacks_told a)
   fails_told R.Astray lines a = astray_told lines a

@@ -12,11 +12,13 @@ use Rattle.rv_code.specs.Step.{step}
 use Rattle.rv_code.specs.declared.turn.Turn.{Turn}
 use Rattle.rv_code.specs.declared.turn.Turn.TheVariants.{Ran, Exit, Break, LoadFault, StoreFault, FetchFault, Illegal}
 use Rattle.cfi_graph.specs.declared.line.GraphLine.{GraphLine}
+use Rattle.cfi_graph.specs.declared.line.SiteKind.TheVariants as K
 use Rattle.cfi_graph.specs.Graph.{GraphParts}
 use Rattle.cfi_unit.specs.declared.unit.Unit.TheVariants as V
 use Rattle.cfi_unit.specs.declared.unit.SystemOp.TheVariants as S
 use Rattle.cfi_unit.specs.declared.place.Place.{Place}
 use Rattle.cfi_unit.specs.declared.place.Place.TheVariants.{Handler as handler, Opening as opening, Closing as closing, Body as body}
+use Rattle.cfi_unit.specs.declared.target_word.TargetWord.TheVariants.{First}
 use Rattle.cfi_unit.specs.Place.{IsWordOf}
 use Rattle.cfi_unit.specs.Prologue.{OPENING}
 use Rattle.cfi_unit.specs.Context.{IsCodeOf}
@@ -36,13 +38,13 @@ pub record Walk : Type 0 where
 -- target of the class, and otherwise the destination
 abbrev pub JumpChooses : List GraphLine → ℕ → ℕ → ℕ → Type 0
 JumpChooses lines label to v =
-    (InClass lines label to × (v ≡ to)) ⊎ ((¬ InClass lines label to) × (v ≡ BAD_TARGET))
+    (InClass lines K.Jump First label to × (v ≡ to)) ⊎ ((¬ InClass lines K.Jump First label to) × (v ≡ BAD_TARGET))
 
 -- and from a computed call: a target's call goes to the handler where there is no room
 abbrev pub ComputedCallChooses : List GraphLine → ℕ → ℕ → ℕ → ℕ → Type 0
 ComputedCallChooses lines label pending to v =
-    (InClass lines label to × (((pending < MOST_PENDING) × (v ≡ to)) ⊎ ((pending ≡ MOST_PENDING) × (v ≡ DEEP))))
-    ⊎ ((¬ InClass lines label to) × (v ≡ BAD_TARGET))
+    (InClass lines K.Call First label to × (((pending < MOST_PENDING) × (v ≡ to)) ⊎ ((pending ≡ MOST_PENDING) × (v ≡ DEEP))))
+    ⊎ ((¬ InClass lines K.Call First label to) × (v ≡ BAD_TARGET))
 
 -- and from a return: the handler exactly where x1 is not the newest site
 abbrev pub ReturnChooses : List ℕ → ℕ → ℕ → Type 0

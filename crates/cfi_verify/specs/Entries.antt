@@ -1,21 +1,21 @@
 -- What the listing of a code says of an address, and of each rule there.
-use Rattle.std.specs.Prelude.{◌≡◌, ℕ, ◌+◌, ◌-◌, ◌*◌, ◌/◌, ◌%◌, ◌==◌, nat_lt, nat_le, ◌&&◌, ◌||◌, not, Bool, true, false, List, length, take, drop, slice_get, Option, Some, None, is_some, option_map, if◌then◌else◌}
+use Rattle.std.specs.Prelude.{◌≡◌, ℕ, ◌+◌, ◌-◌, ◌*◌, ◌/◌, ◌%◌, ◌==◌, nat_lt, nat_le, ◌&&◌, ◌||◌, not, Bool, true, false, List, length, take, drop, slice_get, Option, Some, None, is_some, if◌then◌else◌}
 use Rattle.std.specs.List.{list_any}
 use Rattle.rv_word.specs.MemoryMap.{version_1, START, UNITS_START}
 use Rattle.cfi_graph.specs.declared.line.GraphLine.{GraphLine}
 use Rattle.cfi_graph.specs.declared.line.GraphLine.TheVariants.{Class, Site, Edge, Call}
-use Rattle.cfi_graph.specs.declared.line.SiteKind.{SiteKind}
 use Rattle.cfi_graph.specs.declared.line.SiteKind.TheVariants as K
-use Rattle.cfi_unit.specs.declared.unit.Unit.TheVariants as V
+use Rattle.cfi_unit.specs.declared.target_word.TargetWord.TheVariants.{First}
 use Rattle.cfi_unit.specs.Recognise.{led_to, near_to}
 use Rattle.cfi_scan.specs.declared.entry.Entry.{Entry}
 use Rattle.cfi_scan.specs.declared.entry.Entry.TheVariants as E
 use Rattle.cfi_scan.specs.Entries.{is_unit}
 use Rattle.cfi_scan.specs.Pieces.{Listed}
 use Rattle.cfi_scan.specs.Stream.{IsSplitUp}
-use Rattle.cfi_verify.specs.Lines.{holds_of, line_at, class_of, is_among}
+use Rattle.cfi_verify.specs.Lines.{holds_of, line_at, class_with, targets_for, is_beside}
 use Rattle.cfi_verify.specs.Split.{entry_of}
-use Rattle.cfi_verify.specs.Rules.{fails_prologue, is_edge_to, is_call_to, is_site_with, lacks_gate}
+use Rattle.cfi_verify.specs.Rules.{fails_prologue, is_edge_to, is_call_to, is_site_with, lacks_gate, asks}
+use Rattle.cfi_verify.specs.declared.place.Asks.{Asks}
 use Rattle.cfi_verify.specs.declared.reject.Rule.{Rule}
 use Rattle.cfi_verify.specs.declared.reject.Rule.TheVariants as R
 
@@ -51,10 +51,10 @@ abbrev pub call_in : Entry → ℕ → Option ℕ
 call_in (E.Call field) a = Some (led_to (a + 28) field)
 call_in _ a = None
 
--- the kind and the label of a computed transfer
-abbrev pub site_in : Entry → Option (SiteKind × ℕ)
-site_in (E.Ijump label) = Some (K.Jump, label)
-site_in (E.Icall label) = Some (K.Call, label)
+-- what a computed transfer asks for
+abbrev pub site_in : Entry → Option Asks
+site_in (E.Ijump label) = Some (asks K.Jump First label)
+site_in (E.Icall label) = Some (asks K.Call First label)
 site_in _ = None
 
 -- the label of a gate
@@ -69,7 +69,7 @@ edge_at t a = edge_in (entry_at t.entries a) a
 abbrev pub call_at : Listed → ℕ → Option ℕ
 call_at t a = if a == START then entry_of version_1 t.prologue else call_in (entry_at t.entries a) a
 
-abbrev pub site_at : Listed → ℕ → Option (SiteKind × ℕ)
+abbrev pub site_at : Listed → ℕ → Option Asks
 site_at t a = site_in (entry_at t.entries a)
 
 abbrev pub gate_at : Listed → ℕ → Option ℕ
@@ -115,15 +115,15 @@ is_lone_at t a (Class label targets) = false
 
 abbrev pub fails_site_at : Listed → List GraphLine → ℕ → Bool
 fails_site_at t lines a =
-    holds_of (site_at t a) (λ site. not (is_site_with (line_at lines a) site && is_some (class_of lines site.1)))
+    holds_of (site_at t a) (λ asked. not (is_site_with (line_at lines a) asked && is_some (targets_for lines asked.kind asked.which asked.label)))
     || holds_of (line_at lines a) (is_lone_at t a)
 
 abbrev pub fails_gate_at : Listed → List GraphLine → ℕ → Bool
-fails_gate_at t lines a = list_any (lacks_gate (option_map V.Gate (gate_at t a)) a) lines
+fails_gate_at t lines a = list_any (lacks_gate (gate_at t) a) lines
 
--- a label is a class's and an address is none of its targets
+-- a label is a class's, and at an address stands no word of its targets that is to bear it
 abbrev pub is_outside : List GraphLine → ℕ → ℕ → Bool
-is_outside lines label a = holds_of (class_of lines label) (λ targets. not (is_among a targets))
+is_outside lines label a = holds_of (class_with lines label) (λ class. is_beside class a)
 
 abbrev pub fails_astray_at : Listed → List GraphLine → ℕ → Bool
 fails_astray_at t lines a = holds_of (gate_at t a) (λ label. is_outside lines label a)

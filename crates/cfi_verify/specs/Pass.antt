@@ -1,10 +1,9 @@
 -- What one pass over a code and a graph finds out.
-use Rattle.std.specs.Prelude.{◌≡◌, ◌≢◌, ℕ, ◌+◌, ◌*◌, ◌<◌, ◌≤◌, ◌==◌, ◌&&◌, nat_lt, Bool, true, false, List, Some, None, option_map, slice_get}
+use Rattle.std.specs.Prelude.{◌≡◌, ◌≢◌, ℕ, ◌+◌, ◌*◌, ◌<◌, ◌≤◌, ◌==◌, ◌&&◌, nat_lt, Bool, true, false, List, Some, None, slice_get}
 use Rattle.rv_word.specs.MemoryMap.{CODE_START, UNITS_START}
 use Rattle.cfi_graph.specs.declared.line.GraphLine.{GraphLine}
 use Rattle.cfi_graph.specs.declared.line.Key.TheVariants.{Address}
 use Rattle.cfi_graph.specs.Graph.{key_below, key_of}
-use Rattle.cfi_unit.specs.declared.unit.Unit.TheVariants as V
 use Rattle.cfi_scan.specs.Pieces.{Listed}
 use Rattle.cfi_verify.specs.Entries.{count_of, entry_at, gate_at, is_stop_entry, fails_at, fails_target_at, fails_unlisted_at, fails_unused_at, fails_site_at, fails_astray_at}
 use Rattle.cfi_verify.specs.Lines.{line_at}
@@ -34,7 +33,7 @@ ends_in_stop t =
 pub record HasPassed (t : Listed) (lines : List GraphLine) (count next : ℕ) : Type 0 where
   pub words : (k : ℕ) → k < next → HoldsAt t lines (UNITS_START + 4 * k)
   pub lines_before : (i : ℕ) (line : GraphLine) → i < count → slice_get lines i ≡ Some line → key_below (key_of line) (Address (UNITS_START + 4 * next)) ≡ true
-  pub gates : (i : ℕ) (line : GraphLine) → i < count → slice_get lines i ≡ Some line → (a : ℕ) → lacks_gate (option_map V.Gate (gate_at t a)) a line ≡ false
+  pub gates : (i : ℕ) (line : GraphLine) → i < count → slice_get lines i ≡ Some line → (a : ℕ) → lacks_gate (gate_at t) a line ≡ false
 
 -- at none of these words a line stands
 abbrev pub NoneStands : List GraphLine → ℕ → ℕ → Type 0

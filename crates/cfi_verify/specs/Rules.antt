@@ -12,15 +12,18 @@ use Rattle.cfi_graph.specs.declared.line.GraphLine.{GraphLine}
 use Rattle.cfi_graph.specs.declared.line.GraphLine.TheVariants.{Class, Site, Edge, Call}
 use Rattle.cfi_graph.specs.declared.line.SiteKind.{SiteKind}
 use Rattle.cfi_graph.specs.declared.line.SiteKind.TheVariants as K
-use Rattle.cfi_graph.specs.Graph.{GraphParts}
+use Rattle.cfi_graph.specs.Graph.{GraphParts, class_in}
 use Rattle.cfi_unit.specs.declared.unit.Unit as U
 use Rattle.cfi_unit.specs.declared.unit.Unit.TheVariants as V
 use Rattle.cfi_unit.specs.declared.place.Place.{Place}
 use Rattle.cfi_unit.specs.declared.place.Place.TheVariants.{Opening as opening, Body as body}
+use Rattle.cfi_unit.specs.declared.target_word.TargetWord.{TargetWord}
+use Rattle.cfi_unit.specs.declared.target_word.TargetWord.TheVariants.{First}
 use Rattle.cfi_unit.specs.Prologue.{prologue_instrs}
 use Rattle.cfi_unit.specs.UnitWords.{after_unit}
-use Rattle.cfi_verify.specs.Lines.{holds_of, line_at, class_of, is_among}
+use Rattle.cfi_verify.specs.Lines.{holds_of, line_at, class_with, targets_for, is_among, is_beside, read_of}
 use Rattle.cfi_verify.specs.Split.{code_words, unit_words, unit_starts, is_start, unit_at, place_at}
+use Rattle.cfi_verify.specs.declared.place.Asks.{Asks}
 use Rattle.cfi_verify.specs.declared.reject.Reject.{Reject}
 use Rattle.cfi_verify.specs.declared.reject.Reject.TheVariants.{Length, At}
 use Rattle.cfi_verify.specs.declared.reject.Rule.{Rule}
@@ -39,10 +42,13 @@ call_of (opening entry) = Some entry
 call_of (body (V.Call target)) = Some target
 call_of other = None
 
--- a computed transfer's kind and label
-abbrev pub site_of : Place → Option (SiteKind × ℕ)
-site_of (body (V.Ijump rs1 imm label)) = Some (K.Jump, label)
-site_of (body (V.Icall rs1 imm label)) = Some (K.Call, label)
+-- what a computed transfer asks for: its kind, which word of its destination its check reads, the label
+abbrev pub asks : SiteKind → TargetWord → ℕ → Asks
+asks kind which label = record { kind = kind; which = which; label = label }
+
+abbrev pub site_of : Place → Option Asks
+site_of (body (V.Ijump rs1 imm label)) = Some (asks K.Jump First label)
+site_of (body (V.Icall rs1 imm label)) = Some (asks K.Call First label)
 site_of other = None
 
 abbrev pub same_kind : SiteKind → SiteKind → Bool
@@ -50,7 +56,7 @@ same_kind K.Call K.Call = true
 same_kind K.Jump K.Jump = true
 same_kind other another = false
 
--- the line is an edge, a call or a site, to this target or with this kind and label
+-- the line is an edge, a call or a site, to this target or with the kind and the label that is asked for
 abbrev pub is_edge_to : Option GraphLine → ℕ → Bool
 is_edge_to (Some (Edge from to)) target = to == target
 is_edge_to other target = false
@@ -59,13 +65,18 @@ abbrev pub is_call_to : Option GraphLine → ℕ → Bool
 is_call_to (Some (Call from to)) target = to == target
 is_call_to other target = false
 
-abbrev pub is_site_with : Option GraphLine → SiteKind × ℕ → Bool
-is_site_with (Some (Site address kind label)) site = same_kind kind site.0 && (label == site.1)
-is_site_with other site = false
+abbrev pub is_site_with : Option GraphLine → Asks → Bool
+is_site_with (Some (Site address kind label)) asked = same_kind kind asked.kind && (label == asked.label)
+is_site_with other asked = false
 
-abbrev pub is_gate_with : Option U.Unit → ℕ → Bool
-is_gate_with (Some (V.Gate l)) label = l == label
-is_gate_with other label = false
+-- the label of a gate
+abbrev pub gate_of : U.Unit → Option ℕ
+gate_of (V.Gate label) = Some label
+gate_of other = None
+
+abbrev pub is_label : Option ℕ → ℕ → Bool
+is_label None label = false
+is_label (Some l) label = l == label
 
 abbrev pub is_stop : U.Unit → Bool
 is_stop V.Stop = true
@@ -121,8 +132,8 @@ is_unused place (Class label targets) = false
 abbrev pub fails_unused : Profile → List ℕ → List GraphLine → ℕ → Bool
 fails_unused p words lines a = holds_of (line_at lines a) (is_unused (place_at p words a))
 
--- Site: a computed transfer has no site line of its kind and label, or its label is no class's; or a
--- site line stands where no computed transfer does
+-- Site: a computed transfer has no site line of its kind and label, or no class with its label serves
+-- it; or a site line stands where no computed transfer does
 abbrev pub is_lone_site : Option Place → GraphLine → Bool
 is_lone_site place (Site address kind label) = not (is_some (option_and_then site_of place))
 is_lone_site place (Edge from to) = false
@@ -132,22 +143,27 @@ is_lone_site place (Class label targets) = false
 abbrev pub fails_site : Profile → List ℕ → List GraphLine → ℕ → Bool
 fails_site p words lines a =
     let place = place_at p words a in
-    holds_of (option_and_then site_of place) (λ site. not (is_site_with (line_at lines a) site && is_some (class_of lines site.1)))
+    holds_of (option_and_then site_of place) (λ asked. not (is_site_with (line_at lines a) asked && is_some (targets_for lines asked.kind asked.which asked.label)))
     || holds_of (line_at lines a) (is_lone_site place)
 
--- Gate: a class has this target, and no gate with the class's label stands here
-abbrev pub lacks_gate : Option U.Unit → ℕ → GraphLine → Bool
-lacks_gate unit a (Class label targets) = is_among a targets && not (is_gate_with unit label)
-lacks_gate unit a (Site address kind label) = false
-lacks_gate unit a (Edge from to) = false
-lacks_gate unit a (Call from to) = false
+-- Gate: a class has this target, and the target's word that is to bear the class's label is no gate of
+-- this label. `gate` tells the label of the gate at an address
+abbrev pub gate_label : Profile → List ℕ → ℕ → Option ℕ
+gate_label p words a = option_and_then gate_of (unit_at p words a)
+
+abbrev pub is_borne : (ℕ → Option ℕ) → TargetWord → ℕ → ℕ → Bool
+is_borne gate First a label = is_label (gate a) label
+
+abbrev pub lacks_gate : (ℕ → Option ℕ) → ℕ → GraphLine → Bool
+lacks_gate gate a line =
+    holds_of (class_in line) (λ class. is_among a class.targets && not (is_borne gate (read_of class.sort) a class.label))
 
 abbrev pub fails_gate : Profile → List ℕ → List GraphLine → ℕ → Bool
-fails_gate p words lines a = list_any (lacks_gate (unit_at p words a) a) lines
+fails_gate p words lines a = list_any (lacks_gate (gate_label p words) a) lines
 
--- Astray: a gate bears a class's label and is not among its targets
+-- Astray: a gate bears a class's label and is not such a word of one of its targets
 abbrev pub is_astray : List GraphLine → ℕ → U.Unit → Bool
-is_astray lines a (V.Gate label) = holds_of (class_of lines label) (λ targets. not (is_among a targets))
+is_astray lines a (V.Gate label) = holds_of (class_with lines label) (λ class. is_beside class a)
 is_astray lines a other = false
 
 abbrev pub fails_astray : Profile → List ℕ → List GraphLine → ℕ → Bool

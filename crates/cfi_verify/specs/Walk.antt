@@ -2,27 +2,31 @@
 -- next address and the sites pending there. Pending sites stand newest first.
 use Rattle.std.specs.Prelude.{◌≡◌, ℕ, ◌+◌, ◌<◌, ◌⊎◌, Bool, true, false, IsTrue, List, [], ◌∷◌, length}
 use Rattle.cfi_graph.specs.declared.line.GraphLine.{GraphLine}
+use Rattle.cfi_graph.specs.declared.line.SiteKind.{SiteKind}
+use Rattle.cfi_graph.specs.declared.line.SiteKind.TheVariants as K
 use Rattle.cfi_unit.specs.declared.unit.Unit as U
 use Rattle.cfi_unit.specs.declared.unit.Unit.TheVariants as V
 use Rattle.cfi_unit.specs.declared.unit.SystemOp.TheVariants as S
 use Rattle.cfi_unit.specs.declared.place.Place.{Place}
 use Rattle.cfi_unit.specs.declared.place.Place.TheVariants.{Handler as handler, Opening as opening, Closing as closing, Body as body}
+use Rattle.cfi_unit.specs.declared.target_word.TargetWord.{TargetWord}
+use Rattle.cfi_unit.specs.declared.target_word.TargetWord.TheVariants.{First}
 use Rattle.cfi_unit.specs.Place.{place_size}
 use Rattle.cfi_unit.specs.Shadow.{MOST_PENDING}
 use Rattle.cfi_unit.specs.UnitWords.{BAD_TARGET, BAD_RETURN, DEEP, after_unit}
-use Rattle.cfi_verify.specs.Lines.{holds_of, class_of, is_among}
+use Rattle.cfi_verify.specs.Lines.{holds_of, targets_for, is_among}
 
--- an address is a target of the class with a label
-abbrev pub InClass : List GraphLine → ℕ → ℕ → Type 0
-InClass lines label v = IsTrue (holds_of (class_of lines label) (is_among v))
+-- an address is a target of the class with a label that serves such a transfer
+abbrev pub InClass : List GraphLine → SiteKind → TargetWord → ℕ → ℕ → Type 0
+InClass lines kind which label v = IsTrue (holds_of (targets_for lines kind which label) (is_among v))
 
 abbrev pub is_some_target : List ℕ → Bool
 is_some_target [] = false
 is_some_target (x ∷ xs) = true
 
--- the class with a label has a target
-abbrev pub HasTarget : List GraphLine → ℕ → Type 0
-HasTarget lines label = IsTrue (holds_of (class_of lines label) is_some_target)
+-- this class has a target
+abbrev pub HasTarget : List GraphLine → SiteKind → TargetWord → ℕ → Type 0
+HasTarget lines kind which label = IsTrue (holds_of (targets_for lines kind which label) is_some_target)
 
 -- to an address, with the same sites pending
 abbrev pub To : ℕ → List ℕ → ℕ → List ℕ → Type 0
@@ -37,15 +41,15 @@ CallGoes site target pending v after =
 -- a computed jump: to a target of its class, or to the handler
 abbrev pub JumpGoes : List GraphLine → ℕ → List ℕ → ℕ → List ℕ → Type 0
 JumpGoes lines label pending v after =
-    (InClass lines label v × (after ≡ pending)) ⊎ To BAD_TARGET pending v after
+    (InClass lines K.Jump First label v × (after ≡ pending)) ⊎ To BAD_TARGET pending v after
 
 -- a computed call: to the handler of bad targets; to a target of its class with its site put on top;
 -- or to the handler where there is no room
 abbrev pub ComputedCallGoes : List GraphLine → ℕ → ℕ → List ℕ → ℕ → List ℕ → Type 0
 ComputedCallGoes lines site label pending v after =
     To BAD_TARGET pending v after
-    ⊎ (((length pending < MOST_PENDING) × InClass lines label v × (after ≡ site ∷ pending))
-    ⊎ ((length pending ≡ MOST_PENDING) × HasTarget lines label × To DEEP pending v after))
+    ⊎ (((length pending < MOST_PENDING) × InClass lines K.Call First label v × (after ≡ site ∷ pending))
+    ⊎ ((length pending ≡ MOST_PENDING) × HasTarget lines K.Call First label × To DEEP pending v after))
 
 -- a return: to the newest site, which is taken off, or to the handler
 abbrev pub ReturnGoes : List ℕ → ℕ → List ℕ → Type 0

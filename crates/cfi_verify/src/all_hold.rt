@@ -1,8 +1,7 @@
 //! One pass that tells whether all rules hold, so that the first that fails is looked for only where one does.
 
-ghost use Rattle.std.specs.Prelude.{◌≡◌, ◌+◌, ◌*◌, ◌<◌, ◌≤◌, ◌^◌, ℕ, IfSome, List, None, Some, false, length, option_map, true};
+ghost use Rattle.std.specs.Prelude.{◌≡◌, ◌+◌, ◌*◌, ◌<◌, ◌≤◌, ◌^◌, ℕ, IfSome, List, None, Some, false, length, true};
 ghost use Rattle.rv_word.specs.MemoryMap.{UNITS_START, version_1};
-ghost use Rattle.cfi_unit.specs.declared.unit.Unit.TheVariants as V;
 ghost use Rattle.cfi_scan.specs.Entries.{is_quiet};
 ghost use Rattle.cfi_verify.specs.Entries.{Tells, count_of, entry_at, fails_gate_at, gate_at};
 ghost use Rattle.cfi_verify.specs.Lines.{line_at};
@@ -102,7 +101,7 @@ impl<'a> Starts<'a> {
 
     /// `next`, if each target of a class has the class's gate.
     fn after_class(&self, line: &GraphLine, next: u64) -> Option<u64>
-        ensures { IfSome result (λ after. (after ≡ next) × ((a : ℕ) → lacks_gate (option_map V.Gate (gate_at self.now.listing a)) a line.now ≡ false)) }
+        ensures { IfSome result (λ after. (after ≡ next) × ((a : ℕ) → lacks_gate (gate_at self.now.listing) a line.now ≡ false)) }
     {
         match self.target_without_gate(line) {
             Some(_) => None,
@@ -120,9 +119,7 @@ impl<'a> Starts<'a> {
         match line {
             GraphLine::Edge(_, to) => self.edge_at(address) == Some(*to) && self.is_start(*to),
             GraphLine::Call(_, to) => self.call_at(address) == Some(*to) && self.is_start(*to),
-            GraphLine::Site(_, kind, label) => {
-                self.site_at(address) == Some((*kind, *label)) && self.class_of(*label).is_some()
-            }
+            GraphLine::Site(..) => !self.fails_site_with(address, Some(line)),
             GraphLine::Class(..) => false,
         }
     }

@@ -1,19 +1,18 @@
 //! Gates with the label of a class.
 
-ghost use Rattle.std.specs.Prelude.{◌≡◌, ◌&&◌, not, option_map};
-ghost use Rattle.cfi_unit.specs.declared.unit.Unit.TheVariants as V;
+ghost use Rattle.std.specs.Prelude.{◌≡◌, ◌&&◌, not};
 ghost use Rattle.least.specs.Least.{IsLeast};
 ghost use Rattle.cfi_verify.specs.Lines.{is_among};
 ghost use Rattle.cfi_verify.specs.Entries.{fails_gate_at, gate_at};
-ghost use Rattle.cfi_verify.specs.Rules.{is_gate_with, lacks_gate};
+ghost use Rattle.cfi_verify.specs.Rules.{is_label, lacks_gate};
 
 use crate::starts::Starts;
 use cfi_graph::GraphLine;
 use least::lesser;
 
 /// Whether a gate's label is there and is this one.
-fn is_gate_with(gate: Option<u32>, label: u32) -> bool
-    ensures { result ≡ is_gate_with (option_map V.Gate gate) label }
+fn is_label(gate: Option<u32>, label: u32) -> bool
+    ensures { result ≡ is_label gate label }
 {
     match gate {
         Some(found) => found == label,
@@ -35,7 +34,7 @@ impl<'a> Starts<'a> {
     }
 
     pub(crate) fn target_without_gate(&self, line: &GraphLine) -> Option<u64>
-        ensures { IsLeast (λ a. lacks_gate (option_map V.Gate (gate_at self.now.listing a)) a line.now) result }
+        ensures { IsLeast (λ a. lacks_gate (gate_at self.now.listing) a line.now) result }
     {
         match line {
             GraphLine::Class(label, targets) => self.without_gate(*label, targets.as_slice()),
@@ -45,11 +44,11 @@ impl<'a> Starts<'a> {
 
     /// The least of some addresses at which no gate with a label stands.
     fn without_gate(&self, label: u32, targets: &[u64]) -> Option<u64>
-        ensures { IsLeast (λ a. is_among a targets.now && not (is_gate_with (option_map V.Gate (gate_at self.now.listing a)) label)) result }
+        ensures { IsLeast (λ a. is_among a targets.now && not (is_label (gate_at self.now.listing a) label)) result }
     {
         let mut least = None;
         for target in targets {
-            if !is_gate_with(self.gate_at(*target), label) {
+            if !is_label(self.gate_at(*target), label) {
                 least = lesser(least, Some(*target));
             }
         }

@@ -5,6 +5,7 @@
 pub use cfi_unit::Place;
 pub use lines::is_among;
 pub use pieces::scan_pieces;
+pub use place::Asks;
 pub use reject::{Reject, Rule};
 pub use scan::Scan;
 pub use starts::Starts;

@@ -4,8 +4,9 @@ ghost use Rattle.std.specs.Prelude.{◌≡◌, IfSome, IsTrue, map, nat_lt};
 ghost use Rattle.std.specs.List.{list_all};
 ghost use Rattle.std.specs.Option.{option_copied};
 ghost use Rattle.cfi_graph.specs.Graph.{is_rising, key_below, key_of, targets_rise};
-ghost use Rattle.cfi_verify.specs.Lines.{class_of, is_among, line_at, line_with};
+ghost use Rattle.cfi_verify.specs.Lines.{class_of, is_among, line_at, line_with, targets_for};
 
+use crate::place::Asks;
 use cfi_graph::{Graph, GraphLine, Key};
 
 /// The line with a key, if there is one: keys rise, so its place is halved in.
@@ -56,6 +57,16 @@ fn found_class(graph: &Graph, label: u32) -> Option<&[u64]>
         GraphLine::Class(_, targets) => Some(targets.as_slice()),
         _ => None,
     }
+}
+
+/// The targets of the class with a label, for a computed transfer that it serves; a class serves each.
+pub(crate) fn targets_for(graph: &Graph, asked: Asks) -> Option<&[u64]>
+    requires ordered { IsTrue (is_rising key_below (map key_of graph.now.lines)) }
+    requires targets { IsTrue (list_all targets_rise graph.now.lines) }
+    ensures value { option_copied result ≡ targets_for graph.now.lines asked.kind asked.which asked.label }
+    ensures rising { IfSome result (λ targets. IsTrue (is_rising nat_lt targets.now)) }
+{
+    class_of(graph, asked.label)
 }
 
 /// Whether an address is among some that rise.

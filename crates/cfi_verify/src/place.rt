@@ -1,4 +1,4 @@
-//! Where the unit at an address leads.
+//! Where the unit at an address leads, and what it asks of the graph.
 
 ghost use Rattle.std.specs.Prelude.{◌≡◌, ◌<◌, ◌^◌};
 ghost use Rattle.cfi_unit.specs.Recognise.{led_to, near_to};
@@ -7,9 +7,22 @@ ghost use Rattle.cfi_verify.specs.Entries.{call_at, edge_at, gate_at, site_at};
 use crate::starts::Starts;
 use cfi_graph::SiteKind;
 use cfi_scan::Entry;
+use cfi_unit::TargetWord;
 use rv_instr::Immediate;
 use rv_word::profile::START;
 use rv_word::sext;
+
+/// What a computed transfer asks for: a class with a label that serves transfers of its kind whose
+/// checks read this word of their destinations.
+#[derive(Clone, Copy)]
+pub struct Asks {
+    /// The transfer's kind.
+    pub kind: SiteKind,
+    /// Which word of its destination its check reads.
+    pub which: TargetWord,
+    /// The label that this word must bear.
+    pub label: u32,
+}
 
 /// Where a jump at an address leads by its offset field.
 fn led(at: u64, field: Immediate<20>) -> u64
@@ -53,13 +66,21 @@ impl<'a> Starts<'a> {
         }
     }
 
-    /// The kind and the label of the computed transfer at an address.
-    pub(crate) fn site_at(&self, address: u64) -> Option<(SiteKind, u32)>
+    /// What the computed transfer at an address asks for.
+    pub(crate) fn site_at(&self, address: u64) -> Option<Asks>
         ensures { result ≡ site_at self.now.listing address }
     {
         match self.entry_at(address) {
-            Entry::Ijump(label) => Some((SiteKind::Jump, label.bits())),
-            Entry::Icall(label) => Some((SiteKind::Call, label.bits())),
+            Entry::Ijump(label) => Some(Asks {
+                kind: SiteKind::Jump,
+                which: TargetWord::First,
+                label: label.bits(),
+            }),
+            Entry::Icall(label) => Some(Asks {
+                kind: SiteKind::Call,
+                which: TargetWord::First,
+                label: label.bits(),
+            }),
             _ => None,
         }
     }

@@ -17,7 +17,7 @@ ghost use Rattle.cfi_verify.specs.Entries.{
   is_stop_entry,
   misses_start,
 };
-ghost use Rattle.cfi_verify.specs.Lines.{holds_of, line_at};
+ghost use Rattle.cfi_verify.specs.Lines.{class_of, holds_of, is_among, line_at};
 ghost use Rattle.cfi_verify.specs.Rules.{
   fails_prologue,
   is_call_to,
@@ -29,9 +29,10 @@ ghost use Rattle.cfi_verify.specs.Rules.{
 ghost use Rattle.cfi_verify.specs.declared.reject.Rule.TheVariants as R;
 
 use crate::lines::is_among;
+use crate::place::Asks;
 use crate::reject::Rule;
 use crate::starts::Starts;
-use cfi_graph::{GraphLine, SiteKind};
+use cfi_graph::GraphLine;
 use cfi_scan::Entry;
 use rv_code::decode;
 use rv_instr::Instr;
@@ -182,11 +183,16 @@ impl<'a> Starts<'a> {
     fn fails_site(&self, address: u64) -> bool
         ensures { result ≡ fails_site_at self.now.listing self.now.graph.lines address }
     {
-        let line = self.line_at(address);
+        self.fails_site_with(address, self.line_at(address))
+    }
+
+    /// The same, of the line that stands there.
+    pub(crate) fn fails_site_with(&self, address: u64, line: Option<&GraphLine>) -> bool
+        requires { option_copied line ≡ line_at self.now.graph.lines address }
+        ensures { result ≡ fails_site_at self.now.listing self.now.graph.lines address }
+    {
         match self.site_at(address) {
-            Some((kind, label)) => {
-                !(is_site_with(line, kind, label) && self.class_of(label).is_some())
-            }
+            Some(asked) => !(is_site_with(line, asked) && self.targets_for(asked).is_some()),
             None => matches!(line, Some(GraphLine::Site(..))),
         }
     }
@@ -200,9 +206,16 @@ impl<'a> Starts<'a> {
         }
     }
 
-    /// Whether a label is a class's and an address is none of its targets.
+    /// Whether a label is a class's, and at an address stands no word of its targets that is to bear it.
     pub(crate) fn is_outside(&self, label: u32, address: u64) -> bool
         ensures { result ≡ is_outside self.now.graph.lines label address }
+    {
+        self.is_no_target(label, address)
+    }
+
+    /// Whether a label is a class's and an address is none of its targets.
+    fn is_no_target(&self, label: u32, address: u64) -> bool
+        ensures { result ≡ holds_of (class_of self.now.graph.lines label) (λ targets. not (is_among address targets)) }
     {
         match self.class_of(label) {
             Some(targets) => !is_among(address, targets),
@@ -247,8 +260,8 @@ fn is_call_to(line: Option<&GraphLine>, target: u64) -> bool
     matches!(line, Some(GraphLine::Call(_, to)) if *to == target)
 }
 
-fn is_site_with(line: Option<&GraphLine>, kind: SiteKind, label: u32) -> bool
-    ensures { result ≡ is_site_with (option_copied line.entry) (kind, label) }
+fn is_site_with(line: Option<&GraphLine>, asked: Asks) -> bool
+    ensures { result ≡ is_site_with (option_copied line.entry) asked }
 {
-    matches!(line, Some(GraphLine::Site(_, k, l)) if *k == kind && *l == label)
+    matches!(line, Some(GraphLine::Site(_, k, l)) if *k == asked.kind && *l == asked.label)
 }

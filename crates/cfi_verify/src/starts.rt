@@ -6,11 +6,12 @@ ghost use Rattle.rv_word.specs.MemoryMap.{CODE_SIZE, UNITS_START, version_1};
 ghost use Rattle.cfi_graph.specs.Graph.{IsGraph, is_rising};
 ghost use Rattle.cfi_scan.specs.declared.entry.Entry.TheVariants as E;
 ghost use Rattle.cfi_verify.specs.Entries.{entry_at, or_inside, starts_at};
-ghost use Rattle.cfi_verify.specs.Lines.{class_of, line_at};
+ghost use Rattle.cfi_verify.specs.Lines.{class_of, line_at, targets_for};
 ghost use Rattle.cfi_verify.specs.Scan.{AreStarts};
 ghost use Rattle.cfi_verify.specs.Split.{entry_of};
 
 use crate::lines;
+use crate::place::Asks;
 use cfi_graph::{Graph, GraphLine};
 use cfi_scan::{Entry, Listing};
 use rv_code::decode;
@@ -126,6 +127,14 @@ impl<'a> Starts<'a> {
         ensures rising { IfSome result (λ targets. IsTrue (is_rising nat_lt targets.now)) }
     {
         lines::class_of(self.graph, label)
+    }
+
+    /// The targets of the class with a label, for a computed transfer that it serves.
+    pub(crate) fn targets_for(&self, asked: Asks) -> Option<&'a [u64]>
+        ensures value { option_copied result ≡ targets_for self.now.graph.lines asked.kind asked.which asked.label }
+        ensures rising { IfSome result (λ targets. IsTrue (is_rising nat_lt targets.now)) }
+    {
+        lines::targets_for(self.graph, asked)
     }
 }
 

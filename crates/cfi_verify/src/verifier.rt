@@ -5,7 +5,7 @@ ghost use Rattle.cfi_graph.specs.Graph.{is_rising};
 ghost use Rattle.cfi_verify.specs.Along.{IsSafe};
 ghost use Rattle.cfi_verify.specs.Answer.{IsCause};
 ghost use Rattle.cfi_verify.specs.Laws.{AreBytes};
-ghost use Rattle.cfi_verify.specs.Lines.{class_of};
+ghost use Rattle.cfi_verify.specs.Lines.{class_of, targets_for};
 ghost use Rattle.cfi_verify.specs.Rules.{IsWellFormed};
 ghost use Rattle.cfi_scan.specs.Pieces.{HasSeen};
 ghost use Rattle.cfi_verify.specs.Scan.{starts_prologue};
@@ -13,6 +13,7 @@ ghost use Rattle.cfi_verify.specs.Split.{code_words, entry_of, is_handler, place
 
 use crate::code::{are_small, unit_of};
 use crate::laws::well_formed_is_safe;
+use crate::place::Asks;
 use crate::reject::Reject;
 use crate::scan::Scan;
 use crate::starts::Starts;
@@ -152,6 +153,14 @@ impl<'a> Checked<'a> {
         ensures rising { IfSome result (λ targets. IsTrue (is_rising nat_lt targets.now)) }
     {
         self.starts.class_of(label)
+    }
+
+    /// The targets of the graph's class with a label, for a computed transfer that it serves.
+    pub fn targets_for(&self, asked: Asks) -> Option<&'a [u64]>
+        ensures value { option_copied result ≡ targets_for self.now.graph.lines asked.kind asked.which asked.label }
+        ensures rising { IfSome result (λ targets. IsTrue (is_rising nat_lt targets.now)) }
+    {
+        self.starts.targets_for(asked)
     }
 }
 

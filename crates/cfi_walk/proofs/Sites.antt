@@ -7,7 +7,8 @@ use Rattle.cfi_unit.specs.declared.unit.Unit.TheVariants as V
 use Rattle.cfi_unit.specs.declared.unit.SystemOp.TheVariants as S
 use Rattle.cfi_unit.specs.declared.place.Place.{Place}
 use Rattle.cfi_unit.specs.declared.place.Place.TheVariants.{Handler as handler, Opening as opening, Closing as closing, Body as body}
-use Rattle.cfi_unit.specs.UnitWords.{DEEP}
+use Rattle.cfi_unit.specs.Place.{place_size}
+use Rattle.cfi_unit.specs.UnitWords.{DEEP, after_unit}
 use Rattle.cfi_verify.specs.Split.{code_words}
 use Rattle.cfi_verify.specs.Walk.{CallGoes, JumpGoes, ComputedCallGoes, ReturnGoes, UnitGoes, Goes}
 use Rattle.cfi_walk.specs.Laws.{AreSites, StepKeepsSites}
@@ -46,14 +47,14 @@ unit_keeps lines V.Stop at pending v after low h g = same pending after h g.1
 unit_keeps lines (V.System S.Ecall) at pending v after low h g = same pending after h g.1
 unit_keeps lines (V.System S.Ebreak) at pending v after low h g = absurd g
 unit_keeps lines (V.Store op rs1 rs2 imm) at pending v after low h g = same pending after h g.1
-unit_keeps lines (V.Call target) at pending v after low h g = call_keeps (at + 32) target pending v after (omega arith) h g
+unit_keeps lines (V.Call target) at pending v after low h g = call_keeps (after_unit (V.Call target) at) target pending v after (omega arith) h g
 unit_keeps lines (V.Ijump rs1 imm label) at pending v after low h g = jump_keeps lines label pending v after h g
-unit_keeps lines (V.Icall rs1 imm label) at pending v after low h g = computed_call_keeps lines (at + 80) label pending v after (omega arith) h g
+unit_keeps lines (V.Icall rs1 imm label) at pending v after low h g = computed_call_keeps lines (after_unit (V.Icall rs1 imm label) at) label pending v after (omega arith) h g
 unit_keeps lines V.Return at pending v after low h g = return_keeps pending v after h g
 
 place_keeps : (lines : List GraphLine) (place : Place) (at : ℕ) (pending : List ℕ) (v : ℕ) (after : List ℕ) → CODE_START ≤ at → AreSites pending → Goes lines place at pending v after → AreSites after
 place_keeps lines handler at pending v after low h g = absurd g
-place_keeps lines (opening entry) at pending v after low h g = call_keeps (at + 44) entry pending v after (omega arith) h g
+place_keeps lines (opening entry) at pending v after low h g = call_keeps (at + place_size (opening entry)) entry pending v after (omega arith) h g
 place_keeps lines closing at pending v after low h g = absurd g
 place_keeps lines (body unit) at pending v after low h g = unit_keeps lines unit at pending v after low h g
 

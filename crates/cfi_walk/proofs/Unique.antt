@@ -1,17 +1,22 @@
 -- An address fixes the step to it: no site and no target of a class is a handler.
 use Rattle.std.proofs.Common.{◌≡◌, ℕ, ◌+◌, ◌<◌, inl, inr, List, [], ◌∷◌, sym, ap, subst, ◌∙◌, arith}
+use Rattle.std.proofs.lemmas.Bool.{false≢true}
 use Rattle.rv_word.specs.Image.{Contents}
 use Rattle.rv_word.specs.MemoryMap.{version_1}
 use Rattle.rv_word.proofs.Cases.{cases_Option}
 use Rattle.cfi_graph.specs.declared.line.GraphLine.{GraphLine}
+use Rattle.cfi_graph.specs.declared.line.SiteKind.{SiteKind}
+use Rattle.cfi_graph.specs.declared.line.SiteKind.TheVariants as K
 use Rattle.cfi_graph.specs.Graph.{GraphParts}
+use Rattle.cfi_unit.specs.declared.target_word.TargetWord.TheVariants.{First}
 use Rattle.cfi_unit.specs.declared.unit.Unit as U
 use Rattle.cfi_unit.specs.declared.unit.Unit.TheVariants as V
 use Rattle.cfi_unit.specs.declared.unit.SystemOp.TheVariants as S
 use Rattle.cfi_unit.specs.declared.place.Place.{Place}
 use Rattle.cfi_unit.specs.declared.place.Place.TheVariants.{Handler as handler, Opening as opening, Closing as closing, Body as body}
-use Rattle.cfi_unit.specs.UnitWords.{BAD_TARGET, DEEP}
-use Rattle.cfi_verify.specs.Lines.{class_of}
+use Rattle.cfi_unit.specs.Place.{place_size}
+use Rattle.cfi_unit.specs.UnitWords.{BAD_TARGET, DEEP, after_unit}
+use Rattle.cfi_verify.specs.Lines.{holds_of, is_among, targets_for}
 use Rattle.cfi_verify.specs.Rules.{IsWellFormed}
 use Rattle.cfi_verify.specs.Split.{code_words}
 use Rattle.cfi_verify.specs.Walk.{InClass, CallGoes, JumpGoes, ComputedCallGoes, ReturnGoes, UnitGoes, Goes}
@@ -20,12 +25,12 @@ use Rattle.cfi_walk.specs.Laws.{AreSites, StepIsUnique}
 use Rattle.cfi_walk.specs.State.{WalkState}
 use Rattle.cfi_walk.proofs.Reach.{unit_within}
 
-class_above : (image : Contents) (graph : GraphParts) → IsWellFormed version_1 image graph → (label v : ℕ) → InClass graph.lines label v → DEEP < v
-class_above image graph formed label v inside =
-    elim (cases_Option (class_of graph.lines label)) [
-      | inl none ↦ let e = rw none at inside in absurd (cc)
+class_above : (image : Contents) (graph : GraphParts) → IsWellFormed version_1 image graph → (kind : SiteKind) (label v : ℕ) → InClass graph.lines kind First label v → DEEP < v
+class_above image graph formed kind label v inside =
+    elim (cases_Option (targets_for graph.lines kind First label)) [
+      | inl none ↦ absurd (false≢true (sym (ap (λ o. holds_of o (is_among v)) none) ∙ inside))
       | inr (ts, some) ↦
-          let unit = gate_stands image graph formed v label ts some (rw some at inside) in
+          let unit = gate_stands image graph formed kind v label ts some (sym (ap (λ o. holds_of o (is_among v)) some) ∙ inside) in
           let low = (unit_within (code_words image.code) v (V.Gate label) unit).low in
           omega arith
     ]
@@ -42,15 +47,15 @@ jump_same lines label pending v a b (inl g) (inr h) = g.1 ∙ sym h.1
 jump_same lines label pending v a b (inr g) (inl h) = g.1 ∙ sym h.1
 jump_same lines label pending v a b (inr g) (inr h) = g.1 ∙ sym h.1
 
-module _ (lines : List GraphLine) (above : (label v : ℕ) → InClass lines label v → DEEP < v) where
-  never : (label v : ℕ) → InClass lines label v → v ≡ BAD_TARGET → ⊥
-  never label v inside e = let high = above label v inside in omega arith
+module _ (lines : List GraphLine) (above : (kind : SiteKind) (label v : ℕ) → InClass lines kind First label v → DEEP < v) where
+  never : (kind : SiteKind) (label v : ℕ) → InClass lines kind First label v → v ≡ BAD_TARGET → ⊥
+  never kind label v inside e = let high = above kind label v inside in omega arith
 
   computed_call_same : (site label : ℕ) (pending : List ℕ) (v : ℕ) (a b : List ℕ) → ComputedCallGoes lines site label pending v a → ComputedCallGoes lines site label pending v b → a ≡ b
   computed_call_same site label pending v a b (inl g) (inl h) = g.1 ∙ sym h.1
-  computed_call_same site label pending v a b (inl g) (inr (inl h)) = absurd (never label v h.1 g.0)
+  computed_call_same site label pending v a b (inl g) (inr (inl h)) = absurd (never K.Call label v h.1 g.0)
   computed_call_same site label pending v a b (inl g) (inr (inr h)) = g.1 ∙ sym h.2.1
-  computed_call_same site label pending v a b (inr (inl g)) (inl h) = absurd (never label v g.1 h.0)
+  computed_call_same site label pending v a b (inr (inl g)) (inl h) = absurd (never K.Call label v g.1 h.0)
   computed_call_same site label pending v a b (inr (inl g)) (inr (inl h)) = g.2 ∙ sym h.2
   computed_call_same site label pending v a b (inr (inl (room, i, s))) (inr (inr (full, t, to))) = absurd (omega arith)
   computed_call_same site label pending v a b (inr (inr g)) (inl h) = g.2.1 ∙ sym h.1
@@ -80,14 +85,14 @@ module _ (lines : List GraphLine) (above : (label v : ℕ) → InClass lines lab
   unit_same (V.System S.Ecall) at pending v a b s g h = g.1 ∙ sym h.1
   unit_same (V.System S.Ebreak) at pending v a b s g h = absurd g
   unit_same (V.Store op rs1 rs2 imm) at pending v a b s g h = g.1 ∙ sym h.1
-  unit_same (V.Call target) at pending v a b s g h = call_same (at + 32) target pending v a b g h
+  unit_same (V.Call target) at pending v a b s g h = call_same (after_unit (V.Call target) at) target pending v a b g h
   unit_same (V.Ijump rs1 imm label) at pending v a b s g h = jump_same lines label pending v a b g h
-  unit_same (V.Icall rs1 imm label) at pending v a b s g h = computed_call_same (at + 80) label pending v a b g h
+  unit_same (V.Icall rs1 imm label) at pending v a b s g h = computed_call_same (after_unit (V.Icall rs1 imm label) at) label pending v a b g h
   unit_same V.Return at pending v a b s g h = return_same pending v a b s g h
 
   place_same : (place : Place) (at : ℕ) (pending : List ℕ) (v : ℕ) (a b : List ℕ) → AreSites pending → Goes lines place at pending v a → Goes lines place at pending v b → a ≡ b
   place_same handler at pending v a b s g h = absurd g
-  place_same (opening entry) at pending v a b s g h = call_same (at + 44) entry pending v a b g h
+  place_same (opening entry) at pending v a b s g h = call_same (at + place_size (opening entry)) entry pending v a b g h
   place_same closing at pending v a b s g h = absurd g
   place_same (body unit) at pending v a b s g h = unit_same unit at pending v a b s g h
 

@@ -1,26 +1,26 @@
 //! Look-ups of classes for a walk.
 
 ghost use Rattle.std.specs.Prelude.{◌≡◌};
-ghost use Rattle.cfi_verify.specs.Lines.{class_of, holds_of, is_among};
+ghost use Rattle.cfi_verify.specs.Lines.{holds_of, is_among, targets_for};
 ghost use Rattle.cfi_verify.specs.Walk.{is_some_target};
 
-use cfi_verify::{Checked, is_among};
+use cfi_verify::{Asks, Checked, is_among};
 
-/// Whether an address is a target of the class with a label.
-pub(crate) fn is_in_class(checked: &Checked<'_>, label: u32, address: u64) -> bool
-    ensures { result ≡ holds_of (class_of checked.now.graph.lines label) (is_among address) }
+/// Whether an address is a target of the class that serves a computed transfer.
+pub(crate) fn is_in_class(checked: &Checked<'_>, asked: Asks, address: u64) -> bool
+    ensures { result ≡ holds_of (targets_for checked.now.graph.lines asked.kind asked.which asked.label) (is_among address) }
 {
-    match checked.class_of(label) {
+    match checked.targets_for(asked) {
         Some(targets) => is_among(address, targets),
         None => false,
     }
 }
 
-/// Whether the class with a label has a target.
-pub(crate) fn has_target(checked: &Checked<'_>, label: u32) -> bool
-    ensures { result ≡ holds_of (class_of checked.now.graph.lines label) is_some_target }
+/// Whether the class that serves a computed transfer has a target.
+pub(crate) fn has_target(checked: &Checked<'_>, asked: Asks) -> bool
+    ensures { result ≡ holds_of (targets_for checked.now.graph.lines asked.kind asked.which asked.label) is_some_target }
 {
-    match checked.class_of(label) {
+    match checked.targets_for(asked) {
         Some(targets) => !targets.is_empty(),
         None => false,
     }

@@ -14,9 +14,10 @@ ghost use Rattle.cfi_walk.specs.Moves.{IsAnswer};
 
 use crate::class::{has_target, is_in_class};
 use crate::walk::{Move, Walk};
+use cfi_graph::SiteKind;
 use cfi_unit::handlers::{self, BAD_RETURN, BAD_TARGET, DEEP};
-use cfi_unit::{Place, SystemOp, Unit};
-use cfi_verify::Checked;
+use cfi_unit::{Place, SystemOp, TargetWord, Unit};
+use cfi_verify::{Asks, Checked};
 
 /// How many sites may be pending.
 const MOST_PENDING: usize = handlers::MOST_PENDING as usize;
@@ -54,7 +55,12 @@ fn call(walk: &Walk, site: u64, target: u64, pc: u64) -> Option<Move>
 fn computed_jump(checked: &Checked<'_>, walk: &Walk, label: u32, pc: u64) -> Option<Move>
     ensures { IsAnswer (λ newer. JumpGoes checked.now.graph.lines label walk.now.pending pc newer) walk.now.pending result }
 {
-    if pc == BAD_TARGET || is_in_class(checked, label, pc) {
+    let asked = Asks {
+        kind: SiteKind::Jump,
+        which: TargetWord::First,
+        label,
+    };
+    if pc == BAD_TARGET || is_in_class(checked, asked, pc) {
         Some(Move::Keep)
     } else {
         None
@@ -67,14 +73,19 @@ fn computed_call(checked: &Checked<'_>, walk: &Walk, site: u64, label: u32, pc: 
     if pc == BAD_TARGET {
         return Some(Move::Keep);
     }
+    let asked = Asks {
+        kind: SiteKind::Call,
+        which: TargetWord::First,
+        label,
+    };
     if walk.depth() == MOST_PENDING {
-        return if has_target(checked, label) {
+        return if has_target(checked, asked) {
             to(walk, DEEP, pc)
         } else {
             None
         };
     }
-    if is_in_class(checked, label, pc) {
+    if is_in_class(checked, asked, pc) {
         Some(Move::Push(site))
     } else {
         None

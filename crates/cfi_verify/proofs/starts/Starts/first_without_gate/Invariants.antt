@@ -1,7 +1,5 @@
 use Rattle.std.proofs.Common.{take}
 use Rattle.std.specs.List.{list_any}
-use Rattle.std.specs.Prelude.{option_map}
-use Rattle.cfi_unit.specs.declared.unit.Unit.TheVariants as V
 use Rattle.cfi_verify.specs.Entries.{gate_at}
 use Rattle.least.specs.Least.{IsLeast}
 use Rattle.cfi_verify.specs.Rules.{lacks_gate}
@@ -9,4 +7,4 @@ use Rattle.cfi_verify.proofs.starts.Starts.first_without_gate.Given as goal
 
 abbrev pub invariant-loop-k : goal.invariant-loop-k
 invariant-loop-k l =
-    IsLeast (λ a. list_any (lacks_gate (option_map V.Gate (gate_at l.self.listing a)) a) (take l.k l.graph.lines)) l.least
+    IsLeast (λ a. list_any (lacks_gate (gate_at l.self.listing) a) (take l.k l.graph.lines)) l.least
