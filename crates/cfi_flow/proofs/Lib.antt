@@ -3,6 +3,7 @@ pub mod Listing
 pub mod Placing
 pub mod Rising
 mod Finding
+mod Entering
 mod Classing
 mod Spanning
 mod Pointing

@@ -5,7 +5,8 @@ use Rattle.std.specs.List.Sorted.{IsPartitionedBy}
 use Rattle.std.proofs.Math.ListN.{get_or-append}
 use Rattle.std.proofs.Math.Seq.{get_or-append_seam}
 use Rattle.std.proofs.lemmas.Bool.{and_from, and_parts, cases_eq, cases_lt, eq-eqb, false_from_ne_true, le-leb, le-ltb, leb-true, lt-ltb, ltb-true, ne_eqb}
-use Rattle.std.proofs.lemmas.List.{get_or-replicate, get_or_default, length-append, length-replicate}
+use Rattle.std.specs.Prelude.{set}
+use Rattle.std.proofs.lemmas.List.{get_or-replicate, get_or-set_other, get_or_default, length-append, length-replicate, length-set, take_all, take_more_set}
 use Rattle.std.proofs.lemmas.List.Folds.{list_any-append, list_any_more, list_any_none}
 use Rattle.std.proofs.lemmas.Option.{get_or_from_slice_get, slice_get_within}
 use Rattle.obj_input.specs.declared.parts.Func.{Func}
@@ -13,7 +14,7 @@ use Rattle.obj_program.specs.Program.{Program, count, item_of}
 use Rattle.cfi_flow.specs.declared.span.Span.{Span}
 use Rattle.cfi_flow.specs.Drawn.{no_func}
 use Rattle.cfi_flow.specs.Sites.{are_in_one, covers}
-use Rattle.cfi_flow.specs.Spans.{AreEnds, AreFarthest, AreSpans, IsReach, IsRising, IsSoFar, are_in_span, begins_past, in_span}
+use Rattle.cfi_flow.specs.Spans.{AreEnds, AreFarthest, AreSpans, IsRaised, IsReach, IsRising, IsSoFar, are_in_span, begins_past, in_span}
 
 pub in_yes : (s : Span) (t : ℕ) → s.from ≤ t → t < s.to → in_span s t ≡ true
 in_yes s t low high = and_from _ _ (le-leb s.from t low) (lt-ltb t s.to high)
@@ -130,6 +131,38 @@ far_more ends far i end next m inside is low high one so_far =
         | inr more ↦ let first = last k (omega arith) in omega arith
       ];
     }
+
+-- the same in place
+pub raised_begins : (ends : List ℕ) → IsRaised ends 0 0 ends
+raised_begins ends = record {
+  so_far = record {
+    size = refl;
+    each = λ k t below. absurd (omega arith);
+    top = λ t. le-ltb t 0 (omega arith);
+    rising = λ a b order below. absurd (omega arith);
+    most = λ k below. absurd (omega arith);
+  };
+  size = refl;
+  left = λ k from. refl;
+}
+
+pub raised_more : (ends now next : List ℕ) (i end own m : ℕ) → i < length now → own ≡ get_or now i 0 → IsRaised ends i end now → end ≤ m → own ≤ m
+    → ((end < m → m ≤ own)) → next ≡ set now i m → IsRaised ends (i + 1) m next
+raised_more ends now next i end own m inside is h low high one put =
+    let size = h.size in
+    let here : get_or ends i 0 ≡ own = sym (h.left i (omega arith)) ∙ sym is in
+    rw put record {
+      so_far = rw (take_more_set now i m inside) (far_more ends (take i now) i end own m (omega arith) here low high one h.so_far);
+      size = length-set now i m ∙ size;
+      left = λ k from. get_or-set_other now i k m 0 (λ same. omega arith) ∙ h.left k (omega arith);
+    }
+
+pub raised_all : (ends now : List ℕ) (n end : ℕ) → length now ≤ n → IsRaised ends n end now → AreFarthest ends now
+raised_all ends now n end whole h =
+    let size = h.size in
+    let far : IsSoFar ends n end now = subst (IsSoFar ends n end) (take_all n now whole) h.so_far in
+    let all = far.size in
+    record { size = size; each = λ k t below. far.each k t (omega arith); rising = far.rising }
 
 -- a span that begins at a place or before it
 up_to : (f k : ℕ) (c : Bool) → ((nat_lt f k && c) || ((f == k) && c)) ≡ (nat_lt f (k + 1) && c)

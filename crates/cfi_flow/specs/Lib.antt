@@ -12,6 +12,7 @@ pub mod Joins
 pub mod Marks
 pub mod Drawn
 pub mod Tables
+pub mod Entries
 pub mod Found
 pub mod Placement
 pub mod LegalMap

@@ -57,3 +57,9 @@ pub record IsSoFar (ends : List ℕ) (i end : ℕ) (farthest : List ℕ) : Type 
   pub top : (t : ℕ) → nat_lt t end ≡ list_any (nat_lt t) (take i ends)
   pub rising : IsRising farthest
   pub most : (k : ℕ) → k < i → slice_index farthest k ≤ end
+
+-- the first i numbers are raised to the greatest up to each, and the others are left
+pub record IsRaised (ends : List ℕ) (i end : ℕ) (now : List ℕ) : Type 0 where
+  pub so_far : IsSoFar ends i end (take i now)
+  pub size : length now ≡ length ends
+  pub left : (k : ℕ) → i ≤ k → slice_index now k ≡ slice_index ends k

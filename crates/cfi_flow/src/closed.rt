@@ -2,6 +2,7 @@ ghost use Rattle.std.specs.Prelude.{◌≡◌, ◌<◌, IfSome, Some, [], false,
 ghost use Rattle.cfi_flow.specs.Closed.{IsInside, class_at, class_of};
 ghost use Rattle.cfi_flow.specs.Found.{site_with};
 
+use crate::entry::Entry;
 use rv_word::Places;
 use std::marker::Model;
 
@@ -18,8 +19,8 @@ pub struct Closed {
     pub(crate) classes: Vec<Places>,
     pub(crate) sites: Vec<Site>,
     pub(crate) taken: Vec<bool>,
-    pub(crate) class_at: Vec<Option<u64>>,
-    pub(crate) site_at: Vec<Option<u64>>,
+    pub(crate) class_at: Vec<Entry>,
+    pub(crate) site_at: Vec<Entry>,
 }
 
 impl Model for Closed {
@@ -86,7 +87,7 @@ impl Closed {
         ensures { result ≡ class_at self.now place }
     {
         if place < self.places() {
-            self.class_at[place as usize]
+            self.class_at[place as usize].number()
         } else {
             None
         }
@@ -98,7 +99,7 @@ impl Closed {
         ensures below { IfSome result (λ k. k < length self.now.sites) }
     {
         if place < self.places() {
-            self.site_at[place as usize]
+            self.site_at[place as usize].number()
         } else {
             None
         }

@@ -6,13 +6,14 @@ ghost use Rattle.cfi_flow.specs.Found.{site_with};
 ghost use Rattle.cfi_flow.specs.Tables.{IsTable};
 
 use crate::closed::{Closed, Site};
+use crate::entry::Entry;
 use crate::raw::Raw;
 use crate::table::{blank, note, table_of};
 use rv_word::NoMemory;
 use std::alloc::Global;
 
 /// The table of the sites that stand at the places.
-fn site_table(alloc: Global, places: u64, sites: &[Site]) -> Result<Vec<Option<u64>>, NoMemory>
+fn site_table(alloc: Global, places: u64, sites: &[Site]) -> Result<Vec<Entry>, NoMemory>
     requires { All (λ (s : Site). s.place < places) sites.now }
     ensures { IfOk result (λ v. IsTable (site_with sites.now) places v.items) }
 {

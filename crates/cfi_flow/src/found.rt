@@ -9,6 +9,7 @@ ghost use Rattle.cfi_flow.specs.Tables.{entry};
 
 use crate::closed::Site;
 use crate::draw::{Aim, Drawing};
+use crate::entry::Entry;
 use crate::points::{Points, first, points_of};
 use rv_word::{NoMemory, Places};
 use std::alloc::Global;
@@ -27,12 +28,12 @@ fn first_target(points: &Points, lists: &[Places], aim: Aim) -> Option<u64>
 }
 
 /// What a table has for a place.
-fn entry_of(table: &[Option<u64>], place: Option<u64>) -> Option<u64>
+fn entry_of(table: &[Entry], place: Option<u64>) -> Option<u64>
     requires { IfSome place (λ t. t < length table.now) }
     ensures { result ≡ option_and_then (entry table.now) place }
 {
     match place {
-        Some(t) => table[t as usize],
+        Some(t) => table[t as usize].number(),
         None => None,
     }
 }
@@ -41,7 +42,7 @@ fn entry_of(table: &[Option<u64>], place: Option<u64>) -> Option<u64>
 pub(crate) fn sites_by(
     alloc: Global,
     drawing: &Drawing,
-    table: &[Option<u64>],
+    table: &[Entry],
 ) -> Result<Vec<Site>, NoMemory>
     requires kept { AreKept drawing.now }
     requires table { length table.now ≡ length drawing.now.taken.items }

@@ -12,6 +12,7 @@ ghost use Rattle.cfi_flow.specs.Tables.{IsTable};
 use crate::begin::begun;
 use crate::draw::Drawing;
 use crate::end::FlowEnd;
+use crate::entry::Entry;
 use crate::kind::site_kind;
 use crate::policy::{allowed, lines_by_site};
 use crate::raw::Raw;
@@ -25,7 +26,11 @@ use std::alloc::Global;
 fn taken_places(alloc: Global, items: &Items) -> Result<Vec<bool>, NoMemory>
     ensures { IfOk result (λ v. v.items ≡ map (λ (i : Item). i.taken) items.now.items) }
 {
-    let taken = items.places().iter().map(|item| item.taken).collect(alloc)?;
+    let taken = items
+        .places()
+        .iter()
+        .map(|place| place.is_taken())
+        .collect(alloc)?;
     Ok(taken)
 }
 
@@ -61,7 +66,7 @@ fn with_place(
     alloc: Global,
     items: &Items,
     lines: &[PolicyLine],
-    table: &[Option<u64>],
+    table: &[Entry],
     reach: &[u64],
     drawing: Drawing,
     k: u64,
@@ -74,7 +79,7 @@ fn with_place(
 {
     match site_kind(items.item(k).kind) {
         Some(kind) => {
-            let line = table[k as usize];
+            let line = table[k as usize].number();
             let drawing = with_site(alloc, items, lines, line, reach, drawing, k, kind)?;
             Ok(drawing)
         }
@@ -102,7 +107,7 @@ fn drawn(
     alloc: Global,
     items: &Items,
     lines: &[PolicyLine],
-    table: &[Option<u64>],
+    table: &[Entry],
 ) -> Result<Drawing, NoMemory>
     requires { IsTable (line_for items.now lines.now) (count items.now) table.now }
     ensures { IfOk result (λ d. IsDrawn items.now lines.now (count items.now) d) }

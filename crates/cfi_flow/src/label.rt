@@ -22,8 +22,8 @@ pub fn used_labels(alloc: Global, items: &Items) -> Result<Vec<u32>, NoMemory>
     let labels = items
         .places()
         .iter()
-        .filter(|item| is_gate(item.kind))
-        .map(|item| item.word >> 12)
+        .filter(|place| is_gate(place.kind()))
+        .map(|place| place.word() >> 12)
         .collect(alloc)?;
     Ok(labels)
 }

@@ -17,6 +17,7 @@ mod closed;
 mod closing;
 mod draw;
 mod end;
+mod entry;
 mod found;
 mod graph;
 mod join;

@@ -1,40 +1,31 @@
 //! The places that a policy's lines name.
 
 ghost use Rattle.std.specs.Prelude.{◌≡◌, ℕ, ◌+◌, ◌<◌, ◌≤◌, true, false, IfSome, length, option_and_then, slice_index_or};
-ghost use Rattle.obj_program.specs.Program.{AreInOrder, count, is_before, is_spot, no_item, place_of};
+ghost use Rattle.obj_program.specs.Program.{AreInOrder, count, is_before, no_item, place_of};
 ghost use Rattle.cfi_flow.specs.Entry.{entry_place};
 ghost use Rattle.cfi_flow.specs.Policy.{if_instruction, instruction_at, place_named};
 
 use cfi_graph::PlaceName;
 use obj_input::ItemKind;
-use obj_program::{Item, Items};
-
-/// Whether a place stands at this offset, in bytes, of the section with this index.
-fn is_at(place: &Item, section: u32, offset: u128) -> bool
-    ensures { result ≡ is_spot section offset place.now }
-{
-    place.section == section && u128::from(place.offset) == offset
-}
+use obj_program::{Items, PackedItem};
 
 /// How many places are before this section and offset.
-pub(crate) fn count_before(places: &[Item], section: u32, offset: u128) -> usize
+pub(crate) fn count_before(places: &[PackedItem], section: u32, offset: u128) -> usize
     requires { AreInOrder places.now }
     ensures bound { result ≤ length places.now }
     ensures before { (k : ℕ) → k < result → is_before (slice_index_or places.now k no_item) section offset ≡ true }
     ensures from { (k : ℕ) → result ≤ k → k < length places.now → is_before (slice_index_or places.now k no_item) section offset ≡ false }
 {
-    places.partition_point(|place| {
-        place.section < section || place.section == section && u128::from(place.offset) < offset
-    })
+    places.partition_point(|place| place.is_before(section, offset))
 }
 
 /// The index of the place at an offset, in bytes, that 64 bits may not hold.
-fn place_at(places: &[Item], section: u32, offset: u128) -> Option<u64>
+fn place_at(places: &[PackedItem], section: u32, offset: u128) -> Option<u64>
     requires { AreInOrder places.now }
     ensures { result ≡ place_of places.now section offset }
 {
     let k = count_before(places, section, offset);
-    if k < places.len() && is_at(&places[k], section, offset) {
+    if k < places.len() && places[k].is_at(section, offset) {
         Some(k as u64)
     } else {
         None

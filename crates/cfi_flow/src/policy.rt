@@ -7,6 +7,7 @@ ghost use Rattle.cfi_flow.specs.Policy.{Ends, allowed, misses_target, place_name
 ghost use Rattle.cfi_flow.specs.Tables.{IsTable};
 
 use crate::end::FlowEnd;
+use crate::entry::Entry;
 use crate::kind::site_kind;
 use crate::named::place_named;
 use crate::table::{blank, note};
@@ -26,14 +27,14 @@ fn misses_target(items: &Items, line: &PolicyLine) -> bool
 }
 
 /// The site of a line that is not wrong, where a table has the lines before it.
-fn free_site(items: &Items, table: &[Option<u64>], line: &PolicyLine) -> Option<u64>
+fn free_site(items: &Items, table: &[Entry], line: &PolicyLine) -> Option<u64>
     requires { length table.now ≡ count items.now }
     ensures value { result ≡ free_site items.now table.now line.now }
     ensures there { IfSome result (λ k. k < count items.now) }
 {
     let k = place_named(items, &line.site)?;
     if site_kind(items.item(k).kind).is_some()
-        && table[k as usize].is_none()
+        && table[k as usize].number().is_none()
         && !misses_target(items, line)
     {
         Some(k)
@@ -47,7 +48,7 @@ pub(crate) fn lines_by_site(
     alloc: Global,
     items: &Items,
     lines: &[PolicyLine],
-) -> Result<Vec<Option<u64>>, FlowEnd>
+) -> Result<Vec<Entry>, FlowEnd>
     ensures { MatchResult result
         (λ v. (wrong_line items.now lines.now ≡ None) × IsTable (line_for items.now lines.now) (count items.now) v.items)
         (λ e. Ends items.now lines.now e) }

@@ -7,6 +7,7 @@ ghost use Rattle.cfi_flow.specs.Raw.{IsThere, site_of};
 
 use crate::closed::Site;
 use crate::draw::Drawing;
+use crate::entry::Entry;
 use crate::found::sites_by;
 use crate::join::joined;
 use cfi_class::classes;
@@ -111,11 +112,7 @@ impl Raw {
     }
 
     /// The sites, each with what a table has for the first of its targets.
-    pub(crate) fn sites_by(
-        &self,
-        alloc: Global,
-        table: &[Option<u64>],
-    ) -> Result<Vec<Site>, NoMemory>
+    pub(crate) fn sites_by(&self, alloc: Global, table: &[Entry]) -> Result<Vec<Site>, NoMemory>
         requires { length table.now ≡ length self.now.taken }
         ensures { IfOk result (λ v. v.items ≡ map (by_table table.now) self.now.sites) }
     {

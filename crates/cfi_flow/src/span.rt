@@ -74,17 +74,16 @@ fn greater(a: u64, b: u64) -> u64
     a.max(b)
 }
 
-/// Of each number the greatest up to it.
-fn farthest(alloc: Global, ends: &[u64]) -> Result<Vec<u64>, NoMemory>
-    ensures { IfOk result (λ v. AreFarthest ends.now v.items) }
+/// Of each number the greatest up to it, in its place.
+fn farthest(mut ends: Vec<u64>) -> Vec<u64>
+    ensures { AreFarthest ends.items result.items }
 {
-    let mut farthest = Vec::new(alloc);
     let mut end = 0;
-    for next in ends {
-        end = greater(end, *next);
-        farthest.push(end)?;
+    for k in 0..ends.len() {
+        end = greater(end, ends[k]);
+        ends[k] = end;
     }
-    Ok(farthest)
+    ends
 }
 
 /// Of each place how far the functions reach that cover it, or begin before it.
@@ -93,8 +92,7 @@ pub(crate) fn reach(alloc: Global, items: &Items) -> Result<Vec<u64>, NoMemory>
 {
     let spans = covered_by_each(alloc, items)?;
     let ends = ends(alloc, items.count(), spans.as_slice())?;
-    let farthest = farthest(alloc, ends.as_slice())?;
-    Ok(farthest)
+    Ok(farthest(ends))
 }
 
 /// How many of some rising numbers are not past a place.

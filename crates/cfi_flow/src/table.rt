@@ -5,34 +5,37 @@ ghost use Rattle.std.specs.List.{All};
 ghost use Rattle.cfi_flow.specs.Closed.{class_with, has};
 ghost use Rattle.cfi_flow.specs.Tables.{IsTable, entry, noted};
 
+use crate::entry::Entry;
 use rv_word::{NoMemory, Places};
 use std::alloc::Global;
 
 /// A table of this many places at which nothing is noted.
-pub(crate) fn blank(alloc: Global, places: u64) -> Result<Vec<Option<u64>>, NoMemory>
+pub(crate) fn blank(alloc: Global, places: u64) -> Result<Vec<Entry>, NoMemory>
     ensures { IfOk result (λ v. IsTable (λ k. None) places v.items) }
 {
     let mut table = Vec::new(alloc);
     for _k in 0..places {
-        table.push(None)?;
+        table.push(Entry::none())?;
     }
     Ok(table)
 }
 
 /// Notes a number for a place, if none is noted there.
-pub(crate) fn note(table: &mut Vec<Option<u64>>, place: u64, n: u64)
-    requires { place < length table.old.items }
+pub(crate) fn note(table: &mut Vec<Entry>, place: u64, n: u64)
+    requires there { place < length table.old.items }
+    requires number { n < u64.MAX }
     ensures size { length table.new.items ≡ length table.old.items }
     ensures each { (k : ℕ) → entry table.new.items k ≡ noted (entry table.old.items k) (place == k) n }
 {
-    if table[place as usize].is_none() {
-        table[place as usize] = Some(n);
+    if table[place as usize].number().is_none() {
+        table[place as usize] = Entry::of(n);
     }
 }
 
 /// Notes a number for each of these places at which none is noted.
-fn note_all(table: &mut Vec<Option<u64>>, places: &[u64], n: u64)
-    requires { All (λ t. t < length table.old.items) places.now }
+fn note_all(table: &mut Vec<Entry>, places: &[u64], n: u64)
+    requires there { All (λ t. t < length table.old.items) places.now }
+    requires number { n < u64.MAX }
     ensures size { length table.new.items ≡ length table.old.items }
     ensures each { (k : ℕ) → entry table.new.items k ≡ noted (entry table.old.items k) (has k places.now) n }
 {
@@ -46,7 +49,7 @@ pub(crate) fn table_of(
     alloc: Global,
     places: u64,
     classes: &[Places],
-) -> Result<Vec<Option<u64>>, NoMemory>
+) -> Result<Vec<Entry>, NoMemory>
     requires { All (All (λ t. t < places)) classes.now }
     ensures { IfOk result (λ v. IsTable (class_with classes.now) places v.items) }
 {

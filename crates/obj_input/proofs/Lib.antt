@@ -1,4 +1,5 @@
 mod Standing
+mod Once
 mod Found
 mod Wholes
 mod Acting

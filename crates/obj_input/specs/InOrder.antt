@@ -1,10 +1,11 @@
 -- How a section keeps its relocations. Only invariants and private contracts cite this.
-use Rattle.std.specs.Prelude.{◌≡◌, ℕ, ◌<◌, ◌^◌, Bool, true, ◌==◌, List, length, filter}
+use Rattle.std.specs.Prelude.{◌≡◌, ℕ, ◌<◌, ◌≤◌, ◌^◌, Bool, true, ◌==◌, if◌then◌else◌, List, length, filter, slice_index_or}
 use Rattle.std.specs.List.{All, list_any}
 use Rattle.std.specs.List.Sorted.{IsNonDecreasingBy}
 use Rattle.obj_input.specs.declared.parts.Relocation.{Relocation}
 use Rattle.obj_input.specs.Kinds.{is_pair_target, is_relative_high, kind_of}
-use Rattle.obj_input.specs.Input.{SectionParts, acting_at, has_bytes}
+use Rattle.obj_input.specs.Relocation.{is_acting}
+use Rattle.obj_input.specs.Input.{SectionParts, acting_among, acting_at, has_bytes}
 
 -- an offset is among some
 abbrev pub has : List ℕ → ℕ → Bool
@@ -19,6 +20,21 @@ is_pair_use u = is_pair_target (kind_of u.number)
 
 abbrev pub is_high_use : Relocation → Bool
 is_high_use u = is_relative_high (kind_of u.number)
+
+-- those that do something in the order of their offsets, and of the table at one offset
+pub record IsFoundIn (uses acting : List Relocation) : Type 0 where
+  pub in_order : IsNonDecreasingBy (λ (u : Relocation). u.offset) acting
+  pub found : (at : ℕ) → standing_at at acting ≡ acting_among uses at
+
+-- the table itself where it is so
+abbrev pub by_offset : Bool → List Relocation → List Relocation → List Relocation
+by_offset in_order uses acting = if in_order then uses else acting
+
+-- the first i of a table do something, and stand in the order of their offsets, none past an offset
+pub record AreFirst (uses : List Relocation) (i last : ℕ) : Type 0 where
+  pub acts : (a : ℕ) (d : Relocation) → a < i → is_acting (slice_index_or uses a d) ≡ true
+  pub rising : (a b : ℕ) (d : Relocation) → a ≤ b → b < i → (slice_index_or uses a d).offset ≤ (slice_index_or uses b d).offset
+  pub most : (a : ℕ) (d : Relocation) → a < i → (slice_index_or uses a d).offset ≤ last
 
 -- the relocations that do something, in the order of their offsets, and of the table at one offset; and the offsets of
 -- those that name a pair's target and of those that are high parts

@@ -1,11 +1,11 @@
 //! The relocations that do something, by offset.
 
-ghost use Rattle.std.specs.Prelude.{◌≡◌, ◌-◌, ◌<◌, ◌≤◌, ℕ, IfOk, drop, filter, length, map, take};
+ghost use Rattle.std.specs.Prelude.{◌≡◌, ◌-◌, ◌<◌, ◌≤◌, ℕ, false, true, IfOk, drop, filter, length, map, take};
 ghost use Rattle.std.specs.List.{AllWithin, list_any};
 ghost use Rattle.std.specs.List.Sorted.{IsNonDecreasingBy};
 ghost use Rattle.obj_input.specs.Relocation.{is_acting};
 ghost use Rattle.obj_input.specs.Input.{acting_among};
-ghost use Rattle.obj_input.specs.InOrder.{has, is_high_use, is_pair_use, standing_at};
+ghost use Rattle.obj_input.specs.InOrder.{IsFoundIn, by_offset, has, is_high_use, is_pair_use, standing_at};
 
 use crate::offsets::Offsets;
 use crate::parts::Relocation;
@@ -25,16 +25,55 @@ fn acting(alloc: Global, uses: &[Relocation]) -> Result<Vec<Relocation>, NoMemor
 }
 
 /// Those that do something, by their offset; at one offset they keep the order of their table.
-pub(crate) fn acting_in_order(
-    alloc: Global,
-    uses: &[Relocation],
-) -> Result<Vec<Relocation>, NoMemory>
+fn acting_in_order(alloc: Global, uses: &[Relocation]) -> Result<Vec<Relocation>, NoMemory>
     ensures in_order { IfOk result (λ v. IsNonDecreasingBy (λ u. u.offset) v.items) }
     ensures found { IfOk result (λ v. (at : ℕ) → standing_at at v.items ≡ acting_among uses.now at) }
 {
     let mut acting = acting(alloc, uses)?;
     acting.sort_by_key(|u| u.offset)?;
     Ok(acting)
+}
+
+/// Whether these all do something and stand in the order of their offsets.
+pub(crate) fn are_in_order(uses: &[Relocation]) -> bool
+    ensures { result ≡ true → IsFoundIn uses.now uses.now }
+{
+    let mut last = 0;
+    for u in uses {
+        if u.is_acting() && last <= u.offset {
+            last = u.offset;
+        } else {
+            return false;
+        }
+    }
+    true
+}
+
+/// Those that do something, by their offset, where the table is not in order; else none.
+pub(crate) fn acting_unless(
+    alloc: Global,
+    in_order: bool,
+    uses: &[Relocation],
+) -> Result<Vec<Relocation>, NoMemory>
+    ensures { IfOk result (λ v. in_order ≡ false → IsFoundIn uses.now v.items) }
+{
+    if in_order {
+        Ok(Vec::new(alloc))
+    } else {
+        let acting = acting_in_order(alloc, uses)?;
+        Ok(acting)
+    }
+}
+
+/// Those that do something, by their offset: the table where it is in order.
+pub(crate) fn by_offset<'a>(
+    in_order: bool,
+    uses: &'a [Relocation],
+    acting: &'a [Relocation],
+) -> &'a [Relocation]
+    ensures { result.now ≡ by_offset in_order uses.now acting.now }
+{
+    if in_order { uses } else { acting }
 }
 
 /// The offsets of those that name the target of a pair, in the order of their table.

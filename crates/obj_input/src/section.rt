@@ -5,12 +5,15 @@ ghost use Rattle.std.specs.List.{list_any};
 
 use crate::offsets::Offsets;
 use crate::parts::{Relocation, Sort};
-use crate::search::{acting_in_order, high_offsets, pair_offsets, standing_at};
+use crate::search::{
+    acting_unless, are_in_order, by_offset, high_offsets, pair_offsets, standing_at,
+};
 use rv_word::NoMemory;
 use std::alloc::Global;
 use std::marker::Model;
 
-/// A section with its relocations. Those that do something are found by their offset in a few steps.
+/// A section with its relocations. Those that do something are found by their offset in a few steps: they are kept once
+/// where the table has no others and is in the order of their offsets, and else twice.
 #[derive(Drop)]
 pub struct Section<'a> {
     sort: Sort,
@@ -18,6 +21,7 @@ pub struct Section<'a> {
     align: u64,
     content: &'a [u8],
     uses: Vec<Relocation>,
+    in_order: bool,
     acting: Vec<Relocation>,
     pairs: Offsets,
     highs: Offsets,
@@ -25,13 +29,13 @@ pub struct Section<'a> {
 
 impl<'a> Model for Section<'a> {
     ghost use Rattle.obj_input.specs.Input.{SectionParts};
-    ghost use Rattle.obj_input.specs.InOrder.{IsKept};
+    ghost use Rattle.obj_input.specs.InOrder.{IsKept, by_offset};
 
     ghost Value = { SectionParts };
 
     ghost view = { λ s. record { sort = s.sort; size = s.size; align = s.align; content = s.content.now; uses = s.uses.items } };
 
-    ghost invariant = { λ s. IsKept (record { sort = s.sort; size = s.size; align = s.align; content = s.content.now; uses = s.uses.items }) s.acting.items s.pairs s.highs };
+    ghost invariant = { λ s. IsKept (record { sort = s.sort; size = s.size; align = s.align; content = s.content.now; uses = s.uses.items }) (by_offset s.in_order s.uses.items s.acting.items) s.pairs s.highs };
 }
 
 impl<'a> Section<'a> {
@@ -48,7 +52,8 @@ impl<'a> Section<'a> {
         requires { has_bytes sort ≡ true → length content.now ≡ size }
         ensures { IfOk result (λ s. s ≡ record { sort = sort; size = size; align = align; content = content.now; uses = uses.items }) }
     {
-        let acting = acting_in_order(alloc, &uses)?;
+        let in_order = are_in_order(&uses);
+        let acting = acting_unless(alloc, in_order, &uses)?;
         let pairs = pair_offsets(alloc, &uses)?;
         let highs = high_offsets(alloc, &uses)?;
         Ok(Section {
@@ -57,6 +62,7 @@ impl<'a> Section<'a> {
             align,
             content,
             uses,
+            in_order,
             acting,
             pairs,
             highs,
@@ -124,7 +130,7 @@ impl<'a> Section<'a> {
     pub fn acting_at(&self, offset: u64) -> &[Relocation]
         ensures { result.now ≡ acting_at self.now offset }
     {
-        standing_at(&self.acting, offset)
+        standing_at(by_offset(self.in_order, &self.uses, &self.acting), offset)
     }
 
     /// Whether one that names the target of a pair stands at this offset.

@@ -6,18 +6,20 @@ ghost use Rattle.obj_input.specs.Code.{word_count};
 ghost use Rattle.obj_input.specs.Kinds.{kind_of};
 ghost use Rattle.obj_input.specs.DataLayout.{data_layout_of};
 ghost use Rattle.obj_program.specs.Program.{AreInOrder, is_end, no_item};
+ghost use Rattle.obj_program.specs.Sound.{IsSound};
 ghost use Rattle.obj_items.specs.Links.{aimed_place, is_taken, item_with, linked, named_place, patch_by, patch_from, target_of};
 ghost use Rattle.obj_items.specs.Linking.{AreLinkedTo};
 ghost use Rattle.obj_items.specs.Outline.{outline};
+ghost use Rattle.obj_items.specs.ProgramOf.{program_of};
 ghost use Rattle.obj_items.specs.Standing.{IsInstruction};
 
 use crate::values::{place_at, use_value};
 use obj_input::{DataLayout, Definition, Input, ItemKind, RelocKind, Relocation};
-use obj_program::{Item, Patch, place_in};
+use obj_program::{Item, PackedItem, Patch, place_in};
 use obj_rules::{Aim, aim_at, direct_at};
 
 /// The place of the AUIPC that a low part names.
-fn named_place(places: &[Item], definition: Definition) -> u64
+fn named_place(places: &[PackedItem], definition: Definition) -> u64
     requires { AreInOrder places.now }
     ensures { result ≡ named_place places.now definition }
 {
@@ -28,7 +30,7 @@ fn named_place(places: &[Item], definition: Definition) -> u64
 }
 
 /// What a relocation does to the immediate of its instruction.
-fn patch_by(input: &Input, layout: &DataLayout, places: &[Item], u: &Relocation) -> Patch
+fn patch_by(input: &Input, layout: &DataLayout, places: &[PackedItem], u: &Relocation) -> Patch
     requires order { AreInOrder places.now }
     requires layout { layout.now ≡ data_layout_of input.now }
     ensures { result ≡ patch_by input.now places.now u.now (kind_of u.now.number) }
@@ -45,7 +47,12 @@ fn patch_by(input: &Input, layout: &DataLayout, places: &[Item], u: &Relocation)
 }
 
 /// What the first of these relocations does to the immediate of their instruction.
-fn patch_from(input: &Input, layout: &DataLayout, places: &[Item], uses: &[Relocation]) -> Patch
+fn patch_from(
+    input: &Input,
+    layout: &DataLayout,
+    places: &[PackedItem],
+    uses: &[Relocation],
+) -> Patch
     requires order { AreInOrder places.now }
     requires layout { layout.now ≡ data_layout_of input.now }
     ensures { result ≡ patch_from input.now places.now uses.now }
@@ -57,7 +64,7 @@ fn patch_from(input: &Input, layout: &DataLayout, places: &[Item], uses: &[Reloc
 }
 
 /// The place where a direct transfer goes.
-fn aimed_place(places: &[Item], aim: Aim) -> Option<u64>
+fn aimed_place(places: &[PackedItem], aim: Aim) -> Option<u64>
     requires { AreInOrder places.now }
     ensures { result ≡ aimed_place places.now aim }
 {
@@ -69,7 +76,7 @@ fn aimed_place(places: &[Item], aim: Aim) -> Option<u64>
 
 /// The place where the direct transfer goes that starts at this word of code of the section `k`; `None` of other
 /// instructions.
-fn target_of(input: &Input, places: &[Item], k: u32, index: u64) -> Option<u64>
+fn target_of(input: &Input, places: &[PackedItem], k: u32, index: u64) -> Option<u64>
     requires order { AreInOrder places.now }
     requires there { k < section_count input.now }
     requires code { is_code (section_of input.now k) ≡ true }
@@ -81,7 +88,13 @@ fn target_of(input: &Input, places: &[Item], k: u32, index: u64) -> Option<u64>
 }
 
 /// An instruction with its patch, its target and this mark, which says whether its address is taken.
-fn linked(input: &Input, layout: &DataLayout, places: &[Item], item: &Item, taken: bool) -> Item
+fn linked(
+    input: &Input,
+    layout: &DataLayout,
+    places: &[PackedItem],
+    item: &Item,
+    taken: bool,
+) -> Item
     requires order { AreInOrder places.now }
     requires layout { layout.now ≡ data_layout_of input.now }
     requires instruction { IsInstruction input.now item.now }
@@ -98,7 +111,13 @@ fn linked(input: &Input, layout: &DataLayout, places: &[Item], item: &Item, take
 }
 
 /// A place with its links; an end has none.
-fn item_with(input: &Input, layout: &DataLayout, places: &[Item], item: &Item, taken: bool) -> Item
+fn item_with(
+    input: &Input,
+    layout: &DataLayout,
+    places: &[PackedItem],
+    item: &Item,
+    taken: bool,
+) -> Item
     requires order { AreInOrder places.now }
     requires layout { layout.now ≡ data_layout_of input.now }
     requires instruction { is_end item.now.kind ≡ false → IsInstruction input.now item.now }
@@ -113,16 +132,17 @@ fn item_with(input: &Input, layout: &DataLayout, places: &[Item], item: &Item, t
 }
 
 /// Gives the place with this index its links, where those before it have theirs.
-fn link_at(input: &Input, layout: &DataLayout, places: &mut Vec<Item>, j: usize, taken: bool)
+fn link_at(input: &Input, layout: &DataLayout, places: &mut Vec<PackedItem>, j: usize, taken: bool)
     requires layout { layout.now ≡ data_layout_of input.now }
+    requires sound { IsSound (program_of input.now) }
     requires linked { AreLinkedTo input.now (outline input.now) places.old.items j }
     requires below { j < length places.old.items }
     requires taken { taken ≡ is_taken input.now (slice_index_or (outline input.now) j no_item).section (slice_index_or (outline input.now) j no_item).offset }
     ensures { AreLinkedTo input.now (outline input.now) places.new.items (j + 1) }
 {
-    let item = places[j];
+    let item = places[j].item();
     let linked = item_with(input, layout, places, &item, taken);
-    places[j] = linked;
+    places[j] = PackedItem::of(linked);
 }
 
 /// The places of an input, which are these, with what relocations make of them; `taken` has a mark for each place. They are
@@ -130,10 +150,11 @@ fn link_at(input: &Input, layout: &DataLayout, places: &mut Vec<Item>, j: usize,
 pub(crate) fn linked_places(
     input: &Input,
     layout: &DataLayout,
-    mut places: Vec<Item>,
+    mut places: Vec<PackedItem>,
     taken: &[bool],
-) -> Vec<Item>
+) -> Vec<PackedItem>
     requires layout { layout.now ≡ data_layout_of input.now }
+    requires sound { IsSound (program_of input.now) }
     requires places { places.items ≡ outline input.now }
     requires count { length taken.now ≡ length places.items }
     requires taken { (j : ℕ) → j < length places.items → slice_index_or taken.now j false ≡ is_taken input.now (slice_index_or places.items j no_item).section (slice_index_or places.items j no_item).offset }

@@ -8,7 +8,7 @@ ghost use Rattle.obj_program.specs.Program.{AreInOrder};
 ghost use Rattle.obj_items.specs.Outline.{end_at, outline, own_word, section_items, start_at, start_item};
 
 use obj_input::{Input, ItemKind, Section};
-use obj_program::{Item, Patch};
+use obj_program::{Item, PackedItem, Patch};
 use obj_rules::kind_at;
 use rv_word::NoMemory;
 use std::alloc::Global;
@@ -61,23 +61,27 @@ fn end_at(section: &Section, k: u32) -> Item
 
 /// These places, with what starts at this word of code of the section `k` behind them.
 fn with_start(
-    mut items: Vec<Item>,
+    mut items: Vec<PackedItem>,
     section: &Section,
     k: u32,
     index: u64,
-) -> Result<Vec<Item>, NoMemory>
+) -> Result<Vec<PackedItem>, NoMemory>
     requires code { is_code section.now ≡ true }
     requires below { index < word_count section.now }
     ensures { IfOk result (λ v. v.items ≡ items.items ++ start_item section.now k index) }
 {
     if section.starts_at(index) {
-        items.push(start_at(section, k, index))?;
+        items.push(PackedItem::of(start_at(section, k, index)))?;
     }
     Ok(items)
 }
 
 /// These places, with the instructions of the section `k`, which is code, behind them.
-fn with_starts(mut items: Vec<Item>, section: &Section, k: u32) -> Result<Vec<Item>, NoMemory>
+fn with_starts(
+    mut items: Vec<PackedItem>,
+    section: &Section,
+    k: u32,
+) -> Result<Vec<PackedItem>, NoMemory>
     requires { is_code section.now ≡ true }
     ensures { IfOk result (λ v. v.items ≡ items.items ++ joined (start_item section.now k) (word_count section.now)) }
 {
@@ -88,7 +92,7 @@ fn with_starts(mut items: Vec<Item>, section: &Section, k: u32) -> Result<Vec<It
 }
 
 /// These places, with those of the section `k` behind them.
-fn with_section(items: Vec<Item>, input: &Input, k: u32) -> Result<Vec<Item>, NoMemory>
+fn with_section(items: Vec<PackedItem>, input: &Input, k: u32) -> Result<Vec<PackedItem>, NoMemory>
     requires { k < section_count input.now }
     ensures { IfOk result (λ v. v.items ≡ items.items ++ section_items input.now k) }
 {
@@ -97,27 +101,49 @@ fn with_section(items: Vec<Item>, input: &Input, k: u32) -> Result<Vec<Item>, No
         return Ok(items);
     }
     let mut items = with_starts(items, section, k)?;
-    items.push(end_at(section, k))?;
+    items.push(PackedItem::of(end_at(section, k)))?;
     Ok(items)
 }
 
-/// The places of an input in their order.
+/// How many places a section has at most.
+fn most_places(section: &Section) -> u64 {
+    if section.is_code() {
+        section.size() / 4 + 1
+    } else {
+        0
+    }
+}
+
+/// Room for all places of an input, and none of them.
+pub(crate) fn room(alloc: Global, input: &Input) -> Result<Vec<PackedItem>, NoMemory>
+    ensures { IfOk result (λ v. v.items ≡ []) }
+{
+    let mut most: u64 = 0;
+    for k in 0..input.section_count() {
+        most = most.saturating_add(most_places(input.section(k)));
+    }
+    Ok(Vec::with_capacity(alloc, most as usize)?)
+}
+
+/// The places of an input in their order, put where there are none.
 #[tactic(auto, unfolding(crate::specs::Outline::outline))]
-fn outline_of(alloc: Global, input: &Input) -> Result<Vec<Item>, NoMemory>
+fn outline_of(mut items: Vec<PackedItem>, input: &Input) -> Result<Vec<PackedItem>, NoMemory>
+    requires { items.items ≡ [] }
     ensures { IfOk result (λ v. v.items ≡ outline input.now) }
 {
-    let mut items = Vec::new(alloc);
     for k in 0..input.section_count() {
         items = with_section(items, input, k)?;
     }
     Ok(items)
 }
 
-/// The places of an input in their order: of each section of code its instructions and its end.
-pub(crate) fn outline(alloc: Global, input: &Input) -> Result<Vec<Item>, NoMemory>
+/// The places of an input in their order: of each section of code its instructions and its end. They are put where there
+/// are none.
+pub(crate) fn outline(room: Vec<PackedItem>, input: &Input) -> Result<Vec<PackedItem>, NoMemory>
+    requires { room.items ≡ [] }
     ensures value { IfOk result (λ v. v.items ≡ outline input.now) }
     ensures order { IfOk result (λ v. AreInOrder v.items) }
 {
-    let items = outline_of(alloc, input)?;
+    let items = outline_of(room, input)?;
     Ok(items)
 }

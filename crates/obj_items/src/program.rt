@@ -1,4 +1,4 @@
-ghost use Rattle.std.specs.Prelude.{◌≡◌, None, IfOk, map};
+ghost use Rattle.std.specs.Prelude.{◌≡◌, None, IfOk, [], map};
 ghost use Rattle.obj_input.specs.DataLayout.{data_layout_of};
 ghost use Rattle.obj_rules.specs.Fault.{fault_of};
 ghost use Rattle.obj_program.specs.Program.{AreInOrder};
@@ -14,13 +14,13 @@ use crate::from_object::input_of;
 use crate::init::init;
 use crate::item_end::ItemEnd;
 use crate::links::linked_places;
-use crate::outline::outline;
+use crate::outline::{outline, room};
 use crate::ranges::program_is_sound;
 use crate::relocs::relocs;
 use crate::taken::taken;
 use elf_object::Object;
 use obj_input::{DataLayout, Input};
-use obj_program::{DataReloc, InitialData, Item, Items};
+use obj_program::{InitialData, Items, PackedItem, PackedReloc};
 use obj_rules::fault_of;
 use rv_word::NoMemory;
 use std::alloc::Global;
@@ -28,9 +28,9 @@ use std::alloc::Global;
 /// What a program holds beside the symbols of its input.
 #[derive(Drop)]
 struct Held<'a> {
-    items: Vec<Item>,
+    items: Vec<PackedItem>,
     init: InitialData<'a>,
-    relocations: Vec<DataReloc>,
+    relocations: Vec<PackedReloc>,
     data_end: u128,
 }
 
@@ -39,11 +39,12 @@ fn with_links(
     alloc: Global,
     input: &Input,
     layout: &DataLayout,
-    places: Vec<Item>,
-) -> Result<Vec<Item>, NoMemory>
+    places: Vec<PackedItem>,
+) -> Result<Vec<PackedItem>, NoMemory>
     requires layout { layout.now ≡ data_layout_of input.now }
     requires places { places.items ≡ outline input.now }
     requires order { AreInOrder places.items }
+    requires sound { IsSound (program_of input.now) }
     ensures { IfOk result (λ v. v.items ≡ map (item_with input.now (outline input.now)) (outline input.now)) }
 {
     let marks = taken(alloc, input, &places)?;
@@ -55,11 +56,12 @@ fn contents<'a>(
     alloc: Global,
     input: &Input<'a>,
     layout: &DataLayout,
-    places: Vec<Item>,
+    places: Vec<PackedItem>,
 ) -> Result<Held<'a>, NoMemory>
     requires layout { layout.now ≡ data_layout_of input.now }
     requires places { places.items ≡ outline input.now }
     requires order { AreInOrder places.items }
+    requires sound { IsSound (program_of input.now) }
     ensures { IfOk result (AreContents input.now) }
 {
     let relocations = relocs(alloc, input, layout, &places)?;
@@ -74,23 +76,33 @@ fn contents<'a>(
 }
 
 /// What the program of an input without a fault holds.
-fn contents_of<'a>(alloc: Global, input: &Input<'a>) -> Result<Held<'a>, NoMemory>
-    requires { fault_of input.now ≡ None }
+fn contents_of<'a>(
+    alloc: Global,
+    input: &Input<'a>,
+    room: Vec<PackedItem>,
+) -> Result<Held<'a>, NoMemory>
+    requires right { fault_of input.now ≡ None }
+    requires room { room.items ≡ [] }
     ensures contents { IfOk result (AreContents input.now) }
     ensures sound { IfOk result (λ _. IsSound (program_of input.now)) }
 {
     let layout = DataLayout::of(alloc, input)?;
-    let places = outline(alloc, input)?;
+    let places = outline(room, input)?;
     program_is_sound(input, &places);
     contents(alloc, input, &layout, places)
 }
 
-/// The program of an input without a fault.
-fn program_of<'a>(alloc: Global, input: Input<'a>) -> Result<Items<'a>, NoMemory>
-    requires { fault_of input ≡ None }
+/// The program of an input without a fault, whose places are put where there are none.
+fn program_of<'a>(
+    alloc: Global,
+    input: Input<'a>,
+    room: Vec<PackedItem>,
+) -> Result<Items<'a>, NoMemory>
+    requires right { fault_of input ≡ None }
+    requires room { room.items ≡ [] }
     ensures { IfOk result (λ p. p ≡ program_of input.entry) }
 {
-    let contents = contents_of(alloc, &input)?;
+    let contents = contents_of(alloc, &input, room)?;
     let (names, funcs) = input.into_symbols();
     let Held {
         items,
@@ -103,12 +115,15 @@ fn program_of<'a>(alloc: Global, input: Input<'a>) -> Result<Items<'a>, NoMemory
 
 /// The program that an object is, where nothing is wrong with its instructions and relocations; else what is wrong: the
 /// first of eight tests that fails anywhere, at its least section and offset. It borrows the object's names and its data.
+/// Room for all places is asked for before the tests, so that an object whose sections of code share bytes, and have more
+/// places than there is room for, costs no time.
 pub fn items<'a>(alloc: Global, object: &Object<'a>) -> Result<Items<'a>, ItemEnd>
     ensures { IsTold (input_of object.now) result }
 {
     let input = input_of(alloc, object)?;
+    let room = room(alloc, &input)?;
     match fault_of(&input) {
         Some(fault) => Err(ItemEnd::Refused(fault)),
-        None => Ok(program_of(alloc, input)?),
+        None => Ok(program_of(alloc, input, room)?),
     }
 }

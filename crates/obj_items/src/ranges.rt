@@ -8,7 +8,7 @@ ghost use Rattle.obj_items.specs.ProgramOf.{program_of};
 ghost use Rattle.obj_items.specs.Ranges.{AreSections, HasSmall, IsBlock, IsInput, IsSection, IsSmallUse};
 
 use obj_input::{Block, Definition, Input, Relocation, Section};
-use obj_program::Item;
+use obj_program::PackedItem;
 
 /// The numbers of a definition have 64 bits.
 fn definition_fits(definition: Definition)
@@ -84,12 +84,12 @@ fn input_fits(input: &Input)
 }
 
 /// Places are few, since each takes bytes.
-fn are_few(places: &[Item])
+fn are_few(places: &[PackedItem])
     ensures { length places.now < 2 ^ 62 }
 {}
 
 /// The program of an input without a fault, whose places these are, is sound.
-pub(crate) fn program_is_sound(input: &Input, places: &[Item])
+pub(crate) fn program_is_sound(input: &Input, places: &[PackedItem])
     requires places { places.now ≡ outline input.now }
     requires right { fault_of input.now ≡ None }
     ensures { IsSound (program_of input.now) }

@@ -11,7 +11,7 @@ ghost use Rattle.obj_items.specs.InitialData.{reloc_of, relocs_of, section_reloc
 use crate::init::section_address;
 use crate::values::use_value;
 use obj_input::{DataLayout, Input, RelocKind, Relocation};
-use obj_program::{DataReloc, Item};
+use obj_program::{DataReloc, PackedItem, PackedReloc};
 use rv_word::NoMemory;
 use rv_word::memory_map::DATA_START;
 use std::alloc::Global;
@@ -31,10 +31,10 @@ fn offset_in(input: &Input, layout: &DataLayout, k: u32, at: u64) -> Result<u64,
 
 /// Puts the relocation of data that a relocation of the section with the index `k` is behind others, if it is one.
 fn push_reloc(
-    relocs: &mut Vec<DataReloc>,
+    relocs: &mut Vec<PackedReloc>,
     input: &Input,
     layout: &DataLayout,
-    places: &[Item],
+    places: &[PackedItem],
     k: u32,
     u: &Relocation,
 ) -> Result<(), NoMemory>
@@ -43,23 +43,23 @@ fn push_reloc(
     ensures { OnOk result (relocs.new.items ≡ relocs.old.items ++ reloc_of input.now places.now k u.now) }
 {
     if let RelocKind::InData(patch) = u.kind() {
-        relocs.push(DataReloc {
+        relocs.push(PackedReloc::of(DataReloc {
             section: k,
             at: u.offset,
             offset: offset_in(input, layout, k, u.offset)?,
             patch,
             value: use_value(input, layout, places, u),
-        })?;
+        }))?;
     }
     Ok(())
 }
 
 /// Puts the relocations of the section of data with the index `k` behind others.
 fn push_section(
-    relocs: &mut Vec<DataReloc>,
+    relocs: &mut Vec<PackedReloc>,
     input: &Input,
     layout: &DataLayout,
-    places: &[Item],
+    places: &[PackedItem],
     k: u32,
 ) -> Result<(), NoMemory>
     requires below { k < section_count input.now }
@@ -80,8 +80,8 @@ pub(crate) fn relocs(
     alloc: Global,
     input: &Input,
     layout: &DataLayout,
-    places: &[Item],
-) -> Result<Vec<DataReloc>, NoMemory>
+    places: &[PackedItem],
+) -> Result<Vec<PackedReloc>, NoMemory>
     requires order { AreInOrder places.now }
     requires layout { layout.now ≡ data_layout_of input.now }
     ensures { IfOk result (λ v. v.items ≡ relocs_of input.now places.now) }

@@ -7,7 +7,7 @@ ghost use Rattle.obj_program.specs.Program.{AreInOrder, no_item};
 ghost use Rattle.obj_items.specs.Links.{is_taken, is_the, pointed, some_takes, spot_of, takes};
 
 use obj_input::{Definition, Input, Relocation, natural};
-use obj_program::{Item, place_in};
+use obj_program::{PackedItem, place_in};
 use rv_word::NoMemory;
 use std::alloc::Global;
 
@@ -35,7 +35,7 @@ fn pointed(u: &Relocation) -> Option<(u32, u64)>
 }
 
 /// Marks the place at a spot, if there is one.
-fn mark(marks: &mut Vec<bool>, places: &[Item], spot: Option<(u32, u64)>)
+fn mark(marks: &mut Vec<bool>, places: &[PackedItem], spot: Option<(u32, u64)>)
     requires order { AreInOrder places.now }
     requires count { length marks.old.items ≡ length places.now }
     ensures count { length marks.new.items ≡ length places.now }
@@ -51,7 +51,7 @@ fn mark(marks: &mut Vec<bool>, places: &[Item], spot: Option<(u32, u64)>)
 }
 
 /// Marks the places whose address a relocation of the section with the index `j` takes.
-fn mark_section(marks: &mut Vec<bool>, input: &Input, places: &[Item], j: u32)
+fn mark_section(marks: &mut Vec<bool>, input: &Input, places: &[PackedItem], j: u32)
     requires order { AreInOrder places.now }
     requires count { length marks.old.items ≡ length places.now }
     requires below { j < section_count input.now }
@@ -75,7 +75,11 @@ fn unset(alloc: Global, count: usize) -> Result<Vec<bool>, NoMemory>
 }
 
 /// Of each place whether a relocation takes its address.
-pub(crate) fn taken(alloc: Global, input: &Input, places: &[Item]) -> Result<Vec<bool>, NoMemory>
+pub(crate) fn taken(
+    alloc: Global,
+    input: &Input,
+    places: &[PackedItem],
+) -> Result<Vec<bool>, NoMemory>
     requires { AreInOrder places.now }
     ensures count { IfOk result (λ v. length v.items ≡ length places.now) }
     ensures marks { IfOk result (λ v. (i : ℕ) → i < length places.now → slice_index_or v.items i false

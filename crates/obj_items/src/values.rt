@@ -6,10 +6,10 @@ ghost use Rattle.obj_program.specs.Program.{AreInOrder};
 ghost use Rattle.obj_items.specs.Values.{gate_value, place_at, section_value, use_value, value_of};
 
 use obj_input::{DataLayout, Definition, Input, Relocation, natural};
-use obj_program::{Item, Value, place_in};
+use obj_program::{PackedItem, Value, place_in};
 
 /// The place at this whole number of bytes of a section, among places in their order.
-pub(crate) fn place_at(places: &[Item], section: u32, at: i128) -> Option<u64>
+pub(crate) fn place_at(places: &[PackedItem], section: u32, at: i128) -> Option<u64>
     requires { AreInOrder places.now }
     ensures { result ≡ place_at places.now section at }
 {
@@ -38,7 +38,7 @@ fn sum(number: u128, addend: i64) -> Value
 fn section_value(
     input: &Input,
     layout: &DataLayout,
-    places: &[Item],
+    places: &[PackedItem],
     section: u32,
     value: u64,
     addend: i64,
@@ -61,7 +61,7 @@ fn section_value(
 fn value_of(
     input: &Input,
     layout: &DataLayout,
-    places: &[Item],
+    places: &[PackedItem],
     definition: Definition,
     addend: i64,
 ) -> Value
@@ -84,7 +84,7 @@ fn value_of(
 pub(crate) fn use_value(
     input: &Input,
     layout: &DataLayout,
-    places: &[Item],
+    places: &[PackedItem],
     u: &Relocation,
 ) -> Value
     requires order { AreInOrder places.now }

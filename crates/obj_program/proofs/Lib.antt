@@ -1,4 +1,5 @@
 pub mod Ordered
+pub mod Packing
 pub mod Read
 pub mod Applied
 pub mod Kept

@@ -8,6 +8,7 @@ ghost use Rattle.obj_program.specs.Sound.{is_there};
 use crate::at_map::value_at;
 use crate::item::DataReloc;
 use crate::items::Items;
+use crate::packed_reloc::PackedReloc;
 use rv_reloc::{RelocRange, patch_data};
 use rv_word::NoMemory;
 use std::alloc::Global;
@@ -74,15 +75,25 @@ fn apply(bytes: &mut [u8], gates: &[u64], reloc: DataReloc) -> Result<(), RelocR
     patch_data(reloc.patch, &mut bytes[reloc.offset as usize..], value)
 }
 
+/// The same of one that is packed.
+fn apply_packed(bytes: &mut [u8], gates: &[u64], reloc: &PackedReloc) -> Result<(), RelocRange>
+    requires { is_there (length bytes.old) (length gates.now) reloc.now ≡ true }
+    ensures value { OnOk result (bytes.new ≡ with_reloc gates.now bytes.old reloc.now) }
+    ensures taken { OnOk result (is_in_range gates.now reloc.now ≡ true) }
+    ensures refused { OnErr result (is_in_range gates.now reloc.now ≡ false) }
+{
+    apply(bytes, gates, reloc.reloc())
+}
+
 /// Applies relocations in their order.
-fn apply_all(bytes: &mut [u8], gates: &[u64], relocs: &[DataReloc]) -> Result<(), RelocRange>
+fn apply_all(bytes: &mut [u8], gates: &[u64], relocs: &[PackedReloc]) -> Result<(), RelocRange>
     requires { (j : ℕ) (r : DataReloc) → slice_get relocs.now j ≡ Some r → is_there (length bytes.old) (length gates.now) r ≡ true }
     ensures value { OnOk result (bytes.new ≡ fold (with_reloc gates.now) bytes.old relocs.now) }
     ensures taken { OnOk result (list_all (is_in_range gates.now) relocs.now ≡ true) }
     ensures refused { OnErr result (list_all (is_in_range gates.now) relocs.now ≡ false) }
 {
     for reloc in relocs {
-        apply(bytes, gates, *reloc)?;
+        apply_packed(bytes, gates, reloc)?;
     }
     Ok(())
 }

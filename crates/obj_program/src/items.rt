@@ -5,7 +5,9 @@ ghost use Rattle.obj_program.specs.Program.{count, item_of, place_of};
 ghost use Rattle.obj_program.specs.Sound.{IsSound, is_patch};
 
 use crate::initial_data::InitialData;
-use crate::item::{DataReloc, Item, Patch};
+use crate::item::{Item, Patch};
+use crate::packed::PackedItem;
+use crate::packed_reloc::PackedReloc;
 use crate::place::place_in;
 use obj_input::{Func, Names};
 use std::marker::Model;
@@ -22,9 +24,9 @@ pub struct Extent {
 /// A program. Names and initialised data are borrowed from the object's file.
 #[derive(Drop)]
 pub struct Items<'a> {
-    items: Vec<Item>,
+    items: Vec<PackedItem>,
     init: InitialData<'a>,
-    relocations: Vec<DataReloc>,
+    relocations: Vec<PackedReloc>,
     data_end: u128,
     funcs: Vec<Func>,
     names: Names<'a>,
@@ -44,9 +46,9 @@ impl<'a> Model for Items<'a> {
 impl<'a> Items<'a> {
     /// The program of these parts.
     pub fn of(
-        items: Vec<Item>,
+        items: Vec<PackedItem>,
         init: InitialData<'a>,
-        relocations: Vec<DataReloc>,
+        relocations: Vec<PackedReloc>,
         data_end: u128,
         funcs: Vec<Func>,
         names: Names<'a>,
@@ -73,7 +75,7 @@ impl<'a> Items<'a> {
     }
 
     /// The places in their order: sections by index, offsets rising.
-    pub fn places(&self) -> &[Item]
+    pub fn places(&self) -> &[PackedItem]
         ensures value { result.now ≡ self.now.items }
         ensures sound { IsSound self.now }
     {
@@ -85,7 +87,7 @@ impl<'a> Items<'a> {
         requires { k < count self.now }
         ensures { result ≡ item_of self.now k }
     {
-        self.items[k as usize]
+        self.items[k as usize].item()
     }
 
     /// The initialised data before relocations.
@@ -96,7 +98,7 @@ impl<'a> Items<'a> {
     }
 
     /// The relocations of initialised data.
-    pub(crate) fn relocations(&self) -> &[DataReloc]
+    pub(crate) fn relocations(&self) -> &[PackedReloc]
         ensures value { result.now ≡ self.now.relocations }
         ensures sound { IsSound self.now }
     {

@@ -6,6 +6,8 @@ pub use data_at_map::DataEnd;
 pub use initial_data::InitialData;
 pub use item::{DataReloc, Item, Patch, Value};
 pub use items::{Extent, Items};
+pub use packed::PackedItem;
+pub use packed_reloc::PackedReloc;
 pub use place::place_in;
 
 mod at_map;
@@ -14,5 +16,7 @@ mod initial_data;
 mod item;
 mod items;
 pub mod laws;
+mod packed;
+mod packed_reloc;
 mod place;
 mod range;

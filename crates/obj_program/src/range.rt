@@ -12,6 +12,7 @@ ghost use Rattle.obj_program.specs.Sound.{is_value};
 use crate::at_map::{instr_at, value_at};
 use crate::item::DataReloc;
 use crate::items::Items;
+use crate::packed_reloc::PackedReloc;
 use least::{Found, Place, first_below_u64, nearer};
 use obj_input::ItemKind;
 use rv_reloc::patch_data;
@@ -73,7 +74,15 @@ fn is_in_range(gates: &[u64], reloc: DataReloc) -> bool
 }
 
 /// A relocation of data whose value leaves its range.
-fn reloc_astray(gates: &[u64], reloc: DataReloc) -> Option<Found<()>>
+fn reloc_astray(gates: &[u64], reloc: &PackedReloc) -> Option<Found<()>>
+    requires { is_value (length gates.now) reloc.now.value ≡ true }
+    ensures { result ≡ reloc_astray gates.now reloc.now }
+{
+    astray(gates, reloc.reloc())
+}
+
+/// The same of one whose parts are these.
+fn astray(gates: &[u64], reloc: DataReloc) -> Option<Found<()>>
     requires { is_value (length gates.now) reloc.value ≡ true }
     ensures { result ≡ reloc_astray gates.now reloc }
 {
@@ -85,13 +94,13 @@ fn reloc_astray(gates: &[u64], reloc: DataReloc) -> Option<Found<()>>
 }
 
 /// The nearest such relocation.
-fn first_reloc(gates: &[u64], relocs: &[DataReloc]) -> Option<Found<()>>
+fn first_reloc(gates: &[u64], relocs: &[PackedReloc]) -> Option<Found<()>>
     requires { (j : ℕ) (r : DataReloc) → slice_get relocs.now j ≡ Some r → is_value (length gates.now) r.value ≡ true }
     ensures { result ≡ nearest place_found (filter_map (reloc_astray gates.now) relocs.now) }
 {
     let mut least = None;
     for reloc in relocs {
-        least = nearer(least, reloc_astray(gates, *reloc));
+        least = nearer(least, reloc_astray(gates, reloc));
     }
     least
 }

@@ -15,8 +15,8 @@ fn add_some(text: &mut String, words: &str, count: u64) -> bool {
 /// How many places are of this kind.
 fn count_of(items: &Items, kind: ItemKind) -> u64 {
     let mut count: u64 = 0;
-    for item in items.places() {
-        if item.kind == kind {
+    for place in items.places() {
+        if place.kind() == kind {
             count = count.saturating_add(1);
         }
     }

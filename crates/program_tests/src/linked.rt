@@ -11,8 +11,11 @@ const CODE: u64 = 0x40000040;
 /// The addresses of the places where the section of code stands as it is in the object.
 fn gates_of(alloc: Global, items: &Items) -> Option<Vec<u64>> {
     let mut gates = Vec::new(alloc);
-    for item in items.places() {
-        if gates.push(CODE.saturating_add(item.offset)).is_err() {
+    for place in items.places() {
+        if gates
+            .push(CODE.saturating_add(place.item().offset))
+            .is_err()
+        {
             return None;
         }
     }

@@ -1,10 +1,19 @@
-use Rattle.std.proofs.Common.{ℕ, get_or, refl}
-use Rattle.cfi_flow.proofs.Spanning.{far_more}
+use Rattle.std.proofs.Common.{arith, refl, ◌∙◌}
+use Rattle.std.proofs.lemmas.List.{get_or_default}
+use Rattle.cfi_flow.proofs.Spanning.{raised_all, raised_begins, raised_more}
 use Rattle.cfi_flow.proofs.span.farthest.Goals as goal
 
-pub loop-next-preserved : goal.loop-next-preserved
-loop-next-preserved c =
-    let next : ℕ = get_or c.args.ends.now c.loop-next.next-index 0 in
-    rw c.in_ok-push.ensures.items
-    (far_more c.args.ends.now c.loop-next.farthest.items c.loop-next.next-index c.loop-next.end next c.greater-end.result c.loop-next-test.true refl
-    c.greater-end.ensures.first c.greater-end.ensures.second c.greater-end.ensures.least c.loop-next.invariant)
+pub loop-k-init : goal.loop-k-init
+loop-k-init c = raised_begins c.args.ends.items
+
+pub loop-k-preserved : goal.loop-k-preserved
+loop-k-preserved c =
+    let size = c.loop-k.invariant.size in
+    raised_more c.args.ends.items c.loop-k.ends.items _ c.loop-k.k c.loop-k.end c.index.result.now c.greater-end.result (omega arith)
+    (c.index.ensures ∙ get_or_default c.loop-k.ends.items c.loop-k.k _ 0 (omega arith)) c.loop-k.invariant c.greater-end.ensures.first
+    c.greater-end.ensures.second c.greater-end.ensures.least refl
+
+pub returns : goal.returns
+returns c =
+    let size = c.loop-k.invariant.size in
+    raised_all c.args.ends.items c.loop-k.ends.items c.loop-k.k c.loop-k.end (omega arith) c.loop-k.invariant

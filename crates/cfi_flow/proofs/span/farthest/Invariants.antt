@@ -1,5 +1,5 @@
-use Rattle.cfi_flow.specs.Spans.{IsSoFar}
+use Rattle.cfi_flow.specs.Spans.{IsRaised}
 use Rattle.cfi_flow.proofs.span.farthest.Given as goal
 
-abbrev pub invariant-loop-next : goal.invariant-loop-next
-invariant-loop-next l = IsSoFar l.ends l.next-index l.end l.farthest.items
+abbrev pub invariant-loop-k : goal.invariant-loop-k
+invariant-loop-k l = IsRaised l.fn.ends.items l.k l.end l.ends.items

@@ -1,6 +1,6 @@
 use Rattle.std.proofs.Common.{List, ℕ, subst}
 use Rattle.cfi_flow.specs.declared.span.Span.{Span}
-use Rattle.cfi_flow.specs.Spans.{AreEnds, AreFarthest}
+use Rattle.cfi_flow.specs.Spans.{AreEnds}
 use Rattle.cfi_flow.proofs.Spanning.{reach_is}
 use Rattle.cfi_flow.proofs.span.reach.Goals as goal
 
@@ -10,5 +10,4 @@ returns c =
     let ends = c.in_ok-ends.ends.items in
     let of = subst (λ (n : ℕ). AreEnds n spans ends) c.count.ensures.value
     (subst (λ (ss : List Span). AreEnds c.count.result ss ends) c.as_slice.ensures.value c.in_ok-ends.ensures) in
-    let far = subst (λ (es : List ℕ). AreFarthest es c.in_ok-farthest.farthest.items) c.as_slice-2.ensures.value c.in_ok-farthest.ensures in
-    reach_is c.args.items.now spans ends c.in_ok-farthest.farthest.items c.in_ok-spans.ensures of far
+    reach_is c.args.items.now spans ends c.farthest.result.items c.in_ok-spans.ensures of c.farthest.ensures

@@ -6,9 +6,9 @@ use Rattle.cfi_flow.specs.Tables.{entry, noted}
 use Rattle.cfi_flow.proofs.Finding.{noted_twice}
 use Rattle.cfi_flow.proofs.table.note_all.Goals as goal
 
-pub note-requires : goal.note-requires
-note-requires c =
-    let below = c.requires c.loop-place.place-index 0 c.loop-place-test.true in
+pub note-requires-clause-there : goal.note-requires-clause-there
+note-requires-clause-there c =
+    let below = c.requires.there c.loop-place.place-index 0 c.loop-place-test.true in
     let same = c.loop-place.invariant.0 in omega arith
 
 pub loop-place-preserved : goal.loop-place-preserved

@@ -4,7 +4,7 @@ use Rattle.obj_items.proofs.Steps.{joined_begins, joined_next}
 use Rattle.obj_items.proofs.outline.outline_of.Goals as goal
 
 pub loop-k-init : goal.loop-k-init
-loop-k-init c = c.new-items.ensures.items ∙ joined_begins (section_items c.args.input.now)
+loop-k-init c = c.requires ∙ joined_begins (section_items c.args.input.now)
 
 pub loop-k-preserved : goal.loop-k-preserved
 loop-k-preserved c = joined_next (section_items c.args.input.now) c.loop-k.k _ _ _ c.loop-k.invariant refl c.in_ok-items.ensures
