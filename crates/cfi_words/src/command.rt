@@ -88,7 +88,7 @@ pub(crate) fn command_line<'a>(alloc: Global) -> Result<Command<'a>, AllocError>
     let commands = commands(alloc, &COMMANDS)?;
     Command::new(alloc, "rvcfi")
         .version(VERSION)
-        .about("Control-flow integrity for RV64I programs")
+        .about("Control-flow integrity for RV64IM programs")
         .subcommand_required(true)
         .disable_help_subcommand(true)
         .subcommands(commands)

@@ -14,7 +14,7 @@ pub enum ObjectFault {
     NotRelocatable(u16),
     /// It is not for RISC-V, but for this `e_machine`.
     NotRiscv(u16),
-    /// Its `e_flags` ask for more than RV64I with the soft-float calling convention.
+    /// Its `e_flags` ask for more than RV64IM with the soft-float calling convention.
     Flags(u32),
     /// What begins at this offset, the section header table or a section, leaves the file.
     Truncated(u64),

@@ -91,26 +91,37 @@ module _ (w : Width) (a b : ℕ) (some : b ≢ 0) where
   less_unsigned : unsigned_abs (whole w false (remainder w false a b)) < unsigned_abs (whole w false b)
   less_unsigned = subst (λ (n : ℕ). n < b) (sym (remainder_is false)) (rem_below (pos a) (pos b) (omega (arith, some)))
 
+-- what a width gives: its bits can be read with a sign, and each number but the least has its negative
+record HasSigns (w : Width) : Type 0 where
+  read : (n : ℕ) → n ≤ ones w → IsRead w n
+  negated : (z : ℤ) → FitsSigned w z → cast_unsigned w z ≢ least w → FitsSigned w (neg_ℤ z)
+
+signs_64 : HasSigns w64
+signs_64 = record { read = read_64; negated = negated_64 }
+
+signs_32 : HasSigns w32
+signs_32 = record { read = read_32; negated = negated_32 }
+
+back : (w : Width) → HasSigns w → DividesBack w
+back w signs false a b o = back_unsigned w a b o.some
+back w signs true a b o =
+    let first = signs.read a o.dividend in
+    let second = signs.read b o.divisor in
+    back_signed w a b o.some first
+    (λ h. signs.negated (cast_signed w a) first.fits (λ e. o.fits refl (sym first.back ∙ e) (sym second.back ∙ ap (cast_unsigned w) h)))
+
+less : (w : Width) → HasSigns w → RemainderIsLess w
+less w signs false a b o = less_unsigned w a b o.some
+less w signs true a b o = less_signed w a b o.some (signs.read a o.dividend) (signs.read b o.divisor)
+
 pub back_64 : DividesBack w64
-back_64 false a b o = back_unsigned w64 a b o.some
-back_64 true a b o =
-    let first = read_64 a o.dividend in
-    let second = read_64 b o.divisor in
-    back_signed w64 a b o.some first
-    (λ h. negated_64 (cast_signed w64 a) first.fits (λ e. o.fits refl (sym first.back ∙ e) (sym second.back ∙ ap (cast_unsigned w64) h)))
+back_64 = back w64 signs_64
 
 pub back_32 : DividesBack w32
-back_32 false a b o = back_unsigned w32 a b o.some
-back_32 true a b o =
-    let first = read_32 a o.dividend in
-    let second = read_32 b o.divisor in
-    back_signed w32 a b o.some first
-    (λ h. negated_32 (cast_signed w32 a) first.fits (λ e. o.fits refl (sym first.back ∙ e) (sym second.back ∙ ap (cast_unsigned w32) h)))
+back_32 = back w32 signs_32
 
 pub less_64 : RemainderIsLess w64
-less_64 false a b o = less_unsigned w64 a b o.some
-less_64 true a b o = less_signed w64 a b o.some (read_64 a o.dividend) (read_64 b o.divisor)
+less_64 = less w64 signs_64
 
 pub less_32 : RemainderIsLess w32
-less_32 false a b o = less_unsigned w32 a b o.some
-less_32 true a b o = less_signed w32 a b o.some (read_32 a o.dividend) (read_32 b o.divisor)
+less_32 = less w32 signs_32

@@ -140,7 +140,7 @@ fn no_words(rt: HostRuntime) {
 }
 
 const HELP: &str = "\
-Control-flow integrity for RV64I programs
+Control-flow integrity for RV64IM programs
 
 Usage: rvcfi <COMMAND>
 
