@@ -1,5 +1,5 @@
-//! Tests of the machine through its public calls: the words of instructions, memory, system calls and steps,
-//! against values from outside. They stand beside the crates that they test, so that these are proved once.
+//! Tests of the machine through its public calls: memory, system calls and steps, against values from outside. They stand
+//! beside the crates that they test, so that these are proved once.
 #![tactic(auto)]
 
 #[cfg(test)]
@@ -7,8 +7,4 @@ mod machine;
 #[cfg(test)]
 mod memory;
 #[cfg(test)]
-mod rows;
-#[cfg(test)]
 mod system;
-#[cfg(test)]
-mod words;

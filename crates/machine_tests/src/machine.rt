@@ -1,8 +1,8 @@
-use crate::rows::{number, rows, word};
 use rv_code::decode;
 use rv_instr::{BranchOp, Instr, Reg};
 use rv_machine::{Change, Machine, Turn, branches};
 use rv_word::Image;
+use sample_programs::numbers::{number, rows, word};
 use sample_programs::{A, PROLOGUE, STATUS};
 use std::alloc::{AllocError, Global};
 

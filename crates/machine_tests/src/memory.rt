@@ -1,6 +1,6 @@
-use crate::rows::{name, number, rows};
 use rv_mem::{Change, LoadFault, Memory, WriteRefusal, region};
 use rv_word::{Image, Region};
+use sample_programs::numbers::{name, number, rows};
 use std::alloc::{AllocError, Global};
 use std::process::Abort;
 

@@ -19,5 +19,6 @@ pub use units::{
 mod bytes;
 mod data;
 mod graphs;
+pub mod numbers;
 mod tables;
 mod units;

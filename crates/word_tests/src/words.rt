@@ -1,9 +1,9 @@
-use crate::rows::{name, number, rows, word};
 use rv_code::{decode, encode, immediate_value};
 use rv_instr::{
     BranchOp, FenceWord, Immediate, ImmediateOp, Instr, LoadOp, Reg, RegisterOp, Regs, ShiftOp,
     ShiftWordOp, StoreOp, UpperOp,
 };
+use sample_programs::numbers::{name, number, rows, word};
 
 /// Words, a line each: the name, the word, the two registers in the order of the instruction's fields and
 /// the immediate field, in hexadecimal, as tests/words/table.py prints them.
