@@ -144,7 +144,7 @@ impl Section<'_> {
         requires below { index < word_count self.now }
         ensures { result ≡ is_pair self.now index }
     {
-        are_pair(self.instr(index), self.instr_after(index)) && self.has_pair_target(index)
+        self.has_pair_target(index) && are_pair(self.instr(index), self.instr_after(index))
     }
 
     /// Whether the word of code with this index is the JALR of a pair.

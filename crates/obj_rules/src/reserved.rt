@@ -1,10 +1,10 @@
-ghost use Rattle.std.specs.Prelude.{◌≡◌, ◌<◌, true, IfSome};
+ghost use Rattle.std.specs.Prelude.{◌≡◌, ◌<◌, ◌||◌, true, IfSome};
 ghost use Rattle.obj_input.specs.Input.{is_code, section_count};
 ghost use Rattle.obj_input.specs.Code.{word_count};
 ghost use Rattle.obj_rules.specs.Reserved.{is_reserved_at, is_reserved_name, names_reserved, reserved_in, reserved_word, some_reserved};
 
 use crate::fault::{ItemFault, found_at};
-use least::{Found, first_below, first_below_u64};
+use least::{Found, first_below_u64};
 use obj_input::{Input, Section};
 use rv_instr::{Instr, Reg};
 
@@ -17,12 +17,21 @@ fn is_reserved_name(instr: &Instr, number: u32) -> bool
     reg.is_reserved() && instr.names(reg)
 }
 
+/// Whether an instruction names one of the four registers that are reserved.
+fn names_one_of_four(instr: &Instr) -> bool
+    ensures { result ≡ (((is_reserved_name instr.now 3 || is_reserved_name instr.now 4) || is_reserved_name instr.now 30) || is_reserved_name instr.now 31) }
+{
+    is_reserved_name(instr, 3)
+        || is_reserved_name(instr, 4)
+        || is_reserved_name(instr, 30)
+        || is_reserved_name(instr, 31)
+}
+
 /// Whether an instruction names a reserved register.
-#[tactic(auto, unfolding(crate::specs::Reserved::some_reserved))]
 fn some_reserved(instr: &Instr) -> bool
     ensures { result ≡ some_reserved instr.now }
 {
-    first_below(32, |number| is_reserved_name(instr, number)).is_some()
+    names_one_of_four(instr)
 }
 
 /// Whether a word is an instruction that names a reserved register.
