@@ -19,7 +19,7 @@ fn site_table(alloc: Global, places: u64, sites: &[Site]) -> Result<Vec<Entry>, 
 {
     let mut table = blank(alloc, places)?;
     for i in 0..sites.len() {
-        note(&mut table, sites[i].place, i as u64);
+        note(&mut table, sites[i].place, i as u64)?;
     }
     Ok(table)
 }

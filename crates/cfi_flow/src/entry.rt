@@ -1,11 +1,12 @@
-ghost use Rattle.std.specs.Prelude.{◌≡◌, ◌<◌, Some, None};
+ghost use Rattle.std.specs.Prelude.{◌≡◌, Some, None, IfOk};
 
+use rv_word::NoMemory;
 use std::marker::Model;
 
-/// What a table has for a place: a number or none, in 64 bits.
+/// What a table has for a place: a number or none, in 32 bits.
 #[derive(Drop)]
 pub(crate) struct Entry {
-    next: u64,
+    next: u32,
 }
 
 impl Model for Entry {
@@ -25,13 +26,17 @@ impl Entry {
         Entry { next: 0 }
     }
 
-    /// A number.
+    /// A number. One that 32 bits do not hold wants memory.
     #[tactic(auto, using(crate::proofs::Entering::entered))]
-    pub(crate) fn of(number: u64) -> Entry
-        requires { number < u64.MAX }
-        ensures { result ≡ Some number }
+    pub(crate) fn of(number: u64) -> Result<Entry, NoMemory>
+        ensures { IfOk result (λ e. e ≡ Some number) }
     {
-        Entry { next: number + 1 }
+        if number < u64::from(u32::MAX) {
+            let next = number as u32 + 1;
+            Ok(Entry { next })
+        } else {
+            Err(NoMemory)
+        }
     }
 
     /// The number, if there is one.
@@ -41,7 +46,7 @@ impl Entry {
         if self.next == 0 {
             None
         } else {
-            Some(self.next - 1)
+            Some(u64::from(self.next - 1))
         }
     }
 }

@@ -56,7 +56,7 @@ pub(crate) fn lines_by_site(
     let mut table = blank(alloc, items.count())?;
     for j in 0..lines.len() {
         match free_site(items, table.as_slice(), &lines[j]) {
-            Some(k) => note(&mut table, k, j as u64),
+            Some(k) => note(&mut table, k, j as u64)?,
             None => return Err(FlowEnd::Policy(j as u64 + 2)),
         }
     }

@@ -1,6 +1,6 @@
 //! Tables by place.
 
-ghost use Rattle.std.specs.Prelude.{◌≡◌, ◌==◌, ◌<◌, ℕ, IfOk, length, None};
+ghost use Rattle.std.specs.Prelude.{◌≡◌, ◌==◌, ◌<◌, ℕ, IfOk, OnOk, length, None};
 ghost use Rattle.std.specs.List.{All};
 ghost use Rattle.cfi_flow.specs.Closed.{class_with, has};
 ghost use Rattle.cfi_flow.specs.Tables.{IsTable, entry, noted};
@@ -13,7 +13,7 @@ use std::alloc::Global;
 pub(crate) fn blank(alloc: Global, places: u64) -> Result<Vec<Entry>, NoMemory>
     ensures { IfOk result (λ v. IsTable (λ k. None) places v.items) }
 {
-    let mut table = Vec::new(alloc);
+    let mut table = Vec::with_capacity(alloc, places as usize)?;
     for _k in 0..places {
         table.push(Entry::none())?;
     }
@@ -21,27 +21,27 @@ pub(crate) fn blank(alloc: Global, places: u64) -> Result<Vec<Entry>, NoMemory>
 }
 
 /// Notes a number for a place, if none is noted there.
-pub(crate) fn note(table: &mut Vec<Entry>, place: u64, n: u64)
-    requires there { place < length table.old.items }
-    requires number { n < u64.MAX }
-    ensures size { length table.new.items ≡ length table.old.items }
-    ensures each { (k : ℕ) → entry table.new.items k ≡ noted (entry table.old.items k) (place == k) n }
+pub(crate) fn note(table: &mut Vec<Entry>, place: u64, n: u64) -> Result<(), NoMemory>
+    requires { place < length table.old.items }
+    ensures size { OnOk result (length table.new.items ≡ length table.old.items) }
+    ensures each { OnOk result ((k : ℕ) → entry table.new.items k ≡ noted (entry table.old.items k) (place == k) n) }
 {
     if table[place as usize].number().is_none() {
-        table[place as usize] = Entry::of(n);
+        table[place as usize] = Entry::of(n)?;
     }
+    Ok(())
 }
 
 /// Notes a number for each of these places at which none is noted.
-fn note_all(table: &mut Vec<Entry>, places: &[u64], n: u64)
-    requires there { All (λ t. t < length table.old.items) places.now }
-    requires number { n < u64.MAX }
-    ensures size { length table.new.items ≡ length table.old.items }
-    ensures each { (k : ℕ) → entry table.new.items k ≡ noted (entry table.old.items k) (has k places.now) n }
+fn note_all(table: &mut Vec<Entry>, places: &[u64], n: u64) -> Result<(), NoMemory>
+    requires { All (λ t. t < length table.old.items) places.now }
+    ensures size { OnOk result (length table.new.items ≡ length table.old.items) }
+    ensures each { OnOk result ((k : ℕ) → entry table.new.items k ≡ noted (entry table.old.items k) (has k places.now) n) }
 {
     for place in places {
-        note(table, *place, n);
+        note(table, *place, n)?;
     }
+    Ok(())
 }
 
 /// The table of the classes that have the places.
@@ -55,7 +55,7 @@ pub(crate) fn table_of(
 {
     let mut table = blank(alloc, places)?;
     for i in 0..classes.len() {
-        note_all(&mut table, classes[i].as_slice(), i as u64);
+        note_all(&mut table, classes[i].as_slice(), i as u64)?;
     }
     Ok(table)
 }

@@ -33,7 +33,7 @@ loop-j-preserved c =
       first_passed (is_wrong_line program lines) c.loop-j.j c.loop-j.invariant.0
           (is_right program lines c.loop-j.j c.loop-j.table.items c.loop-j.invariant.1 c.index-lines-j.result at c.in-Some.k found),
       more_lines program lines c.loop-j.j c.loop-j.table.items c.loop-j.invariant.1 c.index-lines-j.result at c.in-Some.k c.note.new.table.items
-          c.loop-j-test.true found c.note.ensures.size c.note.ensures.each,
+          c.loop-j-test.true found c.in_ok-note-in-Some.ensures.size c.in_ok-note-in-Some.ensures.each,
     )
 
 pub returns : goal.returns

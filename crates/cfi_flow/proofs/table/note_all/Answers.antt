@@ -6,19 +6,19 @@ use Rattle.cfi_flow.specs.Tables.{entry, noted}
 use Rattle.cfi_flow.proofs.Finding.{noted_twice}
 use Rattle.cfi_flow.proofs.table.note_all.Goals as goal
 
-pub note-requires-clause-there : goal.note-requires-clause-there
-note-requires-clause-there c =
-    let below = c.requires.there c.loop-place.place-index 0 c.loop-place-test.true in
+pub note-requires : goal.note-requires
+note-requires c =
+    let below = c.requires c.loop-place.place-index 0 c.loop-place-test.true in
     let same = c.loop-place.invariant.0 in omega arith
 
 pub loop-place-preserved : goal.loop-place-preserved
 loop-place-preserved c =
     let places = c.args.places.now in
     let i = c.loop-place.place-index in (
-      c.note.ensures.size ∙ c.loop-place.invariant.0,
+      c.in_ok-note.ensures.size ∙ c.loop-place.invariant.0,
       λ k.
           let old = entry c.args.table.now.items k in
-          c.note.ensures.each k ∙ ap (λ (o : Option ℕ). noted o (get_or places i 0 == k) c.args.n) (c.loop-place.invariant.1 k)
+          c.in_ok-note.ensures.each k ∙ ap (λ (o : Option ℕ). noted o (get_or places i 0 == k) c.args.n) (c.loop-place.invariant.1 k)
           ∙ noted_twice old (has k (take i places)) (get_or places i 0 == k) c.args.n
           ∙ ap (λ (b : Bool). noted old b c.args.n) (sym (list_any_more (λ t. t == k) places i 0 c.loop-place-test.true)),
     )
