@@ -9,6 +9,7 @@ pub mod Pushed
 mod Addresses
 mod Instructions
 mod Linking
+mod Without
 mod Lone
 pub mod Suited
 pub mod NoFault

@@ -41,7 +41,7 @@ module _ (input : InputParts) (p q : List Item) (same : (section offset : ℕ) �
     | inr other ↦ rw other refl
   ]
 
-  value_same : (d : Definition) (addend : ℤ) → value_of input p d addend ≡ value_of input q d addend
+  pub value_same : (d : Definition) (addend : ℤ) → value_of input p d addend ≡ value_of input q d addend
   value_same Zero addend = refl
   value_same (Absolute value) addend = refl
   value_same (Within k value) addend = section_same k value addend

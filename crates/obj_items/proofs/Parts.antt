@@ -3,11 +3,15 @@ use Rattle.std.proofs.Common.{◌≡◌, List, refl}
 use Rattle.obj_input.specs.declared.parts.Func.{Func}
 use Rattle.obj_input.specs.Input.{InputParts, Named}
 use Rattle.obj_input.specs.DataLayout.{data_layout_of}
+use Rattle.obj_program.specs.declared.item.DataReloc.{DataReloc}
 use Rattle.obj_items.specs.declared.program.Held.{Held}
 use Rattle.obj_items.specs.Contents.{AreContents}
+use Rattle.obj_items.specs.InitialData.{relocs_of}
+use Rattle.obj_items.specs.Outline.{outline}
 use Rattle.obj_items.specs.ProgramOf.{program_of}
 
-pub program_is : (input : InputParts) (held : Held) (funcs : List Func) (names : List Named) → AreContents input held → funcs ≡ input.funcs → names ≡ input.names
-    → record { items = held.items.items; init = held.init; relocations = held.relocations.items; data_end = held.data_end; funcs = funcs; names = names } ≡ program_of input
+pub program_is : (input : InputParts) (held : Held) (relocs : List DataReloc) (funcs : List Func) (names : List Named) → AreContents input held
+    → relocs ≡ relocs_of input (outline input) → funcs ≡ input.funcs → names ≡ input.names
+    → record { items = held.items.items; init = held.init; relocations = relocs; data_end = held.data_end; funcs = funcs; names = names } ≡ program_of input
 unfolding program_of data_layout_of
-program_is input held funcs names of f m = rw (of.items, of.init, of.relocations, of.data_end, f, m) refl
+program_is input held relocs funcs names of r f m = rw (of.items, of.init, r, of.data_end, f, m) refl

@@ -7,6 +7,7 @@ pub mod Values
 pub mod Links
 pub mod Linking
 pub mod InitialData
+pub mod Bare
 pub mod Contents
 pub mod ProgramOf
 pub mod Before

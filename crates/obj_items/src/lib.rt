@@ -8,6 +8,7 @@ pub use from_object::input_of;
 pub use item_end::ItemEnd;
 pub use program::items;
 
+mod bare;
 mod definitions;
 mod fault;
 mod from_object;

@@ -5,7 +5,7 @@ ghost use Rattle.obj_input.specs.Input.{acting_at, is_code, section_count, secti
 ghost use Rattle.obj_input.specs.Code.{word_count};
 ghost use Rattle.obj_input.specs.Kinds.{kind_of};
 ghost use Rattle.obj_input.specs.DataLayout.{data_layout_of};
-ghost use Rattle.obj_program.specs.Program.{AreInOrder, is_end, no_item};
+ghost use Rattle.obj_program.specs.Program.{AreInOrder, is_end, no_item, place_of};
 ghost use Rattle.obj_program.specs.Sound.{IsSound};
 ghost use Rattle.obj_items.specs.Links.{aimed_place, is_taken, item_with, linked, named_place, patch_by, patch_from, target_of};
 ghost use Rattle.obj_items.specs.Linking.{AreLinkedTo};
@@ -158,7 +158,9 @@ pub(crate) fn linked_places(
     requires places { places.items ≡ outline input.now }
     requires count { length taken.now ≡ length places.items }
     requires taken { (j : ℕ) → j < length places.items → slice_index_or taken.now j false ≡ is_taken input.now (slice_index_or places.items j no_item).section (slice_index_or places.items j no_item).offset }
-    ensures { result.items ≡ map (item_with input.now (outline input.now)) (outline input.now) }
+    ensures value { result.items ≡ map (item_with input.now (outline input.now)) (outline input.now) }
+    ensures found { (section offset : ℕ) → place_of result.items section offset ≡ place_of (outline input.now) section offset }
+    ensures order { AreInOrder result.items }
 {
     for j in 0..taken.len() {
         link_at(input, layout, &mut places, j, taken[j]);

@@ -1,7 +1,7 @@
-ghost use Rattle.std.specs.Prelude.{◌≡◌, None, IfOk, [], map};
+ghost use Rattle.std.specs.Prelude.{◌≡◌, ℕ, None, IfOk, [], map};
 ghost use Rattle.obj_input.specs.DataLayout.{data_layout_of};
 ghost use Rattle.obj_rules.specs.Fault.{fault_of};
-ghost use Rattle.obj_program.specs.Program.{AreInOrder};
+ghost use Rattle.obj_program.specs.Program.{AreInOrder, place_of};
 ghost use Rattle.obj_program.specs.Sound.{IsSound};
 ghost use Rattle.obj_items.specs.Contents.{AreContents};
 ghost use Rattle.obj_items.specs.FromObject.{input_of};
@@ -10,6 +10,7 @@ ghost use Rattle.obj_items.specs.Links.{item_with};
 ghost use Rattle.obj_items.specs.Outline.{outline};
 ghost use Rattle.obj_items.specs.ProgramOf.{program_of};
 
+use crate::bare::bare;
 use crate::from_object::input_of;
 use crate::init::init;
 use crate::item_end::ItemEnd;
@@ -20,17 +21,16 @@ use crate::relocs::relocs;
 use crate::taken::taken;
 use elf_object::Object;
 use obj_input::{DataLayout, Input};
-use obj_program::{InitialData, Items, PackedItem, PackedReloc};
+use obj_program::{InitialData, Items, PackedItem};
 use obj_rules::fault_of;
 use rv_word::NoMemory;
 use std::alloc::Global;
 
-/// What a program holds beside the symbols of its input.
+/// What a program holds beside the symbols of its input and the relocations of data.
 #[derive(Drop)]
 struct Held<'a> {
     items: Vec<PackedItem>,
     init: InitialData<'a>,
-    relocations: Vec<PackedReloc>,
     data_end: u128,
 }
 
@@ -45,7 +45,9 @@ fn with_links(
     requires places { places.items ≡ outline input.now }
     requires order { AreInOrder places.items }
     requires sound { IsSound (program_of input.now) }
-    ensures { IfOk result (λ v. v.items ≡ map (item_with input.now (outline input.now)) (outline input.now)) }
+    ensures value { IfOk result (λ v. v.items ≡ map (item_with input.now (outline input.now)) (outline input.now)) }
+    ensures found { IfOk result (λ v. (section offset : ℕ) → place_of v.items section offset ≡ place_of (outline input.now) section offset) }
+    ensures order { IfOk result (λ v. AreInOrder v.items) }
 {
     let marks = taken(alloc, input, &places)?;
     Ok(linked_places(input, layout, places, &marks))
@@ -64,13 +66,11 @@ fn contents<'a>(
     requires sound { IsSound (program_of input.now) }
     ensures { IfOk result (AreContents input.now) }
 {
-    let relocations = relocs(alloc, input, layout, &places)?;
     let items = with_links(alloc, input, layout, places)?;
     let init = init(alloc, input, layout)?;
     Ok(Held {
         items,
         init,
-        relocations,
         data_end: layout.data_end(),
     })
 }
@@ -92,22 +92,26 @@ fn contents_of<'a>(
     contents(alloc, input, &layout, places)
 }
 
-/// The program of an input without a fault, whose places are put where there are none.
+/// The program of an object whose input has no fault, and whose places are put where there are none. What the input says of
+/// relocations is let go before those of data are listed.
 fn program_of<'a>(
     alloc: Global,
+    object: &Object<'a>,
     input: Input<'a>,
     room: Vec<PackedItem>,
 ) -> Result<Items<'a>, NoMemory>
+    requires input { input ≡ input_of object.now }
     requires right { fault_of input ≡ None }
     requires room { room.items ≡ [] }
     ensures { IfOk result (λ p. p ≡ program_of input.entry) }
 {
     let contents = contents_of(alloc, &input, room)?;
+    let bare = bare(alloc, &input)?;
     let (names, funcs) = input.into_symbols();
+    let relocations = relocs(alloc, object, &bare, &contents.items)?;
     let Held {
         items,
         init,
-        relocations,
         data_end,
     } = contents;
     Ok(Items::of(items, init, relocations, data_end, funcs, names))
@@ -124,6 +128,6 @@ pub fn items<'a>(alloc: Global, object: &Object<'a>) -> Result<Items<'a>, ItemEn
     let room = room(alloc, &input)?;
     match fault_of(&input) {
         Some(fault) => Err(ItemEnd::Refused(fault)),
-        None => Ok(program_of(alloc, input, room)?),
+        None => Ok(program_of(alloc, object, input, room)?),
     }
 }

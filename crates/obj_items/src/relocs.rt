@@ -1,16 +1,26 @@
 //! The relocations of initialised data.
 
-ghost use Rattle.std.specs.Prelude.{◌≡◌, ◌++◌, ◌+◌, ◌-◌, ◌<◌, IfOk, OnOk};
+ghost use Rattle.std.specs.Prelude.{◌≡◌, ◌++◌, ◌+◌, ◌-◌, ◌<◌, ℕ, IfOk, OnOk};
 ghost use Rattle.std.specs.List.{flat_map};
+ghost use Rattle.least.specs.Nearest.{joined};
+ghost use Rattle.elf_tables.specs.Header.{e_shnum};
 ghost use Rattle.rv_word.specs.MemoryMap.{DATA_START};
-ghost use Rattle.obj_input.specs.Input.{section_count, section_of};
+ghost use Rattle.obj_input.specs.Input.{section_count};
 ghost use Rattle.obj_input.specs.DataLayout.{data_layout_of, section_address};
-ghost use Rattle.obj_program.specs.Program.{AreInOrder};
-ghost use Rattle.obj_items.specs.InitialData.{reloc_of, relocs_of, section_relocs};
+ghost use Rattle.obj_program.specs.Program.{AreInOrder, place_of};
+ghost use Rattle.obj_items.specs.Bare.{bare, bare_relocs};
+ghost use Rattle.obj_items.specs.Definitions.{definitions_of};
+ghost use Rattle.obj_items.specs.FromObject.{input_of};
+ghost use Rattle.obj_items.specs.InitialData.{reloc_of, relocs_of};
+ghost use Rattle.obj_items.specs.Outline.{outline};
+ghost use Rattle.obj_items.specs.Sections.{uses_of};
 
+use crate::definitions::definitions;
 use crate::init::section_address;
+use crate::sections::uses;
 use crate::values::use_value;
-use obj_input::{DataLayout, Input, RelocKind, Relocation};
+use elf_object::Object;
+use obj_input::{DataLayout, Definition, Input, RelocKind, Relocation};
 use obj_program::{DataReloc, PackedItem, PackedReloc};
 use rv_word::NoMemory;
 use rv_word::memory_map::DATA_START;
@@ -54,43 +64,91 @@ fn push_reloc(
     Ok(())
 }
 
-/// Puts the relocations of the section of data with the index `k` behind others.
-fn push_section(
+/// Puts what these relocations of the section with the index `k` are behind others.
+fn push_relocs(
     relocs: &mut Vec<PackedReloc>,
     input: &Input,
     layout: &DataLayout,
     places: &[PackedItem],
     k: u32,
+    uses: &[Relocation],
 ) -> Result<(), NoMemory>
-    requires below { k < section_count input.now }
     requires order { AreInOrder places.now }
     requires layout { layout.now ≡ data_layout_of input.now }
-    ensures { OnOk result (relocs.new.items ≡ relocs.old.items ++ flat_map (reloc_of input.now places.now k) (section_of input.now k).uses) }
+    ensures { OnOk result (relocs.new.items ≡ relocs.old.items ++ flat_map (reloc_of input.now places.now k) uses.now) }
 {
-    let uses = input.section(k).uses();
     for u in uses {
         push_reloc(relocs, input, layout, places, k, u)?;
     }
     Ok(())
 }
 
-/// The relocations of initialised data, in the order of sections and then of their tables.
-#[tactic(auto, unfolding(crate::specs::InitialData::relocs_of))]
-pub(crate) fn relocs(
+/// Puts the relocations of the section with the index `k` behind others. They are read from the object, and let go.
+fn push_section(
     alloc: Global,
+    relocs: &mut Vec<PackedReloc>,
+    object: &Object,
+    definitions: &[Definition],
     input: &Input,
     layout: &DataLayout,
     places: &[PackedItem],
-) -> Result<Vec<PackedReloc>, NoMemory>
+    k: u32,
+) -> Result<(), NoMemory>
+    requires below { k < e_shnum object.now }
+    requires definitions { definitions.now ≡ definitions_of object.now }
     requires order { AreInOrder places.now }
     requires layout { layout.now ≡ data_layout_of input.now }
-    ensures { IfOk result (λ v. v.items ≡ relocs_of input.now places.now) }
+    ensures { OnOk result (relocs.new.items ≡ relocs.old.items ++ flat_map (reloc_of input.now places.now k) (uses_of object.now k)) }
 {
+    let uses = uses(alloc, object, definitions, k)?;
+    push_relocs(relocs, input, layout, places, k, &uses)?;
+    Ok(())
+}
+
+/// The relocations of the sections of data of an object, where an input without relocations says what is data.
+fn all_relocs(
+    alloc: Global,
+    object: &Object,
+    input: &Input,
+    places: &[PackedItem],
+) -> Result<Vec<PackedReloc>, NoMemory>
+    requires order { AreInOrder places.now }
+    requires count { section_count input.now ≡ e_shnum object.now }
+    ensures { IfOk result (λ v. v.items ≡ joined (bare_relocs input.now object.now places.now) (section_count input.now)) }
+{
+    let definitions = definitions(alloc, object)?;
+    let layout = DataLayout::of(alloc, input)?;
     let mut relocs = Vec::new(alloc);
     for k in 0..input.section_count() {
         if input.section(k).is_data() {
-            push_section(&mut relocs, input, layout, places, k)?;
+            push_section(
+                alloc,
+                &mut relocs,
+                object,
+                &definitions,
+                input,
+                &layout,
+                places,
+                k,
+            )?;
         }
     }
+    Ok(relocs)
+}
+
+/// The relocations of initialised data, in the order of sections and then of their tables. They are read from the object once
+/// more, so that the input need not be kept beside them.
+pub(crate) fn relocs(
+    alloc: Global,
+    object: &Object,
+    input: &Input,
+    places: &[PackedItem],
+) -> Result<Vec<PackedReloc>, NoMemory>
+    requires order { AreInOrder places.now }
+    requires found { (section offset : ℕ) → place_of places.now section offset ≡ place_of (outline (input_of object.now)) section offset }
+    requires input { input.now ≡ bare (input_of object.now) }
+    ensures { IfOk result (λ v. v.items ≡ relocs_of (input_of object.now) (outline (input_of object.now))) }
+{
+    let relocs = all_relocs(alloc, object, input, places)?;
     Ok(relocs)
 }

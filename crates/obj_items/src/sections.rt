@@ -59,7 +59,7 @@ fn with_definition(reloc: &Reloc, definition: Definition) -> Relocation
 }
 
 /// The relocations of the section with this index.
-fn uses(
+pub(crate) fn uses(
     alloc: Global,
     object: &Object,
     definitions: &[Definition],

@@ -4,13 +4,19 @@ use Rattle.obj_program.specs.Sound.{IsSound}
 use Rattle.obj_items.proofs.Parts.{program_is}
 use Rattle.obj_items.proofs.program.program_of.Goals as goal
 
+pub relocs-requires-clause-found : goal.relocs-requires-clause-found
+relocs-requires-clause-found c = rw (c.deref.ensures.value, ← c.requires.input) c.in_ok-contents.ensures.contents.found
+
 pub of-requires : goal.of-requires
 of-requires c =
     subst (λ (p : Program). IsSound p)
-    (sym (program_is c.args.input c.in_ok-contents.contents _ _ c.in_ok-contents.ensures.contents c.into_symbols-names.ensures.funcs c.into_symbols-names.ensures.names))
+    (sym
+    (program_is c.args.input c.in_ok-contents.contents _ _ _ c.in_ok-contents.ensures.contents (rw (← c.requires.input) at c.in_ok-relocations.ensures)
+    c.into_symbols-names.ensures.funcs c.into_symbols-names.ensures.names))
     c.in_ok-contents.ensures.sound
 
 pub returns : goal.returns
 returns c =
     c.of.ensures
-    ∙ program_is c.args.input c.in_ok-contents.contents _ _ c.in_ok-contents.ensures.contents c.into_symbols-names.ensures.funcs c.into_symbols-names.ensures.names
+    ∙ program_is c.args.input c.in_ok-contents.contents _ _ _ c.in_ok-contents.ensures.contents (rw (← c.requires.input) at c.in_ok-relocations.ensures)
+    c.into_symbols-names.ensures.funcs c.into_symbols-names.ensures.names
