@@ -1,7 +1,6 @@
 -- An input without its relocations has the same data in the same places, so a relocation of data comes to the same with either.
-use Rattle.std.proofs.Common.{◌≡◌, ℕ, ℤ, zero, suc, pos, ◌+◌, ◌+ℤ◌, ◌<◌, ◌≤◌, get_or, Bool, false, List, [], ◌∷◌, ◌++◌, length, map, take, inl, inr, refl, sym, ap, ◌∙◌, arith}
-use Rattle.std.specs.List.{flat_map}
-use Rattle.std.proofs.lemmas.Bool.{cases_Bool, cases_lt}
+use Rattle.std.proofs.Common.{◌≡◌, ℕ, ℤ, zero, suc, ◌<◌, Bool, List, map, inl, inr, refl, sym, ap, ◌∙◌, arith}
+use Rattle.std.proofs.lemmas.Bool.{cases_lt}
 use Rattle.std.proofs.lemmas.List.{get_or-map, get_or_past, length-map}
 use Rattle.std.proofs.Math.Path.{fun_ext}
 use Rattle.rv_word.specs.MemoryMap.{DATA_START}
@@ -14,17 +13,16 @@ use Rattle.obj_input.specs.declared.parts.Definition.TheVariants.{Zero, Absolute
 use Rattle.obj_input.specs.declared.reloc_kind.RelocKind.{RelocKind}
 use Rattle.obj_input.specs.declared.reloc_kind.RelocKind.TheVariants.{Nothing, Mark, BranchTarget, JalTarget, PairTarget, RelativeHigh, RelativeLowI, RelativeLowS, High, LowI, LowS, InData, Unknown}
 use Rattle.obj_input.specs.Kinds.{kind_of}
-use Rattle.obj_input.specs.Input.{InputParts, SectionParts, is_code, is_data_sort, is_zeros_sort, no_section, section_count, section_of}
+use Rattle.obj_input.specs.Input.{InputParts, SectionParts, is_data_sort, is_zeros_sort, no_section, section_count, section_of}
 use Rattle.obj_input.specs.DataLayout.{block_address, blocks_reach, init_end, reach, section_address, zeros_end}
 use Rattle.obj_program.specs.declared.item.DataReloc.{DataReloc}
 use Rattle.obj_program.specs.declared.item.Item.{Item}
-use Rattle.obj_program.specs.declared.item.Value.{Value}
 use Rattle.obj_program.specs.Program.{place_of}
 use Rattle.obj_items.specs.Bare.{bare, bare_relocs, bare_section}
 use Rattle.obj_items.specs.FromObject.{input_of}
 use Rattle.obj_items.specs.InitialData.{reloc_by, reloc_of, relocs_of, section_relocs}
 use Rattle.obj_items.specs.Sections.{section_in, uses_of}
-use Rattle.obj_items.specs.Values.{section_value, use_value, value_of}
+use Rattle.obj_items.specs.Values.{section_value, value_of}
 use Rattle.obj_items.proofs.Linking.{value_same}
 use Rattle.obj_items.proofs.Steps.{listed_count, listed_read}
 
