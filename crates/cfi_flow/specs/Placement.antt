@@ -1,8 +1,9 @@
 -- Placements: where the unit of each place stands. Units stand one after another from the address after the prologue, each behind a
 -- gate word where its place is some class's target; a section's end has a stop.
-use Rattle.std.specs.Prelude.{◌≡◌, ℕ, ◌+◌, Bool, true, if◌then◌else◌, List, [], ◌∷◌, slice_index, slice_index_or}
+use Rattle.std.specs.Prelude.{◌≡◌, ℕ, ◌+◌, ◌*◌, Bool, true, if◌then◌else◌, List, [], ◌∷◌, slice_index, slice_index_or}
 use Rattle.std.specs.List.{list_any}
 use Rattle.rv_word.specs.MemoryMap.{UNITS_START}
+use Rattle.rv_word.specs.declared.unit_words.TheConstants as counts
 use Rattle.obj_input.specs.declared.item_kind.ItemKind.{ItemKind}
 use Rattle.obj_input.specs.declared.item_kind.ItemKind.TheVariants as is
 use Rattle.obj_program.specs.declared.item.Item.{Item}
@@ -10,12 +11,12 @@ use Rattle.cfi_flow.specs.Closed.{has}
 
 -- how many bytes the unit of a kind of place has; a short branch is one word, a long one a word and a jump
 abbrev pub size_of : ItemKind → Bool → ℕ
-size_of is.Store long = 16
-size_of is.Branch long = if long then 8 else 4
-size_of is.Call long = 32
-size_of is.Return long = 20
-size_of is.Ijump long = 52
-size_of is.Icall long = 80
+size_of is.Store long = 4 * counts.STORE_WORDS
+size_of is.Branch long = if long then 4 * counts.BRANCH_WORDS else 4
+size_of is.Call long = 4 * counts.CALL_WORDS
+size_of is.Return long = 4 * counts.RETURN_WORDS
+size_of is.Ijump long = 4 * counts.IJUMP_WORDS
+size_of is.Icall long = 4 * counts.ICALL_WORDS
 size_of other long = 4
 
 -- whether the branch at a place is long; beyond the end of the flags each is

@@ -9,6 +9,9 @@ use cfi_flow::Closed;
 use obj_input::ItemKind;
 use obj_program::Items;
 use rv_word::NoMemory;
+use rv_word::unit_words::{
+    BRANCH_WORDS, CALL_WORDS, ICALL_WORDS, IJUMP_WORDS, RETURN_WORDS, STORE_WORDS,
+};
 use std::alloc::Global;
 
 /// Whether a place is some class's target.
@@ -30,12 +33,12 @@ fn unit_size(kind: ItemKind) -> u32
     ensures { result ≡ size_of kind true }
 {
     match kind {
-        ItemKind::Store => 16,
-        ItemKind::Branch => 8,
-        ItemKind::Call => 32,
-        ItemKind::Return => 20,
-        ItemKind::Ijump => 52,
-        ItemKind::Icall => 80,
+        ItemKind::Store => 4 * STORE_WORDS,
+        ItemKind::Branch => 4 * BRANCH_WORDS,
+        ItemKind::Call => 4 * CALL_WORDS,
+        ItemKind::Return => 4 * RETURN_WORDS,
+        ItemKind::Ijump => 4 * IJUMP_WORDS,
+        ItemKind::Icall => 4 * ICALL_WORDS,
         _ => 4,
     }
 }

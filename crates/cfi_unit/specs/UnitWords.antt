@@ -2,6 +2,7 @@
 -- x31 are scratch; no plain unit's instruction writes one of these four.
 use Rattle.std.specs.Prelude.{◌≡◌, ℕ, ◌+◌, ◌-◌, ◌*◌, ◌/◌, ◌%◌, ◌^◌, ◌<◌, ◌==◌, ◌&&◌, Bool, true, false, not, IsTrue, List, [], ◌∷◌, ◌++◌, map, take, drop, ◌≢◌, Option, Some, slice_get, option_and_then}
 use Rattle.rv_word.specs.Bits.{wrap}
+use Rattle.rv_word.specs.declared.unit_words.TheConstants as counts
 use Rattle.rv_instr.specs.InRange.{IsInstr}
 use Rattle.rv_instr.specs.Reserved.{is_reserved}
 use Rattle.rv_instr.specs.declared.instr.Instr.{Instr}
@@ -177,16 +178,16 @@ Fits V.Return at = Reaches (at + 12) BAD_RETURN
 abbrev pub word_count : U.Unit → ℕ
 word_count (V.Gate label) = 1
 word_count (V.Plain instr) = 1
-word_count (V.Branch op rs1 rs2 target) = 2
+word_count (V.Branch op rs1 rs2 target) = counts.BRANCH_WORDS
 word_count (V.Near op rs1 rs2 target) = 1
 word_count (V.Jump target) = 1
 word_count V.Stop = 1
 word_count (V.System op) = 1
-word_count (V.Store op rs1 rs2 imm) = 4
-word_count (V.Call target) = 8
-word_count (V.Ijump rs1 imm label) = 13
-word_count (V.Icall rs1 imm label) = 20
-word_count V.Return = 5
+word_count (V.Store op rs1 rs2 imm) = counts.STORE_WORDS
+word_count (V.Call target) = counts.CALL_WORDS
+word_count (V.Ijump rs1 imm label) = counts.IJUMP_WORDS
+word_count (V.Icall rs1 imm label) = counts.ICALL_WORDS
+word_count V.Return = counts.RETURN_WORDS
 
 -- the address after it
 abbrev pub after_unit : U.Unit → ℕ → ℕ

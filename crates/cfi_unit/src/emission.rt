@@ -11,6 +11,9 @@ use crate::template::unit_code;
 use crate::unit::Unit;
 use rv_instr::{Instr, UpperOp};
 use rv_word::NoMemory;
+use rv_word::unit_words::{
+    BRANCH_WORDS, CALL_WORDS, ICALL_WORDS, IJUMP_WORDS, RETURN_WORDS, STORE_WORDS,
+};
 use std::alloc::Global;
 
 /// The words of a unit at an address.
@@ -45,12 +48,12 @@ pub(crate) fn count(unit: &Unit) -> u32
         | Unit::Jump(_)
         | Unit::Stop
         | Unit::System(_) => 1,
-        Unit::Branch(..) => 2,
-        Unit::Store(..) => 4,
-        Unit::Return => 5,
-        Unit::Call(_) => 8,
-        Unit::Ijump(..) => 13,
-        Unit::Icall(..) => 20,
+        Unit::Branch(..) => BRANCH_WORDS,
+        Unit::Store(..) => STORE_WORDS,
+        Unit::Return => RETURN_WORDS,
+        Unit::Call(_) => CALL_WORDS,
+        Unit::Ijump(..) => IJUMP_WORDS,
+        Unit::Icall(..) => ICALL_WORDS,
     }
 }
 

@@ -25,3 +25,4 @@ mod no_memory;
 mod places;
 pub mod profile;
 mod region;
+pub mod unit_words;
