@@ -1,6 +1,7 @@
 -- What a demonstration needs of a hardened program: its program runs at its map, and no run of that differs from the image's.
 use Rattle.std.proofs.Common.{◌≡◌, ℕ, List, [], Option, ap, refl, subst, sym, unwrap_or}
 use Rattle.rv_word.specs.Image.{Contents}
+use Rattle.rv_word.specs.MemoryMap.{version_1}
 use Rattle.cfi_graph.specs.declared.map.MapLine.{MapLine}
 use Rattle.cfi_flow.specs.GraphAtMap.{ProgramAtMap, program_at}
 use Rattle.cfi_flow.specs.LegalMap.{gates_of}
@@ -55,9 +56,9 @@ no_difference program runs.limited result none is difference = subst IsDifferenc
 
 module _ (p : PreparedParts) (map : List MapLine) (image : Contents) where
   pub answer_at : (run : SourceParts) (answer : Compared) → IsSourceOn p map [] run
-      → answer ≡ told_answer run.layout.program (runs.compared run.layout image [] STEP_LIMIT) → IsAnswerAt p map image answer
+      → answer ≡ told_answer run.layout.program (runs.compared version_1 run.layout image [] STEP_LIMIT) → IsAnswerAt p map image answer
   answer_at run answer on told =
-      subst (λ (l : ProgramAtMap). answer ≡ told_answer l.program (runs.compared l image [] STEP_LIMIT)) on.layout told
+      subst (λ (l : ProgramAtMap). answer ≡ told_answer l.program (runs.compared version_1 l image [] STEP_LIMIT)) on.layout told
 
   module _ (answer : Compared) (is : IsAnswerAt p map image answer) where
     pub compared_at : (request : Request) → IsPrepared request p → CanRunAt p map → IsComparedAt request map image answer
@@ -66,4 +67,4 @@ module _ (p : PreparedParts) (map : List MapLine) (image : Contents) where
     pub never_told : NoneDiffers p map image → IsDifference answer → ⊥
     never_told never =
         let l = program_at p.program p.closed (gates_of map) p.entry in
-        no_difference p.program (runs.compared l image [] STEP_LIMIT) answer (never [] STEP_LIMIT) is
+        no_difference p.program (runs.compared version_1 l image [] STEP_LIMIT) answer (never [] STEP_LIMIT) is

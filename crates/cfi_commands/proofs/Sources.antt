@@ -1,5 +1,6 @@
 -- A program at the map that a text spells, and what comes of it and of a file that should be an image.
 use Rattle.std.proofs.Common.{◌≡◌, ◌+◌, ◌≤◌, ◌<◌, ℕ, List, Option, None, Some, Ok, Err, inl, inr, sym, subst, arith}
+use Rattle.rv_word.specs.MemoryMap.{version_1}
 use Rattle.rv_word.proofs.Cases.{cases_Option}
 use Rattle.rv_word.specs.MemoryMap.{DATA_END, DATA_START}
 use Rattle.text_lines.specs.declared.reason.Reason.{Reason}
@@ -115,7 +116,7 @@ module _ (request : Request) (p : PreparedParts) (map : List ℕ) (roomy : IsRoo
     runnable = runnable_source input run source;
     map_is = source.map_is;
     image_is = is.image_is;
-    result_is = subst (λ (l : ProgramAtMap). result ≡ told_answer l.program (compared l is.contents input limit)) source.layout is.result_is;
+    result_is = subst (λ (l : ProgramAtMap). result ≡ told_answer l.program (compared version_1 l is.contents input limit)) source.layout is.result_is;
   }
 
   -- what comes of the program's run from its start, whatever the file is that should be an image

@@ -2,6 +2,7 @@
 -- program at the map. The word `none` for POLICY or INPUT means no file.
 use Rattle.std.specs.Prelude.{◌≡◌, ℕ, ◌⊎◌, List, [], ◌∷◌, ◌++◌, codes, ⊤, Option, Some, None, option_map, Ok, Err}
 use Rattle.rv_word.specs.Image.{Contents}
+use Rattle.rv_word.specs.MemoryMap.{version_1}
 use Rattle.text_lines.specs.declared.end.TextEnd.TheVariants.{Line}
 use Rattle.elf_image.specs.Fault.{fault_of}
 use Rattle.elf_image.specs.declared.refusal.ImageRefusal.{ImageRefusal}
@@ -126,7 +127,7 @@ pub record IsFresh (input : List ℕ) (run : SourceParts) : Type 0 where
 pub record IsResult (run : SourceParts) (image input : List ℕ) (limit : ℕ) (result : A.Compared) : Type 0 where
   pub contents : Contents
   pub image_is : IsImage image contents
-  pub result_is : result ≡ told_answer run.layout.program (compared run.layout contents input limit)
+  pub result_is : result ≡ told_answer run.layout.program (compared version_1 run.layout contents input limit)
 
 abbrev pub IsImageCompared : SourceParts → List ℕ → List ℕ → ℕ → CompareOutcome → Type 0
 IsImageCompared run image input limit (outcome.Refused (Image refusal)) = fault_of image ≡ Some refusal
@@ -141,7 +142,7 @@ pub record IsComparison (request : asks.Request) (image map input : List ℕ) (l
   pub runnable : IsRunnable request program map
   pub map_is : IsMapOf program map lines
   pub image_is : IsImage image contents
-  pub result_is : result ≡ told_answer program.program (compared (program_at program.program program.closed (gates_of lines) program.entry) contents input limit)
+  pub result_is : result ≡ told_answer program.program (compared version_1 (program_at program.program program.closed (gates_of lines) program.entry) contents input limit)
 
 abbrev pub IsCompareOf : asks.Request → List ℕ → List ℕ → List ℕ → ℕ → CompareOutcome → Type 0
 IsCompareOf request image map input limit (outcome.Refused refusal) = IsCompareRefused request image map refusal

@@ -3,6 +3,7 @@
 use Rattle.std.specs.Prelude.{◌≡◌, ℕ, List, [], ◌∷◌, ◌++◌, length, codes, count_by, ⊤, Option, None}
 use Rattle.std.specs.Fmt.{decimal}
 use Rattle.rv_word.specs.Image.{Contents}
+use Rattle.rv_word.specs.MemoryMap.{version_1}
 use Rattle.elf_image.specs.Spelling.{spelling}
 use Rattle.elf_writer.specs.Object.{object_bytes}
 use Rattle.cfi_graph.specs.Graph.{is_class, is_site}
@@ -56,7 +57,7 @@ pub record IsComparedAt (request : asks.Request) (map : List MapLine) (image : C
   pub program : PreparedParts
   pub prepared : IsPrepared request program
   pub map_is : IsLegalMap program.program program.closed map
-  pub result_is : result ≡ told_answer program.program (compared (program_at program.program program.closed (gates_of map) program.entry) image [] STEP_LIMIT)
+  pub result_is : result ≡ told_answer program.program (compared version_1 (program_at program.program program.closed (gates_of map) program.entry) image [] STEP_LIMIT)
 
 abbrev pub IsExit : RunEnd → Type 0
 IsExit (ends.Exit status) = ⊤

@@ -1,6 +1,7 @@
 -- Words of private contracts: a generated object as a request, and a map at which its program runs.
 use Rattle.std.specs.Prelude.{◌≡◌, ℕ, List, [], length, ⊤, None}
 use Rattle.rv_word.specs.Image.{Contents, IsImageSize}
+use Rattle.rv_word.specs.MemoryMap.{version_1}
 use Rattle.elf_image.specs.Spelling.{spelling}
 use Rattle.elf_writer.specs.Object.{object_bytes}
 use Rattle.cfi_graph.specs.declared.map.MapLine.{MapLine}
@@ -40,7 +41,7 @@ pub record IsSourceOn (p : PreparedParts) (map : List MapLine) (input : List ℕ
 -- an answer is that of a program's run without input at a map, beside an image's
 abbrev pub IsAnswerAt : PreparedParts → List MapLine → Contents → Compared → Type 0
 IsAnswerAt p map image answer =
-    answer ≡ told_answer p.program (compared (program_at p.program p.closed (gates_of map) p.entry) image [] STEP_LIMIT)
+    answer ≡ told_answer p.program (compared version_1 (program_at p.program p.closed (gates_of map) p.entry) image [] STEP_LIMIT)
 
 -- an image is the one that a file spells
 pub record IsImageIn (bytes : List ℕ) (image : Contents) : Type 0 where

@@ -47,8 +47,8 @@ run_asked r = record { image = r.image.now; graph = r.graph.now; script = option
 -- a report of a safe pair's run under the changes of a script
 pub record IsSafeRun (image : Contents) (graph : GraphParts) (script : Changes) (input : List ℕ) (limit : ℕ) (report : RunReport) : Type 0 where
   pub well_formed : IsWellFormed version_1 image graph
-  pub safe : IsSafe image graph
-  pub report_is : IsReport image input (planned version_1 (script_plan script) 0 start_hart (start_shared image input) limit) report
+  pub safe : IsSafe version_1 image graph
+  pub report_is : IsReport version_1 image input (planned version_1 (script_plan script) 0 (start_hart 0) (start_shared image input) limit) report
 
 -- the pair is rejected, or it is run
 abbrev pub IsRunOfPair : Contents → GraphParts → Changes → List ℕ → ℕ → RunOutcome → Type 0

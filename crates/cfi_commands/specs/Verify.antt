@@ -34,7 +34,7 @@ verify_asked r = record { image = r.image.now; graph = r.graph.now }
 
 -- accepted: the pair meets every rule, and is safe; rejected: by the first rule that fails
 abbrev pub IsJudgement : Contents → GraphParts → Verdict → Type 0
-IsJudgement image graph Accepted = IsWellFormed version_1 image graph × IsSafe image graph
+IsJudgement image graph Accepted = IsWellFormed version_1 image graph × IsSafe version_1 image graph
 IsJudgement image graph (Refused refusal) = ⊥
 IsJudgement image graph (Rejected reject) = IsRejected version_1 image graph reject
 

@@ -2,7 +2,7 @@
 use Rattle.std.proofs.Common.{◌≡◌, Bool, true, false, ℕ, zero, suc, ◌+◌, ◌<◌, ◌≤◌, List, [], ◌∷◌, length, slice_get, Option, Some, None, option_map, is_some, if◌then◌else◌, refl, sym, ap, ◌∙◌, arith, inl, inr}
 use Rattle.std.proofs.lemmas.Bool.{cases_lt}
 use Rattle.rv_word.specs.Image.{Contents}
-use Rattle.rv_word.specs.MemoryMap.{version_1}
+use Rattle.rv_word.specs.MemoryMap.{Profile}
 use Rattle.cfi_flow.specs.GraphAtMap.{ProgramAtMap}
 use Rattle.cfi_flow.specs.Source.{Source}
 use Rattle.cfi_kept.specs.PlacesKept.{bound}
@@ -291,12 +291,12 @@ module _ (p : Program) where
       let place : offset ≡ here.offset = cc in
       rw (reason, part, place) refl
 
-module _ (layout : ProgramAtMap) (state : Source) (image : Contents) (input : List ℕ) (limit : ℕ) where
+module _ (p : Profile) (layout : ProgramAtMap) (state : Source) (image : Contents) (input : List ℕ) (limit : ℕ) where
   abbrev r : compared.SourceRun
   r = source_run layout limit state
 
   pub compared_untame : (because : Reason) (section offset : ℕ) → ends.Untame because section offset ≡ told layout.program r.turn →
-      answers.Untame because section offset ≡ told_answer layout.program (compared.compared_from layout state image input limit)
+      answers.Untame because section offset ≡ told_answer layout.program (compared.compared_from p layout state image input limit)
   unfolding compared.compared_from
   compared_untame because section offset e = untame_answer layout.program r.turn because section offset _ _ e
 
@@ -309,16 +309,16 @@ module _ (layout : ProgramAtMap) (state : Source) (image : Contents) (input : Li
 
   pub compared_tame : (told_turn : SourceTurn) (es : List Event) (steps : ℕ) (answer : Compared) → told_turn ≡ told layout.program r.turn →
       ((because : Reason) (section offset : ℕ) → told_turn ≡ ends.Untame because section offset → ⊥) →
-      es ≡ r.state.shared.events → steps ≡ r.steps → IsAnswered es told_turn (undisturbed version_1 image input (bound steps)) answer →
-      answer ≡ told_answer layout.program (compared.compared_from layout state image input limit)
+      es ≡ r.state.shared.events → steps ≡ r.steps → IsAnswered es told_turn (undisturbed p image input (bound p steps)) answer →
+      answer ≡ told_answer layout.program (compared.compared_from p layout state image input limit)
   unfolding compared.compared_from
   compared_tame t es steps answer e tame events count is =
-      let moved : IsAnswered r.state.shared.events t (undisturbed version_1 image input (bound r.steps)) answer = rw (events, count) at is in
-      tame_answer layout.program r.turn t r.state.shared.events (undisturbed version_1 image input (bound r.steps)) answer e (told_tame r.turn t e tame) moved
+      let moved : IsAnswered r.state.shared.events t (undisturbed p image input (bound p r.steps)) answer = rw (events, count) at is in
+      tame_answer layout.program r.turn t r.state.shared.events (undisturbed p image input (bound p r.steps)) answer e (told_tame r.turn t e tame) moved
 
 -- a comparison from a state that is another
-pub from_same : (layout : ProgramAtMap) (state start : Source) (image : Contents) (input : List ℕ) (limit : ℕ) (answer : Compared) → state ≡ start
-    → answer ≡ told_answer layout.program (compared.compared_from layout state image input limit)
-    → answer ≡ told_answer layout.program (compared.compared_from layout start image input limit)
-from_same layout state start image input limit answer begun is =
-    is ∙ ap (λ (s : Source). told_answer layout.program (compared.compared_from layout s image input limit)) begun
+pub from_same : (p : Profile) (layout : ProgramAtMap) (state start : Source) (image : Contents) (input : List ℕ) (limit : ℕ) (answer : Compared) → state ≡ start
+    → answer ≡ told_answer layout.program (compared.compared_from p layout state image input limit)
+    → answer ≡ told_answer layout.program (compared.compared_from p layout start image input limit)
+from_same p layout state start image input limit answer begun is =
+    is ∙ ap (λ (s : Source). told_answer layout.program (compared.compared_from p layout s image input limit)) begun

@@ -1,13 +1,14 @@
 -- An image's run that is under way: one step of it, and the system calls that are alike so far.
 use Rattle.std.proofs.Common.{◌≡◌, true, false, ℕ, zero, suc, ◌+◌, ◌-◌, ◌<◌, ◌≤◌, List, [], ◌∷◌, ◌++◌, length, replicate, slice_get, Option, Some, None, append-nil, refl, sym, ap, ◌∙◌, arith}
 use Rattle.std.proofs.lemmas.Option.{slice_get_past, slice_get_within}
-use Rattle.rv_word.specs.MemoryMap.{version_1}
-use Rattle.rv_code.specs.Run.{ByteChange, next_or_stop, run}
+use Rattle.rv_word.specs.MemoryMap.{Profile}
+use Rattle.rv_code.specs.Run.{ByteChange, next_or_stop, run, run_alone}
 use Rattle.rv_code.specs.State.{After, Hart, Shared}
 use Rattle.rv_code.specs.Step.{step}
 use Rattle.rv_code.specs.declared.event.Event.{Event}
 use Rattle.rv_code.specs.declared.turn.Turn.{Turn}
 use Rattle.rv_code.specs.declared.turn.Turn.TheVariants.{Ran, Exit, Break, LoadFault, StoreFault, FetchFault, Illegal}
+use Rattle.rv_code.proofs.Alone.{alone_next}
 use Rattle.rv_code.proofs.Continued.{events_added}
 use Rattle.rv_machine.specs.Parts.{Parts, after_step, hart_in, shared_in}
 use Rattle.cfi_compare.specs.Followed.{Agree, agree_at, both_same, is_stop}
@@ -26,15 +27,15 @@ next_adds (FetchFault pc) a rest more = ([], sym (append-nil a.shared.events))
 next_adds (Illegal pc) a rest more = ([], sym (append-nil a.shared.events))
 
 -- a run of one step makes the system calls of the step
-one_step : (turn : Turn) (a : After) → (next_or_stop turn a (run version_1 a.hart a.shared [])).shared.events ≡ a.shared.events
+one_step : (p : Profile) (turn : Turn) (a : After) → (next_or_stop turn a (run_alone p a.hart a.shared [])).shared.events ≡ a.shared.events
 unfolding run
-one_step Ran a = refl
-one_step (Exit status) a = refl
-one_step (Break pc) a = refl
-one_step (LoadFault pc v) a = refl
-one_step (StoreFault pc v) a = refl
-one_step (FetchFault pc) a = refl
-one_step (Illegal pc) a = refl
+one_step p Ran a = refl
+one_step p (Exit status) a = refl
+one_step p (Break pc) a = refl
+one_step p (LoadFault pc v) a = refl
+one_step p (StoreFault pc v) a = refl
+one_step p (FetchFault pc) a = refl
+one_step p (Illegal pc) a = refl
 
 next_stop : (turn : Turn) (a rest : After) → is_stop turn ≡ true → next_or_stop turn a rest ≡ a
 next_stop Ran a rest e = absurd (cc)
@@ -54,30 +55,31 @@ next_ran (StoreFault pc v) a rest e = absurd (cc)
 next_ran (FetchFault pc) a rest e = absurd (cc)
 next_ran (Illegal pc) a rest e = absurd (cc)
 
-module _ (h : Hart) (s : Shared) (now : Parts) (turn : Turn) (stepped : after_step now turn ≡ step version_1 h s) where
+module _ (p : Profile) (h : Hart) (s : Shared) (now : Parts) (turn : Turn) (stepped : after_step now turn ≡ step p h s) where
   abbrev rest_of : ℕ → List (List ByteChange)
   rest_of n = replicate {A = List ByteChange} n []
 
-  run_step : (n : ℕ) → run version_1 h s (rest_of (suc n)) ≡ next_or_stop turn (after_step now turn) (run version_1 (hart_in now) (shared_in now) (rest_of n))
-  unfolding run
-  run_step n = rw (sym stepped) refl
+  run_step : (n : ℕ) → run_alone p h s (rest_of (suc n)) ≡ next_or_stop turn (after_step now turn) (run_alone p (hart_in now) (shared_in now) (rest_of n))
+  run_step n =
+      alone_next p h s [] (rest_of n)
+      ∙ ap (λ (a : After). next_or_stop a.turn a (run_alone p a.hart a.shared (rest_of n))) (sym stepped)
 
-  pub run_goes : (n : ℕ) → is_stop turn ≡ false → run version_1 h s (rest_of (suc n)) ≡ run version_1 (hart_in now) (shared_in now) (rest_of n)
+  pub run_goes : (n : ℕ) → is_stop turn ≡ false → run_alone p h s (rest_of (suc n)) ≡ run_alone p (hart_in now) (shared_in now) (rest_of n)
   run_goes n goes = run_step n ∙ next_ran turn (after_step now turn) _ goes
 
-  pub run_stops : (n : ℕ) → is_stop turn ≡ true → run version_1 h s (rest_of (suc n)) ≡ after_step now turn
+  pub run_stops : (n : ℕ) → is_stop turn ≡ true → run_alone p h s (rest_of (suc n)) ≡ after_step now turn
   run_stops n stops = run_step n ∙ next_stop turn (after_step now turn) _ stops
 
-  pub run_adds : (n : ℕ) → Adds (shared_in now).events (run version_1 h s (rest_of (suc n))).shared.events
+  pub run_adds : (n : ℕ) → Adds (shared_in now).events (run_alone p h s (rest_of (suc n))).shared.events
   run_adds n =
-      let more = next_adds turn (after_step now turn) (run version_1 (hart_in now) (shared_in now) (rest_of n)) (events_added version_1 (hart_in now) (shared_in now) (rest_of n)) in
+      let more = next_adds turn (after_step now turn) (run_alone p (hart_in now) (shared_in now) (rest_of n)) (events_added p (hart_in now) (shared_in now) (rest_of n)) in
       (more.0, ap (λ (a : After). a.shared.events) (run_step n) ∙ more.1)
 
   -- a step only adds to the system calls
   pub step_adds : Adds s.events (shared_in now).events
   step_adds =
-      let more = events_added version_1 h s (rest_of 1) in
-      let one = ap (λ (a : After). a.shared.events) (run_step 0) ∙ one_step turn (after_step now turn) in
+      let more = events_added p h s (rest_of 1) in
+      let one = ap (λ (a : After). a.shared.events) (run_step 0) ∙ one_step p turn (after_step now turn) in
       (more.0, sym one ∙ more.1)
 
 pub get_more : (xs ys : List Event) (i : ℕ) (x : Event) → slice_get xs i ≡ Some x → slice_get (xs ++ ys) i ≡ Some x
@@ -112,15 +114,15 @@ pub none_past : (n : ℕ) (ours theirs : List Event) → length theirs ≤ n →
 none_past n ours theirs past = rw (slice_get_past theirs n past) (same_none (slice_get ours n))
 
 -- what is left of a run after some of its steps, the next of them apart
-pub next_left : (h : Hart) (s : Shared) (whole : After) (most steps : ℕ) → whole ≡ run version_1 h s (replicate {A = List ByteChange} (most - steps) []) → steps < most →
-    whole ≡ run version_1 h s (replicate {A = List ByteChange} (suc (most - (steps + 1))) [])
-next_left h s whole most steps left less =
+pub next_left : (p : Profile) (h : Hart) (s : Shared) (whole : After) (most steps : ℕ) → whole ≡ run_alone p h s (replicate {A = List ByteChange} (most - steps) []) → steps < most →
+    whole ≡ run_alone p h s (replicate {A = List ByteChange} (suc (most - (steps + 1))) [])
+next_left p h s whole most steps left less =
     let same : most - steps ≡ suc (most - (steps + 1)) = omega arith in
-    left ∙ ap (λ (k : ℕ). run version_1 h s (replicate {A = List ByteChange} k [])) same
+    left ∙ ap (λ (k : ℕ). run_alone p h s (replicate {A = List ByteChange} k [])) same
 
-pub none_left : (h : Hart) (s : Shared) (whole : After) (most steps : ℕ) → whole ≡ run version_1 h s (replicate {A = List ByteChange} (most - steps) []) → most ≤ steps →
+pub none_left : (p : Profile) (h : Hart) (s : Shared) (whole : After) (most steps : ℕ) → whole ≡ run_alone p h s (replicate {A = List ByteChange} (most - steps) []) → most ≤ steps →
     whole ≡ record { hart = h; shared = s; turn = Ran }
 unfolding run
-none_left h s whole most steps left past =
+none_left p h s whole most steps left past =
     let same : most - steps ≡ 0 = omega arith in
-    left ∙ ap (λ (k : ℕ). run version_1 h s (replicate {A = List ByteChange} k [])) same
+    left ∙ ap (λ (k : ℕ). run_alone p h s (replicate {A = List ByteChange} k [])) same

@@ -2,7 +2,7 @@
 
 ghost use Rattle.std.specs.Prelude.{◌≡◌, ◌≤◌, ◌^◌, [], IfOk, is_some, option_map, replicate, slice_get};
 ghost use Rattle.rv_word.specs.MemoryMap.{version_1};
-ghost use Rattle.rv_code.specs.Run.{run};
+ghost use Rattle.rv_code.specs.Run.{run_alone};
 ghost use Rattle.rv_machine.specs.Parts.{hart_in, shared_in};
 ghost use Rattle.src_machine.specs.Running.{source_of};
 ghost use Rattle.cfi_flow.specs.Source.{source_start};
@@ -79,7 +79,7 @@ fn with_machine(
     requires few { steps ≤ 2 ^ 58 }
     requires none { (shared_in machine.old).events ≡ [] }
     ensures { IfOk result (λ answer. IsAnswered events.now turn
-        (run version_1 (hart_in machine.old) (shared_in machine.old) (replicate (bound steps) [])) answer) }
+        (run_alone version_1 (hart_in machine.old) (shared_in machine.old) (replicate (bound version_1 steps) [])) answer) }
 {
     let (end, index) = follow(machine, events, 21 * steps + 13)?;
     let answer = answer_at(alloc, index, events, turn, machine.system().events(), end)?;
@@ -96,7 +96,7 @@ fn with_image(
     input: &[u8],
 ) -> Result<Compared, NoMemory>
     requires { steps ≤ 2 ^ 58 }
-    ensures { IfOk result (λ answer. IsAnswered events.now turn (undisturbed version_1 image.now input.now (bound steps)) answer) }
+    ensures { IfOk result (λ answer. IsAnswered events.now turn (undisturbed version_1 image.now input.now (bound version_1 steps)) answer) }
 {
     let mut machine = Machine::new(alloc, image, input)?;
     with_machine(alloc, events, turn, steps, &mut machine)
@@ -116,11 +116,11 @@ pub fn compare(
 
     // The answer is that of the definition, from the run's own state.
     ensures compared { IfOk result (λ answer. answer
-        ≡ told_answer source.old.layout.program (compared_from source.old.layout (source_of source.old) image.now input.now limit)) }
+        ≡ told_answer source.old.layout.program (compared_from version_1 source.old.layout (source_of source.old) image.now input.now limit)) }
 
     // So it is the comparison of a program and an image where the run is at its start, with the same input.
     ensures from_start { source_of source.old ≡ source_start source.old.layout input.now
-        → IfOk result (λ answer. answer ≡ told_answer source.old.layout.program (compared source.old.layout image.now input.now limit)) }
+        → IfOk result (λ answer. answer ≡ told_answer source.old.layout.program (compared version_1 source.old.layout image.now input.now limit)) }
 
     // The program's run is where its own steps have led it, also where there was no memory.
     ensures own { IsOwnState source.old limit source.new }

@@ -2,7 +2,7 @@
 
 ghost use Rattle.std.specs.Prelude.{◌≡◌, ◌≤◌, ◌^◌, [], false, IfOk, replicate};
 ghost use Rattle.rv_word.specs.MemoryMap.{version_1};
-ghost use Rattle.rv_code.specs.Run.{run};
+ghost use Rattle.rv_code.specs.Run.{run_alone};
 ghost use Rattle.rv_machine.specs.Parts.{hart_in, shared_in};
 ghost use Rattle.cfi_compare.specs.Followed.{Agree, IsFollowed, agree_at, is_stop};
 
@@ -50,7 +50,7 @@ pub(crate) fn follow(
 ) -> Result<(Turn, usize), NoMemory>
     requires { (shared_in machine.old).events ≡ [] }
     ensures { IfOk result (λ r. IsFollowed events.now
-        (run version_1 (hart_in machine.old) (shared_in machine.old) (replicate most []))
+        (run_alone version_1 (hart_in machine.old) (shared_in machine.old) (replicate most []))
         (shared_in machine.new).events r.0 r.1) }
 {
     let mut steps = 0;

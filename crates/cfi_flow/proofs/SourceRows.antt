@@ -2,7 +2,7 @@
 -- gates and counts of steps are worked out by hand.
 use Rattle.std.proofs.Common.{◌≡◌, ℕ, ◌+◌, ◌-◌, ◌^◌, true, false, List, [], ◌∷◌, Option, Some, None, length, replicate, pos, refl}
 use Rattle.std.specs.Prelude.{option_map}
-use Rattle.rv_word.specs.MemoryMap.{CLOSING, version_1}
+use Rattle.rv_word.specs.MemoryMap.{version_1}
 use Rattle.rv_word.specs.Memory.{placed, write}
 use Rattle.rv_instr.specs.Registers.{set_reg}
 use Rattle.rv_code.specs.Decode.{decoded}
@@ -124,7 +124,7 @@ at_the_end = (refl, refl)
 abbrev with_link : ℕ → Source → Source
 with_link value st = record st { regs = set_reg st.regs 1 value }
 
-wrong_return : (seen (λ st. (source_step seven (with_link (CLOSING + 1) st)).turn) seven 1 ≡ Some (untame why.Return 1))
+wrong_return : (seen (λ st. (source_step seven (with_link (version_1.closing + 1) st)).turn) seven 1 ≡ Some (untame why.Return 1))
     × (seen (λ st. (source_step seven (with_link 0x40000044 st)).turn) seven 1 ≡ Some (untame why.Return 1))
     × (seen (λ st. (source_step seven (with_pending 1 st)).turn) seven 1 ≡ Some (untame why.Return 1))
 unfolding source_step after_steps decoded instr_at words_from last_exit data_at

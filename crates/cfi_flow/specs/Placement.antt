@@ -47,6 +47,10 @@ AreGates classes long k at (item ∷ items) (gate ∷ gates) =
     (gate ≡ at) × AreGates classes long (k + 1) (at + gate_size classes k + size_of item.kind (is_long long k)) items gates
 AreGates classes long k at items gates = ⊥
 
--- the gates of a placement with some branches short
+-- the gates of a placement with some branches short, whose first unit stands at an address
+abbrev pub IsLegalFrom : ℕ → List (List ℕ) → List Item → List ℕ → Type 0
+IsLegalFrom from classes items gates = (long : List Bool) × AreGates classes long 0 from items gates
+
+-- and of one that is written for one hart
 abbrev pub IsLegal : List (List ℕ) → List Item → List ℕ → Type 0
-IsLegal classes items gates = (long : List Bool) × AreGates classes long 0 UNITS_START items gates
+IsLegal classes items gates = IsLegalFrom UNITS_START classes items gates

@@ -1,5 +1,5 @@
--- Two of the worked programs are accepted, one with a short branch and one with a class and a site, so what holds of each accepted choice
--- holds of their code.
+-- Two of the worked programs are accepted, one with a short branch, also as an image for several harts, and one with a class and a site,
+-- so what holds of each accepted choice holds of their code.
 use Rattle.std.proofs.Common.{◌≡◌, ℕ, zero, suc, ◌+◌, ◌^◌, ◌<◌, ◌||◌, inl, inr, Bool, true, false, [], ◌∷◌, Some, length, refl, sym, ap, subst, ◌∙◌, lit<, lit≤, arith, Contains, All, get_or, not, ◌==◌, slice_get, eqb-true}
 use Rattle.std.specs.Prelude.{is_some, nat_lt, slice_index_or}
 use Rattle.std.proofs.lemmas.Bool.{agree_below, agree_below_at, ltb-true}
@@ -13,6 +13,7 @@ use Rattle.cfi_class.specs.Classes.{IsIn}
 use Rattle.cfi_class.specs.Labels.{AreLabels}
 use Rattle.std.specs.List.Sorted.{IsStrictlyIncreasing}
 use Rattle.cfi_flow.specs.declared.closed.Site.{Site}
+use Rattle.cfi_flow.specs.GraphAtMap.{ProgramAtMap}
 use Rattle.cfi_flow.specs.Labels.{used_labels}
 use Rattle.cfi_flow.specs.LabelOf.{empty_classes, label_at, site_number}
 use Rattle.cfi_flow.specs.Placement.{AreGates, is_long, words_from}
@@ -21,7 +22,7 @@ use Rattle.cfi_unit.specs.UnitWords.{words_of}
 use Rattle.cfi_verify.specs.Placed.{code_from}
 use Rattle.cfi_harden.specs.Accepted.{IsAccepted, IsShortAt, is_branch}
 use Rattle.cfi_harden.specs.Units.{units_from}
-use Rattle.cfi_harden.proofs.WrittenRows.{pointer, short}
+use Rattle.cfi_harden.proofs.WrittenRows.{pointer, short, short_of_harts}
 
 -- what a test finds of each of the four places
 each : (test : ℕ → Bool) → agree_below test (λ k. true) 4 ≡ true → (k : ℕ) → k < 4 → test k ≡ true
@@ -55,20 +56,18 @@ values_there false some e f = e
 none_some : (b : Bool) → (b ≡ false) → b ≡ true → ⊥
 none_some b e f = let wrong : false ≡ true = sym e ∙ f in absurd (cc)
 
-one_short : (k target : ℕ) → k < count short.layout.program → is_branch (item_of short.layout.program k).kind ≡ true → is_long short.long k ≡ false →
-    (item_of short.layout.program k).target ≡ Some target → IsShortAt short.layout k target
-one_short zero target below branch flag some =
-    let same : 2 ≡ target = same_Some 2 target some in
-    subst (λ (t : ℕ). IsShortAt short.layout 0 t) same (record { back = lit≤ tt; ahead = lit≤ tt; free = refl })
-one_short (suc zero) target below branch flag some = absurd (cc)
-one_short (suc (suc zero)) target below branch flag some = absurd (cc)
-one_short (suc (suc (suc zero))) target below branch flag some = absurd (cc)
-one_short (suc (suc (suc (suc k)))) target below branch flag some = absurd (cc)
+one_short : (layout : ProgramAtMap) (k target : ℕ) → is_branch (item_of short.layout.program k).kind ≡ true →
+    (item_of short.layout.program k).target ≡ Some target → IsShortAt layout 0 2 → IsShortAt layout k target
+one_short layout zero target branch some is = subst (λ (t : ℕ). IsShortAt layout 0 t) (same_Some 2 target some) is
+one_short layout (suc zero) target branch some is = absurd (cc)
+one_short layout (suc (suc zero)) target branch some is = absurd (cc)
+one_short layout (suc (suc (suc zero))) target branch some is = absurd (cc)
+one_short layout (suc (suc (suc (suc k)))) target branch some is = absurd (cc)
 
 pub short_accepted : IsAccepted short
 unfolding AreGates decoded instr_at words_from units_from code_from words_of code_of label_at site_number empty_classes
 short_accepted = record {
-  profile = refl;
+  profile = inl refl;
   sound = sound;
   words = λ k below. ltb-true (item_of short.layout.program k).word (2 ^ 32) (each (λ n. nat_lt (item_of short.layout.program n).word (2 ^ 32)) refl k below);
   last = (3, refl, refl);
@@ -88,7 +87,32 @@ short_accepted = record {
   labels = λ k below. absurd (omega arith);
   labels_rise = λ k below. absurd (omega arith);
   labels_small = λ k d below. absurd (omega arith);
-  shorts = one_short;
+  shorts = λ k target below branch flag some. one_short short.layout k target branch some (record { back = lit≤ tt; ahead = lit≤ tt; free = refl });
+}
+
+pub short_of_harts_accepted : IsAccepted short_of_harts
+unfolding AreGates decoded instr_at words_from units_from code_from words_of code_of label_at site_number empty_classes
+short_of_harts_accepted = record {
+  profile = inr refl;
+  sound = sound;
+  words = short_accepted.words;
+  last = (3, refl, refl);
+  entry_there = lit< tt;
+  legal = (refl, (refl, (refl, (refl, tt))));
+  room = lit≤ tt;
+  values = λ k below some. values_there (is_end (item_of short_of_harts.layout.program k).kind)
+      (is_some (instr_at short_of_harts.layout.program short_of_harts.layout.gates (words_from short_of_harts.layout.closed.classes 0 short_of_harts.layout.gates) k))
+      (each (λ n. is_end (item_of short_of_harts.layout.program n).kind || is_some (instr_at short_of_harts.layout.program short_of_harts.layout.gates (words_from short_of_harts.layout.closed.classes 0 short_of_harts.layout.gates) n)) refl k below) some;
+  members = short_accepted.members;
+  rising = short_accepted.rising;
+  apart = short_accepted.apart;
+  sites = short_accepted.sites;
+  site_classes = short_accepted.site_classes;
+  counted = refl;
+  labels = short_accepted.labels;
+  labels_rise = short_accepted.labels_rise;
+  labels_small = short_accepted.labels_small;
+  shorts = λ k target below branch flag some. one_short short_of_harts.layout k target branch some (record { back = lit≤ tt; ahead = lit≤ tt; free = refl });
 }
 
 -- what a test finds of each of the thirteen places of the other program
@@ -164,7 +188,7 @@ label_below (suc k) d below = absurd (omega arith)
 pub pointer_accepted : IsAccepted pointer
 unfolding AreGates decoded instr_at words_from units_from code_from words_of code_of label_at site_number empty_classes
 pointer_accepted = record {
-  profile = refl;
+  profile = inl refl;
   sound = pointer_sound;
   words = λ k below. ltb-true (item_of pointer.layout.program k).word (2 ^ 32) (each_of (λ n. nat_lt (item_of pointer.layout.program n).word (2 ^ 32)) refl k below);
   last = (12, refl, refl);

@@ -1,15 +1,14 @@
 -- A placement in which no value leaves its range, with labels, makes an accepted choice of a program with its closed graph.
-use Rattle.std.proofs.Common.{◌≡◌, ℕ, ◌+◌, ◌-◌, ◌*◌, ◌≤◌, ◌<◌, Bool, true, false, List, length, Option, Some, None, refl, subst, arith}
-use Rattle.std.specs.Prelude.{◌&&◌, not, is_none, is_some}
+use Rattle.std.proofs.Common.{◌≡◌, ℕ, ◌+◌, ◌-◌, ◌*◌, ◌≤◌, ◌<◌, inl, Bool, true, false, List, length, Option, Some, None, refl, subst, arith}
+use Rattle.std.specs.Prelude.{◌&&◌, not, is_none, is_some, sum}
 use Rattle.std.proofs.lemmas.List.{length-append}
-use Rattle.rv_word.specs.MemoryMap.{CODE_SIZE, UNITS_START, version_1}
+use Rattle.rv_word.specs.MemoryMap.{CODE_SIZE, CODE_START, IsProfile}
 use Rattle.obj_program.specs.AtMap.{instr_at}
 use Rattle.obj_program.specs.DataAtMap.{data_at}
 use Rattle.obj_program.specs.Program.{Program, count, is_end, item_of}
 use Rattle.obj_program.specs.Range.{out_of_range}
 use Rattle.obj_program.specs.Sound.{IsSound}
 use Rattle.obj_program.proofs.Exact.{none_out_of_range}
-use Rattle.cfi_layout.specs.Starts.{code_size}
 use Rattle.cfi_flow.specs.Closed.{ClosedGraph}
 use Rattle.cfi_flow.specs.LabelOf.{empty_classes}
 use Rattle.cfi_flow.specs.Placement.{is_long, size_of, words_from}
@@ -49,15 +48,15 @@ pub data_there : (program : Program) (gates words : List ℕ) → out_of_range p
 data_there program gates words none = ((none_out_of_range program gates words).0 none).1
 
 -- the code has room where the parts have
-pub room_there : (m : Choice) → length m.layout.closed.classes ≤ length m.labels → IsSound m.layout.program →
+pub room_there : (m : Choice) → IsProfile m.layout.profile → length m.layout.closed.classes ≤ length m.labels → IsSound m.layout.program →
     ((k : ℕ) → k < count m.layout.program → is_end (item_of m.layout.program k).kind ≡ false →
     is_some (instr_at m.layout.program m.layout.gates (words_from m.layout.closed.classes 0 m.layout.gates) k) ≡ true) →
-    code_size (part_sizes m.layout.closed.classes m.long 0 m.layout.program.items) ≤ CODE_SIZE →
-    4 * length (placed_code version_1 (entry_gate m) (units m)) ≤ CODE_SIZE
-room_there m few sound values room =
-    let whole = length-placed_code (entry_gate m) (units m) in
+    m.layout.profile.units_from - CODE_START + sum (part_sizes m.layout.closed.classes m.long 0 m.layout.program.items) ≤ CODE_SIZE →
+    4 * length (placed_code m.layout.profile (entry_gate m) (units m)) ≤ CODE_SIZE
+room_there m is few sound values room =
+    let whole = length-placed_code m.layout.profile is (entry_gate m) (units m) in
     let zero_more : (n : ℕ) → n ≡ 0 + n = λ n. omega arith in
-    let bytes = bytes_are m 0 UNITS_START m.layout.program.items few
+    let bytes = bytes_are m 0 m.layout.profile.units_from m.layout.program.items few
     (λ i item get. subst (λ (n : ℕ). size_of item.kind (is_long m.long n) ≡ 4 * word_count (unit_for m n item)) (zero_more i) (size_is m sound values i item get)) in
     omega arith
 
@@ -88,13 +87,13 @@ module _ (p : PreparedParts) (ready : IsReady p) (s : Spaced) (fitting : IsFitti
   accepted =
       let (lines, raw, is, of) = ready.graph in
       record {
-        profile = refl;
+        profile = inl refl;
         sound = ready.sound;
         words = ready.words;
         last = let below = ready.entered in last_there p.program (omega arith) ready.last;
         entry_there = ready.entered;
         legal = fitting.placed.legal;
-        room = room_there (chosen p s labels) labels_suffice ready.sound values fitting.placed.size;
+        room = room_there (chosen p s labels) (inl refl) labels_suffice ready.sound values fitting.placed.size;
         values = values;
         members = λ c k h. members_there p.program lines raw p.closed is of k (c, h);
         rising = of.classes.rising;

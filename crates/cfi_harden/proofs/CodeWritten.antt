@@ -15,7 +15,7 @@ use Rattle.cfi_harden.specs.Prologue.{before_call}
 
 pub prologue_words : (entry : ℕ) (call first second third : List ℕ) → call ≡ words_of (V.Call entry) (START + 12)
     → code_words first ≡ code_words [] ++ map code_of before_call → code_words second ≡ code_words first ++ call
-    → code_words third ≡ code_words second ++ map code_of closing_instrs → code_words third ≡ map code_of (prologue_instrs entry)
+    → code_words third ≡ code_words second ++ map code_of closing_instrs → code_words third ≡ map code_of (prologue_instrs version_1 entry)
 unfolding words_of code_words
 prologue_words entry call first second third call_is first_is second_is third_is =
     let two : code_words second ≡ (code_words [] ++ map code_of before_call) ++ words_of (V.Call entry) (START + 12) =
@@ -77,13 +77,13 @@ module _ (whole : List ℕ) (unit : U.Unit) (rest : List U.Unit) (bytes : List �
         fit = subst (λ a. AllFit a rest) after written.fit.1;
       }
 
-pub first_written : (entry : ℕ) (units : List U.Unit) (bytes : List ℕ) → code_words bytes ≡ map code_of (prologue_instrs entry) → length bytes ≡ 64
+pub first_written : (entry : ℕ) (units : List U.Unit) (bytes : List ℕ) → code_words bytes ≡ map code_of (prologue_instrs version_1 entry) → length bytes ≡ 64
     → AllFit version_1.units_from units → IsWritten (placed_code version_1 entry units) units bytes
 first_written entry units bytes words size fit =
     let at : version_1.units_from ≡ CODE_START + length bytes = omega arith in
     record {
       words = ap (λ ws. ws ++ code_from (CODE_START + length bytes) units) words
-          ∙ ap (λ a. map code_of (prologue_instrs entry) ++ code_from a units) (sym at);
+          ∙ ap (λ a. map code_of (prologue_instrs version_1 entry) ++ code_from a units) (sym at);
       size = size ∙ sym (let all = ap length words in omega arith);
       fit = subst (λ a. AllFit a units) at fit;
     }

@@ -2,7 +2,7 @@
 use Rattle.std.proofs.Common.{◌≡◌, ◌≢◌, ℕ, ◌+◌, ◌*◌, ◌%◌, ◌^◌, ◌≤◌, ◌<◌, Bool, true, false, refl, sym, ap, ◌∙◌, arith}
 use Rattle.std.specs.Prelude.{◌&&◌, ◌||◌, ◌==◌, not}
 use Rattle.std.proofs.lemmas.Bool.{and_from, and_parts, not-true, or_parts}
-use Rattle.rv_word.specs.MemoryMap.{CODE_SIZE, CODE_START, UNITS_START}
+use Rattle.rv_word.specs.MemoryMap.{CODE_SIZE, CODE_START, START}
 use Rattle.rv_instr.specs.InRange.{IsInstr}
 use Rattle.rv_instr.specs.Reserved.{is_reserved}
 use Rattle.rv_instr.specs.declared.instr.Instr.{Instr}
@@ -82,7 +82,7 @@ reach from to a b =
     let round_to = b.round in
     near_reached from to (omega arith) (omega arith) (omega arith) (omega arith) (omega arith)
 
-in_code : (a n : ℕ) → UNITS_START ≤ a → a + n < CODE_START + CODE_SIZE → a % 4 ≡ 0 → n % 4 ≡ 0 → IsInCode (a + n)
+in_code : (a n : ℕ) → START ≤ a → a + n < CODE_START + CODE_SIZE → a % 4 ≡ 0 → n % 4 ≡ 0 → IsInCode (a + n)
 in_code a n low high round times = record { from = omega arith; to = high; round = omega arith }
 
 bad_target_in : IsInCode BAD_TARGET
@@ -94,9 +94,9 @@ bad_return_in = record { from = omega arith; to = omega arith; round = refl }
 deep_in : IsInCode DEEP
 deep_in = record { from = omega arith; to = omega arith; round = refl }
 
--- where a direct transfer leads
+-- where a direct transfer leads: past the handlers
 pub record IsThere (target : ℕ) : Type 0 where
-  pub from : UNITS_START ≤ target
+  pub from : START ≤ target
   pub to : target + 4 ≤ CODE_START + CODE_SIZE
   pub round : target % 4 ≡ 0
 
@@ -109,7 +109,7 @@ target_in_code target there =
 no_handler : (target : ℕ) → IsThere target → target ≢ BAD_TARGET
 no_handler target there e = let from = there.from in absurd (omega arith)
 
-pub near_target : (a target : ℕ) → UNITS_START ≤ a → a < CODE_START + CODE_SIZE → a % 4 ≡ 0 → IsThere target → a ≤ target + 4096 → target ≤ a + 4092 → IsNear a target
+pub near_target : (a target : ℕ) → START ≤ a → a < CODE_START + CODE_SIZE → a % 4 ≡ 0 → IsThere target → a ≤ target + 4096 → target ≤ a + 4092 → IsNear a target
 near_target a target low high round there back ahead =
     let from = there.from in
     let to = there.to in
@@ -117,7 +117,7 @@ near_target a target low high round there back ahead =
     branch_reached a target (omega arith) (omega arith) (omega arith) (omega arith) (omega arith)
 
 pub unit_fits : (kind : ItemKind) (i : Instr) (long : Bool) (target label a : ℕ) → is_right kind i ≡ true → IsInstr i → label < 2 ^ 20 →
-    UNITS_START ≤ a → a + 4 * word_count (unit_of kind i long target label) ≤ CODE_START + CODE_SIZE → a % 4 ≡ 0 → (is_direct kind ≡ true → IsThere target) →
+    START ≤ a → a + 4 * word_count (unit_of kind i long target label) ≤ CODE_START + CODE_SIZE → a % 4 ≡ 0 → (is_direct kind ≡ true → IsThere target) →
     (is_branch kind ≡ true → long ≡ false → (a ≤ target + 4096) × (target ≤ a + 4092)) → Fits (unit_of kind i long target label) a
 unit_fits is.Gate (I.Upper op rd imm) long target label a right range small low high round there near = range.1
 unit_fits is.Plain i long target label a right range small low high round there near = (range, plain_is i right)

@@ -5,7 +5,7 @@ use Rattle.std.proofs.lemmas.Bool.{and_from, and_parts, cases_lt, cases_order, e
 use Rattle.std.proofs.lemmas.List.{get_or_past}
 use Rattle.std.proofs.lemmas.Option.{get_or_from_slice_get, same_Some}
 use Rattle.rv_word.specs.Bits.{wrap}
-use Rattle.rv_word.specs.MemoryMap.{UNITS_START}
+use Rattle.rv_word.specs.MemoryMap.{START}
 use Rattle.rv_word.proofs.Cases.{cases_Option}
 use Rattle.rv_instr.specs.declared.instr.Instr.{Instr}
 use Rattle.rv_instr.specs.declared.instr.Instr.TheVariants as I
@@ -28,7 +28,7 @@ use Rattle.cfi_harden.specs.Units.{Choice, instr_of, unit_for, unit_of, units}
 use Rattle.cfi_harden.proofs.Fitting.{IsThere, near_target, unit_fits}
 use Rattle.cfi_harden.proofs.Labelled.{labelled}
 use Rattle.cfi_harden.proofs.Runs.{IsUnit, gate_word, label_of, own, target_labelled}
-use Rattle.cfi_harden.proofs.Standing.{at_gate, found, gate_after, gate_lies, gate_there, gates_rise, instr_in_range, labels_suffice, right, unit_lies, unit_there}
+use Rattle.cfi_harden.proofs.Standing.{at_gate, found, gate_after, gate_lies, gate_there, gates_rise, instr_in_range, labels_suffice, laid, right, unit_lies, unit_there}
 use Rattle.cfi_harden.proofs.UnitOf.{is_right}
 
 aims_there : (program : Program) (kind : ItemKind) (o : Option ℕ) → is_direct kind ≡ true → aims program kind o ≡ true →
@@ -98,8 +98,12 @@ module _ (m : Choice) (ok : IsAccepted m) where
       (t : ℕ) × ((item_of m.layout.program k).target ≡ Some t) × (t < count m.layout.program)
   direct k below leads = aims_there m.layout.program (item_of m.layout.program k).kind (item_of m.layout.program k).target leads (ok.sound.targets k below)
 
+  -- what stands in the code stands past the handlers
+  past_handlers : (a : ℕ) → m.layout.profile.units_from ≤ a → START ≤ a
+  past_handlers a from = let low = (laid m ok).low in omega arith
+
   gate_in : (t : ℕ) → t < count m.layout.program → IsThere (gate m.layout t)
-  gate_in t below = let (from, to, round) = gate_lies m ok t below in record { from = from; to = to; round = round }
+  gate_in t below = let (from, to, round) = gate_lies m ok t below in record { from = past_handlers (gate m.layout t) from; to = to; round = round }
 
   target_in : (k : ℕ) → k < count m.layout.program → is_direct (item_of m.layout.program k).kind ≡ true →
       IsThere (gate_to m.layout (item_of m.layout.program k).target)
@@ -125,7 +129,7 @@ module _ (m : Choice) (ok : IsAccepted m) where
   own_fits k below =
       let at = unit_lies m ok (word m.layout k) (unit_for m k (item_of m.layout.program k)) (unit_there m ok k below) in
       unit_fits (item_of m.layout.program k).kind (instr_of m k) (is_long m.long k) _ _ (word m.layout k) (right m ok k below) (instr_in_range m ok k below)
-      (label_small _) at.from at.to at.round (target_in k below) (short_near k below)
+      (label_small _) (past_handlers (word m.layout k) at.from) at.to at.round (target_in k below) (short_near k below)
 
   is_fit : (k a : ℕ) (u : U.Unit) → k < count m.layout.program → IsUnit m k (item_of m.layout.program k) a u → Fits u a
   is_fit k a u below (gate_word label some here gate_is) =
@@ -135,8 +139,8 @@ module _ (m : Choice) (ok : IsAccepted m) where
   is_fit k a u below (own here unit_is) =
       subst (λ (v : U.Unit). Fits v a) (sym unit_is) (subst (λ (b : ℕ). Fits (unit_for m k (item_of m.layout.program k)) b) (sym here) (own_fits k below))
 
-  pub units_fit : AllFit UNITS_START (units m)
-  units_fit = all_fit (units m) UNITS_START (λ a u e. let at = found m ok a u e in is_fit at.index a u at.below at.unit)
+  pub units_fit : AllFit m.layout.profile.units_from (units m)
+  units_fit = all_fit (units m) m.layout.profile.units_from (λ a u e. let at = found m ok a u e in is_fit at.index a u at.below at.unit)
 
   -- the place after a branch
   goes_on : (k : ℕ) → k < count m.layout.program → is_branch (item_of m.layout.program k).kind ≡ true → k + 1 < count m.layout.program
@@ -173,7 +177,7 @@ module _ (m : Choice) (ok : IsAccepted m) where
       ]
 
   skip_own : (k : ℕ) (v : U.Unit) → k < count m.layout.program →
-      unit_in (units m) UNITS_START (word m.layout k + 4 * word_count (unit_for m k (item_of m.layout.program k))) ≡ Some v → is_jump_unit v ≡ true →
+      unit_in (units m) m.layout.profile.units_from (word m.layout k + 4 * word_count (unit_for m k (item_of m.layout.program k))) ≡ Some v → is_jump_unit v ≡ true →
       IsShortSkip (unit_for m k (item_of m.layout.program k)) (word m.layout k) → ⊥
   skip_own k v below next jump skip =
       let s = skip_kind (item_of m.layout.program k).kind (instr_of m k) (is_long m.long k) _ _ (word m.layout k) (right m ok k below) skip in
@@ -187,10 +191,10 @@ module _ (m : Choice) (ok : IsAccepted m) where
       let from = at.from in
       let to = at.to in
       let one = s.3 in
-      let near : IsNear (word m.layout k) (gate m.layout t) = near_target (word m.layout k) (gate m.layout t) from (omega arith) at.round (gate_in t there) back ahead in
+      let near : IsNear (word m.layout k) (gate m.layout t) = near_target (word m.layout k) (gate m.layout t) (past_handlers (word m.layout k) from) (omega arith) at.round (gate_in t there) back ahead in
       let to_gate : near_offset (word m.layout k) (gate m.layout t) ≡ skip_offset = ap (λ (o : Option ℕ). near_offset (word m.layout k) (gate_to m.layout o)) (sym some) ∙ s.2 in
       let two : gate m.layout t ≡ word m.layout k + 8 = skips_to (word m.layout k) (gate m.layout t) (omega arith) near to_gate in
-      let here : unit_in (units m) UNITS_START (gate m.layout (k + 1)) ≡ Some v = ap (unit_in (units m) UNITS_START) after ∙ next in
+      let here : unit_in (units m) m.layout.profile.units_from (gate m.layout (k + 1)) ≡ Some v = ap (unit_in (units m) m.layout.profile.units_from) after ∙ next in
       elim (cases_Option (label_of m (k + 1))) [
         | inr (label, labelled_so) ↦
             let same : V.Gate label ≡ v = same_Some (V.Gate label) v (sym (gate_there m ok (k + 1) label more labelled_so) ∙ here) in
@@ -199,7 +203,7 @@ module _ (m : Choice) (ok : IsAccepted m) where
         | inl none ↦
             let stands = at_gate m ok (k + 1) none in
             let same : unit_for m (k + 1) (item_of m.layout.program (k + 1)) ≡ v =
-            same_Some _ v (sym (unit_there m ok (k + 1) more) ∙ ap (unit_in (units m) UNITS_START) stands ∙ here) in
+            same_Some _ v (sym (unit_there m ok (k + 1) more) ∙ ap (unit_in (units m) m.layout.profile.units_from) stands ∙ here) in
             let jumps = ap is_jump_unit same ∙ jump in
             let skipped : is_skipped (item_of m.layout.program (k + 1)).kind false ≡ true =
             jump_kind (item_of m.layout.program (k + 1)).kind (instr_of m (k + 1)) (is_long m.long (k + 1)) _ _ (right m ok (k + 1) more) jumps in
@@ -213,18 +217,18 @@ module _ (m : Choice) (ok : IsAccepted m) where
             absurd (cc)
       ]
 
-  no_skip : (k a : ℕ) (u v : U.Unit) → k < count m.layout.program → IsUnit m k (item_of m.layout.program k) a u → unit_in (units m) UNITS_START (a + 4 * word_count u) ≡ Some v →
+  no_skip : (k a : ℕ) (u v : U.Unit) → k < count m.layout.program → IsUnit m k (item_of m.layout.program k) a u → unit_in (units m) m.layout.profile.units_from (a + 4 * word_count u) ≡ Some v →
       is_jump_unit v ≡ true → IsShortSkip u a → ⊥
   no_skip k a u v below (gate_word label some here gate_is) next jump skip = subst (λ (w : U.Unit). IsShortSkip w a) gate_is skip
   no_skip k a u v below (own here unit_is) next jump skip =
       let own_skip : IsShortSkip (unit_for m k (item_of m.layout.program k)) (word m.layout k) =
       subst (λ (b : ℕ). IsShortSkip (unit_for m k (item_of m.layout.program k)) b) here (subst (λ (w : U.Unit). IsShortSkip w a) unit_is skip) in
-      let own_next : unit_in (units m) UNITS_START (word m.layout k + 4 * word_count (unit_for m k (item_of m.layout.program k))) ≡ Some v =
-      subst (λ (b : ℕ). unit_in (units m) UNITS_START (b + 4 * word_count (unit_for m k (item_of m.layout.program k))) ≡ Some v) here
-      (subst (λ (w : U.Unit). unit_in (units m) UNITS_START (a + 4 * word_count w) ≡ Some v) unit_is next) in
+      let own_next : unit_in (units m) m.layout.profile.units_from (word m.layout k + 4 * word_count (unit_for m k (item_of m.layout.program k))) ≡ Some v =
+      subst (λ (b : ℕ). unit_in (units m) m.layout.profile.units_from (b + 4 * word_count (unit_for m k (item_of m.layout.program k))) ≡ Some v) here
+      (subst (λ (w : U.Unit). unit_in (units m) m.layout.profile.units_from (a + 4 * word_count w) ≡ Some v) unit_is next) in
       skip_own k v below own_next jump own_skip
 
-  pub units_ahead : AllAhead UNITS_START (units m)
+  pub units_ahead : AllAhead m.layout.profile.units_from (units m)
   units_ahead =
-      all_ahead (units m) UNITS_START units_fit
+      all_ahead (units m) m.layout.profile.units_from units_fit
       (λ a u v e next jump skip. let at = found m ok a u e in no_skip at.index a u v at.below at.unit next jump skip)

@@ -4,7 +4,7 @@ use Rattle.std.specs.Prelude.{◌&&◌, slice_get, slice_index}
 use Rattle.std.specs.List.{list_all}
 use Rattle.std.proofs.lemmas.Bool.{and_from, eq-eqb, le-leb, lt-ltb}
 use Rattle.std.proofs.lemmas.Option.{same_Some, slice_get_within}
-use Rattle.rv_word.specs.MemoryMap.{CODE_SIZE, CODE_START, UNITS_START}
+use Rattle.rv_word.specs.MemoryMap.{CODE_SIZE, CODE_START}
 use Rattle.cfi_graph.specs.declared.map.MapLine.{MapLine}
 use Rattle.cfi_graph.specs.Graph.{is_rising}
 use Rattle.cfi_graph.specs.Map.{IsMap, is_gate, map_line_below, map_line_in_range, place_below}
@@ -15,7 +15,7 @@ use Rattle.cfi_flow.proofs.Placing.{as_many_gates}
 use Rattle.cfi_harden.specs.Accepted.{IsAccepted}
 use Rattle.cfi_harden.specs.MapLines.{lines_from, map_lines as lines_of}
 use Rattle.cfi_harden.specs.Units.{Choice}
-use Rattle.cfi_harden.proofs.Standing.{gate_lies, gates_rise}
+use Rattle.cfi_harden.proofs.Standing.{gate_lies, gates_rise, laid}
 
 -- the lines of places with gates
 abbrev map_line : Item → ℕ → MapLine
@@ -73,10 +73,10 @@ AreNear program = (k : ℕ) → k < count program →
 module _ (m : Choice) (ok : IsAccepted m) where
   -- gates are as many as places
   pub counted : length m.layout.gates ≡ count m.layout.program
-  counted = as_many_gates m.layout.closed.classes m.long 0 UNITS_START m.layout.program.items m.layout.gates ok.legal
+  counted = as_many_gates m.layout.closed.classes m.long 0 m.layout.profile.units_from m.layout.program.items m.layout.gates ok.legal
 
   -- each place takes a byte at least
-  places_far : (k : ℕ) → k < count m.layout.program → UNITS_START + k ≤ gate m.layout k
+  places_far : (k : ℕ) → k < count m.layout.program → m.layout.profile.units_from + k ≤ gate m.layout k
   places_far zero below = let at = (gate_lies m ok 0 below).0 in omega arith
   places_far (suc k) below =
       let before = places_far k (omega arith) in
@@ -88,6 +88,7 @@ module _ (m : Choice) (ok : IsAccepted m) where
       let at = gate_lies m ok k below in
       let low = at.0 in
       let high = at.1 in
+      let front = (laid m ok).low in
       and_from (gate m.layout k % 4 == 0 && nat_le (CODE_START + 64) (gate m.layout k)) (nat_lt (gate m.layout k) (CODE_START + CODE_SIZE))
       (and_from (gate m.layout k % 4 == 0) (nat_le (CODE_START + 64) (gate m.layout k)) (eq-eqb (gate m.layout k % 4) 0 at.2) (le-leb (CODE_START + 64) (gate m.layout k) (omega arith)))
       (lt-ltb (gate m.layout k) (CODE_START + CODE_SIZE) (omega arith))
@@ -106,6 +107,7 @@ module _ (m : Choice) (ok : IsAccepted m) where
         let fits = near k below in
         let far = places_far k below in
         let high = (gate_lies m ok k below).1 in
+        let front = (laid m ok).low in
         let offset_near : item.offset ≤ 8 * k = fits.2 in
         and_from (is_gate (gate m.layout k) && item.offset % 4 == 0 && nat_lt item.section (2 ^ 16)) (nat_lt item.offset (2 ^ 32))
         (and_from (is_gate (gate m.layout k) && item.offset % 4 == 0) (nat_lt item.section (2 ^ 16))

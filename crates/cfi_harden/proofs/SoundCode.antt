@@ -3,7 +3,7 @@ use Rattle.std.proofs.Common.{◌≡◌, ℕ, zero, suc, ◌+◌, ◌%◌, ◌/�
 use Rattle.std.specs.Prelude.{IsTrue, is_some, option_and_then, slice_get, slice_index, slice_index_or}
 use Rattle.std.specs.List.{last_or}
 use Rattle.std.proofs.lemmas.Option.{get_or_from_slice_get, none-some, same_Some, slice_get_within, slice_get-get_or}
-use Rattle.rv_word.specs.MemoryMap.{CODE_SIZE, CODE_START, OPENING_CALL, UNITS_START, version_1}
+use Rattle.rv_word.specs.MemoryMap.{CODE_SIZE, CODE_START}
 use Rattle.rv_word.proofs.Cases.{cases_Option}
 use Rattle.rv_instr.specs.declared.instr.Instr.{Instr}
 use Rattle.obj_input.specs.declared.item_kind.ItemKind.{ItemKind}
@@ -42,7 +42,7 @@ use Rattle.cfi_harden.proofs.InstrAt.{gate_number}
 use Rattle.cfi_harden.proofs.Labelled.{has_in, label_found, label_once, labelled, site_below, used_in}
 use Rattle.cfi_harden.proofs.Leading.{direct, units_ahead, units_fit}
 use Rattle.cfi_harden.proofs.Runs.{IsUnit, gate_word, label_of, own}
-use Rattle.cfi_harden.proofs.Standing.{found, gate_lies, gate_there, instr_is, right, starts}
+use Rattle.cfi_harden.proofs.Standing.{found, gate_lies, gate_there, instr_is, laid, right, starts}
 use Rattle.cfi_harden.proofs.UnitOf.{unit_gate, unit_site, unit_target}
 
 -- an empty class has no members
@@ -104,19 +104,24 @@ no_end : (kind : ItemKind) → kind ≡ is.Gate → is_end kind ≡ false
 no_end kind e = ap is_end e
 
 module _ (m : Choice) (ok : IsAccepted m) where
-  entry_in : (UNITS_START ≤ entry_gate m) × (entry_gate m + 4 ≤ CODE_START + CODE_SIZE) × (entry_gate m % 4 ≡ 0)
+  entry_in : (m.layout.profile.units_from ≤ entry_gate m) × (entry_gate m + 4 ≤ CODE_START + CODE_SIZE) × (entry_gate m % 4 ≡ 0)
   entry_in = gate_lies m ok m.layout.entry ok.entry_there
 
-  entry_reached : Reaches OPENING_CALL (entry_gate m)
+  entry_reached : Reaches m.layout.profile.opening_call (entry_gate m)
   entry_reached =
       let (from, to, round) = entry_in in
-      let call : IsInCode OPENING_CALL = record { from = omega arith; to = omega arith; round = refl } in
+      let before = (laid m ok).call in
+      let after = (laid m ok).closing in
+      let low = (laid m ok).low in
+      let high = (laid m ok).high in
+      let even = (laid m ok).round in
+      let call : IsInCode m.layout.profile.opening_call = record { from = omega arith; to = omega arith; round = omega arith } in
       let there : IsInCode (entry_gate m) = record { from = omega arith; to = omega arith; round = round } in
-      reach OPENING_CALL (entry_gate m) call there
+      reach m.layout.profile.opening_call (entry_gate m) call there
 
   -- direct transfers lead to units
   leads : (k a target : ℕ) (u : U.Unit) → k < count m.layout.program → IsUnit m k (item_of m.layout.program k) a u → target_of u ≡ Some target →
-      StartsIn version_1 (units m) target
+      StartsIn m.layout.profile (units m) target
   leads k a target u below (gate_word label some here gate_is) e = let wrong : None ≡ Some target = sym (ap target_of gate_is) ∙ e in absurd (cc)
   leads k a target u below (own here unit_is) e =
       let of : target_of (unit_for m k (item_of m.layout.program k)) ≡ Some target = sym (ap target_of unit_is) ∙ e in
@@ -124,7 +129,7 @@ module _ (m : Choice) (ok : IsAccepted m) where
       (site_label m.labels m.layout.closed k) target (right m ok k below) of in
       let (t, some, there) = direct m ok k below aim.0 in
       let same : gate m.layout t ≡ target = ap (gate_to m.layout) (sym some) ∙ aim.1 in
-      subst (λ (b : ℕ). StartsIn version_1 (units m) b) same (starts m ok t there)
+      subst (λ (b : ℕ). StartsIn m.layout.profile (units m) b) same (starts m ok t there)
 
   -- a class with the label of a site serves it
   site_given : (k : ℕ) (site : SiteKind) → k < count m.layout.program → site_kind (item_of m.layout.program k).kind ≡ Some site →
@@ -164,7 +169,7 @@ module _ (m : Choice) (ok : IsAccepted m) where
       (λ i other at also. ok.apart i j k (is_in i k other at also) (is_in j k class first there))
 
   gated : (j a : ℕ) (class : ClassLine) → option_and_then class_in (slice_get (written_classes m) j) ≡ Some class → IsTrue (is_among a class.targets) →
-      Bears version_1 (units m) (read_of class.sort) a class.label
+      Bears m.layout.profile (units m) (read_of class.sort) a class.label
   gated j a class e among =
       elim (cases_Option (slice_get (written_classes m) j)) [
         | inl none ↦ absurd (none-some class (sym (ap (option_and_then class_in) none) ∙ e))
@@ -174,10 +179,10 @@ module _ (m : Choice) (ok : IsAccepted m) where
             let same : class_line m.layout.gates line.label line.class ≡ class = same_Some (class_line m.layout.gates line.label line.class) class said in
             let (k, there, here) = among_from (slice_index m.layout.gates) line.class a (ap (λ (c : ClassLine). is_among a c.targets) same ∙ among) in
             let below = member_there j k line.class line.class_is there in
-            let stands : unit_in (units m) UNITS_START a ≡ Some (V.Gate line.label) =
-            ap (unit_in (units m) UNITS_START) (sym here)
+            let stands : unit_in (units m) m.layout.profile.units_from a ≡ Some (V.Gate line.label) =
+            ap (unit_in (units m) m.layout.profile.units_from) (sym here)
             ∙ gate_there m ok k line.label below (member_labelled j k line.label line.class line.label_is line.class_is there) in
-            subst (λ (c : ClassLine). Bears version_1 (units m) (read_of c.sort) a c.label) same stands
+            subst (λ (c : ClassLine). Bears m.layout.profile (units m) (read_of c.sort) a c.label) same stands
       ]
 
   -- a gate with a class's label is one of its targets
@@ -228,7 +233,7 @@ module _ (m : Choice) (ok : IsAccepted m) where
       ∙ ap Some (end_stops (item_of m.layout.program n).kind (instr_of m n) (is_long m.long n) (gate_to m.layout (item_of m.layout.program n).target)
       (site_label m.labels m.layout.closed n) ends)
 
-  sound_code : IsSound version_1 (entry_gate m) (units m) (written_classes m)
+  sound_code : IsSound m.layout.profile (entry_gate m) (units m) (written_classes m)
   sound_code = record {
     fit = units_fit m ok;
     ahead = units_ahead m ok;

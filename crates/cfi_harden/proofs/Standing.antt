@@ -4,8 +4,9 @@ use Rattle.std.proofs.Common.{◌≡◌, ℕ, suc, ◌+◌, ◌*◌, ◌%◌, �
 use Rattle.std.specs.Prelude.{◌&&◌, not, is_some, slice_get}
 use Rattle.std.proofs.lemmas.Bool.{and_from, cases_Bool, not_from_false, or_left, or_right}
 use Rattle.std.proofs.lemmas.Option.{get_or_from_slice_get, slice_get-get_or, slice_get_within}
-use Rattle.rv_word.specs.MemoryMap.{CODE_SIZE, CODE_START, UNITS_START, version_1}
+use Rattle.rv_word.specs.MemoryMap.{CODE_SIZE, CODE_START}
 use Rattle.rv_word.proofs.Cases.{cases_Option}
+use Rattle.rv_word.proofs.Versions.{LaidOut, laid_out}
 use Rattle.rv_instr.specs.InRange.{IsInstr}
 use Rattle.rv_instr.specs.declared.instr.Instr.{Instr}
 use Rattle.rv_instr.specs.declared.instr.Instr.TheVariants as I
@@ -30,9 +31,9 @@ use Rattle.cfi_harden.proofs.InstrAt.{instr_there}
 use Rattle.cfi_harden.proofs.Runs.{IsUnit, Run, found_at, gate_bytes, gate_labelled, gate_stands, label_of, legal_run, next_gate, run_rises, stands_at}
 use Rattle.cfi_harden.proofs.UnitOf.{is_right, unit_size}
 
--- where a unit of the code may lie
-pub record IsIn (a : ℕ) (u : U.Unit) : Type 0 where
-  pub from : UNITS_START ≤ a
+-- where a unit of the code may lie, the first of which stands at an address
+pub record IsIn (first a : ℕ) (u : U.Unit) : Type 0 where
+  pub from : first ≤ a
   pub to : a + 4 * word_count u ≤ CODE_START + CODE_SIZE
   pub round : a % 4 ≡ 0
 
@@ -46,6 +47,10 @@ no_more : (n : ℕ) → n ≡ 0 + n
 no_more n = omega arith
 
 module _ (m : Choice) (ok : IsAccepted m) where
+  -- where the parts of its image stand
+  pub laid : LaidOut m.layout.profile
+  laid = laid_out m.layout.profile ok.profile
+
   pub instr_in_range : (k : ℕ) → k < count m.layout.program → IsInstr (instr_of m k)
   instr_in_range k below = instr_there m.layout.program m.layout.gates (words_from m.layout.closed.classes 0 m.layout.gates) k I.Ebreak (ok.words k below) tt
 
@@ -86,22 +91,22 @@ module _ (m : Choice) (ok : IsAccepted m) where
       let of : is_right item.kind (instr_of m k) ≡ true = subst (λ (x : Item). is_right x.kind (instr_of m k) ≡ true) (item_is k item get) (right k below) in
       unit_size item.kind (instr_of m k) (is_long m.long k) _ _ of
 
-  pub the_run : Run m 0 UNITS_START m.layout.program.items
+  pub the_run : Run m 0 m.layout.profile.units_from m.layout.program.items
   the_run =
-      legal_run m 0 UNITS_START m.layout.program.items m.layout.gates labels_suffice (λ i. ap (gate m.layout) (sym (no_more i)))
+      legal_run m 0 m.layout.profile.units_from m.layout.program.items m.layout.gates labels_suffice (λ i. ap (gate m.layout) (sym (no_more i)))
       (λ i item get. subst (λ (n : ℕ). size_of item.kind (is_long m.long n) ≡ 4 * word_count (unit_for m n item)) (no_more i) (size_right i item get)) ok.legal
 
   pub unit_there : (k : ℕ) → k < count m.layout.program →
-      unit_in (units m) UNITS_START (word m.layout k) ≡ Some (unit_for m k (item_of m.layout.program k))
+      unit_in (units m) m.layout.profile.units_from (word m.layout k) ≡ Some (unit_for m k (item_of m.layout.program k))
   unit_there k below =
-      subst (λ (n : ℕ). unit_in (units m) UNITS_START (word m.layout n) ≡ Some (unit_for m n (item_of m.layout.program k))) (sym (no_more k))
-      (stands_at m 0 UNITS_START m.layout.program.items k (item_of m.layout.program k) the_run (item_there k below))
+      subst (λ (n : ℕ). unit_in (units m) m.layout.profile.units_from (word m.layout n) ≡ Some (unit_for m n (item_of m.layout.program k))) (sym (no_more k))
+      (stands_at m 0 m.layout.profile.units_from m.layout.program.items k (item_of m.layout.program k) the_run (item_there k below))
 
   pub gate_there : (k label : ℕ) → k < count m.layout.program → label_of m k ≡ Some label →
-      unit_in (units m) UNITS_START (gate m.layout k) ≡ Some (V.Gate label)
+      unit_in (units m) m.layout.profile.units_from (gate m.layout k) ≡ Some (V.Gate label)
   gate_there k label below some =
-      ap (λ (n : ℕ). unit_in (units m) UNITS_START (gate m.layout n)) (no_more k)
-      ∙ gate_stands m 0 UNITS_START m.layout.program.items k (item_of m.layout.program k) label the_run (item_there k below) (ap (label_of m) (sym (no_more k)) ∙ some)
+      ap (λ (n : ℕ). unit_in (units m) m.layout.profile.units_from (gate m.layout n)) (no_more k)
+      ∙ gate_stands m 0 m.layout.profile.units_from m.layout.program.items k (item_of m.layout.program k) label the_run (item_there k below) (ap (label_of m) (sym (no_more k)) ∙ some)
 
   pub word_is : (k : ℕ) → word m.layout k ≡ gate m.layout k + gate_bytes (label_of m k)
   word_is k = ap (λ n. gate m.layout k + n) (gate_labelled m.labels m.layout.closed.classes k labels_suffice)
@@ -114,20 +119,20 @@ module _ (m : Choice) (ok : IsAccepted m) where
       omega arith
 
   -- a unit starts at each gate
-  pub gate_starts : (k : ℕ) → k < count m.layout.program → (u : U.Unit) × (unit_in (units m) UNITS_START (gate m.layout k) ≡ Some u)
+  pub gate_starts : (k : ℕ) → k < count m.layout.program → (u : U.Unit) × (unit_in (units m) m.layout.profile.units_from (gate m.layout k) ≡ Some u)
   gate_starts k below =
       elim (cases_Option (label_of m k)) [
-        | inl none ↦ (unit_for m k (item_of m.layout.program k), ap (unit_in (units m) UNITS_START) (sym (at_gate k none)) ∙ unit_there k below)
+        | inl none ↦ (unit_for m k (item_of m.layout.program k), ap (unit_in (units m) m.layout.profile.units_from) (sym (at_gate k none)) ∙ unit_there k below)
         | inr (label, some) ↦ (V.Gate label, gate_there k label below some)
       ]
 
-  pub starts : (k : ℕ) → k < count m.layout.program → StartsIn version_1 (units m) (gate m.layout k)
+  pub starts : (k : ℕ) → k < count m.layout.program → StartsIn m.layout.profile (units m) (gate m.layout k)
   starts k below = let (u, e) = gate_starts k below in ap is_some e
 
   -- what starts in the code is a place's
-  pub found : (a : ℕ) (u : U.Unit) → unit_in (units m) UNITS_START a ≡ Some u → Place m a u
+  pub found : (a : ℕ) (u : U.Unit) → unit_in (units m) m.layout.profile.units_from a ≡ Some u → Place m a u
   found a u e =
-      let at = found_at m 0 UNITS_START m.layout.program.items a u the_run e in
+      let at = found_at m 0 m.layout.profile.units_from m.layout.program.items a u the_run e in
       record {
         index = at.index;
         below = slice_get_within m.layout.program.items at.index at.item at.there;
@@ -136,17 +141,18 @@ module _ (m : Choice) (ok : IsAccepted m) where
             (subst (λ (n : ℕ). IsUnit m n at.item a u) (sym (no_more at.index)) at.unit);
       }
 
-  pub unit_lies : (a : ℕ) (u : U.Unit) → unit_in (units m) UNITS_START a ≡ Some u → IsIn a u
+  pub unit_lies : (a : ℕ) (u : U.Unit) → unit_in (units m) m.layout.profile.units_from a ≡ Some u → IsIn m.layout.profile.units_from a u
   unit_lies a u e =
-      let at = lies (units m) UNITS_START a u e in
+      let at = lies (units m) m.layout.profile.units_from a u e in
       let from = at.from in
       let to = at.to in
       let round = at.round in
-      let whole = length-placed_code (entry_gate m) (units m) in
+      let whole = length-placed_code m.layout.profile ok.profile (entry_gate m) (units m) in
       let room = ok.room in
-      record { from = from; to = omega arith; round = round }
+      let even = laid.round in
+      record { from = from; to = omega arith; round = round ∙ even }
 
-  pub gate_lies : (k : ℕ) → k < count m.layout.program → (UNITS_START ≤ gate m.layout k) × (gate m.layout k + 4 ≤ CODE_START + CODE_SIZE) × (gate m.layout k % 4 ≡ 0)
+  pub gate_lies : (k : ℕ) → k < count m.layout.program → (m.layout.profile.units_from ≤ gate m.layout k) × (gate m.layout k + 4 ≤ CODE_START + CODE_SIZE) × (gate m.layout k % 4 ≡ 0)
   gate_lies k below =
       let (u, e) = gate_starts k below in
       let at = unit_lies (gate m.layout k) u e in
@@ -158,7 +164,7 @@ module _ (m : Choice) (ok : IsAccepted m) where
   pub gates_rise : (i j : ℕ) → i < j → j < count m.layout.program → gate m.layout i < gate m.layout j
   gates_rise i j less below =
       subst (λ (n : ℕ). gate m.layout n < gate m.layout j) (sym (no_more i))
-      (subst (λ (n : ℕ). gate m.layout (0 + i) < gate m.layout n) (sym (no_more j)) (run_rises m 0 UNITS_START m.layout.program.items i j the_run less below))
+      (subst (λ (n : ℕ). gate m.layout (0 + i) < gate m.layout n) (sym (no_more j)) (run_rises m 0 m.layout.profile.units_from m.layout.program.items i j the_run less below))
 
   pub gate_after : (k : ℕ) → k + 1 < count m.layout.program →
       gate m.layout (k + 1) ≡ word m.layout k + 4 * word_count (unit_for m k (item_of m.layout.program k))
@@ -166,5 +172,5 @@ module _ (m : Choice) (ok : IsAccepted m) where
       let there : k < count m.layout.program = omega arith in
       let next : 0 + suc k ≡ k + 1 = omega arith in
       ap (gate m.layout) (sym next)
-      ∙ next_gate m 0 UNITS_START m.layout.program.items k (item_of m.layout.program k) the_run (item_there k there) (omega arith)
+      ∙ next_gate m 0 m.layout.profile.units_from m.layout.program.items k (item_of m.layout.program k) the_run (item_there k there) (omega arith)
       ∙ ap (λ (n : ℕ). word m.layout n + 4 * word_count (unit_for m n (item_of m.layout.program k))) (sym (no_more k))

@@ -2,7 +2,7 @@
 use Rattle.std.proofs.Common.{◌≡◌, ℕ, ◌*◌, ◌^◌, ◌<◌, ◌≤◌, List, length, Some, sym, ap, subst, ◌∙◌, arith}
 use Rattle.std.specs.Prelude.{slice_index}
 use Rattle.rv_word.specs.Image.{IsImageSize}
-use Rattle.rv_word.specs.MemoryMap.{CODE_SIZE, OPENING_CALL, version_1}
+use Rattle.rv_word.specs.MemoryMap.{CODE_SIZE, Profile, version_1}
 use Rattle.elf_image.specs.Spelling.{spelling}
 use Rattle.cfi_graph.specs.Graph.{GraphParts, IsGraph}
 use Rattle.cfi_graph.specs.declared.map.MapLine.{MapLine}
@@ -11,7 +11,7 @@ use Rattle.cfi_flow.specs.GraphAtMap.{graph_lines}
 use Rattle.cfi_flow.specs.LegalMap.{IsLegalMap, gates_of}
 use Rattle.cfi_unit.specs.UnitWords.{Reaches}
 use Rattle.cfi_verify.specs.Laws.{AreBytes}
-use Rattle.cfi_verify.specs.Placed.{AllFit}
+use Rattle.cfi_verify.specs.Placed.{AllFit, placed_code}
 use Rattle.cfi_verify.specs.Split.{code_words}
 use Rattle.cfi_verify.proofs.UnitIn.{length-placed_code}
 use Rattle.cfi_harden.specs.Accepted.{IsAccepted}
@@ -24,13 +24,18 @@ use Rattle.cfi_harden.specs.Units.{Choice, entry_gate, units}
 use Rattle.cfi_harden.specs.Writing.{IsCoded, IsDescribed, IsImageWith, IsWritable, IsWrittenAs}
 use Rattle.cfi_harden.proofs.Written.{written_graph, written_well_formed}
 use Rattle.cfi_harden.proofs.SoundCode.{written_sound}
+use Rattle.cfi_harden.proofs.Standing.{laid}
 use Rattle.cfi_harden.proofs.PlaceLines.{gates_are}
 
-pub reaches : (m : Choice) → IsAccepted m → Reaches OPENING_CALL (entry_gate m)
-reaches m ok = (written_sound m ok).entry_reached
+-- what the code of a choice of version 1 asks of its entry and of its units, and which code that is
+pub reaches : (m : Choice) → IsAccepted m → m.layout.profile ≡ version_1 → Reaches version_1.opening_call (entry_gate m)
+reaches m ok one = subst (λ (p : Profile). Reaches p.opening_call (entry_gate m)) one (written_sound m ok).entry_reached
 
-pub all_fit : (m : Choice) → IsAccepted m → AllFit version_1.units_from (units m)
-all_fit m ok = (written_sound m ok).fit
+pub all_fit : (m : Choice) → IsAccepted m → m.layout.profile ≡ version_1 → AllFit version_1.units_from (units m)
+all_fit m ok one = subst (λ (p : Profile). AllFit p.units_from (units m)) one (written_sound m ok).fit
+
+pub code_of_one : (m : Choice) → m.layout.profile ≡ version_1 → placed_code version_1 (entry_gate m) (units m) ≡ written_code m
+code_of_one m one = ap (λ (p : Profile). placed_code p (entry_gate m) (units m)) (sym one)
 
 pub in_room : (m : Choice) → IsAccepted m → 4 * length (written_code m) ≤ CODE_SIZE
 in_room m ok = ok.room
@@ -40,10 +45,11 @@ pub is_graph : (m : Choice) (code : ℕ) → IsAccepted m → code ≡ 4 * lengt
 is_graph m code ok same =
     subst (λ (n : ℕ). IsGraph (record { code = n; lines = graph_lines m.layout m.labels })) (sym same) (written_graph m ok)
 
-pub image_size : (m : Choice) (code init : ℕ) → code ≡ 4 * length (written_code m) → 4 * length (written_code m) ≤ CODE_SIZE → init ≤ INIT_ROOM →
+pub image_size : (m : Choice) (code init : ℕ) → IsAccepted m → code ≡ 4 * length (written_code m) → 4 * length (written_code m) ≤ CODE_SIZE → init ≤ INIT_ROOM →
     IsImageSize code init
-image_size m code init same room less =
-    let whole = length-placed_code (entry_gate m) (units m) in
+image_size m code init ok same room less =
+    let whole = length-placed_code m.layout.profile ok.profile (entry_gate m) (units m) in
+    let low = (laid m ok).low in
     record { some = omega arith; most = omega arith; words = omega arith; data_most = less }
 
 -- code and data are bytes
@@ -94,4 +100,4 @@ written_with p s labels code image graph lines able is (init, of) =
 pub program_size : (p : PreparedParts) (s : Spaced) (labels code : List ℕ) (graph : GraphParts) → IsWritable p s labels → IsCoded (chosen p s labels) code graph →
     IsImageSize (length code) (init_size p.program)
 program_size p s labels code graph able coded =
-    image_size (chosen p s labels) (length code) (init_size p.program) coded.size (in_room (chosen p s labels) able.accepted) able.room
+    image_size (chosen p s labels) (length code) (init_size p.program) able.accepted coded.size (in_room (chosen p s labels) able.accepted) able.room

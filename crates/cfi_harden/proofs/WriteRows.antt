@@ -11,7 +11,7 @@ use Rattle.cfi_harden.specs.MapLines.{lines_from, map_lines}
 use Rattle.cfi_harden.specs.Prologue.{before_call}
 
 -- the call stands at the seventh word
-pub prologue_row : (entry : ℕ) → before_call ++ instrs_of (V.Call entry) 0x40000018 ++ closing_instrs ≡ prologue_instrs entry
+pub prologue_row : (entry : ℕ) → before_call ++ instrs_of (V.Call entry) 0x40000018 ++ closing_instrs ≡ prologue_instrs version_1 entry
 prologue_row entry = refl
 
 -- `ret` at the start of section 3, and that section's end: `ret` as a unit has 20 bytes

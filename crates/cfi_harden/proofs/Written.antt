@@ -4,7 +4,7 @@ use Rattle.std.specs.Prelude.{◌&&◌, nat_le, nat_lt, slice_get, slice_index}
 use Rattle.std.specs.List.Sorted.{IsStrictlyIncreasing}
 use Rattle.std.proofs.lemmas.Bool.{and_from, eq-eqb, le-leb, lt-ltb, or_left}
 use Rattle.std.proofs.lemmas.Option.{get_or_from_slice_get, slice_get_within}
-use Rattle.rv_word.specs.MemoryMap.{CODE_SIZE, CODE_START, START, UNITS_START, version_1}
+use Rattle.rv_word.specs.MemoryMap.{CODE_SIZE, CODE_START, START}
 use Rattle.obj_program.specs.declared.item.Item.{Item}
 use Rattle.obj_program.specs.Program.{count, item_of, no_item}
 use Rattle.cfi_graph.specs.Graph.{IsGraph, is_code_address, is_code_length, is_label}
@@ -29,7 +29,7 @@ use Rattle.cfi_harden.proofs.ClassLines.{lines_order, lines_range, lines_targets
 use Rattle.cfi_harden.proofs.Leading.{label_small, units_ahead, units_fit}
 use Rattle.cfi_harden.proofs.Runs.{Run, gate_bytes, label_of}
 use Rattle.cfi_harden.proofs.SoundCode.{in_classes, member_there, written_sound}
-use Rattle.cfi_harden.proofs.Standing.{gate_starts, gate_there, gates_rise, right, the_run, unit_there}
+use Rattle.cfi_harden.proofs.Standing.{gate_starts, gate_there, gates_rise, laid, right, the_run, unit_there}
 use Rattle.cfi_harden.proofs.UnitOf.{is_right, unit_line}
 
 -- a gate word has no line
@@ -64,17 +64,18 @@ module _ (m : Choice) (ok : IsAccepted m) where
       subst (λ (n : ℕ). is_right item.kind (instr_of m n) ≡ true) first
       (subst (λ (x : Item). is_right x.kind (instr_of m i) ≡ true) same (right m ok i below))
 
-  pub lines_are : graph_lines m.layout m.labels ≡ written_classes m ++ (Call START (entry_gate m) ∷ lines_from UNITS_START (units m))
+  pub lines_are : graph_lines m.layout m.labels ≡ written_classes m ++ (Call START (entry_gate m) ∷ lines_from m.layout.profile.units_from (units m))
   lines_are =
       ap (λ (lines : List GraphLine). written_classes m ++ (Call START (entry_gate m) ∷ lines))
-      (sym (run_lines m 0 UNITS_START m.layout.program.items (the_run m ok) right_there))
+      (sym (run_lines m 0 m.layout.profile.units_from m.layout.program.items (the_run m ok) right_there))
 
   abbrev size : ℕ
   size = 4 * length (written_code m)
 
   length_right : is_code_length size ≡ true
   length_right =
-      let words = length-placed_code (entry_gate m) (units m) in
+      let words = length-placed_code m.layout.profile ok.profile (entry_gate m) (units m) in
+      let low = (laid m ok).low in
       let room = ok.room in
       and_from (size % 4 == 0 && nat_le 4 size) (nat_le size CODE_SIZE)
       (and_from (size % 4 == 0) (nat_le 4 size) (eq-eqb (size % 4) 0 (omega arith)) (le-leb 4 size (omega arith))) (le-leb size CODE_SIZE room)
@@ -90,12 +91,14 @@ module _ (m : Choice) (ok : IsAccepted m) where
   gate_right : (j k : ℕ) (class : List ℕ) → slice_get (all_classes m.layout.closed) j ≡ Some class → has k class ≡ true → is_code_address size (gate m.layout k) ≡ true
   gate_right j k class get there =
       let (u, e) = gate_starts m ok k (member_there m ok j k class get there) in
-      let at = lies (units m) UNITS_START (gate m.layout k) u e in
+      let at = lies (units m) m.layout.profile.units_from (gate m.layout k) u e in
       let from = at.from in
       let to = at.to in
       let round = at.round in
       let some = some_word u in
-      let words = length-placed_code (entry_gate m) (units m) in
+      let words = length-placed_code m.layout.profile ok.profile (entry_gate m) (units m) in
+      let low = (laid m ok).low in
+      let even = (laid m ok).round in
       and_from (gate m.layout k % 4 == 0 && nat_le CODE_START (gate m.layout k)) (nat_lt (gate m.layout k) (CODE_START + size))
       (and_from (gate m.layout k % 4 == 0) (nat_le CODE_START (gate m.layout k)) (eq-eqb (gate m.layout k % 4) 0 (omega arith)) (le-leb CODE_START (gate m.layout k) (omega arith)))
       (lt-ltb (gate m.layout k) (CODE_START + size) (omega arith))
@@ -120,10 +123,10 @@ module _ (m : Choice) (ok : IsAccepted m) where
   graph_is : IsGraph (record { code = size; lines = graph_lines m.layout m.labels })
   graph_is =
       subst (λ (lines : List GraphLine). IsGraph (record { code = size; lines = lines })) (sym lines_are)
-      (placed_is_graph (entry_gate m) (units m) (written_classes m) (written_sound m ok) class_graph)
+      (placed_is_graph m.layout.profile (entry_gate m) (units m) (written_classes m) ok.profile (written_sound m ok) class_graph)
 
-  units_at : (a : ℕ) → unit_at version_1 (written_code m) a ≡ unit_in (units m) UNITS_START a
-  units_at = placed_units (entry_gate m) (units m) (units_fit m ok) (units_ahead m ok)
+  units_at : (a : ℕ) → unit_at m.layout.profile (written_code m) a ≡ unit_in (units m) m.layout.profile.units_from a
+  units_at = placed_units m.layout.profile (entry_gate m) (units m) ok.profile (units_fit m ok) (units_ahead m ok)
 
 pub written_lines : WrittenLines
 written_lines = lines_are
@@ -133,11 +136,11 @@ written_graph = graph_is
 
 pub written_well_formed : WrittenIsWellFormed
 written_well_formed m image graph ok words lines same_length =
-    placed_well_formed (entry_gate m) (units m) (written_classes m) image graph (written_sound m ok) words (lines ∙ lines_are m ok) same_length
+    placed_well_formed m.layout.profile (entry_gate m) (units m) (written_classes m) image graph ok.profile (written_sound m ok) words (lines ∙ lines_are m ok) same_length
 
 pub written_units : WrittenUnits
 written_units m ok k below =
     (units_at m ok (word m.layout k) ∙ unit_there m ok k below, λ label some. units_at m ok (gate m.layout k) ∙ gate_there m ok k label below some)
 
 pub written_entry : WrittenEntry
-written_entry m ok = placed_entry (entry_gate m) (units m) (written_sound m ok).entry_reached
+written_entry m ok = placed_entry m.layout.profile (entry_gate m) (units m) ok.profile (written_sound m ok).entry_reached

@@ -1,9 +1,9 @@
 -- Worked programs as they are written, computed: a return alone, a branch over an instruction, which is written short, one over a jump,
--- which is kept long, and a call through a pointer. Their words, gates, lengths and lines are worked out by hand from the formats of
+-- which is kept long, and a call through a pointer; the first two also as images for several harts. Their words, gates, lengths and lines are worked out by hand from the formats of
 -- instructions and the sizes of units.
 use Rattle.std.proofs.Common.{◌≡◌, ℕ, true, false, List, [], ◌∷◌, ◌++◌, Some, None, length, take, drop, pos, refl}
 use Rattle.std.specs.Prelude.{Option, slice_get}
-use Rattle.rv_word.specs.MemoryMap.{UNITS_START, version_1}
+use Rattle.rv_word.specs.MemoryMap.{Profile, UNITS_START, version_1, version_2}
 use Rattle.rv_code.specs.Decode.{decoded}
 use Rattle.rv_code.specs.Encode.{code_of}
 use Rattle.obj_input.specs.declared.item_kind.ItemKind.{ItemKind}
@@ -39,9 +39,9 @@ program kind word target = record {
   names = [];
 }
 
-abbrev layout : Program → List ℕ → ProgramAtMap
-layout program gates = record {
-  profile = version_1;
+abbrev layout : Profile → Program → List ℕ → ProgramAtMap
+layout profile program gates = record {
+  profile = profile;
   program = program;
   closed = record { classes = []; sites = []; taken = false ∷ false ∷ false ∷ false ∷ [] };
   gates = gates;
@@ -51,7 +51,15 @@ layout program gates = record {
 -- over `addi x10, x0, 1`: short
 abbrev pub short : Choice
 short = record {
-  layout = layout (program is.Plain 0x00100513 None) (0x40000040 ∷ 0x40000044 ∷ 0x40000048 ∷ 0x4000005c ∷ []);
+  layout = layout version_1 (program is.Plain 0x00100513 None) (0x40000040 ∷ 0x40000044 ∷ 0x40000048 ∷ 0x4000005c ∷ []);
+  long = false ∷ [];
+  labels = [];
+}
+
+-- the same of several harts
+abbrev pub short_of_harts : Choice
+short_of_harts = record {
+  layout = layout version_2 (program is.Plain 0x00100513 None) (0x40000050 ∷ 0x40000054 ∷ 0x40000058 ∷ 0x4000006c ∷ []);
   long = false ∷ [];
   labels = [];
 }
@@ -59,7 +67,7 @@ short = record {
 -- over `j +4`: long
 abbrev pub long : Choice
 long = record {
-  layout = layout (program is.Jump 0x0040006f (Some 2)) (0x40000040 ∷ 0x40000048 ∷ 0x4000004c ∷ 0x40000060 ∷ []);
+  layout = layout version_1 (program is.Jump 0x0040006f (Some 2)) (0x40000040 ∷ 0x40000048 ∷ 0x4000004c ∷ 0x40000060 ∷ []);
   long = true ∷ [];
   labels = [];
 }
@@ -69,6 +77,12 @@ short_rows : (length (written_code short) ≡ 24) × (slice_get (written_code sh
     × (graph_lines short.layout [] ≡ Call 0x4000000c 0x40000040 ∷ Edge 0x40000040 0x40000048 ∷ [])
 unfolding units_from code_from words_of code_of instr_at decoded words_from label_at site_number class_lines place_lines empty_classes
 short_rows = (refl, refl, refl, refl, refl)
+
+short_of_harts_rows : (length (written_code short_of_harts) ≡ 28) × (slice_get (written_code short_of_harts) 20 ≡ Some 0x00050463)
+    × (slice_get (written_code short_of_harts) 21 ≡ Some 0x00100513)
+    × (graph_lines short_of_harts.layout [] ≡ Call 0x4000000c 0x40000050 ∷ Edge 0x40000050 0x40000058 ∷ [])
+unfolding units_from code_from words_of code_of instr_at decoded words_from label_at site_number class_lines place_lines empty_classes
+short_of_harts_rows = (refl, refl, refl, refl)
 
 -- the long one is `bne x10, x0, +8` and `j` to the place of `ret`
 long_rows : (length (written_code long) ≡ 25) × (slice_get (written_code long) 16 ≡ Some 0x00051463) × (slice_get (written_code long) 17 ≡ Some 0x0080006f)
@@ -83,24 +97,37 @@ head =
     ∷ 0x01e1b023 ∷ 0x00818193 ∷ 0x00c000ef ∷ 0x05d00893 ∷ 0x00000073 ∷ []
 
 -- `addi x10, x0, 7` and `ret`, the whole code
-abbrev pub returning : Choice
-returning = record {
-  layout = layout (record {
-    items = place 0 is.Plain 0x00700513 None ∷ place 4 is.Return 0x00008067 None ∷ place 8 is.End 0 None ∷ [];
-    init = [];
-    relocations = [];
-    data_end = 0x10000;
-    funcs = [];
-    names = [];
-  }) (0x40000040 ∷ 0x40000044 ∷ 0x40000058 ∷ []);
-  long = [];
-  labels = [];
+abbrev seven : Program
+seven = record {
+  items = place 0 is.Plain 0x00700513 None ∷ place 4 is.Return 0x00008067 None ∷ place 8 is.End 0 None ∷ [];
+  init = [];
+  relocations = [];
+  data_end = 0x10000;
+  funcs = [];
+  names = [];
 }
+
+abbrev pub returning : Choice
+returning = record { layout = layout version_1 seven (0x40000040 ∷ 0x40000044 ∷ 0x40000058 ∷ []); long = []; labels = [] }
 
 returning_row : written_code returning
     ≡ head ++ 0x00700513 ∷ 0xff81bf83 ∷ 0xff818193 ∷ 0x001f8463 ∷ 0xfb5ff06f ∷ 0x000f8067 ∷ 0xfa9ff06f ∷ []
 unfolding head units_from code_from words_of code_of instr_at decoded words_from label_at site_number
 returning_row = refl
+
+-- the same behind the longer prologue of several harts
+head_of_harts : List ℕ
+head_of_harts =
+    0x00100073 ∷ 0x00100073 ∷ 0x00100073 ∷ 0x10000137 ∷ 0x01451f93 ∷ 0x41f10133 ∷ 0x600001b7 ∷ 0x01051f93 ∷ 0x01f181b3 ∷ 0x00818193 ∷ 0x03019f13
+    ∷ 0x000f1463 ∷ 0xfd9ff06f ∷ 0x00000f17 ∷ 0x014f0f13 ∷ 0x01e1b023 ∷ 0x00818193 ∷ 0x00c000ef ∷ 0x05d00893 ∷ 0x00000073 ∷ []
+
+abbrev pub returning_of_harts : Choice
+returning_of_harts = record { layout = layout version_2 seven (0x40000050 ∷ 0x40000054 ∷ 0x40000068 ∷ []); long = []; labels = [] }
+
+returning_of_harts_row : written_code returning_of_harts
+    ≡ head_of_harts ++ 0x00700513 ∷ 0xff81bf83 ∷ 0xff818193 ∷ 0x001f8463 ∷ 0xfa5ff06f ∷ 0x000f8067 ∷ 0xf99ff06f ∷ []
+unfolding head_of_harts units_from code_from words_of code_of instr_at decoded words_from label_at site_number
+returning_of_harts_row = refl
 
 -- a function that calls one of two others through a pointer at 10000h, which a relocated LUI and load read
 abbrev with_patch : Item → Patch → Item

@@ -3,7 +3,7 @@
 use Rattle.std.specs.Prelude.{◌≡◌, ℕ, ◌+◌, ◌*◌, ◌^◌, ◌≤◌, ◌<◌, ◌==◌, ◌&&◌, Bool, true, false, not, Some, is_some, length, slice_get}
 use Rattle.std.specs.List.{All}
 use Rattle.std.specs.List.Sorted.{IsStrictlyIncreasing}
-use Rattle.rv_word.specs.MemoryMap.{CODE_SIZE, version_1}
+use Rattle.rv_word.specs.MemoryMap.{CODE_SIZE, IsProfile}
 use Rattle.obj_input.specs.declared.item_kind.ItemKind.{ItemKind}
 use Rattle.obj_input.specs.declared.item_kind.ItemKind.TheVariants as is
 use Rattle.obj_program.specs.AtMap.{instr_at}
@@ -43,15 +43,16 @@ pub record IsShortAt (layout : ProgramAtMap) (k target : ℕ) : Type 0 where
 
 -- what a choice is made of
 pub record IsAccepted (m : Choice) : Type 0 where
-  pub profile : m.layout.profile ≡ version_1
+  -- it is written as images of one of the versions
+  pub profile : IsProfile m.layout.profile
   -- the program is sound, its words have 32 bits, and it ends in a section's end; it is entered at one of its places
   pub sound : IsSound m.layout.program
   pub words : (k : ℕ) → k < count m.layout.program → (item_of m.layout.program k).word < 2 ^ 32
   pub last : (k : ℕ) × (count m.layout.program ≡ k + 1) × (is_end (item_of m.layout.program k).kind ≡ true)
   pub entry_there : m.layout.entry < count m.layout.program
   -- its gates are a placement's, its code has room, and each instruction has its values
-  pub legal : AreGates m.layout.closed.classes m.long 0 version_1.units_from m.layout.program.items m.layout.gates
-  pub room : 4 * length (placed_code version_1 (entry_gate m) (units m)) ≤ CODE_SIZE
+  pub legal : AreGates m.layout.closed.classes m.long 0 m.layout.profile.units_from m.layout.program.items m.layout.gates
+  pub room : 4 * length (placed_code m.layout.profile (entry_gate m) (units m)) ≤ CODE_SIZE
   pub values : (k : ℕ) → k < count m.layout.program → is_end (item_of m.layout.program k).kind ≡ false →
       is_some (instr_at m.layout.program m.layout.gates (words_from m.layout.closed.classes 0 m.layout.gates) k) ≡ true
   -- the members of classes are places, rise, and are in one class alone; each computed transfer is a site, with a class that is there

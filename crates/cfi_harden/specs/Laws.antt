@@ -1,7 +1,6 @@
 -- What holds of a choice that is accepted: the code that is written for it, with its graph, meets the verifier's rules.
 use Rattle.std.specs.Prelude.{◌≡◌, ℕ, ◌*◌, ◌<◌, List, length, Some}
 use Rattle.rv_word.specs.Image.{Contents}
-use Rattle.rv_word.specs.MemoryMap.{version_1}
 use Rattle.obj_program.specs.Program.{count, item_of}
 use Rattle.cfi_graph.specs.Graph.{GraphParts, IsGraph}
 use Rattle.cfi_graph.specs.declared.line.GraphLine.{GraphLine}
@@ -17,19 +16,19 @@ use Rattle.cfi_harden.specs.Units.{Choice, entry_gate, unit_for, units}
 
 -- the words of the whole code, and the lines of its classes
 abbrev pub written_code : Choice → List ℕ
-written_code m = placed_code version_1 (entry_gate m) (units m)
+written_code m = placed_code m.layout.profile (entry_gate m) (units m)
 
 abbrev pub written_classes : Choice → List GraphLine
 written_classes m = class_lines m.layout.gates m.labels (all_classes m.layout.closed)
 
 -- units and classes are sound
 abbrev pub WrittenIsSound : Type 0
-WrittenIsSound = (m : Choice) → IsAccepted m → IsSound version_1 (entry_gate m) (units m) (written_classes m)
+WrittenIsSound = (m : Choice) → IsAccepted m → IsSound m.layout.profile (entry_gate m) (units m) (written_classes m)
 
 -- the lines of the graph at the map are those of the units with those of the classes
 abbrev pub WrittenLines : Type 0
 WrittenLines =
-    (m : Choice) → IsAccepted m → graph_lines m.layout m.labels ≡ placed_lines version_1 (entry_gate m) (units m) (written_classes m)
+    (m : Choice) → IsAccepted m → graph_lines m.layout m.labels ≡ placed_lines m.layout.profile (entry_gate m) (units m) (written_classes m)
 
 -- they are a graph's, of a code of this length
 abbrev pub WrittenIsGraph : Type 0
@@ -40,16 +39,16 @@ WrittenIsGraph =
 abbrev pub WrittenIsWellFormed : Type 0
 WrittenIsWellFormed =
     (m : Choice) (image : Contents) (graph : GraphParts) → IsAccepted m → code_words image.code ≡ written_code m →
-    graph.lines ≡ graph_lines m.layout m.labels → graph.code ≡ length image.code → IsWellFormed version_1 image graph
+    graph.lines ≡ graph_lines m.layout m.labels → graph.code ≡ length image.code → IsWellFormed m.layout.profile image graph
 
 -- at the word of each place stands its unit, and at the gate of each target of a class a gate word with the class's label
 abbrev pub WrittenUnits : Type 0
 WrittenUnits =
     (m : Choice) → IsAccepted m → (k : ℕ) → k < count m.layout.program →
-    (unit_at version_1 (written_code m) (word m.layout k) ≡ Some (unit_for m k (item_of m.layout.program k)))
+    (unit_at m.layout.profile (written_code m) (word m.layout k) ≡ Some (unit_for m k (item_of m.layout.program k)))
     × ((label : ℕ) → label_at m.labels m.layout.closed.classes k ≡ Some label →
-    unit_at version_1 (written_code m) (gate m.layout k) ≡ Some (V.Gate label))
+    unit_at m.layout.profile (written_code m) (gate m.layout k) ≡ Some (V.Gate label))
 
 -- the opening calls the entry's gate
 abbrev pub WrittenEntry : Type 0
-WrittenEntry = (m : Choice) → IsAccepted m → entry_of version_1 (written_code m) ≡ Some (entry_gate m)
+WrittenEntry = (m : Choice) → IsAccepted m → entry_of m.layout.profile (written_code m) ≡ Some (entry_gate m)

@@ -1,6 +1,7 @@
 //! What is chosen for a program before it is written: a map, flags, labels and an entry.
 
 ghost use Rattle.std.specs.Prelude.{◌≡◌, ◌<◌, ◌^◌, IfOk, IfSome, length, slice_index};
+ghost use Rattle.rv_word.specs.MemoryMap.{version_1};
 ghost use Rattle.obj_program.specs.Program.{count, item_of};
 ghost use Rattle.cfi_flow.specs.GraphAtMap.{gate, gate_to, word};
 ghost use Rattle.cfi_flow.specs.LabelOf.{all_classes, label_at, site_label};
@@ -87,6 +88,7 @@ impl<'a, 'b> Chosen<'a, 'b> {
     pub(crate) fn count(&self) -> u64
         ensures value { result ≡ count self.now.layout.program }
         ensures accepted { IsAccepted self.now }
+        ensures profile { self.now.layout.profile ≡ version_1 }
     {
         self.mapped.items.count()
     }
@@ -148,6 +150,7 @@ impl<'a, 'b> Chosen<'a, 'b> {
     pub fn entry_gate(&self) -> u64
         ensures value { result ≡ gate self.now.layout self.now.layout.entry }
         ensures accepted { IsAccepted self.now }
+        ensures profile { self.now.layout.profile ≡ version_1 }
     {
         address_at(self.mapped.gates, self.entry)
     }

@@ -86,7 +86,7 @@ fn closing() -> [Instr; 2]
 /// The prologue, which calls the entry at this address.
 fn prologue(alloc: Global, entry: u64) -> Result<Vec<u8>, NoMemory>
     requires { Reaches OPENING_CALL entry }
-    ensures words { IfOk result (λ v. code_words v.items ≡ map code_of (prologue_instrs entry)) }
+    ensures words { IfOk result (λ v. code_words v.items ≡ map code_of (prologue_instrs version_1 entry)) }
     ensures size { IfOk result (λ v. length v.items ≡ 64) }
 {
     let call = emit(alloc, &Unit::Call(entry), START + 12)?;

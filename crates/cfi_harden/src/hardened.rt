@@ -45,7 +45,7 @@ impl Model for Hardened {
 
 impl<'a, 'b> Chosen<'a, 'b> {
     /// The bytes of the code.
-    #[tactic(auto, using(crate::proofs::WholeImage::reaches, crate::proofs::WholeImage::all_fit, crate::proofs::WholeImage::in_room))]
+    #[tactic(auto, using(crate::proofs::WholeImage::reaches, crate::proofs::WholeImage::all_fit, crate::proofs::WholeImage::code_of_one, crate::proofs::WholeImage::in_room))]
     fn code(&self, alloc: Global) -> Result<Vec<u8>, NoMemory>
         ensures words { IfOk result (λ v. code_words v.items ≡ written_code self.now) }
         ensures size { IfOk result (λ v. length v.items ≡ 4 * length (written_code self.now)) }

@@ -2,7 +2,7 @@
 use Rattle.std.proofs.Common.{◌≡◌, ℕ, zero, suc, ◌+◌, ◌==◌, true, false, not, Bool, if◌then◌else◌, refl, sym, ap, ◌∙◌, arith}
 use Rattle.std.specs.Prelude.{nat_lt}
 use Rattle.std.proofs.lemmas.Bool.{eqb-true}
-use Rattle.rv_word.specs.MemoryMap.{version_1}
+use Rattle.rv_word.specs.MemoryMap.{Profile}
 use Rattle.rv_instr.specs.Registers.{get_reg}
 use Rattle.rv_instr.specs.declared.instr.Instr.{Instr}
 use Rattle.rv_instr.specs.declared.instr.Instr.TheVariants as I
@@ -44,31 +44,31 @@ turned : (taken : Bool) (target next : ℕ) → (if not taken then next else tar
 turned true target next = refl
 turned false target next = refl
 
-own_of_kind : (kind : ItemKind) (i : Instr) (long : Bool) (target label next : ℕ) (o : Own) → is_end kind ≡ false → suits kind i ≡ true →
-    own_past version_1 o (unit_of kind i long target label) next ≡ kind_step kind i target next o
-own_of_kind is.Gate (I.Upper Lui zero imm) long target label next o some suit = refl
-own_of_kind is.Gate (I.Upper Lui (suc rd) imm) long target label next o some suit = absurd (let none = eqb-true (suc rd) 0 suit in omega arith)
-own_of_kind is.Gate (I.Upper Auipc rd imm) long target label next o some suit = absurd (cc)
-own_of_kind is.Plain i long target label next o some suit = refl
-own_of_kind is.Store (I.Store op rs1 rs2 imm) long target label next o some suit = refl
-own_of_kind is.System I.Ecall long target label next o some suit = refl
-own_of_kind is.System I.Ebreak long target label next o some suit = refl
-own_of_kind is.Branch (I.Branch op rs1 rs2 imm) true target label next o some suit =
+own_of_kind : (p : Profile) (kind : ItemKind) (i : Instr) (long : Bool) (target label next : ℕ) (o : Own) → is_end kind ≡ false → suits kind i ≡ true →
+    own_past p o (unit_of kind i long target label) next ≡ kind_step p kind i target next o
+own_of_kind p is.Gate (I.Upper Lui zero imm) long target label next o some suit = refl
+own_of_kind p is.Gate (I.Upper Lui (suc rd) imm) long target label next o some suit = absurd (let none = eqb-true (suc rd) 0 suit in omega arith)
+own_of_kind p is.Gate (I.Upper Auipc rd imm) long target label next o some suit = absurd (cc)
+own_of_kind p is.Plain i long target label next o some suit = refl
+own_of_kind p is.Store (I.Store op rs1 rs2 imm) long target label next o some suit = refl
+own_of_kind p is.System I.Ecall long target label next o some suit = refl
+own_of_kind p is.System I.Ebreak long target label next o some suit = refl
+own_of_kind p is.Branch (I.Branch op rs1 rs2 imm) true target label next o some suit =
     let a = get_reg o.regs rs1 in
     let b = get_reg o.regs rs2 in
-    ap (goes version_1 o) (ap (λ (taken : Bool). if taken then next else target) (inverse_taken op a b) ∙ turned (branch_taken op a b) target next)
-own_of_kind is.Branch (I.Branch op rs1 rs2 imm) false target label next o some suit = refl
-own_of_kind is.Jump i long target label next o some suit = refl
-own_of_kind is.Call i long target label next o some suit = refl
-own_of_kind is.Return i long target label next o some suit = refl
-own_of_kind is.Ijump (I.Jalr rd rs1 imm) long target label next o some suit = refl
-own_of_kind is.Icall (I.Jalr rd rs1 imm) long target label next o some suit = refl
-own_of_kind kind i long target label next o some suit = absurd (cc)
+    ap (goes p o) (ap (λ (taken : Bool). if taken then next else target) (inverse_taken op a b) ∙ turned (branch_taken op a b) target next)
+own_of_kind p is.Branch (I.Branch op rs1 rs2 imm) false target label next o some suit = refl
+own_of_kind p is.Jump i long target label next o some suit = refl
+own_of_kind p is.Call i long target label next o some suit = refl
+own_of_kind p is.Return i long target label next o some suit = refl
+own_of_kind p is.Ijump (I.Jalr rd rs1 imm) long target label next o some suit = refl
+own_of_kind p is.Icall (I.Jalr rd rs1 imm) long target label next o some suit = refl
+own_of_kind p kind i long target label next o some suit = absurd (cc)
 
 pub step_of_kind : law.StepOfKind
 step_of_kind m k o ok place =
     let words = words_from m.layout.closed.classes 0 m.layout.gates in
     let is = kept m.layout.program m.layout.gates words k (instr_of m k) ok.sound place.below place.no_end (instr_is m ok k place.below place.no_end) in
-    ap (own_past version_1 (at_word m k o) (unit_here m k)) (sym (next_gate m k ok place).1)
-    ∙ own_of_kind (item_of m.layout.program k).kind (instr_of m k) (is_long m.long k) (gate_to m.layout (item_of m.layout.program k).target)
+    ap (own_past m.layout.profile (at_word m k o) (unit_here m k)) (sym (next_gate m k ok place).1)
+    ∙ own_of_kind m.layout.profile (item_of m.layout.program k).kind (instr_of m k) (is_long m.long k) (gate_to m.layout (item_of m.layout.program k).target)
     (site_label m.labels m.layout.closed k) (gate m.layout (k + 1)) (at_word m k o) place.no_end is.0

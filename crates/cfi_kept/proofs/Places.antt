@@ -2,9 +2,9 @@
 use Rattle.std.proofs.Common.{◌≡◌, ℕ, ◌+◌, ◌<◌, inl, inr, true, List, [], ◌∷◌, Some, refl, sym, ap, subst, ◌∙◌, arith}
 use Rattle.std.proofs.lemmas.Bool.{cases_lt}
 use Rattle.rv_word.specs.Image.{Contents}
-use Rattle.rv_word.specs.MemoryMap.{version_1}
 use Rattle.rv_word.specs.Memory.{loaded}
 use Rattle.rv_word.proofs.Cases.{cases_Option}
+use Rattle.rv_word.proofs.Versions.{laid_out}
 use Rattle.obj_program.specs.Program.{count, is_end, item_of}
 use Rattle.obj_program.proofs.Kept.{kept}
 use Rattle.cfi_flow.specs.GraphAtMap.{gate, gate_to, word}
@@ -17,7 +17,6 @@ use Rattle.cfi_unit.specs.UnitWords.{Fits, instrs_of}
 use Rattle.cfi_runs.specs.Own.{Own}
 use Rattle.cfi_runs.specs.Tame.{NamesNoReserved, TameStep}
 use Rattle.cfi_verify.specs.Split.{code_words, unit_at}
-use Rattle.cfi_verify.proofs.Find.{UnitHere}
 use Rattle.cfi_verify.proofs.Places.{unit_facts}
 use Rattle.cfi_verify.proofs.Standing.{unit_stands}
 use Rattle.cfi_harden.specs.Units.{Choice, instr_of}
@@ -33,19 +32,21 @@ use Rattle.cfi_kept.proofs.Prologue.{formed, written_graph}
 
 module _ (m : Choice) (image : Contents) (of : IsImageOf m image) where
   -- a unit that is written stands
-  pub stands_here : (a : ℕ) (u : U.Unit) → unit_at version_1 (code_words image.code) a ≡ Some u → Fits u a × Stand (loaded image) a (instrs_of u a)
+  pub stands_here : (a : ℕ) (u : U.Unit) → unit_at m.layout.profile (code_words image.code) a ≡ Some u → Fits u a × Stand (loaded image) a (instrs_of u a)
   stands_here a u e =
-      let here : UnitHere (code_words image.code) a u = unit_facts image (written_graph m image of) of.bytes (formed m image of) a u e in
-      (here.begins.fits, unit_stands image of.bytes a u here)
+      let p = m.layout.profile in
+      let laid = laid_out p of.accepted.profile in
+      let here = unit_facts p of.accepted.profile image (written_graph m image of) of.bytes (formed m image of) a u e in
+      (here.begins.fits, unit_stands p laid image of.bytes a u here)
 
-  pub unit_written : (k : ℕ) → k < count m.layout.program → unit_at version_1 (code_words image.code) (word m.layout k) ≡ Some (unit_here m k)
+  pub unit_written : (k : ℕ) → k < count m.layout.program → unit_at m.layout.profile (code_words image.code) (word m.layout k) ≡ Some (unit_here m k)
   unit_written k below =
-      subst (λ (ws : List ℕ). unit_at version_1 ws (word m.layout k) ≡ Some (unit_here m k)) (sym of.code) (written_units m of.accepted k below).0
+      subst (λ (ws : List ℕ). unit_at m.layout.profile ws (word m.layout k) ≡ Some (unit_here m k)) (sym of.code) (written_units m of.accepted k below).0
 
   pub gate_written : (k label : ℕ) → k < count m.layout.program → label_of m k ≡ Some label →
-      unit_at version_1 (code_words image.code) (gate m.layout k) ≡ Some (V.Gate label)
+      unit_at m.layout.profile (code_words image.code) (gate m.layout k) ≡ Some (V.Gate label)
   gate_written k label below some =
-      subst (λ (ws : List ℕ). unit_at version_1 ws (gate m.layout k) ≡ Some (V.Gate label)) (sym of.code)
+      subst (λ (ws : List ℕ). unit_at m.layout.profile ws (gate m.layout k) ≡ Some (V.Gate label)) (sym of.code)
       ((written_units m of.accepted k below).1 label some)
 
   place_free : (k : ℕ) → IsPlace m k → NamesNoReserved (unit_here m k)

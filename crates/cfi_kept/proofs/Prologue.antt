@@ -1,11 +1,14 @@
 -- What is written meets the rules, so its prologue stands.
-use Rattle.std.proofs.Common.{◌≡◌, ℕ, length, refl, sym, ap, subst, ◌∙◌, lit≤}
+use Rattle.std.proofs.Common.{◌≡◌, ℕ, inl, inr, length, refl, sym, ap, subst, ◌∙◌}
 use Rattle.std.proofs.lemmas.Option.{same_Some}
 use Rattle.rv_word.specs.Image.{Contents}
-use Rattle.rv_word.specs.MemoryMap.{version_1}
+use Rattle.rv_word.specs.MemoryMap.{IsProfile, Profile}
 use Rattle.rv_word.specs.Memory.{loaded}
 use Rattle.cfi_graph.specs.Graph.{GraphParts}
 use Rattle.cfi_flow.specs.GraphAtMap.{graph_lines}
+use Rattle.cfi_unit.specs.declared.unit.Unit.TheVariants as V
+use Rattle.cfi_unit.specs.Prologue.{call_at}
+use Rattle.cfi_unit.specs.UnitWords.{Fits, Reaches}
 use Rattle.cfi_unit.proofs.PrologueUnits.{PrologueStands, prologue_stands}
 use Rattle.cfi_runs.specs.WholeRun.{HasPrologue}
 use Rattle.cfi_verify.specs.Rules.{IsWellFormed}
@@ -17,24 +20,33 @@ use Rattle.cfi_harden.proofs.Written.{written_entry, written_well_formed}
 use Rattle.cfi_kept.specs.PlaceLaws as law
 use Rattle.cfi_kept.specs.ImageOf.{IsImageOf}
 
+-- where the opening's jump reaches the entry, its call as a unit may stand
+call_fits : (p : Profile) (entry : ℕ) → IsProfile p → Reaches p.opening_call entry → Fits (V.Call entry) (call_at p)
+call_fits p entry is = elim is [
+  | inl e ↦ subst (λ (x : Profile). Reaches x.opening_call entry → Fits (V.Call entry) (call_at x)) (sym e) (λ reaches. (refl, reaches))
+  | inr e ↦ subst (λ (x : Profile). Reaches x.opening_call entry → Fits (V.Call entry) (call_at x)) (sym e) (λ reaches. (refl, reaches))
+]
+
 module _ (m : Choice) (image : Contents) (of : IsImageOf m image) where
   -- the graph that is written
   abbrev pub written_graph : GraphParts
   written_graph = record { code = length image.code; lines = graph_lines m.layout m.labels }
 
-  pub formed : IsWellFormed version_1 image written_graph
+  pub formed : IsWellFormed m.layout.profile image written_graph
   formed = written_well_formed m image written_graph of.accepted of.code refl refl
 
 pub written_prologue : law.WrittenPrologue
 written_prologue m image of =
-    let found = prologue image (written_graph m image of) of.bytes (formed m image of) in
+    let p = m.layout.profile in
+    let is = of.accepted.profile in
+    let found = prologue p is image (written_graph m image of) of.bytes (formed m image of) in
     let same : found.0 ≡ entry_gate m =
-    same_Some found.0 (entry_gate m) (sym found.1.is ∙ ap (entry_of version_1) of.code ∙ written_entry m of.accepted) in
-    let stands : PrologueStands (loaded image) found.0 = prologue_stands (loaded image) found.0 found.1.stands in
-    subst (λ (entry : ℕ). HasPrologue version_1 image entry) same (record {
-      own = record { low = lit≤ tt; high = lit≤ tt; aligned = refl; most = lit≤ tt };
+    same_Some found.0 (entry_gate m) (sym found.1.is ∙ ap (entry_of p) of.code ∙ written_entry m of.accepted) in
+    let stands : PrologueStands p (loaded image) found.0 = prologue_stands p is (loaded image) found.0 found.1.stands in
+    subst (λ (entry : ℕ). HasPrologue p image entry) same (record {
+      is = is;
       bytes = loaded_small image of.bytes;
-      fits = (refl, found.1.reaches);
+      fits = call_fits p found.0 is found.1.reaches;
       opening = stands.opening;
       closing = stands.closing;
     })

@@ -1,7 +1,7 @@
 -- What a place's own step is, by the kind of its instruction: transfers go to gates, links are the next
 -- place's gate, and any other instruction has the hart's own effect at the place's word.
 use Rattle.std.specs.Prelude.{◌≡◌, ℕ, ◌+◌, if◌then◌else◌}
-use Rattle.rv_word.specs.MemoryMap.{version_1}
+use Rattle.rv_word.specs.MemoryMap.{Profile}
 use Rattle.rv_instr.specs.Registers.{get_reg}
 use Rattle.rv_instr.specs.declared.instr.Instr.{Instr}
 use Rattle.rv_instr.specs.declared.instr.Instr.TheVariants as I
@@ -17,19 +17,19 @@ use Rattle.cfi_kept.specs.ImageOf.{IsPlace}
 use Rattle.cfi_kept.specs.PlaceSteps.{at_word, place_step}
 
 -- with the gates of its target and of the next place
-abbrev pub kind_step : ItemKind → Instr → ℕ → ℕ → Own → OwnAfter
-kind_step is.Branch (I.Branch op rs1 rs2 imm) target next o =
-    goes version_1 o (if branch_taken op (get_reg o.regs rs1) (get_reg o.regs rs2) then target else next)
-kind_step is.Jump i target next o = goes version_1 o target
-kind_step is.Call i target next o = calls version_1 o target next
-kind_step is.Return i target next o = returns version_1 o o.pending
-kind_step is.Ijump (I.Jalr rd rs1 imm) target next o = goes version_1 o (computed o.regs rs1 imm)
-kind_step is.Icall (I.Jalr rd rs1 imm) target next o = calls version_1 o (computed o.regs rs1 imm) next
-kind_step kind i target next o = executes version_1 o i o.regs next
+abbrev pub kind_step : Profile → ItemKind → Instr → ℕ → ℕ → Own → OwnAfter
+kind_step p is.Branch (I.Branch op rs1 rs2 imm) target next o =
+    goes p o (if branch_taken op (get_reg o.regs rs1) (get_reg o.regs rs2) then target else next)
+kind_step p is.Jump i target next o = goes p o target
+kind_step p is.Call i target next o = calls p o target next
+kind_step p is.Return i target next o = returns p o o.pending
+kind_step p is.Ijump (I.Jalr rd rs1 imm) target next o = goes p o (computed o.regs rs1 imm)
+kind_step p is.Icall (I.Jalr rd rs1 imm) target next o = calls p o (computed o.regs rs1 imm) next
+kind_step p kind i target next o = executes p o i o.regs next
 
 abbrev pub StepOfKind : Type 0
 StepOfKind =
     (m : Choice) (k : ℕ) (o : Own) → IsAccepted m → IsPlace m k →
     place_step m k o ≡
-    kind_step (item_of m.layout.program k).kind (instr_of m k) (gate_to m.layout (item_of m.layout.program k).target)
+    kind_step m.layout.profile (item_of m.layout.program k).kind (instr_of m k) (gate_to m.layout (item_of m.layout.program k).target)
     (gate m.layout (k + 1)) (at_word m k o)

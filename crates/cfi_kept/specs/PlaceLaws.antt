@@ -1,7 +1,6 @@
 -- What stands at places, and where their gate words lead.
 use Rattle.std.specs.Prelude.{◌≡◌, ℕ, ◌+◌, ◌*◌, ◌≤◌, ◌<◌, Some, List}
 use Rattle.rv_word.specs.Image.{Contents}
-use Rattle.rv_word.specs.MemoryMap.{version_1}
 use Rattle.rv_word.specs.Memory.{loaded}
 use Rattle.obj_program.specs.Program.{count}
 use Rattle.cfi_flow.specs.Closed.{class_at, class_of}
@@ -23,11 +22,11 @@ use Rattle.cfi_kept.specs.PlaceSteps.{TamePlace, at_word}
 pub record ComesToPlace (m : Choice) (image : Contents) (k : ℕ) (o : Own) : Type 0 where
   pub path : List U.Unit
   pub few : words_along path ≤ 1
-  pub leads : OwnRuns version_1 (loaded image) path o (at_word m k o)
+  pub leads : OwnRuns m.layout.profile (loaded image) path o (at_word m k o)
   pub step : TameStep (loaded image) (unit_here m k) (at_word m k o)
 
 abbrev pub WrittenPrologue : Type 0
-WrittenPrologue = (m : Choice) (image : Contents) → IsImageOf m image → HasPrologue version_1 image (entry_gate m)
+WrittenPrologue = (m : Choice) (image : Contents) → IsImageOf m image → HasPrologue m.layout.profile image (entry_gate m)
 
 abbrev pub PlaceRuns : Type 0
 PlaceRuns = (m : Choice) (image : Contents) (k : ℕ) (o : Own) → IsImageOf m image → TamePlace m image k o → ComesToPlace m image k o

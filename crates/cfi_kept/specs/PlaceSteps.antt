@@ -1,7 +1,6 @@
 -- The program's own run by places: the step of a place is that of its unit, at the place's word.
 use Rattle.std.specs.Prelude.{◌≡◌, ℕ, ◌<◌, List, [], ◌∷◌, length}
 use Rattle.rv_word.specs.Image.{Contents}
-use Rattle.rv_word.specs.MemoryMap.{version_1}
 use Rattle.rv_word.specs.Memory.{loaded}
 use Rattle.rv_code.specs.declared.turn.Turn.TheVariants.{Ran}
 use Rattle.cfi_flow.specs.GraphAtMap.{gate, word}
@@ -22,7 +21,7 @@ abbrev pub at_word : Choice → ℕ → Own → Own
 at_word m k o = record o { pc = word m.layout k }
 
 abbrev pub place_step : Choice → ℕ → Own → OwnAfter
-place_step m k o = own_step version_1 (at_word m k o) (unit_here m k)
+place_step m k o = own_step m.layout.profile (at_word m k o) (unit_here m k)
 
 -- tame steps lead over these places from a state to another, and each goes on
 abbrev pub PlacesRun : Choice → Contents → List ℕ → Own → Own → Type 0

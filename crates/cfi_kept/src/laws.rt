@@ -24,7 +24,8 @@ pub fn target_bears()
 {}
 
 /// The undisturbed run of an image of what is written keeps the program's own run: after n tame steps of
-/// the program the machine is at a matching state within 21 n + 13 steps.
+/// the program the machine is at a matching state within 21 n steps, and 13 more in version 1 of images or
+/// 17 in version 2.
 pub fn places_kept()
     ensures { PlacesKept }
 {}

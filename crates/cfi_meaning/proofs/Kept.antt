@@ -2,12 +2,11 @@
 use Rattle.std.proofs.Common.{◌≡◌, ℕ, zero, suc, ◌+◌, ◌%◌, ◌^◌, List, [], ◌∷◌, ◌++◌, length, length-append, Some, None, refl, sym, ap, subst, ◌∙◌, arith}
 use Rattle.std.proofs.lemmas.Option.{option_and_then_some, same_Some}
 use Rattle.rv_word.specs.Image.{Contents}
-use Rattle.rv_word.specs.MemoryMap.{DATA_START, version_1}
+use Rattle.rv_word.specs.MemoryMap.{DATA_START, Profile}
 use Rattle.rv_word.specs.Memory.{placed, zeros}
-use Rattle.rv_instr.specs.Registers.{cleared, set_reg}
+use Rattle.rv_instr.specs.Registers.{cleared}
 use Rattle.rv_code.specs.State.{After, last_exit}
 use Rattle.rv_code.specs.declared.turn.Turn.TheVariants.{Ran}
-use Rattle.cfi_flow.specs.GraphAtMap.{gate}
 use Rattle.cfi_runs.specs.Own.{Own, OwnAfter, own_start}
 use Rattle.cfi_runs.specs.OwnRuns.{SitesFit}
 use Rattle.cfi_runs.specs.WholeRun.{RunsTo, own_shared, undisturbed}
@@ -22,7 +21,7 @@ use Rattle.cfi_flow.specs.Source.{Source, init_here, source_start}
 use Rattle.cfi_flow.specs.SourceStep.{SourceAfter, StepTurn, after_steps, breaks, closes, exits, going_on, ran, source_step, untame}
 use Rattle.cfi_meaning.proofs.KindActs.{IsOwn}
 use Rattle.cfi_meaning.proofs.Matching.{fitting, from_own}
-use Rattle.cfi_meaning.proofs.StepKept.{answers, closing_is, sites_after, step_kept}
+use Rattle.cfi_meaning.proofs.StepKept.{answers, sites_after, step_kept}
 use Rattle.cfi_meaning.proofs.Steps.{Stepped, at_closing, at_place, has_ended, is_untame, stepped}
 
 -- a step more at the end of a run over places
@@ -50,6 +49,9 @@ record Led (m : Choice) (image : Contents) (n : ℕ) (o last : Own) : Type 0 whe
   fit : SitesFit last.pending
 
 module _ (m : Choice) (image : Contents) (of : IsImageOf m image) (input : List ℕ) where
+  abbrev p : Profile
+  p = m.layout.profile
+
   abbrev start : Source
   start = source_start m.layout input
 
@@ -94,27 +96,21 @@ module _ (m : Choice) (image : Contents) (of : IsImageOf m image) (input : List 
       (λ s before on. led_on n s st (led n s before) on (stepped m image of s))
 
   module _ (init : image.init ≡ init_here m.layout) where
-    starts : own_of m.layout start ≡ own_start (entry_gate m) cleared (own_shared image input)
+    starts : own_of m.layout start ≡ own_start p 0 (entry_gate m) cleared (own_shared image input)
     starts =
-        ap (λ (c : ℕ). record {
-          pc = gate m.layout m.layout.entry;
-          regs = set_reg (set_reg cleared 2 (2 ^ 28)) 1 c;
-          shared = start.shared;
-          pending = c ∷ [];
-        }) (closing_is m image of)
-        ∙ ap (λ (bytes : List ℕ). own_start (entry_gate m) cleared (record { memory = placed zeros DATA_START bytes; left = input; output = []; events = [] })) (sym init)
+        ap (λ (bytes : List ℕ). own_start p 0 (entry_gate m) cleared (record { memory = placed zeros DATA_START bytes; left = input; output = []; events = [] })) (sym init)
 
     kept : (n : ℕ) (st : Source) → (l : Led m image n (own_of m.layout start) (own_of m.layout st)) → KeepsPlaces m image input l.places (own_of m.layout st)
     kept n st l =
         places_kept m image input l.places (own_of m.layout st) of (subst (λ (o : Own). PlacesRun m image l.places o (own_of m.layout st)) starts l.run)
 
-    goes : (n : ℕ) (st : Source) → after_steps m.layout n start ≡ Some st → RunsTo version_1 image input (bound n) (Matches m.layout image st)
+    goes : (n : ℕ) (st : Source) → after_steps m.layout n start ≡ Some st → RunsTo p image input (bound p n) (Matches m.layout image st)
     goes n st e =
         let l = led n st e in
         let comes = (kept n st l).goes in
         let few = comes.1 in
         let counted = l.counted in
-        (comes.0, omega arith, from_own m.layout image st (undisturbed version_1 image input comes.0) l.fit.most comes.2)
+        (comes.0, omega arith, from_own m.layout image st (undisturbed p image input comes.0) l.fit.most comes.2)
 
     ended : (turn : StepTurn) (next : Source) (after : After) → Answers m.layout image turn next after → EndsAs m.layout turn next after
     ended ran next after answer = tt
@@ -123,13 +119,13 @@ module _ (m : Choice) (image : Contents) (of : IsImageOf m image) (input : List 
     ended (untame why k) next after answer = tt
 
     ends_so : (n : ℕ) (st : Source) → after_steps m.layout n start ≡ Some st → Stepped m image st →
-        RunsTo version_1 image input (bound (n + 1)) (EndsAs m.layout (source_step m.layout st).turn (source_step m.layout st).state)
+        RunsTo p image input (bound p (n + 1)) (EndsAs m.layout (source_step m.layout st).turn (source_step m.layout st).state)
     ends_so n st e (has_ended status ended is) =
         let (steps, few, same) = goes n st e in
         let none : last_exit st.shared.events ≡ None = sym (ap last_exit same.events) ∙ same.going in
         absurd (cc)
     ends_so n st e (is_untame why k is) =
-        subst (λ (t : StepTurn). RunsTo version_1 image input (bound (n + 1)) (EndsAs m.layout t (source_step m.layout st).state)) (sym is) (0, omega arith, tt)
+        subst (λ (t : StepTurn). RunsTo p image input (bound p (n + 1)) (EndsAs m.layout t (source_step m.layout st).state)) (sym is) (0, omega arith, tt)
     ends_so n st e (at_place k now own) =
         let l = led n st e in
         let next = (kept n st l).next k now in
@@ -137,19 +133,19 @@ module _ (m : Choice) (image : Contents) (of : IsImageOf m image) (input : List 
         let counted = l.counted in
         let turn = (source_step m.layout st).turn in
         let state = (source_step m.layout st).state in
-        let after = undisturbed version_1 image input next.0 in (
+        let after = undisturbed p image input next.0 in (
           next.0,
           omega arith,
           ended turn state after (answers m image of turn state (place_step m k (own_of m.layout st)) own (sites_after m image of k (own_of m.layout st) now l.fit) after next.2),
         )
     ends_so n st e (at_closing nowhere is) =
         let l = led n st e in
-        let close = (kept n st l).closes (ap (address_of m.layout) nowhere ∙ closing_is m image of) in
+        let close = (kept n st l).closes (ap (address_of m.layout) nowhere) in
         let few = close.1 in
         let counted = l.counted in (
           close.0,
           omega arith,
-          subst (λ (a : SourceAfter). EndsAs m.layout a.turn a.state (undisturbed version_1 image input close.0)) (sym is) (close.2.turn, close.2.shared),
+          subst (λ (a : SourceAfter). EndsAs m.layout a.turn a.state (undisturbed p image input close.0)) (sym is) (close.2.turn, close.2.shared),
         )
 
 pub meaning_kept : MeaningKept

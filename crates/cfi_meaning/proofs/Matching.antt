@@ -1,11 +1,12 @@
 -- A state matches just where it is one that a run of the program's own comes to; its pending sites are addresses of instructions.
-use Rattle.std.proofs.Common.{◌≡◌, ℕ, ◌%◌, ◌^◌, ◌<◌, ◌≤◌, inl, inr, List, [], ◌∷◌, length, Option, Some, None, ap, arith}
+use Rattle.std.proofs.Common.{◌≡◌, ℕ, ◌%◌, ◌^◌, ◌<◌, ◌≤◌, inl, inr, List, [], ◌∷◌, length, Option, Some, None, arith}
 use Rattle.std.specs.List.{AllByRecursion}
 use Rattle.std.proofs.lemmas.Bool.{cases_lt}
 use Rattle.std.proofs.lemmas.List.{get_or_past}
 use Rattle.rv_word.specs.Image.{Contents}
-use Rattle.rv_word.specs.MemoryMap.{Profile, SHADOW_START}
+use Rattle.rv_word.specs.MemoryMap.{SHADOW_START}
 use Rattle.rv_word.specs.Memory.{loaded}
+use Rattle.rv_word.proofs.Versions.{laid_out}
 use Rattle.rv_code.specs.State.{After}
 use Rattle.obj_program.specs.Program.{count}
 use Rattle.cfi_flow.specs.GraphAtMap.{ProgramAtMap, gate}
@@ -68,7 +69,12 @@ IsSite site = (site % 2 ≡ 0) × (site < 2 ^ 64)
 
 module _ (m : Choice) (ok : IsAccepted m) where
   closing_site : IsSite m.layout.profile.closing
-  closing_site = let is = ap (λ (p : Profile). p.closing) ok.profile in (omega arith, omega arith)
+  closing_site =
+      let laid = laid_out m.layout.profile ok.profile in
+      let first_unit = laid.closing in
+      let high = laid.high in
+      let round = laid.round in
+      (omega arith, omega arith)
 
   gate_site : (k : ℕ) → IsSite (gate m.layout k)
   gate_site k = elim (cases_lt k (count m.layout.program)) [

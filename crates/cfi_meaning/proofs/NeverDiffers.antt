@@ -3,9 +3,10 @@
 use Rattle.std.proofs.Common.{◌≡◌, ℕ, zero, suc, ◌+◌, ◌-◌, ◌≤◌, ◌==◌, Bool, true, List, [], ◌∷◌, ◌++◌, length, map, Option, Some, None, append-nil, append_assoc, replicate, refl, sym, ap, subst, ◌∙◌, arith}
 use Rattle.std.proofs.lemmas.Bool.{eq-eqb, le-ltb}
 use Rattle.rv_word.specs.Image.{Contents}
-use Rattle.rv_word.specs.MemoryMap.{UNITS_START, version_1}
+use Rattle.rv_word.specs.MemoryMap.{IsProfile, Profile}
+use Rattle.rv_word.proofs.Versions.{laid_out}
 use Rattle.rv_code.specs.Continue.{continue}
-use Rattle.rv_code.specs.Run.{ByteChange, next_or_stop, run}
+use Rattle.rv_code.specs.Run.{ByteChange, next_or_stop, run_alone}
 use Rattle.rv_code.specs.State.{After, start_hart, start_shared}
 use Rattle.rv_code.specs.declared.event.Event.{Event}
 use Rattle.rv_code.specs.declared.turn.Turn.{Turn}
@@ -103,16 +104,19 @@ none_differs (untame why k) n d e = cc
 untame_differs : (turn : StepTurn) (why : _) (k : ℕ) (o : Option Difference) (n : ℕ) (d : Difference) → turn ≡ untame why k → verdict turn o n ≡ differs d → ⊥
 untame_differs turn why k o n d is e = let e' : verdict (untame why k) o n ≡ differs d = ap (λ (t : StepTurn). verdict t o n) (sym is) ∙ e in cc
 
-module _ (m : Choice) (image : Contents) (input : List ℕ) where
-  abbrev after : ℕ → After
-  after n = undisturbed version_1 image input n
+module _ (m : Choice) (is : IsProfile m.layout.profile) (image : Contents) (input : List ℕ) where
+  abbrev p : Profile
+  p = m.layout.profile
 
-  goes_on : (few most : ℕ) → few ≤ most → after most ≡ continue version_1 (after few) (replicate (most - few) [])
+  abbrev after : ℕ → After
+  after n = undisturbed p image input n
+
+  goes_on : (few most : ℕ) → few ≤ most → after most ≡ continue p (after few) (replicate (most - few) [])
   goes_on few most less =
       let e : most ≡ few + (most - few) = omega arith in
       ap after e
-      ∙ ap (run version_1 start_hart (start_shared image input)) (none_join few (most - few))
-      ∙ run_in_parts version_1 start_hart (start_shared image input) (replicate few []) (replicate (most - few) [])
+      ∙ ap (run_alone p (start_hart 0) (start_shared image input)) (none_join few (most - few))
+      ∙ run_in_parts p (start_hart 0) (start_shared image input) (replicate few []) (replicate (most - few) [])
 
   -- after a stop nothing follows
   exits_still : (a : After) (status : ℕ) (rest : After) → a.turn ≡ Exit status → next_or_stop a.turn a rest ≡ a
@@ -128,8 +132,8 @@ module _ (m : Choice) (image : Contents) (input : List ℕ) where
   added : (few most : ℕ) → few ≤ most → (after few).turn ≡ Ran → (more : List Event) × ((after most).shared.events ≡ (after few).shared.events ++ more)
   added few most less going =
       let a = after few in
-      let on = events_added version_1 a.hart a.shared (replicate (most - few) []) in
-      (on.0, ap (λ (x : After). x.shared.events) (goes_on few most less ∙ runs_still a (run version_1 a.hart a.shared (replicate (most - few) [])) going) ∙ on.1)
+      let on = events_added p a.hart a.shared (replicate (most - few) []) in
+      (on.0, ap (λ (x : After). x.shared.events) (goes_on few most less ∙ runs_still a (run_alone p a.hart a.shared (replicate (most - few) [])) going) ∙ on.1)
 
   map_join : (xs ys : List Event) → map called (xs ++ ys) ≡ map called xs ++ map called ys
   map_join [] ys = refl
@@ -158,7 +162,8 @@ module _ (m : Choice) (image : Contents) (input : List ℕ) where
       let same : after most ≡ after few = goes_on few most less ∙ breaks_still (after few) (word m.layout k) _ answer.0 in
       let events : (after most).shared.events ≡ st.shared.events = ap (λ (x : After). x.shared.events) same ∙ answer.2.events in
       let turn : (after most).turn ≡ Break (word m.layout k) = ap (λ (x : After). x.turn) same ∙ answer.0 in
-      let past : UNITS_START ≤ word m.layout k = answer.1 in
+      let past = answer.1 in
+      let low = (laid_out p is).low in
       let own : image_end (Break (word m.layout k)) ≡ broke ∷ [] = rw (le-ltb (word m.layout k) OPENING (omega arith)) refl in
       let none : first_difference 0 true (trace st.shared.events (broke ∷ [])) (trace (after most).shared.events (image_end (after most).turn)) ≡ None =
       ap (λ (es : List Event). first_difference 0 true (trace st.shared.events (broke ∷ [])) (trace es (image_end (after most).turn))) events
@@ -175,13 +180,13 @@ module _ (m : Choice) (image : Contents) (input : List ℕ) where
     abbrev told : SourceRun → Compared
     told r =
         verdict r.turn
-        (first_difference 0 (has_ended r.turn) (trace r.state.shared.events (source_end r.turn)) (trace (after (bound r.steps)).shared.events (image_end (after (bound r.steps)).turn)))
+        (first_difference 0 (has_ended r.turn) (trace r.state.shared.events (source_end r.turn)) (trace (after (bound p r.steps)).shared.events (image_end (after (bound p r.steps)).turn)))
         (length r.state.shared.events)
 
     never : (r : SourceRun) → Where m.layout start 0 r → (d : Difference) → told r ≡ differs d → ⊥
     never r (on_way t e) d differ =
         let here = kept.goes r.steps r.state (subst (λ (i : ℕ). after_steps m.layout i start ≡ Some r.state) (let s : 0 + r.steps ≡ r.steps = omega arith in s) e) in
-        let most = bound r.steps in
+        let most = bound p r.steps in
         let more = added here.0 most here.1 here.2.turn in
         let es = r.state.shared.events in
         let events : (after most).shared.events ≡ es ++ more.0 = more.1 ∙ ap (λ (old : List Event). old ++ more.0) here.2.events in
@@ -196,13 +201,13 @@ module _ (m : Choice) (image : Contents) (input : List ℕ) where
         let few = there.1 in
         let answer : EndsAs m.layout r.turn r.state (after there.0) =
         subst (λ (a : SourceAfter). EndsAs m.layout a.turn a.state (after there.0)) is there.2 in
-        ended_same r.turn r.state there.0 (bound r.steps) (omega arith) answer not_ran d differ
+        ended_same r.turn r.state there.0 (bound p r.steps) (omega arith) answer not_ran d differ
     never r (off_way why k is) d differ = untame_differs r.turn why k _ _ d is differ
 
 pub never_differs : law.NeverDiffers
 unfolding compared_from after_steps
 never_differs m image of init input limit d differ =
-    never m image input (meaning_kept m image input of init) (source_run m.layout limit (source_start m.layout input))
+    never m of.accepted.profile image input (meaning_kept m image input of init) (source_run m.layout limit (source_start m.layout input))
     (where_is m.layout (source_start m.layout input) limit (source_start m.layout input) 0 (begins m input)) d differ
   where
     begins : (m : Choice) (input : List ℕ) → after_steps m.layout 0 (source_start m.layout input) ≡ Some (source_start m.layout input)

@@ -1,17 +1,19 @@
 -- From any state that matches the next step is kept.
 use Rattle.std.proofs.Common.{◌≡◌, ℕ, suc, ◌+◌, ◌-◌, ◌≤◌, inl, List, [], ◌∷◌, None, refl, sym, ap, subst, ◌∙◌, arith}
 use Rattle.rv_word.specs.Image.{Contents}
-use Rattle.rv_word.specs.MemoryMap.{Profile, SHADOW_START, version_1}
+use Rattle.rv_word.specs.MemoryMap.{Profile, SHADOW_START}
 use Rattle.rv_word.specs.Memory.{Memory, loaded}
+use Rattle.rv_word.proofs.Versions.{laid_out}
 use Rattle.rv_code.specs.State.{After, Hart, Shared, last_exit}
 use Rattle.rv_code.specs.Step.{step, stops}
 use Rattle.rv_code.specs.declared.turn.Turn.TheVariants.{Ran}
 use Rattle.cfi_unit.specs.declared.unit.Unit as U
 use Rattle.cfi_unit.specs.Prologue.{closing_instrs}
-use Rattle.cfi_unit.specs.PrologueEffect.{closing_site}
+use Rattle.cfi_unit.specs.Shadow.{IsPart}
 use Rattle.cfi_unit.specs.Stand.{Stand}
 use Rattle.cfi_unit.specs.UnitWords.{word_count}
 use Rattle.cfi_unit.proofs.Counts.{most_words, some_word}
+use Rattle.cfi_unit.proofs.Parts.{own_is_part}
 use Rattle.cfi_runs.specs.MatchLaws.{ComesTo}
 use Rattle.cfi_runs.specs.Matching.{MatchesAfter, SameData}
 use Rattle.cfi_runs.specs.Matching as own
@@ -43,15 +45,18 @@ module _ (m : Choice) (image : Contents) (of : IsImageOf m image) where
   abbrev memory : Memory
   memory = loaded image
 
-  has : HasPrologue version_1 image (entry_gate m)
+  abbrev p : Profile
+  p = m.layout.profile
+
+  has : HasPrologue p image (entry_gate m)
   has = written_prologue m image of
 
-  pub closing_is : m.layout.profile.closing ≡ closing_site (entry_gate m)
-  closing_is = ap (λ (p : Profile). p.closing) of.accepted.profile
+  own_part : IsPart p SHADOW_START
+  own_part = let some = (laid_out p of.accepted.profile).some in own_is_part p of.accepted.profile 0 (omega arith)
 
   -- the step of a place leaves pending sites that fit
   pub sites_after : (k : ℕ) (o : Own) → TamePlace m image k o → SitesFit o.pending → SitesFit (place_step m k o).state.pending
-  sites_after k o now fit = sites_fit version_1 memory (unit_here m k) (at_word m k o) (place_runs m image k o of now).step fit
+  sites_after k o now fit = sites_fit p memory (unit_here m k) (at_word m k o) (place_runs m image k o of now).step fit
 
   -- what the own step comes to answers the source machine's
   pub answers : (turn : StepTurn) (next : Source) (o : OwnAfter) → IsOwn m.layout o turn next → SitesFit o.state.pending → (after : After) →
@@ -68,53 +73,53 @@ module _ (m : Choice) (image : Contents) (of : IsImageOf m image) where
 
   -- a path, then a unit, from any state that matches: the first step made
   along : (n : ℕ) (path : List U.Unit) (unit : U.Unit) (o last : Own) (h : Hart) (s : Shared) → words_along path + word_count unit ≤ suc n →
-      SitesFit o.pending → OwnRuns version_1 memory path o last → TameStep memory unit last → own.Matches SHADOW_START memory memory o h s →
-      Within version_1 n (MatchesAfter SHADOW_START memory memory (own_step version_1 last unit)) (step version_1 h s)
+      SitesFit o.pending → OwnRuns p memory path o last → TameStep memory unit last → own.Matches SHADOW_START memory memory o h s →
+      Within p n (MatchesAfter SHADOW_START memory memory (own_step p last unit)) (step p h s)
   along n [] unit o last h s few fit same tame matches =
-      within_more version_1 (MatchesAfter SHADOW_START memory memory (own_step version_1 last unit)) (word_count unit - 1) n (step version_1 h s) (omega arith)
-      (unit_keeps_match version_1 SHADOW_START memory memory unit last h s has.own has.bytes (subst (λ (x : Own). SitesFit x.pending) (sym same) fit) tame
+      within_more p (MatchesAfter SHADOW_START memory memory (own_step p last unit)) (word_count unit - 1) n (step p h s) (omega arith)
+      (unit_keeps_match p SHADOW_START memory memory unit last h s own_part has.bytes (subst (λ (x : Own). SitesFit x.pending) (sym same) fit) tame
       (subst (λ (x : Own). own.Matches SHADOW_START memory memory x h s) (sym same) matches))
   along n (unit' ∷ path) unit o last h s few fit on tame matches =
-      let R : After → Type 0 = MatchesAfter SHADOW_START memory memory (own_step version_1 o unit') in
-      let Q : After → Type 0 = MatchesAfter SHADOW_START memory memory (own_step version_1 last unit) in
+      let R : After → Type 0 = MatchesAfter SHADOW_START memory memory (own_step p o unit') in
+      let Q : After → Type 0 = MatchesAfter SHADOW_START memory memory (own_step p last unit) in
       let some = some_word unit' in
-      let fit' = sites_fit version_1 memory unit' o on.0 fit in
+      let fit' = sites_fit p memory unit' o on.0 fit in
       let further = words_along path + word_count unit in
-      within_more version_1 Q (word_count unit' - 1 + further) n (step version_1 h s) (omega arith)
-      (within_then version_1 R Q (word_count unit' - 1) further (step version_1 h s)
-      (unit_keeps_match version_1 SHADOW_START memory memory unit' o h s has.own has.bytes fit on.0 matches)
-      (λ b r. within_going version_1 Q further b (r.turn ∙ on.1)
-      (within_then version_1 (ComesTo SHADOW_START memory memory last) Q (words_along path) (word_count unit) (stops b.hart b.shared Ran)
-      (path_keeps_match version_1 SHADOW_START memory memory path (own_step version_1 o unit').state last b.hart b.shared has.own has.bytes fit' on.2 (r.going on.1))
-      (λ c there. within_going version_1 Q (word_count unit) c there.0
-      (unit_within version_1 SHADOW_START memory memory unit last c.hart c.shared has.own has.bytes
-      (path_fit version_1 image [] (entry_gate m) has path (own_step version_1 o unit').state last on.2 fit') tame there.1)))))
+      within_more p Q (word_count unit' - 1 + further) n (step p h s) (omega arith)
+      (within_then p R Q (word_count unit' - 1) further (step p h s)
+      (unit_keeps_match p SHADOW_START memory memory unit' o h s own_part has.bytes fit on.0 matches)
+      (λ b r. within_going p Q further b (r.turn ∙ on.1)
+      (within_then p (ComesTo SHADOW_START memory memory last) Q (words_along path) (word_count unit) (stops b.hart b.shared Ran)
+      (path_keeps_match p SHADOW_START memory memory path (own_step p o unit').state last b.hart b.shared own_part has.bytes fit' on.2 (r.going on.1))
+      (λ c there. within_going p Q (word_count unit) c there.0
+      (unit_within p SHADOW_START memory memory unit last c.hart c.shared own_part has.bytes
+      (path_fit p image [] (entry_gate m) has path (own_step p o unit').state last on.2 fit') tame there.1)))))
 
   keeps_so : (st : Source) (after : After) → Matches m.layout image st after → Stepped m image st →
-      Within version_1 20 (Answers m.layout image (source_step m.layout st).turn (source_step m.layout st).state) (step version_1 after.hart after.shared)
+      Within p 20 (Answers m.layout image (source_step m.layout st).turn (source_step m.layout st).state) (step p after.hart after.shared)
   keeps_so st after same (has_ended status ended is) =
       let none : last_exit st.shared.events ≡ None = sym (ap last_exit same.events) ∙ same.going in absurd (cc)
   keeps_so st after same (is_untame why k is) =
-      subst (λ (t : StepTurn). Within version_1 20 (Answers m.layout image t (source_step m.layout st).state) (step version_1 after.hart after.shared)) (sym is) (inl tt)
+      subst (λ (t : StepTurn). Within p 20 (Answers m.layout image t (source_step m.layout st).state) (step p after.hart after.shared)) (sym is) (inl tt)
   keeps_so st after same (at_place k now is) =
       let o = own_of m.layout st in
       let here = place_runs m image k o of now in
       let few = here.few in
       let most = most_words (unit_here m k) in
       let fit = fitting m of.accepted st same.room in
-      within_weaker version_1 (MatchesAfter SHADOW_START memory memory (place_step m k o))
+      within_weaker p (MatchesAfter SHADOW_START memory memory (place_step m k o))
       (Answers m.layout image (source_step m.layout st).turn (source_step m.layout st).state)
-      (answers (source_step m.layout st).turn (source_step m.layout st).state (place_step m k o) is (sites_after k o now fit)) 20 (step version_1 after.hart after.shared)
+      (answers (source_step m.layout st).turn (source_step m.layout st).state (place_step m k o) is (sites_after k o now fit)) 20 (step p after.hart after.shared)
       (along 20 here.path (unit_here m k) o (at_word m k o) after.hart after.shared (omega arith) fit here.leads here.step
       (to_own m.layout image st after same).1)
   keeps_so st after same (at_closing nowhere is) =
       let o = own_of m.layout st in
-      let pc = ap (address_of m.layout) nowhere ∙ closing_is in
-      within_weaker version_1 (MatchesAfter SHADOW_START memory memory (own_closing version_1 o))
+      let pc = ap (address_of m.layout) nowhere in
+      within_weaker p (MatchesAfter SHADOW_START memory memory (own_closing p o))
       (Answers m.layout image (source_step m.layout st).turn (source_step m.layout st).state)
-      (λ b ends. subst (λ (a : SourceAfter). Answers m.layout image a.turn a.state b) (sym is) (ends.turn, ends.shared)) 20 (step version_1 after.hart after.shared)
-      (within_more version_1 (MatchesAfter SHADOW_START memory memory (own_closing version_1 o)) 1 20 (step version_1 after.hart after.shared) (omega arith)
-      (closing_keeps_match version_1 SHADOW_START memory memory o after.hart after.shared has.own
+      (λ b ends. subst (λ (a : SourceAfter). Answers m.layout image a.turn a.state b) (sym is) (ends.turn, ends.shared)) 20 (step p after.hart after.shared)
+      (within_more p (MatchesAfter SHADOW_START memory memory (own_closing p o)) 1 20 (step p after.hart after.shared) (omega arith)
+      (closing_keeps_match p SHADOW_START memory memory o after.hart after.shared own_part
       (subst (λ (a : ℕ). Stand memory a closing_instrs) (sym pc) has.closing) (to_own m.layout image st after same).1))
 
 pub step_kept : law.StepKept

@@ -4,7 +4,6 @@ use Rattle.std.proofs.Common.{◌≡◌, ℕ, ◌≤◌, inl, inr, true, List, O
 use Rattle.std.proofs.lemmas.Bool.{cases_lt}
 use Rattle.std.proofs.lemmas.List.{get_or_past}
 use Rattle.rv_word.specs.Image.{Contents}
-use Rattle.rv_word.specs.MemoryMap.{UNITS_START}
 use Rattle.rv_word.proofs.Cases.{cases_Option}
 use Rattle.rv_instr.specs.Registers.{Registers}
 use Rattle.rv_code.specs.State.{Shared, last_exit}
@@ -80,7 +79,7 @@ module _ (m : Choice) (image : Contents) (of : IsImageOf m image) (k : ℕ) wher
             item.kind (instr_of m k) (is_long m.long k) (gate_to g item.target) suit no_reason;
       }
 
-      past : UNITS_START ≤ word g k
+      past : g.profile.units_from ≤ word g k
       past =
           let lies = gate_lies m of.accepted k place.below in
           let from = lies.0 in
@@ -92,7 +91,7 @@ module _ (m : Choice) (image : Contents) (of : IsImageOf m image) (k : ℕ) wher
       own_here =
           subst (λ o. IsOwn g o (acts g k item.kind (instr_here g k) (unwrap_or item.target 0) here).turn (acts g k item.kind (instr_here g k) (unwrap_or item.target 0) here).state)
           (sym (step_of_kind m k (own_of g here) of.accepted place))
-          (own_acts g of.accepted.profile k past r t pending item.kind (instr_of m k) item.target suit no_reason aim)
+          (own_acts g k past r t pending item.kind (instr_of m k) item.target suit no_reason aim)
 
 -- what a step is
 pub data Stepped (m : Choice) (image : Contents) (st : Source) : Type 0 where

@@ -1,8 +1,9 @@
 -- A program's run and the undisturbed run of its image, compared: the events of both in order and how
--- each ended, to the first that differs. The image runs 21 n + 13 steps for n of the program's.
+-- each ended, to the first that differs. For n steps of the program's the image runs 21 n and 13 more, or
+-- 17 more where it is for several harts, of which one runs alone.
 use Rattle.std.specs.Prelude.{ℕ, zero, suc, ◌==◌, ◌&&◌, Bool, true, false, nat_lt, if◌then◌else◌, Option, Some, None, List, [], ◌∷◌, ◌++◌, length, map}
 use Rattle.rv_word.specs.Image.{Contents}
-use Rattle.rv_word.specs.MemoryMap.{version_1}
+use Rattle.rv_word.specs.MemoryMap.{Profile}
 use Rattle.rv_code.specs.declared.event.Event.{Event}
 use Rattle.rv_code.specs.declared.turn.Turn.{Turn}
 use Rattle.rv_code.specs.declared.turn.Turn.TheVariants.{Ran, Exit, Break}
@@ -103,15 +104,15 @@ verdict ran None events = limited
 verdict (exits status) None events = same events
 verdict (breaks k) None events = same events
 
--- a program's run from a state, for so many steps at most, beside the run of an image with an input
-unfoldable pub compared_from : ProgramAtMap → Source → Contents → List ℕ → ℕ → Compared
-compared_from layout state image input limit =
+-- a program's run from a state, for so many steps at most, beside the run of an image of a profile with an input
+unfoldable pub compared_from : Profile → ProgramAtMap → Source → Contents → List ℕ → ℕ → Compared
+compared_from p layout state image input limit =
     let r = source_run layout limit state in
-    let a = undisturbed version_1 image input (bound r.steps) in
+    let a = undisturbed p image input (bound p r.steps) in
     verdict r.turn
     (first_difference 0 (has_ended r.turn) (trace r.state.shared.events (source_end r.turn)) (trace a.shared.events (image_end a.turn)))
     (length r.state.shared.events)
 
 -- a program's run from its start, with the same input
-abbrev pub compared : ProgramAtMap → Contents → List ℕ → ℕ → Compared
-compared layout image input limit = compared_from layout (source_start layout input) image input limit
+abbrev pub compared : Profile → ProgramAtMap → Contents → List ℕ → ℕ → Compared
+compared p layout image input limit = compared_from p layout (source_start layout input) image input limit

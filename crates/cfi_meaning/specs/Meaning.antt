@@ -1,9 +1,8 @@
 -- Meaning kept: after n tame steps of the source machine, none of which ends the run, the undisturbed run of the image is at a
 -- matching state within 21 n + 13 steps; and where the next step ends the run, the image's has ended alike within 21 (n + 1) + 13
--- in all.
+-- in all. An image for several harts runs with one alone, and for 13 reads 17.
 use Rattle.std.specs.Prelude.{◌≡◌, ℕ, ◌+◌, ◌≤◌, Some, List}
 use Rattle.rv_word.specs.Image.{Contents}
-use Rattle.rv_word.specs.MemoryMap.{UNITS_START, version_1}
 use Rattle.rv_code.specs.State.{After}
 use Rattle.rv_code.specs.Step.{step}
 use Rattle.rv_code.specs.declared.turn.Turn.TheVariants.{Exit, Break}
@@ -23,7 +22,7 @@ use Rattle.cfi_meaning.specs.Matches.{Matches}
 abbrev pub EndsAs : ProgramAtMap → StepTurn → Source → After → Type 0
 EndsAs layout (exits status) st after = (after.turn ≡ Exit status) × SameData st.shared after.shared
 EndsAs layout (breaks k) st after =
-    (after.turn ≡ Break (word layout k)) × (UNITS_START ≤ word layout k) × SameData st.shared after.shared
+    (after.turn ≡ Break (word layout k)) × (layout.profile.units_from ≤ word layout k) × SameData st.shared after.shared
 EndsAs layout other st after = Unit {0}
 
 -- the image goes on at a matching state, or has ended
@@ -36,14 +35,14 @@ Answers layout image other st after = EndsAs layout other st after
 abbrev pub KeepsStep : ProgramAtMap → Contents → Type 0
 KeepsStep layout image =
     (st : Source) (after : After) → Matches layout image st after →
-    Within version_1 20 (Answers layout image (source_step layout st).turn (source_step layout st).state)
-    (step version_1 after.hart after.shared)
+    Within layout.profile 20 (Answers layout image (source_step layout st).turn (source_step layout st).state)
+    (step layout.profile after.hart after.shared)
 
 pub record KeepsMeaning (layout : ProgramAtMap) (image : Contents) (input : List ℕ) : Type 0 where
   pub goes : (n : ℕ) (st : Source) → after_steps layout n (source_start layout input) ≡ Some st →
-      RunsTo version_1 image input (bound n) (Matches layout image st)
+      RunsTo layout.profile image input (bound layout.profile n) (Matches layout image st)
   pub ends : (n : ℕ) (st : Source) → after_steps layout n (source_start layout input) ≡ Some st →
-      RunsTo version_1 image input (bound (n + 1)) (EndsAs layout (source_step layout st).turn (source_step layout st).state)
+      RunsTo layout.profile image input (bound layout.profile (n + 1)) (EndsAs layout (source_step layout st).turn (source_step layout st).state)
   -- and the states that match are the right ones: from any of them the next step is kept
   pub stays : KeepsStep layout image
 

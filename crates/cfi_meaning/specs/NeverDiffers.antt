@@ -8,7 +8,7 @@ use Rattle.cfi_kept.specs.ImageOf.{IsImageOf}
 use Rattle.cfi_meaning.specs.Compared.{Difference, compared, differs}
 
 abbrev pub NoRunDiffers : ProgramAtMap → Contents → Type 0
-NoRunDiffers layout image = (input : List ℕ) (limit : ℕ) (d : Difference) → compared layout image input limit ≡ differs d → ⊥
+NoRunDiffers layout image = (input : List ℕ) (limit : ℕ) (d : Difference) → compared layout.profile layout image input limit ≡ differs d → ⊥
 
 abbrev pub NeverDiffers : Type 0
 NeverDiffers = (m : Choice) (image : Contents) → IsImageOf m image → image.init ≡ init_here m.layout → NoRunDiffers m.layout image

@@ -1,15 +1,16 @@
 -- The opening comes to the program's own start, the closing to its own end.
-use Rattle.std.proofs.Common.{◌≡◌, ℕ, ◌+◌, ◌^◌, ◌≤◌, inl, refl, sym, ap, subst, ◌∙◌, arith}
-use Rattle.rv_word.specs.MemoryMap.{Profile, SHADOW_START}
+use Rattle.std.proofs.Common.{◌≡◌, ℕ, ◌+◌, ◌-◌, ◌≤◌, length, inl, refl, sym, ap, subst, ◌∙◌, arith}
+use Rattle.rv_word.specs.MemoryMap.{Profile, SHADOW_START, part_of}
 use Rattle.rv_instr.specs.Registers.{set_reg}
 use Rattle.rv_instr.specs.declared.instr.Instr.TheVariants.{Ecall}
 use Rattle.rv_code.specs.State.{Hart, Shared, After}
 use Rattle.rv_code.specs.Step.{exec, step}
 use Rattle.rv_code.specs.declared.turn.Turn.TheVariants.{Ran}
 use Rattle.rv_code.proofs.Frames.{write_outside}
+use Rattle.cfi_unit.specs.Prologue.{opening_instrs}
 use Rattle.cfi_unit.specs.Between.{Unchanged}
 use Rattle.cfi_unit.specs.Leaving.{pushed}
-use Rattle.cfi_unit.specs.PrologueEffect.{OpeningDoes, ClosingDoes, closing_site}
+use Rattle.cfi_unit.specs.PrologueEffect.{stack_of, OpeningDoes, ClosingDoes}
 use Rattle.cfi_unit.specs.Shadow.{slot}
 use Rattle.cfi_runs.specs.MatchLaws as law
 use Rattle.cfi_runs.specs.MatchLaws.{ComesTo}
@@ -30,19 +31,20 @@ push_alike part n site t s low alike = record {
 }
 
 pub opening_keeps_match : law.OpeningKeepsMatch
-opening_keeps_match p image base entry r t h s i same alike =
-    within_weaker p (OpeningDoes SHADOW_START image base Unchanged entry h s) (ComesTo SHADOW_START image base (own_start entry r t)) comes 10 (step p h s)
-    (opening_runs p image base entry h s i)
+opening_keeps_match p image base entry hart r t h s i same alike =
+    within_weaker p (OpeningDoes p image base Unchanged entry hart h s) (ComesTo (part_of hart) image base (own_start p hart entry r t)) comes
+    (length (opening_instrs p entry) - 1) (step p h s)
+    (opening_runs p image base entry hart h s i)
   where
-    comes : (b : After) → OpeningDoes SHADOW_START image base Unchanged entry h s b → ComesTo SHADOW_START image base (own_start entry r t) b
+    comes : (b : After) → OpeningDoes p image base Unchanged entry hart h s b → ComesTo (part_of hart) image base (own_start p hart entry r t) b
     comes b left = (
       left.turn,
       record {
         pc = left.pc;
         regs =
-            same_trans _ (set_reg (set_reg h.regs 2 (2 ^ 28)) 1 (closing_site entry)) _
+            same_trans _ (set_reg (set_reg h.regs 2 (stack_of hart)) 1 p.closing) _
             (same_put _ _ 1 _ _ refl (same_put r h.regs 2 _ _ refl same)) left.regs;
-        shared = subst (λ (x : Shared). SameData t x) (sym left.shared) (push_alike SHADOW_START 0 (closing_site entry) t s (omega arith) alike);
+        shared = subst (λ (x : Shared). SameData t x) (sym left.shared) (push_alike (part_of hart) 0 p.closing t s (omega arith) alike);
         pointer = left.pointer;
         context = left.context;
       },

@@ -1,6 +1,6 @@
 -- What a unit does is what it stands for, where it passes on.
 use Rattle.std.proofs.Common.{◌≡◌, ℕ, ◌-◌, ◌%◌, ◌^◌, ◌<◌, inl, inr, List, [], ◌∷◌, length, ap, ◌∙◌, arith}
-use Rattle.rv_word.specs.MemoryMap.{Profile, SHADOW_START}
+use Rattle.rv_word.specs.MemoryMap.{Profile}
 use Rattle.rv_word.specs.Memory.{Memory, write}
 use Rattle.rv_instr.specs.Registers.{get_reg}
 use Rattle.rv_code.specs.Arithmetic.{store_size}
@@ -8,6 +8,7 @@ use Rattle.rv_code.specs.State.{Hart, Shared, After}
 use Rattle.cfi_unit.specs.declared.unit.Unit as U
 use Rattle.cfi_unit.specs.declared.unit.Unit.TheVariants as V
 use Rattle.cfi_unit.specs.UnitWords.{word_count}
+use Rattle.cfi_unit.specs.Prologue.{opening_instrs}
 use Rattle.cfi_unit.specs.Shadow.{MOST_PENDING}
 use Rattle.cfi_unit.specs.Between.{Unchanged}
 use Rattle.cfi_unit.specs.Leads.{sum_of}
@@ -64,9 +65,10 @@ unit_runs p part image base unit at pending h s i pass =
     (row p part image base h s unit at pending pass) (word_count unit - 1) h s (unit_within p part image base unit at pending h s i)
 
 pub opening_runs : law.OpeningRuns
-opening_runs p image base entry h s i =
-    let Q : After → Type 0 = OpeningDoes SHADOW_START image base Unchanged entry h s in
-    from_first p Q Q (λ b q. q) 10 h s (opening_does Unchanged unchanged_harmless p image base entry h s i)
+opening_runs p image base entry hart h s i =
+    let Q : After → Type 0 = OpeningDoes p image base Unchanged entry hart h s in
+    from_first p Q Q (λ b q. q) (length (opening_instrs p entry) - 1) h s
+    (opening_does Unchanged unchanged_harmless image base entry hart h s p i)
 
 pub closing_runs : law.ClosingRuns
 closing_runs p part image base at pending h s i =

@@ -1,8 +1,10 @@
 -- The opening, then a path, then a step or the closing: all of it is one run.
-use Rattle.std.proofs.Common.{inl, ◌≡◌, ℕ, ◌+◌, inr, List, [], ◌∷◌, None, refl, sym, subst, arith}
+use Rattle.std.proofs.Common.{inl, ◌≡◌, ℕ, suc, ◌+◌, ◌-◌, ◌==◌, inr, List, [], ◌∷◌, length, None, refl, sym, subst, arith}
+use Rattle.std.proofs.lemmas.Bool.{cases_Bool}
 use Rattle.rv_word.specs.Image.{Contents}
 use Rattle.rv_word.specs.MemoryMap.{CODE_START, Profile, SHADOW_START}
 use Rattle.rv_word.specs.Memory.{Memory, loaded}
+use Rattle.rv_word.proofs.Versions.{laid_out}
 use Rattle.rv_instr.specs.Registers.{cleared}
 use Rattle.rv_code.specs.State.{Hart, Shared, After, start_hart, start_shared, last_exit}
 use Rattle.rv_code.specs.Step.{stops}
@@ -10,14 +12,17 @@ use Rattle.rv_code.specs.declared.turn.Turn.TheVariants.{Ran}
 use Rattle.rv_code.proofs.Frames.{placed_outside}
 use Rattle.cfi_unit.specs.declared.unit.Unit as U
 use Rattle.cfi_unit.specs.UnitWords.{word_count}
-use Rattle.cfi_unit.specs.Prologue.{closing_instrs}
+use Rattle.cfi_unit.specs.Prologue.{opening_instrs, closing_instrs}
 use Rattle.cfi_unit.specs.PrologueEffect.{EntersOpening}
+use Rattle.cfi_unit.specs.Leaving.{SameRegisters}
+use Rattle.cfi_unit.specs.Shadow.{IsPart}
 use Rattle.cfi_unit.specs.Stand.{Stand}
+use Rattle.cfi_unit.proofs.Parts.{call_site, opening_length, own_is_part}
 use Rattle.cfi_runs.specs.Matching.{SameData, MatchesAfter}
 use Rattle.cfi_runs.specs.MatchLaws.{ComesTo}
 use Rattle.cfi_runs.specs.Own.{Own, own_step, own_closing, own_start}
 use Rattle.cfi_runs.specs.OwnRuns.{OwnRuns, SitesFit, words_along}
-use Rattle.cfi_runs.specs.WholeRun.{own_shared, CLOSING_WORDS, OPENING_WORDS, HasPrologue, Keeps, RunsTo, RunKeepsMatch}
+use Rattle.cfi_runs.specs.WholeRun.{own_shared, CLOSING_WORDS, opening_words, HasPrologue, Keeps, RunsTo, RunKeepsMatch}
 use Rattle.cfi_runs.specs.Within.{Within}
 use Rattle.cfi_runs.proofs.Calmly.{reached, within_going, within_then}
 use Rattle.cfi_runs.proofs.Ends.{opening_keeps_match, closing_keeps_match}
@@ -28,10 +33,10 @@ module _ (p : Profile) (image : Contents) (input : List ℕ) (entry : ℕ) (has 
   memory = loaded image
 
   abbrev start : After
-  start = stops start_hart (start_shared image input) Ran
+  start = stops (start_hart 0) (start_shared image input) Ran
 
   abbrev first : Own
-  first = own_start entry cleared (own_shared image input)
+  first = own_start p 0 entry cleared (own_shared image input)
 
   -- code is no data
   same_start : SameData (own_shared image input) (start_shared image input)
@@ -50,26 +55,40 @@ module _ (p : Profile) (image : Contents) (input : List ℕ) (entry : ℕ) (has 
   unfolding last_exit
   fresh = refl
 
-  enters : EntersOpening p memory memory entry start_hart (start_shared image input)
+  own : IsPart p SHADOW_START
+  own = let laid = laid_out p has.is in own_is_part p has.is 0 (omega arith)
+
+  enters : EntersOpening p memory memory entry 0 (start_hart 0) (start_shared image input)
   enters = record {
-    own = has.own;
+    is = has.is;
+    below = let laid = laid_out p has.is in omega arith;
+    number = refl;
     fits = has.fits;
     stands = has.opening;
     context = record { going = fresh; kept = record { code = λ k from to. refl; held = tt; frame = λ k from out. refl } };
     pc = refl;
   }
 
-  opened : Within p OPENING_WORDS (At first) start
-  opened = inr (refl, opening_keeps_match p memory memory entry cleared (own_shared image input) start_hart (start_shared image input) enters (record { same = λ k free. refl }) same_start)
+  -- the number in x10 is 0
+  same_regs : SameRegisters cleared (start_hart 0).regs
+  same_regs = record { same = λ k free. elim (cases_Bool (k == 10)) [ inl here ↦ rw here refl | inr other ↦ rw other refl ] }
+
+  opened : Within p (opening_words p) (At first) start
+  opened =
+      let whole = opening_length p has.is entry in
+      let site = call_site p has.is in
+      let count : suc (length (opening_instrs p entry) - 1) ≡ opening_words p = omega arith in
+      subst (λ (n : ℕ). Within p n (At first) start) count
+      (inr (refl, opening_keeps_match p memory memory entry 0 cleared (own_shared image input) (start_hart 0) (start_shared image input) enters same_regs same_start))
 
   first_fit : SitesFit first.pending
-  first_fit = record { each = ((omega arith, omega arith), tt); most = omega arith }
+  first_fit = let site = call_site p has.is in let laid = laid_out p has.is in record { each = ((omega arith, omega arith), tt); most = omega arith }
 
-  walked : (path : List U.Unit) (o : Own) → OwnRuns p memory path first o → Within p (OPENING_WORDS + words_along path) (At o) start
+  walked : (path : List U.Unit) (o : Own) → OwnRuns p memory path first o → Within p (opening_words p + words_along path) (At o) start
   walked path o on =
-      within_then p (At first) (At o) OPENING_WORDS (words_along path) start opened
+      within_then p (At first) (At o) (opening_words p) (words_along path) start opened
       (λ b here. within_going p (At o) (words_along path) b here.0
-      (path_keeps_match p SHADOW_START memory memory path first o b.hart b.shared has.own has.bytes first_fit on here.1))
+      (path_keeps_match p SHADOW_START memory memory path first o b.hart b.shared own has.bytes first_fit on here.1))
 
   pub path_fit : (path : List U.Unit) (from o : Own) → OwnRuns p memory path from o → SitesFit from.pending → SitesFit o.pending
   path_fit [] from o same fit = subst (λ (x : Own). SitesFit x.pending) (sym same) fit
@@ -79,23 +98,23 @@ module _ (p : Profile) (image : Contents) (input : List ℕ) (entry : ℕ) (has 
   told most Q on = let r = reached p most Q start on in (r.steps, r.few, r.met)
 
   last : (path : List U.Unit) (o : Own) (n : ℕ) (Q : After → Type 0) → OwnRuns p memory path first o →
-      ((h : Hart) (s : Shared) → At o (stops h s Ran) → Within p n Q (stops h s Ran)) → RunsTo p image input (OPENING_WORDS + (words_along path + n)) Q
+      ((h : Hart) (s : Shared) → At o (stops h s Ran) → Within p n Q (stops h s Ran)) → RunsTo p image input (opening_words p + (words_along path + n)) Q
   last path o n Q on next =
-      let e : OPENING_WORDS + words_along path + n ≡ OPENING_WORDS + (words_along path + n) = omega arith in
-      told (OPENING_WORDS + (words_along path + n)) Q
+      let e : opening_words p + words_along path + n ≡ opening_words p + (words_along path + n) = omega arith in
+      told (opening_words p + (words_along path + n)) Q
       (subst (λ (k : ℕ). Within p k Q start) e
-      (within_then p (At o) Q (OPENING_WORDS + words_along path) n start (walked path o on)
+      (within_then p (At o) Q (opening_words p + words_along path) n start (walked path o on)
       (λ b here. within_going p Q n b here.0 (next b.hart b.shared (refl, here.1)))))
 
   pub keeps : (path : List U.Unit) (o : Own) → OwnRuns p memory path first o → Keeps p image input entry path o
   keeps path o on = record {
-    goes = told (OPENING_WORDS + words_along path) (At o) (walked path o on);
+    goes = told (opening_words p + words_along path) (At o) (walked path o on);
     next = λ unit now. last path o (word_count unit) (MatchesAfter SHADOW_START memory memory (own_step p o unit)) on
-        (λ h s here. unit_within p SHADOW_START memory memory unit o h s has.own has.bytes (path_fit path first o on first_fit) now here.1);
+        (λ h s here. unit_within p SHADOW_START memory memory unit o h s own has.bytes (path_fit path first o on first_fit) now here.1);
     closes = λ pc. last path o CLOSING_WORDS (MatchesAfter SHADOW_START memory memory (own_closing p o)) on
         (λ h s here. inr (
           refl,
-          closing_keeps_match p SHADOW_START memory memory o h s has.own (subst (λ (a : ℕ). Stand memory a closing_instrs) (sym pc) has.closing) here.1,
+          closing_keeps_match p SHADOW_START memory memory o h s own (subst (λ (a : ℕ). Stand memory a closing_instrs) (sym pc) has.closing) here.1,
         ));
   }
 

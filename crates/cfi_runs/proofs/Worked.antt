@@ -18,7 +18,6 @@ use Rattle.rv_code.specs.declared.turn.Turn.TheVariants.{Exit}
 use Rattle.cfi_unit.specs.declared.unit.Unit.TheVariants as V
 use Rattle.cfi_unit.specs.UnitWords.{instrs_of}
 use Rattle.cfi_unit.specs.Prologue.{OPENING, opening_instrs, closing_instrs}
-use Rattle.cfi_unit.specs.PrologueEffect.{closing_site}
 use Rattle.cfi_runs.specs.Own.{Own, own_start, own_step}
 use Rattle.cfi_runs.specs.OwnRuns.{OwnRuns}
 use Rattle.cfi_runs.specs.Tame.{NamesNoReserved}
@@ -38,7 +37,7 @@ entry = 0x40000040
 abbrev seven : Instr
 seven = Immediate Addi 10 0 7
 
-opening_words : (k : ℕ) (i : Instr) → slice_get (opening_instrs entry) k ≡ Some i → decoded (read 4 (loaded image) (OPENING + 4 * k)) ≡ Some i
+opening_words : (k : ℕ) (i : Instr) → slice_get (opening_instrs version_1 entry) k ≡ Some i → decoded (read 4 (loaded image) (OPENING + 4 * k)) ≡ Some i
 unfolding loaded placed decoded
 opening_words zero i is = is
 opening_words (suc zero) i is = is
@@ -53,7 +52,7 @@ opening_words (suc (suc (suc (suc (suc (suc (suc (suc (suc zero))))))))) i is = 
 opening_words (suc (suc (suc (suc (suc (suc (suc (suc (suc (suc zero)))))))))) i is = is
 opening_words (suc (suc (suc (suc (suc (suc (suc (suc (suc (suc (suc k))))))))))) i is = absurd (cc)
 
-closing_words : (k : ℕ) (i : Instr) → slice_get (closing_instrs) k ≡ Some i → decoded (read 4 (loaded image) (closing_site entry + 4 * k)) ≡ Some i
+closing_words : (k : ℕ) (i : Instr) → slice_get (closing_instrs) k ≡ Some i → decoded (read 4 (loaded image) (version_1.closing + 4 * k)) ≡ Some i
 unfolding loaded placed decoded
 closing_words zero i is = is
 closing_words (suc zero) i is = is
@@ -93,7 +92,7 @@ bytes k =
 
 has_prologue : HasPrologue version_1 image entry
 has_prologue = record {
-  own = record { low = lit≤ tt; high = lit≤ tt; aligned = refl; most = lit≤ tt };
+  is = inl refl;
   bytes = bytes;
   fits = (refl, refl);
   opening = record { round = refl; low = lit≤ tt; high = lit≤ tt; words = opening_words };
@@ -101,7 +100,7 @@ has_prologue = record {
 }
 
 abbrev first : Own
-first = own_start entry cleared (own_shared image [])
+first = own_start version_1 0 entry cleared (own_shared image [])
 
 other_of : (a b : Bool) → a ≡ false → (a || b) ≡ true → b ≡ true
 other_of true b fails either = absurd (cc)

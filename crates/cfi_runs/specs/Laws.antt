@@ -2,7 +2,7 @@
 -- the next unit's run goes on: after one step, and then within at most as many steps as each has words
 -- more.
 use Rattle.std.specs.Prelude.{ℕ, ◌-◌, List, length}
-use Rattle.rv_word.specs.MemoryMap.{Profile, SHADOW_START}
+use Rattle.rv_word.specs.MemoryMap.{Profile}
 use Rattle.rv_word.specs.Memory.{Memory}
 use Rattle.rv_code.specs.State.{Hart, Shared}
 use Rattle.rv_code.specs.Step.{step}
@@ -24,8 +24,8 @@ UnitRuns =
 
 abbrev pub OpeningRuns : Type 0
 OpeningRuns =
-    (p : Profile) (image base : Memory) (entry : ℕ) (h : Hart) (s : Shared) → EntersOpening p image base entry h s →
-    Within p (length (opening_instrs entry) - 1) (OpeningDoes SHADOW_START image base Unchanged entry h s) (step p h s)
+    (p : Profile) (image base : Memory) (entry hart : ℕ) (h : Hart) (s : Shared) → EntersOpening p image base entry hart h s →
+    Within p (length (opening_instrs p entry) - 1) (OpeningDoes p image base Unchanged entry hart h s) (step p h s)
 
 abbrev pub ClosingRuns : Type 0
 ClosingRuns =

@@ -1,7 +1,7 @@
 -- The machine keeps the program's own run: from a matching state each tame step is matched within as
 -- many steps of the machine as its unit has words, so a path of them within as many as all have.
 use Rattle.std.specs.Prelude.{◌≡◌, ℕ, ◌-◌, ◌^◌, ◌<◌, List, length}
-use Rattle.rv_word.specs.MemoryMap.{Profile, SHADOW_START}
+use Rattle.rv_word.specs.MemoryMap.{Profile, part_of}
 use Rattle.rv_word.specs.Memory.{Memory}
 use Rattle.rv_instr.specs.Registers.{Registers}
 use Rattle.rv_code.specs.State.{Hart, Shared, After}
@@ -38,9 +38,9 @@ PathKeepsMatch =
 
 abbrev pub OpeningKeepsMatch : Type 0
 OpeningKeepsMatch =
-    (p : Profile) (image base : Memory) (entry : ℕ) (r : Registers) (t : Shared) (h : Hart) (s : Shared) →
-    EntersOpening p image base entry h s → SameRegisters r h.regs → SameData t s →
-    Within p (length (opening_instrs entry) - 1) (ComesTo SHADOW_START image base (own_start entry r t)) (step p h s)
+    (p : Profile) (image base : Memory) (entry hart : ℕ) (r : Registers) (t : Shared) (h : Hart) (s : Shared) →
+    EntersOpening p image base entry hart h s → SameRegisters r h.regs → SameData t s →
+    Within p (length (opening_instrs p entry) - 1) (ComesTo (part_of hart) image base (own_start p hart entry r t)) (step p h s)
 
 abbrev pub ClosingKeepsMatch : Type 0
 ClosingKeepsMatch =

@@ -1,6 +1,6 @@
 -- The program's own run, one instruction a step: what each unit stands for, on registers and memory in
 -- which no word of a unit has a part. The pending sites are a list of their own, the newest first.
-use Rattle.std.specs.Prelude.{ℕ, ◌*◌, ◌/◌, ◌^◌, if◌then◌else◌, List, [], ◌∷◌}
+use Rattle.std.specs.Prelude.{ℕ, ◌*◌, ◌/◌, if◌then◌else◌, List, [], ◌∷◌}
 use Rattle.rv_word.specs.MemoryMap.{Profile}
 use Rattle.rv_instr.specs.Registers.{Registers, get_reg, set_reg}
 use Rattle.rv_instr.specs.declared.instr.Instr.{Instr}
@@ -14,7 +14,7 @@ use Rattle.cfi_unit.specs.declared.unit.Unit as U
 use Rattle.cfi_unit.specs.declared.unit.Unit.TheVariants as V
 use Rattle.cfi_unit.specs.UnitWords.{BAD_TARGET, BAD_RETURN, after_unit, system_instr}
 use Rattle.cfi_unit.specs.Leads.{sum_of}
-use Rattle.cfi_unit.specs.PrologueEffect.{closing_site}
+use Rattle.cfi_unit.specs.PrologueEffect.{stack_of}
 
 pub record Own : Type 0 where
   pub pc : ℕ
@@ -75,11 +75,12 @@ module _ (p : Profile) (o : Own) where
   abbrev pub own_closing : OwnAfter
   own_closing = executes Ecall (set_reg o.regs 17 93) o.pc
 
--- a run starts at the entry, x1 has it return to the closing, and x2 is the end of the window of data
-abbrev pub own_start : ℕ → Registers → Shared → Own
-own_start entry r t = record {
+-- a hart's run starts at the entry, x1 has it return to the closing, and x2 is the end of the hart's
+-- stack of data
+abbrev pub own_start : Profile → ℕ → ℕ → Registers → Shared → Own
+own_start p hart entry r t = record {
   pc = entry;
-  regs = set_reg (set_reg r 2 (2 ^ 28)) 1 (closing_site entry);
+  regs = set_reg (set_reg r 2 (stack_of hart)) 1 p.closing;
   shared = t;
-  pending = closing_site entry ∷ [];
+  pending = p.closing ∷ [];
 }

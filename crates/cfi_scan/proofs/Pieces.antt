@@ -1,5 +1,5 @@
 -- Bytes that are cut into words, one byte or one word more, and what is kept of them.
-use Rattle.std.proofs.Common.{◌≡◌, ℕ, ◌+◌, ◌*◌, ◌/◌, ◌%◌, ◌<◌, ◌≤◌, List, [], ◌∷◌, ◌++◌, length, get_or, set, take, drop, Some, None, inl, inr, refl, sym, ap, ◌∙◌, subst, arith}
+use Rattle.std.proofs.Common.{◌≡◌, ℕ, ◌+◌, ◌*◌, ◌/◌, ◌%◌, ◌<◌, ◌≤◌, List, [], ◌∷◌, ◌++◌, length, min, get_or, set, take, drop, Some, None, inl, inr, refl, sym, ap, ◌∙◌, subst, arith}
 use Rattle.std.proofs.lemmas.List.{append-nil, append_assoc, length_push, length-append, take_more_set, take_all, nil_from_length}
 use Rattle.std.proofs.lemmas.Bool.{cases_eq, eq-eqb, ne_eqb}
 use Rattle.rv_word.specs.MemoryMap.{Profile}
@@ -58,12 +58,21 @@ cut_quad {bytes} {words} {left} a b c d cut none =
     (subst (λ (l : List ℕ). IsCut (l ++ a ∷ b ∷ c ∷ d ∷ []) (word_of a b c d ∷ []) []) (sym (nil_from_length left none)) four)
 
 -- the prologue's words with one more
-pub keeps_prologue : (prologue words : List ℕ) (index word : ℕ) → length prologue ≡ 16 → index < 16 → length words ≡ index → take (length words) prologue ≡ take 16 words →
-    take (length (words ++ word ∷ [])) (set prologue index word) ≡ take 16 (words ++ word ∷ [])
-keeps_prologue prologue words index word sixteen low count kept =
+pub keeps_prologue : (most : ℕ) (prologue words : List ℕ) (index word : ℕ) → most ≤ length prologue → index < most → length words ≡ index →
+    take (min (length words) most) prologue ≡ take most words →
+    take (min (length (words ++ word ∷ [])) most) (set prologue index word) ≡ take most (words ++ word ∷ [])
+keeps_prologue most prologue words index word room low count kept =
     let longer = length_push words word in
-    rw (longer, count, take_more_set prologue index word (omega arith), take_all 16 (words ++ word ∷ []) (omega arith))
-    (ap (λ (ws : List ℕ). ws ++ word ∷ []) (ap (λ (n : ℕ). take n prologue) (sym count) ∙ kept ∙ take_all 16 words (omega arith)))
+    let before : index ≡ min (length words) most = omega arith in
+    let after : min (length (words ++ word ∷ [])) most ≡ index + 1 = omega arith in
+    rw (after, take_more_set prologue index word (omega arith), take_all most (words ++ word ∷ []) (omega arith))
+    (ap (λ (ws : List ℕ). ws ++ word ∷ []) (ap (λ (n : ℕ). take n prologue) before ∙ kept ∙ take_all most words (omega arith)))
+
+-- where no word came
+pub keeps_none : (most : ℕ) (prologue : List ℕ) → take (min (length {A = ℕ} []) most) prologue ≡ take most []
+keeps_none most prologue =
+    let none : min 0 most ≡ 0 = omega arith in
+    ap (λ (n : ℕ). take n prologue) none ∙ sym (take_all {A = ℕ} most [] (omega arith))
 
 -- no word yet
 pub splits_none : (from room : ℕ) → Splits from [] (inside room) 0 0 R.Start []
@@ -84,9 +93,10 @@ splits_none from room = record {
 abbrev pub KeepsWords : Profile → Kept → List ℕ → Type 0
 KeepsWords p k words = Keeps p k.prologue k.units.entries.items k.units.done k.units.last k.units.reader words
 
-abbrev pub sight : Kept → Taken → Sight
-sight k t = record {
-  prologue = take (t.fed / 4) k.prologue;
+abbrev pub sight : Profile → Kept → Taken → Sight
+sight p k t = record {
+  version = k.units.front;
+  prologue = take (min (t.fed / 4) (prologue_count p)) k.prologue;
   entries = k.units.entries.items;
   done = k.units.done;
   last = k.units.last;
@@ -95,24 +105,24 @@ sight k t = record {
   fed = t.fed;
 }
 
-pub seen_from : (p : Profile) (k : Kept) (t : Taken) (bytes words : List ℕ) → IsCut bytes words t.left → t.fed ≡ length bytes → KeepsWords p k words → HasSeen p (sight k t) bytes
+pub seen_from : (p : Profile) (k : Kept) (t : Taken) (bytes words : List ℕ) → IsCut bytes words t.left → t.fed ≡ length bytes → KeepsWords p k words → HasSeen p (sight p k t) bytes
 seen_from p k t bytes words cut fed keeps = record {
   words = words;
   cut = cut;
   fed = fed;
-  prologue = ap (λ (n : ℕ). take n k.prologue) (ap (λ (n : ℕ). n / 4) fed ∙ sym (cut_count cut)) ∙ keeps.prologue_is;
+  prologue = ap (λ (n : ℕ). take (min n (prologue_count p)) k.prologue) (ap (λ (n : ℕ). n / 4) fed ∙ sym (cut_count cut)) ∙ keeps.prologue_is;
   split = keeps.split;
 }
 
-pub seen_count : (p : Profile) (k : Kept) (t : Taken) (bytes : List ℕ) (seen : HasSeen p (sight k t) bytes) → length seen.words ≡ t.fed / 4
+pub seen_count : (p : Profile) (k : Kept) (t : Taken) (bytes : List ℕ) (seen : HasSeen p (sight p k t) bytes) → length seen.words ≡ t.fed / 4
 seen_count p k t bytes seen = cut_count seen.cut ∙ ap (λ (n : ℕ). n / 4) (sym seen.fed)
 
-pub seen_left : (p : Profile) (k : Kept) (t : Taken) (bytes : List ℕ) (seen : HasSeen p (sight k t) bytes) → length t.left ≡ t.fed % 4
+pub seen_left : (p : Profile) (k : Kept) (t : Taken) (bytes : List ℕ) (seen : HasSeen p (sight p k t) bytes) → length t.left ≡ t.fed % 4
 seen_left p k t bytes seen = cut_rest seen.cut ∙ ap (λ (n : ℕ). n % 4) (sym seen.fed)
 
-pub keeps_from : (p : Profile) (k : Kept) (t : Taken) (bytes : List ℕ) (seen : HasSeen p (sight k t) bytes) → KeepsWords p k seen.words
+pub keeps_from : (p : Profile) (k : Kept) (t : Taken) (bytes : List ℕ) (seen : HasSeen p (sight p k t) bytes) → KeepsWords p k seen.words
 keeps_from p k t bytes seen = record {
-  prologue_is = ap (λ (n : ℕ). take n k.prologue) (seen_count p k t bytes seen) ∙ seen.prologue;
+  prologue_is = ap (λ (n : ℕ). take (min n (prologue_count p)) k.prologue) (seen_count p k t bytes seen) ∙ seen.prologue;
   split = seen.split;
 }
 
@@ -135,10 +145,10 @@ made_none t byte e =
 
 -- a byte that makes no word whole
 pub seen_byte : (p : Profile) (k : Kept) (t after : Taken) (byte : ℕ) → None ≡ made t byte → after ≡ after_byte t byte →
-    (bytes : List ℕ) → HasSeen p (sight k t) bytes → HasSeen p (sight k after) (bytes ++ byte ∷ [])
+    (bytes : List ℕ) → HasSeen p (sight p k t) bytes → HasSeen p (sight p k after) (bytes ++ byte ∷ [])
 seen_byte p k t after byte none is bytes seen =
     let m = made_none t byte none in
-    subst (λ (a : Taken). HasSeen p (sight k a) (bytes ++ byte ∷ [])) (sym (is ∙ m.1))
+    subst (λ (a : Taken). HasSeen p (sight p k a) (bytes ++ byte ∷ [])) (sym (is ∙ m.1))
     (seen_from p k (record { left = t.left ++ byte ∷ []; fed = t.fed + 1 }) (bytes ++ byte ∷ []) seen.words
     (cut_byte byte seen.cut (omega (arith, m.0, seen_left p k t bytes seen)))
     (omega (arith, seen.fed, length_push bytes byte))
@@ -147,10 +157,10 @@ seen_byte p k t after byte none is bytes seen =
 -- one that does
 pub seen_word : (p : Profile) (k next : Kept) (t after : Taken) (byte word : ℕ) → Some word ≡ made t byte → after ≡ after_byte t byte →
     ((words : List ℕ) → length words ≡ t.fed / 4 → KeepsWords p k words → KeepsWords p next (words ++ word ∷ [])) →
-    (bytes : List ℕ) → HasSeen p (sight k t) bytes → HasSeen p (sight next after) (bytes ++ byte ∷ [])
+    (bytes : List ℕ) → HasSeen p (sight p k t) bytes → HasSeen p (sight p next after) (bytes ++ byte ∷ [])
 seen_word p k next t after byte word some is keeps bytes seen =
     let m = made_whole t byte word some in
-    subst (λ (a : Taken). HasSeen p (sight next a) (bytes ++ byte ∷ [])) (sym (is ∙ m.1.1))
+    subst (λ (a : Taken). HasSeen p (sight p next a) (bytes ++ byte ∷ [])) (sym (is ∙ m.1.1))
     (seen_from p next (record { left = []; fed = t.fed + 1 }) (bytes ++ byte ∷ []) (seen.words ++ word ∷ [])
     (subst (λ (w : ℕ). IsCut (bytes ++ byte ∷ []) (seen.words ++ w ∷ []) []) (sym m.1.0)
     (cut_word byte seen.cut (seen_left p k t bytes seen ∙ m.0)))
@@ -160,9 +170,9 @@ seen_word p k next t after byte word some is keeps bytes seen =
 -- four bytes that are a word
 pub seen_quad : (p : Profile) (k next : Kept) (t after : Taken) (a b c d word : ℕ) → t.fed % 4 ≡ 0 → word ≡ word_of a b c d → after ≡ record { left = []; fed = t.fed + 4 } →
     ((words : List ℕ) → length words ≡ t.fed / 4 → KeepsWords p k words → KeepsWords p next (words ++ word ∷ [])) →
-    (bytes : List ℕ) → HasSeen p (sight k t) bytes → HasSeen p (sight next after) (bytes ++ a ∷ b ∷ c ∷ d ∷ [])
+    (bytes : List ℕ) → HasSeen p (sight p k t) bytes → HasSeen p (sight p next after) (bytes ++ a ∷ b ∷ c ∷ d ∷ [])
 seen_quad p k next t after a b c d word whole made is keeps bytes seen =
-    subst (λ (x : Taken). HasSeen p (sight next x) (bytes ++ a ∷ b ∷ c ∷ d ∷ [])) (sym is)
+    subst (λ (x : Taken). HasSeen p (sight p next x) (bytes ++ a ∷ b ∷ c ∷ d ∷ [])) (sym is)
     (seen_from p next (record { left = []; fed = t.fed + 4 }) (bytes ++ a ∷ b ∷ c ∷ d ∷ []) (seen.words ++ word ∷ [])
     (subst (λ (w : ℕ). IsCut (bytes ++ a ∷ b ∷ c ∷ d ∷ []) (seen.words ++ w ∷ []) []) (sym made)
     (cut_quad a b c d seen.cut (seen_left p k t bytes seen ∙ whole)))
@@ -184,14 +194,14 @@ four_taken taken rest piece room joined =
     ∙ ap (λ (r : List ℕ). taken ++ r) (four_first rest room) ∙ joined
 
 -- a code that has ended
-pub ended : (p : Profile) (k : Kept) (t : Taken) (entries : List Entry) (done last fed : ℕ) (bytes : List ℕ) (seen : HasSeen p (sight k t) bytes) → fed ≡ t.fed → length entries ≡ length k.units.entries.items →
+pub ended : (p : Profile) (k : Kept) (t : Taken) (entries : List Entry) (done last fed : ℕ) (bytes : List ℕ) (seen : HasSeen p (sight p k t) bytes) → fed ≡ t.fed → length entries ≡ length k.units.entries.items →
     (length (drop (prologue_count p) seen.words) ≤ length k.units.entries.items → Splits p.units_from [] k.units.entries.items k.units.done k.units.last k.units.reader (drop (prologue_count p) seen.words) → IsSplitUp p.units_from entries done last (drop (prologue_count p) seen.words)) →
-    IsOf p (record { prologue = take (fed / 4) k.prologue; entries = entries; done = done; last = last; fed = fed }) bytes
+    IsOf p (record { version = k.units.front; prologue = take (min (fed / 4) (prologue_count p)) k.prologue; entries = entries; done = done; last = last; fed = fed }) bytes
 ended p k t entries done last fed bytes seen same room close = record {
   words = seen.words;
   left = t.left;
   cut = seen.cut;
   fed = same ∙ seen.fed;
-  prologue = ap (λ (n : ℕ). take (n / 4) k.prologue) same ∙ seen.prologue;
+  prologue = ap (λ (n : ℕ). take (min (n / 4) (prologue_count p)) k.prologue) same ∙ seen.prologue;
   split = λ fits. let before : length (drop (prologue_count p) seen.words) ≤ length k.units.entries.items = omega (arith, fits, room) in close before (seen.split before);
 }

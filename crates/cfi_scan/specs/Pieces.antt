@@ -1,6 +1,6 @@
 -- A code that comes in pieces: what is kept of all the bytes that came.
-use Rattle.std.specs.Prelude.{◌≡◌, ℕ, ◌-◌, ◌/◌, ◌<◌, ◌≤◌, List, [], ◌∷◌, length, take, drop}
-use Rattle.rv_word.specs.MemoryMap.{CODE_START, Profile}
+use Rattle.std.specs.Prelude.{◌≡◌, ℕ, ◌+◌, ◌*◌, ◌-◌, ◌/◌, ◌<◌, ◌≤◌, min, List, [], ◌∷◌, length, take, drop}
+use Rattle.rv_word.specs.MemoryMap.{CODE_SIZE, CODE_START, Profile}
 use Rattle.cfi_scan.specs.declared.entry.Entry.{Entry}
 use Rattle.cfi_scan.specs.declared.reader.Reader.{Reader}
 use Rattle.cfi_scan.specs.Carry.{word_of}
@@ -16,10 +16,22 @@ pub data IsCut : List ℕ → List ℕ → List ℕ → Type 0 where
 abbrev pub prologue_count : Profile → ℕ
 prologue_count p = (p.units_from - CODE_START) / 4
 
--- what a feeder keeps: the prologue's words, an entry for each word after it that there is room for, how
--- many of these belong to units that have ended, where the last of these starts, how far the next one is
--- read, the bytes of the word that is not whole, and how many bytes came
+-- so many words has the prologue of a profile, and there its units start
+pub record IsFront (p : Profile) (words start : ℕ) : Type 0 where
+  pub words_are : words ≡ prologue_count p
+  pub start_is : start ≡ p.units_from
+  pub most : words ≤ 20
+  pub place : start ≡ CODE_START + 4 * words
+
+-- the words after the prologue, an entry for each, lie in code
+abbrev pub HasPlace : Profile → List Entry → Type 0
+HasPlace p entries = p.units_from + 4 * length entries ≤ CODE_START + CODE_SIZE
+
+-- what a feeder keeps: the version of the image, the prologue's words, an entry for each word after it that
+-- there is room for, how many of these belong to units that have ended, where the last of these starts, how
+-- far the next one is read, the bytes of the word that is not whole, and how many bytes came
 pub record Sight : Type 0 where
+  pub version : ℕ
   pub prologue : List ℕ
   pub entries : List Entry
   pub done : ℕ
@@ -35,7 +47,7 @@ Follows p entries done last reader words =
 
 -- of these words the prologue's are kept, and the units of the others
 pub record Keeps (p : Profile) (prologue : List ℕ) (entries : List Entry) (done last : ℕ) (reader : Reader) (words : List ℕ) : Type 0 where
-  pub prologue_is : take (length words) prologue ≡ take (prologue_count p) words
+  pub prologue_is : take (min (length words) (prologue_count p)) prologue ≡ take (prologue_count p) words
   pub split : Follows p entries done last reader (drop (prologue_count p) words)
 
 -- all that a feeder has seen are these bytes
@@ -48,6 +60,7 @@ pub record HasSeen (p : Profile) (s : Sight) (bytes : List ℕ) : Type 0 where
 
 -- what is left of a code that has ended
 pub record Listed : Type 0 where
+  pub version : ℕ
   pub prologue : List ℕ
   pub entries : List Entry
   pub done : ℕ

@@ -1,7 +1,7 @@
 ghost use Rattle.std.specs.Prelude.{◌≡◌, ◌+◌, ◌-◌, ◌*◌, ◌/◌, ◌%◌, ◌<◌, ◌≤◌, ◌^◌, ℕ, List, IfOk, [], ◌∷◌, ◌++◌, length};
-ghost use Rattle.rv_word.specs.MemoryMap.{CODE_SIZE, version_1};
+ghost use Rattle.rv_word.specs.MemoryMap.{CODE_SIZE, profile_of};
 ghost use Rattle.cfi_scan.specs.Carry.{word_of};
-ghost use Rattle.cfi_scan.specs.Pieces.{HasSeen, IsOf};
+ghost use Rattle.cfi_scan.specs.Pieces.{HasSeen, IsOf, prologue_count};
 
 use crate::carry::Carry;
 use crate::kept::Kept;
@@ -13,7 +13,7 @@ use std::alloc::Global;
 use std::marker::Model;
 use std::sync::ledger::Ledger;
 
-/// Takes a code in pieces, cut anywhere. It keeps the sixteen words of the prologue and one entry for
+/// Takes a code in pieces, cut anywhere. It keeps the words of its version's prologue and one entry for
 /// each word after it that there is room for; bytes past the room are only counted.
 #[derive(Drop)]
 pub struct Feeder {
@@ -22,14 +22,15 @@ pub struct Feeder {
 }
 
 impl Model for Feeder {
-    ghost use Rattle.std.specs.Prelude.{◌/◌, ◌+◌, ◌*◌, ◌≤◌, length, take};
-    ghost use Rattle.rv_word.specs.MemoryMap.{CODE_SIZE};
-    ghost use Rattle.cfi_scan.specs.Pieces.{Sight};
+    ghost use Rattle.std.specs.Prelude.{◌/◌, min, take};
+    ghost use Rattle.rv_word.specs.MemoryMap.{profile_of};
+    ghost use Rattle.cfi_scan.specs.Pieces.{HasPlace, Sight, prologue_count};
 
     ghost Value = { Sight };
 
     ghost view = { λ f. record {
-      prologue = take (f.carry.fed / 4) f.kept.prologue;
+      version = f.kept.units.front;
+      prologue = take (min (f.carry.fed / 4) (prologue_count (profile_of f.kept.units.front))) f.kept.prologue;
       entries = f.kept.units.entries.items;
       done = f.kept.units.done;
       last = f.kept.units.last;
@@ -38,18 +39,19 @@ impl Model for Feeder {
       fed = f.carry.fed;
     } };
 
-    ghost invariant = { λ f. 4 * length f.kept.units.entries.items + 64 ≤ CODE_SIZE };
+    ghost invariant = { λ f. HasPlace (profile_of f.kept.units.front) f.kept.units.entries.items };
 }
 
 impl Feeder {
-    /// No byte yet, and room for a code of so many words.
-    pub fn new(alloc: Global, words: usize) -> Result<Feeder, NoMemory>
+    /// No byte yet, and room for a code of so many words, of a version.
+    pub fn new(alloc: Global, version: u8, words: usize) -> Result<Feeder, NoMemory>
         requires { 4 * words ≤ CODE_SIZE }
-        ensures seen { IfOk result (λ f. HasSeen version_1 f []) }
-        ensures room { IfOk result (λ f. length f.entries ≡ words - 16) }
+        ensures version { IfOk result (λ f. f.version ≡ version) }
+        ensures seen { IfOk result (λ f. HasSeen (profile_of version) f []) }
+        ensures room { IfOk result (λ f. length f.entries ≡ words - prologue_count (profile_of version)) }
     {
         Ok(Feeder {
-            kept: Kept::new(alloc, words)?,
+            kept: Kept::new(alloc, version, words)?,
             carry: Carry::new(),
         })
     }
@@ -64,7 +66,8 @@ impl Feeder {
     /// Takes a piece. Each word is read once, when its last byte has come.
     pub fn feed<L: Ledger>(&mut self, piece: &[u8], steps: &mut Steps<L>)
         requires small { self.old.fed + length piece.now < 2 ^ 32 }
-        ensures seen { (bytes : List ℕ) → HasSeen version_1 self.old bytes → HasSeen version_1 self.new (bytes ++ piece.now) }
+        ensures seen { (bytes : List ℕ) → HasSeen (profile_of self.old.version) self.old bytes → HasSeen (profile_of self.old.version) self.new (bytes ++ piece.now) }
+        ensures version { self.new.version ≡ self.old.version }
         ensures fed { self.new.fed ≡ self.old.fed + length piece.now }
         ensures room { length self.new.entries ≡ length self.old.entries }
         ensures cost { steps.new + self.old.fed / 4 ≡ steps.old + self.new.fed / 4 }
@@ -82,7 +85,8 @@ impl Feeder {
     /// Takes bytes one by one.
     fn bytes<L: Ledger>(&mut self, piece: &[u8], steps: &mut Steps<L>)
         requires small { self.old.fed + length piece.now < 2 ^ 32 }
-        ensures seen { (bytes : List ℕ) → HasSeen version_1 self.old bytes → HasSeen version_1 self.new (bytes ++ piece.now) }
+        ensures seen { (bytes : List ℕ) → HasSeen (profile_of self.old.version) self.old bytes → HasSeen (profile_of self.old.version) self.new (bytes ++ piece.now) }
+        ensures version { self.new.version ≡ self.old.version }
         ensures fed { self.new.fed ≡ self.old.fed + length piece.now }
         ensures room { length self.new.entries ≡ length self.old.entries }
         ensures cost { steps.new + self.old.fed / 4 ≡ steps.old + self.new.fed / 4 }
@@ -96,7 +100,8 @@ impl Feeder {
     fn words<L: Ledger>(&mut self, piece: &[u8], steps: &mut Steps<L>)
         requires small { self.old.fed + length piece.now < 2 ^ 32 }
         requires whole { self.old.fed % 4 ≡ 0 }
-        ensures seen { (bytes : List ℕ) → HasSeen version_1 self.old bytes → HasSeen version_1 self.new (bytes ++ piece.now) }
+        ensures seen { (bytes : List ℕ) → HasSeen (profile_of self.old.version) self.old bytes → HasSeen (profile_of self.old.version) self.new (bytes ++ piece.now) }
+        ensures version { self.new.version ≡ self.old.version }
         ensures fed { self.new.fed ≡ self.old.fed + length piece.now }
         ensures room { length self.new.entries ≡ length self.old.entries }
         ensures cost { steps.new + self.old.fed / 4 ≡ steps.old + self.new.fed / 4 }
@@ -112,7 +117,8 @@ impl Feeder {
     /// Takes one byte.
     fn byte<L: Ledger>(&mut self, byte: u8, steps: &mut Steps<L>)
         requires small { self.old.fed + 1 < 2 ^ 32 }
-        ensures seen { (bytes : List ℕ) → HasSeen version_1 self.old bytes → HasSeen version_1 self.new (bytes ++ byte ∷ []) }
+        ensures seen { (bytes : List ℕ) → HasSeen (profile_of self.old.version) self.old bytes → HasSeen (profile_of self.old.version) self.new (bytes ++ byte ∷ []) }
+        ensures version { self.new.version ≡ self.old.version }
         ensures fed { self.new.fed ≡ self.old.fed + 1 }
         ensures room { length self.new.entries ≡ length self.old.entries }
         ensures cost { steps.new + self.old.fed / 4 ≡ steps.old + self.new.fed / 4 }
@@ -127,7 +133,8 @@ impl Feeder {
     fn quad<L: Ledger>(&mut self, a: u8, b: u8, c: u8, d: u8, steps: &mut Steps<L>)
         requires small { self.old.fed + 4 < 2 ^ 32 }
         requires whole { self.old.fed % 4 ≡ 0 }
-        ensures seen { (bytes : List ℕ) → HasSeen version_1 self.old bytes → HasSeen version_1 self.new (bytes ++ a ∷ b ∷ c ∷ d ∷ []) }
+        ensures seen { (bytes : List ℕ) → HasSeen (profile_of self.old.version) self.old bytes → HasSeen (profile_of self.old.version) self.new (bytes ++ a ∷ b ∷ c ∷ d ∷ []) }
+        ensures version { self.new.version ≡ self.old.version }
         ensures fed { self.new.fed ≡ self.old.fed + 4 }
         ensures room { length self.new.entries ≡ length self.old.entries }
         ensures cost { steps.new + self.old.fed / 4 ≡ steps.old + self.new.fed / 4 }
@@ -140,7 +147,8 @@ impl Feeder {
 
     /// Ends the code.
     pub fn finish(self) -> Listing
-        ensures of { (bytes : List ℕ) → HasSeen version_1 self bytes → IsOf version_1 result bytes }
+        ensures version { result.version ≡ self.version }
+        ensures of { (bytes : List ℕ) → HasSeen (profile_of self.version) self bytes → IsOf (profile_of self.version) result bytes }
         ensures room { length result.entries ≡ length self.entries }
     {
         let Feeder { kept, carry } = self;
@@ -149,14 +157,17 @@ impl Feeder {
             prologue,
             mut units,
         } = kept;
-        units.close(((fed / 4) as usize).saturating_sub(16));
+        let words = units.front.words();
+        units.close(((fed / 4) as usize).saturating_sub(words));
         let Splitter {
+            front,
             entries,
             done,
             last,
             reader: _,
         } = units;
         Listing {
+            front,
             prologue,
             entries,
             done,

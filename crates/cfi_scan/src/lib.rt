@@ -16,6 +16,7 @@ mod check;
 mod entry;
 mod feeder;
 mod first;
+mod front;
 mod kept;
 mod leave;
 mod listing;

@@ -1,8 +1,11 @@
-ghost use Rattle.std.specs.Prelude.{◌≡◌, ◌<◌, ◌≤◌, ℕ, Some, slice_get, true};
+ghost use Rattle.std.specs.Prelude.{◌≡◌, ◌+◌, ◌*◌, ◌<◌, ◌≤◌, ℕ, Some, slice_get, true};
+ghost use Rattle.rv_word.specs.MemoryMap.{CODE_START, profile_of};
 ghost use Rattle.cfi_scan.specs.Entries.{is_quiet, is_started};
 ghost use Rattle.cfi_scan.specs.declared.entry.Entry.{Entry};
+ghost use Rattle.cfi_scan.specs.Pieces.{prologue_count};
 
 use crate::entry::Entry;
+use crate::front::Front;
 use crate::packed::Packed;
 use std::marker::Model;
 
@@ -10,7 +13,8 @@ use std::marker::Model;
 /// it.
 #[derive(Drop)]
 pub struct Listing {
-    pub(crate) prologue: [u32; 16],
+    pub(crate) front: Front,
+    pub(crate) prologue: [u32; 20],
     pub(crate) entries: Vec<Packed>,
     pub(crate) done: usize,
     pub(crate) last: usize,
@@ -18,21 +22,22 @@ pub struct Listing {
 }
 
 impl Model for Listing {
-    ghost use Rattle.std.specs.Prelude.{◌/◌, ◌+◌, ◌*◌, ◌≤◌, length, take};
-    ghost use Rattle.rv_word.specs.MemoryMap.{CODE_SIZE};
-    ghost use Rattle.cfi_scan.specs.Pieces.{Listed};
+    ghost use Rattle.std.specs.Prelude.{◌/◌, min, take};
+    ghost use Rattle.rv_word.specs.MemoryMap.{profile_of};
+    ghost use Rattle.cfi_scan.specs.Pieces.{HasPlace, Listed, prologue_count};
 
     ghost Value = { Listed };
 
     ghost view = { λ t. record {
-      prologue = take (t.fed / 4) t.prologue;
+      version = t.front;
+      prologue = take (min (t.fed / 4) (prologue_count (profile_of t.front))) t.prologue;
       entries = t.entries.items;
       done = t.done;
       last = t.last;
       fed = t.fed;
     } };
 
-    ghost invariant = { λ t. 4 * length t.entries.items + 64 ≤ CODE_SIZE };
+    ghost invariant = { λ t. HasPlace (profile_of t.front) t.entries.items };
 }
 
 impl Listing {
@@ -76,12 +81,31 @@ impl Listing {
     pub fn prologue(&self) -> &[u32]
         ensures { result.now ≡ self.now.prologue }
     {
-        let count = (self.fed / 4) as usize;
-        if count < 16 {
-            &self.prologue[..count]
-        } else {
-            &self.prologue
-        }
+        let count = ((self.fed / 4) as usize).min(self.front.words());
+        &self.prologue[..count]
+    }
+
+    /// The version.
+    pub fn version(&self) -> u8
+        ensures { result ≡ self.now.version }
+    {
+        self.front.version()
+    }
+
+    /// How many words the prologue of the version has.
+    pub fn front_words(&self) -> usize
+        ensures count { result ≡ prologue_count (profile_of self.now.version) }
+        ensures most { result ≤ 20 }
+        ensures place { CODE_START + 4 * result ≡ (profile_of self.now.version).units_from }
+    {
+        self.front.words()
+    }
+
+    /// Where the first unit stands in the version.
+    pub fn units_start(&self) -> u64
+        ensures { result ≡ (profile_of self.now.version).units_from }
+    {
+        self.front.start()
     }
 
     /// How many words after the prologue belong to units.

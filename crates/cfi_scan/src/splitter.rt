@@ -1,23 +1,25 @@
 ghost use Rattle.std.specs.Prelude.{◌≡◌, ◌+◌, ◌*◌, ◌<◌, ◌≤◌, ℕ, List, IfOk, [], ◌∷◌, ◌++◌, length, slice_set};
-ghost use Rattle.rv_word.specs.MemoryMap.{CODE_SIZE, version_1};
+ghost use Rattle.rv_word.specs.MemoryMap.{profile_of};
 ghost use Rattle.cfi_scan.specs.Entries.{inside};
+ghost use Rattle.cfi_scan.specs.Pieces.{HasPlace};
 ghost use Rattle.cfi_scan.specs.Stream.{IsSplitUp, MayTake, Splits};
 ghost use Rattle.cfi_scan.specs.declared.reader.Reader.TheVariants as R;
 
 use crate::branch::is_jump;
 use crate::entry::Entry;
+use crate::front::Front;
 use crate::packed::Packed;
 use crate::plain::is_plain_word;
 use crate::reader::{Reader, Step, next};
 use rv_instr::Immediate;
 use rv_word::NoMemory;
-use rv_word::profile::UNITS_START;
 use std::alloc::Global;
 
 /// The units of the words so far: one entry for each word that there is room for, how many words belong
 /// to units that have ended, where the last of these starts, and how far the next one is read.
 #[derive(Drop)]
 pub(crate) struct Splitter {
+    pub(crate) front: Front,
     pub(crate) entries: Vec<Packed>,
     pub(crate) done: usize,
     pub(crate) last: usize,
@@ -26,11 +28,13 @@ pub(crate) struct Splitter {
 
 impl Splitter {
     /// No word yet, and room for some.
-    pub(crate) fn new(alloc: Global, room: usize) -> Result<Splitter, NoMemory>
+    pub(crate) fn new(alloc: Global, version: u8, room: usize) -> Result<Splitter, NoMemory>
+        ensures version { IfOk result (λ s. s.front ≡ version) }
         ensures empty { IfOk result (λ s. (s.entries.items ≡ inside room) × (s.done ≡ 0) × (s.last ≡ 0) × (s.reader ≡ R.Start)) }
         ensures room { IfOk result (λ s. length s.entries.items ≡ room) }
     {
         Ok(Splitter {
+            front: Front::new(version),
             entries: nothing(alloc, room)?,
             done: 0,
             last: 0,
@@ -41,8 +45,9 @@ impl Splitter {
     /// Takes the next word, before which so many came.
     pub(crate) fn take(&mut self, word: u32, index: usize)
         requires room { index < length self.old.entries.items }
-        requires small { 4 * length self.old.entries.items + 64 ≤ CODE_SIZE }
-        ensures splits { (words : List ℕ) → length words ≡ index → Splits version_1.units_from [] self.old.entries.items self.old.done self.old.last self.old.reader words → Splits version_1.units_from [] self.new.entries.items self.new.done self.new.last self.new.reader (words ++ word ∷ []) }
+        requires small { HasPlace (profile_of self.old.front) self.old.entries.items }
+        ensures splits { (words : List ℕ) → length words ≡ index → Splits (profile_of self.old.front).units_from [] self.old.entries.items self.old.done self.old.last self.old.reader words → Splits (profile_of self.old.front).units_from [] self.new.entries.items self.new.done self.new.last self.new.reader (words ++ word ∷ []) }
+        ensures front { self.new.front ≡ self.old.front }
         ensures room { length self.new.entries.items ≡ length self.old.entries.items }
     {
         if self.reader == Reader::Start && is_plain_word(word) {
@@ -58,8 +63,9 @@ impl Splitter {
     #[inline(never)]
     fn after_branch(&mut self, word: u32, index: usize)
         requires room { index < length self.old.entries.items }
-        requires small { 4 * length self.old.entries.items + 64 ≤ CODE_SIZE }
-        ensures splits { (words : List ℕ) → length words ≡ index → Splits version_1.units_from [] self.old.entries.items self.old.done self.old.last self.old.reader words → Splits version_1.units_from [] self.new.entries.items self.new.done self.new.last self.new.reader (words ++ word ∷ []) }
+        requires small { HasPlace (profile_of self.old.front) self.old.entries.items }
+        ensures splits { (words : List ℕ) → length words ≡ index → Splits (profile_of self.old.front).units_from [] self.old.entries.items self.old.done self.old.last self.old.reader words → Splits (profile_of self.old.front).units_from [] self.new.entries.items self.new.done self.new.last self.new.reader (words ++ word ∷ []) }
+        ensures front { self.new.front ≡ self.old.front }
         ensures room { length self.new.entries.items ≡ length self.old.entries.items }
     {
         self.settle(word, index);
@@ -70,12 +76,13 @@ impl Splitter {
     #[inline(never)]
     fn read(&mut self, word: u32, index: usize)
         requires room { index < length self.old.entries.items }
-        requires small { 4 * length self.old.entries.items + 64 ≤ CODE_SIZE }
+        requires small { HasPlace (profile_of self.old.front) self.old.entries.items }
         requires taken { MayTake self.old.reader word }
-        ensures splits { (words : List ℕ) → length words ≡ index → Splits version_1.units_from (word ∷ []) self.old.entries.items self.old.done self.old.last self.old.reader words → Splits version_1.units_from [] self.new.entries.items self.new.done self.new.last self.new.reader (words ++ word ∷ []) }
+        ensures splits { (words : List ℕ) → length words ≡ index → Splits (profile_of self.old.front).units_from (word ∷ []) self.old.entries.items self.old.done self.old.last self.old.reader words → Splits (profile_of self.old.front).units_from [] self.new.entries.items self.new.done self.new.last self.new.reader (words ++ word ∷ []) }
+        ensures front { self.new.front ≡ self.old.front }
         ensures room { length self.new.entries.items ≡ length self.old.entries.items }
     {
-        match next(self.reader, word, UNITS_START + 4 * index as u64) {
+        match next(self.reader, word, self.front.start() + 4 * index as u64) {
             Step::More(reader) => self.reader = reader,
             Step::Done(entry) => self.end(entry, index + 1),
         }
@@ -84,9 +91,10 @@ impl Splitter {
     /// Ends a branch over the next word where that is no jump: then it is a unit of its own.
     fn settle(&mut self, word: u32, index: usize)
         requires room { index ≤ length self.old.entries.items }
-        requires small { 4 * length self.old.entries.items + 64 ≤ CODE_SIZE }
-        ensures splits { (words : List ℕ) → length words ≡ index → Splits version_1.units_from [] self.old.entries.items self.old.done self.old.last self.old.reader words → Splits version_1.units_from (word ∷ []) self.new.entries.items self.new.done self.new.last self.new.reader words }
+        requires small { HasPlace (profile_of self.old.front) self.old.entries.items }
+        ensures splits { (words : List ℕ) → length words ≡ index → Splits (profile_of self.old.front).units_from [] self.old.entries.items self.old.done self.old.last self.old.reader words → Splits (profile_of self.old.front).units_from (word ∷ []) self.new.entries.items self.new.done self.new.last self.new.reader words }
         ensures taken { MayTake self.new.reader word }
+        ensures front { self.new.front ≡ self.old.front }
         ensures room { length self.new.entries.items ≡ length self.old.entries.items }
     {
         if self.reader == Reader::Branch && !is_jump(word) {
@@ -97,8 +105,9 @@ impl Splitter {
     /// Ends the code, which has so many words: a branch over the word that would come next is a unit of
     /// its own.
     pub(crate) fn close(&mut self, count: usize)
-        requires small { 4 * length self.old.entries.items + 64 ≤ CODE_SIZE }
-        ensures splits { (words : List ℕ) → length words ≡ count → count ≤ length self.old.entries.items → Splits version_1.units_from [] self.old.entries.items self.old.done self.old.last self.old.reader words → IsSplitUp version_1.units_from self.new.entries.items self.new.done self.new.last words }
+        requires small { HasPlace (profile_of self.old.front) self.old.entries.items }
+        ensures splits { (words : List ℕ) → length words ≡ count → count ≤ length self.old.entries.items → Splits (profile_of self.old.front).units_from [] self.old.entries.items self.old.done self.old.last self.old.reader words → IsSplitUp (profile_of self.old.front).units_from self.new.entries.items self.new.done self.new.last words }
+        ensures front { self.new.front ≡ self.old.front }
         ensures room { length self.new.entries.items ≡ length self.old.entries.items }
     {
         if self.reader == Reader::Branch {
@@ -112,6 +121,7 @@ impl Splitter {
         ensures done { self.new.done ≡ count }
         ensures last { self.new.last ≡ self.old.done }
         ensures reader { self.new.reader ≡ R.Start }
+        ensures front { self.new.front ≡ self.old.front }
         ensures room { length self.new.entries.items ≡ length self.old.entries.items }
     {
         if self.done < self.entries.len() {

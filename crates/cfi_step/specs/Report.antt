@@ -1,15 +1,16 @@
--- The report of a run under changes: how it ended, the number of its steps (the one that stopped it is
--- counted), its output, its system calls, and its walk, of which the last sixteen addresses are kept.
+-- The report of the run of one hart under changes: how it ended, the number of its steps (the one that
+-- stopped it is counted), its output, its system calls, and its walk, of which the last sixteen addresses
+-- are kept.
 use Rattle.std.specs.Prelude.{◌≡◌, ℕ, ◌-◌, ◌==◌, List, drop, length, map, Option, Some, None, if◌then◌else◌}
 use Rattle.rv_word.specs.Image.{Contents}
-use Rattle.rv_word.specs.MemoryMap.{version_1}
-use Rattle.rv_code.specs.Run.{run}
+use Rattle.rv_word.specs.MemoryMap.{Profile}
+use Rattle.rv_code.specs.Run.{run_alone}
 use Rattle.rv_code.specs.State.{start_hart, start_shared}
 use Rattle.rv_code.specs.declared.turn.Turn.{Turn}
 use Rattle.rv_code.specs.declared.turn.Turn.TheVariants as turns
 use Rattle.cfi_unit.specs.UnitWords.{BAD_TARGET, BAD_RETURN, DEEP}
 use Rattle.cfi_verify.specs.Split.{code_words}
-use Rattle.cfi_verify.specs.Walks.{walk_of}
+use Rattle.cfi_verify.specs.Walks.{walk_alone}
 use Rattle.cfi_step.specs.Plan.{changes_of, numbered}
 use Rattle.cfi_step.specs.declared.report.Handler.TheVariants as handlers
 use Rattle.cfi_step.specs.declared.report.RunEnd.{RunEnd}
@@ -38,11 +39,11 @@ abbrev pub trail : List ℕ → List ℕ
 trail walk = drop (length walk - 16) walk
 
 -- a report of the run of an image with an input, under these changes before its steps
-pub record IsReport (image : Contents) (input : List ℕ) (changes : List (List (ℕ × ℕ))) (report : RunReport) : Type 0 where
-  pub end : end_of (run version_1 start_hart (start_shared image input) (map changes_of changes)).turn ≡ Some report.end
+pub record IsReport (p : Profile) (image : Contents) (input : List ℕ) (changes : List (List (ℕ × ℕ))) (report : RunReport) : Type 0 where
+  pub end : end_of (run_alone p (start_hart 0) (start_shared image input) (map changes_of changes)).turn ≡ Some report.end
   pub steps : report.steps ≡ length changes
-  pub output : report.output ≡ (run version_1 start_hart (start_shared image input) (map changes_of changes)).shared.output
-  pub events : report.events ≡ (run version_1 start_hart (start_shared image input) (map changes_of changes)).shared.events
+  pub output : report.output ≡ (run_alone p (start_hart 0) (start_shared image input) (map changes_of changes)).shared.output
+  pub events : report.events ≡ (run_alone p (start_hart 0) (start_shared image input) (map changes_of changes)).shared.events
   pub made : report.made ≡ numbered 0 changes
-  pub walk : report.walk ≡ length (walk_of version_1 (code_words image.code) start_hart (start_shared image input) (map changes_of changes))
-  pub trail : report.trail ≡ trail (walk_of version_1 (code_words image.code) start_hart (start_shared image input) (map changes_of changes))
+  pub walk : report.walk ≡ length (walk_alone p (code_words image.code) (start_hart 0) (start_shared image input) (map changes_of changes))
+  pub trail : report.trail ≡ trail (walk_alone p (code_words image.code) (start_hart 0) (start_shared image input) (map changes_of changes))

@@ -2,16 +2,15 @@
 use Rattle.std.specs.Prelude.{◌≡◌, ℕ, Bool, true, false, List, [], length, map, Some}
 use Rattle.std.specs.List.{AllByRecursion}
 use Rattle.rv_word.specs.Image.{Contents}
-use Rattle.rv_word.specs.MemoryMap.{version_1}
-use Rattle.rv_code.specs.Run.{ByteChange, run}
+use Rattle.rv_word.specs.MemoryMap.{Profile}
+use Rattle.rv_code.specs.Run.{ByteChange, IsDataChange, run_alone}
 use Rattle.rv_code.specs.State.{Hart, Shared}
 use Rattle.rv_code.specs.declared.turn.Turn.{Turn}
 use Rattle.rv_code.specs.declared.turn.Turn.TheVariants.{Ran, Exit, Break, LoadFault, StoreFault, FetchFault, Illegal}
 use Rattle.rv_machine.specs.Parts.{hart_in, shared_in}
-use Rattle.cfi_verify.specs.Along.{AreDataChanges}
 use Rattle.cfi_verify.specs.Split.{code_words}
-use Rattle.cfi_verify.specs.Trails.{IsInPlace, trail_of}
-use Rattle.cfi_verify.specs.Walks.{walk_of}
+use Rattle.cfi_verify.specs.Trails.{IsInPlace, trail_alone}
+use Rattle.cfi_verify.specs.Walks.{walk_alone}
 use Rattle.cfi_step.specs.Plan.{changes_of, numbered}
 use Rattle.cfi_step.specs.Report.{end_of}
 use Rattle.cfi_step.specs.Trail.{IsTrailOf}
@@ -28,25 +27,29 @@ is_stop (StoreFault pc address) = true
 is_stop (FetchFault pc) = true
 is_stop (Illegal pc) = true
 
+-- the changes before each step are of data alone
+abbrev pub AreDataChanges : List (List ByteChange) → Type 0
+AreDataChanges changes = AllByRecursion (AllByRecursion IsDataChange) changes
+
 -- a run from this state stays in its place, whatever changes data
-abbrev pub StaysFrom : Contents → ℕ → Hart → Shared → Type 0
-StaysFrom image newest h s =
+abbrev pub StaysFrom : Profile → Contents → ℕ → Hart → Shared → Type 0
+StaysFrom p image newest h s =
     (changes : List (List ByteChange)) → AreDataChanges changes
-    → AllByRecursion (IsInPlace version_1 (code_words image.code)) (trail_of version_1 (code_words image.code) newest h s changes)
+    → AllByRecursion (IsInPlace p (code_words image.code)) (trail_alone p (code_words image.code) newest h s changes)
 
 -- a run that is to begin
-pub record IsBegun (image : Contents) (running : Running) : Type 0 where
+pub record IsBegun (p : Profile) (image : Contents) (running : Running) : Type 0 where
   pub made : running.made ≡ []
   pub trail : IsTrailOf [] running.trail
   pub quiet : running.quiet ≡ 0
-  pub stays : (newest : ℕ) × StaysFrom image newest (hart_in running.machine) (shared_in running.machine)
+  pub stays : (newest : ℕ) × StaysFrom p image newest (hart_in running.machine) (shared_in running.machine)
 
 -- the run from a state under these changes is over
-pub record IsOver (image : Contents) (h : Hart) (s : Shared) (changes : List (List (ℕ × ℕ))) (end : RunEnd) (steps : ℕ) (after : Running) : Type 0 where
-  pub ending : end_of (run version_1 h s (map changes_of changes)).turn ≡ Some end
+pub record IsOver (p : Profile) (image : Contents) (h : Hart) (s : Shared) (changes : List (List (ℕ × ℕ))) (end : RunEnd) (steps : ℕ) (after : Running) : Type 0 where
+  pub ending : end_of (run_alone p h s (map changes_of changes)).turn ≡ Some end
   pub count : steps ≡ length changes
-  pub output : after.machine.calls.output ≡ (run version_1 h s (map changes_of changes)).shared.output
-  pub events : after.machine.calls.events ≡ (run version_1 h s (map changes_of changes)).shared.events
+  pub output : after.machine.calls.output ≡ (run_alone p h s (map changes_of changes)).shared.output
+  pub events : after.machine.calls.events ≡ (run_alone p h s (map changes_of changes)).shared.events
   pub made : after.made ≡ numbered 0 changes
-  pub trail : IsTrailOf (walk_of version_1 (code_words image.code) h s (map changes_of changes)) after.trail
+  pub trail : IsTrailOf (walk_alone p (code_words image.code) h s (map changes_of changes)) after.trail
   pub allowed : AreDataChanges (map changes_of changes)

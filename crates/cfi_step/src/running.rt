@@ -33,7 +33,7 @@ pub(crate) struct Running {
 impl Running {
     /// Before the first step.
     pub(crate) fn new(alloc: Global, image: &Image, input: &[u8]) -> Result<Running, NoMemory>
-        ensures hart { IfOk result (λ r. hart_in r.machine ≡ start_hart) }
+        ensures hart { IfOk result (λ r. hart_in r.machine ≡ start_hart 0) }
         ensures shared { IfOk result (λ r. shared_in r.machine ≡ start_shared image.now input.now) }
         ensures made { IfOk result (λ r. r.made ≡ []) }
         ensures trail { IfOk result (λ r. IsTrailOf [] r.trail) }

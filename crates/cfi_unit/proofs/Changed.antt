@@ -1,7 +1,7 @@
 -- The facts of a word: where its pc is, that they begin where a unit is entered, and that changes
 -- outside of the own part of the shadow keep them.
-use Rattle.std.proofs.Common.{◌≡◌, ℕ, suc, ◌+◌, ◌<◌, List, [], ◌∷◌, length, refl, ◌∙◌, arith}
-use Rattle.rv_word.specs.MemoryMap.{PART_SIZE}
+use Rattle.std.proofs.Common.{◌≡◌, ℕ, suc, ◌+◌, ◌<◌, inl, inr, List, [], ◌∷◌, length, refl, ◌∙◌, arith}
+use Rattle.rv_word.specs.MemoryMap.{PART_SIZE, IsProfile, Profile, part_of}
 use Rattle.rv_word.specs.Memory.{Memory, read}
 use Rattle.rv_word.specs.Same.{SameOn}
 use Rattle.rv_instr.specs.Registers.{Registers}
@@ -9,10 +9,11 @@ use Rattle.rv_code.specs.State.{Hart}
 use Rattle.rv_code.proofs.Frames.{read_same}
 use Rattle.cfi_unit.specs.declared.unit.Unit as U
 use Rattle.cfi_unit.specs.declared.unit.Unit.TheVariants as V
+use Rattle.cfi_unit.specs.Prologue.{OPENING}
 use Rattle.cfi_unit.specs.Place.{Place, handler, opening, closing, body}
 use Rattle.cfi_unit.specs.Shadow.{slot, MOST_PENDING}
 use Rattle.cfi_unit.specs.InPlace
-use Rattle.cfi_unit.specs.InPlace.{InWord, only, InBranch, branch_test, branch_jump, InStore, store_addi, store_slli, store_srli, store_store, InPush, push_slli, push_bne, push_deep, push_auipc, push_addi, push_store, push_grow, Pushed, InCall, call_push, call_jump, InCheck, check_addi, check_andi, check_lui, check_sub, check_srli, check_region, check_outside, check_lw, check_label, check_opcode, check_word, check_other, InIjump, ijump_check, ijump_jump, InIcall, icall_check, icall_push, icall_jump, InReturn, return_ld, return_addi, return_beq, return_other, return_jump, InOpening, opening_stack, opening_shadow, opening_slot, opening_call, InClosing, closing_number, closing_ecall, InUnit}
+use Rattle.cfi_unit.specs.InPlace.{InWord, only, InBranch, branch_test, branch_jump, InStore, store_addi, store_slli, store_srli, store_store, InPush, push_slli, push_bne, push_deep, push_auipc, push_addi, push_store, push_grow, Pushed, InCall, call_push, call_jump, InCheck, check_addi, check_andi, check_lui, check_sub, check_srli, check_region, check_outside, check_lw, check_label, check_opcode, check_word, check_other, InIjump, ijump_check, ijump_jump, InIcall, icall_check, icall_push, icall_jump, InReturn, return_ld, return_addi, return_beq, return_other, return_jump, lone_stack, own_stack, InOpening, opening_lone, opening_own, opening_call, InClosing, closing_number, closing_ecall, InUnit}
 use Rattle.cfi_unit.specs.UnitLaw.{MayStand}
 
 module _ (part : ℕ) (m m' : Memory) (same : SameOn part (part + PART_SIZE) m m') where
@@ -41,11 +42,10 @@ module _ (part : ℕ) (m m' : Memory) (same : SameOn part (part + PART_SIZE) m m
   icall_same (icall_push legal i) = icall_push legal (push_same i)
   icall_same (icall_jump e legal i) = icall_jump e legal (pushed_same i)
 
-  opening_same : {v : ℕ} {h : Hart} → InOpening part v h m → InOpening part v h m'
-  opening_same (opening_stack e x31) = opening_stack e x31
-  opening_same (opening_shadow e x31) = opening_shadow e x31
-  opening_same (opening_slot e x31 x3) = opening_slot e x31 x3
-  opening_same (opening_call i) = opening_call (call_same i)
+  opening_same : {p : Profile} {h : Hart} → InOpening p part h m → InOpening p part h m'
+  opening_same (opening_lone e i) = opening_lone e i
+  opening_same (opening_own e i) = opening_own e i
+  opening_same (opening_call v i) = opening_call v (call_same i)
 
   unit_same : (image : Memory) (unit : U.Unit) (at : ℕ) (pending : List ℕ) (r : Registers) (h : Hart) →
       InUnit part image unit at pending r h m → InUnit part image unit at pending r h m'
@@ -63,17 +63,18 @@ module _ (part : ℕ) (m m' : Memory) (same : SameOn part (part + PART_SIZE) m m
   unit_same image V.Return at [] r h i = i
   unit_same image V.Return at (site ∷ pending) r h i = i
 
-  pub in_place_changed : (image : Memory) (place : Place) (at : ℕ) (pending : List ℕ) (r : Registers) (h : Hart) →
-      InPlace.InPlace part image place at pending r h m → InPlace.InPlace part image place at pending r h m'
-  in_place_changed image handler at pending r h i = i
-  in_place_changed image (opening entry) at pending r h i = opening_same i
-  in_place_changed image closing at pending r h i = i
-  in_place_changed image (body unit) at pending r h i = unit_same image unit at pending r h i
+  pub in_place_changed : (p : Profile) (image : Memory) (place : Place) (at : ℕ) (pending : List ℕ) (r : Registers) (h : Hart) →
+      InPlace.InPlace p part image place at pending r h m → InPlace.InPlace p part image place at pending r h m'
+  in_place_changed p image handler at pending r h i = i
+  in_place_changed p image (opening entry) at pending r h i = opening_same i
+  in_place_changed p image closing at pending r h i = i
+  in_place_changed p image (body unit) at pending r h i = unit_same image unit at pending r h i
 
--- a place may be entered: units want x3 past the newest site, and a pending site
+-- a place may be entered: the opening by the hart whose own part it is, units want x3 past the newest
+-- site, and a pending site
 abbrev pub IsReady : ℕ → Place → List ℕ → Hart → Type 0
 IsReady part handler pending h = Unit {0}
-IsReady part (opening entry) pending h = Unit {0}
+IsReady part (opening entry) pending h = part ≡ part_of (h.regs 10)
 IsReady part closing pending h = Unit {0}
 IsReady part (body unit) [] h = ⊥
 IsReady part (body unit) (site ∷ pending) h = h.regs 3 ≡ slot part (suc (length pending))
@@ -94,11 +95,15 @@ module _ (part : ℕ) (image : Memory) (at : ℕ) (h : Hart) (m : Memory) where
   unit_begins (V.Icall rs1 imm label) site pending x3 e = icall_check (check_addi e x3 refl)
   unit_begins V.Return site pending x3 e = return_ld e x3 refl
 
+  opening_begins : (p : Profile) → IsProfile p → part ≡ part_of (h.regs 10) → h.pc ≡ OPENING → InOpening p part h m
+  opening_begins p (inl version) own e = opening_lone version (lone_stack e)
+  opening_begins p (inr version) own e = opening_own version (own_stack e own)
+
   -- the facts of the first word
-  pub place_begins : (place : Place) (pending : List ℕ) → MayStand place part at pending → IsReady part place pending h → h.pc ≡ at →
-      InPlace.InPlace part image place at pending h.regs h m
-  place_begins handler pending may ready e = e
-  place_begins (opening entry) pending may ready e = opening_stack (e ∙ may.1) refl
-  place_begins closing pending may ready e = closing_number e
-  place_begins (body unit) [] may ready e = absurd ready
-  place_begins (body unit) (site ∷ pending) may ready e = unit_begins unit site pending ready e
+  pub place_begins : (p : Profile) (place : Place) (pending : List ℕ) → MayStand p place at pending → IsReady part place pending h → h.pc ≡ at →
+      InPlace.InPlace p part image place at pending h.regs h m
+  place_begins p handler pending may ready e = e
+  place_begins p (opening entry) pending may ready e = opening_begins p may.0 ready (e ∙ may.1)
+  place_begins p closing pending may ready e = closing_number e
+  place_begins p (body unit) [] may ready e = absurd ready
+  place_begins p (body unit) (site ∷ pending) may ready e = unit_begins unit site pending ready e

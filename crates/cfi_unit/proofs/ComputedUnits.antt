@@ -24,13 +24,13 @@ arrives h v is legal = let round = legal.round in let high = legal.high in omega
 
 module _ (p : Profile) (part : ℕ) (image base : Memory) (rs1 imm label at : ℕ) (pending : List ℕ) (r : Registers) where
   ijump_from : (after : After) → AfterCheck part image base at rs1 imm label (sum_of r rs1 imm) (destination r rs1 imm) pending after →
-      Outcome part image base (body (V.Ijump rs1 imm label)) at pending r after
+      Outcome p part image base (body (V.Ijump rs1 imm label)) at pending r after
   ijump_from after (check_inside t c low i) = stays t c low (ijump_check i)
   ijump_from after (check_done t c e checked) = stays t c (omega arith) (ijump_jump e checked)
   ijump_from after (check_halts t c e other) = leaves pending t c (inr (omega arith)) (inr (other, (refl, e)))
 
   icall_from_check : (after : After) → AfterCheck part image base at rs1 imm label (sum_of r rs1 imm) (destination r rs1 imm) pending after →
-      Outcome part image base (body (V.Icall rs1 imm label)) at pending r after
+      Outcome p part image base (body (V.Icall rs1 imm label)) at pending r after
   icall_from_check after (check_inside t c low i) = stays t c low (icall_check i)
   icall_from_check after (check_done t c e checked) =
       stays t c (omega arith) (icall_push checked.legal (push_slli e checked.destination_is checked.pointer))
@@ -38,7 +38,7 @@ module _ (p : Profile) (part : ℕ) (image base : Memory) (rs1 imm label at : �
 
   icall_from_push : (after : After) → HasLabel image label (destination r rs1 imm) →
       AfterPush part image base (at + 48) (destination r rs1 imm) pending after →
-      Outcome part image base (body (V.Icall rs1 imm label)) at pending r after
+      Outcome p part image base (body (V.Icall rs1 imm label)) at pending r after
   icall_from_push after legal (push_inside t c low i) = stays t c (omega arith) (icall_push legal i)
   icall_from_push after legal (push_done t c e pushed) =
       stays t c (omega arith)
@@ -50,20 +50,20 @@ module _ (p : Profile) (part : ℕ) (image base : Memory) (rs1 imm label at : �
     pub ijump_law : ((k : ℕ) → image k < 2 ^ 8) → Fits (V.Ijump rs1 imm label) at → Stand image at (instrs_of (V.Ijump rs1 imm label) at) →
         Context part image base pending s →
         InIjump part image at rs1 imm label (sum_of r rs1 imm) (destination r rs1 imm) (length pending) h →
-        Outcome part image base (body (V.Ijump rs1 imm label)) at pending r (step p h s)
+        Outcome p part image base (body (V.Ijump rs1 imm label)) at pending r (step p h s)
     ijump_law small fits w c (ijump_check i) =
         ijump_from (step p h s)
         (check_law p part image base at rs1 imm label (sum_of r rs1 imm) (destination r rs1 imm) pending h s small fits
         (omega arith) refl (stand_front (check at rs1 imm label) _ w) c i)
     ijump_law small fits w c (ijump_jump e checked) =
-        at_word (Outcome part image base _ at pending r) p h c w 12 _ refl e
+        at_word (Outcome p part image base _ at pending r) p h c w 12 _ refl e
         (leaves pending refl c (inl checked.pointer)
         (inl (checked.legal, (refl, arrives h (destination r rs1 imm) checked.destination_is checked.legal))))
 
     pub icall_law : IsPart p part → length pending ≤ MOST_PENDING → ((k : ℕ) → image k < 2 ^ 8) → Fits (V.Icall rs1 imm label) at →
         Stand image at (instrs_of (V.Icall rs1 imm label) at) → Context part image base pending s →
         InIcall part image at rs1 imm label (sum_of r rs1 imm) (destination r rs1 imm) (length pending) h s.memory →
-        Outcome part image base (body (V.Icall rs1 imm label)) at pending r (step p h s)
+        Outcome p part image base (body (V.Icall rs1 imm label)) at pending r (step p h s)
     icall_law own most small fits w c (icall_check i) =
         icall_from_check (step p h s)
         (check_law p part image base at rs1 imm label (sum_of r rs1 imm) (destination r rs1 imm) pending h s small fits.0
@@ -74,7 +74,7 @@ module _ (p : Profile) (part : ℕ) (image base : Memory) (rs1 imm label at : �
         (push_law p part image base (at + 48) (destination r rs1 imm) pending h s own most (subst (λ a. Reaches a DEEP) next fits.1)
         (stand_front (push (at + 48)) _ (stand_back (check at rs1 imm label) _ w)) c i)
     icall_law own most small fits w c (icall_jump e legal pushed) =
-        at_word (Outcome part image base _ at pending r) p h c w 19 _ refl e
+        at_word (Outcome p part image base _ at pending r) p h c w 19 _ refl e
         (leaves ((at + 80) ∷ pending) refl
         (record { going = c.going; kept = kept_pending (at + 80) c.kept pushed.site_is })
         (inl pushed.pointer)

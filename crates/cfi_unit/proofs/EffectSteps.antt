@@ -68,6 +68,18 @@ same_set r regs (suc rd) v reserved same = record { same = λ k free. other k fr
 pub same_link : (r regs : Registers) (v w : ℕ) → v ≡ w → SameRegisters r regs → SameRegisters (set_reg r 1 w) (set_reg regs 1 v)
 same_link r regs v w e same = record { same = λ k free. elim (cases_Bool (k == 1)) [ inl here ↦ rw here e | inr other ↦ rw other (same.same k free) ] }
 
+-- a register that was written is written again, with an equal value
+pub same_again : (r regs : Registers) (rd u v w : ℕ) → v ≡ w → SameRegisters (set_reg r rd u) regs →
+    SameRegisters (set_reg r rd w) (set_reg regs rd v)
+same_again r regs zero u v w e same = same
+same_again r regs (suc rd) u v w e same = record {
+  same = λ k free.
+      elim (cases_Bool (k == suc rd)) [
+        | inl here ↦ rw here e
+        | inr other ↦ let kept : set_reg r (suc rd) u k ≡ r k = rw other refl in rw other (same.same k free ∙ kept)
+      ];
+}
+
 module _ {may : Shared → Shared → Type 0} {p : Profile} {part : ℕ} {image base : Memory} {pending : List ℕ} {r : Registers} {start : Shared} {h : Hart} {s : Shared} where
   later : Now may p part image base pending r start h s → (s' : Shared) → may s s' → Now may p part image base pending r start h s'
   later now s' t = record {

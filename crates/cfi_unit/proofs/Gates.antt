@@ -1,8 +1,9 @@
 -- A label's word stands in code only as the gate of that label.
-use Rattle.std.proofs.Common.{◌≡◌, ℕ, zero, suc, ◌+◌, ◌-◌, ◌*◌, ◌/◌, ◌%◌, ◌^◌, ◌<◌, ◌≤◌, ◌&&◌, Bool, true, false, not, inl, inr, List, [], ◌∷◌, length, Some, refl, sym, ap, ◌∙◌, arith}
+use Rattle.std.proofs.Common.{◌≡◌, ℕ, zero, suc, ◌+◌, ◌-◌, ◌*◌, ◌/◌, ◌%◌, ◌^◌, ◌<◌, ◌≤◌, ◌&&◌, Bool, true, false, not, inl, inr, List, [], ◌∷◌, length, Some, refl, sym, ap, subst, ◌∙◌, arith}
 use Rattle.std.specs.Prelude.{slice_get}
 use Rattle.std.proofs.lemmas.Bool.{and_parts}
 use Rattle.std.proofs.lemmas.Option.{slice_get_cases}
+use Rattle.rv_word.specs.MemoryMap.{IsProfile, Profile}
 use Rattle.rv_word.specs.Memory.{Memory, read}
 use Rattle.rv_instr.specs.declared.instr.Instr.{Instr}
 use Rattle.rv_instr.specs.declared.instr.Instr.TheVariants.{Upper, Jal, Jalr, Branch, Load, Store, Immediate, Shift, ShiftWord, Register, Fence, Ecall, Ebreak}
@@ -13,9 +14,11 @@ use Rattle.cfi_unit.specs.declared.unit.Unit as U
 use Rattle.cfi_unit.specs.declared.unit.Unit.TheVariants as V
 use Rattle.cfi_unit.specs.declared.unit.SystemOp.TheVariants as S
 use Rattle.cfi_unit.specs.UnitWords.{Fits, gate, instrs_of, is_plain, word_count}
+use Rattle.cfi_unit.specs.Prologue.{opening_instrs}
 use Rattle.cfi_unit.specs.Place.{Place, handler, opening, closing, body, place_instrs, place_size}
 use Rattle.cfi_unit.specs.Stand.{Stand}
 use Rattle.cfi_unit.specs.UnitLaw.{MayStand}
+use Rattle.cfi_unit.proofs.Parts.{opening_length}
 
 -- the word that a check compares with is a gate
 pub gate_word : (word label : ℕ) → label < 2 ^ 20 → word ≡ label * 4096 + 55 → decoded word ≡ Some (gate label)
@@ -94,12 +97,17 @@ gate_unit (V.Ijump rs1 imm other) at k label fits is = other_unit (V.Ijump rs1 i
 gate_unit (V.Icall rs1 imm other) at k label fits is = other_unit (V.Icall rs1 imm other) at k label refl is
 gate_unit V.Return at k label fits is = other_unit V.Return at k label refl is
 
-gate_place : (part : ℕ) (pending : List ℕ) (place : Place) (at k label : ℕ) → MayStand place part at pending →
-    slice_get (place_instrs place at) k ≡ Some (gate label) → (place ≡ body (V.Gate label)) × (k ≡ 0)
-gate_place part pending handler at k label may is = absurd (nowhere (place_instrs handler at) k label refl is)
-gate_place part pending (opening entry) at k label may is = absurd (nowhere (place_instrs (opening entry) at) k label refl is)
-gate_place part pending closing at k label may is = absurd (nowhere (place_instrs closing at) k label refl is)
-gate_place part pending (body unit) at k label may is =
+-- no word of the opening is a gate
+opening_gate : (p : Profile) → IsProfile p → (entry : ℕ) → no_gate (opening_instrs p entry) ≡ true
+opening_gate p (inl e) entry = subst (λ (x : Profile). no_gate (opening_instrs x entry) ≡ true) (sym e) refl
+opening_gate p (inr e) entry = subst (λ (x : Profile). no_gate (opening_instrs x entry) ≡ true) (sym e) refl
+
+gate_place : (p : Profile) (pending : List ℕ) (place : Place) (at k label : ℕ) → MayStand p place at pending →
+    slice_get (place_instrs p place at) k ≡ Some (gate label) → (place ≡ body (V.Gate label)) × (k ≡ 0)
+gate_place p pending handler at k label may is = absurd (nowhere (place_instrs p handler at) k label refl is)
+gate_place p pending (opening entry) at k label may is = absurd (nowhere (place_instrs p (opening entry) at) k label (opening_gate p may.0 entry) is)
+gate_place p pending closing at k label may is = absurd (nowhere (place_instrs p closing at) k label refl is)
+gate_place p pending (body unit) at k label may is =
     let found = gate_unit unit at k label may.0 is in (ap body found.0, found.1)
 
 -- the words of a place are its bytes
@@ -118,27 +126,28 @@ unit_size (V.Ijump rs1 imm label) at = refl
 unit_size (V.Icall rs1 imm label) at = refl
 unit_size V.Return at = refl
 
-pub place_length : (place : Place) (at : ℕ) → 4 * length (place_instrs place at) ≡ place_size place
-place_length handler at = refl
-place_length (opening entry) at = refl
-place_length closing at = refl
-place_length (body unit) at = unit_size unit at
+pub place_length : (p : Profile) (pending : List ℕ) (place : Place) (at : ℕ) → MayStand p place at pending →
+    4 * length (place_instrs p place at) ≡ place_size p place
+place_length p pending handler at may = refl
+place_length p pending (opening entry) at may = let whole = opening_length p may.0 entry in omega arith
+place_length p pending closing at may = refl
+place_length p pending (body unit) at may = unit_size unit at
 
 -- an address in a place at which a label's word stands is the start of a gate of that label
-pub label_is_gate : (image : Memory) (part : ℕ) (pending : List ℕ) (place : Place) (at label v : ℕ) → MayStand place part at pending →
-    Stand image at (place_instrs place at) → label < 2 ^ 20 → v % 4 ≡ 0 → read 4 image v ≡ label * 4096 + 55 → at ≤ v → v < at + place_size place →
+pub label_is_gate : (p : Profile) (image : Memory) (pending : List ℕ) (place : Place) (at label v : ℕ) → MayStand p place at pending →
+    Stand image at (place_instrs p place at) → label < 2 ^ 20 → v % 4 ≡ 0 → read 4 image v ≡ label * 4096 + 55 → at ≤ v → v < at + place_size p place →
     (place ≡ body (V.Gate label)) × (v ≡ at)
-label_is_gate image part pending place at label v may w low round_v word_v from to =
-    let size = place_length place at in
+label_is_gate p image pending place at label v may w low round_v word_v from to =
+    let size = place_length p pending place at may in
     let round = w.round in
     let here : v ≡ at + 4 * ((v - at) / 4) = omega arith in
     let gate_here : decoded (read 4 image (at + 4 * ((v - at) / 4))) ≡ Some (gate label) =
     gate_word _ label low (ap (read 4 image) (sym here) ∙ word_v) in
-    elim (slice_get_cases (place_instrs place at) ((v - at) / 4)).1 [
+    elim (slice_get_cases (place_instrs p place at) ((v - at) / 4)).1 [
       | inl found ↦
           let word = w.words ((v - at) / 4) found.0 found.2 in
           let same : found.0 ≡ gate label = cc in
-          let at_gate = gate_place part pending place at ((v - at) / 4) label may (found.2 ∙ ap Some same) in
+          let at_gate = gate_place p pending place at ((v - at) / 4) label may (found.2 ∙ ap Some same) in
           let first = at_gate.1 in
           (at_gate.0, omega arith)
       | inr past ↦ let beyond = past.0 in absurd (omega arith)

@@ -7,6 +7,7 @@ pub mod LedBack
 pub mod Near
 pub mod Context
 pub mod Regions
+pub mod Parts
 pub mod StoreUnit
 pub mod Jumps
 pub mod Push

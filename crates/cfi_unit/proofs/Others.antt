@@ -5,6 +5,9 @@ use Rattle.rv_word.specs.MemoryMap.{DATA_END, PART_SIZE}
 use Rattle.rv_word.specs.Memory.{Memory}
 use Rattle.rv_word.specs.Same.{SameOn}
 use Rattle.cfi_unit.specs.Context.{SameOutside}
+use Rattle.cfi_unit.specs.Laws.{OthersKeep}
+use Rattle.cfi_unit.proofs.Changed.{in_place_changed}
+use Rattle.cfi_unit.proofs.Context.{kept_changed}
 
 -- parts of two harts do not overlap
 pub other_part : (part other : ℕ) (m m' : Memory) → part % PART_SIZE ≡ 0 → other % PART_SIZE ≡ 0 → part ≢ other →
@@ -14,3 +17,9 @@ other_part part other m m' round others_round apart high same k from to =
       | inl below ↦ same k (omega arith) (inl below)
       | inr above ↦ same k (omega arith) (inr (omega arith))
     ]
+
+pub others_keep : OthersKeep
+others_keep p part image base place at pending r h m m' most code own = (
+  λ kept. kept_changed most kept m' code own,
+  λ i. in_place_changed part m m' own p image place at pending r h i,
+)

@@ -1,14 +1,17 @@
 -- The pc of a word's facts is a word of what stands there.
-use Rattle.std.proofs.Common.{◌≡◌, ℕ, ◌+◌, ◌*◌, ◌<◌, ◌≤◌, List, [], ◌∷◌, arith}
+use Rattle.std.proofs.Common.{◌≡◌, ℕ, ◌+◌, ◌-◌, ◌*◌, ◌/◌, ◌<◌, ◌≤◌, List, [], ◌∷◌, arith}
+use Rattle.rv_word.specs.MemoryMap.{IsProfile, Profile}
 use Rattle.rv_word.specs.Memory.{Memory}
 use Rattle.rv_instr.specs.Registers.{Registers}
 use Rattle.rv_code.specs.State.{Hart}
 use Rattle.cfi_unit.specs.declared.unit.Unit as U
 use Rattle.cfi_unit.specs.declared.unit.Unit.TheVariants as V
-use Rattle.cfi_unit.specs.Prologue.{OPENING}
+use Rattle.cfi_unit.specs.UnitWords.{word_count}
+use Rattle.cfi_unit.specs.Prologue.{OPENING, call_at}
 use Rattle.cfi_unit.specs.Place.{Place, handler, opening, closing, body, IsWordOf}
-use Rattle.cfi_unit.specs.InPlace.{InWord, only, InBranch, branch_test, branch_jump, InStore, store_addi, store_slli, store_srli, store_store, InPush, push_slli, push_bne, push_deep, push_auipc, push_addi, push_store, push_grow, InCall, call_push, call_jump, InCheck, check_addi, check_andi, check_lui, check_sub, check_srli, check_region, check_outside, check_lw, check_label, check_opcode, check_word, check_other, InIjump, ijump_check, ijump_jump, InIcall, icall_check, icall_push, icall_jump, InReturn, return_ld, return_addi, return_beq, return_other, return_jump, InOpening, opening_stack, opening_shadow, opening_slot, opening_call, InClosing, closing_number, closing_ecall, InUnit, InPlace}
+use Rattle.cfi_unit.specs.InPlace.{InWord, only, InBranch, branch_test, branch_jump, InStore, store_addi, store_slli, store_srli, store_store, InPush, push_slli, push_bne, push_deep, push_auipc, push_addi, push_store, push_grow, InCall, call_push, call_jump, InCheck, check_addi, check_andi, check_lui, check_sub, check_srli, check_region, check_outside, check_lw, check_label, check_opcode, check_word, check_other, InIjump, ijump_check, ijump_jump, InIcall, icall_check, icall_push, icall_jump, InReturn, return_ld, return_addi, return_beq, return_other, return_jump, InLoneSetUp, lone_stack, lone_shadow, lone_slot, InOwnSetUp, own_stack, own_stack_offset, own_stack_end, own_shadow, own_offset, own_part, own_slot, InOpening, opening_lone, opening_own, opening_call, InClosing, closing_number, closing_ecall, InUnit, InPlace}
 use Rattle.cfi_unit.specs.UnitLaw.{MayStand}
+use Rattle.cfi_unit.proofs.Parts.{call_site}
 
 -- one of `n` words from an address on
 abbrev Among : ℕ → ℕ → ℕ → Type 0
@@ -21,7 +24,21 @@ closing_word : {at : ℕ} {h : Hart} → InClosing at h → Among 2 at h.pc
 closing_word (closing_number e) = (0, omega arith, omega arith)
 closing_word (closing_ecall e x17) = (1, omega arith, e)
 
+lone_word : {h : Hart} → InLoneSetUp h → Among 3 OPENING h.pc
+lone_word (lone_stack e) = (0, omega arith, e)
+lone_word (lone_shadow e) = (1, omega arith, e)
+lone_word (lone_slot e x3) = (2, omega arith, e)
+
 module _ {part : ℕ} {h : Hart} where
+  own_word : InOwnSetUp part h → Among 7 OPENING h.pc
+  own_word (own_stack e own) = (0, omega arith, e)
+  own_word (own_stack_offset e own) = (1, omega arith, e)
+  own_word (own_stack_end e own) = (2, omega arith, e)
+  own_word (own_shadow e own) = (3, omega arith, e)
+  own_word (own_offset e own x3) = (4, omega arith, e)
+  own_word (own_part e x31 x3) = (5, omega arith, e)
+  own_word (own_slot e x3) = (6, omega arith, e)
+
   only_word : {at n : ℕ} → InWord part at n h → Among 1 at h.pc
   only_word (only e x3) = (0, omega arith, omega arith)
 
@@ -80,14 +97,19 @@ module _ {part : ℕ} {h : Hart} where
     icall_word {at = at} (icall_push legal i) = later 12 7 20 at h.pc (omega arith) (push_word i)
     icall_word (icall_jump e legal pushed) = (19, omega arith, e)
 
-    opening_word : {v : ℕ} → InOpening part v h m → Among 11 OPENING h.pc
-    opening_word (opening_stack e x31) = (0, omega arith, e)
-    opening_word (opening_shadow e x31) = (1, omega arith, e)
-    opening_word (opening_slot e x31 x3) = (2, omega arith, e)
-    opening_word (opening_call i) = later 3 8 11 OPENING h.pc (omega arith) (call_word i)
+    -- one of the opening's first eleven words, or of its call's
+    opening_word : (p : Profile) → IsProfile p → InOpening p part h m → (k : ℕ) × (4 * k < p.closing - OPENING) × (h.pc ≡ OPENING + 4 * k)
+    opening_word p is (opening_lone version i) = let w = lone_word i in let below = w.1 in let site = call_site p is in (w.0, omega arith, w.2)
+    opening_word p is (opening_own version i) = let w = own_word i in let below = w.1 in let site = call_site p is in (w.0, omega arith, w.2)
+    opening_word p is (opening_call v i) =
+        let w = call_word i in
+        let below = w.1 in
+        let e = w.2 in
+        let site = call_site p is in
+        ((call_at p - OPENING) / 4 + w.0, omega arith, omega arith)
 
 unit_word : (part : ℕ) (image : Memory) (unit : U.Unit) (at : ℕ) (pending : List ℕ) (r : Registers) (h : Hart) (m : Memory) →
-    InUnit part image unit at pending r h m → IsWordOf (body unit) at h.pc
+    InUnit part image unit at pending r h m → Among (word_count unit) at h.pc
 unit_word part image (V.Gate label) at pending r h m i = only_word i
 unit_word part image (V.Plain instr) at pending r h m i = only_word i
 unit_word part image (V.Branch op rs1 rs2 target) at pending r h m i = branch_word i
@@ -102,10 +124,10 @@ unit_word part image (V.Icall rs1 imm label) at pending r h m i = icall_word i
 unit_word part image V.Return at [] r h m i = absurd i
 unit_word part image V.Return at (site ∷ pending) r h m i = return_word i
 
-pub place_word : (part : ℕ) (image : Memory) (place : Place) (at : ℕ) (pending : List ℕ) (r : Registers) (h : Hart) (m : Memory) →
-    MayStand place part at pending → InPlace part image place at pending r h m → IsWordOf place at h.pc
-place_word part image handler at pending r h m may e = (0, omega arith, omega arith)
-place_word part image (opening entry) at pending r h m may i =
-    let w = opening_word i in let e = w.2 in let here = may.1 in (w.0, w.1, omega arith)
-place_word part image closing at pending r h m may i = closing_word i
-place_word part image (body unit) at pending r h m may i = unit_word part image unit at pending r h m i
+pub place_word : (p : Profile) (part : ℕ) (image : Memory) (place : Place) (at : ℕ) (pending : List ℕ) (r : Registers) (h : Hart) (m : Memory) →
+    MayStand p place at pending → InPlace p part image place at pending r h m → IsWordOf p place at h.pc
+place_word p part image handler at pending r h m may e = (0, omega arith, omega arith)
+place_word p part image (opening entry) at pending r h m may i =
+    let w = opening_word p may.0 i in let e = w.2 in let here = may.1 in (w.0, w.1, omega arith)
+place_word p part image closing at pending r h m may i = closing_word i
+place_word p part image (body unit) at pending r h m may i = unit_word part image unit at pending r h m i

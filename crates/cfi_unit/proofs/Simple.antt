@@ -35,7 +35,7 @@ keeps_x3 regs (suc rd) v free = grind (arith, nat_tests)
 
 module _ (p : Profile) (part : ℕ) (image base : Memory) (at : ℕ) (pending : List ℕ) (r : Registers) (h : Hart) (s : Shared) where
   abbrev Result : U.Unit → After → Type 0
-  Result unit = Outcome part image base (body unit) at pending r
+  Result unit = Outcome p part image base (body unit) at pending r
 
   -- an instruction that puts a value into a register that is not reserved
   puts_so : (i : Instr) (rd v : ℕ) → Context part image base pending s → h.pc ≡ at → h.regs 3 ≡ slot part (length pending) →

@@ -25,14 +25,14 @@ use Rattle.cfi_unit.proofs.PrologueUnits.{handler_law, closing_law, opening_law}
 
 module _ (p : Profile) (part : ℕ) (image base : Memory) where
   call_from : (at target : ℕ) (pending : List ℕ) (r : Registers) (after : After) → AfterCall part image base at (r 31) pending target after →
-      Outcome part image base (body (V.Call target)) at pending r after
+      Outcome p part image base (body (V.Call target)) at pending r after
   call_from at target pending r after (call_inside t c low i) = stays t c low i
   call_from at target pending r after (call_leaves newer t c x3 goes) = leaves newer t c x3 goes
 
   module _ (own : IsPart p part) (small : (k : ℕ) → image k < 2 ^ 8) (r : Registers) (h : Hart) (s : Shared) where
     pub body_law : (unit : U.Unit) (at : ℕ) (pending : List ℕ) → UnitMayStand unit at pending → length pending ≤ MOST_PENDING →
         Stand image at (instrs_of unit at) → Context part image base pending s → InUnit part image unit at pending r h s.memory →
-        Outcome part image base (body unit) at pending r (step p h s)
+        Outcome p part image base (body unit) at pending r (step p h s)
     body_law (V.Gate label) at pending may most w c i = gate_law p part image base at pending r h s label w c i
     body_law (V.Plain instr) at pending may most w c i = plain_law p part image base at pending r h s instr may.0 w c i
     body_law (V.Branch op rs1 rs2 target) at pending may most w c i =
@@ -55,13 +55,13 @@ module _ (p : Profile) (part : ℕ) (image base : Memory) where
     body_law V.Return at (site ∷ pending) may most w c i =
         return_law p part image base at site pending r h s own most may.0 may.1.0 may.1.1 w c i
 
-    opening_at : (entry at : ℕ) (pending : List ℕ) → MayStand (opening entry) part at pending → Stand image at (opening_instrs entry) →
-        Context part image base pending s → InOpening part (r 31) h s.memory →
-        Outcome part image base (opening entry) at pending r (step p h s)
+    opening_at : (entry at : ℕ) (pending : List ℕ) → MayStand p (opening entry) at pending → Stand image at (opening_instrs p entry) →
+        Context part image base pending s → InOpening p part h s.memory →
+        Outcome p part image base (opening entry) at pending r (step p h s)
     opening_at entry at (site ∷ pending) may w c i = let none = may.2 in absurd (cc)
     opening_at entry at [] may w c i =
-        subst (λ a. Outcome part image base (opening entry) a [] r (step p h s)) (sym may.1)
-        (opening_law p part image base r h s entry own may.0 may.3 (subst (λ a. Stand image a (opening_instrs entry)) may.1 w) c i)
+        subst (λ a. Outcome p part image base (opening entry) a [] r (step p h s)) (sym may.1)
+        (opening_law part image base r h s entry p may.0 own may.3 (subst (λ a. Stand image a (opening_instrs p entry)) may.1 w) c i)
 
 pub unit_law : UnitLaw
 unit_law p part image base handler at pending r h s own small may most w c i = handler_law p part image base r h s at pending w c i

@@ -5,7 +5,7 @@ use Rattle.std.specs.List.{AllByRecursion}
 use Rattle.rv_word.specs.MemoryMap.{Profile}
 use Rattle.rv_word.specs.Memory.{Memory}
 use Rattle.rv_instr.specs.Registers.{Registers}
-use Rattle.rv_code.specs.Run.{ByteChange, IsDataChange, run}
+use Rattle.rv_code.specs.Run.{ByteChange, IsDataChange, run_alone}
 use Rattle.rv_code.specs.State.{Hart, Shared, After}
 use Rattle.rv_code.specs.declared.turn.Turn.TheVariants.{Ran}
 use Rattle.cfi_unit.specs.declared.unit.Unit as U
@@ -51,8 +51,8 @@ pub record DoneWithin (p : Profile) (n : ℕ) (h : Hart) (s : Shared) (changes :
   pub steps : ℕ
   pub some : 0 < steps
   pub few : steps ≤ n
-  pub until : (k : ℕ) → k < steps → Until (run p h s (take k changes))
-  pub done : Done (run p h s (take steps changes))
+  pub until : (k : ℕ) → k < steps → Until (run_alone p h s (take k changes))
+  pub done : Done (run_alone p h s (take steps changes))
 
 -- where nothing is changed between its words
 abbrev pub UnitEffect : Type 0

@@ -3,7 +3,7 @@
 -- has found out. `n` counts the pending sites, `r` holds the registers at the unit's start.
 use Rattle.std.specs.Prelude.{◌≡◌, ◌≢◌, ℕ, suc, ◌+◌, ◌*◌, ◌/◌, ◌^◌, ◌<◌, ◌≤◌, List, [], ◌∷◌, length}
 use Rattle.rv_word.specs.Bits.{wrap}
-use Rattle.rv_word.specs.MemoryMap.{CODE_START, CODE_SIZE, SHADOW_START}
+use Rattle.rv_word.specs.MemoryMap.{CODE_START, CODE_SIZE, SHADOW_START, Profile, part_of, version_1, version_2}
 use Rattle.rv_word.specs.Memory.{Memory, read}
 use Rattle.rv_instr.specs.Registers.{Registers}
 use Rattle.rv_code.specs.Arithmetic.{difference}
@@ -11,7 +11,7 @@ use Rattle.rv_code.specs.State.{Hart}
 use Rattle.rv_code.specs.Step.{offset}
 use Rattle.cfi_unit.specs.declared.unit.Unit as U
 use Rattle.cfi_unit.specs.declared.unit.Unit.TheVariants as V
-use Rattle.cfi_unit.specs.Prologue.{OPENING}
+use Rattle.cfi_unit.specs.Prologue.{OPENING, call_at}
 use Rattle.cfi_unit.specs.Place.{Place, handler, opening, closing, body}
 use Rattle.cfi_unit.specs.Shadow.{slot, MOST_PENDING}
 use Rattle.cfi_unit.specs.Leads.{HasLabel, sum_of, destination}
@@ -117,11 +117,27 @@ pub data InReturn (part at link site n : ℕ) (h : Hart) : Type 0 where
   return_jump : h.pc ≡ at + 16 → h.regs 3 ≡ slot part n → link ≡ site → h.regs 31 ≡ site →
       InReturn part at link site n h
 
-pub data InOpening (part v : ℕ) (h : Hart) (m : Memory) : Type 0 where
-  opening_stack : h.pc ≡ OPENING → h.regs 31 ≡ v → InOpening part v h m
-  opening_shadow : h.pc ≡ OPENING + 4 → h.regs 31 ≡ v → InOpening part v h m
-  opening_slot : h.pc ≡ OPENING + 8 → h.regs 31 ≡ v → h.regs 3 ≡ SHADOW_START → InOpening part v h m
-  opening_call : InCall part (OPENING + 12) v 0 h m → InOpening part v h m
+-- the opening's words before its call: of a lone hart
+pub data InLoneSetUp (h : Hart) : Type 0 where
+  lone_stack : h.pc ≡ OPENING → InLoneSetUp h
+  lone_shadow : h.pc ≡ OPENING + 4 → InLoneSetUp h
+  lone_slot : h.pc ≡ OPENING + 8 → h.regs 3 ≡ SHADOW_START → InLoneSetUp h
+
+-- and of one of several, whose own part is that of the number in x10
+pub data InOwnSetUp (part : ℕ) (h : Hart) : Type 0 where
+  own_stack : h.pc ≡ OPENING → part ≡ part_of (h.regs 10) → InOwnSetUp part h
+  own_stack_offset : h.pc ≡ OPENING + 4 → part ≡ part_of (h.regs 10) → InOwnSetUp part h
+  own_stack_end : h.pc ≡ OPENING + 8 → part ≡ part_of (h.regs 10) → InOwnSetUp part h
+  own_shadow : h.pc ≡ OPENING + 12 → part ≡ part_of (h.regs 10) → InOwnSetUp part h
+  own_offset : h.pc ≡ OPENING + 16 → part ≡ part_of (h.regs 10) → h.regs 3 ≡ SHADOW_START → InOwnSetUp part h
+  own_part : h.pc ≡ OPENING + 20 → part ≡ SHADOW_START + h.regs 31 → h.regs 3 ≡ SHADOW_START → InOwnSetUp part h
+  own_slot : h.pc ≡ OPENING + 24 → h.regs 3 ≡ part → InOwnSetUp part h
+
+-- `v` is whatever x31 holds before the call
+pub data InOpening (p : Profile) (part : ℕ) (h : Hart) (m : Memory) : Type 0 where
+  opening_lone : p ≡ version_1 → InLoneSetUp h → InOpening p part h m
+  opening_own : p ≡ version_2 → InOwnSetUp part h → InOpening p part h m
+  opening_call : (v : ℕ) → InCall part (call_at p) v 0 h m → InOpening p part h m
 
 pub data InClosing (at : ℕ) (h : Hart) : Type 0 where
   closing_number : h.pc ≡ at → InClosing at h
@@ -144,8 +160,8 @@ InUnit part image (V.Icall rs1 imm label) at pending r h m =
 InUnit part image V.Return at [] r h m = ⊥
 InUnit part image V.Return at (site ∷ pending) r h m = InReturn part at (r 1) site (length pending) h
 
-abbrev pub InPlace : ℕ → Memory → Place → ℕ → List ℕ → Registers → Hart → Memory → Type 0
-InPlace part image handler at pending r h m = h.pc ≡ at
-InPlace part image (opening entry) at pending r h m = InOpening part (r 31) h m
-InPlace part image closing at pending r h m = InClosing at h
-InPlace part image (body unit) at pending r h m = InUnit part image unit at pending r h m
+abbrev pub InPlace : Profile → ℕ → Memory → Place → ℕ → List ℕ → Registers → Hart → Memory → Type 0
+InPlace p part image handler at pending r h m = h.pc ≡ at
+InPlace p part image (opening entry) at pending r h m = InOpening p part h m
+InPlace p part image closing at pending r h m = InClosing at h
+InPlace p part image (body unit) at pending r h m = InUnit part image unit at pending r h m

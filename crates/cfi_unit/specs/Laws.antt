@@ -1,14 +1,23 @@
 -- What holds of units and their words, each law by its name.
 use Rattle.std.specs.Prelude.{◌≡◌, ℕ, ◌+◌, ◌%◌, ◌<◌, ◌≤◌, ◌^◌, ◌⊎◌, false, IsTrue, List, ◌∷◌, ◌++◌, length, Some}
 use Rattle.std.specs.List.{All}
+use Rattle.rv_word.specs.MemoryMap.{CODE_START, CODE_SIZE, PART_SIZE, Profile}
+use Rattle.rv_word.specs.Memory.{Memory}
+use Rattle.rv_word.specs.Same.{SameOn}
+use Rattle.rv_instr.specs.Registers.{Registers}
 use Rattle.rv_instr.specs.declared.instr.BranchOp.{BranchOp}
 use Rattle.rv_instr.specs.declared.instr.Instr.TheVariants.{Branch}
 use Rattle.rv_code.specs.Decode.{decoded}
+use Rattle.rv_code.specs.State.{Hart}
 use Rattle.cfi_unit.specs.declared.unit.Unit as U
 use Rattle.cfi_unit.specs.declared.unit.Unit.TheVariants as V
 use Rattle.cfi_unit.specs.UnitWords.{Begins, Fits, IsNear, Reaches, instr_at, may_precede, near_offset, skip_offset, skips_jump, word_count, words_of}
 use Rattle.cfi_unit.specs.Recognise.{near_to, recognised}
 use Rattle.cfi_unit.specs.Split.{IsSplit}
+use Rattle.cfi_unit.specs.Place.{Place}
+use Rattle.cfi_unit.specs.Shadow.{MOST_PENDING}
+use Rattle.cfi_unit.specs.Context.{Kept}
+use Rattle.cfi_unit.specs.InPlace.{InPlace}
 
 -- numbers of 32 bits each
 abbrev pub AreWords : List ℕ → Type 0
@@ -70,3 +79,12 @@ BranchBegins =
     (word at rs1 rs2 imm : ℕ) (op : BranchOp) (rest : List ℕ) → word < 2 ^ 32 → at < 2 ^ 64 →
     decoded word ≡ Some (Branch op rs1 rs2 imm) → skips_jump imm (instr_at rest 0) ≡ false →
     Begins (word ∷ rest) at (V.Near op rs1 rs2 (near_to at imm))
+
+-- changes outside of code and of a hart's own part, as the other harts make them, keep what a word of
+-- the hart's code asks, seen from the memory after them
+abbrev pub OthersKeep : Type 0
+OthersKeep =
+    (p : Profile) (part : ℕ) (image base : Memory) (place : Place) (at : ℕ) (pending : List ℕ) (r : Registers) (h : Hart) (m m' : Memory) →
+    length pending ≤ MOST_PENDING → SameOn CODE_START (CODE_START + CODE_SIZE) m m' → SameOn part (part + PART_SIZE) m m' →
+    (Kept part image base pending m → Kept part image m' pending m')
+    × (InPlace p part image place at pending r h m → InPlace p part image place at pending r h m')

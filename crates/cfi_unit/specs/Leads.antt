@@ -2,7 +2,7 @@
 -- unit's start, `past` is the address after it; a computed destination is legal where code has the gate of the class's label.
 use Rattle.std.specs.Prelude.{◌≡◌, ◌≢◌, ℕ, ◌+◌, ◌*◌, ◌/◌, ◌%◌, ◌≤◌, ◌<◌, ◌⊎◌, List, [], ◌∷◌, length}
 use Rattle.rv_word.specs.Bits.{wrap}
-use Rattle.rv_word.specs.MemoryMap.{CODE_START, CODE_SIZE}
+use Rattle.rv_word.specs.MemoryMap.{CODE_START, CODE_SIZE, Profile}
 use Rattle.rv_word.specs.Memory.{Memory, read}
 use Rattle.rv_instr.specs.Registers.{Registers, get_reg}
 use Rattle.rv_code.specs.Step.{offset}
@@ -10,8 +10,7 @@ use Rattle.cfi_unit.specs.declared.unit.Unit as U
 use Rattle.cfi_unit.specs.declared.unit.Unit.TheVariants as V
 use Rattle.cfi_unit.specs.declared.unit.SystemOp.TheVariants as S
 use Rattle.cfi_unit.specs.UnitWords.{BAD_TARGET, BAD_RETURN, DEEP, after_unit}
-use Rattle.cfi_unit.specs.Prologue.{OPENING}
-use Rattle.cfi_unit.specs.Place.{Place, handler, opening, closing, body, place_size}
+use Rattle.cfi_unit.specs.Place.{Place, handler, opening, closing, body}
 use Rattle.cfi_unit.specs.Shadow.{MOST_PENDING}
 
 -- the word of `lui x0,label` stands in code at an address
@@ -77,8 +76,8 @@ abbrev pub UnitLeads : Memory → U.Unit → ℕ → List ℕ → Registers → 
 UnitLeads image unit at pending r after next = LeadsPast image unit (after_unit unit at) pending r after next
 
 -- handlers and the closing end the run; the opening calls the entry
-abbrev pub Leads : Memory → Place → ℕ → List ℕ → Registers → List ℕ → ℕ → Type 0
-Leads image handler at pending r after next = ⊥
-Leads image (opening entry) at pending r after next = Calls (OPENING + place_size (opening entry)) pending after next entry
-Leads image closing at pending r after next = ⊥
-Leads image (body unit) at pending r after next = UnitLeads image unit at pending r after next
+abbrev pub Leads : Profile → Memory → Place → ℕ → List ℕ → Registers → List ℕ → ℕ → Type 0
+Leads p image handler at pending r after next = ⊥
+Leads p image (opening entry) at pending r after next = Calls p.closing pending after next entry
+Leads p image closing at pending r after next = ⊥
+Leads p image (body unit) at pending r after next = UnitLeads image unit at pending r after next

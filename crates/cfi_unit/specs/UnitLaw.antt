@@ -2,8 +2,8 @@
 -- ends as the unit may end; and it keeps what every word keeps. It speaks of one step alone, from
 -- any memory in which code, the hart's own part of the shadow and the facts of the word stand: so
 -- data, and the other harts' parts, may change between two steps.
-use Rattle.std.specs.Prelude.{◌≡◌, ℕ, ◌+◌, ◌%◌, ◌^◌, ◌<◌, ◌≤◌, ◌⊎◌, List, [], ◌∷◌, length}
-use Rattle.rv_word.specs.MemoryMap.{Profile, SHADOW_START}
+use Rattle.std.specs.Prelude.{◌≡◌, ℕ, ◌%◌, ◌^◌, ◌<◌, ◌≤◌, ◌⊎◌, List, [], ◌∷◌, length}
+use Rattle.rv_word.specs.MemoryMap.{IsProfile, Profile}
 use Rattle.rv_word.specs.Memory.{Memory}
 use Rattle.rv_instr.specs.Registers.{Registers}
 use Rattle.rv_code.specs.State.{Hart, Shared, After}
@@ -14,7 +14,7 @@ use Rattle.cfi_unit.specs.declared.unit.Unit as U
 use Rattle.cfi_unit.specs.declared.unit.Unit.TheVariants as V
 use Rattle.cfi_unit.specs.declared.unit.SystemOp.TheVariants as S
 use Rattle.cfi_unit.specs.UnitWords.{Fits}
-use Rattle.cfi_unit.specs.Prologue.{OPENING}
+use Rattle.cfi_unit.specs.Prologue.{OPENING, call_at}
 use Rattle.cfi_unit.specs.Place.{Place, handler, opening, closing, body, place_instrs}
 use Rattle.cfi_unit.specs.Shadow.{IsPart, slot, MOST_PENDING}
 use Rattle.cfi_unit.specs.Stand.{Stand}
@@ -52,15 +52,15 @@ Ends (body unit) at turn = UnitEnds unit at turn
 
 -- a step from a word of what stands at `at`: x3 is past the newest site wherever the step leaves to,
 -- but at a handler
-pub data Outcome (part : ℕ) (image base : Memory) (place : Place) (at : ℕ) (pending : List ℕ) (r : Registers) (after : After) : Type 0 where
+pub data Outcome (p : Profile) (part : ℕ) (image base : Memory) (place : Place) (at : ℕ) (pending : List ℕ) (r : Registers) (after : After) : Type 0 where
   stays : after.turn ≡ Ran → Context part image base pending after.shared → at < after.hart.pc →
-      InPlace part image place at pending r after.hart after.shared.memory →
-      Outcome part image base place at pending r after
+      InPlace p part image place at pending r after.hart after.shared.memory →
+      Outcome p part image base place at pending r after
   leaves : (newer : List ℕ) → after.turn ≡ Ran → Context part image base newer after.shared →
       (after.hart.regs 3 ≡ slot part (length newer)) ⊎ (after.hart.pc < OPENING) →
-      Leads image place at pending r newer after.hart.pc → Outcome part image base place at pending r after
+      Leads p image place at pending r newer after.hart.pc → Outcome p part image base place at pending r after
   ends : Ends place at after.turn → Kept part image base pending after.shared.memory →
-      Outcome part image base place at pending r after
+      Outcome p part image base place at pending r after
 
 -- what a place asks: jumps reach their targets, and a return goes to an instruction's address
 abbrev pub ReturnsTo : List ℕ → Type 0
@@ -70,16 +70,15 @@ ReturnsTo (site ∷ pending) = (site % 2 ≡ 0) × (site < 2 ^ 64)
 abbrev pub UnitMayStand : U.Unit → ℕ → List ℕ → Type 0
 UnitMayStand unit at pending = Fits unit at × ReturnsTo pending
 
-abbrev pub MayStand : Place → ℕ → ℕ → List ℕ → Type 0
-MayStand handler part at pending = Unit {0}
-MayStand (opening entry) part at pending =
-    (part ≡ SHADOW_START) × (at ≡ OPENING) × (pending ≡ []) × Fits (V.Call entry) (OPENING + 12)
-MayStand closing part at pending = Unit {0}
-MayStand (body unit) part at pending = UnitMayStand unit at pending
+abbrev pub MayStand : Profile → Place → ℕ → List ℕ → Type 0
+MayStand p handler at pending = Unit {0}
+MayStand p (opening entry) at pending = IsProfile p × (at ≡ OPENING) × (pending ≡ []) × Fits (V.Call entry) (call_at p)
+MayStand p closing at pending = Unit {0}
+MayStand p (body unit) at pending = UnitMayStand unit at pending
 
 abbrev pub UnitLaw : Type 0
 UnitLaw =
     (p : Profile) (part : ℕ) (image base : Memory) (place : Place) (at : ℕ) (pending : List ℕ) (r : Registers) (h : Hart) (s : Shared) →
-    IsPart p part → ((k : ℕ) → image k < 2 ^ 8) → MayStand place part at pending → length pending ≤ MOST_PENDING →
-    Stand image at (place_instrs place at) → Context part image base pending s →
-    InPlace part image place at pending r h s.memory → Outcome part image base place at pending r (step p h s)
+    IsPart p part → ((k : ℕ) → image k < 2 ^ 8) → MayStand p place at pending → length pending ≤ MOST_PENDING →
+    Stand image at (place_instrs p place at) → Context part image base pending s →
+    InPlace p part image place at pending r h s.memory → Outcome p part image base place at pending r (step p h s)

@@ -6,6 +6,7 @@ ghost use Rattle.cfi_unit.specs.Laws.{
   EmittedRecognised,
   NearReached,
   NoPrefix,
+  OthersKeep,
   RecognisedBegins,
   SplitUnique,
   WordsCounted,
@@ -71,4 +72,10 @@ pub fn branch_reached()
 /// Each branch that does not lead over a jump is a unit, whatever its offset.
 pub fn branch_begins()
     ensures { BranchBegins }
+{}
+
+/// Changes outside of code and of a hart's own part of the shadow, as the other harts make them, keep
+/// what the unit law asks at each word of the hart's code.
+pub fn others_keep()
+    ensures { OthersKeep }
 {}

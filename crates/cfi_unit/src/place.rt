@@ -1,7 +1,3 @@
-ghost use Rattle.std.specs.Prelude.{◌≡◌};
-ghost use Rattle.cfi_unit.specs.Place.{place_size};
-
-use crate::emission::size;
 use crate::unit::Unit;
 
 /// What stands at an address of a hardened image's code.
@@ -15,18 +11,4 @@ pub enum Place {
     Closing,
     /// A unit.
     Body(Unit),
-}
-
-impl Place {
-    /// How many bytes it has.
-    pub fn size(&self) -> u32
-        ensures { result ≡ place_size self.now }
-    {
-        match self {
-            Place::Handler => 4,
-            Place::Opening(_) => 44,
-            Place::Closing => 8,
-            Place::Body(unit) => size(unit),
-        }
-    }
 }

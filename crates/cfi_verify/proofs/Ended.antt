@@ -1,26 +1,46 @@
 -- A scan that has come to the length that the graph gives: what its listing tells of the code.
 use Rattle.std.proofs.Common.{◌≡◌, ℕ, ◌-◌, ◌/◌, List, length, sym, ap, subst, ◌∙◌, arith}
 use Rattle.rv_word.specs.Image.{Contents}
-use Rattle.rv_word.specs.MemoryMap.{version_1}
+use Rattle.rv_word.specs.MemoryMap.{Profile, profile_of}
+use Rattle.rv_word.proofs.Versions.{is_profile, laid_out}
 use Rattle.cfi_graph.specs.Graph.{GraphParts}
-use Rattle.cfi_scan.specs.Pieces.{HasSeen, IsOf, Listed, Sight}
+use Rattle.cfi_scan.specs.Pieces.{HasSeen, IsOf, Listed, Sight, prologue_count}
 use Rattle.cfi_verify.specs.Entries.{Tells}
-use Rattle.cfi_verify.specs.Scan.{Scanned}
+use Rattle.cfi_verify.specs.Scan.{Scanned, StartParts, profile_in}
 use Rattle.cfi_verify.specs.Split.{code_words}
 use Rattle.cfi_verify.proofs.Told.{tells}
 
-pub record Ended (self : Scanned) (t : Listed) (image : Contents) : Type 0 where
-  pub told : Tells t (code_words image.code)
+pub record Ended (p : Profile) (self : Scanned) (t : Listed) (image : Contents) : Type 0 where
+  pub told : Tells p t (code_words image.code)
   pub length_is : self.graph.code ≡ length image.code
 
-module _ (self : Scanned) (feeder : Sight) (graph : GraphParts) (t : Listed) (view : ◌≡◌ {A = Scanned} (record { seen = feeder; graph = graph }) self) (of : (bytes : List ℕ) → HasSeen version_1 feeder bytes → IsOf version_1 t bytes) where
-  pub is_of : (image : Contents) → HasSeen version_1 self.seen image.code → IsOf version_1 t image.code
-  is_of image has = of image.code (subst (λ (s : Scanned). HasSeen version_1 s.seen image.code) (sym view) has)
+module _ (self : Scanned) (feeder : Sight) (graph : GraphParts) (t : Listed) (view : ◌≡◌ {A = Scanned} (record { seen = feeder; graph = graph }) self) (of : (bytes : List ℕ) → HasSeen (profile_of feeder.version) feeder bytes → IsOf (profile_of feeder.version) t bytes) where
+  pub is_of : (image : Contents) → HasSeen (profile_of self.seen.version) self.seen image.code → IsOf (profile_of self.seen.version) t image.code
+  is_of image has =
+      subst (λ (s : Scanned). IsOf (profile_of s.seen.version) t image.code) view
+      (of image.code (subst (λ (s : Scanned). HasSeen (profile_of s.seen.version) s.seen image.code) (sym view) has))
 
-  pub ended : length t.entries ≡ length feeder.entries → length feeder.entries ≡ graph.code / 4 - 16 → t.fed ≡ graph.code →
-      (image : Contents) → HasSeen version_1 self.seen image.code → Ended self t image
+  pub ended : length t.entries ≡ length feeder.entries → length feeder.entries ≡ graph.code / 4 - prologue_count (profile_of feeder.version) → t.fed ≡ graph.code →
+      (image : Contents) → HasSeen (profile_of self.seen.version) self.seen image.code → Ended (profile_of self.seen.version) self t image
   ended kept room fed image has =
-      let seen = is_of image has in record {
-        told = tells t image.code seen (omega arith);
+      let seen = is_of image has in
+      let p : Profile = profile_of self.seen.version in
+      let fits : length feeder.entries ≡ graph.code / 4 - prologue_count p =
+      subst (λ (s : Scanned). length feeder.entries ≡ graph.code / 4 - prologue_count (profile_of s.seen.version)) view room in
+      record {
+        told = tells p (laid_out p (is_profile self.seen.version)) t image.code seen (omega arith);
         length_is = ap (λ (s : Scanned). s.graph.code) (sym view) ∙ sym fed ∙ seen.fed;
       }
+
+-- a listing and a graph that are kept together, of a scan's version
+module _ (self : Scanned) (starts : StartParts) (t : Listed) (graph : GraphParts) (kept : ◌≡◌ {A = StartParts} starts (record { listing = t; graph = graph })) (version : t.version ≡ self.seen.version) (same : graph ≡ self.graph) where
+  pub told_of : (words : List ℕ) → Tells (profile_of self.seen.version) t words → Tells (profile_in starts) starts.listing words
+  told_of words told =
+      subst (λ (s : StartParts). Tells (profile_in s) s.listing words) (sym kept)
+      (subst (λ (v : ℕ). Tells (profile_of v) t words) (sym version) told)
+
+  pub asked : (P : Profile → GraphParts → Type 0) → P (profile_in starts) starts.graph → P (profile_of self.seen.version) self.graph
+  asked P holds =
+      subst (λ (g : GraphParts). P (profile_of self.seen.version) g) same
+      (subst (λ (v : ℕ). P (profile_of v) graph) version
+      (subst (λ (s : StartParts). P (profile_in s) s.graph) kept holds))

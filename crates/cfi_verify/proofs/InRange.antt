@@ -1,17 +1,16 @@
 -- The instructions of a unit, and of the prologue, have their fields in range.
-use Rattle.std.proofs.Common.{◌≡◌, ℕ, zero, suc, ◌+◌, ◌^◌, ◌<◌, List, [], ◌∷◌, ◌++◌, Some, lit<, subst}
+use Rattle.std.proofs.Common.{◌≡◌, ℕ, zero, suc, ◌+◌, ◌^◌, ◌<◌, inl, inr, List, [], ◌∷◌, ◌++◌, Some, lit<, sym, subst}
 use Rattle.std.specs.Prelude.{slice_get}
 use Rattle.std.specs.List.{AllByRecursion}
 use Rattle.std.proofs.lemmas.Nat.{mod_below}
+use Rattle.rv_word.specs.MemoryMap.{IsProfile, Profile}
 use Rattle.rv_instr.specs.InRange.{IsInstr}
 use Rattle.rv_instr.specs.declared.instr.Instr.{Instr}
-use Rattle.rv_instr.specs.declared.instr.Instr.TheVariants.{Jal, Jalr, Upper, Immediate, Ebreak}
-use Rattle.rv_instr.specs.declared.instr.UpperOp.TheVariants.{Lui}
-use Rattle.rv_instr.specs.declared.instr.ImmediateOp.TheVariants.{Addi}
+use Rattle.rv_instr.specs.declared.instr.Instr.TheVariants.{Jal, Jalr, Ebreak}
 use Rattle.cfi_unit.specs.declared.unit.Unit as U
 use Rattle.cfi_unit.specs.declared.unit.Unit.TheVariants as V
 use Rattle.cfi_unit.specs.declared.unit.SystemOp.TheVariants as S
-use Rattle.cfi_unit.specs.Prologue.{OPENING, opening_instrs, closing_instrs, prologue_instrs}
+use Rattle.cfi_unit.specs.Prologue.{call_at, closing_instrs, lone_set_up, opening_instrs, own_set_up, prologue_instrs, set_up}
 use Rattle.cfi_unit.specs.UnitWords.{Fits, instrs_of, jump_offset, push, check}
 use Rattle.cfi_unit.proofs.Found.{is_jump_instr}
 
@@ -105,11 +104,34 @@ unit_instrs (V.Icall rs1 imm label) at f =
 unit_instrs V.Return at f =
     ((lit< tt, lit< tt, lit< tt), ((lit< tt, lit< tt, lit< tt), ((lit< tt, lit< tt, lit< tt), (is_jump_instr 0 _ _ (lit< tt), ((lit< tt, lit< tt, lit< tt), tt)))))
 
-pub prologue_in_range : (entry : ℕ) → AreInstrs (prologue_instrs entry)
-prologue_in_range entry =
-    append_instrs ((Ebreak ∷ Ebreak ∷ Ebreak ∷ []) ++ opening_instrs entry) closing_instrs
-    (append_instrs (Ebreak ∷ Ebreak ∷ Ebreak ∷ []) (opening_instrs entry) (tt, (tt, (tt, tt)))
-    (append_instrs (Upper Lui 2 0x10000 ∷ Upper Lui 3 0x60000 ∷ Immediate Addi 3 3 8 ∷ []) (instrs_of (V.Call entry) (OPENING + 12))
-    ((lit< tt, lit< tt), ((lit< tt, lit< tt), ((lit< tt, lit< tt, lit< tt), tt)))
-    (call_instrs (OPENING + 12) entry)))
+lone_instrs : AreInstrs lone_set_up
+lone_instrs = ((lit< tt, lit< tt), ((lit< tt, lit< tt), ((lit< tt, lit< tt, lit< tt), tt)))
+
+own_instrs : AreInstrs own_set_up
+own_instrs = (
+  (lit< tt, lit< tt),
+  (
+    (lit< tt, lit< tt, lit< tt),
+    (
+      (lit< tt, lit< tt, lit< tt),
+      (
+        (lit< tt, lit< tt),
+        (
+          (lit< tt, lit< tt, lit< tt),
+          ((lit< tt, lit< tt, lit< tt), ((lit< tt, lit< tt, lit< tt), tt)),
+        ),
+      ),
+    ),
+  ),
+)
+
+set_up_instrs : (p : Profile) → IsProfile p → AreInstrs (set_up p)
+set_up_instrs p (inl e) = subst (λ (q : Profile). AreInstrs (set_up q)) (sym e) lone_instrs
+set_up_instrs p (inr e) = subst (λ (q : Profile). AreInstrs (set_up q)) (sym e) own_instrs
+
+pub prologue_in_range : (p : Profile) → IsProfile p → (entry : ℕ) → AreInstrs (prologue_instrs p entry)
+prologue_in_range p is entry =
+    append_instrs ((Ebreak ∷ Ebreak ∷ Ebreak ∷ []) ++ opening_instrs p entry) closing_instrs
+    (append_instrs (Ebreak ∷ Ebreak ∷ Ebreak ∷ []) (opening_instrs p entry) (tt, (tt, (tt, tt)))
+    (append_instrs (set_up p) (instrs_of (V.Call entry) (call_at p)) (set_up_instrs p is) (call_instrs (call_at p) entry)))
     ((lit< tt, lit< tt, lit< tt), (tt, tt))

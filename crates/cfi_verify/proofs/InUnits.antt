@@ -1,13 +1,14 @@
 -- Where units start: in the words from the first one on.
-use Rattle.std.proofs.Common.{◌/◌, ◌%◌, inl, inr, length-drop, ◌≡◌, ◌≤◌, ◌<◌, ℕ, zero, suc, ◌+◌, ◌-◌, ◌*◌, true, List, [], ◌∷◌, length, drop, arith}
+use Rattle.std.proofs.Common.{◌/◌, ◌%◌, inl, inr, length-drop, ◌≡◌, ◌≤◌, ◌<◌, ℕ, zero, suc, ◌+◌, ◌-◌, ◌*◌, true, List, [], ◌∷◌, length, arith}
 use Rattle.std.proofs.lemmas.Option.{slice_get_within}
-use Rattle.rv_word.specs.MemoryMap.{version_1, UNITS_START}
+use Rattle.rv_word.specs.MemoryMap.{CODE_START, Profile}
+use Rattle.rv_word.proofs.Versions.{LaidOut}
 use Rattle.rv_word.proofs.Cases.{cases_Option}
 use Rattle.cfi_unit.specs.Recognise.{recognised}
 use Rattle.cfi_unit.specs.UnitWords.{word_count}
 use Rattle.cfi_verify.proofs.Find.{start_parts}
 use Rattle.cfi_verify.proofs.Marks.{marks_unit}
-use Rattle.cfi_verify.specs.Split.{starts, is_start}
+use Rattle.cfi_verify.specs.Split.{starts, is_start, unit_words}
 
 -- no more starts than words
 pub length-starts : (skip : ℕ) (ws : List ℕ) (at : ℕ) → length (starts skip ws at) ≤ length ws
@@ -22,19 +23,19 @@ length-starts zero (w ∷ ws) at =
     ]
 
 -- where a start lies
-pub record IsInUnits (words : List ℕ) (a : ℕ) : Type 0 where
-  pub low : UNITS_START ≤ a
+pub record IsInUnits (p : Profile) (words : List ℕ) (a : ℕ) : Type 0 where
+  pub low : p.units_from ≤ a
   pub even : a % 4 ≡ 0
   pub high : (a - 0x40000000) / 4 < length words
   pub end : a + 4 ≤ 0x40000000 + 4 * length words
 
-pub start_within : (words : List ℕ) (a : ℕ) → is_start version_1 words a ≡ true → IsInUnits words a
-start_within words a e =
-    let start = start_parts words a e in
+pub start_within : (p : Profile) → LaidOut p → (words : List ℕ) (a : ℕ) → is_start p words a ≡ true → IsInUnits p words a
+start_within p laid words a e =
+    let start = start_parts p laid words a e in
     let low = start.low in
     let even = start.round in
-    let bound = length-starts 0 (drop 16 words) UNITS_START in
-    let words_left : length (drop 16 words) ≡ length words - 16 = length-drop 16 words in
-    let inside : (a - UNITS_START) / 4 < length (starts 0 (drop 16 words) UNITS_START) =
-    slice_get_within (starts 0 (drop 16 words) UNITS_START) ((a - UNITS_START) / 4) true start.mark in
+    let bound = length-starts 0 (unit_words p words) p.units_from in
+    let words_left : length (unit_words p words) ≡ length words - (p.units_from - CODE_START) / 4 = length-drop ((p.units_from - CODE_START) / 4) words in
+    let inside : (a - p.units_from) / 4 < length (starts 0 (unit_words p words) p.units_from) =
+    slice_get_within (starts 0 (unit_words p words) p.units_from) ((a - p.units_from) / 4) true start.mark in
     record { low = low; even = even; high = omega arith; end = omega arith }

@@ -2,7 +2,8 @@
 use Rattle.std.proofs.Common.{◌≡◌, ℕ, ◌<◌, ◌==◌, false, List, Option, Some, None, refl, sym, arith, inl, inr}
 use Rattle.std.specs.Prelude.{is_some, nat_le, option_map}
 use Rattle.std.proofs.lemmas.Bool.{cases_Bool, eqb-true, ne_eqb, lt-leb}
-use Rattle.rv_word.specs.MemoryMap.{version_1, START, CLOSING, UNITS_START}
+use Rattle.rv_word.specs.MemoryMap.{Profile, START}
+use Rattle.rv_word.proofs.Versions.{LaidOut}
 use Rattle.cfi_verify.specs.Split.{is_handler, is_start, entry_of, unit_at, place_at}
 use Rattle.cfi_verify.specs.Scan.{starts_prologue}
 
@@ -10,18 +11,19 @@ some_of : {A B : Type 0} (f : A → B) (x : Option A) → is_some (option_map f 
 some_of f None = refl
 some_of f (Some x) = refl
 
--- below the first unit, a part of the prologue
-pub place_below : (words : List ℕ) (a : ℕ) → a < UNITS_START → starts_prologue version_1 words a ≡ is_some (place_at version_1 words a)
-unfolding place_at unit_at is_start
-place_below words a below =
-    let under : nat_le UNITS_START a ≡ false = lt-leb UNITS_START a below in
-    elim (cases_Bool (is_handler a)) [
-      | inl handler ↦ rw (handler, place_at) refl
-      | inr other ↦ elim (cases_Bool (a == START)) [
-        | inl opening ↦ let not_closing = ne_eqb a CLOSING (λ e. let is = eqb-true a START opening in omega arith) in rw (other, opening, not_closing, place_at) (sym (some_of _ (entry_of version_1 words)))
-        | inr elsewhere ↦ elim (cases_Bool (a == CLOSING)) [
-          | inl closing ↦ rw (other, elsewhere, closing, place_at) refl
-          | inr nowhere ↦ rw (other, elsewhere, nowhere, place_at, unit_at, is_start, under) refl
+module _ (p : Profile) (laid : LaidOut p) where
+  -- below the first unit, a part of the prologue
+  pub place_below : (words : List ℕ) (a : ℕ) → a < p.units_from → starts_prologue p words a ≡ is_some (place_at p words a)
+  unfolding place_at unit_at is_start
+  place_below words a below =
+      let under : nat_le p.units_from a ≡ false = lt-leb p.units_from a below in
+      elim (cases_Bool (is_handler a)) [
+        | inl handler ↦ rw (handler, place_at) refl
+        | inr other ↦ elim (cases_Bool (a == START)) [
+          | inl opening ↦ let not_closing = ne_eqb a p.closing (λ e. let is = eqb-true a START opening in omega arith) in rw (other, opening, not_closing, place_at) (sym (some_of _ (entry_of p words)))
+          | inr elsewhere ↦ elim (cases_Bool (a == p.closing)) [
+            | inl closing ↦ rw (other, elsewhere, closing, place_at) refl
+            | inr nowhere ↦ rw (other, elsewhere, nowhere, place_at, unit_at, is_start, under) refl
+          ]
         ]
       ]
-    ]

@@ -22,6 +22,7 @@ pub mod PlacedGraph
 pub mod PlacedRows
 pub mod Walks
 pub mod Trails
+pub mod OneHart
 pub mod Unsafe
 pub mod Arrivals
 pub mod WordList

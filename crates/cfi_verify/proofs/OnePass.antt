@@ -5,7 +5,8 @@ use Rattle.std.specs.List.{list_any}
 use Rattle.std.proofs.lemmas.Bool.{and_left, and_parts, cases_eq, cases_lt, cases_order, eqb-true, le-ltb, leb-true, lt-leb, lt-ltb, ltb-true, ne_eqb}
 use Rattle.std.proofs.lemmas.Option.{same_Some, slice_get_within}
 use Rattle.rv_word.proofs.Cases.{cases_Option}
-use Rattle.rv_word.specs.MemoryMap.{CODE_START, UNITS_START, version_1}
+use Rattle.rv_word.specs.MemoryMap.{CODE_START, Profile}
+use Rattle.rv_word.proofs.Versions.{LaidOut}
 use Rattle.cfi_graph.specs.declared.line.GraphLine.{GraphLine}
 use Rattle.cfi_graph.specs.declared.line.GraphLine.TheVariants.{Class, Site, Edge, Call}
 use Rattle.cfi_graph.specs.declared.line.Key.TheVariants.{Address}
@@ -13,7 +14,7 @@ use Rattle.cfi_graph.specs.Graph.{GraphParts, IsGraph, is_rising, key_below, key
 use Rattle.cfi_graph.proofs.Rising.{key_transitive}
 use Rattle.cfi_scan.specs.declared.entry.Entry.{Entry}
 use Rattle.cfi_scan.specs.Entries.{is_quiet}
-use Rattle.cfi_scan.specs.Pieces.{Listed}
+use Rattle.cfi_scan.specs.Pieces.{Listed, prologue_count}
 use Rattle.cfi_verify.specs.Entries.{Tells, count_of, entry_at, fails_at, fails_end_at, fails_gate_at, fails_unit_at, gate_at, is_stop_entry, or_inside}
 use Rattle.cfi_verify.specs.Lines.{line_at}
 use Rattle.cfi_verify.specs.Pass.{HasPassed, HoldsAt, HoldsEarly, NoneStands, ends_in_stop}
@@ -50,195 +51,196 @@ standing graph k a line g at key =
     let most : graph.code ≤ 0x100000 = leb-true graph.code 0x100000 (and_parts (graph.code % 4 == 0 && nat_le 4 graph.code) _ g.length).1 in
     record { here = here; even = even; high = omega arith }
 
--- each target of a class has the class's gate
-abbrev pub HasGates : Listed → GraphLine → Type 0
-HasGates t line = (a : ℕ) → lacks_gate (gate_at t) a line ≡ false
-
--- only classes have targets
-pub no_class : (t : Listed) (line : GraphLine) (a : ℕ) → key_of line ≡ Address a → HasGates t line
-no_class t (Class label targets) a key = absurd (cc)
-no_class t (Site address kind label) a key = λ b. refl
-no_class t (Edge from to) a key = λ b. refl
-no_class t (Call from to) a key = λ b. refl
-
 none_of : {A : Type 0} (f : A → Bool) (xs : List A) → ((i : ℕ) (x : A) → slice_get xs i ≡ Some x → f x ≡ false) → list_any f xs ≡ false
 none_of f [] none = refl
 none_of f (x ∷ xs) none = rw (none zero x refl) (none_of f xs (λ i y e. none (suc i) y e))
 
-module _ (t : Listed) (lines : List GraphLine) where
-  gates_more : (count next : ℕ) (line : GraphLine) → slice_get lines count ≡ Some line → HasGates t line → HasPassed t lines count next →
-      (i : ℕ) (other : GraphLine) → i < count + 1 → slice_get lines i ≡ Some other → HasGates t other
-  gates_more count next line at gates passed i other less e =
-      elim (cases_lt i count) [
-        | inl before ↦ passed.gates i other before e
-        | inr last ↦
-            let same : i ≡ count = omega arith in
-            let one : line ≡ other = same_Some line other (sym at ∙ ap (slice_get lines) (sym same) ∙ e) in
-            subst (HasGates t) one gates
-      ]
-
-  -- from the next word to that of the next line no line stands
-  pub none_between : is_rising key_below (map key_of lines) ≡ true → (count next a : ℕ) (line : GraphLine) → slice_get lines count ≡ Some line → key_of line ≡ Address a →
-      HasPassed t lines count next → NoneStands lines next ((a - UNITS_START) / 4)
-  none_between rising count next a line at key passed = λ k from to.
-      line_at-with lines (UNITS_START + 4 * k) ∙ without_key lines (Address (UNITS_START + 4 * k)) (λ i other e same.
-      elim (cases_order i count) [
-        | inl here ↦
-            let one : line ≡ other = same_Some line other (sym at ∙ ap (slice_get lines) (sym here) ∙ e) in
-            let address : a ≡ UNITS_START + 4 * k = same_address _ _ (sym key ∙ ap key_of one ∙ same) in
-            omega arith
-        | inr (inl before) ↦
-            let below : UNITS_START + 4 * k < UNITS_START + 4 * next = ltb-true _ _ (ap (λ j. key_below j (Address (UNITS_START + 4 * next))) (sym same) ∙ passed.lines_before i other before e) in
-            omega arith
-        | inr (inr after) ↦
-            let below : a < UNITS_START + 4 * k = ltb-true _ _ (ap (λ j. key_below (Address a) j) (sym same) ∙ ap (λ j. key_below j (key_of other)) (sym key) ∙ pair_below lines rising count i line other after at e) in
-            omega arith
-      ])
-
-  -- a line at a word, where the rules hold at this word and at those before it
-  pub word_passed : is_rising key_below (map key_of lines) ≡ true → (count next a : ℕ) (line : GraphLine) → slice_get lines count ≡ Some line → key_of line ≡ Address a →
-      UNITS_START ≤ a → a % 4 ≡ 0 →
-      ((k : ℕ) → next ≤ k → k < (a - UNITS_START) / 4 → HoldsAt t lines (UNITS_START + 4 * k)) → HoldsAt t lines a →
-      HasPassed t lines count next → HasPassed t lines (count + 1) ((a - UNITS_START) / 4 + 1)
-  word_passed rising count next a line at key low even between here passed =
-      let past : a < UNITS_START + 4 * ((a - UNITS_START) / 4 + 1) = omega arith in
-      let last : key_below (key_of line) (Address (UNITS_START + 4 * ((a - UNITS_START) / 4 + 1))) ≡ true =
-      ap (λ j. key_below j (Address (UNITS_START + 4 * ((a - UNITS_START) / 4 + 1)))) key ∙ lt-ltb _ _ past in
-      record {
-        gates = gates_more count next line at (no_class t line a key) passed;
-        words = λ k less.
-            elim (cases_lt k next) [
-              | inl before ↦ passed.words k before
-              | inr from ↦ elim (cases_lt k ((a - UNITS_START) / 4)) [
-                | inl inner ↦ between k from inner
-                | inr at_line ↦
-                    let address : a ≡ UNITS_START + 4 * k = omega arith in
-                    subst (HoldsAt t lines) address here
-              ]
-            ];
-        lines_before = λ i other less e.
-            elim (cases_lt i count) [
-              | inl before ↦ key_transitive (key_of other) (key_of line) (Address (UNITS_START + 4 * ((a - UNITS_START) / 4 + 1))) (pair_below lines rising i count other line before e at) last
-              | inr same ↦
-                  let index : i ≡ count = omega arith in
-                  let one : line ≡ other = same_Some line other (sym at ∙ ap (slice_get lines) (sym index) ∙ e) in
-                  ap (λ l. key_below (key_of l) (Address (UNITS_START + 4 * ((a - UNITS_START) / 4 + 1)))) (sym one) ∙ last
-            ];
-      }
-
-  -- past all lines no line stands
-  pub none_after : (count next to : ℕ) → length lines ≤ count → HasPassed t lines count next → NoneStands lines next to
-  none_after count next to all passed = λ k from less.
-      line_at-with lines (UNITS_START + 4 * k) ∙ without_key lines (Address (UNITS_START + 4 * k)) (λ i other e same.
-      let within : i < length lines = slice_get_within lines i other e in
-      let below : UNITS_START + 4 * k < UNITS_START + 4 * next = ltb-true _ _ (ap (λ j. key_below j (Address (UNITS_START + 4 * next))) (sym same) ∙ passed.lines_before i other (omega arith) e) in
-      omega arith)
-
-  pub gates_passed : (count next : ℕ) → length lines ≤ count → HasPassed t lines count next → (a : ℕ) → fails_gate_at t lines a ≡ false
-  gates_passed count next all passed a =
-      none_of _ lines (λ i line e. let within : i < length lines = slice_get_within lines i line e in passed.gates i line (omega arith) e a)
-
--- words whose entries, where there are such, are of no transfer and of no gate
-pub quiet_word : (entries : List Entry) (k : ℕ) → ((entry : Entry) → slice_get entries k ≡ Some entry → is_quiet entry ≡ true) → is_quiet (entry_at entries (UNITS_START + 4 * k)) ≡ true
-quiet_word entries k quiet =
-    let index : (UNITS_START + 4 * k - UNITS_START) / 4 ≡ k = omega arith in
-    ap is_quiet (entry_is entries (UNITS_START + 4 * k) (omega arith) (omega arith) ∙ ap (λ i. or_inside (slice_get entries i)) index)
-    ∙ elim (cases_Option (slice_get entries k)) [
-      | inl none ↦ ap (λ o. is_quiet (or_inside o)) none
-      | inr (entry, some) ↦ ap (λ o. is_quiet (or_inside o)) some ∙ quiet entry some
-    ]
-
--- past the prologue the rule of the prologue holds
-no_prologue : (words : List ℕ) (a : ℕ) → UNITS_START ≤ a → fails_prologue words a ≡ false
-no_prologue words a low = off (nat_le CODE_START a) (nat_le (a + 4) (CODE_START + 64)) _ _ (lt-leb (a + 4) (CODE_START + 64) (omega arith))
-  where
-    off : (l h x y : Bool) → h ≡ false → (((l && h) && x) && y) ≡ false
-    off true h x y e = rw e refl
-    off false h x y e = refl
-
-module _ (t : Listed) (ends : ends_in_stop t ≡ true) where
-  covered : t.done ≡ count_of t
-  covered = eqb-true _ _ (and_parts (t.done == count_of t) _ ends).0
-
-  rest : (nat_lt t.last t.done && is_stop_entry (entry_at t.entries (UNITS_START + 4 * t.last))) ≡ true
-  rest = (and_parts (t.done == count_of t) _ ends).1
-
-  pub no_unit_fails : (a : ℕ) → fails_unit_at t a ≡ false
-  no_unit_fails a = let all = covered in and_left _ _ (le-ltb t.done (count_of t) (omega arith))
-
-  pub no_end_fails : (a : ℕ) → fails_end_at t a ≡ false
-  no_end_fails a =
-      let all = covered in
-      let parts = and_parts (nat_lt t.last t.done) _ rest in
-      let some : t.last < t.done = ltb-true _ _ parts.0 in
-      let long : nat_le (t.fed / 4) 16 ≡ false = lt-leb (t.fed / 4) 16 (omega arith) in
-      elim (cases_eq a (UNITS_START + 4 * t.last)) [
-        | inl here ↦
-            let stops : not (is_stop_entry (entry_at t.entries a)) ≡ false = ap not (ap (λ b. is_stop_entry (entry_at t.entries b)) here ∙ parts.1) in
-            rw (long, stops) (none (t.done == count_of t) (nat_lt t.last t.done) (a == UNITS_START + 4 * t.last) (a == UNITS_START))
-        | inr other ↦
-            rw (long, ne_eqb a (UNITS_START + 4 * t.last) other) (few (t.done == count_of t) (nat_lt t.last t.done) (a == UNITS_START))
-      ]
-    where
-      nowhere : (u : Bool) → (u && false) ≡ false
-      nowhere true = refl
-      nowhere false = refl
-
-      none : (p q r u : Bool) → ((p && (q && (r && false))) || (u && false)) ≡ false
-      none true true true u = nowhere u
-      none true true false u = nowhere u
-      none true false r u = nowhere u
-      none false q r u = nowhere u
-
-      few : (p q u : Bool) → ((p && (q && false)) || (u && false)) ≡ false
-      few true true u = nowhere u
-      few true false u = nowhere u
-      few false q u = nowhere u
-
-by_word : (t : Listed) (lines : List GraphLine) (a : ℕ) (rule : Rule) → UNITS_START ≤ a → ends_in_stop t ≡ true → HoldsAt t lines a → rule ≢ R.Gate → fails_at rule t lines a ≡ false
-by_word t lines a R.Prologue low ends holds n = no_prologue t.prologue a low
-by_word t lines a R.Unit low ends holds n = no_unit_fails t ends a
-by_word t lines a R.Target low ends holds n = holds.target
-by_word t lines a R.Unlisted low ends holds n = holds.unlisted
-by_word t lines a R.Unused low ends holds n = holds.unused
-by_word t lines a R.Site low ends holds n = holds.site
-by_word t lines a R.Gate low ends holds n = absurd (n refl)
-by_word t lines a R.Astray low ends holds n = holds.astray
-by_word t lines a R.End low ends holds n = no_end_fails t ends a
-
--- what the pass has asked is all that the rules ask
-pub pass_holds : (t : Listed) (graph : GraphParts) → IsGraph graph → graph.code ≡ 4 * (t.fed / 4) →
-    ((rule : Rule) → HoldsEarly t graph.lines rule) → ends_in_stop t ≡ true →
-    ((k : ℕ) → k < count_of t → HoldsAt t graph.lines (UNITS_START + 4 * k)) → ((a : ℕ) → fails_gate_at t graph.lines a ≡ false) →
-    (words : List ℕ) → Tells t words → (rule : Rule) → Holds version_1 words graph.lines rule
-pass_holds t graph g given early ends words_hold gates words told rule = by rule
-  where
-    code : graph.code ≡ 4 * length words
-    code = given ∙ ap (λ n. 4 * n) told.count
-
-    others : (r : Rule) → r ≢ R.Gate → Holds version_1 words graph.lines r
-    others r n =
-        let count : t.fed / 4 ≡ length words = told.count in
-        let some : t.last < t.done = ltb-true _ _ (and_parts (nat_lt t.last t.done) _ (rest t ends)).0 in
-        let all = covered t ends in
-        none_anywhere r words graph (length words) (omega arith) n g code (λ k below.
-        fails_told t words told r graph.lines _ ∙ elim (cases_lt k 16) [
-          | inl first ↦ early r n k first
-          | inr later ↦
-              let address : UNITS_START + 4 * (k - 16) ≡ 0x40000000 + 4 * k = omega arith in
-              ap (fails_at r t graph.lines) (sym address) ∙ by_word t graph.lines (UNITS_START + 4 * (k - 16)) r (omega arith) ends (words_hold (k - 16) (omega arith)) n
-        ])
-
-    by : (r : Rule) → Holds version_1 words graph.lines r
-    by R.Gate = λ a. fails_told t words told R.Gate graph.lines a ∙ gates a
-    by R.Prologue = others R.Prologue (λ e. cc)
-    by R.Unit = others R.Unit (λ e. cc)
-    by R.Target = others R.Target (λ e. cc)
-    by R.Unlisted = others R.Unlisted (λ e. cc)
-    by R.Unused = others R.Unused (λ e. cc)
-    by R.Site = others R.Site (λ e. cc)
-    by R.Astray = others R.Astray (λ e. cc)
-    by R.End = others R.End (λ e. cc)
-
 pub entry_there : {given listing : Listed} {entry : Entry} (k : ℕ) → given ≡ listing → slice_get listing.entries k ≡ Some entry → slice_get given.entries k ≡ Some entry
 entry_there k same at = ap (λ (t : Listed). slice_get t.entries k) same ∙ at
+
+module _ (p : Profile) (laid : LaidOut p) where
+  -- each target of a class has the class's gate
+  abbrev pub HasGates : Listed → GraphLine → Type 0
+  HasGates t line = (a : ℕ) → lacks_gate (gate_at p t) a line ≡ false
+
+  -- only classes have targets
+  pub no_class : (t : Listed) (line : GraphLine) (a : ℕ) → key_of line ≡ Address a → HasGates t line
+  no_class t (Class label targets) a key = absurd (cc)
+  no_class t (Site address kind label) a key = λ b. refl
+  no_class t (Edge from to) a key = λ b. refl
+  no_class t (Call from to) a key = λ b. refl
+
+  module _ (t : Listed) (graph : GraphParts) where
+    gates_more : (count next : ℕ) (line : GraphLine) → slice_get graph.lines count ≡ Some line → HasGates t line → HasPassed p t graph count next →
+        (i : ℕ) (other : GraphLine) → i < count + 1 → slice_get graph.lines i ≡ Some other → HasGates t other
+    gates_more count next line at gates passed i other less e =
+        elim (cases_lt i count) [
+          | inl before ↦ passed.gates i other before e
+          | inr last ↦
+              let same : i ≡ count = omega arith in
+              let one : line ≡ other = same_Some line other (sym at ∙ ap (slice_get graph.lines) (sym same) ∙ e) in
+              subst (HasGates t) one gates
+        ]
+
+    -- from the next word to that of the next line no line stands
+    pub none_between : is_rising key_below (map key_of graph.lines) ≡ true → (count next a : ℕ) (line : GraphLine) → slice_get graph.lines count ≡ Some line → key_of line ≡ Address a →
+        HasPassed p t graph count next → NoneStands p graph.lines next ((a - p.units_from) / 4)
+    none_between rising count next a line at key passed = λ k from to.
+        line_at-with graph.lines (p.units_from + 4 * k) ∙ without_key graph.lines (Address (p.units_from + 4 * k)) (λ i other e same.
+        elim (cases_order i count) [
+          | inl here ↦
+              let one : line ≡ other = same_Some line other (sym at ∙ ap (slice_get graph.lines) (sym here) ∙ e) in
+              let address : a ≡ p.units_from + 4 * k = same_address _ _ (sym key ∙ ap key_of one ∙ same) in
+              omega arith
+          | inr (inl before) ↦
+              let below : p.units_from + 4 * k < p.units_from + 4 * next = ltb-true _ _ (ap (λ j. key_below j (Address (p.units_from + 4 * next))) (sym same) ∙ passed.lines_before i other before e) in
+              omega arith
+          | inr (inr after) ↦
+              let below : a < p.units_from + 4 * k = ltb-true _ _ (ap (λ j. key_below (Address a) j) (sym same) ∙ ap (λ j. key_below j (key_of other)) (sym key) ∙ pair_below graph.lines rising count i line other after at e) in
+              omega arith
+        ])
+
+    -- a line at a word, where the rules hold at this word and at those before it
+    pub word_passed : is_rising key_below (map key_of graph.lines) ≡ true → (count next a : ℕ) (line : GraphLine) → slice_get graph.lines count ≡ Some line → key_of line ≡ Address a →
+        p.units_from ≤ a → a % 4 ≡ 0 →
+        ((k : ℕ) → next ≤ k → k < (a - p.units_from) / 4 → HoldsAt p t graph (p.units_from + 4 * k)) → HoldsAt p t graph a →
+        HasPassed p t graph count next → HasPassed p t graph (count + 1) ((a - p.units_from) / 4 + 1)
+    word_passed rising count next a line at key low even between here passed =
+        let past : a < p.units_from + 4 * ((a - p.units_from) / 4 + 1) = omega arith in
+        let last : key_below (key_of line) (Address (p.units_from + 4 * ((a - p.units_from) / 4 + 1))) ≡ true =
+        ap (λ j. key_below j (Address (p.units_from + 4 * ((a - p.units_from) / 4 + 1)))) key ∙ lt-ltb _ _ past in
+        record {
+          gates = gates_more count next line at (no_class t line a key) passed;
+          words = λ k less.
+              elim (cases_lt k next) [
+                | inl before ↦ passed.words k before
+                | inr from ↦ elim (cases_lt k ((a - p.units_from) / 4)) [
+                  | inl inner ↦ between k from inner
+                  | inr at_line ↦
+                      let address : a ≡ p.units_from + 4 * k = omega arith in
+                      subst (HoldsAt p t graph) address here
+                ]
+              ];
+          lines_before = λ i other less e.
+              elim (cases_lt i count) [
+                | inl before ↦ key_transitive (key_of other) (key_of line) (Address (p.units_from + 4 * ((a - p.units_from) / 4 + 1))) (pair_below graph.lines rising i count other line before e at) last
+                | inr same ↦
+                    let index : i ≡ count = omega arith in
+                    let one : line ≡ other = same_Some line other (sym at ∙ ap (slice_get graph.lines) (sym index) ∙ e) in
+                    ap (λ l. key_below (key_of l) (Address (p.units_from + 4 * ((a - p.units_from) / 4 + 1)))) (sym one) ∙ last
+              ];
+        }
+
+    -- past all lines no line stands
+    pub none_after : (count next to : ℕ) → length graph.lines ≤ count → HasPassed p t graph count next → NoneStands p graph.lines next to
+    none_after count next to all passed = λ k from less.
+        line_at-with graph.lines (p.units_from + 4 * k) ∙ without_key graph.lines (Address (p.units_from + 4 * k)) (λ i other e same.
+        let within : i < length graph.lines = slice_get_within graph.lines i other e in
+        let below : p.units_from + 4 * k < p.units_from + 4 * next = ltb-true _ _ (ap (λ j. key_below j (Address (p.units_from + 4 * next))) (sym same) ∙ passed.lines_before i other (omega arith) e) in
+        omega arith)
+
+    pub gates_passed : (count next : ℕ) → length graph.lines ≤ count → HasPassed p t graph count next → (a : ℕ) → fails_gate_at p t graph.lines a ≡ false
+    gates_passed count next all passed a =
+        none_of _ graph.lines (λ i line e. let within : i < length graph.lines = slice_get_within graph.lines i line e in passed.gates i line (omega arith) e a)
+
+  -- words whose entries, where there are such, are of no transfer and of no gate
+  pub quiet_word : (entries : List Entry) (k : ℕ) → ((entry : Entry) → slice_get entries k ≡ Some entry → is_quiet entry ≡ true) → is_quiet (entry_at p entries (p.units_from + 4 * k)) ≡ true
+  quiet_word entries k quiet =
+      let index : (p.units_from + 4 * k - p.units_from) / 4 ≡ k = omega arith in
+      ap is_quiet (entry_is p laid entries (p.units_from + 4 * k) (omega arith) (omega arith) ∙ ap (λ i. or_inside (slice_get entries i)) index)
+      ∙ elim (cases_Option (slice_get entries k)) [
+        | inl none ↦ ap (λ o. is_quiet (or_inside o)) none
+        | inr (entry, some) ↦ ap (λ o. is_quiet (or_inside o)) some ∙ quiet entry some
+      ]
+
+  -- past the prologue the rule of the prologue holds
+  no_prologue : (words : List ℕ) (a : ℕ) → p.units_from ≤ a → fails_prologue p words a ≡ false
+  no_prologue words a low = off (nat_le CODE_START a) (nat_le (a + 4) (CODE_START + (p.units_from - CODE_START))) _ _ (lt-leb (a + 4) (CODE_START + (p.units_from - CODE_START)) (omega arith))
+    where
+      off : (l h x y : Bool) → h ≡ false → (((l && h) && x) && y) ≡ false
+      off true h x y e = rw e refl
+      off false h x y e = refl
+
+  module _ (t : Listed) (ends : ends_in_stop p t ≡ true) where
+    covered : t.done ≡ count_of p t
+    covered = eqb-true _ _ (and_parts (t.done == count_of p t) _ ends).0
+
+    rest : (nat_lt t.last t.done && is_stop_entry (entry_at p t.entries (p.units_from + 4 * t.last))) ≡ true
+    rest = (and_parts (t.done == count_of p t) _ ends).1
+
+    pub no_unit_fails : (a : ℕ) → fails_unit_at p t a ≡ false
+    no_unit_fails a = let all = covered in and_left _ _ (le-ltb t.done (count_of p t) (omega arith))
+
+    pub no_end_fails : (a : ℕ) → fails_end_at p t a ≡ false
+    no_end_fails a =
+        let all = covered in
+        let parts = and_parts (nat_lt t.last t.done) _ rest in
+        let some : t.last < t.done = ltb-true _ _ parts.0 in
+        let long : nat_le (t.fed / 4) (prologue_count p) ≡ false = lt-leb (t.fed / 4) (prologue_count p) (omega arith) in
+        elim (cases_eq a (p.units_from + 4 * t.last)) [
+          | inl here ↦
+              let stops : not (is_stop_entry (entry_at p t.entries a)) ≡ false = ap not (ap (λ b. is_stop_entry (entry_at p t.entries b)) here ∙ parts.1) in
+              rw (long, stops) (none (t.done == count_of p t) (nat_lt t.last t.done) (a == p.units_from + 4 * t.last) (a == p.units_from))
+          | inr other ↦
+              rw (long, ne_eqb a (p.units_from + 4 * t.last) other) (few (t.done == count_of p t) (nat_lt t.last t.done) (a == p.units_from))
+        ]
+      where
+        nowhere : (u : Bool) → (u && false) ≡ false
+        nowhere true = refl
+        nowhere false = refl
+
+        none : (p q r u : Bool) → ((p && (q && (r && false))) || (u && false)) ≡ false
+        none true true true u = nowhere u
+        none true true false u = nowhere u
+        none true false r u = nowhere u
+        none false q r u = nowhere u
+
+        few : (p q u : Bool) → ((p && (q && false)) || (u && false)) ≡ false
+        few true true u = nowhere u
+        few true false u = nowhere u
+        few false q u = nowhere u
+
+  by_word : (t : Listed) (graph : GraphParts) (a : ℕ) (rule : Rule) → p.units_from ≤ a → ends_in_stop p t ≡ true → HoldsAt p t graph a → rule ≢ R.Gate → fails_at p rule t graph a ≡ false
+  by_word t graph a R.Prologue low ends holds n = no_prologue t.prologue a low
+  by_word t graph a R.Unit low ends holds n = no_unit_fails t ends a
+  by_word t graph a R.Target low ends holds n = holds.target
+  by_word t graph a R.Unlisted low ends holds n = holds.unlisted
+  by_word t graph a R.Unused low ends holds n = holds.unused
+  by_word t graph a R.Site low ends holds n = holds.site
+  by_word t graph a R.Gate low ends holds n = absurd (n refl)
+  by_word t graph a R.Astray low ends holds n = holds.astray
+  by_word t graph a R.End low ends holds n = no_end_fails t ends a
+
+  -- what the pass has asked is all that the rules ask
+  pub pass_holds : (t : Listed) (graph : GraphParts) → IsGraph graph → graph.code ≡ 4 * (t.fed / 4) →
+      ((rule : Rule) → HoldsEarly p t graph rule) → ends_in_stop p t ≡ true →
+      ((k : ℕ) → k < count_of p t → HoldsAt p t graph (p.units_from + 4 * k)) → ((a : ℕ) → fails_gate_at p t graph.lines a ≡ false) →
+      (words : List ℕ) → Tells p t words → (rule : Rule) → Holds p words graph rule
+  pass_holds t graph g given early ends words_hold gates words told rule = by rule
+    where
+      code : graph.code ≡ 4 * length words
+      code = given ∙ ap (λ n. 4 * n) told.count
+
+      others : (r : Rule) → r ≢ R.Gate → Holds p words graph r
+      others r n =
+          let count : t.fed / 4 ≡ length words = told.count in
+          let some : t.last < t.done = ltb-true _ _ (and_parts (nat_lt t.last t.done) _ (rest t ends)).0 in
+          let all = covered t ends in
+          none_anywhere p laid r words graph (length words) (omega arith) n g code (λ k below.
+          fails_told p laid t words told r graph _ ∙ elim (cases_lt k (prologue_count p)) [
+            | inl first ↦ early r n k first
+            | inr later ↦
+                let address : p.units_from + 4 * (k - prologue_count p) ≡ 0x40000000 + 4 * k = omega arith in
+                ap (fails_at p r t graph) (sym address) ∙ by_word t graph (p.units_from + 4 * (k - prologue_count p)) r (omega arith) ends (words_hold (k - prologue_count p) (omega arith)) n
+          ])
+
+      by : (r : Rule) → Holds p words graph r
+      by R.Gate = λ a. fails_told p laid t words told R.Gate graph a ∙ gates a
+      by R.Prologue = others R.Prologue (λ e. cc)
+      by R.Unit = others R.Unit (λ e. cc)
+      by R.Target = others R.Target (λ e. cc)
+      by R.Unlisted = others R.Unlisted (λ e. cc)
+      by R.Unused = others R.Unused (λ e. cc)
+      by R.Site = others R.Site (λ e. cc)
+      by R.Astray = others R.Astray (λ e. cc)
+      by R.End = others R.End (λ e. cc)

@@ -1,5 +1,5 @@
 -- Worked pairs, computed: which rule fails, and where.
-use Rattle.std.proofs.Common.{◌≡◌, ℕ, ◌+◌, List, [], ◌∷◌, ◌++◌, take, drop, refl, true, false}
+use Rattle.std.proofs.Common.{◌≡◌, ℕ, ◌+◌, ◌*◌, Bool, List, [], ◌∷◌, ◌++◌, length, take, drop, refl, true, false}
 use Rattle.rv_word.specs.MemoryMap.{version_1}
 use Rattle.rv_code.specs.Decode.{decoded}
 use Rattle.rv_code.specs.Encode.{code_of}
@@ -12,6 +12,10 @@ use Rattle.cfi_verify.specs.Rules.{fails}
 use Rattle.cfi_verify.specs.Split.{starts, is_start, unit_at, place_at}
 use Rattle.cfi_verify.specs.declared.reject.Rule as K
 use Rattle.cfi_verify.specs.declared.reject.Rule.TheVariants as R
+
+-- whether a rule fails, of a code and the lines of its graph
+abbrev fails_of : K.Rule → List ℕ → List GraphLine → ℕ → Bool
+fails_of rule words lines a = fails rule version_1 words (record { code = 4 * length words; lines = lines }) a
 
 -- the prologue
 abbrev opening : List ℕ
@@ -32,8 +36,8 @@ entering = Call 0x4000000c 0x40000040 ∷ []
 -- a rule holds of it at the call, at the first and the last unit and at its end
 abbrev Holds : K.Rule → Type 0
 Holds rule =
-    (fails rule version_1 code entering 0x4000000c ≡ false) × (fails rule version_1 code entering 0x40000040 ≡ false)
-    × (fails rule version_1 code entering 0x4000004c ≡ false) × (fails rule version_1 code entering 0x40000050 ≡ false)
+    (fails_of rule code entering 0x4000000c ≡ false) × (fails_of rule code entering 0x40000040 ≡ false)
+    × (fails_of rule code entering 0x4000004c ≡ false) × (fails_of rule code entering 0x40000050 ≡ false)
 
 holds_Prologue : Holds R.Prologue
 unfolding decoded code_of recognised words_of starts is_start unit_at place_at line_at class_with targets_for
@@ -71,50 +75,50 @@ holds_End : Holds R.End
 unfolding decoded code_of recognised words_of starts is_start unit_at place_at line_at class_with targets_for
 holds_End = (refl, refl, refl, refl)
 
-pair_1 : fails R.Prologue version_1 (with_word 2 0x00000013) entering 0x40000008 ≡ true
+pair_1 : fails_of R.Prologue (with_word 2 0x00000013) entering 0x40000008 ≡ true
 unfolding decoded code_of recognised words_of starts is_start unit_at place_at line_at class_with targets_for
 pair_1 = refl
 
-pair_2 : fails R.Prologue version_1 (with_word 14 0x05e00893) entering 0x40000038 ≡ true
+pair_2 : fails_of R.Prologue (with_word 14 0x05e00893) entering 0x40000038 ≡ true
 unfolding decoded code_of recognised words_of starts is_start unit_at place_at line_at class_with targets_for
 pair_2 = refl
 
-pair_4 : fails R.Unit version_1 (with_word 16 0x00100f13) entering 0x40000040 ≡ true
+pair_4 : fails_of R.Unit (with_word 16 0x00100f13) entering 0x40000040 ≡ true
 unfolding decoded code_of recognised words_of starts is_start unit_at place_at line_at class_with targets_for
 pair_4 = refl
 
-pair_5 : fails R.Unit version_1 (with_word 16 0x0052b023) entering 0x40000040 ≡ true
+pair_5 : fails_of R.Unit (with_word 16 0x0052b023) entering 0x40000040 ≡ true
 unfolding decoded code_of recognised words_of starts is_start unit_at place_at line_at class_with targets_for
 pair_5 = refl
 
-pair_6 : fails R.Unit version_1 (with_word 16 0x00028067) entering 0x40000040 ≡ true
+pair_6 : fails_of R.Unit (with_word 16 0x00028067) entering 0x40000040 ≡ true
 unfolding decoded code_of recognised words_of starts is_start unit_at place_at line_at class_with targets_for
 pair_6 = refl
 
-pair_7 : fails R.Target version_1 (with_word 13 0x004000ef) entering 0x4000000c ≡ true
+pair_7 : fails_of R.Target (with_word 13 0x004000ef) entering 0x4000000c ≡ true
 unfolding decoded code_of recognised words_of starts is_start unit_at place_at line_at class_with targets_for
 pair_7 = refl
 
-pair_8 : fails R.Unlisted version_1 (with_word 16 0x0080006f) entering 0x40000040 ≡ true
+pair_8 : fails_of R.Unlisted (with_word 16 0x0080006f) entering 0x40000040 ≡ true
 unfolding decoded code_of recognised words_of starts is_start unit_at place_at line_at class_with targets_for
 pair_8 = refl
 
-pair_9 : fails R.End version_1 (with_word 19 0x00000013) entering 0x4000004c ≡ true
+pair_9 : fails_of R.End (with_word 19 0x00000013) entering 0x4000004c ≡ true
 unfolding decoded code_of recognised words_of starts is_start unit_at place_at line_at class_with targets_for
 pair_9 = refl
 
-pair_10 : fails R.Unit version_1 (opening ++ 0x00700513 ∷ 0xff81bf83 ∷ 0xff818193 ∷ 0x001f8463 ∷ 0xfb5ff06f ∷ 0x00008067 ∷ 0xfa9ff06f ∷ []) entering 0x40000044 ≡ true
+pair_10 : fails_of R.Unit (opening ++ 0x00700513 ∷ 0xff81bf83 ∷ 0xff818193 ∷ 0x001f8463 ∷ 0xfb5ff06f ∷ 0x00008067 ∷ 0xfa9ff06f ∷ []) entering 0x40000044 ≡ true
 unfolding decoded code_of recognised words_of starts is_start unit_at place_at line_at class_with targets_for
 pair_10 = refl
 
-row_17a : fails R.Astray version_1 (with_word 16 0x00001037) (Class 1 [] ∷ entering) 0x40000040 ≡ true
+row_17a : fails_of R.Astray (with_word 16 0x00001037) (Class 1 [] ∷ entering) 0x40000040 ≡ true
 unfolding decoded code_of recognised words_of starts is_start unit_at place_at line_at class_with targets_for
 row_17a = refl
 
-row_17b : fails R.Unused version_1 (opening ++ 0x00700513 ∷ 0xff81bf83 ∷ 0xff818193 ∷ 0x001f8463 ∷ 0xfb5ff06f ∷ 0x000f8067 ∷ 0xfa9ff06f ∷ []) (Call 0x4000000c 0x40000040 ∷ Edge 0x40000040 0x40000044 ∷ []) 0x40000040 ≡ true
+row_17b : fails_of R.Unused (opening ++ 0x00700513 ∷ 0xff81bf83 ∷ 0xff818193 ∷ 0x001f8463 ∷ 0xfb5ff06f ∷ 0x000f8067 ∷ 0xfa9ff06f ∷ []) (Call 0x4000000c 0x40000040 ∷ Edge 0x40000040 0x40000044 ∷ []) 0x40000040 ≡ true
 unfolding decoded code_of recognised words_of starts is_start unit_at place_at line_at class_with targets_for
 row_17b = refl
 
-row_17c : fails R.Target version_1 (opening ++ 0x0080006f ∷ 0xff81bf83 ∷ 0xff818193 ∷ 0x001f8463 ∷ 0xfb5ff06f ∷ 0x000f8067 ∷ 0xfa9ff06f ∷ []) entering 0x40000040 ≡ true
+row_17c : fails_of R.Target (opening ++ 0x0080006f ∷ 0xff81bf83 ∷ 0xff818193 ∷ 0x001f8463 ∷ 0xfb5ff06f ∷ 0x000f8067 ∷ 0xfa9ff06f ∷ []) entering 0x40000040 ≡ true
 unfolding decoded code_of recognised words_of starts is_start unit_at place_at line_at class_with targets_for
 row_17c = refl

@@ -1,12 +1,13 @@
 -- The lines of sound placed units are a graph's, where its class lines are.
-use Rattle.std.proofs.Common.{inl, inr, ◌≡◌, ℕ, ◌+◌, ◌*◌, ◌%◌, ◌≤◌, ◌<◌, ◌==◌, Bool, true, false, List, [], ◌∷◌, ◌++◌, length, map, refl, sym, ap, ◌∙◌, Some, None, lit<, arith}
+use Rattle.std.proofs.Common.{inl, inr, ◌≡◌, ℕ, ◌+◌, ◌*◌, ◌%◌, ◌≤◌, ◌<◌, ◌==◌, Bool, true, false, List, [], ◌∷◌, ◌++◌, length, map, refl, sym, ap, ◌∙◌, Some, None, arith}
 use Rattle.std.specs.Prelude.{Option, IsTrue, nat_le, nat_lt, ◌&&◌, is_some}
 use Rattle.std.specs.List.{list_all}
 use Rattle.std.proofs.lemmas.Bool.{and_from, and_parts, cases_Bool, eq-eqb, eqb-true, le-leb, lt-ltb}
 use Rattle.std.proofs.lemmas.List.Folds.{list_all-append}
 use Rattle.std.proofs.lemmas.Option.{same_Some}
-use Rattle.rv_word.specs.MemoryMap.{CODE_START, version_1}
+use Rattle.rv_word.specs.MemoryMap.{CODE_START, IsProfile, Profile}
 use Rattle.rv_word.proofs.Cases.{cases_Option}
+use Rattle.rv_word.proofs.Versions.{LaidOut, laid_out}
 use Rattle.cfi_graph.specs.declared.line.GraphLine.{GraphLine}
 use Rattle.cfi_graph.specs.declared.line.GraphLine.TheVariants.{Class, Site, Edge, Call}
 use Rattle.cfi_graph.specs.declared.line.Key.TheVariants.{Address}
@@ -127,54 +128,59 @@ unit_range len (V.Icall rs1 imm label) a line here leads known e =
     given (line_in_range len) (Site a K.Call label) line e (and_from (is_code_address len a) (is_label label) here (known (asks K.Call First label) refl))
 unit_range len other a line here leads known e = absurd (cc)
 
-module _ (entry : ℕ) (us : List U.Unit) (classes : List GraphLine) (sound : IsSound version_1 entry us classes) where
+module _ (p : Profile) (profile : IsProfile p) (entry : ℕ) (us : List U.Unit) (classes : List GraphLine) (sound : IsSound p entry us classes) where
+  laid : LaidOut p
+  laid = laid_out p profile
+
   abbrev size : ℕ
-  size = 4 * length (placed_code version_1 entry us)
+  size = 4 * length (placed_code p entry us)
 
   code_address : (a : ℕ) → CODE_START ≤ a → a < CODE_START + size → a % 4 ≡ 0 → is_code_address size a ≡ true
   code_address a low high round =
       and_from (a % 4 == 0 && nat_le CODE_START a) (nat_lt a (CODE_START + size))
       (and_from (a % 4 == 0) (nat_le CODE_START a) (eq-eqb (a % 4) 0 round) (le-leb CODE_START a low)) (lt-ltb a (CODE_START + size) high)
 
-  start_address : (a : ℕ) (u : U.Unit) → unit_in us version_1.units_from a ≡ Some u → is_code_address size a ≡ true
+  start_address : (a : ℕ) (u : U.Unit) → unit_in us p.units_from a ≡ Some u → is_code_address size a ≡ true
   start_address a u e =
       let some = some_word u in
-      let words = length-placed_code entry us in
-      let from = (lies us version_1.units_from a u e).from in
-      let to = (lies us version_1.units_from a u e).to in
-      let round = (lies us version_1.units_from a u e).round in
+      let words = length-placed_code p profile entry us in
+      let front = laid.low in
+      let even = laid.round in
+      let from = (lies us p.units_from a u e).from in
+      let to = (lies us p.units_from a u e).to in
+      let round = (lies us p.units_from a u e).round in
       code_address a (omega arith) (omega arith) (omega arith)
 
-  begun_address : (a : ℕ) → StartsIn version_1 us a → is_code_address size a ≡ true
+  begun_address : (a : ℕ) → StartsIn p us a → is_code_address size a ≡ true
   begun_address a begun =
-      elim (cases_Option (unit_in us version_1.units_from a)) [
+      elim (cases_Option (unit_in us p.units_from a)) [
         | inl none ↦ let no : false ≡ true = ap is_some (sym none) ∙ begun in absurd (cc)
         | inr (u, e) ↦ start_address a u e
       ]
 
   opening_address : is_code_address size OPENING ≡ true
-  opening_address = let words = length-placed_code entry us in code_address OPENING (omega arith) (omega arith) refl
+  opening_address = let words = length-placed_code p profile entry us in let front = laid.low in code_address OPENING (omega arith) (omega arith) refl
 
-  pub placed_graph : IsGraph (record { code = size; lines = classes }) → IsGraph (record { code = size; lines = placed_lines version_1 entry us classes })
+  pub placed_graph : IsGraph (record { code = size; lines = classes }) → IsGraph (record { code = size; lines = placed_lines p entry us classes })
   placed_graph graph =
-      let rest : List GraphLine = Call OPENING entry ∷ lines_from version_1.units_from us in
+      let rest : List GraphLine = Call OPENING entry ∷ lines_from p.units_from us in
       let opening : line_in_range size (Call OPENING entry) ≡ true =
       and_from (is_code_address size OPENING) (is_code_address size entry) opening_address (begun_address entry sound.entry_starts) in
-      let units : list_all (line_in_range size) (lines_from version_1.units_from us) ≡ true =
-      all_lines (line_in_range size) us version_1.units_from (λ a u line here is. unit_range size u a line (start_address a u here)
+      let units : list_all (line_in_range size) (lines_from p.units_from us) ≡ true =
+      all_lines (line_in_range size) us p.units_from (λ a u line here is. unit_range size u a line (start_address a u here)
       (λ t leads. begun_address t (sound.targets a t u here leads))
       (λ asked wants. class_label size classes asked.label graph.range (some_class classes asked.kind asked.which asked.label (sound.labels a u asked here wants))) is) in
-      let flats : list_all targets_rise (lines_from version_1.units_from us) ≡ true =
-      all_lines targets_rise us version_1.units_from (λ a u line here is. flat u a line is) in
+      let flats : list_all targets_rise (lines_from p.units_from us) ≡ true =
+      all_lines targets_rise us p.units_from (λ a u line here is. flat u a line is) in
       record {
         length = graph.length;
         range = list_all-append (line_in_range size) classes rest
             ∙ and_from (list_all (line_in_range size) classes) (list_all (line_in_range size) rest) graph.range
-            (and_from (line_in_range size (Call OPENING entry)) (list_all (line_in_range size) (lines_from version_1.units_from us)) opening units);
+            (and_from (line_in_range size (Call OPENING entry)) (list_all (line_in_range size) (lines_from p.units_from us)) opening units);
         targets = list_all-append targets_rise classes rest ∙ and_from (list_all targets_rise classes) (list_all targets_rise rest) graph.targets flats;
-        order = classes_rise classes OPENING entry (lines_from version_1.units_from us) sound.classes_are graph.order
-            (lines_rise us OPENING version_1.units_from (lit< tt));
+        order = classes_rise classes OPENING entry (lines_from p.units_from us) sound.classes_are graph.order
+            (lines_rise us OPENING p.units_from (let front = laid.low in omega arith));
       }
 
 pub placed_is_graph : PlacedIsGraph
-placed_is_graph = placed_graph
+placed_is_graph p entry us classes profile sound = placed_graph p profile entry us classes sound

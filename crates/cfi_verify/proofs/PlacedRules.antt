@@ -14,7 +14,7 @@ use Rattle.cfi_unit.specs.declared.unit.Unit as U
 use Rattle.cfi_unit.specs.declared.unit.Unit.TheVariants as V
 use Rattle.cfi_unit.specs.declared.place.Place.{Place}
 use Rattle.cfi_unit.specs.declared.place.Place.TheVariants.{Handler as handler, Opening as opening, Closing as closing, Body as body}
-use Rattle.cfi_graph.specs.Graph.{ClassLine}
+use Rattle.cfi_graph.specs.Graph.{ClassLine, GraphParts}
 use Rattle.cfi_unit.specs.declared.target_word.TargetWord.{TargetWord}
 use Rattle.cfi_unit.specs.declared.target_word.TargetWord.TheVariants.{First}
 use Rattle.cfi_unit.specs.Prologue.{OPENING}
@@ -103,14 +103,17 @@ pub record IsPlaced (p : Profile) (words : List ℕ) (entry : ℕ) (us : List U.
   pub closing_after : OPENING < p.closing
   pub units_after : p.closing < p.units_from
   pub round : p.units_from % 4 ≡ 0
-  pub prologue : (a : ℕ) → fails_prologue words a ≡ false
+  pub prologue : (a : ℕ) → fails_prologue p words a ≡ false
   pub call : entry_of p words ≡ Some entry
   pub split : IsSplit (unit_words p words) p.units_from us
   pub size : CODE_START + 4 * length words ≡ p.units_from + 4 * length (code_from p.units_from us)
 
-module _ (p : Profile) (words : List ℕ) (entry : ℕ) (us : List U.Unit) (classes : List GraphLine) (placed : IsPlaced p words entry us) (sound : IsSound p entry us classes) where
+module _ (p : Profile) (words : List ℕ) (entry : ℕ) (us : List U.Unit) (classes : List GraphLine) (code : ℕ) (placed : IsPlaced p words entry us) (sound : IsSound p entry us classes) where
   abbrev the_lines : List GraphLine
   the_lines = placed_lines p entry us classes
+
+  abbrev the_graph : GraphParts
+  the_graph = record { code = code; lines = the_lines }
 
   low : CODE_START ≤ p.units_from
   low = let closing = placed.closing_after in let units = placed.units_after in omega arith
@@ -189,7 +192,7 @@ module _ (p : Profile) (words : List ℕ) (entry : ℕ) (us : List U.Unit) (clas
   begun : (a : ℕ) → StartsIn p us a → is_start p words a ≡ true
   begun a some = start a ∙ some
 
-  target_holds : Holds p words the_lines R.Target
+  target_holds : Holds p words the_graph R.Target
   target_holds a =
       elim (spot a) [
         | opens place line ↦ rw (place, begun entry sound.entry_starts) refl
@@ -197,7 +200,7 @@ module _ (p : Profile) (words : List ℕ) (entry : ℕ) (us : List U.Unit) (clas
         | quiet edge call site line ↦ rw (edge, call) refl
       ]
 
-  unlisted_holds : Holds p words the_lines R.Unlisted
+  unlisted_holds : Holds p words the_graph R.Unlisted
   unlisted_holds a =
       elim (spot a) [
         | opens place line ↦ rw (place, line, eq-eqb entry entry refl) refl
@@ -205,7 +208,7 @@ module _ (p : Profile) (words : List ℕ) (entry : ℕ) (us : List U.Unit) (clas
         | quiet edge call site line ↦ rw (edge, call) refl
       ]
 
-  unused_holds : Holds p words the_lines R.Unused
+  unused_holds : Holds p words the_graph R.Unused
   unused_holds a =
       elim (spot a) [
         | opens place line ↦ rw (line, place) refl
@@ -213,7 +216,7 @@ module _ (p : Profile) (words : List ℕ) (entry : ℕ) (us : List U.Unit) (clas
         | quiet edge call site line ↦ rw line refl
       ]
 
-  site_holds : Holds p words the_lines R.Site
+  site_holds : Holds p words the_graph R.Site
   site_holds a =
       elim (spot a) [
         | opens place line ↦ rw (place, line) refl
@@ -225,12 +228,12 @@ module _ (p : Profile) (words : List ℕ) (entry : ℕ) (us : List U.Unit) (clas
   borne : (which : TargetWord) (a label : ℕ) → Bears p us which a label → is_borne (gate_label p words) which a label ≡ true
   borne First a label bears = ap (λ o. is_label (option_and_then gate_of o) label) (unit a ∙ bears) ∙ eq-eqb label label refl
 
-  gate_holds : Holds p words the_lines R.Gate
+  gate_holds : Holds p words the_graph R.Gate
   gate_holds a =
       gates_stand classes (Call OPENING entry ∷ lines_from p.units_from us) a (gate_label p words)
       (λ k class is among. borne (read_of class.sort) a class.label (sound.gates k a class is among)) (none_lacks us p.units_from a (gate_label p words))
 
-  astray_holds : Holds p words the_lines R.Astray
+  astray_holds : Holds p words the_graph R.Astray
   astray_holds a =
       elim (cases_Option (unit_in us p.units_from a)) [
         | inl none ↦ rw (unit a ∙ none) refl
@@ -238,7 +241,7 @@ module _ (p : Profile) (words : List ℕ) (entry : ℕ) (us : List U.Unit) (clas
             (λ l class gate is. sound.astray l a class (e ∙ ap Some gate) (sym (class_is l) ∙ is)))
       ]
 
-  unit_holds : Holds p words the_lines R.Unit
+  unit_holds : Holds p words the_graph R.Unit
   unit_holds a =
       let all = reaches_end p low placed.round words us placed.split in
       and_right (a == p.units_from + 4 * length (unit_starts p words)) (nat_lt (length (unit_starts p words)) (length (unit_words p words)))
@@ -264,7 +267,7 @@ module _ (p : Profile) (words : List ℕ) (entry : ℕ) (us : List U.Unit) (clas
         | inr other ↦ and_left (a + 4 * word_count u == CODE_START + 4 * length words) (not (is_stop u)) (ne_eqb _ _ other)
       ]
 
-  end_holds : Holds p words the_lines R.End
+  end_holds : Holds p words the_graph R.End
   end_holds a =
       let some = some_code in
       let size = placed.size in
@@ -276,7 +279,7 @@ module _ (p : Profile) (words : List ℕ) (entry : ℕ) (us : List U.Unit) (clas
       (and_right (a == p.units_from) (nat_le (CODE_START + 4 * length words) p.units_from)
       (lt-leb (CODE_START + 4 * length words) p.units_from (omega arith)))
 
-  pub rules_hold : (rule : Rule) → Holds p words the_lines rule
+  pub rules_hold : (rule : Rule) → Holds p words the_graph rule
   rules_hold R.Prologue = placed.prologue
   rules_hold R.Unit = unit_holds
   rules_hold R.Target = target_holds

@@ -4,7 +4,7 @@ use Rattle.std.specs.Prelude.{nat_le, ◌==◌, ◌&&◌, not, option_and_then, 
 use Rattle.std.specs.List.{list_any}
 use Rattle.std.proofs.lemmas.Bool.{cases_eq, eqb-true, eq-eqb, and_parts, or_parts}
 use Rattle.rv_word.specs.Image.{Contents}
-use Rattle.rv_word.specs.MemoryMap.{CODE_START, version_1}
+use Rattle.rv_word.specs.MemoryMap.{CODE_START, Profile}
 use Rattle.std.proofs.lemmas.Option.{none-some, same_Some}
 use Rattle.rv_word.proofs.Cases.{cases_Option, chosen}
 use Rattle.cfi_graph.specs.declared.line.GraphLine.{GraphLine}
@@ -63,27 +63,27 @@ borne_of_class (line ∷ lines) gate v l class e rule among =
           ]
     ]
 
-module _ (image : Contents) (graph : GraphParts) (formed : IsWellFormed version_1 image graph) where
-  pub edge_starts : (a : ℕ) (place : Place) (t : ℕ) → place_at version_1 (code_words image.code) a ≡ Some place → edge_of place ≡ Some t →
-      is_start version_1 (code_words image.code) t ≡ true
+module _ (p : Profile) (image : Contents) (graph : GraphParts) (formed : IsWellFormed p image graph) where
+  pub edge_starts : (a : ℕ) (place : Place) (t : ℕ) → place_at p (code_words image.code) a ≡ Some place → edge_of place ≡ Some t →
+      is_start p (code_words image.code) t ≡ true
   edge_starts a place t here edge =
-      let rule = (or_parts (holds_of (option_and_then edge_of (place_at version_1 (code_words image.code) a)) (λ x. not (is_start version_1 (code_words image.code) x)))
-      (holds_of (option_and_then call_of (place_at version_1 (code_words image.code) a)) (λ x. not (is_start version_1 (code_words image.code) x))) (formed.rules R.Target a)).0 in
-      not_false (is_start version_1 (code_words image.code) t) (rw (here, edge) at rule)
+      let rule = (or_parts (holds_of (option_and_then edge_of (place_at p (code_words image.code) a)) (λ x. not (is_start p (code_words image.code) x)))
+      (holds_of (option_and_then call_of (place_at p (code_words image.code) a)) (λ x. not (is_start p (code_words image.code) x))) (formed.rules R.Target a)).0 in
+      not_false (is_start p (code_words image.code) t) (rw (here, edge) at rule)
 
-  pub call_starts : (a : ℕ) (place : Place) (t : ℕ) → place_at version_1 (code_words image.code) a ≡ Some place → call_of place ≡ Some t →
-      is_start version_1 (code_words image.code) t ≡ true
+  pub call_starts : (a : ℕ) (place : Place) (t : ℕ) → place_at p (code_words image.code) a ≡ Some place → call_of place ≡ Some t →
+      is_start p (code_words image.code) t ≡ true
   call_starts a place t here edge =
-      let rule = (or_parts (holds_of (option_and_then edge_of (place_at version_1 (code_words image.code) a)) (λ x. not (is_start version_1 (code_words image.code) x)))
-      (holds_of (option_and_then call_of (place_at version_1 (code_words image.code) a)) (λ x. not (is_start version_1 (code_words image.code) x))) (formed.rules R.Target a)).1 in
-      not_false (is_start version_1 (code_words image.code) t) (rw (here, edge) at rule)
+      let rule = (or_parts (holds_of (option_and_then edge_of (place_at p (code_words image.code) a)) (λ x. not (is_start p (code_words image.code) x)))
+      (holds_of (option_and_then call_of (place_at p (code_words image.code) a)) (λ x. not (is_start p (code_words image.code) x))) (formed.rules R.Target a)).1 in
+      not_false (is_start p (code_words image.code) t) (rw (here, edge) at rule)
 
   -- the unit that is no stop has a unit after it
-  pub next_starts : (a : ℕ) (u : U.Unit) → UnitHere (code_words image.code) a u → is_stop u ≡ false →
-      is_start version_1 (code_words image.code) (a + 4 * word_count u) ≡ true
+  pub next_starts : (a : ℕ) (u : U.Unit) → UnitHere p (code_words image.code) a u → is_stop u ≡ false →
+      is_start p (code_words image.code) (a + 4 * word_count u) ≡ true
   next_starts a u here going =
-      let rule = (or_parts (holds_of (unit_at version_1 (code_words image.code) a) (is_bad_end (code_words image.code) a))
-      ((a == version_1.units_from) && nat_le (CODE_START + 4 * length (code_words image.code)) version_1.units_from) (formed.rules R.End a)).0 in
+      let rule = (or_parts (holds_of (unit_at p (code_words image.code) a) (is_bad_end (code_words image.code) a))
+      ((a == p.units_from) && nat_le (CODE_START + 4 * length (code_words image.code)) p.units_from) (formed.rules R.End a)).0 in
       let bad : (a + 4 * word_count u == CODE_START + 4 * length (code_words image.code)) && not (is_stop u) ≡ false = rw here.is at rule in
       let high = here.high in
       elim (cases_eq (a + 4 * word_count u) (CODE_START + 4 * length (code_words image.code))) [
@@ -93,19 +93,19 @@ module _ (image : Contents) (graph : GraphParts) (formed : IsWellFormed version_
 
   -- a target bears the label at the word that the check of a transfer that the class serves reads
   target_bears : (kind : SiteKind) (which : TargetWord) (v l : ℕ) (ts : List ℕ) → targets_for graph.lines kind which l ≡ Some ts → is_among v ts ≡ true →
-      is_borne (gate_label version_1 (code_words image.code)) which v l ≡ true
+      is_borne (gate_label p (code_words image.code)) which v l ≡ true
   target_bears kind which v l ts class among =
       let s = served graph.lines kind which l ts class in
-      let borne = borne_of_class graph.lines (gate_label version_1 (code_words image.code)) v l s.class s.is (formed.rules R.Gate v) (ap (is_among v) s.targets ∙ among) in
-      subst (λ (word : TargetWord). is_borne (gate_label version_1 (code_words image.code)) word v l ≡ true) (reads_it s.class.sort kind which s.serving) borne
+      let borne = borne_of_class graph.lines (gate_label p (code_words image.code)) v l s.class s.is (formed.rules R.Gate v) (ap (is_among v) s.targets ∙ among) in
+      subst (λ (word : TargetWord). is_borne (gate_label p (code_words image.code)) word v l ≡ true) (reads_it s.class.sort kind which s.serving) borne
 
   -- so where it is the first word the target has the class's gate
   pub gate_stands : (kind : SiteKind) (v l : ℕ) (ts : List ℕ) → targets_for graph.lines kind First l ≡ Some ts → is_among v ts ≡ true →
-      unit_at version_1 (code_words image.code) v ≡ Some (V.Gate l)
-  gate_stands kind v l ts class among = gate_is (unit_at version_1 (code_words image.code) v) l (target_bears kind First v l ts class among)
+      unit_at p (code_words image.code) v ≡ Some (V.Gate l)
+  gate_stands kind v l ts class among = gate_is (unit_at p (code_words image.code) v) l (target_bears kind First v l ts class among)
 
   -- a gate with a class's label is at the word of a target
-  pub gate_listed : (kind : SiteKind) (which : TargetWord) (v l : ℕ) (ts : List ℕ) → unit_at version_1 (code_words image.code) v ≡ Some (V.Gate l) →
+  pub gate_listed : (kind : SiteKind) (which : TargetWord) (v l : ℕ) (ts : List ℕ) → unit_at p (code_words image.code) v ≡ Some (V.Gate l) →
       targets_for graph.lines kind which l ≡ Some ts → is_word_of which v ts ≡ true
   gate_listed kind which v l ts here class =
       let s = served graph.lines kind which l ts class in
@@ -117,12 +117,12 @@ module _ (image : Contents) (graph : GraphParts) (formed : IsWellFormed version_
       subst (λ (xs : List ℕ). is_word_of which v xs ≡ true) s.targets read
 
   -- a class serves each computed transfer
-  pub site_class : (a : ℕ) (place : Place) (asked : Asks) → place_at version_1 (code_words image.code) a ≡ Some place → site_of place ≡ Some asked →
+  pub site_class : (a : ℕ) (place : Place) (asked : Asks) → place_at p (code_words image.code) a ≡ Some place → site_of place ≡ Some asked →
       (ts : List ℕ) × (targets_for graph.lines asked.kind asked.which asked.label ≡ Some ts)
   site_class a place asked here site =
-      let rule = (or_parts (holds_of (option_and_then site_of (place_at version_1 (code_words image.code) a))
+      let rule = (or_parts (holds_of (option_and_then site_of (place_at p (code_words image.code) a))
       (λ (s : Asks). not (is_site_with (line_at graph.lines a) s && is_some (targets_for graph.lines s.kind s.which s.label))))
-      (holds_of (line_at graph.lines a) (is_lone_site (place_at version_1 (code_words image.code) a))) (formed.rules R.Site a)).0 in
+      (holds_of (line_at graph.lines a) (is_lone_site (place_at p (code_words image.code) a))) (formed.rules R.Site a)).0 in
       let both = not_false (is_site_with (line_at graph.lines a) asked && is_some (targets_for graph.lines asked.kind asked.which asked.label)) (rw (here, site) at rule) in
       some_is (targets_for graph.lines asked.kind asked.which asked.label)
       (and_parts (is_site_with (line_at graph.lines a) asked) (is_some (targets_for graph.lines asked.kind asked.which asked.label)) both).1

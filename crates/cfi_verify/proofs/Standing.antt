@@ -3,7 +3,8 @@ use Rattle.std.proofs.Common.{◌≡◌, ℕ, zero, suc, ◌+◌, ◌-◌, ◌*�
 use Rattle.std.specs.Prelude.{slice_get, option_map}
 use Rattle.std.proofs.lemmas.Option.{slice_get-map}
 use Rattle.rv_word.specs.Image.{Contents}
-use Rattle.rv_word.specs.MemoryMap.{CODE_START}
+use Rattle.rv_word.specs.MemoryMap.{CODE_START, Profile}
+use Rattle.rv_word.proofs.Versions.{LaidOut}
 use Rattle.rv_word.specs.Memory.{read, loaded}
 use Rattle.rv_instr.specs.InRange.{IsInstr}
 use Rattle.rv_instr.specs.declared.instr.Instr.{Instr}
@@ -53,7 +54,8 @@ module _ (image : Contents) where
       decoded (read 4 (loaded image) (CODE_START + 4 * j)) ≡ Some i
   fetched j i range e = ap decoded (loaded_word image j (code_of i) e) ∙ decoded-code_of i range
 
-  unit_word : (a : ℕ) (u : U.Unit) → UnitHere (code_words image.code) a u → (k : ℕ) (i : Instr) → slice_get (instrs_of u a) k ≡ Some i →
+module _ (p : Profile) (laid : LaidOut p) (image : Contents) where
+  unit_word : (a : ℕ) (u : U.Unit) → UnitHere p (code_words image.code) a u → (k : ℕ) (i : Instr) → slice_get (instrs_of u a) k ≡ Some i →
       slice_get (code_words image.code) ((a - CODE_START) / 4 + k) ≡ Some (code_of i)
   unfolding words_of
   unit_word a u here k i e =
@@ -63,7 +65,7 @@ module _ (image : Contents) where
       ∙ get_taken (word_count u) (drop ((a - CODE_START) / 4) (code_words image.code)) k (code_of i) (ap (λ ws. slice_get ws k) b.words_are ∙ word)
 
   -- the unit at an address stands there
-  pub unit_stands : AreBytes image → (a : ℕ) (u : U.Unit) → UnitHere (code_words image.code) a u → Stand (loaded image) a (instrs_of u a)
+  pub unit_stands : AreBytes image → (a : ℕ) (u : U.Unit) → UnitHere p (code_words image.code) a u → Stand (loaded image) a (instrs_of u a)
   unit_stands bytes a u here =
       let low = here.low in let round = here.round in let high = here.high in
       let counted = instrs_counted u a in
@@ -76,5 +78,5 @@ module _ (image : Contents) where
         words = λ k i e.
             let at : CODE_START + 4 * ((a - CODE_START) / 4 + k) ≡ a + 4 * k = omega arith in
             ap (λ b. decoded (read 4 (loaded image) b)) (sym at)
-            ∙ fetched ((a - CODE_START) / 4 + k) i (each_instr (instrs_of u a) (unit_instrs u a here.begins.fits) k i e) (unit_word a u here k i e);
+            ∙ fetched image ((a - CODE_START) / 4 + k) i (each_instr (instrs_of u a) (unit_instrs u a here.begins.fits) k i e) (unit_word a u here k i e);
       }

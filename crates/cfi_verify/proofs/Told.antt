@@ -4,11 +4,12 @@ use Rattle.std.specs.Prelude.{slice_get, nat_le, nat_lt, ◌&&◌, ◌||◌, not
 use Rattle.std.specs.List.{list_any}
 use Rattle.std.proofs.lemmas.Bool.{cases_Bool, cases_lt, cases_eq, le-leb, lt-leb, eqb-true, eq-eqb, ne_eqb, lt-ltb, ltb-true, and_parts, false_from_ne_true}
 use Rattle.std.proofs.lemmas.List.{drop-drop}
-use Rattle.rv_word.specs.MemoryMap.{CODE_START, lies_within, version_1, START, CLOSING, UNITS_START}
+use Rattle.rv_word.specs.MemoryMap.{CODE_START, Profile, lies_within, START}
+use Rattle.rv_word.proofs.Versions.{LaidOut}
 use Rattle.rv_code.specs.Decode.{decoded}
 use Rattle.cfi_graph.specs.declared.line.GraphLine.{GraphLine}
 use Rattle.cfi_graph.specs.declared.line.GraphLine.TheVariants.{Class, Site, Edge, Call}
-use Rattle.cfi_graph.specs.Graph.{ClassLine, class_in}
+use Rattle.cfi_graph.specs.Graph.{ClassLine, GraphParts, class_in}
 use Rattle.cfi_unit.specs.declared.target_word.TargetWord.{TargetWord}
 use Rattle.cfi_unit.specs.declared.target_word.TargetWord.TheVariants.{First}
 use Rattle.cfi_unit.specs.declared.unit.Unit as U
@@ -20,13 +21,13 @@ use Rattle.cfi_unit.specs.UnitWords.{BAD_TARGET, BAD_RETURN, DEEP, Fits, word_co
 use Rattle.cfi_scan.specs.declared.entry.Entry.{Entry}
 use Rattle.cfi_scan.specs.declared.entry.Entry.TheVariants as E
 use Rattle.cfi_scan.specs.Entries.{entry_of as entry_of_unit}
-use Rattle.cfi_scan.specs.Pieces.{IsOf, Listed}
+use Rattle.cfi_scan.specs.Pieces.{IsOf, Listed, prologue_count}
 use Rattle.cfi_scan.specs.Stream.{IsSplitUp, last_of, spelled, width}
 use Rattle.cfi_scan.specs.Entries.{is_unit}
 use Rattle.cfi_verify.specs.Entries.{Tells, call_at, call_in, count_of, edge_at, edge_in, entry_at, fails_at, gate_at, gate_in, is_bad_end_at, is_lone_at, is_outside, is_stop_entry, is_unused_at, misses_start, or_inside, site_at, site_in, starts_at}
 use Rattle.cfi_verify.specs.Lines.{holds_of, line_at, targets_for, is_among, read_of}
 use Rattle.cfi_verify.specs.Rules.{call_of, edge_of, fails, fails_prologue, gate_label, gate_of, is_astray, is_bad_end, is_borne, is_call_to, is_edge_to, is_label, is_lone_site, is_site_with, is_stop, is_unused, lacks_gate, prologue_word_fits, site_of}
-use Rattle.cfi_verify.specs.Split.{code_words, entry_of, is_handler, is_marked, is_start, place_at, starts, unit_at, unit_starts}
+use Rattle.cfi_verify.specs.Split.{code_words, entry_of, is_handler, is_marked, is_start, place_at, starts, unit_at, unit_starts, unit_words}
 use Rattle.cfi_verify.specs.declared.place.Asks.{Asks}
 use Rattle.cfi_verify.specs.declared.reject.Rule.{Rule}
 use Rattle.cfi_verify.specs.declared.reject.Rule.TheVariants as R
@@ -35,143 +36,6 @@ use Rattle.cfi_verify.proofs.Find.{no_start_below, no_start_odd, no_unit}
 use Rattle.cfi_verify.proofs.Lookup.{Looks, lookup, lookup_count}
 use Rattle.cfi_unit.proofs.Counts.{some_word}
 use Rattle.cfi_verify.proofs.InUnits.{length-starts}
-
--- no unit starts at an address, and its entry says so
-pub record Nothing (words : List ℕ) (entries : List Entry) (done last a : ℕ) : Type 0 where
-  pub start : is_start version_1 words a ≡ false
-  pub entry : entry_at entries a ≡ E.Inside
-  pub not_last : a ≡ UNITS_START + 4 * last → done ≡ 0
-
--- a unit starts there, and the entry is its own
-pub record Something (words : List ℕ) (entries : List Entry) (done last a : ℕ) (u : U.Unit) : Type 0 where
-  pub start : is_start version_1 words a ≡ true
-  pub is : unit_at version_1 words a ≡ Some u
-  pub fits : Fits u a
-  pub entry : entry_at entries a ≡ entry_of_unit u a
-  pub low : UNITS_START ≤ a
-  pub to_last : a + 4 * word_count u ≡ UNITS_START + 4 * done → a ≡ UNITS_START + 4 * last
-  pub from_last : a ≡ UNITS_START + 4 * last → a + 4 * word_count u ≡ UNITS_START + 4 * done
-  pub within : a + 4 * word_count u ≤ UNITS_START + 4 * done
-
-unit_on : (words : List ℕ) (a : ℕ) → is_start version_1 words a ≡ true → unit_at version_1 words a ≡ recognised (drop ((a - 0x40000000) / 4) words) a
-unfolding unit_at
-unit_on words a e = rw e refl
-
-start_is : (words : List ℕ) (a : ℕ) → UNITS_START ≤ a → a % 4 ≡ 0 → is_start version_1 words a ≡ is_marked (slice_get (unit_starts version_1 words) ((a - UNITS_START) / 4))
-unfolding is_start
-start_is words a low even = rw (le-leb UNITS_START a low, even) refl
-
-pub entry_is : (entries : List Entry) (a : ℕ) → UNITS_START ≤ a → a % 4 ≡ 0 → entry_at entries a ≡ or_inside (slice_get entries ((a - UNITS_START) / 4))
-unfolding entry_at
-entry_is entries a low even = rw (le-leb UNITS_START a low, even) refl
-
-pub entry_below : (entries : List Entry) (a : ℕ) → a < UNITS_START → entry_at entries a ≡ E.Inside
-unfolding entry_at
-entry_below entries a below = rw (lt-leb UNITS_START a below) refl
-
-entry_odd : (entries : List Entry) (a : ℕ) → UNITS_START ≤ a → (a % 4 ≡ 0 → ⊥) → entry_at entries a ≡ E.Inside
-unfolding entry_at
-entry_odd entries a low odd = rw (le-leb UNITS_START a low, ne_eqb (a % 4) 0 odd) refl
-
-module _ (words : List ℕ) (entries : List Entry) (done last : ℕ) (s : IsSplitUp UNITS_START entries done last (drop 16 words)) where
-  looks : (k : ℕ) → Looks s.units (drop 16 words) UNITS_START k (or_inside (slice_get entries k))
-  looks k =
-      subst (λ (ws : List ℕ). Looks s.units ws UNITS_START k (or_inside (slice_get entries k))) (sym s.words_are)
-      (subst (λ (es : List Entry). Looks s.units (spelled s.units UNITS_START ++ s.past) UNITS_START k (or_inside (slice_get es k))) (sym s.entries_are)
-      (lookup s.units UNITS_START s.past s.room s.stand s.none k))
-
-  -- the split covers what is done
-  pub marks_done : length (unit_starts version_1 words) ≡ done
-  marks_done =
-      ap (λ ws. length (starts 0 ws UNITS_START)) s.words_are
-      ∙ lookup_count s.units UNITS_START s.past s.stand s.none ∙ sym s.done_is
-
-  pub there : (a : ℕ) → Nothing words entries done last a ⊎ ((u : U.Unit) × Something words entries done last a u)
-  there a =
-      elim (cases_lt a UNITS_START) [
-        | inl below ↦ inl (record {
-          start = no_start_below words a below;
-          entry = entry_below entries a below;
-          not_last = λ e. absurd (omega arith);
-        })
-        | inr low ↦ elim (cases_eq (a % 4) 0) [
-          | inr odd ↦ inl (record {
-            start = no_start_odd words a odd;
-            entry = entry_odd entries a low odd;
-            not_last = λ e. absurd (odd (omega arith));
-          })
-          | inl even ↦
-              let at : UNITS_START + 4 * ((a - UNITS_START) / 4) ≡ a = omega arith in
-              let is_last : last ≡ last_of s.units = s.last_is in
-              let is_done : done ≡ width s.units = s.done_is in
-              elim (looks ((a - UNITS_START) / 4)) [
-                | inl n ↦ inl (record {
-                  start = start_is words a low even ∙ n.mark;
-                  entry = entry_is entries a low even ∙ n.entry;
-                  not_last = λ e. is_done ∙ n.last (omega arith);
-                })
-                | inr (u, h) ↦
-                    let start = start_is words a low even ∙ ap is_marked h.mark in
-                    let index : 16 + (a - UNITS_START) / 4 ≡ (a - 0x40000000) / 4 = omega arith in
-                    let within = h.within in
-                    inr (
-                      u,
-                      record {
-                        start = start;
-                        is =
-                            unit_on words a start
-                            ∙ ap (λ i. recognised (drop i words) a) (sym index)
-                            ∙ ap (λ ws. recognised ws a) (sym (drop-drop ((a - UNITS_START) / 4) 16 words))
-                            ∙ ap (recognised (drop ((a - UNITS_START) / 4) (drop 16 words))) (sym at)
-                            ∙ h.is;
-                        fits = subst (λ (b : ℕ). Fits u b) at h.fits;
-                        entry = entry_is entries a low even ∙ h.entry ∙ ap (entry_of_unit u) at;
-                        low = low;
-                        to_last = λ e. let there : (a - UNITS_START) / 4 ≡ last_of s.units = h.to_last (omega arith) in omega arith;
-                        from_last = λ e. let end : (a - UNITS_START) / 4 + word_count u ≡ width s.units = h.from_last (omega arith) in omega arith;
-                        within = omega arith;
-                      },
-                    )
-              ]
-        ]
-      ]
-
--- where a run starts the opening stands
-at_start : (words : List ℕ) → place_at version_1 words START ≡ option_map opening (entry_of version_1 words)
-unfolding place_at
-at_start words = refl
-
--- from the first unit on a place is a unit
-pub place_from : (words : List ℕ) (a : ℕ) → UNITS_START ≤ a → place_at version_1 words a ≡ option_map body (unit_at version_1 words a)
-unfolding place_at
-place_from words a above =
-    rw (
-      ne_eqb a BAD_TARGET (λ e. omega arith),
-      ne_eqb a BAD_RETURN (λ e. omega arith),
-      ne_eqb a DEEP (λ e. omega arith),
-      ne_eqb a START (λ e. omega arith),
-      ne_eqb a CLOSING (λ e. omega arith),
-    ) refl
-
--- and below it no part of the prologue but the opening
-below_nothing : {A : Type 0} (f : Place → Option A) (words : List ℕ) (a : ℕ) → a < UNITS_START → f handler ≡ None → f closing ≡ None →
-    ((entry : ℕ) → a ≡ START → f (opening entry) ≡ None) → option_and_then f (place_at version_1 words a) ≡ None
-unfolding place_at
-below_nothing f words a below first last enters =
-    elim (cases_Bool (is_handler a)) [
-      | inl h ↦ rw (h, place_at) first
-      | inr h ↦ elim (cases_Bool (a == START)) [
-        | inl o ↦ rw (h, o, place_at) (opened (entry_of version_1 words) (eqb-true a _ o))
-        | inr o ↦ elim (cases_Bool (a == CLOSING)) [
-          | inl c ↦ rw (h, o, c, place_at) last
-          | inr c ↦ rw (h, o, c, place_at, no_unit words a (no_start_below words a below)) refl
-        ]
-      ]
-    ]
-  where
-    opened : (entry : Option ℕ) → a ≡ START → option_and_then f (option_map opening entry) ≡ None
-    opened None e = refl
-    opened (Some entry) e = enters entry e
 
 -- what the entry of a unit says of it
 edge_is : (u : U.Unit) (a : ℕ) → Fits u a → edge_of (body u) ≡ edge_in (entry_of_unit u a) a
@@ -215,32 +79,6 @@ stop_is : (u : U.Unit) (a : ℕ) → is_stop u ≡ is_stop_entry (entry_of_unit 
 stop_is V.Stop a = refl
 stop_is _ a = refl
 
--- a place that is a unit, by its entry
-told_from : {A : Type 0} (f : Place → Option A) (g : Entry → ℕ → Option A) (words : List ℕ) (entries : List Entry) (done last a : ℕ) →
-    Nothing words entries done last a ⊎ ((u : U.Unit) × Something words entries done last a u) → UNITS_START ≤ a →
-    ((b : ℕ) → g E.Inside b ≡ None) → ((u : U.Unit) → Fits u a → f (body u) ≡ g (entry_of_unit u a) a) →
-    option_and_then f (place_at version_1 words a) ≡ g (entry_at entries a) a
-told_from f g words entries done last a (inl n) low none some =
-    ap (option_and_then f) (place_from words a low)
-    ∙ ap (λ o. option_and_then f (option_map body o)) (no_unit words a n.start)
-    ∙ sym (none a) ∙ ap (λ e. g e a) (sym n.entry)
-told_from f g words entries done last a (inr (u, h)) low none some =
-    ap (option_and_then f) (place_from words a low)
-    ∙ ap (λ o. option_and_then f (option_map body o)) h.is
-    ∙ some u h.fits ∙ ap (λ e. g e a) (sym h.entry)
-
--- the listing of a code tells of its words
-pub tells : (t : Listed) (bytes : List ℕ) → IsOf version_1 t bytes → t.fed / 4 ≤ length t.entries + 16 → Tells t (code_words bytes)
-tells t bytes is room =
-    let count : length bytes / 4 ≡ length is.words = cut_count is.cut in
-    let fed : t.fed ≡ length bytes = is.fed in
-    let left : length (drop 16 is.words) ≡ length is.words - 16 = length-drop 16 is.words in
-    subst (Tells t) (sym (cut_is is.cut)) (record {
-      count = ap (λ n. n / 4) fed ∙ count;
-      prologue = is.prologue;
-      split = is.split (omega arith);
-    })
-
 get_taken : (n k : ℕ) (xs : List ℕ) → k < n → slice_get (take n xs) k ≡ slice_get xs k
 get_taken zero k xs below = absurd (omega arith)
 get_taken (suc n) k [] below = refl
@@ -264,187 +102,351 @@ same_any : {A : Type 0} (f g : A → Bool) (xs : List A) → ((x : A) → f x �
 same_any f g [] same = refl
 same_any f g (x ∷ xs) same = or_same (same x) (same_any f g xs same)
 
-module _ (t : Listed) (words : List ℕ) (w : Tells t words) where
-  abbrev at_address : (a : ℕ) → Nothing words t.entries t.done t.last a ⊎ ((u : U.Unit) × Something words t.entries t.done t.last a u)
-  at_address = there words t.entries t.done t.last w.split
+-- no unit starts at an address, and its entry says so
+pub record Nothing (p : Profile) (words : List ℕ) (entries : List Entry) (done last a : ℕ) : Type 0 where
+  pub start : is_start p words a ≡ false
+  pub entry : entry_at p entries a ≡ E.Inside
+  pub not_last : a ≡ p.units_from + 4 * last → done ≡ 0
 
-  pub entry_told : entry_of version_1 words ≡ entry_of version_1 t.prologue
-  entry_told =
-      ap (λ o. target_in version_1.opening_call (option_and_then decoded o))
-      (sym (get_taken 16 13 words (omega arith)) ∙ ap (λ ws. slice_get ws 13) (sym w.prologue))
+-- a unit starts there, and the entry is its own
+pub record Something (p : Profile) (words : List ℕ) (entries : List Entry) (done last a : ℕ) (u : U.Unit) : Type 0 where
+  pub start : is_start p words a ≡ true
+  pub is : unit_at p words a ≡ Some u
+  pub fits : Fits u a
+  pub entry : entry_at p entries a ≡ entry_of_unit u a
+  pub low : p.units_from ≤ a
+  pub to_last : a + 4 * word_count u ≡ p.units_from + 4 * done → a ≡ p.units_from + 4 * last
+  pub from_last : a ≡ p.units_from + 4 * last → a + 4 * word_count u ≡ p.units_from + 4 * done
+  pub within : a + 4 * word_count u ≤ p.units_from + 4 * done
 
-  pub edge_told : (a : ℕ) → option_and_then edge_of (place_at version_1 words a) ≡ edge_at t a
-  edge_told a =
-      elim (cases_lt a UNITS_START) [
-        | inl below ↦ below_nothing edge_of words a below refl refl (λ entry e. refl) ∙ ap (λ e. edge_in e a) (sym (entry_below t.entries a below))
-        | inr low ↦ told_from edge_of edge_in words t.entries t.done t.last a (at_address a) low (λ b. refl) (λ u fits. edge_is u a fits)
-      ]
+module _ (p : Profile) (laid : LaidOut p) where
+  unit_on : (words : List ℕ) (a : ℕ) → is_start p words a ≡ true → unit_at p words a ≡ recognised (drop ((a - 0x40000000) / 4) words) a
+  unfolding unit_at
+  unit_on words a e = rw e refl
 
-  pub call_told : (a : ℕ) → option_and_then call_of (place_at version_1 words a) ≡ call_at t a
-  call_told a =
-      elim (cases_eq a START) [
-        | inl here ↦ subst (λ (b : ℕ). option_and_then call_of (place_at version_1 words b) ≡ call_at t b) (sym here) (opened ∙ entry_told)
-        | inr other ↦ rw (ne_eqb a START other) (elim (cases_lt a UNITS_START) [
-          | inl below ↦ below_nothing call_of words a below refl refl (λ entry e. absurd (other e)) ∙ ap (λ e. call_in e a) (sym (entry_below t.entries a below))
-          | inr low ↦ told_from call_of call_in words t.entries t.done t.last a (at_address a) low (λ b. refl) (λ u fits. call_is u a fits)
-        ])
+  start_is : (words : List ℕ) (a : ℕ) → p.units_from ≤ a → a % 4 ≡ 0 → is_start p words a ≡ is_marked (slice_get (unit_starts p words) ((a - p.units_from) / 4))
+  unfolding is_start
+  start_is words a low even = rw (le-leb p.units_from a low, even) refl
+
+  pub entry_is : (entries : List Entry) (a : ℕ) → p.units_from ≤ a → a % 4 ≡ 0 → entry_at p entries a ≡ or_inside (slice_get entries ((a - p.units_from) / 4))
+  unfolding entry_at
+  entry_is entries a low even = rw (le-leb p.units_from a low, even) refl
+
+  pub entry_below : (entries : List Entry) (a : ℕ) → a < p.units_from → entry_at p entries a ≡ E.Inside
+  unfolding entry_at
+  entry_below entries a below = rw (lt-leb p.units_from a below) refl
+
+  entry_odd : (entries : List Entry) (a : ℕ) → p.units_from ≤ a → (a % 4 ≡ 0 → ⊥) → entry_at p entries a ≡ E.Inside
+  unfolding entry_at
+  entry_odd entries a low odd = rw (le-leb p.units_from a low, ne_eqb (a % 4) 0 odd) refl
+
+  module _ (words : List ℕ) (entries : List Entry) (done last : ℕ) (s : IsSplitUp p.units_from entries done last (unit_words p words)) where
+    looks : (k : ℕ) → Looks s.units (unit_words p words) p.units_from k (or_inside (slice_get entries k))
+    looks k =
+        subst (λ (ws : List ℕ). Looks s.units ws p.units_from k (or_inside (slice_get entries k))) (sym s.words_are)
+        (subst (λ (es : List Entry). Looks s.units (spelled s.units p.units_from ++ s.past) p.units_from k (or_inside (slice_get es k))) (sym s.entries_are)
+        (lookup s.units p.units_from s.past s.room s.stand s.none k))
+
+    -- the split covers what is done
+    pub marks_done : length (unit_starts p words) ≡ done
+    marks_done =
+        ap (λ ws. length (starts 0 ws p.units_from)) s.words_are
+        ∙ lookup_count s.units p.units_from s.past s.stand s.none ∙ sym s.done_is
+
+    pub there : (a : ℕ) → Nothing p words entries done last a ⊎ ((u : U.Unit) × Something p words entries done last a u)
+    there a =
+        elim (cases_lt a p.units_from) [
+          | inl below ↦ inl (record {
+            start = no_start_below p laid words a below;
+            entry = entry_below entries a below;
+            not_last = λ e. absurd (omega arith);
+          })
+          | inr low ↦ elim (cases_eq (a % 4) 0) [
+            | inr odd ↦ inl (record {
+              start = no_start_odd p laid words a odd;
+              entry = entry_odd entries a low odd;
+              not_last = λ e. absurd (odd (omega arith));
+            })
+            | inl even ↦
+                let at : p.units_from + 4 * ((a - p.units_from) / 4) ≡ a = omega arith in
+                let is_last : last ≡ last_of s.units = s.last_is in
+                let is_done : done ≡ width s.units = s.done_is in
+                elim (looks ((a - p.units_from) / 4)) [
+                  | inl n ↦ inl (record {
+                    start = start_is words a low even ∙ n.mark;
+                    entry = entry_is entries a low even ∙ n.entry;
+                    not_last = λ e. is_done ∙ n.last (omega arith);
+                  })
+                  | inr (u, h) ↦
+                      let start = start_is words a low even ∙ ap is_marked h.mark in
+                      let index : prologue_count p + (a - p.units_from) / 4 ≡ (a - 0x40000000) / 4 = omega arith in
+                      let within = h.within in
+                      inr (
+                        u,
+                        record {
+                          start = start;
+                          is =
+                              unit_on words a start
+                              ∙ ap (λ i. recognised (drop i words) a) (sym index)
+                              ∙ ap (λ ws. recognised ws a) (sym (drop-drop ((a - p.units_from) / 4) (prologue_count p) words))
+                              ∙ ap (recognised (drop ((a - p.units_from) / 4) (unit_words p words))) (sym at)
+                              ∙ h.is;
+                          fits = subst (λ (b : ℕ). Fits u b) at h.fits;
+                          entry = entry_is entries a low even ∙ h.entry ∙ ap (entry_of_unit u) at;
+                          low = low;
+                          to_last = λ e. let there : (a - p.units_from) / 4 ≡ last_of s.units = h.to_last (omega arith) in omega arith;
+                          from_last = λ e. let end : (a - p.units_from) / 4 + word_count u ≡ width s.units = h.from_last (omega arith) in omega arith;
+                          within = omega arith;
+                        },
+                      )
+                ]
+          ]
+        ]
+
+  -- where a run starts the opening stands
+  at_start : (words : List ℕ) → place_at p words START ≡ option_map opening (entry_of p words)
+  unfolding place_at
+  at_start words = refl
+
+  -- from the first unit on a place is a unit
+  pub place_from : (words : List ℕ) (a : ℕ) → p.units_from ≤ a → place_at p words a ≡ option_map body (unit_at p words a)
+  unfolding place_at
+  place_from words a above =
+      rw (
+        ne_eqb a BAD_TARGET (λ e. omega arith),
+        ne_eqb a BAD_RETURN (λ e. omega arith),
+        ne_eqb a DEEP (λ e. omega arith),
+        ne_eqb a START (λ e. omega arith),
+        ne_eqb a p.closing (λ e. omega arith),
+      ) refl
+
+  -- and below it no part of the prologue but the opening
+  below_nothing : {A : Type 0} (f : Place → Option A) (words : List ℕ) (a : ℕ) → a < p.units_from → f handler ≡ None → f closing ≡ None →
+      ((entry : ℕ) → a ≡ START → f (opening entry) ≡ None) → option_and_then f (place_at p words a) ≡ None
+  unfolding place_at
+  below_nothing f words a below first last enters =
+      elim (cases_Bool (is_handler a)) [
+        | inl h ↦ rw (h, place_at) first
+        | inr h ↦ elim (cases_Bool (a == START)) [
+          | inl o ↦ rw (h, o, place_at) (opened (entry_of p words) (eqb-true a _ o))
+          | inr o ↦ elim (cases_Bool (a == p.closing)) [
+            | inl c ↦ rw (h, o, c, place_at) last
+            | inr c ↦ rw (h, o, c, place_at, no_unit p laid words a (no_start_below p laid words a below)) refl
+          ]
+        ]
       ]
     where
-      back : (o : Option ℕ) → option_and_then call_of (option_map opening o) ≡ o
-      back None = refl
-      back (Some x) = refl
+      opened : (entry : Option ℕ) → a ≡ START → option_and_then f (option_map opening entry) ≡ None
+      opened None e = refl
+      opened (Some entry) e = enters entry e
 
-      opened : option_and_then call_of (place_at version_1 words START) ≡ entry_of version_1 words
-      opened = ap (option_and_then call_of) (at_start words) ∙ back (entry_of version_1 words)
+  -- a place that is a unit, by its entry
+  told_from : {A : Type 0} (f : Place → Option A) (g : Entry → ℕ → Option A) (words : List ℕ) (entries : List Entry) (done last a : ℕ) →
+      Nothing p words entries done last a ⊎ ((u : U.Unit) × Something p words entries done last a u) → p.units_from ≤ a →
+      ((b : ℕ) → g E.Inside b ≡ None) → ((u : U.Unit) → Fits u a → f (body u) ≡ g (entry_of_unit u a) a) →
+      option_and_then f (place_at p words a) ≡ g (entry_at p entries a) a
+  told_from f g words entries done last a (inl n) low none some =
+      ap (option_and_then f) (place_from words a low)
+      ∙ ap (λ o. option_and_then f (option_map body o)) (no_unit p laid words a n.start)
+      ∙ sym (none a) ∙ ap (λ e. g e a) (sym n.entry)
+  told_from f g words entries done last a (inr (u, h)) low none some =
+      ap (option_and_then f) (place_from words a low)
+      ∙ ap (λ o. option_and_then f (option_map body o)) h.is
+      ∙ some u h.fits ∙ ap (λ e. g e a) (sym h.entry)
 
-  pub site_told : (a : ℕ) → option_and_then site_of (place_at version_1 words a) ≡ site_at t a
-  site_told a =
-      elim (cases_lt a UNITS_START) [
-        | inl below ↦ below_nothing site_of words a below refl refl (λ entry e. refl) ∙ ap site_in (sym (entry_below t.entries a below))
-        | inr low ↦ told_from site_of (λ e b. site_in e) words t.entries t.done t.last a (at_address a) low (λ b. refl) (λ u fits. site_is u a)
+  -- the listing of a code tells of its words
+  pub tells : (t : Listed) (bytes : List ℕ) → IsOf p t bytes → t.fed / 4 ≤ length t.entries + prologue_count p → Tells p t (code_words bytes)
+  tells t bytes is room =
+      let count : length bytes / 4 ≡ length is.words = cut_count is.cut in
+      let fed : t.fed ≡ length bytes = is.fed in
+      let left : length (unit_words p is.words) ≡ length is.words - prologue_count p = length-drop (prologue_count p) is.words in
+      subst (Tells p t) (sym (cut_is is.cut)) (record {
+        count = ap (λ n. n / 4) fed ∙ count;
+        prologue = is.prologue;
+        split = is.split (omega arith);
+      })
+
+  module _ (t : Listed) (words : List ℕ) (w : Tells p t words) where
+    abbrev at_address : (a : ℕ) → Nothing p words t.entries t.done t.last a ⊎ ((u : U.Unit) × Something p words t.entries t.done t.last a u)
+    at_address = there words t.entries t.done t.last w.split
+
+    pub entry_told : entry_of p words ≡ entry_of p t.prologue
+    entry_told =
+        ap (λ o. target_in p.opening_call (option_and_then decoded o))
+        (sym (get_taken (prologue_count p) ((p.opening_call - CODE_START) / 4) words (omega arith)) ∙ ap (λ ws. slice_get ws ((p.opening_call - CODE_START) / 4)) (sym w.prologue))
+
+    pub edge_told : (a : ℕ) → option_and_then edge_of (place_at p words a) ≡ edge_at p t a
+    edge_told a =
+        elim (cases_lt a p.units_from) [
+          | inl below ↦ below_nothing edge_of words a below refl refl (λ entry e. refl) ∙ ap (λ e. edge_in e a) (sym (entry_below t.entries a below))
+          | inr low ↦ told_from edge_of edge_in words t.entries t.done t.last a (at_address a) low (λ b. refl) (λ u fits. edge_is u a fits)
+        ]
+
+    pub call_told : (a : ℕ) → option_and_then call_of (place_at p words a) ≡ call_at p t a
+    call_told a =
+        elim (cases_eq a START) [
+          | inl here ↦ subst (λ (b : ℕ). option_and_then call_of (place_at p words b) ≡ call_at p t b) (sym here) (opened ∙ entry_told)
+          | inr other ↦ rw (ne_eqb a START other) (elim (cases_lt a p.units_from) [
+            | inl below ↦ below_nothing call_of words a below refl refl (λ entry e. absurd (other e)) ∙ ap (λ e. call_in e a) (sym (entry_below t.entries a below))
+            | inr low ↦ told_from call_of call_in words t.entries t.done t.last a (at_address a) low (λ b. refl) (λ u fits. call_is u a fits)
+          ])
+        ]
+      where
+        back : (o : Option ℕ) → option_and_then call_of (option_map opening o) ≡ o
+        back None = refl
+        back (Some x) = refl
+
+        opened : option_and_then call_of (place_at p words START) ≡ entry_of p words
+        opened = ap (option_and_then call_of) (at_start words) ∙ back (entry_of p words)
+
+    pub site_told : (a : ℕ) → option_and_then site_of (place_at p words a) ≡ site_at p t a
+    site_told a =
+        elim (cases_lt a p.units_from) [
+          | inl below ↦ below_nothing site_of words a below refl refl (λ entry e. refl) ∙ ap site_in (sym (entry_below t.entries a below))
+          | inr low ↦ told_from site_of (λ e b. site_in e) words t.entries t.done t.last a (at_address a) low (λ b. refl) (λ u fits. site_is u a)
+        ]
+
+    pub start_told : (a : ℕ) → is_start p words a ≡ starts_at p t a
+    start_told a =
+        elim (at_address a) [
+          | inl n ↦ n.start ∙ ap is_unit (sym n.entry)
+          | inr (u, h) ↦ h.start ∙ sym (unit_is u a) ∙ ap is_unit (sym h.entry)
+        ]
+
+    gate_told : (a : ℕ) → gate_label p words a ≡ gate_at p t a
+    gate_told a =
+        elim (at_address a) [
+          | inl n ↦ ap (option_and_then gate_of) (no_unit p laid words a n.start) ∙ ap gate_in (sym n.entry)
+          | inr (u, h) ↦ ap (option_and_then gate_of) h.is ∙ gate_is u a ∙ ap gate_in (sym h.entry)
+        ]
+
+    borne_told : (which : TargetWord) (a label : ℕ) → is_borne (gate_label p words) which a label ≡ is_borne (gate_at p t) which a label
+    borne_told First a label = ap (λ o. is_label o label) (gate_told a)
+
+    astray_told : (lines : List GraphLine) (a : ℕ) → holds_of (unit_at p words a) (is_astray lines a) ≡ holds_of (gate_at p t a) (λ label. is_outside lines label a)
+    astray_told lines a =
+        elim (at_address a) [
+          | inl n ↦ ap (λ o. holds_of o (is_astray lines a)) (no_unit p laid words a n.start) ∙ ap (λ e. holds_of (gate_in e) (λ label. is_outside lines label a)) (sym n.entry)
+          | inr (u, h) ↦ ap (λ o. holds_of o (is_astray lines a)) h.is ∙ astray_is lines u a ∙ ap (λ e. holds_of (gate_in e) (λ label. is_outside lines label a)) (sym h.entry)
+        ]
+
+    lacks_told : (a : ℕ) (line : GraphLine) → lacks_gate (gate_label p words) a line ≡ lacks_gate (gate_at p t) a line
+    lacks_told a line =
+        same_test (class_in line) (λ (c : ClassLine). is_among a c.targets && not (is_borne (gate_label p words) (read_of c.sort) a c.label))
+        (λ (c : ClassLine). is_among a c.targets && not (is_borne (gate_at p t) (read_of c.sort) a c.label))
+        (λ (c : ClassLine). ap (λ b. is_among a c.targets && not b) (borne_told (read_of c.sort) a c.label))
+
+    unused_told : (a : ℕ) (line : GraphLine) → is_unused (place_at p words a) line ≡ is_unused_at p t a line
+    unused_told a (Class label targets) = refl
+    unused_told a (Site address kind label) = refl
+    unused_told a (Edge from to) = ap (λ o. not (is_some o)) (edge_told a)
+    unused_told a (Call from to) = ap (λ o. not (is_some o)) (call_told a)
+
+    lone_told : (a : ℕ) (line : GraphLine) → is_lone_site (place_at p words a) line ≡ is_lone_at p t a line
+    lone_told a (Class label targets) = refl
+    lone_told a (Site address kind label) = ap (λ o. not (is_some o)) (site_told a)
+    lone_told a (Edge from to) = refl
+    lone_told a (Call from to) = refl
+
+    misses_told : (o other : Option ℕ) → o ≡ other → holds_of o (λ x. not (is_start p words x)) ≡ misses_start p t other
+    misses_told o other e = ap (λ q. holds_of q (λ x. not (is_start p words x))) e ∙ same_test other _ _ (λ x. ap not (start_told x))
+
+    prologue_told : (a : ℕ) → fails_prologue p words a ≡ fails_prologue p t.prologue a
+    prologue_told a =
+        elim (cases_lt ((a - CODE_START) / 4) (prologue_count p)) [
+          | inl below ↦ ap (λ o. (lies_within CODE_START (p.units_from - CODE_START) a 4 && (a % 4 == 0)) && not (prologue_word_fits p ((a - CODE_START) / 4) o)) (sym (get_taken (prologue_count p) ((a - CODE_START) / 4) words below) ∙ ap (λ ws. slice_get ws ((a - CODE_START) / 4)) (sym w.prologue))
+          | inr past ↦ off (nat_le CODE_START a) (nat_le (a + 4) (CODE_START + (p.units_from - CODE_START))) _ _ _ (lt-leb (a + 4) (CODE_START + (p.units_from - CODE_START)) (omega arith))
+        ]
+      where
+        off : (low high round x y : Bool) → high ≡ false → ((low && high) && round && x) ≡ ((low && high) && round && y)
+        off true high round x y e = rw e refl
+        off false high round x y e = refl
+
+    done_within : t.done ≤ length words - prologue_count p
+    done_within =
+        let most = length-starts 0 (unit_words p words) p.units_from in
+        let left : length (unit_words p words) ≡ length words - prologue_count p = length-drop (prologue_count p) words in
+        let marks : length (unit_starts p words) ≡ t.done = marks_done words t.entries t.done t.last w.split in
+        omega (arith, most, left, marks)
+
+    short_told : nat_le (CODE_START + 4 * length words) p.units_from ≡ nat_le (t.fed / 4) (prologue_count p)
+    short_told =
+        let count : t.fed / 4 ≡ length words = w.count in
+        elim (cases_lt (prologue_count p) (length words)) [
+          | inl more ↦ lt-leb (CODE_START + 4 * length words) p.units_from (omega arith) ∙ sym (lt-leb (t.fed / 4) (prologue_count p) (omega arith))
+          | inr few ↦ le-leb (CODE_START + 4 * length words) p.units_from (omega arith) ∙ sym (le-leb (t.fed / 4) (prologue_count p) (omega arith))
+        ]
+
+    bad_end_told : (a : ℕ) → holds_of (unit_at p words a) (is_bad_end words a) ≡ is_bad_end_at p t a
+    bad_end_told a =
+        let count : t.fed / 4 ≡ length words = w.count in
+        elim (at_address a) [
+          | inl n ↦
+              ap (λ o. holds_of o (is_bad_end words a)) (no_unit p laid words a n.start)
+              ∙ sym (false_from_ne_true _ (λ e.
+              let both = and_parts (t.done == count_of p t) _ e in
+              let q = and_parts (nat_lt t.last t.done) _ both.1 in
+              let r = and_parts (a == p.units_from + 4 * t.last) _ q.1 in
+              let below : t.last < t.done = ltb-true _ _ q.0 in
+              let nothing = n.not_last (eqb-true _ _ r.0) in
+              omega arith))
+          | inr (u, h) ↦
+              let some = some_word u in
+              let most = done_within in
+              let within = h.within in
+              let low = h.low in
+              ap (λ o. holds_of o (is_bad_end words a)) h.is
+              ∙ elim (cases_eq (a + 4 * word_count u) (CODE_START + 4 * length words)) [
+                | inl ends ↦
+                    let all : t.done ≡ count_of p t = omega arith in
+                    let whole : a + 4 * word_count u ≡ p.units_from + 4 * t.done = omega arith in
+                    let last = h.to_last whole in
+                    let some_done : t.last < t.done = omega arith in
+                    rw (eq-eqb (a + 4 * word_count u) (CODE_START + 4 * length words) ends, eq-eqb t.done (count_of p t) all, lt-ltb t.last t.done some_done, eq-eqb a (p.units_from + 4 * t.last) last)
+                    (ap not (stop_is u a ∙ ap is_stop_entry (sym h.entry)))
+                | inr goes_on ↦
+                    rw (ne_eqb (a + 4 * word_count u) (CODE_START + 4 * length words) goes_on)
+                    (sym (false_from_ne_true _ (λ e.
+                    let both = and_parts (t.done == count_of p t) _ e in
+                    let q = and_parts (nat_lt t.last t.done) _ both.1 in
+                    let r = and_parts (a == p.units_from + 4 * t.last) _ q.1 in
+                    let below : t.last < t.done = ltb-true _ _ q.0 in
+                    let all : t.done ≡ count_of p t = eqb-true _ _ both.0 in
+                    let end = h.from_last (eqb-true _ _ r.0) in
+                    goes_on (omega arith))))
+              ]
+        ]
+
+    pub fails_told : (rule : Rule) (graph : GraphParts) (a : ℕ) → fails rule p words graph a ≡ fails_at p rule t graph a
+    fails_told R.Prologue graph a = prologue_told a
+    fails_told R.Unit graph a =
+        let left : length (unit_words p words) ≡ count_of p t = length-drop (prologue_count p) words ∙ ap (λ n. n - prologue_count p) (sym w.count) in
+        swap (a == p.units_from + 4 * length (unit_starts p words)) (nat_lt (length (unit_starts p words)) (length (unit_words p words)))
+        ∙ ap (λ n. nat_lt n (length (unit_words p words)) && (a == p.units_from + 4 * n)) (marks_done words t.entries t.done t.last w.split)
+        ∙ ap (λ n. nat_lt t.done n && (a == p.units_from + 4 * t.done)) left
+    fails_told R.Target graph a = or_same (misses_told _ _ (edge_told a)) (misses_told _ _ (call_told a))
+    fails_told R.Unlisted graph a =
+        or_same (ap (λ o. holds_of o (λ target. not (is_edge_to (line_at graph.lines a) target))) (edge_told a))
+        (ap (λ o. holds_of o (λ target. not (is_call_to (line_at graph.lines a) target))) (call_told a))
+    fails_told R.Unused graph a = same_test (line_at graph.lines a) _ _ (unused_told a)
+    fails_told R.Site graph a =
+        or_same (ap (λ o. holds_of o (λ (asked : Asks). not (is_site_with (line_at graph.lines a) asked && is_some (targets_for graph.lines asked.kind asked.which asked.label)))) (site_told a))
+        (same_test (line_at graph.lines a) _ _ (lone_told a))
+    fails_told R.Gate graph a = same_any _ _ graph.lines (lacks_told a)
+    fails_told R.Astray graph a = astray_told graph.lines a
+    fails_told R.End graph a = or_same (bad_end_told a) (ap (λ b. (a == p.units_from) && b) short_told)
+
+  -- whether something starts at an address from the first unit on
+  pub place_told : (t : Listed) (words : List ℕ) → Tells p t words → (a : ℕ) → p.units_from ≤ a → is_start p words a ≡ is_some (place_at p words a)
+  place_told t words w a low =
+      elim (there words t.entries t.done t.last w.split a) [
+        | inl n ↦ n.start ∙ sym (ap is_some (place_from words a low ∙ ap (option_map body) (no_unit p laid words a n.start)))
+        | inr (u, h) ↦ h.start ∙ sym (ap is_some (place_from words a low ∙ ap (option_map body) h.is))
       ]
 
-  pub start_told : (a : ℕ) → is_start version_1 words a ≡ starts_at t a
-  start_told a =
-      elim (at_address a) [
-        | inl n ↦ n.start ∙ ap is_unit (sym n.entry)
-        | inr (u, h) ↦ h.start ∙ sym (unit_is u a) ∙ ap is_unit (sym h.entry)
-      ]
+  -- the unit that starts at an address
+  pub unit_told : (t : Listed) (words : List ℕ) → Tells p t words → (a : ℕ) → starts_at p t a ≡ true → unit_at p words a ≡ recognised (drop ((a - 0x40000000) / 4) words) a
+  unit_told t words w a begun = unit_on words a (start_told t words w a ∙ begun)
 
-  gate_told : (a : ℕ) → gate_label version_1 words a ≡ gate_at t a
-  gate_told a =
-      elim (at_address a) [
-        | inl n ↦ ap (option_and_then gate_of) (no_unit words a n.start) ∙ ap gate_in (sym n.entry)
-        | inr (u, h) ↦ ap (option_and_then gate_of) h.is ∙ gate_is u a ∙ ap gate_in (sym h.entry)
-      ]
-
-  borne_told : (which : TargetWord) (a label : ℕ) → is_borne (gate_label version_1 words) which a label ≡ is_borne (gate_at t) which a label
-  borne_told First a label = ap (λ o. is_label o label) (gate_told a)
-
-  astray_told : (lines : List GraphLine) (a : ℕ) → holds_of (unit_at version_1 words a) (is_astray lines a) ≡ holds_of (gate_at t a) (λ label. is_outside lines label a)
-  astray_told lines a =
-      elim (at_address a) [
-        | inl n ↦ ap (λ o. holds_of o (is_astray lines a)) (no_unit words a n.start) ∙ ap (λ e. holds_of (gate_in e) (λ label. is_outside lines label a)) (sym n.entry)
-        | inr (u, h) ↦ ap (λ o. holds_of o (is_astray lines a)) h.is ∙ astray_is lines u a ∙ ap (λ e. holds_of (gate_in e) (λ label. is_outside lines label a)) (sym h.entry)
-      ]
-
-  lacks_told : (a : ℕ) (line : GraphLine) → lacks_gate (gate_label version_1 words) a line ≡ lacks_gate (gate_at t) a line
-  lacks_told a line =
-      same_test (class_in line) (λ (c : ClassLine). is_among a c.targets && not (is_borne (gate_label version_1 words) (read_of c.sort) a c.label))
-      (λ (c : ClassLine). is_among a c.targets && not (is_borne (gate_at t) (read_of c.sort) a c.label))
-      (λ (c : ClassLine). ap (λ b. is_among a c.targets && not b) (borne_told (read_of c.sort) a c.label))
-
-  unused_told : (a : ℕ) (line : GraphLine) → is_unused (place_at version_1 words a) line ≡ is_unused_at t a line
-  unused_told a (Class label targets) = refl
-  unused_told a (Site address kind label) = refl
-  unused_told a (Edge from to) = ap (λ o. not (is_some o)) (edge_told a)
-  unused_told a (Call from to) = ap (λ o. not (is_some o)) (call_told a)
-
-  lone_told : (a : ℕ) (line : GraphLine) → is_lone_site (place_at version_1 words a) line ≡ is_lone_at t a line
-  lone_told a (Class label targets) = refl
-  lone_told a (Site address kind label) = ap (λ o. not (is_some o)) (site_told a)
-  lone_told a (Edge from to) = refl
-  lone_told a (Call from to) = refl
-
-  misses_told : (o p : Option ℕ) → o ≡ p → holds_of o (λ x. not (is_start version_1 words x)) ≡ misses_start t p
-  misses_told o p e = ap (λ q. holds_of q (λ x. not (is_start version_1 words x))) e ∙ same_test p _ _ (λ x. ap not (start_told x))
-
-  prologue_told : (a : ℕ) → fails_prologue words a ≡ fails_prologue t.prologue a
-  prologue_told a =
-      elim (cases_lt ((a - CODE_START) / 4) 16) [
-        | inl below ↦ ap (λ o. (lies_within CODE_START 64 a 4 && (a % 4 == 0)) && not (prologue_word_fits ((a - CODE_START) / 4) o)) (sym (get_taken 16 ((a - CODE_START) / 4) words below) ∙ ap (λ ws. slice_get ws ((a - CODE_START) / 4)) (sym w.prologue))
-        | inr past ↦ off (nat_le CODE_START a) (nat_le (a + 4) (CODE_START + 64)) _ _ _ (lt-leb (a + 4) (CODE_START + 64) (omega arith))
-      ]
-    where
-      off : (low high round x y : Bool) → high ≡ false → ((low && high) && round && x) ≡ ((low && high) && round && y)
-      off true high round x y e = rw e refl
-      off false high round x y e = refl
-
-  done_within : t.done ≤ length words - 16
-  done_within =
-      let most = length-starts 0 (drop 16 words) UNITS_START in
-      let left : length (drop 16 words) ≡ length words - 16 = length-drop 16 words in
-      let marks : length (unit_starts version_1 words) ≡ t.done = marks_done words t.entries t.done t.last w.split in
-      omega (arith, most, left, marks)
-
-  short_told : nat_le (CODE_START + 4 * length words) UNITS_START ≡ nat_le (t.fed / 4) 16
-  short_told =
-      let count : t.fed / 4 ≡ length words = w.count in
-      elim (cases_lt 16 (length words)) [
-        | inl more ↦ lt-leb (CODE_START + 4 * length words) UNITS_START (omega arith) ∙ sym (lt-leb (t.fed / 4) 16 (omega arith))
-        | inr few ↦ le-leb (CODE_START + 4 * length words) UNITS_START (omega arith) ∙ sym (le-leb (t.fed / 4) 16 (omega arith))
-      ]
-
-  bad_end_told : (a : ℕ) → holds_of (unit_at version_1 words a) (is_bad_end words a) ≡ is_bad_end_at t a
-  bad_end_told a =
-      let count : t.fed / 4 ≡ length words = w.count in
-      elim (at_address a) [
-        | inl n ↦
-            ap (λ o. holds_of o (is_bad_end words a)) (no_unit words a n.start)
-            ∙ sym (false_from_ne_true _ (λ e.
-            let p = and_parts (t.done == count_of t) _ e in
-            let q = and_parts (nat_lt t.last t.done) _ p.1 in
-            let r = and_parts (a == UNITS_START + 4 * t.last) _ q.1 in
-            let below : t.last < t.done = ltb-true _ _ q.0 in
-            let nothing = n.not_last (eqb-true _ _ r.0) in
-            omega arith))
-        | inr (u, h) ↦
-            let some = some_word u in
-            let most = done_within in
-            let within = h.within in
-            let low = h.low in
-            ap (λ o. holds_of o (is_bad_end words a)) h.is
-            ∙ elim (cases_eq (a + 4 * word_count u) (CODE_START + 4 * length words)) [
-              | inl ends ↦
-                  let all : t.done ≡ count_of t = omega arith in
-                  let whole : a + 4 * word_count u ≡ UNITS_START + 4 * t.done = omega arith in
-                  let last = h.to_last whole in
-                  let some_done : t.last < t.done = omega arith in
-                  rw (eq-eqb (a + 4 * word_count u) (CODE_START + 4 * length words) ends, eq-eqb t.done (count_of t) all, lt-ltb t.last t.done some_done, eq-eqb a (UNITS_START + 4 * t.last) last)
-                  (ap not (stop_is u a ∙ ap is_stop_entry (sym h.entry)))
-              | inr goes_on ↦
-                  rw (ne_eqb (a + 4 * word_count u) (CODE_START + 4 * length words) goes_on)
-                  (sym (false_from_ne_true _ (λ e.
-                  let p = and_parts (t.done == count_of t) _ e in
-                  let q = and_parts (nat_lt t.last t.done) _ p.1 in
-                  let r = and_parts (a == UNITS_START + 4 * t.last) _ q.1 in
-                  let below : t.last < t.done = ltb-true _ _ q.0 in
-                  let all : t.done ≡ count_of t = eqb-true _ _ p.0 in
-                  let end = h.from_last (eqb-true _ _ r.0) in
-                  goes_on (omega arith))))
-            ]
-      ]
-
-  pub fails_told : (rule : Rule) (lines : List GraphLine) (a : ℕ) → fails rule version_1 words lines a ≡ fails_at rule t lines a
-  fails_told R.Prologue lines a = prologue_told a
-  fails_told R.Unit lines a =
-      let left : length (drop 16 words) ≡ count_of t = length-drop 16 words ∙ ap (λ n. n - 16) (sym w.count) in
-      swap (a == UNITS_START + 4 * length (unit_starts version_1 words)) (nat_lt (length (unit_starts version_1 words)) (length (drop 16 words)))
-      ∙ ap (λ n. nat_lt n (length (drop 16 words)) && (a == UNITS_START + 4 * n)) (marks_done words t.entries t.done t.last w.split)
-      ∙ ap (λ n. nat_lt t.done n && (a == UNITS_START + 4 * t.done)) left
-  fails_told R.Target lines a = or_same (misses_told _ _ (edge_told a)) (misses_told _ _ (call_told a))
-  fails_told R.Unlisted lines a =
-      or_same (ap (λ o. holds_of o (λ target. not (is_edge_to (line_at lines a) target))) (edge_told a))
-      (ap (λ o. holds_of o (λ target. not (is_call_to (line_at lines a) target))) (call_told a))
-  fails_told R.Unused lines a = same_test (line_at lines a) _ _ (unused_told a)
-  fails_told R.Site lines a =
-      or_same (ap (λ o. holds_of o (λ (asked : Asks). not (is_site_with (line_at lines a) asked && is_some (targets_for lines asked.kind asked.which asked.label)))) (site_told a))
-      (same_test (line_at lines a) _ _ (lone_told a))
-  fails_told R.Gate lines a = same_any _ _ lines (lacks_told a)
-  fails_told R.Astray lines a = astray_told lines a
-  fails_told R.End lines a = or_same (bad_end_told a) (ap (λ b. (a == UNITS_START) && b) short_told)
-
--- whether something starts at an address from the first unit on
-pub place_told : (t : Listed) (words : List ℕ) → Tells t words → (a : ℕ) → UNITS_START ≤ a → is_start version_1 words a ≡ is_some (place_at version_1 words a)
-place_told t words w a low =
-    elim (there words t.entries t.done t.last w.split a) [
-      | inl n ↦ n.start ∙ sym (ap is_some (place_from words a low ∙ ap (option_map body) (no_unit words a n.start)))
-      | inr (u, h) ↦ h.start ∙ sym (ap is_some (place_from words a low ∙ ap (option_map body) h.is))
-    ]
-
--- the unit that starts at an address
-pub unit_told : (t : Listed) (words : List ℕ) → Tells t words → (a : ℕ) → starts_at t a ≡ true → unit_at version_1 words a ≡ recognised (drop ((a - 0x40000000) / 4) words) a
-unit_told t words w a begun = unit_on words a (start_told t words w a ∙ begun)
-
-pub unit_untold : (t : Listed) (words : List ℕ) → Tells t words → (a : ℕ) → starts_at t a ≡ false → unit_at version_1 words a ≡ None
-unit_untold t words w a none = no_unit words a (start_told t words w a ∙ none)
+  pub unit_untold : (t : Listed) (words : List ℕ) → Tells p t words → (a : ℕ) → starts_at p t a ≡ false → unit_at p words a ≡ None
+  unit_untold t words w a none = no_unit p laid words a (start_told t words w a ∙ none)

@@ -1,8 +1,8 @@
 -- Which unit of a list stands at an address, and where it lies.
-use Rattle.std.proofs.Common.{◌≡◌, ◌≢◌, ℕ, ◌+◌, ◌*◌, ◌%◌, ◌≤◌, ◌<◌, inl, inr, List, [], ◌∷◌, length, length-append, map, refl, sym, ap, ◌∙◌, Some, None, arith}
+use Rattle.std.proofs.Common.{◌≡◌, ◌≢◌, ℕ, ◌+◌, ◌*◌, ◌%◌, ◌≤◌, ◌<◌, inl, inr, List, [], ◌∷◌, ◌++◌, length, length-append, map, refl, sym, ap, subst, ◌∙◌, Some, None, arith}
 use Rattle.std.proofs.lemmas.Bool.{cases_eq, eq-eqb, ne_eqb}
 use Rattle.std.proofs.lemmas.Option.{same_Some}
-use Rattle.rv_word.specs.MemoryMap.{version_1}
+use Rattle.rv_word.specs.MemoryMap.{CODE_START, IsProfile, Profile}
 use Rattle.rv_code.specs.Encode.{code_of}
 use Rattle.cfi_unit.specs.declared.unit.Unit as U
 use Rattle.cfi_unit.specs.Prologue.{prologue_instrs}
@@ -38,9 +38,17 @@ length-code_from u us at =
     length-append (words_of u at) (code_from (at + 4 * word_count u) us)
     ∙ ap (λ n. n + length (code_from (at + 4 * word_count u) us)) (words_counted u at)
 
--- the prologue has sixteen words
-pub length-placed_code : (entry : ℕ) (us : List U.Unit) → length (placed_code version_1 entry us) ≡ 16 + length (code_from version_1.units_from us)
-length-placed_code entry us = length-append (map code_of (prologue_instrs entry)) (code_from version_1.units_from us)
+-- the prologue reaches to the first unit
+pub prologue_counted : (p : Profile) → IsProfile p → (entry : ℕ) → CODE_START + 4 * length (map code_of (prologue_instrs p entry)) ≡ p.units_from
+prologue_counted p (inl e) entry = subst (λ (q : Profile). CODE_START + 4 * length (map code_of (prologue_instrs q entry)) ≡ q.units_from) (sym e) refl
+prologue_counted p (inr e) entry = subst (λ (q : Profile). CODE_START + 4 * length (map code_of (prologue_instrs q entry)) ≡ q.units_from) (sym e) refl
+
+both_counted : (front back : List ℕ) (from : ℕ) → CODE_START + 4 * length front ≡ from → CODE_START + 4 * length (front ++ back) ≡ from + 4 * length back
+both_counted front back from e = let whole = length-append front back in omega (arith, e, whole)
+
+pub length-placed_code : (p : Profile) → IsProfile p → (entry : ℕ) (us : List U.Unit) → CODE_START + 4 * length (placed_code p entry us) ≡ p.units_from + 4 * length (code_from p.units_from us)
+length-placed_code p profile entry us =
+    both_counted (map code_of (prologue_instrs p entry)) (code_from p.units_from us) p.units_from (prologue_counted p profile entry)
 
 pub lies : (us : List U.Unit) (at a : ℕ) (u : U.Unit) → unit_in us at a ≡ Some u → Lies us at a u
 unfolding unit_in

@@ -1,13 +1,13 @@
--- A run along a graph, and safety. The walk of a run is the list of the pcs of its begun instructions
+-- A run along a graph, and safety. The walk of a hart is the list of the pcs of its begun instructions
 -- at which something starts: the opening, the closing, a handler or a unit.
-use Rattle.std.specs.Prelude.{◌≡◌, ◌≢◌, ℕ, ◌<◌, ◌⊎◌, List, [], ◌∷◌, length, Option, Some, None}
+use Rattle.std.specs.Prelude.{◌≡◌, ◌≢◌, ℕ, ◌<◌, ◌⊎◌, ◌==◌, List, [], ◌∷◌, length, Option, Some, None, if◌then◌else◌}
 use Rattle.std.specs.List.{AllByRecursion}
-use Rattle.rv_word.specs.MemoryMap.{SHADOW_START, Profile, version_1}
+use Rattle.rv_word.specs.MemoryMap.{MayRun, Profile, part_of}
 use Rattle.rv_word.specs.Image.{Contents}
 use Rattle.rv_word.specs.Memory.{Memory, loaded}
 use Rattle.rv_instr.specs.Registers.{Registers, get_reg}
-use Rattle.rv_code.specs.Run.{ByteChange, IsDataChange, disturbed}
-use Rattle.rv_code.specs.State.{Hart, Shared, start_hart, start_shared}
+use Rattle.rv_code.specs.Run.{HartStep, IsStepOf, disturbed}
+use Rattle.rv_code.specs.State.{Hart, Harts, Shared, start_hart, start_shared, with_hart}
 use Rattle.rv_code.specs.Step.{step}
 use Rattle.rv_code.specs.declared.turn.Turn.{Turn}
 use Rattle.rv_code.specs.declared.turn.Turn.TheVariants.{Ran, Exit, Break, LoadFault, StoreFault, FetchFault, Illegal}
@@ -28,7 +28,7 @@ use Rattle.cfi_unit.specs.UnitWords.{BAD_TARGET, BAD_RETURN, DEEP}
 use Rattle.cfi_verify.specs.Split.{code_words, place_at}
 use Rattle.cfi_verify.specs.Walk.{InClass, Goes}
 
--- the newest address of a walk, the sites pending there, and the registers when it was reached
+-- the newest address of a hart's walk, the sites pending there, and the registers when it was reached
 pub record Walk : Type 0 where
   pub at : ℕ
   pub pending : List ℕ
@@ -73,7 +73,7 @@ abbrev pub Arrives : Profile → List ℕ → List GraphLine → Option Walk →
 Arrives p words lines None v pending = (v ≡ OPENING) × (pending ≡ [])
 Arrives p words lines (Some w) v pending =
     (place : Place) × (place_at p words w.at ≡ Some place)
-    × Goes lines place w.at w.pending v pending × Chooses lines place w v
+    × Goes p lines place w.at w.pending v pending × Chooses lines place w v
 
 -- before a step at a pc: where something starts there the walk goes on to it, else it stays
 abbrev pub GoesOn : Profile → ℕ → List ℕ → List GraphLine → Option Walk → Option Place → Hart → Memory → Walk → Type 0
@@ -113,7 +113,7 @@ MayEnd place pc (Illegal at) = ⊥
 -- there, and code is the image's
 abbrev pub Begun : Profile → Contents → List ℕ → Walk → Hart → Memory → Turn → Type 0
 Begun p image words w h m turn =
-    (place : Place) × (place_at p words w.at ≡ Some place) × IsWordOf place w.at h.pc
+    (place : Place) × (place_at p words w.at ≡ Some place) × IsWordOf p place w.at h.pc
     × MayEnd place h.pc turn × IsCodeOf (loaded image) m
 
 -- what is owed after an instruction that ran, and what after one that stopped
@@ -121,25 +121,34 @@ abbrev pub OnRan : Turn → Type 0 → Type 0 → Type 0
 OnRan Ran going stopped = going
 OnRan other going stopped = stopped
 
--- the run from a state goes along the graph, for each list of changes in turn; at its end code is the
--- image's
-abbrev pub RunsAlong : Profile → ℕ → Contents → List ℕ → List GraphLine → Option Walk → Hart → Shared → List (List ByteChange) → Type 0
-RunsAlong p part image words lines before h s [] = IsCodeOf (loaded image) s.memory
-RunsAlong p part image words lines before h s (cs ∷ rest) =
-    let now = disturbed s cs in
+-- the walks of all harts so far: none before a hart's first step
+abbrev pub Walks : Type 0
+Walks = ℕ → Option Walk
+
+abbrev pub with_walk : Walks → ℕ → Walk → Walks
+with_walk walks k w = λ j. if j == k then Some w else walks j
+
+-- the run from a state goes along the graph, a step at a time, each hart by its own walk and with its
+-- own part of the shadow stack; at its end code is the image's
+abbrev pub RunsAlong : Profile → Contents → List ℕ → List GraphLine → Walks → Harts → Shared → List HartStep → Type 0
+RunsAlong p image words lines walks harts s [] = IsCodeOf (loaded image) s.memory
+RunsAlong p image words lines walks harts s (t ∷ rest) =
+    let h = harts t.hart in
+    let now = disturbed s t.changes in
     let after = step p h now in
     (w : Walk)
-    × GoesOn p part words lines before (place_at p words h.pc) h now.memory w
+    × GoesOn p (part_of t.hart) words lines (walks t.hart) (place_at p words h.pc) h now.memory w
     × Begun p image words w h now.memory after.turn
     × OnRan after.turn
-    (RunsAlong p part image words lines (Some w) after.hart after.shared rest)
+    (RunsAlong p image words lines (with_walk walks t.hart w) (with_hart harts t.hart after.hart) after.shared rest)
     (IsCodeOf (loaded image) after.shared.memory)
 
-abbrev pub AreDataChanges : List (List ByteChange) → Type 0
-AreDataChanges changes = AllByRecursion (AllByRecursion IsDataChange) changes
+abbrev pub AreStepsOf : ℕ → List HartStep → Type 0
+AreStepsOf harts steps = AllByRecursion (IsStepOf harts) steps
 
--- safe: for every input and every list of lists of changes of data, the run goes along the graph
-abbrev pub IsSafe : Contents → GraphParts → Type 0
-IsSafe image graph =
-    (input : List ℕ) (changes : List (List ByteChange)) → AreDataChanges changes
-    → RunsAlong version_1 SHADOW_START image (code_words image.code) graph.lines None start_hart (start_shared image input) changes
+-- safe: for every input, every count of harts and every list of their steps, between which data
+-- change, the run goes along the graph
+abbrev pub IsSafe : Profile → Contents → GraphParts → Type 0
+IsSafe p image graph =
+    (input : List ℕ) (harts : ℕ) → MayRun p harts → (steps : List HartStep) → AreStepsOf harts steps
+    → RunsAlong p image (code_words image.code) graph.lines (λ k. None) start_hart (start_shared image input) steps

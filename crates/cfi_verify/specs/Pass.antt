@@ -1,40 +1,41 @@
 -- What one pass over a code and a graph finds out.
 use Rattle.std.specs.Prelude.{◌≡◌, ◌≢◌, ℕ, ◌+◌, ◌*◌, ◌<◌, ◌≤◌, ◌==◌, ◌&&◌, nat_lt, Bool, true, false, List, Some, None, slice_get}
-use Rattle.rv_word.specs.MemoryMap.{CODE_START, UNITS_START}
+use Rattle.rv_word.specs.MemoryMap.{CODE_START, Profile}
 use Rattle.cfi_graph.specs.declared.line.GraphLine.{GraphLine}
 use Rattle.cfi_graph.specs.declared.line.Key.TheVariants.{Address}
-use Rattle.cfi_graph.specs.Graph.{key_below, key_of}
-use Rattle.cfi_scan.specs.Pieces.{Listed}
+use Rattle.cfi_graph.specs.Graph.{GraphParts, key_below, key_of}
+use Rattle.cfi_scan.specs.Pieces.{Listed, prologue_count}
 use Rattle.cfi_verify.specs.Entries.{count_of, entry_at, gate_at, is_stop_entry, fails_at, fails_target_at, fails_unlisted_at, fails_unused_at, fails_site_at, fails_astray_at}
 use Rattle.cfi_verify.specs.Lines.{line_at}
 use Rattle.cfi_verify.specs.Rules.{lacks_gate}
 use Rattle.cfi_verify.specs.declared.reject.Rule.{Rule}
 use Rattle.cfi_verify.specs.declared.reject.Rule.TheVariants as R
 
--- none of the rules fails at an address that ask for its transfer, its gate and its line
-pub record HoldsAt (t : Listed) (lines : List GraphLine) (a : ℕ) : Type 0 where
-  pub target : fails_target_at t a ≡ false
-  pub unlisted : fails_unlisted_at t lines a ≡ false
-  pub unused : fails_unused_at t lines a ≡ false
-  pub site : fails_site_at t lines a ≡ false
-  pub astray : fails_astray_at t lines a ≡ false
+module _ (p : Profile) where
+  -- none of the rules fails at an address that ask for its transfer, its gate and its line
+  pub record HoldsAt (t : Listed) (graph : GraphParts) (a : ℕ) : Type 0 where
+    pub target : fails_target_at p t a ≡ false
+    pub unlisted : fails_unlisted_at p t graph.lines a ≡ false
+    pub unused : fails_unused_at p t graph.lines a ≡ false
+    pub site : fails_site_at p t graph.lines a ≡ false
+    pub astray : fails_astray_at p t graph.lines a ≡ false
 
--- a rule that is asked address by address fails at no word of the prologue
-abbrev pub HoldsEarly : Listed → List GraphLine → Rule → Type 0
-HoldsEarly t lines rule = rule ≢ R.Gate → (k : ℕ) → k < 16 → fails_at rule t lines (CODE_START + 4 * k) ≡ false
+  -- a rule that is asked address by address fails at no word of the prologue
+  abbrev pub HoldsEarly : Listed → GraphParts → Rule → Type 0
+  HoldsEarly t graph rule = rule ≢ R.Gate → (k : ℕ) → k < prologue_count p → fails_at p rule t graph (CODE_START + 4 * k) ≡ false
 
--- units cover the code, and the last is a stop
-abbrev pub ends_in_stop : Listed → Bool
-ends_in_stop t =
-    (t.done == count_of t) && (nat_lt t.last t.done && is_stop_entry (entry_at t.entries (UNITS_START + 4 * t.last)))
+  -- units cover the code, and the last is a stop
+  abbrev pub ends_in_stop : Listed → Bool
+  ends_in_stop t =
+      (t.done == count_of p t) && (nat_lt t.last t.done && is_stop_entry (entry_at p t.entries (p.units_from + 4 * t.last)))
 
--- the rules hold at the first words after the prologue; the first lines stand before the next word, and
--- those of classes have their gates
-pub record HasPassed (t : Listed) (lines : List GraphLine) (count next : ℕ) : Type 0 where
-  pub words : (k : ℕ) → k < next → HoldsAt t lines (UNITS_START + 4 * k)
-  pub lines_before : (i : ℕ) (line : GraphLine) → i < count → slice_get lines i ≡ Some line → key_below (key_of line) (Address (UNITS_START + 4 * next)) ≡ true
-  pub gates : (i : ℕ) (line : GraphLine) → i < count → slice_get lines i ≡ Some line → (a : ℕ) → lacks_gate (gate_at t) a line ≡ false
+  -- the rules hold at the first words after the prologue; the first lines stand before the next word, and
+  -- those of classes have their gates
+  pub record HasPassed (t : Listed) (graph : GraphParts) (count next : ℕ) : Type 0 where
+    pub words : (k : ℕ) → k < next → HoldsAt t graph (p.units_from + 4 * k)
+    pub lines_before : (i : ℕ) (line : GraphLine) → i < count → slice_get graph.lines i ≡ Some line → key_below (key_of line) (Address (p.units_from + 4 * next)) ≡ true
+    pub gates : (i : ℕ) (line : GraphLine) → i < count → slice_get graph.lines i ≡ Some line → (a : ℕ) → lacks_gate (gate_at p t) a line ≡ false
 
--- at none of these words a line stands
-abbrev pub NoneStands : List GraphLine → ℕ → ℕ → Type 0
-NoneStands lines from to = (k : ℕ) → from ≤ k → k < to → line_at lines (UNITS_START + 4 * k) ≡ None
+  -- at none of these words a line stands
+  abbrev pub NoneStands : List GraphLine → ℕ → ℕ → Type 0
+  NoneStands lines from to = (k : ℕ) → from ≤ k → k < to → line_at lines (p.units_from + 4 * k) ≡ None

@@ -49,7 +49,7 @@ lines_from at (unit ∷ units) = with_line (line_of at unit) (lines_from (after_
 
 -- a whole code
 abbrev pub placed_code : Profile → ℕ → List U.Unit → List ℕ
-placed_code p entry units = map code_of (prologue_instrs entry) ++ code_from p.units_from units
+placed_code p entry units = map code_of (prologue_instrs p entry) ++ code_from p.units_from units
 
 -- and its lines: those of classes, the opening's call, those of the units
 abbrev pub placed_lines : Profile → ℕ → List U.Unit → List GraphLine → List GraphLine

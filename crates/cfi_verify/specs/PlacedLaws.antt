@@ -2,7 +2,7 @@
 -- their lines.
 use Rattle.std.specs.Prelude.{◌≡◌, ℕ, ◌*◌, ◌%◌, ◌≤◌, List, length, Some, is_some}
 use Rattle.rv_word.specs.Image.{Contents}
-use Rattle.rv_word.specs.MemoryMap.{CODE_START, Profile, version_1}
+use Rattle.rv_word.specs.MemoryMap.{CODE_START, IsProfile, Profile}
 use Rattle.cfi_graph.specs.declared.line.GraphLine.{GraphLine}
 use Rattle.cfi_graph.specs.Graph.{GraphParts, IsGraph}
 use Rattle.cfi_unit.specs.declared.unit.Unit as U
@@ -28,26 +28,26 @@ SplitUnits =
 -- in a code of placed units these units start, and no others
 abbrev pub PlacedUnits : Type 0
 PlacedUnits =
-    (entry : ℕ) (units : List U.Unit) → AllFit version_1.units_from units → AllAhead version_1.units_from units → (a : ℕ) →
-    unit_at version_1 (placed_code version_1 entry units) a ≡ unit_in units version_1.units_from a
+    (p : Profile) (entry : ℕ) (units : List U.Unit) → IsProfile p → AllFit p.units_from units → AllAhead p.units_from units → (a : ℕ) →
+    unit_at p (placed_code p entry units) a ≡ unit_in units p.units_from a
 
 -- and its opening calls the entry, where the call reaches it
 abbrev pub PlacedEntry : Type 0
 PlacedEntry =
-    (entry : ℕ) (units : List U.Unit) → Reaches version_1.opening_call entry →
-    entry_of version_1 (placed_code version_1 entry units) ≡ Some entry
+    (p : Profile) (entry : ℕ) (units : List U.Unit) → IsProfile p → Reaches p.opening_call entry →
+    entry_of p (placed_code p entry units) ≡ Some entry
 
 -- the lines of sound units and classes are a graph's of this code, where those of the classes alone are
 abbrev pub PlacedIsGraph : Type 0
 PlacedIsGraph =
-    (entry : ℕ) (units : List U.Unit) (classes : List GraphLine) → IsSound version_1 entry units classes →
-    IsGraph (record { code = 4 * length (placed_code version_1 entry units); lines = classes }) →
-    IsGraph (record { code = 4 * length (placed_code version_1 entry units); lines = placed_lines version_1 entry units classes })
+    (p : Profile) (entry : ℕ) (units : List U.Unit) (classes : List GraphLine) → IsProfile p → IsSound p entry units classes →
+    IsGraph (record { code = 4 * length (placed_code p entry units); lines = classes }) →
+    IsGraph (record { code = 4 * length (placed_code p entry units); lines = placed_lines p entry units classes })
 
 -- a code of placed units that are sound, with their lines, is well formed
 abbrev pub PlacedIsWellFormed : Type 0
 PlacedIsWellFormed =
-    (entry : ℕ) (units : List U.Unit) (classes : List GraphLine) (image : Contents) (graph : GraphParts) →
-    IsSound version_1 entry units classes → code_words image.code ≡ placed_code version_1 entry units →
-    graph.lines ≡ placed_lines version_1 entry units classes → graph.code ≡ length image.code →
-    IsWellFormed version_1 image graph
+    (p : Profile) (entry : ℕ) (units : List U.Unit) (classes : List GraphLine) (image : Contents) (graph : GraphParts) →
+    IsProfile p → IsSound p entry units classes → code_words image.code ≡ placed_code p entry units →
+    graph.lines ≡ placed_lines p entry units classes → graph.code ≡ length image.code →
+    IsWellFormed p image graph

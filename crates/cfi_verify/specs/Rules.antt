@@ -87,20 +87,20 @@ abbrev pub is_link : Option Instr → Bool
 is_link (Some (Jal rd imm)) = rd == 1
 is_link other = false
 
--- the prologue's words; the one at index 13 may be any `jal x1`
-abbrev pub prologue_words : List ℕ
-prologue_words = map code_of (prologue_instrs 0)
+-- the prologue's words; the opening's call may be any `jal x1`
+abbrev pub prologue_words : Profile → List ℕ
+prologue_words p = map code_of (prologue_instrs p 0)
 
-abbrev pub prologue_word_fits : ℕ → Option ℕ → Bool
-prologue_word_fits k None = false
-prologue_word_fits k (Some word) =
-    if k == 13 then is_link (decoded word) else word == slice_index prologue_words k
+abbrev pub prologue_word_fits : Profile → ℕ → Option ℕ → Bool
+prologue_word_fits p k None = false
+prologue_word_fits p k (Some word) =
+    if k == (p.opening_call - CODE_START) / 4 then is_link (decoded word) else word == slice_index (prologue_words p) k
 
--- Prologue: a word of the first sixteen is missing or is not the prologue's
-abbrev pub fails_prologue : List ℕ → ℕ → Bool
-fails_prologue words a =
-    lies_within CODE_START 64 a 4 && (a % 4 == 0)
-    && not (prologue_word_fits ((a - CODE_START) / 4) (slice_get words ((a - CODE_START) / 4)))
+-- Prologue: a word of the prologue's place is missing or is not the prologue's
+abbrev pub fails_prologue : Profile → List ℕ → ℕ → Bool
+fails_prologue p words a =
+    lies_within CODE_START (p.units_from - CODE_START) a 4 && (a % 4 == 0)
+    && not (prologue_word_fits p ((a - CODE_START) / 4) (slice_get words ((a - CODE_START) / 4)))
 
 -- Unit: the split ends here, before the code does
 abbrev pub fails_unit : Profile → List ℕ → ℕ → Bool
@@ -178,16 +178,16 @@ fails_end p words a =
     holds_of (unit_at p words a) (is_bad_end words a)
     || ((a == p.units_from) && nat_le (CODE_START + 4 * length words) p.units_from)
 
-abbrev pub fails : Rule → Profile → List ℕ → List GraphLine → ℕ → Bool
-fails R.Prologue p words lines a = fails_prologue words a
-fails R.Unit p words lines a = fails_unit p words a
-fails R.Target p words lines a = fails_target p words a
-fails R.Unlisted p words lines a = fails_unlisted p words lines a
-fails R.Unused p words lines a = fails_unused p words lines a
-fails R.Site p words lines a = fails_site p words lines a
-fails R.Gate p words lines a = fails_gate p words lines a
-fails R.Astray p words lines a = fails_astray p words lines a
-fails R.End p words lines a = fails_end p words a
+abbrev pub fails : Rule → Profile → List ℕ → GraphParts → ℕ → Bool
+fails R.Prologue p words graph a = fails_prologue p words a
+fails R.Unit p words graph a = fails_unit p words a
+fails R.Target p words graph a = fails_target p words a
+fails R.Unlisted p words graph a = fails_unlisted p words graph.lines a
+fails R.Unused p words graph a = fails_unused p words graph.lines a
+fails R.Site p words graph a = fails_site p words graph.lines a
+fails R.Gate p words graph a = fails_gate p words graph.lines a
+fails R.Astray p words graph a = fails_astray p words graph.lines a
+fails R.End p words graph a = fails_end p words a
 
 -- the order in which the rules are asked
 abbrev pub order : Rule → ℕ
@@ -202,21 +202,21 @@ order R.Astray = 7
 order R.End = 8
 
 -- a rule fails nowhere
-abbrev pub Holds : Profile → List ℕ → List GraphLine → Rule → Type 0
-Holds p words lines rule = (a : ℕ) → fails rule p words lines a ≡ false
+abbrev pub Holds : Profile → List ℕ → GraphParts → Rule → Type 0
+Holds p words graph rule = (a : ℕ) → fails rule p words graph a ≡ false
 
 -- this rule is the first that fails, and this is the least address at which it does
-pub record IsFirst (p : Profile) (words : List ℕ) (lines : List GraphLine) (rule : Rule) (a : ℕ) : Type 0 where
-  pub here : fails rule p words lines a ≡ true
-  pub rules_before : (earlier : Rule) → order earlier < order rule → Holds p words lines earlier
-  pub addresses_before : (b : ℕ) → b < a → fails rule p words lines b ≡ false
+pub record IsFirst (p : Profile) (words : List ℕ) (graph : GraphParts) (rule : Rule) (a : ℕ) : Type 0 where
+  pub here : fails rule p words graph a ≡ true
+  pub rules_before : (earlier : Rule) → order earlier < order rule → Holds p words graph earlier
+  pub addresses_before : (b : ℕ) → b < a → fails rule p words graph b ≡ false
 
 -- no rule fails
 pub record IsWellFormed (p : Profile) (image : Contents) (graph : GraphParts) : Type 0 where
   pub same_length : graph.code ≡ length image.code
-  pub rules : (rule : Rule) → Holds p (code_words image.code) graph.lines rule
+  pub rules : (rule : Rule) → Holds p (code_words image.code) graph rule
 
 -- why a pair is rejected
 abbrev pub IsRejected : Profile → Contents → GraphParts → Reject → Type 0
 IsRejected p image graph (Length code given) = (code ≡ length image.code) × (given ≡ graph.code) × (code ≢ given)
-IsRejected p image graph (At rule a) = (graph.code ≡ length image.code) × IsFirst p (code_words image.code) graph.lines rule a
+IsRejected p image graph (At rule a) = (graph.code ≡ length image.code) × IsFirst p (code_words image.code) graph rule a

@@ -1,10 +1,10 @@
 -- What a scan has seen, what it leaves, and an accepted pair.
 use Rattle.std.specs.Prelude.{◌≡◌, ℕ, ◌-◌, ◌/◌, ◌==◌, Bool, ◌||◌, ◌&&◌, List, is_some, length}
-use Rattle.rv_word.specs.MemoryMap.{Profile, version_1}
+use Rattle.rv_word.specs.MemoryMap.{Profile, profile_of, version_1}
 use Rattle.rv_word.specs.Image.{Contents}
 use Rattle.cfi_graph.specs.Graph.{GraphParts, IsGraph}
 use Rattle.cfi_unit.specs.Prologue.{OPENING}
-use Rattle.cfi_scan.specs.Pieces.{Listed, Sight}
+use Rattle.cfi_scan.specs.Pieces.{Listed, Sight, prologue_count}
 use Rattle.cfi_verify.specs.Entries.{Tells}
 use Rattle.cfi_verify.specs.Rules.{IsWellFormed}
 use Rattle.cfi_verify.specs.Split.{code_words, entry_of, is_handler}
@@ -15,14 +15,18 @@ pub record Scanned : Type 0 where
   pub graph : GraphParts
 
 -- there is room for a code of the graph's length
-pub record IsScan (seen : Sight) (graph : GraphParts) : Type 0 where
-  pub room : length seen.entries ≡ graph.code / 4 - 16
+pub record IsScan (p : Profile) (seen : Sight) (graph : GraphParts) : Type 0 where
+  pub room : length seen.entries ≡ graph.code / 4 - prologue_count p
   pub graph_is : IsGraph graph
 
 -- what is left of a code that has ended, and the graph
 pub record StartParts : Type 0 where
   pub listing : Listed
   pub graph : GraphParts
+
+-- the profile of the version that a listing is of
+abbrev pub profile_in : StartParts → Profile
+profile_in starts = profile_of starts.listing.version
 
 -- the graph gives the code's length
 pub record AreStarts (listing : Listed) (graph : GraphParts) : Type 0 where
@@ -40,5 +44,6 @@ pub record Pair : Type 0 where
 
 -- a pair that is well formed, with what a listing tells of its code
 pub record IsChecked (image : Contents) (starts : StartParts) : Type 0 where
-  pub told : Tells starts.listing (code_words image.code)
+  pub version : starts.listing.version ≡ 1
+  pub told : Tells version_1 starts.listing (code_words image.code)
   pub well_formed : IsWellFormed version_1 image starts.graph

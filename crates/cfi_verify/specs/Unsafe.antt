@@ -1,6 +1,6 @@
 -- Small pairs with one fault each, which are not safe: so safety is not said of everything.
 use Rattle.std.specs.Prelude.{ℕ, ◌+◌, ◌/◌, ◌%◌, ◌^◌, List, [], ◌∷◌, ◌++◌, map, take, drop}
-use Rattle.rv_word.specs.MemoryMap.{START, UNITS_START}
+use Rattle.rv_word.specs.MemoryMap.{START, UNITS_START, version_1, version_2}
 use Rattle.rv_word.specs.Image.{Contents}
 use Rattle.rv_code.specs.Encode.{code_of}
 use Rattle.cfi_graph.specs.Graph.{GraphParts}
@@ -20,7 +20,7 @@ bytes_of (w ∷ ws) = (w % 2 ^ 8) ∷ (w / 2 ^ 8 % 2 ^ 8) ∷ (w / 2 ^ 16 % 2 ^ 
 
 -- the prologue's words; its call goes to the first unit
 abbrev pub prologue : List ℕ
-prologue = map code_of (prologue_instrs UNITS_START)
+prologue = map code_of (prologue_instrs version_1 UNITS_START)
 
 -- the prologue and words after it
 abbrev pub image_with : List ℕ → Contents
@@ -41,7 +41,7 @@ abbrev pub middle_graph : GraphParts
 middle_graph = graph_with 0x58 (Edge UNITS_START 0x40000048 ∷ [])
 
 abbrev pub MiddleIsUnsafe : Type 0
-MiddleIsUnsafe = IsSafe middle middle_graph → ⊥
+MiddleIsUnsafe = IsSafe version_1 middle middle_graph → ⊥
 
 -- a return through x1 without its check
 abbrev pub bare_return : Contents
@@ -51,7 +51,7 @@ abbrev pub bare_return_graph : GraphParts
 bare_return_graph = graph_with 0x48 []
 
 abbrev pub BareReturnIsUnsafe : Type 0
-BareReturnIsUnsafe = IsSafe bare_return bare_return_graph → ⊥
+BareReturnIsUnsafe = IsSafe version_1 bare_return bare_return_graph → ⊥
 
 -- a store without its mask
 abbrev pub bare_store : Contents
@@ -61,7 +61,7 @@ abbrev pub bare_store_graph : GraphParts
 bare_store_graph = graph_with 0x48 []
 
 abbrev pub BareStoreIsUnsafe : Type 0
-BareStoreIsUnsafe = IsSafe bare_store bare_store_graph → ⊥
+BareStoreIsUnsafe = IsSafe version_1 bare_store bare_store_graph → ⊥
 
 -- a plain instruction that writes x3
 abbrev pub moved_pointer : Contents
@@ -71,7 +71,7 @@ abbrev pub moved_pointer_graph : GraphParts
 moved_pointer_graph = graph_with 0x48 []
 
 abbrev pub MovedPointerIsUnsafe : Type 0
-MovedPointerIsUnsafe = IsSafe moved_pointer moved_pointer_graph → ⊥
+MovedPointerIsUnsafe = IsSafe version_1 moved_pointer moved_pointer_graph → ⊥
 
 -- another word in place of the break of the handler of bad targets; the code is one instruction and a
 -- jump there
@@ -109,11 +109,11 @@ breaking_closing_graph = graph_with 0x58 []
 
 -- each stop where it may not come
 pub record WrongStopsAreUnsafe : Type 0 where
-  pub exit : IsSafe exiting_handler handler_graph → ⊥
-  pub load_fault : IsSafe loading_handler handler_graph → ⊥
-  pub store_fault : IsSafe storing_handler handler_graph → ⊥
-  pub illegal : IsSafe illegal_handler handler_graph → ⊥
-  pub break : IsSafe breaking_closing breaking_closing_graph → ⊥
+  pub exit : IsSafe version_1 exiting_handler handler_graph → ⊥
+  pub load_fault : IsSafe version_1 loading_handler handler_graph → ⊥
+  pub store_fault : IsSafe version_1 storing_handler handler_graph → ⊥
+  pub illegal : IsSafe version_1 illegal_handler handler_graph → ⊥
+  pub break : IsSafe version_1 breaking_closing breaking_closing_graph → ⊥
 
 -- the words of units, each after the one before
 abbrev pub code_from : ℕ → List U.Unit → List ℕ
@@ -136,8 +136,8 @@ halted_jump_graph = graph_of 0x78 (Class 1 (0x40000074 ∷ []) ∷ []) (Site UNI
 
 -- a computed transfer that goes where the walk does not, or does not go where its registers say
 pub record WrongTransfersAreUnsafe : Type 0 where
-  pub astray : IsSafe astray_call astray_call_graph → ⊥
-  pub halted : IsSafe halted_jump halted_jump_graph → ⊥
+  pub astray : IsSafe version_1 astray_call astray_call_graph → ⊥
+  pub halted : IsSafe version_1 halted_jump halted_jump_graph → ⊥
 
 -- another word in place of one of the opening's; the code is a jump to a handler
 abbrev pub opening_with : ℕ → ℕ → Contents
@@ -156,5 +156,21 @@ lost_site = opening_with 11 0x0001b023
 
 -- an opening that leaves the shadow stack otherwise than the walk's pending sites stand
 pub record WrongShadowsAreUnsafe : Type 0 where
-  pub pointer : IsSafe high_pointer opening_graph → ⊥
-  pub slot : IsSafe lost_site opening_graph → ⊥
+  pub pointer : IsSafe version_1 high_pointer opening_graph → ⊥
+  pub slot : IsSafe version_1 lost_site opening_graph → ⊥
+
+-- the prologue for several harts; its call goes to the first unit
+abbrev pub prologue_of_harts : List ℕ
+prologue_of_harts = map code_of (prologue_instrs version_2 version_2.units_from)
+
+-- an opening that does not add a hart's own offset to x3, so that each hart's x3 is as hart 0's should
+-- be; the code is a jump to a handler
+abbrev pub one_pointer : Contents
+one_pointer = record { init = []; code = bytes_of (take 8 prologue_of_harts ++ 0x00000013 ∷ drop 9 prologue_of_harts ++ 0xfb1ff06f ∷ []) }
+
+abbrev pub one_pointer_graph : GraphParts
+one_pointer_graph = record { code = 0x54; lines = Call START version_2.units_from ∷ [] }
+
+-- an opening that sets up hart 0 alone: a run of hart 1 shows it
+abbrev pub SharedPartsAreUnsafe : Type 0
+SharedPartsAreUnsafe = IsSafe version_2 one_pointer one_pointer_graph → ⊥

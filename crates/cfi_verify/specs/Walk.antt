@@ -1,6 +1,7 @@
 -- The walk along a graph: from what stands at an address, with the sites that are pending, to the
 -- next address and the sites pending there. Pending sites stand newest first.
-use Rattle.std.specs.Prelude.{◌≡◌, ℕ, ◌+◌, ◌<◌, ◌⊎◌, Bool, true, false, IsTrue, List, [], ◌∷◌, length}
+use Rattle.std.specs.Prelude.{◌≡◌, ℕ, ◌<◌, ◌⊎◌, Bool, true, false, IsTrue, List, [], ◌∷◌, length}
+use Rattle.rv_word.specs.MemoryMap.{Profile}
 use Rattle.cfi_graph.specs.declared.line.GraphLine.{GraphLine}
 use Rattle.cfi_graph.specs.declared.line.SiteKind.{SiteKind}
 use Rattle.cfi_graph.specs.declared.line.SiteKind.TheVariants as K
@@ -11,7 +12,6 @@ use Rattle.cfi_unit.specs.declared.place.Place.{Place}
 use Rattle.cfi_unit.specs.declared.place.Place.TheVariants.{Handler as handler, Opening as opening, Closing as closing, Body as body}
 use Rattle.cfi_unit.specs.declared.target_word.TargetWord.{TargetWord}
 use Rattle.cfi_unit.specs.declared.target_word.TargetWord.TheVariants.{First}
-use Rattle.cfi_unit.specs.Place.{place_size}
 use Rattle.cfi_unit.specs.Shadow.{MOST_PENDING}
 use Rattle.cfi_unit.specs.UnitWords.{BAD_TARGET, BAD_RETURN, DEEP, after_unit}
 use Rattle.cfi_verify.specs.Lines.{holds_of, targets_for, is_among}
@@ -78,8 +78,8 @@ abbrev pub UnitGoes : List GraphLine → U.Unit → ℕ → List ℕ → ℕ →
 UnitGoes lines unit at pending v after = GoesPast lines unit (after_unit unit at) pending v after
 
 -- the step of the walk from what stands at an address: handlers and the closing have none
-abbrev pub Goes : List GraphLine → Place → ℕ → List ℕ → ℕ → List ℕ → Type 0
-Goes lines handler at pending v after = ⊥
-Goes lines (opening entry) at pending v after = CallGoes (at + place_size (opening entry)) entry pending v after
-Goes lines closing at pending v after = ⊥
-Goes lines (body unit) at pending v after = UnitGoes lines unit at pending v after
+abbrev pub Goes : Profile → List GraphLine → Place → ℕ → List ℕ → ℕ → List ℕ → Type 0
+Goes p lines handler at pending v after = ⊥
+Goes p lines (opening entry) at pending v after = CallGoes p.closing entry pending v after
+Goes p lines closing at pending v after = ⊥
+Goes p lines (body unit) at pending v after = UnitGoes lines unit at pending v after

@@ -1,12 +1,12 @@
 //! One pass that tells whether all rules hold, so that the first that fails is looked for only where one does.
 
 ghost use Rattle.std.specs.Prelude.{◌≡◌, ◌+◌, ◌*◌, ◌<◌, ◌≤◌, ◌^◌, ℕ, IfSome, List, None, Some, false, length, true};
-ghost use Rattle.rv_word.specs.MemoryMap.{UNITS_START, version_1};
 ghost use Rattle.cfi_scan.specs.Entries.{is_quiet};
 ghost use Rattle.cfi_verify.specs.Entries.{Tells, count_of, entry_at, fails_gate_at, gate_at};
 ghost use Rattle.cfi_verify.specs.Lines.{line_at};
 ghost use Rattle.cfi_verify.specs.Pass.{HasPassed, HoldsAt, HoldsEarly, NoneStands, ends_in_stop};
 ghost use Rattle.cfi_verify.specs.Rules.{Holds, lacks_gate};
+ghost use Rattle.cfi_verify.specs.Scan.{profile_in};
 ghost use Rattle.cfi_verify.specs.declared.reject.Rule.{Rule};
 
 use crate::first::RULES;
@@ -15,13 +15,12 @@ use crate::rules::is_stop;
 use crate::starts::Starts;
 use cfi_graph::{GraphLine, Key};
 use cfi_scan::Entry;
-use rv_word::profile::UNITS_START;
 
 impl<'a> Starts<'a> {
     /// Whether every rule holds, by one pass over the words and the graph's lines. `false` leaves it
     /// open.
     pub(crate) fn all_hold(&self) -> bool
-        ensures { result ≡ true → (words : List ℕ) → Tells self.now.listing words → (rule : Rule) → Holds version_1 words self.now.graph.lines rule }
+        ensures { result ≡ true → (words : List ℕ) → Tells (profile_in self.now) self.now.listing words → (rule : Rule) → Holds (profile_in self.now) words self.now.graph rule }
     {
         let _count = self.count();
         if !self.prologue_holds() || !self.ends_in_stop() {
@@ -32,7 +31,7 @@ impl<'a> Starts<'a> {
 
     /// Whether no rule that is asked address by address fails at a word of the prologue.
     fn prologue_holds(&self) -> bool
-        ensures { result ≡ true → (rule : Rule) → HoldsEarly self.now.listing self.now.graph.lines rule }
+        ensures { result ≡ true → (rule : Rule) → HoldsEarly (profile_in self.now) self.now.listing self.now.graph rule }
     {
         for rule in &RULES {
             if !self.holds_early(*rule) {
@@ -43,29 +42,29 @@ impl<'a> Starts<'a> {
     }
 
     fn holds_early(&self, rule: Rule) -> bool
-        ensures { result ≡ true → HoldsEarly self.now.listing self.now.graph.lines rule }
+        ensures { result ≡ true → HoldsEarly (profile_in self.now) self.now.listing self.now.graph rule }
     {
         match rule {
             Rule::Gate => true,
-            _ => self.first_index(rule, 16).is_none(),
+            _ => self.first_index(rule, u64::from(self.front())).is_none(),
         }
     }
 
     /// Whether units cover the code and the last of them is a stop.
     fn ends_in_stop(&self) -> bool
-        ensures { result ≡ ends_in_stop self.now.listing }
+        ensures { result ≡ ends_in_stop (profile_in self.now) self.now.listing }
     {
         let done = self.listing().done() as u64;
         let last = self.listing().last() as u64;
-        done == self.count_after() && last < done && is_stop(self.entry_at(UNITS_START + 4 * last))
+        done == self.count_after() && last < done && is_stop(self.word(last))
     }
 
     /// Whether the rules that ask for transfers, gates and lines hold at each word after the prologue
     /// and of each class. Lines stand in the order of their addresses: from one to the next no line
     /// stands.
     fn lines_hold(&self) -> bool
-        ensures words { result ≡ true → (k : ℕ) → k < count_of self.now.listing → HoldsAt self.now.listing self.now.graph.lines (UNITS_START + 4 * k) }
-        ensures gates { result ≡ true → (a : ℕ) → fails_gate_at self.now.listing self.now.graph.lines a ≡ false }
+        ensures words { result ≡ true → (k : ℕ) → k < count_of (profile_in self.now) self.now.listing → HoldsAt (profile_in self.now) self.now.listing self.now.graph ((profile_in self.now).units_from + 4 * k) }
+        ensures gates { result ≡ true → (a : ℕ) → fails_gate_at (profile_in self.now) self.now.listing self.now.graph.lines a ≡ false }
     {
         let mut next = 0;
         for k in 0..self.graph().lines() {
@@ -81,17 +80,18 @@ impl<'a> Starts<'a> {
     /// to it; of a class, if its targets have its gates.
     fn after_line(&self, k: u64, next: u64) -> Option<u64>
         requires within { k < length self.now.graph.lines }
-        requires passed { HasPassed self.now.listing self.now.graph.lines k next }
-        ensures { IfSome result (λ after. HasPassed self.now.listing self.now.graph.lines (k + 1) after) }
+        requires passed { HasPassed (profile_in self.now) self.now.listing self.now.graph k next }
+        ensures { IfSome result (λ after. HasPassed (profile_in self.now) self.now.listing self.now.graph (k + 1) after) }
     {
         let line = self.graph().line(k);
         let Key::Address(address) = line.key() else {
             return self.after_class(line, next);
         };
-        if address < UNITS_START {
+        let start = self.units_from();
+        if address < start {
             return Some(next);
         }
-        let index = (address - UNITS_START) / 4;
+        let index = (address - start) / 4;
         if self.unlisted_hold(next, index) && self.listed_holds(address, line) {
             Some(index + 1)
         } else {
@@ -101,7 +101,7 @@ impl<'a> Starts<'a> {
 
     /// `next`, if each target of a class has the class's gate.
     fn after_class(&self, line: &GraphLine, next: u64) -> Option<u64>
-        ensures { IfSome result (λ after. (after ≡ next) × ((a : ℕ) → lacks_gate (gate_at self.now.listing) a line.now ≡ false)) }
+        ensures { IfSome result (λ after. (after ≡ next) × ((a : ℕ) → lacks_gate (gate_at (profile_in self.now) self.now.listing) a line.now ≡ false)) }
     {
         match self.target_without_gate(line) {
             Some(_) => None,
@@ -111,10 +111,10 @@ impl<'a> Starts<'a> {
 
     /// Whether the rules hold at the word with a line.
     fn listed_holds(&self, address: u64, line: &GraphLine) -> bool
-        requires low { UNITS_START ≤ address }
+        requires low { (profile_in self.now).units_from ≤ address }
         requires small { address < 2 ^ 32 }
         requires here { line_at self.now.graph.lines address ≡ Some line.now }
-        ensures { result ≡ true → HoldsAt self.now.listing self.now.graph.lines address }
+        ensures { result ≡ true → HoldsAt (profile_in self.now) self.now.listing self.now.graph address }
     {
         match line {
             GraphLine::Edge(_, to) => self.edge_at(address) == Some(*to) && self.is_start(*to),
@@ -127,8 +127,8 @@ impl<'a> Starts<'a> {
     /// Whether the rules hold at some words, at none of which a line stands.
     fn unlisted_hold(&self, from: u64, to: u64) -> bool
         requires small { to < 2 ^ 32 }
-        requires unlisted { NoneStands self.now.graph.lines from to }
-        ensures { result ≡ true → (k : ℕ) → from ≤ k → k < to → HoldsAt self.now.listing self.now.graph.lines (UNITS_START + 4 * k) }
+        requires unlisted { NoneStands (profile_in self.now) self.now.graph.lines from to }
+        ensures { result ≡ true → (k : ℕ) → from ≤ k → k < to → HoldsAt (profile_in self.now) self.now.listing self.now.graph ((profile_in self.now).units_from + 4 * k) }
     {
         let mut index = from;
         while index < to {
@@ -148,18 +148,18 @@ impl<'a> Starts<'a> {
         requires { from < to }
         ensures low { from ≤ result }
         ensures high { result ≤ to }
-        ensures quiet { (k : ℕ) → from ≤ k → k < result → is_quiet (entry_at self.now.listing.entries (UNITS_START + 4 * k)) ≡ true }
+        ensures quiet { (k : ℕ) → from ≤ k → k < result → is_quiet (entry_at (profile_in self.now) self.now.listing.entries ((profile_in self.now).units_from + 4 * k)) ≡ true }
     {
         self.listing().next_busy(from as usize, to as usize) as u64
     }
 
     fn unlisted_holds(&self, index: u64) -> bool
         requires small { index < 2 ^ 32 }
-        requires unlisted { line_at self.now.graph.lines (UNITS_START + 4 * index) ≡ None }
-        ensures { result ≡ true → HoldsAt self.now.listing self.now.graph.lines (UNITS_START + 4 * index) }
+        requires unlisted { line_at self.now.graph.lines ((profile_in self.now).units_from + 4 * index) ≡ None }
+        ensures { result ≡ true → HoldsAt (profile_in self.now) self.now.listing self.now.graph ((profile_in self.now).units_from + 4 * index) }
     {
         match self.word(index) {
-            Entry::Gate(label) => !self.is_outside(label.bits(), UNITS_START + 4 * index),
+            Entry::Gate(label) => !self.is_outside(label.bits(), self.units_from() + 4 * index),
             Entry::Inside | Entry::Stop | Entry::Other => true,
             _ => false,
         }

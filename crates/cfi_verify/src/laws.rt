@@ -2,10 +2,9 @@
 //! states one law; nothing is computed.
 ghost use Rattle.cfi_verify.specs.Laws.{CodeIsSplit, WellFormedIsSafe, SafeStaysInPlace, SafeWalksGraph};
 ghost use Rattle.cfi_verify.specs.PlacedLaws.{PlacedAreSplit, PlacedEntry, PlacedIsGraph, PlacedIsWellFormed, PlacedUnits, SplitUnits};
-ghost use Rattle.cfi_verify.specs.Unsafe.{MiddleIsUnsafe, BareReturnIsUnsafe, BareStoreIsUnsafe, MovedPointerIsUnsafe, WrongStopsAreUnsafe, WrongTransfersAreUnsafe, WrongShadowsAreUnsafe};
+ghost use Rattle.cfi_verify.specs.Unsafe.{MiddleIsUnsafe, BareReturnIsUnsafe, BareStoreIsUnsafe, MovedPointerIsUnsafe, WrongStopsAreUnsafe, WrongTransfersAreUnsafe, WrongShadowsAreUnsafe, SharedPartsAreUnsafe};
 
-/// An image and a graph that meet the rules are safe.
-#[tactic(auto, using(crate::proofs::Safety::well_formed_safe))]
+/// An image and a graph that meet the rules are safe, whatever the profile and however many harts run.
 pub fn well_formed_is_safe()
     ensures { WellFormedIsSafe }
 {}
@@ -16,13 +15,13 @@ pub fn code_is_split()
     ensures { CodeIsSplit }
 {}
 
-/// The walk of each run of a safe pair is a list of steps of the graph walk.
+/// The walk of each hart in each run of a safe pair is a list of steps of the graph walk.
 pub fn safe_walks_graph()
     ensures { SafeWalksGraph }
 {}
 
-/// Each begun instruction of each run of a safe pair is a word of what stands at the newest address of
-/// the walk, and ends as it may there.
+/// Each begun instruction of each hart in each run of a safe pair is a word of what stands at the newest
+/// address of the hart's walk, and ends as it may there.
 pub fn safe_stays_in_place()
     ensures { SafeStaysInPlace }
 {}
@@ -94,4 +93,9 @@ pub fn wrong_transfers_are_unsafe()
 /// An image whose opening leaves x3 one slot too high, or another word in the site's slot, is not safe.
 pub fn wrong_shadows_are_unsafe()
     ensures { WrongShadowsAreUnsafe }
+{}
+
+/// An image for several harts whose opening gives each hart the shadow pointer of hart 0 is not safe.
+pub fn shared_parts_are_unsafe()
+    ensures { SharedPartsAreUnsafe }
 {}

@@ -1,7 +1,7 @@
 ghost use Rattle.std.specs.Prelude.{◌≡◌, ◌+◌, ◌/◌, ◌<◌, ◌≤◌, ◌^◌, ◌++◌, ℕ, List, IfErr, IfOk, length};
 ghost use Rattle.std.specs.List.{concat};
 ghost use Rattle.rv_word.specs.Image.{Contents};
-ghost use Rattle.rv_word.specs.MemoryMap.{version_1};
+ghost use Rattle.rv_word.specs.MemoryMap.{profile_of};
 ghost use Rattle.cfi_scan.specs.Pieces.{HasSeen};
 ghost use Rattle.cfi_verify.specs.Answer.{IsCause};
 ghost use Rattle.cfi_verify.specs.Entries.{Tells};
@@ -17,20 +17,23 @@ use rv_word::Bytes;
 use std::alloc::Global;
 use std::sync::ledger::Ledger;
 
-/// Asks the ten rules of a code that comes in pieces, and of a graph. However the code is cut, the answer
-/// is that on the whole, and each word is read at most once: a step is the reading of a word.
+/// Asks the ten rules of the code of an image of a version, which comes in pieces, and of a graph. However
+/// the code is cut, the answer is that on the whole, and each word is read at most once: a step is the
+/// reading of a word.
 pub fn scan_pieces<'a, L: Ledger>(
     alloc: Global,
+    version: u8,
     graph: &'a Graph,
     pieces: &[Bytes],
     steps: &mut Steps<L>,
 ) -> Result<Starts<'a>, VerifyEnd>
     requires small { length (concat pieces.now) < 2 ^ 32 }
-    ensures accepted { (image : Contents) → image.code ≡ concat pieces.now → IfOk result (λ s. (s.graph ≡ graph.now) × Tells s.listing (code_words image.code) × IsWellFormed version_1 image graph.now) }
-    ensures rejected { (image : Contents) → image.code ≡ concat pieces.now → IfErr result (IsCause version_1 image graph.now) }
+    ensures version { IfOk result (λ s. s.listing.version ≡ version) }
+    ensures accepted { (image : Contents) → image.code ≡ concat pieces.now → IfOk result (λ s. (s.graph ≡ graph.now) × Tells (profile_of version) s.listing (code_words image.code) × IsWellFormed (profile_of version) image graph.now) }
+    ensures rejected { (image : Contents) → image.code ≡ concat pieces.now → IfErr result (IsCause (profile_of version) image graph.now) }
     ensures cost { steps.new ≤ steps.old + length (concat pieces.now) / 4 }
 {
-    let mut scan = Scan::new(alloc, graph)?;
+    let mut scan = Scan::new(alloc, version, graph)?;
     feed_pieces(&mut scan, pieces, steps);
     match scan.finish() {
         Err(reject) => Err(VerifyEnd::Reject(reject)),
@@ -41,7 +44,8 @@ pub fn scan_pieces<'a, L: Ledger>(
 /// Feeds pieces in their order.
 fn feed_pieces<L: Ledger>(scan: &mut Scan<'_>, pieces: &[Bytes], steps: &mut Steps<L>)
     requires small { scan.old.seen.fed + length (concat pieces.now) < 2 ^ 32 }
-    ensures seen { (bytes : List ℕ) → HasSeen version_1 scan.old.seen bytes → HasSeen version_1 scan.new.seen (bytes ++ concat pieces.now) }
+    ensures seen { (bytes : List ℕ) → HasSeen (profile_of scan.old.seen.version) scan.old.seen bytes → HasSeen (profile_of scan.old.seen.version) scan.new.seen (bytes ++ concat pieces.now) }
+    ensures version { scan.new.seen.version ≡ scan.old.seen.version }
     ensures graph { scan.new.graph ≡ scan.old.graph }
     ensures fed { scan.new.seen.fed ≡ scan.old.seen.fed + length (concat pieces.now) }
     ensures cost { steps.new + scan.old.seen.fed / 4 ≡ steps.old + scan.new.seen.fed / 4 }

@@ -3,6 +3,7 @@
 ghost use Rattle.std.specs.Prelude.{◌≡◌, ◌<◌, ◌^◌};
 ghost use Rattle.cfi_unit.specs.Recognise.{led_to, near_to};
 ghost use Rattle.cfi_verify.specs.Entries.{call_at, edge_at, gate_at, site_at};
+ghost use Rattle.cfi_verify.specs.Scan.{profile_in};
 
 use crate::starts::Starts;
 use cfi_graph::SiteKind;
@@ -42,7 +43,7 @@ impl<'a> Starts<'a> {
     /// Where the branch or the jump at an address leads.
     pub(crate) fn edge_at(&self, address: u64) -> Option<u64>
         requires { address < 2 ^ 32 }
-        ensures { result ≡ edge_at self.now.listing address }
+        ensures { result ≡ edge_at (profile_in self.now) self.now.listing address }
     {
         match self.entry_at(address) {
             Entry::Near(field) => Some(led_near(address, field)),
@@ -55,7 +56,7 @@ impl<'a> Starts<'a> {
     /// Where the opening or the call at an address leads.
     pub(crate) fn call_at(&self, address: u64) -> Option<u64>
         requires { address < 2 ^ 32 }
-        ensures { result ≡ call_at self.now.listing address }
+        ensures { result ≡ call_at (profile_in self.now) self.now.listing address }
     {
         if address == START {
             return self.entry();
@@ -68,7 +69,7 @@ impl<'a> Starts<'a> {
 
     /// What the computed transfer at an address asks for.
     pub(crate) fn site_at(&self, address: u64) -> Option<Asks>
-        ensures { result ≡ site_at self.now.listing address }
+        ensures { result ≡ site_at (profile_in self.now) self.now.listing address }
     {
         match self.entry_at(address) {
             Entry::Ijump(label) => Some(Asks {
@@ -87,7 +88,7 @@ impl<'a> Starts<'a> {
 
     /// The label of the gate at an address.
     pub(crate) fn gate_at(&self, address: u64) -> Option<u32>
-        ensures { result ≡ gate_at self.now.listing address }
+        ensures { result ≡ gate_at (profile_in self.now) self.now.listing address }
     {
         match self.entry_at(address) {
             Entry::Gate(label) => Some(label.bits()),

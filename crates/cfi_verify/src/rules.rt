@@ -2,6 +2,8 @@
 
 ghost use Rattle.std.specs.Prelude.{◌≡◌, ◌≢◌, ◌+◌, ◌*◌, ◌<◌, ◌==◌, ◌^◌, not};
 ghost use Rattle.std.specs.Option.{option_copied};
+ghost use Rattle.rv_word.specs.MemoryMap.{profile_of, version_1, version_2};
+ghost use Rattle.cfi_scan.specs.Pieces.{prologue_count};
 ghost use Rattle.cfi_verify.specs.Entries.{
   count_of,
   fails_astray_at,
@@ -26,6 +28,7 @@ ghost use Rattle.cfi_verify.specs.Rules.{
   is_site_with,
   prologue_word_fits,
 };
+ghost use Rattle.cfi_verify.specs.Scan.{profile_in};
 ghost use Rattle.cfi_verify.specs.declared.reject.Rule.TheVariants as R;
 
 use crate::lines::is_among;
@@ -37,9 +40,8 @@ use cfi_scan::Entry;
 use rv_code::decode;
 use rv_instr::Instr;
 use rv_word::memory_map::CODE_START;
-use rv_word::profile::UNITS_START;
 
-/// The prologue's words. Word 13 is the opening's `jal x1` to the entry, which may lead anywhere.
+/// The prologue's words in version 1. Word 13 is the opening's `jal x1` to the entry, which may lead anywhere.
 const PROLOGUE: [u32; 16] = [
     0x0010_0073,
     0x0010_0073,
@@ -59,16 +61,65 @@ const PROLOGUE: [u32; 16] = [
     0x0000_0073,
 ];
 
-/// Whether a word may be the prologue's word with this index.
-fn is_prologue_word(index: usize, word: Option<u32>) -> bool
+/// Those in version 2, for several harts. Here it is word 17.
+const PROLOGUE_OF_HARTS: [u32; 20] = [
+    0x0010_0073,
+    0x0010_0073,
+    0x0010_0073,
+    0x1000_0137,
+    0x0145_1f93,
+    0x41f1_0133,
+    0x6000_01b7,
+    0x0105_1f93,
+    0x01f1_81b3,
+    0x0081_8193,
+    0x0301_9f13,
+    0x000f_1463,
+    0xfd9f_f06f,
+    0x0000_0f17,
+    0x014f_0f13,
+    0x01e1_b023,
+    0x0081_8193,
+    0x00c0_00ef,
+    0x05d0_0893,
+    0x0000_0073,
+];
+
+/// Whether a word may be the word with this index of a version's prologue.
+fn is_prologue_word(version: u8, index: usize, word: Option<u32>) -> bool
+    requires { index < prologue_count (profile_of version) }
+    ensures { result ≡ prologue_word_fits (profile_of version) index word }
+{
+    if version == 1 {
+        is_word_of_lone(index, word)
+    } else {
+        is_word_of_several(index, word)
+    }
+}
+
+/// The same in version 1.
+fn is_word_of_lone(index: usize, word: Option<u32>) -> bool
     requires { index < 16 }
-    ensures { result ≡ prologue_word_fits index word }
+    ensures { result ≡ prologue_word_fits version_1 index word }
 {
     let Some(word) = word else { return false };
     if index == 13 {
         is_link(decode(word).as_ref())
     } else {
         word == PROLOGUE[index]
+    }
+}
+
+/// The same in version 2.
+fn is_word_of_several(index: usize, word: Option<u32>) -> bool
+    requires { index < 20 }
+    ensures { result ≡ prologue_word_fits version_2 index word }
+{
+    let Some(word) = word else { return false };
+    if index == 17 {
+        is_link(decode(word).as_ref())
+    } else {
+        word == PROLOGUE_OF_HARTS[index]
     }
 }
 
@@ -87,7 +138,7 @@ impl<'a> Starts<'a> {
     pub(crate) fn fails(&self, rule: Rule, address: u64) -> bool
         requires by_address { rule ≢ R.Gate }
         requires small { address < 2 ^ 32 }
-        ensures { result ≡ fails_at rule self.now.listing self.now.graph.lines address }
+        ensures { result ≡ fails_at (profile_in self.now) rule self.now.listing self.now.graph address }
     {
         match rule {
             Rule::Prologue => self.fails_prologue(address),
@@ -103,32 +154,36 @@ impl<'a> Starts<'a> {
     }
 
     fn fails_prologue(&self, address: u64) -> bool
-        ensures { result ≡ fails_prologue self.now.listing.prologue address }
+        ensures { result ≡ fails_prologue (profile_in self.now) self.now.listing.prologue address }
     {
-        if address < CODE_START || address > CODE_START + 60 || address % 4 != 0 {
+        if address < CODE_START || address > self.units_from() - 4 || address % 4 != 0 {
             return false;
         }
         let index = ((address - CODE_START) / 4) as usize;
-        !is_prologue_word(index, self.listing().prologue().get(index).copied())
+        !is_prologue_word(
+            self.version(),
+            index,
+            self.listing().prologue().get(index).copied(),
+        )
     }
 
     /// How many words follow the prologue.
     pub(crate) fn count_after(&self) -> u64
-        ensures value { result ≡ count_of self.now.listing }
+        ensures value { result ≡ count_of (profile_in self.now) self.now.listing }
         ensures room { result < 2 ^ 32 }
     {
-        u64::from(self.count().saturating_sub(16))
+        u64::from(self.count().saturating_sub(self.front()))
     }
 
     fn fails_unit(&self, address: u64) -> bool
-        ensures { result ≡ fails_unit_at self.now.listing address }
+        ensures { result ≡ fails_unit_at (profile_in self.now) self.now.listing address }
     {
         let done = self.listing().done() as u64;
-        done < self.count_after() && address == UNITS_START + 4 * done
+        done < self.count_after() && address == self.units_from() + 4 * done
     }
 
     fn misses_start(&self, target: Option<u64>) -> bool
-        ensures { result ≡ misses_start self.now.listing target }
+        ensures { result ≡ misses_start (profile_in self.now) self.now.listing target }
     {
         match target {
             Some(target) => !self.is_start(target),
@@ -138,7 +193,7 @@ impl<'a> Starts<'a> {
 
     fn fails_target(&self, address: u64) -> bool
         requires { address < 2 ^ 32 }
-        ensures { result ≡ fails_target_at self.now.listing address }
+        ensures { result ≡ fails_target_at (profile_in self.now) self.now.listing address }
     {
         self.misses_start(self.edge_at(address)) || self.misses_start(self.call_at(address))
     }
@@ -163,7 +218,7 @@ impl<'a> Starts<'a> {
 
     fn fails_unlisted(&self, address: u64) -> bool
         requires { address < 2 ^ 32 }
-        ensures { result ≡ fails_unlisted_at self.now.listing self.now.graph.lines address }
+        ensures { result ≡ fails_unlisted_at (profile_in self.now) self.now.listing self.now.graph.lines address }
     {
         self.lacks_edge(address, self.edge_at(address))
             || self.lacks_call(address, self.call_at(address))
@@ -171,7 +226,7 @@ impl<'a> Starts<'a> {
 
     fn fails_unused(&self, address: u64) -> bool
         requires { address < 2 ^ 32 }
-        ensures { result ≡ fails_unused_at self.now.listing self.now.graph.lines address }
+        ensures { result ≡ fails_unused_at (profile_in self.now) self.now.listing self.now.graph.lines address }
     {
         match self.line_at(address) {
             Some(GraphLine::Edge(..)) => self.edge_at(address).is_none(),
@@ -181,7 +236,7 @@ impl<'a> Starts<'a> {
     }
 
     fn fails_site(&self, address: u64) -> bool
-        ensures { result ≡ fails_site_at self.now.listing self.now.graph.lines address }
+        ensures { result ≡ fails_site_at (profile_in self.now) self.now.listing self.now.graph.lines address }
     {
         self.fails_site_with(address, self.line_at(address))
     }
@@ -189,7 +244,7 @@ impl<'a> Starts<'a> {
     /// The same, of the line that stands there.
     pub(crate) fn fails_site_with(&self, address: u64, line: Option<&GraphLine>) -> bool
         requires { option_copied line ≡ line_at self.now.graph.lines address }
-        ensures { result ≡ fails_site_at self.now.listing self.now.graph.lines address }
+        ensures { result ≡ fails_site_at (profile_in self.now) self.now.listing self.now.graph.lines address }
     {
         match self.site_at(address) {
             Some(asked) => !(is_site_with(line, asked) && self.targets_for(asked).is_some()),
@@ -198,7 +253,7 @@ impl<'a> Starts<'a> {
     }
 
     fn fails_astray(&self, address: u64) -> bool
-        ensures { result ≡ fails_astray_at self.now.listing self.now.graph.lines address }
+        ensures { result ≡ fails_astray_at (profile_in self.now) self.now.listing self.now.graph.lines address }
     {
         match self.gate_at(address) {
             Some(label) => self.is_outside(label, address),
@@ -225,20 +280,20 @@ impl<'a> Starts<'a> {
 
     /// Whether the last unit starts at an address, ends the code and is no stop.
     fn is_bad_end(&self, address: u64) -> bool
-        ensures { result ≡ is_bad_end_at self.now.listing address }
+        ensures { result ≡ is_bad_end_at (profile_in self.now) self.now.listing address }
     {
         let done = self.listing().done() as u64;
         let last = self.listing().last() as u64;
         done == self.count_after()
             && last < done
-            && address == UNITS_START + 4 * last
+            && address == self.units_from() + 4 * last
             && !is_stop(self.entry_at(address))
     }
 
     fn fails_end(&self, address: u64) -> bool
-        ensures { result ≡ fails_end_at self.now.listing address }
+        ensures { result ≡ fails_end_at (profile_in self.now) self.now.listing address }
     {
-        self.is_bad_end(address) || (address == UNITS_START && self.count() <= 16)
+        self.is_bad_end(address) || (address == self.units_from() && self.count() <= self.front())
     }
 }
 

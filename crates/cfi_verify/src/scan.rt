@@ -1,6 +1,6 @@
 ghost use Rattle.std.specs.Prelude.{◌≡◌, ◌≢◌, ◌+◌, ◌/◌, ◌<◌, ◌^◌, ℕ, List, IfErr, IfOk, [], ◌++◌, length};
 ghost use Rattle.rv_word.specs.Image.{Contents};
-ghost use Rattle.rv_word.specs.MemoryMap.{version_1};
+ghost use Rattle.rv_word.specs.MemoryMap.{profile_of};
 ghost use Rattle.cfi_scan.specs.Pieces.{HasSeen};
 ghost use Rattle.cfi_verify.specs.Entries.{Tells};
 ghost use Rattle.cfi_verify.specs.Rules.{IsRejected, IsWellFormed};
@@ -24,23 +24,25 @@ pub struct Scan<'a> {
 }
 
 impl<'a> Model for Scan<'a> {
+    ghost use Rattle.rv_word.specs.MemoryMap.{profile_of};
     ghost use Rattle.cfi_verify.specs.Scan.{IsScan, Scanned};
 
     ghost Value = { Scanned };
 
     ghost view = { λ s. record { seen = s.feeder; graph = s.graph.now } };
 
-    ghost invariant = { λ s. IsScan s.feeder s.graph.now };
+    ghost invariant = { λ s. IsScan (profile_of s.feeder.version) s.feeder s.graph.now };
 }
 
 impl<'a> Scan<'a> {
-    /// No byte yet, and room for a code of the graph's length.
-    pub fn new(alloc: Global, graph: &'a Graph) -> Result<Scan<'a>, NoMemory>
-        ensures seen { IfOk result (λ s. HasSeen version_1 s.seen []) }
+    /// No byte yet, and room for a code of the graph's length, of an image of a version.
+    pub fn new(alloc: Global, version: u8, graph: &'a Graph) -> Result<Scan<'a>, NoMemory>
+        ensures version { IfOk result (λ s. s.seen.version ≡ version) }
+        ensures seen { IfOk result (λ s. HasSeen (profile_of version) s.seen []) }
         ensures graph { IfOk result (λ s. s.graph ≡ graph.now) }
     {
         let words = (graph.code() / 4) as usize;
-        let feeder = Feeder::new(alloc, words)?;
+        let feeder = Feeder::new(alloc, version, words)?;
         Ok(Scan { feeder, graph })
     }
 
@@ -54,7 +56,8 @@ impl<'a> Scan<'a> {
     /// Takes a piece. Each word is read once, when its last byte has come.
     pub fn feed<L: Ledger>(&mut self, piece: &[u8], steps: &mut Steps<L>)
         requires small { self.old.seen.fed + length piece.now < 2 ^ 32 }
-        ensures seen { (bytes : List ℕ) → HasSeen version_1 self.old.seen bytes → HasSeen version_1 self.new.seen (bytes ++ piece.now) }
+        ensures seen { (bytes : List ℕ) → HasSeen (profile_of self.old.seen.version) self.old.seen bytes → HasSeen (profile_of self.old.seen.version) self.new.seen (bytes ++ piece.now) }
+        ensures version { self.new.seen.version ≡ self.old.seen.version }
         ensures graph { self.new.graph ≡ self.old.graph }
         ensures fed { self.new.seen.fed ≡ self.old.seen.fed + length piece.now }
         ensures cost { steps.new + self.old.seen.fed / 4 ≡ steps.old + self.new.seen.fed / 4 }
@@ -64,8 +67,9 @@ impl<'a> Scan<'a> {
 
     /// Asks the ten rules, in their order, of the code that has come and the graph.
     pub fn finish(self) -> Result<Starts<'a>, Reject>
-        ensures accepted { (image : Contents) → HasSeen version_1 self.entry.seen image.code → IfOk result (λ s. (s.graph ≡ self.entry.graph) × Tells s.listing (code_words image.code) × IsWellFormed version_1 image self.entry.graph) }
-        ensures rejected { (image : Contents) → HasSeen version_1 self.entry.seen image.code → IfErr result (IsRejected version_1 image self.entry.graph) }
+        ensures version { IfOk result (λ s. s.listing.version ≡ self.entry.seen.version) }
+        ensures accepted { (image : Contents) → HasSeen (profile_of self.entry.seen.version) self.entry.seen image.code → IfOk result (λ s. (s.graph ≡ self.entry.graph) × Tells (profile_of self.entry.seen.version) s.listing (code_words image.code) × IsWellFormed (profile_of self.entry.seen.version) image self.entry.graph) }
+        ensures rejected { (image : Contents) → HasSeen (profile_of self.entry.seen.version) self.entry.seen image.code → IfErr result (IsRejected (profile_of self.entry.seen.version) image self.entry.graph) }
     {
         let Scan { feeder, graph } = self;
         let listing = feeder.finish();

@@ -1,13 +1,14 @@
 //! Where units start, with the graph.
 
-ghost use Rattle.std.specs.Prelude.{◌≡◌, ◌+◌, ◌*◌, ◌/◌, ◌≤◌, IfSome, IsTrue, nat_lt};
+ghost use Rattle.std.specs.Prelude.{◌≡◌, ◌+◌, ◌*◌, ◌/◌, ◌%◌, ◌≤◌, IfSome, IsTrue, nat_lt};
 ghost use Rattle.std.specs.Option.{option_copied};
-ghost use Rattle.rv_word.specs.MemoryMap.{CODE_SIZE, UNITS_START, version_1};
+ghost use Rattle.rv_word.specs.MemoryMap.{CODE_SIZE, CODE_START};
 ghost use Rattle.cfi_graph.specs.Graph.{IsGraph, is_rising};
+ghost use Rattle.cfi_scan.specs.Pieces.{prologue_count};
 ghost use Rattle.cfi_scan.specs.declared.entry.Entry.TheVariants as E;
 ghost use Rattle.cfi_verify.specs.Entries.{entry_at, or_inside, starts_at};
 ghost use Rattle.cfi_verify.specs.Lines.{class_of, line_at, targets_for};
-ghost use Rattle.cfi_verify.specs.Scan.{AreStarts};
+ghost use Rattle.cfi_verify.specs.Scan.{AreStarts, profile_in};
 ghost use Rattle.cfi_verify.specs.Split.{entry_of};
 
 use crate::lines;
@@ -16,7 +17,7 @@ use cfi_graph::{Graph, GraphLine};
 use cfi_scan::{Entry, Listing};
 use rv_code::decode;
 use rv_instr::Instr;
-use rv_word::profile::{OPENING_CALL, UNITS_START};
+use rv_word::memory_map::CODE_START;
 use rv_word::sext;
 use std::marker::Model;
 
@@ -56,6 +57,48 @@ impl<'a> Starts<'a> {
         self.listing.fed() / 4
     }
 
+    /// The version of the image.
+    pub(crate) fn version(&self) -> u8
+        ensures { result ≡ self.now.listing.version }
+    {
+        self.listing.version()
+    }
+
+    /// How many words the prologue has.
+    pub(crate) fn front(&self) -> u32
+        ensures count { result ≡ prologue_count (profile_in self.now) }
+        ensures most { result ≤ 20 }
+        ensures place { CODE_START + 4 * result ≡ (profile_in self.now).units_from }
+    {
+        self.listing.front_words() as u32
+    }
+
+    /// Where the first unit stands.
+    pub(crate) fn units_from(&self) -> u64
+        ensures at { result ≡ (profile_in self.now).units_from }
+        ensures low { CODE_START + 64 ≤ result }
+        ensures high { result ≤ CODE_START + 80 }
+        ensures round { result % 4 ≡ 0 }
+    {
+        self.listing.units_start()
+    }
+
+    /// Where the opening calls the program's entry.
+    fn opening_call(&self) -> u64
+        ensures at { result ≡ (profile_in self.now).opening_call }
+        ensures low { CODE_START ≤ result }
+        ensures high { result ≤ CODE_START + 80 }
+    {
+        self.units_from() - 12
+    }
+
+    /// The prologue's closing.
+    pub(crate) fn closing(&self) -> u64
+        ensures { result ≡ (profile_in self.now).closing }
+    {
+        self.units_from() - 8
+    }
+
     /// What is left of the code.
     pub(crate) fn listing(&self) -> &Listing
         ensures { result.now ≡ self.now.listing }
@@ -73,10 +116,11 @@ impl<'a> Starts<'a> {
     /// The entry of the word at an address.
     #[tactic(auto, unfolding(crate::specs::Entries::entry_at))]
     pub(crate) fn entry_at(&self, address: u64) -> Entry
-        ensures { result ≡ entry_at self.now.listing.entries address }
+        ensures { result ≡ entry_at (profile_in self.now) self.now.listing.entries address }
     {
-        if address >= UNITS_START && address % 4 == 0 {
-            or_inside(self.listing.entry(((address - UNITS_START) / 4) as usize))
+        let start = self.units_from();
+        if address >= start && address % 4 == 0 {
+            or_inside(self.listing.entry(((address - start) / 4) as usize))
         } else {
             Entry::Inside
         }
@@ -85,7 +129,7 @@ impl<'a> Starts<'a> {
     /// The entry of a word, counted from the first after the prologue.
     #[tactic(auto, unfolding(crate::specs::Entries::entry_at))]
     pub(crate) fn word(&self, index: u64) -> Entry
-        ensures { result ≡ entry_at self.now.listing.entries (UNITS_START + 4 * index) }
+        ensures { result ≡ entry_at (profile_in self.now) self.now.listing.entries ((profile_in self.now).units_from + 4 * index) }
     {
         or_inside(self.listing.entry(index as usize))
     }
@@ -93,10 +137,11 @@ impl<'a> Starts<'a> {
     /// Whether an address is the start of a unit.
     #[tactic(auto, unfolding(crate::specs::Entries::entry_at), using(crate::proofs::Started::started))]
     pub(crate) fn is_start(&self, address: u64) -> bool
-        ensures { result ≡ starts_at self.now.listing address }
+        ensures { result ≡ starts_at (profile_in self.now) self.now.listing address }
     {
-        if address >= UNITS_START && address % 4 == 0 {
-            self.listing.starts(((address - UNITS_START) / 4) as usize)
+        let start = self.units_from();
+        if address >= start && address % 4 == 0 {
+            self.listing.starts(((address - start) / 4) as usize)
         } else {
             false
         }
@@ -104,12 +149,12 @@ impl<'a> Starts<'a> {
 
     /// Where the opening's call leads.
     pub(crate) fn entry(&self) -> Option<u64>
-        ensures { result ≡ entry_of version_1 self.now.listing.prologue }
+        ensures { result ≡ entry_of (profile_in self.now) self.now.listing.prologue }
     {
-        match decode(*self.listing.prologue().get(13)?)? {
-            Instr::Jal(_, field) => {
-                Some(OPENING_CALL.wrapping_add(sext(u64::from(field.bits()) * 2, 21)))
-            }
+        let call = self.opening_call();
+        let index = ((call - CODE_START) / 4) as usize;
+        match decode(*self.listing.prologue().get(index)?)? {
+            Instr::Jal(_, field) => Some(call.wrapping_add(sext(u64::from(field.bits()) * 2, 21))),
             _ => None,
         }
     }

@@ -1,6 +1,6 @@
 ghost use Rattle.std.specs.Prelude.{◌≡◌, ◌+◌, ◌<◌, ◌^◌, ◌++◌, ℕ, List, length, IfErr, IfOk, IfSome, IsTrue, OnOk, is_some, nat_lt};
 ghost use Rattle.std.specs.Option.{option_copied};
-ghost use Rattle.rv_word.specs.MemoryMap.{version_1};
+ghost use Rattle.rv_word.specs.MemoryMap.{profile_of, version_1};
 ghost use Rattle.cfi_graph.specs.Graph.{is_rising};
 ghost use Rattle.cfi_verify.specs.Along.{IsSafe};
 ghost use Rattle.cfi_verify.specs.Answer.{IsCause};
@@ -21,7 +21,7 @@ use cfi_graph::Graph;
 use cfi_scan::Steps;
 use cfi_unit::handlers::{BAD_RETURN, BAD_TARGET, DEEP};
 use cfi_unit::{Place, Unit};
-use rv_word::profile::{CLOSING, START, UNITS_START};
+use rv_word::profile::START;
 use rv_word::{Image, NoMemory};
 use std::alloc::Global;
 use std::marker::{Brand, Model};
@@ -89,7 +89,7 @@ impl<'a> Checked<'a> {
 
     /// Tells a proof that the pair is safe; nothing is computed.
     pub fn is_safe(&self)
-        ensures { IsSafe self.now.image self.now.graph }
+        ensures { IsSafe version_1 self.now.image self.now.graph }
     {
         are_bytes(self.image);
         // Tells the proof that the pair meets the rules.
@@ -115,6 +115,20 @@ impl<'a> Checked<'a> {
         self.starts.entry()
     }
 
+    /// Where the first unit stands.
+    fn units_from(&self) -> u64
+        ensures { result ≡ version_1.units_from }
+    {
+        self.starts.units_from()
+    }
+
+    /// The prologue's closing.
+    fn closing(&self) -> u64
+        ensures { result ≡ version_1.closing }
+    {
+        self.starts.closing()
+    }
+
     /// What stands at an address, the prologue's parts among it; `None` where nothing starts.
     #[tactic(auto, unfolding(crate::specs::Split::place_at))]
     pub fn place_at(&self, address: u64) -> Option<Place>
@@ -123,10 +137,12 @@ impl<'a> Checked<'a> {
         if is_handler(address) {
             return Some(Place::Handler);
         }
-        match address {
-            START => Some(Place::Opening(self.entry()?)),
-            CLOSING => Some(Place::Closing),
-            _ => Some(Place::Body(self.unit_at(address)?)),
+        if address == START {
+            Some(Place::Opening(self.entry()?))
+        } else if address == self.closing() {
+            Some(Place::Closing)
+        } else {
+            Some(Place::Body(self.unit_at(address)?))
         }
     }
 
@@ -134,7 +150,8 @@ impl<'a> Checked<'a> {
     pub fn is_place(&self, address: u64) -> bool
         ensures { result ≡ is_some (place_at version_1 (code_words self.now.image.code) address) }
     {
-        if address >= UNITS_START {
+        let start = self.units_from();
+        if address >= start {
             return self.starts.is_start(address);
         }
         self.is_prologue(address)
@@ -144,7 +161,9 @@ impl<'a> Checked<'a> {
     fn is_prologue(&self, address: u64) -> bool
         ensures { result ≡ starts_prologue version_1 (code_words self.now.image.code) address }
     {
-        is_handler(address) || address == CLOSING || address == START && self.entry().is_some()
+        is_handler(address)
+            || address == self.closing()
+            || address == START && self.entry().is_some()
     }
 
     /// The targets of the graph's class with a label.
@@ -186,11 +205,11 @@ pub fn verify<'a>(
     graph: &'a Graph,
 ) -> Result<Checked<'a>, VerifyEnd>
     ensures accepted { IfOk result (λ c. (c.image ≡ image.now) × (c.graph ≡ graph.now) × IsWellFormed version_1 image.now graph.now) }
-    ensures safe { OnOk result (IsSafe image.now graph.now) }
+    ensures safe { OnOk result (IsSafe version_1 image.now graph.now) }
     ensures rejected { IfErr result (IsCause version_1 image.now graph.now) }
 {
     are_bytes(image);
-    let mut scan = Scan::new(alloc, graph)?;
+    let mut scan = Scan::new(alloc, 1, graph)?;
     feed_code::<Brand>(&mut scan, image.code(), Blank::new(1));
     match scan.finish() {
         Err(reject) => Err(VerifyEnd::Reject(reject)),
@@ -204,7 +223,8 @@ fn feed_code<L: Ledger>(scan: &mut Scan<'_>, code: &[u8], blank: Blank)
     requires parts { blank.parts ≡ L.parts }
     requires some { 0 < L.parts }
     requires small { scan.old.seen.fed + length code.now < 2 ^ 32 }
-    ensures seen { (bytes : List ℕ) → HasSeen version_1 scan.old.seen bytes → HasSeen version_1 scan.new.seen (bytes ++ code.now) }
+    ensures seen { (bytes : List ℕ) → HasSeen (profile_of scan.old.seen.version) scan.old.seen bytes → HasSeen (profile_of scan.old.seen.version) scan.new.seen (bytes ++ code.now) }
+    ensures version { scan.new.seen.version ≡ scan.old.seen.version }
     ensures graph { scan.new.graph ≡ scan.old.graph }
 {
     let mut steps = Steps::<L>::new(blank);

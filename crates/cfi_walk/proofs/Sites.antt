@@ -1,13 +1,13 @@
 -- A step leaves sites pending: what it puts on top lies above the handlers.
-use Rattle.std.proofs.Common.{◌≡◌, ℕ, ◌+◌, ◌<◌, ◌≤◌, inl, inr, List, [], ◌∷◌, sym, subst, arith}
-use Rattle.rv_word.specs.MemoryMap.{CODE_START}
+use Rattle.std.proofs.Common.{◌≡◌, ℕ, ◌<◌, ◌≤◌, inl, inr, List, [], ◌∷◌, sym, subst, arith}
+use Rattle.rv_word.specs.MemoryMap.{CODE_START, Profile}
+use Rattle.rv_word.proofs.Versions.{LaidOut, laid_out}
 use Rattle.cfi_graph.specs.declared.line.GraphLine.{GraphLine}
 use Rattle.cfi_unit.specs.declared.unit.Unit as U
 use Rattle.cfi_unit.specs.declared.unit.Unit.TheVariants as V
 use Rattle.cfi_unit.specs.declared.unit.SystemOp.TheVariants as S
 use Rattle.cfi_unit.specs.declared.place.Place.{Place}
 use Rattle.cfi_unit.specs.declared.place.Place.TheVariants.{Handler as handler, Opening as opening, Closing as closing, Body as body}
-use Rattle.cfi_unit.specs.Place.{place_size}
 use Rattle.cfi_unit.specs.UnitWords.{DEEP, after_unit}
 use Rattle.cfi_verify.specs.Split.{code_words}
 use Rattle.cfi_verify.specs.Walk.{CallGoes, JumpGoes, ComputedCallGoes, ReturnGoes, UnitGoes, Goes}
@@ -52,12 +52,13 @@ unit_keeps lines (V.Ijump rs1 imm label) at pending v after low h g = jump_keeps
 unit_keeps lines (V.Icall rs1 imm label) at pending v after low h g = computed_call_keeps lines (after_unit (V.Icall rs1 imm label) at) label pending v after (omega arith) h g
 unit_keeps lines V.Return at pending v after low h g = return_keeps pending v after h g
 
-place_keeps : (lines : List GraphLine) (place : Place) (at : ℕ) (pending : List ℕ) (v : ℕ) (after : List ℕ) → CODE_START ≤ at → AreSites pending → Goes lines place at pending v after → AreSites after
-place_keeps lines handler at pending v after low h g = absurd g
-place_keeps lines (opening entry) at pending v after low h g = call_keeps (at + place_size (opening entry)) entry pending v after (omega arith) h g
-place_keeps lines closing at pending v after low h g = absurd g
-place_keeps lines (body unit) at pending v after low h g = unit_keeps lines unit at pending v after low h g
+place_keeps : (p : Profile) → LaidOut p → (lines : List GraphLine) (place : Place) (at : ℕ) (pending : List ℕ) (v : ℕ) (after : List ℕ) → CODE_START ≤ at → AreSites pending → Goes p lines place at pending v after → AreSites after
+place_keeps p laid lines handler at pending v after low h g = absurd g
+place_keeps p laid lines (opening entry) at pending v after low h g = call_keeps p.closing entry pending v after (omega arith) h g
+place_keeps p laid lines closing at pending v after low h g = absurd g
+place_keeps p laid lines (body unit) at pending v after low h g = unit_keeps lines unit at pending v after low h g
 
 pub sites_kept : StepKeepsSites
-sites_kept image graph walk pc next h (place, stands, at, goes) =
-    place_keeps graph.lines place walk.at walk.pending pc next.pending (place_from (code_words image.code) walk.at place stands) h goes
+sites_kept p image graph walk pc next is h (place, stands, at, goes) =
+    let laid = laid_out p is in
+    place_keeps p laid graph.lines place walk.at walk.pending pc next.pending (place_from p laid (code_words image.code) walk.at place stands) h goes

@@ -1,9 +1,10 @@
 -- An address fixes the step to it: no site and no target of a class is a handler.
-use Rattle.std.proofs.Common.{◌≡◌, ℕ, ◌+◌, ◌<◌, inl, inr, List, [], ◌∷◌, sym, ap, subst, ◌∙◌, arith}
+use Rattle.std.proofs.Common.{◌≡◌, ℕ, ◌<◌, inl, inr, List, [], ◌∷◌, sym, ap, subst, ◌∙◌, arith}
 use Rattle.std.proofs.lemmas.Bool.{false≢true}
 use Rattle.rv_word.specs.Image.{Contents}
-use Rattle.rv_word.specs.MemoryMap.{version_1}
+use Rattle.rv_word.specs.MemoryMap.{Profile}
 use Rattle.rv_word.proofs.Cases.{cases_Option}
+use Rattle.rv_word.proofs.Versions.{LaidOut, laid_out}
 use Rattle.cfi_graph.specs.declared.line.GraphLine.{GraphLine}
 use Rattle.cfi_graph.specs.declared.line.SiteKind.{SiteKind}
 use Rattle.cfi_graph.specs.declared.line.SiteKind.TheVariants as K
@@ -14,7 +15,6 @@ use Rattle.cfi_unit.specs.declared.unit.Unit.TheVariants as V
 use Rattle.cfi_unit.specs.declared.unit.SystemOp.TheVariants as S
 use Rattle.cfi_unit.specs.declared.place.Place.{Place}
 use Rattle.cfi_unit.specs.declared.place.Place.TheVariants.{Handler as handler, Opening as opening, Closing as closing, Body as body}
-use Rattle.cfi_unit.specs.Place.{place_size}
 use Rattle.cfi_unit.specs.UnitWords.{BAD_TARGET, DEEP, after_unit}
 use Rattle.cfi_verify.specs.Lines.{holds_of, is_among, targets_for}
 use Rattle.cfi_verify.specs.Rules.{IsWellFormed}
@@ -25,13 +25,13 @@ use Rattle.cfi_walk.specs.Laws.{AreSites, StepIsUnique}
 use Rattle.cfi_walk.specs.State.{WalkState}
 use Rattle.cfi_walk.proofs.Reach.{unit_within}
 
-class_above : (image : Contents) (graph : GraphParts) → IsWellFormed version_1 image graph → (kind : SiteKind) (label v : ℕ) → InClass graph.lines kind First label v → DEEP < v
-class_above image graph formed kind label v inside =
+class_above : (p : Profile) → LaidOut p → (image : Contents) (graph : GraphParts) → IsWellFormed p image graph → (kind : SiteKind) (label v : ℕ) → InClass graph.lines kind First label v → DEEP < v
+class_above p laid image graph formed kind label v inside =
     elim (cases_Option (targets_for graph.lines kind First label)) [
       | inl none ↦ absurd (false≢true (sym (ap (λ o. holds_of o (is_among v)) none) ∙ inside))
       | inr (ts, some) ↦
-          let unit = gate_stands image graph formed kind v label ts some (sym (ap (λ o. holds_of o (is_among v)) some) ∙ inside) in
-          let low = (unit_within (code_words image.code) v (V.Gate label) unit).low in
+          let unit = gate_stands p image graph formed kind v label ts some (sym (ap (λ o. holds_of o (is_among v)) some) ∙ inside) in
+          let low = (unit_within p laid (code_words image.code) v (V.Gate label) unit).low in
           omega arith
     ]
 
@@ -47,7 +47,7 @@ jump_same lines label pending v a b (inl g) (inr h) = g.1 ∙ sym h.1
 jump_same lines label pending v a b (inr g) (inl h) = g.1 ∙ sym h.1
 jump_same lines label pending v a b (inr g) (inr h) = g.1 ∙ sym h.1
 
-module _ (lines : List GraphLine) (above : (kind : SiteKind) (label v : ℕ) → InClass lines kind First label v → DEEP < v) where
+module _ (p : Profile) (lines : List GraphLine) (above : (kind : SiteKind) (label v : ℕ) → InClass lines kind First label v → DEEP < v) where
   never : (kind : SiteKind) (label v : ℕ) → InClass lines kind First label v → v ≡ BAD_TARGET → ⊥
   never kind label v inside e = let high = above kind label v inside in omega arith
 
@@ -90,9 +90,9 @@ module _ (lines : List GraphLine) (above : (kind : SiteKind) (label v : ℕ) →
   unit_same (V.Icall rs1 imm label) at pending v a b s g h = computed_call_same (after_unit (V.Icall rs1 imm label) at) label pending v a b g h
   unit_same V.Return at pending v a b s g h = return_same pending v a b s g h
 
-  place_same : (place : Place) (at : ℕ) (pending : List ℕ) (v : ℕ) (a b : List ℕ) → AreSites pending → Goes lines place at pending v a → Goes lines place at pending v b → a ≡ b
+  place_same : (place : Place) (at : ℕ) (pending : List ℕ) (v : ℕ) (a b : List ℕ) → AreSites pending → Goes p lines place at pending v a → Goes p lines place at pending v b → a ≡ b
   place_same handler at pending v a b s g h = absurd g
-  place_same (opening entry) at pending v a b s g h = call_same (at + place_size (opening entry)) entry pending v a b g h
+  place_same (opening entry) at pending v a b s g h = call_same p.closing entry pending v a b g h
   place_same closing at pending v a b s g h = absurd g
   place_same (body unit) at pending v a b s g h = unit_same unit at pending v a b s g h
 
@@ -103,10 +103,10 @@ states : (x y : WalkState) → x.at ≡ y.at → x.pending ≡ y.pending → x �
 states x y e f = ap (λ a. state a x.pending) e ∙ ap (λ l. state y.at l) f
 
 pub one_step : StepIsUnique
-one_step image graph walk pc next other formed sites (place, stands, at, goes) (place', stands', at', goes') =
+one_step p image graph walk pc next other is formed sites (place, stands, at, goes) (place', stands', at', goes') =
     let same : place' ≡ place = cc in
-    let moved = subst (λ (q : Place). Goes graph.lines q walk.at walk.pending pc other.pending) same goes' in
+    let moved = subst (λ (q : Place). Goes p graph.lines q walk.at walk.pending pc other.pending) same goes' in
     let after : next.pending ≡ other.pending =
-    place_same graph.lines (class_above image graph formed) place walk.at walk.pending pc next.pending other.pending sites goes moved in
+    place_same p graph.lines (class_above p (laid_out p is) image graph formed) place walk.at walk.pending pc next.pending other.pending sites goes moved in
     let address : next.at ≡ other.at = at ∙ sym at' in
     states next other address after

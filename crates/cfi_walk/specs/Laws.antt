@@ -2,7 +2,7 @@
 use Rattle.std.specs.Prelude.{◌≡◌, ℕ, ◌<◌, List}
 use Rattle.std.specs.List.{AllByRecursion}
 use Rattle.rv_word.specs.Image.{Contents}
-use Rattle.rv_word.specs.MemoryMap.{version_1}
+use Rattle.rv_word.specs.MemoryMap.{IsProfile, Profile}
 use Rattle.cfi_graph.specs.Graph.{GraphParts}
 use Rattle.cfi_unit.specs.UnitWords.{DEEP}
 use Rattle.cfi_verify.specs.Rules.{IsWellFormed}
@@ -17,15 +17,15 @@ AreSites pending = AllByRecursion (λ site. DEEP < site) pending
 -- an address fixes the step to it, and so the sites that are pending there
 abbrev pub StepIsUnique : Type 0
 StepIsUnique =
-    (image : Contents) (graph : GraphParts) (walk : WalkState) (pc : ℕ) (next other : WalkState) →
-    IsWellFormed version_1 image graph → AreSites walk.pending →
-    IsStep version_1 (code_words image.code) graph.lines walk pc next →
-    IsStep version_1 (code_words image.code) graph.lines walk pc other →
+    (p : Profile) (image : Contents) (graph : GraphParts) (walk : WalkState) (pc : ℕ) (next other : WalkState) →
+    IsProfile p → IsWellFormed p image graph → AreSites walk.pending →
+    IsStep p (code_words image.code) graph.lines walk pc next →
+    IsStep p (code_words image.code) graph.lines walk pc other →
     next ≡ other
 
 -- a step leaves sites pending
 abbrev pub StepKeepsSites : Type 0
 StepKeepsSites =
-    (image : Contents) (graph : GraphParts) (walk : WalkState) (pc : ℕ) (next : WalkState) →
-    AreSites walk.pending → IsStep version_1 (code_words image.code) graph.lines walk pc next →
+    (p : Profile) (image : Contents) (graph : GraphParts) (walk : WalkState) (pc : ℕ) (next : WalkState) →
+    IsProfile p → AreSites walk.pending → IsStep p (code_words image.code) graph.lines walk pc next →
     AreSites next.pending

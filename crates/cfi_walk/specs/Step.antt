@@ -12,4 +12,4 @@ use Rattle.cfi_walk.specs.State.{WalkState}
 abbrev pub IsStep : Profile → List ℕ → List GraphLine → WalkState → ℕ → WalkState → Type 0
 IsStep p words lines walk pc next =
     (place : Place) × (place_at p words walk.at ≡ Some place)
-    × (next.at ≡ pc) × Goes lines place walk.at walk.pending pc next.pending
+    × (next.at ≡ pc) × Goes p lines place walk.at walk.pending pc next.pending

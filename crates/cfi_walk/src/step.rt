@@ -1,6 +1,7 @@
 //! One step of the graph walk.
 
 ghost use Rattle.std.specs.Prelude.{◌<◌, ◌^◌, ◌⊎◌, ℕ, List};
+ghost use Rattle.rv_word.specs.MemoryMap.{version_1};
 ghost use Rattle.cfi_verify.specs.Walk.{
   CallGoes,
   ComputedCallGoes,
@@ -16,8 +17,9 @@ use crate::class::{has_target, is_in_class};
 use crate::walk::{Move, Walk};
 use cfi_graph::SiteKind;
 use cfi_unit::handlers::{self, BAD_RETURN, BAD_TARGET, DEEP};
-use cfi_unit::{Place, SystemOp, TargetWord, Unit};
+use cfi_unit::{Place, SystemOp, TargetWord, Unit, size};
 use cfi_verify::{Asks, Checked};
+use rv_word::profile::CLOSING;
 
 /// How many sites may be pending.
 const MOST_PENDING: usize = handlers::MOST_PENDING as usize;
@@ -127,13 +129,15 @@ fn from_unit(checked: &Checked<'_>, walk: &Walk, unit: &Unit, past: u64, pc: u64
 /// the place at which the walk stands.
 pub(crate) fn step(checked: &Checked<'_>, walk: &Walk, place: &Place, pc: u64) -> Option<Move>
     requires { walk.now.at < 2 ^ 32 }
-    ensures { IsAnswer (λ newer. Goes checked.now.graph.lines place.now walk.now.at walk.now.pending pc newer) walk.now.pending result }
+    ensures { IsAnswer (λ newer. Goes version_1 checked.now.graph.lines place.now walk.now.at walk.now.pending pc newer) walk.now.pending result }
 {
-    let past = walk.address() + u64::from(place.size());
     match place {
         Place::Handler => None,
         Place::Closing => None,
-        Place::Opening(entry) => call(walk, past, *entry, pc),
-        Place::Body(unit) => from_unit(checked, walk, unit, past, pc),
+        Place::Opening(entry) => call(walk, CLOSING, *entry, pc),
+        Place::Body(unit) => {
+            let past = walk.address() + u64::from(size(unit));
+            from_unit(checked, walk, unit, past, pc)
+        }
     }
 }

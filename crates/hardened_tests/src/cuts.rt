@@ -29,7 +29,7 @@ fn fed<L: Ledger>(
         return None;
     }
     let mut steps = Steps::<L>::new(blank);
-    let mut feeder = Feeder::new(alloc, room).ok()?;
+    let mut feeder = Feeder::new(alloc, 1, room).ok()?;
     for piece in bytes.chunks(size) {
         if feeder.fed() > 1_000_000 || piece.len() > 1_000_000 {
             return None;

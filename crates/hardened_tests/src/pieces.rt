@@ -62,7 +62,7 @@ fn scanned<L: Ledger>(
     requires size { 0 < size }
 {
     let mut steps = Steps::<L>::new(blank);
-    let mut scan = Scan::new(alloc, graph).ok()?;
+    let mut scan = Scan::new(alloc, 1, graph).ok()?;
     let mut drawn: u32 = 1;
     for piece in bytes.chunks(size) {
         if scan.fed() > 1_000_000 || piece.len() > 1_000_000 {

@@ -1,14 +1,15 @@
 -- A run that goes on from where it has come: nothing follows a stop, a run is its parts, and events
 -- are only added.
-use Rattle.std.proofs.Common.{◌≡◌, ℕ, ◌+◌, ◌==◌, ◌||◌, ◌^◌, List, [], ◌∷◌, ◌++◌, Option, Some, None, append-nil, append_assoc, refl, sym, ap, ◌∙◌}
+use Rattle.std.proofs.Common.{◌≡◌, ℕ, ◌+◌, ◌==◌, ◌||◌, ◌^◌, List, [], ◌∷◌, ◌++◌, Option, Some, None, append-nil, append_assoc, refl, sym, ap, subst, ◌∙◌}
 use Rattle.std.specs.Prelude.{nat_le}
 use Rattle.std.proofs.lemmas.Bool.{cond_both}
 use Rattle.rv_word.specs.MemoryMap.{Profile}
 use Rattle.rv_instr.specs.declared.instr.Instr.{Instr}
 use Rattle.rv_instr.specs.declared.instr.Instr.TheVariants.{Upper, Jal, Jalr, Branch, Load, Store, Immediate, Shift, ShiftWord, Register, Fence, Ecall, Ebreak}
 use Rattle.rv_instr.specs.declared.instr.UpperOp.TheVariants.{Lui, Auipc}
+use Rattle.rv_code.proofs.Alone.{alone_next}
 use Rattle.rv_code.specs.Continue.{continue, RunInParts, EventsAdded}
-use Rattle.rv_code.specs.Run.{ByteChange, disturbed, disturbed_step, next_or_stop, run}
+use Rattle.rv_code.specs.Run.{ByteChange, disturbed, disturbed_step, next_or_stop, run, run_alone}
 use Rattle.rv_code.specs.State.{Hart, Shared, After, last_exit}
 use Rattle.rv_code.specs.Step.{can_fetch, exec, exec_decoded, step, step_unless_ended, stops}
 use Rattle.rv_code.specs.Decode.{decoded}
@@ -35,8 +36,8 @@ continue_none p a = none_next a.turn a.hart a.shared
 -- from a state that goes on, the next list of changes happens, then a step
 pub continue_next : (p : Profile) (a : After) (cs : List ByteChange) (rest : List (List ByteChange)) → a.turn ≡ Ran →
     continue p a (cs ∷ rest) ≡ continue p (disturbed_step p a.hart a.shared cs) rest
-unfolding run
-continue_next p a cs rest going = rw going refl
+continue_next p a cs rest going =
+    ap (λ (turn : Turn). next_or_stop turn a (run_alone p a.hart a.shared (cs ∷ rest))) going ∙ alone_next p a.hart a.shared cs rest
 
 -- what follows a first part follows the state that it goes on from
 part_next : (p : Profile) (turn : Turn) (h : Hart) (s : Shared) (first : After) (rest : List (List ByteChange)) →
@@ -54,8 +55,10 @@ unfolding run
 run_in_parts p h s [] rest = refl
 run_in_parts p h s (cs ∷ first) rest =
     let a = disturbed_step p h s cs in
-    ap (λ (x : After). next_or_stop a.turn a x) (run_in_parts p a.hart a.shared first rest)
-    ∙ part_next p a.turn a.hart a.shared (run p a.hart a.shared first) rest
+    alone_next p h s cs (first ++ rest)
+    ∙ ap (λ (x : After). next_or_stop a.turn a x) (run_in_parts p a.hart a.shared first rest)
+    ∙ part_next p a.turn a.hart a.shared (run_alone p a.hart a.shared first) rest
+    ∙ ap (λ (x : After). continue p x rest) (sym (alone_next p h s cs first))
 
 -- events that were there come first
 abbrev Adds : List Event → List Event → Type 0
@@ -135,5 +138,6 @@ events_added p h s [] = none_added s.events
 events_added p h s (cs ∷ rest) =
     let a = disturbed_step p h s cs in
     let here : Adds s.events a.shared.events = step_adds h (disturbed s cs) p in
-    adds_next s.events a.turn a.hart a.shared (run p a.hart a.shared rest) here
-    (adds_both s.events a.shared.events (run p a.hart a.shared rest).shared.events here (events_added p a.hart a.shared rest))
+    subst (λ (x : After). Adds s.events x.shared.events) (sym (alone_next p h s cs rest))
+    (adds_next s.events a.turn a.hart a.shared (run_alone p a.hart a.shared rest) here
+    (adds_both s.events a.shared.events (run_alone p a.hart a.shared rest).shared.events here (events_added p a.hart a.shared rest)))

@@ -7,6 +7,7 @@ pub mod Runs
 pub mod Steps
 pub mod Frames
 pub mod Calls
+pub mod Alone
 pub mod Continued
 pub mod Changes
 pub mod Within

@@ -4,7 +4,7 @@ use Rattle.rv_word.specs.Image.{Contents}
 use Rattle.rv_word.specs.MemoryMap.{version_1}
 use Rattle.rv_word.specs.Memory.{loaded, placed, write}
 use Rattle.rv_code.specs.Decode.{decoded}
-use Rattle.rv_code.specs.Run.{run, ByteChange}
+use Rattle.rv_code.specs.Run.{run, run_alone, ByteChange}
 use Rattle.rv_code.specs.State.{start_hart, start_shared, last_exit}
 use Rattle.rv_code.specs.Step.{step}
 use Rattle.rv_code.specs.declared.turn.Turn.{Turn}
@@ -24,7 +24,7 @@ calm n = replicate n []
 
 -- how a run of so many steps ended
 abbrev ended : List ℕ → List (List ByteChange) → Turn
-ended code changes = (run version_1 start_hart (start_shared (image_of code) []) changes).turn
+ended code changes = (run_alone version_1 (start_hart 0) (start_shared (image_of code) []) changes).turn
 
 -- `addi x10,x0,7`, then exit
 abbrev exits_7 : List ℕ

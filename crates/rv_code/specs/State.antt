@@ -1,16 +1,23 @@
 -- The machine's state: a hart (its pc and registers), and what harts share (memory, the input
 -- left, the output, the system calls made).
-use Rattle.std.specs.Prelude.{ℕ, ◌%◌, ◌^◌, ◌==◌, ◌||◌, List, [], ◌∷◌, Option, Some, None, if◌then◌else◌}
+use Rattle.std.specs.Prelude.{ℕ, ◌%◌, ◌^◌, ◌==◌, ◌||◌, Bool, List, [], ◌∷◌, Option, Some, None, if◌then◌else◌}
 use Rattle.rv_word.specs.Image.{Contents}
 use Rattle.rv_word.specs.MemoryMap.{START}
 use Rattle.rv_word.specs.Memory.{Memory, loaded}
-use Rattle.rv_instr.specs.Registers.{Registers}
+use Rattle.rv_instr.specs.Registers.{Registers, cleared, set_reg}
 use Rattle.rv_code.specs.declared.event.Event.{Event}
 use Rattle.rv_code.specs.declared.turn.Turn.{Turn}
 
 pub record Hart : Type 0 where
   pub pc : ℕ
   pub regs : Registers
+
+-- the harts of a machine, by their numbers
+abbrev pub Harts : Type 0
+Harts = ℕ → Hart
+
+abbrev pub with_hart : Harts → ℕ → Hart → Harts
+with_hart harts k h = λ j. if j == k then h else harts j
 
 -- the events stand oldest first
 pub record Shared : Type 0 where
@@ -25,9 +32,10 @@ pub record After : Type 0 where
   pub shared : Shared
   pub turn : Turn
 
--- where a run starts: at the prologue's opening, with registers 0 and the image in memory
-abbrev pub start_hart : Hart
-start_hart = record { pc = START; regs = λ r. 0 }
+-- where a run starts: each hart at the prologue's opening with its number in x10 and 0 in the other
+-- registers, and the image in memory
+abbrev pub start_hart : Harts
+start_hart k = record { pc = START; regs = set_reg cleared 10 k }
 
 abbrev pub start_shared : Contents → List ℕ → Shared
 start_shared image input = record { memory = loaded image; left = input; output = []; events = [] }

@@ -1,2 +1,3 @@
 mod Decoding
 mod Exits
+pub mod First

@@ -55,7 +55,7 @@ impl Model for Machine {
 impl Machine {
     /// The machine in which a run of an image starts; the input is copied, and the code is decoded.
     pub fn new(alloc: Global, image: &Image, input: &[u8]) -> Result<Machine, NoMemory>
-        ensures hart { IfOk result (λ machine. hart_in machine ≡ start_hart) }
+        ensures hart { IfOk result (λ machine. hart_in machine ≡ start_hart 0) }
         ensures shared { IfOk result (λ machine. shared_in machine ≡ start_shared image.now input.now) }
     {
         let memory = Memory::load(alloc, image)?;
@@ -71,7 +71,7 @@ impl Machine {
         input: &[u8],
     ) -> Result<Machine, NoMemory>
         requires { IsCodeOf code (memory_of memory) }
-        ensures hart { IfOk result (λ machine. hart_in machine ≡ start_hart) }
+        ensures hart { IfOk result (λ machine. hart_in machine ≡ start_hart 0) }
         ensures shared { IfOk result (λ machine. shared_in machine ≡ record { memory = memory_of memory; left = input.now; output = []; events = [] }) }
     {
         Ok(Machine {
@@ -88,7 +88,7 @@ impl Machine {
     /// It runs by `execute`, which takes its instructions from elsewhere.
     pub fn with_data(alloc: Global, init: &[u8], input: &[u8]) -> Result<Machine, NoMemory>
         requires { DATA_START + length init.now ≤ DATA_END }
-        ensures hart { IfOk result (λ machine. hart_in machine ≡ start_hart) }
+        ensures hart { IfOk result (λ machine. hart_in machine ≡ start_hart 0) }
         ensures shared { IfOk result (λ machine. shared_in machine ≡ record { memory = placed zeros DATA_START init.now; left = input.now; output = []; events = [] }) }
     {
         let memory = Memory::with_data(alloc, init)?;

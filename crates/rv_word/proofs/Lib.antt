@@ -2,3 +2,4 @@ pub mod Masks
 pub mod Cases
 pub mod Products
 pub mod Division
+pub mod Versions

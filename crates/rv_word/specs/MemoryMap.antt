@@ -1,6 +1,6 @@
 -- The machine's memory map: three regions, and what each allows. Its addresses and sizes are the
 -- constants of `src/memory_map.rt` and `src/profile.rt`, under the same names.
-use Rattle.std.specs.Prelude.{ℕ, ◌+◌, nat_le, Bool, ◌&&◌, ◌||◌, Option, Some, None, if◌then◌else◌}
+use Rattle.std.specs.Prelude.{◌≡◌, ℕ, ◌+◌, ◌*◌, ◌==◌, ◌≤◌, nat_le, ◌⊎◌, Bool, ◌&&◌, ◌||◌, Option, Some, None, if◌then◌else◌}
 use Rattle.rv_word.specs.declared.region.Region.{Region}
 use Rattle.rv_word.specs.declared.region.Region.TheVariants.{Data, Code, Shadow}
 use Rattle.rv_word.specs.declared.memory_map.TheConstants as map
@@ -41,9 +41,14 @@ CLOSING = profile.CLOSING
 abbrev pub UNITS_START : ℕ
 UNITS_START = profile.UNITS_START
 
--- what differs between the versions of images: how many bytes the shadow region has, where the
--- prologue's call of the entry, its closing and the first unit stand
+-- where the part of the shadow stack begins that belongs to a hart, by the hart's number
+abbrev pub part_of : ℕ → ℕ
+part_of hart = SHADOW_START + PART_SIZE * hart
+
+-- what differs between the versions of images: how many harts a run has at most, how many bytes the
+-- shadow region has, where the prologue's call of the entry, its closing and the first unit stand
 pub record Profile : Type 0 where
+  pub harts : ℕ
   pub shadow_size : ℕ
   pub opening_call : ℕ
   pub closing : ℕ
@@ -51,7 +56,29 @@ pub record Profile : Type 0 where
 
 -- images for one hart
 abbrev pub version_1 : Profile
-version_1 = record { shadow_size = map.SHADOW_SIZE; opening_call = OPENING_CALL; closing = CLOSING; units_from = UNITS_START }
+version_1 = record { harts = 1; shadow_size = map.SHADOW_SIZE; opening_call = OPENING_CALL; closing = CLOSING; units_from = UNITS_START }
+
+-- images for several harts
+abbrev pub version_2 : Profile
+version_2 = record {
+  harts = profile.MOST_HARTS;
+  shadow_size = profile.SHADOW_SIZE_OF_HARTS;
+  opening_call = profile.OPENING_CALL_OF_HARTS;
+  closing = profile.CLOSING_OF_HARTS;
+  units_from = profile.UNITS_START_OF_HARTS;
+}
+
+-- the profile of a version's images
+abbrev pub profile_of : ℕ → Profile
+profile_of version = if version == 1 then version_1 else version_2
+
+abbrev pub IsProfile : Profile → Type 0
+IsProfile p = (p ≡ version_1) ⊎ (p ≡ version_2)
+
+-- a run may have so many harts
+pub record MayRun (p : Profile) (harts : ℕ) : Type 0 where
+  pub some : 1 ≤ harts
+  pub most : harts ≤ p.harts
 
 -- the `n` bytes from `a` on lie whole in the `size` bytes from `start` on
 abbrev pub lies_within : ℕ → ℕ → ℕ → ℕ → Bool

@@ -3,7 +3,7 @@ use Rattle.std.proofs.Common.{◌≡◌, ℕ, ◌+◌, ◌-◌, ◌<◌, nat_lt,
 use Rattle.std.specs.Prelude.{◌&&◌, not, if◌then◌else◌, option_and_then, slice_get, unwrap_or, Result, Ok, Err, IfOk, OnErr}
 use Rattle.std.proofs.lemmas.Bool.{and_parts, cases_Bool, cases_eq, ltb-true}
 use Rattle.std.proofs.lemmas.List.Elements.{All-cons, All-head, All-tail}
-use Rattle.rv_word.specs.MemoryMap.{version_1}
+use Rattle.rv_word.specs.MemoryMap.{CLOSING}
 use Rattle.rv_word.specs.declared.no_memory.NoMemory.{NoMemory}
 use Rattle.rv_instr.specs.declared.instr.Instr.{Instr}
 use Rattle.rv_instr.specs.declared.instr.Instr.TheVariants.{Branch}
@@ -42,10 +42,10 @@ next_there layout k last below instruction = elim (cases_eq (k + 1) (count layou
 ]
 
 -- with no call pending a return leads to the closing
-pub returns_nowhere : (layout : ProgramAtMap) (pending : List ℕ) → layout.profile ≡ version_1 → slice_get pending 0 ≡ None →
-    version_1.closing ≡ return_address layout pending
-returns_nowhere layout [] profile none = ap (λ p. p.closing) (sym profile)
-returns_nowhere layout (k ∷ pending) profile none = absurd (cc)
+pub returns_nowhere : (layout : ProgramAtMap) (pending : List ℕ) → layout.profile.closing ≡ CLOSING → slice_get pending 0 ≡ None →
+    CLOSING ≡ return_address layout pending
+returns_nowhere layout [] is none = sym is
+returns_nowhere layout (k ∷ pending) is none = absurd (cc)
 
 -- what the step at the closing leaves
 pub closed : (layout : ProgramAtMap) (place : Option ℕ) (st : Source) (parts : StateParts) (status : ℕ) → None ≡ place →

@@ -166,7 +166,7 @@ impl State {
 
     /// Makes the system call at the closing, and tells the status. A refusal leaves all as it was.
     pub(crate) fn close(&mut self) -> Result<u8, NoMemory>
-        ensures closed { IfOk result (λ status. (layout : ProgramAtMap) → layout.profile ≡ version_1 → record { state = source_in self.new; turn = exits status } ≡ closes layout (source_in self.old)) }
+        ensures closed { IfOk result (λ status. (layout : ProgramAtMap) → layout.profile.closing ≡ version_1.closing → record { state = source_in self.new; turn = exits status } ≡ closes layout (source_in self.old)) }
         ensures refused { OnErr result (source_in self.new ≡ source_in self.old) }
     {
         let number = Reg::of(17);

@@ -1,4 +1,5 @@
 use Rattle.std.proofs.Common.{◌∙◌, ap, sym}
+use Rattle.rv_word.specs.MemoryMap.{version_1}
 use Rattle.rv_sys.specs.Calls.{Calls}
 use Rattle.rv_machine.specs.Parts.{Parts}
 use Rattle.cfi_flow.specs.Source.{Source, source_start}
@@ -8,12 +9,12 @@ use Rattle.cfi_compare.proofs.comparing.compare.Goals as goal
 
 pub returns-in-Untame-clause-compared : goal.returns-in-Untame-clause-compared
 returns-in-Untame-clause-compared c =
-    compared_untame c.args.source.now.layout (source_of c.args.source.now) c.args.image.now c.args.input.now c.args.limit c.in-Untame.because c.in-Untame.section c.in-Untame.offset
+    compared_untame version_1 c.args.source.now.layout (source_of c.args.source.now) c.args.image.now c.args.input.now c.args.limit c.in-Untame.because c.in-Untame.section c.in-Untame.offset
     (sym c.in-Untame.is ∙ c.in_ok-turn.ensures.finished.turn_is)
 
 pub returns-in-Untame-clause-from_start : goal.returns-in-Untame-clause-from_start
 returns-in-Untame-clause-from_start c = λ begun.
-    from_same c.args.source.now.layout (source_of c.args.source.now) (source_start c.args.source.now.layout c.args.input.now) c.args.image.now c.args.input.now c.args.limit
+    from_same version_1 c.args.source.now.layout (source_of c.args.source.now) (source_start c.args.source.now.layout c.args.input.now) c.args.image.now c.args.input.now c.args.limit
     _ begun (returns-in-Untame-clause-compared c)
 
 pub returns-in_ok-answer-in_default : goal.returns-in_ok-answer-in_default
@@ -21,11 +22,11 @@ returns-in_ok-answer-in_default c =
     let finished = c.in_ok-turn.ensures.finished in
     let calls = ap (λ (m : Parts). m.calls.events) c.machine.ensures in
     let events = c.events-events.ensures ∙ ap (λ (x : Calls). x.events) c.system.ensures ∙ calls ∙ ap (λ (st : Source). st.shared.events) finished.state in
-    let is = compared_tame c.args.source.now.layout (source_of c.args.source.now) c.args.image.now c.args.input.now c.args.limit c.in_ok-turn.turn c.events-events.result.now c.steps.result c.in_ok-answer-in_default.answer
+    let is = compared_tame version_1 c.args.source.now.layout (source_of c.args.source.now) c.args.image.now c.args.input.now c.args.limit c.in_ok-turn.turn c.events-events.result.now c.steps.result c.in_ok-answer-in_default.answer
     finished.turn_is c.in_default.not-Untame events (c.steps.ensures ∙ finished.steps) c.in_ok-answer-in_default.ensures in
     record {
       compared = is;
-      from_start = λ begun. from_same c.args.source.now.layout (source_of c.args.source.now) (source_start c.args.source.now.layout c.args.input.now) c.args.image.now c.args.input.now
+      from_start = λ begun. from_same version_1 c.args.source.now.layout (source_of c.args.source.now) (source_start c.args.source.now.layout c.args.input.now) c.args.image.now c.args.input.now
           c.args.limit _ begun is;
       own = c.in_ok-turn.ensures.own;
     }

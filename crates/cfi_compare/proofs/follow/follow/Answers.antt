@@ -1,4 +1,5 @@
 use Rattle.std.proofs.Common.{◌≡◌, ◌+◌, ◌-◌, ◌∙◌, ap, sym, arith, List, [], append-nil, inl, inr, length}
+use Rattle.rv_word.specs.MemoryMap.{version_1}
 use Rattle.rv_code.specs.State.{After}
 use Rattle.rv_code.specs.declared.event.Event.{Event}
 use Rattle.rv_machine.specs.Parts.{hart_in, shared_in}
@@ -10,7 +11,7 @@ use Rattle.cfi_compare.proofs.follow.follow.Goals.{then-index-len-via-then-index
 
 pub alike-index-requires : goal.alike-index-requires
 alike-index-requires c =
-    let more = step_adds (hart_in c.loop-steps.machine) (shared_in c.loop-steps.machine) c.step.new.self c.in_ok-turn.turn c.in_ok-turn.ensures.stepped in
+    let more = step_adds version_1 (hart_in c.loop-steps.machine) (shared_in c.loop-steps.machine) c.step.new.self c.in_ok-turn.turn c.in_ok-turn.ensures.stepped in
     let seen : c.events-calls.result.now ≡ (shared_in c.step.new.self).events = c.events-calls.ensures ∙ ap (λ (x : Calls). x.events) c.system.ensures in
     rw (seen, more.1) (agree_more c.loop-steps.index c.args.events.now (shared_in c.loop-steps.machine).events more.0 c.loop-steps.invariant.agree)
 
@@ -20,9 +21,9 @@ returns-then-index-len c =
     let s = shared_in c.loop-steps.machine in
     let seen : c.events-calls.result.now ≡ (shared_in c.step.new.self).events = c.events-calls.ensures ∙ ap (λ (x : Calls). x.events) c.system.ensures in
     let counted : c.len.result ≡ length (shared_in c.step.new.self).events = c.len.ensures ∙ ap (λ (es : List Event). length es) seen in
-    let whole = next_left h s _ c.args.most c.loop-steps.steps c.loop-steps.invariant.left (omega (arith, c.loop-steps-test.true)) in
+    let whole = next_left version_1 h s _ c.args.most c.loop-steps.steps c.loop-steps.invariant.left (omega (arith, c.loop-steps-test.true)) in
     let left = c.args.most - (c.loop-steps.steps + 1) in
-    let more = run_adds h s c.step.new.self c.in_ok-turn.turn c.in_ok-turn.ensures.stepped left in
+    let more = run_adds version_1 h s c.step.new.self c.in_ok-turn.turn c.in_ok-turn.ensures.stepped left in
     record {
       agree = rw seen at c.alike-index.ensures.agree;
       most = rw seen at c.alike-index.ensures.most;
@@ -30,7 +31,7 @@ returns-then-index-len c =
       decided = elim c.then-index-len.branch [
         | then-index-len-via-then-index-len w ↦ inl (omega (arith, counted, w.if-index-len))
         | then-index-len-via-else-index-len+then-is_stop w ↦
-            let stops = run_stops h s c.step.new.self c.in_ok-turn.turn c.in_ok-turn.ensures.stepped left (sym w.is_stop.ensures ∙ w.if-is_stop.true) in
+            let stops = run_stops version_1 h s c.step.new.self c.in_ok-turn.turn c.in_ok-turn.ensures.stepped left (sym w.is_stop.ensures ∙ w.if-is_stop.true) in
             inr (ap (λ (a : After). a.shared.events) (whole ∙ stops), ap (λ (a : After). a.turn) (whole ∙ stops))
       ];
     }
@@ -41,7 +42,7 @@ loop-steps-preserved c =
     let s = shared_in c.loop-steps.machine in
     let seen : c.events-calls.result.now ≡ (shared_in c.step.new.self).events = c.events-calls.ensures ∙ ap (λ (x : Calls). x.events) c.system.ensures in
     let counted : c.len.result ≡ length (shared_in c.step.new.self).events = c.len.ensures ∙ ap (λ (es : List Event). length es) seen in
-    let whole = next_left h s _ c.args.most c.loop-steps.steps c.loop-steps.invariant.left (omega (arith, c.loop-steps-test.true)) in
+    let whole = next_left version_1 h s _ c.args.most c.loop-steps.steps c.loop-steps.invariant.left (omega (arith, c.loop-steps-test.true)) in
     let left = c.args.most - (c.loop-steps.steps + 1) in
     let agree : Agree c.alike-index.result c.args.events.now (shared_in c.step.new.self).events = rw seen at c.alike-index.ensures.agree in
     let within = (agree_within c.alike-index.result c.args.events.now (shared_in c.step.new.self).events agree).1 in
@@ -49,13 +50,13 @@ loop-steps-preserved c =
       count = omega (arith, c.loop-steps-test.true);
       agree = agree;
       all = omega (arith, counted, within, c.if-index-len.false);
-      left = whole ∙ run_goes h s c.step.new.self c.in_ok-turn.turn c.in_ok-turn.ensures.stepped left (sym c.is_stop.ensures ∙ c.if-is_stop.false);
+      left = whole ∙ run_goes version_1 h s c.step.new.self c.in_ok-turn.turn c.in_ok-turn.ensures.stepped left (sym c.is_stop.ensures ∙ c.if-is_stop.false);
     }
 
 pub returns : goal.returns
 returns c =
     let events = (shared_in c.loop-steps.machine).events in
-    let whole = none_left (hart_in c.loop-steps.machine) (shared_in c.loop-steps.machine) _ c.args.most c.loop-steps.steps c.loop-steps.invariant.left (omega (arith, c.loop-steps-test.false)) in
+    let whole = none_left version_1 (hart_in c.loop-steps.machine) (shared_in c.loop-steps.machine) _ c.args.most c.loop-steps.steps c.loop-steps.invariant.left (omega (arith, c.loop-steps-test.false)) in
     record {
       agree = c.loop-steps.invariant.agree;
       most = none_past c.loop-steps.index c.args.events.now events (omega (arith, c.loop-steps.invariant.all));

@@ -1,6 +1,6 @@
 use Rattle.std.proofs.Common.{◌≡◌, ◌-◌, ◌≤◌, List, [], length, replicate}
 use Rattle.rv_word.specs.MemoryMap.{version_1}
-use Rattle.rv_code.specs.Run.{ByteChange, run}
+use Rattle.rv_code.specs.Run.{ByteChange, run_alone}
 use Rattle.rv_machine.specs.Parts.{hart_in, shared_in}
 use Rattle.cfi_compare.specs.Followed.{Agree}
 use Rattle.cfi_compare.proofs.follow.follow.Given as goal
@@ -11,8 +11,8 @@ invariant-loop-steps l = record {
   count : l.steps ≤ l.most;
   agree : Agree l.index l.events (shared_in l.machine).events;
   all : l.index ≡ length (shared_in l.machine).events;
-  left : run version_1 (hart_in l.initial.machine) (shared_in l.initial.machine) (replicate {A = List ByteChange} l.most [])
-      ≡ run version_1 (hart_in l.machine) (shared_in l.machine) (replicate {A = List ByteChange} (l.most - l.steps) []);
+  left : run_alone version_1 (hart_in l.initial.machine) (shared_in l.initial.machine) (replicate {A = List ByteChange} l.most [])
+      ≡ run_alone version_1 (hart_in l.machine) (shared_in l.machine) (replicate {A = List ByteChange} (l.most - l.steps) []);
 }
 
 abbrev pub decreases-loop-steps : goal.decreases-loop-steps

@@ -13,8 +13,8 @@ invariant-loop-steps g l = record {
   count : l.running.trail.count ≤ l.steps;
   plan : g.M.Meddler.plan l.meddler ≡ g.M.Meddler.plan l.initial.meddler;
   quiet : IsQuietPlan l.steps l.running.quiet (g.M.Meddler.plan l.meddler);
-  stays : (newest : ℕ) × StaysFrom l.checked.image newest (hart_in l.running.machine) (shared_in l.running.machine);
-  continues : Continues l.checked.image (hart_in l.initial.running.machine) (shared_in l.initial.running.machine)
+  stays : (newest : ℕ) × StaysFrom version_1 l.checked.image newest (hart_in l.running.machine) (shared_in l.running.machine);
+  continues : Continues version_1 l.checked.image (hart_in l.initial.running.machine) (shared_in l.initial.running.machine)
       (planned version_1 (g.M.Meddler.plan l.initial.meddler) 0 (hart_in l.initial.running.machine) (shared_in l.initial.running.machine) l.limit)
       l.steps (hart_in l.running.machine) (shared_in l.running.machine)
       (planned version_1 (g.M.Meddler.plan l.initial.meddler) l.steps (hart_in l.running.machine) (shared_in l.running.machine) (l.limit - l.steps))

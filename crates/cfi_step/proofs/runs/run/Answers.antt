@@ -1,6 +1,8 @@
-use Rattle.std.proofs.Common.{ℕ, List, ◌∙◌, ap}
+use Rattle.std.proofs.Common.{ℕ, List, ◌∙◌, ap, inl, refl}
 use Rattle.rv_word.specs.MemoryMap.{version_1}
+use Rattle.rv_word.proofs.Versions.{laid_out}
 use Rattle.rv_code.specs.State.{start_hart, start_shared}
+use Rattle.cfi_verify.proofs.OneHart.{safe_walks_alone}
 use Rattle.cfi_step.specs.Plan.{planned}
 use Rattle.cfi_step.specs.Script.{script_plan}
 use Rattle.cfi_step.specs.declared.report.RunReport.{RunReport}
@@ -11,7 +13,7 @@ use Rattle.cfi_step.proofs.runs.run.Goals as goal
 pub finish-requires : goal.finish-requires
 finish-requires g c =
     let shared = rw c.image.ensures.value at c.in_ok-running.ensures.shared in
-    begins c.args.checked.now.image c.args.checked.now.graph c.args.input.now c.in_ok-running.running c.safe_stays_in_place.ensures c.is_safe.ensures
+    begins version_1 (laid_out version_1 (inl refl)) c.args.checked.now.image c.args.checked.now.graph c.args.input.now c.in_ok-running.running c.is_safe.ensures
     c.in_ok-running.ensures.hart shared c.in_ok-running.ensures.made c.in_ok-running.ensures.trail c.in_ok-running.ensures.quiet
 
 pub returns-clause-script : goal.returns-clause-script
@@ -24,11 +26,11 @@ returns-clause-replayed g c =
     let shared = rw c.image.ensures.value at c.in_ok-running.ensures.shared in
     let made = rw (c.in_ok-running.ensures.hart, shared) at c.in_ok-end.ensures.over.made in
     let whole = ap (λ (r : RunReport). r.made) c.in_ok-report.ensures ∙ made in
-    ap (λ (m : List (ℕ × (ℕ × ℕ))). planned version_1 (script_plan m) 0 start_hart (start_shared c.args.checked.now.image c.args.input.now) c.args.limit) whole
-    ∙ replays version_1 _ c.args.limit start_hart (start_shared c.args.checked.now.image c.args.input.now)
+    ap (λ (m : List (ℕ × (ℕ × ℕ))). planned version_1 (script_plan m) 0 (start_hart 0) (start_shared c.args.checked.now.image c.args.input.now) c.args.limit) whole
+    ∙ replays version_1 _ c.args.limit (start_hart 0) (start_shared c.args.checked.now.image c.args.input.now)
 
 pub returns-clause-walk : goal.returns-clause-walk
 returns-clause-walk g c =
     let shared = rw c.image.ensures.value at c.in_ok-running.ensures.shared in
     let over = rw (c.in_ok-running.ensures.hart, shared) at c.in_ok-end.ensures.over.allowed in
-    c.safe_walks_graph.ensures c.args.checked.now.image c.args.checked.now.graph c.args.input.now _ c.is_safe.ensures over
+    safe_walks_alone version_1 (laid_out version_1 (inl refl)) c.args.checked.now.image c.args.checked.now.graph c.args.input.now _ c.is_safe.ensures over

@@ -1,11 +1,12 @@
 use Rattle.std.proofs.Common.{◌≡◌, ◌+◌, ◌/◌, ℕ, List, ◌++◌, length, take}
-use Rattle.rv_word.specs.MemoryMap.{version_1}
+use Rattle.rv_word.specs.MemoryMap.{profile_of}
 use Rattle.cfi_scan.specs.Pieces.{HasSeen, Sight}
 use Rattle.cfi_scan.proofs.feeder.Feeder.bytes.Given as goal
 
 -- these bytes are taken
 pub record HasTaken (before now : Sight) (bytes : List ℕ) (ticked ticks : ℕ) : Type 0 where
-  pub seen : (earlier : List ℕ) → HasSeen version_1 before earlier → HasSeen version_1 now (earlier ++ bytes)
+  pub seen : (earlier : List ℕ) → HasSeen (profile_of before.version) before earlier → HasSeen (profile_of before.version) now (earlier ++ bytes)
+  pub version : now.version ≡ before.version
   pub fed : now.fed ≡ before.fed + length bytes
   pub room : length now.entries ≡ length before.entries
   pub cost : ticks + before.fed / 4 ≡ ticked + now.fed / 4

@@ -1,5 +1,5 @@
-use Rattle.std.proofs.Common.{[], refl, sym, subst, arith}
-use Rattle.rv_word.specs.MemoryMap.{version_1}
+use Rattle.std.proofs.Common.{ℕ, [], refl, sym, subst, arith}
+use Rattle.rv_word.specs.MemoryMap.{profile_of}
 use Rattle.cfi_scan.specs.Carry.{Taken}
 use Rattle.cfi_scan.specs.Pieces.{HasSeen, ends}
 use Rattle.cfi_scan.proofs.Pieces.{seen_from, sight}
@@ -8,5 +8,6 @@ use Rattle.cfi_scan.proofs.feeder.Feeder.new.Goals as goal
 pub returns-clause-seen : goal.returns-clause-seen
 returns-clause-seen c =
     let k = c.in_ok-new.field-0 in
-    subst (λ (t : Taken). HasSeen version_1 (sight k t) []) (sym c.new-2.ensures)
-    (seen_from version_1 k (record { left = []; fed = 0 }) [] [] (ends [] (omega arith)) refl c.in_ok-new.ensures.keeps)
+    subst (λ (t : Taken). HasSeen (profile_of c.args.version) (sight (profile_of k.units.front) k t) []) (sym c.new-2.ensures)
+    (subst (λ (v : ℕ). HasSeen (profile_of c.args.version) (sight (profile_of v) k (record { left = []; fed = 0 })) []) (sym c.in_ok-new.ensures.version)
+    (seen_from (profile_of c.args.version) k (record { left = []; fed = 0 }) [] [] (ends [] (omega arith)) refl c.in_ok-new.ensures.keeps))

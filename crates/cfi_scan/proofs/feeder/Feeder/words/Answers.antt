@@ -1,6 +1,6 @@
-use Rattle.std.proofs.Common.{◌-◌, ℕ, List, [], ◌∷◌, ◌++◌, ◌∙◌, subst, ap, length, get_or, drop, arith}
+use Rattle.std.proofs.Common.{◌-◌, ℕ, List, [], ◌∷◌, ◌++◌, ◌∙◌, subst, sym, ap, length, get_or, drop, arith}
 use Rattle.std.proofs.lemmas.List.{append_assoc, length-drop, take_all}
-use Rattle.rv_word.specs.MemoryMap.{version_1}
+use Rattle.rv_word.specs.MemoryMap.{profile_of}
 use Rattle.cfi_scan.specs.Pieces.{HasSeen}
 use Rattle.cfi_scan.proofs.Pieces.{four_taken}
 use Rattle.cfi_scan.proofs.feeder.Feeder.words.Goals as goal
@@ -19,9 +19,10 @@ loop-rest-preserved g c =
             taken ++ four,
             (
               rw all (four_taken taken rest c.args.piece.now room joined),
-              subst (λ (bs : List ℕ). HasSeen version_1 c.quad.new.self bs) (append_assoc bytes taken four) (c.quad.ensures.seen (bytes ++ taken) seen),
+              subst (λ (bs : List ℕ). HasSeen (profile_of c.args.self.now.version) c.quad.new.self bs) (append_assoc bytes taken four) (subst (λ (v : ℕ). HasSeen (profile_of v) c.quad.new.self ((bytes ++ taken) ++ four)) before.version (c.quad.ensures.seen (bytes ++ taken) (subst (λ (v : ℕ). HasSeen (profile_of v) c.loop-rest.self (bytes ++ taken)) (sym before.version) seen))),
             ),
           );
+      version = c.quad.ensures.version ∙ before.version;
       whole = omega (arith, c.quad.ensures.fed, before.whole);
       fed = rw all (omega (arith, c.quad.ensures.fed, before.fed, length-drop 4 rest));
       room = c.quad.ensures.room ∙ before.room;
@@ -31,6 +32,8 @@ loop-rest-preserved g c =
 pub returns-clause-seen : goal.returns-clause-seen
 returns-clause-seen g c bytes earlier =
     let (taken, (joined, seen)) = c.loop-rest.invariant.seen bytes earlier in
-    subst (λ (bs : List ℕ). HasSeen version_1 c.bytes.new.self bs)
+    let same = c.loop-rest.invariant.version in
+    subst (λ (bs : List ℕ). HasSeen (profile_of c.args.self.now.version) c.bytes.new.self bs)
     (append_assoc bytes taken c.loop-rest.rest.now ∙ ap (λ (bs : List ℕ). bytes ++ bs) joined)
-    (c.bytes.ensures.seen (bytes ++ taken) seen)
+    (subst (λ (v : ℕ). HasSeen (profile_of v) c.bytes.new.self ((bytes ++ taken) ++ c.loop-rest.rest.now)) same
+    (c.bytes.ensures.seen (bytes ++ taken) (subst (λ (v : ℕ). HasSeen (profile_of v) c.loop-rest.self (bytes ++ taken)) (sym same) seen)))

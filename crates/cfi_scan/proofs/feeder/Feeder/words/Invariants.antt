@@ -1,12 +1,13 @@
 use Rattle.std.proofs.Common.{◌≡◌, ◌+◌, ◌/◌, ◌%◌, ℕ, List, ◌++◌, length}
-use Rattle.rv_word.specs.MemoryMap.{version_1}
+use Rattle.rv_word.specs.MemoryMap.{profile_of}
 use Rattle.cfi_scan.specs.Pieces.{HasSeen, Sight}
 use Rattle.cfi_scan.proofs.feeder.Feeder.words.Given as goal
 
 -- some bytes of the piece are taken, whole words of them
 pub record HasTaken (before now : Sight) (piece rest : List ℕ) (ticked : ℕ) (ticks : ℕ) : Type 0 where
-  pub seen : (bytes : List ℕ) → HasSeen version_1 before bytes →
-      (taken : List ℕ) × ((taken ++ rest ≡ piece) × HasSeen version_1 now (bytes ++ taken))
+  pub seen : (bytes : List ℕ) → HasSeen (profile_of before.version) before bytes →
+      (taken : List ℕ) × ((taken ++ rest ≡ piece) × HasSeen (profile_of before.version) now (bytes ++ taken))
+  pub version : now.version ≡ before.version
   pub whole : now.fed % 4 ≡ 0
   pub fed : now.fed + length rest ≡ before.fed + length piece
   pub room : length now.entries ≡ length before.entries

@@ -1,11 +1,12 @@
 use Rattle.std.proofs.Common.{◌∙◌, ap, subst, sym}
-use Rattle.rv_word.specs.MemoryMap.{version_1}
+use Rattle.rv_word.specs.MemoryMap.{Profile, profile_of}
+use Rattle.cfi_graph.specs.Graph.{GraphParts}
 use Rattle.cfi_verify.specs.Entries.{Tells}
 use Rattle.cfi_verify.specs.Rules.{Holds, IsFirst}
 use Rattle.cfi_verify.specs.Scan.{Scanned, StartParts}
 use Rattle.cfi_verify.specs.Split.{code_words}
 use Rattle.cfi_verify.specs.declared.reject.Rule.{Rule}
-use Rattle.cfi_verify.proofs.Ended.{ended, is_of}
+use Rattle.cfi_verify.proofs.Ended.{asked, ended, is_of, told_of}
 use Rattle.cfi_verify.proofs.scan.Scan.finish.Goals as goal
 
 pub returns-then-fed-code-clause-rejected : goal.returns-then-fed-code-clause-rejected
@@ -19,24 +20,30 @@ returns-then-fed-code-clause-rejected c = λ image has.
 pub returns-in-Some-clause-rejected : goal.returns-in-Some-clause-rejected
 returns-in-Some-clause-rejected c = λ image has.
     let end = ended _ _ _ _ c.self.view_is c.finish-listing.ensures.of c.finish-listing.ensures.room c.self.invariant.room (sym c.fed-fed.ensures ∙ c.if-fed-code.false ∙ c.code.ensures.value) image has in
-    let told = subst (λ (s : StartParts). Tells s.listing (code_words image.code)) (sym c.of-starts.ensures) end.told in (
+    let version = c.finish-listing.ensures.version ∙ ap (λ (s : Scanned). s.seen.version) c.self.view_is in
+    let graph = ap (λ (s : Scanned). s.graph) c.self.view_is in
+    let told = told_of c.args.self _ _ _ c.of-starts.ensures version graph (code_words image.code) end.told in (
       end.length_is,
-      subst (λ (s : Scanned). IsFirst version_1 (code_words image.code) s.graph.lines c.in-Some.rule c.in-Some.address) c.self.view_is
-          (subst (λ (s : StartParts). IsFirst version_1 (code_words image.code) s.graph.lines c.in-Some.rule c.in-Some.address) c.of-starts.ensures
-          (c.in-Some.ensures (code_words image.code) told)),
+      asked c.args.self _ _ _ c.of-starts.ensures version graph (λ (p : Profile) (graph : GraphParts). IsFirst p (code_words image.code) graph c.in-Some.rule c.in-Some.address)
+          (c.in-Some.ensures (code_words image.code) told),
     )
+
+pub returns-clause-version : goal.returns-clause-version
+returns-clause-version c =
+    ap (λ (s : StartParts). s.listing.version) c.of-starts.ensures ∙ c.finish-listing.ensures.version ∙ ap (λ (s : Scanned). s.seen.version) c.self.view_is
 
 pub returns-clause-accepted : goal.returns-clause-accepted
 returns-clause-accepted c = λ image has.
     let end = ended _ _ _ _ c.self.view_is c.finish-listing.ensures.of c.finish-listing.ensures.room c.self.invariant.room (sym c.fed-fed.ensures ∙ c.if-fed-code.false ∙ c.code.ensures.value) image has in
-    let told = subst (λ (s : StartParts). Tells s.listing (code_words image.code)) (sym c.of-starts.ensures) end.told in (
-      ap (λ (s : StartParts). s.graph) c.of-starts.ensures ∙ ap (λ (s : Scanned). s.graph) c.self.view_is,
-      told,
+    let version = c.finish-listing.ensures.version ∙ ap (λ (s : Scanned). s.seen.version) c.self.view_is in
+    let graph = ap (λ (s : Scanned). s.graph) c.self.view_is in
+    let told = told_of c.args.self _ _ _ c.of-starts.ensures version graph (code_words image.code) end.told in (
+      ap (λ (s : StartParts). s.graph) c.of-starts.ensures ∙ graph,
+      subst (λ (s : StartParts). Tells (profile_of c.args.self.seen.version) s.listing (code_words image.code)) (sym c.of-starts.ensures) end.told,
       record {
         same_length = end.length_is;
         rules =
-            subst (λ (s : Scanned). (rule : Rule) → Holds version_1 (code_words image.code) s.graph.lines rule) c.self.view_is
-            (subst (λ (s : StartParts). (rule : Rule) → Holds version_1 (code_words image.code) s.graph.lines rule) c.of-starts.ensures
-            (c.in-None.ensures (code_words image.code) told));
+            asked c.args.self _ _ _ c.of-starts.ensures version graph (λ (p : Profile) (graph : GraphParts). (rule : Rule) → Holds p (code_words image.code) graph rule)
+            (c.in-None.ensures (code_words image.code) told);
       },
     )

@@ -3,8 +3,9 @@ use Rattle.std.specs.List.{list_any}
 use Rattle.cfi_verify.specs.Entries.{gate_at}
 use Rattle.least.specs.Least.{IsLeast}
 use Rattle.cfi_verify.specs.Rules.{lacks_gate}
+use Rattle.cfi_verify.specs.Scan.{profile_in}
 use Rattle.cfi_verify.proofs.starts.Starts.first_without_gate.Given as goal
 
 abbrev pub invariant-loop-k : goal.invariant-loop-k
 invariant-loop-k l =
-    IsLeast (λ a. list_any (lacks_gate (gate_at l.self.listing) a) (take l.k l.graph.lines)) l.least
+    IsLeast (λ a. list_any (lacks_gate (gate_at (profile_in l.self) l.self.listing) a) (take l.k l.graph.lines)) l.least

@@ -1,12 +1,12 @@
 use Rattle.std.proofs.Common.{◌≤◌, ◌<◌, ◌-◌, ℕ, ◌+◌, ◌*◌}
-use Rattle.rv_word.specs.MemoryMap.{UNITS_START}
 use Rattle.cfi_verify.specs.Pass.{HoldsAt}
+use Rattle.cfi_verify.specs.Scan.{profile_in}
 use Rattle.cfi_verify.proofs.starts.Starts.unlisted_hold.Given as goal
 
 abbrev pub invariant-loop-index : goal.invariant-loop-index
 invariant-loop-index l = record {
   low : l.from ≤ l.index;
-  holds : (k : ℕ) → l.from ≤ k → k < l.index → HoldsAt l.self.listing l.self.graph.lines (UNITS_START + 4 * k);
+  holds : (k : ℕ) → l.from ≤ k → k < l.index → HoldsAt (profile_in l.self) l.self.listing l.self.graph ((profile_in l.self).units_from + 4 * k);
 }
 
 abbrev pub decreases-loop-index : goal.decreases-loop-index

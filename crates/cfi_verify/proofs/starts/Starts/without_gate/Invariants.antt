@@ -3,8 +3,9 @@ use Rattle.least.specs.Least.{IsLeast}
 use Rattle.cfi_verify.specs.Entries.{gate_at}
 use Rattle.cfi_verify.specs.Lines.{is_among}
 use Rattle.cfi_verify.specs.Rules.{is_label}
+use Rattle.cfi_verify.specs.Scan.{profile_in}
 use Rattle.cfi_verify.proofs.starts.Starts.without_gate.Given as goal
 
 abbrev pub invariant-loop-target : goal.invariant-loop-target
 invariant-loop-target l =
-    IsLeast (λ a. is_among a (take l.target-index l.targets) && not (is_label (gate_at l.self.listing a) l.label)) l.least
+    IsLeast (λ a. is_among a (take l.target-index l.targets) && not (is_label (gate_at (profile_in l.self) l.self.listing a) l.label)) l.least

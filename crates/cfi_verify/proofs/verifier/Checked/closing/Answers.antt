@@ -1,0 +1,6 @@
+use Rattle.std.proofs.Common.{◌∙◌, ℕ, ap}
+use Rattle.rv_word.specs.MemoryMap.{profile_of}
+use Rattle.cfi_verify.proofs.verifier.Checked.closing.Goals as goal
+
+pub returns : goal.returns
+returns c = c.closing.ensures ∙ ap (λ (v : ℕ). (profile_of v).closing) c.self.invariant.version
