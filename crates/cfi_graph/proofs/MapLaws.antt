@@ -11,16 +11,17 @@ use Rattle.text_lines.specs.declared.end.TextEnd.TheVariants.{Line, NoMemory}
 use Rattle.text_lines.specs.Answers.{Answers}
 use Rattle.text_lines.specs.Hex.{hex, hex_text}
 use Rattle.text_lines.specs.Lines.{lines_of, spaced, words_of}
+use Rattle.text_lines.specs.Reading.{read, whole}
 use Rattle.text_lines.proofs.Accepts.{Accepts, end_only, line_first}
 use Rattle.text_lines.proofs.Numbers.{hex_spelled}
 use Rattle.rv_word.proofs.Cases.{guarded}
 use Rattle.text_lines.proofs.Options.{and_then, mapped}
-use Rattle.text_lines.proofs.Whole.{text_accepts, text_back}
+use Rattle.text_lines.proofs.Whole.{named_back, one_named_ok, only_name, whole_accepts, whole_back}
 use Rattle.text_lines.proofs.Written.{hex_back, hex_plain, join_newlines, lacks, spaced_line, split_join, words_back}
 use Rattle.cfi_graph.specs.declared.map.MapLine.{MapLine}
 use Rattle.cfi_graph.specs.Graph.{is_rising}
 use Rattle.cfi_graph.specs.Map.{IsMap, is_gate, map_line_below, map_line_in_range}
-use Rattle.cfi_graph.specs.MapText.{in_map_order, map_line_of, map_line_spelled, map_lines, map_of, map_rules, map_text, map_words}
+use Rattle.cfi_graph.specs.MapText.{in_map_order, map_line_of, map_line_spelled, map_lines, map_names, map_of, map_rules, map_text, map_words}
 
 -- lines rise after the line before
 abbrev rises_after : Option MapLine → List MapLine → Bool
@@ -121,19 +122,25 @@ no_end = refl
 pub map_of-map_text : (lines : List MapLine) → IsMap lines → map_of (map_text lines) ≡ Ok lines
 unfolding map_of
 map_of-map_text lines is =
-    text_back map_rules None no_end (codes "rvcfi-map 1") (map_text lines) (spellings lines ++ [] ∷ []) lines (lines_back lines) (accepts None lines is.range is.order)
+    let others = accepts None lines is.range is.order in
+    rw (lines_back lines, named_back map_names (codes "rvcfi-map 1") 0 (spellings lines ++ [] ∷ []) refl others) (whole_back map_rules None no_end 2 (spellings lines ++ [] ∷ []) lines others)
 
 -- ---- what an answer says
 
-pub map_of_allowed : (text : List ℕ) (lines : List MapLine) → map_of text ≡ Ok lines → IsMap lines
+-- a text that is read begins with its name, and its lines are those of the form
+begun : {P : Type 0} (text : List ℕ) (lines : List MapLine) → map_of text ≡ Ok lines → ((rest : List (List ℕ)) → lines_of text ≡ codes "rvcfi-map 1" ∷ rest → Accepts map_rules None rest lines → P) → P
 unfolding map_of
+begun text lines e go =
+    one_named_ok map_names (lines_of text) (λ first. whole (read map_rules None 2 first.1)) lines e (λ which rest known parts_are others. go rest (only_name which known parts_are) (whole_accepts map_rules None 2 rest lines others))
+
+pub map_of_allowed : (text : List ℕ) (lines : List MapLine) → map_of text ≡ Ok lines → IsMap lines
 map_of_allowed text lines e =
-    text_accepts map_rules None (codes "rvcfi-map 1") text lines e (λ rest begins accepts. record { range = in_range accepts; order = rises accepts })
+    begun text lines e (λ rest begins accepts. record { range = in_range accepts; order = rises accepts })
 
 pub map_of_spelled : (text : List ℕ) (lines : List MapLine) → map_of text ≡ Ok lines → text ≡ map_text lines
-unfolding map_of map_text map_lines
+unfolding map_text map_lines
 map_of_spelled text lines e =
-    text_accepts map_rules None (codes "rvcfi-map 1") text lines e (λ rest begins accepts.
+    begun text lines e (λ rest begins accepts.
     sym (join_with_byte-slice_split 10 text) ∙ ap (join_with_byte 10) (begins ∙ ap (λ others. codes "rvcfi-map 1" ∷ others) (spelled accepts)) ∙ join_newlines (codes "rvcfi-map 1" ∷ spellings lines))
 
 pub record IsMapReading (text : List ℕ) (answer : Result (List MapLine) TextEnd) : Type 0 where

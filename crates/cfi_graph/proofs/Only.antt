@@ -11,12 +11,12 @@ use Rattle.cfi_graph.specs.declared.line.Key.{Key}
 use Rattle.cfi_graph.specs.Graph.{GraphParts, IsGraph, is_code_address, is_code_length, is_label, key_below, key_of, line_in_range, targets_rise}
 use Rattle.text_lines.specs.Hex.{hex, hex_text}
 use Rattle.text_lines.specs.Lines.{lines_of, spaced, words_of}
-use Rattle.text_lines.specs.Reading.{after_name, if_right, read}
+use Rattle.text_lines.specs.Reading.{if_right, one_named, read}
 use Rattle.text_lines.proofs.Accepts.{Accepts, end_only, line_first, read_back}
 use Rattle.text_lines.proofs.Written.{hex_back, hex_plain, join_newlines, lacks, plain, spaced_line, split_join, words_back}
 use Rattle.cfi_graph.specs.Text.{graph_lines, graph_text, kind_name, words_of_line}
 use Rattle.cfi_graph.specs.Lines.{addresses_of, length_of, line_of}
-use Rattle.cfi_graph.specs.Reading.{after_first, graph_of, graph_rules, in_order}
+use Rattle.cfi_graph.specs.Reading.{after_first, graph_names, graph_of, graph_rules, in_order}
 use Rattle.cfi_graph.proofs.Whole.{rises_after, spellings}
 
 -- an allowed number has no more digits than are written
@@ -126,8 +126,8 @@ after_first_back len [] is = rw (length_back len is.length, is.length, body_whol
 after_first_back len (l ∷ lines) is =
     rw (length_back len is.length, is.length, body_whole len (l ∷ lines) is) refl
 
-from_lines_back : (graph : GraphParts) → IsGraph graph → if_right (after_name (codes "rvcfi-graph 1") (graph_lines graph ++ [] ∷ [])) after_first ≡ Ok graph
-unfolding after_name graph_lines
+from_lines_back : (graph : GraphParts) → IsGraph graph → if_right (one_named graph_names (graph_lines graph ++ [] ∷ [])) (λ first. after_first first.1) ≡ Ok graph
+unfolding one_named graph_lines
 from_lines_back graph is = after_first_back graph.code graph.lines is
 
 second_lacks : (len : ℕ) → lacks 10 (spaced (second_words (hex_text 8 len))) ≡ true
@@ -142,4 +142,4 @@ lines_back graph =
 
 pub graph_of-graph_text : (graph : GraphParts) → IsGraph graph → graph_of (graph_text graph) ≡ Ok graph
 unfolding graph_of
-graph_of-graph_text graph is = ap (λ lines. if_right (after_name (codes "rvcfi-graph 1") lines) after_first) (lines_back graph) ∙ from_lines_back graph is
+graph_of-graph_text graph is = ap (λ lines. if_right (one_named graph_names lines) (λ first. after_first first.1)) (lines_back graph) ∙ from_lines_back graph is

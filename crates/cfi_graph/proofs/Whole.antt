@@ -8,13 +8,13 @@ use Rattle.cfi_graph.specs.declared.line.Key.{Key}
 use Rattle.text_lines.specs.declared.end.TextEnd.{TextEnd}
 use Rattle.text_lines.specs.Hex.{hex_text}
 use Rattle.text_lines.specs.Lines.{lines_of, spaced}
-use Rattle.text_lines.specs.Reading.{after_name, if_right, read, whole}
+use Rattle.text_lines.specs.Reading.{if_right, one_named, read, whole}
 use Rattle.text_lines.proofs.Accepts.{Accepts, end_only, if_ok, line_first}
-use Rattle.text_lines.proofs.Whole.{named_ok, whole_accepts}
+use Rattle.text_lines.proofs.Whole.{one_named_ok, only_name, whole_accepts}
 use Rattle.text_lines.proofs.Written.{join_newlines}
 use Rattle.cfi_graph.specs.Graph.{GraphParts, IsGraph, is_code_length, is_rising, key_below, key_of, line_in_range, targets_rise}
 use Rattle.cfi_graph.specs.Text.{graph_lines, graph_text, words_of_line}
-use Rattle.cfi_graph.specs.Reading.{after_first, graph_of, graph_rules, in_order, with_length}
+use Rattle.cfi_graph.specs.Reading.{after_first, graph_names, graph_of, graph_rules, in_order, with_length}
 use Rattle.cfi_graph.proofs.Spelled.{line_spelled, length_spelled}
 
 -- lines rise after the line with the key `before`
@@ -97,14 +97,14 @@ after_first_ok (line ∷ part ∷ parts) graph e =
     with_length_ok _ _ graph e (λ found length lines.
     record { length = length; second = line; rest = part ∷ parts; parts_are = refl; second_is = length_spelled line graph.code found; accepts = whole_accepts (graph_rules graph.code) None 3 (part ∷ parts) graph.lines lines })
 
-from_lines_ok : (parts : List (List ℕ)) (graph : GraphParts) → if_right (after_name (codes "rvcfi-graph 1") parts) after_first ≡ Ok graph → Gives parts graph
+from_lines_ok : (parts : List (List ℕ)) (graph : GraphParts) → if_right (one_named graph_names parts) (λ first. after_first first.1) ≡ Ok graph → Gives parts graph
 unfolding graph_lines
 from_lines_ok parts graph e =
-    named_ok (codes "rvcfi-graph 1") parts after_first graph e (λ rest parts_are named.
+    one_named_ok graph_names parts (λ first. after_first first.1) graph e (λ which rest known parts_are named.
     let after = after_first_ok rest graph named in
     record {
       allowed = record { length = after.length; range = in_range graph.code after.accepts; targets = targets graph.code after.accepts; order = rises graph.code after.accepts };
-      lines = parts_are ∙ ap (λ others. codes "rvcfi-graph 1" ∷ others) (after.parts_are ∙ ap (λ second. second ∷ after.rest) after.second_is ∙ ap (λ rest. spaced (codes "code" ∷ codes "40000000" ∷ hex_text 8 graph.code ∷ []) ∷ rest) (spelled graph.code after.accepts));
+      lines = only_name which known parts_are ∙ ap (λ others. codes "rvcfi-graph 1" ∷ others) (after.parts_are ∙ ap (λ second. second ∷ after.rest) after.second_is ∙ ap (λ rest. spaced (codes "code" ∷ codes "40000000" ∷ hex_text 8 graph.code ∷ []) ∷ rest) (spelled graph.code after.accepts));
     })
 
 pub graph_of_allowed : (text : List ℕ) (graph : GraphParts) → graph_of text ≡ Ok graph → IsGraph graph

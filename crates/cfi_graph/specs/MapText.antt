@@ -4,8 +4,8 @@ use Rattle.std.specs.Prelude.{ℕ, Bool, true, if◌then◌else◌, List, [], �
 use Rattle.std.specs.List.{flat_map}
 use Rattle.std.specs.Str.{bytes_eq}
 use Rattle.text_lines.specs.Hex.{hex, hex_text}
-use Rattle.text_lines.specs.Lines.{spaced}
-use Rattle.text_lines.specs.Reading.{LineRules, read_text, whole}
+use Rattle.text_lines.specs.Lines.{lines_of, spaced}
+use Rattle.text_lines.specs.Reading.{LineRules, if_right, one_named, read, whole}
 use Rattle.text_lines.specs.declared.end.TextEnd.{TextEnd}
 use Rattle.cfi_graph.specs.declared.map.MapLine.{MapLine}
 use Rattle.cfi_graph.specs.Map.{map_line_below, map_line_in_range}
@@ -47,6 +47,11 @@ map_rules = record {
   items = λ line. line ∷ [];
 }
 
+-- the first lines that a map may have
+abbrev pub map_names : List (List ℕ)
+map_names = codes "rvcfi-map 1" ∷ []
+
 -- what a text is read as
 unfoldable pub map_of : List ℕ → Result (List MapLine) TextEnd
-map_of text = whole (read_text map_rules None (codes "rvcfi-map 1") text)
+map_of text =
+    if_right (one_named map_names (lines_of text)) (λ first. whole (read map_rules None 2 first.1))

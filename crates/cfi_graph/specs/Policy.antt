@@ -5,7 +5,8 @@ use Rattle.std.specs.Option.{option_or}
 use Rattle.std.specs.Str.{bytes_eq}
 use Rattle.text_lines.specs.declared.hexadecimal.Case.TheVariants.{Either}
 use Rattle.text_lines.specs.Hex.{short_hex}
-use Rattle.text_lines.specs.Reading.{LineRules, Reading, read_text, whole}
+use Rattle.text_lines.specs.Lines.{lines_of}
+use Rattle.text_lines.specs.Reading.{LineRules, Reading, after_heading, one_named, read, whole}
 use Rattle.text_lines.specs.declared.end.TextEnd.{TextEnd}
 use Rattle.cfi_graph.specs.declared.policy.PlaceName.{PlaceName}
 use Rattle.cfi_graph.specs.declared.policy.PolicyLine.{PolicyLine}
@@ -51,9 +52,14 @@ policy_rules = record {
   items = λ line. line ∷ [];
 }
 
+-- the first lines that a policy may have
+abbrev pub policy_names : List (List ℕ)
+policy_names = codes "rvcfi-policy 1" ∷ []
+
 -- the lines before the first fault, and the fault, if there is one
 unfoldable pub policy_read : List ℕ → Reading PolicyLine
-policy_read text = read_text policy_rules tt (codes "rvcfi-policy 1") text
+policy_read text =
+    after_heading (one_named policy_names (lines_of text)) (λ first. read policy_rules tt 2 first.1)
 
 -- what a text is read as
 unfoldable pub policy_of : List ℕ → Result (List PolicyLine) TextEnd

@@ -7,7 +7,7 @@ use Rattle.text_lines.specs.declared.reason.Reason.TheVariants.{Form, Range}
 use Rattle.text_lines.specs.declared.end.TextEnd.{TextEnd}
 use Rattle.text_lines.specs.declared.end.TextEnd.TheVariants.{Line}
 use Rattle.text_lines.specs.Lines.{lines_of, words_of}
-use Rattle.text_lines.specs.Reading.{LineRules, after_name, if_right, read, whole}
+use Rattle.text_lines.specs.Reading.{LineRules, if_right, one_named, read, whole}
 use Rattle.cfi_graph.specs.declared.line.GraphLine.{GraphLine}
 use Rattle.cfi_graph.specs.declared.line.Key.{Key}
 use Rattle.cfi_graph.specs.Graph.{GraphParts, is_code_length, line_in_range, key_of, key_below, targets_rise}
@@ -42,6 +42,10 @@ unfoldable pub after_first : List (List ℕ) → Result GraphParts TextEnd
 after_first (line ∷ next ∷ rest) = with_length (length_of (words_of line)) (next ∷ rest)
 after_first lines = Err (Line 2 Form)
 
+-- the first lines that a graph may have
+abbrev pub graph_names : List (List ℕ)
+graph_names = codes "rvcfi-graph 1" ∷ []
+
 -- what a text is read as
 unfoldable pub graph_of : List ℕ → Result GraphParts TextEnd
-graph_of text = if_right (after_name (codes "rvcfi-graph 1") (lines_of text)) after_first
+graph_of text = if_right (one_named graph_names (lines_of text)) (λ first. after_first first.1)

@@ -9,7 +9,7 @@ ghost use Rattle.cfi_graph.specs.MapText.{in_map_order, map_line_of, map_of, map
 use crate::map::{Map, MapLine, MapLines};
 use rv_word::NoMemory;
 use std::alloc::Global;
-use text_lines::{LineForm, TextEnd, cut, hex_of, is_word, push_number, read_text};
+use text_lines::{LineForm, TextEnd, after_one_of, cut, hex_of, is_word, push_number, read_lines};
 
 /// The line of a map that these bytes spell, if they have the form of one.
 fn map_line_of(line: &[u8]) -> Option<MapLine>
@@ -77,6 +77,9 @@ impl LineForm for MapForm {
     }
 }
 
+/// The first lines that a map may have.
+const NAMES: [&[u8]; 1] = [b"rvcfi-map 1"];
+
 /// Reads the text of a map, of which it keeps no copy. The lines of a text count from 1.
 pub fn read_map(alloc: Global, text: &[u8]) -> Result<Map, TextEnd>
     // The right answer, but for want of memory.
@@ -89,11 +92,12 @@ pub fn read_map(alloc: Global, text: &[u8]) -> Result<Map, TextEnd>
     // The text of each map is read as that map.
     ensures only { (m : List MapLine) → IsMap m → text.now ≡ map_text m → Answers result (Ok m) }
 {
+    let (_, rest) = after_one_of(text, &NAMES)?;
     let mut form = MapForm {
         before: None,
         lines: MapLines::of(Vec::new(alloc)),
     };
-    read_text(alloc, &mut form, b"rvcfi-map 1", text)?;
+    read_lines(alloc, &mut form, 2, rest)?;
     Ok(Map { lines: form.lines })
 }
 

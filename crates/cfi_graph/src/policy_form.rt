@@ -17,7 +17,7 @@ ghost use Rattle.cfi_graph.specs.Policy.{
 use crate::policy::{PlaceName, PlaceNames, Policy, PolicyLine};
 use rv_word::{Bytes, NoMemory};
 use std::alloc::Global;
-use text_lines::{Case, LineForm, TextEnd, cut, is_word, read_text, short_hex_of};
+use text_lines::{Case, LineForm, TextEnd, after_one_of, cut, is_word, read_lines, short_hex_of};
 
 /// Where the last `+` of a word stands.
 fn last_plus(word: &[u8]) -> Option<usize>
@@ -142,6 +142,9 @@ impl LineForm for PolicyForm {
     }
 }
 
+/// The first lines that a policy may have.
+const NAMES: [&[u8]; 1] = [b"rvcfi-policy 1"];
+
 /// Reads the text of a policy up to its first fault: the lines before that, and the fault, or that there
 /// is none. The lines of a text count from 1.
 pub fn read_policy_part(alloc: Global, text: &[u8]) -> (Policy, Result<(), TextEnd>)
@@ -151,10 +154,13 @@ pub fn read_policy_part(alloc: Global, text: &[u8]) -> (Policy, Result<(), TextE
     // After want of memory the first of these were collected.
     ensures begun { AfterNoMemory result.1 (FirstCollected [] result.0 (policy_read text.now).items) }
 {
-    let mut form = PolicyForm {
-        lines: Vec::new(alloc),
+    let lines = Vec::new(alloc);
+    let (_, rest) = match after_one_of(text, &NAMES) {
+        Ok(first) => first,
+        Err(end) => return (Policy { lines }, Err(end)),
     };
-    let end = read_text(alloc, &mut form, b"rvcfi-policy 1", text);
+    let mut form = PolicyForm { lines };
+    let end = read_lines(alloc, &mut form, 2, rest);
     (Policy { lines: form.lines }, end)
 }
 

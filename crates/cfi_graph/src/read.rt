@@ -10,7 +10,10 @@ use crate::graph::{Graph, GraphLines};
 use crate::graph_form::GraphForm;
 use crate::rules::is_code_length;
 use std::alloc::Global;
-use text_lines::{Reason, TextEnd, after_name, cut, read_lines};
+use text_lines::{Reason, TextEnd, after_one_of, cut, read_lines};
+
+/// The first lines that a graph may have.
+const NAMES: [&[u8]; 1] = [b"rvcfi-graph 1"];
 
 /// The graph that stands after the first line.
 fn after_first(alloc: Global, text: &[u8]) -> Result<Graph, TextEnd>
@@ -50,6 +53,6 @@ pub fn read_graph(alloc: Global, text: &[u8]) -> Result<Graph, TextEnd>
     // The text of each graph is read as that graph.
     ensures only { (g : GraphParts) → IsGraph g → text.now ≡ graph_text g → Answers result (Ok g) }
 {
-    let rest = after_name(text, b"rvcfi-graph 1")?;
+    let (_, rest) = after_one_of(text, &NAMES)?;
     after_first(alloc, rest)
 }

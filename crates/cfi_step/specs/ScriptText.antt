@@ -6,7 +6,8 @@ use Rattle.std.specs.Str.{bytes_eq}
 use Rattle.rv_word.specs.MemoryMap.{DATA_END}
 use Rattle.text_lines.specs.Decimal.{MAX_STEP, capped, decimal}
 use Rattle.text_lines.specs.Hex.{digit_value, hex}
-use Rattle.text_lines.specs.Reading.{LineRules, read_text, whole}
+use Rattle.text_lines.specs.Lines.{lines_of}
+use Rattle.text_lines.specs.Reading.{LineRules, if_right, one_named, read, whole}
 use Rattle.text_lines.specs.declared.end.TextEnd.{TextEnd}
 use Rattle.cfi_step.specs.Script.{Changes}
 use Rattle.cfi_step.specs.declared.script_line.ScriptLine.{ScriptLine}
@@ -59,6 +60,11 @@ script_rules = record {
   items = line_changes;
 }
 
+-- the first lines that a script may have
+abbrev pub script_names : List (List ℕ)
+script_names = codes "rvcfi-script 1" ∷ []
+
 -- what a text is read as; any step may come first, since none is below 0
 unfoldable pub script_of : List ℕ → Result Changes TextEnd
-script_of text = whole (read_text script_rules 0 (codes "rvcfi-script 1") text)
+script_of text =
+    if_right (one_named script_names (lines_of text)) (λ first. whole (read script_rules 0 2 first.1))

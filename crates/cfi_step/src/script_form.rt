@@ -9,7 +9,7 @@ use rv_machine::Change;
 use rv_word::NoMemory;
 use rv_word::memory_map::DATA_END;
 use std::alloc::Global;
-use text_lines::{LineForm, MAX_STEP, TextEnd, read_text};
+use text_lines::{LineForm, MAX_STEP, TextEnd, after_one_of, read_lines};
 
 fn in_range(line: &ScriptLine) -> bool
     ensures { result ≡ in_range line.now }
@@ -74,6 +74,9 @@ impl LineForm for ScriptForm {
     }
 }
 
+/// The first lines that a script may have.
+const NAMES: [&[u8]; 1] = [b"rvcfi-script 1"];
+
 impl Script {
     /// Reads the text of a script, of which it keeps no copy. The lines of a text count from 1.
     pub fn read(alloc: Global, text: &[u8]) -> Result<Script, TextEnd>
@@ -81,11 +84,12 @@ impl Script {
         ensures exact { Answers result (script_of text.now) }
         ensures ordered { IfOk result IsScript }
     {
+        let (_, rest) = after_one_of(text, &NAMES)?;
         let mut form = ScriptForm {
             before: 0,
             changes: Vec::new(alloc),
         };
-        read_text(alloc, &mut form, b"rvcfi-script 1", text)?;
+        read_lines(alloc, &mut form, 2, rest)?;
         Ok(Script::with(form.changes))
     }
 }

@@ -1,14 +1,14 @@
 -- The lines of a text, one step of their reading at a time. `all` is what the whole text gives after
 -- `init`, and `front` what was collected before this line.
-use Rattle.std.proofs.Common.{◌≡◌, ℕ, ◌+◌, true, false, List, [], ◌∷◌, ◌++◌, length, take, codes, Result, Ok, Err, refl, sym, ◌∙◌, ap, append_assoc}
-use Rattle.std.specs.List.{join_with_byte}
+use Rattle.std.proofs.Common.{◌≡◌, ℕ, ◌+◌, Bool, true, false, not, List, [], ◌∷◌, ◌++◌, length, map, take, codes, position, Option, Result, Ok, Err, refl, sym, ◌∙◌, ap, append_assoc}
+use Rattle.std.specs.List.{join_with_byte, prefix_len}
 use Rattle.std.specs.Str.{bytes_eq}
 use Rattle.std.proofs.Math.Seq.{take-append_seam}
-use Rattle.std.proofs.lemmas.List.{append-nil, append_cancel_left}
+use Rattle.std.proofs.lemmas.List.{append-nil, append_cancel_left, length-map}
 use Rattle.std.proofs.lemmas.List.Splits.{join_with_byte-slice_split}
 use Rattle.text_lines.specs.Answers.{AfterNoMemory, Answers, UnlessNoMemory}
 use Rattle.text_lines.specs.Lines.{lines_of, words_of}
-use Rattle.text_lines.specs.Reading.{FirstCollected, LineRules, Reading, after_name, at_end, judged, read, refused, with_front}
+use Rattle.text_lines.specs.Reading.{FirstCollected, LineRules, Reading, at_end, judged, one_named, read, refused, told, with_front}
 use Rattle.text_lines.specs.declared.reason.Reason.TheVariants.{Form}
 use Rattle.text_lines.specs.declared.end.TextEnd.{TextEnd}
 use Rattle.text_lines.specs.declared.end.TextEnd.TheVariants.{Line, NoMemory}
@@ -93,16 +93,21 @@ module _ {L B I : Type 0} (rules : LineRules L B I) (before : B) (number : ℕ) 
       again : (others : Reading I) → with_front front (with_front (rules.items l) others) ≡ with_front init all → with_front (front ++ rules.items l) others ≡ with_front init all
       again others k = ap (λ (items : List I). let r : Reading I = record { items = items; end = others.end } in r) (append_assoc front (rules.items l) others.items) ∙ k
 
--- the first line
-module _ (name : List ℕ) {parts : List (List ℕ)} {line : List ℕ} where
-  pub first_alone : parts ≡ line ∷ [] → after_name name parts ≡ Err (Line 1 Form)
-  unfolding after_name
+-- the first of the images that passes
+prefix_len-map : {X Y : Type 0} (p : Y → Bool) (f : X → Y) (xs : List X) → prefix_len p (map f xs) ≡ prefix_len (λ x. p (f x)) xs
+prefix_len-map p f [] = refl
+prefix_len-map p f (x ∷ xs) = rw (prefix_len-map p f xs) refl
+
+position-map : {X Y : Type 0} (p : Y → Bool) (f : X → Y) (xs : List X) → position p (map f xs) ≡ position (λ x. p (f x)) xs
+position-map p f xs = rw (prefix_len-map (λ y. not (p y)) f xs, length-map xs f) refl
+
+-- the first line, of names that are kept in some form
+module _ {Name : Type 0} (bytes : Name → List ℕ) (names : List Name) {parts : List (List ℕ)} {line : List ℕ} where
+  pub first_alone : parts ≡ line ∷ [] → one_named (map bytes names) parts ≡ Err (Line 1 Form)
+  unfolding one_named
   first_alone p = rw p refl
 
-  pub first_other : (rest : List ℕ) → parts ≡ line ∷ lines_of rest → bytes_eq line name ≡ false → after_name name parts ≡ Err (Line 1 Form)
-  unfolding after_name
-  first_other rest p e = some_line rest (λ part others q. rw (p, q, e) refl)
-
-  pub first_right : (rest : List ℕ) → parts ≡ line ∷ lines_of rest → bytes_eq line name ≡ true → after_name name parts ≡ Ok (lines_of rest)
-  unfolding after_name
-  first_right rest p e = some_line rest (λ part others q. rw (p, q, e) refl)
+  pub first_line : (rest : List ℕ) (which : Option ℕ) → parts ≡ line ∷ lines_of rest → which ≡ position (λ name. bytes_eq line (bytes name)) names → one_named (map bytes names) parts ≡ told which (lines_of rest)
+  unfolding one_named
+  first_line rest which p e =
+      some_line rest (λ part others q. rw (p, q) (ap (λ found. told found (part ∷ others)) (position-map (bytes_eq line) bytes names ∙ sym e)))

@@ -1,12 +1,12 @@
 -- A whole text: its heading, and what is read after it.
-use Rattle.std.proofs.Common.{◌≡◌, ℕ, List, [], ◌∷◌, ◌++◌, codes, None, Result, Ok, Err, refl, sym, subst, ◌∙◌, ap, inl, inr}
+use Rattle.std.proofs.Common.{◌≡◌, ℕ, zero, suc, ◌<◌, List, [], ◌∷◌, codes, get_or, length, position, Some, None, Result, Ok, Err, refl, subst, ap, inl, inr, arith}
 use Rattle.std.specs.Str.{bytes_eq}
 use Rattle.std.proofs.lemmas.Slice.Eq.{bytes_eq-Decides}
-use Rattle.std.proofs.lemmas.Bool.{cases_Bool}
-use Rattle.std.proofs.lemmas.List.{append-nil}
+use Rattle.std.proofs.lemmas.List.Quantifiers.{position-Some}
+use Rattle.rv_word.proofs.Cases.{cases_Option}
 use Rattle.text_lines.specs.Answers.{Answers, UnlessNoMemory}
-use Rattle.text_lines.specs.Lines.{lines_of, words_of}
-use Rattle.text_lines.specs.Reading.{LineRules, Reading, after_heading, after_name, if_right, read, read_text, whole}
+use Rattle.text_lines.specs.Lines.{words_of}
+use Rattle.text_lines.specs.Reading.{LineRules, Reading, after_heading, if_right, one_named, read, whole}
 use Rattle.text_lines.specs.declared.end.TextEnd.{TextEnd}
 use Rattle.text_lines.specs.declared.end.TextEnd.TheVariants.{Line, NoMemory}
 use Rattle.text_lines.proofs.Accepts.{Accepts, accepts_from_read, end_only, line_first, read_back}
@@ -31,22 +31,18 @@ pub stops : {A C : Type 0} (step : Result A TextEnd) (end : TextEnd) (next : A �
 stops step (Line n reason) next e = rw e refl
 stops step NoMemory next e = tt
 
-module _ {L B I : Type 0} (rules : LineRules L B I) (before : B) (name text : List ℕ) where
-  pub named_right : (rest : List ℕ) → after_name name (lines_of text) ≡ Ok (lines_of rest) → read_text rules before name text ≡ read rules before 2 (lines_of rest)
-  unfolding read_text
-  named_right rest e = rw e refl
+-- what is read after a heading, and after one that is refused
+module _ {H I : Type 0} (heading : Result H TextEnd) (others : H → Reading I) where
+  pub right_heading : (head : H) → heading ≡ Ok head → after_heading heading others ≡ others head
+  right_heading head e = rw e refl
 
-  pub named_wrong : (end : TextEnd) → after_name name (lines_of text) ≡ Err end → read_text rules before name text ≡ record { items = []; end = Err end }
-  unfolding read_text
-  named_wrong end e = rw e refl
+  pub wrong_heading : (end : TextEnd) → heading ≡ Err end → Answers {A = Unit {0}} (Err end) (after_heading heading others).end
+  wrong_heading (Line n reason) e = rw e refl
+  wrong_heading NoMemory e = tt
 
-  pub wrong_end : (end : TextEnd) → after_name name (lines_of text) ≡ Err end → Answers {A = Unit {0}} (Err end) (read_text rules before name text).end
-  wrong_end (Line n reason) e = rw (named_wrong (Line n reason) e) refl
-  wrong_end NoMemory e = tt
-
-  pub wrong_items : (front : List I) (end : TextEnd) → after_name name (lines_of text) ≡ Err end → UnlessNoMemory {A = Unit {0}} (Err end) (front ≡ front ++ (read_text rules before name text).items)
-  wrong_items front (Line n reason) e = rw (named_wrong (Line n reason) e) (sym (append-nil front))
-  wrong_items front NoMemory e = tt
+  pub nothing_read : (end : TextEnd) → heading ≡ Err end → UnlessNoMemory {A = Unit {0}} (Err end) ([] ≡ (after_heading heading others).items)
+  nothing_read (Line n reason) e = rw e refl
+  nothing_read NoMemory e = tt
 
 -- ---- what a text that is read is
 
@@ -57,15 +53,29 @@ whole_ok {I} reading items e = at reading.end e
     at (Ok done) h = (refl, cc)
     at (Err fault) h = absurd cc
 
-pub named_ok : {A P : Type 0} (name : List ℕ) (parts : List (List ℕ)) (next : List (List ℕ) → Result A TextEnd) (x : A) → if_right (after_name name parts) next ≡ Ok x → ((rest : List (List ℕ)) → parts ≡ name ∷ rest → next rest ≡ Ok x → P) → P
-unfolding after_name
-named_ok name [] next x e go = absurd cc
-named_ok name (line ∷ []) next x e go = absurd cc
-named_ok name (line ∷ part ∷ parts) next x e go =
-    elim (cases_Bool (bytes_eq line name)) [
-      | inl same ↦ go (part ∷ parts) (ap (λ first. first ∷ part ∷ parts) ((bytes_eq-Decides line name).0 same)) (rw same at e)
-      | inr other ↦ absurd (cc (rw other at e))
+-- a text that is read begins with one of the names
+pub one_named_ok : {A P : Type 0} (names parts : List (List ℕ)) (next : ℕ × List (List ℕ) → Result A TextEnd) (x : A) → if_right (one_named names parts) next ≡ Ok x → ((which : ℕ) (rest : List (List ℕ)) → which < length names → parts ≡ get_or names which [] ∷ rest → next (which, rest) ≡ Ok x → P) → P
+unfolding one_named
+one_named_ok names [] next x e go = absurd cc
+one_named_ok names (line ∷ []) next x e go = absurd cc
+one_named_ok names (line ∷ part ∷ parts) next x e go =
+    elim (cases_Option (position (bytes_eq line) names)) [
+      | inl none ↦ absurd (cc (rw none at e))
+      | inr (which, some) ↦
+          let at = position-Some (bytes_eq line) names which [] some in
+          go which (part ∷ parts) at.0 (ap (λ first. first ∷ part ∷ parts) ((bytes_eq-Decides line (get_or names which [])).0 at.1)) (rw some at e)
     ]
+
+-- of one name alone it is that name
+pub only_name : {name : List ℕ} {parts rest : List (List ℕ)} (which : ℕ) → which < 1 → parts ≡ get_or (name ∷ []) which [] ∷ rest → parts ≡ name ∷ rest
+only_name zero h e = e
+only_name (suc which) h e = absurd (omega arith)
+
+-- one of the names, and then what is accepted, tells which of them it is
+pub named_back : {L B I : Type 0} {rules : LineRules L B I} {before : B} {items : List I} (names : List (List ℕ)) (name : List ℕ) (which : ℕ) (rest : List (List ℕ)) → position (bytes_eq name) names ≡ Some which → Accepts rules before rest items → one_named names (name ∷ rest) ≡ Ok (which, rest)
+unfolding one_named
+named_back names name which _ at end_only = rw at refl
+named_back names name which _ at (line_first found range order others) = rw at refl
 
 module _ {L B I : Type 0} (rules : LineRules L B I) (before : B) where
   pub whole_accepts : (number : ℕ) (parts : List (List ℕ)) (items : List I) → whole (read rules before number parts) ≡ Ok items → Accepts rules before parts items
@@ -73,27 +83,6 @@ module _ {L B I : Type 0} (rules : LineRules L B I) (before : B) where
       let p = whole_ok (read rules before number parts) items e in
       subst (Accepts rules before parts) p.1 (accepts_from_read rules before number parts p.0)
 
-  heading_whole : (heading : Result (List (List ℕ)) TextEnd) (others : List (List ℕ) → Reading I) → whole (after_heading heading others) ≡ if_right heading (λ lines. whole (others lines))
-  heading_whole (Ok lines) others = refl
-  heading_whole (Err fault) others = refl
-
-  -- a text that is read begins with its name, and its lines are those of its form
-  pub text_accepts : {P : Type 0} (name text : List ℕ) (items : List I) → whole (read_text rules before name text) ≡ Ok items → ((rest : List (List ℕ)) → lines_of text ≡ name ∷ rest → Accepts rules before rest items → P) → P
-  unfolding read_text
-  text_accepts name text items e go =
-      named_ok name (lines_of text) (λ lines. whole (read rules before 2 lines)) items (sym (heading_whole (after_name name (lines_of text)) (λ lines. read rules before 2 lines)) ∙ e) (λ rest begins lines. go rest begins (whole_accepts 2 rest items lines))
-
-  some_rest : (name line : List ℕ) {b : B} {xs : List I} (rest : List (List ℕ)) → Accepts rules b rest xs → after_name name (name ∷ line ∷ rest) ≡ Ok (line ∷ rest)
-  unfolding after_name
-  some_rest name line rest accepts = rw ((bytes_eq-Decides name name).1 refl) refl
-
-  name_back : (name : List ℕ) {b : B} {xs : List I} (rest : List (List ℕ)) → Accepts rules b rest xs → after_name name (name ∷ rest) ≡ Ok rest
-  unfolding after_name
-  name_back name _ end_only = rw ((bytes_eq-Decides name name).1 refl) refl
-  name_back name _ (line_first found range order others) = some_rest name _ _ others
-
-  -- a text with its name, and then what is accepted, is read; `end` is no line of the form
-  pub text_back : (no_end : rules.spelled (words_of (codes "end")) ≡ None) (name text : List ℕ) (rest : List (List ℕ)) (items : List I) → lines_of text ≡ name ∷ rest → Accepts rules before rest items → whole (read_text rules before name text) ≡ Ok items
-  unfolding read_text
-  text_back no_end name text rest items begins accepts =
-      rw (begins, name_back name rest accepts, read_back rules no_end 2 accepts) refl
+  -- what is accepted is read whole; `end` is no line of the form
+  pub whole_back : (no_end : rules.spelled (words_of (codes "end")) ≡ None) (number : ℕ) (rest : List (List ℕ)) (items : List I) → Accepts rules before rest items → whole (read rules before number rest) ≡ Ok items
+  whole_back no_end number rest items accepts = rw (read_back rules no_end number accepts) refl

@@ -2,9 +2,9 @@
 -- fails is named by its number, with the first of three reasons. Form: it is no line that may stand
 -- there, or it has no newline. Range: a number in it is not allowed. Order: it may not stand after
 -- the line before it.
-use Rattle.std.specs.Prelude.{ℕ, ◌+◌, Bool, not, if◌then◌else◌, List, [], ◌∷◌, ◌++◌, take, ◌≡◌, codes, Option, Some, None, Result, Ok, Err}
+use Rattle.std.specs.Prelude.{ℕ, ◌+◌, Bool, not, if◌then◌else◌, List, [], ◌∷◌, ◌++◌, take, ◌≡◌, codes, position, Option, Some, None, Result, Ok, Err}
 use Rattle.std.specs.Str.{bytes_eq}
-use Rattle.text_lines.specs.Lines.{lines_of, words_of}
+use Rattle.text_lines.specs.Lines.{words_of}
 use Rattle.text_lines.specs.declared.end.TextEnd.{TextEnd}
 use Rattle.text_lines.specs.declared.end.TextEnd.TheVariants.{Line}
 use Rattle.text_lines.specs.declared.reason.Reason.{Reason}
@@ -72,18 +72,17 @@ if_right (Err fault) next = Err fault
 abbrev pub whole : {Item : Type 0} → Reading Item → Result (List Item) TextEnd
 whole reading = if_right reading.end (λ done. Ok reading.items)
 
--- the lines after the first, which is the name of the text's form
-unfoldable pub after_name : List ℕ → List (List ℕ) → Result (List (List ℕ)) TextEnd
-after_name name (line ∷ next ∷ rest) =
-    if bytes_eq line name then Ok (next ∷ rest) else Err (Line 1 Form)
-after_name name lines = Err (Line 1 Form)
+-- what the first line tells: which of the names it is, from 0, and the lines after it
+abbrev pub told : Option ℕ → List (List ℕ) → Result (ℕ × List (List ℕ)) TextEnd
+told None lines = Err (Line 1 Form)
+told (Some which) lines = Ok (which, lines)
 
--- what is read after the heading
-abbrev pub after_heading : {Item : Type 0} → Result (List (List ℕ)) TextEnd → (List (List ℕ) → Reading Item) → Reading Item
-after_heading (Ok lines) others = others lines
+-- the first line of a text is one of these names, the first that it is
+unfoldable pub one_named : List (List ℕ) → List (List ℕ) → Result (ℕ × List (List ℕ)) TextEnd
+one_named names (line ∷ next ∷ rest) = told (position (bytes_eq line) names) (next ∷ rest)
+one_named names lines = Err (Line 1 Form)
+
+-- what is read after the heading, by what the heading tells
+abbrev pub after_heading : {Head Item : Type 0} → Result Head TextEnd → (Head → Reading Item) → Reading Item
+after_heading (Ok head) others = others head
 after_heading (Err fault) others = record { items = []; end = Err fault }
-
--- a text whose heading is its name alone
-unfoldable pub read_text : {L B I : Type 0} → LineRules L B I → B → List ℕ → List ℕ → Reading I
-read_text rules before name text =
-    after_heading (after_name name (lines_of text)) (λ lines. read rules before 2 lines)

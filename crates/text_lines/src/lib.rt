@@ -7,7 +7,7 @@ pub use decimal::{MAX_STEP, capped_number, decimal_of};
 pub use end::TextEnd;
 pub use form::LineForm;
 pub use hexadecimal::{Case, hex_of, short_hex_of};
-pub use read::{after_name, read_lines, read_text};
+pub use read::{after_one_of, read_lines};
 pub use reason::Reason;
 pub use words::{cut, is_word};
 pub use write::push_number;

@@ -1,7 +1,8 @@
-ghost use Rattle.std.specs.Prelude.{◌≡◌, ◌++◌, true, IfOk, MatchResult, Ok, Err};
+ghost use Rattle.std.specs.Prelude.{◌≡◌, ◌++◌, true, IfOk, MatchResult, Ok, Err, map, position};
+ghost use Rattle.std.specs.Str.{bytes_eq};
 ghost use Rattle.text_lines.specs.Answers.{AfterNoMemory, Answers, UnlessNoMemory};
 ghost use Rattle.text_lines.specs.Lines.{lines_of, words_of};
-ghost use Rattle.text_lines.specs.Reading.{FirstCollected, after_name, judged, read, read_text};
+ghost use Rattle.text_lines.specs.Reading.{FirstCollected, judged, one_named, read};
 
 use crate::end::TextEnd;
 use crate::form::LineForm;
@@ -9,20 +10,27 @@ use crate::reason::Reason;
 use crate::words::{cut, is_word};
 use std::alloc::Global;
 
-/// What stands after the first line of a text, which is `name`.
-pub fn after_name<'a>(text: &'a [u8], name: &[u8]) -> Result<&'a [u8], TextEnd>
+/// Which of these names a line is, from 0: the first that it is.
+fn which_of(line: &[u8], names: &[&[u8]]) -> Option<usize>
+    ensures { result ≡ position (λ name. bytes_eq line.now name.now) names.now }
+{
+    names.iter().position(|name| is_word(line, name))
+}
+
+/// Which of these names the first line of a text is, from 0, and what stands after that line.
+pub fn after_one_of<'a>(text: &'a [u8], names: &[&[u8]]) -> Result<(usize, &'a [u8]), TextEnd>
     ensures { MatchResult result
-        (λ rest. after_name name.now (lines_of text.now) ≡ Ok (lines_of rest.now))
-        (λ end. after_name name.now (lines_of text.now) ≡ Err end) }
+        (λ first. one_named (map (λ name. name.now) names.now) (lines_of text.now) ≡ Ok (first.0, lines_of first.1.now))
+        (λ end. one_named (map (λ name. name.now) names.now) (lines_of text.now) ≡ Err end) }
 {
     let (line, rest) = cut(text, b'\n');
     let Some(rest) = rest else {
         return Err(TextEnd::Line(1, Reason::Form));
     };
-    if !is_word(line, name) {
+    let Some(which) = which_of(line, names) else {
         return Err(TextEnd::Line(1, Reason::Form));
-    }
-    Ok(rest)
+    };
+    Ok((which, rest))
 }
 
 /// The line that these bytes spell, or the first reason why it may not stand there.
@@ -87,28 +95,4 @@ pub fn read_lines<F: LineForm>(
         number += 1;
         rest = next;
     }
-}
-
-/// Reads a text whose first line is `name`, and whose others have a form; as `read_lines`.
-pub fn read_text<F: LineForm>(
-    alloc: Global,
-    form: &mut F,
-    name: &[u8],
-    text: &[u8],
-) -> Result<(), TextEnd>
-    // The right answer, but for want of memory.
-    ensures exact { Answers result
-        (read_text (F.rules form.old) (F.before form.old) name.now text.now).end }
-
-    // What was collected, at a fault too.
-    ensures collected { UnlessNoMemory result (F.items form.new ≡ F.items form.old
-        ++ (read_text (F.rules form.old) (F.before form.old) name.now text.now).items) }
-
-    // After want of memory the first of these were collected.
-    ensures begun { AfterNoMemory result (FirstCollected (F.items form.old) (F.items form.new)
-        (read_text (F.rules form.old) (F.before form.old) name.now text.now).items) }
-    ensures kept { F.rules form.new ≡ F.rules form.old }
-{
-    let rest = after_name(text, name)?;
-    read_lines(alloc, form, 2, rest)
 }

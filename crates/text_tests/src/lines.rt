@@ -1,7 +1,8 @@
 use sample_programs::is_told_as;
 use std::alloc::Global;
 use text_lines::{
-    Address, Case, LongAddress, Reason, capped_number, decimal_of, hex_of, short_hex_of,
+    Address, Case, LongAddress, Reason, TextEnd, after_one_of, capped_number, decimal_of, hex_of,
+    short_hex_of,
 };
 
 /// A word, and what it is as eight digits in lower case, as 1 to 8 digits of lower and of either case, and
@@ -89,4 +90,34 @@ fn reasons(rt: HostRuntime) {
     assert!(rt; is_told_as(rt.alloc(), &Reason::Form, "Form"));
     assert!(rt; is_told_as(rt.alloc(), &Reason::Range, "Range"));
     assert!(rt; is_told_as(rt.alloc(), &Reason::Order, "Order"));
+}
+
+/// A text, and if one of the names of `is_begun_so` is its first line, which of them, from 0, and what
+/// stands after it.
+static BEGUN: [(&[u8], Option<(usize, &[u8])>); 8] = [
+    (b"form 1\nend\n", Some((0, b"end\n"))),
+    (b"form 2 odd\nend\n", Some((1, b"end\n"))),
+    (b"form 2 odd\n", Some((1, b""))),
+    (b"form 2\nend\n", None),
+    (b"form 2  odd\nend\n", None),
+    (b"\nform 1\nend\n", None),
+    (b"form 1", None),
+    (b"", None),
+];
+
+/// Whether the first line of a text is told as its row says.
+fn is_begun_so(row: &(&'static [u8], Option<(usize, &'static [u8])>)) -> bool {
+    let names: [&[u8]; 2] = [b"form 1", b"form 2 odd"];
+    match (after_one_of(row.0, &names), row.1) {
+        (Ok((which, rest)), Some((place, after))) => which == place && rest == after,
+        (Err(TextEnd::Line(1, Reason::Form)), None) => true,
+        _ => false,
+    }
+}
+
+#[test]
+fn first_lines(rt: HostRuntime) {
+    for row in &BEGUN {
+        assert!(rt; is_begun_so(row));
+    }
 }

@@ -1,42 +1,59 @@
-use Rattle.std.proofs.Common.{◌≡◌, None, Ok, codes}
+use Rattle.std.proofs.Common.{◌≡◌, None, Ok, Err}
 use Rattle.std.proofs.lemmas.Result.{err_from_is_err_and}
 use Rattle.text_lines.specs.Answers.{Answers}
-use Rattle.text_lines.specs.Reading.{read_text}
-use Rattle.text_lines.proofs.Whole.{ends_items, lines_whole}
+use Rattle.text_lines.specs.Lines.{lines_of}
+use Rattle.text_lines.specs.Reading.{read}
+use Rattle.text_lines.proofs.Whole.{ends_items, goes_on, lines_whole, stops}
 use Rattle.cfi_graph.specs.MapText.{map_of, map_rules}
 use Rattle.cfi_graph.proofs.MapLaws.{map_of_allowed, reading}
-use Rattle.cfi_graph.proofs.map_form.read_map.Goals.{After-drop-form, In_ok-read_text}
+use Rattle.cfi_graph.proofs.map_form.read_map.Goals.{After-drop-form, After-from_residual, In_ok-read_lines}
 use Rattle.cfi_graph.proofs.map_form.read_map.Goals as goal
 
-refused : (c : After-drop-form) → Answers c.from_residual.result (map_of c.args.text.now)
+-- another first line
+refused : (c : After-from_residual) → Answers c.from_residual.result (map_of c.args.text.now)
 unfolding map_of
 refused c =
     let p = err_from_is_err_and c.from_residual.result c.from_residual.ensures.1 in
-    rw (p.1, p.2) (ends_items (read_text map_rules None (codes "rvcfi-map 1") c.args.text.now) c.in_err-read_text.field-0.0 c.in_err-read_text.ensures.exact)
+    rw (p.1, p.2) (stops _ c.in_err-rest.field-0.0 _ c.in_err-rest.ensures)
 
-pub returns-in_err-read_text-clause-exact : goal.returns-in_err-read_text-clause-exact
-returns-in_err-read_text-clause-exact c = refused c
+pub returns-in_err-rest-clause-exact : goal.returns-in_err-rest-clause-exact
+returns-in_err-rest-clause-exact c = refused c
 
-pub returns-in_err-read_text-clause-only : goal.returns-in_err-read_text-clause-only
-returns-in_err-read_text-clause-only c = (reading c.args.text.now c.from_residual.result (refused c)).only
+pub returns-in_err-rest-clause-only : goal.returns-in_err-rest-clause-only
+returns-in_err-rest-clause-only c = (reading c.args.text.now c.from_residual.result (refused c)).only
+
+-- a line that is refused
+wrong : (c : After-drop-form) → Answers c.from_residual-in_err-read_lines.result (map_of c.args.text.now)
+unfolding map_of
+wrong c =
+    let p = err_from_is_err_and c.from_residual-in_err-read_lines.result c.from_residual-in_err-read_lines.ensures.1 in
+    let lines = lines_of c.in_ok-rest.rest.now in
+    rw (p.1, p.2) (goes_on _ _ _ (Err c.in_err-read_lines.field-0.0) c.in_ok-rest.ensures (ends_items (read map_rules None 2 lines) c.in_err-read_lines.field-0.0 c.in_err-read_lines.ensures.exact))
+
+pub returns-in_err-read_lines-clause-exact : goal.returns-in_err-read_lines-clause-exact
+returns-in_err-read_lines-clause-exact c = wrong c
+
+pub returns-in_err-read_lines-clause-only : goal.returns-in_err-read_lines-clause-only
+returns-in_err-read_lines-clause-only c = (reading c.args.text.now c.from_residual-in_err-read_lines.result (wrong c)).only
 
 -- the lines that were collected are those that are read
-collected : (c : In_ok-read_text) → map_of c.args.text.now ≡ Ok c.read_text.new.form.lines
+collected : (c : In_ok-read_lines) → map_of c.args.text.now ≡ Ok c.read_lines.new.form.lines
 unfolding map_of
 collected c =
-    lines_whole (read_text map_rules None (codes "rvcfi-map 1") c.args.text.now) c.read_text.new.form.lines c.in_ok-read_text.ensures.exact (rw (c.of.ensures, c.new.ensures.items) at c.in_ok-read_text.ensures.collected)
+    let lines = lines_of c.in_ok-rest.rest.now in
+    goes_on _ _ _ (Ok c.read_lines.new.form.lines) c.in_ok-rest.ensures (lines_whole (read map_rules None 2 lines) c.read_lines.new.form.lines c.in_ok-read_lines.ensures.exact (rw (c.of.ensures, c.new.ensures.items) at c.in_ok-read_lines.ensures.collected))
 
 pub invariant_of-result : goal.invariant_of-result
-invariant_of-result c = map_of_allowed c.args.text.now c.read_text.new.form.lines (collected c)
+invariant_of-result c = map_of_allowed c.args.text.now c.read_lines.new.form.lines (collected c)
 
 pub returns-clause-exact : goal.returns-clause-exact
 returns-clause-exact c = collected c
 
 pub returns-clause-allowed : goal.returns-clause-allowed
-returns-clause-allowed c = (reading c.args.text.now (Ok c.read_text.new.form.lines) (collected c)).allowed
+returns-clause-allowed c = (reading c.args.text.now (Ok c.read_lines.new.form.lines) (collected c)).allowed
 
 pub returns-clause-spelled : goal.returns-clause-spelled
-returns-clause-spelled c = (reading c.args.text.now (Ok c.read_text.new.form.lines) (collected c)).spelled
+returns-clause-spelled c = (reading c.args.text.now (Ok c.read_lines.new.form.lines) (collected c)).spelled
 
 pub returns-clause-only : goal.returns-clause-only
-returns-clause-only c = (reading c.args.text.now (Ok c.read_text.new.form.lines) (collected c)).only
+returns-clause-only c = (reading c.args.text.now (Ok c.read_lines.new.form.lines) (collected c)).only

@@ -1,11 +1,7 @@
-use Rattle.std.proofs.Common.{codes}
 use Rattle.std.proofs.lemmas.Result.{err_from_is_err_and}
 use Rattle.text_lines.specs.Answers.{Answers}
-use Rattle.text_lines.specs.Lines.{lines_of}
-use Rattle.text_lines.specs.Reading.{after_name}
 use Rattle.cfi_graph.specs.Reading.{graph_of}
 use Rattle.text_lines.proofs.Whole.{goes_on, stops}
-use Rattle.cfi_graph.specs.Reading.{after_first}
 use Rattle.cfi_graph.proofs.Laws.{reading}
 use Rattle.cfi_graph.proofs.read.read_graph.Goals.{After-after_first, After-from_residual}
 use Rattle.cfi_graph.proofs.read.read_graph.Goals as goal
@@ -14,7 +10,7 @@ refused : (c : After-from_residual) → Answers c.from_residual.result (graph_of
 unfolding graph_of
 refused c =
     let p = err_from_is_err_and c.from_residual.result c.from_residual.ensures.1 in
-    rw (p.1, p.2) (stops (after_name (codes "rvcfi-graph 1") (lines_of c.args.text.now)) c.in_err-rest.field-0.0 after_first c.in_err-rest.ensures)
+    rw (p.1, p.2) (stops _ c.in_err-rest.field-0.0 _ c.in_err-rest.ensures)
 
 pub returns-in_err-rest-clause-exact : goal.returns-in_err-rest-clause-exact
 returns-in_err-rest-clause-exact c = refused c
@@ -25,7 +21,7 @@ returns-in_err-rest-clause-only c = (reading c.args.text.now c.from_residual.res
 exact : (c : After-after_first) → Answers c.after_first.result (graph_of c.args.text.now)
 unfolding graph_of
 exact c =
-    goes_on (after_name (codes "rvcfi-graph 1") (lines_of c.args.text.now)) (lines_of c.in_ok-rest.rest.now) after_first c.after_first.result c.in_ok-rest.ensures c.after_first.ensures
+    goes_on _ _ _ c.after_first.result c.in_ok-rest.ensures c.after_first.ensures
 
 pub returns-clause-exact : goal.returns-clause-exact
 returns-clause-exact c = exact c
