@@ -7,9 +7,9 @@ use Rattle.cfi_flow.specs.GraphAtMap.{ProgramAtMap, program_at}
 use Rattle.cfi_flow.specs.LegalMap.{gates_of}
 use Rattle.obj_program.specs.Program.{Program}
 use Rattle.cfi_harden.specs.Hardened.{HardenedParts, IsWrittenOf, chosen}
-use Rattle.cfi_harden.specs.Prepared.{IsPrepared, PreparedParts}
+use Rattle.cfi_harden.specs.Prepared.{IsPrepared, IsPreparedOf, PreparedParts}
 use Rattle.cfi_harden.specs.Refused.{Refuses}
-use Rattle.cfi_harden.specs.Request.{Request}
+use Rattle.cfi_harden.specs.Request.{ProgramRequest, Request}
 use Rattle.cfi_harden.specs.declared.refusal.Refusal.{Refusal}
 use Rattle.cfi_harden.proofs.Ready.{written_accepted}
 use Rattle.cfi_meaning.specs.Compared as runs
@@ -22,7 +22,7 @@ use Rattle.cfi_compare.specs.declared.answer.Compared.{Compared}
 use Rattle.cfi_commands.specs.Demo.{IsComparedAt, STEP_LIMIT}
 use Rattle.cfi_commands.specs.Demonstration.{CanRunAt, IsAnswerAt, IsDifference, IsDrawn, IsImageIn, IsSourceOn, NoneDiffers}
 
-module _ (request : Request) (p : PreparedParts) (prepared : IsPrepared request p) (h : HardenedParts) (hardened : IsWrittenOf p h) where
+module _ (request : ProgramRequest) (p : PreparedParts) (prepared : IsPreparedOf request p) (h : HardenedParts) (hardened : IsWrittenOf p h) where
   pub can_run : CanRunAt p h.map
   can_run =
       let (s, labels, code, init, placed, room, in_range, written) = hardened in

@@ -1,15 +1,12 @@
 -- A program at the map that a text spells, and what comes of it and of a file that should be an image.
-use Rattle.std.proofs.Common.{◌≡◌, ◌+◌, ◌≤◌, ◌<◌, ℕ, List, Option, None, Some, Ok, Err, inl, inr, sym, subst, arith}
+use Rattle.std.proofs.Common.{◌≡◌, ◌+◌, ◌≤◌, ◌<◌, ℕ, List, None, Some, Ok, Err, inl, inr, sym, subst, arith}
 use Rattle.rv_word.specs.MemoryMap.{version_1}
 use Rattle.rv_word.proofs.Cases.{cases_Option}
 use Rattle.rv_word.specs.MemoryMap.{DATA_END, DATA_START}
 use Rattle.text_lines.specs.declared.reason.Reason.{Reason}
 use Rattle.text_lines.specs.declared.end.TextEnd.TheVariants.{Line}
 use Rattle.obj_program.specs.DataAtMap.{init_size}
-use Rattle.obj_program.specs.Program.{Program}
-use Rattle.obj_items.specs.FromObject.{input_of}
 use Rattle.elf_image.specs.Fault.{fault_of}
-use Rattle.obj_items.specs.Laws.{LastEnds}
 use Rattle.cfi_graph.specs.MapText.{map_of}
 use Rattle.cfi_graph.specs.declared.map.MapLine.{MapLine}
 use Rattle.cfi_flow.specs.GraphAtMap.{ProgramAtMap, program_at}
@@ -17,7 +14,7 @@ use Rattle.cfi_flow.specs.LegalMap.{gates_of}
 use Rattle.cfi_flow.specs.MapFault.{IsWrongLine}
 use Rattle.cfi_flow.specs.Policy.{instruction_at}
 use Rattle.cfi_harden.specs.Hardened.{HasDataRoom}
-use Rattle.cfi_harden.specs.Prepared.{IsPrepared, PreparedParts}
+use Rattle.cfi_harden.specs.Prepared.{PreparedParts}
 use Rattle.cfi_harden.specs.Refused.{IsEarly, Prepares, Refuses}
 use Rattle.cfi_harden.specs.Request.{Request}
 use Rattle.cfi_harden.specs.declared.refusal.HardenEnd.{HardenEnd}
@@ -29,7 +26,6 @@ use Rattle.cfi_files.specs.declared.refusal.Refusal.{Refusal as Refused}
 use Rattle.cfi_files.specs.declared.refusal.Refusal.TheVariants as refused
 use Rattle.src_machine.specs.Beginning.{IsBegun}
 use Rattle.src_machine.specs.Laws.{WrongIsNotLegal}
-use Rattle.src_machine.specs.ProgramAt.{EndsLast}
 use Rattle.src_machine.specs.Running.{SourceParts}
 use Rattle.cfi_meaning.specs.Compared.{compared}
 use Rattle.cfi_compare.specs.Told.{told_answer}
@@ -38,9 +34,6 @@ use Rattle.cfi_commands.specs.declared.compare.CompareOutcome.{CompareOutcome}
 use Rattle.cfi_commands.specs.declared.compare.CompareOutcome.TheVariants as outcome
 use Rattle.cfi_commands.specs.Compare.{IsAfterImage, IsCompareOf, IsCompareRefused, IsComparison, IsImageCompared, IsResult, IsRoomy, IsRoomyEnd, IsRunnable, IsSourceAt, first_out}
 use Rattle.cfi_commands.specs.Demonstration.{IsSourceOn}
-
-pub roomy_ends : (request : Request) (p : PreparedParts) → LastEnds → IsPrepared request p → EndsLast p.program
-roomy_ends request p ends prepared = subst (λ (program : Program). EndsLast program) (sym prepared.program) (ends (input_of request.object))
 
 pub data_fits : (p : PreparedParts) → HasDataRoom p.program → DATA_START + init_size p.program ≤ DATA_END
 data_fits p room = omega (arith, room.init)

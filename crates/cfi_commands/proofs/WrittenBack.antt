@@ -7,7 +7,7 @@ use Rattle.cfi_commands.specs.Laws.{WrittenIsRead}
 
 pub written_is_read : WrittenIsRead
 written_is_read words request hardened written made is =
-    let (p, prepared, (s, labels, code, init, placed, room, in_range, w)) = made.is_hardened in
+    let (object, (p, prepared, (s, labels, code, init, placed, room, in_range, w))) = made.is_hardened in
     record {
       hardened = hardened;
       image = record { code = code; init = init };
@@ -19,7 +19,7 @@ written_is_read words request hardened written made is =
         parts = is.graph_right;
       };
       well_formed = w.well_formed;
-      prepared = prepared;
+      prepared = (object, prepared);
       map_is = record {
         read = ap (λ (o : OutputParts). map_of o.bytes) is.map ∙ map_of-map_text hardened.map is.map_right;
         legal = w.map;

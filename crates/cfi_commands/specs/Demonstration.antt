@@ -14,7 +14,6 @@ use Rattle.cfi_meaning.specs.NeverDiffers.{NoRunDiffers}
 use Rattle.cfi_compare.specs.Told.{told_answer}
 use Rattle.cfi_compare.specs.declared.answer.Compared.{Compared}
 use Rattle.cfi_compare.specs.declared.answer.Compared.TheVariants.{Differs}
-use Rattle.src_machine.specs.ProgramAt.{EndsLast}
 use Rattle.cfi_flow.specs.GraphAtMap.{program_at}
 use Rattle.src_machine.specs.Running.{SourceParts, source_of}
 use Rattle.cfi_gen.specs.Demo.{demo_parts}
@@ -56,7 +55,6 @@ NoneDiffers p map image = NoRunDiffers (program_at p.program p.closed (gates_of 
 pub record IsDemoPrepared (object : List ℕ) (p : PreparedParts) : Type 0 where
   pub drawn : IsDrawn object
   pub prepared : IsPrepared (entered object) p
-  pub last : EndsLast p.program
 
 -- it runs at a map, and no run of it differs from an image's
 pub record IsComparable (object : List ℕ) (p : PreparedParts) (map : List MapLine) (image : Contents) : Type 0 where

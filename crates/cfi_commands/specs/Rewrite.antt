@@ -100,8 +100,8 @@ pub record IsSpelledOut (words : RewriteWords) (hardened : HardenedParts) (writt
 -- a hardened program of a request, which means what the request's program means
 pub record IsMade (request : asks.Request) (hardened : HardenedParts) : Type 0 where
   pub is_hardened : IsHardened request hardened
-  pub meaning_kept : KeepsMeaningAtMap request hardened
-  pub never_differs : NeverDiffersAtMap request hardened
+  pub meaning_kept : KeepsMeaningAtMap (asks.program_request request) hardened
+  pub never_differs : NeverDiffersAtMap (asks.program_request request) hardened
 
 -- the object is refused, or hardened
 abbrev pub IsRewriteOf : RewriteWords → List ℕ → Option (List ℕ) → RewriteOutcome → Type 0

@@ -6,7 +6,6 @@ ghost use Rattle.cfi_graph.specs.MapText.{map_of};
 ghost use Rattle.cfi_flow.specs.Entry.{entry_place};
 ghost use Rattle.cfi_harden.specs.Hardened.{HasDataRoom};
 ghost use Rattle.cfi_harden.specs.Request.{Request};
-ghost use Rattle.src_machine.specs.ProgramAt.{EndsLast};
 ghost use Rattle.cfi_commands.specs.Compare.{ExplainsCompare, IsAfterImage, IsCompareOf, IsFresh, IsImageCompared, IsRoomy, answer_status, compare_asked, compare_names, compare_status, compare_words};
 
 use crate::source::{roomy, source_on};
@@ -143,7 +142,6 @@ fn compare_at(
     map: &Map,
     input: &[u8],
 ) -> Result<CompareOutcome, NoMemory>
-    requires last { EndsLast prepared.now.program }
     requires room { HasDataRoom prepared.now.program }
     requires entry { entry_place prepared.now.program request.now.entry.now ≡ Some prepared.now.entry }
     requires few { request.now.limit ≤ MAX_STEP }
@@ -174,7 +172,6 @@ fn compare_prepared(
     map: &[u8],
     input: &[u8],
 ) -> Result<CompareOutcome, NoMemory>
-    requires last { EndsLast prepared.now.program }
     requires room { HasDataRoom prepared.now.program }
     requires entry { entry_place prepared.now.program request.now.entry.now ≡ Some prepared.now.entry }
     requires few { request.now.limit ≤ MAX_STEP }

@@ -7,7 +7,6 @@ ghost use Rattle.cfi_flow.specs.Entry.{entry_place};
 ghost use Rattle.cfi_harden.specs.Hardened.{IsWrittenOf};
 ghost use Rattle.cfi_harden.specs.Prepared.{IsPrepared};
 ghost use Rattle.cfi_harden.specs.Request.{Request};
-ghost use Rattle.src_machine.specs.ProgramAt.{EndsLast};
 ghost use Rattle.cfi_commands.specs.Demo.{STEP_LIMIT};
 ghost use Rattle.cfi_commands.specs.Demonstration.{CanRunAt, IsAnswerAt, IsDemoPrepared, IsDrawn, IsImageIn, IsSourceOn};
 ghost use Rattle.cfi_commands.specs.Rewrite.{IsMade, IsSpelled};
@@ -22,7 +21,6 @@ use cfi_step::{RunReport, Script, run};
 use cfi_verify::{VerifyEnd, verify};
 use elf_image::read_image;
 use gen_hardened::laws::demo_is_never_refused;
-use obj_items::laws::last_place_ends;
 use rv_word::{Image, NoMemory};
 use src_machine::laws::wrong_is_not_legal;
 use src_machine::{SourceEnd, SourceRun};
@@ -35,13 +33,11 @@ const STEP_LIMIT: u64 = 10_000_000;
 const ENTRY: &str = "main";
 
 /// A generated object, prepared.
-#[tactic(auto, using(crate::proofs::Sources::roomy_ends))]
 pub(crate) fn prepared(alloc: Global, object: &[u8]) -> Result<Prepared<'_>, NoMemory>
     requires { IsDrawn object.now }
     ensures { IfOk result (IsDemoPrepared object.now) }
 {
     demo_is_never_refused();
-    last_place_ends();
     match prepare(alloc, object, ENTRY, None) {
         Ok(prepared) => Ok(prepared),
         Err(HardenEnd::NoMemory) => Err(NoMemory),
@@ -96,7 +92,6 @@ fn begun<'a, 'b>(
     prepared: &'a Prepared<'b>,
     map: &Map,
 ) -> Result<SourceRun<'a, 'b>, NoMemory>
-    requires last { EndsLast prepared.now.program }
     requires entry { entry_place prepared.now.program (codes "main") ≡ Some prepared.now.entry }
     requires fits { CanRunAt prepared.now map.now }
     ensures { IfOk result (IsSourceOn prepared.now map.now []) }
@@ -116,7 +111,6 @@ pub(crate) fn compare_at(
     map: &Map,
     image: &Image<'_>,
 ) -> Result<Compared, NoMemory>
-    requires last { EndsLast prepared.now.program }
     requires entry { entry_place prepared.now.program (codes "main") ≡ Some prepared.now.entry }
     requires fits { CanRunAt prepared.now map.now }
     ensures { IfOk result (IsAnswerAt prepared.now map.now image.now) }

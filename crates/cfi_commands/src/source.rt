@@ -5,18 +5,15 @@ ghost use Rattle.cfi_flow.specs.Entry.{entry_place};
 ghost use Rattle.cfi_flow.specs.Policy.{instruction_at};
 ghost use Rattle.cfi_harden.specs.Hardened.{HasDataRoom};
 ghost use Rattle.src_machine.specs.Beginning.{Ends};
-ghost use Rattle.src_machine.specs.ProgramAt.{EndsLast};
 ghost use Rattle.cfi_commands.specs.Compare.{IsRoomy, IsRoomyEnd};
 ghost use Rattle.cfi_commands.specs.Demonstration.{IsSourceOn};
 
 use cfi_graph::Map;
 use cfi_harden::{HardenEnd, Prepared, Refusal, has_data_room, prepare};
-use obj_items::laws::last_place_ends;
 use src_machine::{SourceEnd, SourceRun};
 use std::alloc::Global;
 
 /// The program of an object, if its data have room.
-#[tactic(auto, using(crate::proofs::Sources::roomy_ends))]
 pub(crate) fn roomy<'a>(
     alloc: Global,
     object: &'a [u8],
@@ -24,10 +21,8 @@ pub(crate) fn roomy<'a>(
     policy: Option<&[u8]>,
 ) -> Result<Prepared<'a>, HardenEnd>
     ensures roomy { IfOk result (IsRoomy (record { object = object.now; entry = entry.now; policy = option_copied policy.entry })) }
-    ensures last { IfOk result (λ p. EndsLast p.program) }
     ensures refused { IfErr result (IsRoomyEnd (record { object = object.now; entry = entry.now; policy = option_copied policy.entry })) }
 {
-    last_place_ends();
     let prepared = match prepare(alloc, object, entry, policy) {
         Ok(prepared) => prepared,
         Err(end) => return Err(end),
@@ -56,7 +51,6 @@ pub(crate) fn source_on<'a, 'b>(
     map: &Map,
     input: &[u8],
 ) -> Result<SourceRun<'a, 'b>, SourceEnd>
-    requires last { EndsLast prepared.now.program }
     requires room { HasDataRoom prepared.now.program }
     requires entry { entry_place prepared.now.program entry.now ≡ Some prepared.now.entry }
     ensures { MatchResult result (IsSourceOn prepared.now map.now input.now) (Ends prepared.now.program prepared.now.closed map.now) }

@@ -9,7 +9,7 @@ ghost use Rattle.cfi_flow.specs.Source.{source_start};
 ghost use Rattle.cfi_meaning.specs.Compared.{compared, compared_from, image_end};
 ghost use Rattle.cfi_compare.specs.Followed.{IsAnswered, end_told, item_or, settled, settled_items};
 ghost use Rattle.cfi_compare.specs.Told.{IsOwnState, told_answer, told_item};
-ghost use Rattle.cfi_kept.specs.PlacesKept.{bound};
+ghost use Rattle.cfi_kept.specs.PlacesKept.{bound, last_words};
 ghost use Rattle.cfi_runs.specs.WholeRun.{undisturbed};
 
 use crate::answer::Compared;
@@ -79,7 +79,7 @@ fn with_machine(
     requires few { steps ≤ 2 ^ 58 }
     requires none { (shared_in machine.old).events ≡ [] }
     ensures { IfOk result (λ answer. IsAnswered events.now turn
-        (run_alone version_1 (hart_in machine.old) (shared_in machine.old) (replicate (bound version_1 steps) [])) answer) }
+        (run_alone version_1 (hart_in machine.old) (shared_in machine.old) (replicate (bound 1 (last_words version_1) steps) [])) answer) }
 {
     let (end, index) = follow(machine, events, 21 * steps + 13)?;
     let answer = answer_at(alloc, index, events, turn, machine.system().events(), end)?;
@@ -96,7 +96,7 @@ fn with_image(
     input: &[u8],
 ) -> Result<Compared, NoMemory>
     requires { steps ≤ 2 ^ 58 }
-    ensures { IfOk result (λ answer. IsAnswered events.now turn (undisturbed version_1 image.now input.now (bound version_1 steps)) answer) }
+    ensures { IfOk result (λ answer. IsAnswered events.now turn (undisturbed version_1 image.now input.now (bound 1 (last_words version_1) steps)) answer) }
 {
     let mut machine = Machine::new(alloc, image, input)?;
     with_machine(alloc, events, turn, steps, &mut machine)

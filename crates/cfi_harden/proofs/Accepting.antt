@@ -90,7 +90,7 @@ module _ (p : PreparedParts) (ready : IsReady p) (s : Spaced) (fitting : IsFitti
         profile = inl refl;
         sound = ready.sound;
         words = ready.words;
-        last = let below = ready.entered in last_there p.program (omega arith) ready.last;
+        last = let below = ready.entered in last_there p.program (omega arith) (ready.fits_maps.last (omega arith));
         entry_there = ready.entered;
         legal = fitting.placed.legal;
         room = room_there (chosen p s labels) (inl refl) labels_suffice ready.sound values fitting.placed.size;

@@ -19,7 +19,7 @@ pub mod SitesThere
 pub mod CodeBytes
 pub mod CodeRoom
 pub mod Accepting
-mod Preparing
+pub mod Preparing
 pub mod MapFits
 pub mod ClassLabels
 pub mod Ready

@@ -1,14 +1,33 @@
--- A request whose program is read and entered is prepared, and what refuses either step refuses the request.
-use Rattle.std.proofs.Common.{ℕ, Ok, Err, subst}
+-- A program that is entered is prepared, and what refuses that refuses the request; what a request of an object comes to is what that of
+-- its program comes to.
+use Rattle.std.proofs.Common.{ℕ, Result, Ok, Err, refl, subst}
 use Rattle.obj_program.specs.Program.{Program}
 use Rattle.cfi_flow.specs.Closed.{ClosedGraph}
 use Rattle.cfi_harden.specs.declared.refusal.HardenEnd.{HardenEnd}
 use Rattle.cfi_harden.specs.declared.refusal.HardenEnd.TheVariants as ends
+use Rattle.cfi_harden.specs.declared.refusal.Refusal.{Refusal}
 use Rattle.cfi_harden.specs.declared.refusal.Refusal.TheVariants as R
-use Rattle.cfi_harden.specs.Prepared.{IsProgram, IsPrepared}
+use Rattle.cfi_harden.specs.Hardened.{HardenedParts}
+use Rattle.cfi_harden.specs.Prepared.{IsProgram, IsPreparedOf, PreparedParts}
 use Rattle.cfi_harden.specs.Preparing.{Enters, Reads}
-use Rattle.cfi_harden.specs.Refused.{Prepares}
-use Rattle.cfi_harden.specs.Request.{Request, program_in}
+use Rattle.cfi_harden.specs.Refused.{Hardens, HardensProgram, Prepares, PreparesProgram, Refuses, RefusesProgram}
+use Rattle.cfi_harden.specs.Request.{ProgramRequest, Request, program_request}
+
+pub not_entered : (request : ProgramRequest) (end : HardenEnd) → Enters request.program request.entry request.policy (Err end)
+    → PreparesProgram request (Err end)
+not_entered request (ends.Refused R.NoEntry) refuses = (refuses, tt)
+not_entered request (ends.Refused (R.Policy n)) refuses = (refuses, tt)
+not_entered request (ends.Refused (R.Object fault)) refuses = absurd refuses
+not_entered request (ends.Refused (R.Items fault)) refuses = absurd refuses
+not_entered request (ends.Refused (R.CodeTooLarge bytes)) refuses = absurd refuses
+not_entered request (ends.Refused (R.DataTooLarge init last)) refuses = absurd refuses
+not_entered request (ends.Refused (R.RelocRange section offset)) refuses = absurd refuses
+not_entered request ends.NoMemory refuses = tt
+
+pub is_prepared : (request : ProgramRequest) (entry : ℕ) (closed : ClosedGraph) →
+    Enters request.program request.entry request.policy (Ok (entry, closed))
+    → IsPreparedOf request (record { program = request.program; closed = closed; entry = entry })
+is_prepared request entry closed entered = record { program = refl; entry = entered.0; closed = entered.1 }
 
 pub not_read : (request : Request) (end : HardenEnd) → Reads request.object (Err end) → Prepares request (Err end)
 not_read request (ends.Refused (R.Object fault)) refuses = (refuses, tt)
@@ -20,23 +39,33 @@ not_read request (ends.Refused (R.DataTooLarge init last)) refuses = absurd refu
 not_read request (ends.Refused (R.RelocRange section offset)) refuses = absurd refuses
 not_read request ends.NoMemory refuses = tt
 
-in_program : (request : Request) (end : HardenEnd) → IsProgram request.object →
-    Enters (program_in request.object) request.entry request.policy (Err end) → Prepares request (Err end)
-in_program request (ends.Refused R.NoEntry) right refuses = ((right, refuses), tt)
-in_program request (ends.Refused (R.Policy n)) right refuses = ((right, refuses.0, refuses.1), tt)
-in_program request (ends.Refused (R.Object fault)) right refuses = absurd refuses
-in_program request (ends.Refused (R.Items fault)) right refuses = absurd refuses
-in_program request (ends.Refused (R.CodeTooLarge bytes)) right refuses = absurd refuses
-in_program request (ends.Refused (R.DataTooLarge init last)) right refuses = absurd refuses
-in_program request (ends.Refused (R.RelocRange section offset)) right refuses = absurd refuses
-in_program request ends.NoMemory right refuses = tt
+-- a refusal of an object's program is one of the object
+refused : (request : Request) (refusal : Refusal) → IsProgram request.object → RefusesProgram (program_request request) refusal
+    → Refuses request refusal
+refused request (R.Object fault) object refuses = absurd refuses
+refused request (R.Items fault) object refuses = absurd refuses
+refused request R.NoEntry object refuses = (object, refuses)
+refused request (R.Policy n) object refuses = (object, refuses)
+refused request (R.CodeTooLarge bytes) object refuses = (object, refuses)
+refused request (R.DataTooLarge init last) object refuses = (object, refuses)
+refused request (R.RelocRange section offset) object refuses = (object, refuses)
 
-pub not_entered : (request : Request) (program : Program) (end : HardenEnd) → Reads request.object (Ok program) →
-    Enters program request.entry request.policy (Err end) → Prepares request (Err end)
-not_entered request program end read refuses =
-    in_program request end read.0 (subst (λ (p : Program). Enters p request.entry request.policy (Err end)) read.1 refuses)
+prepares_object : (request : Request) (result : Result PreparedParts HardenEnd) → IsProgram request.object
+    → PreparesProgram (program_request request) result → Prepares request result
+prepares_object request (Ok p) object prepares = (object, prepares)
+prepares_object request (Err (ends.Refused refusal)) object (refuses, early) = (refused request refusal object refuses, early)
+prepares_object request (Err ends.NoMemory) object prepares = tt
 
-pub is_prepared : (request : Request) (program : Program) (entry : ℕ) (closed : ClosedGraph) → Reads request.object (Ok program) →
-    Enters program request.entry request.policy (Ok (entry, closed)) → IsPrepared request (record { program = program; closed = closed; entry = entry })
-is_prepared request program entry closed read entered =
-    record { object = read.0; program = read.1; entry = entered.0; closed = entered.1 }
+-- of an object that is read
+pub prepares : (request : Request) (program : Program) (result : Result PreparedParts HardenEnd) → Reads request.object (Ok program)
+    → PreparesProgram (record { program = program; entry = request.entry; policy = request.policy }) result → Prepares request result
+prepares request program result (object, is) made =
+    prepares_object request result object
+    (subst (λ (p : Program). PreparesProgram (record { program = p; entry = request.entry; policy = request.policy }) result) is made)
+
+-- what hardening an object comes to
+pub hardens_object : (request : Request) (result : Result HardenedParts HardenEnd) → IsProgram request.object
+    → HardensProgram (program_request request) result → Hardens request result
+hardens_object request (Ok h) object hardens = (object, hardens)
+hardens_object request (Err (ends.Refused refusal)) object hardens = refused request refusal object hardens
+hardens_object request (Err ends.NoMemory) object hardens = tt

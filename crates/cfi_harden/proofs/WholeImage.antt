@@ -70,6 +70,7 @@ written_as p s labels code init image graph lines able code_is init_is image_is 
       init,
       record {
         sound = able.accepted.sound;
+        fits_maps = able.fits_maps;
         words = able.accepted.words;
         labelled = record {
           counted = able.accepted.counted;

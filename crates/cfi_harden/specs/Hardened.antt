@@ -8,6 +8,7 @@ use Rattle.cfi_graph.specs.Graph.{GraphParts}
 use Rattle.cfi_graph.specs.declared.map.MapLine.{MapLine}
 use Rattle.cfi_class.specs.Labels.{AreLabels}
 use Rattle.obj_program.specs.DataAtMap.{data_at, init_size}
+use Rattle.obj_program.specs.MapFit.{FitsMaps}
 use Rattle.obj_program.specs.Program.{Program, count, item_of}
 use Rattle.obj_program.specs.Range.{out_of_range}
 use Rattle.obj_program.specs.Sound.{IsSound}
@@ -22,8 +23,8 @@ use Rattle.cfi_verify.specs.Split.{code_words}
 use Rattle.cfi_harden.specs.Chosen.{choice_of}
 use Rattle.cfi_harden.specs.Laws.{written_code}
 use Rattle.cfi_harden.specs.Placing.{IsPlacement, Spaced}
-use Rattle.cfi_harden.specs.Prepared.{IsPrepared, PreparedParts}
-use Rattle.cfi_harden.specs.Request.{Request}
+use Rattle.cfi_harden.specs.Prepared.{IsPreparedOf, IsProgram, PreparedParts}
+use Rattle.cfi_harden.specs.Request.{ProgramRequest, Request, program_request}
 use Rattle.cfi_harden.specs.Units.{Choice}
 
 pub record HardenedParts : Type 0 where
@@ -57,8 +58,9 @@ pub record AreGiven (program : Program) (closed : ClosedGraph) (labels : List �
 -- what is written of a prepared request at a placement: the image of the units' code and of the data at the map, the graph at the map,
 -- and the map, which is legal
 pub record IsWritten (p : PreparedParts) (s : Spaced) (labels code init : List ℕ) (h : HardenedParts) : Type 0 where
-  -- the program is sound, and its words have 32 bits
+  -- the program is sound and fits maps, and its words have 32 bits
   pub sound : IsSound p.program
+  pub fits_maps : FitsMaps p.program
   pub words : (k : ℕ) → k < count p.program → (item_of p.program k).word < 2 ^ 32
   pub labelled : AreGiven p.program p.closed labels
   pub code_is : code_words code ≡ written_code (chosen p s labels)
@@ -80,5 +82,9 @@ IsWrittenOf p h =
 
 -- the hardened program of a request: it is placed with as many short branches as can be, its data have room, no value leaves its
 -- range, and it is written
+abbrev pub IsHardenedOf : ProgramRequest → HardenedParts → Type 0
+IsHardenedOf request h = (p : PreparedParts) × IsPreparedOf request p × IsWrittenOf p h
+
+-- that of a request of an object, which is a program
 abbrev pub IsHardened : Request → HardenedParts → Type 0
-IsHardened request h = (p : PreparedParts) × IsPrepared request p × IsWrittenOf p h
+IsHardened request h = IsProgram request.object × IsHardenedOf (program_request request) h

@@ -4,11 +4,11 @@ use Rattle.cfi_harden.specs.Accepted.{IsAccepted}
 use Rattle.cfi_harden.specs.Fitting.{IsFitting}
 use Rattle.cfi_harden.specs.Hardened.{HardenedParts, IsWritten, chosen}
 use Rattle.cfi_harden.specs.Placing.{Spaced}
-use Rattle.cfi_harden.specs.Prepared.{IsPrepared, PreparedParts}
-use Rattle.cfi_harden.specs.Request.{Request}
+use Rattle.cfi_harden.specs.Prepared.{IsPreparedOf, PreparedParts}
+use Rattle.cfi_harden.specs.Request.{ProgramRequest}
 
 -- what is written of a prepared request at a placement that fits is an accepted choice
 abbrev pub WrittenIsAccepted : Type 0
 WrittenIsAccepted =
-    (request : Request) (p : PreparedParts) (s : Spaced) (labels code init : List ℕ) (h : HardenedParts) → IsPrepared request p → IsFitting p s →
-    IsWritten p s labels code init h → IsAccepted (chosen p s labels)
+    (request : ProgramRequest) (p : PreparedParts) (s : Spaced) (labels code init : List ℕ) (h : HardenedParts) → IsPreparedOf request p →
+    IsFitting p s → IsWritten p s labels code init h → IsAccepted (chosen p s labels)

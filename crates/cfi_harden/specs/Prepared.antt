@@ -1,6 +1,6 @@
--- What a request comes to before anything is placed: the object's program with its closed graph under the policy and its entry, or the
--- first of what stands against that: a fault of the object, one of its instructions and relocations, an entry that is not there, a
--- wrong line of the policy.
+-- What a request comes to before anything is placed: the program with its closed graph under the policy and its entry, or the first of
+-- what stands against that: of an object a fault, or one of its instructions and relocations; an entry that is not there; a wrong line
+-- of the policy.
 use Rattle.std.specs.Prelude.{◌≡◌, ℕ, ◌⊎◌, List, Option, Some, None, Result, Ok, Err}
 use Rattle.text_lines.specs.declared.end.TextEnd.{TextEnd}
 use Rattle.text_lines.specs.declared.end.TextEnd.TheVariants.{Line}
@@ -12,12 +12,7 @@ use Rattle.cfi_flow.specs.Closed.{ClosedGraph, IsClosed}
 use Rattle.cfi_flow.specs.Entry.{entry_place}
 use Rattle.cfi_flow.specs.Policy.{IsRaw, wrong_line}
 use Rattle.cfi_flow.specs.Raw.{RawGraph}
-use Rattle.cfi_harden.specs.Request.{Request, policy_reading, program_in}
-
--- the object is a program
-pub record IsProgram (object : List ℕ) : Type 0 where
-  pub sound : object_fault object ≡ None
-  pub right : fault_of (input_of object) ≡ None
+use Rattle.cfi_harden.specs.Request.{ProgramRequest, Request, policy_reading, program_request}
 
 -- the closed graph of a program under a policy that has no wrong line
 pub record IsClosedUnder (program : Program) (policy : Option (List ℕ)) (closed : ClosedGraph) : Type 0 where
@@ -29,15 +24,23 @@ pub record PreparedParts : Type 0 where
   pub closed : ClosedGraph
   pub entry : ℕ
 
-pub record IsPrepared (request : Request) (p : PreparedParts) : Type 0 where
-  pub object : IsProgram request.object
-  pub program : p.program ≡ program_in request.object
+pub record IsPreparedOf (request : ProgramRequest) (p : PreparedParts) : Type 0 where
+  pub program : p.program ≡ request.program
   pub entry : entry_place p.program request.entry ≡ Some p.entry
   pub closed : IsClosedUnder p.program request.policy p.closed
 
 -- what some request comes to
 abbrev pub IsOfRequest : PreparedParts → Type 0
-IsOfRequest p = (request : Request) × IsPrepared request p
+IsOfRequest p = (request : ProgramRequest) × IsPreparedOf request p
+
+-- an object is a program
+pub record IsProgram (object : List ℕ) : Type 0 where
+  pub sound : object_fault object ≡ None
+  pub right : fault_of (input_of object) ≡ None
+
+-- what a request of an object comes to, which is a program
+abbrev pub IsPrepared : Request → PreparedParts → Type 0
+IsPrepared request p = IsProgram request.object × IsPreparedOf (program_request request) p
 
 -- the text of a policy fails at a line
 abbrev pub FailsAt : Result (Unit {0}) TextEnd → ℕ → Type 0

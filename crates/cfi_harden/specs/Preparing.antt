@@ -1,5 +1,4 @@
--- What the two steps of preparing a request come to: the program of its object, then the entry and the closed graph of that program.
--- Only private contracts cite this.
+-- What the steps of preparing a request come to: the program of an object, then the entry and the closed graph of a program.
 use Rattle.std.specs.Prelude.{◌≡◌, ℕ, List, Option, Some, None, IsSome, Result, Ok, Err}
 use Rattle.elf_object.specs.Fault.{fault_of as object_fault}
 use Rattle.obj_rules.specs.Fault.{fault_of}
@@ -21,7 +20,7 @@ Reads object (Err (Refused (Items fault))) = (object_fault object ≡ None) × (
 Reads object (Err NoMemory) = Unit {0}
 Reads object (Err other) = ⊥
 
--- where a program is entered, with its closed graph
+-- where a program is entered, with its closed graph. Only a private contract cites this
 abbrev pub Enters : Program → List ℕ → Option (List ℕ) → Result (ℕ × ClosedGraph) HardenEnd → Type 0
 Enters program entry policy (Ok (at, closed)) = (entry_place program entry ≡ Some at) × IsClosedUnder program policy closed
 Enters program entry policy (Err (Refused NoEntry)) = entry_place program entry ≡ None

@@ -9,18 +9,23 @@ use Rattle.cfi_harden.specs.declared.refusal.HardenEnd.TheVariants.{Refused, NoM
 use Rattle.cfi_harden.specs.declared.refusal.Refusal.{Refusal}
 use Rattle.cfi_harden.specs.declared.refusal.Refusal.TheVariants.{Object, Items, NoEntry, Policy}
 use Rattle.cfi_harden.specs.Fitting.{RefusesPlaced}
-use Rattle.cfi_harden.specs.Hardened.{HardenedParts, IsHardened, IsWrittenOf}
-use Rattle.cfi_harden.specs.Request.{Request, program_in}
-use Rattle.cfi_harden.specs.Prepared.{IsPrepared, IsProgram, IsWrongPolicy, PreparedParts}
+use Rattle.cfi_harden.specs.Hardened.{HardenedParts, IsHardened, IsHardenedOf, IsWrittenOf}
+use Rattle.cfi_harden.specs.Request.{ProgramRequest, Request, program_request}
+use Rattle.cfi_harden.specs.Prepared.{IsPrepared, IsPreparedOf, IsProgram, IsWrongPolicy, PreparedParts}
 
+-- of a program
+abbrev pub RefusesProgram : ProgramRequest → Refusal → Type 0
+RefusesProgram request (Object fault) = ⊥
+RefusesProgram request (Items fault) = ⊥
+RefusesProgram request NoEntry = entry_place request.program request.entry ≡ None
+RefusesProgram request (Policy n) = IsSome (entry_place request.program request.entry) × IsWrongPolicy request.program request.policy n
+RefusesProgram request late = (p : PreparedParts) × IsPreparedOf request p × RefusesPlaced p late
+
+-- of an object: it is no program, or its program is refused
 abbrev pub Refuses : Request → Refusal → Type 0
 Refuses request (Object fault) = object_fault request.object ≡ Some fault
 Refuses request (Items fault) = (object_fault request.object ≡ None) × (fault_of (input_of request.object) ≡ Some fault)
-Refuses request NoEntry = IsProgram request.object × (entry_place (program_in request.object) request.entry ≡ None)
-Refuses request (Policy n) =
-    IsProgram request.object × IsSome (entry_place (program_in request.object) request.entry)
-    × IsWrongPolicy (program_in request.object) request.policy n
-Refuses request late = (p : PreparedParts) × IsPrepared request p × RefusesPlaced p late
+Refuses request refusal = IsProgram request.object × RefusesProgram (program_request request) refusal
 
 -- a refusal that comes before anything is placed
 abbrev pub IsEarly : Refusal → Type 0
@@ -31,12 +36,22 @@ IsEarly (Policy n) = Unit {0}
 IsEarly late = ⊥
 
 -- what hardening a request comes to; only want of memory is free
+abbrev pub HardensProgram : ProgramRequest → Result HardenedParts HardenEnd → Type 0
+HardensProgram request (Ok hardened) = IsHardenedOf request hardened
+HardensProgram request (Err (Refused refusal)) = RefusesProgram request refusal
+HardensProgram request (Err NoMemory) = Unit {0}
+
 abbrev pub Hardens : Request → Result HardenedParts HardenEnd → Type 0
 Hardens request (Ok hardened) = IsHardened request hardened
 Hardens request (Err (Refused refusal)) = Refuses request refusal
 Hardens request (Err NoMemory) = Unit {0}
 
 -- what a request comes to before anything is placed
+abbrev pub PreparesProgram : ProgramRequest → Result PreparedParts HardenEnd → Type 0
+PreparesProgram request (Ok prepared) = IsPreparedOf request prepared
+PreparesProgram request (Err (Refused refusal)) = RefusesProgram request refusal × IsEarly refusal
+PreparesProgram request (Err NoMemory) = Unit {0}
+
 abbrev pub Prepares : Request → Result PreparedParts HardenEnd → Type 0
 Prepares request (Ok prepared) = IsPrepared request prepared
 Prepares request (Err (Refused refusal)) = Refuses request refusal × IsEarly refusal

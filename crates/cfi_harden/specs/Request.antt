@@ -1,4 +1,5 @@
--- What is asked to be hardened: the bytes of an object, the name of its entry and the text of a policy, if there is one.
+-- What is asked to be hardened: a program, the name of its entry and the text of a policy, if there is one. An object stands for its
+-- program.
 use Rattle.std.specs.Prelude.{ℕ, List, [], Option, Some, None, Ok}
 use Rattle.text_lines.specs.Reading.{Reading}
 use Rattle.cfi_graph.specs.declared.policy.PolicyLine.{PolicyLine}
@@ -7,6 +8,12 @@ use Rattle.obj_program.specs.Program.{Program}
 use Rattle.obj_items.specs.FromObject.{input_of}
 use Rattle.obj_items.specs.ProgramOf.{program_of}
 
+pub record ProgramRequest : Type 0 where
+  pub program : Program
+  pub entry : List ℕ
+  pub policy : Option (List ℕ)
+
+-- the same of an object, by the bytes of its file
 pub record Request : Type 0 where
   pub object : List ℕ
   pub entry : List ℕ
@@ -15,6 +22,10 @@ pub record Request : Type 0 where
 -- the program of the object, where it has one
 abbrev pub program_in : List ℕ → Program
 program_in object = program_of (input_of object)
+
+-- what is asked of that program
+abbrev pub program_request : Request → ProgramRequest
+program_request request = record { program = program_in request.object; entry = request.entry; policy = request.policy }
 
 -- the right lines of a policy before its first fault, and that fault; without a text there are none
 abbrev pub policy_reading : Option (List ℕ) → Reading PolicyLine

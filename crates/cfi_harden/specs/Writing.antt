@@ -5,9 +5,9 @@ use Rattle.cfi_graph.specs.Graph.{GraphParts}
 use Rattle.cfi_graph.specs.Map.{IsMap}
 use Rattle.cfi_graph.specs.declared.map.MapLine.{MapLine}
 use Rattle.obj_program.specs.DataAtMap.{data_at, init_size}
-use Rattle.obj_program.specs.Program.{count, is_end, item_of}
+use Rattle.obj_program.specs.MapFit.{FitsMaps}
+use Rattle.obj_program.specs.Program.{count, item_of}
 use Rattle.obj_program.specs.Sound.{IsSound}
-use Rattle.obj_items.specs.MapFit.{FitsMap}
 use Rattle.cfi_flow.specs.GraphAtMap.{graph_lines}
 use Rattle.cfi_flow.specs.LegalMap.{IsLegalMap}
 use Rattle.cfi_flow.specs.Placement.{words_from}
@@ -22,18 +22,18 @@ use Rattle.cfi_harden.specs.Placing.{Spaced}
 use Rattle.cfi_harden.specs.Prepared.{PreparedParts}
 use Rattle.cfi_harden.specs.Units.{Choice}
 
--- a program of an object, with its closed graph and an entry that is there
+-- a program with its closed graph and an entry that is there
 pub record IsReady (p : PreparedParts) : Type 0 where
   pub sound : IsSound p.program
   pub words : (k : ℕ) → k < count p.program → (item_of p.program k).word < 2 ^ 32
-  pub last : is_end (item_of p.program (count p.program - 1)).kind ≡ true
-  pub near : (k : ℕ) → k < count p.program → FitsMap k (item_of p.program k)
+  pub fits_maps : FitsMaps p.program
   pub graph : IsGraphOf p.program p.closed
   pub entered : p.entry < count p.program
 
 -- what can be written
 pub record IsWritable (p : PreparedParts) (s : Spaced) (labels : List ℕ) : Type 0 where
   pub accepted : IsAccepted (chosen p s labels)
+  pub fits_maps : FitsMaps p.program
   pub words : s.words ≡ words_from p.closed.classes 0 s.gates
   pub fits : IsMap (map_lines (chosen p s labels).layout)
   pub counted : length s.gates ≡ count p.program

@@ -1,22 +1,22 @@
-//! The calls that harden an object, from its bytes to what is written.
+//! The calls that harden a program, to what is written.
 
 ghost use Rattle.std.specs.Prelude.{◌≤◌, IfOk, option_copied};
 ghost use Rattle.rv_word.specs.MemoryMap.{CODE_SIZE};
 ghost use Rattle.cfi_harden.specs.GraphOf.{IsGraphOf};
 ghost use Rattle.cfi_harden.specs.Hardened.{AreGiven};
-ghost use Rattle.cfi_harden.specs.Prepared.{IsOfRequest, IsPrepared};
-ghost use Rattle.cfi_harden.specs.Refused.{Hardens, HardensPrepared};
-ghost use Rattle.cfi_harden.specs.Request.{Request};
+ghost use Rattle.cfi_harden.specs.Prepared.{IsOfRequest, IsPreparedOf};
+ghost use Rattle.cfi_harden.specs.Refused.{HardensPrepared, HardensProgram};
+ghost use Rattle.cfi_harden.specs.Request.{ProgramRequest};
 ghost use Rattle.cfi_harden.specs.Sizes.{whole_size};
 ghost use Rattle.cfi_harden.specs.Writing.{IsReady};
 
 use crate::hardened::{Hardened, written};
 use crate::numbering::class_labels;
-use crate::prepared::{Prepared, prepare};
+use crate::prepared::{Prepared, prepare_program};
 use crate::refusal::HardenEnd;
 use crate::room::spaced_in_room;
 use crate::word_range::words_fit_in;
-use obj_items::laws::{last_place_ends, places_fit};
+use obj_program::Items;
 use rv_word::NoMemory;
 use std::alloc::Global;
 
@@ -41,30 +41,27 @@ fn placed_and_written(alloc: Global, prepared: &Prepared) -> Result<Hardened, Ha
     Ok(hardened)
 }
 
-/// Hardens a program that `prepare` gave: its image, its graph and its map, or the first that stands against placing it.
+/// Hardens a program that `prepare` or `prepare_program` gave: its image, its graph and its map, or the first that stands against placing it.
 pub fn harden_prepared(alloc: Global, prepared: &Prepared) -> Result<Hardened, HardenEnd>
     requires { IsOfRequest prepared.now }
     ensures placed { HardensPrepared prepared.now result }
     // This is what each request comes to of which it is the prepared program.
-    ensures hardens { (request : Request) → IsPrepared request prepared.now → Hardens request result }
+    ensures hardens { (request : ProgramRequest) → IsPreparedOf request prepared.now → HardensProgram request result }
 {
-    last_place_ends();
-    places_fit();
     words_fit_in(prepared);
     placed_and_written(alloc, prepared)
 }
 
-/// Hardens an object (System V gABI, "Object Files"; RISC-V ELF psABI): its image, its graph and its map, or the first that
-/// stands against that. The program is entered at the first symbol with the entry's name. A policy is a text that narrows
-/// what computed transfers may go to.
-pub fn harden(
+/// Hardens a program: its image, its graph and its map, or the first that stands against that. The program is entered at the first
+/// symbol with the entry's name. A policy is a text that narrows what computed transfers may go to.
+pub fn harden_program(
     alloc: Global,
-    object: &[u8],
+    items: Items,
     entry: &str,
     policy: Option<&[u8]>,
 ) -> Result<Hardened, HardenEnd>
-    ensures { Hardens (record { object = object.now; entry = entry.now; policy = option_copied policy.entry }) result }
+    ensures { HardensProgram (record { program = items.entry; entry = entry.now; policy = option_copied policy.entry }) result }
 {
-    let prepared = prepare(alloc, object, entry, policy)?;
+    let prepared = prepare_program(alloc, items, entry, policy)?;
     harden_prepared(alloc, &prepared)
 }

@@ -1,13 +1,13 @@
-//! Hardened code of a program: an object becomes an image, its graph and its map, which the verifier accepts, or the first
-//! thing that stands against that is told. Its main call is `harden`.
+//! Hardened code of a program: it becomes an image, its graph and its map, which the verifier accepts, or the first thing that
+//! stands against that is told. Its main call is `harden_program`; `program_of` gives the program of an object.
 #![tactic(auto)]
 
 pub use chosen::{Chosen, Mapped};
 pub use code::code_bytes;
 pub use hardened::Hardened;
-pub use hardening::{harden, harden_prepared};
+pub use hardening::{harden_prepared, harden_program};
 pub use numbering::class_labels;
-pub use prepared::{Prepared, prepare};
+pub use prepared::{Prepared, prepare, prepare_program, program_of};
 pub use refusal::{HardenEnd, Refusal};
 pub use room::has_data_room;
 pub use spacing::{Spacing, place_program};

@@ -1,7 +1,7 @@
 ghost use Rattle.std.specs.Prelude.{option_copied};
 ghost use Rattle.cfi_harden.specs.Preparing.{Enters, Reads};
-ghost use Rattle.cfi_harden.specs.Refused.{Prepares};
-ghost use Rattle.cfi_harden.specs.Request.{Request};
+ghost use Rattle.cfi_harden.specs.Refused.{Prepares, PreparesProgram};
+ghost use Rattle.cfi_harden.specs.Request.{ProgramRequest, Request};
 
 use crate::closing::closed_under;
 use crate::refusal::{HardenEnd, Refusal};
@@ -28,8 +28,8 @@ impl<'a> Model for Prepared<'a> {
     ghost view = { λ p. record { program = p.items; closed = p.closed; entry = p.entry } };
 }
 
-/// The program of an object.
-fn program_of<'a>(alloc: Global, object: &'a [u8]) -> Result<Items<'a>, HardenEnd>
+/// The program of an object, or what is wrong with the object.
+pub fn program_of<'a>(alloc: Global, object: &'a [u8]) -> Result<Items<'a>, HardenEnd>
     ensures { Reads object.now result }
 {
     let object = Object::read(alloc, object)?;
@@ -53,8 +53,26 @@ fn entered(
     Ok((entry, closed))
 }
 
-/// The program of an object with its closed graph under a policy, if there is one, entered at the first symbol of a name.
-#[tactic(auto, using(crate::proofs::Preparing::is_prepared, crate::proofs::Preparing::not_entered, crate::proofs::Preparing::not_read))]
+/// A program with its closed graph under a policy, if there is one, entered at the first symbol of a name.
+#[tactic(auto, using(crate::proofs::Preparing::is_prepared, crate::proofs::Preparing::not_entered))]
+pub fn prepare_program<'a>(
+    alloc: Global,
+    items: Items<'a>,
+    entry: &str,
+    policy: Option<&[u8]>,
+) -> Result<Prepared<'a>, HardenEnd>
+    ensures { PreparesProgram (record { program = items.entry; entry = entry.now; policy = option_copied policy.entry }) result }
+{
+    let (entry, closed) = entered(alloc, &items, entry, policy)?;
+    Ok(Prepared {
+        items,
+        closed,
+        entry,
+    })
+}
+
+/// The same of the program of an object.
+#[tactic(auto, using(crate::proofs::Preparing::prepares, crate::proofs::Preparing::not_read))]
 pub fn prepare<'a>(
     alloc: Global,
     object: &'a [u8],
@@ -64,10 +82,5 @@ pub fn prepare<'a>(
     ensures { Prepares (record { object = object.now; entry = entry.now; policy = option_copied policy.entry }) result }
 {
     let items = program_of(alloc, object)?;
-    let (entry, closed) = entered(alloc, &items, entry, policy)?;
-    Ok(Prepared {
-        items,
-        closed,
-        entry,
-    })
+    prepare_program(alloc, items, entry, policy)
 }

@@ -1,6 +1,8 @@
-//! That the words of a program's places have 32 bits, as the prover needs it.
+//! What the writing of a program rests on: it is sound and fits maps, and the words of its places have 32 bits, as the prover needs
+//! it.
 
 ghost use Rattle.std.specs.Prelude.{ℕ, ◌<◌, ◌^◌, length, slice_index_or};
+ghost use Rattle.obj_program.specs.MapFit.{FitsMaps};
 ghost use Rattle.obj_program.specs.Program.{count, item_of, no_item};
 ghost use Rattle.obj_program.specs.Sound.{IsSound};
 
@@ -23,17 +25,20 @@ fn words_fit(items: &[PackedItem])
     }
 }
 
-/// The words of a program's places have 32 bits, and it is sound.
+/// The words of a program's places have 32 bits, and it is sound and fits maps.
 fn program_words_fit(items: &Items)
     ensures sound { IsSound items.now }
+    ensures fits_maps { FitsMaps items.now }
     ensures words { (k : ℕ) → k < count items.now → (item_of items.now k).word < 2 ^ 32 }
 {
+    items.fits_maps();
     words_fit(items.places());
 }
 
 /// The same of a prepared program.
 pub(crate) fn words_fit_in(prepared: &Prepared)
     ensures sound { IsSound prepared.now.program }
+    ensures fits_maps { FitsMaps prepared.now.program }
     ensures words { (k : ℕ) → k < count prepared.now.program → (item_of prepared.now.program k).word < 2 ^ 32 }
 {
     program_words_fit(&prepared.items);

@@ -18,7 +18,7 @@ use Rattle.cfi_harden.specs.Units.{Choice, entry_gate}
 use Rattle.cfi_kept.specs.PlacesKept as law
 use Rattle.cfi_kept.specs.ImageOf.{IsImageOf, unit_here}
 use Rattle.cfi_kept.specs.PlaceSteps.{PlacesRun, at_word, place_step}
-use Rattle.cfi_kept.specs.PlacesKept.{KeepsPlaces, bound}
+use Rattle.cfi_kept.specs.PlacesKept.{KeepsPlaces, bound, last_words}
 use Rattle.cfi_kept.proofs.Places.{place_runs}
 use Rattle.cfi_kept.proofs.Prologue.{written_prologue}
 
@@ -61,7 +61,7 @@ pub more_steps : (p : Profile) (image : Contents) (input : List ℕ) (most more 
 more_steps p image input most more Q few runs = (runs.0, (let bound = runs.1 in omega arith), runs.2)
 
 -- the bound in both versions of images
-bounds : (n : ℕ) → (bound version_1 n ≡ 21 * n + 13) × (bound version_2 n ≡ 21 * n + 17)
+bounds : (n : ℕ) → (bound 1 (last_words version_1) n ≡ 21 * n + 13) × (bound 1 (last_words version_2) n ≡ 21 * n + 17)
 bounds n = (refl, refl)
 
 pub places_kept : law.PlacesKept
@@ -76,7 +76,7 @@ places_kept m image input places o of on =
     let few = walk.few in
     let kept = run_keeps_match p image input (entry_gate m) walk.path o has walk.leads in
     record {
-      goes = more_steps p image input _ (bound p (length places)) (ComesTo SHADOW_START (loaded image) (loaded image) o) (omega arith) kept.goes;
+      goes = more_steps p image input _ (bound 1 (last_words p) (length places)) (ComesTo SHADOW_START (loaded image) (loaded image) o) (omega arith) kept.goes;
       next = λ k now.
           let here = place_runs m image k o of now in
           let joined = paths_join p (loaded image) walk.path here.path first o (at_word m k o) walk.leads here.leads in
@@ -84,6 +84,6 @@ places_kept m image input places o of on =
           let one = here.few in
           let some = most_words (unit_here m k) in
           let then = run_keeps_match p image input (entry_gate m) (walk.path ++ here.path) (at_word m k o) has joined in
-          more_steps p image input _ (bound p (length places + 1)) (MatchesAfter SHADOW_START (loaded image) (loaded image) (place_step m k o)) (omega arith) (then.next (unit_here m k) here.step);
-      closes = λ end. more_steps p image input _ (bound p (length places)) (MatchesAfter SHADOW_START (loaded image) (loaded image) (own_closing p o)) (omega arith) (kept.closes end);
+          more_steps p image input _ (bound 1 (last_words p) (length places + 1)) (MatchesAfter SHADOW_START (loaded image) (loaded image) (place_step m k o)) (omega arith) (then.next (unit_here m k) here.step);
+      closes = λ end. more_steps p image input _ (bound 1 (last_words p) (length places)) (MatchesAfter SHADOW_START (loaded image) (loaded image) (own_closing p o)) (omega arith) (kept.closes end);
     }

@@ -13,17 +13,20 @@ use Rattle.cfi_harden.specs.Units.{Choice, entry_gate}
 use Rattle.cfi_kept.specs.ImageOf.{IsImageOf}
 use Rattle.cfi_kept.specs.PlaceSteps.{PlacesRun, TamePlace, place_step}
 
--- how many steps the machine takes at most for so many of the program's: a place has no more than 21
--- words, and from a run's start to the first unit stand the opening and the closing. In version 1 of
--- images it is 21 n + 13, in version 2 21 n + 17
-abbrev pub bound : Profile → ℕ → ℕ
-bound p n = 21 * n + (p.units_from - START) / 4
+-- how many words stand before the first unit from where a run starts on: those of the opening and of the closing
+abbrev pub last_words : Profile → ℕ
+last_words p = (p.units_from - START) / 4
+
+-- how many steps the machine takes at most for so many of the program's, where that many words lead to a place's unit, which has
+-- twenty at most, and that many stand before the first unit. In version 1 of images it is 21 n + 13, in version 2 21 n + 17
+abbrev pub bound : ℕ → ℕ → ℕ → ℕ
+bound lead last n = (20 + lead) * n + last
 
 -- `o` is where the program comes over these places
 pub record KeepsPlaces (m : Choice) (image : Contents) (input : List ℕ) (places : List ℕ) (o : Own) : Type 0 where
-  pub goes : RunsTo m.layout.profile image input (bound m.layout.profile (length places)) (ComesTo SHADOW_START (loaded image) (loaded image) o)
-  pub next : (k : ℕ) → TamePlace m image k o → Ends m.layout.profile image input (bound m.layout.profile (length places + 1)) (place_step m k o)
-  pub closes : o.pc ≡ m.layout.profile.closing → Ends m.layout.profile image input (bound m.layout.profile (length places)) (own_closing m.layout.profile o)
+  pub goes : RunsTo m.layout.profile image input (bound 1 (last_words m.layout.profile) (length places)) (ComesTo SHADOW_START (loaded image) (loaded image) o)
+  pub next : (k : ℕ) → TamePlace m image k o → Ends m.layout.profile image input (bound 1 (last_words m.layout.profile) (length places + 1)) (place_step m k o)
+  pub closes : o.pc ≡ m.layout.profile.closing → Ends m.layout.profile image input (bound 1 (last_words m.layout.profile) (length places)) (own_closing m.layout.profile o)
 
 -- the undisturbed run of an image of what is written keeps the program's own run
 abbrev pub PlacesKept : Type 0

@@ -4,8 +4,8 @@ use Rattle.rv_word.specs.Image.{Contents}
 use Rattle.rv_word.specs.MemoryMap.{version_1}
 use Rattle.cfi_flow.specs.GraphAtMap.{ProgramAtMap}
 use Rattle.cfi_flow.specs.Source.{init_here}
-use Rattle.cfi_harden.specs.Hardened.{HardenedParts, IsHardened, chosen}
-use Rattle.cfi_harden.specs.Request.{Request}
+use Rattle.cfi_harden.specs.Hardened.{HardenedParts, IsHardenedOf, chosen}
+use Rattle.cfi_harden.specs.Request.{ProgramRequest}
 use Rattle.cfi_harden.specs.Units.{Choice}
 use Rattle.cfi_harden.proofs.Ready.{written_accepted}
 use Rattle.cfi_kept.specs.ImageOf.{IsImageOf}
@@ -18,7 +18,7 @@ use Rattle.cfi_meaning.proofs.NeverDiffers.{never_differs}
 -- what holds of each image of an accepted choice with its data
 module _ (Holds : ProgramAtMap → Contents → Type 0)
     (each : (m : Choice) (image : Contents) → IsImageOf m image → image.init ≡ init_here m.layout → Holds m.layout image) where
-  pub at_map : (request : Request) (h : HardenedParts) → IsHardened request h → HoldsAtMap Holds request h
+  pub at_map : (request : ProgramRequest) (h : HardenedParts) → IsHardenedOf request h → HoldsAtMap Holds request h
   at_map request h (p, prepared, (s, labels, code, init, placed, room, in_range, written)) =
       let m = chosen p s labels in
       let image : Contents = record { code = code; init = init } in

@@ -13,7 +13,7 @@ use Rattle.cfi_runs.specs.WholeRun.{RunsTo, own_shared, undisturbed}
 use Rattle.cfi_harden.specs.Units.{Choice, entry_gate}
 use Rattle.cfi_kept.specs.ImageOf.{IsImageOf}
 use Rattle.cfi_kept.specs.PlaceSteps.{PlacesRun, TamePlace, place_step}
-use Rattle.cfi_kept.specs.PlacesKept.{KeepsPlaces, bound}
+use Rattle.cfi_kept.specs.PlacesKept.{KeepsPlaces, bound, last_words}
 use Rattle.cfi_kept.proofs.Kept.{places_kept}
 use Rattle.cfi_meaning.specs.Matches.{Matches, address_of, own_of}
 use Rattle.cfi_meaning.specs.Meaning.{Answers, EndsAs, MeaningKept}
@@ -104,7 +104,7 @@ module _ (m : Choice) (image : Contents) (of : IsImageOf m image) (input : List 
     kept n st l =
         places_kept m image input l.places (own_of m.layout st) of (subst (λ (o : Own). PlacesRun m image l.places o (own_of m.layout st)) starts l.run)
 
-    goes : (n : ℕ) (st : Source) → after_steps m.layout n start ≡ Some st → RunsTo p image input (bound p n) (Matches m.layout image st)
+    goes : (n : ℕ) (st : Source) → after_steps m.layout n start ≡ Some st → RunsTo p image input (bound 1 (last_words p) n) (Matches m.layout image st)
     goes n st e =
         let l = led n st e in
         let comes = (kept n st l).goes in
@@ -119,13 +119,13 @@ module _ (m : Choice) (image : Contents) (of : IsImageOf m image) (input : List 
     ended (untame why k) next after answer = tt
 
     ends_so : (n : ℕ) (st : Source) → after_steps m.layout n start ≡ Some st → Stepped m image st →
-        RunsTo p image input (bound p (n + 1)) (EndsAs m.layout (source_step m.layout st).turn (source_step m.layout st).state)
+        RunsTo p image input (bound 1 (last_words p) (n + 1)) (EndsAs m.layout (source_step m.layout st).turn (source_step m.layout st).state)
     ends_so n st e (has_ended status ended is) =
         let (steps, few, same) = goes n st e in
         let none : last_exit st.shared.events ≡ None = sym (ap last_exit same.events) ∙ same.going in
         absurd (cc)
     ends_so n st e (is_untame why k is) =
-        subst (λ (t : StepTurn). RunsTo p image input (bound p (n + 1)) (EndsAs m.layout t (source_step m.layout st).state)) (sym is) (0, omega arith, tt)
+        subst (λ (t : StepTurn). RunsTo p image input (bound 1 (last_words p) (n + 1)) (EndsAs m.layout t (source_step m.layout st).state)) (sym is) (0, omega arith, tt)
     ends_so n st e (at_place k now own) =
         let l = led n st e in
         let next = (kept n st l).next k now in

@@ -10,7 +10,7 @@ use Rattle.rv_code.specs.declared.turn.Turn.TheVariants.{Ran, Exit, Break}
 use Rattle.cfi_flow.specs.GraphAtMap.{ProgramAtMap}
 use Rattle.cfi_unit.specs.Prologue.{OPENING}
 use Rattle.cfi_runs.specs.WholeRun.{undisturbed}
-use Rattle.cfi_kept.specs.PlacesKept.{bound}
+use Rattle.cfi_kept.specs.PlacesKept.{bound, last_words}
 use Rattle.cfi_flow.specs.declared.reason.Reason.{Reason}
 use Rattle.cfi_flow.specs.Source.{Source, source_start}
 use Rattle.cfi_flow.specs.SourceStep.{StepTurn, breaks, exits, ran, source_step, untame}
@@ -108,7 +108,7 @@ verdict (breaks k) None events = same events
 unfoldable pub compared_from : Profile → ProgramAtMap → Source → Contents → List ℕ → ℕ → Compared
 compared_from p layout state image input limit =
     let r = source_run layout limit state in
-    let a = undisturbed p image input (bound p r.steps) in
+    let a = undisturbed p image input (bound 1 (last_words p) r.steps) in
     verdict r.turn
     (first_difference 0 (has_ended r.turn) (trace r.state.shared.events (source_end r.turn)) (trace a.shared.events (image_end a.turn)))
     (length r.state.shared.events)

@@ -5,9 +5,9 @@ use Rattle.rv_word.specs.MemoryMap.{version_1}
 use Rattle.elf_image.specs.Spelling.{spelling}
 use Rattle.cfi_flow.specs.GraphAtMap.{ProgramAtMap}
 use Rattle.cfi_flow.specs.LegalMap.{IsLegalMap, gates_of}
-use Rattle.cfi_harden.specs.Hardened.{HardenedParts, IsHardened}
-use Rattle.cfi_harden.specs.Prepared.{IsPrepared, PreparedParts}
-use Rattle.cfi_harden.specs.Request.{Request}
+use Rattle.cfi_harden.specs.Hardened.{HardenedParts, IsHardenedOf}
+use Rattle.cfi_harden.specs.Prepared.{IsPreparedOf, PreparedParts}
+use Rattle.cfi_harden.specs.Request.{ProgramRequest}
 use Rattle.cfi_meaning.specs.Meaning.{KeepsMeaning}
 use Rattle.cfi_meaning.specs.NeverDiffers.{NoRunDiffers}
 
@@ -16,23 +16,23 @@ abbrev pub hardened_at_map : PreparedParts → HardenedParts → ProgramAtMap
 hardened_at_map p h = record { profile = version_1; program = p.program; closed = p.closed; gates = gates_of h.map; entry = p.entry }
 
 -- something holds of the request's program at the map, which is legal, and of what the image contains
-pub record HoldsAtMap (Holds : ProgramAtMap → Contents → Type 0) (request : Request) (h : HardenedParts) : Type 0 where
+pub record HoldsAtMap (Holds : ProgramAtMap → Contents → Type 0) (request : ProgramRequest) (h : HardenedParts) : Type 0 where
   pub p : PreparedParts
   pub contents : Contents
-  pub prepared : IsPrepared request p
+  pub prepared : IsPreparedOf request p
   pub map : IsLegalMap p.program p.closed h.map
   pub image : h.image ≡ spelling contents.code contents.init
   pub holds : Holds (hardened_at_map p h) contents
 
 -- with each input
-abbrev pub KeepsMeaningAtMap : Request → HardenedParts → Type 0
+abbrev pub KeepsMeaningAtMap : ProgramRequest → HardenedParts → Type 0
 KeepsMeaningAtMap = HoldsAtMap (λ layout image. (input : List ℕ) → KeepsMeaning layout image input)
 
-abbrev pub NeverDiffersAtMap : Request → HardenedParts → Type 0
+abbrev pub NeverDiffersAtMap : ProgramRequest → HardenedParts → Type 0
 NeverDiffersAtMap = HoldsAtMap NoRunDiffers
 
 abbrev pub HardenedKeepsMeaning : Type 0
-HardenedKeepsMeaning = (request : Request) (h : HardenedParts) → IsHardened request h → KeepsMeaningAtMap request h
+HardenedKeepsMeaning = (request : ProgramRequest) (h : HardenedParts) → IsHardenedOf request h → KeepsMeaningAtMap request h
 
 abbrev pub HardenedNeverDiffers : Type 0
-HardenedNeverDiffers = (request : Request) (h : HardenedParts) → IsHardened request h → NeverDiffersAtMap request h
+HardenedNeverDiffers = (request : ProgramRequest) (h : HardenedParts) → IsHardenedOf request h → NeverDiffersAtMap request h

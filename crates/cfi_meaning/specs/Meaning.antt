@@ -12,7 +12,7 @@ use Rattle.cfi_runs.specs.WholeRun.{RunsTo}
 use Rattle.cfi_runs.specs.Within.{Within}
 use Rattle.cfi_harden.specs.Units.{Choice}
 use Rattle.cfi_kept.specs.ImageOf.{IsImageOf}
-use Rattle.cfi_kept.specs.PlacesKept.{bound}
+use Rattle.cfi_kept.specs.PlacesKept.{bound, last_words}
 use Rattle.cfi_flow.specs.Source.{Source, init_here, source_start}
 use Rattle.cfi_flow.specs.SourceStep.{StepTurn, after_steps, breaks, exits, ran, source_step}
 use Rattle.cfi_meaning.specs.Matches.{Matches}
@@ -40,9 +40,9 @@ KeepsStep layout image =
 
 pub record KeepsMeaning (layout : ProgramAtMap) (image : Contents) (input : List ℕ) : Type 0 where
   pub goes : (n : ℕ) (st : Source) → after_steps layout n (source_start layout input) ≡ Some st →
-      RunsTo layout.profile image input (bound layout.profile n) (Matches layout image st)
+      RunsTo layout.profile image input (bound 1 (last_words layout.profile) n) (Matches layout image st)
   pub ends : (n : ℕ) (st : Source) → after_steps layout n (source_start layout input) ≡ Some st →
-      RunsTo layout.profile image input (bound layout.profile (n + 1)) (EndsAs layout (source_step layout st).turn (source_step layout st).state)
+      RunsTo layout.profile image input (bound 1 (last_words layout.profile) (n + 1)) (EndsAs layout (source_step layout st).turn (source_step layout st).state)
   -- and the states that match are the right ones: from any of them the next step is kept
   pub stays : KeepsStep layout image
 

@@ -1,16 +1,18 @@
 ghost use Rattle.std.specs.Prelude.{IfOk, option_copied};
-ghost use Rattle.cfi_harden.specs.Prepared.{IsOfRequest, IsPrepared};
-ghost use Rattle.cfi_harden.specs.Refused.{Hardens, HardensPrepared};
-ghost use Rattle.cfi_harden.specs.Request.{Request};
+ghost use Rattle.cfi_harden.specs.Prepared.{IsOfRequest, IsPreparedOf};
+ghost use Rattle.cfi_harden.specs.Refused.{Hardens, HardensPrepared, HardensProgram};
+ghost use Rattle.cfi_harden.specs.Request.{ProgramRequest, program_request};
 ghost use Rattle.cfi_meaning.specs.Hardened.{KeepsMeaningAtMap, NeverDiffersAtMap};
 
-use cfi_harden::{HardenEnd, Hardened, Prepared, harden, harden_prepared};
+use cfi_harden::{HardenEnd, Hardened, Prepared, harden_prepared, harden_program, program_of};
 use cfi_meaning::laws::{hardened_keeps_meaning, hardened_never_differs};
+use obj_program::Items;
 use std::alloc::Global;
 
 /// Hardens an object (System V gABI, "Object Files"; RISC-V ELF psABI): its image, its graph and its map, or the first that
 /// stands against that. The program is entered at the first symbol with the entry's name. A policy is a text that narrows
 /// what computed transfers may go to.
+#[tactic(auto, using(crate::proofs::OfHardened::not_read))]
 pub fn rewrite(
     alloc: Global,
     object: &[u8],
@@ -23,14 +25,29 @@ pub fn rewrite(
     // With each input: when the program at the map has run n tame steps and goes on, the image, which nothing disturbs, is within
     // 21 n + 13 steps at a state that matches; where the program's next step ends it, the image has ended alike within
     // 21 (n + 1) + 13 in all, with the same events; and from any state that matches the next tame step is kept within 21.
-    ensures meaning_kept { IfOk result (λ h. KeepsMeaningAtMap (record { object = object.now; entry = entry.now; policy = option_copied policy.entry }) h) }
+    ensures meaning_kept { IfOk result (λ h. KeepsMeaningAtMap (program_request (record { object = object.now; entry = entry.now; policy = option_copied policy.entry })) h) }
     // With each input and each limit: comparing the events and the end of the program's run with those of the image's tells no
     // difference.
-    ensures never_differs { IfOk result (λ h. NeverDiffersAtMap (record { object = object.now; entry = entry.now; policy = option_copied policy.entry }) h) }
+    ensures never_differs { IfOk result (λ h. NeverDiffersAtMap (program_request (record { object = object.now; entry = entry.now; policy = option_copied policy.entry })) h) }
+{
+    let items = program_of(alloc, object)?;
+    rewrite_program(alloc, items, entry, policy)
+}
+
+/// Hardens a program. This is what `rewrite` does with that of an object.
+pub fn rewrite_program(
+    alloc: Global,
+    items: Items,
+    entry: &str,
+    policy: Option<&[u8]>,
+) -> Result<Hardened, HardenEnd>
+    ensures hardens { HardensProgram (record { program = items.entry; entry = entry.now; policy = option_copied policy.entry }) result }
+    ensures meaning_kept { IfOk result (λ h. KeepsMeaningAtMap (record { program = items.entry; entry = entry.now; policy = option_copied policy.entry }) h) }
+    ensures never_differs { IfOk result (λ h. NeverDiffersAtMap (record { program = items.entry; entry = entry.now; policy = option_copied policy.entry }) h) }
 {
     hardened_keeps_meaning();
     hardened_never_differs();
-    harden(alloc, object, entry, policy)
+    harden_program(alloc, items, entry, policy)
 }
 
 /// Hardens a program that `cfi_harden::prepare` gave: its image, its graph and its map, or the first that stands against placing
@@ -38,10 +55,10 @@ pub fn rewrite(
 pub fn rewrite_prepared(alloc: Global, prepared: &Prepared) -> Result<Hardened, HardenEnd>
     requires { IsOfRequest prepared.now }
     ensures placed { HardensPrepared prepared.now result }
-    // For each request of which it is the prepared program, this is what `rewrite` promises.
-    ensures hardens { (request : Request) → IsPrepared request prepared.now → Hardens request result }
-    ensures meaning_kept { (request : Request) → IsPrepared request prepared.now → IfOk result (λ h. KeepsMeaningAtMap request h) }
-    ensures never_differs { (request : Request) → IsPrepared request prepared.now → IfOk result (λ h. NeverDiffersAtMap request h) }
+    // For each request of which it is the prepared program, this is what `rewrite_program` promises.
+    ensures hardens { (request : ProgramRequest) → IsPreparedOf request prepared.now → HardensProgram request result }
+    ensures meaning_kept { (request : ProgramRequest) → IsPreparedOf request prepared.now → IfOk result (λ h. KeepsMeaningAtMap request h) }
+    ensures never_differs { (request : ProgramRequest) → IsPreparedOf request prepared.now → IfOk result (λ h. NeverDiffersAtMap request h) }
 {
     hardened_keeps_meaning();
     hardened_never_differs();

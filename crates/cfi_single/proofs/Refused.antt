@@ -13,19 +13,19 @@ use Rattle.cfi_harden.specs.declared.refusal.Refusal.{Refusal}
 use Rattle.cfi_harden.specs.declared.refusal.Refusal.TheVariants as R
 use Rattle.cfi_harden.specs.Fitting.{RefusesPlaced}
 use Rattle.cfi_harden.specs.Hardened.{HardenedParts, IsWrittenOf}
-use Rattle.cfi_harden.specs.Prepared.{FailsAt, IsClosedUnder, IsPrepared, IsWrongPolicy, PreparedParts}
-use Rattle.cfi_harden.specs.Refused.{IsEarly, Refuses}
-use Rattle.cfi_harden.specs.Request.{Request, policy_reading, program_in}
+use Rattle.cfi_harden.specs.Prepared.{FailsAt, IsClosedUnder, IsPreparedOf, IsWrongPolicy, PreparedParts}
+use Rattle.cfi_harden.specs.Refused.{IsEarly, RefusesProgram}
+use Rattle.cfi_harden.specs.Request.{ProgramRequest, policy_reading}
 use Rattle.cfi_single.specs.OneWay.{HardenedIsNotRefused, RefusedInOneWay}
 use Rattle.cfi_single.proofs.Placed.{gates_unique, words_unique}
 use Rattle.cfi_single.proofs.Prepared.{prepared_unique}
 
 -- a refusal that stands comes before anything is placed, or stands of what is prepared
-data Stage (request : Request) (r : Refusal) : Type 0 where
+data Stage (request : ProgramRequest) (r : Refusal) : Type 0 where
   early : IsEarly r → Stage request r
-  late : (p : PreparedParts) → IsPrepared request p → RefusesPlaced p r → Stage request r
+  late : (p : PreparedParts) → IsPreparedOf request p → RefusesPlaced p r → Stage request r
 
-stage : (request : Request) (r : Refusal) → Refuses request r → Stage request r
+stage : (request : ProgramRequest) (r : Refusal) → RefusesProgram request r → Stage request r
 stage request (R.Object fault) x = early tt
 stage request (R.Items fault) x = early tt
 stage request R.NoEntry x = early tt
@@ -43,24 +43,24 @@ no_wrong_policy program policy n (inr (none, fails)) end is whole right =
     subst (λ (e : Result (Unit {0}) TextEnd). FailsAt e n) (is ∙ whole) fails
 
 -- what is prepared is not refused before it is placed
-module _ (request : Request) (p : PreparedParts) (prepared : IsPrepared request p) where
-  entry_there : entry_place (program_in request.object) request.entry ≡ Some p.entry
+module _ (request : ProgramRequest) (p : PreparedParts) (prepared : IsPreparedOf request p) where
+  entry_there : entry_place request.program request.entry ≡ Some p.entry
   entry_there = subst (λ (x : Program). entry_place x request.entry ≡ Some p.entry) prepared.program prepared.entry
 
-  closed_there : IsClosedUnder (program_in request.object) request.policy p.closed
+  closed_there : IsClosedUnder request.program request.policy p.closed
   closed_there = subst (λ (x : Program). IsClosedUnder x request.policy p.closed) prepared.program prepared.closed
 
-  policy_right : (n : ℕ) → IsWrongPolicy (program_in request.object) request.policy n → ⊥
+  policy_right : (n : ℕ) → IsWrongPolicy request.program request.policy n → ⊥
   policy_right n wrong =
       let closed = closed_there in
       let (raw, is, of) = closed.drawn in
-      no_wrong_policy (program_in request.object) request.policy n wrong (policy_reading request.policy).end refl closed.whole is.right
+      no_wrong_policy request.program request.policy n wrong (policy_reading request.policy).end refl closed.whole is.right
 
-  not_early : (r : Refusal) → IsEarly r → Refuses request r → ⊥
-  not_early (R.Object fault) e x = let sound = prepared.object.sound in absurd (cc)
-  not_early (R.Items fault) e x = let right = prepared.object.right in let wrong = x.1 in absurd (cc)
-  not_early R.NoEntry e x = let there = entry_there in let none = x.1 in absurd (cc)
-  not_early (R.Policy n) e x = absurd (policy_right n x.2)
+  not_early : (r : Refusal) → IsEarly r → RefusesProgram request r → ⊥
+  not_early (R.Object fault) e x = absurd x
+  not_early (R.Items fault) e x = absurd x
+  not_early R.NoEntry e x = let there = entry_there in absurd (cc)
+  not_early (R.Policy n) e x = absurd (policy_right n x.1)
   not_early (R.CodeTooLarge bytes) e x = absurd e
   not_early (R.DataTooLarge init end) e x = absurd e
   not_early (R.RelocRange section offset) e x = absurd e
@@ -133,27 +133,18 @@ wrong_once program policy n m (inr x) (inl y) = let none = x.0 in absurd (cc)
 wrong_once program policy n m (inr x) (inr y) = fails_once (policy_reading policy).end n m x.1 y.1
 
 -- one refusal before anything is placed
-early_one : (request : Request) (a b : Refusal) → IsEarly a → IsEarly b → Refuses request a → Refuses request b → a ≡ b
-early_one request (R.Object f) (R.Object g) ea eb x y = ap R.Object (same_Some f g (sym x ∙ y))
-early_one request (R.Object f) (R.Items g) ea eb x y = let none = y.0 in absurd (cc)
-early_one request (R.Object f) R.NoEntry ea eb x y = let none = y.0.sound in absurd (cc)
-early_one request (R.Object f) (R.Policy n) ea eb x y = let none = y.0.sound in absurd (cc)
-early_one request (R.Items f) (R.Object g) ea eb x y = let none = x.0 in absurd (cc)
-early_one request (R.Items f) (R.Items g) ea eb x y = ap R.Items (same_Some f g (sym x.1 ∙ y.1))
-early_one request (R.Items f) R.NoEntry ea eb x y = let fault = x.1 in let none = y.0.right in absurd (cc)
-early_one request (R.Items f) (R.Policy n) ea eb x y = let fault = x.1 in let none = y.0.right in absurd (cc)
-early_one request R.NoEntry (R.Object g) ea eb x y = let none = x.0.sound in absurd (cc)
-early_one request R.NoEntry (R.Items g) ea eb x y = let none = x.0.right in let fault = y.1 in absurd (cc)
+early_one : (request : ProgramRequest) (a b : Refusal) → IsEarly a → IsEarly b → RefusesProgram request a → RefusesProgram request b → a ≡ b
 early_one request R.NoEntry R.NoEntry ea eb x y = refl
-early_one request R.NoEntry (R.Policy n) ea eb x y = let no : false ≡ true = subst IsSome x.1 y.1 in absurd (cc)
-early_one request (R.Policy n) (R.Object g) ea eb x y = let none = x.0.sound in absurd (cc)
-early_one request (R.Policy n) (R.Items g) ea eb x y = let none = x.0.right in let fault = y.1 in absurd (cc)
-early_one request (R.Policy n) R.NoEntry ea eb x y = let no : false ≡ true = subst IsSome y.1 x.1 in absurd (cc)
-early_one request (R.Policy n) (R.Policy m) ea eb x y =
-    ap R.Policy (wrong_once (program_in request.object) request.policy n m x.2 y.2)
+early_one request R.NoEntry (R.Policy n) ea eb x y = let no : false ≡ true = subst IsSome x y.0 in absurd (cc)
+early_one request (R.Policy n) R.NoEntry ea eb x y = let no : false ≡ true = subst IsSome y x.0 in absurd (cc)
+early_one request (R.Policy n) (R.Policy m) ea eb x y = ap R.Policy (wrong_once request.program request.policy n m x.1 y.1)
+early_one request (R.Object f) b ea eb x y = absurd x
+early_one request (R.Items f) b ea eb x y = absurd x
 early_one request (R.CodeTooLarge bytes) b ea eb x y = absurd ea
 early_one request (R.DataTooLarge init end) b ea eb x y = absurd ea
 early_one request (R.RelocRange section offset) b ea eb x y = absurd ea
+early_one request a (R.Object f) ea eb x y = absurd y
+early_one request a (R.Items f) ea eb x y = absurd y
 early_one request a (R.CodeTooLarge bytes) ea eb x y = absurd eb
 early_one request a (R.DataTooLarge init end) ea eb x y = absurd eb
 early_one request a (R.RelocRange section offset) ea eb x y = absurd eb

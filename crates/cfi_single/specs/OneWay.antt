@@ -1,23 +1,31 @@
 -- A request is prepared, hardened and refused in one way.
 use Rattle.std.specs.Prelude.{◌≡◌}
 use Rattle.cfi_harden.specs.declared.refusal.Refusal.{Refusal}
-use Rattle.cfi_harden.specs.Hardened.{HardenedParts, IsHardened}
-use Rattle.cfi_harden.specs.Prepared.{IsPrepared, PreparedParts}
-use Rattle.cfi_harden.specs.Refused.{Refuses}
-use Rattle.cfi_harden.specs.Request.{Request}
+use Rattle.cfi_harden.specs.Hardened.{HardenedParts, IsHardened, IsHardenedOf}
+use Rattle.cfi_harden.specs.Prepared.{IsPrepared, IsPreparedOf, PreparedParts}
+use Rattle.cfi_harden.specs.Refused.{Refuses, RefusesProgram}
+use Rattle.cfi_harden.specs.Request.{ProgramRequest, Request}
 
 -- whatever is prepared for a request is the same program, with the same closed graph and entry
 abbrev pub PreparedInOneWay : Type 0
-PreparedInOneWay = (request : Request) (p q : PreparedParts) → IsPrepared request p → IsPrepared request q → p ≡ q
+PreparedInOneWay = (request : ProgramRequest) (p q : PreparedParts) → IsPreparedOf request p → IsPreparedOf request q → p ≡ q
 
 -- whatever is hardened for it is the same image, with the same graph and map
 abbrev pub HardenedInOneWay : Type 0
-HardenedInOneWay = (request : Request) (h g : HardenedParts) → IsHardened request h → IsHardened request g → h ≡ g
+HardenedInOneWay = (request : ProgramRequest) (h g : HardenedParts) → IsHardenedOf request h → IsHardenedOf request g → h ≡ g
 
 -- what is hardened is refused by nothing
 abbrev pub HardenedIsNotRefused : Type 0
-HardenedIsNotRefused = (request : Request) (h : HardenedParts) (refusal : Refusal) → IsHardened request h → Refuses request refusal → ⊥
+HardenedIsNotRefused =
+    (request : ProgramRequest) (h : HardenedParts) (refusal : Refusal) → IsHardenedOf request h → RefusesProgram request refusal → ⊥
 
 -- and a request has one first refusal
 abbrev pub RefusedInOneWay : Type 0
-RefusedInOneWay = (request : Request) (first other : Refusal) → Refuses request first → Refuses request other → first ≡ other
+RefusedInOneWay = (request : ProgramRequest) (first other : Refusal) → RefusesProgram request first → RefusesProgram request other → first ≡ other
+
+-- the same of a request of an object
+pub record ObjectsInOneWay : Type 0 where
+  pub prepared : (request : Request) (p q : PreparedParts) → IsPrepared request p → IsPrepared request q → p ≡ q
+  pub hardened : (request : Request) (h g : HardenedParts) → IsHardened request h → IsHardened request g → h ≡ g
+  pub not_refused : (request : Request) (h : HardenedParts) (refusal : Refusal) → IsHardened request h → Refuses request refusal → ⊥
+  pub refused : (request : Request) (first other : Refusal) → Refuses request first → Refuses request other → first ≡ other

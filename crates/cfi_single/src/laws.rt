@@ -1,7 +1,7 @@
 //! Each function states one law; nothing is computed.
-ghost use Rattle.cfi_single.specs.OneWay.{HardenedInOneWay, HardenedIsNotRefused, PreparedInOneWay, RefusedInOneWay};
+ghost use Rattle.cfi_single.specs.OneWay.{HardenedInOneWay, HardenedIsNotRefused, ObjectsInOneWay, PreparedInOneWay, RefusedInOneWay};
 
-/// A request is prepared in one way.
+/// A request of a program is prepared in one way.
 pub fn prepared_in_one_way()
     ensures { PreparedInOneWay }
 {}
@@ -19,4 +19,9 @@ pub fn hardened_is_not_refused()
 /// One refusal is the first that stands of it.
 pub fn refused_in_one_way()
     ensures { RefusedInOneWay }
+{}
+
+/// All of this holds of a request of an object.
+pub fn objects_in_one_way()
+    ensures { ObjectsInOneWay }
 {}

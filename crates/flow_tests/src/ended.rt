@@ -3,11 +3,9 @@ ghost use Rattle.std.specs.Prelude.{◌≡◌, ◌+◌, ◌≤◌, true, is_some
 ghost use Rattle.rv_word.specs.MemoryMap.{DATA_END, DATA_START};
 ghost use Rattle.obj_program.specs.DataAtMap.{init_size};
 ghost use Rattle.cfi_flow.specs.Policy.{instruction_at};
-ghost use Rattle.src_machine.specs.ProgramAt.{EndsLast};
 
 use cfi_flow::{Closed, close, entry_place, raw_graph};
 use cfi_graph::{Map, Policy, read_map, read_policy};
-use obj_input::ItemKind;
 use obj_program::Items;
 use src_machine::{Reason, SourceEnd, SourceRun, SourceTurn};
 use std::alloc::{AllocError, Global};
@@ -115,14 +113,6 @@ fn ends_so(alloc: Global, end: SourceEnd, told: &str) -> bool {
     }
 }
 
-/// Whether the last place of a program is a section's end.
-fn ends_last(items: &Items) -> bool
-    ensures { result ≡ true → EndsLast items.now }
-{
-    let count = items.count();
-    count > 0 && items.item(count - 1).kind == ItemKind::End
-}
-
 /// Whether initialised data have their place.
 fn is_small(items: &Items) -> bool
     ensures { result ≡ true → DATA_START + init_size items.now ≤ DATA_END }
@@ -143,7 +133,7 @@ fn is_told_at(alloc: Global, items: &Items, closed: &Closed, map: &Map, asked: &
     let Some(entry) = entry(items) else {
         return false;
     };
-    if !ends_last(items) || !is_small(items) {
+    if !is_small(items) {
         return false;
     }
     match SourceRun::new(alloc, items, closed, map, entry, asked.input) {

@@ -18,8 +18,8 @@ use Rattle.gen_program.specs.Generated.{IsGenerated}
 use Rattle.gen_program.proofs.Reading.{generated_is}
 use Rattle.cfi_harden.specs.declared.refusal.Refusal.TheVariants.{Object, Items, NoEntry, Policy, CodeTooLarge, DataTooLarge, RelocRange}
 use Rattle.cfi_harden.specs.Hardened.{HasDataRoom}
-use Rattle.cfi_harden.specs.Prepared.{IsPrepared, PreparedParts}
-use Rattle.cfi_harden.specs.Request.{program_in}
+use Rattle.cfi_harden.specs.Prepared.{IsPreparedOf, PreparedParts}
+use Rattle.cfi_harden.specs.Request.{program_in, program_request}
 use Rattle.cfi_harden.specs.Sizes.{whole_size}
 use Rattle.gen_hardened.specs.Laws.{DemoIsNeverRefused, IsNeverRefused, entered}
 use Rattle.cfi_gen.proofs.Right.{demo_holds}
@@ -44,13 +44,13 @@ module _ (fs : List Function) (small : AreSmall fs) (object : List ℕ) (holds :
   main_there : entry_place (program_in object) (codes "main") ≡ Some 0
   main_there = entered_at_main is_generated
 
-  code_room : (p : PreparedParts) → IsPrepared (entered object) p → whole_size p.program p.closed ≤ CODE_SIZE
+  code_room : (p : PreparedParts) → IsPreparedOf (program_request (entered object)) p → whole_size p.program p.closed ≤ CODE_SIZE
   code_room p is = subst (λ (x : Program). whole_size x p.closed ≤ CODE_SIZE) (sym is.program) (room p.closed)
 
-  room_there : (p : PreparedParts) → IsPrepared (entered object) p → HasDataRoom p.program
+  room_there : (p : PreparedParts) → IsPreparedOf (program_request (entered object)) p → HasDataRoom p.program
   room_there p is = subst HasDataRoom (sym is.program) (data_room is_generated)
 
-  none_astray : (p : PreparedParts) → IsPrepared (entered object) p → (gates words : List ℕ)
+  none_astray : (p : PreparedParts) → IsPreparedOf (program_request (entered object)) p → (gates words : List ℕ)
       → out_of_range p.program gates words ≡ None
   none_astray p is gates words =
       ap (λ (x : Program). out_of_range x gates words) is.program ∙ all_in_range is_generated small sound gates words
@@ -59,14 +59,14 @@ module _ (fs : List Function) (small : AreSmall fs) (object : List ℕ) (holds :
   nothing_refused (Object fault) stands = let none = holds.sound in cc
   nothing_refused (Items fault) stands = let some = stands.1 in cc
   nothing_refused NoEntry stands = let none = stands.1 in let some = main_there in cc
-  nothing_refused (Policy n) stands = no_wrong_line (program_in object) n stands.2
-  nothing_refused (CodeTooLarge bytes) (p, is, refused) =
+  nothing_refused (Policy n) stands = no_wrong_line (program_in object) n stands.1.1
+  nothing_refused (CodeTooLarge bytes) (program, (p, is, refused)) =
       let fits = code_room p is in
       let bytes_are = refused.0 in
       let more = refused.1 in
       omega arith
-  nothing_refused (DataTooLarge init end) (p, is, refused) = refused.3 (room_there p is)
-  nothing_refused (RelocRange section offset) (p, is, refused) =
+  nothing_refused (DataTooLarge init end) (program, (p, is, refused)) = refused.3 (room_there p is)
+  nothing_refused (RelocRange section offset) (program, (p, is, refused)) =
       let none = none_astray p is refused.0.gates refused.0.words in
       let some = refused.3 in
       cc

@@ -8,21 +8,21 @@ use Rattle.least.specs.Nearest.{joined}
 use Rattle.obj_input.specs.Input.{InputParts, is_code, section_count, section_of}
 use Rattle.obj_input.specs.Code.{word_count}
 use Rattle.obj_program.specs.declared.item.Item.{Item}
+use Rattle.obj_program.specs.MapFit.{EndsLast}
 use Rattle.obj_program.specs.Program.{is_end, no_item}
-use Rattle.obj_items.specs.Laws.{LastEnds}
 use Rattle.obj_items.specs.Links.{item_with}
 use Rattle.obj_items.specs.Outline.{end_at, outline, section_items, start_item}
 use Rattle.obj_items.specs.ProgramOf.{program_of}
 
 -- the last place, if there is any, is an end
-abbrev EndsLast : List Item → Type 0
-EndsLast items = 0 < length items → is_end (get_or items (length items - 1) no_item).kind ≡ true
+abbrev HasEndLast : List Item → Type 0
+HasEndLast items = 0 < length items → is_end (get_or items (length items - 1) no_item).kind ≡ true
 
-none_ends : EndsLast []
+none_ends : HasEndLast []
 none_ends some = absurd (omega arith)
 
-ends_append : (xs ys : List Item) → EndsLast xs → EndsLast ys → EndsLast (xs ++ ys)
-ends_append xs [] first second = subst (λ (items : List Item). EndsLast items) (sym (append-nil xs)) first
+ends_append : (xs ys : List Item) → HasEndLast xs → HasEndLast ys → HasEndLast (xs ++ ys)
+ends_append xs [] first second = subst (λ (items : List Item). HasEndLast items) (sym (append-nil xs)) first
 ends_append xs (y ∷ ys) first second = λ some.
     let size = length-append xs (y ∷ ys) in
     let index : length (xs ++ y ∷ ys) - 1 ≡ length xs + (length (y ∷ ys) - 1) = omega arith in
@@ -30,31 +30,31 @@ ends_append xs (y ∷ ys) first second = λ some.
     ap (λ n. get_or (xs ++ y ∷ ys) n no_item) index ∙ get_or-append-add xs (y ∷ ys) (length (y ∷ ys) - 1) no_item in
     ap (λ (x : Item). is_end x.kind) same ∙ second (omega arith)
 
-ends_pushed : (xs : List Item) (x : Item) → is_end x.kind ≡ true → EndsLast (xs ++ x ∷ [])
+ends_pushed : (xs : List Item) (x : Item) → is_end x.kind ≡ true → HasEndLast (xs ++ x ∷ [])
 ends_pushed xs x e some =
     let size = length-append xs (x ∷ []) in
     let index : length (xs ++ x ∷ []) - 1 ≡ length xs = omega arith in
     ap (λ n. is_end (get_or (xs ++ x ∷ []) n no_item).kind) index ∙ ap (λ (y : Item). is_end y.kind) (get_or-append_seam xs x [] no_item) ∙ e
 
-section_ends : (input : InputParts) (k : ℕ) → EndsLast (section_items input k)
+section_ends : (input : InputParts) (k : ℕ) → HasEndLast (section_items input k)
 section_ends input k = elim (cases_Bool (is_code (section_of input k))) [
   | inl code ↦ rw code (ends_pushed (joined (start_item (section_of input k) k) (word_count (section_of input k))) (end_at (section_of input k) k) refl)
   | inr other ↦ rw other none_ends
 ]
 
-sections_end : (input : InputParts) (n : ℕ) → EndsLast (joined (section_items input) n)
+sections_end : (input : InputParts) (n : ℕ) → HasEndLast (joined (section_items input) n)
 unfolding joined
 sections_end input zero = none_ends
 sections_end input (suc n) = ends_append (joined (section_items input) n) (section_items input n) (sections_end input n) (section_ends input n)
 
-outline_ends : (input : InputParts) → EndsLast (outline input)
+outline_ends : (input : InputParts) → HasEndLast (outline input)
 unfolding outline
 outline_ends input = sections_end input (section_count input)
 
 same_kind : (input : InputParts) (places : List Item) (x : Item) → (item_with input places x).kind ≡ x.kind
 same_kind input places x = elim (cases_Bool (is_end x.kind)) [ inl e ↦ rw e refl | inr e ↦ rw e refl ]
 
-linked_ends : (input : InputParts) (places items : List Item) → EndsLast items → EndsLast (map (item_with input places) items)
+linked_ends : (input : InputParts) (places items : List Item) → HasEndLast items → HasEndLast (map (item_with input places) items)
 linked_ends input places items ends some =
     let size = length-map items (item_with input places) in
     let inside : length items - 1 < length items = omega arith in
@@ -64,6 +64,6 @@ linked_ends input places items ends some =
     ∙ ap is_end (same_kind input places (get_or items (length items - 1) no_item))
     ∙ ends (omega arith)
 
-pub last_ends : LastEnds
+pub last_ends : (input : InputParts) → EndsLast (program_of input)
 unfolding program_of
 last_ends input some = linked_ends input (outline input) (outline input) (outline_ends input) some

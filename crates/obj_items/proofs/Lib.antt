@@ -19,7 +19,8 @@ pub mod Targets
 pub mod Bounds
 pub mod Patches
 pub mod DataLies
-pub mod ProgramSound
 pub mod MapFit
 pub mod LastEnds
+pub mod ProgramSound
+mod ObjectFits
 mod Rows

@@ -1,34 +1,23 @@
--- The places of an object's program fit into a map.
-use Rattle.std.proofs.Common.{◌≡◌, ℕ, zero, suc, ◌+◌, ◌-◌, ◌*◌, ◌%◌, ◌^◌, ◌<◌, ◌≤◌, nat_le, nat_lt, ◌==◌, ◌&&◌, ◌||◌, get_or, true, false, not, Option, Some, None, List, [], ◌∷◌, ◌++◌, length, inl, inr, refl, sym, ap, ◌∙◌, add-one, arith}
-use Rattle.std.proofs.lemmas.Bool.{cases_Bool, cases_lt, eqb-true, lt-ltb, leb-false, or_parts}
+-- A map can name each place of the program of an input whose code is fit.
+use Rattle.std.proofs.Common.{◌≡◌, ℕ, zero, suc, ◌+◌, ◌-◌, ◌*◌, ◌%◌, ◌<◌, ◌≤◌, nat_lt, get_or, true, false, Option, Some, None, List, [], ◌∷◌, ◌++◌, length, inl, inr, refl, sym, ap, ◌∙◌, add-one, arith}
+use Rattle.std.proofs.lemmas.Bool.{cases_Bool, cases_lt, lt-ltb}
 use Rattle.std.proofs.lemmas.List.{append-nil, get_or-append-add, get_or_append_left, get_or-map, length-append, length-map}
 use Rattle.std.proofs.lemmas.List.Elements.{All-get_or}
 use Rattle.std.proofs.Math.Seq.{get_or-append_seam}
 use Rattle.rv_instr.specs.declared.instr.Instr.{Instr}
-use Rattle.elf_tables.specs.declared.header.SectionHeader.{SectionHeader}
-use Rattle.elf_tables.specs.Header.{e_shentsize, e_shnum, e_shoff, e_shstrndx}
-use Rattle.elf_tables.specs.Section.{section_header}
-use Rattle.elf_tables.specs.Kept.{is_executable, is_kept}
-use Rattle.elf_object.specs.Fault.{fault_of}
-use Rattle.elf_object.specs.Table.{has_wrong_header, is_string_table}
-use Rattle.elf_object.proofs.Right.{kept_right}
-use Rattle.elf_object.proofs.Sound.{sound}
 use Rattle.least.specs.Nearest.{joined}
-use Rattle.obj_input.specs.Input.{InputParts, SectionParts, is_code, is_code_sort, no_section, section_count, section_of}
+use Rattle.obj_input.specs.Input.{InputParts, SectionParts, is_code, section_count, section_of}
 use Rattle.obj_input.specs.Code.{are_pair, are_same, instr, is_inside, is_pair, jalr_base, starts_at, word_count}
 use Rattle.obj_program.specs.declared.item.Item.{Item}
+use Rattle.obj_program.specs.MapFit.{FitsMap}
 use Rattle.obj_program.specs.Program.{count, item_of, no_item}
-use Rattle.obj_items.specs.FromObject.{input_of}
+use Rattle.obj_items.specs.FitCode.{HasFitCode}
 use Rattle.obj_items.specs.Links.{item_with}
-use Rattle.obj_items.specs.MapFit.{FitsMap, PlacesFit}
 use Rattle.obj_items.specs.Outline.{code_items, end_at, outline, section_items, start_at, start_item}
 use Rattle.obj_items.specs.ProgramOf.{program_of}
-use Rattle.obj_items.specs.Sections.{kept_sort, section_in, sections_of, sort_of}
 use Rattle.obj_items.proofs.InOrder.{same_offset, same_section}
 use Rattle.obj_items.proofs.LookUp.{IsOfOutline, outline_right}
-use Rattle.obj_items.proofs.NoFault.{code_there}
 use Rattle.obj_items.proofs.Starts.{pair_jalr, pair_parts}
-use Rattle.obj_items.proofs.Steps.{listed_count, listed_read}
 
 -- the second word of a pair starts no pair
 no_second : (b : Option ℕ) → are_same None b ≡ false
@@ -127,100 +116,42 @@ code_near section k whole =
     let many = all.many in
     near_pushed starts (end_at section k) all.near (omega arith)
 
--- an input whose code is whole words
-abbrev AreWords : InputParts → Type 0
-AreWords input = (k : ℕ) → is_code (section_of input k) ≡ true → (section_of input k).size % 4 ≡ 0
-
-section_near : (input : InputParts) → AreWords input → (k : ℕ) → AreNear (section_items input k)
-section_near input words k = elim (cases_Bool (is_code (section_of input k))) [
-  | inl code ↦ rw code (code_near (section_of input k) k (words k code))
+section_near : (input : InputParts) → HasFitCode input → (k : ℕ) → AreNear (section_items input k)
+section_near input fit k = elim (cases_Bool (is_code (section_of input k))) [
+  | inl code ↦ rw code (code_near (section_of input k) k (fit.words k code))
   | inr other ↦ rw other none_near
 ]
 
-sections_near : (input : InputParts) → AreWords input → (n : ℕ) → AreNear (joined (section_items input) n)
+sections_near : (input : InputParts) → HasFitCode input → (n : ℕ) → AreNear (joined (section_items input) n)
 unfolding joined
-sections_near input words zero = none_near
-sections_near input words (suc n) = near_append (joined (section_items input) n) (section_items input n) (sections_near input words n) (section_near input words n)
+sections_near input fit zero = none_near
+sections_near input fit (suc n) = near_append (joined (section_items input) n) (section_items input n) (sections_near input fit n) (section_near input fit n)
 
-outline_near : (input : InputParts) → AreWords input → AreNear (outline input)
+outline_near : (input : InputParts) → HasFitCode input → AreNear (outline input)
 unfolding outline
-outline_near input words = sections_near input words (section_count input)
+outline_near input fit = sections_near input fit (section_count input)
 
 -- offsets are those of words, too
-placed_whole : (input : InputParts) → AreWords input → (x : Item) → IsOfOutline input x → x.offset % 4 ≡ 0
-placed_whole input words x placed = elim placed.either [
+placed_whole : (input : InputParts) → HasFitCode input → (x : Item) → IsOfOutline input x → x.offset % 4 ≡ 0
+placed_whole input fit x placed = elim placed.either [
   | inl (i, starts, e) ↦ let at : x.offset ≡ 4 * i = ap (λ (y : Item). y.offset) e in omega arith
   | inr e ↦
       let at : x.offset ≡ (section_of input x.section).size = ap (λ (y : Item). y.offset) e in
-      let whole = words x.section placed.code in
+      let whole = fit.words x.section placed.code in
       omega arith
 ]
 
 moved : (k : ℕ) (x y : Item) → x.section ≡ y.section → x.offset ≡ y.offset → FitsMap k y → FitsMap k x
 moved k x y p q h = let a = h.section in let b = h.whole in let c = h.near in record { section = omega arith; whole = omega arith; near = omega arith }
 
-program_fits : (input : InputParts) → AreWords input → section_count input < 2 ^ 16 → (k : ℕ) → k < count (program_of input)
-    → FitsMap k (item_of (program_of input) k)
+pub program_fits : (input : InputParts) → HasFitCode input → (k : ℕ) → k < count (program_of input) → FitsMap k (item_of (program_of input) k)
 unfolding program_of
-program_fits input words few k below =
+program_fits input fit k below =
     let size = length-map (outline input) (item_with input (outline input)) in
     let inside : k < length (outline input) = omega arith in
     let at = get_or-map (item_with input (outline input)) (outline input) k no_item no_item inside in
     let x : Item = get_or (outline input) k no_item in
     let placed : IsOfOutline input x = All-get_or (IsOfOutline input) (outline input) k no_item inside (outline_right input) in
-    let there = code_there input x.section placed.code in
     moved k (item_of (program_of input) k) x (ap (λ (y : Item). y.section) at ∙ same_section input (outline input) x)
     (ap (λ (y : Item). y.offset) at ∙ same_offset input (outline input) x)
-    (record { section = omega arith; whole = placed_whole input words x placed; near = outline_near input words k inside })
-
--- what an object's header says of its sections, and an object's code
-few_sections : (bytes : List ℕ) → fault_of bytes ≡ None → e_shnum bytes < 0xff00
-few_sections bytes none =
-    let start = or_parts (e_shnum bytes == 0 && not (e_shoff bytes == 0)) (not (e_shnum bytes == 0) && has_wrong_header bytes) (sound bytes none).start in
-    elim (cases_Bool (e_shnum bytes == 0)) [
-      | inl none ↦ let number = eqb-true (e_shnum bytes) 0 none in omega arith
-      | inr some ↦
-          let right : has_wrong_header bytes ≡ false = rw some at start.1 in
-          let two = or_parts (not (e_shentsize bytes == 64) || nat_le 0xff00 (e_shnum bytes)) (not (is_string_table bytes (e_shstrndx bytes))) right in
-          let few = or_parts (not (e_shentsize bytes == 64)) (nat_le 0xff00 (e_shnum bytes)) two.0 in
-          leb-false 0xff00 (e_shnum bytes) few.1
-    ]
-
-section_is : (bytes : List ℕ) (k : ℕ) → k < e_shnum bytes → section_of (input_of bytes) k ≡ section_in bytes k
-unfolding input_of
-section_is bytes k below = listed_read (section_in bytes) (sections_of bytes) (e_shnum bytes) k no_section refl below
-
-section_number : (bytes : List ℕ) → section_count (input_of bytes) ≡ e_shnum bytes
-unfolding input_of
-section_number bytes = listed_count (section_in bytes) (sections_of bytes) (e_shnum bytes) refl
-
-code_executable : (h : SectionHeader) → is_code_sort (kept_sort h) ≡ true → is_executable h ≡ true
-code_executable h code = elim (cases_Bool (is_executable h)) [
-  | inl executable ↦ executable
-  | inr other ↦ elim (cases_Bool (h.kind == 8)) [
-    | inl zeros ↦ let no : false ≡ true = rw (other, zeros) at code in absurd (cc)
-    | inr with_bytes ↦ let no : false ≡ true = rw (other, with_bytes) at code in absurd (cc)
-  ]
-]
-
-code_is_kept : (bytes : List ℕ) (k : ℕ) → is_code_sort (sort_of bytes k) ≡ true → (is_kept bytes k ≡ true) × (is_executable (section_header bytes k) ≡ true)
-code_is_kept bytes k code = elim (cases_Bool (is_kept bytes k)) [
-  | inl kept ↦ (kept, code_executable (section_header bytes k) (rw kept at code))
-  | inr dropped ↦ let no : false ≡ true = rw dropped at code in absurd (cc)
-]
-
-object_words : (bytes : List ℕ) → fault_of bytes ≡ None → AreWords (input_of bytes)
-object_words bytes none k code =
-    let there = code_there (input_of bytes) k code in
-    let number = section_number bytes in
-    let below : k < e_shnum bytes = omega arith in
-    let is = section_is bytes k below in
-    let sort : is_code_sort (sort_of bytes k) ≡ true = sym (ap is_code is) ∙ code in
-    let both = code_is_kept bytes k sort in
-    ap (λ (s : SectionParts). s.size % 4) is ∙ (kept_right bytes k none below both.0).code_whole both.1
-
-pub places_fit : PlacesFit
-places_fit bytes k none below =
-    let number = section_number bytes in
-    let few = few_sections bytes none in
-    program_fits (input_of bytes) (object_words bytes none) (omega arith) k below
+    (record { section = fit.named x.section placed.code; whole = placed_whole input fit x placed; near = outline_near input fit k inside })

@@ -17,7 +17,9 @@ use Rattle.obj_items.specs.ProgramOf.{program_of, program_with}
 use Rattle.obj_items.specs.Ranges.{IsInput}
 use Rattle.obj_items.proofs.DataLies.{relocs_lie}
 use Rattle.obj_items.proofs.InOrder.{linked_in_order, outline_in_order}
+use Rattle.obj_items.proofs.LastEnds.{last_ends}
 use Rattle.obj_items.proofs.LookUp.{IsOfOutline, outline_right}
+use Rattle.obj_items.proofs.MapFit.{program_fits}
 use Rattle.obj_items.proofs.NoFault.{IsRight, right}
 use Rattle.obj_items.proofs.Patches.{start_patch}
 use Rattle.obj_items.proofs.Starts.{linked_at, linked_is, start_read}
@@ -78,4 +80,5 @@ module _ (input : InputParts) (is : IsInput input) (right : IsRight input) where
 
 pub program_sound : ProgramsAreSound
 unfolding program_of
-program_sound input is few none = sound input is (right input none) few
+program_sound input is fit few none =
+    (sound input is (right input none) few, record { last = last_ends input; fits = program_fits input fit })

@@ -14,5 +14,5 @@ pub mod Before
 pub mod Standing
 pub mod Ranges
 pub mod ItemEnd
-pub mod MapFit
+pub mod FitCode
 pub mod Laws

@@ -1,4 +1,5 @@
 ghost use Rattle.std.specs.Prelude.{◌≡◌, IfOk};
+ghost use Rattle.obj_items.specs.FitCode.{HasFitCode};
 ghost use Rattle.obj_items.specs.FromObject.{input_of};
 
 use crate::definitions::definitions;
@@ -20,4 +21,11 @@ pub fn input_of<'a>(alloc: Global, object: &Object<'a>) -> Result<Input<'a>, NoM
     let funcs = funcs(alloc, object)?;
     let sections = sections(alloc, object, &definitions)?;
     Ok(Input::of(sections, blocks, names, funcs))
+}
+
+/// The code of an object is whole words, in sections whose indices have 16 bits.
+pub(crate) fn code_fits(object: &Object)
+    ensures { HasFitCode (input_of object.now) }
+{
+    let _sections = object.sections();
 }

@@ -1,9 +1,11 @@
 ghost use Rattle.std.specs.Prelude.{◌≡◌, ℕ, None, IfOk, [], map};
 ghost use Rattle.obj_input.specs.DataLayout.{data_layout_of};
 ghost use Rattle.obj_rules.specs.Fault.{fault_of};
+ghost use Rattle.obj_program.specs.MapFit.{FitsMaps};
 ghost use Rattle.obj_program.specs.Program.{AreInOrder, place_of};
 ghost use Rattle.obj_program.specs.Sound.{IsSound};
 ghost use Rattle.obj_items.specs.Contents.{AreContents};
+ghost use Rattle.obj_items.specs.FitCode.{HasFitCode};
 ghost use Rattle.obj_items.specs.FromObject.{input_of};
 ghost use Rattle.obj_items.specs.ItemEnd.{IsTold};
 ghost use Rattle.obj_items.specs.Links.{item_with};
@@ -11,7 +13,7 @@ ghost use Rattle.obj_items.specs.Outline.{outline};
 ghost use Rattle.obj_items.specs.ProgramOf.{program_of};
 
 use crate::bare::bare;
-use crate::from_object::input_of;
+use crate::from_object::{code_fits, input_of};
 use crate::init::init;
 use crate::item_end::ItemEnd;
 use crate::links::linked_places;
@@ -82,9 +84,11 @@ fn contents_of<'a>(
     room: Vec<PackedItem>,
 ) -> Result<Held<'a>, NoMemory>
     requires right { fault_of input.now ≡ None }
+    requires fit { HasFitCode input.now }
     requires room { room.items ≡ [] }
     ensures contents { IfOk result (AreContents input.now) }
     ensures sound { IfOk result (λ _. IsSound (program_of input.now)) }
+    ensures fits { IfOk result (λ _. FitsMaps (program_of input.now)) }
 {
     let layout = DataLayout::of(alloc, input)?;
     let places = outline(room, input)?;
@@ -102,6 +106,7 @@ fn program_of<'a>(
 ) -> Result<Items<'a>, NoMemory>
     requires input { input ≡ input_of object.now }
     requires right { fault_of input ≡ None }
+    requires fit { HasFitCode input }
     requires room { room.items ≡ [] }
     ensures { IfOk result (λ p. p ≡ program_of input.entry) }
 {
@@ -126,6 +131,7 @@ pub fn items<'a>(alloc: Global, object: &Object<'a>) -> Result<Items<'a>, ItemEn
 {
     let input = input_of(alloc, object)?;
     let room = room(alloc, &input)?;
+    code_fits(object);
     match fault_of(&input) {
         Some(fault) => Err(ItemEnd::Refused(fault)),
         None => Ok(program_of(alloc, object, input, room)?),

@@ -2,7 +2,9 @@
 
 ghost use Rattle.std.specs.Prelude.{◌≡◌, ◌<◌, ◌^◌, All, None, length};
 ghost use Rattle.obj_rules.specs.Fault.{fault_of};
+ghost use Rattle.obj_program.specs.MapFit.{FitsMaps};
 ghost use Rattle.obj_program.specs.Sound.{IsSound};
+ghost use Rattle.obj_items.specs.FitCode.{HasFitCode};
 ghost use Rattle.obj_items.specs.Outline.{outline};
 ghost use Rattle.obj_items.specs.ProgramOf.{program_of};
 ghost use Rattle.obj_items.specs.Ranges.{AreSections, HasSmall, IsBlock, IsInput, IsSection, IsSmallUse};
@@ -88,11 +90,13 @@ fn are_few(places: &[PackedItem])
     ensures { length places.now < 2 ^ 62 }
 {}
 
-/// The program of an input without a fault, whose places these are, is sound.
+/// The program of an input without a fault, whose places these are and whose code is fit, is sound and fits maps.
 pub(crate) fn program_is_sound(input: &Input, places: &[PackedItem])
     requires places { places.now ≡ outline input.now }
     requires right { fault_of input.now ≡ None }
-    ensures { IsSound (program_of input.now) }
+    requires fit { HasFitCode input.now }
+    ensures sound { IsSound (program_of input.now) }
+    ensures fits { FitsMaps (program_of input.now) }
 {
     input_fits(input);
     are_few(places);

@@ -2,6 +2,7 @@ pub mod Pieces
 pub mod Program
 pub mod Suits
 pub mod Sound
+pub mod MapFit
 pub mod Packed
 pub mod AtMap
 pub mod DataAtMap

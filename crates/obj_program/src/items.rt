@@ -1,6 +1,7 @@
 ghost use Rattle.std.specs.Prelude.{◌≡◌, ◌<◌, length, slice_get, Some, true};
 ghost use Rattle.obj_input.specs.Names.{find_spot};
 ghost use Rattle.obj_program.specs.DataAtMap.{init_size};
+ghost use Rattle.obj_program.specs.MapFit.{FitsMaps};
 ghost use Rattle.obj_program.specs.Program.{count, item_of, place_of};
 ghost use Rattle.obj_program.specs.Sound.{IsSound, is_patch};
 
@@ -34,13 +35,15 @@ pub struct Items<'a> {
 
 impl<'a> Model for Items<'a> {
     ghost use Rattle.obj_program.specs.Program.{Program};
-    ghost use Rattle.obj_program.specs.Sound.{IsSound, is_patch};
+    ghost use Rattle.obj_program.specs.Sound.{IsSound};
+    ghost use Rattle.obj_program.specs.MapFit.{FitsMaps};
 
     ghost Value = { Program };
 
     ghost view = { λ p. record { items = p.items.items; init = p.init; relocations = p.relocations.items; data_end = p.data_end; funcs = p.funcs.items; names = p.names } };
 
-    ghost invariant = { λ p. IsSound (record { items = p.items.items; init = p.init; relocations = p.relocations.items; data_end = p.data_end; funcs = p.funcs.items; names = p.names }) };
+    ghost invariant = { λ p. IsSound (record { items = p.items.items; init = p.init; relocations = p.relocations.items; data_end = p.data_end; funcs = p.funcs.items; names = p.names })
+        × FitsMaps (record { items = p.items.items; init = p.init; relocations = p.relocations.items; data_end = p.data_end; funcs = p.funcs.items; names = p.names }) };
 }
 
 impl<'a> Items<'a> {
@@ -53,7 +56,8 @@ impl<'a> Items<'a> {
         funcs: Vec<Func>,
         names: Names<'a>,
     ) -> Items<'a>
-        requires { IsSound (record { items = items.items; init = init; relocations = relocations.items; data_end = data_end; funcs = funcs.items; names = names }) }
+        requires sound { IsSound (record { items = items.items; init = init; relocations = relocations.items; data_end = data_end; funcs = funcs.items; names = names }) }
+        requires fits { FitsMaps (record { items = items.items; init = init; relocations = relocations.items; data_end = data_end; funcs = funcs.items; names = names }) }
         ensures { result ≡ record { items = items.items; init = init.entry; relocations = relocations.items; data_end = data_end; funcs = funcs.items; names = names.entry } }
     {
         Items {
@@ -72,6 +76,13 @@ impl<'a> Items<'a> {
         ensures sound { IsSound self.now }
     {
         self.items.len() as u64
+    }
+
+    /// What a map asks of the program. Nothing is computed.
+    pub fn fits_maps(&self)
+        ensures { FitsMaps self.now }
+    {
+        let _items = &self.items;
     }
 
     /// The places in their order: sections by index, offsets rising.

@@ -1,3 +1,2 @@
 mod Decoding
 mod Exits
-pub mod First

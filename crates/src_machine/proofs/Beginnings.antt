@@ -13,7 +13,6 @@ use Rattle.cfi_flow.specs.Closed.{ClosedGraph}
 use Rattle.cfi_flow.specs.LegalMap.{IsLegalMap, gates_of}
 use Rattle.cfi_flow.specs.Placement.{words_from}
 use Rattle.src_machine.specs.Placed.{AreRead, HoldsItsWords, instr_in}
-use Rattle.src_machine.specs.ProgramAt.{EndsLast}
 use Rattle.cfi_flow.specs.GraphAtMap.{program_at}
 use Rattle.cfi_flow.proofs.Placing.{as_many_gates, as_many_words}
 
@@ -55,11 +54,10 @@ module _ (program : Program) (closed : ClosedGraph) (lines : List MapLine) (map 
   pub words_there : (words : List ℕ) → words ≡ words_from closed.classes 0 gates → length words ≡ count program
   words_there words is = ap length is ∙ as_many_words closed.classes 0 gates ∙ gates_counted
 
-  pub is_placed : (entry : ℕ) (gs ws code : List ℕ) → EndsLast program → entry < count program → gs ≡ gates → ws ≡ words_from closed.classes 0 gates →
+  pub is_placed : (entry : ℕ) (gs ws code : List ℕ) → entry < count program → gs ≡ gates → ws ≡ words_from closed.classes 0 gates →
       AreRead program gs ws (count program) code → HoldsItsWords (program_at program closed gates entry) code
-  is_placed entry gs ws code last below same words read = record {
+  is_placed entry gs ws code below same words read = record {
     profile = refl;
-    last = last;
     gates = gates_counted;
     near = λ k inside. let small = gates_small lines map gates are k in omega arith;
     rising = subst IsStrictlyIncreasing (sym are) (rise_all lines map.order);

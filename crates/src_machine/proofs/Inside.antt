@@ -14,6 +14,7 @@ use Rattle.rv_code.specs.declared.turn.Turn.TheVariants.{Ran}
 use Rattle.rv_instr.specs.Registers.{Registers, get_reg}
 use Rattle.obj_input.specs.declared.item_kind.ItemKind.{ItemKind}
 use Rattle.obj_input.specs.declared.item_kind.ItemKind.TheVariants as is
+use Rattle.obj_program.specs.MapFit.{EndsLast}
 use Rattle.obj_program.specs.Program.{Program, count, is_end, item_of}
 use Rattle.obj_program.specs.Sound.{IsSound, aims, is_direct}
 use Rattle.cfi_flow.specs.GraphAtMap.{ProgramAtMap}
@@ -21,7 +22,6 @@ use Rattle.cfi_flow.specs.declared.reason.Reason.{Reason}
 use Rattle.cfi_flow.specs.declared.reason.Reason.TheVariants as why
 use Rattle.src_machine.specs.declared.turn.SourceTurn.{SourceTurn}
 use Rattle.src_machine.specs.declared.turn.SourceTurn.TheVariants.{Exit}
-use Rattle.src_machine.specs.ProgramAt.{EndsLast}
 use Rattle.cfi_flow.specs.Source.{Source, instr_here}
 use Rattle.cfi_flow.specs.SourceStep.{SourceAfter, acts, branches, closes, exits, if_taken, place_after, returns_from, source_step, step_at, step_item, unless, unless_ended}
 use Rattle.src_machine.specs.State.{IsInside, IsThere, Leaves, StateParts, source_in}

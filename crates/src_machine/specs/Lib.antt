@@ -1,6 +1,5 @@
 pub mod Told
 pub mod State
-pub mod ProgramAt
 pub mod Placed
 pub mod MapLine
 pub mod Running

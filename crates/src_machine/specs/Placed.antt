@@ -14,7 +14,6 @@ use Rattle.obj_program.specs.Program.{Program, count, is_end, item_of}
 use Rattle.cfi_flow.specs.Closed.{ClosedGraph}
 use Rattle.cfi_flow.specs.GraphAtMap.{ProgramAtMap, gate, program_at}
 use Rattle.cfi_flow.specs.Source.{instr_here}
-use Rattle.src_machine.specs.ProgramAt.{EndsLast}
 
 -- the instruction of a place at these gates and words
 abbrev pub instr_in : Program → List ℕ → List ℕ → ℕ → Instr
@@ -37,7 +36,6 @@ AreWords layout code =
 
 pub record HoldsItsWords (layout : ProgramAtMap) (code : List ℕ) : Type 0 where
   pub profile : layout.profile ≡ version_1
-  pub last : EndsLast layout.program
   pub gates : length layout.gates ≡ count layout.program
   pub near : (k : ℕ) → k < count layout.program → gate layout k < 2 ^ 62
   pub rising : IsStrictlyIncreasing layout.gates

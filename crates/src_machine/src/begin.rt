@@ -14,7 +14,6 @@ ghost use Rattle.cfi_flow.specs.Policy.{instruction_at};
 ghost use Rattle.cfi_graph.specs.Map.{IsMap};
 ghost use Rattle.src_machine.specs.Beginning.{Ends, IsBegun};
 ghost use Rattle.src_machine.specs.Placed.{AreAt, AreRead, instr_in};
-ghost use Rattle.src_machine.specs.ProgramAt.{EndsLast};
 ghost use Rattle.cfi_flow.specs.Source.{source_start};
 ghost use Rattle.src_machine.specs.State.{source_in};
 
@@ -91,7 +90,6 @@ fn placed<'a, 'b>(
 ) -> Result<Placed<'a, 'b>, SourceEnd>
     requires map { IsMap lines.now }
     requires legal { IsLegalMap items.now closed.now lines.now }
-    requires last { EndsLast items.now }
     requires entry { entry < count items.now }
     ensures { MatchResult result (λ p. AreAt items.now closed.now lines.now entry p) (λ e. Ends items.now closed.now lines.now e) }
 {
@@ -147,7 +145,7 @@ fn place_of(items: &Items, section: u32, offset: u64) -> u64
 
 impl<'a, 'b> SourceRun<'a, 'b> {
     /// A run of a program at a map, which starts at the instruction with this section and offset, in bytes; the input is
-    /// copied. The closed graph is that of the program, whose last place is a section's end.
+    /// copied. The closed graph is that of the program.
     pub fn new(
         alloc: Global,
         items: &'a Items<'b>,
@@ -157,7 +155,6 @@ impl<'a, 'b> SourceRun<'a, 'b> {
         input: &[u8],
     ) -> Result<SourceRun<'a, 'b>, SourceEnd>
         requires entry { is_some (instruction_at items.now (entry.0, entry.1)) ≡ true }
-        requires last { EndsLast items.now }
         requires data { DATA_START + init_size items.now ≤ DATA_END }
         ensures { MatchResult result
             (λ run. IsBegun items.now closed.now map.now entry.0 entry.1 input.now run)

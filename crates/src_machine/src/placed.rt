@@ -1,11 +1,11 @@
 ghost use Rattle.std.specs.Prelude.{◌≡◌, ◌<◌, ◌≤◌, ◌^◌, ℕ, true, false, length, option_and_then, slice_index, IfSome};
 ghost use Rattle.std.specs.List.Sorted.{IsStrictlyIncreasing};
+ghost use Rattle.obj_program.specs.MapFit.{EndsLast};
 ghost use Rattle.obj_program.specs.Program.{count, is_end, item_of};
 ghost use Rattle.cfi_flow.specs.GraphAtMap.{gate, word};
 ghost use Rattle.cfi_flow.specs.Placement.{gate_size};
 ghost use Rattle.rv_word.specs.MemoryMap.{version_1};
 ghost use Rattle.obj_program.specs.Sound.{IsSound};
-ghost use Rattle.src_machine.specs.ProgramAt.{EndsLast};
 ghost use Rattle.cfi_flow.specs.Source.{instr_here};
 ghost use Rattle.cfi_flow.specs.Untame.{if_reached, place_with_gate, class_reaches};
 
@@ -108,6 +108,7 @@ impl<'a, 'b> Placed<'a, 'b> {
         ensures entry { self.now.entry < count self.now.program }
         ensures profile { self.now.profile ≡ version_1 }
     {
+        self.items.fits_maps();
         self.items.count()
     }
 

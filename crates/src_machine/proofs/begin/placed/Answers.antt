@@ -19,5 +19,5 @@ code-requires-clause-words c =
 pub invariant_of-result : goal.invariant_of-result
 invariant_of-result c =
     is_placed c.args.items.now c.args.closed.now c.args.lines.now c.requires.map c.requires.legal c.in_ok-gates.gates.items c.in_ok-gates.ensures
-    c.args.entry c.deref-4.result.now c.deref-5.result.now c.in_ok-code.code.items c.requires.last c.requires.entry c.deref-4.ensures.value
+    c.args.entry c.deref-4.result.now c.deref-5.result.now c.in_ok-code.code.items c.requires.entry c.deref-4.ensures.value
     (c.deref-5.ensures.value ∙ c.in_ok-words.ensures ∙ ap (words_from c.args.closed.now.classes 0) c.deref.ensures.value) c.in_ok-code.ensures

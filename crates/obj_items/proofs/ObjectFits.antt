@@ -1,0 +1,74 @@
+-- The code of an object without a fault is fit.
+use Rattle.std.proofs.Common.{◌≡◌, ℕ, ◌%◌, ◌^◌, ◌<◌, nat_le, ◌==◌, ◌&&◌, ◌||◌, true, false, not, None, List, inl, inr, refl, sym, ap, ◌∙◌, arith}
+use Rattle.std.proofs.lemmas.Bool.{cases_Bool, eqb-true, leb-false, or_parts}
+use Rattle.elf_tables.specs.declared.header.SectionHeader.{SectionHeader}
+use Rattle.elf_tables.specs.Header.{e_shentsize, e_shnum, e_shoff, e_shstrndx}
+use Rattle.elf_tables.specs.Section.{section_header}
+use Rattle.elf_tables.specs.Kept.{is_executable, is_kept}
+use Rattle.elf_object.specs.Fault.{fault_of}
+use Rattle.elf_object.specs.Table.{has_wrong_header, is_string_table}
+use Rattle.elf_object.proofs.Right.{kept_right}
+use Rattle.elf_object.proofs.Sound.{sound}
+use Rattle.obj_input.specs.Input.{SectionParts, is_code, is_code_sort, no_section, section_count, section_of}
+use Rattle.obj_items.specs.FitCode.{HasFitCode}
+use Rattle.obj_items.specs.FromObject.{input_of}
+use Rattle.obj_items.specs.Sections.{kept_sort, section_in, sections_of, sort_of}
+use Rattle.obj_items.proofs.NoFault.{code_there}
+use Rattle.obj_items.proofs.Steps.{listed_count, listed_read}
+
+-- what an object's header says of its sections, and an object's code
+few_sections : (bytes : List ℕ) → fault_of bytes ≡ None → e_shnum bytes < 0xff00
+few_sections bytes none =
+    let start = or_parts (e_shnum bytes == 0 && not (e_shoff bytes == 0)) (not (e_shnum bytes == 0) && has_wrong_header bytes) (sound bytes none).start in
+    elim (cases_Bool (e_shnum bytes == 0)) [
+      | inl none ↦ let number = eqb-true (e_shnum bytes) 0 none in omega arith
+      | inr some ↦
+          let right : has_wrong_header bytes ≡ false = rw some at start.1 in
+          let two = or_parts (not (e_shentsize bytes == 64) || nat_le 0xff00 (e_shnum bytes)) (not (is_string_table bytes (e_shstrndx bytes))) right in
+          let few = or_parts (not (e_shentsize bytes == 64)) (nat_le 0xff00 (e_shnum bytes)) two.0 in
+          leb-false 0xff00 (e_shnum bytes) few.1
+    ]
+
+section_is : (bytes : List ℕ) (k : ℕ) → k < e_shnum bytes → section_of (input_of bytes) k ≡ section_in bytes k
+unfolding input_of
+section_is bytes k below = listed_read (section_in bytes) (sections_of bytes) (e_shnum bytes) k no_section refl below
+
+section_number : (bytes : List ℕ) → section_count (input_of bytes) ≡ e_shnum bytes
+unfolding input_of
+section_number bytes = listed_count (section_in bytes) (sections_of bytes) (e_shnum bytes) refl
+
+code_executable : (h : SectionHeader) → is_code_sort (kept_sort h) ≡ true → is_executable h ≡ true
+code_executable h code = elim (cases_Bool (is_executable h)) [
+  | inl executable ↦ executable
+  | inr other ↦ elim (cases_Bool (h.kind == 8)) [
+    | inl zeros ↦ let no : false ≡ true = rw (other, zeros) at code in absurd (cc)
+    | inr with_bytes ↦ let no : false ≡ true = rw (other, with_bytes) at code in absurd (cc)
+  ]
+]
+
+code_is_kept : (bytes : List ℕ) (k : ℕ) → is_code_sort (sort_of bytes k) ≡ true → (is_kept bytes k ≡ true) × (is_executable (section_header bytes k) ≡ true)
+code_is_kept bytes k code = elim (cases_Bool (is_kept bytes k)) [
+  | inl kept ↦ (kept, code_executable (section_header bytes k) (rw kept at code))
+  | inr dropped ↦ let no : false ≡ true = rw dropped at code in absurd (cc)
+]
+
+object_words : (bytes : List ℕ) → fault_of bytes ≡ None → (k : ℕ) → is_code (section_of (input_of bytes) k) ≡ true
+    → (section_of (input_of bytes) k).size % 4 ≡ 0
+object_words bytes none k code =
+    let there = code_there (input_of bytes) k code in
+    let number = section_number bytes in
+    let below : k < e_shnum bytes = omega arith in
+    let is = section_is bytes k below in
+    let sort : is_code_sort (sort_of bytes k) ≡ true = sym (ap is_code is) ∙ code in
+    let both = code_is_kept bytes k sort in
+    ap (λ (s : SectionParts). s.size % 4) is ∙ (kept_right bytes k none below both.0).code_whole both.1
+
+pub object_fits : (bytes : List ℕ) → fault_of bytes ≡ None → HasFitCode (input_of bytes)
+object_fits bytes none = record {
+  words = object_words bytes none;
+  named = λ k code.
+      let there = code_there (input_of bytes) k code in
+      let number = section_number bytes in
+      let few = few_sections bytes none in
+      omega arith;
+}
