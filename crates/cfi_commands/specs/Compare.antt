@@ -76,7 +76,7 @@ pub record IsMapOf (p : PreparedParts) (text : List ℕ) (lines : List MapLine) 
 
 -- where a value first leaves its range at the map
 abbrev pub first_out : PreparedParts → List MapLine → Option found.Place
-first_out p lines = out_of_range p.program (gates_of lines) (words_from p.closed.classes 0 (gates_of lines))
+first_out p lines = out_of_range p.program (gates_of lines) (words_from p.closed.sides 0 (gates_of lines))
 
 -- a program that can be run, as far as the map is one
 pub record IsRunnable (request : asks.Request) (p : PreparedParts) (map : List ℕ) : Type 0 where

@@ -9,12 +9,13 @@ use Rattle.obj_program.specs.Program.{Program, count, item_of}
 use Rattle.cfi_graph.specs.declared.line.SiteKind.{SiteKind}
 use Rattle.cfi_flow.specs.declared.closed.Site.{Site}
 use Rattle.cfi_flow.specs.Below.{where_below}
-use Rattle.cfi_flow.specs.Closed.{ClosedGraph, IsClosed, sets_of, with_class}
+use Rattle.cfi_flow.specs.Closed.{ClosedGraph, first_side, sets_of, with_class}
 use Rattle.cfi_flow.specs.Policy.{IsRaw, names_site, targets_by, targets_under}
 use Rattle.cfi_flow.specs.Raw.{RawGraph, no_site}
 use Rattle.cfi_flow.specs.Sites.{RawSite, site_at, site_kind, sites_below}
 use Rattle.cfi_graph.specs.declared.policy.PolicyLine.{PolicyLine}
 use Rattle.cfi_flow.proofs.Classing.{list_there}
+use Rattle.cfi_flow.proofs.Sides.{InOne}
 use Rattle.cfi_flow.proofs.Listing.{all_none, all_with, below_all}
 
 abbrev pub is_site : Program → ℕ → Bool
@@ -50,10 +51,10 @@ same_places classes [] = refl
 same_places classes (s ∷ sites) = ap (λ (xs : List ℕ). s.place ∷ xs) (same_places classes sites)
 
 -- and so are those of the closed graph
-pub closed_places : (program : Program) (lines : List PolicyLine) (raw : RawGraph) (closed : ClosedGraph) → IsRaw program lines raw → IsClosed raw closed
-    → map place_of_site closed.sites ≡ where_below (is_site program) (count program)
+pub closed_places : (program : Program) (lines : List PolicyLine) (raw : RawGraph) (closed : ClosedGraph) → IsRaw program lines raw → InOne raw closed
+    → map place_of_site (first_side closed).sites ≡ where_below (is_site program) (count program)
 closed_places program lines raw closed is of =
-    ap (map place_of_site) of.sites ∙ same_places closed.classes raw.sites ∙ raw_places program lines raw is
+    ap (map place_of_site) of.sites ∙ same_places (first_side closed).classes raw.sites ∙ raw_places program lines raw is
 
 -- each target is a place
 by_there : (program : Program) (kind : SiteKind) (k : ℕ) (o : Option PolicyLine) → All (λ (t : ℕ). t < count program) (targets_by program kind k o)
@@ -77,8 +78,8 @@ targets_there program lines (suc n) =
     with_one program lines (sites_below program (targets_under program lines) n) n (site_kind (item_of program n).kind) (targets_there program lines n)
 
 -- and so is each member of a class
-pub members_there : (program : Program) (lines : List PolicyLine) (raw : RawGraph) (closed : ClosedGraph) → IsRaw program lines raw → IsClosed raw closed
-    → (a : ℕ) → IsInSome closed.classes a → a < count program
+pub members_there : (program : Program) (lines : List PolicyLine) (raw : RawGraph) (closed : ClosedGraph) → IsRaw program lines raw → InOne raw closed
+    → (a : ℕ) → IsInSome (first_side closed).classes a → a < count program
 members_there program lines raw closed is of a h =
     let all = subst (All (Aims program)) (sym is.sites) (targets_there program lines (count program)) in
     let at = (of.classes.members a).0 h in

@@ -1,6 +1,7 @@
 pub mod Laws
 pub mod Listing
 pub mod Placing
+pub mod Sides
 pub mod Rising
 mod Finding
 mod Entering

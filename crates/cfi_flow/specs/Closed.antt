@@ -1,19 +1,40 @@
--- The closed graph: each site reaches the whole class of its targets.
-use Rattle.std.specs.Prelude.{◌≡◌, ◌↔◌, ℕ, ◌<◌, Bool, ◌==◌, Option, Some, None, List, [], ◌∷◌, length, map, slice_index}
+-- The closed graph: each site reaches the whole class of its targets. It has sides, each of computed transfers of one sort with the
+-- classes of their targets.
+use Rattle.std.specs.Prelude.{◌≡◌, ◌↔◌, ℕ, ◌<◌, Bool, true, ◌==◌, Option, Some, None, List, [], ◌∷◌, filter, length, map, slice_index, slice_index_or}
 use Rattle.std.specs.List.{All, AllPairs, find, list_any, position}
 use Rattle.std.specs.List.Sorted.{IsStrictlyIncreasing}
+use Rattle.cfi_graph.specs.declared.line.SiteKind.{SiteKind}
+use Rattle.cfi_graph.specs.declared.line.Sort.{Sort}
+use Rattle.cfi_graph.specs.declared.line.Sort.TheVariants.{Both}
 use Rattle.cfi_class.specs.Classes.{AreInOne, IsIn, IsInSome, Joined}
 use Rattle.cfi_flow.specs.declared.closed.Site.{Site}
 use Rattle.cfi_flow.specs.Sites.{RawSite}
 use Rattle.cfi_flow.specs.Raw.{RawGraph}
 
-pub record ClosedGraph : Type 0 where
-  -- the classes of targets by places, in the order of their least members
+pub record Side : Type 0 where
+  -- which computed transfers it has
+  pub sort : Sort
+  -- the classes of their targets by places, in the order of their least members
   pub classes : List (List ℕ)
   -- the sites in order, with their class or none
   pub sites : List Site
+
+pub record ClosedGraph : Type 0 where
+  pub sides : List Side
   -- of each place, whether a relocation takes its address
   pub taken : List Bool
+
+-- the sorts of its sides
+abbrev pub sorts_of_sides : List Sort
+sorts_of_sides = Both ∷ []
+
+-- a computed transfer of this kind is one of this sort
+abbrev pub is_of : Sort → SiteKind → Bool
+is_of Both kind = true
+
+-- a raw graph with the sites of a sort alone
+abbrev pub raw_for : Sort → RawGraph → RawGraph
+raw_for sort raw = record { sites = filter (λ (s : RawSite). is_of sort s.kind) raw.sites; taken = raw.taken }
 
 abbrev pub sets_of : List RawSite → List (List ℕ)
 sets_of sites = map (λ (s : RawSite). s.targets) sites
@@ -42,24 +63,41 @@ class_reached classes (t ∷ targets) = class_with classes t
 abbrev pub with_class : List (List ℕ) → RawSite → Site
 with_class classes s = record { place = s.place; class = class_reached classes s.targets }
 
+-- a side of the closed graph of a raw one
+pub record IsSide (raw : RawGraph) (side : Side) : Type 0 where
+  pub classes : AreClasses (sets_of (raw_for side.sort raw).sites) side.classes
+  pub sites : side.sites ≡ map (with_class side.classes) (raw_for side.sort raw).sites
+
 -- the closed graph of a raw one
 pub record IsClosed (raw : RawGraph) (closed : ClosedGraph) : Type 0 where
-  pub classes : AreClasses (sets_of raw.sites) closed.classes
-  pub sites : closed.sites ≡ map (with_class closed.classes) raw.sites
+  pub sorts : map (λ (s : Side). s.sort) closed.sides ≡ sorts_of_sides
+  pub sides : All (IsSide raw) closed.sides
   pub taken : closed.taken ≡ raw.taken
 
 -- its sites and the members of its classes are places
 pub record IsInside (closed : ClosedGraph) : Type 0 where
-  pub members : All (All (λ t. t < length closed.taken)) closed.classes
-  pub sites : All (λ (s : Site). s.place < length closed.taken) closed.sites
+  pub members : All (λ (s : Side). All (All (λ t. t < length closed.taken)) s.classes) closed.sides
+  pub sites : All (λ (s : Side). All (λ (one : Site). one.place < length closed.taken) s.sites) closed.sides
 
-abbrev pub class_at : ClosedGraph → ℕ → Option ℕ
-class_at closed k = class_with closed.classes k
+-- the first of its sides
+abbrev pub no_side : Side
+no_side = record { sort = Both; classes = []; sites = [] }
+
+abbrev pub first_side : ClosedGraph → Side
+first_side closed = slice_index_or closed.sides 0 no_side
+
+-- the class of a side that has a place
+abbrev pub class_at : Side → ℕ → Option ℕ
+class_at side k = class_with side.classes k
 
 abbrev pub class_if : Option Site → Option ℕ
 class_if None = None
 class_if (Some s) = s.class
 
--- the class of the site at a place
-abbrev pub class_of : ClosedGraph → ℕ → Option ℕ
-class_of closed k = class_if (find (λ (s : Site). s.place == k) closed.sites)
+-- the class of the site of a side at a place
+abbrev pub class_of : Side → ℕ → Option ℕ
+class_of side k = class_if (find (λ (s : Site). s.place == k) side.sites)
+
+-- a side has a site at a place
+abbrev pub has_site : ℕ → Side → Bool
+has_site k side = list_any (λ (s : Site). s.place == k) side.sites

@@ -9,9 +9,11 @@ use Rattle.obj_program.specs.Program.{Program}
 use Rattle.cfi_graph.specs.declared.line.GraphLine.{GraphLine}
 use Rattle.cfi_graph.specs.declared.line.GraphLine.TheVariants as line
 use Rattle.cfi_graph.specs.declared.line.SiteKind.TheVariants as site
+use Rattle.cfi_graph.specs.declared.line.Sort.{Sort}
+use Rattle.cfi_graph.specs.declared.line.Sort.TheVariants.{Both}
 use Rattle.cfi_flow.specs.Closed.{ClosedGraph}
-use Rattle.cfi_flow.specs.LabelOf.{all_classes, site_label}
-use Rattle.cfi_flow.specs.Placement.{word_of}
+use Rattle.cfi_flow.specs.LabelOf.{Tagged, site_label, tagged}
+use Rattle.cfi_flow.specs.Placement.{word_of, words_from}
 
 -- a program with its closed graph at a map, entered at a place
 pub record ProgramAtMap : Type 0 where
@@ -29,16 +31,24 @@ abbrev pub gate : ProgramAtMap → ℕ → ℕ
 gate layout k = slice_index layout.gates k
 
 abbrev pub word : ProgramAtMap → ℕ → ℕ
-word layout k = word_of layout.closed.classes layout.gates k
+word layout k = word_of layout.closed.sides layout.gates k
+
+-- the words of all places
+abbrev pub words_at : ProgramAtMap → List ℕ
+words_at layout = words_from layout.closed.sides 0 layout.gates
 
 abbrev pub gate_to : ProgramAtMap → Option ℕ → ℕ
 gate_to layout None = 0
 gate_to layout (Some k) = gate layout k
 
+-- the line of a class of a sort
+abbrev pub line_of_class : Sort → ℕ → List ℕ → GraphLine
+line_of_class Both label targets = line.Class label targets
+
 -- the lines of classes, each with its label
-unfoldable pub class_lines : List ℕ → List ℕ → List (List ℕ) → List GraphLine
-class_lines gates (label ∷ labels) (class ∷ classes) = line.Class label (map (slice_index gates) class) ∷ class_lines gates labels classes
-class_lines gates labels classes = []
+unfoldable pub class_lines : List ℕ → List ℕ → List Tagged → List GraphLine
+class_lines gates (label ∷ labels) (t ∷ ts) = line_of_class t.sort label (map (slice_index gates) t.class) ∷ class_lines gates labels ts
+class_lines gates labels ts = []
 
 abbrev pub line_of_kind : ItemKind → ℕ → ℕ → ℕ → Option GraphLine
 line_of_kind is.Branch at target label = Some (line.Edge at target)
@@ -50,7 +60,7 @@ line_of_kind other at target label = None
 
 -- the line of a place
 abbrev pub line_for : ProgramAtMap → List ℕ → ℕ → Item → Option GraphLine
-line_for layout labels k item = line_of_kind item.kind (word layout k) (gate_to layout item.target) (site_label labels layout.closed k)
+line_for layout labels k item = line_of_kind item.kind (word layout k) (gate_to layout item.target) (site_label labels layout.closed.sides k)
 
 abbrev pub with_line : Option GraphLine → List GraphLine → List GraphLine
 with_line None lines = lines
@@ -63,5 +73,5 @@ place_lines layout labels k (item ∷ items) = with_line (line_for layout labels
 -- all lines, under these labels of the classes
 abbrev pub graph_lines : ProgramAtMap → List ℕ → List GraphLine
 graph_lines layout labels =
-    class_lines layout.gates labels (all_classes layout.closed)
+    class_lines layout.gates labels (tagged layout.closed.sides)
     ++ (line.Call START (gate layout layout.entry) ∷ place_lines layout labels 0 layout.program.items)

@@ -12,4 +12,4 @@ gates_of lines = map (λ (l : MapLine). l.gate) lines
 pub record IsLegalMap (program : Program) (closed : ClosedGraph) (lines : List MapLine) : Type 0 where
   pub sections : map (λ (l : MapLine). l.section) lines ≡ map (λ (i : Item). i.section) program.items
   pub offsets : map (λ (l : MapLine). l.offset) lines ≡ map (λ (i : Item). i.offset) program.items
-  pub gates : IsLegal closed.classes program.items (gates_of lines)
+  pub gates : IsLegal closed.sides program.items (gates_of lines)

@@ -1,13 +1,13 @@
--- Placements: where the unit of each place stands. Units stand one after another from the address after the prologue, each behind a
--- gate word where its place is some class's target; a section's end has a stop.
-use Rattle.std.specs.Prelude.{◌≡◌, ℕ, ◌+◌, ◌*◌, Bool, true, if◌then◌else◌, List, [], ◌∷◌, slice_index, slice_index_or}
+-- Placements: where the unit of each place stands. Units stand one after another from the address after the prologue, each behind one
+-- word for each side of the closed graph where its place is a target; a section's end has a stop.
+use Rattle.std.specs.Prelude.{◌≡◌, ℕ, ◌+◌, ◌*◌, Bool, true, if◌then◌else◌, List, [], ◌∷◌, length, slice_index, slice_index_or}
 use Rattle.std.specs.List.{list_any}
 use Rattle.rv_word.specs.MemoryMap.{UNITS_START}
 use Rattle.rv_word.specs.declared.unit_words.TheConstants as counts
 use Rattle.obj_input.specs.declared.item_kind.ItemKind.{ItemKind}
 use Rattle.obj_input.specs.declared.item_kind.ItemKind.TheVariants as is
 use Rattle.obj_program.specs.declared.item.Item.{Item}
-use Rattle.cfi_flow.specs.Closed.{has}
+use Rattle.cfi_flow.specs.Closed.{Side, has}
 
 -- how many bytes the unit of a kind of place has; a short branch is one word, a long one a word and a jump
 abbrev pub size_of : ItemKind → Bool → ℕ
@@ -23,34 +23,37 @@ size_of other long = 4
 abbrev pub is_long : List Bool → ℕ → Bool
 is_long long k = slice_index_or long k true
 
--- a place is some class's target
-abbrev pub is_target : List (List ℕ) → ℕ → Bool
-is_target classes k = list_any (has k) classes
+-- a place is a target of a side, and of some side
+abbrev pub is_target_of : ℕ → Side → Bool
+is_target_of k side = list_any (has k) side.classes
 
--- how many bytes its gate word has, if it has one
-abbrev pub gate_size : List (List ℕ) → ℕ → ℕ
-gate_size classes k = if is_target classes k then 4 else 0
+abbrev pub is_target : List Side → ℕ → Bool
+is_target sides k = list_any (is_target_of k) sides
 
--- the address of a place's unit, which AUIPC reads: its gate, or behind the gate word
-abbrev pub word_of : List (List ℕ) → List ℕ → ℕ → ℕ
-word_of classes gates k = slice_index gates k + gate_size classes k
+-- how many bytes the words before its unit have, if there are any
+abbrev pub lead_size : List Side → ℕ → ℕ
+lead_size sides k = if is_target sides k then 4 * length sides else 0
+
+-- the address of a place's unit, which AUIPC reads: its gate, or behind the words there
+abbrev pub word_of : List Side → List ℕ → ℕ → ℕ
+word_of sides gates k = slice_index gates k + lead_size sides k
 
 -- the words of the places from index k on
-unfoldable pub words_from : List (List ℕ) → ℕ → List ℕ → List ℕ
-words_from classes k [] = []
-words_from classes k (gate ∷ gates) = (gate + gate_size classes k) ∷ words_from classes (k + 1) gates
+unfoldable pub words_from : List Side → ℕ → List ℕ → List ℕ
+words_from sides k [] = []
+words_from sides k (gate ∷ gates) = (gate + lead_size sides k) ∷ words_from sides (k + 1) gates
 
 -- places from index k on have these gates, the first at an address and each next one behind the unit before it
-unfoldable pub AreGates : List (List ℕ) → List Bool → ℕ → ℕ → List Item → List ℕ → Type 0
-AreGates classes long k at [] [] = Unit {0}
-AreGates classes long k at (item ∷ items) (gate ∷ gates) =
-    (gate ≡ at) × AreGates classes long (k + 1) (at + gate_size classes k + size_of item.kind (is_long long k)) items gates
-AreGates classes long k at items gates = ⊥
+unfoldable pub AreGates : List Side → List Bool → ℕ → ℕ → List Item → List ℕ → Type 0
+AreGates sides long k at [] [] = Unit {0}
+AreGates sides long k at (item ∷ items) (gate ∷ gates) =
+    (gate ≡ at) × AreGates sides long (k + 1) (at + lead_size sides k + size_of item.kind (is_long long k)) items gates
+AreGates sides long k at items gates = ⊥
 
 -- the gates of a placement with some branches short, whose first unit stands at an address
-abbrev pub IsLegalFrom : ℕ → List (List ℕ) → List Item → List ℕ → Type 0
-IsLegalFrom from classes items gates = (long : List Bool) × AreGates classes long 0 from items gates
+abbrev pub IsLegalFrom : ℕ → List Side → List Item → List ℕ → Type 0
+IsLegalFrom from sides items gates = (long : List Bool) × AreGates sides long 0 from items gates
 
 -- and of one that is written for one hart
-abbrev pub IsLegal : List (List ℕ) → List Item → List ℕ → Type 0
-IsLegal classes items gates = IsLegalFrom UNITS_START classes items gates
+abbrev pub IsLegal : List Side → List Item → List ℕ → Type 0
+IsLegal sides items gates = IsLegalFrom UNITS_START sides items gates

@@ -9,8 +9,7 @@ use Rattle.rv_instr.specs.Registers.{Registers, cleared, set_reg}
 use Rattle.rv_code.specs.State.{Shared}
 use Rattle.obj_program.specs.AtMap.{instr_at}
 use Rattle.obj_program.specs.DataAtMap.{data_at}
-use Rattle.cfi_flow.specs.GraphAtMap.{ProgramAtMap}
-use Rattle.cfi_flow.specs.Placement.{words_from}
+use Rattle.cfi_flow.specs.GraphAtMap.{ProgramAtMap, words_at}
 
 pub record Source : Type 0 where
   -- the place of the next instruction; none: it is at the closing
@@ -22,7 +21,7 @@ pub record Source : Type 0 where
 
 -- the instruction of a place, with the values of its relocations; at a legal map in range only a section's end has none
 abbrev pub instr_here : ProgramAtMap → ℕ → Instr
-instr_here layout k = unwrap_or (instr_at layout.program layout.gates (words_from layout.closed.classes 0 layout.gates) k) I.Ebreak
+instr_here layout k = unwrap_or (instr_at layout.program layout.gates (words_at layout) k) I.Ebreak
 
 -- the initialised data, with the values of their relocations
 abbrev pub init_here : ProgramAtMap → List ℕ

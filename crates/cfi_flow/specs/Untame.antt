@@ -1,6 +1,7 @@
 -- What makes a step untame, in the order in which it is told: a source machine takes no step that goes where its closed
 -- graph does not, returns elsewhere than its call says, leaves the window of data, calls too deep or runs into a section's end.
 use Rattle.std.specs.Prelude.{ℕ, ◌+◌, ◌*◌, ◌/◌, ◌^◌, nat_le, Bool, false, not, ◌==◌, if◌then◌else◌, Option, Some, None, option_and_then, position, List, [], ◌∷◌, length}
+use Rattle.std.specs.List.{list_any}
 use Rattle.std.specs.Option.{is_none}
 use Rattle.rv_word.specs.Bits.{wrap}
 use Rattle.rv_instr.specs.declared.instr.Instr.{Instr}
@@ -11,7 +12,7 @@ use Rattle.rv_code.specs.Step.{offset}
 use Rattle.obj_input.specs.declared.item_kind.ItemKind.{ItemKind}
 use Rattle.obj_input.specs.declared.item_kind.ItemKind.TheVariants as is
 use Rattle.obj_program.specs.Program.{is_end}
-use Rattle.cfi_flow.specs.Closed.{ClosedGraph, class_at, class_of}
+use Rattle.cfi_flow.specs.Closed.{ClosedGraph, Side, class_at, class_of}
 use Rattle.cfi_flow.specs.GraphAtMap.{ProgramAtMap, gate}
 use Rattle.cfi_flow.specs.declared.reason.Reason.{Reason}
 use Rattle.cfi_flow.specs.declared.reason.Reason.TheVariants as why
@@ -39,9 +40,12 @@ abbrev pub is_same : Option ℕ → Option ℕ → Bool
 is_same (Some class) (Some other) = class == other
 is_same other another = false
 
--- the class that the site at a place reaches has another place
+-- the class that the site at a place reaches has another place: of a side, and of the closed graph
+abbrev pub side_reaches : ℕ → ℕ → Side → Bool
+side_reaches k target side = is_same (class_of side k) (class_at side target)
+
 abbrev pub class_reaches : ClosedGraph → ℕ → ℕ → Bool
-class_reaches closed k target = is_same (class_of closed k) (class_at closed target)
+class_reaches closed k target = list_any (side_reaches k target) closed.sides
 
 abbrev pub if_reached : ClosedGraph → ℕ → ℕ → Option ℕ
 if_reached closed k target = if class_reaches closed k target then Some target else None

@@ -2,6 +2,7 @@
 //! classes that chains of these make, the place where the program is entered, and the labels that it has for itself.
 #![tactic(auto)]
 
+pub use at_map::{address_at, unit_size, words_behind};
 pub use closed::{Closed, Site};
 pub use closing::close;
 pub use end::FlowEnd;
@@ -11,6 +12,7 @@ pub use named::entry_place;
 pub use raw::{Raw, RawSite};
 pub use reason::Reason;
 
+mod at_map;
 mod begin;
 mod below;
 mod closed;

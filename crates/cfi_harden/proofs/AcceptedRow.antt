@@ -12,10 +12,13 @@ use Rattle.obj_program.specs.Sound.{IsSound, aims, is_patch, is_read}
 use Rattle.cfi_class.specs.Classes.{IsIn}
 use Rattle.cfi_class.specs.Labels.{AreLabels}
 use Rattle.std.specs.List.Sorted.{IsStrictlyIncreasing}
+use Rattle.cfi_graph.specs.declared.line.SiteKind.{SiteKind}
+use Rattle.cfi_graph.specs.declared.line.Sort.TheVariants.{Both}
 use Rattle.cfi_flow.specs.declared.closed.Site.{Site}
-use Rattle.cfi_flow.specs.GraphAtMap.{ProgramAtMap}
+use Rattle.cfi_flow.specs.Closed.{Side, first_side, has_site, is_of, no_side}
+use Rattle.cfi_flow.specs.GraphAtMap.{ProgramAtMap, words_at}
 use Rattle.cfi_flow.specs.Labels.{used_labels}
-use Rattle.cfi_flow.specs.LabelOf.{empty_classes, label_at, site_number}
+use Rattle.cfi_flow.specs.LabelOf.{empty_classes, label_at, labels_of, site_label, site_number, tagged}
 use Rattle.cfi_flow.specs.Placement.{AreGates, is_long, words_from}
 use Rattle.cfi_flow.specs.Sites.{site_kind}
 use Rattle.cfi_unit.specs.UnitWords.{words_of}
@@ -30,6 +33,11 @@ each test all k below = agree_below_at test (λ n. true) 4 k all below
 
 none_in : (k : ℕ) → Contains [] k → ⊥
 none_in k (i, below, e) = absurd (omega arith)
+
+-- of one side there is no other
+only_side : (side : Side) (j : ℕ) (other : Side) → slice_get (side ∷ []) j ≡ Some other → (j ≡ 0) × (side ≡ other)
+only_side side zero other there = (refl, same_Some side other there)
+only_side side (suc j) other there = absurd (cc)
 
 ordered : AreInOrder short.layout.program.items
 ordered i j less below =
@@ -65,7 +73,7 @@ one_short layout (suc (suc (suc zero))) target branch some is = absurd (cc)
 one_short layout (suc (suc (suc (suc k)))) target branch some is = absurd (cc)
 
 pub short_accepted : IsAccepted short
-unfolding AreGates decoded instr_at words_from units_from code_from words_of code_of label_at site_number empty_classes
+unfolding AreGates decoded instr_at words_from units_from code_from words_of code_of labels_of label_at site_label site_number empty_classes tagged
 short_accepted = record {
   profile = inl refl;
   sound = sound;
@@ -75,14 +83,16 @@ short_accepted = record {
   legal = (refl, (refl, (refl, (refl, tt))));
   room = lit≤ tt;
   values = λ k below some. values_there (is_end (item_of short.layout.program k).kind)
-      (is_some (instr_at short.layout.program short.layout.gates (words_from short.layout.closed.classes 0 short.layout.gates) k))
-      (each (λ n. is_end (item_of short.layout.program n).kind || is_some (instr_at short.layout.program short.layout.gates (words_from short.layout.closed.classes 0 short.layout.gates) n)) refl k below) some;
-  members = λ c k in_class. absurd (none_in k in_class);
-  rising = λ k d below. absurd (omega arith);
-  apart = λ i j k in_one in_other. absurd (none_in k in_one);
-  sites = λ k below site. absurd (none_some (is_some (site_kind (item_of short.layout.program k).kind))
-      (agree_below_at (λ n. is_some (site_kind (item_of short.layout.program n).kind)) (λ n. false) 4 k refl below) site);
-  site_classes = λ i c site get. absurd (cc);
+      (is_some (instr_at short.layout.program short.layout.gates (words_at short.layout) k))
+      (each (λ n. is_end (item_of short.layout.program n).kind || is_some (instr_at short.layout.program short.layout.gates (words_at short.layout) n)) refl k below) some;
+  sorts = refl;
+  members = λ j c k side there in_class. absurd (none_in k (subst (λ (s : Side). IsIn s.classes c k) (sym (only_side no_side j side there).1) in_class));
+  rising = λ j side there. subst (λ (s : Side). All IsStrictlyIncreasing s.classes) (only_side no_side j side there).1 (λ k d below. absurd (omega arith));
+  apart = λ j a b k side there in_one in_other. absurd (none_in k (subst (λ (s : Side). IsIn s.classes a k) (sym (only_side no_side j side there).1) in_one));
+  site_classes = λ j i c side site there.
+      subst (λ (s : Side). slice_get s.sites i ≡ Some site → site.class ≡ Some c → c < length s.classes) (only_side no_side j side there).1 (λ get. absurd (cc));
+  sites = λ k kind below site. absurd (none_some (is_some (site_kind (item_of short.layout.program k).kind))
+      (agree_below_at (λ n. is_some (site_kind (item_of short.layout.program n).kind)) (λ n. false) 4 k refl below) (ap is_some site));
   counted = refl;
   labels = λ k below. absurd (omega arith);
   labels_rise = λ k below. absurd (omega arith);
@@ -91,7 +101,7 @@ short_accepted = record {
 }
 
 pub short_of_harts_accepted : IsAccepted short_of_harts
-unfolding AreGates decoded instr_at words_from units_from code_from words_of code_of label_at site_number empty_classes
+unfolding AreGates decoded instr_at words_from units_from code_from words_of code_of labels_of label_at site_label site_number empty_classes tagged
 short_of_harts_accepted = record {
   profile = inr refl;
   sound = sound;
@@ -101,8 +111,9 @@ short_of_harts_accepted = record {
   legal = (refl, (refl, (refl, (refl, tt))));
   room = lit≤ tt;
   values = λ k below some. values_there (is_end (item_of short_of_harts.layout.program k).kind)
-      (is_some (instr_at short_of_harts.layout.program short_of_harts.layout.gates (words_from short_of_harts.layout.closed.classes 0 short_of_harts.layout.gates) k))
-      (each (λ n. is_end (item_of short_of_harts.layout.program n).kind || is_some (instr_at short_of_harts.layout.program short_of_harts.layout.gates (words_from short_of_harts.layout.closed.classes 0 short_of_harts.layout.gates) n)) refl k below) some;
+      (is_some (instr_at short_of_harts.layout.program short_of_harts.layout.gates (words_at short_of_harts.layout) k))
+      (each (λ n. is_end (item_of short_of_harts.layout.program n).kind || is_some (instr_at short_of_harts.layout.program short_of_harts.layout.gates (words_at short_of_harts.layout) n)) refl k below) some;
+  sorts = refl;
   members = short_accepted.members;
   rising = short_accepted.rising;
   apart = short_accepted.apart;
@@ -143,7 +154,7 @@ member_below zero k below e = omega arith
 member_below (suc zero) k below e = omega arith
 member_below (suc (suc i)) k below e = absurd (omega arith)
 
-class_member : (c k : ℕ) → IsIn pointer.layout.closed.classes c k → (c ≡ 0) × (k < 13)
+class_member : (c k : ℕ) → IsIn (first_side pointer.layout.closed).classes c k → (c ≡ 0) × (k < 13)
 class_member zero k (i, below, e) = (refl, member_below i k below e)
 class_member (suc c) k there = absurd (none_in k there)
 
@@ -151,7 +162,7 @@ class_rises : (k : ℕ) → k + 1 < 2 → get_or (8 ∷ 10 ∷ []) k 0 < get_or 
 class_rises zero below = lit< tt
 class_rises (suc k) below = absurd (omega arith)
 
-classes_rise : All IsStrictlyIncreasing pointer.layout.closed.classes
+classes_rise : All IsStrictlyIncreasing (first_side pointer.layout.closed).classes
 classes_rise zero d below = class_rises
 classes_rise (suc k) d below = absurd (omega arith)
 
@@ -160,13 +171,16 @@ or_else true b e f = e
 or_else false b e f = absurd (cc)
 
 site_there : (k : ℕ) → k < count pointer.layout.program → is_some (site_kind (item_of pointer.layout.program k).kind) ≡ true →
-    (i : ℕ) × (site : Site) × (slice_get pointer.layout.closed.sites i ≡ Some site) × (site.place ≡ k)
+    has_site k (first_side pointer.layout.closed) ≡ true
 site_there k below some =
     let four : (k == 4) ≡ true = or_else (is_some (site_kind (item_of pointer.layout.program k).kind)) (k == 4)
     (each_of (λ n. not (is_some (site_kind (item_of pointer.layout.program n).kind)) || (n == 4)) refl k below) some in
-    (0, record { place = 4; class = Some 0 }, refl, sym (eqb-true k 4 four))
+    ap (λ (n : ℕ). has_site n (first_side pointer.layout.closed)) (eqb-true k 4 four)
 
-site_class : (i c : ℕ) (site : Site) → slice_get pointer.layout.closed.sites i ≡ Some site → site.class ≡ Some c → c < length pointer.layout.closed.classes
+sort_has : (kind : SiteKind) → is_of Both kind ≡ true
+sort_has kind = refl
+
+site_class : (i c : ℕ) (site : Site) → slice_get (first_side pointer.layout.closed).sites i ≡ Some site → site.class ≡ Some c → c < length (first_side pointer.layout.closed).classes
 site_class zero c site get some =
     let one = same_Some (record { place = 4; class = Some 0 }) site get in
     let same : 0 ≡ c = same_Some 0 c (ap (λ (x : Site). x.class) one ∙ some) in
@@ -186,7 +200,7 @@ label_below zero d below = lit< tt
 label_below (suc k) d below = absurd (omega arith)
 
 pub pointer_accepted : IsAccepted pointer
-unfolding AreGates decoded instr_at words_from units_from code_from words_of code_of label_at site_number empty_classes
+unfolding AreGates decoded instr_at words_from units_from code_from words_of code_of labels_of label_at site_label site_number empty_classes tagged
 pointer_accepted = record {
   profile = inl refl;
   sound = pointer_sound;
@@ -196,13 +210,27 @@ pointer_accepted = record {
   legal = (refl, (refl, (refl, (refl, (refl, (refl, (refl, (refl, (refl, (refl, (refl, (refl, (refl, tt)))))))))))));
   room = lit≤ tt;
   values = λ k below some. values_there (is_end (item_of pointer.layout.program k).kind)
-      (is_some (instr_at pointer.layout.program pointer.layout.gates (words_from pointer.layout.closed.classes 0 pointer.layout.gates) k))
-      (each_of (λ n. is_end (item_of pointer.layout.program n).kind || is_some (instr_at pointer.layout.program pointer.layout.gates (words_from pointer.layout.closed.classes 0 pointer.layout.gates) n)) refl k below) some;
-  members = λ c k there. (class_member c k there).1;
-  rising = classes_rise;
-  apart = λ i j k in_one in_other. (class_member i k in_one).0 ∙ sym (class_member j k in_other).0;
-  sites = site_there;
-  site_classes = site_class;
+      (is_some (instr_at pointer.layout.program pointer.layout.gates (words_at pointer.layout) k))
+      (each_of (λ n. is_end (item_of pointer.layout.program n).kind || is_some (instr_at pointer.layout.program pointer.layout.gates (words_at pointer.layout) n)) refl k below) some;
+  sorts = refl;
+  members = λ j c k side there inside.
+      (class_member c k (subst (λ (s : Side). IsIn s.classes c k) (sym (only_side (first_side pointer.layout.closed) j side there).1) inside)).1;
+  rising = λ j side there.
+      subst (λ (s : Side). All IsStrictlyIncreasing s.classes) (only_side (first_side pointer.layout.closed) j side there).1 classes_rise;
+  apart = λ j a b k side there in_one in_other.
+      (class_member a k (subst (λ (s : Side). IsIn s.classes a k) (sym (only_side (first_side pointer.layout.closed) j side there).1) in_one)).0
+      ∙ sym (class_member b k (subst (λ (s : Side). IsIn s.classes b k) (sym (only_side (first_side pointer.layout.closed) j side there).1) in_other)).0;
+  site_classes = λ j i c side site there.
+      subst (λ (s : Side). slice_get s.sites i ≡ Some site → site.class ≡ Some c → c < length s.classes)
+      (only_side (first_side pointer.layout.closed) j side there).1 (site_class i c site);
+  sites = λ k kind below some. record {
+    index = 0;
+    side = first_side pointer.layout.closed;
+    there = refl;
+    sort = sort_has kind;
+    site = site_there k below (ap is_some some);
+    alone = λ j other there has. (only_side (first_side pointer.layout.closed) j other there).0;
+  };
   counted = refl;
   labels = label_least;
   labels_rise = λ k below. absurd (omega arith);

@@ -1,7 +1,10 @@
 -- A placement in which no value leaves its range, with labels, makes an accepted choice of a program with its closed graph.
-use Rattle.std.proofs.Common.{◌≡◌, ℕ, ◌+◌, ◌-◌, ◌*◌, ◌≤◌, ◌<◌, inl, Bool, true, false, List, length, Option, Some, None, refl, subst, arith}
-use Rattle.std.specs.Prelude.{◌&&◌, not, is_none, is_some, sum}
-use Rattle.std.proofs.lemmas.List.{length-append}
+use Rattle.std.proofs.Common.{◌≡◌, ℕ, ◌+◌, ◌-◌, ◌*◌, ◌≤◌, ◌<◌, inl, Bool, true, false, List, [], ◌∷◌, length, zero, suc, Option, Some, None, refl, sym, ap, subst, ◌∙◌, arith}
+use Rattle.std.specs.List.{All, list_any}
+use Rattle.std.specs.List.Sorted.{IsStrictlyIncreasing}
+use Rattle.std.specs.Prelude.{◌==◌, ◌&&◌, not, is_none, is_some, slice_get, sum}
+use Rattle.std.proofs.lemmas.Bool.{eq-eqb, or_left, or_right}
+use Rattle.std.proofs.lemmas.Option.{same_Some}
 use Rattle.rv_word.specs.MemoryMap.{CODE_SIZE, CODE_START, IsProfile}
 use Rattle.obj_program.specs.AtMap.{instr_at}
 use Rattle.obj_program.specs.DataAtMap.{data_at}
@@ -9,10 +12,16 @@ use Rattle.obj_program.specs.Program.{Program, count, is_end, item_of}
 use Rattle.obj_program.specs.Range.{out_of_range}
 use Rattle.obj_program.specs.Sound.{IsSound}
 use Rattle.obj_program.proofs.Exact.{none_out_of_range}
-use Rattle.cfi_flow.specs.Closed.{ClosedGraph}
-use Rattle.cfi_flow.specs.LabelOf.{empty_classes}
+use Rattle.cfi_class.specs.Classes.{IsIn}
+use Rattle.cfi_graph.specs.declared.line.SiteKind.{SiteKind}
+use Rattle.cfi_graph.specs.declared.line.Sort.{Sort}
+use Rattle.cfi_graph.specs.declared.line.Sort.TheVariants.{Both}
+use Rattle.cfi_flow.specs.declared.closed.Site.{Site}
+use Rattle.cfi_flow.specs.Closed.{ClosedGraph, Side, first_side, is_of}
+use Rattle.cfi_flow.specs.GraphAtMap.{words_at}
 use Rattle.cfi_flow.specs.Placement.{is_long, size_of, words_from}
 use Rattle.cfi_flow.proofs.Laws.{members_there}
+use Rattle.cfi_flow.proofs.Sides.{in_one}
 use Rattle.cfi_unit.specs.UnitWords.{word_count}
 use Rattle.cfi_verify.specs.Placed.{placed_code}
 use Rattle.cfi_verify.proofs.UnitIn.{length-placed_code}
@@ -48,15 +57,15 @@ pub data_there : (program : Program) (gates words : List ℕ) → out_of_range p
 data_there program gates words none = ((none_out_of_range program gates words).0 none).1
 
 -- the code has room where the parts have
-pub room_there : (m : Choice) → IsProfile m.layout.profile → length m.layout.closed.classes ≤ length m.labels → IsSound m.layout.program →
+pub room_there : (m : Choice) → IsProfile m.layout.profile → IsSound m.layout.program →
     ((k : ℕ) → k < count m.layout.program → is_end (item_of m.layout.program k).kind ≡ false →
-    is_some (instr_at m.layout.program m.layout.gates (words_from m.layout.closed.classes 0 m.layout.gates) k) ≡ true) →
-    m.layout.profile.units_from - CODE_START + sum (part_sizes m.layout.closed.classes m.long 0 m.layout.program.items) ≤ CODE_SIZE →
+    is_some (instr_at m.layout.program m.layout.gates (words_at m.layout) k) ≡ true) →
+    m.layout.profile.units_from - CODE_START + sum (part_sizes m.layout.closed.sides m.long 0 m.layout.program.items) ≤ CODE_SIZE →
     4 * length (placed_code m.layout.profile (entry_gate m) (units m)) ≤ CODE_SIZE
-room_there m is few sound values room =
+room_there m is sound values room =
     let whole = length-placed_code m.layout.profile is (entry_gate m) (units m) in
     let zero_more : (n : ℕ) → n ≡ 0 + n = λ n. omega arith in
-    let bytes = bytes_are m 0 m.layout.profile.units_from m.layout.program.items few
+    let bytes = bytes_are m 0 m.layout.profile.units_from m.layout.program.items
     (λ i item get. subst (λ (n : ℕ). size_of item.kind (is_long m.long n) ≡ 4 * word_count (unit_for m n item)) (zero_more i) (size_is m sound values i item get)) in
     omega arith
 
@@ -69,23 +78,35 @@ last_there : (program : Program) → 0 < count program → is_end (item_of progr
     (k : ℕ) × (count program ≡ k + 1) × (is_end (item_of program k).kind ≡ true)
 last_there program some last = (count program - 1, omega arith, last)
 
+-- of one side there is no other
+only : (side : Side) (j : ℕ) (other : Side) → slice_get (side ∷ []) j ≡ Some other → (j ≡ 0) × (side ≡ other)
+only side zero other there = (refl, same_Some side other there)
+only side (suc j) other there = absurd (cc)
+
+sort_has : (sort : Sort) (kind : SiteKind) → is_of sort kind ≡ true
+sort_has Both kind = refl
+
+site_any : (sites : List Site) (k i : ℕ) (site : Site) → slice_get sites i ≡ Some site → site.place ≡ k → list_any (λ (s : Site). s.place == k) sites ≡ true
+site_any [] k i site get place = absurd (cc)
+site_any (s ∷ sites) k zero site get place =
+    or_left (s.place == k) (list_any (λ (x : Site). x.place == k) sites) (eq-eqb s.place k (ap (λ (x : Site). x.place) (same_Some s site get) ∙ place))
+site_any (s ∷ sites) k (suc i) site get place =
+    or_right (s.place == k) (list_any (λ (x : Site). x.place == k) sites) (site_any sites k i site get place)
+
 -- what is chosen for a program: a placement in which no value leaves its range, and labels
 module _ (p : PreparedParts) (ready : IsReady p) (s : Spaced) (fitting : IsFitting p s) (labels : List ℕ) (given : AreGiven p.program p.closed labels) where
   values : (k : ℕ) → k < count p.program → is_end (item_of p.program k).kind ≡ false →
-      is_some (instr_at p.program s.gates (words_from p.closed.classes 0 s.gates) k) ≡ true
+      is_some (instr_at p.program s.gates (words_from p.closed.sides 0 s.gates) k) ≡ true
   values =
       subst (λ (words : List ℕ). (k : ℕ) → k < count p.program → is_end (item_of p.program k).kind ≡ false → is_some (instr_at p.program s.gates words k) ≡ true)
       fitting.placed.words (values_there p.program s.gates s.words fitting.in_range)
 
-  labels_suffice : length p.closed.classes ≤ length labels
-  labels_suffice =
-      let all = length-append p.closed.classes (empty_classes p.closed.sites) in
-      let counted = given.counted in
-      omega arith
-
   pub accepted : IsAccepted (chosen p s labels)
   accepted =
-      let (lines, raw, is, of) = ready.graph in
+      let (lines, raw, is, closes) = ready.graph in
+      let of = in_one raw p.closed closes in
+      let one : (j : ℕ) (side : Side) → slice_get p.closed.sides j ≡ Some side → (j ≡ 0) × (first_side p.closed ≡ side) =
+      λ j side there. only (first_side p.closed) j side (ap (λ (sides : List Side). slice_get sides j) (sym of.one) ∙ there) in
       record {
         profile = inl refl;
         sound = ready.sound;
@@ -93,13 +114,28 @@ module _ (p : PreparedParts) (ready : IsReady p) (s : Spaced) (fitting : IsFitti
         last = let below = ready.entered in last_there p.program (omega arith) (ready.fits_maps.last (omega arith));
         entry_there = ready.entered;
         legal = fitting.placed.legal;
-        room = room_there (chosen p s labels) (inl refl) labels_suffice ready.sound values fitting.placed.size;
+        room = room_there (chosen p s labels) (inl refl) ready.sound values fitting.placed.size;
         values = values;
-        members = λ c k h. members_there p.program lines raw p.closed is of k (c, h);
-        rising = of.classes.rising;
-        apart = λ i j k. of.classes.apart i j k;
-        sites = λ k below some. site_there p.program lines raw p.closed is of k below some;
-        site_classes = λ i c site. site_class_there p.program lines raw p.closed is of i c site;
+        sorts = closes.sorts;
+        members = λ j c k side there h.
+            members_there p.program lines raw p.closed is of k (c, subst (λ (x : Side). IsIn x.classes c k) (sym (one j side there).1) h);
+        rising = λ j side there. subst (λ (x : Side). All IsStrictlyIncreasing x.classes) (one j side there).1 of.classes.rising;
+        apart = λ j a b k side there in_one_of in_other.
+            of.classes.apart a b k (subst (λ (x : Side). IsIn x.classes a k) (sym (one j side there).1) in_one_of)
+            (subst (λ (x : Side). IsIn x.classes b k) (sym (one j side there).1) in_other);
+        site_classes = λ j i c side site there.
+            subst (λ (x : Side). slice_get x.sites i ≡ Some site → site.class ≡ Some c → c < length x.classes) (one j side there).1
+            (site_class_there p.program lines raw p.closed is of i c site);
+        sites = λ k kind below some.
+            let (i, site, get, place) = site_there p.program lines raw p.closed is of k below (ap is_some some) in
+            record {
+              index = 0;
+              side = first_side p.closed;
+              there = ap (λ (sides : List Side). slice_get sides 0) of.one;
+              sort = sort_has (first_side p.closed).sort kind;
+              site = site_any (first_side p.closed).sites k i site get place;
+              alone = λ j other there has. (one j other there).0;
+            };
         counted = given.counted;
         labels = given.least;
         labels_rise = given.rising;

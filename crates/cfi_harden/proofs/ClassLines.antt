@@ -1,6 +1,6 @@
 -- The lines of classes: which stands at an index and under a label, and that they are a graph's.
-use Rattle.std.proofs.Common.{◌≡◌, ℕ, zero, suc, ◌<◌, ◌==◌, inl, inr, true, List, [], ◌∷◌, length, map, Some, refl, sym, ap, ◌∙◌, arith, add-one}
-use Rattle.std.specs.Prelude.{is_some, nat_lt, slice_get, slice_index}
+use Rattle.std.proofs.Common.{◌≡◌, ℕ, zero, suc, ◌<◌, ◌==◌, inl, inr, true, List, [], ◌∷◌, length, map, Option, Some, None, refl, sym, ap, ◌∙◌, arith, add-one}
+use Rattle.std.specs.Prelude.{◌&&◌, Bool, if◌then◌else◌, nat_lt, option_and_then, slice_get, slice_index}
 use Rattle.std.specs.List.{list_all}
 use Rattle.std.specs.List.Sorted.{IsStrictlyIncreasing}
 use Rattle.std.proofs.lemmas.Bool.{and_from, cases_Bool, eq-eqb, eqb-true, lt-ltb, or_cases, or_left, or_right}
@@ -8,12 +8,15 @@ use Rattle.std.proofs.lemmas.Option.{same_Some}
 use Rattle.cfi_graph.specs.declared.line.GraphLine.{GraphLine}
 use Rattle.cfi_graph.specs.declared.line.GraphLine.TheVariants.{Class}
 use Rattle.cfi_graph.specs.declared.line.SiteKind.{SiteKind}
+use Rattle.cfi_graph.specs.declared.line.Sort.{Sort}
 use Rattle.cfi_graph.specs.declared.line.Sort.TheVariants.{Both}
-use Rattle.cfi_graph.specs.Graph.{ClassLine, is_class, is_code_address, is_label, is_rising, key_below, key_of, line_in_range, targets_rise}
-use Rattle.cfi_flow.specs.Closed.{has}
-use Rattle.cfi_flow.specs.GraphAtMap.{class_lines}
+use Rattle.cfi_graph.specs.declared.line.Key.TheVariants.{Label}
+use Rattle.cfi_graph.specs.Graph.{ClassLine, class_in, is_class, is_code_address, is_label, is_rising, key_below, key_of, line_in_range, targets_rise}
+use Rattle.cfi_flow.specs.Closed.{has, is_of}
+use Rattle.cfi_flow.specs.GraphAtMap.{class_lines, line_of_class}
+use Rattle.cfi_flow.specs.LabelOf.{Tagged}
 use Rattle.cfi_unit.specs.declared.target_word.TargetWord.TheVariants.{First}
-use Rattle.cfi_verify.specs.Lines.{class_with, is_among, targets_for}
+use Rattle.cfi_verify.specs.Lines.{class_with, if_serves, is_among, or_class, serves, targets_for}
 
 -- a gate is among those of a class just where its place is a member
 pub among_to : (gates : ℕ → ℕ) (class : List ℕ) (k : ℕ) → has k class ≡ true → is_among (gates k) (map gates class) ≡ true
@@ -32,88 +35,128 @@ among_from gates (x ∷ class) a e =
       | inr later ↦ let rest = among_from gates class a later in (rest.0, or_right (x == rest.0) (has rest.0 class) rest.1, rest.2)
     ]
 
--- the line at an index has the label and the class at that index
-pub record IsLine (gates labels : List ℕ) (classes : List (List ℕ)) (j : ℕ) (line : GraphLine) : Type 0 where
-  pub label : ℕ
-  pub class : List ℕ
-  pub label_is : slice_get labels j ≡ Some label
-  pub class_is : slice_get classes j ≡ Some class
-  pub line_is : line ≡ Class label (map (slice_index gates) class)
+-- what the line of a class says, of whatever sort
+abbrev pub class_line : List ℕ → ℕ → Tagged → ClassLine
+class_line gates label t = record { sort = t.sort; label = label; targets = map (slice_index gates) t.class }
 
-pub line_get : (gates labels : List ℕ) (classes : List (List ℕ)) (j : ℕ) (line : GraphLine) → slice_get (class_lines gates labels classes) j ≡ Some line → IsLine gates labels classes j line
+line_says : (sort : Sort) (label : ℕ) (targets : List ℕ) → class_in (line_of_class sort label targets) ≡ Some (record { sort = sort; label = label; targets = targets })
+line_says Both label targets = refl
+
+line_ranges : (sort : Sort) (len label : ℕ) (targets : List ℕ) → line_in_range len (line_of_class sort label targets) ≡ (is_label label && list_all (is_code_address len) targets)
+line_ranges Both len label targets = refl
+
+line_rises : (sort : Sort) (label : ℕ) (targets : List ℕ) → targets_rise (line_of_class sort label targets) ≡ is_rising nat_lt targets
+line_rises Both label targets = refl
+
+line_key : (sort : Sort) (label : ℕ) (targets : List ℕ) → key_of (line_of_class sort label targets) ≡ Label label
+line_key Both label targets = refl
+
+line_class : (sort : Sort) (label : ℕ) (targets : List ℕ) → is_class (line_of_class sort label targets) ≡ true
+line_class Both label targets = refl
+
+-- a class of a sort serves the transfers of its sort
+pub sort_serves : (sort : Sort) (kind : SiteKind) → is_of sort kind ≡ true → serves sort kind First ≡ true
+sort_serves Both kind of = refl
+
+-- the line at an index has the label and the class at that index
+pub record IsLine (gates labels : List ℕ) (ts : List Tagged) (j : ℕ) (line : ClassLine) : Type 0 where
+  pub label : ℕ
+  pub class : Tagged
+  pub label_is : slice_get labels j ≡ Some label
+  pub class_is : slice_get ts j ≡ Some class
+  pub line_is : class_line gates label class ≡ line
+
+pub line_get : (gates labels : List ℕ) (ts : List Tagged) (j : ℕ) (line : ClassLine) → option_and_then class_in (slice_get (class_lines gates labels ts) j) ≡ Some line → IsLine gates labels ts j line
 unfolding class_lines
 line_get gates [] [] j line e = absurd (cc)
 line_get gates (l ∷ labels) [] j line e = absurd (cc)
-line_get gates [] (c ∷ classes) j line e = absurd (cc)
-line_get gates (l ∷ labels) (c ∷ classes) zero line e =
-    record { label = l; class = c; label_is = refl; class_is = refl; line_is = sym (same_Some (Class l (map (slice_index gates) c)) line e) }
-line_get gates (l ∷ labels) (c ∷ classes) (suc j) line e =
-    let rest = line_get gates labels classes j line e in
+line_get gates [] (t ∷ ts) j line e = absurd (cc)
+line_get gates (l ∷ labels) (t ∷ ts) zero line e =
+    record {
+      label = l;
+      class = t;
+      label_is = refl;
+      class_is = refl;
+      line_is = same_Some (class_line gates l t) line (sym (line_says t.sort l (map (slice_index gates) t.class)) ∙ e);
+    }
+line_get gates (l ∷ labels) (t ∷ ts) (suc j) line e =
+    let rest = line_get gates labels ts j line e in
     record { label = rest.label; class = rest.class; label_is = rest.label_is; class_is = rest.class_is; line_is = rest.line_is }
 
-pub all_classes_lines : (gates labels : List ℕ) (classes : List (List ℕ)) → list_all is_class (class_lines gates labels classes) ≡ true
+pub all_classes_lines : (gates labels : List ℕ) (ts : List Tagged) → list_all is_class (class_lines gates labels ts) ≡ true
 unfolding class_lines
 all_classes_lines gates [] [] = refl
 all_classes_lines gates (l ∷ labels) [] = refl
-all_classes_lines gates [] (c ∷ classes) = refl
-all_classes_lines gates (l ∷ labels) (c ∷ classes) = all_classes_lines gates labels classes
+all_classes_lines gates [] (t ∷ ts) = refl
+all_classes_lines gates (l ∷ labels) (t ∷ ts) =
+    and_from (is_class (line_of_class t.sort l (map (slice_index gates) t.class))) (list_all is_class (class_lines gates labels ts))
+    (line_class t.sort l (map (slice_index gates) t.class)) (all_classes_lines gates labels ts)
 
--- what the line of a class says
-abbrev pub class_line : List ℕ → ℕ → List ℕ → ClassLine
-class_line gates label class = record { sort = Both; label = label; targets = map (slice_index gates) class }
+first_with : (gates : List ℕ) (l label : ℕ) (t : Tagged) (rest : Option ClassLine) →
+    or_class label (class_in (line_of_class t.sort l (map (slice_index gates) t.class))) rest ≡ (if l == label then Some (class_line gates l t) else rest)
+first_with gates l label t rest = ap (λ (o : Option ClassLine). or_class label o rest) (line_says t.sort l (map (slice_index gates) t.class))
 
 -- what is said under a label is said of a class with that label
-pub record HasTargets (gates labels : List ℕ) (classes : List (List ℕ)) (label : ℕ) (line : ClassLine) : Type 0 where
-  pub index : ℕ
-  pub class : List ℕ
-  pub label_is : slice_get labels index ≡ Some label
-  pub class_is : slice_get classes index ≡ Some class
-  pub line_is : class_line gates label class ≡ line
-
-pub targets_of : (gates labels : List ℕ) (classes : List (List ℕ)) (label : ℕ) (line : ClassLine) → class_with (class_lines gates labels classes) label ≡ Some line →
-    HasTargets gates labels classes label line
+pub targets_of : (gates labels : List ℕ) (ts : List Tagged) (label : ℕ) (line : ClassLine) → class_with (class_lines gates labels ts) label ≡ Some line →
+    (j : ℕ) × (t : Tagged) × (slice_get labels j ≡ Some label) × (slice_get ts j ≡ Some t) × (class_line gates label t ≡ line)
 unfolding class_lines class_with
 targets_of gates [] [] label line e = absurd (cc)
 targets_of gates (l ∷ labels) [] label line e = absurd (cc)
-targets_of gates [] (c ∷ classes) label line e = absurd (cc)
-targets_of gates (l ∷ labels) (c ∷ classes) label line e =
+targets_of gates [] (t ∷ ts) label line e = absurd (cc)
+targets_of gates (l ∷ labels) (t ∷ ts) label line e =
+    let so = sym (first_with gates l label t (class_with (class_lines gates labels ts) label)) ∙ e in
     elim (cases_Bool (l == label)) [
       | inl here ↦
-          let first : Some (class_line gates l c) ≡ Some line = rw here at e in
+          let first : Some (class_line gates l t) ≡ Some line = rw here at so in
           let same : l ≡ label = eqb-true l label here in
-          let line_is : class_line gates label c ≡ line = ap (λ (n : ℕ). class_line gates n c) (sym same) ∙ same_Some (class_line gates l c) line first in
-          record { index = 0; class = c; label_is = ap Some same; class_is = refl; line_is = line_is }
+          (0, t, ap Some same, refl, ap (λ (n : ℕ). class_line gates n t) (sym same) ∙ same_Some (class_line gates l t) line first)
       | inr other ↦
-          let past : class_with (class_lines gates labels classes) label ≡ Some line = rw other at e in
-          let rest = targets_of gates labels classes label line past in
-          record { index = suc rest.index; class = rest.class; label_is = rest.label_is; class_is = rest.class_is; line_is = rest.line_is }
+          let past : class_with (class_lines gates labels ts) label ≡ Some line = rw other at so in
+          let (j, class, label_is, class_is, line_is) = targets_of gates labels ts label line past in
+          (suc j, class, label_is, class_is, line_is)
     ]
 
--- a class with each label that is given serves each computed transfer
-pub class_given : (gates labels : List ℕ) (classes : List (List ℕ)) (kind : SiteKind) (n : ℕ) → n < length labels → length labels ≡ length classes →
-    is_some (targets_for (class_lines gates labels classes) kind First (slice_index labels n)) ≡ true
-unfolding class_lines class_with targets_for
-class_given gates [] classes kind n below same = absurd (omega arith)
-class_given gates (l ∷ labels) [] kind n below same = absurd (omega arith)
-class_given gates (l ∷ labels) (c ∷ classes) kind zero below same = rw (eq-eqb l l refl) refl
-class_given gates (l ∷ labels) (c ∷ classes) kind (suc n) below same =
-    elim (cases_Bool (l == slice_index labels n)) [
-      | inl here ↦ rw here refl
-      | inr other ↦ rw other (class_given gates labels classes kind n (omega arith) (omega arith))
+-- under a label that is given once stands the class at its index
+pub class_given : (gates labels : List ℕ) (ts : List Tagged) (n label : ℕ) (t : Tagged) → slice_get labels n ≡ Some label → slice_get ts n ≡ Some t →
+    ((i : ℕ) → slice_get labels i ≡ Some label → i ≡ n) → class_with (class_lines gates labels ts) label ≡ Some (class_line gates label t)
+unfolding class_lines class_with
+class_given gates [] ts n label t label_is class_is once = absurd (cc)
+class_given gates (l ∷ labels) [] n label t label_is class_is once = absurd (cc)
+class_given gates (l ∷ labels) (c ∷ ts) zero label t label_is class_is once =
+    let l_is : l ≡ label = same_Some l label label_is in
+    let c_is : c ≡ t = same_Some c t class_is in
+    first_with gates l label c (class_with (class_lines gates labels ts) label)
+    ∙ ap (λ (b : Bool). if b then Some (class_line gates l c) else class_with (class_lines gates labels ts) label) (eq-eqb l label l_is)
+    ∙ ap (λ (x : Tagged). Some (class_line gates l x)) c_is ∙ ap (λ (x : ℕ). Some (class_line gates x t)) l_is
+class_given gates (l ∷ labels) (c ∷ ts) (suc n) label t label_is class_is once =
+    elim (cases_Bool (l == label)) [
+      | inl here ↦ let wrong : 0 ≡ suc n = once 0 (ap Some (eqb-true l label here)) in absurd (omega arith)
+      | inr other ↦
+          first_with gates l label c (class_with (class_lines gates labels ts) label)
+          ∙ ap (λ (b : Bool). if b then Some (class_line gates l c) else class_with (class_lines gates labels ts) label) other
+          ∙ class_given gates labels ts n label t label_is class_is (λ i get. let same : suc i ≡ suc n = once (suc i) get in omega arith)
     ]
+
+-- and it serves the transfers of its sort
+pub served_by : (lines : List GraphLine) (kind : SiteKind) (label : ℕ) (class : ClassLine) → class_with lines label ≡ Some class → is_of class.sort kind ≡ true →
+    targets_for lines kind First label ≡ Some class.targets
+unfolding targets_for
+served_by lines kind label class is of =
+    ap (option_and_then (if_serves kind First)) is ∙ ap (λ (b : Bool). if b then Some class.targets else None) (sort_serves class.sort kind of)
 
 -- lines of classes are a graph's: labels and addresses are in range, targets and labels rise
-pub lines_range : (len : ℕ) (gates labels : List ℕ) (classes : List (List ℕ)) → ((j label : ℕ) → slice_get labels j ≡ Some label → is_label label ≡ true) →
-    ((j k : ℕ) (class : List ℕ) → slice_get classes j ≡ Some class → has k class ≡ true → is_code_address len (slice_index gates k) ≡ true) →
-    list_all (line_in_range len) (class_lines gates labels classes) ≡ true
+pub lines_range : (len : ℕ) (gates labels : List ℕ) (ts : List Tagged) → ((j label : ℕ) → slice_get labels j ≡ Some label → is_label label ≡ true) →
+    ((j k : ℕ) (t : Tagged) → slice_get ts j ≡ Some t → has k t.class ≡ true → is_code_address len (slice_index gates k) ≡ true) →
+    list_all (line_in_range len) (class_lines gates labels ts) ≡ true
 unfolding class_lines
 lines_range len gates [] [] are inside = refl
 lines_range len gates (l ∷ labels) [] are inside = refl
-lines_range len gates [] (c ∷ classes) are inside = refl
-lines_range len gates (l ∷ labels) (c ∷ classes) are inside =
-    and_from (line_in_range len (Class l (map (slice_index gates) c))) (list_all (line_in_range len) (class_lines gates labels classes))
-    (and_from (is_label l) (list_all (is_code_address len) (map (slice_index gates) c)) (are 0 l refl) (members_in c (λ k there. inside 0 k c refl there)))
-    (lines_range len gates labels classes (λ j label get. are (suc j) label get) (λ j k class get there. inside (suc j) k class get there))
+lines_range len gates [] (t ∷ ts) are inside = refl
+lines_range len gates (l ∷ labels) (t ∷ ts) are inside =
+    and_from (line_in_range len (line_of_class t.sort l (map (slice_index gates) t.class))) (list_all (line_in_range len) (class_lines gates labels ts))
+    (line_ranges t.sort len l (map (slice_index gates) t.class)
+    ∙ and_from (is_label l) (list_all (is_code_address len) (map (slice_index gates) t.class)) (are 0 l refl) (members_in t.class (λ k there. inside 0 k t refl there)))
+    (lines_range len gates labels ts (λ j label get. are (suc j) label get) (λ j k class get there. inside (suc j) k class get there))
   where
     members_in : (class : List ℕ) → ((k : ℕ) → has k class ≡ true → is_code_address len (slice_index gates k) ≡ true) → list_all (is_code_address len) (map (slice_index gates) class) ≡ true
     members_in [] each = refl
@@ -135,26 +178,33 @@ targets_rising gates n (x ∷ y ∷ class) rising members rise =
     and_from (nat_lt (gates x) (gates y)) (is_rising nat_lt (map gates (y ∷ class))) (lt-ltb (gates x) (gates y) (rise x y (rising 0 (omega arith)) (members y next)))
     (targets_rising gates n (y ∷ class) (rises_tail x (y ∷ class) rising) (λ k there. members k (or_right (x == k) (has k (y ∷ class)) there)) rise)
 
-pub lines_targets : (gates labels : List ℕ) (n : ℕ) (classes : List (List ℕ)) → ((j : ℕ) (class : List ℕ) → slice_get classes j ≡ Some class → IsStrictlyIncreasing class) →
-    ((j k : ℕ) (class : List ℕ) → slice_get classes j ≡ Some class → has k class ≡ true → k < n) → ((i j : ℕ) → i < j → j < n → slice_index gates i < slice_index gates j) →
-    list_all targets_rise (class_lines gates labels classes) ≡ true
+pub lines_targets : (gates labels : List ℕ) (n : ℕ) (ts : List Tagged) → ((j : ℕ) (t : Tagged) → slice_get ts j ≡ Some t → IsStrictlyIncreasing t.class) →
+    ((j k : ℕ) (t : Tagged) → slice_get ts j ≡ Some t → has k t.class ≡ true → k < n) → ((i j : ℕ) → i < j → j < n → slice_index gates i < slice_index gates j) →
+    list_all targets_rise (class_lines gates labels ts) ≡ true
 unfolding class_lines
 lines_targets gates [] n [] rising members rise = refl
 lines_targets gates (l ∷ labels) n [] rising members rise = refl
-lines_targets gates [] n (c ∷ classes) rising members rise = refl
-lines_targets gates (l ∷ labels) n (c ∷ classes) rising members rise =
-    and_from (targets_rise (Class l (map (slice_index gates) c))) (list_all targets_rise (class_lines gates labels classes))
-    (targets_rising (slice_index gates) n c (rising 0 c refl) (λ k there. members 0 k c refl there) rise)
-    (lines_targets gates labels n classes (λ j class get. rising (suc j) class get) (λ j k class get there. members (suc j) k class get there) rise)
+lines_targets gates [] n (t ∷ ts) rising members rise = refl
+lines_targets gates (l ∷ labels) n (t ∷ ts) rising members rise =
+    and_from (targets_rise (line_of_class t.sort l (map (slice_index gates) t.class))) (list_all targets_rise (class_lines gates labels ts))
+    (line_rises t.sort l (map (slice_index gates) t.class)
+    ∙ targets_rising (slice_index gates) n t.class (rising 0 t refl) (λ k there. members 0 k t refl there) rise)
+    (lines_targets gates labels n ts (λ j class get. rising (suc j) class get) (λ j k class get there. members (suc j) k class get there) rise)
 
-pub lines_order : (gates labels : List ℕ) (classes : List (List ℕ)) → IsStrictlyIncreasing labels → is_rising key_below (map key_of (class_lines gates labels classes)) ≡ true
+keys_rise : (s t : Sort) (l m : ℕ) (xs ys : List ℕ) → l < m → key_below (key_of (line_of_class s l xs)) (key_of (line_of_class t m ys)) ≡ true
+keys_rise s t l m xs ys less =
+    ap (λ k. key_below k (key_of (line_of_class t m ys))) (line_key s l xs) ∙ ap (λ k. key_below (Label l) k) (line_key t m ys) ∙ lt-ltb l m less
+
+pub lines_order : (gates labels : List ℕ) (ts : List Tagged) → IsStrictlyIncreasing labels → is_rising key_below (map key_of (class_lines gates labels ts)) ≡ true
 unfolding class_lines
 lines_order gates [] [] rising = refl
+lines_order gates [] (t ∷ ts) rising = refl
 lines_order gates (l ∷ labels) [] rising = refl
-lines_order gates [] (c ∷ classes) rising = refl
-lines_order gates (l ∷ []) (c ∷ []) rising = refl
-lines_order gates (l ∷ m ∷ labels) (c ∷ []) rising = refl
-lines_order gates (l ∷ []) (c ∷ d ∷ classes) rising = refl
-lines_order gates (l ∷ m ∷ labels) (c ∷ d ∷ classes) rising =
-    and_from (nat_lt l m) (is_rising key_below (map key_of (class_lines gates (m ∷ labels) (d ∷ classes)))) (lt-ltb l m (rising 0 (omega arith)))
-    (lines_order gates (m ∷ labels) (d ∷ classes) (rises_tail l (m ∷ labels) rising))
+lines_order gates (l ∷ []) (t ∷ []) rising = refl
+lines_order gates (l ∷ m ∷ labels) (t ∷ []) rising = refl
+lines_order gates (l ∷ []) (t ∷ u ∷ ts) rising = refl
+lines_order gates (l ∷ m ∷ labels) (t ∷ u ∷ ts) rising =
+    and_from (key_below (key_of (line_of_class t.sort l (map (slice_index gates) t.class))) (key_of (line_of_class u.sort m (map (slice_index gates) u.class))))
+    (is_rising key_below (map key_of (class_lines gates (m ∷ labels) (u ∷ ts))))
+    (keys_rise t.sort u.sort l m (map (slice_index gates) t.class) (map (slice_index gates) u.class) (rising 0 (omega arith)))
+    (lines_order gates (m ∷ labels) (u ∷ ts) (rises_tail l (m ∷ labels) rising))

@@ -1,5 +1,5 @@
 -- The words of the units that are written for places, and the sizes of the places' parts.
-use Rattle.std.proofs.Common.{◌≡◌, ℕ, suc, ◌+◌, ◌*◌, ◌≤◌, ◌<◌, true, false, inl, inr, List, [], ◌∷◌, length, Option, Some, None, refl, sym, ap, subst, ◌∙◌, arith, unwrap_or}
+use Rattle.std.proofs.Common.{◌≡◌, ℕ, suc, ◌+◌, ◌*◌, ◌≤◌, ◌<◌, true, false, inl, inr, List, [], ◌∷◌, ◌++◌, length, Option, Some, None, refl, sym, ap, subst, ◌∙◌, arith, unwrap_or}
 use Rattle.std.specs.Prelude.{◌&&◌, not, is_some, slice_get, sum}
 use Rattle.std.proofs.lemmas.Bool.{and_from, cases_Bool, not_from_false, or_left, or_right}
 use Rattle.std.proofs.lemmas.List.Sums.{sum_by-cons}
@@ -13,50 +13,54 @@ use Rattle.obj_program.specs.Program.{count, is_end, item_of, no_item}
 use Rattle.obj_program.specs.Sound.{IsSound}
 use Rattle.obj_program.specs.Suits.{names_reserved, suits}
 use Rattle.obj_program.proofs.Kept.{kept}
-use Rattle.cfi_flow.specs.Placement.{gate_size, is_long, size_of, words_from}
+use Rattle.cfi_flow.specs.GraphAtMap.{words_at}
+use Rattle.cfi_flow.specs.Placement.{is_long, lead_size, size_of}
 use Rattle.cfi_unit.specs.declared.unit.Unit as U
-use Rattle.cfi_unit.specs.declared.unit.Unit.TheVariants as V
 use Rattle.cfi_unit.specs.UnitWords.{word_count}
 use Rattle.cfi_verify.specs.Placed.{code_from}
 use Rattle.cfi_verify.proofs.UnitIn.{length-code_from}
 use Rattle.cfi_harden.specs.Sizes.{part_sizes}
-use Rattle.cfi_harden.specs.Units.{Choice, instr_of, unit_for, units_from, with_gate}
-use Rattle.cfi_harden.proofs.Runs.{gate_bytes, gate_labelled, label_of}
+use Rattle.cfi_harden.specs.Units.{Choice, instr_of, lead, unit_for, units_from}
+use Rattle.cfi_harden.proofs.Runs.{AreSingle, lead_bytes, lead_single, lead_sized}
 use Rattle.cfi_harden.proofs.UnitOf.{is_right, unit_size}
 
--- the words of a gate word, if there is one, and of what follows it
-length-gated : (o : Option ℕ) (us : List U.Unit) (at : ℕ) →
-    4 * length (code_from at (with_gate o us)) ≡ gate_bytes o + 4 * length (code_from (at + gate_bytes o) us)
-length-gated None us at = let same : at ≡ at + 0 = omega arith in subst (λ (b : ℕ). 4 * length (code_from at us) ≡ 0 + 4 * length (code_from b us)) same (omega arith)
-length-gated (Some label) us at = let first = length-code_from (V.Gate label) us at in omega (arith, first)
+-- the words before a unit, and of what follows them
+length-lead : (us rest : List U.Unit) (at : ℕ) → AreSingle us → length (code_from at (us ++ rest)) ≡ length us + length (code_from (at + 4 * length us) rest)
+length-lead [] rest at single = let same : at ≡ at + 4 * 0 = omega arith in subst (λ (b : ℕ). length (code_from at rest) ≡ 0 + length (code_from b rest)) same (omega arith)
+length-lead (v ∷ us) rest at single =
+    let size : word_count v ≡ 1 = single 0 v refl in
+    let first = length-code_from v (us ++ rest) at in
+    let later = length-lead us rest (at + 4 * word_count v) (λ j w get. single (suc j) w get) in
+    let same : at + 4 * word_count v + 4 * length us ≡ at + 4 * length (v ∷ us) = omega arith in
+    subst (λ (b : ℕ). length (code_from at (v ∷ us ++ rest)) ≡ length (v ∷ us) + length (code_from b rest)) same (omega (arith, size, first, later))
 
 -- as many bytes as the parts have
-pub bytes_are : (m : Choice) (k at : ℕ) (items : List Item) → length m.layout.closed.classes ≤ length m.labels →
+pub bytes_are : (m : Choice) (k at : ℕ) (items : List Item) →
     ((i : ℕ) (item : Item) → slice_get items i ≡ Some item → size_of item.kind (is_long m.long (k + i)) ≡ 4 * word_count (unit_for m (k + i) item)) →
-    4 * length (code_from at (units_from m k items)) ≡ sum (part_sizes m.layout.closed.classes m.long k items)
+    4 * length (code_from at (units_from m k items)) ≡ sum (part_sizes m.layout.closed.sides m.long k items)
 unfolding units_from part_sizes code_from
-bytes_are m k at [] few sizes = refl
-bytes_are m k at (item ∷ items) few sizes =
+bytes_are m k at [] sizes = refl
+bytes_are m k at (item ∷ items) sizes =
     let first : k + 0 ≡ k = omega arith in
     let next : (i : ℕ) → k + 1 + i ≡ k + suc i = λ i. omega arith in
     let size : size_of item.kind (is_long m.long k) ≡ 4 * word_count (unit_for m k item) = rw first at (sizes 0 item refl) in
-    let bytes : gate_size m.layout.closed.classes k ≡ gate_bytes (label_of m k) = gate_labelled m.labels m.layout.closed.classes k few in
-    let gated = length-gated (label_of m k) (unit_for m k item ∷ units_from m (k + 1) items) at in
-    let own = length-code_from (unit_for m k item) (units_from m (k + 1) items) (at + gate_bytes (label_of m k)) in
-    let rest = bytes_are m (k + 1) (at + gate_bytes (label_of m k) + 4 * word_count (unit_for m k item)) items few
+    let bytes : lead_size m.layout.closed.sides k ≡ lead_bytes m k = lead_sized m k in
+    let led = length-lead (lead m k) (unit_for m k item ∷ units_from m (k + 1) items) at (lead_single m k) in
+    let own = length-code_from (unit_for m k item) (units_from m (k + 1) items) (at + lead_bytes m k) in
+    let rest = bytes_are m (k + 1) (at + lead_bytes m k + 4 * word_count (unit_for m k item)) items
     (λ i one get. subst (λ (n : ℕ). size_of one.kind (is_long m.long n) ≡ 4 * word_count (unit_for m n one)) (sym (next i)) (sizes (suc i) one get)) in
-    let part = gate_size m.layout.closed.classes k + size_of item.kind (is_long m.long k) in
-    let more = sum_by-cons (λ (x : ℕ). x) part (part_sizes m.layout.closed.classes m.long (k + 1) items) in
+    let part = lead_size m.layout.closed.sides k + size_of item.kind (is_long m.long k) in
+    let more = sum_by-cons (λ (x : ℕ). x) part (part_sizes m.layout.closed.sides m.long (k + 1) items) in
     omega arith
 
 module _ (m : Choice) (sound : IsSound m.layout.program)
     (values : (k : ℕ) → k < count m.layout.program → is_end (item_of m.layout.program k).kind ≡ false →
-    is_some (instr_at m.layout.program m.layout.gates (words_from m.layout.closed.classes 0 m.layout.gates) k) ≡ true) where
+    is_some (instr_at m.layout.program m.layout.gates (words_at m.layout) k) ≡ true) where
   -- the instruction that has a value is the one at the map
   instr_is : (k : ℕ) → k < count m.layout.program → is_end (item_of m.layout.program k).kind ≡ false →
-      instr_at m.layout.program m.layout.gates (words_from m.layout.closed.classes 0 m.layout.gates) k ≡ Some (instr_of m k)
+      instr_at m.layout.program m.layout.gates (words_at m.layout) k ≡ Some (instr_of m k)
   instr_is k below some =
-      elim (cases_Option (instr_at m.layout.program m.layout.gates (words_from m.layout.closed.classes 0 m.layout.gates) k)) [
+      elim (cases_Option (instr_at m.layout.program m.layout.gates (words_at m.layout) k)) [
         | inl none ↦ let wrong : false ≡ true = ap is_some (sym none) ∙ values k below some in absurd (cc)
         | inr (j, e) ↦ e ∙ ap Some (sym (ap (λ (o : Option Instr). unwrap_or o I.Ebreak) e))
       ]
@@ -67,7 +71,7 @@ module _ (m : Choice) (sound : IsSound m.layout.program)
       elim (cases_Bool (is_end (item_of m.layout.program k).kind)) [
         | inl last ↦ or_left (is_end (item_of m.layout.program k).kind) (suits (item_of m.layout.program k).kind (instr_of m k) && not (names_reserved (instr_of m k))) last
         | inr some ↦
-            let is = kept m.layout.program m.layout.gates (words_from m.layout.closed.classes 0 m.layout.gates) k (instr_of m k) sound below some (instr_is k below some) in
+            let is = kept m.layout.program m.layout.gates (words_at m.layout) k (instr_of m k) sound below some (instr_is k below some) in
             or_right (is_end (item_of m.layout.program k).kind) (suits (item_of m.layout.program k).kind (instr_of m k) && not (names_reserved (instr_of m k)))
             (and_from (suits (item_of m.layout.program k).kind (instr_of m k)) (not (names_reserved (instr_of m k))) is.0 (not_from_false (names_reserved (instr_of m k)) is.1))
       ]

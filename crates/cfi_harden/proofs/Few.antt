@@ -1,4 +1,4 @@
--- The labels of a program are few where its code has room: each class has a target with a gate word, each site and each label of the
+-- The labels of a program are few where its code has room: each class has a target with a word before its unit, each site and each label of the
 -- program's own has a unit.
 use Rattle.std.proofs.Common.{◌≡◌, ◌==◌, ℕ, zero, suc, ◌+◌, ◌*◌, ◌<◌, ◌≤◌, ◌^◌, Bool, true, false, cond, List, [], ◌∷◌, length, get_or, take, drop, map, drop-cons, Option, Some, None, refl, sym, ap, subst, ◌∙◌, arith, add-one, inl, inr}
 use Rattle.std.specs.Prelude.{sum, filter, is_some, ◌/◌}
@@ -18,71 +18,72 @@ use Rattle.obj_program.specs.declared.item.Item.{Item}
 use Rattle.obj_program.specs.Program.{Program, count, no_item}
 use Rattle.cfi_flow.specs.declared.closed.Site.{Site}
 use Rattle.cfi_flow.specs.Below.{where_below}
-use Rattle.cfi_flow.specs.Closed.{ClosedGraph, has}
+use Rattle.cfi_flow.specs.Closed.{ClosedGraph, Side, first_side, has}
 use Rattle.cfi_flow.specs.LabelOf.{all_classes, empty_classes, with_empty}
 use Rattle.cfi_flow.specs.Labels.{is_gate, used_labels}
-use Rattle.cfi_flow.specs.Placement.{gate_size, is_target, size_of}
+use Rattle.cfi_flow.specs.Placement.{is_target, lead_size, size_of}
 use Rattle.cfi_flow.specs.Sites.{site_kind}
 use Rattle.cfi_flow.proofs.Laws.{closed_places, is_site, members_there, place_of_site}
+use Rattle.cfi_flow.proofs.Sides.{in_one, one_target}
 use Rattle.cfi_harden.specs.GraphOf.{IsGraphOf}
 use Rattle.cfi_harden.specs.Sizes.{part_sizes, whole_size}
 
--- numbers that rise, from k on and below n, each a class's target
-AreTargets : List (List ℕ) → ℕ → ℕ → List ℕ → Type 0
-AreTargets classes k n [] = Unit {0}
-AreTargets classes k n (x ∷ xs) = (k ≤ x) × (x < n) × (is_target classes x ≡ true) × AreTargets classes (x + 1) n xs
+-- numbers that rise, from k on and below n, each a target
+AreTargets : List Side → ℕ → ℕ → List ℕ → Type 0
+AreTargets sides k n [] = Unit {0}
+AreTargets sides k n (x ∷ xs) = (k ≤ x) × (x < n) × (is_target sides x ≡ true) × AreTargets sides (x + 1) n xs
 
 abbrev unit_bytes : Item → ℕ
 unit_bytes i = size_of i.kind true
 
--- each of them has a gate word
-gates_few : (classes : List (List ℕ)) (k n : ℕ) (items : List Item) (xs : List ℕ) → n ≡ k + length items → AreTargets classes k n xs →
-    4 * length xs + sum_by unit_bytes items ≤ sum (part_sizes classes [] k items)
+-- each of them has a word before its unit
+gates_few : (sides : List Side) (k n : ℕ) (items : List Item) (xs : List ℕ) → 1 ≤ length sides → n ≡ k + length items → AreTargets sides k n xs →
+    4 * length xs + sum_by unit_bytes items ≤ sum (part_sizes sides [] k items)
 unfolding AreTargets part_sizes
-gates_few classes k n [] [] all are = omega arith
-gates_few classes k n [] (x ∷ xs) all are = absurd (omega (arith, are.0, are.1))
-gates_few classes k n (item ∷ items) [] all are =
-    let part = gate_size classes k + unit_bytes item in
+gates_few sides k n [] [] some all are = omega arith
+gates_few sides k n [] (x ∷ xs) some all are = absurd (omega (arith, are.0, are.1))
+gates_few sides k n (item ∷ items) [] some all are =
+    let part = lead_size sides k + unit_bytes item in
     omega (
       arith,
-      gates_few classes (k + 1) n items [] (omega arith) tt,
+      gates_few sides (k + 1) n items [] some (omega arith) tt,
       sum_by-cons unit_bytes item items,
-      sum_by-cons (λ (m : ℕ). m) part (part_sizes classes [] (k + 1) items),
+      sum_by-cons (λ (m : ℕ). m) part (part_sizes sides [] (k + 1) items),
     )
-gates_few classes k n (item ∷ items) (x ∷ xs) all are =
-    let part = gate_size classes k + unit_bytes item in
+gates_few sides k n (item ∷ items) (x ∷ xs) some all are =
+    let part = lead_size sides k + unit_bytes item in
     let units = sum_by-cons unit_bytes item items in
-    let parts = sum_by-cons (λ (m : ℕ). m) part (part_sizes classes [] (k + 1) items) in
+    let parts = sum_by-cons (λ (m : ℕ). m) part (part_sizes sides [] (k + 1) items) in
     elim (cases_eq x k) [
       | inl same ↦
-          let target : is_target classes k ≡ true = ap (is_target classes) (sym same) ∙ are.2 in
-          let gate : gate_size classes k ≡ 4 = rw target refl in
-          let rest = gates_few classes (k + 1) n items xs (omega arith) (subst (λ (m : ℕ). AreTargets classes (m + 1) n xs) same are.3) in
-          omega (arith, gate, rest, units, parts)
+          let target : is_target sides k ≡ true = ap (is_target sides) (sym same) ∙ are.2 in
+          let gate : lead_size sides k ≡ 4 * length sides = rw target refl in
+          let rest = gates_few sides (k + 1) n items xs some (omega arith) (subst (λ (m : ℕ). AreTargets sides (m + 1) n xs) same are.3) in
+          omega (arith, some, gate, rest, units, parts)
       | inr differ ↦
           let above : k + 1 ≤ x = omega (arith, are.0) in
-          let rest = gates_few classes (k + 1) n items (x ∷ xs) (omega arith) (above, are.1, are.2, are.3) in
+          let rest = gates_few sides (k + 1) n items (x ∷ xs) some (omega arith) (above, are.1, are.2, are.3) in
           omega (arith, rest, units, parts)
     ]
 
 abbrev first_of : List ℕ → ℕ
 first_of class = get_or class 0 0
 
-abbrev IsFirst : List (List ℕ) → ℕ → List ℕ → Type 0
-IsFirst classes n class = (first_of class < n) × (is_target classes (first_of class) ≡ true)
+abbrev IsFirst : List Side → ℕ → List ℕ → Type 0
+IsFirst sides n class = (first_of class < n) × (is_target sides (first_of class) ≡ true)
 
 -- the first members of classes are such numbers
-firsts_are : (classes : List (List ℕ)) (k n : ℕ) (some : List (List ℕ)) →
+firsts_are : (sides : List Side) (k n : ℕ) (some : List (List ℕ)) →
     ((i : ℕ) → i < length some → k ≤ first_of (get_or some i [])) →
-    ((i : ℕ) → i < length some → IsFirst classes n (get_or some i [])) →
-    AllPairs (λ class next. first_of class < first_of next) some → AreTargets classes k n (map first_of some)
+    ((i : ℕ) → i < length some → IsFirst sides n (get_or some i [])) →
+    AllPairs (λ class next. first_of class < first_of next) some → AreTargets sides k n (map first_of some)
 unfolding AreTargets
-firsts_are classes k n [] from each rising = tt
-firsts_are classes k n (class ∷ some) from each rising = (
+firsts_are sides k n [] from each rising = tt
+firsts_are sides k n (class ∷ some) from each rising = (
   from 0 (omega arith),
   (each 0 (omega arith)).0,
   (each 0 (omega arith)).1,
-  firsts_are classes (first_of class + 1) n some
+  firsts_are sides (first_of class + 1) n some
       (λ i lt. let less : first_of class < first_of (get_or some i []) = rising 0 (suc i) [] (omega arith) (omega arith) in omega (arith, less))
       (λ i lt. each (suc i) (omega arith))
       (λ i j d less lt. rising (suc i) (suc j) d (omega arith) (omega arith)),
@@ -137,19 +138,27 @@ empty_few (site ∷ sites) = elim (cases_Option site.class) [
   | inr (c, some) ↦ rw some (omega (arith, empty_few sites))
 ]
 
+pub one_in : (program : Program) (closed : ClosedGraph) → IsGraphOf program closed → closed.sides ≡ first_side closed ∷ []
+one_in program closed (lines, raw, is, closes) = (in_one raw closed closes).one
+
 pub labels_few : (program : Program) (closed : ClosedGraph) → IsGraphOf program closed → whole_size program closed ≤ CODE_SIZE →
-    length (all_classes closed) + length (used_labels program) < 2 ^ 18
-labels_few program closed (lines, raw, is, of) room =
-    let classes = closed.classes in
-    let first : (i : ℕ) → i < length classes → IsFirst classes (count program) (get_or classes i []) =
+    length (all_classes (first_side closed)) + length (used_labels program) < 2 ^ 18
+labels_few program closed (lines, raw, is, closes) room =
+    let of = in_one raw closed closes in
+    let side = first_side closed in
+    let classes = side.classes in
+    let sides = closed.sides in
+    let some_side : 1 ≤ length sides = let all = ap length of.one in omega arith in
+    let first : (i : ℕ) → i < length classes → IsFirst sides (count program) (get_or classes i []) =
     λ i lt.
     let class = get_or classes i [] in
     let some : 0 < length class = of.classes.some i [] lt in (
       members_there program lines raw closed is of (first_of class) (i, Contains-get_or class 0 0 some),
-      list_any_at (has (first_of class)) classes i [] lt (list_any_at (λ t. t == first_of class) class 0 0 some (eq-eqb (first_of class) (first_of class) refl)),
+      sym (one_target closed (first_of class) of.one)
+          ∙ list_any_at (has (first_of class)) classes i [] lt (list_any_at (λ t. t == first_of class) class 0 0 some (eq-eqb (first_of class) (first_of class) refl)),
     ) in
-    let targets = firsts_are classes 0 (count program) classes (λ i lt. omega arith) first of.classes.in_order in
-    let gates = gates_few classes 0 (count program) program.items (map first_of classes) (omega arith) targets in
+    let targets = firsts_are sides 0 (count program) classes (λ i lt. omega arith) first of.classes.in_order in
+    let gates = gates_few sides 0 (count program) program.items (map first_of classes) some_side (omega arith) targets in
     let units = units_few program.items in
     let places = ap length (closed_places program lines raw closed is of) in
     let sites = site_count program (count program) (omega arith) in
@@ -162,10 +171,10 @@ labels_few program closed (lines, raw, is, of) room =
       sites,
       every,
       room,
-      empty_few closed.sites,
+      empty_few side.sites,
       length-map classes first_of,
-      length-map closed.sites place_of_site,
-      length-append classes (empty_classes closed.sites),
+      length-map side.sites place_of_site,
+      length-append classes (empty_classes side.sites),
       length-filter is_gate_item program.items,
       length-map (filter is_gate_item program.items) (λ (i : Item). i.word / 2 ^ 12),
     )

@@ -1,12 +1,11 @@
 -- Where direct transfers lead; each unit fits, and no short branch leads over just a jump or a stop.
 use Rattle.std.proofs.Common.{◌≡◌, ℕ, ◌+◌, ◌*◌, ◌^◌, ◌≤◌, ◌<◌, ◌==◌, inl, inr, Bool, true, false, length, Option, Some, None, refl, sym, ap, subst, ◌∙◌, lit<, arith}
-use Rattle.std.specs.Prelude.{◌&&◌, not, nat_lt, is_some, slice_index}
+use Rattle.std.specs.Prelude.{◌&&◌, not, nat_lt, slice_get, slice_index}
 use Rattle.std.proofs.lemmas.Bool.{and_from, and_parts, cases_lt, cases_order, eq-eqb, ltb-true}
 use Rattle.std.proofs.lemmas.List.{get_or_past}
 use Rattle.std.proofs.lemmas.Option.{get_or_from_slice_get, same_Some}
 use Rattle.rv_word.specs.Bits.{wrap}
 use Rattle.rv_word.specs.MemoryMap.{START}
-use Rattle.rv_word.proofs.Cases.{cases_Option}
 use Rattle.rv_instr.specs.declared.instr.Instr.{Instr}
 use Rattle.rv_instr.specs.declared.instr.Instr.TheVariants as I
 use Rattle.rv_code.specs.Step.{offset}
@@ -15,6 +14,7 @@ use Rattle.obj_input.specs.declared.item_kind.ItemKind.TheVariants as is
 use Rattle.obj_program.specs.Program.{Program, count, is_end, item_of}
 use Rattle.obj_program.specs.Sound.{aims, is_direct}
 use Rattle.cfi_flow.specs.GraphAtMap.{gate, gate_to, word}
+use Rattle.cfi_flow.specs.LabelOf.{labels_of, site_label}
 use Rattle.cfi_flow.specs.Placement.{is_long, is_target}
 use Rattle.cfi_unit.specs.declared.unit.Unit as U
 use Rattle.cfi_unit.specs.declared.unit.Unit.TheVariants as V
@@ -24,11 +24,11 @@ use Rattle.cfi_verify.specs.Placed.{AllAhead, AllFit}
 use Rattle.cfi_verify.specs.Split.{unit_in}
 use Rattle.cfi_verify.proofs.Ahead.{all_ahead, all_fit, is_jump_unit}
 use Rattle.cfi_harden.specs.Accepted.{IsAccepted, is_branch, is_kept, is_skipped}
-use Rattle.cfi_harden.specs.Units.{Choice, instr_of, unit_for, unit_of, units}
+use Rattle.cfi_harden.specs.Units.{Choice, instr_of, lead_unit, unit_for, unit_of, units}
 use Rattle.cfi_harden.proofs.Fitting.{IsThere, near_target, unit_fits}
-use Rattle.cfi_harden.proofs.Labelled.{labelled}
-use Rattle.cfi_harden.proofs.Runs.{IsUnit, gate_word, label_of, own, target_labelled}
-use Rattle.cfi_harden.proofs.Standing.{at_gate, found, gate_after, gate_lies, gate_there, gates_rise, instr_in_range, labels_suffice, laid, right, unit_lies, unit_there}
+use Rattle.cfi_harden.proofs.Runs.{IsUnit, from_lead, lead_cases, lead_word, own}
+use Rattle.cfi_harden.proofs.SideLabels.{label_in, site_small}
+use Rattle.cfi_harden.proofs.Standing.{at_gate, found, gate_after, gate_lies, gates_rise, instr_in_range, laid, lead_there, right, unit_lies, unit_there}
 use Rattle.cfi_harden.proofs.UnitOf.{is_right}
 
 aims_there : (program : Program) (kind : ItemKind) (o : Option ℕ) → is_direct kind ≡ true → aims program kind o ≡ true →
@@ -93,6 +93,19 @@ skips_to at target low near skip =
     let here : wrap (at + offset 13 (skip_offset * 2)) ≡ target = ap (λ n. wrap (at + offset 13 (n * 2))) (sym skip) ∙ near in
     omega arith
 
+-- a word before a unit fits, is no jump and no short branch
+lead_fits : (o : Option ℕ) (a : ℕ) → ((label : ℕ) → o ≡ Some label → label < 2 ^ 20) → Fits (lead_unit o) a
+lead_fits None a small = ((lit< tt, lit< tt, lit< tt), refl)
+lead_fits (Some label) a small = small label refl
+
+no_lead_jump : (o : Option ℕ) → is_jump_unit (lead_unit o) ≡ false
+no_lead_jump None = refl
+no_lead_jump (Some label) = refl
+
+no_lead_skip : (o : Option ℕ) (a : ℕ) → IsShortSkip (lead_unit o) a → ⊥
+no_lead_skip None a skip = skip
+no_lead_skip (Some label) a skip = skip
+
 module _ (m : Choice) (ok : IsAccepted m) where
   pub direct : (k : ℕ) → k < count m.layout.program → is_direct (item_of m.layout.program k).kind ≡ true →
       (t : ℕ) × ((item_of m.layout.program k).target ≡ Some t) × (t < count m.layout.program)
@@ -118,6 +131,9 @@ module _ (m : Choice) (ok : IsAccepted m) where
         | inr past ↦ let none = get_or_past m.labels n 0 past in rw none (lit< tt)
       ]
 
+  pub asked_small : (k : ℕ) → site_label m.labels m.layout.closed.sides k < 2 ^ 20
+  asked_small k = site_small m.labels m.layout.closed.sides k (2 ^ 20) (lit< tt) label_small
+
   short_near : (k : ℕ) → k < count m.layout.program → is_branch (item_of m.layout.program k).kind ≡ true → is_long m.long k ≡ false →
       (word m.layout k ≤ gate_to m.layout (item_of m.layout.program k).target + 4096) × (gate_to m.layout (item_of m.layout.program k).target ≤ word m.layout k + 4092)
   short_near k below branch short =
@@ -129,13 +145,17 @@ module _ (m : Choice) (ok : IsAccepted m) where
   own_fits k below =
       let at = unit_lies m ok (word m.layout k) (unit_for m k (item_of m.layout.program k)) (unit_there m ok k below) in
       unit_fits (item_of m.layout.program k).kind (instr_of m k) (is_long m.long k) _ _ (word m.layout k) (right m ok k below) (instr_in_range m ok k below)
-      (label_small _) (past_handlers (word m.layout k) at.from) at.to at.round (target_in k below) (short_near k below)
+      (asked_small k) (past_handlers (word m.layout k) at.from) at.to at.round (target_in k below) (short_near k below)
+
+  small_label : (k j label : ℕ) → slice_get (labels_of m.labels m.layout.closed.sides k) j ≡ Some (Some label) → label < 2 ^ 20
+  small_label k j label e =
+      let (n, is) = label_in m.labels m.layout.closed.sides k j label e in
+      subst (λ (x : ℕ). x < 2 ^ 20) (get_or_from_slice_get m.labels n label 0 is) (label_small n)
 
   is_fit : (k a : ℕ) (u : U.Unit) → k < count m.layout.program → IsUnit m k (item_of m.layout.program k) a u → Fits u a
-  is_fit k a u below (gate_word label some here gate_is) =
-      let of = labelled m.labels m.layout.closed.classes k label some in
-      let small : label < 2 ^ 20 = subst (λ n. n < 2 ^ 20) (get_or_from_slice_get m.labels of.index label 0 of.label_is) (label_small of.index) in
-      subst (λ (v : U.Unit). Fits v a) (sym gate_is) small
+  is_fit k a u below (lead_word j get here) =
+      let (o, at, same) = from_lead m k j u get in
+      subst (λ (v : U.Unit). Fits v a) same (lead_fits o a (λ label some. small_label k j label (at ∙ ap Some some)))
   is_fit k a u below (own here unit_is) =
       subst (λ (v : U.Unit). Fits v a) (sym unit_is) (subst (λ (b : ℕ). Fits (unit_for m k (item_of m.layout.program k)) b) (sym here) (own_fits k below))
 
@@ -153,7 +173,7 @@ module _ (m : Choice) (ok : IsAccepted m) where
             absurd (branch_goes_on (item_of m.layout.program k).kind branch (ap (λ j. is_end (item_of m.layout.program j).kind) (sym same) ∙ ends))
       ]
 
-  -- two places after a jump without a gate word at the next one
+  -- two places after a jump without words before it at the next one
   second_after : (k t : ℕ) → k + 1 < count m.layout.program → t < count m.layout.program → gate m.layout t ≡ gate m.layout (k + 1) + 4 → word m.layout (k + 1) ≡ gate m.layout (k + 1) →
       word_count (unit_for m (k + 1) (item_of m.layout.program (k + 1))) ≡ 1 → t ≡ k + 2
   second_after k t more there four at one =
@@ -195,23 +215,24 @@ module _ (m : Choice) (ok : IsAccepted m) where
       let to_gate : near_offset (word m.layout k) (gate m.layout t) ≡ skip_offset = ap (λ (o : Option ℕ). near_offset (word m.layout k) (gate_to m.layout o)) (sym some) ∙ s.2 in
       let two : gate m.layout t ≡ word m.layout k + 8 = skips_to (word m.layout k) (gate m.layout t) (omega arith) near to_gate in
       let here : unit_in (units m) m.layout.profile.units_from (gate m.layout (k + 1)) ≡ Some v = ap (unit_in (units m) m.layout.profile.units_from) after ∙ next in
-      elim (cases_Option (label_of m (k + 1))) [
-        | inr (label, labelled_so) ↦
-            let same : V.Gate label ≡ v = same_Some (V.Gate label) v (sym (gate_there m ok (k + 1) label more labelled_so) ∙ here) in
-            let wrong : false ≡ true = ap is_jump_unit same ∙ jump in
+      elim (lead_cases m (k + 1)) [
+        | inr (o, first) ↦
+            let start : gate m.layout (k + 1) ≡ gate m.layout (k + 1) + 4 * 0 = omega arith in
+            let same : lead_unit o ≡ v =
+            same_Some (lead_unit o) v
+            (sym (lead_there m ok (k + 1) 0 (lead_unit o) more first) ∙ ap (unit_in (units m) m.layout.profile.units_from) (sym start) ∙ here) in
+            let wrong : false ≡ true = sym (no_lead_jump o) ∙ ap is_jump_unit same ∙ jump in
             absurd (cc)
-        | inl none ↦
+        | inl (none, no_target) ↦
             let stands = at_gate m ok (k + 1) none in
             let same : unit_for m (k + 1) (item_of m.layout.program (k + 1)) ≡ v =
             same_Some _ v (sym (unit_there m ok (k + 1) more) ∙ ap (unit_in (units m) m.layout.profile.units_from) stands ∙ here) in
             let jumps = ap is_jump_unit same ∙ jump in
             let skipped : is_skipped (item_of m.layout.program (k + 1)).kind false ≡ true =
             jump_kind (item_of m.layout.program (k + 1)).kind (instr_of m (k + 1)) (is_long m.long (k + 1)) _ _ (right m ok (k + 1) more) jumps in
-            let no_target : is_target m.layout.closed.classes (k + 1) ≡ false =
-            target_labelled m.labels m.layout.closed.classes (k + 1) (labels_suffice m ok) ∙ ap is_some none in
             let second : t ≡ k + 2 = second_after k t more there (omega arith) stands (jump_size _ jumps) in
             let held : is_kept m.layout k t ≡ true =
-            and_from (t == k + 2) (is_skipped (item_of m.layout.program (k + 1)).kind (is_target m.layout.closed.classes (k + 1))) (eq-eqb t (k + 2) second)
+            and_from (t == k + 2) (is_skipped (item_of m.layout.program (k + 1)).kind (is_target m.layout.closed.sides (k + 1))) (eq-eqb t (k + 2) second)
             (ap (is_skipped (item_of m.layout.program (k + 1)).kind) no_target ∙ skipped) in
             let wrong : true ≡ false = sym held ∙ short.free in
             absurd (cc)
@@ -219,7 +240,9 @@ module _ (m : Choice) (ok : IsAccepted m) where
 
   no_skip : (k a : ℕ) (u v : U.Unit) → k < count m.layout.program → IsUnit m k (item_of m.layout.program k) a u → unit_in (units m) m.layout.profile.units_from (a + 4 * word_count u) ≡ Some v →
       is_jump_unit v ≡ true → IsShortSkip u a → ⊥
-  no_skip k a u v below (gate_word label some here gate_is) next jump skip = subst (λ (w : U.Unit). IsShortSkip w a) gate_is skip
+  no_skip k a u v below (lead_word j get here) next jump skip =
+      let (o, at, same) = from_lead m k j u get in
+      no_lead_skip o a (subst (λ (w : U.Unit). IsShortSkip w a) (sym same) skip)
   no_skip k a u v below (own here unit_is) next jump skip =
       let own_skip : IsShortSkip (unit_for m k (item_of m.layout.program k)) (word m.layout k) =
       subst (λ (b : ℕ). IsShortSkip (unit_for m k (item_of m.layout.program k)) b) here (subst (λ (w : U.Unit). IsShortSkip w a) unit_is skip) in

@@ -11,6 +11,7 @@ pub mod Standing
 pub mod Fitting
 pub mod Labelled
 pub mod ClassLines
+pub mod SideLabels
 pub mod Leading
 pub mod SoundCode
 pub mod Written

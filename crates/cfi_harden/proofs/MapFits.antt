@@ -73,7 +73,7 @@ AreNear program = (k : ℕ) → k < count program →
 module _ (m : Choice) (ok : IsAccepted m) where
   -- gates are as many as places
   pub counted : length m.layout.gates ≡ count m.layout.program
-  counted = as_many_gates m.layout.closed.classes m.long 0 m.layout.profile.units_from m.layout.program.items m.layout.gates ok.legal
+  counted = as_many_gates m.layout.closed.sides m.long 0 m.layout.profile.units_from m.layout.program.items m.layout.gates ok.legal
 
   -- each place takes a byte at least
   places_far : (k : ℕ) → k < count m.layout.program → m.layout.profile.units_from + k ≤ gate m.layout k

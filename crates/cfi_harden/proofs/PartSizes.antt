@@ -8,35 +8,36 @@ use Rattle.obj_input.specs.declared.item_kind.ItemKind.TheVariants as is
 use Rattle.obj_program.specs.declared.item.Item.{Item}
 use Rattle.obj_program.specs.Program.{no_item}
 use Rattle.cfi_layout.specs.Starts.{starts_from}
-use Rattle.cfi_flow.specs.Placement.{AreGates, gate_size, is_long, size_of}
+use Rattle.cfi_flow.specs.Closed.{Side}
+use Rattle.cfi_flow.specs.Placement.{AreGates, lead_size, is_long, size_of}
 use Rattle.cfi_flow.proofs.Placing.{drop_step}
 use Rattle.cfi_harden.specs.Sizes.{part_sizes}
 
-pub length_sizes : (classes : List (List ℕ)) (long : List Bool) (k : ℕ) (items : List Item) → length (part_sizes classes long k items) ≡ length items
+pub length_sizes : (sides : List Side) (long : List Bool) (k : ℕ) (items : List Item) → length (part_sizes sides long k items) ≡ length items
 unfolding part_sizes
-length_sizes classes long k [] = refl
-length_sizes classes long k (item ∷ items) = let e = length_sizes classes long (k + 1) items in omega arith
+length_sizes sides long k [] = refl
+length_sizes sides long k (item ∷ items) = let e = length_sizes sides long (k + 1) items in omega arith
 
-pub size_at : (classes : List (List ℕ)) (long : List Bool) (k : ℕ) (items : List Item) (i : ℕ) → i < length items →
-    get_or (part_sizes classes long k items) i 0 ≡ gate_size classes (k + i) + size_of (get_or items i no_item).kind (is_long long (k + i))
+pub size_at : (sides : List Side) (long : List Bool) (k : ℕ) (items : List Item) (i : ℕ) → i < length items →
+    get_or (part_sizes sides long k items) i 0 ≡ lead_size sides (k + i) + size_of (get_or items i no_item).kind (is_long long (k + i))
 unfolding part_sizes
-size_at classes long k [] i lt = absurd (omega arith)
-size_at classes long k (item ∷ items) zero lt = let e : k + 0 ≡ k = omega arith in rw e refl
-size_at classes long k (item ∷ items) (suc i) lt =
+size_at sides long k [] i lt = absurd (omega arith)
+size_at sides long k (item ∷ items) zero lt = let e : k + 0 ≡ k = omega arith in rw e refl
+size_at sides long k (item ∷ items) (suc i) lt =
     let e : k + 1 + i ≡ k + suc i = omega arith in
-    size_at classes long (k + 1) items i (omega arith) ∙ rw e refl
+    size_at sides long (k + 1) items i (omega arith) ∙ rw e refl
 
 -- while a loop makes them
-pub sizes_more : (classes : List (List ℕ)) (k : ℕ) (items : List Item) (made all : List ℕ) (size : ℕ) → k < length items →
-    size ≡ gate_size classes k + size_of (get_or items k no_item).kind true →
-    made ++ part_sizes classes [] k (drop k items) ≡ all → (made ++ size ∷ []) ++ part_sizes classes [] (k + 1) (drop (k + 1) items) ≡ all
+pub sizes_more : (sides : List Side) (k : ℕ) (items : List Item) (made all : List ℕ) (size : ℕ) → k < length items →
+    size ≡ lead_size sides k + size_of (get_or items k no_item).kind true →
+    made ++ part_sizes sides [] k (drop k items) ≡ all → (made ++ size ∷ []) ++ part_sizes sides [] (k + 1) (drop (k + 1) items) ≡ all
 unfolding part_sizes
-sizes_more classes k items made all size lt is so_far = rw (append_assoc, is) (rw (drop_step items k no_item lt) at so_far)
+sizes_more sides k items made all size lt is so_far = rw (append_assoc, is) (rw (drop_step items k no_item lt) at so_far)
 
-pub sizes_end : (classes : List (List ℕ)) (k : ℕ) (items : List Item) (made all : List ℕ) → length items ≤ k →
-    made ++ part_sizes classes [] k (drop k items) ≡ all → made ≡ all
+pub sizes_end : (sides : List Side) (k : ℕ) (items : List Item) (made all : List ℕ) → length items ≤ k →
+    made ++ part_sizes sides [] k (drop k items) ≡ all → made ≡ all
 unfolding part_sizes
-sizes_end classes k items made all past so_far = sym (append-nil made) ∙ (rw (drop_all k items past) at so_far)
+sizes_end sides k items made all past so_far = sym (append-nil made) ∙ (rw (drop_all k items past) at so_far)
 
 -- a unit has one word at least
 pub unit_many : (kind : ItemKind) (long : Bool) → 4 ≤ size_of kind long
@@ -50,28 +51,18 @@ unit_many is.Icall long = omega arith
 unit_many other long = omega arith
 
 -- so parts are few
-pub parts_many : (classes : List (List ℕ)) (long : List Bool) (k : ℕ) (items : List Item) → 4 * length items ≤ sum (part_sizes classes long k items)
+pub parts_many : (sides : List Side) (long : List Bool) (k : ℕ) (items : List Item) → 4 * length items ≤ sum (part_sizes sides long k items)
 unfolding part_sizes
-parts_many classes long k [] = omega arith
-parts_many classes long k (item ∷ items) =
-    let size = gate_size classes k + size_of item.kind (is_long long k) in
-    omega (arith, parts_many classes long (k + 1) items, unit_many item.kind (is_long long k), sum_by-cons (λ (x : ℕ). x) size (part_sizes classes long (k + 1) items))
+parts_many sides long k [] = omega arith
+parts_many sides long k (item ∷ items) =
+    let size = lead_size sides k + size_of item.kind (is_long long k) in
+    omega (arith, parts_many sides long (k + 1) items, unit_many item.kind (is_long long k), sum_by-cons (λ (x : ℕ). x) size (part_sizes sides long (k + 1) items))
 
 -- parts one after another have their starts as gates
-pub gates_are : (classes : List (List ℕ)) (long : List Bool) (k at : ℕ) (items : List Item) →
-    AreGates classes long k at items (take (length items) (starts_from at (part_sizes classes long k items)))
+pub gates_are : (sides : List Side) (long : List Bool) (k at : ℕ) (items : List Item) →
+    AreGates sides long k at items (take (length items) (starts_from at (part_sizes sides long k items)))
 unfolding part_sizes starts_from AreGates
-gates_are classes long k at [] = tt
-gates_are classes long k at (item ∷ items) =
-    let e : at + (gate_size classes k + size_of item.kind (is_long long k)) ≡ at + gate_size classes k + size_of item.kind (is_long long k) = omega arith in
-    (refl, rw e (gates_are classes long (k + 1) (at + gate_size classes k + size_of item.kind (is_long long k)) items))
-
--- as many as there are places
-pub gates_many : (classes : List (List ℕ)) (long : List Bool) (k at : ℕ) (items : List Item) (gates : List ℕ) → AreGates classes long k at items gates →
-    length gates ≡ length items
-unfolding AreGates
-gates_many classes long k at [] [] are = refl
-gates_many classes long k at [] (gate ∷ gates) are = absurd are
-gates_many classes long k at (item ∷ items) [] are = absurd are
-gates_many classes long k at (item ∷ items) (gate ∷ gates) are =
-    let e = gates_many classes long (k + 1) (at + gate_size classes k + size_of item.kind (is_long long k)) items gates are.1 in omega arith
+gates_are sides long k at [] = tt
+gates_are sides long k at (item ∷ items) =
+    let e : at + (lead_size sides k + size_of item.kind (is_long long k)) ≡ at + lead_size sides k + size_of item.kind (is_long long k) = omega arith in
+    (refl, rw e (gates_are sides long (k + 1) (at + lead_size sides k + size_of item.kind (is_long long k)) items))

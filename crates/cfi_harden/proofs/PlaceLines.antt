@@ -62,9 +62,9 @@ gates_from layout k (item ∷ items) all =
     ∙ sym (drop-cons layout.gates k 0 (omega arith))
 
 legal_gates : (m : Choice) → IsAccepted m → (gates : List ℕ) → gates ≡ m.layout.gates
-    → IsLegalFrom m.layout.profile.units_from m.layout.closed.classes m.layout.program.items gates
+    → IsLegalFrom m.layout.profile.units_from m.layout.closed.sides m.layout.program.items gates
 legal_gates m accepted gates is =
-    (m.long, subst (λ (gs : List ℕ). AreGates m.layout.closed.classes m.long 0 m.layout.profile.units_from m.layout.program.items gs) (sym is) accepted.legal)
+    (m.long, subst (λ (gs : List ℕ). AreGates m.layout.closed.sides m.long 0 m.layout.profile.units_from m.layout.program.items gs) (sym is) accepted.legal)
 
 pub gates_are : (m : Choice) → IsAccepted m → gates_of (map_lines m.layout) ≡ m.layout.gates
 gates_are m accepted = let counted = gates_counted m accepted in gates_from m.layout 0 m.layout.program.items (omega arith)
@@ -75,6 +75,6 @@ legal_map m accepted one =
       sections = sections_of m.layout 0 m.layout.program.items;
       offsets = offsets_of m.layout 0 m.layout.program.items;
       gates =
-          subst (λ (p : Profile). IsLegalFrom p.units_from m.layout.closed.classes m.layout.program.items (gates_of (map_lines m.layout))) one
+          subst (λ (p : Profile). IsLegalFrom p.units_from m.layout.closed.sides m.layout.program.items (gates_of (map_lines m.layout))) one
           (legal_gates m accepted (gates_of (map_lines m.layout)) (gates_are m accepted));
     }

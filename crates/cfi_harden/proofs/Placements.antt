@@ -19,8 +19,8 @@ use Rattle.cfi_harden.specs.Accepted.{IsShortAt}
 use Rattle.cfi_harden.specs.Shorts.{shorts_of}
 use Rattle.cfi_flow.specs.GraphAtMap.{program_at}
 use Rattle.cfi_harden.specs.Sizes.{part_sizes, whole_sizes}
-use Rattle.cfi_flow.proofs.Placing.{as_many_words}
-use Rattle.cfi_harden.proofs.PartSizes.{gates_are, gates_many, length_sizes}
+use Rattle.cfi_flow.proofs.Placing.{as_many_gates, as_many_words}
+use Rattle.cfi_harden.proofs.PartSizes.{gates_are, length_sizes}
 use Rattle.cfi_harden.proofs.ShortList.{parts_within}
 use Rattle.cfi_harden.proofs.Shortened.{branch_reaches, sizes_are, starts_are}
 
@@ -31,7 +31,7 @@ module _ (program : Program) (closed : ClosedGraph) (p : Placed) (is : IsShorten
       ap length is.starts
       ∙ length_starts UNITS_START (sizes_under (flag p.long) (shorts_of program closed) (whole_sizes program closed))
       ∙ ap (λ (n : ℕ). n + 1)
-      (length_where (is_whole (shorts_of program closed) (flag p.long)) 0 (whole_sizes program closed) ∙ length_sizes closed.classes [] 0 program.items)
+      (length_where (is_whole (shorts_of program closed) (flag p.long)) 0 (whole_sizes program closed) ∙ length_sizes closed.sides [] 0 program.items)
 
   -- all of them in the region of code
   low : (k : ℕ) → get_or p.starts k 0 < 2 ^ 32
@@ -62,26 +62,26 @@ module _ (program : Program) (closed : ClosedGraph) (p : Placed) (is : IsShorten
     least : IsLongSet (shorts_of program closed) (whole_sizes program closed) (is_long long)
     least = subst (IsLongSet (shorts_of program closed) (whole_sizes program closed)) flags_are is.least
 
-    starts : p.starts ≡ starts_from UNITS_START (part_sizes closed.classes long 0 program.items)
+    starts : p.starts ≡ starts_from UNITS_START (part_sizes closed.sides long 0 program.items)
     starts =
         is.starts
         ∙ ap (λ (f : ℕ → Bool). starts_under f (shorts_of program closed) (whole_sizes program closed)) flags_are
         ∙ starts_are program closed long sound
 
-    size : code_size (part_sizes closed.classes long 0 program.items) ≤ CODE_SIZE
+    size : code_size (part_sizes closed.sides long 0 program.items) ≤ CODE_SIZE
     size =
         let sizes = ap sum (sizes_are program closed long sound) in
         let less = sum_where (is_whole (shorts_of program closed) (is_long long)) 0 (whole_sizes program closed) in
         omega (arith, sizes, less, is.room)
 
-    legal : AreGates closed.classes long 0 UNITS_START program.items (take (count program) p.starts)
+    legal : AreGates closed.sides long 0 UNITS_START program.items (take (count program) p.starts)
     legal =
-        subst (λ (xs : List ℕ). AreGates closed.classes long 0 UNITS_START program.items (take (count program) xs)) (sym starts)
-        (gates_are closed.classes long 0 UNITS_START program.items)
+        subst (λ (xs : List ℕ). AreGates closed.sides long 0 UNITS_START program.items (take (count program) xs)) (sym starts)
+        (gates_are closed.sides long 0 UNITS_START program.items)
 
     at_starts : IsPlacement program closed (record {
       gates = take (count program) p.starts;
-      words = words_from closed.classes 0 (take (count program) p.starts);
+      words = words_from closed.sides 0 (take (count program) p.starts);
       long = long;
     })
     at_starts = record {
@@ -90,19 +90,19 @@ module _ (program : Program) (closed : ClosedGraph) (p : Placed) (is : IsShorten
       size = size;
       legal = legal;
       words = refl;
-      gate_count = gates_many closed.classes long 0 UNITS_START program.items (take (count program) p.starts) legal;
-      word_count = as_many_words closed.classes 0 (take (count program) p.starts)
-          ∙ gates_many closed.classes long 0 UNITS_START program.items (take (count program) p.starts) legal;
+      gate_count = as_many_gates closed.sides long 0 UNITS_START program.items (take (count program) p.starts) legal;
+      word_count = as_many_words closed.sides 0 (take (count program) p.starts)
+          ∙ as_many_gates closed.sides long 0 UNITS_START program.items (take (count program) p.starts) legal;
       shorts = λ entry k target lt branch short aim.
           subst (λ (xs : List ℕ). IsShortAt (program_at program closed (take (count program) xs) entry) k target) (sym starts)
           (branch_reaches program closed long sound least.closed entry k target lt branch short aim);
       least = least;
     }
 
-    pub placed : (gates words : List ℕ) → gates ≡ take (count program) p.starts → words ≡ words_from closed.classes 0 gates →
+    pub placed : (gates words : List ℕ) → gates ≡ take (count program) p.starts → words ≡ words_from closed.sides 0 gates →
         IsPlacement program closed (record { gates = gates; words = words; long = long })
     placed gates words are behind =
-        let there = behind ∙ ap (words_from closed.classes 0) are in
+        let there = behind ∙ ap (words_from closed.sides 0) are in
         subst (λ (xs : List ℕ). IsPlacement program closed (record { gates = xs; words = words; long = long })) (sym are)
         (subst (λ (ws : List ℕ). IsPlacement program closed (record { gates = take (count program) p.starts; words = ws; long = long })) (sym there) at_starts)
 

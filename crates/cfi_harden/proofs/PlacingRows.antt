@@ -9,6 +9,7 @@ use Rattle.obj_program.specs.Program.{Program}
 use Rattle.cfi_layout.specs.declared.short.Short.{Short}
 use Rattle.cfi_layout.specs.LongSet.{is_forced, sizes_where, starts_under}
 use Rattle.cfi_layout.specs.Starts.{code_size, starts_from}
+use Rattle.cfi_graph.specs.declared.line.Sort.TheVariants.{Both}
 use Rattle.cfi_flow.specs.Closed.{ClosedGraph}
 use Rattle.cfi_harden.specs.Shorts.{shorts_below, shorts_of}
 use Rattle.cfi_harden.specs.Sizes.{part_sizes, whole_size, whole_sizes}
@@ -21,7 +22,7 @@ program items = record { items = items; init = []; relocations = []; data_end = 
 
 -- classes, and no sites
 abbrev closed : List (List ℕ) → ClosedGraph
-closed classes = record { classes = classes; sites = []; taken = [] }
+closed classes = record { sides = record { sort = Both; classes = classes; sites = [] } ∷ []; taken = [] }
 
 abbrev short : ℕ → ℕ → ℕ → Bool → Short
 short place target lead keep = record { at = place; target = target; lead = lead; keep = keep }

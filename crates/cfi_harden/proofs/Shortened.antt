@@ -13,8 +13,8 @@ use Rattle.obj_program.specs.Sound.{IsSound}
 use Rattle.cfi_layout.specs.declared.short.Short.{Short}
 use Rattle.cfi_layout.specs.LongSet.{AreShorts, HoldsAllForced, IsShort, is_forced, is_whole, is_in_reach, sizes_under, sizes_where, starts_under, word}
 use Rattle.cfi_layout.specs.Starts.{starts_from}
-use Rattle.cfi_flow.specs.Closed.{ClosedGraph}
-use Rattle.cfi_flow.specs.Placement.{gate_size, is_long, size_of}
+use Rattle.cfi_flow.specs.Closed.{ClosedGraph, Side}
+use Rattle.cfi_flow.specs.Placement.{lead_size, is_long, size_of}
 use Rattle.cfi_harden.specs.Accepted.{IsShortAt, is_branch}
 use Rattle.cfi_harden.specs.Shorts.{short_to, shorts_of}
 use Rattle.cfi_flow.specs.GraphAtMap.{program_at}
@@ -24,7 +24,7 @@ use Rattle.cfi_harden.proofs.ShortList.{branch_aims, branch_listed, parts_are, s
 
 -- a program whose code has room has few places
 pub few_places : (program : Program) (closed : ClosedGraph) → whole_size program closed ≤ CODE_SIZE → count program < 2 ^ 32
-few_places program closed room = omega (arith, parts_many closed.classes [] 0 program.items)
+few_places program closed room = omega (arith, parts_many closed.sides [] 0 program.items)
 
 branch_size : (kind : ItemKind) → is_branch kind ≡ true → size_of kind true ≡ 8
 branch_size is.Branch yes_branch = refl
@@ -41,11 +41,11 @@ branches_fit program closed sound = record {
       let same : Some of.0 ≡ Some aim.0 = sym of.2 ∙ aim.1 in
       let target : of.0 ≡ aim.0 = cc in
       let start : 0 + at.0 ≡ at.0 = omega arith in
-      let size = rw start at (size_at closed.classes [] 0 program.items at.0 at.1) in
+      let size = rw start at (size_at closed.sides [] 0 program.items at.0 at.1) in
       subst (IsShort (whole_sizes program closed)) of.3 (record {
-        at_is = omega (arith, at.1, length_sizes closed.classes [] 0 program.items);
-        target_is = omega (arith, target, aim.2, length_sizes closed.classes [] 0 program.items);
-        size = size ∙ ap (λ (n : ℕ). gate_size closed.classes at.0 + n) (branch_size (item_of program at.0).kind of.1);
+        at_is = omega (arith, at.1, length_sizes closed.sides [] 0 program.items);
+        target_is = omega (arith, target, aim.2, length_sizes closed.sides [] 0 program.items);
+        size = size ∙ ap (λ (n : ℕ). lead_size closed.sides at.0 + n) (branch_size (item_of program at.0).kind of.1);
       });
 }
 
@@ -56,29 +56,29 @@ one_size gate is.Branch false whole is = rw is (omega arith)
 one_size gate other false whole is = rw is refl
 
 -- where the branches that are not long have a word less, each part has its gate word's and its unit's size
-sizes_from : (classes : List (List ℕ)) (long : List Bool) (whole : ℕ → Bool) (k : ℕ) (items : List Item) →
+sizes_from : (sides : List Side) (long : List Bool) (whole : ℕ → Bool) (k : ℕ) (items : List Item) →
     ((i : ℕ) → i < length items → whole (k + i) ≡ (is_long long (k + i) || not (is_branch (get_or items i no_item).kind))) →
-    sizes_where whole k (part_sizes classes [] k items) ≡ part_sizes classes long k items
+    sizes_where whole k (part_sizes sides [] k items) ≡ part_sizes sides long k items
 unfolding part_sizes sizes_where
-sizes_from classes long whole k [] are = refl
-sizes_from classes long whole k (item ∷ items) are =
+sizes_from sides long whole k [] are = refl
+sizes_from sides long whole k (item ∷ items) are =
     let start : k + 0 ≡ k = omega arith in
-    let here = one_size (gate_size classes k) item.kind (is_long long k) (whole k) (rw start at (are 0 (omega arith))) in
+    let here = one_size (lead_size sides k) item.kind (is_long long k) (whole k) (rw start at (are 0 (omega arith))) in
     let later : (i : ℕ) → i < length items → whole (k + 1 + i) ≡ (is_long long (k + 1 + i) || not (is_branch (get_or items i no_item).kind)) =
     λ i lt. let e : k + 1 + i ≡ k + suc i = omega arith in rw e (are (suc i) (omega arith)) in
-    let rest = sizes_from classes long whole (k + 1) items later in
-    ap (λ (n : ℕ). n ∷ sizes_where whole (k + 1) (part_sizes classes [] (k + 1) items)) here
-    ∙ ap (λ (xs : List ℕ). (gate_size classes k + size_of item.kind (is_long long k)) ∷ xs) rest
+    let rest = sizes_from sides long whole (k + 1) items later in
+    ap (λ (n : ℕ). n ∷ sizes_where whole (k + 1) (part_sizes sides [] (k + 1) items)) here
+    ∙ ap (λ (xs : List ℕ). (lead_size sides k + size_of item.kind (is_long long k)) ∷ xs) rest
 
 pub sizes_are : (program : Program) (closed : ClosedGraph) (long : List Bool) → IsSound program →
-    sizes_under (is_long long) (shorts_of program closed) (whole_sizes program closed) ≡ part_sizes closed.classes long 0 program.items
+    sizes_under (is_long long) (shorts_of program closed) (whole_sizes program closed) ≡ part_sizes closed.sides long 0 program.items
 sizes_are program closed long sound =
-    sizes_from closed.classes long (is_whole (shorts_of program closed) (is_long long)) 0 program.items (λ i lt.
+    sizes_from closed.sides long (is_whole (shorts_of program closed) (is_long long)) 0 program.items (λ i lt.
     let start : 0 + i ≡ i = omega arith in
     rw start (ap (λ (b : Bool). is_long long i || not b) (parts_are program closed i sound lt)))
 
 pub starts_are : (program : Program) (closed : ClosedGraph) (long : List Bool) → IsSound program →
-    starts_under (is_long long) (shorts_of program closed) (whole_sizes program closed) ≡ starts_from UNITS_START (part_sizes closed.classes long 0 program.items)
+    starts_under (is_long long) (shorts_of program closed) (whole_sizes program closed) ≡ starts_from UNITS_START (part_sizes closed.sides long 0 program.items)
 starts_are program closed long sound = ap (starts_from UNITS_START) (sizes_are program closed long sound)
 
 negated : (b : Bool) → not b ≡ false → b ≡ true
@@ -90,10 +90,10 @@ pub branch_reaches : (program : Program) (closed : ClosedGraph) (long : List Boo
     HoldsAllForced (shorts_of program closed) (whole_sizes program closed) (is_long long) →
     (entry k target : ℕ) → k < count program → is_branch (item_of program k).kind ≡ true → is_long long k ≡ false →
     (item_of program k).target ≡ Some target →
-    IsShortAt (program_at program closed (take (count program) (starts_from UNITS_START (part_sizes closed.classes long 0 program.items))) entry) k target
+    IsShortAt (program_at program closed (take (count program) (starts_from UNITS_START (part_sizes closed.sides long 0 program.items))) entry) k target
 branch_reaches program closed long sound set entry k target lt yes_branch short aim =
     let shorts = shorts_of program closed in
-    let starts = starts_from UNITS_START (part_sizes closed.classes long 0 program.items) in
+    let starts = starts_from UNITS_START (part_sizes closed.sides long 0 program.items) in
     let b = short_to program closed k target in
     let has = branch_listed program closed (count program) k target lt yes_branch aim in
     let at : slice_get shorts has.0 ≡ Some b = slice_get-get_or shorts has.0 b has.1 ∙ ap (λ (x : Short). Some x) has.2 in

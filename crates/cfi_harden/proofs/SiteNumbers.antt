@@ -1,15 +1,16 @@
 -- The numbers of sites' classes, from the last site to the first.
-use Rattle.std.proofs.Common.{◌≡◌, ℕ, zero, suc, ◌+◌, ◌<◌, ◌≤◌, false, Option, Some, None, List, [], ◌∷◌, refl, inl, inr, length, length-append, drop, arith, ap, ◌∙◌, sym, subst, ◌-◌, true}
-use Rattle.std.specs.Prelude.{slice_get, slice_index, unwrap_or, is_some}
+use Rattle.std.proofs.Common.{◌≡◌, ℕ, zero, suc, ◌+◌, ◌<◌, ◌≤◌, Bool, false, Option, Some, None, List, [], ◌∷◌, refl, inl, inr, length, length-append, drop, arith, ap, ◌∙◌, sym, subst, ◌-◌, true}
+use Rattle.std.specs.List.{list_any}
+use Rattle.std.specs.Prelude.{◌==◌, if◌then◌else◌, slice_get, slice_index, unwrap_or, is_some}
 use Rattle.std.proofs.Math.ListN.{drop_of_length-le, length-replicate, replicate}
 use Rattle.std.proofs.lemmas.Option.{get_or_from_slice_get, slice_get_within}
 use Rattle.std.proofs.Math.ListN.{set, get_or-eq_default}
 use Rattle.std.proofs.Math.Seq.{drop-cons}
-use Rattle.std.proofs.lemmas.Bool.{cases_eq, eq-eqb, ne_eqb}
+use Rattle.std.proofs.lemmas.Bool.{cases_Bool, cases_eq, eq-eqb, ne_eqb, or_parts}
 use Rattle.std.proofs.lemmas.List.{get_or-replicate, get_or-set_same, get_or-set_other, get_or_past}
 use Rattle.std.proofs.lemmas.Bool.{cases_lt}
 use Rattle.cfi_flow.specs.declared.closed.Site.{Site}
-use Rattle.cfi_flow.specs.Closed.{ClosedGraph, IsInside}
+use Rattle.cfi_flow.specs.Closed.{ClosedGraph, IsInside, Side, first_side, has_site, no_side}
 use Rattle.cfi_flow.specs.LabelOf.{all_classes, site_label, empty_classes, number, next_after, site_number, with_empty}
 
 -- where so many labels belong to what comes before some sites, and the others to these
@@ -106,16 +107,49 @@ one_left labels table sites i next site numbered is some none room =
     let all = numbered.next_is in
     omega (arith, empty_first site.class (empty_classes (drop i sites)) none)
 
-pub ended : (labels table : List ℕ) (closed : ClosedGraph) (next : ℕ) → IsNumbered labels closed.sites next table
-    → length labels ≡ length (all_classes closed) → (k : ℕ) → slice_index table k ≡ site_label labels closed k
-ended labels table closed next numbered all k =
-    let is = numbered.next_is in
-    let whole = length-append closed.classes (empty_classes closed.sites) in
-    let first : next ≡ length closed.classes = omega arith in
-    numbered.each k ∙ ap (λ n. slice_index labels (site_number closed.sites n k)) first
+-- where no site is, the number is beyond all labels
+no_site : (sites : List Site) (next k : ℕ) → list_any (λ (s : Site). s.place == k) sites ≡ false → site_number sites next k ≡ next + length (empty_classes sites)
+unfolding site_number empty_classes
+no_site [] next k none = omega arith
+no_site (site ∷ sites) next k none =
+    let both = or_parts (site.place == k) (list_any (λ (s : Site). s.place == k) sites) none in
+    rw both.0 (no_site sites (next_after site.class next) k both.1 ∙ counted_on site.class (empty_classes sites) next)
+  where
+    counted_on : (class : Option ℕ) (rest : List (List ℕ)) (next : ℕ) → next_after class next + length rest ≡ next + length (with_empty class rest)
+    counted_on None rest next = omega arith
+    counted_on (Some c) rest next = refl
 
-pub site_there : (closed : ClosedGraph) (k : ℕ) (site : Site) → IsInside closed → slice_get closed.sites k ≡ Some site
-    → site.place < length closed.taken
-site_there closed k site inside is =
-    let there = inside.sites k site (slice_get_within closed.sites k site is) in
-    subst (λ (s : Site). s.place < length closed.taken) (get_or_from_slice_get closed.sites k site site is) there
+label_one : (labels : List ℕ) (side : Side) (k : ℕ) → length labels ≡ length (all_classes side) →
+    slice_index labels (site_number side.sites (length side.classes) k) ≡ site_label labels (side ∷ []) k
+unfolding site_label
+label_one labels side k all =
+    elim (cases_Bool (has_site k side)) [
+      | inl here ↦
+          sym (ap (λ (b : Bool). if b then slice_index labels (site_number side.sites (length side.classes) k) else 0) here)
+      | inr other ↦
+          let whole = length-append side.classes (empty_classes side.sites) in
+          let past = no_site side.sites (length side.classes) k other in
+          get_or_past labels (site_number side.sites (length side.classes) k) 0 (omega arith)
+          ∙ sym (ap (λ (b : Bool). if b then slice_index labels (site_number side.sites (length side.classes) k) else 0) other)
+    ]
+
+pub site_one : (labels : List ℕ) (closed : ClosedGraph) (k : ℕ) → closed.sides ≡ first_side closed ∷ [] → length labels ≡ length (all_classes (first_side closed)) →
+    slice_index labels (site_number (first_side closed).sites (length (first_side closed).classes) k) ≡ site_label labels closed.sides k
+site_one labels closed k one all = label_one labels (first_side closed) k all ∙ sym (ap (λ (sides : List Side). site_label labels sides k) one)
+
+pub ended : (labels table : List ℕ) (closed : ClosedGraph) (next : ℕ) → closed.sides ≡ first_side closed ∷ []
+    → IsNumbered labels (first_side closed).sites next table
+    → length labels ≡ length (all_classes (first_side closed)) → (k : ℕ) → slice_index table k ≡ site_label labels closed.sides k
+ended labels table closed next one numbered all k =
+    let side = first_side closed in
+    let is = numbered.next_is in
+    let whole = length-append side.classes (empty_classes side.sites) in
+    let first : next ≡ length side.classes = omega arith in
+    numbered.each k ∙ ap (λ n. slice_index labels (site_number side.sites n k)) first ∙ site_one labels closed k one all
+
+pub site_there : (closed : ClosedGraph) (k : ℕ) (site : Site) → closed.sides ≡ first_side closed ∷ [] → IsInside closed
+    → slice_get (first_side closed).sites k ≡ Some site → site.place < length closed.taken
+site_there closed k site one inside is =
+    let many : 0 < length closed.sides = let all = ap length one in omega arith in
+    let there = inside.sites 0 no_side many k site (slice_get_within (first_side closed).sites k site is) in
+    subst (λ (s : Site). s.place < length closed.taken) (get_or_from_slice_get (first_side closed).sites k site site is) there

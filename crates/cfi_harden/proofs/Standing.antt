@@ -1,6 +1,6 @@
--- What is accepted, place by place: the instruction of each is of its kind and in range, its unit stands at its word and its gate
--- word at its gate, nothing else stands in the code, and all of it lies in the region of code.
-use Rattle.std.proofs.Common.{◌≡◌, ℕ, suc, ◌+◌, ◌*◌, ◌%◌, ◌≤◌, ◌<◌, inl, inr, true, false, length, length-append, Option, Some, None, sym, ap, subst, ◌∙◌, arith, unwrap_or}
+-- What is accepted, place by place: the instruction of each is of its kind and in range, its unit stands at its word and the words
+-- before that at its gate, nothing else stands in the code, and all of it lies in the region of code.
+use Rattle.std.proofs.Common.{◌≡◌, ℕ, suc, ◌+◌, ◌*◌, ◌%◌, ◌≤◌, ◌<◌, inl, inr, true, false, List, [], length, Option, Some, None, sym, ap, subst, ◌∙◌, arith, unwrap_or}
 use Rattle.std.specs.Prelude.{◌&&◌, not, is_some, slice_get}
 use Rattle.std.proofs.lemmas.Bool.{and_from, cases_Bool, not_from_false, or_left, or_right}
 use Rattle.std.proofs.lemmas.Option.{get_or_from_slice_get, slice_get-get_or, slice_get_within}
@@ -15,20 +15,18 @@ use Rattle.obj_program.specs.AtMap.{instr_at}
 use Rattle.obj_program.specs.Program.{count, is_end, item_of, no_item}
 use Rattle.obj_program.specs.Suits.{names_reserved, suits}
 use Rattle.obj_program.proofs.Kept.{kept}
-use Rattle.cfi_flow.specs.GraphAtMap.{gate, word}
-use Rattle.cfi_flow.specs.LabelOf.{empty_classes}
-use Rattle.cfi_flow.specs.Placement.{is_long, size_of, words_from}
+use Rattle.cfi_flow.specs.GraphAtMap.{gate, word, words_at}
+use Rattle.cfi_flow.specs.Placement.{is_long, size_of}
 use Rattle.cfi_unit.specs.declared.unit.Unit as U
-use Rattle.cfi_unit.specs.declared.unit.Unit.TheVariants as V
 use Rattle.cfi_unit.specs.UnitWords.{word_count}
 use Rattle.cfi_verify.specs.Sound.{StartsIn}
 use Rattle.cfi_verify.specs.Split.{unit_in}
 use Rattle.cfi_unit.proofs.Counts.{some_word}
 use Rattle.cfi_verify.proofs.UnitIn.{length-placed_code, lies}
 use Rattle.cfi_harden.specs.Accepted.{IsAccepted}
-use Rattle.cfi_harden.specs.Units.{Choice, entry_gate, instr_of, unit_for, units}
+use Rattle.cfi_harden.specs.Units.{Choice, entry_gate, instr_of, lead, lead_unit, unit_for, units}
 use Rattle.cfi_harden.proofs.InstrAt.{instr_there}
-use Rattle.cfi_harden.proofs.Runs.{IsUnit, Run, found_at, gate_bytes, gate_labelled, gate_stands, label_of, legal_run, next_gate, run_rises, stands_at}
+use Rattle.cfi_harden.proofs.Runs.{IsUnit, Run, found_at, lead_bytes, lead_cases, lead_sized, lead_stands, legal_run, next_gate, run_rises, stands_at}
 use Rattle.cfi_harden.proofs.UnitOf.{is_right, unit_size}
 
 -- where a unit of the code may lie, the first of which stands at an address
@@ -37,7 +35,7 @@ pub record IsIn (first a : ℕ) (u : U.Unit) : Type 0 where
   pub to : a + 4 * word_count u ≤ CODE_START + CODE_SIZE
   pub round : a % 4 ≡ 0
 
--- a place of the program whose gate word or unit stands at an address
+-- a place of the program whose unit, or a word before it, stands at an address
 pub record Place (m : Choice) (a : ℕ) (u : U.Unit) : Type 0 where
   pub index : ℕ
   pub below : index < count m.layout.program
@@ -52,13 +50,13 @@ module _ (m : Choice) (ok : IsAccepted m) where
   laid = laid_out m.layout.profile ok.profile
 
   pub instr_in_range : (k : ℕ) → k < count m.layout.program → IsInstr (instr_of m k)
-  instr_in_range k below = instr_there m.layout.program m.layout.gates (words_from m.layout.closed.classes 0 m.layout.gates) k I.Ebreak (ok.words k below) tt
+  instr_in_range k below = instr_there m.layout.program m.layout.gates (words_at m.layout) k I.Ebreak (ok.words k below) tt
 
   -- the instruction that has a value is the one at the map
   pub instr_is : (k : ℕ) → k < count m.layout.program → is_end (item_of m.layout.program k).kind ≡ false →
-      instr_at m.layout.program m.layout.gates (words_from m.layout.closed.classes 0 m.layout.gates) k ≡ Some (instr_of m k)
+      instr_at m.layout.program m.layout.gates (words_at m.layout) k ≡ Some (instr_of m k)
   instr_is k below some =
-      elim (cases_Option (instr_at m.layout.program m.layout.gates (words_from m.layout.closed.classes 0 m.layout.gates) k)) [
+      elim (cases_Option (instr_at m.layout.program m.layout.gates (words_at m.layout) k)) [
         | inl none ↦ let wrong : false ≡ true = ap is_some (sym none) ∙ ok.values k below some in absurd (cc)
         | inr (j, e) ↦ e ∙ ap Some (sym (ap (λ (o : Option Instr). unwrap_or o I.Ebreak) e))
       ]
@@ -68,16 +66,10 @@ module _ (m : Choice) (ok : IsAccepted m) where
       elim (cases_Bool (is_end (item_of m.layout.program k).kind)) [
         | inl last ↦ or_left (is_end (item_of m.layout.program k).kind) (suits (item_of m.layout.program k).kind (instr_of m k) && not (names_reserved (instr_of m k))) last
         | inr some ↦
-            let is = kept m.layout.program m.layout.gates (words_from m.layout.closed.classes 0 m.layout.gates) k (instr_of m k) ok.sound below some (instr_is k below some) in
+            let is = kept m.layout.program m.layout.gates (words_at m.layout) k (instr_of m k) ok.sound below some (instr_is k below some) in
             or_right (is_end (item_of m.layout.program k).kind) (suits (item_of m.layout.program k).kind (instr_of m k) && not (names_reserved (instr_of m k)))
             (and_from (suits (item_of m.layout.program k).kind (instr_of m k)) (not (names_reserved (instr_of m k))) is.0 (not_from_false (names_reserved (instr_of m k)) is.1))
       ]
-
-  pub labels_suffice : length m.layout.closed.classes ≤ length m.labels
-  labels_suffice =
-      let all = length-append m.layout.closed.classes (empty_classes m.layout.closed.sites) in
-      let counted = ok.counted in
-      omega arith
 
   item_there : (k : ℕ) → k < count m.layout.program → slice_get m.layout.program.items k ≡ Some (item_of m.layout.program k)
   item_there k below = slice_get-get_or m.layout.program.items k no_item below
@@ -93,7 +85,7 @@ module _ (m : Choice) (ok : IsAccepted m) where
 
   pub the_run : Run m 0 m.layout.profile.units_from m.layout.program.items
   the_run =
-      legal_run m 0 m.layout.profile.units_from m.layout.program.items m.layout.gates labels_suffice (λ i. ap (gate m.layout) (sym (no_more i)))
+      legal_run m 0 m.layout.profile.units_from m.layout.program.items m.layout.gates (λ i. ap (gate m.layout) (sym (no_more i)))
       (λ i item get. subst (λ (n : ℕ). size_of item.kind (is_long m.long n) ≡ 4 * word_count (unit_for m n item)) (no_more i) (size_right i item get)) ok.legal
 
   pub unit_there : (k : ℕ) → k < count m.layout.program →
@@ -102,28 +94,31 @@ module _ (m : Choice) (ok : IsAccepted m) where
       subst (λ (n : ℕ). unit_in (units m) m.layout.profile.units_from (word m.layout n) ≡ Some (unit_for m n (item_of m.layout.program k))) (sym (no_more k))
       (stands_at m 0 m.layout.profile.units_from m.layout.program.items k (item_of m.layout.program k) the_run (item_there k below))
 
-  pub gate_there : (k label : ℕ) → k < count m.layout.program → label_of m k ≡ Some label →
-      unit_in (units m) m.layout.profile.units_from (gate m.layout k) ≡ Some (V.Gate label)
-  gate_there k label below some =
-      ap (λ (n : ℕ). unit_in (units m) m.layout.profile.units_from (gate m.layout n)) (no_more k)
-      ∙ gate_stands m 0 m.layout.profile.units_from m.layout.program.items k (item_of m.layout.program k) label the_run (item_there k below) (ap (label_of m) (sym (no_more k)) ∙ some)
+  pub lead_there : (k j : ℕ) (u : U.Unit) → k < count m.layout.program → slice_get (lead m k) j ≡ Some u →
+      unit_in (units m) m.layout.profile.units_from (gate m.layout k + 4 * j) ≡ Some u
+  lead_there k j u below some =
+      ap (λ (n : ℕ). unit_in (units m) m.layout.profile.units_from (gate m.layout n + 4 * j)) (no_more k)
+      ∙ lead_stands m 0 m.layout.profile.units_from m.layout.program.items k j (item_of m.layout.program k) u the_run (item_there k below)
+      (ap (λ (n : ℕ). slice_get (lead m n) j) (sym (no_more k)) ∙ some)
 
-  pub word_is : (k : ℕ) → word m.layout k ≡ gate m.layout k + gate_bytes (label_of m k)
-  word_is k = ap (λ n. gate m.layout k + n) (gate_labelled m.labels m.layout.closed.classes k labels_suffice)
+  pub word_is : (k : ℕ) → word m.layout k ≡ gate m.layout k + lead_bytes m k
+  word_is k = ap (λ n. gate m.layout k + n) (lead_sized m k)
 
-  -- where a place has no gate word, its unit stands at its gate
-  pub at_gate : (k : ℕ) → label_of m k ≡ None → word m.layout k ≡ gate m.layout k
+  -- where no words are before a place's unit, it stands at its gate
+  pub at_gate : (k : ℕ) → lead m k ≡ [] → word m.layout k ≡ gate m.layout k
   at_gate k none =
-      let bytes : gate_bytes (label_of m k) ≡ 0 = ap gate_bytes none in
+      let bytes : lead_bytes m k ≡ 0 = ap (λ (us : List U.Unit). 4 * length us) none in
       let behind = word_is k in
       omega arith
 
   -- a unit starts at each gate
   pub gate_starts : (k : ℕ) → k < count m.layout.program → (u : U.Unit) × (unit_in (units m) m.layout.profile.units_from (gate m.layout k) ≡ Some u)
   gate_starts k below =
-      elim (cases_Option (label_of m k)) [
-        | inl none ↦ (unit_for m k (item_of m.layout.program k), ap (unit_in (units m) m.layout.profile.units_from) (sym (at_gate k none)) ∙ unit_there k below)
-        | inr (label, some) ↦ (V.Gate label, gate_there k label below some)
+      elim (lead_cases m k) [
+        | inl (none, other) ↦ (unit_for m k (item_of m.layout.program k), ap (unit_in (units m) m.layout.profile.units_from) (sym (at_gate k none)) ∙ unit_there k below)
+        | inr (o, some) ↦
+            let first : gate m.layout k ≡ gate m.layout k + 4 * 0 = omega arith in
+            (lead_unit o, ap (unit_in (units m) m.layout.profile.units_from) first ∙ lead_there k 0 (lead_unit o) below some)
       ]
 
   pub starts : (k : ℕ) → k < count m.layout.program → StartsIn m.layout.profile (units m) (gate m.layout k)

@@ -6,6 +6,7 @@ use Rattle.obj_program.specs.declared.item.Patch.TheVariants as put
 use Rattle.cfi_unit.specs.Prologue.{closing_instrs, prologue_instrs}
 use Rattle.cfi_unit.specs.UnitWords.{instrs_of}
 use Rattle.cfi_unit.specs.declared.unit.Unit.TheVariants as V
+use Rattle.cfi_graph.specs.declared.line.Sort.TheVariants.{Both}
 use Rattle.cfi_flow.specs.GraphAtMap.{ProgramAtMap}
 use Rattle.cfi_harden.specs.MapLines.{lines_from, map_lines}
 use Rattle.cfi_harden.specs.Prologue.{before_call}
@@ -28,7 +29,7 @@ row_items = record {
     funcs = [];
     names = [];
   };
-  closed = record { classes = []; sites = []; taken = false ∷ false ∷ [] };
+  closed = record { sides = record { sort = Both; classes = []; sites = [] } ∷ []; taken = false ∷ false ∷ [] };
   gates = 0x40000040 ∷ 0x40000054 ∷ [];
   entry = 0;
 }

@@ -1,8 +1,8 @@
 -- What is written: its lines are those of its units, it is a graph's and well formed with it, and its units stand in its words.
-use Rattle.std.proofs.Common.{◌≡◌, ℕ, suc, ◌+◌, ◌*◌, ◌%◌, ◌^◌, ◌<◌, ◌==◌, true, List, [], ◌∷◌, ◌++◌, length, Option, Some, None, refl, sym, ap, subst, ◌∙◌, arith}
-use Rattle.std.specs.Prelude.{◌&&◌, nat_le, nat_lt, slice_get, slice_index}
+use Rattle.std.proofs.Common.{◌≡◌, ℕ, suc, ◌+◌, ◌*◌, ◌%◌, ◌^◌, ◌<◌, ◌==◌, inl, inr, Bool, true, List, [], ◌∷◌, ◌++◌, length, map, Option, Some, None, refl, sym, ap, subst, ◌∙◌, arith}
+use Rattle.std.specs.Prelude.{◌&&◌, if◌then◌else◌, nat_le, nat_lt, slice_get, slice_index}
 use Rattle.std.specs.List.Sorted.{IsStrictlyIncreasing}
-use Rattle.std.proofs.lemmas.Bool.{and_from, eq-eqb, le-leb, lt-ltb, or_left}
+use Rattle.std.proofs.lemmas.Bool.{and_from, cases_Bool, eq-eqb, le-leb, lt-ltb, or_left}
 use Rattle.std.proofs.lemmas.Option.{get_or_from_slice_get, slice_get_within}
 use Rattle.rv_word.specs.MemoryMap.{CODE_SIZE, CODE_START, START}
 use Rattle.obj_program.specs.declared.item.Item.{Item}
@@ -10,10 +10,10 @@ use Rattle.obj_program.specs.Program.{count, item_of, no_item}
 use Rattle.cfi_graph.specs.Graph.{IsGraph, is_code_address, is_code_length, is_label}
 use Rattle.cfi_graph.specs.declared.line.GraphLine.{GraphLine}
 use Rattle.cfi_graph.specs.declared.line.GraphLine.TheVariants.{Call}
-use Rattle.cfi_flow.specs.Closed.{has}
+use Rattle.cfi_flow.specs.Closed.{Side, has}
 use Rattle.cfi_flow.specs.GraphAtMap.{gate, gate_to, graph_lines, line_for, place_lines, word}
-use Rattle.cfi_flow.specs.LabelOf.{all_classes, site_label}
-use Rattle.cfi_flow.specs.Placement.{is_long}
+use Rattle.cfi_flow.specs.LabelOf.{Tagged, all_classes, labels_of, site_label, tagged}
+use Rattle.cfi_flow.specs.Placement.{is_long, is_target}
 use Rattle.cfi_unit.specs.declared.unit.Unit as U
 use Rattle.cfi_unit.specs.UnitWords.{word_count}
 use Rattle.cfi_verify.specs.Placed.{line_of, lines_from, with_line}
@@ -24,20 +24,39 @@ use Rattle.cfi_unit.proofs.Counts.{some_word}
 use Rattle.cfi_verify.proofs.UnitIn.{length-placed_code, lies}
 use Rattle.cfi_harden.specs.Accepted.{IsAccepted}
 use Rattle.cfi_harden.specs.Laws.{WrittenEntry, WrittenIsGraph, WrittenIsWellFormed, WrittenLines, WrittenUnits, written_classes, written_code}
-use Rattle.cfi_harden.specs.Units.{Choice, entry_gate, instr_of, unit_for, units, units_from, with_gate}
+use Rattle.cfi_harden.specs.Units.{Choice, entry_gate, instr_of, lead, lead_unit, unit_for, units, units_from}
 use Rattle.cfi_harden.proofs.ClassLines.{lines_order, lines_range, lines_targets}
 use Rattle.cfi_harden.proofs.Leading.{label_small, units_ahead, units_fit}
-use Rattle.cfi_harden.proofs.Runs.{Run, gate_bytes, label_of}
-use Rattle.cfi_harden.proofs.SoundCode.{in_classes, member_there, written_sound}
-use Rattle.cfi_harden.proofs.Standing.{gate_starts, gate_there, gates_rise, laid, right, the_run, unit_there}
+use Rattle.cfi_harden.proofs.Runs.{Run, lead_bytes}
+use Rattle.cfi_harden.proofs.SideLabels.{in_classes, in_side}
+use Rattle.cfi_harden.proofs.SoundCode.{member_there, written_sound}
+use Rattle.cfi_harden.proofs.Standing.{gate_starts, gates_rise, laid, lead_there, right, the_run, unit_there}
 use Rattle.cfi_harden.proofs.UnitOf.{is_right, unit_line}
 
--- a gate word has no line
-lines_gated : (o : Option ℕ) (u : U.Unit) (us : List U.Unit) (at : ℕ) →
-    lines_from at (with_gate o (u ∷ us)) ≡ with_line (line_of (at + gate_bytes o) u) (lines_from (at + gate_bytes o + 4 * word_count u) us)
+-- a word before a unit has no line
+lines_led : (os : List (Option ℕ)) (us : List U.Unit) (at : ℕ) → lines_from at (map lead_unit os ++ us) ≡ lines_from (at + 4 * length (map lead_unit os)) us
 unfolding lines_from
-lines_gated None u us at = let same : at + 0 ≡ at = omega arith in rw same refl
-lines_gated (Some label) u us at = refl
+lines_led [] us at = let same : at ≡ at + 4 * 0 = omega arith in ap (λ (b : ℕ). lines_from b us) same
+lines_led (None ∷ os) us at =
+    let same : at + 4 + 4 * length (map lead_unit os) ≡ at + 4 * length (map lead_unit (None ∷ os)) = omega arith in
+    lines_led os us (at + 4) ∙ ap (λ (b : ℕ). lines_from b us) same
+lines_led (Some label ∷ os) us at =
+    let same : at + 4 + 4 * length (map lead_unit os) ≡ at + 4 * length (map lead_unit (Some label ∷ os)) = omega arith in
+    lines_led os us (at + 4) ∙ ap (λ (b : ℕ). lines_from b us) same
+
+lines_behind : (m : Choice) (k at : ℕ) (us : List U.Unit) → lines_from at (lead m k ++ us) ≡ lines_from (at + lead_bytes m k) us
+lines_behind m k at us =
+    elim (cases_Bool (is_target m.layout.closed.sides k)) [
+      | inl target ↦
+          ap (λ (b : Bool). lines_from at ((if b then map lead_unit (labels_of m.labels m.layout.closed.sides k) else []) ++ us)) target
+          ∙ lines_led (labels_of m.labels m.layout.closed.sides k) us at
+          ∙ ap (λ (b : Bool). lines_from (at + 4 * length (if b then map lead_unit (labels_of m.labels m.layout.closed.sides k) else [])) us) (sym target)
+      | inr other ↦
+          let same : at ≡ at + 4 * 0 = omega arith in
+          ap (λ (b : Bool). lines_from at ((if b then map lead_unit (labels_of m.labels m.layout.closed.sides k) else []) ++ us)) other
+          ∙ ap (λ (b : ℕ). lines_from b us) same
+          ∙ ap (λ (b : Bool). lines_from (at + 4 * length (if b then map lead_unit (labels_of m.labels m.layout.closed.sides k) else [])) us) (sym other)
+    ]
 
 run_lines : (m : Choice) (k at : ℕ) (items : List Item) → Run m k at items →
     ((i : ℕ) (item : Item) → slice_get items i ≡ Some item → is_right item.kind (instr_of m (k + i)) ≡ true) →
@@ -48,12 +67,12 @@ run_lines m k at (item ∷ items) run right =
     let first : k + 0 ≡ k = omega arith in
     let next : (i : ℕ) → k + 1 + i ≡ k + suc i = λ i. omega arith in
     let here : is_right item.kind (instr_of m k) ≡ true = ap (λ n. is_right item.kind (instr_of m n)) (sym first) ∙ right 0 item refl in
-    let line : line_of (at + gate_bytes (label_of m k)) (unit_for m k item) ≡ line_for m.layout m.labels k item =
+    let line : line_of (at + lead_bytes m k) (unit_for m k item) ≡ line_for m.layout m.labels k item =
     ap (λ a. line_of a (unit_for m k item)) (sym run.1)
-    ∙ unit_line item.kind (instr_of m k) (is_long m.long k) (word m.layout k) (gate_to m.layout item.target) (site_label m.labels m.layout.closed k) here in
-    let rest = run_lines m (k + 1) (at + gate_bytes (label_of m k) + 4 * word_count (unit_for m k item)) items run.2
+    ∙ unit_line item.kind (instr_of m k) (is_long m.long k) (word m.layout k) (gate_to m.layout item.target) (site_label m.labels m.layout.closed.sides k) here in
+    let rest = run_lines m (k + 1) (at + lead_bytes m k + 4 * word_count (unit_for m k item)) items run.2
     (λ i one get. ap (λ n. is_right one.kind (instr_of m n)) (next i) ∙ right (suc i) one get) in
-    lines_gated (label_of m k) (unit_for m k item) (units_from m (k + 1) items) at ∙ rw (line, rest) refl
+    lines_behind m k at (unit_for m k item ∷ units_from m (k + 1) items) ∙ rw (line, rest) refl
 
 module _ (m : Choice) (ok : IsAccepted m) where
   right_there : (i : ℕ) (item : Item) → slice_get m.layout.program.items i ≡ Some item → is_right item.kind (instr_of m (0 + i)) ≡ true
@@ -88,9 +107,9 @@ module _ (m : Choice) (ok : IsAccepted m) where
       let one = (ok.labels j below).from_one in
       and_from (nat_lt 0 label) (nat_lt label (2 ^ 20)) (lt-ltb 0 label (omega arith)) (lt-ltb label (2 ^ 20) (subst (λ (n : ℕ). n < 2 ^ 20) same small))
 
-  gate_right : (j k : ℕ) (class : List ℕ) → slice_get (all_classes m.layout.closed) j ≡ Some class → has k class ≡ true → is_code_address size (gate m.layout k) ≡ true
-  gate_right j k class get there =
-      let (u, e) = gate_starts m ok k (member_there m ok j k class get there) in
+  gate_right : (j k : ℕ) (t : Tagged) → slice_get (tagged m.layout.closed.sides) j ≡ Some t → has k t.class ≡ true → is_code_address size (gate m.layout k) ≡ true
+  gate_right j k t get there =
+      let (u, e) = gate_starts m ok k (member_there m ok j k t get there) in
       let at = lies (units m) m.layout.profile.units_from (gate m.layout k) u e in
       let from = at.from in
       let to = at.to in
@@ -103,21 +122,24 @@ module _ (m : Choice) (ok : IsAccepted m) where
       (and_from (gate m.layout k % 4 == 0) (nat_le CODE_START (gate m.layout k)) (eq-eqb (gate m.layout k % 4) 0 (omega arith)) (le-leb CODE_START (gate m.layout k) (omega arith)))
       (lt-ltb (gate m.layout k) (CODE_START + size) (omega arith))
 
-  class_rises : (class : List ℕ) (j : ℕ) → slice_get (all_classes m.layout.closed) j ≡ Some class → IsStrictlyIncreasing class
-  class_rises [] j get = λ k inside. absurd (omega arith)
-  class_rises (x ∷ class) j get =
-      let first = in_classes m.layout.closed.classes m.layout.closed.sites j x (x ∷ class) get (or_left (x == x) (has x class) (eq-eqb x x refl)) in
-      subst IsStrictlyIncreasing (get_or_from_slice_get m.layout.closed.classes j (x ∷ class) [] first)
-      (ok.rising j [] (slice_get_within m.layout.closed.classes j (x ∷ class) first))
+  all_rise : (side : Side) (j : ℕ) (i : ℕ) (class : List ℕ) → slice_get m.layout.closed.sides j ≡ Some side → slice_get (all_classes side) i ≡ Some class → IsStrictlyIncreasing class
+  all_rise side j i [] there get = λ k inside. absurd (omega arith)
+  all_rise side j i (x ∷ class) there get =
+      let first = in_classes side.classes side.sites i x (x ∷ class) get (or_left (x == x) (has x class) (eq-eqb x x refl)) in
+      subst IsStrictlyIncreasing (get_or_from_slice_get side.classes i (x ∷ class) [] first)
+      (ok.rising j side there i [] (slice_get_within side.classes i (x ∷ class) first))
+
+  class_rises : (j : ℕ) (t : Tagged) → slice_get (tagged m.layout.closed.sides) j ≡ Some t → IsStrictlyIncreasing t.class
+  class_rises j t get = let of = in_side m.layout.closed.sides j t get in all_rise of.side of.index of.number t.class of.there of.class_is
 
   class_graph : IsGraph (record { code = size; lines = written_classes m })
   class_graph = record {
     length = length_right;
-    range = lines_range size m.layout.gates m.labels (all_classes m.layout.closed) label_right gate_right;
+    range = lines_range size m.layout.gates m.labels (tagged m.layout.closed.sides) label_right gate_right;
     targets =
-        lines_targets m.layout.gates m.labels (count m.layout.program) (all_classes m.layout.closed) (λ j class get. class_rises class j get)
+        lines_targets m.layout.gates m.labels (count m.layout.program) (tagged m.layout.closed.sides) class_rises
         (λ j k class get there. member_there m ok j k class get there) (gates_rise m ok);
-    order = lines_order m.layout.gates m.labels (all_classes m.layout.closed) ok.labels_rise;
+    order = lines_order m.layout.gates m.labels (tagged m.layout.closed.sides) ok.labels_rise;
   }
 
   graph_is : IsGraph (record { code = size; lines = graph_lines m.layout m.labels })
@@ -140,7 +162,7 @@ written_well_formed m image graph ok words lines same_length =
 
 pub written_units : WrittenUnits
 written_units m ok k below =
-    (units_at m ok (word m.layout k) ∙ unit_there m ok k below, λ label some. units_at m ok (gate m.layout k) ∙ gate_there m ok k label below some)
+    (units_at m ok (word m.layout k) ∙ unit_there m ok k below, λ j u some. units_at m ok (gate m.layout k + 4 * j) ∙ lead_there m ok k j u below some)
 
 pub written_entry : WrittenEntry
 written_entry m ok = placed_entry m.layout.profile (entry_gate m) (units m) ok.profile (written_sound m ok).entry_reached

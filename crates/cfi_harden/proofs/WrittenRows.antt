@@ -16,8 +16,9 @@ use Rattle.obj_program.specs.AtMap.{instr_at}
 use Rattle.obj_program.specs.Program.{Program}
 use Rattle.cfi_graph.specs.declared.line.GraphLine.TheVariants.{Call, Class, Edge, Site}
 use Rattle.cfi_graph.specs.declared.line.SiteKind.TheVariants as site
+use Rattle.cfi_graph.specs.declared.line.Sort.TheVariants.{Both}
 use Rattle.cfi_flow.specs.GraphAtMap.{ProgramAtMap, class_lines, graph_lines, place_lines}
-use Rattle.cfi_flow.specs.LabelOf.{empty_classes, label_at, site_number}
+use Rattle.cfi_flow.specs.LabelOf.{empty_classes, label_at, labels_of, site_label, site_number, tagged}
 use Rattle.cfi_flow.specs.Placement.{AreGates, words_from}
 use Rattle.cfi_unit.specs.UnitWords.{words_of}
 use Rattle.cfi_verify.specs.Placed.{code_from}
@@ -43,7 +44,7 @@ abbrev layout : Profile → Program → List ℕ → ProgramAtMap
 layout profile program gates = record {
   profile = profile;
   program = program;
-  closed = record { classes = []; sites = []; taken = false ∷ false ∷ false ∷ false ∷ [] };
+  closed = record { sides = record { sort = Both; classes = []; sites = [] } ∷ []; taken = false ∷ false ∷ false ∷ false ∷ [] };
   gates = gates;
   entry = 0;
 }
@@ -75,20 +76,20 @@ long = record {
 short_rows : (length (written_code short) ≡ 24) × (slice_get (written_code short) 16 ≡ Some 0x00050463) × (slice_get (written_code short) 17 ≡ Some 0x00100513)
     × (is_kept short.layout 0 2 ≡ false)
     × (graph_lines short.layout [] ≡ Call 0x4000000c 0x40000040 ∷ Edge 0x40000040 0x40000048 ∷ [])
-unfolding units_from code_from words_of code_of instr_at decoded words_from label_at site_number class_lines place_lines empty_classes
+unfolding units_from code_from words_of code_of instr_at decoded words_from labels_of label_at site_label site_number tagged class_lines place_lines empty_classes
 short_rows = (refl, refl, refl, refl, refl)
 
 short_of_harts_rows : (length (written_code short_of_harts) ≡ 28) × (slice_get (written_code short_of_harts) 20 ≡ Some 0x00050463)
     × (slice_get (written_code short_of_harts) 21 ≡ Some 0x00100513)
     × (graph_lines short_of_harts.layout [] ≡ Call 0x4000000c 0x40000050 ∷ Edge 0x40000050 0x40000058 ∷ [])
-unfolding units_from code_from words_of code_of instr_at decoded words_from label_at site_number class_lines place_lines empty_classes
+unfolding units_from code_from words_of code_of instr_at decoded words_from labels_of label_at site_label site_number tagged class_lines place_lines empty_classes
 short_of_harts_rows = (refl, refl, refl, refl)
 
 -- the long one is `bne x10, x0, +8` and `j` to the place of `ret`
 long_rows : (length (written_code long) ≡ 25) × (slice_get (written_code long) 16 ≡ Some 0x00051463) × (slice_get (written_code long) 17 ≡ Some 0x0080006f)
     × (slice_get (written_code long) 18 ≡ Some 0x0040006f) × (is_kept long.layout 0 2 ≡ true)
     × (graph_lines long.layout [] ≡ Call 0x4000000c 0x40000040 ∷ Edge 0x40000040 0x4000004c ∷ Edge 0x40000048 0x4000004c ∷ [])
-unfolding units_from code_from words_of code_of instr_at decoded words_from label_at site_number class_lines place_lines empty_classes
+unfolding units_from code_from words_of code_of instr_at decoded words_from labels_of label_at site_label site_number tagged class_lines place_lines empty_classes
 long_rows = (refl, refl, refl, refl, refl, refl)
 
 head : List ℕ
@@ -112,7 +113,7 @@ returning = record { layout = layout version_1 seven (0x40000040 ∷ 0x40000044 
 
 returning_row : written_code returning
     ≡ head ++ 0x00700513 ∷ 0xff81bf83 ∷ 0xff818193 ∷ 0x001f8463 ∷ 0xfb5ff06f ∷ 0x000f8067 ∷ 0xfa9ff06f ∷ []
-unfolding head units_from code_from words_of code_of instr_at decoded words_from label_at site_number
+unfolding head units_from code_from words_of code_of instr_at decoded words_from labels_of label_at site_label site_number
 returning_row = refl
 
 -- the same behind the longer prologue of several harts
@@ -126,7 +127,7 @@ returning_of_harts = record { layout = layout version_2 seven (0x40000050 ∷ 0x
 
 returning_of_harts_row : written_code returning_of_harts
     ≡ head_of_harts ++ 0x00700513 ∷ 0xff81bf83 ∷ 0xff818193 ∷ 0x001f8463 ∷ 0xfa5ff06f ∷ 0x000f8067 ∷ 0xf99ff06f ∷ []
-unfolding head_of_harts units_from code_from words_of code_of instr_at decoded words_from label_at site_number
+unfolding head_of_harts units_from code_from words_of code_of instr_at decoded words_from labels_of label_at site_label site_number
 returning_of_harts_row = refl
 
 -- a function that calls one of two others through a pointer at 10000h, which a relocated LUI and load read
@@ -149,7 +150,7 @@ pointer = record {
       funcs = [];
       names = [];
     };
-    closed = record { classes = (8 ∷ 10 ∷ []) ∷ []; sites = record { place = 4; class = Some 0 } ∷ []; taken = [] };
+    closed = record { sides = record { sort = Both; classes = (8 ∷ 10 ∷ []) ∷ []; sites = record { place = 4; class = Some 0 } ∷ [] } ∷ []; taken = [] };
     gates = 0x40000040 ∷ 0x40000044 ∷ 0x40000054 ∷ 0x40000058 ∷ 0x4000005c ∷ 0x400000ac ∷ 0x400000b0 ∷ 0x400000b4 ∷ 0x400000c8 ∷ 0x400000d0 ∷ 0x400000e4 ∷ 0x400000ec ∷ 0x40000100 ∷ [];
     entry = 0;
   };
@@ -157,7 +158,7 @@ pointer = record {
   labels = 1 ∷ [];
 }
 
-pointer_gates : AreGates pointer.layout.closed.classes [] 0 UNITS_START pointer.layout.program.items pointer.layout.gates
+pointer_gates : AreGates pointer.layout.closed.sides [] 0 UNITS_START pointer.layout.program.items pointer.layout.gates
 unfolding AreGates
 pointer_gates = (refl, (refl, (refl, (refl, (refl, (refl, (refl, (refl, (refl, (refl, (refl, (refl, (refl, tt)))))))))))))
 
@@ -167,5 +168,5 @@ pointer_rows : (length (written_code pointer) ≡ 65)
     × (slice_get (written_code pointer) 31 ≡ Some 0x00001237) × (slice_get (written_code pointer) 50 ≡ Some 0x00001037)
     × (graph_lines pointer.layout pointer.labels
     ≡ Class 1 (0x400000c8 ∷ 0x400000e4 ∷ []) ∷ Call 0x4000000c 0x40000040 ∷ Site 0x4000005c site.Call 1 ∷ [])
-unfolding units_from code_from words_of code_of instr_at decoded words_from label_at site_number class_lines place_lines empty_classes
+unfolding units_from code_from words_of code_of instr_at decoded words_from labels_of label_at site_label site_number tagged class_lines place_lines empty_classes
 pointer_rows = (refl, refl, refl, refl, refl)

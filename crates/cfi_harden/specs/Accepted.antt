@@ -1,6 +1,6 @@
 -- What the layers below promise of a choice that is written: the program is sound, its gates are a placement's, classes and labels are
 -- as they are made, each value is in its range, and short branches reach.
-use Rattle.std.specs.Prelude.{◌≡◌, ℕ, ◌+◌, ◌*◌, ◌^◌, ◌≤◌, ◌<◌, ◌==◌, ◌&&◌, Bool, true, false, not, Some, is_some, length, slice_get}
+use Rattle.std.specs.Prelude.{◌≡◌, ℕ, ◌+◌, ◌*◌, ◌^◌, ◌≤◌, ◌<◌, ◌==◌, ◌&&◌, Bool, true, false, not, List, Some, is_some, length, map, slice_get}
 use Rattle.std.specs.List.{All}
 use Rattle.std.specs.List.Sorted.{IsStrictlyIncreasing}
 use Rattle.rv_word.specs.MemoryMap.{CODE_SIZE, IsProfile}
@@ -11,11 +11,13 @@ use Rattle.obj_program.specs.Program.{count, is_end, item_of}
 use Rattle.obj_program.specs.Sound.{IsSound}
 use Rattle.cfi_class.specs.Labels.{AreLabels}
 use Rattle.cfi_class.specs.Classes.{IsIn}
+use Rattle.cfi_graph.specs.declared.line.SiteKind.{SiteKind}
 use Rattle.cfi_flow.specs.declared.closed.Site.{Site}
-use Rattle.cfi_flow.specs.GraphAtMap.{ProgramAtMap, gate, word}
-use Rattle.cfi_flow.specs.LabelOf.{all_classes}
+use Rattle.cfi_flow.specs.Closed.{Side, has_site, is_of, sorts_of_sides}
+use Rattle.cfi_flow.specs.GraphAtMap.{ProgramAtMap, gate, word, words_at}
+use Rattle.cfi_flow.specs.LabelOf.{tagged}
 use Rattle.cfi_flow.specs.Labels.{used_labels}
-use Rattle.cfi_flow.specs.Placement.{AreGates, is_long, is_target, words_from}
+use Rattle.cfi_flow.specs.Placement.{AreGates, is_long, is_target}
 use Rattle.cfi_flow.specs.Sites.{site_kind}
 use Rattle.cfi_verify.specs.Placed.{placed_code}
 use Rattle.cfi_harden.specs.Units.{Choice, entry_gate, units}
@@ -33,13 +35,22 @@ is_skipped kind target = false
 -- a branch over just one such place is kept long
 abbrev pub is_kept : ProgramAtMap → ℕ → ℕ → Bool
 is_kept layout k target =
-    target == k + 2 && is_skipped (item_of layout.program (k + 1)).kind (is_target layout.closed.classes (k + 1))
+    target == k + 2 && is_skipped (item_of layout.program (k + 1)).kind (is_target layout.closed.sides (k + 1))
 
 -- a short branch reaches its target, and is not kept
 pub record IsShortAt (layout : ProgramAtMap) (k target : ℕ) : Type 0 where
   pub back : word layout k ≤ gate layout target + 4096
   pub ahead : gate layout target ≤ word layout k + 4092
   pub free : is_kept layout k target ≡ false
+
+-- one of the sides has a site at a place, and is of its sort
+pub record IsSiteOf (sides : List Side) (k : ℕ) (kind : SiteKind) : Type 0 where
+  pub index : ℕ
+  pub side : Side
+  pub there : slice_get sides index ≡ Some side
+  pub sort : is_of side.sort kind ≡ true
+  pub site : has_site k side ≡ true
+  pub alone : (i : ℕ) (other : Side) → slice_get sides i ≡ Some other → has_site k other ≡ true → i ≡ index
 
 -- what a choice is made of
 pub record IsAccepted (m : Choice) : Type 0 where
@@ -51,20 +62,22 @@ pub record IsAccepted (m : Choice) : Type 0 where
   pub last : (k : ℕ) × (count m.layout.program ≡ k + 1) × (is_end (item_of m.layout.program k).kind ≡ true)
   pub entry_there : m.layout.entry < count m.layout.program
   -- its gates are a placement's, its code has room, and each instruction has its values
-  pub legal : AreGates m.layout.closed.classes m.long 0 m.layout.profile.units_from m.layout.program.items m.layout.gates
+  pub legal : AreGates m.layout.closed.sides m.long 0 m.layout.profile.units_from m.layout.program.items m.layout.gates
   pub room : 4 * length (placed_code m.layout.profile (entry_gate m) (units m)) ≤ CODE_SIZE
   pub values : (k : ℕ) → k < count m.layout.program → is_end (item_of m.layout.program k).kind ≡ false →
-      is_some (instr_at m.layout.program m.layout.gates (words_from m.layout.closed.classes 0 m.layout.gates) k) ≡ true
-  -- the members of classes are places, rise, and are in one class alone; each computed transfer is a site, with a class that is there
-  pub members : (c k : ℕ) → IsIn m.layout.closed.classes c k → k < count m.layout.program
-  pub rising : All IsStrictlyIncreasing m.layout.closed.classes
-  pub apart : (i j k : ℕ) → IsIn m.layout.closed.classes i k → IsIn m.layout.closed.classes j k → i ≡ j
-  pub sites : (k : ℕ) → k < count m.layout.program → is_some (site_kind (item_of m.layout.program k).kind) ≡ true →
-      (i : ℕ) × (site : Site) × (slice_get m.layout.closed.sites i ≡ Some site) × (site.place ≡ k)
-  pub site_classes : (i c : ℕ) (site : Site) → slice_get m.layout.closed.sites i ≡ Some site → site.class ≡ Some c →
-      c < length m.layout.closed.classes
+      is_some (instr_at m.layout.program m.layout.gates (words_at m.layout) k) ≡ true
+  -- its closed graph has the sides that one has; of each the members of classes are places, rise, and are in one class alone, and
+  -- the classes of sites are there; each computed transfer is a site of one side, of its sort
+  pub sorts : map (λ (s : Side). s.sort) m.layout.closed.sides ≡ sorts_of_sides
+  pub members : (j c k : ℕ) (side : Side) → slice_get m.layout.closed.sides j ≡ Some side → IsIn side.classes c k → k < count m.layout.program
+  pub rising : (j : ℕ) (side : Side) → slice_get m.layout.closed.sides j ≡ Some side → All IsStrictlyIncreasing side.classes
+  pub apart : (j a b k : ℕ) (side : Side) → slice_get m.layout.closed.sides j ≡ Some side → IsIn side.classes a k → IsIn side.classes b k → a ≡ b
+  pub site_classes : (j i c : ℕ) (side : Side) (site : Site) → slice_get m.layout.closed.sides j ≡ Some side → slice_get side.sites i ≡ Some site →
+      site.class ≡ Some c → c < length side.classes
+  pub sites : (k : ℕ) (kind : SiteKind) → k < count m.layout.program → site_kind (item_of m.layout.program k).kind ≡ Some kind →
+      IsSiteOf m.layout.closed.sides k kind
   -- a label for each class, rising, and none that the program has for itself
-  pub counted : length m.labels ≡ length (all_classes m.layout.closed)
+  pub counted : length m.labels ≡ length (tagged m.layout.closed.sides)
   pub labels : AreLabels (used_labels m.layout.program) m.labels
   pub labels_rise : IsStrictlyIncreasing m.labels
   pub labels_small : All (λ label. label < 2 ^ 20) m.labels

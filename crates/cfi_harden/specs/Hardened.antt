@@ -14,7 +14,7 @@ use Rattle.obj_program.specs.Range.{out_of_range}
 use Rattle.obj_program.specs.Sound.{IsSound}
 use Rattle.cfi_flow.specs.Closed.{ClosedGraph}
 use Rattle.cfi_flow.specs.GraphAtMap.{graph_lines}
-use Rattle.cfi_flow.specs.LabelOf.{all_classes}
+use Rattle.cfi_flow.specs.LabelOf.{tagged}
 use Rattle.cfi_flow.specs.Labels.{used_labels}
 use Rattle.cfi_flow.specs.LegalMap.{IsLegalMap, gates_of}
 use Rattle.cfi_verify.specs.Laws.{AreBytes}
@@ -50,7 +50,7 @@ chosen p s labels = choice_of p.program p.closed s.gates s.long labels p.entry
 
 -- labels for all classes: the least that are free, which rise and have 20 bits
 pub record AreGiven (program : Program) (closed : ClosedGraph) (labels : List ℕ) : Type 0 where
-  pub counted : length labels ≡ length (all_classes closed)
+  pub counted : length labels ≡ length (tagged closed.sides)
   pub least : AreLabels (used_labels program) labels
   pub rising : IsStrictlyIncreasing labels
   pub small : All (λ label. label < 2 ^ 20) labels

@@ -1,25 +1,25 @@
 -- What holds of a choice that is accepted: the code that is written for it, with its graph, meets the verifier's rules.
-use Rattle.std.specs.Prelude.{◌≡◌, ℕ, ◌*◌, ◌<◌, List, length, Some}
+use Rattle.std.specs.Prelude.{◌≡◌, ℕ, ◌+◌, ◌*◌, ◌<◌, List, length, slice_get, Some}
 use Rattle.rv_word.specs.Image.{Contents}
 use Rattle.obj_program.specs.Program.{count, item_of}
 use Rattle.cfi_graph.specs.Graph.{GraphParts, IsGraph}
 use Rattle.cfi_graph.specs.declared.line.GraphLine.{GraphLine}
 use Rattle.cfi_flow.specs.GraphAtMap.{class_lines, gate, graph_lines, word}
-use Rattle.cfi_flow.specs.LabelOf.{all_classes, label_at}
-use Rattle.cfi_unit.specs.declared.unit.Unit.TheVariants as V
+use Rattle.cfi_flow.specs.LabelOf.{tagged}
+use Rattle.cfi_unit.specs.declared.unit.Unit as U
 use Rattle.cfi_verify.specs.Placed.{placed_code, placed_lines}
 use Rattle.cfi_verify.specs.Rules.{IsWellFormed}
 use Rattle.cfi_verify.specs.Sound.{IsSound}
 use Rattle.cfi_verify.specs.Split.{code_words, entry_of, unit_at}
 use Rattle.cfi_harden.specs.Accepted.{IsAccepted}
-use Rattle.cfi_harden.specs.Units.{Choice, entry_gate, unit_for, units}
+use Rattle.cfi_harden.specs.Units.{Choice, entry_gate, lead, unit_for, units}
 
 -- the words of the whole code, and the lines of its classes
 abbrev pub written_code : Choice → List ℕ
 written_code m = placed_code m.layout.profile (entry_gate m) (units m)
 
 abbrev pub written_classes : Choice → List GraphLine
-written_classes m = class_lines m.layout.gates m.labels (all_classes m.layout.closed)
+written_classes m = class_lines m.layout.gates m.labels (tagged m.layout.closed.sides)
 
 -- units and classes are sound
 abbrev pub WrittenIsSound : Type 0
@@ -41,13 +41,12 @@ WrittenIsWellFormed =
     (m : Choice) (image : Contents) (graph : GraphParts) → IsAccepted m → code_words image.code ≡ written_code m →
     graph.lines ≡ graph_lines m.layout m.labels → graph.code ≡ length image.code → IsWellFormed m.layout.profile image graph
 
--- at the word of each place stands its unit, and at the gate of each target of a class a gate word with the class's label
+-- at the word of each place stands its unit, and from its gate on the words before that
 abbrev pub WrittenUnits : Type 0
 WrittenUnits =
     (m : Choice) → IsAccepted m → (k : ℕ) → k < count m.layout.program →
     (unit_at m.layout.profile (written_code m) (word m.layout k) ≡ Some (unit_for m k (item_of m.layout.program k)))
-    × ((label : ℕ) → label_at m.labels m.layout.closed.classes k ≡ Some label →
-    unit_at m.layout.profile (written_code m) (gate m.layout k) ≡ Some (V.Gate label))
+    × ((j : ℕ) (u : U.Unit) → slice_get (lead m k) j ≡ Some u → unit_at m.layout.profile (written_code m) (gate m.layout k + 4 * j) ≡ Some u)
 
 -- the opening calls the entry's gate
 abbrev pub WrittenEntry : Type 0

@@ -13,6 +13,7 @@ pub mod Placing
 pub mod Chosen
 pub mod MapLines
 pub mod GraphOf
+pub mod SideLaws
 pub mod Laws
 pub mod Hardened
 pub mod Fitting

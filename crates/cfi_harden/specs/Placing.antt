@@ -26,10 +26,10 @@ pub record IsPlacement (program : Program) (closed : ClosedGraph) (s : Spaced) :
   pub sound : IsSound program
   -- the code has room, also with every branch long
   pub room : whole_size program closed ≤ CODE_SIZE
-  pub size : code_size (part_sizes closed.classes s.long 0 program.items) ≤ CODE_SIZE
+  pub size : code_size (part_sizes closed.sides s.long 0 program.items) ≤ CODE_SIZE
   -- parts stand one after another, and each place has a gate and a word
-  pub legal : AreGates closed.classes s.long 0 UNITS_START program.items s.gates
-  pub words : s.words ≡ words_from closed.classes 0 s.gates
+  pub legal : AreGates closed.sides s.long 0 UNITS_START program.items s.gates
+  pub words : s.words ≡ words_from closed.sides 0 s.gates
   pub gate_count : length s.gates ≡ count program
   pub word_count : length s.words ≡ count program
   -- each branch that is not long reaches its target, wherever the program is entered

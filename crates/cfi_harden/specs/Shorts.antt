@@ -4,7 +4,7 @@ use Rattle.obj_program.specs.Program.{Program, count, item_of}
 use Rattle.cfi_layout.specs.declared.short.Short.{Short}
 use Rattle.cfi_flow.specs.Closed.{ClosedGraph}
 use Rattle.cfi_flow.specs.GraphAtMap.{program_at}
-use Rattle.cfi_flow.specs.Placement.{gate_size}
+use Rattle.cfi_flow.specs.Placement.{lead_size}
 use Rattle.cfi_harden.specs.Accepted.{is_branch, is_kept}
 
 -- the branch at a place to a target: behind the gate word of its part, if that has one; where it is kept, it is long wherever it stands
@@ -12,7 +12,7 @@ abbrev pub short_to : Program → ClosedGraph → ℕ → ℕ → Short
 short_to program closed k target = record {
   at = k;
   target = target;
-  lead = gate_size closed.classes k;
+  lead = lead_size closed.sides k;
   keep = is_kept (program_at program closed [] 0) k target;
 }
 

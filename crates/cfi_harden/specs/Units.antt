@@ -1,16 +1,18 @@
--- The units that are written for a program at a map: at each place its unit, behind a gate word where the place is a class's target.
-use Rattle.std.specs.Prelude.{ℕ, ◌+◌, Bool, true, false, Option, Some, None, unwrap_or, List, [], ◌∷◌}
+-- The units that are written for a program at a map: at each place its unit, behind a word for each side of the closed graph where the
+-- place is a target.
+use Rattle.std.specs.Prelude.{ℕ, ◌+◌, Bool, true, false, Option, Some, None, unwrap_or, if◌then◌else◌, List, [], ◌∷◌, ◌++◌, map}
 use Rattle.rv_instr.specs.declared.instr.BranchOp.{BranchOp}
 use Rattle.rv_instr.specs.declared.instr.BranchOp.TheVariants.{Beq, Bne, Blt, Bge, Bltu, Bgeu}
+use Rattle.rv_instr.specs.declared.instr.ImmediateOp.TheVariants.{Addi}
 use Rattle.rv_instr.specs.declared.instr.Instr.{Instr}
 use Rattle.rv_instr.specs.declared.instr.Instr.TheVariants as I
 use Rattle.obj_input.specs.declared.item_kind.ItemKind.{ItemKind}
 use Rattle.obj_input.specs.declared.item_kind.ItemKind.TheVariants as is
 use Rattle.obj_program.specs.declared.item.Item.{Item}
 use Rattle.obj_program.specs.AtMap.{instr_at}
-use Rattle.cfi_flow.specs.GraphAtMap.{ProgramAtMap, gate, gate_to}
-use Rattle.cfi_flow.specs.LabelOf.{label_at, site_label}
-use Rattle.cfi_flow.specs.Placement.{is_long, words_from}
+use Rattle.cfi_flow.specs.GraphAtMap.{ProgramAtMap, gate, gate_to, words_at}
+use Rattle.cfi_flow.specs.LabelOf.{labels_of, site_label}
+use Rattle.cfi_flow.specs.Placement.{is_long, is_target}
 use Rattle.cfi_unit.specs.declared.unit.Unit as U
 use Rattle.cfi_unit.specs.declared.unit.Unit.TheVariants as V
 use Rattle.cfi_unit.specs.declared.unit.SystemOp.TheVariants as S
@@ -23,7 +25,7 @@ pub record Choice : Type 0 where
 
 -- the instruction of a place at the map
 abbrev pub instr_of : Choice → ℕ → Instr
-instr_of m k = unwrap_or (instr_at m.layout.program m.layout.gates (words_from m.layout.closed.classes 0 m.layout.gates) k) I.Ebreak
+instr_of m k = unwrap_or (instr_at m.layout.program m.layout.gates (words_at m.layout) k) I.Ebreak
 
 -- the condition that holds where another does not
 abbrev pub inverse : BranchOp → BranchOp
@@ -57,16 +59,21 @@ unit_of kind instr long target label = V.Stop
 -- the unit of a place
 abbrev pub unit_for : Choice → ℕ → Item → U.Unit
 unit_for m k item =
-    unit_of item.kind (instr_of m k) (is_long m.long k) (gate_to m.layout item.target) (site_label m.labels m.layout.closed k)
+    unit_of item.kind (instr_of m k) (is_long m.long k) (gate_to m.layout item.target) (site_label m.labels m.layout.closed.sides k)
 
-abbrev pub with_gate : Option ℕ → List U.Unit → List U.Unit
-with_gate None units = units
-with_gate (Some label) units = V.Gate label ∷ units
+-- a word before a place's unit: a gate word with the label of the class whose target it is, or what does nothing
+abbrev pub lead_unit : Option ℕ → U.Unit
+lead_unit None = V.Plain (I.Immediate Addi 0 0 0)
+lead_unit (Some label) = V.Gate label
+
+-- the words before a place's unit, one for each side where it is a target
+abbrev pub lead : Choice → ℕ → List U.Unit
+lead m k = if is_target m.layout.closed.sides k then map lead_unit (labels_of m.labels m.layout.closed.sides k) else []
 
 -- the units of places from index k on
 unfoldable pub units_from : Choice → ℕ → List Item → List U.Unit
 units_from m k [] = []
-units_from m k (item ∷ items) = with_gate (label_at m.labels m.layout.closed.classes k) (unit_for m k item ∷ units_from m (k + 1) items)
+units_from m k (item ∷ items) = lead m k ++ (unit_for m k item ∷ units_from m (k + 1) items)
 
 abbrev pub units : Choice → List U.Unit
 units m = units_from m 0 m.layout.program.items

@@ -34,7 +34,7 @@ pub record IsReady (p : PreparedParts) : Type 0 where
 pub record IsWritable (p : PreparedParts) (s : Spaced) (labels : List ℕ) : Type 0 where
   pub accepted : IsAccepted (chosen p s labels)
   pub fits_maps : FitsMaps p.program
-  pub words : s.words ≡ words_from p.closed.classes 0 s.gates
+  pub words : s.words ≡ words_from p.closed.sides 0 s.gates
   pub fits : IsMap (map_lines (chosen p s labels).layout)
   pub counted : length s.gates ≡ count p.program
   pub init_there : is_some (data_at p.program s.gates) ≡ true

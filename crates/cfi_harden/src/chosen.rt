@@ -3,14 +3,15 @@
 ghost use Rattle.std.specs.Prelude.{◌≡◌, ◌<◌, ◌^◌, IfOk, IfSome, length, slice_index};
 ghost use Rattle.rv_word.specs.MemoryMap.{version_1};
 ghost use Rattle.obj_program.specs.Program.{count, item_of};
-ghost use Rattle.cfi_flow.specs.GraphAtMap.{gate, gate_to, word};
-ghost use Rattle.cfi_flow.specs.LabelOf.{all_classes, label_at, site_label};
+ghost use Rattle.cfi_flow.specs.Closed.{first_side};
+ghost use Rattle.cfi_flow.specs.GraphAtMap.{gate, gate_to, word, words_at};
+ghost use Rattle.cfi_flow.specs.LabelOf.{label_at, site_label, tagged};
 ghost use Rattle.cfi_flow.specs.Placement.{is_long};
 ghost use Rattle.cfi_harden.specs.Accepted.{IsAccepted};
-ghost use Rattle.cfi_harden.specs.Chosen.{choice_of, instr_if, words_of};
+ghost use Rattle.cfi_harden.specs.Chosen.{choice_of, instr_if};
 
 use crate::labels::{label_at, label_or_zero, site_labels};
-use cfi_flow::Closed;
+use cfi_flow::{Closed, address_at};
 use obj_input::ItemKind;
 use obj_program::{Item, Items};
 use rv_instr::Instr;
@@ -52,14 +53,6 @@ impl<'a, 'b> Model for Chosen<'a, 'b> {
     ghost invariant = { λ c. IsChosen (choice_of c.mapped.items.now c.mapped.closed.now c.mapped.gates.now c.long.now c.labels.now c.entry) c.mapped.words.now c.sites.items };
 }
 
-/// The address of the place with this index.
-fn address_at(addresses: &[u64], k: u64) -> u64
-    requires { k < length addresses.now }
-    ensures { result ≡ slice_index addresses.now k }
-{
-    addresses[k as usize]
-}
-
 impl<'a, 'b> Chosen<'a, 'b> {
     /// The choice of these parts: of each place whether its branch is long (beyond their end each is), the labels of all
     /// classes in their order, and the place where the program is entered.
@@ -71,7 +64,7 @@ impl<'a, 'b> Chosen<'a, 'b> {
         entry: u64,
     ) -> Result<Chosen<'a, 'b>, NoMemory>
         requires accepted { IsAccepted (choice_of mapped.items.now mapped.closed.now mapped.gates.now long.now labels.now entry) }
-        requires words { mapped.words.now ≡ words_of (choice_of mapped.items.now mapped.closed.now mapped.gates.now long.now labels.now entry) }
+        requires words { mapped.words.now ≡ words_at (choice_of mapped.items.now mapped.closed.now mapped.gates.now long.now labels.now entry).layout }
         ensures { IfOk result (λ c. c ≡ choice_of mapped.entry.items.now mapped.entry.closed.now mapped.entry.gates.now long.now labels.now entry) }
     {
         let sites = site_labels(alloc, mapped.closed, labels)?;
@@ -104,7 +97,7 @@ impl<'a, 'b> Chosen<'a, 'b> {
     /// The labels of all classes, in their order.
     pub(crate) fn labels(&self) -> &'a [u32]
         ensures value { result.now ≡ self.now.labels }
-        ensures counted { length result.now ≡ length (all_classes self.now.layout.closed) }
+        ensures counted { length result.now ≡ length (tagged self.now.layout.closed.sides) }
     {
         self.labels
     }
@@ -157,7 +150,7 @@ impl<'a, 'b> Chosen<'a, 'b> {
 
     /// The label of the class that has a place, if one has it.
     pub(crate) fn label_at(&self, k: u64) -> Option<u32>
-        ensures value { result ≡ label_at self.now.labels self.now.layout.closed.classes k }
+        ensures value { result ≡ label_at self.now.labels (first_side self.now.layout.closed).classes k }
         ensures small { IfSome result (λ label. label < 2 ^ 20) }
     {
         label_at(self.mapped.closed, self.labels, k)
@@ -165,7 +158,7 @@ impl<'a, 'b> Chosen<'a, 'b> {
 
     /// The label that the site at a place asks for; 0 where no site stands.
     pub(crate) fn site_label(&self, k: u64) -> u32
-        ensures value { result ≡ site_label self.now.labels self.now.layout.closed k }
+        ensures value { result ≡ site_label self.now.labels self.now.layout.closed.sides k }
         ensures small { result < 2 ^ 20 }
     {
         label_or_zero(&self.sites, k)

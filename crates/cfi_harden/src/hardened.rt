@@ -108,7 +108,7 @@ fn chosen_of<'a, 'b>(
     labels: &'a [u32],
 ) -> Result<Chosen<'a, 'b>, NoMemory>
     requires accepted { IsAccepted (chosen prepared.now spacing.now labels.now) }
-    requires words { spacing.now.words ≡ words_from prepared.now.closed.classes 0 spacing.now.gates }
+    requires words { spacing.now.words ≡ words_from prepared.now.closed.sides 0 spacing.now.gates }
     ensures { IfOk result (λ c. c ≡ chosen prepared.now spacing.now labels.now) }
 {
     let mapped = Mapped {

@@ -2,6 +2,7 @@
 
 ghost use Rattle.std.specs.Prelude.{◌≡◌, ◌<◌, ◌^◌, ℕ, IfOk, IfSome, length, slice_get, slice_index};
 ghost use Rattle.std.specs.List.{All};
+ghost use Rattle.cfi_flow.specs.Closed.{first_side};
 ghost use Rattle.cfi_flow.specs.LabelOf.{all_classes, label_at, site_label};
 
 use cfi_flow::Closed;
@@ -21,7 +22,7 @@ fn label_with(labels: &[u32], k: u64) -> Option<u32>
 #[tactic(auto, using(crate::proofs::ClassLabels::label_found))]
 pub(crate) fn label_at(closed: &Closed, labels: &[u32], place: u64) -> Option<u32>
     requires { All (λ label. label < 2 ^ 20) labels.now }
-    ensures value { result ≡ label_at labels.now closed.now.classes place }
+    ensures value { result ≡ label_at labels.now (first_side closed.now).classes place }
     ensures small { IfSome result (λ label. label < 2 ^ 20) }
 {
     match closed.class_at(place) {
@@ -43,8 +44,8 @@ pub(crate) fn site_labels(
     closed: &Closed,
     labels: &[u32],
 ) -> Result<Vec<u32>, NoMemory>
-    requires { length labels.now ≡ length (all_classes closed.now) }
-    ensures { IfOk result (λ v. (k : ℕ) → slice_index v.items k ≡ site_label labels.now closed.now k) }
+    requires { length labels.now ≡ length (all_classes (first_side closed.now)) }
+    ensures { IfOk result (λ v. (k : ℕ) → slice_index v.items k ≡ site_label labels.now closed.now.sides k) }
 {
     let places = closed.places();
     let mut table = vec![in alloc; 0; places as usize]?;

@@ -1,6 +1,7 @@
 //! What holds of code that is written for an accepted choice. Each function states one law; nothing is computed.
 ghost use Rattle.cfi_harden.specs.HardenedLaws.{WrittenIsAccepted};
 ghost use Rattle.cfi_harden.specs.Laws.{WrittenEntry, WrittenIsGraph, WrittenIsSound, WrittenIsWellFormed, WrittenLines, WrittenUnits};
+ghost use Rattle.cfi_harden.specs.SideLaws.{GatesListed, SitesServed, TargetsBear};
 
 /// What is written of a prepared request at a placement that fits is an accepted choice.
 pub fn written_is_accepted()
@@ -35,4 +36,19 @@ pub fn written_units()
 /// The opening calls the entry's gate.
 pub fn written_entry()
     ensures { WrittenEntry }
+{}
+
+/// Each target of a class bears its label, at the word that the checks of its sort read.
+pub fn targets_bear()
+    ensures { TargetsBear }
+{}
+
+/// Each place that bears a class's label is one of its targets.
+pub fn gates_listed()
+    ensures { GatesListed }
+{}
+
+/// Each site is served by the class whose label it asks for.
+pub fn sites_served()
+    ensures { SitesServed }
 {}

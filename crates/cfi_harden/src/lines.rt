@@ -4,8 +4,9 @@ ghost use Rattle.std.specs.Prelude.{◌≡◌, ◌<◌, ◌≤◌, ◌++◌, ◌
 ghost use Rattle.std.specs.List.{All};
 ghost use Rattle.obj_program.specs.Program.{count, item_of};
 ghost use Rattle.cfi_graph.specs.Graph.{IsGraph};
+ghost use Rattle.cfi_flow.specs.Closed.{first_side};
 ghost use Rattle.cfi_flow.specs.GraphAtMap.{class_lines, graph_lines, line_for, place_lines, with_line};
-ghost use Rattle.cfi_flow.specs.LabelOf.{all_classes};
+ghost use Rattle.cfi_flow.specs.LabelOf.{all_classes, tagged};
 
 use crate::chosen::Chosen;
 use cfi_graph::{Graph, GraphLine, GraphLines, SiteKind};
@@ -40,7 +41,7 @@ impl<'a, 'b> Chosen<'a, 'b> {
     /// The gates of the targets that the class with this index has, among all classes.
     #[tactic(auto, using(crate::proofs::LineList::class_within, crate::proofs::LineList::class_past, crate::proofs::LineList::members_there))]
     fn class_gates(&self, alloc: Global, k: u64) -> Result<Places, NoMemory>
-        ensures { IfOk result (λ gates. gates ≡ map (slice_index self.now.layout.gates) (slice_index_or (all_classes self.now.layout.closed) k [])) }
+        ensures { IfOk result (λ gates. gates ≡ map (slice_index self.now.layout.gates) (slice_index_or (all_classes (first_side self.now.layout.closed)) k [])) }
     {
         let closed = self.closed();
         if k < closed.classes() {
@@ -53,8 +54,9 @@ impl<'a, 'b> Chosen<'a, 'b> {
     /// The lines of all classes.
     #[tactic(auto, using(crate::proofs::LineList::next_class, crate::proofs::LineList::all_class_lines))]
     fn class_lines(&self, alloc: Global) -> Result<Vec<GraphLine>, NoMemory>
-        ensures { IfOk result (λ v. v.items ≡ class_lines self.now.layout.gates self.now.labels (all_classes self.now.layout.closed)) }
+        ensures { IfOk result (λ v. v.items ≡ class_lines self.now.layout.gates self.now.labels (tagged self.now.layout.closed.sides)) }
     {
+        let _count = self.count();
         let labels = self.labels();
         let mut lines = Vec::new(alloc);
         for k in 0..labels.len() {

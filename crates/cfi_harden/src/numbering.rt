@@ -5,7 +5,8 @@ ghost use Rattle.std.specs.List.{All};
 ghost use Rattle.std.specs.List.Sorted.{IsStrictlyIncreasing};
 ghost use Rattle.rv_word.specs.MemoryMap.{CODE_SIZE};
 ghost use Rattle.cfi_class.specs.Labels.{AreLabels};
-ghost use Rattle.cfi_flow.specs.LabelOf.{all_classes, empty_classes};
+ghost use Rattle.cfi_flow.specs.Closed.{first_side};
+ghost use Rattle.cfi_flow.specs.LabelOf.{empty_classes, tagged};
 ghost use Rattle.cfi_flow.specs.Labels.{used_labels};
 ghost use Rattle.cfi_harden.specs.GraphOf.{IsGraphOf};
 ghost use Rattle.cfi_harden.specs.Sizes.{whole_size};
@@ -18,7 +19,7 @@ use std::alloc::Global;
 
 /// How many sites have no targets.
 fn empty_classes(closed: &Closed) -> u64
-    ensures { result ≡ length (empty_classes closed.now.sites) }
+    ensures { result ≡ length (empty_classes (first_side closed.now).sites) }
 {
     let mut count = 0;
     for k in 0..closed.sites() {
@@ -35,7 +36,7 @@ fn empty_classes(closed: &Closed) -> u64
 pub fn class_labels(alloc: Global, items: &Items, closed: &Closed) -> Result<Vec<u32>, NoMemory>
     requires graph { IsGraphOf items.now closed.now }
     requires room { whole_size items.now closed.now ≤ CODE_SIZE }
-    ensures count { IfOk result (λ v. length v.items ≡ length (all_classes closed.now)) }
+    ensures count { IfOk result (λ v. length v.items ≡ length (tagged closed.now.sides)) }
     ensures least { IfOk result (λ v. AreLabels (used_labels items.now) v.items) }
     ensures rising { IfOk result (λ v. IsStrictlyIncreasing v.items) }
     ensures below { IfOk result (λ v. All (λ label. label < 2 ^ 20) v.items) }

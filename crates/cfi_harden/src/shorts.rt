@@ -9,7 +9,6 @@ ghost use Rattle.cfi_harden.specs.Shorts.{short_at, shorts_of, with_short};
 ghost use Rattle.cfi_flow.specs.GraphAtMap.{program_at};
 ghost use Rattle.cfi_harden.specs.Sizes.{whole_size, whole_sizes};
 
-use crate::sizes::{gate_size, is_target};
 use cfi_flow::Closed;
 use cfi_layout::Short;
 use obj_input::ItemKind;
@@ -42,7 +41,7 @@ fn is_kept(items: &Items, closed: &Closed, place: u64, target: u64) -> bool
     ensures { result ≡ is_kept (program_at items.now closed.now [] 0) place target }
 {
     let _sound = items.count();
-    target == place + 2 && is_skipped(items.item(place + 1).kind, is_target(closed, place + 1))
+    target == place + 2 && is_skipped(items.item(place + 1).kind, closed.is_target(place + 1))
 }
 
 /// The branch at a place, if there is one.
@@ -57,7 +56,7 @@ fn short_at(items: &Items, closed: &Closed, place: u64) -> Option<Short>
         Some(target) if is_branch(item.kind) => Some(Short {
             at: place as u32,
             target: target as u32,
-            lead: gate_size(closed, place),
+            lead: closed.lead_size(place),
             keep: is_kept(items, closed, place, target),
         }),
         _ => None,

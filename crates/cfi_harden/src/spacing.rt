@@ -3,13 +3,13 @@
 ghost use Rattle.std.specs.Prelude.{◌≡◌, ℕ, ◌<◌, ◌≤◌, ◌^◌, false, IfOk, MatchResult, slice_index};
 ghost use Rattle.rv_word.specs.MemoryMap.{CODE_SIZE};
 ghost use Rattle.cfi_layout.specs.Starts.{flag};
-ghost use Rattle.cfi_flow.specs.Placement.{is_long, words_from};
+ghost use Rattle.cfi_flow.specs.Placement.{is_long};
 ghost use Rattle.cfi_harden.specs.Placing.{IsPlacement, IsShortened, PlaceEnds};
 ghost use Rattle.cfi_harden.specs.Sizes.{whole_size, whole_sizes};
 
 use crate::shorts::shorts;
-use crate::sizes::{gate_size, whole_sizes};
-use cfi_flow::Closed;
+use crate::sizes::whole_sizes;
+use cfi_flow::{Closed, words_behind};
 use cfi_layout::{PlaceEnd, Placement, code_size, shorten};
 use obj_program::Items;
 use rv_word::NoMemory;
@@ -80,18 +80,6 @@ fn shortened(alloc: Global, items: &Items, closed: &Closed) -> Result<Placement,
     let branches = shorts(alloc, items, closed)?;
     let placement = shorten(alloc, sizes.as_slice(), branches.as_slice())?;
     Ok(placement)
-}
-
-/// The addresses of units behind their gate words.
-fn words_behind(alloc: Global, closed: &Closed, gates: &[u64]) -> Result<Vec<u64>, NoMemory>
-    requires { (k : ℕ) → slice_index gates.now k < 2 ^ 32 }
-    ensures { IfOk result (λ v. v.items ≡ words_from closed.now.classes 0 gates.now) }
-{
-    let mut words = Vec::new(alloc);
-    for k in 0..gates.len() {
-        words.push(gates[k] + u64::from(gate_size(closed, k as u64)))?;
-    }
-    Ok(words)
 }
 
 /// Which parts have their whole size.

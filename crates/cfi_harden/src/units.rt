@@ -2,9 +2,10 @@
 
 ghost use Rattle.std.specs.Prelude.{◌≡◌, ◌<◌, ◌++◌, ◌∷◌, [], IfOk, OnOk};
 ghost use Rattle.obj_program.specs.Program.{count, item_of};
+ghost use Rattle.cfi_flow.specs.Closed.{first_side};
 ghost use Rattle.cfi_flow.specs.LabelOf.{label_at};
-ghost use Rattle.cfi_harden.specs.Chosen.{instr_if};
-ghost use Rattle.cfi_harden.specs.Units.{inverse, unit_for, unit_of, units, with_gate};
+ghost use Rattle.cfi_harden.specs.Chosen.{instr_if, with_gate};
+ghost use Rattle.cfi_harden.specs.Units.{inverse, unit_for, unit_of, units};
 
 use crate::chosen::Chosen;
 use cfi_unit::{SystemOp, Unit};
@@ -77,7 +78,7 @@ impl<'a, 'b> Chosen<'a, 'b> {
     /// Puts the unit of a place at the end, behind its gate word if it has one.
     fn push_units(&self, units: &mut Vec<Unit>, k: u64) -> Result<(), NoMemory>
         requires { k < count self.now.layout.program }
-        ensures { OnOk result (units.new.items ≡ units.old.items ++ with_gate (label_at self.now.labels self.now.layout.closed.classes k) (unit_for self.now k (item_of self.now.layout.program k) ∷ [])) }
+        ensures { OnOk result (units.new.items ≡ units.old.items ++ with_gate (label_at self.now.labels (first_side self.now.layout.closed).classes k) (unit_for self.now k (item_of self.now.layout.program k) ∷ [])) }
     {
         if let Some(label) = self.label_at(k) {
             units.push(Unit::Gate(Immediate::of(label)))?;
@@ -87,7 +88,7 @@ impl<'a, 'b> Chosen<'a, 'b> {
         Ok(())
     }
 
-    /// The units of all places, each behind its gate word if it has one.
+    /// The units of all places, each behind the words before it.
     #[tactic(auto, using(crate::proofs::UnitList::next_units, crate::proofs::UnitList::all_units))]
     pub fn units(&self, alloc: Global) -> Result<Vec<Unit>, NoMemory>
         ensures { IfOk result (λ v. v.items ≡ units self.now) }

@@ -15,9 +15,9 @@ use Rattle.obj_input.specs.declared.item_kind.ItemKind.TheVariants as is
 use Rattle.obj_program.specs.Program.{is_end, item_of}
 use Rattle.obj_program.specs.Suits.{suits}
 use Rattle.obj_program.proofs.Kept.{kept}
-use Rattle.cfi_flow.specs.GraphAtMap.{gate, gate_to}
+use Rattle.cfi_flow.specs.GraphAtMap.{gate, gate_to, words_at}
 use Rattle.cfi_flow.specs.LabelOf.{site_label}
-use Rattle.cfi_flow.specs.Placement.{is_long, words_from}
+use Rattle.cfi_flow.specs.Placement.{is_long}
 use Rattle.cfi_runs.specs.Own.{Own, goes, own_past}
 use Rattle.cfi_harden.specs.Units.{instr_of, inverse, unit_of}
 use Rattle.cfi_harden.proofs.Standing.{instr_is}
@@ -67,8 +67,8 @@ own_of_kind p kind i long target label next o some suit = absurd (cc)
 
 pub step_of_kind : law.StepOfKind
 step_of_kind m k o ok place =
-    let words = words_from m.layout.closed.classes 0 m.layout.gates in
+    let words = words_at m.layout in
     let is = kept m.layout.program m.layout.gates words k (instr_of m k) ok.sound place.below place.no_end (instr_is m ok k place.below place.no_end) in
     ap (own_past m.layout.profile (at_word m k o) (unit_here m k)) (sym (next_gate m k ok place).1)
     ∙ own_of_kind m.layout.profile (item_of m.layout.program k).kind (instr_of m k) (is_long m.long k) (gate_to m.layout (item_of m.layout.program k).target)
-    (site_label m.labels m.layout.closed k) (gate m.layout (k + 1)) (at_word m k o) place.no_end is.0
+    (site_label m.labels m.layout.closed.sides k) (gate m.layout (k + 1)) (at_word m k o) place.no_end is.0

@@ -1,11 +1,11 @@
--- What stands at places, and where their gate words lead.
-use Rattle.std.specs.Prelude.{◌≡◌, ℕ, ◌+◌, ◌*◌, ◌≤◌, ◌<◌, Some, List}
+-- What stands at places, and where the words before their units lead.
+use Rattle.std.specs.Prelude.{◌≡◌, ℕ, ◌+◌, ◌*◌, ◌≤◌, ◌<◌, true, Some, List}
 use Rattle.rv_word.specs.Image.{Contents}
 use Rattle.rv_word.specs.Memory.{loaded}
 use Rattle.obj_program.specs.Program.{count}
-use Rattle.cfi_flow.specs.Closed.{class_at, class_of}
 use Rattle.cfi_flow.specs.GraphAtMap.{gate, word}
 use Rattle.cfi_flow.specs.LabelOf.{site_label}
+use Rattle.cfi_flow.specs.Untame.{class_reaches}
 use Rattle.cfi_unit.specs.declared.unit.Unit as U
 use Rattle.cfi_unit.specs.Leads.{HasLabel}
 use Rattle.cfi_unit.specs.UnitWords.{word_count}
@@ -18,7 +18,7 @@ use Rattle.cfi_harden.specs.Units.{Choice, entry_gate}
 use Rattle.cfi_kept.specs.ImageOf.{IsImageOf, IsPlace, unit_here}
 use Rattle.cfi_kept.specs.PlaceSteps.{TamePlace, at_word}
 
--- from a place's gate a path of no more than its gate word leads to its unit, whose step is tame
+-- from a place's gate a path of no more than one word leads to its unit, whose step is tame
 pub record ComesToPlace (m : Choice) (image : Contents) (k : ℕ) (o : Own) : Type 0 where
   pub path : List U.Unit
   pub few : words_along path ≤ 1
@@ -40,6 +40,5 @@ NextGate =
 -- the gates of a computed transfer's targets bear its label
 abbrev pub TargetBears : Type 0
 TargetBears =
-    (m : Choice) (image : Contents) (k t class : ℕ) → IsImageOf m image →
-    class_of m.layout.closed k ≡ Some class → class_at m.layout.closed t ≡ Some class →
-    HasLabel (loaded image) (site_label m.labels m.layout.closed k) (gate m.layout t)
+    (m : Choice) (image : Contents) (k t : ℕ) → IsImageOf m image → class_reaches m.layout.closed k t ≡ true →
+    HasLabel (loaded image) (site_label m.labels m.layout.closed.sides k) (gate m.layout t)

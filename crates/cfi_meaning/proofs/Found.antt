@@ -1,4 +1,4 @@
--- The place that a computed transfer goes to has its destination as gate and is of the site's class.
+-- The place that a computed transfer goes to has its destination as gate, and the site may go there.
 use Rattle.std.proofs.Common.{◌≡◌, ℕ, ◌==◌, inl, inr, true, false, List, length, Option, Some, None, refl, sym, ap, subst, ◌∙◌}
 use Rattle.std.specs.Prelude.{nat_lt, slice_index}
 use Rattle.std.specs.List.{position_or_len}
@@ -9,15 +9,12 @@ use Rattle.std.proofs.lemmas.Option.{option_and_then_some, same_Some}
 use Rattle.rv_word.proofs.Cases.{cases_Option, chosen}
 use Rattle.rv_instr.specs.Registers.{Registers}
 use Rattle.rv_instr.specs.declared.instr.Instr.{Instr}
-use Rattle.cfi_flow.specs.Closed.{class_at, class_of}
 use Rattle.cfi_flow.specs.GraphAtMap.{ProgramAtMap, gate}
-use Rattle.cfi_flow.specs.Untame.{computed, computed_place, if_reached, is_same, place_with_gate, class_reaches}
+use Rattle.cfi_flow.specs.Untame.{computed, computed_place, if_reached, place_with_gate, class_reaches}
 
 pub record IsFound (g : ProgramAtMap) (k v t : ℕ) : Type 0 where
   pub gate_is : gate g t ≡ v
-  pub class : ℕ
-  pub site : class_of g.closed k ≡ Some class
-  pub place : class_at g.closed t ≡ Some class
+  pub reaches : class_reaches g.closed k t ≡ true
 
 gate_found : (gates : List ℕ) (v t : ℕ) → place_with_gate gates v ≡ Some t → slice_index gates t ≡ v
 gate_found gates v t e =
@@ -29,19 +26,12 @@ gate_found gates v t e =
       | inr none ↦ let wrong : None ≡ Some t = none.1 in absurd (cc)
     ]
 
-same_class : (a b : Option ℕ) → is_same a b ≡ true → (class : ℕ) × (a ≡ Some class) × (b ≡ Some class)
-same_class None None e = absurd (cc)
-same_class None (Some b) e = absurd (cc)
-same_class (Some a) None e = absurd (cc)
-same_class (Some a) (Some b) e = (a, refl, ap Some (sym (eqb-true a b e)))
-
 reached : (g : ProgramAtMap) (k v s t : ℕ) → gate g s ≡ v → if_reached g.closed k s ≡ Some t → IsFound g k v t
 reached g k v s t gate_is e =
     elim (chosen (class_reaches g.closed k s) (Some s) None (Some t) e) [
       | inl found ↦
           let same : s ≡ t = same_Some s t found.1 in
-          let (class, site, place) = same_class (class_of g.closed k) (class_at g.closed s) found.0 in
-          subst (λ (x : ℕ). IsFound g k v x) same (record { gate_is = gate_is; class = class; site = site; place = place })
+          subst (λ (x : ℕ). IsFound g k v x) same (record { gate_is = gate_is; reaches = found.0 })
       | inr none ↦ let wrong : None ≡ Some t = none.1 in absurd (cc)
     ]
 

@@ -11,7 +11,6 @@ use Rattle.obj_input.specs.declared.item_kind.ItemKind.{ItemKind}
 use Rattle.obj_input.specs.declared.item_kind.ItemKind.TheVariants as is
 use Rattle.obj_program.specs.Program.{is_end}
 use Rattle.obj_program.specs.Suits.{suits}
-use Rattle.cfi_flow.specs.Closed.{class_at, class_of}
 use Rattle.cfi_flow.specs.GraphAtMap.{ProgramAtMap, gate}
 use Rattle.cfi_unit.specs.declared.unit.Unit.TheVariants as V
 use Rattle.cfi_unit.specs.Leads.{HasLabel}
@@ -22,7 +21,7 @@ use Rattle.cfi_harden.specs.Units.{unit_of}
 use Rattle.cfi_meaning.specs.Matches.{sites_of}
 use Rattle.cfi_flow.specs.declared.reason.Reason.TheVariants as why
 use Rattle.cfi_flow.specs.Source.{Source}
-use Rattle.cfi_flow.specs.Untame.{MOST_CALLS, is_off_graph, is_off_window, is_too_deep, is_wrong_return, return_address}
+use Rattle.cfi_flow.specs.Untame.{MOST_CALLS, class_reaches, is_off_graph, is_off_window, is_too_deep, is_wrong_return, return_address}
 use Rattle.cfi_meaning.proofs.Found.{place_found, some_found}
 
 -- no reason stands
@@ -47,7 +46,7 @@ pub sites_counted : (g : ProgramAtMap) (pending : List ℕ) → length (sites_of
 sites_counted g [] = refl
 sites_counted g (k ∷ pending) = ap suc (sites_counted g pending)
 
-module _ (image : Contents) (g : ProgramAtMap) (k label : ℕ) (st : Source) (bears : (t class : ℕ) → class_of g.closed k ≡ Some class → class_at g.closed t ≡ Some class → HasLabel (loaded image) label (gate g t)) where
+module _ (image : Contents) (g : ProgramAtMap) (k label : ℕ) (st : Source) (bears : (t : ℕ) → class_reaches g.closed k t ≡ true → HasLabel (loaded image) label (gate g t)) where
   returns_tame : (pending : List ℕ) → (get_reg st.regs 1 == return_address g pending) ≡ true → IsTame (loaded image) V.Return (sites_of g pending) st.regs
   returns_tame [] e = eqb-true (get_reg st.regs 1) g.profile.closing e
   returns_tame (k' ∷ pending) e = eqb-true (get_reg st.regs 1) (gate g k') e
@@ -59,7 +58,7 @@ module _ (image : Contents) (g : ProgramAtMap) (k label : ℕ) (st : Source) (be
   goes_to_gate rd rs1 imm on =
       let (t, some) = some_found g k (I.Jalr rd rs1 imm) st.regs on in
       let found = place_found g k (I.Jalr rd rs1 imm) st.regs t some in
-      subst (HasLabel (loaded image) label) found.gate_is (bears t found.class found.site found.place)
+      subst (HasLabel (loaded image) label) found.gate_is (bears t found.reaches)
 
   pub tame_of_kind : (kind : ItemKind) (i : Instr) (long : Bool) (target : ℕ) → suits kind i ≡ true → NoReason g k kind i st →
       IsTame (loaded image) (unit_of kind i long target label) (sites_of g st.pending) st.regs

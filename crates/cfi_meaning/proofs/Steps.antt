@@ -12,9 +12,9 @@ use Rattle.obj_program.specs.Program.{count, is_end, item_of, no_item}
 use Rattle.obj_program.specs.Sound.{is_direct}
 use Rattle.obj_program.specs.Suits.{suits}
 use Rattle.obj_program.proofs.Kept.{kept}
-use Rattle.cfi_flow.specs.GraphAtMap.{ProgramAtMap, gate, gate_to, word}
+use Rattle.cfi_flow.specs.GraphAtMap.{ProgramAtMap, gate, gate_to, word, words_at}
 use Rattle.cfi_flow.specs.LabelOf.{site_label}
-use Rattle.cfi_flow.specs.Placement.{is_long, words_from}
+use Rattle.cfi_flow.specs.Placement.{is_long}
 use Rattle.cfi_harden.specs.Units.{Choice, instr_of}
 use Rattle.cfi_harden.proofs.Leading.{direct}
 use Rattle.cfi_harden.proofs.Standing.{gate_lies, instr_is, word_is}
@@ -62,7 +62,7 @@ module _ (m : Choice) (image : Contents) (of : IsImageOf m image) (k : ℕ) wher
 
       suit : suits item.kind (instr_of m k) ≡ true
       suit =
-          (kept m.layout.program m.layout.gates (words_from m.layout.closed.classes 0 m.layout.gates) k (instr_of m k) of.accepted.sound place.below place.no_end
+          (kept m.layout.program m.layout.gates (words_at m.layout) k (instr_of m k) of.accepted.sound place.below place.no_end
           (instr_is m of.accepted k place.below place.no_end)).0
 
       aim : is_direct item.kind ≡ true → gate_to g item.target ≡ gate g (unwrap_or item.target 0)
@@ -75,7 +75,7 @@ module _ (m : Choice) (image : Contents) (of : IsImageOf m image) (k : ℕ) wher
         place = place;
         at = refl;
         some = let counted = sites_counted g pending in omega arith;
-        tame = tame_of_kind image g k (site_label m.labels m.layout.closed k) here (λ t' class site target. target_bears m image k t' class of site target)
+        tame = tame_of_kind image g k (site_label m.labels m.layout.closed.sides k) here (λ t' reaches. target_bears m image k t' of reaches)
             item.kind (instr_of m k) (is_long m.long k) (gate_to g item.target) suit no_reason;
       }
 

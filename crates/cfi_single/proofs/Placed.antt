@@ -5,8 +5,8 @@ use Rattle.obj_input.specs.declared.item_kind.ItemKind.TheVariants as is
 use Rattle.obj_program.specs.declared.item.Item.{Item}
 use Rattle.obj_program.specs.Program.{Program, no_item}
 use Rattle.cfi_layout.specs.LongSet.{is_branch as is_part}
-use Rattle.cfi_flow.specs.Closed.{ClosedGraph}
-use Rattle.cfi_flow.specs.Placement.{AreGates, gate_size, is_long, size_of, words_from}
+use Rattle.cfi_flow.specs.Closed.{ClosedGraph, Side}
+use Rattle.cfi_flow.specs.Placement.{AreGates, lead_size, is_long, size_of, words_from}
 use Rattle.cfi_harden.specs.Accepted.{is_branch}
 use Rattle.cfi_harden.specs.Placing.{IsPlacement, Spaced}
 use Rattle.cfi_harden.specs.Shorts.{shorts_of}
@@ -38,21 +38,21 @@ same_size : (kind : ItemKind) (a b : Bool) → (is_branch kind ≡ true → a �
 same_size is.Branch a b same = ap (size_of is.Branch) (same refl)
 same_size other a b same = refl
 
-gates_same : (classes : List (List ℕ)) (long more : List Bool) (k at : ℕ) (items : List Item) (gates others : List ℕ)
-    → SameBranches long more k items → AreGates classes long k at items gates → AreGates classes more k at items others → gates ≡ others
+gates_same : (sides : List Side) (long more : List Bool) (k at : ℕ) (items : List Item) (gates others : List ℕ)
+    → SameBranches long more k items → AreGates sides long k at items gates → AreGates sides more k at items others → gates ≡ others
 unfolding AreGates
-gates_same classes long more k at [] [] [] same a b = refl
-gates_same classes long more k at [] (g ∷ gates) others same a b = absurd a
-gates_same classes long more k at [] [] (o ∷ others) same a b = absurd b
-gates_same classes long more k at (item ∷ items) [] others same a b = absurd a
-gates_same classes long more k at (item ∷ items) (g ∷ gates) [] same a b = absurd b
-gates_same classes long more k at (item ∷ items) (g ∷ gates) (o ∷ others) same a b =
-    let start = at + gate_size classes k in
+gates_same sides long more k at [] [] [] same a b = refl
+gates_same sides long more k at [] (g ∷ gates) others same a b = absurd a
+gates_same sides long more k at [] [] (o ∷ others) same a b = absurd b
+gates_same sides long more k at (item ∷ items) [] others same a b = absurd a
+gates_same sides long more k at (item ∷ items) (g ∷ gates) [] same a b = absurd b
+gates_same sides long more k at (item ∷ items) (g ∷ gates) (o ∷ others) same a b =
+    let start = at + lead_size sides k in
     let size = same_size item.kind (is_long long k) (is_long more k) (first_branch long more k item items same) in
-    let there : AreGates classes more (k + 1) (start + size_of item.kind (is_long long k)) items others =
-    subst (λ (n : ℕ). AreGates classes more (k + 1) (start + n) items others) (sym size) b.1 in
+    let there : AreGates sides more (k + 1) (start + size_of item.kind (is_long long k)) items others =
+    subst (λ (n : ℕ). AreGates sides more (k + 1) (start + n) items others) (sym size) b.1 in
     let rest =
-    gates_same classes long more (k + 1) (start + size_of item.kind (is_long long k)) items gates others
+    gates_same sides long more (k + 1) (start + size_of item.kind (is_long long k)) items gates others
     (rest_branches long more k item items same) a.1 there in
     let head : g ≡ o = a.0 ∙ sym b.0 in
     ap (λ (x : ℕ). x ∷ gates) head ∙ ap (λ (xs : List ℕ). o ∷ xs) rest
@@ -70,7 +70,7 @@ module _ (program : Program) (closed : ClosedGraph) (s t : Spaced) (hs : IsPlace
       subst (λ (n : ℕ). is_long s.long n ≡ is_long t.long n) start same
 
   pub gates_unique : s.gates ≡ t.gates
-  gates_unique = gates_same closed.classes s.long t.long 0 _ program.items s.gates t.gates flags_same hs.legal ht.legal
+  gates_unique = gates_same closed.sides s.long t.long 0 _ program.items s.gates t.gates flags_same hs.legal ht.legal
 
   pub words_unique : s.words ≡ t.words
-  words_unique = hs.words ∙ ap (words_from closed.classes 0) gates_unique ∙ sym ht.words
+  words_unique = hs.words ∙ ap (words_from closed.sides 0) gates_unique ∙ sym ht.words

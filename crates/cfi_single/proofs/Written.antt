@@ -12,12 +12,12 @@ use Rattle.obj_program.specs.declared.item.Item.{Item}
 use Rattle.cfi_graph.specs.declared.map.MapLine.{MapLine}
 use Rattle.cfi_class.specs.Labels.{AreLabels, IsLeastFree}
 use Rattle.cfi_flow.specs.GraphAtMap.{ProgramAtMap, gate_to}
-use Rattle.cfi_flow.specs.LabelOf.{label_at, site_label}
+use Rattle.cfi_flow.specs.LabelOf.{site_label}
 use Rattle.cfi_flow.specs.Placement.{is_long}
 use Rattle.cfi_unit.specs.declared.unit.Unit as U
 use Rattle.cfi_verify.specs.Split.{code_words}
 use Rattle.cfi_harden.specs.Accepted.{is_branch}
-use Rattle.cfi_harden.specs.Units.{Choice, instr_of, unit_for, unit_of, units_from, with_gate}
+use Rattle.cfi_harden.specs.Units.{Choice, instr_of, lead, unit_for, unit_of, units_from}
 use Rattle.cfi_single.proofs.Placed.{SameBranches, first_branch, rest_branches}
 
 -- labels
@@ -72,13 +72,13 @@ pub units_same : (layout : ProgramAtMap) (labels : List ℕ) (long more : List B
 unfolding units_from
 units_same layout labels long more k [] same = refl
 units_same layout labels long more k (item ∷ items) same =
-    let label = label_at labels layout.closed.classes k in
+    let before = lead (under layout labels long) k in
     let rest = units_same layout labels long more (k + 1) items (rest_branches long more k item items same) in
     let one : unit_for (under layout labels long) k item ≡ unit_for (under layout labels more) k item =
     unit_same item.kind (instr_of (under layout labels long) k) (is_long long k) (is_long more k) (gate_to layout item.target)
-    (site_label labels layout.closed k) (first_branch long more k item items same) in
-    ap (λ (u : U.Unit). with_gate label (u ∷ units_from (under layout labels long) (k + 1) items)) one
-    ∙ ap (λ (us : List U.Unit). with_gate label (unit_for (under layout labels more) k item ∷ us)) rest
+    (site_label labels layout.closed.sides k) (first_branch long more k item items same) in
+    ap (λ (u : U.Unit). before ++ (u ∷ units_from (under layout labels long) (k + 1) items)) one
+    ∙ ap (λ (us : List U.Unit). before ++ (unit_for (under layout labels more) k item ∷ us)) rest
 
 -- bytes of a code
 abbrev pub AreSmall : List ℕ → Type 0

@@ -1,5 +1,5 @@
 -- A generated object without a fault, whose code has room, is not refused.
-use Rattle.std.proofs.Common.{◌≡◌, ℕ, ◌≤◌, Some, None, List, codes, refl, sym, ap, subst, ◌∙◌, arith}
+use Rattle.std.proofs.Common.{◌≡◌, ℕ, ◌≤◌, Some, None, List, codes, length, refl, sym, ap, subst, ◌∙◌, arith}
 use Rattle.rv_word.specs.MemoryMap.{CODE_SIZE}
 use Rattle.elf_writer.specs.Object.{object_bytes}
 use Rattle.elf_writer.specs.Holds.{Holds}
@@ -17,6 +17,7 @@ use Rattle.cfi_gen.specs.Drawing.{functions_from}
 use Rattle.gen_program.specs.Generated.{IsGenerated}
 use Rattle.gen_program.proofs.Reading.{generated_is}
 use Rattle.cfi_harden.specs.declared.refusal.Refusal.TheVariants.{Object, Items, NoEntry, Policy, CodeTooLarge, DataTooLarge, RelocRange}
+use Rattle.cfi_flow.proofs.Sides.{in_one}
 use Rattle.cfi_harden.specs.Hardened.{HasDataRoom}
 use Rattle.cfi_harden.specs.Prepared.{IsPreparedOf, PreparedParts}
 use Rattle.cfi_harden.specs.Request.{program_in, program_request}
@@ -32,9 +33,9 @@ use Rattle.gen_hardened.proofs.NoPolicy.{no_wrong_line}
 use Rattle.gen_hardened.proofs.Room.{code_has_room}
 use Rattle.gen_hardened.proofs.Small.{AreSmall, small_functions}
 
--- its code has room, whatever its graph
+-- its code has room, whatever its graph of one side
 abbrev pub HasCodeRoom : List ℕ → Type 0
-HasCodeRoom object = (closed : ClosedGraph) → whole_size (program_in object) closed ≤ CODE_SIZE
+HasCodeRoom object = (closed : ClosedGraph) → length closed.sides ≡ 1 → whole_size (program_in object) closed ≤ CODE_SIZE
 
 module _ (fs : List Function) (small : AreSmall fs) (object : List ℕ) (holds : Holds (parts_with fs) object)
     (sound : fault_of (input_of object) ≡ None) (room : HasCodeRoom object) where
@@ -45,7 +46,8 @@ module _ (fs : List Function) (small : AreSmall fs) (object : List ℕ) (holds :
   main_there = entered_at_main is_generated
 
   code_room : (p : PreparedParts) → IsPreparedOf (program_request (entered object)) p → whole_size p.program p.closed ≤ CODE_SIZE
-  code_room p is = subst (λ (x : Program). whole_size x p.closed ≤ CODE_SIZE) (sym is.program) (room p.closed)
+  code_room p is = subst (λ (x : Program). whole_size x p.closed ≤ CODE_SIZE) (sym is.program)
+      (room p.closed (let (raw, drawn, closes) = is.closed.drawn in ap length (in_one raw p.closed closes).one))
 
   room_there : (p : PreparedParts) → IsPreparedOf (program_request (entered object)) p → HasDataRoom p.program
   room_there p is = subst HasDataRoom (sym is.program) (data_room is_generated)
@@ -74,7 +76,7 @@ module _ (fs : List Function) (small : AreSmall fs) (object : List ℕ) (holds :
 -- the object of each number, where it holds its parts, has no fault, and its code has room
 pub demo_never_refused : ((number : ℕ) → Holds (demo_parts number) (object_bytes (demo_parts number)))
     → ((number : ℕ) (input : InputParts) → IsGenerated (functions_from 2000 0 number) input → fault_of input ≡ None)
-    → ((number : ℕ) (input : InputParts) (closed : ClosedGraph) → IsGenerated (functions_from 2000 0 number) input
+    → ((number : ℕ) (input : InputParts) (closed : ClosedGraph) → length closed.sides ≡ 1 → IsGenerated (functions_from 2000 0 number) input
     → whole_size (program_of input) closed ≤ CODE_SIZE)
     → DemoIsNeverRefused
 demo_never_refused holds sound room number =
@@ -82,9 +84,9 @@ demo_never_refused holds sound room number =
     let object = object_bytes (demo_parts number) in
     let is = generated_is fs object (holds number) in
     nothing_refused fs (small_functions 2000 0 number (omega arith)) object (holds number) (sound number (input_of object) is)
-    (λ closed. room number (input_of object) closed is)
+    (λ closed one. room number (input_of object) closed one is)
 
 pub never_refused : DemoIsNeverRefused
 never_refused =
     demo_never_refused (λ number. demo_holds number (object_bytes (demo_parts number)) refl) no_fault
-    (λ number input closed is. code_has_room (functions_from 2000 0 number) input closed (length-functions 2000 0 number) is)
+    (λ number input closed one is. code_has_room (functions_from 2000 0 number) input closed one (length-functions 2000 0 number) is)

@@ -13,8 +13,8 @@ use Rattle.obj_program.specs.Program.{is_end}
 use Rattle.obj_items.specs.Outline.{outline}
 use Rattle.obj_items.specs.Links.{item_with}
 use Rattle.obj_items.specs.ProgramOf.{program_of}
-use Rattle.cfi_flow.specs.Closed.{ClosedGraph}
-use Rattle.cfi_flow.specs.Placement.{gate_size, is_long, is_target, size_of}
+use Rattle.cfi_flow.specs.Closed.{ClosedGraph, Side}
+use Rattle.cfi_flow.specs.Placement.{lead_size, is_long, is_target, size_of}
 use Rattle.cfi_harden.specs.Sizes.{part_sizes, whole_size}
 use Rattle.cfi_gen.specs.declared.function.Function.{Function}
 use Rattle.gen_program.specs.Generated.{IsGenerated}
@@ -32,22 +32,22 @@ unit_weighs is.Ijump long = omega arith
 unit_weighs is.Icall long = omega arith
 unit_weighs other long = omega arith
 
-gate_weighs : (classes : List (List ℕ)) (k : ℕ) → gate_size classes k ≤ 4
-gate_weighs classes k =
-    elim (cases_Bool (is_target classes k)) [ inl target ↦ rw target (omega arith) | inr other ↦ rw other (omega arith) ]
+lead_weighs : (sides : List Side) (k : ℕ) → length sides ≡ 1 → lead_size sides k ≤ 4
+lead_weighs sides k one =
+    elim (cases_Bool (is_target sides k)) [ inl target ↦ rw target (omega arith) | inr other ↦ rw other (omega arith) ]
 
-parts_weigh : (classes : List (List ℕ)) (long : List Bool) (k : ℕ) (items : List Item)
-    → sum (part_sizes classes long k items) ≤ sum_by item_weight items
+parts_weigh : (sides : List Side) (long : List Bool) (k : ℕ) (items : List Item) → length sides ≡ 1
+    → sum (part_sizes sides long k items) ≤ sum_by item_weight items
 unfolding part_sizes
-parts_weigh classes long k [] = omega arith
-parts_weigh classes long k (item ∷ items) =
-    let size = gate_size classes k + size_of item.kind (is_long long k) in
+parts_weigh sides long k [] one = omega arith
+parts_weigh sides long k (item ∷ items) one =
+    let size = lead_size sides k + size_of item.kind (is_long long k) in
     omega (
       arith,
       unit_weighs item.kind (is_long long k),
-      gate_weighs classes k,
-      parts_weigh classes long (k + 1) items,
-      sum_by-cons (λ (x : ℕ). x) size (part_sizes classes long (k + 1) items),
+      lead_weighs sides k one,
+      parts_weigh sides long (k + 1) items one,
+      sum_by-cons (λ (x : ℕ). x) size (part_sizes sides long (k + 1) items),
       sum_by-cons item_weight item items,
     )
 
@@ -67,19 +67,19 @@ linked_weighs input places (item ∷ items) =
     )
 
 -- the prologue has 64 bytes
-pub size_within : (fs : List Function) (input : InputParts) (closed : ClosedGraph) → IsGenerated fs input
+pub size_within : (fs : List Function) (input : InputParts) (closed : ClosedGraph) → length closed.sides ≡ 1 → IsGenerated fs input
     → whole_size (program_of input) closed ≤ 64 + (17 * 84 + 332 * length fs + 8)
 unfolding program_of
-size_within fs input closed g =
+size_within fs input closed one g =
     let places = outline input in
     omega (
       arith,
-      parts_weigh closed.classes [] 0 (map (item_with input places) places),
+      parts_weigh closed.sides [] 0 (map (item_with input places) places) one,
       linked_weighs input places places,
       outline_weighs fs input g,
     )
 
--- the code of 2,000 functions has room, whatever its graph
-pub code_has_room : (fs : List Function) (input : InputParts) (closed : ClosedGraph) → length fs ≡ 2000 → IsGenerated fs input
+-- the code of 2,000 functions has room, whatever its graph of one side
+pub code_has_room : (fs : List Function) (input : InputParts) (closed : ClosedGraph) → length closed.sides ≡ 1 → length fs ≡ 2000 → IsGenerated fs input
     → whole_size (program_of input) closed ≤ CODE_SIZE
-code_has_room fs input closed many g = omega (arith, many, size_within fs input closed g)
+code_has_room fs input closed one many g = omega (arith, many, size_within fs input closed one g)

@@ -49,12 +49,12 @@ rise_all (line ∷ next ∷ lines) order (suc k) below =
 module _ (program : Program) (closed : ClosedGraph) (lines : List MapLine) (map : IsMap lines) (legal : IsLegalMap program closed lines)
     (gates : List ℕ) (are : gates ≡ gates_of lines) where
   pub gates_counted : length gates ≡ count program
-  gates_counted = ap length are ∙ as_many_gates closed.classes legal.gates.0 0 UNITS_START program.items (gates_of lines) legal.gates.1
+  gates_counted = ap length are ∙ as_many_gates closed.sides legal.gates.0 0 UNITS_START program.items (gates_of lines) legal.gates.1
 
-  pub words_there : (words : List ℕ) → words ≡ words_from closed.classes 0 gates → length words ≡ count program
-  words_there words is = ap length is ∙ as_many_words closed.classes 0 gates ∙ gates_counted
+  pub words_there : (words : List ℕ) → words ≡ words_from closed.sides 0 gates → length words ≡ count program
+  words_there words is = ap length is ∙ as_many_words closed.sides 0 gates ∙ gates_counted
 
-  pub is_placed : (entry : ℕ) (gs ws code : List ℕ) → entry < count program → gs ≡ gates → ws ≡ words_from closed.classes 0 gates →
+  pub is_placed : (entry : ℕ) (gs ws code : List ℕ) → entry < count program → gs ≡ gates → ws ≡ words_from closed.sides 0 gates →
       AreRead program gs ws (count program) code → HoldsItsWords (program_at program closed gates entry) code
   is_placed entry gs ws code below same words read = record {
     profile = refl;

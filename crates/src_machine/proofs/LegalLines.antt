@@ -30,7 +30,7 @@ module _ (program : Program) (closed : ClosedGraph) (lines : List MapLine) where
   gate_in n i below within = mapped (λ (l : MapLine). l.gate) lines n i no_line 0 below within
 
   stands_next : (i : ℕ) → stands program closed lines (suc i)
-      ≡ follows closed.classes (item_of program (suc i - 1)).kind (suc i - 1) (line_at lines (suc i - 1)).gate (line_at lines (suc i)).gate
+      ≡ follows closed.sides (item_of program (suc i - 1)).kind (suc i - 1) (line_at lines (suc i - 1)).gate (line_at lines (suc i)).gate
   stands_next i =
       let apart : (suc i == 0) ≡ false = false_from_ne_true (suc i == 0) (λ e. let same = eqb-true (suc i) 0 e in absurd (omega arith)) in
       rw apart refl
@@ -66,18 +66,18 @@ module _ (program : Program) (closed : ClosedGraph) (lines : List MapLine) where
         (λ i below. mapped (λ (l : MapLine). l.offset) lines n i no_line 0 (omega arith) in_lines
         ∙ sym (spots i (omega arith)).1 ∙ sym (mapped (λ (i : Item). i.offset) program.items n i no_item 0 (omega arith) in_items))
 
-    legal_gates : IsLegal closed.classes (take n program.items) (gates_of (take n lines))
+    legal_gates : IsLegal closed.sides (take n program.items) (gates_of (take n lines))
     legal_gates =
         let size : length (gates_of (take n lines)) ≡ n = map_size (λ (l : MapLine). l.gate) lines n in_lines in
         let places : length (take n program.items) ≡ n = length-take-le n program.items in_items in (
           _,
-          placed_by closed.classes UNITS_START (take n program.items) (gates_of (take n lines)) (omega arith)
+          placed_by closed.sides UNITS_START (take n program.items) (gates_of (take n lines)) (omega arith)
               (λ some. gate_in n 0 (omega arith) in_lines ∙ eqb-true _ _ (stood 0 (omega arith)))
               (λ i below.
               let less : suc i < n = omega arith in
               let index : suc i - 1 ≡ i = omega arith in
-              let at : follows closed.classes (item_of program i).kind i (line_at lines i).gate (line_at lines (suc i)).gate ≡ true =
-              subst (λ (k : ℕ). follows closed.classes (item_of program k).kind k (line_at lines k).gate (line_at lines (suc i)).gate ≡ true) index (sym (stands_next i) ∙ stood (suc i) less) in
+              let at : follows closed.sides (item_of program i).kind i (line_at lines i).gate (line_at lines (suc i)).gate ≡ true =
+              subst (λ (k : ℕ). follows closed.sides (item_of program k).kind k (line_at lines k).gate (line_at lines (suc i)).gate ≡ true) index (sym (stands_next i) ∙ stood (suc i) less) in
               let kind = kind_taken n i (omega arith) in
               let here = gate_in n i (omega arith) in_lines in
               let there = gate_in n (suc i) less in_lines in
@@ -102,20 +102,20 @@ module _ (program : Program) (closed : ClosedGraph) (lines : List MapLine) where
   stands_right : (j : ℕ) → BeginsLegal program closed lines (j + 1) → j < length lines → j < count program → stands program closed lines j ≡ true
   stands_right zero legal in_lines in_items =
       let size = map_size (λ (l : MapLine). l.gate) lines 1 (omega arith) in
-      eq-eqb _ _ (sym (gate_in 1 0 (omega arith) (omega arith)) ∙ first_gate closed.classes legal.gates.0 0 UNITS_START (take 1 program.items) (gates_of (take 1 lines)) legal.gates.1 (omega arith))
+      eq-eqb _ _ (sym (gate_in 1 0 (omega arith) (omega arith)) ∙ first_gate closed.sides legal.gates.0 0 UNITS_START (take 1 program.items) (gates_of (take 1 lines)) legal.gates.1 (omega arith))
   stands_right (suc i) legal in_lines in_items =
       let n : ℕ = suc i + 1 in
       let size = map_size (λ (l : MapLine). l.gate) lines n (omega arith) in
       let zero_plus : 0 + i ≡ i = omega arith in
       let index : i ≡ suc i - 1 = omega arith in
-      let step = next_gate closed.classes legal.gates.0 0 UNITS_START (take n program.items) (gates_of (take n lines)) legal.gates.1 i (omega arith) in
+      let step = next_gate closed.sides legal.gates.0 0 UNITS_START (take n program.items) (gates_of (take n lines)) legal.gates.1 i (omega arith) in
       let kind = kind_taken n i (omega arith) in
       let here = gate_in n i (omega arith) (omega arith) in
       let there = gate_in n (suc i) (omega arith) (omega arith) in
       let moved = rw (kind, here, there, zero_plus) at step in
       stands_next i
-      ∙ subst (λ (k : ℕ). follows closed.classes (item_of program k).kind k (line_at lines k).gate (line_at lines (suc i)).gate ≡ true) index
-      (follows_by closed.classes (item_of program i).kind i (line_at lines i).gate (line_at lines (suc i)).gate (is_long legal.gates.0 i) moved)
+      ∙ subst (λ (k : ℕ). follows closed.sides (item_of program k).kind k (line_at lines k).gate (line_at lines (suc i)).gate ≡ true) index
+      (follows_by closed.sides (item_of program i).kind i (line_at lines i).gate (line_at lines (suc i)).gate (is_long legal.gates.0 i) moved)
 
   line_right : (j : ℕ) → BeginsLegal program closed lines (j + 1) → j < length lines → j < count program → is_right program closed lines j ≡ true
   line_right j legal in_lines in_items = and_from _ _ (spot_right j legal in_lines in_items) (stands_right j legal in_lines in_items)

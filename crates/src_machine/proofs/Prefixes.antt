@@ -6,20 +6,20 @@ use Rattle.rv_word.specs.MemoryMap.{UNITS_START}
 use Rattle.cfi_graph.specs.declared.map.MapLine.{MapLine}
 use Rattle.obj_program.specs.declared.item.Item.{Item}
 use Rattle.obj_program.specs.Program.{Program}
-use Rattle.cfi_flow.specs.Closed.{ClosedGraph}
+use Rattle.cfi_flow.specs.Closed.{ClosedGraph, Side}
 use Rattle.cfi_flow.specs.LegalMap.{IsLegalMap, gates_of}
 use Rattle.cfi_flow.specs.MapFault.{BeginsLegal, IsWrongLine}
-use Rattle.cfi_flow.specs.Placement.{AreGates, gate_size, is_long, size_of}
+use Rattle.cfi_flow.specs.Placement.{AreGates, lead_size, is_long, size_of}
 use Rattle.src_machine.specs.Laws.{BeginsAsLegal, OneIsFirst, WrongIsNotLegal}
 
-first_gates : (classes : List (List ℕ)) (long : List Bool) (k at : ℕ) (items : List Item) (gates : List ℕ) (n : ℕ)
-    → AreGates classes long k at items gates → AreGates classes long k at (take n items) (take n gates)
+first_gates : (sides : List Side) (long : List Bool) (k at : ℕ) (items : List Item) (gates : List ℕ) (n : ℕ)
+    → AreGates sides long k at items gates → AreGates sides long k at (take n items) (take n gates)
 unfolding AreGates
-first_gates classes long k at items gates zero are = tt
-first_gates classes long k at [] [] (suc n) are = tt
-first_gates classes long k at [] (gate ∷ gates) (suc n) are = absurd are
-first_gates classes long k at (item ∷ items) [] (suc n) are = absurd are
-first_gates classes long k at (item ∷ items) (gate ∷ gates) (suc n) are = (are.0, first_gates classes long (k + 1) _ items gates n are.1)
+first_gates sides long k at items gates zero are = tt
+first_gates sides long k at [] [] (suc n) are = tt
+first_gates sides long k at [] (gate ∷ gates) (suc n) are = absurd are
+first_gates sides long k at (item ∷ items) [] (suc n) are = absurd are
+first_gates sides long k at (item ∷ items) (gate ∷ gates) (suc n) are = (are.0, first_gates sides long (k + 1) _ items gates n are.1)
 
 first_first : {A : Type 0} (xs : List A) (n m : ℕ) → n ≤ m → take n (take m xs) ≡ take n xs
 first_first xs zero m below = refl
@@ -34,8 +34,8 @@ begins_first program closed lines n legal = record {
   offsets = sym (take-map (λ (l : MapLine). l.offset) n lines) ∙ ap (take n) legal.offsets ∙ take-map (λ (i : Item). i.offset) n program.items;
   gates = (
     legal.gates.0,
-    subst (λ (gates : List ℕ). AreGates closed.classes legal.gates.0 0 UNITS_START (take n program.items) gates) (take-map (λ (l : MapLine). l.gate) n lines)
-        (first_gates closed.classes legal.gates.0 0 UNITS_START program.items (gates_of lines) n legal.gates.1),
+    subst (λ (gates : List ℕ). AreGates closed.sides legal.gates.0 0 UNITS_START (take n program.items) gates) (take-map (λ (l : MapLine). l.gate) n lines)
+        (first_gates closed.sides legal.gates.0 0 UNITS_START program.items (gates_of lines) n legal.gates.1),
   );
 }
 
@@ -65,30 +65,30 @@ one_is_first program closed lines a b one other = elim (cases_lt a b) [
 ]
 
 -- the lines of a placement with these branches long
-unfoldable lines_at : List (List ℕ) → List Bool → ℕ → ℕ → List Item → List MapLine
-lines_at classes long k at [] = []
-lines_at classes long k at (item ∷ items) =
+unfoldable lines_at : List Side → List Bool → ℕ → ℕ → List Item → List MapLine
+lines_at sides long k at [] = []
+lines_at sides long k at (item ∷ items) =
     record { gate = at; section = item.section; offset = item.offset }
-    ∷ lines_at classes long (k + 1) (at + gate_size classes k + size_of item.kind (is_long long k)) items
+    ∷ lines_at sides long (k + 1) (at + lead_size sides k + size_of item.kind (is_long long k)) items
 
-gates_at : (classes : List (List ℕ)) (long : List Bool) (k at : ℕ) (items : List Item) → AreGates classes long k at items (gates_of (lines_at classes long k at items))
+gates_at : (sides : List Side) (long : List Bool) (k at : ℕ) (items : List Item) → AreGates sides long k at items (gates_of (lines_at sides long k at items))
 unfolding lines_at AreGates
-gates_at classes long k at [] = tt
-gates_at classes long k at (item ∷ items) = (refl, gates_at classes long (k + 1) (at + gate_size classes k + size_of item.kind (is_long long k)) items)
+gates_at sides long k at [] = tt
+gates_at sides long k at (item ∷ items) = (refl, gates_at sides long (k + 1) (at + lead_size sides k + size_of item.kind (is_long long k)) items)
 
-sections_at : (classes : List (List ℕ)) (long : List Bool) (k at : ℕ) (items : List Item) →
-    map (λ (l : MapLine). l.section) (lines_at classes long k at items) ≡ map (λ (i : Item). i.section) items
+sections_at : (sides : List Side) (long : List Bool) (k at : ℕ) (items : List Item) →
+    map (λ (l : MapLine). l.section) (lines_at sides long k at items) ≡ map (λ (i : Item). i.section) items
 unfolding lines_at
-sections_at classes long k at [] = refl
-sections_at classes long k at (item ∷ items) =
-    ap (λ (ns : List ℕ). item.section ∷ ns) (sections_at classes long (k + 1) (at + gate_size classes k + size_of item.kind (is_long long k)) items)
+sections_at sides long k at [] = refl
+sections_at sides long k at (item ∷ items) =
+    ap (λ (ns : List ℕ). item.section ∷ ns) (sections_at sides long (k + 1) (at + lead_size sides k + size_of item.kind (is_long long k)) items)
 
-offsets_at : (classes : List (List ℕ)) (long : List Bool) (k at : ℕ) (items : List Item) →
-    map (λ (l : MapLine). l.offset) (lines_at classes long k at items) ≡ map (λ (i : Item). i.offset) items
+offsets_at : (sides : List Side) (long : List Bool) (k at : ℕ) (items : List Item) →
+    map (λ (l : MapLine). l.offset) (lines_at sides long k at items) ≡ map (λ (i : Item). i.offset) items
 unfolding lines_at
-offsets_at classes long k at [] = refl
-offsets_at classes long k at (item ∷ items) =
-    ap (λ (ns : List ℕ). item.offset ∷ ns) (offsets_at classes long (k + 1) (at + gate_size classes k + size_of item.kind (is_long long k)) items)
+offsets_at sides long k at [] = refl
+offsets_at sides long k at (item ∷ items) =
+    ap (λ (ns : List ℕ). item.offset ∷ ns) (offsets_at sides long (k + 1) (at + lead_size sides k + size_of item.kind (is_long long k)) items)
 
 heads : (a b : ℕ) (xs ys : List ℕ) → a ∷ xs ≡ b ∷ ys → (a ≡ b) × (xs ≡ ys)
 heads a b xs ys e = (cc, cc)
@@ -99,35 +99,35 @@ one_line line item at gate section offset =
     ap (λ (g : ℕ). record line { gate = g }) gate ∙ ap (λ (s : ℕ). record line { gate = at; section = s }) section
     ∙ ap (λ (o : ℕ). record line { gate = at; section = item.section; offset = o }) offset
 
-same_lines : (classes : List (List ℕ)) (long : List Bool) (k at : ℕ) (items : List Item) (lines : List MapLine) (n : ℕ) →
-    AreGates classes long k at (take n items) (gates_of (take n lines)) →
+same_lines : (sides : List Side) (long : List Bool) (k at : ℕ) (items : List Item) (lines : List MapLine) (n : ℕ) →
+    AreGates sides long k at (take n items) (gates_of (take n lines)) →
     map (λ (l : MapLine). l.section) (take n lines) ≡ map (λ (i : Item). i.section) (take n items) →
     map (λ (l : MapLine). l.offset) (take n lines) ≡ map (λ (i : Item). i.offset) (take n items) →
-    take n lines ≡ take n (lines_at classes long k at items)
+    take n lines ≡ take n (lines_at sides long k at items)
 unfolding lines_at AreGates
-same_lines classes long k at items lines zero are sections offsets = refl
-same_lines classes long k at [] [] (suc n) are sections offsets = refl
-same_lines classes long k at [] (line ∷ lines) (suc n) are sections offsets = absurd are
-same_lines classes long k at (item ∷ items) [] (suc n) are sections offsets = absurd are
-same_lines classes long k at (item ∷ items) (line ∷ lines) (suc n) are sections offsets =
+same_lines sides long k at items lines zero are sections offsets = refl
+same_lines sides long k at [] [] (suc n) are sections offsets = refl
+same_lines sides long k at [] (line ∷ lines) (suc n) are sections offsets = absurd are
+same_lines sides long k at (item ∷ items) [] (suc n) are sections offsets = absurd are
+same_lines sides long k at (item ∷ items) (line ∷ lines) (suc n) are sections offsets =
     let s = heads line.section item.section _ _ sections in
     let o = heads line.offset item.offset _ _ offsets in
     ap (λ (l : MapLine). l ∷ take n lines) (one_line line item at are.0 s.0 o.0)
     ∙ ap (λ (ls : List MapLine). record { gate = at; section = item.section; offset = item.offset } ∷ ls)
-    (same_lines classes long (k + 1) (at + gate_size classes k + size_of item.kind (is_long long k)) items lines n are.1 s.1 o.1)
+    (same_lines sides long (k + 1) (at + lead_size sides k + size_of item.kind (is_long long k)) items lines n are.1 s.1 o.1)
 
 pub begins_as_legal : BeginsAsLegal
 begins_as_legal program closed lines n = (
   λ begins.
       let long : List Bool = begins.gates.0 in
-      let legal : List MapLine = lines_at closed.classes long 0 UNITS_START program.items in (
+      let legal : List MapLine = lines_at closed.sides long 0 UNITS_START program.items in (
         legal,
         record {
-          sections = sections_at closed.classes long 0 UNITS_START program.items;
-          offsets = offsets_at closed.classes long 0 UNITS_START program.items;
-          gates = (long, gates_at closed.classes long 0 UNITS_START program.items);
+          sections = sections_at closed.sides long 0 UNITS_START program.items;
+          offsets = offsets_at closed.sides long 0 UNITS_START program.items;
+          gates = (long, gates_at closed.sides long 0 UNITS_START program.items);
         },
-        same_lines closed.classes long 0 UNITS_START program.items lines n begins.gates.1 begins.sections begins.offsets,
+        same_lines closed.sides long 0 UNITS_START program.items lines n begins.gates.1 begins.sections begins.offsets,
       ),
   λ (legal, is, same).
       subst (λ (ls : List MapLine). IsLegalMap (record program { items = take n program.items }) closed ls) (sym same) (begins_first program closed legal n is),

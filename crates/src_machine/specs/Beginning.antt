@@ -17,7 +17,7 @@ use Rattle.src_machine.specs.declared.source_end.SourceEnd.TheVariants as ends
 -- a run at a map that begins at the instruction with a section and an offset
 pub record IsBegun (program : Program) (closed : ClosedGraph) (lines : List MapLine) (section offset : ℕ) (input : List ℕ) (run : SourceParts) : Type 0 where
   pub legal : IsLegalMap program closed lines
-  pub in_range : out_of_range program (gates_of lines) (words_from closed.classes 0 (gates_of lines)) ≡ None
+  pub in_range : out_of_range program (gates_of lines) (words_from closed.sides 0 (gates_of lines)) ≡ None
   pub entry : instruction_at program (section, offset) ≡ Some run.layout.entry
   pub layout : run.layout ≡ program_at program closed (gates_of lines) run.layout.entry
   pub state : source_of run ≡ source_start run.layout input
@@ -28,5 +28,5 @@ abbrev pub Ends : Program → ClosedGraph → List MapLine → SourceEnd → Typ
 Ends program closed lines (ends.BadMap number) = IsWrongLine program closed lines number
 Ends program closed lines (ends.RelocRange section offset) =
     IsLegalMap program closed lines
-    × (out_of_range program (gates_of lines) (words_from closed.classes 0 (gates_of lines)) ≡ Some (record { section = section; offset = offset }))
+    × (out_of_range program (gates_of lines) (words_from closed.sides 0 (gates_of lines)) ≡ Some (record { section = section; offset = offset }))
 Ends program closed lines ends.NoMemory = Unit {0}

@@ -4,8 +4,8 @@ use Rattle.rv_word.specs.MemoryMap.{UNITS_START}
 use Rattle.cfi_graph.specs.declared.map.MapLine.{MapLine}
 use Rattle.obj_input.specs.declared.item_kind.ItemKind.{ItemKind}
 use Rattle.obj_program.specs.Program.{Program, count, is_spot, item_of}
-use Rattle.cfi_flow.specs.Closed.{ClosedGraph}
-use Rattle.cfi_flow.specs.Placement.{gate_size, size_of}
+use Rattle.cfi_flow.specs.Closed.{ClosedGraph, Side}
+use Rattle.cfi_flow.specs.Placement.{lead_size, size_of}
 
 abbrev pub no_line : MapLine
 no_line = record { gate = 0; section = 0; offset = 0 }
@@ -14,14 +14,14 @@ abbrev pub line_at : List MapLine → ℕ → MapLine
 line_at lines j = slice_index_or lines j no_line
 
 -- a gate stands behind the unit of the place k, long or short
-abbrev pub follows : List (List ℕ) → ItemKind → ℕ → ℕ → ℕ → Bool
-follows classes kind k gate next =
-    next == gate + (gate_size classes k + size_of kind true) || next == gate + (gate_size classes k + size_of kind false)
+abbrev pub follows : List Side → ItemKind → ℕ → ℕ → ℕ → Bool
+follows sides kind k gate next =
+    next == gate + (lead_size sides k + size_of kind true) || next == gate + (lead_size sides k + size_of kind false)
 
 abbrev pub stands : Program → ClosedGraph → List MapLine → ℕ → Bool
 stands program closed lines j =
     if j == 0 then (line_at lines 0).gate == UNITS_START
-    else follows closed.classes (item_of program (j - 1)).kind (j - 1) (line_at lines (j - 1)).gate (line_at lines j).gate
+    else follows closed.sides (item_of program (j - 1)).kind (j - 1) (line_at lines (j - 1)).gate (line_at lines j).gate
 
 -- a line is that of its place
 abbrev pub is_right : Program → ClosedGraph → List MapLine → ℕ → Bool

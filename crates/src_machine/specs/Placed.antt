@@ -27,7 +27,7 @@ pub record AreRead (program : Program) (gates words : List ℕ) (n : ℕ) (code 
 -- a layout is that of a program at a map where each value is in range
 pub record AreAt (program : Program) (closed : ClosedGraph) (lines : List MapLine) (entry : ℕ) (layout : ProgramAtMap) : Type 0 where
   pub layout_is : layout ≡ program_at program closed (gates_of lines) entry
-  pub in_range : out_of_range program (gates_of lines) (words_from closed.classes 0 (gates_of lines)) ≡ None
+  pub in_range : out_of_range program (gates_of lines) (words_from closed.sides 0 (gates_of lines)) ≡ None
 
 -- the word of each instruction with the values of its relocations
 abbrev pub AreWords : ProgramAtMap → List ℕ → Type 0

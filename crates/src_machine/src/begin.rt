@@ -18,11 +18,11 @@ ghost use Rattle.cfi_flow.specs.Source.{source_start};
 ghost use Rattle.src_machine.specs.State.{source_in};
 
 use crate::legal::wrong_line;
-use crate::placed::{Placed, gate_size};
+use crate::placed::Placed;
 use crate::run::SourceRun;
 use crate::source_end::SourceEnd;
 use crate::state::State;
-use cfi_flow::Closed;
+use cfi_flow::{Closed, words_behind};
 use cfi_graph::{Map, MapLine};
 use obj_input::ItemKind;
 use obj_program::laws::none_out_of_range;
@@ -37,18 +37,6 @@ fn gates(alloc: Global, lines: &[MapLine]) -> Result<Vec<u64>, NoMemory>
 {
     let gates = lines.iter().map(|line| line.gate).collect(alloc)?;
     Ok(gates)
-}
-
-/// The addresses of units behind their gate words.
-fn words(alloc: Global, closed: &Closed, gates: &[u64]) -> Result<Vec<u64>, NoMemory>
-    requires { (k : ℕ) → slice_index gates.now k < 2 ^ 32 }
-    ensures { IfOk result (λ v. v.items ≡ words_from closed.now.classes 0 gates.now) }
-{
-    let mut words = Vec::new(alloc);
-    for k in 0..gates.len() {
-        words.push(gates[k] + gate_size(closed, k as u64))?;
-    }
-    Ok(words)
 }
 
 /// The word of an instruction with the value of its relocation; 0 at the end of a section.
@@ -94,7 +82,7 @@ fn placed<'a, 'b>(
     ensures { MatchResult result (λ p. AreAt items.now closed.now lines.now entry p) (λ e. Ends items.now closed.now lines.now e) }
 {
     let gates = gates(alloc, lines)?;
-    let words = words(alloc, closed, &gates)?;
+    let words = words_behind(alloc, closed, &gates)?;
     if let Some(place) = items.out_of_range(&gates, &words) {
         return Err(SourceEnd::RelocRange(place.section, place.offset));
     }
@@ -125,7 +113,7 @@ fn init(alloc: Global, items: &Items, gates: &[u64]) -> Result<Vec<u8>, NoMemory
 
 /// The state in which a placed program starts.
 fn start(alloc: Global, placed: &Placed, input: &[u8]) -> Result<State, NoMemory>
-    requires range { out_of_range placed.now.program placed.now.gates (words_from placed.now.closed.classes 0 placed.now.gates) ≡ None }
+    requires range { out_of_range placed.now.program placed.now.gates (words_from placed.now.closed.sides 0 placed.now.gates) ≡ None }
     requires data { DATA_START + init_size placed.now.program ≤ DATA_END }
     ensures { IfOk result (λ st. source_in st ≡ source_start placed.now input.now) }
 {

@@ -4,46 +4,28 @@ ghost use Rattle.std.specs.Prelude.{◌≡◌, ◌==◌, ◌<◌, ◌≤◌, ◌
 ghost use Rattle.least.specs.First.{first_below};
 ghost use Rattle.obj_program.specs.Program.{count, item_of};
 ghost use Rattle.cfi_flow.specs.LegalMap.{IsLegalMap};
-ghost use Rattle.cfi_flow.specs.Placement.{size_of};
 ghost use Rattle.cfi_flow.specs.MapFault.{IsWrongLine};
 ghost use Rattle.src_machine.specs.MapLine.{follows, is_right, is_wrong, stands};
 
-use crate::placed::gate_size;
-use cfi_flow::Closed;
+use cfi_flow::{Closed, unit_size};
 use cfi_graph::MapLine;
 use least::first_below_u64;
 use obj_input::ItemKind;
 use obj_program::Items;
 use rv_word::profile::UNITS_START;
 
-/// How many bytes the unit of a kind of place has, with its branch long or short.
-fn unit_size(kind: ItemKind, long: bool) -> u64
-    ensures value { result ≡ size_of kind long }
-    ensures small { result < 2 ^ 32 }
-{
-    match kind {
-        ItemKind::Store => 16,
-        ItemKind::Branch if long => 8,
-        ItemKind::Call => 32,
-        ItemKind::Return => 20,
-        ItemKind::Ijump => 52,
-        ItemKind::Icall => 80,
-        _ => 4,
-    }
-}
-
 /// Whether an address is so many bytes behind another.
-fn is_behind(address: u64, next: u64, bytes: u64) -> bool
+fn is_behind(address: u64, next: u64, bytes: u32) -> bool
     ensures { result ≡ (next == address + bytes) }
 {
-    address <= next && next - address == bytes
+    address <= next && next - address == u64::from(bytes)
 }
 
 /// Whether a gate stands behind the unit of the place `k`, whose gate is this one.
 fn follows(closed: &Closed, kind: ItemKind, k: u64, gate: u64, next: u64) -> bool
-    ensures { result ≡ follows closed.now.classes kind k gate next }
+    ensures { result ≡ follows closed.now.sides kind k gate next }
 {
-    let lead = gate_size(closed, k);
+    let lead = closed.lead_size(k);
     is_behind(gate, next, lead + unit_size(kind, true))
         || is_behind(gate, next, lead + unit_size(kind, false))
 }

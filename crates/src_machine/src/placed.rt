@@ -3,13 +3,12 @@ ghost use Rattle.std.specs.List.Sorted.{IsStrictlyIncreasing};
 ghost use Rattle.obj_program.specs.MapFit.{EndsLast};
 ghost use Rattle.obj_program.specs.Program.{count, is_end, item_of};
 ghost use Rattle.cfi_flow.specs.GraphAtMap.{gate, word};
-ghost use Rattle.cfi_flow.specs.Placement.{gate_size};
 ghost use Rattle.rv_word.specs.MemoryMap.{version_1};
 ghost use Rattle.obj_program.specs.Sound.{IsSound};
 ghost use Rattle.cfi_flow.specs.Source.{instr_here};
-ghost use Rattle.cfi_flow.specs.Untame.{if_reached, place_with_gate, class_reaches};
+ghost use Rattle.cfi_flow.specs.Untame.{if_reached, place_with_gate};
 
-use cfi_flow::Closed;
+use cfi_flow::{Closed, address_at};
 use obj_program::{Item, Items};
 use rv_code::decode;
 use rv_instr::Instr;
@@ -37,31 +36,12 @@ impl<'a, 'b> Model for Placed<'a, 'b> {
     ghost invariant = { λ p. HoldsItsWords (program_at p.items.now p.closed.now p.gates.items p.entry) p.code.items };
 }
 
-/// The address of the place with this index.
-fn address_at(addresses: &[u64], k: u64) -> u64
-    requires { k < length addresses.now }
-    ensures { result ≡ slice_index addresses.now k }
-{
-    addresses[k as usize]
-}
-
 /// The word of the place with this index.
 fn word_at(code: &[u32], k: u64) -> u32
     requires { k < length code.now }
     ensures { result ≡ slice_index code.now k }
 {
     code[k as usize]
-}
-
-/// How many bytes the gate word of a place has, if it has one.
-pub(crate) fn gate_size(closed: &Closed, place: u64) -> u64
-    ensures { result ≡ gate_size closed.now.classes place }
-{
-    if closed.class_at(place).is_some() {
-        4
-    } else {
-        0
-    }
 }
 
 /// How many gates are below an address.
@@ -84,16 +64,6 @@ fn place_with_gate(gates: &[u64], address: u64) -> Option<u64>
         Some(k as u64)
     } else {
         None
-    }
-}
-
-/// Whether the class that the site at a place reaches has another place.
-fn class_reaches(closed: &Closed, k: u64, target: u64) -> bool
-    ensures { result ≡ class_reaches closed.now k target }
-{
-    match (closed.class_of(k), closed.class_at(target)) {
-        (Some(class), Some(other)) => class == other,
-        _ => false,
     }
 }
 
@@ -131,9 +101,11 @@ impl<'a, 'b> Placed<'a, 'b> {
     /// The word of a place.
     pub(crate) fn word(&self, k: u64) -> u64
         requires { k < count self.now.program }
-        ensures { result ≡ word self.now k }
+        ensures value { result ≡ word self.now k }
+        ensures near { result < 2 ^ 63 }
     {
-        self.gate(k) + gate_size(self.closed, k)
+        let _count = self.count();
+        self.gate(k) + u64::from(self.closed.lead_size(k))
     }
 
     /// The instruction of a place, with the values of its relocations.
@@ -151,7 +123,7 @@ impl<'a, 'b> Placed<'a, 'b> {
         ensures there { IfSome result (λ target. target < count self.now.program) }
     {
         let target = place_with_gate(&self.gates, address)?;
-        if class_reaches(self.closed, k, target) {
+        if self.closed.reaches(k, target) {
             Some(target)
         } else {
             None

@@ -6,6 +6,7 @@ use Rattle.cfi_flow.specs.Found.{site_with}
 use Rattle.cfi_flow.specs.Sites.{RawSite}
 use Rattle.cfi_flow.specs.Tables.{IsTable}
 use Rattle.cfi_flow.proofs.Classing.{by_table_there, closed_by_table}
+use Rattle.cfi_flow.proofs.Sides.{closed_in_one}
 use Rattle.cfi_flow.proofs.closing.close.Goals as goal
 
 pub site_table-requires : goal.site_table-requires
@@ -34,9 +35,7 @@ returns c =
     let classes = subst (λ (classes : List (List ℕ)). IsTable (class_with classes) c.places-places.result c.in_ok-class_at.class_at.items) c.as_slice.ensures.value c.in_ok-class_at.ensures in
     let table = subst (λ (m : ℕ). IsTable (class_with c.in_ok-classes.classes.items) m c.as_slice-2.result.now) many
     (subst (λ (t : List (Option ℕ)). IsTable (class_with c.in_ok-classes.classes.items) c.places-places.result t) (sym c.as_slice-2.ensures.value) classes) in
-    record {
-      classes = c.in_ok-classes.ensures.are;
-      sites = c.in_ok-sites.ensures
-          ∙ closed_by_table c.in_ok-classes.classes.items (length c.args.raw.now.taken) c.as_slice-2.result.now table c.args.raw.now.sites c.places-places.ensures.there.targets;
-      taken = c.in_ok-taken.ensures.items ∙ c.marks.ensures;
-    }
+    closed_in_one c.args.raw.now c.in_ok-classes.classes.items c.in_ok-sites.sites.items c.in_ok-taken.taken.items c.in_ok-classes.ensures.are
+    (c.in_ok-sites.ensures
+    ∙ closed_by_table c.in_ok-classes.classes.items (length c.args.raw.now.taken) c.as_slice-2.result.now table c.args.raw.now.sites c.places-places.ensures.there.targets)
+    (c.in_ok-taken.ensures.items ∙ c.marks.ensures)

@@ -28,4 +28,4 @@ pub returns : goal.returns
 returns c =
     placed c.args.items.now c.args.closed.now c.args.placement.now c.requires c.count-count.ensures.sound c.in_ok-long.long.items c.in_ok-long.ensures c.in_ok-gates.gates.items c.in_ok-words.words.items
     (gates_at c.in_ok-gates.ensures.items c.count-count.ensures.value c.starts.ensures)
-    (c.in_ok-words.ensures ∙ ap (words_from c.args.closed.now.classes 0) c.as_slice.ensures.value)
+    (c.in_ok-words.ensures ∙ ap (words_from c.args.closed.now.sides 0) c.as_slice.ensures.value)

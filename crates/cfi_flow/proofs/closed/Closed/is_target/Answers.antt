@@ -1,0 +1,11 @@
+use Rattle.std.proofs.Common.{[], ◌∙◌, ap}
+use Rattle.std.specs.Option.{is_some}
+use Rattle.cfi_flow.specs.Closed.{first_side, has}
+use Rattle.cfi_flow.proofs.Placing.{some_is_any}
+use Rattle.cfi_flow.proofs.Sides.{one_target}
+use Rattle.cfi_flow.proofs.closed.Closed.is_target.Goals as goal
+
+pub returns : goal.returns
+returns c =
+    c.is_some.ensures ∙ ap is_some c.class_at.ensures ∙ some_is_any (has c.args.place) (first_side c.args.self.now).classes []
+    ∙ one_target c.args.self.now c.args.place c.places-places.ensures.one

@@ -1,6 +1,0 @@
-use Rattle.std.proofs.Common.{◌≡◌, ◌++◌, drop}
-use Rattle.cfi_flow.specs.Placement.{words_from}
-use Rattle.src_machine.proofs.begin.words.Given as goal
-
-abbrev pub invariant-loop-k : goal.invariant-loop-k
-invariant-loop-k l = l.words.items ++ words_from l.closed.classes l.k (drop l.k l.gates) ≡ words_from l.closed.classes 0 l.gates
