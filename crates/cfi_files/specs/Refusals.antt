@@ -7,7 +7,7 @@ use Rattle.cfi_harden.specs.RefusalText.{refusal_number as object_number, refusa
 use Rattle.cfi_files.specs.declared.refusal.MapReason.{MapReason}
 use Rattle.cfi_files.specs.declared.refusal.MapReason.TheVariants.{Text, Place}
 use Rattle.cfi_files.specs.declared.refusal.Refusal.{Refusal}
-use Rattle.cfi_files.specs.declared.refusal.Refusal.TheVariants.{Object, Image, Graph, Map, Script}
+use Rattle.cfi_files.specs.declared.refusal.Refusal.TheVariants.{Object, Image, Graph, Map, Script, Harts}
 
 -- the number of each refusal; those of an object, of its entry and of its policy have the numbers 1 to 21
 abbrev pub refusal_number : Refusal → ℕ
@@ -16,6 +16,7 @@ refusal_number (Image refusal) = 22
 refusal_number (Graph line reason) = 23
 refusal_number (Map line reason) = 24
 refusal_number (Script line reason) = 25
+refusal_number (Harts count) = 26
 
 -- why a line of a map is not taken
 abbrev pub map_reason : MapReason → List ℕ
@@ -29,6 +30,7 @@ refusal_name (Image refusal) = image_text refusal
 refusal_name (Graph line reason) = codes "Graph " ++ decimal line ++ codes " " ++ reason_name reason
 refusal_name (Map line reason) = codes "Map " ++ decimal line ++ codes " " ++ map_reason reason
 refusal_name (Script line reason) = codes "Script " ++ decimal line ++ codes " " ++ reason_name reason
+refusal_name (Harts count) = codes "Harts " ++ decimal count
 
 abbrev pub refusal_line : Refusal → List ℕ
 refusal_line refusal = codes "refused " ++ decimal (refusal_number refusal) ++ codes " " ++ refusal_name refusal

@@ -41,6 +41,8 @@ pub enum Refusal {
     Map(u64, MapReason),
     /// The file is no script: the first line that fails, from 1.
     Script(u64, Reason),
+    /// The script is for so many harts, more than one, and the image for one.
+    Harts(u8),
 }
 
 impl Refusal {
@@ -54,6 +56,7 @@ impl Refusal {
             Refusal::Graph(..) => 23,
             Refusal::Map(..) => 24,
             Refusal::Script(..) => 25,
+            Refusal::Harts(_) => 26,
         }
     }
 }
@@ -75,6 +78,7 @@ impl fmt::Display for Named {
             Refusal::Graph(line, reason) => write!(f, "Graph {line} {reason}"),
             Refusal::Map(line, reason) => write!(f, "Map {line} {reason}"),
             Refusal::Script(line, reason) => write!(f, "Script {line} {reason}"),
+            Refusal::Harts(count) => write!(f, "Harts {count}"),
         }
     }
 }

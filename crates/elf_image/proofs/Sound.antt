@@ -1,22 +1,22 @@
 -- A file without a fault, taken apart: what each of the tests says.
-use Rattle.std.proofs.Common.{◌≡◌, ℕ, zero, suc, ◌+◌, ◌≤◌, nat_lt, List, [], ◌∷◌, length, false, Option, Some, None, option_map, inl, inr, refl, arith}
+use Rattle.std.proofs.Common.{◌≡◌, ℕ, zero, suc, ◌+◌, ◌≤◌, nat_lt, List, [], ◌∷◌, length, false, Some, None, inl, inr, refl, arith}
 use Rattle.std.specs.List.{slice_get}
-use Rattle.std.specs.Option.{option_or}
 use Rattle.std.proofs.lemmas.Bool.{cases_lt}
 use borrow.Author.Tests.{lt-ltb, le-ltb}
 use Rattle.rv_word.proofs.Cases.{neither, unmapped}
-use Rattle.rv_word.specs.Image.{IsImageSize}
+use Rattle.rv_word.specs.MemoryMap.{profile_of}
+use Rattle.rv_word.specs.Image.{IsImageSize, IsVersion}
 use Rattle.elf_bytes.specs.Fields.{number_at}
 use Rattle.elf_image.specs.declared.field.Field.{Field}
 use Rattle.elf_image.specs.declared.refusal.ImageRefusal.TheVariants.{Short, Long}
 use Rattle.elf_image.specs.Header.{fields_of, data_start, code_length, data_length, long, elf_header, program_header}
-use Rattle.elf_image.specs.Fault.{first_wrong, first_nonzero, code_of, init_of, length_fault, fault_with, fault_of}
+use Rattle.elf_image.specs.Fault.{first_wrong, first_nonzero, version_in, code_of, init_of, length_fault, fault_with, fault_of}
 use Rattle.elf_image.proofs.Rows.{Hold, hold}
 
--- what there is to say of a file of these lengths that has no fault
-pub record IsSound (bytes : List ℕ) (code init : ℕ) : Type 0 where
+-- what there is to say of a file of this version and these lengths that has no fault
+pub record IsSound (bytes : List ℕ) (version code init : ℕ) : Type 0 where
   pub long : 232 ≤ length bytes
-  pub fields : first_wrong bytes (fields_of code init) ≡ None
+  pub fields : first_wrong bytes (fields_of version code init) ≡ None
   pub end : length bytes ≡ data_start code + init
   pub after_headers : first_nonzero bytes 232 0x1000 ≡ None
   pub after_code : first_nonzero bytes (0x1000 + code) (data_start code) ≡ None
@@ -30,12 +30,12 @@ right_length bytes code init e = elim (cases_lt (length bytes) (data_start code 
   ]
 ]
 
-pub sound : (bytes : List ℕ) → fault_of bytes ≡ None → IsSound bytes (code_of bytes) (init_of bytes)
+pub sound : (bytes : List ℕ) → fault_of bytes ≡ None → IsSound bytes (version_in bytes) (code_of bytes) (init_of bytes)
 unfolding fault_of
 sound bytes e = elim (cases_lt (length bytes) 232) [
   | inl short ↦ let no : Some (Short (length bytes)) ≡ None = rw (lt-ltb _ _ short) at e in absurd cc
   | inr enough ↦
-      let rest : fault_with bytes (code_of bytes) (init_of bytes) ≡ None = rw (le-ltb _ _ enough) at e in
+      let rest : fault_with bytes (version_in bytes) (code_of bytes) (init_of bytes) ≡ None = rw (le-ltb _ _ enough) at e in
       let parts = neither _ _ rest in
       let more = neither _ _ parts.1 in
       let padding = neither _ _ (unmapped _ _ more.1) in
@@ -48,7 +48,7 @@ sound bytes e = elim (cases_lt (length bytes) 232) [
       }
 ]
 
-pub no_fault : (bytes : List ℕ) → IsSound bytes (code_of bytes) (init_of bytes) → fault_of bytes ≡ None
+pub no_fault : (bytes : List ℕ) → IsSound bytes (version_in bytes) (code_of bytes) (init_of bytes) → fault_of bytes ≡ None
 unfolding fault_of
 no_fault bytes s =
     let end = data_start (code_of bytes) + init_of bytes in
@@ -64,18 +64,34 @@ value_at bytes (g ∷ fs) zero f e h = let same : g ≡ f = cc in rw (← same) 
 value_at bytes (g ∷ fs) (suc i) f e h = value_at bytes fs i f e h.1
 
 -- the lengths that right headers name
-pub code_named : (bytes : List ℕ) (code init : ℕ) → Hold bytes (fields_of code init) → code_of bytes ≡ code_length code
+pub code_named : (bytes : List ℕ) (version code init : ℕ) → Hold bytes (fields_of version code init) → code_of bytes ≡ code_length code
 unfolding elf_header program_header
-code_named bytes code init h = value_at bytes (fields_of code init) 27 (long 152 (code_length code)) refl h
+code_named bytes version code init h = value_at bytes (fields_of version code init) 27 (long 152 (code_length code)) refl h
 
-pub init_named : (bytes : List ℕ) (code init : ℕ) → Hold bytes (fields_of code init) → init_of bytes ≡ data_length init
+pub init_named : (bytes : List ℕ) (version code init : ℕ) → Hold bytes (fields_of version code init) → init_of bytes ≡ data_length init
 unfolding elf_header program_header
-init_named bytes code init h = value_at bytes (fields_of code init) 19 (long 96 (data_length init)) refl h
+init_named bytes version code init h = value_at bytes (fields_of version code init) 19 (long 96 (data_length init)) refl h
+
+-- and the version
+shadow_named : (bytes : List ℕ) (version code init : ℕ) → Hold bytes (fields_of version code init)
+    → number_at bytes 216 8 ≡ (profile_of version).shadow_size
+unfolding elf_header program_header
+shadow_named bytes version code init h =
+    value_at bytes (fields_of version code init) 36 (long 216 (profile_of version).shadow_size) refl h
+
+named_by : (bytes : List ℕ) (version : ℕ) → IsVersion version → number_at bytes 216 8 ≡ (profile_of version).shadow_size
+    → version_in bytes ≡ version
+named_by bytes version (inl one) e = let size : number_at bytes 216 8 ≡ 0x10000 = rw one at e in rw (size, one) refl
+named_by bytes version (inr two) e = let size : number_at bytes 216 8 ≡ 0x80000 = rw two at e in rw (size, two) refl
+
+pub version_named : (bytes : List ℕ) (version code init : ℕ) → IsVersion version → Hold bytes (fields_of version code init)
+    → version_in bytes ≡ version
+version_named bytes version code init known h = named_by bytes version known (shadow_named bytes version code init h)
 
 -- are lengths that an image may have
-pub right_sizes : (bytes : List ℕ) → IsSound bytes (code_of bytes) (init_of bytes) → IsImageSize (code_of bytes) (init_of bytes)
+pub right_sizes : (bytes : List ℕ) → IsSound bytes (version_in bytes) (code_of bytes) (init_of bytes) → IsImageSize (code_of bytes) (init_of bytes)
 right_sizes bytes s =
     let values = hold bytes _ s.fields in
-    let code = code_named bytes _ _ values in
-    let init = init_named bytes _ _ values in
+    let code = code_named bytes _ _ _ values in
+    let init = init_named bytes _ _ _ values in
     record { some = omega arith; most = omega arith; words = omega arith; data_most = omega arith }

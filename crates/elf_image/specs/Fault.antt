@@ -1,6 +1,7 @@
 -- What is wrong with a file that is no image: the first of these in the order of the file, but lengths go before padding.
 use Rattle.std.specs.Prelude.{ℕ, ◌+◌, nat_lt, ◌==◌, not, if◌then◌else◌, Option, Some, None, option_map, List, [], ◌∷◌, length, position, slice_range}
 use Rattle.std.specs.Option.{option_or}
+use Rattle.rv_word.specs.MemoryMap.{version_2}
 use Rattle.elf_bytes.specs.Fields.{number_at}
 use Rattle.elf_image.specs.declared.field.Field.{Field}
 use Rattle.elf_image.specs.declared.refusal.ImageRefusal.{ImageRefusal}
@@ -23,6 +24,11 @@ code_of bytes = number_at bytes 152 8
 abbrev pub init_of : List ℕ → ℕ
 init_of bytes = number_at bytes 96 8
 
+-- the version that a file names by p_memsz of its third program header: any size but version 2's is read as
+-- version 1's, and is a wrong field where it is another
+abbrev pub version_in : List ℕ → ℕ
+version_in bytes = if number_at bytes 216 8 == version_2.shadow_size then 2 else 1
+
 -- the offset of the first byte between headers and code or between code and data that is not zero
 abbrev pub wrong_padding : List ℕ → ℕ → Option ℕ
 wrong_padding bytes code = option_or (first_nonzero bytes 232 0x1000) (first_nonzero bytes (0x1000 + code) (data_start code))
@@ -33,13 +39,13 @@ length_fault bytes code init =
     if nat_lt (length bytes) (data_start code + init) then Some (Short (length bytes)) else
     if nat_lt (data_start code + init) (length bytes) then Some (Long (length bytes)) else None
 
--- what is wrong with a file that names these lengths: a field, its length, or its padding
-abbrev pub fault_with : List ℕ → ℕ → ℕ → Option ImageRefusal
-fault_with bytes code init =
-    option_or (option_map (λ at. Byte at) (first_wrong bytes (fields_of code init)))
+-- what is wrong with a file that names this version and these lengths: a field, its length, or its padding
+abbrev pub fault_with : List ℕ → ℕ → ℕ → ℕ → Option ImageRefusal
+fault_with bytes version code init =
+    option_or (option_map (λ at. Byte at) (first_wrong bytes (fields_of version code init)))
     (option_or (length_fault bytes code init) (option_map (λ at. Byte at) (wrong_padding bytes code)))
 
 -- what is wrong with a file, if it is no image
 unfoldable pub fault_of : List ℕ → Option ImageRefusal
 fault_of bytes =
-    if nat_lt (length bytes) 232 then Some (Short (length bytes)) else fault_with bytes (code_of bytes) (init_of bytes)
+    if nat_lt (length bytes) 232 then Some (Short (length bytes)) else fault_with bytes (version_in bytes) (code_of bytes) (init_of bytes)

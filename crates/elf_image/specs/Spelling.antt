@@ -9,16 +9,16 @@ use Rattle.elf_image.specs.Header.{fields_of, data_start}
 abbrev pub field_bytes : Field → List ℕ
 field_bytes f = little_bytes f.size f.value
 
--- the bytes of the headers of a file with `code` bytes of code and `init` of data
-unfoldable pub headers : ℕ → ℕ → List ℕ
-headers code init = flat_map field_bytes (fields_of code init)
+-- the bytes of the headers of a file of a version with `code` bytes of code and `init` of data
+unfoldable pub headers : ℕ → ℕ → ℕ → List ℕ
+headers version code init = flat_map field_bytes (fields_of version code init)
 
 unfoldable pub zeros : ℕ → List ℕ
 zeros n = replicate n 0
 
--- the bytes of the image of this code and these data
-unfoldable pub spelling : List ℕ → List ℕ → List ℕ
-spelling code init =
-    headers (length code) (length init) ++ zeros (0x1000 - 232)
+-- the bytes of the image of this version, this code and these data
+unfoldable pub spelling : ℕ → List ℕ → List ℕ → List ℕ
+spelling version code init =
+    headers version (length code) (length init) ++ zeros (0x1000 - 232)
     ++ code ++ zeros (data_start (length code) - 0x1000 - length code)
     ++ init

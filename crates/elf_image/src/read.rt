@@ -1,11 +1,11 @@
 ghost use Rattle.std.specs.Prelude.{◌≡◌, ◌+◌, ◌<◌, ◌≤◌, ◌^◌, List, ℕ, IsTrue, IsOkAnd, IfOk, OnOk, IfErr, None, Some, IfSome, option_map, length, position, not, ◌==◌};
 ghost use Rattle.std.specs.List.{list_all};
 ghost use Rattle.std.specs.Option.{option_or};
-ghost use Rattle.rv_word.specs.Image.{IsImageSize};
+ghost use Rattle.rv_word.specs.Image.{IsImageSize, IsVersion};
 ghost use Rattle.elf_bytes.specs.Fields.{number_at};
 ghost use Rattle.elf_image.specs.Header.{fields_of, data_start, is_inside};
 ghost use Rattle.elf_image.specs.Spelling.{spelling};
-ghost use Rattle.elf_image.specs.Fault.{first_wrong, first_nonzero, code_of, init_of, length_fault, fault_of};
+ghost use Rattle.elf_image.specs.Fault.{first_wrong, first_nonzero, version_in, code_of, init_of, length_fault, fault_of};
 
 use super::field::Field;
 use super::header::{
@@ -16,36 +16,52 @@ use super::refusal::ImageRefusal;
 use byteorder::{ByteOrder, LittleEndian};
 use elf_bytes::u64_at;
 use rv_word::Image;
+use rv_word::version::shadow_size;
 
 /// Where the headers name the length of the code and of the data: `p_filesz` of their segments.
 const CODE_LENGTH: u64 = 152;
 
 const INIT_LENGTH: u64 = 96;
 
+/// Where they name the size of the shadow stack, by which versions differ: `p_memsz` of its segment.
+const SHADOW_LENGTH: usize = 216;
+
+/// What a file is made of: its version, where its code ends and where its data begin.
+#[derive(Clone, Copy)]
+struct Parts {
+    version: u8,
+    end: usize,
+    start: usize,
+}
+
 /// The image that a file is, borrowed from it. `Short`, a wrong field, `Short` or `Long`, and wrong
 /// padding are looked for in this order, and the first that there is is told.
 pub fn read_image<'a>(bytes: &'a [u8]) -> Result<Image<'a>, ImageRefusal>
-    ensures spelled { IfOk result (λ i. bytes.now ≡ spelling i.code i.init) }
+    ensures spelled { IfOk result (λ i. bytes.now ≡ spelling i.version i.code i.init) }
     ensures refused { IfErr result (λ e. fault_of bytes.now ≡ Some e) }
     ensures read { OnOk result (fault_of bytes.now ≡ None) }
-    ensures only { (code init : List ℕ) → IsImageSize (length code) (length init) → bytes.now ≡ spelling code init → IsOkAnd result (λ i. (i.code ≡ code) × (i.init ≡ init)) }
+    ensures only { (version : ℕ) (code init : List ℕ) → IsVersion version → IsImageSize (length code) (length init) → bytes.now ≡ spelling version code init
+        → IsOkAnd result (λ i. i ≡ record { version = version; code = code; init = init }) }
 {
-    let (end, start) = places(bytes)?;
-    Ok(Image::of(&bytes[PAGE as usize..end], &bytes[start..]))
+    let parts = parts_of(bytes)?;
+    let code = &bytes[PAGE as usize..parts.end];
+    Ok(Image::of_version(parts.version, code, &bytes[parts.start..]))
 }
 
-/// Where the code ends and where the data begin, if the file is an image.
+/// The parts of a file, if it is an image.
 #[tactic(auto, unfolding(crate::specs::Fault::fault_of))]
-fn places(bytes: &[u8]) -> Result<(usize, usize), ImageRefusal>
+fn parts_of(bytes: &[u8]) -> Result<Parts, ImageRefusal>
     ensures refused { IfErr result (λ e. fault_of bytes.now ≡ Some e) }
     ensures read { OnOk result (fault_of bytes.now ≡ None) }
-    ensures end { IfOk result (λ places. places.0 ≡ 0x1000 + code_of bytes.now) }
-    ensures start { IfOk result (λ places. places.1 ≡ data_start (code_of bytes.now)) }
-    ensures order { IfOk result (λ places. places.0 ≤ places.1) }
-    ensures inside { IfOk result (λ places. places.1 ≤ length bytes.now) }
+    ensures version { IfOk result (λ parts. parts.version ≡ version_in bytes.now) }
+    ensures end { IfOk result (λ parts. parts.end ≡ 0x1000 + code_of bytes.now) }
+    ensures start { IfOk result (λ parts. parts.start ≡ data_start (code_of bytes.now)) }
+    ensures order { IfOk result (λ parts. parts.end ≤ parts.start) }
+    ensures inside { IfOk result (λ parts. parts.start ≤ length bytes.now) }
 {
     let (code, init) = named_lengths(bytes)?;
-    if let Some(at) = first_wrong_field(bytes, code, init) {
+    let version = named_version(bytes);
+    if let Some(at) = first_wrong_field(bytes, version, code, init) {
         return Err(ImageRefusal::Byte(at as u64));
     }
     let start = data_place(bytes, code, init)?;
@@ -53,7 +69,11 @@ fn places(bytes: &[u8]) -> Result<(usize, usize), ImageRefusal>
     if let Some(at) = first_wrong_padding(bytes, end, start) {
         return Err(ImageRefusal::Byte(at as u64));
     }
-    Ok((end, start))
+    Ok(Parts {
+        version,
+        end,
+        start,
+    })
 }
 
 /// The lengths of code and data that the program headers name.
@@ -70,16 +90,28 @@ fn named_lengths(bytes: &[u8]) -> Result<(u64, u64), ImageRefusal>
     }
 }
 
-/// The offset of the first field of the headers that is not as these lengths want it.
-fn first_wrong_field(bytes: &[u8], code: u64, init: u64) -> Option<usize>
+/// The version whose shadow stack has the size that the program headers name, and 1 where neither has.
+fn named_version(bytes: &[u8]) -> u8
     requires { 232 ≤ length bytes.now }
-    ensures { result ≡ first_wrong bytes.now (fields_of code init) }
+    ensures { result ≡ version_in bytes.now }
+{
+    if number(bytes, SHADOW_LENGTH, 8) == u128::from(shadow_size(2)) {
+        2
+    } else {
+        1
+    }
+}
+
+/// The offset of the first field of the headers that is not as this version and these lengths want it.
+fn first_wrong_field(bytes: &[u8], version: u8, code: u64, init: u64) -> Option<usize>
+    requires { 232 ≤ length bytes.now }
+    ensures { result ≡ first_wrong bytes.now (fields_of version code init) }
 {
     let (code, init) = (u128::from(code), u128::from(init));
     first_fault(bytes, &elf_header())
         .or(first_fault(bytes, &program_header(64, data_segment(code, init))))
         .or(first_fault(bytes, &program_header(120, code_segment(code))))
-        .or(first_fault(bytes, &program_header(176, shadow_segment())))
+        .or(first_fault(bytes, &program_header(176, shadow_segment(version))))
 }
 
 /// The offset of the first of these fields that has another value.

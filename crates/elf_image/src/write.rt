@@ -1,6 +1,6 @@
 ghost use Rattle.std.specs.Prelude.{◌≡◌, ◌≤◌, ◌<◌, ◌^◌, ◌+◌, ◌++◌, IsTrue, IfOk, OnOk, length};
 ghost use Rattle.std.specs.List.{flat_map, list_all};
-ghost use Rattle.rv_word.specs.Image.{IsImageSize};
+ghost use Rattle.rv_word.specs.Image.{IsImageSize, IsVersion};
 ghost use Rattle.elf_image.specs.Header.{is_inside};
 ghost use Rattle.elf_image.specs.Spelling.{field_bytes, headers, zeros, spelling};
 
@@ -12,15 +12,29 @@ use super::header::{
 use rv_word::NoMemory;
 use std::alloc::{AllocError, Global};
 
-/// The file of an image with this code and these data.
-#[tactic(auto, unfolding(crate::specs::Spelling::spelling))]
+/// The file of an image of version 1 with this code and these data.
 pub fn write_image(alloc: Global, code: &[u8], init: &[u8]) -> Result<Vec<u8>, NoMemory>
     requires { IsImageSize (length code.now) (length init.now) }
-    ensures { IfOk result (λ file. file.items ≡ spelling code.now init.now) }
+    ensures { IfOk result (λ file. file.items ≡ spelling 1 code.now init.now) }
+{
+    write_image_as(alloc, 1, code, init)
+}
+
+/// The file of an image of version 1 or 2 with this code and these data.
+#[tactic(auto, unfolding(crate::specs::Spelling::spelling))]
+pub fn write_image_as(
+    alloc: Global,
+    version: u8,
+    code: &[u8],
+    init: &[u8],
+) -> Result<Vec<u8>, NoMemory>
+    requires version { IsVersion version }
+    requires size { IsImageSize (length code.now) (length init.now) }
+    ensures { IfOk result (λ file. file.items ≡ spelling version code.now init.now) }
 {
     let start = data_offset(code.len() as u128) as usize;
     let mut file = Vec::with_capacity(alloc, start + init.len())?;
-    put_headers(&mut file, code.len() as u128, init.len() as u128)?;
+    put_headers(&mut file, version, code.len() as u128, init.len() as u128)?;
     put_zeros(&mut file, PAGE as usize - HEADERS)?;
     file.extend_from_slice(code)?;
     put_zeros(&mut file, start - PAGE as usize - code.len())?;
@@ -28,16 +42,16 @@ pub fn write_image(alloc: Global, code: &[u8], init: &[u8]) -> Result<Vec<u8>, N
     Ok(file)
 }
 
-/// Appends the headers of a file with these lengths.
+/// Appends the headers of a file of a version with these lengths.
 #[tactic(auto, unfolding(crate::specs::Spelling::headers))]
-fn put_headers(file: &mut Vec<u8>, code: u128, init: u128) -> Result<(), AllocError>
+fn put_headers(file: &mut Vec<u8>, version: u8, code: u128, init: u128) -> Result<(), AllocError>
     requires { code < 2 ^ 64 }
-    ensures { OnOk result (file.new.items ≡ file.old.items ++ headers code init) }
+    ensures { OnOk result (file.new.items ≡ file.old.items ++ headers version code init) }
 {
     put_fields(file, &elf_header())?;
     put_fields(file, &program_header(64, data_segment(code, init)))?;
     put_fields(file, &program_header(120, code_segment(code)))?;
-    put_fields(file, &program_header(176, shadow_segment()))
+    put_fields(file, &program_header(176, shadow_segment(version)))
 }
 
 /// Appends the values of these fields.

@@ -16,7 +16,7 @@ prologue_bytes = 115 ∷ 0 ∷ 16 ∷ 0 ∷ 115 ∷ 0 ∷ 16 ∷ 0 ∷ 115 ∷ 0
 
 -- an image of the prologue, a call of the first unit, and these bytes
 abbrev image_of : List ℕ → Contents
-image_of code = record { init = []; code = prologue_bytes ++ code }
+image_of code = record { version = 1; init = []; code = prologue_bytes ++ code }
 
 -- nothing changes before `n` steps
 abbrev pub calm : ℕ → List (List ByteChange)

@@ -4,8 +4,9 @@ use Rattle.std.proofs.lemmas.Bool.{cases_lt, and_parts}
 use Rattle.std.proofs.lemmas.Bool.Decides.{nat_tests}
 use Rattle.std.proofs.lemmas.List.{get_or_past, get_or-drop}
 use Rattle.std.proofs.Math.Path.{fun_ext}
-use Rattle.rv_word.specs.MemoryMap.{CODE_START, CODE_SIZE, DATA_START, DATA_END, lies_within, can_store, version_1}
+use Rattle.rv_word.specs.MemoryMap.{CODE_START, CODE_SIZE, DATA_START, DATA_END, lies_within, can_store, profile_of}
 use Rattle.rv_word.specs.Memory.{Memory, placed, read, zeros}
+use Rattle.rv_word.proofs.Versions.{is_profile, laid_out}
 use Rattle.rv_mem.specs.Cells.{Cells, memory_of, has_room, HasRoom, AreBytes, IsWhole, is_paged, place_of, with_byte}
 use Rattle.rv_mem.specs.Pages.{PAGE_SIZE, Paged, AreMade, byte_of, bytes_in, is_made, page_of}
 
@@ -20,9 +21,10 @@ code_within cells a k fits code low =
     rw inside (get_or-drop (a - CODE_START) cells.code k 0 ∙ ap (λ (j : ℕ). get_or cells.code j 0) place)
 
 -- a place of the rest of a page is near
-pub near_in_page : (cells : Cells) (a k : ℕ) → is_paged a ≡ true → length (page_of cells.pages (place_of a / PAGE_SIZE)) ≤ PAGE_SIZE →
+pub near_in_page : (cells : Cells) (a k : ℕ) → is_paged cells.version a ≡ true → length (page_of cells.pages (place_of a / PAGE_SIZE)) ≤ PAGE_SIZE →
     k < length (drop (place_of a % PAGE_SIZE) (page_of cells.pages (place_of a / PAGE_SIZE))) → a % PAGE_SIZE + k < PAGE_SIZE
 near_in_page cells a k paged long low =
+    let laid = laid_out (profile_of cells.version) (is_profile cells.version) in
     let rest = length-drop (place_of a % PAGE_SIZE) (page_of cells.pages (place_of a / PAGE_SIZE)) in
     let same : place_of a % PAGE_SIZE ≡ a % PAGE_SIZE = grind (arith, nat_tests) in
     omega arith
@@ -35,24 +37,26 @@ rest_in_code cells a k code near =
     let inside : lies_within CODE_START CODE_SIZE (a + k) 1 ≡ true = grind (arith, nat_tests) in
     rw inside (get_or-drop (a - CODE_START) cells.code k 0 ∙ ap (λ (j : ℕ). get_or cells.code j 0) place)
 
-pub rest_in_pages : (cells : Cells) (a k : ℕ) → is_paged a ≡ true → a % PAGE_SIZE + k < PAGE_SIZE →
+pub rest_in_pages : (cells : Cells) (a k : ℕ) → is_paged cells.version a ≡ true → a % PAGE_SIZE + k < PAGE_SIZE →
     get_or (drop (place_of a % PAGE_SIZE) (page_of cells.pages (place_of a / PAGE_SIZE))) k 0 ≡ memory_of cells (a + k)
 unfolding memory_of byte_of
 rest_in_pages cells a k paged near =
+    let laid = laid_out (profile_of cells.version) (is_profile cells.version) in
     let outside : lies_within CODE_START CODE_SIZE (a + k) 1 ≡ false = grind (arith, nat_tests) in
-    let inside : is_paged (a + k) ≡ true = grind (arith, nat_tests) in
+    let inside : is_paged cells.version (a + k) ≡ true = grind (arith, nat_tests) in
     let page : place_of a / PAGE_SIZE ≡ place_of (a + k) / PAGE_SIZE = grind (arith, nat_tests) in
     let place : place_of a % PAGE_SIZE + k ≡ place_of (a + k) % PAGE_SIZE = grind (arith, nat_tests) in
     rw (outside, inside) (get_or-drop (place_of a % PAGE_SIZE) (page_of cells.pages (place_of a / PAGE_SIZE)) k 0
     ∙ ap (λ (j : ℕ). get_or (page_of cells.pages (place_of a / PAGE_SIZE)) j 0) place
     ∙ ap (λ (p : ℕ). get_or (page_of cells.pages p) (place_of (a + k) % PAGE_SIZE) 0) page)
 
-pub rest_in_none : (cells : Cells) (a k : ℕ) → lies_within CODE_START CODE_SIZE a 1 ≡ false → is_paged a ≡ false → a % PAGE_SIZE + k < PAGE_SIZE →
+pub rest_in_none : (cells : Cells) (a k : ℕ) → lies_within CODE_START CODE_SIZE a 1 ≡ false → is_paged cells.version a ≡ false → a % PAGE_SIZE + k < PAGE_SIZE →
     0 ≡ memory_of cells (a + k)
 unfolding memory_of
 rest_in_none cells a k code paged near =
+    let laid = laid_out (profile_of cells.version) (is_profile cells.version) in
     let outside : lies_within CODE_START CODE_SIZE (a + k) 1 ≡ false = grind (arith, nat_tests) in
-    let none : is_paged (a + k) ≡ false = grind (arith, nat_tests) in
+    let none : is_paged cells.version (a + k) ≡ false = grind (arith, nat_tests) in
     rw (outside, none) refl
 
 -- numbers that are read where memory holds the same
@@ -69,14 +73,15 @@ read_same (suc n) m m' a b same =
     rw (first, rest) refl
 
 -- what was written into pages stands in memory
-pub paged_same : (code : List ℕ) (old new : Paged) → byte_of new ≡ byte_of old → memory_of (record { code = code; pages = new }) ≡ memory_of (record { code = code; pages = old })
+pub paged_same : (cells : Cells) (new : Paged) → byte_of new ≡ byte_of cells.pages → memory_of (record cells { pages = new }) ≡ memory_of cells
 unfolding memory_of
-paged_same code old new same = fun_ext (λ k. rw same refl)
+paged_same cells new same = fun_ext (λ k. rw same refl)
 
 -- a range with room lies in data or in shadow, and its places follow one another
-pub room_in_region : (cells : Cells) (a n : ℕ) → 0 < n → HasRoom cells a n → can_store version_1 a n ≡ true
+pub room_in_region : (cells : Cells) (a n : ℕ) → 0 < n → HasRoom cells a n → can_store (profile_of cells.version) a n ≡ true
 unfolding has_room
 room_in_region cells a n some room =
+    let laid = laid_out (profile_of cells.version) (is_profile cells.version) in
     let first = room a (omega arith) (omega arith) in
     let last = room (a + n - 1) (omega arith) (omega arith) in
     elim (cases_lt DATA_END a) [
@@ -92,47 +97,50 @@ read_rest n bytes m a same = read_same n (bytes_in bytes) m 0 a (λ k low. let e
 
 made_there : (cells : Cells) (a : ℕ) → IsTrue (has_room cells a) → IsTrue (is_made cells.pages (place_of a / PAGE_SIZE))
 unfolding has_room
-made_there cells a room = (and_parts (is_paged a) (is_made cells.pages (place_of a / PAGE_SIZE)) room).1
+made_there cells a room = (and_parts (is_paged cells.version a) (is_made cells.pages (place_of a / PAGE_SIZE)) room).1
 
 -- room at each address is a page that was made at each place
 pub made_for_room : (cells : Cells) (a n : ℕ) → HasRoom cells a n → AreMade cells.pages (place_of a) n
 made_for_room cells a n room = λ k from to.
+    let laid = laid_out (profile_of cells.version) (is_profile cells.version) in
     let region = room_in_region cells a n (omega arith) room in
     let place : place_of (a + (k - place_of a)) ≡ k = grind (arith, nat_tests) in
     let here = room (a + (k - place_of a)) (omega arith) (omega arith) in
     rw place at (made_there cells (a + (k - place_of a)) here)
 
-pub room_for_made : (cells : Cells) (a n : ℕ) → can_store version_1 a n ≡ true → AreMade cells.pages (place_of a) n → HasRoom cells a n
+pub room_for_made : (cells : Cells) (a n : ℕ) → can_store (profile_of cells.version) a n ≡ true → AreMade cells.pages (place_of a) n → HasRoom cells a n
 unfolding has_room
 room_for_made cells a n region made = λ k from to.
+    let laid = laid_out (profile_of cells.version) (is_profile cells.version) in
     let place : place_of k ≡ place_of a + (k - a) = grind (arith, nat_tests) in
-    let inside : is_paged k ≡ true = grind (arith, nat_tests) in
+    let inside : is_paged cells.version k ≡ true = grind (arith, nat_tests) in
     let there = made (place_of k) (omega arith) (omega arith) in
     rw inside there
 
-pub room_kept : (code : List ℕ) (old new : Paged) → ((p : ℕ) → IsTrue (is_made old p) → IsTrue (is_made new p)) →
-    (k : ℕ) → IsTrue (has_room (record { code = code; pages = old }) k) → IsTrue (has_room (record { code = code; pages = new }) k)
+pub room_kept : (cells : Cells) (new : Paged) → ((p : ℕ) → IsTrue (is_made cells.pages p) → IsTrue (is_made new p)) →
+    (k : ℕ) → IsTrue (has_room cells k) → IsTrue (has_room (record cells { pages = new }) k)
 unfolding has_room
-room_kept code old new kept k room =
-    let both = and_parts (is_paged k) (is_made old (place_of k / PAGE_SIZE)) room in
+room_kept cells new kept k room =
+    let both = and_parts (is_paged cells.version k) (is_made cells.pages (place_of k / PAGE_SIZE)) room in
     rw both.0 (kept (place_of k / PAGE_SIZE) both.1)
 
-pub memory_of-put_in : (cells : Cells) (new : Paged) (a : ℕ) (bytes : List ℕ) → can_store version_1 a (length bytes) ≡ true → byte_of new ≡ placed (byte_of cells.pages) (place_of a) bytes →
-    memory_of (record { code = cells.code; pages = new }) ≡ placed (memory_of cells) a bytes
+pub memory_of-put_in : (cells : Cells) (new : Paged) (a : ℕ) (bytes : List ℕ) → can_store (profile_of cells.version) a (length bytes) ≡ true → byte_of new ≡ placed (byte_of cells.pages) (place_of a) bytes →
+    memory_of (record cells { pages = new }) ≡ placed (memory_of cells) a bytes
 unfolding memory_of placed
 memory_of-put_in cells new a bytes region put = fun_ext (λ k.
+    let laid = laid_out (profile_of cells.version) (is_profile cells.version) in
     let byte = ap (λ (m : Memory). m (place_of k)) put in
     rw byte (grind (arith, nat_tests)))
 
 memory_of-put_none : (cells : Cells) (new : Paged) (a : ℕ) (bytes : List ℕ) → length bytes ≡ 0 → byte_of new ≡ placed (byte_of cells.pages) (place_of a) bytes →
-    memory_of (record { code = cells.code; pages = new }) ≡ placed (memory_of cells) a bytes
+    memory_of (record cells { pages = new }) ≡ placed (memory_of cells) a bytes
 unfolding memory_of placed
 memory_of-put_none cells new a bytes none put = fun_ext (λ k.
     let byte = ap (λ (m : Memory). m (place_of k)) put in
     rw byte (grind (arith, nat_tests)))
 
 pub memory_of-put : (cells : Cells) (new : Paged) (a : ℕ) (bytes : List ℕ) → HasRoom cells a (length bytes) → byte_of new ≡ placed (byte_of cells.pages) (place_of a) bytes →
-    memory_of (record { code = cells.code; pages = new }) ≡ placed (memory_of cells) a bytes
+    memory_of (record cells { pages = new }) ≡ placed (memory_of cells) a bytes
 memory_of-put cells new a bytes room put =
     elim (cases_lt 0 (length bytes)) [
       | inl some ↦ memory_of-put_in cells new a bytes (room_in_region cells a (length bytes) some room) put
@@ -151,16 +159,16 @@ unfolding placed
 placed-swap code init below = fun_ext (λ k. grind (arith, nat_tests))
 
 -- memory of code alone
-pub memory_of-code : (code : List ℕ) (pages : Paged) → length code ≤ CODE_SIZE → byte_of pages ≡ zeros → memory_of (record { code = code; pages = pages }) ≡ placed zeros CODE_START code
+pub memory_of-code : (version : ℕ) (code : List ℕ) (pages : Paged) → length code ≤ CODE_SIZE → byte_of pages ≡ zeros → memory_of (record { version = version; code = code; pages = pages }) ≡ placed zeros CODE_START code
 unfolding memory_of placed
-memory_of-code code pages fits none = fun_ext (λ k. rw (ap (λ (m : Memory). m (place_of k)) none) (grind (arith, nat_tests, get_or_past code (k - CODE_START) 0)))
+memory_of-code version code pages fits none = fun_ext (λ k. rw (ap (λ (m : Memory). m (place_of k)) none) (grind (arith, nat_tests, get_or_past code (k - CODE_START) 0)))
 
 pub bytes_placed : (m : Memory) (a : ℕ) (bs : List ℕ) → AreBytes m → ((k : ℕ) → get_or bs k 0 < 2 ^ 8) → AreBytes (placed m a bs)
 unfolding placed
 bytes_placed m a bs low bytes k = grind (arith, nat_tests, low k, bytes (k - a))
 
-pub whole_with_code : (code : List ℕ) (pages : Paged) → length code ≤ CODE_SIZE → byte_of pages ≡ zeros → ((k : ℕ) → get_or code k 0 < 2 ^ 8) → IsWhole (record { code = code; pages = pages })
-whole_with_code code pages fits none small = record {
+pub whole_with_code : (version : ℕ) (code : List ℕ) (pages : Paged) → length code ≤ CODE_SIZE → byte_of pages ≡ zeros → ((k : ℕ) → get_or code k 0 < 2 ^ 8) → IsWhole (record { version = version; code = code; pages = pages })
+whole_with_code version code pages fits none small = record {
   code = fits;
-  bytes = subst (λ (f : Memory). AreBytes f) (sym (memory_of-code code pages fits none)) (bytes_placed zeros CODE_START code (λ k. lit< tt) small);
+  bytes = subst (λ (f : Memory). AreBytes f) (sym (memory_of-code version code pages fits none)) (bytes_placed zeros CODE_START code (λ k. lit< tt) small);
 }

@@ -1,16 +1,16 @@
 -- Bytes that are kept in pages, each made of zeros at the first write to it.
 use Rattle.std.specs.Prelude.{◌≡◌, ℕ, ◌+◌, ◌-◌, ◌/◌, ◌%◌, ◌≤◌, ◌<◌, ◌==◌, nat_lt, Bool, if◌then◌else◌, List, [], slice_index, slice_index_or, length, IsTrue}
 use Rattle.std.specs.List.{sum_by}
-use Rattle.rv_word.specs.MemoryMap.{DATA_END, PART_SIZE}
+use Rattle.rv_word.specs.MemoryMap.{DATA_END, version_2}
 use Rattle.rv_word.specs.Memory.{Memory}
 use Rattle.rv_mem.specs.declared.page.TheConstants as page
 
--- how many bytes a page has, and how many pages data and shadow have together
+-- how many bytes a page has, and how many pages data and the shadow of either version have together
 abbrev pub PAGE_SIZE : ℕ
 PAGE_SIZE = page.PAGE_SIZE
 
 abbrev pub PAGE_COUNT : ℕ
-PAGE_COUNT = (DATA_END + PART_SIZE) / PAGE_SIZE
+PAGE_COUNT = (DATA_END + version_2.shadow_size) / PAGE_SIZE
 
 -- the pages that were made, and a table with an entry a page: 0 where it was never made, else its
 -- place among these plus one

@@ -1,5 +1,5 @@
 ghost use Rattle.std.specs.Prelude.{◌≡◌, ℕ, ◌+◌, ◌%◌, ◌≤◌, ◌<◌, ◌^◌, ◌↔◌, nat_le, IfOk, OnOk, OnErr, IsErr, IsErrOf, IsTrue, true, false, length, Result, slice_index};
-ghost use Rattle.rv_word.specs.MemoryMap.{can_load, can_store, version_1, DATA_START, DATA_END, CODE_START, CODE_SIZE};
+ghost use Rattle.rv_word.specs.MemoryMap.{can_load, can_store, profile_of, DATA_START, DATA_END, CODE_START, CODE_SIZE};
 ghost use Rattle.rv_word.specs.Memory.{placed, read, write, zeros, loaded};
 ghost use Rattle.rv_mem.specs.Access.{IsAccessSize};
 ghost use Rattle.rv_mem.specs.Cells.{memory_of, has_room, HasRoom, with_byte, AreBytes, place_of};
@@ -16,10 +16,11 @@ use rv_word::{Image, NoMemory};
 use std::alloc::Global;
 use std::marker::Model;
 
-/// The machine's memory. Code is kept as the bytes that an image has, data and shadow in pages, each
-/// made at the first write to it.
+/// The memory of the machine of an image's version, by which the shadow is larger or smaller. Code is
+/// kept as the bytes that an image has, data and shadow in pages, each made at the first write to it.
 #[derive(Drop)]
 pub struct Memory {
+    version: u8,
     code: Vec<u8>,
     pages: Pages,
 }
@@ -29,51 +30,62 @@ impl Model for Memory {
 
     ghost Value = { Cells };
 
-    ghost view = { λ m. record { code = m.code.items; pages = m.pages } };
+    ghost view = { λ m. record { version = m.version; code = m.code.items; pages = m.pages } };
 
-    ghost invariant = { λ m. IsWhole (record { code = m.code.items; pages = m.pages }) };
+    ghost invariant = { λ m. IsWhole (record { version = m.version; code = m.code.items; pages = m.pages }) };
 }
 
 impl Memory {
-    /// Memory of zeros.
+    /// Memory of zeros, for images of version 1.
     pub fn new(alloc: Global) -> Result<Memory, NoMemory>
-        ensures { IfOk result (λ memory. memory_of memory ≡ zeros) }
+        ensures version { IfOk result (λ memory. memory.version ≡ 1) }
+        ensures memory { IfOk result (λ memory. memory_of memory ≡ zeros) }
     {
-        Memory::with_contents(alloc, &[], &[])
+        Memory::with_contents(alloc, 1, &[], &[])
     }
 
     /// The memory in which a run of an image starts.
     pub fn load(alloc: Global, image: &Image) -> Result<Memory, NoMemory>
-        ensures { IfOk result (λ memory. memory_of memory ≡ loaded image.now) }
+        ensures version { IfOk result (λ memory. memory.version ≡ image.now.version) }
+        ensures memory { IfOk result (λ memory. memory_of memory ≡ loaded image.now) }
     {
-        Memory::with_contents(alloc, image.code(), image.init())
+        Memory::with_contents(alloc, image.version(), image.code(), image.init())
     }
 
-    /// The memory in which initialised data stand alone, without code.
-    pub fn with_data(alloc: Global, init: &[u8]) -> Result<Memory, NoMemory>
+    /// The memory of a version in which initialised data stand alone, without code.
+    pub fn with_data(alloc: Global, version: u8, init: &[u8]) -> Result<Memory, NoMemory>
         requires { DATA_START + length init.now ≤ DATA_END }
-        ensures { IfOk result (λ memory. memory_of memory ≡ placed zeros DATA_START init.now) }
+        ensures version { IfOk result (λ memory. memory.version ≡ version) }
+        ensures memory { IfOk result (λ memory. memory_of memory ≡ placed zeros DATA_START init.now) }
     {
-        Memory::with_contents(alloc, &[], init)
+        Memory::with_contents(alloc, version, &[], init)
     }
 
     /// The memory in which this code and these initialised data stand.
-    fn with_contents(alloc: Global, code: &[u8], init: &[u8]) -> Result<Memory, NoMemory>
+    fn with_contents(
+        alloc: Global,
+        version: u8,
+        code: &[u8],
+        init: &[u8],
+    ) -> Result<Memory, NoMemory>
         requires code { length code.now ≤ CODE_SIZE }
         requires init { DATA_START + length init.now ≤ DATA_END }
-        ensures { IfOk result (λ memory. memory_of memory ≡ placed (placed zeros DATA_START init.now) CODE_START code.now) }
+        ensures version { IfOk result (λ memory. memory.version ≡ version) }
+        ensures memory { IfOk result (λ memory. memory_of memory ≡ placed (placed zeros DATA_START init.now) CODE_START code.now) }
     {
-        let mut memory = Memory::with_code(alloc, code)?;
+        let mut memory = Memory::with_code(alloc, version, code)?;
         memory.write_bytes(DATA_START, init)?;
         Ok(memory)
     }
 
     /// The memory in which this code stands alone.
-    fn with_code(alloc: Global, code: &[u8]) -> Result<Memory, NoMemory>
+    fn with_code(alloc: Global, version: u8, code: &[u8]) -> Result<Memory, NoMemory>
         requires { length code.now ≤ CODE_SIZE }
-        ensures { IfOk result (λ memory. memory_of memory ≡ placed zeros CODE_START code.now) }
+        ensures version { IfOk result (λ memory. memory.version ≡ version) }
+        ensures memory { IfOk result (λ memory. memory_of memory ≡ placed zeros CODE_START code.now) }
     {
         Ok(Memory {
+            version,
             code: Vec::from_slice(alloc, code)?,
             pages: Pages::new(alloc)?,
         })
@@ -91,7 +103,7 @@ impl Memory {
         ensures within { (k : ℕ) → k < length result.now → slice_index result.now k ≡ memory_of self.now (addr + k) }
         ensures past { (k : ℕ) → addr % PAGE_SIZE + k < PAGE_SIZE → slice_index result.now k ≡ memory_of self.now (addr + k) }
     {
-        if is_paged(addr) {
+        if is_paged(self.version, addr) {
             let place = place(addr);
             rest(self.pages.page(place / PAGE_SIZE), place % PAGE_SIZE)
         } else if is_within(CODE_START, CODE_SIZE, addr, 1) {
@@ -112,10 +124,11 @@ impl Memory {
     /// Makes the pages of the `len` bytes from `addr` on, where they were never made: no write there
     /// wants memory from then on. It takes time for the pages, and not for the bytes.
     pub fn reserve_pages(&mut self, addr: u64, len: u64) -> Result<(), NoMemory>
-        requires { IsTrue (can_store version_1 addr len) }
+        requires { IsTrue (can_store (profile_of self.old.version) addr len) }
         ensures memory { memory_of self.new ≡ memory_of self.old }
         ensures room { OnOk result (HasRoom self.new addr len) }
         ensures wants { OnErr result (¬ HasRoom self.old addr len) }
+        ensures version { self.new.version ≡ self.old.version }
         ensures kept { (k : ℕ) → IsTrue (has_room self.old k) → IsTrue (has_room self.new k) }
     {
         self.pages.make_all(place(addr), len as usize)
@@ -126,6 +139,7 @@ impl Memory {
         requires room { HasRoom self.old addr (length bytes.now) }
         requires fits { addr + length bytes.now < 2 ^ 64 }
         ensures memory { memory_of self.new ≡ placed (memory_of self.old) addr bytes.now }
+        ensures version { self.new.version ≡ self.old.version }
         ensures kept { (k : ℕ) → IsTrue (has_room self.old k) → IsTrue (has_room self.new k) }
     {
         self.pages.put_all(place(addr), bytes);
@@ -137,13 +151,14 @@ impl Memory {
     pub fn write(&mut self, addr: u64, n: u8, value: u64) -> Result<(), WriteRefusal>
         requires { IsAccessSize n }
         ensures written { OnOk result (memory_of self.new ≡ write n (memory_of self.old) addr value) }
-        ensures fault { IsErrOf result WriteRefusal.StoreFault ↔ (can_store version_1 addr n ≡ false) }
-        ensures wants { IsErrOf result WriteRefusal.NoMemory → can_store version_1 addr n ≡ true }
+        ensures fault { IsErrOf result WriteRefusal.StoreFault ↔ (can_store (profile_of self.old.version) addr n ≡ false) }
+        ensures wants { IsErrOf result WriteRefusal.NoMemory → can_store (profile_of self.old.version) addr n ≡ true }
         ensures room { IsErrOf result WriteRefusal.NoMemory → ¬ HasRoom self.old addr n }
         ensures refused { OnErr result (memory_of self.new ≡ memory_of self.old) }
+        ensures version { self.new.version ≡ self.old.version }
         ensures kept { (k : ℕ) → IsTrue (has_room self.old k) → IsTrue (has_room self.new k) }
     {
-        if !is_storable(addr, n) {
+        if !is_storable(self.version, addr, n) {
             return Err(WriteRefusal::StoreFault);
         }
         let bytes = value.to_le_bytes();
@@ -162,10 +177,11 @@ impl Memory {
     fn write_in_page(&mut self, addr: u64, bytes: &[u8]) -> Result<(), NoMemory>
         requires some { 0 < length bytes.now }
         requires one { addr % PAGE_SIZE + length bytes.now ≤ PAGE_SIZE }
-        requires store { IsTrue (can_store version_1 addr (length bytes.now)) }
+        requires store { IsTrue (can_store (profile_of self.old.version) addr (length bytes.now)) }
         ensures written { OnOk result (memory_of self.new ≡ placed (memory_of self.old) addr bytes.now) }
         ensures wants { OnErr result (¬ HasRoom self.old addr (length bytes.now)) }
         ensures refused { OnErr result (memory_of self.new ≡ memory_of self.old) }
+        ensures version { self.new.version ≡ self.old.version }
         ensures kept { (k : ℕ) → IsTrue (has_room self.old k) → IsTrue (has_room self.new k) }
     {
         self.pages.write(place(addr), bytes)
@@ -177,6 +193,7 @@ impl Memory {
         ensures written { OnOk result (memory_of self.new ≡ placed (memory_of self.old) addr bytes.now) }
         ensures wants { OnErr result (¬ HasRoom self.old addr (length bytes.now)) }
         ensures refused { OnErr result (memory_of self.new ≡ memory_of self.old) }
+        ensures version { self.new.version ≡ self.old.version }
         ensures kept { (k : ℕ) → IsTrue (has_room self.old k) → IsTrue (has_room self.new k) }
     {
         self.reserve_pages(addr, bytes.len() as u64)?;
@@ -189,9 +206,9 @@ impl Memory {
     pub fn read(&self, addr: u64, n: u8) -> Result<u64, LoadFault>
         requires { IsAccessSize n }
         ensures value { IfOk result (λ value. value ≡ read n (memory_of self.now) addr) }
-        ensures fault { IsErr result ↔ (can_load version_1 addr n ≡ false) }
+        ensures fault { IsErr result ↔ (can_load (profile_of self.now.version) addr n ≡ false) }
     {
-        if !is_loadable(addr, n) {
+        if !is_loadable(self.version, addr, n) {
             return Err(LoadFault);
         }
         Ok(match n {
@@ -252,6 +269,7 @@ impl Memory {
         ensures changed { OnOk result (memory_of self.new ≡ with_byte (memory_of self.old) change.0 change.1) }
         ensures refused { OnErr result (memory_of self.new ≡ memory_of self.old) }
         ensures wants { OnErr result (¬ IsTrue (has_room self.old change.0)) }
+        ensures version { self.new.version ≡ self.old.version }
         ensures kept { (k : ℕ) → IsTrue (has_room self.old k) → IsTrue (has_room self.new k) }
     {
         self.write_bytes(change.addr(), &[change.byte()])

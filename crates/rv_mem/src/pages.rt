@@ -4,12 +4,13 @@ ghost use Rattle.rv_mem.specs.Pages.{PAGE_COUNT, PAGE_SIZE, AreMade, byte_of, en
 
 use crate::page::{PAGE_SIZE, Page};
 use rv_word::NoMemory;
-use rv_word::memory_map::{DATA_END, SHADOW_SIZE};
+use rv_word::memory_map::DATA_END;
+use rv_word::profile::SHADOW_SIZE_OF_HARTS;
 use std::alloc::Global;
 use std::marker::Model;
 
-/// How many pages data and shadow have together.
-const PAGE_COUNT: usize = (DATA_END + SHADOW_SIZE) as usize / PAGE_SIZE;
+/// How many pages data and the shadow of either version have together.
+const PAGE_COUNT: usize = (DATA_END + SHADOW_SIZE_OF_HARTS) as usize / PAGE_SIZE;
 
 /// Bytes in pages, of which those are kept that were made. A place is a byte's number, from 0 on.
 #[derive(Drop)]

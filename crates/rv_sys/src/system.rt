@@ -150,6 +150,7 @@ impl System {
         ensures called { IfOk result (λ end. (pc : ℕ) → after_call end pc regs.new memory.new self.new ≡ system_call (hart_of pc regs.old) (shared_of memory.old self.old)) }
         ensures registers { OnErr result (regs.new ≡ regs.old) }
         ensures memory { OnErr result (memory_of memory.new ≡ memory_of memory.old) }
+        ensures version { memory.new.version ≡ memory.old.version }
         ensures kept { (k : ℕ) → IsTrue (has_room memory.old k) → IsTrue (has_room memory.new k) }
         ensures refused { OnErr result (self.new ≡ self.old) }
     {
@@ -204,6 +205,7 @@ impl System {
         ensures called { IfOk result (λ end. (pc : ℕ) → after_call end pc regs.new memory.new self.new ≡ read_call (hart_of pc regs.old) (shared_of memory.old self.old)) }
         ensures registers { OnErr result (regs.new ≡ regs.old) }
         ensures memory { OnErr result (memory_of memory.new ≡ memory_of memory.old) }
+        ensures version { memory.new.version ≡ memory.old.version }
         ensures kept { (k : ℕ) → IsTrue (has_room memory.old k) → IsTrue (has_room memory.new k) }
         ensures refused { OnErr result (self.new ≡ self.old) }
     {
@@ -223,6 +225,7 @@ impl System {
         ensures called { IfOk result (λ end. (pc : ℕ) → after_call end pc regs.new memory.new self.new ≡ reads_input (hart_of pc regs.old) (shared_of memory.old self.old)) }
         ensures registers { OnErr result (regs.new ≡ regs.old) }
         ensures memory { OnErr result (memory_of memory.new ≡ memory_of memory.old) }
+        ensures version { memory.new.version ≡ memory.old.version }
         ensures kept { (k : ℕ) → IsTrue (has_room memory.old k) → IsTrue (has_room memory.new k) }
         ensures refused { OnErr result (self.new ≡ self.old) }
     {

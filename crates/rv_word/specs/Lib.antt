@@ -1,5 +1,6 @@
 pub mod Bits
 pub mod MemoryMap
+pub mod Form
 pub mod Memory
 pub mod Image
 pub mod Same

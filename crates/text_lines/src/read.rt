@@ -1,4 +1,4 @@
-ghost use Rattle.std.specs.Prelude.{◌≡◌, ◌++◌, true, IfOk, MatchResult, Ok, Err, map, position};
+ghost use Rattle.std.specs.Prelude.{◌≡◌, ◌+◌, ◌<◌, ◌^◌, ◌++◌, true, IfOk, MatchResult, Ok, Err, length, map, position};
 ghost use Rattle.std.specs.Str.{bytes_eq};
 ghost use Rattle.text_lines.specs.Answers.{AfterNoMemory, Answers, UnlessNoMemory};
 ghost use Rattle.text_lines.specs.Lines.{lines_of, words_of};
@@ -61,9 +61,12 @@ fn checked<F: LineForm>(
 pub fn read_lines<F: LineForm>(
     alloc: Global,
     form: &mut F,
-    first: u32,
+    first: u64,
     text: &[u8],
 ) -> Result<(), TextEnd>
+    // Each line has a number.
+    requires { first + length text.now < 2 ^ 64 }
+
     // The right answer, but for want of memory.
     ensures exact { Answers result
         (read (F.rules form.old) (F.before form.old) first (lines_of text.now)).end }
@@ -77,7 +80,7 @@ pub fn read_lines<F: LineForm>(
         (read (F.rules form.old) (F.before form.old) first (lines_of text.now)).items) }
     ensures kept { F.rules form.new ≡ F.rules form.old }
 {
-    let mut number = u64::from(first);
+    let mut number = first;
     let mut rest = text;
     loop {
         let (line, next) = cut(rest, b'\n');

@@ -5,7 +5,7 @@ use Rattle.rv_mem.proofs.memory.Memory.rest_of_page.Goals as goal
 
 pub returns-then-is_paged : goal.returns-then-is_paged
 returns-then-is_paged c =
-    let cells : Cells = record { code = c.self.inside.code.items; pages = c.self.inside.pages } in
+    let cells : Cells = record { version = c.self.inside.version; code = c.self.inside.code.items; pages = c.self.inside.pages } in
     let paged = sym c.is_paged.ensures ∙ c.if-is_paged.true in
     let bytes = rw (c.page.ensures.page, c.place-place.ensures) at c.rest.ensures in
     let long = rw (c.page.ensures.page, c.place-place.ensures) at c.page.ensures.len in
@@ -16,7 +16,7 @@ returns-then-is_paged c =
 
 pub returns-then-is_within : goal.returns-then-is_within
 returns-then-is_within c =
-    let cells : Cells = record { code = c.self.inside.code.items; pages = c.self.inside.pages } in
+    let cells : Cells = record { version = c.self.inside.version; code = c.self.inside.code.items; pages = c.self.inside.pages } in
     let code = sym c.is_within.ensures ∙ c.if-is_within.true in
     let bytes = rw c.deref.ensures.value at c.rest-then-is_within.ensures in
     record {
@@ -26,7 +26,7 @@ returns-then-is_within c =
 
 pub returns-else-is_within : goal.returns-else-is_within
 returns-else-is_within c =
-    let cells : Cells = record { code = c.self.inside.code.items; pages = c.self.inside.pages } in
+    let cells : Cells = record { version = c.self.inside.version; code = c.self.inside.code.items; pages = c.self.inside.pages } in
     record {
       within = λ k low. absurd (omega (arith, low));
       past = λ k near. rest_in_none cells c.args.addr k (sym c.is_within.ensures ∙ c.if-is_within.false) (sym c.is_paged.ensures ∙ c.if-is_paged.false) near

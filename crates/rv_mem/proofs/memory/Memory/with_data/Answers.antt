@@ -3,5 +3,5 @@ use Rattle.rv_word.specs.Memory.{placed, zeros}
 use Rattle.rv_mem.proofs.Placed.{placed-none}
 use Rattle.rv_mem.proofs.memory.Memory.with_data.Goals as goal
 
-pub returns : goal.returns
-returns c = let a = c.with_contents.ensures in rw (← placed-none (placed zeros DATA_START c.args.init.now) CODE_START) at a
+pub returns-clause-memory : goal.returns-clause-memory
+returns-clause-memory c = let a = c.with_contents.ensures.memory in rw (← placed-none (placed zeros DATA_START c.args.init.now) CODE_START) at a
