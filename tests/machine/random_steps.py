@@ -37,7 +37,7 @@ PROBE = """//! Executes one instruction for each line of standard input: a word 
 #![tactic(auto)]
 
 use rv_instr::Reg;
-use rv_machine::Machine;
+use rv_machine::{Machine, Turn};
 use rv_word::Image;
 use std::alloc::{AllocError, Global};
 use std::io;
@@ -71,14 +71,14 @@ fn probe(rt: &HostRuntime, line: &str) -> io::Result<()> {
     for r in 1..32 {
         data.extend_from_slice(&numbers[r].to_le_bytes())?;
     }
-    let mut machine = Machine::new(rt.alloc(), &Image::of(&code, &data), &[]).unwrap();
+    let mut machine = Machine::new(rt.alloc(), &Image::of(&code, &data), &[], 1).unwrap();
     for _ in 0..33 {
-        let _ = machine.step();
+        let _ = machine.step(0);
     }
-    let turn = machine.step().unwrap();
-    print!(rt; "{turn:?};{:x}", machine.pc())?;
+    let told = if machine.step(0) == Ok(Turn::Ran) { "Ran" } else { "Stop" };
+    print!(rt; "{told};{:x}", machine.pc(0))?;
     for r in 1..32 {
-        print!(rt; " {:x}", machine.reg(Reg::of(r)))?;
+        print!(rt; " {:x}", machine.reg(0, Reg::of(r)))?;
     }
     print!(rt; ";")?;
     let end = if numbers[0] & 0x7f == 0x23 { 0x2000 } else { 0 };

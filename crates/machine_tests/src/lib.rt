@@ -7,4 +7,8 @@ mod machine;
 #[cfg(test)]
 mod memory;
 #[cfg(test)]
+mod processor;
+#[cfg(test)]
+mod steps;
+#[cfg(test)]
 mod system;

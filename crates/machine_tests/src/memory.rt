@@ -93,13 +93,24 @@ fn accesses_are_the_memory_map(rt: HostRuntime) {
 
 #[test]
 fn regions(rt: HostRuntime) {
-    for (addr, wanted) in [
-        (0x1000_0fff, Some(Region::Data)),
-        (0x4000_0000, Some(Region::Code)),
-        (0x6000_ffff, Some(Region::Shadow)),
-        (0x1000_1000, None),
+    for (addr, one, two) in [
+        (0, Some(Region::Data), Some(Region::Data)),
+        (0x1000_0fff, Some(Region::Data), Some(Region::Data)),
+        (0x1000_1000, None, None),
+        (0x3fff_ffff, None, None),
+        (0x4000_0000, Some(Region::Code), Some(Region::Code)),
+        (0x400f_ffff, Some(Region::Code), Some(Region::Code)),
+        (0x4010_0000, None, None),
+        (0x5fff_ffff, None, None),
+        (0x6000_0000, Some(Region::Shadow), Some(Region::Shadow)),
+        (0x6000_ffff, Some(Region::Shadow), Some(Region::Shadow)),
+        (0x6001_0000, None, Some(Region::Shadow)),
+        (0x6007_ffff, None, Some(Region::Shadow)),
+        (0x6008_0000, None, None),
+        (u64::MAX, None, None),
     ] {
-        assert!(rt; region(addr) == wanted, "{addr:x}");
+        assert!(rt; region(addr, 1) == one, "1: {addr:x}");
+        assert!(rt; region(addr, 2) == two, "2: {addr:x}");
     }
 }
 
@@ -316,8 +327,8 @@ fn is_read(memory: &Memory, row: &str, at: [usize; 3]) -> bool {
 }
 
 /// Whether the accesses of a row do what it says.
-fn edge_holds(alloc: Global, row: &str) -> bool {
-    let Some(mut memory) = memory(alloc) else {
+fn edge_holds(memory: Option<Memory>, row: &str) -> bool {
+    let Some(mut memory) = memory else {
         return false;
     };
     is_written(&mut memory, row, [1, 2, 3])
@@ -331,8 +342,103 @@ fn accesses_at_edges(rt: HostRuntime) {
     let table = EDGES;
     assert!(rt; rows(table).count() == 103);
     for row in rows(table) {
-        assert!(rt; edge_holds(rt.alloc(), row), "{row}");
+        assert!(rt; edge_holds(memory(rt.alloc()), row), "{row}");
     }
+}
+
+/// The same where the memory is that of an image of version 2: at the edges of its shadow stack, and of
+/// the parts in it.
+const EDGES_OF_HARTS: &[u8] = b"\
+    never-written 0 0 0 0 0 0 0 0 6000fffc 8 0\n\
+    never-written 0 0 0 0 0 0 0 0 6007fff8 8 0\n\
+    first 60000000 8 1122334455667788 0 0 0 0 0 60000004 4 11223344\n\
+    first 60000000 8 1122334455667788 0 0 0 0 0 60010000 8 0\n\
+    between-parts 6000fffc 8 1122334455667788 0 0 0 0 0 60010000 4 11223344\n\
+    between-parts 6000fffc 8 1122334455667788 0 0 0 0 0 6000fffe 2 5566\n\
+    between-parts 6003ffff 2 aabb 0 0 0 0 0 60040000 1 aa\n\
+    second 60010000 8 1122334455667788 0 0 0 0 0 60010000 8 1122334455667788\n\
+    second 60010000 8 1122334455667788 0 0 0 0 0 60000000 8 0\n\
+    second 60010000 8 1122334455667788 0 0 0 0 0 60020000 8 0\n\
+    last 6007fff8 8 1122334455667788 0 0 0 0 0 6007ffff 1 11\n\
+    last 6007ffff 1 5a 0 0 0 0 0 6007fffe 2 5a00\n\
+    last 6007fff8 8 1122334455667788 0 0 0 0 0 6006fff8 8 0\n\
+    last 6007fff8 8 1122334455667788 0 0 0 0 0 0 8 0\n\
+    last 6007fff8 8 1122334455667788 0 0 0 0 0 10000ff8 8 0\n\
+    data-last 10000ff8 8 1122334455667788 0 0 0 0 0 60000000 8 0\n\
+    data-last 10000ff8 8 1122334455667788 0 0 60070000 1 5a 10000ff8 8 1122334455667788\n\
+    code-first 0 0 0 0 0 60070000 8 1122334455667788 40000000 8 d100c0b0a0\n\
+    fault 0 0 0 0 0 0 0 0 6007ffff 2 -\n\
+    fault 0 0 0 0 0 0 0 0 6007fffd 4 -\n\
+    fault 0 0 0 0 0 0 0 0 6007fff9 8 -\n\
+    fault 0 0 0 0 0 0 0 0 60080000 1 -\n\
+    fault 0 0 0 0 0 0 0 0 5ffffffc 8 -\n\
+";
+
+/// A memory of version 2 with some code and data.
+fn memory_of_harts(alloc: Global) -> Option<Memory> {
+    let code = [0xa0, 0xb0, 0xc0, 0, 0xd1, 0, 0, 0];
+    Memory::load(alloc, &Image::of_version(2, &code, &[7, 8])).ok()
+}
+
+#[test]
+fn accesses_at_edges_of_parts(rt: HostRuntime) {
+    let table = EDGES_OF_HARTS;
+    assert!(rt; rows(table).count() == 23);
+    for row in rows(table) {
+        assert!(rt; edge_holds(memory_of_harts(rt.alloc()), row), "{row}");
+    }
+}
+
+/// The number that is written to the double-word with an index.
+fn mixed(index: u64) -> u64 {
+    index.wrapping_add(1).wrapping_mul(0x9e37_79b9_7f4a_7c15)
+}
+
+/// Whether a number is written to each double-word of the 2^19 bytes, and none past them.
+fn fills(memory: &mut Memory) -> bool {
+    for k in 0..0x1_0000_u64 {
+        if memory.write(0x6000_0000 + 8 * k, 8, mixed(k)).is_err() {
+            return false;
+        }
+    }
+    for n in [0x6007_fff9, 0x6008_0000, 0x6008_fff8, 0x600f_0000] {
+        if memory.write(n, 8, u64::MAX).is_ok() {
+            return false;
+        }
+    }
+    true
+}
+
+/// Whether each byte of the 2^19 is that of its double-word's number.
+fn is_filled(memory: &Memory) -> bool {
+    for k in 0..0x8_0000_u64 {
+        let byte = mixed(k / 8) >> (k % 8 * 8) & 0xff;
+        if memory.read(0x6000_0000 + k, 1) != Ok(byte) {
+            return false;
+        }
+    }
+    true
+}
+
+/// Whether a shadow stack of version 2 whose pages were made is zeros, and then what is written into all
+/// of it.
+fn holds_a_shadow(alloc: Global) -> bool {
+    let code = [0x73, 0, 0x10, 0];
+    let Ok(mut memory) = Memory::load(alloc, &Image::of_version(2, &code, &[])) else {
+        return false;
+    };
+    memory.reserve_pages(0x6000_0000, 0x8_0000).is_ok()
+        && holds(&memory, 0x6007_fffc, 0)
+        && fills(&mut memory)
+        && is_filled(&memory)
+        && holds(&memory, 0, 0)
+        && holds(&memory, 0x1000_0ffc, 0)
+        && holds(&memory, 0x4000_0000, 0x0010_0073)
+}
+
+#[test]
+fn all_of_the_shadow_is_written_and_read(rt: HostRuntime) {
+    assert!(rt; holds_a_shadow(rt.alloc()));
 }
 
 /// Where 8,200 bytes stand over three pages, loaded from 10000h on or written from 1ffeh on: a read,
@@ -369,7 +475,7 @@ fn spanned(alloc: Global, bytes: &[u8], how: &str) -> Option<Memory> {
         return None;
     }
     if how == "loaded" {
-        return Memory::with_data(alloc, bytes).ok();
+        return Memory::with_data(alloc, 1, bytes).ok();
     }
     let mut memory = Memory::new(alloc).ok()?;
     memory.write_bytes(0x1ffe, bytes).ok()?;

@@ -7,7 +7,7 @@ use Rattle.std.proofs.lemmas.List.{length-append}
 use Rattle.std.proofs.Math.ListN.{get_or-append}
 use Rattle.std.proofs.Math.Seq.{get_or-append_seam}
 use Rattle.rv_word.specs.Image.{Contents}
-use Rattle.rv_word.specs.MemoryMap.{CODE_START, CODE_SIZE, DATA_START, DATA_END, SHADOW_START, can_store, lies_within, version_1}
+use Rattle.rv_word.specs.MemoryMap.{CODE_START, CODE_SIZE, DATA_START, DATA_END, SHADOW_START, can_store, lies_within, Profile}
 use Rattle.rv_word.specs.Memory.{Memory, loaded, placed, read, write, zeros}
 use Rattle.rv_word.specs.Same.{SameOn}
 use Rattle.rv_instr.specs.declared.instr.Instr.{Instr}
@@ -34,13 +34,13 @@ is_true true n = refl
 is_true false n = absurd (n refl)
 
 -- a store writes data or shadow
-pub code_stored : (instrs : List (Option Instr)) (m m' : Memory) (n a v : ℕ) → (can_store version_1 a n ≡ false → ⊥) → m' ≡ write n m a v → IsCodeOf instrs m → IsCodeOf instrs m'
-code_stored instrs m m' n a v may e = code_kept instrs m m' (λ k from to. ap (λ (w : Memory). w k) e ∙ write_outside n m a v k (outside k from to))
+pub code_stored : (p : Profile) (instrs : List (Option Instr)) (m m' : Memory) (n a v : ℕ) → (can_store p a n ≡ false → ⊥) → m' ≡ write n m a v → IsCodeOf instrs m → IsCodeOf instrs m'
+code_stored p instrs m m' n a v may e = code_kept instrs m m' (λ k from to. ap (λ (w : Memory). w k) e ∙ write_outside n m a v k (outside k from to))
   where
     outside : (k : ℕ) → CODE_START ≤ k → k < CODE_START + CODE_SIZE → (k < a) ⊎ (a + n ≤ k)
-    outside k from to = elim (or_cases (lies_within 0 DATA_END a n) (lies_within SHADOW_START version_1.shadow_size a n) (is_true (can_store version_1 a n) may)) [
+    outside k from to = elim (or_cases (lies_within 0 DATA_END a n) (lies_within SHADOW_START p.shadow_size a n) (is_true (can_store p a n) may)) [
       | inl low ↦ let below = leb-true (a + n) DATA_END (and_parts (nat_le 0 a) (nat_le (a + n) DATA_END) low).1 in inr (omega (arith, below))
-      | inr high ↦ let above = leb-true SHADOW_START a (and_parts (nat_le SHADOW_START a) (nat_le (a + n) (SHADOW_START + version_1.shadow_size)) high).0 in inl (omega (arith, above))
+      | inr high ↦ let above = leb-true SHADOW_START a (and_parts (nat_le SHADOW_START a) (nat_le (a + n) (SHADOW_START + p.shadow_size)) high).0 in inl (omega (arith, above))
     ]
 
 -- a system call writes below 2 ^ 28

@@ -1,2 +1,3 @@
 mod Decoding
 mod Exits
+mod Harts

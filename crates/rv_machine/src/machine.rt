@@ -1,450 +1,187 @@
-ghost use Rattle.std.specs.Prelude.{◌≡◌, ◌+◌, ◌*◌, ◌/◌, ◌<◌, ◌≤◌, ◌^◌, [], ◌∷◌, length, true, IfOk, IsSome, OnOk, OnErr, IsTrue};
-ghost use Rattle.rv_word.specs.MemoryMap.{can_store, version_1, DATA_START, DATA_END};
-ghost use Rattle.rv_word.specs.Memory.{placed, read, zeros};
-ghost use Rattle.rv_instr.specs.Registers.{get_reg, set_reg};
-ghost use Rattle.rv_code.specs.Decode.{decoded};
-ghost use Rattle.rv_code.specs.Run.{disturbed};
-ghost use Rattle.rv_code.specs.State.{last_exit, start_hart, start_shared};
-ghost use Rattle.rv_code.specs.Step.{address, can_fetch, exec, offset, puts, ran, step};
-ghost use Rattle.rv_mem.specs.Cells.{HasRoom, has_room, memory_of};
-ghost use Rattle.rv_machine.specs.Code.{IsCodeOf};
-ghost use Rattle.rv_machine.specs.Room.{KeepsRoom, LacksRoom, LacksRoomAtPc};
-ghost use Rattle.rv_machine.specs.Parts.{after_step, hart_in, may_take_memory, shared_in, MayTakeMemory};
+ghost use Rattle.std.specs.Prelude.{◌≡◌, ◌<◌, ◌≤◌, [], ◌∷◌, length, IfOk, OnOk, OnErr, IsTrue};
+ghost use Rattle.rv_word.specs.MemoryMap.{can_store, profile_of};
+ghost use Rattle.rv_instr.specs.Registers.{get_reg};
+ghost use Rattle.rv_code.specs.Run.{disturbed, stepped};
+ghost use Rattle.rv_code.specs.State.{start_hart, start_shared};
+ghost use Rattle.rv_mem.specs.Cells.{HasRoom, has_room};
+ghost use Rattle.rv_machine.specs.Harts.{harts_in, harts_share, resting_at, run_after};
+ghost use Rattle.rv_machine.specs.Parts.{MayTakeMemory};
+ghost use Rattle.rv_machine.specs.Room.{KeepsRoom, LacksRoomAtPc};
 
-use crate::arithmetic;
-use crate::code::Code;
+use crate::hart::Hart;
+use crate::processor::Processor;
 use rv_code::{Events, Turn};
-use rv_instr::{
-    BranchOp, Immediate, ImmediateOp, Instr, LoadOp, Reg, RegisterOp, Regs, ShiftOp, ShiftWordOp,
-    StoreOp, UpperOp,
-};
-use rv_mem::{Change, LoadFault, Memory, WriteRefusal};
-use rv_sys::{SysEnd, System};
-use rv_word::memory_map::{CODE_SIZE, CODE_START};
-use rv_word::profile::START;
+use rv_instr::Reg;
+use rv_mem::{Change, Memory};
+use rv_sys::System;
 use rv_word::{Bytes, Image, NoMemory};
 use std::alloc::Global;
 use std::marker::Model;
 
-/// The end of code's region.
-const CODE_END: u64 = CODE_START + CODE_SIZE;
-
-/// A machine with one hart, in the middle of a run.
+/// A machine with one or several harts, in the middle of a run. Each hart has a pc and registers of
+/// its own; memory and what system calls keep are shared by all.
 #[derive(Drop)]
 pub struct Machine {
-    pc: u64,
-    regs: Regs,
-    memory: Memory,
-    system: System,
-    code: Code,
-    ended: Option<u8>,
+    processor: Processor,
+    current: usize,
+    resting: Vec<Hart>,
 }
 
 impl Model for Machine {
-    ghost use Rattle.rv_mem.specs.Cells.{memory_of};
-    ghost use Rattle.rv_machine.specs.Code.{IsKept};
-    ghost use Rattle.rv_machine.specs.Parts.{Parts};
+    ghost use Rattle.rv_machine.specs.Harts.{IsOneOfHarts, MachineParts};
 
-    ghost Value = { Parts };
+    ghost Value = { MachineParts };
 
-    ghost view = { λ m. record { pc = m.pc; regs = m.regs; memory = m.memory; calls = m.system } };
+    ghost view = { λ m. record { processor = m.processor; current = m.current; resting = m.resting.items } };
 
-    ghost invariant = { λ m. IsKept m.code (memory_of m.memory) m.ended m.system.events };
+    ghost invariant = { λ m. IsOneOfHarts m.current m.resting.items };
 }
 
 impl Machine {
-    /// The machine in which a run of an image starts; the input is copied, and the code is decoded.
-    pub fn new(alloc: Global, image: &Image, input: &[u8]) -> Result<Machine, NoMemory>
-        ensures hart { IfOk result (λ machine. hart_in machine ≡ start_hart 0) }
-        ensures shared { IfOk result (λ machine. shared_in machine ≡ start_shared image.now input.now) }
+    /// The machine in which a run of an image with so many harts starts; the input is copied, and the
+    /// code is decoded.
+    pub fn new(alloc: Global, image: &Image, input: &[u8], harts: u8) -> Result<Machine, NoMemory>
+        requires { 1 ≤ harts }
+        ensures count { IfOk result (λ machine. length machine.resting ≡ harts) }
+        ensures harts { IfOk result (λ machine. harts_in machine ≡ start_hart) }
+        ensures shared { IfOk result (λ machine. harts_share machine ≡ start_shared image.now input.now) }
+        ensures version { IfOk result (λ machine. machine.processor.memory.version ≡ image.now.version) }
     {
-        let memory = Memory::load(alloc, image)?;
-        let code = Code::of(alloc, &memory, image.code().len() / 4)?;
-        Machine::with_memory(alloc, memory, code, input)
-    }
-
-    /// The machine in which a run starts with this memory and its code; the input is copied.
-    fn with_memory(
-        alloc: Global,
-        memory: Memory,
-        code: Code,
-        input: &[u8],
-    ) -> Result<Machine, NoMemory>
-        requires { IsCodeOf code (memory_of memory) }
-        ensures hart { IfOk result (λ machine. hart_in machine ≡ start_hart 0) }
-        ensures shared { IfOk result (λ machine. shared_in machine ≡ record { memory = memory_of memory; left = input.now; output = []; events = [] }) }
-    {
+        let resting = resting_harts(alloc, harts)?;
         Ok(Machine {
-            pc: START,
-            regs: Regs::new(),
-            memory,
-            system: System::new(alloc, input)?,
-            code,
-            ended: None,
+            processor: Processor::new(alloc, image, input)?,
+            current: 0,
+            resting,
         })
     }
 
-    /// A machine with data and no code, as before a run: data from an image's first data address on.
-    /// It runs by `execute`, which takes its instructions from elsewhere.
-    pub fn with_data(alloc: Global, init: &[u8], input: &[u8]) -> Result<Machine, NoMemory>
-        requires { DATA_START + length init.now ≤ DATA_END }
-        ensures hart { IfOk result (λ machine. hart_in machine ≡ start_hart 0) }
-        ensures shared { IfOk result (λ machine. shared_in machine ≡ record { memory = placed zeros DATA_START init.now; left = input.now; output = []; events = [] }) }
+    /// How many harts it has.
+    pub fn harts(&self) -> u8
+        ensures { result ≡ length self.now.resting }
     {
-        let memory = Memory::with_data(alloc, init)?;
-        Machine::with_memory(alloc, memory, Code::none(alloc), input)
+        self.resting.len() as u8
     }
 
-    /// The address of the next instruction.
-    pub fn pc(&self) -> u64
-        ensures { result ≡ self.now.pc }
+    /// The address of a hart's next instruction.
+    pub fn pc(&self, hart: u8) -> u64
+        requires { hart < length self.now.resting }
+        ensures { result ≡ (harts_in self.now hart).pc }
     {
-        self.pc
+        let hart = usize::from(hart);
+        if hart == self.current {
+            self.processor.pc()
+        } else {
+            self.resting[hart].pc()
+        }
     }
 
-    /// What a register holds.
-    pub fn reg(&self, reg: Reg) -> u64
-        ensures { result ≡ get_reg (hart_in self.now).regs reg }
+    /// What a register of a hart holds.
+    pub fn reg(&self, hart: u8, reg: Reg) -> u64
+        requires { hart < length self.now.resting }
+        ensures { result ≡ get_reg (harts_in self.now hart).regs reg }
     {
-        self.regs.get(reg)
-    }
-
-    /// Goes to an address, whatever stands there.
-    pub fn set_pc(&mut self, pc: u64)
-        ensures { self.new ≡ record self.old { pc = pc } }
-    {
-        self.pc = pc;
-    }
-
-    /// Writes a register; a write to x0 changes nothing.
-    pub fn set_reg(&mut self, reg: Reg, value: u64)
-        ensures hart { hart_in self.new ≡ record (hart_in self.old) { regs = set_reg (hart_in self.old).regs reg value } }
-        ensures shared { shared_in self.new ≡ shared_in self.old }
-        ensures kept { KeepsRoom self.old self.new }
-    {
-        self.regs.set(reg, value);
+        let hart = usize::from(hart);
+        if hart == self.current {
+            self.processor.reg(reg)
+        } else {
+            self.resting[hart].reg(reg)
+        }
     }
 
     /// Its memory.
     pub fn mem(&self) -> &Memory
-        ensures { result.now ≡ self.now.memory }
+        ensures { result.now ≡ self.now.processor.memory }
     {
-        &self.memory
+        self.processor.mem()
     }
 
     /// What its system calls keep: the input left, the output and the calls.
     pub fn system(&self) -> &System
-        ensures { result.now ≡ self.now.calls }
+        ensures { result.now ≡ self.now.processor.calls }
     {
-        &self.system
+        self.processor.system()
     }
 
     /// What the run wrote and the system calls that it made, given back without taking memory.
     pub fn into_results(self) -> (Bytes, Events)
-        ensures { result ≡ (self.calls.output, self.calls.events) }
+        ensures { result ≡ (self.processor.calls.output, self.processor.calls.events) }
     {
-        self.system.into_results()
+        self.processor.into_results()
     }
 
-    /// One step: fetches the word at the pc, decodes and executes it. After an exit each step
-    /// answers it again. A refusal leaves all as it was, and comes from a store into data or shadow
-    /// whose pages were not all made, or from a system call alone. Pages that were made stay so.
-    #[tactic(auto, unfolding(rv_code::specs::Step::step))]
+    /// One step of a hart. After an exit each step of any hart answers it again. A refusal leaves all
+    /// as it was, and comes from a store into data or shadow whose pages were not all made, or from a
+    /// system call alone. Pages that were made stay so.
     #[inline(always)]
-    pub fn step(&mut self) -> Result<Turn, NoMemory>
-        ensures stepped { IfOk result (λ turn. after_step self.new turn ≡ step version_1 (hart_in self.old) (shared_in self.old)) }
-        ensures hart { OnErr result (hart_in self.new ≡ hart_in self.old) }
-        ensures shared { OnErr result (shared_in self.new ≡ shared_in self.old) }
-        ensures wants { OnErr result (MayTakeMemory version_1 (hart_in self.old) (shared_in self.old)) }
-        ensures room { OnErr result (LacksRoomAtPc self.old) }
-        ensures kept { KeepsRoom self.old self.new }
+    pub fn step(&mut self, hart: u8) -> Result<Turn, NoMemory>
+        requires { hart < length self.old.resting }
+        ensures stepped { IfOk result (λ turn. run_after self.new turn ≡ stepped (profile_of self.old.processor.memory.version) (harts_in self.old) (harts_share self.old) (record { hart = hart; changes = [] })) }
+        ensures harts { OnErr result (harts_in self.new ≡ harts_in self.old) }
+        ensures shared { OnErr result (harts_share self.new ≡ harts_share self.old) }
+        ensures wants { OnErr result (MayTakeMemory (profile_of self.old.processor.memory.version) (harts_in self.old hart) (harts_share self.old)) }
+        ensures room { OnErr result (LacksRoomAtPc self.old.processor.memory (harts_in self.old hart)) }
+        ensures count { length self.new.resting ≡ length self.old.resting }
+        ensures version { self.new.processor.memory.version ≡ self.old.processor.memory.version }
+        ensures kept { KeepsRoom self.old.processor self.new.processor }
     {
-        if let Some(status) = self.ended() {
-            return Ok(Turn::Exit(status));
-        }
-        let pc = self.pc();
-        match self.fetch(pc) {
-            Some(instr) => self.execute(&instr),
-            None if is_place(pc) => Ok(Turn::Illegal(pc)),
-            None => Ok(Turn::FetchFault(pc)),
-        }
+        self.select(usize::from(hart));
+        self.processor.step()
     }
 
-    /// The status with which the run has ended, if it has.
+    /// Brings a hart into the processor, where it is not there; the one that was there rests.
     #[inline(always)]
-    fn ended(&self) -> Option<u8>
-        ensures { result ≡ last_exit (shared_in self.now).events }
+    fn select(&mut self, hart: usize)
+        requires { hart < length self.old.resting }
+        ensures current { self.new.current ≡ hart }
+        ensures harts { harts_in self.new ≡ harts_in self.old }
+        ensures count { length self.new.resting ≡ length self.old.resting }
+        ensures memory { self.new.processor.memory ≡ self.old.processor.memory }
+        ensures calls { self.new.processor.calls ≡ self.old.processor.calls }
     {
-        self.ended
-    }
-
-    /// The instruction that stands at an address, if it is one of code and its word is an instruction.
-    #[inline(always)]
-    fn fetch(&self, pc: u64) -> Option<Instr>
-        ensures place { IsSome result → can_fetch pc ≡ true }
-        ensures instr { can_fetch pc ≡ true → result ≡ decoded (read 4 (shared_in self.now).memory pc) }
-    {
-        let offset = pc.wrapping_sub(CODE_START);
-        if offset % 4 == 0 {
-            self.code.get((offset / 4) as usize)
-        } else {
-            None
+        if hart != self.current {
+            self.processor.exchange(&mut self.resting[self.current]);
+            self.processor.exchange(&mut self.resting[hart]);
+            self.current = hart;
         }
     }
 
     /// Makes the pages of memory of the `len` bytes from `addr` on: no store there wants memory from
     /// then on. Nothing else changes, and it takes time for the pages, not for the bytes.
     pub fn reserve_pages(&mut self, addr: u64, len: u64) -> Result<(), NoMemory>
-        requires { IsTrue (can_store version_1 addr len) }
-        ensures hart { hart_in self.new ≡ hart_in self.old }
-        ensures shared { shared_in self.new ≡ shared_in self.old }
-        ensures room { OnOk result (HasRoom self.new.memory addr len) }
-        ensures wants { OnErr result (¬ HasRoom self.old.memory addr len) }
-        ensures kept { KeepsRoom self.old self.new }
+        requires { IsTrue (can_store (profile_of self.old.processor.memory.version) addr len) }
+        ensures harts { harts_in self.new ≡ harts_in self.old }
+        ensures shared { harts_share self.new ≡ harts_share self.old }
+        ensures room { OnOk result (HasRoom self.new.processor.memory addr len) }
+        ensures wants { OnErr result (¬ HasRoom self.old.processor.memory addr len) }
+        ensures count { length self.new.resting ≡ length self.old.resting }
+        ensures version { self.new.processor.memory.version ≡ self.old.processor.memory.version }
+        ensures kept { KeepsRoom self.old.processor self.new.processor }
     {
-        self.memory.reserve_pages(addr, len)
+        self.processor.reserve_pages(addr, len)
     }
 
     /// Sets one data byte from outside. A refusal leaves all as it was.
-    #[tactic(auto, unfolding(rv_mem::specs::Cells::with_byte))]
     pub fn change(&mut self, change: Change) -> Result<(), NoMemory>
-        ensures hart { hart_in self.new ≡ hart_in self.old }
-        ensures changed { OnOk result (shared_in self.new ≡ disturbed (shared_in self.old) (record { address = change.0; byte = change.1 } ∷ [])) }
-        ensures refused { OnErr result (shared_in self.new ≡ shared_in self.old) }
-        ensures room { OnErr result (¬ IsTrue (has_room self.old.memory change.0)) }
-        ensures kept { KeepsRoom self.old self.new }
+        ensures harts { harts_in self.new ≡ harts_in self.old }
+        ensures changed { OnOk result (harts_share self.new ≡ disturbed (harts_share self.old) (record { address = change.0; byte = change.1 } ∷ [])) }
+        ensures refused { OnErr result (harts_share self.new ≡ harts_share self.old) }
+        ensures room { OnErr result (¬ IsTrue (has_room self.old.processor.memory change.0)) }
+        ensures count { length self.new.resting ≡ length self.old.resting }
+        ensures version { self.new.processor.memory.version ≡ self.old.processor.memory.version }
+        ensures kept { KeepsRoom self.old.processor self.new.processor }
     {
-        self.memory.change(change)
-    }
-
-    /// Executes an instruction as if it stood at the pc, whatever memory holds there and whether or
-    /// not the run has ended. A refusal leaves all as it was. The bound on the pc lets the next
-    /// instruction's address be a number of 64 bits; every pc in code is below it.
-    #[inline(always)]
-    pub fn execute(&mut self, instr: &Instr) -> Result<Turn, NoMemory>
-        requires { self.old.pc < 2 ^ 63 }
-        ensures executed { IfOk result (λ turn. after_step self.new turn ≡ exec version_1 instr.now (hart_in self.old) (shared_in self.old)) }
-        ensures hart { OnErr result (hart_in self.new ≡ hart_in self.old) }
-        ensures shared { OnErr result (shared_in self.new ≡ shared_in self.old) }
-        ensures wants { OnErr result (may_take_memory version_1 instr.now (hart_in self.old) ≡ true) }
-        ensures room { OnErr result (LacksRoom self.old instr.now) }
-        ensures kept { KeepsRoom self.old self.new }
-    {
-        Ok(match *instr {
-            Instr::Upper(op, rd, imm) => self.upper(op, rd, imm),
-            Instr::Jal(rd, imm) => self.jump(rd, imm),
-            Instr::Jalr(rd, rs1, imm) => self.jump_register(rd, rs1, imm),
-            Instr::Branch(op, rs1, rs2, imm) => self.branch(op, rs1, rs2, imm),
-            Instr::Load(op, rd, rs1, imm) => self.load(op, rd, rs1, imm),
-            Instr::Store(op, rs1, rs2, imm) => return self.store(op, rs1, rs2, imm),
-            Instr::Immediate(op, rd, rs1, imm) => self.immediate(op, rd, rs1, imm),
-            Instr::Shift(op, rd, rs1, amount) => self.shift(op, rd, rs1, amount),
-            Instr::ShiftWord(op, rd, rs1, amount) => self.shift_word(op, rd, rs1, amount),
-            Instr::Register(op, rd, rs1, rs2) => self.register(op, rd, rs1, rs2),
-            // Memory is one and in order, so a fence has nothing to do.
-            Instr::Fence(_) => {
-                self.set_pc(self.pc() + 4);
-                Turn::Ran
-            }
-            Instr::Ecall => return self.environment_call(),
-            Instr::Ebreak => Turn::Break(self.pc()),
-        })
-    }
-
-    /// Puts a value into a register; the next instruction is next.
-    #[inline(always)]
-    fn put(&mut self, rd: Reg, value: u64)
-        requires { self.old.pc < 2 ^ 63 }
-        ensures executed { after_step self.new Turn.Ran ≡ puts (hart_in self.old) (shared_in self.old) rd value }
-        ensures kept { KeepsRoom self.old self.new }
-    {
-        self.regs.set(rd, value);
-        self.pc += 4;
-    }
-
-    /// Goes to an address, and links to the next instruction.
-    #[inline(always)]
-    fn link(&mut self, rd: Reg, target: u64)
-        requires { self.old.pc < 2 ^ 63 }
-        ensures executed { after_step self.new Turn.Ran ≡ ran target (set_reg (hart_in self.old).regs rd (self.old.pc + 4)) (shared_in self.old) }
-        ensures kept { KeepsRoom self.old self.new }
-    {
-        self.regs.set(rd, self.pc + 4);
-        self.pc = target;
-    }
-
-    /// The address in a register and an offset.
-    #[inline(always)]
-    fn address_of(&self, rs1: Reg, imm: Immediate<12>) -> u64
-        ensures { result ≡ address (hart_in self.now) rs1 imm }
-    {
-        self.reg(rs1).wrapping_add(arithmetic::immediate_value(imm))
-    }
-
-    #[inline(always)]
-    fn upper(&mut self, op: UpperOp, rd: Reg, imm: Immediate<20>) -> Turn
-        requires { self.old.pc < 2 ^ 63 }
-        ensures executed { after_step self.new result ≡ exec version_1 (Instr.Upper op rd imm) (hart_in self.old) (shared_in self.old) }
-        ensures kept { KeepsRoom self.old self.new }
-    {
-        let offset = arithmetic::word(u64::from(imm.bits()) << 12);
-        match op {
-            UpperOp::Lui => self.put(rd, offset),
-            UpperOp::Auipc => self.put(rd, self.pc.wrapping_add(offset)),
-        }
-        Turn::Ran
-    }
-
-    #[inline(always)]
-    fn jump(&mut self, rd: Reg, imm: Immediate<20>) -> Turn
-        requires { self.old.pc < 2 ^ 63 }
-        ensures executed { after_step self.new result ≡ exec version_1 (Instr.Jal rd imm) (hart_in self.old) (shared_in self.old) }
-        ensures kept { KeepsRoom self.old self.new }
-    {
-        let offset = arithmetic::jump_offset(imm);
-        self.link(rd, self.pc.wrapping_add(offset));
-        Turn::Ran
-    }
-
-    #[inline(always)]
-    fn jump_register(&mut self, rd: Reg, rs1: Reg, imm: Immediate<12>) -> Turn
-        requires { self.old.pc < 2 ^ 63 }
-        ensures executed { after_step self.new result ≡ exec version_1 (Instr.Jalr rd rs1 imm) (hart_in self.old) (shared_in self.old) }
-        ensures kept { KeepsRoom self.old self.new }
-    {
-        let target = self.address_of(rs1, imm);
-        self.link(rd, target - target % 2);
-        Turn::Ran
-    }
-
-    #[inline(always)]
-    fn branch(&mut self, op: BranchOp, rs1: Reg, rs2: Reg, imm: Immediate<12>) -> Turn
-        requires { self.old.pc < 2 ^ 63 }
-        ensures executed { after_step self.new result ≡ exec version_1 (Instr.Branch op rs1 rs2 imm) (hart_in self.old) (shared_in self.old) }
-        ensures kept { KeepsRoom self.old self.new }
-    {
-        let offset = arithmetic::branch_offset(imm);
-        let pc = self.pc();
-        if arithmetic::branches(op, self.reg(rs1), self.reg(rs2)) {
-            self.set_pc(pc.wrapping_add(offset));
-        } else {
-            self.set_pc(pc + 4);
-        }
-        Turn::Ran
-    }
-
-    #[inline(always)]
-    fn load(&mut self, op: LoadOp, rd: Reg, rs1: Reg, imm: Immediate<12>) -> Turn
-        requires { self.old.pc < 2 ^ 63 }
-        ensures executed { after_step self.new result ≡ exec version_1 (Instr.Load op rd rs1 imm) (hart_in self.old) (shared_in self.old) }
-        ensures kept { KeepsRoom self.old self.new }
-    {
-        let addr = self.address_of(rs1, imm);
-        match self.mem().read(addr, arithmetic::loaded_bytes(op)) {
-            Ok(value) => {
-                self.put(rd, arithmetic::loaded(op, value));
-                Turn::Ran
-            }
-            Err(LoadFault) => Turn::LoadFault(self.pc(), addr),
-        }
-    }
-
-    #[inline(always)]
-    fn store(
-        &mut self,
-        op: StoreOp,
-        rs1: Reg,
-        rs2: Reg,
-        imm: Immediate<12>,
-    ) -> Result<Turn, NoMemory>
-        requires { self.old.pc < 2 ^ 63 }
-        ensures executed { IfOk result (λ turn. after_step self.new turn ≡ exec version_1 (Instr.Store op rs1 rs2 imm) (hart_in self.old) (shared_in self.old)) }
-        ensures hart { OnErr result (hart_in self.new ≡ hart_in self.old) }
-        ensures shared { OnErr result (shared_in self.new ≡ shared_in self.old) }
-        ensures wants { OnErr result (may_take_memory version_1 (Instr.Store op rs1 rs2 imm) (hart_in self.old) ≡ true) }
-        ensures room { OnErr result (LacksRoom self.old (Instr.Store op rs1 rs2 imm)) }
-        ensures kept { KeepsRoom self.old self.new }
-    {
-        let addr = self.address_of(rs1, imm);
-        let value = self.reg(rs2);
-        match self.memory.write(addr, arithmetic::stored_bytes(op), value) {
-            Ok(()) => {
-                self.pc += 4;
-                Ok(Turn::Ran)
-            }
-            Err(WriteRefusal::StoreFault) => Ok(Turn::StoreFault(self.pc, addr)),
-            Err(WriteRefusal::NoMemory) => Err(NoMemory),
-        }
-    }
-
-    #[inline(always)]
-    fn environment_call(&mut self) -> Result<Turn, NoMemory>
-        requires { self.old.pc < 2 ^ 63 }
-        ensures executed { IfOk result (λ turn. after_step self.new turn ≡ exec version_1 Instr.Ecall (hart_in self.old) (shared_in self.old)) }
-        ensures hart { OnErr result (hart_in self.new ≡ hart_in self.old) }
-        ensures shared { OnErr result (shared_in self.new ≡ shared_in self.old) }
-        ensures kept { KeepsRoom self.old self.new }
-    {
-        match self.system.call(&mut self.regs, &mut self.memory)? {
-            SysEnd::Goes => {
-                self.pc += 4;
-                self.ended = None;
-                Ok(Turn::Ran)
-            }
-            SysEnd::Exit(status) => {
-                self.ended = Some(status);
-                Ok(Turn::Exit(status))
-            }
-        }
-    }
-
-    #[inline(always)]
-    fn immediate(&mut self, op: ImmediateOp, rd: Reg, rs1: Reg, imm: Immediate<12>) -> Turn
-        requires { self.old.pc < 2 ^ 63 }
-        ensures executed { after_step self.new result ≡ exec version_1 (Instr.Immediate op rd rs1 imm) (hart_in self.old) (shared_in self.old) }
-        ensures kept { KeepsRoom self.old self.new }
-    {
-        self.put(
-            rd,
-            arithmetic::immediate(op, self.reg(rs1), arithmetic::immediate_value(imm)),
-        );
-        Turn::Ran
-    }
-
-    #[inline(always)]
-    fn shift(&mut self, op: ShiftOp, rd: Reg, rs1: Reg, amount: Immediate<6>) -> Turn
-        requires { self.old.pc < 2 ^ 63 }
-        ensures executed { after_step self.new result ≡ exec version_1 (Instr.Shift op rd rs1 amount) (hart_in self.old) (shared_in self.old) }
-        ensures kept { KeepsRoom self.old self.new }
-    {
-        self.put(rd, arithmetic::shift(op, self.reg(rs1), amount.bits()));
-        Turn::Ran
-    }
-
-    #[inline(always)]
-    fn shift_word(&mut self, op: ShiftWordOp, rd: Reg, rs1: Reg, amount: Immediate<5>) -> Turn
-        requires { self.old.pc < 2 ^ 63 }
-        ensures executed { after_step self.new result ≡ exec version_1 (Instr.ShiftWord op rd rs1 amount) (hart_in self.old) (shared_in self.old) }
-        ensures kept { KeepsRoom self.old self.new }
-    {
-        self.put(rd, arithmetic::shift_word(op, self.reg(rs1), amount.bits()));
-        Turn::Ran
-    }
-
-    #[inline(always)]
-    fn register(&mut self, op: RegisterOp, rd: Reg, rs1: Reg, rs2: Reg) -> Turn
-        requires { self.old.pc < 2 ^ 63 }
-        ensures executed { after_step self.new result ≡ exec version_1 (Instr.Register op rd rs1 rs2) (hart_in self.old) (shared_in self.old) }
-        ensures kept { KeepsRoom self.old self.new }
-    {
-        self.put(rd, arithmetic::register(op, self.reg(rs1), self.reg(rs2)));
-        Turn::Ran
+        self.processor.change(change)
     }
 }
 
-/// Whether an instruction may stand at an address: a multiple of 4 in code.
-fn is_place(pc: u64) -> bool
-    ensures { result ≡ can_fetch pc }
+/// So many harts before a run, by their numbers.
+fn resting_harts(alloc: Global, count: u8) -> Result<Vec<Hart>, NoMemory>
+    ensures count { IfOk result (λ harts. length harts.items ≡ count) }
+    ensures start { IfOk result (λ harts. resting_at harts.items ≡ start_hart) }
 {
-    pc % 4 == 0 && CODE_START <= pc && pc < CODE_END
+    let mut harts = Vec::with_capacity(alloc, usize::from(count))?;
+    for number in 0..count {
+        harts.push_reserved(Hart::new(alloc, number)?);
+    }
+    Ok(harts)
 }

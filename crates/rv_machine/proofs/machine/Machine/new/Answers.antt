@@ -1,10 +1,10 @@
-use Rattle.std.proofs.Common.{◌*◌, ◌/◌, ◌≡◌, ap, arith, length}
-use Rattle.rv_machine.proofs.Decoding.{code_loaded}
+use Rattle.std.proofs.Common.{ap, ◌∙◌}
+use Rattle.rv_code.specs.State.{Harts, start_hart, with_hart}
+use Rattle.rv_machine.specs.Parts.{hart_in}
+use Rattle.rv_machine.proofs.Harts.{as_it_is}
 use Rattle.rv_machine.proofs.machine.Machine.new.Goals as goal
 
-pub with_memory-requires : goal.with_memory-requires
-with_memory-requires c =
-    let size = c.code.ensures.size in
-    let same = ap length c.code.ensures.value in
-    let whole : 4 * (length c.code.result.now / 4) ≡ length c.args.image.now.code = omega (arith, size.words, same) in
-    code_loaded c.args.image.now _ c.in_ok-code.code _ c.in_ok-memory.ensures whole (omega (arith, size.most, same)) (omega (arith, size.data_most)) c.in_ok-code.ensures.len c.in_ok-code.ensures.each
+pub returns-clause-harts : goal.returns-clause-harts
+returns-clause-harts c =
+    let own = hart_in c.in_ok-new.field-0 in
+    ap (λ (harts : Harts). with_hart harts 0 own) c.in_ok-resting.ensures.start ∙ as_it_is start_hart 0 own c.in_ok-new.ensures.hart

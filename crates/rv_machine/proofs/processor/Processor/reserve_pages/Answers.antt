@@ -3,7 +3,7 @@ use Rattle.rv_word.specs.Memory.{Memory}
 use Rattle.rv_mem.specs.Cells.{memory_of}
 use Rattle.rv_sys.specs.Calls.{shared_of}
 use Rattle.rv_machine.proofs.Decoding.{code_same}
-use Rattle.rv_machine.proofs.machine.Machine.reserve_pages.Goals as goal
+use Rattle.rv_machine.proofs.processor.Processor.reserve_pages.Goals as goal
 
 pub invariant_of-self : goal.invariant_of-self
 invariant_of-self c = record {
@@ -17,5 +17,5 @@ returns c = rw (← c.self.view_is) (record {
   shared = ap (λ (m : Memory). record (shared_of c.self.inside.memory c.self.inside.system) { memory = m }) c.reserve_pages.ensures.memory;
   room = c.reserve_pages.ensures.room;
   wants = c.reserve_pages.ensures.wants;
-  kept = c.reserve_pages.ensures.kept;
+  kept = record { version = c.reserve_pages.ensures.version; room = c.reserve_pages.ensures.kept };
 })

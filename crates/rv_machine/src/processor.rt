@@ -1,0 +1,469 @@
+ghost use Rattle.std.specs.Prelude.{◌≡◌, ◌+◌, ◌*◌, ◌/◌, ◌<◌, ◌≤◌, ◌^◌, [], ◌∷◌, length, true, IfOk, IsSome, OnOk, OnErr, IsTrue};
+ghost use Rattle.rv_word.specs.MemoryMap.{can_store, profile_of, DATA_START, DATA_END};
+ghost use Rattle.rv_word.specs.Memory.{placed, read, zeros};
+ghost use Rattle.rv_instr.specs.Registers.{get_reg, set_reg};
+ghost use Rattle.rv_code.specs.Decode.{decoded};
+ghost use Rattle.rv_code.specs.Run.{disturbed};
+ghost use Rattle.rv_code.specs.State.{last_exit, start_hart, start_shared};
+ghost use Rattle.rv_code.specs.Step.{address, can_fetch, exec, offset, puts, ran, step};
+ghost use Rattle.rv_mem.specs.Cells.{HasRoom, has_room, memory_of};
+ghost use Rattle.rv_machine.specs.Code.{IsCodeOf};
+ghost use Rattle.rv_machine.specs.Room.{KeepsVersionAndRoom, LacksRoom, LacksRoomAtPc};
+ghost use Rattle.rv_machine.specs.Parts.{after_step, hart_in, may_take_memory, shared_in, MayTakeMemory};
+
+use crate::arithmetic;
+use crate::code::Code;
+use crate::hart::Hart;
+use rv_code::{Events, Turn};
+use rv_instr::{
+    BranchOp, Immediate, ImmediateOp, Instr, LoadOp, Reg, RegisterOp, ShiftOp, ShiftWordOp,
+    StoreOp, UpperOp,
+};
+use rv_mem::{Change, LoadFault, Memory, WriteRefusal};
+use rv_sys::{SysEnd, System};
+use rv_word::memory_map::{CODE_SIZE, CODE_START};
+use rv_word::{Bytes, Image, NoMemory};
+use std::alloc::Global;
+use std::marker::Model;
+use std::mem;
+
+/// The end of code's region.
+const CODE_END: u64 = CODE_START + CODE_SIZE;
+
+/// A hart with its memory, its system calls and its code, in the middle of a run.
+#[derive(Drop)]
+pub struct Processor {
+    hart: Hart,
+    memory: Memory,
+    system: System,
+    code: Code,
+    ended: Option<u8>,
+}
+
+impl Model for Processor {
+    ghost use Rattle.rv_mem.specs.Cells.{memory_of};
+    ghost use Rattle.rv_machine.specs.Code.{IsKept};
+    ghost use Rattle.rv_machine.specs.Parts.{Parts};
+
+    ghost Value = { Parts };
+
+    ghost view = { λ m. record { pc = m.hart.pc; regs = m.hart.regs; memory = m.memory; calls = m.system } };
+
+    ghost invariant = { λ m. IsKept m.code (memory_of m.memory) m.ended m.system.events };
+}
+
+impl Processor {
+    /// Hart 0 before a run of an image; the input is copied, and the code is decoded.
+    pub fn new(alloc: Global, image: &Image, input: &[u8]) -> Result<Processor, NoMemory>
+        ensures hart { IfOk result (λ processor. hart_in processor ≡ start_hart 0) }
+        ensures shared { IfOk result (λ processor. shared_in processor ≡ start_shared image.now input.now) }
+        ensures version { IfOk result (λ processor. processor.memory.version ≡ image.now.version) }
+    {
+        let memory = Memory::load(alloc, image)?;
+        let code = Code::of(alloc, &memory, image.code().len() / 4)?;
+        Processor::with_memory(alloc, memory, code, input)
+    }
+
+    /// Hart 0 before a run with this memory and its code; the input is copied.
+    fn with_memory(
+        alloc: Global,
+        memory: Memory,
+        code: Code,
+        input: &[u8],
+    ) -> Result<Processor, NoMemory>
+        requires { IsCodeOf code (memory_of memory) }
+        ensures hart { IfOk result (λ processor. hart_in processor ≡ start_hart 0) }
+        ensures shared { IfOk result (λ processor. shared_in processor ≡ record { memory = memory_of memory; left = input.now; output = []; events = [] }) }
+        ensures version { IfOk result (λ processor. processor.memory.version ≡ memory.version) }
+    {
+        let hart = Hart::new(alloc, 0)?;
+        let system = System::new(alloc, input)?;
+        Ok(Processor {
+            hart,
+            memory,
+            system,
+            code,
+            ended: None,
+        })
+    }
+
+    /// Hart 0 before a run with data and no code, in the memory of a version: data from an image's first data address on.
+    /// It runs by `execute`, which takes its instructions from elsewhere.
+    pub fn with_data(
+        alloc: Global,
+        version: u8,
+        init: &[u8],
+        input: &[u8],
+    ) -> Result<Processor, NoMemory>
+        requires { DATA_START + length init.now ≤ DATA_END }
+        ensures hart { IfOk result (λ processor. hart_in processor ≡ start_hart 0) }
+        ensures shared { IfOk result (λ processor. shared_in processor ≡ record { memory = placed zeros DATA_START init.now; left = input.now; output = []; events = [] }) }
+        ensures version { IfOk result (λ processor. processor.memory.version ≡ version) }
+    {
+        let memory = Memory::with_data(alloc, version, init)?;
+        Processor::with_memory(alloc, memory, Code::none(alloc), input)
+    }
+
+    /// The address of the next instruction.
+    pub fn pc(&self) -> u64
+        ensures { result ≡ self.now.pc }
+    {
+        self.hart.pc()
+    }
+
+    /// What a register holds.
+    pub fn reg(&self, reg: Reg) -> u64
+        ensures { result ≡ get_reg (hart_in self.now).regs reg }
+    {
+        self.hart.reg(reg)
+    }
+
+    /// Goes to an address, whatever stands there.
+    pub fn set_pc(&mut self, pc: u64)
+        ensures { self.new ≡ record self.old { pc = pc } }
+    {
+        self.hart.set_pc(pc);
+    }
+
+    /// Writes a register; a write to x0 changes nothing.
+    pub fn set_reg(&mut self, reg: Reg, value: u64)
+        ensures hart { hart_in self.new ≡ record (hart_in self.old) { regs = set_reg (hart_in self.old).regs reg value } }
+        ensures shared { shared_in self.new ≡ shared_in self.old }
+        ensures kept { KeepsVersionAndRoom self.old self.new }
+    {
+        self.hart.set_reg(reg, value);
+    }
+
+    /// Takes a hart that rests in place of its own, which rests from then on.
+    pub(crate) fn exchange(&mut self, hart: &mut Hart)
+        ensures taken { self.new ≡ record self.old { pc = hart.old.pc; regs = hart.old.regs } }
+        ensures rests { hart.new ≡ record { pc = self.old.pc; regs = self.old.regs } }
+    {
+        mem::swap(&mut self.hart, hart);
+    }
+
+    /// Its memory.
+    pub fn mem(&self) -> &Memory
+        ensures { result.now ≡ self.now.memory }
+    {
+        &self.memory
+    }
+
+    /// What its system calls keep: the input left, the output and the calls.
+    pub fn system(&self) -> &System
+        ensures { result.now ≡ self.now.calls }
+    {
+        &self.system
+    }
+
+    /// What the run wrote and the system calls that it made, given back without taking memory.
+    pub fn into_results(self) -> (Bytes, Events)
+        ensures { result ≡ (self.calls.output, self.calls.events) }
+    {
+        self.system.into_results()
+    }
+
+    /// One step: fetches the word at the pc, decodes and executes it. After an exit each step
+    /// answers it again. A refusal leaves all as it was, and comes from a store into data or shadow
+    /// whose pages were not all made, or from a system call alone. Pages that were made stay so.
+    #[tactic(auto, unfolding(rv_code::specs::Step::step))]
+    #[inline(always)]
+    pub fn step(&mut self) -> Result<Turn, NoMemory>
+        ensures stepped { IfOk result (λ turn. after_step self.new turn ≡ step (profile_of self.old.memory.version) (hart_in self.old) (shared_in self.old)) }
+        ensures hart { OnErr result (hart_in self.new ≡ hart_in self.old) }
+        ensures shared { OnErr result (shared_in self.new ≡ shared_in self.old) }
+        ensures wants { OnErr result (MayTakeMemory (profile_of self.old.memory.version) (hart_in self.old) (shared_in self.old)) }
+        ensures room { OnErr result (LacksRoomAtPc self.old.memory (hart_in self.old)) }
+        ensures kept { KeepsVersionAndRoom self.old self.new }
+    {
+        if let Some(status) = self.ended() {
+            return Ok(Turn::Exit(status));
+        }
+        let pc = self.pc();
+        match self.fetch(pc) {
+            Some(instr) => self.execute(&instr),
+            None if is_place(pc) => Ok(Turn::Illegal(pc)),
+            None => Ok(Turn::FetchFault(pc)),
+        }
+    }
+
+    /// The status with which the run has ended, if it has.
+    #[inline(always)]
+    fn ended(&self) -> Option<u8>
+        ensures { result ≡ last_exit (shared_in self.now).events }
+    {
+        self.ended
+    }
+
+    /// The instruction that stands at an address, if it is one of code and its word is an instruction.
+    #[inline(always)]
+    fn fetch(&self, pc: u64) -> Option<Instr>
+        ensures place { IsSome result → can_fetch pc ≡ true }
+        ensures instr { can_fetch pc ≡ true → result ≡ decoded (read 4 (shared_in self.now).memory pc) }
+    {
+        let offset = pc.wrapping_sub(CODE_START);
+        if offset % 4 == 0 {
+            self.code.get((offset / 4) as usize)
+        } else {
+            None
+        }
+    }
+
+    /// Makes the pages of memory of the `len` bytes from `addr` on: no store there wants memory from
+    /// then on. Nothing else changes, and it takes time for the pages, not for the bytes.
+    pub fn reserve_pages(&mut self, addr: u64, len: u64) -> Result<(), NoMemory>
+        requires { IsTrue (can_store (profile_of self.old.memory.version) addr len) }
+        ensures hart { hart_in self.new ≡ hart_in self.old }
+        ensures shared { shared_in self.new ≡ shared_in self.old }
+        ensures room { OnOk result (HasRoom self.new.memory addr len) }
+        ensures wants { OnErr result (¬ HasRoom self.old.memory addr len) }
+        ensures kept { KeepsVersionAndRoom self.old self.new }
+    {
+        self.memory.reserve_pages(addr, len)
+    }
+
+    /// Sets one data byte from outside. A refusal leaves all as it was.
+    #[tactic(auto, unfolding(rv_mem::specs::Cells::with_byte))]
+    pub fn change(&mut self, change: Change) -> Result<(), NoMemory>
+        ensures hart { hart_in self.new ≡ hart_in self.old }
+        ensures changed { OnOk result (shared_in self.new ≡ disturbed (shared_in self.old) (record { address = change.0; byte = change.1 } ∷ [])) }
+        ensures refused { OnErr result (shared_in self.new ≡ shared_in self.old) }
+        ensures room { OnErr result (¬ IsTrue (has_room self.old.memory change.0)) }
+        ensures kept { KeepsVersionAndRoom self.old self.new }
+    {
+        self.memory.change(change)
+    }
+
+    /// Executes an instruction as if it stood at the pc, whatever memory holds there and whether or
+    /// not the run has ended. A refusal leaves all as it was. The bound on the pc lets the next
+    /// instruction's address be a number of 64 bits; every pc in code is below it.
+    #[inline(always)]
+    pub fn execute(&mut self, instr: &Instr) -> Result<Turn, NoMemory>
+        requires { self.old.pc < 2 ^ 63 }
+        ensures executed { IfOk result (λ turn. after_step self.new turn ≡ exec (profile_of self.old.memory.version) instr.now (hart_in self.old) (shared_in self.old)) }
+        ensures hart { OnErr result (hart_in self.new ≡ hart_in self.old) }
+        ensures shared { OnErr result (shared_in self.new ≡ shared_in self.old) }
+        ensures wants { OnErr result (may_take_memory (profile_of self.old.memory.version) instr.now (hart_in self.old) ≡ true) }
+        ensures room { OnErr result (LacksRoom self.old.memory (hart_in self.old) instr.now) }
+        ensures kept { KeepsVersionAndRoom self.old self.new }
+    {
+        Ok(match *instr {
+            Instr::Upper(op, rd, imm) => self.upper(op, rd, imm),
+            Instr::Jal(rd, imm) => self.jump(rd, imm),
+            Instr::Jalr(rd, rs1, imm) => self.jump_register(rd, rs1, imm),
+            Instr::Branch(op, rs1, rs2, imm) => self.branch(op, rs1, rs2, imm),
+            Instr::Load(op, rd, rs1, imm) => self.load(op, rd, rs1, imm),
+            Instr::Store(op, rs1, rs2, imm) => return self.store(op, rs1, rs2, imm),
+            Instr::Immediate(op, rd, rs1, imm) => self.immediate(op, rd, rs1, imm),
+            Instr::Shift(op, rd, rs1, amount) => self.shift(op, rd, rs1, amount),
+            Instr::ShiftWord(op, rd, rs1, amount) => self.shift_word(op, rd, rs1, amount),
+            Instr::Register(op, rd, rs1, rs2) => self.register(op, rd, rs1, rs2),
+            // Memory is one and in order, so a fence has nothing to do.
+            Instr::Fence(_) => {
+                self.set_pc(self.pc() + 4);
+                Turn::Ran
+            }
+            Instr::Ecall => return self.environment_call(),
+            Instr::Ebreak => Turn::Break(self.pc()),
+        })
+    }
+
+    /// Puts a value into a register; the next instruction is next.
+    #[inline(always)]
+    fn put(&mut self, rd: Reg, value: u64)
+        requires { self.old.pc < 2 ^ 63 }
+        ensures executed { after_step self.new Turn.Ran ≡ puts (hart_in self.old) (shared_in self.old) rd value }
+        ensures kept { KeepsVersionAndRoom self.old self.new }
+    {
+        self.hart.set_reg(rd, value);
+        self.hart.set_pc(self.hart.pc() + 4);
+    }
+
+    /// Goes to an address, and links to the next instruction.
+    #[inline(always)]
+    fn link(&mut self, rd: Reg, target: u64)
+        requires { self.old.pc < 2 ^ 63 }
+        ensures executed { after_step self.new Turn.Ran ≡ ran target (set_reg (hart_in self.old).regs rd (self.old.pc + 4)) (shared_in self.old) }
+        ensures kept { KeepsVersionAndRoom self.old self.new }
+    {
+        self.hart.set_reg(rd, self.hart.pc() + 4);
+        self.hart.set_pc(target);
+    }
+
+    /// The address in a register and an offset.
+    #[inline(always)]
+    fn address_of(&self, rs1: Reg, imm: Immediate<12>) -> u64
+        ensures { result ≡ address (hart_in self.now) rs1 imm }
+    {
+        self.reg(rs1).wrapping_add(arithmetic::immediate_value(imm))
+    }
+
+    #[inline(always)]
+    fn upper(&mut self, op: UpperOp, rd: Reg, imm: Immediate<20>) -> Turn
+        requires { self.old.pc < 2 ^ 63 }
+        ensures executed { after_step self.new result ≡ exec (profile_of self.old.memory.version) (Instr.Upper op rd imm) (hart_in self.old) (shared_in self.old) }
+        ensures kept { KeepsVersionAndRoom self.old self.new }
+    {
+        let offset = arithmetic::word(u64::from(imm.bits()) << 12);
+        let pc = self.pc();
+        match op {
+            UpperOp::Lui => self.put(rd, offset),
+            UpperOp::Auipc => self.put(rd, pc.wrapping_add(offset)),
+        }
+        Turn::Ran
+    }
+
+    #[inline(always)]
+    fn jump(&mut self, rd: Reg, imm: Immediate<20>) -> Turn
+        requires { self.old.pc < 2 ^ 63 }
+        ensures executed { after_step self.new result ≡ exec (profile_of self.old.memory.version) (Instr.Jal rd imm) (hart_in self.old) (shared_in self.old) }
+        ensures kept { KeepsVersionAndRoom self.old self.new }
+    {
+        let offset = arithmetic::jump_offset(imm);
+        let target = self.pc().wrapping_add(offset);
+        self.link(rd, target);
+        Turn::Ran
+    }
+
+    #[inline(always)]
+    fn jump_register(&mut self, rd: Reg, rs1: Reg, imm: Immediate<12>) -> Turn
+        requires { self.old.pc < 2 ^ 63 }
+        ensures executed { after_step self.new result ≡ exec (profile_of self.old.memory.version) (Instr.Jalr rd rs1 imm) (hart_in self.old) (shared_in self.old) }
+        ensures kept { KeepsVersionAndRoom self.old self.new }
+    {
+        let target = self.address_of(rs1, imm);
+        self.link(rd, target - target % 2);
+        Turn::Ran
+    }
+
+    #[inline(always)]
+    fn branch(&mut self, op: BranchOp, rs1: Reg, rs2: Reg, imm: Immediate<12>) -> Turn
+        requires { self.old.pc < 2 ^ 63 }
+        ensures executed { after_step self.new result ≡ exec (profile_of self.old.memory.version) (Instr.Branch op rs1 rs2 imm) (hart_in self.old) (shared_in self.old) }
+        ensures kept { KeepsVersionAndRoom self.old self.new }
+    {
+        let offset = arithmetic::branch_offset(imm);
+        let pc = self.pc();
+        if arithmetic::branches(op, self.reg(rs1), self.reg(rs2)) {
+            self.set_pc(pc.wrapping_add(offset));
+        } else {
+            self.set_pc(pc + 4);
+        }
+        Turn::Ran
+    }
+
+    #[inline(always)]
+    fn load(&mut self, op: LoadOp, rd: Reg, rs1: Reg, imm: Immediate<12>) -> Turn
+        requires { self.old.pc < 2 ^ 63 }
+        ensures executed { after_step self.new result ≡ exec (profile_of self.old.memory.version) (Instr.Load op rd rs1 imm) (hart_in self.old) (shared_in self.old) }
+        ensures kept { KeepsVersionAndRoom self.old self.new }
+    {
+        let addr = self.address_of(rs1, imm);
+        match self.mem().read(addr, arithmetic::loaded_bytes(op)) {
+            Ok(value) => {
+                self.put(rd, arithmetic::loaded(op, value));
+                Turn::Ran
+            }
+            Err(LoadFault) => Turn::LoadFault(self.pc(), addr),
+        }
+    }
+
+    #[inline(always)]
+    fn store(
+        &mut self,
+        op: StoreOp,
+        rs1: Reg,
+        rs2: Reg,
+        imm: Immediate<12>,
+    ) -> Result<Turn, NoMemory>
+        requires { self.old.pc < 2 ^ 63 }
+        ensures executed { IfOk result (λ turn. after_step self.new turn ≡ exec (profile_of self.old.memory.version) (Instr.Store op rs1 rs2 imm) (hart_in self.old) (shared_in self.old)) }
+        ensures hart { OnErr result (hart_in self.new ≡ hart_in self.old) }
+        ensures shared { OnErr result (shared_in self.new ≡ shared_in self.old) }
+        ensures wants { OnErr result (may_take_memory (profile_of self.old.memory.version) (Instr.Store op rs1 rs2 imm) (hart_in self.old) ≡ true) }
+        ensures room { OnErr result (LacksRoom self.old.memory (hart_in self.old) (Instr.Store op rs1 rs2 imm)) }
+        ensures kept { KeepsVersionAndRoom self.old self.new }
+    {
+        let addr = self.address_of(rs1, imm);
+        let value = self.reg(rs2);
+        match self.memory.write(addr, arithmetic::stored_bytes(op), value) {
+            Ok(()) => {
+                self.hart.set_pc(self.hart.pc() + 4);
+                Ok(Turn::Ran)
+            }
+            Err(WriteRefusal::StoreFault) => Ok(Turn::StoreFault(self.hart.pc(), addr)),
+            Err(WriteRefusal::NoMemory) => Err(NoMemory),
+        }
+    }
+
+    #[inline(always)]
+    fn environment_call(&mut self) -> Result<Turn, NoMemory>
+        requires { self.old.pc < 2 ^ 63 }
+        ensures executed { IfOk result (λ turn. after_step self.new turn ≡ exec (profile_of self.old.memory.version) Instr.Ecall (hart_in self.old) (shared_in self.old)) }
+        ensures hart { OnErr result (hart_in self.new ≡ hart_in self.old) }
+        ensures shared { OnErr result (shared_in self.new ≡ shared_in self.old) }
+        ensures kept { KeepsVersionAndRoom self.old self.new }
+    {
+        match self.hart.call(&mut self.system, &mut self.memory)? {
+            SysEnd::Goes => {
+                self.hart.set_pc(self.hart.pc() + 4);
+                self.ended = None;
+                Ok(Turn::Ran)
+            }
+            SysEnd::Exit(status) => {
+                self.ended = Some(status);
+                Ok(Turn::Exit(status))
+            }
+        }
+    }
+
+    #[inline(always)]
+    fn immediate(&mut self, op: ImmediateOp, rd: Reg, rs1: Reg, imm: Immediate<12>) -> Turn
+        requires { self.old.pc < 2 ^ 63 }
+        ensures executed { after_step self.new result ≡ exec (profile_of self.old.memory.version) (Instr.Immediate op rd rs1 imm) (hart_in self.old) (shared_in self.old) }
+        ensures kept { KeepsVersionAndRoom self.old self.new }
+    {
+        self.put(
+            rd,
+            arithmetic::immediate(op, self.reg(rs1), arithmetic::immediate_value(imm)),
+        );
+        Turn::Ran
+    }
+
+    #[inline(always)]
+    fn shift(&mut self, op: ShiftOp, rd: Reg, rs1: Reg, amount: Immediate<6>) -> Turn
+        requires { self.old.pc < 2 ^ 63 }
+        ensures executed { after_step self.new result ≡ exec (profile_of self.old.memory.version) (Instr.Shift op rd rs1 amount) (hart_in self.old) (shared_in self.old) }
+        ensures kept { KeepsVersionAndRoom self.old self.new }
+    {
+        self.put(rd, arithmetic::shift(op, self.reg(rs1), amount.bits()));
+        Turn::Ran
+    }
+
+    #[inline(always)]
+    fn shift_word(&mut self, op: ShiftWordOp, rd: Reg, rs1: Reg, amount: Immediate<5>) -> Turn
+        requires { self.old.pc < 2 ^ 63 }
+        ensures executed { after_step self.new result ≡ exec (profile_of self.old.memory.version) (Instr.ShiftWord op rd rs1 amount) (hart_in self.old) (shared_in self.old) }
+        ensures kept { KeepsVersionAndRoom self.old self.new }
+    {
+        self.put(rd, arithmetic::shift_word(op, self.reg(rs1), amount.bits()));
+        Turn::Ran
+    }
+
+    #[inline(always)]
+    fn register(&mut self, op: RegisterOp, rd: Reg, rs1: Reg, rs2: Reg) -> Turn
+        requires { self.old.pc < 2 ^ 63 }
+        ensures executed { after_step self.new result ≡ exec (profile_of self.old.memory.version) (Instr.Register op rd rs1 rs2) (hart_in self.old) (shared_in self.old) }
+        ensures kept { KeepsVersionAndRoom self.old self.new }
+    {
+        self.put(rd, arithmetic::register(op, self.reg(rs1), self.reg(rs2)));
+        Turn::Ran
+    }
+}
+
+/// Whether an instruction may stand at an address: a multiple of 4 in code.
+fn is_place(pc: u64) -> bool
+    ensures { result ≡ can_fetch pc }
+{
+    pc % 4 == 0 && CODE_START <= pc && pc < CODE_END
+}
