@@ -5,3 +5,5 @@ pub mod Indexes
 pub mod LabelsGiven
 pub mod Numbers
 pub mod Sets
+pub mod Finding
+mod Entering

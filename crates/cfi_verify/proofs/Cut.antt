@@ -2,7 +2,7 @@
 use Rattle.std.proofs.Common.{◌≡◌, ◌<◌, ◌≤◌, ℕ, ◌+◌, ◌*◌, ◌/◌, List, [], ◌∷◌, length, refl, ap, arith}
 use Rattle.cfi_scan.specs.Carry.{word_of}
 use Rattle.cfi_scan.specs.Pieces.{IsCut, ends, goes_on}
-use Rattle.cfi_verify.specs.Split.{code_words}
+use Rattle.cfi_rules.specs.Split.{code_words}
 
 none_whole : (left : List ℕ) → length left < 4 → code_words left ≡ []
 unfolding code_words

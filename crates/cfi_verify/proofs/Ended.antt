@@ -7,7 +7,7 @@ use Rattle.cfi_graph.specs.Graph.{GraphParts}
 use Rattle.cfi_scan.specs.Pieces.{HasSeen, IsOf, Listed, Sight, prologue_count}
 use Rattle.cfi_verify.specs.Entries.{Tells}
 use Rattle.cfi_verify.specs.Scan.{Scanned, StartParts, profile_in}
-use Rattle.cfi_verify.specs.Split.{code_words}
+use Rattle.cfi_rules.specs.Split.{code_words}
 use Rattle.cfi_verify.proofs.Told.{tells}
 
 pub record Ended (p : Profile) (self : Scanned) (t : Listed) (image : Contents) : Type 0 where

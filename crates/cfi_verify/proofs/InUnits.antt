@@ -6,9 +6,9 @@ use Rattle.rv_word.proofs.Versions.{LaidOut}
 use Rattle.rv_word.proofs.Cases.{cases_Option}
 use Rattle.cfi_unit.specs.Recognise.{recognised}
 use Rattle.cfi_unit.specs.UnitWords.{word_count}
-use Rattle.cfi_verify.proofs.Find.{start_parts}
-use Rattle.cfi_verify.proofs.Marks.{marks_unit}
-use Rattle.cfi_verify.specs.Split.{starts, is_start, unit_words}
+use Rattle.cfi_rules.proofs.Find.{start_parts}
+use Rattle.cfi_rules.proofs.Marks.{marks_unit}
+use Rattle.cfi_rules.specs.Split.{starts, is_start, unit_words}
 
 -- no more starts than words
 pub length-starts : (skip : ℕ) (ws : List ℕ) (at : ℕ) → length (starts skip ws at) ≤ length ws

@@ -7,7 +7,7 @@ use Rattle.std.proofs.lemmas.Option.{slice_get_within, get_or_from_slice_get}
 use Rattle.std.proofs.lemmas.List.{take_more, take_all}
 use Rattle.least.specs.Least.{IsLeast, lesser}
 use Rattle.least.proofs.Leasts.{least_either, least_same}
-use Rattle.cfi_verify.specs.Lines.{is_among}
+use Rattle.cfi_rules.specs.Lines.{is_among}
 
 pub list_any-push : {A : Type 0} (p : A → Bool) (xs : List A) (y : A) → list_any p (xs ++ y ∷ []) ≡ (list_any p xs || p y)
 list_any-push p [] y = elim (cases_Bool (p y)) [ inl e ↦ rw e refl | inr e ↦ rw e refl ]

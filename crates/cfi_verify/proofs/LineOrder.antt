@@ -9,7 +9,7 @@ use Rattle.cfi_graph.specs.declared.line.Key.{Key}
 use Rattle.cfi_graph.specs.declared.line.Key.TheVariants.{Label, Address}
 use Rattle.cfi_graph.specs.Graph.{ClassLine, class_in, is_rising, key_below, key_of}
 use Rattle.cfi_graph.proofs.Rising.{key_transitive}
-use Rattle.cfi_verify.specs.Lines.{same_key, line_with, line_at, class_of, class_with}
+use Rattle.cfi_rules.specs.Lines.{same_key, line_with, line_at, class_of, class_with}
 
 pub below_self : (k : Key) → key_below k k ≡ true → ⊥
 below_self (Label a) e = let h : a < a = ltb-true a a e in omega arith

@@ -13,9 +13,9 @@ use Rattle.cfi_scan.specs.declared.entry.Entry.TheVariants as E
 use Rattle.cfi_scan.specs.Entries.{entries_of, entry_of, inside}
 use Rattle.cfi_scan.specs.Stream.{AllStand, last_of, spelled, width}
 use Rattle.cfi_verify.specs.Entries.{or_inside}
-use Rattle.cfi_verify.specs.Split.{is_marked, starts}
+use Rattle.cfi_rules.specs.Split.{is_marked, starts}
 use Rattle.cfi_unit.proofs.Counts.{some_word}
-use Rattle.cfi_verify.proofs.Marks.{head_after, head_inner, head_length, head_mark, marks_none, none_in_none}
+use Rattle.cfi_rules.proofs.Marks.{head_after, head_inner, head_length, head_mark, marks_none, none_in_none}
 
 -- no unit starts at a word, and its entry says so
 pub record NoUnit (us : List U.Unit) (ws : List ℕ) (at k : ℕ) (e : Entry) : Type 0 where

@@ -16,11 +16,11 @@ use Rattle.cfi_scan.specs.declared.entry.Entry.{Entry}
 use Rattle.cfi_scan.specs.Entries.{is_quiet}
 use Rattle.cfi_scan.specs.Pieces.{Listed, prologue_count}
 use Rattle.cfi_verify.specs.Entries.{Tells, count_of, entry_at, fails_at, fails_end_at, fails_gate_at, fails_unit_at, gate_at, is_stop_entry, or_inside}
-use Rattle.cfi_verify.specs.Lines.{line_at}
+use Rattle.cfi_rules.specs.Lines.{line_at}
 use Rattle.cfi_verify.specs.Pass.{HasPassed, HoldsAt, HoldsEarly, NoneStands, ends_in_stop}
-use Rattle.cfi_verify.specs.Rules.{Holds, fails_prologue, lacks_gate}
-use Rattle.cfi_verify.specs.declared.reject.Rule.{Rule}
-use Rattle.cfi_verify.specs.declared.reject.Rule.TheVariants as R
+use Rattle.cfi_rules.specs.Rules.{Holds, fails_prologue, lacks_gate}
+use Rattle.cfi_rules.specs.declared.reject.Rule.{Rule}
+use Rattle.cfi_rules.specs.declared.reject.Rule.TheVariants as R
 use Rattle.cfi_verify.proofs.LineOrder.{line_at-with, pair_below, with_key, without_key}
 use Rattle.cfi_verify.proofs.Spots.{line_in, none_anywhere}
 use Rattle.cfi_verify.proofs.Told.{entry_is, fails_told}

@@ -11,12 +11,12 @@ use Rattle.cfi_graph.specs.Graph.{GraphParts, IsGraph, is_code_address, line_in_
 use Rattle.cfi_unit.specs.declared.unit.Unit as U
 use Rattle.cfi_unit.specs.declared.place.Place.{Place}
 use Rattle.cfi_scan.specs.Pieces.{prologue_count}
-use Rattle.cfi_verify.specs.Split.{unit_starts, unit_words, is_start, unit_at, place_at, is_handler}
-use Rattle.cfi_verify.specs.Lines.{holds_of, line_at, targets_for}
-use Rattle.cfi_verify.specs.Rules.{fails, edge_of, call_of, site_of, is_edge_to, is_call_to, is_site_with, is_unused, is_lone_site, is_astray, is_bad_end}
-use Rattle.cfi_verify.specs.declared.place.Asks.{Asks}
-use Rattle.cfi_verify.specs.declared.reject.Rule.{Rule}
-use Rattle.cfi_verify.specs.declared.reject.Rule.TheVariants as R
+use Rattle.cfi_rules.specs.Split.{unit_starts, unit_words, is_start, unit_at, place_at, is_handler}
+use Rattle.cfi_rules.specs.Lines.{holds_of, line_at, targets_for}
+use Rattle.cfi_rules.specs.Rules.{fails, edge_of, call_of, site_of, is_edge_to, is_call_to, is_site_with, is_unused, is_lone_site, is_astray, is_bad_end}
+use Rattle.cfi_rules.specs.declared.asks.Asks.{Asks}
+use Rattle.cfi_rules.specs.declared.reject.Rule.{Rule}
+use Rattle.cfi_rules.specs.declared.reject.Rule.TheVariants as R
 use Rattle.cfi_verify.proofs.InUnits.{start_within}
 
 -- a word of the code, or a place of the prologue or the first unit

@@ -13,7 +13,7 @@ use Rattle.cfi_graph.specs.declared.line.GraphLine.{GraphLine}
 use Rattle.cfi_graph.specs.declared.line.GraphLine.TheVariants.{Class, Site, Edge, Call}
 use Rattle.cfi_graph.specs.declared.line.Sort.TheVariants.{Both}
 use Rattle.cfi_graph.specs.Graph.{ClassLine, is_rising, targets_rise}
-use Rattle.cfi_verify.specs.Lines.{class_of, class_with, is_among}
+use Rattle.cfi_rules.specs.Lines.{class_of, class_with, is_among}
 
 pub class_rises : (lines : List GraphLine) (l : ℕ) (class : ClassLine) → list_all targets_rise lines ≡ true → class_with lines l ≡ Some class → is_rising nat_lt class.targets ≡ true
 unfolding class_with

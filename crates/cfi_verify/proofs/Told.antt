@@ -24,15 +24,15 @@ use Rattle.cfi_scan.specs.Entries.{entry_of as entry_of_unit}
 use Rattle.cfi_scan.specs.Pieces.{IsOf, Listed, prologue_count}
 use Rattle.cfi_scan.specs.Stream.{IsSplitUp, last_of, spelled, width}
 use Rattle.cfi_scan.specs.Entries.{is_unit}
-use Rattle.cfi_verify.specs.Entries.{Tells, call_at, call_in, count_of, edge_at, edge_in, entry_at, fails_at, gate_at, gate_in, is_bad_end_at, is_lone_at, is_outside, is_stop_entry, is_unused_at, misses_start, or_inside, site_at, site_in, starts_at}
-use Rattle.cfi_verify.specs.Lines.{holds_of, line_at, targets_for, is_among, read_of}
-use Rattle.cfi_verify.specs.Rules.{call_of, edge_of, fails, fails_prologue, gate_label, gate_of, is_astray, is_bad_end, is_borne, is_call_to, is_edge_to, is_label, is_lone_site, is_site_with, is_stop, is_unused, lacks_gate, prologue_word_fits, site_of}
-use Rattle.cfi_verify.specs.Split.{code_words, entry_of, is_handler, is_marked, is_start, place_at, starts, unit_at, unit_starts, unit_words}
-use Rattle.cfi_verify.specs.declared.place.Asks.{Asks}
-use Rattle.cfi_verify.specs.declared.reject.Rule.{Rule}
-use Rattle.cfi_verify.specs.declared.reject.Rule.TheVariants as R
+use Rattle.cfi_verify.specs.Entries.{Tells, call_at, call_in, count_of, edge_at, edge_in, entry_at, fails_at, gate_at, gate_in, is_bad_end_at, is_lone_at, is_stop_entry, is_unused_at, misses_start, or_inside, site_at, site_in, starts_at}
+use Rattle.cfi_rules.specs.Lines.{is_outside, holds_of, line_at, targets_for, is_among, read_of}
+use Rattle.cfi_rules.specs.Rules.{call_of, edge_of, fails, fails_prologue, gate_label, gate_of, is_astray, is_bad_end, is_borne, is_call_to, is_edge_to, is_label, is_lone_site, is_site_with, is_stop, is_unused, lacks_gate, prologue_word_fits, site_of}
+use Rattle.cfi_rules.specs.Split.{code_words, entry_of, is_handler, is_marked, is_start, place_at, starts, unit_at, unit_starts, unit_words}
+use Rattle.cfi_rules.specs.declared.asks.Asks.{Asks}
+use Rattle.cfi_rules.specs.declared.reject.Rule.{Rule}
+use Rattle.cfi_rules.specs.declared.reject.Rule.TheVariants as R
 use Rattle.cfi_verify.proofs.Cut.{cut_count, cut_is}
-use Rattle.cfi_verify.proofs.Find.{no_start_below, no_start_odd, no_unit}
+use Rattle.cfi_rules.proofs.Find.{no_start_below, no_start_odd, no_unit}
 use Rattle.cfi_verify.proofs.Lookup.{Looks, lookup, lookup_count}
 use Rattle.cfi_unit.proofs.Counts.{some_word}
 use Rattle.cfi_verify.proofs.InUnits.{length-starts}

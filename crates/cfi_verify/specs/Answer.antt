@@ -2,7 +2,7 @@
 use Rattle.rv_word.specs.MemoryMap.{Profile}
 use Rattle.rv_word.specs.Image.{Contents}
 use Rattle.cfi_graph.specs.Graph.{GraphParts}
-use Rattle.cfi_verify.specs.Rules.{IsRejected}
+use Rattle.cfi_rules.specs.Rules.{IsRejected}
 use Rattle.cfi_verify.specs.declared.verifier.VerifyEnd.{VerifyEnd}
 use Rattle.cfi_verify.specs.declared.verifier.VerifyEnd.TheVariants.{Reject, NoMemory}
 

@@ -13,12 +13,12 @@ use Rattle.cfi_scan.specs.declared.entry.Entry.TheVariants as E
 use Rattle.cfi_scan.specs.Entries.{is_unit}
 use Rattle.cfi_scan.specs.Pieces.{Listed, prologue_count}
 use Rattle.cfi_scan.specs.Stream.{IsSplitUp}
-use Rattle.cfi_verify.specs.Lines.{holds_of, line_at, class_with, targets_for, is_beside}
-use Rattle.cfi_verify.specs.Split.{entry_of, unit_words}
-use Rattle.cfi_verify.specs.Rules.{fails_prologue, is_edge_to, is_call_to, is_site_with, lacks_gate, asks}
-use Rattle.cfi_verify.specs.declared.place.Asks.{Asks}
-use Rattle.cfi_verify.specs.declared.reject.Rule.{Rule}
-use Rattle.cfi_verify.specs.declared.reject.Rule.TheVariants as R
+use Rattle.cfi_rules.specs.Lines.{holds_of, is_outside, line_at, targets_for}
+use Rattle.cfi_rules.specs.Split.{entry_of, unit_words}
+use Rattle.cfi_rules.specs.Rules.{fails_prologue, is_edge_to, is_call_to, is_site_with, lacks_gate, asks}
+use Rattle.cfi_rules.specs.declared.asks.Asks.{Asks}
+use Rattle.cfi_rules.specs.declared.reject.Rule.{Rule}
+use Rattle.cfi_rules.specs.declared.reject.Rule.TheVariants as R
 
 -- where there is no entry, no unit starts
 abbrev pub or_inside : Option Entry → Entry
@@ -51,10 +51,6 @@ site_in _ = None
 abbrev pub gate_in : Entry → Option ℕ
 gate_in (E.Gate label) = Some label
 gate_in _ = None
-
--- a label is a class's, and at an address stands no word of its targets that is to bear it
-abbrev pub is_outside : List GraphLine → ℕ → ℕ → Bool
-is_outside lines label a = holds_of (class_with lines label) (λ class. is_beside class a)
 
 module _ (p : Profile) where
   -- a listing tells of the words of a code: it has those of the prologue and an entry for each other one

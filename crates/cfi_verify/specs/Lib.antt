@@ -1,17 +1,4 @@
-pub mod Split
-pub mod Lines
-pub mod Rules
-pub mod Placed
-pub mod Sound
-pub mod Walk
-pub mod Along
-pub mod Walks
-pub mod Trails
-pub mod Unsafe
-pub mod Laws
-pub mod PlacedLaws
 pub mod Scan
 pub mod Answer
-pub mod RejectText
 pub mod Entries
 pub mod Pass

@@ -6,10 +6,10 @@ use Rattle.cfi_graph.specs.declared.line.Key.TheVariants.{Address}
 use Rattle.cfi_graph.specs.Graph.{GraphParts, key_below, key_of}
 use Rattle.cfi_scan.specs.Pieces.{Listed, prologue_count}
 use Rattle.cfi_verify.specs.Entries.{count_of, entry_at, gate_at, is_stop_entry, fails_at, fails_target_at, fails_unlisted_at, fails_unused_at, fails_site_at, fails_astray_at}
-use Rattle.cfi_verify.specs.Lines.{line_at}
-use Rattle.cfi_verify.specs.Rules.{lacks_gate}
-use Rattle.cfi_verify.specs.declared.reject.Rule.{Rule}
-use Rattle.cfi_verify.specs.declared.reject.Rule.TheVariants as R
+use Rattle.cfi_rules.specs.Lines.{line_at}
+use Rattle.cfi_rules.specs.Rules.{lacks_gate}
+use Rattle.cfi_rules.specs.declared.reject.Rule.{Rule}
+use Rattle.cfi_rules.specs.declared.reject.Rule.TheVariants as R
 
 module _ (p : Profile) where
   -- none of the rules fails at an address that ask for its transfer, its gate and its line

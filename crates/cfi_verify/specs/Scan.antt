@@ -1,13 +1,13 @@
 -- What a scan has seen, what it leaves, and an accepted pair.
 use Rattle.std.specs.Prelude.{◌≡◌, ℕ, ◌-◌, ◌/◌, ◌==◌, Bool, ◌||◌, ◌&&◌, List, is_some, length}
-use Rattle.rv_word.specs.MemoryMap.{Profile, profile_of, version_1}
-use Rattle.rv_word.specs.Image.{Contents}
+use Rattle.rv_word.specs.MemoryMap.{Profile, profile_of}
+use Rattle.rv_word.specs.Image.{Contents, image_profile}
 use Rattle.cfi_graph.specs.Graph.{GraphParts, IsGraph}
 use Rattle.cfi_unit.specs.Prologue.{OPENING}
 use Rattle.cfi_scan.specs.Pieces.{Listed, Sight, prologue_count}
 use Rattle.cfi_verify.specs.Entries.{Tells}
-use Rattle.cfi_verify.specs.Rules.{IsWellFormed}
-use Rattle.cfi_verify.specs.Split.{code_words, entry_of, is_handler}
+use Rattle.cfi_rules.specs.Rules.{IsWellFormed}
+use Rattle.cfi_rules.specs.Split.{code_words, entry_of, is_handler}
 
 -- what a scan has seen of a code, and the graph
 pub record Scanned : Type 0 where
@@ -44,6 +44,6 @@ pub record Pair : Type 0 where
 
 -- a pair that is well formed, with what a listing tells of its code
 pub record IsChecked (image : Contents) (starts : StartParts) : Type 0 where
-  pub version : starts.listing.version ≡ 1
-  pub told : Tells version_1 starts.listing (code_words image.code)
-  pub well_formed : IsWellFormed version_1 image starts.graph
+  pub version : starts.listing.version ≡ image.version
+  pub told : Tells (image_profile image) starts.listing (code_words image.code)
+  pub well_formed : IsWellFormed (image_profile image) image starts.graph

@@ -3,17 +3,17 @@
 ghost use Rattle.std.specs.Prelude.{◌≡◌, ◌+◌, ◌*◌, ◌<◌, ◌≤◌, ◌^◌, ℕ, IfSome, List, None, Some, false, length, true};
 ghost use Rattle.cfi_scan.specs.Entries.{is_quiet};
 ghost use Rattle.cfi_verify.specs.Entries.{Tells, count_of, entry_at, fails_gate_at, gate_at};
-ghost use Rattle.cfi_verify.specs.Lines.{line_at};
+ghost use Rattle.cfi_rules.specs.Lines.{line_at};
 ghost use Rattle.cfi_verify.specs.Pass.{HasPassed, HoldsAt, HoldsEarly, NoneStands, ends_in_stop};
-ghost use Rattle.cfi_verify.specs.Rules.{Holds, lacks_gate};
+ghost use Rattle.cfi_rules.specs.Rules.{Holds, lacks_gate};
 ghost use Rattle.cfi_verify.specs.Scan.{profile_in};
-ghost use Rattle.cfi_verify.specs.declared.reject.Rule.{Rule};
+ghost use Rattle.cfi_rules.specs.declared.reject.Rule.{Rule};
 
 use crate::first::RULES;
-use crate::reject::Rule;
 use crate::rules::is_stop;
 use crate::starts::Starts;
 use cfi_graph::{GraphLine, Key};
+use cfi_rules::Rule;
 use cfi_scan::Entry;
 
 impl<'a> Starts<'a> {

@@ -3,7 +3,7 @@
 ghost use Rattle.std.specs.Prelude.{◌≡◌, ◌+◌, ◌-◌, ◌/◌, ◌<◌, ◌≤◌, ◌^◌, ℕ, drop, slice_index, take};
 ghost use Rattle.rv_word.specs.MemoryMap.{CODE_SIZE, CODE_START};
 ghost use Rattle.cfi_unit.specs.Recognise.{recognised};
-ghost use Rattle.cfi_verify.specs.Split.{code_words};
+ghost use Rattle.cfi_rules.specs.Split.{code_words};
 
 use cfi_unit::{Unit, WordList, recognise};
 use rv_word::memory_map::CODE_START;

@@ -4,13 +4,13 @@ ghost use Rattle.std.specs.Prelude.{◌≡◌, ◌≢◌, ◌+◌, ◌*◌, ◌^
 ghost use Rattle.least.specs.First.{first_below};
 ghost use Rattle.least.specs.Least.{IsLeast};
 ghost use Rattle.cfi_verify.specs.Entries.{Tells, fails_at};
-ghost use Rattle.cfi_verify.specs.Rules.{Holds, IsFirst, fails};
+ghost use Rattle.cfi_rules.specs.Rules.{Holds, IsFirst, fails};
 ghost use Rattle.cfi_verify.specs.Scan.{profile_in};
-ghost use Rattle.cfi_verify.specs.declared.reject.Rule.{Rule};
-ghost use Rattle.cfi_verify.specs.declared.reject.Rule.TheVariants as R;
+ghost use Rattle.cfi_rules.specs.declared.reject.Rule.{Rule};
+ghost use Rattle.cfi_rules.specs.declared.reject.Rule.TheVariants as R;
 
-use crate::reject::Rule;
 use crate::starts::Starts;
+use cfi_rules::Rule;
 use least::first_below_u64;
 use rv_word::memory_map::CODE_START;
 

@@ -2,9 +2,9 @@
 
 ghost use Rattle.std.specs.Prelude.{◌≡◌, ◌&&◌, not};
 ghost use Rattle.least.specs.Least.{IsLeast};
-ghost use Rattle.cfi_verify.specs.Lines.{is_among};
+ghost use Rattle.cfi_rules.specs.Lines.{is_among};
 ghost use Rattle.cfi_verify.specs.Entries.{fails_gate_at, gate_at};
-ghost use Rattle.cfi_verify.specs.Rules.{is_label, lacks_gate};
+ghost use Rattle.cfi_rules.specs.Rules.{is_label, lacks_gate};
 ghost use Rattle.cfi_verify.specs.Scan.{profile_in};
 
 use crate::starts::Starts;

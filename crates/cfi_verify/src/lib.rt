@@ -1,12 +1,12 @@
-//! The verifier: whether an image and a graph meet the ten rules, and if not, which rule fails first
-//! and where. An accepted pair is safe, whatever is written into data while it runs.
+//! The verifier: whether an image of either version and a graph meet the ten rules, and if not, which rule
+//! fails first and where. An accepted pair is safe, whatever is written into data while it runs, and however
+//! many of its version's harts run.
 #![tactic(auto)]
 
+pub use cfi_rules::{Asks, Reject, Rule};
 pub use cfi_unit::Place;
 pub use lines::is_among;
 pub use pieces::scan_pieces;
-pub use place::Asks;
-pub use reject::{Reject, Rule};
 pub use scan::Scan;
 pub use starts::Starts;
 pub use verifier::{Checked, VerifyEnd, verify};
@@ -15,11 +15,10 @@ mod all_hold;
 mod code;
 mod first;
 mod gates;
-pub mod laws;
 mod lines;
 mod pieces;
 mod place;
-mod reject;
+mod prologue;
 mod rules;
 mod scan;
 mod starts;

@@ -4,10 +4,10 @@ ghost use Rattle.std.specs.Prelude.{◌≡◌, IfSome, IsTrue, map, nat_lt};
 ghost use Rattle.std.specs.List.{list_all};
 ghost use Rattle.std.specs.Option.{option_copied};
 ghost use Rattle.cfi_graph.specs.Graph.{is_rising, key_below, key_of, targets_rise};
-ghost use Rattle.cfi_verify.specs.Lines.{class_of, is_among, line_at, line_with, targets_for};
+ghost use Rattle.cfi_rules.specs.Lines.{class_of, is_among, line_at, line_with, targets_for};
 
-use crate::place::Asks;
 use cfi_graph::{Graph, GraphLine, Key};
+use cfi_rules::Asks;
 
 /// The line with a key, if there is one: keys rise, so its place is halved in.
 pub(crate) fn line_with(graph: &Graph, key: Key) -> Option<&GraphLine>

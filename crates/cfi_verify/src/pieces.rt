@@ -5,8 +5,8 @@ ghost use Rattle.rv_word.specs.MemoryMap.{profile_of};
 ghost use Rattle.cfi_scan.specs.Pieces.{HasSeen};
 ghost use Rattle.cfi_verify.specs.Answer.{IsCause};
 ghost use Rattle.cfi_verify.specs.Entries.{Tells};
-ghost use Rattle.cfi_verify.specs.Rules.{IsWellFormed};
-ghost use Rattle.cfi_verify.specs.Split.{code_words};
+ghost use Rattle.cfi_rules.specs.Rules.{IsWellFormed};
+ghost use Rattle.cfi_rules.specs.Split.{code_words};
 
 use crate::scan::Scan;
 use crate::starts::Starts;

@@ -7,23 +7,12 @@ ghost use Rattle.cfi_verify.specs.Scan.{profile_in};
 
 use crate::starts::Starts;
 use cfi_graph::SiteKind;
+use cfi_rules::Asks;
 use cfi_scan::Entry;
 use cfi_unit::TargetWord;
 use rv_instr::Immediate;
 use rv_word::profile::START;
 use rv_word::sext;
-
-/// What a computed transfer asks for: a class with a label that serves transfers of its kind whose
-/// checks read this word of their destinations.
-#[derive(Clone, Copy)]
-pub struct Asks {
-    /// The transfer's kind.
-    pub kind: SiteKind,
-    /// Which word of its destination its check reads.
-    pub which: TargetWord,
-    /// The label that this word must bear.
-    pub label: u32,
-}
 
 /// Where a jump at an address leads by its offset field.
 fn led(at: u64, field: Immediate<20>) -> u64

@@ -2,8 +2,6 @@
 
 ghost use Rattle.std.specs.Prelude.{◌≡◌, ◌≢◌, ◌+◌, ◌*◌, ◌<◌, ◌==◌, ◌^◌, not};
 ghost use Rattle.std.specs.Option.{option_copied};
-ghost use Rattle.rv_word.specs.MemoryMap.{profile_of, version_1, version_2};
-ghost use Rattle.cfi_scan.specs.Pieces.{prologue_count};
 ghost use Rattle.cfi_verify.specs.Entries.{
   count_of,
   fails_astray_at,
@@ -15,123 +13,26 @@ ghost use Rattle.cfi_verify.specs.Entries.{
   fails_unlisted_at,
   fails_unused_at,
   is_bad_end_at,
-  is_outside,
   is_stop_entry,
   misses_start,
 };
-ghost use Rattle.cfi_verify.specs.Lines.{class_of, holds_of, is_among, line_at};
-ghost use Rattle.cfi_verify.specs.Rules.{
+ghost use Rattle.cfi_rules.specs.Lines.{class_of, holds_of, is_among, is_outside, line_at};
+ghost use Rattle.cfi_rules.specs.Rules.{
   fails_prologue,
   is_call_to,
   is_edge_to,
-  is_link,
   is_site_with,
-  prologue_word_fits,
 };
 ghost use Rattle.cfi_verify.specs.Scan.{profile_in};
-ghost use Rattle.cfi_verify.specs.declared.reject.Rule.TheVariants as R;
+ghost use Rattle.cfi_rules.specs.declared.reject.Rule.TheVariants as R;
 
 use crate::lines::is_among;
-use crate::place::Asks;
-use crate::reject::Rule;
+use crate::prologue::is_prologue_word;
 use crate::starts::Starts;
 use cfi_graph::GraphLine;
+use cfi_rules::{Asks, Rule};
 use cfi_scan::Entry;
-use rv_code::decode;
-use rv_instr::Instr;
 use rv_word::memory_map::CODE_START;
-
-/// The prologue's words in version 1. Word 13 is the opening's `jal x1` to the entry, which may lead anywhere.
-const PROLOGUE: [u32; 16] = [
-    0x0010_0073,
-    0x0010_0073,
-    0x0010_0073,
-    0x1000_0137,
-    0x6000_01b7,
-    0x0081_8193,
-    0x0301_9f13,
-    0x000f_1463,
-    0xfe9f_f06f,
-    0x0000_0f17,
-    0x014f_0f13,
-    0x01e1_b023,
-    0x0081_8193,
-    0x00c0_00ef,
-    0x05d0_0893,
-    0x0000_0073,
-];
-
-/// Those in version 2, for several harts. Here it is word 17.
-const PROLOGUE_OF_HARTS: [u32; 20] = [
-    0x0010_0073,
-    0x0010_0073,
-    0x0010_0073,
-    0x1000_0137,
-    0x0145_1f93,
-    0x41f1_0133,
-    0x6000_01b7,
-    0x0105_1f93,
-    0x01f1_81b3,
-    0x0081_8193,
-    0x0301_9f13,
-    0x000f_1463,
-    0xfd9f_f06f,
-    0x0000_0f17,
-    0x014f_0f13,
-    0x01e1_b023,
-    0x0081_8193,
-    0x00c0_00ef,
-    0x05d0_0893,
-    0x0000_0073,
-];
-
-/// Whether a word may be the word with this index of a version's prologue.
-fn is_prologue_word(version: u8, index: usize, word: Option<u32>) -> bool
-    requires { index < prologue_count (profile_of version) }
-    ensures { result ≡ prologue_word_fits (profile_of version) index word }
-{
-    if version == 1 {
-        is_word_of_lone(index, word)
-    } else {
-        is_word_of_several(index, word)
-    }
-}
-
-/// The same in version 1.
-fn is_word_of_lone(index: usize, word: Option<u32>) -> bool
-    requires { index < 16 }
-    ensures { result ≡ prologue_word_fits version_1 index word }
-{
-    let Some(word) = word else { return false };
-    if index == 13 {
-        is_link(decode(word).as_ref())
-    } else {
-        word == PROLOGUE[index]
-    }
-}
-
-/// The same in version 2.
-fn is_word_of_several(index: usize, word: Option<u32>) -> bool
-    requires { index < 20 }
-    ensures { result ≡ prologue_word_fits version_2 index word }
-{
-    let Some(word) = word else { return false };
-    if index == 17 {
-        is_link(decode(word).as_ref())
-    } else {
-        word == PROLOGUE_OF_HARTS[index]
-    }
-}
-
-/// Whether an instruction is `jal x1`.
-fn is_link(instr: Option<&Instr>) -> bool
-    ensures { result ≡ is_link (option_copied instr.entry) }
-{
-    match instr {
-        Some(Instr::Jal(rd, _)) => rd.number() == 1,
-        _ => false,
-    }
-}
 
 impl<'a> Starts<'a> {
     /// Whether a rule other than Gate fails at an address.

@@ -3,12 +3,12 @@ ghost use Rattle.rv_word.specs.Image.{Contents};
 ghost use Rattle.rv_word.specs.MemoryMap.{profile_of};
 ghost use Rattle.cfi_scan.specs.Pieces.{HasSeen};
 ghost use Rattle.cfi_verify.specs.Entries.{Tells};
-ghost use Rattle.cfi_verify.specs.Rules.{IsRejected, IsWellFormed};
-ghost use Rattle.cfi_verify.specs.Split.{code_words};
+ghost use Rattle.cfi_rules.specs.Rules.{IsRejected, IsWellFormed};
+ghost use Rattle.cfi_rules.specs.Split.{code_words};
 
-use crate::reject::Reject;
 use crate::starts::Starts;
 use cfi_graph::Graph;
+use cfi_rules::Reject;
 use cfi_scan::{Feeder, Steps};
 use rv_word::NoMemory;
 use std::alloc::Global;
@@ -35,7 +35,8 @@ impl<'a> Model for Scan<'a> {
 }
 
 impl<'a> Scan<'a> {
-    /// No byte yet, and room for a code of the graph's length, of an image of a version.
+    /// No byte yet, and room for a code of the graph's length, of an image of a version: each number but 1 stands
+    /// for version 2.
     pub fn new(alloc: Global, version: u8, graph: &'a Graph) -> Result<Scan<'a>, NoMemory>
         ensures version { IfOk result (λ s. s.seen.version ≡ version) }
         ensures seen { IfOk result (λ s. HasSeen (profile_of version) s.seen []) }

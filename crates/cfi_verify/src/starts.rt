@@ -7,13 +7,13 @@ ghost use Rattle.cfi_graph.specs.Graph.{IsGraph, is_rising};
 ghost use Rattle.cfi_scan.specs.Pieces.{prologue_count};
 ghost use Rattle.cfi_scan.specs.declared.entry.Entry.TheVariants as E;
 ghost use Rattle.cfi_verify.specs.Entries.{entry_at, or_inside, starts_at};
-ghost use Rattle.cfi_verify.specs.Lines.{class_of, line_at, targets_for};
+ghost use Rattle.cfi_rules.specs.Lines.{class_of, line_at, targets_for};
 ghost use Rattle.cfi_verify.specs.Scan.{AreStarts, profile_in};
-ghost use Rattle.cfi_verify.specs.Split.{entry_of};
+ghost use Rattle.cfi_rules.specs.Split.{entry_of};
 
 use crate::lines;
-use crate::place::Asks;
 use cfi_graph::{Graph, GraphLine};
+use cfi_rules::Asks;
 use cfi_scan::{Entry, Listing};
 use rv_code::decode;
 use rv_instr::Instr;

@@ -1,23 +1,23 @@
 ghost use Rattle.std.specs.Prelude.{◌≡◌, ◌+◌, ◌<◌, ◌^◌, ◌++◌, ℕ, List, length, IfErr, IfOk, IfSome, IsTrue, OnOk, is_some, nat_lt};
 ghost use Rattle.std.specs.Option.{option_copied};
-ghost use Rattle.rv_word.specs.MemoryMap.{profile_of, version_1};
+ghost use Rattle.rv_word.specs.Image.{image_profile};
+ghost use Rattle.rv_word.specs.MemoryMap.{profile_of};
 ghost use Rattle.cfi_graph.specs.Graph.{is_rising};
-ghost use Rattle.cfi_verify.specs.Along.{IsSafe};
+ghost use Rattle.cfi_rules.specs.Along.{IsSafe};
 ghost use Rattle.cfi_verify.specs.Answer.{IsCause};
-ghost use Rattle.cfi_verify.specs.Laws.{AreBytes};
-ghost use Rattle.cfi_verify.specs.Lines.{class_of, targets_for};
-ghost use Rattle.cfi_verify.specs.Rules.{IsWellFormed};
+ghost use Rattle.cfi_rules.specs.Laws.{AreBytes};
+ghost use Rattle.cfi_rules.specs.Lines.{class_of, targets_for};
+ghost use Rattle.cfi_rules.specs.Rules.{IsWellFormed};
 ghost use Rattle.cfi_scan.specs.Pieces.{HasSeen};
 ghost use Rattle.cfi_verify.specs.Scan.{starts_prologue};
-ghost use Rattle.cfi_verify.specs.Split.{code_words, entry_of, is_handler, place_at, unit_at};
+ghost use Rattle.cfi_rules.specs.Split.{code_words, entry_of, is_handler, place_at, unit_at};
 
 use crate::code::{are_small, unit_of};
-use crate::laws::well_formed_is_safe;
-use crate::place::Asks;
-use crate::reject::Reject;
 use crate::scan::Scan;
 use crate::starts::Starts;
 use cfi_graph::Graph;
+use cfi_rules::laws::well_formed_is_safe;
+use cfi_rules::{Asks, Reject};
 use cfi_scan::Steps;
 use cfi_unit::handlers::{BAD_RETURN, BAD_TARGET, DEEP};
 use cfi_unit::{Place, Unit};
@@ -74,7 +74,7 @@ impl<'a> Checked<'a> {
     /// The image.
     pub fn image(&self) -> &'a Image<'a>
         ensures value { result.now ≡ self.now.image }
-        ensures well_formed { IsWellFormed version_1 self.now.image self.now.graph }
+        ensures well_formed { IsWellFormed (image_profile self.now.image) self.now.image self.now.graph }
     {
         self.image
     }
@@ -82,14 +82,14 @@ impl<'a> Checked<'a> {
     /// The graph.
     pub fn graph(&self) -> &'a Graph
         ensures value { result.now ≡ self.now.graph }
-        ensures well_formed { IsWellFormed version_1 self.now.image self.now.graph }
+        ensures well_formed { IsWellFormed (image_profile self.now.image) self.now.image self.now.graph }
     {
         self.starts.graph()
     }
 
     /// Tells a proof that the pair is safe; nothing is computed.
     pub fn is_safe(&self)
-        ensures { IsSafe version_1 self.now.image self.now.graph }
+        ensures { IsSafe (image_profile self.now.image) self.now.image self.now.graph }
     {
         are_bytes(self.image);
         // Tells the proof that the pair meets the rules.
@@ -99,7 +99,7 @@ impl<'a> Checked<'a> {
 
     /// The unit that starts at an address; `None` at the prologue and inside a unit.
     pub fn unit_at(&self, address: u64) -> Option<Unit>
-        ensures { result ≡ unit_at version_1 (code_words self.now.image.code) address }
+        ensures { result ≡ unit_at (image_profile self.now.image) (code_words self.now.image.code) address }
     {
         if self.starts.is_start(address) {
             unit_of(self.image.code(), address)
@@ -110,29 +110,29 @@ impl<'a> Checked<'a> {
 
     /// Where the opening's call leads.
     fn entry(&self) -> Option<u64>
-        ensures { result ≡ entry_of version_1 (code_words self.now.image.code) }
+        ensures { result ≡ entry_of (image_profile self.now.image) (code_words self.now.image.code) }
     {
         self.starts.entry()
     }
 
     /// Where the first unit stands.
     fn units_from(&self) -> u64
-        ensures { result ≡ version_1.units_from }
+        ensures { result ≡ (image_profile self.now.image).units_from }
     {
         self.starts.units_from()
     }
 
-    /// The prologue's closing.
-    fn closing(&self) -> u64
-        ensures { result ≡ version_1.closing }
+    /// The prologue's closing, to which the program's entry returns.
+    pub fn closing(&self) -> u64
+        ensures { result ≡ (image_profile self.now.image).closing }
     {
         self.starts.closing()
     }
 
     /// What stands at an address, the prologue's parts among it; `None` where nothing starts.
-    #[tactic(auto, unfolding(crate::specs::Split::place_at))]
+    #[tactic(auto, unfolding(cfi_rules::specs::Split::place_at))]
     pub fn place_at(&self, address: u64) -> Option<Place>
-        ensures { result ≡ place_at version_1 (code_words self.now.image.code) address }
+        ensures { result ≡ place_at (image_profile self.now.image) (code_words self.now.image.code) address }
     {
         if is_handler(address) {
             return Some(Place::Handler);
@@ -148,7 +148,7 @@ impl<'a> Checked<'a> {
 
     /// Whether something starts at an address: `place_at` without reading what it is.
     pub fn is_place(&self, address: u64) -> bool
-        ensures { result ≡ is_some (place_at version_1 (code_words self.now.image.code) address) }
+        ensures { result ≡ is_some (place_at (image_profile self.now.image) (code_words self.now.image.code) address) }
     {
         let start = self.units_from();
         if address >= start {
@@ -159,7 +159,7 @@ impl<'a> Checked<'a> {
 
     /// Whether a part of the prologue starts at an address.
     fn is_prologue(&self, address: u64) -> bool
-        ensures { result ≡ starts_prologue version_1 (code_words self.now.image.code) address }
+        ensures { result ≡ starts_prologue (image_profile self.now.image) (code_words self.now.image.code) address }
     {
         is_handler(address)
             || address == self.closing()
@@ -204,12 +204,12 @@ pub fn verify<'a>(
     image: &'a Image<'a>,
     graph: &'a Graph,
 ) -> Result<Checked<'a>, VerifyEnd>
-    ensures accepted { IfOk result (λ c. (c.image ≡ image.now) × (c.graph ≡ graph.now) × IsWellFormed version_1 image.now graph.now) }
-    ensures safe { OnOk result (IsSafe version_1 image.now graph.now) }
-    ensures rejected { IfErr result (IsCause version_1 image.now graph.now) }
+    ensures accepted { IfOk result (λ c. (c.image ≡ image.now) × (c.graph ≡ graph.now) × IsWellFormed (image_profile image.now) image.now graph.now) }
+    ensures safe { OnOk result (IsSafe (image_profile image.now) image.now graph.now) }
+    ensures rejected { IfErr result (IsCause (image_profile image.now) image.now graph.now) }
 {
     are_bytes(image);
-    let mut scan = Scan::new(alloc, 1, graph)?;
+    let mut scan = Scan::new(alloc, image.version(), graph)?;
     feed_code::<Brand>(&mut scan, image.code(), Blank::new(1));
     match scan.finish() {
         Err(reject) => Err(VerifyEnd::Reject(reject)),

@@ -12,8 +12,8 @@ use Rattle.cfi_unit.specs.declared.place.Place.TheVariants.{Handler as handler, 
 use Rattle.cfi_unit.specs.Prologue.{OPENING}
 use Rattle.cfi_unit.specs.Recognise.{recognised}
 use Rattle.cfi_unit.specs.UnitWords.{BAD_TARGET, BAD_RETURN, DEEP}
-use Rattle.cfi_verify.specs.Split.{code_words, is_start, unit_at, is_handler, entry_of, place_at}
-use Rattle.cfi_verify.proofs.Bytes.{length-code_words}
+use Rattle.cfi_rules.specs.Split.{code_words, is_start, unit_at, is_handler, entry_of, place_at}
+use Rattle.cfi_rules.proofs.Bytes.{length-code_words}
 use Rattle.cfi_verify.proofs.InUnits.{IsInUnits, start_within}
 
 handler_lies : (a : ℕ) → is_handler a ≡ true → (CODE_START ≤ a) × (a < 2 ^ 32)

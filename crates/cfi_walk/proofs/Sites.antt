@@ -9,8 +9,8 @@ use Rattle.cfi_unit.specs.declared.unit.SystemOp.TheVariants as S
 use Rattle.cfi_unit.specs.declared.place.Place.{Place}
 use Rattle.cfi_unit.specs.declared.place.Place.TheVariants.{Handler as handler, Opening as opening, Closing as closing, Body as body}
 use Rattle.cfi_unit.specs.UnitWords.{DEEP, after_unit}
-use Rattle.cfi_verify.specs.Split.{code_words}
-use Rattle.cfi_verify.specs.Walk.{CallGoes, JumpGoes, ComputedCallGoes, ReturnGoes, UnitGoes, Goes}
+use Rattle.cfi_rules.specs.Split.{code_words}
+use Rattle.cfi_rules.specs.Walk.{CallGoes, JumpGoes, ComputedCallGoes, ReturnGoes, UnitGoes, Goes}
 use Rattle.cfi_walk.specs.Laws.{AreSites, StepKeepsSites}
 use Rattle.cfi_walk.proofs.Reach.{place_from}
 

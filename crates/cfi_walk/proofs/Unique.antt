@@ -16,11 +16,11 @@ use Rattle.cfi_unit.specs.declared.unit.SystemOp.TheVariants as S
 use Rattle.cfi_unit.specs.declared.place.Place.{Place}
 use Rattle.cfi_unit.specs.declared.place.Place.TheVariants.{Handler as handler, Opening as opening, Closing as closing, Body as body}
 use Rattle.cfi_unit.specs.UnitWords.{BAD_TARGET, DEEP, after_unit}
-use Rattle.cfi_verify.specs.Lines.{holds_of, is_among, targets_for}
-use Rattle.cfi_verify.specs.Rules.{IsWellFormed}
-use Rattle.cfi_verify.specs.Split.{code_words}
-use Rattle.cfi_verify.specs.Walk.{InClass, CallGoes, JumpGoes, ComputedCallGoes, ReturnGoes, UnitGoes, Goes}
-use Rattle.cfi_verify.proofs.RuleFacts.{gate_stands}
+use Rattle.cfi_rules.specs.Lines.{holds_of, is_among, targets_for}
+use Rattle.cfi_rules.specs.Rules.{IsWellFormed}
+use Rattle.cfi_rules.specs.Split.{code_words}
+use Rattle.cfi_rules.specs.Walk.{InClass, CallGoes, JumpGoes, ComputedCallGoes, ReturnGoes, UnitGoes, Goes}
+use Rattle.cfi_rules.proofs.RuleFacts.{gate_stands}
 use Rattle.cfi_walk.specs.Laws.{AreSites, StepIsUnique}
 use Rattle.cfi_walk.specs.State.{WalkState}
 use Rattle.cfi_walk.proofs.Reach.{unit_within}

@@ -5,8 +5,8 @@ use Rattle.rv_word.specs.Image.{Contents}
 use Rattle.rv_word.specs.MemoryMap.{IsProfile, Profile}
 use Rattle.cfi_graph.specs.Graph.{GraphParts}
 use Rattle.cfi_unit.specs.UnitWords.{DEEP}
-use Rattle.cfi_verify.specs.Rules.{IsWellFormed}
-use Rattle.cfi_verify.specs.Split.{code_words}
+use Rattle.cfi_rules.specs.Rules.{IsWellFormed}
+use Rattle.cfi_rules.specs.Split.{code_words}
 use Rattle.cfi_walk.specs.State.{WalkState}
 use Rattle.cfi_walk.specs.Step.{IsStep}
 

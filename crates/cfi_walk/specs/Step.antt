@@ -3,8 +3,8 @@ use Rattle.std.specs.Prelude.{◌≡◌, ℕ, List, Some}
 use Rattle.rv_word.specs.MemoryMap.{Profile}
 use Rattle.cfi_graph.specs.declared.line.GraphLine.{GraphLine}
 use Rattle.cfi_unit.specs.declared.place.Place.{Place}
-use Rattle.cfi_verify.specs.Split.{place_at}
-use Rattle.cfi_verify.specs.Walk.{Goes}
+use Rattle.cfi_rules.specs.Split.{place_at}
+use Rattle.cfi_rules.specs.Walk.{Goes}
 use Rattle.cfi_walk.specs.State.{WalkState}
 
 -- something stands at the walk's address, and from there the graph goes on to `pc`, with the sites

@@ -1,8 +1,8 @@
 //! Look-ups of classes for a walk.
 
 ghost use Rattle.std.specs.Prelude.{◌≡◌};
-ghost use Rattle.cfi_verify.specs.Lines.{holds_of, is_among, targets_for};
-ghost use Rattle.cfi_verify.specs.Walk.{is_some_target};
+ghost use Rattle.cfi_rules.specs.Lines.{holds_of, is_among, targets_for};
+ghost use Rattle.cfi_rules.specs.Walk.{is_some_target};
 
 use cfi_verify::{Asks, Checked, is_among};
 

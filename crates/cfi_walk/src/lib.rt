@@ -1,5 +1,5 @@
-//! The walk along a graph of control flow, one step at a time: where a run of an accepted image has
-//! come to, the sites of its pending calls, and whether it may go on to an address.
+//! The walk along a graph of control flow, one step at a time: where a hart has come to in a run of an
+//! accepted image, the sites of its pending calls, and whether it may go on to an address.
 #![tactic(auto)]
 
 pub use following::{Followed, follow};

@@ -1,8 +1,8 @@
 //! One step of the graph walk.
 
 ghost use Rattle.std.specs.Prelude.{◌<◌, ◌^◌, ◌⊎◌, ℕ, List};
-ghost use Rattle.rv_word.specs.MemoryMap.{version_1};
-ghost use Rattle.cfi_verify.specs.Walk.{
+ghost use Rattle.rv_word.specs.Image.{image_profile};
+ghost use Rattle.cfi_rules.specs.Walk.{
   CallGoes,
   ComputedCallGoes,
   Goes,
@@ -19,7 +19,6 @@ use cfi_graph::SiteKind;
 use cfi_unit::handlers::{self, BAD_RETURN, BAD_TARGET, DEEP};
 use cfi_unit::{Place, SystemOp, TargetWord, Unit, size};
 use cfi_verify::{Asks, Checked};
-use rv_word::profile::CLOSING;
 
 /// How many sites may be pending.
 const MOST_PENDING: usize = handlers::MOST_PENDING as usize;
@@ -129,12 +128,12 @@ fn from_unit(checked: &Checked<'_>, walk: &Walk, unit: &Unit, past: u64, pc: u64
 /// the place at which the walk stands.
 pub(crate) fn step(checked: &Checked<'_>, walk: &Walk, place: &Place, pc: u64) -> Option<Move>
     requires { walk.now.at < 2 ^ 32 }
-    ensures { IsAnswer (λ newer. Goes version_1 checked.now.graph.lines place.now walk.now.at walk.now.pending pc newer) walk.now.pending result }
+    ensures { IsAnswer (λ newer. Goes (image_profile checked.now.image) checked.now.graph.lines place.now walk.now.at walk.now.pending pc newer) walk.now.pending result }
 {
     match place {
         Place::Handler => None,
         Place::Closing => None,
-        Place::Opening(entry) => call(walk, CLOSING, *entry, pc),
+        Place::Opening(entry) => call(walk, checked.closing(), *entry, pc),
         Place::Body(unit) => {
             let past = walk.address() + u64::from(size(unit));
             from_unit(checked, walk, unit, past, pc)

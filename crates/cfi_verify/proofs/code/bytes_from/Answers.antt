@@ -1,6 +1,6 @@
 use Rattle.std.proofs.Common.{◌*◌, ◌∙◌, ap, arith, drop, length-drop}
 use Rattle.std.proofs.lemmas.List.{take_all}
-use Rattle.cfi_verify.specs.Split.{code_words}
+use Rattle.cfi_rules.specs.Split.{code_words}
 use Rattle.cfi_verify.proofs.WordList.{words_dropped, words_past}
 use Rattle.cfi_verify.proofs.code.bytes_from.Goals as goal
 

@@ -1,5 +1,5 @@
 use Rattle.std.proofs.Common.{◌≡◌, ◌≤◌, ◌++◌, length}
-use Rattle.cfi_verify.specs.Split.{code_words}
+use Rattle.cfi_rules.specs.Split.{code_words}
 use Rattle.cfi_verify.proofs.code.first_words.Given as goal
 
 abbrev pub invariant-loop-rest : goal.invariant-loop-rest

@@ -2,8 +2,8 @@ use Rattle.std.proofs.Common.{◌∙◌, ◌-◌, ◌/◌, ◌<◌, ◌^◌, ap,
 use Rattle.std.proofs.lemmas.List.Elements.{All-drop}
 use Rattle.rv_word.specs.MemoryMap.{CODE_START}
 use Rattle.cfi_unit.specs.Recognise.{recognised}
-use Rattle.cfi_verify.specs.Split.{code_words}
-use Rattle.cfi_verify.proofs.Bytes.{are_words}
+use Rattle.cfi_rules.specs.Split.{code_words}
+use Rattle.cfi_rules.proofs.Bytes.{are_words}
 use Rattle.cfi_verify.proofs.Within.{unit_found, unit_missing, within}
 use Rattle.cfi_verify.proofs.code.unit_of.Goals as goal
 

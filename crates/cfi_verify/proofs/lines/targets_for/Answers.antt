@@ -1,5 +1,5 @@
 use Rattle.std.proofs.Common.{◌∙◌, sym}
-use Rattle.cfi_verify.proofs.Served.{for_each}
+use Rattle.cfi_rules.proofs.Served.{for_each}
 use Rattle.cfi_verify.proofs.lines.targets_for.Goals as goal
 
 pub returns-clause-value : goal.returns-clause-value

@@ -2,10 +2,10 @@ use Rattle.std.proofs.Common.{◌∙◌, ap, subst, sym}
 use Rattle.rv_word.specs.MemoryMap.{Profile, profile_of}
 use Rattle.cfi_graph.specs.Graph.{GraphParts}
 use Rattle.cfi_verify.specs.Entries.{Tells}
-use Rattle.cfi_verify.specs.Rules.{Holds, IsFirst}
+use Rattle.cfi_rules.specs.Rules.{Holds, IsFirst}
 use Rattle.cfi_verify.specs.Scan.{Scanned, StartParts}
-use Rattle.cfi_verify.specs.Split.{code_words}
-use Rattle.cfi_verify.specs.declared.reject.Rule.{Rule}
+use Rattle.cfi_rules.specs.Split.{code_words}
+use Rattle.cfi_rules.specs.declared.reject.Rule.{Rule}
 use Rattle.cfi_verify.proofs.Ended.{asked, ended, is_of, told_of}
 use Rattle.cfi_verify.proofs.scan.Scan.finish.Goals as goal
 

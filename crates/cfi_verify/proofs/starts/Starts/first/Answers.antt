@@ -1,7 +1,7 @@
 use Rattle.std.proofs.Common.{sym}
 use Rattle.rv_word.proofs.Versions.{is_profile, laid_out}
 use Rattle.least.proofs.Leasts.{least_same}
-use Rattle.cfi_verify.specs.declared.reject.Rule.TheVariants as R
+use Rattle.cfi_rules.specs.declared.reject.Rule.TheVariants as R
 use Rattle.cfi_verify.proofs.Told.{fails_told}
 use Rattle.cfi_verify.proofs.starts.Starts.first.Goals as goal
 

@@ -1,4 +1,4 @@
-use Rattle.cfi_verify.specs.Rules.{Holds}
+use Rattle.cfi_rules.specs.Rules.{Holds}
 use Rattle.cfi_verify.specs.Scan.{profile_in}
 use Rattle.cfi_verify.proofs.RuleOrder.{rules_more}
 use Rattle.cfi_verify.proofs.starts.Starts.first_of_rules.Goals as goal

@@ -1,8 +1,8 @@
 use Rattle.std.proofs.Common.{◌<◌, ℕ, List}
 use Rattle.cfi_verify.specs.Entries.{Tells}
-use Rattle.cfi_verify.specs.Rules.{Holds, order}
+use Rattle.cfi_rules.specs.Rules.{Holds, order}
 use Rattle.cfi_verify.specs.Scan.{profile_in}
-use Rattle.cfi_verify.specs.declared.reject.Rule.{Rule}
+use Rattle.cfi_rules.specs.declared.reject.Rule.{Rule}
 use Rattle.cfi_verify.proofs.starts.Starts.first_of_rules.Given as goal
 
 abbrev pub invariant-loop-rule : goal.invariant-loop-rule

@@ -1,7 +1,7 @@
 use Rattle.std.proofs.Common.{ap, arith, ◌≤◌, length}
 use Rattle.cfi_verify.specs.Entries.{gate_at}
 use Rattle.cfi_graph.specs.Graph.{GraphParts}
-use Rattle.cfi_verify.specs.Rules.{lacks_gate}
+use Rattle.cfi_rules.specs.Rules.{lacks_gate}
 use Rattle.cfi_verify.specs.Scan.{profile_in}
 use Rattle.cfi_verify.proofs.LeastOf.{least_line, least_all, take_found}
 use Rattle.cfi_verify.proofs.starts.Starts.first_without_gate.Goals as goal

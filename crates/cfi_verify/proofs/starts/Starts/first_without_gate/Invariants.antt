@@ -2,7 +2,7 @@ use Rattle.std.proofs.Common.{take}
 use Rattle.std.specs.List.{list_any}
 use Rattle.cfi_verify.specs.Entries.{gate_at}
 use Rattle.least.specs.Least.{IsLeast}
-use Rattle.cfi_verify.specs.Rules.{lacks_gate}
+use Rattle.cfi_rules.specs.Rules.{lacks_gate}
 use Rattle.cfi_verify.specs.Scan.{profile_in}
 use Rattle.cfi_verify.proofs.starts.Starts.first_without_gate.Given as goal
 

@@ -1,5 +1,5 @@
 use Rattle.std.proofs.Common.{◌∙◌, sym}
-use Rattle.cfi_verify.proofs.Served.{outside_is}
+use Rattle.cfi_rules.proofs.Served.{outside_is}
 use Rattle.cfi_verify.proofs.starts.Starts.is_outside.Goals as goal
 
 pub returns : goal.returns

@@ -1,8 +1,8 @@
 use Rattle.std.proofs.Common.{◌<◌}
 use Rattle.cfi_verify.specs.Pass.{HoldsEarly}
-use Rattle.cfi_verify.specs.Rules.{order}
+use Rattle.cfi_rules.specs.Rules.{order}
 use Rattle.cfi_verify.specs.Scan.{profile_in}
-use Rattle.cfi_verify.specs.declared.reject.Rule.{Rule}
+use Rattle.cfi_rules.specs.declared.reject.Rule.{Rule}
 use Rattle.cfi_verify.proofs.starts.Starts.prologue_holds.Given as goal
 
 abbrev pub invariant-loop-rule : goal.invariant-loop-rule

@@ -1,7 +1,7 @@
 use Rattle.std.proofs.Common.{◌≡◌, ◌∙◌, ap, sym, not, get_or}
 use Rattle.std.proofs.lemmas.List.{take_more}
 use Rattle.cfi_verify.specs.Entries.{gate_at}
-use Rattle.cfi_verify.specs.Rules.{is_label}
+use Rattle.cfi_rules.specs.Rules.{is_label}
 use Rattle.cfi_verify.specs.Scan.{profile_in}
 use Rattle.cfi_verify.proofs.LeastOf.{least_target, same_target}
 use Rattle.cfi_verify.proofs.starts.Starts.without_gate.Goals as goal

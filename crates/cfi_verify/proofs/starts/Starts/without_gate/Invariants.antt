@@ -1,8 +1,8 @@
 use Rattle.std.proofs.Common.{◌&&◌, not, take}
 use Rattle.least.specs.Least.{IsLeast}
 use Rattle.cfi_verify.specs.Entries.{gate_at}
-use Rattle.cfi_verify.specs.Lines.{is_among}
-use Rattle.cfi_verify.specs.Rules.{is_label}
+use Rattle.cfi_rules.specs.Lines.{is_among}
+use Rattle.cfi_rules.specs.Rules.{is_label}
 use Rattle.cfi_verify.specs.Scan.{profile_in}
 use Rattle.cfi_verify.proofs.starts.Starts.without_gate.Given as goal
 

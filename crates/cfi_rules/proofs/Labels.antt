@@ -1,0 +1,137 @@
+-- What stands at each place does stand, and a word with a class's label stands only at the class's
+-- targets.
+use Rattle.std.proofs.Common.{◌≡◌, ℕ, ◌+◌, ◌-◌, ◌*◌, ◌%◌, ◌^◌, ◌≤◌, ◌<◌, ◌⊎◌, inl, inr, List, [], length, refl, sym, ap, subst, ◌∙◌, Some, arith}
+use Rattle.std.proofs.lemmas.Bool.{cases_lt}
+use Rattle.rv_word.specs.Image.{Contents}
+use Rattle.rv_word.specs.MemoryMap.{CODE_START, IsProfile, Profile}
+use Rattle.rv_word.proofs.Versions.{laid_out}
+use Rattle.rv_word.specs.Memory.{loaded, read}
+use Rattle.cfi_graph.specs.declared.line.SiteKind.{SiteKind}
+use Rattle.cfi_graph.specs.Graph.{GraphParts}
+use Rattle.cfi_unit.specs.declared.target_word.TargetWord.TheVariants.{First}
+use Rattle.cfi_unit.specs.declared.unit.Unit.TheVariants as V
+use Rattle.cfi_unit.specs.Leads.{HasLabel}
+use Rattle.cfi_unit.specs.declared.place.Place.{Place}
+use Rattle.cfi_unit.specs.declared.place.Place.TheVariants.{Handler as handler, Opening as opening, Closing as closing, Body as body}
+use Rattle.cfi_unit.specs.Place.{place_instrs, place_size}
+use Rattle.cfi_unit.specs.Prologue.{OPENING, call_at, handler_instrs}
+use Rattle.cfi_unit.specs.Stand.{Stand}
+use Rattle.cfi_unit.specs.UnitLaw.{ReturnsTo, MayStand}
+use Rattle.cfi_unit.specs.UnitWords.{BAD_TARGET, BAD_RETURN, DEEP, Fits, Reaches}
+use Rattle.cfi_unit.proofs.Gates.{label_is_gate}
+use Rattle.cfi_unit.proofs.PrologueUnits.{PrologueStands, prologue_stands}
+use Rattle.cfi_rules.specs.Lines.{holds_of, is_among, targets_for}
+use Rattle.cfi_rules.specs.Rules.{IsWellFormed}
+use Rattle.cfi_rules.specs.Split.{code_words, unit_at}
+use Rattle.cfi_rules.specs.Walk.{InClass}
+use Rattle.cfi_rules.specs.Laws.{AreBytes}
+use Rattle.cfi_rules.proofs.Bytes.{loaded_past, length-code_words}
+use Rattle.cfi_rules.proofs.Find.{unit_around}
+use Rattle.cfi_rules.proofs.Places.{PlaceFacts, prologue, is_whole, handler_is}
+use Rattle.cfi_rules.proofs.RuleFacts.{gate_listed}
+use Rattle.cfi_rules.proofs.Standing.{unit_stands}
+
+-- the opening's call reaches the handler of full shadow stacks, and what it reaches from its jump
+deep_reached : (p : Profile) → IsProfile p → Reaches (call_at p + 8) DEEP
+deep_reached p (inl e) = subst (λ (q : Profile). Reaches (call_at q + 8) DEEP) (sym e) refl
+deep_reached p (inr e) = subst (λ (q : Profile). Reaches (call_at q + 8) DEEP) (sym e) refl
+
+-- where the opening's jump reaches the entry, its call as a unit may stand
+pub call_fits : (p : Profile) → IsProfile p → (entry : ℕ) → Reaches p.opening_call entry → Fits (V.Call entry) (call_at p)
+call_fits p profile entry reaches =
+    let laid = laid_out p profile in
+    let jump : call_at p + 28 ≡ p.opening_call = omega arith in
+    (deep_reached p profile, subst (λ (a : ℕ). Reaches a entry) (sym jump) reaches)
+
+module _ (p : Profile) (profile : IsProfile p) (image : Contents) (graph : GraphParts) (bytes : AreBytes image) (formed : IsWellFormed p image graph) where
+  the_prologue : PrologueStands p (loaded image) (prologue p profile image graph bytes formed).0
+  the_prologue = prologue_stands p profile (loaded image) (prologue p profile image graph bytes formed).0 (prologue p profile image graph bytes formed).1.stands
+
+  handler_stands : (a : ℕ) → (a ≡ BAD_TARGET) ⊎ ((a ≡ BAD_RETURN) ⊎ (a ≡ DEEP)) → Stand (loaded image) a handler_instrs
+  handler_stands a (inl e) = subst (λ (x : ℕ). Stand (loaded image) x handler_instrs) (sym e) the_prologue.bad_target
+  handler_stands a (inr (inl e)) = subst (λ (x : ℕ). Stand (loaded image) x handler_instrs) (sym e) the_prologue.bad_return
+  handler_stands a (inr (inr e)) = subst (λ (x : ℕ). Stand (loaded image) x handler_instrs) (sym e) the_prologue.deep
+
+  -- what stands at a place stands in the loaded image
+  pub place_stands : (place : Place) (a : ℕ) → PlaceFacts p profile image graph bytes formed place a → Stand (loaded image) a (place_instrs p place a)
+  place_stands handler a facts = handler_stands a (handler_is p profile image graph bytes formed a facts)
+  place_stands (opening entry) a facts =
+      let stand = (prologue_stands p profile (loaded image) entry facts.1.stands).opening in
+      subst (λ (x : ℕ). Stand (loaded image) x (place_instrs p (opening entry) x)) (sym facts.0) stand
+  place_stands closing a facts = subst (λ (x : ℕ). Stand (loaded image) x (place_instrs p closing x)) (sym facts) the_prologue.closing
+  place_stands (body unit) a facts = unit_stands p (laid_out p profile) image bytes a unit facts
+
+  -- and may stand there; the opening has nothing pending
+  abbrev pub IsFirstCall : Place → List ℕ → Type 0
+  IsFirstCall handler pending = Unit {0}
+  IsFirstCall (opening entry) pending = pending ≡ []
+  IsFirstCall closing pending = Unit {0}
+  IsFirstCall (body unit) pending = ReturnsTo pending
+
+  pub may_stand : (place : Place) (a : ℕ) (pending : List ℕ) → PlaceFacts p profile image graph bytes formed place a → IsFirstCall place pending → MayStand p place a pending
+  may_stand handler a pending facts first = tt
+  may_stand (opening entry) a pending facts first = (profile, facts.0, first, call_fits p profile entry facts.1.reaches)
+  may_stand closing a pending facts first = tt
+  may_stand (body unit) a pending facts first = (facts.begins.fits, first)
+
+  -- the word of `lui x0,label` stands at an address from the start of code on
+  record IsLabelAt (label v : ℕ) : Type 0 where
+    round : v % 4 ≡ 0
+    low : CODE_START ≤ v
+    word : read 4 (loaded image) v ≡ label * 4096 + 55
+
+  -- no word of what stands before the first unit bears a label
+  before_units : (place : Place) (a label v : ℕ) → PlaceFacts p profile image graph bytes formed place a → IsFirstCall place [] → label < 2 ^ 20 → IsLabelAt label v →
+      a ≤ v → v < a + place_size p place → (place ≡ body (V.Gate label)) × (v ≡ a)
+  before_units place a label v facts first low has from to =
+      label_is_gate p (loaded image) [] place a label v (may_stand place a [] facts first) (place_stands place a facts) low has.round has.word from to
+
+  not_before : (label v : ℕ) → label < 2 ^ 20 → IsLabelAt label v → v < p.units_from → ⊥
+  not_before label v low has below =
+      let layout = laid_out p profile in
+      let code = has.low in
+      elim (cases_lt v BAD_RETURN) [
+        | inl a ↦ let e = (before_units handler BAD_TARGET label v refl tt low has (omega arith) (omega arith)).0 in cc
+        | inr a ↦ elim (cases_lt v DEEP) [
+          | inl b ↦ let e = (before_units handler BAD_RETURN label v refl tt low has (omega arith) (omega arith)).0 in cc
+          | inr b ↦ elim (cases_lt v OPENING) [
+            | inl c ↦ let e = (before_units handler DEEP label v refl tt low has (omega arith) (omega arith)).0 in cc
+            | inr c ↦ elim (cases_lt v p.closing) [
+              | inl d ↦
+                  let e = (before_units (opening (prologue p profile image graph bytes formed).0) OPENING label v (refl, (prologue p profile image graph bytes formed).1) refl low has (omega arith) (omega arith)).0 in cc
+              | inr d ↦ let e = (before_units closing p.closing label v refl tt low has (omega arith) (omega arith)).0 in cc
+            ]
+          ]
+        ]
+      ]
+
+  zero_past : (v : ℕ) → CODE_START + length image.code ≤ v → loaded image v ≡ 0
+  zero_past v past =
+      ap (loaded image) (let z : v ≡ CODE_START + (v - CODE_START) = omega arith in z) ∙ loaded_past image bytes.size (v - CODE_START) (omega arith)
+
+  -- a label's word stands in code only as the gate of the label
+  gate_there : (label v : ℕ) → label < 2 ^ 20 → IsLabelAt label v → unit_at p (code_words image.code) v ≡ Some (V.Gate label)
+  gate_there label v low has =
+      let whole = length-code_words image.code bytes.size.words in
+      elim (cases_lt v (CODE_START + 4 * length (code_words image.code))) [
+        | inl inside ↦ elim (cases_lt v p.units_from) [
+          | inl below ↦ absurd (not_before label v low has below)
+          | inr from ↦
+              let around = unit_around p (laid_out p profile) (code_words image.code) (is_whole p profile image graph bytes formed) v from inside in
+              let unit = around.1 in let s = around.0 in let place = around.2 in
+              let found = before_units (body unit) s label v place.here tt low has place.from place.below in
+              let gate : unit ≡ V.Gate label = let same = found.0 in cc in
+              ap (unit_at p (code_words image.code)) found.1 ∙ place.here.is ∙ ap Some gate
+        ]
+        | inr past ↦
+            let z0 = zero_past v (omega arith) in let z1 = zero_past (v + 1) (omega arith) in
+            let z2 = zero_past (v + 1 + 1) (omega arith) in let z3 = zero_past (v + 1 + 1 + 1) (omega arith) in
+            let word = has.word in absurd (omega arith)
+      ]
+
+  -- where a class's label is borne is a target of the class
+  pub label_in_class : (kind : SiteKind) (label v : ℕ) (ts : List ℕ) → label < 2 ^ 20 → targets_for graph.lines kind First label ≡ Some ts → HasLabel (loaded image) label v →
+      InClass graph.lines kind First label v
+  label_in_class kind label v ts low class has =
+      let is = gate_there label v low (record { round = has.round; low = has.low; word = has.word }) in
+      ap (λ o. holds_of o (is_among v)) class ∙ gate_listed p image graph formed kind First v label ts is class

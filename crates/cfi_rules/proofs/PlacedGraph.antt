@@ -1,0 +1,186 @@
+-- The lines of sound placed units are a graph's, where its class lines are.
+use Rattle.std.proofs.Common.{inl, inr, ◌≡◌, ℕ, ◌+◌, ◌*◌, ◌%◌, ◌≤◌, ◌<◌, ◌==◌, Bool, true, false, List, [], ◌∷◌, ◌++◌, length, map, refl, sym, ap, ◌∙◌, Some, None, arith}
+use Rattle.std.specs.Prelude.{Option, IsTrue, nat_le, nat_lt, ◌&&◌, is_some}
+use Rattle.std.specs.List.{list_all}
+use Rattle.std.proofs.lemmas.Bool.{and_from, and_parts, cases_Bool, eq-eqb, eqb-true, le-leb, lt-ltb}
+use Rattle.std.proofs.lemmas.List.Folds.{list_all-append}
+use Rattle.std.proofs.lemmas.Option.{same_Some}
+use Rattle.rv_word.specs.MemoryMap.{CODE_START, IsProfile, Profile}
+use Rattle.rv_word.proofs.Cases.{cases_Option}
+use Rattle.rv_word.proofs.Versions.{LaidOut, laid_out}
+use Rattle.cfi_graph.specs.declared.line.GraphLine.{GraphLine}
+use Rattle.cfi_graph.specs.declared.line.GraphLine.TheVariants.{Class, Site, Edge, Call}
+use Rattle.cfi_graph.specs.declared.line.Key.TheVariants.{Address}
+use Rattle.cfi_graph.specs.declared.line.SiteKind.TheVariants as K
+use Rattle.cfi_graph.specs.Graph.{IsGraph, is_class, is_code_address, is_label, is_rising, key_below, key_of, line_in_range, targets_rise}
+use Rattle.cfi_unit.specs.declared.unit.Unit as U
+use Rattle.cfi_unit.specs.declared.unit.Unit.TheVariants as V
+use Rattle.cfi_unit.specs.declared.place.Place.TheVariants.{Body as body}
+use Rattle.cfi_unit.specs.declared.target_word.TargetWord.TheVariants.{First}
+use Rattle.cfi_unit.specs.Prologue.{OPENING}
+use Rattle.cfi_unit.specs.UnitWords.{word_count}
+use Rattle.cfi_rules.specs.PlacedLaws.{PlacedIsGraph}
+use Rattle.cfi_rules.specs.Lines.{class_with}
+use Rattle.cfi_rules.specs.Placed.{line_of, lines_from, placed_code, placed_lines, with_line}
+use Rattle.cfi_rules.specs.Rules.{asks, site_of}
+use Rattle.cfi_rules.specs.Sound.{IsSound, StartsIn, target_of}
+use Rattle.cfi_rules.specs.Split.{unit_in}
+use Rattle.cfi_rules.specs.declared.asks.Asks.{Asks}
+use Rattle.cfi_rules.proofs.Served.{some_class}
+use Rattle.cfi_unit.proofs.Counts.{some_word}
+use Rattle.cfi_rules.proofs.UnitIn.{in_here, in_past, length-placed_code, lies}
+
+-- what holds of each unit's line holds of all lines
+all_with : (test : GraphLine → Bool) (o : Option GraphLine) (rest : List GraphLine) → ((line : GraphLine) → o ≡ Some line → test line ≡ true) → list_all test rest ≡ true → list_all test (with_line o rest) ≡ true
+all_with test None rest one all = all
+all_with test (Some line) rest one all = and_from (test line) (list_all test rest) (one line refl) all
+
+all_lines : (test : GraphLine → Bool) (us : List U.Unit) (at : ℕ) →
+    ((a : ℕ) (u : U.Unit) (line : GraphLine) → unit_in us at a ≡ Some u → line_of a u ≡ Some line → test line ≡ true) → list_all test (lines_from at us) ≡ true
+unfolding lines_from
+all_lines test [] at each = refl
+all_lines test (u ∷ us) at each =
+    all_with test (line_of at u) (lines_from (at + 4 * word_count u) us) (λ line is. each at u line (in_here u us at) is)
+    (all_lines test us (at + 4 * word_count u) (λ a v line here is. each a v line (in_past u v us at a here) is))
+
+-- a test of the one line that there is
+given : (test : GraphLine → Bool) (l m : GraphLine) → Some l ≡ Some m → test l ≡ true → test m ≡ true
+given test l m e right = ap test (sym (same_Some l m e)) ∙ right
+
+-- no line of a unit has targets that could fall
+flat : (u : U.Unit) (a : ℕ) (line : GraphLine) → line_of a u ≡ Some line → targets_rise line ≡ true
+flat (V.Branch op rs1 rs2 target) a line e = given targets_rise (Edge a target) line e refl
+flat (V.Near op rs1 rs2 target) a line e = given targets_rise (Edge a target) line e refl
+flat (V.Jump target) a line e = given targets_rise (Edge a target) line e refl
+flat (V.Call target) a line e = given targets_rise (Call a target) line e refl
+flat (V.Ijump rs1 imm label) a line e = given targets_rise (Site a K.Jump label) line e refl
+flat (V.Icall rs1 imm label) a line e = given targets_rise (Site a K.Call label) line e refl
+flat other a line e = absurd (cc)
+
+-- the lines' addresses rise
+abbrev keys_above : ℕ → List GraphLine → Bool
+keys_above bound lines = is_rising key_below (Address bound ∷ map key_of lines)
+
+rise_with : (u : U.Unit) (bound at : ℕ) (rest : List GraphLine) → bound < at → keys_above bound rest ≡ true → keys_above at rest ≡ true → keys_above bound (with_line (line_of at u) rest) ≡ true
+rise_with (V.Branch op rs1 rs2 target) bound at rest below past here = and_from (nat_lt bound at) (keys_above at rest) (lt-ltb bound at below) here
+rise_with (V.Near op rs1 rs2 target) bound at rest below past here = and_from (nat_lt bound at) (keys_above at rest) (lt-ltb bound at below) here
+rise_with (V.Jump target) bound at rest below past here = and_from (nat_lt bound at) (keys_above at rest) (lt-ltb bound at below) here
+rise_with (V.Call target) bound at rest below past here = and_from (nat_lt bound at) (keys_above at rest) (lt-ltb bound at below) here
+rise_with (V.Ijump rs1 imm label) bound at rest below past here = and_from (nat_lt bound at) (keys_above at rest) (lt-ltb bound at below) here
+rise_with (V.Icall rs1 imm label) bound at rest below past here = and_from (nat_lt bound at) (keys_above at rest) (lt-ltb bound at below) here
+rise_with other bound at rest below past here = past
+
+lines_rise : (us : List U.Unit) (bound at : ℕ) → bound < at → keys_above bound (lines_from at us) ≡ true
+unfolding lines_from
+lines_rise [] bound at below = refl
+lines_rise (u ∷ us) bound at below =
+    let some = some_word u in
+    rise_with u bound at (lines_from (at + 4 * word_count u) us) below
+    (lines_rise us bound (at + 4 * word_count u) (omega arith)) (lines_rise us at (at + 4 * word_count u) (omega arith))
+
+-- classes come before
+classes_rise : (classes : List GraphLine) (bound to : ℕ) (rest : List GraphLine) → IsTrue (list_all is_class classes) → is_rising key_below (map key_of classes) ≡ true →
+    keys_above bound rest ≡ true → is_rising key_below (map key_of (classes ++ (Call bound to ∷ rest))) ≡ true
+classes_rise [] bound to rest all order above = above
+classes_rise (Class l ts ∷ []) bound to rest all order above = above
+classes_rise (Class l ts ∷ Class k us ∷ classes) bound to rest all order above =
+    let parts = and_parts (nat_lt l k) (is_rising key_below (map key_of (Class k us ∷ classes))) order in
+    and_from (nat_lt l k) (is_rising key_below (map key_of ((Class k us ∷ classes) ++ (Call bound to ∷ rest)))) parts.0
+    (classes_rise (Class k us ∷ classes) bound to rest all parts.1 above)
+classes_rise (Class l ts ∷ Site a kind k ∷ classes) bound to rest all order above = absurd (cc)
+classes_rise (Class l ts ∷ Edge a b ∷ classes) bound to rest all order above = absurd (cc)
+classes_rise (Class l ts ∷ Call a b ∷ classes) bound to rest all order above = absurd (cc)
+classes_rise (Site a kind k ∷ classes) bound to rest all order above = absurd (cc)
+classes_rise (Edge a b ∷ classes) bound to rest all order above = absurd (cc)
+classes_rise (Call a b ∷ classes) bound to rest all order above = absurd (cc)
+
+-- a class's label is one
+class_label : (len : ℕ) (classes : List GraphLine) (l : ℕ) → list_all (line_in_range len) classes ≡ true → is_some (class_with classes l) ≡ true → is_label l ≡ true
+unfolding class_with
+class_label len [] l range some = absurd (cc)
+class_label len (Class k ts ∷ classes) l range some =
+    let parts = and_parts (is_label k && list_all (is_code_address len) ts) (list_all (line_in_range len) classes) range in
+    elim (cases_Bool (k == l)) [
+      | inl same ↦ ap is_label (sym (eqb-true k l same)) ∙ (and_parts (is_label k) (list_all (is_code_address len) ts) parts.0).0
+      | inr other ↦ class_label len classes l parts.1 (rw other at some)
+    ]
+class_label len (Site a kind k ∷ classes) l range some =
+    class_label len classes l (and_parts (line_in_range len (Site a kind k)) (list_all (line_in_range len) classes) range).1 some
+class_label len (Edge a b ∷ classes) l range some =
+    class_label len classes l (and_parts (line_in_range len (Edge a b)) (list_all (line_in_range len) classes) range).1 some
+class_label len (Call a b ∷ classes) l range some =
+    class_label len classes l (and_parts (line_in_range len (Call a b)) (list_all (line_in_range len) classes) range).1 some
+
+-- a unit's line has addresses of the code, and a class's label
+unit_range : (len : ℕ) (u : U.Unit) (a : ℕ) (line : GraphLine) → is_code_address len a ≡ true → ((t : ℕ) → target_of u ≡ Some t → is_code_address len t ≡ true) →
+    ((asked : Asks) → site_of (body u) ≡ Some asked → is_label asked.label ≡ true) → line_of a u ≡ Some line → line_in_range len line ≡ true
+unit_range len (V.Branch op rs1 rs2 target) a line here leads known e =
+    given (line_in_range len) (Edge a target) line e (and_from (is_code_address len a) (is_code_address len target) here (leads target refl))
+unit_range len (V.Near op rs1 rs2 target) a line here leads known e =
+    given (line_in_range len) (Edge a target) line e (and_from (is_code_address len a) (is_code_address len target) here (leads target refl))
+unit_range len (V.Jump target) a line here leads known e =
+    given (line_in_range len) (Edge a target) line e (and_from (is_code_address len a) (is_code_address len target) here (leads target refl))
+unit_range len (V.Call target) a line here leads known e =
+    given (line_in_range len) (Call a target) line e (and_from (is_code_address len a) (is_code_address len target) here (leads target refl))
+unit_range len (V.Ijump rs1 imm label) a line here leads known e =
+    given (line_in_range len) (Site a K.Jump label) line e (and_from (is_code_address len a) (is_label label) here (known (asks K.Jump First label) refl))
+unit_range len (V.Icall rs1 imm label) a line here leads known e =
+    given (line_in_range len) (Site a K.Call label) line e (and_from (is_code_address len a) (is_label label) here (known (asks K.Call First label) refl))
+unit_range len other a line here leads known e = absurd (cc)
+
+module _ (p : Profile) (profile : IsProfile p) (entry : ℕ) (us : List U.Unit) (classes : List GraphLine) (sound : IsSound p entry us classes) where
+  laid : LaidOut p
+  laid = laid_out p profile
+
+  abbrev size : ℕ
+  size = 4 * length (placed_code p entry us)
+
+  code_address : (a : ℕ) → CODE_START ≤ a → a < CODE_START + size → a % 4 ≡ 0 → is_code_address size a ≡ true
+  code_address a low high round =
+      and_from (a % 4 == 0 && nat_le CODE_START a) (nat_lt a (CODE_START + size))
+      (and_from (a % 4 == 0) (nat_le CODE_START a) (eq-eqb (a % 4) 0 round) (le-leb CODE_START a low)) (lt-ltb a (CODE_START + size) high)
+
+  start_address : (a : ℕ) (u : U.Unit) → unit_in us p.units_from a ≡ Some u → is_code_address size a ≡ true
+  start_address a u e =
+      let some = some_word u in
+      let words = length-placed_code p profile entry us in
+      let front = laid.low in
+      let even = laid.round in
+      let from = (lies us p.units_from a u e).from in
+      let to = (lies us p.units_from a u e).to in
+      let round = (lies us p.units_from a u e).round in
+      code_address a (omega arith) (omega arith) (omega arith)
+
+  begun_address : (a : ℕ) → StartsIn p us a → is_code_address size a ≡ true
+  begun_address a begun =
+      elim (cases_Option (unit_in us p.units_from a)) [
+        | inl none ↦ let no : false ≡ true = ap is_some (sym none) ∙ begun in absurd (cc)
+        | inr (u, e) ↦ start_address a u e
+      ]
+
+  opening_address : is_code_address size OPENING ≡ true
+  opening_address = let words = length-placed_code p profile entry us in let front = laid.low in code_address OPENING (omega arith) (omega arith) refl
+
+  pub placed_graph : IsGraph (record { code = size; lines = classes }) → IsGraph (record { code = size; lines = placed_lines p entry us classes })
+  placed_graph graph =
+      let rest : List GraphLine = Call OPENING entry ∷ lines_from p.units_from us in
+      let opening : line_in_range size (Call OPENING entry) ≡ true =
+      and_from (is_code_address size OPENING) (is_code_address size entry) opening_address (begun_address entry sound.entry_starts) in
+      let units : list_all (line_in_range size) (lines_from p.units_from us) ≡ true =
+      all_lines (line_in_range size) us p.units_from (λ a u line here is. unit_range size u a line (start_address a u here)
+      (λ t leads. begun_address t (sound.targets a t u here leads))
+      (λ asked wants. class_label size classes asked.label graph.range (some_class classes asked.kind asked.which asked.label (sound.labels a u asked here wants))) is) in
+      let flats : list_all targets_rise (lines_from p.units_from us) ≡ true =
+      all_lines targets_rise us p.units_from (λ a u line here is. flat u a line is) in
+      record {
+        length = graph.length;
+        range = list_all-append (line_in_range size) classes rest
+            ∙ and_from (list_all (line_in_range size) classes) (list_all (line_in_range size) rest) graph.range
+            (and_from (line_in_range size (Call OPENING entry)) (list_all (line_in_range size) (lines_from p.units_from us)) opening units);
+        targets = list_all-append targets_rise classes rest ∙ and_from (list_all targets_rise classes) (list_all targets_rise rest) graph.targets flats;
+        order = classes_rise classes OPENING entry (lines_from p.units_from us) sound.classes_are graph.order
+            (lines_rise us OPENING p.units_from (let front = laid.low in omega arith));
+      }
+
+pub placed_is_graph : PlacedIsGraph
+placed_is_graph p entry us classes profile sound = placed_graph p profile entry us classes sound

@@ -1,0 +1,291 @@
+-- A code of placed units that are sound, with their lines, meets each rule.
+use Rattle.std.proofs.Common.{◌≡◌, ◌≢◌, ℕ, ◌+◌, ◌*◌, ◌%◌, ◌≤◌, ◌<◌, ◌==◌, inl, inr, Bool, true, false, List, [], ◌∷◌, length, refl, sym, ap, subst, ◌∙◌, Some, None, arith}
+use Rattle.std.specs.Prelude.{Option, nat_le, nat_lt, not, ◌&&◌, ◌||◌, is_some, option_and_then, option_map}
+use Rattle.std.specs.List.{last_or}
+use Rattle.std.proofs.lemmas.Bool.{and_right, and_left, cases_Bool, cases_eq, eq-eqb, le-ltb, lt-leb, ne_eqb, or_from}
+use Rattle.std.proofs.lemmas.Option.{same_Some}
+use Rattle.rv_word.specs.MemoryMap.{CODE_START, Profile}
+use Rattle.rv_word.proofs.Cases.{cases_Option, guarded}
+use Rattle.cfi_graph.specs.declared.line.GraphLine.{GraphLine}
+use Rattle.cfi_graph.specs.declared.line.GraphLine.TheVariants.{Call}
+use Rattle.cfi_graph.specs.declared.line.SiteKind.{SiteKind}
+use Rattle.cfi_graph.specs.declared.line.SiteKind.TheVariants as K
+use Rattle.cfi_unit.specs.declared.unit.Unit as U
+use Rattle.cfi_unit.specs.declared.unit.Unit.TheVariants as V
+use Rattle.cfi_unit.specs.declared.place.Place.{Place}
+use Rattle.cfi_unit.specs.declared.place.Place.TheVariants.{Handler as handler, Opening as opening, Closing as closing, Body as body}
+use Rattle.cfi_graph.specs.Graph.{ClassLine, GraphParts}
+use Rattle.cfi_unit.specs.declared.target_word.TargetWord.{TargetWord}
+use Rattle.cfi_unit.specs.declared.target_word.TargetWord.TheVariants.{First}
+use Rattle.cfi_unit.specs.Prologue.{OPENING}
+use Rattle.cfi_unit.specs.Split.{IsSplit}
+use Rattle.cfi_unit.specs.UnitWords.{word_count}
+use Rattle.cfi_rules.specs.Lines.{class_with, holds_of, if_serves, is_beside, is_word_of, line_at, read_of, targets_for}
+use Rattle.cfi_rules.specs.Placed.{code_from, line_of, lines_from, placed_lines}
+use Rattle.cfi_rules.specs.Rules.{Holds, asks, call_of, edge_of, fails_prologue, gate_label, gate_of, is_astray, is_bad_end, is_borne, is_call_to, is_edge_to, is_label, is_lone_site, is_site_with, is_stop, is_unused, site_of}
+use Rattle.cfi_rules.specs.Sound.{Bears, IsSound, StartsIn, target_of}
+use Rattle.cfi_rules.specs.Split.{entry_of, is_handler, is_start, place_at, unit_at, unit_in, unit_starts, unit_words}
+use Rattle.cfi_rules.specs.declared.asks.Asks.{Asks}
+use Rattle.cfi_rules.specs.declared.reject.Rule.{Rule}
+use Rattle.cfi_rules.specs.declared.reject.Rule.TheVariants as R
+use Rattle.cfi_unit.proofs.Counts.{some_word}
+use Rattle.cfi_rules.proofs.PlacedLines.{class_before, gates_stand, line_in, line_past, no_class, none_lacks}
+use Rattle.cfi_rules.proofs.Places.{not_handler}
+use Rattle.cfi_rules.proofs.PlacedSplit.{reaches_end, start_is, unit_is}
+use Rattle.cfi_rules.proofs.UnitIn.{in_here, in_later, length-code_from, lies}
+
+-- the rules at a unit
+target_unit : (u : U.Unit) (begun : ℕ → Bool) → ((t : ℕ) → target_of u ≡ Some t → begun t ≡ true) →
+    holds_of (edge_of (body u)) (λ t. not (begun t)) || holds_of (call_of (body u)) (λ t. not (begun t)) ≡ false
+target_unit (V.Branch op rs1 rs2 target) begun starts = rw (starts target refl) refl
+target_unit (V.Near op rs1 rs2 target) begun starts = rw (starts target refl) refl
+target_unit (V.Jump target) begun starts = rw (starts target refl) refl
+target_unit (V.Call target) begun starts = rw (starts target refl) refl
+target_unit other begun starts = refl
+
+unlisted_unit : (u : U.Unit) (a : ℕ) →
+    holds_of (edge_of (body u)) (λ t. not (is_edge_to (line_of a u) t)) || holds_of (call_of (body u)) (λ t. not (is_call_to (line_of a u) t)) ≡ false
+unlisted_unit (V.Branch op rs1 rs2 target) a = rw (eq-eqb target target refl) refl
+unlisted_unit (V.Near op rs1 rs2 target) a = rw (eq-eqb target target refl) refl
+unlisted_unit (V.Jump target) a = rw (eq-eqb target target refl) refl
+unlisted_unit (V.Call target) a = rw (eq-eqb target target refl) refl
+unlisted_unit other a = refl
+
+unused_unit : (u : U.Unit) (a : ℕ) → holds_of (line_of a u) (is_unused (Some (body u))) ≡ false
+unused_unit (V.Branch op rs1 rs2 target) a = refl
+unused_unit (V.Near op rs1 rs2 target) a = refl
+unused_unit (V.Jump target) a = refl
+unused_unit (V.Call target) a = refl
+unused_unit (V.Ijump rs1 imm label) a = refl
+unused_unit (V.Icall rs1 imm label) a = refl
+unused_unit other a = refl
+
+site_unit : (u : U.Unit) (a : ℕ) (lines : List GraphLine) → ((asked : Asks) → site_of (body u) ≡ Some asked → is_some (targets_for lines asked.kind asked.which asked.label) ≡ true) →
+    holds_of (site_of (body u)) (λ (s : Asks). not (is_site_with (line_of a u) s && is_some (targets_for lines s.kind s.which s.label))) || holds_of (line_of a u) (is_lone_site (Some (body u))) ≡ false
+site_unit (V.Branch op rs1 rs2 target) a lines known = refl
+site_unit (V.Near op rs1 rs2 target) a lines known = refl
+site_unit (V.Jump target) a lines known = refl
+site_unit (V.Call target) a lines known = refl
+site_unit (V.Ijump rs1 imm label) a lines known = rw (eq-eqb label label refl, known (asks K.Jump First label) refl) refl
+site_unit (V.Icall rs1 imm label) a lines known = rw (eq-eqb label label refl, known (asks K.Call First label) refl) refl
+site_unit other a lines known = refl
+
+astray_unit : (u : U.Unit) (a : ℕ) (lines : List GraphLine) →
+    ((l : ℕ) (class : ClassLine) → u ≡ V.Gate l → class_with lines l ≡ Some class → is_word_of (read_of class.sort) a class.targets ≡ true) →
+    is_astray lines a u ≡ false
+astray_unit (V.Gate label) a lines listed =
+    elim (cases_Option (class_with lines label)) [
+      | inl none ↦ ap (λ o. holds_of o (λ (class : ClassLine). is_beside class a)) none
+      | inr (class, some) ↦ ap (λ o. holds_of o (λ (class : ClassLine). is_beside class a)) some ∙ ap not (listed label class refl some)
+    ]
+astray_unit other a lines listed = refl
+
+-- the unit that ends the words is the last
+last_ends : (us : List U.Unit) (at a : ℕ) (u : U.Unit) → unit_in us at a ≡ Some u → a + 4 * word_count u ≡ at + 4 * length (code_from at us) → last_or None us ≡ Some u
+unfolding unit_in
+last_ends [] at a u e end = absurd (cc)
+last_ends (v ∷ []) at a u e end = (guarded (a == at) (Some v) u e).1
+last_ends (v ∷ w ∷ us) at a u e end =
+    let size = length-code_from v (w ∷ us) at in
+    let next = length-code_from w us (at + 4 * word_count v) in
+    let some = some_word w in
+    elim (cases_eq a at) [
+      | inl here ↦
+          let same : word_count v ≡ word_count u =
+          ap word_count (same_Some v u (sym (in_here v (w ∷ us) at) ∙ ap (unit_in (v ∷ w ∷ us) at) (sym here) ∙ e)) in
+          absurd (omega (arith, size, next, same))
+      | inr other ↦
+          last_ends (w ∷ us) (at + 4 * word_count v) a u (sym (in_later v (w ∷ us) at a other) ∙ e) (omega (arith, size))
+    ]
+
+-- what is known of a code of placed units, beside what the units are
+pub record IsPlaced (p : Profile) (words : List ℕ) (entry : ℕ) (us : List U.Unit) : Type 0 where
+  pub closing_after : OPENING < p.closing
+  pub units_after : p.closing < p.units_from
+  pub round : p.units_from % 4 ≡ 0
+  pub prologue : (a : ℕ) → fails_prologue p words a ≡ false
+  pub call : entry_of p words ≡ Some entry
+  pub split : IsSplit (unit_words p words) p.units_from us
+  pub size : CODE_START + 4 * length words ≡ p.units_from + 4 * length (code_from p.units_from us)
+
+module _ (p : Profile) (words : List ℕ) (entry : ℕ) (us : List U.Unit) (classes : List GraphLine) (code : ℕ) (placed : IsPlaced p words entry us) (sound : IsSound p entry us classes) where
+  abbrev the_lines : List GraphLine
+  the_lines = placed_lines p entry us classes
+
+  abbrev the_graph : GraphParts
+  the_graph = record { code = code; lines = the_lines }
+
+  low : CODE_START ≤ p.units_from
+  low = let closing = placed.closing_after in let units = placed.units_after in omega arith
+
+  start : (a : ℕ) → is_start p words a ≡ is_some (unit_in us p.units_from a)
+  start = start_is p low placed.round words us placed.split
+
+  unit : (a : ℕ) → unit_at p words a ≡ unit_in us p.units_from a
+  unit = unit_is p low placed.round words us placed.split
+
+  -- handlers and the closing are no transfers
+  calm : {A : Type 0} (f : Place → Option A) (a : ℕ) → f handler ≡ None → f closing ≡ None → a ≢ OPENING → unit_in us p.units_from a ≡ None → option_and_then f (place_at p words a) ≡ None
+  unfolding place_at
+  calm f a first last not_opening none =
+      elim (cases_Bool (is_handler a)) [
+        | inl h ↦ rw (h, place_at) first
+        | inr h ↦ elim (cases_Bool (a == p.closing)) [
+          | inl c ↦ rw (h, ne_eqb a OPENING not_opening, c, place_at) last
+          | inr c ↦ rw (h, ne_eqb a OPENING not_opening, c, unit a ∙ none, place_at) refl
+        ]
+      ]
+
+  body_at : (a : ℕ) (u : U.Unit) → unit_in us p.units_from a ≡ Some u → place_at p words a ≡ Some (body u)
+  unfolding place_at
+  body_at a u e =
+      let from = (lies us p.units_from a u e).from in
+      let closing = placed.closing_after in
+      let units = placed.units_after in
+      rw (not_handler a (omega arith), ne_eqb a OPENING (λ e. omega arith), ne_eqb a p.closing (λ e. omega arith), unit a ∙ e) refl
+
+  opening_at : place_at p words OPENING ≡ Some (opening entry)
+  unfolding place_at
+  opening_at = ap (option_map opening) placed.call
+
+  -- the line at an address: the opening's, or a unit's
+  line_there : (a : ℕ) → a ≢ OPENING → line_at the_lines a ≡ option_and_then (line_of a) (unit_in us p.units_from a)
+  unfolding line_at
+  line_there a other =
+      line_past classes (Call OPENING entry ∷ lines_from p.units_from us) a sound.classes_are
+      ∙ rw (ne_eqb OPENING a (λ e. other (sym e))) (line_in us p.units_from a)
+
+  line_opening : line_at the_lines OPENING ≡ Some (Call OPENING entry)
+  unfolding line_at
+  line_opening = line_past classes (Call OPENING entry ∷ lines_from p.units_from us) OPENING sound.classes_are
+
+  class_is : (l : ℕ) → class_with the_lines l ≡ class_with classes l
+  unfolding class_with
+  class_is l = class_before classes (Call OPENING entry ∷ lines_from p.units_from us) l (no_class us p.units_from l)
+
+  targets_are : (kind : SiteKind) (which : TargetWord) (l : ℕ) → targets_for the_lines kind which l ≡ targets_for classes kind which l
+  unfolding targets_for
+  targets_are kind which l = ap (option_and_then (if_serves kind which)) (class_is l)
+
+  -- what stands at an address, and its line
+  data Spot (a : ℕ) : Type 0 where
+    opens : place_at p words a ≡ Some (opening entry) → line_at the_lines a ≡ Some (Call OPENING entry) → Spot a
+    stands : (u : U.Unit) → unit_in us p.units_from a ≡ Some u → place_at p words a ≡ Some (body u) → line_at the_lines a ≡ line_of a u → Spot a
+    quiet : option_and_then edge_of (place_at p words a) ≡ None → option_and_then call_of (place_at p words a) ≡ None →
+        option_and_then site_of (place_at p words a) ≡ None → line_at the_lines a ≡ None → Spot a
+
+  spot : (a : ℕ) → Spot a
+  spot a =
+      elim (cases_Option (unit_in us p.units_from a)) [
+        | inl none ↦ elim (cases_eq a OPENING) [
+          | inl here ↦ subst Spot (sym here) (opens opening_at line_opening)
+          | inr other ↦ quiet (calm edge_of a refl refl other none) (calm call_of a refl refl other none) (calm site_of a refl refl other none)
+              (line_there a other ∙ ap (option_and_then (line_of a)) none)
+        ]
+        | inr (u, e) ↦
+            let from = (lies us p.units_from a u e).from in
+            let closing = placed.closing_after in
+            let units = placed.units_after in
+            stands u e (body_at a u e) (line_there a (λ here. omega arith) ∙ ap (option_and_then (line_of a)) e)
+      ]
+
+  begun : (a : ℕ) → StartsIn p us a → is_start p words a ≡ true
+  begun a some = start a ∙ some
+
+  target_holds : Holds p words the_graph R.Target
+  target_holds a =
+      elim (spot a) [
+        | opens place line ↦ rw (place, begun entry sound.entry_starts) refl
+        | stands u here place line ↦ rw place (target_unit u (is_start p words) (λ t leads. begun t (sound.targets a t u here leads)))
+        | quiet edge call site line ↦ rw (edge, call) refl
+      ]
+
+  unlisted_holds : Holds p words the_graph R.Unlisted
+  unlisted_holds a =
+      elim (spot a) [
+        | opens place line ↦ rw (place, line, eq-eqb entry entry refl) refl
+        | stands u here place line ↦ rw (place, line) (unlisted_unit u a)
+        | quiet edge call site line ↦ rw (edge, call) refl
+      ]
+
+  unused_holds : Holds p words the_graph R.Unused
+  unused_holds a =
+      elim (spot a) [
+        | opens place line ↦ rw (line, place) refl
+        | stands u here place line ↦ rw (line, place) (unused_unit u a)
+        | quiet edge call site line ↦ rw line refl
+      ]
+
+  site_holds : Holds p words the_graph R.Site
+  site_holds a =
+      elim (spot a) [
+        | opens place line ↦ rw (place, line) refl
+        | stands u here place line ↦ rw (place, line)
+            (site_unit u a the_lines (λ asked is. ap is_some (targets_are asked.kind asked.which asked.label) ∙ sound.labels a u asked here is))
+        | quiet edge call site line ↦ rw (site, line) refl
+      ]
+
+  borne : (which : TargetWord) (a label : ℕ) → Bears p us which a label → is_borne (gate_label p words) which a label ≡ true
+  borne First a label bears = ap (λ o. is_label (option_and_then gate_of o) label) (unit a ∙ bears) ∙ eq-eqb label label refl
+
+  gate_holds : Holds p words the_graph R.Gate
+  gate_holds a =
+      gates_stand classes (Call OPENING entry ∷ lines_from p.units_from us) a (gate_label p words)
+      (λ k class is among. borne (read_of class.sort) a class.label (sound.gates k a class is among)) (none_lacks us p.units_from a (gate_label p words))
+
+  astray_holds : Holds p words the_graph R.Astray
+  astray_holds a =
+      elim (cases_Option (unit_in us p.units_from a)) [
+        | inl none ↦ rw (unit a ∙ none) refl
+        | inr (u, e) ↦ rw (unit a ∙ e) (astray_unit u a the_lines
+            (λ l class gate is. sound.astray l a class (e ∙ ap Some gate) (sym (class_is l) ∙ is)))
+      ]
+
+  unit_holds : Holds p words the_graph R.Unit
+  unit_holds a =
+      let all = reaches_end p low placed.round words us placed.split in
+      and_right (a == p.units_from + 4 * length (unit_starts p words)) (nat_lt (length (unit_starts p words)) (length (unit_words p words)))
+      (le-ltb (length (unit_starts p words)) (length (unit_words p words)) (omega (arith, all)))
+
+  -- the code has a unit
+  some_code : 1 ≤ length (code_from p.units_from us)
+  some_code = some_of us sound.ends
+    where
+      some_of : (us : List U.Unit) → last_or None us ≡ Some V.Stop → 1 ≤ length (code_from p.units_from us)
+      some_of [] e = absurd (cc)
+      some_of (u ∷ us) e =
+          let some = some_word u in
+          let size = length-code_from u us p.units_from in
+          omega (arith, size)
+
+  end_unit : (a : ℕ) (u : U.Unit) → unit_in us p.units_from a ≡ Some u → is_bad_end words a u ≡ false
+  end_unit a u e =
+      elim (cases_eq (a + 4 * word_count u) (CODE_START + 4 * length words)) [
+        | inl last ↦
+            let stop : u ≡ V.Stop = same_Some u V.Stop (sym (last_ends us p.units_from a u e (last ∙ placed.size)) ∙ sound.ends) in
+            and_right (a + 4 * word_count u == CODE_START + 4 * length words) (not (is_stop u)) (ap (λ v. not (is_stop v)) stop)
+        | inr other ↦ and_left (a + 4 * word_count u == CODE_START + 4 * length words) (not (is_stop u)) (ne_eqb _ _ other)
+      ]
+
+  end_holds : Holds p words the_graph R.End
+  end_holds a =
+      let some = some_code in
+      let size = placed.size in
+      or_from (holds_of (unit_at p words a) (is_bad_end words a)) ((a == p.units_from) && nat_le (CODE_START + 4 * length words) p.units_from)
+      (elim (cases_Option (unit_in us p.units_from a)) [
+        | inl none ↦ rw (unit a ∙ none) refl
+        | inr (u, e) ↦ rw (unit a ∙ e) (end_unit a u e)
+      ])
+      (and_right (a == p.units_from) (nat_le (CODE_START + 4 * length words) p.units_from)
+      (lt-leb (CODE_START + 4 * length words) p.units_from (omega arith)))
+
+  pub rules_hold : (rule : Rule) → Holds p words the_graph rule
+  rules_hold R.Prologue = placed.prologue
+  rules_hold R.Unit = unit_holds
+  rules_hold R.Target = target_holds
+  rules_hold R.Unlisted = unlisted_holds
+  rules_hold R.Unused = unused_holds
+  rules_hold R.Site = site_holds
+  rules_hold R.Gate = gate_holds
+  rules_hold R.Astray = astray_holds
+  rules_hold R.End = end_holds

@@ -1,0 +1,154 @@
+-- A run along a graph, and safety. The walk of a hart is the list of the pcs of its begun instructions
+-- at which something starts: the opening, the closing, a handler or a unit.
+use Rattle.std.specs.Prelude.{◌≡◌, ◌≢◌, ℕ, ◌<◌, ◌⊎◌, ◌==◌, List, [], ◌∷◌, length, Option, Some, None, if◌then◌else◌}
+use Rattle.std.specs.List.{AllByRecursion}
+use Rattle.rv_word.specs.MemoryMap.{MayRun, Profile, part_of}
+use Rattle.rv_word.specs.Image.{Contents}
+use Rattle.rv_word.specs.Memory.{Memory, loaded}
+use Rattle.rv_instr.specs.Registers.{Registers, get_reg}
+use Rattle.rv_code.specs.Run.{HartStep, IsStepOf, disturbed}
+use Rattle.rv_code.specs.State.{Hart, Harts, Shared, start_hart, start_shared, with_hart}
+use Rattle.rv_code.specs.Step.{step}
+use Rattle.rv_code.specs.declared.turn.Turn.{Turn}
+use Rattle.rv_code.specs.declared.turn.Turn.TheVariants.{Ran, Exit, Break, LoadFault, StoreFault, FetchFault, Illegal}
+use Rattle.cfi_graph.specs.declared.line.GraphLine.{GraphLine}
+use Rattle.cfi_graph.specs.declared.line.SiteKind.TheVariants as K
+use Rattle.cfi_graph.specs.Graph.{GraphParts}
+use Rattle.cfi_unit.specs.declared.unit.Unit.TheVariants as V
+use Rattle.cfi_unit.specs.declared.unit.SystemOp.TheVariants as S
+use Rattle.cfi_unit.specs.declared.place.Place.{Place}
+use Rattle.cfi_unit.specs.declared.place.Place.TheVariants.{Handler as handler, Opening as opening, Closing as closing, Body as body}
+use Rattle.cfi_unit.specs.declared.target_word.TargetWord.TheVariants.{First}
+use Rattle.cfi_unit.specs.Place.{IsWordOf}
+use Rattle.cfi_unit.specs.Prologue.{OPENING}
+use Rattle.cfi_unit.specs.Context.{IsCodeOf}
+use Rattle.cfi_unit.specs.Leads.{destination}
+use Rattle.cfi_unit.specs.Shadow.{slot, MOST_PENDING, Holds}
+use Rattle.cfi_unit.specs.UnitWords.{BAD_TARGET, BAD_RETURN, DEEP}
+use Rattle.cfi_rules.specs.Split.{code_words, place_at}
+use Rattle.cfi_rules.specs.Walk.{InClass, Goes}
+
+-- the newest address of a hart's walk, the sites pending there, and the registers when it was reached
+pub record Walk : Type 0 where
+  pub at : ℕ
+  pub pending : List ℕ
+  pub regs : Registers
+
+-- where the walk goes on to `v` from a computed jump: the handler exactly where the destination is no
+-- target of the class, and otherwise the destination
+abbrev pub JumpChooses : List GraphLine → ℕ → ℕ → ℕ → Type 0
+JumpChooses lines label to v =
+    (InClass lines K.Jump First label to × (v ≡ to)) ⊎ ((¬ InClass lines K.Jump First label to) × (v ≡ BAD_TARGET))
+
+-- and from a computed call: a target's call goes to the handler where there is no room
+abbrev pub ComputedCallChooses : List GraphLine → ℕ → ℕ → ℕ → ℕ → Type 0
+ComputedCallChooses lines label pending to v =
+    (InClass lines K.Call First label to × (((pending < MOST_PENDING) × (v ≡ to)) ⊎ ((pending ≡ MOST_PENDING) × (v ≡ DEEP))))
+    ⊎ ((¬ InClass lines K.Call First label to) × (v ≡ BAD_TARGET))
+
+-- and from a return: the handler exactly where x1 is not the newest site
+abbrev pub ReturnChooses : List ℕ → ℕ → ℕ → Type 0
+ReturnChooses [] x1 v = v ≡ BAD_RETURN
+ReturnChooses (site ∷ pending) x1 v = ((x1 ≡ site) × (v ≡ site)) ⊎ ((x1 ≢ site) × (v ≡ BAD_RETURN))
+
+-- the registers decide where a computed transfer or a return goes
+abbrev pub Chooses : List GraphLine → Place → Walk → ℕ → Type 0
+Chooses lines (body (V.Ijump rs1 imm label)) w v = JumpChooses lines label (destination w.regs rs1 imm) v
+Chooses lines (body (V.Icall rs1 imm label)) w v =
+    ComputedCallChooses lines label (length w.pending) (destination w.regs rs1 imm) v
+Chooses lines (body V.Return) w v = ReturnChooses w.pending (get_reg w.regs 1) v
+Chooses lines other w v = Unit {0}
+
+-- the shadow stack, where a unit or the closing starts: x3 points past the newest slot, and each slot
+-- holds its site
+abbrev pub ShadowStands : ℕ → Place → ℕ → Hart → Memory → List ℕ → Type 0
+ShadowStands part handler at h m pending = Unit {0}
+ShadowStands part (opening entry) at h m pending = Unit {0}
+ShadowStands part closing at h m pending = (h.regs 3 ≡ slot part (length pending)) × Holds part m pending
+ShadowStands part (body unit) at h m pending = (h.regs 3 ≡ slot part (length pending)) × Holds part m pending
+
+-- the walk arrives where something starts: by a step of the graph from the place before, or at the
+-- opening with nothing pending
+abbrev pub Arrives : Profile → List ℕ → List GraphLine → Option Walk → ℕ → List ℕ → Type 0
+Arrives p words lines None v pending = (v ≡ OPENING) × (pending ≡ [])
+Arrives p words lines (Some w) v pending =
+    (place : Place) × (place_at p words w.at ≡ Some place)
+    × Goes p lines place w.at w.pending v pending × Chooses lines place w v
+
+-- before a step at a pc: where something starts there the walk goes on to it, else it stays
+abbrev pub GoesOn : Profile → ℕ → List ℕ → List GraphLine → Option Walk → Option Place → Hart → Memory → Walk → Type 0
+GoesOn p part words lines before None h m w = before ≡ Some w
+GoesOn p part words lines before (Some place) h m w =
+    (w.at ≡ h.pc) × (w.regs ≡ h.regs)
+    × Arrives p words lines before h.pc w.pending
+    × ShadowStands part place h.pc h m w.pending
+
+-- the stops that may come at each place: an exit only at the closing and at an `ecall`, a break only at
+-- a handler and at an `ebreak`, a fault only at a plain instruction, and no other stop
+abbrev pub MayExit : Place → Type 0
+MayExit closing = Unit {0}
+MayExit (body (V.System S.Ecall)) = Unit {0}
+MayExit other = ⊥
+
+abbrev pub MayBreak : Place → Type 0
+MayBreak handler = Unit {0}
+MayBreak (body (V.System S.Ebreak)) = Unit {0}
+MayBreak other = ⊥
+
+abbrev pub MayFault : Place → Type 0
+MayFault (body (V.Plain instr)) = Unit {0}
+MayFault other = ⊥
+
+-- the end of an instruction at `pc`, which the stops name that tell where they came
+abbrev pub MayEnd : Place → ℕ → Turn → Type 0
+MayEnd place pc Ran = Unit {0}
+MayEnd place pc (Exit status) = MayExit place
+MayEnd place pc (Break at) = (at ≡ pc) × MayBreak place
+MayEnd place pc (LoadFault at a) = (at ≡ pc) × MayFault place
+MayEnd place pc (StoreFault at a) = ⊥
+MayEnd place pc (FetchFault at) = ⊥
+MayEnd place pc (Illegal at) = ⊥
+
+-- a begun instruction is a word of what stands at the newest address of the walk, it ends as it may
+-- there, and code is the image's
+abbrev pub Begun : Profile → Contents → List ℕ → Walk → Hart → Memory → Turn → Type 0
+Begun p image words w h m turn =
+    (place : Place) × (place_at p words w.at ≡ Some place) × IsWordOf p place w.at h.pc
+    × MayEnd place h.pc turn × IsCodeOf (loaded image) m
+
+-- what is owed after an instruction that ran, and what after one that stopped
+abbrev pub OnRan : Turn → Type 0 → Type 0 → Type 0
+OnRan Ran going stopped = going
+OnRan other going stopped = stopped
+
+-- the walks of all harts so far: none before a hart's first step
+abbrev pub Walks : Type 0
+Walks = ℕ → Option Walk
+
+abbrev pub with_walk : Walks → ℕ → Walk → Walks
+with_walk walks k w = λ j. if j == k then Some w else walks j
+
+-- the run from a state goes along the graph, a step at a time, each hart by its own walk and with its
+-- own part of the shadow stack; at its end code is the image's
+abbrev pub RunsAlong : Profile → Contents → List ℕ → List GraphLine → Walks → Harts → Shared → List HartStep → Type 0
+RunsAlong p image words lines walks harts s [] = IsCodeOf (loaded image) s.memory
+RunsAlong p image words lines walks harts s (t ∷ rest) =
+    let h = harts t.hart in
+    let now = disturbed s t.changes in
+    let after = step p h now in
+    (w : Walk)
+    × GoesOn p (part_of t.hart) words lines (walks t.hart) (place_at p words h.pc) h now.memory w
+    × Begun p image words w h now.memory after.turn
+    × OnRan after.turn
+    (RunsAlong p image words lines (with_walk walks t.hart w) (with_hart harts t.hart after.hart) after.shared rest)
+    (IsCodeOf (loaded image) after.shared.memory)
+
+abbrev pub AreStepsOf : ℕ → List HartStep → Type 0
+AreStepsOf harts steps = AllByRecursion (IsStepOf harts) steps
+
+-- safe: for every input, every count of harts and every list of their steps, between which data
+-- change, the run goes along the graph
+abbrev pub IsSafe : Profile → Contents → GraphParts → Type 0
+IsSafe p image graph =
+    (input : List ℕ) (harts : ℕ) → MayRun p harts → (steps : List HartStep) → AreStepsOf harts steps
+    → RunsAlong p image (code_words image.code) graph.lines (λ k. None) start_hart (start_shared image input) steps

@@ -1,0 +1,51 @@
+-- What holds of well-formed pairs and of runs along a graph.
+use Rattle.std.specs.Prelude.{◌≡◌, ℕ, ◌<◌, ◌^◌, List, length, slice_index}
+use Rattle.std.specs.List.{AllByRecursion}
+use Rattle.rv_word.specs.Image.{Contents, IsImageSize}
+use Rattle.rv_word.specs.MemoryMap.{IsProfile, MayRun, Profile}
+use Rattle.rv_code.specs.Run.{HartStep}
+use Rattle.rv_code.specs.State.{start_hart, start_shared}
+use Rattle.cfi_graph.specs.Graph.{GraphParts}
+use Rattle.cfi_unit.specs.declared.unit.Unit as U
+use Rattle.cfi_unit.specs.Split.{IsSplit}
+use Rattle.cfi_rules.specs.Along.{AreStepsOf, IsSafe}
+use Rattle.cfi_rules.specs.Rules.{IsWellFormed}
+use Rattle.cfi_rules.specs.Split.{code_words, unit_words, unit_at, unit_in}
+use Rattle.cfi_rules.specs.Trails.{trail_of, IsInPlace}
+use Rattle.cfi_rules.specs.Walks.{walk_of, IsGraphWalk}
+
+-- the contents of a file: bytes, of an image's lengths
+pub record AreBytes (image : Contents) : Type 0 where
+  pub code : (k : ℕ) → slice_index image.code k < 2 ^ 8
+  pub init : (k : ℕ) → slice_index image.init k < 2 ^ 8
+  pub size : IsImageSize (length image.code) (length image.init)
+
+-- what meets the rules is safe
+abbrev pub WellFormedIsSafe : Type 0
+WellFormedIsSafe =
+    (p : Profile) (image : Contents) (graph : GraphParts) → IsProfile p → AreBytes image → IsWellFormed p image graph → IsSafe p image graph
+
+-- from where the profile says on, the code of what meets the rules is split into units, and a unit
+-- starts at an address exactly where one of the split does
+abbrev pub CodeIsSplit : Type 0
+CodeIsSplit =
+    (p : Profile) (image : Contents) (graph : GraphParts) → IsProfile p → AreBytes image → IsWellFormed p image graph →
+    (units : List U.Unit)
+    × IsSplit (unit_words p (code_words image.code)) p.units_from units
+    × ((a : ℕ) → unit_at p (code_words image.code) a ≡ unit_in units p.units_from a)
+
+-- the walk of each hart in each run of a safe pair is a list of steps of the graph walk
+abbrev pub SafeWalksGraph : Type 0
+SafeWalksGraph =
+    (p : Profile) (image : Contents) (graph : GraphParts) (input : List ℕ) (harts : ℕ) (steps : List HartStep) (k : ℕ) →
+    IsSafe p image graph → MayRun p harts → AreStepsOf harts steps →
+    IsGraphWalk p (code_words image.code) graph.lines
+    (walk_of p (code_words image.code) k start_hart (start_shared image input) steps)
+
+-- each begun instruction of each hart in each run of a safe pair is in its place
+abbrev pub SafeStaysInPlace : Type 0
+SafeStaysInPlace =
+    (p : Profile) (image : Contents) (graph : GraphParts) (input : List ℕ) (harts : ℕ) (steps : List HartStep) (k : ℕ) →
+    IsSafe p image graph → MayRun p harts → AreStepsOf harts steps →
+    AllByRecursion (IsInPlace p (code_words image.code))
+    (trail_of p (code_words image.code) k 0 start_hart (start_shared image input) steps)

@@ -1,0 +1,13 @@
+pub mod Split
+pub mod Lines
+pub mod Rules
+pub mod Placed
+pub mod Sound
+pub mod Walk
+pub mod Along
+pub mod Walks
+pub mod Trails
+pub mod Unsafe
+pub mod Laws
+pub mod PlacedLaws
+pub mod RejectText

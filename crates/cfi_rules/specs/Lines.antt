@@ -1,0 +1,85 @@
+-- What a graph says of an address and of a label.
+use Rattle.std.specs.Prelude.{ℕ, ◌==◌, ◌||◌, not, Bool, true, false, List, [], ◌∷◌, Option, Some, None, option_map, option_and_then, find, if◌then◌else◌}
+use Rattle.cfi_graph.specs.declared.line.GraphLine.{GraphLine}
+use Rattle.cfi_graph.specs.declared.line.GraphLine.TheVariants.{Class, Site, Edge, Call}
+use Rattle.cfi_graph.specs.declared.line.SiteKind.{SiteKind}
+use Rattle.cfi_graph.specs.declared.line.Sort.{Sort}
+use Rattle.cfi_graph.specs.declared.line.Sort.TheVariants.{Both}
+use Rattle.cfi_graph.specs.declared.line.Key.{Key}
+use Rattle.cfi_graph.specs.declared.line.Key.TheVariants.{Label, Address}
+use Rattle.cfi_graph.specs.Graph.{ClassLine, class_in, key_of}
+use Rattle.cfi_unit.specs.declared.target_word.TargetWord.{TargetWord}
+use Rattle.cfi_unit.specs.declared.target_word.TargetWord.TheVariants.{First}
+
+-- a test of a value that is there
+abbrev pub holds_of : {A : Type 0} → Option A → (A → Bool) → Bool
+holds_of None test = false
+holds_of (Some x) test = test x
+
+-- a line stands at an address: its first one, for all lines but a class's
+abbrev pub stands_at : ℕ → GraphLine → Bool
+stands_at a (Class label targets) = false
+stands_at a (Site address kind label) = address == a
+stands_at a (Edge from to) = from == a
+stands_at a (Call from to) = from == a
+
+-- the line at an address
+unfoldable pub line_at : List GraphLine → ℕ → Option GraphLine
+line_at [] a = None
+line_at (line ∷ lines) a = if stands_at a line then Some line else line_at lines a
+
+-- the class with a label: this one, or one of later lines
+abbrev pub or_class : ℕ → Option ClassLine → Option ClassLine → Option ClassLine
+or_class l None rest = rest
+or_class l (Some class) rest = if class.label == l then Some class else rest
+
+unfoldable pub class_with : List GraphLine → ℕ → Option ClassLine
+class_with [] l = None
+class_with (line ∷ lines) l = or_class l (class_in line) (class_with lines l)
+
+-- its targets
+unfoldable pub class_of : List GraphLine → ℕ → Option (List ℕ)
+class_of lines l = option_map (λ (class : ClassLine). class.targets) (class_with lines l)
+
+-- an address is among some addresses
+abbrev pub is_among : ℕ → List ℕ → Bool
+is_among a [] = false
+is_among a (x ∷ xs) = (x == a) || is_among a xs
+
+-- which word of each of its targets bears a class's label
+abbrev pub read_of : Sort → TargetWord
+read_of Both = First
+
+-- a class serves computed transfers of this kind whose checks read this word
+abbrev pub serves : Sort → SiteKind → TargetWord → Bool
+serves Both kind First = true
+
+abbrev pub if_serves : SiteKind → TargetWord → ClassLine → Option (List ℕ)
+if_serves kind which class = if serves class.sort kind which then Some class.targets else None
+
+-- the targets of the class with a label, for a computed transfer that it serves
+unfoldable pub targets_for : List GraphLine → SiteKind → TargetWord → ℕ → Option (List ℕ)
+targets_for lines kind which l = option_and_then (if_serves kind which) (class_with lines l)
+
+-- at an address stands this word of one of some targets
+abbrev pub is_word_of : TargetWord → ℕ → List ℕ → Bool
+is_word_of First a targets = is_among a targets
+
+-- at an address stands no word of a target that is to bear the class's label
+abbrev pub is_beside : ClassLine → ℕ → Bool
+is_beside class a = not (is_word_of (read_of class.sort) a class.targets)
+
+-- two keys are the same
+abbrev pub same_key : Key → Key → Bool
+same_key (Label k) (Label l) = k == l
+same_key (Label k) (Address a) = false
+same_key (Address a) (Label l) = false
+same_key (Address a) (Address b) = a == b
+
+-- the line with a key
+unfoldable pub line_with : List GraphLine → Key → Option GraphLine
+line_with lines key = find (λ line. same_key (key_of line) key) lines
+
+-- a label is a class's, and at an address stands no word of its targets that is to bear it
+abbrev pub is_outside : List GraphLine → ℕ → ℕ → Bool
+is_outside lines label a = holds_of (class_with lines label) (λ class. is_beside class a)

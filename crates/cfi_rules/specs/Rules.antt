@@ -1,0 +1,225 @@
+-- The ten rules of a well-formed pair of an image and a graph, and the first that fails. Each rule
+-- but Length is a test of an address: whether the rule fails there.
+use Rattle.std.specs.Prelude.{◌≡◌, ◌≢◌, ℕ, ◌+◌, ◌-◌, ◌*◌, ◌/◌, ◌%◌, ◌<◌, ◌==◌, nat_lt, nat_le, ◌&&◌, ◌||◌, not, Bool, true, false, List, length, map, slice_get, slice_index, Option, Some, None, is_some, option_and_then, if◌then◌else◌}
+use Rattle.std.specs.List.{list_any}
+use Rattle.rv_word.specs.MemoryMap.{CODE_START, Profile, lies_within}
+use Rattle.rv_word.specs.Image.{Contents}
+use Rattle.rv_instr.specs.declared.instr.Instr.{Instr}
+use Rattle.rv_instr.specs.declared.instr.Instr.TheVariants.{Jal}
+use Rattle.rv_code.specs.Decode.{decoded}
+use Rattle.rv_code.specs.Encode.{code_of}
+use Rattle.cfi_graph.specs.declared.line.GraphLine.{GraphLine}
+use Rattle.cfi_graph.specs.declared.line.GraphLine.TheVariants.{Class, Site, Edge, Call}
+use Rattle.cfi_graph.specs.declared.line.SiteKind.{SiteKind}
+use Rattle.cfi_graph.specs.declared.line.SiteKind.TheVariants as K
+use Rattle.cfi_graph.specs.Graph.{GraphParts, class_in}
+use Rattle.cfi_unit.specs.declared.unit.Unit as U
+use Rattle.cfi_unit.specs.declared.unit.Unit.TheVariants as V
+use Rattle.cfi_unit.specs.declared.place.Place.{Place}
+use Rattle.cfi_unit.specs.declared.place.Place.TheVariants.{Opening as opening, Body as body}
+use Rattle.cfi_unit.specs.declared.target_word.TargetWord.{TargetWord}
+use Rattle.cfi_unit.specs.declared.target_word.TargetWord.TheVariants.{First}
+use Rattle.cfi_unit.specs.Prologue.{prologue_instrs}
+use Rattle.cfi_unit.specs.UnitWords.{after_unit}
+use Rattle.cfi_rules.specs.Lines.{holds_of, line_at, class_with, targets_for, is_among, is_beside, read_of}
+use Rattle.cfi_rules.specs.Split.{code_words, unit_words, unit_starts, is_start, unit_at, place_at}
+use Rattle.cfi_rules.specs.declared.asks.Asks.{Asks}
+use Rattle.cfi_rules.specs.declared.reject.Reject.{Reject}
+use Rattle.cfi_rules.specs.declared.reject.Reject.TheVariants.{Length, At}
+use Rattle.cfi_rules.specs.declared.reject.Rule.{Rule}
+use Rattle.cfi_rules.specs.declared.reject.Rule.TheVariants as R
+
+-- where a branch or a jump leads
+abbrev pub edge_of : Place → Option ℕ
+edge_of (body (V.Branch op rs1 rs2 target)) = Some target
+edge_of (body (V.Near op rs1 rs2 target)) = Some target
+edge_of (body (V.Jump target)) = Some target
+edge_of other = None
+
+-- where the opening or a call leads
+abbrev pub call_of : Place → Option ℕ
+call_of (opening entry) = Some entry
+call_of (body (V.Call target)) = Some target
+call_of other = None
+
+-- what a computed transfer asks for: its kind, which word of its destination its check reads, the label
+abbrev pub asks : SiteKind → TargetWord → ℕ → Asks
+asks kind which label = record { kind = kind; which = which; label = label }
+
+abbrev pub site_of : Place → Option Asks
+site_of (body (V.Ijump rs1 imm label)) = Some (asks K.Jump First label)
+site_of (body (V.Icall rs1 imm label)) = Some (asks K.Call First label)
+site_of other = None
+
+abbrev pub same_kind : SiteKind → SiteKind → Bool
+same_kind K.Call K.Call = true
+same_kind K.Jump K.Jump = true
+same_kind other another = false
+
+-- the line is an edge, a call or a site, to this target or with the kind and the label that is asked for
+abbrev pub is_edge_to : Option GraphLine → ℕ → Bool
+is_edge_to (Some (Edge from to)) target = to == target
+is_edge_to other target = false
+
+abbrev pub is_call_to : Option GraphLine → ℕ → Bool
+is_call_to (Some (Call from to)) target = to == target
+is_call_to other target = false
+
+abbrev pub is_site_with : Option GraphLine → Asks → Bool
+is_site_with (Some (Site address kind label)) asked = same_kind kind asked.kind && (label == asked.label)
+is_site_with other asked = false
+
+-- the label of a gate
+abbrev pub gate_of : U.Unit → Option ℕ
+gate_of (V.Gate label) = Some label
+gate_of other = None
+
+abbrev pub is_label : Option ℕ → ℕ → Bool
+is_label None label = false
+is_label (Some l) label = l == label
+
+abbrev pub is_stop : U.Unit → Bool
+is_stop V.Stop = true
+is_stop other = false
+
+-- the instruction is `jal x1`
+abbrev pub is_link : Option Instr → Bool
+is_link (Some (Jal rd imm)) = rd == 1
+is_link other = false
+
+-- a word is the one that stands at an index of some words, but for one index, where any `jal x1` may be
+abbrev pub fits_table : List ℕ → ℕ → ℕ → Option ℕ → Bool
+fits_table table call k None = false
+fits_table table call k (Some word) = if k == call then is_link (decoded word) else word == slice_index table k
+
+-- the prologue's words; the opening's call may be any `jal x1`
+abbrev pub prologue_words : Profile → List ℕ
+prologue_words p = map code_of (prologue_instrs p 0)
+
+abbrev pub prologue_word_fits : Profile → ℕ → Option ℕ → Bool
+prologue_word_fits p k word = fits_table (prologue_words p) ((p.opening_call - CODE_START) / 4) k word
+
+-- Prologue: a word of the prologue's place is missing or is not the prologue's
+abbrev pub fails_prologue : Profile → List ℕ → ℕ → Bool
+fails_prologue p words a =
+    lies_within CODE_START (p.units_from - CODE_START) a 4 && (a % 4 == 0)
+    && not (prologue_word_fits p ((a - CODE_START) / 4) (slice_get words ((a - CODE_START) / 4)))
+
+-- Unit: the split ends here, before the code does
+abbrev pub fails_unit : Profile → List ℕ → ℕ → Bool
+fails_unit p words a =
+    (a == p.units_from + 4 * length (unit_starts p words))
+    && nat_lt (length (unit_starts p words)) (length (unit_words p words))
+
+-- Target: a direct transfer leads to no unit's start
+abbrev pub fails_target : Profile → List ℕ → ℕ → Bool
+fails_target p words a =
+    let place = place_at p words a in
+    holds_of (option_and_then edge_of place) (λ target. not (is_start p words target))
+    || holds_of (option_and_then call_of place) (λ target. not (is_start p words target))
+
+-- Unlisted: a direct transfer has no line with its start and target
+abbrev pub fails_unlisted : Profile → List ℕ → List GraphLine → ℕ → Bool
+fails_unlisted p words lines a =
+    let place = place_at p words a in
+    holds_of (option_and_then edge_of place) (λ target. not (is_edge_to (line_at lines a) target))
+    || holds_of (option_and_then call_of place) (λ target. not (is_call_to (line_at lines a) target))
+
+-- Unused: an edge or call line stands where no such transfer does
+abbrev pub is_unused : Option Place → GraphLine → Bool
+is_unused place (Edge from to) = not (is_some (option_and_then edge_of place))
+is_unused place (Call from to) = not (is_some (option_and_then call_of place))
+is_unused place (Site address kind label) = false
+is_unused place (Class label targets) = false
+
+abbrev pub fails_unused : Profile → List ℕ → List GraphLine → ℕ → Bool
+fails_unused p words lines a = holds_of (line_at lines a) (is_unused (place_at p words a))
+
+-- Site: a computed transfer has no site line of its kind and label, or no class with its label serves
+-- it; or a site line stands where no computed transfer does
+abbrev pub is_lone_site : Option Place → GraphLine → Bool
+is_lone_site place (Site address kind label) = not (is_some (option_and_then site_of place))
+is_lone_site place (Edge from to) = false
+is_lone_site place (Call from to) = false
+is_lone_site place (Class label targets) = false
+
+abbrev pub fails_site : Profile → List ℕ → List GraphLine → ℕ → Bool
+fails_site p words lines a =
+    let place = place_at p words a in
+    holds_of (option_and_then site_of place) (λ asked. not (is_site_with (line_at lines a) asked && is_some (targets_for lines asked.kind asked.which asked.label)))
+    || holds_of (line_at lines a) (is_lone_site place)
+
+-- Gate: a class has this target, and the target's word that is to bear the class's label is no gate of
+-- this label. `gate` tells the label of the gate at an address
+abbrev pub gate_label : Profile → List ℕ → ℕ → Option ℕ
+gate_label p words a = option_and_then gate_of (unit_at p words a)
+
+abbrev pub is_borne : (ℕ → Option ℕ) → TargetWord → ℕ → ℕ → Bool
+is_borne gate First a label = is_label (gate a) label
+
+abbrev pub lacks_gate : (ℕ → Option ℕ) → ℕ → GraphLine → Bool
+lacks_gate gate a line =
+    holds_of (class_in line) (λ class. is_among a class.targets && not (is_borne gate (read_of class.sort) a class.label))
+
+abbrev pub fails_gate : Profile → List ℕ → List GraphLine → ℕ → Bool
+fails_gate p words lines a = list_any (lacks_gate (gate_label p words) a) lines
+
+-- Astray: a gate bears a class's label and is not such a word of one of its targets
+abbrev pub is_astray : List GraphLine → ℕ → U.Unit → Bool
+is_astray lines a (V.Gate label) = holds_of (class_with lines label) (λ class. is_beside class a)
+is_astray lines a other = false
+
+abbrev pub fails_astray : Profile → List ℕ → List GraphLine → ℕ → Bool
+fails_astray p words lines a = holds_of (unit_at p words a) (is_astray lines a)
+
+-- End: the unit that ends the code is not a stop, or there is no unit
+abbrev pub is_bad_end : List ℕ → ℕ → U.Unit → Bool
+is_bad_end words a unit = (after_unit unit a == CODE_START + 4 * length words) && not (is_stop unit)
+
+abbrev pub fails_end : Profile → List ℕ → ℕ → Bool
+fails_end p words a =
+    holds_of (unit_at p words a) (is_bad_end words a)
+    || ((a == p.units_from) && nat_le (CODE_START + 4 * length words) p.units_from)
+
+abbrev pub fails : Rule → Profile → List ℕ → GraphParts → ℕ → Bool
+fails R.Prologue p words graph a = fails_prologue p words a
+fails R.Unit p words graph a = fails_unit p words a
+fails R.Target p words graph a = fails_target p words a
+fails R.Unlisted p words graph a = fails_unlisted p words graph.lines a
+fails R.Unused p words graph a = fails_unused p words graph.lines a
+fails R.Site p words graph a = fails_site p words graph.lines a
+fails R.Gate p words graph a = fails_gate p words graph.lines a
+fails R.Astray p words graph a = fails_astray p words graph.lines a
+fails R.End p words graph a = fails_end p words a
+
+-- the order in which the rules are asked
+abbrev pub order : Rule → ℕ
+order R.Prologue = 0
+order R.Unit = 1
+order R.Target = 2
+order R.Unlisted = 3
+order R.Unused = 4
+order R.Site = 5
+order R.Gate = 6
+order R.Astray = 7
+order R.End = 8
+
+-- a rule fails nowhere
+abbrev pub Holds : Profile → List ℕ → GraphParts → Rule → Type 0
+Holds p words graph rule = (a : ℕ) → fails rule p words graph a ≡ false
+
+-- this rule is the first that fails, and this is the least address at which it does
+pub record IsFirst (p : Profile) (words : List ℕ) (graph : GraphParts) (rule : Rule) (a : ℕ) : Type 0 where
+  pub here : fails rule p words graph a ≡ true
+  pub rules_before : (earlier : Rule) → order earlier < order rule → Holds p words graph earlier
+  pub addresses_before : (b : ℕ) → b < a → fails rule p words graph b ≡ false
+
+-- no rule fails
+pub record IsWellFormed (p : Profile) (image : Contents) (graph : GraphParts) : Type 0 where
+  pub same_length : graph.code ≡ length image.code
+  pub rules : (rule : Rule) → Holds p (code_words image.code) graph rule
+
+-- why a pair is rejected
+abbrev pub IsRejected : Profile → Contents → GraphParts → Reject → Type 0
+IsRejected p image graph (Length code given) = (code ≡ length image.code) × (given ≡ graph.code) × (code ≢ given)
+IsRejected p image graph (At rule a) = (graph.code ≡ length image.code) × IsFirst p (code_words image.code) graph rule a

@@ -1,0 +1,14 @@
+use cfi_graph::SiteKind;
+use cfi_unit::TargetWord;
+
+/// What a computed transfer asks for: a class with a label that serves transfers of its kind whose
+/// checks read this word of their destinations.
+#[derive(Clone, Copy)]
+pub struct Asks {
+    /// The transfer's kind.
+    pub kind: SiteKind,
+    /// Which word of its destination its check reads.
+    pub which: TargetWord,
+    /// The label that this word must bear.
+    pub label: u32,
+}

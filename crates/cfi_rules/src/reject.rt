@@ -1,0 +1,82 @@
+ghost use Rattle.std.specs.Prelude.{◌≡◌};
+ghost use Rattle.cfi_rules.specs.RejectText.{rule_text};
+
+use std::fmt;
+use text_lines::Address;
+
+/// The rules that have an address, in the order in which they are asked.
+#[derive(Clone, Copy, Debug)]
+pub enum Rule {
+    /// The code does not begin with the prologue.
+    Prologue,
+    /// No unit fits at a place where one must begin.
+    Unit,
+    /// A direct transfer goes to no unit's start.
+    Target,
+    /// A direct transfer has no line in the graph.
+    Unlisted,
+    /// An edge or call line stands where no such transfer does.
+    Unused,
+    /// A computed transfer and the graph's site lines do not agree.
+    Site,
+    /// A class's target is no gate of the class.
+    Gate,
+    /// A gate of a class is not among the class's targets.
+    Astray,
+    /// The last unit is not a stop.
+    End,
+}
+
+/// The name of a rule.
+fn rule_name(rule: Rule) -> &'static str
+    ensures { result.now ≡ rule_text rule }
+{
+    match rule {
+        Rule::Prologue => "Prologue",
+        Rule::Unit => "Unit",
+        Rule::Target => "Target",
+        Rule::Unlisted => "Unlisted",
+        Rule::Unused => "Unused",
+        Rule::Site => "Site",
+        Rule::Gate => "Gate",
+        Rule::Astray => "Astray",
+        Rule::End => "End",
+    }
+}
+
+impl fmt::Display for Rule {
+    ghost use Rattle.std.specs.Prelude.{Some};
+    ghost use Rattle.cfi_rules.specs.RejectText.{rule_text};
+
+    ghost output = { λ rule. Some (rule_text rule) };
+
+    fn fmt<W: fmt::Write>(&self, f: &mut fmt::Formatter<W>) -> fmt::Result {
+        f.write_str(rule_name(*self))
+    }
+}
+
+/// Why an image and a graph are rejected.
+#[derive(Clone, Copy, Debug)]
+pub enum Reject {
+    /// The length of the code and the length that the graph gives, in bytes.
+    Length(u32, u32),
+    /// The first rule that fails, and the least address at which it does.
+    At(Rule, u64),
+}
+
+impl fmt::Display for Reject {
+    ghost use Rattle.std.specs.Prelude.{Some};
+    ghost use Rattle.cfi_rules.specs.RejectText.{reject_text};
+
+    ghost output = { λ reject. Some (reject_text reject) };
+
+    fn fmt<W: fmt::Write>(&self, f: &mut fmt::Formatter<W>) -> fmt::Result {
+        match *self {
+            Reject::Length(code, graph) => write!(f, "Length {code} {graph}"),
+            Reject::At(rule, address) => {
+                let address = Address(address);
+                write!(f, "{rule} {address}")
+            }
+        }
+    }
+}

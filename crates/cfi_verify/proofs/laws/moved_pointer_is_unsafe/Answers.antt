@@ -1,5 +1,0 @@
-use Rattle.cfi_verify.proofs.Unsafe.{moved_pointer_unsafe}
-use Rattle.cfi_verify.proofs.laws.moved_pointer_is_unsafe.Goals as goal
-
-pub returns : goal.returns
-returns c = moved_pointer_unsafe

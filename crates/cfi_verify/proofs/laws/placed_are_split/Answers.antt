@@ -1,5 +1,0 @@
-use Rattle.cfi_verify.proofs.PlacedSplit.{placed_split}
-use Rattle.cfi_verify.proofs.laws.placed_are_split.Goals as goal
-
-pub returns : goal.returns
-returns c = placed_split

@@ -1,5 +1,0 @@
-use Rattle.cfi_verify.proofs.PlacedCode.{placed_entry}
-use Rattle.cfi_verify.proofs.laws.placed_entry.Goals as goal
-
-pub returns : goal.returns
-returns c = placed_entry

@@ -1,5 +1,0 @@
-use Rattle.cfi_verify.proofs.PlacedGraph.{placed_is_graph}
-use Rattle.cfi_verify.proofs.laws.placed_is_graph.Goals as goal
-
-pub returns : goal.returns
-returns c = placed_is_graph

@@ -1,5 +1,0 @@
-use Rattle.cfi_verify.proofs.PlacedCode.{placed_units}
-use Rattle.cfi_verify.proofs.laws.placed_units.Goals as goal
-
-pub returns : goal.returns
-returns c = placed_units

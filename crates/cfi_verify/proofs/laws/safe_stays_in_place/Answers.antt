@@ -1,5 +1,0 @@
-use Rattle.cfi_verify.proofs.Trails.{safe_stays}
-use Rattle.cfi_verify.proofs.laws.safe_stays_in_place.Goals as goal
-
-pub returns : goal.returns
-returns c = safe_stays

@@ -1,5 +1,0 @@
-use Rattle.cfi_verify.proofs.Walks.{safe_walks}
-use Rattle.cfi_verify.proofs.laws.safe_walks_graph.Goals as goal
-
-pub returns : goal.returns
-returns c = safe_walks

@@ -1,5 +1,0 @@
-use Rattle.cfi_verify.proofs.PlacedCode.{split_units}
-use Rattle.cfi_verify.proofs.laws.split_units.Goals as goal
-
-pub returns : goal.returns
-returns c = split_units

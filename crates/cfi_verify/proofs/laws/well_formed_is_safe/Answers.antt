@@ -1,5 +1,0 @@
-use Rattle.cfi_verify.proofs.Safety.{well_formed_is_safe}
-use Rattle.cfi_verify.proofs.laws.well_formed_is_safe.Goals as goal
-
-pub returns : goal.returns
-returns c = well_formed_is_safe
