@@ -1,45 +1,49 @@
 -- A run that is under way: what is left of it leads to what the whole leads to.
-use Rattle.std.proofs.Common.{◌≡◌, ℕ, suc, ◌+◌, ◌-◌, true, false, List, [], ◌∷◌, ◌++◌, length, map, Option, Some, None, refl, sym, ◌∙◌, ap, subst, arith, append_assoc, append-nil, ◌≤◌}
-use Rattle.std.proofs.lemmas.List.{length-append}
+use Rattle.std.proofs.Common.{◌≡◌, ◌==◌, ℕ, suc, ◌+◌, ◌-◌, Bool, true, false, List, [], ◌∷◌, ◌++◌, length, map, Option, Some, None, refl, sym, ◌∙◌, ap, subst, arith, append_assoc, append-nil, eq-eqb}
+use Rattle.std.specs.Prelude.{slice_get}
 use Rattle.std.specs.List.{AllByRecursion}
+use Rattle.std.proofs.lemmas.List.{length-append}
 use Rattle.rv_word.specs.Image.{Contents}
 use Rattle.rv_word.specs.MemoryMap.{Profile}
-use Rattle.rv_word.proofs.Versions.{LaidOut}
-use Rattle.rv_code.specs.Run.{ByteChange, IsDataChange, disturbed_step, if_ran, next_or_stop, run, run_alone}
-use Rattle.rv_code.specs.State.{After, Hart, Shared, start_hart, start_shared}
-use Rattle.rv_code.proofs.Alone.{alone_next}
+use Rattle.rv_code.specs.Run.{HartStep, IsStepOf, RunAfter, if_ran, next_or_stop, run, stepped}
+use Rattle.rv_code.specs.State.{Harts, Shared}
 use Rattle.rv_code.specs.declared.turn.Turn.{Turn}
 use Rattle.rv_code.specs.declared.turn.Turn.TheVariants.{Ran, Exit, Break, LoadFault, StoreFault, FetchFault, Illegal}
+use Rattle.rv_machine.specs.Harts.{harts_in, harts_share, run_after}
 use Rattle.cfi_unit.specs.declared.place.Place.{Place}
-use Rattle.cfi_verify.specs.Along.{IsSafe, MayEnd}
-use Rattle.cfi_graph.specs.Graph.{GraphParts}
-use Rattle.cfi_verify.specs.Split.{code_words, place_at}
-use Rattle.cfi_verify.specs.Trails.{Begin, IsInPlace, newest_of, trail_alone}
-use Rattle.cfi_verify.specs.Walks.{if_starts, walk_alone, walk_of}
-use Rattle.cfi_verify.proofs.OneHart.{safe_stays_alone, trail_next, walk_next}
-use Rattle.cfi_step.specs.Plan.{Plan, changes_of, numbered, planned}
+use Rattle.cfi_rules.specs.Along.{AreStepsOf, MayEnd}
+use Rattle.cfi_rules.specs.Split.{code_words, place_at}
+use Rattle.cfi_rules.specs.Trails.{Begin, IsInPlace, if_own_begin, newest_of, trail_of}
+use Rattle.cfi_rules.specs.Walks.{if_own, if_starts, walk_of}
+use Rattle.cfi_step.specs.Plan.{Plan, Planned, harts_of, numbered, planned, step_of, steps_of}
 use Rattle.cfi_step.specs.Report.{end_of, break_at}
-use Rattle.cfi_step.specs.Running.{is_stop, AreDataChanges, IsBegun, IsOver, StaysFrom}
+use Rattle.cfi_step.specs.Running.{is_stop, AreNoted, IsOver, StaysFrom}
+use Rattle.cfi_step.specs.Taken.{AreTurnsOf}
 use Rattle.cfi_step.specs.Trail.{IsTrailOf, TrailParts}
-use Rattle.rv_machine.specs.Parts.{after_step, hart_in, shared_in}
-use Rattle.cfi_step.specs.declared.running.Running.{Running}
 use Rattle.cfi_step.specs.declared.report.RunEnd.{RunEnd}
 use Rattle.cfi_step.specs.declared.report.RunEnd.TheVariants as ends
+use Rattle.cfi_step.specs.declared.running.Running.{Running}
+use Rattle.cfi_step.specs.declared.turns.TakenTurns.{TakenTurns}
 
-pub record Continues (p : Profile) (image : Contents) (h0 : Hart) (s0 : Shared) (whole : List (List (ℕ × ℕ))) (k : ℕ) (h : Hart) (s : Shared) (rest : List (List (ℕ × ℕ))) (made : List (ℕ × (ℕ × ℕ))) (t : TrailParts) : Type 0 where
+pub record Continues (p : Profile) (image : Contents) (count : ℕ) (harts0 : Harts) (s0 : Shared) (whole : List Planned) (k : ℕ) (harts : Harts) (s : Shared) (rest : List Planned) (made : List (ℕ × (ℕ × ℕ))) (taken : TakenTurns) (trails : List TrailParts) : Type 0 where
   pub steps : length whole ≡ k + length rest
-  pub final : run_alone p h0 s0 (map changes_of whole) ≡ run_alone p h s (map changes_of rest)
+  pub final : run p harts0 s0 (steps_of whole) ≡ run p harts s (steps_of rest)
   pub changes : numbered 0 whole ≡ made ++ numbered k rest
-  pub walk : (w : List ℕ) × IsTrailOf w t × (walk_alone p (code_words image.code) h0 s0 (map changes_of whole) ≡ w ++ walk_alone p (code_words image.code) h s (map changes_of rest))
-  pub allowed : AreDataChanges (map changes_of rest) → AreDataChanges (map changes_of whole)
+  pub turns : (front : List ℕ) × (length front ≡ k) × AreTurnsOf front taken × (harts_of whole ≡ front ++ harts_of rest)
+  pub walks : (j : ℕ) (t : TrailParts) → slice_get trails j ≡ Some t →
+      (w : List ℕ) × IsTrailOf w t × (walk_of p (code_words image.code) j harts0 s0 (steps_of whole) ≡ w ++ walk_of p (code_words image.code) j harts s (steps_of rest))
+  pub allowed : AreStepsOf count (steps_of rest) → AreStepsOf count (steps_of whole)
 
 -- before the first step
-pub at_start : (p : Profile) (image : Contents) (h : Hart) (s : Shared) (whole : List (List (ℕ × ℕ))) (made : List (ℕ × (ℕ × ℕ))) (t : TrailParts) → made ≡ [] → IsTrailOf [] t → Continues p image h s whole 0 h s whole made t
-at_start p image h s whole made t none empty = record {
+pub at_start : (p : Profile) (image : Contents) (count : ℕ) (harts : Harts) (s : Shared) (whole : List Planned) (made : List (ℕ × (ℕ × ℕ))) (taken : TakenTurns) (trails : List TrailParts)
+    → made ≡ [] → AreTurnsOf [] taken → ((j : ℕ) (t : TrailParts) → slice_get trails j ≡ Some t → IsTrailOf [] t)
+    → Continues p image count harts s whole 0 harts s whole made taken trails
+at_start p image count harts s whole made taken trails none no_turn empty = record {
   steps = omega arith;
   final = refl;
   changes = rw none refl;
-  walk = ([], empty, refl);
+  turns = ([], refl, no_turn, refl);
+  walks = λ j t at. ([], empty j t at, refl);
   allowed = λ all. all;
 }
 
@@ -47,21 +51,8 @@ starts_first : (place : Option Place) (pc : ℕ) (later : List ℕ) → if_start
 starts_first None pc later = refl
 starts_first (Some place) pc later = refl
 
-starts_one : (place : Option Place) (pc : ℕ) → length (if_starts place pc []) ≤ 1
-starts_one None pc = omega arith
-starts_one (Some place) pc = omega arith
-
 none_after : (made last : List (ℕ × (ℕ × ℕ))) → made ++ last ≡ made ++ (last ++ [])
 none_after made last = ap (λ m. made ++ m) (sym (append-nil last))
-
--- at most one address is noted
-pub count_next : (w : List ℕ) (place : Option Place) (pc : ℕ) (t after : TrailParts) → IsTrailOf w t → IsTrailOf (w ++ if_starts place pc []) after → after.count ≤ t.count + 1
-count_next w place pc t after before now =
-    let one = starts_one place pc in
-    let longer = length-append w (if_starts place pc []) in
-    let same = before.0 in
-    let new = now.0 in
-    omega arith
 
 ran_of : (turn : Turn) → is_stop turn ≡ false → turn ≡ Ran
 ran_of Ran e = refl
@@ -83,7 +74,7 @@ named place pc (FetchFault at) may = absurd may
 named place pc (Illegal at) may = absurd may
 
 -- nothing comes after a stop
-none_later : (turn : Turn) (later : List (List (ℕ × ℕ))) → is_stop turn ≡ true → if_ran turn later ≡ []
+none_later : {A : Type 0} (turn : Turn) (later : List A) → is_stop turn ≡ true → if_ran turn later ≡ []
 none_later Ran later e = absurd (cc)
 none_later (Exit status) later e = refl
 none_later (Break pc) later e = refl
@@ -92,7 +83,7 @@ none_later (StoreFault pc a) later e = refl
 none_later (FetchFault pc) later e = refl
 none_later (Illegal pc) later e = refl
 
-stays_stopped : (turn : Turn) (after rest : After) → is_stop turn ≡ true → next_or_stop turn after rest ≡ after
+stays_stopped : (turn : Turn) (after rest : RunAfter) → is_stop turn ≡ true → next_or_stop turn after rest ≡ after
 stays_stopped Ran after rest e = absurd (cc)
 stays_stopped (Exit status) after rest e = refl
 stays_stopped (Break pc) after rest e = refl
@@ -101,170 +92,211 @@ stays_stopped (StoreFault pc a) after rest e = refl
 stays_stopped (FetchFault pc) after rest e = refl
 stays_stopped (Illegal pc) after rest e = refl
 
-no_address : (turn : Turn) → if_ran {A = ℕ} turn [] ≡ []
-no_address Ran = refl
-no_address (Exit status) = refl
-no_address (Break pc) = refl
-no_address (LoadFault pc a) = refl
-no_address (StoreFault pc a) = refl
-no_address (FetchFault pc) = refl
-no_address (Illegal pc) = refl
+-- ---- a run stays in its place
 
-module _ (p : Profile) (image : Contents) (h : Hart) (s : Shared) (cs : List (ℕ × ℕ)) (newest : ℕ) (stays : StaysFrom p image newest h s) (one : AllByRecursion IsDataChange (changes_of cs)) where
-  abbrev then : After
-  then = disturbed_step p h s (changes_of cs)
+rest_in : (P : Begin → Type 0) (own : Bool) (b : Begin) (rest : List Begin) → AllByRecursion P (if_own_begin own b rest) → AllByRecursion P rest
+rest_in P true b rest all = all.1
+rest_in P false b rest all = all
 
-  -- the newest address of the walk with this one
-  abbrev newer : ℕ
-  newer = newest_of (place_at p (code_words image.code) h.pc) newest h.pc
-
-  -- the begun instructions from here on, this one and the later ones
-  begun : (changes : List (List ByteChange)) → AreDataChanges changes
-      → AllByRecursion (IsInPlace p (code_words image.code)) (record { newest = newer; pc = h.pc; turn = then.turn } ∷ if_ran then.turn (trail_alone p (code_words image.code) newer then.hart then.shared changes))
-  begun changes all =
-      subst (λ (trail : List Begin). AllByRecursion (IsInPlace p (code_words image.code)) trail)
-      (trail_next p (code_words image.code) newest h s (changes_of cs) changes) (stays (changes_of cs ∷ changes) (one, all))
-
-  stays_here : then.turn ≡ Ran → StaysFrom p image newer then.hart then.shared
-  stays_here ran = λ changes all. rw ran at (begun changes all).1
-
-  may_end : (place : Place) × MayEnd place h.pc then.turn
-  may_end =
-      let (place, there, word, ends) = (begun [] tt).0 in
-      (place, ends)
-
-  pub stays_next : (result : After) → result ≡ then → is_stop result.turn ≡ false → (at : ℕ) × StaysFrom p image at result.hart result.shared
-  stays_next result e on =
-      subst (λ (a : After). is_stop a.turn ≡ false → (at : ℕ) × StaysFrom p image at a.hart a.shared) (sym e)
-      (λ goes. (newer, stays_here (ran_of then.turn goes))) on
-
-  pub has_end : (result : After) → result ≡ then → (end : RunEnd) × (end_of result.turn ≡ Some end)
-  has_end result e =
-      let (place, may) = may_end in
-      subst (λ (a : After). (end : RunEnd) × (end_of a.turn ≡ Some end)) (sym e) (named place h.pc then.turn may)
-
-module _ (p : Profile) (image : Contents) (h0 : Hart) (s0 : Shared) (whole : List (List (ℕ × ℕ))) (plan : Plan) (k n : ℕ) (h : Hart) (s : Shared) (made : List (ℕ × (ℕ × ℕ))) (t : TrailParts) where
-  abbrev cs : List (ℕ × ℕ)
-  cs = plan k h s
-
+module _ (p : Profile) (image : Contents) (count : ℕ) (harts : Harts) (s : Shared) (t : Planned) (newest : ℕ → ℕ) (stays : StaysFrom p image count newest harts s) (one : IsStepOf count (step_of t)) where
   abbrev words : List ℕ
   words = code_words image.code
 
-  abbrev after : After
-  after = disturbed_step p h s (changes_of cs)
+  abbrev pc : ℕ
+  pc = (harts t.0).pc
 
-  abbrev later : List (List (ℕ × ℕ))
-  later = planned p plan (k + 1) after.hart after.shared n
+  abbrev then : RunAfter
+  then = stepped p harts s (step_of t)
+
+  -- the newest addresses of the walks with this step's
+  abbrev newer : ℕ → ℕ
+  newer = λ k. newest_of (if_own (t.0 == k) (place_at p words pc)) (newest k) pc
+
+  abbrev begin_of : ℕ → Begin
+  begin_of k = record { newest = newer k; pc = pc; turn = then.turn }
+
+  -- the begun instructions of a hart from here on, this one and the later ones
+  begun : (steps : List HartStep) → AreStepsOf count steps → (k : ℕ)
+      → AllByRecursion (IsInPlace p words) (if_own_begin (t.0 == k) (begin_of k) (if_ran then.turn (trail_of p words k (newer k) then.harts then.shared steps)))
+  unfolding trail_of
+  begun steps all k = stays (step_of t ∷ steps) (one, all) k
+
+  stays_here : then.turn ≡ Ran → StaysFrom p image count newer then.harts then.shared
+  stays_here ran steps all k =
+      subst (λ (turn : Turn). AllByRecursion (IsInPlace p words) (if_ran turn (trail_of p words k (newer k) then.harts then.shared steps))) ran
+      (rest_in (IsInPlace p words) (t.0 == k) (begin_of k) (if_ran then.turn (trail_of p words k (newer k) then.harts then.shared steps)) (begun steps all k))
+
+  may_end : (place : Place) × MayEnd place pc then.turn
+  may_end =
+      let own = subst (λ (b : Bool). AllByRecursion (IsInPlace p words) (if_own_begin b (begin_of t.0) (if_ran then.turn (trail_of p words t.0 (newer t.0) then.harts then.shared [])))) (eq-eqb t.0 t.0 refl) (begun [] tt t.0) in
+      let (place, there, word, ends) = own.0 in
+      (place, ends)
+
+  pub stays_next : (result : RunAfter) → result ≡ then → is_stop result.turn ≡ false → (at : ℕ → ℕ) × StaysFrom p image count at result.harts result.shared
+  stays_next result e on =
+      subst (λ (a : RunAfter). is_stop a.turn ≡ false → (at : ℕ → ℕ) × StaysFrom p image count at a.harts a.shared) (sym e)
+      (λ goes. (newer, stays_here (ran_of then.turn goes))) on
+
+  pub has_end : (result : RunAfter) → result ≡ then → (end : RunEnd) × (end_of result.turn ≡ Some end)
+  has_end result e =
+      let (place, may) = may_end in
+      subst (λ (a : RunAfter). (end : RunEnd) × (end_of a.turn ≡ Some end)) (sym e) (named place pc then.turn may)
+
+-- ---- the next step
+
+-- what a step comes to, of a machine of the profile `q`
+pub record Took (q p : Profile) (image : Contents) (count : ℕ) (t : Planned) (k : ℕ) (before after : Running) (turn : Turn) : Type 0 where
+  pub stepped : run_after after.machine turn ≡ stepped q (harts_in before.machine) (harts_share before.machine) (step_of t)
+  pub allowed : IsStepOf count (step_of t)
+  pub made : after.made ≡ before.made ++ map (λ c. (k, c)) t.1
+  pub taken : (harts : List ℕ) → length harts ≡ k → AreTurnsOf harts before.taken → AreTurnsOf (harts ++ t.0 ∷ []) after.taken
+  pub noted : AreNoted p (code_words image.code) t.0 (harts_in before.machine t.0).pc before.trails.items after.trails.items
+
+abbrev pub step_at : Plan → ℕ → ℕ → Running → Planned
+step_at plan k count before = (plan.hart k count (harts_in before.machine) (harts_share before.machine), plan.changes k count (harts_in before.machine) (harts_share before.machine))
+
+-- the same, where the profile, the count and the plan have other names
+pub took_so : (q p : Profile) (image : Contents) (n count : ℕ) (before_plan plan : Plan) (k : ℕ) (before after : Running) (turn : Turn) → q ≡ p → n ≡ count → before_plan ≡ plan
+    → Took q p image n (step_at before_plan k n before) k before after turn → Took p p image count (step_at plan k count before) k before after turn
+took_so q p image n count before_plan plan k before after turn profile counted planned_so took =
+    subst (λ (x : Plan). Took p p image count (step_at x k count before) k before after turn) planned_so
+    (subst (λ (x : ℕ). Took p p image x (step_at before_plan k x before) k before after turn) counted
+    (subst (λ (x : Profile). Took x p image n (step_at before_plan k n before) k before after turn) profile took))
+
+module _ (p : Profile) (image : Contents) (count : ℕ) (harts0 : Harts) (s0 : Shared) (whole : List Planned) (plan : Plan) (k n : ℕ) (before after : Running) (turn : Turn) where
+  abbrev all_words : List ℕ
+  all_words = code_words image.code
+
+  abbrev harts : Harts
+  harts = harts_in before.machine
+
+  abbrev s : Shared
+  s = harts_share before.machine
+
+  abbrev t : Planned
+  t = (plan.hart k count harts s, plan.changes k count harts s)
+
+  abbrev at : ℕ
+  at = (harts t.0).pc
+
+  abbrev reached : RunAfter
+  reached = stepped p harts s (step_of t)
+
+  abbrev later : List Planned
+  later = planned p plan count (k + 1) reached.harts reached.shared n
+
+  -- what starts here, for a hart
+  abbrev here_of : ℕ → List ℕ
+  here_of j = if_starts (if_own (t.0 == j) (place_at p all_words at)) at []
 
   -- the step ran
-  run_on : after.turn ≡ Ran → (rest : List (List (ℕ × ℕ))) → run_alone p h s (map changes_of (cs ∷ rest)) ≡ run_alone p after.hart after.shared (map changes_of rest)
-  run_on ran rest =
-      alone_next p h s (changes_of cs) (map changes_of rest)
-      ∙ ap (λ turn. next_or_stop turn after (run_alone p after.hart after.shared (map changes_of rest))) ran
+  run_on : reached.turn ≡ Ran → (rest : List Planned) → run p harts s (steps_of (t ∷ rest)) ≡ run p reached.harts reached.shared (steps_of rest)
+  unfolding run
+  run_on ran rest = ap (λ turn. next_or_stop turn reached (run p reached.harts reached.shared (steps_of rest))) ran
 
-  walk_on : after.turn ≡ Ran → (rest : List (List (ℕ × ℕ))) → walk_alone p words h s (map changes_of (cs ∷ rest)) ≡ if_starts (place_at p words h.pc) h.pc [] ++ walk_alone p words after.hart after.shared (map changes_of rest)
-  walk_on ran rest =
-      walk_next p words h s (changes_of cs) (map changes_of rest)
-      ∙ ap (λ turn. if_starts (place_at p words h.pc) h.pc (if_ran turn (walk_alone p words after.hart after.shared (map changes_of rest)))) ran
-      ∙ starts_first (place_at p words h.pc) h.pc (walk_alone p words after.hart after.shared (map changes_of rest))
+  walk_on : (j : ℕ) → reached.turn ≡ Ran → (rest : List Planned) → walk_of p all_words j harts s (steps_of (t ∷ rest)) ≡ here_of j ++ walk_of p all_words j reached.harts reached.shared (steps_of rest)
+  unfolding walk_of
+  walk_on j ran rest =
+      ap (λ turn. if_starts (if_own (t.0 == j) (place_at p all_words at)) at (if_ran turn (walk_of p all_words j reached.harts reached.shared (steps_of rest)))) ran
+      ∙ starts_first (if_own (t.0 == j) (place_at p all_words at)) at (walk_of p all_words j reached.harts reached.shared (steps_of rest))
 
-  planned_on : after.turn ≡ Ran → planned p plan k h s (suc n) ≡ cs ∷ later
+  planned_on : reached.turn ≡ Ran → planned p plan count k harts s (suc n) ≡ t ∷ later
   unfolding planned
-  planned_on ran = ap (λ turn. cs ∷ if_ran turn later) ran
+  planned_on ran = ap (λ turn. t ∷ if_ran turn later) ran
 
-  next_here : (made_after : List (ℕ × (ℕ × ℕ))) (t_after : TrailParts)
-      → Continues p image h0 s0 whole k h s (planned p plan k h s (suc n)) made t
-      → after.turn ≡ Ran
-      → made_after ≡ made ++ map (λ c. (k, c)) cs
-      → ((walk : List ℕ) → IsTrailOf walk t → IsTrailOf (walk ++ if_starts (place_at p words h.pc) h.pc []) t_after)
-      → AllByRecursion IsDataChange (changes_of cs)
-      → Continues p image h0 s0 whole (k + 1) after.hart after.shared later made_after t_after
+  next_here : Continues p image count harts0 s0 whole k harts s (planned p plan count k harts s (suc n)) before.made before.taken before.trails.items
+      → reached.turn ≡ Ran → Took p p image count t k before after turn
+      → Continues p image count harts0 s0 whole (k + 1) reached.harts reached.shared later after.made after.taken after.trails.items
   unfolding numbered
-  next_here made_after t_after before ran grown noted data_changes =
-      let here : Continues p image h0 s0 whole k h s (cs ∷ later) made t = rw (planned_on ran) at before in
-      let (w, is_trail, walked) = here.walk in
+  next_here continues ran took =
+      let here : Continues p image count harts0 s0 whole k harts s (t ∷ later) before.made before.taken before.trails.items = rw (planned_on ran) at continues in
+      let (front, len, turns, all_turns) = here.turns in
       record {
         steps = omega (arith, here.steps);
         final = here.final ∙ run_on ran later;
-        changes = here.changes ∙ sym (append_assoc made (map (λ c. (k, c)) cs) (numbered (k + 1) later)) ∙ ap (λ m. m ++ numbered (k + 1) later) (sym grown);
-        walk = (w ++ if_starts (place_at p words h.pc) h.pc [], noted w is_trail, walked ∙ ap (λ x. w ++ x) (walk_on ran later) ∙ sym (append_assoc w _ _));
-        allowed = λ all. here.allowed (data_changes, all);
+        changes = here.changes ∙ sym (append_assoc before.made (map (λ c. (k, c)) t.1) (numbered (k + 1) later)) ∙ ap (λ m. m ++ numbered (k + 1) later) (sym took.made);
+        turns = (
+          front ++ t.0 ∷ [],
+          omega (arith, length-append front (t.0 ∷ []), len),
+          took.taken front len turns,
+          all_turns ∙ sym (append_assoc front (t.0 ∷ []) (harts_of later)),
+        );
+        walks = λ j now there.
+            let (old, was, noted) = took.noted j now there in
+            let (w, is_trail, walked) = here.walks j old was in
+            (w ++ here_of j, noted.walk w is_trail, walked ∙ ap (λ x. w ++ x) (walk_on j ran later) ∙ sym (append_assoc w _ _));
+        allowed = λ all. here.allowed (took.allowed, all);
       }
 
-  run_stop : is_stop after.turn ≡ true → run_alone p h s (map changes_of (cs ∷ [])) ≡ after
-  run_stop stop = alone_next p h s (changes_of cs) [] ∙ stays_stopped after.turn after (run_alone p after.hart after.shared []) stop
+  run_stop : is_stop reached.turn ≡ true → run p harts s (steps_of (t ∷ [])) ≡ reached
+  unfolding run
+  run_stop stop = stays_stopped reached.turn reached (run p reached.harts reached.shared []) stop
 
-  walk_stop : walk_alone p words h s (map changes_of (cs ∷ [])) ≡ if_starts (place_at p words h.pc) h.pc []
+  walk_stop : (j : ℕ) → is_stop reached.turn ≡ true → walk_of p all_words j harts s (steps_of (t ∷ [])) ≡ here_of j
   unfolding walk_of
-  walk_stop =
-      walk_next p words h s (changes_of cs) []
-      ∙ ap (λ later. if_starts (place_at p words h.pc) h.pc later) (no_address after.turn)
+  walk_stop j stop = ap (λ later. if_starts (if_own (t.0 == j) (place_at p all_words at)) at later) (none_later reached.turn [] stop)
 
-  planned_stop : is_stop after.turn ≡ true → planned p plan k h s (suc n) ≡ cs ∷ []
+  planned_stop : is_stop reached.turn ≡ true → planned p plan count k harts s (suc n) ≡ t ∷ []
   unfolding planned
-  planned_stop stop = ap (λ rest. cs ∷ rest) (none_later after.turn later stop)
+  planned_stop stop = ap (λ rest. t ∷ rest) (none_later reached.turn later stop)
 
   -- the step ran: the run goes on
-  pub next : (limit : ℕ) → limit - k ≡ suc n → (result : After) → result ≡ after → is_stop result.turn ≡ false
-      → (made_after : List (ℕ × (ℕ × ℕ))) (t_after : TrailParts)
-      → Continues p image h0 s0 whole k h s (planned p plan k h s (limit - k)) made t
-      → made_after ≡ made ++ map (λ c. (k, c)) cs
-      → ((walk : List ℕ) → IsTrailOf walk t → IsTrailOf (walk ++ if_starts (place_at p words h.pc) h.pc []) t_after)
-      → AllByRecursion IsDataChange (changes_of cs)
-      → Continues p image h0 s0 whole (k + 1) result.hart result.shared (planned p plan (k + 1) result.hart result.shared n) made_after t_after
-  next limit left result e on made_after t_after before grown noted one =
-      let here : Continues p image h0 s0 whole k h s (planned p plan k h s (suc n)) made t = rw left at before in
-      subst (λ (a : After). is_stop a.turn ≡ false → Continues p image h0 s0 whole (k + 1) a.hart a.shared (planned p plan (k + 1) a.hart a.shared n) made_after t_after) (sym e)
-      (λ goes. next_here made_after t_after here (ran_of after.turn goes) grown noted one) on
+  pub next : (limit : ℕ) → limit - k ≡ suc n → is_stop turn ≡ false
+      → Continues p image count harts0 s0 whole k harts s (planned p plan count k harts s (limit - k)) before.made before.taken before.trails.items
+      → Took p p image count t k before after turn
+      → Continues p image count harts0 s0 whole (k + 1) (harts_in after.machine) (harts_share after.machine) (planned p plan count (k + 1) (harts_in after.machine) (harts_share after.machine) n) after.made after.taken after.trails.items
+  next limit left on continues took =
+      let here : Continues p image count harts0 s0 whole k harts s (planned p plan count k harts s (suc n)) before.made before.taken before.trails.items = rw left at continues in
+      subst (λ (a : RunAfter). is_stop a.turn ≡ false → Continues p image count harts0 s0 whole (k + 1) a.harts a.shared (planned p plan count (k + 1) a.harts a.shared n) after.made after.taken after.trails.items) (sym took.stepped)
+      (λ goes. next_here here (ran_of reached.turn goes) took) on
 
   -- the step stopped the run
-  pub stopped : (limit : ℕ) → limit - k ≡ suc n → (running : Running) (turn : Turn) (end : RunEnd) → after_step running.machine turn ≡ after → is_stop turn ≡ true
-      → Continues p image h0 s0 whole k h s (planned p plan k h s (limit - k)) made t
-      → running.made ≡ made ++ map (λ c. (k, c)) cs
-      → ((walk : List ℕ) → IsTrailOf walk t → IsTrailOf (walk ++ if_starts (place_at p words h.pc) h.pc []) running.trail)
-      → AllByRecursion IsDataChange (changes_of cs)
+  pub stopped : (limit : ℕ) → limit - k ≡ suc n → (end : RunEnd) → is_stop turn ≡ true
+      → Continues p image count harts0 s0 whole k harts s (planned p plan count k harts s (limit - k)) before.made before.taken before.trails.items
+      → Took p p image count t k before after turn → length after.trails.items ≡ count
       → end_of turn ≡ Some end
-      → IsOver p image h0 s0 whole end (k + 1) running
+      → IsOver p image count harts0 s0 whole end (k + 1) after
   unfolding numbered
-  stopped limit left running turn end e stop before grown noted one is_end =
-      let halts : is_stop after.turn ≡ true = ap (λ (a : After). is_stop a.turn) (sym e) ∙ stop in
-      let here : Continues p image h0 s0 whole k h s (cs ∷ []) made t = rw (left, planned_stop halts) at before in
-      let final : run_alone p h0 s0 (map changes_of whole) ≡ after_step running.machine turn = here.final ∙ run_stop halts ∙ sym e in
-      let (w, is_trail, walked) = here.walk in
-      let whole_walk = walked ∙ ap (λ x. w ++ x) walk_stop in
+  stopped limit left end stop continues took each is_end =
+      let halts : is_stop reached.turn ≡ true = ap (λ (a : RunAfter). is_stop a.turn) (sym took.stepped) ∙ stop in
+      let here : Continues p image count harts0 s0 whole k harts s (t ∷ []) before.made before.taken before.trails.items = rw (left, planned_stop halts) at continues in
+      let final : run p harts0 s0 (steps_of whole) ≡ run_after after.machine turn = here.final ∙ run_stop halts ∙ sym took.stepped in
+      let (front, len, turns, all_turns) = here.turns in
       record {
-        ending = ap (λ (a : After). end_of a.turn) final ∙ is_end;
-        count = omega (arith, here.steps);
-        output = ap (λ (a : After). a.shared.output) (sym final);
-        events = ap (λ (a : After). a.shared.events) (sym final);
-        made = grown ∙ none_after made (map (λ c. (k, c)) cs) ∙ sym here.changes;
-        trail = rw whole_walk (noted w is_trail);
-        allowed = here.allowed (one, tt);
+        ending = ap (λ (a : RunAfter). end_of a.turn) final ∙ is_end;
+        number = omega (arith, here.steps);
+        output = ap (λ (a : RunAfter). a.shared.output) (sym final);
+        events = ap (λ (a : RunAfter). a.shared.events) (sym final);
+        made = took.made ∙ none_after before.made (map (λ c. (k, c)) t.1) ∙ sym here.changes;
+        taken = subst (λ (harts : List ℕ). AreTurnsOf harts after.taken) (sym all_turns) (took.taken front len turns);
+        trails = each;
+        walks = λ j now there.
+            let (old, was, noted) = took.noted j now there in
+            let (w, is_trail, walked) = here.walks j old was in
+            subst (λ (walk : List ℕ). IsTrailOf walk now) (sym (walked ∙ ap (λ x. w ++ x) (walk_stop j halts))) (noted.walk w is_trail);
+        allowed = here.allowed (took.allowed, tt);
       }
 
 -- no step is left
-pub all_taken : (p : Profile) (image : Contents) (h0 : Hart) (s0 : Shared) (whole : List (List (ℕ × ℕ))) (plan : Plan) (k limit : ℕ) (running : Running)
+pub all_taken : (p : Profile) (image : Contents) (count : ℕ) (harts0 : Harts) (s0 : Shared) (whole : List Planned) (plan : Plan) (k limit : ℕ) (running : Running)
     → limit - k ≡ 0
-    → Continues p image h0 s0 whole k (hart_in running.machine) (shared_in running.machine) (planned p plan k (hart_in running.machine) (shared_in running.machine) (limit - k)) running.made running.trail
-    → IsOver p image h0 s0 whole ends.Limit k running
+    → Continues p image count harts0 s0 whole k (harts_in running.machine) (harts_share running.machine) (planned p plan count k (harts_in running.machine) (harts_share running.machine) (limit - k)) running.made running.taken running.trails.items
+    → length running.trails.items ≡ count
+    → IsOver p image count harts0 s0 whole ends.Limit k running
 unfolding planned run walk_of numbered
-all_taken p image h0 s0 whole plan k limit running left before =
-    let here : Continues p image h0 s0 whole k (hart_in running.machine) (shared_in running.machine) [] running.made running.trail = rw left at before in
-    let (w, is_trail, walked) = here.walk in
-    let whole_walk = walked ∙ append-nil w in
+all_taken p image count harts0 s0 whole plan k limit running left continues each =
+    let here : Continues p image count harts0 s0 whole k (harts_in running.machine) (harts_share running.machine) [] running.made running.taken running.trails.items = rw left at continues in
+    let (front, len, turns, all_turns) = here.turns in
     record {
-      ending = ap (λ (a : After). end_of a.turn) here.final;
-      count = omega (arith, here.steps);
-      output = ap (λ (a : After). a.shared.output) (sym here.final);
-      events = ap (λ (a : After). a.shared.events) (sym here.final);
+      ending = ap (λ (a : RunAfter). end_of a.turn) here.final;
+      number = omega (arith, here.steps);
+      output = ap (λ (a : RunAfter). a.shared.output) (sym here.final);
+      events = ap (λ (a : RunAfter). a.shared.events) (sym here.final);
       made = sym (append-nil running.made) ∙ sym here.changes;
-      trail = rw whole_walk is_trail;
+      taken = subst (λ (harts : List ℕ). AreTurnsOf harts running.taken) (sym (all_turns ∙ append-nil front)) turns;
+      trails = each;
+      walks = λ j now there.
+          let (w, is_trail, walked) = here.walks j now there in
+          subst (λ (walk : List ℕ). IsTrailOf walk now) (sym (walked ∙ append-nil w)) is_trail;
       allowed = here.allowed tt;
     }
-
--- a run of a safe pair begins in its place
-pub begins : (p : Profile) (laid : LaidOut p) (image : Contents) (graph : GraphParts) (input : List ℕ) (running : Running) → IsSafe p image graph
-    → hart_in running.machine ≡ start_hart 0 → shared_in running.machine ≡ start_shared image input → running.made ≡ [] → IsTrailOf [] running.trail → running.quiet ≡ 0 → IsBegun p image running
-begins p laid image graph input running safe hart shared made empty quiet =
-    let stays : StaysFrom p image 0 (start_hart 0) (start_shared image input) = λ changes all. safe_stays_alone p laid image graph input changes safe all in
-    record { made = made; trail = empty; quiet = quiet; stays = (0, subst (λ (h : Hart). StaysFrom p image 0 h (shared_in running.machine)) (sym hart) (subst (λ (s : Shared). StaysFrom p image 0 (start_hart 0) s) (sym shared) stays)) }

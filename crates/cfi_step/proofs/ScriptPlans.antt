@@ -4,13 +4,11 @@ use Rattle.std.specs.List.{All, filter}
 use Rattle.std.proofs.lemmas.Bool.{cases_lt, leb-true, ltb-false, ne_eqb}
 use Rattle.std.proofs.lemmas.List.{append-nil, get_or_default, get_or-drop, get_or-take, length-drop, length-take, take-append-drop}
 use Rattle.std.proofs.lemmas.List.Elements.{All-cons, All-head, All-tail, filter-append}
-use Rattle.text_lines.specs.Lines.{lines_of}
-use Rattle.text_lines.specs.Reading.{read, whole}
 use Rattle.text_lines.proofs.Accepts.{Accepts, end_only, line_first}
-use Rattle.text_lines.proofs.Whole.{one_named_ok, whole_accepts}
+use Rattle.text_lines.proofs.Whole.{whole_accepts}
 use Rattle.cfi_step.specs.Quiet.{IsQuiet}
 use Rattle.cfi_step.specs.Script.{Changes, IsScript}
-use Rattle.cfi_step.specs.ScriptText.{changes_from, line_changes, script_names, script_of, script_rules}
+use Rattle.cfi_step.specs.ScriptText.{changes_from, changes_of_lines, line_changes, script_rules}
 
 abbrev of_step : ℕ → Changes → Changes
 of_step step changes = filter (λ c. c.0 == step) changes
@@ -95,7 +93,6 @@ accepted {before} (line_first {l} {items} found range order rest) =
     let all : All (λ c. before ≤ c.0) (line_changes l ++ items) = λ k d q. let at = from.1 k d q in omega (arith, at, up) in
     (from.0, all)
 
-pub ordered : (text : List ℕ) (changes : Changes) → script_of text ≡ Ok changes → IsScript changes
-unfolding script_of
-ordered text changes e =
-    one_named_ok script_names (lines_of text) (λ first. whole (read script_rules 0 2 first.1)) changes e (λ which rest known begins lines. (accepted (whole_accepts script_rules 0 2 rest changes lines)).0)
+-- the changes of a text's lines
+pub ordered : (number : ℕ) (lines : List (List ℕ)) (changes : Changes) → changes_of_lines number lines ≡ Ok changes → IsScript changes
+ordered number lines changes e = (accepted (whole_accepts script_rules 0 number lines changes e)).0

@@ -1,26 +1,31 @@
--- What the hostile meddler changes. It goes over the 512 double words from x2 on, whose addresses are sums
--- modulo 2 ^ 64, and zeroes each that lies in data and equals a pending site: the double word in a slot of
--- the shadow stack below x3.
-use Rattle.std.specs.Prelude.{ℕ, zero, suc, ◌+◌, ◌-◌, ◌/◌, nat_le, ◌&&◌, Bool, List, [], ◌∷◌, ◌++◌, min, if◌then◌else◌}
+-- What the hostile meddler does. The harts step in turn. Before each step it goes, for each hart, harts rising, over the
+-- 512 double words from the hart's x2 on, whose addresses are sums modulo 2 ^ 64, and zeroes each that lies in data and
+-- equals a pending site of the hart: the double word in a slot of the hart's own part of the shadow stack below its x3.
+use Rattle.std.specs.Prelude.{ℕ, zero, suc, ◌+◌, ◌-◌, ◌/◌, ◌%◌, nat_le, ◌&&◌, Bool, List, [], ◌∷◌, ◌++◌, min, if◌then◌else◌}
 use Rattle.rv_word.specs.Bits.{wrap}
-use Rattle.rv_word.specs.MemoryMap.{DATA_END, SHADOW_START}
+use Rattle.rv_word.specs.MemoryMap.{DATA_END, part_of}
 use Rattle.rv_word.specs.Memory.{Memory, read}
 use Rattle.rv_instr.specs.Registers.{get_reg}
-use Rattle.rv_code.specs.State.{Hart, Shared}
+use Rattle.rv_code.specs.State.{Hart, Harts}
 use Rattle.cfi_unit.specs.Shadow.{MOST_PENDING}
-use Rattle.cfi_verify.specs.Lines.{is_among}
+use Rattle.cfi_rules.specs.Lines.{is_among}
+use Rattle.cfi_step.specs.Plan.{Plan}
 
--- how many slots stand below x3; the shadow stack begins eight bytes into its region, which bounds it
-abbrev pub slots_below : ℕ → ℕ
-slots_below x3 = min ((x3 - (SHADOW_START + 8)) / 8) MOST_PENDING
+-- a hart's oldest slot, eight bytes into its own part, which bounds how many there are
+abbrev pub first_slot : ℕ → ℕ
+first_slot hart = part_of hart + 8
+
+-- how many slots of a hart stand below its x3
+abbrev pub slots_below : ℕ → ℕ → ℕ
+slots_below hart x3 = min ((x3 - first_slot hart) / 8) MOST_PENDING
 
 -- the double words in `count` slots from an address on
 unfoldable pub sites_from : Memory → ℕ → ℕ → List ℕ
 sites_from m a zero = []
 sites_from m a (suc count) = read 8 m a ∷ sites_from m (a + 8) count
 
-abbrev pub pending_sites : Memory → ℕ → List ℕ
-pending_sites m x3 = sites_from m (SHADOW_START + 8) (slots_below x3)
+abbrev pub pending_sites : Memory → ℕ → ℕ → List ℕ
+pending_sites m hart x3 = sites_from m (first_slot hart) (slots_below hart x3)
 
 -- zeros for the `count` bytes from an address on
 unfoldable pub zeros_from : ℕ → ℕ → List (ℕ × ℕ)
@@ -41,5 +46,17 @@ unfoldable pub site_zeros : Memory → List ℕ → ℕ → ℕ → List (ℕ ×
 site_zeros m sites a zero = []
 site_zeros m sites a (suc count) = zeros_at m sites a ++ site_zeros m sites (wrap (a + 8)) count
 
-abbrev pub hostile_plan : ℕ → Hart → Shared → List (ℕ × ℕ)
-hostile_plan step h s = site_zeros s.memory (pending_sites s.memory (get_reg h.regs 3)) (get_reg h.regs 2) 512
+-- zeros for the sites of one hart
+abbrev pub hart_zeros : Memory → ℕ → Hart → List (ℕ × ℕ)
+hart_zeros m k h = site_zeros m (pending_sites m k (get_reg h.regs 3)) (get_reg h.regs 2) 512
+
+-- zeros for the sites of each of `count` harts from the hart `k` on
+unfoldable pub zeros_of_harts : Memory → Harts → ℕ → ℕ → List (ℕ × ℕ)
+zeros_of_harts m harts k zero = []
+zeros_of_harts m harts k (suc count) = hart_zeros m k (harts k) ++ zeros_of_harts m harts (k + 1) count
+
+abbrev pub hostile_plan : Plan
+hostile_plan = record {
+  hart = λ step count harts s. step % count;
+  changes = λ step count harts s. zeros_of_harts s.memory harts 0 count;
+}

@@ -1,4 +1,7 @@
 pub mod Plan
+pub mod Turns
+pub mod Taken
+pub mod TurnPlace
 pub mod Report
 pub mod Trail
 pub mod Running

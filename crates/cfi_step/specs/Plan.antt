@@ -1,16 +1,28 @@
--- What a meddler does to a run. Its plan answers, for each step number and state, the changes that come
--- before that step: each an address and a byte.
+-- What a meddler does to a run. Its plan answers, by the number of steps taken, the count of harts and the
+-- state then, which hart takes the next step and the changes that come before it: each an address and a byte.
 use Rattle.std.specs.Prelude.{◌≡◌, ◌≤◌, ◌<◌, ℕ, zero, suc, ◌+◌, List, [], ◌∷◌, ◌++◌, map}
 use Rattle.rv_word.specs.MemoryMap.{Profile}
-use Rattle.rv_code.specs.Run.{ByteChange, disturbed_step, if_ran}
-use Rattle.rv_code.specs.State.{Hart, Shared}
+use Rattle.rv_code.specs.Run.{ByteChange, HartStep, disturbed_step, if_ran}
+use Rattle.rv_code.specs.State.{Harts, Shared, with_hart}
 
-abbrev pub Plan : Type 0
-Plan = ℕ → Hart → Shared → List (ℕ × ℕ)
+pub record Plan : Type 0 where
+  pub hart : ℕ → ℕ → Harts → Shared → ℕ
+  pub changes : ℕ → ℕ → Harts → Shared → List (ℕ × ℕ)
 
 -- no change comes after `from` steps or more, but fewer than `next`, whatever the state
 abbrev pub IsQuietPlan : ℕ → ℕ → Plan → Type 0
-IsQuietPlan from next plan = (step : ℕ) → from ≤ step → step < next → (hart : Hart) (shared : Shared) → plan step hart shared ≡ []
+IsQuietPlan from next plan =
+    (step : ℕ) → from ≤ step → step < next → (count : ℕ) (harts : Harts) (shared : Shared) → plan.changes step count harts shared ≡ []
+
+-- the hart that takes the step after `from` steps takes each one after fewer than `next` steps too, whatever the states
+abbrev pub IsOneHart : ℕ → ℕ → Plan → Type 0
+IsOneHart from next plan =
+    (step : ℕ) → from ≤ step → step < next → (count : ℕ) (harts before : Harts) (shared first : Shared)
+    → plan.hart step count harts shared ≡ plan.hart from count before first
+
+-- a step that is planned: the hart that takes it, and the changes before it
+abbrev pub Planned : Type 0
+Planned = ℕ × List (ℕ × ℕ)
 
 abbrev pub change_of : ℕ × ℕ → ByteChange
 change_of c = record { address = c.0; byte = c.1 }
@@ -18,16 +30,26 @@ change_of c = record { address = c.0; byte = c.1 }
 abbrev pub changes_of : List (ℕ × ℕ) → List ByteChange
 changes_of cs = map change_of cs
 
--- the changes before each step of a run of at most `n` steps, from the step with number `k` on
-unfoldable pub planned : Profile → Plan → ℕ → Hart → Shared → ℕ → List (List (ℕ × ℕ))
-planned p plan k h s zero = []
-planned p plan k h s (suc n) =
-    let cs = plan k h s in
-    let after = disturbed_step p h s (changes_of cs) in
-    let later = planned p plan (k + 1) after.hart after.shared n in
-    cs ∷ if_ran after.turn later
+abbrev pub step_of : Planned → HartStep
+step_of t = record { hart = t.0; changes = changes_of t.1 }
+
+abbrev pub steps_of : List Planned → List HartStep
+steps_of steps = map step_of steps
+
+abbrev pub harts_of : List Planned → List ℕ
+harts_of steps = map (λ t. t.0) steps
+
+-- the steps of a run of so many harts, `n` at most, from the step with number `k` on
+unfoldable pub planned : Profile → Plan → ℕ → ℕ → Harts → Shared → ℕ → List Planned
+planned p plan count k harts s zero = []
+planned p plan count k harts s (suc n) =
+    let h = plan.hart k count harts s in
+    let cs = plan.changes k count harts s in
+    let after = disturbed_step p (harts h) s (changes_of cs) in
+    let later = planned p plan count (k + 1) (with_hart harts h after.hart) after.shared n in
+    (h, cs) ∷ if_ran after.turn later
 
 -- the changes before the steps from the step with number `k` on, each with the number of its step
-unfoldable pub numbered : ℕ → List (List (ℕ × ℕ)) → List (ℕ × (ℕ × ℕ))
+unfoldable pub numbered : ℕ → List Planned → List (ℕ × (ℕ × ℕ))
 numbered k [] = []
-numbered k (cs ∷ later) = map (λ c. (k, c)) cs ++ numbered (k + 1) later
+numbered k (t ∷ later) = map (λ c. (k, c)) t.1 ++ numbered (k + 1) later

@@ -1,20 +1,22 @@
--- The report of the run of one hart under changes: how it ended, the number of its steps (the one that
--- stopped it is counted), its output, its system calls, and its walk, of which the last sixteen addresses
--- are kept.
-use Rattle.std.specs.Prelude.{◌≡◌, ℕ, ◌-◌, ◌==◌, List, drop, length, map, Option, Some, None, if◌then◌else◌}
+-- The report of a run of one or several harts under changes: how it ended and by which hart, the number of its steps (the
+-- one that stopped it is counted), whose turns they were, its output, its system calls, and each hart's walk, of which the
+-- last sixteen addresses are kept.
+use Rattle.std.specs.Prelude.{◌≡◌, ℕ, ◌-◌, ◌==◌, List, [], ◌∷◌, drop, length, slice_get, Option, Some, None, if◌then◌else◌}
 use Rattle.rv_word.specs.Image.{Contents}
 use Rattle.rv_word.specs.MemoryMap.{Profile}
-use Rattle.rv_code.specs.Run.{run_alone}
+use Rattle.rv_code.specs.Run.{run}
 use Rattle.rv_code.specs.State.{start_hart, start_shared}
 use Rattle.rv_code.specs.declared.turn.Turn.{Turn}
 use Rattle.rv_code.specs.declared.turn.Turn.TheVariants as turns
 use Rattle.cfi_unit.specs.UnitWords.{BAD_TARGET, BAD_RETURN, DEEP}
-use Rattle.cfi_verify.specs.Split.{code_words}
-use Rattle.cfi_verify.specs.Walks.{walk_alone}
-use Rattle.cfi_step.specs.Plan.{changes_of, numbered}
+use Rattle.cfi_rules.specs.Split.{code_words}
+use Rattle.cfi_rules.specs.Walks.{walk_of}
+use Rattle.cfi_step.specs.Plan.{Planned, harts_of, numbered, steps_of}
+use Rattle.cfi_step.specs.Turns.{turns_of}
 use Rattle.cfi_step.specs.declared.report.Handler.TheVariants as handlers
 use Rattle.cfi_step.specs.declared.report.RunEnd.{RunEnd}
 use Rattle.cfi_step.specs.declared.report.RunEnd.TheVariants.{Exit, Handler, Break, LoadFault, Limit}
+use Rattle.cfi_step.specs.declared.report.HartWalk.{HartWalk}
 use Rattle.cfi_step.specs.declared.report.RunReport.{RunReport}
 
 -- a break at a handler is the handler's end
@@ -38,12 +40,31 @@ end_of (turns.Illegal pc) = None
 abbrev pub trail : List ℕ → List ℕ
 trail walk = drop (length walk - 16) walk
 
--- a report of the run of an image with an input, under these changes before its steps
-pub record IsReport (p : Profile) (image : Contents) (input : List ℕ) (changes : List (List (ℕ × ℕ))) (report : RunReport) : Type 0 where
-  pub end : end_of (run_alone p (start_hart 0) (start_shared image input) (map changes_of changes)).turn ≡ Some report.end
-  pub steps : report.steps ≡ length changes
-  pub output : report.output ≡ (run_alone p (start_hart 0) (start_shared image input) (map changes_of changes)).shared.output
-  pub events : report.events ≡ (run_alone p (start_hart 0) (start_shared image input) (map changes_of changes)).shared.events
-  pub made : report.made ≡ numbered 0 changes
-  pub walk : report.walk ≡ length (walk_alone p (code_words image.code) (start_hart 0) (start_shared image input) (map changes_of changes))
-  pub trail : report.trail ≡ trail (walk_alone p (code_words image.code) (start_hart 0) (start_shared image input) (map changes_of changes))
+-- how many addresses a walk has, and the last of them
+pub record IsWalkOf (addresses : List ℕ) (told : HartWalk) : Type 0 where
+  pub walk : told.walk ≡ length addresses
+  pub trail : told.trail ≡ trail addresses
+
+-- the hart that took the last step
+abbrev pub last_hart : List ℕ → ℕ
+last_hart [] = 0
+last_hart (h ∷ []) = h
+last_hart (h ∷ k ∷ harts) = last_hart (k ∷ harts)
+
+-- the hart that stopped the run; 0 where none did
+abbrev pub stopping_hart : RunEnd → List ℕ → ℕ
+stopping_hart Limit harts = 0
+stopping_hart other harts = last_hart harts
+
+-- a report of the run of an image with an input, by so many harts in these steps, each with the changes before it
+pub record IsReport (p : Profile) (image : Contents) (input : List ℕ) (count : ℕ) (taken : List Planned) (report : RunReport) : Type 0 where
+  pub end : end_of (run p start_hart (start_shared image input) (steps_of taken)).turn ≡ Some report.end
+  pub hart : report.hart ≡ stopping_hart report.end (harts_of taken)
+  pub steps : report.steps ≡ length taken
+  pub turns : report.turns ≡ turns_of (harts_of taken)
+  pub output : report.output ≡ (run p start_hart (start_shared image input) (steps_of taken)).shared.output
+  pub events : report.events ≡ (run p start_hart (start_shared image input) (steps_of taken)).shared.events
+  pub made : report.made ≡ numbered 0 taken
+  pub harts : length report.walks ≡ count
+  pub walks : (k : ℕ) (told : HartWalk) → slice_get report.walks k ≡ Some told
+      → IsWalkOf (walk_of p (code_words image.code) k start_hart (start_shared image input) (steps_of taken)) told

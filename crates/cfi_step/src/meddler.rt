@@ -1,23 +1,36 @@
-ghost use Rattle.std.specs.Prelude.{◌≡◌, ◌++◌, ℕ, List, OnOk, OnErr};
-ghost use Rattle.rv_code.specs.State.{Hart, Shared};
-ghost use Rattle.rv_machine.specs.Parts.{hart_in, shared_in};
-ghost use Rattle.cfi_step.specs.Plan.{IsQuietPlan};
+ghost use Rattle.std.specs.Prelude.{◌≡◌, ◌≤◌, ◌<◌, ◌++◌, length, OnOk, OnErr};
+ghost use Rattle.rv_machine.specs.Harts.{harts_in, harts_share};
+ghost use Rattle.cfi_step.specs.Plan.{IsOneHart, IsQuietPlan, Plan};
 
 use rv_machine::{Change, Machine};
 use rv_word::NoMemory;
 use std::alloc::Global;
 
-/// What changes data between the instructions of a run.
+/// What chooses the hart that takes each step of a run, and changes data between the instructions.
 pub trait Meddler {
-    /// The changes before each step, by the number of steps taken and the state then: each an address
-    /// and a byte.
-    ghost plan: { Self → ℕ → Hart → Shared → List (ℕ × ℕ) };
+    /// The hart that takes each step and the changes before it, by the number of steps taken and the state then.
+    ghost plan: { Self → Plan };
+
+    /// The hart that takes the next step, `step` being the number of steps taken.
+    fn hart(&mut self, step: u64, seen: &Machine) -> u8
+        requires { 1 ≤ length seen.now.resting }
+        ensures answered { result ≡ (plan self.old).hart step (length seen.now.resting) (harts_in seen.now) (harts_share seen.now) }
+        ensures below { result < length seen.now.resting }
+        ensures kept { plan self.new ≡ plan self.old };
 
     /// The number of steps up to which it is known without a look at the state that no change comes, `step`
     /// being the number of steps taken. `step` itself is always right: a meddler that cannot tell leaves this
     /// as it is.
     fn quiet_until(&self, step: u64) -> u64
         ensures { IsQuietPlan step result (plan self.now) }
+    {
+        step
+    }
+
+    /// The number of steps up to which it is known without a look at the state that the hart of the step
+    /// after `step` steps takes them all. `step` itself is always right, as above.
+    fn one_hart_until(&self, step: u64) -> u64
+        ensures { IsOneHart step result (plan self.now) }
     {
         step
     }
@@ -32,7 +45,7 @@ pub trait Meddler {
         into: &mut Vec<Change>,
     ) -> Result<(), NoMemory>
         ensures answered { OnOk result
-            (into.new.items ≡ into.old.items ++ plan self.old step (hart_in seen.now) (shared_in seen.now)) }
+            (into.new.items ≡ into.old.items ++ (plan self.old).changes step (length seen.now.resting) (harts_in seen.now) (harts_share seen.now)) }
         ensures refused { OnErr result (into.new.items ≡ into.old.items) }
         ensures kept { plan self.new ≡ plan self.old };
 }

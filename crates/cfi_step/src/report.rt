@@ -1,8 +1,10 @@
-ghost use Rattle.std.specs.Prelude.{◌≡◌, Some};
-ghost use Rattle.cfi_step.specs.Report.{break_at, end_of};
+ghost use Rattle.std.specs.Prelude.{◌≡◌, ℕ, List, Some};
+ghost use Rattle.cfi_step.specs.Report.{break_at, end_of, last_hart, stopping_hart};
 ghost use Rattle.cfi_step.specs.declared.report.RunEnd.{RunEnd};
 
 use crate::record::Record;
+use crate::turns::Turns;
+use crate::walks::HartWalks;
 use cfi_unit::handlers::{BAD_RETURN, BAD_TARGET, DEEP};
 use rv_code::Events;
 use rv_machine::Turn;
@@ -34,23 +36,34 @@ pub enum RunEnd {
     Limit,
 }
 
+/// The walk of one hart in a run.
+#[derive(Drop)]
+pub struct HartWalk {
+    /// How many addresses the walk has.
+    pub walk: u64,
+    /// The last addresses of the walk, sixteen at most.
+    pub trail: Places,
+}
+
 /// What a run came to.
 #[derive(Drop)]
 pub struct RunReport {
     /// How the run ended.
     pub end: RunEnd,
-    /// How many steps were taken, the one that stopped the run among them.
+    /// The hart whose step stopped the run; 0 where none did.
+    pub hart: u8,
+    /// How many steps all harts took, the one that stopped the run among them.
     pub steps: u64,
+    /// The hart of each step, as turns.
+    pub turns: Turns,
     /// The bytes that system calls wrote.
     pub output: Bytes,
     /// The system calls, oldest first.
     pub events: Events,
     /// The changes that were made.
     pub made: Record,
-    /// How many addresses the walk has.
-    pub walk: u64,
-    /// The last addresses of the walk, sixteen at most.
-    pub trail: Places,
+    /// The walk of each hart, by its number.
+    pub walks: HartWalks,
 }
 
 fn break_at(pc: u64) -> RunEnd
@@ -75,5 +88,15 @@ pub(crate) fn end_of(turn: Turn) -> RunEnd
         Turn::Break(pc) => break_at(pc),
         Turn::LoadFault(pc, address) => RunEnd::LoadFault(pc, address),
         Turn::StoreFault(..) | Turn::FetchFault(_) | Turn::Illegal(_) => unreachable!(),
+    }
+}
+
+/// The hart that stopped a run of this end, whose last step this hart took; 0 where none did.
+pub(crate) fn stopping_hart(end: RunEnd, last: u8) -> u8
+    ensures { (harts : List ℕ) → last ≡ last_hart harts → result ≡ stopping_hart end harts }
+{
+    match end {
+        RunEnd::Limit => 0,
+        RunEnd::Exit(_) | RunEnd::Handler(_) | RunEnd::Break(_) | RunEnd::LoadFault(..) => last,
     }
 }

@@ -1,60 +1,89 @@
 //! A run between two of its steps.
 
-ghost use Rattle.std.specs.Prelude.{◌≡◌, ◌<◌, ◌+◌, ◌^◌, ◌++◌, ◌∷◌, [], ℕ, List, map, IfOk, OnOk};
-ghost use Rattle.std.specs.List.{AllByRecursion};
-ghost use Rattle.rv_word.specs.MemoryMap.{version_1};
-ghost use Rattle.rv_code.specs.Run.{IsDataChange, disturbed, disturbed_step};
+ghost use Rattle.std.specs.Prelude.{◌≡◌, ◌≤◌, ◌<◌, ◌+◌, ◌^◌, ◌++◌, ◌∷◌, [], ℕ, List, length, map, min, slice_get, IfOk, OnOk, Some};
+ghost use Rattle.std.specs.List.{All, AllByRecursion};
+ghost use Rattle.rv_word.specs.Image.{image_profile};
+ghost use Rattle.rv_word.specs.MemoryMap.{profile_of};
+ghost use Rattle.rv_code.specs.Run.{IsDataChange, IsStepOf, disturbed, stepped};
 ghost use Rattle.rv_code.specs.State.{start_hart, start_shared};
-ghost use Rattle.rv_machine.specs.Parts.{after_step, hart_in, shared_in};
-ghost use Rattle.cfi_verify.specs.Split.{code_words, place_at};
-ghost use Rattle.cfi_verify.specs.Walks.{if_starts};
-ghost use Rattle.cfi_step.specs.Plan.{IsQuietPlan, change_of, changes_of};
-ghost use Rattle.cfi_step.specs.Trail.{IsTrailOf};
+ghost use Rattle.rv_machine.specs.Harts.{harts_in, harts_share, run_after};
+ghost use Rattle.cfi_rules.specs.Split.{code_words};
+ghost use Rattle.cfi_step.specs.Plan.{IsQuietPlan, change_of, changes_of, step_of};
+ghost use Rattle.cfi_step.specs.Report.{stopping_hart};
+ghost use Rattle.cfi_step.specs.Running.{AreNoted, IsPrepared, IsReady, changes_in_plan, hart_in_plan, step_in_plan};
+ghost use Rattle.cfi_step.specs.Taken.{AreTurnsOf};
+ghost use Rattle.cfi_step.specs.Trail.{IsTrailOf, TrailParts, told_of};
+ghost use Rattle.cfi_step.specs.Turns.{turns_of};
 
 use crate::meddler::Meddler;
 use crate::record::Record;
-use crate::report::{RunEnd, RunReport};
+use crate::report::{RunEnd, RunReport, stopping_hart};
 use crate::trail::Trail;
+use crate::turns::TakenTurns;
+use crate::walks::HartWalks;
 use cfi_verify::Checked;
 use rv_machine::{Change, Machine, Turn};
 use rv_word::{Image, NoMemory};
 use std::alloc::Global;
 
-/// A run so far: the machine, the changes that were made, and the walk.
+/// A run so far: the machine, the changes that were made, the turns that were taken, and the walk of each hart.
 #[derive(Drop)]
 pub(crate) struct Running {
     machine: Machine,
     made: Record,
-    trail: Trail,
+    taken: TakenTurns,
+    /// By the harts' numbers.
+    trails: Vec<Trail>,
     /// No change comes before this number of steps is taken.
     quiet: u64,
+    /// Nor does another hart step than the one that took the last step.
+    still: u64,
 }
 
 impl Running {
     /// Before the first step.
-    pub(crate) fn new(alloc: Global, image: &Image, input: &[u8]) -> Result<Running, NoMemory>
-        ensures hart { IfOk result (λ r. hart_in r.machine ≡ start_hart 0) }
-        ensures shared { IfOk result (λ r. shared_in r.machine ≡ start_shared image.now input.now) }
+    pub(crate) fn new(
+        alloc: Global,
+        image: &Image,
+        input: &[u8],
+        harts: u8,
+    ) -> Result<Running, NoMemory>
+        requires { 1 ≤ harts }
+        ensures count { IfOk result (λ r. length r.machine.resting ≡ harts) }
+        ensures harts { IfOk result (λ r. harts_in r.machine ≡ start_hart) }
+        ensures shared { IfOk result (λ r. harts_share r.machine ≡ start_shared image.now input.now) }
+        ensures version { IfOk result (λ r. r.machine.processor.memory.version ≡ image.now.version) }
         ensures made { IfOk result (λ r. r.made ≡ []) }
-        ensures trail { IfOk result (λ r. IsTrailOf [] r.trail) }
+        ensures taken { IfOk result (λ r. AreTurnsOf [] r.taken) }
+        ensures last { IfOk result (λ r. r.taken.hart ≡ 0) }
+        ensures trails { IfOk result (λ r. length r.trails.items ≡ harts) }
+        ensures empty { IfOk result (λ r. All (IsTrailOf []) r.trails.items) }
         ensures quiet { IfOk result (λ r. r.quiet ≡ 0) }
+        ensures still { IfOk result (λ r. r.still ≡ 0) }
     {
+        let trails = empty_trails(alloc, harts)?;
+        let machine = Machine::new(alloc, image, input, harts)?;
         Ok(Running {
-            machine: Machine::new(alloc, image, input)?,
+            machine,
             made: Record::new(alloc),
-            trail: Trail::new(),
+            taken: TakenTurns::new(alloc),
+            trails,
             quiet: 0,
+            still: 0,
         })
     }
 
     /// Makes one change, before the step with a number.
     fn make(&mut self, step: u64, change: Change) -> Result<(), NoMemory>
         ensures allowed { IsDataChange (change_of change) }
-        ensures hart { OnOk result (hart_in self.new.machine ≡ hart_in self.old.machine) }
+        ensures harts { OnOk result (harts_in self.new.machine ≡ harts_in self.old.machine) }
         ensures shared { OnOk result
-            (shared_in self.new.machine ≡ disturbed (shared_in self.old.machine) (change_of change ∷ [])) }
+            (harts_share self.new.machine ≡ disturbed (harts_share self.old.machine) (change_of change ∷ [])) }
         ensures made { OnOk result (self.new.made ≡ self.old.made ++ (step, change) ∷ []) }
-        ensures trail { self.new.trail ≡ self.old.trail }
+        ensures count { length self.new.machine.resting ≡ length self.old.machine.resting }
+        ensures version { self.new.machine.processor.memory.version ≡ self.old.machine.processor.memory.version }
+        ensures taken { self.new.taken ≡ self.old.taken }
+        ensures trails { self.new.trails ≡ self.old.trails }
     {
         self.machine.change(change)?;
         self.made.push(step, change)
@@ -63,11 +92,14 @@ impl Running {
     /// Makes the changes that come before the step with a number.
     fn change(&mut self, step: u64, changes: &[Change]) -> Result<(), NoMemory>
         ensures allowed { OnOk result (AllByRecursion IsDataChange (changes_of changes.now)) }
-        ensures hart { OnOk result (hart_in self.new.machine ≡ hart_in self.old.machine) }
+        ensures harts { OnOk result (harts_in self.new.machine ≡ harts_in self.old.machine) }
         ensures shared { OnOk result
-            (shared_in self.new.machine ≡ disturbed (shared_in self.old.machine) (changes_of changes.now)) }
+            (harts_share self.new.machine ≡ disturbed (harts_share self.old.machine) (changes_of changes.now)) }
         ensures made { OnOk result (self.new.made ≡ self.old.made ++ map (λ c. (step, c)) changes.now) }
-        ensures trail { OnOk result (self.new.trail ≡ self.old.trail) }
+        ensures count { OnOk result (length self.new.machine.resting ≡ length self.old.machine.resting) }
+        ensures version { OnOk result (self.new.machine.processor.memory.version ≡ self.old.machine.processor.memory.version) }
+        ensures taken { OnOk result (self.new.taken ≡ self.old.taken) }
+        ensures trails { OnOk result (self.new.trails ≡ self.old.trails) }
     {
         for change in changes {
             self.make(step, *change)?;
@@ -84,14 +116,15 @@ impl Running {
     ) -> Result<(), NoMemory>
         requires more { step + 1 < 2 ^ 64 }
         requires quiet { IsQuietPlan step self.old.quiet (M.plan meddler.old) }
-        ensures allowed { OnOk result (AllByRecursion IsDataChange
-            (changes_of (M.plan meddler.old step (hart_in self.old.machine) (shared_in self.old.machine)))) }
-        ensures hart { OnOk result (hart_in self.new.machine ≡ hart_in self.old.machine) }
-        ensures shared { OnOk result (shared_in self.new.machine ≡ disturbed (shared_in self.old.machine)
-            (changes_of (M.plan meddler.old step (hart_in self.old.machine) (shared_in self.old.machine)))) }
-        ensures made { OnOk result (self.new.made ≡ self.old.made ++ map (λ c. (step, c))
-            (M.plan meddler.old step (hart_in self.old.machine) (shared_in self.old.machine))) }
-        ensures trail { OnOk result (self.new.trail ≡ self.old.trail) }
+        ensures allowed { OnOk result (AllByRecursion IsDataChange (changes_of (changes_in_plan (M.plan meddler.old) step self.old.machine))) }
+        ensures harts { OnOk result (harts_in self.new.machine ≡ harts_in self.old.machine) }
+        ensures shared { OnOk result (harts_share self.new.machine ≡ disturbed (harts_share self.old.machine)
+            (changes_of (changes_in_plan (M.plan meddler.old) step self.old.machine))) }
+        ensures made { OnOk result (self.new.made ≡ self.old.made ++ map (λ c. (step, c)) (changes_in_plan (M.plan meddler.old) step self.old.machine)) }
+        ensures count { OnOk result (length self.new.machine.resting ≡ length self.old.machine.resting) }
+        ensures version { OnOk result (self.new.machine.processor.memory.version ≡ self.old.machine.processor.memory.version) }
+        ensures taken { OnOk result (self.new.taken ≡ self.old.taken) }
+        ensures trails { OnOk result (self.new.trails ≡ self.old.trails) }
         ensures still { OnOk result (IsQuietPlan (step + 1) self.new.quiet (M.plan meddler.old)) }
         ensures kept { M.plan meddler.new ≡ M.plan meddler.old }
     {
@@ -105,22 +138,66 @@ impl Running {
         Ok(())
     }
 
-    /// Notes the address of the next step, where something starts there.
-    fn note(&mut self, checked: &Checked<'_>)
-        requires { self.old.trail.count + 1 < 2 ^ 64 }
+    /// Lets a meddler choose the hart of the step with a number, and makes the changes that it has before it.
+    #[inline(never)]
+    fn choose<M: Meddler>(
+        &mut self,
+        alloc: Global,
+        meddler: &mut M,
+        step: u64,
+    ) -> Result<(), NoMemory>
+        requires more { step + 1 < 2 ^ 64 }
+        requires ready { IsReady (M.plan meddler.old) step self.old }
+        ensures prepared { OnOk result (IsPrepared (M.plan meddler.old) step self.old self.new) }
+        ensures kept { M.plan meddler.new ≡ M.plan meddler.old }
+    {
+        let hart = meddler.hart(step, &self.machine);
+        self.disturb(alloc, meddler, step)?;
+        self.taken.take(hart, step)?;
+        self.still = lesser(self.quiet, meddler.one_hart_until(step));
+        Ok(())
+    }
+
+    /// The same, but does not ask the meddler where the same hart goes on and no change comes.
+    #[inline(always)]
+    fn prepare<M: Meddler>(
+        &mut self,
+        alloc: Global,
+        meddler: &mut M,
+        step: u64,
+    ) -> Result<(), NoMemory>
+        requires more { step + 1 < 2 ^ 64 }
+        requires ready { IsReady (M.plan meddler.old) step self.old }
+        ensures prepared { OnOk result (IsPrepared (M.plan meddler.old) step self.old self.new) }
+        ensures kept { M.plan meddler.new ≡ M.plan meddler.old }
+    {
+        if step < self.still {
+            return Ok(());
+        }
+        self.choose(alloc, meddler, step)
+    }
+
+    /// Notes the address of a hart's next step, where something starts there.
+    fn note(&mut self, checked: &Checked<'_>, hart: u8)
+        requires hart { hart < length self.old.machine.resting }
+        requires trail { hart < length self.old.trails.items }
+        requires room { (t : TrailParts) → slice_get self.old.trails.items hart ≡ Some t → t.count + 1 < 2 ^ 64 }
         ensures machine { self.new.machine ≡ self.old.machine }
         ensures made { self.new.made ≡ self.old.made }
+        ensures taken { self.new.taken ≡ self.old.taken }
         ensures quiet { self.new.quiet ≡ self.old.quiet }
-        ensures trail { (walk : List ℕ) → IsTrailOf walk self.old.trail
-            → IsTrailOf (walk ++ if_starts (place_at version_1 (code_words checked.now.image.code) self.old.machine.pc) self.old.machine.pc []) self.new.trail }
+        ensures still { self.new.still ≡ self.old.still }
+        ensures count { length self.new.trails.items ≡ length self.old.trails.items }
+        ensures trails { AreNoted (image_profile checked.now.image) (code_words checked.now.image.code) hart (harts_in self.old.machine hart).pc
+            self.old.trails.items self.new.trails.items }
     {
-        let pc = self.machine.pc();
+        let pc = self.machine.pc(hart);
         if checked.is_place(pc) {
-            self.trail.note(pc);
+            self.trails[hart as usize].note(pc);
         }
     }
 
-    /// The step with a number, with the changes that come before it.
+    /// The step with a number, of the hart that a meddler chooses, with the changes that come before it.
     pub(crate) fn turn<M: Meddler>(
         &mut self,
         alloc: Global,
@@ -128,24 +205,27 @@ impl Running {
         meddler: &mut M,
         step: u64,
     ) -> Result<Turn, NoMemory>
-        requires room { self.old.trail.count + 1 < 2 ^ 64 }
         requires more { step + 1 < 2 ^ 64 }
-        requires quiet { IsQuietPlan step self.old.quiet (M.plan meddler.old) }
-        ensures stepped { IfOk result (λ turn. after_step self.new.machine turn
-            ≡ disturbed_step version_1 (hart_in self.old.machine) (shared_in self.old.machine)
-            (changes_of (M.plan meddler.old step (hart_in self.old.machine) (shared_in self.old.machine)))) }
-        ensures allowed { OnOk result (AllByRecursion IsDataChange
-            (changes_of (M.plan meddler.old step (hart_in self.old.machine) (shared_in self.old.machine)))) }
-        ensures made { OnOk result (self.new.made ≡ self.old.made ++ map (λ c. (step, c))
-            (M.plan meddler.old step (hart_in self.old.machine) (shared_in self.old.machine))) }
-        ensures trail { OnOk result ((walk : List ℕ) → IsTrailOf walk self.old.trail
-            → IsTrailOf (walk ++ if_starts (place_at version_1 (code_words checked.now.image.code) self.old.machine.pc) self.old.machine.pc []) self.new.trail) }
-        ensures still { OnOk result (IsQuietPlan (step + 1) self.new.quiet (M.plan meddler.old)) }
+        requires ready { IsReady (M.plan meddler.old) step self.old }
+        ensures stepped { IfOk result (λ turn. run_after self.new.machine turn
+            ≡ stepped (profile_of self.old.machine.processor.memory.version) (harts_in self.old.machine) (harts_share self.old.machine)
+            (step_of (step_in_plan (M.plan meddler.old) step self.old.machine))) }
+        ensures allowed { OnOk result (IsStepOf (length self.old.machine.resting) (step_of (step_in_plan (M.plan meddler.old) step self.old.machine))) }
+        ensures made { OnOk result (self.new.made ≡ self.old.made ++ map (λ c. (step, c)) (changes_in_plan (M.plan meddler.old) step self.old.machine)) }
+        ensures taken { OnOk result ((harts : List ℕ) → length harts ≡ step → AreTurnsOf harts self.old.taken
+            → AreTurnsOf (harts ++ hart_in_plan (M.plan meddler.old) step self.old.machine ∷ []) self.new.taken) }
+        ensures noted { OnOk result (AreNoted (image_profile checked.now.image) (code_words checked.now.image.code)
+            (hart_in_plan (M.plan meddler.old) step self.old.machine) (harts_in self.old.machine (hart_in_plan (M.plan meddler.old) step self.old.machine)).pc
+            self.old.trails.items self.new.trails.items) }
+        ensures ready { OnOk result (IsReady (M.plan meddler.old) (step + 1) self.new) }
+        ensures count { OnOk result (length self.new.machine.resting ≡ length self.old.machine.resting) }
+        ensures version { OnOk result (self.new.machine.processor.memory.version ≡ self.old.machine.processor.memory.version) }
         ensures kept { M.plan meddler.new ≡ M.plan meddler.old }
     {
-        self.disturb(alloc, meddler, step)?;
-        self.note(checked);
-        self.machine.step()
+        self.prepare(alloc, meddler, step)?;
+        let hart = self.taken.last();
+        self.note(checked, hart);
+        self.machine.step(hart)
     }
 
     /// The report, of a run that ended so after this many steps.
@@ -155,26 +235,46 @@ impl Running {
         end: RunEnd,
         steps: u64,
     ) -> Result<RunReport, NoMemory>
-        ensures { IfOk result (λ report. report ≡ record {
-          end = end;
-          steps = steps;
-          output = self.machine.calls.output;
-          events = self.machine.calls.events;
-          made = self.made;
-          walk = self.trail.count;
-          trail = self.trail.last;
-        }) }
+        ensures end { IfOk result (λ report. report.end ≡ end) }
+        ensures hart { IfOk result (λ report. (harts : List ℕ) → AreTurnsOf harts self.taken → report.hart ≡ stopping_hart end harts) }
+        ensures steps { IfOk result (λ report. report.steps ≡ steps) }
+        ensures turns { IfOk result (λ report. (harts : List ℕ) → length harts ≡ steps → AreTurnsOf harts self.taken → report.turns ≡ turns_of harts) }
+        ensures output { IfOk result (λ report. report.output ≡ self.machine.processor.calls.output) }
+        ensures events { IfOk result (λ report. report.events ≡ self.machine.processor.calls.events) }
+        ensures made { IfOk result (λ report. report.made ≡ self.made) }
+        ensures walks { IfOk result (λ report. report.walks ≡ map told_of self.trails.items) }
     {
-        let trail = self.trail.last(alloc)?;
+        let walks = HartWalks::of(alloc, &self.trails)?;
+        let hart = stopping_hart(end, self.taken.last());
+        let turns = self.taken.into_turns(steps)?;
         let (output, events) = self.machine.into_results();
         Ok(RunReport {
             end,
+            hart,
             steps,
+            turns,
             output,
             events,
             made: self.made,
-            walk: self.trail.count(),
-            trail,
+            walks,
         })
     }
+}
+
+/// Trails of so many walks without addresses.
+fn empty_trails(alloc: Global, count: u8) -> Result<Vec<Trail>, NoMemory>
+    ensures count { IfOk result (λ trails. length trails.items ≡ count) }
+    ensures empty { IfOk result (λ trails. All (IsTrailOf []) trails.items) }
+{
+    let mut trails = Vec::new(alloc);
+    for _ in 0..count {
+        trails.push(Trail::new())?;
+    }
+    Ok(trails)
+}
+
+fn lesser(a: u64, b: u64) -> u64
+    ensures { result ≡ min a b }
+{
+    if a < b { a } else { b }
 }

@@ -1,12 +1,13 @@
 //! The loop of a run.
 
-ghost use Rattle.std.specs.Prelude.{◌≡◌, ℕ, IfOk, OnOk, map};
-ghost use Rattle.rv_word.specs.MemoryMap.{version_1};
+ghost use Rattle.std.specs.Prelude.{◌≡◌, ℕ, length, IfOk, OnOk};
+ghost use Rattle.rv_word.specs.Image.{image_profile};
+ghost use Rattle.rv_word.specs.MemoryMap.{MayRun};
 ghost use Rattle.rv_code.specs.State.{start_hart, start_shared};
-ghost use Rattle.rv_machine.specs.Parts.{hart_in, shared_in};
-ghost use Rattle.cfi_verify.specs.Split.{code_words};
-ghost use Rattle.cfi_verify.specs.Walks.{walk_alone, IsGraphWalk};
-ghost use Rattle.cfi_step.specs.Plan.{changes_of, planned};
+ghost use Rattle.rv_machine.specs.Harts.{harts_in, harts_share};
+ghost use Rattle.cfi_rules.specs.Split.{code_words};
+ghost use Rattle.cfi_rules.specs.Walks.{walk_of, IsGraphWalk};
+ghost use Rattle.cfi_step.specs.Plan.{planned, steps_of};
 ghost use Rattle.cfi_step.specs.Report.{IsReport};
 ghost use Rattle.cfi_step.specs.Script.{IsScript, script_plan};
 ghost use Rattle.cfi_step.specs.Running.{is_stop, IsBegun, IsOver};
@@ -34,9 +35,11 @@ fn finish<M: Meddler>(
     limit: u64,
     running: &mut Running,
 ) -> Result<(RunEnd, u64), NoMemory>
-    requires { IsBegun version_1 checked.now.image running.old }
-    ensures over { IfOk result (λ r. IsOver version_1 checked.now.image (hart_in running.old.machine) (shared_in running.old.machine)
-        (planned version_1 (M.plan meddler.old) 0 (hart_in running.old.machine) (shared_in running.old.machine) limit) r.0 r.1 running.new) }
+    requires { IsBegun (image_profile checked.now.image) checked.now.image running.old }
+    ensures over { IfOk result (λ r. IsOver (image_profile checked.now.image) checked.now.image (length running.old.machine.resting)
+        (harts_in running.old.machine) (harts_share running.old.machine)
+        (planned (image_profile checked.now.image) (M.plan meddler.old) (length running.old.machine.resting) 0
+        (harts_in running.old.machine) (harts_share running.old.machine) limit) r.0 r.1 running.new) }
     ensures kept { M.plan meddler.new ≡ M.plan meddler.old }
 {
     let mut steps = 0;
@@ -50,34 +53,38 @@ fn finish<M: Meddler>(
     Ok((RunEnd::Limit, steps))
 }
 
-/// Runs an accepted image with an input, at most `limit` steps, while a meddler changes its data
-/// before each of them.
+/// Runs an accepted image with an input and so many harts, at most `limit` steps. A meddler chooses the hart
+/// that takes each of them, and changes the image's data before it.
 pub fn run<M: Meddler>(
     alloc: Global,
     checked: &Checked<'_>,
     input: &[u8],
+    harts: u8,
     meddler: &mut M,
     limit: u64,
 ) -> Result<RunReport, NoMemory>
-    // The report is that of the run under the changes that the plan makes.
-    ensures report { IfOk result (IsReport version_1 checked.now.image input.now
-        (planned version_1 (M.plan meddler.old) 0 (start_hart 0) (start_shared checked.now.image input.now) limit)) }
+    requires { MayRun (image_profile checked.now.image) harts }
 
-    // The changes that were made are a script, and a run under that script makes them again.
+    // The report is that of the run in the steps that the plan makes.
+    ensures report { IfOk result (IsReport (image_profile checked.now.image) checked.now.image input.now harts
+        (planned (image_profile checked.now.image) (M.plan meddler.old) harts 0 start_hart (start_shared checked.now.image input.now) limit)) }
+
+    // Its turns and the changes that were made are a script, and a run under that script takes the same steps again.
     ensures script { IfOk result (λ report. IsScript report.made) }
-    ensures replayed { IfOk result (λ report. planned version_1 (script_plan report.made) 0 (start_hart 0) (start_shared checked.now.image input.now) limit
-        ≡ planned version_1 (M.plan meddler.old) 0 (start_hart 0) (start_shared checked.now.image input.now) limit) }
+    ensures replayed { IfOk result (λ report.
+        planned (image_profile checked.now.image) (script_plan (record { harts = harts; turns = report.turns; changes = report.made })) harts 0 start_hart (start_shared checked.now.image input.now) limit
+        ≡ planned (image_profile checked.now.image) (M.plan meddler.old) harts 0 start_hart (start_shared checked.now.image input.now) limit) }
 
-    // The walk of that run is a list of steps of the graph walk.
-    ensures walk { OnOk result (IsGraphWalk version_1 (code_words checked.now.image.code) checked.now.graph.lines
-        (walk_alone version_1 (code_words checked.now.image.code) (start_hart 0) (start_shared checked.now.image input.now)
-        (map changes_of (planned version_1 (M.plan meddler.old) 0 (start_hart 0) (start_shared checked.now.image input.now) limit)))) }
+    // The walk of each hart in that run is a list of steps of the graph walk.
+    ensures walk { OnOk result ((k : ℕ) → IsGraphWalk (image_profile checked.now.image) (code_words checked.now.image.code) checked.now.graph.lines
+        (walk_of (image_profile checked.now.image) (code_words checked.now.image.code) k start_hart (start_shared checked.now.image input.now)
+        (steps_of (planned (image_profile checked.now.image) (M.plan meddler.old) harts 0 start_hart (start_shared checked.now.image input.now) limit)))) }
 
     // The meddler's plan stays, so that the next run is under the same one.
     ensures kept { M.plan meddler.new ≡ M.plan meddler.old }
 {
     checked.is_safe();
-    let mut running = Running::new(alloc, checked.image(), input)?;
+    let mut running = Running::new(alloc, checked.image(), input, harts)?;
     let (end, steps) = finish(alloc, checked, meddler, limit, &mut running)?;
     let report = running.into_report(alloc, end, steps)?;
     Ok(report)

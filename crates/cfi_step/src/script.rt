@@ -3,68 +3,100 @@ ghost use Rattle.std.specs.List.{All, filter};
 ghost use Rattle.cfi_step.specs.Script.{IsScript, script_plan};
 ghost use Rattle.cfi_step.specs.Quiet.{IsQuiet};
 
+use crate::cursor::{Cursor, end_of_turn, hart_at, moved};
 use crate::meddler::Meddler;
 use rv_machine::{Change, Machine};
 use rv_word::NoMemory;
 use std::alloc::Global;
 use std::marker::Model;
 
-/// Changes of data bytes, each with the number of steps that are taken before it. These numbers do not
-/// fall.
+/// How many harts run, the turns in which they step, and changes of data bytes, each with the number of steps of all harts
+/// that are taken before it. These numbers do not fall.
 #[derive(Drop)]
 pub struct Script {
+    harts: u8,
+    turns: Vec<(u8, u64)>,
     changes: Vec<(u64, Change)>,
+    /// The turn that was asked for last.
+    cursor: Cursor,
     /// No change comes after so many steps or more, up to `next`.
     from: u64,
     next: u64,
 }
 
 impl Model for Script {
-    ghost use Rattle.std.specs.Prelude.{ℕ, List};
-    ghost use Rattle.cfi_step.specs.Script.{IsScript};
+    ghost use Rattle.cfi_step.specs.Script.{IsScript, ScriptParts};
     ghost use Rattle.cfi_step.specs.Quiet.{IsQuiet};
+    ghost use Rattle.cfi_step.specs.TurnPlace.{ComesAfter};
 
-    ghost Value = { List (ℕ × (ℕ × ℕ)) };
+    ghost Value = { ScriptParts };
 
-    ghost view = { λ s. s.changes.items };
+    ghost view = { λ s. record { harts = s.harts; turns = s.turns.items; changes = s.changes.items } };
 
-    ghost invariant = { λ s. (IsScript s.changes.items) × (IsQuiet s.from s.next s.changes.items) };
+    ghost invariant = { λ s. (IsScript s.changes.items) × (IsQuiet s.from s.next s.changes.items)
+        × (ComesAfter s.turns.items s.cursor.index s.cursor.before) };
 }
 
 impl Script {
-    /// The script without changes. It takes no memory.
+    /// The script for one hart, without changes. It takes no memory.
     pub fn none(alloc: Global) -> Self
-        ensures { result ≡ [] }
+        ensures { result ≡ record { harts = 1; turns = []; changes = [] } }
     {
-        Script::with(Vec::new(alloc))
+        Script::with(1, Vec::new(alloc), Vec::new(alloc))
     }
 
-    /// The script that these changes are.
-    pub(crate) fn with(changes: Vec<(u64, Change)>) -> Self
+    /// The script of these parts.
+    pub(crate) fn with(harts: u8, turns: Vec<(u8, u64)>, changes: Vec<(u64, Change)>) -> Self
         requires { IsScript changes.items }
-        ensures { result ≡ changes.items }
+        ensures { result ≡ record { harts = harts; turns = turns.items; changes = changes.items } }
     {
         Script {
+            harts,
+            turns,
             changes,
+            cursor: Cursor {
+                index: 0,
+                before: 0,
+            },
             from: 0,
             next: 0,
         }
     }
 
-    /// The script with just these changes.
-    pub fn of(alloc: Global, changes: &[(u64, Change)]) -> Result<Self, NoMemory>
+    /// The script of so many harts, their turns and just these changes. Each turn is a hart, and how many steps it
+    /// takes; hart 0 steps where the turn is of one that a machine has not, and after the last turn.
+    pub fn of(
+        alloc: Global,
+        harts: u8,
+        turns: &[(u8, u64)],
+        changes: &[(u64, Change)],
+    ) -> Result<Self, NoMemory>
         requires { IsScript changes.now }
-        ensures { IfOk result (λ s. s ≡ changes.now) }
+        ensures { IfOk result (λ s. s ≡ record { harts = harts; turns = turns.now; changes = changes.now }) }
     {
-        let mut items = Vec::new(alloc);
-        items.extend_from_slice(changes)?;
-        Ok(Script::with(items))
+        let turns = Vec::from_slice(alloc, turns)?;
+        let changes = Vec::from_slice(alloc, changes)?;
+        Ok(Script::with(harts, turns, changes))
+    }
+
+    /// How many harts it is for.
+    pub fn harts(&self) -> u8
+        ensures { result ≡ self.now.harts }
+    {
+        self.harts
+    }
+
+    /// Its turns: a hart, and how many steps it takes.
+    pub fn turns(&self) -> &[(u8, u64)]
+        ensures { result.now ≡ self.now.turns }
+    {
+        self.turns.as_slice()
     }
 
     /// The changes, each with its number of steps.
     pub fn as_slice(&self) -> &[(u64, Change)]
-        ensures value { result.now ≡ self.now }
-        ensures ordered { IsScript self.now }
+        ensures value { result.now ≡ self.now.changes }
+        ensures ordered { IsScript self.now.changes }
     {
         self.changes.as_slice()
     }
@@ -129,8 +161,25 @@ impl Meddler for Script {
 
     ghost plan = { λ s. script_plan s };
 
+    fn hart(&mut self, step: u64, seen: &Machine) -> u8 {
+        let turns = self.turns.as_slice();
+        let cursor = moved(turns, self.cursor, step);
+        let hart = hart_at(turns, cursor.index);
+        self.cursor = cursor;
+        if hart < seen.harts() { hart } else { 0 }
+    }
+
     fn quiet_until(&self, step: u64) -> u64 {
         if self.from <= step { self.next } else { step }
+    }
+
+    fn one_hart_until(&self, step: u64) -> u64 {
+        let end = end_of_turn(self.turns.as_slice(), self.cursor);
+        if self.cursor.before <= step && step < end {
+            end
+        } else {
+            step
+        }
     }
 
     fn meddle(

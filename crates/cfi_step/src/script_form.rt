@@ -1,15 +1,20 @@
-ghost use Rattle.std.specs.Prelude.{◌≡◌, ◌++◌, true, IfOk, OnOk, OnErr};
+ghost use Rattle.std.specs.Prelude.{◌≡◌, ◌+◌, ◌<◌, ◌^◌, ◌++◌, nat_le, ◌&&◌, true, length, IfOk, OnOk, OnErr, Ok};
+ghost use Rattle.rv_word.specs.declared.profile.TheConstants.{MOST_HARTS};
 ghost use Rattle.text_lines.specs.Answers.{Answers};
+ghost use Rattle.text_lines.specs.Lines.{lines_of};
+ghost use Rattle.text_lines.specs.Reading.{if_right};
 ghost use Rattle.cfi_step.specs.Script.{IsScript};
-ghost use Rattle.cfi_step.specs.ScriptText.{line_changes, in_range, script_of, script_rules};
+ghost use Rattle.cfi_step.specs.ScriptText.{changes_of_lines, for_several, line_changes, in_range, script_of, script_rules};
 
 use crate::script::Script;
-use crate::script_line::{ScriptLine, line_of};
+use crate::script_line::{ScriptLine, harts_of, line_of};
+use crate::script_turns::read_turns;
 use rv_machine::Change;
 use rv_word::NoMemory;
 use rv_word::memory_map::DATA_END;
+use rv_word::profile::MOST_HARTS;
 use std::alloc::Global;
-use text_lines::{LineForm, MAX_STEP, TextEnd, after_one_of, read_lines};
+use text_lines::{LineForm, MAX_STEP, Reason, TextEnd, after_one_of, cut, read_lines};
 
 fn in_range(line: &ScriptLine) -> bool
     ensures { result ≡ in_range line.now }
@@ -75,21 +80,70 @@ impl LineForm for ScriptForm {
 }
 
 /// The first lines that a script may have.
-const NAMES: [&[u8]; 1] = [b"rvcfi-script 1"];
+const NAMES: [&[u8]; 2] = [b"rvcfi-script 1", b"rvcfi-script 2"];
+
+/// The script of so many harts, of their turns and of the changes that stand in a text, whose first line has the
+/// number `first`.
+fn with_changes(
+    alloc: Global,
+    harts: u8,
+    turns: Vec<(u8, u64)>,
+    first: u64,
+    text: &[u8],
+) -> Result<Script, TextEnd>
+    requires { first + length text.now < 2 ^ 64 }
+    ensures exact { Answers result (if_right (changes_of_lines first (lines_of text.now))
+        (λ changes. Ok (record { harts = harts; turns = turns.items; changes = changes }))) }
+    ensures ordered { IfOk result (λ script. IsScript script.changes) }
+{
+    let mut form = ScriptForm {
+        before: 0,
+        changes: Vec::new(alloc),
+    };
+    read_lines(alloc, &mut form, first, text)?;
+    Ok(Script::with(harts, turns, form.changes))
+}
+
+/// Whether a script may be for so many harts.
+fn is_count(harts: u64) -> bool
+    ensures { result ≡ (nat_le 1 harts && nat_le harts MOST_HARTS) }
+{
+    1 <= harts && harts <= MOST_HARTS
+}
+
+/// The script for several harts that stands after the first line of a text.
+fn for_several(alloc: Global, text: &[u8]) -> Result<Script, TextEnd>
+    ensures exact { Answers result (for_several (lines_of text.now)) }
+    ensures ordered { IfOk result (λ script. IsScript script.changes) }
+{
+    let (line, rest) = cut(text, b'\n');
+    let Some(rest) = rest else {
+        return Err(TextEnd::Line(2, Reason::Form));
+    };
+    let Some(harts) = harts_of(line) else {
+        return Err(TextEnd::Line(2, Reason::Form));
+    };
+    if !is_count(harts) {
+        return Err(TextEnd::Line(2, Reason::Range));
+    }
+    let harts = harts as u8;
+    let mut turns = Vec::new(alloc);
+    let (number, rest) = read_turns(&mut turns, harts, rest)?;
+    with_changes(alloc, harts, turns, number, rest)
+}
 
 impl Script {
     /// Reads the text of a script, of which it keeps no copy. The lines of a text count from 1.
     pub fn read(alloc: Global, text: &[u8]) -> Result<Script, TextEnd>
         // The right answer, but for want of memory.
         ensures exact { Answers result (script_of text.now) }
-        ensures ordered { IfOk result IsScript }
+        ensures ordered { IfOk result (λ script. IsScript script.changes) }
     {
-        let (_, rest) = after_one_of(text, &NAMES)?;
-        let mut form = ScriptForm {
-            before: 0,
-            changes: Vec::new(alloc),
-        };
-        read_lines(alloc, &mut form, 2, rest)?;
-        Ok(Script::with(form.changes))
+        let (which, rest) = after_one_of(text, &NAMES)?;
+        if which == 0 {
+            with_changes(alloc, 1, Vec::new(alloc), 2, rest)
+        } else {
+            for_several(alloc, rest)
+        }
     }
 }

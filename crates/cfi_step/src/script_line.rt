@@ -1,7 +1,7 @@
 ghost use Rattle.std.specs.Prelude.{◌≡◌, IfOk, option_map};
 ghost use Rattle.std.specs.List.{list_any};
 ghost use Rattle.text_lines.specs.Lines.{words_of};
-ghost use Rattle.cfi_step.specs.ScriptText.{data_of, line_of, words_after_at};
+ghost use Rattle.cfi_step.specs.ScriptText.{data_of, harts_of, line_of, turn_of, words_after_at};
 ghost use Rattle.cfi_step.specs.ScriptNumbers.{is_capital};
 
 use hex::FromHexError;
@@ -81,4 +81,39 @@ pub(crate) fn line_of(alloc: Global, line: &[u8]) -> Result<Option<ScriptLine>, 
         address,
         bytes,
     }))
+}
+
+/// The count of harts that a line gives, if it has the form of one that does; each that is too large stands as
+/// `MAX_STEP + 1`.
+pub(crate) fn harts_of(line: &[u8]) -> Option<u64>
+    ensures { result ≡ harts_of (words_of line.now) }
+{
+    let (name, rest) = cut(line, b' ');
+    let (count, rest) = cut(rest?, b' ');
+    if let Some(_more) = rest {
+        return None;
+    }
+    if !is_word(name, b"harts") {
+        return None;
+    }
+    decimal_of(count)
+}
+
+/// The hart and the steps of a turn, if a line has the form of one; each number that is too large stands as
+/// `MAX_STEP + 1`.
+pub(crate) fn turn_of(line: &[u8]) -> Option<(u64, u64)>
+    ensures { result ≡ turn_of (words_of line.now) }
+{
+    let (name, rest) = cut(line, b' ');
+    let (hart, rest) = cut(rest?, b' ');
+    let (steps, rest) = cut(rest?, b' ');
+    if let Some(_more) = rest {
+        return None;
+    }
+    if !is_word(name, b"turn") {
+        return None;
+    }
+    let hart = decimal_of(hart)?;
+    let steps = decimal_of(steps)?;
+    Some((hart, steps))
 }

@@ -1,6 +1,7 @@
 ghost use Rattle.std.specs.Prelude.{◌≡◌, ◌+◌, ◌++◌, ◌∷◌, [], ◌<◌, ◌^◌, ℕ, List, IfOk, min};
-ghost use Rattle.cfi_step.specs.Trail.{IsTrailOf};
+ghost use Rattle.cfi_step.specs.Trail.{IsTrailOf, told_of};
 
+use crate::report::HartWalk;
 use rv_word::{NoMemory, Places};
 use std::alloc::Global;
 use std::marker::Model;
@@ -39,20 +40,25 @@ impl Trail {
     /// The walk goes on to an address.
     pub(crate) fn note(&mut self, address: u64)
         requires { self.old.count + 1 < 2 ^ 64 }
-        ensures { (walk : List ℕ) → IsTrailOf walk self.old → IsTrailOf (walk ++ address ∷ []) self.new }
+        ensures walk { (walk : List ℕ) → IsTrailOf walk self.old → IsTrailOf (walk ++ address ∷ []) self.new }
+        ensures count { self.new.count ≡ self.old.count + 1 }
     {
         self.ring[(self.count % KEPT) as usize] = address;
         self.count += 1;
     }
 
-    pub(crate) fn count(&self) -> u64
-        ensures { result ≡ self.now.count }
+    /// What is told of the walk.
+    pub(crate) fn told(&self, alloc: Global) -> Result<HartWalk, NoMemory>
+        ensures { IfOk result (λ walk. walk ≡ told_of self.now) }
     {
-        self.count
+        Ok(HartWalk {
+            walk: self.count,
+            trail: self.last(alloc)?,
+        })
     }
 
     /// The last addresses, oldest first.
-    pub(crate) fn last(&self, alloc: Global) -> Result<Places, NoMemory>
+    fn last(&self, alloc: Global) -> Result<Places, NoMemory>
         ensures { IfOk result (λ places. places ≡ self.now.last) }
     {
         let mut last = Vec::from_slice(alloc, &self.ring[..kept(self.count)])?;

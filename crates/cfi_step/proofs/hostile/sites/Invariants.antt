@@ -1,8 +1,7 @@
 use Rattle.std.proofs.Common.{◌≡◌, ◌+◌, ◌*◌, ◌-◌, ◌++◌}
-use Rattle.rv_word.specs.MemoryMap.{SHADOW_START}
 use Rattle.rv_mem.specs.Cells.{memory_of}
 use Rattle.cfi_step.specs.Hostile.{sites_from}
 use Rattle.cfi_step.proofs.hostile.sites.Given as goal
 
 abbrev pub invariant-loop-k : goal.invariant-loop-k
-invariant-loop-k l = l.sites.items ++ sites_from (memory_of l.memory) (SHADOW_START + 8 + 8 * l.k) (l.count - l.k) ≡ sites_from (memory_of l.memory) (SHADOW_START + 8) l.count
+invariant-loop-k l = l.sites.items ++ sites_from (memory_of l.memory) (l.first + 8 * l.k) (l.count - l.k) ≡ sites_from (memory_of l.memory) l.first l.count

@@ -1,43 +1,101 @@
-use Rattle.std.proofs.Common.{◌-◌, ◌+◌, ◌∙◌, sym, subst, arith}
-use Rattle.rv_word.specs.MemoryMap.{version_1}
-use Rattle.cfi_step.specs.Plan.{IsQuietPlan, Plan}
-use Rattle.cfi_step.proofs.Continues.{all_taken, count_next, has_end, next, stays_next, stopped}
+use Rattle.std.proofs.Common.{◌-◌, ◌+◌, ◌∙◌, ◌≡◌, ℕ, length, refl, ap, sym, subst, arith}
+use Rattle.rv_word.specs.Image.{image_profile}
+use Rattle.rv_word.specs.MemoryMap.{profile_of}
+use Rattle.rv_machine.specs.Harts.{harts_in, harts_share}
+use Rattle.cfi_step.specs.Plan.{Plan, planned}
+use Rattle.cfi_step.specs.Running.{IsReady}
+use Rattle.cfi_step.proofs.Preparing.{begun_ready, empty_so}
+use Rattle.cfi_step.proofs.Continues.{Continues, all_taken, at_start, has_end, next, stays_next, step_at, stopped, took_so}
 use Rattle.cfi_step.proofs.runs.finish.Goals as goal
+
+pub loop-steps-init : goal.loop-steps-init
+loop-steps-init g c =
+    let image = c.args.checked.now.image in
+    let now = c.args.running.now in
+    let plan = g.M.Meddler.plan c.args.meddler.now in
+    let count = length now.machine.resting in
+    let whole = planned (image_profile image) plan count 0 (harts_in now.machine) (harts_share now.machine) c.args.limit in
+    let all : c.args.limit ≡ c.args.limit - 0 = omega arith in
+    let begins = at_start (image_profile image) image count (harts_in now.machine) (harts_share now.machine) whole now.made now.taken now.trails.items c.requires.made c.requires.taken
+    (λ j t at. empty_so now.trails.items c.requires.empty j t at) in
+    record {
+      bound = omega arith;
+      ready = begun_ready plan (image_profile image) image now c.requires;
+      count = refl;
+      profile = c.requires.profile;
+      plan = refl;
+      stays = c.requires.stays;
+      continues = subst (λ (n : ℕ). Continues (image_profile image) image count (harts_in now.machine) (harts_share now.machine) whole 0 (harts_in now.machine) (harts_share now.machine)
+          (planned (image_profile image) plan count 0 (harts_in now.machine) (harts_share now.machine) n) now.made now.taken now.trails.items) all begins;
+    }
 
 pub end_of-requires : goal.end_of-requires
 end_of-requires g c =
-    let stepped = rw c.loop-steps.invariant.plan at c.in_ok-turn.ensures.stepped in
-    let allowed = rw c.loop-steps.invariant.plan at c.in_ok-turn.ensures.allowed in
-    has_end version_1 c.args.checked.now.image _ _ _ c.loop-steps.invariant.stays.0 c.loop-steps.invariant.stays.1 allowed _ stepped
-
-pub turn-requires-clause-quiet : goal.turn-requires-clause-quiet
-turn-requires-clause-quiet g c = c.loop-steps.invariant.quiet
+    let image = c.args.checked.now.image in
+    let now = c.loop-steps.running in
+    let count = length c.args.running.now.machine.resting in
+    let plan = g.M.Meddler.plan c.args.meddler.now in
+    let took = took_so (profile_of now.machine.processor.memory.version) (image_profile image) image (length now.machine.resting) count (g.M.Meddler.plan c.loop-steps.meddler) plan
+    c.loop-steps.steps now c.turn.new.self c.in_ok-turn.turn c.loop-steps.invariant.profile c.loop-steps.invariant.count c.loop-steps.invariant.plan
+    (record {
+      stepped = c.in_ok-turn.ensures.stepped;
+      allowed = c.in_ok-turn.ensures.allowed;
+      made = c.in_ok-turn.ensures.made;
+      taken = c.in_ok-turn.ensures.taken;
+      noted = c.in_ok-turn.ensures.noted;
+    }) in
+    has_end (image_profile image) image count (harts_in now.machine) (harts_share now.machine) (step_at plan c.loop-steps.steps count now)
+    c.loop-steps.invariant.stays.0 c.loop-steps.invariant.stays.1 took.allowed _ took.stepped
 
 pub returns-then-is_stop-clause-over : goal.returns-then-is_stop-clause-over
 returns-then-is_stop-clause-over g c =
-    let stepped = rw c.loop-steps.invariant.plan at c.in_ok-turn.ensures.stepped in
-    let allowed = rw c.loop-steps.invariant.plan at c.in_ok-turn.ensures.allowed in
-    let made = rw c.loop-steps.invariant.plan at c.in_ok-turn.ensures.made in
-    stopped version_1 c.args.checked.now.image _ _ _ _ _ (c.args.limit - (c.loop-steps.steps + 1)) _ _ _ _ c.args.limit (omega (arith, c.loop-steps-test.true)) c.turn.new.self c.in_ok-turn.turn c.end_of.result
-    stepped (sym c.is_stop.ensures ∙ c.if-is_stop.true) c.loop-steps.invariant.continues made c.in_ok-turn.ensures.trail allowed c.end_of.ensures
+    let image = c.args.checked.now.image in
+    let now = c.loop-steps.running in
+    let count = length c.args.running.now.machine.resting in
+    let plan = g.M.Meddler.plan c.args.meddler.now in
+    let took = took_so (profile_of now.machine.processor.memory.version) (image_profile image) image (length now.machine.resting) count (g.M.Meddler.plan c.loop-steps.meddler) plan
+    c.loop-steps.steps now c.turn.new.self c.in_ok-turn.turn c.loop-steps.invariant.profile c.loop-steps.invariant.count c.loop-steps.invariant.plan
+    (record {
+      stepped = c.in_ok-turn.ensures.stepped;
+      allowed = c.in_ok-turn.ensures.allowed;
+      made = c.in_ok-turn.ensures.made;
+      taken = c.in_ok-turn.ensures.taken;
+      noted = c.in_ok-turn.ensures.noted;
+    }) in
+    let each = c.in_ok-turn.ensures.ready.each ∙ c.in_ok-turn.ensures.count ∙ c.loop-steps.invariant.count in
+    stopped (image_profile image) image count _ _ _ plan c.loop-steps.steps (c.args.limit - (c.loop-steps.steps + 1)) now c.turn.new.self c.in_ok-turn.turn c.args.limit (omega (arith, c.loop-steps-test.true)) c.end_of.result
+    (sym c.is_stop.ensures ∙ c.if-is_stop.true) c.loop-steps.invariant.continues took each c.end_of.ensures
 
 pub loop-steps-preserved : goal.loop-steps-preserved
 loop-steps-preserved g c =
-    let stepped = rw c.loop-steps.invariant.plan at c.in_ok-turn.ensures.stepped in
-    let allowed = rw c.loop-steps.invariant.plan at c.in_ok-turn.ensures.allowed in
-    let made = rw c.loop-steps.invariant.plan at c.in_ok-turn.ensures.made in
+    let image = c.args.checked.now.image in
+    let now = c.loop-steps.running in
+    let count = length c.args.running.now.machine.resting in
+    let plan = g.M.Meddler.plan c.args.meddler.now in
+    let took = took_so (profile_of now.machine.processor.memory.version) (image_profile image) image (length now.machine.resting) count (g.M.Meddler.plan c.loop-steps.meddler) plan
+    c.loop-steps.steps now c.turn.new.self c.in_ok-turn.turn c.loop-steps.invariant.profile c.loop-steps.invariant.count c.loop-steps.invariant.plan
+    (record {
+      stepped = c.in_ok-turn.ensures.stepped;
+      allowed = c.in_ok-turn.ensures.allowed;
+      made = c.in_ok-turn.ensures.made;
+      taken = c.in_ok-turn.ensures.taken;
+      noted = c.in_ok-turn.ensures.noted;
+    }) in
     let goes = sym c.is_stop.ensures ∙ c.if-is_stop.false in
-    let walk = c.loop-steps.invariant.continues.walk in
-    let count = count_next walk.0 _ _ c.loop-steps.running.trail c.turn.new.self.trail walk.1 (c.in_ok-turn.ensures.trail walk.0 walk.1) in
     record {
       bound = omega (arith, c.loop-steps-test.true);
-      count = omega (arith, count, c.loop-steps.invariant.count);
+      ready = subst (λ (plan : Plan). IsReady plan (c.loop-steps.steps + 1) c.turn.new.self) (sym c.turn.ensures.kept) c.in_ok-turn.ensures.ready;
+      count = c.in_ok-turn.ensures.count ∙ c.loop-steps.invariant.count;
+      profile = ap profile_of c.in_ok-turn.ensures.version ∙ c.loop-steps.invariant.profile;
       plan = c.turn.ensures.kept ∙ c.loop-steps.invariant.plan;
-      quiet = subst (λ (plan : Plan). IsQuietPlan (c.loop-steps.steps + 1) c.turn.new.self.quiet plan) (sym c.turn.ensures.kept) c.in_ok-turn.ensures.still;
-      stays = stays_next version_1 c.args.checked.now.image _ _ _ c.loop-steps.invariant.stays.0 c.loop-steps.invariant.stays.1 allowed _ stepped goes;
-      continues = next version_1 c.args.checked.now.image _ _ _ _ _ (c.args.limit - (c.loop-steps.steps + 1)) _ _ _ _ c.args.limit (omega (arith, c.loop-steps-test.true)) _ stepped goes c.turn.new.self.made c.turn.new.self.trail
-          c.loop-steps.invariant.continues made c.in_ok-turn.ensures.trail allowed;
+      stays = stays_next (image_profile image) image count (harts_in now.machine) (harts_share now.machine) (step_at plan c.loop-steps.steps count now)
+          c.loop-steps.invariant.stays.0 c.loop-steps.invariant.stays.1 took.allowed _ took.stepped goes;
+      continues = next (image_profile image) image count _ _ _ plan c.loop-steps.steps (c.args.limit - (c.loop-steps.steps + 1)) now c.turn.new.self c.in_ok-turn.turn c.args.limit (omega (arith, c.loop-steps-test.true))
+          goes c.loop-steps.invariant.continues took;
     }
 
 pub returns-clause-over : goal.returns-clause-over
-returns-clause-over g c = all_taken version_1 _ _ _ _ _ _ _ _ (omega (arith, c.loop-steps-test.false)) c.loop-steps.invariant.continues
+returns-clause-over g c =
+    let p = image_profile c.args.checked.now.image in
+    all_taken p c.args.checked.now.image (length c.args.running.now.machine.resting) _ _ _ (g.M.Meddler.plan c.args.meddler.now) c.loop-steps.steps c.args.limit c.loop-steps.running
+    (omega (arith, c.loop-steps-test.false)) c.loop-steps.invariant.continues (c.loop-steps.invariant.ready.each ∙ c.loop-steps.invariant.count)

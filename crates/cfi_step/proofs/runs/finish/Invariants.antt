@@ -1,8 +1,9 @@
-use Rattle.std.proofs.Common.{◌-◌, ◌≡◌, ℕ, ◌≤◌}
-use Rattle.rv_word.specs.MemoryMap.{version_1}
-use Rattle.rv_machine.specs.Parts.{hart_in, shared_in}
-use Rattle.cfi_step.specs.Plan.{IsQuietPlan, planned}
-use Rattle.cfi_step.specs.Running.{StaysFrom}
+use Rattle.std.proofs.Common.{◌-◌, ◌≡◌, ℕ, ◌≤◌, length}
+use Rattle.rv_word.specs.Image.{image_profile}
+use Rattle.rv_word.specs.MemoryMap.{profile_of}
+use Rattle.rv_machine.specs.Harts.{harts_in, harts_share}
+use Rattle.cfi_step.specs.Plan.{planned}
+use Rattle.cfi_step.specs.Running.{IsReady, StaysFrom}
 use Rattle.cfi_step.proofs.Continues.{Continues}
 use Rattle.cfi_step.proofs.runs.finish.Given as goal
 
@@ -10,15 +11,16 @@ use Rattle.cfi_step.proofs.runs.finish.Given as goal
 abbrev pub invariant-loop-steps : goal.invariant-loop-steps
 invariant-loop-steps g l = record {
   bound : l.steps ≤ l.limit;
-  count : l.running.trail.count ≤ l.steps;
+  ready : IsReady (g.M.Meddler.plan l.meddler) l.steps l.running;
+  count : length l.running.machine.resting ≡ length l.initial.running.machine.resting;
+  profile : profile_of l.running.machine.processor.memory.version ≡ image_profile l.checked.image;
   plan : g.M.Meddler.plan l.meddler ≡ g.M.Meddler.plan l.initial.meddler;
-  quiet : IsQuietPlan l.steps l.running.quiet (g.M.Meddler.plan l.meddler);
-  stays : (newest : ℕ) × StaysFrom version_1 l.checked.image newest (hart_in l.running.machine) (shared_in l.running.machine);
-  continues : Continues version_1 l.checked.image (hart_in l.initial.running.machine) (shared_in l.initial.running.machine)
-      (planned version_1 (g.M.Meddler.plan l.initial.meddler) 0 (hart_in l.initial.running.machine) (shared_in l.initial.running.machine) l.limit)
-      l.steps (hart_in l.running.machine) (shared_in l.running.machine)
-      (planned version_1 (g.M.Meddler.plan l.initial.meddler) l.steps (hart_in l.running.machine) (shared_in l.running.machine) (l.limit - l.steps))
-      l.running.made l.running.trail;
+  stays : (newest : ℕ → ℕ) × StaysFrom (image_profile l.checked.image) l.checked.image (length l.initial.running.machine.resting) newest (harts_in l.running.machine) (harts_share l.running.machine);
+  continues : Continues (image_profile l.checked.image) l.checked.image (length l.initial.running.machine.resting) (harts_in l.initial.running.machine) (harts_share l.initial.running.machine)
+      (planned (image_profile l.checked.image) (g.M.Meddler.plan l.initial.meddler) (length l.initial.running.machine.resting) 0 (harts_in l.initial.running.machine) (harts_share l.initial.running.machine) l.limit)
+      l.steps (harts_in l.running.machine) (harts_share l.running.machine)
+      (planned (image_profile l.checked.image) (g.M.Meddler.plan l.initial.meddler) (length l.initial.running.machine.resting) l.steps (harts_in l.running.machine) (harts_share l.running.machine) (l.limit - l.steps))
+      l.running.made l.running.taken l.running.trails.items;
 }
 
 abbrev pub decreases-loop-steps : goal.decreases-loop-steps

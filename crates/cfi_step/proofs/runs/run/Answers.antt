@@ -1,36 +1,85 @@
-use Rattle.std.proofs.Common.{ℕ, List, ◌∙◌, ap, inl, refl}
-use Rattle.rv_word.specs.MemoryMap.{version_1}
-use Rattle.rv_word.proofs.Versions.{laid_out}
+use Rattle.std.proofs.Common.{◌≡◌, ◌∙◌, ap, length, subst, sym}
+use Rattle.rv_word.specs.Image.{image_profile}
+use Rattle.rv_word.specs.MemoryMap.{profile_of}
 use Rattle.rv_code.specs.State.{start_hart, start_shared}
-use Rattle.cfi_verify.proofs.OneHart.{safe_walks_alone}
-use Rattle.cfi_step.specs.Plan.{planned}
-use Rattle.cfi_step.specs.Script.{script_plan}
-use Rattle.cfi_step.specs.declared.report.RunReport.{RunReport}
-use Rattle.cfi_step.proofs.Continues.{begins}
+use Rattle.rv_machine.specs.Harts.{harts_in, harts_share}
+use Rattle.cfi_rules.proofs.Walks.{safe_walks}
+use Rattle.cfi_step.specs.Plan.{harts_of, planned, steps_of}
+use Rattle.cfi_step.specs.Script.{Changes, script_plan}
+use Rattle.cfi_step.specs.Turns.{Turns, turns_of}
+use Rattle.cfi_step.proofs.Reported.{Tells, all_made, all_turns, begins, over_so, reports}
 use Rattle.cfi_step.proofs.Replay.{in_order, replays}
 use Rattle.cfi_step.proofs.runs.run.Goals as goal
 
 pub finish-requires : goal.finish-requires
 finish-requires g c =
+    let image = c.args.checked.now.image in
+    let started = c.in_ok-running.ensures in
+    let shared = rw c.image.ensures.value at started.shared in
+    let version = rw c.image.ensures.value at started.version in
+    begins (image_profile image) image c.args.checked.now.graph c.args.input.now c.args.harts c.in_ok-running.running c.is_safe.ensures c.requires
+    started.count started.harts shared (ap profile_of version) started.made started.taken started.last started.trails started.empty started.quiet started.still
+
+pub returns-clause-report : goal.returns-clause-report
+returns-clause-report g c =
+    let image = c.args.checked.now.image in
+    let plan = g.M.Meddler.plan c.args.meddler.now in
     let shared = rw c.image.ensures.value at c.in_ok-running.ensures.shared in
-    begins version_1 (laid_out version_1 (inl refl)) c.args.checked.now.image c.args.checked.now.graph c.args.input.now c.in_ok-running.running c.is_safe.ensures
-    c.in_ok-running.ensures.hart shared c.in_ok-running.ensures.made c.in_ok-running.ensures.trail c.in_ok-running.ensures.quiet
+    let over = over_so (image_profile image) image plan (length c.in_ok-running.running.machine.resting) c.args.harts (harts_in c.in_ok-running.running.machine) start_hart
+    (harts_share c.in_ok-running.running.machine) (start_shared image c.args.input.now) c.args.limit c.in_ok-end.end c.in_ok-end.steps c.finish.new.running
+    c.in_ok-running.ensures.count c.in_ok-running.ensures.harts shared c.in_ok-end.ensures.over in
+    let whole = planned (image_profile image) plan c.args.harts 0 start_hart (start_shared image c.args.input.now) c.args.limit in
+    let told = c.in_ok-report.ensures in
+    let tells : Tells c.in_ok-end.end c.in_ok-end.steps c.finish.new.running c.in_ok-report.report = record {
+      ended = told.end;
+      hart = told.hart;
+      steps = told.steps;
+      turns = told.turns;
+      output = told.output;
+      events = told.events;
+      made = told.made;
+      walks = told.walks;
+    } in
+    reports (image_profile image) image c.args.input.now c.args.harts whole c.in_ok-end.end c.in_ok-end.steps c.finish.new.running c.in_ok-report.report over tells
 
 pub returns-clause-script : goal.returns-clause-script
 returns-clause-script g c =
-    let made = ap (λ (r : RunReport). r.made) c.in_ok-report.ensures ∙ c.in_ok-end.ensures.over.made in
+    let made = c.in_ok-report.ensures.made ∙ c.in_ok-end.ensures.over.made in
     rw made (in_order 0 _).0
 
 pub returns-clause-replayed : goal.returns-clause-replayed
 returns-clause-replayed g c =
+    let image = c.args.checked.now.image in
+    let plan = g.M.Meddler.plan c.args.meddler.now in
     let shared = rw c.image.ensures.value at c.in_ok-running.ensures.shared in
-    let made = rw (c.in_ok-running.ensures.hart, shared) at c.in_ok-end.ensures.over.made in
-    let whole = ap (λ (r : RunReport). r.made) c.in_ok-report.ensures ∙ made in
-    ap (λ (m : List (ℕ × (ℕ × ℕ))). planned version_1 (script_plan m) 0 (start_hart 0) (start_shared c.args.checked.now.image c.args.input.now) c.args.limit) whole
-    ∙ replays version_1 _ c.args.limit (start_hart 0) (start_shared c.args.checked.now.image c.args.input.now)
+    let over = over_so (image_profile image) image plan (length c.in_ok-running.running.machine.resting) c.args.harts (harts_in c.in_ok-running.running.machine) start_hart
+    (harts_share c.in_ok-running.running.machine) (start_shared image c.args.input.now) c.args.limit c.in_ok-end.end c.in_ok-end.steps c.finish.new.running
+    c.in_ok-running.ensures.count c.in_ok-running.ensures.harts shared c.in_ok-end.ensures.over in
+    let whole = planned (image_profile image) plan c.args.harts 0 start_hart (start_shared image c.args.input.now) c.args.limit in
+    let told = c.in_ok-report.ensures in
+    let tells : Tells c.in_ok-end.end c.in_ok-end.steps c.finish.new.running c.in_ok-report.report = record {
+      ended = told.end;
+      hart = told.hart;
+      steps = told.steps;
+      turns = told.turns;
+      output = told.output;
+      events = told.events;
+      made = told.made;
+      walks = told.walks;
+    } in
+    let again : Turns → Changes → Type 0 = λ turns changes.
+    planned (image_profile image) (script_plan (record { harts = c.args.harts; turns = turns; changes = changes })) c.args.harts 0 start_hart (start_shared image c.args.input.now) c.args.limit ≡ whole in
+    subst (λ (turns : Turns). again turns c.in_ok-report.report.made) (sym (all_turns (image_profile image) image c.args.input.now c.args.harts whole c.in_ok-end.end c.in_ok-end.steps c.finish.new.running c.in_ok-report.report over tells))
+    (subst (λ (changes : Changes). again (turns_of (harts_of whole)) changes) (sym (all_made (image_profile image) image c.args.input.now c.args.harts whole c.in_ok-end.end c.in_ok-end.steps c.finish.new.running c.in_ok-report.report over tells))
+    (replays (image_profile image) plan c.args.harts c.args.limit start_hart (start_shared image c.args.input.now) over.allowed))
 
 pub returns-clause-walk : goal.returns-clause-walk
 returns-clause-walk g c =
+    let image = c.args.checked.now.image in
+    let plan = g.M.Meddler.plan c.args.meddler.now in
     let shared = rw c.image.ensures.value at c.in_ok-running.ensures.shared in
-    let over = rw (c.in_ok-running.ensures.hart, shared) at c.in_ok-end.ensures.over.allowed in
-    safe_walks_alone version_1 (laid_out version_1 (inl refl)) c.args.checked.now.image c.args.checked.now.graph c.args.input.now _ c.is_safe.ensures over
+    let over = over_so (image_profile image) image plan (length c.in_ok-running.running.machine.resting) c.args.harts (harts_in c.in_ok-running.running.machine) start_hart
+    (harts_share c.in_ok-running.running.machine) (start_shared image c.args.input.now) c.args.limit c.in_ok-end.end c.in_ok-end.steps c.finish.new.running
+    c.in_ok-running.ensures.count c.in_ok-running.ensures.harts shared c.in_ok-end.ensures.over in
+    λ k. safe_walks (image_profile image) image c.args.checked.now.graph c.args.input.now c.args.harts
+    (steps_of (planned (image_profile image) plan c.args.harts 0 start_hart (start_shared image c.args.input.now) c.args.limit)) k c.is_safe.ensures c.requires over.allowed

@@ -13,9 +13,12 @@ loop-change-preserved c =
     let shared = rw item at c.in_ok-make.ensures.shared in
     let made = rw item at c.in_ok-make.ensures.made in
     record {
-      hart = c.in_ok-make.ensures.hart ∙ c.loop-change.invariant.hart;
+      harts = c.in_ok-make.ensures.harts ∙ c.loop-change.invariant.harts;
       shared = shared_next xs i d below _ _ shared ∙ c.loop-change.invariant.shared;
       made = made_next xs i d below (λ x. (c.args.step, x)) _ _ made ∙ c.loop-change.invariant.made;
       allowed = λ later. c.loop-change.invariant.allowed (allowed_next xs i d below one later);
-      trail = c.make.ensures.trail ∙ c.loop-change.invariant.trail;
+      count = c.make.ensures.count ∙ c.loop-change.invariant.count;
+      version = c.make.ensures.version ∙ c.loop-change.invariant.version;
+      taken = c.make.ensures.taken ∙ c.loop-change.invariant.taken;
+      trails = c.make.ensures.trails ∙ c.loop-change.invariant.trails;
     }

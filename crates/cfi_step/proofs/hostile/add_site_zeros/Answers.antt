@@ -1,7 +1,7 @@
 use Rattle.std.proofs.Common.{sym, ◌∙◌, arith}
 use Rattle.rv_mem.specs.Cells.{memory_of}
 use Rattle.cfi_step.proofs.Zeros.{more_site_zeros, none_left}
-use Rattle.cfi_step.proofs.hostile.site_zeros.Goals as goal
+use Rattle.cfi_step.proofs.hostile.add_site_zeros.Goals as goal
 
 pub loop-left-preserved : goal.loop-left-preserved
 loop-left-preserved c =

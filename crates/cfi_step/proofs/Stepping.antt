@@ -1,0 +1,26 @@
+-- What a turn of a run comes to, from what its parts come to.
+use Rattle.std.proofs.Common.{◌≡◌, ℕ, List, [], Ok, Err, refl, subst}
+use Rattle.std.specs.Prelude.{OnOk, Result}
+use Rattle.rv_word.specs.MemoryMap.{Profile}
+use Rattle.rv_code.specs.Run.{disturbed, stepped}
+use Rattle.rv_code.specs.State.{Harts, Shared}
+use Rattle.cfi_step.specs.Plan.{changes_of, step_of}
+use Rattle.cfi_step.specs.Running.{AreNoted}
+use Rattle.cfi_step.specs.Trail.{TrailParts}
+
+-- what holds, whatever a call came to
+pub on_ok : {T E P : Type 0} (result : Result T E) → P → OnOk result P
+on_ok (Ok x) holds = holds
+on_ok (Err e) holds = tt
+
+-- changes are made, and then a hart steps
+pub stepped_so : (q p : Profile) (before harts : Harts) (changed s : Shared) (hart h : ℕ) (cs : List (ℕ × ℕ)) → q ≡ p → before ≡ harts → changed ≡ disturbed s (changes_of cs) → hart ≡ h
+    → stepped q before changed (record { hart = hart; changes = [] }) ≡ stepped p harts s (step_of (h, cs))
+stepped_so q p before harts changed s hart h cs profile same made own = rw (profile, same, made, own) refl
+
+pub noted_so : (p : Profile) (words : List ℕ) (hart h : ℕ) (before harts : Harts) (trails first after : List TrailParts) → hart ≡ h → before ≡ harts → trails ≡ first
+    → AreNoted p words hart (before hart).pc trails after → AreNoted p words h (harts h).pc first after
+noted_so p words hart h before harts trails first after own same kept noted =
+    subst (λ (x : List TrailParts). AreNoted p words h (harts h).pc x after) kept
+    (subst (λ (hs : Harts). AreNoted p words h (hs h).pc trails after) same
+    (subst (λ (k : ℕ). AreNoted p words k (before k).pc trails after) own noted))
