@@ -1,5 +1,5 @@
 -- What is read of a map's text is a map, and the text is its spelling; and each spelling is read.
-use Rattle.std.proofs.Common.{◌≡◌, ℕ, ◌%◌, ◌^◌, ◌<◌, ◌==◌, ◌&&◌, Bool, true, List, [], ◌∷◌, ◌++◌, codes, map, Option, Some, None, Result, Ok, Err, IfOk, refl, sym, ◌∙◌, ap, arith}
+use Rattle.std.proofs.Common.{◌≡◌, ℕ, zero, suc, ◌%◌, ◌^◌, ◌<◌, ◌==◌, ◌&&◌, Bool, true, List, [], ◌∷◌, ◌++◌, codes, get_or, map, position, Option, Some, None, Result, Ok, Err, IfOk, refl, sym, subst, ◌∙◌, ap, arith}
 use Rattle.std.specs.List.{join_with_byte, list_all}
 use Rattle.std.specs.Str.{bytes_eq}
 use Rattle.std.proofs.lemmas.Bool.{and_from, and_parts, ltb-true}
@@ -11,26 +11,29 @@ use Rattle.text_lines.specs.declared.end.TextEnd.TheVariants.{Line, NoMemory}
 use Rattle.text_lines.specs.Answers.{Answers}
 use Rattle.text_lines.specs.Hex.{hex, hex_text}
 use Rattle.text_lines.specs.Lines.{lines_of, spaced, words_of}
-use Rattle.text_lines.specs.Reading.{read, whole}
+use Rattle.text_lines.specs.Reading.{if_right, read, whole}
 use Rattle.text_lines.proofs.Accepts.{Accepts, end_only, line_first}
 use Rattle.text_lines.proofs.Numbers.{hex_spelled}
 use Rattle.rv_word.proofs.Cases.{guarded}
 use Rattle.text_lines.proofs.Options.{and_then, mapped}
-use Rattle.text_lines.proofs.Whole.{named_back, one_named_ok, only_name, whole_accepts, whole_back}
+use Rattle.text_lines.proofs.Whole.{ends_whole, named_back, one_named_ok, whole_accepts, whole_back}
 use Rattle.text_lines.proofs.Written.{hex_back, hex_plain, join_newlines, lacks, spaced_line, split_join, words_back}
+use Rattle.rv_word.specs.Form.{profile_for}
+use Rattle.rv_word.specs.declared.form.Form.{Form}
+use Rattle.rv_word.specs.declared.form.Form.TheVariants.{Plain, Harts}
 use Rattle.cfi_graph.specs.declared.map.MapLine.{MapLine}
 use Rattle.cfi_graph.specs.Graph.{is_rising}
-use Rattle.cfi_graph.specs.Map.{IsMap, is_gate, map_line_below, map_line_in_range}
-use Rattle.cfi_graph.specs.MapText.{in_map_order, map_line_of, map_line_spelled, map_lines, map_names, map_of, map_rules, map_text, map_words}
+use Rattle.cfi_graph.specs.Map.{IsMap, MapParts, is_gate, map_line_below, map_line_in_range}
+use Rattle.cfi_graph.specs.MapText.{form_at, in_map_order, map_line_of, map_line_spelled, map_lines, map_name, map_names, map_of, map_rules, map_text, map_with, map_words}
 
 -- lines rise after the line before
 abbrev rises_after : Option MapLine → List MapLine → Bool
 rises_after None lines = is_rising map_line_below lines
 rises_after (Some before) lines = is_rising map_line_below (before ∷ lines)
 
-in_range : {before : Option MapLine} {parts : List (List ℕ)} {lines : List MapLine} → Accepts map_rules before parts lines → list_all map_line_in_range lines ≡ true
-in_range end_only = refl
-in_range (line_first found range order rest) = and_from _ _ range (in_range rest)
+in_range : (form : Form) {before : Option MapLine} {parts : List (List ℕ)} {lines : List MapLine} → Accepts (map_rules form) before parts lines → list_all (map_line_in_range form) lines ≡ true
+in_range form end_only = refl
+in_range form (line_first found range order rest) = and_from _ _ range (in_range form rest)
 
 rises_none : (before : Option MapLine) → rises_after before [] ≡ true
 rises_none None = refl
@@ -40,9 +43,9 @@ rises_more : (before : Option MapLine) (l : MapLine) (lines : List MapLine) → 
 rises_more None l lines order rest = rest
 rises_more (Some line) l lines order rest = and_from _ _ order rest
 
-rises : {before : Option MapLine} {parts : List (List ℕ)} {lines : List MapLine} → Accepts map_rules before parts lines → rises_after before lines ≡ true
-rises {before} end_only = rises_none before
-rises {before} (line_first {l} {items} found range order rest) = rises_more before l items order (rises rest)
+rises : (form : Form) {before : Option MapLine} {parts : List (List ℕ)} {lines : List MapLine} → Accepts (map_rules form) before parts lines → rises_after before lines ≡ true
+rises form {before} end_only = rises_none before
+rises form {before} (line_first {l} {items} found range order rest) = rises_more before l items order (rises form rest)
 
 -- ---- the spelling
 
@@ -72,19 +75,19 @@ line_spelled line l e =
 abbrev spellings : List MapLine → List (List ℕ)
 spellings lines = map (λ l. spaced (map_words l)) lines ++ codes "end" ∷ []
 
-spelled : {before : Option MapLine} {parts : List (List ℕ)} {lines : List MapLine} → Accepts map_rules before parts lines → parts ≡ spellings lines ++ [] ∷ []
-spelled end_only = refl
-spelled (line_first {line} {parts} {l} {items} found range order rest) =
-    ap (λ first. first ∷ parts) (line_spelled line l found) ∙ ap (λ others. spaced (map_words l) ∷ others) (spelled rest)
+spelled : (form : Form) {before : Option MapLine} {parts : List (List ℕ)} {lines : List MapLine} → Accepts (map_rules form) before parts lines → parts ≡ spellings lines ++ [] ∷ []
+spelled form end_only = refl
+spelled form (line_first {line} {parts} {l} {items} found range order rest) =
+    ap (λ first. first ∷ parts) (line_spelled line l found) ∙ ap (λ others. spaced (map_words l) ∷ others) (spelled form rest)
 
 -- ---- each spelling is read
 
-line_back : (l : MapLine) → map_line_in_range l ≡ true → map_line_of (words_of (spaced (map_words l))) ≡ Some l
-line_back l e =
-    let p = and_parts (is_gate l.gate && l.offset % 4 == 0 && ltb l.section (2 ^ 16)) (ltb l.offset (2 ^ 32)) e in
-    let q = and_parts (is_gate l.gate && l.offset % 4 == 0) (ltb l.section (2 ^ 16)) p.0 in
-    let r = and_parts (is_gate l.gate) (l.offset % 4 == 0) q.0 in
-    let s = and_parts (l.gate % 4 == 0 && leb 0x40000040 l.gate) (ltb l.gate 0x40100000) r.0 in
+line_back : (form : Form) (l : MapLine) → map_line_in_range form l ≡ true → map_line_of (words_of (spaced (map_words l))) ≡ Some l
+line_back form l e =
+    let p = and_parts (is_gate form l.gate && l.offset % 4 == 0 && ltb l.section (2 ^ 16)) (ltb l.offset (2 ^ 32)) e in
+    let q = and_parts (is_gate form l.gate && l.offset % 4 == 0) (ltb l.section (2 ^ 16)) p.0 in
+    let r = and_parts (is_gate form l.gate) (l.offset % 4 == 0) q.0 in
+    let s = and_parts (l.gate % 4 == 0 && leb (profile_for form).units_from l.gate) (ltb l.gate 0x40100000) r.0 in
     let small : l.gate < 0x40100000 = ltb-true l.gate 0x40100000 s.1 in
     let gate = hex_back 8 l.gate (omega arith) in
     let section = hex_back 4 l.section (ltb-true l.section (2 ^ 16) q.1) in
@@ -96,12 +99,12 @@ order_first : (before : Option MapLine) (l : MapLine) (lines : List MapLine) →
 order_first None l lines e = (refl, e)
 order_first (Some line) l lines e = let p = and_parts (map_line_below line l) _ e in (p.0, p.1)
 
-accepts : (before : Option MapLine) (lines : List MapLine) → list_all map_line_in_range lines ≡ true → rises_after before lines ≡ true → Accepts map_rules before (spellings lines ++ [] ∷ []) lines
-accepts before [] r o = end_only
-accepts before (l ∷ lines) r o =
-    let p = and_parts (map_line_in_range l) (list_all map_line_in_range lines) r in
+accepts : (form : Form) (before : Option MapLine) (lines : List MapLine) → list_all (map_line_in_range form) lines ≡ true → rises_after before lines ≡ true → Accepts (map_rules form) before (spellings lines ++ [] ∷ []) lines
+accepts form before [] r o = end_only
+accepts form before (l ∷ lines) r o =
+    let p = and_parts (map_line_in_range form l) (list_all (map_line_in_range form) lines) r in
     let s = order_first before l lines o in
-    line_first (line_back l p.0) p.0 s.0 (accepts (Some l) lines p.1 s.1)
+    line_first (line_back form l p.0) p.0 s.0 (accepts form (Some l) lines p.1 s.1)
 
 line_lacks : (l : MapLine) → lacks 10 (spaced (map_words l)) ≡ true
 line_lacks l =
@@ -111,47 +114,89 @@ lines_lack : (lines : List MapLine) → list_all (lacks 10) (spellings lines ++ 
 lines_lack [] = refl
 lines_lack (l ∷ lines) = and_from _ _ (line_lacks l) (lines_lack lines)
 
-lines_back : (lines : List MapLine) → lines_of (map_text lines) ≡ codes "rvcfi-map 1" ∷ (spellings lines ++ [] ∷ [])
+-- the first line of each form, and its place among them
+which_of : Form → ℕ
+which_of Plain = 0
+which_of Harts = 1
+
+name_there : (form : Form) → position (bytes_eq (map_name form)) map_names ≡ Some (which_of form)
+unfolding which_of
+name_there Plain = refl
+name_there Harts = refl
+
+form_there : (form : Form) → form_at (which_of form) ≡ form
+unfolding which_of
+form_there Plain = refl
+form_there Harts = refl
+
+name_lacks : (form : Form) → lacks 10 (map_name form) ≡ true
+name_lacks Plain = refl
+name_lacks Harts = refl
+
+name_at : (which : ℕ) → which < 2 → get_or map_names which [] ≡ map_name (form_at which)
+name_at zero lt = refl
+name_at (suc zero) lt = refl
+name_at (suc (suc which)) lt = absurd (omega arith)
+
+lines_back : (m : MapParts) → lines_of (map_text m) ≡ map_name m.form ∷ (spellings m.lines ++ [] ∷ [])
 unfolding map_text map_lines
-lines_back lines =
-    ap lines_of (sym (join_newlines (map_lines lines))) ∙ split_join 10 (codes "rvcfi-map 1") (spellings lines ++ [] ∷ []) refl (lines_lack lines)
+lines_back m =
+    ap lines_of (sym (join_newlines (map_lines m.form m.lines))) ∙ split_join 10 (map_name m.form) (spellings m.lines ++ [] ∷ []) (name_lacks m.form) (lines_lack m.lines)
 
 no_end : map_line_of (words_of (codes "end")) ≡ None
 no_end = refl
 
-pub map_of-map_text : (lines : List MapLine) → IsMap lines → map_of (map_text lines) ≡ Ok lines
+pub map_of-map_text : (m : MapParts) → IsMap m → map_of (map_text m) ≡ Ok m
 unfolding map_of
-map_of-map_text lines is =
-    let others = accepts None lines is.range is.order in
-    rw (lines_back lines, named_back map_names (codes "rvcfi-map 1") 0 (spellings lines ++ [] ∷ []) refl others) (whole_back map_rules None no_end 2 (spellings lines ++ [] ∷ []) lines others)
+map_of-map_text m is =
+    let rest = spellings m.lines ++ [] ∷ [] in
+    let others = accepts m.form None m.lines is.range is.order in
+    rw (lines_back m, named_back map_names (map_name m.form) (which_of m.form) rest (name_there m.form) others, form_there m.form, whole_back (map_rules m.form) None no_end 2 rest m.lines others) refl
 
 -- ---- what an answer says
 
--- a text that is read begins with its name, and its lines are those of the form
-begun : {P : Type 0} (text : List ℕ) (lines : List MapLine) → map_of text ≡ Ok lines → ((rest : List (List ℕ)) → lines_of text ≡ codes "rvcfi-map 1" ∷ rest → Accepts map_rules None rest lines → P) → P
+read_with : (form : Form) (answer : Result (List MapLine) TextEnd) (m : MapParts) → if_right answer (λ read. Ok (record { form = form; lines = read })) ≡ Ok m → (answer ≡ Ok m.lines) × (m.form ≡ form)
+read_with form (Ok lines) m e =
+    let read : MapParts = record { form = form; lines = lines } in
+    let is : read ≡ m = cc in
+    (ap (λ (x : MapParts). Ok x.lines) is, sym (ap (λ (x : MapParts). x.form) is))
+read_with form (Err fault) m e = absurd cc
+
+-- a text that is read begins with the name of its form, and its lines are those of the form
+begun : {P : Type 0} (text : List ℕ) (m : MapParts) → map_of text ≡ Ok m → ((rest : List (List ℕ)) → lines_of text ≡ map_name m.form ∷ rest → Accepts (map_rules m.form) None rest m.lines → P) → P
 unfolding map_of
-begun text lines e go =
-    one_named_ok map_names (lines_of text) (λ first. whole (read map_rules None 2 first.1)) lines e (λ which rest known parts_are others. go rest (only_name which known parts_are) (whole_accepts map_rules None 2 rest lines others))
+begun text m e go =
+    one_named_ok map_names (lines_of text) (λ first. map_with (form_at first.0) first.1) m e (λ which rest known parts_are others.
+    let is = read_with (form_at which) (whole (read (map_rules (form_at which)) None 2 rest)) m others in
+    go rest (parts_are ∙ ap (λ (first : List ℕ). first ∷ rest) (name_at which known ∙ ap map_name (sym is.1)))
+    (subst (λ (form : Form). Accepts (map_rules form) None rest m.lines) (sym is.1) (whole_accepts (map_rules (form_at which)) None 2 rest m.lines is.0)))
 
-pub map_of_allowed : (text : List ℕ) (lines : List MapLine) → map_of text ≡ Ok lines → IsMap lines
-map_of_allowed text lines e =
-    begun text lines e (λ rest begins accepts. record { range = in_range accepts; order = rises accepts })
+pub map_of_allowed : (text : List ℕ) (m : MapParts) → map_of text ≡ Ok m → IsMap m
+map_of_allowed text m e =
+    begun text m e (λ rest begins accepts. record { range = in_range m.form accepts; order = rises m.form accepts })
 
-pub map_of_spelled : (text : List ℕ) (lines : List MapLine) → map_of text ≡ Ok lines → text ≡ map_text lines
+pub map_of_spelled : (text : List ℕ) (m : MapParts) → map_of text ≡ Ok m → text ≡ map_text m
 unfolding map_text map_lines
-map_of_spelled text lines e =
-    begun text lines e (λ rest begins accepts.
-    sym (join_with_byte-slice_split 10 text) ∙ ap (join_with_byte 10) (begins ∙ ap (λ others. codes "rvcfi-map 1" ∷ others) (spelled accepts)) ∙ join_newlines (codes "rvcfi-map 1" ∷ spellings lines))
+map_of_spelled text m e =
+    begun text m e (λ rest begins accepts.
+    sym (join_with_byte-slice_split 10 text) ∙ ap (join_with_byte 10) (begins ∙ ap (λ others. map_name m.form ∷ others) (spelled m.form accepts)) ∙ join_newlines (map_name m.form ∷ spellings m.lines))
 
-pub record IsMapReading (text : List ℕ) (answer : Result (List MapLine) TextEnd) : Type 0 where
+-- what comes of the lines after the first
+pub map_collected : (form : Form) (which : ℕ) (lines : List (List ℕ)) (items : List MapLine) → form ≡ form_at which → whole (read (map_rules form) None 2 lines) ≡ Ok items → map_with (form_at which) lines ≡ Ok (record { form = form; lines = items })
+map_collected form which lines items is e = rw (← is, e) refl
+
+pub map_refused : (form : Form) (which : ℕ) (lines : List (List ℕ)) (end : TextEnd) → form ≡ form_at which → Answers {A = Unit {0}} (Err end) (read (map_rules form) None 2 lines).end → Answers {A = MapParts} (Err end) (map_with (form_at which) lines)
+map_refused form which lines end is e = rw (← is) (ends_whole (read (map_rules form) None 2 lines) (λ read. Ok (record { form = form; lines = read })) end e)
+
+pub record IsMapReading (text : List ℕ) (answer : Result MapParts TextEnd) : Type 0 where
   pub allowed : IfOk answer IsMap
   pub spelled : IfOk answer (λ m. text ≡ map_text m)
-  pub only : (m : List MapLine) → IsMap m → text ≡ map_text m → Answers answer (Ok m)
+  pub only : (m : MapParts) → IsMap m → text ≡ map_text m → Answers answer (Ok m)
 
-read_of : (text : List ℕ) (m : List MapLine) → IsMap m → text ≡ map_text m → map_of text ≡ Ok m
+read_of : (text : List ℕ) (m : MapParts) → IsMap m → text ≡ map_text m → map_of text ≡ Ok m
 read_of text m is e = ap map_of e ∙ map_of-map_text m is
 
-pub reading : (text : List ℕ) (answer : Result (List MapLine) TextEnd) → Answers answer (map_of text) → IsMapReading text answer
+pub reading : (text : List ℕ) (answer : Result MapParts TextEnd) → Answers answer (map_of text) → IsMapReading text answer
 reading text (Ok m) right =
     record {
       allowed = map_of_allowed text m right;

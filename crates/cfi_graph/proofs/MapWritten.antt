@@ -4,7 +4,8 @@ use Rattle.std.specs.List.{flat_map, slice_split}
 use Rattle.text_lines.specs.Lines.{spaced}
 use Rattle.text_lines.proofs.Cuts.{some_part}
 use Rattle.cfi_graph.specs.declared.map.MapLine.{MapLine}
-use Rattle.cfi_graph.specs.MapText.{map_line_of, map_lines, map_text, map_words}
+use Rattle.cfi_graph.specs.Map.{MapParts}
+use Rattle.cfi_graph.specs.MapText.{map_line_of, map_lines, map_name, map_text, map_words}
 use Rattle.cfi_graph.proofs.Printed.{flat_map-append, flat_map-map}
 
 -- a fifth word is one too many
@@ -14,9 +15,6 @@ map_long more p q r s = rw (p, q, r, s) (some_part 32 more (λ part parts e. rw 
 -- the text of a line, with its newline
 abbrev line_text : MapLine → List ℕ
 line_text l = spaced (map_words l) ++ 10 ∷ []
-
-abbrev heading : List ℕ
-heading = codes "rvcfi-map 1" ++ 10 ∷ []
 
 abbrev newline : List ℕ → List ℕ
 newline line = line ++ 10 ∷ []
@@ -29,7 +27,7 @@ lines_text lines =
     flat_map-append newline (map spell lines) (codes "end" ∷ []) ∙ ap (λ text. text ++ 101 ∷ 110 ∷ 100 ∷ 10 ∷ []) (flat_map-map newline spell lines)
 
 -- the pieces in the order in which they are added
-pub map_written : (lines : List MapLine) {none first second third : List ℕ} → none ≡ [] → first ≡ none ++ heading → second ≡ first ++ flat_map line_text lines → third ≡ second ++ 101 ∷ 110 ∷ 100 ∷ 10 ∷ [] → third ≡ map_text lines
+pub map_written : (m : MapParts) {none name first second third : List ℕ} → none ≡ [] → name ≡ none ++ map_name m.form → first ≡ name ++ 10 ∷ [] → second ≡ first ++ flat_map line_text m.lines → third ≡ second ++ 101 ∷ 110 ∷ 100 ∷ 10 ∷ [] → third ≡ map_text m
 unfolding map_text map_lines
-map_written lines z a b c =
-    rw (c, b, a, z) (append_assoc heading (flat_map line_text lines) (101 ∷ 110 ∷ 100 ∷ 10 ∷ []) ∙ ap (λ rest. heading ++ rest) (sym (lines_text lines)))
+map_written m z n a b c =
+    rw (c, b, a, n, z) (append_assoc (map_name m.form ++ 10 ∷ []) (flat_map line_text m.lines) (101 ∷ 110 ∷ 100 ∷ 10 ∷ []) ∙ ap (λ rest. (map_name m.form ++ 10 ∷ []) ++ rest) (sym (lines_text m.lines)))

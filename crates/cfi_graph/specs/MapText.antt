@@ -1,25 +1,32 @@
 -- The text of a map, and what a text is read as. Every line ends with one newline, words are parted by
 -- one space; a gate and an offset have eight hexadecimal digits, a section four, in lower case.
-use Rattle.std.specs.Prelude.{ℕ, Bool, true, if◌then◌else◌, List, [], ◌∷◌, ◌++◌, map, codes, Option, Some, None, option_map, option_and_then, Result}
+use Rattle.std.specs.Prelude.{ℕ, ◌==◌, Bool, true, if◌then◌else◌, List, [], ◌∷◌, ◌++◌, map, codes, Option, Some, None, option_map, option_and_then, Result, Ok}
 use Rattle.std.specs.List.{flat_map}
 use Rattle.std.specs.Str.{bytes_eq}
+use Rattle.rv_word.specs.declared.form.Form.{Form}
+use Rattle.rv_word.specs.declared.form.Form.TheVariants.{Plain, Harts}
 use Rattle.text_lines.specs.Hex.{hex, hex_text}
 use Rattle.text_lines.specs.Lines.{lines_of, spaced}
 use Rattle.text_lines.specs.Reading.{LineRules, if_right, one_named, read, whole}
 use Rattle.text_lines.specs.declared.end.TextEnd.{TextEnd}
 use Rattle.cfi_graph.specs.declared.map.MapLine.{MapLine}
-use Rattle.cfi_graph.specs.Map.{map_line_below, map_line_in_range}
+use Rattle.cfi_graph.specs.Map.{MapParts, map_line_below, map_line_in_range}
 
 abbrev pub map_words : MapLine → List (List ℕ)
 map_words line = codes "at" ∷ hex_text 8 line.gate ∷ hex_text 4 line.section ∷ hex_text 8 line.offset ∷ []
 
+-- the first line, by which the form is told
+abbrev pub map_name : Form → List ℕ
+map_name Plain = codes "rvcfi-map 1"
+map_name Harts = codes "rvcfi-map 2 harts"
+
 -- the lines of the text, without their newlines
-unfoldable pub map_lines : List MapLine → List (List ℕ)
-map_lines lines = codes "rvcfi-map 1" ∷ map (λ line. spaced (map_words line)) lines ++ codes "end" ∷ []
+unfoldable pub map_lines : Form → List MapLine → List (List ℕ)
+map_lines form lines = map_name form ∷ map (λ line. spaced (map_words line)) lines ++ codes "end" ∷ []
 
 -- the one spelling of a map
-unfoldable pub map_text : List MapLine → List ℕ
-map_text lines = flat_map (λ line. line ++ 10 ∷ []) (map_lines lines)
+unfoldable pub map_text : MapParts → List ℕ
+map_text m = flat_map (λ line. line ++ 10 ∷ []) (map_lines m.form m.lines)
 
 -- the line that a gate, a section and an offset spell
 abbrev pub map_line_spelled : List ℕ → List ℕ → List ℕ → Option MapLine
@@ -37,11 +44,11 @@ abbrev pub in_map_order : Option MapLine → MapLine → Bool
 in_map_order None line = true
 in_map_order (Some before) line = map_line_below before line
 
--- the form of a map's lines
-abbrev pub map_rules : LineRules MapLine (Option MapLine) MapLine
-map_rules = record {
+-- the form of the lines of a form's maps
+abbrev pub map_rules : Form → LineRules MapLine (Option MapLine) MapLine
+map_rules form = record {
   spelled = map_line_of;
-  in_range = map_line_in_range;
+  in_range = map_line_in_range form;
   in_order = in_map_order;
   after = λ line. Some line;
   items = λ line. line ∷ [];
@@ -49,9 +56,17 @@ map_rules = record {
 
 -- the first lines that a map may have
 abbrev pub map_names : List (List ℕ)
-map_names = codes "rvcfi-map 1" ∷ []
+map_names = map_name Plain ∷ map_name Harts ∷ []
+
+-- the form that the first line tells, by its place among these
+abbrev pub form_at : ℕ → Form
+form_at which = if which == 0 then Plain else Harts
+
+-- the map of a form, and of the lines from the second on
+abbrev pub map_with : Form → List (List ℕ) → Result MapParts TextEnd
+map_with form lines =
+    if_right (whole (read (map_rules form) None 2 lines)) (λ read. Ok (record { form = form; lines = read }))
 
 -- what a text is read as
-unfoldable pub map_of : List ℕ → Result (List MapLine) TextEnd
-map_of text =
-    if_right (one_named map_names (lines_of text)) (λ first. whole (read map_rules None 2 first.1))
+unfoldable pub map_of : List ℕ → Result MapParts TextEnd
+map_of text = if_right (one_named map_names (lines_of text)) (λ first. map_with (form_at first.0) first.1)

@@ -1,8 +1,8 @@
 ghost use Rattle.std.specs.Prelude.{◌≡◌, ◌<◌, ◌==◌, ◌++◌, ◌∷◌, [], length, slice_get, Ok, OnErr, OnOk, Some};
 ghost use Rattle.cfi_graph.specs.Map.{IsMap, is_gate, map_line_below, map_line_in_range, place_below};
 
-use rv_word::NoMemory;
 use rv_word::memory_map::{CODE_SIZE, CODE_START};
+use rv_word::{Form, NoMemory};
 use std::alloc::Global;
 use std::marker::Model;
 
@@ -17,18 +17,18 @@ pub struct MapLine {
     pub offset: u64,
 }
 
-fn is_gate(gate: u64) -> bool
-    ensures { result ≡ is_gate gate }
+fn is_gate(form: Form, gate: u64) -> bool
+    ensures { result ≡ is_gate form gate }
 {
-    gate % 4 == 0 && CODE_START + 64 <= gate && gate < CODE_START + CODE_SIZE
+    gate % 4 == 0 && form.units_from() <= gate && gate < CODE_START + CODE_SIZE
 }
 
 impl MapLine {
-    /// Whether each number is one that a map may have.
-    pub(crate) fn in_range(&self) -> bool
-        ensures { result ≡ map_line_in_range self.now }
+    /// Whether each number is one that a map of this form may have.
+    pub(crate) fn in_range(&self, form: Form) -> bool
+        ensures { result ≡ map_line_in_range form self.now }
     {
-        is_gate(self.gate)
+        is_gate(form, self.gate)
             && self.offset % 4 == 0
             && self.section < 0x1_0000
             && self.offset < 0x1_0000_0000
@@ -102,36 +102,42 @@ impl MapLines {
     }
 }
 
-/// A map: the gates of a program's places, in order.
+/// A map: the form in which a program is hardened, and the gates of its places, in order.
 #[derive(Drop)]
 pub struct Map {
+    pub(crate) form: Form,
     pub(crate) lines: MapLines,
 }
 
 impl Model for Map {
-    ghost use Rattle.std.specs.Prelude.{List};
-    ghost use Rattle.cfi_graph.specs.Map.{IsMap};
-    ghost use Rattle.cfi_graph.specs.declared.map.MapLine.{MapLine};
+    ghost use Rattle.cfi_graph.specs.Map.{IsMap, MapParts};
 
-    ghost Value = { List MapLine };
+    ghost Value = { MapParts };
 
-    ghost view = { λ m. m.lines };
+    ghost view = { λ m. record { form = m.form; lines = m.lines } };
 
-    ghost invariant = { λ m. IsMap m.lines };
+    ghost invariant = { λ m. IsMap (record { form = m.form; lines = m.lines }) };
 }
 
 impl Map {
-    /// The map with these lines, which are those that a map may have. It takes no memory.
-    pub fn of(_alloc: Global, lines: MapLines) -> Result<Map, NoMemory>
-        requires { IsMap lines }
-        ensures { result ≡ Ok lines }
+    /// The map of a form with these lines, which are those that a map may have. It takes no memory.
+    pub fn of(_alloc: Global, form: Form, lines: MapLines) -> Result<Map, NoMemory>
+        requires { IsMap (record { form = form; lines = lines }) }
+        ensures { result ≡ Ok (record { form = form; lines = lines }) }
     {
-        Ok(Map { lines })
+        Ok(Map { form, lines })
+    }
+
+    /// The form in which the program is hardened.
+    pub fn form(&self) -> Form
+        ensures { result ≡ self.now.form }
+    {
+        self.form
     }
 
     /// The lines.
     pub fn as_slice(&self) -> &[MapLine]
-        ensures value { result.now ≡ self.now }
+        ensures value { result.now ≡ self.now.lines }
         ensures allowed { IsMap self.now }
     {
         self.lines.as_slice()
@@ -139,15 +145,15 @@ impl Map {
 
     /// The number of lines.
     pub fn lines(&self) -> u64
-        ensures { result ≡ length self.now }
+        ensures { result ≡ length self.now.lines }
     {
         self.lines.len() as u64
     }
 
     /// The line with the index `k`, from 0.
     pub fn line(&self, k: u64) -> &MapLine
-        requires { k < length self.now }
-        ensures { slice_get self.now k ≡ Some result.now }
+        requires { k < length self.now.lines }
+        ensures { slice_get self.now.lines k ≡ Some result.now }
     {
         &self.lines.as_slice()[k as usize]
     }

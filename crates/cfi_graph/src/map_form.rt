@@ -1,13 +1,12 @@
-ghost use Rattle.std.specs.Prelude.{◌≡◌, ◌++◌, ◌∷◌, [], IfOk, OnOk, Ok, List, option_map};
+ghost use Rattle.std.specs.Prelude.{◌≡◌, ◌++◌, ◌∷◌, [], IfOk, OnOk, Ok, option_map};
 ghost use Rattle.std.specs.List.{flat_map};
 ghost use Rattle.text_lines.specs.Answers.{Answers};
 ghost use Rattle.text_lines.specs.Lines.{spaced, words_of};
-ghost use Rattle.cfi_graph.specs.declared.map.MapLine.{MapLine};
-ghost use Rattle.cfi_graph.specs.Map.{IsMap};
-ghost use Rattle.cfi_graph.specs.MapText.{in_map_order, map_line_of, map_of, map_rules, map_text, map_words};
+ghost use Rattle.cfi_graph.specs.Map.{IsMap, MapParts};
+ghost use Rattle.cfi_graph.specs.MapText.{form_at, in_map_order, map_line_of, map_name, map_of, map_rules, map_text, map_words};
 
 use crate::map::{Map, MapLine, MapLines};
-use rv_word::NoMemory;
+use rv_word::{Form, NoMemory};
 use std::alloc::Global;
 use text_lines::{LineForm, TextEnd, after_one_of, cut, hex_of, is_word, push_number, read_lines};
 
@@ -35,9 +34,10 @@ fn map_line_of(line: &[u8]) -> Option<MapLine>
     })
 }
 
-/// The form of a map's lines: the line before, and the lines so far.
+/// The form of the lines of a map of some form: the line before, and the lines so far.
 #[derive(Drop)]
 struct MapForm {
+    form: Form,
     before: Option<MapLine>,
     lines: MapLines,
 }
@@ -49,7 +49,7 @@ impl LineForm for MapForm {
 
     type Item = MapLine;
 
-    ghost rules = { λ form. map_rules };
+    ghost rules = { λ form. map_rules form.form };
 
     ghost before = { λ form. form.before };
 
@@ -60,7 +60,7 @@ impl LineForm for MapForm {
     }
 
     fn in_range(&self, line: &MapLine) -> bool {
-        line.in_range()
+        line.in_range(self.form)
     }
 
     fn in_order(&self, line: &MapLine) -> bool {
@@ -78,7 +78,27 @@ impl LineForm for MapForm {
 }
 
 /// The first lines that a map may have.
-const NAMES: [&[u8]; 1] = [b"rvcfi-map 1"];
+const NAMES: [&[u8]; 2] = [b"rvcfi-map 1", b"rvcfi-map 2 harts"];
+
+/// The form that the first line tells, by its place among these.
+fn form_at(which: usize) -> Form
+    ensures { result ≡ form_at which }
+{
+    match which {
+        0 => Form::Plain,
+        _ => Form::Harts,
+    }
+}
+
+/// The first line of a form's maps.
+fn name_of(form: Form) -> &'static [u8]
+    ensures { result.now ≡ map_name form }
+{
+    match form {
+        Form::Plain => NAMES[0],
+        Form::Harts => NAMES[1],
+    }
+}
 
 /// Reads the text of a map, of which it keeps no copy. The lines of a text count from 1.
 pub fn read_map(alloc: Global, text: &[u8]) -> Result<Map, TextEnd>
@@ -90,15 +110,20 @@ pub fn read_map(alloc: Global, text: &[u8]) -> Result<Map, TextEnd>
     ensures spelled { IfOk result (λ m. text.now ≡ map_text m) }
 
     // The text of each map is read as that map.
-    ensures only { (m : List MapLine) → IsMap m → text.now ≡ map_text m → Answers result (Ok m) }
+    ensures only { (m : MapParts) → IsMap m → text.now ≡ map_text m → Answers result (Ok m) }
 {
-    let (_, rest) = after_one_of(text, &NAMES)?;
-    let mut form = MapForm {
+    let (which, rest) = after_one_of(text, &NAMES)?;
+    let form = form_at(which);
+    let mut read = MapForm {
+        form,
         before: None,
         lines: MapLines::of(Vec::new(alloc)),
     };
-    read_lines(alloc, &mut form, 2, rest)?;
-    Ok(Map { lines: form.lines })
+    read_lines(alloc, &mut read, 2, rest)?;
+    Ok(Map {
+        form,
+        lines: read.lines,
+    })
 }
 
 /// Adds the words of a line, with a space between each two, and a newline.
@@ -129,7 +154,8 @@ pub fn write_map(alloc: Global, map: &Map) -> Result<Vec<u8>, NoMemory>
     ensures read_back { IfOk result (λ v. map_of v.items ≡ Ok map.now) }
 {
     let mut out = Vec::new(alloc);
-    out.extend_from_slice(b"rvcfi-map 1\n")?;
+    out.extend_from_slice(name_of(map.form))?;
+    out.push(b'\n')?;
     push_lines(&mut out, map.lines.as_slice())?;
     out.extend_from_slice(b"end\n")?;
     Ok(out)

@@ -4,7 +4,6 @@ use Rattle.std.specs.Prelude.{IsTrue, slice_get, nat_lt, map, Option, option_map
 use Rattle.std.proofs.lemmas.Bool.{cases_Bool, cases_eq, cases_lt, or_cases, or_left, or_right, not-true, not-false, not_from_false, ltb-true, lt-ltb}
 use Rattle.std.proofs.lemmas.List.{length-set}
 use Rattle.std.proofs.lemmas.Option.{get_or_from_slice_get, slice_get-map}
-use Rattle.rv_word.specs.MemoryMap.{UNITS_START}
 use Rattle.cfi_layout.specs.declared.short.Short.{Short}
 use Rattle.cfi_layout.specs.Starts.{starts_from, flag}
 use Rattle.cfi_layout.specs.LongSet.{sizes_under, starts_under, is_in_reach, is_branch, is_forced, is_whole, HoldsAllForced, IsWithin, IsLongSet, IsShort, AreShorts}
@@ -24,69 +23,69 @@ whole_grows branches long other within k whole = elim (or_cases (long k) (not (i
   ]
 ]
 
-pub starts_same : (branches : List Short) (sizes : List ℕ) (long : List Bool) → ((k : ℕ) → flag long k ≡ false → IsTrue (is_branch branches k)) →
-    starts_under (flag long) branches sizes ≡ starts_with long sizes
-starts_same branches sizes long only =
-    ap (λ (xs : List ℕ). starts_from UNITS_START xs) (same_where (is_whole branches (flag long)) (flag long) 0 sizes (whole_is branches long only))
+pub starts_same : (from : ℕ) (branches : List Short) (sizes : List ℕ) (long : List Bool) → ((k : ℕ) → flag long k ≡ false → IsTrue (is_branch branches k)) →
+    starts_under from (flag long) branches sizes ≡ starts_with from long sizes
+starts_same from branches sizes long only =
+    ap (λ (xs : List ℕ). starts_from from xs) (same_where (is_whole branches (flag long)) (flag long) 0 sizes (whole_is branches long only))
 
 -- a branch that is known to be too far away is in every closed set
-in_closed : (branches : List Short) (sizes : List ℕ) (long : List Bool) (distances : List ℕ) (i : ℕ) (b : Short) → AreShorts branches sizes → Going branches sizes long →
-    AreCounted branches (starts_with long sizes) distances → slice_get branches i ≡ Some b → is_far b (get_or distances i 0) ≡ true →
-    (other : ℕ → Bool) → HoldsAllForced branches sizes other → other b.at ≡ true
-in_closed branches sizes long distances i b shorts going counted is far other closed =
+in_closed : (from : ℕ) (branches : List Short) (sizes : List ℕ) (long : List Bool) (distances : List ℕ) (i : ℕ) (b : Short) → AreShorts branches sizes → Going from branches sizes long →
+    AreCounted branches (starts_with from long sizes) distances → slice_get branches i ≡ Some b → is_far b (get_or distances i 0) ≡ true →
+    (other : ℕ → Bool) → HoldsAllForced from branches sizes other → other b.at ≡ true
+in_closed from branches sizes long distances i b shorts going counted is far other closed =
     closed i b is (elim (or_cases b.keep (nat_lt (reach b) (get_or distances i 0)) far) [
       | inl kept ↦ or_left _ _ kept
       | inr beyond ↦
           let more : (k : ℕ) → flag long k ≡ true → is_whole branches other k ≡ true = λ k set_k.
           whole_grows branches (flag long) other (going.within other closed) k (or_left _ _ set_k) in
           let short = shorts.each i b is in
-          let grows = gap_grows (flag long) (is_whole branches other) sizes b more short in
+          let grows = gap_grows from (flag long) (is_whole branches other) sizes b more short in
           let least = counted i b is in
-          let far_now : reach b < gap (starts_where (is_whole branches other) sizes) b = omega (arith, ltb-true (reach b) (get_or distances i 0) beyond, grows, least) in
-          or_right b.keep _ (not_from_false _ ((reaches_is (is_whole branches other) sizes b short).1 far_now))
+          let far_now : reach b < gap (starts_where from (is_whole branches other) sizes) b = omega (arith, ltb-true (reach b) (get_or distances i 0) beyond, grows, least) in
+          or_right b.keep _ (not_from_false _ ((reaches_is from (is_whole branches other) sizes b short).1 far_now))
     ])
 
 -- one branch more is long
-pub go_on : (branches : List Short) (sizes : List ℕ) (long : List Bool) (distances : List ℕ) (i : ℕ) (b : Short) → AreShorts branches sizes → Going branches sizes long →
-    AreCounted branches (starts_with long sizes) distances → slice_get branches i ≡ Some b → is_far b (get_or distances i 0) ≡ true →
-    Going branches sizes (set long b.at true)
-go_on branches sizes long distances i b shorts going counted is far = record {
+pub go_on : (from : ℕ) (branches : List Short) (sizes : List ℕ) (long : List Bool) (distances : List ℕ) (i : ℕ) (b : Short) → AreShorts branches sizes → Going from branches sizes long →
+    AreCounted branches (starts_with from long sizes) distances → slice_get branches i ≡ Some b → is_far b (get_or distances i 0) ≡ true →
+    Going from branches sizes (set long b.at true)
+go_on from branches sizes long distances i b shorts going counted is far = record {
   count = length-set long b.at true ∙ going.count;
   only = λ k no_flag. elim (cases_eq k b.at) [
     | inl same ↦ rw same (branch_there branches i b is)
     | inr differ ↦ going.only k (sym (flag_set_other long b.at k differ) ∙ no_flag)
   ];
   within = λ other closed k branch set_k. elim (cases_eq k b.at) [
-    | inl same ↦ rw same (in_closed branches sizes long distances i b shorts going counted is far other closed)
+    | inl same ↦ rw same (in_closed from branches sizes long distances i b shorts going counted is far other closed)
     | inr differ ↦ going.within other closed k branch (sym (flag_set_other long b.at k differ) ∙ set_k)
   ];
 }
 
 -- and distances that were widened for it are counted still
-pub count_on : (branches : List Short) (sizes : List ℕ) (long : List Bool) (distances after : List ℕ) (part : ℕ) → AreShorts branches sizes →
-    AreCounted branches (starts_with long sizes) distances → part < length sizes → 4 ≤ get_or sizes part 0 → flag long part ≡ false →
-    IsWidened branches part distances after → AreCounted branches (starts_with (set long part true) sizes) after
-count_on branches sizes long distances after part shorts counted lt four no_flag widened i b is =
+pub count_on : (from : ℕ) (branches : List Short) (sizes : List ℕ) (long : List Bool) (distances after : List ℕ) (part : ℕ) → AreShorts branches sizes →
+    AreCounted branches (starts_with from long sizes) distances → part < length sizes → 4 ≤ get_or sizes part 0 → flag long part ≡ false →
+    IsWidened branches part distances after → AreCounted branches (starts_with from (set long part true) sizes) after
+count_on from branches sizes long distances after part shorts counted lt four no_flag widened i b is =
     let short = shorts.each i b is in
     let least = counted i b is in
     let more : (k : ℕ) → flag long k ≡ true → flag (set long part true) k ≡ true = λ k set_k. flag_kept long part k set_k in
     elim (cases_Bool (spans b part)) [
       | inl over ↦
-          let steps = gap_steps (flag long) (flag (set long part true)) sizes b part more short lt four no_flag (flag_set_same long part) over in
+          let steps = gap_steps from (flag long) (flag (set long part true)) sizes b part more short lt four no_flag (flag_set_same long part) over in
           omega (arith, widened.over i b is over, steps, least)
       | inr none ↦
-          let grows = gap_grows (flag long) (flag (set long part true)) sizes b more short in
+          let grows = gap_grows from (flag long) (flag (set long part true)) sizes b more short in
           omega (arith, widened.others i b is none, grows, least)
     ]
 
 pub stay : (branches : List Short) (long : List Bool) (distances : List ℕ) → StayOnWay branches long distances long distances
-stay branches long distances = record { going = λ sizes shorts going counted. going; counted = λ sizes shorts going counted. counted }
+stay branches long distances = record { going = λ from sizes shorts going counted. going; counted = λ from sizes shorts going counted. counted }
 
 pub then_stay : (branches : List Short) (long : List Bool) (distances : List ℕ) (long' : List Bool) (distances' : List ℕ) (long'' : List Bool) (distances'' : List ℕ) →
     StayOnWay branches long distances long' distances' → StayOnWay branches long' distances' long'' distances'' → StayOnWay branches long distances long'' distances''
 then_stay branches long distances long' distances' long'' distances'' first second = record {
-  going = λ sizes shorts going counted. second.going sizes shorts (first.going sizes shorts going counted) (first.counted sizes shorts going counted);
-  counted = λ sizes shorts going counted. second.counted sizes shorts (first.going sizes shorts going counted) (first.counted sizes shorts going counted);
+  going = λ from sizes shorts going counted. second.going from sizes shorts (first.going from sizes shorts going counted) (first.counted from sizes shorts going counted);
+  counted = λ from sizes shorts going counted. second.counted from sizes shorts (first.going from sizes shorts going counted) (first.counted from sizes shorts going counted);
 }
 
 -- one branch that is known to be too far away is made long
@@ -94,11 +93,11 @@ pub lengthened : (branches : List Short) (long : List Bool) (distances after : L
     is_far b (get_or distances i 0) ≡ true → flag long b.at ≡ false → IsWidened branches b.at distances after →
     StayOnWay branches long distances (set long b.at true) after
 lengthened branches long distances after i b is far no_flag widened = record {
-  going = λ sizes shorts going counted. go_on branches sizes long distances i b shorts going counted is far;
-  counted = λ sizes shorts going counted.
+  going = λ from sizes shorts going counted. go_on from branches sizes long distances i b shorts going counted is far;
+  counted = λ from sizes shorts going counted.
       let short = shorts.each i b is in
       let size = short.size in
-      count_on branches sizes long distances after b.at shorts counted short.at_is (omega arith) no_flag widened;
+      count_on from branches sizes long distances after b.at shorts counted short.at_is (omega arith) no_flag widened;
 }
 
 -- the gaps themselves are counted
@@ -111,24 +110,24 @@ pub gaps_counted : (branches : List Short) (starts distances : List ℕ) → dis
 gaps_counted branches starts distances are i b is = let e = gap_read branches starts distances i b are is in omega arith
 
 -- a branch that is forced is too far away
-pub far_is : (sizes : List ℕ) (long : List Bool) (b : Short) → IsShort sizes b → is_forced (starts_with long sizes) b ≡ true → is_far b (gap (starts_with long sizes) b) ≡ true
-far_is sizes long b short forced =
-    let starts = starts_with long sizes in
+pub far_is : (from : ℕ) (sizes : List ℕ) (long : List Bool) (b : Short) → IsShort sizes b → is_forced (starts_with from long sizes) b ≡ true → is_far b (gap (starts_with from long sizes) b) ≡ true
+far_is from sizes long b short forced =
+    let starts = starts_with from long sizes in
     elim (or_cases b.keep (not (is_in_reach starts b)) forced) [
       | inl kept ↦ or_left _ _ kept
       | inr out ↦ elim (cases_lt (reach b) (gap starts b)) [
         | inl beyond ↦ or_right b.keep _ (lt-ltb _ _ beyond)
         | inr near ↦
-            let reaches_it : is_in_reach starts b ≡ true = (reaches_is (flag long) sizes b short).0 near in
+            let reaches_it : is_in_reach starts b ≡ true = (reaches_is from (flag long) sizes b short).0 near in
             let out_of_it = not-true (is_in_reach starts b) out in
             absurd (cc)
       ]
     ]
 
 -- before a branch is made long
-pub begin : (branches : List Short) (sizes : List ℕ) (long : List Bool) → length long ≡ length sizes → ((k : ℕ) → flag long k ≡ not (is_branch branches k)) →
-    Going branches sizes long
-begin branches sizes long count flags = record {
+pub begin : (from : ℕ) (branches : List Short) (sizes : List ℕ) (long : List Bool) → length long ≡ length sizes → ((k : ℕ) → flag long k ≡ not (is_branch branches k)) →
+    Going from branches sizes long
+begin from branches sizes long count flags = record {
   count = count;
   only = λ k no_flag. not-false (is_branch branches k) (sym (flags k) ∙ no_flag);
   within = λ other closed k branch set_k.
@@ -137,18 +136,18 @@ begin branches sizes long count flags = record {
 }
 
 -- where each branch that is too far away is long, they are the long set
-pub finish : (branches : List Short) (sizes : List ℕ) (long : List Bool) → AreShorts branches sizes → Going branches sizes long →
-    ((i : ℕ) (b : Short) → slice_get branches i ≡ Some b → is_far b (gap (starts_with long sizes) b) ≡ true → flag long b.at ≡ true) →
-    IsLongSet branches sizes (flag long)
-finish branches sizes long shorts going settled = record {
+pub finish : (from : ℕ) (branches : List Short) (sizes : List ℕ) (long : List Bool) → AreShorts branches sizes → Going from branches sizes long →
+    ((i : ℕ) (b : Short) → slice_get branches i ≡ Some b → is_far b (gap (starts_with from long sizes) b) ≡ true → flag long b.at ≡ true) →
+    IsLongSet from branches sizes (flag long)
+finish from branches sizes long shorts going settled = record {
   closed = λ i b is forced.
-      settled i b is (far_is sizes long b (shorts.each i b is) (subst (λ (starts : List ℕ). is_forced starts b ≡ true) (starts_same branches sizes long going.only) forced));
+      settled i b is (far_is from sizes long b (shorts.each i b is) (subst (λ (starts : List ℕ). is_forced starts b ≡ true) (starts_same from branches sizes long going.only) forced));
   least = going.within;
 }
 
 -- no closed set gives less code
 pub least_code : LeastCode
-least_code branches sizes long other is closed =
+least_code from branches sizes long other is closed =
     let h = sum_below (sizes_under long branches sizes) (sizes_under other branches sizes)
     (below_where (is_whole branches long) (is_whole branches other) 0 sizes (whole_grows branches long other (is.least other closed))) in
     omega arith

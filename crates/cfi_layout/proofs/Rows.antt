@@ -6,7 +6,7 @@ use Rattle.cfi_layout.specs.LongSet.{sizes_where, starts_under, is_in_reach, is_
 
 -- three parts: a unit of one word, one with a gate word and two words, one of three words
 starts_row : (starts_from 0x40000040 (4 ∷ 12 ∷ 12 ∷ []) ≡ 0x40000040 ∷ 0x40000044 ∷ 0x40000050 ∷ 0x4000005c ∷ [])
-    × (code_size (4 ∷ 12 ∷ 12 ∷ []) ≡ 92) × (starts_from 0x40000040 [] ≡ 0x40000040 ∷ []) × (code_size [] ≡ 64)
+    × (code_size 0x40000040 (4 ∷ 12 ∷ 12 ∷ []) ≡ 92) × (starts_from 0x40000040 [] ≡ 0x40000040 ∷ []) × (code_size 0x40000040 [] ≡ 64)
 unfolding starts_from
 starts_row = (refl, refl, refl, refl)
 
@@ -53,16 +53,16 @@ only_second : ℕ → Bool
 only_second k = k == 2
 
 -- where the second reaches, both are short
-short_rows : (starts_under none (first ∷ second ∷ []) (chain 4088) ≡ 0x40000040 ∷ 0x40000044 ∷ 0x40001038 ∷ 0x4000103c ∷ 0x40002034 ∷ [])
-    × (is_forced (starts_under none (first ∷ second ∷ []) (chain 4088)) first ≡ false)
-    × (is_forced (starts_under none (first ∷ second ∷ []) (chain 4088)) second ≡ false)
+short_rows : (starts_under 0x40000040 none (first ∷ second ∷ []) (chain 4088) ≡ 0x40000040 ∷ 0x40000044 ∷ 0x40001038 ∷ 0x4000103c ∷ 0x40002034 ∷ [])
+    × (is_forced (starts_under 0x40000040 none (first ∷ second ∷ []) (chain 4088)) first ≡ false)
+    × (is_forced (starts_under 0x40000040 none (first ∷ second ∷ []) (chain 4088)) second ≡ false)
 unfolding starts_from sizes_where first second chain none
 short_rows = (refl, refl, refl)
 
 -- where its target is four bytes further away it is long, and so the first is too
-long_rows : (is_forced (starts_under none (first ∷ second ∷ []) (chain 4092)) first ≡ false)
-    × (is_forced (starts_under none (first ∷ second ∷ []) (chain 4092)) second ≡ true)
-    × (is_forced (starts_under only_second (first ∷ second ∷ []) (chain 4092)) first ≡ true)
-    × (starts_under all (first ∷ second ∷ []) (chain 4092) ≡ 0x40000040 ∷ 0x40000048 ∷ 0x4000103c ∷ 0x40001044 ∷ 0x40002040 ∷ [])
+long_rows : (is_forced (starts_under 0x40000040 none (first ∷ second ∷ []) (chain 4092)) first ≡ false)
+    × (is_forced (starts_under 0x40000040 none (first ∷ second ∷ []) (chain 4092)) second ≡ true)
+    × (is_forced (starts_under 0x40000040 only_second (first ∷ second ∷ []) (chain 4092)) first ≡ true)
+    × (starts_under 0x40000040 all (first ∷ second ∷ []) (chain 4092) ≡ 0x40000040 ∷ 0x40000048 ∷ 0x4000103c ∷ 0x40001044 ∷ 0x40002040 ∷ [])
 unfolding starts_from sizes_where first second chain none all only_second
 long_rows = (refl, refl, refl, refl)

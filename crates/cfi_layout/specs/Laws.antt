@@ -7,5 +7,5 @@ use Rattle.cfi_layout.specs.LongSet.{HoldsAllForced, IsLongSet, sizes_under}
 -- no closed set gives less code
 abbrev pub LeastCode : Type 0
 LeastCode =
-    (branches : List Short) (sizes : List ℕ) (long other : ℕ → Bool) → IsLongSet branches sizes long → HoldsAllForced branches sizes other →
-    code_size (sizes_under long branches sizes) ≤ code_size (sizes_under other branches sizes)
+    (from : ℕ) (branches : List Short) (sizes : List ℕ) (long other : ℕ → Bool) → IsLongSet from branches sizes long → HoldsAllForced from branches sizes other →
+    code_size from (sizes_under long branches sizes) ≤ code_size from (sizes_under other branches sizes)

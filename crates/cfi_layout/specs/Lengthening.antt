@@ -1,6 +1,5 @@
 -- While branches are lengthened: which are too far from their targets. Only private contracts cite this.
 use Rattle.std.specs.Prelude.{◌≡◌, ℕ, ◌+◌, ◌-◌, ◌≤◌, nat_lt, nat_le, Bool, false, ◌&&◌, ◌||◌, not, if◌then◌else◌, IsTrue, List, Some, length, count_by, slice_get, slice_index}
-use Rattle.rv_word.specs.MemoryMap.{UNITS_START}
 use Rattle.cfi_layout.specs.declared.short.Short.{Short}
 use Rattle.cfi_layout.specs.Starts.{starts_from, flag}
 use Rattle.cfi_layout.specs.LongSet.{word, sizes_where, is_branch, HoldsAllForced, IsWithin, AreShorts}
@@ -26,14 +25,14 @@ abbrev pub short_count : List Bool → ℕ
 short_count long = count_by not long
 
 -- while branches are lengthened from a placement on: each part that is not long is a branch's, and the long ones are in every closed set
-pub record Going (branches : List Short) (sizes : List ℕ) (long : List Bool) : Type 0 where
+pub record Going (from : ℕ) (branches : List Short) (sizes : List ℕ) (long : List Bool) : Type 0 where
   pub count : length long ≡ length sizes
   pub only : (k : ℕ) → flag long k ≡ false → IsTrue (is_branch branches k)
-  pub within : (other : ℕ → Bool) → HoldsAllForced branches sizes other → IsWithin branches (flag long) other
+  pub within : (other : ℕ → Bool) → HoldsAllForced from branches sizes other → IsWithin branches (flag long) other
 
 -- where parts start, if those with a flag are long
-abbrev pub starts_with : List Bool → List ℕ → List ℕ
-starts_with long sizes = starts_from UNITS_START (sizes_where (flag long) 0 sizes)
+abbrev pub starts_with : ℕ → List Bool → List ℕ → List ℕ
+starts_with from long sizes = starts_from from (sizes_where (flag long) 0 sizes)
 
 -- each branch is at least as far from its target as was counted
 abbrev pub AreCounted : List Short → List ℕ → List ℕ → Type 0
@@ -45,9 +44,9 @@ pub record IsWidened (branches : List Short) (part : ℕ) (before after : List �
   pub over : (i : ℕ) (b : Short) → slice_get branches i ≡ Some b → IsTrue (spans b part) → slice_index after i ≤ slice_index before i + 4
   pub others : (i : ℕ) (b : Short) → slice_get branches i ≡ Some b → spans b part ≡ false → slice_index after i ≤ slice_index before i
 
--- whatever the parts' sizes are: where flags and distances are on the way to the long set, these are too
+-- wherever the first part starts and whatever the parts' sizes are: where flags and distances are on the way to the long set, these are too
 pub record StayOnWay (branches : List Short) (long : List Bool) (distances : List ℕ) (long' : List Bool) (distances' : List ℕ) : Type 0 where
-  pub going : (sizes : List ℕ) → AreShorts branches sizes → Going branches sizes long → AreCounted branches (starts_with long sizes) distances →
-      Going branches sizes long'
-  pub counted : (sizes : List ℕ) → AreShorts branches sizes → Going branches sizes long → AreCounted branches (starts_with long sizes) distances →
-      AreCounted branches (starts_with long' sizes) distances'
+  pub going : (from : ℕ) (sizes : List ℕ) → AreShorts branches sizes → Going from branches sizes long → AreCounted branches (starts_with from long sizes) distances →
+      Going from branches sizes long'
+  pub counted : (from : ℕ) (sizes : List ℕ) → AreShorts branches sizes → Going from branches sizes long → AreCounted branches (starts_with from long sizes) distances →
+      AreCounted branches (starts_with from long' sizes) distances'

@@ -2,7 +2,6 @@
 -- reaches from -4096 to 4094 bytes (RISC-V unprivileged ISA, 2.5.2, conditional branches); starts are multiples of 4.
 use Rattle.std.specs.Prelude.{◌≡◌, ℕ, ◌+◌, ◌-◌, ◌<◌, ◌==◌, nat_le, Bool, not, ◌&&◌, ◌||◌, if◌then◌else◌, IsTrue, List, [], ◌∷◌, Some, length, slice_get, slice_index}
 use Rattle.std.specs.List.{list_any}
-use Rattle.rv_word.specs.MemoryMap.{UNITS_START}
 use Rattle.cfi_layout.specs.declared.short.Short.{Short}
 use Rattle.cfi_layout.specs.Starts.{starts_from}
 
@@ -23,8 +22,8 @@ is_whole branches long k = long k || not (is_branch branches k)
 abbrev pub sizes_under : (ℕ → Bool) → List Short → List ℕ → List ℕ
 sizes_under long branches sizes = sizes_where (is_whole branches long) 0 sizes
 
-abbrev pub starts_under : (ℕ → Bool) → List Short → List ℕ → List ℕ
-starts_under long branches sizes = starts_from UNITS_START (sizes_under long branches sizes)
+abbrev pub starts_under : ℕ → (ℕ → Bool) → List Short → List ℕ → List ℕ
+starts_under from long branches sizes = starts_from from (sizes_under long branches sizes)
 
 -- the address of a branch's word, after the gate word of its part
 abbrev pub word : List ℕ → Short → ℕ
@@ -40,18 +39,18 @@ abbrev pub is_forced : List ℕ → Short → Bool
 is_forced starts b = b.keep || not (is_in_reach starts b)
 
 -- a set is closed that holds each branch that is to be long where exactly those of the set are long
-abbrev pub HoldsAllForced : List Short → List ℕ → (ℕ → Bool) → Type 0
-HoldsAllForced branches sizes long =
-    (i : ℕ) (b : Short) → slice_get branches i ≡ Some b → IsTrue (is_forced (starts_under long branches sizes) b) → IsTrue (long b.at)
+abbrev pub HoldsAllForced : ℕ → List Short → List ℕ → (ℕ → Bool) → Type 0
+HoldsAllForced from branches sizes long =
+    (i : ℕ) (b : Short) → slice_get branches i ≡ Some b → IsTrue (is_forced (starts_under from long branches sizes) b) → IsTrue (long b.at)
 
 -- the branches of one set are in another
 abbrev pub IsWithin : List Short → (ℕ → Bool) → (ℕ → Bool) → Type 0
 IsWithin branches long other = (k : ℕ) → IsTrue (is_branch branches k) → IsTrue (long k) → IsTrue (other k)
 
 -- the long set: it is closed, and lies in every closed set
-pub record IsLongSet (branches : List Short) (sizes : List ℕ) (long : ℕ → Bool) : Type 0 where
-  pub closed : HoldsAllForced branches sizes long
-  pub least : (other : ℕ → Bool) → HoldsAllForced branches sizes other → IsWithin branches long other
+pub record IsLongSet (from : ℕ) (branches : List Short) (sizes : List ℕ) (long : ℕ → Bool) : Type 0 where
+  pub closed : HoldsAllForced from branches sizes long
+  pub least : (other : ℕ → Bool) → HoldsAllForced from branches sizes other → IsWithin branches long other
 
 -- what is asked of a branch: its part and its target's are there, and long it has two words after the
 -- gate word

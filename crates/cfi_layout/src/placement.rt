@@ -1,10 +1,12 @@
 ghost use Rattle.std.specs.Prelude.{◌≡◌, ◌<◌, ◌≤◌, [], IfOk, IfErr, Err, length, slice_index};
-ghost use Rattle.rv_word.specs.MemoryMap.{CODE_SIZE, UNITS_START};
+ghost use Rattle.rv_word.specs.Form.{profile_for};
+ghost use Rattle.rv_word.specs.MemoryMap.{CODE_SIZE};
 ghost use Rattle.cfi_layout.specs.Starts.{code_size, flag, starts_from};
 ghost use Rattle.cfi_layout.specs.declared.end.PlaceEnd.TheVariants.{CodeTooLarge, NoMemory as NoPlaceMemory};
 
 use crate::end::PlaceEnd;
 use crate::starts::{code_size, starts_of};
+use rv_word::Form;
 use rv_word::memory_map::CODE_SIZE;
 use std::alloc::Global;
 use std::marker::Model;
@@ -51,21 +53,21 @@ impl Placement {
     }
 }
 
-/// Places parts of these sizes, in bytes, one after another from the address after the prologue; each
-/// part is long. Code that is too large is told whether there is memory or not.
-pub fn place(alloc: Global, sizes: &[u32]) -> Result<Placement, PlaceEnd>
-    ensures starts { IfOk result (λ p. p.starts ≡ starts_from UNITS_START sizes.now) }
+/// Places parts of these sizes, in bytes, one after another from the address after the prologue of a form's
+/// images; each part is long. Code that is too large is told whether there is memory or not.
+pub fn place(alloc: Global, form: Form, sizes: &[u32]) -> Result<Placement, PlaceEnd>
+    ensures starts { IfOk result (λ p. p.starts ≡ starts_from (profile_for form).units_from sizes.now) }
     ensures long { IfOk result (λ p. p.long ≡ []) }
-    ensures fits { IfOk result (λ _. code_size sizes.now ≤ CODE_SIZE) }
-    ensures too_large { CODE_SIZE < code_size sizes.now →
-        result ≡ Err (CodeTooLarge (code_size sizes.now)) }
-    ensures refused { IfErr result (λ end. code_size sizes.now ≤ CODE_SIZE → end ≡ NoPlaceMemory) }
+    ensures fits { IfOk result (λ _. code_size (profile_for form).units_from sizes.now ≤ CODE_SIZE) }
+    ensures too_large { CODE_SIZE < code_size (profile_for form).units_from sizes.now →
+        result ≡ Err (CodeTooLarge (code_size (profile_for form).units_from sizes.now)) }
+    ensures refused { IfErr result (λ end. code_size (profile_for form).units_from sizes.now ≤ CODE_SIZE → end ≡ NoPlaceMemory) }
 {
-    let bytes = code_size(sizes);
+    let bytes = code_size(form, sizes);
     if bytes > u128::from(CODE_SIZE) {
         return Err(PlaceEnd::CodeTooLarge(bytes));
     }
-    let starts = starts_of(alloc, sizes)?;
+    let starts = starts_of(alloc, form, sizes)?;
     Ok(Placement {
         starts,
         long: Vec::new(alloc),

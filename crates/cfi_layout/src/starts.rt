@@ -1,31 +1,31 @@
 //! Sums: where parts of these sizes start.
 
 ghost use Rattle.std.specs.Prelude.{◌≡◌, ℕ, ◌+◌, ◌-◌, ◌<◌, ◌≤◌, ◌^◌, if◌then◌else◌, IfOk, length, slice_index};
-ghost use Rattle.rv_word.specs.MemoryMap.{CODE_SIZE, UNITS_START};
+ghost use Rattle.rv_word.specs.Form.{profile_for};
+ghost use Rattle.rv_word.specs.MemoryMap.{CODE_SIZE};
 ghost use Rattle.cfi_layout.specs.Lengthening.{starts_with};
 ghost use Rattle.cfi_layout.specs.LongSet.{sizes_where};
 ghost use Rattle.cfi_layout.specs.Starts.{code_size, flag, starts_from};
 
-use rv_word::NoMemory;
 use rv_word::memory_map::CODE_START;
-use rv_word::profile::UNITS_START;
+use rv_word::{Form, NoMemory};
 use std::alloc::Global;
 
-/// How many bytes the code of parts of these sizes has, the prologue counted.
-pub fn code_size(sizes: &[u32]) -> u128
-    ensures { result ≡ code_size sizes.now }
+/// How many bytes the code of parts of these sizes has, the prologue of a form's images counted.
+pub fn code_size(form: Form, sizes: &[u32]) -> u128
+    ensures { result ≡ code_size (profile_for form).units_from sizes.now }
 {
     let parts: u128 = sizes.iter().map(|size| u128::from(*size)).sum();
-    u128::from(UNITS_START - CODE_START) + parts
+    u128::from(form.units_from() - CODE_START) + parts
 }
 
 /// The addresses at which parts of these sizes start, and at which the last ends.
-pub(crate) fn starts_of(alloc: Global, sizes: &[u32]) -> Result<Vec<u64>, NoMemory>
-    requires { code_size sizes.now ≤ CODE_SIZE }
-    ensures { IfOk result (λ v. v.items ≡ starts_from UNITS_START sizes.now) }
+pub(crate) fn starts_of(alloc: Global, form: Form, sizes: &[u32]) -> Result<Vec<u64>, NoMemory>
+    requires { code_size (profile_for form).units_from sizes.now ≤ CODE_SIZE }
+    ensures { IfOk result (λ v. v.items ≡ starts_from (profile_for form).units_from sizes.now) }
 {
     let mut starts = Vec::new(alloc);
-    let mut at = UNITS_START;
+    let mut at = form.units_from();
     for size in sizes {
         starts.push(at)?;
         at += u64::from(*size);
@@ -59,13 +59,18 @@ pub(crate) fn sizes_of(alloc: Global, sizes: &[u32], long: &[bool]) -> Result<Ve
 
 /// The addresses at which parts start, and at which the last ends, where one that is not long has one
 /// word less.
-pub(crate) fn starts_with(alloc: Global, sizes: &[u32], long: &[bool]) -> Result<Vec<u64>, NoMemory>
+pub(crate) fn starts_with(
+    alloc: Global,
+    form: Form,
+    sizes: &[u32],
+    long: &[bool],
+) -> Result<Vec<u64>, NoMemory>
     requires count { length long.now ≡ length sizes.now }
-    requires room { code_size sizes.now ≤ CODE_SIZE }
-    ensures starts { IfOk result (λ v. v.items ≡ starts_with long.now sizes.now) }
+    requires room { code_size (profile_for form).units_from sizes.now ≤ CODE_SIZE }
+    ensures starts { IfOk result (λ v. v.items ≡ starts_with (profile_for form).units_from long.now sizes.now) }
     ensures len { IfOk result (λ v. length v.items ≡ length sizes.now + 1) }
     ensures low { IfOk result (λ v. (k : ℕ) → slice_index v.items k < 2 ^ 32) }
 {
     let left = sizes_of(alloc, sizes, long)?;
-    starts_of(alloc, left.as_slice())
+    starts_of(alloc, form, left.as_slice())
 }

@@ -175,9 +175,9 @@ pub(crate) fn lengthen(
     requires starts { length starts.now ≡ length long.old.items + 1 }
     requires low { (k : ℕ) → slice_index starts.now k < 2 ^ 32 }
     ensures len { length long.new.items ≡ length long.old.items }
-    ensures going { OnOk result ((sizes : List ℕ) → AreShorts branches.now sizes →
-        Going branches.now sizes long.old.items → starts.now ≡ starts_with long.old.items sizes →
-        Going branches.now sizes long.new.items) }
+    ensures going { OnOk result ((from : ℕ) (sizes : List ℕ) → AreShorts branches.now sizes →
+        Going from branches.now sizes long.old.items → starts.now ≡ starts_with from long.old.items sizes →
+        Going from branches.now sizes long.new.items) }
     ensures unchanged { result ≡ Ok false → long.new.items ≡ long.old.items }
     ensures settled { result ≡ Ok false → (i : ℕ) (b : Short) → slice_get branches.now i ≡ Some b →
         IsTrue (is_far b (gap starts.now b)) → IsTrue (flag long.old.items b.at) }

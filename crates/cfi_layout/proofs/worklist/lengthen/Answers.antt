@@ -13,10 +13,10 @@ returns-then-not-branch-clause-settled c = λ e i b is far.
     c.in_ok-settle_each.ensures.settled (ap Ok c.if-not-branch.true) i b is (ap (λ (n : ℕ). is_far b n) read ∙ far)
 
 pub returns-clause-going : goal.returns-clause-going
-returns-clause-going c = λ sizes shorts going are.
+returns-clause-going c = λ from sizes shorts going are.
     let counted = subst (λ (starts : List ℕ). AreCounted c.args.branches.now starts c.in_ok-distances.distances.items) are
     (gaps_counted c.args.branches.now c.args.starts.now c.in_ok-distances.distances.items c.in_ok-distances.ensures) in
-    (then_stay _ _ _ _ _ _ _ c.in_ok-settle_each.ensures.way c.in_ok-settle_rest.ensures.way).going sizes shorts going counted
+    (then_stay _ _ _ _ _ _ _ c.in_ok-settle_each.ensures.way c.in_ok-settle_rest.ensures.way).going from sizes shorts going counted
 
 pub gaps-requires-clause-parts : goal.gaps-requires-clause-parts
 gaps-requires-clause-parts c = λ i b is.
@@ -72,8 +72,8 @@ pub returns-then-not-branch-clause-len : goal.returns-then-not-branch-clause-len
 returns-then-not-branch-clause-len c = c.in_ok-settle_each.ensures.long
 
 pub returns-then-not-branch-clause-going : goal.returns-then-not-branch-clause-going
-returns-then-not-branch-clause-going c = λ sizes shorts going are.
-    subst (λ (long : List Bool). Going c.args.branches.now sizes long) (sym (c.in_ok-settle_each.ensures.unchanged (ap Ok c.if-not-branch.true))) going
+returns-then-not-branch-clause-going c = λ from sizes shorts going are.
+    subst (λ (long : List Bool). Going from c.args.branches.now sizes long) (sym (c.in_ok-settle_each.ensures.unchanged (ap Ok c.if-not-branch.true))) going
 
 pub returns-then-not-branch-clause-unchanged : goal.returns-then-not-branch-clause-unchanged
 returns-then-not-branch-clause-unchanged c = λ e. c.in_ok-settle_each.ensures.unchanged (ap Ok c.if-not-branch.true)
