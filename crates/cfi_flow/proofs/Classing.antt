@@ -5,14 +5,14 @@ use Rattle.std.proofs.Math.ListN.{get_or-eq_default}
 use Rattle.std.proofs.lemmas.Bool.{cases_lt}
 use Rattle.std.proofs.lemmas.List.{get_or-map, length-map}
 use Rattle.std.proofs.lemmas.List.Elements.{All-contains, All-from_get_or, Contains-get_or}
-use Rattle.cfi_class.specs.Classes.{AreInOne, IsIn, IsInSome, Joined, here, on}
+use Rattle.cfi_class.specs.Classes.{AreInOne, IsIn, IsInSome, Joined, here, on, class_with}
 use Rattle.cfi_flow.specs.declared.closed.Site.{Site}
-use Rattle.cfi_flow.specs.Closed.{AreClasses, class_reached, class_with, sets_of, with_class}
+use Rattle.cfi_flow.specs.Closed.{AreClasses, class_reached, sets_of, with_class}
 use Rattle.cfi_flow.specs.Found.{by_table, first_entry}
 use Rattle.cfi_flow.specs.Joins.{JoinAs}
 use Rattle.cfi_flow.specs.Raw.{IsThere, RawGraph, no_site}
 use Rattle.cfi_flow.specs.Sites.{RawSite}
-use Rattle.cfi_flow.specs.Tables.{IsTable}
+use Rattle.cfi_class.specs.Tables.{IsTable}
 
 -- only a list that is there has a member
 pub list_there : (lists : List (List ℕ)) (k a : ℕ) → IsIn lists k a → k < length lists

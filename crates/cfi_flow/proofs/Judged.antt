@@ -11,8 +11,8 @@ use Rattle.cfi_graph.specs.declared.policy.PolicyLine.{PolicyLine}
 use Rattle.cfi_flow.specs.Drawn.{free_site, line_for, site_if_free}
 use Rattle.cfi_flow.specs.Policy.{if_instruction, instruction_at, is_free_site, is_number, is_wrong_line, line_of, misses_target, names_site, no_line, place_named, wrong_line}
 use Rattle.cfi_flow.specs.Sites.{site_kind}
-use Rattle.cfi_flow.specs.Tables.{IsTable, entry, noted}
-use Rattle.cfi_flow.proofs.Finding.{more_noted}
+use Rattle.cfi_class.specs.Tables.{IsTable, entry, noted}
+use Rattle.cfi_class.proofs.Finding.{more_noted}
 use Rattle.obj_input.specs.Names.{find_spot}
 
 -- what is named is a place

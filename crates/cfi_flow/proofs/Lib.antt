@@ -1,10 +1,7 @@
 pub mod Laws
 pub mod Listing
-pub mod Placing
 pub mod Sides
 pub mod Rising
-mod Finding
-mod Entering
 mod Classing
 mod Spanning
 mod Pointing
@@ -14,4 +11,3 @@ mod Reaching
 mod Judged
 mod Stepping
 mod Rows
-mod SourceRows

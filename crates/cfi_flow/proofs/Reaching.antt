@@ -14,7 +14,7 @@ use Rattle.cfi_flow.specs.Drawn.{no_func}
 use Rattle.cfi_flow.specs.Marks.{AreBegun}
 use Rattle.cfi_flow.specs.Policy.{is_number}
 use Rattle.cfi_flow.specs.Sites.{begins}
-use Rattle.cfi_flow.proofs.Finding.{none_fails}
+use Rattle.cfi_class.proofs.Finding.{none_fails}
 
 -- a place before another is not at the other's section and offset
 not_at : (i j : Item) (section offset : ℕ) → is_before i j.section j.offset ≡ true → is_spot section offset j ≡ true → is_spot section offset i ≡ false

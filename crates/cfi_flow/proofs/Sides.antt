@@ -1,16 +1,15 @@
 -- The one side that a closed graph has.
-use Rattle.std.proofs.Common.{◌≡◌, ℕ, zero, suc, ◌*◌, ◌<◌, Bool, true, false, List, [], ◌∷◌, length, map, refl, sym, ap, subst, ◌∙◌, lit<, arith}
+use Rattle.std.proofs.Common.{◌≡◌, ℕ, zero, suc, ◌<◌, Bool, List, [], ◌∷◌, length, map, refl, sym, ap, subst, ◌∙◌, lit<, arith}
 use Rattle.std.specs.Prelude.{filter, slice_index_or}
 use Rattle.std.specs.List.{All, list_any}
 use Rattle.std.proofs.Math.Bool.{or-false}
 use Rattle.cfi_graph.specs.declared.line.Sort.{Sort}
 use Rattle.cfi_graph.specs.declared.line.Sort.TheVariants.{Both}
 use Rattle.cfi_flow.specs.declared.closed.Site.{Site}
-use Rattle.cfi_flow.specs.Closed.{AreClasses, ClosedGraph, IsClosed, IsInside, IsSide, Side, class_at, class_of, first_side, has, is_of, no_side, sets_of, sorts_of_sides, with_class}
-use Rattle.cfi_flow.specs.Placement.{is_target, lead_size}
+use Rattle.cfi_flow.specs.Closed.{AreClasses, ClosedGraph, IsClosed, IsInside, IsSide, Side, class_at, class_of, first_side, is_of, no_side, sets_of, sorts_of_sides, with_class, class_reaches, is_same, is_target}
+use Rattle.cfi_class.specs.Classes.{has}
 use Rattle.cfi_flow.specs.Raw.{RawGraph}
 use Rattle.cfi_flow.specs.Sites.{RawSite}
-use Rattle.cfi_flow.specs.Untame.{class_reaches, is_same}
 
 -- each computed transfer is of the one sort
 pub sort_is : (sort : Sort) → sort ≡ Both
@@ -80,12 +79,6 @@ closed_in_one raw classes sites taken are is marks = record {
 pub one_target : (closed : ClosedGraph) (k : ℕ) → closed.sides ≡ first_side closed ∷ [] → list_any (has k) (first_side closed).classes ≡ is_target closed.sides k
 one_target closed k one =
     sym (ap (λ (sides : List Side). is_target sides k) one ∙ or-false (list_any (has k) (first_side closed).classes))
-
-pub one_lead : (closed : ClosedGraph) (k : ℕ) → closed.sides ≡ first_side closed ∷ [] → is_target closed.sides k ≡ true → 4 ≡ lead_size closed.sides k
-one_lead closed k one target = let many : length closed.sides ≡ 1 = ap length one in rw (target, many) refl
-
-pub no_lead : (closed : ClosedGraph) (k : ℕ) → is_target closed.sides k ≡ false → 0 ≡ lead_size closed.sides k
-no_lead closed k target = rw target refl
 
 pub one_reaches : (closed : ClosedGraph) (k target : ℕ) → closed.sides ≡ first_side closed ∷ [] →
     is_same (class_of (first_side closed) k) (class_at (first_side closed) target) ≡ class_reaches closed k target

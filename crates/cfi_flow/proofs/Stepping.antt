@@ -16,7 +16,7 @@ use Rattle.cfi_flow.specs.Kept.{mark_at, open_targets, site_with, sites_of}
 use Rattle.cfi_flow.specs.Policy.{allowed, names_site, no_line, targets_by, targets_under}
 use Rattle.cfi_flow.specs.Sites.{RawSite, is_function, reached, may_reach, site_at, site_kind, sites_below}
 use Rattle.cfi_flow.specs.Spans.{goes_inside, in_span}
-use Rattle.cfi_flow.proofs.Finding.{find_none, find_some}
+use Rattle.cfi_class.proofs.Finding.{find_none, find_some}
 use Rattle.cfi_flow.proofs.Listing.{below_same}
 use Rattle.cfi_flow.proofs.Spanning.{or_false}
 

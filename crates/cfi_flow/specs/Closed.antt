@@ -1,12 +1,12 @@
 -- The closed graph: each site reaches the whole class of its targets. It has sides, each of computed transfers of one sort with the
 -- classes of their targets.
-use Rattle.std.specs.Prelude.{◌≡◌, ◌↔◌, ℕ, ◌<◌, Bool, true, ◌==◌, Option, Some, None, List, [], ◌∷◌, filter, length, map, slice_index, slice_index_or}
-use Rattle.std.specs.List.{All, AllPairs, find, list_any, position}
+use Rattle.std.specs.Prelude.{◌≡◌, ◌↔◌, ℕ, ◌<◌, Bool, true, false, ◌==◌, Option, Some, None, List, [], ◌∷◌, filter, length, map, slice_index, slice_index_or}
+use Rattle.std.specs.List.{All, AllPairs, find, list_any}
 use Rattle.std.specs.List.Sorted.{IsStrictlyIncreasing}
 use Rattle.cfi_graph.specs.declared.line.SiteKind.{SiteKind}
 use Rattle.cfi_graph.specs.declared.line.Sort.{Sort}
 use Rattle.cfi_graph.specs.declared.line.Sort.TheVariants.{Both}
-use Rattle.cfi_class.specs.Classes.{AreInOne, IsIn, IsInSome, Joined}
+use Rattle.cfi_class.specs.Classes.{AreInOne, IsIn, IsInSome, Joined, class_with, has}
 use Rattle.cfi_flow.specs.declared.closed.Site.{Site}
 use Rattle.cfi_flow.specs.Sites.{RawSite}
 use Rattle.cfi_flow.specs.Raw.{RawGraph}
@@ -47,13 +47,6 @@ pub record AreClasses (sets classes : List (List ℕ)) : Type 0 where
   pub rising : All IsStrictlyIncreasing classes
   pub some : All (λ class. 0 < length class) classes
   pub in_order : AllPairs (λ class next. slice_index class 0 < slice_index next 0) classes
-
-abbrev pub has : ℕ → List ℕ → Bool
-has k class = list_any (λ t. t == k) class
-
--- the class that has a place
-abbrev pub class_with : List (List ℕ) → ℕ → Option ℕ
-class_with classes k = position (has k) classes
 
 -- the class that has the targets of a site; none where it has no targets
 abbrev pub class_reached : List (List ℕ) → List ℕ → Option ℕ
@@ -101,3 +94,22 @@ class_of side k = class_if (find (λ (s : Site). s.place == k) side.sites)
 -- a side has a site at a place
 abbrev pub has_site : ℕ → Side → Bool
 has_site k side = list_any (λ (s : Site). s.place == k) side.sites
+
+-- a place is a target of a side, and of some side
+abbrev pub is_target_of : ℕ → Side → Bool
+is_target_of k side = list_any (has k) side.classes
+
+abbrev pub is_target : List Side → ℕ → Bool
+is_target sides k = list_any (is_target_of k) sides
+
+-- both are classes, and the same one
+abbrev pub is_same : Option ℕ → Option ℕ → Bool
+is_same (Some class) (Some other) = class == other
+is_same other another = false
+
+-- the class that the site at a place reaches has another place: of a side, and of the closed graph
+abbrev pub side_reaches : ℕ → ℕ → Side → Bool
+side_reaches k target side = is_same (class_of side k) (class_at side target)
+
+abbrev pub class_reaches : ClosedGraph → ℕ → ℕ → Bool
+class_reaches closed k target = list_any (side_reaches k target) closed.sides

@@ -11,7 +11,7 @@ use Rattle.cfi_flow.specs.Kept.{AreKept, sites_of}
 use Rattle.cfi_flow.specs.Marks.{AreBegun}
 use Rattle.cfi_flow.specs.Policy.{misses_target, names_site, place_named, targets_under}
 use Rattle.cfi_flow.specs.Sites.{site_kind, sites_below}
-use Rattle.cfi_flow.specs.Tables.{entry}
+use Rattle.cfi_class.specs.Tables.{entry}
 
 abbrev pub no_func : Func
 no_func = record { section = 0; offset = 0; size = 0 }

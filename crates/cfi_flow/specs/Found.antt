@@ -2,9 +2,9 @@
 use Rattle.std.specs.Prelude.{ℕ, ◌<◌, ◌==◌, Option, option_and_then, List, slice_get}
 use Rattle.std.specs.List.{All, position}
 use Rattle.cfi_flow.specs.declared.closed.Site.{Site}
-use Rattle.cfi_flow.specs.Closed.{class_with}
+use Rattle.cfi_class.specs.Classes.{class_with}
 use Rattle.cfi_flow.specs.Sites.{RawSite}
-use Rattle.cfi_flow.specs.Tables.{IsTable, entry}
+use Rattle.cfi_class.specs.Tables.{IsTable, entry}
 
 abbrev pub site_with : List Site → ℕ → Option ℕ
 site_with sites k = position (λ (s : Site). s.place == k) sites

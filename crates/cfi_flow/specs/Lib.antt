@@ -11,14 +11,4 @@ pub mod Pointed
 pub mod Joins
 pub mod Marks
 pub mod Drawn
-pub mod Tables
-pub mod Entries
 pub mod Found
-pub mod Placement
-pub mod LegalMap
-pub mod LabelOf
-pub mod GraphAtMap
-pub mod Source
-pub mod Untame
-pub mod SourceStep
-pub mod MapFault

@@ -1,10 +1,8 @@
 ghost use Rattle.std.specs.Prelude.{◌≡◌, ◌<◌, ◌≤◌, ◌∷◌, IfSome, Some, [], false, length, slice_get, slice_index_or};
-ghost use Rattle.cfi_flow.specs.Closed.{IsInside, class_at, class_of, first_side};
+ghost use Rattle.cfi_flow.specs.Closed.{IsInside, class_at, class_of, first_side, class_reaches, is_same, is_target};
 ghost use Rattle.cfi_flow.specs.Found.{site_with};
-ghost use Rattle.cfi_flow.specs.Placement.{is_target, lead_size};
-ghost use Rattle.cfi_flow.specs.Untame.{class_reaches, is_same};
 
-use crate::entry::Entry;
+use cfi_class::Entry;
 use rv_word::Places;
 use std::marker::Model;
 
@@ -135,15 +133,6 @@ impl Closed {
     {
         let _places = self.places();
         self.class_at(place).is_some()
-    }
-
-    /// How many bytes the words before the unit of this place have, if there are any.
-    pub fn lead_size(&self, place: u64) -> u32
-        ensures value { result ≡ lead_size self.now.sides place }
-        ensures small { result ≤ 4 }
-    {
-        let _places = self.places();
-        if self.is_target(place) { 4 } else { 0 }
     }
 
     /// Whether the class that the site at a place reaches has another place.

@@ -3,12 +3,11 @@ ghost use Rattle.std.specs.List.{All};
 ghost use Rattle.cfi_flow.specs.declared.closed.Site.{Site};
 ghost use Rattle.cfi_flow.specs.Closed.{IsClosed};
 ghost use Rattle.cfi_flow.specs.Found.{site_with};
-ghost use Rattle.cfi_flow.specs.Tables.{IsTable};
+ghost use Rattle.cfi_class.specs.Tables.{IsTable};
 
 use crate::closed::{Closed, Site};
-use crate::entry::Entry;
 use crate::raw::Raw;
-use crate::table::{blank, note, table_of};
+use cfi_class::{Entry, blank, note, table_of};
 use rv_word::NoMemory;
 use std::alloc::Global;
 

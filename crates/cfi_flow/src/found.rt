@@ -5,12 +5,12 @@ ghost use Rattle.std.specs.List.Sorted.{IsStrictlyIncreasing};
 ghost use Rattle.cfi_flow.specs.Found.{by_table};
 ghost use Rattle.cfi_flow.specs.Kept.{AreKept, IsAimed, sites_of, targets_of};
 ghost use Rattle.cfi_flow.specs.Pointed.{ArePoints};
-ghost use Rattle.cfi_flow.specs.Tables.{entry};
+ghost use Rattle.cfi_class.specs.Tables.{entry};
 
 use crate::closed::Site;
 use crate::draw::{Aim, Drawing};
-use crate::entry::Entry;
 use crate::points::{Points, first, points_of};
+use cfi_class::Entry;
 use rv_word::{NoMemory, Places};
 use std::alloc::Global;
 

@@ -7,16 +7,16 @@ ghost use Rattle.cfi_flow.specs.Drawn.{IsDrawn, IsOf, line_for};
 ghost use Rattle.cfi_flow.specs.Kept.{sites_of, site_with};
 ghost use Rattle.cfi_flow.specs.Policy.{Ends, IsRaw, targets_under};
 ghost use Rattle.cfi_flow.specs.Spans.{IsReach};
-ghost use Rattle.cfi_flow.specs.Tables.{IsTable};
+ghost use Rattle.cfi_class.specs.Tables.{IsTable};
 
 use crate::begin::begun;
 use crate::draw::Drawing;
 use crate::end::FlowEnd;
-use crate::entry::Entry;
 use crate::kind::site_kind;
 use crate::policy::{allowed, lines_by_site};
 use crate::raw::Raw;
 use crate::span::{reach, span_into};
+use cfi_class::Entry;
 use cfi_graph::{Policy, PolicyLine, SiteKind};
 use obj_program::Items;
 use rv_word::NoMemory;

@@ -2,7 +2,6 @@
 //! classes that chains of these make, the place where the program is entered, and the labels that it has for itself.
 #![tactic(auto)]
 
-pub use at_map::{address_at, unit_size, words_behind};
 pub use closed::{Closed, Site};
 pub use closing::close;
 pub use end::FlowEnd;
@@ -10,16 +9,13 @@ pub use graph::raw_graph;
 pub use label::used_labels;
 pub use named::entry_place;
 pub use raw::{Raw, RawSite};
-pub use reason::Reason;
 
-mod at_map;
 mod begin;
 mod below;
 mod closed;
 mod closing;
 mod draw;
 mod end;
-mod entry;
 mod found;
 mod graph;
 mod join;
@@ -29,6 +25,4 @@ mod named;
 mod points;
 mod policy;
 mod raw;
-mod reason;
 mod span;
-mod table;

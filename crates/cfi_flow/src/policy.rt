@@ -4,13 +4,12 @@ ghost use Rattle.std.specs.List.Sorted.{IsStrictlyIncreasing};
 ghost use Rattle.obj_program.specs.Program.{count};
 ghost use Rattle.cfi_flow.specs.Drawn.{free_site, line_for};
 ghost use Rattle.cfi_flow.specs.Policy.{Ends, allowed, misses_target, place_named, wrong_line};
-ghost use Rattle.cfi_flow.specs.Tables.{IsTable};
+ghost use Rattle.cfi_class.specs.Tables.{IsTable};
 
 use crate::end::FlowEnd;
-use crate::entry::Entry;
 use crate::kind::site_kind;
 use crate::named::place_named;
-use crate::table::{blank, note};
+use cfi_class::{Entry, blank, note};
 use cfi_graph::PolicyLine;
 use obj_program::Items;
 use rv_word::{NoMemory, Places};

@@ -7,10 +7,9 @@ ghost use Rattle.cfi_flow.specs.Raw.{IsThere, site_of};
 
 use crate::closed::Site;
 use crate::draw::Drawing;
-use crate::entry::Entry;
 use crate::found::sites_by;
 use crate::join::joined;
-use cfi_class::classes;
+use cfi_class::{Entry, classes};
 use cfi_graph::SiteKind;
 use rv_word::{NoMemory, Places};
 use std::alloc::Global;

@@ -1,9 +1,10 @@
 -- A program is its parts.
-use Rattle.std.proofs.Common.{◌≡◌, List, refl}
+use Rattle.std.proofs.Common.{◌≡◌, List, refl, subst, sym}
 use Rattle.obj_input.specs.declared.parts.Func.{Func}
 use Rattle.obj_input.specs.Input.{InputParts, Named}
 use Rattle.obj_input.specs.DataLayout.{data_layout_of}
 use Rattle.obj_program.specs.declared.item.DataReloc.{DataReloc}
+use Rattle.obj_program.specs.Program.{Program}
 use Rattle.obj_items.specs.declared.program.Held.{Held}
 use Rattle.obj_items.specs.Contents.{AreContents}
 use Rattle.obj_items.specs.InitialData.{relocs_of}
@@ -15,3 +16,9 @@ pub program_is : (input : InputParts) (held : Held) (relocs : List DataReloc) (f
     → record { items = held.items.items; init = held.init; relocations = relocs; data_end = held.data_end; funcs = funcs; names = names } ≡ program_of input
 unfolding program_of data_layout_of
 program_is input held relocs funcs names of r f m = rw (of.items, of.init, r, of.data_end, f, m) refl
+
+-- what holds of the program holds of its parts
+pub parts_hold : (Holds : Program → Type 0) (input : InputParts) (held : Held) (relocs : List DataReloc) (funcs : List Func) (names : List Named) → AreContents input held
+    → relocs ≡ relocs_of input (outline input) → funcs ≡ input.funcs → names ≡ input.names → Holds (program_of input)
+    → Holds (record { items = held.items.items; init = held.init; relocations = relocs; data_end = held.data_end; funcs = funcs; names = names })
+parts_hold Holds input held relocs funcs names of r f m holds = subst Holds (sym (program_is input held relocs funcs names of r f m)) holds

@@ -1,10 +1,10 @@
 use Rattle.std.proofs.Common.{ℕ, ◌≡◌, ◌<◌, Option, List, length, sym, subst, ap, ◌∙◌}
 use Rattle.std.specs.List.{All}
 use Rattle.cfi_flow.specs.declared.closed.Site.{Site}
-use Rattle.cfi_flow.specs.Closed.{class_with}
+use Rattle.cfi_class.specs.Classes.{class_with}
 use Rattle.cfi_flow.specs.Found.{site_with}
 use Rattle.cfi_flow.specs.Sites.{RawSite}
-use Rattle.cfi_flow.specs.Tables.{IsTable}
+use Rattle.cfi_class.specs.Tables.{IsTable}
 use Rattle.cfi_flow.proofs.Classing.{by_table_there, closed_by_table}
 use Rattle.cfi_flow.proofs.Sides.{closed_in_one}
 use Rattle.cfi_flow.proofs.closing.close.Goals as goal

@@ -1,6 +1,6 @@
 use Rattle.std.proofs.Common.{take}
 use Rattle.cfi_flow.specs.Found.{site_with}
-use Rattle.cfi_flow.specs.Tables.{IsTable}
+use Rattle.cfi_class.specs.Tables.{IsTable}
 use Rattle.cfi_flow.proofs.closing.site_table.Given as goal
 
 abbrev pub invariant-loop-i : goal.invariant-loop-i

@@ -11,7 +11,7 @@ use Rattle.cfi_flow.specs.declared.closed.Site.{Site}
 use Rattle.cfi_flow.specs.Found.{by_table}
 use Rattle.cfi_flow.specs.Kept.{IsAimed, raw_site, targets_of}
 use Rattle.cfi_flow.specs.Pointed.{ArePoints}
-use Rattle.cfi_flow.specs.Tables.{entry}
+use Rattle.cfi_class.specs.Tables.{entry}
 use Rattle.cfi_flow.proofs.Keeping.{first_there, map_more}
 use Rattle.cfi_flow.proofs.Rising.{below_rising}
 use Rattle.cfi_flow.proofs.found.sites_by.Goals as goal

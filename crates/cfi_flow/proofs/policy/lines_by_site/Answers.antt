@@ -5,7 +5,7 @@ use Rattle.least.proofs.Firsts.{first_begins, first_passed}
 use Rattle.obj_program.specs.Program.{count}
 use Rattle.cfi_flow.specs.Drawn.{line_for}
 use Rattle.cfi_flow.specs.Policy.{is_wrong_line, no_line}
-use Rattle.cfi_flow.specs.Tables.{IsTable}
+use Rattle.cfi_class.specs.Tables.{IsTable}
 use Rattle.cfi_flow.proofs.Judged.{is_right, is_wrong, more_lines, none_wrong, wrong_at}
 use Rattle.cfi_flow.proofs.policy.lines_by_site.Goals as goal
 

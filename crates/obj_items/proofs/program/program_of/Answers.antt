@@ -1,8 +1,7 @@
-use Rattle.std.proofs.Common.{◌∙◌, sym, subst}
+use Rattle.std.proofs.Common.{◌∙◌}
 use Rattle.obj_program.specs.MapFit.{FitsMaps}
-use Rattle.obj_program.specs.Program.{Program}
 use Rattle.obj_program.specs.Sound.{IsSound}
-use Rattle.obj_items.proofs.Parts.{program_is}
+use Rattle.obj_items.proofs.Parts.{parts_hold, program_is}
 use Rattle.obj_items.proofs.program.program_of.Goals as goal
 
 pub relocs-requires-clause-found : goal.relocs-requires-clause-found
@@ -10,19 +9,13 @@ relocs-requires-clause-found c = rw (c.deref.ensures.value, ← c.requires.input
 
 pub of-requires-clause-sound : goal.of-requires-clause-sound
 of-requires-clause-sound c =
-    subst (λ (p : Program). IsSound p)
-    (sym
-    (program_is c.args.input c.in_ok-contents.contents _ _ _ c.in_ok-contents.ensures.contents (rw (← c.requires.input) at c.in_ok-relocations.ensures)
-    c.into_symbols-names.ensures.funcs c.into_symbols-names.ensures.names))
-    c.in_ok-contents.ensures.sound
+    parts_hold IsSound c.args.input c.in_ok-contents.contents _ _ _ c.in_ok-contents.ensures.contents (rw (← c.requires.input) at c.in_ok-relocations.ensures)
+    c.into_symbols-names.ensures.funcs c.into_symbols-names.ensures.names c.in_ok-contents.ensures.sound
 
 pub of-requires-clause-fits : goal.of-requires-clause-fits
 of-requires-clause-fits c =
-    subst (λ (p : Program). FitsMaps p)
-    (sym
-    (program_is c.args.input c.in_ok-contents.contents _ _ _ c.in_ok-contents.ensures.contents (rw (← c.requires.input) at c.in_ok-relocations.ensures)
-    c.into_symbols-names.ensures.funcs c.into_symbols-names.ensures.names))
-    c.in_ok-contents.ensures.fits
+    parts_hold FitsMaps c.args.input c.in_ok-contents.contents _ _ _ c.in_ok-contents.ensures.contents (rw (← c.requires.input) at c.in_ok-relocations.ensures)
+    c.into_symbols-names.ensures.funcs c.into_symbols-names.ensures.names c.in_ok-contents.ensures.fits
 
 pub returns : goal.returns
 returns c =

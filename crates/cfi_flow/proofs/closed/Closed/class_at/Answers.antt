@@ -1,6 +1,7 @@
 use Rattle.std.proofs.Common.{[], ◌∙◌, sym, ap, subst, ◌≤◌, length}
-use Rattle.cfi_flow.specs.Closed.{ClosedGraph, class_at, first_side, has}
-use Rattle.cfi_flow.proofs.Finding.{has_not, position_none}
+use Rattle.cfi_flow.specs.Closed.{ClosedGraph, class_at, first_side}
+use Rattle.cfi_class.specs.Classes.{has}
+use Rattle.cfi_class.proofs.Finding.{has_not, position_none}
 use Rattle.cfi_flow.proofs.closed.Closed.class_at.Goals as goal
 
 pub returns-else-place-places : goal.returns-else-place-places

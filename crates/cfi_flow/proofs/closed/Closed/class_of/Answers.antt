@@ -1,7 +1,7 @@
 use Rattle.std.proofs.Common.{◌==◌, ◌∙◌, sym, ap}
 use Rattle.cfi_flow.specs.declared.closed.Site.{Site}
 use Rattle.cfi_flow.specs.Closed.{class_if, first_side}
-use Rattle.cfi_flow.proofs.Finding.{find_none, find_some}
+use Rattle.cfi_class.proofs.Finding.{find_none, find_some}
 use Rattle.cfi_flow.proofs.closed.Closed.class_of.Goals as goal
 
 pub returns-in-Some : goal.returns-in-Some

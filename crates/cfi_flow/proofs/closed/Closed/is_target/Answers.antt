@@ -1,7 +1,8 @@
 use Rattle.std.proofs.Common.{[], ◌∙◌, ap}
 use Rattle.std.specs.Option.{is_some}
-use Rattle.cfi_flow.specs.Closed.{first_side, has}
-use Rattle.cfi_flow.proofs.Placing.{some_is_any}
+use Rattle.cfi_flow.specs.Closed.{first_side}
+use Rattle.cfi_class.specs.Classes.{has}
+use Rattle.cfi_class.proofs.Finding.{some_is_any}
 use Rattle.cfi_flow.proofs.Sides.{one_target}
 use Rattle.cfi_flow.proofs.closed.Closed.is_target.Goals as goal
 

@@ -1,7 +1,6 @@
 use Rattle.std.proofs.Common.{ℕ, ◌∙◌, ap}
 use Rattle.std.specs.Prelude.{Option}
-use Rattle.cfi_flow.specs.Closed.{class_of, first_side}
-use Rattle.cfi_flow.specs.Untame.{is_same}
+use Rattle.cfi_flow.specs.Closed.{class_of, first_side, is_same}
 use Rattle.cfi_flow.proofs.Sides.{one_reaches}
 use Rattle.cfi_flow.proofs.closed.Closed.reaches.Goals as goal
 

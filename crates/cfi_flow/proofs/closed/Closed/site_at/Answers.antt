@@ -3,7 +3,7 @@ use Rattle.std.proofs.lemmas.Bool.{ne_eqb}
 use Rattle.cfi_flow.specs.declared.closed.Site.{Site}
 use Rattle.cfi_flow.specs.Closed.{ClosedGraph, first_side}
 use Rattle.cfi_flow.specs.Found.{site_with}
-use Rattle.cfi_flow.proofs.Finding.{position_none}
+use Rattle.cfi_class.proofs.Finding.{position_none}
 use Rattle.cfi_flow.proofs.closed.Closed.site_at.Goals as goal
 
 abbrev no_site : Site

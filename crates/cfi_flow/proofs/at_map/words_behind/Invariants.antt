@@ -1,6 +1,0 @@
-use Rattle.std.proofs.Common.{◌≡◌, ◌++◌, drop}
-use Rattle.cfi_flow.specs.Placement.{words_from}
-use Rattle.cfi_flow.proofs.at_map.words_behind.Given as goal
-
-abbrev pub invariant-loop-k : goal.invariant-loop-k
-invariant-loop-k l = l.words.items ++ words_from l.closed.sides l.k (drop l.k l.gates) ≡ words_from l.closed.sides 0 l.gates

@@ -1,0 +1,50 @@
+-- How many gates and words a placement has, which word stands at a place, its words while a loop makes them, and the words before a place.
+use Rattle.std.proofs.Common.{◌≡◌, ℕ, suc, ◌+◌, ◌<◌, ◌≤◌, Bool, true, false, List, [], ◌∷◌, ◌++◌, length, get_or, drop, drop-cons, refl, sym, ap, ◌∙◌, add-one, append_assoc}
+use Rattle.std.proofs.lemmas.List.{append-nil, drop_all}
+use Rattle.obj_program.specs.declared.item.Item.{Item}
+use Rattle.obj_program.specs.Program.{count}
+use Rattle.cfi_flow.specs.Closed.{ClosedGraph, Side, first_side, is_target}
+use Rattle.cfi_map.specs.GraphAtMap.{ProgramAtMap, word, words_at}
+use Rattle.cfi_map.specs.Mapped.{IsMapped}
+use Rattle.cfi_map.specs.Placement.{AreGates, lead_size, words_from}
+
+pub as_many_gates : (sides : List Side) (whole : List Bool) (k at : ℕ) (items : List Item) (gates : List ℕ)
+    → AreGates sides whole k at items gates → length gates ≡ length items
+unfolding AreGates
+as_many_gates sides whole k at [] [] are = refl
+as_many_gates sides whole k at [] (gate ∷ gates) are = absurd are
+as_many_gates sides whole k at (item ∷ items) [] are = absurd are
+as_many_gates sides whole k at (item ∷ items) (gate ∷ gates) are = ap suc (as_many_gates sides whole (k + 1) _ items gates are.1)
+
+pub as_many_words : (sides : List Side) (k : ℕ) (gates : List ℕ) → length (words_from sides k gates) ≡ length gates
+unfolding words_from
+as_many_words sides k [] = refl
+as_many_words sides k (gate ∷ gates) = ap suc (as_many_words sides (k + 1) gates)
+
+-- of a program at a map there is a word for each place
+pub words_counted : (layout : ProgramAtMap) → length layout.gates ≡ count layout.program → length (words_at layout) ≡ count layout.program
+words_counted layout counted = as_many_words layout.closed.sides 0 layout.gates ∙ counted
+
+pub words_kept : (layout : ProgramAtMap) (words : List ℕ) → IsMapped layout words → length (words_at layout) ≡ count layout.program
+words_kept layout words is = words_counted layout is.counted
+
+pub drop_step : {X : Type 0} (xs : List X) (k : ℕ) (d : X) → k < length xs → drop k xs ≡ get_or xs k d ∷ drop (k + 1) xs
+drop_step xs k d lt = rw (add-one, drop-cons xs k d) refl
+
+pub words_more : (sides : List Side) (k : ℕ) (gates made all : List ℕ) (word : ℕ) → k < length gates →
+    word ≡ get_or gates k 0 + lead_size sides k →
+    made ++ words_from sides k (drop k gates) ≡ all → (made ++ word ∷ []) ++ words_from sides (k + 1) (drop (k + 1) gates) ≡ all
+unfolding words_from
+words_more sides k gates made all word lt is so_far = rw (append_assoc, is) (rw (drop_step gates k 0 lt) at so_far)
+
+pub words_end : (sides : List Side) (k : ℕ) (gates made all : List ℕ) → length gates ≤ k →
+    made ++ words_from sides k (drop k gates) ≡ all → made ≡ all
+unfolding words_from
+words_end sides k gates made all past so_far = sym (append-nil made) ∙ (rw (drop_all k gates past) at so_far)
+
+-- of one side one word stands before a target
+pub one_lead : (closed : ClosedGraph) (k : ℕ) → closed.sides ≡ first_side closed ∷ [] → is_target closed.sides k ≡ true → 4 ≡ lead_size closed.sides k
+one_lead closed k one target = let many : length closed.sides ≡ 1 = ap length one in rw (target, many) refl
+
+pub no_lead : (closed : ClosedGraph) (k : ℕ) → is_target closed.sides k ≡ false → 0 ≡ lead_size closed.sides k
+no_lead closed k target = rw target refl

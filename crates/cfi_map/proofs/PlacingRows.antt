@@ -1,0 +1,68 @@
+-- Worked rows: sizes and branches of small programs. The first two are a branch over one instruction and a branch over a jump, before a
+-- return; their code has 96 bytes and 100.
+use Rattle.std.proofs.Common.{◌≡◌, ℕ, Bool, true, false, List, [], ◌∷◌, Option, Some, None, refl}
+use Rattle.rv_word.specs.declared.form.Form.TheVariants.{Plain, Harts}
+use Rattle.obj_input.specs.declared.item_kind.ItemKind.{ItemKind}
+use Rattle.obj_input.specs.declared.item_kind.ItemKind.TheVariants as is
+use Rattle.obj_program.specs.declared.item.Item.{Item}
+use Rattle.obj_program.specs.declared.item.Patch.TheVariants as put
+use Rattle.obj_program.specs.Program.{Program}
+use Rattle.cfi_layout.specs.declared.short.Short.{Short}
+use Rattle.cfi_layout.specs.LongSet.{is_forced, sizes_where, starts_under}
+use Rattle.cfi_layout.specs.Starts.{code_size, starts_from}
+use Rattle.cfi_graph.specs.declared.line.Sort.TheVariants.{Both}
+use Rattle.cfi_flow.specs.Closed.{ClosedGraph}
+use Rattle.cfi_map.specs.Shorts.{shorts_below, shorts_of}
+use Rattle.cfi_map.specs.Sizes.{part_sizes, whole_size, whole_sizes}
+
+abbrev at : ℕ → ItemKind → ℕ → Option ℕ → Item
+at offset kind word target = record { section = 1; offset = offset; kind = kind; word = word; patch = put.Own; target = target; taken = false }
+
+abbrev program : List Item → Program
+program items = record { items = items; init = []; relocations = []; data_end = 65536; funcs = []; names = [] }
+
+-- classes, and no sites
+abbrev closed : List (List ℕ) → ClosedGraph
+closed classes = record { sides = record { sort = Both; classes = classes; sites = [] } ∷ []; taken = [] }
+
+abbrev short : ℕ → ℕ → ℕ → Bool → Short
+short place target lead keep = record { at = place; target = target; lead = lead; keep = keep }
+
+abbrev over_one : Program
+over_one = program
+    (at 0 is.Branch 0x00050463 (Some 2) ∷ at 4 is.Plain 0x00100513 None ∷ at 8 is.Return 0x00008067 None ∷ at 12 is.End 0 None ∷ [])
+
+abbrev over_jump : Program
+over_jump = program
+    (at 0 is.Branch 0x00050463 (Some 2) ∷ at 4 is.Jump 0x0040006f (Some 2) ∷ at 8 is.Return 0x00008067 None ∷ at 12 is.End 0 None ∷ [])
+
+-- a branch over a section's end
+abbrev over_end : Program
+over_end = program (at 0 is.Branch 0x00050463 (Some 2) ∷ at 4 is.End 0 None ∷ at 0 is.Return 0x00008067 None ∷ at 4 is.End 0 None ∷ [])
+
+whole_rows : (whole_sizes over_one (closed []) ≡ 8 ∷ 4 ∷ 20 ∷ 4 ∷ []) × (whole_size Plain over_one (closed []) ≡ 100)
+    × (whole_size Harts over_one (closed []) ≡ 116)
+    × (whole_sizes over_one (closed ((0 ∷ 2 ∷ []) ∷ [])) ≡ 12 ∷ 4 ∷ 24 ∷ 4 ∷ [])
+unfolding part_sizes
+whole_rows = (refl, refl, refl, refl)
+
+-- the branch written short
+short_rows : (part_sizes [] (false ∷ []) 0 over_one.items ≡ 4 ∷ 4 ∷ 20 ∷ 4 ∷ []) × (code_size 0x40000040 (part_sizes [] (false ∷ []) 0 over_one.items) ≡ 96)
+unfolding part_sizes
+short_rows = (refl, refl)
+
+-- a branch over a jump is kept, unless the jump has a gate word; one over a section's end is
+branch_rows : (shorts_of over_one (closed []) ≡ short 0 2 0 false ∷ []) × (shorts_of over_jump (closed []) ≡ short 0 2 0 true ∷ [])
+    × (shorts_of over_jump (closed ((1 ∷ []) ∷ [])) ≡ short 0 2 0 false ∷ []) × (shorts_of over_end (closed []) ≡ short 0 2 0 true ∷ [])
+    × (shorts_of over_one (closed ((0 ∷ []) ∷ [])) ≡ short 0 2 4 false ∷ [])
+unfolding shorts_below
+branch_rows = (refl, refl, refl, refl, refl)
+
+none : ℕ → Bool
+none k = false
+
+-- so only the first one is short
+forced_rows : (is_forced (starts_under 0x40000040 none (shorts_of over_one (closed [])) (whole_sizes over_one (closed []))) (short 0 2 0 false) ≡ false)
+    × (is_forced (starts_under 0x40000040 none (shorts_of over_jump (closed [])) (whole_sizes over_jump (closed []))) (short 0 2 0 true) ≡ true)
+unfolding part_sizes shorts_below sizes_where starts_from none
+forced_rows = (refl, refl)

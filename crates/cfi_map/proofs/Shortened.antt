@@ -1,0 +1,120 @@
+-- Branches of a program that are written short: its parts then have the sizes of their units, and each reaches.
+use Rattle.std.proofs.Common.{◌≡◌, ℕ, suc, ◌+◌, ◌-◌, ◌<◌, ◌≤◌, ◌^◌, Bool, true, false, not, List, [], ◌∷◌, length, get_or, take, Some, refl, sym, ap, subst, ◌∙◌, arith, if◌then◌else◌, inl, inr}
+use Rattle.std.specs.Prelude.{◌||◌, nat_le, slice_get, sum}
+use Rattle.std.proofs.lemmas.Bool.{cases_Bool, leb-true, and_parts, or_parts}
+use Rattle.std.proofs.lemmas.List.{get_or-take}
+use Rattle.std.proofs.lemmas.Option.{slice_get_within, get_or_from_slice_get, slice_get-get_or}
+use Rattle.rv_word.specs.Form.{profile_for}
+use Rattle.rv_word.specs.MemoryMap.{CODE_SIZE}
+use Rattle.rv_word.specs.declared.form.Form.{Form}
+use Rattle.obj_input.specs.declared.item_kind.ItemKind.{ItemKind}
+use Rattle.obj_input.specs.declared.item_kind.ItemKind.TheVariants as is
+use Rattle.obj_program.specs.declared.item.Item.{Item}
+use Rattle.obj_program.specs.Program.{Program, count, item_of, no_item}
+use Rattle.obj_program.specs.Sound.{IsSound}
+use Rattle.cfi_layout.specs.declared.short.Short.{Short}
+use Rattle.cfi_layout.specs.LongSet.{AreShorts, HoldsAllForced, IsShort, is_forced, is_whole, is_in_reach, sizes_under, sizes_where, starts_under, word}
+use Rattle.cfi_layout.specs.Starts.{starts_from}
+use Rattle.cfi_flow.specs.Closed.{ClosedGraph, Side}
+use Rattle.cfi_map.specs.Placement.{lead_size, whole_at, size_of}
+use Rattle.cfi_map.specs.Shorts.{short_to, shorts_of, IsShortAt, is_branch}
+use Rattle.cfi_map.specs.GraphAtMap.{program_at}
+use Rattle.cfi_map.specs.Sizes.{part_sizes, whole_sizes}
+use Rattle.cfi_map.proofs.PartSizes.{length_sizes, parts_many, size_at}
+use Rattle.cfi_map.proofs.ShortList.{branch_aims, branch_listed, parts_are, short_is, told}
+
+-- a program whose code has room has few places
+pub few_places : (program : Program) (closed : ClosedGraph) → sum (whole_sizes program closed) ≤ CODE_SIZE → count program < 2 ^ 32
+few_places program closed room = omega (arith, parts_many closed.sides [] 0 program.items)
+
+branch_size : (kind : ItemKind) → is_branch kind ≡ true → size_of kind true ≡ 8
+branch_size is.Branch yes_branch = refl
+branch_size other yes_branch = absurd (cc)
+
+-- the branches may be placed in parts of the whole sizes
+pub branches_fit : (program : Program) (closed : ClosedGraph) → IsSound program → AreShorts (shorts_of program closed) (whole_sizes program closed)
+branches_fit program closed sound = record {
+  each = λ i b is.
+      let shorts = shorts_of program closed in
+      let at = told program closed (count program) b (i, slice_get_within shorts i b is, get_or_from_slice_get shorts i b b is) in
+      let of = short_is program closed at.0 b at.2 in
+      let aim = branch_aims program at.0 sound at.1 of.1 in
+      let same : Some of.0 ≡ Some aim.0 = sym of.2 ∙ aim.1 in
+      let target : of.0 ≡ aim.0 = cc in
+      let start : 0 + at.0 ≡ at.0 = omega arith in
+      let size = rw start at (size_at closed.sides [] 0 program.items at.0 at.1) in
+      subst (IsShort (whole_sizes program closed)) of.3 (record {
+        at_is = omega (arith, at.1, length_sizes closed.sides [] 0 program.items);
+        target_is = omega (arith, target, aim.2, length_sizes closed.sides [] 0 program.items);
+        size = size ∙ ap (λ (n : ℕ). lead_size closed.sides at.0 + n) (branch_size (item_of program at.0).kind of.1);
+      });
+}
+
+one_size : (gate : ℕ) (kind : ItemKind) (whole full : Bool) → full ≡ (whole || not (is_branch kind)) →
+    (if full then gate + size_of kind true else gate + size_of kind true - 4) ≡ gate + size_of kind whole
+one_size gate kind true full is = rw is refl
+one_size gate is.Branch false full is = rw is (omega arith)
+one_size gate other false full is = rw is refl
+
+-- where the branches that are not long have a word less, each part has its gate word's and its unit's size
+sizes_from : (sides : List Side) (whole : List Bool) (full : ℕ → Bool) (k : ℕ) (items : List Item) →
+    ((i : ℕ) → i < length items → full (k + i) ≡ (whole_at whole (k + i) || not (is_branch (get_or items i no_item).kind))) →
+    sizes_where full k (part_sizes sides [] k items) ≡ part_sizes sides whole k items
+unfolding part_sizes sizes_where
+sizes_from sides whole full k [] are = refl
+sizes_from sides whole full k (item ∷ items) are =
+    let start : k + 0 ≡ k = omega arith in
+    let here = one_size (lead_size sides k) item.kind (whole_at whole k) (full k) (rw start at (are 0 (omega arith))) in
+    let later : (i : ℕ) → i < length items → full (k + 1 + i) ≡ (whole_at whole (k + 1 + i) || not (is_branch (get_or items i no_item).kind)) =
+    λ i lt. let e : k + 1 + i ≡ k + suc i = omega arith in rw e (are (suc i) (omega arith)) in
+    let rest = sizes_from sides whole full (k + 1) items later in
+    ap (λ (n : ℕ). n ∷ sizes_where full (k + 1) (part_sizes sides [] (k + 1) items)) here
+    ∙ ap (λ (xs : List ℕ). (lead_size sides k + size_of item.kind (whole_at whole k)) ∷ xs) rest
+
+pub sizes_are : (program : Program) (closed : ClosedGraph) (whole : List Bool) → IsSound program →
+    sizes_under (whole_at whole) (shorts_of program closed) (whole_sizes program closed) ≡ part_sizes closed.sides whole 0 program.items
+sizes_are program closed whole sound =
+    sizes_from closed.sides whole (is_whole (shorts_of program closed) (whole_at whole)) 0 program.items (λ i lt.
+    let start : 0 + i ≡ i = omega arith in
+    rw start (ap (λ (b : Bool). whole_at whole i || not b) (parts_are program closed i sound lt)))
+
+pub starts_are : (form : Form) (program : Program) (closed : ClosedGraph) (whole : List Bool) → IsSound program →
+    starts_under (profile_for form).units_from (whole_at whole) (shorts_of program closed) (whole_sizes program closed) ≡ starts_from (profile_for form).units_from (part_sizes closed.sides whole 0 program.items)
+starts_are form program closed whole sound = ap (starts_from (profile_for form).units_from) (sizes_are program closed whole sound)
+
+negated : (b : Bool) → not b ≡ false → b ≡ true
+negated true e = refl
+negated false e = absurd (cc)
+
+-- a branch that is not long reaches, where the long ones are closed
+pub branch_reaches : (form : Form) (program : Program) (closed : ClosedGraph) (whole : List Bool) → IsSound program →
+    HoldsAllForced (profile_for form).units_from (shorts_of program closed) (whole_sizes program closed) (whole_at whole) →
+    (entry k target : ℕ) → k < count program → is_branch (item_of program k).kind ≡ true → whole_at whole k ≡ false →
+    (item_of program k).target ≡ Some target →
+    IsShortAt (program_at form program closed (take (count program) (starts_from (profile_for form).units_from (part_sizes closed.sides whole 0 program.items))) entry) k target
+branch_reaches form program closed whole sound set entry k target lt yes_branch short aim =
+    let shorts = shorts_of program closed in
+    let starts = starts_from (profile_for form).units_from (part_sizes closed.sides whole 0 program.items) in
+    let b = short_to program closed k target in
+    let has = branch_listed program closed (count program) k target lt yes_branch aim in
+    let at : slice_get shorts has.0 ≡ Some b = slice_get-get_or shorts has.0 b has.1 ∙ ap (λ (x : Short). Some x) has.2 in
+    let there = branch_aims program k sound lt yes_branch in
+    let same : Some target ≡ Some there.0 = sym aim ∙ there.1 in
+    let inside : target ≡ there.0 = cc in
+    let free : is_forced (starts_under (profile_for form).units_from (whole_at whole) shorts (whole_sizes program closed)) b ≡ false =
+    elim (cases_Bool (is_forced (starts_under (profile_for form).units_from (whole_at whole) shorts (whole_sizes program closed)) b)) [
+      | inl forced ↦ let no : true ≡ false = sym (set has.0 b at forced) ∙ short in absurd (cc)
+      | inr free ↦ free
+    ] in
+    let forced = subst (λ (xs : List ℕ). is_forced xs b ≡ false) (starts_are form program closed whole sound) free in
+    let parts = or_parts b.keep (not (is_in_reach starts b)) forced in
+    let both = and_parts (nat_le (word starts b) (get_or starts target 0 + 4096)) (nat_le (get_or starts target 0) (word starts b + 4092)) (negated (is_in_reach starts b) parts.1) in
+    let back : word starts b ≤ get_or starts target 0 + 4096 = leb-true _ _ both.0 in
+    let ahead : get_or starts target 0 ≤ word starts b + 4092 = leb-true _ _ both.1 in
+    let gate = get_or-take (count program) starts k 0 lt in
+    let to = get_or-take (count program) starts target 0 (omega (arith, inside, there.2)) in
+    record {
+      back = omega (arith, back, gate, to);
+      ahead = omega (arith, ahead, gate, to);
+      free = parts.0;
+    }

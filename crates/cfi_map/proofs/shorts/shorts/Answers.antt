@@ -1,0 +1,26 @@
+use Rattle.std.proofs.Common.{ap, arith, subst, sym, ◌∙◌, List, ◌≡◌}
+use Rattle.obj_program.specs.Program.{count}
+use Rattle.cfi_layout.specs.declared.short.Short.{Short}
+use Rattle.cfi_layout.specs.LongSet.{AreShorts}
+use Rattle.cfi_map.specs.Shorts.{shorts_below}
+use Rattle.cfi_map.specs.Sizes.{whole_sizes}
+use Rattle.cfi_map.proofs.ShortList.{shorts_begin, shorts_more}
+use Rattle.cfi_map.proofs.Shortened.{branches_fit, few_places}
+use Rattle.cfi_map.proofs.shorts.shorts.Goals as goal
+
+pub loop-k-init : goal.loop-k-init
+loop-k-init c = shorts_begin c.args.items.now c.args.closed.now _ c.new-shorts.ensures.items
+
+pub short_at-requires-clause-few : goal.short_at-requires-clause-few
+short_at-requires-clause-few c = few_places c.args.items.now c.args.closed.now c.requires
+
+pub loop-k-preserved : goal.loop-k-preserved
+loop-k-preserved c =
+    shorts_more c.args.items.now c.args.closed.now c.loop-k.k c.loop-k.shorts.items _ _ c.loop-k.invariant c.short_at.ensures c.in_ok-push_some.ensures
+
+pub returns-clause-fit : goal.returns-clause-fit
+returns-clause-fit c =
+    let all : c.loop-k.k ≡ count c.args.items.now = omega arith in
+    subst (λ (shorts : List Short). AreShorts shorts (whole_sizes c.args.items.now c.args.closed.now))
+    (sym (c.loop-k.invariant ∙ ap (shorts_below c.args.items.now c.args.closed.now) all))
+    (branches_fit c.args.items.now c.args.closed.now c.count-k-end.ensures.sound)

@@ -1,0 +1,79 @@
+-- The graph of a program at a map: its classes by the gates of their targets, the opening's call of the entry, which stands where a
+-- run starts, and a line for each transfer at its word.
+use Rattle.std.specs.Prelude.{ℕ, ◌+◌, Option, Some, None, List, [], ◌∷◌, ◌++◌, map, slice_index}
+use Rattle.rv_word.specs.Form.{profile_for}
+use Rattle.rv_word.specs.MemoryMap.{Profile, START}
+use Rattle.rv_word.specs.declared.form.Form.{Form}
+use Rattle.obj_input.specs.declared.item_kind.ItemKind.{ItemKind}
+use Rattle.obj_input.specs.declared.item_kind.ItemKind.TheVariants as is
+use Rattle.obj_program.specs.declared.item.Item.{Item}
+use Rattle.obj_program.specs.Program.{Program}
+use Rattle.cfi_graph.specs.declared.line.GraphLine.{GraphLine}
+use Rattle.cfi_graph.specs.declared.line.GraphLine.TheVariants as line
+use Rattle.cfi_graph.specs.declared.line.SiteKind.TheVariants as site
+use Rattle.cfi_graph.specs.declared.line.Sort.{Sort}
+use Rattle.cfi_graph.specs.declared.line.Sort.TheVariants.{Both}
+use Rattle.cfi_flow.specs.Closed.{ClosedGraph}
+use Rattle.cfi_map.specs.LabelOf.{Tagged, site_label, tagged}
+use Rattle.cfi_map.specs.Placement.{word_of, words_from}
+
+-- a program with its closed graph at a map, entered at a place
+pub record ProgramAtMap : Type 0 where
+  pub profile : Profile
+  pub program : Program
+  pub closed : ClosedGraph
+  pub gates : List ℕ
+  pub entry : ℕ
+
+-- a program that is written in a form, at these gates
+abbrev pub program_at : Form → Program → ClosedGraph → List ℕ → ℕ → ProgramAtMap
+program_at form program closed gates entry = record { profile = profile_for form; program = program; closed = closed; gates = gates; entry = entry }
+
+abbrev pub gate : ProgramAtMap → ℕ → ℕ
+gate layout k = slice_index layout.gates k
+
+abbrev pub word : ProgramAtMap → ℕ → ℕ
+word layout k = word_of layout.closed.sides layout.gates k
+
+-- the words of all places
+abbrev pub words_at : ProgramAtMap → List ℕ
+words_at layout = words_from layout.closed.sides 0 layout.gates
+
+abbrev pub gate_to : ProgramAtMap → Option ℕ → ℕ
+gate_to layout None = 0
+gate_to layout (Some k) = gate layout k
+
+-- the line of a class of a sort
+abbrev pub line_of_class : Sort → ℕ → List ℕ → GraphLine
+line_of_class Both label targets = line.Class label targets
+
+-- the lines of classes, each with its label
+unfoldable pub class_lines : List ℕ → List ℕ → List Tagged → List GraphLine
+class_lines gates (label ∷ labels) (t ∷ ts) = line_of_class t.sort label (map (slice_index gates) t.class) ∷ class_lines gates labels ts
+class_lines gates labels ts = []
+
+abbrev pub line_of_kind : ItemKind → ℕ → ℕ → ℕ → Option GraphLine
+line_of_kind is.Branch at target label = Some (line.Edge at target)
+line_of_kind is.Jump at target label = Some (line.Edge at target)
+line_of_kind is.Call at target label = Some (line.Call at target)
+line_of_kind is.Ijump at target label = Some (line.Site at site.Jump label)
+line_of_kind is.Icall at target label = Some (line.Site at site.Call label)
+line_of_kind other at target label = None
+
+-- the line of a place
+abbrev pub line_for : ProgramAtMap → List ℕ → ℕ → Item → Option GraphLine
+line_for layout labels k item = line_of_kind item.kind (word layout k) (gate_to layout item.target) (site_label labels layout.closed.sides k)
+
+abbrev pub with_line : Option GraphLine → List GraphLine → List GraphLine
+with_line None lines = lines
+with_line (Some one) lines = one ∷ lines
+
+unfoldable pub place_lines : ProgramAtMap → List ℕ → ℕ → List Item → List GraphLine
+place_lines layout labels k [] = []
+place_lines layout labels k (item ∷ items) = with_line (line_for layout labels k item) (place_lines layout labels (k + 1) items)
+
+-- all lines, under these labels of the classes
+abbrev pub graph_lines : ProgramAtMap → List ℕ → List GraphLine
+graph_lines layout labels =
+    class_lines layout.gates labels (tagged layout.closed.sides)
+    ++ (line.Call START (gate layout layout.entry) ∷ place_lines layout labels 0 layout.program.items)

@@ -1,0 +1,12 @@
+pub mod Placement
+pub mod LegalMap
+pub mod MapFault
+pub mod LabelOf
+pub mod GraphAtMap
+pub mod Mapped
+pub mod Sizes
+pub mod Shorts
+pub mod Placing
+pub mod Source
+pub mod Untame
+pub mod SourceStep

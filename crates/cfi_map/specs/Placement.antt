@@ -1,0 +1,47 @@
+-- Placements: where the unit of each place stands. Units stand one after another from the address after the prologue, each behind one
+-- word for each side of the closed graph where its place is a target; a section's end has a stop.
+use Rattle.std.specs.Prelude.{◌≡◌, ℕ, ◌+◌, ◌*◌, Bool, true, if◌then◌else◌, List, [], ◌∷◌, length, slice_index, slice_index_or}
+use Rattle.rv_word.specs.declared.unit_words.TheConstants as counts
+use Rattle.obj_input.specs.declared.item_kind.ItemKind.{ItemKind}
+use Rattle.obj_input.specs.declared.item_kind.ItemKind.TheVariants as is
+use Rattle.obj_program.specs.declared.item.Item.{Item}
+use Rattle.cfi_flow.specs.Closed.{Side, is_target}
+
+-- how many bytes the unit of a kind of place has; a branch has its whole size where it is long, a word and a jump, and is one word
+-- where it is short
+abbrev pub size_of : ItemKind → Bool → ℕ
+size_of is.Store whole = 4 * counts.STORE_WORDS
+size_of is.Branch whole = if whole then 4 * counts.BRANCH_WORDS else 4
+size_of is.Call whole = 4 * counts.CALL_WORDS
+size_of is.Return whole = 4 * counts.RETURN_WORDS
+size_of is.Ijump whole = 4 * counts.IJUMP_WORDS
+size_of is.Icall whole = 4 * counts.ICALL_WORDS
+size_of other whole = 4
+
+-- whether the unit of a place has its whole size; beyond the end of the flags each has
+abbrev pub whole_at : List Bool → ℕ → Bool
+whole_at whole k = slice_index_or whole k true
+
+-- how many bytes the words before its unit have, if there are any
+abbrev pub lead_size : List Side → ℕ → ℕ
+lead_size sides k = if is_target sides k then 4 * length sides else 0
+
+-- the address of a place's unit, which AUIPC reads: its gate, or behind the words there
+abbrev pub word_of : List Side → List ℕ → ℕ → ℕ
+word_of sides gates k = slice_index gates k + lead_size sides k
+
+-- the words of the places from index k on
+unfoldable pub words_from : List Side → ℕ → List ℕ → List ℕ
+words_from sides k [] = []
+words_from sides k (gate ∷ gates) = (gate + lead_size sides k) ∷ words_from sides (k + 1) gates
+
+-- places from index k on have these gates, the first at an address and each next one behind the unit before it
+unfoldable pub AreGates : List Side → List Bool → ℕ → ℕ → List Item → List ℕ → Type 0
+AreGates sides whole k at [] [] = Unit {0}
+AreGates sides whole k at (item ∷ items) (gate ∷ gates) =
+    (gate ≡ at) × AreGates sides whole (k + 1) (at + lead_size sides k + size_of item.kind (whole_at whole k)) items gates
+AreGates sides whole k at items gates = ⊥
+
+-- the gates of a placement with some units short, whose first unit stands at an address
+abbrev pub IsLegal : ℕ → List Side → List Item → List ℕ → Type 0
+IsLegal from sides items gates = (whole : List Bool) × AreGates sides whole 0 from items gates

@@ -1,0 +1,14 @@
+//! A program at a map: where the units of its places stand, how many bytes they have, which branches are short, and the words in
+//! which the layers above speak of it.
+#![tactic(auto)]
+
+pub use mapped::Mapped;
+pub use reason::Reason;
+pub use sizes::{lead_size, unit_size};
+pub use spacing::{Spacing, place_program};
+
+mod mapped;
+mod reason;
+mod shorts;
+mod sizes;
+mod spacing;

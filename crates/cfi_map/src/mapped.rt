@@ -1,0 +1,244 @@
+//! A program at a map.
+
+ghost use Rattle.std.specs.Prelude.{◌≡◌, ◌<◌, ◌≤◌, ◌^◌, ℕ, true, false, IfOk, IfSome, Some, is_some, length, slice_index};
+ghost use Rattle.std.specs.List.Sorted.{IsStrictlyIncreasing};
+ghost use Rattle.rv_word.specs.Form.{profile_for};
+ghost use Rattle.rv_word.specs.MemoryMap.{IsProfile};
+ghost use Rattle.obj_program.specs.AtMap.{instr_at};
+ghost use Rattle.obj_program.specs.DataAtMap.{data_at, init_size};
+ghost use Rattle.obj_program.specs.MapFit.{EndsLast};
+ghost use Rattle.obj_program.specs.Program.{count, is_end, item_of};
+ghost use Rattle.obj_program.specs.Sound.{IsSound};
+ghost use Rattle.cfi_map.specs.GraphAtMap.{gate, program_at, word, words_at};
+ghost use Rattle.cfi_map.specs.Placement.{words_from};
+ghost use Rattle.cfi_map.specs.Source.{first_astray, instr_here};
+ghost use Rattle.cfi_map.specs.Untame.{place_with_gate};
+
+use crate::sizes::lead_size;
+use cfi_flow::Closed;
+use least::Place;
+use obj_program::{DataEnd, Item, Items};
+use rv_instr::Instr;
+use rv_word::{Form, NoMemory};
+use std::alloc::Global;
+use std::marker::Model;
+
+/// A program with its closed graph at a map, entered at one of its places. The gate of a place is the address that pointers to it
+/// have; its word is the address of its unit, behind the words before that.
+#[derive(Drop)]
+pub struct Mapped<'a, 'b> {
+    form: Form,
+    items: &'a Items<'b>,
+    closed: &'a Closed,
+    gates: Vec<u64>,
+    words: Vec<u64>,
+    entry: u64,
+}
+
+impl<'a, 'b> Model for Mapped<'a, 'b> {
+    ghost use Rattle.cfi_map.specs.GraphAtMap.{ProgramAtMap, program_at};
+    ghost use Rattle.cfi_map.specs.Mapped.{IsMapped};
+
+    ghost Value = { ProgramAtMap };
+
+    ghost view = { λ m. program_at m.form m.items.now m.closed.now m.gates.items m.entry };
+
+    ghost invariant = { λ m. IsMapped (program_at m.form m.items.now m.closed.now m.gates.items m.entry) m.words.items };
+}
+
+/// The words of places with these gates.
+fn words_behind(alloc: Global, closed: &Closed, gates: &[u64]) -> Result<Vec<u64>, NoMemory>
+    requires { (k : ℕ) → slice_index gates.now k < 2 ^ 32 }
+    ensures { IfOk result (λ v. v.items ≡ words_from closed.now.sides 0 gates.now) }
+{
+    let mut words = Vec::new(alloc);
+    for k in 0..gates.len() {
+        words.push(gates[k] + u64::from(lead_size(closed, k as u64)))?;
+    }
+    Ok(words)
+}
+
+/// The gate of the place with this index.
+fn gate_at(gates: &[u64], k: u64) -> u64
+    requires { k < length gates.now }
+    ensures { result ≡ slice_index gates.now k }
+{
+    gates[k as usize]
+}
+
+/// How many gates are below an address.
+fn count_below(gates: &[u64], address: u64) -> usize
+    requires { IsStrictlyIncreasing gates.now }
+    ensures bound { result ≤ length gates.now }
+    ensures before { (k : ℕ) → k < result → slice_index gates.now k < address }
+    ensures from { (k : ℕ) → result ≤ k → k < length gates.now → address ≤ slice_index gates.now k }
+{
+    gates.partition_point(|gate| *gate < address)
+}
+
+/// The place with a gate.
+fn place_with_gate(gates: &[u64], address: u64) -> Option<u64>
+    requires { IsStrictlyIncreasing gates.now }
+    ensures value { result ≡ place_with_gate gates.now address }
+    ensures there { IfSome result (λ k. k < length gates.now) }
+{
+    let k = count_below(gates, address);
+    if k < gates.len() && gates[k] == address {
+        Some(k as u64)
+    } else {
+        None
+    }
+}
+
+impl<'a, 'b> Mapped<'a, 'b> {
+    /// The program in a form at these gates of its places.
+    pub fn of(
+        alloc: Global,
+        form: Form,
+        items: &'a Items<'b>,
+        closed: &'a Closed,
+        gates: Vec<u64>,
+        entry: u64,
+    ) -> Result<Mapped<'a, 'b>, NoMemory>
+        requires counted { length gates.items ≡ count items.now }
+        requires near { (k : ℕ) → slice_index gates.items k < 2 ^ 32 }
+        requires rising { IsStrictlyIncreasing gates.items }
+        requires entry { entry < count items.now }
+        ensures { IfOk result (λ m. m ≡ program_at form items.now closed.now gates.items entry) }
+    {
+        let words = words_behind(alloc, closed, gates.as_slice())?;
+        Ok(Mapped {
+            form,
+            items,
+            closed,
+            gates,
+            words,
+            entry,
+        })
+    }
+
+    /// How many places the program has.
+    pub fn count(&self) -> u64
+        ensures value { result ≡ count self.now.program }
+        ensures gates { length self.now.gates ≡ count self.now.program }
+        ensures words { length (words_at self.now) ≡ count self.now.program }
+        ensures near { (k : ℕ) → gate self.now k < 2 ^ 32 }
+        ensures sound { IsSound self.now.program }
+        ensures last { EndsLast self.now.program }
+        ensures entry { self.now.entry < count self.now.program }
+        ensures profile { IsProfile self.now.profile }
+    {
+        self.items.fits_maps();
+        self.items.count()
+    }
+
+    /// The form in which it is written.
+    pub fn form(&self) -> Form
+        ensures { self.now.profile ≡ profile_for result }
+    {
+        self.form
+    }
+
+    /// The program.
+    pub fn items(&self) -> &'a Items<'b>
+        ensures { result.now ≡ self.now.program }
+    {
+        self.items
+    }
+
+    /// Its closed graph.
+    pub fn closed(&self) -> &'a Closed
+        ensures { result.now ≡ self.now.closed }
+    {
+        self.closed
+    }
+
+    /// The place where it is entered.
+    pub fn entry(&self) -> u64
+        ensures { result ≡ self.now.entry }
+    {
+        self.entry
+    }
+
+    /// The gates of its places.
+    pub fn gates(&self) -> &[u64]
+        ensures { result.now ≡ self.now.gates }
+    {
+        self.gates.as_slice()
+    }
+
+    /// The words of its places.
+    pub fn words(&self) -> &[u64]
+        ensures { result.now ≡ words_at self.now }
+    {
+        self.words.as_slice()
+    }
+
+    /// The place with this index.
+    pub fn item(&self, k: u64) -> Item
+        requires { k < count self.now.program }
+        ensures { result ≡ item_of self.now.program k }
+    {
+        self.items.item(k)
+    }
+
+    /// The gate of a place.
+    pub fn gate(&self, k: u64) -> u64
+        requires { k < count self.now.program }
+        ensures { result ≡ gate self.now k }
+    {
+        gate_at(&self.gates, k)
+    }
+
+    /// The word of a place.
+    pub fn word(&self, k: u64) -> u64
+        requires { k < count self.now.program }
+        ensures value { result ≡ word self.now k }
+        ensures near { result < 2 ^ 33 }
+    {
+        let _count = self.count();
+        self.gate(k) + u64::from(lead_size(self.closed, k))
+    }
+
+    /// The instruction of a place, with the values of its relocations where they are in range; a section's end has none.
+    pub fn instr(&self, k: u64) -> Instr
+        requires place { k < count self.now.program }
+        requires instruction { is_end (item_of self.now.program k).kind ≡ false }
+        requires range { is_some (instr_at self.now.program self.now.gates (words_at self.now) k) ≡ true }
+        ensures { result ≡ instr_here self.now k }
+    {
+        let _count = self.count();
+        self.items.instr_at(k, self.gates(), self.words()).unwrap()
+    }
+
+    /// Where a value first leaves the range of its relocation.
+    pub fn out_of_range(&self) -> Option<Place>
+        ensures { result ≡ first_astray self.now }
+    {
+        let _count = self.count();
+        self.items.out_of_range(self.gates(), self.words())
+    }
+
+    /// The initialised data, with the values of their relocations where they are in range.
+    pub fn data(&self, alloc: Global) -> Result<Vec<u8>, NoMemory>
+        requires { is_some (data_at self.now.program self.now.gates) ≡ true }
+        ensures value { IfOk result (λ v. data_at self.now.program self.now.gates ≡ Some v.items) }
+        ensures length { IfOk result (λ v. length v.items ≡ init_size self.now.program) }
+    {
+        let _count = self.count();
+        match self.items.data_at(alloc, self.gates()) {
+            Ok(data) => Ok(data),
+            Err(DataEnd::RelocRange) => unreachable!(),
+            Err(DataEnd::NoMemory) => Err(NoMemory),
+        }
+    }
+
+    /// The place with a gate, if one has it.
+    pub fn place_with_gate(&self, address: u64) -> Option<u64>
+        ensures value { result ≡ place_with_gate self.now.gates address }
+        ensures there { IfSome result (λ k. k < count self.now.program) }
+    {
+        let _count = self.count();
+        place_with_gate(&self.gates, address)
+    }
+}
