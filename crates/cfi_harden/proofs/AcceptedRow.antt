@@ -16,14 +16,15 @@ use Rattle.cfi_graph.specs.declared.line.SiteKind.{SiteKind}
 use Rattle.cfi_graph.specs.declared.line.Sort.TheVariants.{Both}
 use Rattle.cfi_flow.specs.declared.closed.Site.{Site}
 use Rattle.cfi_flow.specs.Closed.{Side, first_side, has_site, is_of, no_side}
-use Rattle.cfi_flow.specs.GraphAtMap.{ProgramAtMap, words_at}
+use Rattle.cfi_map.specs.GraphAtMap.{ProgramAtMap, words_at}
 use Rattle.cfi_flow.specs.Labels.{used_labels}
-use Rattle.cfi_flow.specs.LabelOf.{empty_classes, label_at, labels_of, site_label, site_number, tagged}
-use Rattle.cfi_flow.specs.Placement.{AreGates, is_long, words_from}
+use Rattle.cfi_map.specs.LabelOf.{empty_classes, label_at, labels_of, site_label, site_number, tagged}
+use Rattle.cfi_map.specs.Placement.{AreGates, words_from}
 use Rattle.cfi_flow.specs.Sites.{site_kind}
 use Rattle.cfi_unit.specs.UnitWords.{words_of}
-use Rattle.cfi_verify.specs.Placed.{code_from}
-use Rattle.cfi_harden.specs.Accepted.{IsAccepted, IsShortAt, is_branch}
+use Rattle.cfi_rules.specs.Placed.{code_from}
+use Rattle.cfi_harden.specs.Accepted.{IsAccepted}
+use Rattle.cfi_map.specs.Shorts.{IsShortAt, is_branch}
 use Rattle.cfi_harden.specs.Units.{units_from}
 use Rattle.cfi_harden.proofs.WrittenRows.{pointer, short, short_of_harts}
 

@@ -3,8 +3,8 @@ use Rattle.std.proofs.Common.{◌≡◌, ℕ, suc, ◌+◌, true, false, Some, N
 use Rattle.std.specs.Prelude.{option_and_then, slice_get}
 use Rattle.std.specs.List.{position_or_len}
 use Rattle.std.proofs.lemmas.Bool.{cases_Bool, cases_lt, lt-ltb, le-ltb}
-use Rattle.cfi_flow.specs.Closed.{class_with, has}
-use Rattle.cfi_flow.specs.LabelOf.{label_at}
+use Rattle.cfi_class.specs.Classes.{class_with, has}
+use Rattle.cfi_map.specs.LabelOf.{label_at}
 
 none_found : (classes : List (List ℕ)) (k : ℕ) → option_and_then {U = ℕ} (slice_get []) (class_with classes k) ≡ None
 none_found classes k = elim (cases_lt (position_or_len (has k) classes) (length classes)) [

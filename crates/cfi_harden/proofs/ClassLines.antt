@@ -1,22 +1,22 @@
 -- The lines of classes: which stands at an index and under a label, and that they are a graph's.
-use Rattle.std.proofs.Common.{◌≡◌, ℕ, zero, suc, ◌<◌, ◌==◌, inl, inr, true, List, [], ◌∷◌, length, map, Option, Some, None, refl, sym, ap, ◌∙◌, arith, add-one}
+use Rattle.std.proofs.Common.{◌≡◌, ℕ, zero, suc, ◌<◌, ◌==◌, inl, inr, true, List, [], ◌∷◌, map, Option, Some, None, refl, sym, ap, ◌∙◌, arith, add-one}
 use Rattle.std.specs.Prelude.{◌&&◌, Bool, if◌then◌else◌, nat_lt, option_and_then, slice_get, slice_index}
 use Rattle.std.specs.List.{list_all}
 use Rattle.std.specs.List.Sorted.{IsStrictlyIncreasing}
 use Rattle.std.proofs.lemmas.Bool.{and_from, cases_Bool, eq-eqb, eqb-true, lt-ltb, or_cases, or_left, or_right}
 use Rattle.std.proofs.lemmas.Option.{same_Some}
 use Rattle.cfi_graph.specs.declared.line.GraphLine.{GraphLine}
-use Rattle.cfi_graph.specs.declared.line.GraphLine.TheVariants.{Class}
 use Rattle.cfi_graph.specs.declared.line.SiteKind.{SiteKind}
 use Rattle.cfi_graph.specs.declared.line.Sort.{Sort}
 use Rattle.cfi_graph.specs.declared.line.Sort.TheVariants.{Both}
 use Rattle.cfi_graph.specs.declared.line.Key.TheVariants.{Label}
 use Rattle.cfi_graph.specs.Graph.{ClassLine, class_in, is_class, is_code_address, is_label, is_rising, key_below, key_of, line_in_range, targets_rise}
-use Rattle.cfi_flow.specs.Closed.{has, is_of}
-use Rattle.cfi_flow.specs.GraphAtMap.{class_lines, line_of_class}
-use Rattle.cfi_flow.specs.LabelOf.{Tagged}
+use Rattle.cfi_flow.specs.Closed.{is_of}
+use Rattle.cfi_class.specs.Classes.{has}
+use Rattle.cfi_map.specs.GraphAtMap.{class_lines, line_of_class}
+use Rattle.cfi_map.specs.LabelOf.{Tagged}
 use Rattle.cfi_unit.specs.declared.target_word.TargetWord.TheVariants.{First}
-use Rattle.cfi_verify.specs.Lines.{class_with, if_serves, is_among, or_class, serves, targets_for}
+use Rattle.cfi_rules.specs.Lines.{class_with, if_serves, is_among, or_class, serves, targets_for}
 
 -- a gate is among those of a class just where its place is a member
 pub among_to : (gates : ℕ → ℕ) (class : List ℕ) (k : ℕ) → has k class ≡ true → is_among (gates k) (map gates class) ≡ true

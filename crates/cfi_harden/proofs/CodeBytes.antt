@@ -5,7 +5,7 @@ use Rattle.std.proofs.lemmas.List.{map-append, take_all}
 use Rattle.std.specs.Int.{to_le_bytes}
 use Rattle.rv_instr.specs.declared.instr.Instr.{Instr}
 use Rattle.rv_code.specs.Encode.{code_of}
-use Rattle.cfi_verify.specs.Split.{code_words}
+use Rattle.cfi_rules.specs.Split.{code_words}
 
 code_words_append : (first rest : List ℕ) → length first % 4 ≡ 0 → code_words (first ++ rest) ≡ code_words first ++ code_words rest
 unfolding code_words

@@ -1,29 +1,44 @@
 -- The words of a code while it is written.
-use Rattle.std.proofs.Common.{◌≡◌, ℕ, suc, ◌+◌, ◌*◌, ◌<◌, ◌≤◌, List, [], ◌∷◌, ◌++◌, length, length-append, map, drop, arith, ap, ◌∙◌, sym, subst, append_assoc, append-nil, get_or}
+use Rattle.std.proofs.Common.{◌≡◌, ℕ, suc, ◌+◌, ◌*◌, ◌<◌, ◌≤◌, List, [], ◌∷◌, ◌++◌, length, length-append, map, drop, arith, ap, refl, ◌∙◌, sym, subst, append_assoc, append-nil, get_or}
 use Rattle.std.proofs.Math.Seq.{drop-cons}
-use Rattle.rv_word.specs.MemoryMap.{CODE_SIZE, CODE_START, START, version_1}
+use Rattle.rv_word.specs.Form.{profile_for}
+use Rattle.rv_word.specs.MemoryMap.{CODE_SIZE, CODE_START, version_1, version_2}
+use Rattle.rv_word.specs.declared.form.Form.{Form}
+use Rattle.rv_word.specs.declared.form.Form.TheVariants.{Plain, Harts}
 use Rattle.rv_code.specs.Encode.{code_of}
 use Rattle.cfi_unit.specs.declared.unit.Unit as U
 use Rattle.cfi_unit.specs.declared.unit.Unit.TheVariants as V
-use Rattle.cfi_unit.specs.Prologue.{closing_instrs, prologue_instrs}
+use Rattle.cfi_unit.specs.Prologue.{call_at, closing_instrs, prologue_instrs}
 use Rattle.cfi_unit.specs.UnitWords.{Fits, after_unit, word_count, words_of}
 use Rattle.cfi_unit.proofs.Counts.{some_word}
 use Rattle.cfi_unit.proofs.Found.{words_counted}
-use Rattle.cfi_verify.specs.Placed.{AllFit, code_from, placed_code}
-use Rattle.cfi_verify.specs.Split.{code_words}
+use Rattle.cfi_rules.specs.Placed.{AllFit, code_from, placed_code}
+use Rattle.cfi_rules.specs.Split.{code_words}
 use Rattle.cfi_harden.specs.Prologue.{before_call}
 
-pub prologue_words : (entry : ℕ) (call first second third : List ℕ) → call ≡ words_of (V.Call entry) (START + 12)
-    → code_words first ≡ code_words [] ++ map code_of before_call → code_words second ≡ code_words first ++ call
-    → code_words third ≡ code_words second ++ map code_of closing_instrs → code_words third ≡ map code_of (prologue_instrs version_1 entry)
+pub prologue_words : (form : Form) (entry : ℕ) (call first second third : List ℕ) → call ≡ words_of (V.Call entry) (call_at (profile_for form))
+    → code_words first ≡ code_words [] ++ map code_of (before_call (profile_for form)) → code_words second ≡ code_words first ++ call
+    → code_words third ≡ code_words second ++ map code_of closing_instrs → code_words third ≡ map code_of (prologue_instrs (profile_for form) entry)
 unfolding words_of code_words
-prologue_words entry call first second third call_is first_is second_is third_is =
-    let two : code_words second ≡ (code_words [] ++ map code_of before_call) ++ words_of (V.Call entry) (START + 12) =
-    second_is ∙ ap (λ ws. ws ++ call) first_is ∙ ap (λ ws. (code_words [] ++ map code_of before_call) ++ ws) call_is in
+prologue_words Plain entry call first second third call_is first_is second_is third_is =
+    let two : code_words second ≡ (code_words [] ++ map code_of (before_call version_1)) ++ words_of (V.Call entry) (call_at version_1) =
+    second_is ∙ ap (λ ws. ws ++ call) first_is ∙ ap (λ ws. (code_words [] ++ map code_of (before_call version_1)) ++ ws) call_is in
+    third_is ∙ ap (λ ws. ws ++ map code_of closing_instrs) two
+prologue_words Harts entry call first second third call_is first_is second_is third_is =
+    let two : code_words second ≡ (code_words [] ++ map code_of (before_call version_2)) ++ words_of (V.Call entry) (call_at version_2) =
+    second_is ∙ ap (λ ws. ws ++ call) first_is ∙ ap (λ ws. (code_words [] ++ map code_of (before_call version_2)) ++ ws) call_is in
     third_is ∙ ap (λ ws. ws ++ map code_of closing_instrs) two
 
-pub prologue_size : (entry : ℕ) (call : List ℕ) → call ≡ words_of (V.Call entry) (START + 12) → length call ≡ 8
-prologue_size entry call is = ap length is ∙ words_counted (V.Call entry) (START + 12)
+-- where the prologue ends
+pub prologue_size : (form : Form) (entry : ℕ) (call first second third : List ℕ) → call ≡ words_of (V.Call entry) (call_at (profile_for form)) →
+    length first ≡ 4 * length (before_call (profile_for form)) → length second ≡ length first + 4 * length call →
+    length third ≡ length second + 4 * length closing_instrs → CODE_START + length third ≡ (profile_for form).units_from
+prologue_size Plain entry call first second third call_is first_is second_is third_is =
+    let eight = ap length call_is ∙ words_counted (V.Call entry) (call_at version_1) in
+    omega arith
+prologue_size Harts entry call first second third call_is first_is second_is third_is =
+    let eight = ap length call_is ∙ words_counted (V.Call entry) (call_at version_2) in
+    omega arith
 
 -- bytes with the words of some units after them are a whole code, and these units fit there
 pub record IsWritten (whole : List ℕ) (units : List U.Unit) (bytes : List ℕ) : Type 0 where
@@ -77,15 +92,19 @@ module _ (whole : List ℕ) (unit : U.Unit) (rest : List U.Unit) (bytes : List �
         fit = subst (λ a. AllFit a rest) after written.fit.1;
       }
 
-pub first_written : (entry : ℕ) (units : List U.Unit) (bytes : List ℕ) → code_words bytes ≡ map code_of (prologue_instrs version_1 entry) → length bytes ≡ 64
-    → AllFit version_1.units_from units → IsWritten (placed_code version_1 entry units) units bytes
-first_written entry units bytes words size fit =
-    let at : version_1.units_from ≡ CODE_START + length bytes = omega arith in
+prologue_counted : (form : Form) (entry : ℕ) → CODE_START + 4 * length (map code_of (prologue_instrs (profile_for form) entry)) ≡ (profile_for form).units_from
+prologue_counted Plain entry = refl
+prologue_counted Harts entry = refl
+
+pub first_written : (form : Form) (entry : ℕ) (units : List U.Unit) (bytes : List ℕ) → code_words bytes ≡ map code_of (prologue_instrs (profile_for form) entry) →
+    CODE_START + length bytes ≡ (profile_for form).units_from → AllFit (profile_for form).units_from units
+    → IsWritten (placed_code (profile_for form) entry units) units bytes
+first_written form entry units bytes words place fit =
     record {
       words = ap (λ ws. ws ++ code_from (CODE_START + length bytes) units) words
-          ∙ ap (λ a. map code_of (prologue_instrs version_1 entry) ++ code_from a units) (sym at);
-      size = size ∙ sym (let all = ap length words in omega arith);
-      fit = subst (λ a. AllFit a units) at fit;
+          ∙ ap (λ a. map code_of (prologue_instrs (profile_for form) entry) ++ code_from a units) place;
+      size = omega (arith, place, ap length words, prologue_counted form entry);
+      fit = subst (λ a. AllFit a units) (sym place) fit;
     }
 
 pub all_written : (whole : List ℕ) (bytes : List ℕ) → IsWritten whole [] bytes → (code_words bytes ≡ whole) × (length bytes ≡ 4 * length whole)

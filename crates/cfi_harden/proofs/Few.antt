@@ -18,15 +18,16 @@ use Rattle.obj_program.specs.declared.item.Item.{Item}
 use Rattle.obj_program.specs.Program.{Program, count, no_item}
 use Rattle.cfi_flow.specs.declared.closed.Site.{Site}
 use Rattle.cfi_flow.specs.Below.{where_below}
-use Rattle.cfi_flow.specs.Closed.{ClosedGraph, Side, first_side, has}
-use Rattle.cfi_flow.specs.LabelOf.{all_classes, empty_classes, with_empty}
+use Rattle.cfi_flow.specs.Closed.{ClosedGraph, Side, first_side, is_target}
+use Rattle.cfi_class.specs.Classes.{has}
+use Rattle.cfi_map.specs.LabelOf.{all_classes, empty_classes, with_empty}
 use Rattle.cfi_flow.specs.Labels.{is_gate, used_labels}
-use Rattle.cfi_flow.specs.Placement.{is_target, lead_size, size_of}
+use Rattle.cfi_map.specs.Placement.{lead_size, size_of}
 use Rattle.cfi_flow.specs.Sites.{site_kind}
 use Rattle.cfi_flow.proofs.Laws.{closed_places, is_site, members_there, place_of_site}
 use Rattle.cfi_flow.proofs.Sides.{in_one, one_target}
 use Rattle.cfi_harden.specs.GraphOf.{IsGraphOf}
-use Rattle.cfi_harden.specs.Sizes.{part_sizes, whole_size}
+use Rattle.cfi_map.specs.Sizes.{part_sizes, whole_sizes}
 
 -- numbers that rise, from k on and below n, each a target
 AreTargets : List Side → ℕ → ℕ → List ℕ → Type 0
@@ -141,7 +142,7 @@ empty_few (site ∷ sites) = elim (cases_Option site.class) [
 pub one_in : (program : Program) (closed : ClosedGraph) → IsGraphOf program closed → closed.sides ≡ first_side closed ∷ []
 one_in program closed (lines, raw, is, closes) = (in_one raw closed closes).one
 
-pub labels_few : (program : Program) (closed : ClosedGraph) → IsGraphOf program closed → whole_size program closed ≤ CODE_SIZE →
+pub labels_few : (program : Program) (closed : ClosedGraph) → IsGraphOf program closed → sum (whole_sizes program closed) < CODE_SIZE →
     length (all_classes (first_side closed)) + length (used_labels program) < 2 ^ 18
 labels_few program closed (lines, raw, is, closes) room =
     let of = in_one raw closed closes in

@@ -1,13 +1,13 @@
 -- Members of classes and the labels of these: the class that has a place, and the number of a site's class.
-use Rattle.std.proofs.Common.{◌≡◌, ℕ, zero, suc, ◌+◌, ◌/◌, ◌^◌, ◌≤◌, ◌<◌, ◌==◌, inl, inr, true, List, [], ◌∷◌, length, get_or, map, Option, Some, None, refl, ap, ◌∙◌, arith, add-one, Contains, filter}
+use Rattle.std.proofs.Common.{◌≡◌, ℕ, zero, suc, ◌+◌, ◌/◌, ◌^◌, ◌≤◌, ◌<◌, ◌==◌, inl, inr, true, List, [], ◌∷◌, length, map, Option, Some, None, refl, ap, ◌∙◌, arith, add-one, Contains, filter}
 use Rattle.std.specs.Prelude.{slice_get, slice_index}
 use Rattle.std.specs.List.Sorted.{IsStrictlyIncreasing}
 use Rattle.std.proofs.lemmas.Bool.{cases_Bool, cases_lt, cases_order, eq-eqb, eqb-true, or_cases}
 use Rattle.std.proofs.lemmas.Option.{get_or_from_slice_get, same_Some, slice_get_within}
 use Rattle.obj_program.specs.declared.item.Item.{Item}
-use Rattle.cfi_flow.specs.Closed.{has}
+use Rattle.cfi_class.specs.Classes.{has}
 use Rattle.cfi_flow.specs.Labels.{is_gate}
-use Rattle.cfi_flow.specs.LabelOf.{empty_classes, label_at, next_after, number, site_number, with_empty}
+use Rattle.cfi_map.specs.LabelOf.{empty_classes, label_at, next_after, number, site_number, with_empty}
 use Rattle.cfi_flow.specs.declared.closed.Site.{Site}
 
 -- a class has what its list contains

@@ -1,9 +1,4 @@
-pub mod PartSizes
-pub mod ShortList
-mod Shortened
-mod Placements
 mod Few
-mod PlacingRows
 pub mod InstrAt
 pub mod UnitOf
 pub mod Runs

@@ -4,14 +4,16 @@ use Rattle.std.specs.Prelude.{◌&&◌, slice_get, slice_index}
 use Rattle.std.specs.List.{list_all}
 use Rattle.std.proofs.lemmas.Bool.{and_from, eq-eqb, le-leb, lt-ltb}
 use Rattle.std.proofs.lemmas.Option.{same_Some, slice_get_within}
-use Rattle.rv_word.specs.MemoryMap.{CODE_SIZE, CODE_START}
+use Rattle.rv_word.specs.Form.{profile_for}
+use Rattle.rv_word.specs.MemoryMap.{CODE_SIZE, CODE_START, Profile}
+use Rattle.rv_word.specs.declared.form.Form.{Form}
 use Rattle.cfi_graph.specs.declared.map.MapLine.{MapLine}
 use Rattle.cfi_graph.specs.Graph.{is_rising}
 use Rattle.cfi_graph.specs.Map.{IsMap, is_gate, map_line_below, map_line_in_range, place_below}
 use Rattle.obj_program.specs.declared.item.Item.{Item}
 use Rattle.obj_program.specs.Program.{Program, count, item_of, no_item}
-use Rattle.cfi_flow.specs.GraphAtMap.{ProgramAtMap, gate}
-use Rattle.cfi_flow.proofs.Placing.{as_many_gates}
+use Rattle.cfi_map.specs.GraphAtMap.{ProgramAtMap, gate}
+use Rattle.cfi_harden.proofs.Gates.{gates_counted}
 use Rattle.cfi_harden.specs.Accepted.{IsAccepted}
 use Rattle.cfi_harden.specs.MapLines.{lines_from, map_lines as lines_of}
 use Rattle.cfi_harden.specs.Units.{Choice}
@@ -70,10 +72,10 @@ abbrev pub AreNear : Program → Type 0
 AreNear program = (k : ℕ) → k < count program →
     ((item_of program k).section < 2 ^ 16) × ((item_of program k).offset % 4 ≡ 0) × ((item_of program k).offset ≤ 8 * k)
 
-module _ (m : Choice) (ok : IsAccepted m) where
+module _ (form : Form) (m : Choice) (ok : IsAccepted m) (form_is : m.layout.profile ≡ profile_for form) where
   -- gates are as many as places
   pub counted : length m.layout.gates ≡ count m.layout.program
-  counted = as_many_gates m.layout.closed.sides m.long 0 m.layout.profile.units_from m.layout.program.items m.layout.gates ok.legal
+  counted = gates_counted m ok
 
   -- each place takes a byte at least
   places_far : (k : ℕ) → k < count m.layout.program → m.layout.profile.units_from + k ≤ gate m.layout k
@@ -83,14 +85,15 @@ module _ (m : Choice) (ok : IsAccepted m) where
       let step : gate m.layout k < gate m.layout (suc k) = gates_rise m ok k (suc k) (omega arith) below in
       omega arith
 
-  gate_is : (k : ℕ) → k < count m.layout.program → is_gate (gate m.layout k) ≡ true
+  gate_is : (k : ℕ) → k < count m.layout.program → is_gate form (gate m.layout k) ≡ true
   gate_is k below =
+      let from : m.layout.profile.units_from ≡ (profile_for form).units_from = ap (λ (p : Profile). p.units_from) form_is in
       let at = gate_lies m ok k below in
       let low = at.0 in
       let high = at.1 in
       let front = (laid m ok).low in
-      and_from (gate m.layout k % 4 == 0 && nat_le (CODE_START + 64) (gate m.layout k)) (nat_lt (gate m.layout k) (CODE_START + CODE_SIZE))
-      (and_from (gate m.layout k % 4 == 0) (nat_le (CODE_START + 64) (gate m.layout k)) (eq-eqb (gate m.layout k % 4) 0 at.2) (le-leb (CODE_START + 64) (gate m.layout k) (omega arith)))
+      and_from (gate m.layout k % 4 == 0 && nat_le (profile_for form).units_from (gate m.layout k)) (nat_lt (gate m.layout k) (CODE_START + CODE_SIZE))
+      (and_from (gate m.layout k % 4 == 0) (nat_le (profile_for form).units_from (gate m.layout k)) (eq-eqb (gate m.layout k % 4) 0 at.2) (le-leb (profile_for form).units_from (gate m.layout k) (omega arith)))
       (lt-ltb (gate m.layout k) (CODE_START + CODE_SIZE) (omega arith))
 
   line_is : (k : ℕ) (line : MapLine) → slice_get (map_lines m.layout.program.items m.layout.gates) k ≡ Some line →
@@ -101,7 +104,7 @@ module _ (m : Choice) (ok : IsAccepted m) where
       (omega arith, line_at m.layout.program.items m.layout.gates k line counted get)
 
   module _ (near : AreNear m.layout.program) where
-    in_range : (k : ℕ) → k < count m.layout.program → map_line_in_range (map_line (item_of m.layout.program k) (gate m.layout k)) ≡ true
+    in_range : (k : ℕ) → k < count m.layout.program → map_line_in_range form (map_line (item_of m.layout.program k) (gate m.layout k)) ≡ true
     in_range k below =
         let item = item_of m.layout.program k in
         let fits = near k below in
@@ -109,9 +112,9 @@ module _ (m : Choice) (ok : IsAccepted m) where
         let high = (gate_lies m ok k below).1 in
         let front = (laid m ok).low in
         let offset_near : item.offset ≤ 8 * k = fits.2 in
-        and_from (is_gate (gate m.layout k) && item.offset % 4 == 0 && nat_lt item.section (2 ^ 16)) (nat_lt item.offset (2 ^ 32))
-        (and_from (is_gate (gate m.layout k) && item.offset % 4 == 0) (nat_lt item.section (2 ^ 16))
-        (and_from (is_gate (gate m.layout k)) (item.offset % 4 == 0) (gate_is k below) (eq-eqb (item.offset % 4) 0 fits.1)) (lt-ltb item.section (2 ^ 16) fits.0))
+        and_from (is_gate form (gate m.layout k) && item.offset % 4 == 0 && nat_lt item.section (2 ^ 16)) (nat_lt item.offset (2 ^ 32))
+        (and_from (is_gate form (gate m.layout k) && item.offset % 4 == 0) (nat_lt item.section (2 ^ 16))
+        (and_from (is_gate form (gate m.layout k)) (item.offset % 4 == 0) (gate_is k below) (eq-eqb (item.offset % 4) 0 fits.1)) (lt-ltb item.section (2 ^ 16) fits.0))
         (lt-ltb item.offset (2 ^ 32) (omega arith))
 
     in_order : (k : ℕ) → suc k < count m.layout.program →
@@ -122,10 +125,10 @@ module _ (m : Choice) (ok : IsAccepted m) where
         and_from (place_below line next) (nat_lt (gate m.layout k) (gate m.layout (suc k))) (ok.sound.in_order k (suc k) (omega arith) below)
         (lt-ltb (gate m.layout k) (gate m.layout (suc k)) (gates_rise m ok k (suc k) (omega arith) below))
 
-    zipped_map : IsMap (map_lines m.layout.program.items m.layout.gates)
+    zipped_map : IsMap (record { form = form; lines = map_lines m.layout.program.items m.layout.gates })
     zipped_map = record {
-      range = all_from map_line_in_range (map_lines m.layout.program.items m.layout.gates)
-          (λ k line get. let at = line_is k line get in subst (λ (l : MapLine). map_line_in_range l ≡ true) (sym at.1) (in_range k at.0));
+      range = all_from (map_line_in_range form) (map_lines m.layout.program.items m.layout.gates)
+          (λ k line get. let at = line_is k line get in subst (λ (l : MapLine). map_line_in_range form l ≡ true) (sym at.1) (in_range k at.0));
       order = rising_from map_line_below (map_lines m.layout.program.items m.layout.gates)
           (λ k line next one two.
           let a = line_is k line one in
@@ -135,6 +138,6 @@ module _ (m : Choice) (ok : IsAccepted m) where
           both ∙ in_order k b.0);
     }
 
-    pub accepted_map : IsMap (lines_of m.layout)
+    pub accepted_map : IsMap (record { form = form; lines = lines_of m.layout })
     accepted_map =
-        subst IsMap (sym (lines_are m.layout 0 m.layout.program.items m.layout.gates counted (λ i. ap (slice_index m.layout.gates) (omega arith)))) zipped_map
+        subst (λ (ls : List MapLine). IsMap (record { form = form; lines = ls })) (sym (lines_are m.layout 0 m.layout.program.items m.layout.gates counted (λ i. ap (slice_index m.layout.gates) (omega arith)))) zipped_map

@@ -3,13 +3,15 @@ use Rattle.std.proofs.Common.{◌≡◌, ℕ, suc, ◌+◌, ◌<◌, ◌≤◌, 
 use Rattle.std.specs.Prelude.{slice_index}
 use Rattle.std.proofs.Math.ListN.{drop_of_length-le}
 use Rattle.std.proofs.Math.Seq.{drop-cons}
-use Rattle.rv_word.specs.MemoryMap.{Profile, version_1}
+use Rattle.rv_word.specs.Form.{profile_for}
+use Rattle.rv_word.specs.MemoryMap.{Profile}
+use Rattle.rv_word.specs.declared.form.Form.{Form}
 use Rattle.obj_program.specs.declared.item.Item.{Item}
 use Rattle.obj_program.specs.Program.{count, item_of, no_item}
 use Rattle.cfi_graph.specs.declared.map.MapLine.{MapLine}
-use Rattle.cfi_flow.specs.GraphAtMap.{ProgramAtMap}
-use Rattle.cfi_flow.specs.LegalMap.{IsLegalMap, gates_of}
-use Rattle.cfi_flow.specs.Placement.{AreGates, IsLegalFrom}
+use Rattle.cfi_map.specs.GraphAtMap.{ProgramAtMap}
+use Rattle.cfi_map.specs.LegalMap.{IsLegalMap, gates_of}
+use Rattle.cfi_map.specs.Placement.{AreGates, IsLegal}
 use Rattle.cfi_harden.specs.Accepted.{IsAccepted}
 use Rattle.cfi_harden.specs.MapLines.{lines_from, map_line, map_lines}
 use Rattle.cfi_harden.specs.Units.{Choice}
@@ -62,19 +64,20 @@ gates_from layout k (item ∷ items) all =
     ∙ sym (drop-cons layout.gates k 0 (omega arith))
 
 legal_gates : (m : Choice) → IsAccepted m → (gates : List ℕ) → gates ≡ m.layout.gates
-    → IsLegalFrom m.layout.profile.units_from m.layout.closed.sides m.layout.program.items gates
+    → IsLegal m.layout.profile.units_from m.layout.closed.sides m.layout.program.items gates
 legal_gates m accepted gates is =
-    (m.long, subst (λ (gs : List ℕ). AreGates m.layout.closed.sides m.long 0 m.layout.profile.units_from m.layout.program.items gs) (sym is) accepted.legal)
+    (m.whole, subst (λ (gs : List ℕ). AreGates m.layout.closed.sides m.whole 0 m.layout.profile.units_from m.layout.program.items gs) (sym is) accepted.legal)
 
 pub gates_are : (m : Choice) → IsAccepted m → gates_of (map_lines m.layout) ≡ m.layout.gates
 gates_are m accepted = let counted = gates_counted m accepted in gates_from m.layout 0 m.layout.program.items (omega arith)
 
-pub legal_map : (m : Choice) → IsAccepted m → m.layout.profile ≡ version_1 → IsLegalMap m.layout.program m.layout.closed (map_lines m.layout)
-legal_map m accepted one =
+pub legal_map : (form : Form) (m : Choice) → IsAccepted m → m.layout.profile ≡ profile_for form →
+    IsLegalMap m.layout.program m.layout.closed (record { form = form; lines = map_lines m.layout })
+legal_map form m accepted one =
     record {
       sections = sections_of m.layout 0 m.layout.program.items;
       offsets = offsets_of m.layout 0 m.layout.program.items;
       gates =
-          subst (λ (p : Profile). IsLegalFrom p.units_from m.layout.closed.sides m.layout.program.items (gates_of (map_lines m.layout))) one
+          subst (λ (p : Profile). IsLegal p.units_from m.layout.closed.sides m.layout.program.items (gates_of (map_lines m.layout))) one
           (legal_gates m accepted (gates_of (map_lines m.layout)) (gates_are m accepted));
     }

@@ -26,8 +26,8 @@ not_entered request ends.NoMemory refuses = tt
 
 pub is_prepared : (request : ProgramRequest) (entry : ℕ) (closed : ClosedGraph) →
     Enters request.program request.entry request.policy (Ok (entry, closed))
-    → IsPreparedOf request (record { program = request.program; closed = closed; entry = entry })
-is_prepared request entry closed entered = record { program = refl; entry = entered.0; closed = entered.1 }
+    → IsPreparedOf request (record { form = request.form; program = request.program; closed = closed; entry = entry })
+is_prepared request entry closed entered = record { form = refl; program = refl; entry = entered.0; closed = entered.1 }
 
 pub not_read : (request : Request) (end : HardenEnd) → Reads request.object (Err end) → Prepares request (Err end)
 not_read request (ends.Refused (R.Object fault)) refuses = (refuses, tt)
@@ -58,10 +58,10 @@ prepares_object request (Err ends.NoMemory) object prepares = tt
 
 -- of an object that is read
 pub prepares : (request : Request) (program : Program) (result : Result PreparedParts HardenEnd) → Reads request.object (Ok program)
-    → PreparesProgram (record { program = program; entry = request.entry; policy = request.policy }) result → Prepares request result
+    → PreparesProgram (record { form = request.form; program = program; entry = request.entry; policy = request.policy }) result → Prepares request result
 prepares request program result (object, is) made =
     prepares_object request result object
-    (subst (λ (p : Program). PreparesProgram (record { program = p; entry = request.entry; policy = request.policy }) result) is made)
+    (subst (λ (p : Program). PreparesProgram (record { form = request.form; program = p; entry = request.entry; policy = request.policy }) result) is made)
 
 -- what hardening an object comes to
 pub hardens_object : (request : Request) (result : Result HardenedParts HardenEnd) → IsProgram request.object

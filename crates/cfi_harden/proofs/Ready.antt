@@ -1,5 +1,9 @@
 -- A request that is prepared is ready to be written, and what its writing comes to is what the request comes to.
-use Rattle.std.proofs.Common.{ℕ, ◌^◌, ◌<◌, List, Result, Ok, Err}
+use Rattle.std.proofs.Common.{ℕ, ◌^◌, ◌<◌, ◌≤◌, List, Result, Ok, Err, arith, refl, subst, sym}
+use Rattle.std.specs.Prelude.{sum}
+use Rattle.rv_word.proofs.Versions.{is_profile, laid_out}
+use Rattle.rv_word.specs.Form.{image_version, profile_for}
+use Rattle.rv_word.specs.MemoryMap.{CODE_SIZE}
 use Rattle.obj_program.specs.MapFit.{FitsMaps}
 use Rattle.obj_program.specs.Program.{count, item_of}
 use Rattle.obj_program.specs.Sound.{IsSound}
@@ -10,12 +14,16 @@ use Rattle.cfi_harden.specs.declared.refusal.Refusal.TheVariants as R
 use Rattle.cfi_harden.specs.Fitting.{IsFitting, RefusesPlaced}
 use Rattle.cfi_harden.specs.Hardened.{AreGiven, HardenedParts, IsWrittenOf, chosen}
 use Rattle.cfi_harden.specs.HardenedLaws.{WrittenIsAccepted}
-use Rattle.cfi_harden.specs.Placing.{Spaced}
+use Rattle.cfi_map.specs.GraphAtMap.{ProgramAtMap}
+use Rattle.cfi_map.specs.Placement.{words_from}
+use Rattle.cfi_map.specs.Placing.{Spaced}
+use Rattle.cfi_map.specs.Sizes.{whole_size, whole_sizes}
 use Rattle.cfi_harden.specs.Prepared.{IsPreparedOf, PreparedParts}
 use Rattle.cfi_harden.specs.Refused.{HardensPrepared, HardensProgram, RefusesProgram}
 use Rattle.cfi_harden.specs.Request.{ProgramRequest}
 use Rattle.cfi_harden.specs.Writing.{IsReady, IsWritable, IsWrittenAs}
-use Rattle.cfi_harden.proofs.Accepting.{accepted, data_there, graph_there}
+use Rattle.cfi_map.proofs.Values.{data_there}
+use Rattle.cfi_harden.proofs.Accepting.{accepted, accepted_here, graph_there, here, none_astray}
 use Rattle.cfi_harden.proofs.EntryThere.{entry_there}
 use Rattle.cfi_harden.proofs.MapFits.{accepted_map}
 
@@ -32,22 +40,32 @@ ready request p prepared sound fits small = record {
 -- what is written of a prepared request is an accepted choice
 pub written_accepted : WrittenIsAccepted
 written_accepted request p s labels code init h prepared fitting written =
-    accepted p (ready request p prepared written.sound written.fits_maps written.words) s fitting labels written.labelled
+    let of = fitting.placed.of in
+    let is = ready request p prepared (subst (λ (l : ProgramAtMap). IsSound l.program) of written.sound)
+    (subst (λ (l : ProgramAtMap). FitsMaps l.program) of written.fits_maps)
+    (subst (λ (l : ProgramAtMap). (k : ℕ) → k < count l.program → (item_of l.program k).word < 2 ^ 32) of written.words) in
+    accepted p is s fitting labels (subst (λ (l : ProgramAtMap). AreGiven l.program l.closed labels) of written.labelled)
 
-pub writable : (p : PreparedParts) (s : Spaced) (labels : List ℕ) → IsReady p → IsFitting p s → AreGiven p.program p.closed labels → IsWritable p s labels
+pub writable : (p : PreparedParts) (s : Spaced) (labels : List ℕ) → IsReady p → IsFitting p s → AreGiven p.program p.closed labels → IsWritable p.form s labels
 writable p s labels ready fitting given =
-    let ok = accepted p ready s fitting labels given in
-    record {
+    let ok = accepted_here p ready s fitting labels given in
+    subst (λ (l : ProgramAtMap). IsWritable p.form (record { layout = l; whole = s.whole }) labels) (sym fitting.placed.of) (record {
+      form_is = refl;
       accepted = ok;
       fits_maps = ready.fits_maps;
-      words = fitting.placed.words;
-      fits = accepted_map (chosen p s labels) ok (λ k below. let near = ready.fits_maps.fits k below in (near.section, near.whole, near.near));
-      counted = fitting.placed.gate_count;
-      init_there = data_there p.program s.gates s.words fitting.in_range;
+      fits = accepted_map p.form (chosen (here p ready s fitting labels given) labels) ok refl (λ k below. let near = ready.fits_maps.fits k below in (near.section, near.whole, near.near));
+      init_there = data_there p.program s.layout.gates (words_from p.closed.sides 0 s.layout.gates) (none_astray p ready s fitting labels given);
       room = fitting.room.init;
-    }
+    })
 
-pub written_of : (p : PreparedParts) (s : Spaced) (labels : List ℕ) (h : HardenedParts) → IsFitting p s → IsWrittenAs p s labels h → IsWrittenOf p h
+-- the parts of a placement that fits have room behind the prologue
+pub room_behind : (p : PreparedParts) (s : Spaced) → IsFitting p s → sum (whole_sizes p.program p.closed) < CODE_SIZE
+room_behind p s fitting =
+    let laid = laid_out (profile_for p.form) (is_profile (image_version p.form)) in
+    let room = subst (λ (l : ProgramAtMap). whole_size p.form l.program l.closed ≤ CODE_SIZE) fitting.placed.of fitting.placed.placed.room in
+    omega (arith, laid.low, room)
+
+pub written_of : (p : PreparedParts) (s : Spaced) (labels : List ℕ) (h : HardenedParts) → IsFitting p s → IsWrittenAs p.form s labels h → IsWrittenOf p h
 written_of p s labels h fitting (code, init, written) = (s, labels, code, init, fitting.placed, fitting.room, fitting.in_range, written)
 
 late : (request : ProgramRequest) (p : PreparedParts) (refusal : Refusal) → IsPreparedOf request p → RefusesPlaced p refusal → RefusesProgram request refusal

@@ -7,15 +7,15 @@ use Rattle.std.proofs.lemmas.List.{length-map}
 use Rattle.std.proofs.lemmas.Option.{same_Some, slice_get-map}
 use Rattle.rv_word.proofs.Cases.{mapped}
 use Rattle.obj_program.specs.declared.item.Item.{Item}
-use Rattle.cfi_flow.specs.Closed.{Side}
-use Rattle.cfi_flow.specs.GraphAtMap.{gate, word}
-use Rattle.cfi_flow.specs.LabelOf.{label_at, labels_of}
-use Rattle.cfi_flow.specs.Placement.{AreGates, is_long, is_target, lead_size, size_of}
+use Rattle.cfi_flow.specs.Closed.{Side, is_target}
+use Rattle.cfi_map.specs.GraphAtMap.{gate, word}
+use Rattle.cfi_map.specs.LabelOf.{label_at, labels_of}
+use Rattle.cfi_map.specs.Placement.{AreGates, whole_at, lead_size, size_of}
 use Rattle.cfi_unit.specs.declared.unit.Unit as U
 use Rattle.cfi_unit.specs.UnitWords.{word_count}
-use Rattle.cfi_verify.specs.Split.{unit_in}
+use Rattle.cfi_rules.specs.Split.{unit_in}
 use Rattle.cfi_unit.proofs.Counts.{some_word}
-use Rattle.cfi_verify.proofs.UnitIn.{in_here, in_later, in_past}
+use Rattle.cfi_rules.proofs.UnitIn.{in_here, in_later, in_past}
 use Rattle.cfi_harden.specs.Units.{Choice, lead, lead_unit, unit_for, units_from}
 use Rattle.cfi_harden.proofs.SideLabels.{length-labels_of}
 
@@ -98,25 +98,25 @@ Run m k at (item ∷ items) =
 -- the gates of a placement make places stand so
 pub legal_run : (m : Choice) (k at : ℕ) (items : List Item) (gates : List ℕ) →
     ((i : ℕ) → gate m.layout (k + i) ≡ slice_index gates i) →
-    ((i : ℕ) (item : Item) → slice_get items i ≡ Some item → size_of item.kind (is_long m.long (k + i)) ≡ 4 * word_count (unit_for m (k + i) item)) →
-    AreGates m.layout.closed.sides m.long k at items gates → Run m k at items
+    ((i : ℕ) (item : Item) → slice_get items i ≡ Some item → size_of item.kind (whole_at m.whole (k + i)) ≡ 4 * word_count (unit_for m (k + i) item)) →
+    AreGates m.layout.closed.sides m.whole k at items gates → Run m k at items
 unfolding Run AreGates
 legal_run m k at [] gates same sizes legal = tt
 legal_run m k at (item ∷ items) [] same sizes legal = absurd legal
 legal_run m k at (item ∷ items) (g ∷ gates) same sizes legal =
     let first : k + 0 ≡ k = omega arith in
     let here : gate m.layout k ≡ g = ap (gate m.layout) (sym first) ∙ same 0 in
-    let size : size_of item.kind (is_long m.long k) ≡ 4 * word_count (unit_for m k item) =
+    let size : size_of item.kind (whole_at m.whole k) ≡ 4 * word_count (unit_for m k item) =
     rw first at (sizes 0 item refl) in
     let bytes = lead_sized m k in
     let next : (i : ℕ) → k + 1 + i ≡ k + suc i = λ i. omega arith in
-    let behind : at + lead_size m.layout.closed.sides k + size_of item.kind (is_long m.long k)
+    let behind : at + lead_size m.layout.closed.sides k + size_of item.kind (whole_at m.whole k)
     ≡ at + lead_bytes m k + 4 * word_count (unit_for m k item) = rw (size, bytes) refl in (
       here ∙ legal.0,
       ap (λ n. n + lead_size m.layout.closed.sides k) (here ∙ legal.0) ∙ ap (λ n. at + n) bytes,
-      subst (λ (b : ℕ). Run m (k + 1) b items) behind (legal_run m (k + 1) (at + lead_size m.layout.closed.sides k + size_of item.kind (is_long m.long k)) items gates
+      subst (λ (b : ℕ). Run m (k + 1) b items) behind (legal_run m (k + 1) (at + lead_size m.layout.closed.sides k + size_of item.kind (whole_at m.whole k)) items gates
           (λ i. ap (gate m.layout) (next i) ∙ same (suc i))
-          (λ i one get. subst (λ (n : ℕ). size_of one.kind (is_long m.long n) ≡ 4 * word_count (unit_for m n one)) (sym (next i)) (sizes (suc i) one get)) legal.1),
+          (λ i one get. subst (λ (n : ℕ). size_of one.kind (whole_at m.whole n) ≡ 4 * word_count (unit_for m n one)) (sym (next i)) (sizes (suc i) one get)) legal.1),
     )
 
 -- what stands at an address: a word before a place's unit, or the unit

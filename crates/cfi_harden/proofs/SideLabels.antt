@@ -6,17 +6,16 @@ use Rattle.std.proofs.lemmas.Bool.{cases_Bool, eqb-true, or_cases, or_left, or_r
 use Rattle.std.proofs.lemmas.List.{length-map}
 use Rattle.std.proofs.lemmas.Option.{get_or_from_slice_get, same_Some, slice_get-get_or, slice_get-map, slice_get_within}
 use Rattle.rv_word.proofs.Cases.{mapped}
-use Rattle.cfi_class.specs.Classes.{IsIn}
+use Rattle.cfi_class.specs.Classes.{IsIn, has}
 use Rattle.cfi_graph.specs.declared.line.Sort.{Sort}
 use Rattle.cfi_graph.specs.declared.line.Sort.TheVariants.{Both}
 use Rattle.cfi_graph.specs.Graph.{ClassLine}
 use Rattle.cfi_flow.specs.declared.closed.Site.{Site}
-use Rattle.cfi_flow.specs.Closed.{Side, has, has_site, sorts_of_sides}
-use Rattle.cfi_flow.specs.GraphAtMap.{class_lines}
-use Rattle.cfi_flow.specs.LabelOf.{Tagged, all_classes, class_count, empty_classes, label_at, labels_of, site_label, site_number, tag, tagged, with_empty}
-use Rattle.cfi_flow.specs.Placement.{is_target_of}
+use Rattle.cfi_flow.specs.Closed.{Side, has_site, sorts_of_sides, is_target_of}
+use Rattle.cfi_map.specs.GraphAtMap.{class_lines}
+use Rattle.cfi_map.specs.LabelOf.{Tagged, all_classes, class_count, empty_classes, label_at, labels_of, site_label, site_number, tag, tagged, with_empty}
 use Rattle.cfi_unit.specs.declared.target_word.TargetWord.TheVariants.{First}
-use Rattle.cfi_verify.specs.Lines.{is_among, read_of, targets_for}
+use Rattle.cfi_rules.specs.Lines.{is_among, read_of, targets_for}
 use Rattle.cfi_harden.specs.SideLaws.{GatesListed, SitesServed, TargetsBear, past}
 use Rattle.cfi_harden.proofs.ClassLines.{among_from, among_to, class_given, class_line, line_get, served_by, targets_of}
 use Rattle.cfi_harden.proofs.Labelled.{has_in, label_found, label_once, labelled, site_below}

@@ -11,7 +11,7 @@ use Rattle.std.proofs.lemmas.List.{get_or-replicate, get_or-set_same, get_or-set
 use Rattle.std.proofs.lemmas.Bool.{cases_lt}
 use Rattle.cfi_flow.specs.declared.closed.Site.{Site}
 use Rattle.cfi_flow.specs.Closed.{ClosedGraph, IsInside, Side, first_side, has_site, no_side}
-use Rattle.cfi_flow.specs.LabelOf.{all_classes, site_label, empty_classes, number, next_after, site_number, with_empty}
+use Rattle.cfi_map.specs.LabelOf.{all_classes, site_label, empty_classes, number, next_after, site_number, with_empty}
 
 -- where so many labels belong to what comes before some sites, and the others to these
 pub record IsNumbered (labels : List ℕ) (sites : List Site) (next : ℕ) (table : List ℕ) : Type 0 where

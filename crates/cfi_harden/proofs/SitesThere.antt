@@ -8,7 +8,8 @@ use Rattle.obj_program.specs.Program.{Program, count, item_of}
 use Rattle.cfi_graph.specs.declared.policy.PolicyLine.{PolicyLine}
 use Rattle.cfi_flow.specs.declared.closed.Site.{Site}
 use Rattle.cfi_flow.specs.Below.{where_below}
-use Rattle.cfi_flow.specs.Closed.{ClosedGraph, class_reached, first_side, has, with_class}
+use Rattle.cfi_flow.specs.Closed.{ClosedGraph, class_reached, first_side, with_class}
+use Rattle.cfi_class.specs.Classes.{has}
 use Rattle.cfi_flow.specs.Policy.{IsRaw}
 use Rattle.cfi_flow.specs.Raw.{RawGraph}
 use Rattle.cfi_flow.specs.Sites.{site_kind}

@@ -1,5 +1,5 @@
 -- The units and classes that are written are sound.
-use Rattle.std.proofs.Common.{◌≡◌, ℕ, zero, suc, ◌+◌, ◌*◌, ◌%◌, ◌/◌, ◌^◌, ◌≤◌, ◌<◌, inl, inr, Bool, true, false, List, [], ◌∷◌, ◌++◌, length, Option, Some, None, refl, sym, ap, subst, ◌∙◌, arith, Contains}
+use Rattle.std.proofs.Common.{◌≡◌, ℕ, zero, suc, ◌+◌, ◌*◌, ◌%◌, ◌/◌, ◌^◌, ◌≤◌, ◌<◌, inl, Bool, true, false, List, [], ◌∷◌, ◌++◌, length, Option, Some, None, refl, sym, ap, subst, ◌∙◌, arith, Contains}
 use Rattle.std.specs.Prelude.{IsTrue, is_some, option_and_then, slice_get, slice_index}
 use Rattle.std.specs.List.{last_or}
 use Rattle.std.proofs.lemmas.Option.{get_or_from_slice_get, same_Some, slice_get_within, slice_get-get_or}
@@ -14,11 +14,11 @@ use Rattle.obj_program.specs.Program.{count, is_end, item_of, no_item}
 use Rattle.obj_program.proofs.Read.{read_there}
 use Rattle.cfi_graph.specs.declared.line.SiteKind.{SiteKind}
 use Rattle.cfi_graph.specs.Graph.{ClassLine, class_in}
-use Rattle.cfi_flow.specs.Closed.{has}
-use Rattle.cfi_flow.specs.GraphAtMap.{gate, gate_to, words_at}
-use Rattle.cfi_flow.specs.LabelOf.{Tagged, labels_of, site_label, tagged}
+use Rattle.cfi_class.specs.Classes.{has}
+use Rattle.cfi_map.specs.GraphAtMap.{gate, gate_to, words_at}
+use Rattle.cfi_map.specs.LabelOf.{Tagged, labels_of, site_label, tagged}
 use Rattle.cfi_flow.specs.Labels.{is_gate, used_labels}
-use Rattle.cfi_flow.specs.Placement.{is_long}
+use Rattle.cfi_map.specs.Placement.{whole_at}
 use Rattle.cfi_flow.specs.Sites.{site_kind}
 use Rattle.cfi_unit.specs.declared.place.Place.TheVariants.{Body as body}
 use Rattle.cfi_unit.specs.declared.unit.Unit as U
@@ -26,11 +26,11 @@ use Rattle.cfi_unit.specs.declared.unit.Unit.TheVariants as V
 use Rattle.cfi_unit.specs.declared.target_word.TargetWord.{TargetWord}
 use Rattle.cfi_unit.specs.declared.target_word.TargetWord.TheVariants.{First}
 use Rattle.cfi_unit.specs.UnitWords.{Reaches}
-use Rattle.cfi_verify.specs.Lines.{class_with, is_among, is_word_of, read_of, targets_for}
-use Rattle.cfi_verify.specs.Rules.{site_of}
-use Rattle.cfi_verify.specs.Sound.{Bears, IsSound, StartsIn, target_of}
-use Rattle.cfi_verify.specs.Split.{unit_in}
-use Rattle.cfi_verify.specs.declared.place.Asks.{Asks}
+use Rattle.cfi_rules.specs.Lines.{class_with, is_among, is_word_of, read_of, targets_for}
+use Rattle.cfi_rules.specs.Rules.{site_of}
+use Rattle.cfi_rules.specs.Sound.{Bears, IsSound, StartsIn, target_of}
+use Rattle.cfi_rules.specs.Split.{unit_in}
+use Rattle.cfi_rules.specs.declared.asks.Asks.{Asks}
 use Rattle.cfi_harden.specs.Accepted.{IsAccepted}
 use Rattle.cfi_harden.specs.Laws.{WrittenIsSound, written_classes}
 use Rattle.cfi_harden.specs.SideLaws.{AreLabelled, past}
@@ -66,9 +66,9 @@ last_units m k (x ∷ items) o (suc n) item get last =
     ∙ last_units m (k + 1) items (Some (unit_for m k x)) n item get (omega arith)
     ∙ ap (λ (n : ℕ). Some (unit_for m n item)) next
 
-end_stops : (kind : ItemKind) (i : Instr) (long : Bool) (target label : ℕ) → is_end kind ≡ true → unit_of kind i long target label ≡ V.Stop
-end_stops is.End i long target label last = refl
-end_stops other i long target label last = absurd (cc)
+end_stops : (kind : ItemKind) (i : Instr) (whole : Bool) (target label : ℕ) → is_end kind ≡ true → unit_of kind i whole target label ≡ V.Stop
+end_stops is.End i whole target label last = refl
+end_stops other i whole target label last = absurd (cc)
 
 gate_is : (kind : ItemKind) → kind ≡ is.Gate → is_gate kind ≡ true
 gate_is kind e = ap is_gate e
@@ -126,7 +126,7 @@ module _ (m : Choice) (ok : IsAccepted m) where
       absurd (cc)
   leads k a target u below (own here unit_is) e =
       let of : target_of (unit_for m k (item_of m.layout.program k)) ≡ Some target = sym (ap target_of unit_is) ∙ e in
-      let aim = unit_target (item_of m.layout.program k).kind (instr_of m k) (is_long m.long k) (gate_to m.layout (item_of m.layout.program k).target)
+      let aim = unit_target (item_of m.layout.program k).kind (instr_of m k) (whole_at m.whole k) (gate_to m.layout (item_of m.layout.program k).target)
       (site_label m.labels m.layout.closed.sides k) target (right m ok k below) of in
       let (t, some, there) = direct m ok k below aim.0 in
       let same : gate m.layout t ≡ target = ap (gate_to m.layout) (sym some) ∙ aim.1 in
@@ -148,7 +148,7 @@ module _ (m : Choice) (ok : IsAccepted m) where
       absurd (cc)
   site_served k a u asked below (own here unit_is) e =
       let of : site_of (body (unit_for m k (item_of m.layout.program k))) ≡ Some asked = sym (ap (λ (v : U.Unit). site_of (body v)) unit_is) ∙ e in
-      let (kind, site, same) = unit_site (item_of m.layout.program k).kind (instr_of m k) (is_long m.long k) (gate_to m.layout (item_of m.layout.program k).target)
+      let (kind, site, same) = unit_site (item_of m.layout.program k).kind (instr_of m k) (whole_at m.whole k) (gate_to m.layout (item_of m.layout.program k).target)
       (site_label m.labels m.layout.closed.sides k) asked (right m ok k below) of in
       subst (λ (s : Asks). is_some (targets_for (written_classes m) s.kind s.which s.label) ≡ true) same (site_given k kind below site)
 
@@ -183,7 +183,7 @@ module _ (m : Choice) (ok : IsAccepted m) where
   no_own : (k label : ℕ) (line : ClassLine) → k < count m.layout.program → unit_for m k (item_of m.layout.program k) ≡ V.Gate label →
       class_with (written_classes m) label ≡ Some line → ⊥
   no_own k label line below e asked =
-      let (kind, (op, rd, instr)) = unit_gate (item_of m.layout.program k).kind (instr_of m k) (is_long m.long k) (gate_to m.layout (item_of m.layout.program k).target)
+      let (kind, (op, rd, instr)) = unit_gate (item_of m.layout.program k).kind (instr_of m k) (whole_at m.whole k) (gate_to m.layout (item_of m.layout.program k).target)
       (site_label m.labels m.layout.closed.sides k) label (right m ok k below) e in
       let some = no_end (item_of m.layout.program k).kind kind in
       let read = subst (λ (x : ItemKind). is_of x (item_of m.layout.program k).patch (decoded (item_of m.layout.program k).word) ≡ true) kind (read_there m.layout.program k ok.sound below some) in
@@ -211,7 +211,7 @@ module _ (m : Choice) (ok : IsAccepted m) where
       let first : 0 + n ≡ n = omega arith in
       last_units m 0 m.layout.program.items None n (item_of m.layout.program n) (slice_get-get_or m.layout.program.items n no_item below) counted
       ∙ ap (λ (k : ℕ). Some (unit_for m k (item_of m.layout.program n))) first
-      ∙ ap Some (end_stops (item_of m.layout.program n).kind (instr_of m n) (is_long m.long n) (gate_to m.layout (item_of m.layout.program n).target)
+      ∙ ap Some (end_stops (item_of m.layout.program n).kind (instr_of m n) (whole_at m.whole n) (gate_to m.layout (item_of m.layout.program n).target)
       (site_label m.labels m.layout.closed.sides n) ends)
 
   sound_code : IsSound m.layout.profile (entry_gate m) (units m) (written_classes m)

@@ -1,6 +1,6 @@
 -- What is accepted, place by place: the instruction of each is of its kind and in range, its unit stands at its word and the words
 -- before that at its gate, nothing else stands in the code, and all of it lies in the region of code.
-use Rattle.std.proofs.Common.{◌≡◌, ℕ, suc, ◌+◌, ◌*◌, ◌%◌, ◌≤◌, ◌<◌, inl, inr, true, false, List, [], length, Option, Some, None, sym, ap, subst, ◌∙◌, arith, unwrap_or}
+use Rattle.std.proofs.Common.{◌≡◌, ℕ, suc, ◌+◌, ◌*◌, ◌%◌, ◌≤◌, ◌<◌, inl, inr, true, false, List, [], length, Option, Some, sym, ap, subst, ◌∙◌, arith, unwrap_or}
 use Rattle.std.specs.Prelude.{◌&&◌, not, is_some, slice_get}
 use Rattle.std.proofs.lemmas.Bool.{and_from, cases_Bool, not_from_false, or_left, or_right}
 use Rattle.std.proofs.lemmas.Option.{get_or_from_slice_get, slice_get-get_or, slice_get_within}
@@ -15,14 +15,14 @@ use Rattle.obj_program.specs.AtMap.{instr_at}
 use Rattle.obj_program.specs.Program.{count, is_end, item_of, no_item}
 use Rattle.obj_program.specs.Suits.{names_reserved, suits}
 use Rattle.obj_program.proofs.Kept.{kept}
-use Rattle.cfi_flow.specs.GraphAtMap.{gate, word, words_at}
-use Rattle.cfi_flow.specs.Placement.{is_long, size_of}
+use Rattle.cfi_map.specs.GraphAtMap.{gate, word, words_at}
+use Rattle.cfi_map.specs.Placement.{whole_at, size_of}
 use Rattle.cfi_unit.specs.declared.unit.Unit as U
 use Rattle.cfi_unit.specs.UnitWords.{word_count}
-use Rattle.cfi_verify.specs.Sound.{StartsIn}
-use Rattle.cfi_verify.specs.Split.{unit_in}
+use Rattle.cfi_rules.specs.Sound.{StartsIn}
+use Rattle.cfi_rules.specs.Split.{unit_in}
 use Rattle.cfi_unit.proofs.Counts.{some_word}
-use Rattle.cfi_verify.proofs.UnitIn.{length-placed_code, lies}
+use Rattle.cfi_rules.proofs.UnitIn.{length-placed_code, lies}
 use Rattle.cfi_harden.specs.Accepted.{IsAccepted}
 use Rattle.cfi_harden.specs.Units.{Choice, entry_gate, instr_of, lead, lead_unit, unit_for, units}
 use Rattle.cfi_harden.proofs.InstrAt.{instr_there}
@@ -77,16 +77,16 @@ module _ (m : Choice) (ok : IsAccepted m) where
   item_is : (k : ℕ) (item : Item) → slice_get m.layout.program.items k ≡ Some item → item_of m.layout.program k ≡ item
   item_is k item get = get_or_from_slice_get m.layout.program.items k item no_item get
 
-  pub size_right : (k : ℕ) (item : Item) → slice_get m.layout.program.items k ≡ Some item → size_of item.kind (is_long m.long k) ≡ 4 * word_count (unit_for m k item)
+  pub size_right : (k : ℕ) (item : Item) → slice_get m.layout.program.items k ≡ Some item → size_of item.kind (whole_at m.whole k) ≡ 4 * word_count (unit_for m k item)
   size_right k item get =
       let below : k < count m.layout.program = slice_get_within m.layout.program.items k item get in
       let of : is_right item.kind (instr_of m k) ≡ true = subst (λ (x : Item). is_right x.kind (instr_of m k) ≡ true) (item_is k item get) (right k below) in
-      unit_size item.kind (instr_of m k) (is_long m.long k) _ _ of
+      unit_size item.kind (instr_of m k) (whole_at m.whole k) _ _ of
 
   pub the_run : Run m 0 m.layout.profile.units_from m.layout.program.items
   the_run =
       legal_run m 0 m.layout.profile.units_from m.layout.program.items m.layout.gates (λ i. ap (gate m.layout) (sym (no_more i)))
-      (λ i item get. subst (λ (n : ℕ). size_of item.kind (is_long m.long n) ≡ 4 * word_count (unit_for m n item)) (no_more i) (size_right i item get)) ok.legal
+      (λ i item get. subst (λ (n : ℕ). size_of item.kind (whole_at m.whole n) ≡ 4 * word_count (unit_for m n item)) (no_more i) (size_right i item get)) ok.legal
 
   pub unit_there : (k : ℕ) → k < count m.layout.program →
       unit_in (units m) m.layout.profile.units_from (word m.layout k) ≡ Some (unit_for m k (item_of m.layout.program k))

@@ -9,9 +9,9 @@ use Rattle.obj_program.specs.declared.item.Item.{Item}
 use Rattle.obj_program.specs.Program.{count, item_of, no_item}
 use Rattle.cfi_unit.specs.declared.unit.Unit as U
 use Rattle.cfi_unit.specs.declared.unit.Unit.TheVariants as V
-use Rattle.cfi_flow.specs.Closed.{Side, first_side, has}
-use Rattle.cfi_flow.specs.LabelOf.{empty_classes, label_at, labels_of}
-use Rattle.cfi_flow.specs.Placement.{is_target}
+use Rattle.cfi_flow.specs.Closed.{Side, first_side, is_target}
+use Rattle.cfi_class.specs.Classes.{has}
+use Rattle.cfi_map.specs.LabelOf.{empty_classes, label_at, labels_of}
 use Rattle.cfi_flow.proofs.Sides.{one_target}
 use Rattle.cfi_harden.specs.Accepted.{IsAccepted}
 use Rattle.cfi_harden.specs.Chosen.{with_gate}

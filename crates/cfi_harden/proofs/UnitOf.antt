@@ -12,17 +12,17 @@ use Rattle.obj_program.specs.Sound.{is_direct}
 use Rattle.obj_program.specs.Suits.{names_reserved, suits}
 use Rattle.cfi_graph.specs.declared.line.SiteKind.{SiteKind}
 use Rattle.cfi_graph.specs.declared.line.SiteKind.TheVariants as K
-use Rattle.cfi_flow.specs.GraphAtMap.{line_of_kind}
-use Rattle.cfi_flow.specs.Placement.{size_of}
+use Rattle.cfi_map.specs.GraphAtMap.{line_of_kind}
+use Rattle.cfi_map.specs.Placement.{size_of}
 use Rattle.cfi_flow.specs.Sites.{site_kind}
 use Rattle.cfi_unit.specs.declared.place.Place.TheVariants.{Body as body}
 use Rattle.cfi_unit.specs.declared.unit.Unit.TheVariants as V
 use Rattle.cfi_unit.specs.declared.target_word.TargetWord.TheVariants.{First}
 use Rattle.cfi_unit.specs.UnitWords.{word_count}
-use Rattle.cfi_verify.specs.Placed.{line_of}
-use Rattle.cfi_verify.specs.Rules.{asks, site_of}
-use Rattle.cfi_verify.specs.Sound.{target_of}
-use Rattle.cfi_verify.specs.declared.place.Asks.{Asks}
+use Rattle.cfi_rules.specs.Placed.{line_of}
+use Rattle.cfi_rules.specs.Rules.{asks, site_of}
+use Rattle.cfi_rules.specs.Sound.{target_of}
+use Rattle.cfi_rules.specs.declared.asks.Asks.{Asks}
 use Rattle.cfi_harden.specs.Units.{unit_of}
 
 -- what is known of the instruction of a place: it is of the place's kind and names no reserved register, or the place is an end
@@ -30,91 +30,91 @@ abbrev pub is_right : ItemKind → Instr → Bool
 is_right kind i = is_end kind || (suits kind i && not (names_reserved i))
 
 -- it has the size of its kind
-pub unit_size : (kind : ItemKind) (i : Instr) (long : Bool) (target label : ℕ) → is_right kind i ≡ true →
-    size_of kind long ≡ 4 * word_count (unit_of kind i long target label)
-unit_size is.Gate (I.Upper op rd imm) long target label right = refl
-unit_size is.Plain i long target label right = refl
-unit_size is.Store (I.Store op rs1 rs2 imm) long target label right = refl
-unit_size is.System I.Ecall long target label right = refl
-unit_size is.System I.Ebreak long target label right = refl
+pub unit_size : (kind : ItemKind) (i : Instr) (whole : Bool) (target label : ℕ) → is_right kind i ≡ true →
+    size_of kind whole ≡ 4 * word_count (unit_of kind i whole target label)
+unit_size is.Gate (I.Upper op rd imm) whole target label right = refl
+unit_size is.Plain i whole target label right = refl
+unit_size is.Store (I.Store op rs1 rs2 imm) whole target label right = refl
+unit_size is.System I.Ecall whole target label right = refl
+unit_size is.System I.Ebreak whole target label right = refl
 unit_size is.Branch (I.Branch op rs1 rs2 imm) true target label right = refl
 unit_size is.Branch (I.Branch op rs1 rs2 imm) false target label right = refl
-unit_size is.Jump i long target label right = refl
-unit_size is.Call i long target label right = refl
-unit_size is.Return i long target label right = refl
-unit_size is.Ijump (I.Jalr rd rs1 imm) long target label right = refl
-unit_size is.Icall (I.Jalr rd rs1 imm) long target label right = refl
-unit_size is.End i long target label right = refl
-unit_size kind i long target label right = absurd (cc)
+unit_size is.Jump i whole target label right = refl
+unit_size is.Call i whole target label right = refl
+unit_size is.Return i whole target label right = refl
+unit_size is.Ijump (I.Jalr rd rs1 imm) whole target label right = refl
+unit_size is.Icall (I.Jalr rd rs1 imm) whole target label right = refl
+unit_size is.End i whole target label right = refl
+unit_size kind i whole target label right = absurd (cc)
 
 -- and the line of its kind
-pub unit_line : (kind : ItemKind) (i : Instr) (long : Bool) (at target label : ℕ) → is_right kind i ≡ true →
-    line_of at (unit_of kind i long target label) ≡ line_of_kind kind at target label
-unit_line is.Gate (I.Upper op rd imm) long at target label right = refl
-unit_line is.Plain i long at target label right = refl
-unit_line is.Store (I.Store op rs1 rs2 imm) long at target label right = refl
-unit_line is.System I.Ecall long at target label right = refl
-unit_line is.System I.Ebreak long at target label right = refl
+pub unit_line : (kind : ItemKind) (i : Instr) (whole : Bool) (at target label : ℕ) → is_right kind i ≡ true →
+    line_of at (unit_of kind i whole target label) ≡ line_of_kind kind at target label
+unit_line is.Gate (I.Upper op rd imm) whole at target label right = refl
+unit_line is.Plain i whole at target label right = refl
+unit_line is.Store (I.Store op rs1 rs2 imm) whole at target label right = refl
+unit_line is.System I.Ecall whole at target label right = refl
+unit_line is.System I.Ebreak whole at target label right = refl
 unit_line is.Branch (I.Branch op rs1 rs2 imm) true at target label right = refl
 unit_line is.Branch (I.Branch op rs1 rs2 imm) false at target label right = refl
-unit_line is.Jump i long at target label right = refl
-unit_line is.Call i long at target label right = refl
-unit_line is.Return i long at target label right = refl
-unit_line is.Ijump (I.Jalr rd rs1 imm) long at target label right = refl
-unit_line is.Icall (I.Jalr rd rs1 imm) long at target label right = refl
-unit_line is.End i long at target label right = refl
-unit_line kind i long at target label right = absurd (cc)
+unit_line is.Jump i whole at target label right = refl
+unit_line is.Call i whole at target label right = refl
+unit_line is.Return i whole at target label right = refl
+unit_line is.Ijump (I.Jalr rd rs1 imm) whole at target label right = refl
+unit_line is.Icall (I.Jalr rd rs1 imm) whole at target label right = refl
+unit_line is.End i whole at target label right = refl
+unit_line kind i whole at target label right = absurd (cc)
 
 -- it leads to its target, where its kind has one
-pub unit_target : (kind : ItemKind) (i : Instr) (long : Bool) (target label t : ℕ) → is_right kind i ≡ true →
-    target_of (unit_of kind i long target label) ≡ Some t → (is_direct kind ≡ true) × (target ≡ t)
+pub unit_target : (kind : ItemKind) (i : Instr) (whole : Bool) (target label t : ℕ) → is_right kind i ≡ true →
+    target_of (unit_of kind i whole target label) ≡ Some t → (is_direct kind ≡ true) × (target ≡ t)
 unit_target is.Branch (I.Branch op rs1 rs2 imm) true target label t right e = (refl, cc)
 unit_target is.Branch (I.Branch op rs1 rs2 imm) false target label t right e = (refl, cc)
-unit_target is.Jump i long target label t right e = (refl, cc)
-unit_target is.Call i long target label t right e = (refl, cc)
-unit_target is.Gate (I.Upper op rd imm) long target label t right e = absurd (cc)
-unit_target is.Plain i long target label t right e = absurd (cc)
-unit_target is.Store (I.Store op rs1 rs2 imm) long target label t right e = absurd (cc)
-unit_target is.System I.Ecall long target label t right e = absurd (cc)
-unit_target is.System I.Ebreak long target label t right e = absurd (cc)
-unit_target is.Return i long target label t right e = absurd (cc)
-unit_target is.Ijump (I.Jalr rd rs1 imm) long target label t right e = absurd (cc)
-unit_target is.Icall (I.Jalr rd rs1 imm) long target label t right e = absurd (cc)
-unit_target is.End i long target label t right e = absurd (cc)
-unit_target kind i long target label t right e = absurd (cc)
+unit_target is.Jump i whole target label t right e = (refl, cc)
+unit_target is.Call i whole target label t right e = (refl, cc)
+unit_target is.Gate (I.Upper op rd imm) whole target label t right e = absurd (cc)
+unit_target is.Plain i whole target label t right e = absurd (cc)
+unit_target is.Store (I.Store op rs1 rs2 imm) whole target label t right e = absurd (cc)
+unit_target is.System I.Ecall whole target label t right e = absurd (cc)
+unit_target is.System I.Ebreak whole target label t right e = absurd (cc)
+unit_target is.Return i whole target label t right e = absurd (cc)
+unit_target is.Ijump (I.Jalr rd rs1 imm) whole target label t right e = absurd (cc)
+unit_target is.Icall (I.Jalr rd rs1 imm) whole target label t right e = absurd (cc)
+unit_target is.End i whole target label t right e = absurd (cc)
+unit_target kind i whole target label t right e = absurd (cc)
 
 -- it asks for its label, where its kind is a computed transfer's
-pub unit_site : (kind : ItemKind) (i : Instr) (long : Bool) (target label : ℕ) (asked : Asks) → is_right kind i ≡ true →
-    site_of (body (unit_of kind i long target label)) ≡ Some asked → (site : SiteKind) × (site_kind kind ≡ Some site) × (asks site First label ≡ asked)
-unit_site is.Ijump (I.Jalr rd rs1 imm) long target label asked right e = (K.Jump, refl, same_Some (asks K.Jump First label) asked e)
-unit_site is.Icall (I.Jalr rd rs1 imm) long target label asked right e = (K.Call, refl, same_Some (asks K.Call First label) asked e)
+pub unit_site : (kind : ItemKind) (i : Instr) (whole : Bool) (target label : ℕ) (asked : Asks) → is_right kind i ≡ true →
+    site_of (body (unit_of kind i whole target label)) ≡ Some asked → (site : SiteKind) × (site_kind kind ≡ Some site) × (asks site First label ≡ asked)
+unit_site is.Ijump (I.Jalr rd rs1 imm) whole target label asked right e = (K.Jump, refl, same_Some (asks K.Jump First label) asked e)
+unit_site is.Icall (I.Jalr rd rs1 imm) whole target label asked right e = (K.Call, refl, same_Some (asks K.Call First label) asked e)
 unit_site is.Branch (I.Branch op rs1 rs2 imm) true target label asked right e = absurd (cc)
 unit_site is.Branch (I.Branch op rs1 rs2 imm) false target label asked right e = absurd (cc)
-unit_site is.Jump i long target label asked right e = absurd (cc)
-unit_site is.Call i long target label asked right e = absurd (cc)
-unit_site is.Gate (I.Upper op rd imm) long target label asked right e = absurd (cc)
-unit_site is.Plain i long target label asked right e = absurd (cc)
-unit_site is.Store (I.Store op rs1 rs2 imm) long target label asked right e = absurd (cc)
-unit_site is.System I.Ecall long target label asked right e = absurd (cc)
-unit_site is.System I.Ebreak long target label asked right e = absurd (cc)
-unit_site is.Return i long target label asked right e = absurd (cc)
-unit_site is.End i long target label asked right e = absurd (cc)
-unit_site kind i long target label asked right e = absurd (cc)
+unit_site is.Jump i whole target label asked right e = absurd (cc)
+unit_site is.Call i whole target label asked right e = absurd (cc)
+unit_site is.Gate (I.Upper op rd imm) whole target label asked right e = absurd (cc)
+unit_site is.Plain i whole target label asked right e = absurd (cc)
+unit_site is.Store (I.Store op rs1 rs2 imm) whole target label asked right e = absurd (cc)
+unit_site is.System I.Ecall whole target label asked right e = absurd (cc)
+unit_site is.System I.Ebreak whole target label asked right e = absurd (cc)
+unit_site is.Return i whole target label asked right e = absurd (cc)
+unit_site is.End i whole target label asked right e = absurd (cc)
+unit_site kind i whole target label asked right e = absurd (cc)
 
 -- a gate word is that of `lui x0`
-pub unit_gate : (kind : ItemKind) (i : Instr) (long : Bool) (target label l : ℕ) → is_right kind i ≡ true →
-    unit_of kind i long target label ≡ V.Gate l → (kind ≡ is.Gate) × ((op : UpperOp) × (rd : ℕ) × (i ≡ I.Upper op rd l))
-unit_gate is.Gate (I.Upper op rd imm) long target label l right e = (refl, (op, rd, let same : imm ≡ l = cc in ap (I.Upper op rd) same))
-unit_gate is.Ijump (I.Jalr rd rs1 imm) long target label l right e = absurd (cc)
-unit_gate is.Icall (I.Jalr rd rs1 imm) long target label l right e = absurd (cc)
+pub unit_gate : (kind : ItemKind) (i : Instr) (whole : Bool) (target label l : ℕ) → is_right kind i ≡ true →
+    unit_of kind i whole target label ≡ V.Gate l → (kind ≡ is.Gate) × ((op : UpperOp) × (rd : ℕ) × (i ≡ I.Upper op rd l))
+unit_gate is.Gate (I.Upper op rd imm) whole target label l right e = (refl, (op, rd, let same : imm ≡ l = cc in ap (I.Upper op rd) same))
+unit_gate is.Ijump (I.Jalr rd rs1 imm) whole target label l right e = absurd (cc)
+unit_gate is.Icall (I.Jalr rd rs1 imm) whole target label l right e = absurd (cc)
 unit_gate is.Branch (I.Branch op rs1 rs2 imm) true target label l right e = absurd (cc)
 unit_gate is.Branch (I.Branch op rs1 rs2 imm) false target label l right e = absurd (cc)
-unit_gate is.Jump i long target label l right e = absurd (cc)
-unit_gate is.Call i long target label l right e = absurd (cc)
-unit_gate is.Plain i long target label l right e = absurd (cc)
-unit_gate is.Store (I.Store op rs1 rs2 imm) long target label l right e = absurd (cc)
-unit_gate is.System I.Ecall long target label l right e = absurd (cc)
-unit_gate is.System I.Ebreak long target label l right e = absurd (cc)
-unit_gate is.Return i long target label l right e = absurd (cc)
-unit_gate is.End i long target label l right e = absurd (cc)
-unit_gate kind i long target label l right e = absurd (cc)
+unit_gate is.Jump i whole target label l right e = absurd (cc)
+unit_gate is.Call i whole target label l right e = absurd (cc)
+unit_gate is.Plain i whole target label l right e = absurd (cc)
+unit_gate is.Store (I.Store op rs1 rs2 imm) whole target label l right e = absurd (cc)
+unit_gate is.System I.Ecall whole target label l right e = absurd (cc)
+unit_gate is.System I.Ebreak whole target label l right e = absurd (cc)
+unit_gate is.Return i whole target label l right e = absurd (cc)
+unit_gate is.End i whole target label l right e = absurd (cc)
+unit_gate kind i whole target label l right e = absurd (cc)

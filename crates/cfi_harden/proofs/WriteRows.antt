@@ -1,19 +1,21 @@
 -- Worked rows: the prologue in its three parts, and the lines of a map of two places.
 use Rattle.std.proofs.Common.{◌≡◌, ℕ, [], ◌∷◌, ◌++◌, None, false, refl}
-use Rattle.rv_word.specs.MemoryMap.{version_1}
+use Rattle.rv_word.specs.MemoryMap.{version_1, version_2}
 use Rattle.obj_input.specs.declared.item_kind.ItemKind.TheVariants as is
 use Rattle.obj_program.specs.declared.item.Patch.TheVariants as put
 use Rattle.cfi_unit.specs.Prologue.{closing_instrs, prologue_instrs}
 use Rattle.cfi_unit.specs.UnitWords.{instrs_of}
 use Rattle.cfi_unit.specs.declared.unit.Unit.TheVariants as V
 use Rattle.cfi_graph.specs.declared.line.Sort.TheVariants.{Both}
-use Rattle.cfi_flow.specs.GraphAtMap.{ProgramAtMap}
+use Rattle.cfi_map.specs.GraphAtMap.{ProgramAtMap}
 use Rattle.cfi_harden.specs.MapLines.{lines_from, map_lines}
 use Rattle.cfi_harden.specs.Prologue.{before_call}
 
--- the call stands at the seventh word
-pub prologue_row : (entry : ℕ) → before_call ++ instrs_of (V.Call entry) 0x40000018 ++ closing_instrs ≡ prologue_instrs version_1 entry
-prologue_row entry = refl
+-- the call stands at the seventh word, or at the eleventh
+pub prologue_row : (entry : ℕ) →
+    (before_call version_1 ++ instrs_of (V.Call entry) 0x40000018 ++ closing_instrs ≡ prologue_instrs version_1 entry)
+    × (before_call version_2 ++ instrs_of (V.Call entry) 0x40000028 ++ closing_instrs ≡ prologue_instrs version_2 entry)
+prologue_row entry = (refl, refl)
 
 -- `ret` at the start of section 3, and that section's end: `ret` as a unit has 20 bytes
 abbrev pub row_items : ProgramAtMap

@@ -10,18 +10,19 @@ use Rattle.obj_program.specs.Program.{count, item_of, no_item}
 use Rattle.cfi_graph.specs.Graph.{IsGraph, is_code_address, is_code_length, is_label}
 use Rattle.cfi_graph.specs.declared.line.GraphLine.{GraphLine}
 use Rattle.cfi_graph.specs.declared.line.GraphLine.TheVariants.{Call}
-use Rattle.cfi_flow.specs.Closed.{Side, has}
-use Rattle.cfi_flow.specs.GraphAtMap.{gate, gate_to, graph_lines, line_for, place_lines, word}
-use Rattle.cfi_flow.specs.LabelOf.{Tagged, all_classes, labels_of, site_label, tagged}
-use Rattle.cfi_flow.specs.Placement.{is_long, is_target}
+use Rattle.cfi_flow.specs.Closed.{Side, is_target}
+use Rattle.cfi_class.specs.Classes.{has}
+use Rattle.cfi_map.specs.GraphAtMap.{gate, gate_to, graph_lines, line_for, place_lines, word}
+use Rattle.cfi_map.specs.LabelOf.{Tagged, all_classes, labels_of, site_label, tagged}
+use Rattle.cfi_map.specs.Placement.{whole_at}
 use Rattle.cfi_unit.specs.declared.unit.Unit as U
 use Rattle.cfi_unit.specs.UnitWords.{word_count}
-use Rattle.cfi_verify.specs.Placed.{line_of, lines_from, with_line}
-use Rattle.cfi_verify.specs.Split.{unit_at, unit_in}
-use Rattle.cfi_verify.proofs.PlacedCode.{placed_entry, placed_units, placed_well_formed}
-use Rattle.cfi_verify.proofs.PlacedGraph.{placed_is_graph}
+use Rattle.cfi_rules.specs.Placed.{line_of, lines_from}
+use Rattle.cfi_rules.specs.Split.{unit_at, unit_in}
+use Rattle.cfi_rules.proofs.PlacedCode.{placed_entry, placed_units, placed_well_formed}
+use Rattle.cfi_rules.proofs.PlacedGraph.{placed_is_graph}
 use Rattle.cfi_unit.proofs.Counts.{some_word}
-use Rattle.cfi_verify.proofs.UnitIn.{length-placed_code, lies}
+use Rattle.cfi_rules.proofs.UnitIn.{length-placed_code, lies}
 use Rattle.cfi_harden.specs.Accepted.{IsAccepted}
 use Rattle.cfi_harden.specs.Laws.{WrittenEntry, WrittenIsGraph, WrittenIsWellFormed, WrittenLines, WrittenUnits, written_classes, written_code}
 use Rattle.cfi_harden.specs.Units.{Choice, entry_gate, instr_of, lead, lead_unit, unit_for, units, units_from}
@@ -69,7 +70,7 @@ run_lines m k at (item ∷ items) run right =
     let here : is_right item.kind (instr_of m k) ≡ true = ap (λ n. is_right item.kind (instr_of m n)) (sym first) ∙ right 0 item refl in
     let line : line_of (at + lead_bytes m k) (unit_for m k item) ≡ line_for m.layout m.labels k item =
     ap (λ a. line_of a (unit_for m k item)) (sym run.1)
-    ∙ unit_line item.kind (instr_of m k) (is_long m.long k) (word m.layout k) (gate_to m.layout item.target) (site_label m.labels m.layout.closed.sides k) here in
+    ∙ unit_line item.kind (instr_of m k) (whole_at m.whole k) (word m.layout k) (gate_to m.layout item.target) (site_label m.labels m.layout.closed.sides k) here in
     let rest = run_lines m (k + 1) (at + lead_bytes m k + 4 * word_count (unit_for m k item)) items run.2
     (λ i one get. ap (λ n. is_right one.kind (instr_of m n)) (next i) ∙ right (suc i) one get) in
     lines_behind m k at (unit_for m k item ∷ units_from m (k + 1) items) ∙ rw (line, rest) refl

@@ -17,12 +17,12 @@ use Rattle.obj_program.specs.Program.{Program}
 use Rattle.cfi_graph.specs.declared.line.GraphLine.TheVariants.{Call, Class, Edge, Site}
 use Rattle.cfi_graph.specs.declared.line.SiteKind.TheVariants as site
 use Rattle.cfi_graph.specs.declared.line.Sort.TheVariants.{Both}
-use Rattle.cfi_flow.specs.GraphAtMap.{ProgramAtMap, class_lines, graph_lines, place_lines}
-use Rattle.cfi_flow.specs.LabelOf.{empty_classes, label_at, labels_of, site_label, site_number, tagged}
-use Rattle.cfi_flow.specs.Placement.{AreGates, words_from}
+use Rattle.cfi_map.specs.GraphAtMap.{ProgramAtMap, class_lines, graph_lines, place_lines}
+use Rattle.cfi_map.specs.LabelOf.{empty_classes, label_at, labels_of, site_label, site_number, tagged}
+use Rattle.cfi_map.specs.Placement.{AreGates, words_from}
 use Rattle.cfi_unit.specs.UnitWords.{words_of}
-use Rattle.cfi_verify.specs.Placed.{code_from}
-use Rattle.cfi_harden.specs.Accepted.{is_kept}
+use Rattle.cfi_rules.specs.Placed.{code_from}
+use Rattle.cfi_map.specs.Shorts.{is_kept}
 use Rattle.cfi_harden.specs.Laws.{written_code}
 use Rattle.cfi_harden.specs.Units.{Choice, units_from}
 
@@ -53,7 +53,7 @@ layout profile program gates = record {
 abbrev pub short : Choice
 short = record {
   layout = layout version_1 (program is.Plain 0x00100513 None) (0x40000040 ∷ 0x40000044 ∷ 0x40000048 ∷ 0x4000005c ∷ []);
-  long = false ∷ [];
+  whole = false ∷ [];
   labels = [];
 }
 
@@ -61,20 +61,20 @@ short = record {
 abbrev pub short_of_harts : Choice
 short_of_harts = record {
   layout = layout version_2 (program is.Plain 0x00100513 None) (0x40000050 ∷ 0x40000054 ∷ 0x40000058 ∷ 0x4000006c ∷ []);
-  long = false ∷ [];
+  whole = false ∷ [];
   labels = [];
 }
 
 -- over `j +4`: long
-abbrev pub long : Choice
-long = record {
+abbrev pub whole : Choice
+whole = record {
   layout = layout version_1 (program is.Jump 0x0040006f (Some 2)) (0x40000040 ∷ 0x40000048 ∷ 0x4000004c ∷ 0x40000060 ∷ []);
-  long = true ∷ [];
+  whole = true ∷ [];
   labels = [];
 }
 
 short_rows : (length (written_code short) ≡ 24) × (slice_get (written_code short) 16 ≡ Some 0x00050463) × (slice_get (written_code short) 17 ≡ Some 0x00100513)
-    × (is_kept short.layout 0 2 ≡ false)
+    × (is_kept short.layout.program short.layout.closed 0 2 ≡ false)
     × (graph_lines short.layout [] ≡ Call 0x4000000c 0x40000040 ∷ Edge 0x40000040 0x40000048 ∷ [])
 unfolding units_from code_from words_of code_of instr_at decoded words_from labels_of label_at site_label site_number tagged class_lines place_lines empty_classes
 short_rows = (refl, refl, refl, refl, refl)
@@ -86,9 +86,9 @@ unfolding units_from code_from words_of code_of instr_at decoded words_from labe
 short_of_harts_rows = (refl, refl, refl, refl)
 
 -- the long one is `bne x10, x0, +8` and `j` to the place of `ret`
-long_rows : (length (written_code long) ≡ 25) × (slice_get (written_code long) 16 ≡ Some 0x00051463) × (slice_get (written_code long) 17 ≡ Some 0x0080006f)
-    × (slice_get (written_code long) 18 ≡ Some 0x0040006f) × (is_kept long.layout 0 2 ≡ true)
-    × (graph_lines long.layout [] ≡ Call 0x4000000c 0x40000040 ∷ Edge 0x40000040 0x4000004c ∷ Edge 0x40000048 0x4000004c ∷ [])
+long_rows : (length (written_code whole) ≡ 25) × (slice_get (written_code whole) 16 ≡ Some 0x00051463) × (slice_get (written_code whole) 17 ≡ Some 0x0080006f)
+    × (slice_get (written_code whole) 18 ≡ Some 0x0040006f) × (is_kept whole.layout.program whole.layout.closed 0 2 ≡ true)
+    × (graph_lines whole.layout [] ≡ Call 0x4000000c 0x40000040 ∷ Edge 0x40000040 0x4000004c ∷ Edge 0x40000048 0x4000004c ∷ [])
 unfolding units_from code_from words_of code_of instr_at decoded words_from labels_of label_at site_label site_number tagged class_lines place_lines empty_classes
 long_rows = (refl, refl, refl, refl, refl, refl)
 
@@ -109,7 +109,7 @@ seven = record {
 }
 
 abbrev pub returning : Choice
-returning = record { layout = layout version_1 seven (0x40000040 ∷ 0x40000044 ∷ 0x40000058 ∷ []); long = []; labels = [] }
+returning = record { layout = layout version_1 seven (0x40000040 ∷ 0x40000044 ∷ 0x40000058 ∷ []); whole = []; labels = [] }
 
 returning_row : written_code returning
     ≡ head ++ 0x00700513 ∷ 0xff81bf83 ∷ 0xff818193 ∷ 0x001f8463 ∷ 0xfb5ff06f ∷ 0x000f8067 ∷ 0xfa9ff06f ∷ []
@@ -123,7 +123,7 @@ head_of_harts =
     ∷ 0x000f1463 ∷ 0xfd9ff06f ∷ 0x00000f17 ∷ 0x014f0f13 ∷ 0x01e1b023 ∷ 0x00818193 ∷ 0x00c000ef ∷ 0x05d00893 ∷ 0x00000073 ∷ []
 
 abbrev pub returning_of_harts : Choice
-returning_of_harts = record { layout = layout version_2 seven (0x40000050 ∷ 0x40000054 ∷ 0x40000068 ∷ []); long = []; labels = [] }
+returning_of_harts = record { layout = layout version_2 seven (0x40000050 ∷ 0x40000054 ∷ 0x40000068 ∷ []); whole = []; labels = [] }
 
 returning_of_harts_row : written_code returning_of_harts
     ≡ head_of_harts ++ 0x00700513 ∷ 0xff81bf83 ∷ 0xff818193 ∷ 0x001f8463 ∷ 0xfa5ff06f ∷ 0x000f8067 ∷ 0xf99ff06f ∷ []
@@ -154,7 +154,7 @@ pointer = record {
     gates = 0x40000040 ∷ 0x40000044 ∷ 0x40000054 ∷ 0x40000058 ∷ 0x4000005c ∷ 0x400000ac ∷ 0x400000b0 ∷ 0x400000b4 ∷ 0x400000c8 ∷ 0x400000d0 ∷ 0x400000e4 ∷ 0x400000ec ∷ 0x40000100 ∷ [];
     entry = 0;
   };
-  long = [];
+  whole = [];
   labels = 1 ∷ [];
 }
 

@@ -3,29 +3,29 @@
 use Rattle.std.specs.Prelude.{◌≡◌, ◌<◌, ◌≤◌, Some, None, Result, Ok, Err}
 use Rattle.rv_word.specs.MemoryMap.{CODE_SIZE}
 use Rattle.obj_program.specs.DataAtMap.{init_size}
-use Rattle.obj_program.specs.Range.{out_of_range}
 use Rattle.cfi_harden.specs.declared.refusal.HardenEnd.{HardenEnd}
 use Rattle.cfi_harden.specs.declared.refusal.HardenEnd.TheVariants.{Refused, NoMemory}
 use Rattle.cfi_harden.specs.declared.refusal.Refusal.{Refusal}
 use Rattle.cfi_harden.specs.declared.refusal.Refusal.TheVariants.{CodeTooLarge, DataTooLarge, RelocRange}
 use Rattle.cfi_harden.specs.Hardened.{HasDataRoom}
-use Rattle.cfi_harden.specs.Placing.{IsPlacement, Spaced}
+use Rattle.cfi_map.specs.Placing.{IsPlacementOf, Spaced}
 use Rattle.cfi_harden.specs.Prepared.{PreparedParts}
-use Rattle.cfi_harden.specs.Sizes.{whole_size}
+use Rattle.cfi_map.specs.Sizes.{whole_size}
+use Rattle.cfi_map.specs.Source.{first_astray}
 
 pub record IsFitting (p : PreparedParts) (s : Spaced) : Type 0 where
-  pub placed : IsPlacement p.program p.closed s
+  pub placed : IsPlacementOf p.form p.program p.closed p.entry s
   pub room : HasDataRoom p.program
-  pub in_range : out_of_range p.program s.gates s.words ≡ None
+  pub in_range : first_astray s.layout ≡ None
 
 -- a refusal of a prepared program
 abbrev pub RefusesPlaced : PreparedParts → Refusal → Type 0
-RefusesPlaced p (CodeTooLarge bytes) = (bytes ≡ whole_size p.program p.closed) × (CODE_SIZE < bytes)
+RefusesPlaced p (CodeTooLarge bytes) = (bytes ≡ whole_size p.form p.program p.closed) × (CODE_SIZE < bytes)
 RefusesPlaced p (DataTooLarge init end) =
-    (whole_size p.program p.closed ≤ CODE_SIZE) × (init ≡ init_size p.program) × (end ≡ p.program.data_end) × (HasDataRoom p.program → ⊥)
+    (whole_size p.form p.program p.closed ≤ CODE_SIZE) × (init ≡ init_size p.program) × (end ≡ p.program.data_end) × (HasDataRoom p.program → ⊥)
 RefusesPlaced p (RelocRange section offset) =
-    (s : Spaced) × IsPlacement p.program p.closed s × HasDataRoom p.program
-    × (out_of_range p.program s.gates s.words ≡ Some (record { section = section; offset = offset }))
+    (s : Spaced) × IsPlacementOf p.form p.program p.closed p.entry s × HasDataRoom p.program
+    × (first_astray s.layout ≡ Some (record { section = section; offset = offset }))
 RefusesPlaced p other = ⊥
 
 -- only want of memory is free

@@ -2,27 +2,27 @@
 use Rattle.std.specs.Prelude.{◌≡◌, ℕ, ◌<◌, ◌≤◌, ◌^◌, List, length, Some, None}
 use Rattle.std.specs.List.{All}
 use Rattle.std.specs.List.Sorted.{IsStrictlyIncreasing}
-use Rattle.rv_word.specs.MemoryMap.{version_1}
+use Rattle.rv_word.specs.Form.{image_version, profile_for}
+use Rattle.rv_word.specs.declared.form.Form.{Form}
 use Rattle.elf_image.specs.Spelling.{spelling}
 use Rattle.cfi_graph.specs.Graph.{GraphParts}
-use Rattle.cfi_graph.specs.declared.map.MapLine.{MapLine}
+use Rattle.cfi_graph.specs.Map.{MapParts}
 use Rattle.cfi_class.specs.Labels.{AreLabels}
 use Rattle.obj_program.specs.DataAtMap.{data_at, init_size}
 use Rattle.obj_program.specs.MapFit.{FitsMaps}
 use Rattle.obj_program.specs.Program.{Program, count, item_of}
-use Rattle.obj_program.specs.Range.{out_of_range}
 use Rattle.obj_program.specs.Sound.{IsSound}
 use Rattle.cfi_flow.specs.Closed.{ClosedGraph}
-use Rattle.cfi_flow.specs.GraphAtMap.{graph_lines}
-use Rattle.cfi_flow.specs.LabelOf.{tagged}
+use Rattle.cfi_map.specs.GraphAtMap.{graph_lines}
+use Rattle.cfi_map.specs.LabelOf.{tagged}
 use Rattle.cfi_flow.specs.Labels.{used_labels}
-use Rattle.cfi_flow.specs.LegalMap.{IsLegalMap, gates_of}
-use Rattle.cfi_verify.specs.Laws.{AreBytes}
-use Rattle.cfi_verify.specs.Rules.{IsWellFormed}
-use Rattle.cfi_verify.specs.Split.{code_words}
-use Rattle.cfi_harden.specs.Chosen.{choice_of}
+use Rattle.cfi_map.specs.LegalMap.{IsLegalMap, gates_of}
+use Rattle.cfi_rules.specs.Laws.{AreBytes}
+use Rattle.cfi_rules.specs.Rules.{IsWellFormed}
+use Rattle.cfi_rules.specs.Split.{code_words}
 use Rattle.cfi_harden.specs.Laws.{written_code}
-use Rattle.cfi_harden.specs.Placing.{IsPlacement, Spaced}
+use Rattle.cfi_map.specs.Placing.{IsPlacementOf, Spaced}
+use Rattle.cfi_map.specs.Source.{first_astray}
 use Rattle.cfi_harden.specs.Prepared.{IsPreparedOf, IsProgram, PreparedParts}
 use Rattle.cfi_harden.specs.Request.{ProgramRequest, Request, program_request}
 use Rattle.cfi_harden.specs.Units.{Choice}
@@ -30,7 +30,7 @@ use Rattle.cfi_harden.specs.Units.{Choice}
 pub record HardenedParts : Type 0 where
   pub image : List ℕ
   pub graph : GraphParts
-  pub map : List MapLine
+  pub map : MapParts
 
 -- the room of initialised data in an image, and where the stack's room begins, before which data end
 abbrev pub INIT_ROOM : ℕ
@@ -45,8 +45,8 @@ pub record HasDataRoom (program : Program) : Type 0 where
   pub end : program.data_end ≤ DATA_ROOM
 
 -- a program at a placement, and its labels
-abbrev pub chosen : PreparedParts → Spaced → List ℕ → Choice
-chosen p s labels = choice_of p.program p.closed s.gates s.long labels p.entry
+abbrev pub chosen : Spaced → List ℕ → Choice
+chosen s labels = record { layout = s.layout; whole = s.whole; labels = labels }
 
 -- labels for all classes: the least that are free, which rise and have 20 bits
 pub record AreGiven (program : Program) (closed : ClosedGraph) (labels : List ℕ) : Type 0 where
@@ -55,30 +55,31 @@ pub record AreGiven (program : Program) (closed : ClosedGraph) (labels : List �
   pub rising : IsStrictlyIncreasing labels
   pub small : All (λ label. label < 2 ^ 20) labels
 
--- what is written of a prepared request at a placement: the image of the units' code and of the data at the map, the graph at the map,
--- and the map, which is legal
-pub record IsWritten (p : PreparedParts) (s : Spaced) (labels code init : List ℕ) (h : HardenedParts) : Type 0 where
+-- what is written in a form of a program at a placement: the image of the units' code and of the data at the map, the graph at the map, and the
+-- map, which is legal
+pub record IsWritten (form : Form) (s : Spaced) (labels code init : List ℕ) (h : HardenedParts) : Type 0 where
   -- the program is sound and fits maps, and its words have 32 bits
-  pub sound : IsSound p.program
-  pub fits_maps : FitsMaps p.program
-  pub words : (k : ℕ) → k < count p.program → (item_of p.program k).word < 2 ^ 32
-  pub labelled : AreGiven p.program p.closed labels
-  pub code_is : code_words code ≡ written_code (chosen p s labels)
-  pub init_is : data_at p.program s.gates ≡ Some init
-  pub bytes : AreBytes (record { code = code; init = init })
-  pub image : h.image ≡ spelling code init
-  pub graph : h.graph ≡ record { code = length code; lines = graph_lines (chosen p s labels).layout labels }
-  pub map : IsLegalMap p.program p.closed h.map
-  pub gates : gates_of h.map ≡ s.gates
+  pub sound : IsSound s.layout.program
+  pub fits_maps : FitsMaps s.layout.program
+  pub words : (k : ℕ) → k < count s.layout.program → (item_of s.layout.program k).word < 2 ^ 32
+  pub labelled : AreGiven s.layout.program s.layout.closed labels
+  pub code_is : code_words code ≡ written_code (chosen s labels)
+  pub init_is : data_at s.layout.program s.layout.gates ≡ Some init
+  pub bytes : AreBytes (record { version = image_version form; code = code; init = init })
+  pub image : h.image ≡ spelling (image_version form) code init
+  pub graph : h.graph ≡ record { code = length code; lines = graph_lines s.layout labels }
+  pub map : IsLegalMap s.layout.program s.layout.closed h.map
+  pub map_form : h.map.form ≡ form
+  pub gates : gates_of h.map.lines ≡ s.layout.gates
   -- image and graph meet the verifier's rules
-  pub well_formed : IsWellFormed version_1 (record { code = code; init = init }) h.graph
+  pub well_formed : IsWellFormed (profile_for form) (record { version = image_version form; code = code; init = init }) h.graph
 
 -- a prepared program is written at some placement that fits
 abbrev pub IsWrittenOf : PreparedParts → HardenedParts → Type 0
 IsWrittenOf p h =
     (s : Spaced) × (labels : List ℕ) × (code : List ℕ) × (init : List ℕ)
-    × IsPlacement p.program p.closed s × HasDataRoom p.program × (out_of_range p.program s.gates s.words ≡ None)
-    × IsWritten p s labels code init h
+    × IsPlacementOf p.form p.program p.closed p.entry s × HasDataRoom p.program × (first_astray s.layout ≡ None)
+    × IsWritten p.form s labels code init h
 
 -- the hardened program of a request: it is placed with as many short branches as can be, its data have room, no value leaves its
 -- range, and it is written

@@ -3,7 +3,7 @@ use Rattle.std.specs.Prelude.{ℕ, List}
 use Rattle.cfi_harden.specs.Accepted.{IsAccepted}
 use Rattle.cfi_harden.specs.Fitting.{IsFitting}
 use Rattle.cfi_harden.specs.Hardened.{HardenedParts, IsWritten, chosen}
-use Rattle.cfi_harden.specs.Placing.{Spaced}
+use Rattle.cfi_map.specs.Placing.{Spaced}
 use Rattle.cfi_harden.specs.Prepared.{IsPreparedOf, PreparedParts}
 use Rattle.cfi_harden.specs.Request.{ProgramRequest}
 
@@ -11,4 +11,4 @@ use Rattle.cfi_harden.specs.Request.{ProgramRequest}
 abbrev pub WrittenIsAccepted : Type 0
 WrittenIsAccepted =
     (request : ProgramRequest) (p : PreparedParts) (s : Spaced) (labels code init : List ℕ) (h : HardenedParts) → IsPreparedOf request p →
-    IsFitting p s → IsWritten p s labels code init h → IsAccepted (chosen p s labels)
+    IsFitting p s → IsWritten p.form s labels code init h → IsAccepted (chosen s labels)

@@ -4,13 +4,13 @@ use Rattle.rv_word.specs.Image.{Contents}
 use Rattle.obj_program.specs.Program.{count, item_of}
 use Rattle.cfi_graph.specs.Graph.{GraphParts, IsGraph}
 use Rattle.cfi_graph.specs.declared.line.GraphLine.{GraphLine}
-use Rattle.cfi_flow.specs.GraphAtMap.{class_lines, gate, graph_lines, word}
-use Rattle.cfi_flow.specs.LabelOf.{tagged}
+use Rattle.cfi_map.specs.GraphAtMap.{class_lines, gate, graph_lines, word}
+use Rattle.cfi_map.specs.LabelOf.{tagged}
 use Rattle.cfi_unit.specs.declared.unit.Unit as U
-use Rattle.cfi_verify.specs.Placed.{placed_code, placed_lines}
-use Rattle.cfi_verify.specs.Rules.{IsWellFormed}
-use Rattle.cfi_verify.specs.Sound.{IsSound}
-use Rattle.cfi_verify.specs.Split.{code_words, entry_of, unit_at}
+use Rattle.cfi_rules.specs.Placed.{placed_code, placed_lines}
+use Rattle.cfi_rules.specs.Rules.{IsWellFormed}
+use Rattle.cfi_rules.specs.Sound.{IsSound}
+use Rattle.cfi_rules.specs.Split.{code_words, entry_of, unit_at}
 use Rattle.cfi_harden.specs.Accepted.{IsAccepted}
 use Rattle.cfi_harden.specs.Units.{Choice, entry_gate, lead, unit_for, units}
 

@@ -7,9 +7,6 @@ pub mod RefusalOf
 pub mod RefusalText
 pub mod Closing
 pub mod Preparing
-pub mod Sizes
-pub mod Shorts
-pub mod Placing
 pub mod Chosen
 pub mod MapLines
 pub mod GraphOf

@@ -2,7 +2,7 @@
 use Rattle.std.specs.Prelude.{ℕ, ◌+◌, List, [], ◌∷◌}
 use Rattle.obj_program.specs.declared.item.Item.{Item}
 use Rattle.cfi_graph.specs.declared.map.MapLine.{MapLine}
-use Rattle.cfi_flow.specs.GraphAtMap.{ProgramAtMap, gate}
+use Rattle.cfi_map.specs.GraphAtMap.{ProgramAtMap, gate}
 
 abbrev pub map_line : ProgramAtMap → ℕ → Item → MapLine
 map_line layout k item = record { gate = gate layout k; section = item.section; offset = item.offset }

@@ -2,6 +2,7 @@
 -- what stands against that: of an object a fault, or one of its instructions and relocations; an entry that is not there; a wrong line
 -- of the policy.
 use Rattle.std.specs.Prelude.{◌≡◌, ℕ, ◌⊎◌, List, Option, Some, None, Result, Ok, Err}
+use Rattle.rv_word.specs.declared.form.Form.{Form}
 use Rattle.text_lines.specs.declared.end.TextEnd.{TextEnd}
 use Rattle.text_lines.specs.declared.end.TextEnd.TheVariants.{Line}
 use Rattle.elf_object.specs.Fault.{fault_of as object_fault}
@@ -20,11 +21,13 @@ pub record IsClosedUnder (program : Program) (policy : Option (List ℕ)) (close
   pub drawn : (raw : RawGraph) × IsRaw program (policy_reading policy).items raw × IsClosed raw closed
 
 pub record PreparedParts : Type 0 where
+  pub form : Form
   pub program : Program
   pub closed : ClosedGraph
   pub entry : ℕ
 
 pub record IsPreparedOf (request : ProgramRequest) (p : PreparedParts) : Type 0 where
+  pub form : p.form ≡ request.form
   pub program : p.program ≡ request.program
   pub entry : entry_place p.program request.entry ≡ Some p.entry
   pub closed : IsClosedUnder p.program request.policy p.closed

@@ -1,11 +1,10 @@
 -- The part of the prologue before its call of the entry.
-use Rattle.std.specs.Prelude.{List, [], ◌∷◌}
+use Rattle.std.specs.Prelude.{List, [], ◌∷◌, ◌++◌}
+use Rattle.rv_word.specs.MemoryMap.{Profile}
 use Rattle.rv_instr.specs.declared.instr.Instr.{Instr}
-use Rattle.rv_instr.specs.declared.instr.Instr.TheVariants.{Upper, Immediate, Ebreak}
-use Rattle.rv_instr.specs.declared.instr.UpperOp.TheVariants.{Lui}
-use Rattle.rv_instr.specs.declared.instr.ImmediateOp.TheVariants.{Addi}
+use Rattle.rv_instr.specs.declared.instr.Instr.TheVariants.{Ebreak}
+use Rattle.cfi_unit.specs.Prologue.{set_up}
 
--- the three handlers; x2 is 2 ^ 28, x3 the first slot of the shadow stack
-abbrev pub before_call : List Instr
-before_call =
-    Ebreak ∷ Ebreak ∷ Ebreak ∷ Upper Lui 2 0x10000 ∷ Upper Lui 3 0x60000 ∷ Immediate Addi 3 3 8 ∷ []
+-- the three handlers, and what sets up both stacks
+abbrev pub before_call : Profile → List Instr
+before_call p = (Ebreak ∷ Ebreak ∷ Ebreak ∷ []) ++ set_up p

@@ -6,13 +6,12 @@ use Rattle.cfi_class.specs.Classes.{IsIn}
 use Rattle.cfi_graph.specs.Graph.{ClassLine, class_in}
 use Rattle.cfi_graph.specs.declared.line.SiteKind.{SiteKind}
 use Rattle.cfi_flow.specs.declared.closed.Site.{Site}
-use Rattle.cfi_flow.specs.Closed.{Side, sorts_of_sides}
-use Rattle.cfi_flow.specs.GraphAtMap.{class_lines}
-use Rattle.cfi_flow.specs.LabelOf.{all_classes, labels_of, site_label, site_number, tagged}
-use Rattle.cfi_flow.specs.Placement.{is_target}
+use Rattle.cfi_flow.specs.Closed.{Side, sorts_of_sides, is_target}
+use Rattle.cfi_map.specs.GraphAtMap.{class_lines}
+use Rattle.cfi_map.specs.LabelOf.{all_classes, labels_of, site_label, site_number, tagged}
 use Rattle.cfi_unit.specs.declared.target_word.TargetWord.{TargetWord}
 use Rattle.cfi_unit.specs.declared.target_word.TargetWord.TheVariants.{First}
-use Rattle.cfi_verify.specs.Lines.{class_with, is_among, read_of, targets_for}
+use Rattle.cfi_rules.specs.Lines.{class_with, is_among, read_of, targets_for}
 use Rattle.cfi_harden.specs.Accepted.{IsSiteOf}
 
 -- how far behind a target stands the word that a check reads

@@ -1,6 +1,6 @@
 -- The units that are written for a program at a map: at each place its unit, behind a word for each side of the closed graph where the
 -- place is a target.
-use Rattle.std.specs.Prelude.{ℕ, ◌+◌, Bool, true, false, Option, Some, None, unwrap_or, if◌then◌else◌, List, [], ◌∷◌, ◌++◌, map}
+use Rattle.std.specs.Prelude.{ℕ, ◌+◌, Bool, true, false, Option, Some, None, if◌then◌else◌, List, [], ◌∷◌, ◌++◌, map}
 use Rattle.rv_instr.specs.declared.instr.BranchOp.{BranchOp}
 use Rattle.rv_instr.specs.declared.instr.BranchOp.TheVariants.{Beq, Bne, Blt, Bge, Bltu, Bgeu}
 use Rattle.rv_instr.specs.declared.instr.ImmediateOp.TheVariants.{Addi}
@@ -9,23 +9,24 @@ use Rattle.rv_instr.specs.declared.instr.Instr.TheVariants as I
 use Rattle.obj_input.specs.declared.item_kind.ItemKind.{ItemKind}
 use Rattle.obj_input.specs.declared.item_kind.ItemKind.TheVariants as is
 use Rattle.obj_program.specs.declared.item.Item.{Item}
-use Rattle.obj_program.specs.AtMap.{instr_at}
-use Rattle.cfi_flow.specs.GraphAtMap.{ProgramAtMap, gate, gate_to, words_at}
-use Rattle.cfi_flow.specs.LabelOf.{labels_of, site_label}
-use Rattle.cfi_flow.specs.Placement.{is_long, is_target}
+use Rattle.cfi_map.specs.GraphAtMap.{ProgramAtMap, gate, gate_to}
+use Rattle.cfi_map.specs.LabelOf.{labels_of, site_label}
+use Rattle.cfi_map.specs.Placement.{whole_at}
+use Rattle.cfi_map.specs.Source.{instr_here}
+use Rattle.cfi_flow.specs.Closed.{is_target}
 use Rattle.cfi_unit.specs.declared.unit.Unit as U
 use Rattle.cfi_unit.specs.declared.unit.Unit.TheVariants as V
 use Rattle.cfi_unit.specs.declared.unit.SystemOp.TheVariants as S
 
--- a program at a map with what is chosen for it: which branches are long, and the labels of all classes
+-- a program at a map with what is chosen for it: which units have their whole size, and the labels of all classes
 pub record Choice : Type 0 where
   pub layout : ProgramAtMap
-  pub long : List Bool
+  pub whole : List Bool
   pub labels : List ℕ
 
 -- the instruction of a place at the map
 abbrev pub instr_of : Choice → ℕ → Instr
-instr_of m k = unwrap_or (instr_at m.layout.program m.layout.gates (words_at m.layout) k) I.Ebreak
+instr_of m k = instr_here m.layout k
 
 -- the condition that holds where another does not
 abbrev pub inverse : BranchOp → BranchOp
@@ -43,23 +44,23 @@ branch_of false op rs1 rs2 target = V.Near op rs1 rs2 target
 
 -- the unit of an instruction of a kind, with its target's gate and its class's label
 abbrev pub unit_of : ItemKind → Instr → Bool → ℕ → ℕ → U.Unit
-unit_of is.Gate (I.Upper op rd imm) long target label = V.Gate imm
-unit_of is.Plain instr long target label = V.Plain instr
-unit_of is.Store (I.Store op rs1 rs2 imm) long target label = V.Store op rs1 rs2 imm
-unit_of is.System I.Ecall long target label = V.System S.Ecall
-unit_of is.System I.Ebreak long target label = V.System S.Ebreak
-unit_of is.Branch (I.Branch op rs1 rs2 imm) long target label = branch_of long op rs1 rs2 target
-unit_of is.Jump instr long target label = V.Jump target
-unit_of is.Call instr long target label = V.Call target
-unit_of is.Return instr long target label = V.Return
-unit_of is.Ijump (I.Jalr rd rs1 imm) long target label = V.Ijump rs1 imm label
-unit_of is.Icall (I.Jalr rd rs1 imm) long target label = V.Icall rs1 imm label
-unit_of kind instr long target label = V.Stop
+unit_of is.Gate (I.Upper op rd imm) whole target label = V.Gate imm
+unit_of is.Plain instr whole target label = V.Plain instr
+unit_of is.Store (I.Store op rs1 rs2 imm) whole target label = V.Store op rs1 rs2 imm
+unit_of is.System I.Ecall whole target label = V.System S.Ecall
+unit_of is.System I.Ebreak whole target label = V.System S.Ebreak
+unit_of is.Branch (I.Branch op rs1 rs2 imm) whole target label = branch_of whole op rs1 rs2 target
+unit_of is.Jump instr whole target label = V.Jump target
+unit_of is.Call instr whole target label = V.Call target
+unit_of is.Return instr whole target label = V.Return
+unit_of is.Ijump (I.Jalr rd rs1 imm) whole target label = V.Ijump rs1 imm label
+unit_of is.Icall (I.Jalr rd rs1 imm) whole target label = V.Icall rs1 imm label
+unit_of kind instr whole target label = V.Stop
 
 -- the unit of a place
 abbrev pub unit_for : Choice → ℕ → Item → U.Unit
 unit_for m k item =
-    unit_of item.kind (instr_of m k) (is_long m.long k) (gate_to m.layout item.target) (site_label m.labels m.layout.closed.sides k)
+    unit_of item.kind (instr_of m k) (whole_at m.whole k) (gate_to m.layout item.target) (site_label m.labels m.layout.closed.sides k)
 
 -- a word before a place's unit: a gate word with the label of the class whose target it is, or what does nothing
 abbrev pub lead_unit : Option ℕ → U.Unit

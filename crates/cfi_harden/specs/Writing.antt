@@ -1,24 +1,24 @@
 -- What a prepared program, a placement and labels have before units are written. Only private contracts cite this.
-use Rattle.std.specs.Prelude.{◌≡◌, ℕ, ◌-◌, ◌*◌, ◌<◌, ◌≤◌, ◌^◌, true, List, Some, is_some, length}
+use Rattle.std.specs.Prelude.{◌≡◌, ℕ, ◌*◌, ◌<◌, ◌≤◌, ◌^◌, true, List, Some, is_some, length}
 use Rattle.elf_image.specs.Spelling.{spelling}
 use Rattle.cfi_graph.specs.Graph.{GraphParts}
-use Rattle.cfi_graph.specs.Map.{IsMap}
-use Rattle.cfi_graph.specs.declared.map.MapLine.{MapLine}
+use Rattle.rv_word.specs.Form.{image_version, profile_for}
+use Rattle.rv_word.specs.declared.form.Form.{Form}
+use Rattle.cfi_graph.specs.Map.{IsMap, MapParts}
 use Rattle.obj_program.specs.DataAtMap.{data_at, init_size}
 use Rattle.obj_program.specs.MapFit.{FitsMaps}
 use Rattle.obj_program.specs.Program.{count, item_of}
 use Rattle.obj_program.specs.Sound.{IsSound}
-use Rattle.cfi_flow.specs.GraphAtMap.{graph_lines}
-use Rattle.cfi_flow.specs.LegalMap.{IsLegalMap}
-use Rattle.cfi_flow.specs.Placement.{words_from}
-use Rattle.cfi_verify.specs.Laws.{AreBytes}
-use Rattle.cfi_verify.specs.Split.{code_words}
+use Rattle.cfi_map.specs.GraphAtMap.{ProgramAtMap, graph_lines}
+use Rattle.cfi_map.specs.LegalMap.{IsLegalMap}
+use Rattle.cfi_rules.specs.Laws.{AreBytes}
+use Rattle.cfi_rules.specs.Split.{code_words}
 use Rattle.cfi_harden.specs.Accepted.{IsAccepted}
 use Rattle.cfi_harden.specs.GraphOf.{IsGraphOf}
 use Rattle.cfi_harden.specs.Hardened.{HardenedParts, INIT_ROOM, IsWritten, chosen}
 use Rattle.cfi_harden.specs.Laws.{written_code}
 use Rattle.cfi_harden.specs.MapLines.{map_lines}
-use Rattle.cfi_harden.specs.Placing.{Spaced}
+use Rattle.cfi_map.specs.Placing.{Spaced}
 use Rattle.cfi_harden.specs.Prepared.{PreparedParts}
 use Rattle.cfi_harden.specs.Units.{Choice}
 
@@ -31,14 +31,13 @@ pub record IsReady (p : PreparedParts) : Type 0 where
   pub entered : p.entry < count p.program
 
 -- what can be written
-pub record IsWritable (p : PreparedParts) (s : Spaced) (labels : List ℕ) : Type 0 where
-  pub accepted : IsAccepted (chosen p s labels)
-  pub fits_maps : FitsMaps p.program
-  pub words : s.words ≡ words_from p.closed.sides 0 s.gates
-  pub fits : IsMap (map_lines (chosen p s labels).layout)
-  pub counted : length s.gates ≡ count p.program
-  pub init_there : is_some (data_at p.program s.gates) ≡ true
-  pub room : init_size p.program ≤ INIT_ROOM
+pub record IsWritable (form : Form) (s : Spaced) (labels : List ℕ) : Type 0 where
+  pub form_is : s.layout.profile ≡ profile_for form
+  pub accepted : IsAccepted (chosen s labels)
+  pub fits_maps : FitsMaps s.layout.program
+  pub fits : IsMap (record { form = form; lines = map_lines s.layout })
+  pub init_there : is_some (data_at s.layout.program s.layout.gates) ≡ true
+  pub room : init_size s.layout.program ≤ INIT_ROOM
 
 -- the bytes of a choice's code, with their graph
 pub record IsCoded (m : Choice) (code : List ℕ) (graph : GraphParts) : Type 0 where
@@ -47,20 +46,20 @@ pub record IsCoded (m : Choice) (code : List ℕ) (graph : GraphParts) : Type 0 
   pub graph_is : graph ≡ record { code = length code; lines = graph_lines m.layout m.labels }
 
 -- the same with its map, which is legal
-pub record IsDescribed (m : Choice) (code : List ℕ) (graph : GraphParts) (map : List MapLine) : Type 0 where
+pub record IsDescribed (form : Form) (m : Choice) (code : List ℕ) (graph : GraphParts) (map : MapParts) : Type 0 where
   pub coded : IsCoded m code graph
-  pub lines : map ≡ map_lines m.layout
+  pub lines : map ≡ record { form = form; lines = map_lines m.layout }
   pub legal : IsLegalMap m.layout.program m.layout.closed map
 
 -- the image of some code with these data, and with some data
-pub record IsWrittenImage (p : PreparedParts) (s : Spaced) (code init image : List ℕ) : Type 0 where
-  pub data_is : data_at p.program s.gates ≡ Some init
-  pub bytes : AreBytes (record { code = code; init = init })
-  pub image_is : image ≡ spelling code init
+pub record IsWrittenImage (form : Form) (layout : ProgramAtMap) (code init image : List ℕ) : Type 0 where
+  pub data_is : data_at layout.program layout.gates ≡ Some init
+  pub bytes : AreBytes (record { version = image_version form; code = code; init = init })
+  pub image_is : image ≡ spelling (image_version form) code init
 
-abbrev pub IsImageWith : PreparedParts → Spaced → List ℕ → List ℕ → Type 0
-IsImageWith p s code image = (init : List ℕ) × IsWrittenImage p s code init image
+abbrev pub IsImageWith : Form → ProgramAtMap → List ℕ → List ℕ → Type 0
+IsImageWith form layout code image = (init : List ℕ) × IsWrittenImage form layout code init image
 
 -- written, with some code and some data
-abbrev pub IsWrittenAs : PreparedParts → Spaced → List ℕ → HardenedParts → Type 0
-IsWrittenAs p s labels h = (code : List ℕ) × (init : List ℕ) × IsWritten p s labels code init h
+abbrev pub IsWrittenAs : Form → Spaced → List ℕ → HardenedParts → Type 0
+IsWrittenAs form s labels h = (code : List ℕ) × (init : List ℕ) × IsWritten form s labels code init h

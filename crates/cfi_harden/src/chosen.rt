@@ -1,89 +1,80 @@
 //! What is chosen for a program before it is written: a map, flags, labels and an entry.
 
-ghost use Rattle.std.specs.Prelude.{◌≡◌, ◌<◌, ◌^◌, IfOk, IfSome, length, slice_index};
-ghost use Rattle.rv_word.specs.MemoryMap.{version_1};
+ghost use Rattle.std.specs.Prelude.{◌≡◌, ◌<◌, ◌^◌, IfOk, IfSome, length};
+ghost use Rattle.rv_word.specs.Form.{profile_for};
 ghost use Rattle.obj_program.specs.Program.{count, item_of};
 ghost use Rattle.cfi_flow.specs.Closed.{first_side};
-ghost use Rattle.cfi_flow.specs.GraphAtMap.{gate, gate_to, word, words_at};
-ghost use Rattle.cfi_flow.specs.LabelOf.{label_at, site_label, tagged};
-ghost use Rattle.cfi_flow.specs.Placement.{is_long};
+ghost use Rattle.cfi_map.specs.GraphAtMap.{gate, gate_to, word};
+ghost use Rattle.cfi_map.specs.LabelOf.{label_at, site_label, tagged};
+ghost use Rattle.cfi_map.specs.Placement.{whole_at};
 ghost use Rattle.cfi_harden.specs.Accepted.{IsAccepted};
-ghost use Rattle.cfi_harden.specs.Chosen.{choice_of, instr_if};
+ghost use Rattle.cfi_harden.specs.Chosen.{instr_if};
+ghost use Rattle.cfi_harden.specs.Hardened.{chosen};
 
 use crate::labels::{label_at, label_or_zero, site_labels};
-use cfi_flow::{Closed, address_at};
+use cfi_flow::Closed;
+use cfi_map::{Mapped, Spacing};
 use obj_input::ItemKind;
-use obj_program::{Item, Items};
+use obj_program::Item;
 use rv_instr::Instr;
-use rv_word::NoMemory;
+use rv_word::{Form, NoMemory};
 use std::alloc::Global;
 use std::marker::Model;
 
-/// A program with its closed graph at a map.
-#[derive(Clone, Copy)]
-pub struct Mapped<'a, 'b> {
-    /// The program.
-    pub items: &'a Items<'b>,
-    /// Its closed graph.
-    pub closed: &'a Closed,
-    /// The gate of each place: the address that pointers to it have.
-    pub gates: &'a [u64],
-    /// The word of each place: the address of its unit.
-    pub words: &'a [u64],
-}
-
-/// A program at a map with what is chosen for it, and of each place the label that its site asks for.
+/// A program at a placement with the labels of its classes, and of each place the label that its site asks for.
 #[derive(Drop)]
-pub struct Chosen<'a, 'b> {
-    mapped: Mapped<'a, 'b>,
-    long: &'a [bool],
-    labels: &'a [u32],
+pub struct Chosen<'c, 'a, 'b> {
+    mapped: &'c Mapped<'a, 'b>,
+    whole: &'c [bool],
+    labels: &'c [u32],
     sites: Vec<u32>,
-    entry: u64,
 }
 
-impl<'a, 'b> Model for Chosen<'a, 'b> {
-    ghost use Rattle.cfi_harden.specs.Chosen.{IsChosen, choice_of};
+impl<'c, 'a, 'b> Model for Chosen<'c, 'a, 'b> {
+    ghost use Rattle.cfi_harden.specs.Chosen.{IsChosen};
     ghost use Rattle.cfi_harden.specs.Units.{Choice};
 
     ghost Value = { Choice };
 
-    ghost view = { λ c. choice_of c.mapped.items.now c.mapped.closed.now c.mapped.gates.now c.long.now c.labels.now c.entry };
+    ghost view = { λ c. record { layout = c.mapped.now; whole = c.whole.now; labels = c.labels.now } };
 
-    ghost invariant = { λ c. IsChosen (choice_of c.mapped.items.now c.mapped.closed.now c.mapped.gates.now c.long.now c.labels.now c.entry) c.mapped.words.now c.sites.items };
+    ghost invariant = { λ c. IsChosen (record { layout = c.mapped.now; whole = c.whole.now; labels = c.labels.now }) c.sites.items };
 }
 
-impl<'a, 'b> Chosen<'a, 'b> {
-    /// The choice of these parts: of each place whether its branch is long (beyond their end each is), the labels of all
-    /// classes in their order, and the place where the program is entered.
+impl<'c, 'a, 'b> Chosen<'c, 'a, 'b> {
+    /// What is chosen at a placement, with the labels of all classes in their order.
     pub fn of(
         alloc: Global,
-        mapped: Mapped<'a, 'b>,
-        long: &'a [bool],
-        labels: &'a [u32],
-        entry: u64,
-    ) -> Result<Chosen<'a, 'b>, NoMemory>
-        requires accepted { IsAccepted (choice_of mapped.items.now mapped.closed.now mapped.gates.now long.now labels.now entry) }
-        requires words { mapped.words.now ≡ words_at (choice_of mapped.items.now mapped.closed.now mapped.gates.now long.now labels.now entry).layout }
-        ensures { IfOk result (λ c. c ≡ choice_of mapped.entry.items.now mapped.entry.closed.now mapped.entry.gates.now long.now labels.now entry) }
+        spacing: &'c Spacing<'a, 'b>,
+        labels: &'c [u32],
+    ) -> Result<Chosen<'c, 'a, 'b>, NoMemory>
+        requires { IsAccepted (chosen spacing.now labels.now) }
+        ensures { IfOk result (λ c. c ≡ chosen spacing.now labels.now) }
     {
-        let sites = site_labels(alloc, mapped.closed, labels)?;
+        let mapped = spacing.mapped();
+        let whole = spacing.whole();
+        let sites = site_labels(alloc, mapped.closed(), labels)?;
         Ok(Chosen {
             mapped,
-            long,
+            whole,
             labels,
             sites,
-            entry,
         })
+    }
+
+    /// The form in which it is written.
+    pub(crate) fn form(&self) -> Form
+        ensures { self.now.layout.profile ≡ profile_for result }
+    {
+        self.mapped.form()
     }
 
     /// How many places the program has.
     pub(crate) fn count(&self) -> u64
         ensures value { result ≡ count self.now.layout.program }
         ensures accepted { IsAccepted self.now }
-        ensures profile { self.now.layout.profile ≡ version_1 }
     {
-        self.mapped.items.count()
+        self.mapped.count()
     }
 
     /// The closed graph.
@@ -91,11 +82,11 @@ impl<'a, 'b> Chosen<'a, 'b> {
         ensures value { result.now ≡ self.now.layout.closed }
         ensures accepted { IsAccepted self.now }
     {
-        self.mapped.closed
+        self.mapped.closed()
     }
 
     /// The labels of all classes, in their order.
-    pub(crate) fn labels(&self) -> &'a [u32]
+    pub(crate) fn labels(&self) -> &'c [u32]
         ensures value { result.now ≡ self.now.labels }
         ensures counted { length result.now ≡ length (tagged self.now.layout.closed.sides) }
     {
@@ -107,7 +98,7 @@ impl<'a, 'b> Chosen<'a, 'b> {
         requires { k < count self.now.layout.program }
         ensures { result ≡ item_of self.now.layout.program k }
     {
-        self.mapped.items.item(k)
+        self.mapped.item(k)
     }
 
     /// The gate of a place.
@@ -115,7 +106,7 @@ impl<'a, 'b> Chosen<'a, 'b> {
         requires { k < count self.now.layout.program }
         ensures { result ≡ gate self.now.layout k }
     {
-        address_at(self.mapped.gates, k)
+        self.mapped.gate(k)
     }
 
     /// The word of a place.
@@ -123,7 +114,7 @@ impl<'a, 'b> Chosen<'a, 'b> {
         requires { k < count self.now.layout.program }
         ensures { result ≡ word self.now.layout k }
     {
-        address_at(self.mapped.words, k)
+        self.mapped.word(k)
     }
 
     /// The gate of the place that a direct transfer at a place goes to; 0 where there is none.
@@ -132,7 +123,7 @@ impl<'a, 'b> Chosen<'a, 'b> {
         requires { k < count self.now.layout.program }
         ensures { result ≡ gate_to self.now.layout (item_of self.now.layout.program k).target }
     {
-        let _count = self.mapped.items.count();
+        let _count = self.mapped.count();
         match self.item(k).target {
             Some(target) => self.gate(target),
             None => 0,
@@ -143,9 +134,9 @@ impl<'a, 'b> Chosen<'a, 'b> {
     pub fn entry_gate(&self) -> u64
         ensures value { result ≡ gate self.now.layout self.now.layout.entry }
         ensures accepted { IsAccepted self.now }
-        ensures profile { self.now.layout.profile ≡ version_1 }
     {
-        address_at(self.mapped.gates, self.entry)
+        let _count = self.mapped.count();
+        self.mapped.gate(self.mapped.entry())
     }
 
     /// The label of the class that has a place, if one has it.
@@ -153,7 +144,7 @@ impl<'a, 'b> Chosen<'a, 'b> {
         ensures value { result ≡ label_at self.now.labels (first_side self.now.layout.closed).classes k }
         ensures small { IfSome result (λ label. label < 2 ^ 20) }
     {
-        label_at(self.mapped.closed, self.labels, k)
+        label_at(self.mapped.closed(), self.labels, k)
     }
 
     /// The label that the site at a place asks for; 0 where no site stands.
@@ -164,11 +155,11 @@ impl<'a, 'b> Chosen<'a, 'b> {
         label_or_zero(&self.sites, k)
     }
 
-    /// Whether the branch at a place is long.
-    pub(crate) fn is_long(&self, k: u64) -> bool
-        ensures { result ≡ is_long self.now.long k }
+    /// Whether the unit of a place has its whole size.
+    pub(crate) fn is_whole(&self, k: u64) -> bool
+        ensures { result ≡ whole_at self.now.whole k }
     {
-        self.long.get(k as usize).copied().unwrap_or(true)
+        self.whole.get(k as usize).copied().unwrap_or(true)
     }
 
     /// The instruction of a place; none at a section's end.
@@ -176,16 +167,10 @@ impl<'a, 'b> Chosen<'a, 'b> {
         requires { k < count self.now.layout.program }
         ensures { result ≡ instr_if self.now k }
     {
-        let mapped = self.mapped;
         if matches!(self.item(k).kind, ItemKind::End) {
             None
         } else {
-            Some(
-                mapped
-                    .items
-                    .instr_at(k, mapped.gates, mapped.words)
-                    .unwrap(),
-            )
+            Some(self.mapped.instr(k))
         }
     }
 }

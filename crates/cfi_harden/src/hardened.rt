@@ -1,26 +1,22 @@
 ghost use Rattle.std.specs.Prelude.{◌≡◌, ◌*◌, ◌<◌, ◌≤◌, ◌^◌, ℕ, true, IfOk, OnOk, Some, is_some, length, slice_index};
+ghost use Rattle.rv_word.specs.Form.{profile_for};
 ghost use Rattle.rv_word.specs.Image.{IsImageSize};
 ghost use Rattle.rv_word.specs.MemoryMap.{CODE_SIZE};
 ghost use Rattle.cfi_graph.specs.Map.{IsMap};
-ghost use Rattle.cfi_flow.specs.GraphAtMap.{graph_lines};
-ghost use Rattle.cfi_flow.specs.Placement.{words_from};
-ghost use Rattle.cfi_verify.specs.Split.{code_words};
+ghost use Rattle.cfi_map.specs.GraphAtMap.{graph_lines};
+ghost use Rattle.cfi_rules.specs.Split.{code_words};
 ghost use Rattle.obj_program.specs.DataAtMap.{data_at, init_size};
-ghost use Rattle.obj_program.specs.Program.{count};
-ghost use Rattle.cfi_harden.specs.Accepted.{IsAccepted};
 ghost use Rattle.cfi_harden.specs.Hardened.{chosen};
 ghost use Rattle.cfi_harden.specs.Laws.{written_code};
 ghost use Rattle.cfi_harden.specs.MapLines.{map_lines};
 ghost use Rattle.cfi_harden.specs.Writing.{IsCoded, IsDescribed, IsImageWith, IsWrittenAs, IsWritable};
 
-use crate::chosen::{Chosen, Mapped};
+use crate::chosen::Chosen;
 use crate::code::code_bytes;
-use crate::prepared::Prepared;
-use crate::spacing::Spacing;
 use cfi_graph::{Graph, Map};
-use elf_image::write_image;
-use obj_program::DataEnd;
-use rv_word::{Bytes, NoMemory};
+use cfi_map::{Mapped, Spacing};
+use elf_image::write_image_as;
+use rv_word::{Bytes, Form, NoMemory};
 use std::alloc::Global;
 use std::marker::Model;
 
@@ -43,16 +39,16 @@ impl Model for Hardened {
     ghost view = { λ h. record { image = h.image; graph = h.graph; map = h.map } };
 }
 
-impl<'a, 'b> Chosen<'a, 'b> {
+impl<'c, 'a, 'b> Chosen<'c, 'a, 'b> {
     /// The bytes of the code.
-    #[tactic(auto, using(crate::proofs::WholeImage::reaches, crate::proofs::WholeImage::all_fit, crate::proofs::WholeImage::code_of_one, crate::proofs::WholeImage::in_room))]
+    #[tactic(auto, using(crate::proofs::WholeImage::reaches, crate::proofs::WholeImage::all_fit, crate::proofs::WholeImage::code_of_form, crate::proofs::WholeImage::in_room))]
     fn code(&self, alloc: Global) -> Result<Vec<u8>, NoMemory>
         ensures words { IfOk result (λ v. code_words v.items ≡ written_code self.now) }
         ensures size { IfOk result (λ v. length v.items ≡ 4 * length (written_code self.now)) }
         ensures room { OnOk result (4 * length (written_code self.now) ≤ CODE_SIZE) }
     {
         let units = self.units(alloc)?;
-        code_bytes(alloc, self.entry_gate(), units.as_slice())
+        code_bytes(alloc, self.form(), self.entry_gate(), units.as_slice())
     }
 
     /// The graph of this code.
@@ -75,63 +71,30 @@ impl<'a, 'b> Chosen<'a, 'b> {
         Ok((code, graph))
     }
 
-    /// The bytes of the code, with their graph, and the map.
-    fn described(&self, alloc: Global) -> Result<(Vec<u8>, Graph, Map), NoMemory>
-        requires { IsMap (map_lines self.now.layout) }
-        ensures { IfOk result (λ d. IsDescribed self.now d.0.items d.1 d.2) }
+    /// The bytes of the code, with their graph, and the map of the form.
+    fn described(&self, alloc: Global, form: Form) -> Result<(Vec<u8>, Graph, Map), NoMemory>
+        requires form { self.now.layout.profile ≡ profile_for form }
+        requires fits { IsMap (record { form = form; lines = map_lines self.now.layout }) }
+        ensures { IfOk result (λ d. IsDescribed form self.now d.0.items d.1 d.2) }
     {
         let (code, graph) = self.coded(alloc)?;
-        let map = self.map(alloc)?;
+        let map = self.map(alloc, form)?;
         Ok((code, graph, map))
     }
 }
 
-/// The initialised data of a prepared program at a placement, where they have a value.
-fn init_at(alloc: Global, prepared: &Prepared, spacing: &Spacing) -> Result<Vec<u8>, NoMemory>
-    requires counted { length spacing.now.gates ≡ count prepared.now.program }
-    requires there { is_some (data_at prepared.now.program spacing.now.gates) ≡ true }
-    ensures value { IfOk result (λ v. data_at prepared.now.program spacing.now.gates ≡ Some v.items) }
-    ensures length { IfOk result (λ v. length v.items ≡ init_size prepared.now.program) }
-{
-    match prepared.items.data_at(alloc, spacing.gates()) {
-        Ok(init) => Ok(init),
-        Err(DataEnd::RelocRange) => unreachable!(),
-        Err(DataEnd::NoMemory) => Err(NoMemory),
-    }
-}
-
-/// A prepared program at a placement with these labels.
-fn chosen_of<'a, 'b>(
-    alloc: Global,
-    prepared: &'a Prepared<'b>,
-    spacing: &'a Spacing,
-    labels: &'a [u32],
-) -> Result<Chosen<'a, 'b>, NoMemory>
-    requires accepted { IsAccepted (chosen prepared.now spacing.now labels.now) }
-    requires words { spacing.now.words ≡ words_from prepared.now.closed.sides 0 spacing.now.gates }
-    ensures { IfOk result (λ c. c ≡ chosen prepared.now spacing.now labels.now) }
-{
-    let mapped = Mapped {
-        items: &prepared.items,
-        closed: &prepared.closed,
-        gates: spacing.gates(),
-        words: spacing.words(),
-    };
-    Chosen::of(alloc, mapped, spacing.long(), labels, prepared.entry)
-}
-
-/// What is written of a prepared program with these labels at a placement, but for its data.
+/// What is written in a form of a program at a placement with these labels, but for its data.
 fn described_of(
     alloc: Global,
-    prepared: &Prepared,
+    form: Form,
     spacing: &Spacing,
     labels: &[u32],
 ) -> Result<(Vec<u8>, Graph, Map), NoMemory>
-    requires { IsWritable prepared.now spacing.now labels.now }
-    ensures { IfOk result (λ d. IsDescribed (chosen prepared.now spacing.now labels.now) d.0.items d.1 d.2) }
+    requires { IsWritable form spacing.now labels.now }
+    ensures { IfOk result (λ d. IsDescribed form (chosen spacing.now labels.now) d.0.items d.1 d.2) }
 {
-    let chosen = chosen_of(alloc, prepared, spacing, labels)?;
-    let described = chosen.described(alloc)?;
+    let chosen = Chosen::of(alloc, spacing, labels)?;
+    let described = chosen.described(alloc, form)?;
     Ok(described)
 }
 
@@ -143,37 +106,33 @@ fn are_small(bytes: &[u8])
     let _len = bytes.len();
 }
 
-/// The image of this code with the data of a prepared program at a placement.
-fn image_of(
-    alloc: Global,
-    prepared: &Prepared,
-    spacing: &Spacing,
-    code: &[u8],
-) -> Result<Bytes, NoMemory>
-    requires counted { length spacing.now.gates ≡ count prepared.now.program }
-    requires there { is_some (data_at prepared.now.program spacing.now.gates) ≡ true }
-    requires size { IsImageSize (length code.now) (init_size prepared.now.program) }
-    ensures { IfOk result (IsImageWith prepared.now spacing.now code.now) }
+/// The image of a form of this code with the data of a program at a map.
+fn image_of(alloc: Global, form: Form, mapped: &Mapped, code: &[u8]) -> Result<Bytes, NoMemory>
+    requires there { is_some (data_at mapped.now.program mapped.now.gates) ≡ true }
+    requires size { IsImageSize (length code.now) (init_size mapped.now.program) }
+    ensures { IfOk result (IsImageWith form mapped.now code.now) }
 {
-    let init = init_at(alloc, prepared, spacing)?;
+    let init = mapped.data(alloc)?;
     let data = init.as_slice();
     are_small(code);
     are_small(data);
-    let image = write_image(alloc, code, data)?;
+    let image = write_image_as(alloc, form.image_version(), code, data)?;
     Ok(Bytes::of(image))
 }
 
-/// Writes a prepared program with these labels at a placement.
+/// Writes a program in a form at a placement with these labels.
 pub(crate) fn written(
     alloc: Global,
-    prepared: &Prepared,
+    form: Form,
     spacing: &Spacing,
     labels: &[u32],
 ) -> Result<Hardened, NoMemory>
-    requires { IsWritable prepared.now spacing.now labels.now }
-    ensures { IfOk result (λ h. IsWrittenAs prepared.now spacing.now labels.now h) }
+    requires { IsWritable form spacing.now labels.now }
+    ensures { IfOk result (λ h. IsWrittenAs form spacing.now labels.now h) }
 {
-    let (code, graph, map) = described_of(alloc, prepared, spacing, labels)?;
-    let image = image_of(alloc, prepared, spacing, code.as_slice())?;
+    let mapped = spacing.mapped();
+    let _count = mapped.count();
+    let (code, graph, map) = described_of(alloc, form, spacing, labels)?;
+    let image = image_of(alloc, form, mapped, code.as_slice())?;
     Ok(Hardened { image, graph, map })
 }

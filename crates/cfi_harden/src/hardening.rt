@@ -1,13 +1,13 @@
 //! The calls that harden a program, to what is written.
 
-ghost use Rattle.std.specs.Prelude.{◌≤◌, IfOk, option_copied};
+ghost use Rattle.std.specs.Prelude.{◌<◌, IfOk, option_copied, sum};
 ghost use Rattle.rv_word.specs.MemoryMap.{CODE_SIZE};
 ghost use Rattle.cfi_harden.specs.GraphOf.{IsGraphOf};
 ghost use Rattle.cfi_harden.specs.Hardened.{AreGiven};
 ghost use Rattle.cfi_harden.specs.Prepared.{IsOfRequest, IsPreparedOf};
 ghost use Rattle.cfi_harden.specs.Refused.{HardensPrepared, HardensProgram};
 ghost use Rattle.cfi_harden.specs.Request.{ProgramRequest};
-ghost use Rattle.cfi_harden.specs.Sizes.{whole_size};
+ghost use Rattle.cfi_map.specs.Sizes.{whole_sizes};
 ghost use Rattle.cfi_harden.specs.Writing.{IsReady};
 
 use crate::hardened::{Hardened, written};
@@ -17,13 +17,13 @@ use crate::refusal::HardenEnd;
 use crate::room::spaced_in_room;
 use crate::word_range::words_fit_in;
 use obj_program::Items;
-use rv_word::NoMemory;
+use rv_word::{Form, NoMemory};
 use std::alloc::Global;
 
 /// The labels of a prepared program's classes.
 fn labels_of(alloc: Global, prepared: &Prepared) -> Result<Vec<u32>, NoMemory>
     requires graph { IsGraphOf prepared.now.program prepared.now.closed }
-    requires room { whole_size prepared.now.program prepared.now.closed ≤ CODE_SIZE }
+    requires room { sum (whole_sizes prepared.now.program prepared.now.closed) < CODE_SIZE }
     ensures { IfOk result (λ v. AreGiven prepared.now.program prepared.now.closed v.items) }
 {
     class_labels(alloc, &prepared.items, &prepared.closed)
@@ -37,7 +37,7 @@ fn placed_and_written(alloc: Global, prepared: &Prepared) -> Result<Hardened, Ha
 {
     let spacing = spaced_in_room(alloc, prepared)?;
     let labels = labels_of(alloc, prepared)?;
-    let hardened = written(alloc, prepared, &spacing, labels.as_slice())?;
+    let hardened = written(alloc, prepared.form, &spacing, labels.as_slice())?;
     Ok(hardened)
 }
 
@@ -52,16 +52,17 @@ pub fn harden_prepared(alloc: Global, prepared: &Prepared) -> Result<Hardened, H
     placed_and_written(alloc, prepared)
 }
 
-/// Hardens a program: its image, its graph and its map, or the first that stands against that. The program is entered at the first
+/// Hardens a program in a form: its image, its graph and its map, or the first that stands against that. The program is entered at the first
 /// symbol with the entry's name. A policy is a text that narrows what computed transfers may go to.
 pub fn harden_program(
     alloc: Global,
+    form: Form,
     items: Items,
     entry: &str,
     policy: Option<&[u8]>,
 ) -> Result<Hardened, HardenEnd>
-    ensures { HardensProgram (record { program = items.entry; entry = entry.now; policy = option_copied policy.entry }) result }
+    ensures { HardensProgram (record { form = form; program = items.entry; entry = entry.now; policy = option_copied policy.entry }) result }
 {
-    let prepared = prepare_program(alloc, items, entry, policy)?;
+    let prepared = prepare_program(alloc, form, items, entry, policy)?;
     harden_prepared(alloc, &prepared)
 }

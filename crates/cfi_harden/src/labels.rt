@@ -3,7 +3,7 @@
 ghost use Rattle.std.specs.Prelude.{◌≡◌, ◌<◌, ◌^◌, ℕ, IfOk, IfSome, length, slice_get, slice_index};
 ghost use Rattle.std.specs.List.{All};
 ghost use Rattle.cfi_flow.specs.Closed.{first_side};
-ghost use Rattle.cfi_flow.specs.LabelOf.{all_classes, label_at, site_label};
+ghost use Rattle.cfi_map.specs.LabelOf.{all_classes, label_at, site_label};
 
 use cfi_flow::Closed;
 use rv_word::NoMemory;

@@ -2,7 +2,7 @@
 //! stands against that is told. Its main call is `harden_program`; `program_of` gives the program of an object.
 #![tactic(auto)]
 
-pub use chosen::{Chosen, Mapped};
+pub use chosen::Chosen;
 pub use code::code_bytes;
 pub use hardened::Hardened;
 pub use hardening::{harden_prepared, harden_program};
@@ -10,7 +10,6 @@ pub use numbering::class_labels;
 pub use prepared::{Prepared, prepare, prepare_program, program_of};
 pub use refusal::{HardenEnd, Refusal};
 pub use room::has_data_room;
-pub use spacing::{Spacing, place_program};
 
 mod chosen;
 mod closing;
@@ -25,8 +24,5 @@ mod places;
 mod prepared;
 mod refusal;
 mod room;
-mod shorts;
-mod sizes;
-mod spacing;
 mod units;
 mod word_range;

@@ -5,8 +5,8 @@ ghost use Rattle.std.specs.List.{All};
 ghost use Rattle.obj_program.specs.Program.{count, item_of};
 ghost use Rattle.cfi_graph.specs.Graph.{IsGraph};
 ghost use Rattle.cfi_flow.specs.Closed.{first_side};
-ghost use Rattle.cfi_flow.specs.GraphAtMap.{class_lines, graph_lines, line_for, place_lines, with_line};
-ghost use Rattle.cfi_flow.specs.LabelOf.{all_classes, tagged};
+ghost use Rattle.cfi_map.specs.GraphAtMap.{class_lines, graph_lines, line_for, place_lines, with_line};
+ghost use Rattle.cfi_map.specs.LabelOf.{all_classes, tagged};
 
 use crate::chosen::Chosen;
 use cfi_graph::{Graph, GraphLine, GraphLines, SiteKind};
@@ -25,7 +25,7 @@ fn push_line(lines: &mut Vec<GraphLine>, line: Option<GraphLine>) -> Result<(), 
     Ok(())
 }
 
-impl<'a, 'b> Chosen<'a, 'b> {
+impl<'c, 'a, 'b> Chosen<'c, 'a, 'b> {
     /// The gates of places.
     fn gates_of(&self, alloc: Global, places: &[u64]) -> Result<Places, NoMemory>
         requires { All (λ t. t < count self.now.layout.program) places.now }

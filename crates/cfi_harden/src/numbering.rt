@@ -1,15 +1,15 @@
 //! Labels for classes and for sites without targets.
 
-ghost use Rattle.std.specs.Prelude.{◌≡◌, ◌^◌, ◌<◌, ◌≤◌, IfOk, length};
+ghost use Rattle.std.specs.Prelude.{◌≡◌, ◌^◌, ◌<◌, IfOk, length, sum};
 ghost use Rattle.std.specs.List.{All};
 ghost use Rattle.std.specs.List.Sorted.{IsStrictlyIncreasing};
 ghost use Rattle.rv_word.specs.MemoryMap.{CODE_SIZE};
 ghost use Rattle.cfi_class.specs.Labels.{AreLabels};
 ghost use Rattle.cfi_flow.specs.Closed.{first_side};
-ghost use Rattle.cfi_flow.specs.LabelOf.{empty_classes, tagged};
+ghost use Rattle.cfi_map.specs.LabelOf.{empty_classes, tagged};
 ghost use Rattle.cfi_flow.specs.Labels.{used_labels};
 ghost use Rattle.cfi_harden.specs.GraphOf.{IsGraphOf};
-ghost use Rattle.cfi_harden.specs.Sizes.{whole_size};
+ghost use Rattle.cfi_map.specs.Sizes.{whole_sizes};
 
 use cfi_class::labels;
 use cfi_flow::{Closed, used_labels};
@@ -35,7 +35,7 @@ fn empty_classes(closed: &Closed) -> u64
 /// program has room with every branch long.
 pub fn class_labels(alloc: Global, items: &Items, closed: &Closed) -> Result<Vec<u32>, NoMemory>
     requires graph { IsGraphOf items.now closed.now }
-    requires room { whole_size items.now closed.now ≤ CODE_SIZE }
+    requires room { sum (whole_sizes items.now closed.now) < CODE_SIZE }
     ensures count { IfOk result (λ v. length v.items ≡ length (tagged closed.now.sides)) }
     ensures least { IfOk result (λ v. AreLabels (used_labels items.now) v.items) }
     ensures rising { IfOk result (λ v. IsStrictlyIncreasing v.items) }

@@ -9,12 +9,15 @@ use cfi_flow::{Closed, entry_place};
 use elf_object::Object;
 use obj_items::items;
 use obj_program::Items;
+use rv_word::Form;
 use std::alloc::Global;
 use std::marker::Model;
 
-/// A program with its closed graph under a policy and the place where it is entered.
+/// A program with its closed graph under a policy and the place where it is entered, and the form in which it is to be
+/// written.
 #[derive(Drop)]
 pub struct Prepared<'a> {
+    pub form: Form,
     pub items: Items<'a>,
     pub closed: Closed,
     pub entry: u64,
@@ -25,7 +28,7 @@ impl<'a> Model for Prepared<'a> {
 
     ghost Value = { PreparedParts };
 
-    ghost view = { λ p. record { program = p.items; closed = p.closed; entry = p.entry } };
+    ghost view = { λ p. record { form = p.form; program = p.items; closed = p.closed; entry = p.entry } };
 }
 
 /// The program of an object, or what is wrong with the object.
@@ -53,18 +56,21 @@ fn entered(
     Ok((entry, closed))
 }
 
-/// A program with its closed graph under a policy, if there is one, entered at the first symbol of a name.
+/// A program with its closed graph under a policy, if there is one, entered at the first symbol of a name, to be written in a
+/// form.
 #[tactic(auto, using(crate::proofs::Preparing::is_prepared, crate::proofs::Preparing::not_entered))]
 pub fn prepare_program<'a>(
     alloc: Global,
+    form: Form,
     items: Items<'a>,
     entry: &str,
     policy: Option<&[u8]>,
 ) -> Result<Prepared<'a>, HardenEnd>
-    ensures { PreparesProgram (record { program = items.entry; entry = entry.now; policy = option_copied policy.entry }) result }
+    ensures { PreparesProgram (record { form = form; program = items.entry; entry = entry.now; policy = option_copied policy.entry }) result }
 {
     let (entry, closed) = entered(alloc, &items, entry, policy)?;
     Ok(Prepared {
+        form,
         items,
         closed,
         entry,
@@ -75,12 +81,13 @@ pub fn prepare_program<'a>(
 #[tactic(auto, using(crate::proofs::Preparing::prepares, crate::proofs::Preparing::not_read))]
 pub fn prepare<'a>(
     alloc: Global,
+    form: Form,
     object: &'a [u8],
     entry: &str,
     policy: Option<&[u8]>,
 ) -> Result<Prepared<'a>, HardenEnd>
-    ensures { Prepares (record { object = object.now; entry = entry.now; policy = option_copied policy.entry }) result }
+    ensures { Prepares (record { form = form; object = object.now; entry = entry.now; policy = option_copied policy.entry }) result }
 {
     let items = program_of(alloc, object)?;
-    prepare_program(alloc, items, entry, policy)
+    prepare_program(alloc, form, items, entry, policy)
 }

@@ -1,12 +1,13 @@
 //! Whether data and code have room.
 
-ghost use Rattle.std.specs.Prelude.{◌↔◌, IsTrue};
+ghost use Rattle.std.specs.Prelude.{◌↔◌, ◌<◌, IsTrue};
+ghost use Rattle.obj_program.specs.Program.{count};
 ghost use Rattle.cfi_harden.specs.Fitting.{FitsOr};
 ghost use Rattle.cfi_harden.specs.Hardened.{HasDataRoom};
 
 use crate::prepared::Prepared;
 use crate::refusal::{HardenEnd, Refusal};
-use crate::spacing::{Spacing, place_program};
+use cfi_map::{Spacing, place_program};
 use obj_program::Items;
 use std::alloc::Global;
 
@@ -25,16 +26,26 @@ pub fn has_data_room(items: &Items) -> bool
 }
 
 /// A placement of a prepared program in which its data have room and no value leaves its range.
-pub(crate) fn spaced_in_room(alloc: Global, prepared: &Prepared) -> Result<Spacing, HardenEnd>
+pub(crate) fn spaced_in_room<'a, 'b>(
+    alloc: Global,
+    prepared: &'a Prepared<'b>,
+) -> Result<Spacing<'a, 'b>, HardenEnd>
+    requires { prepared.now.entry < count prepared.now.program }
     ensures { FitsOr prepared.now result }
 {
     let items = &prepared.items;
-    let spacing = place_program(alloc, items, &prepared.closed)?;
+    let spacing = place_program(
+        alloc,
+        prepared.form,
+        items,
+        &prepared.closed,
+        prepared.entry,
+    )?;
     if !has_data_room(items) {
         let extent = items.data_extent();
         return Err(HardenEnd::Refused(Refusal::DataTooLarge(extent.init, extent.end)));
     }
-    if let Some(place) = items.out_of_range(spacing.gates(), spacing.words()) {
+    if let Some(place) = spacing.mapped().out_of_range() {
         return Err(HardenEnd::Refused(Refusal::RelocRange(place.section, place.offset)));
     }
     Ok(spacing)

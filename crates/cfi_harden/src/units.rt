@@ -3,7 +3,7 @@
 ghost use Rattle.std.specs.Prelude.{◌≡◌, ◌<◌, ◌++◌, ◌∷◌, [], IfOk, OnOk};
 ghost use Rattle.obj_program.specs.Program.{count, item_of};
 ghost use Rattle.cfi_flow.specs.Closed.{first_side};
-ghost use Rattle.cfi_flow.specs.LabelOf.{label_at};
+ghost use Rattle.cfi_map.specs.LabelOf.{label_at};
 ghost use Rattle.cfi_harden.specs.Chosen.{instr_if, with_gate};
 ghost use Rattle.cfi_harden.specs.Units.{inverse, unit_for, unit_of, units};
 
@@ -28,10 +28,10 @@ fn inverse(op: BranchOp) -> BranchOp
     }
 }
 
-/// The unit of an instruction of a kind: a branch that is long or short, the gate of the place that a direct transfer goes
+/// The unit of an instruction of a kind: a branch in its whole size or as one word, the gate of the place that a direct transfer goes
 /// to, the label that a computed one asks for.
-fn unit_of(kind: ItemKind, instr: &Instr, long: bool, target: u64, label: Immediate<20>) -> Unit
-    ensures { result ≡ unit_of kind instr.now long target label }
+fn unit_of(kind: ItemKind, instr: &Instr, whole: bool, target: u64, label: Immediate<20>) -> Unit
+    ensures { result ≡ unit_of kind instr.now whole target label }
 {
     match (kind, *instr) {
         (ItemKind::Gate, Instr::Upper(_, _, own)) => Unit::Gate(own),
@@ -40,7 +40,7 @@ fn unit_of(kind: ItemKind, instr: &Instr, long: bool, target: u64, label: Immedi
         (ItemKind::System, Instr::Ecall) => Unit::System(SystemOp::Ecall),
         (ItemKind::System, Instr::Ebreak) => Unit::System(SystemOp::Ebreak),
         (ItemKind::Branch, Instr::Branch(op, rs1, rs2, _)) => {
-            if long {
+            if whole {
                 Unit::Branch(inverse(op), rs1, rs2, target)
             } else {
                 Unit::Near(op, rs1, rs2, target)
@@ -55,7 +55,7 @@ fn unit_of(kind: ItemKind, instr: &Instr, long: bool, target: u64, label: Immedi
     }
 }
 
-impl<'a, 'b> Chosen<'a, 'b> {
+impl<'c, 'a, 'b> Chosen<'c, 'a, 'b> {
     /// The unit of a place, of which this is the instruction.
     fn unit(&self, k: u64, instr: Option<Instr>) -> Unit
         requires place { k < count self.now.layout.program }
@@ -69,7 +69,7 @@ impl<'a, 'b> Chosen<'a, 'b> {
         unit_of(
             self.item(k).kind,
             &instr,
-            self.is_long(k),
+            self.is_whole(k),
             self.target(k),
             label,
         )

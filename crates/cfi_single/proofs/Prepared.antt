@@ -33,4 +33,5 @@ prepared_unique request p q hp hq =
     let under : IsClosedUnder p.program request.policy q.closed =
     subst (λ (x : Program). IsClosedUnder x request.policy q.closed) (sym program) hq.closed in
     let closed : p.closed ≡ q.closed = closed_under_unique p.program request.policy p.closed q.closed hp.closed under in
-    λ i. record { program = program i; closed = closed i; entry = entry i }
+    let form : p.form ≡ q.form = hp.form ∙ sym hq.form in
+    λ i. record { form = form i; program = program i; closed = closed i; entry = entry i }

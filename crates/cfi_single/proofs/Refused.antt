@@ -6,9 +6,9 @@ use Rattle.least.specs.declared.place.Place.{Place}
 use Rattle.text_lines.specs.declared.end.TextEnd.{TextEnd}
 use Rattle.text_lines.specs.declared.end.TextEnd.TheVariants.{Line}
 use Rattle.obj_program.specs.Program.{Program}
-use Rattle.obj_program.specs.Range.{out_of_range}
 use Rattle.cfi_flow.specs.Entry.{entry_place}
 use Rattle.cfi_flow.specs.Policy.{wrong_line}
+use Rattle.cfi_map.specs.Source.{first_astray}
 use Rattle.cfi_harden.specs.declared.refusal.Refusal.{Refusal}
 use Rattle.cfi_harden.specs.declared.refusal.Refusal.TheVariants as R
 use Rattle.cfi_harden.specs.Fitting.{RefusesPlaced}
@@ -17,7 +17,7 @@ use Rattle.cfi_harden.specs.Prepared.{FailsAt, IsClosedUnder, IsPreparedOf, IsWr
 use Rattle.cfi_harden.specs.Refused.{IsEarly, RefusesProgram}
 use Rattle.cfi_harden.specs.Request.{ProgramRequest, policy_reading}
 use Rattle.cfi_single.specs.OneWay.{HardenedIsNotRefused, RefusedInOneWay}
-use Rattle.cfi_single.proofs.Placed.{gates_unique, words_unique}
+use Rattle.cfi_single.proofs.Placed.{layout_unique, placed_room}
 use Rattle.cfi_single.proofs.Prepared.{prepared_unique}
 
 -- a refusal that stands comes before anything is placed, or stands of what is prepared
@@ -68,13 +68,10 @@ module _ (request : ProgramRequest) (p : PreparedParts) (prepared : IsPreparedOf
 -- and where it is written it is not refused later
 written_fits : (p : PreparedParts) (h : HardenedParts) (r : Refusal) → IsWrittenOf p h → RefusesPlaced p r → ⊥
 written_fits p h (R.CodeTooLarge bytes) (s, labels, code, init, placed, room, fits, written) x =
-    let large = x.1 in let size = x.0 in let small = placed.room in absurd (omega arith)
+    let large = x.1 in let size = x.0 in let small = placed_room p.form p.program p.closed p.entry s placed in absurd (omega arith)
 written_fits p h (R.DataTooLarge init end) (s, labels, code, init', placed, room, fits, written) x = absurd (x.3 room)
 written_fits p h (R.RelocRange section offset) (s, labels, code, init, placed, room, fits, written) (t, placed', room', astray) =
-    let gates = gates_unique p.program p.closed s t placed placed' in
-    let words = words_unique p.program p.closed s t placed placed' in
-    let none : out_of_range p.program t.gates t.words ≡ None =
-    ap (λ (ws : List ℕ). out_of_range p.program t.gates ws) (sym words) ∙ ap (λ (gs : List ℕ). out_of_range p.program gs s.words) (sym gates) ∙ fits in
+    let none : first_astray t.layout ≡ None = ap first_astray (sym (layout_unique p.form p.program p.closed p.entry s t placed placed')) ∙ fits in
     absurd (cc)
 written_fits p h (R.Object fault) written x = absurd x
 written_fits p h (R.Items fault) written x = absurd x
@@ -96,21 +93,17 @@ placed_one p (R.CodeTooLarge bytes) (R.CodeTooLarge more) x y = ap R.CodeTooLarg
 placed_one p (R.CodeTooLarge bytes) (R.DataTooLarge init end) x y =
     let size = x.0 in let large = x.1 in let small = y.0 in absurd (omega arith)
 placed_one p (R.CodeTooLarge bytes) (R.RelocRange section offset) x (s, placed, room, astray) =
-    let size = x.0 in let large = x.1 in let small = placed.room in absurd (omega arith)
+    let size = x.0 in let large = x.1 in let small = placed_room p.form p.program p.closed p.entry s placed in absurd (omega arith)
 placed_one p (R.DataTooLarge init end) (R.CodeTooLarge bytes) x y =
     let size = y.0 in let large = y.1 in let small = x.0 in absurd (omega arith)
 placed_one p (R.DataTooLarge init end) (R.DataTooLarge more last) x y =
     ap (λ (n : ℕ). R.DataTooLarge n end) (x.1 ∙ sym y.1) ∙ ap (R.DataTooLarge more) (x.2 ∙ sym y.2)
 placed_one p (R.DataTooLarge init end) (R.RelocRange section offset) x (s, placed, room, astray) = absurd (x.3 room)
 placed_one p (R.RelocRange section offset) (R.CodeTooLarge bytes) (s, placed, room, astray) y =
-    let size = y.0 in let large = y.1 in let small = placed.room in absurd (omega arith)
+    let size = y.0 in let large = y.1 in let small = placed_room p.form p.program p.closed p.entry s placed in absurd (omega arith)
 placed_one p (R.RelocRange section offset) (R.DataTooLarge init end) (s, placed, room, astray) y = absurd (y.3 room)
 placed_one p (R.RelocRange section offset) (R.RelocRange section' offset') (s, placed, room, astray) (t, placed', room', astray') =
-    let gates = gates_unique p.program p.closed s t placed placed' in
-    let words = words_unique p.program p.closed s t placed placed' in
-    let moved =
-    ap (λ (ws : List ℕ). out_of_range p.program t.gates ws) (sym words) ∙ ap (λ (gs : List ℕ). out_of_range p.program gs s.words) (sym gates) in
-    let same = same_Some _ _ (sym astray ∙ sym moved ∙ astray') in
+    let same = same_Some _ _ (sym astray ∙ ap first_astray (layout_unique p.form p.program p.closed p.entry s t placed placed') ∙ astray') in
     ap (λ (q : Place). R.RelocRange q.section q.offset) same
 placed_one p (R.Object fault) b x y = absurd x
 placed_one p (R.Items fault) b x y = absurd x

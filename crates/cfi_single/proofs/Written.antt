@@ -11,12 +11,12 @@ use Rattle.obj_input.specs.declared.item_kind.ItemKind.TheVariants as is
 use Rattle.obj_program.specs.declared.item.Item.{Item}
 use Rattle.cfi_graph.specs.declared.map.MapLine.{MapLine}
 use Rattle.cfi_class.specs.Labels.{AreLabels, IsLeastFree}
-use Rattle.cfi_flow.specs.GraphAtMap.{ProgramAtMap, gate_to}
-use Rattle.cfi_flow.specs.LabelOf.{site_label}
-use Rattle.cfi_flow.specs.Placement.{is_long}
+use Rattle.cfi_map.specs.GraphAtMap.{ProgramAtMap, gate_to}
+use Rattle.cfi_map.specs.LabelOf.{site_label}
+use Rattle.cfi_map.specs.Placement.{whole_at}
 use Rattle.cfi_unit.specs.declared.unit.Unit as U
-use Rattle.cfi_verify.specs.Split.{code_words}
-use Rattle.cfi_harden.specs.Accepted.{is_branch}
+use Rattle.cfi_rules.specs.Split.{code_words}
+use Rattle.cfi_map.specs.Shorts.{is_branch}
 use Rattle.cfi_harden.specs.Units.{Choice, instr_of, lead, unit_for, unit_of, units_from}
 use Rattle.cfi_single.proofs.Placed.{SameBranches, first_branch, rest_branches}
 
@@ -65,19 +65,19 @@ unit_same kind i a b target label same = refl
 
 -- a program at a map with these labels, under these flags
 abbrev pub under : ProgramAtMap → List ℕ → List Bool → Choice
-under layout labels long = record { layout = layout; long = long; labels = labels }
+under layout labels whole = record { layout = layout; whole = whole; labels = labels }
 
-pub units_same : (layout : ProgramAtMap) (labels : List ℕ) (long more : List Bool) (k : ℕ) (items : List Item) → SameBranches long more k items
-    → units_from (under layout labels long) k items ≡ units_from (under layout labels more) k items
+pub units_same : (layout : ProgramAtMap) (labels : List ℕ) (whole more : List Bool) (k : ℕ) (items : List Item) → SameBranches whole more k items
+    → units_from (under layout labels whole) k items ≡ units_from (under layout labels more) k items
 unfolding units_from
-units_same layout labels long more k [] same = refl
-units_same layout labels long more k (item ∷ items) same =
-    let before = lead (under layout labels long) k in
-    let rest = units_same layout labels long more (k + 1) items (rest_branches long more k item items same) in
-    let one : unit_for (under layout labels long) k item ≡ unit_for (under layout labels more) k item =
-    unit_same item.kind (instr_of (under layout labels long) k) (is_long long k) (is_long more k) (gate_to layout item.target)
-    (site_label labels layout.closed.sides k) (first_branch long more k item items same) in
-    ap (λ (u : U.Unit). before ++ (u ∷ units_from (under layout labels long) (k + 1) items)) one
+units_same layout labels whole more k [] same = refl
+units_same layout labels whole more k (item ∷ items) same =
+    let before = lead (under layout labels whole) k in
+    let rest = units_same layout labels whole more (k + 1) items (rest_branches whole more k item items same) in
+    let one : unit_for (under layout labels whole) k item ≡ unit_for (under layout labels more) k item =
+    unit_same item.kind (instr_of (under layout labels whole) k) (whole_at whole k) (whole_at more k) (gate_to layout item.target)
+    (site_label labels layout.closed.sides k) (first_branch whole more k item items same) in
+    ap (λ (u : U.Unit). before ++ (u ∷ units_from (under layout labels whole) (k + 1) items)) one
     ∙ ap (λ (us : List U.Unit). before ++ (unit_for (under layout labels more) k item ∷ us)) rest
 
 -- bytes of a code

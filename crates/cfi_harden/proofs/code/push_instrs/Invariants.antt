@@ -1,6 +1,6 @@
 use Rattle.std.proofs.Common.{◌≡◌, ◌+◌, ◌*◌, ◌++◌, length, take, map}
 use Rattle.rv_code.specs.Encode.{code_of}
-use Rattle.cfi_verify.specs.Split.{code_words}
+use Rattle.cfi_rules.specs.Split.{code_words}
 use Rattle.cfi_harden.proofs.code.push_instrs.Given as goal
 
 abbrev pub invariant-loop-instr : goal.invariant-loop-instr

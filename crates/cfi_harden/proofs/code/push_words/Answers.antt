@@ -1,5 +1,5 @@
 use Rattle.std.proofs.Common.{length}
-use Rattle.cfi_verify.specs.Split.{code_words}
+use Rattle.cfi_rules.specs.Split.{code_words}
 use Rattle.cfi_harden.proofs.CodeBytes.{all_size, all_words, next_size, next_word}
 use Rattle.cfi_harden.proofs.code.push_words.Goals as goal
 

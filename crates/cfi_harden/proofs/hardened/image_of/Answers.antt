@@ -1,12 +1,13 @@
 use Rattle.std.proofs.Common.{◌∙◌, ◌^◌, ◌<◌, ℕ, List, ap, length, subst, sym}
 use Rattle.std.specs.Prelude.{slice_index}
+use Rattle.rv_word.specs.Form.{image_version}
 use Rattle.rv_word.specs.Image.{IsImageSize}
 use Rattle.elf_image.specs.Spelling.{spelling}
 use Rattle.cfi_harden.proofs.WholeImage.{are_bytes}
 use Rattle.cfi_harden.proofs.hardened.image_of.Goals as goal
 
-pub write_image-requires : goal.write_image-requires
-write_image-requires c =
+pub write_image_as-requires-clause-size : goal.write_image_as-requires-clause-size
+write_image_as-requires-clause-size c =
     subst (IsImageSize (length c.args.code.now)) (sym (ap length c.as_slice-data.ensures.value ∙ c.in_ok-init.ensures.length)) c.requires.size
 
 pub returns : goal.returns
@@ -15,9 +16,10 @@ returns c =
       c.in_ok-init.init.items,
       record {
         data_is = c.in_ok-init.ensures.value;
-        bytes = are_bytes c.args.code.now c.in_ok-init.init.items c.are_small.ensures
+        bytes = are_bytes (image_version c.args.form) c.args.code.now c.in_ok-init.init.items c.are_small.ensures
             (subst (λ (l : List ℕ). (k : ℕ) → slice_index l k < 2 ^ 8) is c.are_small-2.ensures)
             (subst (IsImageSize (length c.args.code.now)) (sym c.in_ok-init.ensures.length) c.requires.size);
-        image_is = c.of.ensures ∙ c.in_ok-image.ensures ∙ ap (spelling c.args.code.now) is;
+        image_is = c.of.ensures ∙ c.in_ok-image.ensures ∙ ap (λ (version : ℕ). spelling version c.args.code.now c.as_slice-data.result.now) c.image_version.ensures.value
+            ∙ ap (spelling (image_version c.args.form) c.args.code.now) is;
       },
     )

@@ -2,7 +2,7 @@ use Rattle.std.proofs.Common.{◌≡◌, ◌-◌, ℕ, subst, ap, ◌∙◌, len
 use Rattle.std.specs.Prelude.{slice_index}
 use Rattle.std.proofs.Math.ListN.{length-replicate}
 use Rattle.cfi_flow.specs.Closed.{first_side}
-use Rattle.cfi_flow.specs.LabelOf.{empty_classes, next_after}
+use Rattle.cfi_map.specs.LabelOf.{empty_classes, next_after}
 use Rattle.cfi_harden.proofs.SiteNumbers.{IsNumbered, after_none, after_some, ended, number_is, one_left, site_there, started, stepped}
 use Rattle.cfi_harden.proofs.labels.site_labels.Goals as goal
 use Rattle.cfi_harden.proofs.labels.site_labels.Goals.{then-is_none, else-is_none}

@@ -2,7 +2,7 @@ use Rattle.std.proofs.Common.{◌≡◌, ◌+◌, length, ap, ◌∙◌, arith}
 use Rattle.std.proofs.lemmas.List.{length-append}
 use Rattle.std.proofs.lemmas.Result.{IfOk-weaker}
 use Rattle.cfi_flow.specs.Closed.{first_side}
-use Rattle.cfi_flow.specs.LabelOf.{empty_classes, tagged}
+use Rattle.cfi_map.specs.LabelOf.{empty_classes, tagged}
 use Rattle.cfi_harden.proofs.Few.{labels_few, one_in}
 use Rattle.cfi_harden.proofs.LineList.{classes_counted}
 use Rattle.cfi_harden.proofs.numbering.class_labels.Goals as goal

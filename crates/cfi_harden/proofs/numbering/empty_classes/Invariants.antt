@@ -1,6 +1,6 @@
 use Rattle.std.proofs.Common.{◌≡◌, ◌≤◌, ◌+◌, drop, length}
 use Rattle.cfi_flow.specs.Closed.{first_side}
-use Rattle.cfi_flow.specs.LabelOf.{empty_classes}
+use Rattle.cfi_map.specs.LabelOf.{empty_classes}
 use Rattle.cfi_harden.proofs.numbering.empty_classes.Given as goal
 
 abbrev pub invariant-loop-k : goal.invariant-loop-k

@@ -1,8 +1,8 @@
 use Rattle.std.proofs.Common.{◌<◌, ◌≤◌, ◌≡◌, ℕ, List, length, ap, subst, sym, ◌∙◌}
 use Rattle.std.specs.Prelude.{slice_index}
 use Rattle.cfi_flow.specs.Closed.{first_side}
-use Rattle.cfi_flow.specs.GraphAtMap.{class_lines}
-use Rattle.cfi_flow.specs.LabelOf.{all_classes}
+use Rattle.cfi_map.specs.GraphAtMap.{class_lines}
+use Rattle.cfi_map.specs.LabelOf.{all_classes}
 use Rattle.cfi_harden.proofs.LineList.{all_class_lines, classes_counted, next_class, one_of, tagged_one}
 use Rattle.cfi_harden.proofs.chosen.Chosen.class_lines.Goals as goal
 

@@ -1,5 +1,5 @@
 use Rattle.cfi_flow.specs.Closed.{first_side}
-use Rattle.cfi_flow.specs.LabelOf.{all_classes}
+use Rattle.cfi_map.specs.LabelOf.{all_classes}
 use Rattle.cfi_harden.proofs.LineList.{AreClassLines}
 use Rattle.cfi_harden.proofs.chosen.Chosen.class_lines.Given as goal
 

@@ -1,5 +1,5 @@
 use Rattle.std.proofs.Common.{◌∙◌, List, ℕ, ap, length}
-use Rattle.cfi_flow.specs.GraphAtMap.{graph_lines}
+use Rattle.cfi_map.specs.GraphAtMap.{graph_lines}
 use Rattle.cfi_harden.proofs.chosen.Chosen.coded.Goals as goal
 
 pub returns : goal.returns

@@ -1,26 +1,39 @@
-use Rattle.std.proofs.Common.{ℕ, ◌<◌, ◌^◌, subst, sym, ◌∙◌}
-use Rattle.cfi_harden.specs.Chosen.{choice_of}
+use Rattle.std.proofs.Common.{◌≡◌, ℕ, ◌<◌, ◌^◌, Bool, List, length, ap, subst, sym, ◌∙◌}
+use Rattle.cfi_flow.specs.Closed.{ClosedGraph, first_side}
+use Rattle.cfi_map.specs.GraphAtMap.{ProgramAtMap}
+use Rattle.cfi_map.specs.LabelOf.{all_classes, site_label}
+use Rattle.cfi_harden.specs.Chosen.{IsChosen}
+use Rattle.cfi_harden.specs.Hardened.{chosen}
 use Rattle.cfi_harden.specs.Units.{Choice}
-use Rattle.cfi_harden.proofs.Gates.{gates_counted, word_found, words_counted}
 use Rattle.cfi_harden.proofs.Leading.{asked_small}
 use Rattle.cfi_harden.proofs.LineList.{classes_counted, one_of}
 use Rattle.cfi_harden.proofs.chosen.Chosen.of.Goals as goal
 
-pub invariant_of-result : goal.invariant_of-result
-invariant_of-result c =
-    let mapped = c.args.mapped in
-    let m : Choice = choice_of c.args.mapped.items.now c.args.mapped.closed.now c.args.mapped.gates.now c.args.long.now c.args.labels.now c.args.entry in
-    record {
-      accepted = c.requires.accepted;
-      gates_counted = gates_counted m c.requires.accepted;
-      words_counted = words_counted m c.args.mapped.words.now c.requires.accepted c.requires.words;
-      words_are = c.requires.words;
-      word_at = word_found m c.args.mapped.words.now c.requires.accepted c.requires.words;
-      sites_are = c.in_ok-sites.ensures;
-      sites_small = λ k. subst (λ (n : ℕ). n < 2 ^ 20) (sym (c.in_ok-sites.ensures k)) (asked_small m c.requires.accepted k);
-    }
+-- what is taken apart is the choice
+choice_is : (layout other : ProgramAtMap) (whole more : List Bool) (labels : List ℕ) → layout ≡ other → whole ≡ more →
+    ◌≡◌ {A = Choice} (record { layout = layout; whole = whole; labels = labels }) (record { layout = other; whole = more; labels = labels })
+choice_is layout other whole more labels one two = λ i. record { layout = one i; whole = two i; labels = labels }
 
 pub site_labels-requires : goal.site_labels-requires
 site_labels-requires c =
-    let m : Choice = choice_of c.args.mapped.items.now c.args.mapped.closed.now c.args.mapped.gates.now c.args.long.now c.args.labels.now c.args.entry in
-    c.requires.accepted.counted ∙ classes_counted m.layout.closed (one_of m c.requires.accepted)
+    let m = chosen c.args.spacing.now c.args.labels.now in
+    c.requires.counted ∙ classes_counted m.layout.closed (one_of m c.requires)
+    ∙ ap (λ (g : ClosedGraph). length (all_classes (first_side g))) (sym (c.closed.ensures ∙ ap (λ (l : ProgramAtMap). l.closed) c.mapped-mapped.ensures))
+
+pub invariant_of-result : goal.invariant_of-result
+invariant_of-result c =
+    let m = chosen c.args.spacing.now c.args.labels.now in
+    let closed = c.closed.ensures ∙ ap (λ (l : ProgramAtMap). l.closed) c.mapped-mapped.ensures in
+    subst (λ (x : Choice). IsChosen x c.in_ok-sites.sites.items)
+    (sym (choice_is c.mapped-mapped.result.now m.layout c.whole-whole.result.now m.whole c.args.labels.now c.mapped-mapped.ensures c.whole-whole.ensures))
+    (record {
+      accepted = c.requires;
+      sites_are = λ k. c.in_ok-sites.ensures k ∙ ap (λ (g : ClosedGraph). site_label c.args.labels.now g.sides k) closed;
+      sites_small = λ k. subst (λ (n : ℕ). n < 2 ^ 20)
+          (sym (c.in_ok-sites.ensures k ∙ ap (λ (g : ClosedGraph). site_label c.args.labels.now g.sides k) closed)) (asked_small m c.requires k);
+    })
+
+pub returns : goal.returns
+returns c =
+    let m = chosen c.args.spacing.now c.args.labels.now in
+    choice_is c.mapped-mapped.result.now m.layout c.whole-whole.result.now m.whole c.args.labels.now c.mapped-mapped.ensures c.whole-whole.ensures

@@ -1,7 +1,7 @@
 use Rattle.std.proofs.Common.{◌<◌, ◌≤◌, ◌++◌, [], Option, arith, ap, ◌∙◌}
 use Rattle.obj_program.specs.Program.{count}
 use Rattle.cfi_graph.specs.declared.line.GraphLine.{GraphLine}
-use Rattle.cfi_flow.specs.GraphAtMap.{place_lines, with_line}
+use Rattle.cfi_map.specs.GraphAtMap.{place_lines, with_line}
 use Rattle.cfi_harden.proofs.LineList.{all_lines, next_lines}
 use Rattle.cfi_harden.proofs.chosen.Chosen.push_place_lines.Goals as goal
 

@@ -1,5 +1,5 @@
 use Rattle.std.proofs.Common.{◌++◌}
-use Rattle.cfi_flow.specs.GraphAtMap.{place_lines}
+use Rattle.cfi_map.specs.GraphAtMap.{place_lines}
 use Rattle.cfi_harden.proofs.LineList.{AreLines}
 use Rattle.cfi_harden.proofs.chosen.Chosen.push_place_lines.Given as goal
 

@@ -1,6 +1,0 @@
-use Rattle.std.proofs.Common.{◌≡◌}
-use Rattle.cfi_harden.specs.Shorts.{shorts_below}
-use Rattle.cfi_harden.proofs.shorts.shorts.Given as goal
-
-abbrev pub invariant-loop-k : goal.invariant-loop-k
-invariant-loop-k l = l.shorts.items ≡ shorts_below l.items l.closed l.k
