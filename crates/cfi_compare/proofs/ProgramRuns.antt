@@ -1,8 +1,8 @@
 -- A program's run that is under way: its first steps, each of which ran, and what comes after them.
 use Rattle.std.proofs.Common.{◌≡◌, Bool, true, false, ℕ, zero, suc, ◌+◌, ◌-◌, ◌<◌, ◌≤◌, refl, sym, ap, ◌∙◌, arith}
-use Rattle.cfi_flow.specs.GraphAtMap.{ProgramAtMap}
-use Rattle.cfi_flow.specs.Source.{Source}
-use Rattle.cfi_flow.specs.SourceStep.{StepTurn, breaks, exits, ran, source_step, untame}
+use Rattle.cfi_map.specs.GraphAtMap.{ProgramAtMap}
+use Rattle.cfi_map.specs.Source.{Source}
+use Rattle.cfi_map.specs.SourceStep.{StepTurn, breaks, exits, ran, source_step, untame}
 use Rattle.obj_program.specs.Program.{Program}
 use Rattle.src_machine.specs.Running.{IsStep, IsUnchanged, SourceParts, counted, source_of}
 use Rattle.src_machine.specs.Told.{told}

@@ -5,8 +5,8 @@ use Rattle.std.specs.Fmt.{decimal}
 use Rattle.std.specs.List.{flat_map}
 use Rattle.text_lines.specs.Hex.{hex_text}
 use Rattle.rv_code.specs.declared.event.Event as calls
-use Rattle.cfi_flow.specs.declared.reason.Reason.{Reason}
-use Rattle.cfi_flow.specs.declared.reason.Reason.TheVariants.{Graph, Return, Window, Deep, End}
+use Rattle.cfi_map.specs.declared.reason.Reason.{Reason}
+use Rattle.cfi_map.specs.declared.reason.Reason.TheVariants.{Graph, Return, Window, Deep, End}
 use Rattle.cfi_compare.specs.declared.item.SideItem.{SideItem}
 use Rattle.cfi_compare.specs.declared.item.SideItem.TheVariants.{Event, Exit, Break, Stop, Running}
 use Rattle.cfi_compare.specs.declared.answer.Compared.{Compared}

@@ -1,15 +1,17 @@
 //! The comparison of two runs, from both to the answer.
 
 ghost use Rattle.std.specs.Prelude.{◌≡◌, ◌≤◌, ◌^◌, [], IfOk, is_some, option_map, replicate, slice_get};
-ghost use Rattle.rv_word.specs.MemoryMap.{version_1};
+ghost use Rattle.rv_word.specs.Image.{image_profile};
+ghost use Rattle.rv_word.specs.Form.{profile_for};
+ghost use Rattle.rv_word.specs.MemoryMap.{profile_of};
 ghost use Rattle.rv_code.specs.Run.{run_alone};
 ghost use Rattle.rv_machine.specs.Parts.{hart_in, shared_in};
 ghost use Rattle.src_machine.specs.Running.{source_of};
-ghost use Rattle.cfi_flow.specs.Source.{source_start};
+ghost use Rattle.cfi_map.specs.Source.{source_start};
 ghost use Rattle.cfi_meaning.specs.Compared.{compared, compared_from, image_end};
 ghost use Rattle.cfi_compare.specs.Followed.{IsAnswered, end_told, item_or, settled, settled_items};
 ghost use Rattle.cfi_compare.specs.Told.{IsOwnState, told_answer, told_item};
-ghost use Rattle.cfi_kept.specs.PlacesKept.{bound, last_words};
+ghost use Rattle.cfi_meaning.specs.PlacesKept.{bound, last_words};
 ghost use Rattle.cfi_runs.specs.WholeRun.{undisturbed};
 
 use crate::answer::Compared;
@@ -17,8 +19,9 @@ use crate::follow::follow;
 use crate::item::{SideItem, image_end, item_at, same_item, source_end};
 use crate::source::finish;
 use rv_code::Events;
-use rv_machine::{Machine, Turn};
-use rv_word::{Image, NoMemory};
+use rv_machine::{Processor, Turn};
+use rv_word::profile::START;
+use rv_word::{Form, Image, NoMemory};
 use src_machine::{SourceRun, SourceTurn};
 use std::alloc::Global;
 
@@ -67,22 +70,29 @@ fn answer_at(
     Ok(settle(index as u64, has_ended, ours, theirs))
 }
 
-/// The answer for a program's run that made these system calls in so many steps, the last of which was not untame, and a
-/// machine at the start of its image.
-fn with_machine(
+/// How many steps an image takes at most for so many of its program's, at a map of a form.
+fn bound(form: Form, steps: u64) -> u64
+    requires { steps ≤ 2 ^ 58 }
+    ensures { result ≡ bound 1 (last_words (profile_for form)) steps }
+{
+    21 * steps + (form.units_from() - START) / 4
+}
+
+/// The answer for a program's run that made these system calls in some steps, the last of which was not untame, and a
+/// processor at the start of its image, which takes so many steps at most.
+fn with_processor(
     alloc: Global,
     events: &Events,
     turn: SourceTurn,
-    steps: u64,
-    machine: &mut Machine,
+    most: u64,
+    processor: &mut Processor,
 ) -> Result<Compared, NoMemory>
-    requires few { steps ≤ 2 ^ 58 }
-    requires none { (shared_in machine.old).events ≡ [] }
+    requires none { (shared_in processor.old).events ≡ [] }
     ensures { IfOk result (λ answer. IsAnswered events.now turn
-        (run_alone version_1 (hart_in machine.old) (shared_in machine.old) (replicate (bound 1 (last_words version_1) steps) [])) answer) }
+        (run_alone (profile_of processor.old.memory.version) (hart_in processor.old) (shared_in processor.old) (replicate most [])) answer) }
 {
-    let (end, index) = follow(machine, events, 21 * steps + 13)?;
-    let answer = answer_at(alloc, index, events, turn, machine.system().events(), end)?;
+    let (end, index) = follow(processor, events, most)?;
+    let answer = answer_at(alloc, index, events, turn, processor.system().events(), end)?;
     Ok(answer)
 }
 
@@ -91,19 +101,19 @@ fn with_image(
     alloc: Global,
     events: &Events,
     turn: SourceTurn,
-    steps: u64,
+    most: u64,
     image: &Image,
     input: &[u8],
 ) -> Result<Compared, NoMemory>
-    requires { steps ≤ 2 ^ 58 }
-    ensures { IfOk result (λ answer. IsAnswered events.now turn (undisturbed version_1 image.now input.now (bound 1 (last_words version_1) steps)) answer) }
+    ensures { IfOk result (λ answer. IsAnswered events.now turn (undisturbed (image_profile image.now) image.now input.now most) answer) }
 {
-    let mut machine = Machine::new(alloc, image, input)?;
-    with_machine(alloc, events, turn, steps, &mut machine)
+    let mut processor = Processor::new(alloc, image, input)?;
+    with_processor(alloc, events, turn, most, &mut processor)
 }
 
 /// Runs a program, from the state in which its run is, until it ends, is untame or has taken `limit` steps, and an image with an
-/// input for 21 steps for each of those and 13 more at most; tells the first item at which they differ.
+/// input, of whose harts one runs alone, for 21 steps for each of those and 13 more at most, or 17 more where the program's map
+/// is of the form for several harts; tells the first item at which they differ.
 pub fn compare(
     alloc: Global,
     source: &mut SourceRun,
@@ -116,11 +126,11 @@ pub fn compare(
 
     // The answer is that of the definition, from the run's own state.
     ensures compared { IfOk result (λ answer. answer
-        ≡ told_answer source.old.layout.program (compared_from version_1 source.old.layout (source_of source.old) image.now input.now limit)) }
+        ≡ told_answer source.old.layout.program (compared_from (image_profile image.now) source.old.layout (source_of source.old) image.now input.now limit)) }
 
     // So it is the comparison of a program and an image where the run is at its start, with the same input.
     ensures from_start { source_of source.old ≡ source_start source.old.layout input.now
-        → IfOk result (λ answer. answer ≡ told_answer source.old.layout.program (compared version_1 source.old.layout image.now input.now limit)) }
+        → IfOk result (λ answer. answer ≡ told_answer source.old.layout.program (compared (image_profile image.now) source.old.layout image.now input.now limit)) }
 
     // The program's run is where its own steps have led it, also where there was no memory.
     ensures own { IsOwnState source.old limit source.new }
@@ -130,8 +140,9 @@ pub fn compare(
             because, section, offset,
         )),
         turn => {
-            let events = source.machine().system().events();
-            let answer = with_image(alloc, events, turn, source.steps(), image, input)?;
+            let most = bound(source.form(), source.steps());
+            let events = source.processor().system().events();
+            let answer = with_image(alloc, events, turn, most, image, input)?;
             Ok(answer)
         }
     }

@@ -1,14 +1,14 @@
 //! The image's run, followed as long as its system calls are those of the program's.
 
 ghost use Rattle.std.specs.Prelude.{◌≡◌, ◌≤◌, ◌^◌, [], false, IfOk, replicate};
-ghost use Rattle.rv_word.specs.MemoryMap.{version_1};
+ghost use Rattle.rv_word.specs.MemoryMap.{profile_of};
 ghost use Rattle.rv_code.specs.Run.{run_alone};
 ghost use Rattle.rv_machine.specs.Parts.{hart_in, shared_in};
 ghost use Rattle.cfi_compare.specs.Followed.{Agree, IsFollowed, agree_at, is_stop};
 
 use crate::item::same_event;
 use rv_code::Events;
-use rv_machine::{Machine, Turn};
+use rv_machine::{Processor, Turn};
 use rv_word::NoMemory;
 
 /// Whether the system calls at an index are there in both lists and the same.
@@ -44,21 +44,21 @@ fn is_stop(turn: Turn) -> bool
 /// Takes steps of the image until it stops, has taken so many or makes a system call that the program does not; tells how the
 /// last step ended and how many system calls are alike.
 pub(crate) fn follow(
-    machine: &mut Machine,
+    processor: &mut Processor,
     events: &Events,
     most: u64,
 ) -> Result<(Turn, usize), NoMemory>
-    requires { (shared_in machine.old).events ≡ [] }
+    requires { (shared_in processor.old).events ≡ [] }
     ensures { IfOk result (λ r. IsFollowed events.now
-        (run_alone version_1 (hart_in machine.old) (shared_in machine.old) (replicate most []))
-        (shared_in machine.new).events r.0 r.1) }
+        (run_alone (profile_of processor.old.memory.version) (hart_in processor.old) (shared_in processor.old) (replicate most []))
+        (shared_in processor.new).events r.0 r.1) }
 {
     let mut steps = 0;
     let mut index = 0;
     while steps < most {
-        let turn = machine.step()?;
+        let turn = processor.step()?;
         steps += 1;
-        let calls = machine.system().events();
+        let calls = processor.system().events();
         index = alike(events, calls, index);
         if index < calls.len() || is_stop(turn) {
             return Ok((turn, index));

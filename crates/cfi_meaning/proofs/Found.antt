@@ -1,5 +1,5 @@
 -- The place that a computed transfer goes to has its destination as gate, and the site may go there.
-use Rattle.std.proofs.Common.{◌≡◌, ℕ, ◌==◌, inl, inr, true, false, List, length, Option, Some, None, refl, sym, ap, subst, ◌∙◌}
+use Rattle.std.proofs.Common.{◌≡◌, ℕ, ◌==◌, inl, inr, true, false, List, length, Some, None, sym, ap, subst, ◌∙◌}
 use Rattle.std.specs.Prelude.{nat_lt, slice_index}
 use Rattle.std.specs.List.{position_or_len}
 use Rattle.std.specs.Option.{is_none}
@@ -9,8 +9,9 @@ use Rattle.std.proofs.lemmas.Option.{option_and_then_some, same_Some}
 use Rattle.rv_word.proofs.Cases.{cases_Option, chosen}
 use Rattle.rv_instr.specs.Registers.{Registers}
 use Rattle.rv_instr.specs.declared.instr.Instr.{Instr}
-use Rattle.cfi_flow.specs.GraphAtMap.{ProgramAtMap, gate}
-use Rattle.cfi_flow.specs.Untame.{computed, computed_place, if_reached, place_with_gate, class_reaches}
+use Rattle.cfi_map.specs.GraphAtMap.{ProgramAtMap, gate}
+use Rattle.cfi_map.specs.Untame.{computed, computed_place, if_reached, place_with_gate}
+use Rattle.cfi_flow.specs.Closed.{class_reaches}
 
 pub record IsFound (g : ProgramAtMap) (k v t : ℕ) : Type 0 where
   pub gate_is : gate g t ≡ v

@@ -1,14 +1,16 @@
 -- A hardened program of a request is an image of an accepted choice, at the gates of its map.
-use Rattle.std.proofs.Common.{◌≡◌, ℕ, List, [], Option, sym, ap, subst, unwrap_or}
+use Rattle.std.proofs.Common.{◌≡◌, ℕ, List, [], Option, refl, sym, ap, subst, ◌∙◌, unwrap_or}
 use Rattle.rv_word.specs.Image.{Contents}
-use Rattle.rv_word.specs.MemoryMap.{version_1}
-use Rattle.cfi_flow.specs.GraphAtMap.{ProgramAtMap}
-use Rattle.cfi_flow.specs.Source.{init_here}
+use Rattle.rv_word.specs.Form.{image_version}
+use Rattle.rv_word.specs.declared.form.Form.{Form}
+use Rattle.cfi_map.specs.GraphAtMap.{ProgramAtMap, program_at}
+use Rattle.cfi_map.specs.LegalMap.{IsLegalMap}
+use Rattle.cfi_map.specs.Source.{init_here}
 use Rattle.cfi_harden.specs.Hardened.{HardenedParts, IsHardenedOf, chosen}
 use Rattle.cfi_harden.specs.Request.{ProgramRequest}
 use Rattle.cfi_harden.specs.Units.{Choice}
 use Rattle.cfi_harden.proofs.Ready.{written_accepted}
-use Rattle.cfi_kept.specs.ImageOf.{IsImageOf}
+use Rattle.cfi_meaning.specs.ImageOf.{IsImageOf}
 use Rattle.cfi_meaning.specs.Hardened.{HardenedKeepsMeaning, HardenedNeverDiffers, HoldsAtMap}
 use Rattle.cfi_meaning.specs.Meaning.{KeepsMeaning}
 use Rattle.cfi_meaning.specs.NeverDiffers.{NoRunDiffers}
@@ -20,16 +22,19 @@ module _ (Holds : ProgramAtMap → Contents → Type 0)
     (each : (m : Choice) (image : Contents) → IsImageOf m image → image.init ≡ init_here m.layout → Holds m.layout image) where
   pub at_map : (request : ProgramRequest) (h : HardenedParts) → IsHardenedOf request h → HoldsAtMap Holds request h
   at_map request h (p, prepared, (s, labels, code, init, placed, room, in_range, written)) =
-      let m = chosen p s labels in
-      let image : Contents = record { code = code; init = init } in
+      let m = chosen s labels in
+      let image : Contents = record { version = image_version p.form; code = code; init = init } in
       let accepted = written_accepted request p s labels code init h prepared (record { placed = placed; room = room; in_range = in_range }) written in
       record {
         p = p;
         contents = image;
         prepared = prepared;
-        map = written.map;
+        map = subst (λ (l : ProgramAtMap). IsLegalMap l.program l.closed h.map) placed.of written.map;
+        version = ap image_version prepared.form;
+        map_form = written.map_form ∙ prepared.form;
         image = written.image;
-        holds = subst (λ (gates : List ℕ). Holds (record { profile = version_1; program = p.program; closed = p.closed; gates = gates; entry = p.entry }) image) (sym written.gates)
+        holds = subst (λ (l : ProgramAtMap). Holds l image)
+            (placed.of ∙ ap (λ (gates : List ℕ). program_at p.form p.program p.closed gates p.entry) (sym written.gates))
             (each m image (record { accepted = accepted; bytes = written.bytes; code = written.code_is })
             (sym (ap (λ (o : Option (List ℕ)). unwrap_or o []) written.init_is)));
       }

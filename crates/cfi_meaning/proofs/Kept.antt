@@ -11,14 +11,14 @@ use Rattle.cfi_runs.specs.Own.{Own, OwnAfter, own_start}
 use Rattle.cfi_runs.specs.OwnRuns.{SitesFit}
 use Rattle.cfi_runs.specs.WholeRun.{RunsTo, own_shared, undisturbed}
 use Rattle.cfi_harden.specs.Units.{Choice, entry_gate}
-use Rattle.cfi_kept.specs.ImageOf.{IsImageOf}
-use Rattle.cfi_kept.specs.PlaceSteps.{PlacesRun, TamePlace, place_step}
-use Rattle.cfi_kept.specs.PlacesKept.{KeepsPlaces, bound, last_words}
-use Rattle.cfi_kept.proofs.Kept.{places_kept}
+use Rattle.cfi_meaning.specs.ImageOf.{IsImageOf}
+use Rattle.cfi_meaning.specs.PlaceSteps.{PlacesRun, TamePlace, place_step}
+use Rattle.cfi_meaning.specs.PlacesKept.{KeepsPlaces, bound, last_words}
+use Rattle.cfi_meaning.proofs.PlacesKept.{places_kept}
 use Rattle.cfi_meaning.specs.Matches.{Matches, address_of, own_of}
 use Rattle.cfi_meaning.specs.Meaning.{Answers, EndsAs, MeaningKept}
-use Rattle.cfi_flow.specs.Source.{Source, init_here, source_start}
-use Rattle.cfi_flow.specs.SourceStep.{SourceAfter, StepTurn, after_steps, breaks, closes, exits, going_on, ran, source_step, untame}
+use Rattle.cfi_map.specs.Source.{Source, init_here, source_start}
+use Rattle.cfi_map.specs.SourceStep.{SourceAfter, StepTurn, after_steps, breaks, closes, exits, going_on, ran, source_step, untame}
 use Rattle.cfi_meaning.proofs.KindActs.{IsOwn}
 use Rattle.cfi_meaning.proofs.Matching.{fitting, from_own}
 use Rattle.cfi_meaning.proofs.StepKept.{answers, sites_after, step_kept}

@@ -16,14 +16,14 @@ use Rattle.obj_input.specs.declared.item_kind.ItemKind.{ItemKind}
 use Rattle.obj_input.specs.declared.item_kind.ItemKind.TheVariants as is
 use Rattle.obj_program.specs.Sound.{is_direct}
 use Rattle.obj_program.specs.Suits.{suits}
-use Rattle.cfi_flow.specs.GraphAtMap.{ProgramAtMap, gate, gate_to, word}
+use Rattle.cfi_map.specs.GraphAtMap.{ProgramAtMap, gate, gate_to, word}
 use Rattle.cfi_runs.specs.Own.{Own, OwnAfter, goes, calls, returns}
-use Rattle.cfi_kept.specs.KindStep.{kind_step}
+use Rattle.cfi_meaning.specs.KindStep.{kind_step}
 use Rattle.cfi_meaning.specs.Matches.{own_of, sites_of}
-use Rattle.cfi_flow.specs.Source.{Source}
-use Rattle.cfi_flow.specs.SourceStep.{SourceAfter, StepTurn, acts, breaks, exits, goes_to, if_taken, leaves, place_after, ran, returns_from, turn_at, untame}
-use Rattle.cfi_flow.specs.SourceStep as source
-use Rattle.cfi_flow.specs.Untame.{computed}
+use Rattle.cfi_map.specs.Source.{Source}
+use Rattle.cfi_map.specs.SourceStep.{SourceAfter, StepTurn, acts, breaks, exits, goes_to, if_taken, leaves, place_after, ran, returns_from, turn_at, untame}
+use Rattle.cfi_map.specs.SourceStep as source
+use Rattle.cfi_map.specs.Untame.{computed}
 use Rattle.cfi_meaning.proofs.Found.{place_found, some_found}
 use Rattle.cfi_meaning.proofs.KindTame.{NoReason}
 

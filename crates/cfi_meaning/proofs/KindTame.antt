@@ -11,7 +11,7 @@ use Rattle.obj_input.specs.declared.item_kind.ItemKind.{ItemKind}
 use Rattle.obj_input.specs.declared.item_kind.ItemKind.TheVariants as is
 use Rattle.obj_program.specs.Program.{is_end}
 use Rattle.obj_program.specs.Suits.{suits}
-use Rattle.cfi_flow.specs.GraphAtMap.{ProgramAtMap, gate}
+use Rattle.cfi_map.specs.GraphAtMap.{ProgramAtMap, gate}
 use Rattle.cfi_unit.specs.declared.unit.Unit.TheVariants as V
 use Rattle.cfi_unit.specs.Leads.{HasLabel}
 use Rattle.cfi_unit.specs.Shadow.{MOST_PENDING}
@@ -19,9 +19,10 @@ use Rattle.cfi_runs.specs.Own as own
 use Rattle.cfi_runs.specs.Tame.{IsTame}
 use Rattle.cfi_harden.specs.Units.{unit_of}
 use Rattle.cfi_meaning.specs.Matches.{sites_of}
-use Rattle.cfi_flow.specs.declared.reason.Reason.TheVariants as why
-use Rattle.cfi_flow.specs.Source.{Source}
-use Rattle.cfi_flow.specs.Untame.{MOST_CALLS, class_reaches, is_off_graph, is_off_window, is_too_deep, is_wrong_return, return_address}
+use Rattle.cfi_map.specs.declared.reason.Reason.TheVariants as why
+use Rattle.cfi_map.specs.Source.{Source}
+use Rattle.cfi_map.specs.Untame.{MOST_CALLS, is_off_graph, is_off_window, is_too_deep, is_wrong_return, return_address}
+use Rattle.cfi_flow.specs.Closed.{class_reaches}
 use Rattle.cfi_meaning.proofs.Found.{place_found, some_found}
 
 -- no reason stands
@@ -60,18 +61,18 @@ module _ (image : Contents) (g : ProgramAtMap) (k label : ℕ) (st : Source) (be
       let found = place_found g k (I.Jalr rd rs1 imm) st.regs t some in
       subst (HasLabel (loaded image) label) found.gate_is (bears t found.reaches)
 
-  pub tame_of_kind : (kind : ItemKind) (i : Instr) (long : Bool) (target : ℕ) → suits kind i ≡ true → NoReason g k kind i st →
-      IsTame (loaded image) (unit_of kind i long target label) (sites_of g st.pending) st.regs
-  tame_of_kind is.Gate (I.Upper op rd imm) long target suit no_reason = tt
-  tame_of_kind is.Plain i long target suit no_reason = leb-true _ _ (not-false _ no_reason.window)
-  tame_of_kind is.Store (I.Store op rs1 rs2 imm) long target suit no_reason = leb-true _ _ (not-false _ no_reason.window)
-  tame_of_kind is.System I.Ecall long target suit no_reason = tt
-  tame_of_kind is.System I.Ebreak long target suit no_reason = tt
+  pub tame_of_kind : (kind : ItemKind) (i : Instr) (whole : Bool) (target : ℕ) → suits kind i ≡ true → NoReason g k kind i st →
+      IsTame (loaded image) (unit_of kind i whole target label) (sites_of g st.pending) st.regs
+  tame_of_kind is.Gate (I.Upper op rd imm) whole target suit no_reason = tt
+  tame_of_kind is.Plain i whole target suit no_reason = leb-true _ _ (not-false _ no_reason.window)
+  tame_of_kind is.Store (I.Store op rs1 rs2 imm) whole target suit no_reason = leb-true _ _ (not-false _ no_reason.window)
+  tame_of_kind is.System I.Ecall whole target suit no_reason = tt
+  tame_of_kind is.System I.Ebreak whole target suit no_reason = tt
   tame_of_kind is.Branch (I.Branch op rs1 rs2 imm) true target suit no_reason = tt
   tame_of_kind is.Branch (I.Branch op rs1 rs2 imm) false target suit no_reason = tt
-  tame_of_kind is.Jump i long target suit no_reason = tt
-  tame_of_kind is.Call i long target suit no_reason = room no_reason.deep
-  tame_of_kind is.Return i long target suit no_reason = returns_tame st.pending (not-false _ no_reason.return)
-  tame_of_kind is.Ijump (I.Jalr rd rs1 imm) long target suit no_reason = goes_to_gate rd rs1 imm no_reason.graph
-  tame_of_kind is.Icall (I.Jalr rd rs1 imm) long target suit no_reason = (goes_to_gate rd rs1 imm no_reason.graph, room no_reason.deep)
-  tame_of_kind kind i long target suit no_reason = let some = no_reason.no_end in absurd (cc)
+  tame_of_kind is.Jump i whole target suit no_reason = tt
+  tame_of_kind is.Call i whole target suit no_reason = room no_reason.deep
+  tame_of_kind is.Return i whole target suit no_reason = returns_tame st.pending (not-false _ no_reason.return)
+  tame_of_kind is.Ijump (I.Jalr rd rs1 imm) whole target suit no_reason = goes_to_gate rd rs1 imm no_reason.graph
+  tame_of_kind is.Icall (I.Jalr rd rs1 imm) whole target suit no_reason = (goes_to_gate rd rs1 imm no_reason.graph, room no_reason.deep)
+  tame_of_kind kind i whole target suit no_reason = let some = no_reason.no_end in absurd (cc)

@@ -1,3 +1,9 @@
+pub mod Prologue
+pub mod Names
+pub mod Places
+pub mod Targets
+pub mod PlacesKept
+pub mod KindStep
 pub mod Found
 pub mod KindTame
 pub mod KindActs

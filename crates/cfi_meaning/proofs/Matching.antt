@@ -9,8 +9,8 @@ use Rattle.rv_word.specs.Memory.{loaded}
 use Rattle.rv_word.proofs.Versions.{laid_out}
 use Rattle.rv_code.specs.State.{After}
 use Rattle.obj_program.specs.Program.{count}
-use Rattle.cfi_flow.specs.GraphAtMap.{ProgramAtMap, gate}
-use Rattle.cfi_flow.specs.Source.{Source}
+use Rattle.cfi_map.specs.GraphAtMap.{ProgramAtMap, gate}
+use Rattle.cfi_map.specs.Source.{Source}
 use Rattle.cfi_unit.specs.Shadow.{MOST_PENDING}
 use Rattle.cfi_runs.specs.MatchLaws.{ComesTo}
 use Rattle.cfi_runs.specs.OwnRuns.{SitesFit}

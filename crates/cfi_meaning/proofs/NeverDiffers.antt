@@ -12,16 +12,16 @@ use Rattle.rv_code.specs.declared.event.Event.{Event}
 use Rattle.rv_code.specs.declared.turn.Turn.{Turn}
 use Rattle.rv_code.specs.declared.turn.Turn.TheVariants.{Ran, Exit, Break}
 use Rattle.rv_code.proofs.Continued.{events_added, run_in_parts}
-use Rattle.cfi_flow.specs.GraphAtMap.{ProgramAtMap, word}
+use Rattle.cfi_map.specs.GraphAtMap.{ProgramAtMap, word}
 use Rattle.cfi_unit.specs.Prologue.{OPENING}
 use Rattle.cfi_runs.specs.WholeRun.{undisturbed}
 use Rattle.cfi_harden.specs.Units.{Choice}
-use Rattle.cfi_kept.specs.PlacesKept.{bound, last_words}
+use Rattle.cfi_meaning.specs.PlacesKept.{bound, last_words}
 use Rattle.cfi_meaning.specs.Compared.{Compared, Difference, SourceRun, TraceItem, broke, called, compared_from, differs, exited, first_difference, has_ended, image_end, run_from, running, same_bytes, same_event, same_item, source_end, source_run, stopped, trace, verdict}
 use Rattle.cfi_meaning.specs.Meaning.{EndsAs, KeepsMeaning}
 use Rattle.cfi_meaning.specs.NeverDiffers as law
-use Rattle.cfi_flow.specs.Source.{Source, source_start}
-use Rattle.cfi_flow.specs.SourceStep.{SourceAfter, StepTurn, after_steps, breaks, exits, ran, source_step, untame}
+use Rattle.cfi_map.specs.Source.{Source, source_start}
+use Rattle.cfi_map.specs.SourceStep.{SourceAfter, StepTurn, after_steps, breaks, exits, ran, source_step, untame}
 use Rattle.cfi_meaning.proofs.Kept.{meaning_kept}
 
 self : (n : ℕ) → (n == n) ≡ true

@@ -28,12 +28,12 @@ use Rattle.cfi_runs.proofs.Matched.{unit_keeps_match}
 use Rattle.cfi_runs.proofs.Paths.{path_keeps_match, sites_fit, unit_within}
 use Rattle.cfi_runs.proofs.WholeRun.{path_fit}
 use Rattle.cfi_harden.specs.Units.{Choice, entry_gate}
-use Rattle.cfi_kept.specs.ImageOf.{IsImageOf, unit_here}
-use Rattle.cfi_kept.specs.PlaceSteps.{TamePlace, at_word, place_step}
-use Rattle.cfi_kept.proofs.Places.{place_runs}
-use Rattle.cfi_kept.proofs.Prologue.{written_prologue}
-use Rattle.cfi_flow.specs.Source.{Source}
-use Rattle.cfi_flow.specs.SourceStep.{SourceAfter, StepTurn, breaks, exits, ran, source_step, untame}
+use Rattle.cfi_meaning.specs.ImageOf.{IsImageOf, unit_here}
+use Rattle.cfi_meaning.specs.PlaceSteps.{TamePlace, at_word, place_step}
+use Rattle.cfi_meaning.proofs.Places.{place_runs}
+use Rattle.cfi_meaning.proofs.Prologue.{written_prologue}
+use Rattle.cfi_map.specs.Source.{Source}
+use Rattle.cfi_map.specs.SourceStep.{SourceAfter, StepTurn, breaks, exits, ran, source_step, untame}
 use Rattle.cfi_meaning.specs.Matches.{Matches, address_of, own_of}
 use Rattle.cfi_meaning.specs.Meaning as law
 use Rattle.cfi_meaning.specs.Meaning.{Answers}

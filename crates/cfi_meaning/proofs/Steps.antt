@@ -12,21 +12,21 @@ use Rattle.obj_program.specs.Program.{count, is_end, item_of, no_item}
 use Rattle.obj_program.specs.Sound.{is_direct}
 use Rattle.obj_program.specs.Suits.{suits}
 use Rattle.obj_program.proofs.Kept.{kept}
-use Rattle.cfi_flow.specs.GraphAtMap.{ProgramAtMap, gate, gate_to, word, words_at}
-use Rattle.cfi_flow.specs.LabelOf.{site_label}
-use Rattle.cfi_flow.specs.Placement.{is_long}
+use Rattle.cfi_map.specs.GraphAtMap.{ProgramAtMap, gate, gate_to, word, words_at}
+use Rattle.cfi_map.specs.LabelOf.{site_label}
+use Rattle.cfi_map.specs.Placement.{whole_at}
 use Rattle.cfi_harden.specs.Units.{Choice, instr_of}
 use Rattle.cfi_harden.proofs.Leading.{direct}
 use Rattle.cfi_harden.proofs.Standing.{gate_lies, instr_is, word_is}
-use Rattle.cfi_kept.specs.ImageOf.{IsImageOf, IsPlace}
-use Rattle.cfi_kept.specs.PlaceSteps.{TamePlace, place_step}
-use Rattle.cfi_kept.proofs.KindStep.{step_of_kind}
-use Rattle.cfi_kept.proofs.Targets.{target_bears}
+use Rattle.cfi_meaning.specs.ImageOf.{IsImageOf, IsPlace}
+use Rattle.cfi_meaning.specs.PlaceSteps.{TamePlace, place_step}
+use Rattle.cfi_meaning.proofs.KindStep.{step_of_kind}
+use Rattle.cfi_meaning.proofs.Targets.{target_bears}
 use Rattle.cfi_meaning.specs.Matches.{own_of}
-use Rattle.cfi_flow.specs.declared.reason.Reason.{Reason}
-use Rattle.cfi_flow.specs.Source.{Source, instr_here}
-use Rattle.cfi_flow.specs.SourceStep.{SourceAfter, acts, closes, exits, source_step, step_at, unless, unless_ended, untame}
-use Rattle.cfi_flow.specs.Untame.{is_off_graph, is_off_window, is_too_deep, is_wrong_return, reason}
+use Rattle.cfi_map.specs.declared.reason.Reason.{Reason}
+use Rattle.cfi_map.specs.Source.{Source, instr_here}
+use Rattle.cfi_map.specs.SourceStep.{SourceAfter, acts, closes, exits, source_step, step_at, unless, unless_ended, untame}
+use Rattle.cfi_map.specs.Untame.{is_off_graph, is_off_window, is_too_deep, is_wrong_return, reason}
 use Rattle.cfi_meaning.proofs.KindActs.{IsOwn, own_acts}
 use Rattle.cfi_meaning.proofs.KindTame.{NoReason, all_false, sites_counted, tame_of_kind}
 
@@ -76,7 +76,7 @@ module _ (m : Choice) (image : Contents) (of : IsImageOf m image) (k : ℕ) wher
         at = refl;
         some = let counted = sites_counted g pending in omega arith;
         tame = tame_of_kind image g k (site_label m.labels m.layout.closed.sides k) here (λ t' reaches. target_bears m image k t' of reaches)
-            item.kind (instr_of m k) (is_long m.long k) (gate_to g item.target) suit no_reason;
+            item.kind (instr_of m k) (whole_at m.whole k) (gate_to g item.target) suit no_reason;
       }
 
       past : g.profile.units_from ≤ word g k

@@ -1,3 +1,8 @@
+pub mod ImageOf
+pub mod PlaceSteps
+pub mod PlaceLaws
+pub mod PlacesKept
+pub mod KindStep
 pub mod Matches
 pub mod Meaning
 pub mod Compared

@@ -8,8 +8,8 @@ use Rattle.rv_word.specs.Memory.{loaded}
 use Rattle.rv_instr.specs.Reserved.{is_reserved}
 use Rattle.rv_code.specs.State.{After, last_exit}
 use Rattle.rv_code.specs.declared.turn.Turn.TheVariants.{Ran}
-use Rattle.cfi_flow.specs.GraphAtMap.{ProgramAtMap, gate}
-use Rattle.cfi_flow.specs.Source.{Source}
+use Rattle.cfi_map.specs.GraphAtMap.{ProgramAtMap, gate}
+use Rattle.cfi_map.specs.Source.{Source}
 use Rattle.cfi_unit.specs.Shadow.{Holds, MOST_PENDING, slot}
 use Rattle.cfi_runs.specs.MatchLaws.{ComesTo}
 use Rattle.cfi_runs.specs.Own.{Own}

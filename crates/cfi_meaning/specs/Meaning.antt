@@ -6,15 +6,15 @@ use Rattle.rv_word.specs.Image.{Contents}
 use Rattle.rv_code.specs.State.{After}
 use Rattle.rv_code.specs.Step.{step}
 use Rattle.rv_code.specs.declared.turn.Turn.TheVariants.{Exit, Break}
-use Rattle.cfi_flow.specs.GraphAtMap.{ProgramAtMap, word}
+use Rattle.cfi_map.specs.GraphAtMap.{ProgramAtMap, word}
 use Rattle.cfi_runs.specs.Matching.{SameData}
 use Rattle.cfi_runs.specs.WholeRun.{RunsTo}
 use Rattle.cfi_runs.specs.Within.{Within}
 use Rattle.cfi_harden.specs.Units.{Choice}
-use Rattle.cfi_kept.specs.ImageOf.{IsImageOf}
-use Rattle.cfi_kept.specs.PlacesKept.{bound, last_words}
-use Rattle.cfi_flow.specs.Source.{Source, init_here, source_start}
-use Rattle.cfi_flow.specs.SourceStep.{StepTurn, after_steps, breaks, exits, ran, source_step}
+use Rattle.cfi_meaning.specs.ImageOf.{IsImageOf}
+use Rattle.cfi_meaning.specs.PlacesKept.{bound, last_words}
+use Rattle.cfi_map.specs.Source.{Source, init_here, source_start}
+use Rattle.cfi_map.specs.SourceStep.{StepTurn, after_steps, breaks, exits, ran, source_step}
 use Rattle.cfi_meaning.specs.Matches.{Matches}
 
 -- the image has ended as the source machine's step did: with its status, or at a break in no handler. Of a step that goes on or is

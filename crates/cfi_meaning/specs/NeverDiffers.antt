@@ -1,10 +1,10 @@
 -- Compared with its image, no run of a program differs.
 use Rattle.std.specs.Prelude.{◌≡◌, ℕ, List}
 use Rattle.rv_word.specs.Image.{Contents}
-use Rattle.cfi_flow.specs.GraphAtMap.{ProgramAtMap}
-use Rattle.cfi_flow.specs.Source.{init_here}
+use Rattle.cfi_map.specs.GraphAtMap.{ProgramAtMap}
+use Rattle.cfi_map.specs.Source.{init_here}
 use Rattle.cfi_harden.specs.Units.{Choice}
-use Rattle.cfi_kept.specs.ImageOf.{IsImageOf}
+use Rattle.cfi_meaning.specs.ImageOf.{IsImageOf}
 use Rattle.cfi_meaning.specs.Compared.{Difference, compared, differs}
 
 abbrev pub NoRunDiffers : ProgramAtMap → Contents → Type 0

@@ -35,17 +35,17 @@ not_read request ends.NoMemory refuses = tt
 
 -- an object that is a program, of which something holds
 module _ (request : Request) (program : Program) (result : Result HardenedParts HardenEnd) (read : Reads request.object (Ok program)) where
-  moved : (Holds : ProgramRequest → Type 0) → Holds (record { program = program; entry = request.entry; policy = request.policy })
+  moved : (Holds : ProgramRequest → Type 0) → Holds (record { form = request.form; program = program; entry = request.entry; policy = request.policy })
       → Holds (program_request request)
-  moved Holds = subst (λ (p : Program). Holds (record { program = p; entry = request.entry; policy = request.policy })) read.1
+  moved Holds = subst (λ (p : Program). Holds (record { form = request.form; program = p; entry = request.entry; policy = request.policy })) read.1
 
-  pub hardens_read : HardensProgram (record { program = program; entry = request.entry; policy = request.policy }) result → Hardens request result
+  pub hardens_read : HardensProgram (record { form = request.form; program = program; entry = request.entry; policy = request.policy }) result → Hardens request result
   hardens_read is = hardens_object request result read.0 (moved (λ r. HardensProgram r result) is)
 
-  pub keeps_read : IfOk result (λ (h : HardenedParts). KeepsMeaningAtMap (record { program = program; entry = request.entry; policy = request.policy }) h)
+  pub keeps_read : IfOk result (λ (h : HardenedParts). KeepsMeaningAtMap (record { form = request.form; program = program; entry = request.entry; policy = request.policy }) h)
       → IfOk result (λ (h : HardenedParts). KeepsMeaningAtMap (program_request request) h)
   keeps_read = moved (λ r. IfOk result (λ (h : HardenedParts). KeepsMeaningAtMap r h))
 
-  pub differs_read : IfOk result (λ (h : HardenedParts). NeverDiffersAtMap (record { program = program; entry = request.entry; policy = request.policy }) h)
+  pub differs_read : IfOk result (λ (h : HardenedParts). NeverDiffersAtMap (record { form = request.form; program = program; entry = request.entry; policy = request.policy }) h)
       → IfOk result (λ (h : HardenedParts). NeverDiffersAtMap (program_request request) h)
   differs_read = moved (λ r. IfOk result (λ (h : HardenedParts). NeverDiffersAtMap r h))

@@ -1,4 +1,5 @@
 ghost use Rattle.std.specs.Prelude.{IfOk, option_copied};
+ghost use Rattle.rv_word.specs.declared.form.Form.TheVariants as Form;
 ghost use Rattle.cfi_harden.specs.Prepared.{IsOfRequest, IsPreparedOf};
 ghost use Rattle.cfi_harden.specs.Refused.{Hardens, HardensPrepared, HardensProgram};
 ghost use Rattle.cfi_harden.specs.Request.{ProgramRequest, program_request};
@@ -7,47 +8,65 @@ ghost use Rattle.cfi_meaning.specs.Hardened.{KeepsMeaningAtMap, NeverDiffersAtMa
 use cfi_harden::{HardenEnd, Hardened, Prepared, harden_prepared, harden_program, program_of};
 use cfi_meaning::laws::{hardened_keeps_meaning, hardened_never_differs};
 use obj_program::Items;
+use rv_word::Form;
 use std::alloc::Global;
 
-/// Hardens an object (System V gABI, "Object Files"; RISC-V ELF psABI): its image, its graph and its map, or the first that
-/// stands against that. The program is entered at the first symbol with the entry's name. A policy is a text that narrows
+/// Hardens an object (System V gABI, "Object Files"; RISC-V ELF psABI) in a form: its image, its graph and its map, or the first
+/// that stands against that. The program is entered at the first symbol with the entry's name. A policy is a text that narrows
 /// what computed transfers may go to.
 #[tactic(auto, using(crate::proofs::OfHardened::not_read))]
-pub fn rewrite(
+pub fn rewrite_as(
     alloc: Global,
+    form: Form,
     object: &[u8],
     entry: &str,
     policy: Option<&[u8]>,
 ) -> Result<Hardened, HardenEnd>
     // What is written meets the verifier's rules, and is that of the program at a legal map; a refusal stands, and none before it
     // does.
-    ensures hardens { Hardens (record { object = object.now; entry = entry.now; policy = option_copied policy.entry }) result }
-    // With each input: when the program at the map has run n tame steps and goes on, the image, which nothing disturbs, is within
-    // 21 n + 13 steps at a state that matches; where the program's next step ends it, the image has ended alike within
-    // 21 (n + 1) + 13 in all, with the same events; and from any state that matches the next tame step is kept within 21.
-    ensures meaning_kept { IfOk result (λ h. KeepsMeaningAtMap (program_request (record { object = object.now; entry = entry.now; policy = option_copied policy.entry })) h) }
+    ensures hardens { Hardens (record { form = form; object = object.now; entry = entry.now; policy = option_copied policy.entry }) result }
+    // With each input: when the program at the map has run n tame steps and goes on, the image, whose hart 0 runs alone and which
+    // nothing disturbs, is within 21 n + 13 steps, or 21 n + 17 in the form for several harts, at a state that matches; where the
+    // program's next step ends it, the image has ended alike within that of n + 1, with the same events; and from any state that
+    // matches the next tame step is kept within 21.
+    ensures meaning_kept { IfOk result (λ h. KeepsMeaningAtMap (program_request (record { form = form; object = object.now; entry = entry.now; policy = option_copied policy.entry })) h) }
     // With each input and each limit: comparing the events and the end of the program's run with those of the image's tells no
     // difference.
-    ensures never_differs { IfOk result (λ h. NeverDiffersAtMap (program_request (record { object = object.now; entry = entry.now; policy = option_copied policy.entry })) h) }
+    ensures never_differs { IfOk result (λ h. NeverDiffersAtMap (program_request (record { form = form; object = object.now; entry = entry.now; policy = option_copied policy.entry })) h) }
 {
     let items = program_of(alloc, object)?;
-    rewrite_program(alloc, items, entry, policy)
+    rewrite_program(alloc, form, items, entry, policy)
 }
 
-/// Hardens a program. This is what `rewrite` does with that of an object.
+/// Hardens an object for one hart.
+pub fn rewrite(
+    alloc: Global,
+    object: &[u8],
+    entry: &str,
+    policy: Option<&[u8]>,
+) -> Result<Hardened, HardenEnd>
+    ensures hardens { Hardens (record { form = Form.Plain; object = object.now; entry = entry.now; policy = option_copied policy.entry }) result }
+    ensures meaning_kept { IfOk result (λ h. KeepsMeaningAtMap (program_request (record { form = Form.Plain; object = object.now; entry = entry.now; policy = option_copied policy.entry })) h) }
+    ensures never_differs { IfOk result (λ h. NeverDiffersAtMap (program_request (record { form = Form.Plain; object = object.now; entry = entry.now; policy = option_copied policy.entry })) h) }
+{
+    rewrite_as(alloc, Form::Plain, object, entry, policy)
+}
+
+/// Hardens a program in a form. This is what `rewrite_as` does with that of an object.
 pub fn rewrite_program(
     alloc: Global,
+    form: Form,
     items: Items,
     entry: &str,
     policy: Option<&[u8]>,
 ) -> Result<Hardened, HardenEnd>
-    ensures hardens { HardensProgram (record { program = items.entry; entry = entry.now; policy = option_copied policy.entry }) result }
-    ensures meaning_kept { IfOk result (λ h. KeepsMeaningAtMap (record { program = items.entry; entry = entry.now; policy = option_copied policy.entry }) h) }
-    ensures never_differs { IfOk result (λ h. NeverDiffersAtMap (record { program = items.entry; entry = entry.now; policy = option_copied policy.entry }) h) }
+    ensures hardens { HardensProgram (record { form = form; program = items.entry; entry = entry.now; policy = option_copied policy.entry }) result }
+    ensures meaning_kept { IfOk result (λ h. KeepsMeaningAtMap (record { form = form; program = items.entry; entry = entry.now; policy = option_copied policy.entry }) h) }
+    ensures never_differs { IfOk result (λ h. NeverDiffersAtMap (record { form = form; program = items.entry; entry = entry.now; policy = option_copied policy.entry }) h) }
 {
     hardened_keeps_meaning();
     hardened_never_differs();
-    harden_program(alloc, items, entry, policy)
+    harden_program(alloc, form, items, entry, policy)
 }
 
 /// Hardens a program that `cfi_harden::prepare` gave: its image, its graph and its map, or the first that stands against placing

@@ -3,6 +3,8 @@ use Rattle.std.proofs.Common.{◌≡◌, ℕ, ◌≤◌, Some, None, List, codes
 use Rattle.rv_word.specs.MemoryMap.{CODE_SIZE}
 use Rattle.elf_writer.specs.Object.{object_bytes}
 use Rattle.elf_writer.specs.Holds.{Holds}
+use Rattle.rv_word.specs.declared.form.Form.{Form}
+use Rattle.rv_word.specs.declared.form.Form.TheVariants.{Plain}
 use Rattle.obj_input.specs.Input.{InputParts}
 use Rattle.obj_rules.specs.Fault.{fault_of}
 use Rattle.obj_program.specs.Program.{Program}
@@ -21,7 +23,8 @@ use Rattle.cfi_flow.proofs.Sides.{in_one}
 use Rattle.cfi_harden.specs.Hardened.{HasDataRoom}
 use Rattle.cfi_harden.specs.Prepared.{IsPreparedOf, PreparedParts}
 use Rattle.cfi_harden.specs.Request.{program_in, program_request}
-use Rattle.cfi_harden.specs.Sizes.{whole_size}
+use Rattle.cfi_map.specs.GraphAtMap.{ProgramAtMap, words_at}
+use Rattle.cfi_map.specs.Sizes.{whole_size}
 use Rattle.gen_hardened.specs.Laws.{DemoIsNeverRefused, IsNeverRefused, entered}
 use Rattle.cfi_gen.proofs.Right.{demo_holds}
 use Rattle.gen_program.proofs.Drawn.{length-functions}
@@ -35,7 +38,7 @@ use Rattle.gen_hardened.proofs.Small.{AreSmall, small_functions}
 
 -- its code has room, whatever its graph of one side
 abbrev pub HasCodeRoom : List ℕ → Type 0
-HasCodeRoom object = (closed : ClosedGraph) → length closed.sides ≡ 1 → whole_size (program_in object) closed ≤ CODE_SIZE
+HasCodeRoom object = (closed : ClosedGraph) → length closed.sides ≡ 1 → whole_size Plain (program_in object) closed ≤ CODE_SIZE
 
 module _ (fs : List Function) (small : AreSmall fs) (object : List ℕ) (holds : Holds (parts_with fs) object)
     (sound : fault_of (input_of object) ≡ None) (room : HasCodeRoom object) where
@@ -45,9 +48,10 @@ module _ (fs : List Function) (small : AreSmall fs) (object : List ℕ) (holds :
   main_there : entry_place (program_in object) (codes "main") ≡ Some 0
   main_there = entered_at_main is_generated
 
-  code_room : (p : PreparedParts) → IsPreparedOf (program_request (entered object)) p → whole_size p.program p.closed ≤ CODE_SIZE
-  code_room p is = subst (λ (x : Program). whole_size x p.closed ≤ CODE_SIZE) (sym is.program)
-      (room p.closed (let (raw, drawn, closes) = is.closed.drawn in ap length (in_one raw p.closed closes).one))
+  code_room : (p : PreparedParts) → IsPreparedOf (program_request (entered object)) p → whole_size p.form p.program p.closed ≤ CODE_SIZE
+  code_room p is = subst (λ (form : Form). whole_size form p.program p.closed ≤ CODE_SIZE) (sym is.form)
+      (subst (λ (x : Program). whole_size Plain x p.closed ≤ CODE_SIZE) (sym is.program)
+      (room p.closed (let (raw, drawn, closes) = is.closed.drawn in ap length (in_one raw p.closed closes).one)))
 
   room_there : (p : PreparedParts) → IsPreparedOf (program_request (entered object)) p → HasDataRoom p.program
   room_there p is = subst HasDataRoom (sym is.program) (data_room is_generated)
@@ -69,15 +73,17 @@ module _ (fs : List Function) (small : AreSmall fs) (object : List ℕ) (holds :
       omega arith
   nothing_refused (DataTooLarge init end) (program, (p, is, refused)) = refused.3 (room_there p is)
   nothing_refused (RelocRange section offset) (program, (p, is, refused)) =
-      let none = none_astray p is refused.0.gates refused.0.words in
+      let layout = refused.0.layout in
+      let none = subst (λ (x : Program). out_of_range x layout.gates (words_at layout) ≡ None) (sym (ap (λ (l : ProgramAtMap). l.program) refused.1.of))
+      (none_astray p is layout.gates (words_at layout)) in
       let some = refused.3 in
-      cc
+      absurd (cc)
 
 -- the object of each number, where it holds its parts, has no fault, and its code has room
 pub demo_never_refused : ((number : ℕ) → Holds (demo_parts number) (object_bytes (demo_parts number)))
     → ((number : ℕ) (input : InputParts) → IsGenerated (functions_from 2000 0 number) input → fault_of input ≡ None)
     → ((number : ℕ) (input : InputParts) (closed : ClosedGraph) → length closed.sides ≡ 1 → IsGenerated (functions_from 2000 0 number) input
-    → whole_size (program_of input) closed ≤ CODE_SIZE)
+    → whole_size Plain (program_of input) closed ≤ CODE_SIZE)
     → DemoIsNeverRefused
 demo_never_refused holds sound room number =
     let fs = functions_from 2000 0 number in

@@ -1,9 +1,8 @@
 -- A step leads to a place that is there, and calls return to places.
-use Rattle.std.proofs.Common.{◌≡◌, ℕ, ◌+◌, ◌-◌, ◌<◌, nat_lt, Bool, true, false, List, [], ◌∷◌, length, All, Option, Some, None, inl, inr, refl, sym, ap, subst, ◌∙◌, arith}
+use Rattle.std.proofs.Common.{◌≡◌, ℕ, ◌+◌, ◌-◌, ◌<◌, nat_lt, Bool, true, false, List, [], ◌∷◌, length, All, Option, Some, None, inl, inr, refl, sym, subst, ◌∙◌, arith}
 use Rattle.std.specs.Prelude.{◌&&◌, not, if◌then◌else◌, option_and_then, slice_get, unwrap_or, Result, Ok, Err, IfOk, OnErr}
 use Rattle.std.proofs.lemmas.Bool.{and_parts, cases_Bool, cases_eq, ltb-true}
 use Rattle.std.proofs.lemmas.List.Elements.{All-cons, All-head, All-tail}
-use Rattle.rv_word.specs.MemoryMap.{CLOSING}
 use Rattle.rv_word.specs.declared.no_memory.NoMemory.{NoMemory}
 use Rattle.rv_instr.specs.declared.instr.Instr.{Instr}
 use Rattle.rv_instr.specs.declared.instr.Instr.TheVariants.{Branch}
@@ -17,16 +16,17 @@ use Rattle.obj_input.specs.declared.item_kind.ItemKind.TheVariants as is
 use Rattle.obj_program.specs.MapFit.{EndsLast}
 use Rattle.obj_program.specs.Program.{Program, count, is_end, item_of}
 use Rattle.obj_program.specs.Sound.{IsSound, aims, is_direct}
-use Rattle.cfi_flow.specs.GraphAtMap.{ProgramAtMap}
-use Rattle.cfi_flow.specs.declared.reason.Reason.{Reason}
-use Rattle.cfi_flow.specs.declared.reason.Reason.TheVariants as why
+use Rattle.cfi_map.specs.GraphAtMap.{ProgramAtMap}
+use Rattle.cfi_map.specs.declared.reason.Reason.{Reason}
+use Rattle.cfi_map.specs.declared.reason.Reason.TheVariants as why
 use Rattle.src_machine.specs.declared.turn.SourceTurn.{SourceTurn}
 use Rattle.src_machine.specs.declared.turn.SourceTurn.TheVariants.{Exit}
-use Rattle.cfi_flow.specs.Source.{Source, instr_here}
-use Rattle.cfi_flow.specs.SourceStep.{SourceAfter, acts, branches, closes, exits, if_taken, place_after, returns_from, source_step, step_at, step_item, unless, unless_ended}
+use Rattle.cfi_map.specs.Source.{Source, instr_here}
+use Rattle.cfi_map.specs.SourceStep.{SourceAfter, acts, branches, closes, exits, if_taken, place_after, returns_from, source_step, step_at, step_item, unless, unless_ended}
 use Rattle.src_machine.specs.State.{IsInside, IsThere, Leaves, StateParts, source_in}
-use Rattle.cfi_flow.specs.Untame.{computed, computed_place, if_reached, is_off_graph, is_off_window, is_too_deep, is_wrong_return, place_with_gate, class_reaches, reason, return_address}
-use Rattle.src_machine.proofs.Gates.{place_below}
+use Rattle.cfi_map.specs.Untame.{computed, computed_place, if_reached, is_off_graph, is_off_window, is_too_deep, is_wrong_return, place_with_gate, reason, return_address}
+use Rattle.cfi_flow.specs.Closed.{class_reaches}
+use Rattle.cfi_map.proofs.ByGate.{place_below}
 
 -- behind an instruction another place follows
 pub next_there : (layout : ProgramAtMap) (k : ℕ) → EndsLast layout.program → k < count layout.program → is_end (item_of layout.program k).kind ≡ false →
@@ -42,10 +42,10 @@ next_there layout k last below instruction = elim (cases_eq (k + 1) (count layou
 ]
 
 -- with no call pending a return leads to the closing
-pub returns_nowhere : (layout : ProgramAtMap) (pending : List ℕ) → layout.profile.closing ≡ CLOSING → slice_get pending 0 ≡ None →
-    CLOSING ≡ return_address layout pending
-returns_nowhere layout [] is none = sym is
-returns_nowhere layout (k ∷ pending) is none = absurd (cc)
+pub returns_nowhere : (layout : ProgramAtMap) (pending : List ℕ) (closing : ℕ) → layout.profile.closing ≡ closing → slice_get pending 0 ≡ None →
+    closing ≡ return_address layout pending
+returns_nowhere layout [] closing is none = sym is
+returns_nowhere layout (k ∷ pending) closing is none = absurd (cc)
 
 -- what the step at the closing leaves
 pub closed : (layout : ProgramAtMap) (place : Option ℕ) (st : Source) (parts : StateParts) (status : ℕ) → None ≡ place →

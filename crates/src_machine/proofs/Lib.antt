@@ -1,4 +1,3 @@
-mod Gates
 mod Inside
 mod LegalGates
 mod LegalLines

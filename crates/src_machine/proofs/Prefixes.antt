@@ -2,24 +2,26 @@
 use Rattle.std.proofs.Common.{◌≡◌, ℕ, zero, suc, ◌+◌, ◌<◌, ◌≤◌, Bool, List, [], ◌∷◌, map, take, inl, inr, refl, sym, ap, subst, ◌∙◌, arith}
 use Rattle.std.proofs.lemmas.Bool.{cases_eq, cases_lt}
 use Rattle.std.proofs.lemmas.List.{take-map}
-use Rattle.rv_word.specs.MemoryMap.{UNITS_START}
+use Rattle.rv_word.specs.Form.{profile_for}
+use Rattle.rv_word.specs.declared.form.Form.{Form}
+use Rattle.cfi_graph.specs.Map.{MapParts}
 use Rattle.cfi_graph.specs.declared.map.MapLine.{MapLine}
 use Rattle.obj_program.specs.declared.item.Item.{Item}
 use Rattle.obj_program.specs.Program.{Program}
 use Rattle.cfi_flow.specs.Closed.{ClosedGraph, Side}
-use Rattle.cfi_flow.specs.LegalMap.{IsLegalMap, gates_of}
-use Rattle.cfi_flow.specs.MapFault.{BeginsLegal, IsWrongLine}
-use Rattle.cfi_flow.specs.Placement.{AreGates, lead_size, is_long, size_of}
+use Rattle.cfi_map.specs.LegalMap.{IsLegalMap, gates_of}
+use Rattle.cfi_map.specs.MapFault.{BeginsLegal, IsWrongLine}
+use Rattle.cfi_map.specs.Placement.{AreGates, lead_size, whole_at, size_of}
 use Rattle.src_machine.specs.Laws.{BeginsAsLegal, OneIsFirst, WrongIsNotLegal}
 
-first_gates : (sides : List Side) (long : List Bool) (k at : ℕ) (items : List Item) (gates : List ℕ) (n : ℕ)
-    → AreGates sides long k at items gates → AreGates sides long k at (take n items) (take n gates)
+first_gates : (sides : List Side) (whole : List Bool) (k at : ℕ) (items : List Item) (gates : List ℕ) (n : ℕ)
+    → AreGates sides whole k at items gates → AreGates sides whole k at (take n items) (take n gates)
 unfolding AreGates
-first_gates sides long k at items gates zero are = tt
-first_gates sides long k at [] [] (suc n) are = tt
-first_gates sides long k at [] (gate ∷ gates) (suc n) are = absurd are
-first_gates sides long k at (item ∷ items) [] (suc n) are = absurd are
-first_gates sides long k at (item ∷ items) (gate ∷ gates) (suc n) are = (are.0, first_gates sides long (k + 1) _ items gates n are.1)
+first_gates sides whole k at items gates zero are = tt
+first_gates sides whole k at [] [] (suc n) are = tt
+first_gates sides whole k at [] (gate ∷ gates) (suc n) are = absurd are
+first_gates sides whole k at (item ∷ items) [] (suc n) are = absurd are
+first_gates sides whole k at (item ∷ items) (gate ∷ gates) (suc n) are = (are.0, first_gates sides whole (k + 1) _ items gates n are.1)
 
 first_first : {A : Type 0} (xs : List A) (n m : ℕ) → n ≤ m → take n (take m xs) ≡ take n xs
 first_first xs zero m below = refl
@@ -28,67 +30,67 @@ first_first [] (suc n) (suc m) below = refl
 first_first (x ∷ xs) (suc n) zero below = absurd (omega arith)
 first_first (x ∷ xs) (suc n) (suc m) below = ap (λ (ys : List _). x ∷ ys) (first_first xs n m (omega arith))
 
-begins_first : (program : Program) (closed : ClosedGraph) (lines : List MapLine) (n : ℕ) → IsLegalMap program closed lines → BeginsLegal program closed lines n
-begins_first program closed lines n legal = record {
-  sections = sym (take-map (λ (l : MapLine). l.section) n lines) ∙ ap (take n) legal.sections ∙ take-map (λ (i : Item). i.section) n program.items;
-  offsets = sym (take-map (λ (l : MapLine). l.offset) n lines) ∙ ap (take n) legal.offsets ∙ take-map (λ (i : Item). i.offset) n program.items;
+begins_first : (program : Program) (closed : ClosedGraph) (g : MapParts) (n : ℕ) → IsLegalMap program closed g → BeginsLegal program closed g n
+begins_first program closed g n legal = record {
+  sections = sym (take-map (λ (l : MapLine). l.section) n g.lines) ∙ ap (take n) legal.sections ∙ take-map (λ (i : Item). i.section) n program.items;
+  offsets = sym (take-map (λ (l : MapLine). l.offset) n g.lines) ∙ ap (take n) legal.offsets ∙ take-map (λ (i : Item). i.offset) n program.items;
   gates = (
     legal.gates.0,
-    subst (λ (gates : List ℕ). AreGates closed.sides legal.gates.0 0 UNITS_START (take n program.items) gates) (take-map (λ (l : MapLine). l.gate) n lines)
-        (first_gates closed.sides legal.gates.0 0 UNITS_START program.items (gates_of lines) n legal.gates.1),
+    subst (λ (gates : List ℕ). AreGates closed.sides legal.gates.0 0 (profile_for g.form).units_from (take n program.items) gates) (take-map (λ (l : MapLine). l.gate) n g.lines)
+        (first_gates closed.sides legal.gates.0 0 (profile_for g.form).units_from program.items (gates_of g.lines) n legal.gates.1),
   );
 }
 
-begins_less : (program : Program) (closed : ClosedGraph) (lines : List MapLine) (n m : ℕ) → n ≤ m → BeginsLegal program closed lines m → BeginsLegal program closed lines n
-begins_less program closed lines n m below legal =
-    let first = begins_first (record program { items = take m program.items }) closed (take m lines) n legal in
-    subst (λ (items : List Item). IsLegalMap (record program { items = items }) closed (take n lines)) (first_first program.items n m below)
-    (subst (λ (ls : List MapLine). IsLegalMap (record program { items = take n (take m program.items) }) closed ls) (first_first lines n m below) first)
+begins_less : (program : Program) (closed : ClosedGraph) (g : MapParts) (n m : ℕ) → n ≤ m → BeginsLegal program closed g m → BeginsLegal program closed g n
+begins_less program closed g n m below legal =
+    let first = begins_first (record program { items = take m program.items }) closed (record g { lines = take m g.lines }) n legal in
+    subst (λ (items : List Item). IsLegalMap (record program { items = items }) closed (record g { lines = take n g.lines })) (first_first program.items n m below)
+    (subst (λ (ls : List MapLine). IsLegalMap (record program { items = take n (take m program.items) }) closed (record g { lines = ls })) (first_first g.lines n m below) first)
 
 pub wrong_is_not_legal : WrongIsNotLegal
-wrong_is_not_legal program closed lines number wrong legal = wrong.wrong (begins_first program closed lines (wrong.index + 1) legal)
+wrong_is_not_legal program closed g number wrong legal = wrong.wrong (begins_first program closed g (wrong.index + 1) legal)
 
 -- what is right before one line is right before all that come earlier
-not_before : (program : Program) (closed : ClosedGraph) (lines : List MapLine) (a b : ℕ) → IsWrongLine program closed lines a → IsWrongLine program closed lines b → a < b → ⊥
-not_before program closed lines a b one other less =
+not_before : (program : Program) (closed : ClosedGraph) (g : MapParts) (a b : ℕ) → IsWrongLine program closed g a → IsWrongLine program closed g b → a < b → ⊥
+not_before program closed g a b one other less =
     let here = one.numbered in
     let there = other.numbered in
-    one.wrong (begins_less program closed lines (one.index + 1) other.index (omega arith) other.before)
+    one.wrong (begins_less program closed g (one.index + 1) other.index (omega arith) other.before)
 
 pub one_is_first : OneIsFirst
-one_is_first program closed lines a b one other = elim (cases_lt a b) [
-  | inl less ↦ absurd (not_before program closed lines a b one other less)
+one_is_first program closed g a b one other = elim (cases_lt a b) [
+  | inl less ↦ absurd (not_before program closed g a b one other less)
   | inr more ↦ elim (cases_eq a b) [
     | inl same ↦ same
-    | inr apart ↦ absurd (not_before program closed lines b a other one (omega arith))
+    | inr apart ↦ absurd (not_before program closed g b a other one (omega arith))
   ]
 ]
 
 -- the lines of a placement with these branches long
 unfoldable lines_at : List Side → List Bool → ℕ → ℕ → List Item → List MapLine
-lines_at sides long k at [] = []
-lines_at sides long k at (item ∷ items) =
+lines_at sides whole k at [] = []
+lines_at sides whole k at (item ∷ items) =
     record { gate = at; section = item.section; offset = item.offset }
-    ∷ lines_at sides long (k + 1) (at + lead_size sides k + size_of item.kind (is_long long k)) items
+    ∷ lines_at sides whole (k + 1) (at + lead_size sides k + size_of item.kind (whole_at whole k)) items
 
-gates_at : (sides : List Side) (long : List Bool) (k at : ℕ) (items : List Item) → AreGates sides long k at items (gates_of (lines_at sides long k at items))
+gates_at : (sides : List Side) (whole : List Bool) (k at : ℕ) (items : List Item) → AreGates sides whole k at items (gates_of (lines_at sides whole k at items))
 unfolding lines_at AreGates
-gates_at sides long k at [] = tt
-gates_at sides long k at (item ∷ items) = (refl, gates_at sides long (k + 1) (at + lead_size sides k + size_of item.kind (is_long long k)) items)
+gates_at sides whole k at [] = tt
+gates_at sides whole k at (item ∷ items) = (refl, gates_at sides whole (k + 1) (at + lead_size sides k + size_of item.kind (whole_at whole k)) items)
 
-sections_at : (sides : List Side) (long : List Bool) (k at : ℕ) (items : List Item) →
-    map (λ (l : MapLine). l.section) (lines_at sides long k at items) ≡ map (λ (i : Item). i.section) items
+sections_at : (sides : List Side) (whole : List Bool) (k at : ℕ) (items : List Item) →
+    map (λ (l : MapLine). l.section) (lines_at sides whole k at items) ≡ map (λ (i : Item). i.section) items
 unfolding lines_at
-sections_at sides long k at [] = refl
-sections_at sides long k at (item ∷ items) =
-    ap (λ (ns : List ℕ). item.section ∷ ns) (sections_at sides long (k + 1) (at + lead_size sides k + size_of item.kind (is_long long k)) items)
+sections_at sides whole k at [] = refl
+sections_at sides whole k at (item ∷ items) =
+    ap (λ (ns : List ℕ). item.section ∷ ns) (sections_at sides whole (k + 1) (at + lead_size sides k + size_of item.kind (whole_at whole k)) items)
 
-offsets_at : (sides : List Side) (long : List Bool) (k at : ℕ) (items : List Item) →
-    map (λ (l : MapLine). l.offset) (lines_at sides long k at items) ≡ map (λ (i : Item). i.offset) items
+offsets_at : (sides : List Side) (whole : List Bool) (k at : ℕ) (items : List Item) →
+    map (λ (l : MapLine). l.offset) (lines_at sides whole k at items) ≡ map (λ (i : Item). i.offset) items
 unfolding lines_at
-offsets_at sides long k at [] = refl
-offsets_at sides long k at (item ∷ items) =
-    ap (λ (ns : List ℕ). item.offset ∷ ns) (offsets_at sides long (k + 1) (at + lead_size sides k + size_of item.kind (is_long long k)) items)
+offsets_at sides whole k at [] = refl
+offsets_at sides whole k at (item ∷ items) =
+    ap (λ (ns : List ℕ). item.offset ∷ ns) (offsets_at sides whole (k + 1) (at + lead_size sides k + size_of item.kind (whole_at whole k)) items)
 
 heads : (a b : ℕ) (xs ys : List ℕ) → a ∷ xs ≡ b ∷ ys → (a ≡ b) × (xs ≡ ys)
 heads a b xs ys e = (cc, cc)
@@ -99,36 +101,40 @@ one_line line item at gate section offset =
     ap (λ (g : ℕ). record line { gate = g }) gate ∙ ap (λ (s : ℕ). record line { gate = at; section = s }) section
     ∙ ap (λ (o : ℕ). record line { gate = at; section = item.section; offset = o }) offset
 
-same_lines : (sides : List Side) (long : List Bool) (k at : ℕ) (items : List Item) (lines : List MapLine) (n : ℕ) →
-    AreGates sides long k at (take n items) (gates_of (take n lines)) →
+same_lines : (sides : List Side) (whole : List Bool) (k at : ℕ) (items : List Item) (lines : List MapLine) (n : ℕ) →
+    AreGates sides whole k at (take n items) (gates_of (take n lines)) →
     map (λ (l : MapLine). l.section) (take n lines) ≡ map (λ (i : Item). i.section) (take n items) →
     map (λ (l : MapLine). l.offset) (take n lines) ≡ map (λ (i : Item). i.offset) (take n items) →
-    take n lines ≡ take n (lines_at sides long k at items)
+    take n lines ≡ take n (lines_at sides whole k at items)
 unfolding lines_at AreGates
-same_lines sides long k at items lines zero are sections offsets = refl
-same_lines sides long k at [] [] (suc n) are sections offsets = refl
-same_lines sides long k at [] (line ∷ lines) (suc n) are sections offsets = absurd are
-same_lines sides long k at (item ∷ items) [] (suc n) are sections offsets = absurd are
-same_lines sides long k at (item ∷ items) (line ∷ lines) (suc n) are sections offsets =
+same_lines sides whole k at items lines zero are sections offsets = refl
+same_lines sides whole k at [] [] (suc n) are sections offsets = refl
+same_lines sides whole k at [] (line ∷ lines) (suc n) are sections offsets = absurd are
+same_lines sides whole k at (item ∷ items) [] (suc n) are sections offsets = absurd are
+same_lines sides whole k at (item ∷ items) (line ∷ lines) (suc n) are sections offsets =
     let s = heads line.section item.section _ _ sections in
     let o = heads line.offset item.offset _ _ offsets in
     ap (λ (l : MapLine). l ∷ take n lines) (one_line line item at are.0 s.0 o.0)
     ∙ ap (λ (ls : List MapLine). record { gate = at; section = item.section; offset = item.offset } ∷ ls)
-    (same_lines sides long (k + 1) (at + lead_size sides k + size_of item.kind (is_long long k)) items lines n are.1 s.1 o.1)
+    (same_lines sides whole (k + 1) (at + lead_size sides k + size_of item.kind (whole_at whole k)) items lines n are.1 s.1 o.1)
 
 pub begins_as_legal : BeginsAsLegal
-begins_as_legal program closed lines n = (
+begins_as_legal program closed g n = (
   λ begins.
-      let long : List Bool = begins.gates.0 in
-      let legal : List MapLine = lines_at closed.sides long 0 UNITS_START program.items in (
+      let from = (profile_for g.form).units_from in
+      let whole : List Bool = begins.gates.0 in
+      let legal : MapParts = record { form = g.form; lines = lines_at closed.sides whole 0 from program.items } in (
         legal,
         record {
-          sections = sections_at closed.sides long 0 UNITS_START program.items;
-          offsets = offsets_at closed.sides long 0 UNITS_START program.items;
-          gates = (long, gates_at closed.sides long 0 UNITS_START program.items);
+          sections = sections_at closed.sides whole 0 from program.items;
+          offsets = offsets_at closed.sides whole 0 from program.items;
+          gates = (whole, gates_at closed.sides whole 0 from program.items);
         },
-        same_lines closed.sides long 0 UNITS_START program.items lines n begins.gates.1 begins.sections begins.offsets,
+        refl,
+        same_lines closed.sides whole 0 from program.items g.lines n begins.gates.1 begins.sections begins.offsets,
       ),
-  λ (legal, is, same).
-      subst (λ (ls : List MapLine). IsLegalMap (record program { items = take n program.items }) closed ls) (sym same) (begins_first program closed legal n is),
+  λ (legal, is, form, same).
+      subst (λ (f : Form). IsLegalMap (record program { items = take n program.items }) closed (record { form = f; lines = take n g.lines })) form
+      (subst (λ (ls : List MapLine). IsLegalMap (record program { items = take n program.items }) closed (record { form = legal.form; lines = ls })) (sym same)
+      (begins_first program closed legal n is)),
 )

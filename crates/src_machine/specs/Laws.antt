@@ -1,23 +1,23 @@
 -- What holds of maps with a wrong line.
-use Rattle.std.specs.Prelude.{◌≡◌, ◌↔◌, ℕ, List, take}
-use Rattle.cfi_graph.specs.declared.map.MapLine.{MapLine}
+use Rattle.std.specs.Prelude.{◌≡◌, ◌↔◌, ℕ, take}
+use Rattle.cfi_graph.specs.Map.{MapParts}
 use Rattle.obj_program.specs.Program.{Program}
 use Rattle.cfi_flow.specs.Closed.{ClosedGraph}
-use Rattle.cfi_flow.specs.LegalMap.{IsLegalMap}
-use Rattle.cfi_flow.specs.MapFault.{BeginsLegal, IsWrongLine}
+use Rattle.cfi_map.specs.LegalMap.{IsLegalMap}
+use Rattle.cfi_map.specs.MapFault.{BeginsLegal, IsWrongLine}
 
 -- a map with a wrong line is not legal
 abbrev pub WrongIsNotLegal : Type 0
 WrongIsNotLegal =
-    (program : Program) (closed : ClosedGraph) (lines : List MapLine) (number : ℕ) → IsWrongLine program closed lines number → IsLegalMap program closed lines → ⊥
+    (program : Program) (closed : ClosedGraph) (map : MapParts) (number : ℕ) → IsWrongLine program closed map number → IsLegalMap program closed map → ⊥
 
 -- it has one first wrong line
 abbrev pub OneIsFirst : Type 0
 OneIsFirst =
-    (program : Program) (closed : ClosedGraph) (lines : List MapLine) (a b : ℕ) → IsWrongLine program closed lines a → IsWrongLine program closed lines b → a ≡ b
+    (program : Program) (closed : ClosedGraph) (map : MapParts) (a b : ℕ) → IsWrongLine program closed map a → IsWrongLine program closed map b → a ≡ b
 
--- the first lines are legal for as many first places exactly where some legal map begins with them
+-- the first lines are legal for as many first places exactly where some legal map of the same form begins with them
 abbrev pub BeginsAsLegal : Type 0
 BeginsAsLegal =
-    (program : Program) (closed : ClosedGraph) (lines : List MapLine) (n : ℕ) →
-    BeginsLegal program closed lines n ↔ ((legal : List MapLine) × IsLegalMap program closed legal × (take n lines ≡ take n legal))
+    (program : Program) (closed : ClosedGraph) (map : MapParts) (n : ℕ) →
+    BeginsLegal program closed map n ↔ ((legal : MapParts) × IsLegalMap program closed legal × (legal.form ≡ map.form) × (take n map.lines ≡ take n legal.lines))

@@ -1,8 +1,8 @@
 -- A run of a source machine, and one step of it.
 use Rattle.std.specs.Prelude.{◌≡◌, ℕ, ◌+◌}
-use Rattle.cfi_flow.specs.GraphAtMap.{ProgramAtMap}
-use Rattle.cfi_flow.specs.Source.{Source}
-use Rattle.cfi_flow.specs.SourceStep.{source_step}
+use Rattle.cfi_map.specs.GraphAtMap.{ProgramAtMap}
+use Rattle.cfi_map.specs.Source.{Source}
+use Rattle.cfi_map.specs.SourceStep.{source_step}
 use Rattle.src_machine.specs.State.{StateParts, source_in}
 use Rattle.src_machine.specs.Told.{told}
 use Rattle.src_machine.specs.declared.turn.SourceTurn.{SourceTurn}

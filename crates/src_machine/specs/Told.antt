@@ -1,6 +1,6 @@
 -- How the end of a step is told: places by their sections and offsets.
 use Rattle.obj_program.specs.Program.{Program, item_of}
-use Rattle.cfi_flow.specs.SourceStep.{StepTurn, ran, exits, breaks, untame}
+use Rattle.cfi_map.specs.SourceStep.{StepTurn, ran, exits, breaks, untame}
 use Rattle.src_machine.specs.declared.turn.SourceTurn.{SourceTurn}
 use Rattle.src_machine.specs.declared.turn.SourceTurn.TheVariants.{Ran, Exit, Break, Untame}
 

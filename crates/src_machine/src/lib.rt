@@ -2,7 +2,7 @@
 //! no units. Its main calls are `SourceRun::new` and `SourceRun::step`.
 #![tactic(auto)]
 
-pub use cfi_flow::Reason;
+pub use cfi_map::Reason;
 pub use run::SourceRun;
 pub use source_end::SourceEnd;
 pub use turn::SourceTurn;

@@ -1,39 +1,37 @@
-ghost use Rattle.std.specs.Prelude.{◌≡◌, ◌<◌, ◌≤◌, ◌^◌, ℕ, true, false, length, option_and_then, slice_index, IfSome};
-ghost use Rattle.std.specs.List.Sorted.{IsStrictlyIncreasing};
+ghost use Rattle.std.specs.Prelude.{◌≡◌, ◌<◌, ◌^◌, ℕ, true, false, IfOk, IfSome, Some, is_some, length, option_and_then, slice_index};
+ghost use Rattle.rv_word.specs.Form.{profile_for};
+ghost use Rattle.obj_program.specs.DataAtMap.{data_at, init_size};
 ghost use Rattle.obj_program.specs.MapFit.{EndsLast};
 ghost use Rattle.obj_program.specs.Program.{count, is_end, item_of};
-ghost use Rattle.cfi_flow.specs.GraphAtMap.{gate, word};
-ghost use Rattle.rv_word.specs.MemoryMap.{version_1};
 ghost use Rattle.obj_program.specs.Sound.{IsSound};
-ghost use Rattle.cfi_flow.specs.Source.{instr_here};
-ghost use Rattle.cfi_flow.specs.Untame.{if_reached, place_with_gate};
+ghost use Rattle.cfi_map.specs.GraphAtMap.{gate, word};
+ghost use Rattle.cfi_map.specs.Source.{instr_here};
+ghost use Rattle.cfi_map.specs.Untame.{if_reached, place_with_gate};
 
-use cfi_flow::{Closed, address_at};
-use obj_program::{Item, Items};
+use cfi_map::Mapped;
+use obj_program::Item;
 use rv_code::decode;
 use rv_instr::Instr;
+use rv_word::{Form, NoMemory};
+use std::alloc::Global;
 use std::marker::Model;
 
-/// A program at a legal map: the gates of its places, and the words of its instructions with the values of their
-/// relocations.
+/// A program at a legal map, and the words of its instructions with the values of their relocations.
 #[derive(Drop)]
 pub(crate) struct Placed<'a, 'b> {
-    pub(crate) items: &'a Items<'b>,
-    pub(crate) closed: &'a Closed,
-    pub(crate) gates: Vec<u64>,
+    pub(crate) mapped: Mapped<'a, 'b>,
     pub(crate) code: Vec<u32>,
-    pub(crate) entry: u64,
 }
 
 impl<'a, 'b> Model for Placed<'a, 'b> {
-    ghost use Rattle.cfi_flow.specs.GraphAtMap.{ProgramAtMap, program_at};
+    ghost use Rattle.cfi_map.specs.GraphAtMap.{ProgramAtMap};
     ghost use Rattle.src_machine.specs.Placed.{HoldsItsWords};
 
     ghost Value = { ProgramAtMap };
 
-    ghost view = { λ p. program_at p.items.now p.closed.now p.gates.items p.entry };
+    ghost view = { λ p. p.mapped };
 
-    ghost invariant = { λ p. HoldsItsWords (program_at p.items.now p.closed.now p.gates.items p.entry) p.code.items };
+    ghost invariant = { λ p. HoldsItsWords p.mapped p.code.items };
 }
 
 /// The word of the place with this index.
@@ -44,42 +42,47 @@ fn word_at(code: &[u32], k: u64) -> u32
     code[k as usize]
 }
 
-/// How many gates are below an address.
-fn count_below(gates: &[u64], address: u64) -> usize
-    requires { IsStrictlyIncreasing gates.now }
-    ensures bound { result ≤ length gates.now }
-    ensures before { (k : ℕ) → k < result → slice_index gates.now k < address }
-    ensures from { (k : ℕ) → result ≤ k → k < length gates.now → address ≤ slice_index gates.now k }
-{
-    gates.partition_point(|gate| *gate < address)
-}
-
-/// The place with a gate.
-fn place_with_gate(gates: &[u64], address: u64) -> Option<u64>
-    requires { IsStrictlyIncreasing gates.now }
-    ensures { result ≡ place_with_gate gates.now address }
-{
-    let k = count_below(gates, address);
-    if k < gates.len() && gates[k] == address {
-        Some(k as u64)
-    } else {
-        None
-    }
-}
-
 impl<'a, 'b> Placed<'a, 'b> {
     /// How many places the program has.
     pub(crate) fn count(&self) -> u64
         ensures value { result ≡ count self.now.program }
         ensures gates { length self.now.gates ≡ count self.now.program }
-        ensures near { (k : ℕ) → k < count self.now.program → gate self.now k < 2 ^ 62 }
         ensures sound { IsSound self.now.program }
         ensures last { EndsLast self.now.program }
         ensures entry { self.now.entry < count self.now.program }
-        ensures profile { self.now.profile ≡ version_1 }
     {
-        self.items.fits_maps();
-        self.items.count()
+        self.mapped.count()
+    }
+
+    /// The form in which it is written.
+    pub(crate) fn form(&self) -> Form
+        ensures { self.now.profile ≡ profile_for result }
+    {
+        self.mapped.form()
+    }
+
+    /// The address to which it returns at its end.
+    pub(crate) fn closing(&self) -> u64
+        ensures value { result ≡ self.now.profile.closing }
+        ensures near { result < 2 ^ 63 }
+    {
+        self.form().closing()
+    }
+
+    /// The place where it is entered.
+    pub(crate) fn entry(&self) -> u64
+        ensures { result ≡ self.now.entry }
+    {
+        self.mapped.entry()
+    }
+
+    /// The initialised data, with the values of their relocations where they are in range.
+    pub(crate) fn data(&self, alloc: Global) -> Result<Vec<u8>, NoMemory>
+        requires { is_some (data_at self.now.program self.now.gates) ≡ true }
+        ensures value { IfOk result (λ v. data_at self.now.program self.now.gates ≡ Some v.items) }
+        ensures length { IfOk result (λ v. length v.items ≡ init_size self.now.program) }
+    {
+        self.mapped.data(alloc)
     }
 
     /// The place with this index.
@@ -87,7 +90,7 @@ impl<'a, 'b> Placed<'a, 'b> {
         requires { k < count self.now.program }
         ensures { result ≡ item_of self.now.program k }
     {
-        self.items.item(k)
+        self.mapped.item(k)
     }
 
     /// The gate of a place.
@@ -95,7 +98,7 @@ impl<'a, 'b> Placed<'a, 'b> {
         requires { k < count self.now.program }
         ensures { result ≡ gate self.now k }
     {
-        address_at(&self.gates, k)
+        self.mapped.gate(k)
     }
 
     /// The word of a place.
@@ -104,8 +107,7 @@ impl<'a, 'b> Placed<'a, 'b> {
         ensures value { result ≡ word self.now k }
         ensures near { result < 2 ^ 63 }
     {
-        let _count = self.count();
-        self.gate(k) + u64::from(self.closed.lead_size(k))
+        self.mapped.word(k)
     }
 
     /// The instruction of a place, with the values of its relocations.
@@ -122,8 +124,8 @@ impl<'a, 'b> Placed<'a, 'b> {
         ensures value { result ≡ option_and_then (if_reached self.now.closed k) (place_with_gate self.now.gates address) }
         ensures there { IfSome result (λ target. target < count self.now.program) }
     {
-        let target = place_with_gate(&self.gates, address)?;
-        if self.closed.reaches(k, target) {
+        let target = self.mapped.place_with_gate(address)?;
+        if self.mapped.closed().reaches(k, target) {
             Some(target)
         } else {
             None

@@ -1,4 +1,5 @@
 ghost use Rattle.std.specs.Prelude.{◌≡◌, ◌<◌, ◌+◌, ◌^◌, IfOk, OnErr};
+ghost use Rattle.rv_word.specs.Form.{profile_for};
 ghost use Rattle.rv_machine.specs.Parts.{shared_in};
 ghost use Rattle.src_machine.specs.Running.{IsStep, IsUnchanged, counted};
 
@@ -6,8 +7,8 @@ use crate::placed::Placed;
 use crate::state::State;
 use crate::step::step;
 use crate::turn::SourceTurn;
-use rv_machine::Machine;
-use rv_word::NoMemory;
+use rv_machine::Processor;
+use rv_word::{Form, NoMemory};
 use std::marker::Model;
 
 /// A run of a program at a legal map, as the standard says its instructions run.
@@ -19,6 +20,8 @@ pub struct SourceRun<'a, 'b> {
 }
 
 impl<'a, 'b> Model for SourceRun<'a, 'b> {
+    ghost use Rattle.std.specs.Prelude.{◌≡◌};
+    ghost use Rattle.rv_word.specs.MemoryMap.{profile_of};
     ghost use Rattle.obj_program.specs.Program.{count};
     ghost use Rattle.src_machine.specs.Running.{SourceParts};
     ghost use Rattle.src_machine.specs.State.{IsInside, source_in};
@@ -27,7 +30,8 @@ impl<'a, 'b> Model for SourceRun<'a, 'b> {
 
     ghost view = { λ r. record { layout = r.placed; state = r.state; steps = r.steps } };
 
-    ghost invariant = { λ r. IsInside (count r.placed.program) (source_in r.state) };
+    // It stands at places, and its memory is of the version of its map's form.
+    ghost invariant = { λ r. IsInside (count r.placed.program) (source_in r.state) × (profile_of r.state.processor.memory.version ≡ r.placed.profile) };
 }
 
 /// How many steps are taken after one that ended so.
@@ -42,6 +46,13 @@ fn counted(turn: SourceTurn, steps: u64) -> u64
 }
 
 impl<'a, 'b> SourceRun<'a, 'b> {
+    /// The form of its map, by which a comparison has its bound.
+    pub fn form(&self) -> Form
+        ensures { self.now.layout.profile ≡ profile_for result }
+    {
+        self.placed.form()
+    }
+
     /// How many steps were taken: those that were not untame.
     pub fn steps(&self) -> u64
         ensures { result ≡ self.now.steps }
@@ -49,11 +60,11 @@ impl<'a, 'b> SourceRun<'a, 'b> {
         self.steps
     }
 
-    /// The machine on which its instructions run: its registers, its memory and its system calls are the run's.
-    pub fn machine(&self) -> &Machine
-        ensures { result.now ≡ self.now.state.machine }
+    /// The processor on which its instructions run: its registers, its memory and its system calls are the run's.
+    pub fn processor(&self) -> &Processor
+        ensures { result.now ≡ self.now.state.processor }
     {
-        self.state.machine()
+        self.state.processor()
     }
 
     /// One step, or the first reason against it, which leaves the run as it was. After an exit each step answers it again.

@@ -1,15 +1,16 @@
 ghost use Rattle.std.specs.Prelude.{◌≡◌, ◌<◌, ◌+◌, ◌^◌, false, ℕ, IfOk, OnErr, unwrap_or};
 ghost use Rattle.std.specs.List.{All};
+ghost use Rattle.rv_word.specs.MemoryMap.{profile_of};
 ghost use Rattle.obj_program.specs.Program.{Program, count, is_end, item_of};
 ghost use Rattle.src_machine.specs.State.{IsInside, Leaves, source_in};
-ghost use Rattle.cfi_flow.specs.SourceStep.{acts, branches, calls, executes, goes_to, source_step, step_at, step_item, turn_at};
+ghost use Rattle.cfi_map.specs.SourceStep.{acts, branches, calls, executes, goes_to, source_step, step_at, step_item, turn_at};
 ghost use Rattle.src_machine.specs.Told.{told};
 
 use crate::placed::Placed;
 use crate::state::State;
 use crate::tame::{computed_place, reason};
 use crate::turn::SourceTurn;
-use cfi_flow::Reason;
+use cfi_map::Reason;
 use obj_input::ItemKind;
 use obj_program::Item;
 use rv_instr::Instr;
@@ -53,6 +54,7 @@ fn call(placed: &Placed, k: u64, target: u64, state: &mut State) -> Result<Sourc
     requires { k + 1 < count placed.now.program }
     ensures called { IfOk result (λ turn. Leaves placed.now.program (calls placed.now k target (source_in state.old)) turn state.new) }
     ensures refused { OnErr result (source_in state.new ≡ source_in state.old) }
+    ensures version { state.new.processor.memory.version ≡ state.old.processor.memory.version }
 {
     let _count = placed.count();
     let next = k + 1;
@@ -70,8 +72,10 @@ fn execute(
 ) -> Result<SourceTurn, NoMemory>
     requires place { k < count placed.now.program }
     requires item { item.now ≡ item_of placed.now.program k }
+    requires version { profile_of state.old.processor.memory.version ≡ placed.now.profile }
     ensures executed { IfOk result (λ turn. Leaves placed.now.program (executes placed.now k instr.now (source_in state.old)) turn state.new) }
     ensures refused { OnErr result (source_in state.new ≡ source_in state.old) }
+    ensures version { state.new.processor.memory.version ≡ state.old.processor.memory.version }
 {
     let _count = placed.count();
     let turn = state.execute(k, placed.word(k), instr)?;
@@ -88,8 +92,10 @@ fn act(
 ) -> Result<SourceTurn, NoMemory>
     requires place { k + 1 < count placed.now.program }
     requires item { item.now ≡ item_of placed.now.program k }
+    requires version { profile_of state.old.processor.memory.version ≡ placed.now.profile }
     ensures acted { IfOk result (λ turn. Leaves placed.now.program (acts placed.now k item.now.kind instr.now (unwrap_or item.now.target 0) (source_in state.old)) turn state.new) }
     ensures refused { OnErr result (source_in state.new ≡ source_in state.old) }
+    ensures version { state.new.processor.memory.version ≡ state.old.processor.memory.version }
 {
     let _count = placed.count();
     let target = item.target.unwrap_or(0);
@@ -133,8 +139,10 @@ fn step_instr(
     requires item { item.now ≡ item_of placed.now.program k }
     requires instruction { is_end item.now.kind ≡ false }
     requires pending { All (λ j. j < count placed.now.program) state.old.pending }
+    requires version { profile_of state.old.processor.memory.version ≡ placed.now.profile }
     ensures stepped { IfOk result (λ turn. Leaves placed.now.program (step_item placed.now k item.now (source_in state.old)) turn state.new) }
     ensures refused { OnErr result (source_in state.new ≡ source_in state.old) }
+    ensures version { state.new.processor.memory.version ≡ state.old.processor.memory.version }
 {
     let _count = placed.count();
     let instr = placed.instr(k);
@@ -148,8 +156,10 @@ fn step_instr(
 fn step_place(placed: &Placed, k: u64, state: &mut State) -> Result<SourceTurn, NoMemory>
     requires place { k < count placed.now.program }
     requires pending { All (λ j. j < count placed.now.program) state.old.pending }
+    requires version { profile_of state.old.processor.memory.version ≡ placed.now.profile }
     ensures stepped { IfOk result (λ turn. Leaves placed.now.program (step_item placed.now k (item_of placed.now.program k) (source_in state.old)) turn state.new) }
     ensures refused { OnErr result (source_in state.new ≡ source_in state.old) }
+    ensures version { state.new.processor.memory.version ≡ state.old.processor.memory.version }
 {
     let item = placed.item(k);
     if item.kind == ItemKind::End {
@@ -161,24 +171,28 @@ fn step_place(placed: &Placed, k: u64, state: &mut State) -> Result<SourceTurn, 
 
 /// The step at a place, or at the closing.
 fn step_at(placed: &Placed, state: &mut State) -> Result<SourceTurn, NoMemory>
-    requires { IsInside (count placed.now.program) (source_in state.old) }
+    requires inside { IsInside (count placed.now.program) (source_in state.old) }
+    requires version { profile_of state.old.processor.memory.version ≡ placed.now.profile }
     ensures stepped { IfOk result (λ turn. Leaves placed.now.program (step_at placed.now state.old.place (source_in state.old)) turn state.new) }
     ensures refused { OnErr result (source_in state.new ≡ source_in state.old) }
+    ensures version { state.new.processor.memory.version ≡ state.old.processor.memory.version }
 {
     let _count = placed.count();
     match state.place() {
         Some(k) => step_place(placed, k, state),
-        None => Ok(SourceTurn::Exit(state.close()?)),
+        None => Ok(SourceTurn::Exit(state.close(placed.closing())?)),
     }
 }
 
 /// One step.
-#[tactic(auto, unfolding(cfi_flow::specs::SourceStep::source_step))]
+#[tactic(auto, unfolding(cfi_map::specs::SourceStep::source_step))]
 pub(crate) fn step(placed: &Placed, state: &mut State) -> Result<SourceTurn, NoMemory>
-    requires { IsInside (count placed.now.program) (source_in state.old) }
+    requires inside { IsInside (count placed.now.program) (source_in state.old) }
+    requires version { profile_of state.old.processor.memory.version ≡ placed.now.profile }
     ensures stepped { IfOk result (λ turn. Leaves placed.now.program (source_step placed.now (source_in state.old)) turn state.new) }
     ensures refused { OnErr result (source_in state.new ≡ source_in state.old) }
     ensures inside { IsInside (count placed.now.program) (source_in state.new) }
+    ensures version { state.new.processor.memory.version ≡ state.old.processor.memory.version }
 {
     let _count = placed.count();
     match state.ended() {

@@ -5,14 +5,13 @@ ghost use Rattle.std.specs.List.{All};
 ghost use Rattle.rv_code.specs.Arithmetic.{load_size, store_size};
 ghost use Rattle.obj_program.specs.Program.{count, is_end};
 ghost use Rattle.src_machine.specs.State.{source_in};
-ghost use Rattle.cfi_flow.specs.Untame.{computed, computed_place, is_off_graph, is_off_window, is_too_deep, is_wrong_return, reason, return_address, touched, WINDOW};
+ghost use Rattle.cfi_map.specs.Untame.{computed, computed_place, is_off_graph, is_off_window, is_too_deep, is_wrong_return, reason, return_address, touched, WINDOW};
 
 use crate::placed::Placed;
 use crate::state::State;
-use cfi_flow::Reason;
+use cfi_map::Reason;
 use obj_input::ItemKind;
 use rv_instr::{Instr, LoadOp, Reg, StoreOp};
-use rv_word::profile::CLOSING;
 
 /// The end of the window of data.
 const WINDOW: u64 = 1 << 28;
@@ -59,7 +58,7 @@ fn return_address(placed: &Placed, state: &State) -> u64
     let _count = placed.count();
     match state.newest() {
         Some(k) => placed.gate(k),
-        None => CLOSING,
+        None => placed.closing(),
     }
 }
 

@@ -1,4 +1,4 @@
-use cfi_flow::Reason;
+use cfi_map::Reason;
 
 /// How a step of the source machine ended. A place is told by the index of its section and its offset there, in bytes.
 #[derive(Clone, Copy, PartialEq, Eq)]

@@ -1,32 +1,42 @@
-use Rattle.std.proofs.Common.{◌∙◌, ap, sym}
-use Rattle.rv_word.specs.MemoryMap.{version_1}
+use Rattle.std.proofs.Common.{ℕ, ◌∙◌, ap, subst, sym}
+use Rattle.rv_word.specs.Image.{image_profile}
+use Rattle.rv_word.specs.MemoryMap.{Profile}
 use Rattle.rv_sys.specs.Calls.{Calls}
 use Rattle.rv_machine.specs.Parts.{Parts}
-use Rattle.cfi_flow.specs.Source.{Source, source_start}
+use Rattle.cfi_map.specs.GraphAtMap.{ProgramAtMap}
+use Rattle.cfi_map.specs.Source.{Source, source_start}
+use Rattle.cfi_meaning.specs.PlacesKept.{bound, last_words}
+use Rattle.cfi_runs.specs.WholeRun.{undisturbed}
 use Rattle.src_machine.specs.Running.{source_of}
+use Rattle.cfi_compare.specs.Followed.{IsAnswered}
 use Rattle.cfi_compare.proofs.Deciding.{compared_tame, compared_untame, from_same}
 use Rattle.cfi_compare.proofs.comparing.compare.Goals as goal
 
 pub returns-in-Untame-clause-compared : goal.returns-in-Untame-clause-compared
 returns-in-Untame-clause-compared c =
-    compared_untame version_1 c.args.source.now.layout (source_of c.args.source.now) c.args.image.now c.args.input.now c.args.limit c.in-Untame.because c.in-Untame.section c.in-Untame.offset
+    compared_untame (image_profile c.args.image.now) c.args.source.now.layout (source_of c.args.source.now) c.args.image.now c.args.input.now c.args.limit c.in-Untame.because c.in-Untame.section c.in-Untame.offset
     (sym c.in-Untame.is ∙ c.in_ok-turn.ensures.finished.turn_is)
 
 pub returns-in-Untame-clause-from_start : goal.returns-in-Untame-clause-from_start
 returns-in-Untame-clause-from_start c = λ begun.
-    from_same version_1 c.args.source.now.layout (source_of c.args.source.now) (source_start c.args.source.now.layout c.args.input.now) c.args.image.now c.args.input.now c.args.limit
+    from_same (image_profile c.args.image.now) c.args.source.now.layout (source_of c.args.source.now) (source_start c.args.source.now.layout c.args.input.now) c.args.image.now c.args.input.now c.args.limit
     _ begun (returns-in-Untame-clause-compared c)
 
 pub returns-in_ok-answer-in_default : goal.returns-in_ok-answer-in_default
 returns-in_ok-answer-in_default c =
     let finished = c.in_ok-turn.ensures.finished in
-    let calls = ap (λ (m : Parts). m.calls.events) c.machine.ensures in
+    let calls = ap (λ (m : Parts). m.calls.events) c.processor.ensures in
     let events = c.events-events.ensures ∙ ap (λ (x : Calls). x.events) c.system.ensures ∙ calls ∙ ap (λ (st : Source). st.shared.events) finished.state in
-    let is = compared_tame version_1 c.args.source.now.layout (source_of c.args.source.now) c.args.image.now c.args.input.now c.args.limit c.in_ok-turn.turn c.events-events.result.now c.steps.result c.in_ok-answer-in_default.answer
-    finished.turn_is c.in_default.not-Untame events (c.steps.ensures ∙ finished.steps) c.in_ok-answer-in_default.ensures in
+    let p = image_profile c.args.image.now in
+    let profile = sym (ap (λ (x : ProgramAtMap). x.profile) finished.layout) ∙ c.form.ensures in
+    let most = c.bound-most.ensures ∙ ap (λ (q : Profile). bound 1 (last_words q) c.steps.result) (sym profile) in
+    let answered = subst (λ (n : ℕ). IsAnswered c.events-events.result.now c.in_ok-turn.turn (undisturbed p c.args.image.now c.args.input.now n) c.in_ok-answer-in_default.answer)
+    most c.in_ok-answer-in_default.ensures in
+    let is = compared_tame (image_profile c.args.image.now) c.args.source.now.layout (source_of c.args.source.now) c.args.image.now c.args.input.now c.args.limit c.in_ok-turn.turn c.events-events.result.now c.steps.result c.in_ok-answer-in_default.answer
+    finished.turn_is c.in_default.not-Untame events (c.steps.ensures ∙ finished.steps) answered in
     record {
       compared = is;
-      from_start = λ begun. from_same version_1 c.args.source.now.layout (source_of c.args.source.now) (source_start c.args.source.now.layout c.args.input.now) c.args.image.now c.args.input.now
+      from_start = λ begun. from_same (image_profile c.args.image.now) c.args.source.now.layout (source_of c.args.source.now) (source_start c.args.source.now.layout c.args.input.now) c.args.image.now c.args.input.now
           c.args.limit _ begun is;
       own = c.in_ok-turn.ensures.own;
     }

@@ -1,5 +1,5 @@
 use Rattle.obj_program.specs.Program.{count}
-use Rattle.cfi_flow.specs.SourceStep.{step_at}
+use Rattle.cfi_map.specs.SourceStep.{step_at}
 use Rattle.src_machine.specs.State.{source_in}
 use Rattle.src_machine.proofs.Inside.{either_inside, place_there}
 use Rattle.src_machine.proofs.step.step.Goals as goal
@@ -9,5 +9,5 @@ returns-in-None-clause-inside c =
     let layout = c.args.placed.now in
     let st = source_in c.args.state.now in
     either_inside layout.program (count layout.program) st (step_at layout st.place st) c.step_at.result c.step_at.new.state c.step_at.ensures.stepped
-    c.step_at.ensures.refused c.requires
-    (place_there layout c.count-count.ensures.sound c.count-count.ensures.last c.count-count.ensures.gates st.place st c.requires.place c.requires)
+    c.step_at.ensures.refused c.requires.inside
+    (place_there layout c.count-count.ensures.sound c.count-count.ensures.last c.count-count.ensures.gates st.place st c.requires.inside.place c.requires.inside)

@@ -1,6 +1,0 @@
-pub mod Prologue
-pub mod Names
-pub mod Places
-pub mod Targets
-pub mod Kept
-pub mod KindStep

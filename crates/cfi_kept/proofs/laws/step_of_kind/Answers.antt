@@ -1,5 +1,0 @@
-use Rattle.cfi_kept.proofs.KindStep as proof
-use Rattle.cfi_kept.proofs.laws.step_of_kind.Goals as goal
-
-pub returns : goal.returns
-returns c = proof.step_of_kind

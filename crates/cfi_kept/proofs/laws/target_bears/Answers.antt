@@ -1,5 +1,0 @@
-use Rattle.cfi_kept.proofs.Targets as proof
-use Rattle.cfi_kept.proofs.laws.target_bears.Goals as goal
-
-pub returns : goal.returns
-returns c = proof.target_bears

@@ -1,0 +1,42 @@
+-- What is written meets the rules, so its prologue stands.
+use Rattle.std.proofs.Common.{◌≡◌, ℕ, length, refl, sym, ap, subst, ◌∙◌}
+use Rattle.std.proofs.lemmas.Option.{same_Some}
+use Rattle.rv_word.specs.Image.{Contents}
+use Rattle.rv_word.specs.Memory.{loaded}
+use Rattle.cfi_graph.specs.Graph.{GraphParts}
+use Rattle.cfi_map.specs.GraphAtMap.{graph_lines}
+use Rattle.cfi_unit.proofs.PrologueUnits.{PrologueStands, prologue_stands}
+use Rattle.cfi_runs.specs.WholeRun.{HasPrologue}
+use Rattle.cfi_rules.specs.Rules.{IsWellFormed}
+use Rattle.cfi_rules.specs.Split.{entry_of}
+use Rattle.cfi_rules.proofs.Bytes.{loaded_small}
+use Rattle.cfi_rules.proofs.Labels.{call_fits}
+use Rattle.cfi_rules.proofs.Places.{prologue}
+use Rattle.cfi_harden.specs.Units.{Choice, entry_gate}
+use Rattle.cfi_harden.proofs.Written.{written_entry, written_well_formed}
+use Rattle.cfi_meaning.specs.PlaceLaws as law
+use Rattle.cfi_meaning.specs.ImageOf.{IsImageOf}
+
+module _ (m : Choice) (image : Contents) (of : IsImageOf m image) where
+  -- the graph that is written
+  abbrev pub written_graph : GraphParts
+  written_graph = record { code = length image.code; lines = graph_lines m.layout m.labels }
+
+  pub formed : IsWellFormed m.layout.profile image written_graph
+  formed = written_well_formed m image written_graph of.accepted of.code refl refl
+
+pub written_prologue : law.WrittenPrologue
+written_prologue m image of =
+    let p = m.layout.profile in
+    let is = of.accepted.profile in
+    let found = prologue p is image (written_graph m image of) of.bytes (formed m image of) in
+    let same : found.0 ≡ entry_gate m =
+    same_Some found.0 (entry_gate m) (sym found.1.is ∙ ap (entry_of p) of.code ∙ written_entry m of.accepted) in
+    let stands : PrologueStands p (loaded image) found.0 = prologue_stands p is (loaded image) found.0 found.1.stands in
+    subst (λ (entry : ℕ). HasPrologue p image entry) same (record {
+      is = is;
+      bytes = loaded_small image of.bytes;
+      fits = call_fits p is found.0 found.1.reaches;
+      opening = stands.opening;
+      closing = stands.closing;
+    })

@@ -1,0 +1,27 @@
+use Rattle.std.proofs.Common.{◌≡◌, ◌∙◌, ap, sym, subst, IfOk, Some}
+use Rattle.std.proofs.lemmas.Result.{IfOk-weaker}
+use Rattle.rv_word.specs.Form.{image_version, profile_for}
+use Rattle.rv_word.specs.MemoryMap.{Profile, profile_of}
+use Rattle.cfi_map.specs.GraphAtMap.{words_at}
+use Rattle.cfi_map.specs.Source.{Source}
+use Rattle.cfi_map.proofs.Values.{data_there}
+use Rattle.src_machine.specs.State.{StateParts, source_in}
+use Rattle.src_machine.proofs.Beginnings.{started}
+use Rattle.src_machine.proofs.begin.start.Goals as goal
+
+pub data-requires : goal.data-requires
+data-requires c = data_there _ _ (words_at c.args.placed.now) c.requires.range
+
+pub returns-clause-state : goal.returns-clause-state
+returns-clause-state c =
+    subst (λ (start : Source). IfOk c.new.result (λ st. source_in st ≡ start))
+    (started c.args.placed.now c.args.input.now c.deref.result.now (profile_for c.form.result).closing c.entry.result
+    (ap (λ (p : Profile). p.closing) (sym c.form.ensures)) c.entry.ensures
+    (c.in_ok-init.ensures.value ∙ ap Some (sym c.deref.ensures.value)))
+    c.new.ensures.state
+
+pub returns-clause-version : goal.returns-clause-version
+returns-clause-version c =
+    IfOk-weaker c.new.result (λ (st : StateParts). st.processor.memory.version ≡ image_version c.form.result)
+    (λ (st : StateParts). profile_of st.processor.memory.version ≡ c.args.placed.now.profile)
+    (λ st is. ap profile_of is ∙ sym c.form.ensures) c.new.ensures.version
