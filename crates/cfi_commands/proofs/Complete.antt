@@ -1,30 +1,30 @@
 -- Each command is complete: where its files are delivered, an outcome that is explained is determined by them.
-use Rattle.std.proofs.Common.{◌≡◌, ◌∙◌, ℕ, ◌≤◌, List, [], ◌∷◌, length, take, drop, Option, Some, None, Ok, inl, inr, refl, sym, ap, subst, arith}
-use Rattle.rv_word.specs.Image.{Contents, IsImageSize}
-use Rattle.rv_word.specs.MemoryMap.{version_1}
-use Rattle.elf_image.specs.Fault.{code_of, fault_of}
-use Rattle.elf_image.specs.Header.{data_start}
-use Rattle.elf_image.specs.Spelling.{spelling}
-use Rattle.elf_image.proofs.Only.{read_as, reads_none}
+use Rattle.std.proofs.Common.{◌≡◌, ◌∙◌, ℕ, ◌≤◌, List, [], ◌∷◌, ◌<◌, length, Option, Some, None, Ok, inl, inr, refl, sym, ap, subst, arith}
+use Rattle.rv_word.specs.Image.{Contents, image_profile}
+use Rattle.rv_word.specs.MemoryMap.{MayRun, profile_of}
+use Rattle.elf_image.specs.Fault.{fault_of, version_in}
+use Rattle.elf_image.proofs.Only.{reads_none}
 use Rattle.cfi_graph.specs.Graph.{GraphParts}
 use Rattle.cfi_graph.specs.Reading.{graph_of}
 use Rattle.cfi_graph.proofs.Only.{graph_of-graph_text}
-use Rattle.cfi_step.specs.Script.{Changes}
+use Rattle.cfi_step.specs.Script.{ScriptParts}
 use Rattle.cfi_step.specs.declared.report.RunReport.{RunReport}
-use Rattle.cfi_verify.specs.Rules.{IsRejected, IsWellFormed}
-use Rattle.cfi_verify.specs.declared.reject.Reject as V
-use Rattle.cfi_verify.specs.declared.reject.Reject.TheVariants.{At, Length}
+use Rattle.cfi_rules.specs.Rules.{IsRejected, IsWellFormed}
+use Rattle.cfi_rules.specs.declared.reject.Reject as V
+use Rattle.cfi_rules.specs.declared.reject.Reject.TheVariants.{At, Length}
 use Rattle.cfi_harden.specs.Request as asks
 use Rattle.cfi_files.specs.Reads.{Content, Gave, GaveNamed, IsLong, IsReached, file_limit}
 use Rattle.cfi_files.specs.Words.{text_named}
 use Rattle.cfi_files.specs.declared.refusal.Refusal.{Refusal}
-use Rattle.cfi_files.specs.declared.refusal.Refusal.TheVariants.{Graph, Image, Object, Script}
-use Rattle.cfi_commands.specs.Compare.{CompareWords, ExplainsCompare, IsCompareOf, compare_names, compare_status}
+use Rattle.cfi_files.specs.declared.refusal.Refusal.TheVariants.{Graph, Harts, Image, Object, Script}
+use Rattle.cfi_commands.specs.Compare.{CompareWords, ExplainsCompare, IsCompareOf, asked_at, compare_names, compare_status}
 use Rattle.cfi_commands.specs.Complete.{AreHeld, CompareIsComplete, IsHeld, IsHeldNamed, IsUnrefused, RewriteIsComplete, RunIsComplete, VerifyIsComplete}
-use Rattle.cfi_commands.specs.Opening.{IsImage, IsRefusal, Spell, script_given}
+use Rattle.cfi_commands.specs.Opening.{IsImage, IsRefusal, Spell, script_given, undisturbed_script}
 use Rattle.cfi_commands.specs.ReportText.{end_status}
 use Rattle.cfi_commands.specs.Rewrite.{ExplainsRewrite, IsRefused, RewriteWords, request_of, rewrite_status}
 use Rattle.cfi_commands.specs.Run.{ExplainsRun, IsRunOf, IsSafeRun, RunWords, run_status}
+use Rattle.cfi_commands.proofs.OneImage.{one_image, spelled_image, version_told}
+use Rattle.cfi_commands.proofs.ScriptHarts.{one_may_run}
 use Rattle.cfi_commands.specs.Verify.{ExplainsVerdict, IsVerdictOf, VerifyWords, verdict_status}
 use Rattle.cfi_commands.specs.declared.compare.CompareOutcome as C
 use Rattle.cfi_commands.specs.declared.compare.CompareOutcome.TheVariants as compares
@@ -67,30 +67,12 @@ none_long content (Some first ∷ names) (bytes ∷ all) name held (inl same) lo
 none_long content (Some first ∷ names) (bytes ∷ all) name held (inr later) long =
     none_long content names all name held.1 later.1 long
 
--- a file spells one image
-code_there : (bytes code init : List ℕ) → IsImageSize (length code) (length init) → bytes ≡ spelling code init
-    → take (code_of bytes) (drop 0x1000 bytes) ≡ code
-code_there bytes code init size is =
-    let r = read_as code init size in
-    subst (λ (xs : List ℕ). take (code_of xs) (drop 0x1000 xs) ≡ code) (sym is)
-    (ap (λ (n : ℕ). take n (drop 0x1000 (spelling code init))) r.code_named ∙ r.code_there)
-
-init_there : (bytes code init : List ℕ) → IsImageSize (length code) (length init) → bytes ≡ spelling code init
-    → drop (data_start (code_of bytes)) bytes ≡ init
-init_there bytes code init size is =
-    let r = read_as code init size in
-    subst (λ (xs : List ℕ). drop (data_start (code_of xs)) xs ≡ init) (sym is)
-    (ap (λ (n : ℕ). drop (data_start n) (spelling code init)) r.code_named ∙ r.init_there)
-
-one_image : (bytes : List ℕ) (a b : Contents) → IsImage bytes a → IsImage bytes b → a ≡ b
-one_image bytes a b is other =
-    let code : a.code ≡ b.code = sym (code_there bytes a.code a.init is.size is.image_is) ∙ code_there bytes b.code b.init other.size other.image_is in
-    let init : a.init ≡ b.init = sym (init_there bytes a.code a.init is.size is.image_is) ∙ init_there bytes b.code b.init other.size other.image_is in
-    λ i. record { code = code i; init = init i }
-
 module _ (image_bytes graph_bytes : List ℕ) (image : Contents) (graph : GraphParts) (spell : Spell image_bytes graph_bytes image graph) where
   no_fault : fault_of image_bytes ≡ None
-  no_fault = reads_none image_bytes image.code image.init spell.size spell.image_is
+  no_fault = reads_none image_bytes image.version image.code image.init spell.version spell.size spell.image_is
+
+  own : IsImage image_bytes image
+  own = spelled_image image_bytes graph_bytes image graph spell
 
   graph_read : graph_of graph_bytes ≡ Ok graph
   graph_read = ap graph_of spell.graph_is ∙ graph_of-graph_text graph spell.parts
@@ -99,20 +81,32 @@ module _ (image_bytes graph_bytes : List ℕ) (image : Contents) (graph : GraphP
   one_pair other lines is =
       let read : graph_of graph_bytes ≡ Ok lines = ap graph_of is.graph_is ∙ graph_of-graph_text lines is.parts in
       let same : lines ≡ graph = cc (read, graph_read) in (
-        one_image image_bytes other image (record { image_is = is.image_is; size = is.size }) (record { image_is = spell.image_is; size = spell.size }),
+        one_image image_bytes other image (spelled_image image_bytes graph_bytes other lines is) own,
         same,
       )
 
-  no_refusal : (script : Option (List ℕ)) (changes : Changes) → script_given script ≡ Ok changes → (refusal : Refusal)
-      → IsRefusal image_bytes graph_bytes script refusal → ⊥
-  no_refusal script changes given (Image refusal) is = cc (is, no_fault)
-  no_refusal script changes given (Graph line reason) is = let wrong = is.1 in cc (wrong, graph_read)
-  no_refusal script changes given (Script line reason) is = let wrong = is.1 in cc (wrong, given)
-  no_refusal script changes given other is = is
+  -- an image that a file tells to be of version 1 may have one hart
+  few_harts : (harts : ℕ) → MayRun (image_profile image) harts → version_in image_bytes ≡ 1 → 1 < harts → ⊥
+  few_harts harts may first more =
+      let same : image.version ≡ 1 = sym (version_told image_bytes image own) ∙ first in
+      let most : harts ≤ (profile_of 1).harts = subst (λ (v : ℕ). harts ≤ (profile_of v).harts) same may.most in
+      omega (arith, most, more)
 
-  module _ (well : IsWellFormed version_1 image graph) where
+  no_refusal : (script : Option (List ℕ)) (read : ScriptParts) → script_given script ≡ Ok read → MayRun (image_profile image) read.harts
+      → (refusal : Refusal) → IsRefusal image_bytes graph_bytes script refusal → ⊥
+  no_refusal script read given may (Image refusal) is = cc (is, no_fault)
+  no_refusal script read given may (Graph line reason) is = let wrong = is.1 in cc (wrong, graph_read)
+  no_refusal script read given may (Script line reason) is = let wrong = is.1 in cc (wrong, given)
+  no_refusal script read given may (Harts count) is =
+      let (pair, (other, again, counted), more, first) = is in
+      let same : other ≡ read = cc (again, given) in
+      let harts : read.harts ≡ count = sym (ap (λ (s : ScriptParts). s.harts) same) ∙ counted in
+      few_harts count (subst (λ (n : ℕ). MayRun (image_profile image) n) harts may) first more
+  no_refusal script read given may other is = is
+
+  module _ (well : IsWellFormed (image_profile image) image graph) where
     -- what meets the rules is not rejected
-    not_rejected : (reject : V.Reject) → IsRejected version_1 image graph reject → ⊥
+    not_rejected : (reject : V.Reject) → IsRejected (image_profile image) image graph reject → ⊥
     not_rejected (Length code given) is =
         let (code_is, given_is, other) = is in other (code_is ∙ sym well.same_length ∙ sym given_is)
     not_rejected (At rule a) is =
@@ -122,34 +116,35 @@ module _ (image_bytes graph_bytes : List ℕ) (image : Contents) (graph : GraphP
         cc (holds, here)
 
     none_rejected : (other : Contents) (lines : GraphParts) (reject : V.Reject) → Spell image_bytes graph_bytes other lines
-        → IsRejected version_1 other lines reject → ⊥
+        → IsRejected (image_profile other) other lines reject → ⊥
     none_rejected other lines reject is rejected =
         let same = one_pair other lines is in
-        not_rejected reject (subst (λ (g : GraphParts). IsRejected version_1 image g reject) same.1
-        (subst (λ (i : Contents). IsRejected version_1 i lines reject) same.0 rejected))
+        not_rejected reject (subst (λ (g : GraphParts). IsRejected (image_profile image) image g reject) same.1
+        (subst (λ (i : Contents). IsRejected (image_profile i) i lines reject) same.0 rejected))
 
     judged : (verdict : D.Verdict) → IsVerdictOf image_bytes graph_bytes verdict → verdict_status verdict ≡ 0
     judged verdicts.Accepted is = refl
-    judged (verdicts.Refused refusal) is = absurd (no_refusal None [] refl refusal is)
+    judged (verdicts.Refused refusal) is = absurd (no_refusal None undisturbed_script refl (one_may_run image.version) refusal is)
     judged (verdicts.Rejected reject) is = let (other, lines, spelled, rejected) = is in absurd (none_rejected other lines reject spelled rejected)
 
-    module _ (script : Option (List ℕ)) (changes : Changes) (given : script_given script ≡ Ok changes) (input : List ℕ) (limit : ℕ) where
-      safe_run : (other : Contents) (lines : GraphParts) (made : Changes) (report : RunReport) → Spell image_bytes graph_bytes other lines
-          → script_given script ≡ Ok made → IsSafeRun other lines made input limit report → IsSafeRun image graph changes input limit report
+    module _ (script : Option (List ℕ)) (read : ScriptParts) (given : script_given script ≡ Ok read) (may : MayRun (image_profile image) read.harts)
+        (input : List ℕ) (limit : ℕ) where
+      safe_run : (other : Contents) (lines : GraphParts) (made : ScriptParts) (report : RunReport) → Spell image_bytes graph_bytes other lines
+          → script_given script ≡ Ok made → IsSafeRun other lines made input limit report → IsSafeRun image graph read input limit report
       safe_run other lines made report is second safe =
           let same = one_pair other lines is in
-          let one : made ≡ changes = cc (second, given) in
-          subst (λ (c : Changes). IsSafeRun image graph c input limit report) one
+          let one : made ≡ read = cc (second, given) in
+          subst (λ (s : ScriptParts). IsSafeRun image graph s input limit report) one
           (subst (λ (g : GraphParts). IsSafeRun image g made input limit report) same.1
           (subst (λ (i : Contents). IsSafeRun i lines made input limit report) same.0 safe))
 
       ran : (result : N.RunOutcome) → IsRunOf image_bytes graph_bytes script input limit result
-          → (report : RunReport) × IsSafeRun image graph changes input limit report × (run_status result ≡ end_status report.end)
-      ran (runs.Refused refusal) is = absurd (no_refusal script changes given refusal is)
+          → (report : RunReport) × IsSafeRun image graph read input limit report × (run_status result ≡ end_status report.end)
+      ran (runs.Refused refusal) is = absurd (no_refusal script read given may refusal is)
       ran (runs.Rejected reject) is =
-          let (other, lines, made, spelled, second, rejected) = is in absurd (none_rejected other lines reject spelled rejected)
-      ran (runs.Ran report) is =
-          let (other, lines, made, spelled, second, safe) = is in
+          let (other, lines, made, spelled, second, allowed, rejected) = is in absurd (none_rejected other lines reject spelled rejected)
+      ran (runs.Ran version report) is =
+          let (other, lines, made, spelled, second, allowed, (told, safe)) = is in
           (report, safe_run other lines made report spelled second safe, refl)
 
 pub verify_complete : (content : Content) (words : VerifyWords) (verdict : D.Verdict) → ExplainsVerdict content words verdict
@@ -163,12 +158,12 @@ verify_complete content words verdict is = λ image_bytes graph_bytes image grap
 
 pub run_complete : (content : Content) (words : RunWords) (result : N.RunOutcome) → ExplainsRun content words result
     → RunIsComplete content words (run_status result)
-run_complete content words result is = λ image_bytes graph_bytes script_bytes input image graph changes held spell given well.
+run_complete content words result is = λ image_bytes graph_bytes script_bytes input image graph read held spell given may well.
     let image_same = same_bytes (content words.image) image_bytes is.image_bytes held.0 is.image_gave in
     let graph_same = same_bytes (content words.graph) graph_bytes is.graph_bytes held.1.0 is.graph_gave in
     let script_same = same_named content words.script script_bytes is.script_bytes held.1.1.0 is.script_gave in
     let input_same = same_named content words.input input is.input_bytes held.1.1.1.0 is.input_gave in
-    ran image_bytes graph_bytes image graph spell well (text_named words.script script_bytes) changes given input words.limit result
+    ran image_bytes graph_bytes image graph spell well (text_named words.script script_bytes) read given may input words.limit result
     (subst (λ (n : List ℕ). IsRunOf image_bytes graph_bytes (text_named words.script script_bytes) n words.limit result) input_same
     (subst (λ (s : List ℕ). IsRunOf image_bytes graph_bytes (text_named words.script s) is.input_bytes words.limit result) script_same
     (subst (λ (g : List ℕ). IsRunOf image_bytes g (text_named words.script is.script_bytes) is.input_bytes words.limit result) graph_same
@@ -198,7 +193,7 @@ record CompareBytes : Type 0 where
 
 abbrev IsCompareIn : CompareWords → C.CompareOutcome → CompareBytes → Type 0
 IsCompareIn words result b =
-    IsCompareOf (record { object = b.object; entry = words.entry; policy = text_named words.policy b.policy }) b.image b.map b.input words.limit result
+    IsCompareOf (asked_at b.map b.object words.entry (text_named words.policy b.policy)) b.image b.map b.input words.limit result
 
 -- what an explained comparison says of the contents that are held
 compared_in : (content : Content) (words : CompareWords) (result : C.CompareOutcome) → ExplainsCompare content words result → (b : CompareBytes)

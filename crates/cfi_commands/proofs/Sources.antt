@@ -1,17 +1,17 @@
 -- A program at the map that a text spells, and what comes of it and of a file that should be an image.
-use Rattle.std.proofs.Common.{◌≡◌, ◌+◌, ◌≤◌, ◌<◌, ℕ, List, None, Some, Ok, Err, inl, inr, sym, subst, arith}
-use Rattle.rv_word.specs.MemoryMap.{version_1}
+use Rattle.std.proofs.Common.{◌≡◌, ◌+◌, ◌≤◌, ℕ, List, None, Some, Ok, Err, inl, inr, sym, subst, arith}
+use Rattle.rv_word.specs.Image.{image_profile}
 use Rattle.rv_word.proofs.Cases.{cases_Option}
 use Rattle.rv_word.specs.MemoryMap.{DATA_END, DATA_START}
 use Rattle.text_lines.specs.declared.reason.Reason.{Reason}
 use Rattle.text_lines.specs.declared.end.TextEnd.TheVariants.{Line}
 use Rattle.obj_program.specs.DataAtMap.{init_size}
 use Rattle.elf_image.specs.Fault.{fault_of}
+use Rattle.cfi_graph.specs.Map.{MapParts}
 use Rattle.cfi_graph.specs.MapText.{map_of}
-use Rattle.cfi_graph.specs.declared.map.MapLine.{MapLine}
-use Rattle.cfi_flow.specs.GraphAtMap.{ProgramAtMap, program_at}
-use Rattle.cfi_flow.specs.LegalMap.{gates_of}
-use Rattle.cfi_flow.specs.MapFault.{IsWrongLine}
+use Rattle.cfi_map.specs.GraphAtMap.{ProgramAtMap, program_at}
+use Rattle.cfi_map.specs.LegalMap.{gates_of}
+use Rattle.cfi_map.specs.MapFault.{IsWrongLine}
 use Rattle.cfi_flow.specs.Policy.{instruction_at}
 use Rattle.cfi_harden.specs.Hardened.{HasDataRoom}
 use Rattle.cfi_harden.specs.Prepared.{PreparedParts}
@@ -39,23 +39,23 @@ pub data_fits : (p : PreparedParts) → HasDataRoom p.program → DATA_START + i
 data_fits p room = omega (arith, room.init)
 
 -- a run that is begun at the entry's section and offset is the program's from its start
-pub source_on : (p : PreparedParts) (input : List ℕ) (lines : List MapLine) (section offset : ℕ) (run : SourceParts)
+pub source_on : (p : PreparedParts) (input : List ℕ) (m : MapParts) (section offset : ℕ) (run : SourceParts)
     → instruction_at p.program (section, offset) ≡ Some p.entry
-    → IsBegun p.program p.closed lines section offset input run → IsSourceOn p lines input run
-source_on p input lines section offset run at begun =
+    → IsBegun p.program p.closed m section offset input run → IsSourceOn p m input run
+source_on p input m section offset run at begun =
     let same : run.layout.entry ≡ p.entry = cc (begun.entry, at) in
     record {
       legal = begun.legal;
       in_range = begun.in_range;
-      layout = subst (λ (entry : ℕ). run.layout ≡ program_at p.program p.closed (gates_of lines) entry) same begun.layout;
+      layout = subst (λ (entry : ℕ). run.layout ≡ program_at m.form p.program p.closed (gates_of m.lines) entry) same begun.layout;
       state = begun.state;
       steps = begun.steps;
     }
 
-pub source_is : (p : PreparedParts) (map input : List ℕ) (lines : List MapLine) (run : SourceParts)
-    → map_of map ≡ Ok lines → IsSourceOn p lines input run → IsSourceAt p map input run
-source_is p map input lines run read on = record {
-  lines = lines;
+pub source_is : (p : PreparedParts) (map input : List ℕ) (m : MapParts) (run : SourceParts)
+    → map_of map ≡ Ok m → IsSourceOn p m input run → IsSourceAt p map input run
+source_is p map input m run read on = record {
+  at = m;
   map_is = record { read = read; legal = on.legal };
   in_range = on.in_range;
   layout = on.layout;
@@ -82,21 +82,21 @@ module _ (request : Request) (p : PreparedParts) (map : List ℕ) (roomy : IsRoo
   pub runnable_source : (input : List ℕ) (run : SourceParts) → IsSourceAt p map input run → IsRunnable request p map
   runnable_source input run source = record {
     roomy = roomy;
-    in_range = λ lines is.
-        let same : lines ≡ source.lines = cc (is.read, source.map_is.read) in
-        subst (λ (ls : List MapLine). first_out p ls ≡ None) (sym same) source.in_range;
+    in_range = λ m is.
+        let same : m ≡ source.at = cc (is.read, source.map_is.read) in
+        subst (λ (n : MapParts). first_out p n ≡ None) (sym same) source.in_range;
   }
 
   pub runnable_text : (line : ℕ) (reason : Reason) → map_of map ≡ Err (Line line reason) → IsRunnable request p map
-  runnable_text line reason wrong = record { roomy = roomy; in_range = λ lines is. absurd (cc (is.read, wrong)) }
+  runnable_text line reason wrong = record { roomy = roomy; in_range = λ m is. absurd (cc (is.read, wrong)) }
 
-  pub runnable_place : (lines : List MapLine) (line : ℕ) → WrongIsNotLegal → map_of map ≡ Ok lines → IsWrongLine p.program p.closed lines line
+  pub runnable_place : (m : MapParts) (line : ℕ) → WrongIsNotLegal → map_of map ≡ Ok m → IsWrongLine p.program p.closed m line
       → IsRunnable request p map
-  runnable_place lines line law read wrong = record {
+  runnable_place m line law read wrong = record {
     roomy = roomy;
-    in_range = λ others is.
-        let same : others ≡ lines = cc (is.read, read) in
-        absurd (law p.program p.closed others line (subst (λ (ls : List MapLine). IsWrongLine p.program p.closed ls line) (sym same) wrong) is.legal);
+    in_range = λ other is.
+        let same : other ≡ m = cc (is.read, read) in
+        absurd (law p.program p.closed other line (subst (λ (n : MapParts). IsWrongLine p.program p.closed n line) (sym same) wrong) is.legal);
   }
 
   -- what comes of the program's run from its start is the comparison
@@ -104,12 +104,12 @@ module _ (request : Request) (p : PreparedParts) (map : List ℕ) (roomy : IsRoo
       → IsResult run image input limit result → IsComparison request image map input limit result
   comparison_is image input limit run result source is = record {
     program = p;
-    lines = source.lines;
+    at = source.at;
     contents = is.contents;
     runnable = runnable_source input run source;
     map_is = source.map_is;
     image_is = is.image_is;
-    result_is = subst (λ (l : ProgramAtMap). result ≡ told_answer l.program (compared version_1 l is.contents input limit)) source.layout is.result_is;
+    result_is = subst (λ (l : ProgramAtMap). result ≡ told_answer l.program (compared (image_profile is.contents) l is.contents input limit)) source.layout is.result_is;
   }
 
   -- what comes of the program's run from its start, whatever the file is that should be an image
@@ -120,16 +120,17 @@ module _ (request : Request) (p : PreparedParts) (map : List ℕ) (roomy : IsRoo
   compared_with image input limit run (outcome.Refused (refused.Graph line reason)) source is = absurd is
   compared_with image input limit run (outcome.Refused (refused.Map line reason)) source is = absurd is
   compared_with image input limit run (outcome.Refused (refused.Script line reason)) source is = absurd is
+  compared_with image input limit run (outcome.Refused (refused.Harts count)) source is = absurd is
   compared_with image input limit run (outcome.Compared result) source is = comparison_is image input limit run result source is
 
   module _ (image : List ℕ) (refusal : Refused) where
     -- a map's line that is no legal placement's, and a text that is no map, after an image's own refusal
-    pub wrong_place : (lines : List MapLine) (line : ℕ) → WrongIsNotLegal → map_of map ≡ Ok lines → IsWrongLine p.program p.closed lines line
+    pub wrong_place : (m : MapParts) (line : ℕ) → WrongIsNotLegal → map_of map ≡ Ok m → IsWrongLine p.program p.closed m line
         → IsAfterImage image (refused.Map line Place) refusal → IsCompareRefused request image map refusal
-    wrong_place lines line law read wrong after =
-        let runnable = runnable_place lines line law read wrong in
+    wrong_place m line law read wrong after =
+        let runnable = runnable_place m line law read wrong in
         elim (cases_Option (fault_of image)) [
-          | inl none ↦ subst (λ (r : Refused). IsCompareRefused request image map r) (sym (after.right none)) (p, lines, runnable, none, read, wrong)
+          | inl none ↦ subst (λ (r : Refused). IsCompareRefused request image map r) (sym (after.right none)) (p, m, runnable, none, read, wrong)
           | inr (f, some) ↦ subst (λ (r : Refused). IsCompareRefused request image map r) (sym (after.wrong f some)) (p, runnable, some)
         ]
 

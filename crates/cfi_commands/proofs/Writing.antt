@@ -1,13 +1,9 @@
 -- Files that are written one after the other.
-use Rattle.std.proofs.Common.{◌≡◌, ◌≢◌, ◌↔◌, ◌∙◌, ℕ, List, [], ◌∷◌, ◌++◌, Option, Some, None, inl, inr, refl, sym, subst}
+use Rattle.std.proofs.Common.{◌≢◌, ◌∙◌, ℕ, List, [], ◌∷◌, ◌++◌, Option, Some, None, refl, sym, subst}
 use Rattle.std.specs.Prelude.{⊤}
-use Rattle.std.specs.Str.{bytes_eq}
-use Rattle.std.proofs.lemmas.Bool.{cases_Bool}
-use Rattle.std.proofs.lemmas.Bool.Decides.{not_from_Decides}
-use Rattle.std.proofs.lemmas.Slice.Eq.{bytes_eq-Decides}
 use Rattle.tool_io.specs.Contents.{Becomes}
 use Rattle.tool_io.specs.declared.files.Files.{Ghosts}
-use Rattle.cfi_files.specs.Writes.{AreApart, AreWhole, IsCut, IsOther, IsTold, IsTorn, IsWhole, OutputParts, Wrote}
+use Rattle.cfi_files.specs.Writes.{AreApart, AreWhole, IsCut, IsOther, IsTold, IsTorn, OutputParts, Wrote}
 
 other_both : (done more : List OutputParts) (name : List ℕ) → IsOther (done ++ more) name → IsOther done name × IsOther more name
 other_both [] more name other = (tt, other)

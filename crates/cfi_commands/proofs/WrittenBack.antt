@@ -1,27 +1,36 @@
--- What `rewrite` writes is read back.
-use Rattle.std.proofs.Common.{◌∙◌, ap}
+-- What `rewrite` and `harden` write is read back.
+use Rattle.std.proofs.Common.{◌∙◌, ap, subst}
+use Rattle.rv_word.specs.Form.{image_version}
 use Rattle.cfi_graph.specs.MapText.{map_of}
 use Rattle.cfi_graph.proofs.MapLaws.{map_of-map_text}
+use Rattle.cfi_map.specs.GraphAtMap.{ProgramAtMap}
+use Rattle.cfi_map.specs.LegalMap.{IsLegalMap}
 use Rattle.cfi_files.specs.Writes.{OutputParts}
+use Rattle.cfi_commands.specs.Compare.{form_told}
 use Rattle.cfi_commands.specs.Laws.{WrittenIsRead}
+use Rattle.cfi_commands.proofs.OneImage.{known_version}
 
 pub written_is_read : WrittenIsRead
 written_is_read words request hardened written made is =
     let (object, (p, prepared, (s, labels, code, init, placed, room, in_range, w))) = made.is_hardened in
+    let read = ap (λ (o : OutputParts). map_of o.bytes) is.map ∙ map_of-map_text hardened.map is.map_right in
     record {
       hardened = hardened;
-      image = record { code = code; init = init };
+      image = record { version = image_version p.form; code = code; init = init };
       program = p;
       spelled = record {
         image_is = ap (λ (o : OutputParts). o.bytes) is.image ∙ w.image;
+        version = known_version p.form;
         size = w.bytes.size;
         graph_is = ap (λ (o : OutputParts). o.bytes) is.graph;
         parts = is.graph_right;
       };
       well_formed = w.well_formed;
+      version = ap image_version prepared.form;
       prepared = (object, prepared);
+      form = ap form_told read ∙ w.map_form ∙ prepared.form;
       map_is = record {
-        read = ap (λ (o : OutputParts). map_of o.bytes) is.map ∙ map_of-map_text hardened.map is.map_right;
-        legal = w.map;
+        read = read;
+        legal = subst (λ (l : ProgramAtMap). IsLegalMap l.program l.closed hardened.map) placed.of w.map;
       };
     }

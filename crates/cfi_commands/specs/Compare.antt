@@ -1,19 +1,21 @@
 -- `compare OBJECT ENTRY POLICY IMAGE MAP INPUT STEPS`: the system calls of an image against those of its object, which is run as a
--- program at the map. The word `none` for POLICY or INPUT means no file.
-use Rattle.std.specs.Prelude.{◌≡◌, ℕ, ◌⊎◌, List, [], ◌∷◌, ◌++◌, codes, ⊤, Option, Some, None, option_map, Ok, Err}
-use Rattle.rv_word.specs.Image.{Contents}
-use Rattle.rv_word.specs.MemoryMap.{version_1}
+-- program at the map, in the map's form. The word `none` for POLICY or INPUT means no file.
+use Rattle.std.specs.Prelude.{◌≡◌, ℕ, List, [], ◌∷◌, ◌++◌, codes, ⊤, Option, Some, None, option_map, Result, Ok, Err}
+use Rattle.rv_word.specs.Image.{Contents, image_profile}
+use Rattle.rv_word.specs.declared.form.Form.{Form}
+use Rattle.rv_word.specs.declared.form.Form.TheVariants.{Plain}
+use Rattle.text_lines.specs.declared.end.TextEnd.{TextEnd}
 use Rattle.text_lines.specs.declared.end.TextEnd.TheVariants.{Line}
 use Rattle.elf_image.specs.Fault.{fault_of}
 use Rattle.elf_image.specs.declared.refusal.ImageRefusal.{ImageRefusal}
 use Rattle.obj_program.specs.DataAtMap.{init_size}
 use Rattle.obj_program.specs.Range.{out_of_range}
 use Rattle.least.specs.declared.place.Place as found
+use Rattle.cfi_graph.specs.Map.{MapParts}
 use Rattle.cfi_graph.specs.MapText.{map_of}
-use Rattle.cfi_graph.specs.declared.map.MapLine.{MapLine}
-use Rattle.cfi_flow.specs.LegalMap.{IsLegalMap, gates_of}
-use Rattle.cfi_flow.specs.MapFault.{IsWrongLine}
-use Rattle.cfi_flow.specs.Placement.{words_from}
+use Rattle.cfi_map.specs.LegalMap.{IsLegalMap, gates_of}
+use Rattle.cfi_map.specs.MapFault.{IsWrongLine}
+use Rattle.cfi_map.specs.Placement.{words_from}
 use Rattle.cfi_harden.specs.Hardened.{HasDataRoom}
 use Rattle.cfi_harden.specs.Prepared.{IsPrepared, PreparedParts}
 use Rattle.cfi_harden.specs.Refused.{Refuses}
@@ -21,8 +23,8 @@ use Rattle.cfi_harden.specs.Request as asks
 use Rattle.cfi_harden.specs.declared.refusal.HardenEnd.{HardenEnd}
 use Rattle.cfi_harden.specs.declared.refusal.HardenEnd.TheVariants as ends
 use Rattle.cfi_harden.specs.declared.refusal.Refusal.TheVariants as rewriter
-use Rattle.cfi_flow.specs.Source.{source_start}
-use Rattle.cfi_flow.specs.GraphAtMap.{program_at}
+use Rattle.cfi_map.specs.Source.{source_start}
+use Rattle.cfi_map.specs.GraphAtMap.{ProgramAtMap, program_at}
 use Rattle.src_machine.specs.Running.{SourceParts, source_of}
 use Rattle.cfi_meaning.specs.Compared.{compared}
 use Rattle.cfi_compare.specs.Text.{answer_text}
@@ -64,24 +66,40 @@ compare_names asks = Some asks.object ∷ asks.policy ∷ Some asks.image ∷ So
 abbrev pub compare_asked : CompareRequest → CompareWords
 compare_asked r = record { object = r.object.now; entry = r.entry.now; policy = option_map (λ name. name.now) r.policy; image = r.image.now; map = r.map.now; input = option_map (λ name. name.now) r.input; limit = r.limit }
 
+-- the form of the map that a text spells; where it spells none, no form is asked for
+abbrev pub form_told : Result MapParts TextEnd → Form
+form_told (Ok m) = m.form
+form_told (Err end) = Plain
+
+abbrev pub map_form : List ℕ → Form
+map_form text = form_told (map_of text)
+
+-- what is asked of an object: by its entry, under a policy, and in the form of a map
+abbrev pub asked_at : List ℕ → List ℕ → List ℕ → Option (List ℕ) → asks.Request
+asked_at map object entry policy = record { form = map_form map; object = object; entry = entry; policy = policy }
+
 -- an object is a program, is entered and has a right policy, and its data have room
 pub record IsRoomy (request : asks.Request) (p : PreparedParts) : Type 0 where
   pub prepared : IsPrepared request p
   pub room : HasDataRoom p.program
 
--- the text is a legal map of the program, with these lines
-pub record IsMapOf (p : PreparedParts) (text : List ℕ) (lines : List MapLine) : Type 0 where
-  pub read : map_of text ≡ Ok lines
-  pub legal : IsLegalMap p.program p.closed lines
+-- the text is a legal map of the program
+pub record IsMapOf (p : PreparedParts) (text : List ℕ) (m : MapParts) : Type 0 where
+  pub read : map_of text ≡ Ok m
+  pub legal : IsLegalMap p.program p.closed m
+
+-- the program at the map, as images of the map's form have it
+abbrev pub at_map : PreparedParts → MapParts → ProgramAtMap
+at_map p m = program_at m.form p.program p.closed (gates_of m.lines) p.entry
 
 -- where a value first leaves its range at the map
-abbrev pub first_out : PreparedParts → List MapLine → Option found.Place
-first_out p lines = out_of_range p.program (gates_of lines) (words_from p.closed.sides 0 (gates_of lines))
+abbrev pub first_out : PreparedParts → MapParts → Option found.Place
+first_out p m = out_of_range p.program (gates_of m.lines) (words_from p.closed.sides 0 (gates_of m.lines))
 
 -- a program that can be run, as far as the map is one
 pub record IsRunnable (request : asks.Request) (p : PreparedParts) (map : List ℕ) : Type 0 where
   pub roomy : IsRoomy request p
-  pub in_range : (lines : List MapLine) → IsMapOf p map lines → first_out p lines ≡ None
+  pub in_range : (m : MapParts) → IsMapOf p map m → first_out p m ≡ None
 
 -- a refusal stands, and none before it: of the object, its entry or the policy, of room for data, of a value out of its range at a legal
 -- map, of the image, of the map
@@ -90,13 +108,13 @@ IsCompareRefused request image map (Object (rewriter.CodeTooLarge bytes)) = ⊥
 IsCompareRefused request image map (Object (rewriter.DataTooLarge init last)) =
     (p : PreparedParts) × IsPrepared request p × (init ≡ init_size p.program) × (last ≡ p.program.data_end) × (HasDataRoom p.program → ⊥)
 IsCompareRefused request image map (Object (rewriter.RelocRange section offset)) =
-    (p : PreparedParts) × (lines : List MapLine) × IsRoomy request p × IsMapOf p map lines × (first_out p lines ≡ Some (record { section = section; offset = offset }))
+    (p : PreparedParts) × (m : MapParts) × IsRoomy request p × IsMapOf p map m × (first_out p m ≡ Some (record { section = section; offset = offset }))
 IsCompareRefused request image map (Object early) = Refuses request early
 IsCompareRefused request image map (Image refusal) = (p : PreparedParts) × IsRunnable request p map × (fault_of image ≡ Some refusal)
 IsCompareRefused request image map (Map line (Text reason)) =
     (p : PreparedParts) × IsRunnable request p map × (fault_of image ≡ None) × (map_of map ≡ Err (Line line reason))
 IsCompareRefused request image map (Map line Place) =
-    (p : PreparedParts) × (lines : List MapLine) × IsRunnable request p map × (fault_of image ≡ None) × (map_of map ≡ Ok lines) × IsWrongLine p.program p.closed lines line
+    (p : PreparedParts) × (m : MapParts) × IsRunnable request p map × (fault_of image ≡ None) × (map_of map ≡ Ok m) × IsWrongLine p.program p.closed m line
 IsCompareRefused request image map other = ⊥
 
 -- why there is no program whose data have room, where only want of memory is free. Only private contracts cite this
@@ -111,10 +129,10 @@ pub record IsAfterImage (image : List ℕ) (map result : Refusal) : Type 0 where
 
 -- a program at the map that a text spells, from its start
 pub record IsSourceAt (p : PreparedParts) (map input : List ℕ) (run : SourceParts) : Type 0 where
-  pub lines : List MapLine
-  pub map_is : IsMapOf p map lines
-  pub in_range : first_out p lines ≡ None
-  pub layout : run.layout ≡ program_at p.program p.closed (gates_of lines) p.entry
+  pub at : MapParts
+  pub map_is : IsMapOf p map at
+  pub in_range : first_out p at ≡ None
+  pub layout : run.layout ≡ at_map p at
   pub state : source_of run ≡ source_start run.layout input
   pub steps : run.steps ≡ 0
 
@@ -127,7 +145,7 @@ pub record IsFresh (input : List ℕ) (run : SourceParts) : Type 0 where
 pub record IsResult (run : SourceParts) (image input : List ℕ) (limit : ℕ) (result : A.Compared) : Type 0 where
   pub contents : Contents
   pub image_is : IsImage image contents
-  pub result_is : result ≡ told_answer run.layout.program (compared version_1 run.layout contents input limit)
+  pub result_is : result ≡ told_answer run.layout.program (compared (image_profile contents) run.layout contents input limit)
 
 abbrev pub IsImageCompared : SourceParts → List ℕ → List ℕ → ℕ → CompareOutcome → Type 0
 IsImageCompared run image input limit (outcome.Refused (Image refusal)) = fault_of image ≡ Some refusal
@@ -137,12 +155,12 @@ IsImageCompared run image input limit (outcome.Compared result) = IsResult run i
 -- the object is run at the map, the image beside it, and this is how they compare
 pub record IsComparison (request : asks.Request) (image map input : List ℕ) (limit : ℕ) (result : A.Compared) : Type 0 where
   pub program : PreparedParts
-  pub lines : List MapLine
+  pub at : MapParts
   pub contents : Contents
   pub runnable : IsRunnable request program map
-  pub map_is : IsMapOf program map lines
+  pub map_is : IsMapOf program map at
   pub image_is : IsImage image contents
-  pub result_is : result ≡ told_answer program.program (compared version_1 (program_at program.program program.closed (gates_of lines) program.entry) contents input limit)
+  pub result_is : result ≡ told_answer program.program (compared (image_profile contents) (at_map program at) contents input limit)
 
 abbrev pub IsCompareOf : asks.Request → List ℕ → List ℕ → List ℕ → ℕ → CompareOutcome → Type 0
 IsCompareOf request image map input limit (outcome.Refused refusal) = IsCompareRefused request image map refusal
@@ -160,7 +178,7 @@ pub record ExplainsCompare (content : Content) (words : CompareWords) (result : 
   pub image_gave : Gave (content words.image) image_bytes
   pub map_gave : Gave (content words.map) map_bytes
   pub input_gave : GaveNamed content words.input input_bytes
-  pub compare_is : IsCompareOf (record { object = object_bytes; entry = words.entry; policy = text_named words.policy policy_bytes }) image_bytes map_bytes input_bytes words.limit result
+  pub compare_is : IsCompareOf (asked_at map_bytes object_bytes words.entry (text_named words.policy policy_bytes)) image_bytes map_bytes input_bytes words.limit result
 
 abbrev pub compare_line : CompareOutcome → List ℕ
 compare_line (outcome.Refused refusal) = refusal_line refusal

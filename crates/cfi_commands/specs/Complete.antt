@@ -1,10 +1,10 @@
 -- Completeness: where a command's files are delivered and nothing stands against what they hold, its status is that of its success.
 use Rattle.std.specs.Prelude.{◌≡◌, ℕ, ◌≤◌, List, [], ◌∷◌, length, ⊤, Option, Some, None, Ok}
-use Rattle.rv_word.specs.Image.{Contents}
-use Rattle.rv_word.specs.MemoryMap.{version_1}
+use Rattle.rv_word.specs.Image.{Contents, image_profile}
+use Rattle.rv_word.specs.MemoryMap.{MayRun}
 use Rattle.cfi_graph.specs.Graph.{GraphParts}
-use Rattle.cfi_verify.specs.Rules.{IsWellFormed}
-use Rattle.cfi_step.specs.Script.{Changes}
+use Rattle.cfi_rules.specs.Rules.{IsWellFormed}
+use Rattle.cfi_step.specs.Script.{ScriptParts}
 use Rattle.cfi_step.specs.declared.report.RunReport.{RunReport}
 use Rattle.cfi_compare.specs.declared.answer.Compared as A
 use Rattle.cfi_harden.specs.Refused.{Refuses}
@@ -13,7 +13,7 @@ use Rattle.cfi_harden.specs.declared.refusal.Refusal as R
 use Rattle.cfi_files.specs.Reads.{Content, file_limit}
 use Rattle.cfi_files.specs.Words.{text_named}
 use Rattle.cfi_files.specs.declared.refusal.Refusal.{Refusal}
-use Rattle.cfi_commands.specs.Compare.{CompareWords, IsCompareRefused, IsComparison, answer_status, compare_names}
+use Rattle.cfi_commands.specs.Compare.{CompareWords, IsCompareRefused, IsComparison, answer_status, asked_at, compare_names}
 use Rattle.cfi_commands.specs.Opening.{Spell, script_given}
 use Rattle.cfi_commands.specs.ReportText.{end_status}
 use Rattle.cfi_commands.specs.Rewrite.{RewriteWords, request_of, rewrite_names}
@@ -52,21 +52,22 @@ abbrev pub VerifyIsComplete : Content → VerifyWords → ℕ → Type 0
 VerifyIsComplete content words status =
     (image_bytes graph_bytes : List ℕ) (image : Contents) (graph : GraphParts)
     → AreHeld content (verify_names words) (image_bytes ∷ graph_bytes ∷ [])
-    → Spell image_bytes graph_bytes image graph → IsWellFormed version_1 image graph → status ≡ 0
+    → Spell image_bytes graph_bytes image graph → IsWellFormed (image_profile image) image graph → status ≡ 0
 
--- such a pair is run under a script of its form, and the status is that of the end of its run
+-- such a pair is run under a script of its form, whose harts the image may have, and the status is that of the end of
+-- its run
 abbrev pub RunIsComplete : Content → RunWords → ℕ → Type 0
 RunIsComplete content words status =
-    (image_bytes graph_bytes script_bytes input : List ℕ) (image : Contents) (graph : GraphParts) (script : Changes)
+    (image_bytes graph_bytes script_bytes input : List ℕ) (image : Contents) (graph : GraphParts) (script : ScriptParts)
     → AreHeld content (run_names words) (image_bytes ∷ graph_bytes ∷ script_bytes ∷ input ∷ [])
     → Spell image_bytes graph_bytes image graph → script_given (text_named words.script script_bytes) ≡ Ok script
-    → IsWellFormed version_1 image graph
+    → MayRun (image_profile image) script.harts → IsWellFormed (image_profile image) image graph
     → (report : RunReport) × IsSafeRun image graph script input words.limit report × (status ≡ end_status report.end)
 
 -- files of which none is refused are compared, and the status is that of their comparison
 abbrev pub CompareIsComplete : Content → CompareWords → ℕ → Type 0
 CompareIsComplete content words status =
     (object policy image map input : List ℕ) → AreHeld content (compare_names words) (object ∷ policy ∷ image ∷ map ∷ input ∷ [])
-    → let request : asks.Request = record { object = object; entry = words.entry; policy = text_named words.policy policy } in
+    → let request = asked_at map object words.entry (text_named words.policy policy) in
     ((refusal : Refusal) → IsCompareRefused request image map refusal → ⊥)
     → (result : A.Compared) × IsComparison request image map input words.limit result × (status ≡ answer_status result)

@@ -2,20 +2,19 @@
 -- in memory.
 use Rattle.std.specs.Prelude.{◌≡◌, ℕ, List, [], ◌∷◌, ◌++◌, length, codes, count_by, ⊤, Option, None}
 use Rattle.std.specs.Fmt.{decimal}
-use Rattle.rv_word.specs.Image.{Contents}
-use Rattle.rv_word.specs.MemoryMap.{version_1}
+use Rattle.rv_word.specs.Image.{Contents, image_profile}
 use Rattle.elf_image.specs.Spelling.{spelling}
 use Rattle.elf_writer.specs.Object.{object_bytes}
 use Rattle.cfi_graph.specs.Graph.{is_class, is_site}
-use Rattle.cfi_graph.specs.declared.map.MapLine.{MapLine}
-use Rattle.cfi_flow.specs.LegalMap.{IsLegalMap, gates_of}
+use Rattle.cfi_graph.specs.Map.{MapParts}
+use Rattle.cfi_map.specs.LegalMap.{IsLegalMap}
 use Rattle.cfi_step.specs.declared.report.RunEnd.{RunEnd}
 use Rattle.cfi_step.specs.declared.report.RunEnd.TheVariants as ends
+use Rattle.cfi_step.specs.declared.report.HartWalk.{HartWalk}
 use Rattle.cfi_step.specs.declared.report.RunReport.{RunReport}
 use Rattle.cfi_harden.specs.Hardened.{HardenedParts}
 use Rattle.cfi_harden.specs.Prepared.{IsPrepared, PreparedParts}
 use Rattle.cfi_harden.specs.Request as asks
-use Rattle.cfi_flow.specs.GraphAtMap.{program_at}
 use Rattle.cfi_meaning.specs.Compared.{compared}
 use Rattle.cfi_compare.specs.Text.{answer_text}
 use Rattle.cfi_compare.specs.Told.{told_answer}
@@ -25,7 +24,8 @@ use Rattle.cfi_gen.specs.Demo.{demo_parts}
 use Rattle.gen_hardened.specs.Laws.{entered}
 use Rattle.cfi_files.specs.Lines.{with_newline}
 use Rattle.cfi_files.specs.Words.{steps_of}
-use Rattle.cfi_commands.specs.Compare.{answer_status}
+use Rattle.cfi_commands.specs.Compare.{answer_status, at_map}
+use Rattle.cfi_commands.specs.Opening.{undisturbed_script}
 use Rattle.cfi_commands.specs.ReportText.{end_status, report_text}
 use Rattle.cfi_commands.specs.Rewrite.{IsMade}
 use Rattle.cfi_commands.specs.Run.{IsSafeRun}
@@ -46,18 +46,19 @@ demo_asked r = r.number
 abbrev pub STEP_LIMIT : ℕ
 STEP_LIMIT = 10000000
 
--- the object of the number is hardened, and its image, which is safe, is run without input and changes
+-- the object of the number is hardened, and its image, which is for one hart and safe, is run without input and changes
 pub record IsDemoRun (number : ℕ) (hardened : HardenedParts) (image : Contents) (report : RunReport) : Type 0 where
   pub made : IsMade (entered (object_bytes (demo_parts number))) hardened
-  pub image_is : hardened.image ≡ spelling image.code image.init
-  pub run_is : IsSafeRun image hardened.graph [] [] STEP_LIMIT report
+  pub version : image.version ≡ 1
+  pub image_is : hardened.image ≡ spelling image.version image.code image.init
+  pub run_is : IsSafeRun image hardened.graph undisturbed_script [] STEP_LIMIT report
 
 -- a program's run without input at a map is compared with an image's
-pub record IsComparedAt (request : asks.Request) (map : List MapLine) (image : Contents) (result : A.Compared) : Type 0 where
+pub record IsComparedAt (request : asks.Request) (map : MapParts) (image : Contents) (result : A.Compared) : Type 0 where
   pub program : PreparedParts
   pub prepared : IsPrepared request program
   pub map_is : IsLegalMap program.program program.closed map
-  pub result_is : result ≡ told_answer program.program (compared version_1 (program_at program.program program.closed (gates_of map) program.entry) image [] STEP_LIMIT)
+  pub result_is : result ≡ told_answer program.program (compared (image_profile image) (at_map program map) image [] STEP_LIMIT)
 
 abbrev pub IsExit : RunEnd → Type 0
 IsExit (ends.Exit status) = ⊤
@@ -70,6 +71,11 @@ IsUnsettled Limit = ⊤
 IsUnsettled (Same events) = ⊥
 IsUnsettled (Differs index source image) = ⊥
 
+-- how many addresses the walk of the first hart has
+abbrev pub first_walk : List HartWalk → ℕ
+first_walk [] = 0
+first_walk (w ∷ walks) = w.walk
+
 -- what is told where the run exits and the comparison finds the same
 abbrev pub shown_of : ℕ → HardenedParts → Contents → RunReport → ℕ → ℕ → Shown
 shown_of number hardened image report exit calls = record {
@@ -80,7 +86,7 @@ shown_of number hardened image report exit calls = record {
   sites = count_by is_site hardened.graph.lines;
   exit = exit;
   steps = report.steps;
-  walk = report.walk;
+  walk = first_walk report.walks;
   calls = calls;
 }
 
@@ -115,7 +121,7 @@ shown_text s =
     ++ codes "\ncompare same " ++ decimal s.calls
 
 abbrev pub demo_text : DemoOutcome → List ℕ
-demo_text (outcome.Ran report) = report_text report
+demo_text (outcome.Ran report) = report_text 1 report
 demo_text (outcome.Compared result) = with_newline (answer_text result)
 demo_text (outcome.Shown shown) = with_newline (shown_text shown)
 

@@ -1,24 +1,27 @@
--- What `rewrite` writes is read back: `verify` reads its image and its graph, which meet every rule, and `compare` reads its map, which is
+-- What `rewrite` and `harden` write is read back: `verify` reads its image and its graph, which meet every rule, and `compare` reads its map, which is
 -- legal.
-use Rattle.rv_word.specs.Image.{Contents}
-use Rattle.rv_word.specs.MemoryMap.{version_1}
-use Rattle.cfi_verify.specs.Rules.{IsWellFormed}
+use Rattle.std.specs.Prelude.{◌≡◌}
+use Rattle.rv_word.specs.Form.{image_version}
+use Rattle.rv_word.specs.Image.{Contents, image_profile}
+use Rattle.cfi_rules.specs.Rules.{IsWellFormed}
 use Rattle.cfi_harden.specs.Hardened.{HardenedParts}
 use Rattle.cfi_harden.specs.Prepared.{IsPrepared, PreparedParts}
 use Rattle.cfi_harden.specs.Request as asks
-use Rattle.cfi_commands.specs.Compare.{IsMapOf}
+use Rattle.cfi_commands.specs.Compare.{IsMapOf, map_form}
 use Rattle.cfi_commands.specs.Opening.{Spell}
 use Rattle.cfi_commands.specs.Rewrite.{IsMade, IsSpelledOut, RewriteWords}
 use Rattle.cfi_commands.specs.declared.rewrite.Rewritten.{Rewritten}
 
--- the files spell an image and a graph that meet every rule, and a legal map of the request's program
+-- the files spell an image of the form's version and a graph that meet every rule, and a legal map of the request's program in its form
 pub record IsReadBack (request : asks.Request) (written : Rewritten) : Type 0 where
   pub hardened : HardenedParts
   pub image : Contents
   pub program : PreparedParts
   pub spelled : Spell written.image.bytes written.graph.bytes image hardened.graph
-  pub well_formed : IsWellFormed version_1 image hardened.graph
+  pub well_formed : IsWellFormed (image_profile image) image hardened.graph
+  pub version : image.version ≡ image_version request.form
   pub prepared : IsPrepared request program
+  pub form : map_form written.map.bytes ≡ request.form
   pub map_is : IsMapOf program written.map.bytes hardened.map
 
 abbrev pub WrittenIsRead : Type 0

@@ -1,27 +1,30 @@
 -- The image, the graph and the script that files spell, and why they spell none.
-use Rattle.std.specs.Prelude.{◌≡◌, ℕ, List, [], length, ⊤, Option, Some, None, Result, Ok, Err}
-use Rattle.rv_word.specs.Image.{Contents, IsImageSize}
-use Rattle.elf_image.specs.Fault.{fault_of}
+use Rattle.std.specs.Prelude.{◌≡◌, ◌<◌, ℕ, List, [], length, ⊤, Option, Some, None, Result, Ok, Err}
+use Rattle.rv_word.specs.Image.{Contents, IsImageSize, IsVersion}
+use Rattle.elf_image.specs.Fault.{fault_of, version_in}
 use Rattle.elf_image.specs.Spelling.{spelling}
 use Rattle.cfi_graph.specs.Graph.{GraphParts, IsGraph}
 use Rattle.cfi_graph.specs.Reading.{graph_of}
 use Rattle.cfi_graph.specs.Text.{graph_text}
+use Rattle.cfi_step.specs.Script.{ScriptParts}
 use Rattle.cfi_step.specs.ScriptText.{script_of}
 use Rattle.text_lines.specs.declared.end.TextEnd.{TextEnd}
 use Rattle.text_lines.specs.declared.end.TextEnd.TheVariants.{Line}
 use Rattle.cfi_commands.specs.declared.opening.OpenEnd.{OpenEnd}
 use Rattle.cfi_commands.specs.declared.opening.OpenEnd.TheVariants as ends
 use Rattle.cfi_files.specs.declared.refusal.Refusal.{Refusal}
-use Rattle.cfi_files.specs.declared.refusal.Refusal.TheVariants.{Image, Graph, Script}
+use Rattle.cfi_files.specs.declared.refusal.Refusal.TheVariants.{Image, Graph, Script, Harts}
 
 -- a file spells an image
 pub record IsImage (bytes : List ℕ) (image : Contents) : Type 0 where
-  pub image_is : bytes ≡ spelling image.code image.init
+  pub image_is : bytes ≡ spelling image.version image.code image.init
+  pub version : IsVersion image.version
   pub size : IsImageSize (length image.code) (length image.init)
 
 -- two files spell an image and a graph
 pub record Spell (image_bytes graph_bytes : List ℕ) (image : Contents) (graph : GraphParts) : Type 0 where
-  pub image_is : image_bytes ≡ spelling image.code image.init
+  pub image_is : image_bytes ≡ spelling image.version image.code image.init
+  pub version : IsVersion image.version
   pub size : IsImageSize (length image.code) (length image.init)
   pub graph_is : graph_bytes ≡ graph_text graph
   pub parts : IsGraph graph
@@ -31,18 +34,27 @@ pub record AreRead (image_bytes graph_bytes : List ℕ) (graph : GraphParts) : T
   pub no_fault : fault_of image_bytes ≡ None
   pub graph_is : graph_of graph_bytes ≡ Ok graph
 
--- the script that a text spells; without one there are no changes
-abbrev pub script_given : Option (List ℕ) → Result (List (ℕ × (ℕ × ℕ))) TextEnd
-script_given None = Ok []
+-- one hart, without turns and changes
+abbrev pub undisturbed_script : ScriptParts
+undisturbed_script = record { harts = 1; turns = []; changes = [] }
+
+-- the script that a text spells; without one a single hart runs, undisturbed
+abbrev pub script_given : Option (List ℕ) → Result ScriptParts TextEnd
+script_given None = Ok undisturbed_script
 script_given (Some text) = script_of text
 
 -- the image is refused where its bytes have a fault, then the graph, then the script, each at its first
--- line that fails; without a script none is refused
+-- line that fails; without a script none is refused. A script for several harts is refused last, where the
+-- image is for one
 abbrev pub IsRefusal : List ℕ → List ℕ → Option (List ℕ) → Refusal → Type 0
 IsRefusal image graph script (Image refusal) = fault_of image ≡ Some refusal
 IsRefusal image graph script (Graph line reason) = (fault_of image ≡ None) × (graph_of graph ≡ Err (Line line reason))
 IsRefusal image graph script (Script line reason) =
     ((parts : GraphParts) × AreRead image graph parts) × (script_given script ≡ Err (Line line reason))
+IsRefusal image graph script (Harts count) =
+    ((parts : GraphParts) × AreRead image graph parts)
+    × ((read : ScriptParts) × (script_given script ≡ Ok read) × (read.harts ≡ count))
+    × (1 < count) × (version_in image ≡ 1)
 IsRefusal image graph script other = ⊥
 
 -- why the files are not opened; only want of memory is free

@@ -1,12 +1,14 @@
 -- The text of a run's report, and its status. Addresses have eight hexadecimal digits, the address of a
--- load that failed has sixteen; counts are decimal.
-use Rattle.std.specs.Prelude.{ℕ, List, ◌++◌, codes, length}
+-- load that failed has sixteen; counts are decimal. The report of an image for several harts tells of which it
+-- speaks.
+use Rattle.std.specs.Prelude.{ℕ, ◌+◌, ◌==◌, List, [], ◌∷◌, ◌++◌, codes, length, if◌then◌else◌}
 use Rattle.std.specs.Fmt.{decimal}
 use Rattle.std.specs.List.{flat_map}
 use Rattle.cfi_step.specs.declared.report.Handler.{Handler}
 use Rattle.cfi_step.specs.declared.report.Handler.TheVariants.{BadTarget, BadReturn, Deep}
 use Rattle.cfi_step.specs.declared.report.RunEnd.{RunEnd}
 use Rattle.cfi_step.specs.declared.report.RunEnd.TheVariants as ends
+use Rattle.cfi_step.specs.declared.report.HartWalk.{HartWalk}
 use Rattle.cfi_step.specs.declared.report.RunReport.{RunReport}
 use Rattle.text_lines.specs.Hex.{hex_text}
 
@@ -26,16 +28,45 @@ end_text ends.Limit = codes "limit"
 abbrev pub trail_text : List ℕ → List ℕ
 trail_text trail = flat_map (λ address. codes " " ++ hex_text 8 address) trail
 
--- what stands before the output, and after it up to the trail
+-- the walk of the one hart of an image of version 1
+abbrev pub walk_text : HartWalk → List ℕ
+walk_text w = codes "walk " ++ decimal w.walk ++ codes "\ntrail" ++ trail_text w.trail ++ codes "\n"
+
+abbrev pub walks_text : List HartWalk → List ℕ
+walks_text walks = flat_map walk_text walks
+
+-- the walk of hart `k`, and those of the harts from `k` on
+abbrev pub hart_walk_text : ℕ → HartWalk → List ℕ
+hart_walk_text k w =
+    codes "walk " ++ decimal k ++ codes " " ++ decimal w.walk ++ codes "\ntrail " ++ decimal k ++ trail_text w.trail ++ codes "\n"
+
+unfoldable pub hart_walks_text : ℕ → List HartWalk → List ℕ
+hart_walks_text k [] = []
+hart_walks_text k (w ∷ walks) = hart_walk_text k w ++ hart_walks_text (k + 1) walks
+
+-- how the run of several harts stopped, and by which
+abbrev pub stop_text : ℕ → RunEnd → List ℕ
+stop_text hart ends.Limit = end_text ends.Limit
+stop_text hart other = codes "hart " ++ decimal hart ++ codes " " ++ end_text other
+
+-- what stands before the output, and after it up to the walks, by the image's version
 abbrev pub report_head : RunReport → List ℕ
 report_head report = codes "output " ++ decimal (length report.output) ++ codes "\n"
 
-abbrev pub report_end : RunReport → List ℕ
-report_end report =
-    codes "\nstop " ++ end_text report.end ++ codes "\nsteps " ++ decimal report.steps ++ codes "\nwalk " ++ decimal report.walk ++ codes "\ntrail"
+abbrev pub stop_lines : ℕ → RunReport → List ℕ
+stop_lines version report =
+    if version == 1 then codes "\nstop " ++ end_text report.end else
+    codes "\nharts " ++ decimal (length report.walks) ++ codes "\nstop " ++ stop_text report.hart report.end
 
-abbrev pub report_text : RunReport → List ℕ
-report_text report = report_head report ++ report.output ++ report_end report ++ trail_text report.trail ++ codes "\n"
+abbrev pub steps_line : RunReport → List ℕ
+steps_line report = codes "\nsteps " ++ decimal report.steps ++ codes "\n"
+
+abbrev pub walk_lines : ℕ → List HartWalk → List ℕ
+walk_lines version walks = if version == 1 then walks_text walks else hart_walks_text 0 walks
+
+abbrev pub report_text : ℕ → RunReport → List ℕ
+report_text version report =
+    report_head report ++ report.output ++ stop_lines version report ++ steps_line report ++ walk_lines version report.walks
 
 abbrev pub end_status : RunEnd → ℕ
 end_status (ends.Exit status) = 0

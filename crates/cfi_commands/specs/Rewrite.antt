@@ -1,9 +1,12 @@
--- `rewrite OBJECT ENTRY POLICY IMAGE GRAPH MAP`: a hardened image of an object, its graph and its map. The word `none` for POLICY
--- means no file.
-use Rattle.std.specs.Prelude.{◌≡◌, ◌≢◌, ℕ, ◌||◌, if◌then◌else◌, List, [], ◌∷◌, ◌++◌, length, count_by, codes, Option, Some, None, option_map}
+-- `harden FORM OBJECT ENTRY POLICY IMAGE GRAPH MAP`: in a form, a hardened image of an object, its graph and its map. The word `none`
+-- for POLICY means no file. `rewrite OBJECT ENTRY POLICY IMAGE GRAPH MAP` asks for the same as `harden plain`.
+use Rattle.std.specs.Prelude.{◌≡◌, ◌≢◌, ℕ, ◌||◌, if◌then◌else◌, List, [], ◌∷◌, ◌++◌, length, count_by, codes, Option, Some, None, option_and_then, option_map}
 use Rattle.std.specs.Fmt.{decimal}
 use Rattle.std.specs.Str.{bytes_eq}
-use Rattle.rv_word.specs.Image.{IsImageSize}
+use Rattle.rv_word.specs.Form.{form_named}
+use Rattle.rv_word.specs.Image.{IsImageSize, IsVersion}
+use Rattle.rv_word.specs.declared.form.Form.{Form}
+use Rattle.rv_word.specs.declared.form.Form.TheVariants.{Plain}
 use Rattle.elf_image.specs.Spelling.{spelling}
 use Rattle.cfi_graph.specs.Graph.{GraphParts, IsGraph, is_class, is_site}
 use Rattle.cfi_graph.specs.Map.{IsMap}
@@ -27,8 +30,9 @@ use Rattle.cfi_files.specs.declared.refusal.Refusal.{Refusal}
 use Rattle.cfi_files.specs.declared.refusal.Refusal.TheVariants.{Object}
 use Rattle.tool_io.specs.declared.files.Files.{Ghosts}
 
--- what is asked for: the names of the files that are read and of those that are written, and that of the entry
+-- what is asked for: in which form, the names of the files that are read and of those that are written, and that of the entry
 pub record RewriteWords : Type 0 where
+  pub form : Form
   pub object : List ℕ
   pub entry : List ℕ
   pub policy : Option (List ℕ)
@@ -36,12 +40,21 @@ pub record RewriteWords : Type 0 where
   pub graph : List ℕ
   pub map : List ℕ
 
--- what the words after the command ask for, if they are taken: no two names of files that are written are equal
-abbrev pub rewrite_words : List (List ℕ) → Option RewriteWords
-rewrite_words (object ∷ entry ∷ policy ∷ image ∷ graph ∷ map ∷ []) =
+-- what words ask for in a form, if they are taken: no two names of files that are written are equal
+abbrev pub words_in : Form → List (List ℕ) → Option RewriteWords
+words_in form (object ∷ entry ∷ policy ∷ image ∷ graph ∷ map ∷ []) =
     if bytes_eq image graph || bytes_eq image map || bytes_eq graph map then None
-    else Some (record { object = object; entry = entry; policy = file_word policy; image = image; graph = graph; map = map })
-rewrite_words words = None
+    else Some (record { form = form; object = object; entry = entry; policy = file_word policy; image = image; graph = graph; map = map })
+words_in form words = None
+
+-- what the words after `rewrite` ask for, if they are taken
+abbrev pub rewrite_words : List (List ℕ) → Option RewriteWords
+rewrite_words words = words_in Plain words
+
+-- those after `harden`, of which the first is a form's name
+abbrev pub harden_words : List (List ℕ) → Option RewriteWords
+harden_words [] = None
+harden_words (name ∷ words) = option_and_then (λ form. words_in form words) (form_named name)
 
 -- no two of the files that are written have one name
 pub record AreNamedApart (words : RewriteWords) : Type 0 where
@@ -55,32 +68,36 @@ rewrite_names asks = Some asks.object ∷ asks.policy ∷ []
 
 -- a request as the tool keeps it
 abbrev pub rewrite_asked : RewriteRequest → RewriteWords
-rewrite_asked r = record { object = r.object.now; entry = r.entry.now; policy = option_map (λ name. name.now) r.policy; image = r.image.now; graph = r.graph.now; map = r.map.now }
+rewrite_asked r = record { form = r.form; object = r.object.now; entry = r.entry.now; policy = option_map (λ name. name.now) r.policy; image = r.image.now; graph = r.graph.now; map = r.map.now }
 
 -- an object that some bytes spell, under a policy that others may spell, is to be hardened
 abbrev pub request_of : RewriteWords → List ℕ → Option (List ℕ) → asks.Request
-request_of words object policy = record { object = object; entry = words.entry; policy = policy }
+request_of words object policy = record { form = words.form; object = object; entry = words.entry; policy = policy }
 
 -- a refusal stands against a request, and none before it
 abbrev pub IsRefused : asks.Request → Refusal → Type 0
 IsRefused request (Object refusal) = Refuses request refusal
 IsRefused request other = ⊥
 
--- the bytes of a file are an image's
-abbrev pub IsSpelled : List ℕ → Type 0
-IsSpelled bytes = (code : List ℕ) × (init : List ℕ) × IsImageSize (length code) (length init) × (bytes ≡ spelling code init)
+-- the bytes of a file are an image's of a version
+abbrev pub IsSpelled : ℕ → List ℕ → Type 0
+IsSpelled version bytes =
+    (code : List ℕ) × (init : List ℕ) × IsImageSize (length code) (length init) × (bytes ≡ spelling version code init)
 
 -- so they are, and the code has the length that a graph tells. Only private contracts cite this
 abbrev pub IsSpelledWith : List ℕ → GraphParts → Type 0
 IsSpelledWith bytes graph =
-    (code : List ℕ) × (init : List ℕ) × IsImageSize (length code) (length init) × (bytes ≡ spelling code init) × (graph.code ≡ length code)
+    (version : ℕ) × (code : List ℕ) × (init : List ℕ) × IsVersion version × IsImageSize (length code) (length init)
+    × (bytes ≡ spelling version code init) × (graph.code ≡ length code)
 
 -- what is told of an image and its graph: the lengths of code and initialised data, and the numbers of lines
 pub record HasSizes (image : List ℕ) (graph : GraphParts) (sizes : Sizes) : Type 0 where
+  pub version : ℕ
   pub code : List ℕ
   pub init : List ℕ
-  pub image_is : image ≡ spelling code init
-  -- of these lengths, so that no other code and data have this spelling
+  pub image_is : image ≡ spelling version code init
+  -- of such a version and these lengths, so that no other code and data have this spelling
+  pub known : IsVersion version
   pub image_size : IsImageSize (length code) (length init)
   pub code_size : sizes.code ≡ length code
   pub data_size : sizes.data ≡ length init

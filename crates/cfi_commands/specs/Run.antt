@@ -1,16 +1,16 @@
 -- `run IMAGE GRAPH SCRIPT INPUT STEPS`: a run of an accepted image. The word `none` for SCRIPT or INPUT
 -- means no file.
-use Rattle.std.specs.Prelude.{◌≡◌, ℕ, nat_le, ◌&&◌, if◌then◌else◌, List, [], ◌∷◌, ◌++◌, length, codes, Option, Some, None, option_map, option_and_then, Ok}
-use Rattle.rv_word.specs.Image.{Contents}
-use Rattle.rv_word.specs.MemoryMap.{version_1}
+use Rattle.std.specs.Prelude.{◌≡◌, ℕ, List, [], ◌∷◌, ◌++◌, codes, Option, Some, None, option_map, Ok}
+use Rattle.rv_word.specs.Image.{Contents, image_profile}
+use Rattle.rv_word.specs.MemoryMap.{MayRun}
 use Rattle.rv_code.specs.State.{start_hart, start_shared}
 use Rattle.cfi_graph.specs.Graph.{GraphParts}
-use Rattle.cfi_verify.specs.Along.{IsSafe}
-use Rattle.cfi_verify.specs.RejectText.{reject_text}
-use Rattle.cfi_verify.specs.Rules.{IsRejected, IsWellFormed}
+use Rattle.cfi_rules.specs.Along.{IsSafe}
+use Rattle.cfi_rules.specs.RejectText.{reject_text}
+use Rattle.cfi_rules.specs.Rules.{IsRejected, IsWellFormed}
 use Rattle.cfi_step.specs.Plan.{planned}
 use Rattle.cfi_step.specs.Report.{IsReport}
-use Rattle.cfi_step.specs.Script.{Changes, script_plan}
+use Rattle.cfi_step.specs.Script.{ScriptParts, script_plan}
 use Rattle.cfi_step.specs.declared.report.RunReport.{RunReport}
 use Rattle.cfi_files.specs.Lines.{with_newline}
 use Rattle.cfi_commands.specs.Opening.{IsRefusal, Spell, script_given}
@@ -44,29 +44,31 @@ run_names asks = Some asks.image ∷ Some asks.graph ∷ asks.script ∷ asks.in
 abbrev pub run_asked : RunRequest → RunWords
 run_asked r = record { image = r.image.now; graph = r.graph.now; script = option_map (λ name. name.now) r.script; input = option_map (λ name. name.now) r.input; limit = r.limit }
 
--- a report of a safe pair's run under the changes of a script
-pub record IsSafeRun (image : Contents) (graph : GraphParts) (script : Changes) (input : List ℕ) (limit : ℕ) (report : RunReport) : Type 0 where
-  pub well_formed : IsWellFormed version_1 image graph
-  pub safe : IsSafe version_1 image graph
-  pub report_is : IsReport version_1 image input (planned version_1 (script_plan script) 0 (start_hart 0) (start_shared image input) limit) report
+-- a report of a safe pair's run under a script, with its harts, their turns and its changes
+pub record IsSafeRun (image : Contents) (graph : GraphParts) (script : ScriptParts) (input : List ℕ) (limit : ℕ) (report : RunReport) : Type 0 where
+  pub well_formed : IsWellFormed (image_profile image) image graph
+  pub safe : IsSafe (image_profile image) image graph
+  pub report_is : IsReport (image_profile image) image input script.harts
+      (planned (image_profile image) (script_plan script) script.harts 0 start_hart (start_shared image input) limit) report
 
 -- the pair is rejected, or it is run
-abbrev pub IsRunOfPair : Contents → GraphParts → Changes → List ℕ → ℕ → RunOutcome → Type 0
+abbrev pub IsRunOfPair : Contents → GraphParts → ScriptParts → List ℕ → ℕ → RunOutcome → Type 0
 IsRunOfPair image graph script input limit (Refused refusal) = ⊥
-IsRunOfPair image graph script input limit (Rejected reject) = IsRejected version_1 image graph reject
-IsRunOfPair image graph script input limit (Ran report) = IsSafeRun image graph script input limit report
+IsRunOfPair image graph script input limit (Rejected reject) = IsRejected (image_profile image) image graph reject
+IsRunOfPair image graph script input limit (Ran version report) = (version ≡ image.version) × IsSafeRun image graph script input limit report
 
--- the files spell a pair and a script
+-- the files spell a pair and a script, whose harts the image may have
 abbrev pub IsRunOfSpelled : List ℕ → List ℕ → Option (List ℕ) → List ℕ → ℕ → RunOutcome → Type 0
 IsRunOfSpelled image_bytes graph_bytes script input limit outcome =
-    (image : Contents) × (graph : GraphParts) × (changes : Changes)
-    × Spell image_bytes graph_bytes image graph × (script_given script ≡ Ok changes) × IsRunOfPair image graph changes input limit outcome
+    (image : Contents) × (graph : GraphParts) × (read : ScriptParts)
+    × Spell image_bytes graph_bytes image graph × (script_given script ≡ Ok read) × MayRun (image_profile image) read.harts
+    × IsRunOfPair image graph read input limit outcome
 
 -- a file is refused, and only where none is the pair is asked the rules
 abbrev pub IsRunOf : List ℕ → List ℕ → Option (List ℕ) → List ℕ → ℕ → RunOutcome → Type 0
 IsRunOf image graph script input limit (Refused refusal) = IsRefusal image graph script refusal
 IsRunOf image graph script input limit (Rejected reject) = IsRunOfSpelled image graph script input limit (Rejected reject)
-IsRunOf image graph script input limit (Ran report) = IsRunOfSpelled image graph script input limit (Ran report)
+IsRunOf image graph script input limit (Ran version report) = IsRunOfSpelled image graph script input limit (Ran version report)
 
 -- the files gave bytes of which the run comes to this
 pub record ExplainsRun (content : Content) (asks : RunWords) (outcome : RunOutcome) : Type 0 where
@@ -83,15 +85,16 @@ pub record ExplainsRun (content : Content) (asks : RunWords) (outcome : RunOutco
 abbrev pub run_text : RunOutcome → List ℕ
 run_text (Refused refusal) = with_newline (refusal_line refusal)
 run_text (Rejected reject) = with_newline (codes "rejected " ++ reject_text reject)
-run_text (Ran report) = report_text report
+run_text (Ran version report) = report_text version report
 
 abbrev pub run_status : RunOutcome → ℕ
 run_status (Refused refusal) = 1
 run_status (Rejected reject) = 1
-run_status (Ran report) = end_status report.end
+run_status (Ran version report) = end_status report.end
 
 -- the files spell a safe pair, a script and an input; the text is the report of that run, and the status
 -- that of its end
 abbrev pub IsRan : Content → RunWords → ℕ → List ℕ → Type 0
 IsRan content asks status text =
-    (report : RunReport) × ExplainsRun content asks (Ran report) × (status ≡ end_status report.end) × (text ≡ report_text report)
+    (version : ℕ) × (report : RunReport) × ExplainsRun content asks (Ran version report)
+    × (status ≡ end_status report.end) × (text ≡ report_text version report)

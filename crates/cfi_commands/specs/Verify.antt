@@ -1,11 +1,10 @@
 -- `verify IMAGE GRAPH`: whether an image goes with its graph.
 use Rattle.std.specs.Prelude.{◌≡◌, ℕ, List, [], ◌∷◌, ◌++◌, codes, Option, Some, None}
-use Rattle.rv_word.specs.Image.{Contents}
-use Rattle.rv_word.specs.MemoryMap.{version_1}
+use Rattle.rv_word.specs.Image.{Contents, image_profile}
 use Rattle.cfi_graph.specs.Graph.{GraphParts}
-use Rattle.cfi_verify.specs.Along.{IsSafe}
-use Rattle.cfi_verify.specs.RejectText.{reject_text}
-use Rattle.cfi_verify.specs.Rules.{IsWellFormed, IsRejected}
+use Rattle.cfi_rules.specs.Along.{IsSafe}
+use Rattle.cfi_rules.specs.RejectText.{reject_text}
+use Rattle.cfi_rules.specs.Rules.{IsWellFormed, IsRejected}
 use Rattle.cfi_files.specs.Lines.{with_newline}
 use Rattle.cfi_commands.specs.Opening.{IsRefusal, Spell}
 use Rattle.cfi_files.specs.Reads.{Content, Gave}
@@ -34,9 +33,9 @@ verify_asked r = record { image = r.image.now; graph = r.graph.now }
 
 -- accepted: the pair meets every rule, and is safe; rejected: by the first rule that fails
 abbrev pub IsJudgement : Contents → GraphParts → Verdict → Type 0
-IsJudgement image graph Accepted = IsWellFormed version_1 image graph × IsSafe version_1 image graph
+IsJudgement image graph Accepted = IsWellFormed (image_profile image) image graph × IsSafe (image_profile image) image graph
 IsJudgement image graph (Refused refusal) = ⊥
-IsJudgement image graph (Rejected reject) = IsRejected version_1 image graph reject
+IsJudgement image graph (Rejected reject) = IsRejected (image_profile image) image graph reject
 
 -- the files spell a pair that has this judgement
 abbrev pub HasJudgement : List ℕ → List ℕ → Verdict → Type 0

@@ -6,7 +6,7 @@ ghost use Rattle.cfi_graph.specs.MapText.{map_of};
 ghost use Rattle.cfi_flow.specs.Entry.{entry_place};
 ghost use Rattle.cfi_harden.specs.Hardened.{HasDataRoom};
 ghost use Rattle.cfi_harden.specs.Request.{Request};
-ghost use Rattle.cfi_commands.specs.Compare.{ExplainsCompare, IsAfterImage, IsCompareOf, IsFresh, IsImageCompared, IsRoomy, answer_status, compare_asked, compare_names, compare_status, compare_words};
+ghost use Rattle.cfi_commands.specs.Compare.{ExplainsCompare, IsAfterImage, IsCompareOf, IsFresh, IsImageCompared, IsRoomy, answer_status, asked_at, compare_asked, compare_names, compare_status, compare_words};
 
 use crate::source::{roomy, source_on};
 use cfi_compare::{Compared, compare};
@@ -199,7 +199,7 @@ fn compare_bytes(
     input: &[u8],
 ) -> Result<CompareOutcome, NoMemory>
     requires few { request.now.limit ≤ MAX_STEP }
-    ensures { IfOk result (IsCompareOf (record { object = object.now; entry = request.now.entry.now; policy = option_copied policy.entry })
+    ensures { IfOk result (IsCompareOf (asked_at map.now object.now request.now.entry.now (option_copied policy.entry))
         image.now map.now input.now request.now.limit) }
 {
     match roomy(alloc, object, request.entry, policy) {

@@ -7,7 +7,7 @@ ghost use Rattle.gen_hardened.specs.Laws.{entered};
 ghost use Rattle.cfi_harden.specs.Hardened.{IsWrittenOf};
 ghost use Rattle.cfi_commands.specs.Demonstration.{IsComparable, IsDemoPrepared, IsDifference, IsDrawn};
 ghost use Rattle.cfi_commands.specs.Rewrite.{IsMade};
-ghost use Rattle.cfi_commands.specs.Demo.{ExplainsDemo, IsDemoCompared, IsDemoRun, demo_asked, demo_status, demo_text, demo_words};
+ghost use Rattle.cfi_commands.specs.Demo.{ExplainsDemo, IsDemoCompared, IsDemoRun, demo_asked, demo_status, demo_text, demo_words, first_walk};
 
 use crate::compare::answer_status;
 use crate::demonstration::{compare_at, image_in, made, prepared, run_accepted};
@@ -145,10 +145,20 @@ impl DemoOutcome {
         ensures { IfOk result (λ text. text.items ≡ demo_text self.now) }
     {
         match self {
-            DemoOutcome::Ran(report) => report_text(alloc, report),
+            DemoOutcome::Ran(report) => report_text(alloc, 1, report),
             DemoOutcome::Compared(compared) => line(alloc, compared),
             DemoOutcome::Shown(shown) => line(alloc, shown),
         }
+    }
+}
+
+/// How many addresses the walk of the first hart has.
+fn first_walk(report: &RunReport) -> u64
+    ensures { result ≡ first_walk report.now.walks }
+{
+    match report.walks.as_slice().first() {
+        Some(told) => told.walk,
+        None => 0,
     }
 }
 
@@ -174,7 +184,7 @@ fn told(
             sites: hardened.graph.sites(),
             exit,
             steps: report.steps,
-            walk: report.walk,
+            walk: first_walk(report),
             calls: *calls,
         }),
         Compared::Differs(..) => unreachable!(),

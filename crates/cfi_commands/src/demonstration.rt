@@ -1,14 +1,15 @@
 //! What `demo` does, in steps: an object is made, hardened, verified, run and compared.
 
 ghost use Rattle.std.specs.Prelude.{◌≡◌, ℕ, List, [], IfOk, Some, codes};
-ghost use Rattle.rv_word.specs.MemoryMap.{version_1};
-ghost use Rattle.cfi_verify.specs.Rules.{IsWellFormed};
+ghost use Rattle.rv_word.specs.Image.{image_profile};
+ghost use Rattle.cfi_rules.specs.Rules.{IsWellFormed};
 ghost use Rattle.cfi_flow.specs.Entry.{entry_place};
 ghost use Rattle.cfi_harden.specs.Hardened.{IsWrittenOf};
 ghost use Rattle.cfi_harden.specs.Prepared.{IsPrepared};
 ghost use Rattle.cfi_harden.specs.Request.{Request};
 ghost use Rattle.cfi_commands.specs.Demo.{STEP_LIMIT};
 ghost use Rattle.cfi_commands.specs.Demonstration.{CanRunAt, IsAnswerAt, IsDemoPrepared, IsDrawn, IsImageIn, IsSourceOn};
+ghost use Rattle.cfi_commands.specs.Opening.{undisturbed_script};
 ghost use Rattle.cfi_commands.specs.Rewrite.{IsMade, IsSpelled};
 ghost use Rattle.cfi_commands.specs.Run.{IsSafeRun};
 
@@ -21,7 +22,7 @@ use cfi_step::{RunReport, Script, run};
 use cfi_verify::{VerifyEnd, verify};
 use elf_image::read_image;
 use gen_hardened::laws::demo_is_never_refused;
-use rv_word::{Image, NoMemory};
+use rv_word::{Form, Image, NoMemory};
 use src_machine::laws::wrong_is_not_legal;
 use src_machine::{SourceEnd, SourceRun};
 use std::alloc::Global;
@@ -38,7 +39,7 @@ pub(crate) fn prepared(alloc: Global, object: &[u8]) -> Result<Prepared<'_>, NoM
     ensures { IfOk result (IsDemoPrepared object.now) }
 {
     demo_is_never_refused();
-    match prepare(alloc, object, ENTRY, None) {
+    match prepare(alloc, Form::Plain, object, ENTRY, None) {
         Ok(prepared) => Ok(prepared),
         Err(HardenEnd::NoMemory) => Err(NoMemory),
         Err(HardenEnd::Refused(_)) => unreachable!(),
@@ -59,10 +60,11 @@ pub(crate) fn made(alloc: Global, prepared: &Prepared<'_>) -> Result<Hardened, N
     }
 }
 
-/// The image that a file spells.
+/// The image for one hart that a file spells.
 pub(crate) fn image_in(bytes: &[u8]) -> Image<'_>
-    requires { IsSpelled bytes.now }
-    ensures { IsImageIn bytes.now result }
+    requires { IsSpelled 1 bytes.now }
+    ensures only { IsImageIn bytes.now result }
+    ensures version { result.version ≡ 1 }
 {
     match read_image(bytes) {
         Ok(image) => image,
@@ -70,17 +72,24 @@ pub(crate) fn image_in(bytes: &[u8]) -> Image<'_>
     }
 }
 
-/// The report of a run of an image that meets the rules with a graph.
+/// The report of a run of one hart of an image that meets the rules with a graph.
 pub(crate) fn run_accepted(
     alloc: Global,
     image: &Image<'_>,
     graph: &Graph,
 ) -> Result<RunReport, NoMemory>
-    requires { IsWellFormed version_1 image.now graph.now }
-    ensures { IfOk result (IsSafeRun image.now graph.now [] [] STEP_LIMIT) }
+    requires { IsWellFormed (image_profile image.now) image.now graph.now }
+    ensures { IfOk result (IsSafeRun image.now graph.now undisturbed_script [] STEP_LIMIT) }
 {
     match verify(alloc, image, graph) {
-        Ok(checked) => run(alloc, &checked, &[], &mut Script::none(alloc), STEP_LIMIT),
+        Ok(checked) => run(
+            alloc,
+            &checked,
+            &[],
+            1,
+            &mut Script::none(alloc),
+            STEP_LIMIT,
+        ),
         Err(VerifyEnd::Reject(_)) => unreachable!(),
         Err(VerifyEnd::NoMemory) => Err(NoMemory),
     }

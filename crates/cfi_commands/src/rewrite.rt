@@ -6,21 +6,22 @@ ghost use Rattle.elf_image.specs.Header.{data_start};
 ghost use Rattle.cfi_files.specs.Reads.{IsFault, IsStop, IsTooLong};
 ghost use Rattle.cfi_files.specs.Words.{text_named};
 ghost use Rattle.cfi_files.specs.Writes.{AreApart, IsCut, IsTorn, KeepsReads, Wrote};
-ghost use Rattle.cfi_commands.specs.Rewrite.{AreNamedApart, ExplainsRewrite, HasSizes, IsRewriteOf, IsSpelledOut, IsSpelledWith, outputs_of, rewrite_asked, rewrite_names, rewrite_outputs, rewrite_status, rewrite_words};
+ghost use Rattle.cfi_commands.specs.Rewrite.{AreNamedApart, ExplainsRewrite, HasSizes, IsRewriteOf, IsSpelledOut, IsSpelledWith, harden_words, outputs_of, rewrite_asked, rewrite_names, rewrite_outputs, rewrite_status, rewrite_words, words_in};
 
 use cfi_files::{Output, Refusal, Stop, file_word, read_all, status, text_named};
 use cfi_graph::{Graph, Map, write_graph, write_map};
-use cfi_rewrite::{HardenEnd, Hardened, rewrite};
-use cfi_words::RewriteWords;
-use rv_word::{Bytes, NoMemory};
+use cfi_rewrite::{HardenEnd, Hardened, rewrite_as};
+use cfi_words::{HardenWords, RewriteWords};
+use rv_word::{Bytes, Form, NoMemory};
 use std::alloc::Global;
 use std::fmt;
 use tool_io::{Files, OutEnd};
 
-/// What `rewrite` is asked for: the names of an object, of its entry and of a policy, and those of the image, the graph and the
-/// map that it writes.
+/// What `rewrite` or `harden` is asked for: the form, the names of an object, of its entry and of a policy, and those of the
+/// image, the graph and the map that it writes.
 #[derive(Clone, Copy)]
 pub struct RewriteRequest<'a> {
+    form: Form,
     object: &'a str,
     entry: &'a str,
     policy: Option<&'a str>,
@@ -30,16 +31,17 @@ pub struct RewriteRequest<'a> {
 }
 
 impl<'a> RewriteRequest<'a> {
-    /// What the words after the command ask for, if they are taken: no two of the names of files to write are equal.
-    pub fn of(words: RewriteWords<'a>) -> Option<Self>
+    /// What words ask for in a form, if they are taken: no two of the names of files to write are equal.
+    fn in_form(form: Form, words: RewriteWords<'a>) -> Option<Self>
         ensures asked { option_map rewrite_asked result
-            ≡ rewrite_words (words.entry.object.now ∷ words.entry.entry.now ∷ words.entry.policy.now ∷ words.entry.image.now ∷ words.entry.graph.now ∷ words.entry.map.now ∷ []) }
+            ≡ words_in form (words.entry.object.now ∷ words.entry.entry.now ∷ words.entry.policy.now ∷ words.entry.image.now ∷ words.entry.graph.now ∷ words.entry.map.now ∷ []) }
         ensures apart { IfSome result (λ request. AreNamedApart (rewrite_asked request)) }
     {
         if words.image == words.graph || words.image == words.map || words.graph == words.map {
             return None;
         }
         Some(RewriteRequest {
+            form,
             object: words.object,
             entry: words.entry,
             policy: file_word(words.policy),
@@ -47,6 +49,25 @@ impl<'a> RewriteRequest<'a> {
             graph: words.graph,
             map: words.map,
         })
+    }
+
+    /// What the words after `rewrite` ask for, if they are taken.
+    pub fn of(words: RewriteWords<'a>) -> Option<Self>
+        ensures asked { option_map rewrite_asked result
+            ≡ rewrite_words (words.entry.object.now ∷ words.entry.entry.now ∷ words.entry.policy.now ∷ words.entry.image.now ∷ words.entry.graph.now ∷ words.entry.map.now ∷ []) }
+        ensures apart { IfSome result (λ request. AreNamedApart (rewrite_asked request)) }
+    {
+        RewriteRequest::in_form(Form::Plain, words)
+    }
+
+    /// What the words after `harden` ask for, if they are taken: the first is a form's name.
+    pub fn hardening(words: HardenWords<'a>) -> Option<Self>
+        ensures asked { option_map rewrite_asked result
+            ≡ harden_words (words.entry.form.now ∷ words.entry.rewrite.object.now ∷ words.entry.rewrite.entry.now ∷ words.entry.rewrite.policy.now ∷ words.entry.rewrite.image.now ∷ words.entry.rewrite.graph.now ∷ words.entry.rewrite.map.now ∷ []) }
+        ensures apart { IfSome result (λ request. AreNamedApart (rewrite_asked request)) }
+    {
+        let form = Form::named(words.form)?;
+        RewriteRequest::in_form(form, words.rewrite)
     }
 }
 
@@ -68,7 +89,7 @@ pub struct Sizes {
     sites: u64,
 }
 
-/// What `rewrite` comes to.
+/// What `rewrite` or `harden` comes to.
 #[derive(Drop)]
 pub enum RewriteOutcome<'a> {
     /// The object is not hardened.
@@ -225,7 +246,7 @@ fn rewrite_bytes<'a>(
 ) -> Result<RewriteOutcome<'a>, NoMemory>
     ensures { IfOk result (IsRewriteOf (rewrite_asked request.now) object.now (option_copied policy.entry)) }
 {
-    match rewrite(alloc, object, request.entry, policy) {
+    match rewrite_as(alloc, request.form, object, request.entry, policy) {
         Ok(hardened) => Ok(RewriteOutcome::Rewritten(spelled_out(alloc, request, hardened)?)),
         Err(HardenEnd::Refused(refusal)) => Ok(RewriteOutcome::Refused(Refusal::Object(refusal))),
         Err(HardenEnd::NoMemory) => Err(NoMemory),

@@ -1,4 +1,6 @@
-ghost use Rattle.std.specs.Prelude.{◌≡◌, IfOk, IfErr, option_map, ◌∷◌, []};
+ghost use Rattle.std.specs.Prelude.{◌≡◌, ◌==◌, ◌&&◌, Ok, IfOk, IfErr, nat_lt, option_map, ◌∷◌, []};
+ghost use Rattle.rv_word.specs.Image.{image_profile};
+ghost use Rattle.rv_word.specs.MemoryMap.{MayRun};
 ghost use Rattle.tool_io.specs.Reading.{CountsReads, IsOnlyRead};
 ghost use Rattle.text_lines.specs.Answers.{Answers};
 ghost use Rattle.cfi_commands.specs.Opening.{IsOpenEnd, Spell, script_given};
@@ -12,7 +14,7 @@ use cfi_files::{Refusal, Stop, file_word, line, read_all, status, steps, text_na
 use cfi_step::{RunReport, Script, run};
 use cfi_verify::{Reject, VerifyEnd, verify};
 use cfi_words::RunWords;
-use rv_word::NoMemory;
+use rv_word::{Image, NoMemory};
 use std::alloc::Global;
 use text_lines::TextEnd;
 use tool_io::Files;
@@ -46,11 +48,13 @@ impl<'a> RunRequest<'a> {
 /// What a run comes to.
 #[derive(Drop)]
 pub enum RunOutcome {
-    /// One of the files is not what it should be: the image, else the graph, else the script.
+    /// One of the files is not what it should be: the image, else the graph, else the script. Or the script is for several harts
+    /// and the image for one.
     Refused(Refusal),
     /// The image breaks a rule: the first that fails.
     Rejected(Reject),
-    Ran(RunReport),
+    /// The version of the image, and the report.
+    Ran(u8, RunReport),
 }
 
 impl RunOutcome {
@@ -60,7 +64,7 @@ impl RunOutcome {
     {
         match self {
             RunOutcome::Refused(_) | RunOutcome::Rejected(_) => status::REFUSED,
-            RunOutcome::Ran(report) => end_status(report.end),
+            RunOutcome::Ran(_, report) => end_status(report.end),
         }
     }
 
@@ -71,12 +75,12 @@ impl RunOutcome {
         match self {
             RunOutcome::Refused(refusal) => line(alloc, refusal),
             RunOutcome::Rejected(reject) => line(alloc, &Verdict::Rejected(*reject)),
-            RunOutcome::Ran(report) => report_text(alloc, report),
+            RunOutcome::Ran(version, report) => report_text(alloc, *version, report),
         }
     }
 }
 
-/// The script that a text spells; without a text it has no changes.
+/// The script that a text spells; without a text one hart runs, undisturbed.
 fn script_of(alloc: Global, text: Option<&[u8]>) -> Result<Script, TextEnd>
     ensures { Answers result (script_given (option_map (λ t. t.now) text.entry)) }
 {
@@ -86,7 +90,14 @@ fn script_of(alloc: Global, text: Option<&[u8]>) -> Result<Script, TextEnd>
     }
 }
 
-/// The image, the graph and the script that files spell.
+/// Whether a script is for several harts, and an image for one.
+fn lacks_harts(image: &Image<'_>, script: &Script) -> bool
+    ensures { result ≡ (image.now.version == 1) && nat_lt 1 script.now.harts }
+{
+    image.version() == 1 && script.harts() > 1
+}
+
+/// The image, the graph and the script that files spell, whose harts the image may have.
 fn open_all<'a>(
     alloc: Global,
     image: &'a [u8],
@@ -95,20 +106,27 @@ fn open_all<'a>(
 ) -> Result<(Pair<'a>, Script), OpenEnd>
     ensures spelled { IfOk result (λ all. Spell image.now graph.now all.0.image all.0.graph) }
     ensures given { IfOk result (λ all. script_given (option_map (λ t. t.now) script.entry) ≡ Ok all.1) }
+    ensures may_run { IfOk result (λ all. MayRun (image_profile all.0.image) all.1.harts) }
     ensures refused { IfErr result (IsOpenEnd image.now graph.now (option_map (λ t. t.now) script.entry)) }
 {
     let pair = match open_pair(alloc, image, graph) {
         Ok(pair) => pair,
         Err(end) => return Err(end),
     };
-    match script_of(alloc, script) {
-        Ok(script) => Ok((pair, script)),
-        Err(TextEnd::Line(line, reason)) => Err(OpenEnd::Refused(Refusal::Script(line, reason))),
-        Err(TextEnd::NoMemory) => Err(OpenEnd::NoMemory),
+    let script = match script_of(alloc, script) {
+        Ok(script) => script,
+        Err(TextEnd::Line(line, reason)) => {
+            return Err(OpenEnd::Refused(Refusal::Script(line, reason)));
+        }
+        Err(TextEnd::NoMemory) => return Err(OpenEnd::NoMemory),
+    };
+    if lacks_harts(&pair.image, &script) {
+        return Err(OpenEnd::Refused(Refusal::Harts(script.harts())));
     }
+    Ok((pair, script))
 }
 
-/// Runs an image, if it goes with its graph.
+/// Runs an image with the harts of a script, if it goes with its graph.
 fn run_pair(
     alloc: Global,
     pair: &Pair<'_>,
@@ -116,10 +134,15 @@ fn run_pair(
     input: &[u8],
     limit: u64,
 ) -> Result<RunOutcome, NoMemory>
+    requires { MayRun (image_profile pair.now.image) script.old.harts }
     ensures { IfOk result (IsRunOfPair pair.now.image pair.now.graph script.old input.now limit) }
 {
+    let harts = script.harts();
     match verify(alloc, &pair.image, &pair.graph) {
-        Ok(checked) => Ok(RunOutcome::Ran(run(alloc, &checked, input, script, limit)?)),
+        Ok(checked) => Ok(RunOutcome::Ran(
+            pair.image.version(),
+            run(alloc, &checked, input, harts, script, limit)?,
+        )),
         Err(VerifyEnd::Reject(reject)) => Ok(RunOutcome::Rejected(reject)),
         Err(VerifyEnd::NoMemory) => Err(NoMemory),
     }

@@ -1,6 +1,7 @@
 //! The program of an object at a map, as `compare` needs it, or why there is none.
 
 ghost use Rattle.std.specs.Prelude.{◌≡◌, IfOk, IfErr, MatchResult, Some, option_copied};
+ghost use Rattle.rv_word.specs.declared.form.Form.TheVariants as Form;
 ghost use Rattle.cfi_flow.specs.Entry.{entry_place};
 ghost use Rattle.cfi_flow.specs.Policy.{instruction_at};
 ghost use Rattle.cfi_harden.specs.Hardened.{HasDataRoom};
@@ -10,20 +11,21 @@ ghost use Rattle.cfi_commands.specs.Demonstration.{IsSourceOn};
 
 use cfi_graph::Map;
 use cfi_harden::{HardenEnd, Prepared, Refusal, has_data_room, prepare};
+use rv_word::Form;
 use src_machine::{SourceEnd, SourceRun};
 use std::alloc::Global;
 
-/// The program of an object, if its data have room.
+/// The program of an object, if its data have room. A form says where units are placed, which here a map does.
 pub(crate) fn roomy<'a>(
     alloc: Global,
     object: &'a [u8],
     entry: &str,
     policy: Option<&[u8]>,
 ) -> Result<Prepared<'a>, HardenEnd>
-    ensures roomy { IfOk result (IsRoomy (record { object = object.now; entry = entry.now; policy = option_copied policy.entry })) }
-    ensures refused { IfErr result (IsRoomyEnd (record { object = object.now; entry = entry.now; policy = option_copied policy.entry })) }
+    ensures roomy { IfOk result (IsRoomy (record { form = Form.Plain; object = object.now; entry = entry.now; policy = option_copied policy.entry })) }
+    ensures refused { IfErr result (IsRoomyEnd (record { form = Form.Plain; object = object.now; entry = entry.now; policy = option_copied policy.entry })) }
 {
-    let prepared = match prepare(alloc, object, entry, policy) {
+    let prepared = match prepare(alloc, Form::Plain, object, entry, policy) {
         Ok(prepared) => prepared,
         Err(end) => return Err(end),
     };

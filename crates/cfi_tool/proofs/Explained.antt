@@ -1,5 +1,5 @@
 -- The files of an outcome that is explained.
-use Rattle.std.proofs.Common.{◌≡◌, ◌∙◌, ℕ, List, [], Some, ap, refl, sym}
+use Rattle.std.proofs.Common.{◌≡◌, ◌∙◌, [], ap, refl, sym}
 use Rattle.cfi_commands.specs.Rewrite.{IsSpelledOut, RewriteWords, AreNamedApart, outputs_of}
 use Rattle.cfi_tool.specs.Explains.{ExplainsRequest}
 use Rattle.cfi_tool.specs.Outcomes.{outcome_outputs}
@@ -10,7 +10,7 @@ use Rattle.cfi_harden.specs.Hardened.{HardenedParts}
 use Rattle.cfi_commands.specs.declared.rewrite.Rewritten.{Rewritten}
 use Rattle.cfi_commands.specs.declared.rewrite.RewriteOutcome.TheVariants as outcome
 use Rattle.cfi_tool.specs.declared.outcome.Outcome.{Outcome}
-use Rattle.cfi_tool.specs.declared.outcome.Outcome.TheVariants.{Usage, Help, Version, Unread, Rewrite, Verify, Run, Compare, Demo}
+use Rattle.cfi_tool.specs.declared.outcome.Outcome.TheVariants.{Rewrite, Verify, Run, Compare, Demo}
 
 written_apart : (words : RewriteWords) (hardened : HardenedParts) (written : Rewritten) → AreNamedApart words → IsSpelledOut words hardened written
     → AreApart (outputs_of written)

@@ -1,5 +1,5 @@
 -- A count of faults that is constantly 0.
-use Rattle.std.proofs.Common.{◌⊎◌, ◌≡◌, inl, inr, arith}
+use Rattle.std.proofs.Common.{inl, inr, arith}
 use Rattle.tool_io.specs.Faults.{Rose}
 
 -- it never rose

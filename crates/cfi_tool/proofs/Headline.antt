@@ -1,5 +1,5 @@
 -- What status 0 says of a command that was asked for, and what a report's status does.
-use Rattle.std.proofs.Common.{◌≡◌, ◌⊎◌, ◌≤◌, ℕ, List, [], None, Some, inl, inr, refl, subst, arith, lit≤}
+use Rattle.std.proofs.Common.{◌≡◌, ◌⊎◌, ◌≤◌, ℕ, List, [], None, inl, inr, refl, subst, arith, lit≤}
 use Rattle.tool_io.specs.declared.files.Files.{Ghosts}
 use Rattle.cfi_compare.specs.declared.answer.Compared.{Compared}
 use Rattle.cfi_compare.specs.declared.answer.Compared.TheVariants as compared
@@ -62,7 +62,7 @@ module _ (content : Content) where
       → IsRan content given_words (outcome_status given) (outcome_text given)
   ran_is words (Run (ran.Refused refusal)) is done = absurd (small_report 1 (inl refl) done)
   ran_is words (Run (ran.Rejected reject)) is done = absurd (small_report 1 (inl refl) done)
-  ran_is words (Run (ran.Ran report)) is done = (report, is, refl, refl)
+  ran_is words (Run (ran.Ran version report)) is done = (version, report, is, refl, refl)
   ran_is words other is done = absurd is
 
   -- a program was compared

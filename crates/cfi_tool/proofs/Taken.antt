@@ -1,5 +1,5 @@
 -- What a command line is taken for, by how `clap` reads it.
-use Rattle.std.proofs.Common.{◌≡◌, ◌∙◌, ℕ, List, Option, None, Some, Ok, Err, ap, sym}
+use Rattle.std.proofs.Common.{◌≡◌, ◌∙◌, ℕ, List, None, Some, Ok, Err, ap, sym}
 use Rattle.std.specs.Option.{option_map}
 use Rattle.cfi_words.specs.Plain.{TakesPlain}
 use Rattle.cfi_words.specs.Reading.{Gives, reading, request_of as words_of}

@@ -1,6 +1,6 @@
 -- Status 0 where two names stand after `verify`: neither help nor the version can have been asked for, and the two names are the files.
-use Rattle.std.proofs.Common.{◌≡◌, ◌≢◌, ◌∙◌, ℕ, Bool, true, false, List, [], ◌∷◌, Option, Some, None, inl, inr, ap, ap₂, sym, subst, refl, arith, codes}
-use Rattle.std.specs.Prelude.{⊤, if◌then◌else◌}
+use Rattle.std.proofs.Common.{◌≡◌, ◌∙◌, ℕ, false, List, [], ◌∷◌, Option, Some, None, inl, inr, ap, ap₂, sym, subst, refl, arith, codes}
+use Rattle.std.specs.Prelude.{⊤}
 use Rattle.cfi_words.specs.HelpWords.{asks_help, asks_version}
 use Rattle.cfi_words.specs.Plain.{AsksFor, Operands, mark_left, none_left, one_more}
 use Rattle.cfi_words.specs.Reading as reads
@@ -12,7 +12,7 @@ use Rattle.cfi_commands.specs.Verify.{IsAccepted, VerifyWords}
 use Rattle.cfi_commands.specs.declared.verify.Verdict.TheVariants as verdict
 use Rattle.cfi_tool.specs.Explains.{Explains, ExplainsRequest}
 use Rattle.cfi_tool.specs.Outcomes.{outcome_status, outcome_text}
-use Rattle.cfi_tool.specs.Request.{Request, Taken, Verifies, asks, helps, if_request, request_of, taken, taken_by, tells_version, untaken, verify as verifies}
+use Rattle.cfi_tool.specs.Request.{Request, Taken, Verifies, asks, helps, if_request, request_of, taken, taken_by, tells_version, verify as verifies}
 use Rattle.cfi_tool.specs.declared.outcome.Outcome.{Outcome}
 use Rattle.cfi_tool.specs.declared.outcome.Outcome.TheVariants.{Usage, Help, Version, Unread, Rewrite, Verify, Run, Compare, Demo}
 

@@ -1,5 +1,5 @@
 -- What each outcome says of the words and of the files.
-use Rattle.std.specs.Prelude.{◌≡◌, ℕ, List, take, ⊤, Option, Some, None, Result, Ok}
+use Rattle.std.specs.Prelude.{◌≡◌, ℕ, List, take, ⊤, Option, Result, Ok}
 use Rattle.std.specs.Io.KnownBytes.{Appends}
 use Rattle.rv_word.specs.declared.no_memory.NoMemory.{NoMemory}
 use Rattle.cfi_commands.specs.Compare.{ExplainsCompare}

@@ -12,7 +12,7 @@ use Rattle.cfi_tool.specs.declared.outcome.Outcome.{Outcome}
 use Rattle.cfi_tool.specs.declared.outcome.Outcome.TheVariants.{Usage, Help, Version, Unread, Rewrite, Verify, Run, Compare, Demo}
 
 abbrev pub usage_line : List ℕ
-usage_line = codes "usage: rvcfi rewrite|verify|run|compare|demo"
+usage_line = codes "usage: rvcfi rewrite|verify|run|compare|demo|harden"
 
 abbrev pub outcome_text : Outcome → List ℕ
 outcome_text Usage = with_newline usage_line

@@ -9,12 +9,13 @@ use Rattle.cfi_words.specs.declared.end.WordsEnd.{WordsEnd}
 use Rattle.cfi_words.specs.declared.end.WordsEnd.TheVariants as ends
 use Rattle.cfi_commands.specs.Compare.{CompareWords, compare_asked, compare_names, compare_words}
 use Rattle.cfi_commands.specs.Demo.{demo_asked, demo_words}
-use Rattle.cfi_commands.specs.Rewrite.{AreNamedApart, RewriteWords, rewrite_asked, rewrite_names, rewrite_words}
+use Rattle.cfi_commands.specs.Rewrite.{AreNamedApart, RewriteWords, harden_words, rewrite_asked, rewrite_names, rewrite_words}
 use Rattle.cfi_commands.specs.Run.{RunWords, run_asked, run_names, run_words}
 use Rattle.cfi_commands.specs.Verify.{VerifyWords, verify_asked, verify_names, verify_words}
 use Rattle.cfi_tool.specs.declared.request.Request as R
 use Rattle.cfi_tool.specs.declared.request.Request.TheVariants.{Rewrite, Verify, Run, Compare, Demo}
 
+-- `harden` asks for what `rewrite` does, in a form
 pub data Request : Type 0 where
   rewrite : RewriteWords → Request
   verify : VerifyWords → Request
@@ -30,7 +31,8 @@ request_of (command ∷ words) =
     if bytes_eq command (codes "verify") then option_map verify (verify_words words) else
     if bytes_eq command (codes "run") then option_map run (run_words words) else
     if bytes_eq command (codes "compare") then option_map compare (compare_words words) else
-    if bytes_eq command (codes "demo") then option_map demo (demo_words words) else None
+    if bytes_eq command (codes "demo") then option_map demo (demo_words words) else
+    if bytes_eq command (codes "harden") then option_map rewrite (harden_words words) else None
 
 -- what a command line is taken for: a request, or one for help or for the version, or none of these
 pub data Taken : Type 0 where

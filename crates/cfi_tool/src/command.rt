@@ -105,7 +105,7 @@ fn finish<F: Files, K: Sink>(
 /// there was no memory, and 6 where a file has more than 2^26 bytes; for a run also 10 where it came to a
 /// handler, 11 where it broke or a load failed; for a run and a comparison 12 where as many steps were taken as
 /// may be, and for a comparison 13 where the program takes no such step. 1 is also where they differ. All files
-/// are read first, then `rewrite` writes its three, and the text is put last, in one piece.
+/// are read first, then `rewrite` or `harden` writes its three, and the text is put last, in one piece.
 #[tactic(auto, using(crate::proofs::Since::wrote_since, crate::proofs::Since::short_since, crate::proofs::Since::stopped_since, crate::proofs::Since::status_unwritten))]
 pub fn rvcfi<F: Files, K: Sink>(alloc: Global, words: &[String], files: &mut F, out: &mut K) -> u8
     // Where no file is to be written each is as before, none is made or removed, and no count of faults falls.
@@ -124,7 +124,7 @@ pub fn rvcfi<F: Files, K: Sink>(alloc: Global, words: &[String], files: &mut F, 
         × Wrote F.Files files.old files.new (outcome_outputs outcome) None
         × Appends (K.written out.old) (K.written out.new) (outcome_text outcome) }
 
-    // 0 of `rewrite`: the files hold the hardened program of the object, and the text tells its sizes.
+    // 0 of `rewrite` and of `harden`: the files hold the program of the object, hardened in the form, and the text tells its sizes.
     ensures rewritten { result ≡ 0 → (given : RewriteWords) → taken (spelled words.now) ≡ asks (rewrite given)
         → (text : List ℕ) × IsRewritten F.Files files.old files.new given text × Appends (K.written out.old) (K.written out.new) text }
 

@@ -74,7 +74,10 @@ impl Outcome<'_> {
         ensures { IfOk result (λ text. text.items ≡ outcome_text self.now) }
     {
         match self {
-            Outcome::Usage => line(alloc, &"usage: rvcfi rewrite|verify|run|compare|demo"),
+            Outcome::Usage => line(
+                alloc,
+                &"usage: rvcfi rewrite|verify|run|compare|demo|harden",
+            ),
             Outcome::Help(text) | Outcome::Version(text) => Ok(Vec::from_slice(
                 alloc,
                 text.as_bytes(),

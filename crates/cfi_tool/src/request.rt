@@ -18,6 +18,7 @@ use tool_io::Files;
 /// What the words of a command line ask for.
 #[derive(Clone, Copy)]
 pub(crate) enum Request<'a> {
+    /// `rewrite`, or `harden`.
     Rewrite(RewriteRequest<'a>),
     Verify(VerifyRequest<'a>),
     Run(RunRequest<'a>),
@@ -50,6 +51,7 @@ impl<'a> Request<'a> {
             Asked::Run(words) => Request::Run(RunRequest::of(words)?),
             Asked::Compare(words) => Request::Compare(CompareRequest::of(words)?),
             Asked::Demo(words) => Request::Demo(DemoRequest::of(words)?),
+            Asked::Harden(words) => Request::Rewrite(RewriteRequest::hardening(words)?),
         })
     }
 

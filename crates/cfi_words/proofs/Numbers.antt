@@ -6,7 +6,7 @@ use Rattle.clap.specs.Simple.{App, Shape, built_leaf, inherited, marked_built, w
 use Rattle.clap.specs.Walk.{Text, finished, nothing_held}
 use Rattle.clap.specs.declared.error.kind.ErrorKind.{ErrorKind}
 use Rattle.clap.proofs.OnLiterals.{clap_on_literals}
-use Rattle.cfi_words.specs.CommandLine.{command_line, compare, demo, rewrite, run, verify}
+use Rattle.cfi_words.specs.CommandLine.{command_line, compare, demo, harden, rewrite, run, verify}
 use Rattle.cfi_words.specs.Reading.{request_in}
 use Rattle.cfi_words.proofs.Leaf.{fault_from, held_after, stand}
 
@@ -116,3 +116,27 @@ unfolding clap_on_literals
 demo_right [] size = absurd (cc)
 demo_right (a ∷ []) size = refl
 demo_right (a ∷ b ∷ more) size = absurd (cc)
+
+pub harden_asks : (values : List Text) → wrong harden values ≡ [] → asked_of harden values ≡ Some (codes "harden" ∷ values)
+unfolding clap_on_literals
+harden_asks [] none = absurd (some_wrong none)
+harden_asks (a ∷ []) none = absurd (some_wrong none)
+harden_asks (a ∷ b ∷ []) none = absurd (some_wrong none)
+harden_asks (a ∷ b ∷ c ∷ []) none = absurd (some_wrong none)
+harden_asks (a ∷ b ∷ c ∷ d ∷ []) none = absurd (some_wrong none)
+harden_asks (a ∷ b ∷ c ∷ d ∷ e ∷ []) none = absurd (some_wrong none)
+harden_asks (a ∷ b ∷ c ∷ d ∷ e ∷ f ∷ []) none = absurd (some_wrong none)
+harden_asks (a ∷ b ∷ c ∷ d ∷ e ∷ f ∷ g ∷ []) none = refl
+harden_asks (a ∷ b ∷ c ∷ d ∷ e ∷ f ∷ g ∷ h ∷ more) none = absurd (some_wrong none)
+
+pub harden_right : (values : List Text) → length values ≡ 7 → wrong harden values ≡ []
+unfolding clap_on_literals
+harden_right [] size = absurd (cc)
+harden_right (a ∷ []) size = absurd (cc)
+harden_right (a ∷ b ∷ []) size = absurd (cc)
+harden_right (a ∷ b ∷ c ∷ []) size = absurd (cc)
+harden_right (a ∷ b ∷ c ∷ d ∷ []) size = absurd (cc)
+harden_right (a ∷ b ∷ c ∷ d ∷ e ∷ []) size = absurd (cc)
+harden_right (a ∷ b ∷ c ∷ d ∷ e ∷ f ∷ []) size = absurd (cc)
+harden_right (a ∷ b ∷ c ∷ d ∷ e ∷ f ∷ g ∷ []) size = refl
+harden_right (a ∷ b ∷ c ∷ d ∷ e ∷ f ∷ g ∷ h ∷ more) size = absurd (cc)

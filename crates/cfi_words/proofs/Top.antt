@@ -11,14 +11,14 @@ use Rattle.clap.specs.Simple.{App, built, entered, names_of, rows_at, subcommand
 use Rattle.clap.specs.Walk.{Names, Row, Text, Walk, answers_to, finished, idle, nothing_held, settled, subcommand_met, walk, walk_from, walked}
 use Rattle.clap.proofs.FaultLemmas.{stopped_fault}
 use Rattle.clap.proofs.OnLiterals.{clap_on_literals}
-use Rattle.cfi_words.specs.CommandLine.{command_line, compare, demo, rewrite, run, verify}
+use Rattle.cfi_words.specs.CommandLine.{command_line, compare, demo, harden, rewrite, run, verify}
 use Rattle.cfi_words.specs.Plain.{AsksAsRead, AsksFor, AsksIfFaultless, IsAmong, IsPlainRequest, Operands, TakesPlain, commands, is_plain}
 use Rattle.clap.specs.declared.error.kind.ErrorKind.{ErrorKind}
 use Rattle.clap.specs.declared.error.kind.ErrorKind.TheVariants.{DisplayHelp, DisplayVersion}
 use Rattle.cfi_words.specs.HelpWords.{asks_help, asks_version}
 use Rattle.cfi_words.specs.Reading.{Reading, asks, help, if_alone, reading, reading_by, refused, request_in, told, version}
 use Rattle.cfi_words.proofs.Leaf.{cases_option, fault_from, held_after, is_flat, is_word_or_request, kind_of_word, or_else_none, plain_faults, words_read, stand}
-use Rattle.cfi_words.proofs.Numbers.{asked_of, compare_asks, compare_right, demo_asks, demo_right, leaf, rewrite_asks, rewrite_right, run_asks, run_right, some_wrong, verify_asks, verify_right, wrong}
+use Rattle.cfi_words.proofs.Numbers.{asked_of, compare_asks, compare_right, demo_asks, demo_right, harden_asks, harden_right, leaf, rewrite_asks, rewrite_right, run_asks, run_right, some_wrong, verify_asks, verify_right, wrong}
 
 abbrev pub app : App
 app = built command_line
@@ -60,6 +60,10 @@ compare_known = record { flat = refl; only = refl; asks = compare_asks; right = 
 demo_known : IsKnown demo (codes "demo") 1
 unfolding clap_on_literals
 demo_known = record { flat = refl; only = refl; asks = demo_asks; right = demo_right; fault_is = λ words. refl; entered_is = λ words. refl; request_is = λ rows. refl; begins = refl; quiet = refl }
+
+harden_known : IsKnown harden (codes "harden") 7
+unfolding clap_on_literals
+harden_known = record { flat = refl; only = refl; asks = harden_asks; right = harden_right; fault_is = λ words. refl; entered_is = λ words. refl; request_is = λ rows. refl; begins = refl; quiet = refl }
 
 -- ---- the walk after a command's name
 
@@ -126,7 +130,8 @@ plain_taken program name words request = by request.known
     by (inr (inr (inl is))) = as_named _ is.0 (plain_known run _ 5 run_known program words request.plain (sym is.1))
     by (inr (inr (inr (inl is)))) = as_named _ is.0 (plain_known compare _ 7 compare_known program words request.plain (sym is.1))
     by (inr (inr (inr (inr (inl is))))) = as_named _ is.0 (plain_known demo _ 1 demo_known program words request.plain (sym is.1))
-    by (inr (inr (inr (inr (inr no_more))))) = absurd no_more
+    by (inr (inr (inr (inr (inr (inl is)))))) = as_named _ is.0 (plain_known harden _ 7 harden_known program words request.plain (sym is.1))
+    by (inr (inr (inr (inr (inr (inr no_more)))))) = absurd no_more
 
 -- ---- words without a fault
 
@@ -157,7 +162,10 @@ entered_by_name name rest has quiet = elim (cases_Bool (bytes_eq (codes "rewrite
         | inl e ↦ as_known _ _ _ compare_known (named_as _ name e)
         | inr four ↦ elim (cases_Bool (bytes_eq (codes "demo") name)) [
           | inl e ↦ as_known _ _ _ demo_known (named_as _ name e)
-          | inr five ↦ let bad : false ≡ true = rw (one, two, three, four, five) at has in absurd (cc)
+          | inr five ↦ elim (cases_Bool (bytes_eq (codes "harden") name)) [
+            | inl e ↦ as_known _ _ _ harden_known (named_as _ name e)
+            | inr six ↦ let bad : false ≡ true = rw (one, two, three, four, five, six) at has in absurd (cc)
+          ]
         ]
       ]
     ]

@@ -41,6 +41,10 @@ compare_operands = codes "OBJECT" ∷ codes "ENTRY" ∷ codes "POLICY" ∷ codes
 abbrev pub demo_operands : List Text
 demo_operands = codes "NUMBER" ∷ []
 
+-- a form, and then the words of `rewrite`
+abbrev pub harden_operands : List Text
+harden_operands = codes "FORM" ∷ rewrite_operands
+
 abbrev pub rewrite : App
 rewrite = form (codes "rewrite") rewrite_operands
 
@@ -56,6 +60,9 @@ compare = form (codes "compare") compare_operands
 abbrev pub demo : App
 demo = form (codes "demo") demo_operands
 
+abbrev pub harden : App
+harden = form (codes "harden") harden_operands
+
 -- the program without its commands: it has a version, wants a command, and has no command for help
 abbrev pub program : App
 program = record {
@@ -67,7 +74,7 @@ abbrev pub with_command : App → App → App
 with_command app command = with_subcommand app command.top
 
 abbrev pub command_line : App
-command_line = fold with_command program (rewrite ∷ verify ∷ run ∷ compare ∷ demo ∷ [])
+command_line = fold with_command program (rewrite ∷ verify ∷ run ∷ compare ∷ demo ∷ harden ∷ [])
 
 -- a command has this form, and no argument that holds for others
 abbrev pub IsCommand : App → Command → Type 0

@@ -3,7 +3,7 @@ use Rattle.std.specs.Prelude.{◌≡◌, ◌≢◌, ◌⊎◌, ◌==◌, Bool, t
 use Rattle.std.specs.List.{list_all}
 use Rattle.clap.specs.Words.{Text, fault_of}
 use Rattle.cfi_words.specs.Reading.{asks, reading}
-use Rattle.cfi_words.specs.CommandLine.{command_line, compare_operands, demo_operands, rewrite_operands, run_operands, verify_operands}
+use Rattle.cfi_words.specs.CommandLine.{command_line, compare_operands, demo_operands, harden_operands, rewrite_operands, run_operands, verify_operands}
 
 -- the word is not empty and does not begin with a hyphen (45)
 abbrev pub is_plain : Text → Bool
@@ -13,7 +13,7 @@ is_plain (x ∷ xs) = not (x == 45)
 -- each command, and the names of its words
 abbrev pub commands : List (Text × List Text)
 commands = (codes "rewrite", rewrite_operands) ∷ (codes "verify", verify_operands) ∷ (codes "run", run_operands)
-    ∷ (codes "compare", compare_operands) ∷ (codes "demo", demo_operands) ∷ []
+    ∷ (codes "compare", compare_operands) ∷ (codes "demo", demo_operands) ∷ (codes "harden", harden_operands) ∷ []
 
 -- a name and words are those of one of the commands, by the number of the words
 abbrev pub IsAmong : List (Text × List Text) → Text → List Text → Type 0

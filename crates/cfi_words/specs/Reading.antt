@@ -6,15 +6,16 @@ use Rattle.std.specs.declared.alloc.Global.{Global}
 use Rattle.clap.specs.Words.{Kinds, Row, Text, fault_of, first_of, subcommand_of}
 use Rattle.clap.specs.declared.error.kind.ErrorKind.{ErrorKind}
 use Rattle.clap.specs.declared.error.kind.ErrorKind.TheVariants.{DisplayHelp, DisplayVersion, OutOfMemory}
-use Rattle.cfi_words.specs.CommandLine.{command_line, compare_operands, demo_operands, rewrite_operands, run_operands, verify_operands}
+use Rattle.cfi_words.specs.CommandLine.{command_line, compare_operands, demo_operands, harden_operands, rewrite_operands, run_operands, verify_operands}
 use Rattle.cfi_words.specs.HelpWords.{asks_help, asks_version}
 use Rattle.cfi_words.specs.declared.asked.Asked.{Asked}
-use Rattle.cfi_words.specs.declared.asked.Asked.TheVariants.{Rewrite, Verify, Run, Compare, Demo}
+use Rattle.cfi_words.specs.declared.asked.Asked.TheVariants.{Rewrite, Verify, Run, Compare, Demo, Harden}
 use Rattle.cfi_words.specs.declared.asked.RewriteWords.{RewriteWords}
 use Rattle.cfi_words.specs.declared.asked.VerifyWords.{VerifyWords}
 use Rattle.cfi_words.specs.declared.asked.RunWords.{RunWords}
 use Rattle.cfi_words.specs.declared.asked.CompareWords.{CompareWords}
 use Rattle.cfi_words.specs.declared.asked.DemoWords.{DemoWords}
+use Rattle.cfi_words.specs.declared.asked.HardenWords.{HardenWords}
 use Rattle.cfi_words.specs.declared.end.WordsEnd.{WordsEnd}
 use Rattle.cfi_words.specs.declared.end.WordsEnd.TheVariants.{Help, Version, Refused, NoMemory}
 
@@ -48,7 +49,8 @@ request_in (name, rows) =
     if bytes_eq name (codes "verify") then request (codes "verify") verify_operands rows else
     if bytes_eq name (codes "run") then request (codes "run") run_operands rows else
     if bytes_eq name (codes "compare") then request (codes "compare") compare_operands rows else
-    if bytes_eq name (codes "demo") then request (codes "demo") demo_operands rows else None
+    if bytes_eq name (codes "demo") then request (codes "demo") demo_operands rows else
+    if bytes_eq name (codes "harden") then request (codes "harden") harden_operands rows else None
 
 -- what an error of this kind tells
 abbrev pub told : ErrorKind → Reading
@@ -95,6 +97,9 @@ compare_listed w = w.object.now ∷ w.entry.now ∷ w.policy.now ∷ w.image.now
 abbrev pub demo_listed : DemoWords → List Text
 demo_listed w = w.number.now ∷ []
 
+abbrev pub harden_listed : HardenWords → List Text
+harden_listed w = w.form.now ∷ rewrite_listed w.rewrite
+
 -- the name of a command and its words
 abbrev pub request_of : Asked → List Text
 request_of (Rewrite w) = codes "rewrite" ∷ rewrite_listed w
@@ -102,6 +107,7 @@ request_of (Verify w) = codes "verify" ∷ verify_listed w
 request_of (Run w) = codes "run" ∷ run_listed w
 request_of (Compare w) = codes "compare" ∷ compare_listed w
 request_of (Demo w) = codes "demo" ∷ demo_listed w
+request_of (Harden w) = codes "harden" ∷ harden_listed w
 
 -- the result is what words with this reading come to, or memory was wanting
 abbrev pub Gives : Reading → Result Asked WordsEnd → Type 0

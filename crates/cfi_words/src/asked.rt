@@ -7,6 +7,7 @@ pub enum Asked<'a> {
     Run(RunWords<'a>),
     Compare(CompareWords<'a>),
     Demo(DemoWords<'a>),
+    Harden(HardenWords<'a>),
 }
 
 /// The words of `rewrite`.
@@ -74,4 +75,13 @@ pub struct CompareWords<'a> {
 pub struct DemoWords<'a> {
     /// The number that an object is made from.
     pub number: &'a str,
+}
+
+/// The words of `harden`: a form, and then those of `rewrite`.
+#[derive(Clone, Copy)]
+pub struct HardenWords<'a> {
+    /// The form of what is made.
+    pub form: &'a str,
+    /// The words after it.
+    pub rewrite: RewriteWords<'a>,
 }

@@ -14,7 +14,7 @@ struct Form {
 }
 
 /// The commands, in the order of the help.
-static COMMANDS: [Form; 5] = [
+static COMMANDS: [Form; 6] = [
     Form {
         name: "rewrite",
         about: "Hardens an object: writes an image, its graph and its map",
@@ -63,6 +63,19 @@ static COMMANDS: [Form; 5] = [
         name: "demo",
         about: "Makes an object from a number, hardens, runs and compares it",
         operands: &[("NUMBER", "The number that an object is made from")],
+    },
+    Form {
+        name: "harden",
+        about: "Does what rewrite does, in a form: for one hart, or for harts",
+        operands: &[
+            ("FORM", "The form of what is made: plain or harts"),
+            ("OBJECT", "The object to read"),
+            ("ENTRY", "The symbol at which the program begins"),
+            ("POLICY", "The policy to read, or none"),
+            ("IMAGE", "The image to write"),
+            ("GRAPH", "The graph to write"),
+            ("MAP", "The map to write"),
+        ],
     },
 ];
 

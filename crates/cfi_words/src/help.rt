@@ -10,7 +10,10 @@ use crate::end::WordsEnd;
 fn is_command(name: &str) -> bool
     ensures { result ≡ is_command name.now }
 {
-    matches!(name, "rewrite" | "verify" | "run" | "compare" | "demo")
+    matches!(
+        name,
+        "rewrite" | "verify" | "run" | "compare" | "demo" | "harden"
+    )
 }
 
 /// Whether a word asks for help.

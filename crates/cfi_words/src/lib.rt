@@ -2,7 +2,7 @@
 //! that the words are not taken.
 #![tactic(auto)]
 
-pub use asked::{Asked, CompareWords, DemoWords, RewriteWords, RunWords, VerifyWords};
+pub use asked::{Asked, CompareWords, DemoWords, HardenWords, RewriteWords, RunWords, VerifyWords};
 pub use end::WordsEnd;
 pub use read::read_words;
 

@@ -3,10 +3,12 @@
 ghost use Rattle.std.specs.Prelude.{◌≡◌, [], ◌∷◌, codes, option_and_then, option_map};
 ghost use Rattle.clap.specs.Words.{first_of, found_of, kind_of, rows_of, subcommand_rows_of};
 ghost use Rattle.cfi_words.specs.Plain.{AsksAsRead, AsksIfFaultless, TakesPlain};
-ghost use Rattle.cfi_words.specs.CommandLine.{compare_operands, demo_operands, rewrite_operands, run_operands, verify_operands};
-ghost use Rattle.cfi_words.specs.Reading.{EndsBy, Gives, listed_in, reading, request, request_in, request_of, spelled};
+ghost use Rattle.cfi_words.specs.CommandLine.{compare_operands, demo_operands, harden_operands, rewrite_operands, run_operands, verify_operands};
+ghost use Rattle.cfi_words.specs.Reading.{EndsBy, Gives, listed_in, reading, request, request_in, request_of, rewrite_listed, spelled};
 
-use crate::asked::{Asked, CompareWords, DemoWords, RewriteWords, RunWords, VerifyWords};
+use crate::asked::{
+    Asked, CompareWords, DemoWords, HardenWords, RewriteWords, RunWords, VerifyWords,
+};
 use crate::command::command_line;
 use crate::end::WordsEnd;
 use crate::help::if_alone;
@@ -35,21 +37,37 @@ fn two_words<'a>(matches: &ArgMatches<'a>, first: &str, second: &str) -> Option<
     word(matches, first).zip(word(matches, second))
 }
 
-/// `rewrite` and its words, if each is there.
-fn rewrite<'a>(matches: &ArgMatches<'a>) -> Option<Asked<'a>>
-    ensures { option_map request_of result ≡ request (codes "rewrite") rewrite_operands (rows_of (found_of matches.now)) }
+/// The words of `rewrite`, if each is there.
+fn rewrite_words<'a>(matches: &ArgMatches<'a>) -> Option<RewriteWords<'a>>
+    ensures { option_map rewrite_listed result ≡ listed_in rewrite_operands (rows_of (found_of matches.now)) }
 {
     let (((object, entry), (policy, image)), (graph, map)) = two_words(matches, "OBJECT", "ENTRY")
         .zip(two_words(matches, "POLICY", "IMAGE"))
         .zip(two_words(matches, "GRAPH", "MAP"))?;
-    Some(Asked::Rewrite(RewriteWords {
+    Some(RewriteWords {
         object,
         entry,
         policy,
         image,
         graph,
         map,
-    }))
+    })
+}
+
+/// `rewrite` and its words, if each is there.
+fn rewrite<'a>(matches: &ArgMatches<'a>) -> Option<Asked<'a>>
+    ensures { option_map request_of result ≡ request (codes "rewrite") rewrite_operands (rows_of (found_of matches.now)) }
+{
+    let words = rewrite_words(matches)?;
+    Some(Asked::Rewrite(words))
+}
+
+/// `harden` and its words, if each is there.
+fn harden<'a>(matches: &ArgMatches<'a>) -> Option<Asked<'a>>
+    ensures { option_map request_of result ≡ request (codes "harden") harden_operands (rows_of (found_of matches.now)) }
+{
+    let (form, rewrite) = word(matches, "FORM").zip(rewrite_words(matches))?;
+    Some(Asked::Harden(HardenWords { form, rewrite }))
 }
 
 /// `verify` and its words, if each is there.
@@ -114,6 +132,7 @@ fn asked<'a>(matches: &ArgMatches<'a>) -> Option<Asked<'a>>
         "run" => run(words),
         "compare" => compare(words),
         "demo" => demo(words),
+        "harden" => harden(words),
         _ => None,
     }
 }

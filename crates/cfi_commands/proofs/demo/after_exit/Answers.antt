@@ -12,7 +12,7 @@ told-requires c = λ difference.
     let image = c.args.image.now in
     let answer = c.in_ok-compared.compared in
     let is = subst (λ (h : HardenedParts). IsAnswerAt p h.map image answer) c.hardened.view_is c.in_ok-compared.ensures in
-    never_told p c.args.hardened.now.map image answer is c.requires.same difference
+    never_told p c.args.hardened.now.map image answer is c.requires.version c.requires.same difference
 
 pub returns : goal.returns
 returns c = λ number object run exits.

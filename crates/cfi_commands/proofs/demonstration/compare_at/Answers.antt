@@ -1,6 +1,6 @@
 use Rattle.std.proofs.Common.{◌≡◌, []}
 use Rattle.std.proofs.lemmas.Result.{IfOk-weaker}
-use Rattle.rv_word.specs.MemoryMap.{version_1}
+use Rattle.rv_word.specs.Image.{image_profile}
 use Rattle.cfi_meaning.specs.Compared.{compared}
 use Rattle.cfi_compare.specs.Told.{told_answer}
 use Rattle.cfi_compare.specs.declared.answer.Compared.{Compared}
@@ -14,7 +14,7 @@ returns c =
     let p = c.args.prepared.now in
     let run = c.in_ok-source.source in
     IfOk-weaker c.compare.result
-    (λ (answer : Compared). answer ≡ told_answer run.layout.program (compared version_1 run.layout c.args.image.now [] STEP_LIMIT))
+    (λ (answer : Compared). answer ≡ told_answer run.layout.program (compared (image_profile c.args.image.now) run.layout c.args.image.now [] STEP_LIMIT))
     (IsAnswerAt p c.args.map.now c.args.image.now)
     (λ answer told. answer_at p c.args.map.now c.args.image.now run answer c.in_ok-source.ensures told)
     (c.compare.ensures.from_start c.in_ok-source.ensures.state)

@@ -1,9 +1,9 @@
-use Rattle.std.proofs.Common.{◌≡◌, ◌⊎◌, ◌≤◌, ℕ, inl, inr, rules, subst, sym}
+use Rattle.std.proofs.Common.{◌≡◌, ◌⊎◌, ℕ, inl, inr, rules, subst, sym}
 use Rattle.cfi_words.specs.Reading.{spelled}
 use Rattle.cfi_commands.specs.Compare.{IsTold}
 use Rattle.cfi_commands.specs.Demo.{IsDemonstrated}
 use Rattle.cfi_commands.specs.Run.{IsRan}
-use Rattle.cfi_tool.specs.Outcomes.{outcome_outputs, outcome_status, outcome_text}
+use Rattle.cfi_tool.specs.Outcomes.{outcome_outputs, outcome_text}
 use Rattle.cfi_tool.specs.Request.{compare, demo, rewrite, run}
 use Rattle.cfi_tool.specs.Complete.{IsComplete}
 use Rattle.cfi_tool.proofs.Complete.{complete_is}
