@@ -18,3 +18,7 @@ for name in b h p other exits deep loop astray break load status edge aimed rela
     words "$name" 0x40000040
 done
 words long 0x40000040 | sed -n '1p;$p'
+words prologue_of_harts 0x40000000
+for name in b shared jobs; do
+    words "$name" 0x40000050
+done

@@ -91,7 +91,7 @@ fn stops_so(alloc: Global, run: &mut SourceRun, told: &str) -> bool {
 
 /// Whether a run writes these bytes and stops as it is told.
 fn runs_so(alloc: Global, run: &mut SourceRun, output: &[u8], told: &str) -> bool {
-    stops_so(alloc, run, told) && run.machine().system().output().as_slice() == output
+    stops_so(alloc, run, told) && run.processor().system().output().as_slice() == output
 }
 
 /// Whether a text is this one.
@@ -137,7 +137,9 @@ fn is_told_at(alloc: Global, items: &Items, closed: &Closed, map: &Map, asked: &
         return false;
     }
     match SourceRun::new(alloc, items, closed, map, entry, asked.input) {
-        Ok(mut run) => runs_so(alloc, &mut run, asked.output, asked.told),
+        Ok(mut run) => {
+            run.form() == map.form() && runs_so(alloc, &mut run, asked.output, asked.told)
+        }
         Err(end) => ends_so(alloc, end, asked.told),
     }
 }

@@ -224,3 +224,54 @@ pub(crate) const MORE: &[u8] = b"rvcfi-map 1\n\
 /// No place.
 pub(crate) const NONE: &[u8] = b"rvcfi-map 1\n\
     end\n";
+
+/// That of one that calls itself, with its branch long, in the form for several harts.
+pub(crate) const LONG_OF_HARTS: &[u8] = b"rvcfi-map 2 harts\n\
+    at 40000050 0001 00000000\n\
+    at 40000054 0001 00000004\n\
+    at 40000058 0001 00000008\n\
+    at 4000005c 0001 0000000c\n\
+    at 40000064 0001 00000010\n\
+    at 40000068 0001 00000014\n\
+    at 40000078 0001 00000018\n\
+    at 4000007c 0001 0000001c\n\
+    at 4000009c 0001 00000020\n\
+    at 400000a0 0001 00000024\n\
+    at 400000a4 0001 00000028\n\
+    at 400000b8 0001 0000002c\n\
+    end\n";
+
+/// Maps of that form: a first gate that stands too far on, a return of 24 bytes, a missing end, a place past the end, and no place.
+pub(crate) const LATE_OF_HARTS: &[u8] = b"rvcfi-map 2 harts\n\
+    at 40000054 0001 00000000\n\
+    at 40000058 0001 00000004\n\
+    at 4000006c 0001 00000008\n\
+    end\n";
+
+pub(crate) const WIDE_OF_HARTS: &[u8] = b"rvcfi-map 2 harts\n\
+    at 40000050 0001 00000000\n\
+    at 40000054 0001 00000004\n\
+    at 4000006c 0001 00000008\n\
+    end\n";
+
+pub(crate) const SHORT_OF_HARTS: &[u8] = b"rvcfi-map 2 harts\n\
+    at 40000050 0001 00000000\n\
+    at 40000054 0001 00000004\n\
+    end\n";
+
+pub(crate) const MORE_OF_HARTS: &[u8] = b"rvcfi-map 2 harts\n\
+    at 40000050 0001 00000000\n\
+    at 40000054 0001 00000004\n\
+    at 40000068 0001 00000008\n\
+    at 4000006c 0001 0000000c\n\
+    end\n";
+
+pub(crate) const NONE_OF_HARTS: &[u8] = b"rvcfi-map 2 harts\n\
+    end\n";
+
+/// A map for one hart whose gates stand where those for several do.
+pub(crate) const LATER: &[u8] = b"rvcfi-map 1\n\
+    at 40000050 0001 00000000\n\
+    at 40000054 0001 00000004\n\
+    at 40000068 0001 00000008\n\
+    end\n";

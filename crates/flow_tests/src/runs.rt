@@ -3,14 +3,17 @@ use crate::given::{Given, Source, file};
 use crate::maps;
 use elf_object::Object;
 use obj_items::items;
-use sample_objects::{B_MAP, H_MAP, NARROW_MAP, NOWHERE_MAP, P_MAP};
+use sample_objects::{
+    B_MAP, B_MAP_OF_HARTS, H_MAP, H_MAP_OF_HARTS, NARROW_MAP, NARROW_MAP_OF_HARTS, NOWHERE_MAP,
+    NOWHERE_MAP_OF_HARTS, P_MAP, P_MAP_OF_HARTS, R_MAP_OF_HARTS,
+};
 use std::alloc::Global;
 
 /// An object, a map, what the run writes and how it is told: how it ends after how many steps, or why none begins.
 struct Row(Given, &'static [u8], &'static [u8], &'static str);
 
 #[rattlefmt::skip]
-static ROWS: [Row; 41] = [
+static ROWS: [Row; 42] = [
     Row(Given(Source::Returning, 0, b""), B_MAP, b"", "exit 7 after 3"),
     Row(Given(Source::Calling, 0, b""), P_MAP, b"", "exit 1 after 11"),
     Row(Given(Source::Writing, 0, b""), H_MAP, b"hi\n", "exit 0 after 15"),
@@ -52,6 +55,36 @@ static ROWS: [Row; 41] = [
     Row(Given(Source::Returning, 0, b""), maps::MORE, b"", "line 5"),
     Row(Given(Source::Returning, 0, b""), maps::NONE, b"", "line 2"),
     Row(Given(Source::Recursive, 0, b""), B_MAP, b"", "line 4"),
+    // The address to which it returns, that of the closing, as its status.
+    Row(Given(Source::Returning, 64, b"13850000"), B_MAP, b"", "exit 56 after 3"),
+];
+
+/// The same at maps of the form for several harts, whose units begin 16 bytes later.
+#[rattlefmt::skip]
+static HARTS: [Row; 22] = [
+    Row(Given(Source::Returning, 0, b""), B_MAP_OF_HARTS, b"", "exit 7 after 3"),
+    Row(Given(Source::Returning, 64, b"13850000"), B_MAP_OF_HARTS, b"", "exit 72 after 3"),
+    Row(Given(Source::Calling, 0, b""), P_MAP_OF_HARTS, b"", "exit 1 after 11"),
+    Row(Given(Source::Writing, 0, b""), H_MAP_OF_HARTS, b"hi\n", "exit 0 after 15"),
+    Row(Given(Source::Recursive, 0, b""), R_MAP_OF_HARTS, b"", "exit 0 after 65526"),
+    Row(Given(Source::Recursive, 0, b""), maps::LONG_OF_HARTS, b"", "exit 0 after 65526"),
+    Row(Given(Source::Recursive, 68, b"1305f5ff"), R_MAP_OF_HARTS, b"", "untame deep 1 28 after 40957"),
+    Row(Given(Source::Returning, 64, b"e780020067800000"), NOWHERE_MAP_OF_HARTS, b"", "untame graph 1 0 after 0"),
+    Row(Given(Source::Returning, 64, b"9380100067800000"), B_MAP_OF_HARTS, b"", "untame return 1 4 after 1"),
+    Row(Given(Source::Returning, 64, b"833291ff67800000"), B_MAP_OF_HARTS, b"", "untame window 1 0 after 0"),
+    Row(Given(Source::Returning, 64, b"833281ff67800000"), B_MAP_OF_HARTS, b"", "exit 0 after 3"),
+    Row(Given(Source::Calling, 80, b"e7802200"), P_MAP_OF_HARTS, b"", "untame graph 1 16 after 4"),
+    Row(Given(Source::Calling, 80, b"e780c201"), P_MAP_OF_HARTS, b"", "exit 2 after 11"),
+    Row(Given(Source::Calling, 144, b"ffffff7f"), P_MAP_OF_HARTS, b"", "range 1 8"),
+    Row(Given(Source::Calling, 0, b""), NARROW_MAP_OF_HARTS, b"", "line 13"),
+    Row(Given(Source::Recursive, 0, b""), B_MAP_OF_HARTS, b"", "line 4"),
+    // First gates of the other form's, and further on; a return of 24 bytes; missing lines, and one too many.
+    Row(Given(Source::Returning, 0, b""), maps::LATER, b"", "line 2"),
+    Row(Given(Source::Returning, 0, b""), maps::LATE_OF_HARTS, b"", "line 2"),
+    Row(Given(Source::Returning, 0, b""), maps::WIDE_OF_HARTS, b"", "line 4"),
+    Row(Given(Source::Returning, 0, b""), maps::SHORT_OF_HARTS, b"", "line 4"),
+    Row(Given(Source::Returning, 0, b""), maps::MORE_OF_HARTS, b"", "line 5"),
+    Row(Given(Source::Returning, 0, b""), maps::NONE_OF_HARTS, b"", "line 2"),
 ];
 
 /// An object that is run under a policy or with an input.
@@ -84,7 +117,7 @@ const READING_TWICE: &[u8] = b"\
     93050000130510009308000473000000";
 
 #[rattlefmt::skip]
-static FURTHER: [Further; 7] = [
+static FURTHER: [Further; 9] = [
     Further(Given(Source::Calling, 84, b"e7800200"), Asked { policy: APART, map: maps::CALLING_TWICE, input: b"", output: b"", told: "untame graph 1 20 after 7" }),
     Further(Given(Source::Calling, 80, b"e780c201"), Asked { policy: FIRST_ALONE, map: NARROW_MAP, input: b"", output: b"", told: "untame graph 1 16 after 4" }),
     Further(Given(Source::Recursive, 64, READING), Asked { policy: b"", map: maps::READING, input: b"ab", output: b"ab", told: "exit 2 after 10" }),
@@ -92,6 +125,8 @@ static FURTHER: [Further; 7] = [
     Further(Given(Source::Recursive, 64, READING), Asked { policy: b"", map: maps::READING, input: b"", output: b"", told: "exit 0 after 10" }),
     Further(Given(Source::Recursive, 64, READING_ELSEWHERE), Asked { policy: b"", map: maps::READING, input: b"ab", output: b"", told: "exit 247 after 10" }),
     Further(Given(Source::Recursive, 64, READING_TWICE), Asked { policy: b"", map: maps::READING_TWICE, input: b"abcdef", output: b"abcdef", told: "untame end 1 44 after 11" }),
+    Further(Given(Source::Calling, 0, b""), Asked { policy: FIRST_ALONE, map: NARROW_MAP_OF_HARTS, input: b"", output: b"", told: "exit 1 after 11" }),
+    Further(Given(Source::Calling, 80, b"e780c201"), Asked { policy: FIRST_ALONE, map: NARROW_MAP_OF_HARTS, input: b"", output: b"", told: "untame graph 1 16 after 4" }),
 ];
 
 /// Whether an object runs as is asked.
@@ -132,6 +167,13 @@ fn asked_of(row: &Row) -> Asked<'static> {
 #[test]
 fn runs_programs(rt: HostRuntime) {
     for (k, row) in ROWS.iter().enumerate() {
+        assert!(rt; is_right(rt.alloc(), &row.0, &asked_of(row)), "row {k}");
+    }
+}
+
+#[test]
+fn runs_programs_for_harts(rt: HostRuntime) {
+    for (k, row) in HARTS.iter().enumerate() {
         assert!(rt; is_right(rt.alloc(), &row.0, &asked_of(row)), "row {k}");
     }
 }

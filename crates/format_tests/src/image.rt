@@ -1,11 +1,13 @@
 ghost use Rattle.std.specs.Prelude.{◌≡◌, length};
+ghost use Rattle.rv_word.specs.Image.{IsVersion};
 
 use crate::common::put;
-use elf_image::{ImageRefusal, read_image, write_image};
+use elf_image::{ImageRefusal, read_image, write_image, write_image_as};
+use rv_word::{Image, NoMemory};
 use sample_programs::{A, code, is_told_as};
 use std::alloc::Global;
 
-/// The headers of the image of a program that exits with 7, by hand, 8 bytes a line.
+/// The headers of the image of version 1 of a program that exits with 7, by hand, 8 bytes a line.
 static HEADERS: [[u8; 8]; 29] = [
     [0x7f, 0x45, 0x4c, 0x46, 2, 1, 1, 0],
     [0, 0, 0, 0, 0, 0, 0, 0],
@@ -37,6 +39,14 @@ static HEADERS: [[u8; 8]; 29] = [
     [0, 0, 1, 0, 0, 0, 0, 0],
     [0, 0x10, 0, 0, 0, 0, 0, 0],
 ];
+
+/// Where the size of the shadow stack stands in the headers, by which the versions differ.
+const SHADOW_LENGTH: usize = 216;
+
+/// That size in version 1, and in version 2.
+static SHADOW_OF_1: [u8; 8] = [0, 0, 1, 0, 0, 0, 0, 0];
+
+static SHADOW_OF_2: [u8; 8] = [0, 0, 8, 0, 0, 0, 0, 0];
 
 type Change = (usize, usize, &'static [u8], Option<ImageRefusal>);
 
@@ -83,7 +93,71 @@ static CHANGES: [Change; 37] = [
     (8195, 8195, &[], Some(ImageRefusal::Short(8195))),
 ];
 
-/// Whether a file has the headers, the code, and zeros up to the end of each page.
+/// The fields of the headers: where the last byte of each stands, and which byte the reader tells where
+/// that is another. It tells the field, but where the length of the code is another: by that it knows where
+/// the data begin, which a field before it names.
+static FIELDS: [(usize, u64); 38] = [
+    (15, 0),
+    (17, 16),
+    (19, 18),
+    (23, 20),
+    (31, 24),
+    (39, 32),
+    (47, 40),
+    (51, 48),
+    (53, 52),
+    (55, 54),
+    (57, 56),
+    (59, 58),
+    (61, 60),
+    (63, 62),
+    (67, 64),
+    (71, 68),
+    (79, 72),
+    (87, 80),
+    (95, 88),
+    (103, 96),
+    (111, 104),
+    (119, 112),
+    (123, 120),
+    (127, 124),
+    (135, 128),
+    (143, 136),
+    (151, 144),
+    (159, 72),
+    (167, 160),
+    (175, 168),
+    (179, 176),
+    (183, 180),
+    (191, 184),
+    (199, 192),
+    (207, 200),
+    (215, 208),
+    (223, 216),
+    (231, 224),
+];
+
+/// Sizes of the shadow stack, and the version whose size each is.
+static SHADOWS: [([u8; 8], Option<u8>); 16] = [
+    ([0, 0, 1, 0, 0, 0, 0, 0], Some(1)),
+    ([0, 0, 8, 0, 0, 0, 0, 0], Some(2)),
+    ([0, 0, 0, 0, 0, 0, 0, 0], None),
+    ([1, 0, 0, 0, 0, 0, 0, 0], None),
+    ([0xff, 0xff, 0, 0, 0, 0, 0, 0], None),
+    ([1, 0, 1, 0, 0, 0, 0, 0], None),
+    ([0, 0, 2, 0, 0, 0, 0, 0], None),
+    ([0, 0, 7, 0, 0, 0, 0, 0], None),
+    ([0xff, 0xff, 7, 0, 0, 0, 0, 0], None),
+    ([1, 0, 8, 0, 0, 0, 0, 0], None),
+    ([0, 0, 9, 0, 0, 0, 0, 0], None),
+    ([0, 0, 16, 0, 0, 0, 0, 0], None),
+    ([0, 0, 1, 0, 1, 0, 0, 0], None),
+    ([0, 0, 8, 0, 1, 0, 0, 0], None),
+    ([0, 0, 8, 0, 0, 0, 0, 0x80], None),
+    ([0xff, 0xff, 0xff, 0xff, 0xff, 0xff, 0xff, 0xff], None),
+];
+
+/// Whether a file has the headers of version 1, the code, and zeros up to the end of each page.
 fn has_code_alone(alloc: Global, code: &[u8], file: &[u8]) -> bool {
     let headers = HEADERS.as_flattened();
     match [headers, &[0; 4096 - 232], code, &[0; 4096 - 80]].concat(alloc) {
@@ -92,28 +166,52 @@ fn has_code_alone(alloc: Global, code: &[u8], file: &[u8]) -> bool {
     }
 }
 
-/// Whether a file is read as an image with the code and no data.
-fn is_read_back(code: &[u8], file: &[u8]) -> bool {
+/// Whether an image has these parts.
+fn has_parts(image: &Image, version: u8, code: &[u8], init: &[u8]) -> bool {
+    image.version() == version && image.code() == code && image.init() == init
+}
+
+/// Whether a file is read as the image of these parts.
+fn is_read_back(version: u8, code: &[u8], init: &[u8], file: &[u8]) -> bool {
     match read_image(file) {
-        Ok(image) => image.code() == code && image.init().is_empty(),
+        Ok(image) => has_parts(&image, version, code, init),
         Err(_) => false,
     }
 }
 
-/// Whether the code alone is written as its file, which is read back.
-fn is_file_of(alloc: Global, code: &[u8]) -> bool
+/// Whether the code alone is written as its file of version 1, which is read back.
+fn is_file_of_1(alloc: Global, code: &[u8]) -> bool
     requires { length code.now ≡ 80 }
 {
     match write_image(alloc, code, &[]) {
-        Ok(file) => has_code_alone(alloc, code, &file) && is_read_back(code, &file),
+        Ok(file) => has_code_alone(alloc, code, &file) && is_read_back(1, code, &[], &file),
         Err(_) => false,
     }
 }
 
-/// Whether the program is written and read so.
+/// Whether a file is that of version 1 but for the size of the shadow stack.
+fn is_2_beside_1(alloc: Global, code: &[u8], file: &mut [u8]) -> bool {
+    file.get(SHADOW_LENGTH..SHADOW_LENGTH + 8) == Some(SHADOW_OF_2.as_slice())
+        && put(file, SHADOW_LENGTH, &SHADOW_OF_1)
+        && has_code_alone(alloc, code, file)
+}
+
+/// Whether the code alone is written as its file of version 2, which is read back.
+fn is_file_of_2(alloc: Global, code: &[u8]) -> bool
+    requires { length code.now ≡ 80 }
+{
+    match write_image_as(alloc, 2, code, &[]) {
+        Ok(mut file) => {
+            is_read_back(2, code, &[], &file) && is_2_beside_1(alloc, code, &mut file)
+        }
+        Err(_) => false,
+    }
+}
+
+/// Whether the program is written and read so, in each version.
 fn is_written_and_read(alloc: Global) -> bool {
     match code(alloc, &A) {
-        Ok(code) => is_file_of(alloc, &code),
+        Ok(code) => is_file_of_1(alloc, &code) && is_file_of_2(alloc, &code),
         Err(_) => false,
     }
 }
@@ -134,11 +232,12 @@ fn is_right_of(file: &mut [u8], row: &Change) -> bool {
     put(file, row.1, row.2) != row.2.is_empty() && ends_so(file, row.3)
 }
 
-/// Whether a row is right of the image of the code and 4 bytes of data.
-fn is_right_with(alloc: Global, code: &[u8], row: &Change) -> bool
-    requires { length code.now ≡ 80 }
+/// Whether a row is right of the image of a version, the code and 4 bytes of data.
+fn is_right_with(alloc: Global, version: u8, code: &[u8], row: &Change) -> bool
+    requires version { IsVersion version }
+    requires size { length code.now ≡ 80 }
 {
-    match write_image(alloc, code, b"data") {
+    match write_image_as(alloc, version, code, b"data") {
         Ok(mut file) => {
             file.len() == 8196 && file.resize(row.0, 0).is_ok() && is_right_of(&mut file, row)
         }
@@ -146,10 +245,10 @@ fn is_right_with(alloc: Global, code: &[u8], row: &Change) -> bool
     }
 }
 
-/// The same of the program's code.
+/// The same of the program's code, in each version.
 fn is_right(alloc: Global, row: &Change) -> bool {
     match code(alloc, &A) {
-        Ok(code) => is_right_with(alloc, &code, row),
+        Ok(code) => is_right_with(alloc, 1, &code, row) && is_right_with(alloc, 2, &code, row),
         Err(_) => false,
     }
 }
@@ -159,6 +258,98 @@ fn takes_one_spelling(rt: HostRuntime) {
     for row in &CHANGES {
         assert!(rt; is_right(rt.alloc(), row), "changed at {}", row.1);
     }
+}
+
+/// The image of a version, the program's code and 4 bytes of data.
+fn image_of(alloc: Global, version: u8) -> Result<Vec<u8>, NoMemory>
+    requires { IsVersion version }
+{
+    let code = code(alloc, &A)?;
+    write_image_as(alloc, version, &code, b"data")
+}
+
+/// Whether a file with another byte in this place is refused for the byte `told`.
+fn is_refused_for(file: &mut [u8], place: usize, told: u64) -> bool {
+    let Some(byte) = file.get_mut(place) else {
+        return false;
+    };
+    *byte ^= 0x80;
+    ends_so(file, Some(ImageRefusal::Byte(told)))
+}
+
+/// Whether a row of the fields is right of the image of a version.
+fn is_right_field(alloc: Global, version: u8, row: &(usize, u64)) -> bool
+    requires { IsVersion version }
+{
+    match image_of(alloc, version) {
+        Ok(mut file) => is_refused_for(&mut file, row.0, row.1),
+        Err(_) => false,
+    }
+}
+
+#[test]
+fn compares_each_field(rt: HostRuntime) {
+    for row in &FIELDS {
+        assert!(rt;
+            is_right_field(rt.alloc(), 1, row),
+            "version 1, byte {}",
+            row.0
+        );
+        assert!(rt;
+            is_right_field(rt.alloc(), 2, row),
+            "version 2, byte {}",
+            row.0
+        );
+    }
+}
+
+/// Whether a file is read as an image of this version, or refused for the size of its shadow stack.
+fn has_version(file: &[u8], version: Option<u8>) -> bool {
+    match read_image(file) {
+        Ok(image) => Some(image.version()) == version,
+        Err(refusal) => version.is_none() && refusal == ImageRefusal::Byte(216),
+    }
+}
+
+/// Whether a row of the sizes is right of the image that was written in a version.
+fn is_right_shadow(alloc: Global, version: u8, row: &([u8; 8], Option<u8>)) -> bool
+    requires { IsVersion version }
+{
+    match image_of(alloc, version) {
+        Ok(mut file) => {
+            put(&mut file, SHADOW_LENGTH, &row.0) != (row.1 == Some(version))
+                && has_version(&file, row.1)
+        }
+        Err(_) => false,
+    }
+}
+
+#[test]
+fn tells_the_version(rt: HostRuntime) {
+    for row in &SHADOWS {
+        assert!(rt;
+            is_right_shadow(rt.alloc(), 1, row),
+            "version 1, {:?}",
+            row.0
+        );
+        assert!(rt;
+            is_right_shadow(rt.alloc(), 2, row),
+            "version 2, {:?}",
+            row.0
+        );
+    }
+}
+
+/// Whether images that are made of these bytes have them, and the version that was asked.
+fn are_made_so() -> bool {
+    has_parts(&Image::of(b"code", b"data"), 1, b"code", b"data")
+        && has_parts(&Image::of_version(1, b"code", b"data"), 1, b"code", b"data")
+        && has_parts(&Image::of_version(2, b"code", b"data"), 2, b"code", b"data")
+}
+
+#[test]
+fn makes_images_of_each_version(rt: HostRuntime) {
+    assert!(rt; are_made_so());
 }
 
 #[test]

@@ -1,21 +1,22 @@
 //! What is listed of codes that come in pieces, wherever they are cut: units, their entries and the prologue.
-ghost use Rattle.std.specs.Prelude.{◌≡◌, ◌<◌, ◌^◌};
+ghost use Rattle.std.specs.Prelude.{◌≡◌, ◌<◌, ◌≤◌, ◌^◌};
 
 use crate::near::{FIRST, NEAR, SKIPS};
 use cfi_scan::{Entry, Feeder, Listing, Steps};
 use cfi_unit::{Unit, recognise};
 use sample_programs::{
-    A, AIMED, B, BREAK, DEEP, ECHO, EDGE, H, JUMP, LOAD, LOOP, NOWHERE, OTHER, P, PROLOGUE, STATUS,
-    code,
+    A, A_OF_HARTS, AIMED, B, BREAK, DEEP, ECHO, EDGE, H, JOBS, JUMP, LOAD, LOOP, NOWHERE, OTHER, P,
+    PROLOGUE, PROLOGUE_OF_HARTS, SHARED, STATUS, code, code_of_harts,
 };
 use std::alloc::Global;
 use std::marker::Brand;
 use std::sync::ledger::{Blank, Ledger};
 
-/// A code in pieces of a size, with room for so many words.
+/// The code of an image of a version, in pieces of a size, with room for so many words.
 fn fed<L: Ledger>(
     alloc: Global,
     blank: Blank,
+    version: u8,
     bytes: &[u8],
     room: usize,
     size: usize,
@@ -29,7 +30,7 @@ fn fed<L: Ledger>(
         return None;
     }
     let mut steps = Steps::<L>::new(blank);
-    let mut feeder = Feeder::new(alloc, 1, room).ok()?;
+    let mut feeder = Feeder::new(alloc, version, room).ok()?;
     for piece in bytes.chunks(size) {
         if feeder.fed() > 1_000_000 || piece.len() > 1_000_000 {
             return None;
@@ -40,10 +41,17 @@ fn fed<L: Ledger>(
 }
 
 /// The same under a ledger of its own.
-fn listed(alloc: Global, bytes: &[u8], room: usize, size: usize) -> Option<Listing>
+fn listed(alloc: Global, version: u8, bytes: &[u8], room: usize, size: usize) -> Option<Listing>
     requires { 0 < size }
 {
-    fed::<Brand>(alloc, Blank::new(1), bytes, room, size)
+    fed::<Brand>(alloc, Blank::new(1), version, bytes, room, size)
+}
+
+/// Where the first unit of a version's images stands.
+fn first(version: u8) -> u64
+    ensures { result ≤ 0x40000050 }
+{
+    if version == 1 { FIRST } else { 0x4000_0050 }
 }
 
 /// Where a field leads from an address, whose offsets are below a bound each way.
@@ -101,7 +109,7 @@ fn count_at(listing: &Listing, words: &[u32], k: usize) -> Option<usize> {
     if k >= words.len() || k > 10_000 {
         return None;
     }
-    let at = FIRST + 4 * k as u64;
+    let at = first(listing.version()) + 4 * k as u64;
     let entry = listing.entry(k)?;
     let Some((unit, count)) = recognise(&words[k..], at) else {
         return if entry == Entry::Inside {
@@ -137,22 +145,48 @@ fn is_listed(listing: &Listing, words: &[u32]) -> bool {
     listing.done() == next && listing.last() == last
 }
 
-/// Whether a code is listed as its units are, in pieces of a size.
-fn is_right(alloc: Global, words: &[u32], size: usize) -> bool
+/// The code of the prologue of a version and some units.
+fn code_in(alloc: Global, version: u8, words: &[u32]) -> Option<Vec<u8>> {
+    if version == 1 {
+        code(alloc, words).ok()
+    } else {
+        code_of_harts(alloc, words).ok()
+    }
+}
+
+/// Whether a listing has the prologue of its version.
+fn has_prologue(listing: &Listing) -> bool {
+    if listing.version() == 1 {
+        listing.prologue() == PROLOGUE.as_slice()
+    } else {
+        listing.prologue() == PROLOGUE_OF_HARTS.as_slice()
+    }
+}
+
+/// Whether the code of a version's image is listed as its units are, in pieces of a size.
+fn is_right_in(alloc: Global, version: u8, words: &[u32], size: usize) -> bool
     requires { 0 < size }
 {
     if words.len() > 900 {
         return false;
     }
-    let Ok(bytes) = code(alloc, words) else {
+    let Some(bytes) = code_in(alloc, version, words) else {
         return false;
     };
-    let Some(listing) = listed(alloc, &bytes, words.len() + 16, size) else {
+    let Some(listing) = listed(alloc, version, &bytes, bytes.len() / 4, size) else {
         return false;
     };
-    listing.prologue() == PROLOGUE.as_slice()
+    listing.version() == version
+        && has_prologue(&listing)
         && listing.fed() as usize == bytes.len()
         && is_listed(&listing, words)
+}
+
+/// The same in version 1.
+fn is_right(alloc: Global, words: &[u32], size: usize) -> bool
+    requires { 0 < size }
+{
+    is_right_in(alloc, 1, words, size)
 }
 
 /// Whether it is so of the code with each bit of each word turned.
@@ -174,7 +208,7 @@ fn are_right(alloc: Global, words: &[u32]) -> bool {
 
 /// Whether a code with room for less, or cut off in a word, keeps what it has room for and counts its bytes.
 fn is_kept(alloc: Global, bytes: &[u8], room: usize, prologue: usize, done: usize) -> bool {
-    let Some(listing) = listed(alloc, bytes, room, 7) else {
+    let Some(listing) = listed(alloc, 1, bytes, room, 7) else {
         return false;
     };
     listing.prologue().len() == prologue
@@ -208,6 +242,18 @@ fn in_one_piece(rt: HostRuntime) {
     assert!(rt; is_right(rt.alloc(), &NOWHERE, 4096), "NOWHERE");
     assert!(rt; is_right(rt.alloc(), &OTHER, 4096), "OTHER");
     assert!(rt; is_right(rt.alloc(), &STATUS, 4096), "STATUS");
+}
+
+#[test]
+fn for_several_harts(rt: HostRuntime) {
+    for size in 1..9 {
+        assert!(rt;
+            is_right_in(rt.alloc(), 2, &A_OF_HARTS, size),
+            "A_OF_HARTS {size}"
+        );
+        assert!(rt; is_right_in(rt.alloc(), 2, &SHARED, size), "SHARED {size}");
+        assert!(rt; is_right_in(rt.alloc(), 2, &JOBS, size), "JOBS {size}");
+    }
 }
 
 #[test]

@@ -5,11 +5,17 @@
 #[cfg(test)]
 mod cuts;
 #[cfg(test)]
+mod harts;
+#[cfg(test)]
 mod near;
 #[cfg(test)]
 mod pieces;
 #[cfg(test)]
+mod reports;
+#[cfg(test)]
 mod run;
+#[cfg(test)]
+mod run_harts;
 #[cfg(test)]
 mod unit;
 #[cfg(test)]

@@ -1,7 +1,8 @@
 ghost use Rattle.std.specs.Prelude.{◌<◌};
 
+use crate::reports::run_of;
 use cfi_graph::{Graph, read_graph};
-use cfi_step::{RunEnd, RunReport, Script, run};
+use cfi_step::{RunEnd, RunReport, Script};
 use cfi_unit::{Unit, emit, fits, recognise};
 use cfi_verify::{Checked, Reject, Rule, VerifyEnd, verify};
 use cfi_walk::{Followed, Walk, follow};
@@ -107,14 +108,16 @@ fn reach(rt: HostRuntime) {
 
 /// Whether a run of the loop exits with 8, after as many steps and places as eight rounds have.
 fn has_looped(report: &RunReport) -> bool {
-    report.end == RunEnd::Exit(8) && report.steps == 37 && report.walk == 28
+    report.end == RunEnd::Exit(8)
+        && report.steps == 37
+        && report.walks.as_slice().iter().all(|walk| walk.walk == 28)
 }
 
 /// Whether an undisturbed run is one of the loop.
 fn loops(alloc: Global, checked: &Checked<'_>) -> bool {
-    match run(alloc, checked, b"", &mut Script::none(alloc), 100) {
-        Ok(report) => has_looped(&report),
-        Err(_) => false,
+    match run_of(alloc, checked, b"", 1, &mut Script::none(alloc), 100) {
+        Some(report) => has_looped(&report),
+        None => false,
     }
 }
 

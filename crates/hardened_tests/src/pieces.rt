@@ -2,47 +2,55 @@
 //! that the definitions of the rules give.
 ghost use Rattle.std.specs.Prelude.{◌≡◌, ◌<◌};
 
+use crate::harts::{SAME, code_with};
 use cfi_graph::{Graph, read_graph};
 use cfi_scan::Steps;
 use cfi_verify::Scan;
 use sample_programs::{
-    A, A_GRAPH, B, B_GRAPH, H, H_GRAPH, JUMP, JUMP_GRAPH, LOOP, LOOP_GRAPH, NARROW, NARROW_GRAPH,
-    NOWHERE, NOWHERE_GRAPH, P, P_GRAPH, code,
+    A, A_GRAPH, A_OF_HARTS, A_OF_HARTS_GRAPH, B, B_GRAPH, H, H_GRAPH, JOBS, JOBS_GRAPH, JUMP,
+    JUMP_GRAPH, LOOP, LOOP_GRAPH, NARROW, NARROW_GRAPH, NOWHERE, NOWHERE_GRAPH, P, P_GRAPH,
+    PROLOGUE, PROLOGUE_OF_HARTS, SHARED, SHARED_GRAPH,
 };
 use std::alloc::Global;
 use std::marker::Brand;
 use std::sync::ledger::{Blank, Ledger};
 
-/// The units of a program, its graph, where in the code a word is put, the word, and the rule that fails with its address;
-/// no text where the code is accepted.
-struct Row(&'static [u32], &'static [u8], usize, u32, &'static str);
-
-/// The prologue's first word, which changes nothing where it is put first.
-const SAME: u32 = 0x0010_0073;
+/// The version of an image, the units of a program, its graph, where in the code a word is put, the word, and the rule that
+/// fails with its address; no text where the code is accepted.
+struct Row(u8, &'static [u32], &'static [u8], usize, u32, &'static str);
 
 #[rattlefmt::skip]
-static ROWS: [Row; 21] = [
-    Row(&A, A_GRAPH, 0, SAME, ""),
-    Row(&B, B_GRAPH, 0, SAME, ""),
-    Row(&H, H_GRAPH, 0, SAME, ""),
-    Row(&P, P_GRAPH, 0, SAME, ""),
-    Row(&JUMP, JUMP_GRAPH, 0, SAME, ""),
-    Row(&LOOP, LOOP_GRAPH, 0, SAME, ""),
-    Row(&NARROW, NARROW_GRAPH, 0, SAME, ""),
-    Row(&NOWHERE, NOWHERE_GRAPH, 0, SAME, ""),
-    Row(&A, A_GRAPH, 0x8, 0x0000_0013, "Prologue 40000008"),
-    Row(&A, B_GRAPH, 0, SAME, "Length 80 92"),
-    Row(&B, A_GRAPH, 0, SAME, "Length 92 80"),
-    Row(&A, A_GRAPH, 0x40, 0x0010_0f13, "Unit 40000040"),
-    Row(&A, A_GRAPH, 0x34, 0x0040_00ef, "Target 4000000c"),
-    Row(&A, A_GRAPH, 0x40, 0x0080_006f, "Unlisted 40000040"),
-    Row(&A, A_GRAPH, 0x4c, 0x0000_0013, "End 4000004c"),
-    Row(&B, B_GRAPH, 0x54, 0x0000_8067, "Unit 40000044"),
-    Row(&P, P_GRAPH, 0x48, 0x022f_9f93, "Unit 40000044"),
-    Row(&P, P_GRAPH, 0x90, 0x0000_0013, "Unit 4000005c"),
-    Row(&P, P_GRAPH, 0x7c, 0x0000_2237, "Site 4000005c"),
-    Row(&P, P_GRAPH, 0xe4, 0x0000_2037, "Gate 400000e4"),
-    Row(&P, P_GRAPH, 0xcc, 0x0000_1037, "Astray 400000cc"),
+static ROWS: [Row; 30] = [
+    Row(1, &A, A_GRAPH, 0, SAME, ""),
+    Row(1, &B, B_GRAPH, 0, SAME, ""),
+    Row(1, &H, H_GRAPH, 0, SAME, ""),
+    Row(1, &P, P_GRAPH, 0, SAME, ""),
+    Row(1, &JUMP, JUMP_GRAPH, 0, SAME, ""),
+    Row(1, &LOOP, LOOP_GRAPH, 0, SAME, ""),
+    Row(1, &NARROW, NARROW_GRAPH, 0, SAME, ""),
+    Row(1, &NOWHERE, NOWHERE_GRAPH, 0, SAME, ""),
+    Row(1, &A, A_GRAPH, 0x8, 0x0000_0013, "Prologue 40000008"),
+    Row(1, &A, B_GRAPH, 0, SAME, "Length 80 92"),
+    Row(1, &B, A_GRAPH, 0, SAME, "Length 92 80"),
+    Row(1, &A, A_GRAPH, 0x40, 0x0010_0f13, "Unit 40000040"),
+    Row(1, &A, A_GRAPH, 0x34, 0x0040_00ef, "Target 4000000c"),
+    Row(1, &A, A_GRAPH, 0x40, 0x0080_006f, "Unlisted 40000040"),
+    Row(1, &A, A_GRAPH, 0x4c, 0x0000_0013, "End 4000004c"),
+    Row(1, &B, B_GRAPH, 0x54, 0x0000_8067, "Unit 40000044"),
+    Row(1, &P, P_GRAPH, 0x48, 0x022f_9f93, "Unit 40000044"),
+    Row(1, &P, P_GRAPH, 0x90, 0x0000_0013, "Unit 4000005c"),
+    Row(1, &P, P_GRAPH, 0x7c, 0x0000_2237, "Site 4000005c"),
+    Row(1, &P, P_GRAPH, 0xe4, 0x0000_2037, "Gate 400000e4"),
+    Row(1, &P, P_GRAPH, 0xcc, 0x0000_1037, "Astray 400000cc"),
+    Row(2, &A_OF_HARTS, A_OF_HARTS_GRAPH, 0, SAME, ""),
+    Row(2, &SHARED, SHARED_GRAPH, 0, SAME, ""),
+    Row(2, &JOBS, JOBS_GRAPH, 0, SAME, ""),
+    Row(2, &A_OF_HARTS, A_OF_HARTS_GRAPH, 0x10, 0x6000_01b7, "Prologue 40000010"),
+    Row(2, &A_OF_HARTS, A_OF_HARTS_GRAPH, 0x4c, 0x0010_0073, "Prologue 4000004c"),
+    Row(2, &A_OF_HARTS, A_OF_HARTS_GRAPH, 0x44, 0xffdf_f0ef, "Target 4000000c"),
+    Row(2, &SHARED, SHARED_GRAPH, 0x74, 0x022f_9f93, "Unit 40000070"),
+    Row(2, &JOBS, JOBS_GRAPH, 0x94, 0x0000_2037, "Gate 40000094"),
+    Row(2, &A_OF_HARTS, A_OF_HARTS_GRAPH, 0x5c, 0x0000_0013, "End 4000005c"),
 ];
 
 /// The sizes of pieces.
@@ -52,6 +60,7 @@ const SIZES: [usize; 7] = [1, 3, 4, 5, 13, 64, 260];
 fn scanned<L: Ledger>(
     alloc: Global,
     blank: Blank,
+    version: u8,
     graph: &Graph,
     bytes: &[u8],
     size: usize,
@@ -62,7 +71,7 @@ fn scanned<L: Ledger>(
     requires size { 0 < size }
 {
     let mut steps = Steps::<L>::new(blank);
-    let mut scan = Scan::new(alloc, 1, graph).ok()?;
+    let mut scan = Scan::new(alloc, version, graph).ok()?;
     let mut drawn: u32 = 1;
     for piece in bytes.chunks(size) {
         if scan.fed() > 1_000_000 || piece.len() > 1_000_000 {
@@ -80,20 +89,18 @@ fn scanned<L: Ledger>(
 }
 
 /// The same under a ledger of its own.
-fn answer(alloc: Global, graph: &Graph, bytes: &[u8], size: usize) -> Option<String>
+fn answer(alloc: Global, version: u8, graph: &Graph, bytes: &[u8], size: usize) -> Option<String>
     requires { 0 < size }
 {
-    scanned::<Brand>(alloc, Blank::new(1), graph, bytes, size)
+    scanned::<Brand>(alloc, Blank::new(1), version, graph, bytes, size)
 }
 
-/// Puts a word into a code; it is false where it does not lie there.
-fn put(code: &mut [u8], at: usize, word: u32) -> bool {
-    match code.get_mut(at..at.saturating_add(4)) {
-        Some(place) => {
-            place.copy_from_slice(&word.to_le_bytes());
-            true
-        }
-        None => false,
+/// The code of a row.
+fn code_of(alloc: Global, row: &Row) -> Option<Vec<u8>> {
+    if row.0 == 1 {
+        code_with(alloc, &PROLOGUE, row.1, row.3 / 4, row.4)
+    } else {
+        code_with(alloc, &PROLOGUE_OF_HARTS, row.1, row.3 / 4, row.4)
     }
 }
 
@@ -101,17 +108,14 @@ fn put(code: &mut [u8], at: usize, word: u32) -> bool {
 fn is_answered(alloc: Global, row: &Row, size: usize) -> bool
     requires { 0 < size }
 {
-    let Ok(mut bytes) = code(alloc, row.0) else {
+    let Some(bytes) = code_of(alloc, row) else {
         return false;
     };
-    let Ok(graph) = read_graph(alloc, row.1) else {
+    let Ok(graph) = read_graph(alloc, row.2) else {
         return false;
     };
-    if !put(&mut bytes, row.2, row.3) {
-        return false;
-    }
-    match answer(alloc, &graph, &bytes, size) {
-        Some(text) => text.as_str() == row.4,
+    match answer(alloc, row.0, &graph, &bytes, size) {
+        Some(text) => text.as_str() == row.5,
         None => false,
     }
 }
@@ -129,6 +133,6 @@ fn is_right(alloc: Global, row: &Row) -> bool {
 #[test]
 fn pieces(rt: HostRuntime) {
     for row in &ROWS {
-        assert!(rt; is_right(rt.alloc(), row), "{} at {}", row.4, row.2);
+        assert!(rt; is_right(rt.alloc(), row), "{} at {}", row.5, row.3);
     }
 }

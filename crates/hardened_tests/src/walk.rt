@@ -69,7 +69,11 @@ static WALKS: [(&[u64], u64, bool); 7] = [
 ];
 
 /// Whether a walk goes on to an address, with so many sites pending then, and this one the newest.
-fn goes_on(checked: &Checked<'_>, walk: &mut Walk, row: &(u64, usize, Option<u64>)) -> bool {
+pub(crate) fn goes_on(
+    checked: &Checked<'_>,
+    walk: &mut Walk,
+    row: &(u64, usize, Option<u64>),
+) -> bool {
     matches!(follow(checked, walk, row.0), Followed::Yes)
         && walk.address() == row.0
         && walk.depth() == row.1
@@ -77,7 +81,7 @@ fn goes_on(checked: &Checked<'_>, walk: &mut Walk, row: &(u64, usize, Option<u64
 }
 
 /// Whether a walk stays where it is, with the sites that are pending.
-fn stays(checked: &Checked<'_>, walk: &mut Walk, pc: u64) -> bool {
+pub(crate) fn stays(checked: &Checked<'_>, walk: &mut Walk, pc: u64) -> bool {
     let (address, depth, newest) = (walk.address(), walk.depth(), walk.newest());
     matches!(follow(checked, walk, pc), Followed::No)
         && walk.address() == address

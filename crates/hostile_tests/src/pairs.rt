@@ -1,9 +1,12 @@
 //! Pairs of an image and a graph, and the line that is printed of each.
 
 use rv_word::NoMemory;
-use sample_calls::{answers, image, image_of, put};
-use sample_programs::{A, A_CLASS_GRAPH, A_GRAPH, B, B_GRAPH, P, P_GRAPH, code};
-use std::alloc::{AllocError, Global};
+use sample_calls::{answers, image_as, image_of, image_of_harts, put};
+use sample_programs::{
+    A, A_CLASS_GRAPH, A_GRAPH, A_OF_HARTS, A_OF_HARTS_GRAPH, B, B_GRAPH, JOBS, JOBS_GRAPH, P,
+    P_GRAPH, SHARED, SHARED_GRAPH, code, code_of_harts,
+};
+use std::alloc::Global;
 use tool_io::MemFiles;
 
 const A_SHORT: &[u8] = b"rvcfi-graph 1\ncode 40000000 0000004c\ncall 4000000c 40000040\nend\n";
@@ -63,16 +66,114 @@ static CASES: [Case; 22] = [
     Case(&P, 0xcc, 0x00001037, P_GRAPH, "rejected Astray 400000cc\n"),
 ];
 
-/// The code of the prologue and some units, with one word in place of that at an offset.
-fn code_with(alloc: Global, units: &[u32], at: usize, word: u32) -> Result<Vec<u8>, AllocError> {
-    let mut bytes = code(alloc, units)?;
+/// The same of images for several harts.
+static CASES_OF_HARTS: [Case; 13] = [
+    Case(
+        &A_OF_HARTS,
+        0x00,
+        0x00100073,
+        A_OF_HARTS_GRAPH,
+        "accepted\n",
+    ),
+    Case(&SHARED, 0x00, 0x00100073, SHARED_GRAPH, "accepted\n"),
+    Case(&JOBS, 0x00, 0x00100073, JOBS_GRAPH, "accepted\n"),
+    // The stack of each hart where that of hart 0 is, and the shadow part of each where that of hart 0 is.
+    Case(
+        &A_OF_HARTS,
+        0x10,
+        0x00001f93,
+        A_OF_HARTS_GRAPH,
+        "rejected Prologue 40000010\n",
+    ),
+    Case(
+        &A_OF_HARTS,
+        0x20,
+        0x00018193,
+        A_OF_HARTS_GRAPH,
+        "rejected Prologue 40000020\n",
+    ),
+    Case(
+        &A_OF_HARTS,
+        0x48,
+        0x05e00893,
+        A_OF_HARTS_GRAPH,
+        "rejected Prologue 40000048\n",
+    ),
+    Case(
+        &A_OF_HARTS,
+        0x4c,
+        0x00100073,
+        A_OF_HARTS_GRAPH,
+        "rejected Prologue 4000004c\n",
+    ),
+    Case(
+        &A_OF_HARTS,
+        0x00,
+        0x00100073,
+        A_GRAPH,
+        "rejected Length 96 80\n",
+    ),
+    Case(
+        &A_OF_HARTS,
+        0x50,
+        0x00100f13,
+        A_OF_HARTS_GRAPH,
+        "rejected Unit 40000050\n",
+    ),
+    Case(
+        &A_OF_HARTS,
+        0x44,
+        0x004000ef,
+        A_OF_HARTS_GRAPH,
+        "rejected Target 4000000c\n",
+    ),
+    Case(
+        &A_OF_HARTS,
+        0x5c,
+        0x00000013,
+        A_OF_HARTS_GRAPH,
+        "rejected End 4000005c\n",
+    ),
+    Case(
+        &SHARED,
+        0x54,
+        0x00051c63,
+        SHARED_GRAPH,
+        "rejected Target 40000054\n",
+    ),
+    Case(
+        &SHARED,
+        0x7c,
+        0x00a2b023,
+        SHARED_GRAPH,
+        "rejected Unit 40000070\n",
+    ),
+];
+
+/// Code with one word in place of that at an offset.
+fn code_with(mut bytes: Vec<u8>, at: usize, word: u32) -> Vec<u8> {
     put(&mut bytes, at, &word.to_le_bytes());
-    Ok(bytes)
+    bytes
 }
 
 /// The image of a case.
 fn image_with(alloc: Global, case: &Case) -> Result<Vec<u8>, NoMemory> {
-    image(alloc, &code_with(alloc, case.0, case.1, case.2)?, b"")
+    image_as(
+        alloc,
+        1,
+        &code_with(code(alloc, case.0)?, case.1, case.2),
+        b"",
+    )
+}
+
+/// The image for several harts of a case.
+fn image_of_harts_with(alloc: Global, case: &Case) -> Result<Vec<u8>, NoMemory> {
+    image_as(
+        alloc,
+        2,
+        &code_with(code_of_harts(alloc, case.0)?, case.1, case.2),
+        b"",
+    )
 }
 
 /// Whether the tool puts a text of an image and a graph, and ends with its status.
@@ -84,18 +185,85 @@ fn verifies(alloc: Global, image: &[u8], graph: &[u8], text: &str) -> bool {
         && answers(alloc, "rvcfi,verify,image,graph", &mut files, status, text)
 }
 
-/// Whether the line of a case is put.
-fn is_right(alloc: Global, case: &Case) -> bool {
-    let Ok(image) = image_with(alloc, case) else {
-        return false;
-    };
-    verifies(alloc, &image, case.3, case.4)
+/// Whether the line of a case is put of an image.
+fn is_right(alloc: Global, image: &Result<Vec<u8>, NoMemory>, case: &Case) -> bool {
+    match image {
+        Ok(image) => verifies(alloc, image, case.3, case.4),
+        Err(_) => false,
+    }
 }
 
 #[test]
 fn pairs(rt: HostRuntime) {
     for case in &CASES {
-        assert!(rt; is_right(rt.alloc(), case), "{:x} {:x}", case.1, case.2);
+        let image = image_with(rt.alloc(), case);
+        assert!(rt;
+            is_right(rt.alloc(), &image, case),
+            "{:x} {:x}",
+            case.1,
+            case.2
+        );
+    }
+}
+
+#[test]
+fn pairs_of_harts(rt: HostRuntime) {
+    for case in &CASES_OF_HARTS {
+        let image = image_of_harts_with(rt.alloc(), case);
+        assert!(rt;
+            is_right(rt.alloc(), &image, case),
+            "{:x} {:x}",
+            case.1,
+            case.2
+        );
+    }
+}
+
+/// Whether a line is put of an image of a version that has some code and this graph.
+fn is_answered(alloc: Global, version: u8, code: &[u8], graph: &[u8], text: &str) -> bool {
+    match image_as(alloc, version, code, b"") {
+        Ok(image) => verifies(alloc, &image, graph, text),
+        Err(_) => false,
+    }
+}
+
+/// Whether code that begins with the prologue of one version is rejected in an image of the other.
+fn other_version_is_rejected(alloc: Global) -> bool {
+    let (Ok(lone), Ok(several)) = (code(alloc, &A), code_of_harts(alloc, &A_OF_HARTS)) else {
+        return false;
+    };
+    let text = "rejected Prologue 40000010\n";
+    is_answered(alloc, 2, &lone, A_GRAPH, text)
+        && is_answered(alloc, 1, &several, A_OF_HARTS_GRAPH, text)
+}
+
+#[test]
+fn versions(rt: HostRuntime) {
+    assert!(rt; other_version_is_rejected(rt.alloc()));
+}
+
+/// Sizes of a shadow stack that no version has, the lowest byte first.
+static SIZES: [[u8; 8]; 6] = [
+    [0, 0, 0, 0, 0, 0, 0, 0],
+    [0, 0, 2, 0, 0, 0, 0, 0],
+    [0, 0, 9, 0, 0, 0, 0, 0],
+    [1, 0, 8, 0, 0, 0, 0, 0],
+    [0, 0, 8, 0, 0, 0, 0, 1],
+    [0, 0, 16, 0, 0, 0, 0, 0],
+];
+
+/// Whether an image that names this size is refused at its field.
+fn size_is_refused(alloc: Global, size: &[u8]) -> bool {
+    let Ok(mut image) = image_of_harts(alloc, &A_OF_HARTS, b"") else {
+        return false;
+    };
+    put(&mut image, 216, size) && verifies(alloc, &image, A_OF_HARTS_GRAPH, "refused 22 Byte 216\n")
+}
+
+#[test]
+fn sizes(rt: HostRuntime) {
+    for size in &SIZES {
+        assert!(rt; size_is_refused(rt.alloc(), size), "{size:?}");
     }
 }
 
@@ -108,17 +276,23 @@ fn is_refused(alloc: Global, image: &[u8], cut: usize) -> bool {
 }
 
 /// Whether an image of two pages is refused where only its first bytes are left.
-fn cut_is_refused(alloc: Global, cut: usize) -> bool {
-    let Ok(image) = image_of(alloc, &A, &[]) else {
+fn cut_is_refused(alloc: Global, image: &Result<Vec<u8>, NoMemory>, cut: usize) -> bool {
+    let Ok(image) = image else {
         return false;
     };
-    image.len() == 8192 && is_refused(alloc, image.get(..cut).unwrap_or(&image), cut)
+    image.len() == 8192 && is_refused(alloc, image.get(..cut).unwrap_or(image), cut)
 }
 
 /// Every image that is cut short is refused, by its length alone.
 #[test]
 fn cut_images(rt: HostRuntime) {
+    let image = image_of(rt.alloc(), &A, b"");
+    let image_of_harts = image_of_harts(rt.alloc(), &A_OF_HARTS, b"");
     for cut in 0..300_usize {
-        assert!(rt; cut_is_refused(rt.alloc(), cut), "{cut}");
+        assert!(rt; cut_is_refused(rt.alloc(), &image, cut), "{cut}");
+        assert!(rt;
+            cut_is_refused(rt.alloc(), &image_of_harts, cut),
+            "{cut} of harts"
+        );
     }
 }

@@ -16,7 +16,7 @@ const RUN: &str = "rvcfi,run,image,graph,text,none,100";
 struct Case(&'static str, &'static [u8], &'static str);
 
 #[rattlefmt::skip]
-static CASES: [Case; 11] = [
+static CASES: [Case; 28] = [
     Case(VERIFY, b"", "refused 23 Graph 1 Form\n"),
     Case(VERIFY, b"rvcfi-graph 9\ncode 40000000 00000050\ncall 4000000c 40000040\nend\n", "refused 23 Graph 1 Form\n"),
     Case(VERIFY, b"rvcfi-graph 1\ncode 40000000 00000052\ncall 4000000c 40000040\nend\n", "refused 23 Graph 2 Range\n"),
@@ -31,6 +31,23 @@ static CASES: [Case; 11] = [
     Case(RUN, b"rvcfi-script 1\nat 1 10001000 00\nend\n", "refused 25 Script 2 Range\n"),
     Case(RUN, b"rvcfi-script 1\nat 1 00010000 0\nend\n", "refused 25 Script 2 Form\n"),
     Case(RUN, b"rvcfi-script 1\nat 2 00000000 00\nat 1 00000000 00\nend\n", "refused 25 Script 3 Order\n"),
+    Case(RUN, b"rvcfi-script 3\nharts 1\nend\n", "refused 25 Script 1 Form\n"),
+    Case(RUN, b"rvcfi-script 1\nharts 1\nend\n", "refused 25 Script 2 Form\n"),
+    Case(RUN, b"rvcfi-script 2\n", "refused 25 Script 2 Form\n"),
+    Case(RUN, b"rvcfi-script 2\nend\n", "refused 25 Script 2 Form\n"),
+    Case(RUN, b"rvcfi-script 2\nharts 2", "refused 25 Script 2 Form\n"),
+    Case(RUN, b"rvcfi-script 2\nharts 02\nend\n", "refused 25 Script 2 Form\n"),
+    Case(RUN, b"rvcfi-script 2\nharts 0\nend\n", "refused 25 Script 2 Range\n"),
+    Case(RUN, b"rvcfi-script 2\nharts 18446744073709551618\nend\n", "refused 25 Script 2 Range\n"),
+    Case(RUN, b"rvcfi-script 2\nharts 2\n", "refused 25 Script 3 Form\n"),
+    Case(RUN, b"rvcfi-script 2\nharts 2\nturn 1\nend\n", "refused 25 Script 3 Form\n"),
+    Case(RUN, b"rvcfi-script 2\nharts 2\nturn 2 1\nend\n", "refused 25 Script 3 Range\n"),
+    Case(RUN, b"rvcfi-script 2\nharts 2\nturn 0 1\nturn 1 0\nend\n", "refused 25 Script 4 Range\n"),
+    Case(RUN, b"rvcfi-script 2\nharts 2\nturn 1 1000000001\nend\n", "refused 25 Script 3 Range\n"),
+    Case(RUN, b"rvcfi-script 2\nharts 2\nat 1 00010000 00\nturn 1 1\nend\n", "refused 25 Script 4 Form\n"),
+    Case(RUN, b"rvcfi-script 2\nharts 2\nturn 1 1\nat 2 00000000 00\nat 1 00000000 00\nend\n", "refused 25 Script 5 Order\n"),
+    Case(RUN, b"rvcfi-script 2\nharts 2\nturn 1 1\nend\nend\n", "refused 25 Script 5 Form\n"),
+    Case(RUN, b"rvcfi-script 2\nharts 8\nturn 7 1000000000\nend\n", "refused 26 Harts 8\n"),
 ];
 
 /// Adds the image and the graph of a program that exits with 7, an object that returns 7, and a text.

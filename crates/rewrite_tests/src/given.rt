@@ -1,4 +1,5 @@
-use cfi_rewrite::{HardenEnd, Hardened, rewrite};
+use cfi_rewrite::{HardenEnd, Hardened, rewrite, rewrite_as};
+use rv_word::Form;
 use std::alloc::{AllocError, Global};
 
 /// An object written by hand, or an empty file. `Coded` is the one that returns with other code, `Idle` with so many
@@ -167,7 +168,15 @@ pub(crate) fn file(alloc: Global, given: &Given) -> Option<Vec<u8>> {
     }
 }
 
-/// What a file is hardened to.
-pub(crate) fn answer(alloc: Global, file: &[u8], given: &Given) -> Result<Hardened, HardenEnd> {
-    rewrite(alloc, file, given.3, given.4)
+/// What a file is hardened to in a form.
+pub(crate) fn answer(
+    alloc: Global,
+    form: Form,
+    file: &[u8],
+    given: &Given,
+) -> Result<Hardened, HardenEnd> {
+    match form {
+        Form::Plain => rewrite(alloc, file, given.3, given.4),
+        Form::Harts => rewrite_as(alloc, form, file, given.3, given.4),
+    }
 }

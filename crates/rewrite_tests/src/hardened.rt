@@ -1,11 +1,12 @@
 use crate::given::{answer, file};
+use crate::harts::HARTS;
 use crate::image::is_image_of;
 use crate::programs::{PROGRAMS, Program};
 use cfi_graph::{Graph, Map, write_graph, write_map};
 use cfi_rewrite::Hardened;
 use cfi_verify::verify;
 use elf_image::read_image;
-use rv_word::Image;
+use rv_word::{Form, Image};
 use std::alloc::Global;
 
 /// Whether a graph is written as this text.
@@ -40,26 +41,27 @@ fn is_accepted(alloc: Global, file: &[u8], graph: &Graph) -> bool {
     }
 }
 
-/// Whether a hardened program is the one that is wanted, and is accepted.
-fn is_wanted(alloc: Global, hardened: &Hardened, program: &Program) -> bool {
-    is_image_of(alloc, hardened.image.as_slice(), program)
+/// Whether a hardened program is the one that is wanted in a form, and is accepted.
+fn is_wanted(alloc: Global, form: Form, hardened: &Hardened, program: &Program) -> bool {
+    is_image_of(alloc, form, hardened.image.as_slice(), program)
+        && hardened.map.form() == form
         && is_graph(alloc, &hardened.graph, program.6)
         && is_map(alloc, &hardened.map, program.7)
         && is_accepted(alloc, hardened.image.as_slice(), &hardened.graph)
 }
 
-/// Whether a file becomes the program that is wanted.
-fn becomes(alloc: Global, file: &[u8], program: &Program) -> bool {
-    match answer(alloc, file, &program.0) {
-        Ok(hardened) => is_wanted(alloc, &hardened, program),
+/// Whether a file becomes the program that is wanted in a form.
+fn becomes(alloc: Global, form: Form, file: &[u8], program: &Program) -> bool {
+    match answer(alloc, form, file, &program.0) {
+        Ok(hardened) => is_wanted(alloc, form, &hardened, program),
         Err(_) => false,
     }
 }
 
-/// Whether an object becomes its program, and the same again.
-fn is_right(alloc: Global, program: &Program) -> bool {
+/// Whether an object becomes its program in a form, and the same again.
+fn is_right(alloc: Global, form: Form, program: &Program) -> bool {
     match file(alloc, &program.0) {
-        Some(file) => becomes(alloc, &file, program) && becomes(alloc, &file, program),
+        Some(file) => becomes(alloc, form, &file, program) && becomes(alloc, form, &file, program),
         None => false,
     }
 }
@@ -67,6 +69,13 @@ fn is_right(alloc: Global, program: &Program) -> bool {
 #[test]
 fn hardens(rt: HostRuntime) {
     for (k, program) in PROGRAMS.iter().enumerate() {
-        assert!(rt; is_right(rt.alloc(), program), "program {k}");
+        assert!(rt; is_right(rt.alloc(), Form::Plain, program), "program {k}");
+    }
+}
+
+#[test]
+fn hardens_for_harts(rt: HostRuntime) {
+    for (k, program) in HARTS.iter().enumerate() {
+        assert!(rt; is_right(rt.alloc(), Form::Harts, program), "program {k}");
     }
 }

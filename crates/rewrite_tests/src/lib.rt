@@ -10,6 +10,8 @@ mod given;
 #[cfg(test)]
 mod hardened;
 #[cfg(test)]
+mod harts;
+#[cfg(test)]
 mod image;
 #[cfg(test)]
 mod programs;

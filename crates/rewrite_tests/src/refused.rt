@@ -1,5 +1,6 @@
 use crate::given::{Given, Source, answer, file};
 use cfi_rewrite::HardenEnd;
+use rv_word::Form;
 use sample_programs::is_told_as;
 use std::alloc::Global;
 
@@ -75,24 +76,36 @@ static REFUSED: [Refused; 26] = [
     Refused(Given(Source::Writing, 200, b"0000000001000000", "main", None), "RelocRange 1 32"),
 ];
 
-/// One instruction more than the region of code has room for.
-static TOO_MANY: Refused = Refused(
-    Given(Source::Idle(262_128), 0, b"", "main", None),
-    "CodeTooLarge 1048580",
-);
+/// One instruction more than the region of code has room for, by form.
+static TOO_MANY: [(Form, Refused); 2] = [
+    (
+        Form::Plain,
+        Refused(
+            Given(Source::Idle(262_128), 0, b"", "main", None),
+            "CodeTooLarge 1048580",
+        ),
+    ),
+    (
+        Form::Harts,
+        Refused(
+            Given(Source::Idle(262_124), 0, b"", "main", None),
+            "CodeTooLarge 1048580",
+        ),
+    ),
+];
 
-/// Whether a file is refused in these words.
-fn is_refused(alloc: Global, file: &[u8], given: &Given, words: &str) -> bool {
-    match answer(alloc, file, given) {
+/// Whether a file is refused in a form in these words.
+fn is_refused(alloc: Global, form: Form, file: &[u8], given: &Given, words: &str) -> bool {
+    match answer(alloc, form, file, given) {
         Ok(_) | Err(HardenEnd::NoMemory) => false,
         Err(HardenEnd::Refused(refusal)) => is_told_as(alloc, &refusal, words),
     }
 }
 
-/// Whether an object is refused as its row says.
-fn is_right(alloc: Global, row: &Refused) -> bool {
+/// Whether an object is refused in a form as its row says.
+fn is_right(alloc: Global, form: Form, row: &Refused) -> bool {
     match file(alloc, &row.0) {
-        Some(file) => is_refused(alloc, &file, &row.0, row.1),
+        Some(file) => is_refused(alloc, form, &file, &row.0, row.1),
         None => false,
     }
 }
@@ -100,11 +113,21 @@ fn is_right(alloc: Global, row: &Refused) -> bool {
 #[test]
 fn refuses(rt: HostRuntime) {
     for (k, row) in REFUSED.iter().enumerate() {
-        assert!(rt; is_right(rt.alloc(), row), "{k}: {}", row.1);
+        assert!(rt; is_right(rt.alloc(), Form::Plain, row), "{k}: {}", row.1);
+    }
+}
+
+/// The same is refused in the same words.
+#[test]
+fn refuses_for_harts(rt: HostRuntime) {
+    for (k, row) in REFUSED.iter().enumerate() {
+        assert!(rt; is_right(rt.alloc(), Form::Harts, row), "{k}: {}", row.1);
     }
 }
 
 #[test]
 fn one_too_many(rt: HostRuntime) {
-    assert!(rt; is_right(rt.alloc(), &TOO_MANY));
+    for row in &TOO_MANY {
+        assert!(rt; is_right(rt.alloc(), row.0, &row.1), "{}", row.0.name());
+    }
 }

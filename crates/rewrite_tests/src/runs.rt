@@ -4,7 +4,7 @@ use cfi_rewrite::Hardened;
 use cfi_step::{Handler, RunEnd, RunReport, Script, run};
 use cfi_verify::{Checked, verify};
 use elf_image::read_image;
-use rv_word::Image;
+use rv_word::{Form, Image};
 use std::alloc::Global;
 
 /// What is hardened; the bytes of its code and of its image; how its run ends, after how many steps, and how many
@@ -42,21 +42,55 @@ static RUNS: [Run; 6] = [
     ),
 ];
 
-/// As many instructions that do nothing as the region of code has room for.
+/// The same in the form for several harts, of which one runs: their opening has four steps more.
 #[rattlefmt::skip]
-static FULL: Run = Run(
-    Given(Source::Idle(262_127), 0, b"", "main", None),
-    1_048_576, 1_052_672, RunEnd::Handler(Handler::BadTarget), 262_139, 262_130,
-);
+static HARTS: [Run; 3] = [
+    Run(
+        Given(Source::Recursive, 0, b"", "main", None),
+        184, 8192, RunEnd::Exit(0), 163_824, 65_527,
+    ),
+    Run(
+        Given(Source::Recursive, 68, b"1305f5ff", "main", None),
+        184, 8192, RunEnd::Handler(Handler::Deep), 114_688, 40_960,
+    ),
+    Run(
+        Given(Source::Coded, 0, b"630405006f00400067800000", "main", None),
+        116, 8192, RunEnd::Exit(0), 22, 4,
+    ),
+];
+
+/// As many instructions that do nothing as the region of code has room for, by form.
+#[rattlefmt::skip]
+static FULL: [(Form, Run); 2] = [
+    (Form::Plain, Run(
+        Given(Source::Idle(262_127), 0, b"", "main", None),
+        1_048_576, 1_052_672, RunEnd::Handler(Handler::BadTarget), 262_139, 262_130,
+    )),
+    (Form::Harts, Run(
+        Given(Source::Idle(262_123), 0, b"", "main", None),
+        1_048_576, 1_052_672, RunEnd::Handler(Handler::BadTarget), 262_139, 262_126,
+    )),
+];
+
+/// Whether the one hart of a run has a walk of so many addresses.
+fn has_walked(report: &RunReport, addresses: u64) -> bool {
+    match report.walks.as_slice() {
+        [walk] => walk.walk == addresses,
+        _ => false,
+    }
+}
 
 /// Whether a run ended as its row says.
 fn has_ended(report: &RunReport, row: &Run) -> bool {
-    report.end == row.3 && report.steps == row.4 && report.walk == row.5 && report.output.is_empty()
+    report.end == row.3
+        && report.steps == row.4
+        && has_walked(report, row.5)
+        && report.output.is_empty()
 }
 
 /// Whether an accepted image runs as its row says.
 fn runs_so(alloc: Global, checked: &Checked<'_>, row: &Run) -> bool {
-    match run(alloc, checked, b"", &mut Script::none(alloc), 1_000_000) {
+    match run(alloc, checked, b"", 1, &mut Script::none(alloc), 1_000_000) {
         Ok(report) => has_ended(&report, row),
         Err(_) => false,
     }
@@ -85,18 +119,18 @@ fn is_wanted(alloc: Global, hardened: &Hardened, row: &Run) -> bool {
         && is_read(alloc, hardened.image.as_slice(), &hardened.graph, row)
 }
 
-/// Whether a file becomes a program that runs as its row says.
-fn becomes(alloc: Global, file: &[u8], row: &Run) -> bool {
-    match answer(alloc, file, &row.0) {
+/// Whether a file becomes in a form a program that runs as its row says.
+fn becomes(alloc: Global, form: Form, file: &[u8], row: &Run) -> bool {
+    match answer(alloc, form, file, &row.0) {
         Ok(hardened) => is_wanted(alloc, &hardened, row),
         Err(_) => false,
     }
 }
 
-/// Whether an object becomes a program that runs as its row says.
-fn is_right(alloc: Global, row: &Run) -> bool {
+/// Whether an object becomes in a form a program that runs as its row says.
+fn is_right(alloc: Global, form: Form, row: &Run) -> bool {
     match file(alloc, &row.0) {
-        Some(file) => becomes(alloc, &file, row),
+        Some(file) => becomes(alloc, form, &file, row),
         None => false,
     }
 }
@@ -104,11 +138,20 @@ fn is_right(alloc: Global, row: &Run) -> bool {
 #[test]
 fn runs(rt: HostRuntime) {
     for (k, row) in RUNS.iter().enumerate() {
-        assert!(rt; is_right(rt.alloc(), row), "run {k}");
+        assert!(rt; is_right(rt.alloc(), Form::Plain, row), "run {k}");
+    }
+}
+
+#[test]
+fn runs_for_harts(rt: HostRuntime) {
+    for (k, row) in HARTS.iter().enumerate() {
+        assert!(rt; is_right(rt.alloc(), Form::Harts, row), "run {k}");
     }
 }
 
 #[test]
 fn full_region(rt: HostRuntime) {
-    assert!(rt; is_right(rt.alloc(), &FULL));
+    for row in &FULL {
+        assert!(rt; is_right(rt.alloc(), row.0, &row.1), "{}", row.0.name());
+    }
 }

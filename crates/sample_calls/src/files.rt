@@ -1,21 +1,29 @@
-use elf_image::write_image;
+use elf_image::write_image_as;
 use rv_word::NoMemory;
-use sample_programs::code;
+use sample_programs::{code, code_of_harts};
 use std::alloc::Global;
 use tool_io::MemFiles;
 
-/// The image of some code and data; no bytes where no image may have such code.
-pub fn image(alloc: Global, code: &[u8], data: &[u8]) -> Result<Vec<u8>, NoMemory> {
+/// The image of version 1 or 2 of some code and data; no bytes where no image may have such code.
+pub fn image_as(alloc: Global, version: u8, code: &[u8], data: &[u8]) -> Result<Vec<u8>, NoMemory> {
     let (len, init) = (code.len(), data.len());
+    if version != 1 && version != 2 {
+        return Ok(Vec::new(alloc));
+    }
     if len < 4 || len > 0x10_0000 || len % 4 != 0 || init > 0x200_0000 {
         return Ok(Vec::new(alloc));
     }
-    write_image(alloc, code, data)
+    write_image_as(alloc, version, code, data)
 }
 
-/// The image of the prologue, some units and data.
+/// The image for one hart of the prologue, some units and data.
 pub fn image_of(alloc: Global, units: &[u32], data: &[u8]) -> Result<Vec<u8>, NoMemory> {
-    image(alloc, &code(alloc, units)?, data)
+    image_as(alloc, 1, &code(alloc, units)?, data)
+}
+
+/// The image for several harts of their prologue, some units and data.
+pub fn image_of_harts(alloc: Global, units: &[u32], data: &[u8]) -> Result<Vec<u8>, NoMemory> {
+    image_as(alloc, 2, &code_of_harts(alloc, units)?, data)
 }
 
 /// Adds the image of its units and data under a name.
@@ -25,6 +33,16 @@ pub fn add_image(
     image: &(&str, &[u32], &[u8]),
 ) -> Result<(), NoMemory> {
     let bytes = image_of(alloc, image.1, image.2)?;
+    Ok(files.insert(image.0, &bytes)?)
+}
+
+/// Adds the image for several harts of its units and data under a name.
+pub fn add_image_of_harts(
+    alloc: Global,
+    files: &mut MemFiles,
+    image: &(&str, &[u32], &[u8]),
+) -> Result<(), NoMemory> {
+    let bytes = image_of_harts(alloc, image.1, image.2)?;
     Ok(files.insert(image.0, &bytes)?)
 }
 

@@ -3,7 +3,7 @@
 #![tactic(auto)]
 
 pub use calls::{answers, ends_with, holds};
-pub use files::{add_image, add_texts, image, image_of};
+pub use files::{add_image, add_image_of_harts, add_texts, image_as, image_of, image_of_harts};
 pub use objects::{Given, Source, add_object, bytes_of, decoded, put};
 
 mod calls;

@@ -2,7 +2,7 @@ use rv_word::NoMemory;
 use std::alloc::Global;
 use tool_io::MemFiles;
 
-/// An object written by hand.
+/// An object written by hand. `Coded` is the one that returns with other code.
 #[derive(Clone, Copy)]
 pub enum Source {
     Returning,
@@ -10,15 +10,16 @@ pub enum Source {
     Writing,
     Recursive,
     Dividing,
+    Coded,
 }
 
-/// An object, an offset in its file and the bytes, in hexadecimal, that are put there.
+/// An object, an offset in its file and the bytes, in hexadecimal, that are put there; of `Coded` its code.
 pub struct Given(pub Source, pub usize, pub &'static [u8]);
 
 /// The digits of an object.
 fn digits(source: Source) -> &'static [u8] {
     match source {
-        Source::Returning => sample_objects::B,
+        Source::Returning | Source::Coded => sample_objects::B,
         Source::Calling => sample_objects::P,
         Source::Writing => sample_objects::H,
         Source::Recursive => sample_objects::R,
@@ -50,6 +51,18 @@ pub fn put(file: &mut [u8], at: usize, bytes: &[u8]) -> bool {
     }
 }
 
+/// Where the header of the section of code tells its offset and then its size, in the object that returns.
+const SECTION: usize = 216;
+
+/// Gives the object that returns other code, which stands at the file's end.
+fn recode(file: &mut Vec<u8>, code: &[u8]) -> Result<(), NoMemory> {
+    let (at, size) = (file.len() as u64, code.len() as u64);
+    put(file, SECTION, &at.to_le_bytes());
+    put(file, SECTION + 8, &size.to_le_bytes());
+    file.extend_from_slice(code)?;
+    Ok(())
+}
+
 /// Adds an object with its change under a name.
 pub fn add_object(
     alloc: Global,
@@ -59,6 +72,11 @@ pub fn add_object(
 ) -> Result<(), NoMemory> {
     let mut bytes = bytes_of(alloc, given.0)?;
     let change = decoded(alloc, given.2)?;
-    put(&mut bytes, given.1, &change);
+    match given.0 {
+        Source::Coded => recode(&mut bytes, &change)?,
+        _ => {
+            put(&mut bytes, given.1, &change);
+        }
+    }
     Ok(files.insert(name, &bytes)?)
 }

@@ -3,7 +3,10 @@
 //! them.
 #![tactic(auto)]
 
-pub use maps::{B_MAP, H_MAP, NARROW_MAP, NOWHERE_MAP, P_MAP};
+pub use maps::{
+    B_MAP, B_MAP_OF_HARTS, H_MAP, H_MAP_OF_HARTS, NARROW_MAP, NARROW_MAP_OF_HARTS, NOWHERE_MAP,
+    NOWHERE_MAP_OF_HARTS, P_MAP, P_MAP_OF_HARTS, R_MAP_OF_HARTS,
+};
 
 mod maps;
 

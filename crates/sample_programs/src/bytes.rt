@@ -2,7 +2,7 @@ ghost use Rattle.std.specs.Prelude.{◌≡◌, ◌+◌, ◌*◌, ◌++◌, IfOk,
 ghost use Rattle.std.specs.Int.{to_le_bytes, w32};
 ghost use Rattle.std.specs.List.{flat_map};
 
-use crate::units::PROLOGUE;
+use crate::units::{PROLOGUE, PROLOGUE_OF_HARTS};
 use std::alloc::{AllocError, Global};
 
 /// Adds the bytes of some words.
@@ -23,6 +23,17 @@ pub fn code(alloc: Global, units: &[u32]) -> Result<Vec<u8>, AllocError>
 {
     let mut bytes = Vec::new(alloc);
     add_words(&mut bytes, &PROLOGUE)?;
+    add_words(&mut bytes, units)?;
+    Ok(bytes)
+}
+
+/// The code of the prologue for several harts and some units.
+pub fn code_of_harts(alloc: Global, units: &[u32]) -> Result<Vec<u8>, AllocError>
+    ensures value { IfOk result (λ v. v.items ≡ flat_map (to_le_bytes w32) (PROLOGUE_OF_HARTS ++ units.now)) }
+    ensures len { IfOk result (λ v. length v.items ≡ 80 + 4 * length units.now) }
+{
+    let mut bytes = Vec::new(alloc);
+    add_words(&mut bytes, &PROLOGUE_OF_HARTS)?;
     add_words(&mut bytes, units)?;
     Ok(bytes)
 }

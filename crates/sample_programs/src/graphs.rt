@@ -73,3 +73,22 @@ pub const LOAD_GRAPH: &[u8] =
 /// The graph of `STATUS`.
 pub const STATUS_GRAPH: &[u8] =
     b"rvcfi-graph 1\ncode 40000000 00000054\ncall 4000000c 40000040\nend\n";
+
+/// The graph of `B_OF_HARTS`.
+pub const B_OF_HARTS_GRAPH: &[u8] =
+    b"rvcfi-graph 1\ncode 40000000 0000006c\ncall 4000000c 40000050\nend\n";
+
+/// The graph of `A_OF_HARTS`.
+pub const A_OF_HARTS_GRAPH: &[u8] =
+    b"rvcfi-graph 1\ncode 40000000 00000060\ncall 4000000c 40000050\nend\n";
+
+/// The graph of `SHARED`.
+pub const SHARED_GRAPH: &[u8] = b"rvcfi-graph 1\ncode 40000000 00000098\ncall 4000000c 40000050\n\
+edge 40000054 40000070\nend\n";
+
+/// The graph of `JOBS`.
+pub const JOBS_GRAPH: &[u8] = b"rvcfi-graph 1\ncode 40000000 00000264\n\
+class 00001 40000094 4000017c 400001a8 400001d4 40000224 40000230 40000258\n\
+class 00002 40000144 40000160\ncall 4000000c 40000050\nsite 40000060 jump 00001\n\
+site 400000d8 call 00002\nedge 400001a4 4000018c\nedge 400001fc 40000210\n\
+edge 4000020c 400001e8\ncall 40000234 40000234\nedge 4000025c 4000025c\nend\n";

@@ -1,9 +1,11 @@
-//! Tests of texts of lines through their public calls: words and numbers, graphs, maps, policies and scripts. They stand
-//! beside the crates that they test, so that these are proved once.
+//! Tests of texts of lines through their public calls: words and numbers, graphs, maps, policies and scripts, and
+//! of the meddlers' plans. They stand beside the crates that they test, so that these are proved once.
 #![tactic(auto)]
 
 #[cfg(test)]
 mod graph;
+#[cfg(test)]
+mod hostile;
 #[cfg(test)]
 mod lines;
 #[cfg(test)]
@@ -12,3 +14,5 @@ mod map;
 mod policy;
 #[cfg(test)]
 mod script;
+#[cfg(test)]
+mod turns;

@@ -1,5 +1,8 @@
+ghost use Rattle.std.specs.Prelude.{◌≡◌, ◌∷◌, [], IfOk};
+ghost use Rattle.text_tests.specs.declared.map.TheConstants as constants;
+
 use cfi_graph::{Map, MapLine, MapLines, read_map, write_map};
-use rv_word::NoMemory;
+use rv_word::{Form, NoMemory};
 use sample_programs::{is_told_as, rows};
 use std::alloc::{AllocError, Global};
 
@@ -79,10 +82,61 @@ const TEXTS: &[u8] = b"\
     at 40000040 0001 00000000/at 40000044 0001 00000004/at 40000048 0001 00000004/x/end/|line 4: Order\n\
 ";
 
-/// Whether a text is read as these words say. A map that is read is written as the same text.
-fn is_read_as(alloc: Global, text: &[u8], expected: &str) -> bool {
+/// The same of the form for several harts, whose gates begin 16 bytes later.
+const TEXTS_OF_HARTS: &[u8] = b"\
+    end/|a map\n\
+    |line 2: Form\n\
+    end|line 2: Form\n\
+    end//|line 3: Form\n\
+    at 40000050 0001 00000000/end/|a map\n\
+    at 400ffffc ffff fffffffc/end/|a map\n\
+    at 40000050 0001 00000000/at 40000054 0001 00000004/end/|a map\n\
+    at 40000050 0001 00000008/at 40000054 0002 00000000/end/|a map\n\
+    at 40000040 0001 00000000/end/|line 2: Range\n\
+    at 40000044 0001 00000000/end/|line 2: Range\n\
+    at 40000048 0001 00000000/end/|line 2: Range\n\
+    at 4000004c 0001 00000000/end/|line 2: Range\n\
+    at 4000004e 0001 00000000/end/|line 2: Range\n\
+    at 40000051 0001 00000000/end/|line 2: Range\n\
+    at 40000052 0001 00000000/end/|line 2: Range\n\
+    at 40100000 0001 00000000/end/|line 2: Range\n\
+    at 40000050 0001 00000002/end/|line 2: Range\n\
+    at 40000050 0001 00000000/at 4000004c 0001 00000004/end/|line 3: Range\n\
+    at 40000054 0001 00000000/at 40000050 0001 00000004/end/|line 3: Order\n\
+    at 40000050 0001 00000000/at 40000050 0001 00000004/end/|line 3: Order\n\
+    at 40000050 0002 00000000/at 40000054 0001 00000004/end/|line 3: Order\n\
+    at 40000050 1 00000000/end/|line 2: Form\n\
+    at 40000050 0001 00000000/|line 3: Form\n\
+    at 40000050 0001 00000000/end/x|line 4: Form\n\
+    harts/end/|line 2: Form\n\
+    rvcfi-map 2 harts/end/|line 2: Form\n\
+";
+
+/// First lines that no map has.
+const FIRST_LINES: &[u8] = b"\
+    rvcfi-map 2\n\
+    rvcfi-map 2 plain\n\
+    rvcfi-map 1 harts\n\
+    rvcfi-map 1 plain\n\
+    rvcfi-map 2 hart\n\
+    rvcfi-map 2 hartss\n\
+    rvcfi-map 2 Harts\n\
+    rvcfi-map 2 harts \n\
+    rvcfi-map 2  harts\n\
+    rvcfi-map 3 harts\n\
+    rvcfi-map 2 split\n\
+    rvcfi-map harts\n\
+    rvcfi-map\n\
+    rvcfi-graph 1\n\
+    rvcfi-script 2\n\
+    rvcfi-policy 1\n\
+    end\n\
+";
+
+/// Whether a text is read as a map of a form, or as these words say. A map that is read is written as the same text.
+fn is_read_as(alloc: Global, form: Form, text: &[u8], expected: &str) -> bool {
     match read_map(alloc, text) {
-        Ok(map) => expected == "a map" && is_written_as(alloc, &map, text),
+        Ok(map) => { expected == "a map" && map.form() == form && is_written_as(alloc, &map, text) }
         Err(end) => is_told_as(alloc, &end, expected),
     }
 }
@@ -95,20 +149,23 @@ fn is_written_as(alloc: Global, map: &Map, text: &[u8]) -> bool {
     }
 }
 
-/// The text of a row, with its first line.
-fn text_of(alloc: Global, rest: &str) -> Result<Vec<u8>, AllocError> {
-    [b"rvcfi-map 1\n", rest.as_bytes()].concat(alloc)
+/// The text of a row, with the first line of a form's maps.
+fn text_of(alloc: Global, form: Form, rest: &str) -> Result<Vec<u8>, AllocError> {
+    match form {
+        Form::Plain => [b"rvcfi-map 1\n", rest.as_bytes()].concat(alloc),
+        Form::Harts => [b"rvcfi-map 2 harts\n", rest.as_bytes()].concat(alloc),
+    }
 }
 
-/// Whether a row says what its text is read as.
-fn is_right(alloc: Global, row: &str) -> bool {
+/// Whether a row says what its text is read as, behind a form's first line.
+fn is_right(alloc: Global, form: Form, row: &str) -> bool {
     let Some((rest, expected)) = row.split_once('|') else {
         return false;
     };
-    match text_of(alloc, rest) {
+    match text_of(alloc, form, rest) {
         Ok(mut text) => {
             crate::graph::break_lines(&mut text);
-            is_read_as(alloc, &text, expected)
+            is_read_as(alloc, form, &text, expected)
         }
         Err(_) => false,
     }
@@ -117,25 +174,71 @@ fn is_right(alloc: Global, row: &str) -> bool {
 #[test]
 fn map_texts(rt: HostRuntime) {
     for row in rows(TEXTS, 72).lines() {
-        assert!(rt; is_right(rt.alloc(), row), "{row}");
+        assert!(rt; is_right(rt.alloc(), Form::Plain, row), "{row}");
     }
 }
 
 #[test]
-fn no_map(rt: HostRuntime) {
-    assert!(rt; is_read_as(rt.alloc(), b"rvcfi-map 1", "line 1: Form"));
-    assert!(rt; is_read_as(rt.alloc(), b"rvcfi-map 2\nend\n", "line 1: Form"));
+fn map_texts_of_harts(rt: HostRuntime) {
+    for row in rows(TEXTS_OF_HARTS, 26).lines() {
+        assert!(rt; is_right(rt.alloc(), Form::Harts, row), "{row}");
+    }
 }
 
-/// A map that is made of its parts.
-fn made(alloc: Global) -> Result<Map, NoMemory> {
+/// Whether a first line is refused before a line that may stand in the maps of both forms.
+fn is_no_first_line(alloc: Global, line: &str) -> bool {
+    match [line.as_bytes(), b"\nat 40000050 0001 00000000\nend\n"].concat(alloc) {
+        Ok(text) => is_read_as(alloc, Form::Plain, &text, "line 1: Form"),
+        Err(_) => false,
+    }
+}
+
+#[test]
+fn other_first_lines(rt: HostRuntime) {
+    for line in rows(FIRST_LINES, 17).lines() {
+        assert!(rt; is_no_first_line(rt.alloc(), line), "{line}");
+    }
+}
+
+/// Texts whose first line is wrong or does not end.
+const NO_MAPS: [&[u8]; 5] = [
+    b"",
+    b"rvcfi-map 1",
+    b"rvcfi-map 2 harts",
+    b"rvcfi-map 2\nend\n",
+    b"\nend\n",
+];
+
+#[test]
+fn no_map(rt: HostRuntime) {
+    for text in NO_MAPS {
+        assert!(rt; is_read_as(rt.alloc(), Form::Plain, text, "line 1: Form"));
+    }
+}
+
+/// A line.
+const LINE: MapLine = MapLine {
+    gate: 0x4000_0054,
+    section: 1,
+    offset: 8,
+};
+
+/// That line alone.
+fn one_line(alloc: Global) -> Result<MapLines, NoMemory>
+    ensures { IfOk result (λ lines. lines ≡ constants.LINE ∷ []) }
+{
     let mut lines = Vec::new(alloc);
-    lines.push(MapLine {
-        gate: 0x4000_0044,
-        section: 1,
-        offset: 8,
-    })?;
-    Map::of(alloc, MapLines::of(lines))
+    lines.push(LINE)?;
+    Ok(MapLines::of(lines))
+}
+
+/// A map of a form that is made of its parts.
+fn made(alloc: Global, form: Form) -> Result<Map, NoMemory> {
+    let lines = one_line(alloc)?;
+    match form {
+        Form::Plain => Map::of(alloc, Form::Plain, lines),
+        Form::Harts => Map::of(alloc, Form::Harts, lines),
+    }
 }
 
 /// Whether a map has the one line of the map above.
@@ -144,25 +247,32 @@ fn has_the_line(map: &Map) -> bool {
         return false;
     }
     let line = map.line(0);
-    line.gate == 0x4000_0044 && line.section == 1 && line.offset == 8
+    line.gate == 0x4000_0054 && line.section == 1 && line.offset == 8
 }
 
 /// Whether that map has its parts, and is written as its text.
-fn is_made_and_written(alloc: Global) -> bool {
-    match made(alloc) {
-        Ok(map) => {
-            has_the_line(&map)
-                && is_written_as(
-                    alloc,
-                    &map,
-                    b"rvcfi-map 1\nat 40000044 0001 00000008\nend\n",
-                )
-        }
+fn is_made_and_written(alloc: Global, form: Form, text: &[u8]) -> bool {
+    match made(alloc, form) {
+        Ok(map) => { map.form() == form && has_the_line(&map) && is_written_as(alloc, &map, text) }
         Err(_) => false,
     }
 }
 
+/// The text of that map, by form.
+const MADE: [(Form, &[u8]); 2] = [
+    (
+        Form::Plain,
+        b"rvcfi-map 1\nat 40000054 0001 00000008\nend\n",
+    ),
+    (
+        Form::Harts,
+        b"rvcfi-map 2 harts\nat 40000054 0001 00000008\nend\n",
+    ),
+];
+
 #[test]
 fn made_of_parts(rt: HostRuntime) {
-    assert!(rt; is_made_and_written(rt.alloc()));
+    for (form, text) in MADE {
+        assert!(rt; is_made_and_written(rt.alloc(), form, text));
+    }
 }

@@ -10,7 +10,10 @@ const TEXTS: &str = "\
     \n = line 1: Form~\
     end\n = line 1: Form~\
     rvcfi-script 1 = line 1: Form~\
-    rvcfi-script 2\nend\n = line 1: Form~\
+    rvcfi-script 3\nend\n = line 1: Form~\
+    rvcfi-script 12\nend\n = line 1: Form~\
+    rvcfi-script 1\nharts 1\nend\n = line 2: Form~\
+    rvcfi-script 1\nturn 0 1\nend\n = line 2: Form~\
     rvcfi-script 1 \nend\n = line 1: Form~\
     rvcfi-script  1\nend\n = line 1: Form~\
     rvcfi-graph 1\nend\n = line 1: Form~\
@@ -92,7 +95,7 @@ const TEXTS: &str = "\
 ";
 
 /// Whether a text is read as this, in words.
-fn is_read_as(alloc: Global, text: &[u8], expected: &str) -> bool {
+pub(crate) fn is_read_as(alloc: Global, text: &[u8], expected: &str) -> bool {
     match Script::read(alloc, text) {
         Ok(_) => expected == "a script",
         Err(end) => is_spelled(alloc, end, expected),
@@ -120,7 +123,7 @@ fn script_texts(rt: HostRuntime) {
         assert!(rt; is_right(rt.alloc(), row), "{row}");
         count = count.saturating_add(1);
     }
-    assert!(rt; count == 83);
+    assert!(rt; count == 86);
 }
 
 #[test]
@@ -129,7 +132,7 @@ fn no_text(rt: HostRuntime) {
 }
 
 /// A start, so many times a piece, and an end.
-fn text_with(
+pub(crate) fn text_with(
     alloc: Global,
     start: &[u8],
     piece: &[u8],
@@ -286,7 +289,7 @@ fn has_changes(script: &Script, rows: &[(u64, u64, u8)]) -> bool {
 
 /// Whether a script that is made of the changes of another one is the list of these.
 fn is_copied(alloc: Global, script: &Script, rows: &[(u64, u64, u8)]) -> bool {
-    match Script::of(alloc, script.as_slice()) {
+    match Script::of(alloc, 1, &[], script.as_slice()) {
         Ok(copy) => has_changes(&copy, rows),
         Err(_) => false,
     }
@@ -327,7 +330,7 @@ static PLANNED: [Planned; 10] = [
 ];
 
 fn machine(alloc: Global) -> Result<Machine, NoMemory> {
-    Machine::new(alloc, &Image::of(&[0x73, 0, 0, 0], &[]), &[])
+    Machine::new(alloc, &Image::of(&[0x73, 0, 0, 0], &[]), &[], 1)
 }
 
 /// Whether the changes from an index on have these addresses and bytes. (A slice, made where a call has

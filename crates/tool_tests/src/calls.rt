@@ -8,7 +8,7 @@ use std::str::Split;
 use tool_io::MemFiles;
 
 /// The rows of a table, which has a `;` between each two.
-fn rows(table: &[u8]) -> Split<'_, char> {
+pub(crate) fn rows(table: &[u8]) -> Split<'_, char> {
     str::from_utf8(table).unwrap_or("").split(';')
 }
 
@@ -18,7 +18,7 @@ fn len(table: &[u8]) -> usize {
 }
 
 /// Whether a row is a command line with its status and text, as `rvcfi = 2: usage ..`.
-fn is_answered(alloc: Global, row: &str, files: &mut MemFiles) -> bool {
+pub(crate) fn is_answered(alloc: Global, row: &str, files: &mut MemFiles) -> bool {
     let (line, told) = row.split_once(" = ").unwrap_or((row, ""));
     let (status, text) = told.split_once(": ").unwrap_or((told, ""));
     let status = status.parse().unwrap_or(u8::MAX);

@@ -17,31 +17,33 @@ const COMMANDS: &[u8] = b"\
     rvcfi,verify,image,image = 1: refused 23 Graph 1 Form\n;\
     rvcfi,verify,image,empty = 1: refused 23 Graph 1 Form\n;\
     rvcfi,verify,image,capitals = 1: refused 23 Graph 3 Form\n;\
-    rvcfi,verify,image = 2: usage: rvcfi rewrite|verify|run|compare|demo\n;\
-    rvcfi,verify,image,graph,graph = 2: usage: rvcfi rewrite|verify|run|compare|demo\n;\
-    rvcfi,run,image = 2: usage: rvcfi rewrite|verify|run|compare|demo\n;\
-    rvcfi = 2: usage: rvcfi rewrite|verify|run|compare|demo\n;\
-    rvcfi,verify,-image,graph = 2: usage: rvcfi rewrite|verify|run|compare|demo\n;\
+    rvcfi,verify,image = 2: usage: rvcfi rewrite|verify|run|compare|demo|harden\n;\
+    rvcfi,verify,image,graph,graph = 2: usage: rvcfi rewrite|verify|run|compare|demo|harden\n;\
+    rvcfi,run,image = 2: usage: rvcfi rewrite|verify|run|compare|demo|harden\n;\
+    rvcfi = 2: usage: rvcfi rewrite|verify|run|compare|demo|harden\n;\
+    rvcfi,verify,-image,graph = 2: usage: rvcfi rewrite|verify|run|compare|demo|harden\n;\
     rvcfi,verify,--,-image,graph = 3: read fault -image\n;\
     rvcfi,verify,--,-h,graph = 3: read fault -h\n;\
     rvcfi,verify,--,image,graph = 0: accepted\n;\
-    rvcfi,verify,image,-h = 2: usage: rvcfi rewrite|verify|run|compare|demo\n;\
-    rvcfi,verify,--help,graph = 2: usage: rvcfi rewrite|verify|run|compare|demo\n;\
-    rvcfi,verify,-V,--version = 2: usage: rvcfi rewrite|verify|run|compare|demo\n;\
-    rvcfi,--help,verify,image,graph = 2: usage: rvcfi rewrite|verify|run|compare|demo\n;\
+    rvcfi,verify,image,-h = 2: usage: rvcfi rewrite|verify|run|compare|demo|harden\n;\
+    rvcfi,verify,--help,graph = 2: usage: rvcfi rewrite|verify|run|compare|demo|harden\n;\
+    rvcfi,verify,-V,--version = 2: usage: rvcfi rewrite|verify|run|compare|demo|harden\n;\
+    rvcfi,--help,verify,image,graph = 2: usage: rvcfi rewrite|verify|run|compare|demo|harden\n;\
     rvcfi,--version = 0: rvcfi 1.0.0\n;\
     ,verify,image,graph = 0: accepted\n;\
     rvcfi,verify,absent,nothing = 3: read fault absent\n;\
     rvcfi,verify,image,nothing = 3: read fault nothing\n;\
+    rvcfi,verify,harts.img,harts.graph = 0: accepted\n;\
+    rvcfi,verify,harts.img,a.graph = 1: rejected Length 96 80\n;\
     rvcfi,verify,image,long = 6: too long long\n";
 
 #[test]
 fn commands(rt: HostRuntime) {
-    check(&rt, rt.alloc(), COMMANDS, 24);
+    check(&rt, rt.alloc(), COMMANDS, 26);
 }
 
 /// Verdicts, and the line of each.
-static LINES: [(Verdict, &str); 13] = [
+static LINES: [(Verdict, &str); 14] = [
     (
         Verdict::Refused(Refusal::Object(ObjectRefusal::NoEntry)),
         "refused 17 NoEntry",
@@ -82,6 +84,7 @@ static LINES: [(Verdict, &str); 13] = [
         Verdict::Refused(Refusal::Script(2, Reason::Range)),
         "refused 25 Script 2 Range",
     ),
+    (Verdict::Refused(Refusal::Harts(8)), "refused 26 Harts 8"),
     (
         Verdict::Rejected(Reject::Length(80, 84)),
         "rejected Length 80 84",

@@ -2,7 +2,8 @@
 
 use crate::calls::check_over;
 use rv_word::NoMemory;
-use sample_calls::{Given, Source, add_object, add_texts};
+use sample_calls::{Given, Source, add_image, add_image_of_harts, add_object, add_texts};
+use sample_programs::{A_OF_HARTS, SHARED};
 use std::alloc::Global;
 use tool_io::MemFiles;
 
@@ -49,6 +50,18 @@ static TEXTS: [(&str, &[u8]); 4] = [
     ("empty", b""),
 ];
 
+/// Units that load from the second hart's part of the shadow stack, add 7 and exit with the sum.
+const FAR: [u32; 6] = [
+    0x600102b7, 0x0002b503, 0x00750513, 0x05d00893, 0x00000073, 0xf9dff06f,
+];
+
+/// Names of images for several harts, of whose harts one runs alone.
+static IMAGES_OF_HARTS: [(&str, &[u32], &[u8]); 3] = [
+    ("seven.img", &A_OF_HARTS, b""),
+    ("shared.img", &SHARED, b""),
+    ("far.img", &FAR, b""),
+];
+
 /// Command lines, with the status and the text of each, in the form of `calls::check`.
 const LINES: &[u8] = b"\
     rvcfi,rewrite,b.o,main,none,b.img,b.graph,b.map = 0: rewritten code 92 data 0 classes 0 sites 0\n;\
@@ -69,6 +82,11 @@ const LINES: &[u8] = b"\
     rvcfi,compare,b.o,main,none,b.img,b.map,none,3 = 0: same 1\n;\
     rvcfi,compare,b.o,main,none,b.img,b.map,none,2 = 12: limit\n;\
     rvcfi,compare,b.o,main,none,b.img,b.map,none,0 = 12: limit\n;\
+    rvcfi,compare,b.o,main,none,seven.img,b.map,none,100 = 0: same 1\n;\
+    rvcfi,compare,b.o,main,none,seven.img,b.map,none,2 = 12: limit\n;\
+    rvcfi,compare,b.o,main,none,shared.img,b.map,none,100 = 1: differs 0\nsource 000000000000005d 0000000000000007 0000000000000000 0000000000000000 0000000000000000 0000000000000000 0000000000000000 0000000000000000 -\nimage 000000000000005d 0000000000000000 0000000000000000 0000000000000000 0000000000000000 0000000000000000 0000000000000000 0000000000000000 -\n;\
+    rvcfi,compare,b.o,main,none,far.img,b.map,none,100 = 0: same 1\n;\
+    rvcfi,compare,b.o,main,none,near.img,b.map,none,100 = 1: differs 0\nsource 000000000000005d 0000000000000007 0000000000000000 0000000000000000 0000000000000000 0000000000000000 0000000000000000 0000000000000000 -\nimage stop\n;\
     rvcfi,rewrite,deep,main,none,i,g,m = 0: rewritten code 168 data 0 classes 0 sites 0\n;\
     rvcfi,compare,deep,main,none,i,m,none,100000 = 13: untame deep 1 28\n;\
     rvcfi,rewrite,window,main,none,i,g,m = 0: rewritten code 104 data 0 classes 0 sites 0\n;\
@@ -102,20 +120,24 @@ const LINES: &[u8] = b"\
     rvcfi,compare,b.o,main,none,b.img,p.map,none,9 = 1: refused 24 Map 4 Place\n;\
     rvcfi,compare,b.o,main,none,b.img,first,none,9 = 1: refused 24 Map 2 Place\n;\
     rvcfi,compare,b.o,main,none,b.img,short,none,9 = 1: refused 24 Map 3 Place\n;\
-    rvcfi,compare,b.o,main,none,b.img,b.map,none,1000000001 = 2: usage: rvcfi rewrite|verify|run|compare|demo\n;\
-    rvcfi,compare,b.o,main,none,b.img,b.map,none = 2: usage: rvcfi rewrite|verify|run|compare|demo\n;\
-    rvcfi,compare,b.o,main,b.img,b.map,none,9 = 2: usage: rvcfi rewrite|verify|run|compare|demo\n;\
+    rvcfi,compare,b.o,main,none,b.img,b.map,none,1000000001 = 2: usage: rvcfi rewrite|verify|run|compare|demo|harden\n;\
+    rvcfi,compare,b.o,main,none,b.img,b.map,none = 2: usage: rvcfi rewrite|verify|run|compare|demo|harden\n;\
+    rvcfi,compare,b.o,main,b.img,b.map,none,9 = 2: usage: rvcfi rewrite|verify|run|compare|demo|harden\n;\
     rvcfi,compare,absent,main,none,b.img,b.map,none,9 = 3: read fault absent\n;\
     rvcfi,compare,b.o,main,absent,nothing,b.map,none,9 = 3: read fault absent\n;\
     rvcfi,compare,1,main,none,absent,nothing,none,9 = 3: read fault absent\n;\
     rvcfi,compare,1,main,none,b.img,absent,nothing,9 = 3: read fault absent\n;\
     rvcfi,compare,1,main,none,b.img,b.map,absent,9 = 3: read fault absent\n";
 
-/// Adds the objects and the texts.
+/// Adds the objects, the images and the texts.
 fn add_all(alloc: Global, files: &mut MemFiles) -> Result<(), NoMemory> {
     for object in &OBJECTS {
         add_object(alloc, files, object.0, &object.1)?;
     }
+    for image in &IMAGES_OF_HARTS {
+        add_image_of_harts(alloc, files, image)?;
+    }
+    add_image(alloc, files, &("near.img", &FAR, b""))?;
     add_texts(files, &TEXTS)
 }
 
@@ -123,5 +145,5 @@ fn add_all(alloc: Global, files: &mut MemFiles) -> Result<(), NoMemory> {
 fn compared(rt: HostRuntime) {
     let mut files = MemFiles::new(rt.alloc(), Vec::new(rt.alloc()));
     assert!(rt; add_all(rt.alloc(), &mut files).is_ok());
-    check_over(&rt, rt.alloc(), &mut files, LINES, 59);
+    check_over(&rt, rt.alloc(), &mut files, LINES, 64);
 }

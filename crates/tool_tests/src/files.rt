@@ -1,12 +1,12 @@
 //! The files that the tool reads in the tests.
 
 use rv_word::NoMemory;
-use sample_calls::{add_image, add_texts};
+use sample_calls::{add_image, add_image_of_harts, add_texts};
 use sample_programs::{
-    A, A_CLASS_GRAPH, A_GRAPH, AIMED, AIMED_GRAPH, ASTRAY, B, B_GRAPH, BREAK, BREAK_GRAPH, DEEP,
-    DEEP_GRAPH, ECHO, ECHO_GRAPH, EDGE, EDGE_GRAPH, H, H_GRAPH, LOAD, LOAD_GRAPH, LOOP, LOOP_GRAPH,
-    NARROW, NARROW_GRAPH, NOWHERE, NOWHERE_GRAPH, P, P_DATA, P_GRAPH, RELABELLED, RELABELLED_GRAPH,
-    STATUS, STATUS_GRAPH,
+    A, A_CLASS_GRAPH, A_GRAPH, A_OF_HARTS, A_OF_HARTS_GRAPH, AIMED, AIMED_GRAPH, ASTRAY, B,
+    B_GRAPH, BREAK, BREAK_GRAPH, DEEP, DEEP_GRAPH, ECHO, ECHO_GRAPH, EDGE, EDGE_GRAPH, H, H_GRAPH,
+    LOAD, LOAD_GRAPH, LOOP, LOOP_GRAPH, NARROW, NARROW_GRAPH, NOWHERE, NOWHERE_GRAPH, P, P_DATA,
+    P_GRAPH, RELABELLED, RELABELLED_GRAPH, STATUS, STATUS_GRAPH,
 };
 use std::alloc::Global;
 use tool_io::MemFiles;
@@ -33,7 +33,7 @@ static IMAGES: [(&str, &[u32], &[u8]); 17] = [
 ];
 
 /// Graphs, scripts, inputs and files that are none of these, by their names.
-static TEXTS: [(&str, &[u8]); 31] = [
+static TEXTS: [(&str, &[u8]); 36] = [
     ("graph", A_GRAPH),
     ("a.graph", A_GRAPH),
     ("b.graph", B_GRAPH),
@@ -51,6 +51,7 @@ static TEXTS: [(&str, &[u8]); 31] = [
     ("break.graph", BREAK_GRAPH),
     ("load.graph", LOAD_GRAPH),
     ("status.graph", STATUS_GRAPH),
+    ("harts.graph", A_OF_HARTS_GRAPH),
     ("saved", b"rvcfi-script 1\nat 40 0ffffff8 e4000040\nend\n"),
     ("nowhere", b"rvcfi-script 1\nat 0 00010000 40000040\nend\n"),
     ("other", b"rvcfi-script 1\nat 0 00010000 e4000040\nend\n"),
@@ -64,6 +65,13 @@ static TEXTS: [(&str, &[u8]); 31] = [
     ),
     ("range", b"rvcfi-script 1\nat 1 10001000 00\nend\n"),
     ("./none", b"rvcfi-script 1\nat 11 00010000 09\nend\n"),
+    ("alone", b"rvcfi-script 2\nharts 1\nend\n"),
+    ("two", b"rvcfi-script 2\nharts 2\nturn 1 20\nend\n"),
+    (
+        "turns",
+        b"rvcfi-script 2\nharts 2\nturn 0 3\nturn 1 2\nturn 0 14\nend\n",
+    ),
+    ("nine", b"rvcfi-script 2\nharts 9\nend\n"),
     ("digits", b"0123456789"),
     ("empty", b""),
     ("byte", b"r"),
@@ -78,6 +86,7 @@ pub(crate) fn add_files(alloc: Global, files: &mut MemFiles) -> Result<(), NoMem
     for image in &IMAGES {
         add_image(alloc, files, image)?;
     }
+    add_image_of_harts(alloc, files, &("harts.img", &A_OF_HARTS, b""))?;
     add_texts(files, &TEXTS)?;
     let zeros = vec![in alloc; 0; 67_108_865]?;
     Ok(files.insert("long", &zeros)?)

@@ -1,4 +1,4 @@
-//! Tests of the tool through its public calls: command lines, verdicts, runs, hardened objects, comparisons, demos and what
+//! Tests of the tool through its public calls: command lines, verdicts, runs, hardened objects of both forms, comparisons, demos and what
 //! these generate. They stand beside the crates that they test, so that these are proved once.
 #![tactic(auto)]
 
@@ -12,6 +12,8 @@ mod compares;
 mod demos;
 #[cfg(test)]
 mod files;
+#[cfg(test)]
+mod hardens;
 #[cfg(test)]
 mod jumps;
 #[cfg(test)]

@@ -11,6 +11,9 @@ const ROWS: &[u8] = b"\
     rvcfi,run,i,g,none,in,100 = run,i,g,none,in,100;\
     rvcfi,compare,o,e,none,i,m,in,7 = compare,o,e,none,i,m,in,7;\
     rvcfi,demo,1 = demo,1;\
+    rvcfi,harden,f,o,e,p,i,g,m = harden,f,o,e,p,i,g,m;\
+    rvcfi,harden,plain,o,e,--,-p,i,g,--help = harden,plain,o,e,-p,i,g,--help;\
+    rvcfi,harden,,o,e,p,i,i,i = harden,,o,e,p,i,i,i;\
     ,verify,i,g = verify,i,g;\
     ./bin/rvcfi,verify,i,i = verify,i,i;\
     rvcfi,verify,verify,help = verify,verify,help;\
@@ -29,6 +32,12 @@ const ROWS: &[u8] = b"\
     rvcfi,rewrite,o,e,p,i,g = refused;\
     rvcfi,compare,o,e,p,i,m,in,7,8 = refused;\
     rvcfi,demo = refused;\
+    rvcfi,harden,o,e,p,i,g,m = refused;\
+    rvcfi,harden,f,o,e,p,i,g,m,x = refused;\
+    rvcfi,harden = refused;\
+    rvcfi,harden,-f,o,e,p,i,g,m = refused;\
+    rvcfi,Harden,f,o,e,p,i,g,m = refused;\
+    rvcfi,rewrite,f,o,e,p,i,g,m = refused;\
     rvcfi,verify,-x,g = refused;\
     rvcfi,verify,i,--graph = refused;\
     rvcfi,verify,i,-- = refused;\
@@ -52,6 +61,8 @@ const ROWS: &[u8] = b"\
     rvcfi,run,--help = help;\
     rvcfi,compare,-h = help;\
     ,demo,--help = help;\
+    rvcfi,harden,-h = help;\
+    rvcfi,harden,plain,-h = refused;\
     rvcfi,verif,-h = refused;\
     rvcfi,verify,-V = refused;\
     rvcfi,verify,-hh = refused;\
@@ -96,6 +107,16 @@ fn request(alloc: Global, asked: &Asked<'_>) -> Option<String> {
             w.object, w.entry, w.policy, w.image, w.map, w.input, w.steps
         ),
         Asked::Demo(w) => format!(in alloc; "demo,{}", w.number),
+        Asked::Harden(w) => format!(in alloc;
+            "harden,{},{},{},{},{},{},{}",
+            w.form,
+            w.rewrite.object,
+            w.rewrite.entry,
+            w.rewrite.policy,
+            w.rewrite.image,
+            w.rewrite.graph,
+            w.rewrite.map
+        ),
     }
     .ok()
 }
@@ -126,7 +147,7 @@ fn is_read(alloc: Global, row: &str) -> bool {
 #[test]
 fn lines(rt: HostRuntime) {
     let rows = str::from_utf8(ROWS).unwrap_or("");
-    assert!(rt; rows.split(';').count() == 63);
+    assert!(rt; rows.split(';').count() == 74);
     for row in rows.split(';') {
         assert!(rt; is_read(rt.alloc(), row), "{row}");
     }
@@ -150,6 +171,7 @@ Commands:
   run      Runs an accepted image, and reports on the run
   compare  Compares the run of an object with that of its image
   demo     Makes an object from a number, hardens, runs and compares it
+  harden   Does what rewrite does, in a form: for one hart, or for harts
 
 Options:
   -h, --help     Print help
@@ -164,6 +186,24 @@ Usage: rvcfi verify <IMAGE> <GRAPH>
 Arguments:
   <IMAGE>  The image to read
   <GRAPH>  The graph to read
+
+Options:
+  -h, --help  Print help
+";
+
+const HARDEN_HELP: &str = "\
+Does what rewrite does, in a form: for one hart, or for harts
+
+Usage: rvcfi harden <FORM> <OBJECT> <ENTRY> <POLICY> <IMAGE> <GRAPH> <MAP>
+
+Arguments:
+  <FORM>    The form of what is made: plain or harts
+  <OBJECT>  The object to read
+  <ENTRY>   The symbol at which the program begins
+  <POLICY>  The policy to read, or none
+  <IMAGE>   The image to write
+  <GRAPH>   The graph to write
+  <MAP>     The map to write
 
 Options:
   -h, --help  Print help
@@ -185,5 +225,6 @@ fn shows(alloc: Global, line: &str, expected: &str) -> bool {
 fn texts(rt: HostRuntime) {
     assert!(rt; shows(rt.alloc(), "rvcfi,--help", HELP));
     assert!(rt; shows(rt.alloc(), "./rvcfi,verify,-h", VERIFY_HELP));
+    assert!(rt; shows(rt.alloc(), "rvcfi,harden,--help", HARDEN_HELP));
     assert!(rt; shows(rt.alloc(), "rvcfi,--version", "rvcfi 1.0.0\n"));
 }

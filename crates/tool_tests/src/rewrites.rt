@@ -142,7 +142,7 @@ static POLICIES: [(&str, &[u8]); 2] = [
 
 /// Command lines, with the status and the text of each, in the form of `calls::check`. The last ones make an object's file its
 /// image.
-const LINES: &[u8] = b"\
+pub(crate) const LINES: &[u8] = b"\
     rvcfi,rewrite,empty,main,none,i,g,m = 1: refused 1 NotElf\n;\
     rvcfi,rewrite,5,main,none,i,g,m = 1: refused 5 Truncated 512\n;\
     rvcfi,rewrite,9,main,none,i,g,m = 1: refused 9 Undecodable 1 4 0\n;\
@@ -158,11 +158,11 @@ const LINES: &[u8] = b"\
     rvcfi,rewrite,p.o,main,place,i,g,m = 1: refused 18 Policy 2\n;\
     rvcfi,rewrite,20,main,none,i,g,m = 1: refused 20 DataTooLarge 0 267386881\n;\
     rvcfi,rewrite,21,main,none,i,g,m = 1: refused 21 RelocRange 1 32\n;\
-    rvcfi,rewrite,absent,main,none,i,i,m = 2: usage: rvcfi rewrite|verify|run|compare|demo\n;\
-    rvcfi,rewrite,b.o,main,none,i,g,i = 2: usage: rvcfi rewrite|verify|run|compare|demo\n;\
-    rvcfi,rewrite,b.o,main,none,i,g,g = 2: usage: rvcfi rewrite|verify|run|compare|demo\n;\
-    rvcfi,rewrite,b.o,main,none,i,g = 2: usage: rvcfi rewrite|verify|run|compare|demo\n;\
-    rvcfi,rewrite,b.o,main,none,i,g,m,m = 2: usage: rvcfi rewrite|verify|run|compare|demo\n;\
+    rvcfi,rewrite,absent,main,none,i,i,m = 2: usage: rvcfi rewrite|verify|run|compare|demo|harden\n;\
+    rvcfi,rewrite,b.o,main,none,i,g,i = 2: usage: rvcfi rewrite|verify|run|compare|demo|harden\n;\
+    rvcfi,rewrite,b.o,main,none,i,g,g = 2: usage: rvcfi rewrite|verify|run|compare|demo|harden\n;\
+    rvcfi,rewrite,b.o,main,none,i,g = 2: usage: rvcfi rewrite|verify|run|compare|demo|harden\n;\
+    rvcfi,rewrite,b.o,main,none,i,g,m,m = 2: usage: rvcfi rewrite|verify|run|compare|demo|harden\n;\
     rvcfi,rewrite,absent,main,nothing,i,g,m = 3: read fault absent\n;\
     rvcfi,rewrite,9,main,nothing,i,g,m = 3: read fault nothing\n;\
     rvcfi,rewrite,long,main,nothing,i,g,m = 6: too long long\n;\
@@ -178,7 +178,7 @@ const LINES: &[u8] = b"\
     rvcfi,rewrite,own,main,none,i,g,m = 1: refused 2 NotRelocatable 2\n";
 
 /// Adds the objects and the policies.
-fn add_objects(alloc: Global, files: &mut MemFiles) -> Result<(), NoMemory> {
+pub(crate) fn add_objects(alloc: Global, files: &mut MemFiles) -> Result<(), NoMemory> {
     for object in &OBJECTS {
         add_object(alloc, files, object.0, &object.1)?;
     }

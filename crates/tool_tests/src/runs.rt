@@ -40,14 +40,14 @@ const RUNS: &[u8] = b"\
     rvcfi,run,a.img,b.graph,none,none,100 = 1: rejected Length 80 92\n;\
     rvcfi,run,a.img,empty,range,none,100 = 1: refused 23 Graph 1 Form\n;\
     rvcfi,run,empty,empty,range,none,100 = 1: refused 22 Short 0\n;\
-    rvcfi,run,a.img,a.graph,none,none = 2: usage: rvcfi rewrite|verify|run|compare|demo\n;\
-    rvcfi,run,a.img,a.graph,none,none,1,1 = 2: usage: rvcfi rewrite|verify|run|compare|demo\n;\
-    rvcfi,run,a.img,a.graph,none,none, = 2: usage: rvcfi rewrite|verify|run|compare|demo\n;\
-    rvcfi,run,a.img,a.graph,none,none,x = 2: usage: rvcfi rewrite|verify|run|compare|demo\n;\
-    rvcfi,run,a.img,a.graph,none,none,+1 = 2: usage: rvcfi rewrite|verify|run|compare|demo\n;\
-    rvcfi,run,a.img,a.graph,none,none,1  = 2: usage: rvcfi rewrite|verify|run|compare|demo\n;\
-    rvcfi,run,a.img,a.graph,none,none,1000000001 = 2: usage: rvcfi rewrite|verify|run|compare|demo\n;\
-    rvcfi,run,a.img,a.graph,none,none,00000000007 = 2: usage: rvcfi rewrite|verify|run|compare|demo\n;\
+    rvcfi,run,a.img,a.graph,none,none = 2: usage: rvcfi rewrite|verify|run|compare|demo|harden\n;\
+    rvcfi,run,a.img,a.graph,none,none,1,1 = 2: usage: rvcfi rewrite|verify|run|compare|demo|harden\n;\
+    rvcfi,run,a.img,a.graph,none,none, = 2: usage: rvcfi rewrite|verify|run|compare|demo|harden\n;\
+    rvcfi,run,a.img,a.graph,none,none,x = 2: usage: rvcfi rewrite|verify|run|compare|demo|harden\n;\
+    rvcfi,run,a.img,a.graph,none,none,+1 = 2: usage: rvcfi rewrite|verify|run|compare|demo|harden\n;\
+    rvcfi,run,a.img,a.graph,none,none,1  = 2: usage: rvcfi rewrite|verify|run|compare|demo|harden\n;\
+    rvcfi,run,a.img,a.graph,none,none,1000000001 = 2: usage: rvcfi rewrite|verify|run|compare|demo|harden\n;\
+    rvcfi,run,a.img,a.graph,none,none,00000000007 = 2: usage: rvcfi rewrite|verify|run|compare|demo|harden\n;\
     rvcfi,run,absent,nothing,gone,lost,1 = 3: read fault absent\n;\
     rvcfi,run,a.img,nothing,gone,lost,1 = 3: read fault nothing\n;\
     rvcfi,run,a.img,a.graph,gone,lost,1 = 3: read fault gone\n;\
@@ -58,4 +58,29 @@ const RUNS: &[u8] = b"\
 #[test]
 fn runs(rt: HostRuntime) {
     check(&rt, rt.alloc(), RUNS, 49);
+}
+
+/// The same of scripts for several harts, and of an image for several: what a model of the machine, tests/harts at the top of the
+/// repository, answers. Of refusals the first stands, and each goes before a reject.
+const HARTS: &[u8] = b"\
+    rvcfi,run,a.img,a.graph,alone,none,100 = 0: output 0\n\nstop exit 7\nsteps 13\nwalk 4\ntrail 4000000c 40000040 40000044 40000048\n;\
+    rvcfi,run,a.img,a.graph,two,none,100 = 1: refused 26 Harts 2\n;\
+    rvcfi,run,a.img,a.graph,two,none,0 = 1: refused 26 Harts 2\n;\
+    rvcfi,run,harts.img,harts.graph,none,none,100 = 0: output 0\n\nharts 1\nstop hart 0 exit 7\nsteps 17\nwalk 0 4\ntrail 0 4000000c 40000050 40000054 40000058\n;\
+    rvcfi,run,harts.img,harts.graph,late,none,100 = 0: output 0\n\nharts 1\nstop hart 0 exit 7\nsteps 17\nwalk 0 4\ntrail 0 4000000c 40000050 40000054 40000058\n;\
+    rvcfi,run,harts.img,harts.graph,two,none,100 = 0: output 0\n\nharts 2\nstop hart 1 exit 7\nsteps 17\nwalk 0 0\ntrail 0\nwalk 1 4\ntrail 1 4000000c 40000050 40000054 40000058\n;\
+    rvcfi,run,harts.img,harts.graph,turns,none,100 = 0: output 0\n\nharts 2\nstop hart 0 exit 7\nsteps 19\nwalk 0 4\ntrail 0 4000000c 40000050 40000054 40000058\nwalk 1 1\ntrail 1 4000000c\n;\
+    rvcfi,run,harts.img,harts.graph,two,none,5 = 12: output 0\n\nharts 2\nstop limit\nsteps 5\nwalk 0 0\ntrail 0\nwalk 1 1\ntrail 1 4000000c\n;\
+    rvcfi,run,empty,empty,two,none,100 = 1: refused 22 Short 0\n;\
+    rvcfi,run,a.img,empty,two,none,100 = 1: refused 23 Graph 1 Form\n;\
+    rvcfi,run,a.img,b.graph,nine,none,100 = 1: refused 25 Script 2 Range\n;\
+    rvcfi,run,a.img,b.graph,two,none,100 = 1: refused 26 Harts 2\n;\
+    rvcfi,run,a.img,b.graph,alone,none,100 = 1: rejected Length 80 92\n;\
+    rvcfi,run,harts.img,b.graph,two,none,100 = 1: rejected Length 96 92\n;\
+    rvcfi,run,harts.img,harts.graph,nine,none,100 = 1: refused 25 Script 2 Range\n;\
+    rvcfi,run,a.img,a.graph,two,lost,100 = 3: read fault lost\n";
+
+#[test]
+fn harts(rt: HostRuntime) {
+    check(&rt, rt.alloc(), HARTS, 16);
 }

@@ -1,21 +1,33 @@
 use cfi_layout::laws::least_code;
 use cfi_layout::{PlaceEnd, Placement, Short, are_shorts, place, shorten};
+use rv_word::Form;
 use std::alloc::Global;
 
 /// Where the first unit stands.
-const UNITS_START: u64 = 0x4000_0040;
+fn units_start(form: Form) -> u64 {
+    match form {
+        Form::Plain => 0x4000_0040,
+        Form::Harts => 0x4000_0050,
+    }
+}
 
 /// Sizes of parts, and where they start and the last ends, from the first unit on.
 static PLACED: [([u32; 3], [u64; 4]); 3] = [
     ([4, 12, 12], [0, 4, 16, 28]),
     ([0, 0, 0], [0, 0, 0, 0]),
-    ([1_048_508, 0, 4], [0, 1_048_508, 1_048_508, 1_048_512]),
+    ([1_048_492, 0, 4], [0, 1_048_492, 1_048_492, 1_048_496]),
 ];
 
-/// Sizes that are too large, and the bytes of the code.
-static TOO_LARGE: [([u32; 3], u128); 2] = [
-    ([1_048_508, 4, 4], 1_048_580),
-    ([u32::MAX, u32::MAX, u32::MAX], 12_884_901_949),
+/// Those that have room in the one form alone, where they are placed.
+static NARROW: ([u32; 3], [u64; 4]) = ([1_048_508, 0, 4], [0, 1_048_508, 1_048_508, 1_048_512]);
+
+/// Sizes that are too large in a form, and the bytes of the code.
+static TOO_LARGE: [(Form, [u32; 3], u128); 5] = [
+    (Form::Plain, [1_048_508, 4, 4], 1_048_580),
+    (Form::Plain, [u32::MAX, u32::MAX, u32::MAX], 12_884_901_949),
+    (Form::Harts, [1_048_492, 4, 4], 1_048_580),
+    (Form::Harts, [1_048_508, 0, 4], 1_048_592),
+    (Form::Harts, [u32::MAX, u32::MAX, u32::MAX], 12_884_901_965),
 ];
 
 /// A branch's part, its target's part, the bytes before it in its part, and whether it is kept long.
@@ -45,32 +57,32 @@ static SHORTENED: [Row; 9] = [
     ([8, 4088, 12, 4, 4], (0, 0, 0, true), (2, 0, 4, false), [0, 8, 4096, 4108, 4112, 4116], true, true),
 ];
 
-/// Whether parts start, and the last ends, so many bytes after the first.
-fn stand(placement: &Placement, offsets: &[u64]) -> bool {
+/// Whether parts start, and the last ends, so many bytes after where the first unit of a form stands.
+fn stand(form: Form, placement: &Placement, offsets: &[u64]) -> bool {
     let starts = placement.starts();
     if starts.len() != offsets.len() {
         return false;
     }
     for k in 0..starts.len() {
-        if starts[k].wrapping_sub(UNITS_START) != offsets[k] {
+        if starts[k].wrapping_sub(units_start(form)) != offsets[k] {
             return false;
         }
     }
     true
 }
 
-/// Whether parts are placed as a row says.
-fn is_placed(alloc: Global, row: &([u32; 3], [u64; 4])) -> bool {
-    match place(alloc, &row.0) {
-        Ok(placement) => stand(&placement, &row.1) && placement.is_long(0),
+/// Whether parts are placed in a form as a row says.
+fn is_placed(alloc: Global, form: Form, row: &([u32; 3], [u64; 4])) -> bool {
+    match place(alloc, form, &row.0) {
+        Ok(placement) => stand(form, &placement, &row.1) && placement.is_long(0),
         Err(_) => false,
     }
 }
 
 /// Whether parts are too large as a row says.
-fn is_too_large(alloc: Global, row: &([u32; 3], u128)) -> bool {
-    match place(alloc, &row.0) {
-        Err(PlaceEnd::CodeTooLarge(bytes)) => bytes == row.1,
+fn is_too_large(alloc: Global, row: &(Form, [u32; 3], u128)) -> bool {
+    match place(alloc, row.0, &row.1) {
+        Err(PlaceEnd::CodeTooLarge(bytes)) => bytes == row.2,
         _ => false,
     }
 }
@@ -78,12 +90,18 @@ fn is_too_large(alloc: Global, row: &([u32; 3], u128)) -> bool {
 #[test]
 fn parts_are_placed(rt: HostRuntime) {
     for row in &PLACED {
-        assert!(rt; is_placed(rt.alloc(), row), "{}", row.0[0]);
+        assert!(rt; is_placed(rt.alloc(), Form::Plain, row), "{}", row.0[0]);
+        assert!(rt; is_placed(rt.alloc(), Form::Harts, row), "{}", row.0[0]);
     }
-    for row in &TOO_LARGE {
-        assert!(rt; is_too_large(rt.alloc(), row), "{}", row.1);
-    }
+    assert!(rt; is_placed(rt.alloc(), Form::Plain, &NARROW));
     least_code();
+}
+
+#[test]
+fn parts_are_too_large(rt: HostRuntime) {
+    for row in &TOO_LARGE {
+        assert!(rt; is_too_large(rt.alloc(), row), "{} {}", row.0.name(), row.2);
+    }
 }
 
 /// The branch that a row says.
@@ -96,23 +114,23 @@ fn short(row: Branch) -> Short {
     }
 }
 
-/// Where parts stand with each branch short that can be, if they can be placed.
-fn shortened(alloc: Global, sizes: &[u32], branches: &[Short]) -> Option<Placement> {
+/// Where parts stand in a form with each branch short that can be, if they can be placed.
+fn shortened(alloc: Global, form: Form, sizes: &[u32], branches: &[Short]) -> Option<Placement> {
     if !are_shorts(sizes, branches) {
         return None;
     }
-    match place(alloc, sizes) {
-        Ok(_) => shorten(alloc, sizes, branches).ok(),
+    match place(alloc, form, sizes) {
+        Ok(_) => shorten(alloc, form, sizes, branches).ok(),
         Err(_) => None,
     }
 }
 
-/// Whether branches are short and long as a row says.
-fn is_shortened(alloc: Global, row: &Row) -> bool {
+/// Whether branches are short and long in a form as a row says.
+fn is_shortened(alloc: Global, form: Form, row: &Row) -> bool {
     let branches = [short(row.1), short(row.2)];
-    match shortened(alloc, &row.0, &branches) {
+    match shortened(alloc, form, &row.0, &branches) {
         Some(placement) => {
-            stand(&placement, &row.3)
+            stand(form, &placement, &row.3)
                 && placement.is_long(0) == row.4
                 && placement.is_long(1)
                 && placement.is_long(2) == row.5
@@ -124,6 +142,13 @@ fn is_shortened(alloc: Global, row: &Row) -> bool {
 #[test]
 fn layouts(rt: HostRuntime) {
     for k in 0..SHORTENED.len() {
-        assert!(rt; is_shortened(rt.alloc(), &SHORTENED[k]), "row {k}");
+        assert!(rt;
+            is_shortened(rt.alloc(), Form::Plain, &SHORTENED[k]),
+            "row {k}"
+        );
+        assert!(rt;
+            is_shortened(rt.alloc(), Form::Harts, &SHORTENED[k]),
+            "row {k}"
+        );
     }
 }

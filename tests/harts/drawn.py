@@ -1,0 +1,213 @@
+"""Programs and scripts that are drawn at random. Harts call and jump through pointers in data, and store over these, over each
+other's return addresses and at addresses of the shadow stack."""
+
+import struct
+
+from program import EBREAK, ECALL, Program, addi, i_form, r_form, u_form
+from samples import SD, add, load, shift
+
+CALLED, JUMPED = 1, 2  # labels of classes
+POINTERS = 0x10000
+COUNT = 24  # of pointers
+FREE = range(5, 16)
+GATES = "gates"
+REGISTER = [(0, funct3) for funct3 in range(8)] + [(32, 0), (32, 5)] + [(1, funct3) for funct3 in range(8)]
+CALLS = (63, 64, 64, 64, 93, 5)
+
+
+class Drawn:
+    """A program that is being drawn: some functions, each with a gate, which call, jump and return."""
+
+    def __init__(self, rng, version):
+        self.rng, self.p = rng, Program(version)
+        self.names = ["f%d" % k for k in range(rng.randrange(2, 6))]
+        self.inside = 0
+
+    def built(self):
+        self.main()
+        for name in self.names:
+            self.function(name)
+        self.p.stop()
+        return self.p.built("main", self.data)
+
+    def data(self, labels):
+        """Pointers: most to gates, some to other places or beside one."""
+        draw = lambda: self.rng.choice(list(labels.values())) + self.rng.choice((0, 0, 0, 0, 1, 2, 3, 4, -4))
+        numbers = [draw() if self.rng.random() < 0.1 else labels[self.rng.choice(self.names)] for _ in range(COUNT)]
+        return struct.pack("<%dQ" % COUNT, *numbers)
+
+    def main(self):
+        """Goes by the hart's own pointer."""
+        p = self.p
+        p.label("main")
+        p.plain(shift(5, 10, 3), u_form(0x37, 6, 0x10), add(5, 5, 6), load(5, 0, 5))
+        p.ijump(5, self.rng.choice((0, 0, 1, 2)), JUMPED)
+
+    def function(self, name):
+        p, rng = self.p, self.rng
+        p.label(name)
+        p.gate(JUMPED)
+        if rng.random() < 0.5:
+            p.plain(addi(0, 0, 0))
+        start = len(p.units)
+        p.plain(addi(2, 2, -16))
+        p.store(SD, 1, 8, 2)
+        labels = []
+        for _ in range(rng.randrange(1, 9)):
+            self.inside += 1
+            labels.append("l%d" % self.inside)
+            p.label(labels[-1])
+            rng.choices(self.kinds(), (30, 12, 12, 10, 12, 10, 6, 6, 5, 5, 1, 2))[0](labels)
+        p.plain(load(1, 8, 2), addi(2, 2, 16))
+        p.returns()
+        return start
+
+    def kinds(self):
+        return (self.arithmetic, self.call, self.turn_pointer, self.turn_return, self.computed_call, self.system_call, self.branch,
+                self.load_slot, self.store_slot, self.computed_jump, self.break_off, self.load_anywhere)
+
+    def free(self):
+        return self.rng.choice(FREE)
+
+    def pointer(self, register):
+        """Loads a pointer, that of the hart or any."""
+        if self.rng.random() < 0.3:
+            self.p.plain(shift(register, 10, 3), u_form(0x37, 16, 0x10), add(register, register, 16), load(register, 0, register))
+        else:
+            self.p.plain(u_form(0x37, register, 0x10), load(register, 8 * self.rng.randrange(COUNT), register))
+
+    def arithmetic(self, labels):
+        rng = self.rng
+        for _ in range(rng.randrange(1, 4)):
+            kind = rng.randrange(4)
+            if kind == 0:
+                self.p.plain(addi(self.free(), self.free(), rng.randrange(-2048, 2048)))
+            elif kind == 1:
+                self.p.plain(i_form(0x13, rng.choice((2, 3, 4, 6, 7)), self.free(), self.free(), rng.randrange(4096)))
+            elif kind == 2:
+                top, funct3 = rng.choice(REGISTER)
+                self.p.plain(r_form(0x33, funct3, top, self.free(), self.free(), rng.choice((0, 1, 2, 3, *FREE))))
+            else:
+                top, funct3 = rng.choice(((0, 0), (0, 1), (0, 5), (32, 0), (32, 5), (1, 0), (1, 4), (1, 5), (1, 6), (1, 7)))
+                self.p.plain(r_form(0x3B, funct3, top, self.free(), self.free(), self.free()))
+
+    def call(self, labels):
+        self.p.call(self.rng.choice(self.names))
+
+    def turn_pointer(self, labels):
+        """Stores one pointer, or what stands in a register, over another."""
+        register = self.free()
+        if self.rng.random() < 0.8:
+            self.pointer(register)
+        self.p.plain(u_form(0x37, 17, 0x10))
+        self.p.store(self.rng.choice((SD, SD, SD, 0, 1, 2)), register, 8 * self.rng.randrange(COUNT), 17)
+
+    def turn_return(self, labels):
+        """Stores over what another hart keeps on its stack."""
+        self.pointer(7)
+        self.p.plain(u_form(0x37, 18, 0x100))
+        for _ in range(self.rng.randrange(1, 4)):
+            self.p.plain(r_form(0x33, 0, self.rng.choice((0, 32)), 19, 2, 18))
+        self.p.store(SD, 7, self.rng.choice((8, 24, -8)), 19)
+
+    def computed_call(self, labels):
+        register = self.free()
+        self.pointer(register)
+        self.p.icall(register, self.rng.choice((0, 0, 0, 1, 3, 4)), JUMPED)
+
+    def computed_jump(self, labels):
+        register = self.free()
+        self.pointer(register)
+        self.p.plain(load(1, 8, 2), addi(2, 2, 16))
+        self.p.ijump(register, 0, JUMPED)
+
+    def system_call(self, labels):
+        rng, p = self.rng, self.p
+        number = rng.choice(CALLS)
+        p.plain(addi(14, 10, 0), addi(10, 0, {63: 0, 64: 1}.get(number, 9) if rng.random() < 0.9 else 7))
+        p.plain(u_form(0x37, 11, 0x10 if rng.random() < 0.9 else 0x10000), addi(11, 11, rng.randrange(-4, 300)))
+        p.plain(addi(12, 0, rng.randrange(5)), addi(17, 0, number), ECALL, addi(10, 14, 0))
+
+    def branch(self, labels):
+        """Goes to a place of the same function that is there already, or over a word."""
+        rng = self.rng
+        funct3, rs1, rs2 = rng.choice((0, 1, 4, 5, 6, 7)), self.free(), rng.choice((0, 10, *FREE))
+        if rng.random() < 0.3:
+            target = rng.choice(labels)
+            rng.choice((self.p.near, self.p.branch))(funct3, rs1, rs2, target)
+        else:
+            self.inside += 1
+            after = "l%d" % self.inside
+            rng.choice((self.p.near, self.p.branch))(funct3, rs1, rs2, after)
+            self.p.plain(addi(self.free(), 10, 1))
+            self.p.label(after)
+
+    def load_slot(self, labels):
+        """Loads from the shadow stack."""
+        self.p.plain(u_form(0x37, 20, 0x60000 + self.rng.randrange(8) * 0x10), load(self.free(), 8 * self.rng.randrange(6), 20))
+
+    def store_slot(self, labels):
+        """Stores at an address of the shadow stack or of code; the mask leads it to data."""
+        self.p.plain(u_form(0x37, 20, self.rng.choice((0x60000, 0x60010, 0x60020, 0x60070, 0x40000, 0xFFFFF))))
+        self.p.store(SD, self.free(), 8 * self.rng.randrange(-2, 6), 20)
+
+    def break_off(self, labels):
+        self.p.plain(EBREAK)
+
+    def load_anywhere(self, labels):
+        self.p.plain(i_form(0x03, self.rng.randrange(7), self.free(), self.free(), self.rng.randrange(4096)))
+
+
+def program(rng, version):
+    return Drawn(rng, version).built()
+
+
+def changes(rng, built, harts, limit):
+    """Lines that change pointers, return addresses and what lies beside them, their steps not falling."""
+    lines, steps = [], min(limit, rng.choice((50, 150, 1000)))
+    for step in sorted(rng.randrange(steps + 1) for _ in range(rng.choice((0, 1, 3, 10, 40)))):
+        kind = rng.randrange(4)
+        if kind < 2:
+            address = POINTERS + 8 * rng.randrange(COUNT)
+        else:
+            address = 2**28 - rng.randrange(harts) * 2**20 - 16 * rng.randrange(1, 3) + 8
+        value = rng.choice(list(built.labels.values())) + rng.choice((0, 0, 0, 2, 4))
+        given = struct.pack("<Q", value)
+        if kind == 3:
+            address, given = rng.randrange(2**28 + 4096 - 16), rng.randbytes(rng.randrange(1, 9))
+        lines.append("at %d %08x %s" % (step, address, given.hex()))
+    return lines
+
+
+def turns(rng, harts):
+    """Turn lines: none, long ones, or many that are short."""
+    most = rng.choice((1, 3, 40, 200))
+    count = rng.choice((0, 3, 10, 40)) * (5 if most < 4 else 1)
+    return ["turn %d %d" % (rng.randrange(harts), rng.randint(1, most)) for _ in range(count)]
+
+
+def script(rng, built, limit):
+    """A script's text, or None."""
+    first = rng.choice((None, "rvcfi-script 1", *["rvcfi-script 2"] * 8))
+    if first is None:
+        return None
+    lines, harts = [first], 1
+    if first.endswith("2"):
+        harts = rng.randint(1, 8) if built.version == 2 or rng.random() < 0.3 else 1
+        lines += ["harts %d" % harts] + turns(rng, harts)
+    return "\n".join(lines + changes(rng, built, harts, limit) + ["end", ""]).encode()
+
+
+PIECES = (b"", b"0", b"1", b"9", b" ", b"\n", b"a", b"A", b"-", b"00", b"end", b"turn 0 1\n", b"harts 8\n", b"at 0 00010000 00\n",
+          b"1000000001", b"18446744073709551616", b"\xff", b"\t")
+
+
+def turned(rng, text):
+    """A text with a piece in place of another, or with a line moved."""
+    at = rng.randrange(len(text) + 1)
+    if rng.random() < 0.7:
+        return text[:at] + rng.choice(PIECES) + text[at + rng.randrange(3):]
+    lines = text.split(b"\n")
+    line = lines.pop(rng.randrange(len(lines)))
+    lines.insert(rng.randrange(len(lines) + 1), line)
+    return b"\n".join(lines)

@@ -1,0 +1,113 @@
+"""Hardened programs by their units: docs/MACHINE.md has the units, docs/FORMATS.md the image and the graph.
+
+A target is a label's name or an address. The words of instructions are those of bench/images.py.
+"""
+
+import struct
+import sys
+from pathlib import Path
+from typing import NamedTuple
+
+sys.path.insert(0, str(Path(__file__).parents[2] / "bench"))
+
+from images import CODE, OPENING, addi, branch, check, i_form, image_file, jal, prologue, push, r_form, s_form, u_form
+
+UNITS = {1: 0x40000040, 2: 0x40000050}
+CLOSING = {1: 0x40000038, 2: 0x40000048}
+HANDLERS = {CODE: "__cfi_bad_target", CODE + 4: "__cfi_bad_return", CODE + 8: "__cfi_deep"}
+ECALL, EBREAK = 0x00000073, 0x00100073
+
+
+class Built(NamedTuple):
+    """An image by its parts: its version, the words of its code, its data, its graph, where something starts, its labels."""
+    version: int
+    words: list
+    data: bytes
+    graph: bytes
+    starts: set
+    labels: dict
+
+    @property
+    def code(self):
+        return struct.pack("<%dI" % len(self.words), *self.words)
+
+    @property
+    def image(self):
+        return image_file(self.code, self.data, self.version)
+
+
+class Program:
+    """Units one after another, from the first address of a version's units on."""
+
+    def __init__(self, version):
+        self.version, self.at = version, UNITS[version]
+        self.units, self.labels, self.classes = [], {}, {}
+
+    def put(self, size, words, line=None):
+        """Adds a unit of so many words: what its words are, and its line of the graph, by its address and the labels."""
+        self.units.append((self.at, words, line))
+        self.at += 4 * size
+
+    def label(self, name):
+        self.labels[name] = self.at
+
+    def address(self, target):
+        return self.labels.get(target, target)
+
+    def gate(self, label):
+        self.classes.setdefault(label, []).append(self.at)
+        self.plain(u_form(0x37, 0, label))
+
+    def plain(self, *words):
+        for word in words:
+            self.put(1, lambda at, word=word: [word])
+
+    def edge(self, target):
+        return lambda at: "edge %08x %08x" % (at, self.address(target))
+
+    def branch(self, funct3, rs1, rs2, target):
+        """Goes to its target where the condition is not met."""
+        self.put(2, lambda at: [branch(funct3, rs1, rs2, 8), jal(0, at + 4, self.address(target))], self.edge(target))
+
+    def near(self, funct3, rs1, rs2, target):
+        """Goes to its target where the condition is met."""
+        self.put(1, lambda at: [branch(funct3, rs1, rs2, self.address(target) - at)], self.edge(target))
+
+    def jump(self, target):
+        self.put(1, lambda at: [jal(0, at, self.address(target))], self.edge(target))
+
+    def stop(self):
+        self.put(1, lambda at: [jal(0, at, CODE)])
+
+    def store(self, funct3, rs2, imm, rs1):
+        self.put(4, lambda at: [addi(31, rs1, imm), i_form(0x13, 1, 31, 31, 36), i_form(0x13, 5, 31, 31, 36),
+                                s_form(funct3, 31, rs2, 0)])
+
+    def call(self, target):
+        self.put(8, lambda at: push(at) + [jal(1, at + 28, self.address(target))],
+                 lambda at: "call %08x %08x" % (at, self.address(target)))
+
+    def ijump(self, rs1, imm, label):
+        self.put(13, lambda at: check(at, rs1, imm, label) + [i_form(0x67, 0, 0, 31, 0)],
+                 lambda at: "site %08x jump %05x" % (at, label))
+
+    def icall(self, rs1, imm, label):
+        self.put(20, lambda at: check(at, rs1, imm, label) + push(at + 48) + [i_form(0x67, 0, 1, 31, 0)],
+                 lambda at: "site %08x call %05x" % (at, label))
+
+    def returns(self):
+        self.put(5, lambda at: [i_form(0x03, 3, 31, 3, -8), addi(3, 3, -8), branch(0, 31, 1, 8), jal(0, at + 12, CODE + 4),
+                                i_form(0x67, 0, 0, 31, 0)])
+
+    def built(self, entry, data=b""):
+        """The image that is entered at a label. Where data are a function, they are what it makes of the labels."""
+        words = prologue(self.address(entry), self.version)
+        lines = ["call %08x %08x" % (OPENING, self.address(entry))]
+        for at, unit, line in self.units:
+            words += unit(at)
+            lines += [line(at)] if line else []
+        heads = ["class %05x%s" % (label, "".join(" %08x" % at for at in gates)) for label, gates in sorted(self.classes.items())]
+        text = ["rvcfi-graph 1", "code %08x %08x" % (CODE, 4 * len(words))] + heads + lines + ["end", ""]
+        starts = {at for at, _, _ in self.units} | set(HANDLERS) | {OPENING, CLOSING[self.version]}
+        data = data(self.labels) if callable(data) else data
+        return Built(self.version, words, data, "\n".join(text).encode(), starts, dict(self.labels))

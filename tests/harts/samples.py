@@ -1,0 +1,118 @@
+"""The programs for several harts of crates/sample_programs, unit by unit: their sources for binutils are in tests/units."""
+
+import struct
+
+from program import EBREAK, ECALL, Program, addi, i_form, r_form, u_form
+
+LD, SD = 3, 3
+BNE, BEQ = 1, 0
+ADDRESS, VALUE, POINTER = 128, 136, 64  # in data: of hart 0 its address and its value, and of all harts the pointer to f or g
+
+
+def load(rd, imm, rs1):
+    return i_form(0x03, LD, rd, rs1, imm)
+
+
+def shift(rd, rs1, amount):
+    return i_form(0x13, 1, rd, rs1, amount)
+
+
+def add(rd, rs1, rs2):
+    return r_form(0x33, 0, 0, rd, rs1, rs2)
+
+
+def a_of_harts():
+    """Exits with 7."""
+    p = Program(2)
+    p.label("main")
+    p.plain(addi(10, 0, 7), addi(17, 0, 93), ECALL)
+    p.stop()
+    return p.built("main")
+
+
+def shared():
+    """Hart 0 exits with the double word at 10000h, into which each other hart stores its number."""
+    p = Program(2)
+    p.label("main")
+    p.plain(u_form(0x37, 5, 0x10))
+    p.near(BNE, 10, 0, "other")
+    p.plain(load(10, 0, 5))
+    p.returns()
+    p.label("other")
+    p.store(SD, 10, 0, 5)
+    p.returns()
+    p.stop()
+    return p.built("main")
+
+
+JOBS_OF_HARTS = "caller storer caller storer echo loader breaker diver".split()
+
+
+def job_data(labels):
+    """The job of each hart, the pointer, and addresses and values: hart 1 turns the pointer to g, hart 3 the address to which
+    the first call of hart 0 returns; hart 5 loads hart 0's oldest site."""
+    pairs = {1: (0x10000 + POINTER, labels["g"]), 3: (0x0FFFFFF8, labels["g"]), 5: (0x60000008, 0)}
+    numbers = [labels[job] for job in JOBS_OF_HARTS] + [labels["f"]] + [0] * 7
+    for hart in range(8):
+        numbers += pairs.get(hart, (0x10200, 0))
+    return struct.pack("<%dQ" % len(numbers), *numbers)
+
+
+def jobs():
+    """Each hart goes to the job that its pointer at 10000h names."""
+    p = Program(2)
+    own = lambda rd: p.plain(shift(5, 10, 4), u_form(0x37, 6, 0x10), add(rd, 5, 6))
+
+    def begin(name, label=1):
+        p.label(name)
+        p.gate(label)
+
+    p.label("main")
+    p.plain(shift(5, 10, 3), u_form(0x37, 6, 0x10), add(5, 5, 6), load(5, 0, 5))
+    p.ijump(5, 0, 1)
+    begin("caller")
+    p.plain(addi(2, 2, -16))
+    p.store(SD, 1, 8, 2)
+    own(5)
+    p.plain(load(6, ADDRESS, 5), load(7, VALUE, 5))
+    p.store(SD, 7, 0, 6)
+    p.plain(u_form(0x37, 5, 0x10), load(5, POINTER, 5))
+    p.icall(5, 0, 2)
+    p.plain(load(1, 8, 2), addi(2, 2, 16))
+    p.returns()
+    for name, answer in (("f", 1), ("g", 2)):
+        begin(name, 2)
+        p.plain(addi(10, 0, answer))
+        p.returns()
+    begin("storer")
+    own(5)
+    p.label("again")
+    p.plain(load(6, ADDRESS, 5), load(7, VALUE, 5))
+    p.store(SD, 7, 0, 6)
+    p.jump("again")
+    begin("loader")
+    own(5)
+    p.plain(load(6, ADDRESS, 5), load(10, 0, 6))
+    p.returns()
+    begin("echo")
+    own(11)
+    p.plain(addi(11, 11, ADDRESS))
+    p.label("more")
+    p.plain(addi(10, 0, 0), addi(12, 0, 2), addi(17, 0, 63), ECALL, addi(12, 10, 0))
+    p.near(BEQ, 12, 0, "done")
+    p.plain(addi(10, 0, 1), addi(17, 0, 64), ECALL)
+    p.jump("more")
+    p.label("done")
+    p.returns()
+    begin("breaker")
+    p.plain(EBREAK)
+    p.stop()
+    begin("diver")
+    p.label("down")
+    p.call("down")
+    p.stop()
+    begin("waiter")
+    p.label("wait")
+    p.jump("wait")
+    p.stop()
+    return p.built("main", job_data)
