@@ -68,6 +68,7 @@ RETURNS = with_tables([Section(PROGBITS, code_of(addi(10, 0, 7), 0x00008067), CO
 HARDENED = [addi(10, 0, 7), 0xFF81BF83, 0xFF818193, 0x001F8463, 0xFB5FF06F, 0x000F8067, 0xFA9FF06F]
 MAP = b"rvcfi-map 1\nat 40000040 0001 00000000\nat 40000044 0001 00000004\nat 40000058 0001 00000008\nend\n"
 REWRITTEN = b"rewritten code 92 data 0 classes 0 sites 0\n"
+USAGE = b"usage: rvcfi rewrite|verify|run|compare|demo|harden\n"
 
 
 def hardened_files():
@@ -243,14 +244,13 @@ compare same 1
 
 
 def words_of_other_kinds(cases):
-    usage = b"usage: rvcfi rewrite|verify|run|compare|demo\n"
-    cases.expect("no words", [], 2, usage)
-    cases.expect("words that are not text", ["verify", b"\xff\xfe", "a.graph"], 2, usage)
-    cases.expect("words of thousands", ["verify"] * 3000, 2, usage)
+    cases.expect("no words", [], 2, USAGE)
+    cases.expect("words that are not text", ["verify", b"\xff\xfe", "a.graph"], 2, USAGE)
+    cases.expect("words of thousands", ["verify"] * 3000, 2, USAGE)
     cases.expect("the version", ["--version"], 0, b"rvcfi 1.0.0\n")
-    cases.expect("a file that is named as help is asked for", ["verify", "a.img", "-h"], 2, usage)
+    cases.expect("a file that is named as help is asked for", ["verify", "a.img", "-h"], 2, USAGE)
     cases.expect("such a file behind `--`", ["verify", "--", "a.img", "-h"], 3, b"read fault -h\n")
-    cases.expect("a demonstration of no number", ["demo", "-1"], 2, usage)
+    cases.expect("a demonstration of no number", ["demo", "-1"], 2, USAGE)
     cases.expect("a demonstration", ["demo", "1"], 0, DEMONSTRATION)
 
 
@@ -320,10 +320,10 @@ def read_or_none(path):
         return None
 
 
-def rewrites(cases, what, words, status, text, written, **options):
+def rewrites(cases, what, words, status, text, written, command=("rewrite",), **options):
     """The program ends in this way, and of the image, the graph and the map those that are named are whole, and no other is
     there. What it wrote goes after that."""
-    cases.expect(what, ["rewrite"] + words, status, text, **options)
+    cases.expect(what, [*command] + words, status, text, **options)
     paths = [cases.path(word) for word in words[3:]]
     whole = hardened_files()
     got = [None if os.path.isdir(path) or path.startswith("/dev") else read_or_none(path) for path in paths]
@@ -336,6 +336,7 @@ def rewrites(cases, what, words, status, text, written, **options):
 def hardened_programs(cases):
     names = ["i", "g", "m"]
     rewrites(cases, "an object", ["b.o", "main", "none"] + names, 0, REWRITTEN, (0, 1, 2))
+    rewrites(cases, "an object in a form", ["b.o", "main", "none"] + names, 0, REWRITTEN, (0, 1, 2), ("harden", "plain"))
     with open(cases.path("b.o"), "rb") as source, open(cases.path("own"), "wb") as copy:
         copy.write(source.read())
     rewrites(cases, "an object as its own image", ["own", "main", "none", "own", "g", "m"], 0, REWRITTEN, (0, 1, 2))
@@ -350,7 +351,8 @@ def hardened_programs(cases):
     writer.join(1)
     rewrites(cases, "a refused object", ["a.img", "main", "none"] + names, 1, b"refused 2 NotRelocatable 2\n", ())
     rewrites(cases, "no such object", ["absent", "main", "none"] + names, 3, b"read fault absent\n", ())
-    rewrites(cases, "one name for two", ["b.o", "main", "none", "i", "g", "i"], 2, b"usage: rvcfi rewrite|verify|run|compare|demo\n", ())
+    rewrites(cases, "no such form", ["b.o", "main", "none"] + names, 2, USAGE, (), ("harden", "hart"))
+    rewrites(cases, "one name for two", ["b.o", "main", "none", "i", "g", "i"], 2, USAGE, ())
 
 
 def hardened_programs_that_are_not_written(cases):

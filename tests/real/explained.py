@@ -156,6 +156,23 @@ def of_exploit(asked, made):
                   "own run leaves", "take_message+" if attack == "return" else "main+")
 
 
+class ForHarts(Hardened):
+    """An object, hardened for several harts."""
+    command = ["harden", "harts"]
+
+
+def of_harts(asked, program, made):
+    """The same image for several harts, and a run in which hart 1 takes five steps first, within the opening."""
+    made = ForHarts(asked.tool, made.object)
+    of_image(asked, program, made)
+    script = asked.bench.asked.file("two.script", b"rvcfi-script 2\nharts 2\nturn 1 5\nend\n")
+    given = made.input_file(ATTACKS["return"](made.gate("open_door")))
+    report = made.asked(["run", made.image, made.graph, script, given, programs.STEPS])[1]
+    asked.has("several harts", asked.told("report", made.object, made.graph, made.map, given=report), " steps, 2 harts\n",
+              "Hart 1 began 1 units; the last of them, the newest at the end:\n    4000000c  the opening\nHart 0 ended the run:\n",
+              "in __cfi_bad_return: what failed is take_message+")
+
+
 def of_system_calls(asked, made):
     """Who calls the system, by what start.s has."""
     text = asked.told("graph", made.object, made.graph, made.map)
@@ -217,6 +234,7 @@ def try_all(asked):
         if program.name == "visitors":
             of_exploit(asked, made)
             of_system_calls(asked, made)
+            of_harts(asked, program, made)
 
 
 def main():

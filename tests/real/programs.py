@@ -177,6 +177,16 @@ def symbol(path, wanted):
     raise KeyError(wanted)
 
 
+def segments(path):
+    """The address and the content of each part of a linked program that is loaded."""
+    with open(path, "rb") as file:
+        content = file.read()
+    start, = struct.unpack_from("<Q", content, 32)
+    count, = struct.unpack_from("<H", content, 56)
+    headers = [struct.unpack_from("<IIQQQQQQ", content, start + 56 * k) for k in range(count)]
+    return [(header[3], content[header[2]:header[2] + header[5]]) for header in headers if header[0] == 1]
+
+
 def code_size(path):
     """The bytes of a linked program's code."""
     lines = must([binutils("size"), "-A", path]).decode().splitlines()
@@ -185,11 +195,12 @@ def code_size(path):
 
 class Hardened:
     """A hardened object: its files, and what the tool says of them."""
+    command, entry = ["rewrite"], ENTRY
 
     def __init__(self, tool_path, joined_object):
         self.tool, self.object = tool_path, joined_object
         self.image, self.graph, self.map = (joined_object.replace("_joined.o", end) for end in (".img", ".graph", ".map"))
-        self.told = self.asked(["rewrite", self.object, ENTRY, "none", self.image, self.graph, self.map])
+        self.told = self.asked(self.command + [self.object, self.entry, "none", self.image, self.graph, self.map])
 
     def asked(self, words, given=b""):
         done = run([self.tool] + words, given)
@@ -204,16 +215,16 @@ class Hardened:
     def verified(self):
         return self.asked(["verify", self.image, self.graph])
 
-    def run(self, given):
+    def run(self, given, script="none", steps=STEPS):
         """The status, the output, and the words of each line of the report of a run."""
-        status, text = self.asked(["run", self.image, self.graph, "none", self.input_file(given), STEPS])
+        status, text = self.asked(["run", self.image, self.graph, script, self.input_file(given), str(steps)])
         first, rest = text.split(b"\n", 1)
         length = int(first.split()[1])
         lines = [line.split() for line in rest[length + 1:].decode().splitlines()]
         return status, rest[:length], {line[0]: line[1:] for line in lines}
 
     def compared(self, given):
-        return self.asked(["compare", self.object, ENTRY, "none", self.image, self.map, self.input_file(given), STEPS])
+        return self.asked(["compare", self.object, self.entry, "none", self.image, self.map, self.input_file(given), STEPS])
 
     def gate(self, name):
         """The address of a function in the image, by the map."""

@@ -8,8 +8,9 @@ quotients, at -O0, -O1, -O2, -O3 and -Os, and its files are joined by `ld -r`. W
 and its status must be those of the same files compiled for the host, also under qemu-riscv64 (the plain program, and the
 hardened image) and in the machine; the steps of the hardened image must be those that qemu counts. `visitors` is attacked
 twice: the plain program must open the door, the hardened one must end in the named handler. One line a case has the steps
-and the bytes of code, plain and hardened. Then objects that are refused must be refused as docs/COMPILING.md says, and images
-that qemu's user mode does not confine must end as docs/MACHINE.md says.
+and the bytes of code, plain and hardened. Then objects that are refused must be refused as docs/COMPILING.md says, images
+that qemu's user mode does not confine must end as docs/MACHINE.md says, and `clerks` is hardened for several harts, run under
+turns, and attacked by one hart from another.
 
 The program is crates/rvcfi/out/rvcfi where none is named, as `rt ci` or `rt run` leaves it. It needs Python 3.9, Linux and
 what docs/COMPILING.md lists. Where a tool is missing, what it is for is told as not run. The last line counts what was
@@ -27,6 +28,7 @@ import tempfile
 sys.dont_write_bytecode = True
 
 import beyond
+import harts
 import pitfalls
 import programs
 import refusals
@@ -134,8 +136,10 @@ def try_all(found, tool, folder):
 
 
 def try_more(found, tool, folder):
-    """The failures of what goes wrong on the way from C and of what qemu does beyond the machine, and how much passed."""
-    parts = [pitfalls.tried(tool, folder, found), beyond.tried(tool, folder)]
+    """The failures of what goes wrong on the way from C, of what qemu does beyond the machine and of the program for several
+    harts, and how much passed."""
+    with_products = [each for each in found if each.processor == "rv64im"]
+    parts = [pitfalls.tried(tool, folder, found), beyond.tried(tool, folder), harts.tried(tool, folder, with_products)]
     return [line for failed, _ in parts for line in failed], sum(asked - len(failed) for failed, asked in parts)
 
 

@@ -1,9 +1,9 @@
 #!/usr/bin/env python3
 """Tells where `version_1` stands: `python3 tests/versions/named.py`.
 
-Proofs and definitions speak of a variable profile. `version_1` may stand only in the files that named.txt lists: contracts
-of calls, what a public promise of version 1 says, what is made for version 1, and worked rows. A file that says it and is
-not listed fails, and so does one that is listed and does not say it.
+Contracts, definitions and proofs speak of a variable profile, or of that of an image or of a form. `version_1` may stand only
+in the files that named.txt lists: what goes by cases on the profiles, and worked rows. A file that says it and is not listed
+fails, and so does one that is listed and does not say it.
 """
 
 import pathlib
