@@ -8,6 +8,7 @@ import struct
 
 CODE, BAD_TARGET, BAD_RETURN, DEEP = 0x40000000, 0x40000000, 0x40000004, 0x40000008
 OPENING, ENTRY_CALL, UNITS = 0x4000000C, 0x40000034, 0x40000040
+UNITS_OF_HARTS = 0x40000050  # in images of version 2, which are for several harts
 PAGE = 0x1000
 
 # How many words each kind of unit has, and how often it is drawn, of 100. The last unit is a stop.
@@ -87,9 +88,14 @@ def check(at, rs1, imm, label):
             branch(0, 30, 4, 8), jal(0, at + 44, BAD_TARGET)]
 
 
-def prologue(entry):
-    at = OPENING + 12
-    words = [0x00100073] * 3 + [u_form(0x37, 2, 0x10000), u_form(0x37, 3, 0x60000), addi(3, 3, 8)]
+def prologue(entry, version=1):
+    """The words before the first unit. In version 2 x2 and x3 are a hart's own, by its number in x10."""
+    stack, shadow = [u_form(0x37, 2, 0x10000)], [u_form(0x37, 3, 0x60000)]
+    if version == 2:
+        stack += [i_form(0x13, 1, 31, 10, 20), r_form(0x33, 0, 0x20, 2, 2, 31)]
+        shadow += [i_form(0x13, 1, 31, 10, 16), r_form(0x33, 0, 0, 3, 3, 31)]
+    words = [0x00100073] * 3 + stack + shadow + [addi(3, 3, 8)]
+    at = CODE + 4 * len(words)
     words += push(at) + [jal(1, at + 28, entry)]
     return words + [addi(17, 0, 93), 0x00000073]
 
@@ -138,12 +144,13 @@ def unit_words(rng, kind, at, label, target):
             i_form(0x67, 0, 0, 31, 0)]
 
 
-def image_file(code, data):
+def image_file(code, data, version=1):
+    shadow = 0x10000 if version == 1 else 0x80000
     start = PAGE + (len(code) + PAGE - 1) // PAGE * PAGE
     head = b"\x7fELF\x02\x01\x01" + bytes(9)
     head += struct.pack("<HHIQQQIHHHHHH", 2, 243, 1, OPENING, 64, 0, 0, 64, 56, 3, 0, 0, 0)
     for flags, offset, address, filesz, memsz in (
-        (6, start, 0x10000, len(data), 0xFFF1000), (5, PAGE, CODE, len(code), 0x100000), (6, 0, 0x60000000, 0, 0x10000)
+        (6, start, 0x10000, len(data), 0xFFF1000), (5, PAGE, CODE, len(code), 0x100000), (6, 0, 0x60000000, 0, shadow)
     ):
         head += struct.pack("<IIQQQQQQ", 1, flags, offset, address, address, filesz, memsz, PAGE)
     return head.ljust(PAGE, b"\0") + code.ljust(start - PAGE, b"\0") + data

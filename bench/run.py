@@ -1,6 +1,6 @@
 #!/usr/bin/env python3
 """Times `rvcfi run` on a loop and on compiled programs, beside a plain interpreter of the same machine, and prints their ratios;
-then the memory that a page of data takes which a program stores to.
+then runs of one hart and of eight beside an image of version 1, and the memory that a page of data takes which a program stores to.
 
     python3 bench/run.py [--program PATH] [--steps N] [--runs N]
 
@@ -21,11 +21,13 @@ from typing import Callable, NamedTuple
 
 sys.dont_write_bytecode = True
 HERE = os.path.dirname(os.path.abspath(__file__))
-REAL = os.path.join(HERE, "..", "tests", "real")
-sys.path.insert(0, REAL)
+TESTS = os.path.join(HERE, "..", "tests")
+REAL = os.path.join(TESTS, "real")
+sys.path[:0] = [REAL, os.path.join(TESTS, "harts")]
 
 import programs
 from images import CODE, OPENING, PAGE, UNITS, addi, branch, i_form, image_file, jal, prologue, r_form, s_form, u_form
+from program import ECALL, Program
 from verify import peak_memory
 
 PROGRAM = os.path.join(HERE, "..", "crates", "rvcfi", "out", "rvcfi")
@@ -33,6 +35,7 @@ MANY, FEW = u_form(0x37, 5, 0x10000), addi(5, 0, 100)  # the loop's count, put i
 USAGE, LIMIT = 2, 12  # statuses of rvcfi
 MOST_STEPS = 1000000000
 MOST_PAGES = 2001
+HARTS, HART_STEPS = 8, 1000000  # of the runs of several harts
 LEVEL = "-O2"
 ROW = "%-9s %10s   %9s %9s   %9s %9s   %6s %6s   %s"
 
@@ -145,6 +148,48 @@ def toucher(pages):
     return image_file(code, b""), "\n".join(lines).encode()
 
 
+def looping(version):
+    """A program in which each hart counts x5 down, three instructions a turn as `loop`."""
+    p = Program(version)
+    p.label("main")
+    p.plain(MANY)
+    p.label("again")
+    p.plain(addi(5, 5, -1))
+    p.branch(0, 5, 0, "again")
+    p.plain(addi(10, 0, 7), addi(17, 0, 93), ECALL)
+    p.stop()
+    return p.built("main")
+
+
+def working(version):
+    """A program in which each hart stores, loads and calls in each turn, 19 instructions with those of the callee."""
+    p = Program(version)
+    p.label("main")
+    p.plain(MANY)
+    p.label("again")
+    p.plain(addi(5, 5, -1))
+    p.store(3, 5, -8, 2)
+    p.plain(i_form(0x03, 3, 6, 2, -8))
+    p.call("callee")
+    p.near(1, 5, 0, "again")
+    p.stop()
+    p.label("callee")
+    p.plain(addi(7, 7, 1))
+    p.returns()
+    p.stop()
+    return p.built("main")
+
+
+def turn_scripts():
+    """Names, versions of the image and scripts: of version 1, and of version 2 one hart, eight with one long turn each, and eight
+    that alternate at each step."""
+    long = ["turn %d %d" % (hart, HART_STEPS // HARTS) for hart in range(HARTS)]
+    short = ["turn %d 1" % hart for hart in range(HARTS)] * (HART_STEPS // HARTS)
+    parts = ("one hart", 1, []), ("long turns", HARTS, long), ("of a step", HARTS, short)
+    scripts = [(name, 2, "\n".join(["rvcfi-script 2", "harts %d" % harts, *lines, "end", ""])) for name, harts, lines in parts]
+    return [("version 1", 1, None)] + scripts
+
+
 def write(path, content):
     with open(path, "wb") as out:
         out.write(content)
@@ -241,6 +286,31 @@ def compiled_cases(tool, folder):
     return cases
 
 
+def hart_commands(tool, folder, name, build):
+    """The commands that run a program for several harts, by each script for all steps and for none."""
+    commands = []
+    for turns, version, text in turn_scripts():
+        built = build(version)
+        paths = write_pair(folder, "%s_%d" % (name, version), (built.image, built.graph))
+        script = write(os.path.join(folder, turns), text.encode()) if text else "none"
+        commands += [[tool, "run"] + paths + [script, "none", str(steps)] for steps in (HART_STEPS, 0)]
+    return commands
+
+
+def print_harts(tool, folder, runs):
+    """The steps a second of one hart and of eight, without the start and the reading of the script, beside those of the same
+    program in an image of version 1."""
+    for name, build in (("loop", looping), ("worker", working)):
+        commands = hart_commands(tool, folder, name, build)
+        least = [float("inf")] * len(commands)
+        for _ in range(runs):
+            least = [min(before, called(command, (LIMIT,))[0]) for before, command in zip(least, commands)]
+        rates = [HART_STEPS / (full - start) for full, start in zip(least[::2], least[1::2])]
+        for k, (turns, _, _) in enumerate(turn_scripts()):
+            print("%-9s %-10s %10d %9.2f ms, %9.2f ms of them the start %9.1f M/s, %.2f of version 1's" % (
+                name, turns, HART_STEPS, 1000 * least[2 * k], 1000 * least[2 * k + 1], rates[k] / 1e6, rates[k] / rates[0]))
+
+
 def print_memory(tool, folder):
     """The peak memory of runs that store to one page and to many, and what each page more takes."""
     peaks = []
@@ -286,6 +356,8 @@ def main():
         print(ROW % ("", "steps", "run ms", "other ms", "run M/s", "other M/s", "ratio", "alone", ""))
         for case, is_right in cases:
             print_row(case, pair.same(case, is_right), pair.times(case, options.runs))
+        print()
+        print_harts(tool, folder, options.runs)
         print_memory(tool, folder)
 
 
