@@ -17,7 +17,7 @@ def goes(named, unit):
 def lines(named, disassembly, words):
     """A line a unit, and a heading for each function and each label."""
     place = None
-    for unit in units.split(words):
+    for unit in units.split(words, named.map.prologue):
         here = named.map.place(unit.address)
         if here is None:
             yield "%08x  %-26s %s" % (unit.address, unit.kind, goes(named, unit))

@@ -1,6 +1,6 @@
 """The report of a run, or another answer about an image, in names."""
 
-from explain.texts import CLOSING, HANDLERS, OPENING, report_of
+from explain.texts import HANDLERS, OPENING, report_of
 
 CAUSES = {
     "__cfi_bad_target": "the address that it was to go to is no target of its class",
@@ -20,7 +20,7 @@ def name_of(named, address):
     """The name of an address of a walk."""
     if address in HANDLERS:
         return HANDLERS[address]
-    if address in (OPENING, CLOSING):
+    if address in (OPENING, named.map.prologue.closing):
         return "the opening" if address == OPENING else "the closing"
     return named.place(address)
 
@@ -48,13 +48,37 @@ def lines(named, disassembly, text):
 
 
 def of_run(named, disassembly, text):
-    output, report = report_of(text)
+    output, lines = report_of(text)
+    report = {line[0]: line[1:] for line in lines}
+    if "harts" in report:
+        yield from of_harts(named, disassembly, len(output), report, lines)
+        return
     trail = [int(word, 16) for word in report.get("trail", [])]
     yield "%d bytes of output, %s steps, %s units begun" % (len(output), *report["steps"], *report["walk"])
     yield "The last of them, the newest at the end:"
+    yield from of_trail(named, disassembly, trail)
+    yield from of_stop(named, disassembly, report["stop"], trail)
+
+
+def of_trail(named, disassembly, trail):
     for address in trail:
         yield ("    %08x  %-34s %s" % (address, name_of(named, address), instruction(named, disassembly, address))).rstrip()
-    yield from of_stop(named, disassembly, report["stop"], trail)
+
+
+def of_harts(named, disassembly, length, report, lines):
+    """A run of several harts: what each has begun, and which one ended it."""
+    yield "%d bytes of output, %s steps, %s harts" % (length, *report["steps"], *report["harts"])
+    walks = {line[1]: line[2] for line in lines if line[0] == "walk"}
+    trails = {line[1]: [int(word, 16) for word in line[2:]] for line in lines if line[0] == "trail"}
+    for hart, count in walks.items():
+        yield "Hart %s began %s units; the last of them, the newest at the end:" % (hart, count)
+        yield from of_trail(named, disassembly, trails.get(hart, []))
+    stop = report["stop"]
+    if stop[0] == "hart":
+        yield "Hart %s ended the run:" % stop[1]
+        yield from of_stop(named, disassembly, stop[2:], trails.get(stop[1], []))
+    else:
+        yield from of_stop(named, disassembly, stop, [])
 
 
 def of_stop(named, disassembly, stop, trail):

@@ -5,20 +5,30 @@ import struct
 from typing import NamedTuple
 
 HANDLERS = {0x40000000: "__cfi_bad_target", 0x40000004: "__cfi_bad_return", 0x40000008: "__cfi_deep"}
-CODE, OPENING, CLOSING, UNITS = 0x40000000, 0x4000000C, 0x40000038, 0x40000040
+CODE, OPENING = 0x40000000, 0x4000000C
 
 
 class Wrong(Exception):
     """A file or a text that is not what it should be."""
 
 
-def words_of(path, head):
-    """The words of each line between a file's first line and `end`."""
+class Prologue(NamedTuple):
+    """How many words the opening has, and where the closing and the first unit stand."""
+    opening: int
+    closing: int
+    units: int
+
+
+PROLOGUES = {"rvcfi-map 1": Prologue(11, 0x40000038, 0x40000040), "rvcfi-map 2 harts": Prologue(15, 0x40000048, 0x40000050)}
+
+
+def words_of(path, *heads):
+    """A file's first line, and the words of each line between that and `end`."""
     with open(path, encoding="utf-8", errors="surrogateescape") as file:
         lines = file.read().split("\n")
-    if lines[0] != head:
-        raise Wrong("%s is no file that begins with '%s'" % (path, head))
-    return [line.split(" ") for line in lines[1:lines.index("end") if "end" in lines else None] if line]
+    if lines[0] not in heads:
+        raise Wrong("%s is no file that begins with '%s'" % (path, "' or '".join(heads)))
+    return lines[0], [line.split(" ") for line in lines[1:lines.index("end") if "end" in lines else None] if line]
 
 
 class Site(NamedTuple):
@@ -32,7 +42,7 @@ class Graph:
 
     def __init__(self, path):
         self.classes, self.sites, self.edges, self.calls = {}, [], [], []
-        for first, *rest in words_of(path, "rvcfi-graph 1"):
+        for first, *rest in words_of(path, "rvcfi-graph 1")[1]:
             if first == "class":
                 self.classes[rest[0]] = [int(word, 16) for word in rest[1:]]
             elif first == "site":
@@ -48,10 +58,12 @@ class Graph:
 
 
 class Map:
-    """The places of an object by the addresses that `rewrite` gave them."""
+    """The places of an object by the addresses that `rewrite` or `harden` gave them, and what stands before them."""
 
     def __init__(self, path):
-        rows = [[int(word, 16) for word in line[1:]] for line in words_of(path, "rvcfi-map 1")]
+        first, lines = words_of(path, *PROLOGUES)
+        self.prologue = PROLOGUES[first]
+        rows = [[int(word, 16) for word in line[1:]] for line in lines]
         self.gates = [row[0] for row in rows]
         self.places = [(row[1], row[2]) for row in rows]
 
@@ -98,4 +110,4 @@ def report_of(text):
     first, _, rest = text.partition(b"\n")
     length = int(first.split()[1])
     lines = [line.split() for line in rest[length + 1:].decode("ascii", "replace").splitlines()]
-    return rest[:length], {line[0]: line[1:] for line in lines if line}
+    return rest[:length], [line for line in lines if line]

@@ -2,7 +2,7 @@
 
 from typing import NamedTuple
 
-from explain.texts import CLOSING, CODE, HANDLERS, OPENING, UNITS
+from explain.texts import CODE, HANDLERS, OPENING
 
 LUI, BRANCH, JAL, STORE, SYSTEM = 0x37, 0x63, 0x6F, 0x23, 0x73
 ROOM, MASK, RETURN = 0x03019F13, 0xFFCFFF93, 0xFF81BF83  # the words that tell calls, checks and returns
@@ -67,12 +67,14 @@ def longer_unit(words, index, at, word, following):
     return Unit(at, "plain", 1)
 
 
-def split(words):
+def split(words, prologue):
     """The prologue's parts and then the units, one behind another."""
+    last = (OPENING - CODE) // 4 + prologue.opening - 1
     found = [Unit(at, "handler " + name, 1) for at, name in HANDLERS.items()]
-    found.append(Unit(OPENING, "opening", 11, jal_target(words[13], CODE + 52) if len(words) > 13 else None))
-    found.append(Unit(CLOSING, "closing", 2))
-    index = (UNITS - CODE) // 4
+    entry = jal_target(words[last], CODE + 4 * last) if len(words) > last else None
+    found.append(Unit(OPENING, "opening", prologue.opening, entry))
+    found.append(Unit(prologue.closing, "closing", 2))
+    index = (prologue.units - CODE) // 4
     while index < len(words):
         unit = unit_at(words, index)
         found.append(unit)
