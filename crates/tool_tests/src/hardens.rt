@@ -57,16 +57,16 @@ static TEXTS: [(&str, &[u8]); 8] = [
 ];
 
 /// Names of images that exit with 7 after so many steps as the name says, and how many instructions they have for that before the
-/// last three; an opening has 11 steps, and one for several harts 15.
+/// last three; an opening has 10 steps, and one for several harts 14.
 static IMAGES: [(&str, u32, bool); 8] = [
-    ("76.img", 62, false),
-    ("77.img", 63, false),
-    ("80.img", 66, false),
-    ("81.img", 67, false),
-    ("76_of_harts.img", 58, true),
-    ("77_of_harts.img", 59, true),
-    ("80_of_harts.img", 62, true),
-    ("81_of_harts.img", 63, true),
+    ("76.img", 63, false),
+    ("77.img", 64, false),
+    ("80.img", 67, false),
+    ("81.img", 68, false),
+    ("76_of_harts.img", 59, true),
+    ("77_of_harts.img", 60, true),
+    ("80_of_harts.img", 63, true),
+    ("81_of_harts.img", 64, true),
 ];
 
 /// Command lines, with the status and the text of each, in the form of `calls::check`. A program that takes three steps has an
