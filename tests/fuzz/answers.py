@@ -13,7 +13,7 @@ REFUSALS = {
     12: rb"BadPair N N", 13: rb"RelocKind N N N", 14: rb"RelocPlace N N", 15: rb"Undefined N", 16: rb"BadCodePointer N N",
     17: rb"NoEntry", 18: rb"Policy N", 19: rb"CodeTooLarge N", 20: rb"DataTooLarge N N", 21: rb"RelocRange N N",
     22: rb"(?:Short|Byte|Long) N", 23: rb"Graph N " + REASON, 24: rb"Map N (?:Place|" + REASON + rb")",
-    25: rb"Script N " + REASON,
+    25: rb"Script N " + REASON, 26: rb"Harts [2-8]",
 }
 RULES = rb"(?:Prologue|Unit|Target|Unlisted|Unused|Site|Gate|Astray|End)"
 REJECTED = [rb"rejected " + RULES + rb" " + ADDRESS, rb"rejected Length N N"]
@@ -26,8 +26,11 @@ def refused(*numbers):
 
 
 def report(stop):
-    """A run's report, whose output is cut out."""
-    return [rb"output N\n\nstop " + stop + rb"\nsteps N\nwalk N\ntrail(?: " + ADDRESS + rb"){0,16}"]
+    """A run's report, whose output is cut out: of an image for one hart, or for several."""
+    trail, hart = rb"(?: " + ADDRESS + rb"){0,16}", rb"" if stop == rb"limit" else rb"hart [0-7] "
+    walks = rb"(?:\nwalk [0-7] N\ntrail [0-7]" + trail + rb"){1,8}"
+    return [rb"output N\n\nstop " + stop + rb"\nsteps N\nwalk N\ntrail" + trail,
+            rb"output N\n\nharts [1-8]\nstop " + hart + stop + rb"\nsteps N" + walks]
 
 
 def forms(texts):
@@ -39,7 +42,7 @@ COMMON = {2: [USAGE], 3: [rb"read fault .*"], 6: [rb"too long .*"]}
 FORMS = {
     b"rewrite": {0: [rb"rewritten code N data N classes N sites N"], 1: refused(*range(1, 22))},
     b"verify": {0: [rb"accepted"], 1: refused(22, 23) + REJECTED},
-    b"run": {0: report(b"exit " + BYTE), 1: refused(22, 23, 25) + REJECTED,
+    b"run": {0: report(b"exit " + BYTE), 1: refused(22, 23, 25, 26) + REJECTED,
              10: report(rb"handler __cfi_(?:bad_target|bad_return|deep)"),
              11: report(rb"(?:break " + ADDRESS + rb"|load " + ADDRESS + rb" " + LONG + rb")"), 12: report(rb"limit")},
     b"compare": {0: [rb"same N"], 1: refused(*range(1, 19), 20, 21, 22, 24) + [DIFFERS], 12: [rb"limit"],
@@ -62,12 +65,15 @@ def without_output(text):
 
 def counts_wrong(text, steps):
     """What is wrong with the counts of a report without its output, or None."""
-    rows = {line.split()[0]: line.split()[1:] for line in text.splitlines() if line}
-    taken, walked, trail = int(rows[b"steps"][0]), int(rows[b"walk"][0]), len(rows[b"trail"])
+    lines = [line.split() for line in text.splitlines() if line]
+    rows, front = {words[0]: words[1:] for words in lines}, 2 if b"\nharts " in text else 1
+    walks = [int(words[front]) for words in lines if words[0] == b"walk"]
+    trails = [len(words) - front for words in lines if words[0] == b"trail"]
+    taken = int(rows[b"steps"][0])
     if taken > steps or rows[b"stop"] == [b"limit"] and taken != steps:
         return "%d steps of %d" % (taken, steps)
-    if walked > taken or trail != min(walked, 16):
-        return "a walk of %d and a trail of %d in %d steps" % (walked, trail, taken)
+    if len(walks) != int(rows.get(b"harts", [1])[0]) or sum(walks) > taken or trails != [min(walk, 16) for walk in walks]:
+        return "walks of %s and trails of %s in %d steps" % (walks, trails, taken)
     return None
 
 

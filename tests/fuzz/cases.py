@@ -43,7 +43,9 @@ def asked_of_pair(case, image, graph):
     verdict = case.ask(b"verify", image, graph)
     script, given = case.draw.choice([b"none", b"script"]), case.draw.choice([b"none", b"input"])
     ran = case.ask(b"run", image, graph, script, given, steps(case))
-    if verdict.status == 0:
+    if ran.output.startswith(b"refused 26 "):
+        case.must(verdict.output[:10] not in (b"refused 22", b"refused 23"), "harts are refused before the pair")
+    elif verdict.status == 0:
         case.must(ran.status != 1, "a pair that is accepted is not run")
     else:
         case.must(ran[:2] == verdict[:2], "verify and run tell two things of a pair")

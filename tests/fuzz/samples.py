@@ -1,18 +1,21 @@
 """What is turned: objects, and the images, graphs and maps that the program makes of them, with policies and scripts.
 
 The objects are those of tests/objects, those of bench/families.py that do not name the same bytes as two sections, and, where
-compilers are there, the programs of tests/real.
+compilers are there, the programs of tests/real. Images for several harts are those that tests/harts draws, each beside an object
+that is not its own.
 """
 
 import os
+import random
 import struct
 import sys
 from typing import NamedTuple, Optional
 
 sys.dont_write_bytecode = True
 HERE = os.path.dirname(os.path.abspath(__file__))
-sys.path[:0] = [os.path.join(HERE, "..", "real"), os.path.join(HERE, "..", "..", "bench")]
+sys.path[:0] = [os.path.join(HERE, "..", name) for name in ("real", "harts", os.path.join("..", "bench"))]
 
+import drawn
 import families
 import programs
 from turns import SYMTAB, sections
@@ -20,6 +23,7 @@ from turns import SYMTAB, sections
 LEVELS = ["-O0", "-O2"]
 SIZES = 3000, 50000  # bytes of an object of a family
 USUAL = 20000  # bytes of a sample: larger ones are drawn less often
+FOR_HARTS = 12  # how many images are for several harts
 DATA, STACK = 0x10000, 0x10000000
 INPUT = b"1+2*3\n(4 - 10) * -7\n" + programs.PROGRAMS[-1].input
 
@@ -80,15 +84,24 @@ def policy_of(content, graph, map_file):
     return b"\n".join([b"rvcfi-policy 1"] + whole + [b"end", b""])
 
 
+def turns_of(draw):
+    """The first lines of a script: one for one hart, or one for several with some turns."""
+    if draw.random() < 0.6:
+        return [b"rvcfi-script 1"]
+    harts = draw.choice([1, 1, 2, 3, 8])
+    turns = [(draw.randrange(harts), draw.choice([1, 1, 2, 10, 100])) for _ in range(draw.choice([0, 2, 20]))]
+    return [b"rvcfi-script 2", b"harts %d" % harts] + [b"turn %d %d" % turn for turn in turns]
+
+
 def script_of(draw):
     """A script of a few changes of data, most of them where programs have data or a stack."""
-    lines, step = [], 0
+    lines, step = turns_of(draw), 0
     for _ in range(draw.randrange(6)):
         step += draw.choice([0, 1, draw.randrange(100), draw.randrange(3000)])
         base = draw.choice([DATA, STACK - 512, STACK - 128, STACK - 128, STACK + 2048, 0])
         at = min(max(0, base + draw.randrange(0, draw.choice([129, 512, 4096]), 8)), STACK + 4080)
         lines.append(b"at %d %08x %s" % (step, at, draw.randbytes(draw.choice([1, 8, 16])).hex().encode()))
-    return b"\n".join([b"rvcfi-script 1"] + lines + [b"end", b""])
+    return b"\n".join(lines + [b"end", b""])
 
 
 def of_compilers(folder):
@@ -134,5 +147,14 @@ def sample(name, content, program, folder):
     return Sample(name, content, names[0], None, None, None, None)
 
 
+def for_harts(hardened):
+    """Samples whose images are for several harts."""
+    for k in range(FOR_HARTS):
+        draw = random.Random(k)
+        built = drawn.program(draw, 2)
+        yield draw.choice(hardened)._replace(name="harts_%d" % k, image=built.image, graph=built.graph)
+
+
 def samples(program, folder):
-    return [sample(name, content, program, folder) for name, content in objects(folder).items()]
+    found = [sample(name, content, program, folder) for name, content in objects(folder).items()]
+    return found + list(for_harts([it for it in found if it.image and len(it.object) < USUAL]))

@@ -4,7 +4,7 @@ other's return addresses and at addresses of the shadow stack."""
 import struct
 
 from program import EBREAK, ECALL, Program, addi, i_form, r_form, u_form
-from samples import SD, add, load, shift
+from worked import SD, add, load, shift
 
 CALLED, JUMPED = 1, 2  # labels of classes
 POINTERS = 0x10000

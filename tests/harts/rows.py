@@ -4,7 +4,7 @@
 A row is the lines of a script between its first and its last, a command line, and the status and the text that the model beside
 this file gives of it. `rounds HARTS N` stands for N rounds, in each of which each hart takes one step. In a race a row stands for
 several scripts: one hart takes K steps, for each K that the row has, then come the lines of the row, and then the hart goes on.
-The programs are those of samples.py.
+The programs are those of worked.py.
 """
 
 import sys
@@ -14,7 +14,7 @@ sys.dont_write_bytecode = True
 
 from program import Program
 from runs import answer
-from samples import ECALL, a_of_harts, addi, jobs, shared
+from worked import ECALL, a_of_harts, addi, jobs, shared
 
 
 def a_of_one():
