@@ -53,21 +53,26 @@ def drawn(seed, harts, longest, count):
 
 ATTACKED = rounds(2, 3, 40000)
 TURNS = [(1, []), (2, rounds(2, 1, 120000)), (2, drawn(1, 2, 200, 2000)), (8, rounds(8, 20, 40000)), (8, drawn(2, 8, 60, 30000))]
-DRAWN = [(2, drawn(3, 2, 5, 30000)), (2, drawn(4, 2, 50, 3000)), (3, drawn(5, 3, 20, 8000)), (8, drawn(6, 8, 10, 60000)), (8, drawn(7, 8, 400, 2000))]
+DRAWN = [(2, drawn(3, 2, 5, 30000)), (2, drawn(4, 2, 50, 3000)), (3, drawn(5, 3, 20, 8000)), (8, drawn(6, 8, 10, 60000)),
+         (8, drawn(7, 8, 400, 2000))]
 
 
 class Office(Hardened):
     """The program, hardened for several harts."""
     command, entry = ["harden", "harts"], "begin"
 
-    def run_for(self, given, harts, turns, changes=()):
-        """A run under a script of turns and changes: the output, how it stopped, and the steps."""
+    def script(self, harts, turns, changes=()):
+        """Writes a script of turns and changes, and answers its path."""
         lines = ["rvcfi-script 2", "harts %d" % harts] + ["turn %d %d" % turn for turn in turns]
         lines += ["at %d %08x %s" % (step, address, content.hex()) for step, address, content in changes]
         script = self.image + ".script"
         with open(script, "w") as file:
             file.write("\n".join(lines + ["end", ""]))
-        _, output, report = self.run(given, script, LIMIT)
+        return script
+
+    def run_for(self, given, harts, turns, changes=()):
+        """A run under a script: the output, how it stopped, and the steps."""
+        _, output, report = self.run(given, self.script(harts, turns, changes), LIMIT)
         return output, report["stop"], int(report["steps"][0])
 
 
@@ -173,12 +178,14 @@ def of_attack_on_second(build, wanted):
 
 
 def of_drawn_turns(build, wanted):
-    """Each hart but hart 0 that works off the order attacks the one before: under no turns does the door open."""
+    """Who works off the order attacks the hart before, and hart 0 nobody: under no turns does the door open."""
     gate = build.door()[1]
     given = attack(build.row(2, ATTACKED), return_slot(0), gate)
     ends = [build.office.run_for(given, harts, turns)[:2] for harts, turns in DRAWN]
-    yield "drawn turns, the door", [DOOR in output for output, _ in ends], [False] * len(ends)
-    yield "drawn turns, the ends", [stop[2:] for _, stop in ends], [BAD_RETURN] * len(ends)
+    stops = [stop[2:] for _, stop in ends]
+    yield "drawn turns, the door", any(DOOR in output for output, _ in ends), False
+    yield "drawn turns, other ends", [stop for stop in stops if stop not in (BAD_RETURN, ["exit", str(wanted[1])])], []
+    yield "drawn turns, stopped", BAD_RETURN in stops, True
 
 
 def of_no_lock(tool, folder, compiler, wanted):

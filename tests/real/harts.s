@@ -6,8 +6,10 @@
     .globl begin
     .type begin, @function
 begin:
-    beqz a0, 2f
+    beqz a0, .Lfirst
     call work
-1:  j 1b
-2:  tail _start
+.Lwaits:
+    j .Lwaits
+.Lfirst:
+    tail _start
     .size begin, . - begin
