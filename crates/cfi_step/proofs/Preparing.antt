@@ -1,18 +1,26 @@
 -- The next step of a run is prepared: by the hart that took the last one, or by what a meddler answers.
-use Rattle.std.proofs.Common.{◌≡◌, ◌≤◌, ◌<◌, ◌+◌, ℕ, List, [], Some, length, map, min, refl, sym, ap, subst, ◌∙◌, arith, append-nil}
+use Rattle.std.proofs.Common.{◌≡◌, ◌≤◌, ◌<◌, ◌+◌, ℕ, List, [], Some, length, min, set, refl, sym, ap, subst, ◌∙◌, arith, append-nil}
 use Rattle.std.specs.Prelude.{slice_get}
 use Rattle.std.specs.List.{All}
-use Rattle.std.proofs.lemmas.Option.{get_or_from_slice_get, slice_get_within}
+use Rattle.std.proofs.lemmas.List.{get_or-set_same, length-set}
+use Rattle.std.proofs.lemmas.Option.{get_or_from_slice_get, slice_get-get_or, slice_get_within}
 use Rattle.rv_word.specs.Image.{Contents}
 use Rattle.rv_word.specs.MemoryMap.{Profile}
 use Rattle.rv_code.specs.State.{Harts, Shared}
 use Rattle.rv_machine.specs.Harts.{harts_in, harts_share}
 use Rattle.cfi_step.specs.Plan.{IsOneHart, IsQuietPlan, Plan}
-use Rattle.cfi_step.specs.Running.{IsBegun, IsPrepared, IsReady, IsStill}
+use Rattle.cfi_step.specs.Running.{trails_of, IsBegun, IsPrepared, IsReady, IsStill}
 use Rattle.cfi_step.specs.Trail.{IsTrailOf, TrailParts}
 use Rattle.cfi_step.specs.declared.running.Running.{Running}
 use Rattle.cfi_step.specs.declared.turns.TakenTurns.{TakenTurns}
 use Rattle.cfi_step.proofs.TurnsTaken.{takes_own}
+
+-- the trails of two runs whose parts are the same
+pub same_trails : (a b : Running) → a.resting.items ≡ b.resting.items → a.taken ≡ b.taken → a.trail ≡ b.trail → trails_of a ≡ trails_of b
+same_trails a b resting taken trail =
+    ap (λ (items : List TrailParts). set items a.taken.hart a.trail) resting
+    ∙ ap (λ (t : TakenTurns). set b.resting.items t.hart a.trail) taken
+    ∙ ap (λ (t : TrailParts). set b.resting.items b.taken.hart t) trail
 
 -- the same hart goes on, and no change comes
 pub goes_on_so : (plan : Plan) (step : ℕ) (running : Running) → IsReady plan step running → step < running.still → IsPrepared plan step running running
@@ -22,6 +30,7 @@ goes_on_so plan step running ready less =
     record {
       hart = sym known.0;
       below = ready.last;
+      current = ready.current;
       taken = λ harts len are. takes_own harts running.taken running.taken.hart refl are;
       allowed = rw none tt;
       harts = refl;
@@ -29,6 +38,7 @@ goes_on_so plan step running ready less =
       made = rw none (sym (append-nil running.made));
       count = refl;
       version = refl;
+      each = refl;
       trails = refl;
       quiet = λ k from below. ready.quiet k (omega arith) below;
       still = λ k from below. ready.still k (omega arith) below;
@@ -52,9 +62,10 @@ pub begun_ready : (plan : Plan) (p : Profile) (image : Contents) (running : Runn
 begun_ready plan p image running begun = record {
   some = begun.some;
   last = omega (arith, begun.some, begun.last);
+  current = begun.current ∙ sym begun.last;
   each = begun.each;
   walked = λ k t at.
-      let is = empty_so running.trails.items begun.empty k t at in
+      let is = empty_so (trails_of running) begun.empty k t at in
       omega (arith, is.0);
   quiet = λ k from below. absurd (omega (arith, begun.quiet));
   still = λ k from below. absurd (omega (arith, begun.still));
@@ -62,20 +73,20 @@ begun_ready plan p image running begun = record {
 
 -- and after a step it is known of the next one, where its hart noted it
 pub ready_next : (plan : Plan) (step : ℕ) (before mid after : Running) → IsReady plan step before → IsPrepared plan step before mid
-    → length after.machine.resting ≡ length mid.machine.resting → after.taken ≡ mid.taken → length after.trails.items ≡ length mid.trails.items
-    → ((k : ℕ) (t : TrailParts) → slice_get after.trails.items k ≡ Some t → (old : TrailParts) × (slice_get mid.trails.items k ≡ Some old) × (t.count ≤ old.count + 1))
+    → length after.machine.resting ≡ length mid.machine.resting → after.machine.current ≡ mid.machine.current → after.taken ≡ mid.taken → length after.resting.items ≡ length mid.resting.items
+    → ((k : ℕ) (t : TrailParts) → slice_get (trails_of after) k ≡ Some t → (old : TrailParts) × (slice_get (trails_of mid) k ≡ Some old) × (t.count ≤ old.count + 1))
     → after.quiet ≡ mid.quiet → after.still ≡ mid.still → IsReady plan (step + 1) after
-ready_next plan step before mid after ready prepared counted turns each noted quiet still =
+ready_next plan step before mid after ready prepared counted selected turns each noted quiet still =
     let count = counted ∙ prepared.count in
     let hart = ap (λ (t : TakenTurns). t.hart) turns in
-    let trails = ap (λ trails. length trails.items) prepared.trails in
     record {
       some = omega (arith, ready.some, count);
       last = omega (arith, prepared.below, count, hart);
-      each = each ∙ trails ∙ ready.each ∙ sym count;
+      current = selected ∙ prepared.current ∙ sym hart;
+      each = each ∙ prepared.each ∙ ready.each ∙ sym count;
       walked = λ k t at.
           let (old, was, more) = noted k t at in
-          let low = ready.walked k old (rw prepared.trails at was) in
+          let low = ready.walked k old (subst (λ (trails : List TrailParts). slice_get trails k ≡ Some old) prepared.trails was) in
           omega arith;
       quiet = λ k from below. prepared.quiet k from (omega (arith, quiet));
       still =
@@ -83,3 +94,12 @@ ready_next plan step before mid after ready prepared counted turns each noted qu
           (subst (λ (h : ℕ). IsStill (step + 1) after.still plan (length before.machine.resting) h) (sym hart)
           (λ k from below. prepared.still k from (omega (arith, still))));
     }
+
+-- the trail in front has no more addresses than steps were taken
+pub front_walked : (plan : Plan) (step : ℕ) (before mid : Running) → IsReady plan step before → IsPrepared plan step before mid → mid.trail.count ≤ step
+front_walked plan step before mid ready prepared =
+    let within : mid.taken.hart < length mid.resting.items = omega (arith, prepared.below, prepared.each, ready.each) in
+    let long : mid.taken.hart < length (trails_of mid) = omega (arith, length-set mid.resting.items mid.taken.hart mid.trail) in
+    let there : slice_get (trails_of mid) mid.taken.hart ≡ Some mid.trail =
+    slice_get-get_or (trails_of mid) mid.taken.hart mid.trail long ∙ ap Some (get_or-set_same mid.resting.items mid.taken.hart mid.trail mid.trail within) in
+    ready.walked mid.taken.hart mid.trail (subst (λ (trails : List TrailParts). slice_get trails mid.taken.hart ≡ Some mid.trail) prepared.trails there)

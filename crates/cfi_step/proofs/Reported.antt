@@ -2,8 +2,8 @@
 use Rattle.std.proofs.Common.{◌≡◌, ℕ, List, [], length, map, Some, sym, ◌∙◌, ap, subst, arith}
 use Rattle.std.specs.Prelude.{slice_get}
 use Rattle.std.specs.List.{All}
-use Rattle.std.proofs.lemmas.List.{length-map}
-use Rattle.std.proofs.lemmas.Option.{get_or_from_slice_get, slice_get-map, slice_get_within}
+use Rattle.std.proofs.lemmas.List.{length-map, length-set}
+use Rattle.std.proofs.lemmas.Option.{slice_get-map}
 use Rattle.rv_word.specs.Image.{Contents}
 use Rattle.rv_word.specs.MemoryMap.{MayRun, Profile, profile_of}
 use Rattle.rv_word.proofs.Cases.{mapped}
@@ -16,9 +16,9 @@ use Rattle.cfi_rules.specs.Walks.{walk_of}
 use Rattle.cfi_rules.proofs.Trails.{safe_stays}
 use Rattle.cfi_step.specs.Plan.{Plan, Planned, harts_of, numbered, planned, steps_of}
 use Rattle.cfi_step.specs.Report.{IsReport, IsWalkOf, stopping_hart}
-use Rattle.cfi_step.specs.Running.{IsBegun, IsOver, StaysFrom}
+use Rattle.cfi_step.specs.Running.{IsBegun, IsOver, StaysFrom, trails_of}
 use Rattle.cfi_step.specs.Taken.{AreTurnsOf}
-use Rattle.cfi_step.specs.Trail.{IsTrailOf, TrailParts, told_of}
+use Rattle.cfi_step.specs.Trail.{IsTrailOf, told_of}
 use Rattle.cfi_step.specs.Turns.{turns_of}
 use Rattle.cfi_step.specs.declared.report.HartWalk.{HartWalk}
 use Rattle.cfi_step.specs.declared.report.RunEnd.{RunEnd}
@@ -29,12 +29,13 @@ use Rattle.cfi_step.specs.declared.running.Running.{Running}
 pub begins : (p : Profile) (image : Contents) (graph : GraphParts) (input : List ℕ) (count : ℕ) (running : Running) → IsSafe p image graph → MayRun p count
     → length running.machine.resting ≡ count → harts_in running.machine ≡ start_hart → harts_share running.machine ≡ start_shared image input
     → profile_of running.machine.processor.memory.version ≡ p → running.made ≡ [] → AreTurnsOf [] running.taken → running.taken.hart ≡ 0
-    → length running.trails.items ≡ count → All (IsTrailOf []) running.trails.items → running.quiet ≡ 0 → running.still ≡ 0 → IsBegun p image running
-begins p image graph input count running safe may counted harts shared profile made taken last each empty quiet still = record {
+    → running.machine.current ≡ 0 → length running.resting.items ≡ count → All (IsTrailOf []) (trails_of running) → running.quiet ≡ 0 → running.still ≡ 0 → IsBegun p image running
+begins p image graph input count running safe may counted harts shared profile made taken last current each empty quiet still = record {
   profile = profile;
   made = made;
   taken = taken;
   last = last;
+  current = current;
   some = omega (arith, may.some, counted);
   each = each ∙ sym counted;
   empty = empty;
@@ -66,7 +67,7 @@ pub record Tells (end : RunEnd) (k : ℕ) (after : Running) (report : RunReport)
   pub output : report.output ≡ after.machine.processor.calls.output
   pub events : report.events ≡ after.machine.processor.calls.events
   pub made : report.made ≡ after.made
-  pub walks : report.walks ≡ map told_of after.trails.items
+  pub walks : report.walks ≡ map told_of (trails_of after)
 
 module _ (p : Profile) (image : Contents) (input : List ℕ) (count : ℕ) (whole : List Planned) (end : RunEnd) (k : ℕ) (after : Running) (report : RunReport)
     (over : IsOver p image count start_hart (start_shared image input) whole end k after) (tells : Tells end k after report) where
@@ -79,8 +80,8 @@ module _ (p : Profile) (image : Contents) (input : List ℕ) (count : ℕ) (whol
   walk_told : (j : ℕ) (told : HartWalk) → slice_get report.walks j ≡ Some told
       → IsWalkOf (walk_of p (code_words image.code) j start_hart (start_shared image input) (steps_of whole)) told
   walk_told j told at =
-      let there : slice_get (map told_of after.trails.items) j ≡ Some told = rw tells.walks at at in
-      let (t, first, is) = mapped told_of (slice_get after.trails.items j) told (sym (slice_get-map told_of after.trails.items j) ∙ there) in
+      let there : slice_get (map told_of (trails_of after)) j ≡ Some told = rw tells.walks at at in
+      let (t, first, is) = mapped told_of (slice_get (trails_of after) j) told (sym (slice_get-map told_of (trails_of after) j) ∙ there) in
       let trail = over.walks j t first in
       subst (λ (w : HartWalk). IsWalkOf (walk_of p (code_words image.code) j start_hart (start_shared image input) (steps_of whole)) w) is
       (record { walk = trail.0; trail = trail.1 })
@@ -94,6 +95,6 @@ module _ (p : Profile) (image : Contents) (input : List ℕ) (count : ℕ) (whol
     output = tells.output ∙ over.output;
     events = tells.events ∙ over.events;
     made = all_made;
-    harts = ap length tells.walks ∙ length-map after.trails.items told_of ∙ over.trails;
+    harts = ap length tells.walks ∙ length-map (trails_of after) told_of ∙ length-set after.resting.items after.taken.hart after.trail ∙ over.each;
     walks = walk_told;
   }

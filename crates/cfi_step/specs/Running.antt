@@ -1,5 +1,5 @@
 -- What a run that is under way comes to, from the state at which it began. Only private contracts cite this.
-use Rattle.std.specs.Prelude.{◌≡◌, ◌≤◌, ◌<◌, ◌+◌, ◌==◌, ℕ, Bool, true, false, List, [], ◌∷◌, ◌++◌, length, map, slice_get, Some}
+use Rattle.std.specs.Prelude.{◌≡◌, ◌≤◌, ◌<◌, ◌+◌, ◌==◌, ℕ, Bool, true, false, List, [], ◌∷◌, ◌++◌, length, map, slice_get, slice_set, Some}
 use Rattle.std.specs.List.{All, AllByRecursion}
 use Rattle.rv_word.specs.Image.{Contents}
 use Rattle.rv_word.specs.MemoryMap.{Profile, profile_of}
@@ -36,6 +36,11 @@ StaysFrom p image count newest harts s =
     (steps : List HartStep) → AreStepsOf count steps → (k : ℕ)
     → AllByRecursion (IsInPlace p (code_words image.code)) (trail_of p (code_words image.code) k (newest k) harts s steps)
 
+-- the trails of all harts: that of the hart that took the last step stands apart, and what stands at its place says
+-- nothing
+abbrev pub trails_of : Running → List TrailParts
+trails_of running = slice_set running.resting.items running.taken.hart running.trail
+
 -- what a plan has for the next step of a machine
 abbrev pub hart_in_plan : Plan → ℕ → MachineParts → ℕ
 hart_in_plan plan step m = plan.hart step (length m.resting) (harts_in m) (harts_share m)
@@ -53,20 +58,22 @@ IsStill from next plan count hart =
     (step : ℕ) → from ≤ step → step < next → (harts : Harts) (shared : Shared)
     → (plan.hart step count harts shared ≡ hart) × (plan.changes step count harts shared ≡ [])
 
--- after so many steps: a trail for each hart, of a walk of no more addresses than steps were taken, and what is known of
--- the plan
+-- after so many steps: the hart that took the last one is selected, each hart has a trail, of a walk of no more addresses
+-- than steps were taken, and what is known of the plan
 pub record IsReady (plan : Plan) (steps : ℕ) (running : Running) : Type 0 where
   pub some : 1 ≤ length running.machine.resting
   pub last : running.taken.hart < length running.machine.resting
-  pub each : length running.trails.items ≡ length running.machine.resting
-  pub walked : (k : ℕ) (t : TrailParts) → slice_get running.trails.items k ≡ Some t → t.count ≤ steps
+  pub current : running.machine.current ≡ running.taken.hart
+  pub each : length running.resting.items ≡ length running.machine.resting
+  pub walked : (k : ℕ) (t : TrailParts) → slice_get (trails_of running) k ≡ Some t → t.count ≤ steps
   pub quiet : IsQuietPlan steps running.quiet plan
   pub still : IsStill steps running.still plan (length running.machine.resting) running.taken.hart
 
--- the hart of the next step is chosen, and the changes before it are made
+-- the hart of the next step is chosen and selected, and the changes before it are made
 pub record IsPrepared (plan : Plan) (step : ℕ) (before after : Running) : Type 0 where
   pub hart : after.taken.hart ≡ hart_in_plan plan step before.machine
   pub below : after.taken.hart < length before.machine.resting
+  pub current : after.machine.current ≡ after.taken.hart
   pub taken : (harts : List ℕ) → length harts ≡ step → AreTurnsOf harts before.taken → AreTurnsOf (harts ++ after.taken.hart ∷ []) after.taken
   pub allowed : AllByRecursion IsDataChange (changes_of (changes_in_plan plan step before.machine))
   pub harts : harts_in after.machine ≡ harts_in before.machine
@@ -74,7 +81,8 @@ pub record IsPrepared (plan : Plan) (step : ℕ) (before after : Running) : Type
   pub made : after.made ≡ before.made ++ map (λ c. (step, c)) (changes_in_plan plan step before.machine)
   pub count : length after.machine.resting ≡ length before.machine.resting
   pub version : after.machine.processor.memory.version ≡ before.machine.processor.memory.version
-  pub trails : after.trails ≡ before.trails
+  pub each : length after.resting.items ≡ length before.resting.items
+  pub trails : trails_of after ≡ trails_of before
   pub quiet : IsQuietPlan (step + 1) after.quiet plan
   pub still : IsStill (step + 1) after.still plan (length before.machine.resting) after.taken.hart
 
@@ -93,9 +101,10 @@ pub record IsBegun (p : Profile) (image : Contents) (running : Running) : Type 0
   pub made : running.made ≡ []
   pub taken : AreTurnsOf [] running.taken
   pub last : running.taken.hart ≡ 0
+  pub current : running.machine.current ≡ 0
   pub some : 1 ≤ length running.machine.resting
-  pub each : length running.trails.items ≡ length running.machine.resting
-  pub empty : All (IsTrailOf []) running.trails.items
+  pub each : length running.resting.items ≡ length running.machine.resting
+  pub empty : All (IsTrailOf []) (trails_of running)
   pub quiet : running.quiet ≡ 0
   pub still : running.still ≡ 0
   pub stays : (newest : ℕ → ℕ) × StaysFrom p image (length running.machine.resting) newest (harts_in running.machine) (harts_share running.machine)
@@ -108,6 +117,7 @@ pub record IsOver (p : Profile) (image : Contents) (count : ℕ) (harts : Harts)
   pub events : after.machine.processor.calls.events ≡ (run p harts s (steps_of steps)).shared.events
   pub made : after.made ≡ numbered 0 steps
   pub taken : AreTurnsOf (harts_of steps) after.taken
-  pub trails : length after.trails.items ≡ count
-  pub walks : (j : ℕ) (t : TrailParts) → slice_get after.trails.items j ≡ Some t → IsTrailOf (walk_of p (code_words image.code) j harts s (steps_of steps)) t
+  pub each : length after.resting.items ≡ count
+  pub last : after.taken.hart < count
+  pub walks : (j : ℕ) (t : TrailParts) → slice_get (trails_of after) j ≡ Some t → IsTrailOf (walk_of p (code_words image.code) j harts s (steps_of steps)) t
   pub allowed : AreStepsOf count (steps_of steps)

@@ -1,6 +1,6 @@
 //! A run between two of its steps.
 
-ghost use Rattle.std.specs.Prelude.{◌≡◌, ◌≤◌, ◌<◌, ◌+◌, ◌^◌, ◌++◌, ◌∷◌, [], ℕ, List, length, map, min, slice_get, IfOk, OnOk, Some};
+ghost use Rattle.std.specs.Prelude.{◌≡◌, ◌≤◌, ◌<◌, ◌+◌, ◌^◌, ◌++◌, ◌∷◌, [], ℕ, List, length, map, min, slice_set, IfOk, OnOk, Some};
 ghost use Rattle.std.specs.List.{All, AllByRecursion};
 ghost use Rattle.rv_word.specs.Image.{image_profile};
 ghost use Rattle.rv_word.specs.MemoryMap.{profile_of};
@@ -10,7 +10,7 @@ ghost use Rattle.rv_machine.specs.Harts.{harts_in, harts_share, run_after};
 ghost use Rattle.cfi_rules.specs.Split.{code_words};
 ghost use Rattle.cfi_step.specs.Plan.{IsQuietPlan, change_of, changes_of, step_of};
 ghost use Rattle.cfi_step.specs.Report.{stopping_hart};
-ghost use Rattle.cfi_step.specs.Running.{AreNoted, IsPrepared, IsReady, changes_in_plan, hart_in_plan, step_in_plan};
+ghost use Rattle.cfi_step.specs.Running.{AreNoted, IsPrepared, IsReady, changes_in_plan, hart_in_plan, step_in_plan, trails_of};
 ghost use Rattle.cfi_step.specs.Taken.{AreTurnsOf};
 ghost use Rattle.cfi_step.specs.Trail.{IsTrailOf, TrailParts, told_of};
 ghost use Rattle.cfi_step.specs.Turns.{turns_of};
@@ -32,8 +32,10 @@ pub(crate) struct Running {
     machine: Machine,
     made: Record,
     taken: TakenTurns,
-    /// By the harts' numbers.
-    trails: Vec<Trail>,
+    /// Of the hart that took the last step, which is the one that the machine has selected.
+    trail: Trail,
+    /// Of the others, by their numbers; what stands at the number of that hart says nothing.
+    resting: Vec<Trail>,
     /// No change comes before this number of steps is taken.
     quiet: u64,
     /// Nor does another hart step than the one that took the last step.
@@ -56,18 +58,22 @@ impl Running {
         ensures made { IfOk result (λ r. r.made ≡ []) }
         ensures taken { IfOk result (λ r. AreTurnsOf [] r.taken) }
         ensures last { IfOk result (λ r. r.taken.hart ≡ 0) }
-        ensures trails { IfOk result (λ r. length r.trails.items ≡ harts) }
-        ensures empty { IfOk result (λ r. All (IsTrailOf []) r.trails.items) }
+        ensures current { IfOk result (λ r. r.machine.current ≡ 0) }
+        ensures each { IfOk result (λ r. length r.resting.items ≡ harts) }
+        ensures empty { IfOk result (λ r. All (IsTrailOf []) (trails_of r)) }
         ensures quiet { IfOk result (λ r. r.quiet ≡ 0) }
         ensures still { IfOk result (λ r. r.still ≡ 0) }
     {
-        let trails = empty_trails(alloc, harts)?;
-        let machine = Machine::new(alloc, image, input, harts)?;
+        let trail = Trail::new(alloc)?;
+        let resting = empty_trails(alloc, harts)?;
+        let mut machine = Machine::new(alloc, image, input, harts)?;
+        machine.select(0);
         Ok(Running {
             machine,
             made: Record::new(alloc),
             taken: TakenTurns::new(alloc),
-            trails,
+            trail,
+            resting,
             quiet: 0,
             still: 0,
         })
@@ -83,7 +89,8 @@ impl Running {
         ensures count { length self.new.machine.resting ≡ length self.old.machine.resting }
         ensures version { self.new.machine.processor.memory.version ≡ self.old.machine.processor.memory.version }
         ensures taken { self.new.taken ≡ self.old.taken }
-        ensures trails { self.new.trails ≡ self.old.trails }
+        ensures trail { self.new.trail ≡ self.old.trail }
+        ensures resting { self.new.resting ≡ self.old.resting }
     {
         self.machine.change(change)?;
         self.made.push(step, change)
@@ -99,7 +106,8 @@ impl Running {
         ensures count { OnOk result (length self.new.machine.resting ≡ length self.old.machine.resting) }
         ensures version { OnOk result (self.new.machine.processor.memory.version ≡ self.old.machine.processor.memory.version) }
         ensures taken { OnOk result (self.new.taken ≡ self.old.taken) }
-        ensures trails { OnOk result (self.new.trails ≡ self.old.trails) }
+        ensures trail { OnOk result (self.new.trail ≡ self.old.trail) }
+        ensures resting { OnOk result (self.new.resting ≡ self.old.resting) }
     {
         for change in changes {
             self.make(step, *change)?;
@@ -124,7 +132,8 @@ impl Running {
         ensures count { OnOk result (length self.new.machine.resting ≡ length self.old.machine.resting) }
         ensures version { OnOk result (self.new.machine.processor.memory.version ≡ self.old.machine.processor.memory.version) }
         ensures taken { OnOk result (self.new.taken ≡ self.old.taken) }
-        ensures trails { OnOk result (self.new.trails ≡ self.old.trails) }
+        ensures trail { OnOk result (self.new.trail ≡ self.old.trail) }
+        ensures resting { OnOk result (self.new.resting ≡ self.old.resting) }
         ensures still { OnOk result (IsQuietPlan (step + 1) self.new.quiet (M.plan meddler.old)) }
         ensures kept { M.plan meddler.new ≡ M.plan meddler.old }
     {
@@ -136,6 +145,46 @@ impl Running {
         self.change(step, &changes)?;
         self.quiet = meddler.quiet_until(step + 1);
         Ok(())
+    }
+
+    /// Brings the trail of a hart to the front.
+    fn bring_trail(&mut self, hart: u8)
+        requires hart { hart < length self.old.resting.items }
+        requires last { self.old.taken.hart < length self.old.resting.items }
+        ensures machine { self.new.machine ≡ self.old.machine }
+        ensures made { self.new.made ≡ self.old.made }
+        ensures taken { self.new.taken ≡ self.old.taken }
+        ensures quiet { self.new.quiet ≡ self.old.quiet }
+        ensures each { length self.new.resting.items ≡ length self.old.resting.items }
+        ensures trails { slice_set self.new.resting.items hart self.new.trail ≡ trails_of self.old }
+    {
+        let last = self.taken.last();
+        if hart != last {
+            self.trail.exchange(&mut self.resting[usize::from(last)]);
+            self.trail.exchange(&mut self.resting[usize::from(hart)]);
+        }
+    }
+
+    /// Lets a hart take the step with a number.
+    fn turn_to(&mut self, hart: u8, step: u64) -> Result<(), NoMemory>
+        requires hart { hart < length self.old.machine.resting }
+        requires last { self.old.taken.hart < length self.old.machine.resting }
+        requires each { length self.old.resting.items ≡ length self.old.machine.resting }
+        ensures hart { OnOk result (self.new.taken.hart ≡ hart) }
+        ensures taken { OnOk result ((harts : List ℕ) → length harts ≡ step → AreTurnsOf harts self.old.taken → AreTurnsOf (harts ++ hart ∷ []) self.new.taken) }
+        ensures current { OnOk result (self.new.machine.current ≡ hart) }
+        ensures harts { OnOk result (harts_in self.new.machine ≡ harts_in self.old.machine) }
+        ensures shared { OnOk result (harts_share self.new.machine ≡ harts_share self.old.machine) }
+        ensures count { OnOk result (length self.new.machine.resting ≡ length self.old.machine.resting) }
+        ensures version { OnOk result (self.new.machine.processor.memory.version ≡ self.old.machine.processor.memory.version) }
+        ensures made { OnOk result (self.new.made ≡ self.old.made) }
+        ensures quiet { OnOk result (self.new.quiet ≡ self.old.quiet) }
+        ensures each { OnOk result (length self.new.resting.items ≡ length self.old.resting.items) }
+        ensures trails { OnOk result (trails_of self.new ≡ trails_of self.old) }
+    {
+        self.bring_trail(hart);
+        self.machine.select(hart);
+        self.taken.take(hart, step)
     }
 
     /// Lets a meddler choose the hart of the step with a number, and makes the changes that it has before it.
@@ -153,7 +202,7 @@ impl Running {
     {
         let hart = meddler.hart(step, &self.machine);
         self.disturb(alloc, meddler, step)?;
-        self.taken.take(hart, step)?;
+        self.turn_to(hart, step)?;
         self.still = lesser(self.quiet, meddler.one_hart_until(step));
         Ok(())
     }
@@ -177,23 +226,23 @@ impl Running {
         self.choose(alloc, meddler, step)
     }
 
-    /// Notes the address of a hart's next step, where something starts there.
-    fn note(&mut self, checked: &Checked<'_>, hart: u8)
-        requires hart { hart < length self.old.machine.resting }
-        requires trail { hart < length self.old.trails.items }
-        requires room { (t : TrailParts) → slice_get self.old.trails.items hart ≡ Some t → t.count + 1 < 2 ^ 64 }
+    /// Notes the address of the selected hart's next step, where something starts there.
+    fn note(&mut self, checked: &Checked<'_>)
+        requires current { self.old.machine.current ≡ self.old.taken.hart }
+        requires last { self.old.taken.hart < length self.old.resting.items }
+        requires room { self.old.trail.count + 1 < 2 ^ 64 }
         ensures machine { self.new.machine ≡ self.old.machine }
         ensures made { self.new.made ≡ self.old.made }
         ensures taken { self.new.taken ≡ self.old.taken }
         ensures quiet { self.new.quiet ≡ self.old.quiet }
         ensures still { self.new.still ≡ self.old.still }
-        ensures count { length self.new.trails.items ≡ length self.old.trails.items }
-        ensures trails { AreNoted (image_profile checked.now.image) (code_words checked.now.image.code) hart (harts_in self.old.machine hart).pc
-            self.old.trails.items self.new.trails.items }
+        ensures resting { self.new.resting ≡ self.old.resting }
+        ensures trails { AreNoted (image_profile checked.now.image) (code_words checked.now.image.code) self.old.taken.hart
+            (harts_in self.old.machine self.old.taken.hart).pc (trails_of self.old) (trails_of self.new) }
     {
-        let pc = self.machine.pc(hart);
+        let pc = self.machine.pc_of_selected();
         if checked.is_place(pc) {
-            self.trails[hart as usize].note(pc);
+            self.trail.note(pc);
         }
     }
 
@@ -216,25 +265,25 @@ impl Running {
             → AreTurnsOf (harts ++ hart_in_plan (M.plan meddler.old) step self.old.machine ∷ []) self.new.taken) }
         ensures noted { OnOk result (AreNoted (image_profile checked.now.image) (code_words checked.now.image.code)
             (hart_in_plan (M.plan meddler.old) step self.old.machine) (harts_in self.old.machine (hart_in_plan (M.plan meddler.old) step self.old.machine)).pc
-            self.old.trails.items self.new.trails.items) }
+            (trails_of self.old) (trails_of self.new)) }
         ensures ready { OnOk result (IsReady (M.plan meddler.old) (step + 1) self.new) }
         ensures count { OnOk result (length self.new.machine.resting ≡ length self.old.machine.resting) }
         ensures version { OnOk result (self.new.machine.processor.memory.version ≡ self.old.machine.processor.memory.version) }
         ensures kept { M.plan meddler.new ≡ M.plan meddler.old }
     {
         self.prepare(alloc, meddler, step)?;
-        let hart = self.taken.last();
-        self.note(checked, hart);
-        self.machine.step(hart)
+        self.note(checked);
+        self.machine.step_selected()
     }
 
     /// The report, of a run that ended so after this many steps.
     pub(crate) fn into_report(
-        self,
+        mut self,
         alloc: Global,
         end: RunEnd,
         steps: u64,
     ) -> Result<RunReport, NoMemory>
+        requires { self.taken.hart < length self.resting.items }
         ensures end { IfOk result (λ report. report.end ≡ end) }
         ensures hart { IfOk result (λ report. (harts : List ℕ) → AreTurnsOf harts self.taken → report.hart ≡ stopping_hart end harts) }
         ensures steps { IfOk result (λ report. report.steps ≡ steps) }
@@ -242,10 +291,12 @@ impl Running {
         ensures output { IfOk result (λ report. report.output ≡ self.machine.processor.calls.output) }
         ensures events { IfOk result (λ report. report.events ≡ self.machine.processor.calls.events) }
         ensures made { IfOk result (λ report. report.made ≡ self.made) }
-        ensures walks { IfOk result (λ report. report.walks ≡ map told_of self.trails.items) }
+        ensures walks { IfOk result (λ report. report.walks ≡ map told_of (trails_of self)) }
     {
-        let walks = HartWalks::of(alloc, &self.trails)?;
-        let hart = stopping_hart(end, self.taken.last());
+        let last = self.taken.last();
+        self.trail.exchange(&mut self.resting[usize::from(last)]);
+        let walks = HartWalks::of(alloc, &self.resting)?;
+        let hart = stopping_hart(end, last);
         let turns = self.taken.into_turns(steps)?;
         let (output, events) = self.machine.into_results();
         Ok(RunReport {
@@ -268,7 +319,7 @@ fn empty_trails(alloc: Global, count: u8) -> Result<Vec<Trail>, NoMemory>
 {
     let mut trails = Vec::new(alloc);
     for _ in 0..count {
-        trails.push(Trail::new())?;
+        trails.push(Trail::new(alloc)?)?;
     }
     Ok(trails)
 }

@@ -5,6 +5,7 @@ use crate::report::HartWalk;
 use rv_word::{NoMemory, Places};
 use std::alloc::Global;
 use std::marker::Model;
+use std::mem;
 
 /// How many addresses of a walk are kept.
 const KEPT: u64 = 16;
@@ -12,33 +13,31 @@ const KEPT: u64 = 16;
 /// How many addresses a walk has, and the last of them. These stand in a ring: the address with number k,
 /// from 0 on, at k modulo 16.
 #[derive(Drop)]
-pub(crate) struct Trail {
+struct Notes {
     count: u64,
     ring: [u64; KEPT as usize],
 }
 
-impl Model for Trail {
+impl Model for Notes {
     ghost use Rattle.std.specs.Prelude.{◌%◌, min, take};
     ghost use Rattle.cfi_step.specs.Trail.{TrailParts, turned};
 
     ghost Value = { TrailParts };
 
-    ghost view = { λ t. record { count = t.count; last = turned (t.count % 16) (take (min t.count 16) t.ring) } };
+    ghost view = { λ n. record { count = n.count; last = turned (n.count % 16) (take (min n.count 16) n.ring) } };
 }
 
-impl Trail {
-    /// The trail of a walk without addresses.
-    pub(crate) fn new() -> Trail
+impl Notes {
+    fn new() -> Notes
         ensures { IsTrailOf [] result }
     {
-        Trail {
+        Notes {
             count: 0,
             ring: [0; KEPT as usize],
         }
     }
 
-    /// The walk goes on to an address.
-    pub(crate) fn note(&mut self, address: u64)
+    fn note(&mut self, address: u64)
         requires { self.old.count + 1 < 2 ^ 64 }
         ensures walk { (walk : List ℕ) → IsTrailOf walk self.old → IsTrailOf (walk ++ address ∷ []) self.new }
         ensures count { self.new.count ≡ self.old.count + 1 }
@@ -47,8 +46,7 @@ impl Trail {
         self.count += 1;
     }
 
-    /// What is told of the walk.
-    pub(crate) fn told(&self, alloc: Global) -> Result<HartWalk, NoMemory>
+    fn told(&self, alloc: Global) -> Result<HartWalk, NoMemory>
         ensures { IfOk result (λ walk. walk ≡ told_of self.now) }
     {
         Ok(HartWalk {
@@ -75,5 +73,54 @@ fn kept(count: u64) -> usize
         count as usize
     } else {
         KEPT as usize
+    }
+}
+
+/// What is kept of a walk. It stands apart, so that two trails change places by one word each.
+#[derive(Drop)]
+pub(crate) struct Trail {
+    notes: Box<Notes>,
+}
+
+impl Model for Trail {
+    ghost use Rattle.cfi_step.specs.Trail.{TrailParts};
+
+    ghost Value = { TrailParts };
+
+    ghost view = { λ t. t.notes.value };
+}
+
+impl Trail {
+    /// The trail of a walk without addresses.
+    pub(crate) fn new(alloc: Global) -> Result<Trail, NoMemory>
+        ensures { IfOk result (IsTrailOf []) }
+    {
+        Ok(Trail {
+            notes: Box::new(alloc, Notes::new())?,
+        })
+    }
+
+    /// The walk goes on to an address.
+    pub(crate) fn note(&mut self, address: u64)
+        requires { self.old.count + 1 < 2 ^ 64 }
+        ensures walk { (walk : List ℕ) → IsTrailOf walk self.old → IsTrailOf (walk ++ address ∷ []) self.new }
+        ensures count { self.new.count ≡ self.old.count + 1 }
+    {
+        self.notes.note(address);
+    }
+
+    /// The two change places.
+    pub(crate) fn exchange(&mut self, other: &mut Trail)
+        ensures own { self.new ≡ other.old }
+        ensures other { other.new ≡ self.old }
+    {
+        mem::swap(self, other);
+    }
+
+    /// What is told of the walk.
+    pub(crate) fn told(&self, alloc: Global) -> Result<HartWalk, NoMemory>
+        ensures { IfOk result (λ walk. walk ≡ told_of self.now) }
+    {
+        self.notes.told(alloc)
     }
 }

@@ -5,7 +5,7 @@ ghost use Rattle.rv_code.specs.Run.{disturbed, stepped};
 ghost use Rattle.rv_code.specs.State.{start_hart, start_shared};
 ghost use Rattle.rv_mem.specs.Cells.{HasRoom, has_room};
 ghost use Rattle.rv_machine.specs.Harts.{harts_in, harts_share, resting_at, run_after};
-ghost use Rattle.rv_machine.specs.Parts.{MayTakeMemory};
+ghost use Rattle.rv_machine.specs.Parts.{MayTakeMemory, hart_in};
 ghost use Rattle.rv_machine.specs.Room.{KeepsRoom, LacksRoomAtPc};
 
 use crate::hart::Hart;
@@ -124,13 +124,50 @@ impl Machine {
         ensures version { self.new.processor.memory.version ≡ self.old.processor.memory.version }
         ensures kept { KeepsRoom self.old.processor self.new.processor }
     {
-        self.select(usize::from(hart));
+        let hart = usize::from(hart);
+        self.bring(hart);
+        self.processor.step()
+    }
+
+    /// Selects a hart, of which `pc_of_selected` and `step_selected` are: a run in which one hart steps often
+    /// selects it once.
+    pub fn select(&mut self, hart: u8)
+        requires { hart < length self.old.resting }
+        ensures current { self.new.current ≡ hart }
+        ensures harts { harts_in self.new ≡ harts_in self.old }
+        ensures shared { harts_share self.new ≡ harts_share self.old }
+        ensures count { length self.new.resting ≡ length self.old.resting }
+        ensures version { self.new.processor.memory.version ≡ self.old.processor.memory.version }
+    {
+        self.bring(usize::from(hart));
+    }
+
+    /// The address of the next instruction of the selected hart.
+    pub fn pc_of_selected(&self) -> u64
+        ensures { result ≡ self.now.processor.pc }
+    {
+        self.processor.pc()
+    }
+
+    /// One step of the selected hart, as `step` makes it.
+    #[inline(always)]
+    pub fn step_selected(&mut self) -> Result<Turn, NoMemory>
+        ensures stepped { IfOk result (λ turn. run_after self.new turn ≡ stepped (profile_of self.old.processor.memory.version) (harts_in self.old) (harts_share self.old) (record { hart = self.old.current; changes = [] })) }
+        ensures current { self.new.current ≡ self.old.current }
+        ensures harts { OnErr result (harts_in self.new ≡ harts_in self.old) }
+        ensures shared { OnErr result (harts_share self.new ≡ harts_share self.old) }
+        ensures wants { OnErr result (MayTakeMemory (profile_of self.old.processor.memory.version) (hart_in self.old.processor) (harts_share self.old)) }
+        ensures room { OnErr result (LacksRoomAtPc self.old.processor.memory (hart_in self.old.processor)) }
+        ensures count { length self.new.resting ≡ length self.old.resting }
+        ensures version { self.new.processor.memory.version ≡ self.old.processor.memory.version }
+        ensures kept { KeepsRoom self.old.processor self.new.processor }
+    {
         self.processor.step()
     }
 
     /// Brings a hart into the processor, where it is not there; the one that was there rests.
     #[inline(always)]
-    fn select(&mut self, hart: usize)
+    fn bring(&mut self, hart: usize)
         requires { hart < length self.old.resting }
         ensures current { self.new.current ≡ hart }
         ensures harts { harts_in self.new ≡ harts_in self.old }

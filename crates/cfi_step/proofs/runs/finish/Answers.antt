@@ -1,9 +1,9 @@
-use Rattle.std.proofs.Common.{◌-◌, ◌+◌, ◌∙◌, ◌≡◌, ℕ, length, refl, ap, sym, subst, arith}
+use Rattle.std.proofs.Common.{◌<◌, ◌-◌, ◌+◌, ◌∙◌, ◌≡◌, ℕ, length, refl, ap, sym, subst, arith}
 use Rattle.rv_word.specs.Image.{image_profile}
 use Rattle.rv_word.specs.MemoryMap.{profile_of}
 use Rattle.rv_machine.specs.Harts.{harts_in, harts_share}
 use Rattle.cfi_step.specs.Plan.{Plan, planned}
-use Rattle.cfi_step.specs.Running.{IsReady}
+use Rattle.cfi_step.specs.Running.{IsReady, trails_of}
 use Rattle.cfi_step.proofs.Preparing.{begun_ready, empty_so}
 use Rattle.cfi_step.proofs.Continues.{Continues, all_taken, at_start, has_end, next, stays_next, step_at, stopped, took_so}
 use Rattle.cfi_step.proofs.runs.finish.Goals as goal
@@ -16,8 +16,8 @@ loop-steps-init g c =
     let count = length now.machine.resting in
     let whole = planned (image_profile image) plan count 0 (harts_in now.machine) (harts_share now.machine) c.args.limit in
     let all : c.args.limit ≡ c.args.limit - 0 = omega arith in
-    let begins = at_start (image_profile image) image count (harts_in now.machine) (harts_share now.machine) whole now.made now.taken now.trails.items c.requires.made c.requires.taken
-    (λ j t at. empty_so now.trails.items c.requires.empty j t at) in
+    let begins = at_start (image_profile image) image count (harts_in now.machine) (harts_share now.machine) whole now.made now.taken (trails_of now) c.requires.made c.requires.taken
+    (λ j t at. empty_so (trails_of now) c.requires.empty j t at) in
     record {
       bound = omega arith;
       ready = begun_ready plan (image_profile image) image now c.requires;
@@ -26,7 +26,7 @@ loop-steps-init g c =
       plan = refl;
       stays = c.requires.stays;
       continues = subst (λ (n : ℕ). Continues (image_profile image) image count (harts_in now.machine) (harts_share now.machine) whole 0 (harts_in now.machine) (harts_share now.machine)
-          (planned (image_profile image) plan count 0 (harts_in now.machine) (harts_share now.machine) n) now.made now.taken now.trails.items) all begins;
+          (planned (image_profile image) plan count 0 (harts_in now.machine) (harts_share now.machine) n) now.made now.taken (trails_of now)) all begins;
     }
 
 pub end_of-requires : goal.end_of-requires
@@ -62,9 +62,9 @@ returns-then-is_stop-clause-over g c =
       taken = c.in_ok-turn.ensures.taken;
       noted = c.in_ok-turn.ensures.noted;
     }) in
-    let each = c.in_ok-turn.ensures.ready.each ∙ c.in_ok-turn.ensures.count ∙ c.loop-steps.invariant.count in
+    let counted = c.in_ok-turn.ensures.count ∙ c.loop-steps.invariant.count in
     stopped (image_profile image) image count _ _ _ plan c.loop-steps.steps (c.args.limit - (c.loop-steps.steps + 1)) now c.turn.new.self c.in_ok-turn.turn c.args.limit (omega (arith, c.loop-steps-test.true)) c.end_of.result
-    (sym c.is_stop.ensures ∙ c.if-is_stop.true) c.loop-steps.invariant.continues took each c.end_of.ensures
+    (sym c.is_stop.ensures ∙ c.if-is_stop.true) c.loop-steps.invariant.continues took (c.in_ok-turn.ensures.ready.each ∙ counted) (subst (λ (n : ℕ). c.turn.new.self.taken.hart < n) counted c.in_ok-turn.ensures.ready.last) c.end_of.ensures
 
 pub loop-steps-preserved : goal.loop-steps-preserved
 loop-steps-preserved g c =
@@ -99,3 +99,4 @@ returns-clause-over g c =
     let p = image_profile c.args.checked.now.image in
     all_taken p c.args.checked.now.image (length c.args.running.now.machine.resting) _ _ _ (g.M.Meddler.plan c.args.meddler.now) c.loop-steps.steps c.args.limit c.loop-steps.running
     (omega (arith, c.loop-steps-test.false)) c.loop-steps.invariant.continues (c.loop-steps.invariant.ready.each ∙ c.loop-steps.invariant.count)
+    (subst (λ (n : ℕ). c.loop-steps.running.taken.hart < n) c.loop-steps.invariant.count c.loop-steps.invariant.ready.last)

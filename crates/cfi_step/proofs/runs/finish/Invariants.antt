@@ -3,7 +3,7 @@ use Rattle.rv_word.specs.Image.{image_profile}
 use Rattle.rv_word.specs.MemoryMap.{profile_of}
 use Rattle.rv_machine.specs.Harts.{harts_in, harts_share}
 use Rattle.cfi_step.specs.Plan.{planned}
-use Rattle.cfi_step.specs.Running.{IsReady, StaysFrom}
+use Rattle.cfi_step.specs.Running.{IsReady, StaysFrom, trails_of}
 use Rattle.cfi_step.proofs.Continues.{Continues}
 use Rattle.cfi_step.proofs.runs.finish.Given as goal
 
@@ -20,7 +20,7 @@ invariant-loop-steps g l = record {
       (planned (image_profile l.checked.image) (g.M.Meddler.plan l.initial.meddler) (length l.initial.running.machine.resting) 0 (harts_in l.initial.running.machine) (harts_share l.initial.running.machine) l.limit)
       l.steps (harts_in l.running.machine) (harts_share l.running.machine)
       (planned (image_profile l.checked.image) (g.M.Meddler.plan l.initial.meddler) (length l.initial.running.machine.resting) l.steps (harts_in l.running.machine) (harts_share l.running.machine) (l.limit - l.steps))
-      l.running.made l.running.taken l.running.trails.items;
+      l.running.made l.running.taken (trails_of l.running);
 }
 
 abbrev pub decreases-loop-steps : goal.decreases-loop-steps

@@ -18,7 +18,7 @@ finish-requires g c =
     let shared = rw c.image.ensures.value at started.shared in
     let version = rw c.image.ensures.value at started.version in
     begins (image_profile image) image c.args.checked.now.graph c.args.input.now c.args.harts c.in_ok-running.running c.is_safe.ensures c.requires
-    started.count started.harts shared (ap profile_of version) started.made started.taken started.last started.trails started.empty started.quiet started.still
+    started.count started.harts shared (ap profile_of version) started.made started.taken started.last started.current started.each started.empty started.quiet started.still
 
 pub returns-clause-report : goal.returns-clause-report
 returns-clause-report g c =

@@ -10,9 +10,9 @@ inside c = record { processor = c.self.inside.processor; current = c.self.inside
 
 selected : (c : goal.After-step) → IsSelected c.args.self.now (inside c) c.args.hart
 selected c =
-    let made = c.select.ensures in
+    let made = c.bring.ensures in
     subst (λ (m : MachineParts). IsSelected c.args.self.now m c.args.hart) (sym c.self.view_is)
-    (record { current = made.current ∙ c.from.ensures; harts = made.harts; memory = made.memory; calls = made.calls })
+    (record { current = made.current ∙ c.from-hart.ensures; harts = made.harts; memory = made.memory; calls = made.calls })
 
 pub returns-clause-stepped : goal.returns-clause-stepped
 returns-clause-stepped c = if_ok_then c.step.result (own_step c.args.self.now (inside c) c.args.hart (selected c) c.step.new.self) c.step.ensures.stepped

@@ -3,7 +3,7 @@ use Rattle.rv_code.specs.State.{with_hart}
 use Rattle.rv_machine.specs.Harts.{MachineParts, harts_in, rest_of, resting_at}
 use Rattle.rv_machine.specs.Parts.{Parts, hart_in}
 use Rattle.rv_machine.proofs.Harts.{exchanged}
-use Rattle.rv_machine.proofs.machine.Machine.select.Goals as goal
+use Rattle.rv_machine.proofs.machine.Machine.bring.Goals as goal
 
 pub returns-then-hart-self-clause-harts : goal.returns-then-hart-self-clause-harts
 returns-then-hart-self-clause-harts c =
