@@ -1,7 +1,7 @@
 #!/bin/sh
 # Builds the objects of this folder from its sources, and from the objects expected.txt (what `readelf` lists) and
-# programs.txt (what they are as programs, counted by `objdump` and `readelf`) and linked.txt (what GNU ld makes of those
-# that are programs), by binutils, gcc and clang for RISC-V. make_vectors.py prints four objects that are written by hand.
+# programs.txt (what they are as programs, counted by `objdump` and `readelf`) and linked.txt (what GNU ld or lld makes of
+# those that are programs), by binutils, lld, gcc and clang for RISC-V. make_vectors.py prints five objects that are written by hand.
 # Each object is relocatable RV64I with the soft-float ABI: e_flags 0, no group, no thread-local data, no list of initialisers.
 set -eu
 cd "$(dirname "$0")"
@@ -36,6 +36,8 @@ $gnu $no_unwind -mno-relax -ffunction-sections -fdata-sections -mcmodel=medany -
 riscv64-linux-gnu-gcc $machine -c addressing.s -o addressing.o
 clang --target=riscv64 $machine -mno-relax -c addressing.s -o addressing_clang.o
 riscv64-unknown-elf-gcc $machine -c differences.s -o differences.o
+riscv64-linux-gnu-gcc $machine -mno-relax -c entries.s -o entries.o
+riscv64-linux-gnu-gcc $machine -mno-relax -c order.s -o order.o
 
 # Programs that stand alone and name no register that is reserved: a jump table of addresses, distances from the pc,
 # differences of labels, commons.
@@ -45,6 +47,9 @@ $gnu $no_unwind $own -mcmodel=medany -c tree.c -o tree.o
 $elf $no_unwind $own -mcmodel=medany -c spans.c -o spans.o
 $elf $no_unwind $own -fcommon -mcmodel=medlow -c shared.c -o shared.o
 
+# The same, independent of its position, with a table of addresses.
+$gnu $no_unwind $own -fno-toplevel-reorder -fpic -mcmodel=medany -c slots.c -o slots.o
+
 python3 make_expected.py *.o > expected.txt
 python3 make_programs.py *.o > programs.txt
-python3 make_linked.py switch_*.o pointers_clang.o menu.o tree.o spans.o shared.o > linked.txt
+python3 make_linked.py switch_*.o pointers_clang.o menu.o tree.o spans.o shared.o slots.o entries.o > linked.txt

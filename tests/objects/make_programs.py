@@ -5,7 +5,7 @@
     places N            its places: its instructions, a pair counted once, and the end of each section of code
     KIND N              how many of them are of each kind there is, in the order of KINDS
     patched N           instructions whose immediate comes from a relocation
-    taken N             instructions whose address a relocation takes
+    taken N             instructions whose address a relocation takes, or a slot of the table of addresses has
     functions N         symbols of functions in code
     relocation TYPE N   how many relocations of data there are of each type, by its number
     data SIZE END       bytes of initialised data, and the address where all data end
@@ -14,9 +14,10 @@ or, of an object that is no program, `NAME` and `refused WORDS`.
 
 Instructions are counted as `objdump -d` names them, relocations and symbols as `readelf -SWsr` lists them. A pair is an
 instruction with a relocation CALL or CALL_PLT and the one after it. A place is taken where a relocation of the types
-32, 64, ADD32, ADD64, HI20 or PCREL_HI20 comes to an instruction's offset with its symbol's value and its addend. Data
-stand from 10000h on: sections with bytes, then those without, then commons in the order of symbols, each at its
-alignment. Refused are instructions that name x3, x4, x30 or x31, and symbols that are not defined.
+32, 64, ADD32, ADD64, HI20, PCREL_HI20 or GOT_HI20 comes to an instruction's offset with its symbol's value and its
+addend. Data stand from 10000h on: sections with bytes, then the table of addresses, then sections without bytes, then
+commons in the order of symbols, each at its alignment. The table has 8 bytes for each symbol that a relocation GOT_HI20
+names. Refused are instructions that name x3, x4, x30 or x31, and symbols that are not defined.
 """
 
 import os
@@ -29,7 +30,8 @@ DATA_START = 0x10000
 KINDS = "gate plain store system branch jump call return ijump icall end".split()
 BRANCHES = {"beq", "bne", "blt", "bge", "bltu", "bgeu"}
 STORES = {"sb", "sh", "sw", "sd"}
-IDLE, PAIRS, PATCHES, TAKES = {0, 43, 51}, {18, 19}, set(range(23, 29)), {1, 2, 33 + 2, 33 + 3, 26, 23}
+IDLE, PAIRS, TABLE = {0, 43, 51}, {18, 19}, 20
+PATCHES, TAKES = {TABLE, *range(23, 29)}, {1, 2, 33 + 2, 33 + 3, 26, 23, TABLE}
 SECTION = re.compile(
     r"^  \[ *(\d+)\] (.*?) +([A-Z_]+) +[0-9a-f]{16} [0-9a-f]+ ([0-9a-f]+) [0-9a-f]+ ([ A-Za-z]*?) +\d+ +(\d+) +(\d+)$")
 SYMBOL = re.compile(r"^ *(\d+): ([0-9a-f]{16}) +((?:0x)?[0-9a-f]+) ([A-Z_]+) +[A-Z]+ +[A-Z]+ +(\w+)")
@@ -97,11 +99,18 @@ def aligned(at, align):
     return -(-at // max(align, 1)) * max(align, 1)
 
 
-def extent(data, symbols):
+def slots_of(uses):
+    """How many symbols have a slot in the table of addresses."""
+    return len({symbol for _, symbol, kind, _ in uses if kind == TABLE})
+
+
+def extent(data, symbols, slots):
     at = DATA_START
     for section in data:
         if section["kind"] == "PROGBITS":
             at = aligned(at, section["align"]) + section["size"]
+    if slots:
+        at = aligned(at, 8) + 8 * slots
     size = at - DATA_START
     for section in data:
         if section["kind"] == "NOBITS":
@@ -159,7 +168,8 @@ def describe(path):
     text += ["%s %d" % (kind, kinds.count(kind)) for kind in KINDS if kind in kinds]
     text += ["patched %d" % patched, "taken %d" % len(taken & starts), "functions %d" % functions]
     text += ["relocation %d %d" % (kind, types.count(kind)) for kind in sorted(set(types))]
-    return text + ["data %d %d" % extent(data, symbols)]
+    slots = slots_of(use for section in code for use in uses[section["name"]])
+    return text + ["data %d %d" % extent(data, symbols, slots)]
 
 
 if __name__ == "__main__":

@@ -1,5 +1,5 @@
 #!/usr/bin/env python3
-"""Prints four small objects as statics of Rattle, each with the program that it is.
+"""Prints five small objects as statics of Rattle, each with the program that it is.
 
 Each is written down here by hand, instruction by instruction, with the kind of each place and where direct transfers go.
 The words are made by the tables of the RISC-V unprivileged specification, the files by those of ELF64. A line of a
@@ -14,7 +14,7 @@ import struct
 
 FUNC, OBJECT, NOTYPE, SECTION = 2, 1, 0, 3
 ABS = 0xFFF1
-ABS64, CALL_PLT, PCREL_HI20, PCREL_LO12_I, HI20, LO12_I, RELAX = 2, 19, 23, 24, 26, 27, 51
+ABS64, CALL_PLT, GOT_HI20, PCREL_HI20, PCREL_LO12_I, HI20, LO12_I, RELAX = 2, 19, 20, 23, 24, 26, 27, 51
 DATA_START = 0x10000
 PER_LINE = 47
 
@@ -68,11 +68,12 @@ ECALL, RETURN = 0x73, jalr(0, 1)
 
 
 class Object:
-    """Code in section 1 and, if there are any, data in section 2. `places` are (words, kind, text behind the word)."""
+    """Code in section 1 and, if there are any, data in section 2. `places` are (words, kind, text behind the word); the table
+    of addresses has so many slots."""
 
-    def __init__(self, name, places, symbols, relocations, data=b"", flags=0, moved=()):
+    def __init__(self, name, places, symbols, relocations, data=b"", flags=0, moved=(), slots=0):
         self.name, self.places, self.symbols, self.data, self.flags = name, places, symbols, data, flags
-        self.relocations, self.moved = relocations, moved
+        self.relocations, self.moved, self.slots = relocations, moved, slots
 
     def program(self):
         lines, offset = [], 0
@@ -81,7 +82,8 @@ class Object:
             offset += 4 * len(words)
         lines.append("1 %d end 0" % offset)
         lines += ["function 1 %d %d" % (value, size) for _, kind, place, value, size in self.symbols if kind == FUNC]
-        return lines + ["data %d %d" % (len(self.data), DATA_START + len(self.data))]
+        size = len(self.data) + 8 * self.slots
+        return lines + ["data %d %d" % (size, DATA_START + size)]
 
     def file(self):
         code = b"".join(struct.pack("<I", word) for words, _, _ in self.places for word in words)
@@ -156,4 +158,10 @@ R = Object(
     [("", SECTION, 1, 0, 0), ("main", FUNC, 1, 0, 12), ("rec", FUNC, 1, 12, 32), ("rec", NOTYPE, 1, 40, 0),
      ("limit", OBJECT, ABS, 8190, 0)], [])
 
-print("\n".join(each.source() for each in (B, P, H, R)))
+T = Object(
+    "T",
+    [([auipc(5, 0)], "plain", ""), ([ld(5, 5, 0)], "plain", ""), ([jalr(0, 5)], "ijump", ""),
+     ([addi(10, 0, 4)], "plain", " taken"), ([RETURN], "return", "")],
+    [("main", FUNC, 1, 0, 12), ("f", FUNC, 1, 12, 8)], [(0, GOT_HI20, "f"), (4, PCREL_LO12_I, "main")], slots=1)
+
+print("\n".join(each.source() for each in (B, P, H, R, T)))

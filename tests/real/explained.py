@@ -22,10 +22,15 @@ import programs
 from attack import ATTACKS
 from pitfalls import CHANCES, MACHINE, Bench, policy_of
 from programs import Hardened, Missing
-from refusals import NAMES_Q, PLAIN, compiled
+from refusals import PLAIN, compiled
 
 TOOL = os.path.join(programs.HERE, "..", "..", "tools", "explain.py")
 CYCLES = "int main(void) { long t; __asm__ volatile(\"rdcycle %0\" : \"=r\"(t)); return t; }"
+LONE_LOW = r"""int main(void)
+{
+    __asm__ volatile("1: .reloc 1b, R_RISCV_TLS_GOT_HI20, q\n\tauipc t0, 0\n\tlw t0, %%pcrel_lo(1b)(t0)" : : : "t0");
+    return 0;
+}"""
 CALLS = "int f(void), g(void); extern int n; int h(void) { return g(); } int main(void) { return f() + h() + n; }"
 
 
@@ -82,7 +87,7 @@ def of_refusals(asked):
     asked.refusal(asked.bench.case("aligned.c", ["-falign-functions=16"]), "a zero word")
     asked.refusal(asked.source("int main(void) { __asm__(\"mv t6, a0\"); return 0; }"), ": main+0", "x31 (t6)", "mv t6,a0")
     asked.refusal(asked.source("int g(int); int main(void) { return g(g(3)) + 1; }", "-msave-restore"), ": main+0", "__riscv_save_0")
-    asked.refusal(asked.source(NAMES_Q, "-fpic", without=["-fno-pic"]), "It completes main+0", "GOT_HI20 q")
+    asked.refusal(asked.source(LONE_LOW), "It completes main+0", "TLS_GOT_HI20 q")
     asked.refusal(product, "__muldi3 (symbol", "Undefined are 1 in all", "main+")
     asked.refusal(asked.source(PLAIN + " char *p = (char *)main + 2;"), "It points to main+2", "In .sdata")
     asked.refusal(asked.source(PLAIN), "Functions that all files see: main.", entry="start")

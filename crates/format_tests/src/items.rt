@@ -12,10 +12,10 @@ fn table(number: u32) -> (&'static [u8], usize) {
         0 => (item_rows::WORDS, 13),
         1 => (item_rows::TRANSFERS, 9),
         2 => (item_rows::MORE_TRANSFERS, 9),
-        3 => (item_rows::PLACES, 18),
-        4 => (item_rows::KINDS, 11),
-        5 => (item_rows::POINTERS, 5),
-        _ => (item_rows::FAULTLESS, 11),
+        3 => (item_rows::PLACES, 22),
+        4 => (item_rows::KINDS, 13),
+        5 => (item_rows::POINTERS, 6),
+        _ => (item_rows::FAULTLESS, 14),
     }
 }
 

@@ -1,4 +1,5 @@
 mod Listings
+mod Untabled
 mod Symbols
 mod Sections
 pub mod Reading

@@ -1,26 +1,33 @@
 -- The input that a generated object is read as.
 use Rattle.std.proofs.Common.{◌≡◌, ◌≢◌, ◌⊎◌, ℕ, zero, suc, ◌+◌, ◌<◌, ◌≤◌, true, false, List, [], ◌∷◌, length, map, get_or, inl, inr, refl, sym, ap, subst, ◌∙◌, arith}
-use Rattle.std.proofs.lemmas.Bool.{cases_lt}
+use Rattle.std.proofs.lemmas.Bool.{cases_eq, cases_lt}
+use Rattle.std.proofs.lemmas.List.{get_or_past}
 use Rattle.elf_tables.specs.declared.entry.Reloc.{Reloc}
 use Rattle.elf_tables.specs.Header.{e_shnum}
 use Rattle.elf_tables.specs.Section.{content, section_header}
 use Rattle.elf_tables.specs.Kept.{is_kept}
 use Rattle.elf_tables.specs.Symbol.{symbol_count}
+use Rattle.elf_tables.specs.Relocation.{relocation_bytes, relocation_count}
 use Rattle.elf_writer.specs.Right.{no_symbol}
-use Rattle.elf_writer.specs.Holds.{Holds, IsSection}
+use Rattle.elf_writer.specs.Holds.{AreRelocations, Holds, IsSection}
 use Rattle.obj_input.specs.declared.parts.Sort.TheVariants.{Code, Data, Dropped}
-use Rattle.obj_input.specs.Input.{SectionParts, no_section, section_of}
+use Rattle.obj_input.specs.Input.{SectionParts, no_section, section_count, section_of}
+use Rattle.obj_input.specs.Kinds.{is_table_high, kind_of}
 use Rattle.obj_items.specs.Definitions.{definition}
-use Rattle.obj_items.specs.Sections.{section_in, sort_of, use_of as read_use, uses_of}
+use Rattle.obj_items.specs.Addressed.{table_of}
+use Rattle.obj_items.specs.Sections.{section_in, use_of as read_use, uses_of}
+use Rattle.obj_items.specs.Uses.{reloc_at, reloc_count, sort_of}
 use Rattle.obj_items.specs.FromObject.{input_of}
+use Rattle.obj_items.proofs.Behind.{section_is as read_section, section_number}
+use Rattle.obj_items.proofs.Plain.{none_behind}
 use Rattle.cfi_gen.specs.declared.function.Function.{Function}
-use Rattle.cfi_gen.specs.Lines.{code_bytes, code_size}
+use Rattle.cfi_gen.specs.Lines.{code_bytes, code_size, relocs_from}
 use Rattle.cfi_gen.specs.Code.{function_lines, program_lines}
-use Rattle.cfi_gen.specs.Demo.{data_part, data_relocs, function_symbols, parts_with, table_bytes, text_part, text_relocs}
+use Rattle.cfi_gen.specs.Demo.{data_part, data_relocs, function_symbols, parts_with, table_bytes, table_relocs, text_part, text_relocs}
 use Rattle.gen_program.specs.Generated.{IsGenerated, symbol_definition, symbols_of, table_section, text_section, use_of}
-use Rattle.gen_program.proofs.Listings.{length-listed, listed_at, listed_past}
 use Rattle.gen_program.proofs.Symbols.{IsKeptSection, definition_is, definition_zero, names_are, no_blocks}
-use Rattle.gen_program.proofs.Sections.{content_there, dropped_sort, dropped_uses, section_is, uses_are}
+use Rattle.gen_program.proofs.Sections.{content_there, dropped_sort, dropped_uses, plain_at, section_is, uses_are}
+use Rattle.gen_program.proofs.Untabled.{table_plain, text_plain}
 
 -- the functions' symbols stand in section 1
 functions_placed : (at i : ℕ) (fs : List Function) (k : ℕ) → k < length (function_symbols at i fs) → (get_or (function_symbols at i fs) k no_symbol).section ≡ 1
@@ -70,16 +77,49 @@ module _ (fs : List Function) (file : List ℕ) (holds : Holds (parts_with fs) f
       let count = holds.symbol_count_is in
       definition_is (parts_with fs) file holds within k (omega arith)
 
-  use_there : (r : Reloc) → r.symbol < symbol_count file → read_use file r ≡ use_of fs r
-  use_there r below = rw (definition_there r.symbol below) refl
+  use_there : (r : Reloc) → r.symbol < symbol_count file → is_table_high (kind_of r.kind) ≡ false → read_use file r ≡ use_of fs r
+  use_there r below plain = rw (plain, definition_there r.symbol below) refl
+
+  not_kept : (k : ℕ) → k < 8 → k ≢ 1 → k ≢ 2 → is_kept file k ≡ false
+  not_kept zero below no_text no_table = holds.first_dropped
+  not_kept (suc k) below no_text no_table =
+      let past : 2 < suc k = omega arith in
+      holds.others_dropped (suc k) past below
+
+  text_relocated : AreRelocations file 1 (text_relocs fs)
+  text_relocated = holds.relocations 0 (omega arith) text_kept
+
+  data_relocated : AreRelocations file 2 data_relocs
+  data_relocated = holds.relocations 1 (omega arith) data_kept
+
+  -- no use of the table of addresses, so that there is none
+  plain_uses : (k j : ℕ) → k < e_shnum file → j < reloc_count file k → is_table_high (kind_of (reloc_at file k j).kind) ≡ false
+  plain_uses k j there below = elim (cases_eq k 1) [
+    | inl text ↦
+        let counted : j < length (relocs_from 0 (program_lines fs)) = let own = text_relocated.count in let same = ap (reloc_count file) text in omega arith in
+        ap (λ n. is_table_high (kind_of (reloc_at file n j).kind)) text ∙ plain_at file 1 (text_relocs fs) text_relocated (text_plain fs) j counted
+    | inr no_text ↦ elim (cases_eq k 2) [
+      | inl table ↦
+          let counted : j < length (table_relocs 2000 0) = let own = data_relocated.count in let same = ap (reloc_count file) table in omega arith in
+          ap (λ n. is_table_high (kind_of (reloc_at file n j).kind)) table ∙ plain_at file 2 data_relocs data_relocated (table_plain 2000 0) j counted
+      | inr no_table ↦
+          let dropped : relocation_bytes file k ≡ [] = rw (not_kept k (let n = count in omega arith) no_text no_table) refl in
+          let none : reloc_count file k ≡ 0 = ap relocation_count dropped in
+          absurd (omega arith)
+    ]
+  ]
+
+  no_table : table_of file ≡ []
+  no_table = none_behind file (record { plain = plain_uses })
+
+  sections_counted : section_count (input_of file) ≡ 8
+  sections_counted = section_number file ∙ ap (λ (ss : List SectionParts). e_shnum file + length ss) no_table ∙ (let n = count in omega arith)
 
   section_at : (k : ℕ) → k < 8 → section_of (input_of file) k ≡ section_in file k
-  unfolding input_of
-  section_at k below = listed_at (section_in file) (e_shnum file) k no_section (let n = count in omega arith)
+  section_at k below = read_section file k (let n = count in omega arith)
 
   no_more : (k : ℕ) → 8 ≤ k → section_of (input_of file) k ≡ no_section
-  unfolding input_of
-  no_more k past = listed_past (section_in file) (e_shnum file) k no_section (let n = count in omega arith)
+  no_more k past = get_or_past (input_of file).sections k no_section (let n = sections_counted in omega arith)
 
   -- the code
   text_sort : sort_of file 1 ≡ Code
@@ -90,7 +130,7 @@ module _ (fs : List Function) (file : List ℕ) (holds : Holds (parts_with fs) f
 
   text_uses : uses_of file 1 ≡ map (use_of fs) (text_relocs fs).entries
   text_uses =
-      uses_are file 1 (text_relocs fs) (use_of fs) holds.sound (let n = count in omega arith) (holds.relocations 0 (omega arith) text_kept) use_there
+      uses_are file 1 (text_relocs fs) (use_of fs) holds.sound (let n = count in omega arith) text_relocated use_there (text_plain fs)
 
   text_is : section_in file 1 ≡ text_section fs
   text_is = section_is (section_in file 1) (text_section fs) text_sort text_there.size text_there.align text_content text_uses
@@ -104,18 +144,12 @@ module _ (fs : List Function) (file : List ℕ) (holds : Holds (parts_with fs) f
 
   data_uses : uses_of file 2 ≡ map (use_of fs) data_relocs.entries
   data_uses =
-      uses_are file 2 data_relocs (use_of fs) holds.sound (let n = count in omega arith) (holds.relocations 1 (omega arith) data_kept) use_there
+      uses_are file 2 data_relocs (use_of fs) holds.sound (let n = count in omega arith) data_relocated use_there (table_plain 2000 0)
 
   table_is : section_in file 2 ≡ table_section fs
   table_is = section_is (section_in file 2) (table_section fs) data_sort data_there.size data_there.align data_content data_uses
 
   -- the other sections
-  not_kept : (k : ℕ) → k < 8 → k ≢ 1 → k ≢ 2 → is_kept file k ≡ false
-  not_kept zero below no_text no_table = holds.first_dropped
-  not_kept (suc k) below no_text no_table =
-      let past : 2 < suc k = omega arith in
-      holds.others_dropped (suc k) past below
-
   dropped : (k : ℕ) → k ≢ 1 → k ≢ 2 → (section_of (input_of file) k).sort ≡ Dropped
   dropped k no_text no_table = elim (cases_lt k 8) [
     | inl below ↦ ap (λ (s : SectionParts). s.sort) (section_at k below) ∙ dropped_sort file k (not_kept k below no_text no_table)
@@ -132,7 +166,7 @@ module _ (fs : List Function) (file : List ℕ) (holds : Holds (parts_with fs) f
   pub generated_is : IsGenerated fs (input_of file)
   unfolding input_of
   generated_is = record {
-    count = length-listed (section_in file) (e_shnum file) ∙ count;
+    count = sections_counted;
     text = section_at 1 (omega arith) ∙ text_is;
     table = section_at 2 (omega arith) ∙ table_is;
     dropped = dropped;

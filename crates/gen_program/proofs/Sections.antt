@@ -1,5 +1,6 @@
 -- What a section of an object that holds some parts is: its sort, its bytes, and its relocations with what their symbols stand for.
-use Rattle.std.proofs.Common.{◌≡◌, ℕ, ◌<◌, false, None, List, [], map, refl, ap, ◌∙◌, arith}
+use Rattle.std.proofs.Common.{◌≡◌, ℕ, ◌<◌, true, false, None, List, [], length, map, refl, ap, ◌∙◌, arith}
+use Rattle.std.specs.List.{list_all}
 use Rattle.std.proofs.lemmas.Bool.{lt-ltb}
 use Rattle.elf_tables.specs.declared.entry.Reloc.{Reloc}
 use Rattle.elf_tables.specs.Header.{e_shnum}
@@ -16,22 +17,31 @@ use Rattle.obj_input.specs.declared.parts.Sort.TheVariants.{Dropped}
 use Rattle.obj_input.specs.declared.parts.Relocation.{Relocation}
 use Rattle.obj_input.specs.Input.{SectionParts}
 use Rattle.obj_input.specs.Listed.{listed}
-use Rattle.obj_items.specs.Sections.{sort_of, use_at, use_of, uses_of}
+use Rattle.obj_input.specs.Kinds.{is_table_high, kind_of}
+use Rattle.obj_items.specs.Sections.{use_at, use_of, uses_of}
+use Rattle.obj_items.specs.Uses.{sort_of}
 use Rattle.gen_program.proofs.Listings.{listed_map}
+use Rattle.gen_program.proofs.Untabled.{is_plain, plain_in}
 
 pub content_there : (file : List ℕ) (k : ℕ) → k < e_shnum file → section_bytes file k ≡ content file (section_header file k)
 unfolding section_bytes
 content_there file k below = rw (lt-ltb _ _ below) refl
 
+-- those of a part are no uses of the table of addresses
+pub plain_at : (file : List ℕ) (k : ℕ) (r : RelocationsPart) → AreRelocations file k r → list_all is_plain r.entries ≡ true → (j : ℕ) → j < length r.entries
+    → is_table_high (kind_of (relocation_in (relocation_bytes file k) j).kind) ≡ false
+plain_at file k r are plain j inside = ap (λ (x : Reloc). is_table_high (kind_of x.kind)) (are.each j inside) ∙ plain_in r.entries plain j no_reloc inside
+
 -- the relocations of a section, by what each is for a symbol that is there
 pub uses_are : (file : List ℕ) (k : ℕ) (r : RelocationsPart) (use_for : Reloc → Relocation) → fault_of file ≡ None → k < e_shnum file → AreRelocations file k r
-    → ((x : Reloc) → x.symbol < symbol_count file → use_of file x ≡ use_for x) → uses_of file k ≡ map use_for r.entries
-uses_are file k r use_for sound below are is =
+    → ((x : Reloc) → x.symbol < symbol_count file → is_table_high (kind_of x.kind) ≡ false → use_of file x ≡ use_for x)
+    → list_all is_plain r.entries ≡ true → uses_of file k ≡ map use_for r.entries
+uses_are file k r use_for sound below are is plain =
     ap (listed (use_at file k)) are.count
     ∙ listed_map (use_at file k) use_for r.entries no_reloc
     (λ j inside.
     let counted : j < relocation_count (relocation_bytes file k) = let count = are.count in omega arith in
-    is (relocation_in (relocation_bytes file k) j) (relocations_named file k j sound below counted) ∙ ap use_for (are.each j inside))
+    is (relocation_in (relocation_bytes file k) j) (relocations_named file k j sound below counted) (plain_at file k r are plain j inside) ∙ ap use_for (are.each j inside))
 
 -- a section that is not kept
 pub dropped_sort : (file : List ℕ) (k : ℕ) → is_kept file k ≡ false → sort_of file k ≡ Dropped

@@ -2,7 +2,7 @@
 use Rattle.std.proofs.Common.{◌≡◌, true, refl}
 use Rattle.obj_input.specs.declared.parts.Relocation.{Relocation}
 use Rattle.obj_input.specs.declared.reloc_kind.RelocKind.{RelocKind}
-use Rattle.obj_input.specs.declared.reloc_kind.RelocKind.TheVariants.{PairTarget, RelativeHigh}
+use Rattle.obj_input.specs.declared.reloc_kind.RelocKind.TheVariants.{PairTarget, RelativeHigh, TableHigh}
 use Rattle.obj_input.specs.Kinds.{is_idle, is_pair_target, is_relative_high, kind_of}
 use Rattle.obj_input.specs.Relocation.{is_acting}
 use Rattle.obj_input.specs.InOrder.{is_high_use, is_pair_use}
@@ -14,6 +14,7 @@ pair_does other e = absurd (cc)
 
 high_does : (kind : RelocKind) → is_relative_high kind ≡ true → not (is_idle kind) ≡ true
 high_does RelativeHigh e = refl
+high_does TableHigh e = refl
 high_does other e = absurd (cc)
 
 pub pair_is_acting : (u : Relocation) → is_pair_use u ≡ true → is_acting u ≡ true

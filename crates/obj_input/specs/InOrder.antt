@@ -3,9 +3,10 @@ use Rattle.std.specs.Prelude.{◌≡◌, ℕ, ◌<◌, ◌≤◌, ◌^◌, Bool,
 use Rattle.std.specs.List.{All, list_any}
 use Rattle.std.specs.List.Sorted.{IsNonDecreasingBy}
 use Rattle.obj_input.specs.declared.parts.Relocation.{Relocation}
+use Rattle.obj_input.specs.declared.parts.Sort.{Sort}
 use Rattle.obj_input.specs.Kinds.{is_pair_target, is_relative_high, kind_of}
 use Rattle.obj_input.specs.Relocation.{is_acting}
-use Rattle.obj_input.specs.Input.{SectionParts, acting_among, acting_at, has_bytes}
+use Rattle.obj_input.specs.Input.{SectionParts, acting_among, acting_at, has_bytes, is_code_sort}
 
 -- an offset is among some
 abbrev pub has : List ℕ → ℕ → Bool
@@ -29,6 +30,10 @@ pub record IsFoundIn (uses acting : List Relocation) : Type 0 where
 -- the table itself where it is so
 abbrev pub by_offset : Bool → List Relocation → List Relocation → List Relocation
 by_offset in_order uses acting = if in_order then uses else acting
+
+-- code has no zeros behind the bytes that are lent
+abbrev pub IsAllLent : Sort → ℕ → Type 0
+IsAllLent sort zeros = is_code_sort sort ≡ true → zeros ≡ 0
 
 -- the first i of a table do something, and stand in the order of their offsets, none past an offset
 pub record AreFirst (uses : List Relocation) (i last : ℕ) : Type 0 where

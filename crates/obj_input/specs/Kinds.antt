@@ -3,7 +3,7 @@ use Rattle.std.specs.Prelude.{ℕ, Bool, true, false, ◌==◌, ◌||◌, if◌t
 use Rattle.rv_reloc.specs.declared.kinds.DataPatch.{DataPatch}
 use Rattle.rv_reloc.specs.declared.kinds.DataPatch.TheVariants.{Abs32, Abs64, Add8, Add16, Add32, Add64, Sub8, Sub16, Sub32, Sub64}
 use Rattle.obj_input.specs.declared.reloc_kind.RelocKind.{RelocKind}
-use Rattle.obj_input.specs.declared.reloc_kind.RelocKind.TheVariants.{Nothing, Mark, BranchTarget, JalTarget, PairTarget, RelativeHigh, RelativeLowI, RelativeLowS, High, LowI, LowS, InData, Unknown}
+use Rattle.obj_input.specs.declared.reloc_kind.RelocKind.TheVariants.{Nothing, Mark, BranchTarget, JalTarget, PairTarget, RelativeHigh, TableHigh, RelativeLowI, RelativeLowS, High, LowI, LowS, InData, Unknown}
 
 -- those of numbers in data
 abbrev pub data_kind : ℕ → RelocKind
@@ -26,6 +26,7 @@ kind_of n =
     if n == 16 then BranchTarget else
     if n == 17 then JalTarget else
     if n == 18 || n == 19 then PairTarget else
+    if n == 20 then TableHigh else
     if n == 23 then RelativeHigh else
     if n == 24 then RelativeLowI else
     if n == 25 then RelativeLowS else
@@ -52,7 +53,13 @@ is_transfer other = false
 
 abbrev pub is_relative_high : RelocKind → Bool
 is_relative_high RelativeHigh = true
+is_relative_high TableHigh = true
 is_relative_high other = false
+
+-- the high part of the distance to a slot of the table of addresses
+abbrev pub is_table_high : RelocKind → Bool
+is_table_high TableHigh = true
+is_table_high other = false
 
 abbrev pub is_relative_low : RelocKind → Bool
 is_relative_low RelativeLowI = true

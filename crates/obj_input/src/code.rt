@@ -94,8 +94,8 @@ impl Section<'_> {
         requires below { index < word_count self.now }
         ensures { result ≡ word self.now index }
     {
-        let content = self.content();
-        u32_at(content, self.offset_of(index)).unwrap()
+        let code = self.code();
+        u32_at(code, self.offset_of(index)).unwrap()
     }
 
     /// The instruction that the word of code with this index is, none past the end.

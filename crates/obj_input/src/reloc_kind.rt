@@ -1,12 +1,13 @@
 ghost use Rattle.std.specs.Prelude.{◌≡◌};
-ghost use Rattle.obj_input.specs.Kinds.{data_kind, is_idle, is_pair_target, is_relative_high, is_relative_low, is_transfer, kind_of, takes_address};
+ghost use Rattle.obj_input.specs.Kinds.{data_kind, is_idle, is_pair_target, is_relative_high, is_relative_low, is_table_high, is_transfer, kind_of, takes_address};
 
 use rv_reloc::DataPatch;
 use rv_reloc::types::{
     R_RISCV_32, R_RISCV_64, R_RISCV_ADD8, R_RISCV_ADD16, R_RISCV_ADD32, R_RISCV_ADD64,
-    R_RISCV_ALIGN, R_RISCV_BRANCH, R_RISCV_CALL, R_RISCV_CALL_PLT, R_RISCV_HI20, R_RISCV_JAL,
-    R_RISCV_LO12_I, R_RISCV_LO12_S, R_RISCV_NONE, R_RISCV_PCREL_HI20, R_RISCV_PCREL_LO12_I,
-    R_RISCV_PCREL_LO12_S, R_RISCV_RELAX, R_RISCV_SUB8, R_RISCV_SUB16, R_RISCV_SUB32, R_RISCV_SUB64,
+    R_RISCV_ALIGN, R_RISCV_BRANCH, R_RISCV_CALL, R_RISCV_CALL_PLT, R_RISCV_GOT_HI20, R_RISCV_HI20,
+    R_RISCV_JAL, R_RISCV_LO12_I, R_RISCV_LO12_S, R_RISCV_NONE, R_RISCV_PCREL_HI20,
+    R_RISCV_PCREL_LO12_I, R_RISCV_PCREL_LO12_S, R_RISCV_RELAX, R_RISCV_SUB8, R_RISCV_SUB16,
+    R_RISCV_SUB32, R_RISCV_SUB64,
 };
 
 /// What a relocation does, by its type (RISC-V ELF psABI, "Relocations").
@@ -24,6 +25,8 @@ pub enum RelocKind {
     PairTarget,
     /// `R_RISCV_PCREL_HI20`: the immediate of an AUIPC.
     RelativeHigh,
+    /// `R_RISCV_GOT_HI20`: the immediate of an AUIPC, for the slot that the table of addresses has for the symbol.
+    TableHigh,
     /// `R_RISCV_PCREL_LO12_I`: the immediate of an I form, for the AUIPC that its symbol labels.
     RelativeLowI,
     /// `R_RISCV_PCREL_LO12_S`: the same of a store.
@@ -71,6 +74,7 @@ impl RelocKind {
             R_RISCV_BRANCH => RelocKind::BranchTarget,
             R_RISCV_JAL => RelocKind::JalTarget,
             R_RISCV_CALL | R_RISCV_CALL_PLT => RelocKind::PairTarget,
+            R_RISCV_GOT_HI20 => RelocKind::TableHigh,
             R_RISCV_PCREL_HI20 => RelocKind::RelativeHigh,
             R_RISCV_PCREL_LO12_I => RelocKind::RelativeLowI,
             R_RISCV_PCREL_LO12_S => RelocKind::RelativeLowS,
@@ -109,7 +113,14 @@ impl RelocKind {
     pub fn is_relative_high(self) -> bool
         ensures { result ≡ is_relative_high self }
     {
-        matches!(self, RelocKind::RelativeHigh)
+        matches!(self, RelocKind::RelativeHigh | RelocKind::TableHigh)
+    }
+
+    /// Whether it is the high part of the distance to a slot of the table of addresses.
+    pub fn is_table_high(self) -> bool
+        ensures { result ≡ is_table_high self }
+    {
+        matches!(self, RelocKind::TableHigh)
     }
 
     /// Whether it is the low part of a distance.

@@ -1,6 +1,7 @@
-ghost use Rattle.std.specs.Prelude.{◌≡◌, true, length, IfOk};
+ghost use Rattle.std.specs.Prelude.{◌≡◌, ◌++◌, [], true, length, replicate, IfOk};
 ghost use Rattle.obj_input.specs.Input.{acting_at, has_bytes, is_code, is_data_sort, is_zeros_sort};
-ghost use Rattle.obj_input.specs.InOrder.{is_high_use, is_pair_use};
+ghost use Rattle.obj_input.specs.InOrder.{IsAllLent, is_high_use, is_pair_use};
+ghost use Rattle.obj_input.specs.declared.parts.Sort.TheVariants.{Data};
 ghost use Rattle.std.specs.List.{list_any};
 
 use crate::offsets::Offsets;
@@ -19,7 +20,8 @@ pub struct Section<'a> {
     sort: Sort,
     size: u64,
     align: u64,
-    content: &'a [u8],
+    lent: &'a [u8],
+    zeros: u64,
     uses: Vec<Relocation>,
     in_order: bool,
     acting: Vec<Relocation>,
@@ -28,14 +30,15 @@ pub struct Section<'a> {
 }
 
 impl<'a> Model for Section<'a> {
+    ghost use Rattle.std.specs.Prelude.{◌++◌, replicate};
     ghost use Rattle.obj_input.specs.Input.{SectionParts};
-    ghost use Rattle.obj_input.specs.InOrder.{IsKept, by_offset};
+    ghost use Rattle.obj_input.specs.InOrder.{IsAllLent, IsKept, by_offset};
 
     ghost Value = { SectionParts };
 
-    ghost view = { λ s. record { sort = s.sort; size = s.size; align = s.align; content = s.content.now; uses = s.uses.items } };
+    ghost view = { λ s. record { sort = s.sort; size = s.size; align = s.align; content = s.lent.now ++ replicate s.zeros 0; uses = s.uses.items } };
 
-    ghost invariant = { λ s. IsKept (record { sort = s.sort; size = s.size; align = s.align; content = s.content.now; uses = s.uses.items }) (by_offset s.in_order s.uses.items s.acting.items) s.pairs s.highs };
+    ghost invariant = { λ s. IsAllLent s.sort s.zeros × IsKept (record { sort = s.sort; size = s.size; align = s.align; content = s.lent.now ++ replicate s.zeros 0; uses = s.uses.items }) (by_offset s.in_order s.uses.items s.acting.items) s.pairs s.highs };
 }
 
 impl<'a> Section<'a> {
@@ -52,6 +55,24 @@ impl<'a> Section<'a> {
         requires { has_bytes sort ≡ true → length content.now ≡ size }
         ensures { IfOk result (λ s. s ≡ record { sort = sort; size = size; align = align; content = content.now; uses = uses.items }) }
     {
+        let section = Section::of_bytes(alloc, sort, size, align, content, 0, uses)?;
+        Ok(section)
+    }
+
+    /// The section of these parts, whose bytes are those that are lent and so many zeros.
+    fn of_bytes(
+        alloc: Global,
+        sort: Sort,
+        size: u64,
+        align: u64,
+        lent: &'a [u8],
+        zeros: u64,
+        uses: Vec<Relocation>,
+    ) -> Result<Section<'a>, NoMemory>
+        requires lent { IsAllLent sort zeros }
+        requires whole { has_bytes sort ≡ true → length (lent.now ++ replicate zeros 0) ≡ size }
+        ensures { IfOk result (λ s. s ≡ record { sort = sort; size = size; align = align; content = lent.now ++ replicate zeros 0; uses = uses.items }) }
+    {
         let in_order = are_in_order(&uses);
         let acting = acting_unless(alloc, in_order, &uses)?;
         let pairs = pair_offsets(alloc, &uses)?;
@@ -60,13 +81,38 @@ impl<'a> Section<'a> {
             sort,
             size,
             align,
-            content,
+            lent,
+            zeros,
             uses,
             in_order,
             acting,
             pairs,
             highs,
         })
+    }
+
+    /// The section of data with this many bytes, which are zero and in no file; `uses` are its relocations in order.
+    pub fn of_zeros(
+        alloc: Global,
+        size: u64,
+        align: u64,
+        uses: Vec<Relocation>,
+    ) -> Result<Section<'a>, NoMemory>
+        ensures { IfOk result (λ s. s ≡ record { sort = Data; size = size; align = align; content = replicate size 0; uses = uses.items }) }
+    {
+        let section = Section::of_bytes(alloc, Sort::Data, size, align, &[], size, uses)?;
+        Ok(section)
+    }
+
+    /// The same section without its relocations.
+    pub fn without_uses(&self, alloc: Global) -> Result<Section<'a>, NoMemory>
+        ensures { IfOk result (λ s. s ≡ record { sort = self.now.sort; size = self.now.size; align = self.now.align; content = self.now.content; uses = [] }) }
+    {
+        let uses = Vec::new(alloc);
+        let section = Section::of_bytes(
+            alloc, self.sort, self.size, self.align, self.lent, self.zeros, uses,
+        )?;
+        Ok(section)
     }
 
     /// What it holds.
@@ -111,12 +157,21 @@ impl<'a> Section<'a> {
         self.align
     }
 
-    /// Its bytes in the file: all of code and data.
-    pub fn content(&self) -> &'a [u8]
-        ensures value { result.now ≡ self.now.content }
-        ensures whole { has_bytes self.now.sort ≡ true → length result.now ≡ self.now.size }
+    /// Its bytes: those that are lent, and how many zeros are behind them. Code and data have all.
+    pub fn bytes(&self) -> (&'a [u8], u64)
+        ensures value { self.now.content ≡ result.0.now ++ replicate result.1 0 }
+        ensures whole { has_bytes self.now.sort ≡ true → length self.now.content ≡ self.now.size }
     {
-        self.content
+        (self.lent, self.zeros)
+    }
+
+    /// The bytes of code.
+    pub(crate) fn code(&self) -> &'a [u8]
+        requires { is_code self.now ≡ true }
+        ensures value { result.now ≡ self.now.content }
+        ensures whole { length result.now ≡ self.now.size }
+    {
+        self.lent
     }
 
     /// Its relocations in the order of their table.

@@ -10,7 +10,7 @@ use Rattle.obj_program.specs.declared.item.DataReloc.{DataReloc}
 use Rattle.obj_program.specs.declared.item.Item.{Item}
 use Rattle.obj_items.specs.Bare.{bare_relocs}
 use Rattle.obj_items.specs.InitialData.{init_below, placed, reloc_of}
-use Rattle.obj_items.specs.Sections.{uses_of}
+use Rattle.obj_items.specs.Sections.{uses_with_table}
 use Rattle.obj_items.proofs.Steps.{joined_next, joined_passed}
 
 module _ (input : InputParts) where
@@ -48,10 +48,10 @@ flat_map_more given xs i x before now next below is here e =
 
 module _ (input : InputParts) (bytes : List ℕ) (places : List Item) (k : ℕ) (section : SectionParts) where
   pub relocs_next : (so_far next : List DataReloc) → so_far ≡ joined (bare_relocs input bytes places) k → section ≡ section_of input k
-      → true ≡ is_data_sort section.sort → next ≡ so_far ++ flat_map (reloc_of input places k) (uses_of bytes k)
+      → true ≡ is_data_sort section.sort → next ≡ so_far ++ flat_map (reloc_of input places k) (uses_with_table bytes k)
       → next ≡ joined (bare_relocs input bytes places) (k + 1)
   relocs_next so_far next here is counted e =
-      joined_next (bare_relocs input bytes places) k so_far next (flat_map (reloc_of input places k) (uses_of bytes k)) here
+      joined_next (bare_relocs input bytes places) k so_far next (flat_map (reloc_of input places k) (uses_with_table bytes k)) here
       (let sort : is_data_sort (section_of input k).sort ≡ true = ap (λ (s : SectionParts). is_data_sort s.sort) (sym is) ∙ sym counted in rw sort refl) e
 
   pub relocs_passed : (so_far : List DataReloc) → so_far ≡ joined (bare_relocs input bytes places) k → section ≡ section_of input k

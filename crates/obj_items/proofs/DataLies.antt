@@ -1,5 +1,5 @@
 -- The relocations of data of an input without a fault lie in the initialised data.
-use Rattle.std.proofs.Common.{◌≡◌, ℕ, zero, suc, ◌+◌, ◌-◌, ◌<◌, ◌≤◌, get_or, nat_lt, true, false, not, List, [], ◌∷◌, ◌++◌, length, replicate, All, inl, inr, refl, sym, ap, subst, arith}
+use Rattle.std.proofs.Common.{◌≡◌, ◌&&◌, ℕ, zero, suc, ◌+◌, ◌-◌, ◌<◌, ◌≤◌, get_or, nat_lt, true, false, not, List, [], ◌∷◌, ◌++◌, length, replicate, All, inl, inr, refl, sym, ap, subst, arith}
 use Rattle.std.specs.List.{flat_map}
 use Rattle.std.proofs.lemmas.Bool.{cases_Bool, cases_lt, and_parts, and_from, le-leb, ltb-false, not-false, not-true}
 use Rattle.std.proofs.lemmas.List.{length-append, length-map, length-replicate}
@@ -16,7 +16,7 @@ use Rattle.obj_input.specs.Kinds.{is_idle, kind_of}
 use Rattle.obj_input.specs.Relocation.{is_acting}
 use Rattle.obj_input.specs.Input.{InputParts, has_bytes, is_code_sort, is_data_sort, is_zeros_sort, section_count, section_of}
 use Rattle.obj_input.specs.DataLayout.{section_address}
-use Rattle.obj_rules.specs.WrongPlace.{stands, stands_in_data, width}
+use Rattle.obj_rules.specs.WrongPlace.{has_right_addend, stands, stands_in_data, width}
 use Rattle.obj_program.specs.declared.item.DataReloc.{DataReloc}
 use Rattle.obj_program.specs.Program.{count}
 use Rattle.obj_program.specs.Sound.{lies}
@@ -87,7 +87,8 @@ module _ (input : InputParts) (is : IsInput input) (right : IsRight input) where
       let size = (each_section input is k).whole (data_has (section_of input k).sort sort).0 in
       let whole = section_lies input (section_count input) k below sort in
       let acting : is_acting u ≡ true = ap (λ kind. not (is_idle kind)) e in
-      let stood : stands (section_of input k) u ≡ true = not-false (stands (section_of input k) u) (and_rest (is_acting u) _ one.standing acting) in
+      let may : (stands (section_of input k) u && has_right_addend u) ≡ true = not-false _ (and_rest (is_acting u) _ one.standing acting) in
+      let stood : stands (section_of input k) u ≡ true = (and_parts (stands (section_of input k) u) (has_right_addend u) may).0 in
       let in_data : stands_in_data (section_of input k) u ≡ true = rw (data_has (section_of input k).sort sort).1 at stood in
       let fits = (and_parts (not (is_zeros_sort (section_of input k).sort)) (not (nat_lt (section_of input k).size (u.offset + width (kind_of u.number)))) in_data).1 in
       let inside : u.offset + width (kind_of u.number) ≤ (section_of input k).size = ltb-false _ _ (not-true _ fits) in

@@ -14,6 +14,9 @@ mod Lone
 pub mod Suited
 pub mod NoFault
 pub mod LookUp
+mod Tabled
+pub mod Behind
+pub mod Plain
 pub mod Starts
 pub mod Targets
 pub mod Bounds

@@ -9,7 +9,7 @@ use Rattle.obj_input.specs.declared.parts.Relocation.{Relocation}
 use Rattle.obj_input.specs.declared.parts.Definition.{Definition}
 use Rattle.obj_input.specs.declared.parts.Definition.TheVariants.{Zero, Absolute, Within, Common, Missing}
 use Rattle.obj_input.specs.declared.reloc_kind.RelocKind.{RelocKind}
-use Rattle.obj_input.specs.declared.reloc_kind.RelocKind.TheVariants.{Nothing, Mark, BranchTarget, JalTarget, PairTarget, RelativeHigh, RelativeLowI, RelativeLowS, High, LowI, LowS, InData, Unknown}
+use Rattle.obj_input.specs.declared.reloc_kind.RelocKind.TheVariants.{Nothing, Mark, BranchTarget, JalTarget, PairTarget, RelativeHigh, TableHigh, RelativeLowI, RelativeLowS, High, LowI, LowS, InData, Unknown}
 use Rattle.obj_input.specs.Kinds.{kind_of}
 use Rattle.obj_input.specs.Input.{InputParts, acting_at, is_code, section_of}
 use Rattle.obj_input.specs.Code.{natural}
@@ -60,6 +60,7 @@ module _ (input : InputParts) (p q : List Item) (same : (section offset : â„•) â
   patch_same u LowI = ap put.Low (value_same u.definition u.addend)
   patch_same u LowS = ap put.Low (value_same u.definition u.addend)
   patch_same u RelativeHigh = ap put.RelativeHigh (value_same u.definition u.addend)
+  patch_same u TableHigh = ap put.RelativeHigh (value_same u.definition u.addend)
   patch_same u RelativeLowI = ap put.RelativeLow (named_same u.definition)
   patch_same u RelativeLowS = ap put.RelativeLow (named_same u.definition)
   patch_same u Nothing = refl

@@ -12,12 +12,12 @@ use Rattle.elf_object.proofs.Sound.{sound}
 use Rattle.obj_input.specs.Input.{SectionParts, is_code, is_code_sort, no_section, section_count, section_of}
 use Rattle.obj_items.specs.FitCode.{HasFitCode}
 use Rattle.obj_items.specs.FromObject.{input_of}
-use Rattle.obj_items.specs.Sections.{kept_sort, section_in, sections_of, sort_of}
-use Rattle.obj_items.proofs.NoFault.{code_there}
-use Rattle.obj_items.proofs.Steps.{listed_count, listed_read}
+use Rattle.obj_items.specs.Sections.{section_in}
+use Rattle.obj_items.specs.Uses.{kept_sort, sort_of}
+use Rattle.obj_items.proofs.Behind.{code_own, section_is}
 
 -- what an object's header says of its sections, and an object's code
-few_sections : (bytes : List ℕ) → fault_of bytes ≡ None → e_shnum bytes < 0xff00
+pub few_sections : (bytes : List ℕ) → fault_of bytes ≡ None → e_shnum bytes < 0xff00
 few_sections bytes none =
     let start = or_parts (e_shnum bytes == 0 && not (e_shoff bytes == 0)) (not (e_shnum bytes == 0) && has_wrong_header bytes) (sound bytes none).start in
     elim (cases_Bool (e_shnum bytes == 0)) [
@@ -28,14 +28,6 @@ few_sections bytes none =
           let few = or_parts (not (e_shentsize bytes == 64)) (nat_le 0xff00 (e_shnum bytes)) two.0 in
           leb-false 0xff00 (e_shnum bytes) few.1
     ]
-
-section_is : (bytes : List ℕ) (k : ℕ) → k < e_shnum bytes → section_of (input_of bytes) k ≡ section_in bytes k
-unfolding input_of
-section_is bytes k below = listed_read (section_in bytes) (sections_of bytes) (e_shnum bytes) k no_section refl below
-
-section_number : (bytes : List ℕ) → section_count (input_of bytes) ≡ e_shnum bytes
-unfolding input_of
-section_number bytes = listed_count (section_in bytes) (sections_of bytes) (e_shnum bytes) refl
 
 code_executable : (h : SectionHeader) → is_code_sort (kept_sort h) ≡ true → is_executable h ≡ true
 code_executable h code = elim (cases_Bool (is_executable h)) [
@@ -55,9 +47,7 @@ code_is_kept bytes k code = elim (cases_Bool (is_kept bytes k)) [
 object_words : (bytes : List ℕ) → fault_of bytes ≡ None → (k : ℕ) → is_code (section_of (input_of bytes) k) ≡ true
     → (section_of (input_of bytes) k).size % 4 ≡ 0
 object_words bytes none k code =
-    let there = code_there (input_of bytes) k code in
-    let number = section_number bytes in
-    let below : k < e_shnum bytes = omega arith in
+    let below = code_own bytes k code in
     let is = section_is bytes k below in
     let sort : is_code_sort (sort_of bytes k) ≡ true = sym (ap is_code is) ∙ code in
     let both = code_is_kept bytes k sort in
@@ -67,8 +57,7 @@ pub object_fits : (bytes : List ℕ) → fault_of bytes ≡ None → HasFitCode 
 object_fits bytes none = record {
   words = object_words bytes none;
   named = λ k code.
-      let there = code_there (input_of bytes) k code in
-      let number = section_number bytes in
+      let below = code_own bytes k code in
       let few = few_sections bytes none in
       omega arith;
 }

@@ -9,7 +9,7 @@ use Rattle.obj_input.specs.declared.parts.Relocation.{Relocation}
 use Rattle.obj_input.specs.declared.parts.Definition.{Definition}
 use Rattle.obj_input.specs.declared.parts.Definition.TheVariants.{Within, Missing}
 use Rattle.obj_input.specs.declared.reloc_kind.RelocKind.{RelocKind}
-use Rattle.obj_input.specs.declared.reloc_kind.RelocKind.TheVariants.{RelativeHigh, RelativeLowI, RelativeLowS, High, LowI, LowS}
+use Rattle.obj_input.specs.declared.reloc_kind.RelocKind.TheVariants.{RelativeHigh, TableHigh, RelativeLowI, RelativeLowS, High, LowI, LowS}
 use Rattle.obj_input.specs.Kinds.{is_relative_high, is_relative_low, kind_of}
 use Rattle.obj_input.specs.Relocation.{is_acting}
 use Rattle.obj_input.specs.Input.{InputParts, acting_at, is_code, section_of}
@@ -42,6 +42,7 @@ high_patch input right places k at code has = by (acting_at (section_of input k)
   where
     does : (u : Relocation) (kind : RelocKind) → is_relative_high kind ≡ true → is_high_patch (patch_by input places u kind) ≡ true
     does u RelativeHigh e = refl
+    does u TableHigh e = refl
     does u other e = absurd (cc)
 
     by : (us : List Relocation) → acting_at (section_of input k) at ≡ us → is_high_patch (patch_from input places us) ≡ true
@@ -100,6 +101,7 @@ module _ (input : InputParts) (is : IsInput input) (right : IsRight input) where
   patch_right k u one small acting LowI e = value_there u small
   patch_right k u one small acting LowS e = value_there u small
   patch_right k u one small acting RelativeHigh e = value_there u small
+  patch_right k u one small acting TableHigh e = value_there u small
   patch_right k u one small acting RelativeLowI e = low_right k u one acting (ap is_relative_low e)
   patch_right k u one small acting RelativeLowS e = low_right k u one acting (ap is_relative_low e)
   patch_right k u one small acting other e = refl

@@ -1,4 +1,4 @@
--- Worked rows of the definitions, computed: the programs of two objects by hand, and the targets of a third.
+-- Worked rows of the definitions, computed: the programs of three objects by hand, and the targets of a fourth.
 use Rattle.std.proofs.Common.{◌≡◌, ℕ, pos, ◌*◌, ◌/◌, ◌%◌, ◌^◌, Bool, true, false, Option, Some, None, List, [], ◌∷◌, length, map, refl}
 use Rattle.std.specs.List.{flat_map}
 use Rattle.rv_reloc.specs.declared.kinds.DataPatch.TheVariants.{Abs64}
@@ -128,6 +128,30 @@ printer_row : program_of printer ≡ record {
 unfolding bytes_of code numbers input at place own printer program_of outline joined is_taken first_below init_below relocs_of kind_at aim_at direct_at
     instr is_pair acting_at kind_of number_at decoded section_address reach init_end zeros_end blocks_reach
 printer_row = refl
+
+-- a jump by a slot of the table of addresses, which is section 2: auipc and ld of it (R_RISCV_GOT_HI20, R_RISCV_PCREL_LO12_I of the AUIPC);
+-- the slot is for what stands at 12 (R_RISCV_64)
+tabled : InputParts
+tabled = input
+    (code (0x00000297 ∷ 0x0002b283 ∷ 0x00028067 ∷ 0x00400513 ∷ 0x00008067 ∷ []) (at 0 20 (Within 2 0) ∷ at 4 24 (Within 1 0) ∷ [])
+    ∷ numbers 8 (0 ∷ 0 ∷ 0 ∷ 0 ∷ 0 ∷ 0 ∷ 0 ∷ 0 ∷ []) (at 0 2 (Within 1 12) ∷ []) ∷ [])
+
+tabled_row : program_of tabled ≡ record {
+  items = place 0 is.Plain 0x00000297 (put.RelativeHigh (Number (pos 0x10000))) None false
+      ∷ place 4 is.Plain 0x0002b283 (put.RelativeLow 0) None false
+      ∷ own 8 is.Ijump 0x00028067
+      ∷ place 12 is.Plain 0x00400513 put.Own None true
+      ∷ own 16 is.Return 0x00008067
+      ∷ own 20 is.End 0 ∷ [];
+  init = 0 ∷ 0 ∷ 0 ∷ 0 ∷ 0 ∷ 0 ∷ 0 ∷ 0 ∷ [];
+  relocations = record { section = 2; at = 0; offset = 0; patch = Abs64; value = GateOf 3 } ∷ [];
+  data_end = 0x10008;
+  funcs = [];
+  names = [];
+}
+unfolding bytes_of code numbers input at place own tabled program_of outline joined is_taken first_below init_below relocs_of kind_at aim_at direct_at
+    instr is_pair acting_at kind_of number_at decoded section_address reach init_end zeros_end blocks_reach
+tabled_row = refl
 
 -- a recursion: jal x0 to 12, and there beq x10,x0 to 40 and, at 28, jal x1 back; the branch with a relocation (R_RISCV_BRANCH) goes where
 -- that says, to 36

@@ -11,7 +11,7 @@ use Rattle.rv_code.specs.Decode.{decoded}
 use Rattle.obj_input.specs.declared.parts.Relocation.{Relocation}
 use Rattle.obj_input.specs.declared.item_kind.ItemKind.{ItemKind}
 use Rattle.obj_input.specs.declared.reloc_kind.RelocKind.{RelocKind}
-use Rattle.obj_input.specs.declared.reloc_kind.RelocKind.TheVariants.{PairTarget, RelativeHigh, RelativeLowI, RelativeLowS, High, LowI, LowS}
+use Rattle.obj_input.specs.declared.reloc_kind.RelocKind.TheVariants.{PairTarget, RelativeHigh, TableHigh, RelativeLowI, RelativeLowS, High, LowI, LowS}
 use Rattle.obj_input.specs.Kinds.{is_pair_target, kind_of}
 use Rattle.obj_input.specs.Relocation.{is_acting}
 use Rattle.obj_input.specs.Input.{InputParts, SectionParts, acting_at, is_code, section_of}
@@ -20,7 +20,7 @@ use Rattle.obj_rules.specs.Kind.{kind_at, pair_kind, single_kind, word_kind}
 use Rattle.obj_rules.specs.Target.{direct_at, goes_right}
 use Rattle.obj_rules.specs.Reserved.{some_reserved}
 use Rattle.obj_rules.specs.Reserved as rule
-use Rattle.obj_rules.specs.WrongPlace.{fits_on, has_form, stands, stands_in_code}
+use Rattle.obj_rules.specs.WrongPlace.{fits_on, has_form, has_right_addend, stands, stands_in_code}
 use Rattle.obj_program.specs.declared.item.Item.{Item}
 use Rattle.obj_program.specs.declared.item.Patch.{Patch}
 use Rattle.obj_program.specs.declared.item.Patch.TheVariants as put
@@ -59,7 +59,8 @@ sole input right k at code u more e =
     (All-same (λ (v : Relocation). (v.offset == at && is_acting v) ≡ true) (u ∷ more) (acting_at (section_of input k) at) (sym e) (acting_there (section_of input k) at)) in
     let both = and_parts (u.offset == at) (is_acting u) takes in
     let offset : u.offset ≡ at = eqb-true u.offset at both.0 in
-    let there : stands (section_of input k) u ≡ true = not-false (stands (section_of input k) u) (and_rest (is_acting u) _ one.standing both.1) in
+    let may : (stands (section_of input k) u && has_right_addend u) ≡ true = not-false _ (and_rest (is_acting u) _ one.standing both.1) in
+    let there : stands (section_of input k) u ≡ true = (and_parts (stands (section_of input k) u) (has_right_addend u) may).0 in
     let stood : stands_in_code (section_of input k) u ≡ true = rw code at there in
     let here : (length (acting_at (section_of input k) at) == 1 && is_start (section_of input k) at && fits_on (section_of input k) (at / 4) (kind_of u.number)) ≡ true =
     subst (λ n. (length (acting_at (section_of input k) n) == 1 && is_start (section_of input k) n && fits_on (section_of input k) (n / 4) (kind_of u.number)) ≡ true) offset stood in
@@ -168,6 +169,7 @@ patch_stands : (input : InputParts) (places : List Item) (u : Relocation) (i : I
     → has_form does i ≡ true → stands_on (patch_by input places u does) kind i ≡ true
 patch_stands input places u i kind High e form = upper_stands false i kind e form
 patch_stands input places u i kind RelativeHigh e form = auipc_stands false i kind e form
+patch_stands input places u i kind TableHigh e form = auipc_stands false i kind e form
 patch_stands input places u i kind LowI e form = lower_stands i kind e form
 patch_stands input places u i kind RelativeLowI e form = lower_stands i kind e form
 patch_stands input places u i kind LowS e form = store_stands false i kind e form

@@ -15,7 +15,8 @@ use Rattle.obj_input.specs.declared.parts.Definition.{Definition}
 use Rattle.obj_input.specs.declared.parts.Relocation.{Relocation}
 use Rattle.obj_input.specs.Input.{has_bytes}
 use Rattle.obj_items.specs.Definitions.{definition}
-use Rattle.obj_items.specs.Sections.{kept_sort, sort_of, use_at}
+use Rattle.obj_items.specs.Sections.{use_at, used_definition}
+use Rattle.obj_items.specs.Uses.{kept_sort, sort_of}
 
 program : (h : SectionHeader) → h.kind ≡ 1 → is_in_file h ≡ true
 program h e = rw e refl
@@ -51,6 +52,6 @@ symbol_there bytes table k j count reloc e below same counted less is =
     subst (λ n. n < symbol_count bytes) (sym one) (relocations_named bytes k j e below index)
 
 pub use_is : (bytes table : List ℕ) (k j : ℕ) (reloc : Reloc) (d : Definition) (u : Relocation) → table ≡ relocation_bytes bytes k → reloc ≡ relocation_in table j
-    → d ≡ definition bytes reloc.symbol → u ≡ record { offset = reloc.offset; number = reloc.kind; addend = reloc.addend; definition = d }
+    → d ≡ used_definition bytes reloc → u ≡ record { offset = reloc.offset; number = reloc.kind; addend = reloc.addend; definition = d }
     → u ≡ use_at bytes k j
 use_is bytes table k j reloc d u same is stands e = rw (← same, ← is, ← stands) e

@@ -11,7 +11,7 @@ use Rattle.obj_input.specs.declared.parts.Sort.{Sort}
 use Rattle.obj_input.specs.declared.parts.Definition.{Definition}
 use Rattle.obj_input.specs.declared.parts.Definition.TheVariants.{Zero, Absolute, Within, Common, Missing}
 use Rattle.obj_input.specs.declared.reloc_kind.RelocKind.{RelocKind}
-use Rattle.obj_input.specs.declared.reloc_kind.RelocKind.TheVariants.{Nothing, Mark, BranchTarget, JalTarget, PairTarget, RelativeHigh, RelativeLowI, RelativeLowS, High, LowI, LowS, InData, Unknown}
+use Rattle.obj_input.specs.declared.reloc_kind.RelocKind.TheVariants.{Nothing, Mark, BranchTarget, JalTarget, PairTarget, RelativeHigh, TableHigh, RelativeLowI, RelativeLowS, High, LowI, LowS, InData, Unknown}
 use Rattle.obj_input.specs.Kinds.{kind_of}
 use Rattle.obj_input.specs.Input.{InputParts, SectionParts, is_data_sort, is_zeros_sort, no_section, section_count, section_of}
 use Rattle.obj_input.specs.DataLayout.{block_address, blocks_reach, init_end, reach, section_address, zeros_end}
@@ -21,10 +21,9 @@ use Rattle.obj_program.specs.Program.{place_of}
 use Rattle.obj_items.specs.Bare.{bare, bare_relocs, bare_section}
 use Rattle.obj_items.specs.FromObject.{input_of}
 use Rattle.obj_items.specs.InitialData.{reloc_by, reloc_of, relocs_of, section_relocs}
-use Rattle.obj_items.specs.Sections.{section_in, uses_of}
 use Rattle.obj_items.specs.Values.{section_value, value_of}
 use Rattle.obj_items.proofs.Linking.{value_same}
-use Rattle.obj_items.proofs.Steps.{listed_count, listed_read}
+use Rattle.obj_items.proofs.Behind.{uses_there}
 
 module _ (input : InputParts) where
   pub bare_count : section_count (bare input) ≡ section_count input
@@ -85,6 +84,7 @@ module _ (input : InputParts) where
     bare_reloc k u JalTarget = refl
     bare_reloc k u PairTarget = refl
     bare_reloc k u RelativeHigh = refl
+    bare_reloc k u TableHigh = refl
     bare_reloc k u RelativeLowI = refl
     bare_reloc k u RelativeLowS = refl
     bare_reloc k u High = refl
@@ -102,6 +102,7 @@ module _ (input : InputParts) (p q : List Item) (same : (section offset : ℕ) �
   moved_reloc k u JalTarget = refl
   moved_reloc k u PairTarget = refl
   moved_reloc k u RelativeHigh = refl
+  moved_reloc k u TableHigh = refl
   moved_reloc k u RelativeLowI = refl
   moved_reloc k u RelativeLowS = refl
   moved_reloc k u High = refl
@@ -114,22 +115,12 @@ module _ (input : InputParts) (p q : List Item) (same : (section offset : ℕ) �
   one_reloc k = fun_ext (λ (u : Relocation). bare_reloc input p k u (kind_of u.number) ∙ moved_reloc k u (kind_of u.number))
 
 module _ (bytes : List ℕ) where
-  uses_there : (k : ℕ) → k < section_count (input_of bytes) → (section_of (input_of bytes) k).uses ≡ uses_of bytes k
-  unfolding input_of
-  uses_there k below =
-      let count = listed_count (section_in bytes) (input_of bytes).sections (e_shnum bytes) refl in
-      ap (λ (s : SectionParts). s.uses) (listed_read (section_in bytes) (input_of bytes).sections (e_shnum bytes) k no_section refl (omega arith))
-
-  pub counted : section_count (bare (input_of bytes)) ≡ e_shnum bytes
-  unfolding input_of
-  counted = bare_count (input_of bytes) ∙ listed_count (section_in bytes) (input_of bytes).sections (e_shnum bytes) refl
-
   module _ (p q : List Item) (same : (section offset : ℕ) → place_of p section offset ≡ place_of q section offset) where
     same_section : (k : ℕ) → bare_relocs (bare (input_of bytes)) bytes p k ≡ section_relocs (input_of bytes) q k
     same_section k =
         let sort = ap (λ (s : SectionParts). is_data_sort s.sort) (bare_at (input_of bytes) k) in
         elim (cases_lt k (section_count (input_of bytes))) [
-          | inl below ↦ rw (sort, one_reloc (input_of bytes) p q same k, uses_there k below) refl
+          | inl below ↦ rw (sort, one_reloc (input_of bytes) p q same k, uses_there bytes k below) refl
           | inr past ↦
               let none = get_or_past (input_of bytes).sections k no_section past in
               rw (sort, none) refl

@@ -1,4 +1,6 @@
 pub mod Definitions
+pub mod Uses
+pub mod Addressed
 pub mod Sections
 pub mod Symbols
 pub mod FromObject

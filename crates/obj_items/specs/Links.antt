@@ -6,7 +6,7 @@ use Rattle.obj_input.specs.declared.parts.Relocation.{Relocation}
 use Rattle.obj_input.specs.declared.parts.Definition.{Definition}
 use Rattle.obj_input.specs.declared.parts.Definition.TheVariants.{Within}
 use Rattle.obj_input.specs.declared.reloc_kind.RelocKind.{RelocKind}
-use Rattle.obj_input.specs.declared.reloc_kind.RelocKind.TheVariants.{High, LowI, LowS, RelativeHigh, RelativeLowI, RelativeLowS}
+use Rattle.obj_input.specs.declared.reloc_kind.RelocKind.TheVariants.{High, LowI, LowS, RelativeHigh, TableHigh, RelativeLowI, RelativeLowS}
 use Rattle.obj_input.specs.Kinds.{kind_of, takes_address}
 use Rattle.obj_input.specs.Input.{InputParts, acting_at, section_count, section_of}
 use Rattle.obj_input.specs.Code.{natural}
@@ -30,6 +30,7 @@ patch_by input places u High = put.High (use_value input places u)
 patch_by input places u LowI = put.Low (use_value input places u)
 patch_by input places u LowS = put.Low (use_value input places u)
 patch_by input places u RelativeHigh = put.RelativeHigh (use_value input places u)
+patch_by input places u TableHigh = put.RelativeHigh (use_value input places u)
 patch_by input places u RelativeLowI = put.RelativeLow (named_place places u.definition)
 patch_by input places u RelativeLowS = put.RelativeLow (named_place places u.definition)
 patch_by input places u other = put.Own

@@ -11,15 +11,8 @@ use std::alloc::Global;
 fn bare_section<'a>(alloc: Global, section: &Section<'a>) -> Result<Section<'a>, NoMemory>
     ensures { IfOk result (λ s. s ≡ bare_section section.now) }
 {
-    let content = section.content();
-    Section::of(
-        alloc,
-        section.sort(),
-        section.size(),
-        section.align(),
-        content,
-        Vec::new(alloc),
-    )
+    let bare = section.without_uses(alloc)?;
+    Ok(bare)
 }
 
 /// The sections of an input without their relocations.

@@ -4,6 +4,7 @@ ghost use Rattle.obj_items.specs.FromObject.{input_of};
 
 use crate::definitions::definitions;
 use crate::sections::sections;
+use crate::slots::slots;
 use crate::symbols::{blocks, funcs, names};
 use elf_object::Object;
 use obj_input::{Input, Names};
@@ -19,7 +20,8 @@ pub fn input_of<'a>(alloc: Global, object: &Object<'a>) -> Result<Input<'a>, NoM
     let blocks = blocks(alloc, object)?;
     let names = Names::of(alloc, names(alloc, object, &definitions)?)?;
     let funcs = funcs(alloc, object)?;
-    let sections = sections(alloc, object, &definitions)?;
+    let slots = slots(alloc, object)?;
+    let sections = sections(alloc, object, &definitions, &slots)?;
     Ok(Input::of(sections, blocks, names, funcs))
 }
 

@@ -5,7 +5,7 @@ ghost use Rattle.obj_input.specs.Input.{section_count};
 ghost use Rattle.obj_input.specs.DataLayout.{data_layout_of, section_address};
 ghost use Rattle.obj_items.specs.InitialData.{init_below, placed};
 
-use obj_input::{DataLayout, Input};
+use obj_input::{DataLayout, Input, Section};
 use obj_program::InitialData;
 use rv_word::NoMemory;
 use rv_word::memory_map::DATA_START;
@@ -27,6 +27,22 @@ fn put_at<'a>(init: &mut InitialData<'a>, address: u128, bytes: &'a [u8]) -> Res
     init.put_at(address.saturating_sub(u128::from(DATA_START)), bytes)
 }
 
+/// Puts the bytes of a section behind others, so that they begin at this address.
+fn put_section<'a>(
+    init: &mut InitialData<'a>,
+    address: u128,
+    section: &Section<'a>,
+) -> Result<(), NoMemory>
+    ensures { OnOk result (init.new ≡ placed init.old address section.now.content) }
+{
+    let (bytes, zeros) = section.bytes();
+    put_at(init, address, bytes)?;
+    if zeros != 0 {
+        init.put_zeros(zeros)?;
+    }
+    Ok(())
+}
+
 /// The initialised data before relocations, from `DATA_START` on. No byte of them is copied.
 pub(crate) fn init<'a>(
     alloc: Global,
@@ -40,11 +56,8 @@ pub(crate) fn init<'a>(
     for k in 0..input.section_count() {
         let section = input.section(k);
         if section.is_data() {
-            put_at(
-                &mut init,
-                section_address(input, layout, k),
-                section.content(),
-            )?;
+            let address = section_address(input, layout, k);
+            put_section(&mut init, address, section)?;
         }
     }
     Ok(init)

@@ -21,6 +21,7 @@ mod program;
 mod ranges;
 mod relocs;
 mod sections;
+mod slots;
 mod symbols;
 mod taken;
 mod values;

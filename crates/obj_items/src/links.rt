@@ -38,7 +38,9 @@ fn patch_by(input: &Input, layout: &DataLayout, places: &[PackedItem], u: &Reloc
     match u.kind() {
         RelocKind::High => Patch::High(use_value(input, layout, places, u)),
         RelocKind::LowI | RelocKind::LowS => Patch::Low(use_value(input, layout, places, u)),
-        RelocKind::RelativeHigh => Patch::RelativeHigh(use_value(input, layout, places, u)),
+        RelocKind::RelativeHigh | RelocKind::TableHigh => {
+            Patch::RelativeHigh(use_value(input, layout, places, u))
+        }
         RelocKind::RelativeLowI | RelocKind::RelativeLowS => {
             Patch::RelativeLow(named_place(places, u.definition))
         }

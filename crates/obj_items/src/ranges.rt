@@ -46,7 +46,7 @@ fn section_fits(section: &Section)
 {
     let _size = section.size();
     let _align = section.align();
-    let _content = section.content();
+    let _bytes = section.bytes();
     uses_fit(section.uses());
 }
 

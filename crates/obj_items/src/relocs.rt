@@ -3,7 +3,6 @@
 ghost use Rattle.std.specs.Prelude.{◌≡◌, ◌++◌, ◌+◌, ◌-◌, ◌<◌, ℕ, IfOk, OnOk};
 ghost use Rattle.std.specs.List.{flat_map};
 ghost use Rattle.least.specs.Nearest.{joined};
-ghost use Rattle.elf_tables.specs.Header.{e_shnum};
 ghost use Rattle.rv_word.specs.MemoryMap.{DATA_START};
 ghost use Rattle.obj_input.specs.Input.{section_count};
 ghost use Rattle.obj_input.specs.DataLayout.{data_layout_of, section_address};
@@ -13,13 +12,16 @@ ghost use Rattle.obj_items.specs.Definitions.{definitions_of};
 ghost use Rattle.obj_items.specs.FromObject.{input_of};
 ghost use Rattle.obj_items.specs.InitialData.{reloc_of, relocs_of};
 ghost use Rattle.obj_items.specs.Outline.{outline};
-ghost use Rattle.obj_items.specs.Sections.{uses_of};
+ghost use Rattle.obj_items.specs.Addressed.{slots_of};
+ghost use Rattle.obj_items.specs.Sections.{uses_with_table};
 
 use crate::definitions::definitions;
 use crate::init::section_address;
-use crate::sections::uses;
+use crate::sections::uses_with_table;
+use crate::slots::slots;
 use crate::values::use_value;
 use elf_object::Object;
+use indexmap::IndexSet;
 use obj_input::{DataLayout, Definition, Input, RelocKind, Relocation};
 use obj_program::{DataReloc, PackedItem, PackedReloc};
 use rv_word::NoMemory;
@@ -89,23 +91,24 @@ fn push_section(
     relocs: &mut Vec<PackedReloc>,
     object: &Object,
     definitions: &[Definition],
+    slots: &IndexSet<u64>,
     input: &Input,
     layout: &DataLayout,
     places: &[PackedItem],
     k: u32,
 ) -> Result<(), NoMemory>
-    requires below { k < e_shnum object.now }
     requires definitions { definitions.now ≡ definitions_of object.now }
+    requires slots { slots.now.keys ≡ slots_of object.now }
     requires order { AreInOrder places.now }
     requires layout { layout.now ≡ data_layout_of input.now }
-    ensures { OnOk result (relocs.new.items ≡ relocs.old.items ++ flat_map (reloc_of input.now places.now k) (uses_of object.now k)) }
+    ensures { OnOk result (relocs.new.items ≡ relocs.old.items ++ flat_map (reloc_of input.now places.now k) (uses_with_table object.now k)) }
 {
-    let uses = uses(alloc, object, definitions, k)?;
+    let uses = uses_with_table(alloc, object, definitions, slots, k)?;
     push_relocs(relocs, input, layout, places, k, &uses)?;
     Ok(())
 }
 
-/// The relocations of the sections of data of an object, where an input without relocations says what is data.
+/// The relocations of the sections of data of an object and of its table of addresses, where an input without relocations says what is data.
 fn all_relocs(
     alloc: Global,
     object: &Object,
@@ -113,10 +116,10 @@ fn all_relocs(
     places: &[PackedItem],
 ) -> Result<Vec<PackedReloc>, NoMemory>
     requires order { AreInOrder places.now }
-    requires count { section_count input.now ≡ e_shnum object.now }
     ensures { IfOk result (λ v. v.items ≡ joined (bare_relocs input.now object.now places.now) (section_count input.now)) }
 {
     let definitions = definitions(alloc, object)?;
+    let slots = slots(alloc, object)?;
     let layout = DataLayout::of(alloc, input)?;
     let mut relocs = Vec::new(alloc);
     for k in 0..input.section_count() {
@@ -126,6 +129,7 @@ fn all_relocs(
                 &mut relocs,
                 object,
                 &definitions,
+                &slots,
                 input,
                 &layout,
                 places,

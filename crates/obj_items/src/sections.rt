@@ -1,12 +1,18 @@
-ghost use Rattle.std.specs.Prelude.{◌≡◌, ◌<◌, ◌^◌, IfOk, true, length};
+ghost use Rattle.std.specs.Prelude.{◌≡◌, ◌<◌, ◌≤◌, ◌^◌, IfOk, true, length};
 ghost use Rattle.elf_tables.specs.Header.{e_shnum};
 ghost use Rattle.elf_tables.specs.Section.{content, section_header};
 ghost use Rattle.obj_input.specs.Input.{has_bytes};
 ghost use Rattle.obj_items.specs.Definitions.{definitions_of};
-ghost use Rattle.obj_items.specs.Sections.{kept_sort, section_in, sections_of, sort_of, uses_of};
+ghost use Rattle.elf_tables.specs.Symbol.{symbol_count};
+ghost use Rattle.obj_input.specs.Listed.{listed};
+ghost use Rattle.obj_items.specs.Addressed.{slots_of};
+ghost use Rattle.obj_items.specs.Sections.{section_in, sections_of, used_definition, uses_of, uses_with_table};
+ghost use Rattle.obj_items.specs.Uses.{kept_sort, sort_of};
 
+use crate::slots::{is_table_use, slot_definition, slot_uses, table};
 use elf_object::{Object, Reloc, SectionHeader};
 use elf_tables::constants::SHT_NOBITS;
+use indexmap::IndexSet;
 use obj_input::{Definition, Relocation, Section, Sort};
 use rv_word::NoMemory;
 use std::alloc::Global;
@@ -25,7 +31,7 @@ fn kept_sort(header: &SectionHeader) -> Sort
 }
 
 /// What the section with this index holds.
-fn sort_of(object: &Object, k: u32) -> Sort
+pub(crate) fn sort_of(object: &Object, k: u32) -> Sort
     requires { k < e_shnum object.now }
     ensures { result ≡ sort_of object.now k }
 {
@@ -58,15 +64,37 @@ fn with_definition(reloc: &Reloc, definition: Definition) -> Relocation
     }
 }
 
+/// What the symbol of a relocation stands for: that of a use of the table is the symbol's slot there.
+fn used_definition(
+    object: &Object,
+    definitions: &[Definition],
+    slots: &IndexSet<u64>,
+    reloc: &Reloc,
+) -> Result<Definition, NoMemory>
+    requires symbol { reloc.now.symbol < symbol_count object.now }
+    requires definitions { definitions.now ≡ definitions_of object.now }
+    requires slots { slots.now.keys ≡ slots_of object.now }
+    ensures { IfOk result (λ d. d ≡ used_definition object.now reloc.now) }
+{
+    if is_table_use(reloc) {
+        let slot = slot_definition(object, slots, reloc.symbol)?;
+        Ok(slot)
+    } else {
+        Ok(definitions[reloc.symbol as usize])
+    }
+}
+
 /// The relocations of the section with this index.
-pub(crate) fn uses(
+fn uses(
     alloc: Global,
     object: &Object,
     definitions: &[Definition],
+    slots: &IndexSet<u64>,
     k: u32,
 ) -> Result<Vec<Relocation>, NoMemory>
     requires below { k < e_shnum object.now }
     requires definitions { definitions.now ≡ definitions_of object.now }
+    requires slots { slots.now.keys ≡ slots_of object.now }
     ensures { IfOk result (λ v. v.items ≡ uses_of object.now k) }
 {
     let _count = object.sections();
@@ -74,9 +102,31 @@ pub(crate) fn uses(
     let mut uses = Vec::new(alloc);
     for j in 0..relocs.count() {
         let reloc = relocs.get(j);
-        uses.push(with_definition(&reloc, definitions[reloc.symbol as usize]))?;
+        let definition = used_definition(object, definitions, slots, &reloc)?;
+        uses.push(with_definition(&reloc, definition))?;
     }
     Ok(uses)
+}
+
+/// The relocations of the section with this index, or behind those of the file the relocations of the table.
+pub(crate) fn uses_with_table(
+    alloc: Global,
+    object: &Object,
+    definitions: &[Definition],
+    slots: &IndexSet<u64>,
+    k: u32,
+) -> Result<Vec<Relocation>, NoMemory>
+    requires definitions { definitions.now ≡ definitions_of object.now }
+    requires slots { slots.now.keys ≡ slots_of object.now }
+    ensures { IfOk result (λ v. v.items ≡ uses_with_table object.now k) }
+{
+    if k < object.sections() {
+        let uses = uses(alloc, object, definitions, slots, k)?;
+        Ok(uses)
+    } else {
+        let uses = slot_uses(alloc, object, definitions, slots)?;
+        Ok(uses)
+    }
 }
 
 /// The section with this index.
@@ -84,14 +134,16 @@ fn section<'a>(
     alloc: Global,
     object: &Object<'a>,
     definitions: &[Definition],
+    slots: &IndexSet<u64>,
     k: u32,
 ) -> Result<Section<'a>, NoMemory>
     requires below { k < e_shnum object.now }
     requires definitions { definitions.now ≡ definitions_of object.now }
+    requires slots { slots.now.keys ≡ slots_of object.now }
     ensures { IfOk result (λ s. s ≡ section_in object.now k) }
 {
     let header = object.header(k);
-    let uses = uses(alloc, object, definitions, k)?;
+    let uses = uses(alloc, object, definitions, slots, k)?;
     Section::of(
         alloc,
         sort_of(object, k),
@@ -102,19 +154,40 @@ fn section<'a>(
     )
 }
 
-/// The sections.
+/// The sections of the file.
+fn own_sections<'a>(
+    alloc: Global,
+    object: &Object<'a>,
+    definitions: &[Definition],
+    slots: &IndexSet<u64>,
+) -> Result<Vec<Section<'a>>, NoMemory>
+    requires definitions { definitions.now ≡ definitions_of object.now }
+    requires slots { slots.now.keys ≡ slots_of object.now }
+    ensures value { IfOk result (λ v. v.items ≡ listed (section_in object.now) (e_shnum object.now)) }
+    ensures few { IfOk result (λ v. length v.items < 2 ^ 16) }
+{
+    let mut sections = Vec::new(alloc);
+    for k in 0..object.sections() {
+        sections.push(section(alloc, object, definitions, slots, k)?)?;
+    }
+    Ok(sections)
+}
+
+/// The sections, with the table of addresses behind those of the file.
 pub(crate) fn sections<'a>(
     alloc: Global,
     object: &Object<'a>,
     definitions: &[Definition],
+    slots: &IndexSet<u64>,
 ) -> Result<Vec<Section<'a>>, NoMemory>
-    requires { definitions.now ≡ definitions_of object.now }
+    requires definitions { definitions.now ≡ definitions_of object.now }
+    requires slots { slots.now.keys ≡ slots_of object.now }
     ensures value { IfOk result (λ v. v.items ≡ sections_of object.now) }
     ensures few { IfOk result (λ v. length v.items < 2 ^ 32) }
 {
-    let mut sections = Vec::new(alloc);
-    for k in 0..object.sections() {
-        sections.push(section(alloc, object, definitions, k)?)?;
+    let mut sections = own_sections(alloc, object, definitions, slots)?;
+    if slots.as_slice().len() != 0 {
+        sections.push(table(alloc, object, definitions, slots)?)?;
     }
     Ok(sections)
 }

@@ -60,6 +60,17 @@ impl<'a> InitialData<'a> {
         Ok(())
     }
 
+    /// Puts so many zeros behind the others.
+    pub fn put_zeros(&mut self, count: u64) -> Result<(), NoMemory>
+        ensures { OnOk result (self.new ≡ self.old ++ replicate count 0) }
+    {
+        let zeros = u128::from(count);
+        let size = sum(self.size, zeros, 0)?;
+        self.pieces.push(Piece { zeros, bytes: &[] })?;
+        self.size = size;
+        Ok(())
+    }
+
     /// All of them.
     pub fn copied(&self, alloc: Global) -> Result<Vec<u8>, NoMemory>
         ensures { IfOk result (λ v. v.items ≡ self.now) }

@@ -79,3 +79,29 @@ pair_rows : (fault_of (input (code (0x00000297 ∷ 0x00028f67 ∷ ret ∷ []) (a
 unfolding bytes_of code input at ret fault_of undecodable reserved some_reserved bad_transfer bad_pair wrong_kind wrong_place undefined wrong_pointer
     kind_at aim_at direct_at instr is_pair is_start acting_at kind_of number_at decoded first_below least_below nearest nearest_below
 pair_rows = (refl, refl, refl, refl, refl)
+
+-- auipc x5,0; ld x5,0(x5); jalr x0,0(x5); and from 12 on addi x10,x0,4; ret. The first two are R_RISCV_GOT_HI20 of a slot of eight bytes
+-- with an addend, and R_RISCV_PCREL_LO12_I of the AUIPC; the slot is an R_RISCV_64
+tabled : ℤ → Definition → List SectionParts
+tabled addend slot =
+    code (0x00000297 ∷ 0x0002b283 ∷ 0x00028067 ∷ 0x00400513 ∷ ret ∷ []) (at 0 20 addend (Within 2 0) ∷ at 4 24 (pos 0) (Within 1 0) ∷ [])
+    ∷ numbers (at 0 2 (pos 0) slot ∷ []) ∷ []
+
+-- an instruction's start, the end, a place inside an instruction, a symbol that is defined nowhere, and a number added
+table_rows : (fault_of (input (tabled (pos 0) (Within 1 12))) ≡ None)
+    × (fault_of (input (tabled (pos 0) (Within 1 20))) ≡ None)
+    × (fault_of (input (tabled (pos 0) (Within 1 14))) ≡ Some (BadCodePointer 1 0))
+    × (fault_of (input (tabled (pos 0) (Missing 2))) ≡ Some (Undefined 2))
+    × (fault_of (input (tabled (pos 1) (Within 1 12))) ≡ Some (RelocPlace 1 0))
+unfolding bytes_of code numbers input at ret tabled fault_of undecodable reserved some_reserved bad_transfer bad_pair wrong_kind wrong_place undefined
+    wrong_pointer kind_at aim_at direct_at instr is_pair is_start acting_at kind_of number_at decoded first_below least_below nearest nearest_below
+table_rows = (refl, refl, refl, refl, refl)
+
+-- on an instruction that is no AUIPC, between instructions, twice at one place, and in data
+table_place_rows : (fault_of (input (code (0x00700513 ∷ ret ∷ []) (at 0 20 (pos 0) (Within 2 0) ∷ []) ∷ numbers [] ∷ [])) ≡ Some (RelocPlace 1 0))
+    × (fault_of (input (code (0x00700513 ∷ ret ∷ []) (at 2 20 (pos 0) (Within 2 0) ∷ []) ∷ numbers [] ∷ [])) ≡ Some (RelocPlace 1 2))
+    × (fault_of (input (code (0x00000297 ∷ ret ∷ []) (at 0 20 (pos 0) (Within 2 0) ∷ at 0 20 (pos 0) (Within 2 0) ∷ []) ∷ numbers [] ∷ [])) ≡ Some (RelocPlace 1 0))
+    × (fault_of (input (code (0x00700513 ∷ ret ∷ []) [] ∷ numbers (at 0 20 (pos 0) (Within 2 0) ∷ []) ∷ [])) ≡ Some (RelocKind 2 0 20))
+unfolding bytes_of code numbers input at ret fault_of undecodable reserved some_reserved bad_transfer bad_pair wrong_kind wrong_place undefined
+    wrong_pointer kind_at aim_at direct_at instr is_pair is_start acting_at kind_of number_at decoded first_below least_below nearest nearest_below
+table_place_rows = (refl, refl, refl, refl)

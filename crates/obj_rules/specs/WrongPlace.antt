@@ -1,6 +1,7 @@
 -- Relocations that stand where they change nothing that they may: in code each stands on an instruction of its form, alone.
-use Rattle.std.specs.Prelude.{ℕ, ◌+◌, ◌/◌, nat_lt, Bool, true, false, not, ◌==◌, ◌&&◌, if◌then◌else◌, Option, Some, None, length}
+use Rattle.std.specs.Prelude.{ℕ, pos, ◌+◌, ◌/◌, nat_lt, Bool, true, false, not, ◌==◌, ◌&&◌, ◌||◌, if◌then◌else◌, Option, Some, None, length}
 use Rattle.std.specs.List.{filter_map}
+use Rattle.std.specs.Ordering.{int_eq}
 use Rattle.least.specs.declared.place.Found.{Found}
 use Rattle.least.specs.Nearest.{nearest}
 use Rattle.rv_instr.specs.declared.instr.Instr.{Instr}
@@ -10,8 +11,8 @@ use Rattle.rv_instr.specs.declared.instr.UpperOp.TheVariants.{Lui, Auipc}
 use Rattle.rv_reloc.specs.Data.{size_of}
 use Rattle.obj_input.specs.declared.parts.Relocation.{Relocation}
 use Rattle.obj_input.specs.declared.reloc_kind.RelocKind.{RelocKind}
-use Rattle.obj_input.specs.declared.reloc_kind.RelocKind.TheVariants.{BranchTarget, JalTarget, PairTarget, RelativeHigh, RelativeLowI, RelativeLowS, High, LowI, LowS, InData}
-use Rattle.obj_input.specs.Kinds.{kind_of}
+use Rattle.obj_input.specs.declared.reloc_kind.RelocKind.TheVariants.{BranchTarget, JalTarget, PairTarget, RelativeHigh, TableHigh, RelativeLowI, RelativeLowS, High, LowI, LowS, InData}
+use Rattle.obj_input.specs.Kinds.{is_table_high, kind_of}
 use Rattle.obj_input.specs.Relocation.{is_acting}
 use Rattle.obj_input.specs.Input.{InputParts, SectionParts, acting_at, is_code, is_zeros_sort, section_of}
 use Rattle.obj_input.specs.Code.{instr, is_auipc, is_pair, is_start}
@@ -52,6 +53,7 @@ abbrev pub has_form : RelocKind → Instr → Bool
 has_form BranchTarget i = is_branch i
 has_form JalTarget i = is_jal i
 has_form RelativeHigh i = is_auipc (Some i)
+has_form TableHigh i = is_auipc (Some i)
 has_form High i = is_upper_form i
 has_form LowI i = is_i_form i
 has_form RelativeLowI i = is_i_form i
@@ -63,6 +65,7 @@ has_form other i = false
 abbrev pub pair_has_form : RelocKind → Bool
 pair_has_form PairTarget = true
 pair_has_form RelativeHigh = true
+pair_has_form TableHigh = true
 pair_has_form other = false
 
 abbrev pub word_has_form : RelocKind → Option Instr → Bool
@@ -88,8 +91,12 @@ stands_in_data section u = not (is_zeros_sort section.sort) && not (nat_lt secti
 abbrev pub stands : SectionParts → Relocation → Bool
 stands section u = if is_code section then stands_in_code section u else stands_in_data section u
 
+-- a slot of the table of addresses is a symbol's, and no number is added to its address
+abbrev pub has_right_addend : Relocation → Bool
+has_right_addend u = not (is_table_high (kind_of u.number)) || int_eq u.addend (pos 0)
+
 abbrev pub is_wrong_place : SectionParts → Relocation → Bool
-is_wrong_place section u = is_acting u && not (stands section u)
+is_wrong_place section u = is_acting u && not (stands section u && has_right_addend u)
 
 abbrev pub place_found : SectionParts → ℕ → Relocation → Option (Found ItemFault)
 place_found section k u = if is_wrong_place section u then Some (found_at k u.offset (fault.RelocPlace k u.offset)) else None

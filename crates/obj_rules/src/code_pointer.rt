@@ -1,6 +1,7 @@
 ghost use Rattle.std.specs.Prelude.{◌≡◌, ◌<◌};
-ghost use Rattle.obj_input.specs.Input.{section_count};
-ghost use Rattle.obj_rules.specs.CodePointer.{is_wrong_pointer, pointer_found, pointer_in, points_right};
+ghost use Rattle.std.specs.List.{list_all};
+ghost use Rattle.obj_input.specs.Input.{acting_at, section_count, section_of};
+ghost use Rattle.obj_rules.specs.CodePointer.{is_wrong_pointer, pointer_found, pointer_in, points_right, slot_right, use_right};
 
 use crate::fault::{ItemFault, found_at};
 use least::{Found, nearest};
@@ -19,11 +20,48 @@ fn points_right(input: &Input, definition: Definition, addend: i64) -> bool
     }
 }
 
-/// Whether the address of a relocation, which names no transfer's target, is in code and no place.
+/// Whether the address of a relocation is none in code, or a place.
+fn use_right(input: &Input, u: &Relocation) -> bool
+    ensures { result ≡ use_right input.now u.now }
+{
+    points_right(input, u.definition, u.addend)
+}
+
+/// Whether the addresses of all these relocations are.
+fn all_right(input: &Input, uses: &[Relocation]) -> bool
+    ensures { result ≡ list_all (use_right input.now) uses.now }
+{
+    uses.iter().all(|u| use_right(input, u))
+}
+
+/// The relocations that do something at an offset of the section with this index, if it is there.
+fn acting_at<'a>(input: &'a Input, k: u32, offset: u64) -> &'a [Relocation]
+    ensures { result.now ≡ acting_at (section_of input.now k) offset }
+{
+    if k < input.section_count() {
+        input.section(k).acting_at(offset)
+    } else {
+        &[]
+    }
+}
+
+/// Whether the address in a slot of the table of addresses is none in code, or a place.
+fn slot_right(input: &Input, definition: Definition) -> bool
+    ensures { result ≡ slot_right input.now definition }
+{
+    match definition {
+        Definition::Within(section, offset) => all_right(input, acting_at(input, section, offset)),
+        _ => true,
+    }
+}
+
+/// Whether the address of a relocation, which names no transfer's target, or the one in the slot that it names, is in code
+/// and no place.
 fn is_wrong_pointer(input: &Input, u: &Relocation) -> bool
     ensures { result ≡ is_wrong_pointer input.now u.now }
 {
-    u.is_acting() && !u.kind().is_transfer() && !points_right(input, u.definition, u.addend)
+    u.is_acting() && !u.kind().is_transfer() && !use_right(input, u)
+        || u.kind().is_table_high() && !slot_right(input, u.definition)
 }
 
 /// Such a relocation in the section with the index `k`, as a finding.

@@ -1,7 +1,7 @@
 ghost use Rattle.std.specs.Prelude.{◌≡◌, ◌<◌, true};
 ghost use Rattle.obj_input.specs.Input.{is_code, section_count};
 ghost use Rattle.obj_input.specs.Code.{word_count};
-ghost use Rattle.obj_rules.specs.WrongPlace.{fits_on, has_form, is_i_form, is_lui_of, is_store, is_upper_form, is_wrong_place, pair_has_form, place_found, place_in, stands, stands_in_code, stands_in_data, width, word_has_form};
+ghost use Rattle.obj_rules.specs.WrongPlace.{fits_on, has_form, has_right_addend, is_i_form, is_lui_of, is_store, is_upper_form, is_wrong_place, pair_has_form, place_found, place_in, stands, stands_in_code, stands_in_data, width, word_has_form};
 
 use crate::fault::{ItemFault, found_at};
 use least::{Found, nearest};
@@ -52,7 +52,9 @@ fn has_form(kind: RelocKind, instr: Instr) -> bool
     match kind {
         RelocKind::BranchTarget => matches!(instr, Instr::Branch(..)),
         RelocKind::JalTarget => matches!(instr, Instr::Jal(..)),
-        RelocKind::RelativeHigh => matches!(instr, Instr::Upper(UpperOp::Auipc, _, _)),
+        RelocKind::RelativeHigh | RelocKind::TableHigh => {
+            matches!(instr, Instr::Upper(UpperOp::Auipc, _, _))
+        }
         RelocKind::High => is_upper_form(instr),
         RelocKind::LowI | RelocKind::RelativeLowI => is_i_form(instr),
         RelocKind::LowS | RelocKind::RelativeLowS => is_store(instr),
@@ -64,7 +66,10 @@ fn has_form(kind: RelocKind, instr: Instr) -> bool
 fn pair_has_form(kind: RelocKind) -> bool
     ensures { result ≡ pair_has_form kind }
 {
-    matches!(kind, RelocKind::PairTarget | RelocKind::RelativeHigh)
+    matches!(
+        kind,
+        RelocKind::PairTarget | RelocKind::RelativeHigh | RelocKind::TableHigh
+    )
 }
 
 /// Whether a word is an instruction of the form that a relocation of this kind asks for.
@@ -128,11 +133,18 @@ fn stands(section: &Section, u: &Relocation) -> bool
     }
 }
 
-/// Whether a relocation does something where it may not stand.
+/// Whether a relocation adds no number to the address of a slot of the table of addresses.
+fn has_right_addend(u: &Relocation) -> bool
+    ensures { result ≡ has_right_addend u.now }
+{
+    !u.kind().is_table_high() || u.addend == 0
+}
+
+/// Whether a relocation does something where it may not stand, or with an addend that it may not have.
 fn is_wrong_place(section: &Section, u: &Relocation) -> bool
     ensures { result ≡ is_wrong_place section.now u.now }
 {
-    u.is_acting() && !stands(section, u)
+    u.is_acting() && !(stands(section, u) && has_right_addend(u))
 }
 
 /// Such a relocation in the section with the index `k`, as a finding.

@@ -12,7 +12,8 @@ fn vector(number: u32) -> (&'static [u8], &'static [u8]) {
         0 => (sample_objects::B, vectors::B_TEXT),
         1 => (sample_objects::P, vectors::P_TEXT),
         2 => (sample_objects::H, vectors::H_TEXT),
-        _ => (sample_objects::R, vectors::R_TEXT),
+        3 => (sample_objects::R, vectors::R_TEXT),
+        _ => (sample_objects::T, vectors::T_TEXT),
     }
 }
 
@@ -109,7 +110,7 @@ fn is_right(alloc: Global, number: u32) -> bool {
 
 #[test]
 fn are_programs(rt: HostRuntime) {
-    for number in 0..4 {
+    for number in 0..5 {
         assert!(rt; is_right(rt.alloc(), number), "object {number}");
     }
 }

@@ -12,7 +12,7 @@ enum Tool {
     Readelf,
     /// binutils, of it as a program.
     Binutils,
-    /// GNU ld, of its instructions and data where it puts them.
+    /// GNU ld or lld, of its instructions and data where it puts them.
     Linker,
 }
 
@@ -43,7 +43,13 @@ fn sample_of(number: u32) -> Sample {
         19 => Sample(Tool::Linker, MENU, MENU_LINKED),
         20 => Sample(Tool::Linker, TREE, TREE_LINKED),
         21 => Sample(Tool::Linker, SPANS, SPANS_LINKED),
-        _ => Sample(Tool::Linker, SHARED, SHARED_LINKED),
+        22 => Sample(Tool::Linker, SHARED, SHARED_LINKED),
+        23 => Sample(Tool::Binutils, SLOTS, SLOTS_PROGRAM),
+        24 => Sample(Tool::Binutils, ENTRIES, ENTRIES_PROGRAM),
+        25 => Sample(Tool::Binutils, ORDER, ORDER_PROGRAM),
+        26 => Sample(Tool::Linker, SLOTS, SLOTS_LINKED),
+        27 => Sample(Tool::Linker, ENTRIES, ENTRIES_LINKED),
+        _ => Sample(Tool::Linker, ORDER, ORDER_LINKED),
     }
 }
 
@@ -75,7 +81,7 @@ fn is_right(alloc: Global, number: u32) -> bool {
 
 #[test]
 fn agrees_with_other_tools(rt: HostRuntime) {
-    for number in 0..23 {
+    for number in 0..29 {
         assert!(rt; is_right(rt.alloc(), number), "sample {number}");
     }
 }

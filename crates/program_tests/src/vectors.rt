@@ -1,4 +1,4 @@
-//! The programs that the four objects written by hand are: a line for each place with its section, offset, kind and word
+//! The programs that five objects written by hand are: a line for each place with its section, offset, kind and word
 //! (of a pair that of its JALR), the place that a direct transfer goes to, and whether its address is taken; a line for
 //! each function with its section, offset and size; the bytes of initialised data and where all data end.
 
@@ -63,3 +63,14 @@ pub(crate) static R_TEXT: &[u8] = b"\
     function 1 0 12\n\
     function 1 12 32\n\
     data 0 65536\n";
+
+pub(crate) static T_TEXT: &[u8] = b"\
+    1 0 plain 297\n\
+    1 4 plain 2b283\n\
+    1 8 ijump 28067\n\
+    1 12 plain 400513 taken\n\
+    1 16 return 8067\n\
+    1 20 end 0\n\
+    function 1 0 12\n\
+    function 1 12 8\n\
+    data 8 65544\n";

@@ -21,6 +21,9 @@ pub const R_RISCV_CALL: u32 = 18;
 /// The same, by the table of procedures where the target is not in the program.
 pub const R_RISCV_CALL_PLT: u32 = 19;
 
+/// The high part of the distance to an address's slot of the table of addresses, in an AUIPC.
+pub const R_RISCV_GOT_HI20: u32 = 20;
+
 /// The high part of a distance, in an AUIPC.
 pub const R_RISCV_PCREL_HI20: u32 = 23;
 

@@ -1,11 +1,8 @@
 use Rattle.std.proofs.Common.{◌∙◌}
-use Rattle.obj_items.proofs.Without.{counted, same_relocs}
+use Rattle.obj_items.proofs.Without.{same_relocs}
 use Rattle.obj_items.specs.FromObject.{input_of}
 use Rattle.obj_items.specs.Outline.{outline}
 use Rattle.obj_items.proofs.relocs.relocs.Goals as goal
-
-pub all_relocs-requires-clause-count : goal.all_relocs-requires-clause-count
-all_relocs-requires-clause-count c = rw c.requires.input (counted c.args.object.now)
 
 pub returns : goal.returns
 returns c =

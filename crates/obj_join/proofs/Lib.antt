@@ -1,0 +1,13 @@
+mod Noted
+pub mod Listing
+mod Counts
+pub mod Chosen
+mod Merged
+mod ByWords
+pub mod Sorting
+mod Stood
+mod OneObject
+mod Functions
+pub mod Sectioned
+pub mod Resolves
+mod Rows

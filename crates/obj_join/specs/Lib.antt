@@ -1,0 +1,14 @@
+pub mod Said
+pub mod Symbols
+pub mod Blocks
+pub mod Stands
+pub mod Table
+pub mod SaidInput
+pub mod Definer
+pub mod Found
+pub mod Duplicate
+pub mod Joined
+pub mod Laws
+pub mod Ranked
+pub mod Numbers
+pub mod Uses

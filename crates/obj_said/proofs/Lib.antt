@@ -1,0 +1,5 @@
+pub mod Together
+mod Slotted
+mod Whole
+mod Sectioned
+mod Composed

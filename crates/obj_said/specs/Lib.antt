@@ -1,0 +1,4 @@
+pub mod Symbols
+pub mod Sections
+pub mod SaidOf
+pub mod Resolution

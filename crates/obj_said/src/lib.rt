@@ -1,0 +1,13 @@
+//! What objects say, by the bytes of their files: one object, and several one behind another. The layer below makes one
+//! input of it.
+#![tactic(auto)]
+
+pub use input::joined_input;
+pub use slots::slots_of;
+pub use symbols::symbols_of;
+
+mod input;
+mod resolution;
+mod sections;
+mod slots;
+mod symbols;
