@@ -6,6 +6,5 @@ pub mod Writing
 pub mod Complete
 pub mod Sources
 pub mod Demonstrated
-mod FormApart
 mod ImageSizes
 mod WrittenBack

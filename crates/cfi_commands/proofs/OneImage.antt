@@ -3,7 +3,7 @@ use Rattle.std.proofs.Common.{◌≡◌, ◌∙◌, ℕ, List, length, take, dro
 use Rattle.rv_word.specs.Form.{image_version}
 use Rattle.rv_word.specs.Image.{Contents, IsImageSize, IsVersion}
 use Rattle.rv_word.specs.declared.form.Form.{Form}
-use Rattle.rv_word.specs.declared.form.Form.TheVariants.{Plain, Harts}
+use Rattle.rv_word.specs.declared.form.Form.TheVariants.{Plain, Harts, Split, HartsSplit}
 use Rattle.elf_image.specs.Fault.{code_of, version_in}
 use Rattle.elf_image.specs.Header.{data_start}
 use Rattle.elf_image.specs.Spelling.{spelling}
@@ -15,6 +15,8 @@ use Rattle.cfi_commands.specs.Opening.{IsImage, Spell}
 pub known_version : (form : Form) → IsVersion (image_version form)
 known_version Plain = inl refl
 known_version Harts = inr refl
+known_version Split = inl refl
+known_version HartsSplit = inr refl
 
 -- the image that a file spells
 abbrev image_in : List ℕ → Contents

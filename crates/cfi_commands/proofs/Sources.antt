@@ -1,8 +1,9 @@
 -- A program at the map that a text spells, and what comes of it and of a file that should be an image.
-use Rattle.std.proofs.Common.{◌≡◌, ◌+◌, ◌≤◌, ℕ, List, None, Some, Ok, Err, inl, inr, sym, subst, arith}
+use Rattle.std.proofs.Common.{◌≡◌, ◌+◌, ◌≤◌, ℕ, List, Option, None, Some, Ok, Err, inl, inr, sym, ap, subst, arith}
 use Rattle.rv_word.specs.Image.{image_profile}
 use Rattle.rv_word.proofs.Cases.{cases_Option}
 use Rattle.rv_word.specs.MemoryMap.{DATA_END, DATA_START}
+use Rattle.rv_word.specs.declared.form.Form.{Form}
 use Rattle.text_lines.specs.declared.reason.Reason.{Reason}
 use Rattle.text_lines.specs.declared.end.TextEnd.TheVariants.{Line}
 use Rattle.obj_program.specs.DataAtMap.{init_size}
@@ -32,8 +33,13 @@ use Rattle.cfi_compare.specs.Told.{told_answer}
 use Rattle.cfi_compare.specs.declared.answer.Compared as A
 use Rattle.cfi_commands.specs.declared.compare.CompareOutcome.{CompareOutcome}
 use Rattle.cfi_commands.specs.declared.compare.CompareOutcome.TheVariants as outcome
-use Rattle.cfi_commands.specs.Compare.{IsAfterImage, IsCompareOf, IsCompareRefused, IsComparison, IsImageCompared, IsResult, IsRoomy, IsRoomyEnd, IsRunnable, IsSourceAt, first_out}
+use Rattle.cfi_commands.specs.Compare.{IsAfterImage, IsCompareOf, IsCompareRefused, IsComparison, IsImageCompared, IsResult, IsRoomy, IsRoomyEnd, IsRunnable, IsSourceAt, asked_at, first_out, map_form}
 use Rattle.cfi_commands.specs.Demonstration.{IsSourceOn}
+
+-- a request in the form of a map that a text spells is one at that text
+pub asked_form : (form : Form) (object entry : List ℕ) (policy : Option (List ℕ)) (text : List ℕ) → form ≡ map_form text
+    → ◌≡◌ {A = Request} (record { form = form; object = object; entry = entry; policy = policy }) (asked_at text object entry policy)
+asked_form form object entry policy text same = ap (λ (f : Form). record { form = f; object = object; entry = entry; policy = policy }) same
 
 pub data_fits : (p : PreparedParts) → HasDataRoom p.program → DATA_START + init_size p.program ≤ DATA_END
 data_fits p room = omega (arith, room.init)

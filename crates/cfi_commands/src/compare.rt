@@ -1,5 +1,6 @@
-ghost use Rattle.std.specs.Prelude.{◌≡◌, ◌≤◌, ℕ, List, Ok, Some, IfOk, IfErr, IfSome, option_copied, option_map, ◌∷◌, []};
+ghost use Rattle.std.specs.Prelude.{◌≡◌, ◌≤◌, ℕ, List, Ok, Some, Err, IfOk, IfErr, IfSome, option_copied, option_map, ◌∷◌, []};
 ghost use Rattle.text_lines.specs.Decimal.{MAX_STEP};
+ghost use Rattle.text_lines.specs.declared.end.TextEnd.TheVariants as TextEnd;
 ghost use Rattle.tool_io.specs.Reading.{CountsReads, IsOnlyRead};
 ghost use Rattle.cfi_files.specs.Reads.{IsFault, IsStop, IsTooLong};
 ghost use Rattle.cfi_graph.specs.MapText.{map_of};
@@ -15,12 +16,12 @@ use cfi_graph::{Map, read_map};
 use cfi_harden::{HardenEnd, Prepared};
 use cfi_words::CompareWords;
 use elf_image::read_image;
-use rv_word::NoMemory;
+use rv_word::{Form, NoMemory};
 use src_machine::laws::wrong_is_not_legal;
 use src_machine::{SourceEnd, SourceRun};
 use std::alloc::Global;
 use std::fmt;
-use text_lines::TextEnd;
+use text_lines::{Reason, TextEnd};
 use tool_io::Files;
 
 /// What `compare` is asked for: the names of an object, of its entry, of a policy, an image, a map and an input, and how many
@@ -163,32 +164,53 @@ fn compare_at(
     }
 }
 
-/// Compares a prepared program at the map that a text should spell with a file that should be an image.
-fn compare_prepared(
+/// Compares an object, under a policy and at a map, with a file that should be an image.
+fn compare_object(
     alloc: Global,
     request: &CompareRequest<'_>,
-    prepared: &Prepared<'_>,
+    object: &[u8],
+    policy: Option<&[u8]>,
     image: &[u8],
-    map: &[u8],
+    map: &Map,
     input: &[u8],
 ) -> Result<CompareOutcome, NoMemory>
-    requires room { HasDataRoom prepared.now.program }
-    requires entry { entry_place prepared.now.program request.now.entry.now ≡ Some prepared.now.entry }
     requires few { request.now.limit ≤ MAX_STEP }
-    ensures { (asked : Request) → IsRoomy asked prepared.now
-        → IfOk result (IsCompareOf asked image.now map.now input.now request.now.limit) }
+    ensures { (text : List ℕ) → map_of text ≡ Ok map.now
+        → IfOk result (IsCompareOf (asked_at text object.now request.now.entry.now (option_copied policy.entry))
+        image.now text input.now request.now.limit) }
 {
-    match read_map(alloc, map) {
-        Ok(map) => compare_at(alloc, request, prepared, image, &map, input),
-        Err(TextEnd::Line(line, reason)) => {
-            let refusal = after_the_image(image, Refusal::Map(line, MapReason::Text(reason)));
-            Ok(CompareOutcome::Refused(refusal))
-        }
-        Err(TextEnd::NoMemory) => Err(NoMemory),
+    match roomy(alloc, map.form(), object, request.entry, policy) {
+        Ok(prepared) => compare_at(alloc, request, &prepared, image, map, input),
+        Err(HardenEnd::Refused(refusal)) => Ok(CompareOutcome::Refused(Refusal::Object(refusal))),
+        Err(HardenEnd::NoMemory) => Err(NoMemory),
     }
 }
 
-/// Compares an object, under a policy and at a map, with an image, as bytes spell them.
+/// What is told of a map's text that is none, where the refusals of the object, its entry, the policy and the image go first.
+fn after_the_object(
+    alloc: Global,
+    request: &CompareRequest<'_>,
+    object: &[u8],
+    policy: Option<&[u8]>,
+    image: &[u8],
+    line: u64,
+    reason: Reason,
+) -> Result<CompareOutcome, NoMemory>
+    ensures { (text input : List ℕ) → map_of text ≡ Err (TextEnd.Line line reason)
+        → IfOk result (IsCompareOf (asked_at text object.now request.now.entry.now (option_copied policy.entry))
+        image.now text input request.now.limit) }
+{
+    match roomy(alloc, Form::Plain, object, request.entry, policy) {
+        Ok(_prepared) => {
+            let refusal = after_the_image(image, Refusal::Map(line, MapReason::Text(reason)));
+            Ok(CompareOutcome::Refused(refusal))
+        }
+        Err(HardenEnd::Refused(refusal)) => Ok(CompareOutcome::Refused(Refusal::Object(refusal))),
+        Err(HardenEnd::NoMemory) => Err(NoMemory),
+    }
+}
+
+/// Compares an object, under a policy and at a map, with an image, as bytes spell them. The map is read first, for its form.
 fn compare_bytes(
     alloc: Global,
     request: &CompareRequest<'_>,
@@ -202,10 +224,12 @@ fn compare_bytes(
     ensures { IfOk result (IsCompareOf (asked_at map.now object.now request.now.entry.now (option_copied policy.entry))
         image.now map.now input.now request.now.limit) }
 {
-    match roomy(alloc, object, request.entry, policy) {
-        Ok(prepared) => compare_prepared(alloc, request, &prepared, image, map, input),
-        Err(HardenEnd::Refused(refusal)) => Ok(CompareOutcome::Refused(Refusal::Object(refusal))),
-        Err(HardenEnd::NoMemory) => Err(NoMemory),
+    match read_map(alloc, map) {
+        Ok(map) => compare_object(alloc, request, object, policy, image, &map, input),
+        Err(TextEnd::Line(line, reason)) => {
+            after_the_object(alloc, request, object, policy, image, line, reason)
+        }
+        Err(TextEnd::NoMemory) => Err(NoMemory),
     }
 }
 

@@ -1,7 +1,6 @@
 //! The program of an object at a map, as `compare` needs it, or why there is none.
 
 ghost use Rattle.std.specs.Prelude.{◌≡◌, IfOk, IfErr, MatchResult, Some, option_copied};
-ghost use Rattle.rv_word.specs.declared.form.Form.TheVariants as Form;
 ghost use Rattle.cfi_flow.specs.Entry.{entry_place};
 ghost use Rattle.cfi_flow.specs.Policy.{instruction_at};
 ghost use Rattle.cfi_harden.specs.Hardened.{HasDataRoom};
@@ -15,17 +14,18 @@ use rv_word::Form;
 use src_machine::{SourceEnd, SourceRun};
 use std::alloc::Global;
 
-/// The program of an object, if its data have room. A form says where units are placed, which here a map does.
+/// The program of an object, as it is run at a map of a form, if its data have room.
 pub(crate) fn roomy<'a>(
     alloc: Global,
+    form: Form,
     object: &'a [u8],
     entry: &str,
     policy: Option<&[u8]>,
 ) -> Result<Prepared<'a>, HardenEnd>
-    ensures roomy { IfOk result (IsRoomy (record { form = Form.Plain; object = object.now; entry = entry.now; policy = option_copied policy.entry })) }
-    ensures refused { IfErr result (IsRoomyEnd (record { form = Form.Plain; object = object.now; entry = entry.now; policy = option_copied policy.entry })) }
+    ensures roomy { IfOk result (IsRoomy (record { form = form; object = object.now; entry = entry.now; policy = option_copied policy.entry })) }
+    ensures refused { IfErr result (IsRoomyEnd (record { form = form; object = object.now; entry = entry.now; policy = option_copied policy.entry })) }
 {
-    let prepared = match prepare(alloc, Form::Plain, object, entry, policy) {
+    let prepared = match prepare(alloc, form, object, entry, policy) {
         Ok(prepared) => prepared,
         Err(end) => return Err(end),
     };

@@ -5,7 +5,7 @@ use Rattle.rv_word.specs.Image.{Contents}
 use Rattle.rv_word.specs.MemoryMap.{Profile}
 use Rattle.cfi_map.specs.GraphAtMap.{ProgramAtMap}
 use Rattle.cfi_map.specs.Source.{Source}
-use Rattle.cfi_meaning.specs.PlacesKept.{bound, last_words}
+use Rattle.cfi_meaning.specs.PlacesKept.{most_steps}
 use Rattle.cfi_runs.specs.WholeRun.{undisturbed}
 use Rattle.rv_code.specs.State.{After}
 use Rattle.rv_code.specs.declared.event.Event.{Event}
@@ -309,12 +309,12 @@ module _ (p : Profile) (layout : ProgramAtMap) (state : Source) (image : Content
 
   pub compared_tame : (told_turn : SourceTurn) (es : List Event) (steps : ℕ) (answer : Compared) → told_turn ≡ told layout.program r.turn →
       ((because : Reason) (section offset : ℕ) → told_turn ≡ ends.Untame because section offset → ⊥) →
-      es ≡ r.state.shared.events → steps ≡ r.steps → IsAnswered es told_turn (undisturbed p image input (bound 1 (last_words layout.profile) steps)) answer →
+      es ≡ r.state.shared.events → steps ≡ r.steps → IsAnswered es told_turn (undisturbed p image input (most_steps layout steps)) answer →
       answer ≡ told_answer layout.program (compared.compared_from p layout state image input limit)
   unfolding compared.compared_from
   compared_tame t es steps answer e tame events count is =
-      let moved : IsAnswered r.state.shared.events t (undisturbed p image input (bound 1 (last_words layout.profile) r.steps)) answer = rw (events, count) at is in
-      tame_answer layout.program r.turn t r.state.shared.events (undisturbed p image input (bound 1 (last_words layout.profile) r.steps)) answer e (told_tame r.turn t e tame) moved
+      let moved : IsAnswered r.state.shared.events t (undisturbed p image input (most_steps layout r.steps)) answer = rw (events, count) at is in
+      tame_answer layout.program r.turn t r.state.shared.events (undisturbed p image input (most_steps layout r.steps)) answer e (told_tame r.turn t e tame) moved
 
 -- a comparison from a state that is another
 pub from_same : (p : Profile) (layout : ProgramAtMap) (state start : Source) (image : Contents) (input : List ℕ) (limit : ℕ) (answer : Compared) → state ≡ start

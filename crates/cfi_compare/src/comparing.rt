@@ -70,12 +70,14 @@ fn answer_at(
     Ok(settle(index as u64, has_ended, ours, theirs))
 }
 
-/// How many steps an image takes at most for so many of its program's, at a map of a form.
-fn bound(form: Form, steps: u64) -> u64
-    requires { steps ≤ 2 ^ 58 }
-    ensures { result ≡ bound 1 (last_words (profile_for form)) steps }
+/// How many steps an image takes at most for so many of its program's, at a map of a form, where that many words stand before the
+/// unit of a place at most.
+fn bound(form: Form, lead: u64, steps: u64) -> u64
+    requires few { lead ≤ 2 }
+    requires steps { steps ≤ 2 ^ 58 }
+    ensures { result ≡ bound lead (last_words (profile_for form)) steps }
 {
-    21 * steps + (form.units_from() - START) / 4
+    (20 + lead) * steps + (form.units_from() - START) / 4
 }
 
 /// The answer for a program's run that made these system calls in some steps, the last of which was not untame, and a
@@ -112,8 +114,8 @@ fn with_image(
 }
 
 /// Runs a program, from the state in which its run is, until it ends, is untame or has taken `limit` steps, and an image with an
-/// input, of whose harts one runs alone, for 21 steps for each of those and 13 more at most, or 17 more where the program's map
-/// is of the form for several harts; tells the first item at which they differ.
+/// input, of whose harts one runs alone, for 21 steps for each of those and 13 more at most; for 22 where the program is closed for
+/// graphs of version 2, and 17 more where its map is for images of version 2. Tells the first item at which they differ.
 pub fn compare(
     alloc: Global,
     source: &mut SourceRun,
@@ -140,7 +142,7 @@ pub fn compare(
             because, section, offset,
         )),
         turn => {
-            let most = bound(source.form(), source.steps());
+            let most = bound(source.form(), source.most_lead(), source.steps());
             let events = source.processor().system().events();
             let answer = with_image(alloc, events, turn, most, image, input)?;
             Ok(answer)

@@ -1,12 +1,13 @@
 -- Lists that join the same targets as the sets of the sites have the same classes.
-use Rattle.std.proofs.Common.{◌≡◌, ℕ, ◌+◌, ◌<◌, List, [], ◌∷◌, length, map, get_or, Option, inl, inr, refl, sym, ap, subst, arith, add-one}
+use Rattle.std.proofs.Common.{◌≡◌, ℕ, ◌+◌, ◌<◌, List, [], ◌∷◌, length, map, get_or, Option, Some, None, IfSome, inl, inr, refl, sym, ap, subst, arith, add-one}
 use Rattle.std.specs.List.{All, Contains}
 use Rattle.std.proofs.Math.ListN.{get_or-eq_default}
 use Rattle.std.proofs.lemmas.Bool.{cases_lt}
 use Rattle.std.proofs.lemmas.List.{get_or-map, length-map}
 use Rattle.std.proofs.lemmas.List.Elements.{All-contains, All-from_get_or, Contains-get_or}
-use Rattle.cfi_class.specs.Classes.{AreInOne, IsIn, IsInSome, Joined, here, on, class_with}
-use Rattle.cfi_flow.specs.declared.closed.Site.{Site}
+use Rattle.std.proofs.lemmas.List.Quantifiers.{position-Some}
+use Rattle.cfi_class.specs.Classes.{AreInOne, IsIn, IsInSome, Joined, here, on, class_with, has}
+use Rattle.cfi_flow.specs.declared.side.Site.{Site}
 use Rattle.cfi_flow.specs.Closed.{AreClasses, class_reached, sets_of, with_class}
 use Rattle.cfi_flow.specs.Found.{by_table, first_entry}
 use Rattle.cfi_flow.specs.Joins.{JoinAs}
@@ -92,3 +93,18 @@ closed_by_table classes places table is (s ∷ sites) there =
     ap (λ (class : Option ℕ). site_with_class s class) (first_is classes places table is s.targets (there 0 s (omega arith))) in
     let rest = closed_by_table classes places table is sites (λ k d below. rw add-one at (there (k + 1) d (omega arith))) in
     cc
+
+-- a class that is reached is there
+found_there : (classes : List (List ℕ)) (t : ℕ) (o : Option ℕ) → class_with classes t ≡ o → IfSome o (λ k. k < length classes)
+found_there classes t None e = tt
+found_there classes t (Some k) e = (position-Some (has t) classes k [] e).0
+
+class_there : (classes : List (List ℕ)) (targets : List ℕ) → IfSome (class_reached classes targets) (λ k. k < length classes)
+class_there classes [] = tt
+class_there classes (t ∷ targets) = found_there classes t (class_with classes t) refl
+
+pub reached_there : (classes : List (List ℕ)) (sites : List RawSite) → All (λ (s : Site). IfSome s.class (λ k. k < length classes)) (map (with_class classes) sites)
+reached_there classes sites i d inside =
+    let below : i < length sites = omega (arith, length-map sites (with_class classes)) in
+    subst (λ (s : Site). IfSome s.class (λ k. k < length classes)) (sym (get_or-map (with_class classes) sites i no_site d below))
+    (class_there classes (get_or sites i no_site).targets)

@@ -1,16 +1,20 @@
 -- Sites that are kept with the indexes of their lists or with spans, as they grow by one.
-use Rattle.std.proofs.Common.{◌≡◌, ℕ, ◌+◌, ◌<◌, Bool, List, [], ◌∷◌, ◌++◌, length, map, get_or, take, Option, IfSome, refl, sym, ap, subst, ◌∙◌, arith, add-one}
+use Rattle.std.proofs.Common.{◌≡◌, ℕ, ◌+◌, ◌<◌, Bool, List, [], ◌∷◌, ◌++◌, length, map, get_or, take, Option, IfSome, inl, inr, refl, sym, ap, subst, ◌∙◌, arith, add-one}
+use Rattle.std.specs.Prelude.{filter}
 use Rattle.std.specs.List.{All, slice_get}
 use Rattle.std.proofs.Math.ListN.{get_or-append}
 use Rattle.std.proofs.Math.Seq.{get_or-append_seam}
+use Rattle.std.proofs.lemmas.Bool.{cases_Bool}
+use Rattle.std.proofs.lemmas.List.Elements.{All-filter}
 use Rattle.std.proofs.lemmas.List.{get_or-map, length-map, map-append, take_more}
 use Rattle.cfi_graph.specs.declared.line.SiteKind.{SiteKind}
+use Rattle.cfi_graph.specs.declared.line.Sort.{Sort}
 use Rattle.cfi_flow.specs.declared.draw.Aim.{Aim}
 use Rattle.cfi_flow.specs.declared.draw.Aim.TheVariants as aim
 use Rattle.cfi_flow.specs.declared.draw.Drawing.{Drawing}
 use Rattle.cfi_flow.specs.declared.draw.KeptSite.{KeptSite}
 use Rattle.cfi_flow.specs.Kept.{AreKept, IsAimed, no_kept, raw_site, site_with, sites_of, targets_of}
-use Rattle.cfi_flow.specs.Closed.{sets_of}
+use Rattle.cfi_flow.specs.Closed.{is_of, sets_of}
 use Rattle.cfi_flow.specs.Raw.{IsThere, no_site}
 use Rattle.cfi_flow.specs.Sites.{RawSite}
 use Rattle.cfi_flow.proofs.Listing.{below_all}
@@ -94,3 +98,38 @@ pub map_more : {A B : Type 0} (told : A → B) (xs : List A) (i : ℕ) (d : A) (
 map_more told xs i d now next y below here is e =
     e ∙ ap (λ ys. ys ++ y ∷ []) here ∙ ap (λ z. map told (take i xs) ++ z ∷ []) is
     ∙ sym (map-append told (take i xs) (get_or xs i d ∷ [])) ∙ ap (map told) (sym (take_more xs i d below))
+
+-- the sites of a sort alone
+abbrev pub kept_for : Sort → List KeptSite → List KeptSite
+kept_for sort sites = filter (λ (s : KeptSite). is_of sort s.kind) sites
+
+filtered : (lists : List (List ℕ)) (taken begun : List Bool) (sort : Sort) (sites : List KeptSite) →
+    map (raw_site lists taken begun) (kept_for sort sites) ≡ filter (λ (s : RawSite). is_of sort s.kind) (map (raw_site lists taken begun) sites)
+filtered lists taken begun sort [] = refl
+filtered lists taken begun sort (s ∷ sites) = elim (cases_Bool (is_of sort s.kind)) [
+  | inl own ↦ rw own (ap (λ (more : List RawSite). raw_site lists taken begun s ∷ more) (filtered lists taken begun sort sites))
+  | inr other ↦ rw other (filtered lists taken begun sort sites)
+]
+
+module _ (d n : Drawing) (sort : Sort) (sites : n.sites.items ≡ kept_for sort d.sites.items) (lists : n.lists.items ≡ d.lists.items)
+    (taken : n.taken.items ≡ d.taken.items) (begun : n.begun.items ≡ d.begun.items) where
+  pub sites_for : sites_of n ≡ filter (λ (s : RawSite). is_of sort s.kind) (sites_of d)
+  sites_for =
+      ap (λ (ls : List (List ℕ)). map (raw_site ls n.taken.items n.begun.items) n.sites.items) lists
+      ∙ ap (λ (ts : List Bool). map (raw_site d.lists.items ts n.begun.items) n.sites.items) taken
+      ∙ ap (λ (bs : List Bool). map (raw_site d.lists.items d.taken.items bs) n.sites.items) begun
+      ∙ ap (map (raw_site d.lists.items d.taken.items d.begun.items)) sites
+      ∙ filtered d.lists.items d.taken.items d.begun.items sort d.sites.items
+
+  pub kept_sites : AreKept d → AreKept n
+  kept_sites is = record {
+    places = subst (All (λ (s : KeptSite). s.place < length n.taken.items)) (sym sites)
+        (subst (λ (ts : List Bool). All (λ (s : KeptSite). s.place < length ts) (kept_for sort d.sites.items)) (sym taken)
+        (All-filter (λ (s : KeptSite). is_of sort s.kind) (λ (s : KeptSite). s.place < length d.taken.items) d.sites.items is.places));
+    aims = subst (All (λ (s : KeptSite). IsAimed (length n.lists.items) s.aim)) (sym sites)
+        (subst (λ (ls : List (List ℕ)). All (λ (s : KeptSite). IsAimed (length ls) s.aim) (kept_for sort d.sites.items)) (sym lists)
+        (All-filter (λ (s : KeptSite). is_of sort s.kind) (λ (s : KeptSite). IsAimed (length d.lists.items) s.aim) d.sites.items is.aims));
+    lists = subst (All (All (λ (t : ℕ). t < length n.taken.items))) (sym lists)
+        (subst (λ (ts : List Bool). All (All (λ (t : ℕ). t < length ts)) d.lists.items) (sym taken) is.lists);
+    begun = ap length begun ∙ is.begun ∙ sym (ap length taken);
+  }

@@ -10,11 +10,11 @@ use Rattle.obj_program.specs.declared.item.Item.{Item}
 use Rattle.obj_program.specs.declared.item.Patch.TheVariants as put
 use Rattle.obj_program.specs.Program.{Program}
 use Rattle.cfi_graph.specs.declared.line.SiteKind.TheVariants as site
-use Rattle.cfi_graph.specs.declared.line.Sort.TheVariants.{Both}
+use Rattle.cfi_graph.specs.declared.line.Sort.TheVariants.{Both, Calls, Jumps}
 use Rattle.cfi_graph.specs.declared.policy.PlaceName.{PlaceName}
 use Rattle.cfi_graph.specs.declared.policy.PolicyLine.{PolicyLine}
 use Rattle.cfi_flow.specs.Below.{where_below}
-use Rattle.cfi_flow.specs.Closed.{ClosedGraph, class_at, class_of, first_side, with_class}
+use Rattle.cfi_flow.specs.Closed.{Side, class_among, class_at, class_of, classes_of, with_class}
 use Rattle.cfi_flow.specs.Entry.{entry_place}
 use Rattle.cfi_flow.specs.Labels.{used_labels}
 use Rattle.cfi_flow.specs.Policy.{place_named, raw_sites, wrong_line}
@@ -134,30 +134,49 @@ unfolding where_below sites_below
 size_zero = refl
 
 -- a site without targets has no class
-abbrev closed : ClosedGraph
+abbrev closed : Side
 closed = record {
-  sides = record {
-    sort = Both;
-    classes = (1 ∷ 2 ∷ []) ∷ [];
-    sites = with_class ((1 ∷ 2 ∷ []) ∷ []) (jump 0 (2 ∷ [])) ∷ with_class ((1 ∷ 2 ∷ []) ∷ []) (jump 3 []) ∷ [];
-  } ∷ [];
-  taken = false ∷ true ∷ true ∷ false ∷ false ∷ [];
+  sort = Both;
+  classes = (1 ∷ 2 ∷ []) ∷ [];
+  sites = with_class ((1 ∷ 2 ∷ []) ∷ []) (jump 0 (2 ∷ [])) ∷ with_class ((1 ∷ 2 ∷ []) ∷ []) (jump 3 []) ∷ [];
 }
 
-class_of_site : class_of (first_side closed) 0 ≡ Some 0
+class_of_site : class_of closed 0 ≡ Some 0
 class_of_site = refl
 
-no_class : class_of (first_side closed) 3 ≡ None
+no_class : class_of closed 3 ≡ None
 no_class = refl
 
-no_site : class_of (first_side closed) 1 ≡ None
+no_site : class_of closed 1 ≡ None
 no_site = refl
 
-class_of_place : class_at (first_side closed) 2 ≡ Some 0
+class_of_place : class_at closed 2 ≡ Some 0
 class_of_place = refl
 
-of_no_class : class_at (first_side closed) 3 ≡ None
+of_no_class : class_at closed 3 ≡ None
 of_no_class = refl
+
+-- of calls and of jumps: the class of a jump stands behind those of the calls
+abbrev split : List Side
+split =
+    record { sort = Calls; classes = (3 ∷ []) ∷ (5 ∷ []) ∷ []; sites = with_class ((3 ∷ []) ∷ (5 ∷ []) ∷ []) (call 1 (5 ∷ [])) ∷ [] }
+    ∷ record { sort = Jumps; classes = (3 ∷ 5 ∷ []) ∷ []; sites = with_class ((3 ∷ 5 ∷ []) ∷ []) (jump 2 (3 ∷ [])) ∷ with_class ((3 ∷ 5 ∷ []) ∷ []) (jump 4 []) ∷ [] }
+    ∷ []
+
+all_classes : classes_of split ≡ (3 ∷ []) ∷ (5 ∷ []) ∷ (3 ∷ 5 ∷ []) ∷ []
+all_classes = refl
+
+of_a_call : class_among split 1 ≡ Some 1
+unfolding class_among
+of_a_call = refl
+
+of_a_jump : class_among split 2 ≡ Some 2
+unfolding class_among
+of_a_jump = refl
+
+of_no_target : class_among split 4 ≡ None
+unfolding class_among
+of_no_target = refl
 
 -- `lui x0,7` carries the number 7
 abbrev labelled : Program

@@ -1,87 +1,99 @@
--- The one side that a closed graph has.
-use Rattle.std.proofs.Common.{◌≡◌, ℕ, zero, suc, ◌<◌, Bool, List, [], ◌∷◌, length, map, refl, sym, ap, subst, ◌∙◌, lit<, arith}
-use Rattle.std.specs.Prelude.{filter, slice_index_or}
-use Rattle.std.specs.List.{All, list_any}
-use Rattle.std.proofs.Math.Bool.{or-false}
+-- The sides of a closed graph: how many there are, and how each is made of the raw graph.
+use Rattle.std.proofs.Common.{get_or, drop, ◌≡◌, ℕ, ◌+◌, ◌<◌, ◌≤◌, ◌==◌, List, [], ◌∷◌, ◌++◌, length, map, inl, inr, refl, sym, ap, subst, ◌∙◌, arith}
+use Rattle.std.specs.Prelude.{Result, Ok, Err, IfOk, filter, Option, Some, None, option_map}
+use Rattle.std.specs.Option.{option_or}
+use Rattle.std.proofs.lemmas.Bool.{cases_Bool}
+use Rattle.std.proofs.lemmas.List.{at_drop_all, at_drop_more, length-append, length-map}
+use Rattle.rv_word.specs.declared.no_memory.NoMemory.{NoMemory}
 use Rattle.cfi_graph.specs.declared.line.Sort.{Sort}
 use Rattle.cfi_graph.specs.declared.line.Sort.TheVariants.{Both}
-use Rattle.cfi_flow.specs.declared.closed.Site.{Site}
-use Rattle.cfi_flow.specs.Closed.{AreClasses, ClosedGraph, IsClosed, IsInside, IsSide, Side, class_at, class_of, first_side, is_of, no_side, sets_of, sorts_of_sides, with_class, class_reaches, is_same, is_target}
-use Rattle.cfi_class.specs.Classes.{has}
+use Rattle.cfi_flow.specs.Closed.{AreClasses, IsSide, IsSideInside, Side, class_among, class_of, classes_of, is_of, raw_for, sets_of, sorts_of, with_class}
 use Rattle.cfi_flow.specs.Raw.{RawGraph}
 use Rattle.cfi_flow.specs.Sites.{RawSite}
 
--- each computed transfer is of the one sort
-pub sort_is : (sort : Sort) → sort ≡ Both
-sort_is Both = refl
-
+-- each computed transfer is one of both kinds
 all_of : (sites : List RawSite) → filter (λ (s : RawSite). is_of Both s.kind) sites ≡ sites
 all_of [] = refl
 all_of (s ∷ sites) = ap (λ (more : List RawSite). s ∷ more) (all_of sites)
 
-same_sites : (sort : Sort) (sites : List RawSite) → filter (λ (s : RawSite). is_of sort s.kind) sites ≡ sites
-same_sites sort sites = ap (λ (x : Sort). filter (λ (s : RawSite). is_of x s.kind) sites) (sort_is sort) ∙ all_of sites
-
-pub all_one : (P : Side → Type 0) (side : Side) → P side → All P (side ∷ [])
-all_one P side here zero d below = here
-all_one P side here (suc i) d below = absurd (omega arith)
-
-one_side : (sides : List Side) → map (λ (s : Side). s.sort) sides ≡ sorts_of_sides → (side : Side) × (sides ≡ side ∷ [])
-one_side [] e = absurd (cc)
-one_side (s ∷ []) e = (s, refl)
-one_side (s ∷ t ∷ sides) e = let many = ap length e in absurd (omega arith)
-
-pub one_first : (closed : ClosedGraph) → map (λ (s : Side). s.sort) closed.sides ≡ sorts_of_sides → closed.sides ≡ first_side closed ∷ []
-one_first closed sorts =
-    let (side, is) = one_side closed.sides sorts in
-    is ∙ ap (λ (s : Side). s ∷ []) (sym (ap (λ (sides : List Side). slice_index_or sides 0 no_side) is))
-
--- what is closed, by its one side
-pub record InOne (raw : RawGraph) (closed : ClosedGraph) : Type 0 where
-  pub one : closed.sides ≡ first_side closed ∷ []
-  pub classes : AreClasses (sets_of raw.sites) (first_side closed).classes
-  pub sites : (first_side closed).sites ≡ map (with_class (first_side closed).classes) raw.sites
-
-pub in_one : (raw : RawGraph) (closed : ClosedGraph) → IsClosed raw closed → InOne raw closed
-in_one raw closed of =
-    let (side, is) = one_side closed.sides of.sorts in
-    let first : first_side closed ≡ side = ap (λ (sides : List Side). slice_index_or sides 0 no_side) is in
-    let all : All (IsSide raw) (side ∷ []) = subst (All (IsSide raw)) is of.sides in
-    let here : IsSide raw side = all 0 side (lit< tt) in
-    let same = same_sites side.sort raw.sites in
-    let classes : AreClasses (sets_of raw.sites) side.classes = subst (λ (sites : List RawSite). AreClasses (sets_of sites) side.classes) same here.classes in
-    let sites : side.sites ≡ map (with_class side.classes) raw.sites = here.sites ∙ ap (map (with_class side.classes)) same in
+-- a side that is closed by the sites of its sort
+pub side_own : (raw own : RawGraph) (sort : Sort) (side : Side) → own ≡ raw_for sort raw → side.sort ≡ sort → AreClasses (sets_of own.sites) side.classes →
+    side.sites ≡ map (with_class side.classes) own.sites → IsSide raw side
+side_own raw own sort side is of classes sites =
+    let same : own ≡ raw_for side.sort raw = is ∙ ap (λ (s : Sort). raw_for s raw) (sym of) in
     record {
-      one = one_first closed of.sorts;
-      classes = subst (λ (s : Side). AreClasses (sets_of raw.sites) s.classes) (sym first) classes;
-      sites = subst (λ (s : Side). s.sites ≡ map (with_class s.classes) raw.sites) (sym first) sites;
+      classes = subst (λ (r : RawGraph). AreClasses (sets_of r.sites) side.classes) same classes;
+      sites = sites ∙ ap (λ (r : RawGraph). map (with_class side.classes) r.sites) same;
     }
 
-pub inside_one : (side : Side) (taken : List Bool) → All (All (λ t. t < length taken)) side.classes → All (λ (s : Site). s.place < length taken) side.sites →
-    IsInside (record { sides = side ∷ []; taken = taken })
-inside_one side taken members sites = record {
-  members = all_one (λ (s : Side). All (All (λ t. t < length taken)) s.classes) side members;
-  sites = all_one (λ (s : Side). All (λ (one : Site). one.place < length taken) s.sites) side sites;
-}
+pub side_whole : (raw : RawGraph) (side : Side) → side.sort ≡ Both → AreClasses (sets_of raw.sites) side.classes →
+    side.sites ≡ map (with_class side.classes) raw.sites → IsSide raw side
+side_whole raw side = side_own raw raw Both side (ap (λ (sites : List RawSite). record { sites = sites; taken = raw.taken }) (sym (all_of raw.sites)))
 
-pub closed_in_one : (raw : RawGraph) (classes : List (List ℕ)) (sites : List Site) (taken : List Bool) → AreClasses (sets_of raw.sites) classes →
-    sites ≡ map (with_class classes) raw.sites → taken ≡ raw.taken →
-    IsClosed raw (record { sides = record { sort = Both; classes = classes; sites = sites } ∷ []; taken = taken })
-closed_in_one raw classes sites taken are is marks = record {
-  sorts = refl;
-  sides = all_one (IsSide raw) (record { sort = Both; classes = classes; sites = sites }) (record {
-    classes = subst (λ (all : List RawSite). AreClasses (sets_of all) classes) (sym (all_of raw.sites)) are;
-    sites = is ∙ ap (map (with_class classes)) (sym (all_of raw.sites));
-  });
-  taken = marks;
-}
+-- what a call gives that closes one
+module _ (raw own : RawGraph) (sort : Sort) (own_is : own ≡ raw_for sort raw) where
+  pub own_right : (r : Result Side NoMemory) → IfOk r (λ s. s.sort ≡ sort) → IfOk r (λ s. AreClasses (sets_of own.sites) s.classes) →
+      IfOk r (λ s. s.sites ≡ map (with_class s.classes) own.sites) → IfOk r (λ s. IsSide raw s)
+  own_right (Ok side) of classes sites = side_own raw own sort side own_is of classes sites
+  own_right (Err fault) of classes sites = tt
 
-pub one_target : (closed : ClosedGraph) (k : ℕ) → closed.sides ≡ first_side closed ∷ [] → list_any (has k) (first_side closed).classes ≡ is_target closed.sides k
-one_target closed k one =
-    sym (ap (λ (sides : List Side). is_target sides k) one ∙ or-false (list_any (has k) (first_side closed).classes))
+  pub own_inside : (r : Result Side NoMemory) → IfOk r (λ s. IsSideInside (length own.taken) s) → IfOk r (λ s. IsSideInside (length raw.taken) s)
+  own_inside r inside = subst (λ (g : RawGraph). IfOk r (λ s. IsSideInside (length g.taken) s)) own_is inside
 
-pub one_reaches : (closed : ClosedGraph) (k target : ℕ) → closed.sides ≡ first_side closed ∷ [] →
-    is_same (class_of (first_side closed) k) (class_at (first_side closed) target) ≡ class_reaches closed k target
-one_reaches closed k target one =
-    sym (ap (λ (sides : List Side). class_reaches (record closed { sides = sides }) k target) one
-    ∙ or-false (is_same (class_of (first_side closed) k) (class_at (first_side closed) target)))
+pub whole_right : (raw : RawGraph) (sort : Sort) (r : Result Side NoMemory) → sort ≡ Both → IfOk r (λ s. s.sort ≡ sort) →
+    IfOk r (λ s. AreClasses (sets_of raw.sites) s.classes) → IfOk r (λ s. s.sites ≡ map (with_class s.classes) raw.sites) → IfOk r (λ s. IsSide raw s)
+whole_right raw sort (Ok side) both of classes sites = side_whole raw side (of ∙ both) classes sites
+whole_right raw sort (Err fault) both of classes sites = tt
+
+pub few_sorts : (version : ℕ) → length (sorts_of version) ≤ 2
+few_sorts version = elim (cases_Bool (version == 2)) [
+  | inl two ↦ rw two (omega arith)
+  | inr one ↦ rw one (omega arith)
+]
+
+pub few_sides : (version : ℕ) (sides : List Side) → map (λ (s : Side). s.sort) sides ≡ sorts_of version → length sides ≤ 2
+few_sides version sides sorts = omega (arith, few_sorts version, ap length sorts, length-map sides (λ (s : Side). s.sort))
+
+-- the classes of the sides from one on, and those from the next one on
+pub classes_more : (sides : List Side) (i : ℕ) (d : Side) → i < length sides → classes_of (drop i sides) ≡ (get_or sides i d).classes ++ classes_of (drop (i + 1) sides)
+classes_more sides i d below = at_drop_more classes_of sides i d below
+
+pub count_more : (sides : List Side) (i : ℕ) (d : Side) → i < length sides →
+    length (classes_of (drop i sides)) ≡ length (get_or sides i d).classes + length (classes_of (drop (i + 1) sides))
+count_more sides i d below = ap length (classes_more sides i d below) ∙ length-append (get_or sides i d).classes (classes_of (drop (i + 1) sides))
+
+behind : (before n : ℕ) (o : Option ℕ) → option_map (λ k. before + k) (option_map (λ k. n + k) o) ≡ option_map (λ k. (before + n) + k) o
+behind before n None = refl
+behind before n (Some k) = ap (λ (m : ℕ). Some m) (omega arith)
+
+-- a number among the classes of the sides from one on
+among_more : (sides : List Side) (i place : ℕ) (d : Side) → i < length sides →
+    class_among (drop i sides) place ≡ option_or (class_of (get_or sides i d) place) (option_map (λ k. length (get_or sides i d).classes + k) (class_among (drop (i + 1) sides) place))
+unfolding class_among
+among_more sides i place d below = at_drop_more (λ (xs : List Side). class_among xs place) sides i d below
+
+pub among_first : (o : Option ℕ) → option_map (λ k. 0 + k) o ≡ o
+among_first None = refl
+among_first (Some k) = ap (λ (m : ℕ). Some m) (omega arith)
+
+pub among_found : (sides : List Side) (i place before k : ℕ) (d : Side) (whole : Option ℕ) → i < length sides →
+    option_map (λ k. before + k) (class_among (drop i sides) place) ≡ whole → class_of (get_or sides i d) place ≡ Some k → Some (before + k) ≡ whole
+among_found sides i place before k d whole below is found =
+    sym (ap (option_map (λ k. before + k)) (among_more sides i place d below
+    ∙ ap (λ (o : Option ℕ). option_or o (option_map (λ k. length (get_or sides i d).classes + k) (class_among (drop (i + 1) sides) place))) found)) ∙ is
+
+pub among_passed : (sides : List Side) (i place before next : ℕ) (d : Side) (whole : Option ℕ) → i < length sides →
+    option_map (λ k. before + k) (class_among (drop i sides) place) ≡ whole → class_of (get_or sides i d) place ≡ None →
+    next ≡ before + length (get_or sides i d).classes → option_map (λ k. next + k) (class_among (drop (i + 1) sides) place) ≡ whole
+among_passed sides i place before next d whole below is none next_is =
+    let rest = class_among (drop (i + 1) sides) place in
+    ap (λ (n : ℕ). option_map (λ k. n + k) rest) next_is
+    ∙ sym (behind before (length (get_or sides i d).classes) rest)
+    ∙ sym (ap (option_map (λ k. before + k)) (among_more sides i place d below
+    ∙ ap (λ (o : Option ℕ). option_or o (option_map (λ k. length (get_or sides i d).classes + k) rest)) none)) ∙ is
+
+pub among_end : (sides : List Side) (i place before : ℕ) (whole : Option ℕ) → length sides ≤ i →
+    option_map (λ k. before + k) (class_among (drop i sides) place) ≡ whole → None ≡ whole
+unfolding class_among
+among_end sides i place before whole past is =
+    sym (at_drop_all (λ (xs : List Side). option_map (λ k. before + k) (class_among xs place)) sides i past) ∙ is

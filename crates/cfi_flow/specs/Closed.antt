@@ -1,13 +1,15 @@
 -- The closed graph: each site reaches the whole class of its targets. It has sides, each of computed transfers of one sort with the
 -- classes of their targets.
-use Rattle.std.specs.Prelude.{◌≡◌, ◌↔◌, ℕ, ◌<◌, Bool, true, false, ◌==◌, Option, Some, None, List, [], ◌∷◌, filter, length, map, slice_index, slice_index_or}
-use Rattle.std.specs.List.{All, AllPairs, find, list_any}
+use Rattle.std.specs.Prelude.{◌≡◌, ◌↔◌, ℕ, ◌+◌, ◌<◌, Bool, true, false, ◌==◌, if◌then◌else◌, Option, Some, None, IfSome, option_map, List, [], ◌∷◌, filter, length, map, slice_index}
+use Rattle.std.specs.List.{All, AllPairs, find, flat_map, list_any}
 use Rattle.std.specs.List.Sorted.{IsStrictlyIncreasing}
+use Rattle.std.specs.Option.{option_or}
 use Rattle.cfi_graph.specs.declared.line.SiteKind.{SiteKind}
+use Rattle.cfi_graph.specs.declared.line.SiteKind.TheVariants as kinds
 use Rattle.cfi_graph.specs.declared.line.Sort.{Sort}
-use Rattle.cfi_graph.specs.declared.line.Sort.TheVariants.{Both}
+use Rattle.cfi_graph.specs.declared.line.Sort.TheVariants.{Both, Calls, Jumps}
 use Rattle.cfi_class.specs.Classes.{AreInOne, IsIn, IsInSome, Joined, class_with, has}
-use Rattle.cfi_flow.specs.declared.closed.Site.{Site}
+use Rattle.cfi_flow.specs.declared.side.Site.{Site}
 use Rattle.cfi_flow.specs.Sites.{RawSite}
 use Rattle.cfi_flow.specs.Raw.{RawGraph}
 
@@ -20,17 +22,23 @@ pub record Side : Type 0 where
   pub sites : List Site
 
 pub record ClosedGraph : Type 0 where
+  -- the version of graphs that it is for
+  pub version : ℕ
   pub sides : List Side
   -- of each place, whether a relocation takes its address
   pub taken : List Bool
 
--- the sorts of its sides
-abbrev pub sorts_of_sides : List Sort
-sorts_of_sides = Both ∷ []
+-- the sorts of its sides: graphs of version 1 have one label for calls and jumps, those of version 2 one for each
+abbrev pub sorts_of : ℕ → List Sort
+sorts_of version = if version == 2 then Calls ∷ Jumps ∷ [] else Both ∷ []
 
 -- a computed transfer of this kind is one of this sort
 abbrev pub is_of : Sort → SiteKind → Bool
 is_of Both kind = true
+is_of Calls kinds.Call = true
+is_of Calls kinds.Jump = false
+is_of Jumps kinds.Call = false
+is_of Jumps kinds.Jump = true
 
 -- a raw graph with the sites of a sort alone
 abbrev pub raw_for : Sort → RawGraph → RawGraph
@@ -61,23 +69,21 @@ pub record IsSide (raw : RawGraph) (side : Side) : Type 0 where
   pub classes : AreClasses (sets_of (raw_for side.sort raw).sites) side.classes
   pub sites : side.sites ≡ map (with_class side.classes) (raw_for side.sort raw).sites
 
--- the closed graph of a raw one
-pub record IsClosed (raw : RawGraph) (closed : ClosedGraph) : Type 0 where
-  pub sorts : map (λ (s : Side). s.sort) closed.sides ≡ sorts_of_sides
+-- the closed graph of a raw one, for a version of graphs
+pub record IsClosed (version : ℕ) (raw : RawGraph) (closed : ClosedGraph) : Type 0 where
+  pub version_is : closed.version ≡ version
+  pub sorts : map (λ (s : Side). s.sort) closed.sides ≡ sorts_of version
   pub sides : All (IsSide raw) closed.sides
   pub taken : closed.taken ≡ raw.taken
 
--- its sites and the members of its classes are places
-pub record IsInside (closed : ClosedGraph) : Type 0 where
-  pub members : All (λ (s : Side). All (All (λ t. t < length closed.taken)) s.classes) closed.sides
-  pub sites : All (λ (s : Side). All (λ (one : Site). one.place < length closed.taken) s.sites) closed.sides
+-- the sites of a side and the members of its classes are places, and what its sites reach are its classes
+pub record IsSideInside (places : ℕ) (side : Side) : Type 0 where
+  pub members : All (All (λ t. t < places)) side.classes
+  pub sites : All (λ (s : Site). s.place < places) side.sites
+  pub reached : All (λ (s : Site). IfSome s.class (λ k. k < length side.classes)) side.sites
 
--- the first of its sides
-abbrev pub no_side : Side
-no_side = record { sort = Both; classes = []; sites = [] }
-
-abbrev pub first_side : ClosedGraph → Side
-first_side closed = slice_index_or closed.sides 0 no_side
+abbrev pub IsInside : ClosedGraph → Type 0
+IsInside closed = All (IsSideInside (length closed.taken)) closed.sides
 
 -- the class of a side that has a place
 abbrev pub class_at : Side → ℕ → Option ℕ
@@ -90,6 +96,14 @@ class_if (Some s) = s.class
 -- the class of the site of a side at a place
 abbrev pub class_of : Side → ℕ → Option ℕ
 class_of side k = class_if (find (λ (s : Site). s.place == k) side.sites)
+
+-- the classes of all sides in order, and the index among these of the class of the site at a place
+abbrev pub classes_of : List Side → List (List ℕ)
+classes_of sides = flat_map (λ (s : Side). s.classes) sides
+
+unfoldable pub class_among : List Side → ℕ → Option ℕ
+class_among [] k = None
+class_among (side ∷ sides) k = option_or (class_of side k) (option_map (λ n. length side.classes + n) (class_among sides k))
 
 -- a side has a site at a place
 abbrev pub has_site : ℕ → Side → Bool

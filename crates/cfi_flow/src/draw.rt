@@ -1,12 +1,16 @@
 //! What is known of a program's sites and taken places before the raw graph is lent.
 
-ghost use Rattle.std.specs.Prelude.{◌≡◌, ◌<◌, ◌++◌, ◌∷◌, [], IfOk, length, slice_index_or};
+ghost use Rattle.std.specs.Prelude.{◌≡◌, ◌<◌, ◌++◌, ◌∷◌, [], IfOk, filter, length, slice_index_or};
 ghost use Rattle.std.specs.List.{All};
+ghost use Rattle.cfi_flow.specs.declared.draw.KeptSite.{KeptSite};
+ghost use Rattle.cfi_flow.specs.Closed.{is_of};
 ghost use Rattle.cfi_flow.specs.Kept.{AreKept, is_open, no_kept, open_targets, site_with, sites_of, targets_of};
+ghost use Rattle.cfi_flow.specs.Sites.{RawSite};
 
 use crate::below::where_below;
+use crate::sort::is_of;
 use crate::span::Span;
-use cfi_graph::SiteKind;
+use cfi_graph::{SiteKind, Sort};
 use rv_word::{NoMemory, Places};
 use std::alloc::Global;
 
@@ -79,6 +83,25 @@ impl Drawing {
         Ok(self)
     }
 
+    /// The drawing with the sites of a sort alone.
+    pub(crate) fn for_sort(&self, alloc: Global, sort: Sort) -> Result<Drawing, NoMemory>
+        requires { AreKept self.now }
+        ensures sites { IfOk result (λ d. sites_of d ≡ filter (λ (s : RawSite). is_of sort s.kind) (sites_of self.now)) }
+        ensures taken { IfOk result (λ d. d.taken.items ≡ self.now.taken.items) }
+        ensures kept { IfOk result (λ d. AreKept d) }
+    {
+        let sites = sites_for(alloc, self.sites.as_slice(), sort)?;
+        let lists = lists_of(alloc, self.lists.as_slice())?;
+        let taken = Vec::from_slice(alloc, self.taken.as_slice())?;
+        let begun = Vec::from_slice(alloc, self.begun.as_slice())?;
+        Ok(Drawing {
+            sites,
+            lists,
+            taken,
+            begun,
+        })
+    }
+
     /// The targets of the site with this index.
     pub(crate) fn targets(&self, alloc: Global, k: u64) -> Result<Places, NoMemory>
         requires kept { AreKept self.now }
@@ -96,6 +119,29 @@ impl Drawing {
             ),
         }
     }
+}
+
+/// The sites of a sort.
+fn sites_for(alloc: Global, sites: &[KeptSite], sort: Sort) -> Result<Vec<KeptSite>, NoMemory>
+    ensures { IfOk result (λ v. v.items ≡ filter (λ (s : KeptSite). is_of sort s.kind) sites.now) }
+{
+    let own = sites
+        .iter()
+        .copied()
+        .filter(|site| is_of(sort, site.kind))
+        .collect(alloc)?;
+    Ok(own)
+}
+
+/// The same lists once more.
+fn lists_of(alloc: Global, lists: &[Places]) -> Result<Vec<Places>, NoMemory>
+    ensures { IfOk result (λ v. v.items ≡ lists.now) }
+{
+    let mut all = Vec::new(alloc);
+    for list in lists {
+        all.push(copied(alloc, list.as_slice())?)?;
+    }
+    Ok(all)
 }
 
 /// The same places once more.

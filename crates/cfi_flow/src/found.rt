@@ -7,9 +7,9 @@ ghost use Rattle.cfi_flow.specs.Kept.{AreKept, IsAimed, sites_of, targets_of};
 ghost use Rattle.cfi_flow.specs.Pointed.{ArePoints};
 ghost use Rattle.cfi_class.specs.Tables.{entry};
 
-use crate::closed::Site;
 use crate::draw::{Aim, Drawing};
 use crate::points::{Points, first, points_of};
+use crate::side::Site;
 use cfi_class::Entry;
 use rv_word::{NoMemory, Places};
 use std::alloc::Global;

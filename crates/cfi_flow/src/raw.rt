@@ -1,16 +1,16 @@
 ghost use Rattle.std.specs.Prelude.{◌≡◌, ◌<◌, false, IfOk, length, map, slice_index_or};
 ghost use Rattle.std.specs.List.{All};
-ghost use Rattle.cfi_flow.specs.Closed.{AreClasses, sets_of};
+ghost use Rattle.cfi_flow.specs.Closed.{AreClasses, raw_for, sets_of};
 ghost use Rattle.cfi_flow.specs.Found.{by_table};
 ghost use Rattle.cfi_flow.specs.Kept.{AreKept, sites_of};
 ghost use Rattle.cfi_flow.specs.Raw.{IsThere, site_of};
 
-use crate::closed::Site;
 use crate::draw::Drawing;
 use crate::found::sites_by;
 use crate::join::joined;
+use crate::side::Site;
 use cfi_class::{Entry, classes};
-use cfi_graph::SiteKind;
+use cfi_graph::{SiteKind, Sort};
 use rv_word::{NoMemory, Places};
 use std::alloc::Global;
 use std::marker::Model;
@@ -98,6 +98,14 @@ impl Raw {
         ensures { result.now ≡ self.now.taken }
     {
         self.drawing.taken.as_slice()
+    }
+
+    /// The raw graph with the sites of a sort alone.
+    pub(crate) fn for_sort(&self, alloc: Global, sort: Sort) -> Result<Raw, NoMemory>
+        ensures { IfOk result (λ r. r ≡ raw_for sort self.now) }
+    {
+        let drawing = self.drawing.for_sort(alloc, sort)?;
+        Ok(Raw { drawing })
     }
 
     /// The classes of the targets.

@@ -18,15 +18,15 @@ three_words : (name from to : List ℕ) (a b : ℕ) → plain name ≡ true → 
 three_words name from to a b n p q =
     words_back name (from ∷ to ∷ []) (and_from _ _ n (and_from _ _ (number_plain from a p) (and_from _ true (number_plain to b q) refl)))
 
-edge_words : (name from to : List ℕ) (a b : ℕ) → name ≡ codes "edge" → hex 8 from ≡ Some a → hex 8 to ≡ Some b → line_of (words_of (name ++ 32 ∷ (from ++ 32 ∷ to))) ≡ Some (Edge a b)
+edge_words : (version : ℕ) (name from to : List ℕ) (a b : ℕ) → name ≡ codes "edge" → hex 8 from ≡ Some a → hex 8 to ≡ Some b → line_of version (words_of (name ++ 32 ∷ (from ++ 32 ∷ to))) ≡ Some (Edge a b)
 unfolding line_of
-edge_words name from to a b n p q =
-    ap line_of (three_words name from to a b (ap plain n) p q) ∙ rw (n, p, q) refl
+edge_words version name from to a b n p q =
+    ap (line_of version) (three_words name from to a b (ap plain n) p q) ∙ rw (n, p, q) refl
 
-call_words : (name from to : List ℕ) (a b : ℕ) → name ≡ codes "call" → hex 8 from ≡ Some a → hex 8 to ≡ Some b → line_of (words_of (name ++ 32 ∷ (from ++ 32 ∷ to))) ≡ Some (Call a b)
+call_words : (version : ℕ) (name from to : List ℕ) (a b : ℕ) → name ≡ codes "call" → hex 8 from ≡ Some a → hex 8 to ≡ Some b → line_of version (words_of (name ++ 32 ∷ (from ++ 32 ∷ to))) ≡ Some (Call a b)
 unfolding line_of
-call_words name from to a b n p q =
-    ap line_of (three_words name from to a b (ap plain n) p q) ∙ rw (n, p, q) refl
+call_words version name from to a b n p q =
+    ap (line_of version) (three_words name from to a b (ap plain n) p q) ∙ rw (n, p, q) refl
 
 -- the three parts of such a line
 module _ (line : List ℕ) (size : length line ≡ 22) (first : get_or line 4 0 ≡ 32) (second : get_or line 13 0 ≡ 32) where
@@ -37,10 +37,10 @@ module _ (line : List ℕ) (size : length line ≡ 22) (first : get_or line 4 0 
       let digits : drop 5 line ≡ take 8 (drop 5 line) ++ 32 ∷ drop 14 line = sym (take-append-drop 8 (drop 5 line)) ∙ ap (λ xs. take 8 (drop 5 line) ++ xs) (drop-drop 8 5 line ∙ at_thirteen) in
       sym (take-append-drop 4 line) ∙ ap (λ xs. take 4 line ++ xs) (at_four ∙ ap (λ xs. 32 ∷ xs) digits)
 
-  pub edge_line : (a b : ℕ) → bytes_eq (take 4 line) (codes "edge") ≡ true → hex 8 (take 8 (drop 5 line)) ≡ Some a → hex 8 (drop 14 line) ≡ Some b → line_of (words_of line) ≡ Some (Edge a b)
-  edge_line a b n p q =
-      ap (λ xs. line_of (words_of xs)) parts ∙ edge_words (take 4 line) _ _ a b ((bytes_eq-Decides (take 4 line) (codes "edge")).0 n) p q
+  pub edge_line : (version a b : ℕ) → bytes_eq (take 4 line) (codes "edge") ≡ true → hex 8 (take 8 (drop 5 line)) ≡ Some a → hex 8 (drop 14 line) ≡ Some b → line_of version (words_of line) ≡ Some (Edge a b)
+  edge_line version a b n p q =
+      ap (λ xs. line_of version (words_of xs)) parts ∙ edge_words version (take 4 line) _ _ a b ((bytes_eq-Decides (take 4 line) (codes "edge")).0 n) p q
 
-  pub call_line : (a b : ℕ) → bytes_eq (take 4 line) (codes "call") ≡ true → hex 8 (take 8 (drop 5 line)) ≡ Some a → hex 8 (drop 14 line) ≡ Some b → line_of (words_of line) ≡ Some (Call a b)
-  call_line a b n p q =
-      ap (λ xs. line_of (words_of xs)) parts ∙ call_words (take 4 line) _ _ a b ((bytes_eq-Decides (take 4 line) (codes "call")).0 n) p q
+  pub call_line : (version a b : ℕ) → bytes_eq (take 4 line) (codes "call") ≡ true → hex 8 (take 8 (drop 5 line)) ≡ Some a → hex 8 (drop 14 line) ≡ Some b → line_of version (words_of line) ≡ Some (Call a b)
+  call_line version a b n p q =
+      ap (λ xs. line_of version (words_of xs)) parts ∙ call_words version (take 4 line) _ _ a b ((bytes_eq-Decides (take 4 line) (codes "call")).0 n) p q

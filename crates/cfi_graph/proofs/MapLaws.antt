@@ -20,7 +20,7 @@ use Rattle.text_lines.proofs.Whole.{ends_whole, named_back, one_named_ok, whole_
 use Rattle.text_lines.proofs.Written.{hex_back, hex_plain, join_newlines, lacks, spaced_line, split_join, words_back}
 use Rattle.rv_word.specs.Form.{profile_for}
 use Rattle.rv_word.specs.declared.form.Form.{Form}
-use Rattle.rv_word.specs.declared.form.Form.TheVariants.{Plain, Harts}
+use Rattle.rv_word.specs.declared.form.Form.TheVariants.{Plain, Harts, Split, HartsSplit}
 use Rattle.cfi_graph.specs.declared.map.MapLine.{MapLine}
 use Rattle.cfi_graph.specs.Graph.{is_rising}
 use Rattle.cfi_graph.specs.Map.{IsMap, MapParts, is_gate, map_line_below, map_line_in_range}
@@ -118,25 +118,35 @@ lines_lack (l ∷ lines) = and_from _ _ (line_lacks l) (lines_lack lines)
 which_of : Form → ℕ
 which_of Plain = 0
 which_of Harts = 1
+which_of Split = 2
+which_of HartsSplit = 3
 
 name_there : (form : Form) → position (bytes_eq (map_name form)) map_names ≡ Some (which_of form)
 unfolding which_of
 name_there Plain = refl
 name_there Harts = refl
+name_there Split = refl
+name_there HartsSplit = refl
 
 form_there : (form : Form) → form_at (which_of form) ≡ form
 unfolding which_of
 form_there Plain = refl
 form_there Harts = refl
+form_there Split = refl
+form_there HartsSplit = refl
 
 name_lacks : (form : Form) → lacks 10 (map_name form) ≡ true
 name_lacks Plain = refl
 name_lacks Harts = refl
+name_lacks Split = refl
+name_lacks HartsSplit = refl
 
-name_at : (which : ℕ) → which < 2 → get_or map_names which [] ≡ map_name (form_at which)
+name_at : (which : ℕ) → which < 4 → get_or map_names which [] ≡ map_name (form_at which)
 name_at zero lt = refl
 name_at (suc zero) lt = refl
-name_at (suc (suc which)) lt = absurd (omega arith)
+name_at (suc (suc zero)) lt = refl
+name_at (suc (suc (suc zero))) lt = refl
+name_at (suc (suc (suc (suc which)))) lt = absurd (omega arith)
 
 lines_back : (m : MapParts) → lines_of (map_text m) ≡ map_name m.form ∷ (spellings m.lines ++ [] ∷ [])
 unfolding map_text map_lines

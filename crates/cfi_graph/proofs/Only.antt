@@ -1,22 +1,25 @@
 -- The spelling of a graph is read as that graph.
-use Rattle.std.proofs.Common.{◌≡◌, ℕ, ◌+◌, ◌%◌, ◌^◌, ◌<◌, ◌≤◌, ◌==◌, ◌&&◌, true, List, [], ◌∷◌, ◌++◌, codes, map, Option, Some, None, Ok, refl, sym, ◌∙◌, ap, arith}
+use Rattle.std.proofs.Common.{◌≡◌, ℕ, ◌+◌, ◌%◌, ◌^◌, ◌<◌, ◌≤◌, ◌==◌, ◌&&◌, ◌||◌, Bool, true, false, if◌then◌else◌, List, [], ◌∷◌, ◌++◌, codes, map, position, Option, Some, None, Ok, inl, inr, refl, sym, subst, ◌∙◌, ap, arith}
 use Rattle.std.specs.List.{list_all}
-use Rattle.std.proofs.lemmas.Bool.{and_from, and_parts, leb-true, ltb-true}
+use Rattle.std.specs.Str.{bytes_eq}
+use Rattle.std.proofs.lemmas.Bool.{and_from, and_parts, eqb-true, leb-true, ltb-true, or_cases}
 use Rattle.std.proofs.Math.Dec.{leb, ltb}
 use Rattle.cfi_graph.specs.declared.line.GraphLine.{GraphLine}
-use Rattle.cfi_graph.specs.declared.line.GraphLine.TheVariants.{Class, Site, Edge, Call}
+use Rattle.cfi_graph.specs.declared.line.GraphLine.TheVariants.{Class, CallClass, JumpClass, Site, Edge, Call}
 use Rattle.cfi_graph.specs.declared.line.SiteKind.{SiteKind}
 use Rattle.cfi_graph.specs.declared.line.SiteKind.TheVariants as kind
+use Rattle.cfi_graph.specs.declared.line.Sort.{Sort}
+use Rattle.cfi_graph.specs.declared.line.Sort.TheVariants.{Both, Calls, Jumps}
 use Rattle.cfi_graph.specs.declared.line.Key.{Key}
-use Rattle.cfi_graph.specs.Graph.{GraphParts, IsGraph, is_code_address, is_code_length, is_label, key_below, key_of, line_in_range, targets_rise}
+use Rattle.cfi_graph.specs.Graph.{GraphParts, IsGraph, class_in, class_in_range, fits_version, is_code_address, is_code_length, is_label, is_sort_of, key_below, key_of, line_in_range, line_of_class, targets_rise}
 use Rattle.text_lines.specs.Hex.{hex, hex_text}
 use Rattle.text_lines.specs.Lines.{lines_of, spaced, words_of}
 use Rattle.text_lines.specs.Reading.{if_right, one_named, read}
 use Rattle.text_lines.proofs.Accepts.{Accepts, end_only, line_first, read_back}
 use Rattle.text_lines.proofs.Written.{hex_back, hex_plain, join_newlines, lacks, plain, spaced_line, split_join, words_back}
-use Rattle.cfi_graph.specs.Text.{graph_lines, graph_text, kind_name, words_of_line}
-use Rattle.cfi_graph.specs.Lines.{addresses_of, length_of, line_of}
-use Rattle.cfi_graph.specs.Reading.{after_first, graph_names, graph_of, graph_rules, in_order}
+use Rattle.cfi_graph.specs.Text.{class_name, graph_lines, graph_name, graph_text, kind_name, words_of_class, words_of_line}
+use Rattle.cfi_graph.specs.Lines.{addresses_of, length_of, line_of, sort_named}
+use Rattle.cfi_graph.specs.Reading.{after_first, graph_names, graph_of, graph_rules, in_order, version_at}
 use Rattle.cfi_graph.proofs.Whole.{rises_after, spellings}
 
 -- an allowed number has no more digits than are written
@@ -41,23 +44,35 @@ addresses_back len (a ∷ rest) small e =
     let p = and_parts (is_code_address len a) (list_all (is_code_address len) rest) e in
     rw (address_back len a small p.0, addresses_back len rest small p.1) refl
 
-named_back : (len : ℕ) (l : GraphLine) → len ≤ 0x100000 → line_in_range len l ≡ true → line_of (words_of_line l) ≡ Some l
-unfolding line_of
-named_back len (Class label targets) small e =
-    let p = and_parts (is_label label) (list_all (is_code_address len) targets) e in
-    rw (label_back label p.0, addresses_back len targets small p.1) refl
-named_back len (Site a kind.Call label) small e =
-    let p = and_parts (is_code_address len a) (is_label label) e in
-    rw (address_back len a small p.0, label_back label p.1) refl
-named_back len (Site a kind.Jump label) small e =
-    let p = and_parts (is_code_address len a) (is_label label) e in
-    rw (address_back len a small p.0, label_back label p.1) refl
-named_back len (Edge from to) small e =
-    let p = and_parts (is_code_address len from) (is_code_address len to) e in
-    rw (address_back len from small p.0, address_back len to small p.1) refl
-named_back len (Call from to) small e =
-    let p = and_parts (is_code_address len from) (is_code_address len to) e in
-    rw (address_back len from small p.0, address_back len to small p.1) refl
+module _ (version len : ℕ) (small : len ≤ 0x100000) where
+  class_back : (sort : Sort) (label : ℕ) (targets : List ℕ) → is_sort_of version sort ≡ true → class_in_range len label targets ≡ true → line_of version (words_of_class sort label targets) ≡ Some (line_of_class sort label targets)
+  unfolding line_of
+  class_back sort label targets fits e =
+      let p = and_parts (is_label label) (list_all (is_code_address len) targets) e in
+      rw (name_back sort fits, label_back label p.0, addresses_back len targets small p.1) refl
+    where
+      name_back : (sort : Sort) → is_sort_of version sort ≡ true → sort_named version (class_name sort) ≡ Some sort
+      name_back Both fits = rw fits refl
+      name_back Calls fits = rw fits refl
+      name_back Jumps fits = rw fits refl
+
+  named_back : (l : GraphLine) → fits_version version (class_in l) ≡ true → line_in_range len l ≡ true → line_of version (words_of_line l) ≡ Some l
+  unfolding line_of
+  named_back (Class label targets) fits e = class_back Both label targets fits e
+  named_back (CallClass label targets) fits e = class_back Calls label targets fits e
+  named_back (JumpClass label targets) fits e = class_back Jumps label targets fits e
+  named_back (Site a kind.Call label) fits e =
+      let p = and_parts (is_code_address len a) (is_label label) e in
+      rw (address_back len a small p.0, label_back label p.1) refl
+  named_back (Site a kind.Jump label) fits e =
+      let p = and_parts (is_code_address len a) (is_label label) e in
+      rw (address_back len a small p.0, label_back label p.1) refl
+  named_back (Edge from to) fits e =
+      let p = and_parts (is_code_address len from) (is_code_address len to) e in
+      rw (address_back len from small p.0, address_back len to small p.1) refl
+  named_back (Call from to) fits e =
+      let p = and_parts (is_code_address len from) (is_code_address len to) e in
+      rw (address_back len from small p.0, address_back len to small p.1) refl
 
 targets_plain : (targets : List ℕ) → list_all plain (map (hex_text 8) targets) ≡ true
 targets_plain [] = refl
@@ -67,25 +82,39 @@ kind_plain : (k : SiteKind) → plain (kind_name k) ≡ true
 kind_plain kind.Call = refl
 kind_plain kind.Jump = refl
 
+name_plain : (sort : Sort) → plain (class_name sort) ≡ true
+name_plain Both = refl
+name_plain Calls = refl
+name_plain Jumps = refl
+
+class_plain : (sort : Sort) (label : ℕ) (targets : List ℕ) → list_all plain (words_of_class sort label targets) ≡ true
+class_plain sort label targets =
+    and_from _ _ (name_plain sort) (and_from _ _ (hex_plain 5 label) (targets_plain targets))
+
 words_plain : (l : GraphLine) → list_all plain (words_of_line l) ≡ true
-words_plain (Class label targets) = and_from _ _ (hex_plain 5 label) (targets_plain targets)
+words_plain (Class label targets) = class_plain Both label targets
+words_plain (CallClass label targets) = class_plain Calls label targets
+words_plain (JumpClass label targets) = class_plain Jumps label targets
 words_plain (Site a k label) =
     and_from _ _ (hex_plain 8 a) (and_from _ _ (kind_plain k) (and_from _ true (hex_plain 5 label) refl))
 words_plain (Edge from to) = and_from _ _ (hex_plain 8 from) (and_from _ true (hex_plain 8 to) refl)
 words_plain (Call from to) = and_from _ _ (hex_plain 8 from) (and_from _ true (hex_plain 8 to) refl)
 
+-- the words of a class are cut apart again
+class_words_back : (sort : Sort) (label : ℕ) (targets : List ℕ) → words_of (spaced (words_of_class sort label targets)) ≡ words_of_class sort label targets
+class_words_back sort label targets =
+    words_back (class_name sort) (hex_text 5 label ∷ map (hex_text 8) targets) (class_plain sort label targets)
+
 line_words_back : (l : GraphLine) → words_of (spaced (words_of_line l)) ≡ words_of_line l
-line_words_back (Class label targets) =
-    words_back (codes "class") (hex_text 5 label ∷ map (hex_text 8) targets) (words_plain (Class label targets))
+line_words_back (Class label targets) = class_words_back Both label targets
+line_words_back (CallClass label targets) = class_words_back Calls label targets
+line_words_back (JumpClass label targets) = class_words_back Jumps label targets
 line_words_back (Site a k label) =
     words_back (codes "site") (hex_text 8 a ∷ kind_name k ∷ hex_text 5 label ∷ []) (words_plain (Site a k label))
 line_words_back (Edge from to) =
     words_back (codes "edge") (hex_text 8 from ∷ hex_text 8 to ∷ []) (words_plain (Edge from to))
 line_words_back (Call from to) =
     words_back (codes "call") (hex_text 8 from ∷ hex_text 8 to ∷ []) (words_plain (Call from to))
-
-line_back : (len : ℕ) (l : GraphLine) → len ≤ 0x100000 → line_in_range len l ≡ true → line_of (words_of (spaced (words_of_line l))) ≡ Some l
-line_back len l small e = ap line_of (line_words_back l) ∙ named_back len l small e
 
 lines_lack : (lines : List GraphLine) → list_all (lacks 10) (spellings lines ++ [] ∷ []) ≡ true
 lines_lack [] = refl
@@ -96,13 +125,16 @@ order_first None l keys t e = (t, e)
 order_first (Some k) l keys t e =
     let p = and_parts (key_below k (key_of l)) _ e in (and_from _ _ t p.0, p.1)
 
-accepts : (len : ℕ) (before : Option Key) (lines : List GraphLine) → len ≤ 0x100000 → list_all (line_in_range len) lines ≡ true → list_all targets_rise lines ≡ true → rises_after before (map key_of lines) ≡ true → Accepts (graph_rules len) before (spellings lines ++ [] ∷ []) lines
-accepts len before [] small r t o = end_only
-accepts len before (l ∷ lines) small r t o =
-    let p = and_parts (line_in_range len l) (list_all (line_in_range len) lines) r in
-    let q = and_parts (targets_rise l) (list_all targets_rise lines) t in
-    let s = order_first before l (map key_of lines) q.0 o in
-    line_first (line_back len l small p.0) p.0 s.0 (accepts len (Some (key_of l)) lines small p.1 q.1 s.1)
+module _ (version len : ℕ) (small : len ≤ 0x100000) where
+  accepts : (before : Option Key) (lines : List GraphLine) → list_all (λ line. fits_version version (class_in line)) lines ≡ true → list_all (line_in_range len) lines ≡ true → list_all targets_rise lines ≡ true → rises_after before (map key_of lines) ≡ true → Accepts (graph_rules version len) before (spellings lines ++ [] ∷ []) lines
+  accepts before [] f r t o = end_only
+  accepts before (l ∷ lines) f r t o =
+      let fits = and_parts (fits_version version (class_in l)) (list_all (λ line. fits_version version (class_in line)) lines) f in
+      let p = and_parts (line_in_range len l) (list_all (line_in_range len) lines) r in
+      let q = and_parts (targets_rise l) (list_all targets_rise lines) t in
+      let s = order_first before l (map key_of lines) q.0 o in
+      let back = ap (line_of version) (line_words_back l) ∙ named_back version len small l fits.0 p.0 in
+      line_first back p.0 s.0 (accepts (Some (key_of l)) lines fits.1 p.1 q.1 s.1)
 
 abbrev second_words : List ℕ → List (List ℕ)
 second_words size = codes "code" ∷ codes "40000000" ∷ size ∷ []
@@ -112,34 +144,59 @@ length_back len e =
     let small = length_small len e in
     ap length_of (words_back (codes "code") (codes "40000000" ∷ hex_text 8 len ∷ []) (and_from _ true (hex_plain 8 len) refl)) ∙ hex_back 8 len (omega arith)
 
-no_end : line_of (words_of (codes "end")) ≡ None
-unfolding line_of
-no_end = refl
+module _ (version len : ℕ) where
+  no_end : line_of version (words_of (codes "end")) ≡ None
+  unfolding line_of
+  no_end = refl
 
-body_whole : (len : ℕ) (lines : List GraphLine) → IsGraph (record { code = len; lines = lines }) → read (graph_rules len) None 3 (spellings lines ++ [] ∷ []) ≡ record { items = lines; end = Ok tt }
-body_whole len lines is =
-    read_back (graph_rules len) no_end 3 (accepts len None lines (length_small len is.length) is.range is.targets is.order)
+  body_whole : (lines : List GraphLine) → IsGraph (record { version = version; code = len; lines = lines }) → read (graph_rules version len) None 3 (spellings lines ++ [] ∷ []) ≡ record { items = lines; end = Ok tt }
+  body_whole lines is =
+      read_back (graph_rules version len) no_end 3 (accepts version len (length_small len is.length) None lines is.sorts is.range is.targets is.order)
 
-after_first_back : (len : ℕ) (lines : List GraphLine) → IsGraph (record { code = len; lines = lines }) → after_first (spaced (second_words (hex_text 8 len)) ∷ (spellings lines ++ [] ∷ [])) ≡ Ok (record { code = len; lines = lines })
-unfolding after_first
-after_first_back len [] is = rw (length_back len is.length, is.length, body_whole len [] is) refl
-after_first_back len (l ∷ lines) is =
-    rw (length_back len is.length, is.length, body_whole len (l ∷ lines) is) refl
+  after_first_back : (lines : List GraphLine) → IsGraph (record { version = version; code = len; lines = lines }) → after_first version (spaced (second_words (hex_text 8 len)) ∷ (spellings lines ++ [] ∷ [])) ≡ Ok (record { version = version; code = len; lines = lines })
+  unfolding after_first
+  after_first_back [] is = rw (length_back len is.length, is.length, body_whole [] is) refl
+  after_first_back (l ∷ lines) is =
+      rw (length_back len is.length, is.length, body_whole (l ∷ lines) is) refl
 
-from_lines_back : (graph : GraphParts) → IsGraph graph → if_right (one_named graph_names (graph_lines graph ++ [] ∷ [])) (λ first. after_first first.1) ≡ Ok graph
-unfolding one_named graph_lines
-from_lines_back graph is = after_first_back graph.code graph.lines is
+-- the first line of a version, by its place among the first lines
+record Named (version : ℕ) : Type 0 where
+  pub which : ℕ
+  pub there : position (bytes_eq (graph_name version)) graph_names ≡ Some which
+  pub tells : version_at which ≡ version
+
+named : (version : ℕ) → (version == 1 || version == 2) ≡ true → Named version
+named version known =
+    elim (or_cases (version == 1) (version == 2) known) [
+      | inl one ↦ subst Named (sym (eqb-true version 1 one)) (record { which = 0; there = refl; tells = refl })
+      | inr two ↦ subst Named (sym (eqb-true version 2 two)) (record { which = 1; there = refl; tells = refl })
+    ]
+
+name_lacks : (version : ℕ) → lacks 10 (graph_name version) ≡ true
+name_lacks version = by_test (version == 2)
+  where
+    by_test : (b : Bool) → lacks 10 (if b then codes "rvcfi-graph 2" else codes "rvcfi-graph 1") ≡ true
+    by_test true = refl
+    by_test false = refl
 
 second_lacks : (len : ℕ) → lacks 10 (spaced (second_words (hex_text 8 len))) ≡ true
 second_lacks len =
     spaced_line (second_words (hex_text 8 len)) (and_from _ true (hex_plain 8 len) refl)
 
--- the lines of a graph's text
-lines_back : (graph : GraphParts) → lines_of (graph_text graph) ≡ graph_lines graph ++ [] ∷ []
-unfolding graph_text graph_lines
-lines_back graph =
-    ap lines_of (sym (join_newlines (graph_lines graph))) ∙ split_join 10 (codes "rvcfi-graph 1") (spaced (second_words (hex_text 8 graph.code)) ∷ (spellings graph.lines ++ [] ∷ [])) refl (and_from _ _ (second_lacks graph.code) (lines_lack graph.lines))
+module _ (graph : GraphParts) (is : IsGraph graph) where
+  from_lines_back : if_right (one_named graph_names (graph_lines graph ++ [] ∷ [])) (λ first. after_first (version_at first.0) first.1) ≡ Ok graph
+  unfolding one_named graph_lines
+  from_lines_back =
+      let name = named graph.version is.version in
+      rw (name.there, name.tells) (after_first_back graph.version graph.code graph.lines is)
 
-pub graph_of-graph_text : (graph : GraphParts) → IsGraph graph → graph_of (graph_text graph) ≡ Ok graph
-unfolding graph_of
-graph_of-graph_text graph is = ap (λ lines. if_right (one_named graph_names lines) (λ first. after_first first.1)) (lines_back graph) ∙ from_lines_back graph is
+  -- the lines of a graph's text
+  lines_back : lines_of (graph_text graph) ≡ graph_lines graph ++ [] ∷ []
+  unfolding graph_text graph_lines
+  lines_back =
+      ap lines_of (sym (join_newlines (graph_lines graph))) ∙ split_join 10 (graph_name graph.version) (spaced (second_words (hex_text 8 graph.code)) ∷ (spellings graph.lines ++ [] ∷ [])) (name_lacks graph.version) (and_from _ _ (second_lacks graph.code) (lines_lack graph.lines))
+
+  pub graph_of-graph_text : graph_of (graph_text graph) ≡ Ok graph
+  unfolding graph_of
+  graph_of-graph_text =
+      ap (λ lines. if_right (one_named graph_names lines) (λ first. after_first (version_at first.0) first.1)) lines_back ∙ from_lines_back

@@ -3,11 +3,11 @@ use Rattle.std.proofs.Common.{◌≡◌, ℕ, List, [], ◌∷◌, ◌++◌, ◌
 use Rattle.std.specs.List.{flat_map}
 use Rattle.std.proofs.lemmas.List.{append-nil, take_more}
 use Rattle.cfi_graph.specs.declared.line.GraphLine.{GraphLine}
-use Rattle.cfi_graph.specs.declared.line.GraphLine.TheVariants.{Class}
+use Rattle.cfi_graph.specs.declared.line.Sort.{Sort}
 use Rattle.cfi_graph.specs.Graph.{GraphParts}
 use Rattle.text_lines.specs.Hex.{hex_text}
 use Rattle.text_lines.specs.Lines.{spaced}
-use Rattle.cfi_graph.specs.Text.{graph_lines, graph_text, words_of_line}
+use Rattle.cfi_graph.specs.Text.{class_name, graph_lines, graph_name, graph_text, words_of_class, words_of_line}
 
 -- words with a space before each but the first
 pub spaced_flat : (word : List ℕ) (words : List (List ℕ)) → spaced (word ∷ words) ≡ word ++ flat_map (λ w. 32 ∷ w) words
@@ -31,33 +31,34 @@ next_piece f xs k x d out {before} low is so more =
     let joined : flat_map f (take (k + 1) xs) ≡ first ++ f x = ap (flat_map f) next ∙ flat_map-append f (take k xs) (x ∷ []) ∙ ap (λ ys. first ++ ys) (append-nil (f x)) in
     more ∙ ap (λ ys. ys ++ f x) so ∙ append_assoc out first (f x) ∙ ap (λ ys. out ++ ys) (sym joined)
 
-class_text : (label : ℕ) (targets : List ℕ) → spaced (codes "class" ∷ hex_text 5 label ∷ map (hex_text 8) targets) ≡ codes "class" ++ 32 ∷ hex_text 5 label ++ flat_map (λ n. 32 ∷ hex_text 8 n) targets
-class_text label targets =
-    spaced_flat (codes "class") (hex_text 5 label ∷ map (hex_text 8) targets) ∙ ap (λ rest. codes "class" ++ 32 ∷ hex_text 5 label ++ rest) (flat_map-map (λ w. 32 ∷ w) (hex_text 8) targets)
+class_text : (name : List ℕ) (label : ℕ) (targets : List ℕ) → spaced (name ∷ hex_text 5 label ∷ map (hex_text 8) targets) ≡ name ++ (32 ∷ (hex_text 5 label ++ flat_map (λ n. 32 ∷ hex_text 8 n) targets))
+class_text name label targets =
+    spaced_flat name (hex_text 5 label ∷ map (hex_text 8) targets) ∙ ap (λ rest. name ++ (32 ∷ (hex_text 5 label ++ rest))) (flat_map-map (λ w. 32 ∷ w) (hex_text 8) targets)
 
-pub class_written : (out named labelled : List ℕ) (label : ℕ) (targets : List ℕ) → named ≡ out ++ codes "class" → labelled ≡ named ++ 32 ∷ hex_text 5 label → labelled ++ flat_map (λ n. 32 ∷ hex_text 8 n) targets ≡ out ++ spaced (words_of_line (Class label targets))
-class_written out named labelled label targets p q =
-    rw (class_text label targets, q, p) (simp append_assoc)
+pub class_written : (out named labelled : List ℕ) (sort : Sort) (label : ℕ) (targets : List ℕ) → named ≡ out ++ class_name sort → labelled ≡ named ++ 32 ∷ hex_text 5 label → labelled ++ flat_map (λ n. 32 ∷ hex_text 8 n) targets ≡ out ++ spaced (words_of_class sort label targets)
+class_written out named labelled sort label targets p q =
+    rw (class_text (class_name sort) label targets, q, p) (simp append_assoc)
 
 -- the text of a line, with its newline
 abbrev pub line_text : GraphLine → List ℕ
 line_text l = spaced (words_of_line l) ++ 10 ∷ []
 
-abbrev pub heading : List ℕ
-heading = codes "rvcfi-graph 1" ++ 10 ∷ codes "code 40000000"
+-- what stands between the first line and the length of the code
+abbrev pub second : List ℕ
+second = 10 ∷ codes "code 40000000"
 
-pub graph_pieces : (graph : GraphParts) → graph_text graph ≡ heading ++ 32 ∷ hex_text 8 graph.code ++ 10 ∷ [] ++ flat_map line_text graph.lines ++ codes "end" ++ 10 ∷ []
+pub graph_pieces : (graph : GraphParts) → graph_text graph ≡ graph_name graph.version ++ (second ++ (32 ∷ (hex_text 8 graph.code ++ (10 ∷ (flat_map line_text graph.lines ++ 101 ∷ 110 ∷ 100 ∷ 10 ∷ [])))))
 unfolding graph_text graph_lines
 graph_pieces graph =
     let newline : List ℕ → List ℕ = λ line. line ++ 10 ∷ [] in
     let spell : GraphLine → List ℕ = λ l. spaced (words_of_line l) in
-    let texts = flat_map line_text graph.lines in
-    let code = hex_text 8 graph.code ++ 10 ∷ [] in
-    let body : flat_map newline (map spell graph.lines ++ codes "end" ∷ []) ≡ texts ++ codes "end" ++ 10 ∷ [] =
-    flat_map-append newline (map spell graph.lines) (codes "end" ∷ []) ∙ ap (λ text. text ++ 101 ∷ 110 ∷ 100 ∷ 10 ∷ []) (flat_map-map newline spell graph.lines) ∙ sym (append_assoc texts (codes "end") (10 ∷ [])) in
-    ap (λ rest. heading ++ 32 ∷ rest) (ap (λ rest. code ++ rest) body ∙ sym (append_assoc code (texts ++ codes "end") (10 ∷ [])) ∙ ap (λ text. text ++ 10 ∷ []) (sym (append_assoc code texts (codes "end"))))
+    let name = graph_name graph.version in
+    let code = hex_text 8 graph.code in
+    let body : flat_map newline (map spell graph.lines ++ codes "end" ∷ []) ≡ flat_map line_text graph.lines ++ 101 ∷ 110 ∷ 100 ∷ 10 ∷ [] =
+    flat_map-append newline (map spell graph.lines) (codes "end" ∷ []) ∙ ap (λ text. text ++ 101 ∷ 110 ∷ 100 ∷ 10 ∷ []) (flat_map-map newline spell graph.lines) in
+    append_assoc name (10 ∷ []) _ ∙ ap (λ rest. name ++ (second ++ (32 ∷ rest))) (append_assoc code (10 ∷ []) _ ∙ ap (λ rest. code ++ (10 ∷ rest)) body)
 
 -- the pieces in the order in which they are added
-pub graph_written : (graph : GraphParts) {none first second third fourth fifth : List ℕ} → none ≡ [] → first ≡ none ++ heading → second ≡ first ++ 32 ∷ hex_text 8 graph.code → third ≡ second ++ 10 ∷ [] → fourth ≡ third ++ flat_map line_text graph.lines → fifth ≡ fourth ++ 101 ∷ 110 ∷ 100 ∷ 10 ∷ [] → fifth ≡ graph_text graph
-graph_written graph z a b c d e =
-    rw (e, d, c, b, a, z, graph_pieces graph) (simp append_assoc)
+pub graph_written : (graph : GraphParts) {none name first length third fourth fifth : List ℕ} → none ≡ [] → name ≡ none ++ graph_name graph.version → first ≡ name ++ second → length ≡ first ++ 32 ∷ hex_text 8 graph.code → third ≡ length ++ 10 ∷ [] → fourth ≡ third ++ flat_map line_text graph.lines → fifth ≡ fourth ++ 101 ∷ 110 ∷ 100 ∷ 10 ∷ [] → fifth ≡ graph_text graph
+graph_written graph z n a b c d e =
+    rw (e, d, c, b, a, n, z, graph_pieces graph) (simp append_assoc)

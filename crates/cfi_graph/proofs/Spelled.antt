@@ -1,5 +1,5 @@
 -- A line's words spell the line that they are read as.
-use Rattle.std.proofs.Common.{◌≡◌, ℕ, ◌&&◌, true, List, [], ◌∷◌, codes, map, Some, refl, sym, ◌∙◌, ap}
+use Rattle.std.proofs.Common.{◌≡◌, ℕ, ◌&&◌, true, List, [], ◌∷◌, codes, map, Option, Some, None, refl, sym, ◌∙◌, ap}
 use Rattle.std.specs.List.{join_with_byte}
 use Rattle.std.specs.Str.{bytes_eq}
 use Rattle.std.proofs.lemmas.Slice.Eq.{bytes_eq-Decides}
@@ -7,15 +7,18 @@ use Rattle.std.proofs.lemmas.Bool.{and_parts}
 use Rattle.std.proofs.lemmas.Option.{same_Some}
 use Rattle.std.proofs.lemmas.List.Splits.{join_with_byte-slice_split}
 use Rattle.cfi_graph.specs.declared.line.GraphLine.{GraphLine}
-use Rattle.cfi_graph.specs.declared.line.GraphLine.TheVariants.{Class, Site, Edge, Call}
+use Rattle.cfi_graph.specs.declared.line.GraphLine.TheVariants.{Site, Edge, Call}
 use Rattle.cfi_graph.specs.declared.line.SiteKind.{SiteKind}
+use Rattle.cfi_graph.specs.declared.line.Sort.{Sort}
+use Rattle.cfi_graph.specs.declared.line.Sort.TheVariants.{Both, Calls, Jumps}
 use Rattle.text_lines.specs.Hex.{hex, hex_text}
 use Rattle.text_lines.specs.Lines.{spaced, words_of}
 use Rattle.text_lines.proofs.Numbers.{hex_spelled}
 use Rattle.rv_word.proofs.Cases.{guarded}
 use Rattle.text_lines.proofs.Options.{and_then, chosen, mapped}
-use Rattle.cfi_graph.specs.Text.{kind_name, words_of_line}
-use Rattle.cfi_graph.specs.Lines.{addresses_of, class_of, kind_of, length_of, line_of, named, pair_of, site_of}
+use Rattle.cfi_graph.specs.Graph.{class_in, fits_version, is_sort_of, line_of_class}
+use Rattle.cfi_graph.specs.Text.{class_name, kind_name, words_of_class, words_of_line}
+use Rattle.cfi_graph.specs.Lines.{addresses_of, class_of, class_or_other, kind_of, length_of, line_of, other_of, pair_of, site_of, sort_named, sort_with}
 
 same_bytes : (xs ys : List ℕ) → bytes_eq xs ys ≡ true → xs ≡ ys
 same_bytes xs ys e = (bytes_eq-Decides xs ys).0 e
@@ -28,12 +31,31 @@ addresses_spelled (word ∷ rest) addresses e =
     mapped (λ ys. a ∷ ys) (addresses_of rest) addresses others (λ ys is whole.
     rw whole (ap (λ w. w ∷ rest) (hex_spelled 8 word a first) ∙ ap (λ ws. hex_text 8 a ∷ ws) (addresses_spelled rest ys is))))
 
-class_spelled : (words : List (List ℕ)) (l : GraphLine) → class_of words ≡ Some l → codes "class" ∷ words ≡ words_of_line l
-class_spelled [] l e = absurd cc
-class_spelled (label ∷ rest) l e =
+class_words : (sort : Sort) (label : ℕ) (targets : List ℕ) → words_of_line (line_of_class sort label targets) ≡ words_of_class sort label targets
+class_words Both label targets = refl
+class_words Calls label targets = refl
+class_words Jumps label targets = refl
+
+class_spelled : (sort : Sort) (words : List (List ℕ)) (l : GraphLine) → class_of sort words ≡ Some l → class_name sort ∷ words ≡ words_of_line l
+class_spelled sort [] l e = absurd cc
+class_spelled sort (label ∷ rest) l e =
     and_then _ (hex 5 label) l e (λ k first others.
-    mapped (λ targets. Class k targets) (addresses_of rest) l others (λ targets is whole.
-    rw whole (ap (λ w. codes "class" ∷ w ∷ rest) (hex_spelled 5 label k first) ∙ ap (λ ws. codes "class" ∷ hex_text 5 k ∷ ws) (addresses_spelled rest targets is))))
+    mapped (λ targets. line_of_class sort k targets) (addresses_of rest) l others (λ targets is whole.
+    rw whole (ap (λ w. class_name sort ∷ w ∷ rest) (hex_spelled 5 label k first) ∙ ap (λ ws. class_name sort ∷ hex_text 5 k ∷ ws) (addresses_spelled rest targets is) ∙ sym (class_words sort k targets))))
+
+-- a name of a class's line names its sort
+sort_spelled : (name : List ℕ) (sort : Sort) → sort_with name ≡ Some sort → name ≡ class_name sort
+sort_spelled name sort e =
+    chosen (bytes_eq name (codes "class")) _ _ _ e (λ t s. same_bytes name _ t ∙ ap class_name (same_Some _ _ s)) (λ f1 e1.
+    chosen (bytes_eq name (codes "callclass")) _ _ _ e1 (λ t s. same_bytes name _ t ∙ ap class_name (same_Some _ _ s)) (λ f2 e2.
+    let g = guarded (bytes_eq name (codes "jumpclass")) _ _ e2 in same_bytes name _ g.0 ∙ ap class_name (same_Some _ _ g.1)))
+
+sort_read : (version : ℕ) (name : List ℕ) (sort : Sort) → sort_named version name ≡ Some sort → (name ≡ class_name sort) × (is_sort_of version sort ≡ true)
+sort_read version name sort e =
+    and_then _ (sort_with name) sort e (λ found is others.
+    let g = guarded (is_sort_of version found) _ _ others in
+    let same = same_Some _ _ g.1 in
+    (sort_spelled name sort (is ∙ ap Some same), ap (is_sort_of version) (sym same) ∙ g.0))
 
 kind_spelled : (name : List ℕ) (k : SiteKind) → kind_of name ≡ Some k → name ≡ kind_name k
 kind_spelled name k e =
@@ -63,22 +85,71 @@ pair_spelled (from ∷ to ∷ []) p e =
     let q = hex_spelled 8 from a first in let r = hex_spelled 8 to b is in
     rw (whole, q, r) refl))
 
-named_spelled : (name : List ℕ) (words : List (List ℕ)) (l : GraphLine) → named name words ≡ Some l → name ∷ words ≡ words_of_line l
-named_spelled name words l e =
-    chosen (bytes_eq name (codes "class")) _ _ _ e (λ t s. ap (λ n. n ∷ words) (same_bytes name _ t) ∙ class_spelled words l s) (λ f1 e1.
-    chosen (bytes_eq name (codes "site")) _ _ _ e1 (λ t s. ap (λ n. n ∷ words) (same_bytes name _ t) ∙ site_spelled words l s) (λ f2 e2.
-    chosen (bytes_eq name (codes "edge")) _ _ _ e2 (λ t s. mapped (λ (p : ℕ × ℕ). Edge p.0 p.1) (pair_of words) l s (λ p is whole. rw whole (ap (λ n. n ∷ words) (same_bytes name _ t) ∙ ap (λ ws. codes "edge" ∷ ws) (pair_spelled words p is)))) (λ f3 e3.
-    let g = guarded (bytes_eq name (codes "call")) _ _ e3 in
-    mapped (λ (p : ℕ × ℕ). Call p.0 p.1) (pair_of words) l g.1 (λ p is whole. rw whole (ap (λ n. n ∷ words) (same_bytes name _ g.0) ∙ ap (λ ws. codes "call" ∷ ws) (pair_spelled words p is))))))
+other_spelled : (name : List ℕ) (words : List (List ℕ)) (l : GraphLine) → other_of name words ≡ Some l → name ∷ words ≡ words_of_line l
+other_spelled name words l e =
+    chosen (bytes_eq name (codes "site")) _ _ _ e (λ t s. ap (λ n. n ∷ words) (same_bytes name _ t) ∙ site_spelled words l s) (λ f1 e1.
+    chosen (bytes_eq name (codes "edge")) _ _ _ e1 (λ t s. mapped (λ (p : ℕ × ℕ). Edge p.0 p.1) (pair_of words) l s (λ p is whole. rw whole (ap (λ n. n ∷ words) (same_bytes name _ t) ∙ ap (λ ws. codes "edge" ∷ ws) (pair_spelled words p is)))) (λ f2 e2.
+    let g = guarded (bytes_eq name (codes "call")) _ _ e2 in
+    mapped (λ (p : ℕ × ℕ). Call p.0 p.1) (pair_of words) l g.1 (λ p is whole. rw whole (ap (λ n. n ∷ words) (same_bytes name _ g.0) ∙ ap (λ ws. codes "call" ∷ ws) (pair_spelled words p is)))))
 
-words_spelled : (words : List (List ℕ)) (l : GraphLine) → line_of words ≡ Some l → words ≡ words_of_line l
-unfolding line_of
-words_spelled [] l e = absurd cc
-words_spelled (name ∷ words) l e = named_spelled name words l e
+module _ (version : ℕ) where
+  named_spelled : (sort : Option Sort) (name : List ℕ) (words : List (List ℕ)) (l : GraphLine) → sort_named version name ≡ sort → class_or_other sort name words ≡ Some l → name ∷ words ≡ words_of_line l
+  named_spelled None name words l named e = other_spelled name words l e
+  named_spelled (Some sort) name words l named e =
+      ap (λ n. n ∷ words) (sort_read version name sort named).0 ∙ class_spelled sort words l e
 
-pub line_spelled : (line : List ℕ) (l : GraphLine) → line_of (words_of line) ≡ Some l → line ≡ spaced (words_of_line l)
-line_spelled line l e =
-    sym (join_with_byte-slice_split 32 line) ∙ ap (join_with_byte 32) (words_spelled (words_of line) l e)
+  words_spelled : (words : List (List ℕ)) (l : GraphLine) → line_of version words ≡ Some l → words ≡ words_of_line l
+  unfolding line_of
+  words_spelled [] l e = absurd cc
+  words_spelled (name ∷ words) l e = named_spelled (sort_named version name) name words l refl e
+
+  pub line_spelled : (line : List ℕ) (l : GraphLine) → line_of version (words_of line) ≡ Some l → line ≡ spaced (words_of_line l)
+  line_spelled line l e =
+      sym (join_with_byte-slice_split 32 line) ∙ ap (join_with_byte 32) (words_spelled (words_of line) l e)
+
+-- ---- a line that is read fits its version
+
+class_fits : (version : ℕ) (sort : Sort) (label : ℕ) (targets : List ℕ) → is_sort_of version sort ≡ true → fits_version version (class_in (line_of_class sort label targets)) ≡ true
+class_fits version Both label targets e = e
+class_fits version Calls label targets e = e
+class_fits version Jumps label targets e = e
+
+class_read : (version : ℕ) (sort : Sort) (words : List (List ℕ)) (l : GraphLine) → is_sort_of version sort ≡ true → class_of sort words ≡ Some l → fits_version version (class_in l) ≡ true
+class_read version sort [] l fits e = absurd cc
+class_read version sort (label ∷ rest) l fits e =
+    and_then _ (hex 5 label) l e (λ k first others.
+    mapped (λ targets. line_of_class sort k targets) (addresses_of rest) l others (λ targets is whole.
+    rw whole (class_fits version sort k targets fits)))
+
+site_read : (words : List (List ℕ)) (l : GraphLine) → site_of words ≡ Some l → class_in l ≡ None
+site_read [] l e = absurd cc
+site_read (address ∷ []) l e = absurd cc
+site_read (address ∷ name ∷ []) l e = absurd cc
+site_read (address ∷ name ∷ label ∷ more ∷ rest) l e = absurd cc
+site_read (address ∷ name ∷ label ∷ []) l e =
+    and_then _ (hex 8 address) l e (λ a first others.
+    and_then _ (kind_of name) l others (λ k second last.
+    mapped (λ n. Site a k n) (hex 5 label) l last (λ n is whole. ap class_in whole)))
+
+other_read : (name : List ℕ) (words : List (List ℕ)) (l : GraphLine) → other_of name words ≡ Some l → class_in l ≡ None
+other_read name words l e =
+    chosen (bytes_eq name (codes "site")) _ _ _ e (λ t s. site_read words l s) (λ f1 e1.
+    chosen (bytes_eq name (codes "edge")) _ _ _ e1 (λ t s. mapped (λ (p : ℕ × ℕ). Edge p.0 p.1) (pair_of words) l s (λ p is whole. ap class_in whole)) (λ f2 e2.
+    let g = guarded (bytes_eq name (codes "call")) _ _ e2 in
+    mapped (λ (p : ℕ × ℕ). Call p.0 p.1) (pair_of words) l g.1 (λ p is whole. ap class_in whole)))
+
+module _ (version : ℕ) where
+  named_read : (sort : Option Sort) (name : List ℕ) (words : List (List ℕ)) (l : GraphLine) → sort_named version name ≡ sort → class_or_other sort name words ≡ Some l → fits_version version (class_in l) ≡ true
+  named_read None name words l named e = ap (fits_version version) (other_read name words l e)
+  named_read (Some sort) name words l named e =
+      class_read version sort words l (sort_read version name sort named).1 e
+
+  pub line_fits : (words : List (List ℕ)) (l : GraphLine) → line_of version words ≡ Some l → fits_version version (class_in l) ≡ true
+  unfolding line_of
+  line_fits [] l e = absurd cc
+  line_fits (name ∷ words) l e = named_read (sort_named version name) name words l refl e
+
+-- ---- the second line
 
 length_words : (words : List (List ℕ)) (len : ℕ) → length_of words ≡ Some len → words ≡ codes "code" ∷ codes "40000000" ∷ hex_text 8 len ∷ []
 length_words [] len e = absurd cc

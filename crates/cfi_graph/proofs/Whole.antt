@@ -1,5 +1,5 @@
 -- A text that is read as a graph is that graph's spelling, and the graph is one that may be.
-use Rattle.std.proofs.Common.{◌≡◌, ℕ, Bool, true, List, [], ◌∷◌, ◌++◌, codes, map, Option, Some, None, Result, Ok, Err, refl, sym, ◌∙◌, ap}
+use Rattle.std.proofs.Common.{◌≡◌, ℕ, zero, suc, ◌<◌, ◌==◌, ◌||◌, Bool, true, false, if◌then◌else◌, List, [], ◌∷◌, ◌++◌, codes, get_or, map, Option, Some, None, Result, Ok, Err, refl, sym, subst, ◌∙◌, ap, arith}
 use Rattle.std.specs.List.{join_with_byte, list_all}
 use Rattle.std.proofs.lemmas.Bool.{and_from, and_parts}
 use Rattle.std.proofs.lemmas.List.Splits.{join_with_byte-slice_split}
@@ -7,15 +7,16 @@ use Rattle.cfi_graph.specs.declared.line.GraphLine.{GraphLine}
 use Rattle.cfi_graph.specs.declared.line.Key.{Key}
 use Rattle.text_lines.specs.declared.end.TextEnd.{TextEnd}
 use Rattle.text_lines.specs.Hex.{hex_text}
-use Rattle.text_lines.specs.Lines.{lines_of, spaced}
+use Rattle.text_lines.specs.Lines.{lines_of, spaced, words_of}
 use Rattle.text_lines.specs.Reading.{if_right, one_named, read, whole}
 use Rattle.text_lines.proofs.Accepts.{Accepts, end_only, if_ok, line_first}
-use Rattle.text_lines.proofs.Whole.{one_named_ok, only_name, whole_accepts}
+use Rattle.text_lines.proofs.Whole.{one_named_ok, whole_accepts}
 use Rattle.text_lines.proofs.Written.{join_newlines}
-use Rattle.cfi_graph.specs.Graph.{GraphParts, IsGraph, is_code_length, is_rising, key_below, key_of, line_in_range, targets_rise}
-use Rattle.cfi_graph.specs.Text.{graph_lines, graph_text, words_of_line}
-use Rattle.cfi_graph.specs.Reading.{after_first, graph_names, graph_of, graph_rules, in_order, with_length}
-use Rattle.cfi_graph.proofs.Spelled.{line_spelled, length_spelled}
+use Rattle.cfi_graph.specs.Graph.{GraphParts, IsGraph, class_in, fits_version, is_code_length, is_rising, key_below, key_of, line_in_range, targets_rise}
+use Rattle.cfi_graph.specs.Lines.{length_of}
+use Rattle.cfi_graph.specs.Text.{graph_lines, graph_name, graph_text, words_of_line}
+use Rattle.cfi_graph.specs.Reading.{after_first, graph_names, graph_of, graph_rules, in_order, version_at, with_length}
+use Rattle.cfi_graph.proofs.Spelled.{line_fits, line_spelled, length_spelled}
 
 -- lines rise after the line with the key `before`
 abbrev pub rises_after : Option Key → List Key → Bool
@@ -39,25 +40,30 @@ rises_none (Some k) = refl
 abbrev pub spellings : List GraphLine → List (List ℕ)
 spellings lines = map (λ l. spaced (words_of_line l)) lines ++ codes "end" ∷ []
 
-module _ (len : ℕ) where
-  in_range : {before : Option Key} {parts : List (List ℕ)} {lines : List GraphLine} → Accepts (graph_rules len) before parts lines → list_all (line_in_range len) lines ≡ true
+module _ (version len : ℕ) where
+  in_range : {before : Option Key} {parts : List (List ℕ)} {lines : List GraphLine} → Accepts (graph_rules version len) before parts lines → list_all (line_in_range len) lines ≡ true
   in_range end_only = refl
   in_range (line_first found range order rest) = and_from _ _ range (in_range rest)
 
-  targets : {before : Option Key} {parts : List (List ℕ)} {lines : List GraphLine} → Accepts (graph_rules len) before parts lines → list_all targets_rise lines ≡ true
+  targets : {before : Option Key} {parts : List (List ℕ)} {lines : List GraphLine} → Accepts (graph_rules version len) before parts lines → list_all targets_rise lines ≡ true
   targets end_only = refl
   targets (line_first {before} {l} found range order rest) =
       and_from _ _ (targets_in_order before l order) (targets rest)
 
-  rises : {before : Option Key} {parts : List (List ℕ)} {lines : List GraphLine} → Accepts (graph_rules len) before parts lines → rises_after before (map key_of lines) ≡ true
+  fits : {before : Option Key} {parts : List (List ℕ)} {lines : List GraphLine} → Accepts (graph_rules version len) before parts lines → list_all (λ line. fits_version version (class_in line)) lines ≡ true
+  fits end_only = refl
+  fits (line_first {line} {parts} {l} found range order rest) =
+      and_from _ _ (line_fits version (words_of line) l found) (fits rest)
+
+  rises : {before : Option Key} {parts : List (List ℕ)} {lines : List GraphLine} → Accepts (graph_rules version len) before parts lines → rises_after before (map key_of lines) ≡ true
   rises {before} end_only = rises_none before
   rises (line_first {before} {l} {items} found range order rest) =
       rises_more before l (map key_of items) order (rises rest)
 
-  spelled : {before : Option Key} {parts : List (List ℕ)} {lines : List GraphLine} → Accepts (graph_rules len) before parts lines → parts ≡ spellings lines ++ [] ∷ []
+  spelled : {before : Option Key} {parts : List (List ℕ)} {lines : List GraphLine} → Accepts (graph_rules version len) before parts lines → parts ≡ spellings lines ++ [] ∷ []
   spelled end_only = refl
   spelled (line_first {line} {parts} {l} {items} found range order rest) =
-      ap (λ first. first ∷ parts) (line_spelled line l found) ∙ ap (λ others. spaced (words_of_line l) ∷ others) (spelled rest)
+      ap (λ first. first ∷ parts) (line_spelled version line l found) ∙ ap (λ others. spaced (words_of_line l) ∷ others) (spelled rest)
 
 -- what a list of parts that gives a graph is
 pub record Gives (parts : List (List ℕ)) (graph : GraphParts) : Type 0 where
@@ -70,41 +76,72 @@ pub record GivesAfter (parts : List (List ℕ)) (graph : GraphParts) : Type 0 wh
   pub rest : List (List ℕ)
   pub parts_are : parts ≡ second ∷ rest
   pub second_is : second ≡ spaced (codes "code" ∷ codes "40000000" ∷ hex_text 8 graph.code ∷ [])
-  pub accepts : Accepts (graph_rules graph.code) None rest graph.lines
+  pub accepts : Accepts (graph_rules graph.version graph.code) None rest graph.lines
 
-pub valid : (len : ℕ) (parts : List (List ℕ)) (lines : List GraphLine) → is_code_length len ≡ true → whole (read (graph_rules len) None 3 parts) ≡ Ok lines → IsGraph (record { code = len; lines = lines })
-valid len parts lines length e =
-    let accepts = whole_accepts (graph_rules len) None 3 parts lines e in
-    record { length = length; range = in_range len accepts; targets = targets len accepts; order = rises len accepts }
+-- a graph of a version that there is, whose lines from the third on are accepted
+accepted : (version len : ℕ) {parts : List (List ℕ)} {lines : List GraphLine} → (version == 1 || version == 2) ≡ true → is_code_length len ≡ true → Accepts (graph_rules version len) None parts lines → IsGraph (record { version = version; code = len; lines = lines })
+accepted version len known length accepts =
+    record {
+      version = known;
+      sorts = fits version len accepts;
+      length = length;
+      range = in_range version len accepts;
+      targets = targets version len accepts;
+      order = rises version len accepts;
+    }
 
-with_code_ok : (len : ℕ) (lines : Result (List GraphLine) TextEnd) (graph : GraphParts) → if_right lines (λ read. Ok (record { code = len; lines = read })) ≡ Ok graph → (graph.code ≡ len) × (lines ≡ Ok graph.lines)
-with_code_ok len (Ok lines) graph e =
-    let same : record { code = len; lines = lines } ≡ graph = cc in (ap (λ (g : GraphParts). g.code) (sym same), ap (λ (g : GraphParts). Ok g.lines) same)
-with_code_ok len (Err fault) graph e = absurd cc
+pub valid : (version len : ℕ) (parts : List (List ℕ)) (lines : List GraphLine) → (version == 1 || version == 2) ≡ true → is_code_length len ≡ true → whole (read (graph_rules version len) None 3 parts) ≡ Ok lines → IsGraph (record { version = version; code = len; lines = lines })
+valid version len parts lines known length e =
+    accepted version len known length (whole_accepts (graph_rules version len) None 3 parts lines e)
 
-with_length_ok : {P : Type 0} (found : Option ℕ) (parts : List (List ℕ)) (graph : GraphParts) → with_length found parts ≡ Ok graph → (found ≡ Some graph.code → is_code_length graph.code ≡ true → whole (read (graph_rules graph.code) None 3 parts) ≡ Ok graph.lines → P) → P
-with_length_ok None parts graph e go = absurd cc
-with_length_ok (Some len) parts graph e go =
-    let range = if_ok (is_code_length len) _ _ _ e in
-    let found = with_code_ok len (whole (read (graph_rules len) None 3 parts)) graph range.1 in
-    go (ap Some (sym found.0)) (ap is_code_length found.0 ∙ range.0) (ap (λ n. whole (read (graph_rules n) None 3 parts)) found.0 ∙ found.1)
+-- what is read is of the version, the length and the lines that were told
+with_code_ok : (version len : ℕ) (lines : Result (List GraphLine) TextEnd) (graph : GraphParts) → if_right lines (λ read. Ok (record { version = version; code = len; lines = read })) ≡ Ok graph → (lines ≡ Ok graph.lines) × (record { version = version; code = len; lines = graph.lines } ≡ graph)
+with_code_ok version len (Ok lines) graph e =
+    let same : record { version = version; code = len; lines = lines } ≡ graph = cc in
+    let read : lines ≡ graph.lines = ap (λ (g : GraphParts). g.lines) same in
+    (ap Ok read, ap (λ ls. record { version = version; code = len; lines = ls }) (sym read) ∙ same)
+with_code_ok version len (Err fault) graph e = absurd cc
 
-after_first_ok : (parts : List (List ℕ)) (graph : GraphParts) → after_first parts ≡ Ok graph → GivesAfter parts graph
+with_length_ok : (version : ℕ) (line : List ℕ) (parts : List (List ℕ)) (graph : GraphParts) → with_length version (length_of (words_of line)) parts ≡ Ok graph → (GivesAfter (line ∷ parts) graph) × (graph.version ≡ version)
+with_length_ok version line parts graph e = told (length_of (words_of line)) refl e
+  where
+    told : (found : Option ℕ) → length_of (words_of line) ≡ found → with_length version found parts ≡ Ok graph → (GivesAfter (line ∷ parts) graph) × (graph.version ≡ version)
+    told None is h = absurd cc
+    told (Some len) is h =
+        let range = if_ok (is_code_length len) _ _ _ h in
+        let found = with_code_ok version len (whole (read (graph_rules version len) None 3 parts)) graph range.1 in
+        let after : GivesAfter (line ∷ parts) (record { version = version; code = len; lines = graph.lines }) = record { length = range.0; second = line; rest = parts; parts_are = refl; second_is = length_spelled line len is; accepts = whole_accepts (graph_rules version len) None 3 parts graph.lines found.0 } in
+        (subst (GivesAfter (line ∷ parts)) found.1 after, ap (λ (g : GraphParts). g.version) (sym found.1))
+
+after_first_ok : (version : ℕ) (parts : List (List ℕ)) (graph : GraphParts) → after_first version parts ≡ Ok graph → (GivesAfter parts graph) × (graph.version ≡ version)
 unfolding after_first
-after_first_ok [] graph e = absurd cc
-after_first_ok (line ∷ []) graph e = absurd cc
-after_first_ok (line ∷ part ∷ parts) graph e =
-    with_length_ok _ _ graph e (λ found length lines.
-    record { length = length; second = line; rest = part ∷ parts; parts_are = refl; second_is = length_spelled line graph.code found; accepts = whole_accepts (graph_rules graph.code) None 3 (part ∷ parts) graph.lines lines })
+after_first_ok version [] graph e = absurd cc
+after_first_ok version (line ∷ []) graph e = absurd cc
+after_first_ok version (line ∷ part ∷ parts) graph e = with_length_ok version line (part ∷ parts) graph e
 
-from_lines_ok : (parts : List (List ℕ)) (graph : GraphParts) → if_right (one_named graph_names parts) (λ first. after_first first.1) ≡ Ok graph → Gives parts graph
+-- each first line tells a version, whose name it is
+pub version_known : (which : ℕ) → (version_at which == 1 || version_at which == 2) ≡ true
+version_known which = by_test (which == 0)
+  where
+    by_test : (b : Bool) → ((if b then 1 else 2) == 1 || (if b then 1 else 2) == 2) ≡ true
+    by_test true = refl
+    by_test false = refl
+
+name_at : (which : ℕ) → which < 2 → get_or graph_names which [] ≡ graph_name (version_at which)
+name_at zero lt = refl
+name_at (suc zero) lt = refl
+name_at (suc (suc which)) lt = absurd (omega arith)
+
+from_lines_ok : (parts : List (List ℕ)) (graph : GraphParts) → if_right (one_named graph_names parts) (λ first. after_first (version_at first.0) first.1) ≡ Ok graph → Gives parts graph
 unfolding graph_lines
 from_lines_ok parts graph e =
-    one_named_ok graph_names parts (λ first. after_first first.1) graph e (λ which rest known parts_are named.
-    let after = after_first_ok rest graph named in
+    one_named_ok graph_names parts (λ first. after_first (version_at first.0) first.1) graph e (λ which rest known parts_are named.
+    let p = after_first_ok (version_at which) rest graph named in
+    let after = p.0 in
+    let others : rest ≡ spaced (codes "code" ∷ codes "40000000" ∷ hex_text 8 graph.code ∷ []) ∷ (spellings graph.lines ++ [] ∷ []) = after.parts_are ∙ ap (λ second. second ∷ after.rest) after.second_is ∙ ap (λ ls. spaced (codes "code" ∷ codes "40000000" ∷ hex_text 8 graph.code ∷ []) ∷ ls) (spelled graph.version graph.code after.accepts) in
     record {
-      allowed = record { length = after.length; range = in_range graph.code after.accepts; targets = targets graph.code after.accepts; order = rises graph.code after.accepts };
-      lines = only_name which known parts_are ∙ ap (λ others. codes "rvcfi-graph 1" ∷ others) (after.parts_are ∙ ap (λ second. second ∷ after.rest) after.second_is ∙ ap (λ rest. spaced (codes "code" ∷ codes "40000000" ∷ hex_text 8 graph.code ∷ []) ∷ rest) (spelled graph.code after.accepts));
+      allowed = accepted graph.version graph.code (ap (λ v. v == 1 || v == 2) p.1 ∙ version_known which) after.length after.accepts;
+      lines = parts_are ∙ ap (λ first. first ∷ rest) (name_at which known ∙ ap graph_name (sym p.1)) ∙ ap (λ ls. graph_name graph.version ∷ ls) others;
     })
 
 pub graph_of_allowed : (text : List ℕ) (graph : GraphParts) → graph_of text ≡ Ok graph → IsGraph graph

@@ -1,16 +1,17 @@
--- A graph of control flow: the length of the code that it is of, and its lines. The rules here say
--- which numbers a line may have and in which order lines stand.
-use Rattle.std.specs.Prelude.{ℕ, ◌+◌, ◌%◌, ◌^◌, ◌==◌, nat_lt, nat_le, Bool, true, false, ◌&&◌, IsTrue, List, [], ◌∷◌, Option, Some, None, is_some, map}
+-- A graph of control flow: its version, the length of the code that it is of, and its lines. The rules
+-- here say which lines a version has, which numbers a line may have and in which order lines stand.
+use Rattle.std.specs.Prelude.{ℕ, ◌+◌, ◌%◌, ◌^◌, ◌==◌, nat_lt, nat_le, Bool, true, false, ◌&&◌, ◌||◌, IsTrue, List, [], ◌∷◌, Option, Some, None, is_some, map}
 use Rattle.std.specs.List.{list_all}
 use Rattle.rv_word.specs.MemoryMap.{CODE_START, CODE_SIZE}
 use Rattle.cfi_graph.specs.declared.line.GraphLine.{GraphLine}
-use Rattle.cfi_graph.specs.declared.line.GraphLine.TheVariants.{Class, Site, Edge, Call}
+use Rattle.cfi_graph.specs.declared.line.GraphLine.TheVariants.{Class, CallClass, JumpClass, Site, Edge, Call}
 use Rattle.cfi_graph.specs.declared.line.Sort.{Sort}
-use Rattle.cfi_graph.specs.declared.line.Sort.TheVariants.{Both}
+use Rattle.cfi_graph.specs.declared.line.Sort.TheVariants.{Both, Calls, Jumps}
 use Rattle.cfi_graph.specs.declared.line.Key.{Key}
 use Rattle.cfi_graph.specs.declared.line.Key.TheVariants.{Label, Address}
 
 pub record GraphParts : Type 0 where
+  pub version : ℕ
   pub code : ℕ
   pub lines : List GraphLine
 
@@ -23,9 +24,28 @@ pub record ClassLine : Type 0 where
 -- the class of a line, where it is a class's
 abbrev pub class_in : GraphLine → Option ClassLine
 class_in (Class label targets) = Some (record { sort = Both; label = label; targets = targets })
+class_in (CallClass label targets) = Some (record { sort = Calls; label = label; targets = targets })
+class_in (JumpClass label targets) = Some (record { sort = Jumps; label = label; targets = targets })
 class_in (Site address kind label) = None
 class_in (Edge from to) = None
 class_in (Call from to) = None
+
+-- the line of a class of a sort
+abbrev pub line_of_class : Sort → ℕ → List ℕ → GraphLine
+line_of_class Both label targets = Class label targets
+line_of_class Calls label targets = CallClass label targets
+line_of_class Jumps label targets = JumpClass label targets
+
+-- Versions. The classes of version 1 serve computed calls and jumps alike; those of version 2 serve either
+abbrev pub is_sort_of : ℕ → Sort → Bool
+is_sort_of version Both = version == 1
+is_sort_of version Calls = version == 2
+is_sort_of version Jumps = version == 2
+
+-- a line may stand in a graph of a version
+abbrev pub fits_version : ℕ → Option ClassLine → Bool
+fits_version version None = true
+fits_version version (Some class) = is_sort_of version class.sort
 
 -- Range. A length of code is a multiple of 4 bytes, one word at least, and no more than the region holds
 abbrev pub is_code_length : ℕ → Bool
@@ -39,8 +59,13 @@ is_label label = nat_lt 0 label && nat_lt label (2 ^ 20)
 abbrev pub is_code_address : ℕ → ℕ → Bool
 is_code_address len address = address % 4 == 0 && nat_le CODE_START address && nat_lt address (CODE_START + len)
 
+abbrev pub class_in_range : ℕ → ℕ → List ℕ → Bool
+class_in_range len label targets = is_label label && list_all (is_code_address len) targets
+
 abbrev pub line_in_range : ℕ → GraphLine → Bool
-line_in_range len (Class label targets) = is_label label && list_all (is_code_address len) targets
+line_in_range len (Class label targets) = class_in_range len label targets
+line_in_range len (CallClass label targets) = class_in_range len label targets
+line_in_range len (JumpClass label targets) = class_in_range len label targets
 line_in_range len (Site address kind label) = is_code_address len address && is_label label
 line_in_range len (Edge from to) = is_code_address len from && is_code_address len to
 line_in_range len (Call from to) = is_code_address len from && is_code_address len to
@@ -54,6 +79,8 @@ is_rising below (x ∷ y ∷ rest) = below x y && is_rising below (y ∷ rest)
 -- a class line is ordered by its label, any other by its first address
 abbrev pub key_of : GraphLine → Key
 key_of (Class label targets) = Label label
+key_of (CallClass label targets) = Label label
+key_of (JumpClass label targets) = Label label
 key_of (Site address kind label) = Address address
 key_of (Edge from to) = Address from
 key_of (Call from to) = Address from
@@ -68,12 +95,16 @@ key_below (Address a) (Address b) = nat_lt a b
 -- the addresses of a class rise
 abbrev pub targets_rise : GraphLine → Bool
 targets_rise (Class label targets) = is_rising nat_lt targets
+targets_rise (CallClass label targets) = is_rising nat_lt targets
+targets_rise (JumpClass label targets) = is_rising nat_lt targets
 targets_rise (Site address kind label) = true
 targets_rise (Edge from to) = true
 targets_rise (Call from to) = true
 
 -- the parts that a graph may have
 pub record IsGraph (graph : GraphParts) : Type 0 where
+  pub version : IsTrue (graph.version == 1 || graph.version == 2)
+  pub sorts : IsTrue (list_all (λ line. fits_version graph.version (class_in line)) graph.lines)
   pub length : IsTrue (is_code_length graph.code)
   pub range : IsTrue (list_all (line_in_range graph.code) graph.lines)
   pub targets : IsTrue (list_all targets_rise graph.lines)
@@ -85,6 +116,8 @@ is_class line = is_some (class_in line)
 
 abbrev pub is_site : GraphLine → Bool
 is_site (Class label targets) = false
+is_site (CallClass label targets) = false
+is_site (JumpClass label targets) = false
 is_site (Site address kind label) = true
 is_site (Edge from to) = false
 is_site (Call from to) = false

@@ -1,12 +1,16 @@
 -- The lines of a graph's text: the first word of a line is its name, and the rest has one of four
--- forms.
+-- forms. A version names its own sorts of classes.
 use Rattle.std.specs.Prelude.{ℕ, ◌&&◌, if◌then◌else◌, List, [], ◌∷◌, codes, Option, Some, None, option_map, option_and_then}
 use Rattle.std.specs.Str.{bytes_eq}
 use Rattle.text_lines.specs.Hex.{hex}
 use Rattle.cfi_graph.specs.declared.line.GraphLine.{GraphLine}
-use Rattle.cfi_graph.specs.declared.line.GraphLine.TheVariants.{Class, Site, Edge, Call}
+use Rattle.cfi_graph.specs.declared.line.GraphLine.TheVariants.{Site, Edge, Call}
 use Rattle.cfi_graph.specs.declared.line.SiteKind.{SiteKind}
 use Rattle.cfi_graph.specs.declared.line.SiteKind.TheVariants as kind
+use Rattle.cfi_graph.specs.declared.line.Sort.{Sort}
+use Rattle.cfi_graph.specs.declared.line.Sort.TheVariants.{Both, Calls, Jumps}
+use Rattle.cfi_graph.specs.Graph.{is_sort_of, line_of_class}
+use Rattle.cfi_graph.specs.Text.{class_name}
 
 -- the numbers of eight digits that words spell
 unfoldable pub addresses_of : List (List ℕ) → Option (List ℕ)
@@ -14,11 +18,23 @@ addresses_of [] = Some []
 addresses_of (word ∷ rest) =
     option_and_then (λ a. option_map (λ others. a ∷ others) (addresses_of rest)) (hex 8 word)
 
--- what stands after `class`: a label, and then addresses
-abbrev pub class_of : List (List ℕ) → Option GraphLine
-class_of [] = None
-class_of (label ∷ rest) =
-    option_and_then (λ l. option_map (λ targets. Class l targets) (addresses_of rest)) (hex 5 label)
+-- what stands after a class's name: a label, and then addresses
+abbrev pub class_of : Sort → List (List ℕ) → Option GraphLine
+class_of sort [] = None
+class_of sort (label ∷ rest) =
+    option_and_then (λ l. option_map (λ targets. line_of_class sort l targets) (addresses_of rest)) (hex 5 label)
+
+-- the sort whose classes have a name
+abbrev pub sort_with : List ℕ → Option Sort
+sort_with name =
+    if bytes_eq name (class_name Both) then Some Both else
+    if bytes_eq name (class_name Calls) then Some Calls else
+    if bytes_eq name (class_name Jumps) then Some Jumps else None
+
+-- the same, where it is a sort of a version
+abbrev pub sort_named : ℕ → List ℕ → Option Sort
+sort_named version name =
+    option_and_then (λ sort. if is_sort_of version sort then Some sort else None) (sort_with name)
 
 abbrev pub kind_of : List ℕ → Option SiteKind
 kind_of name =
@@ -44,17 +60,21 @@ abbrev pub pair_of : List (List ℕ) → Option (ℕ × ℕ)
 pair_of (from ∷ to ∷ []) = two_addresses from to
 pair_of words = None
 
-abbrev pub named : List ℕ → List (List ℕ) → Option GraphLine
-named name words =
-    if bytes_eq name (codes "class") then class_of words else
+-- a line that is no class's
+abbrev pub other_of : List ℕ → List (List ℕ) → Option GraphLine
+other_of name words =
     if bytes_eq name (codes "site") then site_of words else
     if bytes_eq name (codes "edge") then option_map (λ p. Edge p.0 p.1) (pair_of words) else
     if bytes_eq name (codes "call") then option_map (λ p. Call p.0 p.1) (pair_of words) else None
 
--- the line that words spell, if they spell one
-unfoldable pub line_of : List (List ℕ) → Option GraphLine
-line_of [] = None
-line_of (name ∷ words) = named name words
+abbrev pub class_or_other : Option Sort → List ℕ → List (List ℕ) → Option GraphLine
+class_or_other (Some sort) name words = class_of sort words
+class_or_other None name words = other_of name words
+
+-- the line of a version that words spell, if they spell one
+unfoldable pub line_of : ℕ → List (List ℕ) → Option GraphLine
+line_of version [] = None
+line_of version (name ∷ words) = class_or_other (sort_named version name) name words
 
 -- the second line gives the length of the code
 abbrev pub length_of : List (List ℕ) → Option ℕ

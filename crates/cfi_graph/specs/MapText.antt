@@ -4,7 +4,7 @@ use Rattle.std.specs.Prelude.{ℕ, ◌==◌, Bool, true, if◌then◌else◌, Li
 use Rattle.std.specs.List.{flat_map}
 use Rattle.std.specs.Str.{bytes_eq}
 use Rattle.rv_word.specs.declared.form.Form.{Form}
-use Rattle.rv_word.specs.declared.form.Form.TheVariants.{Plain, Harts}
+use Rattle.rv_word.specs.declared.form.Form.TheVariants.{Plain, Harts, Split, HartsSplit}
 use Rattle.text_lines.specs.Hex.{hex, hex_text}
 use Rattle.text_lines.specs.Lines.{lines_of, spaced}
 use Rattle.text_lines.specs.Reading.{LineRules, if_right, one_named, read, whole}
@@ -19,6 +19,8 @@ map_words line = codes "at" ∷ hex_text 8 line.gate ∷ hex_text 4 line.section
 abbrev pub map_name : Form → List ℕ
 map_name Plain = codes "rvcfi-map 1"
 map_name Harts = codes "rvcfi-map 2 harts"
+map_name Split = codes "rvcfi-map 2 split"
+map_name HartsSplit = codes "rvcfi-map 2 harts-split"
 
 -- the lines of the text, without their newlines
 unfoldable pub map_lines : Form → List MapLine → List (List ℕ)
@@ -56,11 +58,11 @@ map_rules form = record {
 
 -- the first lines that a map may have
 abbrev pub map_names : List (List ℕ)
-map_names = map_name Plain ∷ map_name Harts ∷ []
+map_names = map_name Plain ∷ map_name Harts ∷ map_name Split ∷ map_name HartsSplit ∷ []
 
 -- the form that the first line tells, by its place among these
 abbrev pub form_at : ℕ → Form
-form_at which = if which == 0 then Plain else Harts
+form_at which = if which == 0 then Plain else if which == 1 then Harts else if which == 2 then Split else HartsSplit
 
 -- the map of a form, and of the lines from the second on
 abbrev pub map_with : Form → List (List ℕ) → Result MapParts TextEnd

@@ -1,8 +1,8 @@
--- Reading a graph. Its first line names the format, its second gives the length of the code, and the
+-- Reading a graph. Its first line tells its version, its second gives the length of the code, and the
 -- lines from the third on have the form below. Form: a line is none that may stand there, or it has
 -- no newline. Range: a number in it is not allowed. Order: it does not rise above the line before it,
 -- or its own addresses do not rise.
-use Rattle.std.specs.Prelude.{ℕ, Bool, ◌&&◌, if◌then◌else◌, List, [], ◌∷◌, codes, Option, Some, None, Result, Ok, Err}
+use Rattle.std.specs.Prelude.{ℕ, ◌==◌, Bool, ◌&&◌, if◌then◌else◌, List, [], ◌∷◌, Option, Some, None, Result, Ok, Err}
 use Rattle.text_lines.specs.declared.reason.Reason.TheVariants.{Form, Range}
 use Rattle.text_lines.specs.declared.end.TextEnd.{TextEnd}
 use Rattle.text_lines.specs.declared.end.TextEnd.TheVariants.{Line}
@@ -12,40 +12,45 @@ use Rattle.cfi_graph.specs.declared.line.GraphLine.{GraphLine}
 use Rattle.cfi_graph.specs.declared.line.Key.{Key}
 use Rattle.cfi_graph.specs.Graph.{GraphParts, is_code_length, line_in_range, key_of, key_below, targets_rise}
 use Rattle.cfi_graph.specs.Lines.{length_of, line_of}
+use Rattle.cfi_graph.specs.Text.{graph_name}
 
 -- a line rises above the key of the line before it, if there is one, and so do a class's addresses
 abbrev pub in_order : Option Key → GraphLine → Bool
 in_order None line = targets_rise line
 in_order (Some before) line = targets_rise line && key_below before (key_of line)
 
--- the form of the lines of a graph whose code has this length
-abbrev pub graph_rules : ℕ → LineRules GraphLine (Option Key) GraphLine
-graph_rules len = record {
-  spelled = line_of;
+-- the form of the lines of a graph of a version, whose code has this length
+abbrev pub graph_rules : ℕ → ℕ → LineRules GraphLine (Option Key) GraphLine
+graph_rules version len = record {
+  spelled = line_of version;
   in_range = line_in_range len;
   in_order = in_order;
   after = λ line. Some (key_of line);
   items = λ line. line ∷ [];
 }
 
--- the graph of a length and of the lines from the third on
-abbrev pub with_code : ℕ → List (List ℕ) → Result GraphParts TextEnd
-with_code len lines =
-    if_right (whole (read (graph_rules len) None 3 lines)) (λ read. Ok (record { code = len; lines = read }))
+-- the graph of a version, a length and the lines from the third on
+abbrev pub with_code : ℕ → ℕ → List (List ℕ) → Result GraphParts TextEnd
+with_code version len lines =
+    if_right (whole (read (graph_rules version len) None 3 lines)) (λ read. Ok (record { version = version; code = len; lines = read }))
 
 -- the second line gives the length of the code
-abbrev pub with_length : Option ℕ → List (List ℕ) → Result GraphParts TextEnd
-with_length None lines = Err (Line 2 Form)
-with_length (Some len) lines = if is_code_length len then with_code len lines else Err (Line 2 Range)
+abbrev pub with_length : ℕ → Option ℕ → List (List ℕ) → Result GraphParts TextEnd
+with_length version None lines = Err (Line 2 Form)
+with_length version (Some len) lines = if is_code_length len then with_code version len lines else Err (Line 2 Range)
 
-unfoldable pub after_first : List (List ℕ) → Result GraphParts TextEnd
-after_first (line ∷ next ∷ rest) = with_length (length_of (words_of line)) (next ∷ rest)
-after_first lines = Err (Line 2 Form)
+unfoldable pub after_first : ℕ → List (List ℕ) → Result GraphParts TextEnd
+after_first version (line ∷ next ∷ rest) = with_length version (length_of (words_of line)) (next ∷ rest)
+after_first version lines = Err (Line 2 Form)
 
 -- the first lines that a graph may have
 abbrev pub graph_names : List (List ℕ)
-graph_names = codes "rvcfi-graph 1" ∷ []
+graph_names = graph_name 1 ∷ graph_name 2 ∷ []
+
+-- the version that the first line tells, by its place among these
+abbrev pub version_at : ℕ → ℕ
+version_at which = if which == 0 then 1 else 2
 
 -- what a text is read as
 unfoldable pub graph_of : List ℕ → Result GraphParts TextEnd
-graph_of text = if_right (one_named graph_names (lines_of text)) (λ first. after_first first.1)
+graph_of text = if_right (one_named graph_names (lines_of text)) (λ first. after_first (version_at first.0) first.1)

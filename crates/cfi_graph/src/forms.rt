@@ -1,20 +1,23 @@
 //! What the words of a graph's line spell.
 
-ghost use Rattle.std.specs.Prelude.{◌≡◌, IfOk, IfSome, Some, option_map};
+ghost use Rattle.std.specs.Prelude.{◌≡◌, ℕ, IfOk, IfSome, Some, option_map};
 ghost use Rattle.cfi_graph.specs.Lines.{
   addresses_of,
   class_of,
   kind_of,
   length_of,
   line_of,
+  other_of,
   pair_of,
   site_from,
   site_of,
+  sort_named,
+  sort_with,
   two_addresses,
 };
 ghost use Rattle.text_lines.specs.Lines.{parts_after, words_of};
 
-use crate::line::{GraphLine, SiteKind};
+use crate::line::{GraphLine, SiteKind, Sort};
 use rv_word::{NoMemory, Places};
 use std::alloc::Global;
 use text_lines::{cut, hex_of, is_word};
@@ -37,10 +40,10 @@ fn addresses(alloc: Global, words: Option<&[u8]>) -> Result<Option<Places>, NoMe
     Ok(Some(Places::of(items)))
 }
 
-/// The class line that has these words after its name.
-fn class(alloc: Global, words: Option<&[u8]>) -> Result<Option<GraphLine>, NoMemory>
+/// The line of a class of this sort that has these words after its name.
+fn class(alloc: Global, sort: Sort, words: Option<&[u8]>) -> Result<Option<GraphLine>, NoMemory>
     ensures { IfOk result
-        (λ r. r ≡ class_of (parts_after 32 (option_map (λ w. w.now) words.entry))) }
+        (λ r. r ≡ class_of sort (parts_after 32 (option_map (λ w. w.now) words.entry))) }
 {
     let Some(words) = words else {
         return Ok(None);
@@ -52,7 +55,34 @@ fn class(alloc: Global, words: Option<&[u8]>) -> Result<Option<GraphLine>, NoMem
     let Some(targets) = addresses(alloc, targets)? else {
         return Ok(None);
     };
-    Ok(Some(GraphLine::Class(label, targets)))
+    Ok(Some(GraphLine::of_class(sort, label, targets)))
+}
+
+/// The sort whose classes have a name.
+fn sort_with(name: &[u8]) -> Option<Sort>
+    ensures { result ≡ sort_with name.now }
+{
+    if is_word(name, b"class") {
+        return Some(Sort::Both);
+    }
+    if is_word(name, b"callclass") {
+        return Some(Sort::Calls);
+    }
+    if is_word(name, b"jumpclass") {
+        return Some(Sort::Jumps);
+    }
+    None
+}
+
+/// The sort of a version whose classes have a name.
+fn sort_named(version: u8, name: &[u8]) -> Option<Sort>
+    ensures { result ≡ sort_named version name.now }
+{
+    let sort = sort_with(name)?;
+    if sort.is_of(version) {
+        return Some(sort);
+    }
+    None
 }
 
 /// The kind of transfer that a word names.
@@ -116,10 +146,10 @@ fn pair(words: Option<&[u8]>) -> Option<(u64, u64)>
 const PAIR_LINE: usize = 22;
 
 /// The edge or call that a line of four letters, a space, eight digits, a space and eight digits spells:
-/// most lines of a graph, so they are read without a search for their spaces. Of any other line it says
-/// nothing.
+/// most lines of a graph of either version, so they are read without a search for their spaces. Of any
+/// other line it says nothing.
 fn pair_line(line: &[u8]) -> Option<GraphLine>
-    ensures { IfSome result (λ l. line_of (words_of line.now) ≡ Some l) }
+    ensures { IfSome result (λ l. (version : ℕ) → line_of version (words_of line.now) ≡ Some l) }
 {
     if line.len() != PAIR_LINE {
         return None;
@@ -138,35 +168,46 @@ fn pair_line(line: &[u8]) -> Option<GraphLine>
     None
 }
 
-/// The line of a graph that the words of these bytes spell, if they spell one.
-#[tactic(auto, unfolding(crate::specs::Lines::line_of))]
-fn line_of_words(alloc: Global, line: &[u8]) -> Result<Option<GraphLine>, NoMemory>
-    ensures { IfOk result (λ r. r ≡ line_of (words_of line.now)) }
+/// The line of a graph that is no class's, of this name and these words after it.
+fn other(name: &[u8], words: Option<&[u8]>) -> Option<GraphLine>
+    ensures { result ≡ other_of name.now (parts_after 32 (option_map (λ w. w.now) words.entry)) }
 {
-    let (name, words) = cut(line, b' ');
-    if is_word(name, b"class") {
-        return class(alloc, words);
-    }
     if is_word(name, b"site") {
-        return Ok(site(words));
+        return site(words);
     }
     if is_word(name, b"edge") {
-        return Ok(pair(words).map(|(from, to)| GraphLine::Edge(from, to)));
+        return pair(words).map(|(from, to)| GraphLine::Edge(from, to));
     }
     if is_word(name, b"call") {
-        return Ok(pair(words).map(|(from, to)| GraphLine::Call(from, to)));
+        return pair(words).map(|(from, to)| GraphLine::Call(from, to));
     }
-    Ok(None)
+    None
 }
 
-/// The line of a graph that these bytes spell, if they have the form of one.
-pub(crate) fn line_of(alloc: Global, line: &[u8]) -> Result<Option<GraphLine>, NoMemory>
-    ensures { IfOk result (λ r. r ≡ line_of (words_of line.now)) }
+/// The line of a graph of this version that the words of these bytes spell, if they spell one.
+#[tactic(auto, unfolding(crate::specs::Lines::line_of))]
+fn line_of_words(alloc: Global, version: u8, line: &[u8]) -> Result<Option<GraphLine>, NoMemory>
+    ensures { IfOk result (λ r. r ≡ line_of version (words_of line.now)) }
+{
+    let (name, words) = cut(line, b' ');
+    match sort_named(version, name) {
+        Some(sort) => class(alloc, sort, words),
+        None => Ok(other(name, words)),
+    }
+}
+
+/// The line of a graph of this version that these bytes spell, if they have the form of one.
+pub(crate) fn line_of(
+    alloc: Global,
+    version: u8,
+    line: &[u8],
+) -> Result<Option<GraphLine>, NoMemory>
+    ensures { IfOk result (λ r. r ≡ line_of version (words_of line.now)) }
 {
     if let Some(found) = pair_line(line) {
         return Ok(Some(found));
     }
-    line_of_words(alloc, line)
+    line_of_words(alloc, version, line)
 }
 
 /// The length of the code that the second line gives, if the line has its form.

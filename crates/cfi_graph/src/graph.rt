@@ -57,10 +57,11 @@ impl GraphLines {
     }
 }
 
-/// A graph of control flow: the length of its code in bytes, and its lines in order. Each graph has
-/// only lengths, labels, addresses and an order that a graph may have.
+/// A graph of control flow: its version, the length of its code in bytes, and its lines in order. Each
+/// graph has only lengths, lines, labels, addresses and an order that a graph of its version may have.
 #[derive(Drop)]
 pub struct Graph {
+    pub(crate) version: u8,
     pub(crate) code: u32,
     pub(crate) lines: GraphLines,
 }
@@ -70,20 +71,31 @@ impl Model for Graph {
 
     ghost Value = { GraphParts };
 
-    ghost view = { λ g. record { code = g.code; lines = g.lines } };
+    ghost view = { λ g. record { version = g.version; code = g.code; lines = g.lines } };
 
-    ghost invariant = { λ g. IsGraph (record { code = g.code; lines = g.lines }) };
+    ghost invariant = { λ g. IsGraph (record { version = g.version; code = g.code; lines = g.lines }) };
 }
 
 impl Graph {
     ghost use Rattle.cfi_graph.specs.Graph.{IsGraph, is_class, is_site};
 
     /// The graph with these parts, which are those that a graph may have. It takes no memory.
-    pub fn of(_alloc: Global, code: u32, lines: GraphLines) -> Result<Graph, NoMemory>
-        requires { IsGraph (record { code = code; lines = lines }) }
-        ensures { result ≡ Ok (record { code = code; lines = lines }) }
+    pub fn of(_alloc: Global, version: u8, code: u32, lines: GraphLines) -> Result<Graph, NoMemory>
+        requires { IsGraph (record { version = version; code = code; lines = lines }) }
+        ensures { result ≡ Ok (record { version = version; code = code; lines = lines }) }
     {
-        Ok(Graph { code, lines })
+        Ok(Graph {
+            version,
+            code,
+            lines,
+        })
+    }
+
+    /// The version, 1 or 2.
+    pub fn version(&self) -> u8
+        ensures { result ≡ self.now.version }
+    {
+        self.version
     }
 
     /// The length of the code, in bytes.
@@ -94,7 +106,7 @@ impl Graph {
         self.code
     }
 
-    /// The number of classes.
+    /// The number of classes of all sorts.
     pub fn classes(&self) -> u64
         ensures { result ≡ count_by is_class self.now.lines }
     {

@@ -7,9 +7,11 @@ use rv_word::NoMemory;
 use std::alloc::Global;
 use text_lines::LineForm;
 
-/// The form of a graph's lines: the length of its code, the key of the line before, and the lines so far.
+/// The form of a graph's lines: its version, the length of its code, the key of the line before, and the
+/// lines so far.
 #[derive(Drop)]
 pub(crate) struct GraphForm {
+    pub(crate) version: u8,
     pub(crate) code: u32,
     pub(crate) before: Option<Key>,
     pub(crate) lines: Vec<GraphLine>,
@@ -22,14 +24,14 @@ impl LineForm for GraphForm {
 
     type Item = GraphLine;
 
-    ghost rules = { λ form. graph_rules form.code };
+    ghost rules = { λ form. graph_rules form.version form.code };
 
     ghost before = { λ form. form.before };
 
     ghost items = { λ form. form.lines.items };
 
     fn line_of(&self, alloc: Global, line: &[u8]) -> Result<Option<GraphLine>, NoMemory> {
-        line_of(alloc, line)
+        line_of(alloc, self.version, line)
     }
 
     fn in_range(&self, line: &GraphLine) -> bool {

@@ -3,6 +3,7 @@
 //! same bytes.
 #![tactic(auto)]
 
+pub use class::Class;
 pub use graph::{Graph, GraphLines};
 pub use line::{GraphLine, Key, SiteKind, Sort};
 pub use map::{Map, MapLine, MapLines};
@@ -12,6 +13,7 @@ pub use policy_form::{read_policy, read_policy_part};
 pub use read::read_graph;
 pub use write::write_graph;
 
+mod class;
 mod forms;
 mod graph;
 mod graph_form;

@@ -1,5 +1,6 @@
 ghost use Rattle.std.specs.Prelude.{◌≡◌};
 
+use crate::class::Class;
 use rv_word::Places;
 
 /// The two kinds of transfer to a computed address.
@@ -16,13 +17,36 @@ pub enum SiteKind {
 pub enum Sort {
     /// Computed calls and computed jumps.
     Both,
+    /// Computed calls.
+    Calls,
+    /// Computed jumps.
+    Jumps,
+}
+
+impl Sort {
+    ghost use Rattle.cfi_graph.specs.Graph.{is_sort_of};
+
+    /// Whether graphs of this version have classes of the sort.
+    pub fn is_of(self, version: u8) -> bool
+        ensures { result ≡ is_sort_of version self }
+    {
+        match self {
+            Sort::Both => version == 1,
+            Sort::Calls => version == 2,
+            Sort::Jumps => version == 2,
+        }
+    }
 }
 
 /// A line of a graph.
 #[derive(Drop)]
 pub enum GraphLine {
-    /// A class: its label, and the addresses of its targets.
+    /// A class that serves calls and jumps: its label, and the addresses of its targets.
     Class(u32, Places),
+    /// A class that serves calls alone: its label, and the addresses of its targets.
+    CallClass(u32, Places),
+    /// A class that serves jumps alone: its label, and the addresses of its targets.
+    JumpClass(u32, Places),
     /// A transfer to a computed address: where its unit starts, its kind, and its class's label.
     Site(u64, SiteKind, u32),
     /// A branch or jump: where its unit starts, and its target.
@@ -41,7 +65,18 @@ pub enum Key {
 }
 
 impl GraphLine {
-    ghost use Rattle.cfi_graph.specs.Graph.{is_class, is_site, key_of};
+    ghost use Rattle.cfi_graph.specs.Graph.{class_in, is_class, is_site, key_of, line_of_class};
+
+    /// The line of a class of this sort.
+    pub fn of_class(sort: Sort, label: u32, targets: Places) -> GraphLine
+        ensures { result ≡ line_of_class sort label targets }
+    {
+        match sort {
+            Sort::Both => GraphLine::Class(label, targets),
+            Sort::Calls => GraphLine::CallClass(label, targets),
+            Sort::Jumps => GraphLine::JumpClass(label, targets),
+        }
+    }
 
     /// What the line is ordered by.
     pub fn key(&self) -> Key
@@ -49,9 +84,29 @@ impl GraphLine {
     {
         match self {
             GraphLine::Class(label, _) => Key::Label(*label),
+            GraphLine::CallClass(label, _) => Key::Label(*label),
+            GraphLine::JumpClass(label, _) => Key::Label(*label),
             GraphLine::Site(address, _, _) => Key::Address(*address),
             GraphLine::Edge(from, _) => Key::Address(*from),
             GraphLine::Call(from, _) => Key::Address(*from),
+        }
+    }
+
+    /// The class of the line, where it is a class's.
+    pub fn class(&self) -> Option<Class<'_>>
+        ensures { result ≡ class_in self.now }
+    {
+        match self {
+            GraphLine::Class(label, targets) => {
+                Some(Class::of(Sort::Both, *label, targets.as_slice()))
+            }
+            GraphLine::CallClass(label, targets) => {
+                Some(Class::of(Sort::Calls, *label, targets.as_slice()))
+            }
+            GraphLine::JumpClass(label, targets) => {
+                Some(Class::of(Sort::Jumps, *label, targets.as_slice()))
+            }
+            _ => None,
         }
     }
 
@@ -59,7 +114,7 @@ impl GraphLine {
     pub fn is_class(&self) -> bool
         ensures { result ≡ is_class self.now }
     {
-        matches!(self, GraphLine::Class(..))
+        self.class().is_some()
     }
 
     /// Whether the line is a site.

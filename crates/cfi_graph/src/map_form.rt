@@ -78,7 +78,12 @@ impl LineForm for MapForm {
 }
 
 /// The first lines that a map may have.
-const NAMES: [&[u8]; 2] = [b"rvcfi-map 1", b"rvcfi-map 2 harts"];
+const NAMES: [&[u8]; 4] = [
+    b"rvcfi-map 1",
+    b"rvcfi-map 2 harts",
+    b"rvcfi-map 2 split",
+    b"rvcfi-map 2 harts-split",
+];
 
 /// The form that the first line tells, by its place among these.
 fn form_at(which: usize) -> Form
@@ -86,7 +91,9 @@ fn form_at(which: usize) -> Form
 {
     match which {
         0 => Form::Plain,
-        _ => Form::Harts,
+        1 => Form::Harts,
+        2 => Form::Split,
+        _ => Form::HartsSplit,
     }
 }
 
@@ -97,6 +104,8 @@ fn name_of(form: Form) -> &'static [u8]
     match form {
         Form::Plain => NAMES[0],
         Form::Harts => NAMES[1],
+        Form::Split => NAMES[2],
+        Form::HartsSplit => NAMES[3],
     }
 }
 

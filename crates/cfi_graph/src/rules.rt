@@ -3,6 +3,7 @@
 ghost use Rattle.std.specs.Prelude.{◌≡◌, nat_lt};
 ghost use Rattle.std.specs.List.{list_all};
 ghost use Rattle.cfi_graph.specs.Graph.{
+  class_in_range,
   is_code_address,
   is_code_length,
   is_label,
@@ -42,14 +43,21 @@ fn are_code_addresses(len: u32, addresses: &[u64]) -> bool
     addresses.iter().all(|a| is_code_address(len, *a))
 }
 
+/// Whether each number of a class's line is one that a graph of `len` bytes of code may have.
+fn class_in_range(len: u32, label: u32, targets: &[u64]) -> bool
+    ensures { result ≡ class_in_range len label targets.now }
+{
+    is_label(label) && are_code_addresses(len, targets)
+}
+
 /// Whether each number of a line is one that a graph of `len` bytes of code may have.
 pub(crate) fn line_in_range(len: u32, line: &GraphLine) -> bool
     ensures { result ≡ line_in_range len line.now }
 {
     match line {
-        GraphLine::Class(label, targets) => {
-            is_label(*label) && are_code_addresses(len, targets.as_slice())
-        }
+        GraphLine::Class(label, targets)
+        | GraphLine::CallClass(label, targets)
+        | GraphLine::JumpClass(label, targets) => class_in_range(len, *label, targets.as_slice()),
         GraphLine::Site(address, _, label) => is_code_address(len, *address) && is_label(*label),
         GraphLine::Edge(from, to) => is_code_address(len, *from) && is_code_address(len, *to),
         GraphLine::Call(from, to) => is_code_address(len, *from) && is_code_address(len, *to),
@@ -71,7 +79,9 @@ fn targets_rise(line: &GraphLine) -> bool
     ensures { result ≡ targets_rise line.now }
 {
     match line {
-        GraphLine::Class(_, targets) => is_rising(targets.as_slice()),
+        GraphLine::Class(_, targets)
+        | GraphLine::CallClass(_, targets)
+        | GraphLine::JumpClass(_, targets) => is_rising(targets.as_slice()),
         _ => true,
     }
 }

@@ -2,12 +2,13 @@ ghost use Rattle.std.specs.Prelude.{◌≡◌, [], ◌∷◌, ◌++◌, IfOk, On
 ghost use Rattle.std.specs.List.{flat_map};
 ghost use Rattle.text_lines.specs.Hex.{hex_text};
 ghost use Rattle.text_lines.specs.Lines.{spaced};
-ghost use Rattle.cfi_graph.specs.declared.line.GraphLine.TheVariants.{Class, Site};
-ghost use Rattle.cfi_graph.specs.Text.{graph_text, words_of_line};
+ghost use Rattle.cfi_graph.specs.declared.line.GraphLine.TheVariants.{Site};
+ghost use Rattle.cfi_graph.specs.Text.{class_name, graph_text, words_of_class, words_of_line};
 ghost use Rattle.cfi_graph.specs.Reading.{graph_of};
 
 use crate::graph::Graph;
-use crate::line::{GraphLine, SiteKind};
+use crate::line::{GraphLine, SiteKind, Sort};
+use crate::read::name_of;
 use rv_word::NoMemory;
 use std::alloc::Global;
 use text_lines::push_number;
@@ -22,12 +23,23 @@ fn push_numbers(out: &mut Vec<u8>, numbers: &[u64]) -> Result<(), NoMemory>
     Ok(())
 }
 
-/// Adds the words of a class's line.
-fn push_class(out: &mut Vec<u8>, label: u32, targets: &[u64]) -> Result<(), NoMemory>
-    ensures { OnOk result
-        (out.new.items ≡ out.old.items ++ spaced (words_of_line (Class label targets.now))) }
+/// The first word of a class's line.
+fn class_name(sort: Sort) -> &'static [u8]
+    ensures { result.now ≡ class_name sort }
 {
-    out.extend_from_slice(b"class")?;
+    match sort {
+        Sort::Both => b"class",
+        Sort::Calls => b"callclass",
+        Sort::Jumps => b"jumpclass",
+    }
+}
+
+/// Adds the words of a class's line.
+fn push_class(out: &mut Vec<u8>, sort: Sort, label: u32, targets: &[u64]) -> Result<(), NoMemory>
+    ensures { OnOk result
+        (out.new.items ≡ out.old.items ++ spaced (words_of_class sort label targets.now)) }
+{
+    out.extend_from_slice(class_name(sort))?;
     push_number(out, u64::from(label), 5)?;
     push_numbers(out, targets)
 }
@@ -60,7 +72,15 @@ fn push_words(out: &mut Vec<u8>, line: &GraphLine) -> Result<(), NoMemory>
     ensures { OnOk result (out.new.items ≡ out.old.items ++ spaced (words_of_line line.now)) }
 {
     match line {
-        GraphLine::Class(label, targets) => push_class(out, *label, targets.as_slice()),
+        GraphLine::Class(label, targets) => {
+            push_class(out, Sort::Both, *label, targets.as_slice())
+        }
+        GraphLine::CallClass(label, targets) => {
+            push_class(out, Sort::Calls, *label, targets.as_slice())
+        }
+        GraphLine::JumpClass(label, targets) => {
+            push_class(out, Sort::Jumps, *label, targets.as_slice())
+        }
         GraphLine::Site(address, kind, label) => push_site(out, *address, *kind, *label),
         GraphLine::Edge(from, to) => push_pair(out, b"edge", *from, *to),
         GraphLine::Call(from, to) => push_pair(out, b"call", *from, *to),
@@ -84,7 +104,8 @@ pub fn write_graph(alloc: Global, graph: &Graph) -> Result<Vec<u8>, NoMemory>
     ensures read_back { IfOk result (λ v. graph_of v.items ≡ Ok graph.now) }
 {
     let mut out = Vec::new(alloc);
-    out.extend_from_slice(b"rvcfi-graph 1\ncode 40000000")?;
+    out.extend_from_slice(name_of(graph.version))?;
+    out.extend_from_slice(b"\ncode 40000000")?;
     push_number(&mut out, u64::from(graph.code), 8)?;
     out.push(b'\n')?;
     push_lines(&mut out, graph.lines.as_slice())?;

@@ -14,8 +14,8 @@ use Rattle.cfi_class.specs.Labels.{AreLabels}
 use Rattle.std.specs.List.Sorted.{IsStrictlyIncreasing}
 use Rattle.cfi_graph.specs.declared.line.SiteKind.{SiteKind}
 use Rattle.cfi_graph.specs.declared.line.Sort.TheVariants.{Both}
-use Rattle.cfi_flow.specs.declared.closed.Site.{Site}
-use Rattle.cfi_flow.specs.Closed.{Side, first_side, has_site, is_of, no_side}
+use Rattle.cfi_flow.specs.declared.side.Site.{Site}
+use Rattle.cfi_flow.specs.Closed.{Side, has_site, is_of}
 use Rattle.cfi_map.specs.GraphAtMap.{ProgramAtMap, words_at}
 use Rattle.cfi_flow.specs.Labels.{used_labels}
 use Rattle.cfi_map.specs.LabelOf.{empty_classes, label_at, labels_of, site_label, site_number, tagged}
@@ -27,6 +27,9 @@ use Rattle.cfi_harden.specs.Accepted.{IsAccepted}
 use Rattle.cfi_map.specs.Shorts.{IsShortAt, is_branch}
 use Rattle.cfi_harden.specs.Units.{units_from}
 use Rattle.cfi_harden.proofs.WrittenRows.{pointer, short, short_of_harts}
+
+abbrev no_side : Side
+no_side = record { sort = Both; classes = []; sites = [] }
 
 -- what a test finds of each of the four places
 each : (test : ℕ → Bool) → agree_below test (λ k. true) 4 ≡ true → (k : ℕ) → k < 4 → test k ≡ true
@@ -86,6 +89,7 @@ short_accepted = record {
   values = λ k below some. values_there (is_end (item_of short.layout.program k).kind)
       (is_some (instr_at short.layout.program short.layout.gates (words_at short.layout) k))
       (each (λ n. is_end (item_of short.layout.program n).kind || is_some (instr_at short.layout.program short.layout.gates (words_at short.layout) n)) refl k below) some;
+  version = inl refl;
   sorts = refl;
   members = λ j c k side there in_class. absurd (none_in k (subst (λ (s : Side). IsIn s.classes c k) (sym (only_side no_side j side there).1) in_class));
   rising = λ j side there. subst (λ (s : Side). All IsStrictlyIncreasing s.classes) (only_side no_side j side there).1 (λ k d below. absurd (omega arith));
@@ -114,6 +118,7 @@ short_of_harts_accepted = record {
   values = λ k below some. values_there (is_end (item_of short_of_harts.layout.program k).kind)
       (is_some (instr_at short_of_harts.layout.program short_of_harts.layout.gates (words_at short_of_harts.layout) k))
       (each (λ n. is_end (item_of short_of_harts.layout.program n).kind || is_some (instr_at short_of_harts.layout.program short_of_harts.layout.gates (words_at short_of_harts.layout) n)) refl k below) some;
+  version = inl refl;
   sorts = refl;
   members = short_accepted.members;
   rising = short_accepted.rising;
@@ -126,6 +131,10 @@ short_of_harts_accepted = record {
   labels_small = short_accepted.labels_small;
   shorts = λ k target below branch flag some. one_short short_of_harts.layout k target branch some (record { back = lit≤ tt; ahead = lit≤ tt; free = refl });
 }
+
+-- the one side of the other program
+abbrev pointer_side : Side
+pointer_side = record { sort = Both; classes = (8 ∷ 10 ∷ []) ∷ []; sites = record { place = 4; class = Some 0 } ∷ [] }
 
 -- what a test finds of each of the thirteen places of the other program
 each_of : (test : ℕ → Bool) → agree_below test (λ k. true) 13 ≡ true → (k : ℕ) → k < 13 → test k ≡ true
@@ -155,7 +164,7 @@ member_below zero k below e = omega arith
 member_below (suc zero) k below e = omega arith
 member_below (suc (suc i)) k below e = absurd (omega arith)
 
-class_member : (c k : ℕ) → IsIn (first_side pointer.layout.closed).classes c k → (c ≡ 0) × (k < 13)
+class_member : (c k : ℕ) → IsIn pointer_side.classes c k → (c ≡ 0) × (k < 13)
 class_member zero k (i, below, e) = (refl, member_below i k below e)
 class_member (suc c) k there = absurd (none_in k there)
 
@@ -163,7 +172,7 @@ class_rises : (k : ℕ) → k + 1 < 2 → get_or (8 ∷ 10 ∷ []) k 0 < get_or 
 class_rises zero below = lit< tt
 class_rises (suc k) below = absurd (omega arith)
 
-classes_rise : All IsStrictlyIncreasing (first_side pointer.layout.closed).classes
+classes_rise : All IsStrictlyIncreasing pointer_side.classes
 classes_rise zero d below = class_rises
 classes_rise (suc k) d below = absurd (omega arith)
 
@@ -172,16 +181,16 @@ or_else true b e f = e
 or_else false b e f = absurd (cc)
 
 site_there : (k : ℕ) → k < count pointer.layout.program → is_some (site_kind (item_of pointer.layout.program k).kind) ≡ true →
-    has_site k (first_side pointer.layout.closed) ≡ true
+    has_site k pointer_side ≡ true
 site_there k below some =
     let four : (k == 4) ≡ true = or_else (is_some (site_kind (item_of pointer.layout.program k).kind)) (k == 4)
     (each_of (λ n. not (is_some (site_kind (item_of pointer.layout.program n).kind)) || (n == 4)) refl k below) some in
-    ap (λ (n : ℕ). has_site n (first_side pointer.layout.closed)) (eqb-true k 4 four)
+    ap (λ (n : ℕ). has_site n pointer_side) (eqb-true k 4 four)
 
 sort_has : (kind : SiteKind) → is_of Both kind ≡ true
 sort_has kind = refl
 
-site_class : (i c : ℕ) (site : Site) → slice_get (first_side pointer.layout.closed).sites i ≡ Some site → site.class ≡ Some c → c < length (first_side pointer.layout.closed).classes
+site_class : (i c : ℕ) (site : Site) → slice_get pointer_side.sites i ≡ Some site → site.class ≡ Some c → c < length pointer_side.classes
 site_class zero c site get some =
     let one = same_Some (record { place = 4; class = Some 0 }) site get in
     let same : 0 ≡ c = same_Some 0 c (ap (λ (x : Site). x.class) one ∙ some) in
@@ -213,24 +222,25 @@ pointer_accepted = record {
   values = λ k below some. values_there (is_end (item_of pointer.layout.program k).kind)
       (is_some (instr_at pointer.layout.program pointer.layout.gates (words_at pointer.layout) k))
       (each_of (λ n. is_end (item_of pointer.layout.program n).kind || is_some (instr_at pointer.layout.program pointer.layout.gates (words_at pointer.layout) n)) refl k below) some;
+  version = inl refl;
   sorts = refl;
   members = λ j c k side there inside.
-      (class_member c k (subst (λ (s : Side). IsIn s.classes c k) (sym (only_side (first_side pointer.layout.closed) j side there).1) inside)).1;
+      (class_member c k (subst (λ (s : Side). IsIn s.classes c k) (sym (only_side pointer_side j side there).1) inside)).1;
   rising = λ j side there.
-      subst (λ (s : Side). All IsStrictlyIncreasing s.classes) (only_side (first_side pointer.layout.closed) j side there).1 classes_rise;
+      subst (λ (s : Side). All IsStrictlyIncreasing s.classes) (only_side pointer_side j side there).1 classes_rise;
   apart = λ j a b k side there in_one in_other.
-      (class_member a k (subst (λ (s : Side). IsIn s.classes a k) (sym (only_side (first_side pointer.layout.closed) j side there).1) in_one)).0
-      ∙ sym (class_member b k (subst (λ (s : Side). IsIn s.classes b k) (sym (only_side (first_side pointer.layout.closed) j side there).1) in_other)).0;
+      (class_member a k (subst (λ (s : Side). IsIn s.classes a k) (sym (only_side pointer_side j side there).1) in_one)).0
+      ∙ sym (class_member b k (subst (λ (s : Side). IsIn s.classes b k) (sym (only_side pointer_side j side there).1) in_other)).0;
   site_classes = λ j i c side site there.
       subst (λ (s : Side). slice_get s.sites i ≡ Some site → site.class ≡ Some c → c < length s.classes)
-      (only_side (first_side pointer.layout.closed) j side there).1 (site_class i c site);
+      (only_side pointer_side j side there).1 (site_class i c site);
   sites = λ k kind below some. record {
     index = 0;
-    side = first_side pointer.layout.closed;
+    side = pointer_side;
     there = refl;
     sort = sort_has kind;
     site = site_there k below (ap is_some some);
-    alone = λ j other there has. (only_side (first_side pointer.layout.closed) j other there).0;
+    alone = λ j other there has. (only_side pointer_side j other there).0;
   };
   counted = refl;
   labels = label_least;

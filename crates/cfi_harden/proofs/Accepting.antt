@@ -1,27 +1,20 @@
 -- A placement in which no value leaves its range, with labels, makes an accepted choice of a program with its closed graph.
-use Rattle.std.proofs.Common.{◌≡◌, ℕ, ◌+◌, ◌-◌, ◌*◌, ◌≤◌, ◌<◌, inl, true, false, List, [], ◌∷◌, length, zero, suc, Option, Some, None, refl, sym, ap, subst, ◌∙◌, arith}
-use Rattle.std.specs.List.{All, list_any}
-use Rattle.std.specs.List.Sorted.{IsStrictlyIncreasing}
-use Rattle.std.specs.Prelude.{◌==◌, is_some, slice_get, sum}
-use Rattle.std.proofs.lemmas.Bool.{eq-eqb, or_left, or_right}
-use Rattle.std.proofs.lemmas.Option.{same_Some}
+use Rattle.std.proofs.Common.{◌≡◌, ℕ, ◌+◌, ◌-◌, ◌*◌, ◌≤◌, ◌<◌, inl, inr, true, false, List, length, Option, Some, None, refl, sym, subst, arith}
+use Rattle.std.specs.Prelude.{is_some, slice_get, sum}
 use Rattle.rv_word.proofs.Versions.{is_profile}
-use Rattle.rv_word.specs.Form.{image_version}
+use Rattle.rv_word.specs.Form.{graph_version, image_version}
+use Rattle.rv_word.specs.Image.{IsVersion}
+use Rattle.rv_word.specs.declared.form.Form.{Form}
+use Rattle.rv_word.specs.declared.form.Form.TheVariants.{Plain, Harts, Split, HartsSplit}
 use Rattle.rv_word.specs.MemoryMap.{CODE_SIZE, CODE_START, IsProfile}
 use Rattle.obj_program.specs.AtMap.{instr_at}
 use Rattle.obj_program.specs.Program.{Program, count, is_end, item_of}
 use Rattle.obj_program.specs.Sound.{IsSound}
 use Rattle.cfi_map.proofs.Values.{values_there}
-use Rattle.cfi_class.specs.Classes.{IsIn}
-use Rattle.cfi_graph.specs.declared.line.SiteKind.{SiteKind}
-use Rattle.cfi_graph.specs.declared.line.Sort.{Sort}
-use Rattle.cfi_graph.specs.declared.line.Sort.TheVariants.{Both}
-use Rattle.cfi_flow.specs.declared.closed.Site.{Site}
-use Rattle.cfi_flow.specs.Closed.{ClosedGraph, Side, first_side, is_of}
+use Rattle.cfi_flow.specs.Closed.{ClosedGraph, IsClosed, IsSide, Side}
 use Rattle.cfi_map.specs.GraphAtMap.{ProgramAtMap, program_at, words_at}
 use Rattle.cfi_map.specs.Placement.{whole_at, size_of, words_from}
 use Rattle.cfi_flow.proofs.Laws.{members_there}
-use Rattle.cfi_flow.proofs.Sides.{in_one}
 use Rattle.cfi_unit.specs.UnitWords.{word_count}
 use Rattle.cfi_rules.specs.Placed.{placed_code}
 use Rattle.cfi_rules.proofs.UnitIn.{length-placed_code}
@@ -36,7 +29,7 @@ use Rattle.cfi_map.specs.Sizes.{part_sizes}
 use Rattle.cfi_harden.specs.Units.{Choice, entry_gate, unit_for, units}
 use Rattle.cfi_harden.specs.Writing.{IsReady}
 use Rattle.cfi_harden.proofs.CodeRoom.{bytes_are, size_is}
-use Rattle.cfi_harden.proofs.SitesThere.{site_class_there, site_there}
+use Rattle.cfi_harden.proofs.SitesThere.{side_at, site_class_there, site_of}
 
 -- the code has room where the parts have
 pub room_there : (m : Choice) → IsProfile m.layout.profile → IsSound m.layout.program →
@@ -51,29 +44,23 @@ room_there m is sound values room =
     (λ i item get. subst (λ (n : ℕ). size_of item.kind (whole_at m.whole n) ≡ 4 * word_count (unit_for m n item)) (zero_more i) (size_is m sound values i item get)) in
     omega arith
 
--- a closed graph under a policy is one of its program
-pub graph_there : (program : Program) (policy : Option (List ℕ)) (closed : ClosedGraph) → IsClosedUnder program policy closed → IsGraphOf program closed
-graph_there program policy closed under = let (raw, is, of) = under.drawn in (_, raw, is, of)
+-- a closed graph under a policy is one of its program, for the version that was asked
+pub graph_there : (version : ℕ) (program : Program) (policy : Option (List ℕ)) (closed : ClosedGraph) → IsClosedUnder version program policy closed →
+    IsGraphOf program closed × (closed.version ≡ version)
+graph_there version program policy closed under =
+    let (raw, is, of) = under.drawn in
+    ((_, raw, is, subst (λ (v : ℕ). IsClosed v raw closed) (sym of.version_is) of), of.version_is)
 
 -- the last place of a program that has any
 last_there : (program : Program) → 0 < count program → is_end (item_of program (count program - 1)).kind ≡ true →
     (k : ℕ) × (count program ≡ k + 1) × (is_end (item_of program k).kind ≡ true)
 last_there program some last = (count program - 1, omega arith, last)
 
--- of one side there is no other
-only : (side : Side) (j : ℕ) (other : Side) → slice_get (side ∷ []) j ≡ Some other → (j ≡ 0) × (side ≡ other)
-only side zero other there = (refl, same_Some side other there)
-only side (suc j) other there = absurd (cc)
-
-sort_has : (sort : Sort) (kind : SiteKind) → is_of sort kind ≡ true
-sort_has Both kind = refl
-
-site_any : (sites : List Site) (k i : ℕ) (site : Site) → slice_get sites i ≡ Some site → site.place ≡ k → list_any (λ (s : Site). s.place == k) sites ≡ true
-site_any [] k i site get place = absurd (cc)
-site_any (s ∷ sites) k zero site get place =
-    or_left (s.place == k) (list_any (λ (x : Site). x.place == k) sites) (eq-eqb s.place k (ap (λ (x : Site). x.place) (same_Some s site get) ∙ place))
-site_any (s ∷ sites) k (suc i) site get place =
-    or_right (s.place == k) (list_any (λ (x : Site). x.place == k) sites) (site_any sites k i site get place)
+known_form : (form : Form) → IsVersion (graph_version form)
+known_form Plain = inl refl
+known_form Harts = inl refl
+known_form Split = inr refl
+known_form HartsSplit = inr refl
 
 -- what is chosen for a program: a placement in which no value leaves its range, and labels
 module _ (p : PreparedParts) (ready : IsReady p) (s : Spaced) (fitting : IsFitting p s) (labels : List ℕ) (given : AreGiven p.program p.closed labels) where
@@ -94,9 +81,8 @@ module _ (p : PreparedParts) (ready : IsReady p) (s : Spaced) (fitting : IsFitti
   pub accepted_here : IsAccepted (chosen here labels)
   accepted_here =
       let (lines, raw, is, closes) = ready.graph in
-      let of = in_one raw p.closed closes in
-      let one : (j : ℕ) (side : Side) → slice_get p.closed.sides j ≡ Some side → (j ≡ 0) × (first_side p.closed ≡ side) =
-      λ j side there. only (first_side p.closed) j side (ap (λ (sides : List Side). slice_get sides j) (sym of.one) ∙ there) in
+      let of : (j : ℕ) (side : Side) → slice_get p.closed.sides j ≡ Some side → IsSide raw side =
+      side_at p.program lines raw is p.closed.version p.closed.sides closes.sorts closes.sides in
       record {
         profile = is_profile (image_version p.form);
         sound = ready.sound;
@@ -106,26 +92,13 @@ module _ (p : PreparedParts) (ready : IsReady p) (s : Spaced) (fitting : IsFitti
         legal = placed_here.legal;
         room = room_there (chosen here labels) (is_profile (image_version p.form)) ready.sound values placed_here.size;
         values = values;
+        version = subst IsVersion (sym ready.version) (known_form p.form);
         sorts = closes.sorts;
-        members = λ j c k side there h.
-            members_there p.program lines raw p.closed is of k (c, subst (λ (x : Side). IsIn x.classes c k) (sym (one j side there).1) h);
-        rising = λ j side there. subst (λ (x : Side). All IsStrictlyIncreasing x.classes) (one j side there).1 of.classes.rising;
-        apart = λ j a b k side there in_one_of in_other.
-            of.classes.apart a b k (subst (λ (x : Side). IsIn x.classes a k) (sym (one j side there).1) in_one_of)
-            (subst (λ (x : Side). IsIn x.classes b k) (sym (one j side there).1) in_other);
-        site_classes = λ j i c side site there.
-            subst (λ (x : Side). slice_get x.sites i ≡ Some site → site.class ≡ Some c → c < length x.classes) (one j side there).1
-            (site_class_there p.program lines raw p.closed is of i c site);
-        sites = λ k kind below some.
-            let (i, site, get, place) = site_there p.program lines raw p.closed is of k below (ap is_some some) in
-            record {
-              index = 0;
-              side = first_side p.closed;
-              there = ap (λ (sides : List Side). slice_get sides 0) of.one;
-              sort = sort_has (first_side p.closed).sort kind;
-              site = site_any (first_side p.closed).sites k i site get place;
-              alone = λ j other there has. (one j other there).0;
-            };
+        members = λ j c k side there h. members_there p.program lines raw side is (of j side there) k (c, h);
+        rising = λ j side there. (of j side there).classes.rising;
+        apart = λ j a b k side there. (of j side there).classes.apart a b k;
+        site_classes = λ j i c side site there. site_class_there p.program lines raw side is (of j side there) i c site;
+        sites = site_of p.program lines raw is p.closed.version p.closed.sides closes.sorts closes.sides;
         counted = given.counted;
         labels = given.least;
         labels_rise = given.rising;

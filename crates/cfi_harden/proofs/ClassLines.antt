@@ -8,14 +8,13 @@ use Rattle.std.proofs.lemmas.Option.{same_Some}
 use Rattle.cfi_graph.specs.declared.line.GraphLine.{GraphLine}
 use Rattle.cfi_graph.specs.declared.line.SiteKind.{SiteKind}
 use Rattle.cfi_graph.specs.declared.line.Sort.{Sort}
-use Rattle.cfi_graph.specs.declared.line.Sort.TheVariants.{Both}
+use Rattle.cfi_graph.specs.declared.line.Sort.TheVariants.{Both, Calls, Jumps}
 use Rattle.cfi_graph.specs.declared.line.Key.TheVariants.{Label}
-use Rattle.cfi_graph.specs.Graph.{ClassLine, class_in, is_class, is_code_address, is_label, is_rising, key_below, key_of, line_in_range, targets_rise}
-use Rattle.cfi_flow.specs.Closed.{is_of}
+use Rattle.cfi_graph.specs.Graph.{ClassLine, class_in, fits_version, is_class, is_code_address, is_label, is_rising, is_sort_of, key_below, key_of, line_in_range, line_of_class, targets_rise}
 use Rattle.cfi_class.specs.Classes.{has}
-use Rattle.cfi_map.specs.GraphAtMap.{class_lines, line_of_class}
+use Rattle.cfi_map.specs.GraphAtMap.{class_lines}
 use Rattle.cfi_map.specs.LabelOf.{Tagged}
-use Rattle.cfi_unit.specs.declared.target_word.TargetWord.TheVariants.{First}
+use Rattle.cfi_unit.specs.declared.target_word.TargetWord.{TargetWord}
 use Rattle.cfi_rules.specs.Lines.{class_with, if_serves, is_among, or_class, serves, targets_for}
 
 -- a gate is among those of a class just where its place is a member
@@ -41,22 +40,28 @@ class_line gates label t = record { sort = t.sort; label = label; targets = map 
 
 line_says : (sort : Sort) (label : ℕ) (targets : List ℕ) → class_in (line_of_class sort label targets) ≡ Some (record { sort = sort; label = label; targets = targets })
 line_says Both label targets = refl
+line_says Calls label targets = refl
+line_says Jumps label targets = refl
 
 line_ranges : (sort : Sort) (len label : ℕ) (targets : List ℕ) → line_in_range len (line_of_class sort label targets) ≡ (is_label label && list_all (is_code_address len) targets)
 line_ranges Both len label targets = refl
+line_ranges Calls len label targets = refl
+line_ranges Jumps len label targets = refl
 
 line_rises : (sort : Sort) (label : ℕ) (targets : List ℕ) → targets_rise (line_of_class sort label targets) ≡ is_rising nat_lt targets
 line_rises Both label targets = refl
+line_rises Calls label targets = refl
+line_rises Jumps label targets = refl
 
 line_key : (sort : Sort) (label : ℕ) (targets : List ℕ) → key_of (line_of_class sort label targets) ≡ Label label
 line_key Both label targets = refl
+line_key Calls label targets = refl
+line_key Jumps label targets = refl
 
 line_class : (sort : Sort) (label : ℕ) (targets : List ℕ) → is_class (line_of_class sort label targets) ≡ true
 line_class Both label targets = refl
-
--- a class of a sort serves the transfers of its sort
-pub sort_serves : (sort : Sort) (kind : SiteKind) → is_of sort kind ≡ true → serves sort kind First ≡ true
-sort_serves Both kind of = refl
+line_class Calls label targets = refl
+line_class Jumps label targets = refl
 
 -- the line at an index has the label and the class at that index
 pub record IsLine (gates labels : List ℕ) (ts : List Tagged) (j : ℕ) (line : ClassLine) : Type 0 where
@@ -137,12 +142,23 @@ class_given gates (l ∷ labels) (c ∷ ts) (suc n) label t label_is class_is on
           ∙ class_given gates labels ts n label t label_is class_is (λ i get. let same : suc i ≡ suc n = once (suc i) get in omega arith)
     ]
 
--- and it serves the transfers of its sort
-pub served_by : (lines : List GraphLine) (kind : SiteKind) (label : ℕ) (class : ClassLine) → class_with lines label ≡ Some class → is_of class.sort kind ≡ true →
-    targets_for lines kind First label ≡ Some class.targets
+-- and it gives its targets to the transfers that it serves
+pub served_by : (lines : List GraphLine) (kind : SiteKind) (which : TargetWord) (label : ℕ) (class : ClassLine) → class_with lines label ≡ Some class →
+    serves class.sort kind which ≡ true → targets_for lines kind which label ≡ Some class.targets
 unfolding targets_for
-served_by lines kind label class is of =
-    ap (option_and_then (if_serves kind First)) is ∙ ap (λ (b : Bool). if b then Some class.targets else None) (sort_serves class.sort kind of)
+served_by lines kind which label class is serving =
+    ap (option_and_then (if_serves kind which)) is ∙ ap (λ (b : Bool). if b then Some class.targets else None) serving
+
+-- each line is one of the version whose sorts the classes have
+pub lines_of_version : (version : ℕ) (gates labels : List ℕ) (ts : List Tagged) → ((j : ℕ) (t : Tagged) → slice_get ts j ≡ Some t → is_sort_of version t.sort ≡ true) →
+    list_all (λ line. fits_version version (class_in line)) (class_lines gates labels ts) ≡ true
+unfolding class_lines
+lines_of_version version gates [] [] of = refl
+lines_of_version version gates (l ∷ labels) [] of = refl
+lines_of_version version gates [] (t ∷ ts) of = refl
+lines_of_version version gates (l ∷ labels) (t ∷ ts) of =
+    and_from (fits_version version (class_in (line_of_class t.sort l (map (slice_index gates) t.class)))) (list_all (λ line. fits_version version (class_in line)) (class_lines gates labels ts))
+    (ap (fits_version version) (line_says t.sort l (map (slice_index gates) t.class)) ∙ of 0 t refl) (lines_of_version version gates labels ts (λ j c get. of (suc j) c get))
 
 -- lines of classes are a graph's: labels and addresses are in range, targets and labels rise
 pub lines_range : (len : ℕ) (gates labels : List ℕ) (ts : List Tagged) → ((j label : ℕ) → slice_get labels j ≡ Some label → is_label label ≡ true) →

@@ -81,4 +81,4 @@ module _ (m : Choice) (sound : IsSound m.layout.program)
       let below : k < count m.layout.program = slice_get_within m.layout.program.items k item get in
       let same : item_of m.layout.program k ≡ item = get_or_from_slice_get m.layout.program.items k item no_item get in
       let of : is_right item.kind (instr_of m k) ≡ true = subst (λ (x : Item). is_right x.kind (instr_of m k) ≡ true) same (right k below) in
-      unit_size item.kind (instr_of m k) (whole_at m.whole k) _ _ of
+      unit_size item.kind (instr_of m k) (whole_at m.whole k) _ _ _ of

@@ -4,7 +4,7 @@ use Rattle.std.proofs.Math.Seq.{drop-cons}
 use Rattle.rv_word.specs.Form.{profile_for}
 use Rattle.rv_word.specs.MemoryMap.{CODE_SIZE, CODE_START, version_1, version_2}
 use Rattle.rv_word.specs.declared.form.Form.{Form}
-use Rattle.rv_word.specs.declared.form.Form.TheVariants.{Plain, Harts}
+use Rattle.rv_word.specs.declared.form.Form.TheVariants.{Plain, Harts, Split, HartsSplit}
 use Rattle.rv_code.specs.Encode.{code_of}
 use Rattle.cfi_unit.specs.declared.unit.Unit as U
 use Rattle.cfi_unit.specs.declared.unit.Unit.TheVariants as V
@@ -16,29 +16,55 @@ use Rattle.cfi_rules.specs.Placed.{AllFit, code_from, placed_code}
 use Rattle.cfi_rules.specs.Split.{code_words}
 use Rattle.cfi_harden.specs.Prologue.{before_call}
 
-pub prologue_words : (form : Form) (entry : ℕ) (call first second third : List ℕ) → call ≡ words_of (V.Call entry) (call_at (profile_for form))
-    → code_words first ≡ code_words [] ++ map code_of (before_call (profile_for form)) → code_words second ≡ code_words first ++ call
-    → code_words third ≡ code_words second ++ map code_of closing_instrs → code_words third ≡ map code_of (prologue_instrs (profile_for form) entry)
+-- the words of the prologue in its four parts, of images of each version
+lone_words : (entry : ℕ) (call first second third : List ℕ) → call ≡ words_of (V.Call entry) (call_at version_1)
+    → code_words first ≡ code_words [] ++ map code_of (before_call version_1) → code_words second ≡ code_words first ++ call
+    → code_words third ≡ code_words second ++ map code_of closing_instrs → code_words third ≡ map code_of (prologue_instrs version_1 entry)
 unfolding words_of code_words
-prologue_words Plain entry call first second third call_is first_is second_is third_is =
+lone_words entry call first second third call_is first_is second_is third_is =
     let two : code_words second ≡ (code_words [] ++ map code_of (before_call version_1)) ++ words_of (V.Call entry) (call_at version_1) =
     second_is ∙ ap (λ ws. ws ++ call) first_is ∙ ap (λ ws. (code_words [] ++ map code_of (before_call version_1)) ++ ws) call_is in
     third_is ∙ ap (λ ws. ws ++ map code_of closing_instrs) two
-prologue_words Harts entry call first second third call_is first_is second_is third_is =
+
+own_words : (entry : ℕ) (call first second third : List ℕ) → call ≡ words_of (V.Call entry) (call_at version_2)
+    → code_words first ≡ code_words [] ++ map code_of (before_call version_2) → code_words second ≡ code_words first ++ call
+    → code_words third ≡ code_words second ++ map code_of closing_instrs → code_words third ≡ map code_of (prologue_instrs version_2 entry)
+unfolding words_of code_words
+own_words entry call first second third call_is first_is second_is third_is =
     let two : code_words second ≡ (code_words [] ++ map code_of (before_call version_2)) ++ words_of (V.Call entry) (call_at version_2) =
     second_is ∙ ap (λ ws. ws ++ call) first_is ∙ ap (λ ws. (code_words [] ++ map code_of (before_call version_2)) ++ ws) call_is in
     third_is ∙ ap (λ ws. ws ++ map code_of closing_instrs) two
 
+pub prologue_words : (form : Form) (entry : ℕ) (call first second third : List ℕ) → call ≡ words_of (V.Call entry) (call_at (profile_for form))
+    → code_words first ≡ code_words [] ++ map code_of (before_call (profile_for form)) → code_words second ≡ code_words first ++ call
+    → code_words third ≡ code_words second ++ map code_of closing_instrs → code_words third ≡ map code_of (prologue_instrs (profile_for form) entry)
+prologue_words Plain = lone_words
+prologue_words Harts = own_words
+prologue_words Split = lone_words
+prologue_words HartsSplit = own_words
+
 -- where the prologue ends
+lone_size : (entry : ℕ) (call first second third : List ℕ) → call ≡ words_of (V.Call entry) (call_at version_1) →
+    length first ≡ 4 * length (before_call version_1) → length second ≡ length first + 4 * length call →
+    length third ≡ length second + 4 * length closing_instrs → CODE_START + length third ≡ version_1.units_from
+lone_size entry call first second third call_is first_is second_is third_is =
+    let eight = ap length call_is ∙ words_counted (V.Call entry) (call_at version_1) in
+    omega arith
+
+own_size : (entry : ℕ) (call first second third : List ℕ) → call ≡ words_of (V.Call entry) (call_at version_2) →
+    length first ≡ 4 * length (before_call version_2) → length second ≡ length first + 4 * length call →
+    length third ≡ length second + 4 * length closing_instrs → CODE_START + length third ≡ version_2.units_from
+own_size entry call first second third call_is first_is second_is third_is =
+    let eight = ap length call_is ∙ words_counted (V.Call entry) (call_at version_2) in
+    omega arith
+
 pub prologue_size : (form : Form) (entry : ℕ) (call first second third : List ℕ) → call ≡ words_of (V.Call entry) (call_at (profile_for form)) →
     length first ≡ 4 * length (before_call (profile_for form)) → length second ≡ length first + 4 * length call →
     length third ≡ length second + 4 * length closing_instrs → CODE_START + length third ≡ (profile_for form).units_from
-prologue_size Plain entry call first second third call_is first_is second_is third_is =
-    let eight = ap length call_is ∙ words_counted (V.Call entry) (call_at version_1) in
-    omega arith
-prologue_size Harts entry call first second third call_is first_is second_is third_is =
-    let eight = ap length call_is ∙ words_counted (V.Call entry) (call_at version_2) in
-    omega arith
+prologue_size Plain = lone_size
+prologue_size Harts = own_size
+prologue_size Split = lone_size
+prologue_size HartsSplit = own_size
 
 -- bytes with the words of some units after them are a whole code, and these units fit there
 pub record IsWritten (whole : List ℕ) (units : List U.Unit) (bytes : List ℕ) : Type 0 where
@@ -95,6 +121,8 @@ module _ (whole : List ℕ) (unit : U.Unit) (rest : List U.Unit) (bytes : List �
 prologue_counted : (form : Form) (entry : ℕ) → CODE_START + 4 * length (map code_of (prologue_instrs (profile_for form) entry)) ≡ (profile_for form).units_from
 prologue_counted Plain entry = refl
 prologue_counted Harts entry = refl
+prologue_counted Split entry = refl
+prologue_counted HartsSplit entry = refl
 
 pub first_written : (form : Form) (entry : ℕ) (units : List U.Unit) (bytes : List ℕ) → code_words bytes ≡ map code_of (prologue_instrs (profile_for form) entry) →
     CODE_START + length bytes ≡ (profile_for form).units_from → AllFit (profile_for form).units_from units

@@ -16,6 +16,7 @@ use Rattle.obj_program.specs.Suits as of
 use Rattle.cfi_unit.specs.UnitWords.{BAD_RETURN, BAD_TARGET, DEEP, Fits, IsNear, Reaches, is_lui, is_plain, word_count}
 use Rattle.cfi_unit.proofs.Near.{branch_reached, near_reached}
 use Rattle.cfi_map.specs.Shorts.{is_branch}
+use Rattle.cfi_unit.specs.declared.target_word.TargetWord.{TargetWord}
 use Rattle.cfi_harden.specs.Units.{unit_of}
 use Rattle.cfi_harden.proofs.UnitOf.{is_right}
 
@@ -116,33 +117,33 @@ near_target a target low high round there back ahead =
     let even = there.round in
     branch_reached a target (omega arith) (omega arith) (omega arith) (omega arith) (omega arith)
 
-pub unit_fits : (kind : ItemKind) (i : Instr) (whole : Bool) (target label a : ℕ) → is_right kind i ≡ true → IsInstr i → label < 2 ^ 20 →
-    START ≤ a → a + 4 * word_count (unit_of kind i whole target label) ≤ CODE_START + CODE_SIZE → a % 4 ≡ 0 → (is_direct kind ≡ true → IsThere target) →
-    (is_branch kind ≡ true → whole ≡ false → (a ≤ target + 4096) × (target ≤ a + 4092)) → Fits (unit_of kind i whole target label) a
-unit_fits is.Gate (I.Upper op rd imm) whole target label a right range small low high round there near = range.1
-unit_fits is.Plain i whole target label a right range small low high round there near = (range, plain_is i right)
-unit_fits is.Store (I.Store op rs1 rs2 imm) whole target label a right range small low high round there near = range
-unit_fits is.System I.Ecall whole target label a right range small low high round there near = tt
-unit_fits is.System I.Ebreak whole target label a right range small low high round there near = tt
-unit_fits is.Branch (I.Branch op rs1 rs2 imm) true target label a right range small low high round there near =
+pub unit_fits : (kind : ItemKind) (i : Instr) (whole : Bool) (target : ℕ) (which : TargetWord) (label a : ℕ) → is_right kind i ≡ true → IsInstr i → label < 2 ^ 20 →
+    START ≤ a → a + 4 * word_count (unit_of kind i whole target which label) ≤ CODE_START + CODE_SIZE → a % 4 ≡ 0 → (is_direct kind ≡ true → IsThere target) →
+    (is_branch kind ≡ true → whole ≡ false → (a ≤ target + 4096) × (target ≤ a + 4092)) → Fits (unit_of kind i whole target which label) a
+unit_fits is.Gate (I.Upper op rd imm) whole target which label a right range small low high round there near = range.1
+unit_fits is.Plain i whole target which label a right range small low high round there near = (range, plain_is i right)
+unit_fits is.Store (I.Store op rs1 rs2 imm) whole target which label a right range small low high round there near = range
+unit_fits is.System I.Ecall whole target which label a right range small low high round there near = tt
+unit_fits is.System I.Ebreak whole target which label a right range small low high round there near = tt
+unit_fits is.Branch (I.Branch op rs1 rs2 imm) true target which label a right range small low high round there near =
     (range.0, range.1, reach (a + 4) target (in_code a 4 low (omega arith) round refl) (target_in_code target (there refl)))
-unit_fits is.Branch (I.Branch op rs1 rs2 imm) false target label a right range small low high round there near =
+unit_fits is.Branch (I.Branch op rs1 rs2 imm) false target which label a right range small low high round there near =
     (range.0, range.1, let bounds = near refl refl in near_target a target low (omega arith) round (there refl) bounds.0 bounds.1)
-unit_fits is.Jump i whole target label a right range small low high round there near =
+unit_fits is.Jump i whole target which label a right range small low high round there near =
     let here : IsInCode a = record { from = omega arith; to = omega arith; round = round } in
     (no_handler target (there refl), reach a target here (target_in_code target (there refl)))
-unit_fits is.Call i whole target label a right range small low high round there near =
+unit_fits is.Call i whole target which label a right range small low high round there near =
     (reach (a + 8) DEEP (in_code a 8 low (omega arith) round refl) deep_in, reach (a + 28) target (in_code a 28 low (omega arith) round refl) (target_in_code target (there refl)))
-unit_fits is.Return i whole target label a right range small low high round there near =
+unit_fits is.Return i whole target which label a right range small low high round there near =
     reach (a + 12) BAD_RETURN (in_code a 12 low (omega arith) round refl) bad_return_in
-unit_fits is.Ijump (I.Jalr rd rs1 imm) whole target label a right range small low high round there near = (
+unit_fits is.Ijump (I.Jalr rd rs1 imm) whole target which label a right range small low high round there near = (
   range.1,
   range.2,
   small,
   reach (a + 24) BAD_TARGET (in_code a 24 low (omega arith) round refl) bad_target_in,
   reach (a + 44) BAD_TARGET (in_code a 44 low (omega arith) round refl) bad_target_in,
 )
-unit_fits is.Icall (I.Jalr rd rs1 imm) whole target label a right range small low high round there near = (
+unit_fits is.Icall (I.Jalr rd rs1 imm) whole target which label a right range small low high round there near = (
   (
     range.1,
     range.2,
@@ -152,7 +153,7 @@ unit_fits is.Icall (I.Jalr rd rs1 imm) whole target label a right range small lo
   ),
   reach (a + 56) DEEP (in_code a 56 low (omega arith) round refl) deep_in,
 )
-unit_fits is.End i whole target label a right range small low high round there near =
+unit_fits is.End i whole target which label a right range small low high round there near =
     let here : IsInCode a = record { from = omega arith; to = omega arith; round = round } in
     reach a BAD_TARGET here bad_target_in
-unit_fits kind i whole target label a right range small low high round there near = absurd (cc)
+unit_fits kind i whole target which label a right range small low high round there near = absurd (cc)

@@ -17,6 +17,7 @@ use Rattle.cfi_map.specs.GraphAtMap.{gate, gate_to, word}
 use Rattle.cfi_map.specs.LabelOf.{labels_of, site_label}
 use Rattle.cfi_map.specs.Placement.{whole_at}
 use Rattle.cfi_flow.specs.Closed.{is_target}
+use Rattle.cfi_unit.specs.declared.target_word.TargetWord.{TargetWord}
 use Rattle.cfi_unit.specs.declared.unit.Unit as U
 use Rattle.cfi_unit.specs.declared.unit.Unit.TheVariants as V
 use Rattle.cfi_unit.specs.Laws.{IsShortSkip}
@@ -50,40 +51,40 @@ branch_goes_on is.Branch e last = absurd (cc)
 branch_goes_on other e last = absurd (cc)
 
 -- only a short branch over one word is a short skip
-skip_kind : (kind : ItemKind) (i : Instr) (whole : Bool) (target label a : ℕ) → is_right kind i ≡ true → IsShortSkip (unit_of kind i whole target label) a →
-    (is_branch kind ≡ true) × (whole ≡ false) × (near_offset a target ≡ skip_offset) × (word_count (unit_of kind i whole target label) ≡ 1)
-skip_kind is.Branch (I.Branch op rs1 rs2 imm) false target label a right skip = (refl, refl, skip, refl)
-skip_kind is.Branch (I.Branch op rs1 rs2 imm) true target label a right skip = absurd skip
-skip_kind is.Gate (I.Upper op rd imm) whole target label a right skip = absurd skip
-skip_kind is.Plain i whole target label a right skip = absurd skip
-skip_kind is.Store (I.Store op rs1 rs2 imm) whole target label a right skip = absurd skip
-skip_kind is.System I.Ecall whole target label a right skip = absurd skip
-skip_kind is.System I.Ebreak whole target label a right skip = absurd skip
-skip_kind is.Jump i whole target label a right skip = absurd skip
-skip_kind is.Call i whole target label a right skip = absurd skip
-skip_kind is.Return i whole target label a right skip = absurd skip
-skip_kind is.Ijump (I.Jalr rd rs1 imm) whole target label a right skip = absurd skip
-skip_kind is.Icall (I.Jalr rd rs1 imm) whole target label a right skip = absurd skip
-skip_kind is.End i whole target label a right skip = absurd skip
-skip_kind kind i whole target label a right skip = absurd (cc)
+skip_kind : (kind : ItemKind) (i : Instr) (whole : Bool) (target : ℕ) (which : TargetWord) (label a : ℕ) → is_right kind i ≡ true → IsShortSkip (unit_of kind i whole target which label) a →
+    (is_branch kind ≡ true) × (whole ≡ false) × (near_offset a target ≡ skip_offset) × (word_count (unit_of kind i whole target which label) ≡ 1)
+skip_kind is.Branch (I.Branch op rs1 rs2 imm) false target which label a right skip = (refl, refl, skip, refl)
+skip_kind is.Branch (I.Branch op rs1 rs2 imm) true target which label a right skip = absurd skip
+skip_kind is.Gate (I.Upper op rd imm) whole target which label a right skip = absurd skip
+skip_kind is.Plain i whole target which label a right skip = absurd skip
+skip_kind is.Store (I.Store op rs1 rs2 imm) whole target which label a right skip = absurd skip
+skip_kind is.System I.Ecall whole target which label a right skip = absurd skip
+skip_kind is.System I.Ebreak whole target which label a right skip = absurd skip
+skip_kind is.Jump i whole target which label a right skip = absurd skip
+skip_kind is.Call i whole target which label a right skip = absurd skip
+skip_kind is.Return i whole target which label a right skip = absurd skip
+skip_kind is.Ijump (I.Jalr rd rs1 imm) whole target which label a right skip = absurd skip
+skip_kind is.Icall (I.Jalr rd rs1 imm) whole target which label a right skip = absurd skip
+skip_kind is.End i whole target which label a right skip = absurd skip
+skip_kind kind i whole target which label a right skip = absurd (cc)
 
 -- what begins with a jump is a jump or a stop
-jump_kind : (kind : ItemKind) (i : Instr) (whole : Bool) (target label : ℕ) → is_right kind i ≡ true → is_jump_unit (unit_of kind i whole target label) ≡ true →
+jump_kind : (kind : ItemKind) (i : Instr) (whole : Bool) (target : ℕ) (which : TargetWord) (label : ℕ) → is_right kind i ≡ true → is_jump_unit (unit_of kind i whole target which label) ≡ true →
     is_skipped kind false ≡ true
-jump_kind is.Jump i whole target label right jump = refl
-jump_kind is.End i whole target label right jump = refl
-jump_kind is.Branch (I.Branch op rs1 rs2 imm) false target label right jump = absurd (cc)
-jump_kind is.Branch (I.Branch op rs1 rs2 imm) true target label right jump = absurd (cc)
-jump_kind is.Gate (I.Upper op rd imm) whole target label right jump = absurd (cc)
-jump_kind is.Plain i whole target label right jump = absurd (cc)
-jump_kind is.Store (I.Store op rs1 rs2 imm) whole target label right jump = absurd (cc)
-jump_kind is.System I.Ecall whole target label right jump = absurd (cc)
-jump_kind is.System I.Ebreak whole target label right jump = absurd (cc)
-jump_kind is.Call i whole target label right jump = absurd (cc)
-jump_kind is.Return i whole target label right jump = absurd (cc)
-jump_kind is.Ijump (I.Jalr rd rs1 imm) whole target label right jump = absurd (cc)
-jump_kind is.Icall (I.Jalr rd rs1 imm) whole target label right jump = absurd (cc)
-jump_kind kind i whole target label right jump = absurd (cc)
+jump_kind is.Jump i whole target which label right jump = refl
+jump_kind is.End i whole target which label right jump = refl
+jump_kind is.Branch (I.Branch op rs1 rs2 imm) false target which label right jump = absurd (cc)
+jump_kind is.Branch (I.Branch op rs1 rs2 imm) true target which label right jump = absurd (cc)
+jump_kind is.Gate (I.Upper op rd imm) whole target which label right jump = absurd (cc)
+jump_kind is.Plain i whole target which label right jump = absurd (cc)
+jump_kind is.Store (I.Store op rs1 rs2 imm) whole target which label right jump = absurd (cc)
+jump_kind is.System I.Ecall whole target which label right jump = absurd (cc)
+jump_kind is.System I.Ebreak whole target which label right jump = absurd (cc)
+jump_kind is.Call i whole target which label right jump = absurd (cc)
+jump_kind is.Return i whole target which label right jump = absurd (cc)
+jump_kind is.Ijump (I.Jalr rd rs1 imm) whole target which label right jump = absurd (cc)
+jump_kind is.Icall (I.Jalr rd rs1 imm) whole target which label right jump = absurd (cc)
+jump_kind kind i whole target which label right jump = absurd (cc)
 
 jump_size : (u : U.Unit) → is_jump_unit u ≡ true → word_count u ≡ 1
 jump_size (V.Jump target) e = refl
@@ -146,7 +147,7 @@ module _ (m : Choice) (ok : IsAccepted m) where
   own_fits : (k : ℕ) → k < count m.layout.program → Fits (unit_for m k (item_of m.layout.program k)) (word m.layout k)
   own_fits k below =
       let at = unit_lies m ok (word m.layout k) (unit_for m k (item_of m.layout.program k)) (unit_there m ok k below) in
-      unit_fits (item_of m.layout.program k).kind (instr_of m k) (whole_at m.whole k) _ _ (word m.layout k) (right m ok k below) (instr_in_range m ok k below)
+      unit_fits (item_of m.layout.program k).kind (instr_of m k) (whole_at m.whole k) _ _ _ (word m.layout k) (right m ok k below) (instr_in_range m ok k below)
       (asked_small k) (past_handlers (word m.layout k) at.from) at.to at.round (target_in k below) (short_near k below)
 
   small_label : (k j label : ℕ) → slice_get (labels_of m.labels m.layout.closed.sides k) j ≡ Some (Some label) → label < 2 ^ 20
@@ -202,7 +203,7 @@ module _ (m : Choice) (ok : IsAccepted m) where
       unit_in (units m) m.layout.profile.units_from (word m.layout k + 4 * word_count (unit_for m k (item_of m.layout.program k))) ≡ Some v → is_jump_unit v ≡ true →
       IsShortSkip (unit_for m k (item_of m.layout.program k)) (word m.layout k) → ⊥
   skip_own k v below next jump skip =
-      let s = skip_kind (item_of m.layout.program k).kind (instr_of m k) (whole_at m.whole k) _ _ (word m.layout k) (right m ok k below) skip in
+      let s = skip_kind (item_of m.layout.program k).kind (instr_of m k) (whole_at m.whole k) _ _ _ (word m.layout k) (right m ok k below) skip in
       let (t, some, there) = direct k below (branch_leads (item_of m.layout.program k).kind s.0) in
       let short = ok.shorts k t below s.0 s.1 some in
       let back = short.back in
@@ -231,7 +232,7 @@ module _ (m : Choice) (ok : IsAccepted m) where
             same_Some _ v (sym (unit_there m ok (k + 1) more) ∙ ap (unit_in (units m) m.layout.profile.units_from) stands ∙ here) in
             let jumps = ap is_jump_unit same ∙ jump in
             let skipped : is_skipped (item_of m.layout.program (k + 1)).kind false ≡ true =
-            jump_kind (item_of m.layout.program (k + 1)).kind (instr_of m (k + 1)) (whole_at m.whole (k + 1)) _ _ (right m ok (k + 1) more) jumps in
+            jump_kind (item_of m.layout.program (k + 1)).kind (instr_of m (k + 1)) (whole_at m.whole (k + 1)) _ _ _ (right m ok (k + 1) more) jumps in
             let second : t ≡ k + 2 = second_after k t more there (omega arith) stands (jump_size _ jumps) in
             let held : is_kept m.layout.program m.layout.closed k t ≡ true =
             and_from (t == k + 2) (is_skipped (item_of m.layout.program (k + 1)).kind (is_target m.layout.closed.sides (k + 1))) (eq-eqb t (k + 2) second)

@@ -7,6 +7,7 @@ pub mod Fitting
 pub mod Labelled
 pub mod ClassLines
 pub mod SideLabels
+pub mod Starts
 pub mod Leading
 pub mod SoundCode
 pub mod Written

@@ -1,24 +1,28 @@
 -- The lines of classes and of places, one after another.
-use Rattle.std.proofs.Common.{◌≡◌, ℕ, zero, suc, ◌+◌, ◌<◌, ◌≤◌, ◌-◌, Option, Some, None, List, [], ◌∷◌, ◌++◌, refl, length, map, take, drop, arith, ap, ◌∙◌, sym, subst, append_assoc, append-nil, get_or}
+use Rattle.std.proofs.Common.{◌≡◌, ℕ, zero, suc, ◌+◌, ◌<◌, ◌≤◌, ◌-◌, Option, Some, None, List, [], ◌∷◌, ◌++◌, refl, length, map, take, drop, arith, ap, ◌∙◌, sym, subst, append_assoc, append-nil, get_or, Contains}
 use Rattle.std.specs.Prelude.{slice_get, slice_index, slice_index_or}
 use Rattle.std.specs.List.{All}
 use Rattle.std.proofs.Math.ListN.{drop_of_length-le}
 use Rattle.std.proofs.Math.Seq.{drop-cons, take-suc}
-use Rattle.std.proofs.lemmas.List.{get_or_append_left, get_or-append-add, get_or_default, length-map, map-append, take_all}
+use Rattle.std.proofs.lemmas.List.{get_or_append_left, get_or-append-add, drop_more, get_or_default, length-drop, length-map, map-append, take_all}
+use Rattle.std.proofs.lemmas.Option.{get_or_from_slice_get, slice_get_within}
 use Rattle.rv_word.specs.MemoryMap.{START}
 use Rattle.obj_program.specs.declared.item.Item.{Item}
 use Rattle.obj_program.specs.Program.{count, item_of, no_item}
 use Rattle.cfi_graph.specs.declared.line.GraphLine.{GraphLine}
 use Rattle.cfi_graph.specs.declared.line.GraphLine.TheVariants as line
 use Rattle.cfi_graph.specs.declared.line.Sort.{Sort}
-use Rattle.cfi_graph.specs.declared.line.Sort.TheVariants.{Both}
-use Rattle.cfi_flow.specs.declared.closed.Site.{Site}
-use Rattle.cfi_flow.specs.Closed.{ClosedGraph, Side, first_side}
+use Rattle.cfi_graph.specs.Graph.{line_of_class}
+use Rattle.cfi_class.specs.Classes.{IsIn}
+use Rattle.cfi_flow.specs.declared.side.Site.{Site}
+use Rattle.cfi_flow.specs.Closed.{Side}
 use Rattle.cfi_map.specs.GraphAtMap.{ProgramAtMap, class_lines, gate, graph_lines, line_for, place_lines, with_line}
 use Rattle.cfi_map.specs.LabelOf.{Tagged, all_classes, empty_classes, tag, tagged, with_empty}
-use Rattle.cfi_flow.proofs.Sides.{one_first, sort_is}
 use Rattle.cfi_harden.specs.Accepted.{IsAccepted}
+use Rattle.cfi_harden.specs.Chosen.{labels_before}
 use Rattle.cfi_harden.specs.Units.{Choice}
+use Rattle.cfi_harden.proofs.SideLabels.{drop_more as drop_twice}
+use Rattle.cfi_harden.proofs.Starts.{before_first, before_next, counted_at}
 
 -- these are lines before those of the places from index k on
 abbrev pub AreLines : ProgramAtMap → List ℕ → ℕ → List GraphLine → List GraphLine → Type 0
@@ -51,43 +55,90 @@ all_lines layout labels k first whole past are =
     let none : drop k layout.program.items ≡ [] = drop_of_length-le layout.program.items past in
     sym (append-nil first) ∙ subst (λ (items : List Item). first ++ place_lines layout labels k items ≡ whole) none are
 
--- these are lines before those of the classes from index k on
-abbrev pub AreClassLines : List ℕ → List ℕ → List (List ℕ) → ℕ → List GraphLine → Type 0
-AreClassLines gates labels classes k first = first ++ class_lines gates (drop k labels) (map (tag Both) (drop k classes)) ≡ class_lines gates labels (map (tag Both) classes)
+-- these are lines before those of the classes of a side from index k on
+abbrev pub AreClassLines : List ℕ → List ℕ → Sort → List (List ℕ) → ℕ → List GraphLine → List GraphLine → Type 0
+AreClassLines gates labels sort classes k first whole = first ++ class_lines gates (drop k labels) (map (tag sort) (drop k classes)) ≡ whole
 
-pub next_class : (gates labels : List ℕ) (classes : List (List ℕ)) (k label : ℕ) (class : List ℕ) (first more : List GraphLine)
-    → k < length labels → length labels ≡ length classes → AreClassLines gates labels classes k first
+pub next_class : (gates labels : List ℕ) (sort : Sort) (classes : List (List ℕ)) (k label : ℕ) (class : List ℕ) (first more whole : List GraphLine)
+    → k < length classes → length classes ≤ length labels → AreClassLines gates labels sort classes k first whole
     → label ≡ slice_index labels k → class ≡ map (slice_index gates) (slice_index_or classes k [])
-    → more ≡ first ++ line.Class label class ∷ [] → AreClassLines gates labels classes (k + 1) more
+    → more ≡ first ++ line_of_class sort label class ∷ [] → AreClassLines gates labels sort classes (k + 1) more whole
 unfolding class_lines
-next_class gates labels classes k label class first more below all are label_is class_is is =
+next_class gates labels sort classes k label class first more whole here enough are label_is class_is is =
     let next : k + 1 ≡ suc k = omega arith in
-    let here : k < length classes = omega arith in
+    let below : k < length labels = omega arith in
     let ls = drop-cons labels k 0 below in
     let cs = drop-cons classes k [] here in
-    let rest = class_lines gates (drop (suc k) labels) (map (tag Both) (drop (suc k) classes)) in
-    let whole : first ++ class_lines gates (slice_index labels k ∷ drop (suc k) labels) (map (tag Both) (slice_index_or classes k [] ∷ drop (suc k) classes))
-    ≡ class_lines gates labels (map (tag Both) classes) =
-    subst (λ (c : List (List ℕ)). first ++ class_lines gates (slice_index labels k ∷ drop (suc k) labels) (map (tag Both) c) ≡ class_lines gates labels (map (tag Both) classes)) cs
-    (subst (λ (l : List ℕ). first ++ class_lines gates l (map (tag Both) (drop k classes)) ≡ class_lines gates labels (map (tag Both) classes)) ls are) in
-    subst (λ (j : ℕ). more ++ class_lines gates (drop j labels) (map (tag Both) (drop j classes)) ≡ class_lines gates labels (map (tag Both) classes)) (sym next)
-    (ap (λ (lines : List GraphLine). lines ++ rest) is ∙ append_assoc first (line.Class label class ∷ []) rest
-    ∙ ap (λ l. first ++ (line.Class l class ∷ rest)) label_is
-    ∙ ap (λ (c : List ℕ). first ++ (line.Class (slice_index labels k) c ∷ rest)) class_is ∙ whole)
+    let rest = class_lines gates (drop (suc k) labels) (map (tag sort) (drop (suc k) classes)) in
+    let all : first ++ class_lines gates (slice_index labels k ∷ drop (suc k) labels) (map (tag sort) (slice_index_or classes k [] ∷ drop (suc k) classes)) ≡ whole =
+    subst (λ (c : List (List ℕ)). first ++ class_lines gates (slice_index labels k ∷ drop (suc k) labels) (map (tag sort) c) ≡ whole) cs
+    (subst (λ (l : List ℕ). first ++ class_lines gates l (map (tag sort) (drop k classes)) ≡ whole) ls are) in
+    subst (λ (j : ℕ). more ++ class_lines gates (drop j labels) (map (tag sort) (drop j classes)) ≡ whole) (sym next)
+    (ap (λ (lines : List GraphLine). lines ++ rest) is ∙ append_assoc first (line_of_class sort label class ∷ []) rest
+    ∙ ap (λ l. first ++ (line_of_class sort l class ∷ rest)) label_is
+    ∙ ap (λ (c : List ℕ). first ++ (line_of_class sort (slice_index labels k) c ∷ rest)) class_is ∙ all)
 
-no_lines : (gates : List ℕ) (ts : List Tagged) → class_lines gates [] ts ≡ []
+no_lines : (gates labels : List ℕ) → class_lines gates labels [] ≡ []
 unfolding class_lines
 no_lines gates [] = refl
-no_lines gates (t ∷ ts) = refl
+no_lines gates (l ∷ labels) = refl
 
-pub all_class_lines : (gates labels : List ℕ) (classes : List (List ℕ)) (k : ℕ) (first : List GraphLine) → length labels ≤ k
-    → AreClassLines gates labels classes k first → first ≡ class_lines gates labels (map (tag Both) classes)
+pub all_class_lines : (gates labels : List ℕ) (sort : Sort) (classes : List (List ℕ)) (k : ℕ) (first whole : List GraphLine) → length classes ≤ k
+    → AreClassLines gates labels sort classes k first whole → first ≡ whole
+all_class_lines gates labels sort classes k first whole past are =
+    let none : drop k classes ≡ [] = drop_of_length-le classes past in
+    sym (append-nil first) ∙ ap (λ (ls : List GraphLine). first ++ ls) (sym (no_lines gates (drop k labels)))
+    ∙ subst (λ (cs : List (List ℕ)). first ++ class_lines gates (drop k labels) (map (tag sort) cs) ≡ whole) none are
+
+-- those of some classes and of others behind them
+lines_behind : (gates labels : List ℕ) (ts us : List Tagged) → length ts ≤ length labels →
+    class_lines gates labels (ts ++ us) ≡ class_lines gates labels ts ++ class_lines gates (drop (length ts) labels) us
 unfolding class_lines
-all_class_lines gates labels classes k first past are =
-    let none : drop k labels ≡ [] = drop_of_length-le labels past in
-    let empty : class_lines gates [] (map (tag Both) (drop k classes)) ≡ [] = no_lines gates (map (tag Both) (drop k classes)) in
-    sym (append-nil first) ∙ ap (λ (ls : List GraphLine). first ++ ls) (sym empty)
-    ∙ subst (λ (l : List ℕ). first ++ class_lines gates l (map (tag Both) (drop k classes)) ≡ class_lines gates labels (map (tag Both) classes)) none are
+lines_behind gates labels [] us enough = ap (λ (ls : List GraphLine). ls ++ class_lines gates labels us) (sym (no_lines gates labels))
+lines_behind gates [] (t ∷ ts) us enough = absurd (omega arith)
+lines_behind gates (l ∷ labels) (t ∷ ts) us enough =
+    ap (λ (ls : List GraphLine). line_of_class t.sort l (map (slice_index gates) t.class) ∷ ls) (lines_behind gates labels ts us (omega arith))
+
+-- these are lines before those of the sides from index j on
+abbrev pub AreSideLines : List ℕ → List ℕ → List Side → ℕ → List GraphLine → Type 0
+AreSideLines gates labels sides j first =
+    first ++ class_lines gates (drop (labels_before sides j) labels) (tagged (drop j sides)) ≡ class_lines gates labels (tagged sides)
+
+pub first_side_lines : (gates labels : List ℕ) (sides : List Side) (none : List GraphLine) → none ≡ [] → AreSideLines gates labels sides 0 none
+first_side_lines gates labels sides none is =
+    ap (λ (ls : List GraphLine). ls ++ class_lines gates (drop (labels_before sides 0) labels) (tagged sides)) is
+    ∙ ap (λ (n : ℕ). class_lines gates (drop n labels) (tagged sides)) (before_first sides)
+
+pub next_side : (gates labels : List ℕ) (sides : List Side) (j : ℕ) (side : Side) (first more : List GraphLine) → slice_get sides j ≡ Some side
+    → length labels ≡ length (tagged sides) → AreSideLines gates labels sides j first
+    → more ≡ first ++ class_lines gates (drop (labels_before sides j) labels) (map (tag side.sort) (all_classes side)) → AreSideLines gates labels sides (j + 1) more
+unfolding tagged
+next_side gates labels sides j side first more there counted are is =
+    let own = drop (labels_before sides j) labels in
+    let ts = map (tag side.sort) (all_classes side) in
+    let us = tagged (drop (j + 1) sides) in
+    let many = length-map (all_classes side) (tag side.sort) in
+    let room = counted_at sides j side there in
+    let left = length-drop (labels_before sides j) labels in
+    let split : drop j sides ≡ side ∷ drop (j + 1) sides =
+    drop_more sides j side (slice_get_within sides j side there) ∙ ap (λ (s : Side). s ∷ drop (j + 1) sides) (get_or_from_slice_get sides j side side there) in
+    let behind : drop (labels_before sides (j + 1)) labels ≡ drop (length ts) own =
+    ap (λ (n : ℕ). drop n labels) (before_next sides j side there ∙ ap (λ (n : ℕ). labels_before sides j + n) (sym many))
+    ∙ sym (drop_twice labels (labels_before sides j) (length ts)) in
+    let joined = lines_behind gates own ts us (omega (arith, room, left, many, counted)) in
+    ap (λ (ls : List ℕ). more ++ class_lines gates ls us) behind
+    ∙ ap (λ (lines : List GraphLine). lines ++ class_lines gates (drop (length ts) own) us) is
+    ∙ append_assoc first (class_lines gates own ts) (class_lines gates (drop (length ts) own) us)
+    ∙ ap (λ (lines : List GraphLine). first ++ lines) (sym joined)
+    ∙ ap (λ (ss : List Side). first ++ class_lines gates own (tagged ss)) (sym split) ∙ are
+
+pub all_side_lines : (gates labels : List ℕ) (sides : List Side) (j : ℕ) (first : List GraphLine) → length sides ≤ j → AreSideLines gates labels sides j first
+    → first ≡ class_lines gates labels (tagged sides)
+unfolding tagged
+all_side_lines gates labels sides j first past are =
+    let none : drop j sides ≡ [] = drop_of_length-le sides past in
+    sym (append-nil first) ∙ ap (λ (ls : List GraphLine). first ++ ls) (sym (no_lines gates (drop (labels_before sides j) labels)))
+    ∙ ap (λ (ss : List Side). first ++ class_lines gates (drop (labels_before sides j) labels) (tagged ss)) (sym none) ∙ are
 
 -- the classes of sites without targets have none
 empty_with : (class : Option ℕ) (rest : List (List ℕ)) (i : ℕ) → ((j : ℕ) → slice_index_or rest j [] ≡ []) → slice_index_or (with_empty class rest) i [] ≡ []
@@ -110,28 +161,17 @@ class_past side k past =
     ap (λ j. slice_index_or (all_classes side) j []) (sym same)
     ∙ get_or-append-add side.classes (empty_classes side.sites) (k - length side.classes) [] ∙ empty_at side.sites (k - length side.classes)
 
--- the one side of what is accepted has all classes
-pub one_of : (m : Choice) → IsAccepted m → m.layout.closed.sides ≡ first_side m.layout.closed ∷ []
-one_of m accepted = one_first m.layout.closed accepted.sorts
-
-tagged_first : (side : Side) → tagged (side ∷ []) ≡ map (tag Both) (all_classes side)
-unfolding tagged
-tagged_first side =
-    append-nil (map (tag side.sort) (all_classes side)) ∙ ap (λ (sort : Sort). map (tag sort) (all_classes side)) (sort_is side.sort)
-
-pub tagged_one : (closed : ClosedGraph) → closed.sides ≡ first_side closed ∷ [] → tagged closed.sides ≡ map (tag Both) (all_classes (first_side closed))
-tagged_one closed one = ap tagged one ∙ tagged_first (first_side closed)
-
-pub classes_counted : (closed : ClosedGraph) → closed.sides ≡ first_side closed ∷ [] → length (tagged closed.sides) ≡ length (all_classes (first_side closed))
-classes_counted closed one = ap length (tagged_one closed one) ∙ length-map (all_classes (first_side closed)) (tag Both)
-
--- the members of a class are places
-pub members_there : (m : Choice) (c : ℕ) → IsAccepted m → c < length (first_side m.layout.closed).classes
-    → All (λ t. t < count m.layout.program) (slice_index_or (first_side m.layout.closed).classes c [])
-members_there m c accepted below i d inside =
-    let class = slice_index_or (first_side m.layout.closed).classes c [] in
-    accepted.members 0 c (get_or class i d) (first_side m.layout.closed) (ap (λ (sides : List Side). slice_get sides 0) (one_of m accepted))
-    (i, inside, get_or_default class i (get_or class i d) d inside)
+-- the members of the classes of a side are places
+pub members_there : (m : Choice) (j : ℕ) (side : Side) → IsAccepted m → slice_get m.layout.closed.sides j ≡ Some side
+    → All (All (λ t. t < count m.layout.program)) side.classes
+members_there m j side accepted there c d inside i e within =
+    accepted.members j c (get_or (get_or side.classes c d) i e) side there
+    (get_or_in side.classes c d i e inside within)
+  where
+    get_or_in : (classes : List (List ℕ)) (c : ℕ) (d : List ℕ) (i e : ℕ) → c < length classes → i < length (get_or classes c d) → IsIn classes c (get_or (get_or classes c d) i e)
+    get_or_in classes c d i e inside within =
+        subst (λ (class : List ℕ). Contains class (get_or (get_or classes c d) i e)) (get_or_default classes c d [] inside)
+        (i, within, get_or_default (get_or classes c d) i (get_or (get_or classes c d) i e) e within)
 
 pub joined : (layout : ProgramAtMap) (labels : List ℕ) (entry : ℕ) (first second third : List GraphLine)
     → entry ≡ gate layout layout.entry → first ≡ class_lines layout.gates labels (tagged layout.closed.sides)

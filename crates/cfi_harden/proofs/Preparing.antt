@@ -1,6 +1,7 @@
 -- A program that is entered is prepared, and what refuses that refuses the request; what a request of an object comes to is what that of
 -- its program comes to.
 use Rattle.std.proofs.Common.{ℕ, Result, Ok, Err, refl, subst}
+use Rattle.rv_word.specs.Form.{graph_version}
 use Rattle.obj_program.specs.Program.{Program}
 use Rattle.cfi_flow.specs.Closed.{ClosedGraph}
 use Rattle.cfi_harden.specs.declared.refusal.HardenEnd.{HardenEnd}
@@ -13,7 +14,7 @@ use Rattle.cfi_harden.specs.Preparing.{Enters, Reads}
 use Rattle.cfi_harden.specs.Refused.{Hardens, HardensProgram, Prepares, PreparesProgram, Refuses, RefusesProgram}
 use Rattle.cfi_harden.specs.Request.{ProgramRequest, Request, program_request}
 
-pub not_entered : (request : ProgramRequest) (end : HardenEnd) → Enters request.program request.entry request.policy (Err end)
+pub not_entered : (request : ProgramRequest) (end : HardenEnd) → Enters (graph_version request.form) request.program request.entry request.policy (Err end)
     → PreparesProgram request (Err end)
 not_entered request (ends.Refused R.NoEntry) refuses = (refuses, tt)
 not_entered request (ends.Refused (R.Policy n)) refuses = (refuses, tt)
@@ -25,7 +26,7 @@ not_entered request (ends.Refused (R.RelocRange section offset)) refuses = absur
 not_entered request ends.NoMemory refuses = tt
 
 pub is_prepared : (request : ProgramRequest) (entry : ℕ) (closed : ClosedGraph) →
-    Enters request.program request.entry request.policy (Ok (entry, closed))
+    Enters (graph_version request.form) request.program request.entry request.policy (Ok (entry, closed))
     → IsPreparedOf request (record { form = request.form; program = request.program; closed = closed; entry = entry })
 is_prepared request entry closed entered = record { form = refl; program = refl; entry = entered.0; closed = entered.1 }
 

@@ -2,7 +2,7 @@
 use Rattle.std.proofs.Common.{ℕ, ◌^◌, ◌<◌, ◌≤◌, List, Result, Ok, Err, arith, refl, subst, sym}
 use Rattle.std.specs.Prelude.{sum}
 use Rattle.rv_word.proofs.Versions.{is_profile, laid_out}
-use Rattle.rv_word.specs.Form.{image_version, profile_for}
+use Rattle.rv_word.specs.Form.{graph_version, image_version, profile_for}
 use Rattle.rv_word.specs.MemoryMap.{CODE_SIZE}
 use Rattle.obj_program.specs.MapFit.{FitsMaps}
 use Rattle.obj_program.specs.Program.{count, item_of}
@@ -33,7 +33,8 @@ ready request p prepared sound fits small = record {
   sound = sound;
   words = small;
   fits_maps = fits;
-  graph = graph_there p.program request.policy p.closed prepared.closed;
+  graph = (graph_there (graph_version p.form) p.program request.policy p.closed prepared.closed).0;
+  version = (graph_there (graph_version p.form) p.program request.policy p.closed prepared.closed).1;
   entered = (entry_there p.program request.entry p.entry prepared.entry).0;
 }
 
@@ -51,6 +52,7 @@ writable p s labels ready fitting given =
     let ok = accepted_here p ready s fitting labels given in
     subst (λ (l : ProgramAtMap). IsWritable p.form (record { layout = l; whole = s.whole }) labels) (sym fitting.placed.of) (record {
       form_is = refl;
+      version_is = ready.version;
       accepted = ok;
       fits_maps = ready.fits_maps;
       fits = accepted_map p.form (chosen (here p ready s fitting labels given) labels) ok refl (λ k below. let near = ready.fits_maps.fits k below in (near.section, near.whole, near.near));

@@ -8,15 +8,21 @@ use Rattle.std.proofs.lemmas.Option.{get_or_from_slice_get, same_Some, slice_get
 use Rattle.rv_word.proofs.Cases.{mapped}
 use Rattle.cfi_class.specs.Classes.{IsIn, has}
 use Rattle.cfi_graph.specs.declared.line.Sort.{Sort}
-use Rattle.cfi_graph.specs.declared.line.Sort.TheVariants.{Both}
-use Rattle.cfi_graph.specs.Graph.{ClassLine}
-use Rattle.cfi_flow.specs.declared.closed.Site.{Site}
-use Rattle.cfi_flow.specs.Closed.{Side, has_site, sorts_of_sides, is_target_of}
+use Rattle.cfi_graph.specs.declared.line.Sort.TheVariants.{Both, Calls, Jumps}
+use Rattle.rv_word.specs.Image.{IsVersion}
+use Rattle.cfi_graph.specs.declared.line.SiteKind.{SiteKind}
+use Rattle.cfi_graph.specs.declared.line.SiteKind.TheVariants as kinds
+use Rattle.cfi_graph.specs.Graph.{ClassLine, is_sort_of}
+use Rattle.cfi_flow.specs.declared.side.Site.{Site}
+use Rattle.cfi_flow.specs.Closed.{Side, has_site, is_of, is_target_of, sorts_of}
 use Rattle.cfi_map.specs.GraphAtMap.{class_lines}
 use Rattle.cfi_map.specs.LabelOf.{Tagged, all_classes, class_count, empty_classes, label_at, labels_of, site_label, site_number, tag, tagged, with_empty}
-use Rattle.cfi_unit.specs.declared.target_word.TargetWord.TheVariants.{First}
-use Rattle.cfi_rules.specs.Lines.{is_among, read_of, targets_for}
-use Rattle.cfi_harden.specs.SideLaws.{GatesListed, SitesServed, TargetsBear, past}
+use Rattle.cfi_unit.specs.declared.target_word.TargetWord.TheVariants.{First, Second}
+use Rattle.cfi_unit.specs.UnitWords.{past}
+use Rattle.cfi_rules.specs.Lines.{is_among, read_of, serves, targets_for}
+use Rattle.cfi_rules.specs.Rules.{jump_word}
+use Rattle.cfi_harden.specs.Chosen.{labels_before}
+use Rattle.cfi_harden.specs.SideLaws.{GatesListed, SitesServed, TargetsBear, word_read}
 use Rattle.cfi_harden.proofs.ClassLines.{among_from, among_to, class_given, class_line, line_get, served_by, targets_of}
 use Rattle.cfi_harden.proofs.Labelled.{has_in, label_found, label_once, labelled, site_below}
 
@@ -46,7 +52,7 @@ drop_get xs zero i = let same : i ≡ 0 + i = omega arith in ap (slice_get xs) s
 drop_get [] (suc n) i = refl
 drop_get (x ∷ xs) (suc n) i = let same : suc (n + i) ≡ suc n + i = omega arith in drop_get xs n i ∙ ap (slice_get (x ∷ xs)) same
 
-drop_index : (xs : List ℕ) (n i : ℕ) → slice_index (drop n xs) i ≡ slice_index xs (n + i)
+pub drop_index : (xs : List ℕ) (n i : ℕ) → slice_index (drop n xs) i ≡ slice_index xs (n + i)
 drop_index xs zero i = let same : i ≡ 0 + i = omega arith in ap (slice_index xs) same
 drop_index [] (suc n) i = refl
 drop_index (x ∷ xs) (suc n) i = let same : suc (n + i) ≡ suc n + i = omega arith in drop_index xs n i ∙ ap (slice_index (x ∷ xs)) same
@@ -55,12 +61,12 @@ drop_none : (n : ℕ) → drop {A = ℕ} n [] ≡ []
 drop_none zero = refl
 drop_none (suc n) = refl
 
-drop_more : (xs : List ℕ) (m n : ℕ) → drop n (drop m xs) ≡ drop (m + n) xs
+pub drop_more : (xs : List ℕ) (m n : ℕ) → drop n (drop m xs) ≡ drop (m + n) xs
 drop_more xs zero n = let same : n ≡ 0 + n = omega arith in ap (λ (i : ℕ). drop i xs) same
 drop_more [] (suc m) n = drop_none n ∙ sym (drop_none (suc m + n))
 drop_more (x ∷ xs) (suc m) n = let same : suc (m + n) ≡ suc m + n = omega arith in drop_more xs m n ∙ ap (λ (i : ℕ). drop i (x ∷ xs)) same
 
-any_get : {A : Type 0} (p : A → Bool) (xs : List A) (i : ℕ) (x : A) → slice_get xs i ≡ Some x → p x ≡ true → list_any p xs ≡ true
+pub any_get : {A : Type 0} (p : A → Bool) (xs : List A) (i : ℕ) (x : A) → slice_get xs i ≡ Some x → p x ≡ true → list_any p xs ≡ true
 any_get p [] i x e holds = absurd (cc)
 any_get p (y ∷ xs) zero x e holds = or_left (p y) (list_any p xs) (ap p (same_Some y x e) ∙ holds)
 any_get p (y ∷ xs) (suc i) x e holds = or_right (p y) (list_any p xs) (any_get p xs i x e holds)
@@ -100,12 +106,6 @@ site_there (site ∷ sites) k e =
       | inl here ↦ (0, site, refl, eqb-true site.place k here)
       | inr later ↦ let rest = site_there sites k later in (suc rest.0, rest.1, rest.2, rest.3)
     ]
-
--- how many classes the sides before one have
-unfoldable pub labels_before : List Side → ℕ → ℕ
-labels_before [] j = 0
-labels_before (side ∷ sides) zero = 0
-labels_before (side ∷ sides) (suc j) = class_count side + labels_before sides j
 
 -- a class is one of a side
 pub record InSide (sides : List Side) (n : ℕ) (t : Tagged) : Type 0 where
@@ -166,7 +166,7 @@ to_tagged (s ∷ sides) (suc j) i side class there get =
     get_back (map (tag s.sort) (all_classes s)) (tagged sides) (labels_before sides j + i) (class_count s + labels_before sides j + i) (omega arith)
     ∙ to_tagged sides j i side class there get
 
-to_side : (labels : List ℕ) (sides : List Side) (k j : ℕ) (side : Side) → slice_get sides j ≡ Some side →
+pub to_side : (labels : List ℕ) (sides : List Side) (k j : ℕ) (side : Side) → slice_get sides j ≡ Some side →
     slice_get (labels_of labels sides k) j ≡ Some (label_at (drop (labels_before sides j) labels) side.classes k)
 unfolding labels_of labels_before
 to_side labels [] k j side there = absurd (cc)
@@ -197,20 +197,66 @@ label_in labels sides k j label e =
     let of = labelled (drop (labels_before sides j) labels) side.classes k label is in
     (labels_before sides j + of.index, sym (drop_get labels (labels_before sides j) of.index) ∙ of.label_is)
 
--- which word of a target a side has
-sort_word : (j : ℕ) (sort : Sort) → slice_get sorts_of_sides j ≡ Some sort → past (read_of sort) ≡ 4 * j
-sort_word zero Both e = refl
-sort_word (suc j) sort e = absurd (cc)
+-- which word of a target a side has, and what its classes serve
+one_sort : (P : ℕ → Sort → Type 0) → P 0 Both → (j : ℕ) (sort : Sort) → slice_get (Both ∷ []) j ≡ Some sort → P j sort
+one_sort P both zero sort e = subst (P 0) (same_Some Both sort e) both
+one_sort P both (suc j) sort e = absurd (cc)
 
-sort_at : (sides : List Side) → map (λ (s : Side). s.sort) sides ≡ sorts_of_sides → (j : ℕ) (side : Side) → slice_get sides j ≡ Some side →
+two_sorts : (P : ℕ → Sort → Type 0) → P 0 Calls → P 1 Jumps → (j : ℕ) (sort : Sort) → slice_get (Calls ∷ Jumps ∷ []) j ≡ Some sort → P j sort
+two_sorts P calls jumps zero sort e = subst (P 0) (same_Some Calls sort e) calls
+two_sorts P calls jumps (suc zero) sort e = subst (P 1) (same_Some Jumps sort e) jumps
+two_sorts P calls jumps (suc (suc j)) sort e = absurd (cc)
+
+-- what holds of each sort of a version
+pub each_sort : (version : ℕ) (P : Bool → ℕ → Sort → Type 0) → P false 0 Both → P true 0 Calls → P true 1 Jumps →
+    (j : ℕ) (sort : Sort) → slice_get (sorts_of version) j ≡ Some sort → P (version == 2) j sort
+each_sort version P both calls jumps j sort e = by (version == 2) e
+  where
+    by : (b : Bool) → slice_get (if b then Calls ∷ Jumps ∷ [] else Both ∷ []) j ≡ Some sort → P b j sort
+    by true is = two_sorts (P true) calls jumps j sort is
+    by false is = one_sort (P false) both j sort is
+
+sort_word : (version j : ℕ) (sort : Sort) → slice_get (sorts_of version) j ≡ Some sort → past (read_of sort) ≡ 4 * j
+sort_word version = each_sort version (λ b j sort. past (read_of sort) ≡ 4 * j) refl refl refl
+
+reads_first : (kind : SiteKind) → word_read First kind ≡ First
+reads_first kinds.Call = refl
+reads_first kinds.Jump = refl
+
+calls_serve : (kind : SiteKind) → is_of Calls kind ≡ true → serves Calls kind (word_read Second kind) ≡ true
+calls_serve kinds.Call of = refl
+calls_serve kinds.Jump of = absurd (cc)
+
+jumps_serve : (kind : SiteKind) → is_of Jumps kind ≡ true → serves Jumps kind (word_read Second kind) ≡ true
+jumps_serve kinds.Jump of = refl
+jumps_serve kinds.Call of = absurd (cc)
+
+sort_serves : (version j : ℕ) (sort : Sort) (kind : SiteKind) → slice_get (sorts_of version) j ≡ Some sort → is_of sort kind ≡ true →
+    serves sort kind (word_read (jump_word version) kind) ≡ true
+sort_serves version j sort kind =
+    each_sort version (λ b j sort. is_of sort kind ≡ true → serves sort kind (word_read (if b then Second else First) kind) ≡ true)
+    (λ of. ap (serves Both kind) (reads_first kind)) (calls_serve kind) (jumps_serve kind) j sort
+
+pub sort_fits : (version : ℕ) → IsVersion version → (j : ℕ) (sort : Sort) → slice_get (sorts_of version) j ≡ Some sort → is_sort_of version sort ≡ true
+sort_fits version (inl one) j sort e =
+    subst (λ (v : ℕ). is_sort_of v sort ≡ true) (sym one)
+    (one_sort (λ j sort. is_sort_of 1 sort ≡ true) refl j sort (sym (ap (λ (v : ℕ). slice_get (sorts_of v) j) one) ∙ e))
+sort_fits version (inr two) j sort e =
+    subst (λ (v : ℕ). is_sort_of v sort ≡ true) (sym two)
+    (two_sorts (λ j sort. is_sort_of 2 sort ≡ true) refl refl j sort (sym (ap (λ (v : ℕ). slice_get (sorts_of v) j) two) ∙ e))
+
+-- the sort of a side is the version's
+pub sort_get : (version : ℕ) (sides : List Side) → map (λ (s : Side). s.sort) sides ≡ sorts_of version → (j : ℕ) (side : Side) → slice_get sides j ≡ Some side →
+    slice_get (sorts_of version) j ≡ Some side.sort
+sort_get version sides sorts j side there =
+    sym (ap (λ (all : List Sort). slice_get all j) sorts) ∙ slice_get-map (λ (s : Side). s.sort) sides j ∙ ap (option_map (λ (s : Side). s.sort)) there
+
+sort_at : (version : ℕ) (sides : List Side) → map (λ (s : Side). s.sort) sides ≡ sorts_of version → (j : ℕ) (side : Side) → slice_get sides j ≡ Some side →
     past (read_of side.sort) ≡ 4 * j
-sort_at sides sorts j side there =
-    let get : slice_get (map (λ (s : Side). s.sort) sides) j ≡ Some side.sort =
-    slice_get-map (λ (s : Side). s.sort) sides j ∙ ap (option_map (λ (s : Side). s.sort)) there in
-    sort_word j side.sort (ap (λ (all : List Sort). slice_get all j) (sym sorts) ∙ get)
+sort_at version sides sorts j side there = sort_word version j side.sort (sort_get version sides sorts j side there)
 
 pub targets_bear : TargetsBear
-targets_bear gates labels sides are n a c e among =
+targets_bear version gates labels sides are n a c e among =
     let line = line_get gates labels (tagged sides) n c e in
     let of = in_side sides n line.class line.class_is in
     let before = labels_before sides of.index in
@@ -233,12 +279,12 @@ targets_bear gates labels sides are n a c e among =
       target = any_get (is_target_of k) sides of.index of.side of.there (any_get (has k) of.side.classes of.number line.class.class member there);
       word =
           sym (ap (λ (x : ClassLine). past (read_of x.sort)) line.line_is) ∙ sym (ap (λ (s : Sort). past (read_of s)) of.sort_is)
-          ∙ sort_at sides are.sorts of.index of.side of.there;
+          ∙ sort_at version sides are.sorts of.index of.side of.there;
       label = to_side labels sides k of.index of.side of.there ∙ ap Some found ∙ ap (λ (x : ClassLine). Some (Some x.label)) line.line_is;
     }
 
 pub gates_listed : GatesListed
-gates_listed gates labels sides are k j label c e asked =
+gates_listed version gates labels sides are k j label c e asked =
     let (side, there, at) = from_side labels sides k j (Some label) e in
     let before = labels_before sides j in
     let of = labelled (drop before labels) side.classes k label at in
@@ -249,7 +295,7 @@ gates_listed gates labels sides are k j label c e asked =
     to_tagged sides j of.index side of.class there (in_more side.classes (empty_classes side.sites) of.index of.class of.class_is) in
     let one : tag side.sort of.class ≡ t = same_Some (tag side.sort of.class) t (sym tag_is ∙ ap (slice_get (tagged sides)) same ∙ class_is) in
     let line : class_line gates label (tag side.sort of.class) ≡ c = ap (class_line gates label) one ∙ line_is in (
-      sym (ap (λ (x : ClassLine). past (read_of x.sort)) line) ∙ sort_at sides are.sorts j side there,
+      sym (ap (λ (x : ClassLine). past (read_of x.sort)) line) ∙ sort_at version sides are.sorts j side there,
       sym (ap (λ (x : ClassLine). is_among (slice_index gates k) x.targets) line) ∙ among_to (slice_index gates) of.class k of.member,
     )
 
@@ -291,7 +337,7 @@ site_small labels (s ∷ sides) k most some small =
     ]
 
 pub sites_served : SitesServed
-sites_served gates labels sides are k kind at =
+sites_served version gates labels sides are k kind at =
     let number = site_number at.side.sites (length at.side.classes) k in
     let before = labels_before sides at.index in
     let label = slice_index labels (before + number) in
@@ -309,4 +355,7 @@ sites_served gates labels sides are k kind at =
     let given = class_given gates labels (tagged sides) (before + number) label (tag at.side.sort class) label_is tag_is
     (λ i also. label_once labels are.rising i (before + number) label also label_is) in
     let same : site_label labels sides k ≡ label = site_at labels sides k at.index at.side at.there at.site at.alone ∙ drop_index labels before number in
-    ap (targets_for lines kind First) same ∙ served_by lines kind label (class_line gates label (tag at.side.sort class)) given at.sort
+    let which = word_read (jump_word version) kind in
+    ap (targets_for lines kind which) same
+    ∙ served_by lines kind which label (class_line gates label (tag at.side.sort class)) given
+    (sort_serves version at.index at.side.sort kind (sort_get version sides are.sorts at.index at.side at.there) at.sort)

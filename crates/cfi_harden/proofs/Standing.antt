@@ -81,7 +81,7 @@ module _ (m : Choice) (ok : IsAccepted m) where
   size_right k item get =
       let below : k < count m.layout.program = slice_get_within m.layout.program.items k item get in
       let of : is_right item.kind (instr_of m k) ≡ true = subst (λ (x : Item). is_right x.kind (instr_of m k) ≡ true) (item_is k item get) (right k below) in
-      unit_size item.kind (instr_of m k) (whole_at m.whole k) _ _ of
+      unit_size item.kind (instr_of m k) (whole_at m.whole k) _ _ _ of
 
   pub the_run : Run m 0 m.layout.profile.units_from m.layout.program.items
   the_run =

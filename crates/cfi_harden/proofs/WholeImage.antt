@@ -8,7 +8,6 @@ use Rattle.rv_word.specs.declared.form.Form.{Form}
 use Rattle.elf_image.specs.Spelling.{spelling}
 use Rattle.cfi_graph.specs.Graph.{GraphParts, IsGraph}
 use Rattle.cfi_graph.specs.Map.{MapParts}
-use Rattle.cfi_graph.specs.declared.map.MapLine.{MapLine}
 use Rattle.obj_program.specs.DataAtMap.{data_at, init_size}
 use Rattle.cfi_map.specs.GraphAtMap.{graph_lines}
 use Rattle.cfi_map.specs.LegalMap.{IsLegalMap, gates_of}
@@ -44,9 +43,9 @@ pub in_room : (m : Choice) → IsAccepted m → 4 * length (written_code m) ≤ 
 in_room m ok = ok.room
 
 pub is_graph : (m : Choice) (code : ℕ) → IsAccepted m → code ≡ 4 * length (written_code m) →
-    IsGraph (record { code = code; lines = graph_lines m.layout m.labels })
+    IsGraph (record { version = m.layout.closed.version; code = code; lines = graph_lines m.layout m.labels })
 is_graph m code ok same =
-    subst (λ (n : ℕ). IsGraph (record { code = n; lines = graph_lines m.layout m.labels })) (sym same) (written_graph m ok)
+    subst (λ (n : ℕ). IsGraph (record { version = m.layout.closed.version; code = n; lines = graph_lines m.layout m.labels })) (sym same) (written_graph m ok)
 
 pub image_size : (m : Choice) (code init : ℕ) → IsAccepted m → code ≡ 4 * length (written_code m) → 4 * length (written_code m) ≤ CODE_SIZE → init ≤ INIT_ROOM →
     IsImageSize code init
@@ -64,7 +63,7 @@ are_bytes version code init of_code of_init size = record { code = of_code; init
 pub written_as : (form : Form) (s : Spaced) (labels code init image : List ℕ) (graph : GraphParts) (map : MapParts) →
     IsWritable form s labels →
     code_words code ≡ written_code (chosen s labels) → data_at s.layout.program s.layout.gates ≡ Some init → image ≡ spelling (image_version form) code init →
-    graph ≡ record { code = length code; lines = graph_lines s.layout labels } → map ≡ record { form = form; lines = map_lines s.layout } →
+    graph ≡ record { version = s.layout.closed.version; code = length code; lines = graph_lines s.layout labels } → map ≡ record { form = form; lines = map_lines s.layout } →
     IsLegalMap s.layout.program s.layout.closed map → AreBytes (record { version = image_version form; code = code; init = init }) →
     IsWrittenAs form s labels (record { image = image; graph = graph; map = map })
 written_as form s labels code init image graph map able code_is init_is image_is graph_is map_is legal bytes =
@@ -85,13 +84,13 @@ written_as form s labels code init image graph map able code_is init_is image_is
         init_is = init_is;
         bytes = bytes;
         image = image_is;
-        graph = graph_is;
+        graph = graph_is ∙ ap (λ (v : ℕ). record { version = v; code = length code; lines = graph_lines s.layout labels }) able.version_is;
         map = legal;
         map_form = ap (λ (x : MapParts). x.form) map_is;
         gates = ap (λ (x : MapParts). gates_of x.lines) map_is ∙ gates_are m able.accepted;
         well_formed = subst (λ (p : Profile). IsWellFormed p (record { version = image_version form; code = code; init = init }) graph) able.form_is
             (written_well_formed m (record { version = image_version form; code = code; init = init }) graph able.accepted code_is
-            (ap (λ (g : GraphParts). g.lines) graph_is) (ap (λ (g : GraphParts). g.code) graph_is));
+            (ap (λ (g : GraphParts). g.version) graph_is) (ap (λ (g : GraphParts). g.lines) graph_is) (ap (λ (g : GraphParts). g.code) graph_is));
       },
     )
 

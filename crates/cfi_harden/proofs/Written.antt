@@ -1,13 +1,14 @@
 -- What is written: its lines are those of its units, it is a graph's and well formed with it, and its units stand in its words.
 use Rattle.std.proofs.Common.{◌≡◌, ℕ, suc, ◌+◌, ◌*◌, ◌%◌, ◌^◌, ◌<◌, ◌==◌, inl, inr, Bool, true, List, [], ◌∷◌, ◌++◌, length, map, Option, Some, None, refl, sym, ap, subst, ◌∙◌, arith}
-use Rattle.std.specs.Prelude.{◌&&◌, if◌then◌else◌, nat_le, nat_lt, slice_get, slice_index}
+use Rattle.std.specs.Prelude.{◌&&◌, ◌||◌, if◌then◌else◌, nat_le, nat_lt, slice_get, slice_index}
 use Rattle.std.specs.List.Sorted.{IsStrictlyIncreasing}
-use Rattle.std.proofs.lemmas.Bool.{and_from, cases_Bool, eq-eqb, le-leb, lt-ltb, or_left}
+use Rattle.std.proofs.lemmas.Bool.{and_from, cases_Bool, eq-eqb, le-leb, lt-ltb, or_left, or_right}
 use Rattle.std.proofs.lemmas.Option.{get_or_from_slice_get, slice_get_within}
 use Rattle.rv_word.specs.MemoryMap.{CODE_SIZE, CODE_START, START}
 use Rattle.obj_program.specs.declared.item.Item.{Item}
 use Rattle.obj_program.specs.Program.{count, item_of, no_item}
-use Rattle.cfi_graph.specs.Graph.{IsGraph, is_code_address, is_code_length, is_label}
+use Rattle.rv_word.specs.Image.{IsVersion}
+use Rattle.cfi_graph.specs.Graph.{IsGraph, is_code_address, is_code_length, is_label, is_sort_of}
 use Rattle.cfi_graph.specs.declared.line.GraphLine.{GraphLine}
 use Rattle.cfi_graph.specs.declared.line.GraphLine.TheVariants.{Call}
 use Rattle.cfi_flow.specs.Closed.{Side, is_target}
@@ -18,6 +19,8 @@ use Rattle.cfi_map.specs.Placement.{whole_at}
 use Rattle.cfi_unit.specs.declared.unit.Unit as U
 use Rattle.cfi_unit.specs.UnitWords.{word_count}
 use Rattle.cfi_rules.specs.Placed.{line_of, lines_from}
+use Rattle.cfi_rules.specs.Rules.{jump_word}
+use Rattle.cfi_rules.specs.Sound.{IsSound}
 use Rattle.cfi_rules.specs.Split.{unit_at, unit_in}
 use Rattle.cfi_rules.proofs.PlacedCode.{placed_entry, placed_units, placed_well_formed}
 use Rattle.cfi_rules.proofs.PlacedGraph.{placed_is_graph}
@@ -26,13 +29,17 @@ use Rattle.cfi_rules.proofs.UnitIn.{length-placed_code, lies}
 use Rattle.cfi_harden.specs.Accepted.{IsAccepted}
 use Rattle.cfi_harden.specs.Laws.{WrittenEntry, WrittenIsGraph, WrittenIsWellFormed, WrittenLines, WrittenUnits, written_classes, written_code}
 use Rattle.cfi_harden.specs.Units.{Choice, entry_gate, instr_of, lead, lead_unit, unit_for, units, units_from}
-use Rattle.cfi_harden.proofs.ClassLines.{lines_order, lines_range, lines_targets}
+use Rattle.cfi_harden.proofs.ClassLines.{lines_of_version, lines_order, lines_range, lines_targets}
 use Rattle.cfi_harden.proofs.Leading.{label_small, units_ahead, units_fit}
 use Rattle.cfi_harden.proofs.Runs.{Run, lead_bytes}
-use Rattle.cfi_harden.proofs.SideLabels.{in_classes, in_side}
+use Rattle.cfi_harden.proofs.SideLabels.{in_classes, in_side, sort_fits, sort_get}
 use Rattle.cfi_harden.proofs.SoundCode.{member_there, written_sound}
 use Rattle.cfi_harden.proofs.Standing.{gate_starts, gates_rise, laid, lead_there, right, the_run, unit_there}
 use Rattle.cfi_harden.proofs.UnitOf.{is_right, unit_line}
+
+known_version : (version : ℕ) → IsVersion version → (version == 1 || version == 2) ≡ true
+known_version version (inl one) = or_left (version == 1) (version == 2) (eq-eqb version 1 one)
+known_version version (inr two) = or_right (version == 1) (version == 2) (eq-eqb version 2 two)
 
 -- a word before a unit has no line
 lines_led : (os : List (Option ℕ)) (us : List U.Unit) (at : ℕ) → lines_from at (map lead_unit os ++ us) ≡ lines_from (at + 4 * length (map lead_unit os)) us
@@ -70,7 +77,8 @@ run_lines m k at (item ∷ items) run right =
     let here : is_right item.kind (instr_of m k) ≡ true = ap (λ n. is_right item.kind (instr_of m n)) (sym first) ∙ right 0 item refl in
     let line : line_of (at + lead_bytes m k) (unit_for m k item) ≡ line_for m.layout m.labels k item =
     ap (λ a. line_of a (unit_for m k item)) (sym run.1)
-    ∙ unit_line item.kind (instr_of m k) (whole_at m.whole k) (word m.layout k) (gate_to m.layout item.target) (site_label m.labels m.layout.closed.sides k) here in
+    ∙ unit_line item.kind (instr_of m k) (whole_at m.whole k) (word m.layout k) (gate_to m.layout item.target) (jump_word m.layout.closed.version)
+    (site_label m.labels m.layout.closed.sides k) here in
     let rest = run_lines m (k + 1) (at + lead_bytes m k + 4 * word_count (unit_for m k item)) items run.2
     (λ i one get. ap (λ n. is_right one.kind (instr_of m n)) (next i) ∙ right (suc i) one get) in
     lines_behind m k at (unit_for m k item ∷ units_from m (k + 1) items) ∙ rw (line, rest) refl
@@ -133,8 +141,17 @@ module _ (m : Choice) (ok : IsAccepted m) where
   class_rises : (j : ℕ) (t : Tagged) → slice_get (tagged m.layout.closed.sides) j ≡ Some t → IsStrictlyIncreasing t.class
   class_rises j t get = let of = in_side m.layout.closed.sides j t get in all_rise of.side of.index of.number t.class of.there of.class_is
 
-  class_graph : IsGraph (record { code = size; lines = written_classes m })
+  -- each class is of a sort of the version
+  sorts_right : (j : ℕ) (t : Tagged) → slice_get (tagged m.layout.closed.sides) j ≡ Some t → is_sort_of m.layout.closed.version t.sort ≡ true
+  sorts_right j t get =
+      let of = in_side m.layout.closed.sides j t get in
+      ap (is_sort_of m.layout.closed.version) (sym of.sort_is)
+      ∙ sort_fits m.layout.closed.version ok.version of.index of.side.sort (sort_get m.layout.closed.version m.layout.closed.sides ok.sorts of.index of.side of.there)
+
+  class_graph : IsGraph (record { version = m.layout.closed.version; code = size; lines = written_classes m })
   class_graph = record {
+    version = known_version m.layout.closed.version ok.version;
+    sorts = lines_of_version m.layout.closed.version m.layout.gates m.labels (tagged m.layout.closed.sides) sorts_right;
     length = length_right;
     range = lines_range size m.layout.gates m.labels (tagged m.layout.closed.sides) label_right gate_right;
     targets =
@@ -143,10 +160,10 @@ module _ (m : Choice) (ok : IsAccepted m) where
     order = lines_order m.layout.gates m.labels (tagged m.layout.closed.sides) ok.labels_rise;
   }
 
-  graph_is : IsGraph (record { code = size; lines = graph_lines m.layout m.labels })
+  graph_is : IsGraph (record { version = m.layout.closed.version; code = size; lines = graph_lines m.layout m.labels })
   graph_is =
-      subst (λ (lines : List GraphLine). IsGraph (record { code = size; lines = lines })) (sym lines_are)
-      (placed_is_graph m.layout.profile (entry_gate m) (units m) (written_classes m) ok.profile (written_sound m ok) class_graph)
+      subst (λ (lines : List GraphLine). IsGraph (record { version = m.layout.closed.version; code = size; lines = lines })) (sym lines_are)
+      (placed_is_graph m.layout.profile m.layout.closed.version (entry_gate m) (units m) (written_classes m) ok.profile (written_sound m ok) class_graph)
 
   units_at : (a : ℕ) → unit_at m.layout.profile (written_code m) a ≡ unit_in (units m) m.layout.profile.units_from a
   units_at = placed_units m.layout.profile (entry_gate m) (units m) ok.profile (units_fit m ok) (units_ahead m ok)
@@ -158,8 +175,9 @@ pub written_graph : WrittenIsGraph
 written_graph = graph_is
 
 pub written_well_formed : WrittenIsWellFormed
-written_well_formed m image graph ok words lines same_length =
-    placed_well_formed m.layout.profile (entry_gate m) (units m) (written_classes m) image graph ok.profile (written_sound m ok) words (lines ∙ lines_are m ok) same_length
+written_well_formed m image graph ok words version lines same_length =
+    placed_well_formed m.layout.profile (entry_gate m) (units m) (written_classes m) image graph ok.profile
+    (subst (λ (v : ℕ). IsSound m.layout.profile v (entry_gate m) (units m) (written_classes m)) (sym version) (written_sound m ok)) words (lines ∙ lines_are m ok) same_length
 
 pub written_units : WrittenUnits
 written_units m ok k below =

@@ -1,5 +1,5 @@
 -- Worked programs as they are written, computed: a return alone, a branch over an instruction, which is written short, one over a jump,
--- which is kept long, and a call through a pointer; the first two also as images for several harts. Their words, gates, lengths and lines are worked out by hand from the formats of
+-- which is kept long, a call through a pointer, and a jump and a call to one function; the first two also as images for several harts. Their words, gates, lengths and lines are worked out by hand from the formats of
 -- instructions and the sizes of units.
 use Rattle.std.proofs.Common.{◌≡◌, ℕ, true, false, List, [], ◌∷◌, ◌++◌, Some, None, length, take, drop, pos, refl}
 use Rattle.std.specs.Prelude.{Option, slice_get}
@@ -14,9 +14,10 @@ use Rattle.obj_program.specs.declared.item.Patch.TheVariants as put
 use Rattle.obj_program.specs.declared.item.Value.TheVariants.{Number}
 use Rattle.obj_program.specs.AtMap.{instr_at}
 use Rattle.obj_program.specs.Program.{Program}
-use Rattle.cfi_graph.specs.declared.line.GraphLine.TheVariants.{Call, Class, Edge, Site}
+use Rattle.cfi_graph.specs.declared.line.GraphLine.TheVariants.{Call, CallClass, Class, Edge, JumpClass, Site}
 use Rattle.cfi_graph.specs.declared.line.SiteKind.TheVariants as site
-use Rattle.cfi_graph.specs.declared.line.Sort.TheVariants.{Both}
+use Rattle.cfi_graph.specs.declared.line.Sort.TheVariants.{Both, Calls, Jumps}
+use Rattle.cfi_flow.specs.Closed.{Side}
 use Rattle.cfi_map.specs.GraphAtMap.{ProgramAtMap, class_lines, graph_lines, place_lines}
 use Rattle.cfi_map.specs.LabelOf.{empty_classes, label_at, labels_of, site_label, site_number, tagged}
 use Rattle.cfi_map.specs.Placement.{AreGates, words_from}
@@ -44,7 +45,7 @@ abbrev layout : Profile → Program → List ℕ → ProgramAtMap
 layout profile program gates = record {
   profile = profile;
   program = program;
-  closed = record { sides = record { sort = Both; classes = []; sites = [] } ∷ []; taken = false ∷ false ∷ false ∷ false ∷ [] };
+  closed = record { version = 1; sides = record { sort = Both; classes = []; sites = [] } ∷ []; taken = false ∷ false ∷ false ∷ false ∷ [] };
   gates = gates;
   entry = 0;
 }
@@ -150,7 +151,7 @@ pointer = record {
       funcs = [];
       names = [];
     };
-    closed = record { sides = record { sort = Both; classes = (8 ∷ 10 ∷ []) ∷ []; sites = record { place = 4; class = Some 0 } ∷ [] } ∷ []; taken = [] };
+    closed = record { version = 1; sides = record { sort = Both; classes = (8 ∷ 10 ∷ []) ∷ []; sites = record { place = 4; class = Some 0 } ∷ [] } ∷ []; taken = [] };
     gates = 0x40000040 ∷ 0x40000044 ∷ 0x40000054 ∷ 0x40000058 ∷ 0x4000005c ∷ 0x400000ac ∷ 0x400000b0 ∷ 0x400000b4 ∷ 0x400000c8 ∷ 0x400000d0 ∷ 0x400000e4 ∷ 0x400000ec ∷ 0x40000100 ∷ [];
     entry = 0;
   };
@@ -170,3 +171,63 @@ pointer_rows : (length (written_code pointer) ≡ 65)
     ≡ Class 1 (0x400000c8 ∷ 0x400000e4 ∷ []) ∷ Call 0x4000000c 0x40000040 ∷ Site 0x4000005c site.Call 1 ∷ [])
 unfolding units_from code_from words_of code_of instr_at decoded words_from labels_of label_at site_label site_number tagged class_lines place_lines empty_classes
 pointer_rows = (refl, refl, refl, refl, refl)
+
+-- a function jumps through a pointer to either of two others, and a fourth one calls the second of these: calls and jumps have labels of
+-- their own, and two words stand before what either reaches
+jumping : ProgramAtMap
+jumping = record {
+  profile = version_1;
+  program = record {
+    items =
+        with_patch (place 0 is.Plain 0x000002b7 None) (put.High (Number (pos 0x10000))) ∷ with_patch (place 4 is.Plain 0x0002b283 None) (put.Low (Number (pos 0x10000)))
+        ∷ place 8 is.Ijump 0x00028067 None ∷ place 12 is.Plain 0x00100513 None ∷ place 16 is.Return 0x00008067 None ∷ place 20 is.Plain 0x00200513 None
+        ∷ place 24 is.Return 0x00008067 None ∷ place 28 is.Icall 0x000280e7 None ∷ place 32 is.Return 0x00008067 None ∷ place 36 is.End 0 None ∷ [];
+    init = [];
+    relocations = [];
+    data_end = 0x10010;
+    funcs = [];
+    names = [];
+  };
+  closed = record {
+    version = 2;
+    sides =
+        record { sort = Calls; classes = (5 ∷ []) ∷ []; sites = record { place = 7; class = Some 0 } ∷ [] }
+        ∷ record { sort = Jumps; classes = (3 ∷ 5 ∷ []) ∷ []; sites = record { place = 2; class = Some 0 } ∷ [] }
+        ∷ [];
+    taken = [];
+  };
+  gates = 0x40000040 ∷ 0x40000044 ∷ 0x40000048 ∷ 0x4000007c ∷ 0x40000088 ∷ 0x4000009c ∷ 0x400000a8 ∷ 0x400000bc ∷ 0x4000010c ∷ 0x40000120 ∷ [];
+  entry = 0;
+}
+
+abbrev both_ways : Choice
+both_ways = record { layout = jumping; whole = []; labels = 1 ∷ 2 ∷ [] }
+
+both_ways_gates : AreGates jumping.closed.sides [] 0 UNITS_START jumping.program.items jumping.gates
+unfolding AreGates jumping
+both_ways_gates = (refl, (refl, (refl, (refl, (refl, (refl, (refl, (refl, (refl, (refl, tt))))))))))
+
+-- the words before the two functions, that which the jump's check loads, the two labels that are compared with, and the lines
+both_ways_rows : (length (written_code both_ways) ≡ 73) × (take 2 (drop 31 (written_code both_ways)) ≡ 0x00000013 ∷ 0x00002037 ∷ [])
+    × (take 2 (drop 39 (written_code both_ways)) ≡ 0x00001037 ∷ 0x00002037 ∷ []) × (slice_get (written_code both_ways) 25 ≡ Some 0x004faf03)
+    × (slice_get (written_code both_ways) 26 ≡ Some 0x00002237) × (slice_get (written_code both_ways) 54 ≡ Some 0x000faf03)
+    × (slice_get (written_code both_ways) 55 ≡ Some 0x00001237)
+    × (graph_lines both_ways.layout both_ways.labels
+    ≡ CallClass 1 (0x4000009c ∷ []) ∷ JumpClass 2 (0x4000007c ∷ 0x4000009c ∷ []) ∷ Call 0x4000000c 0x40000040 ∷ Site 0x40000048 site.Jump 2
+    ∷ Site 0x400000bc site.Call 1 ∷ [])
+unfolding jumping units_from code_from words_of code_of instr_at decoded words_from labels_of label_at site_label site_number tagged class_lines place_lines empty_classes
+both_ways_rows = (refl, refl, refl, refl, refl, refl, refl, refl)
+
+-- labels go to the classes of calls, calls without targets, the classes of jumps and jumps without targets, in this order
+abbrev with_empty : List Side
+with_empty =
+    record { sort = Calls; classes = (9 ∷ []) ∷ []; sites = record { place = 1; class = None } ∷ record { place = 4; class = Some 0 } ∷ [] }
+    ∷ record { sort = Jumps; classes = (9 ∷ []) ∷ []; sites = record { place = 2; class = Some 0 } ∷ record { place = 3; class = None } ∷ [] }
+    ∷ []
+
+order_of_labels : (site_label (1 ∷ 2 ∷ 3 ∷ 4 ∷ []) with_empty 4 ≡ 1) × (site_label (1 ∷ 2 ∷ 3 ∷ 4 ∷ []) with_empty 1 ≡ 2)
+    × (site_label (1 ∷ 2 ∷ 3 ∷ 4 ∷ []) with_empty 2 ≡ 3) × (site_label (1 ∷ 2 ∷ 3 ∷ 4 ∷ []) with_empty 3 ≡ 4)
+    × (labels_of (1 ∷ 2 ∷ 3 ∷ 4 ∷ []) with_empty 9 ≡ Some 1 ∷ Some 3 ∷ [])
+    × (class_lines [] (1 ∷ 2 ∷ 3 ∷ 4 ∷ []) (tagged with_empty) ≡ CallClass 1 (0 ∷ []) ∷ CallClass 2 [] ∷ JumpClass 3 (0 ∷ []) ∷ JumpClass 4 [] ∷ [])
+unfolding labels_of label_at site_label site_number tagged class_lines empty_classes
+order_of_labels = (refl, refl, refl, refl, refl, refl)

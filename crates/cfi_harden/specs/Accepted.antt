@@ -3,6 +3,7 @@
 use Rattle.std.specs.Prelude.{◌≡◌, ℕ, ◌+◌, ◌*◌, ◌^◌, ◌≤◌, ◌<◌, true, false, List, Some, is_some, length, map, slice_get}
 use Rattle.std.specs.List.{All}
 use Rattle.std.specs.List.Sorted.{IsStrictlyIncreasing}
+use Rattle.rv_word.specs.Image.{IsVersion}
 use Rattle.rv_word.specs.MemoryMap.{CODE_SIZE, IsProfile}
 use Rattle.obj_program.specs.AtMap.{instr_at}
 use Rattle.obj_program.specs.Program.{count, is_end, item_of}
@@ -10,8 +11,8 @@ use Rattle.obj_program.specs.Sound.{IsSound}
 use Rattle.cfi_class.specs.Labels.{AreLabels}
 use Rattle.cfi_class.specs.Classes.{IsIn}
 use Rattle.cfi_graph.specs.declared.line.SiteKind.{SiteKind}
-use Rattle.cfi_flow.specs.declared.closed.Site.{Site}
-use Rattle.cfi_flow.specs.Closed.{Side, has_site, is_of, sorts_of_sides}
+use Rattle.cfi_flow.specs.declared.side.Site.{Site}
+use Rattle.cfi_flow.specs.Closed.{Side, has_site, is_of, sorts_of}
 use Rattle.cfi_map.specs.GraphAtMap.{words_at}
 use Rattle.cfi_map.specs.LabelOf.{tagged}
 use Rattle.cfi_flow.specs.Labels.{used_labels}
@@ -44,9 +45,10 @@ pub record IsAccepted (m : Choice) : Type 0 where
   pub room : 4 * length (placed_code m.layout.profile (entry_gate m) (units m)) ≤ CODE_SIZE
   pub values : (k : ℕ) → k < count m.layout.program → is_end (item_of m.layout.program k).kind ≡ false →
       is_some (instr_at m.layout.program m.layout.gates (words_at m.layout) k) ≡ true
-  -- its closed graph has the sides that one has; of each the members of classes are places, rise, and are in one class alone, and
+  -- its closed graph is for a version of graphs, and has the sides of that; of each the members of classes are places, rise, and are in one class alone, and
   -- the classes of sites are there; each computed transfer is a site of one side, of its sort
-  pub sorts : map (λ (s : Side). s.sort) m.layout.closed.sides ≡ sorts_of_sides
+  pub version : IsVersion m.layout.closed.version
+  pub sorts : map (λ (s : Side). s.sort) m.layout.closed.sides ≡ sorts_of m.layout.closed.version
   pub members : (j c k : ℕ) (side : Side) → slice_get m.layout.closed.sides j ≡ Some side → IsIn side.classes c k → k < count m.layout.program
   pub rising : (j : ℕ) (side : Side) → slice_get m.layout.closed.sides j ≡ Some side → All IsStrictlyIncreasing side.classes
   pub apart : (j a b k : ℕ) (side : Side) → slice_get m.layout.closed.sides j ≡ Some side → IsIn side.classes a k → IsIn side.classes b k → a ≡ b

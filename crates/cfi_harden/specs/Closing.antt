@@ -1,4 +1,4 @@
--- What a program and a policy come to: a closed graph, or a wrong line of the policy.
+-- What a program and a policy come to: a closed graph for a version of graphs, or a wrong line of the policy.
 use Rattle.std.specs.Prelude.{ℕ, List, Option, Some, None, Result, Ok, Err}
 use Rattle.text_lines.specs.declared.end.TextEnd.{TextEnd}
 use Rattle.text_lines.specs.declared.end.TextEnd.TheVariants.{Line}
@@ -9,11 +9,11 @@ use Rattle.cfi_harden.specs.declared.refusal.HardenEnd.TheVariants.{Refused, NoM
 use Rattle.cfi_harden.specs.declared.refusal.Refusal.TheVariants.{Policy}
 use Rattle.cfi_harden.specs.Prepared.{IsClosedUnder, IsWrongPolicy}
 
-abbrev pub Closes : Program → Option (List ℕ) → Result ClosedGraph HardenEnd → Type 0
-Closes program policy (Ok closed) = IsClosedUnder program policy closed
-Closes program policy (Err (Refused (Policy n))) = IsWrongPolicy program policy n
-Closes program policy (Err NoMemory) = Unit {0}
-Closes program policy (Err other) = ⊥
+abbrev pub Closes : ℕ → Program → Option (List ℕ) → Result ClosedGraph HardenEnd → Type 0
+Closes version program policy (Ok closed) = IsClosedUnder version program policy closed
+Closes version program policy (Err (Refused (Policy n))) = IsWrongPolicy program policy n
+Closes version program policy (Err NoMemory) = Unit {0}
+Closes version program policy (Err other) = ⊥
 
 -- the line at which a text fails
 abbrev pub failed_line : Result (Unit {0}) TextEnd → Option ℕ

@@ -6,6 +6,6 @@ use Rattle.cfi_flow.specs.Closed.{ClosedGraph, IsClosed}
 use Rattle.cfi_flow.specs.Policy.{IsRaw}
 use Rattle.cfi_flow.specs.Raw.{RawGraph}
 
--- a closed graph of a program under some policy
+-- a closed graph of a program under some policy, for the version that it is for
 abbrev pub IsGraphOf : Program → ClosedGraph → Type 0
-IsGraphOf program closed = (lines : List PolicyLine) × (raw : RawGraph) × IsRaw program lines raw × IsClosed raw closed
+IsGraphOf program closed = (lines : List PolicyLine) × (raw : RawGraph) × IsRaw program lines raw × IsClosed closed.version raw closed

@@ -2,7 +2,7 @@
 use Rattle.std.specs.Prelude.{◌≡◌, ℕ, ◌<◌, ◌≤◌, ◌^◌, List, length, Some, None}
 use Rattle.std.specs.List.{All}
 use Rattle.std.specs.List.Sorted.{IsStrictlyIncreasing}
-use Rattle.rv_word.specs.Form.{image_version, profile_for}
+use Rattle.rv_word.specs.Form.{graph_version, image_version, profile_for}
 use Rattle.rv_word.specs.declared.form.Form.{Form}
 use Rattle.elf_image.specs.Spelling.{spelling}
 use Rattle.cfi_graph.specs.Graph.{GraphParts}
@@ -67,7 +67,7 @@ pub record IsWritten (form : Form) (s : Spaced) (labels code init : List ℕ) (h
   pub init_is : data_at s.layout.program s.layout.gates ≡ Some init
   pub bytes : AreBytes (record { version = image_version form; code = code; init = init })
   pub image : h.image ≡ spelling (image_version form) code init
-  pub graph : h.graph ≡ record { code = length code; lines = graph_lines s.layout labels }
+  pub graph : h.graph ≡ record { version = graph_version form; code = length code; lines = graph_lines s.layout labels }
   pub map : IsLegalMap s.layout.program s.layout.closed h.map
   pub map_form : h.map.form ≡ form
   pub gates : gates_of h.map.lines ≡ s.layout.gates

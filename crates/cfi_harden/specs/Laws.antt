@@ -23,7 +23,7 @@ written_classes m = class_lines m.layout.gates m.labels (tagged m.layout.closed.
 
 -- units and classes are sound
 abbrev pub WrittenIsSound : Type 0
-WrittenIsSound = (m : Choice) → IsAccepted m → IsSound m.layout.profile (entry_gate m) (units m) (written_classes m)
+WrittenIsSound = (m : Choice) → IsAccepted m → IsSound m.layout.profile m.layout.closed.version (entry_gate m) (units m) (written_classes m)
 
 -- the lines of the graph at the map are those of the units with those of the classes
 abbrev pub WrittenLines : Type 0
@@ -33,13 +33,13 @@ WrittenLines =
 -- they are a graph's, of a code of this length
 abbrev pub WrittenIsGraph : Type 0
 WrittenIsGraph =
-    (m : Choice) → IsAccepted m → IsGraph (record { code = 4 * length (written_code m); lines = graph_lines m.layout m.labels })
+    (m : Choice) → IsAccepted m → IsGraph (record { version = m.layout.closed.version; code = 4 * length (written_code m); lines = graph_lines m.layout m.labels })
 
 -- an image with this code and that graph meet the rules
 abbrev pub WrittenIsWellFormed : Type 0
 WrittenIsWellFormed =
     (m : Choice) (image : Contents) (graph : GraphParts) → IsAccepted m → code_words image.code ≡ written_code m →
-    graph.lines ≡ graph_lines m.layout m.labels → graph.code ≡ length image.code → IsWellFormed m.layout.profile image graph
+    graph.version ≡ m.layout.closed.version → graph.lines ≡ graph_lines m.layout m.labels → graph.code ≡ length image.code → IsWellFormed m.layout.profile image graph
 
 -- at the word of each place stands its unit, and from its gate on the words before that
 abbrev pub WrittenUnits : Type 0

@@ -2,6 +2,7 @@
 -- what stands against that: of an object a fault, or one of its instructions and relocations; an entry that is not there; a wrong line
 -- of the policy.
 use Rattle.std.specs.Prelude.{◌≡◌, ℕ, ◌⊎◌, List, Option, Some, None, Result, Ok, Err}
+use Rattle.rv_word.specs.Form.{graph_version}
 use Rattle.rv_word.specs.declared.form.Form.{Form}
 use Rattle.text_lines.specs.declared.end.TextEnd.{TextEnd}
 use Rattle.text_lines.specs.declared.end.TextEnd.TheVariants.{Line}
@@ -15,10 +16,10 @@ use Rattle.cfi_flow.specs.Policy.{IsRaw, wrong_line}
 use Rattle.cfi_flow.specs.Raw.{RawGraph}
 use Rattle.cfi_harden.specs.Request.{ProgramRequest, Request, policy_reading, program_request}
 
--- the closed graph of a program under a policy that has no wrong line
-pub record IsClosedUnder (program : Program) (policy : Option (List ℕ)) (closed : ClosedGraph) : Type 0 where
+-- the closed graph of a program, for a version of graphs, under a policy that has no wrong line
+pub record IsClosedUnder (version : ℕ) (program : Program) (policy : Option (List ℕ)) (closed : ClosedGraph) : Type 0 where
   pub whole : (policy_reading policy).end ≡ Ok tt
-  pub drawn : (raw : RawGraph) × IsRaw program (policy_reading policy).items raw × IsClosed raw closed
+  pub drawn : (raw : RawGraph) × IsRaw program (policy_reading policy).items raw × IsClosed version raw closed
 
 pub record PreparedParts : Type 0 where
   pub form : Form
@@ -30,7 +31,7 @@ pub record IsPreparedOf (request : ProgramRequest) (p : PreparedParts) : Type 0 
   pub form : p.form ≡ request.form
   pub program : p.program ≡ request.program
   pub entry : entry_place p.program request.entry ≡ Some p.entry
-  pub closed : IsClosedUnder p.program request.policy p.closed
+  pub closed : IsClosedUnder (graph_version p.form) p.program request.policy p.closed
 
 -- what some request comes to
 abbrev pub IsOfRequest : PreparedParts → Type 0

@@ -20,10 +20,10 @@ Reads object (Err (Refused (Items fault))) = (object_fault object ≡ None) × (
 Reads object (Err NoMemory) = Unit {0}
 Reads object (Err other) = ⊥
 
--- where a program is entered, with its closed graph. Only a private contract cites this
-abbrev pub Enters : Program → List ℕ → Option (List ℕ) → Result (ℕ × ClosedGraph) HardenEnd → Type 0
-Enters program entry policy (Ok (at, closed)) = (entry_place program entry ≡ Some at) × IsClosedUnder program policy closed
-Enters program entry policy (Err (Refused NoEntry)) = entry_place program entry ≡ None
-Enters program entry policy (Err (Refused (Policy n))) = IsSome (entry_place program entry) × IsWrongPolicy program policy n
-Enters program entry policy (Err NoMemory) = Unit {0}
-Enters program entry policy (Err other) = ⊥
+-- where a program is entered, with its closed graph for a version of graphs. Only a private contract cites this
+abbrev pub Enters : ℕ → Program → List ℕ → Option (List ℕ) → Result (ℕ × ClosedGraph) HardenEnd → Type 0
+Enters version program entry policy (Ok (at, closed)) = (entry_place program entry ≡ Some at) × IsClosedUnder version program policy closed
+Enters version program entry policy (Err (Refused NoEntry)) = entry_place program entry ≡ None
+Enters version program entry policy (Err (Refused (Policy n))) = IsSome (entry_place program entry) × IsWrongPolicy program policy n
+Enters version program entry policy (Err NoMemory) = Unit {0}
+Enters version program entry policy (Err other) = ⊥

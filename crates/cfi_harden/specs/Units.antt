@@ -14,9 +14,11 @@ use Rattle.cfi_map.specs.LabelOf.{labels_of, site_label}
 use Rattle.cfi_map.specs.Placement.{whole_at}
 use Rattle.cfi_map.specs.Source.{instr_here}
 use Rattle.cfi_flow.specs.Closed.{is_target}
+use Rattle.cfi_unit.specs.declared.target_word.TargetWord.{TargetWord}
 use Rattle.cfi_unit.specs.declared.unit.Unit as U
 use Rattle.cfi_unit.specs.declared.unit.Unit.TheVariants as V
 use Rattle.cfi_unit.specs.declared.unit.SystemOp.TheVariants as S
+use Rattle.cfi_rules.specs.Rules.{jump_word}
 
 -- a program at a map with what is chosen for it: which units have their whole size, and the labels of all classes
 pub record Choice : Type 0 where
@@ -42,25 +44,27 @@ abbrev pub branch_of : Bool → BranchOp → ℕ → ℕ → ℕ → U.Unit
 branch_of true op rs1 rs2 target = V.Branch (inverse op) rs1 rs2 target
 branch_of false op rs1 rs2 target = V.Near op rs1 rs2 target
 
--- the unit of an instruction of a kind, with its target's gate and its class's label
-abbrev pub unit_of : ItemKind → Instr → Bool → ℕ → ℕ → U.Unit
-unit_of is.Gate (I.Upper op rd imm) whole target label = V.Gate imm
-unit_of is.Plain instr whole target label = V.Plain instr
-unit_of is.Store (I.Store op rs1 rs2 imm) whole target label = V.Store op rs1 rs2 imm
-unit_of is.System I.Ecall whole target label = V.System S.Ecall
-unit_of is.System I.Ebreak whole target label = V.System S.Ebreak
-unit_of is.Branch (I.Branch op rs1 rs2 imm) whole target label = branch_of whole op rs1 rs2 target
-unit_of is.Jump instr whole target label = V.Jump target
-unit_of is.Call instr whole target label = V.Call target
-unit_of is.Return instr whole target label = V.Return
-unit_of is.Ijump (I.Jalr rd rs1 imm) whole target label = V.Ijump rs1 imm label
-unit_of is.Icall (I.Jalr rd rs1 imm) whole target label = V.Icall rs1 imm label
-unit_of kind instr whole target label = V.Stop
+-- the unit of an instruction of a kind, with its target's gate, and, of a computed transfer, its class's label and the word that a jump's
+-- check reads
+abbrev pub unit_of : ItemKind → Instr → Bool → ℕ → TargetWord → ℕ → U.Unit
+unit_of is.Gate (I.Upper op rd imm) whole target which label = V.Gate imm
+unit_of is.Plain instr whole target which label = V.Plain instr
+unit_of is.Store (I.Store op rs1 rs2 imm) whole target which label = V.Store op rs1 rs2 imm
+unit_of is.System I.Ecall whole target which label = V.System S.Ecall
+unit_of is.System I.Ebreak whole target which label = V.System S.Ebreak
+unit_of is.Branch (I.Branch op rs1 rs2 imm) whole target which label = branch_of whole op rs1 rs2 target
+unit_of is.Jump instr whole target which label = V.Jump target
+unit_of is.Call instr whole target which label = V.Call target
+unit_of is.Return instr whole target which label = V.Return
+unit_of is.Ijump (I.Jalr rd rs1 imm) whole target which label = V.Ijump which rs1 imm label
+unit_of is.Icall (I.Jalr rd rs1 imm) whole target which label = V.Icall rs1 imm label
+unit_of kind instr whole target which label = V.Stop
 
 -- the unit of a place
 abbrev pub unit_for : Choice → ℕ → Item → U.Unit
 unit_for m k item =
-    unit_of item.kind (instr_of m k) (whole_at m.whole k) (gate_to m.layout item.target) (site_label m.labels m.layout.closed.sides k)
+    unit_of item.kind (instr_of m k) (whole_at m.whole k) (gate_to m.layout item.target) (jump_word m.layout.closed.version)
+    (site_label m.labels m.layout.closed.sides k)
 
 -- a word before a place's unit: a gate word with the label of the class whose target it is, or what does nothing
 abbrev pub lead_unit : Option ℕ → U.Unit

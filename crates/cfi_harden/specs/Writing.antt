@@ -2,7 +2,7 @@
 use Rattle.std.specs.Prelude.{◌≡◌, ℕ, ◌*◌, ◌<◌, ◌≤◌, ◌^◌, true, List, Some, is_some, length}
 use Rattle.elf_image.specs.Spelling.{spelling}
 use Rattle.cfi_graph.specs.Graph.{GraphParts}
-use Rattle.rv_word.specs.Form.{image_version, profile_for}
+use Rattle.rv_word.specs.Form.{graph_version, image_version, profile_for}
 use Rattle.rv_word.specs.declared.form.Form.{Form}
 use Rattle.cfi_graph.specs.Map.{IsMap, MapParts}
 use Rattle.obj_program.specs.DataAtMap.{data_at, init_size}
@@ -28,11 +28,13 @@ pub record IsReady (p : PreparedParts) : Type 0 where
   pub words : (k : ℕ) → k < count p.program → (item_of p.program k).word < 2 ^ 32
   pub fits_maps : FitsMaps p.program
   pub graph : IsGraphOf p.program p.closed
+  pub version : p.closed.version ≡ graph_version p.form
   pub entered : p.entry < count p.program
 
 -- what can be written
 pub record IsWritable (form : Form) (s : Spaced) (labels : List ℕ) : Type 0 where
   pub form_is : s.layout.profile ≡ profile_for form
+  pub version_is : s.layout.closed.version ≡ graph_version form
   pub accepted : IsAccepted (chosen s labels)
   pub fits_maps : FitsMaps s.layout.program
   pub fits : IsMap (record { form = form; lines = map_lines s.layout })
@@ -43,7 +45,7 @@ pub record IsWritable (form : Form) (s : Spaced) (labels : List ℕ) : Type 0 wh
 pub record IsCoded (m : Choice) (code : List ℕ) (graph : GraphParts) : Type 0 where
   pub words : code_words code ≡ written_code m
   pub size : length code ≡ 4 * length (written_code m)
-  pub graph_is : graph ≡ record { code = length code; lines = graph_lines m.layout m.labels }
+  pub graph_is : graph ≡ record { version = m.layout.closed.version; code = length code; lines = graph_lines m.layout m.labels }
 
 -- the same with its map, which is legal
 pub record IsDescribed (form : Form) (m : Choice) (code : List ℕ) (graph : GraphParts) (map : MapParts) : Type 0 where

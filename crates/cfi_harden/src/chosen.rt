@@ -1,17 +1,19 @@
 //! What is chosen for a program before it is written: a map, flags, labels and an entry.
 
-ghost use Rattle.std.specs.Prelude.{◌≡◌, ◌<◌, ◌^◌, IfOk, IfSome, length};
+ghost use Rattle.std.specs.Prelude.{◌≡◌, ◌<◌, ◌≤◌, ◌^◌, IfOk, IfSome, Some, drop, length, slice_get};
+ghost use Rattle.std.specs.List.{All};
 ghost use Rattle.rv_word.specs.Form.{profile_for};
 ghost use Rattle.obj_program.specs.Program.{count, item_of};
-ghost use Rattle.cfi_flow.specs.Closed.{first_side};
+ghost use Rattle.cfi_flow.specs.Closed as closed;
 ghost use Rattle.cfi_map.specs.GraphAtMap.{gate, gate_to, word};
-ghost use Rattle.cfi_map.specs.LabelOf.{label_at, site_label, tagged};
+ghost use Rattle.cfi_map.specs.LabelOf.{class_count, labels_of, site_label, tagged};
 ghost use Rattle.cfi_map.specs.Placement.{whole_at};
 ghost use Rattle.cfi_harden.specs.Accepted.{IsAccepted};
-ghost use Rattle.cfi_harden.specs.Chosen.{instr_if};
+ghost use Rattle.cfi_harden.specs.Chosen.{AreStarts, instr_if, labels_before};
 ghost use Rattle.cfi_harden.specs.Hardened.{chosen};
 
-use crate::labels::{label_at, label_or_zero, site_labels};
+use crate::labels::{label_at, label_or_zero, labels_from, site_labels};
+use crate::numbering::label_starts;
 use cfi_flow::Closed;
 use cfi_map::{Mapped, Spacing};
 use obj_input::ItemKind;
@@ -21,12 +23,14 @@ use rv_word::{Form, NoMemory};
 use std::alloc::Global;
 use std::marker::Model;
 
-/// A program at a placement with the labels of its classes, and of each place the label that its site asks for.
+/// A program at a placement with the labels of its classes, of each side where its labels begin, and of each place the
+/// label that its site asks for.
 #[derive(Drop)]
 pub struct Chosen<'c, 'a, 'b> {
     mapped: &'c Mapped<'a, 'b>,
     whole: &'c [bool],
     labels: &'c [u32],
+    starts: Vec<u64>,
     sites: Vec<u32>,
 }
 
@@ -38,7 +42,7 @@ impl<'c, 'a, 'b> Model for Chosen<'c, 'a, 'b> {
 
     ghost view = { λ c. record { layout = c.mapped.now; whole = c.whole.now; labels = c.labels.now } };
 
-    ghost invariant = { λ c. IsChosen (record { layout = c.mapped.now; whole = c.whole.now; labels = c.labels.now }) c.sites.items };
+    ghost invariant = { λ c. IsChosen (record { layout = c.mapped.now; whole = c.whole.now; labels = c.labels.now }) c.starts.items c.sites.items };
 }
 
 impl<'c, 'a, 'b> Chosen<'c, 'a, 'b> {
@@ -53,11 +57,14 @@ impl<'c, 'a, 'b> Chosen<'c, 'a, 'b> {
     {
         let mapped = spacing.mapped();
         let whole = spacing.whole();
-        let sites = site_labels(alloc, mapped.closed(), labels)?;
+        let closed = mapped.closed();
+        let starts = label_starts(alloc, closed)?;
+        let sites = site_labels(alloc, closed, labels, starts.as_slice())?;
         Ok(Chosen {
             mapped,
             whole,
             labels,
+            starts,
             sites,
         })
     }
@@ -86,11 +93,39 @@ impl<'c, 'a, 'b> Chosen<'c, 'a, 'b> {
     }
 
     /// The labels of all classes, in their order.
-    pub(crate) fn labels(&self) -> &'c [u32]
+    fn labels(&self) -> &'c [u32]
         ensures value { result.now ≡ self.now.labels }
         ensures counted { length result.now ≡ length (tagged self.now.layout.closed.sides) }
+        ensures small { All (λ label. label < 2 ^ 20) result.now }
     {
         self.labels
+    }
+
+    /// Of each side the index of its first label, and then how many labels there are.
+    fn starts(&self) -> &[u64]
+        ensures { AreStarts self.now.layout.closed.sides result.now }
+    {
+        self.starts.as_slice()
+    }
+
+    /// The labels of the side with this index and of those after it.
+    pub(crate) fn labels_from(&self, j: usize) -> &[u32]
+        requires { j < length self.now.layout.closed.sides }
+        ensures value { result.now ≡ drop (labels_before self.now.layout.closed.sides j) self.now.labels }
+        ensures small { All (λ label. label < 2 ^ 20) result.now }
+        ensures enough { (side : closed.Side) → slice_get self.now.layout.closed.sides j ≡ Some side → class_count side ≤ length result.now }
+    {
+        let starts = self.starts();
+        labels_from(self.labels(), starts[j])
+    }
+
+    /// How many labels the side with this index has.
+    pub(crate) fn label_count(&self, j: usize) -> u64
+        requires { j < length self.now.layout.closed.sides }
+        ensures { (side : closed.Side) → slice_get self.now.layout.closed.sides j ≡ Some side → result ≡ class_count side }
+    {
+        let starts = self.starts();
+        starts[j + 1] - starts[j]
     }
 
     /// The place with this index.
@@ -139,12 +174,14 @@ impl<'c, 'a, 'b> Chosen<'c, 'a, 'b> {
         self.mapped.gate(self.mapped.entry())
     }
 
-    /// The label of the class that has a place, if one has it.
-    pub(crate) fn label_at(&self, k: u64) -> Option<u32>
-        ensures value { result ≡ label_at self.now.labels (first_side self.now.layout.closed).classes k }
+    /// The label of the class of the side with this index that has a place, if one has it.
+    pub(crate) fn label_at(&self, j: usize, k: u64) -> Option<u32>
+        requires { j < length self.now.layout.closed.sides }
+        ensures value { slice_get (labels_of self.now.labels self.now.layout.closed.sides k) j ≡ Some result }
         ensures small { IfSome result (λ label. label < 2 ^ 20) }
     {
-        label_at(self.mapped.closed(), self.labels, k)
+        let sides = self.closed().sides();
+        label_at(&sides[j], self.labels_from(j), k)
     }
 
     /// The label that the site at a place asks for; 0 where no site stands.

@@ -1,6 +1,7 @@
 //! A policy's text to a program's closed graph.
 
 ghost use Rattle.std.specs.Prelude.{◌≡◌, Ok, option_copied};
+ghost use Rattle.rv_word.specs.Form.{graph_version};
 ghost use Rattle.text_lines.specs.Answers.{Answers, UnlessNoMemory};
 ghost use Rattle.cfi_harden.specs.Closing.{Closes, failed_line};
 ghost use Rattle.cfi_harden.specs.Request.{policy_reading};
@@ -9,6 +10,7 @@ use crate::refusal::{HardenEnd, Refusal};
 use cfi_flow::{Closed, close, raw_graph};
 use cfi_graph::{Policy, read_policy_part};
 use obj_program::Items;
+use rv_word::Form;
 use std::alloc::Global;
 use text_lines::TextEnd;
 
@@ -33,13 +35,14 @@ fn failed_line(end: &Result<(), TextEnd>) -> Option<u64>
     }
 }
 
-/// The closed graph of a program under a policy, if there is one.
+/// The closed graph of a program under a policy, if there is one, to be written in a form.
 pub(crate) fn closed_under(
     alloc: Global,
+    form: Form,
     items: &Items,
     policy: Option<&[u8]>,
 ) -> Result<Closed, HardenEnd>
-    ensures { Closes items.now (option_copied policy.entry) result }
+    ensures { Closes (graph_version form) items.now (option_copied policy.entry) result }
 {
     let (policy, end) = policy_part(alloc, policy);
     if let Err(TextEnd::NoMemory) = end {
@@ -49,5 +52,5 @@ pub(crate) fn closed_under(
     if let Some(number) = failed_line(&end) {
         return Err(HardenEnd::Refused(Refusal::Policy(number)));
     }
-    Ok(close(alloc, &raw)?)
+    Ok(close(alloc, form, &raw)?)
 }

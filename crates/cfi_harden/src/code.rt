@@ -99,8 +99,8 @@ fn push_set_up(bytes: &mut Vec<u8>, form: Form) -> Result<(), NoMemory>
     ensures size { OnOk result (length bytes.new.items ≡ length bytes.old.items + 4 * length (set_up (profile_for form))) }
 {
     match form {
-        Form::Plain => push_instrs(bytes, &lone_set_up()),
-        Form::Harts => push_instrs(bytes, &own_set_up()),
+        Form::Plain | Form::Split => push_instrs(bytes, &lone_set_up()),
+        Form::Harts | Form::HartsSplit => push_instrs(bytes, &own_set_up()),
     }
 }
 

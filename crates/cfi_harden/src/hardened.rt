@@ -56,7 +56,7 @@ impl<'c, 'a, 'b> Chosen<'c, 'a, 'b> {
     fn graph_of(&self, alloc: Global, code: &[u8]) -> Result<Graph, NoMemory>
         requires size { length code.now ≡ 4 * length (written_code self.now) }
         requires room { 4 * length (written_code self.now) ≤ CODE_SIZE }
-        ensures { IfOk result (λ graph. graph ≡ record { code = length code.now; lines = graph_lines self.now.layout self.now.labels }) }
+        ensures { IfOk result (λ graph. graph ≡ record { version = self.now.layout.closed.version; code = length code.now; lines = graph_lines self.now.layout self.now.labels }) }
     {
         let _count = self.count();
         self.graph(alloc, code.len() as u32)

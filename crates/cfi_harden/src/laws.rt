@@ -28,7 +28,7 @@ pub fn written_is_well_formed()
     ensures { WrittenIsWellFormed }
 {}
 
-/// In the code that is written each place's unit stands at its word, and behind a gate word where it is a class's target.
+/// In the code that is written each place's unit stands at its word, and the words before it at its gate where it is a target.
 pub fn written_units()
     ensures { WrittenUnits }
 {}

@@ -4,11 +4,11 @@ ghost use Rattle.std.specs.Prelude.{◌≡◌, ◌<◌, ◌≤◌, ◌++◌, ◌
 ghost use Rattle.std.specs.List.{All};
 ghost use Rattle.obj_program.specs.Program.{count, item_of};
 ghost use Rattle.cfi_graph.specs.Graph.{IsGraph};
-ghost use Rattle.cfi_flow.specs.Closed.{first_side};
 ghost use Rattle.cfi_map.specs.GraphAtMap.{class_lines, graph_lines, line_for, place_lines, with_line};
-ghost use Rattle.cfi_map.specs.LabelOf.{all_classes, tagged};
+ghost use Rattle.cfi_map.specs.LabelOf.{all_classes, class_count, tag, tagged};
 
 use crate::chosen::Chosen;
+use cfi_flow::Side;
 use cfi_graph::{Graph, GraphLine, GraphLines, SiteKind};
 use obj_input::ItemKind;
 use rv_word::profile::START;
@@ -38,30 +38,51 @@ impl<'c, 'a, 'b> Chosen<'c, 'a, 'b> {
         Ok(Places::of(gates))
     }
 
-    /// The gates of the targets that the class with this index has, among all classes.
-    #[tactic(auto, using(crate::proofs::LineList::class_within, crate::proofs::LineList::class_past, crate::proofs::LineList::members_there))]
-    fn class_gates(&self, alloc: Global, k: u64) -> Result<Places, NoMemory>
-        ensures { IfOk result (λ gates. gates ≡ map (slice_index self.now.layout.gates) (slice_index_or (all_classes (first_side self.now.layout.closed)) k [])) }
+    /// The gates of the targets that the class of a side with this index has, among all its classes.
+    #[tactic(auto, using(crate::proofs::LineList::class_within, crate::proofs::LineList::class_past))]
+    fn class_gates(&self, alloc: Global, side: &Side, i: u64) -> Result<Places, NoMemory>
+        requires { All (All (λ t. t < count self.now.layout.program)) side.now.classes }
+        ensures { IfOk result (λ gates. gates ≡ map (slice_index self.now.layout.gates) (slice_index_or (all_classes side.now) i [])) }
     {
-        let closed = self.closed();
-        if k < closed.classes() {
-            self.gates_of(alloc, closed.class(k).as_slice())
+        if i < side.classes() {
+            self.gates_of(alloc, side.class(i).as_slice())
         } else {
             Ok(Places::of(Vec::new(alloc)))
         }
     }
 
-    /// The lines of all classes.
-    #[tactic(auto, using(crate::proofs::LineList::next_class, crate::proofs::LineList::all_class_lines))]
+    /// Puts the lines of the classes of a side at the end, of which there are so many, with the first of these labels.
+    fn push_side_lines(
+        &self,
+        alloc: Global,
+        lines: &mut Vec<GraphLine>,
+        side: &Side,
+        labels: &[u32],
+        many: u64,
+    ) -> Result<(), NoMemory>
+        requires places { All (All (λ t. t < count self.now.layout.program)) side.now.classes }
+        requires many { many ≡ class_count side.now }
+        requires enough { many ≤ length labels.now }
+        ensures { OnOk result (lines.new.items ≡ lines.old.items
+            ++ class_lines self.now.layout.gates labels.now (map (tag side.now.sort) (all_classes side.now))) }
+    {
+        for i in 0..many {
+            let gates = self.class_gates(alloc, side, i)?;
+            lines.push(GraphLine::of_class(side.sort(), labels[i as usize], gates))?;
+        }
+        Ok(())
+    }
+
+    /// The lines of all classes, side after side.
     fn class_lines(&self, alloc: Global) -> Result<Vec<GraphLine>, NoMemory>
         ensures { IfOk result (λ v. v.items ≡ class_lines self.now.layout.gates self.now.labels (tagged self.now.layout.closed.sides)) }
     {
         let _count = self.count();
-        let labels = self.labels();
+        let sides = self.closed().sides();
         let mut lines = Vec::new(alloc);
-        for k in 0..labels.len() {
-            let gates = self.class_gates(alloc, k as u64)?;
-            lines.push(GraphLine::Class(labels[k], gates))?;
+        for j in 0..sides.len() {
+            let labels = self.labels_from(j);
+            self.push_side_lines(alloc, &mut lines, &sides[j], labels, self.label_count(j))?;
         }
         Ok(lines)
     }
@@ -108,10 +129,10 @@ impl<'c, 'a, 'b> Chosen<'c, 'a, 'b> {
 
     /// The graph of a code of this many bytes, where it may have these lines.
     pub fn graph(&self, alloc: Global, code: u32) -> Result<Graph, NoMemory>
-        requires { IsGraph (record { code = code; lines = graph_lines self.now.layout self.now.labels }) }
-        ensures { IfOk result (λ graph. graph ≡ record { code = code; lines = graph_lines self.now.layout self.now.labels }) }
+        requires { IsGraph (record { version = self.now.layout.closed.version; code = code; lines = graph_lines self.now.layout self.now.labels }) }
+        ensures { IfOk result (λ graph. graph ≡ record { version = self.now.layout.closed.version; code = code; lines = graph_lines self.now.layout self.now.labels }) }
     {
         let lines = self.lines(alloc)?;
-        Graph::of(alloc, code, lines)
+        Graph::of(alloc, self.closed().version(), code, lines)
     }
 }

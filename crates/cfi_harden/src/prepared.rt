@@ -1,4 +1,5 @@
 ghost use Rattle.std.specs.Prelude.{option_copied};
+ghost use Rattle.rv_word.specs.Form.{graph_version};
 ghost use Rattle.cfi_harden.specs.Preparing.{Enters, Reads};
 ghost use Rattle.cfi_harden.specs.Refused.{Prepares, PreparesProgram};
 ghost use Rattle.cfi_harden.specs.Request.{ProgramRequest, Request};
@@ -40,19 +41,21 @@ pub fn program_of<'a>(alloc: Global, object: &'a [u8]) -> Result<Items<'a>, Hard
     Ok(items)
 }
 
-/// The place where a program is entered, at the first symbol of a name, and its closed graph under a policy, if there is one.
+/// The place where a program is entered, at the first symbol of a name, and its closed graph under a policy, if there is
+/// one, to be written in a form.
 fn entered(
     alloc: Global,
+    form: Form,
     items: &Items,
     entry: &str,
     policy: Option<&[u8]>,
 ) -> Result<(u64, Closed), HardenEnd>
-    ensures { Enters items.now entry.now (option_copied policy.entry) result }
+    ensures { Enters (graph_version form) items.now entry.now (option_copied policy.entry) result }
 {
     let Some(entry) = entry_place(items, entry.as_bytes()) else {
         return Err(HardenEnd::Refused(Refusal::NoEntry));
     };
-    let closed = closed_under(alloc, items, policy)?;
+    let closed = closed_under(alloc, form, items, policy)?;
     Ok((entry, closed))
 }
 
@@ -68,7 +71,7 @@ pub fn prepare_program<'a>(
 ) -> Result<Prepared<'a>, HardenEnd>
     ensures { PreparesProgram (record { form = form; program = items.entry; entry = entry.now; policy = option_copied policy.entry }) result }
 {
-    let (entry, closed) = entered(alloc, &items, entry, policy)?;
+    let (entry, closed) = entered(alloc, form, &items, entry, policy)?;
     Ok(Prepared {
         form,
         items,

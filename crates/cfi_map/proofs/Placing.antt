@@ -1,9 +1,9 @@
--- How many gates and words a placement has, which word stands at a place, its words while a loop makes them, and the words before a place.
-use Rattle.std.proofs.Common.{◌≡◌, ℕ, suc, ◌+◌, ◌<◌, ◌≤◌, Bool, true, false, List, [], ◌∷◌, ◌++◌, length, get_or, drop, drop-cons, refl, sym, ap, ◌∙◌, add-one, append_assoc}
+-- How many gates and words a placement has, which word stands at a place, its words while a loop makes them.
+use Rattle.std.proofs.Common.{◌≡◌, ℕ, suc, ◌+◌, ◌<◌, ◌≤◌, Bool, List, [], ◌∷◌, ◌++◌, length, get_or, drop, drop-cons, refl, sym, ap, ◌∙◌, add-one, append_assoc}
 use Rattle.std.proofs.lemmas.List.{append-nil, drop_all}
 use Rattle.obj_program.specs.declared.item.Item.{Item}
 use Rattle.obj_program.specs.Program.{count}
-use Rattle.cfi_flow.specs.Closed.{ClosedGraph, Side, first_side, is_target}
+use Rattle.cfi_flow.specs.Closed.{Side}
 use Rattle.cfi_map.specs.GraphAtMap.{ProgramAtMap, word, words_at}
 use Rattle.cfi_map.specs.Mapped.{IsMapped}
 use Rattle.cfi_map.specs.Placement.{AreGates, lead_size, words_from}
@@ -41,10 +41,3 @@ pub words_end : (sides : List Side) (k : ℕ) (gates made all : List ℕ) → le
     made ++ words_from sides k (drop k gates) ≡ all → made ≡ all
 unfolding words_from
 words_end sides k gates made all past so_far = sym (append-nil made) ∙ (rw (drop_all k gates past) at so_far)
-
--- of one side one word stands before a target
-pub one_lead : (closed : ClosedGraph) (k : ℕ) → closed.sides ≡ first_side closed ∷ [] → is_target closed.sides k ≡ true → 4 ≡ lead_size closed.sides k
-one_lead closed k one target = let many : length closed.sides ≡ 1 = ap length one in rw (target, many) refl
-
-pub no_lead : (closed : ClosedGraph) (k : ℕ) → is_target closed.sides k ≡ false → 0 ≡ lead_size closed.sides k
-no_lead closed k target = rw target refl

@@ -1,7 +1,7 @@
 -- Worked rows: sizes and branches of small programs. The first two are a branch over one instruction and a branch over a jump, before a
 -- return; their code has 96 bytes and 100.
 use Rattle.std.proofs.Common.{◌≡◌, ℕ, Bool, true, false, List, [], ◌∷◌, Option, Some, None, refl}
-use Rattle.rv_word.specs.declared.form.Form.TheVariants.{Plain, Harts}
+use Rattle.rv_word.specs.declared.form.Form.TheVariants.{Plain, Harts, Split, HartsSplit}
 use Rattle.obj_input.specs.declared.item_kind.ItemKind.{ItemKind}
 use Rattle.obj_input.specs.declared.item_kind.ItemKind.TheVariants as is
 use Rattle.obj_program.specs.declared.item.Item.{Item}
@@ -10,7 +10,7 @@ use Rattle.obj_program.specs.Program.{Program}
 use Rattle.cfi_layout.specs.declared.short.Short.{Short}
 use Rattle.cfi_layout.specs.LongSet.{is_forced, sizes_where, starts_under}
 use Rattle.cfi_layout.specs.Starts.{code_size, starts_from}
-use Rattle.cfi_graph.specs.declared.line.Sort.TheVariants.{Both}
+use Rattle.cfi_graph.specs.declared.line.Sort.TheVariants.{Both, Calls, Jumps}
 use Rattle.cfi_flow.specs.Closed.{ClosedGraph}
 use Rattle.cfi_map.specs.Shorts.{shorts_below, shorts_of}
 use Rattle.cfi_map.specs.Sizes.{part_sizes, whole_size, whole_sizes}
@@ -23,7 +23,15 @@ program items = record { items = items; init = []; relocations = []; data_end = 
 
 -- classes, and no sites
 abbrev closed : List (List ℕ) → ClosedGraph
-closed classes = record { sides = record { sort = Both; classes = classes; sites = [] } ∷ []; taken = [] }
+closed classes = record { version = 1; sides = record { sort = Both; classes = classes; sites = [] } ∷ []; taken = [] }
+
+-- classes of calls, and of jumps
+abbrev split : List (List ℕ) → List (List ℕ) → ClosedGraph
+split calls jumps = record {
+  version = 2;
+  sides = record { sort = Calls; classes = calls; sites = [] } ∷ record { sort = Jumps; classes = jumps; sites = [] } ∷ [];
+  taken = [];
+}
 
 abbrev short : ℕ → ℕ → ℕ → Bool → Short
 short place target lead keep = record { at = place; target = target; lead = lead; keep = keep }
@@ -45,6 +53,13 @@ whole_rows : (whole_sizes over_one (closed []) ≡ 8 ∷ 4 ∷ 20 ∷ 4 ∷ []) 
     × (whole_sizes over_one (closed ((0 ∷ 2 ∷ []) ∷ [])) ≡ 12 ∷ 4 ∷ 24 ∷ 4 ∷ [])
 unfolding part_sizes
 whole_rows = (refl, refl, refl, refl)
+
+-- two words before what is a target of either
+split_rows : (whole_sizes over_one (split ((0 ∷ []) ∷ []) ((2 ∷ []) ∷ [])) ≡ 16 ∷ 4 ∷ 28 ∷ 4 ∷ []) × (whole_size Split over_one (split ((0 ∷ []) ∷ []) ((2 ∷ []) ∷ [])) ≡ 116)
+    × (whole_size HartsSplit over_one (split ((0 ∷ []) ∷ []) ((2 ∷ []) ∷ [])) ≡ 132) × (shorts_of over_one (split ((0 ∷ []) ∷ []) []) ≡ short 0 2 8 false ∷ [])
+    × (shorts_of over_jump (split [] ((1 ∷ []) ∷ [])) ≡ short 0 2 0 false ∷ [])
+unfolding part_sizes shorts_below
+split_rows = (refl, refl, refl, refl, refl)
 
 -- the branch written short
 short_rows : (part_sizes [] (false ∷ []) 0 over_one.items ≡ 4 ∷ 4 ∷ 20 ∷ 4 ∷ []) × (code_size 0x40000040 (part_sizes [] (false ∷ []) 0 over_one.items) ≡ 96)

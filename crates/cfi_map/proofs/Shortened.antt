@@ -56,7 +56,7 @@ one_size gate kind true full is = rw is refl
 one_size gate is.Branch false full is = rw is (omega arith)
 one_size gate other false full is = rw is refl
 
--- where the branches that are not long have a word less, each part has its gate word's and its unit's size
+-- where the branches that are not long have a word less, each part has the size of its words and its unit
 sizes_from : (sides : List Side) (whole : List Bool) (full : ℕ → Bool) (k : ℕ) (items : List Item) →
     ((i : ℕ) → i < length items → full (k + i) ≡ (whole_at whole (k + i) || not (is_branch (get_or items i no_item).kind))) →
     sizes_where full k (part_sizes sides [] k items) ≡ part_sizes sides whole k items

@@ -16,7 +16,7 @@ use Rattle.obj_program.specs.declared.item.Patch.TheVariants as put
 use Rattle.obj_program.specs.declared.item.Value.TheVariants.{GateOf, Number}
 use Rattle.obj_program.specs.AtMap.{instr_at}
 use Rattle.obj_program.specs.DataAtMap.{data_at}
-use Rattle.cfi_graph.specs.declared.line.Sort.TheVariants.{Both}
+use Rattle.cfi_graph.specs.declared.line.Sort.TheVariants.{Both, Calls, Jumps}
 use Rattle.cfi_flow.specs.Closed.{ClosedGraph}
 use Rattle.cfi_map.specs.GraphAtMap.{ProgramAtMap}
 use Rattle.cfi_map.specs.Placement.{words_from}
@@ -43,7 +43,7 @@ program items init relocations gates closed = record {
 }
 
 abbrev no_classes : ClosedGraph
-no_classes = record { sides = record { sort = Both; classes = []; sites = [] } ∷ []; taken = [] }
+no_classes = record { version = 1; sides = record { sort = Both; classes = []; sites = [] } ∷ []; taken = [] }
 
 -- what is seen after so many steps, and how the next one ends
 abbrev seen : {A : Type 0} → (Source → A) → ProgramAtMap → ℕ → Option A
@@ -99,7 +99,7 @@ off_data = (refl, refl)
 -- `jalr x1, 0(x5)` whose site has no targets
 abbrev nowhere : ProgramAtMap
 nowhere = program (at 0 is.Icall 0x000280e7 ∷ at 4 is.Return 0x00008067 ∷ end 8 ∷ []) [] [] (0x40000040 ∷ 0x40000090 ∷ 0x400000a4 ∷ [])
-    (record { sides = record { sort = Both; classes = []; sites = record { place = 0; class = None } ∷ [] } ∷ []; taken = false ∷ false ∷ false ∷ [] })
+    (record { version = 1; sides = record { sort = Both; classes = []; sites = record { place = 0; class = None } ∷ [] } ∷ []; taken = false ∷ false ∷ false ∷ [] })
 
 off_graph : turn nowhere 0 ≡ Some (untame why.Graph 0)
 unfolding source_step after_steps decoded instr_at words_from last_exit data_at
@@ -134,7 +134,7 @@ wrong_return = (refl, refl, refl)
 -- `jal x1` to the return; the place after the call is a target, so the link is its gate, and its AUIPC reads the word behind that
 abbrev linked : ProgramAtMap
 linked = program (to 2 (at 0 is.Call 0x008000ef) ∷ at 4 is.Plain 0x00000297 ∷ at 8 is.Return 0x00008067 ∷ end 12 ∷ []) [] []
-    (0x40000040 ∷ 0x40000060 ∷ 0x40000068 ∷ 0x4000007c ∷ []) (record { sides = record { sort = Both; classes = (1 ∷ []) ∷ []; sites = [] } ∷ []; taken = false ∷ true ∷ false ∷ false ∷ [] })
+    (0x40000040 ∷ 0x40000060 ∷ 0x40000068 ∷ 0x4000007c ∷ []) (record { version = 1; sides = record { sort = Both; classes = (1 ∷ []) ∷ []; sites = [] } ∷ []; taken = false ∷ true ∷ false ∷ false ∷ [] })
 
 links_to_gates : (seen (λ st. st.regs 1) linked 1 ≡ Some 0x40000060) × (seen (λ st. st.pending) linked 1 ≡ Some (1 ∷ [])) × (seen (λ st. st.place) linked 1 ≡ Some (Some 2))
     × (seen (λ st. st.place) linked 2 ≡ Some (Some 1)) × (seen (λ st. st.pending) linked 2 ≡ Some []) × (seen (λ st. st.regs 5) linked 3 ≡ Some 0x40000064)
@@ -180,7 +180,7 @@ pointer = program
     ∷ at 44 is.Return 0x00008067 ∷ end 48 ∷ [])
     (replicate 16 0) (relocated 0 8 ∷ relocated 8 10 ∷ [])
     (0x40000040 ∷ 0x40000044 ∷ 0x40000054 ∷ 0x40000058 ∷ 0x4000005c ∷ 0x400000ac ∷ 0x400000b0 ∷ 0x400000b4 ∷ 0x400000c8 ∷ 0x400000d0 ∷ 0x400000e4 ∷ 0x400000ec ∷ 0x40000100 ∷ [])
-    (record { sides = record { sort = Both; classes = (8 ∷ 10 ∷ []) ∷ []; sites = record { place = 4; class = Some 0 } ∷ [] } ∷ []; taken = [] })
+    (record { version = 1; sides = record { sort = Both; classes = (8 ∷ 10 ∷ []) ∷ []; sites = record { place = 4; class = Some 0 } ∷ [] } ∷ []; taken = [] })
 
 pointer_runs : (seen (λ st. st.regs 5) pointer 4 ≡ Some 0x400000c8) × (seen (λ st. st.place) pointer 5 ≡ Some (Some 8)) × (seen (λ st. st.pending) pointer 5 ≡ Some (5 ∷ []))
     × (seen (λ st. st.regs 1) pointer 5 ≡ Some 0x400000ac) × (seen (λ st. st.place) pointer 7 ≡ Some (Some 5)) × (turn pointer 10 ≡ Some (exits 1))
@@ -198,3 +198,31 @@ computed_targets : (called 0x400000c9 ≡ Some ran) × (called 0x400000e4 ≡ So
     × (called 0x400000cc ≡ Some (untame why.Graph 4)) × (called 0x40000040 ≡ Some (untame why.Graph 4))
 unfolding source_step after_steps decoded instr_at words_from last_exit data_at placed write
 computed_targets = (refl, refl, refl, refl, refl)
+
+-- `jalr x0, 0(x5)` to a class of jumps and `jalr x1, 0(x5)` to one of calls: each reaches its own class alone
+abbrev two_sides : ClosedGraph
+two_sides = record {
+  version = 2;
+  sides =
+      record { sort = Calls; classes = (3 ∷ []) ∷ []; sites = record { place = 1; class = Some 0 } ∷ [] }
+      ∷ record { sort = Jumps; classes = (2 ∷ []) ∷ []; sites = record { place = 0; class = Some 0 } ∷ [] }
+      ∷ [];
+  taken = [];
+}
+
+abbrev jump_and_call : ProgramAtMap
+jump_and_call = program (at 0 is.Ijump 0x00028067 ∷ at 4 is.Icall 0x000280e7 ∷ at 8 is.Plain 0x00000297 ∷ at 12 is.Return 0x00008067 ∷ end 16 ∷ []) [] []
+    (0x40000040 ∷ 0x40000074 ∷ 0x400000c4 ∷ 0x400000d0 ∷ 0x400000ec ∷ []) two_sides
+
+abbrev from_place : ℕ → ℕ → Option StepTurn
+from_place k value = seen (λ st. (source_step jump_and_call (record st { place = Some k; regs = set_reg st.regs 5 value })).turn) jump_and_call 0
+
+by_sort : (from_place 0 0x400000c4 ≡ Some ran) × (from_place 0 0x400000d0 ≡ Some (untame why.Graph 0))
+    × (from_place 1 0x400000d0 ≡ Some ran) × (from_place 1 0x400000c4 ≡ Some (untame why.Graph 1))
+unfolding source_step after_steps decoded instr_at words_from last_exit data_at
+by_sort = (refl, refl, refl, refl)
+
+-- the word of a target is two words behind its gate
+two_words_on : seen (λ st. (source_step jump_and_call (record st { place = Some 2 })).state.regs 5) jump_and_call 0 ≡ Some 0x400000cc
+unfolding source_step after_steps decoded instr_at words_from last_exit data_at
+two_words_on = refl

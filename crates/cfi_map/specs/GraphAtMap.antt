@@ -11,8 +11,7 @@ use Rattle.obj_program.specs.Program.{Program}
 use Rattle.cfi_graph.specs.declared.line.GraphLine.{GraphLine}
 use Rattle.cfi_graph.specs.declared.line.GraphLine.TheVariants as line
 use Rattle.cfi_graph.specs.declared.line.SiteKind.TheVariants as site
-use Rattle.cfi_graph.specs.declared.line.Sort.{Sort}
-use Rattle.cfi_graph.specs.declared.line.Sort.TheVariants.{Both}
+use Rattle.cfi_graph.specs.Graph.{line_of_class}
 use Rattle.cfi_flow.specs.Closed.{ClosedGraph}
 use Rattle.cfi_map.specs.LabelOf.{Tagged, site_label, tagged}
 use Rattle.cfi_map.specs.Placement.{word_of, words_from}
@@ -42,10 +41,6 @@ words_at layout = words_from layout.closed.sides 0 layout.gates
 abbrev pub gate_to : ProgramAtMap → Option ℕ → ℕ
 gate_to layout None = 0
 gate_to layout (Some k) = gate layout k
-
--- the line of a class of a sort
-abbrev pub line_of_class : Sort → ℕ → List ℕ → GraphLine
-line_of_class Both label targets = line.Class label targets
 
 -- the lines of classes, each with its label
 unfoldable pub class_lines : List ℕ → List ℕ → List Tagged → List GraphLine

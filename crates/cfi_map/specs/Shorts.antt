@@ -12,7 +12,7 @@ abbrev pub is_branch : ItemKind → Bool
 is_branch is.Branch = true
 is_branch other = false
 
--- a jump without a gate word, or a stop: what the verifier would read as the second word of a long branch
+-- a jump without a word before it, or a stop: what the verifier would read as the second word of a long branch
 abbrev pub is_skipped : ItemKind → Bool → Bool
 is_skipped is.Jump target = not target
 is_skipped is.End target = true
@@ -29,7 +29,7 @@ pub record IsShortAt (layout : ProgramAtMap) (k target : ℕ) : Type 0 where
   pub ahead : gate layout target ≤ word layout k + 4092
   pub free : is_kept layout.program layout.closed k target ≡ false
 
--- the branch at a place to a target: behind the gate word of its part, if that has one; where it is kept, it is long wherever it stands
+-- the branch at a place to a target: behind the words of its part that stand before it; where it is kept, it is long wherever it stands
 abbrev pub short_to : Program → ClosedGraph → ℕ → ℕ → Short
 short_to program closed k target = record {
   at = k;

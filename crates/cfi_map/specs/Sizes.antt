@@ -1,4 +1,5 @@
--- How many bytes the parts of a program's code have. The part of a place is its gate word, if it has one, and its unit.
+-- How many bytes the parts of a program's code have. The part of a place is the words before its unit, if there are any,
+-- and its unit.
 use Rattle.std.specs.Prelude.{ℕ, ◌+◌, Bool, List, [], ◌∷◌}
 use Rattle.rv_word.specs.Form.{profile_for}
 use Rattle.rv_word.specs.declared.form.Form.{Form}

@@ -22,7 +22,7 @@ fn is_branch(kind: ItemKind) -> bool
     kind == ItemKind::Branch
 }
 
-/// Whether the unit of a kind of place begins with a JAL that links nothing, where no gate word stands before it.
+/// Whether the unit of a kind of place begins with a JAL that links nothing, where no word stands before it.
 fn is_skipped(kind: ItemKind, is_target: bool) -> bool
     ensures { result ≡ is_skipped kind is_target }
 {

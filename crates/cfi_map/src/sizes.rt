@@ -33,10 +33,13 @@ pub fn unit_size(kind: ItemKind, whole: bool) -> u32
 /// How many bytes the words before the unit of a place have, if there are any.
 pub fn lead_size(closed: &Closed, place: u64) -> u32
     ensures value { result ≡ lead_size closed.now.sides place }
-    ensures small { result ≤ 4 }
+    ensures small { result ≤ 8 }
 {
-    let _places = closed.places();
-    if closed.is_target(place) { 4 } else { 0 }
+    if closed.is_target(place) {
+        4 * closed.sides().len() as u32
+    } else {
+        0
+    }
 }
 
 /// How many bytes the part of a place has; a branch's is long.

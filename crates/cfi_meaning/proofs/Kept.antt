@@ -1,5 +1,5 @@
 -- Meaning kept, by induction on the source machine's steps.
-use Rattle.std.proofs.Common.{◌≡◌, ℕ, zero, suc, ◌+◌, ◌%◌, ◌^◌, List, [], ◌∷◌, ◌++◌, length, length-append, Some, None, refl, sym, ap, subst, ◌∙◌, arith}
+use Rattle.std.proofs.Common.{◌≡◌, ℕ, zero, suc, ◌+◌, ◌%◌, ◌^◌, ◌≤◌, List, [], ◌∷◌, ◌++◌, length, length-append, Some, None, refl, sym, ap, subst, ◌∙◌, arith}
 use Rattle.std.proofs.lemmas.Option.{option_and_then_some, same_Some}
 use Rattle.rv_word.specs.Image.{Contents}
 use Rattle.rv_word.specs.MemoryMap.{DATA_START, Profile}
@@ -13,8 +13,8 @@ use Rattle.cfi_runs.specs.WholeRun.{RunsTo, own_shared, undisturbed}
 use Rattle.cfi_harden.specs.Units.{Choice, entry_gate}
 use Rattle.cfi_meaning.specs.ImageOf.{IsImageOf}
 use Rattle.cfi_meaning.specs.PlaceSteps.{PlacesRun, TamePlace, place_step}
-use Rattle.cfi_meaning.specs.PlacesKept.{KeepsPlaces, bound, last_words}
-use Rattle.cfi_meaning.proofs.PlacesKept.{places_kept}
+use Rattle.cfi_meaning.specs.PlacesKept.{KeepsPlaces, last_words, most_steps}
+use Rattle.cfi_meaning.proofs.PlacesKept.{bound_rises, places_kept}
 use Rattle.cfi_meaning.specs.Matches.{Matches, address_of, own_of}
 use Rattle.cfi_meaning.specs.Meaning.{Answers, EndsAs, MeaningKept}
 use Rattle.cfi_map.specs.Source.{Source, init_here, source_start}
@@ -104,13 +104,11 @@ module _ (m : Choice) (image : Contents) (of : IsImageOf m image) (input : List 
     kept n st l =
         places_kept m image input l.places (own_of m.layout st) of (subst (λ (o : Own). PlacesRun m image l.places o (own_of m.layout st)) starts l.run)
 
-    goes : (n : ℕ) (st : Source) → after_steps m.layout n start ≡ Some st → RunsTo p image input (bound 1 (last_words p) n) (Matches m.layout image st)
+    goes : (n : ℕ) (st : Source) → after_steps m.layout n start ≡ Some st → RunsTo p image input (most_steps m.layout n) (Matches m.layout image st)
     goes n st e =
         let l = led n st e in
         let comes = (kept n st l).goes in
-        let few = comes.1 in
-        let counted = l.counted in
-        (comes.0, omega arith, from_own m.layout image st (undisturbed p image input comes.0) l.fit.most comes.2)
+        (comes.0, subst (λ (i : ℕ). comes.0 ≤ most_steps m.layout i) l.counted comes.1, from_own m.layout image st (undisturbed p image input comes.0) l.fit.most comes.2)
 
     ended : (turn : StepTurn) (next : Source) (after : After) → Answers m.layout image turn next after → EndsAs m.layout turn next after
     ended ran next after answer = tt
@@ -119,30 +117,28 @@ module _ (m : Choice) (image : Contents) (of : IsImageOf m image) (input : List 
     ended (untame why k) next after answer = tt
 
     ends_so : (n : ℕ) (st : Source) → after_steps m.layout n start ≡ Some st → Stepped m image st →
-        RunsTo p image input (bound 1 (last_words p) (n + 1)) (EndsAs m.layout (source_step m.layout st).turn (source_step m.layout st).state)
+        RunsTo p image input (most_steps m.layout (n + 1)) (EndsAs m.layout (source_step m.layout st).turn (source_step m.layout st).state)
     ends_so n st e (has_ended status ended is) =
         let (steps, few, same) = goes n st e in
         let none : last_exit st.shared.events ≡ None = sym (ap last_exit same.events) ∙ same.going in
         absurd (cc)
     ends_so n st e (is_untame why k is) =
-        subst (λ (t : StepTurn). RunsTo p image input (bound 1 (last_words p) (n + 1)) (EndsAs m.layout t (source_step m.layout st).state)) (sym is) (0, omega arith, tt)
+        subst (λ (t : StepTurn). RunsTo p image input (most_steps m.layout (n + 1)) (EndsAs m.layout t (source_step m.layout st).state)) (sym is) (0, omega arith, tt)
     ends_so n st e (at_place k now own) =
         let l = led n st e in
         let next = (kept n st l).next k now in
-        let few = next.1 in
-        let counted = l.counted in
         let turn = (source_step m.layout st).turn in
         let state = (source_step m.layout st).state in
         let after = undisturbed p image input next.0 in (
           next.0,
-          omega arith,
+          subst (λ (i : ℕ). next.0 ≤ most_steps m.layout (i + 1)) l.counted next.1,
           ended turn state after (answers m image of turn state (place_step m k (own_of m.layout st)) own (sites_after m image of k (own_of m.layout st) now l.fit) after next.2),
         )
     ends_so n st e (at_closing nowhere is) =
         let l = led n st e in
         let close = (kept n st l).closes (ap (address_of m.layout) nowhere) in
-        let few = close.1 in
-        let counted = l.counted in (
+        let few = subst (λ (i : ℕ). close.0 ≤ most_steps m.layout i) l.counted close.1 in
+        let more = bound_rises (length m.layout.closed.sides) (last_words p) n in (
           close.0,
           omega arith,
           subst (λ (a : SourceAfter). EndsAs m.layout a.turn a.state (undisturbed p image input close.0)) (sym is) (close.2.turn, close.2.shared),

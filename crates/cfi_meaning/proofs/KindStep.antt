@@ -18,6 +18,8 @@ use Rattle.obj_program.proofs.Kept.{kept}
 use Rattle.cfi_map.specs.GraphAtMap.{gate, gate_to, words_at}
 use Rattle.cfi_map.specs.LabelOf.{site_label}
 use Rattle.cfi_map.specs.Placement.{whole_at}
+use Rattle.cfi_unit.specs.declared.target_word.TargetWord.{TargetWord}
+use Rattle.cfi_rules.specs.Rules.{jump_word}
 use Rattle.cfi_runs.specs.Own.{Own, goes, own_past}
 use Rattle.cfi_harden.specs.Units.{instr_of, inverse, unit_of}
 use Rattle.cfi_harden.proofs.Standing.{instr_is}
@@ -44,26 +46,26 @@ turned : (taken : Bool) (target next : ℕ) → (if not taken then next else tar
 turned true target next = refl
 turned false target next = refl
 
-own_of_kind : (p : Profile) (kind : ItemKind) (i : Instr) (whole : Bool) (target label next : ℕ) (o : Own) → is_end kind ≡ false → suits kind i ≡ true →
-    own_past p o (unit_of kind i whole target label) next ≡ kind_step p kind i target next o
-own_of_kind p is.Gate (I.Upper Lui zero imm) whole target label next o some suit = refl
-own_of_kind p is.Gate (I.Upper Lui (suc rd) imm) whole target label next o some suit = absurd (let none = eqb-true (suc rd) 0 suit in omega arith)
-own_of_kind p is.Gate (I.Upper Auipc rd imm) whole target label next o some suit = absurd (cc)
-own_of_kind p is.Plain i whole target label next o some suit = refl
-own_of_kind p is.Store (I.Store op rs1 rs2 imm) whole target label next o some suit = refl
-own_of_kind p is.System I.Ecall whole target label next o some suit = refl
-own_of_kind p is.System I.Ebreak whole target label next o some suit = refl
-own_of_kind p is.Branch (I.Branch op rs1 rs2 imm) true target label next o some suit =
+own_of_kind : (p : Profile) (kind : ItemKind) (i : Instr) (whole : Bool) (target : ℕ) (which : TargetWord) (label next : ℕ) (o : Own) → is_end kind ≡ false → suits kind i ≡ true →
+    own_past p o (unit_of kind i whole target which label) next ≡ kind_step p kind i target next o
+own_of_kind p is.Gate (I.Upper Lui zero imm) whole target which label next o some suit = refl
+own_of_kind p is.Gate (I.Upper Lui (suc rd) imm) whole target which label next o some suit = absurd (let none = eqb-true (suc rd) 0 suit in omega arith)
+own_of_kind p is.Gate (I.Upper Auipc rd imm) whole target which label next o some suit = absurd (cc)
+own_of_kind p is.Plain i whole target which label next o some suit = refl
+own_of_kind p is.Store (I.Store op rs1 rs2 imm) whole target which label next o some suit = refl
+own_of_kind p is.System I.Ecall whole target which label next o some suit = refl
+own_of_kind p is.System I.Ebreak whole target which label next o some suit = refl
+own_of_kind p is.Branch (I.Branch op rs1 rs2 imm) true target which label next o some suit =
     let a = get_reg o.regs rs1 in
     let b = get_reg o.regs rs2 in
     ap (goes p o) (ap (λ (taken : Bool). if taken then next else target) (inverse_taken op a b) ∙ turned (branch_taken op a b) target next)
-own_of_kind p is.Branch (I.Branch op rs1 rs2 imm) false target label next o some suit = refl
-own_of_kind p is.Jump i whole target label next o some suit = refl
-own_of_kind p is.Call i whole target label next o some suit = refl
-own_of_kind p is.Return i whole target label next o some suit = refl
-own_of_kind p is.Ijump (I.Jalr rd rs1 imm) whole target label next o some suit = refl
-own_of_kind p is.Icall (I.Jalr rd rs1 imm) whole target label next o some suit = refl
-own_of_kind p kind i whole target label next o some suit = absurd (cc)
+own_of_kind p is.Branch (I.Branch op rs1 rs2 imm) false target which label next o some suit = refl
+own_of_kind p is.Jump i whole target which label next o some suit = refl
+own_of_kind p is.Call i whole target which label next o some suit = refl
+own_of_kind p is.Return i whole target which label next o some suit = refl
+own_of_kind p is.Ijump (I.Jalr rd rs1 imm) whole target which label next o some suit = refl
+own_of_kind p is.Icall (I.Jalr rd rs1 imm) whole target which label next o some suit = refl
+own_of_kind p kind i whole target which label next o some suit = absurd (cc)
 
 pub step_of_kind : law.StepOfKind
 step_of_kind m k o ok place =
@@ -71,4 +73,4 @@ step_of_kind m k o ok place =
     let is = kept m.layout.program m.layout.gates words k (instr_of m k) ok.sound place.below place.no_end (instr_is m ok k place.below place.no_end) in
     ap (own_past m.layout.profile (at_word m k o) (unit_here m k)) (sym (next_gate m k ok place).1)
     ∙ own_of_kind m.layout.profile (item_of m.layout.program k).kind (instr_of m k) (whole_at m.whole k) (gate_to m.layout (item_of m.layout.program k).target)
-    (site_label m.labels m.layout.closed.sides k) (gate m.layout (k + 1)) (at_word m k o) place.no_end is.0
+    (jump_word m.layout.closed.version) (site_label m.labels m.layout.closed.sides k) (gate m.layout (k + 1)) (at_word m k o) place.no_end is.0

@@ -13,16 +13,21 @@ use Rattle.obj_program.specs.Program.{is_end}
 use Rattle.obj_program.specs.Suits.{suits}
 use Rattle.cfi_map.specs.GraphAtMap.{ProgramAtMap, gate}
 use Rattle.cfi_unit.specs.declared.unit.Unit.TheVariants as V
+use Rattle.cfi_unit.specs.declared.target_word.TargetWord.{TargetWord}
 use Rattle.cfi_unit.specs.Leads.{HasLabel}
 use Rattle.cfi_unit.specs.Shadow.{MOST_PENDING}
 use Rattle.cfi_runs.specs.Own as own
 use Rattle.cfi_runs.specs.Tame.{IsTame}
+use Rattle.cfi_harden.specs.SideLaws.{word_read}
 use Rattle.cfi_harden.specs.Units.{unit_of}
 use Rattle.cfi_meaning.specs.Matches.{sites_of}
 use Rattle.cfi_map.specs.declared.reason.Reason.TheVariants as why
 use Rattle.cfi_map.specs.Source.{Source}
 use Rattle.cfi_map.specs.Untame.{MOST_CALLS, is_off_graph, is_off_window, is_too_deep, is_wrong_return, return_address}
+use Rattle.cfi_graph.specs.declared.line.SiteKind.{SiteKind}
+use Rattle.cfi_graph.specs.declared.line.SiteKind.TheVariants as kinds
 use Rattle.cfi_flow.specs.Closed.{class_reaches}
+use Rattle.cfi_flow.specs.Sites.{site_kind}
 use Rattle.cfi_meaning.proofs.Found.{place_found, some_found}
 
 -- no reason stands
@@ -47,7 +52,11 @@ pub sites_counted : (g : ProgramAtMap) (pending : List ℕ) → length (sites_of
 sites_counted g [] = refl
 sites_counted g (k ∷ pending) = ap suc (sites_counted g pending)
 
-module _ (image : Contents) (g : ProgramAtMap) (k label : ℕ) (st : Source) (bears : (t : ℕ) → class_reaches g.closed k t ≡ true → HasLabel (loaded image) label (gate g t)) where
+-- what a transfer of a kind may go to bears its label, at the word that its check reads
+abbrev pub AreBorne : Contents → ProgramAtMap → ℕ → TargetWord → ℕ → SiteKind → Type 0
+AreBorne image g k which label kind = (t : ℕ) → class_reaches g.closed k t ≡ true → HasLabel (loaded image) (word_read which kind) label (gate g t)
+
+module _ (image : Contents) (g : ProgramAtMap) (k : ℕ) (which : TargetWord) (label : ℕ) (st : Source) where
   returns_tame : (pending : List ℕ) → (get_reg st.regs 1 == return_address g pending) ≡ true → IsTame (loaded image) V.Return (sites_of g pending) st.regs
   returns_tame [] e = eqb-true (get_reg st.regs 1) g.profile.closing e
   returns_tame (k' ∷ pending) e = eqb-true (get_reg st.regs 1) (gate g k') e
@@ -55,24 +64,25 @@ module _ (image : Contents) (g : ProgramAtMap) (k label : ℕ) (st : Source) (be
   room : nat_le MOST_CALLS (length st.pending) ≡ false → length (sites_of g st.pending) < MOST_PENDING
   room few = let counted = sites_counted g st.pending in let less = leb-false MOST_CALLS (length st.pending) few in omega arith
 
-  goes_to_gate : (rd rs1 imm : ℕ) → is_off_graph g k is.Ijump (I.Jalr rd rs1 imm) st ≡ false → HasLabel (loaded image) label (own.computed st.regs rs1 imm)
-  goes_to_gate rd rs1 imm on =
+  goes_to_gate : (kind : SiteKind) (rd rs1 imm : ℕ) → AreBorne image g k which label kind → is_off_graph g k is.Ijump (I.Jalr rd rs1 imm) st ≡ false →
+      HasLabel (loaded image) (word_read which kind) label (own.computed st.regs rs1 imm)
+  goes_to_gate kind rd rs1 imm bears on =
       let (t, some) = some_found g k (I.Jalr rd rs1 imm) st.regs on in
       let found = place_found g k (I.Jalr rd rs1 imm) st.regs t some in
-      subst (HasLabel (loaded image) label) found.gate_is (bears t found.reaches)
+      subst (HasLabel (loaded image) (word_read which kind) label) found.gate_is (bears t found.reaches)
 
-  pub tame_of_kind : (kind : ItemKind) (i : Instr) (whole : Bool) (target : ℕ) → suits kind i ≡ true → NoReason g k kind i st →
-      IsTame (loaded image) (unit_of kind i whole target label) (sites_of g st.pending) st.regs
-  tame_of_kind is.Gate (I.Upper op rd imm) whole target suit no_reason = tt
-  tame_of_kind is.Plain i whole target suit no_reason = leb-true _ _ (not-false _ no_reason.window)
-  tame_of_kind is.Store (I.Store op rs1 rs2 imm) whole target suit no_reason = leb-true _ _ (not-false _ no_reason.window)
-  tame_of_kind is.System I.Ecall whole target suit no_reason = tt
-  tame_of_kind is.System I.Ebreak whole target suit no_reason = tt
-  tame_of_kind is.Branch (I.Branch op rs1 rs2 imm) true target suit no_reason = tt
-  tame_of_kind is.Branch (I.Branch op rs1 rs2 imm) false target suit no_reason = tt
-  tame_of_kind is.Jump i whole target suit no_reason = tt
-  tame_of_kind is.Call i whole target suit no_reason = room no_reason.deep
-  tame_of_kind is.Return i whole target suit no_reason = returns_tame st.pending (not-false _ no_reason.return)
-  tame_of_kind is.Ijump (I.Jalr rd rs1 imm) whole target suit no_reason = goes_to_gate rd rs1 imm no_reason.graph
-  tame_of_kind is.Icall (I.Jalr rd rs1 imm) whole target suit no_reason = (goes_to_gate rd rs1 imm no_reason.graph, room no_reason.deep)
-  tame_of_kind kind i whole target suit no_reason = let some = no_reason.no_end in absurd (cc)
+  pub tame_of_kind : (kind : ItemKind) (i : Instr) (whole : Bool) (target : ℕ) → ((site : SiteKind) → site_kind kind ≡ Some site → AreBorne image g k which label site) →
+      suits kind i ≡ true → NoReason g k kind i st → IsTame (loaded image) (unit_of kind i whole target which label) (sites_of g st.pending) st.regs
+  tame_of_kind is.Gate (I.Upper op rd imm) whole target bears suit no_reason = tt
+  tame_of_kind is.Plain i whole target bears suit no_reason = leb-true _ _ (not-false _ no_reason.window)
+  tame_of_kind is.Store (I.Store op rs1 rs2 imm) whole target bears suit no_reason = leb-true _ _ (not-false _ no_reason.window)
+  tame_of_kind is.System I.Ecall whole target bears suit no_reason = tt
+  tame_of_kind is.System I.Ebreak whole target bears suit no_reason = tt
+  tame_of_kind is.Branch (I.Branch op rs1 rs2 imm) true target bears suit no_reason = tt
+  tame_of_kind is.Branch (I.Branch op rs1 rs2 imm) false target bears suit no_reason = tt
+  tame_of_kind is.Jump i whole target bears suit no_reason = tt
+  tame_of_kind is.Call i whole target bears suit no_reason = room no_reason.deep
+  tame_of_kind is.Return i whole target bears suit no_reason = returns_tame st.pending (not-false _ no_reason.return)
+  tame_of_kind is.Ijump (I.Jalr rd rs1 imm) whole target bears suit no_reason = goes_to_gate kinds.Jump rd rs1 imm (bears kinds.Jump refl) no_reason.graph
+  tame_of_kind is.Icall (I.Jalr rd rs1 imm) whole target bears suit no_reason = (goes_to_gate kinds.Call rd rs1 imm (bears kinds.Call refl) no_reason.graph, room no_reason.deep)
+  tame_of_kind kind i whole target bears suit no_reason = let some = no_reason.no_end in absurd (cc)

@@ -9,6 +9,7 @@ use Rattle.obj_input.specs.declared.item_kind.ItemKind.{ItemKind}
 use Rattle.obj_input.specs.declared.item_kind.ItemKind.TheVariants as is
 use Rattle.obj_program.specs.Program.{is_end}
 use Rattle.obj_program.specs.Suits.{names_reserved, suits}
+use Rattle.cfi_unit.specs.declared.target_word.TargetWord.{TargetWord}
 use Rattle.cfi_runs.specs.Tame.{NamesNoReserved}
 use Rattle.cfi_harden.specs.Units.{unit_of}
 
@@ -42,20 +43,20 @@ or_right : (a b : Bool) → b ≡ true → (a || b) ≡ true
 or_right true b e = refl
 or_right false b e = e
 
-pub unit_free : (kind : ItemKind) (i : Instr) (whole : Bool) (target label : ℕ) → is_end kind ≡ false → suits kind i ≡ true → names_reserved i ≡ false →
-    NamesNoReserved (unit_of kind i whole target label)
-unit_free is.Gate (I.Upper op rd imm) whole target label some suit none = λ k named. absurd (cc)
-unit_free is.Plain i whole target label some suit none = λ k named. instr_free i none k named
-unit_free is.Store (I.Store op rs1 rs2 imm) whole target label some suit none = λ k named. instr_free (I.Store op rs1 rs2 imm) none k named
-unit_free is.System I.Ecall whole target label some suit none = λ k named. absurd (cc)
-unit_free is.System I.Ebreak whole target label some suit none = λ k named. absurd (cc)
-unit_free is.Branch (I.Branch op rs1 rs2 imm) true target label some suit none = λ k named. instr_free (I.Branch op rs1 rs2 imm) none k named
-unit_free is.Branch (I.Branch op rs1 rs2 imm) false target label some suit none = λ k named. instr_free (I.Branch op rs1 rs2 imm) none k named
-unit_free is.Jump i whole target label some suit none = λ k named. absurd (cc)
-unit_free is.Call i whole target label some suit none = λ k named. absurd (cc)
-unit_free is.Return i whole target label some suit none = λ k named. absurd (cc)
-unit_free is.Ijump (I.Jalr rd rs1 imm) whole target label some suit none =
+pub unit_free : (kind : ItemKind) (i : Instr) (whole : Bool) (target : ℕ) (which : TargetWord) (label : ℕ) → is_end kind ≡ false → suits kind i ≡ true → names_reserved i ≡ false →
+    NamesNoReserved (unit_of kind i whole target which label)
+unit_free is.Gate (I.Upper op rd imm) whole target which label some suit none = λ k named. absurd (cc)
+unit_free is.Plain i whole target which label some suit none = λ k named. instr_free i none k named
+unit_free is.Store (I.Store op rs1 rs2 imm) whole target which label some suit none = λ k named. instr_free (I.Store op rs1 rs2 imm) none k named
+unit_free is.System I.Ecall whole target which label some suit none = λ k named. absurd (cc)
+unit_free is.System I.Ebreak whole target which label some suit none = λ k named. absurd (cc)
+unit_free is.Branch (I.Branch op rs1 rs2 imm) true target which label some suit none = λ k named. instr_free (I.Branch op rs1 rs2 imm) none k named
+unit_free is.Branch (I.Branch op rs1 rs2 imm) false target which label some suit none = λ k named. instr_free (I.Branch op rs1 rs2 imm) none k named
+unit_free is.Jump i whole target which label some suit none = λ k named. absurd (cc)
+unit_free is.Call i whole target which label some suit none = λ k named. absurd (cc)
+unit_free is.Return i whole target which label some suit none = λ k named. absurd (cc)
+unit_free is.Ijump (I.Jalr rd rs1 imm) whole target which label some suit none =
     λ k named. instr_free (I.Jalr rd rs1 imm) none k (or_right (rd == k) (rs1 == k) named)
-unit_free is.Icall (I.Jalr rd rs1 imm) whole target label some suit none =
+unit_free is.Icall (I.Jalr rd rs1 imm) whole target which label some suit none =
     λ k named. instr_free (I.Jalr rd rs1 imm) none k (or_right (rd == k) (rs1 == k) named)
-unit_free kind i whole target label some suit none = absurd (cc)
+unit_free kind i whole target which label some suit none = absurd (cc)

@@ -16,7 +16,7 @@ use Rattle.cfi_map.specs.GraphAtMap.{ProgramAtMap, word}
 use Rattle.cfi_unit.specs.Prologue.{OPENING}
 use Rattle.cfi_runs.specs.WholeRun.{undisturbed}
 use Rattle.cfi_harden.specs.Units.{Choice}
-use Rattle.cfi_meaning.specs.PlacesKept.{bound, last_words}
+use Rattle.cfi_meaning.specs.PlacesKept.{most_steps}
 use Rattle.cfi_meaning.specs.Compared.{Compared, Difference, SourceRun, TraceItem, broke, called, compared_from, differs, exited, first_difference, has_ended, image_end, run_from, running, same_bytes, same_event, same_item, source_end, source_run, stopped, trace, verdict}
 use Rattle.cfi_meaning.specs.Meaning.{EndsAs, KeepsMeaning}
 use Rattle.cfi_meaning.specs.NeverDiffers as law
@@ -180,13 +180,13 @@ module _ (m : Choice) (is : IsProfile m.layout.profile) (image : Contents) (inpu
     abbrev told : SourceRun → Compared
     told r =
         verdict r.turn
-        (first_difference 0 (has_ended r.turn) (trace r.state.shared.events (source_end r.turn)) (trace (after (bound 1 (last_words p) r.steps)).shared.events (image_end (after (bound 1 (last_words p) r.steps)).turn)))
+        (first_difference 0 (has_ended r.turn) (trace r.state.shared.events (source_end r.turn)) (trace (after (most_steps m.layout r.steps)).shared.events (image_end (after (most_steps m.layout r.steps)).turn)))
         (length r.state.shared.events)
 
     never : (r : SourceRun) → Where m.layout start 0 r → (d : Difference) → told r ≡ differs d → ⊥
     never r (on_way t e) d differ =
         let here = kept.goes r.steps r.state (subst (λ (i : ℕ). after_steps m.layout i start ≡ Some r.state) (let s : 0 + r.steps ≡ r.steps = omega arith in s) e) in
-        let most = bound 1 (last_words p) r.steps in
+        let most = most_steps m.layout r.steps in
         let more = added here.0 most here.1 here.2.turn in
         let es = r.state.shared.events in
         let events : (after most).shared.events ≡ es ++ more.0 = more.1 ∙ ap (λ (old : List Event). old ++ more.0) here.2.events in
@@ -198,10 +198,9 @@ module _ (m : Choice) (is : IsProfile m.layout.profile) (image : Contents) (inpu
         none_differs r.turn (length es) d (ap (λ (o : Option Difference). verdict r.turn o (length es)) (sym none) ∙ differ)
     never r (at_end before i counted e is not_ran) d differ =
         let there = kept.ends i before (subst (λ (j : ℕ). after_steps m.layout j start ≡ Some before) (let s : 0 + i ≡ i = omega arith in s) e) in
-        let few = there.1 in
         let answer : EndsAs m.layout r.turn r.state (after there.0) =
         subst (λ (a : SourceAfter). EndsAs m.layout a.turn a.state (after there.0)) is there.2 in
-        ended_same r.turn r.state there.0 (bound 1 (last_words p) r.steps) (omega arith) answer not_ran d differ
+        ended_same r.turn r.state there.0 (most_steps m.layout r.steps) (subst (λ (n : ℕ). there.0 ≤ most_steps m.layout n) (sym counted) there.1) answer not_ran d differ
     never r (off_way why k is) d differ = untame_differs r.turn why k _ _ d is differ
 
 pub never_differs : law.NeverDiffers

@@ -20,11 +20,11 @@ use Rattle.cfi_unit.specs.UnitWords.{Fits, instrs_of, word_count}
 use Rattle.cfi_runs.specs.Own.{Own, OwnAfter, own_step}
 use Rattle.cfi_runs.specs.OwnRuns.{OwnRuns, words_along}
 use Rattle.cfi_runs.specs.Tame.{IsTame, NamesNoReserved, TameStep}
+use Rattle.cfi_rules.specs.Rules.{jump_word}
 use Rattle.cfi_rules.specs.Split.{code_words, unit_at}
 use Rattle.cfi_rules.proofs.Places.{unit_facts}
 use Rattle.cfi_rules.proofs.Standing.{unit_stands}
 use Rattle.cfi_harden.specs.Units.{Choice, instr_of, lead, lead_unit}
-use Rattle.cfi_harden.proofs.LineList.{one_of}
 use Rattle.cfi_harden.proofs.Runs.{AreSingle, from_lead, lead_few, lead_single}
 use Rattle.cfi_harden.proofs.Standing.{gate_after, instr_is, word_is}
 use Rattle.cfi_harden.proofs.Written.{written_units}
@@ -107,7 +107,7 @@ module _ (m : Choice) (image : Contents) (of : IsImageOf m image) where
       let words = words_at m.layout in
       let is = kept m.layout.program m.layout.gates words k (instr_of m k) of.accepted.sound place.below place.no_end (instr_is m of.accepted k place.below place.no_end) in
       unit_free (item_of m.layout.program k).kind (instr_of m k) (whole_at m.whole k) (gate_to m.layout (item_of m.layout.program k).target)
-      (site_label m.labels m.layout.closed.sides k) place.no_end is.0 is.1
+      (jump_word m.layout.closed.version) (site_label m.labels m.layout.closed.sides k) place.no_end is.0 is.1
 
   module _ (k : ℕ) (o : Own) (now : TamePlace m image k o) where
     tame_step : TameStep (loaded image) (unit_here m k) (at_word m k o)
@@ -139,7 +139,6 @@ module _ (m : Choice) (image : Contents) (of : IsImageOf m image) where
         let next : o.pc + 4 * length (lead m k) ≡ word m.layout k = omega arith in
         let words = words_led (lead m k) (lead_single m k) in
         let few = lead_few m k in
-        let one = ap length (one_of m of.accepted) in
         record {
           path = lead m k;
           few = omega arith;

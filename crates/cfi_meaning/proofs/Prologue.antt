@@ -20,10 +20,10 @@ use Rattle.cfi_meaning.specs.ImageOf.{IsImageOf}
 module _ (m : Choice) (image : Contents) (of : IsImageOf m image) where
   -- the graph that is written
   abbrev pub written_graph : GraphParts
-  written_graph = record { code = length image.code; lines = graph_lines m.layout m.labels }
+  written_graph = record { version = m.layout.closed.version; code = length image.code; lines = graph_lines m.layout m.labels }
 
   pub formed : IsWellFormed m.layout.profile image written_graph
-  formed = written_well_formed m image written_graph of.accepted of.code refl refl
+  formed = written_well_formed m image written_graph of.accepted of.code refl refl refl
 
 pub written_prologue : law.WrittenPrologue
 written_prologue m image of =

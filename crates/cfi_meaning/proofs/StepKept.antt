@@ -1,5 +1,5 @@
 -- From any state that matches the next step is kept.
-use Rattle.std.proofs.Common.{◌≡◌, ℕ, suc, ◌+◌, ◌-◌, ◌≤◌, inl, List, [], ◌∷◌, None, refl, sym, ap, subst, ◌∙◌, arith}
+use Rattle.std.proofs.Common.{◌≡◌, ℕ, suc, ◌+◌, ◌-◌, ◌≤◌, List, [], ◌∷◌, length, None, refl, sym, ap, subst, ◌∙◌, arith}
 use Rattle.rv_word.specs.Image.{Contents}
 use Rattle.rv_word.specs.MemoryMap.{Profile, SHADOW_START}
 use Rattle.rv_word.specs.Memory.{Memory, loaded}
@@ -95,30 +95,33 @@ module _ (m : Choice) (image : Contents) (of : IsImageOf m image) where
       (unit_within p SHADOW_START memory memory unit last c.hart c.shared own_part has.bytes
       (path_fit p image [] (entry_gate m) has path (own_step p o unit').state last on.2 fit') tame there.1)))))
 
+  abbrev most : ℕ
+  most = 19 + length m.layout.closed.sides
+
   keeps_so : (st : Source) (after : After) → Matches m.layout image st after → Stepped m image st →
-      Within p 20 (Answers m.layout image (source_step m.layout st).turn (source_step m.layout st).state) (step p after.hart after.shared)
+      Within p most (Answers m.layout image (source_step m.layout st).turn (source_step m.layout st).state) (step p after.hart after.shared)
   keeps_so st after same (has_ended status ended is) =
       let none : last_exit st.shared.events ≡ None = sym (ap last_exit same.events) ∙ same.going in absurd (cc)
   keeps_so st after same (is_untame why k is) =
-      subst (λ (t : StepTurn). Within p 20 (Answers m.layout image t (source_step m.layout st).state) (step p after.hart after.shared)) (sym is) (inl tt)
+      subst (λ (t : StepTurn). Within p most (Answers m.layout image t (source_step m.layout st).state) (step p after.hart after.shared)) (sym is) (within_more p (Answers m.layout image (untame why k) (source_step m.layout st).state) 0 most (step p after.hart after.shared) (omega arith) tt)
   keeps_so st after same (at_place k now is) =
       let o = own_of m.layout st in
       let here = place_runs m image k o of now in
       let few = here.few in
-      let most = most_words (unit_here m k) in
+      let long = most_words (unit_here m k) in
       let fit = fitting m of.accepted st same.room in
       within_weaker p (MatchesAfter SHADOW_START memory memory (place_step m k o))
       (Answers m.layout image (source_step m.layout st).turn (source_step m.layout st).state)
-      (answers (source_step m.layout st).turn (source_step m.layout st).state (place_step m k o) is (sites_after k o now fit)) 20 (step p after.hart after.shared)
-      (along 20 here.path (unit_here m k) o (at_word m k o) after.hart after.shared (omega arith) fit here.leads here.step
+      (answers (source_step m.layout st).turn (source_step m.layout st).state (place_step m k o) is (sites_after k o now fit)) most (step p after.hart after.shared)
+      (along most here.path (unit_here m k) o (at_word m k o) after.hart after.shared (omega arith) fit here.leads here.step
       (to_own m.layout image st after same).1)
   keeps_so st after same (at_closing nowhere is) =
       let o = own_of m.layout st in
       let pc = ap (address_of m.layout) nowhere in
       within_weaker p (MatchesAfter SHADOW_START memory memory (own_closing p o))
       (Answers m.layout image (source_step m.layout st).turn (source_step m.layout st).state)
-      (λ b ends. subst (λ (a : SourceAfter). Answers m.layout image a.turn a.state b) (sym is) (ends.turn, ends.shared)) 20 (step p after.hart after.shared)
-      (within_more p (MatchesAfter SHADOW_START memory memory (own_closing p o)) 1 20 (step p after.hart after.shared) (omega arith)
+      (λ b ends. subst (λ (a : SourceAfter). Answers m.layout image a.turn a.state b) (sym is) (ends.turn, ends.shared)) most (step p after.hart after.shared)
+      (within_more p (MatchesAfter SHADOW_START memory memory (own_closing p o)) 1 most (step p after.hart after.shared) (omega arith)
       (closing_keeps_match p SHADOW_START memory memory o after.hart after.shared own_part
       (subst (λ (a : ℕ). Stand memory a closing_instrs) (sym pc) has.closing) (to_own m.layout image st after same).1))
 

@@ -15,6 +15,7 @@ use Rattle.obj_program.proofs.Kept.{kept}
 use Rattle.cfi_map.specs.GraphAtMap.{ProgramAtMap, gate, gate_to, word, words_at}
 use Rattle.cfi_map.specs.LabelOf.{site_label}
 use Rattle.cfi_map.specs.Placement.{whole_at}
+use Rattle.cfi_rules.specs.Rules.{jump_word}
 use Rattle.cfi_harden.specs.Units.{Choice, instr_of}
 use Rattle.cfi_harden.proofs.Leading.{direct}
 use Rattle.cfi_harden.proofs.Standing.{gate_lies, instr_is, word_is}
@@ -75,8 +76,8 @@ module _ (m : Choice) (image : Contents) (of : IsImageOf m image) (k : ℕ) wher
         place = place;
         at = refl;
         some = let counted = sites_counted g pending in omega arith;
-        tame = tame_of_kind image g k (site_label m.labels m.layout.closed.sides k) here (λ t' reaches. target_bears m image k t' of reaches)
-            item.kind (instr_of m k) (whole_at m.whole k) (gate_to g item.target) suit no_reason;
+        tame = tame_of_kind image g k (jump_word g.closed.version) (site_label m.labels g.closed.sides k) here item.kind (instr_of m k)
+            (whole_at m.whole k) (gate_to g item.target) (λ site some t' reaches. target_bears m image k t' site of place.below some reaches) suit no_reason;
       }
 
       past : g.profile.units_from ≤ word g k

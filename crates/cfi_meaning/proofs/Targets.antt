@@ -1,44 +1,43 @@
--- The gates of a computed transfer's targets bear its label.
-use Rattle.std.proofs.Common.{◌≡◌, ℕ, suc, ◌+◌, ◌*◌, ◌^◌, ◌<◌, ◌==◌, inl, inr, true, List, [], ◌∷◌, length, length-append, Option, Some, None, refl, sym, ap, subst, ◌∙◌, arith}
-use Rattle.std.specs.Prelude.{slice_get, slice_index}
-use Rattle.std.specs.List.{find}
-use Rattle.std.proofs.lemmas.Bool.{cases_Bool, eqb-true}
-use Rattle.std.proofs.lemmas.Option.{slice_get-get_or}
+-- The gates of a computed transfer's targets bear its label: they are targets of the class that serves it, in a graph that meets the rules.
+use Rattle.std.proofs.Common.{◌≡◌, ℕ, zero, suc, ◌<◌, ◌==◌, inl, inr, true, List, [], ◌∷◌, length, Option, Some, None, refl, sym, ap, subst, ◌∙◌}
+use Rattle.std.specs.Prelude.{map, option_and_then, slice_get, slice_index, slice_index_or}
+use Rattle.std.specs.List.{find, list_any}
+use Rattle.std.proofs.lemmas.Bool.{cases_Bool, eqb-true, or_cases, or_left, or_right}
+use Rattle.std.proofs.lemmas.List.{get_or_append_left}
+use Rattle.std.proofs.lemmas.List.Quantifiers.{position-Some}
+use Rattle.std.proofs.lemmas.Option.{same_Some}
 use Rattle.rv_word.specs.Image.{Contents}
-use Rattle.rv_word.specs.Memory.{loaded, read}
-use Rattle.rv_code.specs.Encode.{code_of}
-use Rattle.rv_code.proofs.Inverse.{code_of-decoded}
-use Rattle.obj_program.specs.Program.{count}
-use Rattle.cfi_flow.specs.declared.closed.Site.{Site}
-use Rattle.cfi_flow.specs.Closed.{Side, class_at, class_if, class_of, first_side, is_same}
-use Rattle.cfi_map.specs.GraphAtMap.{gate}
-use Rattle.cfi_map.specs.LabelOf.{all_classes, empty_classes, label_at, next_after, site_label, site_number}
-use Rattle.cfi_flow.proofs.Sides.{one_reaches}
-use Rattle.cfi_unit.specs.declared.unit.Unit.TheVariants as V
+use Rattle.rv_word.specs.Memory.{loaded}
+use Rattle.obj_program.specs.Program.{count, item_of}
+use Rattle.cfi_class.specs.Classes.{has}
+use Rattle.cfi_graph.specs.declared.line.GraphLine.{GraphLine}
+use Rattle.cfi_graph.specs.declared.line.SiteKind.{SiteKind}
+use Rattle.cfi_flow.specs.declared.side.Site.{Site}
+use Rattle.cfi_flow.specs.Closed.{Side, class_at, class_if, class_of, has_site, is_same, side_reaches}
+use Rattle.cfi_map.specs.GraphAtMap.{gate, graph_lines}
+use Rattle.cfi_map.specs.LabelOf.{all_classes, empty_classes, next_after, site_label, site_number}
+use Rattle.cfi_unit.specs.declared.target_word.TargetWord.{TargetWord}
 use Rattle.cfi_unit.specs.Leads.{HasLabel}
-use Rattle.cfi_unit.specs.Stand.{Stand}
-use Rattle.cfi_unit.specs.UnitWords.{instrs_of}
-use Rattle.cfi_unit.specs.UnitWords as words
-use Rattle.cfi_unit.proofs.Labels.{word_small}
-use Rattle.cfi_rules.proofs.Bytes.{loaded_small}
-use Rattle.cfi_harden.specs.Units.{Choice}
-use Rattle.cfi_harden.proofs.ClassLabels.{found_at}
-use Rattle.cfi_harden.proofs.Labelled.{labelled}
-use Rattle.cfi_harden.proofs.LineList.{classes_counted, one_of}
-use Rattle.cfi_harden.proofs.SideLabels.{is_in}
-use Rattle.cfi_harden.proofs.SiteNumbers.{site_one}
-use Rattle.cfi_harden.proofs.UnitList.{first_word}
+use Rattle.cfi_rules.specs.Lines.{class_with, holds_of, if_serves, is_among, targets_for}
+use Rattle.cfi_rules.specs.Rules.{jump_word}
+use Rattle.cfi_rules.specs.Walk.{InClass}
+use Rattle.cfi_rules.proofs.Moves.{in_class_label}
+use Rattle.cfi_rules.proofs.PlacedLines.{class_before, no_class}
+use Rattle.cfi_harden.specs.Accepted.{IsAccepted, IsSiteOf}
+use Rattle.cfi_harden.specs.Laws.{written_classes}
+use Rattle.cfi_harden.specs.SideLaws.{AreLabelled, word_read}
+use Rattle.cfi_harden.specs.Units.{Choice, units}
+use Rattle.cfi_harden.proofs.ClassLines.{among_to}
+use Rattle.cfi_harden.proofs.SideLabels.{sites_served}
+use Rattle.cfi_harden.proofs.Written.{lines_are}
 use Rattle.cfi_meaning.specs.PlaceLaws as law
 use Rattle.cfi_meaning.specs.ImageOf.{IsImageOf}
-use Rattle.cfi_meaning.proofs.Places.{lead_written, stands_here}
+use Rattle.cfi_meaning.proofs.Prologue.{formed, written_graph}
 
--- a site, and the number of its class
+-- the number of a site's class
 record SiteFound (sites : List Site) (next k class : ℕ) : Type 0 where
   numbered : site_number sites next k ≡ class
-  index : ℕ
-  site : Site
-  there : slice_get sites index ≡ Some site
-  of : site.class ≡ Some class
+  there : list_any (λ (s : Site). s.place == k) sites ≡ true
 
 site_found : (sites : List Site) (next k class : ℕ) → class_if (find (λ (s : Site). s.place == k) sites) ≡ Some class → SiteFound sites next k class
 unfolding site_number
@@ -47,22 +46,11 @@ site_found (site ∷ sites) next k class e =
     elim (cases_Bool (site.place == k)) [
       | inl here ↦
           let of : site.class ≡ Some class = rw here at e in
-          record { numbered = rw (here, of) refl; index = 0; site = site; there = refl; of = of }
+          record { numbered = rw (here, of) refl; there = or_left (site.place == k) (list_any (λ (s : Site). s.place == k) sites) here }
       | inr other ↦
           let rest = site_found sites (next_after site.class next) k class (rw other at e) in
-          record { numbered = rw other rest.numbered; index = suc rest.index; site = rest.site; there = rest.there; of = rest.of }
+          record { numbered = rw other rest.numbered; there = or_right (site.place == k) (list_any (λ (s : Site). s.place == k) sites) rest.there }
     ]
-
--- a gate word bears its label
-bears : (image : Contents) (label v : ℕ) → ((k : ℕ) → loaded image k < 2 ^ 8) → Stand (loaded image) v (instrs_of (V.Gate label) v) →
-    HasLabel (loaded image) label v
-unfolding code_of
-bears image label v small stand =
-    let first : v + 4 * 0 ≡ v = omega arith in
-    let word : code_of (words.gate label) ≡ read 4 (loaded image) v =
-    code_of-decoded (read 4 (loaded image) v) (words.gate label) (word_small (loaded image) v small)
-    (rw first at (stand.words 0 (words.gate label) refl)) in
-    record { round = stand.round; low = stand.low; high = stand.high; word = omega arith }
 
 -- two classes that are the same
 same_class : (a b : Option ℕ) → is_same a b ≡ true → (class : ℕ) × (a ≡ Some class) × (b ≡ Some class)
@@ -71,51 +59,78 @@ same_class None (Some b) e = absurd (cc)
 same_class (Some a) None e = absurd (cc)
 same_class (Some a) (Some b) e = (a, refl, ap Some (sym (eqb-true a b e)))
 
-module _ (m : Choice) (image : Contents) (of : IsImageOf m image) (k t class : ℕ) (reached : class_of (first_side m.layout.closed) k ≡ Some class)
-    (target : class_at (first_side m.layout.closed) t ≡ Some class) where
-  abbrev side : Side
-  side = first_side m.layout.closed
+-- the side whose site goes to a place, and the class of both
+record ReachedIn (sides : List Side) (k t : ℕ) : Type 0 where
+  index : ℕ
+  side : Side
+  there : slice_get sides index ≡ Some side
+  class : ℕ
+  site : class_of side k ≡ Some class
+  target : class_at side t ≡ Some class
 
-  one : m.layout.closed.sides ≡ side ∷ []
-  one = one_of m of.accepted
+reached_in : (sides : List Side) (k t : ℕ) → list_any (side_reaches k t) sides ≡ true → ReachedIn sides k t
+reached_in [] k t e = absurd (cc)
+reached_in (side ∷ sides) k t e =
+    elim (or_cases (side_reaches k t side) (list_any (side_reaches k t) sides) e) [
+      | inl here ↦
+          let same = same_class (class_of side k) (class_at side t) here in
+          record { index = 0; side = side; there = refl; class = same.0; site = same.1; target = same.2 }
+      | inr later ↦
+          let rest = reached_in sides k t later in
+          record { index = suc rest.index; side = rest.side; there = rest.there; class = rest.class; site = rest.site; target = rest.target }
+    ]
 
-  side_there : slice_get m.layout.closed.sides 0 ≡ Some side
-  side_there = ap (λ (sides : List Side). slice_get sides 0) one
+-- what the graph says of a label, the lines of its classes say
+classes_alone : (m : Choice) → IsAccepted m → (kind : SiteKind) (which : TargetWord) (label : ℕ) →
+    targets_for (graph_lines m.layout m.labels) kind which label ≡ targets_for (written_classes m) kind which label
+unfolding class_with targets_for
+classes_alone m ok kind which label =
+    ap (λ (lines : List GraphLine). targets_for lines kind which label) (lines_are m ok)
+    ∙ ap (option_and_then (if_serves kind which)) (class_before (written_classes m) _ label (no_class (units m) m.layout.profile.units_from label))
 
-  counted : length m.labels ≡ length (all_classes side)
-  counted = of.accepted.counted ∙ classes_counted m.layout.closed one
+are_labelled : (m : Choice) → IsAccepted m → AreLabelled m.layout.closed.version m.labels m.layout.closed.sides
+are_labelled m ok = record { sorts = ok.sorts; counted = ok.counted; rising = ok.labels_rise; apart = ok.apart; site_classes = ok.site_classes }
 
-  site : SiteFound side.sites (length side.classes) k class
-  site = site_found side.sites (length side.classes) k class reached
+module _ (m : Choice) (image : Contents) (of : IsImageOf m image) (k t : ℕ) (kind : SiteKind) (at : IsSiteOf m.layout.closed.sides k kind) (class : ℕ)
+    (reached : class_of at.side k ≡ Some class) (target : class_at at.side t ≡ Some class) where
+  abbrev which : TargetWord
+  which = word_read (jump_word m.layout.closed.version) kind
 
   abbrev label : ℕ
-  label = slice_index m.labels class
+  label = site_label m.labels m.layout.closed.sides k
 
-  label_there : label_at m.labels side.classes t ≡ Some label
-  label_there =
-      let below = of.accepted.site_classes 0 site.index class side site.site side_there site.there site.of in
-      let all = length-append side.classes (empty_classes side.sites) in
-      let many = counted in
-      sym (found_at m.labels side.classes t class target) ∙ slice_get-get_or m.labels class 0 (omega arith)
+  abbrev members : List ℕ
+  members = slice_index_or at.side.classes class []
 
-  target_there : t < count m.layout.program
-  target_there =
-      let is = labelled m.labels side.classes t label label_there in
-      of.accepted.members 0 is.index t side side_there (is_in side.classes is.index t is.class is.class_is is.member)
+  found : (class < length at.side.classes) × (has t members ≡ true)
+  found = let is = position-Some (has t) at.side.classes class [] target in (is.0, is.1)
 
-  pub label_borne : HasLabel (loaded image) (site_label m.labels m.layout.closed.sides k) (gate m.layout t)
+  class_is : slice_index_or (all_classes at.side) (site_number at.side.sites (length at.side.classes) k) [] ≡ members
+  class_is =
+      ap (λ (n : ℕ). slice_index_or (all_classes at.side) n []) (site_found at.side.sites (length at.side.classes) k class reached).numbered
+      ∙ get_or_append_left at.side.classes (empty_classes at.side.sites) [] class found.0
+
+  served : targets_for (graph_lines m.layout m.labels) kind which label ≡ Some (map (slice_index m.layout.gates) members)
+  served =
+      classes_alone m of.accepted kind which label
+      ∙ sites_served m.layout.closed.version m.layout.gates m.labels m.layout.closed.sides (are_labelled m of.accepted) k kind at
+      ∙ ap (λ (ts : List ℕ). Some (map (slice_index m.layout.gates) ts)) class_is
+
+  inside : InClass (graph_lines m.layout m.labels) kind which label (gate m.layout t)
+  inside = ap (λ (o : Option (List ℕ)). holds_of o (is_among (gate m.layout t))) served ∙ among_to (slice_index m.layout.gates) members t found.1
+
+  pub label_borne : HasLabel (loaded image) which label (gate m.layout t)
   label_borne =
-      let first : gate m.layout t + 4 * 0 ≡ gate m.layout t = omega arith in
-      let here = stands_here m image of (gate m.layout t + 4 * 0) (V.Gate label)
-      (lead_written m image of t 0 (V.Gate label) target_there (first_word m t label of.accepted label_there)) in
-      let at : slice_index m.labels class ≡ site_label m.labels m.layout.closed.sides k =
-      ap (slice_index m.labels) (sym site.numbered) ∙ site_one m.labels m.layout.closed k one counted in
-      subst (λ (l : ℕ). HasLabel (loaded image) l (gate m.layout t)) at
-      (bears image label (gate m.layout t) (loaded_small image of.bytes)
-      (subst (λ (a : ℕ). Stand (loaded image) a (instrs_of (V.Gate label) a)) first here.1))
+      in_class_label m.layout.profile of.accepted.profile image (written_graph m image of) of.bytes (formed m image of) kind which label (gate m.layout t) inside
 
 pub target_bears : law.TargetBears
-target_bears m image k t of reaches =
-    let same = same_class (class_of (first_side m.layout.closed) k) (class_at (first_side m.layout.closed) t)
-    (one_reaches m.layout.closed k t (one_of m of.accepted) ∙ reaches) in
-    label_borne m image of k t same.0 same.1 same.2
+target_bears m image k t kind of below some reaches =
+    let at = of.accepted.sites k kind below some in
+    let own = reached_in m.layout.closed.sides k t reaches in
+    let has_it : has_site k own.side ≡ true = (site_found own.side.sites 0 k own.class own.site).there in
+    let index : own.index ≡ at.index = at.alone own.index own.side own.there has_it in
+    let same : own.side ≡ at.side =
+    same_Some own.side at.side (sym own.there ∙ ap (slice_get m.layout.closed.sides) index ∙ at.there) in
+    label_borne m image of k t kind at own.class
+    (subst (λ (s : Side). class_of s k ≡ Some own.class) same own.site)
+    (subst (λ (s : Side). class_at s t ≡ Some own.class) same own.target)

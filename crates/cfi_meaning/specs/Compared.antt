@@ -1,6 +1,7 @@
 -- A program's run and the undisturbed run of its image, compared: the events of both in order and how
 -- each ended, to the first that differs. For n steps of the program's the image, of which hart 0 runs alone, runs
--- 21 n and 13 more, or 17 more where the program is at a map for images for several harts.
+-- 21 n and 13 more, or 17 more where the program is at a map for images for several harts; 22 n where it is at one for
+-- graphs of version 2.
 use Rattle.std.specs.Prelude.{ℕ, zero, suc, ◌==◌, ◌&&◌, Bool, true, false, nat_lt, if◌then◌else◌, Option, Some, None, List, [], ◌∷◌, ◌++◌, length, map}
 use Rattle.rv_word.specs.Image.{Contents}
 use Rattle.rv_word.specs.MemoryMap.{Profile}
@@ -10,7 +11,7 @@ use Rattle.rv_code.specs.declared.turn.Turn.TheVariants.{Ran, Exit, Break}
 use Rattle.cfi_map.specs.GraphAtMap.{ProgramAtMap}
 use Rattle.cfi_unit.specs.Prologue.{OPENING}
 use Rattle.cfi_runs.specs.WholeRun.{undisturbed}
-use Rattle.cfi_meaning.specs.PlacesKept.{bound, last_words}
+use Rattle.cfi_meaning.specs.PlacesKept.{most_steps}
 use Rattle.cfi_map.specs.declared.reason.Reason.{Reason}
 use Rattle.cfi_map.specs.Source.{Source, source_start}
 use Rattle.cfi_map.specs.SourceStep.{StepTurn, breaks, exits, ran, source_step, untame}
@@ -108,7 +109,7 @@ verdict (breaks k) None events = same events
 unfoldable pub compared_from : Profile → ProgramAtMap → Source → Contents → List ℕ → ℕ → Compared
 compared_from p layout state image input limit =
     let r = source_run layout limit state in
-    let a = undisturbed p image input (bound 1 (last_words layout.profile) r.steps) in
+    let a = undisturbed p image input (most_steps layout r.steps) in
     verdict r.turn
     (first_difference 0 (has_ended r.turn) (trace r.state.shared.events (source_end r.turn)) (trace a.shared.events (image_end a.turn)))
     (length r.state.shared.events)

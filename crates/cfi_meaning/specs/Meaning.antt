@@ -1,7 +1,7 @@
 -- Meaning kept: after n tame steps of the source machine, none of which ends the run, the undisturbed run of the image is at a
 -- matching state within 21 n + 13 steps; and where the next step ends the run, the image's has ended alike within 21 (n + 1) + 13
--- in all. An image for several harts runs with one alone, and for 13 reads 17.
-use Rattle.std.specs.Prelude.{◌≡◌, ℕ, ◌+◌, ◌≤◌, Some, List}
+-- in all. An image for several harts runs with one alone, and for 13 reads 17; with a graph of version 2 for 21 reads 22.
+use Rattle.std.specs.Prelude.{◌≡◌, ℕ, ◌+◌, ◌≤◌, Some, List, length}
 use Rattle.rv_word.specs.Image.{Contents}
 use Rattle.rv_code.specs.State.{After}
 use Rattle.rv_code.specs.Step.{step}
@@ -12,7 +12,7 @@ use Rattle.cfi_runs.specs.WholeRun.{RunsTo}
 use Rattle.cfi_runs.specs.Within.{Within}
 use Rattle.cfi_harden.specs.Units.{Choice}
 use Rattle.cfi_meaning.specs.ImageOf.{IsImageOf}
-use Rattle.cfi_meaning.specs.PlacesKept.{bound, last_words}
+use Rattle.cfi_meaning.specs.PlacesKept.{most_steps}
 use Rattle.cfi_map.specs.Source.{Source, init_here, source_start}
 use Rattle.cfi_map.specs.SourceStep.{StepTurn, after_steps, breaks, exits, ran, source_step}
 use Rattle.cfi_meaning.specs.Matches.{Matches}
@@ -30,19 +30,19 @@ abbrev pub Answers : ProgramAtMap → Contents → StepTurn → Source → After
 Answers layout image ran st after = Matches layout image st after
 Answers layout image other st after = EndsAs layout other st after
 
--- what matching is for: from any state that matches, whatever led to it, one step and at most 20 more come to a state that matches
+-- what matching is for: from any state that matches, whatever led to it, one step and at most 20 more, or 21, come to a state that matches
 -- after the source machine's next step, or end as that does
 abbrev pub KeepsStep : ProgramAtMap → Contents → Type 0
 KeepsStep layout image =
     (st : Source) (after : After) → Matches layout image st after →
-    Within layout.profile 20 (Answers layout image (source_step layout st).turn (source_step layout st).state)
+    Within layout.profile (19 + length layout.closed.sides) (Answers layout image (source_step layout st).turn (source_step layout st).state)
     (step layout.profile after.hart after.shared)
 
 pub record KeepsMeaning (layout : ProgramAtMap) (image : Contents) (input : List ℕ) : Type 0 where
   pub goes : (n : ℕ) (st : Source) → after_steps layout n (source_start layout input) ≡ Some st →
-      RunsTo layout.profile image input (bound 1 (last_words layout.profile) n) (Matches layout image st)
+      RunsTo layout.profile image input (most_steps layout n) (Matches layout image st)
   pub ends : (n : ℕ) (st : Source) → after_steps layout n (source_start layout input) ≡ Some st →
-      RunsTo layout.profile image input (bound 1 (last_words layout.profile) (n + 1)) (EndsAs layout (source_step layout st).turn (source_step layout st).state)
+      RunsTo layout.profile image input (most_steps layout (n + 1)) (EndsAs layout (source_step layout st).turn (source_step layout st).state)
   -- and the states that match are the right ones: from any of them the next step is kept
   pub stays : KeepsStep layout image
 

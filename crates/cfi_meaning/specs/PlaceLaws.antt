@@ -1,11 +1,13 @@
 -- What stands at places, and where the words before their units lead.
-use Rattle.std.specs.Prelude.{◌≡◌, ℕ, ◌+◌, ◌*◌, ◌≤◌, ◌<◌, true, List}
+use Rattle.std.specs.Prelude.{◌≡◌, ℕ, ◌+◌, ◌*◌, ◌≤◌, ◌<◌, true, List, Some, length}
 use Rattle.rv_word.specs.Image.{Contents}
 use Rattle.rv_word.specs.Memory.{loaded}
-use Rattle.obj_program.specs.Program.{count}
+use Rattle.obj_program.specs.Program.{count, item_of}
+use Rattle.cfi_graph.specs.declared.line.SiteKind.{SiteKind}
 use Rattle.cfi_map.specs.GraphAtMap.{gate, word}
 use Rattle.cfi_map.specs.LabelOf.{site_label}
 use Rattle.cfi_flow.specs.Closed.{class_reaches}
+use Rattle.cfi_flow.specs.Sites.{site_kind}
 use Rattle.cfi_unit.specs.declared.unit.Unit as U
 use Rattle.cfi_unit.specs.Leads.{HasLabel}
 use Rattle.cfi_unit.specs.UnitWords.{word_count}
@@ -13,15 +15,17 @@ use Rattle.cfi_runs.specs.Own.{Own}
 use Rattle.cfi_runs.specs.OwnRuns.{OwnRuns, words_along}
 use Rattle.cfi_runs.specs.Tame.{TameStep}
 use Rattle.cfi_runs.specs.WholeRun.{HasPrologue}
+use Rattle.cfi_rules.specs.Rules.{jump_word}
 use Rattle.cfi_harden.specs.Accepted.{IsAccepted}
+use Rattle.cfi_harden.specs.SideLaws.{word_read}
 use Rattle.cfi_harden.specs.Units.{Choice, entry_gate}
 use Rattle.cfi_meaning.specs.ImageOf.{IsImageOf, IsPlace, unit_here}
 use Rattle.cfi_meaning.specs.PlaceSteps.{TamePlace, at_word}
 
--- from a place's gate a path of no more than one word leads to its unit, whose step is tame
+-- from a place's gate a path of no more words than the closed graph has sides leads to its unit, whose step is tame
 pub record ComesToPlace (m : Choice) (image : Contents) (k : ℕ) (o : Own) : Type 0 where
   pub path : List U.Unit
-  pub few : words_along path ≤ 1
+  pub few : words_along path ≤ length m.layout.closed.sides
   pub leads : OwnRuns m.layout.profile (loaded image) path o (at_word m k o)
   pub step : TameStep (loaded image) (unit_here m k) (at_word m k o)
 
@@ -37,8 +41,9 @@ NextGate =
     (m : Choice) (k : ℕ) → IsAccepted m → IsPlace m k →
     (k + 1 < count m.layout.program) × (gate m.layout (k + 1) ≡ word m.layout k + 4 * word_count (unit_here m k))
 
--- the gates of a computed transfer's targets bear its label
+-- the gates of a computed transfer's targets bear its label, at the word that its check reads
 abbrev pub TargetBears : Type 0
 TargetBears =
-    (m : Choice) (image : Contents) (k t : ℕ) → IsImageOf m image → class_reaches m.layout.closed k t ≡ true →
-    HasLabel (loaded image) (site_label m.labels m.layout.closed.sides k) (gate m.layout t)
+    (m : Choice) (image : Contents) (k t : ℕ) (kind : SiteKind) → IsImageOf m image → k < count m.layout.program →
+    site_kind (item_of m.layout.program k).kind ≡ Some kind → class_reaches m.layout.closed k t ≡ true →
+    HasLabel (loaded image) (word_read (jump_word m.layout.closed.version) kind) (site_label m.labels m.layout.closed.sides k) (gate m.layout t)

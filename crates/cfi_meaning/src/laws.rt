@@ -12,7 +12,7 @@ pub fn written_prologue()
     ensures { WrittenPrologue }
 {}
 
-/// From a place's gate its gate word, if it has one, leads to its unit, whose step is tame.
+/// From a place's gate the words before its unit, if it has any, lead to that, whose step is tame.
 pub fn place_runs()
     ensures { PlaceRuns }
 {}
@@ -22,14 +22,14 @@ pub fn next_gate()
     ensures { NextGate }
 {}
 
-/// The gates of a computed transfer's targets bear its label.
+/// The gates of a computed transfer's targets bear its label, at the word that its check reads.
 pub fn target_bears()
     ensures { TargetBears }
 {}
 
 /// The undisturbed run of an image of what is written keeps the program's own run: after n tame steps of
-/// the program the machine is at a matching state within 21 n steps, and 13 more in version 1 of images or
-/// 17 in version 2.
+/// the program the machine is at a matching state within 21 n steps, or 22 n with a graph of version 2, and 13
+/// more in version 1 of images or 17 in version 2.
 pub fn places_kept()
     ensures { PlacesKept }
 {}
@@ -49,7 +49,8 @@ pub fn matches_is_own()
     ensures { MatchesIsOwn }
 {}
 
-/// From any state that matches, the next step of the program is kept within 21 of the image.
+/// From any state that matches, the next step of the program is kept within 21 of the image, or 22 with a graph
+/// of version 2.
 pub fn step_kept()
     ensures { StepKept }
 {}

@@ -20,6 +20,7 @@ use Rattle.rv_code.proofs.Runs.{calm}
 use Rattle.cfi_graph.specs.Graph.{GraphParts}
 use Rattle.cfi_unit.specs.declared.unit.Unit.TheVariants as V
 use Rattle.cfi_unit.specs.Context.{IsCodeOf}
+use Rattle.cfi_unit.specs.declared.target_word.TargetWord.TheVariants as T
 use Rattle.cfi_unit.specs.declared.place.Place.{Place}
 use Rattle.cfi_unit.specs.declared.place.Place.TheVariants.{Handler as handler, Opening as opening, Body as body}
 use Rattle.cfi_unit.specs.Prologue.{OPENING}
@@ -198,14 +199,14 @@ astray_unsafe safe =
 halted_unsafe : IsSafe version_1 halted_jump halted_jump_graph → ⊥
 unfolding loaded placed decoded code_of step write last_exit code_words recognised words_of starts is_start unit_at place_at after_calm quiet is_ran class_with targets_for
 halted_unsafe safe =
-    let jump : Place = body (V.Ijump 1 60 1) in
+    let jump : Place = body (V.Ijump T.First 1 60 1) in
     let f = first halted_jump halted_jump_graph 0x40000040 jump (calm 10 ++ ([] ∷ [])) refl (record { runs = refl; still = refl; there = refl }) (calm_is_data 11) safe in
     let a = next_arrival version_1 SHADOW_START halted_jump halted_jump_graph (Some f.opened) jump handler 10 _ _ [] f.arrived (record { runs = refl; still = refl; there = refl }) in
     let at : place_at version_1 (code_words halted_jump.code) f.arrived.w.at ≡ Some jump = ap (place_at version_1 (code_words halted_jump.code)) f.arrived.at in
-    let chooses : JumpChooses halted_jump_graph.lines 1 (destination f.arrived.w.regs 1 60) BAD_TARGET =
+    let chooses : JumpChooses halted_jump_graph.lines T.First 1 (destination f.arrived.w.regs 1 60) BAD_TARGET =
     (went version_1 SHADOW_START halted_jump halted_jump_graph f.arrived.w jump handler _ _ [] at a).chooses in
-    let there : JumpChooses halted_jump_graph.lines 1 0x40000074 BAD_TARGET =
-    subst (λ (r : Registers). JumpChooses halted_jump_graph.lines 1 (destination r 1 60) BAD_TARGET) f.arrived.regs chooses in
+    let there : JumpChooses halted_jump_graph.lines T.First 1 0x40000074 BAD_TARGET =
+    subst (λ (r : Registers). JumpChooses halted_jump_graph.lines T.First 1 (destination r 1 60) BAD_TARGET) f.arrived.regs chooses in
     elim there [
       | inl went ↦ let v : BAD_TARGET ≡ 0x40000074 = went.1 in absurd (omega arith)
       | inr outside ↦ outside.0 refl

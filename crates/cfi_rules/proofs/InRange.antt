@@ -7,11 +7,13 @@ use Rattle.rv_word.specs.MemoryMap.{IsProfile, Profile}
 use Rattle.rv_instr.specs.InRange.{IsInstr}
 use Rattle.rv_instr.specs.declared.instr.Instr.{Instr}
 use Rattle.rv_instr.specs.declared.instr.Instr.TheVariants.{Jal, Jalr, Ebreak}
+use Rattle.cfi_unit.specs.declared.target_word.TargetWord.{TargetWord}
+use Rattle.cfi_unit.specs.declared.target_word.TargetWord.TheVariants.{First, Second}
 use Rattle.cfi_unit.specs.declared.unit.Unit as U
 use Rattle.cfi_unit.specs.declared.unit.Unit.TheVariants as V
 use Rattle.cfi_unit.specs.declared.unit.SystemOp.TheVariants as S
 use Rattle.cfi_unit.specs.Prologue.{call_at, closing_instrs, lone_set_up, opening_instrs, own_set_up, prologue_instrs, set_up}
-use Rattle.cfi_unit.specs.UnitWords.{Fits, instrs_of, jump_offset, push, check}
+use Rattle.cfi_unit.specs.UnitWords.{Fits, instrs_of, jump_offset, push, check, past}
 use Rattle.cfi_unit.proofs.Found.{is_jump_instr}
 
 abbrev pub AreInstrs : List Instr → Type 0
@@ -44,8 +46,12 @@ push_instrs at = (
   ),
 )
 
-check_instrs : (at rs1 imm label : ℕ) → rs1 < 32 → imm < 2 ^ 12 → label < 2 ^ 20 → AreInstrs (check at rs1 imm label)
-check_instrs at rs1 imm label r i l = (
+past_small : (which : TargetWord) → past which < 2 ^ 12
+past_small First = lit< tt
+past_small Second = lit< tt
+
+check_instrs : (at rs1 imm label : ℕ) (which : TargetWord) → rs1 < 32 → imm < 2 ^ 12 → label < 2 ^ 20 → AreInstrs (check at rs1 imm label which)
+check_instrs at rs1 imm label which r i l = (
   (lit< tt, r, i),
   (
     (lit< tt, lit< tt, lit< tt),
@@ -60,7 +66,7 @@ check_instrs at rs1 imm label r i l = (
             (
               is_jump_instr 0 _ _ (lit< tt),
               (
-                (lit< tt, lit< tt, lit< tt),
+                (lit< tt, lit< tt, past_small which),
                 (
                   (lit< tt, l),
                   (
@@ -95,11 +101,11 @@ unit_instrs (V.System S.Ebreak) at f = (tt, tt)
 unit_instrs (V.Store op rs1 rs2 imm) at f =
     ((lit< tt, f.0, f.2), ((lit< tt, lit< tt, lit< tt), ((lit< tt, lit< tt, lit< tt), ((lit< tt, f.1, lit< tt), tt))))
 unit_instrs (V.Call target) at f = call_instrs at target
-unit_instrs (V.Ijump rs1 imm label) at f =
-    append_instrs (check at rs1 imm label) (Jalr 0 31 0 ∷ []) (check_instrs at rs1 imm label f.0 f.1 f.2) (jump_back 0 (lit< tt))
+unit_instrs (V.Ijump which rs1 imm label) at f =
+    append_instrs (check at rs1 imm label which) (Jalr 0 31 0 ∷ []) (check_instrs at rs1 imm label which f.0 f.1 f.2) (jump_back 0 (lit< tt))
 unit_instrs (V.Icall rs1 imm label) at f =
-    append_instrs (check at rs1 imm label ++ push (at + 48)) (Jalr 1 31 0 ∷ [])
-    (append_instrs (check at rs1 imm label) (push (at + 48)) (check_instrs at rs1 imm label f.0.0 f.0.1 f.0.2) (push_instrs (at + 48)))
+    append_instrs (check at rs1 imm label First ++ push (at + 48)) (Jalr 1 31 0 ∷ [])
+    (append_instrs (check at rs1 imm label First) (push (at + 48)) (check_instrs at rs1 imm label First f.0.0 f.0.1 f.0.2) (push_instrs (at + 48)))
     (jump_back 1 (lit< tt))
 unit_instrs V.Return at f =
     ((lit< tt, lit< tt, lit< tt), ((lit< tt, lit< tt, lit< tt), ((lit< tt, lit< tt, lit< tt), (is_jump_instr 0 _ _ (lit< tt), ((lit< tt, lit< tt, lit< tt), tt)))))

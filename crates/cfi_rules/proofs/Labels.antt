@@ -1,14 +1,16 @@
 -- What stands at each place does stand, and a word with a class's label stands only at the class's
 -- targets.
-use Rattle.std.proofs.Common.{◌≡◌, ℕ, ◌+◌, ◌-◌, ◌*◌, ◌%◌, ◌^◌, ◌≤◌, ◌<◌, ◌⊎◌, inl, inr, List, [], length, refl, sym, ap, subst, ◌∙◌, Some, arith}
-use Rattle.std.proofs.lemmas.Bool.{cases_lt}
+use Rattle.std.proofs.Common.{◌≡◌, ℕ, true, ◌+◌, ◌-◌, ◌*◌, ◌%◌, ◌^◌, ◌≤◌, ◌<◌, ◌⊎◌, inl, inr, List, [], length, refl, sym, ap, subst, ◌∙◌, Some, arith}
+use Rattle.std.specs.Prelude.{nat_le}
+use Rattle.std.proofs.lemmas.Bool.{and_parts, cases_lt}
 use Rattle.rv_word.specs.Image.{Contents}
 use Rattle.rv_word.specs.MemoryMap.{CODE_START, IsProfile, Profile}
 use Rattle.rv_word.proofs.Versions.{laid_out}
 use Rattle.rv_word.specs.Memory.{loaded, read}
 use Rattle.cfi_graph.specs.declared.line.SiteKind.{SiteKind}
 use Rattle.cfi_graph.specs.Graph.{GraphParts}
-use Rattle.cfi_unit.specs.declared.target_word.TargetWord.TheVariants.{First}
+use Rattle.cfi_unit.specs.declared.target_word.TargetWord.{TargetWord}
+use Rattle.cfi_unit.specs.declared.target_word.TargetWord.TheVariants.{First, Second}
 use Rattle.cfi_unit.specs.declared.unit.Unit.TheVariants as V
 use Rattle.cfi_unit.specs.Leads.{HasLabel}
 use Rattle.cfi_unit.specs.declared.place.Place.{Place}
@@ -17,10 +19,10 @@ use Rattle.cfi_unit.specs.Place.{place_instrs, place_size}
 use Rattle.cfi_unit.specs.Prologue.{OPENING, call_at, handler_instrs}
 use Rattle.cfi_unit.specs.Stand.{Stand}
 use Rattle.cfi_unit.specs.UnitLaw.{ReturnsTo, MayStand}
-use Rattle.cfi_unit.specs.UnitWords.{BAD_TARGET, BAD_RETURN, DEEP, Fits, Reaches}
+use Rattle.cfi_unit.specs.UnitWords.{BAD_TARGET, BAD_RETURN, DEEP, Fits, Reaches, past}
 use Rattle.cfi_unit.proofs.Gates.{label_is_gate}
 use Rattle.cfi_unit.proofs.PrologueUnits.{PrologueStands, prologue_stands}
-use Rattle.cfi_rules.specs.Lines.{holds_of, is_among, targets_for}
+use Rattle.cfi_rules.specs.Lines.{holds_of, is_among, is_word_of, targets_for}
 use Rattle.cfi_rules.specs.Rules.{IsWellFormed}
 use Rattle.cfi_rules.specs.Split.{code_words, unit_at}
 use Rattle.cfi_rules.specs.Walk.{InClass}
@@ -42,6 +44,17 @@ call_fits p profile entry reaches =
     let laid = laid_out p profile in
     let jump : call_at p + 28 ≡ p.opening_call = omega arith in
     (deep_reached p profile, subst (λ (a : ℕ). Reaches a entry) (sym jump) reaches)
+
+-- the word of an address that a check reads, and the address that it is the word of
+word_round : (which : TargetWord) (v : ℕ) → v % 4 ≡ 0 → (v + past which) % 4 ≡ 0
+word_round First v round = omega arith
+word_round Second v round = omega arith
+
+word_among : (which : TargetWord) (v : ℕ) (ts : List ℕ) → is_word_of which (v + past which) ts ≡ true → is_among v ts ≡ true
+word_among First v ts word = subst (λ (a : ℕ). is_among a ts ≡ true) (let same : v + 0 ≡ v = omega arith in same) word
+word_among Second v ts word =
+    subst (λ (a : ℕ). is_among a ts ≡ true) (let same : v + 4 - 4 ≡ v = omega arith in same)
+    (and_parts (nat_le 4 (v + 4)) (is_among (v + 4 - 4) ts) word).1
 
 module _ (p : Profile) (profile : IsProfile p) (image : Contents) (graph : GraphParts) (bytes : AreBytes image) (formed : IsWellFormed p image graph) where
   the_prologue : PrologueStands p (loaded image) (prologue p profile image graph bytes formed).0
@@ -129,9 +142,10 @@ module _ (p : Profile) (profile : IsProfile p) (image : Contents) (graph : Graph
             let word = has.word in absurd (omega arith)
       ]
 
-  -- where a class's label is borne is a target of the class
-  pub label_in_class : (kind : SiteKind) (label v : ℕ) (ts : List ℕ) → label < 2 ^ 20 → targets_for graph.lines kind First label ≡ Some ts → HasLabel (loaded image) label v →
-      InClass graph.lines kind First label v
-  label_in_class kind label v ts low class has =
-      let is = gate_there label v low (record { round = has.round; low = has.low; word = has.word }) in
-      ap (λ o. holds_of o (is_among v)) class ∙ gate_listed p image graph formed kind First v label ts is class
+  -- an address whose word that a transfer's check reads bears its label is a target of the class
+  pub label_in_class : (kind : SiteKind) (which : TargetWord) (label v : ℕ) (ts : List ℕ) → label < 2 ^ 20 → targets_for graph.lines kind which label ≡ Some ts →
+      HasLabel (loaded image) which label v → InClass graph.lines kind which label v
+  label_in_class kind which label v ts low class has =
+      let code = has.low in
+      let is = gate_there label (v + past which) low (record { round = word_round which v has.round; low = omega arith; word = has.word }) in
+      ap (λ o. holds_of o (is_among v)) class ∙ word_among which v ts (gate_listed p image graph formed kind which (v + past which) label ts is class)

@@ -20,6 +20,7 @@ pub mod PlacedRules
 pub mod PlacedCode
 pub mod PlacedGraph
 pub mod PlacedRows
+pub mod ApartRows
 pub mod Walks
 pub mod Trails
 pub mod OneHart

@@ -20,10 +20,11 @@ use Rattle.cfi_unit.specs.declared.unit.SystemOp.TheVariants as S
 use Rattle.cfi_unit.specs.Leads.{HasLabel, Leads, Returns, destination}
 use Rattle.cfi_unit.specs.declared.place.Place.{Place}
 use Rattle.cfi_unit.specs.declared.place.Place.TheVariants.{Handler as handler, Opening as opening, Closing as closing, Body as body}
+use Rattle.cfi_unit.specs.declared.target_word.TargetWord.{TargetWord}
 use Rattle.cfi_unit.specs.declared.target_word.TargetWord.TheVariants.{First}
 use Rattle.cfi_unit.specs.Prologue.{OPENING}
 use Rattle.cfi_unit.specs.Shadow.{MOST_PENDING}
-use Rattle.cfi_unit.specs.UnitWords.{BAD_TARGET, BAD_RETURN, DEEP, after_unit, word_count, gate}
+use Rattle.cfi_unit.specs.UnitWords.{BAD_TARGET, BAD_RETURN, DEEP, after_unit, word_count, gate, past}
 use Rattle.cfi_unit.proofs.Labels.{word_small}
 use Rattle.cfi_rules.specs.Along.{Walk, ReturnChooses, Chooses}
 use Rattle.cfi_rules.specs.Lines.{holds_of, is_among, targets_for}
@@ -35,7 +36,7 @@ use Rattle.cfi_rules.proofs.Bytes.{loaded_small}
 use Rattle.cfi_rules.proofs.Find.{UnitHere, unit_here}
 use Rattle.cfi_rules.proofs.Labels.{label_in_class}
 use Rattle.cfi_rules.proofs.Places.{PlaceFacts, is_whole, unit_facts, at_unit, at_closing, at_bad_target, at_bad_return, at_deep}
-use Rattle.cfi_rules.proofs.RuleFacts.{edge_starts, call_starts, next_starts, gate_stands, site_class}
+use Rattle.cfi_rules.proofs.RuleFacts.{edge_starts, call_starts, next_starts, target_bears, unit_borne, gate_borne, site_class}
 use Rattle.cfi_rules.proofs.Standing.{unit_stands}
 
 module _ (p : Profile) (profile : IsProfile p) (image : Contents) (graph : GraphParts) (bytes : AreBytes image) (formed : IsWellFormed p image graph) where
@@ -121,46 +122,65 @@ module _ (p : Profile) (profile : IsProfile p) (image : Contents) (graph : Graph
       let most = inside.most in
       to_start site v newer inside.sites.0 e (same_body (other ∷ more) newer same (record { sites = inside.sites.1; most = omega arith }))
 
-  class_parts : (kind : SiteKind) (label v : ℕ) → InClass graph.lines kind First label v → (ts : List ℕ) × (targets_for graph.lines kind First label ≡ Some ts) × (is_among v ts ≡ true)
-  class_parts kind label v inside =
-      elim (cases_Option (targets_for graph.lines kind First label)) [
+  class_parts : (kind : SiteKind) (which : TargetWord) (label v : ℕ) → InClass graph.lines kind which label v →
+      (ts : List ℕ) × (targets_for graph.lines kind which label ≡ Some ts) × (is_among v ts ≡ true)
+  class_parts kind which label v inside =
+      elim (cases_Option (targets_for graph.lines kind which label)) [
         | inl none ↦ absurd (false≢true (sym (ap (λ o. holds_of o (is_among v)) none) ∙ inside))
         | inr (ts, some) ↦ (ts, some, sym (ap (λ o. holds_of o (is_among v)) some) ∙ inside)
       ]
 
-  -- a target of a class is its gate, and bears its label
-  in_class_unit : (kind : SiteKind) (label v : ℕ) → InClass graph.lines kind First label v → UnitHere p W v (V.Gate label)
-  in_class_unit kind label v inside =
-      let c = class_parts kind label v inside in
-      unit_facts p profile image graph bytes formed v (V.Gate label) (gate_stands p image graph formed kind v label c.0 c.1 c.2)
+  -- at a target of a class a unit starts, and the class's gate is the word that bears its label
+  record Target (which : TargetWord) (label v : ℕ) : Type 0 where
+    unit : U.Unit
+    here : UnitHere p W v unit
+    gate : UnitHere p W (v + past which) (V.Gate label)
 
-  pub in_class_label : (kind : SiteKind) (label v : ℕ) → InClass graph.lines kind First label v → HasLabel (loaded image) label v
+  target_stands : (kind : SiteKind) (which : TargetWord) (label v : ℕ) → InClass graph.lines kind which label v → Target which label v
+  target_stands kind which label v inside =
+      let (ts, class, among) = class_parts kind which label v inside in
+      let borne = target_bears p image graph formed kind which v label ts class among in
+      let (unit, is) = unit_borne p W which v label borne in
+      record {
+        unit = unit;
+        here = unit_facts p profile image graph bytes formed v unit is;
+        gate = unit_facts p profile image graph bytes formed (v + past which) (V.Gate label) (gate_borne p W which v label borne);
+      }
+
+  pub in_class_label : (kind : SiteKind) (which : TargetWord) (label v : ℕ) → InClass graph.lines kind which label v → HasLabel (loaded image) which label v
   unfolding code_of
-  in_class_label kind label v inside =
-      let here = in_class_unit kind label v inside in
-      let stand = unit_stands p (laid_out p profile) image bytes v (V.Gate label) here in
-      let first : v + 4 * 0 ≡ v = omega arith in
-      let word : code_of (gate label) ≡ read 4 (loaded image) v =
-      code_of-decoded (read 4 (loaded image) v) (gate label) (word_small (loaded image) v (loaded_small image bytes))
+  in_class_label kind which label v inside =
+      let target = target_stands kind which label v inside in
+      let here = target.here in
+      let stand = unit_stands p (laid_out p profile) image bytes (v + past which) (V.Gate label) target.gate in
+      let first : v + past which + 4 * 0 ≡ v + past which = omega arith in
+      let word : code_of (gate label) ≡ read 4 (loaded image) (v + past which) =
+      code_of-decoded (read 4 (loaded image) (v + past which)) (gate label) (word_small (loaded image) (v + past which) (loaded_small image bytes))
       (rw first at (stand.words 0 (gate label) refl)) in
       let layout = laid_out p profile in
       let low = here.low in let high = stand.high in
       record { round = here.round; low = omega arith; high = omega arith; word = omega arith }
 
-  has_target : (kind : SiteKind) (label v : ℕ) → InClass graph.lines kind First label v → HasTarget graph.lines kind First label
-  has_target kind label v inside =
-      let c = class_parts kind label v inside in ap (λ o. holds_of o is_some_target) c.1 ∙ some_target c.0 c.2
+  -- so the walk may go on to it
+  to_target : (kind : SiteKind) (which : TargetWord) (label to v : ℕ) (newer : List ℕ) → InClass graph.lines kind which label to → v ≡ to → InBody newer → Settled v newer
+  to_target kind which label to v newer target e inside =
+      let stands = target_stands kind which label to target in
+      settled_unit v stands.unit newer (subst (λ (x : ℕ). UnitHere p W x stands.unit) (sym e) stands.here) inside
+
+  has_target : (kind : SiteKind) (which : TargetWord) (label v : ℕ) → InClass graph.lines kind which label v → HasTarget graph.lines kind which label
+  has_target kind which label v inside =
+      let c = class_parts kind which label v inside in ap (λ o. holds_of o is_some_target) c.1 ∙ some_target c.0 c.2
     where
       some_target : (ts : List ℕ) → is_among v ts ≡ true → is_some_target ts ≡ true
       some_target [] e = absurd (cc)
       some_target (t ∷ ts) e = refl
 
-  -- the label of a check is a class's, so what bears it is a target
-  labelled : (label v a : ℕ) (place : Place) (kind : SiteKind) → label < 2 ^ 20 → place_at p W a ≡ Some place → site_of place ≡ Some (asks kind First label) →
-      HasLabel (loaded image) label v → InClass graph.lines kind First label v
-  labelled label v a place kind low here site has =
-      let c = site_class p image graph formed a place (asks kind First label) here site in
-      label_in_class p profile image graph bytes formed kind label v c.0 low c.1 has
+  -- the label of a check is a class's, so where it is borne is a target
+  labelled : (kind : SiteKind) (which : TargetWord) (label v a : ℕ) (place : Place) → label < 2 ^ 20 → place_at p W a ≡ Some place → site_of place ≡ Some (asks kind which label) →
+      HasLabel (loaded image) which label v → InClass graph.lines kind which label v
+  labelled kind which label v a place low here site has =
+      let c = site_class p image graph formed a place (asks kind which label) here site in
+      label_in_class p profile image graph bytes formed kind which label v c.0 low c.1 has
 
   record Returned (regs : Registers) (pending : List ℕ) (v : ℕ) (newer : List ℕ) : Type 0 where
     goes : ReturnGoes pending v newer
@@ -218,33 +238,32 @@ module _ (p : Profile) (profile : IsProfile p) (image : Contents) (graph : Graph
       record { goes = inl (l.0, l.2, l.1); chooses = tt; settled = to_start target v newer start l.2 (pushed (after_unit (V.Call target) w.at) w.pending newer site stage l.0 l.1) }
   arrive (body (V.Call target)) w v newer is facts stage (inr l) =
       record { goes = inr (l.0, (l.2, l.1)); chooses = tt; settled = to_deep v w.pending newer stage l.1 l.2 }
-  arrive (body (V.Ijump rs1 imm label)) w v newer is facts stage (inl l) =
+  arrive (body (V.Ijump which rs1 imm label)) w v newer is facts stage (inl l) =
       let to = destination w.regs rs1 imm in
-      let inside = labelled label to w.at (body (V.Ijump rs1 imm label)) K.Jump facts.begins.fits.2 is refl l.0 in
+      let inside = labelled K.Jump which label to w.at (body (V.Ijump which rs1 imm label)) facts.begins.fits.2 is refl l.0 in
       record {
-        goes = inl (subst (λ (x : ℕ). InClass graph.lines K.Jump First label x) (sym l.1.1) inside, l.1.0);
+        goes = inl (subst (λ (x : ℕ). InClass graph.lines K.Jump which label x) (sym l.1.1) inside, l.1.0);
         chooses = inl (inside, l.1.1);
-        settled = settled_unit v (V.Gate label) newer (subst (λ (x : ℕ). UnitHere p W x (V.Gate label)) (sym l.1.1) (in_class_unit K.Jump label to inside)) (same_body w.pending newer l.1.0 stage);
+        settled = to_target K.Jump which label to v newer inside l.1.1 (same_body w.pending newer l.1.0 stage);
       }
-  arrive (body (V.Ijump rs1 imm label)) w v newer is facts stage (inr l) =
+  arrive (body (V.Ijump which rs1 imm label)) w v newer is facts stage (inr l) =
       record {
         goes = inr (l.1.1, l.1.0);
-        chooses = inr ((λ inside. l.0 (in_class_label K.Jump label (destination w.regs rs1 imm) inside)), l.1.1);
+        chooses = inr ((λ inside. l.0 (in_class_label K.Jump which label (destination w.regs rs1 imm) inside)), l.1.1);
         settled = to_bad_target v w.pending newer stage l.1.0 l.1.1;
       }
   arrive (body (V.Icall rs1 imm label)) w v newer is facts stage (inl l) =
       let to = destination w.regs rs1 imm in
-      let inside = labelled label to w.at (body (V.Icall rs1 imm label)) K.Call facts.begins.fits.0.2 is refl l.0 in
+      let inside = labelled K.Call First label to w.at (body (V.Icall rs1 imm label)) facts.begins.fits.0.2 is refl l.0 in
       let site = next_starts p image graph formed w.at (V.Icall rs1 imm label) facts refl in
       elim l.1 [
         | inl c ↦ record {
           goes = inr (inl (c.0, subst (λ (x : ℕ). InClass graph.lines K.Call First label x) (sym c.2) inside, c.1));
           chooses = inl (inside, inl (c.0, c.2));
-          settled = settled_unit v (V.Gate label) newer (subst (λ (x : ℕ). UnitHere p W x (V.Gate label)) (sym c.2) (in_class_unit K.Call label to inside))
-              (pushed (after_unit (V.Icall rs1 imm label) w.at) w.pending newer site stage c.0 c.1);
+          settled = to_target K.Call First label to v newer inside c.2 (pushed (after_unit (V.Icall rs1 imm label) w.at) w.pending newer site stage c.0 c.1);
         }
         | inr c ↦ record {
-          goes = inr (inr (c.0, has_target K.Call label to inside, (c.2, c.1)));
+          goes = inr (inr (c.0, has_target K.Call First label to inside, (c.2, c.1)));
           chooses = inl (inside, inr (c.0, c.2));
           settled = to_deep v w.pending newer stage c.1 c.2;
         }
@@ -252,7 +271,7 @@ module _ (p : Profile) (profile : IsProfile p) (image : Contents) (graph : Graph
   arrive (body (V.Icall rs1 imm label)) w v newer is facts stage (inr l) =
       record {
         goes = inl (l.1.1, l.1.0);
-        chooses = inr ((λ inside. l.0 (in_class_label K.Call label (destination w.regs rs1 imm) inside)), l.1.1);
+        chooses = inr ((λ inside. l.0 (in_class_label K.Call First label (destination w.regs rs1 imm) inside)), l.1.1);
         settled = to_bad_target v w.pending newer stage l.1.0 l.1.1;
       }
   arrive (body V.Return) w v newer is facts stage leads =

@@ -15,7 +15,7 @@ use Rattle.cfi_rules.specs.declared.reject.Rule.TheVariants as R
 
 -- whether a rule fails, of a code and the lines of its graph
 abbrev fails_of : K.Rule → List ℕ → List GraphLine → ℕ → Bool
-fails_of rule words lines a = fails rule version_1 words (record { code = 4 * length words; lines = lines }) a
+fails_of rule words lines a = fails rule version_1 words (record { version = 1; code = 4 * length words; lines = lines }) a
 
 -- the prologue
 abbrev opening : List ℕ

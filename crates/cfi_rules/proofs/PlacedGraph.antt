@@ -1,6 +1,6 @@
 -- The lines of sound placed units are a graph's, where its class lines are.
 use Rattle.std.proofs.Common.{inl, inr, ◌≡◌, ℕ, ◌+◌, ◌*◌, ◌%◌, ◌≤◌, ◌<◌, ◌==◌, Bool, true, false, List, [], ◌∷◌, ◌++◌, length, map, refl, sym, ap, ◌∙◌, Some, None, arith}
-use Rattle.std.specs.Prelude.{Option, IsTrue, nat_le, nat_lt, ◌&&◌, is_some}
+use Rattle.std.specs.Prelude.{Option, IsTrue, nat_le, nat_lt, ◌&&◌, is_some, if◌then◌else◌}
 use Rattle.std.specs.List.{list_all}
 use Rattle.std.proofs.lemmas.Bool.{and_from, and_parts, cases_Bool, eq-eqb, eqb-true, le-leb, lt-ltb}
 use Rattle.std.proofs.lemmas.List.Folds.{list_all-append}
@@ -9,10 +9,13 @@ use Rattle.rv_word.specs.MemoryMap.{CODE_START, IsProfile, Profile}
 use Rattle.rv_word.proofs.Cases.{cases_Option}
 use Rattle.rv_word.proofs.Versions.{LaidOut, laid_out}
 use Rattle.cfi_graph.specs.declared.line.GraphLine.{GraphLine}
-use Rattle.cfi_graph.specs.declared.line.GraphLine.TheVariants.{Class, Site, Edge, Call}
-use Rattle.cfi_graph.specs.declared.line.Key.TheVariants.{Address}
+use Rattle.cfi_graph.specs.declared.line.GraphLine.TheVariants.{Class, CallClass, JumpClass, Site, Edge, Call}
+use Rattle.cfi_graph.specs.declared.line.Key.{Key}
+use Rattle.cfi_graph.specs.declared.line.Key.TheVariants.{Label, Address}
+use Rattle.cfi_graph.specs.declared.line.SiteKind.{SiteKind}
+use Rattle.cfi_graph.specs.declared.line.Sort.TheVariants.{Both, Calls, Jumps}
 use Rattle.cfi_graph.specs.declared.line.SiteKind.TheVariants as K
-use Rattle.cfi_graph.specs.Graph.{IsGraph, is_class, is_code_address, is_label, is_rising, key_below, key_of, line_in_range, targets_rise}
+use Rattle.cfi_graph.specs.Graph.{ClassLine, IsGraph, class_in, fits_version, is_class, is_code_address, is_label, is_rising, key_below, key_of, line_in_range, targets_rise}
 use Rattle.cfi_unit.specs.declared.unit.Unit as U
 use Rattle.cfi_unit.specs.declared.unit.Unit.TheVariants as V
 use Rattle.cfi_unit.specs.declared.place.Place.TheVariants.{Body as body}
@@ -20,7 +23,7 @@ use Rattle.cfi_unit.specs.declared.target_word.TargetWord.TheVariants.{First}
 use Rattle.cfi_unit.specs.Prologue.{OPENING}
 use Rattle.cfi_unit.specs.UnitWords.{word_count}
 use Rattle.cfi_rules.specs.PlacedLaws.{PlacedIsGraph}
-use Rattle.cfi_rules.specs.Lines.{class_with}
+use Rattle.cfi_rules.specs.Lines.{class_with, or_class}
 use Rattle.cfi_rules.specs.Placed.{line_of, lines_from, placed_code, placed_lines, with_line}
 use Rattle.cfi_rules.specs.Rules.{asks, site_of}
 use Rattle.cfi_rules.specs.Sound.{IsSound, StartsIn, target_of}
@@ -47,15 +50,26 @@ all_lines test (u ∷ us) at each =
 given : (test : GraphLine → Bool) (l m : GraphLine) → Some l ≡ Some m → test l ≡ true → test m ≡ true
 given test l m e right = ap test (sym (same_Some l m e)) ∙ right
 
--- no line of a unit has targets that could fall
+-- a test that each edge, call and site passes is one that each line of a unit does
+passes : (test : GraphLine → Bool) → ((from to : ℕ) → test (Edge from to) ≡ true) → ((from to : ℕ) → test (Call from to) ≡ true) →
+    ((a : ℕ) (kind : SiteKind) (label : ℕ) → test (Site a kind label) ≡ true) → (u : U.Unit) (a : ℕ) (line : GraphLine) → line_of a u ≡ Some line → test line ≡ true
+passes test edge call site (V.Branch op rs1 rs2 target) a line e = given test (Edge a target) line e (edge a target)
+passes test edge call site (V.Near op rs1 rs2 target) a line e = given test (Edge a target) line e (edge a target)
+passes test edge call site (V.Jump target) a line e = given test (Edge a target) line e (edge a target)
+passes test edge call site (V.Call target) a line e = given test (Call a target) line e (call a target)
+passes test edge call site (V.Ijump which rs1 imm label) a line e = given test (Site a K.Jump label) line e (site a K.Jump label)
+passes test edge call site (V.Icall rs1 imm label) a line e = given test (Site a K.Call label) line e (site a K.Call label)
+passes test edge call site other a line e = absurd (cc)
+
+-- so none of them has targets that could fall, and each may stand in a graph of any version
 flat : (u : U.Unit) (a : ℕ) (line : GraphLine) → line_of a u ≡ Some line → targets_rise line ≡ true
-flat (V.Branch op rs1 rs2 target) a line e = given targets_rise (Edge a target) line e refl
-flat (V.Near op rs1 rs2 target) a line e = given targets_rise (Edge a target) line e refl
-flat (V.Jump target) a line e = given targets_rise (Edge a target) line e refl
-flat (V.Call target) a line e = given targets_rise (Call a target) line e refl
-flat (V.Ijump rs1 imm label) a line e = given targets_rise (Site a K.Jump label) line e refl
-flat (V.Icall rs1 imm label) a line e = given targets_rise (Site a K.Call label) line e refl
-flat other a line e = absurd (cc)
+flat = passes targets_rise (λ from to. refl) (λ from to. refl) (λ a kind label. refl)
+
+abbrev is_of : ℕ → GraphLine → Bool
+is_of version line = fits_version version (class_in line)
+
+of_each : (version : ℕ) (u : U.Unit) (a : ℕ) (line : GraphLine) → line_of a u ≡ Some line → is_of version line ≡ true
+of_each version = passes (is_of version) (λ from to. refl) (λ from to. refl) (λ a kind label. refl)
 
 -- the lines' addresses rise
 abbrev keys_above : ℕ → List GraphLine → Bool
@@ -66,7 +80,7 @@ rise_with (V.Branch op rs1 rs2 target) bound at rest below past here = and_from 
 rise_with (V.Near op rs1 rs2 target) bound at rest below past here = and_from (nat_lt bound at) (keys_above at rest) (lt-ltb bound at below) here
 rise_with (V.Jump target) bound at rest below past here = and_from (nat_lt bound at) (keys_above at rest) (lt-ltb bound at below) here
 rise_with (V.Call target) bound at rest below past here = and_from (nat_lt bound at) (keys_above at rest) (lt-ltb bound at below) here
-rise_with (V.Ijump rs1 imm label) bound at rest below past here = and_from (nat_lt bound at) (keys_above at rest) (lt-ltb bound at below) here
+rise_with (V.Ijump which rs1 imm label) bound at rest below past here = and_from (nat_lt bound at) (keys_above at rest) (lt-ltb bound at below) here
 rise_with (V.Icall rs1 imm label) bound at rest below past here = and_from (nat_lt bound at) (keys_above at rest) (lt-ltb bound at below) here
 rise_with other bound at rest below past here = past
 
@@ -78,38 +92,50 @@ lines_rise (u ∷ us) bound at below =
     rise_with u bound at (lines_from (at + 4 * word_count u) us) below
     (lines_rise us bound (at + 4 * word_count u) (omega arith)) (lines_rise us at (at + 4 * word_count u) (omega arith))
 
+-- a class's line is ordered by its label
+label_of : (line : GraphLine) → is_class line ≡ true → (label : ℕ) × (key_of line ≡ Label label)
+label_of (Class label targets) class = (label, refl)
+label_of (CallClass label targets) class = (label, refl)
+label_of (JumpClass label targets) class = (label, refl)
+label_of (Site a kind label) class = absurd (cc)
+label_of (Edge from to) class = absurd (cc)
+label_of (Call from to) class = absurd (cc)
+
 -- classes come before
 classes_rise : (classes : List GraphLine) (bound to : ℕ) (rest : List GraphLine) → IsTrue (list_all is_class classes) → is_rising key_below (map key_of classes) ≡ true →
     keys_above bound rest ≡ true → is_rising key_below (map key_of (classes ++ (Call bound to ∷ rest))) ≡ true
 classes_rise [] bound to rest all order above = above
-classes_rise (Class l ts ∷ []) bound to rest all order above = above
-classes_rise (Class l ts ∷ Class k us ∷ classes) bound to rest all order above =
-    let parts = and_parts (nat_lt l k) (is_rising key_below (map key_of (Class k us ∷ classes))) order in
-    and_from (nat_lt l k) (is_rising key_below (map key_of ((Class k us ∷ classes) ++ (Call bound to ∷ rest)))) parts.0
-    (classes_rise (Class k us ∷ classes) bound to rest all parts.1 above)
-classes_rise (Class l ts ∷ Site a kind k ∷ classes) bound to rest all order above = absurd (cc)
-classes_rise (Class l ts ∷ Edge a b ∷ classes) bound to rest all order above = absurd (cc)
-classes_rise (Class l ts ∷ Call a b ∷ classes) bound to rest all order above = absurd (cc)
-classes_rise (Site a kind k ∷ classes) bound to rest all order above = absurd (cc)
-classes_rise (Edge a b ∷ classes) bound to rest all order above = absurd (cc)
-classes_rise (Call a b ∷ classes) bound to rest all order above = absurd (cc)
+classes_rise (line ∷ []) bound to rest all order above =
+    let (label, key) = label_of line (and_parts (is_class line) true all).0 in
+    and_from (key_below (key_of line) (Address bound)) (keys_above bound rest) (ap (λ (k : Key). key_below k (Address bound)) key) above
+classes_rise (line ∷ next ∷ classes) bound to rest all order above =
+    let parts = and_parts (key_below (key_of line) (key_of next)) (is_rising key_below (map key_of (next ∷ classes))) order in
+    and_from (key_below (key_of line) (key_of next)) (is_rising key_below (map key_of ((next ∷ classes) ++ (Call bound to ∷ rest)))) parts.0
+    (classes_rise (next ∷ classes) bound to rest (and_parts (is_class line) (list_all is_class (next ∷ classes)) all).1 parts.1 above)
 
 -- a class's label is one
+line_label : (len : ℕ) (line : GraphLine) (class : ClassLine) → class_in line ≡ Some class → line_in_range len line ≡ true → is_label class.label ≡ true
+line_label len (Class k ts) class e range =
+    ap (λ (c : ClassLine). is_label c.label) (sym (same_Some (record { sort = Both; label = k; targets = ts }) class e)) ∙ (and_parts (is_label k) (list_all (is_code_address len) ts) range).0
+line_label len (CallClass k ts) class e range =
+    ap (λ (c : ClassLine). is_label c.label) (sym (same_Some (record { sort = Calls; label = k; targets = ts }) class e)) ∙ (and_parts (is_label k) (list_all (is_code_address len) ts) range).0
+line_label len (JumpClass k ts) class e range =
+    ap (λ (c : ClassLine). is_label c.label) (sym (same_Some (record { sort = Jumps; label = k; targets = ts }) class e)) ∙ (and_parts (is_label k) (list_all (is_code_address len) ts) range).0
+line_label len other class e range = absurd (cc)
+
 class_label : (len : ℕ) (classes : List GraphLine) (l : ℕ) → list_all (line_in_range len) classes ≡ true → is_some (class_with classes l) ≡ true → is_label l ≡ true
 unfolding class_with
 class_label len [] l range some = absurd (cc)
-class_label len (Class k ts ∷ classes) l range some =
-    let parts = and_parts (is_label k && list_all (is_code_address len) ts) (list_all (line_in_range len) classes) range in
-    elim (cases_Bool (k == l)) [
-      | inl same ↦ ap is_label (sym (eqb-true k l same)) ∙ (and_parts (is_label k) (list_all (is_code_address len) ts) parts.0).0
-      | inr other ↦ class_label len classes l parts.1 (rw other at some)
+class_label len (line ∷ classes) l range some =
+    let parts = and_parts (line_in_range len line) (list_all (line_in_range len) classes) range in
+    elim (cases_Option (class_in line)) [
+      | inl none ↦ class_label len classes l parts.1 (sym (ap (λ o. is_some (or_class l o (class_with classes l))) none) ∙ some)
+      | inr (class, is) ↦ elim (cases_Bool (class.label == l)) [
+        | inl same ↦ ap is_label (sym (eqb-true class.label l same)) ∙ line_label len line class is parts.0
+        | inr other ↦ class_label len classes l parts.1
+            (sym (ap (λ o. is_some (or_class l o (class_with classes l))) is ∙ ap (λ b. is_some (if b then Some class else class_with classes l)) other) ∙ some)
+      ]
     ]
-class_label len (Site a kind k ∷ classes) l range some =
-    class_label len classes l (and_parts (line_in_range len (Site a kind k)) (list_all (line_in_range len) classes) range).1 some
-class_label len (Edge a b ∷ classes) l range some =
-    class_label len classes l (and_parts (line_in_range len (Edge a b)) (list_all (line_in_range len) classes) range).1 some
-class_label len (Call a b ∷ classes) l range some =
-    class_label len classes l (and_parts (line_in_range len (Call a b)) (list_all (line_in_range len) classes) range).1 some
 
 -- a unit's line has addresses of the code, and a class's label
 unit_range : (len : ℕ) (u : U.Unit) (a : ℕ) (line : GraphLine) → is_code_address len a ≡ true → ((t : ℕ) → target_of u ≡ Some t → is_code_address len t ≡ true) →
@@ -122,13 +148,13 @@ unit_range len (V.Jump target) a line here leads known e =
     given (line_in_range len) (Edge a target) line e (and_from (is_code_address len a) (is_code_address len target) here (leads target refl))
 unit_range len (V.Call target) a line here leads known e =
     given (line_in_range len) (Call a target) line e (and_from (is_code_address len a) (is_code_address len target) here (leads target refl))
-unit_range len (V.Ijump rs1 imm label) a line here leads known e =
-    given (line_in_range len) (Site a K.Jump label) line e (and_from (is_code_address len a) (is_label label) here (known (asks K.Jump First label) refl))
+unit_range len (V.Ijump which rs1 imm label) a line here leads known e =
+    given (line_in_range len) (Site a K.Jump label) line e (and_from (is_code_address len a) (is_label label) here (known (asks K.Jump which label) refl))
 unit_range len (V.Icall rs1 imm label) a line here leads known e =
     given (line_in_range len) (Site a K.Call label) line e (and_from (is_code_address len a) (is_label label) here (known (asks K.Call First label) refl))
 unit_range len other a line here leads known e = absurd (cc)
 
-module _ (p : Profile) (profile : IsProfile p) (entry : ℕ) (us : List U.Unit) (classes : List GraphLine) (sound : IsSound p entry us classes) where
+module _ (p : Profile) (profile : IsProfile p) (version entry : ℕ) (us : List U.Unit) (classes : List GraphLine) (sound : IsSound p version entry us classes) where
   laid : LaidOut p
   laid = laid_out p profile
 
@@ -161,7 +187,7 @@ module _ (p : Profile) (profile : IsProfile p) (entry : ℕ) (us : List U.Unit) 
   opening_address : is_code_address size OPENING ≡ true
   opening_address = let words = length-placed_code p profile entry us in let front = laid.low in code_address OPENING (omega arith) (omega arith) refl
 
-  pub placed_graph : IsGraph (record { code = size; lines = classes }) → IsGraph (record { code = size; lines = placed_lines p entry us classes })
+  pub placed_graph : IsGraph (record { version = version; code = size; lines = classes }) → IsGraph (record { version = version; code = size; lines = placed_lines p entry us classes })
   placed_graph graph =
       let rest : List GraphLine = Call OPENING entry ∷ lines_from p.units_from us in
       let opening : line_in_range size (Call OPENING entry) ≡ true =
@@ -172,7 +198,11 @@ module _ (p : Profile) (profile : IsProfile p) (entry : ℕ) (us : List U.Unit) 
       (λ asked wants. class_label size classes asked.label graph.range (some_class classes asked.kind asked.which asked.label (sound.labels a u asked here wants))) is) in
       let flats : list_all targets_rise (lines_from p.units_from us) ≡ true =
       all_lines targets_rise us p.units_from (λ a u line here is. flat u a line is) in
+      let ofs : list_all (is_of version) (lines_from p.units_from us) ≡ true =
+      all_lines (is_of version) us p.units_from (λ a u line here is. of_each version u a line is) in
       record {
+        version = graph.version;
+        sorts = list_all-append (is_of version) classes rest ∙ and_from (list_all (is_of version) classes) (list_all (is_of version) rest) graph.sorts ofs;
         length = graph.length;
         range = list_all-append (line_in_range size) classes rest
             ∙ and_from (list_all (line_in_range size) classes) (list_all (line_in_range size) rest) graph.range
@@ -183,4 +213,4 @@ module _ (p : Profile) (profile : IsProfile p) (entry : ℕ) (us : List U.Unit) 
       }
 
 pub placed_is_graph : PlacedIsGraph
-placed_is_graph p entry us classes profile sound = placed_graph p profile entry us classes sound
+placed_is_graph p version entry us classes profile sound = placed_graph p profile version entry us classes sound

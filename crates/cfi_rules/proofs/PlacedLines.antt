@@ -1,15 +1,15 @@
 -- The lines of placed units: which stands at an address, and that none of them is a class's.
-use Rattle.std.proofs.Common.{◌≡◌, ℕ, suc, ◌+◌, ◌*◌, ◌==◌, inl, inr, true, false, List, [], ◌∷◌, ◌++◌, refl, sym, ap, subst, ◌∙◌, Some, None, arith}
-use Rattle.std.specs.Prelude.{Option, IsTrue, ◌&&◌, option_and_then, slice_get, not}
+use Rattle.std.proofs.Common.{◌≡◌, ℕ, Bool, suc, ◌+◌, ◌*◌, ◌==◌, inl, inr, true, false, List, [], ◌∷◌, ◌++◌, refl, sym, ap, subst, ◌∙◌, Some, None, arith}
+use Rattle.std.specs.Prelude.{Option, IsTrue, ◌&&◌, option_and_then, slice_get, not, if◌then◌else◌}
 use Rattle.std.specs.List.{list_all, list_any}
-use Rattle.std.proofs.lemmas.Bool.{cases_Bool, cases_eq, eq-eqb, ne_eqb, or_from}
+use Rattle.std.proofs.lemmas.Bool.{and_parts, cases_Bool, cases_eq, eq-eqb, ne_eqb, or_from}
 use Rattle.cfi_graph.specs.declared.line.GraphLine.{GraphLine}
-use Rattle.cfi_graph.specs.declared.line.GraphLine.TheVariants.{Class, Site, Edge, Call}
+use Rattle.cfi_graph.specs.declared.line.GraphLine.TheVariants.{Class, CallClass, JumpClass, Site, Edge, Call}
 use Rattle.cfi_graph.specs.Graph.{ClassLine, class_in, is_class}
 use Rattle.cfi_unit.specs.declared.unit.Unit as U
 use Rattle.cfi_unit.specs.declared.unit.Unit.TheVariants as V
 use Rattle.cfi_unit.specs.UnitWords.{word_count}
-use Rattle.cfi_rules.specs.Lines.{class_with, holds_of, is_among, line_at, or_class, read_of}
+use Rattle.cfi_rules.specs.Lines.{class_with, holds_of, is_among, line_at, or_class, read_of, stands_at}
 use Rattle.cfi_rules.specs.Placed.{line_of, lines_from, with_line}
 use Rattle.cfi_rules.specs.Rules.{is_borne, lacks_gate}
 use Rattle.cfi_rules.specs.Split.{unit_in}
@@ -22,7 +22,7 @@ line_here (V.Branch op rs1 rs2 target) at rest none = rw (eq-eqb at at refl) ref
 line_here (V.Near op rs1 rs2 target) at rest none = rw (eq-eqb at at refl) refl
 line_here (V.Jump target) at rest none = rw (eq-eqb at at refl) refl
 line_here (V.Call target) at rest none = rw (eq-eqb at at refl) refl
-line_here (V.Ijump rs1 imm label) at rest none = rw (eq-eqb at at refl) refl
+line_here (V.Ijump which rs1 imm label) at rest none = rw (eq-eqb at at refl) refl
 line_here (V.Icall rs1 imm label) at rest none = rw (eq-eqb at at refl) refl
 line_here other at rest none = none
 
@@ -32,7 +32,7 @@ line_later (V.Branch op rs1 rs2 target) at a rest other = rw other refl
 line_later (V.Near op rs1 rs2 target) at a rest other = rw other refl
 line_later (V.Jump target) at a rest other = rw other refl
 line_later (V.Call target) at a rest other = rw other refl
-line_later (V.Ijump rs1 imm label) at a rest other = rw other refl
+line_later (V.Ijump which rs1 imm label) at a rest other = rw other refl
 line_later (V.Icall rs1 imm label) at a rest other = rw other refl
 line_later unit at a rest other = refl
 
@@ -56,13 +56,20 @@ line_in (u ∷ us) at a =
     ]
 
 -- lines of classes stand at no address
+class_stands : (line : GraphLine) (a : ℕ) → is_class line ≡ true → stands_at a line ≡ false
+class_stands (Class label targets) a class = refl
+class_stands (CallClass label targets) a class = refl
+class_stands (JumpClass label targets) a class = refl
+class_stands (Site address kind label) a class = absurd (cc)
+class_stands (Edge from to) a class = absurd (cc)
+class_stands (Call from to) a class = absurd (cc)
+
 pub line_past : (classes rest : List GraphLine) (a : ℕ) → IsTrue (list_all is_class classes) → line_at (classes ++ rest) a ≡ line_at rest a
 unfolding line_at
 line_past [] rest a all = refl
-line_past (Class label targets ∷ classes) rest a all = line_past classes rest a all
-line_past (Site address kind label ∷ classes) rest a all = absurd (cc)
-line_past (Edge from to ∷ classes) rest a all = absurd (cc)
-line_past (Call from to ∷ classes) rest a all = absurd (cc)
+line_past (line ∷ classes) rest a all =
+    let parts = and_parts (is_class line) (list_all is_class classes) all in
+    ap (λ b. if b then Some line else line_at (classes ++ rest) a) (class_stands line a parts.0) ∙ line_past classes rest a parts.1
 
 -- lines of units are no classes'
 past_unit : (u : U.Unit) (at l : ℕ) (rest : List GraphLine) → class_with (with_line (line_of at u) rest) l ≡ class_with rest l
@@ -71,7 +78,7 @@ past_unit (V.Branch op rs1 rs2 target) at l rest = refl
 past_unit (V.Near op rs1 rs2 target) at l rest = refl
 past_unit (V.Jump target) at l rest = refl
 past_unit (V.Call target) at l rest = refl
-past_unit (V.Ijump rs1 imm label) at l rest = refl
+past_unit (V.Ijump which rs1 imm label) at l rest = refl
 past_unit (V.Icall rs1 imm label) at l rest = refl
 past_unit other at l rest = refl
 
@@ -86,38 +93,38 @@ unfolding class_with
 class_before [] rest l none = none
 class_before (line ∷ classes) rest l none = ap (or_class l (class_in line)) (class_before classes rest l none)
 
-lacks_with : (u : U.Unit) (at a : ℕ) (gate : ℕ → Option ℕ) (rest : List GraphLine) → list_any (lacks_gate gate a) (with_line (line_of at u) rest) ≡ list_any (lacks_gate gate a) rest
-lacks_with (V.Branch op rs1 rs2 target) at a gate rest = refl
-lacks_with (V.Near op rs1 rs2 target) at a gate rest = refl
-lacks_with (V.Jump target) at a gate rest = refl
-lacks_with (V.Call target) at a gate rest = refl
-lacks_with (V.Ijump rs1 imm label) at a gate rest = refl
-lacks_with (V.Icall rs1 imm label) at a gate rest = refl
-lacks_with other at a gate rest = refl
+lacks_with : (u : U.Unit) (at a : ℕ) (starts : ℕ → Bool) (gate : ℕ → Option ℕ) (rest : List GraphLine) → list_any (lacks_gate starts gate a) (with_line (line_of at u) rest) ≡ list_any (lacks_gate starts gate a) rest
+lacks_with (V.Branch op rs1 rs2 target) at a starts gate rest = refl
+lacks_with (V.Near op rs1 rs2 target) at a starts gate rest = refl
+lacks_with (V.Jump target) at a starts gate rest = refl
+lacks_with (V.Call target) at a starts gate rest = refl
+lacks_with (V.Ijump which rs1 imm label) at a starts gate rest = refl
+lacks_with (V.Icall rs1 imm label) at a starts gate rest = refl
+lacks_with other at a starts gate rest = refl
 
-pub none_lacks : (us : List U.Unit) (at a : ℕ) (gate : ℕ → Option ℕ) → list_any (lacks_gate gate a) (lines_from at us) ≡ false
+pub none_lacks : (us : List U.Unit) (at a : ℕ) (starts : ℕ → Bool) (gate : ℕ → Option ℕ) → list_any (lacks_gate starts gate a) (lines_from at us) ≡ false
 unfolding lines_from
-none_lacks [] at a gate = refl
-none_lacks (u ∷ us) at a gate =
-    lacks_with u at a gate (lines_from (at + 4 * word_count u) us) ∙ none_lacks us (at + 4 * word_count u) a gate
+none_lacks [] at a starts gate = refl
+none_lacks (u ∷ us) at a starts gate =
+    lacks_with u at a starts gate (lines_from (at + 4 * word_count u) us) ∙ none_lacks us (at + 4 * word_count u) a starts gate
 
 -- a line whose class's target bears the label lacks no gate
-has_gate : (gate : ℕ → Option ℕ) (a : ℕ) (o : Option ClassLine) →
-    ((class : ClassLine) → o ≡ Some class → is_among a class.targets ≡ true → is_borne gate (read_of class.sort) a class.label ≡ true) →
-    holds_of o (λ (class : ClassLine). is_among a class.targets && not (is_borne gate (read_of class.sort) a class.label)) ≡ false
-has_gate gate a None stand = refl
-has_gate gate a (Some class) stand =
+has_gate : (starts : ℕ → Bool) (gate : ℕ → Option ℕ) (a : ℕ) (o : Option ClassLine) →
+    ((class : ClassLine) → o ≡ Some class → is_among a class.targets ≡ true → is_borne starts gate (read_of class.sort) a class.label ≡ true) →
+    holds_of o (λ (class : ClassLine). is_among a class.targets && not (is_borne starts gate (read_of class.sort) a class.label)) ≡ false
+has_gate starts gate a None stand = refl
+has_gate starts gate a (Some class) stand =
     elim (cases_Bool (is_among a class.targets)) [
-      | inl among ↦ ap (λ b. b && not (is_borne gate (read_of class.sort) a class.label)) among ∙ ap not (stand class refl among)
-      | inr apart ↦ ap (λ b. b && not (is_borne gate (read_of class.sort) a class.label)) apart
+      | inl among ↦ ap (λ b. b && not (is_borne starts gate (read_of class.sort) a class.label)) among ∙ ap not (stand class refl among)
+      | inr apart ↦ ap (λ b. b && not (is_borne starts gate (read_of class.sort) a class.label)) apart
     ]
 
 -- classes whose targets have their gates lack none
-pub gates_stand : (classes rest : List GraphLine) (a : ℕ) (gate : ℕ → Option ℕ) →
-    ((k : ℕ) (class : ClassLine) → option_and_then class_in (slice_get classes k) ≡ Some class → is_among a class.targets ≡ true → is_borne gate (read_of class.sort) a class.label ≡ true) →
-    list_any (lacks_gate gate a) rest ≡ false → list_any (lacks_gate gate a) (classes ++ rest) ≡ false
-gates_stand [] rest a gate stand none = none
-gates_stand (line ∷ classes) rest a gate stand none =
-    or_from (lacks_gate gate a line) (list_any (lacks_gate gate a) (classes ++ rest))
-    (has_gate gate a (class_in line) (λ class is among. stand 0 class is among))
-    (gates_stand classes rest a gate (λ k class is among. stand (suc k) class is among) none)
+pub gates_stand : (classes rest : List GraphLine) (a : ℕ) (starts : ℕ → Bool) (gate : ℕ → Option ℕ) →
+    ((k : ℕ) (class : ClassLine) → option_and_then class_in (slice_get classes k) ≡ Some class → is_among a class.targets ≡ true → is_borne starts gate (read_of class.sort) a class.label ≡ true) →
+    list_any (lacks_gate starts gate a) rest ≡ false → list_any (lacks_gate starts gate a) (classes ++ rest) ≡ false
+gates_stand [] rest a starts gate stand none = none
+gates_stand (line ∷ classes) rest a starts gate stand none =
+    or_from (lacks_gate starts gate a line) (list_any (lacks_gate starts gate a) (classes ++ rest))
+    (has_gate starts gate a (class_in line) (λ class is among. stand 0 class is among))
+    (gates_stand classes rest a starts gate (λ k class is among. stand (suc k) class is among) none)

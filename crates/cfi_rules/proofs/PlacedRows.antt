@@ -1,7 +1,9 @@
 -- Worked codes of placed units: their words are what binutils make of the sources in tests/units, their
--- lines those of the programs' graphs; and the units of one of them, which has a class, are sound.
-use Rattle.std.proofs.Common.{◌≡◌, ℕ, zero, suc, ◌==◌, inl, inr, Bool, true, false, List, [], ◌∷◌, refl, sym, ap, subst, ◌∙◌, lit<}
-use Rattle.std.specs.Prelude.{Some, IsTrue, ◌&&◌, ◌||◌, is_some, not, option_and_then, slice_get}
+-- lines those of the programs' graphs; when tests of units and classes show that they are sound; and of one
+-- of the codes they do.
+use Rattle.std.proofs.Common.{◌≡◌, ℕ, zero, suc, ◌+◌, ◌==◌, inl, inr, Bool, true, false, List, [], ◌∷◌, refl, sym, ap, subst, ◌∙◌, lit<}
+use Rattle.std.specs.Prelude.{Option, Some, None, ◌&&◌, is_some, not, option_and_then, slice_get}
+use Rattle.std.specs.List.{last_or, list_all}
 use Rattle.std.proofs.lemmas.Bool.{and_parts, cases_eq, eqb-true, or_cases}
 use Rattle.std.proofs.lemmas.Option.{same_Some}
 use Rattle.rv_word.specs.MemoryMap.{version_1}
@@ -15,21 +17,22 @@ use Rattle.rv_code.specs.Decode.{decoded}
 use Rattle.rv_code.specs.Encode.{code_of}
 use Rattle.cfi_graph.specs.declared.line.GraphLine.{GraphLine}
 use Rattle.cfi_graph.specs.declared.line.GraphLine.TheVariants.{Class, Site, Edge, Call}
-use Rattle.cfi_graph.specs.declared.line.Sort.TheVariants.{Both}
-use Rattle.cfi_graph.specs.Graph.{ClassLine, class_in}
+use Rattle.cfi_graph.specs.Graph.{ClassLine, class_in, is_class}
 use Rattle.cfi_graph.specs.declared.line.SiteKind.TheVariants as K
 use Rattle.cfi_unit.specs.declared.unit.Unit as U
 use Rattle.cfi_unit.specs.declared.unit.Unit.TheVariants as V
 use Rattle.cfi_unit.specs.declared.unit.SystemOp.TheVariants as S
 use Rattle.cfi_unit.specs.declared.place.Place.TheVariants.{Body as body}
-use Rattle.cfi_unit.specs.declared.target_word.TargetWord.TheVariants.{First}
+use Rattle.cfi_unit.specs.declared.target_word.TargetWord.{TargetWord}
+use Rattle.cfi_unit.specs.declared.target_word.TargetWord.TheVariants.{First, Second}
 use Rattle.cfi_unit.specs.UnitWords.{after_unit, words_of}
 use Rattle.cfi_rules.specs.declared.asks.Asks.{Asks}
-use Rattle.cfi_rules.specs.Lines.{class_with, is_among, is_word_of, read_of, targets_for}
+use Rattle.cfi_rules.specs.Lines.{class_with, holds_of, is_among, is_beside, is_outside, is_word_of, read_of, targets_for}
 use Rattle.cfi_rules.specs.Placed.{AllAhead, AllFit, code_from, lines_from, placed_code, placed_lines}
-use Rattle.cfi_rules.specs.Rules.{asks, site_of}
-use Rattle.cfi_rules.specs.Sound.{Bears, IsSound, target_of}
+use Rattle.cfi_rules.specs.Rules.{asks, gate_of, is_borne, is_label, is_of_version, site_of}
+use Rattle.cfi_rules.specs.Sound.{Bears, IsSound, StartsIn, target_of}
 use Rattle.cfi_rules.specs.Split.{unit_in}
+use Rattle.cfi_rules.proofs.RuleFacts.{gate_is, not_false}
 use Rattle.cfi_rules.proofs.UnitIn.{in_here, in_later}
 
 -- a computed call of one of two functions (p.s)
@@ -68,7 +71,7 @@ abbrev jump_units : List U.Unit
 jump_units =
     V.Plain (Upper Lui 5 0x10)
     ∷ V.Plain (Load Ld 5 5 0)
-    ∷ V.Ijump 5 0 1
+    ∷ V.Ijump First 5 0 1
     ∷ V.Gate 1
     ∷ V.Plain (Immediate Addi 10 0 1)
     ∷ V.Return
@@ -151,7 +154,7 @@ unfolding AllAhead
 p_ahead = (refl, (refl, (refl, (refl, (refl, (refl, (refl, (refl, (refl, (refl, (refl, (refl, (refl, (refl, (refl, tt)))))))))))))))
 
 -- a test of each unit where it stands
-all_from : (ℕ → U.Unit → Bool) → ℕ → List U.Unit → Bool
+unfoldable pub all_from : (ℕ → U.Unit → Bool) → ℕ → List U.Unit → Bool
 all_from test at [] = true
 all_from test at (u ∷ us) = test at u && all_from test (after_unit u at) us
 
@@ -167,69 +170,92 @@ each_in test (v ∷ us) at a u all e =
       | inr other ↦ each_in test us (after_unit v at) a u parts.1 (sym (in_later v us at a other) ∙ e)
     ]
 
--- of the worked code's units each gate is listed, each computed transfer has a class, and none is a direct
--- transfer
-abbrev is_right : ℕ → U.Unit → Bool
-is_right a (V.Gate label) = label == 1 && is_among a (0x400000c8 ∷ 0x400000e4 ∷ [])
-is_right a (V.Ijump rs1 imm label) = is_some (targets_for p_classes K.Jump First label)
-is_right a (V.Icall rs1 imm label) = is_some (targets_for p_classes K.Call First label)
-is_right a u = not (is_some (target_of u))
+-- each gate with a class's label is at such a word of a target, each computed transfer has a class, and
+-- none is a direct transfer
+abbrev pub is_right : List GraphLine → ℕ → U.Unit → Bool
+is_right classes a (V.Gate label) = not (is_outside classes label a)
+is_right classes a (V.Ijump which rs1 imm label) = is_some (targets_for classes K.Jump which label)
+is_right classes a (V.Icall rs1 imm label) = is_some (targets_for classes K.Call First label)
+is_right classes a u = not (is_some (target_of u))
 
-right_there : (a : ℕ) (u : U.Unit) → unit_in p_units 0x40000040 a ≡ Some u → is_right a u ≡ true
-unfolding all_from class_with targets_for
-right_there a u e = each_in is_right p_units 0x40000040 a u refl e
+no_transfer : (classes : List GraphLine) (a : ℕ) (u : U.Unit) (t : ℕ) → is_right classes a u ≡ true → target_of u ≡ Some t → ⊥
+no_transfer classes a (V.Branch op rs1 rs2 target) t right e = absurd (cc)
+no_transfer classes a (V.Near op rs1 rs2 target) t right e = absurd (cc)
+no_transfer classes a (V.Jump target) t right e = absurd (cc)
+no_transfer classes a (V.Call target) t right e = absurd (cc)
+no_transfer classes a other t right e = absurd (cc)
 
-no_transfer : (a : ℕ) (u : U.Unit) (t : ℕ) → is_right a u ≡ true → target_of u ≡ Some t → ⊥
-no_transfer a (V.Branch op rs1 rs2 target) t right e = absurd (cc)
-no_transfer a (V.Near op rs1 rs2 target) t right e = absurd (cc)
-no_transfer a (V.Jump target) t right e = absurd (cc)
-no_transfer a (V.Call target) t right e = absurd (cc)
-no_transfer a other t right e = absurd (cc)
+label_known : (classes : List GraphLine) (a : ℕ) (u : U.Unit) (asked : Asks) → is_right classes a u ≡ true → site_of (body u) ≡ Some asked →
+    is_some (targets_for classes asked.kind asked.which asked.label) ≡ true
+label_known classes a (V.Ijump which rs1 imm label) asked right e =
+    subst (λ (s : Asks). is_some (targets_for classes s.kind s.which s.label) ≡ true) (same_Some (asks K.Jump which label) asked e) right
+label_known classes a (V.Icall rs1 imm label) asked right e =
+    subst (λ (s : Asks). is_some (targets_for classes s.kind s.which s.label) ≡ true) (same_Some (asks K.Call First label) asked e) right
+label_known classes a other asked right e = absurd (cc)
 
-label_known : (a : ℕ) (u : U.Unit) (asked : Asks) → is_right a u ≡ true → site_of (body u) ≡ Some asked → is_some (targets_for p_classes asked.kind asked.which asked.label) ≡ true
-label_known a (V.Ijump rs1 imm label) asked right e =
-    subst (λ (s : Asks). is_some (targets_for p_classes s.kind s.which s.label) ≡ true) (same_Some (asks K.Jump First label) asked e) right
-label_known a (V.Icall rs1 imm label) asked right e =
-    subst (λ (s : Asks). is_some (targets_for p_classes s.kind s.which s.label) ≡ true) (same_Some (asks K.Call First label) asked e) right
-label_known a other asked right e = absurd (cc)
+listed : (classes : List GraphLine) (l a : ℕ) (class : ClassLine) → is_right classes a (V.Gate l) ≡ true → class_with classes l ≡ Some class →
+    is_word_of (read_of class.sort) a class.targets ≡ true
+listed classes l a class right e =
+    not_false (is_word_of (read_of class.sort) a class.targets)
+    (not_true (is_beside class a) (sym (ap (λ o. not (holds_of o (λ (c : ClassLine). is_beside c a))) e) ∙ right))
+  where
+    not_true : (b : Bool) → not b ≡ true → b ≡ false
+    not_true true same = absurd (cc)
+    not_true false same = refl
 
--- the one class
-abbrev p_class : ClassLine
-p_class = record { sort = Both; label = 1; targets = 0x400000c8 ∷ 0x400000e4 ∷ [] }
+-- each target of a class bears its label, and a unit starts there
+abbrev pub borne_in : List U.Unit → TargetWord → ℕ → ℕ → Bool
+borne_in us which a label = is_borne (λ b. is_some (unit_in us 0x40000040 b)) (λ b. option_and_then gate_of (unit_in us 0x40000040 b)) which a label
 
-gate_there : (k a : ℕ) (class : ClassLine) → option_and_then class_in (slice_get p_classes k) ≡ Some class → IsTrue (is_among a class.targets) →
-    Bears version_1 p_units (read_of class.sort) a class.label
-unfolding unit_in
-gate_there zero a class e among =
-    let same : p_class ≡ class = same_Some p_class class e in
-    let bears : Bears version_1 p_units First a 1 = elim (or_cases (0x400000c8 == a) ((0x400000e4 == a) || false) (ap (λ (c : ClassLine). is_among a c.targets) same ∙ among)) [
-      | inl first ↦ subst (λ (b : ℕ). unit_in p_units 0x40000040 b ≡ Some (V.Gate 1)) (eqb-true 0x400000c8 a first) refl
-      | inr more ↦ elim (or_cases (0x400000e4 == a) false more) [
-        | inl second ↦ subst (λ (b : ℕ). unit_in p_units 0x40000040 b ≡ Some (V.Gate 1)) (eqb-true 0x400000e4 a second) refl
-        | inr none ↦ absurd (cc)
-      ]
-    ] in
-    subst (λ (c : ClassLine). Bears version_1 p_units (read_of c.sort) a c.label) same bears
-gate_there (suc k) a class e among = absurd (cc)
+abbrev pub all_borne : List U.Unit → Option ClassLine → Bool
+all_borne us None = true
+all_borne us (Some class) = list_all (λ a. borne_in us (read_of class.sort) a class.label) class.targets
 
-listed : (l a : ℕ) (class : ClassLine) → is_right a (V.Gate l) ≡ true → class_with p_classes l ≡ Some class → IsTrue (is_word_of (read_of class.sort) a class.targets)
-unfolding class_with
-listed l a class right e =
-    let parts = and_parts (l == 1) (is_among a (0x400000c8 ∷ 0x400000e4 ∷ [])) right in
-    let is : Some p_class ≡ Some class = ap (class_with p_classes) (sym (eqb-true l 1 parts.0)) ∙ e in
-    subst (λ (c : ClassLine). is_word_of (read_of c.sort) a c.targets ≡ true) (same_Some p_class class is) parts.1
+each_among : (test : ℕ → Bool) (ts : List ℕ) (a : ℕ) → list_all test ts ≡ true → is_among a ts ≡ true → test a ≡ true
+each_among test [] a all among = absurd (cc)
+each_among test (t ∷ ts) a all among =
+    let parts = and_parts (test t) (list_all test ts) all in
+    elim (or_cases (t == a) (is_among a ts) among) [
+      | inl here ↦ subst (λ (b : ℕ). test b ≡ true) (eqb-true t a here) parts.0
+      | inr later ↦ each_among test ts a parts.1 later
+    ]
 
-p_sound : IsSound version_1 0x40000040 p_units p_classes
-unfolding unit_in
-p_sound = record {
-  fit = p_fit;
-  ahead = p_ahead;
-  entry_reached = refl;
-  entry_starts = refl;
-  targets = λ a t u here leads. absurd (no_transfer a u t (right_there a u here) leads);
-  classes_are = refl;
-  labels = λ a u asked here is. label_known a u asked (right_there a u here) is;
-  gates = gate_there;
-  astray = λ l a class here is. listed l a class (right_there a (V.Gate l) here) is;
-  ends = refl;
-}
+each_class : (us : List U.Unit) (classes : List GraphLine) (k : ℕ) (class : ClassLine) → list_all (λ line. all_borne us (class_in line)) classes ≡ true →
+    option_and_then class_in (slice_get classes k) ≡ Some class → all_borne us (Some class) ≡ true
+each_class us [] k class all e = absurd (cc)
+each_class us (line ∷ classes) zero class all e =
+    ap (all_borne us) (sym e) ∙ (and_parts (all_borne us (class_in line)) (list_all (λ other. all_borne us (class_in other)) classes) all).0
+each_class us (line ∷ classes) (suc k) class all e =
+    each_class us classes k class (and_parts (all_borne us (class_in line)) (list_all (λ other. all_borne us (class_in other)) classes) all).1 e
+
+bears : (us : List U.Unit) (which : TargetWord) (a label : ℕ) → borne_in us which a label ≡ true → Bears version_1 us which a label
+bears us First a label borne = gate_is (unit_in us 0x40000040 a) label borne
+bears us Second a label borne =
+    let parts = and_parts (is_some (unit_in us 0x40000040 a)) (is_label (option_and_then gate_of (unit_in us 0x40000040 (a + 4))) label) borne in
+    (parts.0, gate_is (unit_in us 0x40000040 (a + 4)) label parts.1)
+
+-- so units of which these tests hold are sound
+pub sound_by : (version : ℕ) (us : List U.Unit) (classes : List GraphLine) → AllFit 0x40000040 us → AllAhead 0x40000040 us → StartsIn version_1 us 0x40000040 →
+    all_from (λ a. is_of_version version) 0x40000040 us ≡ true → all_from (is_right classes) 0x40000040 us ≡ true → list_all is_class classes ≡ true →
+    list_all (λ line. all_borne us (class_in line)) classes ≡ true → last_or None us ≡ Some V.Stop → IsSound version_1 version 0x40000040 us classes
+sound_by version us classes fit ahead begun of_version right are_classes borne ends =
+    let right_there : (a : ℕ) (u : U.Unit) → unit_in us 0x40000040 a ≡ Some u → is_right classes a u ≡ true =
+    λ a u here. each_in (is_right classes) us 0x40000040 a u right here in
+    record {
+      fit = fit;
+      ahead = ahead;
+      of_version = λ a u here. each_in (λ b. is_of_version version) us 0x40000040 a u of_version here;
+      entry_reached = refl;
+      entry_starts = begun;
+      targets = λ a t u here leads. absurd (no_transfer classes a u t (right_there a u here) leads);
+      classes_are = are_classes;
+      labels = λ a u asked here is. label_known classes a u asked (right_there a u here) is;
+      gates = λ k a class is among. bears us (read_of class.sort) a class.label
+          (each_among (λ b. borne_in us (read_of class.sort) b class.label) class.targets a (each_class us classes k class borne is) among);
+      astray = λ l a class here is. listed classes l a class (right_there a (V.Gate l) here) is;
+      ends = ends;
+    }
+
+p_sound : IsSound version_1 1 0x40000040 p_units p_classes
+unfolding all_from class_with targets_for unit_in
+p_sound = sound_by 1 p_units p_classes p_fit p_ahead refl refl refl refl refl refl

@@ -2,7 +2,7 @@
 use Rattle.std.proofs.Common.{◌≡◌, ◌≢◌, ℕ, ◌+◌, ◌*◌, ◌%◌, ◌≤◌, ◌<◌, ◌==◌, inl, inr, Bool, true, false, List, [], ◌∷◌, length, refl, sym, ap, subst, ◌∙◌, Some, None, arith}
 use Rattle.std.specs.Prelude.{Option, nat_le, nat_lt, not, ◌&&◌, ◌||◌, is_some, option_and_then, option_map}
 use Rattle.std.specs.List.{last_or}
-use Rattle.std.proofs.lemmas.Bool.{and_right, and_left, cases_Bool, cases_eq, eq-eqb, le-ltb, lt-leb, ne_eqb, or_from}
+use Rattle.std.proofs.lemmas.Bool.{and_from, and_right, and_left, cases_Bool, cases_eq, eq-eqb, le-ltb, lt-leb, ne_eqb, or_from}
 use Rattle.std.proofs.lemmas.Option.{same_Some}
 use Rattle.rv_word.specs.MemoryMap.{CODE_START, Profile}
 use Rattle.rv_word.proofs.Cases.{cases_Option, guarded}
@@ -16,13 +16,13 @@ use Rattle.cfi_unit.specs.declared.place.Place.{Place}
 use Rattle.cfi_unit.specs.declared.place.Place.TheVariants.{Handler as handler, Opening as opening, Closing as closing, Body as body}
 use Rattle.cfi_graph.specs.Graph.{ClassLine, GraphParts}
 use Rattle.cfi_unit.specs.declared.target_word.TargetWord.{TargetWord}
-use Rattle.cfi_unit.specs.declared.target_word.TargetWord.TheVariants.{First}
+use Rattle.cfi_unit.specs.declared.target_word.TargetWord.TheVariants.{First, Second}
 use Rattle.cfi_unit.specs.Prologue.{OPENING}
 use Rattle.cfi_unit.specs.Split.{IsSplit}
 use Rattle.cfi_unit.specs.UnitWords.{word_count}
 use Rattle.cfi_rules.specs.Lines.{class_with, holds_of, if_serves, is_beside, is_word_of, line_at, read_of, targets_for}
 use Rattle.cfi_rules.specs.Placed.{code_from, line_of, lines_from, placed_lines}
-use Rattle.cfi_rules.specs.Rules.{Holds, asks, call_of, edge_of, fails_prologue, gate_label, gate_of, is_astray, is_bad_end, is_borne, is_call_to, is_edge_to, is_label, is_lone_site, is_site_with, is_stop, is_unused, site_of}
+use Rattle.cfi_rules.specs.Rules.{Holds, asks, call_of, edge_of, fails_prologue, gate_label, gate_of, has_unit, is_astray, is_bad_end, is_borne, is_call_to, is_edge_to, is_label, is_lone_site, is_of_version, is_site_with, is_stop, is_unused, site_of}
 use Rattle.cfi_rules.specs.Sound.{Bears, IsSound, StartsIn, target_of}
 use Rattle.cfi_rules.specs.Split.{entry_of, is_handler, is_start, place_at, unit_at, unit_in, unit_starts, unit_words}
 use Rattle.cfi_rules.specs.declared.asks.Asks.{Asks}
@@ -56,7 +56,7 @@ unused_unit (V.Branch op rs1 rs2 target) a = refl
 unused_unit (V.Near op rs1 rs2 target) a = refl
 unused_unit (V.Jump target) a = refl
 unused_unit (V.Call target) a = refl
-unused_unit (V.Ijump rs1 imm label) a = refl
+unused_unit (V.Ijump which rs1 imm label) a = refl
 unused_unit (V.Icall rs1 imm label) a = refl
 unused_unit other a = refl
 
@@ -66,7 +66,7 @@ site_unit (V.Branch op rs1 rs2 target) a lines known = refl
 site_unit (V.Near op rs1 rs2 target) a lines known = refl
 site_unit (V.Jump target) a lines known = refl
 site_unit (V.Call target) a lines known = refl
-site_unit (V.Ijump rs1 imm label) a lines known = rw (eq-eqb label label refl, known (asks K.Jump First label) refl) refl
+site_unit (V.Ijump which rs1 imm label) a lines known = rw (eq-eqb label label refl, known (asks K.Jump which label) refl) refl
 site_unit (V.Icall rs1 imm label) a lines known = rw (eq-eqb label label refl, known (asks K.Call First label) refl) refl
 site_unit other a lines known = refl
 
@@ -108,12 +108,12 @@ pub record IsPlaced (p : Profile) (words : List ℕ) (entry : ℕ) (us : List U.
   pub split : IsSplit (unit_words p words) p.units_from us
   pub size : CODE_START + 4 * length words ≡ p.units_from + 4 * length (code_from p.units_from us)
 
-module _ (p : Profile) (words : List ℕ) (entry : ℕ) (us : List U.Unit) (classes : List GraphLine) (code : ℕ) (placed : IsPlaced p words entry us) (sound : IsSound p entry us classes) where
+module _ (p : Profile) (words : List ℕ) (version entry : ℕ) (us : List U.Unit) (classes : List GraphLine) (code : ℕ) (placed : IsPlaced p words entry us) (sound : IsSound p version entry us classes) where
   abbrev the_lines : List GraphLine
   the_lines = placed_lines p entry us classes
 
   abbrev the_graph : GraphParts
-  the_graph = record { code = code; lines = the_lines }
+  the_graph = record { version = version; code = code; lines = the_lines }
 
   low : CODE_START ≤ p.units_from
   low = let closing = placed.closing_after in let units = placed.units_after in omega arith
@@ -225,13 +225,18 @@ module _ (p : Profile) (words : List ℕ) (entry : ℕ) (us : List U.Unit) (clas
         | quiet edge call site line ↦ rw (site, line) refl
       ]
 
-  borne : (which : TargetWord) (a label : ℕ) → Bears p us which a label → is_borne (gate_label p words) which a label ≡ true
-  borne First a label bears = ap (λ o. is_label (option_and_then gate_of o) label) (unit a ∙ bears) ∙ eq-eqb label label refl
+  gate_there : (a label : ℕ) → unit_in us p.units_from a ≡ Some (V.Gate label) → is_label (gate_label p words a) label ≡ true
+  gate_there a label here = ap (λ o. is_label (option_and_then gate_of o) label) (unit a ∙ here) ∙ eq-eqb label label refl
+
+  borne : (which : TargetWord) (a label : ℕ) → Bears p us which a label → is_borne (has_unit p words) (gate_label p words) which a label ≡ true
+  borne First a label bears = gate_there a label bears
+  borne Second a label bears =
+      and_from (has_unit p words a) (is_label (gate_label p words (a + 4)) label) (ap is_some (unit a) ∙ bears.0) (gate_there (a + 4) label bears.1)
 
   gate_holds : Holds p words the_graph R.Gate
   gate_holds a =
-      gates_stand classes (Call OPENING entry ∷ lines_from p.units_from us) a (gate_label p words)
-      (λ k class is among. borne (read_of class.sort) a class.label (sound.gates k a class is among)) (none_lacks us p.units_from a (gate_label p words))
+      gates_stand classes (Call OPENING entry ∷ lines_from p.units_from us) a (has_unit p words) (gate_label p words)
+      (λ k class is among. borne (read_of class.sort) a class.label (sound.gates k a class is among)) (none_lacks us p.units_from a (has_unit p words) (gate_label p words))
 
   astray_holds : Holds p words the_graph R.Astray
   astray_holds a =
@@ -244,8 +249,14 @@ module _ (p : Profile) (words : List ℕ) (entry : ℕ) (us : List U.Unit) (clas
   unit_holds : Holds p words the_graph R.Unit
   unit_holds a =
       let all = reaches_end p low placed.round words us placed.split in
-      and_right (a == p.units_from + 4 * length (unit_starts p words)) (nat_lt (length (unit_starts p words)) (length (unit_words p words)))
-      (le-ltb (length (unit_starts p words)) (length (unit_words p words)) (omega (arith, all)))
+      or_from ((a == p.units_from + 4 * length (unit_starts p words)) && nat_lt (length (unit_starts p words)) (length (unit_words p words)))
+      (holds_of (unit_at p words a) (λ (u : U.Unit). not (is_of_version version u)))
+      (and_right (a == p.units_from + 4 * length (unit_starts p words)) (nat_lt (length (unit_starts p words)) (length (unit_words p words)))
+      (le-ltb (length (unit_starts p words)) (length (unit_words p words)) (omega (arith, all))))
+      (elim (cases_Option (unit_in us p.units_from a)) [
+        | inl none ↦ rw (unit a ∙ none) refl
+        | inr (u, e) ↦ rw (unit a ∙ e) (ap not (sound.of_version a u e))
+      ])
 
   -- the code has a unit
   some_code : 1 ≤ length (code_from p.units_from us)

@@ -1,7 +1,7 @@
 -- What stands at each address of a well-formed image's code, and what each rule says there.
 use Rattle.std.proofs.Common.{◌≡◌, ℕ, ◌+◌, ◌-◌, ◌*◌, ◌/◌, ◌^◌, ◌≤◌, ◌<◌, ◌⊎◌, inl, inr, true, false, List, length, drop, refl, sym, ap, subst, ◌∙◌, Some, None, arith}
-use Rattle.std.specs.Prelude.{nat_lt, ◌==◌, ◌&&◌, option_map}
-use Rattle.std.proofs.lemmas.Bool.{cases_eq, eqb-true, eq-eqb, ne_eqb, ltb-false}
+use Rattle.std.specs.Prelude.{nat_lt, ◌==◌, ◌&&◌, not, option_map}
+use Rattle.std.proofs.lemmas.Bool.{cases_eq, eqb-true, eq-eqb, ne_eqb, ltb-false, or_parts}
 use Rattle.std.proofs.lemmas.List.Elements.{All-drop}
 use Rattle.rv_word.specs.Image.{Contents}
 use Rattle.rv_word.specs.MemoryMap.{CODE_START, IsProfile, Profile}
@@ -16,7 +16,8 @@ use Rattle.cfi_unit.specs.Prologue.{OPENING}
 use Rattle.cfi_unit.specs.UnitWords.{BAD_TARGET, BAD_RETURN, DEEP}
 use Rattle.cfi_unit.specs.Recognise.{recognised}
 use Rattle.cfi_rules.specs.Split.{code_words, unit_words, unit_starts, is_start, unit_at, entry_of, is_handler, place_at}
-use Rattle.cfi_rules.specs.Rules.{IsWellFormed}
+use Rattle.cfi_rules.specs.Lines.{holds_of}
+use Rattle.cfi_rules.specs.Rules.{IsWellFormed, admits}
 use Rattle.cfi_rules.specs.declared.reject.Rule.TheVariants as R
 use Rattle.cfi_rules.specs.Laws.{AreBytes}
 use Rattle.cfi_rules.proofs.Bytes.{are_words}
@@ -41,7 +42,8 @@ module _ (p : Profile) (profile : IsProfile p) (image : Contents) (graph : Graph
       let words = are_words image.code bytes.code in
       let marks = length (unit_starts p the_words) in
       let rule : (p.units_from + 4 * marks == p.units_from + 4 * marks) && nat_lt marks (length (unit_words p the_words)) ≡ false =
-      formed.rules R.Unit (p.units_from + 4 * marks) in
+      (or_parts ((p.units_from + 4 * marks == p.units_from + 4 * marks) && nat_lt marks (length (unit_words p the_words)))
+      (holds_of (unit_at p the_words (p.units_from + 4 * marks)) (λ (u : U.Unit). not (admits graph u))) (formed.rules R.Unit (p.units_from + 4 * marks))).0 in
       let enough : length (unit_words p the_words) ≤ marks =
       ltb-false marks (length (unit_words p the_words)) (rw (eq-eqb (p.units_from + 4 * marks) (p.units_from + 4 * marks) refl) at rule) in
       let most : marks ≤ length (unit_words p the_words) = marks_room (length (unit_words p the_words)) (unit_words p the_words) p.units_from (omega arith) (All-drop (λ x. x < 2 ^ 32) ((p.units_from - CODE_START) / 4) the_words words) in

@@ -14,11 +14,11 @@ use Rattle.cfi_unit.specs.declared.unit.Unit as U
 use Rattle.cfi_unit.specs.declared.unit.Unit.TheVariants as V
 use Rattle.cfi_unit.specs.declared.place.Place.{Place}
 use Rattle.cfi_unit.specs.declared.target_word.TargetWord.{TargetWord}
-use Rattle.cfi_unit.specs.declared.target_word.TargetWord.TheVariants.{First}
-use Rattle.cfi_unit.specs.UnitWords.{word_count}
+use Rattle.cfi_unit.specs.declared.target_word.TargetWord.TheVariants.{First, Second}
+use Rattle.cfi_unit.specs.UnitWords.{past, word_count}
 use Rattle.cfi_rules.specs.Lines.{holds_of, line_at, class_with, or_class, targets_for, is_among, is_beside, is_word_of, read_of}
 use Rattle.cfi_rules.specs.Split.{code_words, is_start, unit_at, place_at}
-use Rattle.cfi_rules.specs.Rules.{IsWellFormed, edge_of, call_of, site_of, gate_of, gate_label, is_label, is_astray, is_borne, is_stop, is_bad_end, lacks_gate, is_lone_site, is_site_with}
+use Rattle.cfi_rules.specs.Rules.{IsWellFormed, edge_of, call_of, site_of, gate_of, gate_label, has_unit, is_label, is_astray, is_borne, is_stop, is_bad_end, lacks_gate, is_lone_site, is_site_with}
 use Rattle.cfi_rules.specs.declared.asks.Asks.{Asks}
 use Rattle.cfi_rules.specs.declared.reject.Rule.TheVariants as R
 use Rattle.cfi_rules.proofs.Find.{UnitHere}
@@ -28,7 +28,7 @@ pub not_false : (b : Bool) → not b ≡ false → b ≡ true
 not_false true e = refl
 not_false false e = absurd (cc)
 
-gate_is : (unit : Option U.Unit) (label : ℕ) → is_label (option_and_then gate_of unit) label ≡ true → unit ≡ Some (V.Gate label)
+pub gate_is : (unit : Option U.Unit) (label : ℕ) → is_label (option_and_then gate_of unit) label ≡ true → unit ≡ Some (V.Gate label)
 gate_is (Some (V.Gate l)) label e = ap (λ n. Some (V.Gate n)) (eqb-true l label e)
 gate_is other label e = absurd (cc)
 
@@ -37,31 +37,43 @@ some_is None e = absurd (cc)
 some_is (Some x) e = (x, refl)
 
 -- a class whose targets all have their gates
-borne_of_class : (lines : List GraphLine) (gate : ℕ → Option ℕ) (v l : ℕ) (class : ClassLine) → class_with lines l ≡ Some class →
-    list_any (lacks_gate gate v) lines ≡ false → is_among v class.targets ≡ true → is_borne gate (read_of class.sort) v l ≡ true
+borne_of_class : (lines : List GraphLine) (starts : ℕ → Bool) (gate : ℕ → Option ℕ) (v l : ℕ) (class : ClassLine) → class_with lines l ≡ Some class →
+    list_any (lacks_gate starts gate v) lines ≡ false → is_among v class.targets ≡ true → is_borne starts gate (read_of class.sort) v l ≡ true
 unfolding class_with
-borne_of_class [] gate v l class e rule among = absurd (none-some class e)
-borne_of_class (line ∷ lines) gate v l class e rule among =
-    let parts = or_parts (lacks_gate gate v line) (list_any (lacks_gate gate v) lines) rule in
+borne_of_class [] starts gate v l class e rule among = absurd (none-some class e)
+borne_of_class (line ∷ lines) starts gate v l class e rule among =
+    let parts = or_parts (lacks_gate starts gate v line) (list_any (lacks_gate starts gate v) lines) rule in
     elim (cases_Option (class_in line)) [
-      | inl none ↦ borne_of_class lines gate v l class (sym (ap (λ o. or_class l o (class_with lines l)) none) ∙ e) parts.1 among
+      | inl none ↦ borne_of_class lines starts gate v l class (sym (ap (λ o. or_class l o (class_with lines l)) none) ∙ e) parts.1 among
       | inr (here, some) ↦
-          let stands : is_among v here.targets && not (is_borne gate (read_of here.sort) v here.label) ≡ false =
-          sym (ap (λ o. holds_of o (λ (c : ClassLine). is_among v c.targets && not (is_borne gate (read_of c.sort) v c.label))) some) ∙ parts.0 in
+          let stands : is_among v here.targets && not (is_borne starts gate (read_of here.sort) v here.label) ≡ false =
+          sym (ap (λ o. holds_of o (λ (c : ClassLine). is_among v c.targets && not (is_borne starts gate (read_of c.sort) v c.label))) some) ∙ parts.0 in
           elim (chosen (here.label == l) (Some here) (class_with lines l) (Some class) (sym (ap (λ o. or_class l o (class_with lines l)) some) ∙ e)) [
             | inl found ↦
                 let same : here ≡ class = same_Some here class found.1 in
                 let there : is_among v here.targets ≡ true = ap (λ (c : ClassLine). is_among v c.targets) same ∙ among in
-                let borne : is_borne gate (read_of here.sort) v here.label ≡ true =
-                not_false (is_borne gate (read_of here.sort) v here.label)
-                (sym (ap (λ b. b && not (is_borne gate (read_of here.sort) v here.label)) there) ∙ stands) in
-                let of_class : is_borne gate (read_of class.sort) v class.label ≡ true =
-                subst (λ (c : ClassLine). is_borne gate (read_of c.sort) v c.label ≡ true) same borne in
+                let borne : is_borne starts gate (read_of here.sort) v here.label ≡ true =
+                not_false (is_borne starts gate (read_of here.sort) v here.label)
+                (sym (ap (λ b. b && not (is_borne starts gate (read_of here.sort) v here.label)) there) ∙ stands) in
+                let of_class : is_borne starts gate (read_of class.sort) v class.label ≡ true =
+                subst (λ (c : ClassLine). is_borne starts gate (read_of c.sort) v c.label ≡ true) same borne in
                 let label : class.label ≡ l = ap (λ (c : ClassLine). c.label) (sym same) ∙ eqb-true here.label l found.0 in
-                subst (λ (n : ℕ). is_borne gate (read_of class.sort) v n ≡ true) label of_class
-            | inr later ↦ borne_of_class lines gate v l class later.1 parts.1 among
+                subst (λ (n : ℕ). is_borne starts gate (read_of class.sort) v n ≡ true) label of_class
+            | inr later ↦ borne_of_class lines starts gate v l class later.1 parts.1 among
           ]
     ]
+
+-- where a label is borne a unit starts, and the word that bears it is the label's gate
+pub unit_borne : (p : Profile) (words : List ℕ) (which : TargetWord) (v l : ℕ) → is_borne (has_unit p words) (gate_label p words) which v l ≡ true →
+    (u : U.Unit) × (unit_at p words v ≡ Some u)
+unit_borne p words First v l borne = (V.Gate l, gate_is (unit_at p words v) l borne)
+unit_borne p words Second v l borne = some_is (unit_at p words v) (and_parts (has_unit p words v) (is_label (gate_label p words (v + 4)) l) borne).0
+
+pub gate_borne : (p : Profile) (words : List ℕ) (which : TargetWord) (v l : ℕ) → is_borne (has_unit p words) (gate_label p words) which v l ≡ true →
+    unit_at p words (v + past which) ≡ Some (V.Gate l)
+gate_borne p words First v l borne = ap (unit_at p words) (let same : v + 0 ≡ v = omega arith in same) ∙ gate_is (unit_at p words v) l borne
+gate_borne p words Second v l borne =
+    gate_is (unit_at p words (v + 4)) l (and_parts (has_unit p words v) (is_label (gate_label p words (v + 4)) l) borne).1
 
 module _ (p : Profile) (image : Contents) (graph : GraphParts) (formed : IsWellFormed p image graph) where
   pub edge_starts : (a : ℕ) (place : Place) (t : ℕ) → place_at p (code_words image.code) a ≡ Some place → edge_of place ≡ Some t →
@@ -92,17 +104,14 @@ module _ (p : Profile) (image : Contents) (graph : GraphParts) (formed : IsWellF
       ]
 
   -- a target bears the label at the word that the check of a transfer that the class serves reads
-  target_bears : (kind : SiteKind) (which : TargetWord) (v l : ℕ) (ts : List ℕ) → targets_for graph.lines kind which l ≡ Some ts → is_among v ts ≡ true →
-      is_borne (gate_label p (code_words image.code)) which v l ≡ true
+  pub target_bears : (kind : SiteKind) (which : TargetWord) (v l : ℕ) (ts : List ℕ) → targets_for graph.lines kind which l ≡ Some ts → is_among v ts ≡ true →
+      is_borne (has_unit p (code_words image.code)) (gate_label p (code_words image.code)) which v l ≡ true
   target_bears kind which v l ts class among =
       let s = served graph.lines kind which l ts class in
-      let borne = borne_of_class graph.lines (gate_label p (code_words image.code)) v l s.class s.is (formed.rules R.Gate v) (ap (is_among v) s.targets ∙ among) in
-      subst (λ (word : TargetWord). is_borne (gate_label p (code_words image.code)) word v l ≡ true) (reads_it s.class.sort kind which s.serving) borne
-
-  -- so where it is the first word the target has the class's gate
-  pub gate_stands : (kind : SiteKind) (v l : ℕ) (ts : List ℕ) → targets_for graph.lines kind First l ≡ Some ts → is_among v ts ≡ true →
-      unit_at p (code_words image.code) v ≡ Some (V.Gate l)
-  gate_stands kind v l ts class among = gate_is (unit_at p (code_words image.code) v) l (target_bears kind First v l ts class among)
+      let borne = borne_of_class graph.lines (has_unit p (code_words image.code)) (gate_label p (code_words image.code)) v l s.class s.is (formed.rules R.Gate v)
+      (ap (is_among v) s.targets ∙ among) in
+      subst (λ (word : TargetWord). is_borne (has_unit p (code_words image.code)) (gate_label p (code_words image.code)) word v l ≡ true)
+      (reads_it s.class.sort kind which s.serving) borne
 
   -- a gate with a class's label is at the word of a target
   pub gate_listed : (kind : SiteKind) (which : TargetWord) (v l : ℕ) (ts : List ℕ) → unit_at p (code_words image.code) v ≡ Some (V.Gate l) →

@@ -85,7 +85,7 @@ module _ (p : Profile) where
         breaks (body (V.System S.Ebreak)) at pc turn rest stopped tt (only_word (body (V.System S.Ebreak)) at pc refl word) how left
     ended_unit (V.Store op rs1 rs2 imm) word how = absurd how
     ended_unit (V.Call target) word how = absurd how
-    ended_unit (V.Ijump rs1 imm label) word how = absurd how
+    ended_unit (V.Ijump which rs1 imm label) word how = absurd how
     ended_unit (V.Icall rs1 imm label) word how = absurd how
     ended_unit V.Return word how = absurd how
 

@@ -1,16 +1,17 @@
--- Which class serves a computed transfer, and what it says of an address.
+-- Which class serves a computed transfer, and which word of its targets bears its label.
 use Rattle.std.proofs.Common.{◌≡◌, ℕ, true, inl, inr, List, refl, sym, ap, ◌∙◌, Option, Some, None}
-use Rattle.std.specs.Prelude.{not, is_some, option_map, option_and_then, if◌then◌else◌}
+use Rattle.std.specs.Prelude.{is_some, option_and_then}
 use Rattle.std.proofs.lemmas.Option.{none-some, same_Some}
 use Rattle.rv_word.proofs.Cases.{cases_Option, guarded}
 use Rattle.cfi_graph.specs.declared.line.GraphLine.{GraphLine}
 use Rattle.cfi_graph.specs.declared.line.SiteKind.{SiteKind}
+use Rattle.cfi_graph.specs.declared.line.SiteKind.TheVariants as K
 use Rattle.cfi_graph.specs.declared.line.Sort.{Sort}
-use Rattle.cfi_graph.specs.declared.line.Sort.TheVariants.{Both}
+use Rattle.cfi_graph.specs.declared.line.Sort.TheVariants.{Both, Calls, Jumps}
 use Rattle.cfi_graph.specs.Graph.{ClassLine}
 use Rattle.cfi_unit.specs.declared.target_word.TargetWord.{TargetWord}
-use Rattle.cfi_unit.specs.declared.target_word.TargetWord.TheVariants.{First}
-use Rattle.cfi_rules.specs.Lines.{is_outside, class_of, class_with, holds_of, if_serves, is_among, is_beside, is_word_of, read_of, serves, targets_for}
+use Rattle.cfi_unit.specs.declared.target_word.TargetWord.TheVariants.{First, Second}
+use Rattle.cfi_rules.specs.Lines.{class_with, if_serves, read_of, serves, targets_for}
 
 -- the class that gives a transfer its targets
 pub record Served (lines : List GraphLine) (kind : SiteKind) (which : TargetWord) (l : ℕ) (ts : List ℕ) : Type 0 where
@@ -40,27 +41,10 @@ some_class lines kind which l e = by (class_with lines l) e
 -- the check of a transfer that a class serves reads the word that bears the class's label
 pub reads_it : (sort : Sort) (kind : SiteKind) (which : TargetWord) → serves sort kind which ≡ true → read_of sort ≡ which
 reads_it Both kind First e = refl
-
--- a class serves each transfer
-serves_each : (sort : Sort) (kind : SiteKind) (which : TargetWord) → serves sort kind which ≡ true
-serves_each Both kind First = refl
-
-pub for_each : (lines : List GraphLine) (kind : SiteKind) (which : TargetWord) (l : ℕ) → targets_for lines kind which l ≡ class_of lines l
-unfolding targets_for class_of
-for_each lines kind which l = by (class_with lines l)
-  where
-    by : (o : Option ClassLine) → option_and_then (if_serves kind which) o ≡ option_map (λ (class : ClassLine). class.targets) o
-    by None = refl
-    by (Some class) = ap (λ b. if b then Some class.targets else None) (serves_each class.sort kind which)
-
--- beside the words that bear a class's label is beside its targets
-beside_is : (sort : Sort) (a : ℕ) (ts : List ℕ) → is_word_of (read_of sort) a ts ≡ is_among a ts
-beside_is Both a ts = refl
-
-pub outside_is : (lines : List GraphLine) (l a : ℕ) → is_outside lines l a ≡ holds_of (class_of lines l) (λ ts. not (is_among a ts))
-unfolding class_of
-outside_is lines l a = by (class_with lines l)
-  where
-    by : (o : Option ClassLine) → holds_of o (λ class. is_beside class a) ≡ holds_of (option_map (λ (class : ClassLine). class.targets) o) (λ ts. not (is_among a ts))
-    by None = refl
-    by (Some class) = ap not (beside_is class.sort a class.targets)
+reads_it Both kind Second e = absurd (cc)
+reads_it Calls K.Call First e = refl
+reads_it Calls K.Call Second e = absurd (cc)
+reads_it Calls K.Jump which e = absurd (cc)
+reads_it Jumps K.Jump Second e = refl
+reads_it Jumps K.Jump First e = absurd (cc)
+reads_it Jumps K.Call which e = absurd (cc)

@@ -44,7 +44,7 @@ instrs_counted V.Stop at = refl
 instrs_counted (V.System op) at = refl
 instrs_counted (V.Store op rs1 rs2 imm) at = refl
 instrs_counted (V.Call target) at = refl
-instrs_counted (V.Ijump rs1 imm label) at = refl
+instrs_counted (V.Ijump which rs1 imm label) at = refl
 instrs_counted (V.Icall rs1 imm label) at = refl
 instrs_counted V.Return at = refl
 

@@ -18,6 +18,7 @@ use Rattle.cfi_unit.specs.declared.unit.Unit.TheVariants as V
 use Rattle.cfi_unit.specs.declared.unit.SystemOp.TheVariants as S
 use Rattle.cfi_unit.specs.declared.place.Place.{Place}
 use Rattle.cfi_unit.specs.declared.place.Place.TheVariants.{Handler as handler, Opening as opening, Closing as closing, Body as body}
+use Rattle.cfi_unit.specs.declared.target_word.TargetWord.{TargetWord}
 use Rattle.cfi_unit.specs.declared.target_word.TargetWord.TheVariants.{First}
 use Rattle.cfi_unit.specs.Place.{IsWordOf}
 use Rattle.cfi_unit.specs.Prologue.{OPENING}
@@ -36,9 +37,9 @@ pub record Walk : Type 0 where
 
 -- where the walk goes on to `v` from a computed jump: the handler exactly where the destination is no
 -- target of the class, and otherwise the destination
-abbrev pub JumpChooses : List GraphLine → ℕ → ℕ → ℕ → Type 0
-JumpChooses lines label to v =
-    (InClass lines K.Jump First label to × (v ≡ to)) ⊎ ((¬ InClass lines K.Jump First label to) × (v ≡ BAD_TARGET))
+abbrev pub JumpChooses : List GraphLine → TargetWord → ℕ → ℕ → ℕ → Type 0
+JumpChooses lines which label to v =
+    (InClass lines K.Jump which label to × (v ≡ to)) ⊎ ((¬ InClass lines K.Jump which label to) × (v ≡ BAD_TARGET))
 
 -- and from a computed call: a target's call goes to the handler where there is no room
 abbrev pub ComputedCallChooses : List GraphLine → ℕ → ℕ → ℕ → ℕ → Type 0
@@ -53,7 +54,7 @@ ReturnChooses (site ∷ pending) x1 v = ((x1 ≡ site) × (v ≡ site)) ⊎ ((x1
 
 -- the registers decide where a computed transfer or a return goes
 abbrev pub Chooses : List GraphLine → Place → Walk → ℕ → Type 0
-Chooses lines (body (V.Ijump rs1 imm label)) w v = JumpChooses lines label (destination w.regs rs1 imm) v
+Chooses lines (body (V.Ijump which rs1 imm label)) w v = JumpChooses lines which label (destination w.regs rs1 imm) v
 Chooses lines (body (V.Icall rs1 imm label)) w v =
     ComputedCallChooses lines label (length w.pending) (destination w.regs rs1 imm) v
 Chooses lines (body V.Return) w v = ReturnChooses w.pending (get_reg w.regs 1) v

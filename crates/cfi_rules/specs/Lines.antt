@@ -1,15 +1,16 @@
 -- What a graph says of an address and of a label.
-use Rattle.std.specs.Prelude.{ℕ, ◌==◌, ◌||◌, not, Bool, true, false, List, [], ◌∷◌, Option, Some, None, option_map, option_and_then, find, if◌then◌else◌}
+use Rattle.std.specs.Prelude.{ℕ, ◌-◌, ◌==◌, ◌&&◌, ◌||◌, nat_le, not, Bool, true, false, List, [], ◌∷◌, Option, Some, None, option_and_then, find, if◌then◌else◌}
 use Rattle.cfi_graph.specs.declared.line.GraphLine.{GraphLine}
-use Rattle.cfi_graph.specs.declared.line.GraphLine.TheVariants.{Class, Site, Edge, Call}
+use Rattle.cfi_graph.specs.declared.line.GraphLine.TheVariants.{Site, Edge, Call}
 use Rattle.cfi_graph.specs.declared.line.SiteKind.{SiteKind}
+use Rattle.cfi_graph.specs.declared.line.SiteKind.TheVariants as K
 use Rattle.cfi_graph.specs.declared.line.Sort.{Sort}
-use Rattle.cfi_graph.specs.declared.line.Sort.TheVariants.{Both}
+use Rattle.cfi_graph.specs.declared.line.Sort.TheVariants.{Both, Calls, Jumps}
 use Rattle.cfi_graph.specs.declared.line.Key.{Key}
 use Rattle.cfi_graph.specs.declared.line.Key.TheVariants.{Label, Address}
 use Rattle.cfi_graph.specs.Graph.{ClassLine, class_in, key_of}
 use Rattle.cfi_unit.specs.declared.target_word.TargetWord.{TargetWord}
-use Rattle.cfi_unit.specs.declared.target_word.TargetWord.TheVariants.{First}
+use Rattle.cfi_unit.specs.declared.target_word.TargetWord.TheVariants.{First, Second}
 
 -- a test of a value that is there
 abbrev pub holds_of : {A : Type 0} → Option A → (A → Bool) → Bool
@@ -18,10 +19,10 @@ holds_of (Some x) test = test x
 
 -- a line stands at an address: its first one, for all lines but a class's
 abbrev pub stands_at : ℕ → GraphLine → Bool
-stands_at a (Class label targets) = false
 stands_at a (Site address kind label) = address == a
 stands_at a (Edge from to) = from == a
 stands_at a (Call from to) = from == a
+stands_at a other = false
 
 -- the line at an address
 unfoldable pub line_at : List GraphLine → ℕ → Option GraphLine
@@ -37,10 +38,6 @@ unfoldable pub class_with : List GraphLine → ℕ → Option ClassLine
 class_with [] l = None
 class_with (line ∷ lines) l = or_class l (class_in line) (class_with lines l)
 
--- its targets
-unfoldable pub class_of : List GraphLine → ℕ → Option (List ℕ)
-class_of lines l = option_map (λ (class : ClassLine). class.targets) (class_with lines l)
-
 -- an address is among some addresses
 abbrev pub is_among : ℕ → List ℕ → Bool
 is_among a [] = false
@@ -49,10 +46,15 @@ is_among a (x ∷ xs) = (x == a) || is_among a xs
 -- which word of each of its targets bears a class's label
 abbrev pub read_of : Sort → TargetWord
 read_of Both = First
+read_of Calls = First
+read_of Jumps = Second
 
 -- a class serves computed transfers of this kind whose checks read this word
 abbrev pub serves : Sort → SiteKind → TargetWord → Bool
 serves Both kind First = true
+serves Calls K.Call First = true
+serves Jumps K.Jump Second = true
+serves sort kind which = false
 
 abbrev pub if_serves : SiteKind → TargetWord → ClassLine → Option (List ℕ)
 if_serves kind which class = if serves class.sort kind which then Some class.targets else None
@@ -64,6 +66,7 @@ targets_for lines kind which l = option_and_then (if_serves kind which) (class_w
 -- at an address stands this word of one of some targets
 abbrev pub is_word_of : TargetWord → ℕ → List ℕ → Bool
 is_word_of First a targets = is_among a targets
+is_word_of Second a targets = nat_le 4 a && is_among (a - 4) targets
 
 -- at an address stands no word of a target that is to bear the class's label
 abbrev pub is_beside : ClassLine → ℕ → Bool

@@ -34,7 +34,7 @@ line_of at (V.Branch op rs1 rs2 target) = Some (Edge at target)
 line_of at (V.Near op rs1 rs2 target) = Some (Edge at target)
 line_of at (V.Jump target) = Some (Edge at target)
 line_of at (V.Call target) = Some (Call at target)
-line_of at (V.Ijump rs1 imm label) = Some (Site at K.Jump label)
+line_of at (V.Ijump which rs1 imm label) = Some (Site at K.Jump label)
 line_of at (V.Icall rs1 imm label) = Some (Site at K.Call label)
 line_of at other = None
 

@@ -40,14 +40,14 @@ PlacedEntry =
 -- the lines of sound units and classes are a graph's of this code, where those of the classes alone are
 abbrev pub PlacedIsGraph : Type 0
 PlacedIsGraph =
-    (p : Profile) (entry : ℕ) (units : List U.Unit) (classes : List GraphLine) → IsProfile p → IsSound p entry units classes →
-    IsGraph (record { code = 4 * length (placed_code p entry units); lines = classes }) →
-    IsGraph (record { code = 4 * length (placed_code p entry units); lines = placed_lines p entry units classes })
+    (p : Profile) (version entry : ℕ) (units : List U.Unit) (classes : List GraphLine) → IsProfile p → IsSound p version entry units classes →
+    IsGraph (record { version = version; code = 4 * length (placed_code p entry units); lines = classes }) →
+    IsGraph (record { version = version; code = 4 * length (placed_code p entry units); lines = placed_lines p entry units classes })
 
 -- a code of placed units that are sound, with their lines, is well formed
 abbrev pub PlacedIsWellFormed : Type 0
 PlacedIsWellFormed =
     (p : Profile) (entry : ℕ) (units : List U.Unit) (classes : List GraphLine) (image : Contents) (graph : GraphParts) →
-    IsProfile p → IsSound p entry units classes → code_words image.code ≡ placed_code p entry units →
+    IsProfile p → IsSound p graph.version entry units classes → code_words image.code ≡ placed_code p entry units →
     graph.lines ≡ placed_lines p entry units classes → graph.code ≡ length image.code →
     IsWellFormed p image graph

@@ -9,7 +9,7 @@ use Rattle.rv_instr.specs.declared.instr.Instr.TheVariants.{Jal}
 use Rattle.rv_code.specs.Decode.{decoded}
 use Rattle.rv_code.specs.Encode.{code_of}
 use Rattle.cfi_graph.specs.declared.line.GraphLine.{GraphLine}
-use Rattle.cfi_graph.specs.declared.line.GraphLine.TheVariants.{Class, Site, Edge, Call}
+use Rattle.cfi_graph.specs.declared.line.GraphLine.TheVariants.{Site, Edge, Call}
 use Rattle.cfi_graph.specs.declared.line.SiteKind.{SiteKind}
 use Rattle.cfi_graph.specs.declared.line.SiteKind.TheVariants as K
 use Rattle.cfi_graph.specs.Graph.{GraphParts, class_in}
@@ -18,7 +18,7 @@ use Rattle.cfi_unit.specs.declared.unit.Unit.TheVariants as V
 use Rattle.cfi_unit.specs.declared.place.Place.{Place}
 use Rattle.cfi_unit.specs.declared.place.Place.TheVariants.{Opening as opening, Body as body}
 use Rattle.cfi_unit.specs.declared.target_word.TargetWord.{TargetWord}
-use Rattle.cfi_unit.specs.declared.target_word.TargetWord.TheVariants.{First}
+use Rattle.cfi_unit.specs.declared.target_word.TargetWord.TheVariants.{First, Second}
 use Rattle.cfi_unit.specs.Prologue.{prologue_instrs}
 use Rattle.cfi_unit.specs.UnitWords.{after_unit}
 use Rattle.cfi_rules.specs.Lines.{holds_of, line_at, class_with, targets_for, is_among, is_beside, read_of}
@@ -47,7 +47,7 @@ abbrev pub asks : SiteKind → TargetWord → ℕ → Asks
 asks kind which label = record { kind = kind; which = which; label = label }
 
 abbrev pub site_of : Place → Option Asks
-site_of (body (V.Ijump rs1 imm label)) = Some (asks K.Jump First label)
+site_of (body (V.Ijump which rs1 imm label)) = Some (asks K.Jump which label)
 site_of (body (V.Icall rs1 imm label)) = Some (asks K.Call First label)
 site_of other = None
 
@@ -105,11 +105,30 @@ fails_prologue p words a =
     lies_within CODE_START (p.units_from - CODE_START) a 4 && (a % 4 == 0)
     && not (prologue_word_fits p ((a - CODE_START) / 4) (slice_get words ((a - CODE_START) / 4)))
 
--- Unit: the split ends here, before the code does
-abbrev pub fails_unit : Profile → List ℕ → ℕ → Bool
-fails_unit p words a =
-    (a == p.units_from + 4 * length (unit_starts p words))
-    && nat_lt (length (unit_starts p words)) (length (unit_words p words))
+-- which word of its destination a computed jump's check reads, in code whose graph has this version; a
+-- computed call's reads the first in each
+abbrev pub jump_word : ℕ → TargetWord
+jump_word version = if version == 2 then Second else First
+
+abbrev pub same_word : TargetWord → TargetWord → Bool
+same_word First First = true
+same_word Second Second = true
+same_word which other = false
+
+abbrev pub is_of_version : ℕ → U.Unit → Bool
+is_of_version version (V.Ijump which rs1 imm label) = same_word which (jump_word version)
+is_of_version version other = true
+
+-- a graph's code may have this unit
+abbrev pub admits : GraphParts → U.Unit → Bool
+admits graph unit = is_of_version graph.version unit
+
+-- Unit: the split ends here, before the code does, or the graph does not admit the unit here
+abbrev pub fails_unit : Profile → List ℕ → GraphParts → ℕ → Bool
+fails_unit p words graph a =
+    ((a == p.units_from + 4 * length (unit_starts p words))
+    && nat_lt (length (unit_starts p words)) (length (unit_words p words)))
+    || holds_of (unit_at p words a) (λ unit. not (admits graph unit))
 
 -- Target: a direct transfer leads to no unit's start
 abbrev pub fails_target : Profile → List ℕ → ℕ → Bool
@@ -129,8 +148,7 @@ fails_unlisted p words lines a =
 abbrev pub is_unused : Option Place → GraphLine → Bool
 is_unused place (Edge from to) = not (is_some (option_and_then edge_of place))
 is_unused place (Call from to) = not (is_some (option_and_then call_of place))
-is_unused place (Site address kind label) = false
-is_unused place (Class label targets) = false
+is_unused place other = false
 
 abbrev pub fails_unused : Profile → List ℕ → List GraphLine → ℕ → Bool
 fails_unused p words lines a = holds_of (line_at lines a) (is_unused (place_at p words a))
@@ -139,9 +157,7 @@ fails_unused p words lines a = holds_of (line_at lines a) (is_unused (place_at p
 -- it; or a site line stands where no computed transfer does
 abbrev pub is_lone_site : Option Place → GraphLine → Bool
 is_lone_site place (Site address kind label) = not (is_some (option_and_then site_of place))
-is_lone_site place (Edge from to) = false
-is_lone_site place (Call from to) = false
-is_lone_site place (Class label targets) = false
+is_lone_site place other = false
 
 abbrev pub fails_site : Profile → List ℕ → List GraphLine → ℕ → Bool
 fails_site p words lines a =
@@ -150,19 +166,24 @@ fails_site p words lines a =
     || holds_of (line_at lines a) (is_lone_site place)
 
 -- Gate: a class has this target, and the target's word that is to bear the class's label is no gate of
--- this label. `gate` tells the label of the gate at an address
+-- this label, or no unit starts at the target. `starts` tells whether a unit starts at an address, `gate`
+-- the label of the gate there
+abbrev pub has_unit : Profile → List ℕ → ℕ → Bool
+has_unit p words a = is_some (unit_at p words a)
+
 abbrev pub gate_label : Profile → List ℕ → ℕ → Option ℕ
 gate_label p words a = option_and_then gate_of (unit_at p words a)
 
-abbrev pub is_borne : (ℕ → Option ℕ) → TargetWord → ℕ → ℕ → Bool
-is_borne gate First a label = is_label (gate a) label
+abbrev pub is_borne : (ℕ → Bool) → (ℕ → Option ℕ) → TargetWord → ℕ → ℕ → Bool
+is_borne starts gate First a label = is_label (gate a) label
+is_borne starts gate Second a label = starts a && is_label (gate (a + 4)) label
 
-abbrev pub lacks_gate : (ℕ → Option ℕ) → ℕ → GraphLine → Bool
-lacks_gate gate a line =
-    holds_of (class_in line) (λ class. is_among a class.targets && not (is_borne gate (read_of class.sort) a class.label))
+abbrev pub lacks_gate : (ℕ → Bool) → (ℕ → Option ℕ) → ℕ → GraphLine → Bool
+lacks_gate starts gate a line =
+    holds_of (class_in line) (λ class. is_among a class.targets && not (is_borne starts gate (read_of class.sort) a class.label))
 
 abbrev pub fails_gate : Profile → List ℕ → List GraphLine → ℕ → Bool
-fails_gate p words lines a = list_any (lacks_gate (gate_label p words) a) lines
+fails_gate p words lines a = list_any (lacks_gate (has_unit p words) (gate_label p words) a) lines
 
 -- Astray: a gate bears a class's label and is not such a word of one of its targets
 abbrev pub is_astray : List GraphLine → ℕ → U.Unit → Bool
@@ -183,7 +204,7 @@ fails_end p words a =
 
 abbrev pub fails : Rule → Profile → List ℕ → GraphParts → ℕ → Bool
 fails R.Prologue p words graph a = fails_prologue p words a
-fails R.Unit p words graph a = fails_unit p words a
+fails R.Unit p words graph a = fails_unit p words graph a
 fails R.Target p words graph a = fails_target p words a
 fails R.Unlisted p words graph a = fails_unlisted p words graph.lines a
 fails R.Unused p words graph a = fails_unused p words graph.lines a

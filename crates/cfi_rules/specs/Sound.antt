@@ -1,7 +1,7 @@
--- When units and classes are sound: units fit one after another, transfers lead to units, computed ones
--- ask for a class's label, just the gates with a class's label are its targets, and the last unit is a
--- stop.
-use Rattle.std.specs.Prelude.{◌≡◌, ℕ, IsTrue, List, slice_get, Option, Some, None, is_some, option_and_then}
+-- When units and classes are sound, of a graph's version: units fit one after another and are of the
+-- version, transfers lead to units, computed ones ask for a class's label, just the gates with a class's
+-- label are at such a word of its targets, and the last unit is a stop.
+use Rattle.std.specs.Prelude.{◌≡◌, ℕ, ◌+◌, IsTrue, List, slice_get, Option, Some, None, is_some, option_and_then}
 use Rattle.std.specs.List.{last_or, list_all}
 use Rattle.std.specs.Option.{option_or}
 use Rattle.rv_word.specs.MemoryMap.{Profile}
@@ -11,12 +11,12 @@ use Rattle.cfi_unit.specs.declared.unit.Unit as U
 use Rattle.cfi_unit.specs.declared.unit.Unit.TheVariants as V
 use Rattle.cfi_unit.specs.declared.place.Place.TheVariants.{Body as body}
 use Rattle.cfi_unit.specs.declared.target_word.TargetWord.{TargetWord}
-use Rattle.cfi_unit.specs.declared.target_word.TargetWord.TheVariants.{First}
+use Rattle.cfi_unit.specs.declared.target_word.TargetWord.TheVariants.{First, Second}
 use Rattle.cfi_unit.specs.UnitWords.{Reaches}
 use Rattle.cfi_rules.specs.declared.asks.Asks.{Asks}
 use Rattle.cfi_rules.specs.Lines.{class_with, targets_for, is_among, is_word_of, read_of}
 use Rattle.cfi_rules.specs.Placed.{AllAhead, AllFit}
-use Rattle.cfi_rules.specs.Rules.{call_of, edge_of, site_of}
+use Rattle.cfi_rules.specs.Rules.{call_of, edge_of, is_of_version, site_of}
 use Rattle.cfi_rules.specs.Split.{unit_in}
 
 -- one of the units starts at an address
@@ -27,14 +27,16 @@ StartsIn p units a = IsTrue (is_some (unit_in units p.units_from a))
 abbrev pub target_of : U.Unit → Option ℕ
 target_of unit = option_or (edge_of (body unit)) (call_of (body unit))
 
--- this word of a target is the gate of a label
+-- this word of a target is the gate of a label, and a unit starts at the target
 abbrev pub Bears : Profile → List U.Unit → TargetWord → ℕ → ℕ → Type 0
 Bears p units First a label = unit_in units p.units_from a ≡ Some (V.Gate label)
+Bears p units Second a label = StartsIn p units a × (unit_in units p.units_from (a + 4) ≡ Some (V.Gate label))
 
-pub record IsSound (p : Profile) (entry : ℕ) (units : List U.Unit) (classes : List GraphLine) : Type 0 where
-  -- each unit may stand where it does, before those that follow it
+pub record IsSound (p : Profile) (version entry : ℕ) (units : List U.Unit) (classes : List GraphLine) : Type 0 where
+  -- each unit may stand where it does, before those that follow it, and is of the graph's version
   pub fit : AllFit p.units_from units
   pub ahead : AllAhead p.units_from units
+  pub of_version : (a : ℕ) (unit : U.Unit) → unit_in units p.units_from a ≡ Some unit → IsTrue (is_of_version version unit)
   -- the opening's call reaches the entry; the entry and each target of a direct transfer are units' starts
   pub entry_reached : Reaches p.opening_call entry
   pub entry_starts : StartsIn p units entry

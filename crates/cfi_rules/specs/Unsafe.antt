@@ -9,6 +9,7 @@ use Rattle.cfi_graph.specs.declared.line.GraphLine.TheVariants.{Class, Site, Edg
 use Rattle.cfi_graph.specs.declared.line.SiteKind.TheVariants as K
 use Rattle.cfi_unit.specs.declared.unit.Unit as U
 use Rattle.cfi_unit.specs.declared.unit.Unit.TheVariants as V
+use Rattle.cfi_unit.specs.declared.target_word.TargetWord.TheVariants.{First}
 use Rattle.cfi_unit.specs.Prologue.{prologue_instrs}
 use Rattle.cfi_unit.specs.UnitWords.{after_unit, words_of}
 use Rattle.cfi_rules.specs.Along.{IsSafe}
@@ -28,7 +29,7 @@ image_with words = record { version = 1; init = []; code = bytes_of (prologue ++
 
 -- classes, the opening's call, and other lines
 abbrev pub graph_of : ℕ → List GraphLine → List GraphLine → GraphParts
-graph_of len classes lines = record { code = len; lines = classes ++ (Call START UNITS_START ∷ lines) }
+graph_of len classes lines = record { version = 1; code = len; lines = classes ++ (Call START UNITS_START ∷ lines) }
 
 abbrev pub graph_with : ℕ → List GraphLine → GraphParts
 graph_with len lines = graph_of len [] lines
@@ -130,7 +131,7 @@ astray_call_graph = graph_of 0x9c (Class 1 (0x40000094 ∷ []) ∷ []) (Site UNI
 
 -- a computed jump to x1 + 60, a target of its class that has no gate, so that the check halts there
 abbrev pub halted_jump : Contents
-halted_jump = image_with (code_from UNITS_START (V.Ijump 1 60 1 ∷ V.Stop ∷ []))
+halted_jump = image_with (code_from UNITS_START (V.Ijump First 1 60 1 ∷ V.Stop ∷ []))
 
 abbrev pub halted_jump_graph : GraphParts
 halted_jump_graph = graph_of 0x78 (Class 1 (0x40000074 ∷ []) ∷ []) (Site UNITS_START K.Jump 1 ∷ [])
@@ -170,7 +171,7 @@ abbrev pub one_pointer : Contents
 one_pointer = record { version = 2; init = []; code = bytes_of (take 8 prologue_of_harts ++ 0x00000013 ∷ drop 9 prologue_of_harts ++ 0xfb1ff06f ∷ []) }
 
 abbrev pub one_pointer_graph : GraphParts
-one_pointer_graph = record { code = 0x54; lines = Call START version_2.units_from ∷ [] }
+one_pointer_graph = record { version = 1; code = 0x54; lines = Call START version_2.units_from ∷ [] }
 
 -- an opening that sets up hart 0 alone: a run of hart 1 shows it
 abbrev pub SharedPartsAreUnsafe : Type 0

@@ -39,9 +39,9 @@ CallGoes site target pending v after =
     ⊎ ((length pending ≡ MOST_PENDING) × To DEEP pending v after)
 
 -- a computed jump: to a target of its class, or to the handler
-abbrev pub JumpGoes : List GraphLine → ℕ → List ℕ → ℕ → List ℕ → Type 0
-JumpGoes lines label pending v after =
-    (InClass lines K.Jump First label v × (after ≡ pending)) ⊎ To BAD_TARGET pending v after
+abbrev pub JumpGoes : List GraphLine → TargetWord → ℕ → List ℕ → ℕ → List ℕ → Type 0
+JumpGoes lines which label pending v after =
+    (InClass lines K.Jump which label v × (after ≡ pending)) ⊎ To BAD_TARGET pending v after
 
 -- a computed call: to the handler of bad targets; to a target of its class with its site put on top;
 -- or to the handler where there is no room
@@ -57,21 +57,21 @@ ReturnGoes [] v after = To BAD_RETURN [] v after
 ReturnGoes (site ∷ pending) v after =
     To site pending v after ⊎ To BAD_RETURN (site ∷ pending) v after
 
--- the step of the walk from a unit that has `past` after it
+-- the step of the walk from a unit with `following` the address after it
 abbrev pub GoesPast : List GraphLine → U.Unit → ℕ → List ℕ → ℕ → List ℕ → Type 0
-GoesPast lines (V.Gate label) past pending v after = To past pending v after
-GoesPast lines (V.Plain instr) past pending v after = To past pending v after
-GoesPast lines (V.Branch op rs1 rs2 target) past pending v after = To past pending v after ⊎ To target pending v after
-GoesPast lines (V.Near op rs1 rs2 target) past pending v after = To past pending v after ⊎ To target pending v after
-GoesPast lines (V.Jump target) past pending v after = To target pending v after
-GoesPast lines V.Stop past pending v after = To BAD_TARGET pending v after
-GoesPast lines (V.System S.Ecall) past pending v after = To past pending v after
-GoesPast lines (V.System S.Ebreak) past pending v after = ⊥
-GoesPast lines (V.Store op rs1 rs2 imm) past pending v after = To past pending v after
-GoesPast lines (V.Call target) past pending v after = CallGoes past target pending v after
-GoesPast lines (V.Ijump rs1 imm label) past pending v after = JumpGoes lines label pending v after
-GoesPast lines (V.Icall rs1 imm label) past pending v after = ComputedCallGoes lines past label pending v after
-GoesPast lines V.Return past pending v after = ReturnGoes pending v after
+GoesPast lines (V.Gate label) following pending v after = To following pending v after
+GoesPast lines (V.Plain instr) following pending v after = To following pending v after
+GoesPast lines (V.Branch op rs1 rs2 target) following pending v after = To following pending v after ⊎ To target pending v after
+GoesPast lines (V.Near op rs1 rs2 target) following pending v after = To following pending v after ⊎ To target pending v after
+GoesPast lines (V.Jump target) following pending v after = To target pending v after
+GoesPast lines V.Stop following pending v after = To BAD_TARGET pending v after
+GoesPast lines (V.System S.Ecall) following pending v after = To following pending v after
+GoesPast lines (V.System S.Ebreak) following pending v after = ⊥
+GoesPast lines (V.Store op rs1 rs2 imm) following pending v after = To following pending v after
+GoesPast lines (V.Call target) following pending v after = CallGoes following target pending v after
+GoesPast lines (V.Ijump which rs1 imm label) following pending v after = JumpGoes lines which label pending v after
+GoesPast lines (V.Icall rs1 imm label) following pending v after = ComputedCallGoes lines following label pending v after
+GoesPast lines V.Return following pending v after = ReturnGoes pending v after
 
 -- the step of the walk from a unit at an address
 abbrev pub UnitGoes : List GraphLine → U.Unit → ℕ → List ℕ → ℕ → List ℕ → Type 0

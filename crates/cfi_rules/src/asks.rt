@@ -1,3 +1,6 @@
+ghost use Rattle.std.specs.Prelude.{◌≡◌};
+ghost use Rattle.cfi_rules.specs.Rules.{jump_word};
+
 use cfi_graph::SiteKind;
 use cfi_unit::TargetWord;
 
@@ -11,4 +14,15 @@ pub struct Asks {
     pub which: TargetWord,
     /// The label that this word must bear.
     pub label: u32,
+}
+
+/// Which word of its destination a computed jump's check reads, in code whose graph has this version.
+pub fn jump_word(version: u8) -> TargetWord
+    ensures { result ≡ jump_word version }
+{
+    if version == 2 {
+        TargetWord::Second
+    } else {
+        TargetWord::First
+    }
 }

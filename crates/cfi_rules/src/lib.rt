@@ -3,7 +3,7 @@
 //! `cfi_verify`; here is what they answer, and laws.
 #![tactic(auto)]
 
-pub use asks::Asks;
+pub use asks::{Asks, jump_word};
 pub use reject::{Reject, Rule};
 
 mod asks;

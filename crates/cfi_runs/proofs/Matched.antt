@@ -15,6 +15,8 @@ use Rattle.rv_code.specs.State.{Hart, Shared, After}
 use Rattle.rv_code.specs.Step.{exec, step}
 use Rattle.rv_code.specs.declared.turn.Turn.TheVariants.{Ran}
 use Rattle.rv_code.proofs.Frames.{write_outside}
+use Rattle.cfi_unit.specs.declared.target_word.TargetWord.{TargetWord}
+use Rattle.cfi_unit.specs.declared.target_word.TargetWord.TheVariants.{First}
 use Rattle.cfi_unit.specs.declared.unit.Unit as U
 use Rattle.cfi_unit.specs.declared.unit.Unit.TheVariants as V
 use Rattle.cfi_unit.specs.declared.unit.SystemOp.TheVariants as S
@@ -107,14 +109,14 @@ module _ (p : Profile) (part : ℕ) (image base : Memory) (o : Own) (h : Hart) (
   sum_here : (rs1 imm : ℕ) → is_reserved rs1 ≡ false → sum_of h.regs rs1 imm ≡ sum_of o.regs rs1 imm
   sum_here rs1 imm free = sum_same o.regs h.regs rs1 imm free same
 
-  -- a gate's address is a multiple of 4
-  computed_here : (rs1 imm label : ℕ) → is_reserved rs1 ≡ false → HasLabel image label (computed o.regs rs1 imm) →
+  -- a target's address is a multiple of 4
+  computed_here : (which : TargetWord) (rs1 imm label : ℕ) → is_reserved rs1 ≡ false → HasLabel image which label (computed o.regs rs1 imm) →
       destination h.regs rs1 imm ≡ computed o.regs rs1 imm
-  computed_here rs1 imm label free has = let e = sum_here rs1 imm free in let round = has.round in omega arith
+  computed_here which rs1 imm label free has = let e = sum_here rs1 imm free in let round = has.round in omega arith
 
-  bears : (rs1 imm label : ℕ) → is_reserved rs1 ≡ false → HasLabel image label (computed o.regs rs1 imm) →
-      HasLabel image label (destination h.regs rs1 imm)
-  bears rs1 imm label free has = subst (HasLabel image label) (sym (computed_here rs1 imm label free has)) has
+  bears : (which : TargetWord) (rs1 imm label : ℕ) → is_reserved rs1 ≡ false → HasLabel image which label (computed o.regs rs1 imm) →
+      HasLabel image which label (destination h.regs rs1 imm)
+  bears which rs1 imm label free has = subst (HasLabel image which label) (sym (computed_here which rs1 imm label free has)) has
 
   returns_so : (sites : List ℕ) → IsTame image V.Return sites o.regs → Passes image V.Return sites h.regs
   returns_so [] tame = tame
@@ -132,8 +134,8 @@ module _ (p : Profile) (part : ℕ) (image base : Memory) (o : Own) (h : Hart) (
       let e = sum_here rs1 imm (first_free rs1 rs2 free) in
       let some = size_some op in (omega arith, not_scratch rs2 (second_free rs1 rs2 free))
   passes (V.Call target) free tame = tame
-  passes (V.Ijump rs1 imm label) free tame = bears rs1 imm label (free rs1 (is_self rs1)) tame
-  passes (V.Icall rs1 imm label) free tame = (bears rs1 imm label (free rs1 (is_self rs1)) tame.0, tame.1)
+  passes (V.Ijump which rs1 imm label) free tame = bears which rs1 imm label (free rs1 (is_self rs1)) tame
+  passes (V.Icall rs1 imm label) free tame = (bears First rs1 imm label (free rs1 (is_self rs1)) tame.0, tame.1)
   passes V.Return free tame = returns_so o.pending tame
 
   taken_here : (op : BranchOp) (rs1 rs2 : ℕ) → is_reserved rs1 ≡ false → is_reserved rs2 ≡ false →
@@ -220,9 +222,9 @@ module _ (p : Profile) (part : ℕ) (image base : Memory) (o : Own) (h : Hart) (
       (left_matches part image base (record o { pc = o.pc + 16; shared = stored op rs1 rs2 imm }) _ _ _ refl same
       (stored_here op rs1 rs2 imm (first_free rs1 rs2 free) (second_free rs1 rs2 free)) after does)
   row (V.Call target) fits free tame after does = calls_so _ _ _ refl after does
-  row (V.Ijump rs1 imm label) fits free tame after does = goes_so _ _ (computed_here rs1 imm label (free rs1 (is_self rs1)) tame) after does
+  row (V.Ijump which rs1 imm label) fits free tame after does = goes_so _ _ (computed_here which rs1 imm label (free rs1 (is_self rs1)) tame) after does
   row (V.Icall rs1 imm label) fits free tame after does =
-      calls_so _ _ _ (computed_here rs1 imm label (free rs1 (is_self rs1)) tame.0) after does
+      calls_so _ _ _ (computed_here First rs1 imm label (free rs1 (is_self rs1)) tame.0) after does
   row V.Return fits free tame after does = returned (o.pc + 20) o.pending after does
 
 -- the newest site is an instruction's address

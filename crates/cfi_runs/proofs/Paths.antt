@@ -31,7 +31,7 @@ one_word V.Stop = refl
 one_word (V.System op) = refl
 one_word (V.Store op rs1 rs2 imm) = refl
 one_word (V.Call target) = refl
-one_word (V.Ijump rs1 imm label) = refl
+one_word (V.Ijump which rs1 imm label) = refl
 one_word (V.Icall rs1 imm label) = refl
 one_word V.Return = refl
 
@@ -60,7 +60,7 @@ sites_fit p image (V.Call target) o now fit =
     let round = now.stands.round in
     let high = now.stands.high in
     called_fit (V.Call target) o.pc _ o.pending now.stands (omega arith) (omega arith) now.tame fit
-sites_fit p image (V.Ijump rs1 imm label) o now fit = fit
+sites_fit p image (V.Ijump which rs1 imm label) o now fit = fit
 sites_fit p image (V.Icall rs1 imm label) o now fit =
     let round = now.stands.round in
     let high = now.stands.high in

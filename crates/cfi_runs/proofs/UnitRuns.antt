@@ -51,8 +51,8 @@ module _ (p : Profile) (part : ℕ) (image base : Memory) (h : Hart) (s : Shared
     context = does.context;
   }
   row (V.Call target) at pending pass after does = called target _ pending after pass does
-  row (V.Ijump rs1 imm label) at pending pass after (inl does) = does.1
-  row (V.Ijump rs1 imm label) at pending pass after (inr halts) = absurd (halts.0 pass)
+  row (V.Ijump which rs1 imm label) at pending pass after (inl does) = does.1
+  row (V.Ijump which rs1 imm label) at pending pass after (inr halts) = absurd (halts.0 pass)
   row (V.Icall rs1 imm label) at pending pass after (inl does) = called _ _ pending after pass.1 does.1
   row (V.Icall rs1 imm label) at pending pass after (inr halts) = absurd (halts.0 pass.0)
   row V.Return at [] pass after does = absurd pass

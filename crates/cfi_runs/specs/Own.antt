@@ -63,7 +63,7 @@ module _ (p : Profile) (o : Own) where
   own_past (V.System op) past = executes (system_instr op) o.regs past
   own_past (V.Store op rs1 rs2 imm) past = executes (Store op rs1 rs2 imm) o.regs past
   own_past (V.Call target) past = calls target past
-  own_past (V.Ijump rs1 imm label) past = goes (computed o.regs rs1 imm)
+  own_past (V.Ijump which rs1 imm label) past = goes (computed o.regs rs1 imm)
   own_past (V.Icall rs1 imm label) past = calls (computed o.regs rs1 imm) past
   own_past V.Return past = returns o.pending
 

@@ -38,7 +38,7 @@ module _ (p : Profile) (part : ℕ) (image base : Memory) (h : Hart) (s : Shared
       Comes past pending h.regs
       (with_memory s (write (store_size op) s.memory (sum_of h.regs rs1 imm) (get_reg h.regs rs2))) after
   StandsPast (V.Call target) past pending after = Called target past pending after
-  StandsPast (V.Ijump rs1 imm label) past pending after = Comes (destination h.regs rs1 imm) pending h.regs s after
+  StandsPast (V.Ijump which rs1 imm label) past pending after = Comes (destination h.regs rs1 imm) pending h.regs s after
   StandsPast (V.Icall rs1 imm label) past pending after = Called (destination h.regs rs1 imm) past pending after
   StandsPast V.Return past [] after = ⊥
   StandsPast V.Return past (site ∷ pending) after = Comes site pending h.regs s after

@@ -1,36 +1,40 @@
--- A computed transfer, read word by word: its label is told by word 8, and whether it is a jump or a call
--- by word 12.
+-- A computed transfer, read word by word: which word of its destination it loads is told by word 7, its
+-- label by word 8, and whether it is a jump or a call by word 12.
 use Rattle.std.proofs.Common.{◌≡◌, ◌≢◌, ℕ, zero, suc, ◌+◌, ◌-◌, ◌*◌, ◌^◌, ◌<◌, ◌≤◌, ◌==◌, arith, lit<, lit≤, refl, ap, sym, subst, ◌∙◌, List, [], ◌∷◌, ◌++◌, length, take, drop, inl, inr, ◌⊎◌, Some, None}
 use Rattle.std.specs.Prelude.{Option, option_map, slice_get}
 use Rattle.std.proofs.lemmas.Bool.{eqb-true}
 use Rattle.rv_word.proofs.Cases.{guarded, mapped}
 use Rattle.rv_instr.specs.declared.instr.Instr.{Instr}
-use Rattle.rv_instr.specs.declared.instr.Instr.TheVariants.{Upper, Jalr, Immediate, Shift}
+use Rattle.rv_instr.specs.declared.instr.Instr.TheVariants.{Upper, Jalr, Load, Immediate, Shift}
 use Rattle.rv_instr.specs.declared.instr.UpperOp.TheVariants.{Lui}
 use Rattle.rv_instr.specs.declared.instr.ImmediateOp.TheVariants.{Addi, Andi}
 use Rattle.rv_instr.specs.declared.instr.ShiftOp.TheVariants.{Slli}
+use Rattle.rv_instr.specs.declared.instr.LoadOp.TheVariants.{Lw}
 use Rattle.rv_instr.specs.declared.instr.StoreOp.TheVariants.{Sd}
 use Rattle.rv_code.specs.Decode.{decoded}
 use Rattle.rv_code.specs.Encode.{code_of}
 use Rattle.rv_code.proofs.Inverse.{code_of-decoded, decoded-in_range}
 use Rattle.rv_code.proofs.ReadBack.{decoded-code_of}
+use Rattle.cfi_unit.specs.declared.target_word.TargetWord.{TargetWord}
+use Rattle.cfi_unit.specs.declared.target_word.TargetWord.TheVariants.{First, Second}
 use Rattle.cfi_unit.specs.declared.unit.Unit as U
 use Rattle.cfi_unit.specs.declared.unit.Unit.TheVariants as V
-use Rattle.cfi_unit.specs.Recognise.{address_unit, computed_unit, label_in, recognised, store_unit}
-use Rattle.cfi_unit.specs.UnitWords.{BAD_TARGET, DEEP, MINUS_FOUR, instr_at, word_count, words_of}
+use Rattle.cfi_unit.specs.Recognise.{address_unit, computed_unit, label_in, read_in, recognised, store_unit}
+use Rattle.cfi_unit.specs.UnitWords.{BAD_TARGET, DEEP, MINUS_FOUR, instr_at, past, word_count, words_of}
+use Rattle.cfi_unit.proofs.Found.{past_field, read_past}
 use Rattle.cfi_scan.specs.declared.entry.Entry.TheVariants as E
 use Rattle.cfi_scan.specs.declared.reader.Reader.TheVariants as R
 use Rattle.cfi_scan.specs.declared.reader.Step.TheVariants.{More, Done}
-use Rattle.cfi_scan.specs.Fields.{label_field}
+use Rattle.cfi_scan.specs.Fields.{label_field, push_step}
 use Rattle.cfi_scan.specs.Stream.{IsCode, IsPart, IsReading, LeadsOn}
-use Rattle.cfi_scan.proofs.Template.{Agree, first_tells, get_take, is_next, more_part, more_words, never, next_decoded, part_length, unfinished, was_read, wrong_word}
+use Rattle.cfi_scan.proofs.Template.{Agree, first_tells, get_take, is_next, more_part, more_words, never, next_decoded, part_length, unfinished, was_read, words_get, wrong_word}
 use Rattle.cfi_scan.proofs.Transfers.{IsCallCode, halt_reached, stored}
 
 -- a unit that has these words is a computed transfer
 record IsTransfer (ws : List ℕ) (rs1 imm : ℕ) (v : U.Unit) : Type 0 where
   label : ℕ
   labelled : label_in (instr_at ws 8) ≡ Some label
-  same : computed_unit rs1 imm (instr_at ws 12) label ≡ v
+  same : computed_unit rs1 imm (instr_at ws 12) (read_in (instr_at ws 7)) label ≡ v
 
 module _ (u : U.Unit) (count : ℕ) (held : List ℕ) (at rs1 imm : ℕ) (low : rs1 < 32) (small : imm < 2 ^ 12) (some : 2 ≤ count)
     (part : IsPart u count held at) (one : slice_get (words_of u at) 0 ≡ Some (code_of (Immediate Addi 31 rs1 imm)))
@@ -43,47 +47,69 @@ module _ (u : U.Unit) (count : ℕ) (held : List ℕ) (at rs1 imm : ℕ) (low : 
       let second : instr_at ws 1 ≡ Some (Immediate Andi 31 31 MINUS_FOUR) =
       was_read u count held at part rest 1 (Immediate Andi 31 31 MINUS_FOUR) (omega (arith, some)) two (lit< tt, lit< tt, lit< tt) in
       let (label, labelled, same) =
-      mapped (computed_unit rs1 imm (instr_at ws 12)) (label_in (instr_at ws 8)) v
+      mapped (computed_unit rs1 imm (instr_at ws 12) (read_in (instr_at ws 7))) (label_in (instr_at ws 8)) v
       (sym (ap (address_unit ws rs1 imm) second) ∙ first_tells ws at i v first e) in
       record { label = label; labelled = labelled; same = same }
 
--- jumps and calls have the same check
-same_begin : (rs1 imm label at : ℕ) (o : Option Instr) →
-    take 8 (words_of (computed_unit rs1 imm o label) at) ≡ take 8 (words_of (V.Ijump rs1 imm 0) at)
-unfolding words_of
-same_begin rs1 imm label at (Some (Jalr rd base offset)) = refl
-same_begin rs1 imm label at other = refl
+-- the load of a word of a destination
+abbrev load : TargetWord → Instr
+load which = Load Lw 30 31 (past which)
 
-same_check : (rs1 imm label at : ℕ) (o : Option Instr) →
-    take 12 (words_of (computed_unit rs1 imm o label) at) ≡ take 12 (words_of (V.Ijump rs1 imm label) at)
+-- jumps and calls have the same check up to the load
+same_begin : (which : TargetWord) (rs1 imm label at : ℕ) (o : Option Instr) →
+    take 7 (words_of (computed_unit rs1 imm o which label) at) ≡ take 7 (words_of (V.Ijump First rs1 imm 0) at)
 unfolding words_of
-same_check rs1 imm label at (Some (Jalr rd base offset)) = refl
-same_check rs1 imm label at other = refl
+same_begin which rs1 imm label at (Some (Jalr rd base offset)) = refl
+same_begin which rs1 imm label at other = refl
 
-longer : (rs1 imm label : ℕ) (o : Option Instr) → 13 ≤ word_count (computed_unit rs1 imm o label)
-longer rs1 imm label (Some (Jalr rd base offset)) = lit≤ tt
-longer rs1 imm label other = lit≤ tt
-
--- and after it one of two words
-after_check : (rs1 imm label at : ℕ) (o : Option Instr) →
-    (slice_get (words_of (computed_unit rs1 imm o label) at) 12 ≡ Some (code_of (Jalr 0 31 0)))
-    ⊎ (slice_get (words_of (computed_unit rs1 imm o label) at) 12 ≡ Some (code_of (Shift Slli 30 3 48)))
+-- which is one of two words
+load_is : (which : TargetWord) (rs1 imm label at : ℕ) (o : Option Instr) →
+    (slice_get (words_of (computed_unit rs1 imm o which label) at) 7 ≡ Some (code_of (load First)))
+    ⊎ (slice_get (words_of (computed_unit rs1 imm o which label) at) 7 ≡ Some (code_of (load Second)))
 unfolding words_of
-after_check rs1 imm label at (Some (Jalr rd base offset)) = inl refl
-after_check rs1 imm label at other = inr refl
+load_is First rs1 imm label at (Some (Jalr rd base offset)) = inl refl
+load_is Second rs1 imm label at (Some (Jalr rd base offset)) = inr refl
+load_is which rs1 imm label at other = inl refl
 
-label_word_is : (rs1 imm label at : ℕ) (o : Option Instr) →
-    slice_get (words_of (computed_unit rs1 imm o label) at) 8 ≡ Some (code_of (Upper Lui 4 label))
+loads_differ : Some (code_of (load First)) ≡ Some (code_of (load Second)) → ⊥
+unfolding code_of
+loads_differ same = let e : ◌≡◌ {A = ℕ} 0xfaf03 0x4faf03 = cc in omega (arith, e)
+
+-- with the same load the same check
+same_check : (which : TargetWord) (rs1 imm label at : ℕ) (o : Option Instr) →
+    slice_get (words_of (computed_unit rs1 imm o which label) at) 7 ≡ Some (code_of (load which)) →
+    take 12 (words_of (computed_unit rs1 imm o which label) at) ≡ take 12 (words_of (V.Ijump which rs1 imm label) at)
 unfolding words_of
-label_word_is rs1 imm label at (Some (Jalr rd base offset)) = refl
-label_word_is rs1 imm label at other = refl
+same_check which rs1 imm label at (Some (Jalr rd base offset)) loads = refl
+same_check First rs1 imm label at other loads = refl
+same_check Second rs1 imm label at other loads = absurd (loads_differ loads)
+
+longer : (which : TargetWord) (rs1 imm label : ℕ) (o : Option Instr) → 13 ≤ word_count (computed_unit rs1 imm o which label)
+longer which rs1 imm label (Some (Jalr rd base offset)) = lit≤ tt
+longer which rs1 imm label other = lit≤ tt
+
+-- and after it one of two words, the second only of a check that loads the first word
+after_check : (which : TargetWord) (rs1 imm label at : ℕ) (o : Option Instr) →
+    slice_get (words_of (computed_unit rs1 imm o which label) at) 7 ≡ Some (code_of (load which)) →
+    (slice_get (words_of (computed_unit rs1 imm o which label) at) 12 ≡ Some (code_of (Jalr 0 31 0)))
+    ⊎ ((which ≡ First) × (slice_get (words_of (computed_unit rs1 imm o which label) at) 12 ≡ Some (code_of (Shift Slli 30 3 48))))
+unfolding words_of
+after_check which rs1 imm label at (Some (Jalr rd base offset)) loads = inl refl
+after_check First rs1 imm label at other loads = inr (refl, refl)
+after_check Second rs1 imm label at other loads = absurd (loads_differ loads)
+
+label_word_is : (which : TargetWord) (rs1 imm label at : ℕ) (o : Option Instr) →
+    slice_get (words_of (computed_unit rs1 imm o which label) at) 8 ≡ Some (code_of (Upper Lui 4 label))
+unfolding words_of
+label_word_is which rs1 imm label at (Some (Jalr rd base offset)) = refl
+label_word_is which rs1 imm label at other = refl
 
 -- the word after the first
-second_word : (rs1 imm label at : ℕ) (o : Option Instr) →
-    slice_get (words_of (computed_unit rs1 imm o label) at) 1 ≡ Some (code_of (Immediate Andi 31 31 MINUS_FOUR))
+second_word : (which : TargetWord) (rs1 imm label at : ℕ) (o : Option Instr) →
+    slice_get (words_of (computed_unit rs1 imm o which label) at) 1 ≡ Some (code_of (Immediate Andi 31 31 MINUS_FOUR))
 unfolding words_of
-second_word rs1 imm label at (Some (Jalr rd base offset)) = refl
-second_word rs1 imm label at other = refl
+second_word which rs1 imm label at (Some (Jalr rd base offset)) = refl
+second_word which rs1 imm label at other = refl
 
 record HasSecond (v : U.Unit) (at : ℕ) : Type 0 where
   more : 2 ≤ word_count v
@@ -97,14 +123,13 @@ store_second ws at rs1 imm last v e =
     subst (λ (u : U.Unit). HasSecond u at) s.same (record { more = lit≤ tt; second = inl refl })
 
 check_second : (ws : List ℕ) (at rs1 imm : ℕ) (v : U.Unit) →
-    option_map (computed_unit rs1 imm (instr_at ws 12)) (label_in (instr_at ws 8)) ≡ Some v → HasSecond v at
+    option_map (computed_unit rs1 imm (instr_at ws 12) (read_in (instr_at ws 7))) (label_in (instr_at ws 8)) ≡ Some v → HasSecond v at
 check_second ws at rs1 imm v e =
-    let (label, labelled, same) = mapped (computed_unit rs1 imm (instr_at ws 12)) (label_in (instr_at ws 8)) v e in
-    let enough : 13 ≤ word_count (computed_unit rs1 imm (instr_at ws 12) label) = longer rs1 imm label (instr_at ws 12) in
-    subst (λ (u : U.Unit). HasSecond u at) same (record {
-      more = omega (arith, enough);
-      second = inr (second_word rs1 imm label at (instr_at ws 12));
-    })
+    let which : TargetWord = read_in (instr_at ws 7) in
+    let o : Option Instr = instr_at ws 12 in
+    let (label, labelled, same) = mapped (computed_unit rs1 imm o which) (label_in (instr_at ws 8)) v e in
+    let enough : 13 ≤ word_count (computed_unit rs1 imm o which label) = longer which rs1 imm label o in
+    subst (λ (u : U.Unit). HasSecond u at) same (record { more = omega (arith, enough); second = inr (second_word which rs1 imm label at o) })
 
 address_second : (ws : List ℕ) (at rs1 imm : ℕ) (o : Option Instr) (v : U.Unit) → address_unit ws rs1 imm o ≡ Some v → HasSecond v at
 address_second ws at rs1 imm (Some (Shift op rd rs amount)) v e = store_second ws at rs1 imm (instr_at ws 3) v e
@@ -149,7 +174,7 @@ address_clears word here same held at (rs1, imm, (low, small, is)) place = (
     small,
     lit≤ tt,
     lit≤ tt,
-    more_part (V.Ijump rs1 imm 0) 1 held word at (record { held_is = is; below = lit< tt }) (lit< tt) (ap Some (sym same)),
+    more_part (V.Ijump First rs1 imm 0) 1 held word at (record { held_is = is; below = lit< tt }) (lit< tt) (ap Some (sym same)),
   ),
 )
 
@@ -184,36 +209,36 @@ upper_range word label small e = range (decoded word) refl e
         subst (λ n. n < 2 ^ 20) same r.1
     range other is e = absurd (cc)
 
--- a word of a check that stands at an address; none is told of the label
+-- a word of a check that stands at an address; none is told of the load and of the label
 abbrev pub IsCheckCode : ℕ → ℕ → ℕ → Type 0
 IsCheckCode count here code =
-    0 < count → count ≢ 8 → (rs1 imm label at : ℕ) → here ≡ at + 4 * count →
-    slice_get (words_of (V.Ijump rs1 imm label) at) count ≡ Some code
+    0 < count → count ≢ 7 → count ≢ 8 → (which : TargetWord) (rs1 imm label at : ℕ) → here ≡ at + 4 * count →
+    slice_get (words_of (V.Ijump which rs1 imm label) at) count ≡ Some code
 
--- a check before its label
+-- a check before its load
 module _ (count : ℕ) (held : List ℕ) (at rs1 imm : ℕ) (low : rs1 < 32) (small : imm < 2 ^ 12) (some : 2 ≤ count)
-    (part : IsPart (V.Ijump rs1 imm 0) count held at) where
+    (part : IsPart (V.Ijump First rs1 imm 0) count held at) where
   begin_is : (v : U.Unit) (rest : List ℕ) → recognised (held ++ rest) at ≡ Some v → IsTransfer (held ++ rest) rs1 imm v
   unfolding words_of
-  begin_is = check_is (V.Ijump rs1 imm 0) count held at rs1 imm low small some part refl refl
+  begin_is = check_is (V.Ijump First rs1 imm 0) count held at rs1 imm low small some part refl refl
 
-  begin_agree : Agree held at 8 (words_of (V.Ijump rs1 imm 0) at)
+  begin_agree : Agree held at 7 (words_of (V.Ijump First rs1 imm 0) at)
   begin_agree v rest e =
       let t = begin_is v rest e in
-      subst (λ (u : U.Unit). take 8 (words_of u at) ≡ take 8 (words_of (V.Ijump rs1 imm 0) at)) t.same
-      (same_begin rs1 imm t.label at (instr_at (held ++ rest) 12))
+      subst (λ (u : U.Unit). take 7 (words_of u at) ≡ take 7 (words_of (V.Ijump First rs1 imm 0) at)) t.same
+      (same_begin (read_in (instr_at (held ++ rest) 7)) rs1 imm t.label at (instr_at (held ++ rest) 12))
 
 pub check_open : (count : ℕ) (held : List ℕ) (at : ℕ) → IsReading (R.Check count) held at → recognised held at ≡ None
 check_open count held at (rs1, imm, (low, small, some, most, part)) =
-    let n = part_length (V.Ijump rs1 imm 0) count held at part in
+    let n = part_length (V.Ijump First rs1 imm 0) count held at part in
     unfinished held at 13 (omega (arith, n, most)) (λ v e.
     let t = begin_is count held at rs1 imm low small some part v [] e in
-    subst (λ (u : U.Unit). 13 ≤ word_count u) t.same (longer rs1 imm t.label (instr_at (held ++ []) 12)))
+    subst (λ (u : U.Unit). 13 ≤ word_count u) t.same (longer (read_in (instr_at (held ++ []) 7)) rs1 imm t.label (instr_at (held ++ []) 12)))
 
-pub check_more : (count word here : ℕ) → count < 8 → IsCheckCode count here word → LeadsOn (R.Check count) word here (More (R.Check (count + 1)))
+pub check_more : (count word here : ℕ) → count < 7 → IsCheckCode count here word → LeadsOn (R.Check count) word here (More (R.Check (count + 1)))
 check_more count word here before code held at (rs1, imm, (low, small, some, most, part)) place =
-    let n = part_length (V.Ijump rs1 imm 0) count held at part in
-    let code' = code (omega (arith, some)) (λ e. omega (arith, e, before)) rs1 imm 0 at (omega (arith, place, n)) in (
+    let n = part_length (V.Ijump First rs1 imm 0) count held at part in
+    let code' = code (omega (arith, some)) (λ e. omega (arith, e, before)) (λ e. omega (arith, e, before)) First rs1 imm 0 at (omega (arith, place, n)) in (
       rs1,
       imm,
       (
@@ -221,28 +246,101 @@ check_more count word here before code held at (rs1, imm, (low, small, some, mos
         small,
         omega (arith, some),
         omega (arith, before),
-        more_part (V.Ijump rs1 imm 0) count held word at part (omega (arith, before)) code',
+        more_part (V.Ijump First rs1 imm 0) count held word at part (omega (arith, before)) code',
       ),
     )
 
-pub check_wrong : (count word here code : ℕ) → count < 8 → IsCheckCode count here code → word ≢ code →
+pub check_wrong : (count word here code : ℕ) → count < 7 → IsCheckCode count here code → word ≢ code →
     LeadsOn (R.Check count) word here (More R.Stuck)
 check_wrong count word here code before is other held at (rs1, imm, (low, small, some, most, part)) place =
-    let n = part_length (V.Ijump rs1 imm 0) count held at part in
-    let is' = is (omega (arith, some)) (λ e. omega (arith, e, before)) rs1 imm 0 at (omega (arith, place, n)) in
-    wrong_word held word at 8 (words_of (V.Ijump rs1 imm 0) at) code (begin_agree count held at rs1 imm low small some part)
-    (omega (arith, n, before)) (ap (slice_get (words_of (V.Ijump rs1 imm 0) at)) n ∙ is') other
+    let n = part_length (V.Ijump First rs1 imm 0) count held at part in
+    let is' = is (omega (arith, some)) (λ e. omega (arith, e, before)) (λ e. omega (arith, e, before)) First rs1 imm 0 at (omega (arith, place, n)) in
+    wrong_word held word at 7 (words_of (V.Ijump First rs1 imm 0) at) code (begin_agree count held at rs1 imm low small some part)
+    (omega (arith, n, before)) (ap (slice_get (words_of (V.Ijump First rs1 imm 0) at)) n ∙ is') other
 
-pub check_labelled : (count word here label : ℕ) → 8 ≤ count → word < 2 ^ 32 → label_field (decoded word) ≡ Some label →
-    LeadsOn (R.Check count) word here (More (R.Labelled 9 label))
+check_loads : (which : TargetWord) (count word here : ℕ) → 7 ≤ count → word ≡ code_of (load which) → LeadsOn (R.Check count) word here (More (R.Loaded which))
 unfolding words_of
-check_labelled count word here label after fits e held at (rs1, imm, (low, small, some, most, part)) place =
-    let eight : count ≡ 8 = omega (arith, after, most) in
+check_loads which count word here after is held at (rs1, imm, (low, small, some, most, part)) place =
+    let seven : count ≡ 7 = omega (arith, after, most) in
+    let u : U.Unit = V.Ijump which rs1 imm 0 in
+    let part' : held ≡ take 7 (words_of u at) = part.held_is ∙ ap (λ k. take k (words_of (V.Ijump First rs1 imm 0) at)) seven in
+    (rs1, imm, (low, small, more_part u 7 held word at (record { held_is = part'; below = lit< tt }) (lit< tt) (ap Some (sym is))))
+
+pub check_first : (count word here : ℕ) → 7 ≤ count → word ≡ 0xfaf03 → LeadsOn (R.Check count) word here (More (R.Loaded First))
+unfolding code_of
+check_first count word here after is = check_loads First count word here after is
+
+pub check_second_word : (count word here : ℕ) → 7 ≤ count → word ≡ 0x4faf03 → LeadsOn (R.Check count) word here (More (R.Loaded Second))
+unfolding code_of
+check_second_word count word here after is = check_loads Second count word here after is
+
+pub check_unloaded : (count word here : ℕ) → 7 ≤ count → word ≢ 0xfaf03 → word ≢ 0x4faf03 → LeadsOn (R.Check count) word here (More R.Stuck)
+unfolding code_of
+check_unloaded count word here after no_first no_second held at (rs1, imm, (low, small, some, most, part)) place =
+    let m = part_length (V.Ijump First rs1 imm 0) count held at part in
+    let n : length held ≡ 7 = omega (arith, m, after, most) in
+    never held word at (λ v rest e.
+    let ws : List ℕ = held ++ (word ∷ rest) in
+    let t = begin_is count held at rs1 imm low small some part v (word ∷ rest) e in
+    let at_7 : slice_get (words_of v at) (length held) ≡ slice_get (words_of (computed_unit rs1 imm (instr_at ws 12) (read_in (instr_at ws 7)) t.label) at) 7 =
+    ap (slice_get (words_of v at)) n ∙ ap (λ (u : U.Unit). slice_get (words_of u at) 7) (sym t.same) in
+    elim (load_is (read_in (instr_at ws 7)) rs1 imm t.label at (instr_at ws 12)) [
+      | inl first ↦ no_first (is_next held word at rest v 0xfaf03 e (at_7 ∙ first))
+      | inr second ↦ no_second (is_next held word at rest v 0x4faf03 e (at_7 ∙ second))
+    ])
+
+-- a unit that has these words loads this word of its destination
+record Loads (ws : List ℕ) (at rs1 imm : ℕ) (which : TargetWord) (label : ℕ) (v : U.Unit) : Type 0 where
+  same : computed_unit rs1 imm (instr_at ws 12) which label ≡ v
+  loads : slice_get (words_of (computed_unit rs1 imm (instr_at ws 12) which label) at) 7 ≡ Some (code_of (load which))
+
+-- a check after its load
+module _ (u : U.Unit) (count : ℕ) (held : List ℕ) (at : ℕ) (which : TargetWord) (rs1 imm : ℕ) (low : rs1 < 32) (small : imm < 2 ^ 12)
+    (some : 8 ≤ count) (part : IsPart u count held at) (one : slice_get (words_of u at) 0 ≡ Some (code_of (Immediate Addi 31 rs1 imm)))
+    (two : slice_get (words_of u at) 1 ≡ Some (code_of (Immediate Andi 31 31 MINUS_FOUR)))
+    (seven : slice_get (words_of u at) 7 ≡ Some (code_of (load which))) where
+  loaded_is : (v : U.Unit) (rest : List ℕ) → recognised (held ++ rest) at ≡ Some v →
+      (label : ℕ) × (label_in (instr_at (held ++ rest) 8) ≡ Some label) × Loads (held ++ rest) at rs1 imm which label v
+  loaded_is v rest e =
+      let ws : List ℕ = held ++ rest in
+      let o : Option Instr = instr_at ws 12 in
+      let t = check_is u count held at rs1 imm low small (omega (arith, some)) part one two v rest e in
+      let lw : instr_at ws 7 ≡ Some (load which) = was_read u count held at part rest 7 (load which) (omega (arith, some)) seven (past_field which) in
+      let reads : read_in (instr_at ws 7) ≡ which = ap read_in lw ∙ read_past which in
+      let same : computed_unit rs1 imm o which t.label ≡ v = ap (λ w. computed_unit rs1 imm o w t.label) (sym reads) ∙ t.same in
+      let long : 13 ≤ word_count v = subst (λ (w : U.Unit). 13 ≤ word_count w) same (longer which rs1 imm t.label o) in (
+        t.label,
+        t.labelled,
+        record {
+          same = same;
+          loads =
+              ap (λ (w : U.Unit). slice_get (words_of w at) 7) same
+              ∙ words_get u count held at part rest v 7 (code_of (load which)) (omega (arith, some)) (omega (arith, long)) seven e;
+        },
+      )
+
+module _ (which : TargetWord) (held : List ℕ) (at rs1 imm : ℕ) (low : rs1 < 32) (small : imm < 2 ^ 12) (part : IsPart (V.Ijump which rs1 imm 0) 8 held at) where
+  load_told : (v : U.Unit) (rest : List ℕ) → recognised (held ++ rest) at ≡ Some v →
+      (label : ℕ) × (label_in (instr_at (held ++ rest) 8) ≡ Some label) × Loads (held ++ rest) at rs1 imm which label v
+  unfolding words_of
+  load_told = loaded_is (V.Ijump which rs1 imm 0) 8 held at which rs1 imm low small (lit≤ tt) part refl refl refl
+
+pub loaded_open : (which : TargetWord) (held : List ℕ) (at : ℕ) → IsReading (R.Loaded which) held at → recognised held at ≡ None
+loaded_open which held at (rs1, imm, (low, small, part)) =
+    let n = part_length (V.Ijump which rs1 imm 0) 8 held at part in
+    unfinished held at 13 (omega (arith, n)) (λ v e.
+    let (label, labelled, t) = load_told which held at rs1 imm low small part v [] e in
+    subst (λ (u : U.Unit). 13 ≤ word_count u) t.same (longer which rs1 imm label (instr_at (held ++ []) 12)))
+
+pub loaded_labelled : (which : TargetWord) (word here label : ℕ) → word < 2 ^ 32 → label_field (decoded word) ≡ Some label →
+    LeadsOn (R.Loaded which) word here (More (R.Labelled 9 which label))
+unfolding words_of
+loaded_labelled which word here label fits e held at (rs1, imm, (low, small, part)) place =
     let i : Instr = Upper Lui 4 label in
     let is : decoded word ≡ Some i = labelled_is (decoded word) label e in
     let range = decoded-in_range word i fits is in
-    let u : U.Unit = V.Ijump rs1 imm label in
-    let part' : held ≡ take 8 (words_of u at) = part.held_is ∙ ap (λ k. take k (words_of (V.Ijump rs1 imm 0) at)) eight in (
+    let u : U.Unit = V.Ijump which rs1 imm label in
+    let part' : held ≡ take 8 (words_of u at) = part.held_is in (
       rs1,
       imm,
       (
@@ -254,63 +352,64 @@ check_labelled count word here label after fits e held at (rs1, imm, (low, small
       ),
     )
 
-pub check_unlabelled : (count word here : ℕ) → 8 ≤ count → word < 2 ^ 32 → label_field (decoded word) ≡ None →
-    LeadsOn (R.Check count) word here (More R.Stuck)
-check_unlabelled count word here after fits none held at (rs1, imm, (low, small, some, most, part)) place =
-    let m = part_length (V.Ijump rs1 imm 0) count held at part in
-    let n : length held ≡ 8 = omega (arith, m, after, most) in
+pub loaded_unlabelled : (which : TargetWord) (word here : ℕ) → word < 2 ^ 32 → label_field (decoded word) ≡ None →
+    LeadsOn (R.Loaded which) word here (More R.Stuck)
+loaded_unlabelled which word here fits none held at (rs1, imm, (low, small, part)) place =
+    let n = part_length (V.Ijump which rs1 imm 0) 8 held at part in
     never held word at (λ v rest e.
     let ws : List ℕ = held ++ (word ∷ rest) in
-    let t = begin_is count held at rs1 imm low small some part v (word ∷ rest) e in
-    let i : Instr = Upper Lui 4 t.label in
-    let range : t.label < 2 ^ 20 = upper_range word t.label fits (sym (ap label_in (next_decoded held word rest 8 n)) ∙ t.labelled) in
+    let (label, labelled, t) = load_told which held at rs1 imm low small part v (word ∷ rest) e in
+    let i : Instr = Upper Lui 4 label in
+    let range : label < 2 ^ 20 = upper_range word label fits (sym (ap label_in (next_decoded held word rest 8 n)) ∙ labelled) in
     let theirs : slice_get (words_of v at) (length held) ≡ Some (code_of i) =
     ap (slice_get (words_of v at)) n
-    ∙ subst (λ (u : U.Unit). slice_get (words_of u at) 8 ≡ Some (code_of i)) t.same (label_word_is rs1 imm t.label at (instr_at ws 12)) in
+    ∙ subst (λ (u : U.Unit). slice_get (words_of u at) 8 ≡ Some (code_of i)) t.same (label_word_is which rs1 imm label at (instr_at ws 12)) in
     let is : word ≡ code_of i = is_next held word at rest v (code_of i) e theirs in
     let back : decoded word ≡ Some i = ap decoded is ∙ decoded-code_of i (lit< tt, range) in
-    let labels : label_field (decoded word) ≡ Some t.label = ap label_field back in
+    let labels : label_field (decoded word) ≡ Some label = ap label_field back in
     cc)
 
 -- a check whose label is told
-module _ (u : U.Unit) (count : ℕ) (held : List ℕ) (at rs1 imm label : ℕ) (low : rs1 < 32) (small : imm < 2 ^ 12) (fits : label < 2 ^ 20)
+module _ (u : U.Unit) (count : ℕ) (held : List ℕ) (at : ℕ) (which : TargetWord) (rs1 imm label : ℕ) (low : rs1 < 32) (small : imm < 2 ^ 12) (fits : label < 2 ^ 20)
     (some : 9 ≤ count) (part : IsPart u count held at) (one : slice_get (words_of u at) 0 ≡ Some (code_of (Immediate Addi 31 rs1 imm)))
     (two : slice_get (words_of u at) 1 ≡ Some (code_of (Immediate Andi 31 31 MINUS_FOUR)))
+    (seven : slice_get (words_of u at) 7 ≡ Some (code_of (load which)))
     (eight : slice_get (words_of u at) 8 ≡ Some (code_of (Upper Lui 4 label))) where
-  told_is : (v : U.Unit) (rest : List ℕ) → recognised (held ++ rest) at ≡ Some v → computed_unit rs1 imm (instr_at (held ++ rest) 12) label ≡ v
+  told_is : (v : U.Unit) (rest : List ℕ) → recognised (held ++ rest) at ≡ Some v → Loads (held ++ rest) at rs1 imm which label v
   told_is v rest e =
       let ws : List ℕ = held ++ rest in
-      let t = check_is u count held at rs1 imm low small (omega (arith, some)) part one two v rest e in
+      let (given, labelled, t) = loaded_is u count held at which rs1 imm low small (omega (arith, some)) part one two seven v rest e in
       let lui : instr_at ws 8 ≡ Some (Upper Lui 4 label) =
       was_read u count held at part rest 8 (Upper Lui 4 label) (omega (arith, some)) eight (lit< tt, fits) in
-      let given : Some label ≡ Some t.label = sym (ap label_in lui) ∙ t.labelled in
-      let same : label ≡ t.label = cc in
-      ap (computed_unit rs1 imm (instr_at ws 12)) same ∙ t.same
+      let both : Some given ≡ Some label = sym labelled ∙ ap label_in lui in
+      let same : given ≡ label = cc in
+      subst (λ l. Loads ws at rs1 imm which l v) same t
 
-module _ (count : ℕ) (held : List ℕ) (at rs1 imm label : ℕ) (low : rs1 < 32) (small : imm < 2 ^ 12) (fits : label < 2 ^ 20)
-    (some : 9 ≤ count) (part : IsPart (V.Ijump rs1 imm label) count held at) where
-  jump_is : (v : U.Unit) (rest : List ℕ) → recognised (held ++ rest) at ≡ Some v → computed_unit rs1 imm (instr_at (held ++ rest) 12) label ≡ v
+module _ (count : ℕ) (held : List ℕ) (at : ℕ) (which : TargetWord) (rs1 imm label : ℕ) (low : rs1 < 32) (small : imm < 2 ^ 12) (fits : label < 2 ^ 20)
+    (some : 9 ≤ count) (part : IsPart (V.Ijump which rs1 imm label) count held at) where
+  jump_is : (v : U.Unit) (rest : List ℕ) → recognised (held ++ rest) at ≡ Some v → Loads (held ++ rest) at rs1 imm which label v
   unfolding words_of
-  jump_is = told_is (V.Ijump rs1 imm label) count held at rs1 imm label low small fits some part refl refl refl
+  jump_is = told_is (V.Ijump which rs1 imm label) count held at which rs1 imm label low small fits some part refl refl refl refl
 
-  told_agree : Agree held at 12 (words_of (V.Ijump rs1 imm label) at)
+  told_agree : Agree held at 12 (words_of (V.Ijump which rs1 imm label) at)
   told_agree v rest e =
-      subst (λ (u : U.Unit). take 12 (words_of u at) ≡ take 12 (words_of (V.Ijump rs1 imm label) at)) (jump_is v rest e)
-      (same_check rs1 imm label at (instr_at (held ++ rest) 12))
+      let t = jump_is v rest e in
+      subst (λ (u : U.Unit). take 12 (words_of u at) ≡ take 12 (words_of (V.Ijump which rs1 imm label) at)) t.same
+      (same_check which rs1 imm label at (instr_at (held ++ rest) 12) t.loads)
 
-pub label_open : (count label : ℕ) (held : List ℕ) (at : ℕ) → IsReading (R.Labelled count label) held at → recognised held at ≡ None
-label_open count label held at (rs1, imm, (low, small, fits, some, part)) =
-    let n = part_length (V.Ijump rs1 imm label) count held at part in
+pub label_open : (count : ℕ) (which : TargetWord) (label : ℕ) (held : List ℕ) (at : ℕ) → IsReading (R.Labelled count which label) held at → recognised held at ≡ None
+label_open count which label held at (rs1, imm, (low, small, fits, some, part)) =
+    let n = part_length (V.Ijump which rs1 imm label) count held at part in
     let below : count < 13 = part.below in
     unfinished held at 13 (omega (arith, n, below)) (λ v e.
-    subst (λ (u : U.Unit). 13 ≤ word_count u) (jump_is count held at rs1 imm label low small fits some part v [] e)
-    (longer rs1 imm label (instr_at (held ++ []) 12)))
+    let t = jump_is count held at which rs1 imm label low small fits some part v [] e in
+    subst (λ (u : U.Unit). 13 ≤ word_count u) t.same (longer which rs1 imm label (instr_at (held ++ []) 12)))
 
-pub label_more : (count label word here : ℕ) → count < 12 → IsCheckCode count here word →
-    LeadsOn (R.Labelled count label) word here (More (R.Labelled (count + 1) label))
-label_more count label word here before code held at (rs1, imm, (low, small, fits, some, part)) place =
-    let n = part_length (V.Ijump rs1 imm label) count held at part in
-    let code' = code (omega (arith, some)) (λ e. omega (arith, e, some)) rs1 imm label at (omega (arith, place, n)) in (
+pub label_more : (count : ℕ) (which : TargetWord) (label word here : ℕ) → count < 12 → IsCheckCode count here word →
+    LeadsOn (R.Labelled count which label) word here (More (R.Labelled (count + 1) which label))
+label_more count which label word here before code held at (rs1, imm, (low, small, fits, some, part)) place =
+    let n = part_length (V.Ijump which rs1 imm label) count held at part in
+    let code' = code (omega (arith, some)) (λ e. omega (arith, e, some)) (λ e. omega (arith, e, some)) which rs1 imm label at (omega (arith, place, n)) in (
       rs1,
       imm,
       (
@@ -318,23 +417,23 @@ label_more count label word here before code held at (rs1, imm, (low, small, fit
         small,
         fits,
         omega (arith, some),
-        more_part (V.Ijump rs1 imm label) count held word at part (omega (arith, before)) code',
+        more_part (V.Ijump which rs1 imm label) count held word at part (omega (arith, before)) code',
       ),
     )
 
-pub label_wrong : (count label word here code : ℕ) → count < 12 → IsCheckCode count here code → word ≢ code →
-    LeadsOn (R.Labelled count label) word here (More R.Stuck)
-label_wrong count label word here code before is other held at (rs1, imm, (low, small, fits, some, part)) place =
-    let n = part_length (V.Ijump rs1 imm label) count held at part in
-    let is' = is (omega (arith, some)) (λ e. omega (arith, e, some)) rs1 imm label at (omega (arith, place, n)) in
-    wrong_word held word at 12 (words_of (V.Ijump rs1 imm label) at) code (told_agree count held at rs1 imm label low small fits some part)
-    (omega (arith, n, before)) (ap (slice_get (words_of (V.Ijump rs1 imm label) at)) n ∙ is') other
+pub label_wrong : (count : ℕ) (which : TargetWord) (label word here code : ℕ) → count < 12 → IsCheckCode count here code → word ≢ code →
+    LeadsOn (R.Labelled count which label) word here (More R.Stuck)
+label_wrong count which label word here code before is other held at (rs1, imm, (low, small, fits, some, part)) place =
+    let n = part_length (V.Ijump which rs1 imm label) count held at part in
+    let is' = is (omega (arith, some)) (λ e. omega (arith, e, some)) (λ e. omega (arith, e, some)) which rs1 imm label at (omega (arith, place, n)) in
+    wrong_word held word at 12 (words_of (V.Ijump which rs1 imm label) at) code (told_agree count held at which rs1 imm label low small fits some part)
+    (omega (arith, n, before)) (ap (slice_get (words_of (V.Ijump which rs1 imm label) at)) n ∙ is') other
 
-pub label_jumps : (count label word here : ℕ) → IsCode here → 12 ≤ count → word ≡ 0xf8067 →
-    LeadsOn (R.Labelled count label) word here (Done (E.Ijump label))
+pub label_jumps : (count : ℕ) (which : TargetWord) (label word here : ℕ) → IsCode here → 12 ≤ count → word ≡ 0xf8067 →
+    LeadsOn (R.Labelled count which label) word here (Done (E.Ijump which label))
 unfolding words_of code_of
-label_jumps count label word here code after is held at (rs1, imm, (low, small, fits, some, part)) place =
-    let u : U.Unit = V.Ijump rs1 imm label in
+label_jumps count which label word here code after is held at (rs1, imm, (low, small, fits, some, part)) place =
+    let u : U.Unit = V.Ijump which rs1 imm label in
     let n = part_length u count held at part in
     let below : count < 13 = part.below in
     let twelve : count ≡ 12 = omega (arith, after, below) in
@@ -356,14 +455,32 @@ label_jumps count label word here code after is held at (rs1, imm, (low, small, 
       ),
     )
 
-pub label_pushes : (count label word here : ℕ) → 12 ≤ count → word ≡ 0x3019f13 →
-    LeadsOn (R.Labelled count label) word here (More (R.Push 13 label))
+-- the word after a check is one of two
+after_told : (count : ℕ) (which : TargetWord) (label : ℕ) (word here : ℕ) → 12 ≤ count → word ≢ 0xf8067 → (which ≡ First → word ≢ 0x3019f13) →
+    LeadsOn (R.Labelled count which label) word here (More R.Stuck)
+unfolding code_of
+after_told count which label word here after no_jump no_push held at (rs1, imm, (low, small, fits, some, part)) place =
+    let m = part_length (V.Ijump which rs1 imm label) count held at part in
+    let below : count < 13 = part.below in
+    let n : length held ≡ 12 = omega (arith, m, after, below) in
+    never held word at (λ v rest e.
+    let o : Option Instr = instr_at (held ++ (word ∷ rest)) 12 in
+    let t = jump_is count held at which rs1 imm label low small fits some part v (word ∷ rest) e in
+    let at_12 : slice_get (words_of v at) (length held) ≡ slice_get (words_of (computed_unit rs1 imm o which label) at) 12 =
+    ap (slice_get (words_of v at)) n ∙ ap (λ (u : U.Unit). slice_get (words_of u at) 12) (sym t.same) in
+    elim (after_check which rs1 imm label at o t.loads) [
+      | inl jumps ↦ no_jump (is_next held word at rest v 0xf8067 e (at_12 ∙ jumps))
+      | inr pushes ↦ no_push pushes.0 (is_next held word at rest v 0x3019f13 e (at_12 ∙ pushes.1))
+    ])
+
+pub label_pushes : (count : ℕ) (which : TargetWord) (label word here : ℕ) → 12 ≤ count → word ≢ 0xf8067 → word ≡ 0x3019f13 →
+    LeadsOn (R.Labelled count which label) word here (push_step which label)
 unfolding words_of code_of
-label_pushes count label word here after is held at (rs1, imm, (low, small, fits, some, part)) place =
+label_pushes count First label word here after no_jump is held at (rs1, imm, (low, small, fits, some, part)) place =
     let below : count < 13 = part.below in
     let twelve : count ≡ 12 = omega (arith, after, below) in
     let part' : held ≡ take 12 (words_of (V.Icall rs1 imm label) at) =
-    part.held_is ∙ ap (λ k. take k (words_of (V.Ijump rs1 imm label) at)) twelve in (
+    part.held_is ∙ ap (λ k. take k (words_of (V.Ijump First rs1 imm label) at)) twelve in (
       rs1,
       imm,
       (
@@ -374,23 +491,12 @@ label_pushes count label word here after is held at (rs1, imm, (low, small, fits
         more_part (V.Icall rs1 imm label) 12 held word at (record { held_is = part'; below = lit< tt }) (lit< tt) (ap Some (sym is)),
       ),
     )
+label_pushes count Second label word here after no_jump is held at read place =
+    after_told count Second label word here after no_jump (λ same. absurd (cc)) held at read place
 
-pub label_fails : (count label word here : ℕ) → 12 ≤ count → word ≢ 0xf8067 → word ≢ 0x3019f13 →
-    LeadsOn (R.Labelled count label) word here (More R.Stuck)
-unfolding code_of
-label_fails count label word here after no_jump no_push held at (rs1, imm, (low, small, fits, some, part)) place =
-    let m = part_length (V.Ijump rs1 imm label) count held at part in
-    let below : count < 13 = part.below in
-    let n : length held ≡ 12 = omega (arith, m, after, below) in
-    never held word at (λ v rest e.
-    let o : Option Instr = instr_at (held ++ (word ∷ rest)) 12 in
-    let same : computed_unit rs1 imm o label ≡ v = jump_is count held at rs1 imm label low small fits some part v (word ∷ rest) e in
-    let at_12 : slice_get (words_of v at) (length held) ≡ slice_get (words_of (computed_unit rs1 imm o label) at) 12 =
-    ap (slice_get (words_of v at)) n ∙ ap (λ (u : U.Unit). slice_get (words_of u at) 12) (sym same) in
-    elim (after_check rs1 imm label at o) [
-      | inl jumps ↦ no_jump (is_next held word at rest v 0xf8067 e (at_12 ∙ jumps))
-      | inr pushes ↦ no_push (is_next held word at rest v 0x3019f13 e (at_12 ∙ pushes))
-    ])
+pub label_fails : (count : ℕ) (which : TargetWord) (label word here : ℕ) → 12 ≤ count → word ≢ 0xf8067 → word ≢ 0x3019f13 →
+    LeadsOn (R.Labelled count which label) word here (More R.Stuck)
+label_fails count which label word here after no_jump no_push = after_told count which label word here after no_jump (λ same. no_push)
 
 -- a computed call after its check
 module _ (count : ℕ) (held : List ℕ) (at rs1 imm label : ℕ) (low : rs1 < 32) (small : imm < 2 ^ 12) (fits : label < 2 ^ 20)
@@ -402,8 +508,8 @@ module _ (count : ℕ) (held : List ℕ) (at rs1 imm label : ℕ) (low : rs1 < 3
       let i : Instr = Shift Slli 30 3 48 in
       let after : instr_at (held ++ rest) 12 ≡ Some i =
       was_read u count held at part rest 12 i (omega (arith, some)) refl (lit< tt, lit< tt, lit< tt) in
-      sym (ap (λ o. computed_unit rs1 imm o label) after)
-      ∙ told_is u count held at rs1 imm label low small fits (omega (arith, some)) part refl refl refl v rest e
+      let t = told_is u count held at First rs1 imm label low small fits (omega (arith, some)) part refl refl refl refl v rest e in
+      sym (ap (λ o. computed_unit rs1 imm o First label) after) ∙ t.same
 
   push_agree : Agree held at 20 (words_of (V.Icall rs1 imm label) at)
   push_agree v rest e = ap (λ (u : U.Unit). take 20 (words_of u at)) (sym (push_is v rest e))

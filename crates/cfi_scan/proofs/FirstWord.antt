@@ -22,11 +22,12 @@ use Rattle.rv_code.specs.Decode.{decoded}
 use Rattle.rv_code.specs.Encode.{code_of}
 use Rattle.rv_code.proofs.ReadBack.{decoded-code_of}
 use Rattle.rv_code.proofs.Inverse.{IsWordOf, word-decoded}
+use Rattle.cfi_unit.specs.declared.target_word.TargetWord.{TargetWord}
 use Rattle.cfi_unit.specs.declared.unit.Unit as U
 use Rattle.cfi_unit.specs.declared.unit.Unit.TheVariants as V
 use Rattle.cfi_unit.specs.declared.unit.SystemOp.TheVariants as S
 use Rattle.cfi_unit.specs.UnitWords.{BAD_TARGET, MINUS_EIGHT, Reaches, instr_at, is_plain, jump_offset, near_offset, skip_offset, skips_jump, words_of}
-use Rattle.cfi_unit.specs.Recognise.{address_unit, can_stand, computed_unit, if_stands, jump_or_stop, label_in, led_to, near_to, recognised, stands, store_unit, target_in, unit_from}
+use Rattle.cfi_unit.specs.Recognise.{address_unit, can_stand, computed_unit, if_stands, jump_or_stop, label_in, led_to, near_to, read_in, recognised, stands, store_unit, target_in, unit_from}
 use Rattle.cfi_scan.specs.FirstStep.{first_step, opens_address, opens_call, opens_return, plain_step}
 use Rattle.cfi_scan.specs.PlainWord.{IsPlainWord}
 use Rattle.cfi_scan.specs.Stream.{Leads, LeadsOn, NeverBegins}
@@ -115,20 +116,20 @@ unfolding words_of
 store_starts at rs1 imm (Some (Store op base rs2 zero_imm)) = (_, refl)
 store_starts at rs1 imm other = tt
 
-computed_starts : (at rs1 imm label : ℕ) (after : Option Instr) → StartsAs (computed_unit rs1 imm after label) at (Immediate Addi 31 rs1 imm)
+computed_starts : (at rs1 imm : ℕ) (after : Option Instr) (which : TargetWord) (label : ℕ) → StartsAs (computed_unit rs1 imm after which label) at (Immediate Addi 31 rs1 imm)
 unfolding words_of
-computed_starts at rs1 imm label (Some (Jalr rd base zero_imm)) = (_, refl)
-computed_starts at rs1 imm label other = (_, refl)
+computed_starts at rs1 imm (Some (Jalr rd base zero_imm)) which label = (_, refl)
+computed_starts at rs1 imm other which label = (_, refl)
 
-labelled_starts : (at rs1 imm : ℕ) (after : Option Instr) (label : Option ℕ) →
-    IfSome (option_map (computed_unit rs1 imm after) label) (λ u. StartsAs u at (Immediate Addi 31 rs1 imm))
-labelled_starts at rs1 imm after None = tt
-labelled_starts at rs1 imm after (Some label) = computed_starts at rs1 imm label after
+labelled_starts : (at rs1 imm : ℕ) (after : Option Instr) (which : TargetWord) (label : Option ℕ) →
+    IfSome (option_map (computed_unit rs1 imm after which) label) (λ u. StartsAs u at (Immediate Addi 31 rs1 imm))
+labelled_starts at rs1 imm after which None = tt
+labelled_starts at rs1 imm after which (Some label) = computed_starts at rs1 imm after which label
 
 address_starts : (words : List ℕ) (at rs1 imm : ℕ) (second : Option Instr) →
     IfSome (address_unit words rs1 imm second) (λ u. StartsAs u at (Immediate Addi 31 rs1 imm))
 address_starts words at rs1 imm (Some (Shift op rd rs amount)) = store_starts at rs1 imm (instr_at words 3)
-address_starts words at rs1 imm other = labelled_starts at rs1 imm (instr_at words 12) (label_in (instr_at words 8))
+address_starts words at rs1 imm other = labelled_starts at rs1 imm (instr_at words 12) (read_in (instr_at words 7)) (label_in (instr_at words 8))
 
 -- whether a longer unit begins with it
 abbrev opens : Instr → Bool

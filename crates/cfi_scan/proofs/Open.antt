@@ -4,7 +4,7 @@ use Rattle.cfi_unit.specs.Recognise.{recognised}
 use Rattle.cfi_scan.specs.declared.reader.Reader.{Reader}
 use Rattle.cfi_scan.specs.declared.reader.Reader.TheVariants as R
 use Rattle.cfi_scan.specs.Stream.{IsReading}
-use Rattle.cfi_scan.proofs.CheckReader.{address_open, check_open, label_open, push_open}
+use Rattle.cfi_scan.proofs.CheckReader.{address_open, check_open, label_open, loaded_open, push_open}
 use Rattle.cfi_scan.proofs.Transfers.{call_open, return_open, store_open}
 
 pub none_open : (reader : Reader) (held : List ℕ) (at : ℕ) → reader ≢ R.Branch → IsReading reader held at → recognised held at ≡ None
@@ -15,7 +15,8 @@ none_open R.Address held at other is = address_open held at is
 none_open (R.Store count) held at other is = store_open count held at is
 none_open (R.Call count) held at other is = call_open count held at is
 none_open (R.Check count) held at other is = check_open count held at is
-none_open (R.Labelled count label) held at other is = label_open count label held at is
+none_open (R.Loaded which) held at other is = loaded_open which held at is
+none_open (R.Labelled count which label) held at other is = label_open count which label held at is
 none_open (R.Push count label) held at other is = push_open count label held at is
 none_open (R.Return count) held at other is = return_open count held at is
 none_open R.Stuck held at other never = ap (λ (ws : List ℕ). recognised ws at) (sym (append-nil held)) ∙ never []

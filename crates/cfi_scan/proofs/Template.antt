@@ -7,6 +7,7 @@ use Rattle.std.proofs.lemmas.Bool.Decides.{Decides-eqb}
 use Rattle.std.proofs.lemmas.List.{append_assoc, append-nil, length-append, length-take-le, take_more}
 use Rattle.std.proofs.lemmas.Option.{get_or_from_slice_get, option_and_then_some, slice_get_within}
 use Rattle.std.proofs.lemmas.Slice.Eq.{starts_is}
+use Rattle.std.proofs.Math.Seq.{take-append_seam}
 use Rattle.rv_word.proofs.Cases.{cases_Option, guarded}
 use Rattle.rv_instr.specs.InRange.{IsInstr}
 use Rattle.rv_instr.specs.declared.instr.Instr.{Instr}
@@ -147,3 +148,14 @@ was_read u k held at p rest j i below is range =
     let mine : slice_get held j ≡ Some (code_of i) =
     ap (λ (l : List ℕ). slice_get l j) p.held_is ∙ get_take k (words_of u at) j below ∙ is in
     ap (option_and_then decoded) (get_append held rest j (code_of i) mine) ∙ decoded-code_of i range
+
+-- and any word of it, so that a unit that begins there has it too
+pub words_get : (u : U.Unit) (k : ℕ) (held : List ℕ) (at : ℕ) → IsPart u k held at → (rest : List ℕ) (v : U.Unit) (j word : ℕ) → j < k →
+    j < word_count v → slice_get (words_of u at) j ≡ Some word → recognised (held ++ rest) at ≡ Some v → slice_get (words_of v at) j ≡ Some word
+words_get u k held at p rest v j word below short is e =
+    let ws : List ℕ = held ++ rest in
+    let n : ℕ = length (words_of v at) in
+    let counted : n ≡ word_count v = words_counted v at in
+    let mine : slice_get held j ≡ Some word = ap (λ (l : List ℕ). slice_get l j) p.held_is ∙ get_take k (words_of u at) j below ∙ is in
+    let front : take n ws ≡ words_of v at = ap (take n) (words_there ws at v e) ∙ take-append_seam (words_of v at) (drop n ws) in
+    sym (ap (λ (l : List ℕ). slice_get l j) front) ∙ get_take n ws j (omega (arith, short, counted)) ∙ get_append held rest j word mine

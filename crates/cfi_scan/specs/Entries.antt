@@ -18,7 +18,7 @@ entry_of V.Stop at = E.Stop
 entry_of (V.System op) at = E.Other
 entry_of (V.Store op rs1 rs2 imm) at = E.Other
 entry_of (V.Call target) at = E.Call (jump_offset (at + 28) target)
-entry_of (V.Ijump rs1 imm label) at = E.Ijump label
+entry_of (V.Ijump which rs1 imm label) at = E.Ijump which label
 entry_of (V.Icall rs1 imm label) at = E.Icall label
 entry_of V.Return at = E.Other
 

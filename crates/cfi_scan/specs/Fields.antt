@@ -1,9 +1,15 @@
 -- What single words of units say beyond that they are there: the offset field of a call's transfer, the
--- label of a computed transfer, and that a word stores at x31. Only private contracts cite these.
+-- label of a computed transfer, that a word stores at x31, and that a computed transfer is a call. Only
+-- private contracts cite these.
 use Rattle.std.specs.Prelude.{ℕ, ◌==◌, ◌&&◌, Bool, false, Option, Some, None, if◌then◌else◌}
 use Rattle.rv_instr.specs.declared.instr.Instr.{Instr}
 use Rattle.rv_instr.specs.declared.instr.Instr.TheVariants.{Upper, Jal, Store}
+use Rattle.cfi_unit.specs.declared.target_word.TargetWord.{TargetWord}
+use Rattle.cfi_unit.specs.declared.target_word.TargetWord.TheVariants.{First, Second}
 use Rattle.cfi_unit.specs.UnitWords.{is_lui}
+use Rattle.cfi_scan.specs.declared.reader.Reader.TheVariants as R
+use Rattle.cfi_scan.specs.declared.reader.Step.{Step}
+use Rattle.cfi_scan.specs.declared.reader.Step.TheVariants.{More}
 
 -- the offset field of a `jal x1`
 abbrev pub link_field : Option Instr → Option ℕ
@@ -19,3 +25,8 @@ label_field other = None
 abbrev pub stores_there : Option Instr → Bool
 stores_there (Some (Store op base rs2 imm)) = (base == 31) && (imm == 0)
 stores_there other = false
+
+-- after a check, the first word of a push: only a call has one, whose check reads the first word
+abbrev pub push_step : TargetWord → ℕ → Step
+push_step First label = More (R.Push 13 label)
+push_step Second label = More R.Stuck

@@ -1,6 +1,7 @@
 -- Words of private contracts: entries in four bytes, the number of the kind times 2^20, and the field or label.
 -- The kinds that are no transfer and no gate come first.
 use Rattle.std.specs.Prelude.{◌≡◌, ℕ, ◌+◌, ◌*◌, ◌/◌, ◌%◌, ◌^◌, ◌==◌, if◌then◌else◌}
+use Rattle.cfi_unit.specs.declared.target_word.TargetWord.TheVariants.{First, Second}
 use Rattle.cfi_scan.specs.declared.entry.Entry.{Entry}
 use Rattle.cfi_scan.specs.declared.entry.Entry.TheVariants as E
 
@@ -12,9 +13,10 @@ packed (E.Near field) = 3 * 2 ^ 20 + field
 packed (E.Branch field) = 4 * 2 ^ 20 + field
 packed (E.Jump field) = 5 * 2 ^ 20 + field
 packed (E.Call field) = 6 * 2 ^ 20 + field
-packed (E.Ijump label) = 7 * 2 ^ 20 + label
+packed (E.Ijump First label) = 7 * 2 ^ 20 + label
 packed (E.Icall label) = 8 * 2 ^ 20 + label
-packed (E.Gate label) = 9 * 2 ^ 20 + label
+packed (E.Ijump Second label) = 9 * 2 ^ 20 + label
+packed (E.Gate label) = 10 * 2 ^ 20 + label
 
 abbrev pub of_kind : ℕ → ℕ → Entry
 of_kind kind field =
@@ -25,8 +27,9 @@ of_kind kind field =
     else if kind == 4 then E.Branch field
     else if kind == 5 then E.Jump field
     else if kind == 6 then E.Call field
-    else if kind == 7 then E.Ijump field
+    else if kind == 7 then E.Ijump First field
     else if kind == 8 then E.Icall field
+    else if kind == 9 then E.Ijump Second field
     else E.Gate field
 
 abbrev pub unpacked : ℕ → Entry

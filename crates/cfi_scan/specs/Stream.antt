@@ -7,6 +7,7 @@ use Rattle.rv_instr.specs.declared.instr.StoreOp.{StoreOp}
 use Rattle.rv_instr.specs.declared.instr.Instr.TheVariants.{Branch, Immediate}
 use Rattle.rv_instr.specs.declared.instr.ImmediateOp.TheVariants.{Addi}
 use Rattle.rv_code.specs.Encode.{code_of}
+use Rattle.cfi_unit.specs.declared.target_word.TargetWord.TheVariants.{First}
 use Rattle.cfi_unit.specs.declared.unit.Unit as U
 use Rattle.cfi_unit.specs.declared.unit.Unit.TheVariants as V
 use Rattle.cfi_unit.specs.UnitWords.{Fits, after_unit, instr_at, is_jump, may_precede, skip_offset, word_count, words_of}
@@ -57,7 +58,7 @@ pub record IsPart (unit : U.Unit) (count : ℕ) (held : List ℕ) (at : ℕ) : T
   pub below : count < word_count unit
 
 -- what is held of a unit that has begun, by how far it is read. Fields that no word has told yet are
--- zero here, and so is a call's distance: only its last word has it.
+-- zero here, or the first word of a destination, and so is a call's distance: only its last word has it.
 abbrev pub IsReading : Reader → List ℕ → ℕ → Type 0
 IsReading R.Start held at = held ≡ []
 IsReading R.Branch held at =
@@ -71,10 +72,12 @@ IsReading (R.Store count) held at =
 IsReading (R.Call count) held at = (1 ≤ count) × IsPart (V.Call (at + 28)) count held at
 IsReading (R.Check count) held at =
     (rs1 : ℕ) × (imm : ℕ)
-    × ((rs1 < 32) × (imm < 2 ^ 12) × (2 ≤ count) × (count ≤ 8) × IsPart (V.Ijump rs1 imm 0) count held at)
-IsReading (R.Labelled count label) held at =
+    × ((rs1 < 32) × (imm < 2 ^ 12) × (2 ≤ count) × (count ≤ 7) × IsPart (V.Ijump First rs1 imm 0) count held at)
+IsReading (R.Loaded which) held at =
+    (rs1 : ℕ) × (imm : ℕ) × ((rs1 < 32) × (imm < 2 ^ 12) × IsPart (V.Ijump which rs1 imm 0) 8 held at)
+IsReading (R.Labelled count which label) held at =
     (rs1 : ℕ) × (imm : ℕ)
-    × ((rs1 < 32) × (imm < 2 ^ 12) × (label < 2 ^ 20) × (9 ≤ count) × IsPart (V.Ijump rs1 imm label) count held at)
+    × ((rs1 < 32) × (imm < 2 ^ 12) × (label < 2 ^ 20) × (9 ≤ count) × IsPart (V.Ijump which rs1 imm label) count held at)
 IsReading (R.Push count label) held at =
     (rs1 : ℕ) × (imm : ℕ)
     × ((rs1 < 32) × (imm < 2 ^ 12) × (label < 2 ^ 20) × (13 ≤ count) × IsPart (V.Icall rs1 imm label) count held at)

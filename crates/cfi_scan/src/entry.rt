@@ -1,3 +1,4 @@
+use cfi_unit::TargetWord;
 use rv_instr::Immediate;
 
 /// What is kept of a word of code: that a unit starts there, of which kind, and its label or the offset
@@ -16,8 +17,8 @@ pub enum Entry {
     Stop,
     /// A call, whose last word has the field.
     Call(Immediate<20>),
-    /// A computed jump; its label.
-    Ijump(Immediate<20>),
+    /// A computed jump; the word of its target that its check reads, and its label.
+    Ijump(TargetWord, Immediate<20>),
     /// A computed call; its label.
     Icall(Immediate<20>),
     /// A gate; its label.

@@ -1,8 +1,10 @@
 ghost use Rattle.std.specs.Prelude.{◌≡◌};
 ghost use Rattle.cfi_scan.specs.Entries.{is_quiet, is_unit};
 ghost use Rattle.cfi_scan.specs.Packed.{of_kind, packed, unpacked};
+ghost use Rattle.cfi_scan.specs.declared.entry.Entry.TheVariants as E;
 
 use crate::entry::Entry;
+use cfi_unit::TargetWord;
 use rv_instr::Immediate;
 use std::marker::Model;
 
@@ -76,9 +78,20 @@ fn word_of(entry: Entry) -> u32
         Entry::Branch(field) => 4 * FIELDS + field.bits(),
         Entry::Jump(field) => 5 * FIELDS + field.bits(),
         Entry::Call(field) => 6 * FIELDS + field.bits(),
-        Entry::Ijump(label) => 7 * FIELDS + label.bits(),
+        Entry::Ijump(which, label) => ijump_word(which, label),
         Entry::Icall(label) => 8 * FIELDS + label.bits(),
-        Entry::Gate(label) => 9 * FIELDS + label.bits(),
+        Entry::Gate(label) => 10 * FIELDS + label.bits(),
+    }
+}
+
+/// The word of a computed jump's entry.
+fn ijump_word(which: TargetWord, label: Immediate<20>) -> u32
+    ensures word { result ≡ packed (E.Ijump which label) }
+    ensures back { unpacked result ≡ E.Ijump which label }
+{
+    match which {
+        TargetWord::First => 7 * FIELDS + label.bits(),
+        TargetWord::Second => 9 * FIELDS + label.bits(),
     }
 }
 
@@ -117,9 +130,11 @@ fn entry_of(word: u32) -> Entry
     } else if kind == 6 {
         Entry::Call(Immediate::of(field))
     } else if kind == 7 {
-        Entry::Ijump(Immediate::of(field))
+        Entry::Ijump(TargetWord::First, Immediate::of(field))
     } else if kind == 8 {
         Entry::Icall(Immediate::of(field))
+    } else if kind == 9 {
+        Entry::Ijump(TargetWord::Second, Immediate::of(field))
     } else {
         Entry::Gate(Immediate::of(field))
     }

@@ -4,11 +4,12 @@ ghost use Rattle.cfi_scan.specs.Stream.{IsCode, LeadsOn, MayTake};
 
 use crate::branch::jump_word;
 use crate::call::call_word;
-use crate::check::{address_word, check_word, label_word, push_word};
+use crate::check::{address_word, check_word, label_word, loaded_word, push_word};
 use crate::entry::Entry;
 use crate::first::first_word;
 use crate::leave::return_word;
 use crate::store::store_word;
+use cfi_unit::TargetWord;
 use rv_instr::Immediate;
 
 /// How far a unit is read. Counts are those of the words read.
@@ -24,10 +25,12 @@ pub enum Reader {
     Store(u8),
     /// Words of a call.
     Call(u8),
-    /// More words of a computed transfer, up to its label.
+    /// More words of a computed transfer, up to the load of a word of its destination.
     Check(u8),
-    /// Its words up to the transfer or the push, and its label.
-    Labelled(u8, Immediate<20>),
+    /// Its words up to its label, and which word it loads.
+    Loaded(TargetWord),
+    /// Its words up to the transfer or the push, which word it loads, and its label.
+    Labelled(u8, TargetWord, Immediate<20>),
     /// The words of a computed call, and its label.
     Push(u8, Immediate<20>),
     /// Words of a return.
@@ -58,7 +61,8 @@ pub(crate) fn next(reader: Reader, word: u32, here: u64) -> Step
         Reader::Store(count) => store_word(count, word, here),
         Reader::Call(count) => call_word(count, word, here),
         Reader::Check(count) => check_word(count, word, here),
-        Reader::Labelled(count, label) => label_word(count, label, word, here),
+        Reader::Loaded(which) => loaded_word(which, word, here),
+        Reader::Labelled(count, which, label) => label_word(count, which, label, word, here),
         Reader::Push(count, label) => push_word(count, label, word, here),
         Reader::Return(count) => return_word(count, word, here),
         Reader::Stuck => Step::More(Reader::Stuck),

@@ -1,7 +1,7 @@
 -- One hardened program is right for a request.
 use Rattle.std.proofs.Common.{◌≡◌, ℕ, List, length, map, sym, ap, subst, ◌∙◌}
 use Rattle.std.proofs.lemmas.Option.{same_Some}
-use Rattle.rv_word.specs.Form.{image_version}
+use Rattle.rv_word.specs.Form.{graph_version, image_version}
 use Rattle.elf_image.specs.Spelling.{spelling}
 use Rattle.cfi_graph.specs.Graph.{GraphParts}
 use Rattle.cfi_unit.specs.declared.unit.Unit as U
@@ -52,7 +52,7 @@ module _ (p : PreparedParts) (s t : Spaced) (labels others code more init filled
 
   -- the graph of a code as long as this one
   abbrev graph_at : List ℕ → ProgramAtMap → List ℕ → GraphParts
-  graph_at bytes layout ls = record { code = length bytes; lines = graph_lines layout ls }
+  graph_at bytes layout ls = record { version = graph_version p.form; code = length bytes; lines = graph_lines layout ls }
 
   graph_is : h.graph ≡ g.graph
   graph_is =

@@ -1,6 +1,8 @@
 -- One program with one closed graph and one entry is right for a request.
 use Rattle.std.proofs.Common.{◌≡◌, ℕ, List, Option, Some, sym, ap, subst, ◌∙◌}
 use Rattle.std.proofs.lemmas.Option.{same_Some}
+use Rattle.rv_word.specs.Form.{graph_version}
+use Rattle.rv_word.specs.declared.form.Form.{Form}
 use Rattle.obj_program.specs.Program.{Program}
 use Rattle.cfi_flow.specs.Closed.{ClosedGraph, IsClosed}
 use Rattle.cfi_flow.specs.Entry.{entry_place}
@@ -10,14 +12,14 @@ use Rattle.cfi_harden.specs.Request.{policy_reading}
 use Rattle.cfi_single.specs.OneWay.{PreparedInOneWay}
 use Rattle.cfi_single.proofs.Graphs.{closed_unique, raw_unique}
 
--- the closed graph of a program under the text of a policy
-pub closed_under_unique : (program : Program) (policy : Option (List ℕ)) (c d : ClosedGraph) → IsClosedUnder program policy c
-    → IsClosedUnder program policy d → c ≡ d
-closed_under_unique program policy c d hc hd =
+-- the closed graph of a program, for a version of graphs, under the text of a policy
+pub closed_under_unique : (version : ℕ) (program : Program) (policy : Option (List ℕ)) (c d : ClosedGraph) → IsClosedUnder version program policy c
+    → IsClosedUnder version program policy d → c ≡ d
+closed_under_unique version program policy c d hc hd =
     let (r, is_r, of_r) = hc.drawn in
     let (s, is_s, of_s) = hd.drawn in
     let same : r ≡ s = raw_unique program (policy_reading policy).items r s is_r is_s in
-    closed_unique r c d of_r (subst (λ (raw : RawGraph). IsClosed raw d) (sym same) of_s)
+    closed_unique version r c d of_r (subst (λ (raw : RawGraph). IsClosed version raw d) (sym same) of_s)
 
 entry_unique : (program : Program) (name : List ℕ) (a b : ℕ) → entry_place program name ≡ Some a
     → entry_place program name ≡ Some b → a ≡ b
@@ -30,8 +32,11 @@ prepared_unique request p q hp hq =
     let enters : entry_place p.program request.entry ≡ Some q.entry =
     ap (λ (x : Program). entry_place x request.entry) program ∙ hq.entry in
     let entry : p.entry ≡ q.entry = entry_unique p.program request.entry p.entry q.entry hp.entry enters in
-    let under : IsClosedUnder p.program request.policy q.closed =
-    subst (λ (x : Program). IsClosedUnder x request.policy q.closed) (sym program) hq.closed in
-    let closed : p.closed ≡ q.closed = closed_under_unique p.program request.policy p.closed q.closed hp.closed under in
     let form : p.form ≡ q.form = hp.form ∙ sym hq.form in
+    let version = graph_version p.form in
+    let here : IsClosedUnder version q.program request.policy q.closed =
+    subst (λ (f : Form). IsClosedUnder (graph_version f) q.program request.policy q.closed) (sym form) hq.closed in
+    let under : IsClosedUnder version p.program request.policy q.closed =
+    subst (λ (x : Program). IsClosedUnder version x request.policy q.closed) (sym program) here in
+    let closed : p.closed ≡ q.closed = closed_under_unique version p.program request.policy p.closed q.closed hp.closed under in
     λ i. record { form = form i; program = program i; closed = closed i; entry = entry i }

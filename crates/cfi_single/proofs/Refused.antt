@@ -5,6 +5,7 @@ use Rattle.std.proofs.lemmas.Option.{same_Some}
 use Rattle.least.specs.declared.place.Place.{Place}
 use Rattle.text_lines.specs.declared.end.TextEnd.{TextEnd}
 use Rattle.text_lines.specs.declared.end.TextEnd.TheVariants.{Line}
+use Rattle.rv_word.specs.Form.{graph_version}
 use Rattle.obj_program.specs.Program.{Program}
 use Rattle.cfi_flow.specs.Entry.{entry_place}
 use Rattle.cfi_flow.specs.Policy.{wrong_line}
@@ -47,8 +48,8 @@ module _ (request : ProgramRequest) (p : PreparedParts) (prepared : IsPreparedOf
   entry_there : entry_place request.program request.entry ≡ Some p.entry
   entry_there = subst (λ (x : Program). entry_place x request.entry ≡ Some p.entry) prepared.program prepared.entry
 
-  closed_there : IsClosedUnder request.program request.policy p.closed
-  closed_there = subst (λ (x : Program). IsClosedUnder x request.policy p.closed) prepared.program prepared.closed
+  closed_there : IsClosedUnder (graph_version p.form) request.program request.policy p.closed
+  closed_there = subst (λ (x : Program). IsClosedUnder (graph_version p.form) x request.policy p.closed) prepared.program prepared.closed
 
   policy_right : (n : ℕ) → IsWrongPolicy request.program request.policy n → ⊥
   policy_right n wrong =

@@ -14,7 +14,9 @@ use Rattle.cfi_class.specs.Labels.{AreLabels, IsLeastFree}
 use Rattle.cfi_map.specs.GraphAtMap.{ProgramAtMap, gate_to}
 use Rattle.cfi_map.specs.LabelOf.{site_label}
 use Rattle.cfi_map.specs.Placement.{whole_at}
+use Rattle.cfi_unit.specs.declared.target_word.TargetWord.{TargetWord}
 use Rattle.cfi_unit.specs.declared.unit.Unit as U
+use Rattle.cfi_rules.specs.Rules.{jump_word}
 use Rattle.cfi_rules.specs.Split.{code_words}
 use Rattle.cfi_map.specs.Shorts.{is_branch}
 use Rattle.cfi_harden.specs.Units.{Choice, instr_of, lead, unit_for, unit_of, units_from}
@@ -47,21 +49,21 @@ labels_unique used a b many ha hb =
     ∙ take_all (length a) b (omega arith)
 
 -- units
-unit_same : (kind : ItemKind) (i : Instr) (a b : Bool) (target label : ℕ) → (is_branch kind ≡ true → a ≡ b)
-    → unit_of kind i a target label ≡ unit_of kind i b target label
-unit_same is.Branch i a b target label same = ap (λ (l : Bool). unit_of is.Branch i l target label) (same refl)
-unit_same is.Gate (I.Upper op rd imm) a b target label same = refl
-unit_same is.Gate other a b target label same = refl
-unit_same is.Store (I.Store op rs1 rs2 imm) a b target label same = refl
-unit_same is.Store other a b target label same = refl
-unit_same is.System I.Ecall a b target label same = refl
-unit_same is.System I.Ebreak a b target label same = refl
-unit_same is.System other a b target label same = refl
-unit_same is.Ijump (I.Jalr rd rs1 imm) a b target label same = refl
-unit_same is.Ijump other a b target label same = refl
-unit_same is.Icall (I.Jalr rd rs1 imm) a b target label same = refl
-unit_same is.Icall other a b target label same = refl
-unit_same kind i a b target label same = refl
+unit_same : (kind : ItemKind) (i : Instr) (a b : Bool) (target : ℕ) (which : TargetWord) (label : ℕ) → (is_branch kind ≡ true → a ≡ b)
+    → unit_of kind i a target which label ≡ unit_of kind i b target which label
+unit_same is.Branch i a b target which label same = ap (λ (l : Bool). unit_of is.Branch i l target which label) (same refl)
+unit_same is.Gate (I.Upper op rd imm) a b target which label same = refl
+unit_same is.Gate other a b target which label same = refl
+unit_same is.Store (I.Store op rs1 rs2 imm) a b target which label same = refl
+unit_same is.Store other a b target which label same = refl
+unit_same is.System I.Ecall a b target which label same = refl
+unit_same is.System I.Ebreak a b target which label same = refl
+unit_same is.System other a b target which label same = refl
+unit_same is.Ijump (I.Jalr rd rs1 imm) a b target which label same = refl
+unit_same is.Ijump other a b target which label same = refl
+unit_same is.Icall (I.Jalr rd rs1 imm) a b target which label same = refl
+unit_same is.Icall other a b target which label same = refl
+unit_same kind i a b target which label same = refl
 
 -- a program at a map with these labels, under these flags
 abbrev pub under : ProgramAtMap → List ℕ → List Bool → Choice
@@ -76,7 +78,7 @@ units_same layout labels whole more k (item ∷ items) same =
     let rest = units_same layout labels whole more (k + 1) items (rest_branches whole more k item items same) in
     let one : unit_for (under layout labels whole) k item ≡ unit_for (under layout labels more) k item =
     unit_same item.kind (instr_of (under layout labels whole) k) (whole_at whole k) (whole_at more k) (gate_to layout item.target)
-    (site_label labels layout.closed.sides k) (first_branch whole more k item items same) in
+    (jump_word layout.closed.version) (site_label labels layout.closed.sides k) (first_branch whole more k item items same) in
     ap (λ (u : U.Unit). before ++ (u ∷ units_from (under layout labels whole) (k + 1) items)) one
     ∙ ap (λ (us : List U.Unit). before ++ (unit_for (under layout labels more) k item ∷ us)) rest
 

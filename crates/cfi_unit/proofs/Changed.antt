@@ -58,7 +58,7 @@ module _ (part : ℕ) (m m' : Memory) (same : SameOn part (part + PART_SIZE) m m
   unit_same image (V.System op) at pending r h i = i
   unit_same image (V.Store op rs1 rs2 imm) at pending r h i = i
   unit_same image (V.Call target) at pending r h i = call_same i
-  unit_same image (V.Ijump rs1 imm label) at pending r h i = i
+  unit_same image (V.Ijump which rs1 imm label) at pending r h i = i
   unit_same image (V.Icall rs1 imm label) at pending r h i = icall_same i
   unit_same image V.Return at [] r h i = i
   unit_same image V.Return at (site ∷ pending) r h i = i
@@ -91,7 +91,7 @@ module _ (part : ℕ) (image : Memory) (at : ℕ) (h : Hart) (m : Memory) where
   unit_begins (V.System op) site pending x3 e = only e x3
   unit_begins (V.Store op rs1 rs2 imm) site pending x3 e = store_addi e x3
   unit_begins (V.Call target) site pending x3 e = call_push (push_slli e refl x3)
-  unit_begins (V.Ijump rs1 imm label) site pending x3 e = ijump_check (check_addi e x3 refl)
+  unit_begins (V.Ijump which rs1 imm label) site pending x3 e = ijump_check (check_addi e x3 refl)
   unit_begins (V.Icall rs1 imm label) site pending x3 e = icall_check (check_addi e x3 refl)
   unit_begins V.Return site pending x3 e = return_ld e x3 refl
 

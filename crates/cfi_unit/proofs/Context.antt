@@ -3,7 +3,7 @@
 use Rattle.std.proofs.Common.{◌≡◌, ℕ, zero, suc, ◌+◌, ◌*◌, ◌<◌, ◌≤◌, ◌⊎◌, inl, inr, List, [], ◌∷◌, ◌++◌, length, length-append, Some, true, refl, ap, ◌∙◌, arith}
 use Rattle.std.specs.Prelude.{slice_get}
 use Rattle.std.proofs.lemmas.Option.{slice_get_within}
-use Rattle.rv_word.specs.MemoryMap.{Profile, CODE_START, CODE_SIZE, DATA_END, SHADOW_START, PART_SIZE}
+use Rattle.rv_word.specs.MemoryMap.{Profile, CODE_START, CODE_SIZE, CODE_TAIL, DATA_END, SHADOW_START, PART_SIZE}
 use Rattle.rv_word.specs.Memory.{Memory, read, write}
 use Rattle.rv_word.specs.Same.{SameOn}
 use Rattle.rv_instr.specs.declared.instr.Instr.{Instr}
@@ -85,7 +85,7 @@ module _ {part : ℕ} {image base : Memory} {pending : List ℕ} {m : Memory} wh
 
   -- so do changes outside of code and of the own part, seen from the memory after them
   pub kept_changed : length pending ≤ MOST_PENDING → Kept part image base pending m → (m' : Memory) →
-      SameOn CODE_START (CODE_START + CODE_SIZE) m m' → SameOn part (part + PART_SIZE) m m' → Kept part image m' pending m'
+      SameOn CODE_START (CODE_START + CODE_SIZE + CODE_TAIL) m m' → SameOn part (part + PART_SIZE) m m' → Kept part image m' pending m'
   kept_changed most c m' code own = record {
     code = λ k from to. code k from to ∙ c.code k from to;
     held = holds_same part pending m m' (λ k from to. own k from (omega arith)) c.held;

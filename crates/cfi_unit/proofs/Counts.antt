@@ -14,7 +14,7 @@ some_word V.Stop = omega arith
 some_word (V.System op) = omega arith
 some_word (V.Store op rs1 rs2 imm) = omega arith
 some_word (V.Call target) = omega arith
-some_word (V.Ijump rs1 imm label) = omega arith
+some_word (V.Ijump which rs1 imm label) = omega arith
 some_word (V.Icall rs1 imm label) = omega arith
 some_word V.Return = omega arith
 
@@ -28,6 +28,6 @@ most_words V.Stop = omega arith
 most_words (V.System op) = omega arith
 most_words (V.Store op rs1 rs2 imm) = omega arith
 most_words (V.Call target) = omega arith
-most_words (V.Ijump rs1 imm label) = omega arith
+most_words (V.Ijump which rs1 imm label) = omega arith
 most_words (V.Icall rs1 imm label) = omega arith
 most_words V.Return = omega arith

@@ -47,7 +47,7 @@ module _ (may : Shared → Shared → Type 0) (harmless : IsHarmless may) (p : P
     body_does (V.System S.Ebreak) pending stand some most w c x3 = ebreak_does at (first pending c) e w
     body_does (V.Store op rs1 rs2 imm) pending stand some most w c x3 = store_does at (first pending c) e x3 op rs1 rs2 imm w
     body_does (V.Call target) pending stand some most w c x3 = call_does at pending (first pending c) e x3 most target stand.0 w
-    body_does (V.Ijump rs1 imm label) pending stand some most w c x3 = ijump_does at pending (first pending c) e x3 most rs1 imm label small stand.0 w
+    body_does (V.Ijump which rs1 imm label) pending stand some most w c x3 = ijump_does at pending (first pending c) e x3 most rs1 imm label small which stand.0 w
     body_does (V.Icall rs1 imm label) pending stand some most w c x3 = icall_does at pending (first pending c) e x3 most rs1 imm label small stand.0 w
     body_does V.Return [] stand some most w c x3 = absurd (let none : length {A = ℕ} [] ≡ 0 = refl in omega arith)
     body_does V.Return (site ∷ pending) stand some most w c x3 =
@@ -130,7 +130,7 @@ one_word V.Stop = refl
 one_word (V.System op) = refl
 one_word (V.Store op rs1 rs2 imm) = refl
 one_word (V.Call target) = refl
-one_word (V.Ijump rs1 imm label) = refl
+one_word (V.Ijump which rs1 imm label) = refl
 one_word (V.Icall rs1 imm label) = refl
 one_word V.Return = refl
 

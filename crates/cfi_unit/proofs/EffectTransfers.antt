@@ -2,7 +2,7 @@
 use Rattle.std.proofs.Common.{◌≡◌, ℕ, suc, ◌+◌, ◌*◌, ◌-◌, ◌==◌, ◌/◌, ◌%◌, ◌^◌, ◌<◌, ◌≤◌, not, inl, inr, true, false, List, ◌∷◌, length, bit_and, refl, sym, ap, subst, ◌∙◌, arith}
 use Rattle.std.proofs.lemmas.Bool.{eqb-true, eqb-false, not-true, not-false}
 use Rattle.std.proofs.lemmas.Nat.Bits.{and_high_mask}
-use Rattle.rv_word.specs.MemoryMap.{Profile, CODE_START, CODE_SIZE}
+use Rattle.rv_word.specs.MemoryMap.{Profile, CODE_START, CODE_SIZE, CODE_TAIL}
 use Rattle.rv_word.specs.Memory.{Memory, read}
 use Rattle.rv_instr.specs.Registers.{Registers, set_reg}
 use Rattle.rv_instr.specs.declared.instr.BranchOp.TheVariants.{Beq, Bne}
@@ -13,9 +13,11 @@ use Rattle.rv_code.specs.State.{Hart, Shared, After}
 use Rattle.rv_code.specs.Step.{address, offset}
 use Rattle.rv_code.proofs.Frames.{read_same, read_write}
 use Rattle.rv_code.proofs.Within.{onward_then, within_then}
+use Rattle.cfi_unit.specs.declared.target_word.TargetWord.{TargetWord}
+use Rattle.cfi_unit.specs.declared.target_word.TargetWord.TheVariants.{First}
 use Rattle.cfi_unit.specs.declared.unit.Unit as U
 use Rattle.cfi_unit.specs.declared.unit.Unit.TheVariants as V
-use Rattle.cfi_unit.specs.UnitWords.{BAD_TARGET, BAD_RETURN, DEEP, CheckFits, Fits, MINUS_EIGHT, Reaches, check, instrs_of, push}
+use Rattle.cfi_unit.specs.UnitWords.{BAD_TARGET, BAD_RETURN, DEEP, CheckFits, Fits, MINUS_EIGHT, Reaches, check, instrs_of, past, push}
 use Rattle.cfi_unit.specs.Shadow.{slot, MOST_PENDING}
 use Rattle.cfi_unit.specs.Stand.{Stand}
 use Rattle.cfi_unit.specs.Context.{Context}
@@ -24,7 +26,7 @@ use Rattle.cfi_unit.specs.Leads.{HasLabel, sum_of, destination}
 use Rattle.cfi_unit.specs.Leaving.{SameRegisters, SameScratch, LeftTo, pushed}
 use Rattle.cfi_unit.proofs.Context.{kept_push, kept_pending, kept_popped, stand_front, stand_back}
 use Rattle.cfi_unit.proofs.Jumps.{jump_leads}
-use Rattle.cfi_unit.proofs.Labels.{word_small, same_word, word_same}
+use Rattle.cfi_unit.proofs.Labels.{word_small, same_word, word_same, past_near, read_at}
 use Rattle.cfi_unit.proofs.Regions.{can_load_code, can_load_part, can_store_part}
 use Rattle.cfi_unit.proofs.EffectSteps.{Now, RunsOn, Runs, before, onto, onto_put, onto_branch, onto_jump, onto_load, onto_store, same_link}
 use Rattle.cfi_unit.proofs.EffectUnits.{halts_at}
@@ -94,12 +96,12 @@ cleared : (sum : ℕ) → sum < 2 ^ 64 → bit_and sum (2 ^ 64 - 2 ^ 2) ≡ sum 
 cleared sum small = and_high_mask 64 2 (omega arith) sum small
 
 module _ {may : Shared → Shared → Type 0} {p : Profile} {part : ℕ} {image base : Memory} {pending : List ℕ} {r : Registers} {start : Shared} where
-  module _ (at rs1 imm label : ℕ) (Q : After → Type 0) (h : Hart) (s : Shared) (now : Now may p part image base pending r start h s) (e : h.pc ≡ at) (x3 : h.regs 3 ≡ slot part (length pending)) (small : (k : ℕ) → image k < 2 ^ 8) (fits : CheckFits at rs1 imm label) (w : Stand image at (check at rs1 imm label)) where
+  module _ (which : TargetWord) (at rs1 imm label : ℕ) (Q : After → Type 0) (h : Hart) (s : Shared) (now : Now may p part image base pending r start h s) (e : h.pc ≡ at) (x3 : h.regs 3 ≡ slot part (length pending)) (small : (k : ℕ) → image k < 2 ^ 8) (fits : CheckFits at rs1 imm label) (w : Stand image at (check at rs1 imm label which)) where
     -- a check: on to the transfer where the destination bears the label, else to the handler
     pub check_does :
-        ((h' : Hart) (s' : Shared) → HasLabel image label (destination h.regs rs1 imm) → h'.pc ≡ at + 48 → h'.regs 3 ≡ slot part (length pending) →
+        ((h' : Hart) (s' : Shared) → HasLabel image which label (destination h.regs rs1 imm) → h'.pc ≡ at + 48 → h'.regs 3 ≡ slot part (length pending) →
         h'.regs 31 ≡ destination h.regs rs1 imm → Now may p part image base pending r start h' s' → Q (before h' s')) →
-        ((h' : Hart) (s' : Shared) → (HasLabel image label (destination h.regs rs1 imm) → ⊥) → h'.pc ≡ BAD_TARGET →
+        ((h' : Hart) (s' : Shared) → (HasLabel image which label (destination h.regs rs1 imm) → ⊥) → h'.pc ≡ BAD_TARGET →
         Now may p part image base pending r start h' s' → Q (before h' s')) →
         RunsOn may p r 11 Q (before h s)
     check_does legal illegal =
@@ -118,28 +120,29 @@ module _ {may : Shared → Shared → Type 0} {p : Profile} {part : ℕ} {image 
         let first : CODE_START ≤ v = omega arith in
         let last : v + 4 ≤ CODE_START + CODE_SIZE = omega arith in
         let round : v % 4 ≡ 0 = omega arith in
-        let found = offset 32 (read 4 image v) in
+        let near = past_near which in
+        let found = offset 32 (read 4 image (v + past which)) in
         let upper = offset 32 (label * 2 ^ 12) in
-        inr (onto_load 5 Q now6 w 7 e6 Lw 30 31 0 refl refl v found (omega arith) (can_load_code p v 4 first last) (λ s7 c. code_read v s7 c first last)
+        inr (onto_load 5 Q now6 w 7 e6 Lw 30 31 (past which) refl refl (v + past which) found (read_at which v (omega arith)) (can_load_code p (v + past which) 4 (omega arith) (omega arith)) (λ s7 c. code_read (v + past which) s7 c (omega arith) (omega arith))
         (λ pc7 s7 e7 now7. inr (onto_put 4 Q now7 w 8 e7 _ refl 4 _ upper refl (λ s8. refl) refl
         (λ pc8 s8 e8 now8. inr (onto_put 3 Q now8 w 9 e8 _ refl 4 _ ((upper + 55) % 2 ^ 64) refl (λ s9. refl) refl
         (λ pc9 s9 e9 now9. inr (onto_branch 2 Q now9 w 10 e9 Beq 30 4 refl
         (λ same pc10 s10 e10 now10.
-        let word = same_word (read 4 image v) label (word_small image v small) fits.2 (eqb-true found ((upper + 55) % 2 ^ 64) same) in
+        let word = same_word (read 4 image (v + past which)) label (word_small image (v + past which) small) fits.2 (eqb-true found ((upper + 55) % 2 ^ 64) same) in
         inl (legal _ s10 (record { round = round; low = first; high = last; word = word }) e10 x3 refl now10))
         (λ other pc10 s10 e10 now10.
         let apart = eqb-false found ((upper + 55) % 2 ^ 64) other in
         inr (onto_jump 1 Q now10 w 11 e10 (at + 44) BAD_TARGET refl (omega arith) fits.4
-        (λ pc11 s11 to now11. inl (illegal _ s11 (λ has. apart (word_same (read 4 image v) label fits.2 has.word)) to now11))))))))))))
+        (λ pc11 s11 to now11. inl (illegal _ s11 (λ has. apart (word_same (read 4 image (v + past which)) label fits.2 has.word)) to now11))))))))))))
         (λ outside pc6 s6 e6 now6.
         inr (onto_jump 5 Q now6 w 6 e6 (at + 24) BAD_TARGET refl (omega arith) fits.3
         (λ pc7 s7 to now7. inl (illegal _ s7 (beyond outside) to now7))))))))))))))
       where
-        code_read : (v : ℕ) (s' : Shared) → Context part image base pending s' → CODE_START ≤ v → v + 4 ≤ CODE_START + CODE_SIZE →
-            offset 32 (read 4 s'.memory v) ≡ offset 32 (read 4 image v)
-        code_read v s' c first last = ap (offset 32) (read_same 4 image s'.memory v (λ k from to. c.kept.code k (omega arith) (omega arith)))
+        code_read : (a : ℕ) (s' : Shared) → Context part image base pending s' → CODE_START ≤ a → a + 4 ≤ CODE_START + CODE_SIZE + CODE_TAIL →
+            offset 32 (read 4 s'.memory a) ≡ offset 32 (read 4 image a)
+        code_read a s' c first last = ap (offset 32) (read_same 4 image s'.memory a (λ k from to. c.kept.code k (omega arith) (omega arith)))
 
-        beyond : (difference (destination h.regs rs1 imm) CODE_START / 2 ^ 20 == 0) ≡ false → HasLabel image label (destination h.regs rs1 imm) → ⊥
+        beyond : (difference (destination h.regs rs1 imm) CODE_START / 2 ^ 20 == 0) ≡ false → HasLabel image which label (destination h.regs rs1 imm) → ⊥
         beyond outside has =
             let not_zero = eqb-false (difference (destination h.regs rs1 imm) CODE_START / 2 ^ 20) 0 outside in
             let low = has.low in
@@ -182,8 +185,8 @@ module _ {may : Shared → Shared → Type 0} {p : Profile} {part : ℕ} {image 
 
     module _ (rs1 imm label : ℕ) (small : (k : ℕ) → image k < 2 ^ 8) where
       -- the jump to x31 clears its lowest bit, which is 0
-      arrives : (pc v : ℕ) (regs : Registers) → regs 31 ≡ v → HasLabel image label v → address (record { pc = pc; regs = regs }) 31 0 / 2 * 2 ≡ v
-      arrives pc v regs is legal = let round = legal.round in let high = legal.high in omega arith
+      arrives : (which : TargetWord) (pc v : ℕ) (regs : Registers) → regs 31 ≡ v → HasLabel image which label v → address (record { pc = pc; regs = regs }) 31 0 / 2 * 2 ≡ v
+      arrives which pc v regs is legal = let round = legal.round in let high = legal.high in omega arith
 
       -- a call's site, by another expression
       same_site : (to site site' : ℕ) (after : After) → site ≡ site' →
@@ -193,20 +196,20 @@ module _ {may : Shared → Shared → Type 0} {p : Profile} {part : ℕ} {image 
           subst (λ x. LeftTo part image base to (x ∷ pending) (set_reg h.regs 1 x) (may (pushed part (length pending) x s)) after) same left
 
       -- a check writes all three
-      jump_writes : (regs : Registers) → SameScratch (instrs_of (V.Ijump rs1 imm label) at) h.regs regs
-      jump_writes regs = record { x4 = λ free. absurd (cc); x30 = λ free. absurd (cc); x31 = λ free. absurd (cc) }
+      jump_writes : (which : TargetWord) (regs : Registers) → SameScratch (instrs_of (V.Ijump which rs1 imm label) at) h.regs regs
+      jump_writes which regs = record { x4 = λ free. absurd (cc); x30 = λ free. absurd (cc); x31 = λ free. absurd (cc) }
 
       call_writes : (regs : Registers) → SameScratch (instrs_of (V.Icall rs1 imm label) at) h.regs regs
       call_writes regs = record { x4 = λ free. absurd (cc); x30 = λ free. absurd (cc); x31 = λ free. absurd (cc) }
 
-      pub ijump_does : Fits (V.Ijump rs1 imm label) at → Stand image at (instrs_of (V.Ijump rs1 imm label) at) →
-          RunsOn may p h.regs 12 (Does (V.Ijump rs1 imm label)) (before h s)
-      ijump_does fits w =
-          let Q : After → Type 0 = Does (V.Ijump rs1 imm label) in
+      pub ijump_does : (which : TargetWord) → Fits (V.Ijump which rs1 imm label) at → Stand image at (instrs_of (V.Ijump which rs1 imm label) at) →
+          RunsOn may p h.regs 12 (Does (V.Ijump which rs1 imm label)) (before h s)
+      ijump_does which fits w =
+          let Q : After → Type 0 = Does (V.Ijump which rs1 imm label) in
           let R : After → Type 0 = Runs may p h.regs 1 Q in
           let v = destination h.regs rs1 imm in
           onward_then (Inside h.regs) may p 11 1 R Q (before h s)
-          (check_does at rs1 imm label R h s now e x3 small fits (stand_front (check at rs1 imm label) _ w)
+          (check_does which at rs1 imm label R h s now e x3 small fits (stand_front (check at rs1 imm label which) _ w)
           (λ h' s' legal e' x3' x31 now'.
           inr (onto 0 Q now' w 12 e' _ refl
           (λ s'' on. (
@@ -214,16 +217,16 @@ module _ {may : Shared → Shared → Type 0} {p : Profile} {part : ℕ} {image 
               legal,
               record {
                 turn = refl;
-                pc = arrives h'.pc v h'.regs x31 legal;
+                pc = arrives which h'.pc v h'.regs x31 legal;
                 regs = on.same;
                 pointer = x3';
                 shared = on.since;
                 context = on.context;
               },
             ),
-            jump_writes _,
+            jump_writes which _,
           ))))
-          (λ h' s' illegal to now'. inl (inr (illegal, halts_at BAD_TARGET now' to), jump_writes h'.regs)))
+          (λ h' s' illegal to now'. inl (inr (illegal, halts_at BAD_TARGET now' to), jump_writes which h'.regs)))
           (λ b on. on)
 
       pub icall_does : Fits (V.Icall rs1 imm label) at → Stand image at (instrs_of (V.Icall rs1 imm label) at) →
@@ -235,10 +238,10 @@ module _ {may : Shared → Shared → Type 0} {p : Profile} {part : ℕ} {image 
           let v = destination h.regs rs1 imm in
           let deep : at + 56 ≡ at + 48 + 8 = omega arith in
           onward_then (Inside h.regs) may p 11 8 R' Q (before h s)
-          (check_does at rs1 imm label R' h s now e x3 small fits.0 (stand_front (check at rs1 imm label) _ w)
+          (check_does First at rs1 imm label R' h s now e x3 small fits.0 (stand_front (check at rs1 imm label First) _ w)
           (λ h' s' legal e' x3' x31 now'.
           within_then (Inside h.regs) may p 7 1 R Q (before h' s')
-          (inr (push_does (at + 48) R h' s' now' most e' x3' (stand_front (push (at + 48)) _ (stand_back (check at rs1 imm label) _ w))
+          (inr (push_does (at + 48) R h' s' now' most e' x3' (stand_front (push (at + 48)) _ (stand_back (check at rs1 imm label First) _ w))
           (subst (λ a. Reaches a DEEP) deep fits.1)
           (λ h2 s2 room e2 x3_2 x4_2 x31_2 now2.
           inr (onto 0 Q now2 w 19 (omega arith) _ refl
@@ -249,7 +252,7 @@ module _ {may : Shared → Shared → Type 0} {p : Profile} {part : ℕ} {image 
                 room,
                 same_site v (at + 48 + 32) (at + 80) _ (omega arith) (record {
                   turn = refl;
-                  pc = arrives h2.pc v h2.regs (x31_2 ∙ x31) legal;
+                  pc = arrives First h2.pc v h2.regs (x31_2 ∙ x31) legal;
                   regs = same_link h.regs h2.regs (h2.pc + 4) (at + 48 + 32) (omega arith) on.same;
                   pointer = x3_2;
                   shared = on.since;

@@ -16,14 +16,16 @@ use Rattle.rv_instr.specs.declared.instr.UpperOp.TheVariants.{Lui, Auipc}
 use Rattle.rv_instr.specs.declared.instr.ImmediateOp.TheVariants.{Addi, Andi}
 use Rattle.rv_instr.specs.declared.instr.ShiftOp.TheVariants.{Slli}
 use Rattle.rv_instr.specs.declared.instr.BranchOp.{BranchOp}
-use Rattle.rv_instr.specs.declared.instr.LoadOp.TheVariants.{Ld}
+use Rattle.rv_instr.specs.declared.instr.LoadOp.TheVariants.{Ld, Lw}
 use Rattle.rv_instr.specs.declared.instr.StoreOp.{StoreOp}
 use Rattle.rv_code.proofs.ReadBack.{decoded-code_of}
+use Rattle.cfi_unit.specs.declared.target_word.TargetWord.{TargetWord}
+use Rattle.cfi_unit.specs.declared.target_word.TargetWord.TheVariants.{First, Second}
 use Rattle.cfi_unit.specs.declared.unit.Unit as U
 use Rattle.cfi_unit.specs.declared.unit.Unit.TheVariants as V
 use Rattle.cfi_unit.specs.declared.unit.SystemOp.TheVariants as S
-use Rattle.cfi_unit.specs.UnitWords.{BAD_TARGET, MINUS_EIGHT, MINUS_FOUR, Begins, Fits, IsNear, Reaches, gate, instr_at, is_plain, jump, jump_offset, may_precede, near_offset, skips_jump, word_count, words_of}
-use Rattle.cfi_unit.specs.Recognise.{can_stand, jump_or_stop, led_to, recognised, stands, unit_from}
+use Rattle.cfi_unit.specs.UnitWords.{BAD_TARGET, MINUS_EIGHT, MINUS_FOUR, Begins, Fits, IsNear, Reaches, gate, instr_at, is_plain, jump, jump_offset, may_precede, near_offset, past, skips_jump, word_count, words_of}
+use Rattle.cfi_unit.specs.Recognise.{can_stand, jump_or_stop, led_to, read_by, recognised, stands, unit_from}
 use Rattle.cfi_unit.proofs.Stand.{and_both, fits_stand}
 
 pub recognised_by : (ws : List ℕ) (at : ℕ) (i : Instr) (u : U.Unit) → instr_at ws 0 ≡ Some i →
@@ -46,7 +48,7 @@ words_counted V.Stop at = refl
 words_counted (V.System op) at = refl
 words_counted (V.Store op rs1 rs2 imm) at = refl
 words_counted (V.Call target) at = refl
-words_counted (V.Ijump rs1 imm label) at = refl
+words_counted (V.Ijump which rs1 imm label) at = refl
 words_counted (V.Icall rs1 imm label) at = refl
 words_counted V.Return at = refl
 
@@ -134,10 +136,19 @@ store_from : (ws : List ℕ) (at : ℕ) (op : StoreOp) (rs1 rs2 imm : ℕ) → i
     instr_at ws 3 ≡ Some (Store op 31 rs2 0) → unit_from ws at (Immediate Addi 31 rs1 imm) ≡ Some (V.Store op rs1 rs2 imm)
 store_from ws at op rs1 rs2 imm a b = rw (a, b) refl
 
-ijump_from : (ws : List ℕ) (at rs1 imm label : ℕ) → instr_at ws 1 ≡ Some (Immediate Andi 31 31 MINUS_FOUR) →
-    instr_at ws 8 ≡ Some (Upper Lui 4 label) → instr_at ws 12 ≡ Some (Jalr 0 31 0) →
-    unit_from ws at (Immediate Addi 31 rs1 imm) ≡ Some (V.Ijump rs1 imm label)
-ijump_from ws at rs1 imm label a b c = rw (a, b, c) refl
+-- the word that a check reads, by the offset of its load
+pub read_past : (which : TargetWord) → read_by (past which) ≡ which
+read_past First = refl
+read_past Second = refl
+
+pub past_field : (which : TargetWord) → IsInstr (Load Lw 30 31 (past which))
+past_field First = (lit< tt, lit< tt, lit< tt)
+past_field Second = (lit< tt, lit< tt, lit< tt)
+
+ijump_from : (ws : List ℕ) (at : ℕ) (which : TargetWord) (rs1 imm label : ℕ) → instr_at ws 1 ≡ Some (Immediate Andi 31 31 MINUS_FOUR) →
+    instr_at ws 7 ≡ Some (Load Lw 30 31 (past which)) → instr_at ws 8 ≡ Some (Upper Lui 4 label) → instr_at ws 12 ≡ Some (Jalr 0 31 0) →
+    unit_from ws at (Immediate Addi 31 rs1 imm) ≡ Some (V.Ijump which rs1 imm label)
+ijump_from ws at which rs1 imm label a load b c = rw (a, load, b, c) (ap (λ w. Some (V.Ijump w rs1 imm label)) (read_past which))
 
 icall_from : (ws : List ℕ) (at rs1 imm label : ℕ) → instr_at ws 1 ≡ Some (Immediate Andi 31 31 MINUS_FOUR) →
     instr_at ws 8 ≡ Some (Upper Lui 4 label) → instr_at ws 12 ≡ Some (Shift Slli 30 3 48) →
@@ -194,11 +205,12 @@ found (V.Call target) at rest f ahead =
     recognised_by ws at (Shift Slli 30 3 48) u (decoded-code_of (Shift Slli 30 3 48) (lit< tt, lit< tt, lit< tt))
     (call_from ws at target (decoded-code_of (Jal 1 (jump_offset (at + 28) target)) (is_jump_instr 1 (at + 28) target (lit< tt))) f.1)
     (stands_there u at rest f ahead)
-found (V.Ijump rs1 imm label) at rest f ahead =
-    let u : U.Unit = V.Ijump rs1 imm label in
+found (V.Ijump which rs1 imm label) at rest f ahead =
+    let u : U.Unit = V.Ijump which rs1 imm label in
     let ws : List ℕ = words_of u at ++ rest in
     recognised_by ws at (Immediate Addi 31 rs1 imm) u (decoded-code_of (Immediate Addi 31 rs1 imm) (lit< tt, f.0, f.1))
-    (ijump_from ws at rs1 imm label (decoded-code_of (Immediate Andi 31 31 MINUS_FOUR) (lit< tt, lit< tt, lit< tt))
+    (ijump_from ws at which rs1 imm label (decoded-code_of (Immediate Andi 31 31 MINUS_FOUR) (lit< tt, lit< tt, lit< tt))
+    (decoded-code_of (Load Lw 30 31 (past which)) (past_field which))
     (decoded-code_of (Upper Lui 4 label) (lit< tt, f.2)) (decoded-code_of (Jalr 0 31 0) (lit< tt, lit< tt, lit< tt)))
     (stands_there u at rest f ahead)
 found (V.Icall rs1 imm label) at rest f ahead =

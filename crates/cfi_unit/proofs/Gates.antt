@@ -93,7 +93,7 @@ gate_unit (V.System S.Ecall) at k label fits is = other_unit (V.System S.Ecall) 
 gate_unit (V.System S.Ebreak) at k label fits is = other_unit (V.System S.Ebreak) at k label refl is
 gate_unit (V.Store op rs1 rs2 imm) at k label fits is = other_unit (V.Store op rs1 rs2 imm) at k label refl is
 gate_unit (V.Call target) at k label fits is = other_unit (V.Call target) at k label refl is
-gate_unit (V.Ijump rs1 imm other) at k label fits is = other_unit (V.Ijump rs1 imm other) at k label refl is
+gate_unit (V.Ijump which rs1 imm other) at k label fits is = other_unit (V.Ijump which rs1 imm other) at k label refl is
 gate_unit (V.Icall rs1 imm other) at k label fits is = other_unit (V.Icall rs1 imm other) at k label refl is
 gate_unit V.Return at k label fits is = other_unit V.Return at k label refl is
 
@@ -122,7 +122,7 @@ unit_size (V.System S.Ecall) at = refl
 unit_size (V.System S.Ebreak) at = refl
 unit_size (V.Store op rs1 rs2 imm) at = refl
 unit_size (V.Call target) at = refl
-unit_size (V.Ijump rs1 imm label) at = refl
+unit_size (V.Ijump which rs1 imm label) at = refl
 unit_size (V.Icall rs1 imm label) at = refl
 unit_size V.Return at = refl
 

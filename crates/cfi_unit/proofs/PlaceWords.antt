@@ -4,6 +4,7 @@ use Rattle.rv_word.specs.MemoryMap.{IsProfile, Profile}
 use Rattle.rv_word.specs.Memory.{Memory}
 use Rattle.rv_instr.specs.Registers.{Registers}
 use Rattle.rv_code.specs.State.{Hart}
+use Rattle.cfi_unit.specs.declared.target_word.TargetWord.{TargetWord}
 use Rattle.cfi_unit.specs.declared.unit.Unit as U
 use Rattle.cfi_unit.specs.declared.unit.Unit.TheVariants as V
 use Rattle.cfi_unit.specs.UnitWords.{word_count}
@@ -59,8 +60,8 @@ module _ {part : ℕ} {h : Hart} where
   return_word (return_other e x3 apart) = (3, omega arith, e)
   return_word (return_jump e x3 same x31) = (4, omega arith, e)
 
-  module _ {image : Memory} {at rs1 imm label sum v n : ℕ} where
-    check_words : InCheck part image at rs1 imm label sum v n h → Among 12 at h.pc
+  module _ {image : Memory} {which : TargetWord} {at rs1 imm label sum v n : ℕ} where
+    check_words : InCheck part image which at rs1 imm label sum v n h → Among 12 at h.pc
     check_words (check_addi e x3 is) = (0, omega arith, omega arith)
     check_words (check_andi e x3 x31) = (1, omega arith, e)
     check_words (check_lui e x3 x31) = (2, omega arith, e)
@@ -74,7 +75,7 @@ module _ {part : ℕ} {h : Hart} where
     check_words (check_word e x3 x31 code x30 x4) = (10, omega arith, e)
     check_words (check_other e x3 other) = (11, omega arith, e)
 
-    ijump_word : InIjump part image at rs1 imm label sum v n h → Among 13 at h.pc
+    ijump_word : InIjump part image which at rs1 imm label sum v n h → Among 13 at h.pc
     ijump_word (ijump_check i) = let w = check_words i in let below = w.1 in (w.0, omega arith, w.2)
     ijump_word (ijump_jump e checked) = (12, omega arith, e)
 
@@ -119,7 +120,7 @@ unit_word part image V.Stop at pending r h m i = only_word i
 unit_word part image (V.System op) at pending r h m i = only_word i
 unit_word part image (V.Store op rs1 rs2 imm) at pending r h m i = store_word i
 unit_word part image (V.Call target) at pending r h m i = call_word i
-unit_word part image (V.Ijump rs1 imm label) at pending r h m i = ijump_word i
+unit_word part image (V.Ijump which rs1 imm label) at pending r h m i = ijump_word i
 unit_word part image (V.Icall rs1 imm label) at pending r h m i = icall_word i
 unit_word part image V.Return at [] r h m i = absurd i
 unit_word part image V.Return at (site ∷ pending) r h m i = return_word i

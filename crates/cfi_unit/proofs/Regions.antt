@@ -1,7 +1,7 @@
 -- Which accesses of units stay in their regions.
 use Rattle.std.proofs.Common.{◌≡◌, ℕ, ◌+◌, ◌^◌, ◌<◌, ◌≤◌, true, arith}
 use Rattle.std.proofs.lemmas.Bool.Decides.{nat_tests}
-use Rattle.rv_word.specs.MemoryMap.{Profile, CODE_START, CODE_SIZE, PART_SIZE, can_load, can_store}
+use Rattle.rv_word.specs.MemoryMap.{Profile, CODE_START, CODE_SIZE, CODE_TAIL, PART_SIZE, can_load, can_store}
 use Rattle.rv_instr.specs.declared.instr.StoreOp.{StoreOp}
 use Rattle.rv_instr.specs.declared.instr.StoreOp.TheVariants.{Sb, Sh, Sw, Sd}
 use Rattle.rv_code.specs.Arithmetic.{store_size}
@@ -22,5 +22,5 @@ can_store_part p part a n own low high = let first = own.low in let last = own.h
 pub can_load_part : (p : Profile) (part a n : ℕ) → IsPart p part → part ≤ a → a + n ≤ part + PART_SIZE → can_load p a n ≡ true
 can_load_part p part a n own low high = let first = own.low in let last = own.high in grind (arith, nat_tests)
 
-pub can_load_code : (p : Profile) (a n : ℕ) → CODE_START ≤ a → a + n ≤ CODE_START + CODE_SIZE → can_load p a n ≡ true
+pub can_load_code : (p : Profile) (a n : ℕ) → CODE_START ≤ a → a + n ≤ CODE_START + CODE_SIZE + CODE_TAIL → can_load p a n ≡ true
 can_load_code p a n low high = grind (arith, nat_tests)

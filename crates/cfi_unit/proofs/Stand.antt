@@ -67,7 +67,7 @@ stand_fits (V.Store op rs1 rs2 imm) at r e = r
 stand_fits (V.Call target) at r e =
     let p = both (reaches (at + 8) DEEP) (reaches (at + 28) target) e in
     (told (at + 8) DEEP p.0, told (at + 28) target p.1)
-stand_fits (V.Ijump rs1 imm label) at r e =
+stand_fits (V.Ijump which rs1 imm label) at r e =
     let c = check_told at e in (r.0, r.1, r.2, c.0, c.1)
 stand_fits (V.Icall rs1 imm label) at r e =
     let p = both (check_reaches at) (reaches (at + 56) DEEP) e in
@@ -87,7 +87,7 @@ fits_stand (V.System op) at f = refl
 fits_stand (V.Store op rs1 rs2 imm) at f = refl
 fits_stand (V.Call target) at f =
     and_both (reaches (at + 8) DEEP) (reaches (at + 28) target) (tested (at + 8) DEEP f.0) (tested (at + 28) target f.1)
-fits_stand (V.Ijump rs1 imm label) at f = check_tested at f.3 f.4
+fits_stand (V.Ijump which rs1 imm label) at f = check_tested at f.3 f.4
 fits_stand (V.Icall rs1 imm label) at f =
     and_both (check_reaches at) (reaches (at + 56) DEEP) (check_tested at f.0.3 f.0.4) (tested (at + 56) DEEP f.1)
 fits_stand V.Return at f = tested (at + 12) BAD_RETURN f

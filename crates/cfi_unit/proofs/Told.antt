@@ -13,10 +13,11 @@ use Rattle.rv_instr.specs.declared.instr.Instr.TheVariants.{Upper, Jal, Jalr, Br
 use Rattle.rv_instr.specs.declared.instr.UpperOp.TheVariants.{Lui, Auipc}
 use Rattle.rv_code.specs.Decode.{decoded}
 use Rattle.rv_code.proofs.Inverse.{decoded-in_range}
+use Rattle.cfi_unit.specs.declared.target_word.TargetWord.{TargetWord}
 use Rattle.cfi_unit.specs.declared.unit.Unit as U
 use Rattle.cfi_unit.specs.declared.unit.Unit.TheVariants as V
 use Rattle.cfi_unit.specs.UnitWords.{BAD_TARGET, Begins, instr_at, may_precede, skips_jump, word_count, words_of}
-use Rattle.cfi_unit.specs.Recognise.{address_unit, can_stand, computed_unit, if_stands, jump_or_stop, label_in, led_to, near_to, recognised, stands, store_unit, target_in, unit_from, upper_unit}
+use Rattle.cfi_unit.specs.Recognise.{address_unit, can_stand, computed_unit, if_stands, jump_or_stop, label_in, led_to, near_to, read_in, recognised, stands, store_unit, target_in, unit_from, upper_unit}
 use Rattle.cfi_unit.specs.InRange.{IsInRange}
 use Rattle.cfi_unit.specs.Laws.{AreWords}
 use Rattle.cfi_unit.proofs.Stand.{both, stand_fits}
@@ -51,13 +52,13 @@ label_in_range (Some (Upper op rd imm)) label known e =
     let P : ℕ → Type 0 = λ n. n < 2 ^ 20 in subst P same s.1
 label_in_range other label known e = cc
 
-computed_in_range : (rs1 imm : ℕ) (o : Option Instr) (label : ℕ) → rs1 < 32 → imm < 2 ^ 12 → label < 2 ^ 20 →
-    IsInRange (computed_unit rs1 imm o label)
-computed_in_range rs1 imm (Some (Jalr rd base zero_imm)) label r i l = (r, i, l)
-computed_in_range rs1 imm other label r i l = (r, i, l)
+computed_in_range : (rs1 imm : ℕ) (o : Option Instr) (which : TargetWord) (label : ℕ) → rs1 < 32 → imm < 2 ^ 12 → label < 2 ^ 20 →
+    IsInRange (computed_unit rs1 imm o which label)
+computed_in_range rs1 imm (Some (Jalr rd base zero_imm)) which label r i l = (r, i, l)
+computed_in_range rs1 imm other which label r i l = (r, i, l)
 
 address_cases : (ws : List ℕ) (rs1 imm : ℕ) (o : Option Instr) → (address_unit ws rs1 imm o ≡ store_unit rs1 imm (instr_at ws 3))
-    ⊎ (address_unit ws rs1 imm o ≡ option_map (computed_unit rs1 imm (instr_at ws 12)) (label_in (instr_at ws 8)))
+    ⊎ (address_unit ws rs1 imm o ≡ option_map (computed_unit rs1 imm (instr_at ws 12) (read_in (instr_at ws 7))) (label_in (instr_at ws 8)))
 address_cases ws rs1 imm (Some (Shift op rd rs amount)) = inl refl
 address_cases ws rs1 imm other = inr refl
 
@@ -68,9 +69,9 @@ address_in_range ws rs1 imm u words r i e =
       | inl stored ↦
           store_in_range ws rs1 imm (instr_at ws 3) u (λ j at. instr_in_range ws 3 j words at) r i (sym stored ∙ e)
       | inr transfer ↦
-          let (label, at, same) = mapped (computed_unit rs1 imm (instr_at ws 12)) (label_in (instr_at ws 8)) u (sym transfer ∙ e) in
-          given (computed_unit rs1 imm (instr_at ws 12) label) u (ap Some same)
-          (computed_in_range rs1 imm (instr_at ws 12) label r i
+          let (label, at, same) = mapped (computed_unit rs1 imm (instr_at ws 12) (read_in (instr_at ws 7))) (label_in (instr_at ws 8)) u (sym transfer ∙ e) in
+          given (computed_unit rs1 imm (instr_at ws 12) (read_in (instr_at ws 7)) label) u (ap Some same)
+          (computed_in_range rs1 imm (instr_at ws 12) (read_in (instr_at ws 7)) label r i
           (label_in_range (instr_at ws 8) label (λ j there. instr_in_range ws 8 j words there) at))
     ]
 

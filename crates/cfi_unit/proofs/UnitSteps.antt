@@ -47,8 +47,8 @@ module _ (p : Profile) (part : ℕ) (image base : Memory) where
         store_law p part image base op rs1 rs2 imm at pending r h s own w c i
     body_law (V.Call target) at pending may most w c i =
         call_from at target pending r (step p h s) (call_law p part image base at (r 31) pending target h s own most may.0 w c i)
-    body_law (V.Ijump rs1 imm label) at pending may most w c i =
-        ijump_law p part image base rs1 imm label at pending r h s small may.0 w c i
+    body_law (V.Ijump which rs1 imm label) at pending may most w c i =
+        ijump_law p part image base rs1 imm label at pending r h s which small may.0 w c i
     body_law (V.Icall rs1 imm label) at pending may most w c i =
         icall_law p part image base rs1 imm label at pending r h s own most small may.0 w c i
     body_law V.Return at [] may most w c i = absurd i

@@ -1,12 +1,13 @@
 -- What a unit does, a row a unit: where it is left to, with which registers and pending sites, and
 -- what harts then share. `h` and `s` are the hart and what is shared at the unit's first word, and
--- `may` is what may happen between its words; `past` is the address after the unit.
+-- `may` is what may happen between its words; `following` is the address after the unit.
 use Rattle.std.specs.Prelude.{◌≡◌, ◌≢◌, ℕ, ◌<◌, ◌⊎◌, if◌then◌else◌, List, [], ◌∷◌, length}
 use Rattle.rv_word.specs.MemoryMap.{Profile}
 use Rattle.rv_word.specs.Memory.{Memory}
 use Rattle.rv_instr.specs.Registers.{get_reg, set_reg}
 use Rattle.rv_code.specs.Arithmetic.{branch_taken}
 use Rattle.rv_code.specs.State.{Hart, Shared, After}
+use Rattle.cfi_unit.specs.declared.target_word.TargetWord.TheVariants.{First}
 use Rattle.cfi_unit.specs.declared.unit.Unit as U
 use Rattle.cfi_unit.specs.declared.unit.Unit.TheVariants as V
 use Rattle.cfi_unit.specs.UnitWords.{BAD_TARGET, BAD_RETURN, DEEP, after_unit, system_instr}
@@ -32,27 +33,27 @@ module _ (p : Profile) (part : ℕ) (image base : Memory) (may : Shared → Shar
 
   -- a branch over a jump goes to its target where its condition is not met, a near one where it is
   abbrev pub DoesPast : U.Unit → ℕ → List ℕ → After → Type 0
-  DoesPast (V.Gate label) past pending after = LeftTo part image base past pending h.regs (may s) after
-  DoesPast (V.Plain instr) past pending after = Executes p part image base instr pending h (may s) after
-  DoesPast (V.Branch op rs1 rs2 target) past pending after =
-      LeftTo part image base (if branch_taken op (get_reg h.regs rs1) (get_reg h.regs rs2) then past else target) pending h.regs (may s) after
-  DoesPast (V.Near op rs1 rs2 target) past pending after =
-      LeftTo part image base (if branch_taken op (get_reg h.regs rs1) (get_reg h.regs rs2) then target else past) pending h.regs (may s) after
-  DoesPast (V.Jump target) past pending after = LeftTo part image base target pending h.regs (may s) after
-  DoesPast V.Stop past pending after = HaltsAt part image base BAD_TARGET pending h.regs (may s) after
-  DoesPast (V.System op) past pending after = Executes p part image base (system_instr op) pending h (may s) after
-  DoesPast (V.Store op rs1 rs2 imm) past pending after =
-      LeftTo part image base past pending h.regs (Stores p op rs1 rs2 imm h (may s)) after
-  DoesPast (V.Call target) past pending after = CallDoes target past pending after
-  DoesPast (V.Ijump rs1 imm label) past pending after =
-      Checks image label (destination h.regs rs1 imm)
+  DoesPast (V.Gate label) following pending after = LeftTo part image base following pending h.regs (may s) after
+  DoesPast (V.Plain instr) following pending after = Executes p part image base instr pending h (may s) after
+  DoesPast (V.Branch op rs1 rs2 target) following pending after =
+      LeftTo part image base (if branch_taken op (get_reg h.regs rs1) (get_reg h.regs rs2) then following else target) pending h.regs (may s) after
+  DoesPast (V.Near op rs1 rs2 target) following pending after =
+      LeftTo part image base (if branch_taken op (get_reg h.regs rs1) (get_reg h.regs rs2) then target else following) pending h.regs (may s) after
+  DoesPast (V.Jump target) following pending after = LeftTo part image base target pending h.regs (may s) after
+  DoesPast V.Stop following pending after = HaltsAt part image base BAD_TARGET pending h.regs (may s) after
+  DoesPast (V.System op) following pending after = Executes p part image base (system_instr op) pending h (may s) after
+  DoesPast (V.Store op rs1 rs2 imm) following pending after =
+      LeftTo part image base following pending h.regs (Stores p op rs1 rs2 imm h (may s)) after
+  DoesPast (V.Call target) following pending after = CallDoes target following pending after
+  DoesPast (V.Ijump which rs1 imm label) following pending after =
+      Checks image which label (destination h.regs rs1 imm)
       (LeftTo part image base (destination h.regs rs1 imm) pending h.regs (may s) after)
       (HaltsAt part image base BAD_TARGET pending h.regs (may s) after)
-  DoesPast (V.Icall rs1 imm label) past pending after =
-      Checks image label (destination h.regs rs1 imm)
-      (CallDoes (destination h.regs rs1 imm) past pending after)
+  DoesPast (V.Icall rs1 imm label) following pending after =
+      Checks image First label (destination h.regs rs1 imm)
+      (CallDoes (destination h.regs rs1 imm) following pending after)
       (HaltsAt part image base BAD_TARGET pending h.regs (may s) after)
-  DoesPast V.Return past pending after = ReturnDoes pending after
+  DoesPast V.Return following pending after = ReturnDoes pending after
 
   -- from a unit at an address
   abbrev pub UnitDoes : U.Unit → ℕ → List ℕ → After → Type 0

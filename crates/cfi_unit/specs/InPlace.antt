@@ -9,8 +9,11 @@ use Rattle.rv_instr.specs.Registers.{Registers}
 use Rattle.rv_code.specs.Arithmetic.{difference}
 use Rattle.rv_code.specs.State.{Hart}
 use Rattle.rv_code.specs.Step.{offset}
+use Rattle.cfi_unit.specs.declared.target_word.TargetWord.{TargetWord}
+use Rattle.cfi_unit.specs.declared.target_word.TargetWord.TheVariants.{First}
 use Rattle.cfi_unit.specs.declared.unit.Unit as U
 use Rattle.cfi_unit.specs.declared.unit.Unit.TheVariants as V
+use Rattle.cfi_unit.specs.UnitWords.{past}
 use Rattle.cfi_unit.specs.Prologue.{OPENING, call_at}
 use Rattle.cfi_unit.specs.Place.{Place, handler, opening, closing, body}
 use Rattle.cfi_unit.specs.Shadow.{slot, MOST_PENDING}
@@ -61,49 +64,49 @@ pub record InCode (v : ℕ) : Type 0 where
   pub high : v < CODE_START + CODE_SIZE
 
 -- the check of a computed transfer: `sum` is its destination before its low two bits are cleared, v
--- the same after
-pub data InCheck (part : ℕ) (image : Memory) (at rs1 imm label sum v n : ℕ) (h : Hart) : Type 0 where
+-- the same after, and `which` the word of it that is read
+pub data InCheck (part : ℕ) (image : Memory) (which : TargetWord) (at rs1 imm label sum v n : ℕ) (h : Hart) : Type 0 where
   check_addi : h.pc ≡ at → h.regs 3 ≡ slot part n → sum_of h.regs rs1 imm ≡ sum →
-      InCheck part image at rs1 imm label sum v n h
+      InCheck part image which at rs1 imm label sum v n h
   check_andi : h.pc ≡ at + 4 → h.regs 3 ≡ slot part n → h.regs 31 ≡ sum →
-      InCheck part image at rs1 imm label sum v n h
+      InCheck part image which at rs1 imm label sum v n h
   check_lui : h.pc ≡ at + 8 → h.regs 3 ≡ slot part n → h.regs 31 ≡ v →
-      InCheck part image at rs1 imm label sum v n h
+      InCheck part image which at rs1 imm label sum v n h
   check_sub : h.pc ≡ at + 12 → h.regs 3 ≡ slot part n → h.regs 31 ≡ v → h.regs 30 ≡ CODE_START →
-      InCheck part image at rs1 imm label sum v n h
+      InCheck part image which at rs1 imm label sum v n h
   check_srli : h.pc ≡ at + 16 → h.regs 3 ≡ slot part n → h.regs 31 ≡ v → h.regs 30 ≡ difference v CODE_START →
-      InCheck part image at rs1 imm label sum v n h
+      InCheck part image which at rs1 imm label sum v n h
   check_region : h.pc ≡ at + 20 → h.regs 3 ≡ slot part n → h.regs 31 ≡ v → h.regs 30 ≡ difference v CODE_START / 2 ^ 20 →
-      InCheck part image at rs1 imm label sum v n h
+      InCheck part image which at rs1 imm label sum v n h
   check_outside : h.pc ≡ at + 24 → h.regs 3 ≡ slot part n → (InCode v → ⊥) →
-      InCheck part image at rs1 imm label sum v n h
+      InCheck part image which at rs1 imm label sum v n h
   check_lw : h.pc ≡ at + 28 → h.regs 3 ≡ slot part n → h.regs 31 ≡ v → InCode v →
-      InCheck part image at rs1 imm label sum v n h
+      InCheck part image which at rs1 imm label sum v n h
   check_label : h.pc ≡ at + 32 → h.regs 3 ≡ slot part n → h.regs 31 ≡ v → InCode v →
-      h.regs 30 ≡ offset 32 (read 4 image v) → InCheck part image at rs1 imm label sum v n h
+      h.regs 30 ≡ offset 32 (read 4 image (v + past which)) → InCheck part image which at rs1 imm label sum v n h
   check_opcode : h.pc ≡ at + 36 → h.regs 3 ≡ slot part n → h.regs 31 ≡ v → InCode v →
-      h.regs 30 ≡ offset 32 (read 4 image v) → h.regs 4 ≡ offset 32 (label * 2 ^ 12) →
-      InCheck part image at rs1 imm label sum v n h
+      h.regs 30 ≡ offset 32 (read 4 image (v + past which)) → h.regs 4 ≡ offset 32 (label * 2 ^ 12) →
+      InCheck part image which at rs1 imm label sum v n h
   check_word : h.pc ≡ at + 40 → h.regs 3 ≡ slot part n → h.regs 31 ≡ v → InCode v →
-      h.regs 30 ≡ offset 32 (read 4 image v) → h.regs 4 ≡ wrap (offset 32 (label * 2 ^ 12) + 55) →
-      InCheck part image at rs1 imm label sum v n h
-  check_other : h.pc ≡ at + 44 → h.regs 3 ≡ slot part n → (HasLabel image label v → ⊥) →
-      InCheck part image at rs1 imm label sum v n h
+      h.regs 30 ≡ offset 32 (read 4 image (v + past which)) → h.regs 4 ≡ wrap (offset 32 (label * 2 ^ 12) + 55) →
+      InCheck part image which at rs1 imm label sum v n h
+  check_other : h.pc ≡ at + 44 → h.regs 3 ≡ slot part n → (HasLabel image which label v → ⊥) →
+      InCheck part image which at rs1 imm label sum v n h
 
--- after the check: x31 is the destination, which bears the label
-pub record Checked (part : ℕ) (image : Memory) (label v n : ℕ) (h : Hart) : Type 0 where
+-- after the check: x31 is the destination, whose word bears the label
+pub record Checked (part : ℕ) (image : Memory) (which : TargetWord) (label v n : ℕ) (h : Hart) : Type 0 where
   pub destination_is : h.regs 31 ≡ v
   pub pointer : h.regs 3 ≡ slot part n
-  pub legal : HasLabel image label v
+  pub legal : HasLabel image which label v
 
-pub data InIjump (part : ℕ) (image : Memory) (at rs1 imm label sum v n : ℕ) (h : Hart) : Type 0 where
-  ijump_check : InCheck part image at rs1 imm label sum v n h → InIjump part image at rs1 imm label sum v n h
-  ijump_jump : h.pc ≡ at + 48 → Checked part image label v n h → InIjump part image at rs1 imm label sum v n h
+pub data InIjump (part : ℕ) (image : Memory) (which : TargetWord) (at rs1 imm label sum v n : ℕ) (h : Hart) : Type 0 where
+  ijump_check : InCheck part image which at rs1 imm label sum v n h → InIjump part image which at rs1 imm label sum v n h
+  ijump_jump : h.pc ≡ at + 48 → Checked part image which label v n h → InIjump part image which at rs1 imm label sum v n h
 
 pub data InIcall (part : ℕ) (image : Memory) (at rs1 imm label sum v n : ℕ) (h : Hart) (m : Memory) : Type 0 where
-  icall_check : InCheck part image at rs1 imm label sum v n h → InIcall part image at rs1 imm label sum v n h m
-  icall_push : HasLabel image label v → InPush part (at + 48) v n h m → InIcall part image at rs1 imm label sum v n h m
-  icall_jump : h.pc ≡ at + 76 → HasLabel image label v → Pushed part (at + 80) v n h m →
+  icall_check : InCheck part image First at rs1 imm label sum v n h → InIcall part image at rs1 imm label sum v n h m
+  icall_push : HasLabel image First label v → InPush part (at + 48) v n h m → InIcall part image at rs1 imm label sum v n h m
+  icall_jump : h.pc ≡ at + 76 → HasLabel image First label v → Pushed part (at + 80) v n h m →
       InIcall part image at rs1 imm label sum v n h m
 
 -- a return: `link` is x1 at its start, `site` the newest site, and `n` counts the older ones
@@ -153,8 +156,8 @@ InUnit part image V.Stop at pending r h m = InWord part at (length pending) h
 InUnit part image (V.System op) at pending r h m = InWord part at (length pending) h
 InUnit part image (V.Store op rs1 rs2 imm) at pending r h m = InStore part at (length pending) h
 InUnit part image (V.Call target) at pending r h m = InCall part at (r 31) (length pending) h m
-InUnit part image (V.Ijump rs1 imm label) at pending r h m =
-    InIjump part image at rs1 imm label (sum_of r rs1 imm) (destination r rs1 imm) (length pending) h
+InUnit part image (V.Ijump which rs1 imm label) at pending r h m =
+    InIjump part image which at rs1 imm label (sum_of r rs1 imm) (destination r rs1 imm) (length pending) h
 InUnit part image (V.Icall rs1 imm label) at pending r h m =
     InIcall part image at rs1 imm label (sum_of r rs1 imm) (destination r rs1 imm) (length pending) h m
 InUnit part image V.Return at [] r h m = ⊥

@@ -14,6 +14,6 @@ IsInRange V.Stop = Unit {0}
 IsInRange (V.System op) = Unit {0}
 IsInRange (V.Store op rs1 rs2 imm) = (rs1 < 32) × (rs2 < 32) × (imm < 2 ^ 12)
 IsInRange (V.Call target) = Unit {0}
-IsInRange (V.Ijump rs1 imm label) = (rs1 < 32) × (imm < 2 ^ 12) × (label < 2 ^ 20)
+IsInRange (V.Ijump which rs1 imm label) = (rs1 < 32) × (imm < 2 ^ 12) × (label < 2 ^ 20)
 IsInRange (V.Icall rs1 imm label) = (rs1 < 32) × (imm < 2 ^ 12) × (label < 2 ^ 20)
 IsInRange V.Return = Unit {0}

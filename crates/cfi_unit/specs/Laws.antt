@@ -1,7 +1,7 @@
 -- What holds of units and their words, each law by its name.
 use Rattle.std.specs.Prelude.{◌≡◌, ℕ, ◌+◌, ◌%◌, ◌<◌, ◌≤◌, ◌^◌, ◌⊎◌, false, IsTrue, List, ◌∷◌, ◌++◌, length, Some}
 use Rattle.std.specs.List.{All}
-use Rattle.rv_word.specs.MemoryMap.{CODE_START, CODE_SIZE, PART_SIZE, Profile}
+use Rattle.rv_word.specs.MemoryMap.{CODE_START, CODE_SIZE, CODE_TAIL, PART_SIZE, Profile}
 use Rattle.rv_word.specs.Memory.{Memory}
 use Rattle.rv_word.specs.Same.{SameOn}
 use Rattle.rv_instr.specs.Registers.{Registers}
@@ -80,11 +80,11 @@ BranchBegins =
     decoded word ≡ Some (Branch op rs1 rs2 imm) → skips_jump imm (instr_at rest 0) ≡ false →
     Begins (word ∷ rest) at (V.Near op rs1 rs2 (near_to at imm))
 
--- changes outside of code and of a hart's own part, as the other harts make them, keep what a word of
+-- changes outside of code, with the bytes past it that loads may read, and of a hart's own part, as the other harts make them, keep what a word of
 -- the hart's code asks, seen from the memory after them
 abbrev pub OthersKeep : Type 0
 OthersKeep =
     (p : Profile) (part : ℕ) (image base : Memory) (place : Place) (at : ℕ) (pending : List ℕ) (r : Registers) (h : Hart) (m m' : Memory) →
-    length pending ≤ MOST_PENDING → SameOn CODE_START (CODE_START + CODE_SIZE) m m' → SameOn part (part + PART_SIZE) m m' →
+    length pending ≤ MOST_PENDING → SameOn CODE_START (CODE_START + CODE_SIZE + CODE_TAIL) m m' → SameOn part (part + PART_SIZE) m m' →
     (Kept part image base pending m → Kept part image m' pending m')
     × (InPlace p part image place at pending r h m → InPlace p part image place at pending r h m')

@@ -1,24 +1,27 @@
 -- Where a unit leads: the next address, and the pending sites there. `r` holds the registers at the
--- unit's start, `past` is the address after it; a computed destination is legal where code has the gate of the class's label.
+-- unit's start, `following` is the address after it; a computed destination is legal where the word of
+-- it that the check reads is the gate of the class's label.
 use Rattle.std.specs.Prelude.{◌≡◌, ◌≢◌, ℕ, ◌+◌, ◌*◌, ◌/◌, ◌%◌, ◌≤◌, ◌<◌, ◌⊎◌, List, [], ◌∷◌, length}
 use Rattle.rv_word.specs.Bits.{wrap}
 use Rattle.rv_word.specs.MemoryMap.{CODE_START, CODE_SIZE, Profile}
 use Rattle.rv_word.specs.Memory.{Memory, read}
 use Rattle.rv_instr.specs.Registers.{Registers, get_reg}
 use Rattle.rv_code.specs.Step.{offset}
+use Rattle.cfi_unit.specs.declared.target_word.TargetWord.{TargetWord}
+use Rattle.cfi_unit.specs.declared.target_word.TargetWord.TheVariants.{First}
 use Rattle.cfi_unit.specs.declared.unit.Unit as U
 use Rattle.cfi_unit.specs.declared.unit.Unit.TheVariants as V
 use Rattle.cfi_unit.specs.declared.unit.SystemOp.TheVariants as S
-use Rattle.cfi_unit.specs.UnitWords.{BAD_TARGET, BAD_RETURN, DEEP, after_unit}
+use Rattle.cfi_unit.specs.UnitWords.{BAD_TARGET, BAD_RETURN, DEEP, after_unit, past}
 use Rattle.cfi_unit.specs.Place.{Place, handler, opening, closing, body}
 use Rattle.cfi_unit.specs.Shadow.{MOST_PENDING}
 
--- the word of `lui x0,label` stands in code at an address
-pub record HasLabel (image : Memory) (label v : ℕ) : Type 0 where
+-- an address lies in code, and the word there, or the one behind it, is `lui x0,label`
+pub record HasLabel (image : Memory) (which : TargetWord) (label v : ℕ) : Type 0 where
   pub round : v % 4 ≡ 0
   pub low : CODE_START ≤ v
   pub high : v + 4 ≤ CODE_START + CODE_SIZE
-  pub word : read 4 image v ≡ label * 4096 + 55
+  pub word : read 4 image (v + past which) ≡ label * 4096 + 55
 
 -- the destination of a computed transfer before and after its low two bits are cleared
 abbrev pub sum_of : Registers → ℕ → ℕ → ℕ
@@ -37,9 +40,10 @@ Calls site pending after next target =
     ((length pending < MOST_PENDING) × (after ≡ site ∷ pending) × (next ≡ target))
     ⊎ ((length pending ≡ MOST_PENDING) × (after ≡ pending) × (next ≡ DEEP))
 
--- a computed transfer goes on where its destination bears the label, and halts where not
-abbrev pub Checks : Memory → ℕ → ℕ → Type 0 → Type 0 → Type 0
-Checks image label v legal halted = (HasLabel image label v × legal) ⊎ ((HasLabel image label v → ⊥) × halted)
+-- a computed transfer goes on where the word of its destination that it reads bears the label, and
+-- halts where not
+abbrev pub Checks : Memory → TargetWord → ℕ → ℕ → Type 0 → Type 0 → Type 0
+Checks image which label v legal halted = (HasLabel image which label v × legal) ⊎ ((HasLabel image which label v → ⊥) × halted)
 
 -- a return goes to the newest site and takes it off, or halts where x1 is another address
 abbrev pub Returns : Registers → List ℕ → List ℕ → ℕ → Type 0
@@ -49,27 +53,27 @@ Returns r (site ∷ pending) after next =
     ⊎ ((r 1 ≢ site) × Goes (site ∷ pending) after next BAD_RETURN)
 
 abbrev pub LeadsPast : Memory → U.Unit → ℕ → List ℕ → Registers → List ℕ → ℕ → Type 0
-LeadsPast image (V.Gate label) past pending r after next = Goes pending after next past
-LeadsPast image (V.Plain instr) past pending r after next = Goes pending after next past
-LeadsPast image (V.Branch op rs1 rs2 target) past pending r after next =
-    Goes pending after next past ⊎ Goes pending after next target
-LeadsPast image (V.Near op rs1 rs2 target) past pending r after next =
-    Goes pending after next past ⊎ Goes pending after next target
-LeadsPast image (V.Jump target) past pending r after next = Goes pending after next target
-LeadsPast image V.Stop past pending r after next = Goes pending after next BAD_TARGET
-LeadsPast image (V.System S.Ecall) past pending r after next = Goes pending after next past
-LeadsPast image (V.System S.Ebreak) past pending r after next = ⊥
-LeadsPast image (V.Store op rs1 rs2 imm) past pending r after next = Goes pending after next past
-LeadsPast image (V.Call target) past pending r after next = Calls past pending after next target
-LeadsPast image (V.Ijump rs1 imm label) past pending r after next =
-    Checks image label (destination r rs1 imm)
+LeadsPast image (V.Gate label) following pending r after next = Goes pending after next following
+LeadsPast image (V.Plain instr) following pending r after next = Goes pending after next following
+LeadsPast image (V.Branch op rs1 rs2 target) following pending r after next =
+    Goes pending after next following ⊎ Goes pending after next target
+LeadsPast image (V.Near op rs1 rs2 target) following pending r after next =
+    Goes pending after next following ⊎ Goes pending after next target
+LeadsPast image (V.Jump target) following pending r after next = Goes pending after next target
+LeadsPast image V.Stop following pending r after next = Goes pending after next BAD_TARGET
+LeadsPast image (V.System S.Ecall) following pending r after next = Goes pending after next following
+LeadsPast image (V.System S.Ebreak) following pending r after next = ⊥
+LeadsPast image (V.Store op rs1 rs2 imm) following pending r after next = Goes pending after next following
+LeadsPast image (V.Call target) following pending r after next = Calls following pending after next target
+LeadsPast image (V.Ijump which rs1 imm label) following pending r after next =
+    Checks image which label (destination r rs1 imm)
     (Goes pending after next (destination r rs1 imm))
     (Goes pending after next BAD_TARGET)
-LeadsPast image (V.Icall rs1 imm label) past pending r after next =
-    Checks image label (destination r rs1 imm)
-    (Calls past pending after next (destination r rs1 imm))
+LeadsPast image (V.Icall rs1 imm label) following pending r after next =
+    Checks image First label (destination r rs1 imm)
+    (Calls following pending after next (destination r rs1 imm))
     (Goes pending after next BAD_TARGET)
-LeadsPast image V.Return past pending r after next = Returns r pending after next
+LeadsPast image V.Return following pending r after next = Returns r pending after next
 
 -- from a unit at an address
 abbrev pub UnitLeads : Memory → U.Unit → ℕ → List ℕ → Registers → List ℕ → ℕ → Type 0

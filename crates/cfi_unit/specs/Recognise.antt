@@ -10,6 +10,8 @@ use Rattle.rv_instr.specs.declared.instr.BranchOp.{BranchOp}
 use Rattle.rv_instr.specs.declared.instr.UpperOp.{UpperOp}
 use Rattle.rv_instr.specs.declared.instr.UpperOp.TheVariants.{Lui, Auipc}
 use Rattle.rv_code.specs.Step.{offset}
+use Rattle.cfi_unit.specs.declared.target_word.TargetWord.{TargetWord}
+use Rattle.cfi_unit.specs.declared.target_word.TargetWord.TheVariants.{First, Second}
 use Rattle.cfi_unit.specs.declared.unit.Unit as U
 use Rattle.cfi_unit.specs.declared.unit.Unit.TheVariants as V
 use Rattle.cfi_unit.specs.declared.unit.SystemOp.TheVariants as S
@@ -41,16 +43,24 @@ abbrev pub store_unit : ℕ → ℕ → Option Instr → Option U.Unit
 store_unit rs1 imm (Some (Store op base rs2 zero_imm)) = Some (V.Store op rs1 rs2 imm)
 store_unit rs1 imm other = None
 
+-- which word of its destination a check reads, by the offset of its load
+abbrev pub read_by : ℕ → TargetWord
+read_by offset = if offset == 0 then First else Second
+
+abbrev pub read_in : Option Instr → TargetWord
+read_in (Some (Load op rd rs1 imm)) = read_by imm
+read_in other = First
+
 -- a computed transfer, by the word after its check: a jump's is `jalr`
-abbrev pub computed_unit : ℕ → ℕ → Option Instr → ℕ → U.Unit
-computed_unit rs1 imm (Some (Jalr rd base zero_imm)) label = V.Ijump rs1 imm label
-computed_unit rs1 imm other label = V.Icall rs1 imm label
+abbrev pub computed_unit : ℕ → ℕ → Option Instr → TargetWord → ℕ → U.Unit
+computed_unit rs1 imm (Some (Jalr rd base zero_imm)) which label = V.Ijump which rs1 imm label
+computed_unit rs1 imm other which label = V.Icall rs1 imm label
 
 -- a unit that begins by putting an address into x31: its second word is a shift, or not
 abbrev pub address_unit : List ℕ → ℕ → ℕ → Option Instr → Option U.Unit
 address_unit words rs1 imm (Some (Shift op rd rs amount)) = store_unit rs1 imm (instr_at words 3)
 address_unit words rs1 imm other =
-    option_map (computed_unit rs1 imm (instr_at words 12)) (label_in (instr_at words 8))
+    option_map (computed_unit rs1 imm (instr_at words 12) (read_in (instr_at words 7))) (label_in (instr_at words 8))
 
 abbrev pub upper_unit : UpperOp → ℕ → ℕ → U.Unit
 upper_unit Lui zero imm = V.Gate imm
@@ -106,7 +116,7 @@ can_stand V.Stop at = reaches at BAD_TARGET
 can_stand (V.System op) at = true
 can_stand (V.Store op rs1 rs2 imm) at = true
 can_stand (V.Call target) at = reaches (at + 8) DEEP && reaches (at + 28) target
-can_stand (V.Ijump rs1 imm label) at = check_reaches at
+can_stand (V.Ijump which rs1 imm label) at = check_reaches at
 can_stand (V.Icall rs1 imm label) at = check_reaches at && reaches (at + 56) DEEP
 can_stand V.Return at = reaches (at + 12) BAD_RETURN
 

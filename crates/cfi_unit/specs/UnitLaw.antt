@@ -39,7 +39,7 @@ UnitEnds (V.System S.Ecall) at turn = Exits turn
 UnitEnds (V.System S.Ebreak) at turn = turn ≡ Break at
 UnitEnds (V.Store op rs1 rs2 imm) at turn = ⊥
 UnitEnds (V.Call target) at turn = ⊥
-UnitEnds (V.Ijump rs1 imm label) at turn = ⊥
+UnitEnds (V.Ijump which rs1 imm label) at turn = ⊥
 UnitEnds (V.Icall rs1 imm label) at turn = ⊥
 UnitEnds V.Return at turn = ⊥
 

@@ -19,6 +19,8 @@ use Rattle.rv_code.specs.Decode.{decoded}
 use Rattle.rv_code.specs.Encode.{code_of}
 use Rattle.rv_code.specs.Step.{offset}
 use Rattle.cfi_unit.specs.declared.handlers.TheConstants as handlers
+use Rattle.cfi_unit.specs.declared.target_word.TargetWord.{TargetWord}
+use Rattle.cfi_unit.specs.declared.target_word.TargetWord.TheVariants.{First, Second}
 use Rattle.cfi_unit.specs.declared.unit.Unit as U
 use Rattle.cfi_unit.specs.declared.unit.Unit.TheVariants as V
 use Rattle.cfi_unit.specs.declared.unit.SystemOp.{SystemOp}
@@ -81,10 +83,15 @@ push at =
     ∷ Immediate Addi 3 3 8
     ∷ []
 
+-- how far behind its destination a check reads
+abbrev pub past : TargetWord → ℕ
+past First = 0
+past Second = 4
+
 -- the check of a computed transfer: clear the low two bits of the destination, halt unless it lies
--- in code, halt unless the word there is `lui x0, label`
-abbrev pub check : ℕ → ℕ → ℕ → ℕ → List Instr
-check at rs1 imm label =
+-- in code, halt unless the word there, or the one behind it, is `lui x0, label`
+abbrev pub check : ℕ → ℕ → ℕ → ℕ → TargetWord → List Instr
+check at rs1 imm label which =
     Immediate Addi 31 rs1 imm
     ∷ Immediate Andi 31 31 MINUS_FOUR
     ∷ Upper Lui 30 0x40000
@@ -92,7 +99,7 @@ check at rs1 imm label =
     ∷ Shift Srli 30 30 20
     ∷ Branch Beq 30 0 skip_offset
     ∷ jump (at + 24) BAD_TARGET
-    ∷ Load Lw 30 31 0
+    ∷ Load Lw 30 31 (past which)
     ∷ Upper Lui 4 label
     ∷ Immediate Addi 4 4 55
     ∷ Branch Beq 30 4 skip_offset
@@ -119,8 +126,8 @@ instrs_of (V.Store op rs1 rs2 imm) at =
     ∷ Store op 31 rs2 0
     ∷ []
 instrs_of (V.Call target) at = push at ++ Jal 1 (jump_offset (at + 28) target) ∷ []
-instrs_of (V.Ijump rs1 imm label) at = check at rs1 imm label ++ Jalr 0 31 0 ∷ []
-instrs_of (V.Icall rs1 imm label) at = check at rs1 imm label ++ push (at + 48) ++ Jalr 1 31 0 ∷ []
+instrs_of (V.Ijump which rs1 imm label) at = check at rs1 imm label which ++ Jalr 0 31 0 ∷ []
+instrs_of (V.Icall rs1 imm label) at = check at rs1 imm label First ++ push (at + 48) ++ Jalr 1 31 0 ∷ []
 instrs_of V.Return at =
     Load Ld 31 3 MINUS_EIGHT
     ∷ Immediate Addi 3 3 MINUS_EIGHT
@@ -170,7 +177,7 @@ Fits V.Stop at = Reaches at BAD_TARGET
 Fits (V.System op) at = Unit {0}
 Fits (V.Store op rs1 rs2 imm) at = (rs1 < 32) × (rs2 < 32) × (imm < 2 ^ 12)
 Fits (V.Call target) at = Reaches (at + 8) DEEP × Reaches (at + 28) target
-Fits (V.Ijump rs1 imm label) at = CheckFits at rs1 imm label
+Fits (V.Ijump which rs1 imm label) at = CheckFits at rs1 imm label
 Fits (V.Icall rs1 imm label) at = CheckFits at rs1 imm label × Reaches (at + 56) DEEP
 Fits V.Return at = Reaches (at + 12) BAD_RETURN
 
@@ -185,7 +192,7 @@ word_count V.Stop = 1
 word_count (V.System op) = 1
 word_count (V.Store op rs1 rs2 imm) = counts.STORE_WORDS
 word_count (V.Call target) = counts.CALL_WORDS
-word_count (V.Ijump rs1 imm label) = counts.IJUMP_WORDS
+word_count (V.Ijump which rs1 imm label) = counts.IJUMP_WORDS
 word_count (V.Icall rs1 imm label) = counts.ICALL_WORDS
 word_count V.Return = counts.RETURN_WORDS
 

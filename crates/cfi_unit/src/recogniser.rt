@@ -8,6 +8,8 @@ ghost use Rattle.cfi_unit.specs.Recognise.{
   computed_unit,
   jump_or_stop,
   label_in,
+  read_by,
+  read_in,
   recognised,
   store_unit,
   target_in,
@@ -20,6 +22,7 @@ ghost use Rattle.cfi_unit.specs.declared.unit.Unit as U;
 use crate::emission::{count, may_stand};
 use crate::handlers::BAD_TARGET;
 use crate::jump::{led, led_near, near_between};
+use crate::target_word::TargetWord;
 use crate::template::unit_code;
 use crate::unit::{SystemOp, Unit};
 use rv_code::decode;
@@ -194,7 +197,8 @@ fn addressed(words: &[u32], rs1: Reg, imm: Immediate<12>) -> Option<Unit>
         return stored(rs1, imm, instr(words, 3));
     }
     let label = label(instr(words, 8))?;
-    Some(computed(rs1, imm, instr(words, 12), label))
+    let which = read_word(instr(words, 7));
+    Some(computed(rs1, imm, instr(words, 12), which, label))
 }
 
 /// A store unit, by the store that is its last word.
@@ -217,12 +221,42 @@ fn label(lui: Option<Instr>) -> Option<Immediate<20>>
     }
 }
 
+/// Which word of its destination a check reads, by its load.
+fn read_word(load: Option<Instr>) -> TargetWord
+    ensures { result ≡ read_in load }
+{
+    let Some(load) = load else {
+        return TargetWord::First;
+    };
+    match load {
+        Instr::Load(_, _, _, offset) => word_at(offset),
+        _ => TargetWord::First,
+    }
+}
+
+/// Which word of its destination a load reads by its offset.
+fn word_at(offset: Immediate<12>) -> TargetWord
+    ensures { result ≡ read_by offset }
+{
+    if offset.bits() == 0 {
+        TargetWord::First
+    } else {
+        TargetWord::Second
+    }
+}
+
 /// A computed transfer, by the word after its check: a jump's is `jalr`.
-fn computed(rs1: Reg, imm: Immediate<12>, after: Option<Instr>, label: Immediate<20>) -> Unit
-    ensures { result ≡ computed_unit rs1 imm after label }
+fn computed(
+    rs1: Reg,
+    imm: Immediate<12>,
+    after: Option<Instr>,
+    which: TargetWord,
+    label: Immediate<20>,
+) -> Unit
+    ensures { result ≡ computed_unit rs1 imm after which label }
 {
     match after {
-        Some(Instr::Jalr(..)) => Unit::Ijump(rs1, imm, label),
+        Some(Instr::Jalr(..)) => Unit::Ijump(which, rs1, imm, label),
         _ => Unit::Icall(rs1, imm, label),
     }
 }

@@ -2,11 +2,12 @@
 
 ghost use Rattle.std.specs.Prelude.{◌≡◌, ◌+◌, ◌<◌, ◌^◌};
 ghost use Rattle.rv_word.specs.MemoryMap.{CODE_START, CODE_SIZE};
-ghost use Rattle.cfi_unit.specs.UnitWords.{check, gate, instrs_of, push, system_instr, words_of};
+ghost use Rattle.cfi_unit.specs.UnitWords.{check, gate, instrs_of, past, push, system_instr, words_of};
 ghost use Rattle.cfi_unit.specs.declared.unit.Unit.TheVariants as V;
 
 use crate::handlers::{BAD_RETURN, BAD_TARGET, DEEP};
 use crate::jump::{field_between, jump_between, near_between};
+use crate::target_word::TargetWord;
 use crate::unit::{SystemOp, Unit};
 use crate::words::UnitCode;
 use rv_instr::{
@@ -37,12 +38,12 @@ pub(crate) fn unit_code(unit: &Unit, at: u64) -> UnitCode
             code.put(&pushes(at));
             code.put(&[Instr::Jal(Reg::of(1), field_between(at + 28, target))]);
         }
-        Unit::Ijump(rs1, imm, label) => {
-            code.put(&checks(at, rs1, imm, label));
+        Unit::Ijump(which, rs1, imm, label) => {
+            code.put(&checks(at, rs1, imm, label, which));
             code.put(&[transfer(0)]);
         }
         Unit::Icall(rs1, imm, label) => {
-            code.put(&checks(at, rs1, imm, label));
+            code.put(&checks(at, rs1, imm, label, TargetWord::First));
             code.put(&pushes(at + 48));
             code.put(&[transfer(1)]);
         }
@@ -139,10 +140,26 @@ fn pushes(at: u64) -> [Instr; 7]
     ]
 }
 
+/// How far behind its destination a check reads.
+fn past(which: TargetWord) -> Immediate<12>
+    ensures { result ≡ past which }
+{
+    match which {
+        TargetWord::First => Immediate::of(0),
+        TargetWord::Second => Immediate::of(4),
+    }
+}
+
 /// The words of a computed transfer that test its destination.
-fn checks(at: u64, rs1: Reg, imm: Immediate<12>, label: Immediate<20>) -> [Instr; 12]
+fn checks(
+    at: u64,
+    rs1: Reg,
+    imm: Immediate<12>,
+    label: Immediate<20>,
+    which: TargetWord,
+) -> [Instr; 12]
     requires { at < CODE_START + CODE_SIZE }
-    ensures { result ≡ check at rs1 imm label }
+    ensures { result ≡ check at rs1 imm label which }
 {
     let (x0, x4, x30, x31) = (Reg::of(0), Reg::of(4), Reg::of(30), Reg::of(31));
     [
@@ -153,7 +170,7 @@ fn checks(at: u64, rs1: Reg, imm: Immediate<12>, label: Immediate<20>) -> [Instr
         shift(ShiftOp::Srli, 30, 30, 20),
         skip(BranchOp::Beq, x30, x0),
         jump_between(at + 24, BAD_TARGET),
-        Instr::Load(LoadOp::Lw, x30, x31, Immediate::of(0)),
+        Instr::Load(LoadOp::Lw, x30, x31, past(which)),
         Instr::Upper(UpperOp::Lui, x4, label),
         addi(4, 4, 55),
         skip(BranchOp::Beq, x30, x4),

@@ -1,3 +1,4 @@
+use crate::target_word::TargetWord;
 use rv_instr::{BranchOp, Immediate, Instr, Reg, StoreOp};
 
 /// A unit of hardened code. Targets are addresses in bytes, labels are 20-bit numbers.
@@ -23,9 +24,10 @@ pub enum Unit {
     Store(StoreOp, Reg, Reg, Immediate<12>),
     /// A call that puts its site onto the shadow stack; its target.
     Call(u64),
-    /// A computed jump: register, offset, and the label that its target must bear.
-    Ijump(Reg, Immediate<12>, Immediate<20>),
-    /// A computed call: register, offset, label.
+    /// A computed jump: the word of its target that its check reads, register, offset, and the label
+    /// that this word must bear.
+    Ijump(TargetWord, Reg, Immediate<12>, Immediate<20>),
+    /// A computed call, whose check reads the first word: register, offset, label.
     Icall(Reg, Immediate<12>, Immediate<20>),
     /// A return to the newest site on the shadow stack.
     Return,
@@ -61,7 +63,7 @@ impl Unit {
                 let _ = rs2.number();
                 let _ = imm.bits();
             }
-            Unit::Ijump(rs1, imm, label) | Unit::Icall(rs1, imm, label) => {
+            Unit::Ijump(_, rs1, imm, label) | Unit::Icall(rs1, imm, label) => {
                 let _ = rs1.number();
                 let _ = imm.bits();
                 let _ = label.bits();

@@ -1,15 +1,17 @@
 -- Lines whose keys rise: a key stands at one place, and the line with a key is found by it.
-use Rattle.std.proofs.Common.{◌≡◌, ◌≢◌, ◌<◌, ℕ, zero, suc, ◌==◌, true, false, List, [], ◌∷◌, map, Option, Some, None, refl, sym, ap, ◌∙◌, arith, inl, inr}
-use Rattle.std.specs.Prelude.{slice_get, option_map, option_and_then, if◌then◌else◌}
+use Rattle.std.proofs.Common.{◌≡◌, ◌≢◌, ◌<◌, ℕ, zero, suc, ◌==◌, true, false, List, [], ◌∷◌, map, Some, None, refl, sym, ap, ◌∙◌, arith, inl, inr}
+use Rattle.std.specs.Prelude.{slice_get, option_and_then, if◌then◌else◌}
 use Rattle.std.proofs.lemmas.Bool.{and_parts, cases_Bool, cases_order, ltb-true, ltb-false, eqb-true, eq-eqb, false≢true}
 use Rattle.std.proofs.lemmas.Option.{same_Some}
 use Rattle.cfi_graph.specs.declared.line.GraphLine.{GraphLine}
-use Rattle.cfi_graph.specs.declared.line.GraphLine.TheVariants.{Class, Site, Edge, Call}
+use Rattle.cfi_graph.specs.declared.line.GraphLine.TheVariants.{Class, CallClass, JumpClass, Site, Edge, Call}
+use Rattle.cfi_graph.specs.declared.line.Sort.{Sort}
+use Rattle.cfi_graph.specs.declared.line.Sort.TheVariants.{Both, Calls, Jumps}
 use Rattle.cfi_graph.specs.declared.line.Key.{Key}
 use Rattle.cfi_graph.specs.declared.line.Key.TheVariants.{Label, Address}
-use Rattle.cfi_graph.specs.Graph.{ClassLine, class_in, is_rising, key_below, key_of}
+use Rattle.cfi_graph.specs.Graph.{class_in, is_rising, key_below, key_of}
 use Rattle.cfi_graph.proofs.Rising.{key_transitive}
-use Rattle.cfi_rules.specs.Lines.{same_key, line_with, line_at, class_of, class_with}
+use Rattle.cfi_rules.specs.Lines.{same_key, line_with, line_at, class_with}
 
 pub below_self : (k : Key) → key_below k k ≡ true → ⊥
 below_self (Label a) e = let h : a < a = ltb-true a a e in omega arith
@@ -107,41 +109,29 @@ pub line_at-with : (lines : List GraphLine) (a : ℕ) → line_at lines a ≡ li
 unfolding line_at line_with
 line_at-with [] a = refl
 line_at-with (Class label targets ∷ lines) a = line_at-with lines a
+line_at-with (CallClass label targets ∷ lines) a = line_at-with lines a
+line_at-with (JumpClass label targets ∷ lines) a = line_at-with lines a
 line_at-with (Site address kind label ∷ lines) a = ap (λ w. if address == a then Some (Site address kind label) else w) (line_at-with lines a)
 line_at-with (Edge from to ∷ lines) a = ap (λ w. if from == a then Some (Edge from to) else w) (line_at-with lines a)
 line_at-with (Call from to ∷ lines) a = ap (λ w. if from == a then Some (Call from to) else w) (line_at-with lines a)
 
 -- the class with a label is that of the line with that key
+class_or : (sort : Sort) (label : ℕ) (targets : List ℕ) (line : GraphLine) (lines : List GraphLine) (l : ℕ) →
+    class_in line ≡ Some (record { sort = sort; label = label; targets = targets }) → key_of line ≡ Label label →
+    class_with lines l ≡ option_and_then class_in (line_with lines (Label l)) → class_with (line ∷ lines) l ≡ option_and_then class_in (line_with (line ∷ lines) (Label l))
+unfolding class_with line_with
+class_or sort label targets line lines l is key rest =
+    elim (cases_Bool (label == l)) [
+      | inl s ↦ rw (key, s, is, s) refl
+      | inr s ↦ rw (key, s, is, s) rest
+    ]
+
 pub class_with-with : (lines : List GraphLine) (l : ℕ) → class_with lines l ≡ option_and_then class_in (line_with lines (Label l))
 unfolding class_with line_with
 class_with-with [] l = refl
-class_with-with (Class label targets ∷ lines) l =
-    elim (cases_Bool (label == l)) [
-      | inl s ↦ rw s refl
-      | inr s ↦ rw s (class_with-with lines l)
-    ]
+class_with-with (Class label targets ∷ lines) l = class_or Both label targets (Class label targets) lines l refl refl (class_with-with lines l)
+class_with-with (CallClass label targets ∷ lines) l = class_or Calls label targets (CallClass label targets) lines l refl refl (class_with-with lines l)
+class_with-with (JumpClass label targets ∷ lines) l = class_or Jumps label targets (JumpClass label targets) lines l refl refl (class_with-with lines l)
 class_with-with (Site address kind label ∷ lines) l = class_with-with lines l
 class_with-with (Edge from to ∷ lines) l = class_with-with lines l
 class_with-with (Call from to ∷ lines) l = class_with-with lines l
-
--- the targets in a class's line
-abbrev pub targets_of : Option GraphLine → Option (List ℕ)
-targets_of line = option_map (λ (class : ClassLine). class.targets) (option_and_then class_in line)
-
--- the targets of the class with a label are those of the line with that key
-pub class_of-with : (lines : List GraphLine) (l : ℕ) → class_of lines l ≡ targets_of (line_with lines (Label l))
-unfolding class_of
-class_of-with lines l = ap (option_map (λ (class : ClassLine). class.targets)) (class_with-with lines l)
-
-pub class_is : (lines : List GraphLine) (l : ℕ) (line : GraphLine) → line_with lines (Label l) ≡ Some line → targets_of (Some line) ≡ class_of lines l
-class_is lines l line e = ap targets_of (sym e) ∙ sym (class_of-with lines l)
-
-pub class_none : (lines : List GraphLine) (l : ℕ) → line_with lines (Label l) ≡ None → None ≡ class_of lines l
-class_none lines l e = ap targets_of (sym e) ∙ sym (class_of-with lines l)
-
--- no other line has targets
-pub no_targets : (line : GraphLine) → ((label : ℕ) (targets : List ℕ) → line ≡ Class label targets → ⊥) → None ≡ targets_of (Some line)
-no_targets (Class label targets) h = absurd (h label targets refl)
-no_targets (Site address kind label) h = refl
-no_targets (Edge from to) h = refl
-no_targets (Call from to) h = refl

@@ -2,20 +2,20 @@
 use Rattle.std.proofs.Common.{◌≡◌, ◌≢◌, ◌<◌, ◌≤◌, inl, inr, ℕ, zero, suc, ◌+◌, ◌-◌, ◌*◌, ◌/◌, ◌%◌, ◌^◌, ◌==◌, ◌&&◌, ◌||◌, not, Bool, true, false, List, [], ◌∷◌, length, map, Option, Some, None, refl, sym, ap, subst, ◌∙◌, arith}
 use Rattle.std.specs.Prelude.{slice_get, nat_lt, nat_le, is_some}
 use Rattle.std.specs.List.{list_any}
-use Rattle.std.proofs.lemmas.Bool.{and_left, and_parts, cases_eq, cases_lt, cases_order, eqb-true, le-ltb, leb-true, lt-leb, lt-ltb, ltb-true, ne_eqb}
+use Rattle.std.proofs.lemmas.Bool.{and_left, and_parts, cases_eq, cases_lt, cases_order, eqb-true, le-ltb, leb-true, lt-leb, lt-ltb, ltb-true, ne_eqb, or_from}
 use Rattle.std.proofs.lemmas.Option.{same_Some, slice_get_within}
 use Rattle.rv_word.proofs.Cases.{cases_Option}
 use Rattle.rv_word.specs.MemoryMap.{CODE_START, Profile}
 use Rattle.rv_word.proofs.Versions.{LaidOut}
 use Rattle.cfi_graph.specs.declared.line.GraphLine.{GraphLine}
-use Rattle.cfi_graph.specs.declared.line.GraphLine.TheVariants.{Class, Site, Edge, Call}
+use Rattle.cfi_graph.specs.declared.line.GraphLine.TheVariants.{Class, CallClass, JumpClass, Site, Edge, Call}
 use Rattle.cfi_graph.specs.declared.line.Key.TheVariants.{Address}
 use Rattle.cfi_graph.specs.Graph.{GraphParts, IsGraph, is_rising, key_below, key_of}
 use Rattle.cfi_graph.proofs.Rising.{key_transitive}
 use Rattle.cfi_scan.specs.declared.entry.Entry.{Entry}
 use Rattle.cfi_scan.specs.Entries.{is_quiet}
 use Rattle.cfi_scan.specs.Pieces.{Listed, prologue_count}
-use Rattle.cfi_verify.specs.Entries.{Tells, count_of, entry_at, fails_at, fails_end_at, fails_gate_at, fails_unit_at, gate_at, is_stop_entry, or_inside}
+use Rattle.cfi_verify.specs.Entries.{Tells, asks_otherwise, count_of, entry_at, fails_at, fails_end_at, fails_gate_at, fails_unit_at, gate_at, is_stop_entry, or_inside, starts_at}
 use Rattle.cfi_rules.specs.Lines.{line_at}
 use Rattle.cfi_verify.specs.Pass.{HasPassed, HoldsAt, HoldsEarly, NoneStands, ends_in_stop}
 use Rattle.cfi_rules.specs.Rules.{Holds, fails_prologue, lacks_gate}
@@ -61,11 +61,13 @@ entry_there k same at = ap (λ (t : Listed). slice_get t.entries k) same ∙ at
 module _ (p : Profile) (laid : LaidOut p) where
   -- each target of a class has the class's gate
   abbrev pub HasGates : Listed → GraphLine → Type 0
-  HasGates t line = (a : ℕ) → lacks_gate (gate_at p t) a line ≡ false
+  HasGates t line = (a : ℕ) → lacks_gate (starts_at p t) (gate_at p t) a line ≡ false
 
   -- only classes have targets
   pub no_class : (t : Listed) (line : GraphLine) (a : ℕ) → key_of line ≡ Address a → HasGates t line
   no_class t (Class label targets) a key = absurd (cc)
+  no_class t (CallClass label targets) a key = absurd (cc)
+  no_class t (JumpClass label targets) a key = absurd (cc)
   no_class t (Site address kind label) a key = λ b. refl
   no_class t (Edge from to) a key = λ b. refl
   no_class t (Call from to) a key = λ b. refl
@@ -168,8 +170,9 @@ module _ (p : Profile) (laid : LaidOut p) where
     rest : (nat_lt t.last t.done && is_stop_entry (entry_at p t.entries (p.units_from + 4 * t.last))) ≡ true
     rest = (and_parts (t.done == count_of p t) _ ends).1
 
-    pub no_unit_fails : (a : ℕ) → fails_unit_at p t a ≡ false
-    no_unit_fails a = let all = covered in and_left _ _ (le-ltb t.done (count_of p t) (omega arith))
+    pub no_unit_fails : (version a : ℕ) → asks_otherwise p t version a ≡ false → fails_unit_at p t version a ≡ false
+    no_unit_fails version a asks =
+        let all = covered in or_from _ _ (and_left _ _ (le-ltb t.done (count_of p t) (omega arith))) asks
 
     pub no_end_fails : (a : ℕ) → fails_end_at p t a ≡ false
     no_end_fails a =
@@ -202,7 +205,7 @@ module _ (p : Profile) (laid : LaidOut p) where
 
   by_word : (t : Listed) (graph : GraphParts) (a : ℕ) (rule : Rule) → p.units_from ≤ a → ends_in_stop p t ≡ true → HoldsAt p t graph a → rule ≢ R.Gate → fails_at p rule t graph a ≡ false
   by_word t graph a R.Prologue low ends holds n = no_prologue t.prologue a low
-  by_word t graph a R.Unit low ends holds n = no_unit_fails t ends a
+  by_word t graph a R.Unit low ends holds n = no_unit_fails t ends graph.version a holds.unit
   by_word t graph a R.Target low ends holds n = holds.target
   by_word t graph a R.Unlisted low ends holds n = holds.unlisted
   by_word t graph a R.Unused low ends holds n = holds.unused

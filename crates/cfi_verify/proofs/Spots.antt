@@ -6,14 +6,14 @@ use Rattle.std.proofs.lemmas.Bool.{and_parts, or_cases, cases_Bool, false_from_n
 use Rattle.rv_word.specs.MemoryMap.{CODE_START, Profile, START}
 use Rattle.rv_word.proofs.Versions.{LaidOut}
 use Rattle.cfi_graph.specs.declared.line.GraphLine.{GraphLine}
-use Rattle.cfi_graph.specs.declared.line.GraphLine.TheVariants.{Class, Site, Edge, Call}
+use Rattle.cfi_graph.specs.declared.line.GraphLine.TheVariants.{Class, CallClass, JumpClass, Site, Edge, Call}
 use Rattle.cfi_graph.specs.Graph.{GraphParts, IsGraph, is_code_address, line_in_range}
 use Rattle.cfi_unit.specs.declared.unit.Unit as U
 use Rattle.cfi_unit.specs.declared.place.Place.{Place}
 use Rattle.cfi_scan.specs.Pieces.{prologue_count}
 use Rattle.cfi_rules.specs.Split.{unit_starts, unit_words, is_start, unit_at, place_at, is_handler}
 use Rattle.cfi_rules.specs.Lines.{holds_of, line_at, targets_for}
-use Rattle.cfi_rules.specs.Rules.{fails, edge_of, call_of, site_of, is_edge_to, is_call_to, is_site_with, is_unused, is_lone_site, is_astray, is_bad_end}
+use Rattle.cfi_rules.specs.Rules.{admits, fails, edge_of, call_of, site_of, is_edge_to, is_call_to, is_site_with, is_unused, is_lone_site, is_astray, is_bad_end}
 use Rattle.cfi_rules.specs.declared.asks.Asks.{Asks}
 use Rattle.cfi_rules.specs.declared.reject.Rule.{Rule}
 use Rattle.cfi_rules.specs.declared.reject.Rule.TheVariants as R
@@ -33,6 +33,8 @@ pub line_in : (len : ℕ) (lines : List GraphLine) (a : ℕ) (line : GraphLine) 
 unfolding line_at
 line_in len [] a line r e = absurd (false≢true (ap is_some e))
 line_in len (Class label targets ∷ lines) a line r e = line_in len lines a line (and_parts _ _ r).1 e
+line_in len (CallClass label targets ∷ lines) a line r e = line_in len lines a line (and_parts _ _ r).1 e
+line_in len (JumpClass label targets ∷ lines) a line r e = line_in len lines a line (and_parts _ _ r).1 e
 line_in len (Site address kind label ∷ lines) a line r e =
     elim (cases_Bool (address == a)) [
       | inl s ↦ ap (is_code_address len) (sym (eqb-true address a s)) ∙ (and_parts _ _ (and_parts _ _ r).0).0
@@ -107,11 +109,17 @@ module _ (p : Profile) (laid : LaidOut p) where
       let even : a % 4 ≡ 0 = eqb-true _ _ front.1 in
       record { low = low; even = even; high = omega arith }
   fails_spot R.Unit words graph a n g len e =
-      let parts = and_parts _ _ e in
-      let at : a ≡ p.units_from + 4 * length (unit_starts p words) = eqb-true _ _ parts.0 in
-      let inside : length (unit_starts p words) < length (unit_words p words) = ltb-true _ _ parts.1 in
-      let left : length (unit_words p words) ≡ length words - prologue_count p = length-drop (prologue_count p) words in
-      spot_at words a (prologue_count p + length (unit_starts p words)) (omega arith) (omega arith)
+      elim (or_cases _ _ e) [
+        | inl ends ↦
+            let parts = and_parts _ _ ends in
+            let at : a ≡ p.units_from + 4 * length (unit_starts p words) = eqb-true _ _ parts.0 in
+            let inside : length (unit_starts p words) < length (unit_words p words) = ltb-true _ _ parts.1 in
+            let left : length (unit_words p words) ≡ length words - prologue_count p = length-drop (prologue_count p) words in
+            spot_at words a (prologue_count p + length (unit_starts p words)) (omega arith) (omega arith)
+        | inr other ↦
+            let unit = there (unit_at p words a) (λ unit. holds_of unit (λ u. not (admits graph u))) refl other in
+            unit_spot words a unit.0 unit.1
+      ]
   fails_spot R.Target words graph a n g len e =
       let place = there (place_at p words a) (λ place. holds_of (option_and_then edge_of place) (λ target. not (is_start p words target)) || holds_of (option_and_then call_of place) (λ target. not (is_start p words target))) refl e in
       place_spot words a place.0 place.1

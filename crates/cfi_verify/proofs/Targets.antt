@@ -1,39 +1,46 @@
 -- The targets of a class rise, and a search among them finds each.
-use Rattle.std.proofs.Common.{Bor, ◌≡◌, ◌≢◌, ◌<◌, ◌≤◌, ℕ, zero, suc, ◌==◌, true, false, List, [], ◌∷◌, length, get_or, Option, Some, None, Result, Ok, Err, refl, sym, ap, ◌∙◌, arith, inl, inr}
-use Rattle.std.specs.Prelude.{nat_lt, is_ok, IfSome}
-use Rattle.std.specs.Option.{option_copied}
+use Rattle.std.proofs.Common.{◌≡◌, ◌≢◌, ◌<◌, ◌≤◌, ℕ, zero, suc, ◌==◌, true, false, List, [], ◌∷◌, length, get_or, Option, Some, None, Result, Ok, Err, refl, sym, ap, ◌∙◌, arith, inl, inr}
+use Rattle.std.specs.Prelude.{nat_lt, is_ok, IfSome, if◌then◌else◌, option_and_then}
 use Rattle.std.specs.List.{list_all}
 use Rattle.std.specs.List.Sorted.{IsBinarySearchResult}
 use Rattle.std.specs.Ordering.{nat_cmp}
 use Rattle.std.proofs.lemmas.Bool.{and_parts, cases_Bool, cases_lt, or_left, or_right, or_from, ltb-true, eq-eqb, ne_eqb}
 use Rattle.std.proofs.lemmas.Option.{none-some, same_Some}
-use Rattle.rv_word.proofs.Cases.{mapped}
+use Rattle.rv_word.proofs.Cases.{cases_Option}
 use Rattle.std.proofs.lemmas.List.Sorted.{searched}
 use Rattle.cfi_graph.specs.declared.line.GraphLine.{GraphLine}
-use Rattle.cfi_graph.specs.declared.line.GraphLine.TheVariants.{Class, Site, Edge, Call}
-use Rattle.cfi_graph.specs.declared.line.Sort.TheVariants.{Both}
-use Rattle.cfi_graph.specs.Graph.{ClassLine, is_rising, targets_rise}
-use Rattle.cfi_rules.specs.Lines.{class_of, class_with, is_among}
+use Rattle.cfi_graph.specs.declared.line.GraphLine.TheVariants.{Class, CallClass, JumpClass, Site, Edge, Call}
+use Rattle.cfi_graph.specs.declared.line.SiteKind.{SiteKind}
+use Rattle.cfi_graph.specs.declared.line.Sort.TheVariants.{Both, Calls, Jumps}
+use Rattle.cfi_graph.specs.Graph.{ClassLine, class_in, is_rising, targets_rise}
+use Rattle.cfi_unit.specs.declared.target_word.TargetWord.{TargetWord}
+use Rattle.cfi_rules.specs.Lines.{class_with, is_among, if_serves, or_class, targets_for}
+
+rises_in : (found class : ClassLine) → is_rising nat_lt found.targets ≡ true → ◌≡◌ {A = Option ClassLine} (Some found) (Some class) → is_rising nat_lt class.targets ≡ true
+rises_in found class r e = ap (λ (c : ClassLine). is_rising nat_lt c.targets) (sym (same_Some found class e)) ∙ r
+
+line_rises : (line : GraphLine) (class : ClassLine) → targets_rise line ≡ true → class_in line ≡ Some class → is_rising nat_lt class.targets ≡ true
+line_rises (Class label members) class r e = rises_in (record { sort = Both; label = label; targets = members }) class r e
+line_rises (CallClass label members) class r e = rises_in (record { sort = Calls; label = label; targets = members }) class r e
+line_rises (JumpClass label members) class r e = rises_in (record { sort = Jumps; label = label; targets = members }) class r e
+line_rises (Site address kind label) class r e = absurd (none-some class e)
+line_rises (Edge from to) class r e = absurd (none-some class e)
+line_rises (Call from to) class r e = absurd (none-some class e)
 
 pub class_rises : (lines : List GraphLine) (l : ℕ) (class : ClassLine) → list_all targets_rise lines ≡ true → class_with lines l ≡ Some class → is_rising nat_lt class.targets ≡ true
 unfolding class_with
 class_rises [] l class r e = absurd (none-some class e)
-class_rises (Class label members ∷ lines) l class r e =
-    let parts = and_parts _ _ r in
-    let here : ClassLine = record { sort = Both; label = label; targets = members } in
-    elim (cases_Bool (label == l)) [
-      | inl s ↦ ap (λ (c : ClassLine). is_rising nat_lt c.targets) (sym (same_Some here class (rw s at e))) ∙ parts.0
-      | inr s ↦ class_rises lines l class parts.1 (rw s at e)
+class_rises (line ∷ lines) l class r e =
+    let parts = and_parts (targets_rise line) _ r in
+    elim (cases_Option (class_in line)) [
+      | inl none ↦ class_rises lines l class parts.1 (sym (ap (λ o. or_class l o (class_with lines l)) none) ∙ e)
+      | inr (found, some) ↦
+          let chosen : (if found.label == l then Some found else class_with lines l) ≡ Some class = sym (ap (λ o. or_class l o (class_with lines l)) some) ∙ e in
+          elim (cases_Bool (found.label == l)) [
+            | inl s ↦ line_rises line class parts.0 (some ∙ rw s at chosen)
+            | inr s ↦ class_rises lines l class parts.1 (rw s at chosen)
+          ]
     ]
-class_rises (Site address kind label ∷ lines) l class r e = class_rises lines l class r e
-class_rises (Edge from to ∷ lines) l class r e = class_rises lines l class r e
-class_rises (Call from to ∷ lines) l class r e = class_rises lines l class r e
-
-targets_rise_of : (lines : List GraphLine) (l : ℕ) (targets : List ℕ) → list_all targets_rise lines ≡ true → class_of lines l ≡ Some targets → is_rising nat_lt targets ≡ true
-unfolding class_of
-targets_rise_of lines l targets r e =
-    let (class, is, same) = mapped (λ (c : ClassLine). c.targets) (class_with lines l) targets e in
-    ap (is_rising nat_lt) (sym same) ∙ class_rises lines l class r is
 
 tail_rises : (x : ℕ) (xs : List ℕ) → is_rising nat_lt (x ∷ xs) ≡ true → is_rising nat_lt xs ≡ true
 tail_rises x [] r = refl
@@ -76,6 +83,12 @@ search_finds xs a (Err i) rise h =
       | inr more ↦ λ e. let b = apart.2 k more l in omega arith
     ]))
 
-pub found_rises : (lines : List GraphLine) (l : ℕ) (found : Option (Bor (List ℕ))) → list_all targets_rise lines ≡ true → option_copied found ≡ class_of lines l → IfSome found (λ targets. is_rising nat_lt targets.now ≡ true)
+-- the targets for a transfer, by the class with its label
+pub for_class : (lines : List GraphLine) (kind : SiteKind) (which : TargetWord) (l : ℕ) (found : Option ClassLine) → found ≡ class_with lines l → option_and_then (if_serves kind which) found ≡ targets_for lines kind which l
+unfolding targets_for
+for_class lines kind which l found e = ap (option_and_then (if_serves kind which)) e
+
+-- the targets of a class that is found rise
+pub found_rises : (lines : List GraphLine) (l : ℕ) (found : Option ClassLine) → list_all targets_rise lines ≡ true → found ≡ class_with lines l → IfSome found (λ class. is_rising nat_lt class.targets ≡ true)
 found_rises lines l None r e = tt
-found_rises lines l (Some targets) r e = targets_rise_of lines l targets.now r (sym e)
+found_rises lines l (Some class) r e = class_rises lines l class r (sym e)

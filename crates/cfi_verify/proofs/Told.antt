@@ -2,16 +2,16 @@
 use Rattle.std.proofs.Common.{◌≡◌, ◌≤◌, ◌<◌, ◌⊎◌, inl, inr, ℕ, zero, suc, ◌+◌, ◌-◌, ◌*◌, ◌/◌, ◌%◌, ◌==◌, Bool, true, false, List, [], ◌∷◌, ◌++◌, length, length-drop, drop, take, Option, Some, None, refl, sym, ap, subst, ◌∙◌, arith}
 use Rattle.std.specs.Prelude.{slice_get, nat_le, nat_lt, ◌&&◌, ◌||◌, not, is_some, option_map, option_and_then}
 use Rattle.std.specs.List.{list_any}
-use Rattle.std.proofs.lemmas.Bool.{cases_Bool, cases_lt, cases_eq, le-leb, lt-leb, eqb-true, eq-eqb, ne_eqb, lt-ltb, ltb-true, and_parts, false_from_ne_true}
+use Rattle.std.proofs.lemmas.Bool.{cases_Bool, cases_lt, cases_eq, le-leb, lt-leb, eqb-true, eq-eqb, ne_eqb, lt-ltb, ltb-true, and_parts, false_from_ne_true, false≢true}
 use Rattle.std.proofs.lemmas.List.{drop-drop}
 use Rattle.rv_word.specs.MemoryMap.{CODE_START, Profile, lies_within, START}
 use Rattle.rv_word.proofs.Versions.{LaidOut}
 use Rattle.rv_code.specs.Decode.{decoded}
 use Rattle.cfi_graph.specs.declared.line.GraphLine.{GraphLine}
-use Rattle.cfi_graph.specs.declared.line.GraphLine.TheVariants.{Class, Site, Edge, Call}
+use Rattle.cfi_graph.specs.declared.line.GraphLine.TheVariants.{Class, CallClass, JumpClass, Site, Edge, Call}
 use Rattle.cfi_graph.specs.Graph.{ClassLine, GraphParts, class_in}
 use Rattle.cfi_unit.specs.declared.target_word.TargetWord.{TargetWord}
-use Rattle.cfi_unit.specs.declared.target_word.TargetWord.TheVariants.{First}
+use Rattle.cfi_unit.specs.declared.target_word.TargetWord.TheVariants.{First, Second}
 use Rattle.cfi_unit.specs.declared.unit.Unit as U
 use Rattle.cfi_unit.specs.declared.unit.Unit.TheVariants as V
 use Rattle.cfi_unit.specs.declared.place.Place.{Place}
@@ -24,9 +24,9 @@ use Rattle.cfi_scan.specs.Entries.{entry_of as entry_of_unit}
 use Rattle.cfi_scan.specs.Pieces.{IsOf, Listed, prologue_count}
 use Rattle.cfi_scan.specs.Stream.{IsSplitUp, last_of, spelled, width}
 use Rattle.cfi_scan.specs.Entries.{is_unit}
-use Rattle.cfi_verify.specs.Entries.{Tells, call_at, call_in, count_of, edge_at, edge_in, entry_at, fails_at, gate_at, gate_in, is_bad_end_at, is_lone_at, is_stop_entry, is_unused_at, misses_start, or_inside, site_at, site_in, starts_at}
+use Rattle.cfi_verify.specs.Entries.{Tells, asks_otherwise, call_at, call_in, count_of, edge_at, edge_in, entry_at, fails_at, gate_at, gate_in, is_asked_by, is_bad_end_at, is_lone_at, is_stop_entry, is_unused_at, misses_start, or_inside, site_at, site_in, starts_at}
 use Rattle.cfi_rules.specs.Lines.{is_outside, holds_of, line_at, targets_for, is_among, read_of}
-use Rattle.cfi_rules.specs.Rules.{call_of, edge_of, fails, fails_prologue, gate_label, gate_of, is_astray, is_bad_end, is_borne, is_call_to, is_edge_to, is_label, is_lone_site, is_site_with, is_stop, is_unused, lacks_gate, prologue_word_fits, site_of}
+use Rattle.cfi_rules.specs.Rules.{admits, call_of, edge_of, fails, fails_prologue, gate_label, gate_of, has_unit, is_astray, is_bad_end, is_borne, is_call_to, is_edge_to, is_label, is_of_version, is_lone_site, is_site_with, is_stop, is_unused, lacks_gate, prologue_word_fits, site_of}
 use Rattle.cfi_rules.specs.Split.{code_words, entry_of, is_handler, is_marked, is_start, place_at, starts, unit_at, unit_starts, unit_words}
 use Rattle.cfi_rules.specs.declared.asks.Asks.{Asks}
 use Rattle.cfi_rules.specs.declared.reject.Rule.{Rule}
@@ -49,9 +49,15 @@ call_is (V.Call target) a fits = ap Some (sym fits.1)
 call_is _ a fits = refl
 
 site_is : (u : U.Unit) (a : ℕ) → site_of (body u) ≡ site_in (entry_of_unit u a)
-site_is (V.Ijump rs1 imm label) a = refl
+site_is (V.Ijump which rs1 imm label) a = refl
 site_is (V.Icall rs1 imm label) a = refl
 site_is _ a = refl
+
+-- a unit is of a version where it asks as the version's do
+asks_as : (version : ℕ) (u : U.Unit) → not (is_of_version version u) ≡ holds_of (site_of (body u)) (λ (asked : Asks). not (is_asked_by version asked.kind asked.which))
+asks_as version (V.Ijump which rs1 imm label) = refl
+asks_as version (V.Icall rs1 imm label) = refl
+asks_as version _ = refl
 
 gate_is : (u : U.Unit) (a : ℕ) → gate_of u ≡ gate_in (entry_of_unit u a)
 gate_is (V.Gate l) a = refl
@@ -71,7 +77,7 @@ unit_is V.Stop at = refl
 unit_is (V.System op) at = refl
 unit_is (V.Store op rs1 rs2 imm) at = refl
 unit_is (V.Call target) at = refl
-unit_is (V.Ijump rs1 imm label) at = refl
+unit_is (V.Ijump which rs1 imm label) at = refl
 unit_is (V.Icall rs1 imm label) at = refl
 unit_is V.Return at = refl
 
@@ -139,6 +145,17 @@ module _ (p : Profile) (laid : LaidOut p) where
   entry_odd : (entries : List Entry) (a : ℕ) → p.units_from ≤ a → (a % 4 ≡ 0 → ⊥) → entry_at p entries a ≡ E.Inside
   unfolding entry_at
   entry_odd entries a low odd = rw (le-leb p.units_from a low, ne_eqb (a % 4) 0 odd) refl
+
+  -- where a unit starts by its entry
+  pub started_place : (entries : List Entry) (a : ℕ) → is_unit (entry_at p entries a) ≡ true → (p.units_from ≤ a) × (a % 4 ≡ 0)
+  started_place entries a e =
+      elim (cases_lt a p.units_from) [
+        | inl below ↦ absurd (false≢true (sym (ap is_unit (entry_below entries a below)) ∙ e))
+        | inr low ↦ elim (cases_eq (a % 4) 0) [
+          | inl even ↦ (low, even)
+          | inr odd ↦ absurd (false≢true (sym (ap is_unit (entry_odd entries a low odd)) ∙ e))
+        ]
+      ]
 
   module _ (words : List ℕ) (entries : List Entry) (done last : ℕ) (s : IsSplitUp p.units_from entries done last (unit_words p words)) where
     looks : (k : ℕ) → Looks s.units (unit_words p words) p.units_from k (or_inside (slice_get entries k))
@@ -320,8 +337,28 @@ module _ (p : Profile) (laid : LaidOut p) where
           | inr (u, h) ↦ ap (option_and_then gate_of) h.is ∙ gate_is u a ∙ ap gate_in (sym h.entry)
         ]
 
-    borne_told : (which : TargetWord) (a label : ℕ) → is_borne (gate_label p words) which a label ≡ is_borne (gate_at p t) which a label
+    has_told : (a : ℕ) → has_unit p words a ≡ starts_at p t a
+    has_told a =
+        elim (at_address a) [
+          | inl n ↦ ap is_some (no_unit p laid words a n.start) ∙ ap is_unit (sym n.entry)
+          | inr (u, h) ↦ ap is_some h.is ∙ sym (unit_is u a) ∙ ap is_unit (sym h.entry)
+        ]
+
+    borne_told : (which : TargetWord) (a label : ℕ) → is_borne (has_unit p words) (gate_label p words) which a label ≡ is_borne (starts_at p t) (gate_at p t) which a label
     borne_told First a label = ap (λ o. is_label o label) (gate_told a)
+    borne_told Second a label =
+        ap (λ b. b && is_label (gate_label p words (a + 4)) label) (has_told a)
+        ∙ ap (λ o. starts_at p t a && is_label o label) (gate_told (a + 4))
+
+    version_told : (graph : GraphParts) (a : ℕ) → holds_of (unit_at p words a) (λ unit. not (admits graph unit)) ≡ asks_otherwise p t graph.version a
+    version_told graph a =
+        let otherwise : Option Asks → Bool = λ o. holds_of o (λ (asked : Asks). not (is_asked_by graph.version asked.kind asked.which)) in
+        elim (at_address a) [
+          | inl n ↦ ap (λ o. holds_of o (λ unit. not (admits graph unit))) (no_unit p laid words a n.start) ∙ ap (λ e. otherwise (site_in e)) (sym n.entry)
+          | inr (u, h) ↦
+              ap (λ o. holds_of o (λ unit. not (admits graph unit))) h.is
+              ∙ asks_as graph.version u ∙ ap otherwise (site_is u a) ∙ ap (λ e. otherwise (site_in e)) (sym h.entry)
+        ]
 
     astray_told : (lines : List GraphLine) (a : ℕ) → holds_of (unit_at p words a) (is_astray lines a) ≡ holds_of (gate_at p t a) (λ label. is_outside lines label a)
     astray_told lines a =
@@ -330,20 +367,24 @@ module _ (p : Profile) (laid : LaidOut p) where
           | inr (u, h) ↦ ap (λ o. holds_of o (is_astray lines a)) h.is ∙ astray_is lines u a ∙ ap (λ e. holds_of (gate_in e) (λ label. is_outside lines label a)) (sym h.entry)
         ]
 
-    lacks_told : (a : ℕ) (line : GraphLine) → lacks_gate (gate_label p words) a line ≡ lacks_gate (gate_at p t) a line
+    lacks_told : (a : ℕ) (line : GraphLine) → lacks_gate (has_unit p words) (gate_label p words) a line ≡ lacks_gate (starts_at p t) (gate_at p t) a line
     lacks_told a line =
-        same_test (class_in line) (λ (c : ClassLine). is_among a c.targets && not (is_borne (gate_label p words) (read_of c.sort) a c.label))
-        (λ (c : ClassLine). is_among a c.targets && not (is_borne (gate_at p t) (read_of c.sort) a c.label))
+        same_test (class_in line) (λ (c : ClassLine). is_among a c.targets && not (is_borne (has_unit p words) (gate_label p words) (read_of c.sort) a c.label))
+        (λ (c : ClassLine). is_among a c.targets && not (is_borne (starts_at p t) (gate_at p t) (read_of c.sort) a c.label))
         (λ (c : ClassLine). ap (λ b. is_among a c.targets && not b) (borne_told (read_of c.sort) a c.label))
 
     unused_told : (a : ℕ) (line : GraphLine) → is_unused (place_at p words a) line ≡ is_unused_at p t a line
     unused_told a (Class label targets) = refl
+    unused_told a (CallClass label targets) = refl
+    unused_told a (JumpClass label targets) = refl
     unused_told a (Site address kind label) = refl
     unused_told a (Edge from to) = ap (λ o. not (is_some o)) (edge_told a)
     unused_told a (Call from to) = ap (λ o. not (is_some o)) (call_told a)
 
     lone_told : (a : ℕ) (line : GraphLine) → is_lone_site (place_at p words a) line ≡ is_lone_at p t a line
     lone_told a (Class label targets) = refl
+    lone_told a (CallClass label targets) = refl
+    lone_told a (JumpClass label targets) = refl
     lone_told a (Site address kind label) = ap (λ o. not (is_some o)) (site_told a)
     lone_told a (Edge from to) = refl
     lone_told a (Call from to) = refl
@@ -421,9 +462,9 @@ module _ (p : Profile) (laid : LaidOut p) where
     fails_told R.Prologue graph a = prologue_told a
     fails_told R.Unit graph a =
         let left : length (unit_words p words) ≡ count_of p t = length-drop (prologue_count p) words ∙ ap (λ n. n - prologue_count p) (sym w.count) in
-        swap (a == p.units_from + 4 * length (unit_starts p words)) (nat_lt (length (unit_starts p words)) (length (unit_words p words)))
+        or_same (swap (a == p.units_from + 4 * length (unit_starts p words)) (nat_lt (length (unit_starts p words)) (length (unit_words p words)))
         ∙ ap (λ n. nat_lt n (length (unit_words p words)) && (a == p.units_from + 4 * n)) (marks_done words t.entries t.done t.last w.split)
-        ∙ ap (λ n. nat_lt t.done n && (a == p.units_from + 4 * t.done)) left
+        ∙ ap (λ n. nat_lt t.done n && (a == p.units_from + 4 * t.done)) left) (version_told graph a)
     fails_told R.Target graph a = or_same (misses_told _ _ (edge_told a)) (misses_told _ _ (call_told a))
     fails_told R.Unlisted graph a =
         or_same (ap (λ o. holds_of o (λ target. not (is_edge_to (line_at graph.lines a) target))) (edge_told a))

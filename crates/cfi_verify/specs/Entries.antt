@@ -3,9 +3,11 @@ use Rattle.std.specs.Prelude.{◌≡◌, ℕ, ◌+◌, ◌-◌, ◌*◌, ◌/◌
 use Rattle.std.specs.List.{list_any}
 use Rattle.rv_word.specs.MemoryMap.{Profile, START}
 use Rattle.cfi_graph.specs.declared.line.GraphLine.{GraphLine}
-use Rattle.cfi_graph.specs.declared.line.GraphLine.TheVariants.{Class, Site, Edge, Call}
+use Rattle.cfi_graph.specs.declared.line.GraphLine.TheVariants.{Site, Edge, Call}
+use Rattle.cfi_graph.specs.declared.line.SiteKind.{SiteKind}
 use Rattle.cfi_graph.specs.declared.line.SiteKind.TheVariants as K
 use Rattle.cfi_graph.specs.Graph.{GraphParts}
+use Rattle.cfi_unit.specs.declared.target_word.TargetWord.{TargetWord}
 use Rattle.cfi_unit.specs.declared.target_word.TargetWord.TheVariants.{First}
 use Rattle.cfi_unit.specs.Recognise.{led_to, near_to}
 use Rattle.cfi_scan.specs.declared.entry.Entry.{Entry}
@@ -15,7 +17,7 @@ use Rattle.cfi_scan.specs.Pieces.{Listed, prologue_count}
 use Rattle.cfi_scan.specs.Stream.{IsSplitUp}
 use Rattle.cfi_rules.specs.Lines.{holds_of, is_outside, line_at, targets_for}
 use Rattle.cfi_rules.specs.Split.{entry_of, unit_words}
-use Rattle.cfi_rules.specs.Rules.{fails_prologue, is_edge_to, is_call_to, is_site_with, lacks_gate, asks}
+use Rattle.cfi_rules.specs.Rules.{fails_prologue, is_edge_to, is_call_to, is_site_with, jump_word, lacks_gate, same_word, asks}
 use Rattle.cfi_rules.specs.declared.asks.Asks.{Asks}
 use Rattle.cfi_rules.specs.declared.reject.Rule.{Rule}
 use Rattle.cfi_rules.specs.declared.reject.Rule.TheVariants as R
@@ -43,9 +45,14 @@ call_in _ a = None
 
 -- what a computed transfer asks for
 abbrev pub site_in : Entry → Option Asks
-site_in (E.Ijump label) = Some (asks K.Jump First label)
+site_in (E.Ijump which label) = Some (asks K.Jump which label)
 site_in (E.Icall label) = Some (asks K.Call First label)
 site_in _ = None
+
+-- code whose graph has this version may have a transfer that asks so
+abbrev pub is_asked_by : ℕ → SiteKind → TargetWord → Bool
+is_asked_by version K.Jump which = same_word which (jump_word version)
+is_asked_by version K.Call which = true
 
 -- the label of a gate
 abbrev pub gate_in : Entry → Option ℕ
@@ -89,8 +96,11 @@ module _ (p : Profile) where
   misses_start t target = holds_of target (λ x. not (starts_at t x))
 
   -- the rules, in the words of specs/Rules
-  abbrev pub fails_unit_at : Listed → ℕ → Bool
-  fails_unit_at t a = nat_lt t.done (count_of t) && (a == p.units_from + 4 * t.done)
+  abbrev pub asks_otherwise : Listed → ℕ → ℕ → Bool
+  asks_otherwise t version a = holds_of (site_at t a) (λ asked. not (is_asked_by version asked.kind asked.which))
+
+  abbrev pub fails_unit_at : Listed → ℕ → ℕ → Bool
+  fails_unit_at t version a = (nat_lt t.done (count_of t) && (a == p.units_from + 4 * t.done)) || asks_otherwise t version a
 
   abbrev pub fails_target_at : Listed → ℕ → Bool
   fails_target_at t a = misses_start t (edge_at t a) || misses_start t (call_at t a)
@@ -103,17 +113,14 @@ module _ (p : Profile) where
   abbrev pub is_unused_at : Listed → ℕ → GraphLine → Bool
   is_unused_at t a (Edge from to) = not (is_some (edge_at t a))
   is_unused_at t a (Call from to) = not (is_some (call_at t a))
-  is_unused_at t a (Site address kind label) = false
-  is_unused_at t a (Class label targets) = false
+  is_unused_at t a other = false
 
   abbrev pub fails_unused_at : Listed → List GraphLine → ℕ → Bool
   fails_unused_at t lines a = holds_of (line_at lines a) (is_unused_at t a)
 
   abbrev pub is_lone_at : Listed → ℕ → GraphLine → Bool
   is_lone_at t a (Site address kind label) = not (is_some (site_at t a))
-  is_lone_at t a (Edge from to) = false
-  is_lone_at t a (Call from to) = false
-  is_lone_at t a (Class label targets) = false
+  is_lone_at t a other = false
 
   abbrev pub fails_site_at : Listed → List GraphLine → ℕ → Bool
   fails_site_at t lines a =
@@ -121,7 +128,7 @@ module _ (p : Profile) where
       || holds_of (line_at lines a) (is_lone_at t a)
 
   abbrev pub fails_gate_at : Listed → List GraphLine → ℕ → Bool
-  fails_gate_at t lines a = list_any (lacks_gate (gate_at t) a) lines
+  fails_gate_at t lines a = list_any (lacks_gate (starts_at t) (gate_at t) a) lines
 
   abbrev pub fails_astray_at : Listed → List GraphLine → ℕ → Bool
   fails_astray_at t lines a = holds_of (gate_at t a) (λ label. is_outside lines label a)
@@ -137,7 +144,7 @@ module _ (p : Profile) where
 
   abbrev pub fails_at : Rule → Listed → GraphParts → ℕ → Bool
   fails_at R.Prologue t graph a = fails_prologue p t.prologue a
-  fails_at R.Unit t graph a = fails_unit_at t a
+  fails_at R.Unit t graph a = fails_unit_at t graph.version a
   fails_at R.Target t graph a = fails_target_at t a
   fails_at R.Unlisted t graph a = fails_unlisted_at t graph.lines a
   fails_at R.Unused t graph a = fails_unused_at t graph.lines a

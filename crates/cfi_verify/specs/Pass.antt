@@ -5,15 +5,17 @@ use Rattle.cfi_graph.specs.declared.line.GraphLine.{GraphLine}
 use Rattle.cfi_graph.specs.declared.line.Key.TheVariants.{Address}
 use Rattle.cfi_graph.specs.Graph.{GraphParts, key_below, key_of}
 use Rattle.cfi_scan.specs.Pieces.{Listed, prologue_count}
-use Rattle.cfi_verify.specs.Entries.{count_of, entry_at, gate_at, is_stop_entry, fails_at, fails_target_at, fails_unlisted_at, fails_unused_at, fails_site_at, fails_astray_at}
+use Rattle.cfi_verify.specs.Entries.{count_of, entry_at, asks_otherwise, gate_at, is_stop_entry, starts_at, fails_at, fails_target_at, fails_unlisted_at, fails_unused_at, fails_site_at, fails_astray_at}
 use Rattle.cfi_rules.specs.Lines.{line_at}
 use Rattle.cfi_rules.specs.Rules.{lacks_gate}
 use Rattle.cfi_rules.specs.declared.reject.Rule.{Rule}
 use Rattle.cfi_rules.specs.declared.reject.Rule.TheVariants as R
 
 module _ (p : Profile) where
-  -- none of the rules fails at an address that ask for its transfer, its gate and its line
+  -- none of the rules fails at an address that ask for its transfer, its gate and its line: of Unit, that
+  -- the transfer asks as the graph's version does
   pub record HoldsAt (t : Listed) (graph : GraphParts) (a : ℕ) : Type 0 where
+    pub unit : asks_otherwise p t graph.version a ≡ false
     pub target : fails_target_at p t a ≡ false
     pub unlisted : fails_unlisted_at p t graph.lines a ≡ false
     pub unused : fails_unused_at p t graph.lines a ≡ false
@@ -34,7 +36,7 @@ module _ (p : Profile) where
   pub record HasPassed (t : Listed) (graph : GraphParts) (count next : ℕ) : Type 0 where
     pub words : (k : ℕ) → k < next → HoldsAt t graph (p.units_from + 4 * k)
     pub lines_before : (i : ℕ) (line : GraphLine) → i < count → slice_get graph.lines i ≡ Some line → key_below (key_of line) (Address (p.units_from + 4 * next)) ≡ true
-    pub gates : (i : ℕ) (line : GraphLine) → i < count → slice_get graph.lines i ≡ Some line → (a : ℕ) → lacks_gate (gate_at p t) a line ≡ false
+    pub gates : (i : ℕ) (line : GraphLine) → i < count → slice_get graph.lines i ≡ Some line → (a : ℕ) → lacks_gate (starts_at p t) (gate_at p t) a line ≡ false
 
   -- at none of these words a line stands
   abbrev pub NoneStands : List GraphLine → ℕ → ℕ → Type 0

@@ -2,7 +2,7 @@
 
 ghost use Rattle.std.specs.Prelude.{◌≡◌, ◌+◌, ◌*◌, ◌<◌, ◌≤◌, ◌^◌, ℕ, IfSome, List, None, Some, false, length, true};
 ghost use Rattle.cfi_scan.specs.Entries.{is_quiet};
-ghost use Rattle.cfi_verify.specs.Entries.{Tells, count_of, entry_at, fails_gate_at, gate_at};
+ghost use Rattle.cfi_verify.specs.Entries.{Tells, count_of, entry_at, fails_gate_at, gate_at, starts_at};
 ghost use Rattle.cfi_rules.specs.Lines.{line_at};
 ghost use Rattle.cfi_verify.specs.Pass.{HasPassed, HoldsAt, HoldsEarly, NoneStands, ends_in_stop};
 ghost use Rattle.cfi_rules.specs.Rules.{Holds, lacks_gate};
@@ -101,7 +101,7 @@ impl<'a> Starts<'a> {
 
     /// `next`, if each target of a class has the class's gate.
     fn after_class(&self, line: &GraphLine, next: u64) -> Option<u64>
-        ensures { IfSome result (λ after. (after ≡ next) × ((a : ℕ) → lacks_gate (gate_at (profile_in self.now) self.now.listing) a line.now ≡ false)) }
+        ensures { IfSome result (λ after. (after ≡ next) × ((a : ℕ) → lacks_gate (starts_at (profile_in self.now) self.now.listing) (gate_at (profile_in self.now) self.now.listing) a line.now ≡ false)) }
     {
         match self.target_without_gate(line) {
             Some(_) => None,
@@ -119,8 +119,10 @@ impl<'a> Starts<'a> {
         match line {
             GraphLine::Edge(_, to) => self.edge_at(address) == Some(*to) && self.is_start(*to),
             GraphLine::Call(_, to) => self.call_at(address) == Some(*to) && self.is_start(*to),
-            GraphLine::Site(..) => !self.fails_site_with(address, Some(line)),
-            GraphLine::Class(..) => false,
+            GraphLine::Site(..) => {
+                !self.asks_otherwise(address) && !self.fails_site_with(address, Some(line))
+            }
+            GraphLine::Class(..) | GraphLine::CallClass(..) | GraphLine::JumpClass(..) => false,
         }
     }
 

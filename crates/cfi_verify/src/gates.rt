@@ -3,12 +3,14 @@
 ghost use Rattle.std.specs.Prelude.{◌≡◌, ◌&&◌, not};
 ghost use Rattle.least.specs.Least.{IsLeast};
 ghost use Rattle.cfi_rules.specs.Lines.{is_among};
-ghost use Rattle.cfi_verify.specs.Entries.{fails_gate_at, gate_at};
-ghost use Rattle.cfi_rules.specs.Rules.{is_label, lacks_gate};
+ghost use Rattle.cfi_verify.specs.Entries.{fails_gate_at, gate_at, starts_at};
+ghost use Rattle.cfi_rules.specs.Rules.{is_borne, is_label, lacks_gate};
 ghost use Rattle.cfi_verify.specs.Scan.{profile_in};
 
+use crate::lines::read_of;
 use crate::starts::Starts;
 use cfi_graph::GraphLine;
+use cfi_unit::TargetWord;
 use least::lesser;
 
 /// Whether a gate's label is there and is this one.
@@ -22,7 +24,7 @@ fn is_label(gate: Option<u32>, label: u32) -> bool
 }
 
 impl<'a> Starts<'a> {
-    /// The least target of a class at which no gate with the class's label stands.
+    /// The least target of a class whose word that is to bear the class's label does not.
     pub(crate) fn first_without_gate(&self) -> Option<u64>
         ensures { IsLeast (fails_gate_at (profile_in self.now) self.now.listing self.now.graph.lines) result }
     {
@@ -35,24 +37,37 @@ impl<'a> Starts<'a> {
     }
 
     pub(crate) fn target_without_gate(&self, line: &GraphLine) -> Option<u64>
-        ensures { IsLeast (λ a. lacks_gate (gate_at (profile_in self.now) self.now.listing) a line.now) result }
+        ensures { IsLeast (λ a. lacks_gate (starts_at (profile_in self.now) self.now.listing) (gate_at (profile_in self.now) self.now.listing) a line.now) result }
     {
-        match line {
-            GraphLine::Class(label, targets) => self.without_gate(*label, targets.as_slice()),
-            _ => None,
+        match line.class() {
+            Some(class) => {
+                self.without_gate(read_of(class.sort()), class.label(), class.targets())
+            }
+            None => None,
         }
     }
 
-    /// The least of some addresses at which no gate with a label stands.
-    fn without_gate(&self, label: u32, targets: &[u64]) -> Option<u64>
-        ensures { IsLeast (λ a. is_among a targets.now && not (is_label (gate_at (profile_in self.now) self.now.listing a) label)) result }
+    /// The least of some addresses whose word of this place does not bear a label.
+    fn without_gate(&self, which: TargetWord, label: u32, targets: &[u64]) -> Option<u64>
+        ensures { IsLeast (λ a. is_among a targets.now && not (is_borne (starts_at (profile_in self.now) self.now.listing) (gate_at (profile_in self.now) self.now.listing) which a label)) result }
     {
         let mut least = None;
         for target in targets {
-            if !is_label(self.gate_at(*target), label) {
+            if !self.is_borne(which, *target, label) {
                 least = lesser(least, Some(*target));
             }
         }
         least
+    }
+
+    /// Whether this word of the target at an address bears a label, and a unit starts at the address.
+    fn is_borne(&self, which: TargetWord, address: u64, label: u32) -> bool
+        ensures { result ≡ is_borne (starts_at (profile_in self.now) self.now.listing) (gate_at (profile_in self.now) self.now.listing) which address label }
+    {
+        match which {
+            TargetWord::First => is_label(self.gate_at(address), label),
+            TargetWord::Second => self.is_start(address)
+                && is_label(self.gate_after(address), label),
+        }
     }
 }

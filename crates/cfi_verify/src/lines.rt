@@ -4,10 +4,12 @@ ghost use Rattle.std.specs.Prelude.{◌≡◌, IfSome, IsTrue, map, nat_lt};
 ghost use Rattle.std.specs.List.{list_all};
 ghost use Rattle.std.specs.Option.{option_copied};
 ghost use Rattle.cfi_graph.specs.Graph.{is_rising, key_below, key_of, targets_rise};
-ghost use Rattle.cfi_rules.specs.Lines.{class_of, is_among, line_at, line_with, targets_for};
+ghost use Rattle.cfi_rules.specs.Lines.{class_with, is_among, is_beside, is_word_of, line_at, line_with, read_of, serves, targets_for};
+ghost use Rattle.cfi_unit.specs.declared.target_word.TargetWord.TheVariants.{Second};
 
-use cfi_graph::{Graph, GraphLine, Key};
+use cfi_graph::{Class, Graph, GraphLine, Key, SiteKind, Sort};
 use cfi_rules::Asks;
+use cfi_unit::TargetWord;
 
 /// The line with a key, if there is one: keys rise, so its place is halved in.
 pub(crate) fn line_with(graph: &Graph, key: Key) -> Option<&GraphLine>
@@ -39,34 +41,78 @@ pub(crate) fn line_at(graph: &Graph, address: u64) -> Option<&GraphLine>
     line_with(graph, Key::Address(address))
 }
 
-/// The targets of the class with a label.
-pub(crate) fn class_of(graph: &Graph, label: u32) -> Option<&[u64]>
+/// The class with a label.
+pub(crate) fn class_with(graph: &Graph, label: u32) -> Option<Class<'_>>
     requires ordered { IsTrue (is_rising key_below (map key_of graph.now.lines)) }
     requires targets { IsTrue (list_all targets_rise graph.now.lines) }
-    ensures value { option_copied result ≡ class_of graph.now.lines label }
-    ensures rising { IfSome result (λ targets. IsTrue (is_rising nat_lt targets.now)) }
+    ensures value { result ≡ class_with graph.now.lines label }
+    ensures rising { IfSome result (λ class. IsTrue (is_rising nat_lt class.targets)) }
 {
     found_class(graph, label)
 }
 
-fn found_class(graph: &Graph, label: u32) -> Option<&[u64]>
+fn found_class(graph: &Graph, label: u32) -> Option<Class<'_>>
     requires { IsTrue (is_rising key_below (map key_of graph.now.lines)) }
-    ensures { option_copied result ≡ class_of graph.now.lines label }
+    ensures { result ≡ class_with graph.now.lines label }
 {
-    match line_with(graph, Key::Label(label))? {
-        GraphLine::Class(_, targets) => Some(targets.as_slice()),
-        _ => None,
+    line_with(graph, Key::Label(label))?.class()
+}
+
+/// Which word of each of its targets bears a class's label.
+pub(crate) fn read_of(sort: Sort) -> TargetWord
+    ensures { result ≡ read_of sort }
+{
+    match sort {
+        Sort::Both => TargetWord::First,
+        Sort::Calls => TargetWord::First,
+        Sort::Jumps => TargetWord::Second,
     }
 }
 
-/// The targets of the class with a label, for a computed transfer that it serves; a class serves each.
+/// Whether classes of a sort serve computed transfers of this kind whose checks read this word.
+fn serves(sort: Sort, kind: SiteKind, which: TargetWord) -> bool
+    ensures { result ≡ serves sort kind which }
+{
+    match (sort, kind, which) {
+        (Sort::Both, _, TargetWord::First) => true,
+        (Sort::Calls, SiteKind::Call, TargetWord::First) => true,
+        (Sort::Jumps, SiteKind::Jump, TargetWord::Second) => true,
+        _ => false,
+    }
+}
+
+/// The targets of the class with a label, for a computed transfer that it serves.
 pub(crate) fn targets_for(graph: &Graph, asked: Asks) -> Option<&[u64]>
     requires ordered { IsTrue (is_rising key_below (map key_of graph.now.lines)) }
     requires targets { IsTrue (list_all targets_rise graph.now.lines) }
     ensures value { option_copied result ≡ targets_for graph.now.lines asked.kind asked.which asked.label }
     ensures rising { IfSome result (λ targets. IsTrue (is_rising nat_lt targets.now)) }
 {
-    class_of(graph, asked.label)
+    let class = class_with(graph, asked.label)?;
+    if serves(class.sort(), asked.kind, asked.which) {
+        Some(class.targets())
+    } else {
+        None
+    }
+}
+
+/// Whether at an address stands no word of a class's targets that is to bear its label.
+pub(crate) fn is_beside(class: &Class<'_>, address: u64) -> bool
+    requires { IsTrue (is_rising nat_lt class.now.targets) }
+    ensures { result ≡ is_beside class.now address }
+{
+    match read_of(class.sort()) {
+        TargetWord::First => !is_among(address, class.targets()),
+        TargetWord::Second => !is_after(address, class.targets()),
+    }
+}
+
+/// Whether an address is that of the word after one of some that rise.
+fn is_after(address: u64, targets: &[u64]) -> bool
+    requires { IsTrue (is_rising nat_lt targets.now) }
+    ensures { result ≡ is_word_of Second address targets.now }
+{
+    address >= 4 && is_among(address - 4, targets)
 }
 
 /// Whether an address is among some that rise.

@@ -1,8 +1,8 @@
 //! Where the unit at an address leads, and what it asks of the graph.
 
-ghost use Rattle.std.specs.Prelude.{◌≡◌, ◌<◌, ◌^◌};
+ghost use Rattle.std.specs.Prelude.{◌≡◌, ◌+◌, ◌<◌, ◌^◌, true};
 ghost use Rattle.cfi_unit.specs.Recognise.{led_to, near_to};
-ghost use Rattle.cfi_verify.specs.Entries.{call_at, edge_at, gate_at, site_at};
+ghost use Rattle.cfi_verify.specs.Entries.{call_at, edge_at, gate_at, gate_in, site_at, starts_at};
 ghost use Rattle.cfi_verify.specs.Scan.{profile_in};
 
 use crate::starts::Starts;
@@ -26,6 +26,16 @@ fn led_near(at: u64, field: Immediate<12>) -> u64
     ensures { result ≡ near_to at field }
 {
     at.wrapping_add(sext(u64::from(field.bits()) * 2, 13))
+}
+
+/// The label of a gate's entry.
+fn gate_in(entry: Entry) -> Option<u32>
+    ensures { result ≡ gate_in entry }
+{
+    match entry {
+        Entry::Gate(label) => Some(label.bits()),
+        _ => None,
+    }
 }
 
 impl<'a> Starts<'a> {
@@ -61,9 +71,9 @@ impl<'a> Starts<'a> {
         ensures { result ≡ site_at (profile_in self.now) self.now.listing address }
     {
         match self.entry_at(address) {
-            Entry::Ijump(label) => Some(Asks {
+            Entry::Ijump(which, label) => Some(Asks {
                 kind: SiteKind::Jump,
-                which: TargetWord::First,
+                which,
                 label: label.bits(),
             }),
             Entry::Icall(label) => Some(Asks {
@@ -79,9 +89,15 @@ impl<'a> Starts<'a> {
     pub(crate) fn gate_at(&self, address: u64) -> Option<u32>
         ensures { result ≡ gate_at (profile_in self.now) self.now.listing address }
     {
-        match self.entry_at(address) {
-            Entry::Gate(label) => Some(label.bits()),
-            _ => None,
-        }
+        gate_in(self.entry_at(address))
+    }
+
+    /// The label of the gate at the word after the one at an address, where a unit starts.
+    pub(crate) fn gate_after(&self, address: u64) -> Option<u32>
+        requires { starts_at (profile_in self.now) self.now.listing address ≡ true }
+        ensures { result ≡ gate_at (profile_in self.now) self.now.listing (address + 4) }
+    {
+        let index = (address - self.units_from()) / 4;
+        gate_in(self.word(index + 1))
     }
 }

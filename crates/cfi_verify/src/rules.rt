@@ -3,6 +3,7 @@
 ghost use Rattle.std.specs.Prelude.{◌≡◌, ◌≢◌, ◌+◌, ◌*◌, ◌<◌, ◌==◌, ◌^◌, not};
 ghost use Rattle.std.specs.Option.{option_copied};
 ghost use Rattle.cfi_verify.specs.Entries.{
+  asks_otherwise,
   count_of,
   fails_astray_at,
   fails_at,
@@ -12,26 +13,29 @@ ghost use Rattle.cfi_verify.specs.Entries.{
   fails_unit_at,
   fails_unlisted_at,
   fails_unused_at,
+  is_asked_by,
   is_bad_end_at,
   is_stop_entry,
   misses_start,
 };
-ghost use Rattle.cfi_rules.specs.Lines.{class_of, holds_of, is_among, is_outside, line_at};
+ghost use Rattle.cfi_rules.specs.Lines.{holds_of, is_outside, line_at};
 ghost use Rattle.cfi_rules.specs.Rules.{
   fails_prologue,
   is_call_to,
   is_edge_to,
   is_site_with,
+  same_word,
 };
 ghost use Rattle.cfi_verify.specs.Scan.{profile_in};
 ghost use Rattle.cfi_rules.specs.declared.reject.Rule.TheVariants as R;
 
-use crate::lines::is_among;
+use crate::lines::is_beside;
 use crate::prologue::is_prologue_word;
 use crate::starts::Starts;
-use cfi_graph::GraphLine;
-use cfi_rules::{Asks, Rule};
+use cfi_graph::{GraphLine, SiteKind};
+use cfi_rules::{Asks, Rule, jump_word};
 use cfi_scan::Entry;
+use cfi_unit::TargetWord;
 use rv_word::memory_map::CODE_START;
 
 impl<'a> Starts<'a> {
@@ -77,10 +81,21 @@ impl<'a> Starts<'a> {
     }
 
     fn fails_unit(&self, address: u64) -> bool
-        ensures { result ≡ fails_unit_at (profile_in self.now) self.now.listing address }
+        ensures { result ≡ fails_unit_at (profile_in self.now) self.now.listing self.now.graph.version address }
     {
         let done = self.listing().done() as u64;
         done < self.count_after() && address == self.units_from() + 4 * done
+            || self.asks_otherwise(address)
+    }
+
+    /// Whether a computed transfer at an address asks otherwise than those of the graph's version.
+    pub(crate) fn asks_otherwise(&self, address: u64) -> bool
+        ensures { result ≡ asks_otherwise (profile_in self.now) self.now.listing self.now.graph.version address }
+    {
+        match self.site_at(address) {
+            Some(asked) => !is_asked_by(self.graph().version(), asked.kind, asked.which),
+            None => false,
+        }
     }
 
     fn misses_start(&self, target: Option<u64>) -> bool
@@ -166,15 +181,8 @@ impl<'a> Starts<'a> {
     pub(crate) fn is_outside(&self, label: u32, address: u64) -> bool
         ensures { result ≡ is_outside self.now.graph.lines label address }
     {
-        self.is_no_target(label, address)
-    }
-
-    /// Whether a label is a class's and an address is none of its targets.
-    fn is_no_target(&self, label: u32, address: u64) -> bool
-        ensures { result ≡ holds_of (class_of self.now.graph.lines label) (λ targets. not (is_among address targets)) }
-    {
-        match self.class_of(label) {
-            Some(targets) => !is_among(address, targets),
+        match self.class_with(label) {
+            Some(class) => is_beside(&class, address),
             None => false,
         }
     }
@@ -195,6 +203,22 @@ impl<'a> Starts<'a> {
         ensures { result ≡ fails_end_at (profile_in self.now) self.now.listing address }
     {
         self.is_bad_end(address) || (address == self.units_from() && self.count() <= self.front())
+    }
+}
+
+fn same_word(which: TargetWord, other: TargetWord) -> bool
+    ensures { result ≡ same_word which other }
+{
+    which == other
+}
+
+/// Whether code whose graph has this version may have a transfer that asks so.
+fn is_asked_by(version: u8, kind: SiteKind, which: TargetWord) -> bool
+    ensures { result ≡ is_asked_by version kind which }
+{
+    match kind {
+        SiteKind::Jump => same_word(which, jump_word(version)),
+        SiteKind::Call => true,
     }
 }
 

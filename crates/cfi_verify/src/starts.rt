@@ -7,12 +7,12 @@ ghost use Rattle.cfi_graph.specs.Graph.{IsGraph, is_rising};
 ghost use Rattle.cfi_scan.specs.Pieces.{prologue_count};
 ghost use Rattle.cfi_scan.specs.declared.entry.Entry.TheVariants as E;
 ghost use Rattle.cfi_verify.specs.Entries.{entry_at, or_inside, starts_at};
-ghost use Rattle.cfi_rules.specs.Lines.{class_of, line_at, targets_for};
+ghost use Rattle.cfi_rules.specs.Lines.{class_with, line_at, targets_for};
 ghost use Rattle.cfi_verify.specs.Scan.{AreStarts, profile_in};
 ghost use Rattle.cfi_rules.specs.Split.{entry_of};
 
 use crate::lines;
-use cfi_graph::{Graph, GraphLine};
+use cfi_graph::{Class, Graph, GraphLine};
 use cfi_rules::Asks;
 use cfi_scan::{Entry, Listing};
 use rv_code::decode;
@@ -166,12 +166,12 @@ impl<'a> Starts<'a> {
         lines::line_at(self.graph, address)
     }
 
-    /// The targets of the class with a label.
-    pub(crate) fn class_of(&self, label: u32) -> Option<&'a [u64]>
-        ensures value { option_copied result ≡ class_of self.now.graph.lines label }
-        ensures rising { IfSome result (λ targets. IsTrue (is_rising nat_lt targets.now)) }
+    /// The class with a label.
+    pub(crate) fn class_with(&self, label: u32) -> Option<Class<'a>>
+        ensures value { result ≡ class_with self.now.graph.lines label }
+        ensures rising { IfSome result (λ class. IsTrue (is_rising nat_lt class.targets)) }
     {
-        lines::class_of(self.graph, label)
+        lines::class_with(self.graph, label)
     }
 
     /// The targets of the class with a label, for a computed transfer that it serves.

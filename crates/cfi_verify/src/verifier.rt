@@ -6,7 +6,7 @@ ghost use Rattle.cfi_graph.specs.Graph.{is_rising};
 ghost use Rattle.cfi_rules.specs.Along.{IsSafe};
 ghost use Rattle.cfi_verify.specs.Answer.{IsCause};
 ghost use Rattle.cfi_rules.specs.Laws.{AreBytes};
-ghost use Rattle.cfi_rules.specs.Lines.{class_of, targets_for};
+ghost use Rattle.cfi_rules.specs.Lines.{targets_for};
 ghost use Rattle.cfi_rules.specs.Rules.{IsWellFormed};
 ghost use Rattle.cfi_scan.specs.Pieces.{HasSeen};
 ghost use Rattle.cfi_verify.specs.Scan.{starts_prologue};
@@ -164,14 +164,6 @@ impl<'a> Checked<'a> {
         is_handler(address)
             || address == self.closing()
             || address == START && self.entry().is_some()
-    }
-
-    /// The targets of the graph's class with a label.
-    pub fn class_of(&self, label: u32) -> Option<&'a [u64]>
-        ensures value { option_copied result ≡ class_of self.now.graph.lines label }
-        ensures rising { IfSome result (λ targets. IsTrue (is_rising nat_lt targets.now)) }
-    {
-        self.starts.class_of(label)
     }
 
     /// The targets of the graph's class with a label, for a computed transfer that it serves.

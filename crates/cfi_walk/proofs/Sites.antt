@@ -3,6 +3,7 @@ use Rattle.std.proofs.Common.{◌≡◌, ℕ, ◌<◌, ◌≤◌, inl, inr, List
 use Rattle.rv_word.specs.MemoryMap.{CODE_START, Profile}
 use Rattle.rv_word.proofs.Versions.{LaidOut, laid_out}
 use Rattle.cfi_graph.specs.declared.line.GraphLine.{GraphLine}
+use Rattle.cfi_unit.specs.declared.target_word.TargetWord.{TargetWord}
 use Rattle.cfi_unit.specs.declared.unit.Unit as U
 use Rattle.cfi_unit.specs.declared.unit.Unit.TheVariants as V
 use Rattle.cfi_unit.specs.declared.unit.SystemOp.TheVariants as S
@@ -21,9 +22,9 @@ call_keeps : (site target : ℕ) (pending : List ℕ) (v : ℕ) (after : List �
 call_keeps site target pending v after low h (inl g) = same (site ∷ pending) after (low, h) g.2
 call_keeps site target pending v after low h (inr g) = same pending after h g.1.1
 
-jump_keeps : (lines : List GraphLine) (label : ℕ) (pending : List ℕ) (v : ℕ) (after : List ℕ) → AreSites pending → JumpGoes lines label pending v after → AreSites after
-jump_keeps lines label pending v after h (inl g) = same pending after h g.1
-jump_keeps lines label pending v after h (inr g) = same pending after h g.1
+jump_keeps : (lines : List GraphLine) (which : TargetWord) (label : ℕ) (pending : List ℕ) (v : ℕ) (after : List ℕ) → AreSites pending → JumpGoes lines which label pending v after → AreSites after
+jump_keeps lines which label pending v after h (inl g) = same pending after h g.1
+jump_keeps lines which label pending v after h (inr g) = same pending after h g.1
 
 computed_call_keeps : (lines : List GraphLine) (site label : ℕ) (pending : List ℕ) (v : ℕ) (after : List ℕ) → DEEP < site → AreSites pending → ComputedCallGoes lines site label pending v after → AreSites after
 computed_call_keeps lines site label pending v after low h (inl g) = same pending after h g.1
@@ -48,7 +49,7 @@ unit_keeps lines (V.System S.Ecall) at pending v after low h g = same pending af
 unit_keeps lines (V.System S.Ebreak) at pending v after low h g = absurd g
 unit_keeps lines (V.Store op rs1 rs2 imm) at pending v after low h g = same pending after h g.1
 unit_keeps lines (V.Call target) at pending v after low h g = call_keeps (after_unit (V.Call target) at) target pending v after (omega arith) h g
-unit_keeps lines (V.Ijump rs1 imm label) at pending v after low h g = jump_keeps lines label pending v after h g
+unit_keeps lines (V.Ijump which rs1 imm label) at pending v after low h g = jump_keeps lines which label pending v after h g
 unit_keeps lines (V.Icall rs1 imm label) at pending v after low h g = computed_call_keeps lines (after_unit (V.Icall rs1 imm label) at) label pending v after (omega arith) h g
 unit_keeps lines V.Return at pending v after low h g = return_keeps pending v after h g
 

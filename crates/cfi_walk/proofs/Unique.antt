@@ -9,6 +9,7 @@ use Rattle.cfi_graph.specs.declared.line.GraphLine.{GraphLine}
 use Rattle.cfi_graph.specs.declared.line.SiteKind.{SiteKind}
 use Rattle.cfi_graph.specs.declared.line.SiteKind.TheVariants as K
 use Rattle.cfi_graph.specs.Graph.{GraphParts}
+use Rattle.cfi_unit.specs.declared.target_word.TargetWord.{TargetWord}
 use Rattle.cfi_unit.specs.declared.target_word.TargetWord.TheVariants.{First}
 use Rattle.cfi_unit.specs.declared.unit.Unit as U
 use Rattle.cfi_unit.specs.declared.unit.Unit.TheVariants as V
@@ -20,18 +21,19 @@ use Rattle.cfi_rules.specs.Lines.{holds_of, is_among, targets_for}
 use Rattle.cfi_rules.specs.Rules.{IsWellFormed}
 use Rattle.cfi_rules.specs.Split.{code_words}
 use Rattle.cfi_rules.specs.Walk.{InClass, CallGoes, JumpGoes, ComputedCallGoes, ReturnGoes, UnitGoes, Goes}
-use Rattle.cfi_rules.proofs.RuleFacts.{gate_stands}
+use Rattle.cfi_rules.proofs.RuleFacts.{target_bears, unit_borne}
 use Rattle.cfi_walk.specs.Laws.{AreSites, StepIsUnique}
 use Rattle.cfi_walk.specs.State.{WalkState}
 use Rattle.cfi_walk.proofs.Reach.{unit_within}
 
-class_above : (p : Profile) → LaidOut p → (image : Contents) (graph : GraphParts) → IsWellFormed p image graph → (kind : SiteKind) (label v : ℕ) → InClass graph.lines kind First label v → DEEP < v
-class_above p laid image graph formed kind label v inside =
-    elim (cases_Option (targets_for graph.lines kind First label)) [
+class_above : (p : Profile) → LaidOut p → (image : Contents) (graph : GraphParts) → IsWellFormed p image graph → (kind : SiteKind) (which : TargetWord) (label v : ℕ) → InClass graph.lines kind which label v → DEEP < v
+class_above p laid image graph formed kind which label v inside =
+    elim (cases_Option (targets_for graph.lines kind which label)) [
       | inl none ↦ absurd (false≢true (sym (ap (λ o. holds_of o (is_among v)) none) ∙ inside))
       | inr (ts, some) ↦
-          let unit = gate_stands p image graph formed kind v label ts some (sym (ap (λ o. holds_of o (is_among v)) some) ∙ inside) in
-          let low = (unit_within p laid (code_words image.code) v (V.Gate label) unit).low in
+          let borne = target_bears p image graph formed kind which v label ts some (sym (ap (λ o. holds_of o (is_among v)) some) ∙ inside) in
+          let unit = unit_borne p (code_words image.code) which v label borne in
+          let low = (unit_within p laid (code_words image.code) v unit.0 unit.1).low in
           omega arith
     ]
 
@@ -41,21 +43,21 @@ call_same site target pending v a b (inl (room, t, s)) (inr (full, to)) = absurd
 call_same site target pending v a b (inr (full, to)) (inl (room, t, s)) = absurd (omega arith)
 call_same site target pending v a b (inr g) (inr h) = g.1.1 ∙ sym h.1.1
 
-jump_same : (lines : List GraphLine) (label : ℕ) (pending : List ℕ) (v : ℕ) (a b : List ℕ) → JumpGoes lines label pending v a → JumpGoes lines label pending v b → a ≡ b
-jump_same lines label pending v a b (inl g) (inl h) = g.1 ∙ sym h.1
-jump_same lines label pending v a b (inl g) (inr h) = g.1 ∙ sym h.1
-jump_same lines label pending v a b (inr g) (inl h) = g.1 ∙ sym h.1
-jump_same lines label pending v a b (inr g) (inr h) = g.1 ∙ sym h.1
+jump_same : (lines : List GraphLine) (which : TargetWord) (label : ℕ) (pending : List ℕ) (v : ℕ) (a b : List ℕ) → JumpGoes lines which label pending v a → JumpGoes lines which label pending v b → a ≡ b
+jump_same lines which label pending v a b (inl g) (inl h) = g.1 ∙ sym h.1
+jump_same lines which label pending v a b (inl g) (inr h) = g.1 ∙ sym h.1
+jump_same lines which label pending v a b (inr g) (inl h) = g.1 ∙ sym h.1
+jump_same lines which label pending v a b (inr g) (inr h) = g.1 ∙ sym h.1
 
-module _ (p : Profile) (lines : List GraphLine) (above : (kind : SiteKind) (label v : ℕ) → InClass lines kind First label v → DEEP < v) where
-  never : (kind : SiteKind) (label v : ℕ) → InClass lines kind First label v → v ≡ BAD_TARGET → ⊥
-  never kind label v inside e = let high = above kind label v inside in omega arith
+module _ (p : Profile) (lines : List GraphLine) (above : (kind : SiteKind) (which : TargetWord) (label v : ℕ) → InClass lines kind which label v → DEEP < v) where
+  never : (kind : SiteKind) (which : TargetWord) (label v : ℕ) → InClass lines kind which label v → v ≡ BAD_TARGET → ⊥
+  never kind which label v inside e = let high = above kind which label v inside in omega arith
 
   computed_call_same : (site label : ℕ) (pending : List ℕ) (v : ℕ) (a b : List ℕ) → ComputedCallGoes lines site label pending v a → ComputedCallGoes lines site label pending v b → a ≡ b
   computed_call_same site label pending v a b (inl g) (inl h) = g.1 ∙ sym h.1
-  computed_call_same site label pending v a b (inl g) (inr (inl h)) = absurd (never K.Call label v h.1 g.0)
+  computed_call_same site label pending v a b (inl g) (inr (inl h)) = absurd (never K.Call First label v h.1 g.0)
   computed_call_same site label pending v a b (inl g) (inr (inr h)) = g.1 ∙ sym h.2.1
-  computed_call_same site label pending v a b (inr (inl g)) (inl h) = absurd (never K.Call label v g.1 h.0)
+  computed_call_same site label pending v a b (inr (inl g)) (inl h) = absurd (never K.Call First label v g.1 h.0)
   computed_call_same site label pending v a b (inr (inl g)) (inr (inl h)) = g.2 ∙ sym h.2
   computed_call_same site label pending v a b (inr (inl (room, i, s))) (inr (inr (full, t, to))) = absurd (omega arith)
   computed_call_same site label pending v a b (inr (inr g)) (inl h) = g.2.1 ∙ sym h.1
@@ -86,7 +88,7 @@ module _ (p : Profile) (lines : List GraphLine) (above : (kind : SiteKind) (labe
   unit_same (V.System S.Ebreak) at pending v a b s g h = absurd g
   unit_same (V.Store op rs1 rs2 imm) at pending v a b s g h = g.1 ∙ sym h.1
   unit_same (V.Call target) at pending v a b s g h = call_same (after_unit (V.Call target) at) target pending v a b g h
-  unit_same (V.Ijump rs1 imm label) at pending v a b s g h = jump_same lines label pending v a b g h
+  unit_same (V.Ijump which rs1 imm label) at pending v a b s g h = jump_same lines which label pending v a b g h
   unit_same (V.Icall rs1 imm label) at pending v a b s g h = computed_call_same (after_unit (V.Icall rs1 imm label) at) label pending v a b g h
   unit_same V.Return at pending v a b s g h = return_same pending v a b s g h
 

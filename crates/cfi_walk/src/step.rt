@@ -53,12 +53,18 @@ fn call(walk: &Walk, site: u64, target: u64, pc: u64) -> Option<Move>
     }
 }
 
-fn computed_jump(checked: &Checked<'_>, walk: &Walk, label: u32, pc: u64) -> Option<Move>
-    ensures { IsAnswer (λ newer. JumpGoes checked.now.graph.lines label walk.now.pending pc newer) walk.now.pending result }
+fn computed_jump(
+    checked: &Checked<'_>,
+    walk: &Walk,
+    which: TargetWord,
+    label: u32,
+    pc: u64,
+) -> Option<Move>
+    ensures { IsAnswer (λ newer. JumpGoes checked.now.graph.lines which label walk.now.pending pc newer) walk.now.pending result }
 {
     let asked = Asks {
         kind: SiteKind::Jump,
-        which: TargetWord::First,
+        which,
         label,
     };
     if pc == BAD_TARGET || is_in_class(checked, asked, pc) {
@@ -118,7 +124,9 @@ fn from_unit(checked: &Checked<'_>, walk: &Walk, unit: &Unit, past: u64, pc: u64
         Unit::Stop => to(walk, BAD_TARGET, pc),
         Unit::System(SystemOp::Ebreak) => None,
         Unit::Call(target) => call(walk, past, *target, pc),
-        Unit::Ijump(_, _, label) => computed_jump(checked, walk, label.bits(), pc),
+        Unit::Ijump(which, _, _, label) => {
+            computed_jump(checked, walk, *which, label.bits(), pc)
+        }
         Unit::Icall(_, _, label) => computed_call(checked, walk, past, label.bits(), pc),
         Unit::Return => returned(walk, pc),
     }

@@ -66,9 +66,12 @@ static COMMANDS: [Form; 6] = [
     },
     Form {
         name: "harden",
-        about: "Does what rewrite does, in a form: for one hart, or for harts",
+        about: "Does what rewrite does, in one of four forms",
         operands: &[
-            ("FORM", "The form of what is made: plain or harts"),
+            (
+                "FORM",
+                "The form of what is made: plain, harts, split or harts-split",
+            ),
             ("OBJECT", "The object to read"),
             ("ENTRY", "The symbol at which the program begins"),
             ("POLICY", "The policy to read, or none"),

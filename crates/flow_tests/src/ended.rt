@@ -7,6 +7,7 @@ ghost use Rattle.cfi_flow.specs.Policy.{instruction_at};
 use cfi_flow::{Closed, close, entry_place, raw_graph};
 use cfi_graph::{Map, Policy, read_map, read_policy};
 use obj_program::Items;
+use rv_word::Form;
 use src_machine::{Reason, SourceEnd, SourceRun, SourceTurn};
 use std::alloc::{AllocError, Global};
 
@@ -152,10 +153,10 @@ fn policy_of(alloc: Global, text: &[u8]) -> Option<Policy> {
     read_policy(alloc, text).ok()
 }
 
-/// The closed graph of a program under a policy.
-fn closed_of(alloc: Global, items: &Items, policy: &Policy) -> Option<Closed> {
+/// The closed graph of a program under a policy, for a form.
+fn closed_of(alloc: Global, form: Form, items: &Items, policy: &Policy) -> Option<Closed> {
     match raw_graph(alloc, items, policy) {
-        Ok(raw) => close(alloc, &raw).ok(),
+        Ok(raw) => close(alloc, form, &raw).ok(),
         Err(_) => None,
     }
 }
@@ -165,7 +166,7 @@ fn is_told_under(alloc: Global, items: &Items, policy: &Policy, asked: &Asked<'_
     let Ok(map) = read_map(alloc, asked.map) else {
         return false;
     };
-    match closed_of(alloc, items, policy) {
+    match closed_of(alloc, map.form(), items, policy) {
         Some(closed) => is_told_at(alloc, items, &closed, &map, asked),
         None => false,
     }

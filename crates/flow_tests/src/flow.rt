@@ -5,6 +5,7 @@ use crate::told::told;
 use elf_object::Object;
 use obj_items::items;
 use obj_program::Items;
+use rv_word::Form;
 use std::alloc::Global;
 
 /// A table of programs, and how many there are.
@@ -13,50 +14,51 @@ fn table(number: u32) -> (&'static [u8], usize) {
         0 => (rows::REACHED, 29),
         1 => (rows::POLICIES, 28),
         2 => (rows::SECTIONS, 6),
-        _ => (rows::ASKED, 17),
+        3 => (rows::ASKED, 17),
+        _ => (rows::SPLIT, 9),
     }
 }
 
 /// Whether a program is told as its row says.
-fn is_told(alloc: Global, items: &Items, row: &Row) -> bool {
-    match told(alloc, items, row.asked) {
+fn is_told(alloc: Global, form: Form, items: &Items, row: &Row) -> bool {
+    match told(alloc, form, items, row.asked) {
         Some(text) => text.as_str() == row.told,
         None => false,
     }
 }
 
 /// Whether an object is a program that is told as its row says.
-fn is_program(alloc: Global, object: &Object, row: &Row) -> bool {
+fn is_program(alloc: Global, form: Form, object: &Object, row: &Row) -> bool {
     match items(alloc, object) {
-        Ok(items) => is_told(alloc, &items, row),
+        Ok(items) => is_told(alloc, form, &items, row),
         Err(_) => false,
     }
 }
 
 /// Whether a file is an object that is told as its row says.
-fn is_object(alloc: Global, file: &[u8], row: &Row) -> bool {
+fn is_object(alloc: Global, form: Form, file: &[u8], row: &Row) -> bool {
     match Object::read(alloc, file) {
-        Ok(object) => is_program(alloc, &object, row),
+        Ok(object) => is_program(alloc, form, &object, row),
         Err(_) => false,
     }
 }
 
 /// Whether a row tells its program right.
-fn is_right(alloc: Global, text: &str) -> bool {
+fn is_right(alloc: Global, form: Form, text: &str) -> bool {
     let Some(row) = row_of(text) else {
         return false;
     };
     match file(alloc, &row) {
-        Some(file) => is_object(alloc, &file, &row),
+        Some(file) => is_object(alloc, form, &file, &row),
         None => false,
     }
 }
 
-/// The first row of a table that is not right, or an empty text.
-fn first_wrong(alloc: Global, number: u32) -> &'static str {
+/// The first row of a table that is not right in a form, or an empty text.
+fn first_wrong(alloc: Global, form: Form, number: u32) -> &'static str {
     let (table, count) = table(number);
     for row in sample_programs::rows(table, count).lines() {
-        if !is_right(alloc, row) {
+        if !is_right(alloc, form, row) {
             return row;
         }
     }
@@ -66,6 +68,18 @@ fn first_wrong(alloc: Global, number: u32) -> &'static str {
 #[test]
 fn tells_the_flow_of_programs(rt: HostRuntime) {
     for number in 0..4 {
-        assert_eq!(rt; first_wrong(rt.alloc(), number), "");
+        assert_eq!(rt; first_wrong(rt.alloc(), Form::Plain, number), "");
+    }
+}
+
+#[test]
+fn tells_the_flow_for_several_harts(rt: HostRuntime) {
+    assert_eq!(rt; first_wrong(rt.alloc(), Form::Harts, 0), "");
+}
+
+#[test]
+fn tells_calls_and_jumps_apart(rt: HostRuntime) {
+    for form in [Form::Split, Form::HartsSplit] {
+        assert_eq!(rt; first_wrong(rt.alloc(), form, 4), "");
     }
 }

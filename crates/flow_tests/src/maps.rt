@@ -275,3 +275,87 @@ pub(crate) const LATER: &[u8] = b"rvcfi-map 1\n\
     at 40000054 0001 00000004\n\
     at 40000068 0001 00000008\n\
     end\n";
+
+/// Maps of the two functions that are called through a pointer, where calls and jumps have labels of their own: two words stand
+/// before each function. The last one has one word there.
+pub(crate) const P_SPLIT: &[u8] = b"rvcfi-map 2 split\n\
+    at 40000040 0001 00000000\n\
+    at 40000044 0001 00000004\n\
+    at 40000054 0001 00000008\n\
+    at 40000058 0001 0000000c\n\
+    at 4000005c 0001 00000010\n\
+    at 400000ac 0001 00000014\n\
+    at 400000b0 0001 00000018\n\
+    at 400000b4 0001 0000001c\n\
+    at 400000c8 0001 00000020\n\
+    at 400000d4 0001 00000024\n\
+    at 400000e8 0001 00000028\n\
+    at 400000f4 0001 0000002c\n\
+    at 40000108 0001 00000030\n\
+    end\n";
+
+pub(crate) const P_HARTS_SPLIT: &[u8] = b"rvcfi-map 2 harts-split\n\
+    at 40000050 0001 00000000\n\
+    at 40000054 0001 00000004\n\
+    at 40000064 0001 00000008\n\
+    at 40000068 0001 0000000c\n\
+    at 4000006c 0001 00000010\n\
+    at 400000bc 0001 00000014\n\
+    at 400000c0 0001 00000018\n\
+    at 400000c4 0001 0000001c\n\
+    at 400000d8 0001 00000020\n\
+    at 400000e4 0001 00000024\n\
+    at 400000f8 0001 00000028\n\
+    at 40000104 0001 0000002c\n\
+    at 40000118 0001 00000030\n\
+    end\n";
+
+pub(crate) const ONE_WORD_SPLIT: &[u8] = b"rvcfi-map 2 split\n\
+    at 40000040 0001 00000000\n\
+    at 40000044 0001 00000004\n\
+    at 40000054 0001 00000008\n\
+    at 40000058 0001 0000000c\n\
+    at 4000005c 0001 00000010\n\
+    at 400000ac 0001 00000014\n\
+    at 400000b0 0001 00000018\n\
+    at 400000b4 0001 0000001c\n\
+    at 400000c8 0001 00000020\n\
+    at 400000d0 0001 00000024\n\
+    at 400000e4 0001 00000028\n\
+    at 400000ec 0001 0000002c\n\
+    at 40000100 0001 00000030\n\
+    end\n";
+
+/// That of the two functions with a jump in place of the call, in that form; and a map of one label for both whose gates
+/// stand behind two words.
+pub(crate) const JUMPING_SPLIT: &[u8] = b"rvcfi-map 2 split\n\
+    at 40000040 0001 00000000\n\
+    at 40000044 0001 00000004\n\
+    at 40000054 0001 00000008\n\
+    at 40000058 0001 0000000c\n\
+    at 4000005c 0001 00000010\n\
+    at 40000090 0001 00000014\n\
+    at 40000094 0001 00000018\n\
+    at 40000098 0001 0000001c\n\
+    at 400000ac 0001 00000020\n\
+    at 400000b8 0001 00000024\n\
+    at 400000cc 0001 00000028\n\
+    at 400000d8 0001 0000002c\n\
+    at 400000ec 0001 00000030\n\
+    end\n";
+
+pub(crate) const TWO_WORDS: &[u8] = b"rvcfi-map 1\n\
+    at 40000040 0001 00000000\n\
+    at 40000044 0001 00000004\n\
+    at 40000054 0001 00000008\n\
+    at 40000058 0001 0000000c\n\
+    at 4000005c 0001 00000010\n\
+    at 400000ac 0001 00000014\n\
+    at 400000b0 0001 00000018\n\
+    at 400000b4 0001 0000001c\n\
+    at 400000c8 0001 00000020\n\
+    at 400000d4 0001 00000024\n\
+    at 400000e8 0001 00000028\n\
+    at 400000f4 0001 0000002c\n\
+    at 40000108 0001 00000030\n\
+    end\n";

@@ -240,3 +240,51 @@ pub(crate) static ASKED: &[u8] = b"\
     no labels|\
     00008067|t,NOTYPE,1,0,0||labels|labels\n\
 ";
+
+/// Programs by themselves and under policies, where calls and jumps have classes of their own: those of calls come first.
+pub(crate) static SPLIT: &[u8] = b"\
+    a function that is called and jumped to is in a class of each|\
+    000002B7 0002B283 00028067 00100513 00008067 00200513 00008067 000280E7 00008067|\
+    main,FUNC,1,0,12 f,FUNC,1,12,8 g,FUNC,1,20,8 h,FUNC,1,28,8 ptr,OBJECT,2,0,16|\
+    1,0,HI20,ptr,0 1,4,LO12_I,ptr,0 2,0,64,f,0 2,8,64,g,0|site h+0 g+0|\
+    taken 3 5, jump 2 to 3 5 in 1, call 7 to 5 in 0, 0 has 5, 1 has 3 5\n\
+    the classes of calls and of jumps may be the same|\
+    000002B7 0002B283 00028067 00100513 00008067 00200513 00008067 000280E7 00008067|\
+    main,FUNC,1,0,12 f,FUNC,1,12,8 g,FUNC,1,20,8 h,FUNC,1,28,8 ptr,OBJECT,2,0,16|\
+    1,0,HI20,ptr,0 1,4,LO12_I,ptr,0 2,0,64,f,0 2,8,64,g,0|none|\
+    taken 3 5, jump 2 to 3 5 in 1, call 7 to 3 5 in 0, 0 has 3 5, 1 has 3 5\n\
+    a call between jumps joins none of them|\
+    00028067 00000013 000280E7 00028067 00000013 00008067|\
+    f,FUNC,1,0,8 h,FUNC,1,12,8 g,FUNC,1,20,4|\
+    2,0,64,f,4 2,8,64,h,4|none|\
+    taken 1 4, jump 0 to 1 in 0, call 2 to in none, jump 3 to 4 in 1, 0 has 1, 1 has 4\n\
+    jumps that share a target are of one class, beside that of a call to it|\
+    00028067 00000013 000280E7 00028067 00000013 00008067|\
+    f,FUNC,1,0,8 h,FUNC,1,12,8 g,FUNC,1,20,4|\
+    2,0,64,f,4 2,8,64,h,4 2,16,64,g,0|none|\
+    taken 1 4 5, jump 0 to 1 5 in 1, call 2 to 5 in 0, jump 3 to 4 5 in 1, 0 has 5, 1 has 1 4 5\n\
+    a call to both targets of two jumps leaves these apart|\
+    00028067 00028067 000280E7 00008067 00008067|\
+    main,FUNC,1,0,12 f,FUNC,1,12,4 g,FUNC,1,16,4|\
+    2,0,64,f,0 2,8,64,g,0|site main+0 f+0;site main+4 g+0|\
+    taken 3 4, jump 0 to 3 in 1, jump 1 to 4 in 2, call 2 to 3 4 in 0, 0 has 3 4, 1 has 3, 2 has 4\n\
+    a jump to both targets of two calls leaves these apart|\
+    000280E7 000280E7 00028067 00008067 00008067|\
+    main,FUNC,1,0,12 f,FUNC,1,12,4 g,FUNC,1,16,4|\
+    2,0,64,f,0 2,8,64,g,0|site main+0 g+0;site main+4 f+0|\
+    taken 3 4, call 0 to 4 in 1, call 1 to 3 in 0, jump 2 to 3 4 in 2, 0 has 3, 1 has 4, 2 has 3 4\n\
+    sites without targets have no class, of either sort|\
+    000280E7 00028067 00008067|\
+    main,FUNC,1,0,12|\
+    |none|\
+    taken, call 0 to in none, jump 1 to in none\n\
+    a call without targets beside a jump with some|\
+    000280E7 00028067 00000013 00008067|\
+    main,FUNC,1,0,16|\
+    2,0,64,main,8|none|\
+    taken 2, call 0 to in none, jump 1 to 2 in 0, 0 has 2\n\
+    two calls without a common target stand before a jump's class|\
+    000280E7 000280E7 00028067 00008067 00008067|\
+    main,FUNC,1,0,12 f,FUNC,1,12,4 g,FUNC,1,16,4|\
+    2,0,64,f,0 2,8,64,g,0|site main+0 f+0;site main+4 g+0;site main+8|\
+    taken 3 4, call 0 to 3 in 0, call 1 to 4 in 1, jump 2 to in none, 0 has 3, 1 has 4";

@@ -87,6 +87,21 @@ static HARTS: [Row; 22] = [
     Row(Given(Source::Returning, 0, b""), maps::NONE_OF_HARTS, b"", "line 2"),
 ];
 
+/// The same where calls and jumps have labels of their own.
+#[rattlefmt::skip]
+static SPLIT: [Row; 8] = [
+    Row(Given(Source::Calling, 0, b""), maps::P_SPLIT, b"", "exit 1 after 11"),
+    Row(Given(Source::Calling, 0, b""), maps::P_HARTS_SPLIT, b"", "exit 1 after 11"),
+    Row(Given(Source::Calling, 80, b"67800200"), maps::JUMPING_SPLIT, b"", "exit 1 after 8"),
+    // To the second function, which is 32 bytes behind the first, and to where it would stand behind one word.
+    Row(Given(Source::Calling, 80, b"e7800202"), maps::P_SPLIT, b"", "exit 2 after 11"),
+    Row(Given(Source::Calling, 80, b"e780c201"), maps::P_SPLIT, b"", "untame graph 1 16 after 4"),
+    Row(Given(Source::Calling, 80, b"e7804200"), maps::P_SPLIT, b"", "untame graph 1 16 after 4"),
+    // One word where there are to be two, and two where there is to be one.
+    Row(Given(Source::Calling, 0, b""), maps::ONE_WORD_SPLIT, b"", "line 11"),
+    Row(Given(Source::Calling, 0, b""), maps::TWO_WORDS, b"", "line 11"),
+];
+
 /// An object that is run under a policy or with an input.
 struct Further(Given, Asked<'static>);
 
@@ -174,6 +189,13 @@ fn runs_programs(rt: HostRuntime) {
 #[test]
 fn runs_programs_for_harts(rt: HostRuntime) {
     for (k, row) in HARTS.iter().enumerate() {
+        assert!(rt; is_right(rt.alloc(), &row.0, &asked_of(row)), "row {k}");
+    }
+}
+
+#[test]
+fn runs_programs_with_labels_apart(rt: HostRuntime) {
+    for (k, row) in SPLIT.iter().enumerate() {
         assert!(rt; is_right(rt.alloc(), &row.0, &asked_of(row)), "row {k}");
     }
 }

@@ -4,6 +4,7 @@
 use cfi_flow::{Closed, FlowEnd, Raw, RawSite, close, entry_place, raw_graph, used_labels};
 use cfi_graph::{Policy, SiteKind, read_policy};
 use obj_program::Items;
+use rv_word::Form;
 use std::alloc::{AllocError, Global};
 use std::fmt::Write;
 
@@ -84,18 +85,18 @@ fn told_of(alloc: Global, raw: &Raw, closed: &Closed) -> Option<String> {
     Some(text)
 }
 
-/// What is told of the graph of a program with these sites.
-fn told_of_raw(alloc: Global, raw: &Raw) -> Option<String> {
-    match close(alloc, raw) {
+/// What is told of the graph of a program with these sites, for a form.
+fn told_of_raw(alloc: Global, form: Form, raw: &Raw) -> Option<String> {
+    match close(alloc, form, raw) {
         Ok(closed) => told_of(alloc, raw, &closed),
         Err(_) => None,
     }
 }
 
 /// What is told of a program's flow under a policy: `Policy` and the number of its first wrong line, if one is wrong.
-fn told_under(alloc: Global, items: &Items, policy: &Policy) -> Option<String> {
+fn told_under(alloc: Global, form: Form, items: &Items, policy: &Policy) -> Option<String> {
     match raw_graph(alloc, items, policy) {
-        Ok(raw) => told_of_raw(alloc, &raw),
+        Ok(raw) => told_of_raw(alloc, form, &raw),
         Err(FlowEnd::Policy(line)) => format!(in alloc; "Policy {line}").ok(),
         Err(FlowEnd::NoMemory) => None,
     }
@@ -120,9 +121,9 @@ fn policy_of(alloc: Global, lines: &str) -> Option<Policy> {
 }
 
 /// What is told of a program's flow under the policy with these lines.
-fn told_under_lines(alloc: Global, items: &Items, lines: &str) -> Option<String> {
+fn told_under_lines(alloc: Global, form: Form, items: &Items, lines: &str) -> Option<String> {
     let policy = policy_of(alloc, lines)?;
-    told_under(alloc, items, &policy)
+    told_under(alloc, form, items, &policy)
 }
 
 /// What is told of a place, if there is one.
@@ -142,12 +143,12 @@ fn told_of_labels(alloc: Global, items: &Items) -> Option<String> {
     Some(text)
 }
 
-/// What is told of a program when this is asked.
-pub(crate) fn told(alloc: Global, items: &Items, asked: &str) -> Option<String> {
+/// What is told of a program, for a form, when this is asked.
+pub(crate) fn told(alloc: Global, form: Form, items: &Items, asked: &str) -> Option<String> {
     match asked.split_once(' ') {
         Some(("enter", name)) => told_of_place(alloc, entry_place(items, name.as_bytes())),
-        Some(_) => told_under_lines(alloc, items, asked),
+        Some(_) => told_under_lines(alloc, form, items, asked),
         None if asked == "labels" => told_of_labels(alloc, items),
-        None => told_under(alloc, items, &Policy::none(alloc)),
+        None => told_under(alloc, form, items, &Policy::none(alloc)),
     }
 }

@@ -9,7 +9,7 @@ use Rattle.least.specs.Nearest.{nearest}
 use Rattle.least.proofs.Firsts.{none_first}
 use Rattle.obj_input.specs.declared.parts.Relocation.{Relocation}
 use Rattle.obj_input.specs.declared.reloc_kind.RelocKind.{RelocKind}
-use Rattle.obj_input.specs.declared.reloc_kind.RelocKind.TheVariants.{High, RelativeHigh, RelativeLowI, RelativeLowS}
+use Rattle.obj_input.specs.declared.reloc_kind.RelocKind.TheVariants.{High, RelativeHigh, RelativeLowI, RelativeLowS, TableHigh}
 use Rattle.obj_input.specs.Kinds.{kind_of}
 use Rattle.obj_input.specs.Relocation.{is_acting}
 use Rattle.obj_input.specs.Input.{InputParts, SectionParts, acting_at, is_code, is_code_sort, section_count, section_of}
@@ -64,6 +64,7 @@ module _ {fs : List Function} {input : InputParts} (g : IsGenerated fs input) wh
     kind_settled u RelativeHigh there = absurd there
     kind_settled u RelativeLowI there = absurd there
     kind_settled u RelativeLowS there = absurd there
+    kind_settled u TableHigh there = absurd there
     kind_settled u other there = tt
 
     first_settled : (us : List Relocation) → All UseReaches us → IsSettled (patch_from input places us)

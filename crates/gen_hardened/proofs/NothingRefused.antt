@@ -1,6 +1,8 @@
 -- A generated object without a fault, whose code has room, is not refused.
 use Rattle.std.proofs.Common.{◌≡◌, ℕ, ◌≤◌, Some, None, List, codes, length, refl, sym, ap, subst, ◌∙◌, arith}
+use Rattle.std.proofs.lemmas.List.{length-map}
 use Rattle.rv_word.specs.MemoryMap.{CODE_SIZE}
+use Rattle.rv_word.specs.Form.{graph_version}
 use Rattle.elf_writer.specs.Object.{object_bytes}
 use Rattle.elf_writer.specs.Holds.{Holds}
 use Rattle.rv_word.specs.declared.form.Form.{Form}
@@ -11,7 +13,7 @@ use Rattle.obj_program.specs.Program.{Program}
 use Rattle.obj_program.specs.Range.{out_of_range}
 use Rattle.obj_items.specs.FromObject.{input_of}
 use Rattle.obj_items.specs.ProgramOf.{program_of}
-use Rattle.cfi_flow.specs.Closed.{ClosedGraph}
+use Rattle.cfi_flow.specs.Closed.{ClosedGraph, Side, sorts_of}
 use Rattle.cfi_flow.specs.Entry.{entry_place}
 use Rattle.cfi_gen.specs.declared.function.Function.{Function}
 use Rattle.cfi_gen.specs.Demo.{demo_parts, parts_with}
@@ -19,7 +21,6 @@ use Rattle.cfi_gen.specs.Drawing.{functions_from}
 use Rattle.gen_program.specs.Generated.{IsGenerated}
 use Rattle.gen_program.proofs.Reading.{generated_is}
 use Rattle.cfi_harden.specs.declared.refusal.Refusal.TheVariants.{Object, Items, NoEntry, Policy, CodeTooLarge, DataTooLarge, RelocRange}
-use Rattle.cfi_flow.proofs.Sides.{in_one}
 use Rattle.cfi_harden.specs.Hardened.{HasDataRoom}
 use Rattle.cfi_harden.specs.Prepared.{IsPreparedOf, PreparedParts}
 use Rattle.cfi_harden.specs.Request.{program_in, program_request}
@@ -48,10 +49,16 @@ module _ (fs : List Function) (small : AreSmall fs) (object : List ℕ) (holds :
   main_there : entry_place (program_in object) (codes "main") ≡ Some 0
   main_there = entered_at_main is_generated
 
+  -- graphs of version 1 have one side
+  one_side : (p : PreparedParts) → IsPreparedOf (program_request (entered object)) p → length p.closed.sides ≡ 1
+  one_side p is =
+      let (raw, drawn, closes) = is.closed.drawn in
+      sym (length-map p.closed.sides (λ (s : Side). s.sort)) ∙ ap length closes.sorts ∙ ap (λ (form : Form). length (sorts_of (graph_version form))) is.form
+
   code_room : (p : PreparedParts) → IsPreparedOf (program_request (entered object)) p → whole_size p.form p.program p.closed ≤ CODE_SIZE
   code_room p is = subst (λ (form : Form). whole_size form p.program p.closed ≤ CODE_SIZE) (sym is.form)
       (subst (λ (x : Program). whole_size Plain x p.closed ≤ CODE_SIZE) (sym is.program)
-      (room p.closed (let (raw, drawn, closes) = is.closed.drawn in ap length (in_one raw p.closed closes).one)))
+      (room p.closed (one_side p is)))
 
   room_there : (p : PreparedParts) → IsPreparedOf (program_request (entered object)) p → HasDataRoom p.program
   room_there p is = subst HasDataRoom (sym is.program) (data_room is_generated)

@@ -9,7 +9,7 @@ use Rattle.obj_input.specs.declared.parts.Definition.{Definition}
 use Rattle.obj_input.specs.declared.parts.Definition.TheVariants.{Within}
 use Rattle.obj_input.specs.declared.parts.Relocation.{Relocation}
 use Rattle.obj_input.specs.declared.reloc_kind.RelocKind.{RelocKind}
-use Rattle.obj_input.specs.declared.reloc_kind.RelocKind.TheVariants.{High, RelativeHigh, RelativeLowI, RelativeLowS}
+use Rattle.obj_input.specs.declared.reloc_kind.RelocKind.TheVariants.{High, RelativeHigh, RelativeLowI, RelativeLowS, TableHigh}
 use Rattle.obj_input.specs.Kinds.{kind_of}
 use Rattle.cfi_gen.specs.declared.function.Function.{Function}
 use Rattle.cfi_gen.specs.declared.function.Shape.{Shape}
@@ -27,6 +27,7 @@ reaches High symbol (negsuc n) = false
 reaches RelativeHigh symbol addend = false
 reaches RelativeLowI symbol addend = false
 reaches RelativeLowS symbol addend = false
+reaches TableHigh symbol addend = false
 reaches other symbol addend = true
 
 abbrev mark_reaches : Mark → Bool
@@ -81,6 +82,7 @@ Reaches High definition addend = (definition ≡ Within 2 0) × (a : ℕ) × (ad
 Reaches RelativeHigh definition addend = ⊥
 Reaches RelativeLowI definition addend = ⊥
 Reaches RelativeLowS definition addend = ⊥
+Reaches TableHigh definition addend = ⊥
 Reaches other definition addend = Unit {0}
 
 abbrev pub UseReaches : Relocation → Type 0
@@ -96,6 +98,7 @@ module _ (fs : List Function) where
   kind_reaches RelativeHigh symbol addend e = absurd (cc)
   kind_reaches RelativeLowI symbol addend e = absurd (cc)
   kind_reaches RelativeLowS symbol addend e = absurd (cc)
+  kind_reaches TableHigh symbol addend e = absurd (cc)
   kind_reaches other symbol addend e = tt
 
   marks_reach : (at : ℕ) (ms : List Mark) → list_all mark_reaches ms ≡ true → All UseReaches (map (use_of fs) (map (mark_at at) ms))

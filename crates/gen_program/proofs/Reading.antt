@@ -13,10 +13,11 @@ use Rattle.elf_writer.specs.Holds.{AreRelocations, Holds, IsSection}
 use Rattle.obj_input.specs.declared.parts.Sort.TheVariants.{Code, Data, Dropped}
 use Rattle.obj_input.specs.Input.{SectionParts, no_section, section_count, section_of}
 use Rattle.obj_input.specs.Kinds.{is_table_high, kind_of}
+use Rattle.obj_said.specs.Sections.{sort_of}
 use Rattle.obj_items.specs.Definitions.{definition}
 use Rattle.obj_items.specs.Addressed.{table_of}
 use Rattle.obj_items.specs.Sections.{section_in, use_of as read_use, uses_of}
-use Rattle.obj_items.specs.Uses.{reloc_at, reloc_count, sort_of}
+use Rattle.obj_items.specs.Uses.{reloc_at, reloc_count}
 use Rattle.obj_items.specs.FromObject.{input_of}
 use Rattle.obj_items.proofs.Behind.{section_is as read_section, section_number}
 use Rattle.obj_items.proofs.Plain.{none_behind}

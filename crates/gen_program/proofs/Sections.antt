@@ -18,8 +18,8 @@ use Rattle.obj_input.specs.declared.parts.Relocation.{Relocation}
 use Rattle.obj_input.specs.Input.{SectionParts}
 use Rattle.obj_input.specs.Listed.{listed}
 use Rattle.obj_input.specs.Kinds.{is_table_high, kind_of}
+use Rattle.obj_said.specs.Sections.{sort_of}
 use Rattle.obj_items.specs.Sections.{use_at, use_of, uses_of}
-use Rattle.obj_items.specs.Uses.{sort_of}
 use Rattle.gen_program.proofs.Listings.{listed_map}
 use Rattle.gen_program.proofs.Untabled.{is_plain, plain_in}
 

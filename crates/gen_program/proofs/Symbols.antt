@@ -9,7 +9,8 @@ use Rattle.elf_writer.specs.Right.{no_symbol}
 use Rattle.elf_writer.specs.Holds.{Holds}
 use Rattle.obj_input.specs.declared.parts.Definition.TheVariants.{Zero, Within}
 use Rattle.obj_input.specs.Input.{Named}
-use Rattle.obj_items.specs.Definitions.{definition, entry_definition, is_common, is_kept_section}
+use Rattle.obj_said.specs.Symbols.{is_kept_section}
+use Rattle.obj_items.specs.Definitions.{definition, entry_definition, is_common}
 use Rattle.obj_items.specs.Symbols.{block_of, blocks_of, name_at, name_of, names_of}
 use Rattle.gen_program.specs.Generated.{named_of}
 use Rattle.gen_program.proofs.Listings.{joined_listed, joined_none, listed_map}

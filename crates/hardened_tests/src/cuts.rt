@@ -3,10 +3,10 @@ ghost use Rattle.std.specs.Prelude.{◌≡◌, ◌<◌, ◌≤◌, ◌^◌};
 
 use crate::near::{FIRST, NEAR, SKIPS};
 use cfi_scan::{Entry, Feeder, Listing, Steps};
-use cfi_unit::{Unit, recognise};
+use cfi_unit::{TargetWord, Unit, recognise};
 use sample_programs::{
     A, A_OF_HARTS, AIMED, B, BREAK, DEEP, ECHO, EDGE, H, JOBS, JUMP, LOAD, LOOP, NOWHERE, OTHER, P,
-    PROLOGUE, PROLOGUE_OF_HARTS, SHARED, STATUS, code, code_of_harts,
+    PROLOGUE, PROLOGUE_OF_HARTS, SECOND, SHARED, STATUS, code, code_of_harts,
 };
 use std::alloc::Global;
 use std::marker::Brand;
@@ -67,6 +67,14 @@ fn target(from: u64, field: u32, bound: u64) -> u64
     }
 }
 
+/// The number of the kind of a computed jump, by the word that its check reads.
+fn jump_kind(which: TargetWord) -> u8 {
+    match which {
+        TargetWord::First => 6,
+        TargetWord::Second => 10,
+    }
+}
+
 /// An entry at an address by the number of its kind, and its label or target.
 fn told(entry: Entry, at: u64) -> (u8, u64)
     requires { at < 2 ^ 32 }
@@ -78,7 +86,7 @@ fn told(entry: Entry, at: u64) -> (u8, u64)
         Entry::Jump(field) => (3, target(at, field.bits(), 0x10_0000)),
         Entry::Stop => (4, 0),
         Entry::Call(field) => (5, target(at + 28, field.bits(), 0x10_0000)),
-        Entry::Ijump(label) => (6, label.bits() as u64),
+        Entry::Ijump(which, label) => (jump_kind(which), label.bits() as u64),
         Entry::Icall(label) => (7, label.bits() as u64),
         Entry::Gate(label) => (8, label.bits() as u64),
         Entry::Other => (9, 0),
@@ -94,7 +102,7 @@ fn of_unit(unit: &Unit) -> (u8, u64) {
         Unit::Jump(target) => (3, *target),
         Unit::Stop => (4, 0),
         Unit::Call(target) => (5, *target),
-        Unit::Ijump(_, _, label) => (6, label.bits() as u64),
+        Unit::Ijump(which, _, _, label) => (jump_kind(*which), label.bits() as u64),
         Unit::Icall(_, _, label) => (7, label.bits() as u64),
         Unit::Plain(_) => (9, 0),
         Unit::System(_) => (9, 0),
@@ -226,6 +234,7 @@ fn cut_anywhere(rt: HostRuntime) {
         assert!(rt; is_right(rt.alloc(), &P, size), "P {size}");
         assert!(rt; is_right(rt.alloc(), &SKIPS, size), "skips.s {size}");
         assert!(rt; is_right(rt.alloc(), &NEAR, size), "near.s {size}");
+        assert!(rt; is_right(rt.alloc(), &SECOND, size), "SECOND {size}");
     }
 }
 
@@ -262,6 +271,7 @@ fn with_a_bit_turned(rt: HostRuntime) {
     assert!(rt; are_right(rt.alloc(), &H), "H");
     assert!(rt; are_right(rt.alloc(), &SKIPS), "skips.s");
     assert!(rt; are_right(rt.alloc(), &NEAR), "near.s");
+    assert!(rt; are_right(rt.alloc(), &SECOND), "SECOND");
 }
 
 #[test]

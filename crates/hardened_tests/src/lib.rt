@@ -3,19 +3,15 @@
 #![tactic(auto)]
 
 #[cfg(test)]
-mod cuts;
+mod apart;
 #[cfg(test)]
-mod harts;
+mod cuts;
 #[cfg(test)]
 mod near;
 #[cfg(test)]
 mod pieces;
 #[cfg(test)]
-mod reports;
-#[cfg(test)]
 mod run;
-#[cfg(test)]
-mod run_harts;
 #[cfg(test)]
 mod unit;
 #[cfg(test)]

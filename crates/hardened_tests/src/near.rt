@@ -1,6 +1,5 @@
 ghost use Rattle.std.specs.Prelude.{◌<◌};
 
-use crate::reports::run_of;
 use cfi_graph::{Graph, read_graph};
 use cfi_step::{RunEnd, RunReport, Script};
 use cfi_unit::{Unit, emit, fits, recognise};
@@ -9,6 +8,7 @@ use cfi_walk::{Followed, Walk, follow};
 use rv_instr::{BranchOp, Reg};
 use rv_word::Image;
 use sample_programs::code;
+use sample_runs::run_of;
 use std::alloc::Global;
 
 /// Where the first unit of an image stands.

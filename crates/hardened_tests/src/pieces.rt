@@ -2,7 +2,6 @@
 //! that the definitions of the rules give.
 ghost use Rattle.std.specs.Prelude.{◌≡◌, ◌<◌};
 
-use crate::harts::{SAME, code_with};
 use cfi_graph::{Graph, read_graph};
 use cfi_scan::Steps;
 use cfi_verify::Scan;
@@ -11,13 +10,21 @@ use sample_programs::{
     JUMP_GRAPH, LOOP, LOOP_GRAPH, NARROW, NARROW_GRAPH, NOWHERE, NOWHERE_GRAPH, P, P_GRAPH,
     PROLOGUE, PROLOGUE_OF_HARTS, SHARED, SHARED_GRAPH,
 };
+use sample_runs::{SAME, code_with};
 use std::alloc::Global;
 use std::marker::Brand;
 use std::sync::ledger::{Blank, Ledger};
 
 /// The version of an image, the units of a program, its graph, where in the code a word is put, the word, and the rule that
 /// fails with its address; no text where the code is accepted.
-struct Row(u8, &'static [u32], &'static [u8], usize, u32, &'static str);
+pub(crate) struct Row(
+    pub(crate) u8,
+    pub(crate) &'static [u32],
+    pub(crate) &'static [u8],
+    pub(crate) usize,
+    pub(crate) u32,
+    pub(crate) &'static str,
+);
 
 #[rattlefmt::skip]
 static ROWS: [Row; 30] = [
@@ -98,9 +105,9 @@ fn answer(alloc: Global, version: u8, graph: &Graph, bytes: &[u8], size: usize) 
 /// The code of a row.
 fn code_of(alloc: Global, row: &Row) -> Option<Vec<u8>> {
     if row.0 == 1 {
-        code_with(alloc, &PROLOGUE, row.1, row.3 / 4, row.4)
+        code_with(alloc, &PROLOGUE, row.1, &[(row.3, row.4)])
     } else {
-        code_with(alloc, &PROLOGUE_OF_HARTS, row.1, row.3 / 4, row.4)
+        code_with(alloc, &PROLOGUE_OF_HARTS, row.1, &[(row.3, row.4)])
     }
 }
 
@@ -121,7 +128,7 @@ fn is_answered(alloc: Global, row: &Row, size: usize) -> bool
 }
 
 /// Whether the same holds of each size.
-fn is_right(alloc: Global, row: &Row) -> bool {
+pub(crate) fn is_right(alloc: Global, row: &Row) -> bool {
     for size in &SIZES {
         if *size == 0 || !is_answered(alloc, row, *size) {
             return false;

@@ -1,10 +1,10 @@
 ghost use Rattle.std.specs.Prelude.{◌≤◌, IfSome};
 ghost use Rattle.cfi_step.specs.Script.{IsScript};
 
-use crate::reports::{Program, is_same_again, report};
 use cfi_step::{Handler, Hostile, RunEnd, RunReport, Script};
 use rv_machine::Change;
 use sample_programs::{ECHO, ECHO_GRAPH, P, P_DATA, P_GRAPH};
+use sample_runs::{Program, is_same_again, report};
 use std::alloc::Global;
 
 /// A program that calls through a pointer.

@@ -1,8 +1,8 @@
 ghost use Rattle.std.specs.Prelude.{◌<◌, ◌^◌};
 
-use cfi_unit::{SystemOp, Unit, emit, fits, recognise, size};
+use cfi_unit::{SystemOp, TargetWord, Unit, emit, fits, recognise, size};
 use rv_instr::{BranchOp, FenceWord, Immediate, ImmediateOp, Instr, LoadOp, Reg, StoreOp, UpperOp};
-use sample_programs::{A, B, H, OTHER, P};
+use sample_programs::{A, B, H, OTHER, P, SECOND};
 use std::alloc::{AllocError, Global};
 use std::process::Abort;
 
@@ -45,6 +45,19 @@ fn gate(label: u32) -> Unit
     requires { label < 2 ^ 20 }
 {
     Unit::Gate(Immediate::of(label))
+}
+
+fn ijump(which: TargetWord, rs1: u32, imm: u32, label: u32) -> Unit
+    requires source { rs1 < 32 }
+    requires field { imm < 2 ^ 12 }
+    requires label { label < 2 ^ 20 }
+{
+    Unit::Ijump(
+        which,
+        Reg::of(rs1),
+        Immediate::of(imm),
+        Immediate::of(label),
+    )
 }
 
 fn object_b() -> [Unit; 3] {
@@ -95,12 +108,25 @@ fn other_units() -> [Unit; 9] {
     [
         Unit::Branch(BranchOp::Bltu, Reg::of(5), Reg::of(6), 0x4000_009c),
         Unit::Jump(FIRST),
-        Unit::Ijump(Reg::of(5), Immediate::of(0xff8), Immediate::of(0xf_ffff)),
+        ijump(TargetWord::First, 5, 0xff8, 0xf_ffff),
         Unit::System(SystemOp::Ecall),
         Unit::System(SystemOp::Ebreak),
         store(StoreOp::Sb, 6, 0xfff, 7),
         gate(0xf_ffff),
         Unit::Plain(Instr::Fence(FenceWord::of(0x0ff0_000f))),
+        Unit::Stop,
+    ]
+}
+
+/// The units of `SECOND` before the words with which none begins.
+fn second_units() -> [Unit; 7] {
+    [
+        Unit::Icall(Reg::of(5), Immediate::of(0), Immediate::of(1)),
+        ijump(TargetWord::Second, 5, 0, 2),
+        gate(1),
+        gate(2),
+        ijump(TargetWord::Second, 6, 0xff8, 0xf_ffff),
+        ijump(TargetWord::First, 5, 0, 3),
         Unit::Stop,
     ]
 }
@@ -163,18 +189,23 @@ fn objects(rt: HostRuntime) {
     have_words(&rt, rt.alloc(), &object_h(), &H);
     have_words(&rt, rt.alloc(), &object_p(), &P);
     have_words(&rt, rt.alloc(), &other_units(), &OTHER);
+    have_words(&rt, rt.alloc(), &second_units(), &SECOND[..62]);
 }
 
 /// An object's words, where a unit of it stands, where one of its words is changed, and to what.
 struct Spoilt(&'static [u32], usize, usize, u32);
 
-static SPOILT: [Spoilt; 7] = [
+static SPOILT: [Spoilt; 11] = [
     Spoilt(&A, 0x40, 0x40, 0x00100f13),
     Spoilt(&A, 0x40, 0x40, 0x0052b023),
     Spoilt(&A, 0x40, 0x40, 0x00028067),
     Spoilt(&B, 0x44, 0x54, 0x00008067),
     Spoilt(&P, 0x44, 0x48, 0x022f9f93),
     Spoilt(&P, 0x5c, 0x78, 0x0002af03),
+    Spoilt(&P, 0x5c, 0x78, 0x004faf03),
+    Spoilt(&OTHER, 0x4c, 0x68, 0x008faf03),
+    Spoilt(&SECOND, 0x90, 0xac, 0x002faf03),
+    Spoilt(&SECOND, 0x90, 0xac, 0x004fbf03),
     Spoilt(&P, 0x5c, 0x90, 0x00000013),
 ];
 
@@ -209,6 +240,13 @@ fn refused(rt: HostRuntime) {
         let right = is_refused(rt.alloc(), row);
         assert!(rt; matches!(right, Ok(true)), "with {:x}", row.3);
     }
+}
+
+/// No unit begins with the words of a call by the second word.
+#[test]
+fn no_call_by_the_second_word(rt: HostRuntime) {
+    assert!(rt; begins(&SECOND, 0xc4));
+    assert!(rt; !begins(&SECOND, 0x138));
 }
 
 /// A unit without its last word is not recognised.

@@ -1,11 +1,18 @@
 ghost use Rattle.std.specs.Prelude.{◌≡◌, length};
 
-use cfi_graph::{Graph, read_graph};
-use cfi_unit::Unit;
-use cfi_verify::{Checked, Place, Reject, Rule, VerifyEnd, verify};
+use cfi_graph::{Graph, SiteKind, read_graph};
+use cfi_unit::{TargetWord, Unit};
+use cfi_verify::{Asks, Checked, Place, Reject, Rule, VerifyEnd, verify};
 use rv_word::Image;
 use sample_programs::{B, B_GRAPH, code};
 use std::alloc::Global;
+
+/// What a computed call with label 1 asks for.
+const OF_LABEL_1: Asks = Asks {
+    kind: SiteKind::Call,
+    which: TargetWord::First,
+    label: 1,
+};
 
 /// Whether an accepted pair tells its parts, and what stands where.
 fn tells_its_parts(checked: &Checked<'_>) -> bool {
@@ -18,7 +25,7 @@ fn tells_its_parts(checked: &Checked<'_>) -> bool {
             Some(Place::Opening(0x4000_0040))
         )
         && matches!(checked.place_at(0x4000_0038), Some(Place::Closing))
-        && checked.class_of(1).is_none()
+        && checked.targets_for(OF_LABEL_1).is_none()
 }
 
 /// How a pair is answered: accepted with its parts told, rejected by the rule on targets at 40000040h, or

@@ -2,14 +2,14 @@ ghost use Rattle.std.specs.Prelude.{◌≡◌, length};
 
 use cfi_graph::{Graph, read_graph};
 use cfi_verify::{Checked, verify};
-use cfi_walk::{Followed, Walk, follow};
 use rv_word::Image;
 use sample_programs::{P, P_GRAPH, code};
+use sample_runs::{Step, walks_along, walks_so};
 use std::alloc::Global;
 
 /// Where an undisturbed run of the program goes after the opening, how many sites are pending there,
 /// and which is the newest.
-static UNDISTURBED: [(u64, usize, Option<u64>); 12] = [
+static UNDISTURBED: [Step; 12] = [
     (0x40000040, 1, Some(0x40000038)),
     (0x40000044, 1, Some(0x40000038)),
     (0x40000054, 1, Some(0x40000038)),
@@ -68,82 +68,18 @@ static WALKS: [(&[u64], u64, bool); 7] = [
     ),
 ];
 
-/// Whether a walk goes on to an address, with so many sites pending then, and this one the newest.
-pub(crate) fn goes_on(
-    checked: &Checked<'_>,
-    walk: &mut Walk,
-    row: &(u64, usize, Option<u64>),
-) -> bool {
-    matches!(follow(checked, walk, row.0), Followed::Yes)
-        && walk.address() == row.0
-        && walk.depth() == row.1
-        && walk.newest() == row.2
-}
-
-/// Whether a walk stays where it is, with the sites that are pending.
-pub(crate) fn stays(checked: &Checked<'_>, walk: &mut Walk, pc: u64) -> bool {
-    let (address, depth, newest) = (walk.address(), walk.depth(), walk.newest());
-    matches!(follow(checked, walk, pc), Followed::No)
-        && walk.address() == address
-        && walk.depth() == depth
-        && walk.newest() == newest
-}
-
-/// Whether a walk goes along the undisturbed run.
-fn goes_undisturbed(alloc: Global, checked: &Checked<'_>) -> bool {
-    let Ok(mut walk) = Walk::new(alloc) else {
-        return false;
-    };
-    for row in &UNDISTURBED {
-        if !goes_on(checked, &mut walk, row) {
-            return false;
-        }
-    }
-    true
-}
-
-/// Whether a walk goes on to each of these addresses.
-fn goes_along(checked: &Checked<'_>, walk: &mut Walk, trail: &[u64]) -> bool {
-    for pc in trail {
-        if !matches!(follow(checked, walk, *pc), Followed::Yes) {
-            return false;
-        }
-    }
-    true
-}
-
-/// Whether a walk goes as a row of `WALKS` says.
-fn goes_so(checked: &Checked<'_>, walk: &mut Walk, row: &(&[u64], u64, bool)) -> bool {
-    if !goes_along(checked, walk, row.0) {
-        return false;
-    }
-    if row.2 {
-        matches!(follow(checked, walk, row.1), Followed::Yes)
-    } else {
-        stays(checked, walk, row.1)
-    }
-}
-
-/// The same of a walk from the opening on.
-fn is_walk(alloc: Global, checked: &Checked<'_>, row: &(&[u64], u64, bool)) -> bool {
-    match Walk::new(alloc) {
-        Ok(mut walk) => goes_so(checked, &mut walk, row),
-        Err(_) => false,
-    }
-}
-
 /// Whether a pair has the walks above, and stops where it has to.
 fn has_these_walks(alloc: Global, checked: &Checked<'_>) -> bool {
     for row in &WALKS {
-        if !is_walk(alloc, checked, row) {
+        if !walks_so(alloc, checked, row) {
             return false;
         }
     }
-    goes_undisturbed(alloc, checked)
+    walks_along(alloc, checked, &UNDISTURBED, &[])
 }
 
 /// Whether the program is accepted, and its pair has these walks.
-fn walks_so(alloc: Global) -> bool {
+fn has_walks(alloc: Global) -> bool {
     match code(alloc, &P) {
         Ok(bytes) => is_code_walked_so(alloc, &bytes),
         Err(_) => false,
@@ -170,5 +106,5 @@ fn is_walked_so(alloc: Global, image: &Image<'_>, graph: &Graph) -> bool {
 
 #[test]
 fn trails(rt: HostRuntime) {
-    assert!(rt; walks_so(rt.alloc()));
+    assert!(rt; has_walks(rt.alloc()));
 }

@@ -4,7 +4,7 @@ use rv_word::NoMemory;
 use sample_calls::{answers, image_as, image_of, image_of_harts, put};
 use sample_programs::{
     A, A_CLASS_GRAPH, A_GRAPH, A_OF_HARTS, A_OF_HARTS_GRAPH, B, B_GRAPH, JOBS, JOBS_GRAPH, P,
-    P_GRAPH, SHARED, SHARED_GRAPH, code, code_of_harts,
+    P_GRAPH, Q, Q_GRAPH, Q_OF_HARTS, Q_OF_HARTS_GRAPH, SHARED, SHARED_GRAPH, code, code_of_harts,
 };
 use std::alloc::Global;
 use tool_io::MemFiles;
@@ -17,7 +17,7 @@ edge 40000040 40000044\nend\n";
 /// The units of a code, a word at an offset in the code, a graph, and the line that is put.
 struct Case(&'static [u32], usize, u32, &'static [u8], &'static str);
 
-static CASES: [Case; 22] = [
+static CASES: [Case; 27] = [
     Case(&A, 0x00, 0x00100073, A_GRAPH, "accepted\n"),
     Case(&B, 0x00, 0x00100073, B_GRAPH, "accepted\n"),
     Case(&P, 0x00, 0x00100073, P_GRAPH, "accepted\n"),
@@ -64,10 +64,17 @@ static CASES: [Case; 22] = [
     Case(&P, 0x7c, 0x00002237, P_GRAPH, "rejected Site 4000005c\n"),
     Case(&P, 0xe4, 0x00002037, P_GRAPH, "rejected Gate 400000e4\n"),
     Case(&P, 0xcc, 0x00001037, P_GRAPH, "rejected Astray 400000cc\n"),
+    // A graph of version 2: the second word of a target is missing, a check reads the first, a call's label stands beside its target,
+    // a jump asks for it.
+    Case(&Q, 0x00, 0x00100073, Q_GRAPH, "accepted\n"),
+    Case(&Q, 0x80, 0x00000013, Q_GRAPH, "rejected Gate 4000007c\n"),
+    Case(&Q, 0x64, 0x000faf03, Q_GRAPH, "rejected Unit 40000048\n"),
+    Case(&Q, 0x84, 0x00001037, Q_GRAPH, "rejected Astray 40000084\n"),
+    Case(&Q, 0x68, 0x00001237, Q_GRAPH, "rejected Site 40000048\n"),
 ];
 
 /// The same of images for several harts.
-static CASES_OF_HARTS: [Case; 13] = [
+static CASES_OF_HARTS: [Case; 16] = [
     Case(
         &A_OF_HARTS,
         0x00,
@@ -147,6 +154,28 @@ static CASES_OF_HARTS: [Case; 13] = [
         0x00a2b023,
         SHARED_GRAPH,
         "rejected Unit 40000070\n",
+    ),
+    // A graph of version 2.
+    Case(
+        &Q_OF_HARTS,
+        0x00,
+        0x00100073,
+        Q_OF_HARTS_GRAPH,
+        "accepted\n",
+    ),
+    Case(
+        &Q_OF_HARTS,
+        0x90,
+        0x00000013,
+        Q_OF_HARTS_GRAPH,
+        "rejected Gate 4000008c\n",
+    ),
+    Case(
+        &Q_OF_HARTS,
+        0x74,
+        0x000faf03,
+        Q_OF_HARTS_GRAPH,
+        "rejected Unit 40000058\n",
     ),
 ];
 

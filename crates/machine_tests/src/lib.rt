@@ -3,6 +3,8 @@
 #![tactic(auto)]
 
 #[cfg(test)]
+mod code_end;
+#[cfg(test)]
 mod machine;
 #[cfg(test)]
 mod memory;

@@ -8,7 +8,7 @@ type Access = (u64, u8, bool, bool, u64);
 
 /// An access, and what the memory map says of it: its address and size, whether a load and whether
 /// a store of it are taken, the number that a load reads after 1122334455667788h was stored.
-static ACCESSES: [Access; 30] = [
+static ACCESSES: [Access; 34] = [
     (0, 8, true, true, 0x1122_3344_5566_7788),
     (1, 8, true, true, 0x1122_3344_5566_7788),
     (0xffff, 4, true, true, 0x5566_7788),
@@ -25,9 +25,13 @@ static ACCESSES: [Access; 30] = [
     (0x4000_0004, 2, true, false, 0xd1),
     (0x4000_0003, 1, true, false, 0),
     (0x400f_fff8, 8, true, false, 0),
-    (0x400f_fffd, 4, false, false, 0),
+    (0x400f_fffd, 4, true, false, 0),
     (0x400f_ffff, 1, true, false, 0),
-    (0x4010_0000, 1, false, false, 0),
+    (0x4010_0000, 1, true, false, 0),
+    (0x4010_0000, 8, true, false, 0),
+    (0x4010_0001, 8, false, false, 0),
+    (0x4010_0007, 1, true, false, 0),
+    (0x4010_0008, 1, false, false, 0),
     (0x5fff_ffff, 1, false, false, 0),
     (0x5fff_fffe, 4, false, false, 0),
     (0x6000_0000, 8, true, true, 0x1122_3344_5566_7788),
@@ -252,6 +256,10 @@ const EDGES: &[u8] = b"\
     code-end 0 0 0 0 0 0 0 0 40000ffc 8 0\n\
     code-last 0 0 0 0 0 0 0 0 400ffff8 8 0\n\
     code-last 0 0 0 0 0 0 0 0 400fffff 1 0\n\
+    code-past 0 0 0 0 0 0 0 0 400fffff 2 0\n\
+    code-past 0 0 0 0 0 0 0 0 400ffffd 4 0\n\
+    code-past 0 0 0 0 0 0 0 0 400ffff9 8 0\n\
+    code-past 0 0 0 0 0 0 0 0 40100000 8 0\n\
     loaded 0 0 0 0 0 0 0 0 ffff 4 80700\n\
     loaded 0 0 0 0 0 0 0 0 fffc 8 80700000000\n\
     loaded ffff 1 99 0 0 0 0 0 fffe 4 8079900\n\
@@ -261,10 +269,10 @@ const EDGES: &[u8] = b"\
     fault 0 0 0 0 0 0 0 0 10001000 1 -\n\
     fault 0 0 0 0 0 0 0 0 3fffffff 1 -\n\
     fault 0 0 0 0 0 0 0 0 3ffffffc 8 -\n\
-    fault 0 0 0 0 0 0 0 0 400fffff 2 -\n\
-    fault 0 0 0 0 0 0 0 0 400ffffd 4 -\n\
-    fault 0 0 0 0 0 0 0 0 400ffff9 8 -\n\
-    fault 0 0 0 0 0 0 0 0 40100000 1 -\n\
+    fault 0 0 0 0 0 0 0 0 40100007 2 -\n\
+    fault 0 0 0 0 0 0 0 0 40100005 4 -\n\
+    fault 0 0 0 0 0 0 0 0 40100001 8 -\n\
+    fault 0 0 0 0 0 0 0 0 40100008 1 -\n\
     fault 0 0 0 0 0 0 0 0 5fffffff 1 -\n\
     fault 0 0 0 0 0 0 0 0 5ffffffc 8 -\n\
     fault 0 0 0 0 0 0 0 0 6000ffff 2 -\n\
@@ -340,7 +348,7 @@ fn edge_holds(memory: Option<Memory>, row: &str) -> bool {
 #[test]
 fn accesses_at_edges(rt: HostRuntime) {
     let table = EDGES;
-    assert!(rt; rows(table).count() == 103);
+    assert!(rt; rows(table).count() == 107);
     for row in rows(table) {
         assert!(rt; edge_holds(memory(rt.alloc()), row), "{row}");
     }

@@ -10,7 +10,7 @@ use std::alloc::{AllocError, Global};
 type Stop = (u32, u64, u8, Turn);
 
 /// Instructions that stop: the word, x10, how many steps there are, and how the last one ends.
-static STOPS: [Stop; 25] = [
+static STOPS: [Stop; 29] = [
     // loads that leave the regions
     (
         0x0005_3603,
@@ -31,11 +31,13 @@ static STOPS: [Stop; 25] = [
         Turn::LoadFault(TESTED, 0x3fff_fffe),
     ),
     (0x0005_3603, 0x400f_fff8, 1, Turn::Ran),
+    (0x0005_3603, 0x400f_fff9, 1, Turn::Ran),
+    (0x0005_3603, 0x4010_0000, 1, Turn::Ran),
     (
         0x0005_3603,
-        0x400f_fff9,
+        0x4010_0001,
         1,
-        Turn::LoadFault(TESTED, 0x400f_fff9),
+        Turn::LoadFault(TESTED, 0x4010_0001),
     ),
     (
         0x0005_1603,
@@ -62,6 +64,12 @@ static STOPS: [Stop; 25] = [
         0x400f_fff8,
         1,
         Turn::StoreFault(TESTED, 0x400f_fff8),
+    ),
+    (
+        0x00b5_0023,
+        0x4010_0000,
+        1,
+        Turn::StoreFault(TESTED, 0x4010_0000),
     ),
     (
         0x00b5_2023,
@@ -92,6 +100,7 @@ static STOPS: [Stop; 25] = [
     // jumps to what is no place of an instruction
     (0x0025_0067, 0x4000_0040, 2, Turn::FetchFault(0x4000_0042)),
     (0x0005_0067, 0x4010_0000, 2, Turn::FetchFault(0x4010_0000)),
+    (0x0005_0067, 0x4010_0004, 2, Turn::FetchFault(0x4010_0004)),
     (0x0005_0067, 0x400f_fffc, 2, Turn::Illegal(0x400f_fffc)),
     (0x0005_0067, 0x1_0000, 2, Turn::FetchFault(0x1_0000)),
     (0x0005_0067, 0x6000_0000, 2, Turn::FetchFault(0x6000_0000)),

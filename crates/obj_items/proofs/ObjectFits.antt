@@ -10,10 +10,10 @@ use Rattle.elf_object.specs.Table.{has_wrong_header, is_string_table}
 use Rattle.elf_object.proofs.Right.{kept_right}
 use Rattle.elf_object.proofs.Sound.{sound}
 use Rattle.obj_input.specs.Input.{SectionParts, is_code, is_code_sort, no_section, section_count, section_of}
+use Rattle.obj_said.specs.Sections.{kept_sort, sort_of}
 use Rattle.obj_items.specs.FitCode.{HasFitCode}
 use Rattle.obj_items.specs.FromObject.{input_of}
 use Rattle.obj_items.specs.Sections.{section_in}
-use Rattle.obj_items.specs.Uses.{kept_sort, sort_of}
 use Rattle.obj_items.proofs.Behind.{code_own, section_is}
 
 -- what an object's header says of its sections, and an object's code

@@ -11,11 +11,12 @@ use Rattle.obj_input.specs.Input.{SectionParts, is_code_sort}
 use Rattle.obj_input.specs.Listed.{listed}
 use Rattle.obj_join.specs.Said.{SectionSaid, UseSaid}
 use Rattle.obj_join.specs.Table.{is_table_use, slots, table_symbols_at, table_symbols_in, with_symbol}
-use Rattle.obj_items.specs.Uses.{reloc_at, reloc_count, section_said_in, sections_said, sort_of, use_said_at}
+use Rattle.obj_said.specs.Sections.{section_said_in, sections_said, sort_of, use_said_at}
+use Rattle.obj_items.specs.Uses.{reloc_at, reloc_count}
 use Rattle.obj_items.specs.Addressed.{slots_of, table_if, table_of}
 use Rattle.obj_items.specs.Sections.{section_in, sections_of}
 use Rattle.obj_items.proofs.Steps.{listed_count}
-use Rattle.obj_items.proofs.Tabled.{no_said, said_sections, section_read}
+use Rattle.obj_items.proofs.Tabled.{no_said, section_read}
 
 none_joined : {A : Type 0} (parts : ℕ → List A) → ((k : ℕ) → parts k ≡ []) → (n : ℕ) → joined parts n ≡ []
 unfolding joined
@@ -46,7 +47,7 @@ module _ (bytes : List ℕ) (has : HasPlainUses bytes) where
           | inr other ↦ rw other refl
         ])
     | inr past ↦
-        let count = listed_count (section_said_in bytes) (sections_said bytes) (e_shnum bytes) (said_sections bytes) in
+        let count = listed_count (section_said_in bytes) (sections_said bytes) (e_shnum bytes) refl in
         subst (λ (s : SectionSaid). (if is_code_sort s.sort then joined (table_symbols_at (λ n. n) s) (s.size / 4) else []) ≡ [])
         (sym (get_or_past (sections_said bytes) k no_said (omega arith))) refl
   ]

@@ -23,7 +23,8 @@ use Rattle.obj_join.specs.declared.table.TableUse.{TableUse}
 use Rattle.obj_join.specs.Said.{SectionSaid, UseSaid}
 use Rattle.obj_join.specs.Table.{is_table_use, section_said, slots, table_symbols_at, table_symbols_in, with_symbol}
 use Rattle.obj_join.specs.Uses.{symbols_at}
-use Rattle.obj_items.specs.Uses.{reloc_count, section_said_in, sections_said, sort_of, use_said, use_said_at}
+use Rattle.obj_said.specs.Sections.{section_said_in, sections_said, sort_of, use_said, use_said_at}
+use Rattle.obj_items.specs.Uses.{reloc_count}
 use Rattle.obj_items.specs.Addressed.{slot_use, slots_of, table_use_at}
 use Rattle.obj_items.specs.Definitions.{definition}
 use Rattle.obj_items.specs.Sections.{used_definition}
@@ -73,10 +74,6 @@ narrowed at given (suc n) =
 abbrev pub no_said : SectionSaid
 no_said = record { sort = Dropped; size = 0; align = 0; content = []; uses = [] }
 
-pub said_sections : (bytes : List ℕ) → sections_said bytes ≡ listed (section_said_in bytes) (e_shnum bytes)
-unfolding sections_said
-said_sections bytes = refl
-
 module _ (bytes : List ℕ) (k : ℕ) where
   pub words_are : (uses : List TableUse) (words : ℕ) → uses ≡ joined (table_use_at bytes k) (reloc_count bytes k)
       → joined (symbols_at uses) words ≡ joined (table_symbols_at (λ n. n) (section_said_in bytes k)) words
@@ -86,7 +83,6 @@ module _ (bytes : List ℕ) (k : ℕ) where
       ∙ ap (λ (f : ℕ → List ℕ). joined f words) (fun_ext (λ w. narrowed (4 * w) (use_said_at bytes k) (reloc_count bytes k)))
 
   pub section_read : k < e_shnum bytes → section_said (sections_said bytes) k ≡ section_said_in bytes k
-  unfolding sections_said
   section_read below = listed_read (section_said_in bytes) (sections_said bytes) (e_shnum bytes) k _ refl below
 
   module _ (below : k < e_shnum bytes) where
@@ -112,7 +108,7 @@ module _ (bytes : List ℕ) where
       (joined_next (table_symbols_in (λ n. n) (sections_said bytes)) k (joined (table_symbols_in (λ n. n) (sections_said bytes)) k) _ symbols refl is refl)
 
   pub slots_end : (k : ℕ) (now : List ℕ) → now ≡ fold with_symbol [] (joined (table_symbols_in (λ n. n) (sections_said bytes)) k) → k ≡ e_shnum bytes → now ≡ slots_of bytes
-  unfolding slots sections_said
+  unfolding slots
   slots_end k now here last =
       here ∙ ap (λ n. fold with_symbol [] (joined (table_symbols_in (λ n. n) (sections_said bytes)) n))
       (last ∙ sym (listed_count (section_said_in bytes) (sections_said bytes) (e_shnum bytes) refl))
@@ -165,7 +161,7 @@ module _ (bytes : List ℕ) (sound : fault_of bytes ≡ None) where
           | inr other ↦ rw other (All-nil IsThere)
         ])
     | inr past ↦
-        let count = listed_count (section_said_in bytes) (sections_said bytes) (e_shnum bytes) (said_sections bytes) in
+        let count = listed_count (section_said_in bytes) (sections_said bytes) (e_shnum bytes) refl in
         subst (λ (s : SectionSaid). All IsThere (if is_code_sort s.sort then joined (table_symbols_at (λ n. n) s) (s.size / 4) else []))
         (sym (get_or_past (sections_said bytes) k no_said (omega arith))) (All-nil IsThere)
   ]

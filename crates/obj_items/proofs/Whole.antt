@@ -1,55 +1,10 @@
--- What the laws of objects without a fault give here: code and data have all their bytes, and relocations name symbols that are there.
-use Rattle.std.proofs.Common.{◌≡◌, ◌⊎◌, ℕ, ◌<◌, ◌==◌, true, false, List, None, length, inl, inr, refl, ap, sym, subst, ◌∙◌}
-use Rattle.std.proofs.lemmas.Bool.{cases_Bool}
-use Rattle.elf_tables.specs.declared.header.SectionHeader.{SectionHeader}
+-- What a relocation that is read says with the definition of its symbol.
+use Rattle.std.proofs.Common.{◌≡◌, ℕ, List, refl}
 use Rattle.elf_tables.specs.declared.entry.Reloc.{Reloc}
-use Rattle.elf_tables.specs.Header.{e_shnum}
-use Rattle.elf_tables.specs.Section.{content, is_in_file, section_header}
-use Rattle.elf_tables.specs.Kept.{is_executable, is_kept}
-use Rattle.elf_tables.specs.Symbol.{symbol_count}
-use Rattle.elf_tables.specs.Relocation.{relocation_bytes, relocation_count, relocation_in}
-use Rattle.elf_object.specs.Fault.{fault_of}
-use Rattle.elf_object.specs.Laws.{IsRightKept}
-use Rattle.elf_object.proofs.Right.{kept_right, relocations_named, sections_whole}
+use Rattle.elf_tables.specs.Relocation.{relocation_bytes, relocation_in}
 use Rattle.obj_input.specs.declared.parts.Definition.{Definition}
 use Rattle.obj_input.specs.declared.parts.Relocation.{Relocation}
-use Rattle.obj_input.specs.Input.{has_bytes}
-use Rattle.obj_items.specs.Definitions.{definition}
 use Rattle.obj_items.specs.Sections.{use_at, used_definition}
-use Rattle.obj_items.specs.Uses.{kept_sort, sort_of}
-
-program : (h : SectionHeader) → h.kind ≡ 1 → is_in_file h ≡ true
-program h e = rw e refl
-
-not_zeros : (kind : ℕ) → (kind ≡ 1) ⊎ (kind ≡ 8) → (kind == 8) ≡ false → kind ≡ 1
-not_zeros kind (inl one) other = one
-not_zeros kind (inr eight) other = let no : true ≡ false = rw eight at other in absurd (cc)
-
-in_file : (h : SectionHeader) → IsRightKept h → has_bytes (kept_sort h) ≡ true → is_in_file h ≡ true
-in_file h right has = elim (cases_Bool (is_executable h)) [
-  | inl code ↦ program h (right.code_in_file code)
-  | inr other ↦ elim (cases_Bool (h.kind == 8)) [
-    | inl zeros ↦ let no : false ≡ true = rw (other, zeros) at has in absurd (cc)
-    | inr with_bytes ↦ program h (not_zeros h.kind right.sort with_bytes)
-  ]
-]
-
-pub whole : (bytes : List ℕ) (k : ℕ) → fault_of bytes ≡ None → k < e_shnum bytes → has_bytes (sort_of bytes k) ≡ true
-    → length (content bytes (section_header bytes k)) ≡ (section_header bytes k).size
-whole bytes k e below has = elim (cases_Bool (is_kept bytes k)) [
-  | inl kept ↦
-      let sort : has_bytes (kept_sort (section_header bytes k)) ≡ true = rw kept at has in
-      sections_whole bytes k e below (in_file (section_header bytes k) (kept_right bytes k e below kept) sort)
-  | inr dropped ↦ let no : false ≡ true = rw dropped at has in absurd (cc)
-]
-
-pub symbol_there : (bytes table : List ℕ) (k j count : ℕ) (reloc : Reloc) → fault_of bytes ≡ None → k < e_shnum bytes
-    → table ≡ relocation_bytes bytes k → count ≡ relocation_count table → j < count → reloc ≡ relocation_in table j
-    → reloc.symbol < symbol_count bytes
-symbol_there bytes table k j count reloc e below same counted less is =
-    let index = subst (λ (t : List ℕ). j < relocation_count t) same (subst (λ n. j < n) counted less) in
-    let one = ap (λ (r : Reloc). r.symbol) is ∙ ap (λ (t : List ℕ). (relocation_in t j).symbol) same in
-    subst (λ n. n < symbol_count bytes) (sym one) (relocations_named bytes k j e below index)
 
 pub use_is : (bytes table : List ℕ) (k j : ℕ) (reloc : Reloc) (d : Definition) (u : Relocation) → table ≡ relocation_bytes bytes k → reloc ≡ relocation_in table j
     → d ≡ used_definition bytes reloc → u ≡ record { offset = reloc.offset; number = reloc.kind; addend = reloc.addend; definition = d }

@@ -10,8 +10,8 @@ use Rattle.obj_input.specs.Input.{SectionParts}
 use Rattle.obj_input.specs.Listed.{listed}
 use Rattle.obj_join.specs.declared.table.TableUse.{TableUse}
 use Rattle.obj_join.specs.Table.{is_table_use, slot_of, slots}
+use Rattle.obj_said.specs.Sections.{sections_said, use_said_at}
 use Rattle.obj_items.specs.Definitions.{definition}
-use Rattle.obj_items.specs.Uses.{sections_said, use_said_at}
 
 -- the symbols that have slots, in the order of the table
 abbrev pub slots_of : List ℕ → List ℕ

@@ -1,16 +1,11 @@
 -- What each symbol of an object stands for (System V gABI, "Symbol Table", "Special Section Indexes").
-use Rattle.std.specs.Prelude.{ℕ, zero, suc, ◌+◌, nat_lt, Bool, ◌==◌, ◌&&◌, not, if◌then◌else◌, List}
+use Rattle.std.specs.Prelude.{ℕ, zero, suc, ◌+◌, Bool, ◌==◌, ◌&&◌, not, if◌then◌else◌, List}
 use Rattle.elf_tables.specs.declared.entry.SymbolEntry.{SymbolEntry}
-use Rattle.elf_tables.specs.Header.{e_shnum}
-use Rattle.elf_tables.specs.Kept.{is_kept}
 use Rattle.elf_tables.specs.Symbol.{symbol, symbol_count}
 use Rattle.obj_input.specs.declared.parts.Definition.{Definition}
 use Rattle.obj_input.specs.declared.parts.Definition.TheVariants.{Zero, Absolute, Within, Common, Missing}
 use Rattle.obj_input.specs.Listed.{listed}
-
--- a section that is kept; SHN_UNDEF is none
-abbrev pub is_kept_section : List ℕ → ℕ → Bool
-is_kept_section bytes k = not (k == 0) && nat_lt k (e_shnum bytes) && is_kept bytes k
+use Rattle.obj_said.specs.Symbols.{is_kept_section}
 
 -- a symbol in SHN_COMMON; number 0 stands for none
 abbrev pub is_common : List ℕ → ℕ → Bool

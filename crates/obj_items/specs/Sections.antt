@@ -9,8 +9,9 @@ use Rattle.obj_input.specs.declared.parts.Relocation.{Relocation}
 use Rattle.obj_input.specs.Kinds.{is_table_high, kind_of}
 use Rattle.obj_input.specs.Input.{SectionParts}
 use Rattle.obj_input.specs.Listed.{listed}
+use Rattle.obj_said.specs.Sections.{sort_of}
 use Rattle.obj_items.specs.Definitions.{definition}
-use Rattle.obj_items.specs.Uses.{reloc_at, reloc_count, sort_of}
+use Rattle.obj_items.specs.Uses.{reloc_at, reloc_count}
 use Rattle.obj_items.specs.Addressed.{slot_definition, slot_uses, table_of}
 
 -- a use of the table is one of the symbol's slot there

@@ -7,7 +7,8 @@ use Rattle.least.specs.Nearest.{joined}
 use Rattle.obj_input.specs.declared.parts.Block.{Block}
 use Rattle.obj_input.specs.declared.parts.Func.{Func}
 use Rattle.obj_input.specs.Input.{Named}
-use Rattle.obj_items.specs.Definitions.{definition, is_common, is_kept_section}
+use Rattle.obj_said.specs.Symbols.{is_kept_section}
+use Rattle.obj_items.specs.Definitions.{definition, is_common}
 
 -- the value of a symbol in SHN_COMMON is its alignment
 abbrev pub block_at : List ℕ → ℕ → Block

@@ -1,20 +1,13 @@
 ghost use Rattle.std.specs.Prelude.{◌≡◌, ◌<◌, ◌≤◌, if◌then◌else◌, IfOk};
 ghost use Rattle.elf_tables.specs.Symbol.{symbol, symbol_count};
-ghost use Rattle.obj_items.specs.Definitions.{commons_before, definition, definitions_of, entry_definition, is_common, is_kept_section};
+ghost use Rattle.obj_items.specs.Definitions.{commons_before, definition, definitions_of, entry_definition, is_common};
 
 use elf_object::{Object, SymbolEntry};
-use elf_tables::constants::{SHN_ABS, SHN_COMMON, SHN_UNDEF};
+use elf_tables::constants::{SHN_ABS, SHN_COMMON};
 use obj_input::Definition;
+use obj_said::is_kept_section;
 use rv_word::NoMemory;
 use std::alloc::Global;
-
-/// Whether this index is that of a section that is kept.
-pub(crate) fn is_kept_section(object: &Object, index: u16) -> bool
-    ensures { result ≡ is_kept_section object.now index }
-{
-    let section = u32::from(index);
-    index != SHN_UNDEF && section < object.sections() && object.is_kept(section)
-}
 
 /// Whether the symbol with this number is a common one.
 pub(crate) fn is_common(object: &Object, number: u64) -> bool

@@ -1,56 +1,18 @@
-ghost use Rattle.std.specs.Prelude.{◌≡◌, ◌<◌, ◌≤◌, ◌^◌, IfOk, true, length};
+ghost use Rattle.std.specs.Prelude.{◌≡◌, ◌<◌, ◌≤◌, ◌^◌, IfOk, length};
 ghost use Rattle.elf_tables.specs.Header.{e_shnum};
-ghost use Rattle.elf_tables.specs.Section.{content, section_header};
-ghost use Rattle.obj_input.specs.Input.{has_bytes};
 ghost use Rattle.obj_items.specs.Definitions.{definitions_of};
 ghost use Rattle.elf_tables.specs.Symbol.{symbol_count};
 ghost use Rattle.obj_input.specs.Listed.{listed};
 ghost use Rattle.obj_items.specs.Addressed.{slots_of};
 ghost use Rattle.obj_items.specs.Sections.{section_in, sections_of, used_definition, uses_of, uses_with_table};
-ghost use Rattle.obj_items.specs.Uses.{kept_sort, sort_of};
 
-use crate::slots::{is_table_use, slot_definition, slot_uses, table};
-use elf_object::{Object, Reloc, SectionHeader};
-use elf_tables::constants::SHT_NOBITS;
+use crate::slots::{slot_definition, slot_uses, table};
+use elf_object::{Object, Reloc};
 use indexmap::IndexSet;
-use obj_input::{Definition, Relocation, Section, Sort};
+use obj_input::{Definition, Relocation, Section};
+use obj_said::{content, is_table_use, sort_of};
 use rv_word::NoMemory;
 use std::alloc::Global;
-
-/// What a kept section with this header holds.
-fn kept_sort(header: &SectionHeader) -> Sort
-    ensures { result ≡ kept_sort header.now }
-{
-    if header.is_executable() {
-        Sort::Code
-    } else if header.kind == SHT_NOBITS {
-        Sort::Zeros
-    } else {
-        Sort::Data
-    }
-}
-
-/// What the section with this index holds.
-pub(crate) fn sort_of(object: &Object, k: u32) -> Sort
-    requires { k < e_shnum object.now }
-    ensures { result ≡ sort_of object.now k }
-{
-    if object.is_kept(k) {
-        kept_sort(&object.header(k))
-    } else {
-        Sort::Dropped
-    }
-}
-
-/// The bytes of the section with this index: all of code and data.
-fn content<'a>(object: &Object<'a>, k: u32) -> &'a [u8]
-    requires { k < e_shnum object.now }
-    ensures value { result.now ≡ content object.now (section_header object.now k) }
-    ensures whole { has_bytes (sort_of object.now k) ≡ true → length result.now ≡ (section_header object.now k).size }
-{
-    let _count = object.sections();
-    object.content(k)
-}
 
 /// A relocation whose symbol stands for this.
 fn with_definition(reloc: &Reloc, definition: Definition) -> Relocation

@@ -4,29 +4,23 @@ ghost use Rattle.std.specs.Prelude.{◌≡◌, ◌<◌, ◌*◌, ◌/◌, [], �
 ghost use Rattle.least.specs.Nearest.{joined};
 ghost use Rattle.elf_tables.specs.Header.{e_shnum};
 ghost use Rattle.obj_input.specs.Input.{is_code_sort};
-ghost use Rattle.obj_join.specs.Table.{is_table_use, table_symbols_at, table_symbols_in};
+ghost use Rattle.obj_join.specs.Table.{table_symbols_at, table_symbols_in};
 ghost use Rattle.obj_items.specs.Addressed.{slot_definition, slot_uses, slots_of, table_use_at, table_with};
 ghost use Rattle.obj_items.specs.Definitions.{definition, definitions_of};
-ghost use Rattle.obj_items.specs.Uses.{reloc_count, section_said_in, sections_said, sort_of, use_said};
+ghost use Rattle.obj_items.specs.Uses.{reloc_count};
+ghost use Rattle.obj_said.specs.Sections.{section_said_in, sections_said, sort_of};
 
-use crate::sections::sort_of;
 use elf_object::{Object, Reloc};
 use indexmap::IndexSet;
-use obj_input::{Definition, RelocKind, Relocation, Section, Sort};
-use obj_join::{TableUse, note_all, slot_of, table_symbols};
+use obj_input::{Definition, Relocation, Section, Sort};
+use obj_join::{TableUse, note_all, slot_of, slot_offset, table_symbols};
+use obj_said::{is_table_use, sort_of};
 use rv_reloc::types::R_RISCV_64;
 use rv_word::NoMemory;
 use std::alloc::Global;
 
 /// How many bytes a slot has.
 const SLOT: u64 = 8;
-
-/// Whether a relocation is a use of the table.
-pub(crate) fn is_table_use(reloc: &Reloc) -> bool
-    ensures { result ≡ is_table_use (use_said reloc.now) }
-{
-    RelocKind::of(reloc.kind).is_table_high()
-}
 
 /// A use of the table by itself.
 fn as_use(reloc: &Reloc) -> TableUse
@@ -105,14 +99,6 @@ pub(crate) fn slots(alloc: Global, object: &Object) -> Result<IndexSet<u64>, NoM
     Ok(slots)
 }
 
-/// Where the slot with this index stands in the table. What needs more bytes than there are addresses wants memory.
-fn offset_of(slot: usize) -> Result<u64, NoMemory>
-    ensures { IfOk result (λ offset. offset ≡ 8 * slot) }
-{
-    let offset = (slot as u64).checked_mul(SLOT).ok_or(NoMemory)?;
-    Ok(offset)
-}
-
 /// The slot of a symbol as what a use of the table stands for.
 pub(crate) fn slot_definition(
     object: &Object,
@@ -123,7 +109,7 @@ pub(crate) fn slot_definition(
     ensures { IfOk result (λ d. d ≡ slot_definition object.now symbol) }
 {
     let slot = slot_of(slots, u64::from(symbol)).unwrap_or(0);
-    let offset = offset_of(slot)?;
+    let offset = slot_offset(slot)?;
     Ok(Definition::Within(object.sections(), offset))
 }
 
@@ -131,7 +117,7 @@ pub(crate) fn slot_definition(
 fn filling(slot: usize, definition: Definition) -> Result<Relocation, NoMemory>
     ensures { IfOk result (λ u. u ≡ record { offset = 8 * slot; number = 2; addend = pos 0; definition = definition }) }
 {
-    let offset = offset_of(slot)?;
+    let offset = slot_offset(slot)?;
     Ok(Relocation {
         offset,
         number: R_RISCV_64,
@@ -181,7 +167,7 @@ pub(crate) fn table<'a>(
     requires slots { slots.now.keys ≡ slots_of object.now }
     ensures { IfOk result (λ s. s ≡ table_with object.now (length (slots_of object.now))) }
 {
-    let size = offset_of(slots.as_slice().len())?;
+    let size = slot_offset(slots.as_slice().len())?;
     let uses = slot_uses(alloc, object, definitions, slots)?;
     let table = Section::of_zeros(alloc, size, SLOT, uses)?;
     Ok(table)

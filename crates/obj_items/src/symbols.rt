@@ -3,10 +3,11 @@ ghost use Rattle.elf_tables.specs.Symbol.{symbol_count};
 ghost use Rattle.obj_items.specs.Definitions.{definitions_of};
 ghost use Rattle.obj_items.specs.Symbols.{block_at, blocks_of, func_at, funcs_of, is_func, name_at, names_of};
 
-use crate::definitions::{is_common, is_kept_section};
+use crate::definitions::is_common;
 use elf_object::Object;
 use elf_tables::constants::STT_FUNC;
 use obj_input::{Block, Definition, Func, Name};
+use obj_said::is_kept_section;
 use rv_word::NoMemory;
 use std::alloc::Global;
 

@@ -1,5 +1,5 @@
 pub mod Together
 mod Slotted
-mod Whole
+pub mod Whole
 mod Sectioned
 mod Composed

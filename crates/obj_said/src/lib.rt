@@ -3,8 +3,9 @@
 #![tactic(auto)]
 
 pub use input::joined_input;
-pub use slots::slots_of;
-pub use symbols::symbols_of;
+pub use sections::{content, sort_of};
+pub use slots::{is_table_use, slots_of};
+pub use symbols::{is_kept_section, symbols_of};
 
 mod input;
 mod resolution;

@@ -32,7 +32,7 @@ fn kept_sort(header: &SectionHeader) -> Sort
 }
 
 /// What the section with this index holds.
-pub(crate) fn sort_of(object: &Object, k: u32) -> Sort
+pub fn sort_of(object: &Object, k: u32) -> Sort
     requires { k < e_shnum object.now }
     ensures { result ≡ sort_of object.now k }
 {
@@ -44,7 +44,7 @@ pub(crate) fn sort_of(object: &Object, k: u32) -> Sort
 }
 
 /// The bytes of the section with this index: all of code and data.
-fn content<'a>(object: &Object<'a>, k: u32) -> &'a [u8]
+pub fn content<'a>(object: &Object<'a>, k: u32) -> &'a [u8]
     requires { k < e_shnum object.now }
     ensures value { result.now ≡ content object.now (section_header object.now k) }
     ensures whole { has_bytes (sort_of object.now k) ≡ true → length result.now ≡ (section_header object.now k).size }

@@ -20,7 +20,7 @@ use rv_word::NoMemory;
 use std::alloc::Global;
 
 /// Whether a relocation is a use of the table.
-pub(crate) fn is_table_use(reloc: &Reloc) -> bool
+pub fn is_table_use(reloc: &Reloc) -> bool
     ensures { result ≡ is_table_use (use_said reloc.now) }
 {
     RelocKind::of(reloc.kind).is_table_high()

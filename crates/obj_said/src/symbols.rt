@@ -15,7 +15,7 @@ use rv_word::NoMemory;
 use std::alloc::Global;
 
 /// Whether this index is that of a section that is kept.
-fn is_kept_section(object: &Object, index: u16) -> bool
+pub fn is_kept_section(object: &Object, index: u16) -> bool
     ensures { result ≡ is_kept_section object.now index }
 {
     let section = u32::from(index);

@@ -1,13 +1,14 @@
-use crate::given::{answer, file};
-use crate::harts::HARTS;
+use crate::given::answer;
 use crate::image::is_image_of;
-use crate::programs::{PROGRAMS, Program};
 use cfi_graph::{Graph, Map, write_graph, write_map};
 use cfi_rewrite::Hardened;
 use cfi_verify::verify;
 use elf_image::read_image;
 use rv_word::{Form, Image};
+use sample_hardened::{HARTS, PLAIN, PROGRAMS, Program, file};
+use sample_split::{HARTS_SPLIT, SPLIT};
 use std::alloc::Global;
+use std::process::Abort;
 
 /// Whether a graph is written as this text.
 fn is_graph(alloc: Global, graph: &Graph, text: &[u8]) -> bool {
@@ -66,16 +67,22 @@ fn is_right(alloc: Global, form: Form, program: &Program) -> bool {
     }
 }
 
-#[test]
-fn hardens(rt: HostRuntime) {
-    for (k, program) in PROGRAMS.iter().enumerate() {
-        assert!(rt; is_right(rt.alloc(), Form::Plain, program), "program {k}");
+/// Checks that each object becomes its program in a form.
+fn check(rt: &impl Abort, alloc: Global, form: Form, programs: &[Program]) {
+    for (k, program) in programs.iter().enumerate() {
+        assert!(rt;
+            is_right(alloc, form, program),
+            "{}, program {k}",
+            form.name()
+        );
     }
 }
 
 #[test]
-fn hardens_for_harts(rt: HostRuntime) {
-    for (k, program) in HARTS.iter().enumerate() {
-        assert!(rt; is_right(rt.alloc(), Form::Harts, program), "program {k}");
-    }
+fn hardens(rt: HostRuntime) {
+    check(&rt, rt.alloc(), Form::Plain, &PROGRAMS);
+    check(&rt, rt.alloc(), Form::Plain, &PLAIN);
+    check(&rt, rt.alloc(), Form::Harts, &HARTS);
+    check(&rt, rt.alloc(), Form::Split, &SPLIT);
+    check(&rt, rt.alloc(), Form::HartsSplit, &HARTS_SPLIT);
 }

@@ -1,7 +1,6 @@
-use crate::given::put;
-use crate::programs::Program;
 use elf_image::write_image_as;
 use rv_word::{Form, NoMemory};
+use sample_hardened::{Program, put};
 use sample_programs::{code, code_of_harts};
 use std::alloc::{AllocError, Global};
 
@@ -17,8 +16,8 @@ fn image(alloc: Global, form: Form, code: &[u8], data: &[u8]) -> Result<Vec<u8>,
 /// The code of a form's prologue and some units.
 fn code_in(alloc: Global, form: Form, units: &[u32]) -> Result<Vec<u8>, AllocError> {
     match form {
-        Form::Plain => code(alloc, units),
-        Form::Harts => code_of_harts(alloc, units),
+        Form::Plain | Form::Split => code(alloc, units),
+        Form::Harts | Form::HartsSplit => code_of_harts(alloc, units),
     }
 }
 

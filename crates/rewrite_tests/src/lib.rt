@@ -4,17 +4,11 @@
 #![tactic(auto)]
 
 #[cfg(test)]
-mod branches;
-#[cfg(test)]
 mod given;
 #[cfg(test)]
 mod hardened;
 #[cfg(test)]
-mod harts;
-#[cfg(test)]
 mod image;
-#[cfg(test)]
-mod programs;
 #[cfg(test)]
 mod refused;
 #[cfg(test)]

@@ -1,6 +1,7 @@
-use crate::given::{Given, Source, answer, file};
+use crate::given::{FORMS, answer};
 use cfi_rewrite::HardenEnd;
 use rv_word::Form;
+use sample_hardened::{Given, Source, file};
 use sample_programs::is_told_as;
 use std::alloc::Global;
 
@@ -76,22 +77,17 @@ static REFUSED: [Refused; 26] = [
     Refused(Given(Source::Writing, 200, b"0000000001000000", "main", None), "RelocRange 1 32"),
 ];
 
-/// One instruction more than the region of code has room for, by form.
-static TOO_MANY: [(Form, Refused); 2] = [
-    (
-        Form::Plain,
-        Refused(
-            Given(Source::Idle(262_128), 0, b"", "main", None),
-            "CodeTooLarge 1048580",
-        ),
-    ),
-    (
-        Form::Harts,
-        Refused(
-            Given(Source::Idle(262_124), 0, b"", "main", None),
-            "CodeTooLarge 1048580",
-        ),
-    ),
+/// One instruction more than the region of code has room for, by form; in those where two words lead each of two targets also
+/// where one word would not be too many.
+#[rattlefmt::skip]
+static TOO_MANY: [(Form, Refused); 7] = [
+    (Form::Plain, Refused(Given(Source::Idle(262_128), 0, b"", "main", None), "CodeTooLarge 1048580")),
+    (Form::Harts, Refused(Given(Source::Idle(262_124), 0, b"", "main", None), "CodeTooLarge 1048580")),
+    (Form::Split, Refused(Given(Source::Idle(262_128), 0, b"", "main", None), "CodeTooLarge 1048580")),
+    (Form::HartsSplit, Refused(Given(Source::Idle(262_124), 0, b"", "main", None), "CodeTooLarge 1048580")),
+    (Form::Plain, Refused(Given(Source::Padded(262_074), 0, b"", "main", None), "CodeTooLarge 1048580")),
+    (Form::Split, Refused(Given(Source::Padded(262_072), 0, b"", "main", None), "CodeTooLarge 1048580")),
+    (Form::HartsSplit, Refused(Given(Source::Padded(262_068), 0, b"", "main", None), "CodeTooLarge 1048580")),
 ];
 
 /// Whether a file is refused in a form in these words.
@@ -110,24 +106,28 @@ fn is_right(alloc: Global, form: Form, row: &Refused) -> bool {
     }
 }
 
+/// In each form the same is refused in the same words.
 #[test]
 fn refuses(rt: HostRuntime) {
-    for (k, row) in REFUSED.iter().enumerate() {
-        assert!(rt; is_right(rt.alloc(), Form::Plain, row), "{k}: {}", row.1);
-    }
-}
-
-/// The same is refused in the same words.
-#[test]
-fn refuses_for_harts(rt: HostRuntime) {
-    for (k, row) in REFUSED.iter().enumerate() {
-        assert!(rt; is_right(rt.alloc(), Form::Harts, row), "{k}: {}", row.1);
+    for form in FORMS {
+        for (k, row) in REFUSED.iter().enumerate() {
+            assert!(rt;
+                is_right(rt.alloc(), form, row),
+                "{}, {k}: {}",
+                form.name(),
+                row.1
+            );
+        }
     }
 }
 
 #[test]
 fn one_too_many(rt: HostRuntime) {
-    for row in &TOO_MANY {
-        assert!(rt; is_right(rt.alloc(), row.0, &row.1), "{}", row.0.name());
+    for (k, row) in TOO_MANY.iter().enumerate() {
+        assert!(rt;
+            is_right(rt.alloc(), row.0, &row.1),
+            "{}, {k}",
+            row.0.name()
+        );
     }
 }

@@ -1,67 +1,121 @@
-use crate::given::{Given, Source, answer, file};
+use crate::given::answer;
 use cfi_graph::Graph;
 use cfi_rewrite::Hardened;
 use cfi_step::{Handler, RunEnd, RunReport, Script, run};
 use cfi_verify::{Checked, verify};
 use elf_image::read_image;
 use rv_word::{Form, Image};
+use sample_hardened::{Given, Source, file};
 use std::alloc::Global;
 
 /// What is hardened; the bytes of its code and of its image; how its run ends, after how many steps, and how many
 /// addresses its walk has. It writes nothing.
 struct Run(Given, u32, usize, RunEnd, u64, u64);
 
+/// A policy by which calls and jumps share a target.
+const APART: &[u8] =
+    b"rvcfi-policy 1\nsite main+10 called+0 both+0\nsite main+24 jumped+0 both+0\nend\n";
+
+/// Runs by the form of their images. For several harts an opening has four steps more; where calls and jumps have labels of their
+/// own, a target that is come to by a computed transfer has one more.
 #[rattlefmt::skip]
-static RUNS: [Run; 6] = [
+static RUNS: [(Form, Run); 21] = [
     // One that calls itself 8,190 times, and one that does so once more, for which the shadow stack has no room.
-    Run(
+    (Form::Plain, Run(
         Given(Source::Recursive, 0, b"", "main", None),
         168, 8192, RunEnd::Exit(0), 163_820, 65_527,
-    ),
-    Run(
-        Given(Source::Recursive, 68, b"1305f5ff", "main", None),
-        168, 8192, RunEnd::Handler(Handler::Deep), 114_684, 40_960,
-    ),
-    // Stores over the end of the stack, and to the start of the code.
-    Run(
-        Given(Source::Coded, 0, b"a33f21fe67800000", "main", None),
-        104, 8192, RunEnd::Exit(0), 20, 4,
-    ),
-    Run(
-        Given(Source::Coded, 0, b"b702004023b0520067800000", "main", None),
-        108, 8192, RunEnd::Exit(0), 21, 5,
-    ),
-    // Branches over an addition and over a jump.
-    Run(
-        Given(Source::Coded, 0, b"630405001305100067800000", "main", None),
-        96, 8192, RunEnd::Exit(0), 17, 4,
-    ),
-    Run(
-        Given(Source::Coded, 0, b"630405006f00400067800000", "main", None),
-        100, 8192, RunEnd::Exit(0), 18, 4,
-    ),
-];
-
-/// The same in the form for several harts, of which one runs: their opening has four steps more.
-#[rattlefmt::skip]
-static HARTS: [Run; 3] = [
-    Run(
+    )),
+    (Form::Harts, Run(
         Given(Source::Recursive, 0, b"", "main", None),
         184, 8192, RunEnd::Exit(0), 163_824, 65_527,
-    ),
-    Run(
+    )),
+    (Form::Split, Run(
+        Given(Source::Recursive, 0, b"", "main", None),
+        168, 8192, RunEnd::Exit(0), 163_820, 65_527,
+    )),
+    (Form::Plain, Run(
+        Given(Source::Recursive, 68, b"1305f5ff", "main", None),
+        168, 8192, RunEnd::Handler(Handler::Deep), 114_684, 40_960,
+    )),
+    (Form::Harts, Run(
         Given(Source::Recursive, 68, b"1305f5ff", "main", None),
         184, 8192, RunEnd::Handler(Handler::Deep), 114_688, 40_960,
-    ),
-    Run(
+    )),
+    (Form::HartsSplit, Run(
+        Given(Source::Recursive, 68, b"1305f5ff", "main", None),
+        184, 8192, RunEnd::Handler(Handler::Deep), 114_688, 40_960,
+    )),
+    // Stores over the end of the stack, and to the start of the code.
+    (Form::Plain, Run(
+        Given(Source::Coded, 0, b"a33f21fe67800000", "main", None),
+        104, 8192, RunEnd::Exit(0), 20, 4,
+    )),
+    (Form::Plain, Run(
+        Given(Source::Coded, 0, b"b702004023b0520067800000", "main", None),
+        108, 8192, RunEnd::Exit(0), 21, 5,
+    )),
+    // Branches over an addition and over a jump.
+    (Form::Plain, Run(
+        Given(Source::Coded, 0, b"630405001305100067800000", "main", None),
+        96, 8192, RunEnd::Exit(0), 17, 4,
+    )),
+    (Form::Plain, Run(
+        Given(Source::Coded, 0, b"630405006f00400067800000", "main", None),
+        100, 8192, RunEnd::Exit(0), 18, 4,
+    )),
+    (Form::Harts, Run(
         Given(Source::Coded, 0, b"630405006f00400067800000", "main", None),
         116, 8192, RunEnd::Exit(0), 22, 4,
-    ),
+    )),
+    // One that calls a function and then jumps to another one, each of which either may come to.
+    (Form::Plain, Run(
+        Given(Source::Apart, 0, b"", "main", Some(APART)),
+        328, 8208, RunEnd::Exit(3), 63, 18,
+    )),
+    (Form::Split, Run(
+        Given(Source::Apart, 0, b"", "main", Some(APART)),
+        340, 8208, RunEnd::Exit(3), 65, 20,
+    )),
+    // The same where each of the two functions is called or jumped to.
+    (Form::Split, Run(
+        Given(Source::Apart, 0, b"", "main", None),
+        332, 8208, RunEnd::Exit(3), 65, 20,
+    )),
+    (Form::HartsSplit, Run(
+        Given(Source::Apart, 0, b"", "main", None),
+        348, 8208, RunEnd::Exit(3), 69, 20,
+    )),
+    // One that jumps by a table twice, once to a tail call, and then calls through a pointer.
+    (Form::Plain, Run(
+        Given(Source::Switching, 0, b"", "main", None),
+        484, 8224, RunEnd::Exit(16), 118, 35,
+    )),
+    (Form::Harts, Run(
+        Given(Source::Switching, 0, b"", "main", None),
+        500, 8224, RunEnd::Exit(16), 122, 35,
+    )),
+    (Form::Split, Run(
+        Given(Source::Switching, 0, b"", "main", None),
+        500, 8224, RunEnd::Exit(16), 122, 39,
+    )),
+    (Form::HartsSplit, Run(
+        Given(Source::Switching, 0, b"", "main", None),
+        516, 8224, RunEnd::Exit(16), 126, 39,
+    )),
+    // A jump where no address is taken.
+    (Form::Split, Run(
+        Given(Source::Coded, 0, b"67000300e7800200", "main", None),
+        200, 8192, RunEnd::Handler(Handler::BadTarget), 18, 3,
+    )),
+    (Form::HartsSplit, Run(
+        Given(Source::Coded, 0, b"67000300e7800200", "main", None),
+        216, 8192, RunEnd::Handler(Handler::BadTarget), 22, 3,
+    )),
 ];
 
-/// As many instructions that do nothing as the region of code has room for, by form.
+/// As many instructions that do nothing as the region of code has room for, by form, and behind two targets.
 #[rattlefmt::skip]
-static FULL: [(Form, Run); 2] = [
+static FULL: [(Form, Run); 7] = [
     (Form::Plain, Run(
         Given(Source::Idle(262_127), 0, b"", "main", None),
         1_048_576, 1_052_672, RunEnd::Handler(Handler::BadTarget), 262_139, 262_130,
@@ -69,6 +123,26 @@ static FULL: [(Form, Run); 2] = [
     (Form::Harts, Run(
         Given(Source::Idle(262_123), 0, b"", "main", None),
         1_048_576, 1_052_672, RunEnd::Handler(Handler::BadTarget), 262_139, 262_126,
+    )),
+    (Form::Split, Run(
+        Given(Source::Idle(262_127), 0, b"", "main", None),
+        1_048_576, 1_052_672, RunEnd::Handler(Handler::BadTarget), 262_139, 262_130,
+    )),
+    (Form::HartsSplit, Run(
+        Given(Source::Idle(262_123), 0, b"", "main", None),
+        1_048_576, 1_052_672, RunEnd::Handler(Handler::BadTarget), 262_139, 262_126,
+    )),
+    (Form::Plain, Run(
+        Given(Source::Padded(262_073), 0, b"", "main", None),
+        1_048_576, 1_052_688, RunEnd::Exit(1), 31, 8,
+    )),
+    (Form::Split, Run(
+        Given(Source::Padded(262_071), 0, b"", "main", None),
+        1_048_576, 1_052_688, RunEnd::Exit(1), 32, 9,
+    )),
+    (Form::HartsSplit, Run(
+        Given(Source::Padded(262_067), 0, b"", "main", None),
+        1_048_576, 1_052_688, RunEnd::Exit(1), 36, 9,
     )),
 ];
 
@@ -138,20 +212,21 @@ fn is_right(alloc: Global, form: Form, row: &Run) -> bool {
 #[test]
 fn runs(rt: HostRuntime) {
     for (k, row) in RUNS.iter().enumerate() {
-        assert!(rt; is_right(rt.alloc(), Form::Plain, row), "run {k}");
-    }
-}
-
-#[test]
-fn runs_for_harts(rt: HostRuntime) {
-    for (k, row) in HARTS.iter().enumerate() {
-        assert!(rt; is_right(rt.alloc(), Form::Harts, row), "run {k}");
+        assert!(rt;
+            is_right(rt.alloc(), row.0, &row.1),
+            "{}, run {k}",
+            row.0.name()
+        );
     }
 }
 
 #[test]
 fn full_region(rt: HostRuntime) {
-    for row in &FULL {
-        assert!(rt; is_right(rt.alloc(), row.0, &row.1), "{}", row.0.name());
+    for (k, row) in FULL.iter().enumerate() {
+        assert!(rt;
+            is_right(rt.alloc(), row.0, &row.1),
+            "{}, {k}",
+            row.0.name()
+        );
     }
 }

@@ -5,7 +5,7 @@ ghost use Rattle.rv_word.specs.MemoryMap.{can_load, can_store, lies_within, prof
 ghost use Rattle.rv_mem.specs.Cells.{is_paged};
 
 use rv_word::Region;
-use rv_word::memory_map::{CODE_SIZE, CODE_START, DATA_END, SHADOW_START};
+use rv_word::memory_map::{CODE_SIZE, CODE_START, CODE_TAIL, DATA_END, SHADOW_START};
 use rv_word::version::shadow_size;
 
 /// Whether the `n` bytes from `addr` on lie whole in the `size` bytes from `start` on.
@@ -17,13 +17,14 @@ pub(crate) fn is_within(start: u64, size: u64, addr: u64, n: u64) -> bool
     start <= addr && addr - start <= size - n
 }
 
+/// Whether a load may read the `n` bytes from `addr` on.
 pub(crate) fn is_loadable(version: u8, addr: u64, n: u8) -> bool
     requires { n ≤ 8 }
     ensures { result ≡ can_load (profile_of version) addr n }
 {
     let n = u64::from(n);
     is_within(0, DATA_END, addr, n)
-        || is_within(CODE_START, CODE_SIZE, addr, n)
+        || is_within(CODE_START, CODE_SIZE + CODE_TAIL, addr, n)
         || is_within(SHADOW_START, shadow_size(version), addr, n)
 }
 

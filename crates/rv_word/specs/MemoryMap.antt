@@ -20,6 +20,10 @@ CODE_START = map.CODE_START
 abbrev pub CODE_SIZE : ℕ
 CODE_SIZE = map.CODE_SIZE
 
+-- how many bytes past code loads may read: they are zero, and of no region
+abbrev pub CODE_TAIL : ℕ
+CODE_TAIL = map.CODE_TAIL
+
 -- where the shadow stack begins, and how many of its bytes belong to one hart
 abbrev pub SHADOW_START : ℕ
 SHADOW_START = map.SHADOW_START
@@ -84,10 +88,10 @@ pub record MayRun (p : Profile) (harts : ℕ) : Type 0 where
 abbrev pub lies_within : ℕ → ℕ → ℕ → ℕ → Bool
 lies_within start size a n = nat_le start a && nat_le (a + n) (start + size)
 
--- loads may read all three regions, stores may write data and shadow
+-- loads may read all three regions and the bytes past code, stores may write data and shadow
 abbrev pub can_load : Profile → ℕ → ℕ → Bool
 can_load p a n =
-    lies_within 0 DATA_END a n || lies_within CODE_START CODE_SIZE a n || lies_within SHADOW_START p.shadow_size a n
+    lies_within 0 DATA_END a n || lies_within CODE_START (CODE_SIZE + CODE_TAIL) a n || lies_within SHADOW_START p.shadow_size a n
 
 abbrev pub can_store : Profile → ℕ → ℕ → Bool
 can_store p a n = lies_within 0 DATA_END a n || lies_within SHADOW_START p.shadow_size a n

@@ -1,5 +1,5 @@
 ghost use Rattle.std.specs.Prelude.{◌≡◌, ◌+◌, ◌-◌, ◌≤◌, ◌<◌, ◌^◌};
-ghost use Rattle.rv_word.specs.Form.{form_name, form_named, image_version, profile_for};
+ghost use Rattle.rv_word.specs.Form.{form_name, form_named, form_of, graph_version, image_version, profile_for};
 ghost use Rattle.rv_word.specs.Image.{IsVersion};
 ghost use Rattle.rv_word.specs.MemoryMap.{CODE_START};
 
@@ -8,10 +8,14 @@ use crate::version::{closing, units_from};
 /// The form in which a program is hardened. What is asked of a form is a number or a value of it.
 #[derive(Clone, Copy, Debug, PartialEq, Eq)]
 pub enum Form {
-    /// For one hart: images of version 1.
+    /// For one hart: images and graphs of version 1.
     Plain,
-    /// For one to eight harts: images of version 2.
+    /// For one to eight harts: images of version 2, and graphs of version 1.
     Harts,
+    /// For one hart, calls and jumps with labels of their own: images of version 1, and graphs of version 2.
+    Split,
+    /// For one to eight harts, calls and jumps with labels of their own: images and graphs of version 2.
+    HartsSplit,
 }
 
 impl Form {
@@ -21,8 +25,20 @@ impl Form {
         ensures known { IsVersion result }
     {
         match self {
-            Form::Plain => 1,
-            Form::Harts => 2,
+            Form::Plain | Form::Split => 1,
+            Form::Harts | Form::HartsSplit => 2,
+        }
+    }
+
+    /// The version of the graphs of this form. The two versions tell the form.
+    pub fn graph_version(self) -> u8
+        ensures value { result ≡ graph_version self }
+        ensures known { IsVersion result }
+        ensures told { form_of (image_version self) result ≡ self }
+    {
+        match self {
+            Form::Plain | Form::Harts => 1,
+            Form::Split | Form::HartsSplit => 2,
         }
     }
 
@@ -57,6 +73,8 @@ impl Form {
         match self {
             Form::Plain => "plain",
             Form::Harts => "harts",
+            Form::Split => "split",
+            Form::HartsSplit => "harts-split",
         }
     }
 
@@ -64,8 +82,12 @@ impl Form {
     pub fn named(name: &str) -> Option<Form>
         ensures { result ≡ form_named name.now }
     {
-        [Form::Plain, Form::Harts]
-            .into_iter()
-            .find(|form| form.name() == name)
+        match name {
+            "plain" => Some(Form::Plain),
+            "harts" => Some(Form::Harts),
+            "split" => Some(Form::Split),
+            "harts-split" => Some(Form::HartsSplit),
+            _ => None,
+        }
     }
 }

@@ -10,6 +10,8 @@ pub const DATA_END: u64 = 0x1000_1000;
 pub const CODE_START: u64 = 0x4000_0000;
 /// How many bytes the region of code has.
 pub const CODE_SIZE: u64 = 0x10_0000;
+/// How many bytes past code loads may read, which are zero and of no region.
+pub const CODE_TAIL: u64 = 8;
 
 /// Where the shadow stack begins.
 pub const SHADOW_START: u64 = 0x6000_0000;

@@ -1,5 +1,6 @@
 use cfi_tool::rvcfi;
 use std::alloc::Global;
+use std::str::Split;
 use tool_io::{Files, MemFiles, MemSink, Sink};
 
 /// The words of a command line, which has a comma between each two; none where there is no memory.
@@ -44,4 +45,17 @@ pub fn holds(out: &MemSink, text: &str, more: &str) -> bool {
 pub fn answers(alloc: Global, line: &str, files: &mut MemFiles, status: u8, text: &str) -> bool {
     let mut out = MemSink::new(alloc, Vec::new(alloc));
     ends_with(alloc, line, files, &mut out, status) && holds(&out, text, "")
+}
+
+/// The rows of a table, which has a `;` between each two.
+pub fn rows(table: &[u8]) -> Split<'_, char> {
+    str::from_utf8(table).unwrap_or("").split(';')
+}
+
+/// Whether a row is a command line with its status and text, as `rvcfi = 2: usage ..`.
+pub fn is_answered(alloc: Global, row: &str, files: &mut MemFiles) -> bool {
+    let (line, told) = row.split_once(" = ").unwrap_or((row, ""));
+    let (status, text) = told.split_once(": ").unwrap_or((told, ""));
+    let status = status.parse().unwrap_or(u8::MAX);
+    answers(alloc, line, files, status, text)
 }

@@ -1,14 +1,15 @@
-//! Six small objects that are written by hand, in hexadecimal, and the maps that they and some like them get. They stand
-//! here alone, since several crates of tests use
-//! them.
+//! Small objects that are written by hand, in hexadecimal, and the maps that they and some like them get. They stand here
+//! alone, since several crates of tests use them.
 #![tactic(auto)]
 
 pub use maps::{
     B_MAP, B_MAP_OF_HARTS, H_MAP, H_MAP_OF_HARTS, NARROW_MAP, NARROW_MAP_OF_HARTS, NOWHERE_MAP,
     NOWHERE_MAP_OF_HARTS, P_MAP, P_MAP_OF_HARTS, R_MAP_OF_HARTS,
 };
+pub use pointers::{APART, Q, SORTS, TABLE};
 
 mod maps;
+mod pointers;
 
 /// Returns 7.
 pub static B: &[u8] = b"\

@@ -6,6 +6,23 @@ pub const P_DATA: &[u8] = b"\xc8\x00\x00\x40\x00\x00\x00\x00\xe4\x00\x00\x40\x00
 /// The data of `JUMP`.
 pub const JUMP_DATA: &[u8] = b"\x7c\x00\x00\x40\x00\x00\x00\x00\x98\x00\x00\x40\x00\x00\x00\x00";
 
+/// The data of `Q`.
+pub const Q_DATA: &[u8] = b"\x7c\x00\x00\x40\x00\x00\x00\x00\x9c\x00\x00\x40\x00\x00\x00\x00";
+
+/// The data of `Q_OF_HARTS`.
+pub const Q_OF_HARTS_DATA: &[u8] =
+    b"\x8c\x00\x00\x40\x00\x00\x00\x00\xac\x00\x00\x40\x00\x00\x00\x00";
+
+/// The data of `APART`.
+pub const APART_DATA: &[u8] = b"\xf0\x00\x00\x40\x00\x00\x00\x00\x10\x01\x00\x40\x00\x00\x00\x00";
+
+/// The data of `APART_OF_HARTS`.
+pub const APART_OF_HARTS_DATA: &[u8] =
+    b"\x00\x01\x00\x40\x00\x00\x00\x00\x20\x01\x00\x40\x00\x00\x00\x00";
+
+/// The data of `JOINED`.
+pub const JOINED_DATA: &[u8] = b"\xf0\x00\x00\x40\x00\x00\x00\x00\x0c\x01\x00\x40\x00\x00\x00\x00";
+
 /// The data of `JOBS`: the job of each of eight harts, the pointer through which they call, and for each hart an address and
 /// a value. Hart 1 turns the pointer, hart 3 the address to which the first call of hart 0 returns; hart 5 loads the oldest
 /// site of hart 0.

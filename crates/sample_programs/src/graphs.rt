@@ -92,3 +92,35 @@ class 00001 40000094 4000017c 400001a8 400001d4 40000224 40000230 40000258\n\
 class 00002 40000144 40000160\ncall 4000000c 40000050\nsite 40000060 jump 00001\n\
 site 400000d8 call 00002\nedge 400001a4 4000018c\nedge 400001fc 40000210\n\
 edge 4000020c 400001e8\ncall 40000234 40000234\nedge 4000025c 4000025c\nend\n";
+
+/// The graph of `BEHIND`.
+pub const BEHIND_GRAPH: &[u8] =
+    b"rvcfi-graph 1\ncode 40000000 00000070\ncall 4000000c 40000040\nend\n";
+
+/// The graph of `Q`.
+pub const Q_GRAPH: &[u8] = b"rvcfi-graph 2\ncode 40000000 00000124\ncallclass 00001 4000009c\n\
+jumpclass 00002 4000007c 4000009c\ncall 4000000c 40000040\nsite 40000048 jump 00002\n\
+site 400000bc call 00001\nend\n";
+
+/// The graph of `Q_OF_HARTS`.
+pub const Q_OF_HARTS_GRAPH: &[u8] =
+    b"rvcfi-graph 2\ncode 40000000 00000134\ncallclass 00001 400000ac\n\
+jumpclass 00002 4000008c 400000ac\ncall 4000000c 40000050\nsite 40000058 jump 00002\n\
+site 400000cc call 00001\nend\n";
+
+/// The graph of `APART`.
+pub const APART_GRAPH: &[u8] =
+    b"rvcfi-graph 2\ncode 40000000 00000154\ncallclass 00001 400000f0 40000130\n\
+jumpclass 00002 40000110 40000130\ncall 4000000c 40000040\nsite 4000005c call 00001\n\
+site 400000bc jump 00002\nend\n";
+
+/// The graph of `APART_OF_HARTS`.
+pub const APART_OF_HARTS_GRAPH: &[u8] =
+    b"rvcfi-graph 2\ncode 40000000 00000164\ncallclass 00001 40000100 40000140\n\
+jumpclass 00002 40000120 40000140\ncall 4000000c 40000050\nsite 4000006c call 00001\n\
+site 400000cc jump 00002\nend\n";
+
+/// The graph of `JOINED`.
+pub const JOINED_GRAPH: &[u8] =
+    b"rvcfi-graph 1\ncode 40000000 00000148\nclass 00001 400000f0 4000010c 40000128\n\
+call 4000000c 40000040\nsite 4000005c call 00001\nsite 400000bc jump 00001\nend\n";

@@ -119,7 +119,7 @@ fn place_of(items: &Items, section: u32, offset: u64) -> u64
 
 impl<'a, 'b> SourceRun<'a, 'b> {
     /// A run of a program at a map, which starts at the instruction with this section and offset, in bytes; the input is
-    /// copied. The closed graph is that of the program.
+    /// copied. The closed graph is that of the program for the form of the map.
     pub fn new(
         alloc: Global,
         items: &'a Items<'b>,

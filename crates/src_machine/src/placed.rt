@@ -1,4 +1,4 @@
-ghost use Rattle.std.specs.Prelude.{◌≡◌, ◌<◌, ◌^◌, ℕ, true, false, IfOk, IfSome, Some, is_some, length, option_and_then, slice_index};
+ghost use Rattle.std.specs.Prelude.{◌≡◌, ◌<◌, ◌≤◌, ◌^◌, ℕ, true, false, IfOk, IfSome, Some, is_some, length, option_and_then, slice_index};
 ghost use Rattle.rv_word.specs.Form.{profile_for};
 ghost use Rattle.obj_program.specs.DataAtMap.{data_at, init_size};
 ghost use Rattle.obj_program.specs.MapFit.{EndsLast};
@@ -59,6 +59,14 @@ impl<'a, 'b> Placed<'a, 'b> {
         ensures { self.now.profile ≡ profile_for result }
     {
         self.mapped.form()
+    }
+
+    /// How many words stand before the unit of a place at most.
+    pub(crate) fn most_lead(&self) -> u64
+        ensures value { result ≡ length self.now.closed.sides }
+        ensures few { result ≤ 2 }
+    {
+        self.mapped.closed().sides().len() as u64
     }
 
     /// The address to which it returns at its end.

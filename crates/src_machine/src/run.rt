@@ -1,4 +1,4 @@
-ghost use Rattle.std.specs.Prelude.{◌≡◌, ◌<◌, ◌+◌, ◌^◌, IfOk, OnErr};
+ghost use Rattle.std.specs.Prelude.{◌≡◌, ◌<◌, ◌≤◌, ◌+◌, ◌^◌, IfOk, OnErr, length};
 ghost use Rattle.rv_word.specs.Form.{profile_for};
 ghost use Rattle.rv_machine.specs.Parts.{shared_in};
 ghost use Rattle.src_machine.specs.Running.{IsStep, IsUnchanged, counted};
@@ -46,7 +46,16 @@ fn counted(turn: SourceTurn, steps: u64) -> u64
 }
 
 impl<'a, 'b> SourceRun<'a, 'b> {
-    /// The form of its map, by which a comparison has its bound.
+    /// How many words stand before the unit of a place at most: one for each side of its closed graph. By this and by the form of
+    /// its map a comparison has its bound.
+    pub fn most_lead(&self) -> u64
+        ensures value { result ≡ length self.now.layout.closed.sides }
+        ensures few { result ≤ 2 }
+    {
+        self.placed.most_lead()
+    }
+
+    /// The form of its map.
     pub fn form(&self) -> Form
         ensures { self.now.layout.profile ≡ profile_for result }
     {

@@ -1,5 +1,5 @@
 -- A whole text: its heading, and what is read after it.
-use Rattle.std.proofs.Common.{◌≡◌, ℕ, zero, suc, ◌<◌, List, [], ◌∷◌, codes, get_or, length, position, Some, None, Result, Ok, Err, refl, subst, ap, inl, inr, arith}
+use Rattle.std.proofs.Common.{◌≡◌, ℕ, ◌<◌, List, [], ◌∷◌, codes, get_or, length, position, Some, None, Result, Ok, Err, refl, subst, ap, inl, inr}
 use Rattle.std.specs.Str.{bytes_eq}
 use Rattle.std.proofs.lemmas.Slice.Eq.{bytes_eq-Decides}
 use Rattle.std.proofs.lemmas.List.Quantifiers.{position-Some}
@@ -65,11 +65,6 @@ one_named_ok names (line ∷ part ∷ parts) next x e go =
           let at = position-Some (bytes_eq line) names which [] some in
           go which (part ∷ parts) at.0 (ap (λ first. first ∷ part ∷ parts) ((bytes_eq-Decides line (get_or names which [])).0 at.1)) (rw some at e)
     ]
-
--- of one name alone it is that name
-pub only_name : {name : List ℕ} {parts rest : List (List ℕ)} (which : ℕ) → which < 1 → parts ≡ get_or (name ∷ []) which [] ∷ rest → parts ≡ name ∷ rest
-only_name zero h e = e
-only_name (suc which) h e = absurd (omega arith)
 
 -- one of the names, and then what is accepted, tells which of them it is
 pub named_back : {L B I : Type 0} {rules : LineRules L B I} {before : B} {items : List I} (names : List (List ℕ)) (name : List ℕ) (which : ℕ) (rest : List (List ℕ)) → position (bytes_eq name) names ≡ Some which → Accepts rules before rest items → one_named names (name ∷ rest) ≡ Ok (which, rest)

@@ -1,11 +1,16 @@
-use cfi_graph::{Graph, GraphLine, GraphLines, read_graph, write_graph};
-use rv_word::NoMemory;
-use sample_programs::{P_GRAPH, is_told_as, rows};
+ghost use Rattle.std.specs.Prelude.{◌==◌, ◌||◌, IsTrue};
+
+use cfi_graph::{Graph, GraphLine, GraphLines, SiteKind, read_graph, write_graph};
+use rv_word::{NoMemory, Places};
+use sample_programs::{P_GRAPH, Q_GRAPH, is_told_as, rows};
 use std::alloc::{AllocError, Global};
 
 const FIRST: &[u8] = b"rvcfi-graph 1\n";
 
 const SECOND: &[u8] = b"rvcfi-graph 1\ncode 40000000 00000104\n";
+
+/// The first two lines of a text of version 2.
+const SECOND_OF_2: &[u8] = b"rvcfi-graph 2\ncode 40000000 00000104\n";
 
 /// The line from which a text is spelled, after the lines above that come first, the text from there on, with
 /// `/` for each newline, and what it is read as.
@@ -122,6 +127,10 @@ const TEXTS: &[u8] = b"\
     from 3|Call 4000000c 40000040/end/|line 3: Form\n\
     from 3|calls 1 2/end/|line 3: Form\n\
     from 3|callclass 00001 400000c8/end/|line 3: Form\n\
+    from 3|jumpclass 00001/end/|line 3: Form\n\
+    from 3|callclass 00000 400000ca/end/|line 3: Form\n\
+    from 3|class 00001/jumpclass 00002 400000c8/end/|line 4: Form\n\
+    from 3|call 4000000c 40000040/callclass 00001/end/|line 4: Form\n\
     from 3|call 4000000c 40000104/end/|line 3: Range\n\
     from 3|call 0000000c 40000040/end/|line 3: Range\n\
     from 3|call 4000000c ffffffff/end/|line 3: Range\n\
@@ -142,9 +151,105 @@ const TEXTS: &[u8] = b"\
     from 3|class 00001 400000c8 400000e4/call 4000000c 40000040/edge 40000040 40000050/site 4000005c call 00001/end/|a graph\n\
 ";
 
+/// The same of version 2, whose classes have two sorts.
+const TEXTS_OF_2: &[u8] = b"\
+    from 1|rvcfi-graph 2|line 1: Form\n\
+    from 1|rvcfi-graph 2/|line 2: Form\n\
+    from 1|rvcfi-graph 2/code 40000000 00000050/end/|a graph\n\
+    from 1|rvcfi-graph 2/code 40000000 00100000/end/|a graph\n\
+    from 1|rvcfi-graph 2 /code 40000000 00000050/end/|line 1: Form\n\
+    from 1|rvcfi-graph  2/code 40000000 00000050/end/|line 1: Form\n\
+    from 1|rvcfi-graph 02/code 40000000 00000050/end/|line 1: Form\n\
+    from 1|rvcfi-graph 12/code 40000000 00000050/end/|line 1: Form\n\
+    from 1|rvcfi-graph 0/code 40000000 00000050/end/|line 1: Form\n\
+    from 1|rvcfi-graph 3/code 40000000 00000050/end/|line 1: Form\n\
+    from 1|rvcfi-graph 2 split/code 40000000 00000050/end/|line 1: Form\n\
+    from 1|rvcfi-graph/code 40000000 00000050/end/|line 1: Form\n\
+    from 1|rvcfi-map 2/code 40000000 00000050/end/|line 1: Form\n\
+    from 1|rvcfi-graph 2/rvcfi-graph 2/code 40000000 00000050/end/|line 2: Form\n\
+    from 1|rvcfi-graph 2/code 40000000 00000050|line 2: Form\n\
+    from 1|rvcfi-graph 2/code 40000000 00000050/|line 3: Form\n\
+    from 1|rvcfi-graph 2/code 40000000 0000005A/end/|line 2: Form\n\
+    from 1|rvcfi-graph 2/code 40000000 00000052/end/|line 2: Range\n\
+    from 1|rvcfi-graph 2/code 40000000 00100004/end/|line 2: Range\n\
+    from 1|rvcfi-graph 2/callclass 00001/code 40000000 00000050/end/|line 2: Form\n\
+    2 from 3|end/|a graph\n\
+    2 from 3|end|line 3: Form\n\
+    2 from 3|end/x|line 4: Form\n\
+    2 from 3|callclass 00001/end/|a graph\n\
+    2 from 3|jumpclass 00001/end/|a graph\n\
+    2 from 3|callclass 0000a 400000c8 400000e4/end/|a graph\n\
+    2 from 3|jumpclass fffff 40000000 40000100/end/|a graph\n\
+    2 from 3|class 00001/end/|line 3: Form\n\
+    2 from 3|class 00001 400000c8 400000e4/end/|line 3: Form\n\
+    2 from 3|class 00000 400000ca/end/|line 3: Form\n\
+    2 from 3|callclass 00001/class 00002/end/|line 4: Form\n\
+    2 from 3|call 4000000c 40000040/class 00001/end/|line 4: Form\n\
+    2 from 3|callclass/end/|line 3: Form\n\
+    2 from 3|jumpclass/end/|line 3: Form\n\
+    2 from 3|callclass /end/|line 3: Form\n\
+    2 from 3|jumpclass 0000A/end/|line 3: Form\n\
+    2 from 3|callclass 0001/end/|line 3: Form\n\
+    2 from 3|jumpclass 000001/end/|line 3: Form\n\
+    2 from 3|callclass 00001 /end/|line 3: Form\n\
+    2 from 3|jumpclass 00001  400000c8/end/|line 3: Form\n\
+    2 from 3|callclass 00001 400000C8/end/|line 3: Form\n\
+    2 from 3|jumpclass 00001 00001/end/|line 3: Form\n\
+    2 from 3|callclass 00001 400000c8|line 3: Form\n\
+    2 from 3|jumpclass 00001 400000c8/|line 4: Form\n\
+    2 from 3|callclass 00001 400000c8\r/end/|line 3: Form\n\
+    2 from 3| callclass 00001/end/|line 3: Form\n\
+    2 from 3|Callclass 00001/end/|line 3: Form\n\
+    2 from 3|jumpClass 00001/end/|line 3: Form\n\
+    2 from 3|jumpclas 00001/end/|line 3: Form\n\
+    2 from 3|callclasses 00001/end/|line 3: Form\n\
+    2 from 3|call class 00001/end/|line 3: Form\n\
+    2 from 3|jump class 00001/end/|line 3: Form\n\
+    2 from 3|callclass 00000/end/|line 3: Range\n\
+    2 from 3|jumpclass 00000 400000c8/end/|line 3: Range\n\
+    2 from 3|callclass 00001 400000ca/end/|line 3: Range\n\
+    2 from 3|jumpclass 00001 400000ca/end/|line 3: Range\n\
+    2 from 3|callclass 00001 40000104/end/|line 3: Range\n\
+    2 from 3|jumpclass 00001 3ffffffc/end/|line 3: Range\n\
+    2 from 3|jumpclass 00001 400000e4 400000ca/end/|line 3: Range\n\
+    2 from 3|callclass 00001 400000e4 400000c8/end/|line 3: Order\n\
+    2 from 3|callclass 00001 400000c8 400000c8/end/|line 3: Order\n\
+    2 from 3|jumpclass 00001 400000e4 400000c8/end/|line 3: Order\n\
+    2 from 3|jumpclass 00001 400000c8 400000c8/end/|line 3: Order\n\
+    2 from 3|callclass 00001/jumpclass 00002/end/|a graph\n\
+    2 from 3|jumpclass 00001/callclass 00002/end/|a graph\n\
+    2 from 3|callclass 00001/jumpclass 00003/callclass 00004/jumpclass 00007/end/|a graph\n\
+    2 from 3|callclass 00001 400000c8/jumpclass 00002 400000c8/end/|a graph\n\
+    2 from 3|jumpclass 00001 400000c8 400000e4/jumpclass 00002 400000c8/end/|a graph\n\
+    2 from 3|callclass 00001/callclass 00001/end/|line 4: Order\n\
+    2 from 3|jumpclass 00001/jumpclass 00001/end/|line 4: Order\n\
+    2 from 3|callclass 00001/jumpclass 00001/end/|line 4: Order\n\
+    2 from 3|jumpclass 00001/callclass 00001/end/|line 4: Order\n\
+    2 from 3|callclass 00002/jumpclass 00001/end/|line 4: Order\n\
+    2 from 3|jumpclass 00002/callclass 00001/end/|line 4: Order\n\
+    2 from 3|callclass 00001/jumpclass 00003/callclass 00002/end/|line 5: Order\n\
+    2 from 3|callclass 00002/jumpclass 00000/end/|line 4: Range\n\
+    2 from 3|call 4000000c 40000040/callclass 00001/end/|line 4: Order\n\
+    2 from 3|edge 40000040 40000044/jumpclass 00001 400000c8/end/|line 4: Order\n\
+    2 from 3|site 40000040 jump 00001/callclass 00001/end/|line 4: Order\n\
+    2 from 3|call 4000000c 40000040/jumpclass 00000/end/|line 4: Range\n\
+    2 from 3|call 4000000c 40000040/jumpclass 0000g/end/|line 4: Form\n\
+    2 from 3|callclass 00001/call 4000000c 40000040/jumpclass 00002/end/|line 5: Order\n\
+    2 from 3|call 4000000c 40000040/end/callclass 00001/|line 5: Form\n\
+    2 from 3|site 4000005c call 00001/site 40000090 jump 00001/end/|a graph\n\
+    2 from 3|site 4000005c call 00000/end/|line 3: Range\n\
+    2 from 3|edge 40000040 40000050/call 40000050 40000040/end/|a graph\n\
+    2 from 3|edge 40000040 40000041/end/|line 3: Range\n\
+    2 from 3|edge 40000050 40000040/call 4000000c 40000040/end/|line 4: Order\n\
+    2 from 3|call 4000000c 40000040 40000044/end/|line 3: Form\n\
+    from 1|rvcfi-graph 2/code 40000000 00000124/callclass 00001 4000009c/jumpclass 00002 4000007c 4000009c/call 4000000c 40000040/site 40000048 jump 00002/site 400000bc call 00001/end/|a graph\n\
+    from 1|rvcfi-graph 1/code 40000000 00000124/callclass 00001 4000009c/jumpclass 00002 4000007c 4000009c/call 4000000c 40000040/site 40000048 jump 00002/site 400000bc call 00001/end/|line 3: Form\n\
+";
+
 /// The lines of a text before the line from which it is spelled.
 fn head(name: &str) -> &'static [u8] {
     match name {
+        "2 from 3" => SECOND_OF_2,
         "from 3" => SECOND,
         "from 2" => FIRST,
         _ => b"",
@@ -200,7 +305,14 @@ fn is_right(alloc: Global, row: &str) -> bool {
 
 #[test]
 fn texts(rt: HostRuntime) {
-    for row in rows(TEXTS, 130).lines() {
+    for row in rows(TEXTS, 134).lines() {
+        assert!(rt; is_right(rt.alloc(), row), "{row}");
+    }
+}
+
+#[test]
+fn texts_of_version_2(rt: HostRuntime) {
+    for row in rows(TEXTS_OF_2, 91).lines() {
         assert!(rt; is_right(rt.alloc(), row), "{row}");
     }
 }
@@ -211,6 +323,13 @@ fn no_text(rt: HostRuntime) {
 }
 
 const MADE: &[u8] = b"rvcfi-graph 1\ncode 40000000 00000104\nedge 40000040 40000050\nend\n";
+
+/// The same graph of version 2.
+const MADE_OF_2: &[u8] = b"rvcfi-graph 2\ncode 40000000 00000104\nedge 40000040 40000050\nend\n";
+
+/// A graph of one class of jumps.
+const MADE_OF_A_CLASS: &[u8] =
+    b"rvcfi-graph 2\ncode 40000000 00000104\njumpclass 00001 400000c8\nend\n";
 
 /// Bytes that stand in no line of a graph, those beside the digits and the letters among them.
 const WRONG: &[u8] = b"\0\t\r!/:@AFG`hz{\xff";
@@ -237,16 +356,49 @@ fn wrong_bytes(rt: HostRuntime) {
     }
 }
 
-/// Whether a graph has the counts of the worked one, and the opening's call as its second line.
+/// Whether a graph has the counts of the worked one of version 1, and the opening's call as its second line.
 fn has_parts(graph: &Graph) -> bool {
-    graph.code() == 0x104
+    graph.version() == 1
+        && graph.code() == 0x104
         && graph.classes() == 1
         && graph.sites() == 1
         && graph.lines() == 3
         && matches!(graph.line(1), GraphLine::Call(0x4000_000c, 0x4000_0040))
 }
 
-/// Whether the worked graph is read with its parts.
+/// Whether a line is a class of this sort, label and targets.
+fn is_class_line(line: &GraphLine, is_for_calls: bool, label: u32, targets: &[u64]) -> bool {
+    match line {
+        GraphLine::CallClass(found, places) => {
+            is_for_calls && *found == label && places.as_slice() == targets
+        }
+        GraphLine::JumpClass(found, places) => {
+            !is_for_calls && *found == label && places.as_slice() == targets
+        }
+        _ => false,
+    }
+}
+
+/// Whether a graph has the counts of the worked one of version 2, its two classes, and its sites.
+fn has_parts_of_two_sorts(graph: &Graph) -> bool {
+    graph.version() == 2
+        && graph.code() == 0x124
+        && graph.classes() == 2
+        && graph.sites() == 2
+        && graph.lines() == 5
+        && is_class_line(graph.line(0), true, 1, &[0x4000_009c])
+        && is_class_line(graph.line(1), false, 2, &[0x4000_007c, 0x4000_009c])
+        && matches!(
+            graph.line(3),
+            GraphLine::Site(0x4000_0048, SiteKind::Jump, 2)
+        )
+        && matches!(
+            graph.line(4),
+            GraphLine::Site(0x4000_00bc, SiteKind::Call, 1)
+        )
+}
+
+/// Whether the worked graph of version 1 is read with its parts.
 fn is_read_with_parts(alloc: Global) -> bool {
     match read_graph(alloc, P_GRAPH) {
         Ok(graph) => has_parts(&graph),
@@ -254,27 +406,50 @@ fn is_read_with_parts(alloc: Global) -> bool {
     }
 }
 
+/// Whether that of version 2 is.
+fn is_read_with_two_sorts(alloc: Global) -> bool {
+    match read_graph(alloc, Q_GRAPH) {
+        Ok(graph) => has_parts_of_two_sorts(&graph),
+        Err(_) => false,
+    }
+}
+
 #[test]
 fn parts(rt: HostRuntime) {
     assert!(rt; is_read_with_parts(rt.alloc()));
+    assert!(rt; is_read_with_two_sorts(rt.alloc()));
 }
 
-/// A graph that is made of its parts.
-fn made(alloc: Global) -> Result<Graph, NoMemory> {
+/// A graph of one edge that is made of its parts.
+fn made(alloc: Global, version: u8) -> Result<Graph, NoMemory>
+    requires { IsTrue (version == 1 || version == 2) }
+{
     let mut lines = Vec::new(alloc);
     lines.push(GraphLine::Edge(0x4000_0040, 0x4000_0050))?;
-    Graph::of(alloc, 0x104, GraphLines::of(lines))
+    Graph::of(alloc, version, 0x104, GraphLines::of(lines))
+}
+
+/// A graph of a class of jumps that is made of its parts.
+fn made_of_a_class(alloc: Global) -> Result<Graph, NoMemory> {
+    let mut targets = Vec::new(alloc);
+    targets.push(0x4000_00c8)?;
+    let mut lines = Vec::new(alloc);
+    lines.push(GraphLine::JumpClass(1, Places::of(targets)))?;
+    Graph::of(alloc, 2, 0x104, GraphLines::of(lines))
 }
 
 /// Whether the graph that is made of its parts is written as its text.
-fn is_made_and_written(alloc: Global) -> bool {
-    match made(alloc) {
-        Ok(graph) => is_written_as(alloc, &graph, MADE),
+fn is_made_and_written(alloc: Global, graph: Result<Graph, NoMemory>, text: &[u8]) -> bool {
+    match graph {
+        Ok(graph) => is_written_as(alloc, &graph, text),
         Err(_) => false,
     }
 }
 
 #[test]
 fn made_of_parts(rt: HostRuntime) {
-    assert!(rt; is_made_and_written(rt.alloc()));
+    let alloc = rt.alloc();
+    assert!(rt; is_made_and_written(alloc, made(alloc, 1), MADE));
+    assert!(rt; is_made_and_written(alloc, made(alloc, 2), MADE_OF_2));
+    assert!(rt; is_made_and_written(alloc, made_of_a_class(alloc), MADE_OF_A_CLASS));
 }

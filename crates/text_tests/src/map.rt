@@ -82,7 +82,7 @@ const TEXTS: &[u8] = b"\
     at 40000040 0001 00000000/at 40000044 0001 00000004/at 40000048 0001 00000004/x/end/|line 4: Order\n\
 ";
 
-/// The same of the form for several harts, whose gates begin 16 bytes later.
+/// The same of the forms for several harts, whose gates begin 16 bytes later.
 const TEXTS_OF_HARTS: &[u8] = b"\
     end/|a map\n\
     |line 2: Form\n\
@@ -124,10 +124,20 @@ const FIRST_LINES: &[u8] = b"\
     rvcfi-map 2 harts \n\
     rvcfi-map 2  harts\n\
     rvcfi-map 3 harts\n\
-    rvcfi-map 2 split\n\
+    rvcfi-map 1 split\n\
+    rvcfi-map 2 splits\n\
+    rvcfi-map 2 split \n\
+    rvcfi-map 3 split\n\
+    rvcfi-map 2 harts split\n\
+    rvcfi-map 2 split harts\n\
+    rvcfi-map 2 split-harts\n\
+    rvcfi-map 2 harts_split\n\
+    rvcfi-map 2 harts-\n\
+    rvcfi-map 1 harts-split\n\
     rvcfi-map harts\n\
     rvcfi-map\n\
     rvcfi-graph 1\n\
+    rvcfi-graph 2\n\
     rvcfi-script 2\n\
     rvcfi-policy 1\n\
     end\n\
@@ -154,6 +164,8 @@ fn text_of(alloc: Global, form: Form, rest: &str) -> Result<Vec<u8>, AllocError>
     match form {
         Form::Plain => [b"rvcfi-map 1\n", rest.as_bytes()].concat(alloc),
         Form::Harts => [b"rvcfi-map 2 harts\n", rest.as_bytes()].concat(alloc),
+        Form::Split => [b"rvcfi-map 2 split\n", rest.as_bytes()].concat(alloc),
+        Form::HartsSplit => [b"rvcfi-map 2 harts-split\n", rest.as_bytes()].concat(alloc),
     }
 }
 
@@ -175,6 +187,7 @@ fn is_right(alloc: Global, form: Form, row: &str) -> bool {
 fn map_texts(rt: HostRuntime) {
     for row in rows(TEXTS, 72).lines() {
         assert!(rt; is_right(rt.alloc(), Form::Plain, row), "{row}");
+        assert!(rt; is_right(rt.alloc(), Form::Split, row), "{row}");
     }
 }
 
@@ -182,10 +195,11 @@ fn map_texts(rt: HostRuntime) {
 fn map_texts_of_harts(rt: HostRuntime) {
     for row in rows(TEXTS_OF_HARTS, 26).lines() {
         assert!(rt; is_right(rt.alloc(), Form::Harts, row), "{row}");
+        assert!(rt; is_right(rt.alloc(), Form::HartsSplit, row), "{row}");
     }
 }
 
-/// Whether a first line is refused before a line that may stand in the maps of both forms.
+/// Whether a first line is refused before a line that may stand in the maps of all forms.
 fn is_no_first_line(alloc: Global, line: &str) -> bool {
     match [line.as_bytes(), b"\nat 40000050 0001 00000000\nend\n"].concat(alloc) {
         Ok(text) => is_read_as(alloc, Form::Plain, &text, "line 1: Form"),
@@ -195,7 +209,7 @@ fn is_no_first_line(alloc: Global, line: &str) -> bool {
 
 #[test]
 fn other_first_lines(rt: HostRuntime) {
-    for line in rows(FIRST_LINES, 17).lines() {
+    for line in rows(FIRST_LINES, 27).lines() {
         assert!(rt; is_no_first_line(rt.alloc(), line), "{line}");
     }
 }
@@ -238,6 +252,8 @@ fn made(alloc: Global, form: Form) -> Result<Map, NoMemory> {
     match form {
         Form::Plain => Map::of(alloc, Form::Plain, lines),
         Form::Harts => Map::of(alloc, Form::Harts, lines),
+        Form::Split => Map::of(alloc, Form::Split, lines),
+        Form::HartsSplit => Map::of(alloc, Form::HartsSplit, lines),
     }
 }
 
@@ -259,7 +275,7 @@ fn is_made_and_written(alloc: Global, form: Form, text: &[u8]) -> bool {
 }
 
 /// The text of that map, by form.
-const MADE: [(Form, &[u8]); 2] = [
+const MADE: [(Form, &[u8]); 4] = [
     (
         Form::Plain,
         b"rvcfi-map 1\nat 40000054 0001 00000008\nend\n",
@@ -267,6 +283,14 @@ const MADE: [(Form, &[u8]); 2] = [
     (
         Form::Harts,
         b"rvcfi-map 2 harts\nat 40000054 0001 00000008\nend\n",
+    ),
+    (
+        Form::Split,
+        b"rvcfi-map 2 split\nat 40000054 0001 00000008\nend\n",
+    ),
+    (
+        Form::HartsSplit,
+        b"rvcfi-map 2 harts-split\nat 40000054 0001 00000008\nend\n",
     ),
 ];
 

@@ -3,16 +3,18 @@
 use rv_word::NoMemory;
 use sample_calls::{add_image, add_image_of_harts, add_texts};
 use sample_programs::{
-    A, A_CLASS_GRAPH, A_GRAPH, A_OF_HARTS, A_OF_HARTS_GRAPH, AIMED, AIMED_GRAPH, ASTRAY, B,
-    B_GRAPH, BREAK, BREAK_GRAPH, DEEP, DEEP_GRAPH, ECHO, ECHO_GRAPH, EDGE, EDGE_GRAPH, H, H_GRAPH,
-    LOAD, LOAD_GRAPH, LOOP, LOOP_GRAPH, NARROW, NARROW_GRAPH, NOWHERE, NOWHERE_GRAPH, P, P_DATA,
-    P_GRAPH, RELABELLED, RELABELLED_GRAPH, STATUS, STATUS_GRAPH,
+    A, A_CLASS_GRAPH, A_GRAPH, A_OF_HARTS, A_OF_HARTS_GRAPH, AIMED, AIMED_GRAPH, APART, APART_DATA,
+    APART_GRAPH, ASTRAY, B, B_GRAPH, BEHIND, BEHIND_GRAPH, BREAK, BREAK_GRAPH, DEEP, DEEP_GRAPH,
+    ECHO, ECHO_GRAPH, EDGE, EDGE_GRAPH, H, H_GRAPH, JOINED, JOINED_DATA, JOINED_GRAPH, LOAD,
+    LOAD_GRAPH, LOOP, LOOP_GRAPH, NARROW, NARROW_GRAPH, NOWHERE, NOWHERE_GRAPH, P, P_DATA, P_GRAPH,
+    Q, Q_DATA, Q_GRAPH, Q_OF_HARTS, Q_OF_HARTS_DATA, Q_OF_HARTS_GRAPH, RELABELLED,
+    RELABELLED_GRAPH, STATUS, STATUS_GRAPH,
 };
 use std::alloc::Global;
 use tool_io::MemFiles;
 
 /// Names of images, each with the units of its code and its data.
-static IMAGES: [(&str, &[u32], &[u8]); 17] = [
+static IMAGES: [(&str, &[u32], &[u8]); 21] = [
     ("image", &A, b""),
     ("a.img", &A, b""),
     ("b.img", &B, b""),
@@ -30,6 +32,80 @@ static IMAGES: [(&str, &[u32], &[u8]); 17] = [
     ("break.img", &BREAK, b""),
     ("load.img", &LOAD, b""),
     ("status.img", &STATUS, b""),
+    ("behind.img", &BEHIND, b""),
+    ("q.img", &Q, Q_DATA),
+    ("apart.img", &APART, APART_DATA),
+    ("joined.img", &JOINED, JOINED_DATA),
+];
+
+/// The same of images for several harts.
+static IMAGES_OF_HARTS: [(&str, &[u32], &[u8]); 2] = [
+    ("harts.img", &A_OF_HARTS, b""),
+    ("qs.img", &Q_OF_HARTS, Q_OF_HARTS_DATA),
+];
+
+/// Graphs of both versions, and texts that are none, by their names.
+static GRAPHS: [(&str, &[u8]); 13] = [
+    ("behind.graph", BEHIND_GRAPH),
+    ("q.graph", Q_GRAPH),
+    ("qs.graph", Q_OF_HARTS_GRAPH),
+    ("apart.graph", APART_GRAPH),
+    ("joined.graph", JOINED_GRAPH),
+    (
+        "a2.graph",
+        b"rvcfi-graph 2\ncode 40000000 00000050\ncall 4000000c 40000040\nend\n",
+    ),
+    (
+        "harts2.graph",
+        b"rvcfi-graph 2\ncode 40000000 00000060\ncall 4000000c 40000050\nend\n",
+    ),
+    (
+        "q1.graph",
+        b"rvcfi-graph 1\ncode 40000000 00000124\nclass 00001 4000009c\nclass 00002 4000007c 4000009c\ncall 4000000c 40000040\nsite 40000048 jump 00002\nsite 400000bc call 00001\nend\n",
+    ),
+    (
+        "joined2.graph",
+        b"rvcfi-graph 2\ncode 40000000 00000148\ncallclass 00001 400000f0 4000010c 40000128\ncall 4000000c 40000040\nsite 4000005c call 00001\nsite 400000bc jump 00001\nend\n",
+    ),
+    (
+        "fewer.graph",
+        b"rvcfi-graph 2\ncode 40000000 00000124\ncallclass 00001 4000009c\njumpclass 00002 4000007c\ncall 4000000c 40000040\nsite 40000048 jump 00002\nsite 400000bc call 00001\nend\n",
+    ),
+    (
+        "third.graph",
+        b"rvcfi-graph 3\ncode 40000000 00000124\ncall 4000000c 40000040\nend\n",
+    ),
+    (
+        "mixed.graph",
+        b"rvcfi-graph 2\ncode 40000000 00000124\nclass 00001 4000009c\njumpclass 00002 4000007c 4000009c\nend\n",
+    ),
+    (
+        "sorts.graph",
+        b"rvcfi-graph 2\ncode 40000000 00000124\ncallclass 00002 4000009c\njumpclass 00002 4000007c 4000009c\nend\n",
+    ),
+];
+
+/// Scripts that turn the pointers of programs whose calls and jumps have labels of their own: to the other function, to a function's
+/// second word, to a place of which no address is taken, to a function of jumps or of calls.
+static SCRIPTS: [(&str, &[u8]); 6] = [
+    ("to_g", b"rvcfi-script 1\nat 0 00010000 9c000040\nend\n"),
+    (
+        "to_second",
+        b"rvcfi-script 1\nat 0 00010000 80000040\nend\n",
+    ),
+    ("to_h", b"rvcfi-script 1\nat 0 00010000 bc000040\nend\n"),
+    (
+        "to_jumped",
+        b"rvcfi-script 1\nat 0 00010000 10010040\nend\n",
+    ),
+    (
+        "to_called",
+        b"rvcfi-script 1\nat 0 00010008 f0000040\nend\n",
+    ),
+    (
+        "joined_jumped",
+        b"rvcfi-script 1\nat 0 00010000 0c010040\nend\n",
+    ),
 ];
 
 /// Graphs, scripts, inputs and files that are none of these, by their names.
@@ -86,8 +162,12 @@ pub(crate) fn add_files(alloc: Global, files: &mut MemFiles) -> Result<(), NoMem
     for image in &IMAGES {
         add_image(alloc, files, image)?;
     }
-    add_image_of_harts(alloc, files, &("harts.img", &A_OF_HARTS, b""))?;
+    for image in &IMAGES_OF_HARTS {
+        add_image_of_harts(alloc, files, image)?;
+    }
     add_texts(files, &TEXTS)?;
+    add_texts(files, &GRAPHS)?;
+    add_texts(files, &SCRIPTS)?;
     let zeros = vec![in alloc; 0; 67_108_865]?;
     Ok(files.insert("long", &zeros)?)
 }

@@ -6,10 +6,12 @@ use std::alloc::Global;
 /// Where the first unit stands.
 fn units_start(form: Form) -> u64 {
     match form {
-        Form::Plain => 0x4000_0040,
-        Form::Harts => 0x4000_0050,
+        Form::Plain | Form::Split => 0x4000_0040,
+        Form::Harts | Form::HartsSplit => 0x4000_0050,
     }
 }
+
+static FORMS: [Form; 4] = [Form::Plain, Form::Harts, Form::Split, Form::HartsSplit];
 
 /// Sizes of parts, and where they start and the last ends, from the first unit on.
 static PLACED: [([u32; 3], [u64; 4]); 3] = [
@@ -18,16 +20,18 @@ static PLACED: [([u32; 3], [u64; 4]); 3] = [
     ([1_048_492, 0, 4], [0, 1_048_492, 1_048_492, 1_048_496]),
 ];
 
-/// Those that have room in the one form alone, where they are placed.
+/// Those that have room in the forms for one hart alone, where they are placed.
 static NARROW: ([u32; 3], [u64; 4]) = ([1_048_508, 0, 4], [0, 1_048_508, 1_048_508, 1_048_512]);
 
 /// Sizes that are too large in a form, and the bytes of the code.
-static TOO_LARGE: [(Form, [u32; 3], u128); 5] = [
+static TOO_LARGE: [(Form, [u32; 3], u128); 7] = [
     (Form::Plain, [1_048_508, 4, 4], 1_048_580),
     (Form::Plain, [u32::MAX, u32::MAX, u32::MAX], 12_884_901_949),
     (Form::Harts, [1_048_492, 4, 4], 1_048_580),
     (Form::Harts, [1_048_508, 0, 4], 1_048_592),
     (Form::Harts, [u32::MAX, u32::MAX, u32::MAX], 12_884_901_965),
+    (Form::Split, [1_048_508, 4, 4], 1_048_580),
+    (Form::HartsSplit, [1_048_508, 0, 4], 1_048_592),
 ];
 
 /// A branch's part, its target's part, the bytes before it in its part, and whether it is kept long.
@@ -38,7 +42,7 @@ type Row = ([u32; 5], Branch, Branch, [u64; 6], bool, bool);
 
 /// Worked out by hand.
 #[rattlefmt::skip]
-static SHORTENED: [Row; 9] = [
+static SHORTENED: [Row; 13] = [
     // Both reach, 4092 bytes ahead.
     ([8, 4084, 8, 4088, 4], (0, 3, 0, false), (2, 4, 0, false), [0, 4, 4088, 4092, 8180, 8184], false, false),
     // The second would have 4096 bytes to go, and being long it leaves as many to the first.
@@ -53,6 +57,11 @@ static SHORTENED: [Row; 9] = [
     // From the second's word, after its gate word, 4096 bytes behind and 4100.
     ([8, 4088, 12, 4, 4], (0, 0, 0, false), (2, 0, 4, false), [0, 4, 4092, 4100, 4104, 4108], false, false),
     ([8, 4092, 12, 4, 4], (0, 0, 0, false), (2, 0, 4, false), [0, 4, 4096, 4108, 4112, 4116], false, true),
+    // The same behind two words of eight bytes.
+    ([16, 4088, 8, 4, 4], (0, 2, 8, false), (2, 4, 0, false), [0, 12, 4100, 4104, 4108, 4112], false, false),
+    ([16, 4092, 8, 4, 4], (0, 2, 8, false), (2, 4, 0, false), [0, 16, 4108, 4112, 4116, 4120], true, false),
+    ([8, 4084, 16, 4, 4], (0, 0, 0, false), (2, 0, 8, false), [0, 4, 4088, 4100, 4104, 4108], false, false),
+    ([8, 4088, 16, 4, 4], (0, 0, 0, false), (2, 0, 8, false), [0, 4, 4092, 4108, 4112, 4116], false, true),
     // The first is kept long, and the second does not reach behind it by that.
     ([8, 4088, 12, 4, 4], (0, 0, 0, true), (2, 0, 4, false), [0, 8, 4096, 4108, 4112, 4116], true, true),
 ];
@@ -89,11 +98,18 @@ fn is_too_large(alloc: Global, row: &(Form, [u32; 3], u128)) -> bool {
 
 #[test]
 fn parts_are_placed(rt: HostRuntime) {
-    for row in &PLACED {
-        assert!(rt; is_placed(rt.alloc(), Form::Plain, row), "{}", row.0[0]);
-        assert!(rt; is_placed(rt.alloc(), Form::Harts, row), "{}", row.0[0]);
+    for form in FORMS {
+        for row in &PLACED {
+            assert!(rt;
+                is_placed(rt.alloc(), form, row),
+                "{} {}",
+                form.name(),
+                row.0[0]
+            );
+        }
     }
     assert!(rt; is_placed(rt.alloc(), Form::Plain, &NARROW));
+    assert!(rt; is_placed(rt.alloc(), Form::Split, &NARROW));
     least_code();
 }
 
@@ -141,14 +157,14 @@ fn is_shortened(alloc: Global, form: Form, row: &Row) -> bool {
 
 #[test]
 fn layouts(rt: HostRuntime) {
-    for k in 0..SHORTENED.len() {
-        assert!(rt;
-            is_shortened(rt.alloc(), Form::Plain, &SHORTENED[k]),
-            "row {k}"
-        );
-        assert!(rt;
-            is_shortened(rt.alloc(), Form::Harts, &SHORTENED[k]),
-            "row {k}"
-        );
+    for form in FORMS {
+        for row in &SHORTENED {
+            assert!(rt;
+                is_shortened(rt.alloc(), form, row),
+                "{} {}",
+                form.name(),
+                row.3[5]
+            );
+        }
     }
 }

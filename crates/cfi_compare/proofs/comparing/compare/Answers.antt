@@ -1,4 +1,4 @@
-use Rattle.std.proofs.Common.{ℕ, ◌∙◌, ap, subst, sym}
+use Rattle.std.proofs.Common.{ℕ, ◌∙◌, ap, length, subst, sym}
 use Rattle.rv_word.specs.Image.{image_profile}
 use Rattle.rv_word.specs.MemoryMap.{Profile}
 use Rattle.rv_sys.specs.Calls.{Calls}
@@ -29,7 +29,9 @@ returns-in_ok-answer-in_default c =
     let events = c.events-events.ensures ∙ ap (λ (x : Calls). x.events) c.system.ensures ∙ calls ∙ ap (λ (st : Source). st.shared.events) finished.state in
     let p = image_profile c.args.image.now in
     let profile = sym (ap (λ (x : ProgramAtMap). x.profile) finished.layout) ∙ c.form.ensures in
-    let most = c.bound-most.ensures ∙ ap (λ (q : Profile). bound 1 (last_words q) c.steps.result) (sym profile) in
+    let lead = c.most_lead.ensures.value ∙ ap (λ (x : ProgramAtMap). length x.closed.sides) finished.layout in
+    let most = c.bound-most.ensures ∙ ap (λ (q : Profile). bound c.most_lead.result (last_words q) c.steps.result) (sym profile)
+    ∙ ap (λ (n : ℕ). bound n (last_words c.args.source.now.layout.profile) c.steps.result) lead in
     let answered = subst (λ (n : ℕ). IsAnswered c.events-events.result.now c.in_ok-turn.turn (undisturbed p c.args.image.now c.args.input.now n) c.in_ok-answer-in_default.answer)
     most c.in_ok-answer-in_default.ensures in
     let is = compared_tame (image_profile c.args.image.now) c.args.source.now.layout (source_of c.args.source.now) c.args.image.now c.args.input.now c.args.limit c.in_ok-turn.turn c.events-events.result.now c.steps.result c.in_ok-answer-in_default.answer

@@ -1,4 +1,4 @@
-use Rattle.std.proofs.Common.{◌+◌, ◌*◌, ◌++◌, List, ℕ, length, map, arith, ap, ◌∙◌, []}
+use Rattle.std.proofs.Common.{◌+◌, ◌*◌, ◌++◌, List, ℕ, length, map, arith, ap, ◌∙◌}
 use Rattle.rv_word.specs.Form.{profile_for}
 use Rattle.rv_code.specs.Encode.{code_of}
 use Rattle.cfi_unit.specs.UnitWords.{words_of}

@@ -1,50 +1,58 @@
-use Rattle.std.proofs.Common.{◌≡◌, ◌-◌, ℕ, subst, ap, ◌∙◌, length, arith, drop, length-append, length-set}
-use Rattle.std.specs.Prelude.{slice_index}
+use Rattle.std.proofs.Common.{◌-◌, ◌<◌, ℕ, List, get_or, length, drop, arith, sym, subst, ap, ◌∙◌}
+use Rattle.std.specs.Prelude.{if◌then◌else◌, slice_index}
+use Rattle.std.specs.List.{All}
 use Rattle.std.proofs.Math.ListN.{length-replicate}
-use Rattle.cfi_flow.specs.Closed.{first_side}
-use Rattle.cfi_map.specs.LabelOf.{empty_classes, next_after}
-use Rattle.cfi_harden.proofs.SiteNumbers.{IsNumbered, after_none, after_some, ended, number_is, one_left, site_there, started, stepped}
+use Rattle.cfi_flow.specs.declared.side.Site.{Site}
+use Rattle.cfi_flow.specs.Closed.{IsSideInside, Side, has_site}
+use Rattle.cfi_map.specs.LabelOf.{site_number}
+use Rattle.cfi_harden.proofs.SiteNumbers.{all_noted, sides_begin, sides_more}
+use Rattle.cfi_harden.proofs.Starts.{count_is, side_before, start_at, start_few, starts_rise}
 use Rattle.cfi_harden.proofs.labels.site_labels.Goals as goal
-use Rattle.cfi_harden.proofs.labels.site_labels.Goals.{then-is_none, else-is_none}
 
-pub loop-i-init : goal.loop-i-init
-loop-i-init c = (
-  ap length (c.in_ok-table.ensures.items_if_clones_equal (λ y e. e)) ∙ length-replicate c.places-places.result 0,
-  started c.args.labels.now c.in_ok-table.table.items (first_side c.args.closed.now).sites c.sites-i.result c.places-places.result
-      c.sites-i.ensures (c.in_ok-table.ensures.items_if_clones_equal (λ y e. e)),
-)
+pub loop-j-init : goal.loop-j-init
+loop-j-init c =
+    let zeros = c.in_ok-table.ensures.items_if_clones_equal (λ y e. e) in (
+      ap length zeros ∙ length-replicate c.places-places.result 0,
+      sides_begin c.args.labels.now c.in_ok-table.table.items c.args.closed.now.sides (length c.sides-sides.result.now) c.places-places.result
+          (ap length c.sides-sides.ensures.value) zeros,
+    )
 
-pub overflow_sub-next : goal.overflow_sub-next
-overflow_sub-next c =
-    let all = c.requires in
-    one_left c.args.labels.now c.loop-i.table.items (first_side c.args.closed.now).sites c.loop-i.i c.loop-i.next c.site-site.result c.loop-i.invariant.1
-    c.site-site.ensures c.loop-i-test.true c.if-is_none.ensures
-    (omega (arith, length-append (first_side c.args.closed.now).classes (empty_classes (first_side c.args.closed.now).sites)))
+pub labels_from-own-requires : goal.labels_from-own-requires
+labels_from-own-requires c =
+    let few = start_few c.args.closed.now.sides c.args.starts.now c.requires.starts (c.loop-j.j - 1)
+    (let same = ap length c.sides-sides.ensures.value in let test = c.loop-j-test.true in let most = c.loop-j.auto.j in omega arith) in
+    omega (arith, few, c.requires.counted)
 
-pub index_mut-requires : goal.index_mut-requires
-index_mut-requires c =
-    let there = site_there c.args.closed.now (c.loop-i.i - 1) c.site-site.result c.places-places.ensures.one c.places-places.ensures.inside c.site-site.ensures in
-    omega arith
+pub overflow_sub-starts : goal.overflow_sub-starts
+overflow_sub-starts c =
+    let at = side_before c.sides-sides.result.now c.args.closed.now.sides c.loop-j.j c.index-sides-j.result c.sides-sides.ensures.value c.loop-j-test.true c.loop-j.auto.j c.index-sides-j.is in
+    starts_rise c.args.closed.now.sides c.args.starts.now c.requires.starts (c.loop-j.j - 1) at.0
 
-pub loop-i-preserved : goal.loop-i-preserved
-loop-i-preserved c =
-    let there = site_there c.args.closed.now (c.loop-i.i - 1) c.site-site.result c.places-places.ensures.one c.places-places.ensures.inside c.site-site.ensures in
-    let after : next_after c.site-site.result.class c.if-is_none.next ≡ c.loop-i.next = elim c.if-is_none.branch [
-      | then-is_none w ↦ rw w.next-is (after_none c.site-site.result.class c.loop-i.next w.if-is_none.ensures
-          (one_left c.args.labels.now c.loop-i.table.items (first_side c.args.closed.now).sites c.loop-i.i c.loop-i.next c.site-site.result c.loop-i.invariant.1
-          c.site-site.ensures c.loop-i-test.true w.if-is_none.ensures
-          (let all = c.requires in omega (arith, length-append (first_side c.args.closed.now).classes (empty_classes (first_side c.args.closed.now).sites)))))
-      | else-is_none w ↦ rw w.next-is (after_some c.site-site.result.class c.loop-i.next w.if-is_none.ensures)
-    ] in (
-      omega (arith, length-set {A = ℕ}),
-      stepped c.args.labels.now c.loop-i.table.items (first_side c.args.closed.now).sites c.loop-i.i c.loop-i.next c.if-is_none.next c.label_or_zero.result
-          c.site-site.result c.loop-i.invariant.1 c.site-site.ensures c.loop-i-test.true (omega arith) after
-          (c.label_or_zero.ensures ∙ ap (slice_index c.args.labels.now) (c.unwrap_or.ensures ∙ number_is c.site-site.result.class c.if-is_none.next)),
+pub note_sites-requires-clause-count : goal.note_sites-requires-clause-count
+note_sites-requires-clause-count c =
+    let at = side_before c.sides-sides.result.now c.args.closed.now.sides c.loop-j.j c.index-sides-j.result c.sides-sides.ensures.value c.loop-j-test.true c.loop-j.auto.j c.index-sides-j.is in
+    count_is c.args.closed.now.sides c.args.starts.now c.requires.starts (c.loop-j.j - 1) at.0 c.index-sides-j.result at.1
+
+pub note_sites-requires-clause-there : goal.note_sites-requires-clause-there
+note_sites-requires-clause-there c =
+    let side = c.index-sides-j.result in
+    let at = side_before c.sides-sides.result.now c.args.closed.now.sides c.loop-j.j side c.sides-sides.ensures.value c.loop-j-test.true c.loop-j.auto.j c.index-sides-j.is in
+    let inside : IsSideInside (length c.args.closed.now.taken) side =
+    subst (IsSideInside (length c.args.closed.now.taken)) (sym (c.index-sides-j.is ∙ ap (λ (xs : List Side). get_or xs (c.loop-j.j - 1) side) c.sides-sides.ensures.value))
+    (c.places-places.ensures.inside (c.loop-j.j - 1) side at.0) in
+    subst (λ (n : ℕ). All (λ (s : Site). s.place < n) side.sites) (sym (c.loop-j.invariant.0 ∙ c.places-places.ensures.value)) inside.sites
+
+pub loop-j-preserved : goal.loop-j-preserved
+loop-j-preserved c =
+    let side = c.index-sides-j.result in
+    let at = side_before c.sides-sides.result.now c.args.closed.now.sides c.loop-j.j side c.sides-sides.ensures.value c.loop-j-test.true c.loop-j.auto.j c.index-sides-j.is in
+    let from = start_at c.args.closed.now.sides c.args.starts.now c.requires.starts (c.loop-j.j - 1) at.0 in
+    let own = c.labels_from-own.ensures ∙ ap (λ (n : ℕ). drop n c.args.labels.now) from in (
+      c.note_sites.ensures.size ∙ c.loop-j.invariant.0,
+      sides_more c.args.labels.now c.loop-j.table.items c.note_sites.new.table.items c.args.closed.now.sides c.loop-j.j side at.1 c.loop-j-test.true c.loop-j.invariant.1
+          (λ k. c.note_sites.ensures.each k
+          ∙ ap (λ (ls : List ℕ). if has_site k side then slice_index ls (site_number side.sites (length side.classes) k) else slice_index c.loop-j.table.items k) own),
     )
 
 pub returns : goal.returns
-returns c k =
-    ended c.args.labels.now c.loop-i.table.items c.args.closed.now c.loop-i.next c.places-places.ensures.one
-    (let none : c.loop-i.i ≡ 0 = omega arith in
-    subst (λ (i : ℕ). IsNumbered c.args.labels.now (drop i (first_side c.args.closed.now).sites) c.loop-i.next c.loop-i.table.items) none c.loop-i.invariant.1)
-    c.requires k
+returns c = all_noted c.args.labels.now c.loop-j.table.items c.args.closed.now.sides c.loop-j.j (omega arith) c.loop-j.invariant.1

@@ -21,6 +21,10 @@ pub returns-in-Check : goal.returns-in-Check
 returns-in-Check c = rw c.in-Check.is c.check_word.ensures
 
 -- src/reader.rt:47:1
+pub returns-in-Loaded : goal.returns-in-Loaded
+returns-in-Loaded c = rw c.in-Loaded.is c.loaded_word.ensures
+
+-- src/reader.rt:47:1
 pub returns-in-Labelled : goal.returns-in-Labelled
 returns-in-Labelled c = rw c.in-Labelled.is c.label_word.ensures
 

@@ -1,13 +1,13 @@
-use Rattle.std.proofs.Common.{◌∙◌, sym, ap, Some}
-use Rattle.cfi_verify.proofs.LineOrder.{class_is, class_none, no_targets, targets_of}
+use Rattle.std.proofs.Common.{◌∙◌, ap, sym}
+use Rattle.std.specs.Prelude.{option_and_then}
+use Rattle.cfi_graph.specs.Graph.{class_in}
+use Rattle.cfi_verify.proofs.LineOrder.{class_with-with}
 use Rattle.cfi_verify.proofs.lines.found_class.Goals as goal
 
-pub returns-in_err-targets : goal.returns-in_err-targets
-returns-in_err-targets c = rw c.from_residual.ensures (class_none _ _ (sym c.in_err-targets.ensures))
+pub returns-in_err-line_with : goal.returns-in_err-line_with
+returns-in_err-line_with c =
+    c.from_residual.ensures ∙ ap (option_and_then class_in) c.in_err-line_with.ensures ∙ sym (class_with-with c.args.graph.now.lines c.args.label)
 
-pub returns-in-Class : goal.returns-in-Class
-returns-in-Class c =
-    ap Some c.as_slice.ensures ∙ ap (λ l. targets_of (Some l)) (sym c.in-Class.is) ∙ class_is _ _ _ (sym c.in_ok-targets.ensures)
-
-pub returns-in_default : goal.returns-in_default
-returns-in_default c = no_targets _ c.in_default.not-Class ∙ class_is _ _ _ (sym c.in_ok-targets.ensures)
+pub returns : goal.returns
+returns c =
+    c.class.ensures ∙ ap (option_and_then class_in) c.in_ok-line_with.ensures ∙ sym (class_with-with c.args.graph.now.lines c.args.label)

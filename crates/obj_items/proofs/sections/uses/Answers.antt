@@ -1,7 +1,8 @@
 use Rattle.std.proofs.Common.{◌∙◌}
 use Rattle.obj_items.specs.Sections.{use_at}
 use Rattle.obj_items.proofs.Steps.{listed_begins, listed_next}
-use Rattle.obj_items.proofs.Whole.{symbol_there, use_is}
+use Rattle.obj_said.proofs.Whole.{symbol_there}
+use Rattle.obj_items.proofs.Whole.{use_is}
 use Rattle.obj_items.proofs.sections.uses.Goals as goal
 
 pub loop-j-init : goal.loop-j-init

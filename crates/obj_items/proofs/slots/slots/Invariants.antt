@@ -2,7 +2,7 @@ use Rattle.std.proofs.Common.{◌≡◌, []}
 use Rattle.std.specs.Prelude.{fold}
 use Rattle.least.specs.Nearest.{joined}
 use Rattle.obj_join.specs.Table.{table_symbols_in, with_symbol}
-use Rattle.obj_items.specs.Uses.{sections_said}
+use Rattle.obj_said.specs.Sections.{sections_said}
 use Rattle.obj_items.proofs.slots.slots.Given as goal
 
 abbrev pub invariant-loop-k : goal.invariant-loop-k

@@ -2,7 +2,7 @@ use Rattle.std.proofs.Common.{◌∙◌, ◌/◌, ap}
 use Rattle.least.specs.Nearest.{joined}
 use Rattle.elf_tables.specs.declared.header.SectionHeader.{SectionHeader}
 use Rattle.obj_join.specs.Table.{table_symbols_at}
-use Rattle.obj_items.specs.Uses.{section_said_in}
+use Rattle.obj_said.specs.Sections.{section_said_in}
 use Rattle.obj_items.proofs.Tabled.{words_are}
 use Rattle.obj_items.proofs.slots.used_symbols.Goals as goal
 

@@ -1,7 +1,5 @@
-use Rattle.cfi_flow.specs.Closed.{first_side}
-use Rattle.cfi_map.specs.LabelOf.{all_classes}
-use Rattle.cfi_harden.proofs.LineList.{AreClassLines}
+use Rattle.cfi_harden.proofs.LineList.{AreSideLines}
 use Rattle.cfi_harden.proofs.chosen.Chosen.class_lines.Given as goal
 
-abbrev pub invariant-loop-k : goal.invariant-loop-k
-invariant-loop-k l = AreClassLines l.self.layout.gates l.self.labels (all_classes (first_side l.self.layout.closed)) l.k l.lines.items
+abbrev pub invariant-loop-j : goal.invariant-loop-j
+invariant-loop-j l = AreSideLines l.self.layout.gates l.self.labels l.self.layout.closed.sides l.j l.lines.items

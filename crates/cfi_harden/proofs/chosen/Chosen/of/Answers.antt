@@ -1,12 +1,11 @@
-use Rattle.std.proofs.Common.{◌≡◌, ℕ, ◌<◌, ◌^◌, Bool, List, length, ap, subst, sym, ◌∙◌}
-use Rattle.cfi_flow.specs.Closed.{ClosedGraph, first_side}
+use Rattle.std.proofs.Common.{◌≡◌, ℕ, ◌<◌, ◌^◌, Bool, List, ap, subst, sym, ◌∙◌}
+use Rattle.cfi_flow.specs.Closed.{ClosedGraph}
 use Rattle.cfi_map.specs.GraphAtMap.{ProgramAtMap}
-use Rattle.cfi_map.specs.LabelOf.{all_classes, site_label}
-use Rattle.cfi_harden.specs.Chosen.{IsChosen}
+use Rattle.cfi_map.specs.LabelOf.{site_label}
+use Rattle.cfi_harden.specs.Chosen.{AreStarts, IsChosen}
 use Rattle.cfi_harden.specs.Hardened.{chosen}
 use Rattle.cfi_harden.specs.Units.{Choice}
 use Rattle.cfi_harden.proofs.Leading.{asked_small}
-use Rattle.cfi_harden.proofs.LineList.{classes_counted, one_of}
 use Rattle.cfi_harden.proofs.chosen.Chosen.of.Goals as goal
 
 -- what is taken apart is the choice
@@ -14,20 +13,15 @@ choice_is : (layout other : ProgramAtMap) (whole more : List Bool) (labels : Lis
     ◌≡◌ {A = Choice} (record { layout = layout; whole = whole; labels = labels }) (record { layout = other; whole = more; labels = labels })
 choice_is layout other whole more labels one two = λ i. record { layout = one i; whole = two i; labels = labels }
 
-pub site_labels-requires : goal.site_labels-requires
-site_labels-requires c =
-    let m = chosen c.args.spacing.now c.args.labels.now in
-    c.requires.counted ∙ classes_counted m.layout.closed (one_of m c.requires)
-    ∙ ap (λ (g : ClosedGraph). length (all_classes (first_side g))) (sym (c.closed.ensures ∙ ap (λ (l : ProgramAtMap). l.closed) c.mapped-mapped.ensures))
-
 pub invariant_of-result : goal.invariant_of-result
 invariant_of-result c =
     let m = chosen c.args.spacing.now c.args.labels.now in
-    let closed = c.closed.ensures ∙ ap (λ (l : ProgramAtMap). l.closed) c.mapped-mapped.ensures in
-    subst (λ (x : Choice). IsChosen x c.in_ok-sites.sites.items)
+    let closed = c.closed-closed.ensures ∙ ap (λ (l : ProgramAtMap). l.closed) c.mapped-mapped.ensures in
+    subst (λ (x : Choice). IsChosen x c.in_ok-starts.starts.items c.in_ok-sites.sites.items)
     (sym (choice_is c.mapped-mapped.result.now m.layout c.whole-whole.result.now m.whole c.args.labels.now c.mapped-mapped.ensures c.whole-whole.ensures))
     (record {
       accepted = c.requires;
+      starts_are = subst (λ (g : ClosedGraph). AreStarts g.sides c.in_ok-starts.starts.items) closed c.in_ok-starts.ensures;
       sites_are = λ k. c.in_ok-sites.ensures k ∙ ap (λ (g : ClosedGraph). site_label c.args.labels.now g.sides k) closed;
       sites_small = λ k. subst (λ (n : ℕ). n < 2 ^ 20)
           (sym (c.in_ok-sites.ensures k ∙ ap (λ (g : ClosedGraph). site_label c.args.labels.now g.sides k) closed)) (asked_small m c.requires k);

@@ -8,5 +8,5 @@ returns c =
 
 pub loop-k-preserved : goal.loop-k-preserved
 loop-k-preserved c =
-    next_units c.args.self.now c.loop-k.k c.loop-k.units.items c.push_units.new.units.items c.count-k-end.ensures.accepted
+    next_units c.args.self.now c.loop-k.k c.loop-k.units.items c.push_units.new.units.items
     (subst (λ (n : ℕ). c.loop-k.k < n) c.count-k-end.ensures.value c.loop-k-test.true) c.loop-k.invariant c.in_ok-push_units.ensures

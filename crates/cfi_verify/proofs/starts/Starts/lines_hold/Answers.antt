@@ -1,4 +1,5 @@
-use Rattle.std.proofs.Common.{◌≡◌, ◌≤◌, length, ap, arith}
+use Rattle.std.proofs.Common.{inl, inr, ◌≡◌, ◌≤◌, length, ap, arith}
+use Rattle.std.proofs.lemmas.Bool.{cases_lt}
 use Rattle.rv_word.proofs.Versions.{is_profile, laid_out}
 use Rattle.cfi_graph.specs.Graph.{GraphParts}
 use Rattle.cfi_verify.proofs.OnePass.{gates_passed, none_after}
@@ -11,6 +12,13 @@ unlisted_hold-requires-clause-unlisted c =
     let same : length c.graph.result.now.lines ≡ length c.args.self.now.graph.lines = ap (λ (g : GraphParts). length g.lines) c.graph.ensures.value in
     let all : length c.args.self.now.graph.lines ≤ c.loop-k.k = omega arith in
     none_after _ (laid_out _ (is_profile c.args.self.now.listing.version)) c.args.self.now.listing c.args.self.now.graph c.loop-k.k c.loop-k.next c.count_after.result all c.loop-k.invariant
+
+pub returns-clause-words : goal.returns-clause-words
+returns-clause-words c = λ held k below.
+    elim (cases_lt k c.loop-k.next) [
+      | inl before ↦ c.loop-k.invariant.words k before
+      | inr from ↦ c.unlisted_hold.ensures held k from (omega (arith, below, c.count_after.ensures.value))
+    ]
 
 pub returns-clause-gates : goal.returns-clause-gates
 returns-clause-gates c = λ held.

@@ -1,23 +1,22 @@
-use Rattle.std.proofs.Common.{◌≡◌, ◌∙◌, ap, sym, not, get_or}
+use Rattle.std.proofs.Common.{ℕ, Bool, ap, not, sym, ◌∙◌}
 use Rattle.std.proofs.lemmas.List.{take_more}
-use Rattle.cfi_verify.specs.Entries.{gate_at}
-use Rattle.cfi_rules.specs.Rules.{is_label}
+use Rattle.cfi_verify.specs.Entries.{gate_at, starts_at}
+use Rattle.cfi_rules.specs.Rules.{is_borne}
 use Rattle.cfi_verify.specs.Scan.{profile_in}
 use Rattle.cfi_verify.proofs.LeastOf.{least_target, same_target}
 use Rattle.cfi_verify.proofs.starts.Starts.without_gate.Goals as goal
-use Rattle.cfi_verify.proofs.starts.Starts.without_gate.Goals.{then-not-is_label, else-not-is_label}
+use Rattle.cfi_verify.proofs.starts.Starts.without_gate.Goals.{then-not-is_borne, else-not-is_borne}
 
 pub loop-target-preserved : goal.loop-target-preserved
 loop-target-preserved c =
-    let answer : is_label (gate_at (profile_in c.args.self.now) c.args.self.now.listing (get_or c.args.targets.now c.loop-target.target-index 0)) c.args.label ≡ c.is_label.result =
-    ap (λ g. is_label g c.args.label) (sym c.gate_at.ensures) ∙ sym c.is_label.ensures in
-    elim c.if-not-is_label.branch [
-      | then-not-is_label w ↦
+    let lacks : ℕ → Bool = λ a. not (is_borne (starts_at (profile_in c.args.self.now) c.args.self.now.listing) (gate_at (profile_in c.args.self.now) c.args.self.now.listing) c.args.which a c.args.label) in
+    elim c.if-not-is_borne.branch [
+      | then-not-is_borne w ↦
           rw (w.least-is, w.lesser-least.ensures)
-          (least_target (λ a. not (is_label (gate_at (profile_in c.args.self.now) c.args.self.now.listing a) c.args.label)) c.args.targets.now c.loop-target.target-index _ c.loop-target.least
-          (take_more _ _ 0 c.loop-target-test.true) (ap not (answer ∙ w.if-not-is_label.true)) c.loop-target.invariant)
-      | else-not-is_label w ↦
+          (least_target lacks c.args.targets.now c.loop-target.target-index _ c.loop-target.least
+          (take_more _ _ 0 c.loop-target-test.true) (ap not (sym c.is_borne.ensures ∙ w.if-not-is_borne.true)) c.loop-target.invariant)
+      | else-not-is_borne w ↦
           rw w.least-is
-          (same_target (λ a. not (is_label (gate_at (profile_in c.args.self.now) c.args.self.now.listing a) c.args.label)) c.args.targets.now c.loop-target.target-index _ c.loop-target.least
-          (take_more _ _ 0 c.loop-target-test.true) (ap not (answer ∙ w.if-not-is_label.false)) c.loop-target.invariant)
+          (same_target lacks c.args.targets.now c.loop-target.target-index _ c.loop-target.least
+          (take_more _ _ 0 c.loop-target-test.true) (ap not (sym c.is_borne.ensures ∙ w.if-not-is_borne.false)) c.loop-target.invariant)
     ]

@@ -1,0 +1,154 @@
+//! What `harden` puts and writes in each form, byte for byte, and that it is accepted: the objects and the tables are those of
+//! `sample_hardened` and `sample_split`.
+
+use rv_word::NoMemory;
+use sample_calls::{answers, image_as, put};
+use sample_hardened::{HARTS, PLAIN, Program, file};
+use sample_programs::{code, code_of_harts};
+use sample_split::{HARTS_SPLIT, SPLIT};
+use std::alloc::{AllocError, Global};
+use std::process::Abort;
+use tool_io::MemFiles;
+
+/// What is put of each object, behind its first word, by form.
+#[rattlefmt::skip]
+static PLAIN_TOLD: [&str; 7] = [
+    "code 200 data 0 classes 2 sites 2", "code 284 data 16 classes 1 sites 2",
+    "code 284 data 16 classes 2 sites 2", "code 328 data 16 classes 1 sites 2",
+    "code 324 data 16 classes 1 sites 2", "code 372 data 16 classes 4 sites 4",
+    "code 484 data 32 classes 1 sites 3",
+];
+
+#[rattlefmt::skip]
+static HARTS_TOLD: [&str; 17] = [
+    "code 108 data 0 classes 0 sites 0", "code 276 data 16 classes 1 sites 1",
+    "code 212 data 3 classes 0 sites 0", "code 184 data 0 classes 0 sites 0",
+    "code 200 data 0 classes 0 sites 0", "code 204 data 0 classes 0 sites 0",
+    "code 184 data 0 classes 1 sites 1", "code 276 data 16 classes 1 sites 1",
+    "code 272 data 16 classes 1 sites 1", "code 276 data 16 classes 1 sites 1",
+    "code 216 data 0 classes 2 sites 2", "code 300 data 16 classes 1 sites 2",
+    "code 300 data 16 classes 2 sites 2", "code 344 data 16 classes 1 sites 2",
+    "code 340 data 16 classes 1 sites 2", "code 388 data 16 classes 4 sites 4",
+    "code 500 data 32 classes 1 sites 3",
+];
+
+#[rattlefmt::skip]
+static SPLIT_TOLD: [&str; 17] = [
+    "code 92 data 0 classes 0 sites 0", "code 268 data 16 classes 1 sites 1",
+    "code 196 data 3 classes 0 sites 0", "code 168 data 0 classes 0 sites 0",
+    "code 184 data 0 classes 0 sites 0", "code 188 data 0 classes 0 sites 0",
+    "code 168 data 0 classes 1 sites 1", "code 268 data 16 classes 1 sites 1",
+    "code 260 data 16 classes 1 sites 1", "code 268 data 16 classes 1 sites 1",
+    "code 200 data 0 classes 2 sites 2", "code 292 data 16 classes 2 sites 2",
+    "code 292 data 16 classes 2 sites 2", "code 340 data 16 classes 2 sites 2",
+    "code 332 data 16 classes 2 sites 2", "code 380 data 16 classes 4 sites 4",
+    "code 500 data 32 classes 2 sites 3",
+];
+
+#[rattlefmt::skip]
+static HARTS_SPLIT_TOLD: [&str; 17] = [
+    "code 108 data 0 classes 0 sites 0", "code 284 data 16 classes 1 sites 1",
+    "code 212 data 3 classes 0 sites 0", "code 184 data 0 classes 0 sites 0",
+    "code 200 data 0 classes 0 sites 0", "code 204 data 0 classes 0 sites 0",
+    "code 184 data 0 classes 1 sites 1", "code 284 data 16 classes 1 sites 1",
+    "code 276 data 16 classes 1 sites 1", "code 284 data 16 classes 1 sites 1",
+    "code 216 data 0 classes 2 sites 2", "code 308 data 16 classes 2 sites 2",
+    "code 308 data 16 classes 2 sites 2", "code 356 data 16 classes 2 sites 2",
+    "code 348 data 16 classes 2 sites 2", "code 396 data 16 classes 4 sites 4",
+    "code 516 data 32 classes 2 sites 3",
+];
+
+/// The code of a version's prologue and some units.
+fn code_as(alloc: Global, version: u8, units: &[u32]) -> Result<Vec<u8>, AllocError> {
+    match version {
+        1 => code(alloc, units),
+        _ => code_of_harts(alloc, units),
+    }
+}
+
+/// The image of a program.
+fn image(alloc: Global, version: u8, program: &Program) -> Result<Vec<u8>, NoMemory> {
+    let mut code = code_as(alloc, version, program.1)?;
+    put(&mut code, program.2, &program.3.to_le_bytes());
+    image_as(alloc, version, &code, program.4)
+}
+
+/// Adds an object, its policy, and the image that it should become.
+fn add_all(
+    alloc: Global,
+    files: &mut MemFiles,
+    version: u8,
+    program: &Program,
+) -> Result<(), NoMemory> {
+    let object = file(alloc, &program.0).ok_or(NoMemory)?;
+    files.insert("object", &object)?;
+    files.insert("policy", program.0.4.unwrap_or(b""))?;
+    let image = image(alloc, version, program)?;
+    Ok(files.insert("wanted", &image)?)
+}
+
+/// Whether the tool puts a text when an object is hardened in a form.
+fn is_put(alloc: Global, files: &mut MemFiles, form: &str, program: &Program, told: &str) -> bool {
+    let entry = program.0.3;
+    let policy = if program.0.4.is_some() {
+        "policy"
+    } else {
+        "none"
+    };
+    let line = format!(in alloc; "rvcfi,harden,{form},object,{entry},{policy},image,graph,map");
+    let text = format!(in alloc; "rewritten {told}\n");
+    match (line, text) {
+        (Ok(line), Ok(text)) => answers(alloc, line.as_str(), files, 0, text.as_str()),
+        _ => false,
+    }
+}
+
+/// Whether the files that are written are those of a program, and are accepted.
+fn are_written(alloc: Global, files: &mut MemFiles, program: &Program) -> bool {
+    files.get("image") == files.get("wanted")
+        && files.get("graph") == Some(program.6)
+        && files.get("map") == Some(program.7)
+        && answers(alloc, "rvcfi,verify,image,graph", files, 0, "accepted\n")
+}
+
+/// Whether an object becomes its program in a form, whose images are of a version.
+fn is_hardened(alloc: Global, form: &str, version: u8, program: &Program, told: &str) -> bool {
+    let mut files = MemFiles::new(alloc, Vec::new(alloc));
+    add_all(alloc, &mut files, version, program).is_ok()
+        && is_put(alloc, &mut files, form, program, told)
+        && are_written(alloc, &mut files, program)
+}
+
+/// Checks that each object becomes its program in a form, and what is put of it.
+fn check(
+    rt: &impl Abort,
+    alloc: Global,
+    form: &str,
+    version: u8,
+    programs: &[Program],
+    all_told: &[&str],
+) {
+    assert!(rt; programs.len() == all_told.len());
+    for (k, program) in programs.iter().enumerate() {
+        let told = all_told.get(k).copied().unwrap_or("");
+        assert!(rt;
+            is_hardened(alloc, form, version, program, told),
+            "{form}, {k}: {told}"
+        );
+    }
+}
+
+#[test]
+fn hardened(rt: HostRuntime) {
+    check(&rt, rt.alloc(), "plain", 1, &PLAIN, &PLAIN_TOLD);
+    check(&rt, rt.alloc(), "harts", 2, &HARTS, &HARTS_TOLD);
+    check(&rt, rt.alloc(), "split", 1, &SPLIT, &SPLIT_TOLD);
+    check(
+        &rt,
+        rt.alloc(),
+        "harts-split",
+        2,
+        &HARTS_SPLIT,
+        &HARTS_SPLIT_TOLD,
+    );
+}
