@@ -81,10 +81,11 @@ def push(at):
             addi(30, 30, 20), s_form(3, 3, 30, 0), addi(3, 3, 8)]
 
 
-def check(at, rs1, imm, label):
+def check(at, rs1, imm, label, past=0):
+    """A check, which reads the word that is so many bytes behind its destination."""
     return [addi(31, rs1, imm), i_form(0x13, 7, 31, 31, -4), u_form(0x37, 30, 0x40000),
             r_form(0x33, 0, 0x20, 30, 31, 30), i_form(0x13, 5, 30, 30, 20), branch(0, 30, 0, 8),
-            jal(0, at + 24, BAD_TARGET), i_form(0x03, 2, 30, 31, 0), u_form(0x37, 4, label), addi(4, 4, 55),
+            jal(0, at + 24, BAD_TARGET), i_form(0x03, 2, 30, 31, past), u_form(0x37, 4, label), addi(4, 4, 55),
             branch(0, 30, 4, 8), jal(0, at + 44, BAD_TARGET)]
 
 

@@ -6,7 +6,7 @@
 The program is crates/rvcfi/out/rvcfi where none is named, as `rt ci` or `rt run` leaves it. Before that the model's steps are
 compared with those that qemu gave, in crates/machine_tests/src/machine.rt. Of each case the status and the whole text have to be
 the same; one that differs is told by its number, and its files stay in a folder. The status is 1 where there is one. It ends with
-a count of the answers by their kind.
+a count of the answers by their kind. Of a pair with a fault, the rule and the address are those of rules.py.
 """
 
 import argparse
@@ -21,6 +21,7 @@ from pathlib import Path
 sys.dont_write_bytecode = True
 
 import drawn
+import rules
 from machine import SHADOW_SIZE, Machine
 from program import CODE
 from runs import answer, refusal
@@ -75,18 +76,31 @@ def changed_image(rng, built):
     return built._replace(words=words).image, built.version, b"rejected Prologue %08x\n" % (CODE + 4 * index)
 
 
+def judged(built, script, given, limit):
+    """The answer of a program whose pair may have a fault."""
+    told = rules.verdict(built.version, built.words, built.graph)
+    if told != "accepted":
+        return refusal(built.version, script) or (1, told.encode() + b"\n")
+    return answer(built._replace(starts=rules.starts(built.version, built.words, built.graph)), script, given, limit)
+
+
 def case(rng):
     """The files of a case, the limit and the answer."""
-    built = drawn.program(rng, 2 if rng.random() < 0.85 else 1)
+    built = drawn.program(rng, 2 if rng.random() < 0.85 else 1, rng.choice((1, 2)))
     limit = rng.choice((0, 50, 300, 1000, 1000, 1000))
     given = rng.randbytes(rng.choice((0, 3, 20)))
     script = drawn.script(rng, built, limit)
     if script is not None and rng.random() < 0.15:
         script = drawn.turned(rng, script)
+    kind = rng.random()
+    if kind < 0.3:
+        built = drawn.changed(rng, built)
     files = {"image": built.image, "graph": built.graph, "input": given}
     if script is not None:
         files["script"] = script
-    if rng.random() < 0.9:
+    if kind < 0.3:
+        return files, limit, judged(built, script, given, limit)
+    if kind < 0.9:
         return files, limit, answer(built, script, given, limit)
     files["image"], version, told = changed_image(rng, built)
     return files, limit, version and refusal(version, script) or (1, told)

@@ -1,12 +1,12 @@
 """Programs and scripts that are drawn at random. Harts call and jump through pointers in data, and store over these, over each
-other's return addresses and at addresses of the shadow stack."""
+other's return addresses and at addresses of the shadow stack. Graphs are of either version, and pairs may have a fault."""
 
 import struct
 
-from program import EBREAK, ECALL, Program, addi, i_form, r_form, u_form
+from program import CODE, EBREAK, ECALL, UNITS, Program, addi, i_form, r_form, u_form
 from worked import SD, add, load, shift
 
-CALLED, JUMPED = 1, 2  # labels of classes
+CALLED, JUMPED = 1, 2  # labels of classes; in graphs of version 1 that of jumps is that of calls too
 POINTERS = 0x10000
 COUNT = 24  # of pointers
 FREE = range(5, 16)
@@ -18,12 +18,16 @@ CALLS = (63, 64, 64, 64, 93, 5)
 class Drawn:
     """A program that is being drawn: some functions, each with a gate, which call, jump and return."""
 
-    def __init__(self, rng, version):
-        self.rng, self.p = rng, Program(version)
+    def __init__(self, rng, version, graph):
+        self.rng, self.p = rng, Program(version, graph)
+        self.called = CALLED if graph == 2 else JUMPED
         self.names = ["f%d" % k for k in range(rng.randrange(2, 6))]
         self.inside = 0
 
     def built(self):
+        if self.p.graph == 2:
+            self.p.listed("callclass", CALLED)
+            self.p.listed("jumpclass", JUMPED)
         self.main()
         for name in self.names:
             self.function(name)
@@ -46,7 +50,10 @@ class Drawn:
     def function(self, name):
         p, rng = self.p, self.rng
         p.label(name)
-        p.gate(JUMPED)
+        if p.graph == 2:
+            p.target(*rng.choices(((CALLED, JUMPED), (CALLED, None), (None, JUMPED), (None, None)), (6, 2, 2, 1))[0])
+        else:
+            p.gate(JUMPED)
         if rng.random() < 0.5:
             p.plain(addi(0, 0, 0))
         start = len(p.units)
@@ -113,7 +120,7 @@ class Drawn:
     def computed_call(self, labels):
         register = self.free()
         self.pointer(register)
-        self.p.icall(register, self.rng.choice((0, 0, 0, 1, 3, 4)), JUMPED)
+        self.p.icall(register, self.rng.choice((0, 0, 0, 1, 3, 4)), self.called)
 
     def computed_jump(self, labels):
         register = self.free()
@@ -158,8 +165,77 @@ class Drawn:
         self.p.plain(i_form(0x03, self.rng.randrange(7), self.free(), self.free(), self.rng.randrange(4096)))
 
 
-def program(rng, version):
-    return Drawn(rng, version).built()
+def program(rng, version, graph):
+    return Drawn(rng, version, graph).built()
+
+
+def changed_words(rng, built):
+    """The words of a program with one unit's word changed: a bit is turned, or it is a gate, a word that does nothing, another word of
+    the program or the load of a check by either word of its destination; or it changes places with the one after it."""
+    words, first = list(built.words), (UNITS[built.version] - CODE) // 4
+    at = rng.randrange(first, len(words) - 1)
+    loads = [k for k in range(first, len(words)) if words[k] in (0x000FAF03, 0x004FAF03)]
+    targets = [k for k in range(first, len(words) - 1) if words[k] & 0xFFF == 0x37]
+    kind = rng.randrange(6)
+    if kind == 0:
+        words[at] ^= 1 << rng.randrange(32)
+    elif kind == 1:
+        at = rng.choice(targets or [at]) + rng.choice((-1, 0, 1))
+        words[at] = u_form(0x37, 0, rng.randrange(4))
+    elif kind == 2:
+        words[rng.choice(targets or [at])] = addi(0, 0, 0)
+    elif kind == 3:
+        words[at] = words[rng.randrange(first, len(words))]
+    elif kind == 4:
+        words[rng.choice(loads or [at])] = rng.choice((0x000FAF03, 0x004FAF03))
+    else:
+        at = rng.choice(targets or [at])
+        words[at], words[at + 1] = words[at + 1], words[at]
+    return words
+
+
+def other_version(rng, lines):
+    """The lines of a graph as one of the other version."""
+    if lines[0].endswith("2"):
+        return ["rvcfi-graph 1"] + [line.replace("callclass", "class").replace("jumpclass", "class") for line in lines[1:]]
+    return ["rvcfi-graph 2"] + [rng.choice(("call", "jump")) + line if line.startswith("class") else line for line in lines[1:]]
+
+
+SWAPPED = {"callclass": "jumpclass", "jumpclass": "callclass", "call": "jump", "jump": "call"}
+
+
+def changed_graph(rng, built):
+    """The text of a program's graph with one line changed: it is gone, it names the other sort or another label, a class has a target
+    less or more; or the graph is of the other version."""
+    lines = built.graph.decode().split("\n")
+    kind = rng.randrange(6)
+    if kind == 0:
+        return "\n".join(other_version(rng, lines)).encode()
+    at = rng.choice([k for k, line in enumerate(lines) if k > 1 and line not in ("", "end")])
+    words = lines[at].split()
+    if kind == 1:
+        del lines[at]
+    elif words[0] == "site":
+        words[2:] = [SWAPPED[words[2]], words[3]] if kind < 4 else [words[2], "%05x" % rng.randrange(1, 4)]
+        lines[at] = " ".join(words)
+    elif words[0] in SWAPPED and words[0] != "call" and kind == 2:
+        lines[at] = " ".join([SWAPPED[words[0]]] + words[1:])
+    elif words[0].endswith("class"):
+        targets = set(words[2:])
+        there = CODE + 4 * rng.randrange(len(built.words))
+        targets ^= {rng.choice(words[2:]) if kind == 3 and words[2:] else "%08x" % there}
+        lines[at] = " ".join(words[:2] + sorted(targets))
+    else:
+        words[2] = "%08x" % (int(words[2], 16) + rng.choice((-4, 4)))
+        lines[at] = " ".join(words)
+    return "\n".join(lines).encode()
+
+
+def changed(rng, built):
+    """A program with a fault in its words or in its graph, or with one that is none."""
+    if rng.random() < 0.5:
+        return built._replace(words=changed_words(rng, built))
+    return built._replace(graph=changed_graph(rng, built))
 
 
 def changes(rng, built, harts, limit):

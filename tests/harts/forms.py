@@ -1,36 +1,62 @@
 #!/usr/bin/env python3
-"""Prints what small objects become for several harts, and checks itself: `python3 tests/harts/forms.py`.
+"""What small objects become in each form of hardening: `python3 tests/harts/forms.py`, with `split` or another form to print.
 
-The programs of small objects, unit by unit, as docs/MACHINE.md has them for one hart and for several: the words of their units,
-their graphs and their maps. What it makes for one hart has to be what binutils made of the sources in tests/units, and the graphs
-and the maps of crates/sample_programs, crates/sample_objects and crates/rewrite_tests. What it makes for several stands in
-crates/rewrite_tests/src/harts.rt, and the maps in crates/sample_objects/src/maps.rt.
+The programs of small objects, unit by unit, as docs/MACHINE.md has them for one hart and for several, with one label for calls and
+jumps and with a label for each: the words of their units, their graphs and their maps. Without a word it compares what it makes
+with the tables of crates/sample_hardened and crates/sample_split: those for one hart with one label were worked out by hand or are
+what binutils made of the sources in tests/units, and the others are what it printed. With a form's name it prints these anew.
 """
 
 import re
+import struct
 import sys
+import textwrap
 from pathlib import Path
+from typing import NamedTuple
 
 sys.dont_write_bytecode = True
 
-from program import ECALL, UNITS, Program, addi, i_form, u_form
+from program import ECALL, UNITS, Program, addi, i_form, r_form, u_form
 
 CRATES = Path(__file__).resolve().parents[2] / "crates"
 LD, SD, BEQ, BNE = 3, 3, 0, 1
-FORMS = {1: "rvcfi-map 1", 2: "rvcfi-map 2 harts"}
+
+
+class Form(NamedTuple):
+    """The versions of its images and its graphs, and how its maps begin."""
+    image: int
+    graph: int
+    map: str
+
+
+FORMS = {"plain": Form(1, 1, "rvcfi-map 1"), "harts": Form(2, 1, "rvcfi-map 2 harts"), "split": Form(1, 2, "rvcfi-map 2 split"),
+         "harts-split": Form(2, 2, "rvcfi-map 2 harts-split")}
 
 
 class Listed(Program):
     """A program whose places are listed: an object's section 1, from offset 0 on."""
 
-    def __init__(self, version):
-        super().__init__(version)
-        self.lines, self.offset = [], 0
+    def __init__(self, form):
+        super().__init__(form.image, form.graph)
+        self.head, self.lines, self.offset = form.map, [], 0
 
-    def place(self, size=4):
-        """The next instruction stands here, and has so many bytes in the object."""
+    def labels_of(self, joined, apart):
+        """Labels where calls and jumps share them, or where each has its own."""
+        return apart if self.graph == 2 else joined
+
+    def place(self, size=4, call=None, jump=None):
+        """The next instruction stands here, and has so many bytes in the object; as a target it is led by labels."""
         self.lines.append("at %08x 0001 %08x" % (self.at, self.offset))
         self.offset += size
+        if self.graph == 2 and (call or jump):
+            self.target(call, jump)
+        elif call or jump:
+            self.gate(call or jump)
+
+    def function(self, name, call=None, jump=None):
+        """A function or label whose first instruction adds to a register or is another word."""
+        self.label(name)
+        self.place(4, call, jump)
 
     def words(self, *words):
         for word in words:
@@ -41,17 +67,43 @@ class Listed(Program):
         self.place(size)
         put(*given)
 
+    def nowhere(self, kind, label):
+        """A class without a target."""
+        self.listed(kind + "class" if self.graph == 2 else "class", label)
+
     def end(self):
         """The end of the section has a stop."""
         self.place()
         self.stop()
 
     def map(self):
-        return "\n".join([FORMS[self.version], *self.lines, "end", ""])
+        return "\n".join([self.head, *self.lines, "end", ""])
 
 
 def load(rd, imm, rs1):
     return i_form(0x03, LD, rd, rs1, imm)
+
+
+def pointer(p, rd, imm):
+    """Loads a double word of the data."""
+    p.words(u_form(0x37, rd, 0x10), load(rd, imm, rd))
+
+
+def begin(p):
+    """Saves the address to which a function returns."""
+    p.words(addi(2, 2, -16))
+    p.unit(p.store, SD, 1, 8, 2)
+
+
+def restore(p):
+    p.words(load(1, 8, 2), addi(2, 2, 16))
+
+
+def answer(p, name, word, call=None, jump=None):
+    """A function of one instruction and a return."""
+    p.function(name, call, jump)
+    p.plain(word)
+    p.unit(p.returns)
 
 
 def returning(p):
@@ -64,29 +116,23 @@ def returning(p):
 def calling(p, label=1, second=addi(10, 0, 2), narrow=False):
     """Calls one of two functions through the pointer at 10000h."""
     p.label("main")
-    p.words(addi(2, 2, -16))
-    p.unit(p.store, SD, 1, 8, 2)
-    p.words(u_form(0x37, 5, 0x10), load(5, 0, 5))
+    begin(p)
+    pointer(p, 5, 0)
     p.unit(p.icall, 5, 0, label)
-    p.words(load(1, 8, 2), addi(2, 2, 16))
+    restore(p)
     p.unit(p.returns)
-    for name, word in (("f", addi(10, 0, 1)), ("g", second)):
-        p.label(name)
-        p.place()
-        if not (narrow and name == "g"):
-            p.gate(label)
-        p.plain(word)
-        p.unit(p.returns)
+    answer(p, "f", addi(10, 0, 1), call=label)
+    answer(p, "g", second, call=None if narrow else label)
     p.end()
 
 
 def writing(p):
     """Writes three bytes of its data."""
     p.label("main")
-    p.words(addi(2, 2, -16))
-    p.unit(p.store, SD, 1, 8, 2)
+    begin(p)
     p.unit(p.call, "puts", size=8)
-    p.words(addi(10, 0, 0), load(1, 8, 2), addi(2, 2, 16))
+    p.words(addi(10, 0, 0))
+    restore(p)
     p.unit(p.returns)
     p.label("puts")
     above = p.at - 0x10000
@@ -102,11 +148,10 @@ def recursive(p, first):
     first(p)
     p.label("rec")
     p.unit(p.near, BEQ, 10, 0, "done")
-    p.words(addi(2, 2, -16))
-    p.unit(p.store, SD, 1, 8, 2)
+    begin(p)
     p.words(addi(10, 10, -1))
     p.unit(p.call, "rec")
-    p.words(load(1, 8, 2), addi(2, 2, 16))
+    restore(p)
     p.label("done")
     p.unit(p.returns)
     p.end()
@@ -136,73 +181,274 @@ def kept(p):
 def nowhere(p):
     """A computed call where no address is taken."""
     p.label("main")
-    p.classes[1] = []
+    p.nowhere("call", 1)
     p.unit(p.icall, 5, 0, 1)
     p.unit(p.returns)
     p.end()
 
 
-# The name of its tables, and what makes it. A table of units and a graph have the name, a map that or the one that is named.
-PROGRAMS = [
-    ("B", "B", returning),
-    ("P", "P", calling),
-    ("H", "H", writing),
-    ("R", "R", lambda p: recursive(p, to_rec)),
-    ("OVER", "OVER", lambda p: recursive(p, over)),
-    ("KEPT", "KEPT", lambda p: recursive(p, kept)),
-    ("NOWHERE", "NOWHERE", nowhere),
-    ("RELABELLED", "P", lambda p: calling(p, 2, u_form(0x37, 0, 1))),
-    ("NARROW", "NARROW", lambda p: calling(p, narrow=True)),
+def turned(p):
+    """A computed jump and a computed call where no address is taken."""
+    call, jump = p.labels_of((2, 1), (1, 2))
+    p.label("main")
+    p.nowhere("call", call)
+    p.nowhere("jump", jump)
+    p.unit(p.ijump, 6, 0, jump)
+    p.unit(p.icall, 5, 0, call)
+    p.end()
+
+
+def jumping(p, call=True):
+    """Jumps through the pointer at 10000h, and has a call that may go to the second of the two functions, or nowhere."""
+    by_call, by_jump = p.labels_of((1, 1) if call else (2, 1), (1, 2))
+    p.label("main")
+    pointer(p, 5, 0)
+    p.unit(p.ijump, 5, 0, by_jump)
+    answer(p, "f", addi(10, 0, 1), jump=by_jump)
+    answer(p, "g", addi(10, 0, 2), call=by_call if call else None, jump=by_jump)
+    p.label("h")
+    if not call:
+        p.nowhere("call", by_call)
+    p.unit(p.icall, 5, 0, by_call)
+    p.unit(p.returns)
+    p.end()
+
+
+def both_ways(p, called, jumped, both):
+    """Calls through one pointer and jumps through another one: of each of three functions, whether it is a call's target and
+    whether it is a jump's."""
+    call, jump = p.labels_of((1, 1), (1, 2))
+    p.label("main")
+    begin(p)
+    pointer(p, 5, 0)
+    p.unit(p.icall, 5, 0, call)
+    restore(p)
+    pointer(p, 5, 8)
+    p.unit(p.ijump, 5, 0, jump)
+    for name, number, (by_call, by_jump) in ("called", 1, called), ("jumped", 2, jumped), ("both", 4, both):
+        answer(p, name, addi(10, 10, number), call if by_call else None, jump if by_jump else None)
+    p.end()
+
+
+def sorts(p):
+    """Two calls and two jumps, one of each without a target, and a word of its own that is label 2's."""
+    call, no_call, jump, no_jump = p.labels_of((1, 4, 3, 5), (1, 3, 4, 5))
+    p.label("main")
+    p.nowhere("call", no_call)
+    p.nowhere("jump", no_jump)
+    pointer(p, 5, 0)
+    p.unit(p.icall, 5, 0, call)
+    p.unit(p.icall, 6, 0, no_call)
+    p.unit(p.ijump, 5, 0, jump)
+    p.function("f", call=call)
+    p.ijump(6, 0, no_jump)
+    answer(p, "g", u_form(0x37, 0, 2), jump=jump)
+    p.end()
+
+
+def switching(p):
+    """Calls a function twice that jumps by a table, first to a return and then to a tail call through a pointer; then calls
+    through a pointer."""
+    call, jump = p.labels_of((1, 1), (1, 2))
+    p.label("main")
+    begin(p)
+    p.unit(p.call, "choose")
+    p.unit(p.call, "choose")
+    pointer(p, 5, 24)
+    p.unit(p.icall, 5, 0, call)
+    restore(p)
+    p.unit(p.returns)
+    p.label("choose")
+    p.words(i_form(0x13, 1, 5, 10, 3), u_form(0x37, 6, 0x10), r_form(0x33, 0, 0, 5, 5, 6), load(5, 0, 5))
+    p.unit(p.ijump, 5, 0, jump)
+    answer(p, "first", addi(10, 10, 1), jump=jump)
+    p.function("second", jump=jump)
+    p.plain(u_form(0x37, 5, 0x10))
+    p.words(load(5, 16, 5))
+    p.unit(p.ijump, 5, 0, jump)
+    answer(p, "f", addi(10, 10, 10), call, jump)
+    answer(p, "g", addi(10, 10, 5), call, jump)
+    p.end()
+
+
+class Row(NamedTuple):
+    """The name of its tables, the object with its change, and what makes it; its entry, its policy, its pointers or its data."""
+    name: str
+    object: str
+    make: object
+    entry: str = "main"
+    policy: str = ""
+    pointers: tuple = ()
+    data: str = ""
+
+    def given(self):
+        policy = 'Some(b"rvcfi-policy 1\\n%send\\n")' % self.policy.replace("\n", "\\n") if self.policy else "None"
+        return 'Given(Source::%s, "%s", %s)' % (self.object, self.entry, policy)
+
+
+FG, OF_SORTS = ("f", "g"), "site main+8 f+0\nsite main+c\nsite main+10 g+0\nsite f+0\n"
+ROWS = [
+    Row("B", 'Returning, 0, b""', returning),
+    Row("P", 'Calling, 0, b""', calling, pointers=FG),
+    Row("H", 'Writing, 0, b""', writing, data="hi\n"),
+    Row("R", 'Recursive, 0, b""', lambda p: recursive(p, to_rec)),
+    Row("OVER", 'Recursive, 64, b"630405001305100067800000"', lambda p: recursive(p, over)),
+    Row("KEPT", 'Recursive, 64, b"630405006f00400067800000"', lambda p: recursive(p, kept)),
+    Row("NOWHERE", 'Returning, 64, b"e780020067800000"', nowhere),
+    Row("RELABELLED", 'Calling, 104, b"37100000"', lambda p: calling(p, 2, u_form(0x37, 0, 1)), pointers=FG),
+    Row("NARROW", 'Calling, 0, b""', lambda p: calling(p, narrow=True), policy="site main+10 f+0\n", pointers=FG),
+    Row("F", 'Calling, 0, b""', calling, entry="f", pointers=FG),
+    Row("TURNED", 'Coded, 0, b"67000300e7800200"', turned),
+    Row("Q", 'Jumping, 0, b""', jumping, policy="site h+0 g+0\n", pointers=FG),
+    Row("UNCALLED", 'Jumping, 0, b""', lambda p: jumping(p, False), policy="site h+0\n", pointers=FG),
+    Row("APART", 'Apart, 0, b""', lambda p: both_ways(p, (1, 0), (0, 1), (1, 1)),
+        policy="site main+10 called+0 both+0\nsite main+24 jumped+0 both+0\n", pointers=("called", "jumped")),
+    Row("ALIKE", 'Apart, 0, b""', lambda p: both_ways(p, (1, 1), (1, 1), (0, 0)), pointers=("called", "jumped")),
+    Row("SORTS", 'Sorts, 0, b""', sorts, policy=OF_SORTS, pointers=FG),
+    Row("TABLE", 'Switching, 0, b""', switching, pointers=("first", "second", "f", "g")),
 ]
-SOURCES = ["sample_programs/src/units.rt", "sample_programs/src/graphs.rt", "sample_objects/src/maps.rt", "rewrite_tests/src/branches.rt"]
 
 
-def made(make, version):
-    """The words of the units, the graph, the map and the addresses of labels of a program."""
-    p = Listed(version)
-    make(p)
-    built = p.built("main")
-    return built.words[(UNITS[version] - 0x40000000) // 4:], built.graph.decode(), p.map(), built.labels
+class Made(NamedTuple):
+    """The words of the units, the offset and the word of the entry's call, the data, the graph and the map."""
+    words: list
+    call: tuple
+    data: bytes
+    graph: str
+    map: str
 
 
-def known():
-    """The tables of words and texts, by their names."""
-    text = "\n".join((CRATES / name).read_text() for name in SOURCES)
-    words = {name: [int(word, 16) for word in re.findall("0x([0-9a-f]{8})", table)]
-             for name, table in re.findall(r"const (\w+): \[u32; \d+\] = \[(.*?)\];", text, re.S)}
-    texts = {name: re.sub(r"\\\n\s*", "", table).replace("\\n", "\n")
-             for name, table in re.findall(r'const (\w+): &\[u8\] =\s+b"(.*?)";', text, re.S)}
-    return words, texts
+def made(row, form):
+    p = Listed(form)
+    row.make(p)
+    data = lambda labels: struct.pack("<%dQ" % len(row.pointers), *(labels[name] for name in row.pointers)) or row.data.encode()
+    built = p.built(row.entry, data)
+    first = (UNITS[form.image] - 0x40000000) // 4
+    call = (4 * (first - 3), built.words[first - 3])
+    return Made(built.words[first:], call, built.data, built.graph.decode(), p.map())
 
 
-def table(name, words):
-    rows = [", ".join("0x%08x" % word for word in words[k:k + 8]) for k in range(0, len(words), 8)]
-    return "const %s: [u32; %d] = [\n%s,\n];\n" % (name, len(words), ",\n".join("    " + row for row in rows))
+HEADINGS = {
+    "plain": ("sample_hardened", "plain", "PLAIN", "for one hart where calls and jumps share labels: those that jump through pointers"),
+    "harts": ("sample_hardened", "harts", "HARTS", "in the form for several harts, whose units begin 16 bytes later than those for one hart"),
+    "split": ("sample_split", "split", "SPLIT", "where calls and jumps have labels of their own, so that two words lead each target"),
+    "harts-split": ("sample_split", "harts_split", "HARTS_SPLIT", "for several harts where calls and jumps have labels of their own"),
+}
+OLDER = 10  # how many of the rows stand in programs.rt, for one hart with one label
+SOURCES = {"sample_programs": ["sample_programs/src/units.rt", "sample_programs/src/graphs.rt", "sample_programs/src/data.rt"],
+           "sample_objects": ["sample_objects/src/maps.rt"], "sample_hardened::branches": ["sample_hardened/src/branches.rt"],
+           "sample_hardened::plain": ["sample_hardened/src/plain.rt"], "sample_hardened::harts": ["sample_hardened/src/harts.rt"]}
+WORDS = re.compile(r"const (\w+): \[u32; \d+\] = \[(.*?)\];", re.S)
+TEXTS = re.compile(r'const (\w+): &\[u8\] =\s+b"(.*?)";', re.S)
 
 
-def text(name, value):
-    lines = value.replace("\n", "\\n\\\n    ").split("\n")
-    return 'const %s: &[u8] = b"%s";\n' % (name, "\n".join(lines[:-1])[:-1])
+def known(paths):
+    """The tables of words and texts of some files: each one's content, and its name."""
+    found = {}
+    for path in paths:
+        text = (CRATES / path).read_text() if (CRATES / path).exists() else ""
+        for name, table in WORDS.findall(text):
+            found.setdefault(tuple(int(word, 16) for word in re.findall("0x([0-9a-f]{8})", table)), name)
+        for name, table in TEXTS.findall(text):
+            found.setdefault(re.sub(r"\\\n\s*", "", table), name)
+    return found
+
+
+def spelled(content):
+    """A text, or bytes that are none, as they stand between quotes."""
+    return content.replace("\n", "\\n") if isinstance(content, str) else "".join("\\x%02x" % byte for byte in content)
+
+
+def table_lines(name, words):
+    """A table of words, as a module has it."""
+    rows = ["    " + ", ".join("0x%08x" % word for word in words[k:k + 8]) + "," for k in range(0, len(words), 8)]
+    head = "pub const %s: [u32; %d] = [" % (name, len(words))
+    return ["/// The units of `%s`." % name, "#[rattlefmt::skip]", head, *rows, "];", ""]
+
+
+def text_lines(name, content):
+    """A text, of a map three lines in one."""
+    if isinstance(content, bytes):
+        return ["#[rattlefmt::skip]", 'pub(crate) const %s: &[u8] = b"%s";' % (name, spelled(content)), ""]
+    lines = [line + "\\n" for line in content.split("\n")[:-1]]
+    places = [line for line in lines if line.startswith("at ")]
+    rows = ["".join(places[k:k + 3]) for k in range(0, len(places), 3)]
+    rest = [line for line in lines[1:] if line not in places]
+    return ["#[rattlefmt::skip]", 'pub(crate) const %s: &[u8] = b"%s\\' % (name, lines[0]),
+            *("    %s\\" % row for row in rows + rest[:-1]), '    %s";' % rest[-1], ""]
+
+
+def use(module, names):
+    """A line that names come by, or lines of at most 100 letters."""
+    line = "use %s::{%s};" % (module, names)
+    return line if len(line) <= 100 else "use %s::{\n%s,\n};" % (module, textwrap.indent(textwrap.fill(names, 95), "    "))
+
+
+class Module:
+    """What a form's module has: constants that stand nowhere else, the names that it uses, and its rows."""
+
+    def __init__(self, name):
+        self.form, (self.crate, self.file, self.static, self.heading) = FORMS[name], HEADINGS[name]
+        self.path = CRATES / self.crate / "src" / (self.file + ".rt")
+        self.sources = {module: known(paths) for module, paths in SOURCES.items() if module != "%s::%s" % (self.crate, self.file)}
+        self.constants, self.used, self.own = [], {}, {}
+        self.rows = [self.row(row) for row in ROWS[OLDER if name == "plain" else 0:]]
+
+    def name(self, wanted, content, lines):
+        """The name of a table, which is made where it stands nowhere yet."""
+        key = tuple(content) if isinstance(content, list) else spelled(content)
+        for module, found in self.sources.items():
+            if key in found:
+                self.used.setdefault(module.replace(self.crate + "::", "crate::"), set()).add(found[key])
+                return found[key]
+        if key not in self.own:
+            self.own[key] = wanted
+            self.constants += lines(wanted, content)
+        return self.own[key]
+
+    def row(self, row):
+        what = made(row, self.form)
+        words = self.name(row.name, what.words, table_lines)
+        graph = self.name(row.name + "_GRAPH", what.graph, text_lines)
+        places = self.name(row.name + "_MAP", what.map, text_lines)
+        data = self.name(row.name + "_DATA", what.data, text_lines) if row.pointers else 'b"%s"' % spelled(row.data)
+        return "    Program(\n        %s,\n        &%s, 0x%x, 0x%08x, %s, %d, %s, %s,\n    )," % (
+            row.given(), words, *what.call, data, 8192 + len(what.data), graph, places)
+
+    def text(self):
+        here = "crate" if self.crate == "sample_hardened" else "sample_hardened"
+        own = ["use crate::given::{Given, Source};", "use crate::programs::Program;"] if here == "crate" else [
+            "use sample_hardened::{Given, Program, Source};"]
+        used = sorted(own + [use(module, ", ".join(sorted(names))) for module, names in self.used.items()])
+        heads = ["//! What small objects become %s:" % self.heading,
+                 "//! the words of their units, their data, their graphs and their maps, as tests/harts/forms.py at the top of the",
+                 "//! repository prints them.", "", *used, ""]
+        static = ["/// The rows of this form.", "#[rattlefmt::skip]",
+                  "pub static %s: [Program; %d] = [" % (self.static, len(self.rows)), *self.rows, "];", ""]
+        return "\n".join(heads + self.constants + static)
+
+
+def is_as_printed(name):
+    """Whether a form's module has the tables that are made."""
+    module = Module(name)
+    return module.path.exists() and module.path.read_text() == module.text()
+
+
+def is_older(row):
+    """Whether the tables for one hart with one label stand in the crates, where they were worked out otherwise."""
+    what = made(row, FORMS["plain"])
+    found = known([path for paths in SOURCES.values() for path in paths] + ["sample_hardened/src/programs.rt"])
+    return all(key in found for key in (tuple(what.words), spelled(what.graph), spelled(what.map)))
 
 
 def main():
-    words, texts = known()
-    wrong, printed = 0, set()
-    for name, map_name, make in PROGRAMS:
-        units, graph, map_text, _ = made(make, 1)
-        if (units, graph, map_text) != (words[name], texts[name + "_GRAPH"], texts[map_name + "_MAP"]):
-            print("not as in the crates: %s" % name, file=sys.stderr)
-            wrong += 1
-        units, graph, map_text, labels = made(make, 2)
-        print(table(name, units))
-        print(text(name + "_GRAPH", graph))
-        if map_name not in printed:
-            print(text(map_name + "_MAP", map_text))
-        printed.add(map_name)
-        if name == "P":
-            data = b"".join(labels[place].to_bytes(8, "little") for place in ("f", "g"))
-            print('const P_DATA: &[u8] = b"%s";\n' % "".join("\\x%02x" % byte for byte in data))
-    print("%d of %d programs for one hart are those of the crates" % (len(PROGRAMS) - wrong, len(PROGRAMS)), file=sys.stderr)
+    if len(sys.argv) > 1:
+        print(Module(sys.argv[1]).text(), end="")
+        return 0
+    wrong = ["%s, plain" % row.name for row in ROWS[:OLDER] if not is_older(row)]
+    wrong += ["the module of %s" % name for name in FORMS if not is_as_printed(name)]
+    print("%d of %d tables are those of the crates%s" % (
+        OLDER + len(FORMS) - len(wrong), OLDER + len(FORMS), ": not " + ", ".join(wrong) if wrong else ""))
     return 1 if wrong else 0
 
 

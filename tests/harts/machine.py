@@ -7,6 +7,7 @@ A step answers None where the run goes on, and else how it stops: ("exit", statu
 ALL = 2**64 - 1
 DATA_END, DATA = 0x10001000, 0x10000
 CODE, CODE_SIZE = 0x40000000, 0x100000
+CODE_TAIL = 8  # how many bytes past code loads may read
 SHADOW, SHADOW_SIZE = 0x60000000, {1: 0x10000, 2: 0x80000}
 START = 0x4000000C
 WINDOW = 2**28  # where the bytes of a system call end at most
@@ -84,7 +85,7 @@ class Machine:
             self.bytes[address + k] = value >> 8 * k & 255
 
     def load(self, address, count):
-        regions = (0, DATA_END), (CODE, CODE_SIZE), (SHADOW, self.shadow_size)
+        regions = (0, DATA_END), (CODE, CODE_SIZE + CODE_TAIL), (SHADOW, self.shadow_size)
         if not any(self.lies(start, size, address, count) for start, size in regions):
             raise Fault
         return self.read(address, count)

@@ -37,10 +37,11 @@ class Built(NamedTuple):
 
 
 class Program:
-    """Units one after another, from the first address of a version's units on."""
+    """Units one after another, from the first address of a version's units on. In a graph of version 1 a class serves calls and
+    jumps, and a target begins with its gate; in one of version 2 it serves one of them, and a target begins with two words."""
 
-    def __init__(self, version):
-        self.version, self.at = version, UNITS[version]
+    def __init__(self, version, graph=1):
+        self.version, self.graph, self.at = version, graph, UNITS[version]
         self.units, self.labels, self.classes = [], {}, {}
 
     def put(self, size, words, line=None):
@@ -55,8 +56,20 @@ class Program:
         return self.labels.get(target, target)
 
     def gate(self, label):
-        self.classes.setdefault(label, []).append(self.at)
+        self.listed("class", label).append(self.at)
         self.plain(u_form(0x37, 0, label))
+
+    def target(self, call=None, jump=None):
+        """A target for graphs of version 2: its word for calls and its word for jumps, and of each its label, where it has one."""
+        at = self.at
+        for sort, label in ("callclass", call), ("jumpclass", jump):
+            if label:
+                self.listed(sort, label).append(at)
+            self.plain(u_form(0x37, 0, label) if label else addi(0, 0, 0))
+
+    def listed(self, sort, label):
+        """The targets of a class of a sort."""
+        return self.classes.setdefault((label, sort), [])
 
     def plain(self, *words):
         for word in words:
@@ -88,7 +101,8 @@ class Program:
                  lambda at: "call %08x %08x" % (at, self.address(target)))
 
     def ijump(self, rs1, imm, label):
-        self.put(13, lambda at: check(at, rs1, imm, label) + [i_form(0x67, 0, 0, 31, 0)],
+        past = 4 if self.graph == 2 else 0
+        self.put(13, lambda at: check(at, rs1, imm, label, past) + [i_form(0x67, 0, 0, 31, 0)],
                  lambda at: "site %08x jump %05x" % (at, label))
 
     def icall(self, rs1, imm, label):
@@ -106,8 +120,9 @@ class Program:
         for at, unit, line in self.units:
             words += unit(at)
             lines += [line(at)] if line else []
-        heads = ["class %05x%s" % (label, "".join(" %08x" % at for at in gates)) for label, gates in sorted(self.classes.items())]
-        text = ["rvcfi-graph 1", "code %08x %08x" % (CODE, 4 * len(words))] + heads + lines + ["end", ""]
+        heads = ["%s %05x%s" % (sort, label, "".join(" %08x" % at for at in targets))
+                 for (label, sort), targets in sorted(self.classes.items())]
+        text = ["rvcfi-graph %d" % self.graph, "code %08x %08x" % (CODE, 4 * len(words))] + heads + lines + ["end", ""]
         starts = {at for at, _, _ in self.units} | set(HANDLERS) | {OPENING, CLOSING[self.version]}
         data = data(self.labels) if callable(data) else data
         return Built(self.version, words, data, "\n".join(text).encode(), starts, dict(self.labels))

@@ -1,5 +1,5 @@
 #!/usr/bin/env python3
-"""Prints the tables of crates/tool_tests/src/harts.rt: `python3 tests/harts/rows.py`.
+"""Prints the tables of crates/harts_tests/src/commands.rt: `python3 tests/harts/rows.py`.
 
 A row is the lines of a script between its first and its last, a command line, and the status and the text that the model beside
 this file gives of it. `rounds HARTS N` stands for N rounds, in each of which each hart takes one step. In a race a row stands for
@@ -14,7 +14,7 @@ sys.dont_write_bytecode = True
 
 from program import Program
 from runs import answer
-from worked import ECALL, a_of_harts, addi, jobs, shared
+from worked import ECALL, a_of_harts, addi, apart, jobs, q, shared
 
 
 def a_of_one():
@@ -26,7 +26,7 @@ def a_of_one():
     return p.built("main")
 
 
-PROGRAMS = {"one": a_of_one(), "a": a_of_harts(), "shared": shared(), "jobs": jobs()}
+PROGRAMS = {"one": a_of_one(), "a": a_of_harts(), "shared": shared(), "jobs": jobs(), "q": q(2), "apart": apart(2)}
 LABELS = PROGRAMS["jobs"].labels
 F, G, MAIN, LOADER = (LABELS[name] for name in ("f", "g", "main", "loader"))
 GIVEN = b"0123456789"
@@ -131,6 +131,19 @@ RUNS = [
     ("jobs", ["harts 8", "turn 7 1000000000"], "none", 0),
     ("jobs", ["harts 4", "turn 3 10", "turn 3 10", "turn 2 1000000000"], "none", 21),
     ("jobs", ["harts 2", "turn 1 60", "turn 0 1000000000", "turn 1 1000000000"], "none", 1000),
+    # graphs of version 2: each step is another hart's, while the pointers lead to what may be reached, to what the other kind of
+    # transfer may reach, and behind a function's first word
+    ("q", ["harts 8", "rounds 8 60"], "none", 1000),
+    ("q", ["harts 3", "rounds 3 60", at(40, JOB, PROGRAMS["q"].labels["g"])], "none", 1000),
+    ("q", ["harts 3", "rounds 3 60", at(40, JOB, PROGRAMS["q"].labels["h"])], "none", 1000),
+    ("q", ["harts 3", "rounds 3 60", at(47, JOB, PROGRAMS["q"].labels["f"] + 4)], "none", 1000),
+    ("q", ["harts 3", "rounds 3 60", at(46, JOB, PROGRAMS["q"].labels["f"] + 4)], "none", 1000),
+    ("apart", ["harts 8", "rounds 8 90"], "none", 1000),
+    ("apart", ["harts 4", "rounds 4 90", at(60, JOB, PROGRAMS["apart"].labels["both"])], "none", 1000),
+    ("apart", ["harts 4", "rounds 4 90", at(81, JOB, PROGRAMS["apart"].labels["jumped"])], "none", 1000),
+    ("apart", ["harts 4", "rounds 4 90", at(82, JOB, PROGRAMS["apart"].labels["jumped"])], "none", 1000),
+    ("apart", ["harts 4", "rounds 4 90", at(150, JOB + 8, PROGRAMS["apart"].labels["called"])], "none", 1000),
+    ("apart", ["harts 4", "rounds 4 90", at(195, JOB + 8, PROGRAMS["apart"].labels["called"])], "none", 1000),
 ]
 
 CALLER = 77  # the steps of a hart that calls

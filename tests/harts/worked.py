@@ -1,4 +1,5 @@
-"""The programs for several harts of crates/sample_programs, unit by unit: their sources for binutils are in tests/units."""
+"""The programs for several harts and those with graphs of version 2 of crates/sample_programs, unit by unit: their sources for
+binutils are in tests/units."""
 
 import struct
 
@@ -116,3 +117,49 @@ def jobs():
     p.jump("wait")
     p.stop()
     return p.built("main", job_data)
+
+
+def q(version):
+    """Jumps through the pointer at 10000h to f or g, and has a call that may go to g."""
+    p = Program(version, graph=2)
+    p.label("main")
+    p.plain(u_form(0x37, 5, 0x10), load(5, 0, 5))
+    p.ijump(5, 0, 2)
+    for name, call, answer in (("f", None, 1), ("g", 1, 2)):
+        p.label(name)
+        p.target(call, 2)
+        p.plain(addi(10, 0, answer))
+        p.returns()
+    p.label("h")
+    p.icall(5, 0, 1)
+    p.returns()
+    p.stop()
+    return p.built("main", pointers("f", "g"))
+
+
+def pointers(*names):
+    """Data that point to places."""
+    return lambda labels: struct.pack("<%dQ" % len(names), *[labels[name] for name in names])
+
+
+def apart(version, graph=2):
+    """Calls through one pointer and jumps through another one, each to a function of its own or to one that both may reach; in a
+    graph of version 1 both may reach all three."""
+    p = Program(version, graph)
+    p.label("main")
+    p.plain(addi(2, 2, -16))
+    p.store(SD, 1, 8, 2)
+    p.plain(u_form(0x37, 5, 0x10), load(5, 0, 5))
+    p.icall(5, 0, 1)
+    p.plain(load(1, 8, 2), addi(2, 2, 16), u_form(0x37, 5, 0x10), load(5, 8, 5))
+    p.ijump(5, 0, graph)
+    for name, call, jump, answer in (("called", 1, None, 1), ("jumped", None, 2, 2), ("both", 1, 2, 4)):
+        p.label(name)
+        if graph == 2:
+            p.target(call, jump)
+        else:
+            p.gate(1)
+        p.plain(addi(10, 10, answer))
+        p.returns()
+    p.stop()
+    return p.built("main", pointers("called", "jumped"))

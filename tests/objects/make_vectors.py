@@ -164,4 +164,5 @@ T = Object(
      ([addi(10, 0, 4)], "plain", " taken"), ([RETURN], "return", "")],
     [("main", FUNC, 1, 0, 12), ("f", FUNC, 1, 12, 8)], [(0, GOT_HI20, "f"), (4, PCREL_LO12_I, "main")], slots=1)
 
-print("\n".join(each.source() for each in (B, P, H, R, T)))
+if __name__ == "__main__":
+    print("\n".join(each.source() for each in (B, P, H, R, T)))

@@ -161,14 +161,9 @@ def of_exploit(asked, made):
                   "own run leaves", "take_message+" if attack == "return" else "main+")
 
 
-class ForHarts(Hardened):
-    """An object, hardened for several harts."""
-    command = ["harden", "harts"]
-
-
 def of_harts(asked, program, made):
     """The same image for several harts, and a run in which hart 1 takes five steps first, within the opening."""
-    made = ForHarts(asked.tool, made.object)
+    made = Hardened(asked.tool, made.object, "harts")
     of_image(asked, program, made)
     script = asked.bench.asked.file("two.script", b"rvcfi-script 2\nharts 2\nturn 1 5\nend\n")
     given = made.input_file(ATTACKS["return"](made.gate("open_door")))
@@ -189,12 +184,21 @@ def of_system_calls(asked, made):
 
 
 def of_tables(asked):
-    """Labels and functions in one class: the labels of the table and the functions of the other."""
+    """Labels and functions in one class: the labels of the table and the functions of the other. Where calls have a class of their
+    own the functions alone are in it."""
     path = asked.bench.case("tables.c", ["-fno-gcse"])
     asked.same("tables", asked.bench.ends(path), asked.bench.host("tables.c"))
     text = asked.told("graph", path, path + ".graph", path + ".map")
     asked.has("tables", text, "class 00001: 9 targets (3 functions, 6 labels)", "negate", "half", "next", "label          interpreted+")
     asked.same("tables' classes", "not the classes" in text, False, text)
+    files = [path + end for end in (".img", ".graph", ".map")]
+    asked.bench.asked.answer("harden", "split", path, "main", "none", *files)
+    text = asked.told("graph", path, *files[1:])
+    asked.has("tables apart", text, "2 classes (1 of calls, 1 of jumps)",
+              "class 00001 of calls: 3 targets (3 functions, 0 labels), 1 sites", "class 00002 of jumps: 9 targets (3 functions, 6 labels)")
+    asked.same("tables' classes apart", "not the classes" in text, False, text)
+    dot = asked.told("graph", "--dot", path, *files[1:])
+    asked.has("tables apart, for Graphviz", dot, "class 00002 of jumps\\n9 targets")
 
 
 def of_image(asked, program, made):
@@ -206,9 +210,14 @@ def of_image(asked, program, made):
              "opening": "call"}
     for kind in ("site", "edge", "call"):
         found = [address for address, unit in units if kinds.get(unit) == kind]
-        asked.same("%s, %s" % (program.name, kind), found, [line[1] for line in graph if line[0] == kind])
+        asked.same("%s, %s, %s" % (program.name, made.form, kind), found, [line[1] for line in graph if line[0] == kind])
     gates = {address for address, unit in units if unit == "gate"}
-    asked.same(program.name + ", gates", gates, {target for line in graph if line[0] == "class" for target in line[2:]})
+    behind = {"class": 0, "callclass": 0, "jumpclass": 4}
+    wanted = {"%08x" % (int(target, 16) + behind[line[0]]) for line in graph if line[0] in behind for target in line[2:]}
+    asked.same("%s, %s, gates" % (program.name, made.form), gates, wanted)
+    checks = re.findall(r"^[0-9a-f]{8}  computed (call|jump)  .*?(by the second word|$)", listing, re.M)
+    second = [(kind, "by the second word" if kind == "jump" and "split" in made.form else "") for kind, _ in checks]
+    asked.same("%s, %s, words" % (program.name, made.form), checks, second)
     text = asked.told("graph", made.object, made.graph, made.map)
     asked.same(program.name + ", classes", "not the classes" in text or text.startswith("status"), False, text)
 
@@ -236,6 +245,8 @@ def try_all(asked):
         part(asked)
     for program, made in hardened_programs(asked):
         of_image(asked, program, made)
+        for form in ("split", "harts-split"):
+            of_image(asked, program, Hardened(asked.tool, made.object, form))
         if program.name == "visitors":
             of_exploit(asked, made)
             of_system_calls(asked, made)

@@ -59,7 +59,7 @@ DRAWN = [(2, drawn(3, 2, 5, 30000)), (2, drawn(4, 2, 50, 3000)), (3, drawn(5, 3,
 
 class Office(Hardened):
     """The program, hardened for several harts."""
-    command, entry = ["harden", "harts"], "begin"
+    entry = "begin"
 
     def script(self, harts, turns, changes=()):
         """Writes a script of turns and changes, and answers its path."""
@@ -112,13 +112,13 @@ def parted(output):
 
 
 class Build:
-    """The program as one compiler builds it at one level, plain and hardened."""
+    """The program as one compiler builds it at one level, not hardened and hardened in a form."""
 
-    def __init__(self, tool, folder, compiler, level, files=OFFICE):
+    def __init__(self, tool, folder, compiler, level, form="harts", files=OFFICE):
         program = Program("clerks" if files is OFFICE else "lockless", ["harts.s"] + files, b"")
-        self.name = "%s %s" % (compiler.name, level)
+        self.name = "%s %s, %s" % (compiler.name, level, form)
         joined = programs.joined(compiler, level, program, folder)
-        self.plain, self.office = programs.linked(joined), Office(tool, joined)
+        self.plain, self.office = programs.linked(joined), Office(tool, joined, form)
 
     def door(self):
         """Where the door's function is, in the plain program and in the hardened one."""
@@ -135,7 +135,7 @@ def of_runs(build, wanted):
     """Under all turns the results are the host's, and each order is worked off once; `compare` runs hart 0 alone."""
     given, office = text(ORDERS), build.office
     yield "verify", office.verified(), (0, b"accepted\n")
-    yield "plain under qemu", programs.under_qemu(build.plain, given), wanted
+    yield "not hardened, under qemu", programs.under_qemu(build.plain, given), wanted
     image = programs.for_qemu(office.image)
     yield "under qemu", programs.under_qemu(image, given), wanted
     yield "steps", office.run_for(given, 1, [])[2], len(programs.addresses_run(image, given))
@@ -190,7 +190,7 @@ def of_drawn_turns(build, wanted):
 
 def of_no_lock(tool, folder, compiler, wanted):
     """Without the lock some of the same turns give something else."""
-    build = Build(tool, folder, compiler, "-O2", ["clerks.c", "no_lock.c", "door.c"])
+    build = Build(tool, folder, compiler, "-O2", files=["clerks.c", "no_lock.c", "door.c"])
     ends = [build.office.run_for(text(ORDERS), harts, turns)[:2] for harts, turns in TURNS]
     right = [parted(output)[0] == parted(wanted[0])[0] and sum(parted(output)[1]) == len(ORDERS) for output, _ in ends]
     yield "no lock, one hart", right[0], True
@@ -198,9 +198,16 @@ def of_no_lock(tool, folder, compiler, wanted):
 
 
 def rows_of(tool, folder, compiler, level, wanted):
-    """What is asked of one build, with its name."""
+    """What is asked of one build, with its name; at one level in both forms for several harts."""
     build = Build(tool, folder, compiler, level)
     asked = [of_runs, of_attack_on_first, of_attack_on_second] + [of_drawn_turns] * (level == "-O2")
+    rows = rows_of_build(build, asked, wanted)
+    if level == "-O2":
+        rows += rows_of_build(Build(tool, folder, compiler, level, "harts-split"), [of_runs, of_attack_on_first], wanted)
+    return rows
+
+
+def rows_of_build(build, asked, wanted):
     rows = [("harden", build.office.told[0], 0)] + [row for each in asked for row in each(build, wanted)]
     return [(build.name + ", " + what, got, want) for what, got, want in rows]
 

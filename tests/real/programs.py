@@ -194,13 +194,15 @@ def code_size(path):
 
 
 class Hardened:
-    """A hardened object: its files, and what the tool says of them."""
-    command, entry = ["rewrite"], ENTRY
+    """An object hardened in a form: its files, and what the tool says of them."""
+    entry = ENTRY
 
-    def __init__(self, tool_path, joined_object):
-        self.tool, self.object = tool_path, joined_object
-        self.image, self.graph, self.map = (joined_object.replace("_joined.o", end) for end in (".img", ".graph", ".map"))
-        self.told = self.asked(self.command + [self.object, self.entry, "none", self.image, self.graph, self.map])
+    def __init__(self, tool_path, joined_object, form="plain"):
+        self.tool, self.object, self.form = tool_path, joined_object, form
+        name = joined_object.replace("_joined.o", "" if form == "plain" else "_" + form)
+        self.image, self.graph, self.map = (name + end for end in (".img", ".graph", ".map"))
+        command = ["rewrite"] if form == "plain" else ["harden", form]
+        self.told = self.asked(command + [self.object, self.entry, "none", self.image, self.graph, self.map])
 
     def asked(self, words, given=b""):
         done = run([self.tool] + words, given)
@@ -235,3 +237,16 @@ class Hardened:
 
     def code_size(self):
         return int(self.told[1].split()[2])
+
+    def classes(self):
+        """The targets of each class of the graph, as places of the object, and of each site its kind and the class's targets."""
+        found, sites = {}, []
+        with open(self.map) as file:
+            places = {line.split()[1]: tuple(line.split()[2:]) for line in file if line.startswith("at ")}
+        with open(self.graph) as file:
+            for words in map(str.split, file):
+                if words[0].endswith("class"):
+                    found[words[1]] = {places[address] for address in words[2:]}
+                elif words[0] == "site":
+                    sites.append((words[2], found[words[3]]))
+        return found, sites

@@ -4,13 +4,14 @@
     python3 tests/real/run.py [--program PATH] [--keep FOLDER]
 
 Each program is compiled by gcc and by clang for rv64im and for rv64i, where tests/real/arithmetic.c has the products and
-quotients, at -O0, -O1, -O2, -O3 and -Os, and its files are joined by `ld -r`. What it puts
-and its status must be those of the same files compiled for the host, also under qemu-riscv64 (the plain program, and the
-hardened image) and in the machine; the steps of the hardened image must be those that qemu counts. `visitors` is attacked
-twice: the plain program must open the door, the hardened one must end in the named handler. One line a case has the steps
-and the bytes of code, plain and hardened. Then objects that are refused must be refused as docs/COMPILING.md says, images
-that qemu's user mode does not confine must end as docs/MACHINE.md says, and `clerks` is hardened for several harts, run under
-turns, and attacked by one hart from another.
+quotients, at -O0, -O1, -O2, -O3 and -Os, and its files are joined by `ld -r`. What it puts and its status must be those
+of the same files compiled for the host, also under qemu-riscv64 (the plain program, and the hardened image) and in the
+machine; the steps of the hardened image must be those that qemu counts. At -O2 for rv64im they are hardened with separate
+labels for calls and jumps too (`visitors` for several harts as well), where a computed transfer may reach no more than in
+the form `plain`. `visitors` is attacked twice in each form: the plain program must open the door, the hardened one must
+end in the named handler. One line a case has the steps and the bytes of code, plain and hardened. Then objects that are
+refused must be refused as docs/COMPILING.md says, images that qemu's user mode does not confine must end as
+docs/MACHINE.md says, and `clerks` is hardened for several harts, run under turns, and attacked by one hart from another.
 
 The program is crates/rvcfi/out/rvcfi where none is named, as `rt ci` or `rt run` leaves it. It needs Python 3.9, Linux and
 what docs/COMPILING.md lists. Where a tool is missing, what it is for is told as not run. The last line counts what was
@@ -38,6 +39,7 @@ from programs import LEVELS, PROGRAMS, Hardened, Missing
 DOOR = b"the door is open\n", 42
 HANDLERS = {"__cfi_bad_target": 0x40000000, "__cfi_bad_return": 0x40000004}
 
+IN_FORMS = "-O2", "rv64im"
 
 # what each attack on the hardened program comes to: its handler, and why the object's own run leaves its graph
 STOPPED = {"pointer": ("__cfi_bad_target", b"untame graph"), "return": ("__cfi_bad_return", b"untame return")}
@@ -59,43 +61,74 @@ class Case:
 
     def try_all(self, tool, folder, wanted):
         plain = programs.linked(programs.joined(self.compiler, self.level, self.program, folder))
-        hardened = Hardened(tool, plain.replace(".elf", "_joined.o"))
-        self.tell("rewrite", hardened.told[0], 0)
+        self.tell("plain under qemu", programs.under_qemu(plain, self.program.input), wanted)
+        first = self.try_form(tool, plain, "plain", wanted)
+        for form in self.forms():
+            hardened = self.try_form(tool, plain, form, wanted)
+            if first and hardened:
+                self.try_targets(first, hardened)
+
+    def forms(self):
+        """The forms but `plain` in which the program is hardened."""
+        if (self.level, self.compiler.processor) != IN_FORMS:
+            return []
+        return ["split"] + ["harts-split"] * (self.program.name == "visitors")
+
+    def try_form(self, tool, plain, form, wanted):
+        """Hardens the program in a form, runs it, and attacks it where it can be."""
+        hardened = Hardened(tool, plain.replace(".elf", "_joined.o"), form)
+        self.tell(form, hardened.told[0], 0)
         if hardened.told[0]:
             self.lines.append(hardened.told[1].decode())
-            return
-        self.tell("verify", hardened.verified(), (0, b"accepted\n"))
+            return None
+        self.tell(form + ", verify", hardened.verified(), (0, b"accepted\n"))
         self.try_run(plain, hardened, wanted)
         if self.program.name == "visitors":
             for attack in STOPPED:
                 self.try_attack(plain, hardened, attack, *STOPPED[attack])
+        return hardened
 
     def try_run(self, plain, hardened, wanted):
-        given, image = self.program.input, programs.for_qemu(hardened.image)
+        given, image, form = self.program.input, programs.for_qemu(hardened.image), hardened.form
         _, output, report = hardened.run(given)
-        self.tell("plain under qemu", programs.under_qemu(plain, given), wanted)
-        self.tell("hardened under qemu", programs.under_qemu(image, given), wanted)
-        self.tell("hardened", (output, report["stop"]), (wanted[0], ["exit", str(wanted[1])]))
+        self.tell(form + " under qemu", programs.under_qemu(image, given), wanted)
+        self.tell(form, (output, stop_of(report)), (wanted[0], ["exit", str(wanted[1])]))
         status, compared = hardened.compared(given)
-        self.tell("compare", (status, compared.split()[:1]), (0, [b"same"]))
-        steps = [len(programs.addresses_run(path, given)) for path in (plain, image)]
-        self.tell("steps", int(report["steps"][0]), steps[1])
-        sizes = programs.code_size(plain), hardened.code_size()
-        self.lines.append("%-11s %-5s %-6s %-3s  steps %7d to %7d, %.2f times  code %5d to %5d bytes, %.2f times" % (
-            self.program.name, self.compiler.name, self.compiler.processor, self.level, *steps, steps[1] / steps[0], *sizes, sizes[1] / sizes[0]))
+        self.tell(form + ", compare", (status, compared.split()[:1]), (0, [b"same"]))
+        counted = len(programs.addresses_run(image, given))
+        self.tell(form + ", steps", int(report["steps"][0]), counted)
+        if form == "plain":
+            steps, sizes = (len(programs.addresses_run(plain, given)), counted), (programs.code_size(plain), hardened.code_size())
+            words = self.program.name, self.compiler.name, self.compiler.processor, self.level
+            self.lines.append("%-11s %-5s %-6s %-3s  steps %7d to %7d, %.2f times  code %5d to %5d bytes, %.2f times" % (
+                *words, *steps, steps[1] / steps[0], *sizes, sizes[1] / sizes[0]))
 
     def try_attack(self, plain, hardened, what, handler, untame):
         """The input goes to a function that the program calls only for who knows the word."""
-        given = ATTACKS[what](programs.symbol(plain, "open_door")[1])
-        self.tell("plain, " + what, programs.under_qemu(plain, given), DOOR)
-        given = ATTACKS[what](hardened.gate("open_door"))
+        if hardened.form == "plain":
+            given = ATTACKS[what](programs.symbol(plain, "open_door")[1])
+            self.tell("not hardened, " + what, programs.under_qemu(plain, given), DOOR)
+        given, name = ATTACKS[what](hardened.gate("open_door")), "%s, %s" % (hardened.form, what)
         status, output, report = hardened.run(given)
-        self.tell("hardened, " + what, (status, output, report["stop"]), (10, b"", ["handler", handler]))
+        self.tell(name, (status, output, stop_of(report)), (10, b"", ["handler", handler]))
         image = programs.for_qemu(hardened.image)
-        self.tell("hardened under qemu, " + what, programs.under_qemu(image, given), (b"", -signal.SIGTRAP))
-        self.tell("its last address", programs.addresses_run(image, given)[-1], HANDLERS[handler])
+        self.tell(name + ", under qemu", programs.under_qemu(image, given), (b"", -signal.SIGTRAP))
+        self.tell(name + ", its last address", programs.addresses_run(image, given)[-1], HANDLERS[handler])
         status, compared = hardened.compared(given)
-        self.tell("compare, " + what, (status, compared[:len(untame)]), (13, untame))
+        self.tell(name + ", compare", (status, compared[:len(untame)]), (13, untame))
+
+    def try_targets(self, first, other):
+        """What each computed transfer may reach where calls and jumps have classes of their own: what it may in the form `plain`, or
+        less."""
+        pairs = list(zip(first.classes()[1], other.classes()[1]))
+        same = [kind for (kind, targets), (other_kind, others) in pairs if kind == other_kind and targets >= others]
+        self.tell(other.form + ", sites", (len(first.classes()[1]), same), (len(other.classes()[1]), [kind for (kind, _), _ in pairs]))
+
+
+def stop_of(report):
+    """How a run stopped; of several harts hart 0 alone has run."""
+    stop = report["stop"]
+    return stop[2:] if stop[:2] == ["hart", "0"] else stop
 
 
 def compilers():

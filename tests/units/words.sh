@@ -14,11 +14,12 @@ words() {
 }
 
 words prologue 0x40000000
-for name in b h p other exits deep loop astray break load status edge aimed relabelled narrow nowhere jump echo near skips round; do
+for name in b h p other exits deep loop astray break load status edge aimed relabelled narrow nowhere jump echo near skips round second q apart joined behind; do
     words "$name" 0x40000040
 done
 words long 0x40000040 | sed -n '1p;$p'
+words last 0x40000040 | sed -n '1,8p;$p'
 words prologue_of_harts 0x40000000
-for name in b shared jobs; do
+for name in b shared jobs q apart; do
     words "$name" 0x40000050
 done

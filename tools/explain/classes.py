@@ -72,11 +72,14 @@ class Flow:
         labels = {place for place in self.taken for row in rows if place[0] == site[0] and row.value <= place[1] < row.value + row.size}
         return starts | labels
 
-    def classes(self, lines=()):
-        """By each site the whole class of what it may go to."""
+    def classes(self, lines=(), is_split=False):
+        """By each site the whole class of what it may go to; where calls and jumps have classes of their own, of its kind alone."""
         listed = {line.site: frozenset(line.targets) for line in lines}
         sets = {site: listed.get(site, frozenset(self.targets(site))) for site in self.sites}
-        return closed(sets)
+        if not is_split:
+            return closed(sets)
+        of_kind = lambda kind: {site: targets for site, targets in sets.items() if self.sites[site] == kind}
+        return {**closed(of_kind("call")), **closed(of_kind("jump"))}
 
 
 def closed(sets):
@@ -88,13 +91,14 @@ def closed(sets):
     return {site: next((whole for whole in joined if whole & targets), frozenset()) for site, targets in sets.items()}
 
 
-def idle_lines(flow, lines):
+def idle_lines(flow, lines, is_split=False):
     """The lines of a policy that change nothing, and of each the sites without a line that reach its site's class."""
-    without, within = flow.classes(), flow.classes(lines)
+    without, within = flow.classes((), is_split), flow.classes(lines, is_split)
     listed = {line.site for line in lines}
     for line in lines:
         if line.site in within and within[line.site] == without[line.site]:
-            others = [site for site, targets in within.items() if targets == within[line.site] and site not in listed]
+            is_beside = lambda site: not is_split or flow.sites[site] == flow.sites[line.site]
+            others = [site for site, targets in within.items() if targets == within[line.site] and site not in listed and is_beside(site)]
             yield line, sorted(others), set(line.targets) == set(without[line.site])
 
 

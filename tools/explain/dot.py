@@ -10,7 +10,8 @@ def lines(named):
     yield "digraph flow {"
     yield "    rankdir=LR; node [shape=box, fontname=\"sans-serif\", fontsize=11]; edge [fontname=\"sans-serif\", fontsize=9];"
     for label, targets in named.by_size():
-        yield "    %s [shape=ellipse, label=%s];" % (quoted("class " + label), "\"class %s\\n%d targets\"" % (label, len(targets)))
+        told = "\"%s\\n%d targets\"" % (named.graph.name(label), len(targets))
+        yield "    %s [shape=ellipse, label=%s];" % (quoted("class " + label), told)
     for what, style in edges(named):
         yield "    %s -> %s%s;" % (quoted(what[0]), quoted(what[1]), style)
     yield "}"

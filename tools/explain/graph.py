@@ -57,14 +57,16 @@ class Named:
     def summary(self):
         sites = self.graph.sites
         calls = sum(site.kind == "call" for site in sites)
-        yield "%d classes, %d computed calls, %d computed jumps, %d calls, %d branches and jumps" % (
-            len(self.graph.classes), calls, len(sites) - calls, len(self.graph.calls), len(self.graph.edges))
+        of_jumps = sum(sort == " of jumps" for sort in self.graph.sorts.values())
+        parts = " (%d of calls, %d of jumps)" % (len(self.graph.classes) - of_jumps, of_jumps) if self.graph.is_split else ""
+        yield "%d classes%s, %d computed calls, %d computed jumps, %d calls, %d branches and jumps" % (
+            len(self.graph.classes), parts, calls, len(sites) - calls, len(self.graph.calls), len(self.graph.edges))
 
     def class_lines(self, label, targets):
         functions = [target for target in targets if self.is_function(target)]
         sites = self.graph.sites_of(label)
-        yield "class %s: %d targets (%d functions, %d labels), %d sites" % (
-            label, len(targets), len(functions), len(targets) - len(functions), len(sites))
+        yield "%s: %d targets (%d functions, %d labels), %d sites" % (
+            self.graph.name(label), len(targets), len(functions), len(targets) - len(functions), len(sites))
         for site in sites:
             yield "    from %08x  computed %-4s  in %s" % (site.address, site.kind, self.place(site.address))
         for target in targets:
@@ -84,7 +86,7 @@ class Named:
     def difference(self, policy):
         """Whether the object comes to this graph's classes."""
         flow = classes.Flow(self.read)
-        wanted = flow.classes(classes.policy_of(self.read, policy) if policy else [])
+        wanted = flow.classes(classes.policy_of(self.read, policy) if policy else [], self.graph.is_split)
         told = {self.map.place(site.address): {self.map.place(target) for target in self.graph.classes.get(site.label, [])}
                 for site in self.graph.sites}
         if told != {site: set(targets) for site, targets in wanted.items()}:
@@ -94,7 +96,7 @@ class Named:
 
     def idle(self, policy):
         flow, lines = classes.Flow(self.read), classes.policy_of(self.read, policy)
-        for line, others, is_all in classes.idle_lines(flow, lines):
+        for line, others, is_all in classes.idle_lines(flow, lines, self.graph.is_split):
             yield "line %d of the policy changes nothing: the class of %s is as large as without a policy." % (
                 line.number, self.read.name(line.site))
             if is_all:

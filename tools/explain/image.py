@@ -8,15 +8,16 @@ def goes(named, unit):
     if unit.target is not None:
         return "to %08x %s" % (unit.target, named.place(unit.target))
     if unit.kind == "gate":
-        return "class " + unit.label if unit.label in named.graph.classes else "no class (%s)" % unit.label
+        return named.graph.name(unit.label) if unit.label in named.graph.classes else "no class (%s)" % unit.label
     if unit.label is not None:
-        return "class %s: %s" % (unit.label, named.names(named.graph.classes.get(unit.label, [])))
+        word = ", by the second word" if unit.by_second else ""
+        return "%s%s: %s" % (named.graph.name(unit.label), word, named.names(named.graph.classes.get(unit.label, [])))
     return ""
 
 
 def lines(named, disassembly, words):
     """A line a unit, and a heading for each function and each label."""
-    place = None
+    place, leads = None, named.graph.leads()
     for unit in units.split(words, named.map.prologue):
         here = named.map.place(unit.address)
         if here is None:
@@ -25,9 +26,10 @@ def lines(named, disassembly, words):
         if here != place:
             yield from headings(named, here)
         place = here
-        shown = unit.kind in ("gate", "stop")
-        text = "" if shown else disassembly.text(here, named.read.word_at(here))
-        yield ("%08x  %-14s  %-28s %-34s %s" % (unit.address, unit.kind, named.read.name(here), text, goes(named, unit))).rstrip()
+        is_lead = unit.address in leads
+        text = "" if is_lead or unit.kind in ("gate", "stop") else disassembly.text(here, named.read.word_at(here))
+        kind = "no label" if is_lead and unit.kind == "plain" else unit.kind
+        yield ("%08x  %-14s  %-28s %-34s %s" % (unit.address, kind, named.read.name(here), text, goes(named, unit))).rstrip()
 
 
 def headings(named, place):

@@ -109,8 +109,8 @@ def of_handler(named, disassembly, handler, trail):
         handler, name_of(named, site), site, instruction(named, disassembly, site), CAUSES[handler])
     found = named.graph.site(site)
     if found:
-        yield "It is a computed %s of class %s, which may go to: %s." % (
-            found.kind, found.label, named.names(named.graph.classes.get(found.label, [])))
+        yield "It is a computed %s of %s, which may go to: %s." % (
+            found.kind, named.graph.name(found.label), named.names(named.graph.classes.get(found.label, [])))
     yield "The report tells no more: not the address that was refused, nor the calls that are pending."
 
 

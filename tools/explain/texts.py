@@ -19,7 +19,9 @@ class Prologue(NamedTuple):
     units: int
 
 
-PROLOGUES = {"rvcfi-map 1": Prologue(11, 0x40000038, 0x40000040), "rvcfi-map 2 harts": Prologue(15, 0x40000048, 0x40000050)}
+ONE, SEVERAL = Prologue(11, 0x40000038, 0x40000040), Prologue(15, 0x40000048, 0x40000050)
+PROLOGUES = {"rvcfi-map 1": ONE, "rvcfi-map 2 harts": SEVERAL, "rvcfi-map 2 split": ONE, "rvcfi-map 2 harts-split": SEVERAL}
+SORTS = {"class": "", "callclass": " of calls", "jumpclass": " of jumps"}
 
 
 def words_of(path, *heads):
@@ -38,13 +40,17 @@ class Site(NamedTuple):
 
 
 class Graph:
-    """Classes by their label, the sites, and the edges and calls as pairs of addresses."""
+    """Classes by their label, with the sort of each, the sites, and the edges and calls as pairs of addresses. In version 2 calls
+    and jumps have classes of their own, and two words lead a target."""
 
     def __init__(self, path):
-        self.classes, self.sites, self.edges, self.calls = {}, [], [], []
-        for first, *rest in words_of(path, "rvcfi-graph 1")[1]:
-            if first == "class":
+        self.classes, self.sorts, self.sites, self.edges, self.calls = {}, {}, [], [], []
+        head, lines = words_of(path, "rvcfi-graph 1", "rvcfi-graph 2")
+        self.is_split = head == "rvcfi-graph 2"
+        for first, *rest in lines:
+            if first in SORTS:
                 self.classes[rest[0]] = [int(word, 16) for word in rest[1:]]
+                self.sorts[rest[0]] = SORTS[first]
             elif first == "site":
                 self.sites.append(Site(int(rest[0], 16), rest[1], rest[2]))
             elif first in ("edge", "call"):
@@ -55,6 +61,15 @@ class Graph:
 
     def sites_of(self, label):
         return [site for site in self.sites if site.label == label]
+
+    def name(self, label):
+        """A class by its label, and in version 2 by what it serves."""
+        return "class %s%s" % (label, self.sorts.get(label, ""))
+
+    def leads(self):
+        """The addresses of the words that lead targets."""
+        targets = {target for targets in self.classes.values() for target in targets}
+        return targets | {target + 4 for target in targets} if self.is_split else targets
 
 
 class Map:

@@ -11,12 +11,14 @@ JUMP_BACK = 0x000F8067
 
 
 class Unit(NamedTuple):
-    """Where a unit starts, its kind, its count of words, and its direct target or its label, if any."""
+    """Where a unit starts, its kind, its count of words, its direct target or its label, if any, and whether its check reads the
+    second word of its destination."""
     address: int
     kind: str
     size: int
     target: object = None
     label: object = None
+    by_second: bool = False
 
 
 def jal_target(word, at):
@@ -61,9 +63,9 @@ def longer_unit(words, index, at, word, following):
     if following == SHIFT:
         return Unit(at, "store", 4)
     if following == MASK and index + 13 <= len(words):
-        label = "%05x" % (words[index + 8] >> 12)
-        jumps = words[index + 12] == JUMP_BACK
-        return Unit(at, "computed jump", 13, label=label) if jumps else Unit(at, "computed call", 20, label=label)
+        label, by_second = "%05x" % (words[index + 8] >> 12), words[index + 7] >> 20 == 4
+        kind, size = ("computed jump", 13) if words[index + 12] == JUMP_BACK else ("computed call", 20)
+        return Unit(at, kind, size, None, label, by_second)
     return Unit(at, "plain", 1)
 
 

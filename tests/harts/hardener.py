@@ -1,0 +1,454 @@
+#!/usr/bin/env python3
+"""Hardens compiled programs in each form, by docs/MACHINE.md, docs/FORMATS.md and the psABI alone, and compares the images, the
+graphs and the maps with those of `rvcfi harden`, byte for byte.
+
+    python3 tests/harts/hardener.py [--program PATH] [--levels=-O2,..]
+
+The programs are those of tests/real and bench/programs/states.c, by gcc and by clang, for rv64im and rv64i. Before that the small
+objects of forms.py, which writes their units down one by one, have to become what that says. The program is
+crates/rvcfi/out/rvcfi where none is named. It takes objects without a fault. Each that differs is told, and the status is 1 then.
+"""
+
+import argparse
+import os
+import struct
+import sys
+import tempfile
+from pathlib import Path
+from typing import NamedTuple
+
+sys.dont_write_bytecode = True
+HERE = Path(__file__).resolve().parent
+sys.path[:0] = [str(HERE.parents[1] / "bench"), str(HERE.parent / "real"), str(HERE.parent / "objects")]
+
+import make_pointers
+import make_vectors
+from forms import FORMS, ROWS, made
+from images import CODE, image_file
+from program import UNITS, Program
+from rules import branch_offset, jal_target
+
+PROGBITS, RELA, SYMTAB, NOTE, NOBITS = 1, 4, 2, 7, 8
+WRITE, ALLOC, EXECINSTR = 1, 2, 4
+FUNC, ABS, COMMON = 2, 0xFFF1, 0xFFF2
+ABS32, ABS64, BRANCH, JAL, CALL, CALL_PLT = 1, 2, 16, 17, 18, 19
+PCREL_HI20, PCREL_LO12_I, PCREL_LO12_S, HI20, LO12_I, LO12_S = 23, 24, 25, 26, 27, 28
+ADD8, SUB8, ADD32, ADD64 = 33, 37, 35, 36
+DATA = 0x10000
+NEAR = -4096, 4092
+SIZES = {"plain": 4, "jump": 4, "system": 4, "stop": 4, "store": 16, "call": 32, "ijump": 52, "icall": 80, "return": 20}
+
+
+class Section(NamedTuple):
+    name: str
+    type: int
+    flags: int
+    content: bytes
+    size: int
+    align: int
+
+
+class Symbol(NamedTuple):
+    name: str
+    type: int
+    section: int
+    value: int
+    size: int
+
+
+class Relocation(NamedTuple):
+    offset: int
+    kind: int
+    symbol: int
+    addend: int
+
+
+class Item(NamedTuple):
+    """An instruction's place, or the end of a section: the kind of its unit, its word, and its direct target's place."""
+    place: tuple
+    size: int
+    kind: str
+    word: int = 0
+    target: object = None
+
+
+def string(table, at):
+    return table[at:table.index(b"\0", at)].decode("latin-1")
+
+
+class Source:
+    """An object: its sections, symbols and relocations, and its instructions in order."""
+
+    def __init__(self, content):
+        start, = struct.unpack_from("<Q", content, 40)
+        count, names = struct.unpack_from("<HH", content, 60)
+        headers = [struct.unpack_from("<IIQQQQIIQQ", content, start + 64 * k) for k in range(count)]
+        parts = [b"" if row[1] == NOBITS else content[row[4]:row[4] + row[5]] for row in headers]
+        self.sections = [Section(string(parts[names], row[0]) if row[1] else "", row[1], row[2], part, row[5], max(row[8], 1))
+                         for row, part in zip(headers, parts)]
+        table = next(k for k, row in enumerate(headers) if row[1] == SYMTAB)
+        rows = struct.iter_unpack("<IBBHQQ", parts[table])
+        self.symbols = [Symbol(string(parts[headers[table][6]], row[0]), row[1] & 15, *row[3:]) for row in rows]
+        self.relocations = {k: [] for k in range(count)}
+        for row, part in zip(headers, parts):
+            if row[1] == RELA and self.is_kept(row[7]):
+                self.relocations[row[7]] = [Relocation(at, info & 0xFFFFFFFF, info >> 32, addend)
+                                            for at, info, addend in struct.iter_unpack("<QQq", part)]
+        self.at = {(k, row.offset): row for k, rows in self.relocations.items() if self.is_code(k)
+                   for row in reversed(rows) if row.kind not in (0, 43, 51)}
+        self.items = [item for k in range(count) if self.is_code(k) for item in self.items_of(k)]
+        self.index = {item.place: k for k, item in enumerate(self.items)}
+
+    def is_kept(self, k):
+        section = self.sections[k]
+        return bool(section.flags & ALLOC) and section.type != NOTE and section.name != ".eh_frame"
+
+    def is_code(self, k):
+        return self.is_kept(k) and bool(self.sections[k].flags & EXECINSTR)
+
+    def names_place(self, row):
+        """The place of code that a relocation names, if it names one."""
+        symbol = self.symbols[row.symbol]
+        is_code = symbol.section < len(self.sections) and self.is_code(symbol.section)
+        return (symbol.section, symbol.value + row.addend) if is_code else None
+
+    def items_of(self, k):
+        words = [word for word, in struct.iter_unpack("<I", self.sections[k].content)]
+        pairs = {4 * at for at in range(len(words)) if self.kind_at(k, 4 * at) in (CALL, CALL_PLT)}
+        for at, word in enumerate(words):
+            if 4 * at - 4 not in pairs:
+                is_pair = 4 * at in pairs
+                yield self.item(k, 4 * at, 8 if is_pair else 4, words[at + 1] if is_pair else word, is_pair)
+        yield Item((k, 4 * len(words)), 0, "stop")
+
+    def kind_at(self, k, offset):
+        return self.at[k, offset].kind if (k, offset) in self.at else None
+
+    def item(self, k, offset, size, word, is_pair):
+        place, opcode, rd, rs1 = (k, offset), word & 127, word >> 7 & 31, word >> 15 & 31
+        named = self.names_place(self.at[place]) if place in self.at else None
+        if is_pair:
+            return Item(place, size, "call" if rd == 1 else "jump", word, named)
+        if opcode == 0x63:
+            return Item(place, size, "branch", word, named or (k, offset + branch_offset(word)))
+        if opcode == 0x6F:
+            own = jal_target(word, offset, rd)
+            return Item(place, size, "call" if rd == 1 else "jump", word, named or (k, own))
+        if opcode == 0x67:
+            return Item(place, size, "icall" if rd == 1 else "return" if rs1 == 1 else "ijump", word)
+        return Item(place, size, {0x23: "store", 0x73: "system"}.get(opcode, "plain"), word)
+
+
+class Flow:
+    """Where the computed transfers of an object may go, by the indices of places, and the labels of what is joined."""
+
+    def __init__(self, source, apart, policy):
+        self.source, self.listed, items = source, dict(self.lines_of(source, policy)), source.items
+        self.sites = [k for k, item in enumerate(items) if item.kind in ("icall", "ijump")]
+        self.taken = set(self.taken_places())
+        self.functions = [row for row in source.symbols if row.type == FUNC and (row.section, row.value) in source.index]
+        sorts = [["icall"], ["ijump"]] if apart else [["icall", "ijump"]]
+        used = {item.word >> 12 for item in items if item.word & 0xFFF == 0x37}
+        free = (label for label in range(1, 1 << 20) if label not in used)
+        self.label, self.leads = {}, []
+        for kinds in sorts:
+            self.close([site for site in self.sites if items[site].kind in kinds], free)
+
+    @staticmethod
+    def lines_of(source, policy):
+        """The site of each line of a policy and its targets."""
+        for line in policy.split("\n")[1:-2]:
+            places = []
+            for word in line.split(" ")[1:]:
+                name, offset = word.rsplit("+", 1)
+                symbol = next(row for row in source.symbols if row.name == name)
+                places.append(source.index[symbol.section, symbol.value + int(offset, 16)])
+            yield places[0], set(places[1:])
+
+    def taken_places(self):
+        source = self.source
+        for k, rows in source.relocations.items():
+            kinds = (PCREL_HI20, HI20) if source.is_code(k) else (ABS32, ABS64, ADD32, ADD64)
+            for row in rows:
+                place = source.names_place(row) if source.is_kept(k) and row.kind in kinds else None
+                if place in source.index and source.items[source.index[place]].kind != "stop":
+                    yield source.index[place]
+
+    def targets(self, site):
+        if site in self.listed:
+            return self.listed[site]
+        place, kind = self.source.items[site].place, self.source.items[site].kind
+        starts = {self.source.index[row.section, row.value] for row in self.functions}
+        found = self.taken & starts
+        for row in self.functions if kind == "ijump" else []:
+            if row.section == place[0] and row.value <= place[1] < row.value + row.size:
+                found |= {k for k in self.taken if self.source.items[k].place[0] == row.section
+                          and row.value <= self.source.items[k].place[1] < row.value + row.size}
+        return found
+
+    def close(self, sites, free):
+        """The classes of some sites, their labels, and which label leads which target."""
+        sets, classes = {site: self.targets(site) for site in sites}, []
+        for targets in sets.values():
+            if targets:
+                joined = [other for other in classes if other & targets]
+                classes = [other for other in classes if not other & targets] + [targets.union(*joined)]
+        labels = [(next(free), sorted(each)) for each in sorted(classes, key=min)]
+        lead = {target: label for label, each in labels for target in each}
+        self.label.update({site: lead[min(targets)] if targets else next(free) for site, targets in sorted(sets.items())})
+        self.leads.append(lead)
+
+    def is_target(self, k):
+        return any(k in lead for lead in self.leads)
+
+
+class Layout:
+    """The gates and the words of places, with as many short branches as there can be."""
+
+    def __init__(self, source, flow, first):
+        self.source, self.flow, self.first, items = source, flow, first, source.items
+        self.targets = [source.index[item.target] if item.target else None for item in items]
+        branches = [k for k, item in enumerate(items) if item.kind == "branch"]
+        self.long = {k for k in branches if self.is_kept(k)}
+        self.place()
+        while True:
+            far = {k for k in branches if k not in self.long and not NEAR[0] <= self.gates[self.targets[k]] - self.words[k] <= NEAR[1]}
+            if not far:
+                return
+            self.long |= far
+            self.place()
+
+    def is_kept(self, k):
+        """Whether a branch over one word is read as two words because that word is a jump."""
+        over = self.source.items[k + 1].kind
+        return self.targets[k] == k + 2 and (over == "stop" or over == "jump" and not self.flow.is_target(k + 1))
+
+    def place(self):
+        self.gates, self.words, at = [], [], self.first
+        for k, item in enumerate(self.source.items):
+            self.gates.append(at)
+            at += 4 * len(self.flow.leads) if self.flow.is_target(k) else 0
+            self.words.append(at)
+            at += (8 if k in self.long else 4) if item.kind == "branch" else SIZES[item.kind]
+
+
+def low(value):
+    return (value & 0xFFF) - ((value & 0x800) << 1)
+
+
+def high(value):
+    return (value - low(value) >> 12) & 0xFFFFF
+
+
+class Hardening:
+    """What an object becomes in a form: its image, its graph and its map."""
+
+    def __init__(self, content, entry, form, policy=""):
+        self.source = Source(content)
+        self.form = FORMS[form]
+        self.flow = Flow(self.source, self.form.graph == 2, policy)
+        self.layout = Layout(self.source, self.flow, UNITS[self.form.image])
+        self.data, self.places = self.data_places()
+        self.program = Program(self.form.image, self.form.graph)
+        self.write_units()
+        first = next(row for row in self.source.symbols if row.name == entry)
+        start = self.layout.gates[self.source.index[first.section, first.value]]
+        self.built = self.program.built(start, self.patched_data())
+        self.image, self.graph = image_file(self.built.code, self.built.data, self.form.image), self.built.graph
+        self.map = self.map_text().encode()
+
+    def data_places(self):
+        """The address of each section of data, and where initialised data end; and the addresses of common symbols."""
+        source, at, found = self.source, DATA, {}
+        kept = [k for k in range(len(source.sections)) if source.is_kept(k) and not source.is_code(k)]
+        initialised = DATA
+        for is_zeroed in (False, True):
+            for k in kept:
+                section = source.sections[k]
+                if (section.type == NOBITS) == is_zeroed:
+                    found[k] = at = -(-at // section.align) * section.align
+                    at += section.size
+                    initialised = initialised if is_zeroed else at
+        for number, symbol in enumerate(source.symbols):
+            if symbol.section == COMMON:
+                found["common", number] = at = -(-at // max(symbol.value, 1)) * max(symbol.value, 1)
+                at += symbol.size
+        return initialised - DATA, found
+
+    def value(self, row):
+        """What a relocation refers to."""
+        symbol, place = self.source.symbols[row.symbol], self.source.names_place(row)
+        if place is not None:
+            return self.layout.gates[self.source.index[place]]
+        if row.symbol == 0:
+            return row.addend
+        if symbol.section == ABS:
+            return symbol.value + row.addend
+        if symbol.section == COMMON:
+            return self.places["common", row.symbol] + row.addend
+        return self.places[symbol.section] + symbol.value + row.addend
+
+    def patched(self, k, item):
+        """An instruction's word with its relocation."""
+        row = self.source.at.get(item.place)
+        word = item.word
+        if row is None or row.kind in (BRANCH, JAL, CALL, CALL_PLT):
+            return word
+        if row.kind in (HI20, PCREL_HI20):
+            value = self.value(row) - (self.layout.words[k] if row.kind == PCREL_HI20 else 0)
+            return word & 0xFFF | high(value) << 12
+        imm = low(self.value(row)) if row.kind in (LO12_I, LO12_S) else low(self.distance(row))
+        if row.kind in (LO12_I, PCREL_LO12_I):
+            return word & 0xFFFFF | (imm & 0xFFF) << 20
+        return word & 0x1FFF07F | (imm & 31) << 7 | (imm >> 5 & 127) << 25
+
+    def distance(self, row):
+        """The distance of the AUIPC that a relocation's symbol labels."""
+        place = self.source.names_place(row)
+        return self.value(self.source.at[place]) - self.layout.words[self.source.index[place]]
+
+    def write_units(self):
+        program, source = self.program, self.source
+        for site in self.flow.sites:
+            if not self.flow.targets(site):
+                kind = {"icall": "call", "ijump": "jump"}[source.items[site].kind]
+                program.listed(kind + "class" if self.form.graph == 2 else "class", self.flow.label[site])
+        for k, item in enumerate(source.items):
+            assert program.at == self.layout.gates[k]
+            if self.flow.is_target(k):
+                labels = [lead.get(k) for lead in self.flow.leads]
+                if self.form.graph == 2:
+                    program.target(*labels)
+                else:
+                    program.gate(labels[0])
+            self.write_unit(k, item, self.patched(k, item))
+
+    def write_unit(self, k, item, word):
+        program, target = self.program, self.layout.targets[k]
+        to = self.layout.gates[target] if target is not None else None
+        rs1, rs2, funct3, imm = word >> 15 & 31, word >> 20 & 31, word >> 12 & 7, low(word >> 20)
+        if item.kind == "branch":
+            put = program.branch if k in self.layout.long else program.near
+            put(funct3 ^ 1 if k in self.layout.long else funct3, rs1, rs2, to)
+        elif item.kind in ("jump", "call"):
+            getattr(program, item.kind)(to)
+        elif item.kind in ("ijump", "icall"):
+            getattr(program, item.kind)(rs1, imm, self.flow.label[k])
+        elif item.kind == "store":
+            program.store(funct3, rs2, low(word >> 25 << 5 | word >> 7 & 31), rs1)
+        elif item.kind == "return":
+            program.returns()
+        elif item.kind == "stop":
+            program.stop()
+        else:
+            program.plain(word)
+
+    def patched_data(self):
+        data = bytearray(self.data)
+        for k, at in self.places.items():
+            section = self.source.sections[k] if isinstance(k, int) else None
+            if section and section.type == PROGBITS:
+                data[at - DATA:at - DATA + section.size] = section.content
+                for row in self.source.relocations[k]:
+                    self.patch_data(data, at - DATA + row.offset, row)
+        return bytes(data)
+
+    def patch_data(self, data, at, row):
+        if row.kind == 0:
+            return
+        width = {ABS32: 4, ABS64: 8}.get(row.kind) or 1 << (row.kind - ADD8) % 4
+        before = int.from_bytes(data[at:at + width], "little")
+        sign = 0 if row.kind in (ABS32, ABS64) else 1 if row.kind < SUB8 else -1
+        value = self.value(row) if not sign else before + sign * self.value(row)
+        data[at:at + width] = (value % (1 << 8 * width)).to_bytes(width, "little")
+
+    def map_text(self):
+        lines = ["at %08x %04x %08x" % (gate, *item.place) for gate, item in zip(self.layout.gates, self.source.items)]
+        return "\n".join([self.form.map, *lines, "end", ""])
+
+    def told(self):
+        """What `rvcfi harden` puts of it."""
+        classes = sum(line.split(b" ")[0].endswith(b"class") for line in self.graph.split(b"\n"))
+        return b"rewritten code %d data %d classes %d sites %d\n" % (len(self.built.code), self.data, classes, len(self.flow.sites))
+
+
+SMALL = {"Returning": make_vectors.B, "Calling": make_vectors.P, "Writing": make_vectors.H, "Recursive": make_vectors.R,
+         "Jumping": make_pointers.Q, "Apart": make_pointers.APART, "Sorts": make_pointers.SORTS, "Switching": make_pointers.TABLE}
+
+
+def small_object(row):
+    """The object of a row of forms.py with its change; that with other code returns where it has its own."""
+    source, offset, digits = row.object.split(", ")
+    change = bytes.fromhex(digits[2:-1])
+    if source == "Coded":
+        content, section = SMALL["Returning"].file(), 216
+        return content[:section] + struct.pack("<QQ", len(content), len(change)) + content[section + 16:] + change
+    content = SMALL[source].file()
+    return content[:int(offset)] + change + content[int(offset) + len(change):]
+
+
+def is_small(row, form):
+    """Whether a small object becomes what is written down."""
+    policy = "rvcfi-policy 1\n%send\n" % row.policy if row.policy else ""
+    got, wanted = Hardening(small_object(row), row.entry, form, policy), made(row, FORMS[form])
+    code = got.built.words[:(wanted.call[0]) // 4 + 1][-1:] + got.built.words[(UNITS[got.form.image] - CODE) // 4:]
+    return (code, got.built.data, got.graph.decode(), got.map.decode()) == (
+        [wanted.call[1]] + wanted.words, wanted.data, wanted.graph, wanted.map)
+
+
+def differences(tool, path, entry, folder):
+    """The forms in which the program makes something else of an object, and what."""
+    import programs
+    content = Path(path).read_bytes()
+    for form in FORMS:
+        files = [os.path.join(folder, name) for name in ("image", "graph", "map")]
+        done = programs.run([tool, "harden", form, path, entry, "none", *files])
+        made = Hardening(content, entry, form)
+        got = [done.stdout] + [Path(file).read_bytes() if os.path.exists(file) else b"" for file in files]
+        for name, one, other in zip(("text", "image", "graph", "map"), got, (made.told(), made.image, made.graph, made.map)):
+            if one != other:
+                yield "%s: the %s" % (form, name)
+
+
+def objects(levels, folder):
+    """The compiled programs."""
+    import programs
+    from split import STATES, states_object
+    for make in (programs.gcc, programs.clang):
+        for processor in programs.PROCESSORS:
+            try:
+                compiler = make(processor)
+            except programs.Missing as what:
+                print("not compared, since there is no %s: the programs of %s" % (what, make.__name__))
+                continue
+            for level in levels:
+                for program in programs.PROGRAMS:
+                    yield programs.joined(compiler, level, program, folder)
+                if processor == "rv64im":
+                    yield states_object(compiler, level, folder)
+
+
+def main():
+    words = argparse.ArgumentParser(description=__doc__, formatter_class=argparse.RawDescriptionHelpFormatter)
+    words.add_argument("--program", default=str(HERE.parents[1] / "crates" / "rvcfi" / "out" / "rvcfi"))
+    words.add_argument("--levels", default="-O0,-O1,-O2,-O3,-Os", help="with =, as --levels=-O2,-Os")
+    options = words.parse_args()
+    small = [(row, form) for row in ROWS for form in FORMS]
+    strange = ["%s in %s" % (row.name, form) for row, form in small if not is_small(row, form)]
+    told = "".join(", not " + each for each in strange)
+    print("%d of %d small ones are as written down%s" % (len(small) - len(strange), len(small), told))
+    if not os.access(options.program, os.X_OK):
+        sys.exit("%s is not there: cd crates/rvcfi && rt run -- verify data/a.img data/a.graph" % options.program)
+    count, wrong = 0, len(strange)
+    with tempfile.TemporaryDirectory() as folder:
+        for path in objects(options.levels.split(","), folder):
+            found = list(differences(os.path.abspath(options.program), path, "_start", folder))
+            count, wrong = count + 1, wrong + bool(found)
+            for line in found:
+                print("%s differs, %s" % (os.path.basename(path), line))
+    print("%d objects in %d forms, %d of them differ" % (count, len(FORMS), wrong))
+    return 1 if wrong else 0
+
+
+if __name__ == "__main__":
+    sys.exit(main())

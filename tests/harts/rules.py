@@ -1,0 +1,213 @@
+"""Which of the ten rules an image and a graph meet, by docs/MACHINE.md and docs/FORMATS.md alone: the graph's text is right.
+
+The split looks at one word after another, and each rule at one address after another, as the tables of these pages have them.
+"""
+
+from machine import CODE, IMMEDIATE, REGISTER, WORD, field, signed
+from program import (CLOSING, EBREAK, ECALL, HANDLERS, OPENING, UNITS, addi, branch, check, i_form, jal, prologue, push,
+                     s_form)
+
+STOP, GATE = "stop", "gate"
+KEPT = (3, 4, 30, 31)  # registers that no plain instruction writes
+
+
+def jal_target(word, at, rd):
+    """Where `jal rd` at an address leads, or None."""
+    if word is None or word & 0xFFF != 0x6F | rd << 7:
+        return None
+    offset = field(word, 31, 1, 20) | field(word, 12, 8, 12) | field(word, 20, 1, 11) | field(word, 21, 10, 1)
+    return at + signed(offset, 21)
+
+
+def branch_offset(word):
+    """The offset of a branch, or None."""
+    if word & 127 != 0x63 or word >> 12 & 7 in (2, 3):
+        return None
+    return signed(field(word, 31, 1, 12) | field(word, 7, 1, 11) | field(word, 25, 6, 5) | field(word, 8, 4, 1), 13)
+
+
+def is_plain(word):
+    opcode, rd, funct3, top = word & 127, word >> 7 & 31, word >> 12 & 7, word >> 25
+    if opcode == 0x0F:
+        return funct3 == 0
+    if rd in KEPT:
+        return False
+    return ((opcode == 0x37 and rd != 0) or opcode == 0x17 or (opcode == 0x03 and funct3 != 7)
+            or (opcode == 0x13 and (funct3 in IMMEDIATE or (funct3, word >> 26) in ((1, 0), (5, 0), (5, 16))))
+            or (opcode == 0x1B and (funct3 == 0 or (top, funct3) in ((0, 1), (0, 5), (32, 5))))
+            or (opcode == 0x33 and (top, funct3) in REGISTER) or (opcode == 0x3B and (top, funct3) in WORD))
+
+
+def computed(words, at):
+    """A computed transfer, by its kind, the label that it asks for and how far behind its destination its check reads."""
+    if len(words) < 13 or words[8] & 0xFFF != 0x37 | 4 << 7:
+        return None
+    rs1, imm, label = words[0] >> 15 & 31, words[0] >> 20, words[8] >> 12
+    for past, kind, rest in (0, "jump", []), (4, "jump", []), (0, "call", push(at + 48)):
+        whole = check(at, rs1, imm, label, past) + rest + [i_form(0x67, 0, 1 if rest else 0, 31, 0)]
+        if words[:len(whole)] == whole:
+            return kind, (label, past), len(whole)
+    return None
+
+
+def stored(words):
+    """Whether a store begins here."""
+    if len(words) < 4 or words[3] & 127 != 0x23 or words[3] >> 12 & 7 > 3:
+        return False
+    funct3, rs2 = words[3] >> 12 & 7, words[3] >> 20 & 31
+    first = addi(31, words[0] >> 15 & 31, words[0] >> 20)
+    return words[:4] == [first, i_form(0x13, 1, 31, 31, 36), i_form(0x13, 5, 31, 31, 36), s_form(funct3, 31, rs2, 0)]
+
+
+def unit(words, at):
+    """The unit that begins at an address: its kind, what it asks for or where it leads, and how many words it has; or None."""
+    first = words[0]
+    if first & 0xFFF == 0x37:
+        return GATE, first >> 12, 1
+    if is_plain(first):
+        return "plain", None, 1
+    if first in (ECALL, EBREAK):
+        return "system", None, 1
+    to = jal_target(first, at, 0)
+    if to is not None:
+        return (STOP, None, 1) if to == CODE else ("edge", to, 1)
+    offset = branch_offset(first)
+    if offset is not None:
+        to = jal_target(words[1] if len(words) > 1 else None, at + 4, 0)
+        return ("edge", to, 2) if offset == 8 and to is not None else ("edge", at + offset, 1)
+    to = jal_target(words[7], at + 28, 1) if len(words) > 7 else None
+    if to is not None and words[:7] == push(at):
+        return "direct", to, 8
+    returns = [i_form(0x03, 3, 31, 3, -8), addi(3, 3, -8), branch(0, 31, 1, 8), jal(0, at + 12, CODE + 4), i_form(0x67, 0, 0, 31, 0)]
+    if words[:5] == returns:
+        return "return", None, 5
+    return ("store", None, 4) if stored(words) else computed(words, at)
+
+
+class Lines:
+    """A graph by its lines."""
+
+    def __init__(self, text):
+        lines = [line.split() for line in text.decode().split("\n")[:-2]]
+        self.version, self.code = int(lines[0][1]), int(lines[1][2], 16)
+        self.classes, self.lines = {}, {}
+        for words in lines[2:]:
+            if words[0].endswith("class"):
+                self.classes[int(words[1], 16)] = words[0], [int(word, 16) for word in words[2:]]
+            else:
+                self.lines[int(words[1], 16)] = words
+
+    def is_line(self, at, name, to):
+        """Whether the line at an address is an edge or a call to a target."""
+        return self.lines.get(at) == [name, "%08x" % at, "%08x" % to]
+
+    def serves(self, kind, label):
+        """Whether a class with a label is one that sites of a kind ask for."""
+        return label in self.classes and self.classes[label][0] in ("class", kind + "class")
+
+
+class Pair:
+    """An image's words, their version and a graph."""
+
+    def __init__(self, version, words, text):
+        self.version, self.words, self.graph = version, words, Lines(text)
+        self.end = CODE + 4 * len(words)
+        self.units, self.last, self.unfit = {}, None, None
+
+    def split(self):
+        """Cuts the words into units, up to the first place where none fits."""
+        at, read = UNITS[self.version], 4 if self.graph.version == 2 else 0
+        while at < self.end:
+            found = unit(self.words[(at - CODE) // 4:], at)
+            if not found or (found[0] == "jump" and found[1][1] != read):
+                self.unfit = at
+                return
+            self.units[at] = found
+            self.last, at = at, at + 4 * found[2]
+
+    def opened(self):
+        """Where the opening leads."""
+        at = UNITS[self.version] - 12
+        return jal_target(self.words[(at - CODE) // 4], at, 1)
+
+    def prologue(self):
+        """The first word of the prologue that is missing or another one."""
+        call, wanted = UNITS[self.version] - 12, prologue(UNITS[self.version], self.version)
+        for k, word in enumerate(wanted):
+            at, own = CODE + 4 * k, self.words[k] if k < len(self.words) else None
+            if (jal_target(own, at, 1) is None) if at == call else own != word:
+                return at
+        return None
+
+    def leads(self):
+        """Each direct transfer: where it starts, the name of its line, its target."""
+        for at, (kind, to, _) in self.units.items():
+            if kind in ("edge", "direct"):
+                yield at, "edge" if kind == "edge" else "call", to
+        yield OPENING, "call", self.opened()
+
+    def wrong_sites(self):
+        asked = {at: (kind, to[0]) for at, (kind, to, _) in self.units.items() if kind in ("jump", "call")}
+        for at, (kind, label) in asked.items():
+            if self.graph.lines.get(at) != ["site", "%08x" % at, kind, "%05x" % label] or not self.graph.serves(kind, label):
+                yield at
+        yield from (at for at, words in self.graph.lines.items() if words[0] == "site" and at not in asked)
+
+    def bears(self, at, label):
+        return at in self.units and self.units[at][:2] == (GATE, label)
+
+    def lacking(self):
+        """Targets that are no gate of their class."""
+        for label, (sort, targets) in self.graph.classes.items():
+            for at in targets:
+                if sort == "jumpclass" and not (at in self.units and self.bears(at + 4, label)):
+                    yield at
+                elif sort != "jumpclass" and not self.bears(at, label):
+                    yield at
+
+    def astray(self):
+        """Gates of a class's label that no target has."""
+        for at, (kind, label, _) in self.units.items():
+            if kind == GATE and label in self.graph.classes:
+                sort, targets = self.graph.classes[label]
+                if (at - 4 if sort == "jumpclass" else at) not in targets:
+                    yield at
+
+    def failing(self):
+        """The rules after Prologue and Unit in their order, each with the addresses at which it fails."""
+        leads = list(self.leads())
+        yield "Target", [at for at, _, to in leads if to not in self.units]
+        yield "Unlisted", [at for at, name, to in leads if not self.graph.is_line(at, name, to)]
+        started = {(at, name) for at, name, _ in leads}
+        yield "Unused", [at for at, words in self.graph.lines.items() if words[0] != "site" and (at, words[0]) not in started]
+        yield "Site", list(self.wrong_sites())
+        yield "Gate", list(self.lacking())
+        yield "Astray", list(self.astray())
+        ends = self.last is not None and self.units[self.last][0] == STOP
+        yield "End", [] if ends else [self.last or UNITS[self.version]]
+
+    def verdict(self):
+        """The text that `rvcfi verify` puts."""
+        if 4 * len(self.words) != self.graph.code:
+            return "rejected Length %d %d" % (4 * len(self.words), self.graph.code)
+        at = self.prologue()
+        if at is not None:
+            return "rejected Prologue %08x" % at
+        self.split()
+        if self.unfit is not None:
+            return "rejected Unit %08x" % self.unfit
+        for rule, addresses in self.failing():
+            if addresses:
+                return "rejected %s %08x" % (rule, min(addresses))
+        return "accepted"
+
+
+def verdict(version, words, graph):
+    return Pair(version, words, graph).verdict()
+
+
+def starts(version, words, graph):
+    """Where something starts in an accepted pair."""
+    pair = Pair(version, words, graph)
+    pair.split()
+    return set(pair.units) | set(HANDLERS) | {OPENING, CLOSING[version]}

@@ -1,0 +1,23 @@
+# The same where one class serves calls and jumps.
+        .include "units.inc"
+        .globl  _start
+_start: addi    x2, x2, -16
+        store   sd, x1, 8, x2
+        lui     x5, 0x10
+        ld      x5, 0(x5)
+        icall   x5, 0, 1
+        ld      x1, 8(x2)
+        addi    x2, x2, 16
+        lui     x5, 0x10
+        ld      x5, 8(x5)
+        ijump   x5, 0, 1
+called: gate    1
+        addi    x10, x10, 1
+        return
+jumped: gate    1
+        addi    x10, x10, 2
+        return
+both:   gate    1
+        addi    x10, x10, 4
+        return
+        stop
