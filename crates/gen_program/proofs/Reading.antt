@@ -13,21 +13,20 @@ use Rattle.elf_writer.specs.Holds.{AreRelocations, Holds, IsSection}
 use Rattle.obj_input.specs.declared.parts.Sort.TheVariants.{Code, Data, Dropped}
 use Rattle.obj_input.specs.Input.{SectionParts, no_section, section_count, section_of}
 use Rattle.obj_input.specs.Kinds.{is_table_high, kind_of}
+use Rattle.obj_join.specs.Joined.{own_input}
+use Rattle.obj_join.specs.SaidInput.{input_by}
+use Rattle.obj_join.specs.Stands.{definition}
 use Rattle.obj_said.specs.Sections.{sort_of}
-use Rattle.obj_items.specs.Definitions.{definition}
-use Rattle.obj_items.specs.Addressed.{table_of}
-use Rattle.obj_items.specs.Sections.{section_in, use_of as read_use, uses_of}
-use Rattle.obj_items.specs.Uses.{reloc_at, reloc_count}
 use Rattle.obj_items.specs.FromObject.{input_of}
-use Rattle.obj_items.proofs.Behind.{section_is as read_section, section_number}
-use Rattle.obj_items.proofs.Plain.{none_behind}
+use Rattle.obj_items.proofs.Behind.{numbers, own_section, section_is as read_section, section_number, table}
+use Rattle.obj_items.proofs.Plain.{none_behind, reloc_at, reloc_count}
 use Rattle.cfi_gen.specs.declared.function.Function.{Function}
 use Rattle.cfi_gen.specs.Lines.{code_bytes, code_size, relocs_from}
 use Rattle.cfi_gen.specs.Code.{function_lines, program_lines}
 use Rattle.cfi_gen.specs.Demo.{data_part, data_relocs, function_symbols, parts_with, table_bytes, table_relocs, text_part, text_relocs}
 use Rattle.gen_program.specs.Generated.{IsGenerated, symbol_definition, symbols_of, table_section, text_section, use_of}
-use Rattle.gen_program.proofs.Symbols.{IsKeptSection, definition_is, definition_zero, names_are, no_blocks}
-use Rattle.gen_program.proofs.Sections.{content_there, dropped_sort, dropped_uses, plain_at, section_is, uses_are}
+use Rattle.gen_program.proofs.Symbols.{IsKeptSection, definition_is, definition_zero, names_are, no_blocks, symbols_in}
+use Rattle.gen_program.proofs.Sections.{content_there, dropped_sort, dropped_uses, plain_at, read_use, read_uses, section_is, uses_are}
 use Rattle.gen_program.proofs.Untabled.{table_plain, text_plain}
 
 -- the functions' symbols stand in section 1
@@ -72,8 +71,8 @@ module _ (fs : List Function) (file : List ℕ) (holds : Holds (parts_with fs) f
     | inr table ↦ subst (λ s. IsKeptSection file s) (sym table) in_data
   ]
 
-  definition_there : (n : ℕ) → n < symbol_count file → definition file n ≡ symbol_definition fs n
-  definition_there zero below = definition_zero file
+  definition_there : (n : ℕ) → n < symbol_count file → definition (numbers file) (symbols_in file) n ≡ symbol_definition fs n
+  definition_there zero below = definition_zero (parts_with fs) file holds
   definition_there (suc k) below =
       let count = holds.symbol_count_is in
       definition_is (parts_with fs) file holds within k (omega arith)
@@ -110,13 +109,13 @@ module _ (fs : List Function) (file : List ℕ) (holds : Holds (parts_with fs) f
     ]
   ]
 
-  no_table : table_of file ≡ []
+  no_table : table file ≡ []
   no_table = none_behind file (record { plain = plain_uses })
 
   sections_counted : section_count (input_of file) ≡ 8
   sections_counted = section_number file ∙ ap (λ (ss : List SectionParts). e_shnum file + length ss) no_table ∙ (let n = count in omega arith)
 
-  section_at : (k : ℕ) → k < 8 → section_of (input_of file) k ≡ section_in file k
+  section_at : (k : ℕ) → k < 8 → section_of (input_of file) k ≡ own_section file k
   section_at k below = read_section file k (let n = count in omega arith)
 
   no_more : (k : ℕ) → 8 ≤ k → section_of (input_of file) k ≡ no_section
@@ -129,12 +128,12 @@ module _ (fs : List Function) (file : List ℕ) (holds : Holds (parts_with fs) f
   text_content : content file (section_header file 1) ≡ code_bytes (program_lines fs)
   text_content = sym (content_there file 1 (let n = count in omega arith)) ∙ text_there.bytes refl
 
-  text_uses : uses_of file 1 ≡ map (use_of fs) (text_relocs fs).entries
+  text_uses : read_uses file 1 ≡ map (use_of fs) (text_relocs fs).entries
   text_uses =
       uses_are file 1 (text_relocs fs) (use_of fs) holds.sound (let n = count in omega arith) text_relocated use_there (text_plain fs)
 
-  text_is : section_in file 1 ≡ text_section fs
-  text_is = section_is (section_in file 1) (text_section fs) text_sort text_there.size text_there.align text_content text_uses
+  text_is : own_section file 1 ≡ text_section fs
+  text_is = section_is (own_section file 1) (text_section fs) text_sort text_there.size text_there.align text_content text_uses
 
   -- the table
   data_sort : sort_of file 2 ≡ Data
@@ -143,12 +142,12 @@ module _ (fs : List Function) (file : List ℕ) (holds : Holds (parts_with fs) f
   data_content : content file (section_header file 2) ≡ table_bytes
   data_content = sym (content_there file 2 (let n = count in omega arith)) ∙ data_there.bytes refl
 
-  data_uses : uses_of file 2 ≡ map (use_of fs) data_relocs.entries
+  data_uses : read_uses file 2 ≡ map (use_of fs) data_relocs.entries
   data_uses =
       uses_are file 2 data_relocs (use_of fs) holds.sound (let n = count in omega arith) data_relocated use_there (table_plain 2000 0)
 
-  table_is : section_in file 2 ≡ table_section fs
-  table_is = section_is (section_in file 2) (table_section fs) data_sort data_there.size data_there.align data_content data_uses
+  table_is : own_section file 2 ≡ table_section fs
+  table_is = section_is (own_section file 2) (table_section fs) data_sort data_there.size data_there.align data_content data_uses
 
   -- the other sections
   dropped : (k : ℕ) → k ≢ 1 → k ≢ 2 → (section_of (input_of file) k).sort ≡ Dropped
@@ -165,7 +164,7 @@ module _ (fs : List Function) (file : List ℕ) (holds : Holds (parts_with fs) f
 
   -- a file that holds the parts of these functions is read as the generated input
   pub generated_is : IsGenerated fs (input_of file)
-  unfolding input_of
+  unfolding input_of own_input input_by
   generated_is = record {
     count = sections_counted;
     text = section_at 1 (omega arith) ∙ text_is;

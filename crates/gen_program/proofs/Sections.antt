@@ -18,9 +18,11 @@ use Rattle.obj_input.specs.declared.parts.Relocation.{Relocation}
 use Rattle.obj_input.specs.Input.{SectionParts}
 use Rattle.obj_input.specs.Listed.{listed}
 use Rattle.obj_input.specs.Kinds.{is_table_high, kind_of}
-use Rattle.obj_said.specs.Sections.{sort_of}
-use Rattle.obj_items.specs.Sections.{use_at, use_of, uses_of}
-use Rattle.gen_program.proofs.Listings.{listed_map}
+use Rattle.obj_join.specs.SaidInput as joined
+use Rattle.obj_said.specs.SaidOf.{said_of}
+use Rattle.obj_said.specs.Sections.{sort_of, use_said, use_said_at, uses_said}
+use Rattle.obj_items.proofs.Behind.{numbers}
+use Rattle.gen_program.proofs.Listings.{listed_map, map_listed}
 use Rattle.gen_program.proofs.Untabled.{is_plain, plain_in}
 
 pub content_there : (file : List ℕ) (k : ℕ) → k < e_shnum file → section_bytes file k ≡ content file (section_header file k)
@@ -32,13 +34,24 @@ pub plain_at : (file : List ℕ) (k : ℕ) (r : RelocationsPart) → AreRelocati
     → is_table_high (kind_of (relocation_in (relocation_bytes file k) j).kind) ≡ false
 plain_at file k r are plain j inside = ap (λ (x : Reloc). is_table_high (kind_of x.kind)) (are.each j inside) ∙ plain_in r.entries plain j no_reloc inside
 
+-- a relocation with what its symbol stands for
+abbrev pub read_use : List ℕ → Reloc → Relocation
+read_use file r = joined.use_of (numbers file) (said_of file) (use_said r)
+
+abbrev pub read_uses : List ℕ → ℕ → List Relocation
+read_uses file k = map (joined.use_of (numbers file) (said_of file)) (uses_said file k)
+
+abbrev read_at : List ℕ → ℕ → ℕ → Relocation
+read_at file k j = read_use file (relocation_in (relocation_bytes file k) j)
+
 -- the relocations of a section, by what each is for a symbol that is there
 pub uses_are : (file : List ℕ) (k : ℕ) (r : RelocationsPart) (use_for : Reloc → Relocation) → fault_of file ≡ None → k < e_shnum file → AreRelocations file k r
-    → ((x : Reloc) → x.symbol < symbol_count file → is_table_high (kind_of x.kind) ≡ false → use_of file x ≡ use_for x)
-    → list_all is_plain r.entries ≡ true → uses_of file k ≡ map use_for r.entries
+    → ((x : Reloc) → x.symbol < symbol_count file → is_table_high (kind_of x.kind) ≡ false → read_use file x ≡ use_for x)
+    → list_all is_plain r.entries ≡ true → read_uses file k ≡ map use_for r.entries
 uses_are file k r use_for sound below are is plain =
-    ap (listed (use_at file k)) are.count
-    ∙ listed_map (use_at file k) use_for r.entries no_reloc
+    map_listed (joined.use_of (numbers file) (said_of file)) (use_said_at file k) (relocation_count (relocation_bytes file k))
+    ∙ ap (listed (read_at file k)) are.count
+    ∙ listed_map (read_at file k) use_for r.entries no_reloc
     (λ j inside.
     let counted : j < relocation_count (relocation_bytes file k) = let count = are.count in omega arith in
     is (relocation_in (relocation_bytes file k) j) (relocations_named file k j sound below counted) (plain_at file k r are plain j inside) ∙ ap use_for (are.each j inside))
@@ -47,11 +60,11 @@ uses_are file k r use_for sound below are is plain =
 pub dropped_sort : (file : List ℕ) (k : ℕ) → is_kept file k ≡ false → sort_of file k ≡ Dropped
 dropped_sort file k dropped = rw dropped refl
 
-pub dropped_uses : (file : List ℕ) (k : ℕ) → is_kept file k ≡ false → uses_of file k ≡ []
+pub dropped_uses : (file : List ℕ) (k : ℕ) → is_kept file k ≡ false → read_uses file k ≡ []
 unfolding listed
 dropped_uses file k dropped =
     let none : relocation_bytes file k ≡ [] = rw dropped refl in
-    ap (λ (table : List ℕ). listed (use_at file k) (relocation_count table)) none
+    ap (λ (table : List ℕ). map (joined.use_of (numbers file) (said_of file)) (listed (use_said_at file k) (relocation_count table))) none
 
 -- sections with the same fields
 pub section_is : (s t : SectionParts) → s.sort ≡ t.sort → s.size ≡ t.size → s.align ≡ t.align → s.content ≡ t.content → s.uses ≡ t.uses → s ≡ t

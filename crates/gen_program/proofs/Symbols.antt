@@ -2,18 +2,24 @@
 use Rattle.std.proofs.Common.{◌≡◌, ◌==◌, ℕ, zero, suc, ◌<◌, true, false, Option, unwrap_or, List, [], ◌∷◌, length, map, get_or, refl, ap, ◌∙◌, add-one, arith}
 use Rattle.std.proofs.lemmas.Bool.{ne_eqb}
 use Rattle.least.specs.Nearest.{joined}
-use Rattle.elf_tables.specs.declared.entry.SymbolEntry.{SymbolEntry}
-use Rattle.elf_tables.specs.Symbol.{symbol, symbol_count, symbol_name}
+use Rattle.elf_tables.specs.Symbol.{symbol, symbol_count}
 use Rattle.elf_writer.specs.Parts.{ObjectParts, SymbolPart}
 use Rattle.elf_writer.specs.Right.{no_symbol}
 use Rattle.elf_writer.specs.Holds.{Holds}
 use Rattle.obj_input.specs.declared.parts.Definition.TheVariants.{Zero, Within}
-use Rattle.obj_input.specs.Input.{Named}
-use Rattle.obj_said.specs.Symbols.{is_kept_section}
-use Rattle.obj_items.specs.Definitions.{definition, entry_definition, is_common}
-use Rattle.obj_items.specs.Symbols.{block_of, blocks_of, name_at, name_of, names_of}
+use Rattle.obj_join.specs.declared.standing.Standing.{Standing}
+use Rattle.obj_join.specs.declared.standing.Standing.TheVariants.{InSection}
+use Rattle.obj_join.specs.Said.{SymbolSaid}
+use Rattle.obj_join.specs.Symbols as said
+use Rattle.obj_join.specs.Symbols.{number_if}
+use Rattle.obj_join.specs.Blocks.{block_of, blocks_below, has_block}
+use Rattle.obj_join.specs.Stands.{definition, definition_of, standing_for}
+use Rattle.obj_join.specs.SaidInput.{is_named, named, names_by}
+use Rattle.obj_said.specs.SaidOf.{said_of}
+use Rattle.obj_said.specs.Symbols.{is_kept_section, standing_of, symbol_said, symbol_said_in}
+use Rattle.obj_items.proofs.Behind.{numbers}
 use Rattle.gen_program.specs.Generated.{named_of}
-use Rattle.gen_program.proofs.Listings.{joined_listed, joined_none, listed_map}
+use Rattle.gen_program.proofs.Listings.{joined_listed, joined_none, length-listed, listed_at, listed_map, map_listed}
 
 -- a section of a file that is kept; neither SHN_ABS nor SHN_COMMON
 pub record IsKeptSection (file : List ℕ) (section : ℕ) : Type 0 where
@@ -24,14 +30,20 @@ pub record IsKeptSection (file : List ℕ) (section : ℕ) : Type 0 where
 not_zero : (n : ℕ) → (suc n == 0) ≡ false
 not_zero n = ne_eqb (suc n) 0 (λ same. absurd (omega arith))
 
-entry_within : (file : List ℕ) (n section value : ℕ) (s : SymbolEntry) → s.section ≡ section → s.value ≡ value → IsKeptSection file section
-    → entry_definition file n s ≡ Within section value
-entry_within file n section value s here at is = rw (here, at, is.no_number, is.no_block, is.kept) refl
+entry_within : (file : List ℕ) (section at : ℕ) → section ≡ at → IsKeptSection file at → standing_of file section ≡ InSection at
+entry_within file section at here is = rw (here, is.no_number, is.no_block, is.kept) refl
 
--- number 0 stands for none
-pub definition_zero : (file : List ℕ) → definition file 0 ≡ Zero
-unfolding definition
-definition_zero file = refl
+-- the symbols of a file
+abbrev pub symbols_in : List ℕ → List SymbolSaid
+symbols_in file = (said_of file).symbols
+
+symbols_counted : (file : List ℕ) → length (symbols_in file) ≡ symbol_count file
+unfolding said_of
+symbols_counted file = length-listed (symbol_said_in file) (symbol_count file)
+
+symbol_read : (file : List ℕ) (n : ℕ) → n < symbol_count file → said.symbol (symbols_in file) n ≡ symbol_said_in file n
+unfolding said_of
+symbol_read file n below = listed_at (symbol_said_in file) (symbol_count file) n said.no_symbol below
 
 module _ (parts : ObjectParts) (file : List ℕ) (holds : Holds parts file) where
   abbrev pub part : ℕ → SymbolPart
@@ -41,35 +53,70 @@ module _ (parts : ObjectParts) (file : List ℕ) (holds : Holds parts file) wher
   abbrev pub AreWithin : Type 0
   AreWithin = (k : ℕ) → k < length parts.symbols → IsKeptSection file (part k).section
 
+  -- number 0 is none
+  zero_read : said.symbol (symbols_in file) 0 ≡ said.no_symbol
+  zero_read = symbol_read file 0 (let count = holds.symbol_count_is in omega arith)
+
+  zero_itself : numbers file 0 ≡ 0
+  zero_itself = rw zero_read refl
+
+  pub definition_zero : definition (numbers file) (symbols_in file) 0 ≡ Zero
+  unfolding definition
+  definition_zero =
+      ap (λ (n : ℕ). definition_of (numbers file) (symbols_in file) n) zero_itself
+      ∙ ap (λ (s : SymbolSaid). standing_for (numbers file) (symbols_in file) 0 s.standing) zero_read
+
   module _ (within : AreWithin) where
-    pub definition_is : (k : ℕ) → k < length parts.symbols → definition file (suc k) ≡ Within (part k).section (part k).value
+    read : (k : ℕ) → k < length parts.symbols → said.symbol (symbols_in file) (suc k) ≡ symbol_said file (suc k) (symbol file (suc k))
+    read k below = symbol_read file (suc k) (let count = holds.symbol_count_is in omega arith) ∙ rw (not_zero k) refl
+
+    standing : (k : ℕ) → k < length parts.symbols → (said.symbol (symbols_in file) (suc k)).standing ≡ InSection (part k).section
+    standing k below =
+        ap (λ (s : SymbolSaid). s.standing) (read k below)
+        ∙ entry_within file (symbol file (suc k)).section (part k).section (holds.symbols k below).section (within k below)
+
+    itself : (k : ℕ) → k < length parts.symbols → numbers file (suc k) ≡ suc k
+    itself k below = rw (standing k below) refl
+
+    value_is : (k : ℕ) → k < length parts.symbols → (said.symbol (symbols_in file) (suc k)).value ≡ (part k).value
+    value_is k below = ap (λ (s : SymbolSaid). s.value) (read k below) ∙ (holds.symbols k below).value
+
+    pub definition_is : (k : ℕ) → k < length parts.symbols → definition (numbers file) (symbols_in file) (suc k) ≡ Within (part k).section (part k).value
     unfolding definition
     definition_is k below =
-        let s = holds.symbols k below in
-        rw (not_zero k) (entry_within file (suc k) (part k).section (part k).value (symbol file (suc k)) s.section s.value (within k below))
+        ap (λ (n : ℕ). definition_of (numbers file) (symbols_in file) n) (itself k below)
+        ∙ ap (λ (s : Standing). standing_for (numbers file) (symbols_in file) (suc k) s) (standing k below)
+        ∙ ap (λ (v : ℕ). Within (part k).section v) (value_is k below)
 
-    no_common : (n : ℕ) → n < symbol_count file → is_common file n ≡ false
-    no_common zero below = refl
+    no_common : (n : ℕ) → n < length (symbols_in file) → has_block (numbers file) (symbols_in file) n ≡ false
+    no_common zero below = rw zero_read refl
     no_common (suc k) below =
         let count = holds.symbol_count_is in
-        let inside : k < length parts.symbols = omega arith in
-        rw (not_zero k, (holds.symbols k inside).section, (within k inside).no_block) refl
+        let all = symbols_counted file in
+        rw (standing k (omega arith)) refl
 
-    pub no_blocks : blocks_of file ≡ []
-    no_blocks = joined_none (block_of file) (symbol_count file) (λ n below. rw (no_common n below) refl)
+    pub no_blocks : map (block_of (numbers file) (symbols_in file)) (blocks_below (numbers file) (symbols_in file) (length (symbols_in file))) ≡ []
+    unfolding blocks_below
+    no_blocks =
+        ap (map (block_of (numbers file) (symbols_in file)))
+        (joined_none (number_if (has_block (numbers file) (symbols_in file))) (length (symbols_in file)) (λ n below. rw (no_common n below) refl))
 
-    name_is : (k : ℕ) → k < length parts.symbols → name_at file (suc k) ≡ named_of (part k)
+    name_is : (k : ℕ) → k < length parts.symbols → named (numbers file) (symbols_in file) (suc k) ≡ named_of (part k)
     name_is k below =
-        let name : unwrap_or (symbol_name file (suc k)) [] ≡ (part k).name = ap (λ (o : Option (List ℕ)). unwrap_or o []) (holds.symbols k below).name in
+        let name : (said.symbol (symbols_in file) (suc k)).name ≡ (part k).name =
+        ap (λ (s : SymbolSaid). s.name) (read k below) ∙ ap (λ (o : Option (List ℕ)). unwrap_or o []) (holds.symbols k below).name in
         rw (definition_is k below, name) refl
 
-    named_next : (k : ℕ) → name_of file (suc k) ≡ name_at file (suc k) ∷ []
-    named_next k = rw (not_zero k) refl
+    named_next : (k : ℕ) → k < length parts.symbols → number_if (is_named (λ n. true) (symbols_in file)) (suc k) ≡ suc k ∷ []
+    named_next k below = rw (standing k below) refl
 
-    pub names_are : names_of file ≡ map named_of parts.symbols
+    pub names_are : names_by (numbers file) (λ n. true) (symbols_in file) ≡ map named_of parts.symbols
+    unfolding names_by
     names_are =
-        let count : symbol_count file ≡ suc (length parts.symbols) = holds.symbol_count_is ∙ add-one (length parts.symbols) in
-        let next : ℕ → Named = λ k. name_at file (suc k) in
-        ap (joined (name_of file)) count
-        ∙ joined_listed next (name_of file) (length parts.symbols) refl named_next
-        ∙ listed_map next named_of parts.symbols no_symbol name_is
+        let count : length (symbols_in file) ≡ suc (length parts.symbols) = symbols_counted file ∙ holds.symbol_count_is ∙ add-one (length parts.symbols) in
+        let next : ℕ → ℕ = λ k. suc k in
+        ap (λ (n : ℕ). map (named (numbers file) (symbols_in file)) (joined (number_if (is_named (λ n. true) (symbols_in file))) n)) count
+        ∙ ap (map (named (numbers file) (symbols_in file)))
+        (joined_listed next (number_if (is_named (λ n. true) (symbols_in file))) (length parts.symbols) (rw zero_read refl) named_next)
+        ∙ map_listed (named (numbers file) (symbols_in file)) next (length parts.symbols)
+        ∙ listed_map (λ k. named (numbers file) (symbols_in file) (suc k)) named_of parts.symbols no_symbol name_is

@@ -86,12 +86,14 @@ impl<'a> Input<'a> {
         self.funcs.as_slice()
     }
 
-    /// The names, and the functions in code, in the order of their table; what else there is goes.
-    pub fn into_symbols(self) -> (Names<'a>, Vec<Func>)
-        ensures names { result.0 ≡ self.entry.names }
-        ensures funcs { result.1.items ≡ self.entry.funcs }
+    /// The sections by their index, the names, and the functions in code, in the order of their table; the blocks go.
+    pub fn into_parts(self) -> (Vec<Section<'a>>, Names<'a>, Vec<Func>)
+        ensures sections { result.0.items ≡ self.entry.sections }
+        ensures few { length result.0.items < 2 ^ 32 }
+        ensures names { result.1 ≡ self.entry.names }
+        ensures funcs { result.2.items ≡ self.entry.funcs }
     {
-        (self.names, self.funcs)
+        (self.sections, self.names, self.funcs)
     }
 
     /// Whether the section with this index is there and is code.

@@ -1,62 +1,71 @@
 -- The sections of an object's input: those of the file, and behind them the table of addresses.
-use Rattle.std.proofs.Common.{◌≡◌, ℕ, zero, suc, ◌+◌, ◌<◌, ◌≤◌, nat_lt, get_or, true, false, List, [], ◌∷◌, ◌++◌, length, inl, inr, refl, ap, ◌∙◌, arith}
-use Rattle.std.proofs.lemmas.Bool.{cases_lt, lt-ltb, le-ltb}
-use Rattle.std.proofs.lemmas.List.{get_or_append_left, length-append}
+use Rattle.std.proofs.Common.{◌≡◌, ℕ, zero, suc, ◌+◌, ◌<◌, ◌≤◌, get_or, true, false, List, [], ◌∷◌, ◌++◌, length, map, inl, inr, refl, sym, ap, ◌∙◌, append-nil, arith}
+use Rattle.std.proofs.lemmas.Bool.{cases_eq, cases_lt}
+use Rattle.std.proofs.lemmas.List.{get_or-map, get_or_append_left, get_or_past, length-append, length-map}
 use Rattle.std.proofs.Math.Seq.{get_or-append_seam}
 use Rattle.elf_tables.specs.Header.{e_shnum}
-use Rattle.obj_input.specs.declared.parts.Relocation.{Relocation}
-use Rattle.obj_input.specs.Listed.{listed}
 use Rattle.obj_input.specs.Input.{SectionParts, is_code, no_section, section_count, section_of}
-use Rattle.obj_items.specs.Addressed.{slots_of, table_if, table_of, table_with}
-use Rattle.obj_items.specs.Sections.{section_in, uses_of, uses_with_table}
+use Rattle.obj_join.specs.Definer.{own}
+use Rattle.obj_join.specs.Joined.{own_input}
+use Rattle.obj_join.specs.SaidInput as joined
+use Rattle.obj_join.specs.Table.{slots, table_of, table_section}
+use Rattle.obj_join.proofs.Listing.{length-listed, listed_at}
+use Rattle.obj_said.specs.SaidOf.{said_of}
+use Rattle.obj_said.specs.Sections.{section_said_in, sections_said}
 use Rattle.obj_items.specs.FromObject.{input_of}
-use Rattle.obj_items.proofs.NoFault.{code_there}
-use Rattle.obj_items.proofs.Steps.{listed_count, listed_read}
 
 module _ (bytes : List ℕ) where
-  own : List SectionParts
-  own = listed (section_in bytes) (e_shnum bytes)
+  -- which symbol each one is
+  abbrev pub numbers : ℕ → ℕ
+  numbers = own (said_of bytes).symbols
 
-  own_count : length own ≡ e_shnum bytes
-  unfolding own
-  own_count = listed_count (section_in bytes) own (e_shnum bytes) refl
+  -- a section of the file
+  abbrev pub own_section : ℕ → SectionParts
+  own_section k = joined.section_of numbers (said_of bytes) (section_said_in bytes k)
 
-  seam : (count k : ℕ) → k ≡ length own → 0 < length (table_if bytes count) → get_or (own ++ table_if bytes count) k no_section ≡ table_with bytes count
-  seam zero k last some = absurd (omega arith)
-  seam (suc count) k last some = rw last (get_or-append_seam own (table_with bytes (suc count)) [] no_section)
+  abbrev pub table : List SectionParts
+  table = table_of numbers (said_of bytes) (length (slots numbers (said_of bytes).sections))
 
-  few : (count : ℕ) → length (table_if bytes count) ≤ 1
-  few zero = omega arith
-  few (suc count) = omega arith
+  abbrev pub own_sections : List SectionParts
+  own_sections = map (joined.section_of numbers (said_of bytes)) (sections_said bytes)
 
-  pub section_number : section_count (input_of bytes) ≡ e_shnum bytes + length (table_of bytes)
-  unfolding input_of own
-  section_number = length-append own (table_of bytes) ∙ ap (λ n. n + length (table_of bytes)) own_count
+  own_count : length own_sections ≡ e_shnum bytes
+  own_count = length-map (sections_said bytes) (joined.section_of numbers (said_of bytes)) ∙ length-listed (section_said_in bytes) (e_shnum bytes)
 
-  pub section_is : (k : ℕ) → k < e_shnum bytes → section_of (input_of bytes) k ≡ section_in bytes k
-  unfolding input_of own
+  pub sections_are : (input_of bytes).sections ≡ own_sections ++ table
+  unfolding input_of own_input joined.input_by said_of
+  sections_are = refl
+
+  pub section_number : section_count (input_of bytes) ≡ e_shnum bytes + length table
+  section_number = ap (λ (ss : List SectionParts). length ss) sections_are ∙ length-append own_sections table ∙ ap (λ (n : ℕ). n + length table) own_count
+
+  pub section_is : (k : ℕ) → k < e_shnum bytes → section_of (input_of bytes) k ≡ own_section k
   section_is k below =
       let count = own_count in
-      get_or_append_left own (table_of bytes) no_section k (omega arith) ∙ listed_read (section_in bytes) own (e_shnum bytes) k no_section refl below
+      let said : k < length (sections_said bytes) = let size = length-listed (section_said_in bytes) (e_shnum bytes) in omega arith in
+      ap (λ (ss : List SectionParts). get_or ss k no_section) sections_are
+      ∙ get_or_append_left own_sections table no_section k (omega arith)
+      ∙ get_or-map (joined.section_of numbers (said_of bytes)) (sections_said bytes) k (section_said_in bytes k) no_section said
+      ∙ ap (joined.section_of numbers (said_of bytes)) (listed_at (section_said_in bytes) (e_shnum bytes) k (section_said_in bytes k) below)
 
-  pub section_behind : (k : ℕ) → e_shnum bytes ≤ k → k < section_count (input_of bytes) → section_of (input_of bytes) k ≡ table_with bytes (length (slots_of bytes))
-  unfolding input_of own
-  section_behind k past below =
-      let number = section_number in
-      let count = own_count in
-      let one = few (length (slots_of bytes)) in
-      seam (length (slots_of bytes)) k (omega arith) (omega arith)
-
-  pub uses_there : (k : ℕ) → k < section_count (input_of bytes) → (section_of (input_of bytes) k).uses ≡ uses_with_table bytes k
-  uses_there k below = elim (cases_lt k (e_shnum bytes)) [
-    | inl less ↦ rw (lt-ltb k (e_shnum bytes) less) (ap (λ (s : SectionParts). s.uses) (section_is k less))
-    | inr past ↦ rw (le-ltb k (e_shnum bytes) past) (ap (λ (s : SectionParts). s.uses) (section_behind k past below))
+  -- the table is no code, and nothing is behind it
+  no_code : (count k : ℕ) → length own_sections ≤ k → is_code (get_or (own_sections ++ table_of numbers (said_of bytes) count) k no_section) ≡ false
+  no_code zero k past =
+      ap (λ (ss : List SectionParts). is_code (get_or ss k no_section)) (append-nil own_sections) ∙ ap is_code (get_or_past own_sections k no_section past)
+  no_code (suc count) k past = elim (cases_eq k (length own_sections)) [
+    | inl last ↦ rw last (ap is_code (get_or-append_seam own_sections (table_section numbers (said_of bytes) (suc count)) [] no_section))
+    | inr more ↦
+        let both = length-append own_sections (table_section numbers (said_of bytes) (suc count) ∷ []) in
+        ap is_code (get_or_past (own_sections ++ table_section numbers (said_of bytes) (suc count) ∷ []) k no_section (omega arith))
   ]
 
-  -- the table is no code
   pub code_own : (k : ℕ) → is_code (section_of (input_of bytes) k) ≡ true → k < e_shnum bytes
   code_own k code = elim (cases_lt k (e_shnum bytes)) [
     | inl less ↦ less
     | inr past ↦
-        let no : false ≡ true = rw (section_behind k past (code_there (input_of bytes) k code)) at code in absurd (cc)
+        let count = own_count in
+        let other = no_code (length (slots numbers (said_of bytes).sections)) k (omega arith) in
+        let is : is_code (get_or (own_sections ++ table) k no_section) ≡ true = ap (λ (ss : List SectionParts). is_code (get_or ss k no_section)) (sym sections_are) ∙ code in
+        let no : true ≡ false = sym is ∙ other in
+        absurd (cc)
   ]

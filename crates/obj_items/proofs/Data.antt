@@ -1,17 +1,18 @@
 -- Initialised data and their relocations, one section or one relocation further.
 use Rattle.std.proofs.Common.{◌≡◌, ℕ, ◌+◌, ◌<◌, true, false, List, [], ◌∷◌, ◌++◌, length, get_or, map, take, refl, sym, ap, ◌∙◌, add-one, append_assoc}
 use Rattle.std.specs.List.{flat_map}
-use Rattle.std.proofs.lemmas.List.{append-nil, map-append, take_more}
+use Rattle.std.proofs.lemmas.List.{append-nil, get_or_append_left, length-append, map-append, take_more}
+use Rattle.std.proofs.Math.Seq.{get_or-append_seam}
 use Rattle.std.proofs.lemmas.List.Concat.{flat_map-append}
-use Rattle.obj_input.specs.Input.{InputParts, SectionParts, is_data_sort, section_of}
+use Rattle.obj_input.specs.Input.{InputParts, SectionParts, is_data_sort, no_section, section_of}
 use Rattle.obj_input.specs.DataLayout.{section_address}
 use Rattle.least.specs.Nearest.{joined}
+use Rattle.obj_join.proofs.Sorting.{joined_same}
 use Rattle.obj_program.specs.declared.item.DataReloc.{DataReloc}
 use Rattle.obj_program.specs.declared.item.Item.{Item}
-use Rattle.obj_items.specs.Bare.{bare_relocs}
-use Rattle.obj_items.specs.InitialData.{init_below, placed, reloc_of}
-use Rattle.obj_items.specs.Sections.{uses_with_table}
-use Rattle.obj_items.proofs.Steps.{joined_next, joined_passed}
+use Rattle.obj_items.specs.Bare.{listed_relocs}
+use Rattle.obj_items.specs.InitialData.{init_below, placed, relocs_in}
+use Rattle.obj_items.proofs.Steps.{joined_next}
 
 module _ (input : InputParts) where
   pub init_begins : [] ≡ init_below input 0
@@ -27,6 +28,30 @@ module _ (input : InputParts) where
     pub init_passed : false ≡ is_data_sort section.sort → so_far ≡ init_below input (k + 1)
     unfolding init_below
     init_passed other = rw (add-one, ← here, ← is, ← other) refl
+
+-- the relocations of data of one section more
+module _ (input : InputParts) (places : List Item) (ys : List SectionParts) (k : ℕ) (x : SectionParts) where
+  count : length (ys ++ x ∷ []) ≡ length ys + 1
+  count = length-append ys (x ∷ [])
+
+  first : joined (listed_relocs input places ys) (length ys) ≡ joined (listed_relocs input places (ys ++ x ∷ [])) (length ys)
+  first =
+      joined_same (listed_relocs input places ys) (listed_relocs input places (ys ++ x ∷ [])) (length ys)
+      (λ j below. ap (λ (s : SectionParts). relocs_in input places j s) (sym (get_or_append_left ys (x ∷ []) no_section j below)))
+
+  last : k ≡ length ys → relocs_in input places k x ≡ listed_relocs input places (ys ++ x ∷ []) (length ys)
+  last is =
+      ap (λ (n : ℕ). relocs_in input places n x) is
+      ∙ ap (λ (s : SectionParts). relocs_in input places (length ys) s) (sym (get_or-append_seam ys x [] no_section))
+
+  pub section_listed : (so_far next : List DataReloc) → k ≡ length ys → so_far ≡ joined (listed_relocs input places ys) (length ys)
+      → next ≡ so_far ++ relocs_in input places k x
+      → (k + 1 ≡ length (ys ++ x ∷ [])) × (next ≡ joined (listed_relocs input places (ys ++ x ∷ [])) (length (ys ++ x ∷ [])))
+  section_listed so_far next is here e = (
+    ap (λ (n : ℕ). n + 1) is ∙ sym count,
+    joined_next (listed_relocs input places (ys ++ x ∷ [])) (length ys) so_far next (relocs_in input places k x) (here ∙ first) (last is) e
+        ∙ ap (λ (n : ℕ). joined (listed_relocs input places (ys ++ x ∷ [])) n) (sym count),
+  )
 
 -- a list with a function of one more member
 pub map_more : {A B : Type 0} (told : A → B) (xs : List A) (i : ℕ) (d : A) (now next : List B) (y : B) → i < length xs
@@ -45,17 +70,3 @@ flat_map_more given xs i x before now next below is here e =
     (ap (λ y. flat_map given (take i xs) ++ given y) is
     ∙ ap (λ ys. flat_map given (take i xs) ++ ys) (sym (append-nil (given (get_or xs i x))))
     ∙ sym (flat_map-append given (take i xs) (get_or xs i x ∷ [])) ∙ ap (flat_map given) (sym (take_more xs i x below)))
-
-module _ (input : InputParts) (bytes : List ℕ) (places : List Item) (k : ℕ) (section : SectionParts) where
-  pub relocs_next : (so_far next : List DataReloc) → so_far ≡ joined (bare_relocs input bytes places) k → section ≡ section_of input k
-      → true ≡ is_data_sort section.sort → next ≡ so_far ++ flat_map (reloc_of input places k) (uses_with_table bytes k)
-      → next ≡ joined (bare_relocs input bytes places) (k + 1)
-  relocs_next so_far next here is counted e =
-      joined_next (bare_relocs input bytes places) k so_far next (flat_map (reloc_of input places k) (uses_with_table bytes k)) here
-      (let sort : is_data_sort (section_of input k).sort ≡ true = ap (λ (s : SectionParts). is_data_sort s.sort) (sym is) ∙ sym counted in rw sort refl) e
-
-  pub relocs_passed : (so_far : List DataReloc) → so_far ≡ joined (bare_relocs input bytes places) k → section ≡ section_of input k
-      → false ≡ is_data_sort section.sort → so_far ≡ joined (bare_relocs input bytes places) (k + 1)
-  relocs_passed so_far here is other =
-      joined_passed (bare_relocs input bytes places) k so_far here
-      (let sort : is_data_sort (section_of input k).sort ≡ false = ap (λ (s : SectionParts). is_data_sort s.sort) (sym is) ∙ sym other in rw sort refl)

@@ -1,6 +1,4 @@
 mod Steps
-mod Whole
-mod Next
 mod Data
 mod Parts
 mod Marks
@@ -14,7 +12,6 @@ mod Lone
 pub mod Suited
 pub mod NoFault
 pub mod LookUp
-mod Tabled
 pub mod Behind
 pub mod Plain
 pub mod Starts

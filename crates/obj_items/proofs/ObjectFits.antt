@@ -1,34 +1,19 @@
 -- The code of an object without a fault is fit.
-use Rattle.std.proofs.Common.{◌≡◌, ℕ, ◌%◌, ◌<◌, nat_le, ◌==◌, ◌&&◌, ◌||◌, true, false, not, None, List, inl, inr, refl, sym, ap, ◌∙◌, arith}
-use Rattle.std.proofs.lemmas.Bool.{cases_Bool, eqb-true, leb-false, or_parts}
+use Rattle.std.proofs.Common.{◌≡◌, ℕ, ◌%◌, ◌==◌, true, false, None, List, inl, inr, sym, ap, ◌∙◌, arith}
+use Rattle.std.proofs.lemmas.Bool.{cases_Bool}
 use Rattle.elf_tables.specs.declared.header.SectionHeader.{SectionHeader}
-use Rattle.elf_tables.specs.Header.{e_shentsize, e_shnum, e_shoff, e_shstrndx}
 use Rattle.elf_tables.specs.Section.{section_header}
 use Rattle.elf_tables.specs.Kept.{is_executable, is_kept}
 use Rattle.elf_object.specs.Fault.{fault_of}
-use Rattle.elf_object.specs.Table.{has_wrong_header, is_string_table}
 use Rattle.elf_object.proofs.Right.{kept_right}
-use Rattle.elf_object.proofs.Sound.{sound}
-use Rattle.obj_input.specs.Input.{SectionParts, is_code, is_code_sort, no_section, section_count, section_of}
+use Rattle.obj_input.specs.Input.{SectionParts, is_code, is_code_sort, section_of}
 use Rattle.obj_said.specs.Sections.{kept_sort, sort_of}
+use Rattle.obj_said.proofs.Whole.{few_sections}
 use Rattle.obj_items.specs.FitCode.{HasFitCode}
 use Rattle.obj_items.specs.FromObject.{input_of}
-use Rattle.obj_items.specs.Sections.{section_in}
 use Rattle.obj_items.proofs.Behind.{code_own, section_is}
 
--- what an object's header says of its sections, and an object's code
-pub few_sections : (bytes : List ℕ) → fault_of bytes ≡ None → e_shnum bytes < 0xff00
-few_sections bytes none =
-    let start = or_parts (e_shnum bytes == 0 && not (e_shoff bytes == 0)) (not (e_shnum bytes == 0) && has_wrong_header bytes) (sound bytes none).start in
-    elim (cases_Bool (e_shnum bytes == 0)) [
-      | inl none ↦ let number = eqb-true (e_shnum bytes) 0 none in omega arith
-      | inr some ↦
-          let right : has_wrong_header bytes ≡ false = rw some at start.1 in
-          let two = or_parts (not (e_shentsize bytes == 64) || nat_le 0xff00 (e_shnum bytes)) (not (is_string_table bytes (e_shstrndx bytes))) right in
-          let few = or_parts (not (e_shentsize bytes == 64)) (nat_le 0xff00 (e_shnum bytes)) two.0 in
-          leb-false 0xff00 (e_shnum bytes) few.1
-    ]
-
+-- code is kept and executable
 code_executable : (h : SectionHeader) → is_code_sort (kept_sort h) ≡ true → is_executable h ≡ true
 code_executable h code = elim (cases_Bool (is_executable h)) [
   | inl executable ↦ executable

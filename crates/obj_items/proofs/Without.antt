@@ -1,11 +1,10 @@
 -- An input without its relocations has the same data in the same places, so a relocation of data comes to the same with either.
-use Rattle.std.proofs.Common.{◌≡◌, ℕ, ℤ, zero, suc, ◌<◌, Bool, List, map, inl, inr, refl, sym, ap, ◌∙◌, arith}
+use Rattle.std.proofs.Common.{◌≡◌, ℕ, ℤ, zero, suc, Bool, List, map, inl, inr, refl, sym, ap, ◌∙◌, arith}
 use Rattle.std.proofs.lemmas.Bool.{cases_lt}
 use Rattle.std.proofs.lemmas.List.{get_or-map, get_or_past, length-map}
 use Rattle.std.proofs.Math.Path.{fun_ext}
 use Rattle.rv_word.specs.MemoryMap.{DATA_START}
 use Rattle.least.specs.Nearest.{joined}
-use Rattle.elf_tables.specs.Header.{e_shnum}
 use Rattle.obj_input.specs.declared.parts.Relocation.{Relocation}
 use Rattle.obj_input.specs.declared.parts.Sort.{Sort}
 use Rattle.obj_input.specs.declared.parts.Definition.{Definition}
@@ -13,17 +12,15 @@ use Rattle.obj_input.specs.declared.parts.Definition.TheVariants.{Zero, Absolute
 use Rattle.obj_input.specs.declared.reloc_kind.RelocKind.{RelocKind}
 use Rattle.obj_input.specs.declared.reloc_kind.RelocKind.TheVariants.{Nothing, Mark, BranchTarget, JalTarget, PairTarget, RelativeHigh, TableHigh, RelativeLowI, RelativeLowS, High, LowI, LowS, InData, Unknown}
 use Rattle.obj_input.specs.Kinds.{kind_of}
-use Rattle.obj_input.specs.Input.{InputParts, SectionParts, is_data_sort, is_zeros_sort, no_section, section_count, section_of}
+use Rattle.obj_input.specs.Input.{InputParts, is_data_sort, is_zeros_sort, no_section, section_count, section_of}
 use Rattle.obj_input.specs.DataLayout.{block_address, blocks_reach, init_end, reach, section_address, zeros_end}
 use Rattle.obj_program.specs.declared.item.DataReloc.{DataReloc}
 use Rattle.obj_program.specs.declared.item.Item.{Item}
 use Rattle.obj_program.specs.Program.{place_of}
-use Rattle.obj_items.specs.Bare.{bare, bare_relocs, bare_section}
-use Rattle.obj_items.specs.FromObject.{input_of}
+use Rattle.obj_items.specs.Bare.{bare, bare_section, listed_relocs}
 use Rattle.obj_items.specs.InitialData.{reloc_by, reloc_of, relocs_of, section_relocs}
 use Rattle.obj_items.specs.Values.{section_value, value_of}
 use Rattle.obj_items.proofs.Linking.{value_same}
-use Rattle.obj_items.proofs.Behind.{uses_there}
 
 module _ (input : InputParts) where
   pub bare_count : section_count (bare input) ≡ section_count input
@@ -114,19 +111,11 @@ module _ (input : InputParts) (p q : List Item) (same : (section offset : ℕ) �
   one_reloc : (k : ℕ) → reloc_of (bare input) p k ≡ reloc_of input q k
   one_reloc k = fun_ext (λ (u : Relocation). bare_reloc input p k u (kind_of u.number) ∙ moved_reloc k u (kind_of u.number))
 
-module _ (bytes : List ℕ) where
-  module _ (p q : List Item) (same : (section offset : ℕ) → place_of p section offset ≡ place_of q section offset) where
-    same_section : (k : ℕ) → bare_relocs (bare (input_of bytes)) bytes p k ≡ section_relocs (input_of bytes) q k
-    same_section k =
-        let sort = ap (λ (s : SectionParts). is_data_sort s.sort) (bare_at (input_of bytes) k) in
-        elim (cases_lt k (section_count (input_of bytes))) [
-          | inl below ↦ rw (sort, one_reloc (input_of bytes) p q same k, uses_there bytes k below) refl
-          | inr past ↦
-              let none = get_or_past (input_of bytes).sections k no_section past in
-              rw (sort, none) refl
-        ]
+-- the relocations of data, by the sections of an input and what it is without relocations
+module _ (input : InputParts) (p q : List Item) (same : (section offset : ℕ) → place_of p section offset ≡ place_of q section offset) where
+  same_section : (k : ℕ) → listed_relocs (bare input) p input.sections k ≡ section_relocs input q k
+  same_section k = rw (one_reloc input p q same k) refl
 
-    pub same_relocs : joined (bare_relocs (bare (input_of bytes)) bytes p) (section_count (bare (input_of bytes))) ≡ relocs_of (input_of bytes) q
-    unfolding relocs_of
-    same_relocs =
-        rw (bare_count (input_of bytes)) (ap (λ (f : ℕ → List DataReloc). joined f (section_count (input_of bytes))) (fun_ext same_section))
+  pub same_relocs : joined (listed_relocs (bare input) p input.sections) (section_count input) ≡ relocs_of input q
+  unfolding relocs_of
+  same_relocs = ap (λ (f : ℕ → List DataReloc). joined f (section_count input)) (fun_ext same_section)

@@ -7,7 +7,7 @@ use Rattle.obj_input.specs.declared.parts.Relocation.{Relocation}
 use Rattle.obj_input.specs.declared.reloc_kind.RelocKind.{RelocKind}
 use Rattle.obj_input.specs.declared.reloc_kind.RelocKind.TheVariants.{InData}
 use Rattle.obj_input.specs.Kinds.{kind_of}
-use Rattle.obj_input.specs.Input.{InputParts, is_data_sort, section_count, section_of}
+use Rattle.obj_input.specs.Input.{InputParts, SectionParts, is_data_sort, section_count, section_of}
 use Rattle.obj_input.specs.DataLayout.{section_address}
 use Rattle.obj_program.specs.declared.item.Item.{Item}
 use Rattle.obj_program.specs.declared.item.DataReloc.{DataReloc}
@@ -38,10 +38,12 @@ reloc_by input places k u other = []
 abbrev pub reloc_of : InputParts → List Item → ℕ → Relocation → List DataReloc
 reloc_of input places k u = reloc_by input places k u (kind_of u.number)
 
--- those of a section of data, in the order of its table
+-- those of a section with an index, if it is one of data, in the order of its table
+abbrev pub relocs_in : InputParts → List Item → ℕ → SectionParts → List DataReloc
+relocs_in input places k section = if is_data_sort section.sort then flat_map (reloc_of input places k) section.uses else []
+
 abbrev pub section_relocs : InputParts → List Item → ℕ → List DataReloc
-section_relocs input places k =
-    if is_data_sort (section_of input k).sort then flat_map (reloc_of input places k) (section_of input k).uses else []
+section_relocs input places k = relocs_in input places k (section_of input k)
 
 unfoldable pub relocs_of : InputParts → List Item → List DataReloc
 relocs_of input places = joined (section_relocs input places) (section_count input)

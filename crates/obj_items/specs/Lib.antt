@@ -1,8 +1,3 @@
-pub mod Definitions
-pub mod Uses
-pub mod Addressed
-pub mod Sections
-pub mod Symbols
 pub mod FromObject
 pub mod Outline
 pub mod Values

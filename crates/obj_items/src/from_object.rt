@@ -2,12 +2,9 @@ ghost use Rattle.std.specs.Prelude.{◌≡◌, IfOk};
 ghost use Rattle.obj_items.specs.FitCode.{HasFitCode};
 ghost use Rattle.obj_items.specs.FromObject.{input_of};
 
-use crate::definitions::definitions;
-use crate::sections::sections;
-use crate::slots::slots;
-use crate::symbols::{blocks, funcs, names};
 use elf_object::Object;
-use obj_input::{Input, Names};
+use obj_input::Input;
+use obj_said::own_input;
 use rv_word::NoMemory;
 use std::alloc::Global;
 
@@ -16,13 +13,8 @@ use std::alloc::Global;
 pub fn input_of<'a>(alloc: Global, object: &Object<'a>) -> Result<Input<'a>, NoMemory>
     ensures { IfOk result (λ i. i ≡ input_of object.now) }
 {
-    let definitions = definitions(alloc, object)?;
-    let blocks = blocks(alloc, object)?;
-    let names = Names::of(alloc, names(alloc, object, &definitions)?)?;
-    let funcs = funcs(alloc, object)?;
-    let slots = slots(alloc, object)?;
-    let sections = sections(alloc, object, &definitions, &slots)?;
-    Ok(Input::of(sections, blocks, names, funcs))
+    let input = own_input(alloc, object)?;
+    Ok(input)
 }
 
 /// The code of an object is whole words, in sections whose indices have 16 bits.

@@ -9,7 +9,6 @@ pub use item_end::ItemEnd;
 pub use program::items;
 
 mod bare;
-mod definitions;
 mod fault;
 mod from_object;
 mod init;
@@ -20,8 +19,5 @@ mod outline;
 mod program;
 mod ranges;
 mod relocs;
-mod sections;
-mod slots;
-mod symbols;
 mod taken;
 mod values;

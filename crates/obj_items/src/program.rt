@@ -96,15 +96,13 @@ fn contents_of<'a>(
     contents(alloc, input, &layout, places)
 }
 
-/// The program of an object whose input has no fault, and whose places are put where there are none. What the input says of
-/// relocations is let go before those of data are listed.
+/// The program of an input without a fault, whose places are put where there are none. What the input says of the
+/// relocations of a section is let go when those of data are listed.
 fn program_of<'a>(
     alloc: Global,
-    object: &Object<'a>,
     input: Input<'a>,
     room: Vec<PackedItem>,
 ) -> Result<Items<'a>, NoMemory>
-    requires input { input ≡ input_of object.now }
     requires right { fault_of input ≡ None }
     requires fit { HasFitCode input }
     requires room { room.items ≡ [] }
@@ -112,8 +110,8 @@ fn program_of<'a>(
 {
     let contents = contents_of(alloc, &input, room)?;
     let bare = bare(alloc, &input)?;
-    let (names, funcs) = input.into_symbols();
-    let relocations = relocs(alloc, object, &bare, &contents.items)?;
+    let (sections, names, funcs) = input.into_parts();
+    let relocations = relocs(alloc, sections, &bare, &contents.items)?;
     let Held {
         items,
         init,
@@ -134,6 +132,6 @@ pub fn items<'a>(alloc: Global, object: &Object<'a>) -> Result<Items<'a>, ItemEn
     code_fits(object);
     match fault_of(&input) {
         Some(fault) => Err(ItemEnd::Refused(fault)),
-        None => Ok(program_of(alloc, object, input, room)?),
+        None => Ok(program_of(alloc, input, room)?),
     }
 }

@@ -1,28 +1,19 @@
 //! The relocations of initialised data.
 
-ghost use Rattle.std.specs.Prelude.{◌≡◌, ◌++◌, ◌+◌, ◌-◌, ◌<◌, ℕ, IfOk, OnOk};
+ghost use Rattle.std.specs.Prelude.{◌≡◌, ◌++◌, ◌+◌, ◌-◌, ◌<◌, ◌^◌, ℕ, IfOk, OnOk, length};
 ghost use Rattle.std.specs.List.{flat_map};
 ghost use Rattle.least.specs.Nearest.{joined};
 ghost use Rattle.rv_word.specs.MemoryMap.{DATA_START};
-ghost use Rattle.obj_input.specs.Input.{section_count};
+ghost use Rattle.obj_input.specs.Input.{InputParts};
 ghost use Rattle.obj_input.specs.DataLayout.{data_layout_of, section_address};
 ghost use Rattle.obj_program.specs.Program.{AreInOrder, place_of};
-ghost use Rattle.obj_items.specs.Bare.{bare, bare_relocs};
-ghost use Rattle.obj_items.specs.Definitions.{definitions_of};
-ghost use Rattle.obj_items.specs.FromObject.{input_of};
-ghost use Rattle.obj_items.specs.InitialData.{reloc_of, relocs_of};
+ghost use Rattle.obj_items.specs.Bare.{bare, listed_relocs};
+ghost use Rattle.obj_items.specs.InitialData.{reloc_of, relocs_in, relocs_of};
 ghost use Rattle.obj_items.specs.Outline.{outline};
-ghost use Rattle.obj_items.specs.Addressed.{slots_of};
-ghost use Rattle.obj_items.specs.Sections.{uses_with_table};
 
-use crate::definitions::definitions;
 use crate::init::section_address;
-use crate::sections::uses_with_table;
-use crate::slots::slots;
 use crate::values::use_value;
-use elf_object::Object;
-use indexmap::IndexSet;
-use obj_input::{DataLayout, Definition, Input, RelocKind, Relocation};
+use obj_input::{DataLayout, Input, RelocKind, Relocation, Section};
 use obj_program::{DataReloc, PackedItem, PackedReloc};
 use rv_word::NoMemory;
 use rv_word::memory_map::DATA_START;
@@ -85,74 +76,61 @@ fn push_relocs(
     Ok(())
 }
 
-/// Puts the relocations of the section with the index `k` behind others. They are read from the object, and let go.
+/// Puts the relocations of data of a section, which has the index `k`, behind others.
 fn push_section(
-    alloc: Global,
     relocs: &mut Vec<PackedReloc>,
-    object: &Object,
-    definitions: &[Definition],
-    slots: &IndexSet<u64>,
     input: &Input,
     layout: &DataLayout,
     places: &[PackedItem],
     k: u32,
+    section: &Section,
 ) -> Result<(), NoMemory>
-    requires definitions { definitions.now ≡ definitions_of object.now }
-    requires slots { slots.now.keys ≡ slots_of object.now }
     requires order { AreInOrder places.now }
     requires layout { layout.now ≡ data_layout_of input.now }
-    ensures { OnOk result (relocs.new.items ≡ relocs.old.items ++ flat_map (reloc_of input.now places.now k) (uses_with_table object.now k)) }
+    ensures { OnOk result (relocs.new.items ≡ relocs.old.items ++ relocs_in input.now places.now k section.now) }
 {
-    let uses = uses_with_table(alloc, object, definitions, slots, k)?;
-    push_relocs(relocs, input, layout, places, k, &uses)?;
+    if section.is_data() {
+        push_relocs(relocs, input, layout, places, k, section.uses())?;
+    }
     Ok(())
 }
 
-/// The relocations of the sections of data of an object and of its table of addresses, where an input without relocations says what is data.
+/// The relocations of data that those of these sections are, where an input says where they stand. Each section goes when
+/// its relocations are listed.
 fn all_relocs(
     alloc: Global,
-    object: &Object,
+    sections: Vec<Section>,
     input: &Input,
     places: &[PackedItem],
 ) -> Result<Vec<PackedReloc>, NoMemory>
     requires order { AreInOrder places.now }
-    ensures { IfOk result (λ v. v.items ≡ joined (bare_relocs input.now object.now places.now) (section_count input.now)) }
+    requires few { length sections.items < 2 ^ 32 }
+    ensures { IfOk result (λ v. v.items ≡ joined (listed_relocs input.now places.now sections.entry.items) (length sections.entry.items)) }
 {
-    let definitions = definitions(alloc, object)?;
-    let slots = slots(alloc, object)?;
     let layout = DataLayout::of(alloc, input)?;
     let mut relocs = Vec::new(alloc);
-    for k in 0..input.section_count() {
-        if input.section(k).is_data() {
-            push_section(
-                alloc,
-                &mut relocs,
-                object,
-                &definitions,
-                &slots,
-                input,
-                &layout,
-                places,
-                k,
-            )?;
-        }
+    let mut k = 0;
+    for section in sections {
+        push_section(&mut relocs, input, &layout, places, k, &section)?;
+        k += 1;
     }
     Ok(relocs)
 }
 
-/// The relocations of initialised data, in the order of sections and then of their tables. They are read from the object once
-/// more, so that the input need not be kept beside them.
+/// The relocations of initialised data, in the order of sections and then of their tables: those of the sections, which
+/// go, where an input without relocations says where they stand.
 pub(crate) fn relocs(
     alloc: Global,
-    object: &Object,
+    sections: Vec<Section>,
     input: &Input,
     places: &[PackedItem],
 ) -> Result<Vec<PackedReloc>, NoMemory>
     requires order { AreInOrder places.now }
-    requires found { (section offset : ℕ) → place_of places.now section offset ≡ place_of (outline (input_of object.now)) section offset }
-    requires input { input.now ≡ bare (input_of object.now) }
-    ensures { IfOk result (λ v. v.items ≡ relocs_of (input_of object.now) (outline (input_of object.now))) }
+    requires few { length sections.items < 2 ^ 32 }
+    ensures { (whole : InputParts) → input.now ≡ bare whole → sections.entry.items ≡ whole.sections
+        → ((section offset : ℕ) → place_of places.now section offset ≡ place_of (outline whole) section offset)
+        → IfOk result (λ v. v.items ≡ relocs_of whole (outline whole)) }
 {
-    let relocs = all_relocs(alloc, object, input, places)?;
+    let relocs = all_relocs(alloc, sections, input, places)?;
     Ok(relocs)
 }

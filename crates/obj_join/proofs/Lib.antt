@@ -6,7 +6,7 @@ mod Merged
 mod ByWords
 pub mod Sorting
 mod Stood
-mod OneObject
+pub mod OneObject
 mod Functions
 pub mod Sectioned
 pub mod Resolves

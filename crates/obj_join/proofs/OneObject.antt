@@ -203,7 +203,7 @@ symbol_same s =
       is_function = s.is_function;
     }
 
-one_said : (said : Said) → said_together (said ∷ []) ≡ said
+pub one_said : (said : Said) → said_together (said ∷ []) ≡ said
 unfolding said_together
 one_said said =
     λ i. record { sections = all_same (section_behind 0) section_same said.sections i; symbols = all_same (symbol_behind 0) symbol_same said.symbols i }

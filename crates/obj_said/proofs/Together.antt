@@ -9,6 +9,7 @@ use Rattle.elf_tables.specs.Symbol.{symbol_count}
 use Rattle.obj_input.specs.Listed.{listed}
 use Rattle.obj_join.specs.Said.{Said, SymbolSaid, nothing_said, said_together, section_behind, symbol_behind, with_object}
 use Rattle.obj_join.proofs.Listing.{length-listed, listed_more, listed_none}
+use Rattle.obj_join.proofs.OneObject.{one_said}
 use Rattle.obj_said.specs.Sections.{section_said_in}
 use Rattle.obj_said.specs.Symbols.{symbol_said_in, symbols_said}
 use Rattle.obj_said.specs.SaidOf.{said_by, said_of}
@@ -25,6 +26,11 @@ pub next_said : (objects : List (List ℕ)) (i : ℕ) (o : List ℕ) → i < len
     → said_by (take (i + 1) objects) ≡ with_object (said_by (take i objects)) (said_of o)
 next_said objects i o below is =
     ap said_by (take_more objects i o below ∙ ap (λ (p : List ℕ). take i objects ++ p ∷ []) (sym is)) ∙ said_more (take i objects) o
+
+-- one object by itself
+pub said_alone : (o : List ℕ) → said_by (o ∷ []) ≡ said_of o
+unfolding said_by
+said_alone o = one_said (said_of o)
 
 -- how many sections there are
 pub next_sum : (f : List ℕ → ℕ) (objects : List (List ℕ)) (i : ℕ) (o : List ℕ) → i < length objects → o ≡ get_or objects i o

@@ -1,6 +1,6 @@
-//! The input that several objects are.
+//! The input that several objects are, and the one that an object is by itself.
 
-ghost use Rattle.std.specs.Prelude.{◌≡◌, ◌≤◌, ◌<◌, ◌^◌, ◌++◌, ℕ, Bool, IfOk, OnOk, length, map};
+ghost use Rattle.std.specs.Prelude.{◌≡◌, ◌≤◌, ◌<◌, ◌^◌, ◌++◌, ◌∷◌, [], ℕ, Bool, IfOk, OnOk, length, map};
 ghost use Rattle.std.specs.List.{sum_by};
 ghost use Rattle.elf_tables.specs.Header.{e_shnum};
 ghost use Rattle.obj_input.specs.Listed.{listed};
@@ -8,8 +8,8 @@ ghost use Rattle.obj_join.specs.Said.{Said};
 ghost use Rattle.obj_join.specs.Stands.{definition};
 ghost use Rattle.obj_join.specs.Table as table;
 ghost use Rattle.obj_join.specs.SaidInput.{input_by, names_by, section_of};
-ghost use Rattle.obj_join.specs.Definer.{resolved};
-ghost use Rattle.obj_join.specs.Joined.{joined_input, shared_input};
+ghost use Rattle.obj_join.specs.Definer.{own, resolved};
+ghost use Rattle.obj_join.specs.Joined.{joined_input, own_input, shared_input};
 ghost use Rattle.obj_join.specs.Numbers.{before, by};
 ghost use Rattle.obj_said.specs.SaidOf.{said_by, said_of};
 
@@ -20,7 +20,10 @@ use crate::symbols::symbols_of;
 use elf_object::Object;
 use indexmap::IndexSet;
 use obj_input::{Definition, Input, Names, Section};
-use obj_join::{Definers, Symbol, blocks, definitions, funcs, names, places, table_section};
+use obj_join::{
+    Definers, Symbol, blocks, definitions, funcs, names, own_names, own_numbers, places,
+    table_section,
+};
 use rv_word::NoMemory;
 use std::alloc::Global;
 
@@ -191,5 +194,70 @@ pub fn joined_input<'a>(alloc: Global, objects: &[Object<'a>]) -> Result<Input<'
 {
     let symbols = symbols_of(alloc, objects)?;
     let input = input_of(alloc, objects, &symbols)?;
+    Ok(input)
+}
+
+/// The input of objects with these symbols, each of which is its own, as `numbers` says.
+#[tactic(auto, using(obj_join::proofs::Listing::listings))]
+fn own_input_by<'a>(
+    alloc: Global,
+    objects: &[Object<'a>],
+    symbols: &[Symbol<'a>],
+    numbers: &[u64],
+) -> Result<Input<'a>, NoMemory>
+    requires few { sum_by e_shnum objects.now ≤ 2 ^ 16 }
+    requires symbols { symbols.now ≡ (said_by objects.now).symbols }
+    requires count { length numbers.now ≡ length symbols.now }
+    requires numbers { numbers.now ≡ listed (own symbols.now) (length symbols.now) }
+    ensures { IfOk result (λ i. i ≡ own_input (said_by objects.now)) }
+{
+    let places = places(alloc, symbols, numbers)?;
+    let definitions = definitions(alloc, symbols, numbers, &places)?;
+    let names = Names::of(alloc, own_names(alloc, symbols, &definitions)?)?;
+    let input = input_with(
+        alloc,
+        objects,
+        symbols,
+        numbers,
+        &places,
+        &definitions,
+        names,
+    )?;
+    Ok(input)
+}
+
+/// The input of objects with these symbols, each of which is its own.
+#[tactic(auto, using(obj_join::proofs::Listing::listings))]
+fn own_input_of<'a>(
+    alloc: Global,
+    objects: &[Object<'a>],
+    symbols: &[Symbol<'a>],
+) -> Result<Input<'a>, NoMemory>
+    requires few { sum_by e_shnum objects.now ≤ 2 ^ 16 }
+    requires symbols { symbols.now ≡ (said_by objects.now).symbols }
+    ensures { IfOk result (λ i. i ≡ own_input (said_by objects.now)) }
+{
+    let numbers = own_numbers(alloc, symbols)?;
+    let input = own_input_by(alloc, objects, symbols, &numbers)?;
+    Ok(input)
+}
+
+/// An object as a list of one.
+fn alone<'o, 'a>(object: &'o Object<'a>) -> &'o [Object<'a>]
+    ensures value { result.now ≡ object.now ∷ [] }
+    ensures few { sum_by e_shnum result.now ≤ 2 ^ 16 }
+    ensures said { said_by result.now ≡ said_of object.now }
+{
+    let _sections = object.sections();
+    std::slice::from_ref(object)
+}
+
+/// The input that an object is by itself. It borrows the bytes of the object's file.
+pub fn own_input<'a>(alloc: Global, object: &Object<'a>) -> Result<Input<'a>, NoMemory>
+    ensures { IfOk result (λ i. i ≡ own_input (said_of object.now)) }
+{
+    let objects = alone(object);
+    let symbols = symbols_of(alloc, objects)?;
+    let input = own_input_of(alloc, objects, &symbols)?;
     Ok(input)
 }

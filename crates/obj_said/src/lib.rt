@@ -2,7 +2,7 @@
 //! input of it.
 #![tactic(auto)]
 
-pub use input::joined_input;
+pub use input::{joined_input, own_input};
 pub use sections::{content, sort_of};
 pub use slots::{is_table_use, slots_of};
 pub use symbols::{is_kept_section, symbols_of};

@@ -1,7 +1,7 @@
-use Rattle.std.proofs.Common.{◌≡◌}
+use Rattle.std.proofs.Common.{◌≡◌, length}
 use Rattle.least.specs.Nearest.{joined}
-use Rattle.obj_items.specs.Bare.{bare_relocs}
+use Rattle.obj_items.specs.Bare.{listed_relocs}
 use Rattle.obj_items.proofs.relocs.all_relocs.Given as goal
 
-abbrev pub invariant-loop-k : goal.invariant-loop-k
-invariant-loop-k l = l.relocs.items ≡ joined (bare_relocs l.input l.object l.places) l.k
+abbrev pub invariant-loop-section : goal.invariant-loop-section
+invariant-loop-section l = (l.k ≡ length l.yielded) × (l.relocs.items ≡ joined (listed_relocs l.input l.places l.yielded) (length l.yielded))
