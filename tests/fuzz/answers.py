@@ -5,7 +5,7 @@ import re
 NUMBER, ADDRESS, LONG = rb"(?:0|[1-9][0-9]*)", rb"[0-9a-f]{8}", rb"[0-9a-f]{16}"
 BYTE = rb"(?:[0-9]|[1-9][0-9]|1[0-9][0-9]|2[0-4][0-9]|25[0-5])"
 REASON = rb"(?:Form|Range|Order)"
-USAGE = rb"usage: rvcfi rewrite\|verify\|run\|compare\|demo"
+USAGE = rb"usage: rvcfi rewrite\|verify\|run\|compare\|demo\|harden"
 
 REFUSALS = {
     1: rb"NotElf", 2: rb"NotRelocatable N", 3: rb"NotRiscv N", 4: rb"Flags N", 5: rb"Truncated N", 6: rb"BadTable N",

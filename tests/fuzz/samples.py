@@ -151,7 +151,7 @@ def for_harts(hardened):
     """Samples whose images are for several harts."""
     for k in range(FOR_HARTS):
         draw = random.Random(k)
-        built = drawn.program(draw, 2)
+        built = drawn.program(draw, 2, draw.choice((1, 2)))
         yield draw.choice(hardened)._replace(name="harts_%d" % k, image=built.image, graph=built.graph)
 
 
