@@ -7,7 +7,7 @@ use Rattle.elf_image.proofs.Only.{reads_none}
 use Rattle.cfi_graph.specs.Graph.{GraphParts}
 use Rattle.cfi_graph.specs.Reading.{graph_of}
 use Rattle.cfi_graph.proofs.Only.{graph_of-graph_text}
-use Rattle.cfi_step.specs.Script.{ScriptParts}
+use Rattle.cfi_script.specs.Script.{ScriptParts}
 use Rattle.cfi_step.specs.declared.report.RunReport.{RunReport}
 use Rattle.cfi_rules.specs.Rules.{IsRejected, IsWellFormed}
 use Rattle.cfi_rules.specs.declared.reject.Reject as V

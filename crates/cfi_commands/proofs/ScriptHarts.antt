@@ -10,8 +10,8 @@ use Rattle.text_lines.specs.Reading.{if_right, one_named}
 use Rattle.text_lines.specs.declared.end.TextEnd.{TextEnd}
 use Rattle.text_lines.specs.declared.end.TextEnd.TheVariants.{Line}
 use Rattle.text_lines.specs.declared.reason.Reason.TheVariants.{Range}
-use Rattle.cfi_step.specs.Script.{Changes, ScriptParts}
-use Rattle.cfi_step.specs.ScriptText.{changes_of_lines, for_one, for_several, harts_of, script_names, script_of, turns_read, with_count, with_harts}
+use Rattle.cfi_script.specs.Script.{Changes, ScriptParts}
+use Rattle.cfi_script.specs.ScriptText.{changes_of_lines, for_one, for_several, harts_of, script_names, script_of, turns_read, with_count, with_harts}
 use Rattle.cfi_commands.specs.Opening.{script_given, undisturbed_script}
 
 -- every image may have one hart

@@ -4,7 +4,7 @@ use Rattle.rv_word.specs.Image.{Contents, image_profile}
 use Rattle.rv_word.specs.MemoryMap.{MayRun}
 use Rattle.cfi_graph.specs.Graph.{GraphParts}
 use Rattle.cfi_rules.specs.Rules.{IsWellFormed}
-use Rattle.cfi_step.specs.Script.{ScriptParts}
+use Rattle.cfi_script.specs.Script.{ScriptParts}
 use Rattle.cfi_step.specs.declared.report.RunReport.{RunReport}
 use Rattle.cfi_compare.specs.declared.answer.Compared as A
 use Rattle.cfi_harden.specs.Refused.{Refuses}

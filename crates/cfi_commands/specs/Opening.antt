@@ -6,8 +6,8 @@ use Rattle.elf_image.specs.Spelling.{spelling}
 use Rattle.cfi_graph.specs.Graph.{GraphParts, IsGraph}
 use Rattle.cfi_graph.specs.Reading.{graph_of}
 use Rattle.cfi_graph.specs.Text.{graph_text}
-use Rattle.cfi_step.specs.Script.{ScriptParts}
-use Rattle.cfi_step.specs.ScriptText.{script_of}
+use Rattle.cfi_script.specs.Script.{ScriptParts}
+use Rattle.cfi_script.specs.ScriptText.{script_of}
 use Rattle.text_lines.specs.declared.end.TextEnd.{TextEnd}
 use Rattle.text_lines.specs.declared.end.TextEnd.TheVariants.{Line}
 use Rattle.cfi_commands.specs.declared.opening.OpenEnd.{OpenEnd}

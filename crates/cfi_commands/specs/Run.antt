@@ -8,9 +8,9 @@ use Rattle.cfi_graph.specs.Graph.{GraphParts}
 use Rattle.cfi_rules.specs.Along.{IsSafe}
 use Rattle.cfi_rules.specs.RejectText.{reject_text}
 use Rattle.cfi_rules.specs.Rules.{IsRejected, IsWellFormed}
-use Rattle.cfi_step.specs.Plan.{planned}
+use Rattle.cfi_script.specs.Plan.{planned}
+use Rattle.cfi_script.specs.Script.{ScriptParts, script_plan}
 use Rattle.cfi_step.specs.Report.{IsReport}
-use Rattle.cfi_step.specs.Script.{ScriptParts, script_plan}
 use Rattle.cfi_step.specs.declared.report.RunReport.{RunReport}
 use Rattle.cfi_files.specs.Lines.{with_newline}
 use Rattle.cfi_commands.specs.Opening.{IsRefusal, Spell, script_given}

@@ -7,8 +7,8 @@ use Rattle.std.proofs.lemmas.List.{get_or-map, length-map}
 use Rattle.std.proofs.lemmas.List.Elements.{All-contains, All-from_get_or, Contains-get_or}
 use Rattle.std.proofs.lemmas.List.Quantifiers.{position-Some}
 use Rattle.cfi_class.specs.Classes.{AreInOne, IsIn, IsInSome, Joined, here, on, class_with, has}
-use Rattle.cfi_flow.specs.declared.side.Site.{Site}
-use Rattle.cfi_flow.specs.Closed.{AreClasses, class_reached, sets_of, with_class}
+use Rattle.cfi_closed.specs.declared.side.Site.{Site}
+use Rattle.cfi_flow.specs.Closing.{AreClasses, class_reached, sets_of, with_class}
 use Rattle.cfi_flow.specs.Found.{by_table, first_entry}
 use Rattle.cfi_flow.specs.Joins.{JoinAs}
 use Rattle.cfi_flow.specs.Raw.{IsThere, RawGraph, no_site}

@@ -9,12 +9,13 @@ use Rattle.std.proofs.lemmas.List.Elements.{All-filter}
 use Rattle.std.proofs.lemmas.List.{get_or-map, length-map, map-append, take_more}
 use Rattle.cfi_graph.specs.declared.line.SiteKind.{SiteKind}
 use Rattle.cfi_graph.specs.declared.line.Sort.{Sort}
+use Rattle.cfi_closed.specs.Closed.{is_of}
 use Rattle.cfi_flow.specs.declared.draw.Aim.{Aim}
 use Rattle.cfi_flow.specs.declared.draw.Aim.TheVariants as aim
 use Rattle.cfi_flow.specs.declared.draw.Drawing.{Drawing}
 use Rattle.cfi_flow.specs.declared.draw.KeptSite.{KeptSite}
 use Rattle.cfi_flow.specs.Kept.{AreKept, IsAimed, no_kept, raw_site, site_with, sites_of, targets_of}
-use Rattle.cfi_flow.specs.Closed.{is_of, sets_of}
+use Rattle.cfi_flow.specs.Closing.{sets_of}
 use Rattle.cfi_flow.specs.Raw.{IsThere, no_site}
 use Rattle.cfi_flow.specs.Sites.{RawSite}
 use Rattle.cfi_flow.proofs.Listing.{below_all}

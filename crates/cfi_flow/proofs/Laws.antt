@@ -9,9 +9,10 @@ use Rattle.cfi_class.specs.Classes.{IsInSome}
 use Rattle.obj_program.specs.Program.{Program, count, item_of}
 use Rattle.cfi_graph.specs.declared.line.SiteKind.{SiteKind}
 use Rattle.cfi_graph.specs.declared.line.Sort.{Sort}
-use Rattle.cfi_flow.specs.declared.side.Site.{Site}
+use Rattle.cfi_closed.specs.declared.side.Site.{Site}
+use Rattle.cfi_closed.specs.Closed.{Side, is_of}
 use Rattle.cfi_flow.specs.Below.{where_below}
-use Rattle.cfi_flow.specs.Closed.{IsSide, Side, is_of, sets_of, with_class}
+use Rattle.cfi_flow.specs.Closing.{IsSide, sets_of, with_class}
 use Rattle.cfi_flow.specs.Policy.{IsRaw, names_site, targets_by, targets_under}
 use Rattle.cfi_flow.specs.Raw.{RawGraph, no_site}
 use Rattle.cfi_flow.specs.Sites.{RawSite, site_at, site_kind, sites_below}

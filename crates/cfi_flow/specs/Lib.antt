@@ -4,7 +4,7 @@ pub mod Sites
 pub mod Raw
 pub mod Policy
 pub mod Entry
-pub mod Closed
+pub mod Closing
 pub mod Labels
 pub mod Kept
 pub mod Pointed

@@ -1,17 +1,16 @@
 ghost use Rattle.std.specs.Prelude.{◌≡◌, ◌<◌, IfOk, length, map};
 ghost use Rattle.std.specs.List.{All};
 ghost use Rattle.rv_word.specs.Form.{graph_version};
-ghost use Rattle.cfi_flow.specs.declared.side.Site.{Site};
-ghost use Rattle.cfi_flow.specs.Closed as closed;
-ghost use Rattle.cfi_flow.specs.Closed.{AreClasses, IsClosed, IsSide, IsSideInside, sets_of, sorts_of, with_class};
-ghost use Rattle.cfi_flow.specs.Found.{site_with};
+ghost use Rattle.cfi_closed.specs.declared.side.Site.{Site};
+ghost use Rattle.cfi_closed.specs.Closed as closed;
+ghost use Rattle.cfi_closed.specs.Closed.{IsSideInside, sorts_of};
+ghost use Rattle.cfi_closed.specs.Found.{site_with};
+ghost use Rattle.cfi_flow.specs.Closing.{AreClasses, IsClosed, IsSide, sets_of, with_class};
 ghost use Rattle.cfi_class.specs.Tables.{IsTable};
 
-use crate::closed::Closed;
 use crate::raw::Raw;
-use crate::side::{Side, Site};
-use crate::sort::sorts_of;
 use cfi_class::{Entry, blank, note, table_of};
+use cfi_closed::{Closed, Side, Site, sorts_of};
 use cfi_graph::Sort;
 use rv_word::{Form, NoMemory};
 use std::alloc::Global;
@@ -41,13 +40,7 @@ fn side_of(alloc: Global, sort: Sort, raw: &Raw) -> Result<Side, NoMemory>
     let class_at = table_of(alloc, places, classes.as_slice())?;
     let sites = raw.sites_by(alloc, class_at.as_slice())?;
     let site_at = site_table(alloc, places, sites.as_slice())?;
-    Ok(Side {
-        sort,
-        classes,
-        sites,
-        class_at,
-        site_at,
-    })
+    Ok(Side::of(sort, classes, sites, class_at, site_at))
 }
 
 /// The side of a sort.
@@ -85,9 +78,5 @@ pub fn close(alloc: Global, form: Form, raw: &Raw) -> Result<Closed, NoMemory>
     let version = form.graph_version();
     let sides = close_sides(alloc, version, raw)?;
     let taken = Vec::from_slice(alloc, raw.marks())?;
-    Ok(Closed {
-        version,
-        sides,
-        taken,
-    })
+    Ok(Closed::of(version, sides, taken))
 }

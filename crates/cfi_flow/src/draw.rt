@@ -2,14 +2,14 @@
 
 ghost use Rattle.std.specs.Prelude.{◌≡◌, ◌<◌, ◌++◌, ◌∷◌, [], IfOk, filter, length, slice_index_or};
 ghost use Rattle.std.specs.List.{All};
+ghost use Rattle.cfi_closed.specs.Closed.{is_of};
 ghost use Rattle.cfi_flow.specs.declared.draw.KeptSite.{KeptSite};
-ghost use Rattle.cfi_flow.specs.Closed.{is_of};
 ghost use Rattle.cfi_flow.specs.Kept.{AreKept, is_open, no_kept, open_targets, site_with, sites_of, targets_of};
 ghost use Rattle.cfi_flow.specs.Sites.{RawSite};
 
 use crate::below::where_below;
-use crate::sort::is_of;
 use crate::span::Span;
+use cfi_closed::is_of;
 use cfi_graph::{SiteKind, Sort};
 use rv_word::{NoMemory, Places};
 use std::alloc::Global;

@@ -9,8 +9,8 @@ ghost use Rattle.cfi_class.specs.Tables.{entry};
 
 use crate::draw::{Aim, Drawing};
 use crate::points::{Points, first, points_of};
-use crate::side::Site;
 use cfi_class::Entry;
+use cfi_closed::Site;
 use rv_word::{NoMemory, Places};
 use std::alloc::Global;
 

@@ -3,7 +3,7 @@
 ghost use Rattle.std.specs.Prelude.{◌≡◌, ◌+◌, ◌<◌, ◌≤◌, ℕ, Bool, List, [], IfOk, Some, length, slice_index_or};
 ghost use Rattle.std.specs.Bool.{OnTrue};
 ghost use Rattle.std.specs.List.Sorted.{IsStrictlyIncreasing};
-ghost use Rattle.cfi_flow.specs.Closed.{sets_of};
+ghost use Rattle.cfi_flow.specs.Closing.{sets_of};
 ghost use Rattle.cfi_flow.specs.Joins.{HaveCommon, IsJoining, JoinAs};
 ghost use Rattle.cfi_flow.specs.Kept.{AreKept, IsAimed, open_targets, sites_of, targets_of};
 ghost use Rattle.cfi_flow.specs.Pointed.{ArePoints};

@@ -1,6 +1,6 @@
 ghost use Rattle.std.specs.Prelude.{◌≡◌, ◌<◌, false, IfOk, length, map, slice_index_or};
 ghost use Rattle.std.specs.List.{All};
-ghost use Rattle.cfi_flow.specs.Closed.{AreClasses, raw_for, sets_of};
+ghost use Rattle.cfi_flow.specs.Closing.{AreClasses, raw_for, sets_of};
 ghost use Rattle.cfi_flow.specs.Found.{by_table};
 ghost use Rattle.cfi_flow.specs.Kept.{AreKept, sites_of};
 ghost use Rattle.cfi_flow.specs.Raw.{IsThere, site_of};
@@ -8,8 +8,8 @@ ghost use Rattle.cfi_flow.specs.Raw.{IsThere, site_of};
 use crate::draw::Drawing;
 use crate::found::sites_by;
 use crate::join::joined;
-use crate::side::Site;
 use cfi_class::{Entry, classes};
+use cfi_closed::Site;
 use cfi_graph::{SiteKind, Sort};
 use rv_word::{NoMemory, Places};
 use std::alloc::Global;

@@ -14,8 +14,8 @@ use Rattle.cfi_class.specs.Labels.{AreLabels}
 use Rattle.std.specs.List.Sorted.{IsStrictlyIncreasing}
 use Rattle.cfi_graph.specs.declared.line.SiteKind.{SiteKind}
 use Rattle.cfi_graph.specs.declared.line.Sort.TheVariants.{Both}
-use Rattle.cfi_flow.specs.declared.side.Site.{Site}
-use Rattle.cfi_flow.specs.Closed.{Side, has_site, is_of}
+use Rattle.cfi_closed.specs.declared.side.Site.{Site}
+use Rattle.cfi_closed.specs.Closed.{Side, has_site, is_of}
 use Rattle.cfi_map.specs.GraphAtMap.{ProgramAtMap, words_at}
 use Rattle.cfi_flow.specs.Labels.{used_labels}
 use Rattle.cfi_map.specs.LabelOf.{empty_classes, label_at, labels_of, site_label, site_number, tagged}

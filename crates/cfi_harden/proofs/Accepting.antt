@@ -11,7 +11,8 @@ use Rattle.obj_program.specs.AtMap.{instr_at}
 use Rattle.obj_program.specs.Program.{Program, count, is_end, item_of}
 use Rattle.obj_program.specs.Sound.{IsSound}
 use Rattle.cfi_map.proofs.Values.{values_there}
-use Rattle.cfi_flow.specs.Closed.{ClosedGraph, IsClosed, IsSide, Side}
+use Rattle.cfi_closed.specs.Closed.{ClosedGraph, Side}
+use Rattle.cfi_flow.specs.Closing.{IsClosed, IsSide}
 use Rattle.cfi_map.specs.GraphAtMap.{ProgramAtMap, program_at, words_at}
 use Rattle.cfi_map.specs.Placement.{whole_at, size_of, words_from}
 use Rattle.cfi_flow.proofs.Laws.{members_there}

@@ -19,9 +19,11 @@ use Rattle.obj_program.specs.Program.{Program, count, item_of, no_item}
 use Rattle.cfi_graph.specs.declared.line.SiteKind.{SiteKind}
 use Rattle.cfi_graph.specs.declared.line.Sort.{Sort}
 use Rattle.cfi_graph.specs.declared.policy.PolicyLine.{PolicyLine}
-use Rattle.cfi_flow.specs.declared.side.Site.{Site}
+use Rattle.cfi_closed.specs.declared.side.Site.{Site}
+use Rattle.cfi_closed.specs.Closed.{ClosedGraph, Side, is_target, is_target_of}
+use Rattle.cfi_closed.proofs.Sides.{few_sides}
 use Rattle.cfi_flow.specs.Below.{where_below}
-use Rattle.cfi_flow.specs.Closed.{ClosedGraph, IsClosed, Side, is_target, is_target_of}
+use Rattle.cfi_flow.specs.Closing.{IsClosed}
 use Rattle.cfi_class.specs.Classes.{has}
 use Rattle.cfi_map.specs.LabelOf.{Tagged, all_classes, empty_classes, tag, tagged, with_empty}
 use Rattle.cfi_flow.specs.Labels.{is_gate, used_labels}
@@ -30,7 +32,6 @@ use Rattle.cfi_flow.specs.Sites.{site_kind}
 use Rattle.cfi_flow.specs.Policy.{IsRaw}
 use Rattle.cfi_flow.specs.Raw.{RawGraph}
 use Rattle.cfi_flow.proofs.Laws.{is_kind_of, is_site_of, members_there, place_of_site, side_places}
-use Rattle.cfi_flow.proofs.Sides.{few_sides}
 use Rattle.cfi_harden.specs.GraphOf.{IsGraphOf}
 use Rattle.cfi_map.specs.Sizes.{part_sizes, whole_sizes}
 use Rattle.cfi_harden.proofs.SideLabels.{any_get}

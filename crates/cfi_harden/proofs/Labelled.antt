@@ -6,9 +6,9 @@ use Rattle.std.proofs.lemmas.Bool.{cases_Bool, cases_lt, cases_order, eq-eqb, eq
 use Rattle.std.proofs.lemmas.Option.{get_or_from_slice_get, same_Some, slice_get_within}
 use Rattle.obj_program.specs.declared.item.Item.{Item}
 use Rattle.cfi_class.specs.Classes.{has}
+use Rattle.cfi_closed.specs.declared.side.Site.{Site}
 use Rattle.cfi_flow.specs.Labels.{is_gate}
 use Rattle.cfi_map.specs.LabelOf.{empty_classes, label_at, next_after, number, site_number, with_empty}
-use Rattle.cfi_flow.specs.declared.side.Site.{Site}
 
 -- a class has what its list contains
 pub has_in : (class : List ℕ) (k : ℕ) → has k class ≡ true → Contains class k

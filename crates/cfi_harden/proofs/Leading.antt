@@ -16,7 +16,7 @@ use Rattle.obj_program.specs.Sound.{aims, is_direct}
 use Rattle.cfi_map.specs.GraphAtMap.{gate, gate_to, word}
 use Rattle.cfi_map.specs.LabelOf.{labels_of, site_label}
 use Rattle.cfi_map.specs.Placement.{whole_at}
-use Rattle.cfi_flow.specs.Closed.{is_target}
+use Rattle.cfi_closed.specs.Closed.{is_target}
 use Rattle.cfi_unit.specs.declared.target_word.TargetWord.{TargetWord}
 use Rattle.cfi_unit.specs.declared.unit.Unit as U
 use Rattle.cfi_unit.specs.declared.unit.Unit.TheVariants as V

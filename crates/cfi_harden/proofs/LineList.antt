@@ -14,8 +14,8 @@ use Rattle.cfi_graph.specs.declared.line.GraphLine.TheVariants as line
 use Rattle.cfi_graph.specs.declared.line.Sort.{Sort}
 use Rattle.cfi_graph.specs.Graph.{line_of_class}
 use Rattle.cfi_class.specs.Classes.{IsIn}
-use Rattle.cfi_flow.specs.declared.side.Site.{Site}
-use Rattle.cfi_flow.specs.Closed.{Side}
+use Rattle.cfi_closed.specs.declared.side.Site.{Site}
+use Rattle.cfi_closed.specs.Closed.{Side}
 use Rattle.cfi_map.specs.GraphAtMap.{ProgramAtMap, class_lines, gate, graph_lines, line_for, place_lines, with_line}
 use Rattle.cfi_map.specs.LabelOf.{Tagged, all_classes, empty_classes, tag, tagged, with_empty}
 use Rattle.cfi_harden.specs.Accepted.{IsAccepted}

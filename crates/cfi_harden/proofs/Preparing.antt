@@ -3,7 +3,7 @@
 use Rattle.std.proofs.Common.{ℕ, Result, Ok, Err, refl, subst}
 use Rattle.rv_word.specs.Form.{graph_version}
 use Rattle.obj_program.specs.Program.{Program}
-use Rattle.cfi_flow.specs.Closed.{ClosedGraph}
+use Rattle.cfi_closed.specs.Closed.{ClosedGraph}
 use Rattle.cfi_harden.specs.declared.refusal.HardenEnd.{HardenEnd}
 use Rattle.cfi_harden.specs.declared.refusal.HardenEnd.TheVariants as ends
 use Rattle.cfi_harden.specs.declared.refusal.Refusal.{Refusal}

@@ -7,7 +7,7 @@ use Rattle.std.proofs.lemmas.List.{length-map}
 use Rattle.std.proofs.lemmas.Option.{same_Some, slice_get-map}
 use Rattle.rv_word.proofs.Cases.{mapped}
 use Rattle.obj_program.specs.declared.item.Item.{Item}
-use Rattle.cfi_flow.specs.Closed.{Side, is_target}
+use Rattle.cfi_closed.specs.Closed.{Side, is_target}
 use Rattle.cfi_map.specs.GraphAtMap.{gate, word}
 use Rattle.cfi_map.specs.LabelOf.{label_at, labels_of}
 use Rattle.cfi_map.specs.Placement.{AreGates, whole_at, lead_size, size_of}

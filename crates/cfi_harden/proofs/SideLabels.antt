@@ -13,8 +13,8 @@ use Rattle.rv_word.specs.Image.{IsVersion}
 use Rattle.cfi_graph.specs.declared.line.SiteKind.{SiteKind}
 use Rattle.cfi_graph.specs.declared.line.SiteKind.TheVariants as kinds
 use Rattle.cfi_graph.specs.Graph.{ClassLine, is_sort_of}
-use Rattle.cfi_flow.specs.declared.side.Site.{Site}
-use Rattle.cfi_flow.specs.Closed.{Side, has_site, is_of, is_target_of, sorts_of}
+use Rattle.cfi_closed.specs.declared.side.Site.{Site}
+use Rattle.cfi_closed.specs.Closed.{Side, has_site, is_of, is_target_of, sorts_of}
 use Rattle.cfi_map.specs.GraphAtMap.{class_lines}
 use Rattle.cfi_map.specs.LabelOf.{Tagged, all_classes, class_count, empty_classes, label_at, labels_of, site_label, site_number, tag, tagged, with_empty}
 use Rattle.cfi_unit.specs.declared.target_word.TargetWord.TheVariants.{First, Second}

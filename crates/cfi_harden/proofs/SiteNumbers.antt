@@ -9,8 +9,8 @@ use Rattle.std.proofs.Math.Seq.{drop-cons}
 use Rattle.std.proofs.lemmas.Bool.{cases_eq, eq-eqb, ne_eqb}
 use Rattle.std.proofs.lemmas.List.{get_or-replicate, get_or-set_same, get_or-set_other, get_or_past}
 use Rattle.std.proofs.lemmas.Bool.{cases_lt}
-use Rattle.cfi_flow.specs.declared.side.Site.{Site}
-use Rattle.cfi_flow.specs.Closed.{Side, has_site}
+use Rattle.cfi_closed.specs.declared.side.Site.{Site}
+use Rattle.cfi_closed.specs.Closed.{Side, has_site}
 use Rattle.cfi_map.specs.LabelOf.{class_count, site_label, empty_classes, number, next_after, site_number, with_empty}
 use Rattle.cfi_harden.specs.Chosen.{labels_before}
 use Rattle.cfi_harden.proofs.SideLabels.{drop_more}

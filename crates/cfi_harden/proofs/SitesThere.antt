@@ -13,9 +13,10 @@ use Rattle.cfi_graph.specs.declared.line.SiteKind.TheVariants as kinds
 use Rattle.cfi_graph.specs.declared.line.Sort.{Sort}
 use Rattle.cfi_graph.specs.declared.line.Sort.TheVariants.{Both, Calls, Jumps}
 use Rattle.cfi_graph.specs.declared.policy.PolicyLine.{PolicyLine}
-use Rattle.cfi_flow.specs.declared.side.Site.{Site}
+use Rattle.cfi_closed.specs.declared.side.Site.{Site}
+use Rattle.cfi_closed.specs.Closed.{Side, has_site, is_of, sorts_of}
 use Rattle.cfi_flow.specs.Below.{where_below}
-use Rattle.cfi_flow.specs.Closed.{IsSide, Side, class_reached, has_site, is_of, raw_for, sorts_of, with_class}
+use Rattle.cfi_flow.specs.Closing.{IsSide, class_reached, raw_for, with_class}
 use Rattle.cfi_class.specs.Classes.{has}
 use Rattle.cfi_flow.specs.Policy.{IsRaw}
 use Rattle.cfi_flow.specs.Raw.{RawGraph}

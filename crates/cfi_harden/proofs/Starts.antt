@@ -6,7 +6,7 @@ use Rattle.std.proofs.lemmas.Bool.{cases_lt}
 use Rattle.std.proofs.Math.Seq.{get_or-append_seam}
 use Rattle.std.proofs.lemmas.List.{get_or_append_left, get_or-drop, length-drop, length-map}
 use Rattle.std.proofs.lemmas.Option.{slice_get-get_or}
-use Rattle.cfi_flow.specs.Closed.{Side}
+use Rattle.cfi_closed.specs.Closed.{Side}
 use Rattle.cfi_map.specs.LabelOf.{all_classes, class_count, tag, tagged}
 use Rattle.cfi_harden.specs.Chosen.{AreStarts, labels_before}
 

@@ -8,7 +8,7 @@ use Rattle.std.proofs.lemmas.Option.{get_or_from_slice_get, slice_get_within}
 use Rattle.obj_program.specs.declared.item.Item.{Item}
 use Rattle.obj_program.specs.Program.{count, item_of, no_item}
 use Rattle.cfi_unit.specs.declared.unit.Unit as U
-use Rattle.cfi_flow.specs.Closed.{is_target}
+use Rattle.cfi_closed.specs.Closed.{is_target}
 use Rattle.cfi_map.specs.LabelOf.{labels_of}
 use Rattle.cfi_harden.specs.Units.{Choice, lead, lead_unit, unit_for, units, units_from}
 

@@ -11,7 +11,7 @@ use Rattle.rv_word.specs.Image.{IsVersion}
 use Rattle.cfi_graph.specs.Graph.{IsGraph, is_code_address, is_code_length, is_label, is_sort_of}
 use Rattle.cfi_graph.specs.declared.line.GraphLine.{GraphLine}
 use Rattle.cfi_graph.specs.declared.line.GraphLine.TheVariants.{Call}
-use Rattle.cfi_flow.specs.Closed.{Side, is_target}
+use Rattle.cfi_closed.specs.Closed.{Side, is_target}
 use Rattle.cfi_class.specs.Classes.{has}
 use Rattle.cfi_map.specs.GraphAtMap.{gate, gate_to, graph_lines, line_for, place_lines, word}
 use Rattle.cfi_map.specs.LabelOf.{Tagged, all_classes, labels_of, site_label, tagged}

@@ -17,7 +17,7 @@ use Rattle.obj_program.specs.Program.{Program}
 use Rattle.cfi_graph.specs.declared.line.GraphLine.TheVariants.{Call, CallClass, Class, Edge, JumpClass, Site}
 use Rattle.cfi_graph.specs.declared.line.SiteKind.TheVariants as site
 use Rattle.cfi_graph.specs.declared.line.Sort.TheVariants.{Both, Calls, Jumps}
-use Rattle.cfi_flow.specs.Closed.{Side}
+use Rattle.cfi_closed.specs.Closed.{Side}
 use Rattle.cfi_map.specs.GraphAtMap.{ProgramAtMap, class_lines, graph_lines, place_lines}
 use Rattle.cfi_map.specs.LabelOf.{empty_classes, label_at, labels_of, site_label, site_number, tagged}
 use Rattle.cfi_map.specs.Placement.{AreGates, words_from}

@@ -11,8 +11,8 @@ use Rattle.obj_program.specs.Sound.{IsSound}
 use Rattle.cfi_class.specs.Labels.{AreLabels}
 use Rattle.cfi_class.specs.Classes.{IsIn}
 use Rattle.cfi_graph.specs.declared.line.SiteKind.{SiteKind}
-use Rattle.cfi_flow.specs.declared.side.Site.{Site}
-use Rattle.cfi_flow.specs.Closed.{Side, has_site, is_of, sorts_of}
+use Rattle.cfi_closed.specs.declared.side.Site.{Site}
+use Rattle.cfi_closed.specs.Closed.{Side, has_site, is_of, sorts_of}
 use Rattle.cfi_map.specs.GraphAtMap.{words_at}
 use Rattle.cfi_map.specs.LabelOf.{tagged}
 use Rattle.cfi_flow.specs.Labels.{used_labels}

@@ -2,7 +2,8 @@
 use Rattle.std.specs.Prelude.{List}
 use Rattle.obj_program.specs.Program.{Program}
 use Rattle.cfi_graph.specs.declared.policy.PolicyLine.{PolicyLine}
-use Rattle.cfi_flow.specs.Closed.{ClosedGraph, IsClosed}
+use Rattle.cfi_closed.specs.Closed.{ClosedGraph}
+use Rattle.cfi_flow.specs.Closing.{IsClosed}
 use Rattle.cfi_flow.specs.Policy.{IsRaw}
 use Rattle.cfi_flow.specs.Raw.{RawGraph}
 

@@ -4,7 +4,7 @@ use Rattle.elf_object.specs.Fault.{fault_of as object_fault}
 use Rattle.obj_rules.specs.Fault.{fault_of}
 use Rattle.obj_program.specs.Program.{Program}
 use Rattle.obj_items.specs.FromObject.{input_of}
-use Rattle.cfi_flow.specs.Closed.{ClosedGraph}
+use Rattle.cfi_closed.specs.Closed.{ClosedGraph}
 use Rattle.cfi_flow.specs.Entry.{entry_place}
 use Rattle.cfi_harden.specs.declared.refusal.HardenEnd.{HardenEnd}
 use Rattle.cfi_harden.specs.declared.refusal.HardenEnd.TheVariants.{Refused, NoMemory}

@@ -6,8 +6,8 @@ use Rattle.cfi_class.specs.Classes.{IsIn}
 use Rattle.cfi_graph.specs.Graph.{ClassLine, class_in}
 use Rattle.cfi_graph.specs.declared.line.SiteKind.{SiteKind}
 use Rattle.cfi_graph.specs.declared.line.SiteKind.TheVariants as kinds
-use Rattle.cfi_flow.specs.declared.side.Site.{Site}
-use Rattle.cfi_flow.specs.Closed.{Side, sorts_of, is_target}
+use Rattle.cfi_closed.specs.declared.side.Site.{Site}
+use Rattle.cfi_closed.specs.Closed.{Side, sorts_of, is_target}
 use Rattle.cfi_map.specs.GraphAtMap.{class_lines}
 use Rattle.cfi_map.specs.LabelOf.{all_classes, labels_of, site_label, site_number, tagged}
 use Rattle.cfi_unit.specs.declared.target_word.TargetWord.{TargetWord}

@@ -13,7 +13,7 @@ use Rattle.cfi_map.specs.GraphAtMap.{ProgramAtMap, gate, gate_to}
 use Rattle.cfi_map.specs.LabelOf.{labels_of, site_label}
 use Rattle.cfi_map.specs.Placement.{whole_at}
 use Rattle.cfi_map.specs.Source.{instr_here}
-use Rattle.cfi_flow.specs.Closed.{is_target}
+use Rattle.cfi_closed.specs.Closed.{is_target}
 use Rattle.cfi_unit.specs.declared.target_word.TargetWord.{TargetWord}
 use Rattle.cfi_unit.specs.declared.unit.Unit as U
 use Rattle.cfi_unit.specs.declared.unit.Unit.TheVariants as V

@@ -4,7 +4,7 @@ ghost use Rattle.std.specs.Prelude.{◌≡◌, ◌<◌, ◌≤◌, ◌^◌, IfOk
 ghost use Rattle.std.specs.List.{All};
 ghost use Rattle.rv_word.specs.Form.{profile_for};
 ghost use Rattle.obj_program.specs.Program.{count, item_of};
-ghost use Rattle.cfi_flow.specs.Closed as closed;
+ghost use Rattle.cfi_closed.specs.Closed as closed;
 ghost use Rattle.cfi_map.specs.GraphAtMap.{gate, gate_to, word};
 ghost use Rattle.cfi_map.specs.LabelOf.{class_count, labels_of, site_label, tagged};
 ghost use Rattle.cfi_map.specs.Placement.{whole_at};
@@ -14,7 +14,7 @@ ghost use Rattle.cfi_harden.specs.Hardened.{chosen};
 
 use crate::labels::{label_at, label_or_zero, labels_from, site_labels};
 use crate::numbering::label_starts;
-use cfi_flow::Closed;
+use cfi_closed::Closed;
 use cfi_map::{Mapped, Spacing};
 use obj_input::ItemKind;
 use obj_program::Item;

@@ -7,7 +7,8 @@ ghost use Rattle.cfi_harden.specs.Closing.{Closes, failed_line};
 ghost use Rattle.cfi_harden.specs.Request.{policy_reading};
 
 use crate::refusal::{HardenEnd, Refusal};
-use cfi_flow::{Closed, close, raw_graph};
+use cfi_closed::Closed;
+use cfi_flow::{close, raw_graph};
 use cfi_graph::{Policy, read_policy_part};
 use obj_program::Items;
 use rv_word::Form;

@@ -2,12 +2,12 @@
 
 ghost use Rattle.std.specs.Prelude.{◌≡◌, ◌<◌, ◌≤◌, ◌^◌, ℕ, if◌then◌else◌, IfOk, IfSome, drop, length, slice_get, slice_index};
 ghost use Rattle.std.specs.List.{All};
-ghost use Rattle.cfi_flow.specs.declared.side.Site.{Site};
-ghost use Rattle.cfi_flow.specs.Closed.{has_site};
+ghost use Rattle.cfi_closed.specs.declared.side.Site.{Site};
+ghost use Rattle.cfi_closed.specs.Closed.{has_site};
 ghost use Rattle.cfi_map.specs.LabelOf.{class_count, label_at, site_label, site_number, tagged};
 ghost use Rattle.cfi_harden.specs.Chosen.{AreStarts};
 
-use cfi_flow::{Closed, Side};
+use cfi_closed::{Closed, Side};
 use rv_word::NoMemory;
 use std::alloc::Global;
 

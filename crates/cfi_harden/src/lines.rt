@@ -8,7 +8,7 @@ ghost use Rattle.cfi_map.specs.GraphAtMap.{class_lines, graph_lines, line_for, p
 ghost use Rattle.cfi_map.specs.LabelOf.{all_classes, class_count, tag, tagged};
 
 use crate::chosen::Chosen;
-use cfi_flow::Side;
+use cfi_closed::Side;
 use cfi_graph::{Graph, GraphLine, GraphLines, SiteKind};
 use obj_input::ItemKind;
 use rv_word::profile::START;

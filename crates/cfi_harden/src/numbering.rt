@@ -12,7 +12,8 @@ ghost use Rattle.cfi_harden.specs.GraphOf.{IsGraphOf};
 ghost use Rattle.cfi_map.specs.Sizes.{whole_sizes};
 
 use cfi_class::labels;
-use cfi_flow::{Closed, Side, used_labels};
+use cfi_closed::{Closed, Side};
+use cfi_flow::used_labels;
 use obj_program::Items;
 use rv_word::NoMemory;
 use std::alloc::Global;

@@ -6,7 +6,8 @@ ghost use Rattle.cfi_harden.specs.Request.{ProgramRequest, Request};
 
 use crate::closing::closed_under;
 use crate::refusal::{HardenEnd, Refusal};
-use cfi_flow::{Closed, entry_place};
+use cfi_closed::Closed;
+use cfi_flow::entry_place;
 use elf_object::Object;
 use obj_items::items;
 use obj_program::Items;

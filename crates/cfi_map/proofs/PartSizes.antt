@@ -8,7 +8,7 @@ use Rattle.obj_input.specs.declared.item_kind.ItemKind.TheVariants as is
 use Rattle.obj_program.specs.declared.item.Item.{Item}
 use Rattle.obj_program.specs.Program.{no_item}
 use Rattle.cfi_layout.specs.Starts.{starts_from}
-use Rattle.cfi_flow.specs.Closed.{Side}
+use Rattle.cfi_closed.specs.Closed.{Side}
 use Rattle.cfi_map.specs.Placement.{AreGates, lead_size, whole_at, size_of}
 use Rattle.cfi_map.proofs.Placing.{drop_step}
 use Rattle.cfi_map.specs.Sizes.{part_sizes}

@@ -16,7 +16,7 @@ use Rattle.obj_program.specs.Sound.{IsSound}
 use Rattle.cfi_layout.specs.LongSet.{IsLongSet, is_whole, sizes_under, starts_under}
 use Rattle.cfi_layout.specs.Starts.{Placed, code_size, flag, starts_from}
 use Rattle.cfi_layout.proofs.Offsets.{length_starts, length_where, start_most, sum_where}
-use Rattle.cfi_flow.specs.Closed.{ClosedGraph}
+use Rattle.cfi_closed.specs.Closed.{ClosedGraph}
 use Rattle.cfi_map.specs.Placement.{AreGates, whole_at}
 use Rattle.cfi_map.specs.Placing.{IsPlacement, IsPlacementOf, IsShortened}
 use Rattle.cfi_map.specs.Shorts.{shorts_of, IsShortAt}

@@ -3,7 +3,7 @@ use Rattle.std.proofs.Common.{◌≡◌, ℕ, suc, ◌+◌, ◌<◌, ◌≤◌, 
 use Rattle.std.proofs.lemmas.List.{append-nil, drop_all}
 use Rattle.obj_program.specs.declared.item.Item.{Item}
 use Rattle.obj_program.specs.Program.{count}
-use Rattle.cfi_flow.specs.Closed.{Side}
+use Rattle.cfi_closed.specs.Closed.{Side}
 use Rattle.cfi_map.specs.GraphAtMap.{ProgramAtMap, word, words_at}
 use Rattle.cfi_map.specs.Mapped.{IsMapped}
 use Rattle.cfi_map.specs.Placement.{AreGates, lead_size, words_from}

@@ -11,7 +11,7 @@ use Rattle.cfi_layout.specs.declared.short.Short.{Short}
 use Rattle.cfi_layout.specs.LongSet.{is_forced, sizes_where, starts_under}
 use Rattle.cfi_layout.specs.Starts.{code_size, starts_from}
 use Rattle.cfi_graph.specs.declared.line.Sort.TheVariants.{Both, Calls, Jumps}
-use Rattle.cfi_flow.specs.Closed.{ClosedGraph}
+use Rattle.cfi_closed.specs.Closed.{ClosedGraph}
 use Rattle.cfi_map.specs.Shorts.{shorts_below, shorts_of}
 use Rattle.cfi_map.specs.Sizes.{part_sizes, whole_size, whole_sizes}
 

@@ -12,7 +12,7 @@ use Rattle.obj_program.specs.Program.{Program, count, is_end, item_of}
 use Rattle.obj_program.specs.Sound.{IsSound, aims}
 use Rattle.cfi_layout.specs.declared.short.Short.{Short}
 use Rattle.cfi_layout.specs.LongSet.{is_branch as is_part}
-use Rattle.cfi_flow.specs.Closed.{ClosedGraph}
+use Rattle.cfi_closed.specs.Closed.{ClosedGraph}
 use Rattle.cfi_map.specs.Shorts.{short_at, short_to, shorts_below, with_short, is_branch}
 
 -- a branch that is listed is that of a place

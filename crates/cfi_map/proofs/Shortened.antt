@@ -15,7 +15,7 @@ use Rattle.obj_program.specs.Sound.{IsSound}
 use Rattle.cfi_layout.specs.declared.short.Short.{Short}
 use Rattle.cfi_layout.specs.LongSet.{AreShorts, HoldsAllForced, IsShort, is_forced, is_whole, is_in_reach, sizes_under, sizes_where, starts_under, word}
 use Rattle.cfi_layout.specs.Starts.{starts_from}
-use Rattle.cfi_flow.specs.Closed.{ClosedGraph, Side}
+use Rattle.cfi_closed.specs.Closed.{ClosedGraph, Side}
 use Rattle.cfi_map.specs.Placement.{lead_size, whole_at, size_of}
 use Rattle.cfi_map.specs.Shorts.{short_to, shorts_of, IsShortAt, is_branch}
 use Rattle.cfi_map.specs.GraphAtMap.{program_at}

@@ -17,7 +17,7 @@ use Rattle.obj_program.specs.declared.item.Value.TheVariants.{GateOf, Number}
 use Rattle.obj_program.specs.AtMap.{instr_at}
 use Rattle.obj_program.specs.DataAtMap.{data_at}
 use Rattle.cfi_graph.specs.declared.line.Sort.TheVariants.{Both, Calls, Jumps}
-use Rattle.cfi_flow.specs.Closed.{ClosedGraph}
+use Rattle.cfi_closed.specs.Closed.{ClosedGraph}
 use Rattle.cfi_map.specs.GraphAtMap.{ProgramAtMap}
 use Rattle.cfi_map.specs.Placement.{words_from}
 use Rattle.cfi_map.specs.declared.reason.Reason.TheVariants as why

@@ -2,8 +2,8 @@
 -- class of its own.
 use Rattle.std.specs.Prelude.{ℕ, ◌+◌, ◌==◌, if◌then◌else◌, Option, Some, None, List, [], ◌∷◌, ◌++◌, drop, length, map, slice_index}
 use Rattle.cfi_graph.specs.declared.line.Sort.{Sort}
-use Rattle.cfi_flow.specs.declared.side.Site.{Site}
-use Rattle.cfi_flow.specs.Closed.{Side, has_site}
+use Rattle.cfi_closed.specs.declared.side.Site.{Site}
+use Rattle.cfi_closed.specs.Closed.{Side, has_site}
 use Rattle.cfi_class.specs.Classes.{has}
 
 -- the label of the class that has a place

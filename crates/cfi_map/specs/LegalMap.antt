@@ -6,7 +6,7 @@ use Rattle.cfi_graph.specs.Map.{MapParts}
 use Rattle.cfi_graph.specs.declared.map.MapLine.{MapLine}
 use Rattle.obj_program.specs.declared.item.Item.{Item}
 use Rattle.obj_program.specs.Program.{Program}
-use Rattle.cfi_flow.specs.Closed.{ClosedGraph}
+use Rattle.cfi_closed.specs.Closed.{ClosedGraph}
 use Rattle.cfi_map.specs.Placement.{IsLegal}
 
 abbrev pub gates_of : List MapLine → List ℕ

@@ -4,7 +4,7 @@
 use Rattle.std.specs.Prelude.{◌≡◌, ℕ, ◌+◌, take}
 use Rattle.cfi_graph.specs.Map.{MapParts}
 use Rattle.obj_program.specs.Program.{Program}
-use Rattle.cfi_flow.specs.Closed.{ClosedGraph}
+use Rattle.cfi_closed.specs.Closed.{ClosedGraph}
 use Rattle.cfi_map.specs.LegalMap.{IsLegalMap}
 
 -- the first lines are a legal map of as many first places

@@ -5,7 +5,7 @@ use Rattle.rv_word.specs.declared.unit_words.TheConstants as counts
 use Rattle.obj_input.specs.declared.item_kind.ItemKind.{ItemKind}
 use Rattle.obj_input.specs.declared.item_kind.ItemKind.TheVariants as is
 use Rattle.obj_program.specs.declared.item.Item.{Item}
-use Rattle.cfi_flow.specs.Closed.{Side, is_target}
+use Rattle.cfi_closed.specs.Closed.{Side, is_target}
 
 -- how many bytes the unit of a kind of place has; a branch has its whole size where it is long, a word and a jump, and is one word
 -- where it is short

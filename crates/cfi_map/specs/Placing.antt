@@ -10,7 +10,7 @@ use Rattle.cfi_layout.specs.declared.end.PlaceEnd.TheVariants as ends
 use Rattle.cfi_layout.specs.LongSet.{IsLongSet, starts_under}
 use Rattle.cfi_layout.specs.LongSet.{is_branch as is_part}
 use Rattle.cfi_layout.specs.Starts.{Placed, code_size, flag}
-use Rattle.cfi_flow.specs.Closed.{ClosedGraph}
+use Rattle.cfi_closed.specs.Closed.{ClosedGraph}
 use Rattle.cfi_map.specs.GraphAtMap.{ProgramAtMap, program_at}
 use Rattle.cfi_map.specs.Placement.{AreGates, whole_at}
 use Rattle.cfi_map.specs.Shorts.{IsShortAt, is_branch, shorts_of}

@@ -4,7 +4,7 @@ use Rattle.obj_input.specs.declared.item_kind.ItemKind.{ItemKind}
 use Rattle.obj_input.specs.declared.item_kind.ItemKind.TheVariants as is
 use Rattle.obj_program.specs.Program.{Program, count, item_of}
 use Rattle.cfi_layout.specs.declared.short.Short.{Short}
-use Rattle.cfi_flow.specs.Closed.{ClosedGraph, is_target}
+use Rattle.cfi_closed.specs.Closed.{ClosedGraph, is_target}
 use Rattle.cfi_map.specs.GraphAtMap.{ProgramAtMap, gate, word}
 use Rattle.cfi_map.specs.Placement.{lead_size}
 

@@ -6,7 +6,7 @@ use Rattle.rv_word.specs.declared.form.Form.{Form}
 use Rattle.obj_program.specs.declared.item.Item.{Item}
 use Rattle.obj_program.specs.Program.{Program}
 use Rattle.cfi_layout.specs.Starts.{code_size}
-use Rattle.cfi_flow.specs.Closed.{ClosedGraph, Side}
+use Rattle.cfi_closed.specs.Closed.{ClosedGraph, Side}
 use Rattle.cfi_map.specs.Placement.{lead_size, whole_at, size_of}
 
 -- the parts of places from index k on, where these flags say which units have their whole size

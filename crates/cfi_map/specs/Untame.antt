@@ -11,7 +11,7 @@ use Rattle.rv_code.specs.Step.{offset}
 use Rattle.obj_input.specs.declared.item_kind.ItemKind.{ItemKind}
 use Rattle.obj_input.specs.declared.item_kind.ItemKind.TheVariants as is
 use Rattle.obj_program.specs.Program.{is_end}
-use Rattle.cfi_flow.specs.Closed.{ClosedGraph, class_reaches}
+use Rattle.cfi_closed.specs.Closed.{ClosedGraph, class_reaches}
 use Rattle.cfi_map.specs.GraphAtMap.{ProgramAtMap, gate}
 use Rattle.cfi_map.specs.declared.reason.Reason.{Reason}
 use Rattle.cfi_map.specs.declared.reason.Reason.TheVariants as why

@@ -15,7 +15,7 @@ ghost use Rattle.cfi_map.specs.Source.{first_astray, instr_here};
 ghost use Rattle.cfi_map.specs.Untame.{place_with_gate};
 
 use crate::sizes::lead_size;
-use cfi_flow::Closed;
+use cfi_closed::Closed;
 use least::Place;
 use obj_program::{DataEnd, Item, Items};
 use rv_instr::Instr;

@@ -8,7 +8,7 @@ ghost use Rattle.cfi_map.specs.Shorts.{short_at, shorts_of, with_short, is_branc
 ghost use Rattle.cfi_map.specs.Sizes.{whole_sizes};
 
 use crate::sizes::lead_size;
-use cfi_flow::Closed;
+use cfi_closed::Closed;
 use cfi_layout::Short;
 use obj_input::ItemKind;
 use obj_program::Items;

@@ -5,7 +5,7 @@ ghost use Rattle.obj_program.specs.Program.{count, item_of};
 ghost use Rattle.cfi_map.specs.Placement.{lead_size, size_of};
 ghost use Rattle.cfi_map.specs.Sizes.{whole_sizes};
 
-use cfi_flow::Closed;
+use cfi_closed::Closed;
 use obj_input::ItemKind;
 use obj_program::Items;
 use rv_word::NoMemory;

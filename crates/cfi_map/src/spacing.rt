@@ -11,7 +11,7 @@ ghost use Rattle.cfi_map.specs.Sizes.{whole_size, whole_sizes};
 use crate::mapped::Mapped;
 use crate::shorts::shorts;
 use crate::sizes::whole_sizes;
-use cfi_flow::Closed;
+use cfi_closed::Closed;
 use cfi_layout::{PlaceEnd, Placement, code_size, shorten};
 use obj_program::Items;
 use rv_word::memory_map::CODE_SIZE;

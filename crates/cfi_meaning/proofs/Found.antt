@@ -11,7 +11,7 @@ use Rattle.rv_instr.specs.Registers.{Registers}
 use Rattle.rv_instr.specs.declared.instr.Instr.{Instr}
 use Rattle.cfi_map.specs.GraphAtMap.{ProgramAtMap, gate}
 use Rattle.cfi_map.specs.Untame.{computed, computed_place, if_reached, place_with_gate}
-use Rattle.cfi_flow.specs.Closed.{class_reaches}
+use Rattle.cfi_closed.specs.Closed.{class_reaches}
 
 pub record IsFound (g : ProgramAtMap) (k v t : ℕ) : Type 0 where
   pub gate_is : gate g t ≡ v

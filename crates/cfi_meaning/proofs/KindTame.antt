@@ -26,7 +26,7 @@ use Rattle.cfi_map.specs.Source.{Source}
 use Rattle.cfi_map.specs.Untame.{MOST_CALLS, is_off_graph, is_off_window, is_too_deep, is_wrong_return, return_address}
 use Rattle.cfi_graph.specs.declared.line.SiteKind.{SiteKind}
 use Rattle.cfi_graph.specs.declared.line.SiteKind.TheVariants as kinds
-use Rattle.cfi_flow.specs.Closed.{class_reaches}
+use Rattle.cfi_closed.specs.Closed.{class_reaches}
 use Rattle.cfi_flow.specs.Sites.{site_kind}
 use Rattle.cfi_meaning.proofs.Found.{place_found, some_found}
 

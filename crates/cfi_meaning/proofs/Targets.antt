@@ -12,8 +12,8 @@ use Rattle.obj_program.specs.Program.{count, item_of}
 use Rattle.cfi_class.specs.Classes.{has}
 use Rattle.cfi_graph.specs.declared.line.GraphLine.{GraphLine}
 use Rattle.cfi_graph.specs.declared.line.SiteKind.{SiteKind}
-use Rattle.cfi_flow.specs.declared.side.Site.{Site}
-use Rattle.cfi_flow.specs.Closed.{Side, class_at, class_if, class_of, has_site, is_same, side_reaches}
+use Rattle.cfi_closed.specs.declared.side.Site.{Site}
+use Rattle.cfi_closed.specs.Closed.{Side, class_at, class_if, class_of, has_site, is_same, side_reaches}
 use Rattle.cfi_map.specs.GraphAtMap.{gate, graph_lines}
 use Rattle.cfi_map.specs.LabelOf.{all_classes, empty_classes, next_after, site_label, site_number}
 use Rattle.cfi_unit.specs.declared.target_word.TargetWord.{TargetWord}

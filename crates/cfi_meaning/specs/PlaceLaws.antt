@@ -6,7 +6,7 @@ use Rattle.obj_program.specs.Program.{count, item_of}
 use Rattle.cfi_graph.specs.declared.line.SiteKind.{SiteKind}
 use Rattle.cfi_map.specs.GraphAtMap.{gate, word}
 use Rattle.cfi_map.specs.LabelOf.{site_label}
-use Rattle.cfi_flow.specs.Closed.{class_reaches}
+use Rattle.cfi_closed.specs.Closed.{class_reaches}
 use Rattle.cfi_flow.specs.Sites.{site_kind}
 use Rattle.cfi_unit.specs.declared.unit.Unit as U
 use Rattle.cfi_unit.specs.Leads.{HasLabel}

@@ -5,7 +5,8 @@ use Rattle.std.proofs.lemmas.List.{get_or_default}
 use Rattle.cfi_graph.specs.declared.policy.PolicyLine.{PolicyLine}
 use Rattle.cfi_graph.specs.declared.line.Sort.{Sort}
 use Rattle.obj_program.specs.Program.{Program}
-use Rattle.cfi_flow.specs.Closed.{AreClasses, ClosedGraph, IsClosed, IsSide, Side, raw_for, sets_of, with_class}
+use Rattle.cfi_closed.specs.Closed.{ClosedGraph, Side}
+use Rattle.cfi_flow.specs.Closing.{AreClasses, IsClosed, IsSide, raw_for, sets_of, with_class}
 use Rattle.cfi_flow.specs.Policy.{IsRaw}
 use Rattle.cfi_flow.specs.Raw.{RawGraph}
 use Rattle.cfi_single.proofs.Classes.{classes_unique}

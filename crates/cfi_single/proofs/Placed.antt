@@ -7,7 +7,7 @@ use Rattle.obj_input.specs.declared.item_kind.ItemKind.TheVariants as is
 use Rattle.obj_program.specs.declared.item.Item.{Item}
 use Rattle.obj_program.specs.Program.{Program, no_item}
 use Rattle.cfi_layout.specs.LongSet.{is_branch as is_part}
-use Rattle.cfi_flow.specs.Closed.{ClosedGraph, Side}
+use Rattle.cfi_closed.specs.Closed.{ClosedGraph, Side}
 use Rattle.cfi_map.specs.GraphAtMap.{ProgramAtMap, program_at}
 use Rattle.cfi_map.specs.Placement.{AreGates, lead_size, whole_at, size_of}
 use Rattle.cfi_map.specs.Placing.{IsPlacement, IsPlacementOf, Spaced}

@@ -3,7 +3,7 @@ use Rattle.std.proofs.Common.{◌≡◌, ℕ, ◌+◌, ◌<◌, List, [], ◌∷
 use Rattle.std.specs.List.{AllByRecursion}
 use Rattle.rv_code.specs.Run.{IsDataChange, disturbed}
 use Rattle.rv_code.specs.State.{Shared}
-use Rattle.cfi_step.specs.Plan.{change_of, changes_of}
+use Rattle.cfi_script.specs.Plan.{change_of, changes_of}
 
 module _ (xs : List (ℕ × ℕ)) (i : ℕ) (d : ℕ × ℕ) (below : i < length xs) where
   left : drop i xs ≡ get_or xs i d ∷ drop (i + 1) xs

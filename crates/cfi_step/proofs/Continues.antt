@@ -15,7 +15,7 @@ use Rattle.cfi_rules.specs.Along.{AreStepsOf, MayEnd}
 use Rattle.cfi_rules.specs.Split.{code_words, place_at}
 use Rattle.cfi_rules.specs.Trails.{Begin, IsInPlace, if_own_begin, newest_of, trail_of}
 use Rattle.cfi_rules.specs.Walks.{if_own, if_starts, walk_of}
-use Rattle.cfi_step.specs.Plan.{Plan, Planned, harts_of, numbered, planned, step_of, steps_of}
+use Rattle.cfi_script.specs.Plan.{Plan, Planned, harts_of, numbered, planned, step_of, steps_of}
 use Rattle.cfi_step.specs.Report.{end_of, break_at}
 use Rattle.cfi_step.specs.Running.{is_stop, AreNoted, IsOver, StaysFrom, trails_of}
 use Rattle.cfi_step.specs.Taken.{AreTurnsOf}

@@ -1,7 +1,7 @@
 -- The turns of steps by harts: how one more step changes them, and whose turn it is after so many steps.
 use Rattle.std.proofs.Common.{◌≡◌, ◌==◌, ℕ, suc, ◌-◌, if◌then◌else◌, List, [], ◌∷◌, ◌++◌, length, refl, sym, ◌∙◌, ap, arith, inl, inr, append_assoc}
 use Rattle.std.proofs.lemmas.Bool.{cases_Bool, cases_eq, cases_lt, eq-eqb, le-ltb, lt-ltb, ne_eqb}
-use Rattle.cfi_step.specs.Turns.{Turns, hart_in_turn, turns_of, with_turn}
+use Rattle.cfi_script.specs.Turns.{Turns, hart_in_turn, turns_of, with_turn}
 
 -- one more step after these turns
 abbrev pub push_turn : Turns → ℕ → Turns

@@ -9,7 +9,3 @@ mod Stepping
 mod Turned
 mod TurnsTaken
 mod Zeros
-pub mod ScriptDigits
-pub mod ScriptPlans
-pub mod ScriptTurns
-mod TurnPlaces

@@ -8,7 +8,7 @@ use Rattle.rv_word.specs.Image.{Contents}
 use Rattle.rv_word.specs.MemoryMap.{Profile}
 use Rattle.rv_code.specs.State.{Harts, Shared}
 use Rattle.rv_machine.specs.Harts.{harts_in, harts_share}
-use Rattle.cfi_step.specs.Plan.{IsOneHart, IsQuietPlan, Plan}
+use Rattle.cfi_script.specs.Plan.{IsOneHart, IsQuietPlan, Plan}
 use Rattle.cfi_step.specs.Running.{trails_of, IsBegun, IsPrepared, IsReady, IsStill}
 use Rattle.cfi_step.specs.Trail.{IsTrailOf, TrailParts}
 use Rattle.cfi_step.specs.declared.running.Running.{Running}

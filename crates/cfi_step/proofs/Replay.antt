@@ -10,11 +10,11 @@ use Rattle.rv_code.specs.State.{Harts, Shared}
 use Rattle.rv_code.specs.declared.turn.Turn.{Turn}
 use Rattle.rv_code.specs.declared.turn.Turn.TheVariants.{Ran, Exit, Break, LoadFault, StoreFault, FetchFault, Illegal}
 use Rattle.cfi_rules.specs.Along.{AreStepsOf}
+use Rattle.cfi_script.proofs.ScriptPlans.{IsFrom, first_of_script, nothing}
+use Rattle.cfi_script.specs.Plan.{Plan, Planned, harts_of, numbered, planned, step_of, steps_of}
+use Rattle.cfi_script.specs.Script.{hart_below, script_plan}
+use Rattle.cfi_script.specs.Turns.{hart_in_turn, turns_of}
 use Rattle.cfi_step.proofs.InTurns.{hart_here}
-use Rattle.cfi_step.proofs.ScriptPlans.{IsFrom, first_of_script, nothing}
-use Rattle.cfi_step.specs.Plan.{Plan, Planned, harts_of, numbered, planned, step_of, steps_of}
-use Rattle.cfi_step.specs.Script.{hart_below, script_plan}
-use Rattle.cfi_step.specs.Turns.{hart_in_turn, turns_of}
 
 -- those of a step
 abbrev of_step : ℕ → List (ℕ × (ℕ × ℕ)) → List (ℕ × ℕ)

@@ -14,12 +14,12 @@ use Rattle.cfi_rules.specs.Along.{IsSafe}
 use Rattle.cfi_rules.specs.Split.{code_words}
 use Rattle.cfi_rules.specs.Walks.{walk_of}
 use Rattle.cfi_rules.proofs.Trails.{safe_stays}
-use Rattle.cfi_step.specs.Plan.{Plan, Planned, harts_of, numbered, planned, steps_of}
+use Rattle.cfi_script.specs.Plan.{Plan, Planned, harts_of, numbered, planned, steps_of}
+use Rattle.cfi_script.specs.Turns.{turns_of}
 use Rattle.cfi_step.specs.Report.{IsReport, IsWalkOf, stopping_hart}
 use Rattle.cfi_step.specs.Running.{IsBegun, IsOver, StaysFrom, trails_of}
 use Rattle.cfi_step.specs.Taken.{AreTurnsOf}
 use Rattle.cfi_step.specs.Trail.{IsTrailOf, told_of}
-use Rattle.cfi_step.specs.Turns.{turns_of}
 use Rattle.cfi_step.specs.declared.report.HartWalk.{HartWalk}
 use Rattle.cfi_step.specs.declared.report.RunEnd.{RunEnd}
 use Rattle.cfi_step.specs.declared.report.RunReport.{RunReport}

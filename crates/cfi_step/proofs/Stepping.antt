@@ -4,7 +4,7 @@ use Rattle.std.specs.Prelude.{OnOk, Result}
 use Rattle.rv_word.specs.MemoryMap.{Profile}
 use Rattle.rv_code.specs.Run.{disturbed, stepped}
 use Rattle.rv_code.specs.State.{Harts, Shared}
-use Rattle.cfi_step.specs.Plan.{changes_of, step_of}
+use Rattle.cfi_script.specs.Plan.{changes_of, step_of}
 use Rattle.cfi_step.specs.Running.{AreNoted}
 use Rattle.cfi_step.specs.Trail.{TrailParts}
 

@@ -1,10 +1,10 @@
 -- The turns of the steps that a run has taken, where one more step is taken or the run ends.
 use Rattle.std.proofs.Common.{◌≡◌, ◌-◌, ℕ, suc, List, [], ◌∷◌, ◌++◌, length, refl, sym, ◌∙◌, ap, arith}
 use Rattle.std.proofs.lemmas.List.{length-append}
+use Rattle.cfi_script.specs.Turns.{turns_of}
 use Rattle.cfi_step.proofs.InTurns.{turn_changes, turn_grows}
 use Rattle.cfi_step.specs.Report.{last_hart}
 use Rattle.cfi_step.specs.Taken.{AreTurnsOf, goes_on, none_taken}
-use Rattle.cfi_step.specs.Turns.{turns_of}
 use Rattle.cfi_step.specs.declared.turns.TakenTurns.{TakenTurns}
 
 last_is : (harts : List ℕ) (h : ℕ) → last_hart (harts ++ h ∷ []) ≡ h

@@ -9,7 +9,7 @@ use Rattle.rv_instr.specs.Registers.{get_reg}
 use Rattle.rv_code.specs.State.{Hart, Harts}
 use Rattle.cfi_unit.specs.Shadow.{MOST_PENDING}
 use Rattle.cfi_rules.specs.Lines.{is_among}
-use Rattle.cfi_step.specs.Plan.{Plan}
+use Rattle.cfi_script.specs.Plan.{Plan}
 
 -- a hart's oldest slot, eight bytes into its own part, which bounds how many there are
 abbrev pub first_slot : ℕ → ℕ

@@ -1,12 +1,5 @@
-pub mod Plan
-pub mod Turns
 pub mod Taken
-pub mod TurnPlace
 pub mod Report
 pub mod Trail
 pub mod Running
 pub mod Hostile
-pub mod Script
-pub mod Quiet
-pub mod ScriptText
-pub mod ScriptNumbers

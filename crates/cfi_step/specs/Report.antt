@@ -11,8 +11,8 @@ use Rattle.rv_code.specs.declared.turn.Turn.TheVariants as turns
 use Rattle.cfi_unit.specs.UnitWords.{BAD_TARGET, BAD_RETURN, DEEP}
 use Rattle.cfi_rules.specs.Split.{code_words}
 use Rattle.cfi_rules.specs.Walks.{walk_of}
-use Rattle.cfi_step.specs.Plan.{Planned, harts_of, numbered, steps_of}
-use Rattle.cfi_step.specs.Turns.{turns_of}
+use Rattle.cfi_script.specs.Plan.{Planned, harts_of, numbered, steps_of}
+use Rattle.cfi_script.specs.Turns.{turns_of}
 use Rattle.cfi_step.specs.declared.report.Handler.TheVariants as handlers
 use Rattle.cfi_step.specs.declared.report.RunEnd.{RunEnd}
 use Rattle.cfi_step.specs.declared.report.RunEnd.TheVariants.{Exit, Handler, Break, LoadFault, Limit}

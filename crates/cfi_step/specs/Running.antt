@@ -12,7 +12,7 @@ use Rattle.cfi_rules.specs.Along.{AreStepsOf}
 use Rattle.cfi_rules.specs.Split.{code_words, place_at}
 use Rattle.cfi_rules.specs.Trails.{IsInPlace, trail_of}
 use Rattle.cfi_rules.specs.Walks.{if_own, if_starts, walk_of}
-use Rattle.cfi_step.specs.Plan.{IsQuietPlan, Plan, Planned, changes_of, harts_of, numbered, steps_of}
+use Rattle.cfi_script.specs.Plan.{IsQuietPlan, Plan, Planned, changes_of, harts_of, numbered, steps_of}
 use Rattle.cfi_step.specs.Report.{end_of}
 use Rattle.cfi_step.specs.Taken.{AreTurnsOf}
 use Rattle.cfi_step.specs.Trail.{IsTrailOf, TrailParts}

@@ -1,8 +1,8 @@
 -- The turns of the steps that a run has taken: those that have ended, and the one that goes on. Only private contracts
 -- cite this.
 use Rattle.std.specs.Prelude.{◌≡◌, ◌<◌, ◌+◌, ℕ, List, [], ◌∷◌, ◌++◌, length}
+use Rattle.cfi_script.specs.Turns.{turns_of}
 use Rattle.cfi_step.specs.Report.{last_hart}
-use Rattle.cfi_step.specs.Turns.{turns_of}
 use Rattle.cfi_step.specs.declared.turns.TakenTurns.{TakenTurns}
 
 -- so are those of steps by these harts: no step was taken, or the last turn goes on, with some steps

@@ -5,7 +5,7 @@ ghost use Rattle.rv_machine.specs.Harts.{harts_in, harts_share};
 ghost use Rattle.cfi_rules.specs.Lines.{is_among};
 ghost use Rattle.cfi_step.specs.Hostile.{first_slot, hart_zeros, holds_site, site_zeros, sites_from, slots_below, zeros_at, zeros_from, zeros_of_harts};
 
-use crate::meddler::Meddler;
+use cfi_script::Meddler;
 use cfi_unit::handlers::MOST_PENDING;
 use rv_instr::Reg;
 use rv_machine::{Change, Machine};

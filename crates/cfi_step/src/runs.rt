@@ -7,14 +7,14 @@ ghost use Rattle.rv_code.specs.State.{start_hart, start_shared};
 ghost use Rattle.rv_machine.specs.Harts.{harts_in, harts_share};
 ghost use Rattle.cfi_rules.specs.Split.{code_words};
 ghost use Rattle.cfi_rules.specs.Walks.{walk_of, IsGraphWalk};
-ghost use Rattle.cfi_step.specs.Plan.{planned, steps_of};
+ghost use Rattle.cfi_script.specs.Plan.{planned, steps_of};
+ghost use Rattle.cfi_script.specs.Script.{IsScript, script_plan};
 ghost use Rattle.cfi_step.specs.Report.{IsReport};
-ghost use Rattle.cfi_step.specs.Script.{IsScript, script_plan};
 ghost use Rattle.cfi_step.specs.Running.{is_stop, IsBegun, IsOver};
 
-use crate::meddler::Meddler;
 use crate::report::{RunEnd, RunReport, end_of};
 use crate::running::Running;
+use cfi_script::Meddler;
 use cfi_verify::Checked;
 use rv_machine::Turn;
 use rv_word::NoMemory;

@@ -1,9 +1,9 @@
 //! The harts of a run's steps, as turns.
 
 ghost use Rattle.std.specs.Prelude.{◌≡◌, ◌≢◌, ◌==◌, ◌++◌, ◌∷◌, [], ℕ, List, length, IfOk, OnOk, OnErr};
+ghost use Rattle.cfi_script.specs.Turns.{turns_of};
 ghost use Rattle.cfi_step.specs.Report.{last_hart};
 ghost use Rattle.cfi_step.specs.Taken.{AreTurnsOf};
-ghost use Rattle.cfi_step.specs.Turns.{turns_of};
 
 use rv_word::NoMemory;
 use std::alloc::Global;

@@ -1,7 +1,8 @@
 //! What is told of a program's flow, as text: the taken places; each site by its kind and place, its targets and its
 //! class; and each class by its members. Places and classes are told by their indexes.
 
-use cfi_flow::{Closed, FlowEnd, Raw, RawSite, close, entry_place, raw_graph, used_labels};
+use cfi_closed::Closed;
+use cfi_flow::{FlowEnd, Raw, RawSite, close, entry_place, raw_graph, used_labels};
 use cfi_graph::{Policy, SiteKind, read_policy};
 use obj_program::Items;
 use rv_word::Form;

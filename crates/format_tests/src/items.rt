@@ -163,7 +163,7 @@ fn names<'a>(alloc: Global, object: &Object<'a>) -> Option<Names<'a>> {
             return None;
         }
     }
-    match Names::of(alloc, names) {
+    match Names::of(alloc, names, &[]) {
         Ok(names) => Some(names),
         Err(_) => None,
     }

@@ -13,7 +13,7 @@ use Rattle.obj_program.specs.Program.{Program}
 use Rattle.obj_program.specs.Range.{out_of_range}
 use Rattle.obj_items.specs.FromObject.{input_of}
 use Rattle.obj_items.specs.ProgramOf.{program_of}
-use Rattle.cfi_flow.specs.Closed.{ClosedGraph, Side, sorts_of}
+use Rattle.cfi_closed.specs.Closed.{ClosedGraph, Side, sorts_of}
 use Rattle.cfi_flow.specs.Entry.{entry_place}
 use Rattle.cfi_gen.specs.declared.function.Function.{Function}
 use Rattle.cfi_gen.specs.Demo.{demo_parts, parts_with}

@@ -14,7 +14,7 @@ use Rattle.obj_program.specs.Program.{is_end}
 use Rattle.obj_items.specs.Outline.{outline}
 use Rattle.obj_items.specs.Links.{item_with}
 use Rattle.obj_items.specs.ProgramOf.{program_of}
-use Rattle.cfi_flow.specs.Closed.{ClosedGraph, Side, is_target}
+use Rattle.cfi_closed.specs.Closed.{ClosedGraph, Side, is_target}
 use Rattle.cfi_map.specs.Placement.{lead_size, whole_at, size_of}
 use Rattle.cfi_map.specs.Sizes.{part_sizes, whole_size}
 use Rattle.cfi_gen.specs.declared.function.Function.{Function}

@@ -2,9 +2,10 @@
 //! worked out by hand; all are those of a model of the machine, `tests/harts` at the top of the repository.
 
 ghost use Rattle.std.specs.Prelude.{IfSome};
-ghost use Rattle.cfi_step.specs.Script.{IsScript};
+ghost use Rattle.cfi_script.specs.Script.{IsScript};
 
-use cfi_step::{Handler, HartWalk, Hostile, RunEnd, RunReport, Script};
+use cfi_script::Script;
+use cfi_step::{Handler, HartWalk, Hostile, RunEnd, RunReport};
 use sample_programs::{
     APART, APART_DATA, APART_GRAPH, APART_OF_HARTS, APART_OF_HARTS_DATA, APART_OF_HARTS_GRAPH,
     JOINED, JOINED_DATA, JOINED_GRAPH, Q, Q_DATA, Q_GRAPH, Q_OF_HARTS, Q_OF_HARTS_DATA,

@@ -1,7 +1,8 @@
 ghost use Rattle.std.specs.Prelude.{◌<◌};
 
 use cfi_graph::{Graph, read_graph};
-use cfi_step::{RunEnd, RunReport, Script};
+use cfi_script::Script;
+use cfi_step::{RunEnd, RunReport};
 use cfi_unit::{Unit, emit, fits, recognise};
 use cfi_verify::{Checked, Reject, Rule, VerifyEnd, verify};
 use cfi_walk::{Followed, Walk, follow};

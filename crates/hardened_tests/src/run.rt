@@ -1,7 +1,8 @@
 ghost use Rattle.std.specs.Prelude.{◌≤◌, IfSome};
-ghost use Rattle.cfi_step.specs.Script.{IsScript};
+ghost use Rattle.cfi_script.specs.Script.{IsScript};
 
-use cfi_step::{Handler, Hostile, RunEnd, RunReport, Script};
+use cfi_script::Script;
+use cfi_step::{Handler, Hostile, RunEnd, RunReport};
 use rv_machine::Change;
 use sample_programs::{ECHO, ECHO_GRAPH, P, P_DATA, P_GRAPH};
 use sample_runs::{Program, is_same_again, report};

@@ -1,7 +1,8 @@
 ghost use Rattle.std.specs.Prelude.{IfSome};
-ghost use Rattle.cfi_step.specs.Script.{IsScript};
+ghost use Rattle.cfi_script.specs.Script.{IsScript};
 
-use cfi_step::{Handler, HartWalk, Hostile, RunEnd, RunReport, Script};
+use cfi_script::Script;
+use cfi_step::{Handler, HartWalk, Hostile, RunEnd, RunReport};
 use rv_machine::Change;
 use sample_programs::{
     A_OF_HARTS, A_OF_HARTS_GRAPH, JOBS, JOBS_DATA, JOBS_GRAPH, SHARED, SHARED_GRAPH,

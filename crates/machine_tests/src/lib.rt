@@ -1,13 +1,9 @@
-//! Tests of the machine through its public calls: memory, system calls and steps, against values from outside. They stand
-//! beside the crates that they test, so that these are proved once.
+//! Tests of the machine through its public calls: system calls and steps, against values from outside. They stand beside
+//! the crates that they test, so that these are proved once.
 #![tactic(auto)]
 
 #[cfg(test)]
-mod code_end;
-#[cfg(test)]
 mod machine;
-#[cfg(test)]
-mod memory;
 #[cfg(test)]
 mod processor;
 #[cfg(test)]

@@ -1,7 +1,8 @@
 use crate::given::answer;
 use cfi_graph::Graph;
 use cfi_rewrite::Hardened;
-use cfi_step::{Handler, RunEnd, RunReport, Script, run};
+use cfi_script::Script;
+use cfi_step::{Handler, RunEnd, RunReport, run};
 use cfi_verify::{Checked, verify};
 use elf_image::read_image;
 use rv_word::{Form, Image};

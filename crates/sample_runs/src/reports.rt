@@ -3,10 +3,11 @@
 ghost use Rattle.std.specs.Prelude.{◌≡◌, IfSome, IsTrue};
 ghost use Rattle.rv_word.specs.Image.{image_profile};
 ghost use Rattle.rv_word.specs.MemoryMap.{MayRun, profile_of};
-ghost use Rattle.cfi_step.specs.Script.{IsScript};
+ghost use Rattle.cfi_script.specs.Script.{IsScript};
 
 use cfi_graph::{Graph, read_graph};
-use cfi_step::{HartWalk, Meddler, RunReport, Script, run};
+use cfi_script::{Meddler, Script};
+use cfi_step::{HartWalk, RunReport, run};
 use cfi_verify::{Checked, verify};
 use rv_code::{Event, Events};
 use rv_word::Image;

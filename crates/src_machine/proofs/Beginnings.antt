@@ -16,7 +16,7 @@ use Rattle.cfi_graph.specs.Map.{IsMap, MapParts, is_gate, map_line_in_range}
 use Rattle.rv_code.specs.Decode.{decoded}
 use Rattle.obj_program.specs.DataAtMap.{data_at}
 use Rattle.obj_program.specs.Program.{Program, count, is_end, item_of}
-use Rattle.cfi_flow.specs.Closed.{ClosedGraph}
+use Rattle.cfi_closed.specs.Closed.{ClosedGraph}
 use Rattle.cfi_map.specs.LegalMap.{IsLegalMap, gates_of}
 use Rattle.cfi_map.specs.Source.{Source, init_here, instr_here, source_start}
 use Rattle.src_machine.specs.Placed.{AreRead}

@@ -25,7 +25,7 @@ use Rattle.cfi_map.specs.Source.{Source, instr_here}
 use Rattle.cfi_map.specs.SourceStep.{SourceAfter, acts, branches, closes, exits, if_taken, place_after, returns_from, source_step, step_at, step_item, unless, unless_ended}
 use Rattle.src_machine.specs.State.{IsInside, IsThere, Leaves, StateParts, source_in}
 use Rattle.cfi_map.specs.Untame.{computed, computed_place, if_reached, is_off_graph, is_off_window, is_too_deep, is_wrong_return, place_with_gate, reason, return_address}
-use Rattle.cfi_flow.specs.Closed.{class_reaches}
+use Rattle.cfi_closed.specs.Closed.{class_reaches}
 use Rattle.cfi_map.proofs.ByGate.{place_below}
 
 -- behind an instruction another place follows

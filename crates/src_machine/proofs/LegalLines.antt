@@ -11,7 +11,7 @@ use Rattle.cfi_graph.specs.Map.{MapParts}
 use Rattle.cfi_graph.specs.declared.map.MapLine.{MapLine}
 use Rattle.obj_program.specs.declared.item.Item.{Item}
 use Rattle.obj_program.specs.Program.{Program, count, is_spot, item_of, no_item}
-use Rattle.cfi_flow.specs.Closed.{ClosedGraph}
+use Rattle.cfi_closed.specs.Closed.{ClosedGraph}
 use Rattle.cfi_map.specs.LegalMap.{IsLegalMap, gates_of}
 use Rattle.cfi_map.specs.Placement.{IsLegal, whole_at}
 use Rattle.cfi_map.specs.MapFault.{BeginsLegal, IsWrongLine}

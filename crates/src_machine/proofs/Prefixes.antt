@@ -8,7 +8,7 @@ use Rattle.cfi_graph.specs.Map.{MapParts}
 use Rattle.cfi_graph.specs.declared.map.MapLine.{MapLine}
 use Rattle.obj_program.specs.declared.item.Item.{Item}
 use Rattle.obj_program.specs.Program.{Program}
-use Rattle.cfi_flow.specs.Closed.{ClosedGraph, Side}
+use Rattle.cfi_closed.specs.Closed.{ClosedGraph, Side}
 use Rattle.cfi_map.specs.LegalMap.{IsLegalMap, gates_of}
 use Rattle.cfi_map.specs.MapFault.{BeginsLegal, IsWrongLine}
 use Rattle.cfi_map.specs.Placement.{AreGates, lead_size, whole_at, size_of}

@@ -3,7 +3,7 @@ use Rattle.std.specs.Prelude.{◌≡◌, ℕ, Some, None, List}
 use Rattle.cfi_graph.specs.Map.{MapParts}
 use Rattle.obj_program.specs.Program.{Program}
 use Rattle.obj_program.specs.Range.{out_of_range}
-use Rattle.cfi_flow.specs.Closed.{ClosedGraph}
+use Rattle.cfi_closed.specs.Closed.{ClosedGraph}
 use Rattle.cfi_map.specs.LegalMap.{IsLegalMap, gates_of}
 use Rattle.cfi_map.specs.Placement.{words_from}
 use Rattle.cfi_flow.specs.Policy.{instruction_at}

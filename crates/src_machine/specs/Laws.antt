@@ -2,7 +2,7 @@
 use Rattle.std.specs.Prelude.{◌≡◌, ◌↔◌, ℕ, take}
 use Rattle.cfi_graph.specs.Map.{MapParts}
 use Rattle.obj_program.specs.Program.{Program}
-use Rattle.cfi_flow.specs.Closed.{ClosedGraph}
+use Rattle.cfi_closed.specs.Closed.{ClosedGraph}
 use Rattle.cfi_map.specs.LegalMap.{IsLegalMap}
 use Rattle.cfi_map.specs.MapFault.{BeginsLegal, IsWrongLine}
 

@@ -5,7 +5,7 @@ use Rattle.rv_word.specs.declared.form.Form.{Form}
 use Rattle.cfi_graph.specs.declared.map.MapLine.{MapLine}
 use Rattle.obj_input.specs.declared.item_kind.ItemKind.{ItemKind}
 use Rattle.obj_program.specs.Program.{Program, count, is_spot, item_of}
-use Rattle.cfi_flow.specs.Closed.{ClosedGraph, Side}
+use Rattle.cfi_closed.specs.Closed.{ClosedGraph, Side}
 use Rattle.cfi_map.specs.Placement.{lead_size, size_of}
 
 abbrev pub no_line : MapLine

@@ -18,7 +18,7 @@ use crate::placed::Placed;
 use crate::run::SourceRun;
 use crate::source_end::SourceEnd;
 use crate::state::State;
-use cfi_flow::Closed;
+use cfi_closed::Closed;
 use cfi_graph::{Map, MapLine};
 use cfi_map::Mapped;
 use obj_input::ItemKind;

@@ -7,7 +7,7 @@ ghost use Rattle.cfi_map.specs.LegalMap.{IsLegalMap};
 ghost use Rattle.cfi_map.specs.MapFault.{IsWrongLine};
 ghost use Rattle.src_machine.specs.MapLine.{follows, is_right, is_wrong, stands};
 
-use cfi_flow::Closed;
+use cfi_closed::Closed;
 use cfi_graph::{Map, MapLine};
 use cfi_map::{lead_size, unit_size};
 use least::first_below_u64;

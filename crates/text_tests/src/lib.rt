@@ -1,18 +1,12 @@
-//! Tests of texts of lines through their public calls: words and numbers, graphs, maps, policies and scripts, and
-//! of the meddlers' plans. They stand beside the crates that they test, so that these are proved once.
+//! Tests of texts of lines through their public calls: words and numbers, graphs, maps and policies. They stand beside
+//! the crates that they test, so that these are proved once.
 #![tactic(auto)]
 
 #[cfg(test)]
 mod graph;
-#[cfg(test)]
-mod hostile;
 #[cfg(test)]
 mod lines;
 #[cfg(test)]
 mod map;
 #[cfg(test)]
 mod policy;
-#[cfg(test)]
-mod script;
-#[cfg(test)]
-mod turns;

@@ -3,7 +3,8 @@ use Rattle.std.specs.List.{All}
 use Rattle.std.proofs.lemmas.List.{map-append, take_more}
 use Rattle.std.proofs.lemmas.List.Elements.{All-push}
 use Rattle.cfi_graph.specs.declared.line.Sort.{Sort}
-use Rattle.cfi_flow.specs.Closed.{IsSide, IsSideInside, Side}
+use Rattle.cfi_closed.specs.Closed.{IsSideInside, Side}
+use Rattle.cfi_flow.specs.Closing.{IsSide}
 use Rattle.cfi_flow.proofs.closing.close_sides.Goals as goal
 
 pub loop-sort-preserved : goal.loop-sort-preserved

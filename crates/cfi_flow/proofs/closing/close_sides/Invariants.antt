@@ -1,6 +1,7 @@
 use Rattle.std.proofs.Common.{◌≡◌, length, map, take}
 use Rattle.std.specs.List.{All}
-use Rattle.cfi_flow.specs.Closed.{IsSide, IsSideInside, Side}
+use Rattle.cfi_closed.specs.Closed.{IsSideInside, Side}
+use Rattle.cfi_flow.specs.Closing.{IsSide}
 use Rattle.cfi_flow.proofs.closing.close_sides.Given as goal
 
 abbrev pub invariant-loop-sort : goal.invariant-loop-sort

@@ -1,13 +1,15 @@
-use Rattle.std.proofs.Common.{ℕ, ◌≡◌, ◌<◌, Option, IfSome, List, length, map, sym, subst, ◌∙◌}
+use Rattle.std.proofs.Common.{ℕ, ◌≡◌, ◌<◌, Option, IfSome, List, length, map, sym, subst, ap, ◌∙◌}
 use Rattle.std.specs.List.{All}
-use Rattle.cfi_flow.specs.declared.side.Site.{Site}
 use Rattle.cfi_class.specs.Classes.{class_with}
-use Rattle.cfi_flow.specs.Closed.{with_class}
-use Rattle.cfi_flow.specs.Found.{site_with}
-use Rattle.cfi_flow.specs.Sites.{RawSite}
 use Rattle.cfi_class.specs.Tables.{IsTable}
+use Rattle.cfi_closed.specs.declared.side.Site.{Site}
+use Rattle.cfi_closed.specs.Closed.{IsSideInside, Side}
+use Rattle.cfi_closed.specs.Found.{site_with}
+use Rattle.cfi_flow.specs.Closing.{with_class}
+use Rattle.cfi_flow.specs.Found.{by_table}
+use Rattle.cfi_flow.specs.Raw.{IsThere, RawGraph}
+use Rattle.cfi_flow.specs.Sites.{RawSite}
 use Rattle.cfi_flow.proofs.Classing.{by_table_there, closed_by_table, reached_there}
-use Rattle.cfi_flow.proofs.closing.side_of.Goals.{In_ok-site_at}
 use Rattle.cfi_flow.proofs.closing.side_of.Goals as goal
 
 pub site_table-requires : goal.site_table-requires
@@ -17,44 +19,60 @@ site_table-requires c =
     let sites = c.as_slice-3.ensures.value ∙ c.in_ok-sites.ensures in
     subst (All (λ (s : Site). s.place < n)) (sym sites) (by_table_there c.as_slice-2.result.now c.args.raw.now.sites n there)
 
--- the sites are those of the raw graph with their classes
-sites_are : (c : In_ok-site_at) → c.in_ok-sites.sites.items ≡ map (with_class c.in_ok-classes.classes.items) c.args.raw.now.sites
-sites_are c =
+-- sites with what a table of the classes has for their targets
+module _ (raw : RawGraph) (there : IsThere raw) (classes : List (List ℕ)) (table : List (Option ℕ)) (is : IsTable (class_with classes) (length raw.taken) table)
+    (sites : List Site) (by : sites ≡ map (by_table table) raw.sites) where
+  -- they are those of the raw graph with their classes
+  sites_are : sites ≡ map (with_class classes) raw.sites
+  sites_are = by ∙ closed_by_table classes (length raw.taken) table is raw.sites there.targets
+
+  reached : All (λ (s : Site). IfSome s.class (λ k. k < length classes)) sites
+  reached = subst (All (λ (s : Site). IfSome s.class (λ k. k < length classes))) (sym sites_are) (reached_there classes raw.sites)
+
+  places_there : All (λ (s : Site). s.place < length raw.taken) sites
+  places_there = subst (All (λ (s : Site). s.place < length raw.taken)) (sym by) (by_table_there table raw.sites (length raw.taken) there.sites)
+
+-- a table with as many entries as there are places
+table_is : (places all : ℕ) (seen classes : List (List ℕ)) (table : List (Option ℕ)) → places ≡ all → seen ≡ classes → IsTable (class_with seen) places table
+    → IsTable (class_with classes) all table
+table_is places all seen classes table many same is =
+    subst (λ (m : ℕ). IsTable (class_with classes) m table) many (subst (λ (xs : List (List ℕ)). IsTable (class_with xs) places table) same is)
+
+pub of-requires : goal.of-requires
+of-requires c =
+    let raw = c.args.raw.now in
+    let classes = c.in_ok-classes.classes.items in
+    let table = c.in_ok-class_at.class_at.items in
     let many = c.places-places.ensures.value in
-    let classes = subst (λ (classes : List (List ℕ)). IsTable (class_with classes) c.places-places.result c.in_ok-class_at.class_at.items) c.as_slice.ensures.value c.in_ok-class_at.ensures in
-    let table = subst (λ (m : ℕ). IsTable (class_with c.in_ok-classes.classes.items) m c.as_slice-2.result.now) many
-    (subst (λ (t : List (Option ℕ)). IsTable (class_with c.in_ok-classes.classes.items) c.places-places.result t) (sym c.as_slice-2.ensures.value) classes) in
-    c.in_ok-sites.ensures
-    ∙ closed_by_table c.in_ok-classes.classes.items (length c.args.raw.now.taken) c.as_slice-2.result.now table c.args.raw.now.sites c.places-places.ensures.there.targets
-
-reached : (c : In_ok-site_at) → All (λ (s : Site). IfSome s.class (λ k. k < length c.in_ok-classes.classes.items)) c.in_ok-sites.sites.items
-reached c =
-    subst (All (λ (s : Site). IfSome s.class (λ k. k < length c.in_ok-classes.classes.items))) (sym (sites_are c)) (reached_there c.in_ok-classes.classes.items c.args.raw.now.sites)
-
-places_there : (c : In_ok-site_at) → All (λ (s : Site). s.place < c.places-places.result) c.in_ok-sites.sites.items
-places_there c =
-    let n = c.places-places.result in
-    let there = subst (λ (m : ℕ). All (λ (s : RawSite). s.place < m) c.args.raw.now.sites) (sym c.places-places.ensures.value) c.places-places.ensures.there.sites in
-    subst (All (λ (s : Site). s.place < n)) (sym c.in_ok-sites.ensures) (by_table_there c.as_slice-2.result.now c.args.raw.now.sites n there)
-
-pub invariant_of-result : goal.invariant_of-result
-invariant_of-result c =
-    let n = c.places-places.result in
-    let class_table = subst (λ (classes : List (List ℕ)). IsTable (class_with classes) n c.in_ok-class_at.class_at.items) c.as_slice.ensures.value c.in_ok-class_at.ensures in
-    rw class_table.size record {
-      members_there = subst (λ (m : ℕ). All (All (λ (t : ℕ). t < m)) c.in_ok-classes.classes.items) (sym c.places-places.ensures.value) c.in_ok-classes.ensures.there;
-      sites_there = places_there c;
-      reached_there = reached c;
-      class_table = class_table;
-      site_table = subst (λ (sites : List Site). IsTable (site_with sites) n c.in_ok-site_at.site_at.items) c.as_slice-3.ensures.value c.in_ok-site_at.ensures;
+    let is = table_is c.places-places.result (length raw.taken) c.as_slice.result.now classes table many c.as_slice.ensures.value c.in_ok-class_at.ensures in
+    let by = c.in_ok-sites.ensures ∙ ap (λ (t : List (Option ℕ)). map (by_table t) raw.sites) c.as_slice-2.ensures.value in
+    let site_table = subst (λ (sites : List Site). IsTable (site_with sites) c.places-places.result c.in_ok-site_at.site_at.items) c.as_slice-3.ensures.value c.in_ok-site_at.ensures in
+    rw is.size record {
+      members_there = c.in_ok-classes.ensures.there;
+      sites_there = places_there raw c.places-places.ensures.there classes table is c.in_ok-sites.sites.items by;
+      reached_there = reached raw c.places-places.ensures.there classes table is c.in_ok-sites.sites.items by;
+      class_table = is;
+      site_table = subst (λ (m : ℕ). IsTable (site_with c.in_ok-sites.sites.items) m c.in_ok-site_at.site_at.items) many site_table;
     }
 
 pub returns-clause-sites : goal.returns-clause-sites
-returns-clause-sites c = sites_are c
+returns-clause-sites c =
+    let raw = c.args.raw.now in
+    let classes = c.in_ok-classes.classes.items in
+    let table = c.in_ok-class_at.class_at.items in
+    let is = table_is c.places-places.result (length raw.taken) c.as_slice.result.now classes table c.places-places.ensures.value c.as_slice.ensures.value c.in_ok-class_at.ensures in
+    let by = c.in_ok-sites.ensures ∙ ap (λ (t : List (Option ℕ)). map (by_table t) raw.sites) c.as_slice-2.ensures.value in
+    subst (λ (s : Side). s.sites ≡ map (with_class s.classes) raw.sites) (sym c.of.ensures) (sites_are raw c.places-places.ensures.there classes table is c.in_ok-sites.sites.items by)
 
 pub returns-clause-inside : goal.returns-clause-inside
-returns-clause-inside c = record {
-  members = c.in_ok-classes.ensures.there;
-  sites = subst (λ (m : ℕ). All (λ (s : Site). s.place < m) c.in_ok-sites.sites.items) c.places-places.ensures.value (places_there c);
-  reached = reached c;
-}
+returns-clause-inside c =
+    let raw = c.args.raw.now in
+    let classes = c.in_ok-classes.classes.items in
+    let table = c.in_ok-class_at.class_at.items in
+    let is = table_is c.places-places.result (length raw.taken) c.as_slice.result.now classes table c.places-places.ensures.value c.as_slice.ensures.value c.in_ok-class_at.ensures in
+    let by = c.in_ok-sites.ensures ∙ ap (λ (t : List (Option ℕ)). map (by_table t) raw.sites) c.as_slice-2.ensures.value in
+    subst (IsSideInside (length raw.taken)) (sym c.of.ensures) record {
+      members = c.in_ok-classes.ensures.there;
+      sites = places_there raw c.places-places.ensures.there classes table is c.in_ok-sites.sites.items by;
+      reached = reached raw c.places-places.ensures.there classes table is c.in_ok-sites.sites.items by;
+    }

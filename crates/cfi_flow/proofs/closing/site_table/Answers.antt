@@ -1,5 +1,5 @@
 use Rattle.std.proofs.Common.{ℕ, ◌==◌}
-use Rattle.cfi_flow.specs.declared.side.Site.{Site}
+use Rattle.cfi_closed.specs.declared.side.Site.{Site}
 use Rattle.cfi_class.proofs.Finding.{more_noted}
 use Rattle.cfi_flow.proofs.closing.site_table.Goals as goal
 

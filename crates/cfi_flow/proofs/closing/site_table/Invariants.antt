@@ -1,5 +1,5 @@
 use Rattle.std.proofs.Common.{take}
-use Rattle.cfi_flow.specs.Found.{site_with}
+use Rattle.cfi_closed.specs.Found.{site_with}
 use Rattle.cfi_class.specs.Tables.{IsTable}
 use Rattle.cfi_flow.proofs.closing.site_table.Given as goal
 

@@ -4,10 +4,10 @@ use Rattle.std.specs.List.Sorted.{IsStrictlyIncreasing}
 use Rattle.std.proofs.lemmas.List.{take_all}
 use Rattle.std.proofs.lemmas.Simd.{map-map}
 use Rattle.cfi_graph.specs.declared.line.SiteKind.TheVariants as site
+use Rattle.cfi_closed.specs.declared.side.Site.{Site}
 use Rattle.cfi_flow.specs.declared.draw.Aim.{Aim}
 use Rattle.cfi_flow.specs.declared.draw.Aim.TheVariants as aim
 use Rattle.cfi_flow.specs.declared.draw.KeptSite.{KeptSite}
-use Rattle.cfi_flow.specs.declared.side.Site.{Site}
 use Rattle.cfi_flow.specs.Found.{by_table}
 use Rattle.cfi_flow.specs.Kept.{IsAimed, raw_site, targets_of}
 use Rattle.cfi_flow.specs.Pointed.{ArePoints}

@@ -4,7 +4,7 @@ use Rattle.std.proofs.lemmas.List.{get_or_default}
 use Rattle.cfi_graph.specs.declared.line.SiteKind.TheVariants as site
 use Rattle.cfi_flow.specs.declared.draw.Aim.TheVariants as aim
 use Rattle.cfi_flow.specs.declared.draw.KeptSite.{KeptSite}
-use Rattle.cfi_flow.specs.Closed.{sets_of}
+use Rattle.cfi_flow.specs.Closing.{sets_of}
 use Rattle.cfi_flow.specs.Joins.{IsJoining}
 use Rattle.cfi_flow.specs.Kept.{no_kept, sites_of, targets_of}
 use Rattle.cfi_flow.specs.Pointed.{ArePoints}

@@ -1,4 +1,4 @@
-use Rattle.cfi_flow.specs.Closed.{sets_of}
+use Rattle.cfi_flow.specs.Closing.{sets_of}
 use Rattle.cfi_flow.specs.Joins.{IsJoining}
 use Rattle.cfi_flow.specs.Kept.{sites_of}
 use Rattle.cfi_flow.proofs.join.joined.Given as goal

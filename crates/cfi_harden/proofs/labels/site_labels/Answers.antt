@@ -2,8 +2,8 @@ use Rattle.std.proofs.Common.{◌-◌, ◌<◌, ℕ, List, get_or, length, drop,
 use Rattle.std.specs.Prelude.{if◌then◌else◌, slice_index}
 use Rattle.std.specs.List.{All}
 use Rattle.std.proofs.Math.ListN.{length-replicate}
-use Rattle.cfi_flow.specs.declared.side.Site.{Site}
-use Rattle.cfi_flow.specs.Closed.{IsSideInside, Side, has_site}
+use Rattle.cfi_closed.specs.declared.side.Site.{Site}
+use Rattle.cfi_closed.specs.Closed.{IsSideInside, Side, has_site}
 use Rattle.cfi_map.specs.LabelOf.{site_number}
 use Rattle.cfi_harden.proofs.SiteNumbers.{all_noted, sides_begin, sides_more}
 use Rattle.cfi_harden.proofs.Starts.{count_is, side_before, start_at, start_few, starts_rise}

@@ -1,6 +1,6 @@
 use Rattle.std.proofs.Common.{◌∙◌, ℕ, List, arith, ap, length}
 use Rattle.std.specs.Prelude.{slice_index}
-use Rattle.cfi_flow.specs.Closed.{Side}
+use Rattle.cfi_closed.specs.Closed.{Side}
 use Rattle.cfi_harden.proofs.Starts.{before_all}
 use Rattle.cfi_harden.proofs.numbering.label_count.Goals as goal
 

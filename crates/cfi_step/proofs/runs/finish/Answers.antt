@@ -2,7 +2,7 @@ use Rattle.std.proofs.Common.{◌<◌, ◌-◌, ◌+◌, ◌∙◌, ◌≡◌, �
 use Rattle.rv_word.specs.Image.{image_profile}
 use Rattle.rv_word.specs.MemoryMap.{profile_of}
 use Rattle.rv_machine.specs.Harts.{harts_in, harts_share}
-use Rattle.cfi_step.specs.Plan.{Plan, planned}
+use Rattle.cfi_script.specs.Plan.{Plan, planned}
 use Rattle.cfi_step.specs.Running.{IsReady, trails_of}
 use Rattle.cfi_step.proofs.Preparing.{begun_ready, empty_so}
 use Rattle.cfi_step.proofs.Continues.{Continues, all_taken, at_start, has_end, next, stays_next, step_at, stopped, took_so}

@@ -2,7 +2,7 @@ use Rattle.std.proofs.Common.{◌-◌, ◌≡◌, ℕ, ◌≤◌, length}
 use Rattle.rv_word.specs.Image.{image_profile}
 use Rattle.rv_word.specs.MemoryMap.{profile_of}
 use Rattle.rv_machine.specs.Harts.{harts_in, harts_share}
-use Rattle.cfi_step.specs.Plan.{planned}
+use Rattle.cfi_script.specs.Plan.{planned}
 use Rattle.cfi_step.specs.Running.{IsReady, StaysFrom, trails_of}
 use Rattle.cfi_step.proofs.Continues.{Continues}
 use Rattle.cfi_step.proofs.runs.finish.Given as goal

@@ -4,9 +4,9 @@ use Rattle.rv_word.specs.MemoryMap.{profile_of}
 use Rattle.rv_code.specs.State.{start_hart, start_shared}
 use Rattle.rv_machine.specs.Harts.{harts_in, harts_share}
 use Rattle.cfi_rules.proofs.Walks.{safe_walks}
-use Rattle.cfi_step.specs.Plan.{harts_of, planned, steps_of}
-use Rattle.cfi_step.specs.Script.{Changes, script_plan}
-use Rattle.cfi_step.specs.Turns.{Turns, turns_of}
+use Rattle.cfi_script.specs.Plan.{harts_of, planned, steps_of}
+use Rattle.cfi_script.specs.Script.{Changes, script_plan}
+use Rattle.cfi_script.specs.Turns.{Turns, turns_of}
 use Rattle.cfi_step.proofs.Reported.{Tells, all_made, all_turns, begins, over_so, reports}
 use Rattle.cfi_step.proofs.Replay.{in_order, replays}
 use Rattle.cfi_step.proofs.runs.run.Goals as goal

@@ -1,6 +1,6 @@
 use Rattle.std.proofs.Common.{ℕ, ◌<◌, length, subst, sym}
 use Rattle.std.specs.List.{All}
-use Rattle.cfi_flow.specs.Closed.{AreClasses, sets_of}
+use Rattle.cfi_flow.specs.Closing.{AreClasses, sets_of}
 use Rattle.cfi_flow.specs.Joins.{JoinAs}
 use Rattle.cfi_flow.specs.Kept.{sites_of}
 use Rattle.cfi_flow.specs.Raw.{RawGraph}

@@ -1,6 +1,6 @@
 use Rattle.std.proofs.Common.{◌≡◌, ◌<◌, ◌≤◌, ◌++◌, List, ℕ, Some, length, map, ap, subst, sym, ◌∙◌}
 use Rattle.std.specs.Prelude.{slice_get}
-use Rattle.cfi_flow.specs.Closed.{ClosedGraph, Side}
+use Rattle.cfi_closed.specs.Closed.{ClosedGraph, Side}
 use Rattle.cfi_map.specs.GraphAtMap.{class_lines}
 use Rattle.cfi_map.specs.LabelOf.{all_classes, tag}
 use Rattle.cfi_harden.proofs.LineList.{all_side_lines, first_side_lines, members_there, next_side}

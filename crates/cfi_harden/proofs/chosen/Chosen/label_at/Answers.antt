@@ -1,5 +1,5 @@
 use Rattle.std.proofs.Common.{List, ℕ, Some, ap, sym, ◌∙◌}
-use Rattle.cfi_flow.specs.Closed.{ClosedGraph}
+use Rattle.cfi_closed.specs.Closed.{ClosedGraph}
 use Rattle.cfi_map.specs.LabelOf.{label_at}
 use Rattle.cfi_harden.proofs.SideLabels.{to_side}
 use Rattle.cfi_harden.proofs.Starts.{side_there}

@@ -2,7 +2,7 @@ use Rattle.std.proofs.Common.{◌≡◌, ◌++◌, map, drop, length}
 use Rattle.std.specs.List.{AllByRecursion}
 use Rattle.rv_code.specs.Run.{IsDataChange, disturbed}
 use Rattle.rv_machine.specs.Harts.{harts_in, harts_share}
-use Rattle.cfi_step.specs.Plan.{changes_of}
+use Rattle.cfi_script.specs.Plan.{changes_of}
 use Rattle.cfi_step.proofs.running.Running.change.Given as goal
 
 -- the changes that are left lead to where all lead from the start

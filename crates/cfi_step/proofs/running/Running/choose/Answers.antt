@@ -1,7 +1,7 @@
 use Rattle.std.proofs.Common.{◌∙◌, ◌+◌, ◌++◌, ◌∷◌, [], ℕ, ap, subst, sym}
 use Rattle.std.specs.Prelude.{length}
 use Rattle.rv_machine.specs.Harts.{harts_in, harts_share}
-use Rattle.cfi_step.specs.Plan.{IsOneHart, IsQuietPlan, Plan}
+use Rattle.cfi_script.specs.Plan.{IsOneHart, IsQuietPlan, Plan}
 use Rattle.cfi_step.specs.Taken.{AreTurnsOf}
 use Rattle.cfi_step.specs.declared.turns.TakenTurns.{TakenTurns}
 use Rattle.cfi_step.proofs.Preparing.{same_trails, still_so}

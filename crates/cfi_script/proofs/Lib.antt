@@ -1,0 +1,4 @@
+pub mod ScriptDigits
+pub mod ScriptPlans
+pub mod ScriptTurns
+mod TurnPlaces

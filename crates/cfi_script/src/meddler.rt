@@ -1,0 +1,51 @@
+ghost use Rattle.std.specs.Prelude.{◌≡◌, ◌≤◌, ◌<◌, ◌++◌, length, OnOk, OnErr};
+ghost use Rattle.rv_machine.specs.Harts.{harts_in, harts_share};
+ghost use Rattle.cfi_script.specs.Plan.{IsOneHart, IsQuietPlan, Plan};
+
+use rv_machine::{Change, Machine};
+use rv_word::NoMemory;
+use std::alloc::Global;
+
+/// What chooses the hart that takes each step of a run, and changes data between the instructions.
+pub trait Meddler {
+    /// The hart that takes each step and the changes before it, by the number of steps taken and the state then.
+    ghost plan: { Self → Plan };
+
+    /// The hart that takes the next step, `step` being the number of steps taken.
+    fn hart(&mut self, step: u64, seen: &Machine) -> u8
+        requires { 1 ≤ length seen.now.resting }
+        ensures answered { result ≡ (plan self.old).hart step (length seen.now.resting) (harts_in seen.now) (harts_share seen.now) }
+        ensures below { result < length seen.now.resting }
+        ensures kept { plan self.new ≡ plan self.old };
+
+    /// The number of steps up to which it is known without a look at the state that no change comes, `step`
+    /// being the number of steps taken. `step` itself is always right: a meddler that cannot tell leaves this
+    /// as it is.
+    fn quiet_until(&self, step: u64) -> u64
+        ensures { IsQuietPlan step result (plan self.now) }
+    {
+        step
+    }
+
+    /// The number of steps up to which it is known without a look at the state that the hart of the step
+    /// after `step` steps takes them all. `step` itself is always right, as above.
+    fn one_hart_until(&self, step: u64) -> u64
+        ensures { IsOneHart step result (plan self.now) }
+    {
+        step
+    }
+
+    /// Appends the changes that come before the next step, `step` being the number of steps taken. A
+    /// refusal leaves `into` as it was.
+    fn meddle(
+        &mut self,
+        alloc: Global,
+        step: u64,
+        seen: &Machine,
+        into: &mut Vec<Change>,
+    ) -> Result<(), NoMemory>
+        ensures answered { OnOk result
+            (into.new.items ≡ into.old.items ++ (plan self.old).changes step (length seen.now.resting) (harts_in seen.now) (harts_share seen.now)) }
+        ensures refused { OnErr result (into.new.items ≡ into.old.items) }
+        ensures kept { plan self.new ≡ plan self.old };
+}
