@@ -37,11 +37,12 @@ impl<'a> Model for Names<'a> {
 }
 
 impl<'a> Names<'a> {
-    /// These names, in this order.
-    pub fn of(alloc: Global, names: Vec<Name<'a>>) -> Result<Names<'a>, NoMemory>
+    /// These names, in this order. From the tables that they stand in comes the hasher of their index, and nothing that is
+    /// found.
+    pub fn of(alloc: Global, names: Vec<Name<'a>>, tables: &[&[u8]]) -> Result<Names<'a>, NoMemory>
         ensures { IfOk result (λ n. n ≡ names.entry.items) }
     {
-        let index = index_of(alloc, &names)?;
+        let index = index_of(alloc, &names, tables)?;
         Ok(Names { names, index })
     }
 
@@ -120,10 +121,11 @@ fn note<'a>(
 fn index_of<'a>(
     alloc: Global,
     names: &[Name<'a>],
+    tables: &[&[u8]],
 ) -> Result<IndexMap<&'a [u8], Definition, NameSeed>, NoMemory>
     ensures { IfOk result (λ index. IsIndexed names.now index) }
 {
-    let mut index = IndexMap::with_hasher(alloc, NameSeed::of(names));
+    let mut index = IndexMap::with_hasher(alloc, NameSeed::of(names, tables));
     for name in names {
         note(&mut index, name)?;
     }

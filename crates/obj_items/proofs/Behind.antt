@@ -1,14 +1,12 @@
 -- The sections of an object's input: those of the file, and behind them the table of addresses.
-use Rattle.std.proofs.Common.{◌≡◌, ℕ, zero, suc, ◌+◌, ◌<◌, ◌≤◌, get_or, true, false, List, [], ◌∷◌, ◌++◌, length, map, inl, inr, refl, sym, ap, ◌∙◌, append-nil, arith}
-use Rattle.std.proofs.lemmas.Bool.{cases_eq, cases_lt}
-use Rattle.std.proofs.lemmas.List.{get_or-map, get_or_append_left, get_or_past, length-append, length-map}
-use Rattle.std.proofs.Math.Seq.{get_or-append_seam}
+use Rattle.std.proofs.Common.{◌≡◌, ℕ, ◌+◌, ◌<◌, get_or, List, ◌++◌, length, map, refl, ap, ◌∙◌, arith}
+use Rattle.std.proofs.lemmas.List.{get_or-map, get_or_append_left, length-append, length-map}
 use Rattle.elf_tables.specs.Header.{e_shnum}
-use Rattle.obj_input.specs.Input.{SectionParts, is_code, no_section, section_count, section_of}
+use Rattle.obj_input.specs.Input.{SectionParts, no_section, section_count, section_of}
 use Rattle.obj_join.specs.Definer.{own}
 use Rattle.obj_join.specs.Joined.{own_input}
 use Rattle.obj_join.specs.SaidInput as joined
-use Rattle.obj_join.specs.Table.{slots, table_of, table_section}
+use Rattle.obj_join.specs.Table.{slots, table_of}
 use Rattle.obj_join.proofs.Listing.{length-listed, listed_at}
 use Rattle.obj_said.specs.SaidOf.{said_of}
 use Rattle.obj_said.specs.Sections.{section_said_in, sections_said}
@@ -47,25 +45,3 @@ module _ (bytes : List ℕ) where
       ∙ get_or_append_left own_sections table no_section k (omega arith)
       ∙ get_or-map (joined.section_of numbers (said_of bytes)) (sections_said bytes) k (section_said_in bytes k) no_section said
       ∙ ap (joined.section_of numbers (said_of bytes)) (listed_at (section_said_in bytes) (e_shnum bytes) k (section_said_in bytes k) below)
-
-  -- the table is no code, and nothing is behind it
-  no_code : (count k : ℕ) → length own_sections ≤ k → is_code (get_or (own_sections ++ table_of numbers (said_of bytes) count) k no_section) ≡ false
-  no_code zero k past =
-      ap (λ (ss : List SectionParts). is_code (get_or ss k no_section)) (append-nil own_sections) ∙ ap is_code (get_or_past own_sections k no_section past)
-  no_code (suc count) k past = elim (cases_eq k (length own_sections)) [
-    | inl last ↦ rw last (ap is_code (get_or-append_seam own_sections (table_section numbers (said_of bytes) (suc count)) [] no_section))
-    | inr more ↦
-        let both = length-append own_sections (table_section numbers (said_of bytes) (suc count) ∷ []) in
-        ap is_code (get_or_past (own_sections ++ table_section numbers (said_of bytes) (suc count) ∷ []) k no_section (omega arith))
-  ]
-
-  pub code_own : (k : ℕ) → is_code (section_of (input_of bytes) k) ≡ true → k < e_shnum bytes
-  code_own k code = elim (cases_lt k (e_shnum bytes)) [
-    | inl less ↦ less
-    | inr past ↦
-        let count = own_count in
-        let other = no_code (length (slots numbers (said_of bytes).sections)) k (omega arith) in
-        let is : is_code (get_or (own_sections ++ table) k no_section) ≡ true = ap (λ (ss : List SectionParts). is_code (get_or ss k no_section)) (sym sections_are) ∙ code in
-        let no : true ≡ false = sym is ∙ other in
-        absurd (cc)
-  ]

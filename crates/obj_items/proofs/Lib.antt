@@ -22,5 +22,9 @@ pub mod DataLies
 pub mod MapFit
 pub mod LastEnds
 pub mod ProgramSound
-mod ObjectFits
+pub mod SaidFits
+pub mod ObjectFits
+mod AllFit
+mod Among
+mod Alone
 mod Rows

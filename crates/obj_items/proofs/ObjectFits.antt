@@ -1,17 +1,25 @@
 -- The code of an object without a fault is fit.
-use Rattle.std.proofs.Common.{◌≡◌, ℕ, ◌%◌, ◌==◌, true, false, None, List, inl, inr, sym, ap, ◌∙◌, arith}
+use Rattle.std.proofs.Common.{◌≡◌, ℕ, ◌<◌, ◌==◌, true, false, None, List, inl, inr, sym, subst, arith}
+use Rattle.std.specs.List.{All}
 use Rattle.std.proofs.lemmas.Bool.{cases_Bool}
+use Rattle.std.proofs.lemmas.List.Elements.{All-from_get_or}
 use Rattle.elf_tables.specs.declared.header.SectionHeader.{SectionHeader}
+use Rattle.elf_tables.specs.Header.{e_shnum}
 use Rattle.elf_tables.specs.Section.{section_header}
 use Rattle.elf_tables.specs.Kept.{is_executable, is_kept}
 use Rattle.elf_object.specs.Fault.{fault_of}
 use Rattle.elf_object.proofs.Right.{kept_right}
-use Rattle.obj_input.specs.Input.{SectionParts, is_code, is_code_sort, section_of}
-use Rattle.obj_said.specs.Sections.{kept_sort, sort_of}
+use Rattle.obj_input.specs.Input.{is_code_sort}
+use Rattle.obj_join.specs.Definer.{own}
+use Rattle.obj_join.specs.Joined.{own_input}
+use Rattle.obj_join.proofs.Listing.{length-listed, listed_at}
+use Rattle.obj_said.specs.SaidOf.{said_of}
+use Rattle.obj_said.specs.Sections.{kept_sort, section_said_in, sections_said, sort_of}
+use Rattle.obj_said.specs.Symbols.{symbols_said}
 use Rattle.obj_said.proofs.Whole.{few_sections}
 use Rattle.obj_items.specs.FitCode.{HasFitCode}
 use Rattle.obj_items.specs.FromObject.{input_of}
-use Rattle.obj_items.proofs.Behind.{code_own, section_is}
+use Rattle.obj_items.proofs.SaidFits.{IsWhole, said_fits}
 
 -- code is kept and executable
 code_executable : (h : SectionHeader) → is_code_sort (kept_sort h) ≡ true → is_executable h ≡ true
@@ -29,20 +37,21 @@ code_is_kept bytes k code = elim (cases_Bool (is_kept bytes k)) [
   | inr dropped ↦ let no : false ≡ true = rw dropped at code in absurd (cc)
 ]
 
-object_words : (bytes : List ℕ) → fault_of bytes ≡ None → (k : ℕ) → is_code (section_of (input_of bytes) k) ≡ true
-    → (section_of (input_of bytes) k).size % 4 ≡ 0
-object_words bytes none k code =
-    let below = code_own bytes k code in
-    let is = section_is bytes k below in
-    let sort : is_code_sort (sort_of bytes k) ≡ true = sym (ap is_code is) ∙ code in
-    let both = code_is_kept bytes k sort in
-    ap (λ (s : SectionParts). s.size % 4) is ∙ (kept_right bytes k none below both.0).code_whole both.1
+object_word : (bytes : List ℕ) → fault_of bytes ≡ None → (k : ℕ) → k < e_shnum bytes → IsWhole (section_said_in bytes k)
+object_word bytes none k below = λ code.
+    let both = code_is_kept bytes k code in
+    (kept_right bytes k none below both.0).code_whole both.1
+
+pub object_whole : (bytes : List ℕ) → fault_of bytes ≡ None → All IsWhole (sections_said bytes)
+object_whole bytes none =
+    let count = length-listed (section_said_in bytes) (e_shnum bytes) in
+    All-from_get_or IsWhole (sections_said bytes) (section_said_in bytes 0) (λ k less.
+    let below : k < e_shnum bytes = omega (arith, less, count) in
+    subst IsWhole (sym (listed_at (section_said_in bytes) (e_shnum bytes) k (section_said_in bytes 0) below)) (object_word bytes none k below))
 
 pub object_fits : (bytes : List ℕ) → fault_of bytes ≡ None → HasFitCode (input_of bytes)
-object_fits bytes none = record {
-  words = object_words bytes none;
-  named = λ k code.
-      let below = code_own bytes k code in
-      let few = few_sections bytes none in
-      omega arith;
-}
+unfolding input_of own_input said_of
+object_fits bytes none =
+    let few = few_sections bytes none in
+    let count = length-listed (section_said_in bytes) (e_shnum bytes) in
+    said_fits (own (symbols_said bytes)) (λ n. true) (said_of bytes) (object_whole bytes none) (omega arith)

@@ -13,3 +13,5 @@ pub mod Ranges
 pub mod ItemEnd
 pub mod FitCode
 pub mod Laws
+pub mod Added
+pub mod Finished

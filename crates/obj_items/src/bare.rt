@@ -43,6 +43,6 @@ pub(crate) fn bare<'a>(alloc: Global, input: &Input<'a>) -> Result<Input<'a>, No
 {
     let sections = bare_sections(alloc, input)?;
     let blocks = copied(alloc, input)?;
-    let names = Names::of(alloc, Vec::new(alloc))?;
+    let names = Names::of(alloc, Vec::new(alloc), &[])?;
     Ok(Input::of(sections, blocks, names, Vec::new(alloc)))
 }

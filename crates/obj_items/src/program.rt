@@ -120,18 +120,26 @@ fn program_of<'a>(
     Ok(Items::of(items, init, relocations, data_end, funcs, names))
 }
 
-/// The program that an object is, where nothing is wrong with its instructions and relocations; else what is wrong: the
-/// first of eight tests that fails anywhere, at its least section and offset. It borrows the object's names and its data.
-/// Room for all places is asked for before the tests, so that an object whose sections of code share bytes, and have more
-/// places than there is room for, costs no time.
-pub fn items<'a>(alloc: Global, object: &Object<'a>) -> Result<Items<'a>, ItemEnd>
-    ensures { IsTold (input_of object.now) result }
+/// The program of an input, where nothing is wrong with its instructions and relocations; else what is wrong: the first of
+/// eight tests that fails anywhere, at its least section and offset. Room for all places is asked for before the tests, so
+/// that an input whose sections of code share bytes, and have more places than there is room for, costs no time.
+pub fn items_of<'a>(alloc: Global, input: Input<'a>) -> Result<Items<'a>, ItemEnd>
+    requires { HasFitCode input }
+    ensures { IsTold input.entry result }
 {
-    let input = input_of(alloc, object)?;
     let room = room(alloc, &input)?;
-    code_fits(object);
     match fault_of(&input) {
         Some(fault) => Err(ItemEnd::Refused(fault)),
         None => Ok(program_of(alloc, input, room)?),
     }
+}
+
+/// The program that an object is by itself, or what is wrong with its instructions and relocations. It borrows the object's
+/// names and its data.
+pub fn items<'a>(alloc: Global, object: &Object<'a>) -> Result<Items<'a>, ItemEnd>
+    ensures { IsTold (input_of object.now) result }
+{
+    let input = input_of(alloc, object)?;
+    code_fits(object);
+    items_of(alloc, input)
 }

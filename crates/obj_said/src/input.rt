@@ -17,6 +17,7 @@ use crate::resolution::Resolution;
 use crate::sections::sections_of;
 use crate::slots::slots_of;
 use crate::symbols::symbols_of;
+use crate::tables::tables_of;
 use elf_object::Object;
 use indexmap::IndexSet;
 use obj_input::{Definition, Input, Names, Section};
@@ -156,7 +157,8 @@ fn input_by<'a>(
 {
     let places = places(alloc, symbols, numbers)?;
     let definitions = definitions(alloc, symbols, numbers, &places)?;
-    let names = Names::of(alloc, names(alloc, definers, &definitions)?)?;
+    let names = names(alloc, definers, &definitions)?;
+    let names = Names::of(alloc, names, &tables_of(alloc, objects)?)?;
     let input = input_with(
         alloc,
         objects,
@@ -169,31 +171,21 @@ fn input_by<'a>(
     Ok(input)
 }
 
-/// The input of several objects with these symbols.
-#[tactic(auto, using(obj_join::proofs::Listing::listings))]
-fn input_of<'a>(
+/// The input that several objects are, which have at most 2^16 sections in all, and whose symbols have these definers. It
+/// borrows the bytes of their files.
+#[tactic(auto, using(obj_join::proofs::Listing::listings), unfolding(crate::specs::SaidOf::said_by))]
+pub fn joined_input<'a>(
     alloc: Global,
     objects: &[Object<'a>],
-    symbols: &[Symbol<'a>],
+    definers: &Definers<'_, 'a>,
 ) -> Result<Input<'a>, NoMemory>
     requires few { sum_by e_shnum objects.now ≤ 2 ^ 16 }
-    requires symbols { symbols.now ≡ (said_by objects.now).symbols }
-    ensures { IfOk result (λ i. i ≡ shared_input (said_by objects.now)) }
-{
-    let definers = Definers::of(alloc, symbols)?;
-    let numbers = definers.all_resolved(alloc)?;
-    let input = input_by(alloc, objects, symbols, &definers, &numbers)?;
-    Ok(input)
-}
-
-/// The input that several objects are, which have at most 2^16 sections in all. It borrows the bytes of their files.
-#[tactic(auto, unfolding(crate::specs::SaidOf::said_by))]
-pub fn joined_input<'a>(alloc: Global, objects: &[Object<'a>]) -> Result<Input<'a>, NoMemory>
-    requires { sum_by e_shnum objects.now ≤ 2 ^ 16 }
+    requires definers { definers.now ≡ (said_by objects.now).symbols }
     ensures { IfOk result (λ i. i ≡ joined_input (map said_of objects.now)) }
 {
-    let symbols = symbols_of(alloc, objects)?;
-    let input = input_of(alloc, objects, &symbols)?;
+    let symbols = definers.symbols();
+    let numbers = definers.all_resolved(alloc)?;
+    let input = input_by(alloc, objects, symbols, definers, &numbers)?;
     Ok(input)
 }
 
@@ -213,7 +205,8 @@ fn own_input_by<'a>(
 {
     let places = places(alloc, symbols, numbers)?;
     let definitions = definitions(alloc, symbols, numbers, &places)?;
-    let names = Names::of(alloc, own_names(alloc, symbols, &definitions)?)?;
+    let names = own_names(alloc, symbols, &definitions)?;
+    let names = Names::of(alloc, names, &tables_of(alloc, objects)?)?;
     let input = input_with(
         alloc,
         objects,

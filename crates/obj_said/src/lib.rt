@@ -12,3 +12,4 @@ mod resolution;
 mod sections;
 mod slots;
 mod symbols;
+mod tables;

@@ -1,0 +1,89 @@
+//! The program that several objects are.
+
+ghost use Rattle.std.specs.Prelude.{◌≡◌, ◌≤◌, ◌^◌, map};
+ghost use Rattle.std.specs.List.{sum_by};
+ghost use Rattle.elf_tables.specs.Header.{e_shnum};
+ghost use Rattle.obj_join.specs.Joined.{among, joined_input};
+ghost use Rattle.obj_join.specs.Duplicate.{duplicate};
+ghost use Rattle.obj_items.specs.FitCode.{HasFitCode};
+ghost use Rattle.obj_said.specs.SaidOf.{said_by, said_of};
+ghost use Rattle.obj_items.specs.Finished.{IsFinished, Tells, told_in};
+
+use crate::item_end::ItemEnd;
+use crate::join_end::JoinEnd;
+use crate::program::items_of;
+use elf_object::Object;
+use obj_join::Definers;
+use obj_program::Items;
+use obj_rules::ItemFault;
+use obj_said::{joined_input, symbols_of};
+use std::alloc::Global;
+
+/// The code of objects is whole words, in sections whose indices have 16 bits.
+fn codes_fit(objects: &[Object])
+    requires { sum_by e_shnum objects.now ≤ 2 ^ 16 }
+    ensures { HasFitCode (joined_input (map said_of objects.now)) }
+{
+    for object in objects {
+        let _sections = object.sections();
+    }
+}
+
+/// Which object has the symbol with a number among those of all, and its number there, both from 0.
+fn among(objects: &[Object], number: u64) -> (u64, u64)
+    ensures { result ≡ among (map said_of objects.now) number }
+{
+    let mut behind = number;
+    for (index, object) in objects.iter().enumerate() {
+        if behind < object.symbols() {
+            return (index as u64, behind);
+        }
+        behind -= object.symbols();
+    }
+    (objects.len() as u64, behind)
+}
+
+/// What a fault of the input of objects is told as.
+fn told_in<'a>(objects: &[Object], fault: ItemFault) -> JoinEnd<'a>
+    ensures { result ≡ told_in objects.now fault }
+{
+    match fault {
+        ItemFault::Undefined(number) => {
+            let (object, symbol) = among(objects, number);
+            JoinEnd::Undefined(object, symbol)
+        }
+        fault => JoinEnd::Items(fault),
+    }
+}
+
+/// The program that objects are, whose symbols have these definers.
+fn program<'a>(
+    alloc: Global,
+    objects: &[Object<'a>],
+    definers: &Definers<'_, 'a>,
+) -> Result<Items<'a>, JoinEnd<'a>>
+    requires few { sum_by e_shnum objects.now ≤ 2 ^ 16 }
+    requires definers { definers.now ≡ (said_by objects.now).symbols }
+    ensures { Tells objects.now (joined_input (map said_of objects.now)) result }
+{
+    let input = joined_input(alloc, objects, definers)?;
+    codes_fit(objects);
+    match items_of(alloc, input) {
+        Ok(items) => Ok(items),
+        Err(ItemEnd::Refused(fault)) => Err(told_in(objects, fault)),
+        Err(ItemEnd::NoMemory) => Err(JoinEnd::NoMemory),
+    }
+}
+
+/// The program that objects are, if there is one.
+pub(crate) fn finished<'a>(alloc: Global, objects: &[Object<'a>]) -> Result<Items<'a>, JoinEnd<'a>>
+    requires { sum_by e_shnum objects.now ≤ 2 ^ 16 }
+    ensures { IsFinished objects.now result }
+{
+    let symbols = symbols_of(alloc, objects)?;
+    let definers = Definers::of(alloc, &symbols)?;
+    match definers.duplicate() {
+        Some(name) => Err(JoinEnd::Duplicate(name)),
+        None => program(alloc, objects, &definers),
+    }
+}
