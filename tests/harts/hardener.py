@@ -31,7 +31,7 @@ from rules import branch_offset, jal_target
 PROGBITS, RELA, SYMTAB, NOTE, NOBITS = 1, 4, 2, 7, 8
 WRITE, ALLOC, EXECINSTR = 1, 2, 4
 FUNC, ABS, COMMON = 2, 0xFFF1, 0xFFF2
-ABS32, ABS64, BRANCH, JAL, CALL, CALL_PLT = 1, 2, 16, 17, 18, 19
+ABS32, ABS64, BRANCH, JAL, CALL, CALL_PLT, GOT_HI20 = 1, 2, 16, 17, 18, 19, 20
 PCREL_HI20, PCREL_LO12_I, PCREL_LO12_S, HI20, LO12_I, LO12_S = 23, 24, 25, 26, 27, 28
 ADD8, SUB8, ADD32, ADD64 = 33, 37, 35, 36
 DATA = 0x10000
@@ -54,6 +54,7 @@ class Symbol(NamedTuple):
     section: int
     value: int
     size: int
+    binding: int = 0
 
 
 class Relocation(NamedTuple):
@@ -88,16 +89,25 @@ class Source:
                          for row, part in zip(headers, parts)]
         table = next(k for k, row in enumerate(headers) if row[1] == SYMTAB)
         rows = struct.iter_unpack("<IBBHQQ", parts[table])
-        self.symbols = [Symbol(string(parts[headers[table][6]], row[0]), row[1] & 15, *row[3:]) for row in rows]
+        names = parts[headers[table][6]]
+        self.symbols = [Symbol(string(names, row[0]), row[1] & 15, *row[3:], row[1] >> 4) for row in rows]
         self.relocations = {k: [] for k in range(count)}
         for row, part in zip(headers, parts):
             if row[1] == RELA and self.is_kept(row[7]):
                 self.relocations[row[7]] = [Relocation(at, info & 0xFFFFFFFF, info >> 32, addend)
                                             for at, info, addend in struct.iter_unpack("<QQq", part)]
+        self.find_items()
+
+    def find_items(self):
+        """The first relocation of each place, and the instructions."""
         self.at = {(k, row.offset): row for k, rows in self.relocations.items() if self.is_code(k)
                    for row in reversed(rows) if row.kind not in (0, 43, 51)}
-        self.items = [item for k in range(count) if self.is_code(k) for item in self.items_of(k)]
+        self.items = [item for k in range(len(self.sections)) if self.is_code(k) for item in self.items_of(k)]
         self.index = {item.place: k for k, item in enumerate(self.items)}
+
+    def named(self, name):
+        """The symbol that a name finds."""
+        return next(row for row in self.symbols if row.name == name)
 
     def is_kept(self, k):
         section = self.sections[k]
@@ -161,7 +171,7 @@ class Flow:
             places = []
             for word in line.split(" ")[1:]:
                 name, offset = word.rsplit("+", 1)
-                symbol = next(row for row in source.symbols if row.name == name)
+                symbol = source.named(name)
                 places.append(source.index[symbol.section, symbol.value + int(offset, 16)])
             yield places[0], set(places[1:])
 
@@ -241,17 +251,17 @@ def high(value):
 
 
 class Hardening:
-    """What an object becomes in a form: its image, its graph and its map."""
+    """What an object, or several as one, becomes in a form: its image, its graph and its map."""
 
-    def __init__(self, content, entry, form, policy=""):
-        self.source = Source(content)
+    def __init__(self, source, entry, form, policy=""):
+        self.source = source
         self.form = FORMS[form]
         self.flow = Flow(self.source, self.form.graph == 2, policy)
         self.layout = Layout(self.source, self.flow, UNITS[self.form.image])
         self.data, self.places = self.data_places()
         self.program = Program(self.form.image, self.form.graph)
         self.write_units()
-        first = next(row for row in self.source.symbols if row.name == entry)
+        first = self.source.named(entry)
         start = self.layout.gates[self.source.index[first.section, first.value]]
         self.built = self.program.built(start, self.patched_data())
         self.image, self.graph = image_file(self.built.code, self.built.data, self.form.image), self.built.graph
@@ -294,8 +304,8 @@ class Hardening:
         word = item.word
         if row is None or row.kind in (BRANCH, JAL, CALL, CALL_PLT):
             return word
-        if row.kind in (HI20, PCREL_HI20):
-            value = self.value(row) - (self.layout.words[k] if row.kind == PCREL_HI20 else 0)
+        if row.kind in (HI20, PCREL_HI20, GOT_HI20):
+            value = self.value(row) - (0 if row.kind == HI20 else self.layout.words[k])
             return word & 0xFFF | high(value) << 12
         imm = low(self.value(row)) if row.kind in (LO12_I, LO12_S) else low(self.distance(row))
         if row.kind in (LO12_I, PCREL_LO12_I):
@@ -390,7 +400,7 @@ def small_object(row):
 def is_small(row, form):
     """Whether a small object becomes what is written down."""
     policy = "rvcfi-policy 1\n%send\n" % row.policy if row.policy else ""
-    got, wanted = Hardening(small_object(row), row.entry, form, policy), made(row, FORMS[form])
+    got, wanted = Hardening(Source(small_object(row)), row.entry, form, policy), made(row, FORMS[form])
     code = got.built.words[:(wanted.call[0]) // 4 + 1][-1:] + got.built.words[(UNITS[got.form.image] - CODE) // 4:]
     return (code, got.built.data, got.graph.decode(), got.map.decode()) == (
         [wanted.call[1]] + wanted.words, wanted.data, wanted.graph, wanted.map)
@@ -399,11 +409,11 @@ def is_small(row, form):
 def differences(tool, path, entry, folder):
     """The forms in which the program makes something else of an object, and what."""
     import programs
-    content = Path(path).read_bytes()
+    source = Source(Path(path).read_bytes())
     for form in FORMS:
         files = [os.path.join(folder, name) for name in ("image", "graph", "map")]
         done = programs.run([tool, "harden", form, path, entry, "none", *files])
-        made = Hardening(content, entry, form)
+        made = Hardening(source, entry, form)
         got = [done.stdout] + [Path(file).read_bytes() if os.path.exists(file) else b"" for file in files]
         for name, one, other in zip(("text", "image", "graph", "map"), got, (made.told(), made.image, made.graph, made.map)):
             if one != other:

@@ -50,6 +50,15 @@ $elf $no_unwind $own -fcommon -mcmodel=medlow -c shared.c -o shared.o
 # The same, independent of its position, with a table of addresses.
 $gnu $no_unwind $own -fno-toplevel-reorder -fpic -mcmodel=medany -c slots.c -o slots.o
 
+# Three files that are one program, for make_links.py: of gcc, the first two with a table of addresses, and of a clang that keeps
+# registers.
+together="$machine -O1 -ffreestanding -fno-ident -fno-stack-protector $no_unwind -fcommon -msmall-data-limit=0"
+for name in first second third; do
+    case $name in third) pic=-fno-pic ;; *) pic=-fpic ;; esac
+    (cd links && riscv64-linux-gnu-gcc $together -ffixed-t5 -ffixed-t6 -mcmodel=medlow $pic -c $name.c -o $name.o)
+    (cd links && clang-16 --target=riscv64 $together -ffixed-x30 -ffixed-x31 -fno-addrsig -mcmodel=small -fno-pic -c $name.c -o ${name}_clang.o)
+done
+
 python3 make_expected.py *.o > expected.txt
 python3 make_programs.py *.o > programs.txt
 python3 make_linked.py switch_*.o pointers_clang.o menu.o tree.o spans.o shared.o slots.o entries.o > linked.txt
