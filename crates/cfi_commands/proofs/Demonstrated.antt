@@ -28,7 +28,7 @@ use Rattle.cfi_compare.specs.declared.answer.Compared.{Compared}
 use Rattle.cfi_commands.specs.Compare.{at_map}
 use Rattle.cfi_commands.specs.Demo.{IsComparedAt, STEP_LIMIT}
 use Rattle.cfi_commands.specs.Demonstration.{CanRunAt, IsAnswerAt, IsDifference, IsDrawn, IsImageIn, IsSourceOn, NoneDiffers}
-use Rattle.cfi_commands.proofs.OneImage.{known_version}
+use Rattle.cfi_commands.proofs.FormVersions.{known_version}
 
 module _ (request : ProgramRequest) (p : PreparedParts) (prepared : IsPreparedOf request p) (h : HardenedParts) (hardened : IsWrittenOf p h) where
   -- what was placed is the program at the gates of its map

@@ -1,7 +1,5 @@
-pub mod Gave
-mod PartsInTurn
-mod OneImage
-pub mod ScriptHarts
+mod Giving
+mod FormVersions
 pub mod Writing
 pub mod Complete
 pub mod Sources

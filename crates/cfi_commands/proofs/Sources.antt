@@ -14,14 +14,15 @@ use Rattle.cfi_map.specs.GraphAtMap.{ProgramAtMap, program_at}
 use Rattle.cfi_map.specs.LegalMap.{gates_of}
 use Rattle.cfi_map.specs.MapFault.{IsWrongLine}
 use Rattle.cfi_flow.specs.Policy.{instruction_at}
+use Rattle.cfi_harden.specs.Given.{Given}
 use Rattle.cfi_harden.specs.Hardened.{HasDataRoom}
 use Rattle.cfi_harden.specs.Prepared.{PreparedParts}
 use Rattle.cfi_harden.specs.Refused.{IsEarly, Prepares, Refuses}
 use Rattle.cfi_harden.specs.Request.{Request}
-use Rattle.cfi_harden.specs.declared.refusal.HardenEnd.{HardenEnd}
-use Rattle.cfi_harden.specs.declared.refusal.HardenEnd.TheVariants as ends
+use Rattle.cfi_harden.specs.declared.refusal.HardenEnd.TheVariants as hardens
 use Rattle.cfi_harden.specs.declared.refusal.Refusal.{Refusal}
 use Rattle.cfi_harden.specs.declared.refusal.Refusal.TheVariants as hardening
+use Rattle.cfi_harden.proofs.Giving.{given_early}
 use Rattle.cfi_files.specs.declared.refusal.MapReason.TheVariants.{Text, Place}
 use Rattle.cfi_files.specs.declared.refusal.Refusal.{Refusal as Refused}
 use Rattle.cfi_files.specs.declared.refusal.Refusal.TheVariants as refused
@@ -31,15 +32,18 @@ use Rattle.src_machine.specs.Running.{SourceParts}
 use Rattle.cfi_meaning.specs.Compared.{compared}
 use Rattle.cfi_compare.specs.Told.{told_answer}
 use Rattle.cfi_compare.specs.declared.answer.Compared as A
+use Rattle.cfi_commands.specs.Objects.{Gives}
+use Rattle.cfi_commands.specs.declared.objects.GivenEnd.{GivenEnd}
+use Rattle.cfi_commands.specs.declared.objects.GivenEnd.TheVariants as ends
 use Rattle.cfi_commands.specs.declared.compare.CompareOutcome.{CompareOutcome}
 use Rattle.cfi_commands.specs.declared.compare.CompareOutcome.TheVariants as outcome
 use Rattle.cfi_commands.specs.Compare.{IsAfterImage, IsCompareOf, IsCompareRefused, IsComparison, IsImageCompared, IsResult, IsRoomy, IsRoomyEnd, IsRunnable, IsSourceAt, asked_at, first_out, map_form}
 use Rattle.cfi_commands.specs.Demonstration.{IsSourceOn}
 
 -- a request in the form of a map that a text spells is one at that text
-pub asked_form : (form : Form) (object entry : List ℕ) (policy : Option (List ℕ)) (text : List ℕ) → form ≡ map_form text
-    → ◌≡◌ {A = Request} (record { form = form; object = object; entry = entry; policy = policy }) (asked_at text object entry policy)
-asked_form form object entry policy text same = ap (λ (f : Form). record { form = f; object = object; entry = entry; policy = policy }) same
+pub asked_form : (form : Form) (given : Given) (entry : List ℕ) (policy : Option (List ℕ)) (text : List ℕ) → form ≡ map_form text
+    → ◌≡◌ {A = Request} (record { form = form; given = given; entry = entry; policy = policy }) (asked_at text given entry policy)
+asked_form form given entry policy text same = ap (λ (f : Form). record { form = f; given = given; entry = entry; policy = policy }) same
 
 pub data_fits : (p : PreparedParts) → HasDataRoom p.program → DATA_START + init_size p.program ≤ DATA_END
 data_fits p room = omega (arith, room.init)
@@ -73,16 +77,25 @@ source_is p map input m run read on = record {
 not_prepared : (request : Request) (refusal : Refusal) → Refuses request refusal → IsEarly refusal → (image map : List ℕ)
     → IsCompareRefused request image map (refused.Object refusal)
 not_prepared request (hardening.Object fault) is early = λ image map. is
+not_prepared request (hardening.ObjectIn fault k) is early = λ image map. is
+not_prepared request (hardening.TooManySections n) is early = λ image map. is
 not_prepared request (hardening.Items fault) is early = λ image map. is
+not_prepared request (hardening.UndefinedIn symbol k) is early = λ image map. is
 not_prepared request hardening.NoEntry is early = λ image map. is
 not_prepared request (hardening.Policy line) is early = λ image map. is
 not_prepared request (hardening.CodeTooLarge bytes) is early = absurd early
 not_prepared request (hardening.DataTooLarge init last) is early = absurd early
 not_prepared request (hardening.RelocRange section offset) is early = absurd early
 
-pub not_roomy : (request : Request) (end : HardenEnd) → Prepares request (Err end) → IsRoomyEnd request end
-not_roomy request (ends.Refused refusal) (is, early) = not_prepared request refusal is early
-not_roomy request ends.NoMemory is = tt
+-- what is given is no program
+pub not_given : (request : Request) (end : GivenEnd) → Gives request.given (Err end) → IsRoomyEnd request end
+not_given request (ends.Refused refusal) is = not_prepared request refusal (inl is) (given_early request.given refusal is)
+not_given request (ends.Duplicate name) is = is
+not_given request ends.NoMemory is = tt
+
+-- a program is given, and is not prepared
+pub not_roomy : (request : Request) (refusal : Refusal) → Prepares request (Err (hardens.Refused refusal)) → IsRoomyEnd request (ends.Refused refusal)
+not_roomy request refusal (is, early) = not_prepared request refusal is early
 
 module _ (request : Request) (p : PreparedParts) (map : List ℕ) (roomy : IsRoomy request p) where
   pub runnable_source : (input : List ℕ) (run : SourceParts) → IsSourceAt p map input run → IsRunnable request p map
@@ -127,6 +140,7 @@ module _ (request : Request) (p : PreparedParts) (map : List ℕ) (roomy : IsRoo
   compared_with image input limit run (outcome.Refused (refused.Map line reason)) source is = absurd is
   compared_with image input limit run (outcome.Refused (refused.Script line reason)) source is = absurd is
   compared_with image input limit run (outcome.Refused (refused.Harts count)) source is = absurd is
+  compared_with image input limit run (outcome.Duplicate name) source is = absurd is
   compared_with image input limit run (outcome.Compared result) source is = comparison_is image input limit run result source is
 
   module _ (image : List ℕ) (refusal : Refused) where

@@ -8,7 +8,7 @@ use Rattle.cfi_map.specs.LegalMap.{IsLegalMap}
 use Rattle.cfi_files.specs.Writes.{OutputParts}
 use Rattle.cfi_commands.specs.Compare.{form_told}
 use Rattle.cfi_commands.specs.Laws.{WrittenIsRead}
-use Rattle.cfi_commands.proofs.OneImage.{known_version}
+use Rattle.cfi_commands.proofs.FormVersions.{known_version}
 
 pub written_is_read : WrittenIsRead
 written_is_read words request hardened written made is =

@@ -1,5 +1,6 @@
 -- `compare OBJECT ENTRY POLICY IMAGE MAP INPUT STEPS`: the system calls of an image against those of its object, which is run as a
--- program at the map, in the map's form. The word `none` for POLICY or INPUT means no file.
+-- program at the map, in the map's form. The word `none` for POLICY or INPUT means no file. `compare-link ENTRY POLICY IMAGE MAP INPUT
+-- STEPS OBJECT ..` compares an image with several objects, which are joined.
 use Rattle.std.specs.Prelude.{◌≡◌, ℕ, List, [], ◌∷◌, ◌++◌, codes, ⊤, Option, Some, None, option_map, Result, Ok, Err}
 use Rattle.rv_word.specs.Image.{Contents, image_profile}
 use Rattle.rv_word.specs.declared.form.Form.{Form}
@@ -16,12 +17,11 @@ use Rattle.cfi_graph.specs.MapText.{map_of}
 use Rattle.cfi_map.specs.LegalMap.{IsLegalMap, gates_of}
 use Rattle.cfi_map.specs.MapFault.{IsWrongLine}
 use Rattle.cfi_map.specs.Placement.{words_from}
+use Rattle.cfi_harden.specs.Given.{Given, DuplicateIn}
 use Rattle.cfi_harden.specs.Hardened.{HasDataRoom}
 use Rattle.cfi_harden.specs.Prepared.{IsPrepared, PreparedParts}
 use Rattle.cfi_harden.specs.Refused.{Refuses}
 use Rattle.cfi_harden.specs.Request as asks
-use Rattle.cfi_harden.specs.declared.refusal.HardenEnd.{HardenEnd}
-use Rattle.cfi_harden.specs.declared.refusal.HardenEnd.TheVariants as ends
 use Rattle.cfi_harden.specs.declared.refusal.Refusal.TheVariants as rewriter
 use Rattle.cfi_map.specs.Source.{source_start}
 use Rattle.cfi_map.specs.GraphAtMap.{ProgramAtMap, program_at}
@@ -31,10 +31,13 @@ use Rattle.cfi_compare.specs.Text.{answer_text}
 use Rattle.cfi_compare.specs.Told.{told_answer}
 use Rattle.cfi_compare.specs.declared.answer.Compared as A
 use Rattle.cfi_compare.specs.declared.answer.Compared.TheVariants as answer
-use Rattle.cfi_commands.specs.Opening.{IsImage}
 use Rattle.cfi_files.specs.Reads.{Content, Gave, GaveNamed}
-use Rattle.cfi_files.specs.Refusals.{refusal_line}
+use Rattle.cfi_files.specs.Refusals.{duplicate_line, refusal_line}
+use Rattle.cfi_files.specs.Spelled.{IsImage}
 use Rattle.cfi_files.specs.Words.{file_word, steps_of, text_named}
+use Rattle.cfi_commands.specs.Objects.{Objects, one, several, GaveObjects, names_with, objects_asked}
+use Rattle.cfi_commands.specs.declared.objects.GivenEnd.{GivenEnd}
+use Rattle.cfi_commands.specs.declared.objects.GivenEnd.TheVariants as ends
 use Rattle.cfi_commands.specs.declared.compare.CompareOutcome.{CompareOutcome}
 use Rattle.cfi_commands.specs.declared.compare.CompareOutcome.TheVariants as outcome
 use Rattle.cfi_commands.specs.declared.compare.CompareRequest.{CompareRequest}
@@ -44,7 +47,7 @@ use Rattle.cfi_files.specs.declared.refusal.Refusal.TheVariants.{Object, Image, 
 
 -- what is asked for: the names of the files and of the entry, and how many steps the program takes at most
 pub record CompareWords : Type 0 where
-  pub object : List ℕ
+  pub objects : Objects
   pub entry : List ℕ
   pub policy : Option (List ℕ)
   pub image : List ℕ
@@ -52,19 +55,25 @@ pub record CompareWords : Type 0 where
   pub input : Option (List ℕ)
   pub limit : ℕ
 
--- what the words after the command ask for, if they are taken
+-- what the words after `compare` ask for, if they are taken
 abbrev pub compare_words : List (List ℕ) → Option CompareWords
 compare_words (object ∷ entry ∷ policy ∷ image ∷ map ∷ input ∷ steps ∷ []) =
-    option_map (λ limit. record { object = object; entry = entry; policy = file_word policy; image = image; map = map; input = file_word input; limit = limit }) (steps_of steps)
+    option_map (λ limit. record { objects = one object; entry = entry; policy = file_word policy; image = image; map = map; input = file_word input; limit = limit }) (steps_of steps)
 compare_words words = None
+
+-- those after `compare-link`, of which the last name objects
+abbrev pub compare_link_words : List (List ℕ) → Option CompareWords
+compare_link_words (entry ∷ policy ∷ image ∷ map ∷ input ∷ steps ∷ objects) =
+    option_map (λ limit. record { objects = several objects; entry = entry; policy = file_word policy; image = image; map = map; input = file_word input; limit = limit }) (steps_of steps)
+compare_link_words words = None
 
 -- the files that are read, in their order
 abbrev pub compare_names : CompareWords → List (Option (List ℕ))
-compare_names asks = Some asks.object ∷ asks.policy ∷ Some asks.image ∷ Some asks.map ∷ asks.input ∷ []
+compare_names asks = names_with asks.objects (asks.policy ∷ Some asks.image ∷ Some asks.map ∷ asks.input ∷ [])
 
 -- a request as the tool keeps it
 abbrev pub compare_asked : CompareRequest → CompareWords
-compare_asked r = record { object = r.object.now; entry = r.entry.now; policy = option_map (λ name. name.now) r.policy; image = r.image.now; map = r.map.now; input = option_map (λ name. name.now) r.input; limit = r.limit }
+compare_asked r = record { objects = objects_asked r.objects; entry = r.entry.now; policy = option_map (λ name. name.now) r.policy; image = r.image.now; map = r.map.now; input = option_map (λ name. name.now) r.input; limit = r.limit }
 
 -- the form of the map that a text spells; where it spells none, no form is asked for
 abbrev pub form_told : Result MapParts TextEnd → Form
@@ -74,11 +83,11 @@ form_told (Err end) = Plain
 abbrev pub map_form : List ℕ → Form
 map_form text = form_told (map_of text)
 
--- what is asked of an object: by its entry, under a policy, and in the form of a map
-abbrev pub asked_at : List ℕ → List ℕ → List ℕ → Option (List ℕ) → asks.Request
-asked_at map object entry policy = record { form = map_form map; object = object; entry = entry; policy = policy }
+-- what is asked of a program: by its entry, under a policy, and in the form of a map
+abbrev pub asked_at : List ℕ → Given → List ℕ → Option (List ℕ) → asks.Request
+asked_at map given entry policy = record { form = map_form map; given = given; entry = entry; policy = policy }
 
--- an object is a program, is entered and has a right policy, and its data have room
+-- a program is entered and has a right policy, and its data have room
 pub record IsRoomy (request : asks.Request) (p : PreparedParts) : Type 0 where
   pub prepared : IsPrepared request p
   pub room : HasDataRoom p.program
@@ -101,7 +110,7 @@ pub record IsRunnable (request : asks.Request) (p : PreparedParts) (map : List �
   pub roomy : IsRoomy request p
   pub in_range : (m : MapParts) → IsMapOf p map m → first_out p m ≡ None
 
--- a refusal stands, and none before it: of the object, its entry or the policy, of room for data, of a value out of its range at a legal
+-- a refusal stands, and none before it: of the objects, their entry or the policy, of room for data, of a value out of its range at a legal
 -- map, of the image, of the map
 abbrev pub IsCompareRefused : asks.Request → List ℕ → List ℕ → Refusal → Type 0
 IsCompareRefused request image map (Object (rewriter.CodeTooLarge bytes)) = ⊥
@@ -118,8 +127,9 @@ IsCompareRefused request image map (Map line Place) =
 IsCompareRefused request image map other = ⊥
 
 -- why there is no program whose data have room, where only want of memory is free. Only private contracts cite this
-abbrev pub IsRoomyEnd : asks.Request → HardenEnd → Type 0
+abbrev pub IsRoomyEnd : asks.Request → GivenEnd → Type 0
 IsRoomyEnd request (ends.Refused refusal) = (image map : List ℕ) → IsCompareRefused request image map (Object refusal)
+IsRoomyEnd request (ends.Duplicate name) = DuplicateIn request.given name
 IsRoomyEnd request ends.NoMemory = ⊤
 
 -- what is told of a map that is none, where an image's own refusal goes first. Only private contracts cite this
@@ -150,9 +160,10 @@ pub record IsResult (run : SourceParts) (image input : List ℕ) (limit : ℕ) (
 abbrev pub IsImageCompared : SourceParts → List ℕ → List ℕ → ℕ → CompareOutcome → Type 0
 IsImageCompared run image input limit (outcome.Refused (Image refusal)) = fault_of image ≡ Some refusal
 IsImageCompared run image input limit (outcome.Refused other) = ⊥
+IsImageCompared run image input limit (outcome.Duplicate name) = ⊥
 IsImageCompared run image input limit (outcome.Compared result) = IsResult run image input limit result
 
--- the object is run at the map, the image beside it, and this is how they compare
+-- the program is run at the map, the image beside it, and this is how they compare
 pub record IsComparison (request : asks.Request) (image map input : List ℕ) (limit : ℕ) (result : A.Compared) : Type 0 where
   pub program : PreparedParts
   pub at : MapParts
@@ -164,24 +175,26 @@ pub record IsComparison (request : asks.Request) (image map input : List ℕ) (l
 
 abbrev pub IsCompareOf : asks.Request → List ℕ → List ℕ → List ℕ → ℕ → CompareOutcome → Type 0
 IsCompareOf request image map input limit (outcome.Refused refusal) = IsCompareRefused request image map refusal
+IsCompareOf request image map input limit (outcome.Duplicate name) = DuplicateIn request.given name
 IsCompareOf request image map input limit (outcome.Compared result) = IsComparison request image map input limit result
 
 -- the files gave bytes of which the comparison comes to this
 pub record ExplainsCompare (content : Content) (words : CompareWords) (result : CompareOutcome) : Type 0 where
-  pub object_bytes : List ℕ
+  pub given : Given
   pub policy_bytes : List ℕ
   pub image_bytes : List ℕ
   pub map_bytes : List ℕ
   pub input_bytes : List ℕ
-  pub object_gave : Gave (content words.object) object_bytes
+  pub objects_gave : GaveObjects content words.objects given
   pub policy_gave : GaveNamed content words.policy policy_bytes
   pub image_gave : Gave (content words.image) image_bytes
   pub map_gave : Gave (content words.map) map_bytes
   pub input_gave : GaveNamed content words.input input_bytes
-  pub compare_is : IsCompareOf (asked_at map_bytes object_bytes words.entry (text_named words.policy policy_bytes)) image_bytes map_bytes input_bytes words.limit result
+  pub compare_is : IsCompareOf (asked_at map_bytes given words.entry (text_named words.policy policy_bytes)) image_bytes map_bytes input_bytes words.limit result
 
 abbrev pub compare_line : CompareOutcome → List ℕ
 compare_line (outcome.Refused refusal) = refusal_line refusal
+compare_line (outcome.Duplicate name) = duplicate_line name
 compare_line (outcome.Compared result) = answer_text result
 
 abbrev pub answer_status : A.Compared → ℕ
@@ -192,9 +205,10 @@ answer_status answer.Limit = 12
 
 abbrev pub compare_status : CompareOutcome → ℕ
 compare_status (outcome.Refused refusal) = 1
+compare_status (outcome.Duplicate name) = 1
 compare_status (outcome.Compared result) = answer_status result
 
--- the files spell an object, an image and a map of which the comparison comes to this; the text tells it
+-- the files spell objects, an image and a map of which the comparison comes to this; the text tells it
 abbrev pub IsTold : Content → CompareWords → ℕ → List ℕ → Type 0
 IsTold content words status text =
     (result : A.Compared) × ExplainsCompare content words (outcome.Compared result) × (status ≡ answer_status result) × (text ≡ answer_text result ++ codes "\n")

@@ -24,11 +24,10 @@ use Rattle.cfi_gen.specs.Demo.{demo_parts}
 use Rattle.gen_hardened.specs.Laws.{entered}
 use Rattle.cfi_files.specs.Lines.{with_newline}
 use Rattle.cfi_files.specs.Words.{steps_of}
+use Rattle.cfi_report.specs.ReportText.{end_status, report_text}
+use Rattle.cfi_report.specs.SafeRun.{IsSafeRun, undisturbed_script}
 use Rattle.cfi_commands.specs.Compare.{answer_status, at_map}
-use Rattle.cfi_commands.specs.Opening.{undisturbed_script}
-use Rattle.cfi_commands.specs.ReportText.{end_status, report_text}
 use Rattle.cfi_commands.specs.Rewrite.{IsMade}
-use Rattle.cfi_commands.specs.Run.{IsSafeRun}
 use Rattle.cfi_commands.specs.declared.demo.DemoOutcome.{DemoOutcome}
 use Rattle.cfi_commands.specs.declared.demo.DemoOutcome.TheVariants as outcome
 use Rattle.cfi_commands.specs.declared.demo.DemoRequest.{DemoRequest}

@@ -7,8 +7,8 @@ use Rattle.cfi_rules.specs.Rules.{IsWellFormed}
 use Rattle.cfi_harden.specs.Hardened.{HardenedParts}
 use Rattle.cfi_harden.specs.Prepared.{IsPrepared, PreparedParts}
 use Rattle.cfi_harden.specs.Request as asks
+use Rattle.cfi_files.specs.Spelled.{Spell}
 use Rattle.cfi_commands.specs.Compare.{IsMapOf, map_form}
-use Rattle.cfi_commands.specs.Opening.{Spell}
 use Rattle.cfi_commands.specs.Rewrite.{IsMade, IsSpelledOut, RewriteWords}
 use Rattle.cfi_commands.specs.declared.rewrite.Rewritten.{Rewritten}
 

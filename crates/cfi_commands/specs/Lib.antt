@@ -1,9 +1,6 @@
-pub mod Opening
-pub mod ReportText
+pub mod Objects
 pub mod Rewrite
 pub mod Compare
-pub mod Verify
-pub mod Run
 pub mod Demo
 pub mod Demonstration
 pub mod Complete

@@ -1,4 +1,5 @@
-ghost use Rattle.std.specs.Prelude.{◌≡◌, ◌≤◌, ℕ, List, Ok, Some, Err, IfOk, IfErr, IfSome, option_copied, option_map, ◌∷◌, []};
+ghost use Rattle.std.specs.Prelude.{◌≡◌, ◌≤◌, ℕ, List, Ok, Some, Err, IfOk, IfErr, IfSome, option_copied, option_map, map, ◌∷◌, []};
+ghost use Rattle.cfi_files.specs.Lines.{with_newline};
 ghost use Rattle.text_lines.specs.Decimal.{MAX_STEP};
 ghost use Rattle.text_lines.specs.declared.end.TextEnd.TheVariants as TextEnd;
 ghost use Rattle.tool_io.specs.Reading.{CountsReads, IsOnlyRead};
@@ -7,28 +8,31 @@ ghost use Rattle.cfi_graph.specs.MapText.{map_of};
 ghost use Rattle.cfi_flow.specs.Entry.{entry_place};
 ghost use Rattle.cfi_harden.specs.Hardened.{HasDataRoom};
 ghost use Rattle.cfi_harden.specs.Request.{Request};
-ghost use Rattle.cfi_commands.specs.Compare.{ExplainsCompare, IsAfterImage, IsCompareOf, IsFresh, IsImageCompared, IsRoomy, answer_status, asked_at, compare_asked, compare_names, compare_status, compare_words};
+ghost use Rattle.cfi_commands.specs.Compare.{ExplainsCompare, IsAfterImage, IsCompareOf, IsFresh, IsImageCompared, IsRoomy, answer_status, asked_at, compare_asked, compare_line, compare_link_words, compare_names, compare_status, compare_words};
+ghost use Rattle.cfi_commands.specs.Objects.{given_by};
 
+use crate::objects::{GivenEnd, ObjectBytes, Objects};
 use crate::source::{roomy, source_on};
 use cfi_compare::{Compared, compare};
-use cfi_files::{MapReason, Refusal, Stop, file_word, read_all, status, steps, text_named};
+use cfi_files::{
+    MapReason, Refusal, Stop, duplicate_line, file_word, line, read_all, status, steps, text_named,
+};
 use cfi_graph::{Map, read_map};
-use cfi_harden::{HardenEnd, Prepared};
-use cfi_words::CompareWords;
+use cfi_harden::Prepared;
+use cfi_words::{CompareLinkWords, CompareWords};
 use elf_image::read_image;
-use rv_word::{Form, NoMemory};
+use rv_word::{Bytes, Form, NoMemory};
 use src_machine::laws::wrong_is_not_legal;
 use src_machine::{SourceEnd, SourceRun};
 use std::alloc::Global;
-use std::fmt;
 use text_lines::{Reason, TextEnd};
 use tool_io::Files;
 
-/// What `compare` is asked for: the names of an object, of its entry, of a policy, an image, a map and an input, and how many
-/// steps the program takes at most.
-#[derive(Clone, Copy)]
+/// What `compare` or `compare-link` is asked for: the names of the objects, of their entry, of a policy, an image, a map and an
+/// input, and how many steps the program takes at most.
+#[derive(Drop)]
 pub struct CompareRequest<'a> {
-    object: &'a str,
+    objects: Objects<'a>,
     entry: &'a str,
     policy: Option<&'a str>,
     image: &'a str,
@@ -38,14 +42,31 @@ pub struct CompareRequest<'a> {
 }
 
 impl<'a> CompareRequest<'a> {
-    /// What the words after the command ask for, if they are taken.
+    /// What the words after `compare` ask for, if they are taken.
     pub fn of(words: CompareWords<'a>) -> Option<Self>
         ensures asked { option_map compare_asked result
             ≡ compare_words (words.entry.object.now ∷ words.entry.entry.now ∷ words.entry.policy.now ∷ words.entry.image.now ∷ words.entry.map.now ∷ words.entry.input.now ∷ words.entry.steps.now ∷ []) }
         ensures few { IfSome result (λ request. request.limit ≤ MAX_STEP) }
     {
         Some(CompareRequest {
-            object: words.object,
+            objects: Objects::Alone(words.object),
+            entry: words.entry,
+            policy: file_word(words.policy),
+            image: words.image,
+            map: words.map,
+            input: file_word(words.input),
+            limit: steps(words.steps)?,
+        })
+    }
+
+    /// What the words after `compare-link` ask for, if they are taken: those after the number of steps name objects.
+    pub fn linking(words: CompareLinkWords<'a>) -> Option<Self>
+        ensures asked { option_map compare_asked result
+            ≡ compare_link_words (words.entry.entry.now ∷ words.entry.policy.now ∷ words.entry.image.now ∷ words.entry.map.now ∷ words.entry.input.now ∷ words.entry.steps.now ∷ map (λ n. n.now) words.entry.objects.items) }
+        ensures few { IfSome result (λ request. request.limit ≤ MAX_STEP) }
+    {
+        Some(CompareRequest {
+            objects: Objects::Joined(words.objects),
             entry: words.entry,
             policy: file_word(words.policy),
             image: words.image,
@@ -59,8 +80,10 @@ impl<'a> CompareRequest<'a> {
 /// What a comparison comes to.
 #[derive(Drop)]
 pub enum CompareOutcome {
-    /// The object, its entry, the policy, the image or the map is not what it should be.
+    /// An object, the entry, the policy, the image or the map is not what it should be.
     Refused(Refusal),
+    /// There is no program, since two global symbols of this name are defined.
+    Duplicate(Bytes),
     Compared(Compared),
 }
 
@@ -82,22 +105,19 @@ impl CompareOutcome {
         ensures { result ≡ compare_status self.now }
     {
         match self {
-            CompareOutcome::Refused(_) => status::REFUSED,
+            CompareOutcome::Refused(_) | CompareOutcome::Duplicate(_) => status::REFUSED,
             CompareOutcome::Compared(compared) => answer_status(compared),
         }
     }
-}
 
-impl fmt::Display for CompareOutcome {
-    ghost use Rattle.std.specs.Prelude.{Some};
-    ghost use Rattle.cfi_commands.specs.Compare.{compare_line};
-
-    ghost output = { λ outcome. Some (compare_line outcome) };
-
-    fn fmt<W: fmt::Write>(&self, f: &mut fmt::Formatter<W>) -> fmt::Result {
+    /// The line that is put.
+    pub fn text(&self, alloc: Global) -> Result<Vec<u8>, NoMemory>
+        ensures { IfOk result (λ text. text.items ≡ with_newline (compare_line self.now)) }
+    {
         match self {
-            CompareOutcome::Refused(refusal) => write!(f, "{refusal}"),
-            CompareOutcome::Compared(compared) => write!(f, "{compared}"),
+            CompareOutcome::Refused(refusal) => line(alloc, refusal),
+            CompareOutcome::Duplicate(name) => duplicate_line(alloc, name.as_slice()),
+            CompareOutcome::Compared(compared) => line(alloc, compared),
         }
     }
 }
@@ -164,11 +184,11 @@ fn compare_at(
     }
 }
 
-/// Compares an object, under a policy and at a map, with a file that should be an image.
-fn compare_object(
+/// Compares the program of objects, under a policy and at a map, with a file that should be an image.
+fn compare_given(
     alloc: Global,
     request: &CompareRequest<'_>,
-    object: &[u8],
+    given: ObjectBytes,
     policy: Option<&[u8]>,
     image: &[u8],
     map: &Map,
@@ -176,58 +196,61 @@ fn compare_object(
 ) -> Result<CompareOutcome, NoMemory>
     requires few { request.now.limit ≤ MAX_STEP }
     ensures { (text : List ℕ) → map_of text ≡ Ok map.now
-        → IfOk result (IsCompareOf (asked_at text object.now request.now.entry.now (option_copied policy.entry))
+        → IfOk result (IsCompareOf (asked_at text (given_by given.entry) request.now.entry.now (option_copied policy.entry))
         image.now text input.now request.now.limit) }
 {
-    match roomy(alloc, map.form(), object, request.entry, policy) {
+    match roomy(alloc, map.form(), given, request.entry, policy) {
         Ok(prepared) => compare_at(alloc, request, &prepared, image, map, input),
-        Err(HardenEnd::Refused(refusal)) => Ok(CompareOutcome::Refused(Refusal::Object(refusal))),
-        Err(HardenEnd::NoMemory) => Err(NoMemory),
+        Err(GivenEnd::Refused(refusal)) => Ok(CompareOutcome::Refused(Refusal::Object(refusal))),
+        Err(GivenEnd::Duplicate(name)) => Ok(CompareOutcome::Duplicate(name)),
+        Err(GivenEnd::NoMemory) => Err(NoMemory),
     }
 }
 
-/// What is told of a map's text that is none, where the refusals of the object, its entry, the policy and the image go first.
-fn after_the_object(
+/// What is told of a map's text that is none, where the refusals of the objects, their entry, the policy and the image go first.
+fn after_the_objects(
     alloc: Global,
     request: &CompareRequest<'_>,
-    object: &[u8],
+    given: ObjectBytes,
     policy: Option<&[u8]>,
     image: &[u8],
     line: u64,
     reason: Reason,
 ) -> Result<CompareOutcome, NoMemory>
     ensures { (text input : List ℕ) → map_of text ≡ Err (TextEnd.Line line reason)
-        → IfOk result (IsCompareOf (asked_at text object.now request.now.entry.now (option_copied policy.entry))
+        → IfOk result (IsCompareOf (asked_at text (given_by given.entry) request.now.entry.now (option_copied policy.entry))
         image.now text input request.now.limit) }
 {
-    match roomy(alloc, Form::Plain, object, request.entry, policy) {
+    match roomy(alloc, Form::Plain, given, request.entry, policy) {
         Ok(_prepared) => {
             let refusal = after_the_image(image, Refusal::Map(line, MapReason::Text(reason)));
             Ok(CompareOutcome::Refused(refusal))
         }
-        Err(HardenEnd::Refused(refusal)) => Ok(CompareOutcome::Refused(Refusal::Object(refusal))),
-        Err(HardenEnd::NoMemory) => Err(NoMemory),
+        Err(GivenEnd::Refused(refusal)) => Ok(CompareOutcome::Refused(Refusal::Object(refusal))),
+        Err(GivenEnd::Duplicate(name)) => Ok(CompareOutcome::Duplicate(name)),
+        Err(GivenEnd::NoMemory) => Err(NoMemory),
     }
 }
 
-/// Compares an object, under a policy and at a map, with an image, as bytes spell them. The map is read first, for its form.
+/// Compares the program of objects, under a policy and at a map, with an image, as bytes spell them. The map is read first, for
+/// its form.
 fn compare_bytes(
     alloc: Global,
     request: &CompareRequest<'_>,
-    object: &[u8],
+    given: ObjectBytes,
     policy: Option<&[u8]>,
     image: &[u8],
     map: &[u8],
     input: &[u8],
 ) -> Result<CompareOutcome, NoMemory>
     requires few { request.now.limit ≤ MAX_STEP }
-    ensures { IfOk result (IsCompareOf (asked_at map.now object.now request.now.entry.now (option_copied policy.entry))
+    ensures { IfOk result (IsCompareOf (asked_at map.now (given_by given.entry) request.now.entry.now (option_copied policy.entry))
         image.now map.now input.now request.now.limit) }
 {
     match read_map(alloc, map) {
-        Ok(map) => compare_object(alloc, request, object, policy, image, &map, input),
+        Ok(map) => compare_given(alloc, request, given, policy, image, &map, input),
         Err(TextEnd::Line(line, reason)) => {
-            after_the_object(alloc, request, object, policy, image, line, reason)
+            after_the_objects(alloc, request, given, policy, image, line, reason)
         }
         Err(TextEnd::NoMemory) => Err(NoMemory),
     }
@@ -246,16 +269,17 @@ pub fn compare_files<'a, F: Files>(
     ensures only_read { IsOnlyRead F.Files files.old files.new }
     ensures counted { CountsReads F.Files files.old files.new (IsFault result) (IsTooLong result) }
 {
-    let names = [
-        Some(request.object),
+    let others = [
         request.policy,
         Some(request.image),
         Some(request.map),
         request.input,
     ];
+    let names = request.objects.names_with(alloc, &others)?;
     let bytes = read_all(alloc, &names, files)?;
-    let policy = text_named(request.policy, &bytes[1]);
+    let (given, others) = request.objects.split(&bytes, 4);
+    let policy = text_named(request.policy, &others[0]);
     Ok(compare_bytes(
-        alloc, request, &bytes[0], policy, &bytes[2], &bytes[3], &bytes[4],
+        alloc, request, given, policy, &others[1], &others[2], &others[3],
     )?)
 }

@@ -11,11 +11,11 @@ ghost use Rattle.cfi_commands.specs.Demo.{ExplainsDemo, IsDemoCompared, IsDemoRu
 
 use crate::compare::answer_status;
 use crate::demonstration::{compare_at, image_in, made, prepared, run_accepted};
-use crate::report::{end_status, report_text};
 use cfi_compare::Compared;
 use cfi_files::{line, status, steps};
 use cfi_gen::object_of;
 use cfi_harden::Prepared;
+use cfi_report::{end_status, report_text};
 use cfi_rewrite::Hardened;
 use cfi_step::{RunEnd, RunReport};
 use cfi_words::DemoWords;

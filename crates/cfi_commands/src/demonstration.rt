@@ -7,11 +7,10 @@ ghost use Rattle.cfi_flow.specs.Entry.{entry_place};
 ghost use Rattle.cfi_harden.specs.Hardened.{IsWrittenOf};
 ghost use Rattle.cfi_harden.specs.Prepared.{IsPrepared};
 ghost use Rattle.cfi_harden.specs.Request.{Request};
+ghost use Rattle.cfi_report.specs.SafeRun.{IsSafeRun, undisturbed_script};
 ghost use Rattle.cfi_commands.specs.Demo.{STEP_LIMIT};
 ghost use Rattle.cfi_commands.specs.Demonstration.{CanRunAt, IsAnswerAt, IsDemoPrepared, IsDrawn, IsImageIn, IsSourceOn};
-ghost use Rattle.cfi_commands.specs.Opening.{undisturbed_script};
 ghost use Rattle.cfi_commands.specs.Rewrite.{IsMade, IsSpelled};
-ghost use Rattle.cfi_commands.specs.Run.{IsSafeRun};
 
 use crate::source::source_on;
 use cfi_compare::{Compared, compare};

@@ -1,28 +1,35 @@
-ghost use Rattle.std.specs.Prelude.{◌≡◌, ◌≤◌, ◌^◌, [], None, Err, IfOk, IfErr, IfSome, OnOk, option_copied, option_map, ◌∷◌};
+ghost use Rattle.std.specs.Prelude.{◌≡◌, ◌≤◌, ◌^◌, [], None, Ok, Err, IfOk, IfErr, IfSome, OnOk, option_copied, option_map, map, ◌∷◌};
 ghost use Rattle.tool_io.specs.Faults.{Counts};
 ghost use Rattle.tool_io.specs.Reading.{CountsReads, IsOnlyRead};
 ghost use Rattle.tool_io.specs.declared.ends.OutEnd.TheVariants as OutEnd;
 ghost use Rattle.elf_image.specs.Header.{data_start};
+ghost use Rattle.cfi_harden.specs.Given.{Given};
+ghost use Rattle.cfi_files.specs.Lines.{with_newline};
 ghost use Rattle.cfi_files.specs.Reads.{IsFault, IsStop, IsTooLong};
 ghost use Rattle.cfi_files.specs.Words.{text_named};
 ghost use Rattle.cfi_files.specs.Writes.{AreApart, IsCut, IsTorn, KeepsReads, Wrote};
-ghost use Rattle.cfi_commands.specs.Rewrite.{AreNamedApart, ExplainsRewrite, HasSizes, IsRewriteOf, IsSpelledOut, IsSpelledWith, harden_words, outputs_of, rewrite_asked, rewrite_names, rewrite_outputs, rewrite_status, rewrite_words, words_in};
+ghost use Rattle.cfi_commands.specs.Objects.{Gives, given_by, objects_asked};
+ghost use Rattle.cfi_commands.specs.Rewrite.{AreNamedApart, ExplainsRewrite, HasSizes, IsRewriteOf, IsSpelledOut, IsSpelledWith, harden_words, link_words, outputs_of, rewrite_asked, rewrite_line, rewrite_names, rewrite_outputs, rewrite_status, rewrite_words, words_alone, words_in};
 
-use cfi_files::{Output, Refusal, Stop, file_word, read_all, status, text_named};
+use crate::objects::{GivenEnd, ObjectBytes, Objects, program_given};
+use cfi_files::{
+    Output, Refusal, Stop, duplicate_line, file_word, line, read_all, status, text_named,
+};
 use cfi_graph::{Graph, Map, write_graph, write_map};
-use cfi_rewrite::{HardenEnd, Hardened, rewrite_as};
-use cfi_words::{HardenWords, RewriteWords};
+use cfi_rewrite::{HardenEnd, Hardened, rewrite_program};
+use cfi_words::{HardenWords, LinkWords, RewriteWords};
+use obj_program::Items;
 use rv_word::{Bytes, Form, NoMemory};
 use std::alloc::Global;
 use std::fmt;
 use tool_io::{Files, OutEnd};
 
-/// What `rewrite` or `harden` is asked for: the form, the names of an object, of its entry and of a policy, and those of the
-/// image, the graph and the map that it writes.
-#[derive(Clone, Copy)]
+/// What `rewrite`, `harden` or `link` is asked for: the form, the names of the objects, of their entry and of a policy, and
+/// those of the image, the graph and the map that it writes.
+#[derive(Drop)]
 pub struct RewriteRequest<'a> {
     form: Form,
-    object: &'a str,
+    objects: Objects<'a>,
     entry: &'a str,
     policy: Option<&'a str>,
     image: &'a str,
@@ -31,24 +38,57 @@ pub struct RewriteRequest<'a> {
 }
 
 impl<'a> RewriteRequest<'a> {
-    /// What words ask for in a form, if they are taken: no two of the names of files to write are equal.
-    fn in_form(form: Form, words: RewriteWords<'a>) -> Option<Self>
+    /// What is asked for, if it is taken: no two of the names of files to write are equal.
+    fn in_form(
+        form: Form,
+        objects: Objects<'a>,
+        entry: &'a str,
+        policy: &'a str,
+        image: &'a str,
+        graph: &'a str,
+        map: &'a str,
+    ) -> Option<Self>
         ensures asked { option_map rewrite_asked result
-            ≡ words_in form (words.entry.object.now ∷ words.entry.entry.now ∷ words.entry.policy.now ∷ words.entry.image.now ∷ words.entry.graph.now ∷ words.entry.map.now ∷ []) }
+            ≡ words_in form (objects_asked objects.entry) entry.now policy.now image.now graph.now map.now }
         ensures apart { IfSome result (λ request. AreNamedApart (rewrite_asked request)) }
     {
-        if words.image == words.graph || words.image == words.map || words.graph == words.map {
+        if image == graph || image == map || graph == map {
             return None;
         }
         Some(RewriteRequest {
             form,
-            object: words.object,
-            entry: words.entry,
-            policy: file_word(words.policy),
-            image: words.image,
-            graph: words.graph,
-            map: words.map,
+            objects,
+            entry,
+            policy: file_word(policy),
+            image,
+            graph,
+            map,
         })
+    }
+
+    /// What the words after `rewrite` ask for in a form, if they are taken.
+    fn alone(form: Form, words: RewriteWords<'a>) -> Option<Self>
+        ensures asked { option_map rewrite_asked result
+            ≡ words_alone form (words.entry.object.now ∷ words.entry.entry.now ∷ words.entry.policy.now ∷ words.entry.image.now ∷ words.entry.graph.now ∷ words.entry.map.now ∷ []) }
+        ensures apart { IfSome result (λ request. AreNamedApart (rewrite_asked request)) }
+    {
+        let RewriteWords {
+            object,
+            entry,
+            policy,
+            image,
+            graph,
+            map,
+        } = words;
+        RewriteRequest::in_form(
+            form,
+            Objects::Alone(object),
+            entry,
+            policy,
+            image,
+            graph,
+            map,
+        )
     }
 
     /// What the words after `rewrite` ask for, if they are taken.
@@ -57,7 +97,7 @@ impl<'a> RewriteRequest<'a> {
             ≡ rewrite_words (words.entry.object.now ∷ words.entry.entry.now ∷ words.entry.policy.now ∷ words.entry.image.now ∷ words.entry.graph.now ∷ words.entry.map.now ∷ []) }
         ensures apart { IfSome result (λ request. AreNamedApart (rewrite_asked request)) }
     {
-        RewriteRequest::in_form(Form::Plain, words)
+        RewriteRequest::alone(Form::Plain, words)
     }
 
     /// What the words after `harden` ask for, if they are taken: the first is a form's name.
@@ -67,7 +107,35 @@ impl<'a> RewriteRequest<'a> {
         ensures apart { IfSome result (λ request. AreNamedApart (rewrite_asked request)) }
     {
         let form = Form::named(words.form)?;
-        RewriteRequest::in_form(form, words.rewrite)
+        RewriteRequest::alone(form, words.rewrite)
+    }
+
+    /// What the words after `link` ask for, if they are taken: the first is a form's name, and those after the map's name
+    /// objects.
+    pub fn linking(words: LinkWords<'a>) -> Option<Self>
+        ensures asked { option_map rewrite_asked result
+            ≡ link_words (words.entry.form.now ∷ words.entry.entry.now ∷ words.entry.policy.now ∷ words.entry.image.now ∷ words.entry.graph.now ∷ words.entry.map.now ∷ map (λ n. n.now) words.entry.objects.items) }
+        ensures apart { IfSome result (λ request. AreNamedApart (rewrite_asked request)) }
+    {
+        let LinkWords {
+            form,
+            entry,
+            policy,
+            image,
+            graph,
+            map,
+            objects,
+        } = words;
+        let form = Form::named(form)?;
+        RewriteRequest::in_form(
+            form,
+            Objects::Joined(objects),
+            entry,
+            policy,
+            image,
+            graph,
+            map,
+        )
     }
 }
 
@@ -89,36 +157,33 @@ pub struct Sizes {
     sites: u64,
 }
 
-/// What `rewrite` or `harden` comes to.
+/// What `rewrite`, `harden` or `link` comes to.
 #[derive(Drop)]
 pub enum RewriteOutcome<'a> {
-    /// The object is not hardened.
+    /// The program is not hardened.
     Refused(Refusal),
+    /// There is no program, since two global symbols of this name are defined.
+    Duplicate(Bytes),
     Rewritten(Rewritten<'a>),
 }
 
-impl fmt::Display for RewriteOutcome<'_> {
+impl fmt::Display for Sizes {
     ghost use Rattle.std.specs.Prelude.{Some};
-    ghost use Rattle.cfi_commands.specs.Rewrite.{rewrite_line};
+    ghost use Rattle.cfi_commands.specs.Rewrite.{rewritten_line};
 
-    ghost output = { λ outcome. Some (rewrite_line outcome) };
+    ghost output = { λ sizes. Some (rewritten_line sizes) };
 
     fn fmt<W: fmt::Write>(&self, f: &mut fmt::Formatter<W>) -> fmt::Result {
-        match self {
-            RewriteOutcome::Refused(refusal) => write!(f, "{refusal}"),
-            RewriteOutcome::Rewritten(written) => {
-                let Sizes {
-                    code,
-                    data,
-                    classes,
-                    sites,
-                } = written.sizes;
-                write!(
-                    f,
-                    "rewritten code {code} data {data} classes {classes} sites {sites}"
-                )
-            }
-        }
+        let Sizes {
+            code,
+            data,
+            classes,
+            sites,
+        } = *self;
+        write!(
+            f,
+            "rewritten code {code} data {data} classes {classes} sites {sites}"
+        )
     }
 }
 
@@ -145,8 +210,19 @@ impl RewriteOutcome<'_> {
         ensures { result ≡ rewrite_status self.now }
     {
         match self {
-            RewriteOutcome::Refused(_) => status::REFUSED,
+            RewriteOutcome::Refused(_) | RewriteOutcome::Duplicate(_) => status::REFUSED,
             RewriteOutcome::Rewritten(_) => status::WELL,
+        }
+    }
+
+    /// The line that is put.
+    pub fn text(&self, alloc: Global) -> Result<Vec<u8>, NoMemory>
+        ensures { IfOk result (λ text. text.items ≡ with_newline (rewrite_line self.now)) }
+    {
+        match self {
+            RewriteOutcome::Refused(refusal) => line(alloc, refusal),
+            RewriteOutcome::Duplicate(name) => duplicate_line(alloc, name.as_slice()),
+            RewriteOutcome::Rewritten(written) => line(alloc, &written.sizes),
         }
     }
 
@@ -161,7 +237,7 @@ impl RewriteOutcome<'_> {
         ensures unwritten { rewrite_outputs self.now ≡ [] → IsOnlyRead F.Files files.old files.new }
     {
         match self {
-            RewriteOutcome::Refused(_) => Ok(()),
+            RewriteOutcome::Refused(_) | RewriteOutcome::Duplicate(_) => Ok(()),
             RewriteOutcome::Rewritten(written) => written.write(files),
         }
     }
@@ -237,23 +313,41 @@ fn spelled_out<'a>(
     with_texts(alloc, request, image, &graph, &map)
 }
 
-/// Hardens an object that some bytes spell, under a policy that others spell.
-fn rewrite_bytes<'a>(
+/// Hardens a program that is given.
+fn rewrite_items<'a>(
     alloc: Global,
     request: &RewriteRequest<'a>,
-    object: &[u8],
+    items: Items,
     policy: Option<&[u8]>,
 ) -> Result<RewriteOutcome<'a>, NoMemory>
-    ensures { IfOk result (IsRewriteOf (rewrite_asked request.now) object.now (option_copied policy.entry)) }
+    ensures { (given : Given) → Gives given (Ok items.entry)
+        → IfOk result (IsRewriteOf (rewrite_asked request.now) given (option_copied policy.entry)) }
 {
-    match rewrite_as(alloc, request.form, object, request.entry, policy) {
+    match rewrite_program(alloc, request.form, items, request.entry, policy) {
         Ok(hardened) => Ok(RewriteOutcome::Rewritten(spelled_out(alloc, request, hardened)?)),
         Err(HardenEnd::Refused(refusal)) => Ok(RewriteOutcome::Refused(Refusal::Object(refusal))),
         Err(HardenEnd::NoMemory) => Err(NoMemory),
     }
 }
 
-/// Reads the object and the policy and hardens the object.
+/// Hardens the program of objects, under a policy that some bytes spell.
+fn rewrite_given<'a>(
+    alloc: Global,
+    request: &RewriteRequest<'a>,
+    given: ObjectBytes,
+    policy: Option<&[u8]>,
+) -> Result<RewriteOutcome<'a>, NoMemory>
+    ensures { IfOk result (IsRewriteOf (rewrite_asked request.now) (given_by given.entry) (option_copied policy.entry)) }
+{
+    match program_given(alloc, given) {
+        Ok(items) => rewrite_items(alloc, request, items, policy),
+        Err(GivenEnd::Refused(refusal)) => Ok(RewriteOutcome::Refused(Refusal::Object(refusal))),
+        Err(GivenEnd::Duplicate(name)) => Ok(RewriteOutcome::Duplicate(name)),
+        Err(GivenEnd::NoMemory) => Err(NoMemory),
+    }
+}
+
+/// Reads the objects and the policy and hardens the program of the objects.
 pub fn rewrite_files<'a, F: Files>(
     alloc: Global,
     request: &RewriteRequest<'a>,
@@ -266,8 +360,9 @@ pub fn rewrite_files<'a, F: Files>(
     ensures only_read { IsOnlyRead F.Files files.old files.new }
     ensures counted { CountsReads F.Files files.old files.new (IsFault result) (IsTooLong result) }
 {
-    let names = [Some(request.object), request.policy];
+    let names = request.objects.names_with(alloc, &[request.policy])?;
     let bytes = read_all(alloc, &names, files)?;
-    let policy = text_named(request.policy, &bytes[1]);
-    Ok(rewrite_bytes(alloc, request, &bytes[0], policy)?)
+    let (given, others) = request.objects.split(&bytes, 1);
+    let policy = text_named(request.policy, &others[0]);
+    Ok(rewrite_given(alloc, request, given, policy)?)
 }

@@ -1,39 +1,70 @@
-//! The program of an object at a map, as `compare` needs it, or why there is none.
+//! The program of objects at a map, as `compare` needs it, or why there is none.
 
-ghost use Rattle.std.specs.Prelude.{◌≡◌, IfOk, IfErr, MatchResult, Some, option_copied};
+ghost use Rattle.std.specs.Prelude.{◌≡◌, MatchResult, Ok, Some, option_copied};
 ghost use Rattle.cfi_flow.specs.Entry.{entry_place};
 ghost use Rattle.cfi_flow.specs.Policy.{instruction_at};
+ghost use Rattle.cfi_harden.specs.Given.{Given};
 ghost use Rattle.cfi_harden.specs.Hardened.{HasDataRoom};
+ghost use Rattle.cfi_harden.specs.Prepared.{IsPrepared};
+ghost use Rattle.cfi_harden.specs.Request.{Request};
 ghost use Rattle.src_machine.specs.Beginning.{Ends};
 ghost use Rattle.cfi_commands.specs.Compare.{IsRoomy, IsRoomyEnd};
 ghost use Rattle.cfi_commands.specs.Demonstration.{IsSourceOn};
+ghost use Rattle.cfi_commands.specs.Objects.{Gives, given_by};
 
+use crate::objects::{GivenEnd, ObjectBytes, program_given};
 use cfi_graph::Map;
-use cfi_harden::{HardenEnd, Prepared, Refusal, has_data_room, prepare};
+use cfi_harden::{HardenEnd, Prepared, Refusal, has_data_room, prepare_program};
+use obj_program::Items;
 use rv_word::Form;
 use src_machine::{SourceEnd, SourceRun};
 use std::alloc::Global;
 
-/// The program of an object, as it is run at a map of a form, if its data have room.
-pub(crate) fn roomy<'a>(
+/// A prepared program, if its data have room.
+fn with_room(prepared: Prepared) -> Result<Prepared, GivenEnd>
+    ensures { (request : Request) → IsPrepared request prepared.entry → MatchResult result (IsRoomy request) (IsRoomyEnd request) }
+{
+    if has_data_room(&prepared.items) {
+        return Ok(prepared);
+    }
+    let extent = prepared.items.data_extent();
+    let refusal = Refusal::DataTooLarge(extent.init, extent.end);
+    Err(GivenEnd::Refused(refusal))
+}
+
+/// A program, prepared as it is run at a map of a form.
+fn prepared<'b>(
     alloc: Global,
     form: Form,
-    object: &'a [u8],
+    items: Items<'b>,
     entry: &str,
     policy: Option<&[u8]>,
-) -> Result<Prepared<'a>, HardenEnd>
-    ensures roomy { IfOk result (IsRoomy (record { form = form; object = object.now; entry = entry.now; policy = option_copied policy.entry })) }
-    ensures refused { IfErr result (IsRoomyEnd (record { form = form; object = object.now; entry = entry.now; policy = option_copied policy.entry })) }
+) -> Result<Prepared<'b>, GivenEnd>
+    ensures { (given : Given) → Gives given (Ok items.entry)
+        → MatchResult result (IsPrepared (record { form = form; given = given; entry = entry.now; policy = option_copied policy.entry }))
+        (IsRoomyEnd (record { form = form; given = given; entry = entry.now; policy = option_copied policy.entry })) }
 {
-    let prepared = match prepare(alloc, form, object, entry, policy) {
-        Ok(prepared) => prepared,
-        Err(end) => return Err(end),
-    };
-    if !has_data_room(&prepared.items) {
-        let extent = prepared.items.data_extent();
-        return Err(HardenEnd::Refused(Refusal::DataTooLarge(extent.init, extent.end)));
+    match prepare_program(alloc, form, items, entry, policy) {
+        Ok(prepared) => Ok(prepared),
+        Err(HardenEnd::Refused(refusal)) => Err(GivenEnd::Refused(refusal)),
+        Err(HardenEnd::NoMemory) => Err(GivenEnd::NoMemory),
     }
-    Ok(prepared)
+}
+
+/// The program of objects, as it is run at a map of a form, if its data have room.
+pub(crate) fn roomy<'b>(
+    alloc: Global,
+    form: Form,
+    given: ObjectBytes<'b>,
+    entry: &str,
+    policy: Option<&[u8]>,
+) -> Result<Prepared<'b>, GivenEnd>
+    ensures { MatchResult result (IsRoomy (record { form = form; given = given_by given.entry; entry = entry.now; policy = option_copied policy.entry }))
+        (IsRoomyEnd (record { form = form; given = given_by given.entry; entry = entry.now; policy = option_copied policy.entry })) }
+{
+    let items = program_given(alloc, given)?;
+    let prepared = prepared(alloc, form, items, entry, policy)?;
+    with_room(prepared)
 }
 
 /// The section and the offset of the entry.

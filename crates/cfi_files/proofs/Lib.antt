@@ -1,3 +1,5 @@
 pub mod Capped
 pub mod Gathered
 pub mod Unchanged
+pub mod Gave
+pub mod Held

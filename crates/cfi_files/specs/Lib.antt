@@ -3,3 +3,5 @@ pub mod Words
 pub mod Writes
 pub mod Refusals
 pub mod Reads
+pub mod Held
+pub mod Spelled

@@ -9,7 +9,7 @@ use Rattle.cfi_files.specs.declared.refusal.MapReason.TheVariants.{Text, Place}
 use Rattle.cfi_files.specs.declared.refusal.Refusal.{Refusal}
 use Rattle.cfi_files.specs.declared.refusal.Refusal.TheVariants.{Object, Image, Graph, Map, Script, Harts}
 
--- the number of each refusal; those of an object, of its entry and of its policy have the numbers 1 to 21
+-- the number of each refusal; those of objects, of the entry and of the policy have the numbers 1 to 21 and 28
 abbrev pub refusal_number : Refusal → ℕ
 refusal_number (Object refusal) = object_number refusal
 refusal_number (Image refusal) = 22
@@ -34,3 +34,7 @@ refusal_name (Harts count) = codes "Harts " ++ decimal count
 
 abbrev pub refusal_line : Refusal → List ℕ
 refusal_line refusal = codes "refused " ++ decimal (refusal_number refusal) ++ codes " " ++ refusal_name refusal
+
+-- of several objects, of which two define a name: the name's bytes as they are
+abbrev pub duplicate_line : List ℕ → List ℕ
+duplicate_line name = codes "refused 27 Duplicate " ++ name

@@ -2,7 +2,7 @@
 //! name, writes files, puts a line, and ends with a status.
 #![tactic(auto)]
 
-pub use lines::line;
+pub use lines::{duplicate_line, line};
 pub use read::{Stop, Unread, read_all};
 pub use refusal::{MapReason, Refusal};
 pub use words::{file_word, steps, text_named};

@@ -2,6 +2,7 @@
 
 ghost use Rattle.std.specs.Prelude.{◌≡◌, IfOk, IfSome};
 ghost use Rattle.cfi_files.specs.Lines.{with_newline};
+ghost use Rattle.cfi_files.specs.Refusals.{duplicate_line};
 
 use rv_word::NoMemory;
 use std::alloc::Global;
@@ -13,4 +14,14 @@ pub fn line<T: Display>(alloc: Global, shown: &T) -> Result<Vec<u8>, NoMemory>
 {
     let line = format!(in alloc; "{shown}\n")?;
     Ok(line.into_bytes())
+}
+
+/// The line of a name that two objects define, with its bytes as they are.
+pub fn duplicate_line(alloc: Global, name: &[u8]) -> Result<Vec<u8>, NoMemory>
+    ensures { IfOk result (λ line. line.items ≡ with_newline (duplicate_line name.now)) }
+{
+    let mut line = Vec::from_slice(alloc, b"refused 27 Duplicate ")?;
+    line.extend_from_slice(name)?;
+    line.push(b'\n')?;
+    Ok(line)
 }

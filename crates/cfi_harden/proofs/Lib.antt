@@ -16,7 +16,9 @@ pub mod SitesThere
 pub mod CodeBytes
 pub mod CodeRoom
 pub mod Accepting
+pub mod Giving
 pub mod Preparing
+pub mod Joining
 pub mod MapFits
 pub mod ClassLabels
 pub mod Ready
@@ -31,3 +33,4 @@ pub mod PlaceLines
 pub mod WriteRows
 mod WrittenRows
 mod AcceptedRow
+mod GivenRows

@@ -74,10 +74,7 @@ late : (request : ProgramRequest) (p : PreparedParts) (refusal : Refusal) → Is
 late request p (R.CodeTooLarge bytes) prepared refuses = (p, prepared, refuses)
 late request p (R.DataTooLarge init end) prepared refuses = (p, prepared, refuses)
 late request p (R.RelocRange section offset) prepared refuses = (p, prepared, refuses)
-late request p (R.Object fault) prepared refuses = absurd refuses
-late request p (R.Items fault) prepared refuses = absurd refuses
-late request p R.NoEntry prepared refuses = absurd refuses
-late request p (R.Policy n) prepared refuses = absurd refuses
+late request p other prepared refuses = absurd refuses
 
 pub hardens : (request : ProgramRequest) (p : PreparedParts) (result : Result HardenedParts HardenEnd) → IsPreparedOf request p → HardensPrepared p result
     → HardensProgram request result

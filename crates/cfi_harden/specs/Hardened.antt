@@ -23,7 +23,8 @@ use Rattle.cfi_rules.specs.Split.{code_words}
 use Rattle.cfi_harden.specs.Laws.{written_code}
 use Rattle.cfi_map.specs.Placing.{IsPlacementOf, Spaced}
 use Rattle.cfi_map.specs.Source.{first_astray}
-use Rattle.cfi_harden.specs.Prepared.{IsPreparedOf, IsProgram, PreparedParts}
+use Rattle.cfi_harden.specs.Given.{IsGiven}
+use Rattle.cfi_harden.specs.Prepared.{IsPreparedOf, PreparedParts}
 use Rattle.cfi_harden.specs.Request.{ProgramRequest, Request, program_request}
 use Rattle.cfi_harden.specs.Units.{Choice}
 
@@ -86,6 +87,6 @@ IsWrittenOf p h =
 abbrev pub IsHardenedOf : ProgramRequest → HardenedParts → Type 0
 IsHardenedOf request h = (p : PreparedParts) × IsPreparedOf request p × IsWrittenOf p h
 
--- that of a request of an object, which is a program
+-- that of a request whose program is given
 abbrev pub IsHardened : Request → HardenedParts → Type 0
-IsHardened request h = IsProgram request.object × IsHardenedOf (program_request request) h
+IsHardened request h = IsGiven request.given × IsHardenedOf (program_request request) h

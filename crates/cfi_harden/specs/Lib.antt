@@ -1,5 +1,6 @@
 pub mod Units
 pub mod Accepted
+pub mod Given
 pub mod Request
 pub mod Prepared
 pub mod Refused
@@ -7,6 +8,7 @@ pub mod RefusalOf
 pub mod RefusalText
 pub mod Closing
 pub mod Preparing
+pub mod Joining
 pub mod Chosen
 pub mod MapLines
 pub mod GraphOf

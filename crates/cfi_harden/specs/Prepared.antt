@@ -1,20 +1,17 @@
 -- What a request comes to before anything is placed: the program with its closed graph under the policy and its entry, or the first of
--- what stands against that: of an object a fault, or one of its instructions and relocations; an entry that is not there; a wrong line
--- of the policy.
+-- what stands against that: what is given is no program; an entry that is not there; a wrong line of the policy.
 use Rattle.std.specs.Prelude.{◌≡◌, ℕ, ◌⊎◌, List, Option, Some, None, Result, Ok, Err}
 use Rattle.rv_word.specs.Form.{graph_version}
 use Rattle.rv_word.specs.declared.form.Form.{Form}
 use Rattle.text_lines.specs.declared.end.TextEnd.{TextEnd}
 use Rattle.text_lines.specs.declared.end.TextEnd.TheVariants.{Line}
-use Rattle.elf_object.specs.Fault.{fault_of as object_fault}
-use Rattle.obj_rules.specs.Fault.{fault_of}
 use Rattle.obj_program.specs.Program.{Program}
-use Rattle.obj_items.specs.FromObject.{input_of}
 use Rattle.cfi_closed.specs.Closed.{ClosedGraph}
 use Rattle.cfi_flow.specs.Closing.{IsClosed}
 use Rattle.cfi_flow.specs.Entry.{entry_place}
 use Rattle.cfi_flow.specs.Policy.{IsRaw, wrong_line}
 use Rattle.cfi_flow.specs.Raw.{RawGraph}
+use Rattle.cfi_harden.specs.Given.{IsGiven}
 use Rattle.cfi_harden.specs.Request.{ProgramRequest, Request, policy_reading, program_request}
 
 -- the closed graph of a program, for a version of graphs, under a policy that has no wrong line
@@ -38,14 +35,9 @@ pub record IsPreparedOf (request : ProgramRequest) (p : PreparedParts) : Type 0 
 abbrev pub IsOfRequest : PreparedParts → Type 0
 IsOfRequest p = (request : ProgramRequest) × IsPreparedOf request p
 
--- an object is a program
-pub record IsProgram (object : List ℕ) : Type 0 where
-  pub sound : object_fault object ≡ None
-  pub right : fault_of (input_of object) ≡ None
-
--- what a request of an object comes to, which is a program
+-- what a request comes to whose program is given
 abbrev pub IsPrepared : Request → PreparedParts → Type 0
-IsPrepared request p = IsProgram request.object × IsPreparedOf (program_request request) p
+IsPrepared request p = IsGiven request.given × IsPreparedOf (program_request request) p
 
 -- the text of a policy fails at a line
 abbrev pub FailsAt : Result (Unit {0}) TextEnd → ℕ → Type 0

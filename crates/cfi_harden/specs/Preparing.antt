@@ -1,24 +1,28 @@
--- What the steps of preparing a request come to: the program of an object, then the entry and the closed graph of a program.
+-- What the steps of preparing a request come to: the program that is given, then its entry and its closed graph.
 use Rattle.std.specs.Prelude.{◌≡◌, ℕ, List, Option, Some, None, IsSome, Result, Ok, Err}
-use Rattle.elf_object.specs.Fault.{fault_of as object_fault}
-use Rattle.obj_rules.specs.Fault.{fault_of}
 use Rattle.obj_program.specs.Program.{Program}
-use Rattle.obj_items.specs.FromObject.{input_of}
 use Rattle.cfi_closed.specs.Closed.{ClosedGraph}
 use Rattle.cfi_flow.specs.Entry.{entry_place}
+use Rattle.cfi_harden.specs.declared.joined.JoinedEnd.{JoinedEnd}
+use Rattle.cfi_harden.specs.declared.joined.JoinedEnd.TheVariants as end
 use Rattle.cfi_harden.specs.declared.refusal.HardenEnd.{HardenEnd}
 use Rattle.cfi_harden.specs.declared.refusal.HardenEnd.TheVariants.{Refused, NoMemory}
-use Rattle.cfi_harden.specs.declared.refusal.Refusal.TheVariants.{Object, Items, NoEntry, Policy}
-use Rattle.cfi_harden.specs.Prepared.{IsClosedUnder, IsProgram, IsWrongPolicy}
-use Rattle.cfi_harden.specs.Request.{program_in}
+use Rattle.cfi_harden.specs.declared.refusal.Refusal.TheVariants.{NoEntry, Policy}
+use Rattle.cfi_harden.specs.Given.{Given, joined, DuplicateIn, IsGiven, RefusesGiven, program_given}
+use Rattle.cfi_harden.specs.Prepared.{IsClosedUnder, IsWrongPolicy}
 
--- the program of an object, or the object's first fault
-abbrev pub Reads : List ℕ → Result Program HardenEnd → Type 0
-Reads object (Ok program) = IsProgram object × (program ≡ program_in object)
-Reads object (Err (Refused (Object fault))) = object_fault object ≡ Some fault
-Reads object (Err (Refused (Items fault))) = (object_fault object ≡ None) × (fault_of (input_of object) ≡ Some fault)
-Reads object (Err NoMemory) = Unit {0}
-Reads object (Err other) = ⊥
+-- the program that is given, or the first that stands against there being one
+abbrev pub Reads : Given → Result Program HardenEnd → Type 0
+Reads given (Ok program) = IsGiven given × (program ≡ program_given given)
+Reads given (Err (Refused refusal)) = RefusesGiven given refusal
+Reads given (Err NoMemory) = Unit {0}
+
+-- the same of several objects, of which also a name may be defined twice
+abbrev pub Joins : List (List ℕ) → Result Program JoinedEnd → Type 0
+Joins objects (Ok program) = IsGiven (joined objects) × (program ≡ program_given (joined objects))
+Joins objects (Err (end.Refused refusal)) = RefusesGiven (joined objects) refusal
+Joins objects (Err (end.Duplicate name)) = DuplicateIn (joined objects) name.now
+Joins objects (Err end.NoMemory) = Unit {0}
 
 -- where a program is entered, with its closed graph for a version of graphs. Only a private contract cites this
 abbrev pub Enters : ℕ → Program → List ℕ → Option (List ℕ) → Result (ℕ × ClosedGraph) HardenEnd → Type 0

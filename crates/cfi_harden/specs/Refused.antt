@@ -1,36 +1,38 @@
 -- When a request is refused: the refusal stands, and none before it does.
-use Rattle.std.specs.Prelude.{◌≡◌, Some, None, IsSome, Result, Ok, Err}
-use Rattle.elf_object.specs.Fault.{fault_of as object_fault}
-use Rattle.obj_rules.specs.Fault.{fault_of}
-use Rattle.obj_items.specs.FromObject.{input_of}
+use Rattle.std.specs.Prelude.{◌≡◌, ◌⊎◌, None, IsSome, Result, Ok, Err}
 use Rattle.cfi_flow.specs.Entry.{entry_place}
 use Rattle.cfi_harden.specs.declared.refusal.HardenEnd.{HardenEnd}
 use Rattle.cfi_harden.specs.declared.refusal.HardenEnd.TheVariants.{Refused, NoMemory}
 use Rattle.cfi_harden.specs.declared.refusal.Refusal.{Refusal}
-use Rattle.cfi_harden.specs.declared.refusal.Refusal.TheVariants.{Object, Items, NoEntry, Policy}
+use Rattle.cfi_harden.specs.declared.refusal.Refusal.TheVariants.{Object, ObjectIn, TooManySections, Items, UndefinedIn, NoEntry, Policy}
 use Rattle.cfi_harden.specs.Fitting.{RefusesPlaced}
+use Rattle.cfi_harden.specs.Given.{IsGiven, RefusesGiven}
 use Rattle.cfi_harden.specs.Hardened.{HardenedParts, IsHardened, IsHardenedOf, IsWrittenOf}
 use Rattle.cfi_harden.specs.Request.{ProgramRequest, Request, program_request}
-use Rattle.cfi_harden.specs.Prepared.{IsPrepared, IsPreparedOf, IsProgram, IsWrongPolicy, PreparedParts}
+use Rattle.cfi_harden.specs.Prepared.{IsPrepared, IsPreparedOf, IsWrongPolicy, PreparedParts}
 
 -- of a program
 abbrev pub RefusesProgram : ProgramRequest → Refusal → Type 0
 RefusesProgram request (Object fault) = ⊥
+RefusesProgram request (ObjectIn fault k) = ⊥
+RefusesProgram request (TooManySections n) = ⊥
 RefusesProgram request (Items fault) = ⊥
+RefusesProgram request (UndefinedIn symbol k) = ⊥
 RefusesProgram request NoEntry = entry_place request.program request.entry ≡ None
 RefusesProgram request (Policy n) = IsSome (entry_place request.program request.entry) × IsWrongPolicy request.program request.policy n
 RefusesProgram request late = (p : PreparedParts) × IsPreparedOf request p × RefusesPlaced p late
 
--- of an object: it is no program, or its program is refused
+-- of what is given: it is no program, or its program is refused
 abbrev pub Refuses : Request → Refusal → Type 0
-Refuses request (Object fault) = object_fault request.object ≡ Some fault
-Refuses request (Items fault) = (object_fault request.object ≡ None) × (fault_of (input_of request.object) ≡ Some fault)
-Refuses request refusal = IsProgram request.object × RefusesProgram (program_request request) refusal
+Refuses request refusal = RefusesGiven request.given refusal ⊎ (IsGiven request.given × RefusesProgram (program_request request) refusal)
 
 -- a refusal that comes before anything is placed
 abbrev pub IsEarly : Refusal → Type 0
 IsEarly (Object fault) = Unit {0}
+IsEarly (ObjectIn fault k) = Unit {0}
+IsEarly (TooManySections n) = Unit {0}
 IsEarly (Items fault) = Unit {0}
+IsEarly (UndefinedIn symbol k) = Unit {0}
 IsEarly NoEntry = Unit {0}
 IsEarly (Policy n) = Unit {0}
 IsEarly late = ⊥

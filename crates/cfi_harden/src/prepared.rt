@@ -1,5 +1,6 @@
 ghost use Rattle.std.specs.Prelude.{option_copied};
 ghost use Rattle.rv_word.specs.Form.{graph_version};
+ghost use Rattle.cfi_harden.specs.Given.{alone};
 ghost use Rattle.cfi_harden.specs.Preparing.{Enters, Reads};
 ghost use Rattle.cfi_harden.specs.Refused.{Prepares, PreparesProgram};
 ghost use Rattle.cfi_harden.specs.Request.{ProgramRequest, Request};
@@ -35,7 +36,7 @@ impl<'a> Model for Prepared<'a> {
 
 /// The program of an object, or what is wrong with the object.
 pub fn program_of<'a>(alloc: Global, object: &'a [u8]) -> Result<Items<'a>, HardenEnd>
-    ensures { Reads object.now result }
+    ensures { Reads (alone object.now) result }
 {
     let object = Object::read(alloc, object)?;
     let items = items(alloc, &object)?;
@@ -90,7 +91,7 @@ pub fn prepare<'a>(
     entry: &str,
     policy: Option<&[u8]>,
 ) -> Result<Prepared<'a>, HardenEnd>
-    ensures { Prepares (record { form = form; object = object.now; entry = entry.now; policy = option_copied policy.entry }) result }
+    ensures { Prepares (record { form = form; given = alone object.now; entry = entry.now; policy = option_copied policy.entry }) result }
 {
     let items = program_of(alloc, object)?;
     prepare_program(alloc, form, items, entry, policy)

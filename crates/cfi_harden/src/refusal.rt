@@ -9,13 +9,21 @@ use obj_rules::ItemFault;
 use rv_word::NoMemory;
 use std::fmt;
 
-/// What stands against hardening an object. A later one comes only where no earlier one stands.
+/// What stands against hardening what is given: an object by itself, or several that are joined. A later one comes only where
+/// no earlier one stands; of several objects, what stands against one comes only where nothing stands against those before it.
 #[derive(Clone, Copy)]
 pub enum Refusal {
-    /// A fault of the file as an object.
+    /// A fault of the file as an object, of one by itself.
     Object(ObjectFault),
-    /// A fault of its instructions and relocations.
+    /// A fault of the file as an object, of the one with this number, from 1, among several.
+    ObjectIn(ObjectFault, u64),
+    /// With one of several objects there are so many sections in all, number 0 of each object among them: more than 2^16.
+    TooManySections(u64),
+    /// A fault of instructions and relocations; of several objects it tells sections by their numbers in all.
     Items(ItemFault),
+    /// Of several objects the symbol with this number is named by a relocation and defined nowhere. The second number is that
+    /// of its object, from 1.
+    UndefinedIn(u64, u64),
     /// No symbol has the entry's name, or the first of that name is not at an instruction's start.
     NoEntry,
     /// The line with this number, from 1, of the policy is not of its form, or names what it may not.
@@ -35,7 +43,10 @@ impl Refusal {
     {
         match self {
             Refusal::Object(fault) => fault.number(),
+            Refusal::ObjectIn(fault, _) => fault.number(),
+            Refusal::TooManySections(_) => 28,
             Refusal::Items(fault) => fault.number(),
+            Refusal::UndefinedIn(..) => 15,
             Refusal::NoEntry => 17,
             Refusal::Policy(_) => 18,
             Refusal::CodeTooLarge(_) => 19,
@@ -54,7 +65,10 @@ impl fmt::Display for Refusal {
     fn fmt<W: fmt::Write>(&self, f: &mut fmt::Formatter<W>) -> fmt::Result {
         match self {
             Refusal::Object(fault) => write!(f, "{fault}"),
+            Refusal::ObjectIn(fault, object) => write!(f, "{fault} in {object}"),
+            Refusal::TooManySections(count) => write!(f, "TooManySections {count}"),
             Refusal::Items(fault) => write!(f, "{fault}"),
+            Refusal::UndefinedIn(symbol, object) => write!(f, "Undefined {symbol} in {object}"),
             Refusal::NoEntry => write!(f, "NoEntry"),
             Refusal::Policy(line) => write!(f, "Policy {line}"),
             Refusal::CodeTooLarge(bytes) => write!(f, "CodeTooLarge {bytes}"),
@@ -64,7 +78,7 @@ impl fmt::Display for Refusal {
     }
 }
 
-/// Why an object is not hardened: a refusal, or want of memory.
+/// Why what is given is not hardened: a refusal, or want of memory.
 #[derive(Clone, Copy)]
 pub enum HardenEnd {
     /// This stands against it.

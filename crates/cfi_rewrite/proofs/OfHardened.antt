@@ -1,15 +1,15 @@
--- What holds of each hardened program of a request holds of what the request comes to, and of what a request of an object comes to.
-use Rattle.std.proofs.Common.{subst}
+-- What holds of each hardened program of a request holds of what the request comes to, and of what a request comes to whose program is
+-- given.
+use Rattle.std.proofs.Common.{inl, subst}
 use Rattle.std.specs.Prelude.{IfOk, Result, Ok, Err}
 use Rattle.obj_program.specs.Program.{Program}
 use Rattle.cfi_harden.specs.declared.refusal.HardenEnd.{HardenEnd}
 use Rattle.cfi_harden.specs.declared.refusal.HardenEnd.TheVariants as ends
-use Rattle.cfi_harden.specs.declared.refusal.Refusal.TheVariants as R
 use Rattle.cfi_harden.specs.Hardened.{HardenedParts}
 use Rattle.cfi_harden.specs.Preparing.{Reads}
 use Rattle.cfi_harden.specs.Refused.{Hardens, HardensProgram}
 use Rattle.cfi_harden.specs.Request.{ProgramRequest, Request, program_request}
-use Rattle.cfi_harden.proofs.Preparing.{hardens_object}
+use Rattle.cfi_harden.proofs.Preparing.{hardens_given}
 use Rattle.cfi_meaning.specs.Hardened.{HardenedKeepsMeaning, HardenedNeverDiffers, KeepsMeaningAtMap, NeverDiffersAtMap}
 
 pub keeps_meaning : (request : ProgramRequest) (result : Result HardenedParts HardenEnd) → HardenedKeepsMeaning → HardensProgram request result →
@@ -22,25 +22,19 @@ pub never_differs : (request : ProgramRequest) (result : Result HardenedParts Ha
 never_differs request (Ok h) law hardens = law request h hardens
 never_differs request (Err end) law hardens = tt
 
--- an object that is no program
-pub not_read : (request : Request) (end : HardenEnd) → Reads request.object (Err end) → Hardens request (Err end)
-not_read request (ends.Refused (R.Object fault)) refuses = refuses
-not_read request (ends.Refused (R.Items fault)) refuses = refuses
-not_read request (ends.Refused R.NoEntry) refuses = absurd refuses
-not_read request (ends.Refused (R.Policy n)) refuses = absurd refuses
-not_read request (ends.Refused (R.CodeTooLarge bytes)) refuses = absurd refuses
-not_read request (ends.Refused (R.DataTooLarge init last)) refuses = absurd refuses
-not_read request (ends.Refused (R.RelocRange section offset)) refuses = absurd refuses
+-- where no program is given
+pub not_read : (request : Request) (end : HardenEnd) → Reads request.given (Err end) → Hardens request (Err end)
+not_read request (ends.Refused refusal) refuses = inl refuses
 not_read request ends.NoMemory refuses = tt
 
--- an object that is a program, of which something holds
-module _ (request : Request) (program : Program) (result : Result HardenedParts HardenEnd) (read : Reads request.object (Ok program)) where
+-- where one is, of which something holds
+module _ (request : Request) (program : Program) (result : Result HardenedParts HardenEnd) (read : Reads request.given (Ok program)) where
   moved : (Holds : ProgramRequest → Type 0) → Holds (record { form = request.form; program = program; entry = request.entry; policy = request.policy })
       → Holds (program_request request)
   moved Holds = subst (λ (p : Program). Holds (record { form = request.form; program = p; entry = request.entry; policy = request.policy })) read.1
 
   pub hardens_read : HardensProgram (record { form = request.form; program = program; entry = request.entry; policy = request.policy }) result → Hardens request result
-  hardens_read is = hardens_object request result read.0 (moved (λ r. HardensProgram r result) is)
+  hardens_read is = hardens_given request result read.0 (moved (λ r. HardensProgram r result) is)
 
   pub keeps_read : IfOk result (λ (h : HardenedParts). KeepsMeaningAtMap (record { form = request.form; program = program; entry = request.entry; policy = request.policy }) h)
       → IfOk result (λ (h : HardenedParts). KeepsMeaningAtMap (program_request request) h)

@@ -1,5 +1,6 @@
 ghost use Rattle.std.specs.Prelude.{IfOk, option_copied};
 ghost use Rattle.rv_word.specs.declared.form.Form.TheVariants as Form;
+ghost use Rattle.cfi_harden.specs.Given.{alone};
 ghost use Rattle.cfi_harden.specs.Prepared.{IsOfRequest, IsPreparedOf};
 ghost use Rattle.cfi_harden.specs.Refused.{Hardens, HardensPrepared, HardensProgram};
 ghost use Rattle.cfi_harden.specs.Request.{ProgramRequest, program_request};
@@ -24,15 +25,15 @@ pub fn rewrite_as(
 ) -> Result<Hardened, HardenEnd>
     // What is written meets the verifier's rules, and is that of the program at a legal map; a refusal stands, and none before it
     // does.
-    ensures hardens { Hardens (record { form = form; object = object.now; entry = entry.now; policy = option_copied policy.entry }) result }
+    ensures hardens { Hardens (record { form = form; given = alone object.now; entry = entry.now; policy = option_copied policy.entry }) result }
     // With each input: when the program at the map has run n tame steps and goes on, the image, whose hart 0 runs alone and which
     // nothing disturbs, is within 21 n + 13 steps, or 21 n + 17 in the form for several harts, at a state that matches; where the
     // program's next step ends it, the image has ended alike within that of n + 1, with the same events; and from any state that
     // matches the next tame step is kept within 21.
-    ensures meaning_kept { IfOk result (λ h. KeepsMeaningAtMap (program_request (record { form = form; object = object.now; entry = entry.now; policy = option_copied policy.entry })) h) }
+    ensures meaning_kept { IfOk result (λ h. KeepsMeaningAtMap (program_request (record { form = form; given = alone object.now; entry = entry.now; policy = option_copied policy.entry })) h) }
     // With each input and each limit: comparing the events and the end of the program's run with those of the image's tells no
     // difference.
-    ensures never_differs { IfOk result (λ h. NeverDiffersAtMap (program_request (record { form = form; object = object.now; entry = entry.now; policy = option_copied policy.entry })) h) }
+    ensures never_differs { IfOk result (λ h. NeverDiffersAtMap (program_request (record { form = form; given = alone object.now; entry = entry.now; policy = option_copied policy.entry })) h) }
 {
     let items = program_of(alloc, object)?;
     rewrite_program(alloc, form, items, entry, policy)
@@ -45,14 +46,15 @@ pub fn rewrite(
     entry: &str,
     policy: Option<&[u8]>,
 ) -> Result<Hardened, HardenEnd>
-    ensures hardens { Hardens (record { form = Form.Plain; object = object.now; entry = entry.now; policy = option_copied policy.entry }) result }
-    ensures meaning_kept { IfOk result (λ h. KeepsMeaningAtMap (program_request (record { form = Form.Plain; object = object.now; entry = entry.now; policy = option_copied policy.entry })) h) }
-    ensures never_differs { IfOk result (λ h. NeverDiffersAtMap (program_request (record { form = Form.Plain; object = object.now; entry = entry.now; policy = option_copied policy.entry })) h) }
+    ensures hardens { Hardens (record { form = Form.Plain; given = alone object.now; entry = entry.now; policy = option_copied policy.entry }) result }
+    ensures meaning_kept { IfOk result (λ h. KeepsMeaningAtMap (program_request (record { form = Form.Plain; given = alone object.now; entry = entry.now; policy = option_copied policy.entry })) h) }
+    ensures never_differs { IfOk result (λ h. NeverDiffersAtMap (program_request (record { form = Form.Plain; given = alone object.now; entry = entry.now; policy = option_copied policy.entry })) h) }
 {
     rewrite_as(alloc, Form::Plain, object, entry, policy)
 }
 
-/// Hardens a program in a form. This is what `rewrite_as` does with that of an object.
+/// Hardens a program in a form: that of one object, as `rewrite_as` does (`cfi_harden::program_of`), or of several that are joined
+/// (`cfi_harden::joined_program`).
 pub fn rewrite_program(
     alloc: Global,
     form: Form,

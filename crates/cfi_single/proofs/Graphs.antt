@@ -1,7 +1,6 @@
 -- One raw graph and one closed graph are right.
-use Rattle.std.proofs.Common.{◌≡◌, ℕ, suc, ◌<◌, List, [], ◌∷◌, length, refl, sym, ap, map, subst, ◌∙◌, arith}
+use Rattle.std.proofs.Common.{◌≡◌, ℕ, suc, List, [], ◌∷◌, refl, sym, ap, map, subst, ◌∙◌, arith}
 use Rattle.std.specs.List.{All}
-use Rattle.std.proofs.lemmas.List.{get_or_default}
 use Rattle.cfi_graph.specs.declared.policy.PolicyLine.{PolicyLine}
 use Rattle.cfi_graph.specs.declared.line.Sort.{Sort}
 use Rattle.obj_program.specs.Program.{Program}

@@ -5,4 +5,4 @@ pub mod Placed
 pub mod Written
 pub mod Hardened
 pub mod Refused
-mod Objects
+mod Givings

@@ -28,7 +28,10 @@ data Stage (request : ProgramRequest) (r : Refusal) : Type 0 where
 
 stage : (request : ProgramRequest) (r : Refusal) → RefusesProgram request r → Stage request r
 stage request (R.Object fault) x = early tt
+stage request (R.ObjectIn fault k) x = early tt
+stage request (R.TooManySections n) x = early tt
 stage request (R.Items fault) x = early tt
+stage request (R.UndefinedIn symbol k) x = early tt
 stage request R.NoEntry x = early tt
 stage request (R.Policy n) x = early tt
 stage request (R.CodeTooLarge bytes) (p, prepared, x) = late p prepared x
@@ -58,13 +61,12 @@ module _ (request : ProgramRequest) (p : PreparedParts) (prepared : IsPreparedOf
       no_wrong_policy request.program request.policy n wrong (policy_reading request.policy).end refl closed.whole is.right
 
   not_early : (r : Refusal) → IsEarly r → RefusesProgram request r → ⊥
-  not_early (R.Object fault) e x = absurd x
-  not_early (R.Items fault) e x = absurd x
   not_early R.NoEntry e x = let there = entry_there in absurd (cc)
   not_early (R.Policy n) e x = absurd (policy_right n x.1)
   not_early (R.CodeTooLarge bytes) e x = absurd e
   not_early (R.DataTooLarge init end) e x = absurd e
   not_early (R.RelocRange section offset) e x = absurd e
+  not_early other e x = absurd x
 
 -- and where it is written it is not refused later
 written_fits : (p : PreparedParts) (h : HardenedParts) (r : Refusal) → IsWrittenOf p h → RefusesPlaced p r → ⊥
@@ -74,10 +76,7 @@ written_fits p h (R.DataTooLarge init end) (s, labels, code, init', placed, room
 written_fits p h (R.RelocRange section offset) (s, labels, code, init, placed, room, fits, written) (t, placed', room', astray) =
     let none : first_astray t.layout ≡ None = ap first_astray (sym (layout_unique p.form p.program p.closed p.entry s t placed placed')) ∙ fits in
     absurd (cc)
-written_fits p h (R.Object fault) written x = absurd x
-written_fits p h (R.Items fault) written x = absurd x
-written_fits p h R.NoEntry written x = absurd x
-written_fits p h (R.Policy n) written x = absurd x
+written_fits p h other written x = absurd x
 
 pub not_refused : HardenedIsNotRefused
 not_refused request h r (p, prepared, written) refuses = at_stage (stage request r refuses)
@@ -106,14 +105,10 @@ placed_one p (R.RelocRange section offset) (R.DataTooLarge init end) (s, placed,
 placed_one p (R.RelocRange section offset) (R.RelocRange section' offset') (s, placed, room, astray) (t, placed', room', astray') =
     let same = same_Some _ _ (sym astray ∙ ap first_astray (layout_unique p.form p.program p.closed p.entry s t placed placed') ∙ astray') in
     ap (λ (q : Place). R.RelocRange q.section q.offset) same
-placed_one p (R.Object fault) b x y = absurd x
-placed_one p (R.Items fault) b x y = absurd x
-placed_one p R.NoEntry b x y = absurd x
-placed_one p (R.Policy n) b x y = absurd x
-placed_one p a (R.Object fault) x y = absurd y
-placed_one p a (R.Items fault) x y = absurd y
-placed_one p a R.NoEntry x y = absurd y
-placed_one p a (R.Policy n) x y = absurd y
+placed_one p (R.CodeTooLarge bytes) other x y = absurd y
+placed_one p (R.DataTooLarge init end) other x y = absurd y
+placed_one p (R.RelocRange section offset) other x y = absurd y
+placed_one p other b x y = absurd x
 
 -- the first wrong line is one
 fails_once : (end : Result (Unit {0}) TextEnd) (n m : ℕ) → FailsAt end n → FailsAt end m → n ≡ m
@@ -132,16 +127,15 @@ early_one request R.NoEntry R.NoEntry ea eb x y = refl
 early_one request R.NoEntry (R.Policy n) ea eb x y = let no : false ≡ true = subst IsSome x y.0 in absurd (cc)
 early_one request (R.Policy n) R.NoEntry ea eb x y = let no : false ≡ true = subst IsSome y x.0 in absurd (cc)
 early_one request (R.Policy n) (R.Policy m) ea eb x y = ap R.Policy (wrong_once request.program request.policy n m x.1 y.1)
-early_one request (R.Object f) b ea eb x y = absurd x
-early_one request (R.Items f) b ea eb x y = absurd x
 early_one request (R.CodeTooLarge bytes) b ea eb x y = absurd ea
 early_one request (R.DataTooLarge init end) b ea eb x y = absurd ea
 early_one request (R.RelocRange section offset) b ea eb x y = absurd ea
-early_one request a (R.Object f) ea eb x y = absurd y
-early_one request a (R.Items f) ea eb x y = absurd y
 early_one request a (R.CodeTooLarge bytes) ea eb x y = absurd eb
 early_one request a (R.DataTooLarge init end) ea eb x y = absurd eb
 early_one request a (R.RelocRange section offset) ea eb x y = absurd eb
+early_one request R.NoEntry other ea eb x y = absurd y
+early_one request (R.Policy n) other ea eb x y = absurd y
+early_one request other b ea eb x y = absurd x
 
 pub refusal_unique : RefusedInOneWay
 refusal_unique request a b x y = at_stages (stage request a x) (stage request b y)

@@ -1,6 +1,7 @@
 -- A request is prepared, hardened and refused in one way.
-use Rattle.std.specs.Prelude.{◌≡◌}
+use Rattle.std.specs.Prelude.{◌≡◌, ℕ, List}
 use Rattle.cfi_harden.specs.declared.refusal.Refusal.{Refusal}
+use Rattle.cfi_harden.specs.Given.{DuplicateIn, IsGiven}
 use Rattle.cfi_harden.specs.Hardened.{HardenedParts, IsHardened, IsHardenedOf}
 use Rattle.cfi_harden.specs.Prepared.{IsPrepared, IsPreparedOf, PreparedParts}
 use Rattle.cfi_harden.specs.Refused.{Refuses, RefusesProgram}
@@ -23,9 +24,13 @@ HardenedIsNotRefused =
 abbrev pub RefusedInOneWay : Type 0
 RefusedInOneWay = (request : ProgramRequest) (first other : Refusal) → RefusesProgram request first → RefusesProgram request other → first ≡ other
 
--- the same of a request of an object
-pub record ObjectsInOneWay : Type 0 where
+-- the same of a request whose program is given, as an object or as several
+pub record GivenInOneWay : Type 0 where
   pub prepared : (request : Request) (p q : PreparedParts) → IsPrepared request p → IsPrepared request q → p ≡ q
   pub hardened : (request : Request) (h g : HardenedParts) → IsHardened request h → IsHardened request g → h ≡ g
   pub not_refused : (request : Request) (h : HardenedParts) (refusal : Refusal) → IsHardened request h → Refuses request refusal → ⊥
   pub refused : (request : Request) (first other : Refusal) → Refuses request first → Refuses request other → first ≡ other
+  -- where a name is defined twice it is one name; no program is given, and nothing else is told
+  pub one_name : (request : Request) (name other : List ℕ) → DuplicateIn request.given name → DuplicateIn request.given other → name ≡ other
+  pub not_given : (request : Request) (name : List ℕ) → DuplicateIn request.given name → IsGiven request.given → ⊥
+  pub no_refusal : (request : Request) (name : List ℕ) (refusal : Refusal) → DuplicateIn request.given name → Refuses request refusal → ⊥

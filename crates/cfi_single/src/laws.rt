@@ -1,5 +1,5 @@
 //! Each function states one law; nothing is computed.
-ghost use Rattle.cfi_single.specs.OneWay.{HardenedInOneWay, HardenedIsNotRefused, ObjectsInOneWay, PreparedInOneWay, RefusedInOneWay};
+ghost use Rattle.cfi_single.specs.OneWay.{GivenInOneWay, HardenedInOneWay, HardenedIsNotRefused, PreparedInOneWay, RefusedInOneWay};
 
 /// A request of a program is prepared in one way.
 pub fn prepared_in_one_way()
@@ -21,7 +21,8 @@ pub fn refused_in_one_way()
     ensures { RefusedInOneWay }
 {}
 
-/// All of this holds of a request of an object.
-pub fn objects_in_one_way()
-    ensures { ObjectsInOneWay }
+/// All of this holds of a request whose program is given, as an object or as several that are joined; and where these define a
+/// name twice, that is all that is told.
+pub fn given_in_one_way()
+    ensures { GivenInOneWay }
 {}

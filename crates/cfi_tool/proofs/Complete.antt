@@ -1,8 +1,10 @@
 -- What is answered to a request is complete.
-use Rattle.std.proofs.Common.{◌≡◌, ℕ, List, [], ◌∷◌, Ok, subst}
+use Rattle.std.proofs.Common.{◌≡◌, ℕ, List, [], ◌∷◌, Some, Ok, subst}
 use Rattle.cfi_files.specs.Reads.{Content, IsLong, IsReached, IsUnread}
 use Rattle.cfi_files.specs.declared.read.Unread.TheVariants.{Fault, TooLong}
-use Rattle.cfi_commands.proofs.Complete.{compare_complete, none_long, rewrite_complete, run_complete, verify_complete}
+use Rattle.cfi_files.proofs.Held.{none_long}
+use Rattle.cfi_commands.proofs.Complete.{all_held, compare_complete, rewrite_complete}
+use Rattle.cfi_pairs.proofs.Complete.{run_complete, verify_complete}
 use Rattle.cfi_tool.specs.Complete.{IsComplete}
 use Rattle.cfi_tool.specs.Explains.{Explains, ExplainsRequest, IsReadFault}
 use Rattle.cfi_tool.specs.Outcomes.{outcome_status}
@@ -24,14 +26,16 @@ module _ (content : Content) where
   -- a file that is too long is none that is held
   too_long : (request : Request) (name : List ℕ) (status : ℕ) → IsReached content (names_of request) name → IsLong (content name)
       → IsComplete content request status
-  too_long (rewrites words) name status reached long = λ object policy held none.
-      absurd (none_long content (names_of (rewrites words)) (object ∷ policy ∷ []) name held reached long)
+  too_long (rewrites words) name status reached long = λ given policy held policy_held once none.
+      let (all, are) = all_held content words.objects given (words.policy ∷ []) (policy ∷ []) held (policy_held, tt) in
+      absurd (none_long content (names_of (rewrites words)) all name are reached long)
   too_long (verifies words) name status reached long = λ image_bytes graph_bytes image graph held spell well.
       absurd (none_long content (names_of (verifies words)) (image_bytes ∷ graph_bytes ∷ []) name held reached long)
   too_long (runs words) name status reached long = λ image_bytes graph_bytes script_bytes input image graph changes held spell given well.
       absurd (none_long content (names_of (runs words)) (image_bytes ∷ graph_bytes ∷ script_bytes ∷ input ∷ []) name held reached long)
-  too_long (compares words) name status reached long = λ object policy image map input held none.
-      absurd (none_long content (names_of (compares words)) (object ∷ policy ∷ image ∷ map ∷ input ∷ []) name held reached long)
+  too_long (compares words) name status reached long = λ given policy image map input objects held once none.
+      let (all, are) = all_held content words.objects given (words.policy ∷ Some words.image ∷ Some words.map ∷ words.input ∷ []) (policy ∷ image ∷ map ∷ input ∷ []) objects held in
+      absurd (none_long content (names_of (compares words)) all name are reached long)
   too_long (demos number) name status reached long = absurd reached
 
   module _ (failed : List ℕ) (words : List (List ℕ)) (asked : Request) (is : taken words ≡ asks asked) where

@@ -11,14 +11,14 @@ use Rattle.cfi_files.specs.declared.read.Unread.{Unread as UnreadFile}
 use Rattle.cfi_files.specs.declared.read.Unread.TheVariants.{Fault, TooLong}
 use Rattle.cfi_commands.specs.Compare.{CompareWords, IsTold, answer_status}
 use Rattle.cfi_commands.specs.Demo.{ExplainsDemo, IsDemonstrated, IsExit, IsUnsettled, demo_status}
-use Rattle.cfi_commands.specs.ReportText.{end_status}
+use Rattle.cfi_report.specs.ReportText.{end_status}
 use Rattle.cfi_commands.specs.Rewrite.{IsRewritten, RewriteWords}
-use Rattle.cfi_commands.specs.Run.{IsRan, RunWords}
+use Rattle.cfi_pairs.specs.Run.{IsRan, RunWords}
 use Rattle.cfi_commands.specs.declared.compare.CompareOutcome.TheVariants as told
 use Rattle.cfi_commands.specs.declared.demo.DemoOutcome.{DemoOutcome}
 use Rattle.cfi_commands.specs.declared.demo.DemoOutcome.TheVariants as shown
 use Rattle.cfi_commands.specs.declared.rewrite.RewriteOutcome.TheVariants as rewritten
-use Rattle.cfi_commands.specs.declared.run.RunOutcome.TheVariants as ran
+use Rattle.cfi_pairs.specs.declared.run.RunOutcome.TheVariants as ran
 use Rattle.cfi_tool.specs.Explains.{Explains, ExplainsRequest}
 use Rattle.cfi_tool.specs.Outcomes.{outcome_outputs, outcome_status, outcome_text}
 use Rattle.cfi_tool.specs.Request.{Request, compare as compares, demo as demos, asks, names_of, taken, rewrite as rewrites, run as runs}
@@ -69,6 +69,7 @@ module _ (content : Content) where
   pub told_is : (given_words : CompareWords) (given : Outcome) → ExplainsRequest content (compares given_words) given → IsDone (outcome_status given)
       → IsTold content given_words (outcome_status given) (outcome_text given)
   told_is words (Compare (told.Refused refusal)) is done = absurd (small_report 1 (inl refl) done)
+  told_is words (Compare (told.Duplicate name)) is done = absurd (small_report 1 (inl refl) done)
   told_is words (Compare (told.Compared result)) is done = (result, is, refl, refl)
   told_is words other is done = absurd is
 
@@ -83,6 +84,7 @@ pub rewritten_is : {S : Type 0} (files : Ghosts S) (before now : S) (given_words
     → ExplainsRequest (files.content before) (rewrites given_words) given → outcome_status given ≡ 0 → Wrote files before now (outcome_outputs given) None
     → IsRewritten files before now given_words (outcome_text given)
 rewritten_is files before now words (Rewrite (rewritten.Refused refusal)) is zero wrote = absurd (omega (arith, zero))
+rewritten_is files before now words (Rewrite (rewritten.Duplicate name)) is zero wrote = absurd (omega (arith, zero))
 rewritten_is files before now words (Rewrite (rewritten.Rewritten written)) is zero wrote =
     record { written = written; explained = is; wrote = wrote; text_is = refl }
 rewritten_is files before now words other is zero wrote = absurd is

@@ -2,7 +2,8 @@
 -- a cause in the files.
 use Rattle.std.specs.Prelude.{◌≡◌, ◌⊎◌, ◌≤◌, ℕ}
 use Rattle.cfi_files.specs.Reads.{Content}
-use Rattle.cfi_commands.specs.Complete.{CompareIsComplete, RewriteIsComplete, RunIsComplete, VerifyIsComplete}
+use Rattle.cfi_commands.specs.Complete.{CompareIsComplete, RewriteIsComplete}
+use Rattle.cfi_pairs.specs.Complete.{RunIsComplete, VerifyIsComplete}
 use Rattle.cfi_tool.specs.Request.{Request, compare, demo, rewrite, run, verify}
 
 abbrev pub IsComplete : Content → Request → ℕ → Type 0

@@ -5,8 +5,8 @@ use Rattle.rv_word.specs.declared.no_memory.NoMemory.{NoMemory}
 use Rattle.cfi_commands.specs.Compare.{ExplainsCompare}
 use Rattle.cfi_commands.specs.Demo.{ExplainsDemo}
 use Rattle.cfi_commands.specs.Rewrite.{ExplainsRewrite}
-use Rattle.cfi_commands.specs.Run.{ExplainsRun}
-use Rattle.cfi_commands.specs.Verify.{ExplainsVerdict}
+use Rattle.cfi_pairs.specs.Run.{ExplainsRun}
+use Rattle.cfi_pairs.specs.Verify.{ExplainsVerdict}
 use Rattle.cfi_files.specs.Reads.{Content, IsUnread}
 use Rattle.cfi_tool.specs.Request.{Request, compare as compares, demo as demos, names_of, helps, asks, taken, tells_version, untaken, rewrite as rewrites, run as runs, verify as verifies}
 use Rattle.cfi_tool.specs.declared.outcome.Outcome.{Outcome}

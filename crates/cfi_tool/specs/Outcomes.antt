@@ -3,8 +3,8 @@ use Rattle.std.specs.Prelude.{ℕ, List, [], codes, string_bytes}
 use Rattle.cfi_commands.specs.Compare.{compare_line, compare_status}
 use Rattle.cfi_commands.specs.Demo.{demo_status, demo_text}
 use Rattle.cfi_commands.specs.Rewrite.{rewrite_line, rewrite_outputs, rewrite_status}
-use Rattle.cfi_commands.specs.Run.{run_status, run_text}
-use Rattle.cfi_commands.specs.Verify.{verdict_line, verdict_status}
+use Rattle.cfi_pairs.specs.Run.{run_status, run_text}
+use Rattle.cfi_pairs.specs.Verify.{verdict_line, verdict_status}
 use Rattle.cfi_files.specs.Lines.{with_newline}
 use Rattle.cfi_files.specs.Writes.{OutputParts}
 use Rattle.cfi_files.specs.Reads.{unread_line, unread_status}
@@ -12,7 +12,7 @@ use Rattle.cfi_tool.specs.declared.outcome.Outcome.{Outcome}
 use Rattle.cfi_tool.specs.declared.outcome.Outcome.TheVariants.{Usage, Help, Version, Unread, Rewrite, Verify, Run, Compare, Demo}
 
 abbrev pub usage_line : List ℕ
-usage_line = codes "usage: rvcfi rewrite|verify|run|compare|demo|harden"
+usage_line = codes "usage: rvcfi rewrite|verify|run|compare|demo|harden|link|compare-link"
 
 abbrev pub outcome_text : Outcome → List ℕ
 outcome_text Usage = with_newline usage_line

@@ -7,15 +7,15 @@ use Rattle.cfi_words.specs.Reading.{Reading, reading}
 use Rattle.cfi_words.specs.Plain.{IsPlainRequest}
 use Rattle.cfi_words.specs.declared.end.WordsEnd.{WordsEnd}
 use Rattle.cfi_words.specs.declared.end.WordsEnd.TheVariants as ends
-use Rattle.cfi_commands.specs.Compare.{CompareWords, compare_asked, compare_names, compare_words}
+use Rattle.cfi_commands.specs.Compare.{CompareWords, compare_asked, compare_link_words, compare_names, compare_words}
 use Rattle.cfi_commands.specs.Demo.{demo_asked, demo_words}
-use Rattle.cfi_commands.specs.Rewrite.{AreNamedApart, RewriteWords, harden_words, rewrite_asked, rewrite_names, rewrite_words}
-use Rattle.cfi_commands.specs.Run.{RunWords, run_asked, run_names, run_words}
-use Rattle.cfi_commands.specs.Verify.{VerifyWords, verify_asked, verify_names, verify_words}
+use Rattle.cfi_commands.specs.Rewrite.{AreNamedApart, RewriteWords, harden_words, link_words, rewrite_asked, rewrite_names, rewrite_words}
+use Rattle.cfi_pairs.specs.Run.{RunWords, run_asked, run_names, run_words}
+use Rattle.cfi_pairs.specs.Verify.{VerifyWords, verify_asked, verify_names, verify_words}
 use Rattle.cfi_tool.specs.declared.request.Request as R
 use Rattle.cfi_tool.specs.declared.request.Request.TheVariants.{Rewrite, Verify, Run, Compare, Demo}
 
--- `harden` asks for what `rewrite` does, in a form
+-- `harden` asks for what `rewrite` does, in a form, `link` for the same of several objects, and `compare-link` for what `compare` does of them
 pub data Request : Type 0 where
   rewrite : RewriteWords → Request
   verify : VerifyWords → Request
@@ -32,7 +32,9 @@ request_of (command ∷ words) =
     if bytes_eq command (codes "run") then option_map run (run_words words) else
     if bytes_eq command (codes "compare") then option_map compare (compare_words words) else
     if bytes_eq command (codes "demo") then option_map demo (demo_words words) else
-    if bytes_eq command (codes "harden") then option_map rewrite (harden_words words) else None
+    if bytes_eq command (codes "harden") then option_map rewrite (harden_words words) else
+    if bytes_eq command (codes "link") then option_map rewrite (link_words words) else
+    if bytes_eq command (codes "compare-link") then option_map compare (compare_link_words words) else None
 
 -- what a command line is taken for: a request, or one for help or for the version, or none of these
 pub data Taken : Type 0 where

@@ -7,8 +7,8 @@ ghost use Rattle.tool_io.specs.Reading.{CountsReads, IsOnlyRead};
 ghost use Rattle.cfi_commands.specs.Compare.{CompareWords, IsTold};
 ghost use Rattle.cfi_commands.specs.Demo.{IsDemonstrated};
 ghost use Rattle.cfi_commands.specs.Rewrite.{IsRewritten, RewriteWords};
-ghost use Rattle.cfi_commands.specs.Run.{IsRan, RunWords};
-ghost use Rattle.cfi_commands.specs.Verify.{IsAccepted, VerifyWords};
+ghost use Rattle.cfi_pairs.specs.Run.{IsRan, RunWords};
+ghost use Rattle.cfi_pairs.specs.Verify.{IsAccepted, VerifyWords};
 ghost use Rattle.cfi_tool.specs.Complete.{IsComplete};
 ghost use Rattle.cfi_tool.specs.Explains.{Explains, IsPart, IsReadFault, IsTooLongFile};
 ghost use Rattle.cfi_tool.specs.Finishing.{IsShort, IsStopped};
@@ -105,7 +105,7 @@ fn finish<F: Files, K: Sink>(
 /// there was no memory, and 6 where a file has more than 2^26 bytes; for a run also 10 where it came to a
 /// handler, 11 where it broke or a load failed; for a run and a comparison 12 where as many steps were taken as
 /// may be, and for a comparison 13 where the program takes no such step. 1 is also where they differ. All files
-/// are read first, then `rewrite` or `harden` writes its three, and the text is put last, in one piece.
+/// are read first, then `rewrite`, `harden` or `link` writes its three, and the text is put last, in one piece.
 #[tactic(auto, using(crate::proofs::Since::wrote_since, crate::proofs::Since::short_since, crate::proofs::Since::stopped_since, crate::proofs::Since::status_unwritten))]
 pub fn rvcfi<F: Files, K: Sink>(alloc: Global, words: &[String], files: &mut F, out: &mut K) -> u8
     // Where no file is to be written each is as before, none is made or removed, and no count of faults falls.
@@ -124,7 +124,8 @@ pub fn rvcfi<F: Files, K: Sink>(alloc: Global, words: &[String], files: &mut F, 
         × Wrote F.Files files.old files.new (outcome_outputs outcome) None
         × Appends (K.written out.old) (K.written out.new) (outcome_text outcome) }
 
-    // 0 of `rewrite` and of `harden`: the files hold the program of the object, hardened in the form, and the text tells its sizes.
+    // 0 of `rewrite`, of `harden` and of `link`: the files hold the program of the objects, hardened in the form, and the text tells its
+    // sizes.
     ensures rewritten { result ≡ 0 → (given : RewriteWords) → taken (spelled words.now) ≡ asks (rewrite given)
         → (text : List ℕ) × IsRewritten F.Files files.old files.new given text × Appends (K.written out.old) (K.written out.new) text }
 
@@ -140,7 +141,7 @@ pub fn rvcfi<F: Files, K: Sink>(alloc: Global, words: &[String], files: &mut F, 
     ensures ran { (result ≡ 0) ⊎ (10 ≤ result) → (given : RunWords) → taken (spelled words.now) ≡ asks (run given)
         → (text : List ℕ) × IsRan (F.content files.old) given result text × Appends (K.written out.old) (K.written out.new) text }
 
-    // 0, 12 and 13 of `compare`: the files spell an object, an image and a map, and the text tells how they compare.
+    // 0, 12 and 13 of `compare` and of `compare-link`: the files spell objects, an image and a map, and the text tells how they compare.
     ensures compared { (result ≡ 0) ⊎ (10 ≤ result) → (given : CompareWords) → taken (spelled words.now) ≡ asks (compare given)
         → (text : List ℕ) × IsTold (F.content files.old) given result text × Appends (K.written out.old) (K.written out.new) text }
 

@@ -5,8 +5,9 @@ ghost use Rattle.tool_io.specs.declared.ends.OutEnd.TheVariants as OutEnd;
 ghost use Rattle.cfi_tool.specs.Outcomes.{outcome_outputs, outcome_status, outcome_text};
 ghost use Rattle.cfi_files.specs.Writes.{AreApart, IsCut, IsTorn, KeepsReads, Wrote};
 
-use cfi_commands::{CompareOutcome, DemoOutcome, RewriteOutcome, RunOutcome, Verdict};
+use cfi_commands::{CompareOutcome, DemoOutcome, RewriteOutcome};
 use cfi_files::{Unread, line, status};
+use cfi_pairs::{RunOutcome, Verdict};
 use rv_word::NoMemory;
 use std::alloc::Global;
 use tool_io::{Files, OutEnd};
@@ -76,17 +77,17 @@ impl Outcome<'_> {
         match self {
             Outcome::Usage => line(
                 alloc,
-                &"usage: rvcfi rewrite|verify|run|compare|demo|harden",
+                &"usage: rvcfi rewrite|verify|run|compare|demo|harden|link|compare-link",
             ),
             Outcome::Help(text) | Outcome::Version(text) => Ok(Vec::from_slice(
                 alloc,
                 text.as_bytes(),
             )?),
             Outcome::Unread(unread) => line(alloc, unread),
-            Outcome::Rewrite(outcome) => line(alloc, outcome),
+            Outcome::Rewrite(outcome) => outcome.text(alloc),
             Outcome::Verify(verdict) => line(alloc, verdict),
             Outcome::Run(outcome) => outcome.text(alloc),
-            Outcome::Compare(outcome) => line(alloc, outcome),
+            Outcome::Compare(outcome) => outcome.text(alloc),
             Outcome::Demo(outcome) => outcome.text(alloc),
         }
     }

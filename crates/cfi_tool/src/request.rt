@@ -7,21 +7,22 @@ ghost use Rattle.cfi_words.specs.Reading.{request_of as words_of, spelled};
 
 use crate::outcome::Outcome;
 use cfi_commands::{
-    CompareRequest, DemoRequest, RewriteRequest, RunRequest, VerifyRequest, compare_files,
-    demonstrate, rewrite_files, run_files, verify_files,
+    CompareRequest, DemoRequest, RewriteRequest, compare_files, demonstrate, rewrite_files,
 };
 use cfi_files::Stop;
+use cfi_pairs::{RunRequest, VerifyRequest, run_files, verify_files};
 use cfi_words::{Asked, WordsEnd, read_words};
 use std::alloc::Global;
 use tool_io::Files;
 
 /// What the words of a command line ask for.
-#[derive(Clone, Copy)]
+#[derive(Drop)]
 pub(crate) enum Request<'a> {
-    /// `rewrite`, or `harden`.
+    /// `rewrite`, `harden` or `link`.
     Rewrite(RewriteRequest<'a>),
     Verify(VerifyRequest<'a>),
     Run(RunRequest<'a>),
+    /// `compare` or `compare-link`.
     Compare(CompareRequest<'a>),
     Demo(DemoRequest),
 }
@@ -52,6 +53,8 @@ impl<'a> Request<'a> {
             Asked::Compare(words) => Request::Compare(CompareRequest::of(words)?),
             Asked::Demo(words) => Request::Demo(DemoRequest::of(words)?),
             Asked::Harden(words) => Request::Rewrite(RewriteRequest::hardening(words)?),
+            Asked::Link(words) => Request::Rewrite(RewriteRequest::linking(words)?),
+            Asked::CompareLink(words) => Request::Compare(CompareRequest::linking(words)?),
         })
     }
 

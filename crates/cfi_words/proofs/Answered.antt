@@ -30,20 +30,25 @@ not_version : DisplayVersion ≡ OutOfMemory → ⊥
 not_version e = absurd (cc)
 
 -- what was asked, or that the words are not taken
-gives_asked : (words : List Text) (asked : Option Asked) (result : Result Asked WordsEnd) → result ≡ ok_or asked Refused
-    → Gives (if_alone words (asked_or_refused (option_map request_of asked))) result
-gives_asked words (Some asked) result is = subst (Gives (asks (request_of asked))) (sym is) refl
-gives_asked words None result is = subst (Gives refused) (sym is) refl
+pub gives_asked : (asked : Option Asked) (request : Option (List Text)) (result : Result Asked WordsEnd) → option_map request_of asked ≡ request
+    → result ≡ ok_or asked Refused → Gives (asked_or_refused request) result
+gives_asked (Some asked) request result same is = subst (λ r. Gives (asked_or_refused r) result) same (subst (Gives (asks (request_of asked))) (sym is) refl)
+gives_asked None request result same is = subst (λ r. Gives (asked_or_refused r) result) same (subst (Gives refused) (sym is) refl)
+
+alone_asked : (words : List Text) (request : Option (List Text)) → if_alone words (asked_or_refused request) ≡ asked_or_refused request
+alone_asked words (Some request) = refl
+alone_asked words None = refl
 
 module _ (app : App) (words : List Text) (same : app ≡ command_line) where
-  pub read_as_asked : (matches : ArgMatches) (asked : Option Asked) → (is_simple_and_free app ≡ true → fault_of app words ≡ [])
-      → HasMatchesOf app words matches → option_map request_of asked ≡ option_and_then request_in (subcommand_rows_of matches)
-      → (result : Result Asked WordsEnd) → result ≡ ok_or asked Refused → Gives (reading words) result
-  read_as_asked matches asked free has is result ends =
+  pub read_as_asked : (matches : ArgMatches) → (is_simple_and_free app ≡ true → fault_of app words ≡ []) → HasMatchesOf app words matches
+      → (result : Result Asked WordsEnd) → Gives (asked_or_refused (option_and_then request_in (subcommand_rows_of matches))) result
+      → Gives (reading words) result
+  read_as_asked matches free has result gives =
       let faultless : fault_of command_line words ≡ [] = ap (λ a. fault_of a words) (sym same) ∙ free (ap is_simple_and_free same ∙ simple_and_free) in
       let entered : subcommand_rows_of matches ≡ subcommand_of command_line words = (has (ap is_simple same ∙ simple)).1 ∙ ap (λ a. subcommand_of a words) same in
-      let reads : clap_reading words ≡ asked_or_refused (option_map request_of asked) = ap₂ reading_by faultless (ap (option_and_then request_in) (sym entered) ∙ sym is) in
-      subst (λ r. Gives (if_alone words r) result) (sym reads) (gives_asked words asked result ends)
+      let reads : clap_reading words ≡ asked_or_refused (option_and_then request_in (subcommand_rows_of matches)) =
+      ap₂ reading_by faultless (ap (option_and_then request_in) (sym entered)) in
+      subst (λ r. Gives r result) (sym (ap (if_alone words) reads ∙ alone_asked words (option_and_then request_in (subcommand_rows_of matches)))) gives
 
   told_same : (error : Error) → HasKind (fault_of app words) error → (kind_of error ≡ OutOfMemory → ⊥) → clap_reading words ≡ told (kind_of error)
   told_same error (inl memory) other = absurd (other memory)

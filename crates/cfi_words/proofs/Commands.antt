@@ -1,5 +1,5 @@
 -- A command with one word more, and the program with one command more, as the loops make them.
-use Rattle.std.proofs.Common.{◌≡◌, ◌∙◌, ◌<◌, ◌≤◌, ◌+◌, ◌||◌, ◌++◌, ℕ, zero, suc, List, [], ◌∷◌, codes, Some, map, false, true, ap, ap₂, subst, sym, arith, refl, take, length, get_or}
+use Rattle.std.proofs.Common.{◌≡◌, ◌∙◌, ◌<◌, ◌≤◌, ◌+◌, ◌||◌, ◌++◌, ℕ, zero, suc, Bool, List, [], ◌∷◌, codes, Some, map, false, true, ap, ap₂, subst, sym, arith, refl, take, length, get_or}
 use Rattle.std.specs.Borrow.{Bor}
 use Rattle.std.proofs.lemmas.List.{map_push, take_all, take_more}
 use Rattle.cfi_words.specs.declared.command.Form.{Form}
@@ -10,11 +10,12 @@ use Rattle.clap.specs.declared.builder.command.Command.TheOpen.{Command-F}
 use Rattle.clap.specs.declared.builder.command.Command.TheViews.{out-Command}
 use Rattle.clap.specs.declared.builder.arg.Arg.{Arg}
 use Rattle.clap.specs.declared.builder.command.Command.{Command}
-use Rattle.cfi_words.specs.CommandLine.{AreCommands, IsCommand, form, form_of, names, operand, program, with_command, with_operand}
+use Rattle.cfi_words.specs.CommandLine.{AreCommands, IsArgument, IsCommand, form, form_of, many, names, operand, program, with_command, with_objects, with_operand}
 
-pub added : (app : App) (old new : Command) (arg : Arg) (name : Text) → IsCommand app old → rule_of arg ≡ operand name → arg.global ≡ false
-    → AddsArg old arg new → IsCommand (with_operand app name) new
-added app old new arg name was is local adds = (
+-- a command with one argument more
+pub added : (app : App) (old new : Command) (arg : Arg) (rule : Rule) → IsCommand app old → rule_of arg ≡ rule → arg.global ≡ false
+    → AddsArg old arg new → IsCommand (with_rule app rule) new
+added app old new arg rule was is local adds = (
   adds.shape local ∙ ap₂ with_rule was.0 is,
   adds.globals ∙ ap₂ (λ a b. a || b) was.1 local,
 )
@@ -44,6 +45,19 @@ pub ended : (name : Text) (operands : List (Bor Text × Bor Text)) (told command
     → IsCommand (fold with_operand (app_of told) (names (take i operands))) command → IsCommand (form name (names operands)) command
 ended name operands told command i is past has =
     subst (λ (app : App). IsCommand app command) (ap₂ (λ app os. fold with_operand app (names os)) is (take_all i operands past)) has
+
+-- a command that has no objects is that of its row
+pub without_objects : (row : Form) (command : Command) → row.has_objects ≡ false → IsCommand (form row.name.now (names row.operands.now)) command
+    → IsCommand (form_of row) command
+without_objects row command none has =
+    subst (λ (has_objects : Bool). IsCommand (with_objects has_objects (form row.name.now (names row.operands.now))) command) (sym none) has
+
+-- a command that has objects is that of its row with one argument more
+pub objects_added : (row : Form) (old new : Command) (arg : Arg) → row.has_objects ≡ true → IsCommand (form row.name.now (names row.operands.now)) old
+    → IsArgument (many (codes "OBJECT")) arg → AddsArg old arg new → IsCommand (form_of row) new
+objects_added row old new arg some was is adds =
+    subst (λ (has_objects : Bool). IsCommand (with_objects has_objects (form row.name.now (names row.operands.now))) new) (sym some)
+    (added _ old new arg _ was is.0 is.1 adds)
 
 -- a word that a command wants, with what it is
 pub wanted : (name : Text) (new required told : Arg) (help : Bor Text) → rule_of new ≡ new_rule name → new.global ≡ false

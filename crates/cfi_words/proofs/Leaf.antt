@@ -1,7 +1,7 @@
 -- A command's own words. What `clap` makes of them where none is taken for a flag, and that each word without a fault is a word of
 -- the command, but for one `--`.
-use Rattle.std.proofs.Common.{◌≡◌, ◌⊎◌, ◌∙◌, ◌==◌, ◌&&◌, ◌||◌, ℕ, Bool, cond, true, false, not, List, [], ◌∷◌, Option, Some, None, inl, inr, ap, ap₂, sym, subst, refl}
-use Rattle.std.specs.Prelude.{if◌then◌else◌, is_some, find, fold, slice_get}
+use Rattle.std.proofs.Common.{◌≡◌, ◌⊎◌, ◌∙◌, ◌==◌, ◌&&◌, ◌||◌, ◌++◌, ℕ, Bool, cond, true, false, not, List, [], ◌∷◌, Option, Some, None, inl, inr, ap, ap₂, sym, subst, refl}
+use Rattle.std.specs.Prelude.{codes, if◌then◌else◌, is_some, find, fold, slice_get}
 use Rattle.std.specs.List.{list_all}
 use Rattle.std.specs.Option.{option_map_or}
 use Rattle.std.specs.Str.{bytes_eq, chars}
@@ -18,11 +18,12 @@ use Rattle.clap.specs.declared.builder.action.ArgAction.{ArgAction}
 use Rattle.clap.specs.declared.builder.action.ArgAction.TheVariants.{Set, Append, SetTrue, SetFalse, Count, Help, HelpShort, HelpLong, Version}
 use Rattle.clap.specs.declared.error.kind.ErrorKind.TheVariants.{TooManyValues}
 use Rattle.clap.specs.Values.{is_request}
-use Rattle.clap.specs.Walk.{bundle_met, Held, Row, Rule, Text, Walk, action_of, arg_by_index, arg_by_long, arg_by_short, attached_value, finished, idle, is_multiple, is_pending, takes_several, most_values, next_position, positional_held, reacted, settled, takes_values, to_positional, value, values_or_missing, walked}
+use Rattle.clap.specs.Walk.{bundle_met, Held, Row, Rule, Text, Walk, action_of, arg_by_index, arg_by_long, arg_by_short, attached_value, finished, idle, is_multiple, is_pending, takes_several, most_values, next_position, positional, positional_held, reacted, settled, takes_values, to_positional, value, values_or_missing, walked}
 
--- a walk between two words of a command
-abbrev pub stand : Bool → Held → ℕ → Walk
-stand past h position = record { held = h; waiting = idle; position = position; is_trailing = past; stopped = None }
+-- a walk between two words of a command, behind one of which there may be many or not
+abbrev pub stand : Bool → Bool → Held → ℕ → Walk
+stand many past h position =
+    record { held = h; waiting = if many then positional else idle; position = position; is_trailing = past; stopped = None }
 
 -- the walk after words, and what is wrong from there on
 abbrev pub held_after : Shape → Walk → List Text → Held
@@ -39,7 +40,7 @@ or_else_joins : (a b c : Kinds) → or_else (or_else a b) c ≡ or_else a (or_el
 or_else_joins [] b c = refl
 or_else_joins (k ∷ ks) b c = refl
 
-unrolled : (s : Shape) (w : Walk) (word : Text) (rest : List Text)
+pub unrolled : (s : Shape) (w : Walk) (word : Text) (rest : List Text)
     → fault_from s w (word ∷ rest) ≡ or_else (turn_fault s [] w word) (fault_from s (walked s.rules [] w word) rest)
 unfolding walk_fault
 unrolled s w word rest =
@@ -52,7 +53,7 @@ or_else_none (k ∷ ks) b e = absurd (cc)
 -- ---- the words that take a place each
 
 abbrev pub is_flat : Rule → Bool
-is_flat a = not (is_multiple a) && not a.trailing_var_arg
+is_flat a = not a.trailing_var_arg
 
 is_false : (b : Bool) → not b ≡ true → b ≡ false
 is_false false e = refl
@@ -85,8 +86,25 @@ matches {X} q (y ∷ ys) x e = go (q y) refl (matches q ys x) e
 abbrev pub next_held : Shape → Held → ℕ → Text → Held
 next_held s h position word = option_map_or (λ a. positional_held s.rules a word h) (arg_by_index s.rules position) h
 
+abbrev pub next_many : Shape → Bool → ℕ → Bool
+next_many s many position = option_map_or is_multiple (arg_by_index s.rules position) many
+
 abbrev pub next_place : Shape → ℕ → ℕ
 next_place s position = option_map_or (λ a. next_position a position) (arg_by_index s.rules position) position
+
+-- one word without a fault: it is `--`, or goes to the next place
+abbrev pub IsMark : Shape → Bool → Held → ℕ → Text → Type 0
+IsMark s many h p word = (bytes_eq word (45 ∷ 45 ∷ []) ≡ true) × (walked s.rules [] (stand many false h p) word ≡ stand many true h p)
+
+abbrev pub IsValue : Shape → Bool → Held → ℕ → Text → Type 0
+IsValue s many h p word = (turn_fault s [] (stand many false h p) word ≡ step_fault s p h value)
+    × (walked s.rules [] (stand many false h p) word ≡ stand (next_many s many p) false (next_held s h p word) (next_place s p))
+    × (bytes_eq word (45 ∷ 45 ∷ []) ≡ false)
+
+-- words have the same faults and matches as values after `--`
+abbrev pub AreAlike : Shape → Bool → Held → ℕ → List Text → List Text → Type 0
+AreAlike s many h p words values = (fault_from s (stand many false h p) words ≡ fault_from s (stand many true h p) values)
+    × (held_after s (stand many false h p) words ≡ held_after s (stand many true h p) values)
 
 -- ---- plain words
 
@@ -100,53 +118,81 @@ plain_short : (x : ℕ) (xs : Text) → (x == 45) ≡ false → short_of (x ∷ 
 plain_short x xs e = rw e refl
 
 module _ (s : Shape) (flat : list_all is_flat s.rules ≡ true) where
-  value_step : (past : Bool) (h : Held) (p : ℕ) (word : Text)
-      → to_positional s.rules (arg_by_index s.rules p) word (stand past h p) h ≡ stand past (next_held s h p word) (next_place s p)
-  value_step past h p word = go (arg_by_index s.rules p) refl
+  value_step : (many past : Bool) (h : Held) (p : ℕ) (word : Text)
+      → to_positional s.rules (arg_by_index s.rules p) word (stand many past h p) h ≡ stand (next_many s many p) past (next_held s h p word) (next_place s p)
+  value_step many past h p word = go (arg_by_index s.rules p) refl
     where
       go : (o : Option Rule) → arg_by_index s.rules p ≡ o
-          → to_positional s.rules o word (stand past h p) h
-          ≡ stand past (option_map_or (λ a. positional_held s.rules a word h) o h) (option_map_or (λ a. next_position a p) o p)
+          → to_positional s.rules o word (stand many past h p) h
+          ≡ stand (option_map_or is_multiple o many) past (option_map_or (λ a. positional_held s.rules a word h) o h) (option_map_or (λ a. next_position a p) o p)
       go None e = refl
-      go (Some a) e =
-          let parts = and_parts (not (is_multiple a)) (not a.trailing_var_arg) (found is_flat _ s.rules a flat e) in
-          rw (is_false (is_multiple a) parts.0, or_false past a.trailing_var_arg (is_false a.trailing_var_arg parts.1)) refl
+      go (Some a) e = rw (or_false past a.trailing_var_arg (is_false a.trailing_var_arg (found is_flat _ s.rules a flat e))) refl
 
-  past_walked : (h : Held) (p : ℕ) (word : Text) → walked s.rules [] (stand true h p) word ≡ stand true (next_held s h p word) (next_place s p)
+  past_walked : (many : Bool) (h : Held) (p : ℕ) (word : Text)
+      → walked s.rules [] (stand many true h p) word ≡ stand (next_many s many p) true (next_held s h p word) (next_place s p)
   unfolding walked
-  past_walked h p word = value_step true h p word
+  past_walked many h p word = value_step many true h p word
 
   -- a word that is neither `--` nor a flag
-  value_turn : (h : Held) (p : ℕ) (word : Text) → bytes_eq word (45 ∷ 45 ∷ []) ≡ false → long_of word ≡ None → short_of word ≡ None
-      → turn_fault s [] (stand false h p) word ≡ step_fault s p h value
-  value_turn h p word mark long short = rw (mark, long, short) refl
+  value_turn : (many : Bool) (h : Held) (p : ℕ) (word : Text) → bytes_eq word (45 ∷ 45 ∷ []) ≡ false → long_of word ≡ None → short_of word ≡ None
+      → turn_fault s [] (stand many false h p) word ≡ step_fault s p h value
+  value_turn true h p word mark long short = rw (mark, long, short) refl
+  value_turn false h p word mark long short = rw (mark, long, short) refl
 
-  value_walked : (h : Held) (p : ℕ) (word : Text) → bytes_eq word (45 ∷ 45 ∷ []) ≡ false → long_of word ≡ None → short_of word ≡ None
-      → walked s.rules [] (stand false h p) word ≡ stand false (next_held s h p word) (next_place s p)
+  value_walked : (many : Bool) (h : Held) (p : ℕ) (word : Text) → bytes_eq word (45 ∷ 45 ∷ []) ≡ false → long_of word ≡ None → short_of word ≡ None
+      → walked s.rules [] (stand many false h p) word ≡ stand (next_many s many p) false (next_held s h p word) (next_place s p)
   unfolding walked
-  value_walked h p word mark long short = rw (mark, long, short) (value_step false h p word)
+  value_walked true h p word mark long short = rw (mark, long, short) (value_step true false h p word)
+  value_walked false h p word mark long short = rw (mark, long, short) (value_step false false h p word)
 
-  -- plain words have the same faults and matches as words after `--`
-  pub plain_faults : (words : List Text) (h : Held) (p : ℕ) → list_all is_plain words ≡ true
-      → (fault_from s (stand false h p) words ≡ fault_from s (stand true h p) words)
-      × (held_after s (stand false h p) words ≡ held_after s (stand true h p) words)
-  unfolding walk_fault
-  plain_faults [] h p all = (refl, refl)
-  plain_faults ([] ∷ rest) h p all = absurd (cc)
-  plain_faults ((x ∷ xs) ∷ rest) h p all =
-      let parts = and_parts (not (x == 45)) (list_all is_plain rest) all in
-      let begins = is_false (x == 45) parts.0 in
-      let mark = plain_mark x xs begins in
-      let long = plain_long x xs begins in
-      let short = plain_short x xs begins in
-      let here = value_walked h p (x ∷ xs) mark long short in
-      let past = past_walked h p (x ∷ xs) in
-      let after = plain_faults rest (next_held s h p (x ∷ xs)) (next_place s p) parts.1 in (
-        unrolled s (stand false h p) (x ∷ xs) rest
-            ∙ ap₂ or_else (value_turn h p (x ∷ xs) mark long short) (ap (λ w. fault_from s w rest) here ∙ after.0 ∙ sym (ap (λ w. fault_from s w rest) past))
-            ∙ sym (unrolled s (stand true h p) (x ∷ xs) rest),
-        ap (λ w. held_after s w rest) here ∙ after.1 ∙ sym (ap (λ w. held_after s w rest) past),
+  plain_value : (word : Text) → is_plain word ≡ true → (many : Bool) (h : Held) (p : ℕ) → IsValue s many h p word
+  plain_value [] plain many h p = absurd (cc)
+  plain_value (x ∷ xs) plain many h p =
+      let begins = is_false (x == 45) plain in
+      let mark = plain_mark x xs begins in (
+        value_turn many h p (x ∷ xs) mark (plain_long x xs begins) (plain_short x xs begins),
+        value_walked many h p (x ∷ xs) mark (plain_long x xs begins) (plain_short x xs begins),
+        mark,
       )
+
+  with_value : (word : Text) (words values : List Text) (many : Bool) (h : Held) (p : ℕ) → IsValue s many h p word
+      → AreAlike s (next_many s many p) (next_held s h p word) (next_place s p) words values → AreAlike s many h p (word ∷ words) (word ∷ values)
+  with_value word words values many h p here after =
+      let past = past_walked many h p word in (
+        unrolled s (stand many false h p) word words
+            ∙ ap₂ or_else here.0 (ap (λ w. fault_from s w words) here.1 ∙ after.0 ∙ sym (ap (λ w. fault_from s w values) past))
+            ∙ sym (unrolled s (stand many true h p) word values),
+        ap (λ w. held_after s w words) here.1 ∙ after.1 ∙ sym (ap (λ w. held_after s w values) past),
+      )
+
+  pub plain_alike : (words : List Text) (many : Bool) (h : Held) (p : ℕ) → list_all is_plain words ≡ true → AreAlike s many h p words words
+  unfolding walk_fault
+  plain_alike [] many h p all = (refl, refl)
+  plain_alike (word ∷ rest) many h p all =
+      let parts = and_parts (is_plain word) (list_all is_plain rest) all in
+      with_value word rest rest many h p (plain_value word parts.0 many h p)
+      (plain_alike rest (next_many s many p) (next_held s h p word) (next_place s p) parts.1)
+
+  mark_turn : (many : Bool) (h : Held) (p : ℕ) → turn_fault s [] (stand many false h p) (codes "--") ≡ []
+  mark_turn true h p = refl
+  mark_turn false h p = refl
+
+  mark_walked : (many : Bool) (h : Held) (p : ℕ) → walked s.rules [] (stand many false h p) (codes "--") ≡ stand many true h p
+  unfolding walked
+  mark_walked true h p = refl
+  mark_walked false h p = refl
+
+  -- plain words, `--` and any words
+  pub marked_alike : (before after : List Text) (many : Bool) (h : Held) (p : ℕ) → list_all is_plain before ≡ true
+      → AreAlike s many h p (before ++ codes "--" ∷ after) (before ++ after)
+  marked_alike [] after many h p all = (
+    unrolled s (stand many false h p) (codes "--") after ∙ ap₂ or_else (mark_turn many h p) (ap (λ w. fault_from s w after) (mark_walked many h p)),
+    ap (λ w. held_after s w after) (mark_walked many h p),
+  )
+  marked_alike (word ∷ rest) after many h p all =
+      let parts = and_parts (is_plain word) (list_all is_plain rest) all in
+      with_value word (rest ++ codes "--" ∷ after) (rest ++ after) many h p (plain_value word parts.0 many h p)
+      (marked_alike rest after (next_many s many p) (next_held s h p word) (next_place s p) parts.1)
 
 -- ---- words without a fault
 
@@ -206,75 +252,83 @@ no_chars : (x : ℕ) → slice_get (chars []) 0 ≡ Some x → ⊥
 unfolding chars
 no_chars x e = absurd (cc)
 
--- one word without a fault: it is `--`, or goes to the next place
-abbrev pub IsMark : Shape → Held → ℕ → Text → Type 0
-IsMark s h p word = (bytes_eq word (45 ∷ 45 ∷ []) ≡ true) × (walked s.rules [] (stand false h p) word ≡ stand true h p)
-
-abbrev pub IsValue : Shape → Held → ℕ → Text → Type 0
-IsValue s h p word = (turn_fault s [] (stand false h p) word ≡ step_fault s p h value)
-    × (walked s.rules [] (stand false h p) word ≡ stand false (next_held s h p word) (next_place s p))
-    × (bytes_eq word (45 ∷ 45 ∷ []) ≡ false)
-
 abbrev pub held : List Row → Option (Text × List Text) → Held
 held rows pending = record { rows = rows; pending = pending; skip = 0 }
 
 module _ (s : Shape) (flat : list_all is_flat s.rules ≡ true) (only : list_all is_word_or_request s.rules ≡ true) where
-  mark_met : (h : Held) (p : ℕ) (word : Text) → bytes_eq word (45 ∷ 45 ∷ []) ≡ true → IsMark s h p word
+  mark_met : (many : Bool) (h : Held) (p : ℕ) (word : Text) → bytes_eq word (45 ∷ 45 ∷ []) ≡ true → IsMark s many h p word
   unfolding walked
-  mark_met h p word mark = (mark, rw mark refl)
+  mark_met true h p word mark = (mark, rw mark refl)
+  mark_met false h p word mark = (mark, rw mark refl)
 
-  long_turn : (h : Held) (p : ℕ) (word : Text) (q : Text × Option Text) → bytes_eq word (45 ∷ 45 ∷ []) ≡ false → long_of word ≡ Some q
-      → turn_fault s [] (stand false h p) word ≡ [] → long_fault s.rules s.args_override_self (arg_by_long s.rules q.0) q.1 h ≡ []
-  long_turn h p word q mark long none = (or_else_none _ _ (rw (mark, long) at none)).0
+  long_turn : (many : Bool) (h : Held) (p : ℕ) (word : Text) (q : Text × Option Text) → bytes_eq word (45 ∷ 45 ∷ []) ≡ false → long_of word ≡ Some q
+      → turn_fault s [] (stand many false h p) word ≡ [] → long_fault s.rules s.args_override_self (arg_by_long s.rules q.0) q.1 h ≡ []
+  long_turn true h p word q mark long none = (or_else_none _ _ (rw (mark, long) at none)).0
+  long_turn false h p word q mark long none = (or_else_none _ _ (rw (mark, long) at none)).0
 
-  bundle_turn : (h : Held) (p : ℕ) (word flags : Text) → bytes_eq word (45 ∷ 45 ∷ []) ≡ false → long_of word ≡ None → short_of word ≡ Some flags
-      → turn_fault s [] (stand false h p) word ≡ [] → bundle_fault s.rules s.args_override_self flags h ≡ []
-  bundle_turn h p word flags mark long short none = (or_else_none _ _ (rw (mark, long, short) at none)).0
+  bundle_turn : (many : Bool) (h : Held) (p : ℕ) (word flags : Text) → bytes_eq word (45 ∷ 45 ∷ []) ≡ false → long_of word ≡ None → short_of word ≡ Some flags
+      → turn_fault s [] (stand many false h p) word ≡ [] → bundle_fault s.rules s.args_override_self flags h ≡ []
+  bundle_turn true h p word flags mark long short none = (or_else_none _ _ (rw (mark, long, short) at none)).0
+  bundle_turn false h p word flags mark long short none = (or_else_none _ _ (rw (mark, long, short) at none)).0
 
   -- a bundle of no characters is no flag
-  empty_bundle : (rows : List Row) (pending : Option (Text × List Text)) (p : ℕ) (word flags : Text) → bytes_eq word (45 ∷ 45 ∷ []) ≡ false
-      → long_of word ≡ None → short_of word ≡ Some flags → slice_get (chars flags) 0 ≡ None → IsValue s (held rows pending) p word
+  empty_bundle : (many : Bool) (rows : List Row) (pending : Option (Text × List Text)) (p : ℕ) (word flags : Text) → bytes_eq word (45 ∷ 45 ∷ []) ≡ false
+      → long_of word ≡ None → short_of word ≡ Some flags → slice_get (chars flags) 0 ≡ None → IsValue s many (held rows pending) p word
   unfolding walked flags_fault bundle_met
-  empty_bundle rows pending p word [] mark long short none = (
+  empty_bundle true rows pending p word [] mark long short none = (
     rw (mark, long, short) refl,
-    rw (mark, long, short) (value_step s flat false (held rows pending) p word),
+    rw (mark, long, short) (value_step s flat true false (held rows pending) p word),
     mark,
   )
-  empty_bundle rows pending p word (y ∷ ys) mark long short none = (
+  empty_bundle false rows pending p word [] mark long short none = (
+    rw (mark, long, short) refl,
+    rw (mark, long, short) (value_step s flat false false (held rows pending) p word),
+    mark,
+  )
+  empty_bundle true rows pending p word (y ∷ ys) mark long short none = (
     rw (mark, long, short, none) refl,
-    rw (mark, long, short, none) (value_step s flat false (held rows pending) p word),
+    rw (mark, long, short, none) (value_step s flat true false (held rows pending) p word),
+    mark,
+  )
+  empty_bundle false rows pending p word (y ∷ ys) mark long short none = (
+    rw (mark, long, short, none) refl,
+    rw (mark, long, short, none) (value_step s flat false false (held rows pending) p word),
     mark,
   )
 
-  bundle_met_value : (rows : List Row) (pending : Option (Text × List Text)) (p : ℕ) (word flags : Text) (first : Option ℕ)
+  bundle_met_value : (many : Bool) (rows : List Row) (pending : Option (Text × List Text)) (p : ℕ) (word flags : Text) (first : Option ℕ)
       → slice_get (chars flags) 0 ≡ first → bytes_eq word (45 ∷ 45 ∷ []) ≡ false → long_of word ≡ None → short_of word ≡ Some flags
-      → turn_fault s [] (stand false (held rows pending) p) word ≡ [] → IsValue s (held rows pending) p word
+      → turn_fault s [] (stand many false (held rows pending) p) word ≡ [] → IsValue s many (held rows pending) p word
   unfolding flags_fault
-  bundle_met_value rows pending p word flags None is mark long short none = empty_bundle rows pending p word flags mark long short is
-  bundle_met_value rows pending p word [] (Some x) is mark long short none = absurd (no_chars x is)
-  bundle_met_value rows pending p word (y ∷ ys) (Some x) is mark long short none =
-      let bundle = bundle_turn (held rows pending) p word (y ∷ ys) mark long short none in
+  bundle_met_value many rows pending p word flags None is mark long short none = empty_bundle many rows pending p word flags mark long short is
+  bundle_met_value many rows pending p word [] (Some x) is mark long short none = absurd (no_chars x is)
+  bundle_met_value many rows pending p word (y ∷ ys) (Some x) is mark long short none =
+      let bundle = bundle_turn many (held rows pending) p word (y ∷ ys) mark long short none in
       absurd (short_faults s.rules s.args_override_self (arg_by_short s.rules x) _ (held rows pending) _
       (λ a e. flag_requests a _ (found is_word_or_request _ s.rules a only e) (matches _ s.rules a e))
       (rw is at bundle))
 
-  no_mark : (rows : List Row) (pending : Option (Text × List Text)) (p : ℕ) (word : Text) → bytes_eq word (45 ∷ 45 ∷ []) ≡ false
-      → turn_fault s [] (stand false (held rows pending) p) word ≡ [] → IsValue s (held rows pending) p word
-  no_mark rows pending p word mark none = elim (cases_option (long_of word)) [
+  no_mark : (many : Bool) (rows : List Row) (pending : Option (Text × List Text)) (p : ℕ) (word : Text) → bytes_eq word (45 ∷ 45 ∷ []) ≡ false
+      → turn_fault s [] (stand many false (held rows pending) p) word ≡ [] → IsValue s many (held rows pending) p word
+  no_mark many rows pending p word mark none = elim (cases_option (long_of word)) [
     | inl long ↦ elim (cases_option (short_of word)) [
-      | inl short ↦ (value_turn s flat (held rows pending) p word mark long short, value_walked s flat (held rows pending) p word mark long short, mark)
-      | inr (flags, short) ↦ bundle_met_value rows pending p word flags (slice_get (chars flags) 0) refl mark long short none
+      | inl short ↦ (
+        value_turn s flat many (held rows pending) p word mark long short,
+        value_walked s flat many (held rows pending) p word mark long short,
+        mark,
+      )
+      | inr (flags, short) ↦ bundle_met_value many rows pending p word flags (slice_get (chars flags) 0) refl mark long short none
     ]
     | inr (q, long) ↦ absurd (long_faults s.rules s.args_override_self (arg_by_long s.rules q.0) q.1 (held rows pending)
         (λ a e. flag_requests a _ (found is_word_or_request _ s.rules a only e) (matches _ s.rules a e))
-        (long_turn (held rows pending) p word q mark long none))
+        (long_turn many (held rows pending) p word q mark long none))
   ]
 
-  word_kind : (rows : List Row) (pending : Option (Text × List Text)) (p : ℕ) (word : Text)
-      → turn_fault s [] (stand false (held rows pending) p) word ≡ [] → IsMark s (held rows pending) p word ⊎ IsValue s (held rows pending) p word
-  word_kind rows pending p word none = elim (cases_Bool (bytes_eq word (45 ∷ 45 ∷ []))) [
-    | inl mark ↦ inl (mark_met (held rows pending) p word mark)
-    | inr other ↦ inr (no_mark rows pending p word other none)
+  word_kind : (many : Bool) (rows : List Row) (pending : Option (Text × List Text)) (p : ℕ) (word : Text)
+      → turn_fault s [] (stand many false (held rows pending) p) word ≡ [] → IsMark s many (held rows pending) p word ⊎ IsValue s many (held rows pending) p word
+  word_kind many rows pending p word none = elim (cases_Bool (bytes_eq word (45 ∷ 45 ∷ []))) [
+    | inl mark ↦ inl (mark_met many (held rows pending) p word mark)
+    | inr other ↦ inr (no_mark many rows pending p word other none)
   ]
 
 held_is : (h : Held) → h.skip ≡ 0 → held h.rows h.pending ≡ h
@@ -292,42 +346,46 @@ skip_kept s h p word none = go (arg_by_index s.rules p)
     go (Some a) = either (is_pending a h.pending && takes_several a) h (settled s.rules h) none none
 
 -- words without a fault are those of a command, but for one `--`, and are read as these are after it
-pub record IsRead (s : Shape) (h : Held) (p : ℕ) (words : List Text) : Type 0 where
+pub record IsRead (s : Shape) (many : Bool) (h : Held) (p : ℕ) (words : List Text) : Type 0 where
   pub values : List Text
   pub operands : Operands words values
-  pub faultless : fault_from s (stand true h p) values ≡ []
-  pub held_is : held_after s (stand false h p) words ≡ held_after s (stand true h p) values
+  pub faultless : fault_from s (stand many true h p) values ≡ []
+  pub held_is : held_after s (stand many false h p) words ≡ held_after s (stand many true h p) values
 
 module _ (s : Shape) (flat : list_all is_flat s.rules ≡ true) (only : list_all is_word_or_request s.rules ≡ true) where
-  marked : (word : Text) (rest : List Text) (h : Held) (p : ℕ) → IsMark s h p word → fault_from s (stand true h p) rest ≡ [] → IsRead s h p (word ∷ rest)
-  marked word rest h p mark faultless = record {
+  marked : (word : Text) (rest : List Text) (many : Bool) (h : Held) (p : ℕ) → IsMark s many h p word → fault_from s (stand many true h p) rest ≡ []
+      → IsRead s many h p (word ∷ rest)
+  marked word rest many h p mark faultless = record {
     values = rest;
     operands = subst (λ (w : Text). Operands (w ∷ rest) rest) (sym ((bytes_eq-Decides word (45 ∷ 45 ∷ [])).0 mark.0)) (mark_left rest);
     faultless = faultless;
     held_is = ap (λ w. held_after s w rest) mark.1;
   }
 
-  taken : (word : Text) (rest : List Text) (h : Held) (p : ℕ) → IsValue s h p word → step_fault s p h value ≡ []
-      → IsRead s (next_held s h p word) (next_place s p) rest → IsRead s h p (word ∷ rest)
-  taken word rest h p here none later = record {
+  taken : (word : Text) (rest : List Text) (many : Bool) (h : Held) (p : ℕ) → IsValue s many h p word → step_fault s p h value ≡ []
+      → IsRead s (next_many s many p) (next_held s h p word) (next_place s p) rest → IsRead s many h p (word ∷ rest)
+  taken word rest many h p here none later = record {
     values = word ∷ later.values;
     operands = one_more word rest later.values (not_from_Decides (bytes_eq word (45 ∷ 45 ∷ [])) (bytes_eq-Decides word (45 ∷ 45 ∷ [])) here.2) later.operands;
-    faultless = unrolled s (stand true h p) word later.values
-        ∙ ap₂ or_else none (ap (λ w. fault_from s w later.values) (past_walked s flat h p word) ∙ later.faultless);
-    held_is = ap (λ w. held_after s w rest) here.1 ∙ later.held_is ∙ sym (ap (λ w. held_after s w later.values) (past_walked s flat h p word));
+    faultless = unrolled s (stand many true h p) word later.values
+        ∙ ap₂ or_else none (ap (λ w. fault_from s w later.values) (past_walked s flat many h p word) ∙ later.faultless);
+    held_is = ap (λ w. held_after s w rest) here.1 ∙ later.held_is ∙ sym (ap (λ w. held_after s w later.values) (past_walked s flat many h p word));
   }
 
-  pub kind_of_word : (h : Held) (p : ℕ) (word : Text) → h.skip ≡ 0 → turn_fault s [] (stand false h p) word ≡ [] → IsMark s h p word ⊎ IsValue s h p word
-  kind_of_word h p word skip none = subst (λ (x : Held). turn_fault s [] (stand false x p) word ≡ [] → IsMark s x p word ⊎ IsValue s x p word)
-      (held_is h skip) (word_kind s flat only h.rows h.pending p word) none
+  pub kind_of_word : (many : Bool) (h : Held) (p : ℕ) (word : Text) → h.skip ≡ 0 → turn_fault s [] (stand many false h p) word ≡ []
+      → IsMark s many h p word ⊎ IsValue s many h p word
+  kind_of_word many h p word skip none =
+      subst (λ (x : Held). turn_fault s [] (stand many false x p) word ≡ [] → IsMark s many x p word ⊎ IsValue s many x p word)
+      (held_is h skip) (word_kind s flat only many h.rows h.pending p word) none
 
-  pub words_read : (words : List Text) (h : Held) (p : ℕ) → h.skip ≡ 0 → fault_from s (stand false h p) words ≡ [] → IsRead s h p words
+  pub words_read : (words : List Text) (many : Bool) (h : Held) (p : ℕ) → h.skip ≡ 0 → fault_from s (stand many false h p) words ≡ [] → IsRead s many h p words
   unfolding walk_fault
-  words_read [] h p skip none = record { values = []; operands = none_left; faultless = none; held_is = refl }
-  words_read (word ∷ rest) h p skip none =
-      let parts = or_else_none (turn_fault s [] (stand false h p) word) _ (sym (unrolled s (stand false h p) word rest) ∙ none) in
-      elim (kind_of_word h p word skip parts.0) [
-        | inl mark ↦ marked word rest h p mark (ap (λ w. fault_from s w rest) (sym mark.1) ∙ parts.1)
-        | inr here ↦ taken word rest h p here (sym here.0 ∙ parts.0)
-            (words_read rest (next_held s h p word) (next_place s p) (skip_kept s h p word skip) (ap (λ w. fault_from s w rest) (sym here.1) ∙ parts.1))
+  words_read [] many h p skip none = record { values = []; operands = none_left; faultless = none; held_is = refl }
+  words_read (word ∷ rest) many h p skip none =
+      let parts = or_else_none (turn_fault s [] (stand many false h p) word) _ (sym (unrolled s (stand many false h p) word rest) ∙ none) in
+      elim (kind_of_word many h p word skip parts.0) [
+        | inl mark ↦ marked word rest many h p mark (ap (λ w. fault_from s w rest) (sym mark.1) ∙ parts.1)
+        | inr here ↦ taken word rest many h p here (sym here.0 ∙ parts.0)
+            (words_read rest (next_many s many p) (next_held s h p word) (next_place s p) (skip_kept s h p word skip)
+            (ap (λ w. fault_from s w rest) (sym here.1) ∙ parts.1))
       ]

@@ -2,5 +2,6 @@ mod Alike
 mod Answered
 mod Commands
 mod Leaf
+mod Many
 mod Numbers
 pub mod Top

@@ -7,18 +7,19 @@ use Rattle.std.proofs.lemmas.Bool.{cases_Bool}
 use Rattle.std.proofs.lemmas.Slice.Eq.{bytes_eq-Decides}
 use Rattle.clap.specs.Faults.{check_fault, defaults_fault, entered_fault, fault_of, level_fault, settle_fault, turn_fault, walk_fault}
 use Rattle.clap.specs.Kinds.{Kinds, or_else}
-use Rattle.clap.specs.Simple.{App, built, entered, names_of, rows_at, subcommand_of}
+use Rattle.clap.specs.Simple.{App, Shape, built, entered, names_of, rows_at, subcommand_of}
 use Rattle.clap.specs.Walk.{Names, Row, Text, Walk, answers_to, finished, idle, nothing_held, settled, subcommand_met, walk, walk_from, walked}
 use Rattle.clap.proofs.FaultLemmas.{stopped_fault}
 use Rattle.clap.proofs.OnLiterals.{clap_on_literals}
-use Rattle.cfi_words.specs.CommandLine.{command_line, compare, demo, harden, rewrite, run, verify}
-use Rattle.cfi_words.specs.Plain.{AsksAsRead, AsksFor, AsksIfFaultless, IsAmong, IsPlainRequest, Operands, TakesPlain, commands, is_plain}
+use Rattle.cfi_words.specs.CommandLine.{command_line, compare, compare_link, demo, harden, link, rewrite, run, verify}
+use Rattle.cfi_words.specs.Plain.{AsksAsRead, AsksFor, AsksIfFaultless, IsAmong, IsNumber, Operands, TakesMarked, TakesPlain, commands}
 use Rattle.clap.specs.declared.error.kind.ErrorKind.{ErrorKind}
 use Rattle.clap.specs.declared.error.kind.ErrorKind.TheVariants.{DisplayHelp, DisplayVersion}
 use Rattle.cfi_words.specs.HelpWords.{asks_help, asks_version}
 use Rattle.cfi_words.specs.Reading.{Reading, asks, help, if_alone, reading, reading_by, refused, request_in, told, version}
-use Rattle.cfi_words.proofs.Leaf.{cases_option, fault_from, held_after, is_flat, is_word_or_request, kind_of_word, or_else_none, plain_faults, words_read, stand}
-use Rattle.cfi_words.proofs.Numbers.{asked_of, compare_asks, compare_right, demo_asks, demo_right, harden_asks, harden_right, leaf, rewrite_asks, rewrite_right, run_asks, run_right, some_wrong, verify_asks, verify_right, wrong}
+use Rattle.cfi_words.proofs.Leaf.{AreAlike, cases_option, is_flat, is_word_or_request, kind_of_word, marked_alike, or_else_none, plain_alike, stand, words_read}
+use Rattle.cfi_words.proofs.Many.{compare_link_asks, compare_link_right, link_asks, link_right}
+use Rattle.cfi_words.proofs.Numbers.{AsksAll, compare_asks, compare_right, demo_asks, demo_right, harden_asks, harden_right, leaf, rewrite_asks, rewrite_right, run_asks, run_right, some_wrong, verify_asks, verify_right, wrong}
 
 abbrev pub app : App
 app = built command_line
@@ -30,40 +31,137 @@ abbrev pub stopped_at : Text → List Text → Walk
 stopped_at name words = record start { stopped = Some (name, words) }
 
 -- what is known of a command: its flags, its number of words, and how the walk comes to it
-record IsKnown (command : App) (name : Text) (count : ℕ) : Type 0 where
+record IsKnown (command : App) (name : Text) (has_objects : Bool) (named : ℕ) : Type 0 where
   flat : list_all is_flat (leaf command).rules ≡ true
   only : list_all is_word_or_request (leaf command).rules ≡ true
-  asks : (values : List Text) → wrong command values ≡ [] → asked_of command values ≡ Some (name ∷ values)
-  right : (values : List Text) → length values ≡ count → wrong command values ≡ []
+  asks : (values : List Text) → wrong command values ≡ [] → AsksAll command name has_objects named values
+  right : (values : List Text) → IsNumber has_objects named (length values) → wrong command values ≡ []
+  among : (values : List Text) → IsNumber has_objects named (length values) → IsAmong commands name values
   fault_is : (words : List Text) → entered_fault app (Some (name, words)) ≡ level_fault (leaf command) [] nothing_held words false []
   entered_is : (words : List Text) → entered app (Some (name, words)) ≡ Some (rows_at (leaf command) words)
   request_is : (rows : List Row) → request_in ((leaf command).name, rows) ≡ request_in (name, rows)
   begins : walked app.top.rules (names_of app) start name ≡ stopped_at name []
   quiet : turn_fault app.top (names_of app) start name ≡ []
 
-rewrite_known : IsKnown rewrite (codes "rewrite") 6
+rewrite_known : IsKnown rewrite (codes "rewrite") false 6
 unfolding clap_on_literals
-rewrite_known = record { flat = refl; only = refl; asks = rewrite_asks; right = rewrite_right; fault_is = λ words. refl; entered_is = λ words. refl; request_is = λ rows. refl; begins = refl; quiet = refl }
+rewrite_known = record {
+  flat = refl;
+  only = refl;
+  asks = rewrite_asks;
+  right = rewrite_right;
+  among = λ values number. inl (refl, number);
+  fault_is = λ words. refl;
+  entered_is = λ words. refl;
+  request_is = λ rows. refl;
+  begins = refl;
+  quiet = refl;
+}
 
-verify_known : IsKnown verify (codes "verify") 2
+verify_known : IsKnown verify (codes "verify") false 2
 unfolding clap_on_literals
-verify_known = record { flat = refl; only = refl; asks = verify_asks; right = verify_right; fault_is = λ words. refl; entered_is = λ words. refl; request_is = λ rows. refl; begins = refl; quiet = refl }
+verify_known = record {
+  flat = refl;
+  only = refl;
+  asks = verify_asks;
+  right = verify_right;
+  among = λ values number. inr (inl (refl, number));
+  fault_is = λ words. refl;
+  entered_is = λ words. refl;
+  request_is = λ rows. refl;
+  begins = refl;
+  quiet = refl;
+}
 
-run_known : IsKnown run (codes "run") 5
+run_known : IsKnown run (codes "run") false 5
 unfolding clap_on_literals
-run_known = record { flat = refl; only = refl; asks = run_asks; right = run_right; fault_is = λ words. refl; entered_is = λ words. refl; request_is = λ rows. refl; begins = refl; quiet = refl }
+run_known = record {
+  flat = refl;
+  only = refl;
+  asks = run_asks;
+  right = run_right;
+  among = λ values number. inr (inr (inl (refl, number)));
+  fault_is = λ words. refl;
+  entered_is = λ words. refl;
+  request_is = λ rows. refl;
+  begins = refl;
+  quiet = refl;
+}
 
-compare_known : IsKnown compare (codes "compare") 7
+compare_known : IsKnown compare (codes "compare") false 7
 unfolding clap_on_literals
-compare_known = record { flat = refl; only = refl; asks = compare_asks; right = compare_right; fault_is = λ words. refl; entered_is = λ words. refl; request_is = λ rows. refl; begins = refl; quiet = refl }
+compare_known = record {
+  flat = refl;
+  only = refl;
+  asks = compare_asks;
+  right = compare_right;
+  among = λ values number. inr (inr (inr (inl (refl, number))));
+  fault_is = λ words. refl;
+  entered_is = λ words. refl;
+  request_is = λ rows. refl;
+  begins = refl;
+  quiet = refl;
+}
 
-demo_known : IsKnown demo (codes "demo") 1
+demo_known : IsKnown demo (codes "demo") false 1
 unfolding clap_on_literals
-demo_known = record { flat = refl; only = refl; asks = demo_asks; right = demo_right; fault_is = λ words. refl; entered_is = λ words. refl; request_is = λ rows. refl; begins = refl; quiet = refl }
+demo_known = record {
+  flat = refl;
+  only = refl;
+  asks = demo_asks;
+  right = demo_right;
+  among = λ values number. inr (inr (inr (inr (inl (refl, number)))));
+  fault_is = λ words. refl;
+  entered_is = λ words. refl;
+  request_is = λ rows. refl;
+  begins = refl;
+  quiet = refl;
+}
 
-harden_known : IsKnown harden (codes "harden") 7
+harden_known : IsKnown harden (codes "harden") false 7
 unfolding clap_on_literals
-harden_known = record { flat = refl; only = refl; asks = harden_asks; right = harden_right; fault_is = λ words. refl; entered_is = λ words. refl; request_is = λ rows. refl; begins = refl; quiet = refl }
+harden_known = record {
+  flat = refl;
+  only = refl;
+  asks = harden_asks;
+  right = harden_right;
+  among = λ values number. inr (inr (inr (inr (inr (inl (refl, number))))));
+  fault_is = λ words. refl;
+  entered_is = λ words. refl;
+  request_is = λ rows. refl;
+  begins = refl;
+  quiet = refl;
+}
+
+link_known : IsKnown link (codes "link") true 6
+unfolding clap_on_literals
+link_known = record {
+  flat = refl;
+  only = refl;
+  asks = link_asks;
+  right = link_right;
+  among = λ values number. inr (inr (inr (inr (inr (inr (inl (refl, number)))))));
+  fault_is = λ words. refl;
+  entered_is = λ words. refl;
+  request_is = λ rows. refl;
+  begins = refl;
+  quiet = refl;
+}
+
+compare_link_known : IsKnown compare_link (codes "compare-link") true 6
+unfolding clap_on_literals
+compare_link_known = record {
+  flat = refl;
+  only = refl;
+  asks = compare_link_asks;
+  right = compare_link_right;
+  among = λ values number. inr (inr (inr (inr (inr (inr (inr (inl (refl, number))))))));
+  fault_is = λ words. refl;
+  entered_is = λ words. refl;
+  request_is = λ rows. refl;
+  begins = refl;
+  quiet = refl;
+}
 
 -- ---- the walk after a command's name
 
@@ -90,8 +188,8 @@ top_quiet : (stop : Option (Text × List Text)) (p : Text × List Row) → enter
 unfolding clap_on_literals
 top_quiet stop p e = rw e refl
 
-module _ (command : App) (name : Text) (count : ℕ) (known : IsKnown command name count) (program : Text) (words : List Text) (plain : list_all is_plain words ≡ true)
-    (size : length words ≡ count) where
+module _ (command : App) (name : Text) (has_objects : Bool) (named : ℕ) (known : IsKnown command name has_objects named) (program : Text)
+    (words values : List Text) (same : AreAlike (leaf command) false nothing_held 1 words values) (number : IsNumber has_objects named (length values)) where
   walk_is : args_walk (name ∷ words) ≡ stopped_at name words
   walk_is = ap (λ w. fold (walked app.top.rules (names_of app)) w words) known.begins ∙ walks_on name [] words
 
@@ -99,53 +197,55 @@ module _ (command : App) (name : Text) (count : ℕ) (known : IsKnown command na
   unfolding walk_fault
   walk_quiet = ap₂ or_else known.quiet (ap (λ w. walk_fault app.top (names_of app) w words) known.begins ∙ stopped_fault app.top (names_of app) start (name, []) words)
 
-  same : (fault_from (leaf command) (stand false nothing_held 1) words ≡ wrong command words)
-      × (held_after (leaf command) (stand false nothing_held 1) words ≡ held_after (leaf command) (stand true nothing_held 1) words)
-  same = plain_faults (leaf command) known.flat words nothing_held 1 plain
-
   entered_quiet : entered_fault app (Some (name, words)) ≡ []
-  entered_quiet = known.fault_is words ∙ same.0 ∙ known.right words size
+  entered_quiet = known.fault_is words ∙ same.0 ∙ known.right values number
 
   faultless : fault_of command_line (program ∷ name ∷ words) ≡ []
   faultless = ap₂ top_fault walk_is walk_quiet
       ∙ ap₂ or_else entered_quiet (top_quiet (Some (name, words)) (rows_at (leaf command) words) (known.entered_is words))
 
-  asked_is : option_and_then request_in (subcommand_of command_line (program ∷ name ∷ words)) ≡ Some (name ∷ words)
+  asked_is : option_and_then request_in (subcommand_of command_line (program ∷ name ∷ words)) ≡ Some (name ∷ values)
   asked_is = ap (λ (w : Walk). option_and_then request_in (entered app w.stopped)) walk_is ∙ ap (option_and_then request_in) (known.entered_is words)
-      ∙ ap (λ h. request_in ((leaf command).name, finished (leaf command).rules h)) same.1 ∙ known.asks words (known.right words size)
+      ∙ ap (λ h. request_in ((leaf command).name, finished (leaf command).rules h)) same.1 ∙ (known.asks values (known.right values number)).0
 
-  plain_known : reading (program ∷ name ∷ words) ≡ asks (name ∷ words)
-  plain_known = ap (if_alone (program ∷ name ∷ words)) (ap₂ reading_by faultless asked_is)
+  known_taken : reading (program ∷ name ∷ words) ≡ asks (name ∷ values)
+  known_taken = ap (if_alone (program ∷ name ∷ words)) (ap₂ reading_by faultless asked_is)
 
--- a command's name and exactly its words, each of them plain, are taken
-pub plain_taken : (program name : Text) (words : List Text) → IsPlainRequest name words → reading (program ∷ name ∷ words) ≡ asks (name ∷ words)
-plain_taken program name words request = by request.known
-  where
-    as_named : (known : Text) → known ≡ name → reading (program ∷ known ∷ words) ≡ asks (known ∷ words) → reading (program ∷ name ∷ words) ≡ asks (name ∷ words)
-    as_named known e is = subst (λ n. reading (program ∷ n ∷ words) ≡ asks (n ∷ words)) e is
+-- words that are alike a command's after `--` are taken for these
+module _ (program name : Text) (words values : List Text)
+    (same : (s : Shape) → list_all is_flat s.rules ≡ true → AreAlike s false nothing_held 1 words values) where
+  as_known : (command : App) (known : Text) (has_objects : Bool) (named : ℕ) → IsKnown command known has_objects named
+      → (known ≡ name) × IsNumber has_objects named (length values) → reading (program ∷ name ∷ words) ≡ asks (name ∷ values)
+  as_known command known has_objects named knows is = subst (λ n. reading (program ∷ n ∷ words) ≡ asks (n ∷ values)) is.0
+      (known_taken command known has_objects named knows program words values (same (leaf command) knows.flat) is.1)
 
-    by : IsAmong commands name words → reading (program ∷ name ∷ words) ≡ asks (name ∷ words)
-    by (inl is) = as_named _ is.0 (plain_known rewrite _ 6 rewrite_known program words request.plain (sym is.1))
-    by (inr (inl is)) = as_named _ is.0 (plain_known verify _ 2 verify_known program words request.plain (sym is.1))
-    by (inr (inr (inl is))) = as_named _ is.0 (plain_known run _ 5 run_known program words request.plain (sym is.1))
-    by (inr (inr (inr (inl is)))) = as_named _ is.0 (plain_known compare _ 7 compare_known program words request.plain (sym is.1))
-    by (inr (inr (inr (inr (inl is))))) = as_named _ is.0 (plain_known demo _ 1 demo_known program words request.plain (sym is.1))
-    by (inr (inr (inr (inr (inr (inl is)))))) = as_named _ is.0 (plain_known harden _ 7 harden_known program words request.plain (sym is.1))
-    by (inr (inr (inr (inr (inr (inr no_more)))))) = absurd no_more
+  alike_taken : IsAmong commands name values → reading (program ∷ name ∷ words) ≡ asks (name ∷ values)
+  alike_taken (inl is) = as_known _ _ _ _ rewrite_known is
+  alike_taken (inr (inl is)) = as_known _ _ _ _ verify_known is
+  alike_taken (inr (inr (inl is))) = as_known _ _ _ _ run_known is
+  alike_taken (inr (inr (inr (inl is)))) = as_known _ _ _ _ compare_known is
+  alike_taken (inr (inr (inr (inr (inl is))))) = as_known _ _ _ _ demo_known is
+  alike_taken (inr (inr (inr (inr (inr (inl is)))))) = as_known _ _ _ _ harden_known is
+  alike_taken (inr (inr (inr (inr (inr (inr (inl is))))))) = as_known _ _ _ _ link_known is
+  alike_taken (inr (inr (inr (inr (inr (inr (inr (inl is)))))))) = as_known _ _ _ _ compare_link_known is
+  alike_taken (inr (inr (inr (inr (inr (inr (inr (inr no_more)))))))) = absurd no_more
 
 -- ---- words without a fault
 
 abbrev Entered : Text → List Text → Type 0
-Entered name rest = (values : List Text) × Operands rest values × (option_and_then request_in (entered app (Some (name, rest))) ≡ Some (name ∷ values))
+Entered name rest = (values : List Text) × Operands rest values × IsAmong commands name values
+    × (option_and_then request_in (entered app (Some (name, rest))) ≡ Some (name ∷ values))
 
-known_entered : (command : App) (name : Text) (count : ℕ) → IsKnown command name count → (rest : List Text)
+known_entered : (command : App) (name : Text) (has_objects : Bool) (named : ℕ) → IsKnown command name has_objects named → (rest : List Text)
     → entered_fault app (Some (name, rest)) ≡ [] → Entered name rest
-known_entered command name count known rest quiet =
-    let read = words_read (leaf command) known.flat known.only rest nothing_held 1 refl (sym (known.fault_is rest) ∙ quiet) in (
+known_entered command name has_objects named known rest quiet =
+    let read = words_read (leaf command) known.flat known.only rest false nothing_held 1 refl (sym (known.fault_is rest) ∙ quiet) in
+    let asks = known.asks read.values read.faultless in (
       read.values,
       read.operands,
+      known.among read.values asks.1,
       ap (option_and_then request_in) (known.entered_is rest)
-          ∙ ap (λ h. request_in ((leaf command).name, finished (leaf command).rules h)) read.held_is ∙ known.asks read.values read.faultless,
+          ∙ ap (λ h. request_in ((leaf command).name, finished (leaf command).rules h)) read.held_is ∙ asks.0,
     )
 
 named_as : (known name : Text) → bytes_eq known name ≡ true → known ≡ name
@@ -153,18 +253,24 @@ named_as known name e = (bytes_eq-Decides known name).0 e
 
 entered_by_name : (name : Text) (rest : List Text) → is_some (entered app (Some (name, rest))) ≡ true → entered_fault app (Some (name, rest)) ≡ [] → Entered name rest
 entered_by_name name rest has quiet = elim (cases_Bool (bytes_eq (codes "rewrite") name)) [
-  | inl e ↦ as_known _ _ _ rewrite_known (named_as _ name e)
+  | inl e ↦ as_known _ _ _ _ rewrite_known (named_as _ name e)
   | inr one ↦ elim (cases_Bool (bytes_eq (codes "verify") name)) [
-    | inl e ↦ as_known _ _ _ verify_known (named_as _ name e)
+    | inl e ↦ as_known _ _ _ _ verify_known (named_as _ name e)
     | inr two ↦ elim (cases_Bool (bytes_eq (codes "run") name)) [
-      | inl e ↦ as_known _ _ _ run_known (named_as _ name e)
+      | inl e ↦ as_known _ _ _ _ run_known (named_as _ name e)
       | inr three ↦ elim (cases_Bool (bytes_eq (codes "compare") name)) [
-        | inl e ↦ as_known _ _ _ compare_known (named_as _ name e)
+        | inl e ↦ as_known _ _ _ _ compare_known (named_as _ name e)
         | inr four ↦ elim (cases_Bool (bytes_eq (codes "demo") name)) [
-          | inl e ↦ as_known _ _ _ demo_known (named_as _ name e)
+          | inl e ↦ as_known _ _ _ _ demo_known (named_as _ name e)
           | inr five ↦ elim (cases_Bool (bytes_eq (codes "harden") name)) [
-            | inl e ↦ as_known _ _ _ harden_known (named_as _ name e)
-            | inr six ↦ let bad : false ≡ true = rw (one, two, three, four, five, six) at has in absurd (cc)
+            | inl e ↦ as_known _ _ _ _ harden_known (named_as _ name e)
+            | inr six ↦ elim (cases_Bool (bytes_eq (codes "link") name)) [
+              | inl e ↦ as_known _ _ _ _ link_known (named_as _ name e)
+              | inr seven ↦ elim (cases_Bool (bytes_eq (codes "compare-link") name)) [
+                | inl e ↦ as_known _ _ _ _ compare_link_known (named_as _ name e)
+                | inr eight ↦ let bad : false ≡ true = rw (one, two, three, four, five, six, seven, eight) at has in absurd (cc)
+              ]
+            ]
           ]
         ]
       ]
@@ -172,8 +278,9 @@ entered_by_name name rest has quiet = elim (cases_Bool (bytes_eq (codes "rewrite
   ]
 ]
   where
-    as_known : (command : App) (known : Text) (count : ℕ) → IsKnown command known count → known ≡ name → Entered name rest
-    as_known command known count is e = subst (λ n. entered_fault app (Some (n, rest)) ≡ [] → Entered n rest) e (known_entered command known count is rest) quiet
+    as_known : (command : App) (known : Text) (has_objects : Bool) (named : ℕ) → IsKnown command known has_objects named → known ≡ name → Entered name rest
+    as_known command known has_objects named is e =
+        subst (λ n. entered_fault app (Some (n, rest)) ≡ [] → Entered n rest) e (known_entered command known has_objects named is rest) quiet
 
 abbrev has_no_alias : Text × List Text → Bool
 has_no_alias (name, []) = true
@@ -206,12 +313,12 @@ unfolding walked
 walked_met word n met = rw met refl
 
 -- after `--` no command is met
-none_after_mark : (rest : List Text) (p : Text × List Text) → walk_fault app.top (names_of app) (stand true nothing_held 1) rest ≡ []
-    → (fold (walked app.top.rules (names_of app)) (stand true nothing_held 1) rest).stopped ≡ Some p → ⊥
+none_after_mark : (rest : List Text) (p : Text × List Text) → walk_fault app.top (names_of app) (stand false true nothing_held 1) rest ≡ []
+    → (fold (walked app.top.rules (names_of app)) (stand false true nothing_held 1) rest).stopped ≡ Some p → ⊥
 unfolding walk_fault
 none_after_mark [] p quiet stop = absurd (cc)
-none_after_mark (word ∷ rest) p quiet stop = some_wrong (or_else_none (turn_fault app.top (names_of app) (stand true nothing_held 1) word)
-    (walk_fault app.top (names_of app) (walked app.top.rules (names_of app) (stand true nothing_held 1) word) rest) quiet).0
+none_after_mark (word ∷ rest) p quiet stop = some_wrong (or_else_none (turn_fault app.top (names_of app) (stand false true nothing_held 1) word)
+    (walk_fault app.top (names_of app) (walked app.top.rules (names_of app) (stand false true nothing_held 1) word) rest) quiet).0
 
 args_are : (args : List Text) (p : Text × List Text) → args_fault args ≡ [] → (args_walk args).stopped ≡ Some p → args ≡ p.0 ∷ p.1
 unfolding walk_fault
@@ -229,7 +336,7 @@ args_are (word ∷ rest) p quiet stop = elim (cases_option (subcommand_met (name
   where
     apart : subcommand_met (names_of app) idle word ≡ None → turn_fault app.top (names_of app) start word ≡ []
         → walk_fault app.top (names_of app) (walked app.top.rules (names_of app) start word) rest ≡ [] → word ∷ rest ≡ p.0 ∷ p.1
-    apart none here later = elim (kind_of_word app.top refl refl nothing_held 1 word refl (sym (turn_apart word none) ∙ here)) [
+    apart none here later = elim (kind_of_word app.top refl refl false nothing_held 1 word refl (sym (turn_apart word none) ∙ here)) [
       | inl mark ↦
           let next = walked_apart word none ∙ mark.1 in
           absurd (none_after_mark rest p (ap (λ w. walk_fault app.top (names_of app) w rest) (sym next) ∙ later)
@@ -254,7 +361,8 @@ by_stop (program ∷ args) (Some (name, rest)) none quiet is faults has =
       values = entered_as.0;
       words_are = ap (λ ws. program ∷ ws) (args_are args (name, rest) quiet is);
       operands = entered_as.1;
-      reading_is = ap (if_alone (program ∷ args)) (ap₂ reading_by none (ap (λ s. option_and_then request_in (entered app s)) is ∙ entered_as.2));
+      known = entered_as.2;
+      reading_is = ap (if_alone (program ∷ args)) (ap₂ reading_by none (ap (λ s. option_and_then request_in (entered app s)) is ∙ entered_as.3));
     }
 
 pub asks_if_faultless : (words : List Text) → AsksIfFaultless words
@@ -291,4 +399,9 @@ asks_as_read words = λ request e.
     asks_if_faultless words (no_kinds words (fault_of command_line words) (option_and_then request_in (subcommand_of command_line words)) request e)
 
 pub takes_plain : (words : List Text) → TakesPlain words
-takes_plain words program name own request is = subst (λ ws. reading ws ≡ asks (name ∷ own)) (sym is) (plain_taken program name own request)
+takes_plain words program name own request is = subst (λ ws. reading ws ≡ asks (name ∷ own)) (sym is)
+    (alike_taken program name own own (λ s flat. plain_alike s flat own false nothing_held 1 request.plain) request.known)
+
+pub takes_marked : (words : List Text) → TakesMarked words
+takes_marked words program name before after known plain is = subst (λ ws. reading ws ≡ asks (name ∷ before ++ after)) (sym is)
+    (alike_taken program name (before ++ codes "--" ∷ after) (before ++ after) (λ s flat. marked_alike s flat before after false nothing_held 1 plain) known)

@@ -6,7 +6,7 @@ use Rattle.clap.specs.Words.{Text}
 abbrev pub is_command : Text → Bool
 is_command name =
     bytes_eq name (codes "rewrite") || bytes_eq name (codes "verify") || bytes_eq name (codes "run") || bytes_eq name (codes "compare")
-    || bytes_eq name (codes "demo") || bytes_eq name (codes "harden")
+    || bytes_eq name (codes "demo") || bytes_eq name (codes "harden") || bytes_eq name (codes "link") || bytes_eq name (codes "compare-link")
 
 abbrev pub is_help : Text → Bool
 is_help word = bytes_eq word (codes "-h") || bytes_eq word (codes "--help")

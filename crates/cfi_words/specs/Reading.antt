@@ -1,21 +1,24 @@
 -- What the words of a command line are read as. Whether they are taken, and what the words of a command are, is what `clap`'s own
 -- definition says of the command line at these words; but help and the version are told only where nothing else is asked for.
-use Rattle.std.specs.Prelude.{◌≡◌, ◌≢◌, ⊤, List, [], ◌∷◌, map, codes, Option, Some, None, option_map, option_and_then, Result, Ok, Err, if◌then◌else◌, String, string_bytes}
+use Rattle.std.specs.Prelude.{◌≡◌, ◌≢◌, ⊤, List, [], ◌∷◌, ◌++◌, map, codes, Option, Some, None, option_map, option_and_then, Result, Ok, Err, if◌then◌else◌, String, string_bytes}
 use Rattle.std.specs.Str.{bytes_eq}
 use Rattle.std.specs.declared.alloc.Global.{Global}
-use Rattle.clap.specs.Words.{Kinds, Row, Text, fault_of, first_of, subcommand_of}
+use Rattle.clap.specs.Words.{Kinds, Row, Text, all_of, fault_of, first_of, subcommand_of}
+use Rattle.clap.specs.Walk.{texts}
 use Rattle.clap.specs.declared.error.kind.ErrorKind.{ErrorKind}
 use Rattle.clap.specs.declared.error.kind.ErrorKind.TheVariants.{DisplayHelp, DisplayVersion, OutOfMemory}
-use Rattle.cfi_words.specs.CommandLine.{command_line, compare_operands, demo_operands, harden_operands, rewrite_operands, run_operands, verify_operands}
+use Rattle.cfi_words.specs.CommandLine.{command_line, compare_link_operands, compare_operands, demo_operands, harden_operands, link_operands, rewrite_operands, run_operands, verify_operands}
 use Rattle.cfi_words.specs.HelpWords.{asks_help, asks_version}
 use Rattle.cfi_words.specs.declared.asked.Asked.{Asked}
-use Rattle.cfi_words.specs.declared.asked.Asked.TheVariants.{Rewrite, Verify, Run, Compare, Demo, Harden}
+use Rattle.cfi_words.specs.declared.asked.Asked.TheVariants.{Rewrite, Verify, Run, Compare, Demo, Harden, Link, CompareLink}
 use Rattle.cfi_words.specs.declared.asked.RewriteWords.{RewriteWords}
 use Rattle.cfi_words.specs.declared.asked.VerifyWords.{VerifyWords}
 use Rattle.cfi_words.specs.declared.asked.RunWords.{RunWords}
 use Rattle.cfi_words.specs.declared.asked.CompareWords.{CompareWords}
 use Rattle.cfi_words.specs.declared.asked.DemoWords.{DemoWords}
 use Rattle.cfi_words.specs.declared.asked.HardenWords.{HardenWords}
+use Rattle.cfi_words.specs.declared.asked.LinkWords.{LinkWords}
+use Rattle.cfi_words.specs.declared.asked.CompareLinkWords.{CompareLinkWords}
 use Rattle.cfi_words.specs.declared.end.WordsEnd.{WordsEnd}
 use Rattle.cfi_words.specs.declared.end.WordsEnd.TheVariants.{Help, Version, Refused, NoMemory}
 
@@ -42,6 +45,11 @@ listed_in operands rows = gathered (map (λ operand. first_of operand rows) oper
 abbrev pub request : Text → List Text → List Row → Option (List Text)
 request name operands rows = option_map (λ words. name ∷ words) (listed_in operands rows)
 
+-- the same, with the objects behind them
+abbrev pub request_with_objects : Text → List Text → List Row → Option (List Text)
+request_with_objects name operands rows =
+    option_and_then (λ objects. option_map (λ words. name ∷ words ++ objects) (listed_in operands rows)) (all_of (codes "OBJECT") rows)
+
 -- a command's name and its words, as they stand in what was matched
 abbrev pub request_in : Text × List Row → Option (List Text)
 request_in (name, rows) =
@@ -50,7 +58,9 @@ request_in (name, rows) =
     if bytes_eq name (codes "run") then request (codes "run") run_operands rows else
     if bytes_eq name (codes "compare") then request (codes "compare") compare_operands rows else
     if bytes_eq name (codes "demo") then request (codes "demo") demo_operands rows else
-    if bytes_eq name (codes "harden") then request (codes "harden") harden_operands rows else None
+    if bytes_eq name (codes "harden") then request (codes "harden") harden_operands rows else
+    if bytes_eq name (codes "link") then request_with_objects (codes "link") link_operands rows else
+    if bytes_eq name (codes "compare-link") then request_with_objects (codes "compare-link") compare_link_operands rows else None
 
 -- what an error of this kind tells
 abbrev pub told : ErrorKind → Reading
@@ -100,6 +110,12 @@ demo_listed w = w.number.now ∷ []
 abbrev pub harden_listed : HardenWords → List Text
 harden_listed w = w.form.now ∷ rewrite_listed w.rewrite
 
+abbrev pub link_listed : LinkWords → List Text
+link_listed w = w.form.now ∷ w.entry.now ∷ w.policy.now ∷ w.image.now ∷ w.graph.now ∷ w.map.now ∷ texts w.objects.items
+
+abbrev pub compare_link_listed : CompareLinkWords → List Text
+compare_link_listed w = w.entry.now ∷ w.policy.now ∷ w.image.now ∷ w.map.now ∷ w.input.now ∷ w.steps.now ∷ texts w.objects.items
+
 -- the name of a command and its words
 abbrev pub request_of : Asked → List Text
 request_of (Rewrite w) = codes "rewrite" ∷ rewrite_listed w
@@ -108,6 +124,8 @@ request_of (Run w) = codes "run" ∷ run_listed w
 request_of (Compare w) = codes "compare" ∷ compare_listed w
 request_of (Demo w) = codes "demo" ∷ demo_listed w
 request_of (Harden w) = codes "harden" ∷ harden_listed w
+request_of (Link w) = codes "link" ∷ link_listed w
+request_of (CompareLink w) = codes "compare-link" ∷ compare_link_listed w
 
 -- the result is what words with this reading come to, or memory was wanting
 abbrev pub Gives : Reading → Result Asked WordsEnd → Type 0

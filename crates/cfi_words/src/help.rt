@@ -12,7 +12,7 @@ fn is_command(name: &str) -> bool
 {
     matches!(
         name,
-        "rewrite" | "verify" | "run" | "compare" | "demo" | "harden"
+        "rewrite" | "verify" | "run" | "compare" | "demo" | "harden" | "link" | "compare-link"
     )
 }
 

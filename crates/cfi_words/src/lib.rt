@@ -2,7 +2,10 @@
 //! that the words are not taken.
 #![tactic(auto)]
 
-pub use asked::{Asked, CompareWords, DemoWords, HardenWords, RewriteWords, RunWords, VerifyWords};
+pub use asked::{
+    Asked, CompareLinkWords, CompareWords, DemoWords, HardenWords, LinkWords, RewriteWords,
+    RunWords, VerifyWords,
+};
 pub use end::WordsEnd;
 pub use read::read_words;
 

@@ -1,5 +1,5 @@
 -- A generated object without a fault, whose code has room, is not refused.
-use Rattle.std.proofs.Common.{◌≡◌, ℕ, ◌≤◌, Some, None, List, codes, length, refl, sym, ap, subst, ◌∙◌, arith}
+use Rattle.std.proofs.Common.{◌≡◌, ℕ, ◌≤◌, Some, None, inl, inr, List, codes, length, refl, sym, ap, subst, ◌∙◌, arith}
 use Rattle.std.proofs.lemmas.List.{length-map}
 use Rattle.rv_word.specs.MemoryMap.{CODE_SIZE}
 use Rattle.rv_word.specs.Form.{graph_version}
@@ -20,10 +20,13 @@ use Rattle.cfi_gen.specs.Demo.{demo_parts, parts_with}
 use Rattle.cfi_gen.specs.Drawing.{functions_from}
 use Rattle.gen_program.specs.Generated.{IsGenerated}
 use Rattle.gen_program.proofs.Reading.{generated_is}
+use Rattle.cfi_harden.specs.declared.refusal.Refusal.{Refusal}
 use Rattle.cfi_harden.specs.declared.refusal.Refusal.TheVariants.{Object, Items, NoEntry, Policy, CodeTooLarge, DataTooLarge, RelocRange}
+use Rattle.cfi_harden.specs.Given.{RefusesGiven, alone}
 use Rattle.cfi_harden.specs.Hardened.{HasDataRoom}
 use Rattle.cfi_harden.specs.Prepared.{IsPreparedOf, PreparedParts}
-use Rattle.cfi_harden.specs.Request.{program_in, program_request}
+use Rattle.cfi_harden.specs.Refused.{RefusesProgram}
+use Rattle.cfi_harden.specs.Request.{program_request}
 use Rattle.cfi_map.specs.GraphAtMap.{ProgramAtMap, words_at}
 use Rattle.cfi_map.specs.Sizes.{whole_size}
 use Rattle.gen_hardened.specs.Laws.{DemoIsNeverRefused, IsNeverRefused, entered}
@@ -39,14 +42,14 @@ use Rattle.gen_hardened.proofs.Small.{AreSmall, small_functions}
 
 -- its code has room, whatever its graph of one side
 abbrev pub HasCodeRoom : List ℕ → Type 0
-HasCodeRoom object = (closed : ClosedGraph) → length closed.sides ≡ 1 → whole_size Plain (program_in object) closed ≤ CODE_SIZE
+HasCodeRoom object = (closed : ClosedGraph) → length closed.sides ≡ 1 → whole_size Plain (program_of (input_of object)) closed ≤ CODE_SIZE
 
 module _ (fs : List Function) (small : AreSmall fs) (object : List ℕ) (holds : Holds (parts_with fs) object)
     (sound : fault_of (input_of object) ≡ None) (room : HasCodeRoom object) where
   is_generated : IsGenerated fs (input_of object)
   is_generated = generated_is fs object holds
 
-  main_there : entry_place (program_in object) (codes "main") ≡ Some 0
+  main_there : entry_place (program_of (input_of object)) (codes "main") ≡ Some 0
   main_there = entered_at_main is_generated
 
   -- graphs of version 1 have one side
@@ -68,23 +71,33 @@ module _ (fs : List Function) (small : AreSmall fs) (object : List ℕ) (holds :
   none_astray p is gates words =
       ap (λ (x : Program). out_of_range x gates words) is.program ∙ all_in_range is_generated small sound gates words
 
-  pub nothing_refused : IsNeverRefused (entered object)
-  nothing_refused (Object fault) stands = let none = holds.sound in cc
-  nothing_refused (Items fault) stands = let some = stands.1 in cc
-  nothing_refused NoEntry stands = let none = stands.1 in let some = main_there in cc
-  nothing_refused (Policy n) stands = no_wrong_line (program_in object) n stands.1.1
-  nothing_refused (CodeTooLarge bytes) (program, (p, is, refused)) =
+  -- it is a program
+  object_taken : (refusal : Refusal) → RefusesGiven (alone object) refusal → ⊥
+  object_taken (Object fault) stands = let none = holds.sound in cc
+  object_taken (Items fault) stands = let some = stands.1 in cc
+  object_taken other stands = absurd stands
+
+  -- which is not refused
+  program_taken : (refusal : Refusal) → RefusesProgram (program_request (entered object)) refusal → ⊥
+  program_taken NoEntry none = let some = main_there in cc
+  program_taken (Policy n) stands = no_wrong_line (program_of (input_of object)) n stands.1
+  program_taken (CodeTooLarge bytes) (p, is, refused) =
       let fits = code_room p is in
       let bytes_are = refused.0 in
       let more = refused.1 in
       omega arith
-  nothing_refused (DataTooLarge init end) (program, (p, is, refused)) = refused.3 (room_there p is)
-  nothing_refused (RelocRange section offset) (program, (p, is, refused)) =
+  program_taken (DataTooLarge init end) (p, is, refused) = refused.3 (room_there p is)
+  program_taken (RelocRange section offset) (p, is, refused) =
       let layout = refused.0.layout in
       let none = subst (λ (x : Program). out_of_range x layout.gates (words_at layout) ≡ None) (sym (ap (λ (l : ProgramAtMap). l.program) refused.1.of))
       (none_astray p is layout.gates (words_at layout)) in
       let some = refused.3 in
       absurd (cc)
+  program_taken other stands = absurd stands
+
+  pub nothing_refused : IsNeverRefused (entered object)
+  nothing_refused refusal (inl stands) = object_taken refusal stands
+  nothing_refused refusal (inr (given, stands)) = program_taken refusal stands
 
 -- the object of each number, where it holds its parts, has no fault, and its code has room
 pub demo_never_refused : ((number : ℕ) → Holds (demo_parts number) (object_bytes (demo_parts number)))

@@ -4,12 +4,13 @@ use Rattle.rv_word.specs.declared.form.Form.TheVariants.{Plain}
 use Rattle.elf_writer.specs.Object.{object_bytes}
 use Rattle.cfi_gen.specs.Demo.{demo_parts}
 use Rattle.cfi_harden.specs.declared.refusal.Refusal.{Refusal}
+use Rattle.cfi_harden.specs.Given.{alone}
 use Rattle.cfi_harden.specs.Refused.{Refuses}
 use Rattle.cfi_harden.specs.Request.{Request}
 
 -- an object that is entered at `main`, without a policy
 abbrev pub entered : List ℕ → Request
-entered object = record { form = Plain; object = object; entry = codes "main"; policy = None }
+entered object = record { form = Plain; given = alone object; entry = codes "main"; policy = None }
 
 -- nothing stands against a request
 abbrev pub IsNeverRefused : Request → Type 0

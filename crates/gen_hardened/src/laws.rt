@@ -2,7 +2,6 @@
 ghost use Rattle.gen_hardened.specs.Laws.{DemoIsNeverRefused};
 
 /// The object of each number is hardened where there is memory, entered at `main` and without a policy.
-#[tactic(auto, using(crate::proofs::NothingRefused::never_refused))]
 pub fn demo_is_never_refused()
     ensures { DemoIsNeverRefused }
 {}

@@ -5,9 +5,9 @@ use Rattle.cfi_graph.specs.MapText.{map_of}
 use Rattle.cfi_commands.proofs.compare.compare_bytes.Goals as goal
 
 pub returns-in-Ok : goal.returns-in-Ok
-returns-in-Ok c = c.compare_object.ensures c.args.map.now c.in-Ok.ensures.exact
+returns-in-Ok c = c.compare_given.ensures c.args.map.now c.in-Ok.ensures.exact
 
 pub returns-in-Err-Line : goal.returns-in-Err-Line
 returns-in-Err-Line c =
     let text = c.args.map.now in
-    c.after_the_object.ensures text c.args.input.now (subst (λ (e : TextEnd). Answers (Err e) (map_of text)) c.in-Err-Line.field-0-is c.in-Err-Line.ensures.exact)
+    c.after_the_objects.ensures text c.args.input.now (subst (λ (e : TextEnd). Answers (Err e) (map_of text)) c.in-Err-Line.field-0-is c.in-Err-Line.ensures.exact)

@@ -5,11 +5,10 @@ use Rattle.cfi_rules.specs.Rules.{IsWellFormed}
 use Rattle.cfi_harden.specs.Hardened.{HardenedParts}
 use Rattle.cfi_harden.specs.Request.{program_request}
 use Rattle.gen_hardened.specs.Laws.{entered}
+use Rattle.cfi_report.specs.SafeRun.{IsSafeRun, undisturbed_script}
 use Rattle.cfi_commands.specs.Demo.{STEP_LIMIT}
 use Rattle.cfi_commands.specs.Demonstration.{IsImageIn}
-use Rattle.cfi_commands.specs.Opening.{undisturbed_script}
 use Rattle.cfi_commands.specs.Rewrite.{IsMade}
-use Rattle.cfi_commands.specs.Run.{IsSafeRun}
 use Rattle.cfi_commands.proofs.Demonstrated.{can_run, form_of_map, is_well_formed, none_differs}
 use Rattle.cfi_commands.proofs.demo.of_hardened.Goals as goal
 

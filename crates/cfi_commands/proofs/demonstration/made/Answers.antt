@@ -3,7 +3,7 @@ use Rattle.cfi_harden.specs.Refused.{HardensProgram}
 use Rattle.cfi_harden.specs.Request.{program_request}
 use Rattle.cfi_harden.specs.declared.refusal.HardenEnd.{HardenEnd}
 use Rattle.cfi_harden.specs.declared.refusal.HardenEnd.TheVariants as ends
-use Rattle.cfi_harden.proofs.Preparing.{hardens_object}
+use Rattle.cfi_harden.proofs.Preparing.{hardens_given}
 use Rattle.gen_hardened.specs.Laws.{entered}
 use Rattle.cfi_commands.proofs.Demonstrated.{unrefused}
 use Rattle.cfi_commands.proofs.demonstration.made.Goals as goal
@@ -17,7 +17,7 @@ unreachable-requires c =
     let request = entered object in
     let refusal = c.in-Err-Refused.field-0-0 in
     unrefused c.demo_is_never_refused.ensures object ready.drawn refusal
-    (hardens_object request (Err (ends.Refused refusal)) ready.prepared.0
+    (hardens_given request (Err (ends.Refused refusal)) ready.prepared.0
     (subst (λ (e : HardenEnd). HardensProgram (program_request request) (Err e)) c.in-Err-Refused.field-0-is
     (c.in-Err-Refused.ensures.hardens (program_request request) ready.prepared.1)))
 

@@ -1,7 +1,13 @@
+use Rattle.std.proofs.Common.{rules}
 use Rattle.std.specs.Prelude.{option_copied}
-use Rattle.cfi_commands.proofs.Sources.{not_roomy}
+use Rattle.cfi_harden.specs.Request.{Request}
+use Rattle.cfi_commands.specs.Compare.{IsRoomyEnd}
+use Rattle.cfi_commands.specs.Objects.{given_by}
+use Rattle.cfi_commands.proofs.Sources.{not_given}
 use Rattle.cfi_commands.proofs.source.roomy.Goals as goal
 
-pub returns-in-Err-clause-refused : goal.returns-in-Err-clause-refused
-returns-in-Err-clause-refused c =
-    not_roomy (record { form = c.args.form; object = c.args.object.now; entry = c.args.entry.now; policy = option_copied c.args.policy }) c.in-Err.end c.in-Err.ensures
+pub returns-in_err-items : goal.returns-in_err-items
+returns-in_err-items c =
+    let request : Request = record { form = c.args.form; given = given_by c.args.given; entry = c.args.entry.now; policy = option_copied c.args.policy } in
+    let end : IsRoomyEnd request c.in_err-items.field-0.0 = not_given request c.in_err-items.field-0.0 c.in_err-items.ensures in
+    search rules

@@ -1,0 +1,80 @@
+//! The program that several objects are.
+
+ghost use Rattle.std.specs.Prelude.{◌≡◌, ◌<◌, ◌^◌, [], length, map};
+ghost use Rattle.cfi_harden.specs.Joining.{AddsAll, Finishes, IsAdding, IsNear, told};
+ghost use Rattle.cfi_harden.specs.Preparing.{Joins};
+
+use crate::refusal::Refusal;
+use obj_items::{Join, JoinEnd};
+use obj_program::Items;
+use std::alloc::Global;
+
+/// Why several objects are not a program.
+#[derive(Clone, Copy)]
+pub enum JoinedEnd<'a> {
+    /// This stands against it.
+    Refused(Refusal),
+    /// Two global symbols of this name are defined. It comes after what stands against an object, and before what stands
+    /// against instructions and relocations.
+    Duplicate(&'a [u8]),
+    /// There was no memory.
+    NoMemory,
+}
+
+/// What the end of a join is told as, where the last object that came to it has this number, from 1.
+fn told<'a>(end: JoinEnd<'a>, number: u64) -> JoinedEnd<'a>
+    requires { IsNear end }
+    ensures { result ≡ told number end.entry }
+{
+    match end {
+        JoinEnd::Object(fault) => JoinedEnd::Refused(Refusal::ObjectIn(fault, number)),
+        JoinEnd::TooManySections(count) => JoinedEnd::Refused(Refusal::TooManySections(count)),
+        JoinEnd::Duplicate(name) => JoinedEnd::Duplicate(name),
+        JoinEnd::Items(fault) => JoinedEnd::Refused(Refusal::Items(fault)),
+        JoinEnd::Undefined(object, symbol) => {
+            JoinedEnd::Refused(Refusal::UndefinedIn(symbol, object + 1))
+        }
+        JoinEnd::NoMemory => JoinedEnd::NoMemory,
+    }
+}
+
+/// Puts the object with this number behind the others.
+fn add<'a>(join: &mut Join<'a>, object: &'a [u8], number: u64) -> Result<(), JoinedEnd<'a>>
+    ensures { IsAdding number join.old object.now result join.new }
+{
+    match join.add(object) {
+        Ok(()) => Ok(()),
+        Err(end) => Err(told(end, number)),
+    }
+}
+
+/// Puts objects, one behind another, into a join that has none.
+fn add_all<'a>(join: &mut Join<'a>, objects: &'a [Vec<u8>]) -> Result<(), JoinedEnd<'a>>
+    requires { join.old ≡ [] }
+    ensures { AddsAll (map (λ object. object.items) objects.now) result join.new }
+{
+    for (index, object) in objects.iter().enumerate() {
+        add(join, object.as_slice(), index as u64 + 1)?;
+    }
+    Ok(())
+}
+
+/// The program that the objects of a join are.
+fn finished<'a>(join: Join<'a>, count: u64) -> Result<Items<'a>, JoinedEnd<'a>>
+    requires { length join < 2 ^ 63 }
+    ensures { Finishes join.entry result }
+{
+    match join.finish() {
+        Ok(items) => Ok(items),
+        Err(end) => Err(told(end, count)),
+    }
+}
+
+/// The program that several objects are, by the bytes of their files, or the first that stands against that.
+pub fn joined_program<'a>(alloc: Global, objects: &'a [Vec<u8>]) -> Result<Items<'a>, JoinedEnd<'a>>
+    ensures { Joins (map (λ object. object.items) objects.now) result }
+{
+    let mut join = Join::new(alloc);
+    add_all(&mut join, objects)?;
+    finished(join, objects.len() as u64)
+}

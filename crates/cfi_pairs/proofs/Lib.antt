@@ -1,0 +1,3 @@
+mod OneImage
+pub mod ScriptHarts
+pub mod Complete

@@ -1,0 +1,4 @@
+pub mod Opening
+pub mod Verify
+pub mod Run
+pub mod Complete

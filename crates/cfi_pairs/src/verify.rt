@@ -1,0 +1,112 @@
+ghost use Rattle.std.specs.Prelude.{◌≡◌, IfOk, IfErr, option_map, ◌∷◌, []};
+ghost use Rattle.tool_io.specs.Reading.{CountsReads, IsOnlyRead};
+ghost use Rattle.cfi_files.specs.Reads.{IsFault, IsStop, IsTooLong};
+ghost use Rattle.cfi_pairs.specs.Verify.{ExplainsVerdict, IsJudgement, IsVerdictOf, verdict_status, verify_asked, verify_names, verify_words};
+
+use crate::opening::{OpenEnd, Pair, open_pair};
+use cfi_files::{Refusal, Stop, read_all, status};
+use cfi_verify::{Reject, VerifyEnd, verify};
+use cfi_words::VerifyWords;
+use rv_word::NoMemory;
+use std::alloc::Global;
+use std::fmt;
+use tool_io::Files;
+
+/// What `verify` is asked for: the names of an image and of its graph.
+#[derive(Clone, Copy)]
+pub struct VerifyRequest<'a> {
+    image: &'a str,
+    graph: &'a str,
+}
+
+impl<'a> VerifyRequest<'a> {
+    /// What the words after the command ask for.
+    pub fn of(words: VerifyWords<'a>) -> Self
+        ensures { Some (verify_asked result) ≡ verify_words (words.entry.image.now ∷ words.entry.graph.now ∷ []) }
+    {
+        VerifyRequest {
+            image: words.image,
+            graph: words.graph,
+        }
+    }
+}
+
+/// What is said of a file that should be an image and one that should be its graph.
+#[derive(Clone, Copy)]
+pub enum Verdict {
+    /// They are an image and its graph, and the image meets every rule.
+    Accepted,
+    /// One of them is not what it should be: the image, or else the graph.
+    Refused(Refusal),
+    /// The image breaks a rule: the first that fails.
+    Rejected(Reject),
+}
+
+impl Verdict {
+    /// The status with which the program ends.
+    pub fn status(&self) -> u8
+        ensures { result ≡ verdict_status self.now }
+    {
+        match self {
+            Verdict::Accepted => status::WELL,
+            Verdict::Refused(_) | Verdict::Rejected(_) => status::REFUSED,
+        }
+    }
+}
+
+impl fmt::Display for Verdict {
+    ghost use Rattle.std.specs.Prelude.{Some};
+    ghost use Rattle.cfi_pairs.specs.Verify.{verdict_line};
+
+    ghost output = { λ verdict. Some (verdict_line verdict) };
+
+    fn fmt<W: fmt::Write>(&self, f: &mut fmt::Formatter<W>) -> fmt::Result {
+        match self {
+            Verdict::Accepted => write!(f, "accepted"),
+            Verdict::Refused(refusal) => write!(f, "{refusal}"),
+            Verdict::Rejected(reject) => write!(f, "rejected {reject}"),
+        }
+    }
+}
+
+/// The verdict on an image and its graph.
+fn judge(alloc: Global, pair: &Pair<'_>) -> Result<Verdict, NoMemory>
+    ensures { IfOk result (IsJudgement pair.now.image pair.now.graph) }
+{
+    match verify(alloc, &pair.image, &pair.graph) {
+        Ok(_checked) => Ok(Verdict::Accepted),
+        Err(VerifyEnd::Reject(reject)) => Ok(Verdict::Rejected(reject)),
+        Err(VerifyEnd::NoMemory) => Err(NoMemory),
+    }
+}
+
+/// The verdict on the bytes of an image and of its graph, whose text is let go once it is read.
+fn verdict_of(alloc: Global, image: &[u8], graph: Vec<u8>) -> Result<Verdict, NoMemory>
+    ensures { IfOk result (IsVerdictOf image.now graph.items) }
+{
+    let opened = open_pair(alloc, image, &graph);
+    drop(graph);
+    match opened {
+        Ok(pair) => judge(alloc, &pair),
+        Err(OpenEnd::Refused(refusal)) => Ok(Verdict::Refused(refusal)),
+        Err(OpenEnd::NoMemory) => Err(NoMemory),
+    }
+}
+
+/// Reads an image and its graph, and says whether they go together.
+pub fn verify_files<'a, F: Files>(
+    alloc: Global,
+    request: &VerifyRequest<'a>,
+    files: &mut F,
+) -> Result<Verdict, Stop<'a>>
+    ensures explained { IfOk result (ExplainsVerdict (F.content files.old) (verify_asked request.now)) }
+    ensures stopped { IfErr result
+        (IsStop (F.content files.old) (F.failed_name files.new) (verify_names (verify_asked request.now))) }
+    ensures only_read { IsOnlyRead F.Files files.old files.new }
+    ensures counted { CountsReads F.Files files.old files.new (IsFault result) (IsTooLong result) }
+{
+    let names = [Some(request.image), Some(request.graph)];
+    let mut bytes = read_all(alloc, &names, files)?;
+    let graph = bytes.remove(1);
+    Ok(verdict_of(alloc, &bytes[0], graph)?)
+}

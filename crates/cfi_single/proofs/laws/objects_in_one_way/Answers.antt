@@ -1,5 +1,0 @@
-use Rattle.cfi_single.proofs.Objects.{in_one_way}
-use Rattle.cfi_single.proofs.laws.objects_in_one_way.Goals as goal
-
-pub returns : goal.returns
-returns c = in_one_way
