@@ -408,11 +408,15 @@ def is_small(row, form):
 
 def differences(tool, path, entry, folder):
     """The forms in which the program makes something else of an object, and what."""
+    yield from unlike(Source(Path(path).read_bytes()), entry, folder, lambda form, files: [tool, "harden", form, path, entry, "none", *files])
+
+
+def unlike(source, entry, folder, command):
+    """The forms in which a command makes something else, and what."""
     import programs
-    source = Source(Path(path).read_bytes())
     for form in FORMS:
         files = [os.path.join(folder, name) for name in ("image", "graph", "map")]
-        done = programs.run([tool, "harden", form, path, entry, "none", *files])
+        done = programs.run(command(form, files))
         made = Hardening(source, entry, form)
         got = [done.stdout] + [Path(file).read_bytes() if os.path.exists(file) else b"" for file in files]
         for name, one, other in zip(("text", "image", "graph", "map"), got, (made.told(), made.image, made.graph, made.map)):

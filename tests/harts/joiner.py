@@ -1,5 +1,22 @@
-"""What several objects are as one program, by the System V gABI, for tests/objects/make_links.py."""
+#!/usr/bin/env python3
+"""Joins objects by docs/COMMANDS.md and the System V gABI alone, hardens what they are in each form, and compares the images, the
+graphs and the maps with those of `rvcfi link`, byte for byte.
 
+    python3 tests/harts/joiner.py [--program PATH] [--levels=-O2,..] [--drawn 200]
+
+The objects are those of tests/real, by gcc and by clang, compiled as their page says and with `-fpic`, and drawn ones whose
+symbols share names: global, weak and common ones, in all orders. The program is crates/rvcfi/out/rvcfi where none is named.
+Each link that differs is told, and the status is 1 then.
+"""
+
+import argparse
+import os
+import random
+import sys
+import tempfile
+from pathlib import Path
+
+import hardener
 from hardener import ABS, ABS64, ALLOC, COMMON, GOT_HI20, PROGBITS, WRITE, Relocation, Section, Source, Symbol
 
 GLOBAL, WEAK = 1, 2
@@ -104,3 +121,104 @@ class Joined(Source):
         while number >= counts[at]:
             number, at = number - counts[at], at + 1
         return number, at + 1
+
+
+NAMES = ["f0", "f1", "f2", "c0", "c1", "c2"]
+SORTS = [".globl", ".weak", ""]
+
+
+def drawn_source(rng, number):
+    """The assembly of an object: its functions and data, global, weak, common or its own, and code that uses names."""
+    lines, mine = [".text"], []
+    for name in rng.sample(NAMES, rng.randint(1, 5)):
+        sort = rng.choices(SORTS, [2, 4, 1])[0]
+        mine.append(name)
+        if name[0] == "f":
+            lines += ["%s %s" % (sort, name) if sort else "", ".type %s,@function" % name, "%s:" % name,
+                      "addi x10,x10,%d" % rng.randint(1, 99), "ret", ".size %s,.-%s" % (name, name)]
+        elif rng.random() < 0.6:
+            lines += [".comm %s,%d,%d" % (name, 8 * rng.randint(1, 6), 1 << rng.randint(3, 6))]
+        else:
+            lines += [".data", ".p2align 3", "%s %s" % (sort, name) if sort else "", "%s:" % name, ".dword %d" % rng.randint(1, 99),
+                      ".dword %s" % rng.choice(NAMES), ".text"]
+    start = "main" if number == 0 else "part%d" % number
+    lines += [".globl %s" % start, ".type %s,@function" % start, "%s:" % start, "addi x2,x2,-16", "sd x1,8(x2)"]
+    for _ in range(rng.randint(1, 5)):
+        name = rng.choice(NAMES)
+        lines += [".option pic" if rng.random() < 0.7 else ".option nopic"]
+        if name[0] == "f":
+            lines += rng.choice([["call " + name], ["la x5," + name, "jalr x1,0(x5)"]])
+        else:
+            lines += ["la x6," + name, "ld x7,%d(x6)" % rng.choice([0, 8]), "add x10,x10,x7"]
+    return "\n".join(lines + ["ld x1,8(x2)", "addi x2,x2,16", "ret", ".size %s,.-%s" % (start, start), ""])
+
+
+def drawn(count, seed, folder):
+    """Links of two to four drawn objects."""
+    import programs
+    rng = random.Random(seed)
+    for case in range(count):
+        paths = []
+        for number in range(rng.randint(2, 4)):
+            path = os.path.join(folder, "drawn%d_%d" % (case, number))
+            Path(path + ".s").write_text(drawn_source(rng, number))
+            programs.must(programs.gcc("rv64im").command + ["-c", path + ".s", "-o", path + ".o"])
+            paths.append(path + ".o")
+        yield "main", paths
+
+
+def compiled(levels, folder):
+    """The objects of the compiled programs, as their page says and with -fpic."""
+    import programs
+    for make in (programs.gcc, programs.clang):
+        for processor in programs.PROCESSORS:
+            try:
+                compiler = make(processor)
+            except programs.Missing as what:
+                print("not compared, since there is no %s: the programs of %s" % (what, make.__name__))
+                continue
+            shared = compiler._replace(name=compiler.name + "pic", options=[each.replace("-fno-pic", "-fpic") for each in compiler.options])
+            for each in (compiler, shared):
+                for level in levels:
+                    for program in programs.PROGRAMS:
+                        names = programs.LIBRARY[processor] + program.files
+                        yield "_start", [programs.compiled(each, level, name, folder) for name in names]
+
+
+def differences(tool, entry, paths, folder):
+    """What a link makes other than it should: of a link that is refused its line, else the forms that differ."""
+    import programs
+    contents = [Source(Path(path).read_bytes()) for path in paths]
+    files = [os.path.join(folder, name) for name in ("image", "graph", "map")]
+    command = lambda form, files: [tool, "link", form, entry, "none", *files, *paths]
+    whole = Joined(contents)
+    name, missing = whole.duplicate(), whole.undefined([len(each.symbols) for each in contents])
+    line = b"refused 27 Duplicate %s\n" % name.encode() if name else b"refused 15 Undefined %d in %d\n" % missing if missing else None
+    if line:
+        done = programs.run(command("plain", files))
+        return [] if (done.returncode, done.stdout) == (1, line) else ["%r in place of %r" % (done.stdout, line)]
+    return list(hardener.unlike(whole, entry, folder, command))
+
+
+def main():
+    words = argparse.ArgumentParser(description=__doc__, formatter_class=argparse.RawDescriptionHelpFormatter)
+    words.add_argument("--program", default=str(hardener.HERE.parents[1] / "crates" / "rvcfi" / "out" / "rvcfi"))
+    words.add_argument("--levels", default="-O0,-O2,-Os", help="with =, as --levels=-O2,-Os")
+    words.add_argument("--drawn", type=int, default=200, help="how many links are drawn")
+    words.add_argument("--seed", type=int, default=1)
+    options = words.parse_args()
+    if not os.access(options.program, os.X_OK):
+        sys.exit("%s is not there: cd crates/rvcfi && rt run -- verify data/a.img data/a.graph" % options.program)
+    count, wrong = 0, 0
+    with tempfile.TemporaryDirectory() as folder:
+        for entry, paths in [*drawn(options.drawn, options.seed, folder), *compiled(options.levels.split(","), folder)]:
+            found = differences(os.path.abspath(options.program), entry, paths, folder)
+            count, wrong = count + 1, wrong + bool(found)
+            for what in found:
+                print("%s differs: %s" % (" ".join(os.path.basename(path) for path in paths), what))
+    print("%d links in %d forms, %d of them differ" % (count, len(hardener.FORMS), wrong))
+    return 1 if wrong else 0
+
+
+if __name__ == "__main__":
+    sys.exit(main())

@@ -90,6 +90,10 @@ COMMANDS = [
     ("rewrite calls.o main policy image graph map", 0, "rewritten code 256 data 16 classes 1 sites 1", THREE),
     ("run image graph other none 100", 10, "stop handler __cfi_bad_target", ()),
     ("rewrite calls.o main wrong image graph map", 1, "refused 18 Policy 2", ()),
+    ("link plain main none image graph map returns.o", 0, "rewritten code 92 data 0 classes 0 sites 0", THREE),
+    ("compare-link main none image map none 100 returns.o", 0, "same 1", ()),
+    ("link harts-split main policy image graph map calls.o", 0, None, THREE),
+    ("link plain main none image graph map puts.o returns.o", 1, "refused 27 Duplicate main", ()),
     ("demo 1", 0, "compare same 1", ()),
 ]
 

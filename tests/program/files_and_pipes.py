@@ -68,7 +68,7 @@ RETURNS = with_tables([Section(PROGBITS, code_of(addi(10, 0, 7), 0x00008067), CO
 HARDENED = [addi(10, 0, 7), 0xFF81BF83, 0xFF818193, 0x001F8463, 0xFB5FF06F, 0x000F8067, 0xFA9FF06F]
 MAP = b"rvcfi-map 1\nat 40000040 0001 00000000\nat 40000044 0001 00000004\nat 40000058 0001 00000008\nend\n"
 REWRITTEN = b"rewritten code 92 data 0 classes 0 sites 0\n"
-USAGE = b"usage: rvcfi rewrite|verify|run|compare|demo|harden\n"
+USAGE = b"usage: rvcfi rewrite|verify|run|compare|demo|harden|link|compare-link\n"
 
 
 def hardened_files():

@@ -1,5 +1,6 @@
 #!/usr/bin/env python3
-"""Asks tools/explain.py of refusals, policies, an exploit, tables and images, and compares what it tells with other tools.
+"""Asks tools/explain.py of refusals, policies, an exploit, tables and images, of one object and of several that `link` joins, and
+compares what it tells with other tools.
 
     python3 tests/real/explained.py [--program PATH]
 
@@ -21,8 +22,8 @@ sys.dont_write_bytecode = True
 import programs
 from attack import ATTACKS
 from pitfalls import CHANCES, MACHINE, Bench, policy_of
-from programs import Hardened, Missing
-from refusals import PLAIN, compiled
+from programs import Hardened, Linked, Missing
+from refusals import PLAIN, compiled, many_sections
 
 TOOL = os.path.join(programs.HERE, "..", "..", "tools", "explain.py")
 CYCLES = "int main(void) { long t; __asm__ volatile(\"rdcycle %0\" : \"=r\"(t)); return t; }"
@@ -31,6 +32,10 @@ LONE_LOW = r"""int main(void)
     __asm__ volatile("1: .reloc 1b, R_RISCV_TLS_GOT_HI20, q\n\tauipc t0, 0\n\tlw t0, %%pcrel_lo(1b)(t0)" : : : "t0");
     return 0;
 }"""
+POINTERS = """int g(int); __attribute__((weak)) int f(int n) { return n; } static int own(int n) { return n + 1; }
+int (*volatile p)(int); int main(int n) { p = n ? f : g; return p(n) + (p = own)(n); }"""
+POINTED = """int f(int n) { return n + 2; } static int own(int n) { return n + 3; }
+int (*volatile q)(int) = own; int g(int n) { return q(n); }"""
 CALLS = "int f(void), g(void); extern int n; int h(void) { return g(); } int main(void) { return f() + h() + n; }"
 
 
@@ -73,8 +78,21 @@ class Asked:
     def refusal(self, path, *wanted, entry="main", policy="none"):
         files = [path + end for end in (".img", ".graph", ".map")]
         answer = self.bench.asked.answer("rewrite", path, entry, policy, *files)
+        self.explained([path], answer, wanted, policy)
+
+    def explained(self, paths, answer, wanted, policy):
         more = ["--policy", policy] if policy != "none" else []
-        self.has(answer.strip(), self.told("refusal", path, *more, given=answer.encode()), answer.strip(), "What to do: ", *wanted)
+        self.has(answer.strip(), self.told("refusal", *paths, *more, given=answer.encode()), answer.strip(), "What to do: ", *wanted)
+
+    def linked(self, paths, entry="main", policy="none"):
+        """The answer of `link`, and its files."""
+        files = [self.bench.new(end) for end in (".img", ".graph", ".map")]
+        return self.bench.asked.answer("link", "plain", entry, policy, *files, *paths), files
+
+    def refused_link(self, paths, start, *wanted, entry="main", policy="none"):
+        answer = self.linked(paths, entry, policy)[0]
+        self.same("a link", answer[:len(start)], start, answer)
+        self.explained(paths, answer, wanted, policy)
 
 
 def of_refusals(asked):
@@ -139,10 +157,91 @@ def of_names(asked):
     asked.same("no such name", "stands for" in asked.told("graph", path, files[1], files[2], "--entry", "kept"), False)
 
 
+def of_refused_objects(asked):
+    """Objects of several that are refused alone, each by its number."""
+    plain = asked.source(PLAIN)
+    asked.refused_link([plain, asked.source(PLAIN, without=MACHINE)], "refused 4 Flags 5 in 2\n", "Object 2 is ", "compressed instructions")
+    asked.refused_link([plain, plain, asked.bench.case("anchors.c")], "refused 8 BadSymbol", " in 3\n", "Object 3 is ", ".LANCHOR1",
+                       "past the end of .rodata")
+    asked.refused_link([plain, programs.source("memory.c")], "refused 1 NotElf in 2\n", "memory.c cannot be read")
+    asked.has("no such object", asked.told("refusal", plain, given=b"refused 4 Flags 5 in 2"), "There is no object 2 here")
+
+
+def of_refused_links(asked):
+    """Refusals of what several objects come to as one."""
+    plain, product = asked.source(PLAIN), asked.source("int f1(int n, char **words) { return n * **words; }")
+    cycles, wide = asked.source(CYCLES), asked.source("char a[268000000];", "-fcommon")
+    one, two = (asked.source("int both = %d; int f%d(void) { return both; }" % (n, n)) for n in (1, 2))
+    policy = asked.bench.asked.file("several.policy", b"rvcfi-policy 1\nsite main+0 f1+0 f2+0 main+2\nend\n")
+    asked.refused_link([one, cycles], "refused 9 Undecodable ", " of %s (section " % cycles, " main+0", "rdcycle")
+    asked.refused_link([plain, product], "refused 15 Undefined ", " in 2\n", "Object 2 is ", " of %s, global" % product, "    __muldi3  ")
+    weak = asked.source(PLAIN + " __attribute__((weak)) int both = 3;")
+    asked.refused_link([weak, one, two], "refused 27 Duplicate both\n", "The name is defined 2 times:",
+                       "    in object 2: both (symbol ", "    in object 3: both (symbol ")
+    asked.refused_link([plain, one], "refused 17 NoEntry\n", "Functions that all files see: f1, main.", entry="f2")
+    asked.refused_link([plain, one], "refused 18 Policy 2\n", "no symbol has this name", "no instruction starts there", policy=policy)
+    asked.refused_link([asked.source("char a[9];" + PLAIN, "-fcommon"), wide], "refused 20 DataTooLarge ",
+                       "\n     268000000 bytes  a\n             0 bytes  a\n")
+
+
+def of_many_sections(asked):
+    """Three times an object of 22,000 sections and more."""
+    path, count = many_sections(asked.bench.asked, asked.compiler)
+    asked.refused_link([path] * 3, "refused 28 TooManySections %d\n" % (3 * count), "With %s there are %d" % (path, 3 * count),
+                       "  %d sections  %s" % (count, path))
+
+
+def of_links(asked):
+    """Pointers to functions of other objects, also by the table of addresses: of two functions of a name the one that is not weak is
+    meant, and each file's own are its own."""
+    for more, without in ([], []), (["-fpic"], ["-fno-pic"]):
+        paths = [asked.source(text, *more, without=without) for text in (POINTERS, POINTED)]
+        files = asked.linked(paths)[1]
+        text, listing = asked.told("graph", *paths, *files[1:]), asked.told("image", *paths, *files)
+        starts = {name: re.findall("^%s:\n(.{8})  gate" % name, listing, re.M) for name in ("f", "g", "own")}
+        wanted = [("f", starts["f"][-1:]), ("g", starts["g"]), ("own", starts["own"])]
+        found = re.findall(r"^    to   (.{8})  function       (\w+)$", text, re.M)
+        asked.same("a link's targets", sorted(found), sorted((at, name) for name, each in wanted for at in each), text)
+        asked.same("how many", [len(each) for _, each in wanted], [1, 1, 2], listing)
+        asked.same("a link's classes", "not the classes" in text or text.startswith("status"), False, text)
+        asked.has("other objects", asked.told("graph", *paths[::-1], *files[1:]), "These are not the classes that the objects come to")
+
+
+def of_linked_names(asked):
+    """An entry that all files share, while a static function of its name is there."""
+    paths = [asked.bench.case("first_name.c"), asked.bench.case("second_name.c")]
+    files = asked.linked(paths, "begin")[1]
+    text = asked.told("graph", *paths, *files[1:], "--entry", "begin")
+    asked.has("an entry of several", text, "the name begin stands for the symbol that all files share", "begin (symbol ",
+              " of %s, global, at 0 in section " % paths[1])
+    paths = [asked.bench.case("first_name.c", ["-Dkept=%s" % name]) for name in ("one", "two")]
+    files = asked.linked(paths, "begin")[1]
+    text = asked.told("graph", *paths, *files[1:], "--entry", "begin")
+    asked.has("an entry of several static ones", text, "the first of 2 static symbols: begin (symbol ", " of %s, local, " % paths[0])
+
+
 def hardened_programs(asked):
     """The programs of this folder at -O2, hardened."""
     for program in programs.PROGRAMS:
         yield program, Hardened(asked.tool, programs.joined(asked.compiler, "-O2", program, asked.folder))
+
+
+def linked_program(asked, program, form):
+    """The same, joined by `link`."""
+    objects = programs.objects_of(asked.compiler, "-O2", program, asked.folder)
+    return Linked(asked.tool, objects, os.path.join(asked.folder, program.name + form), form)
+
+
+def objects(made):
+    return made.objects if isinstance(made, Linked) else [made.object]
+
+
+def gate(asked, made, name):
+    """The address of a function in the image."""
+    if not isinstance(made, Linked):
+        return made.gate(name)
+    listing = asked.told("image", *objects(made), made.image, made.graph, made.map)
+    return int(re.search("^%s:\n(.{8})  " % name, listing, re.M).group(1), 16)
 
 
 def of_exploit(asked, made):
@@ -153,11 +252,11 @@ def of_exploit(asked, made):
                     "may go to: greet_politely, greet_briefly."],
     }
     for attack, parts in wanted.items():
-        given = made.input_file(ATTACKS[attack](made.gate("open_door")))
-        report = made.asked(["run", made.image, made.graph, "none", given, programs.STEPS])[1]
-        asked.has(attack, asked.told("report", made.object, made.graph, made.map, given=report), *parts)
-        untame = made.asked(["compare", made.object, "_start", "none", made.image, made.map, given, programs.STEPS])[1]
-        asked.has(attack + ", compared", asked.told("report", made.object, made.graph, made.map, given=untame),
+        given = ATTACKS[attack](gate(asked, made, "open_door"))
+        report = made.asked(["run", made.image, made.graph, "none", made.input_file(given), programs.STEPS])[1]
+        asked.has(attack, asked.told("report", *objects(made), made.graph, made.map, given=report), *parts)
+        untame = made.compared(given)[1]
+        asked.has(attack + ", compared", asked.told("report", *objects(made), made.graph, made.map, given=untame),
                   "own run leaves", "take_message+" if attack == "return" else "main+")
 
 
@@ -175,9 +274,9 @@ def of_harts(asked, program, made):
 
 def of_system_calls(asked, made):
     """Who calls the system, by what start.s has."""
-    text = asked.told("graph", made.object, made.graph, made.map)
+    text = asked.told("graph", *objects(made), made.graph, made.map)
     asked.has("system calls", text, "ecall: 4 (_start 1, leave 1, read_input 1, write_output 1)", "ebreak: 2 (_start 1, leave 1)")
-    lines = asked.told("graph", made.object, made.graph, made.map, "--dot").splitlines()
+    lines = asked.told("graph", *objects(made), made.graph, made.map, "--dot").splitlines()
     for line in ('    "main" -> "take_message";', '    "the opening" -> "_start";', '    "class 00001" -> "greet_briefly" [style=bold];',
                  '    "main" -> "class 00001" [style=bold, label=call];'):
         asked.same("a line for Graphviz", line in lines, True, "\n".join(lines))
@@ -203,7 +302,7 @@ def of_tables(asked):
 
 def of_image(asked, program, made):
     """The units of an image, and the lines of its graph."""
-    listing = asked.told("image", made.object, made.image, made.graph, made.map)
+    listing = asked.told("image", *objects(made), made.image, made.graph, made.map)
     graph = [line.split() for line in open(made.graph)]
     units = re.findall(r"^([0-9a-f]{8})  (\S+(?: \S+)*)  ", listing, re.M)
     kinds = {"computed call": "site", "computed jump": "site", "branch": "edge", "near branch": "edge", "jump": "edge", "call": "call",
@@ -218,20 +317,33 @@ def of_image(asked, program, made):
     checks = re.findall(r"^[0-9a-f]{8}  computed (call|jump)  .*?(by the second word|$)", listing, re.M)
     second = [(kind, "by the second word" if kind == "jump" and "split" in made.form else "") for kind, _ in checks]
     asked.same("%s, %s, words" % (program.name, made.form), checks, second)
-    text = asked.told("graph", made.object, made.graph, made.map)
+    texts = set(re.findall(r"^[0-9a-f]{8}  (system|return) .* (\S+)$", listing, re.M))
+    asked.same(program.name + ", instructions", texts, {("system", "ecall"), ("system", "ebreak"), ("return", "ret")})
+    text = asked.told("graph", *objects(made), made.graph, made.map)
     asked.same(program.name + ", classes", "not the classes" in text or text.startswith("status"), False, text)
 
 
 def of_strange_names(asked):
     """Names are an object's own: nothing that a terminal would act on is printed."""
-    path = asked.source("void strange_one(void); int main(void) { strange_one(); return 0; }")
-    with open(path, "rb") as file:
-        content = file.read().replace(b"strange_one", b"strange\033[1m")
-    path = asked.bench.asked.file("strange.o", content)
+    path = renamed(asked, "void strange_one(void); int main(void) { strange_one(); return 0; }", b"strange\033[1m")
     answer = asked.bench.asked.answer("rewrite", path, "main", "none", *(path + end for end in (".img", ".graph", ".map")))
     told = asked.told("refusal", path, given=answer.encode())
     asked.has("a strange name", told, "strange?[1m")
     asked.same("a strange name, unprintable", "\033" in told, False)
+    paths = [renamed(asked, "int strange_one = %d;" % each, b"s\xff \n\033[1m go") for each in (1, 2)]
+    files = [path + end for end in (".img", ".graph", ".map")]
+    answer = programs.run([asked.tool, "link", "plain", "main", "none", *files, *paths]).stdout
+    asked.same("a strange duplicate", answer, b"refused 27 Duplicate s\xff \n\033[1m go\n")
+    told = asked.told("refusal", *paths, given=answer)
+    asked.has("a strange duplicate", told, "Duplicate s? ??[1m go\n", "    in object 2: s? ??[1m go (symbol ")
+
+
+def renamed(asked, text, name):
+    """The object of a source, with another name in place of `strange_one`."""
+    path = asked.source(text)
+    with open(path, "rb") as file:
+        content = file.read().replace(b"strange_one", name)
+    return asked.bench.asked.file(os.path.basename(path), content)
 
 
 def of_missing(asked):
@@ -241,16 +353,19 @@ def of_missing(asked):
 
 
 def try_all(asked):
-    for part in (of_refusals, of_undefined, of_policies, of_names, of_tables, of_strange_names, of_missing):
+    for part in (of_refusals, of_undefined, of_policies, of_names, of_tables, of_strange_names, of_refused_objects, of_refused_links,
+                 of_many_sections, of_links, of_linked_names, of_missing):
         part(asked)
     for program, made in hardened_programs(asked):
         of_image(asked, program, made)
         for form in ("split", "harts-split"):
             of_image(asked, program, Hardened(asked.tool, made.object, form))
+        of_image(asked, program, linked_program(asked, program, "harts-split"))
         if program.name == "visitors":
-            of_exploit(asked, made)
-            of_system_calls(asked, made)
             of_harts(asked, program, made)
+            for each in (made, linked_program(asked, program, "plain")):
+                of_exploit(asked, each)
+                of_system_calls(asked, each)
 
 
 def main():

@@ -117,12 +117,21 @@ def compiled(compiler, level, name, folder):
     return path
 
 
+def objects_of(compiler, level, program, folder):
+    """Compiles a program's files and answers the objects' paths."""
+    return [compiled(compiler, level, name, folder) for name in LIBRARY[compiler.processor] + program.files]
+
+
 def joined(compiler, level, program, folder):
     """Compiles a program's files, joins them to one object and answers its path."""
     path = os.path.join(folder, "%s_%s%s_%s_joined.o" % (compiler.name, compiler.processor, level, program.name))
-    objects = [compiled(compiler, level, name, folder) for name in LIBRARY[compiler.processor] + program.files]
-    must(compiler.join + ["-o", path] + objects)
+    must(compiler.join + ["-o", path] + objects_of(compiler, level, program, folder))
     return path
+
+
+def shared(compiler):
+    """The same compiler with -fpic."""
+    return compiler._replace(name=compiler.name + "pic", options=["-fpic" if each == "-fno-pic" else each for each in compiler.options])
 
 
 def linked(joined_object):
@@ -193,6 +202,13 @@ def code_size(path):
     return next(int(line.split()[1]) for line in lines if line.startswith(".text "))
 
 
+def sections_of_code(path):
+    """How many sections of a file are of code: hardened, each ends with a word more, an empty one too."""
+    lines = must([binutils("readelf"), "-SW", path]).decode().splitlines()
+    rows = (line.partition("]")[2].split() for line in lines)
+    return sum(row[1] == "PROGBITS" and "X" in row[6] for row in rows if len(row) > 6)
+
+
 class Hardened:
     """An object hardened in a form: its files, and what the tool says of them."""
     entry = ENTRY
@@ -250,3 +266,15 @@ class Hardened:
                 elif words[0] == "site":
                     sites.append((words[2], found[words[3]]))
         return found, sites
+
+
+class Linked(Hardened):
+    """Objects that the tool itself joins, hardened in a form."""
+
+    def __init__(self, tool_path, objects, name, form="plain"):
+        self.tool, self.objects, self.form = tool_path, objects, form
+        self.image, self.graph, self.map = (name + end for end in ("_linked.img", "_linked.graph", "_linked.map"))
+        self.told = self.asked(["link", form, self.entry, "none", self.image, self.graph, self.map, *objects])
+
+    def compared(self, given):
+        return self.asked(["compare-link", self.entry, "none", self.image, self.map, self.input_file(given), STEPS, *self.objects])

@@ -1,9 +1,11 @@
 """What compilers and hands give that is refused: the table of docs/COMPILING.md, but for a broken table of a file (6).
 
-Each row is a refusal, a source in C, the options of docs/COMPILING.md that are left out, and options that are added.
+Each row is a refusal, a source in C, the options of docs/COMPILING.md that are left out, and options that are added. Of two
+objects that `link` joins a row is a refusal, options that are added, and both sources.
 """
 
 import os
+import re
 
 import programs
 from programs import machine
@@ -36,6 +38,12 @@ GCC_ROWS = [
     ("17 NoEntry", "int start(void) { return 0; }", [], []),
     ("19 CodeTooLarge", PLAIN + " __asm__(\".text\\n.rept 262200\\nnop\\n.endr\");", [], []),
     ("20 DataTooLarge", "char a[268000000]; int main(void) { return a[5]; }", [], []),
+]
+LINK_ROWS = [
+    ("15 Undefined in 2\n", [], PLAIN, NAMES_Q.replace("main", "f")),
+    ("17 NoEntry\n", [], "int f(void) { return 0; }", "int g(void) { return 0; }"),
+    ("27 Duplicate both\n", ["-fno-common"], PLAIN + " int both;", "int both;"),
+    ("27 Duplicate main\n", [], PLAIN, PLAIN),
 ]
 CLANG_ROWS = [
     ("1 NotElf", PLAIN, [], ["-flto"]),
@@ -75,6 +83,9 @@ class Asked:
     def rewrite(self, path, policy="none", files=("other.img", "other.graph", "other.map")):
         return self.answer("rewrite", path, "main", policy, *(self.path(name) for name in files))
 
+    def link(self, paths, files=("other.img", "other.graph", "other.map")):
+        return self.answer("link", "plain", "main", "none", *(self.path(name) for name in files), *paths)
+
 
 def of_compilers(asked, compilers):
     """Each row's refusal, and the answer to the row's object."""
@@ -82,6 +93,24 @@ def of_compilers(asked, compilers):
     for compiler in compilers:
         for number, (refusal, *row) in enumerate(tables[compiler.name]):
             yield refusal, asked.rewrite(compiled(compiler, *row, asked.path("%s_row_%d.o" % (compiler.name, number))))
+
+
+def of_links(asked, compiler):
+    """The refusals of objects that are joined. Which symbol of an object is undefined is left out."""
+    for number, (refusal, more, *sources) in enumerate(LINK_ROWS):
+        paths = [compiled(compiler, text, [], more, asked.path("link_%d_%d.o" % (number, at))) for at, text in enumerate(sources)]
+        yield refusal, re.sub("[0-9]+ in ", "in ", asked.link(paths))
+    path, count = many_sections(asked, compiler)
+    yield "28 TooManySections %d\n" % (3 * count), asked.link([path] * 3)
+
+
+def many_sections(asked, compiler):
+    """An object of more than a third of 65,536 sections, and how many it has."""
+    path = asked.path("many.o")
+    asked.file("many.s", "".join(".section .data.n%d,\"aw\"\n" % number for number in range(22000)).encode())
+    programs.must(compiler.command + ["-c", asked.path("many.s"), "-o", path])
+    told = programs.must([programs.binutils("readelf"), "-hW", path]).decode()
+    return path, int(re.search(r"Number of section headers: +(\d+)", told).group(1))
 
 
 def of_files(asked, compiler):
@@ -111,6 +140,6 @@ def of_files(asked, compiler):
 def tried(tool, folder, compilers):
     """The failures of all rows, and how many there are."""
     asked = Asked(tool, folder)
-    rows = list(of_compilers(asked, compilers)) + list(of_files(asked, compilers[0]))
+    rows = [*of_compilers(asked, compilers), *of_links(asked, compilers[0]), *of_files(asked, compilers[0])]
     failed = ["FAILED refusal %s: %.200r" % row for row in rows if not row[1].startswith("refused %s" % row[0])]
     return failed, len(rows)

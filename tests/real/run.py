@@ -8,8 +8,10 @@ quotients, at -O0, -O1, -O2, -O3 and -Os, and its files are joined by `ld -r`. W
 of the same files compiled for the host, also under qemu-riscv64 (the plain program, and the hardened image) and in the
 machine; the steps of the hardened image must be those that qemu counts. At -O2 for rv64im they are hardened with separate
 labels for calls and jumps too (`visitors` for several harts as well), where a computed transfer may reach no more than in
-the form `plain`. `visitors` is attacked twice in each form: the plain program must open the door, the hardened one must
-end in the named handler. One line a case has the steps and the bytes of code, plain and hardened. Then objects that are
+the form `plain`. At -O0 and -O2 their files are also joined by `link`: that must come to the code (but for a word behind
+each section, of which `ld -r` makes one), classes, sites and steps of `ld -r` and `rewrite`; compiled with -fpic they must
+do the same. `visitors` is attacked twice in each form: the plain program must open the door, the hardened one must end in
+the named handler. One line a case has the steps and the bytes of code, plain and hardened. Then objects that are
 refused must be refused as docs/COMPILING.md says, images that qemu's user mode does not confine must end as
 docs/MACHINE.md says, and `clerks` is hardened for several harts, run under turns, and attacked by one hart from another.
 
@@ -34,12 +36,13 @@ import pitfalls
 import programs
 import refusals
 from attack import ATTACKS
-from programs import LEVELS, PROGRAMS, Hardened, Missing
+from programs import LEVELS, PROGRAMS, Hardened, Linked, Missing
 
 DOOR = b"the door is open\n", 42
 HANDLERS = {"__cfi_bad_target": 0x40000000, "__cfi_bad_return": 0x40000004}
 
 IN_FORMS = "-O2", "rv64im"
+LINKED = [("-O0", "rv64im"), ("-O2", "rv64im"), ("-O2", "rv64i")]
 
 # what each attack on the hardened program comes to: its handler, and why the object's own run leaves its graph
 STOPPED = {"pointer": ("__cfi_bad_target", b"untame graph"), "return": ("__cfi_bad_return", b"untame return")}
@@ -67,6 +70,39 @@ class Case:
             hardened = self.try_form(tool, plain, form, wanted)
             if first and hardened:
                 self.try_targets(first, hardened)
+        if first and (self.level, self.compiler.processor) in LINKED:
+            self.try_links(tool, folder, first, wanted)
+
+    def try_links(self, tool, folder, first, wanted):
+        """The program's files, joined by the tool, and the same compiled with -fpic."""
+        for compiler in (self.compiler, programs.shared(self.compiler)):
+            objects = programs.objects_of(compiler, self.level, self.program, folder)
+            name = "%s_%s%s_%s" % (compiler.name, compiler.processor, self.level, self.program.name)
+            linked = Linked(tool, objects, os.path.join(folder, name))
+            self.tell(compiler.name + ", link", linked.told[0], 0)
+            if linked.told[0]:
+                self.lines.append(linked.told[1].decode())
+                continue
+            self.try_linked(compiler.name, linked, wanted)
+            if compiler == self.compiler:
+                self.try_same(linked, objects, first)
+
+    def try_same(self, linked, objects, first):
+        """The same code as `ld -r` and `rewrite` make of the objects, but for a word behind each section, in as many steps."""
+        more = sum(map(programs.sections_of_code, objects)) - programs.sections_of_code(first.object)
+        found, known = (each.told[1].split() for each in (linked, first))
+        steps = [each.run(self.program.input)[2]["steps"] for each in (linked, first)]
+        self.tell("link, code as ld -r and rewrite", linked.code_size(), first.code_size() + 4 * more)
+        self.tell("link, as ld -r and rewrite", (found[5:], steps[0]), (known[5:], steps[1]))
+
+    def try_linked(self, name, linked, wanted):
+        given = self.program.input
+        self.tell(name + ", link, verify", linked.verified(), (0, b"accepted\n"))
+        _, output, report = linked.run(given)
+        self.tell(name + ", link, run", (output, stop_of(report)), (wanted[0], ["exit", str(wanted[1])]))
+        self.tell(name + ", link, under qemu", programs.under_qemu(programs.for_qemu(linked.image), given), wanted)
+        status, compared = linked.compared(given)
+        self.tell(name + ", compare-link", (status, compared.split()[:1]), (0, [b"same"]))
 
     def forms(self):
         """The forms but `plain` in which the program is hardened."""
@@ -143,10 +179,11 @@ def compilers():
 
 def cases_of(found, folder):
     """The cases, each file of the library compiled once before they are run beside each other."""
-    for compiler in found:
-        for level in LEVELS:
-            for name in programs.LIBRARY[compiler.processor]:
-                programs.compiled(compiler, level, name, folder)
+    kinds = [(each, level) for each in found for level in LEVELS]
+    kinds += [(programs.shared(each), level) for each, level in kinds if (level, each.processor) in LINKED]
+    for compiler, level in kinds:
+        for name in programs.LIBRARY[compiler.processor]:
+            programs.compiled(compiler, level, name, folder)
     return [Case(compiler, level, program) for program in PROGRAMS for compiler in found for level in LEVELS]
 
 

@@ -15,6 +15,8 @@ const RUN: &str = "rvcfi,run,image,graph,script,input,100";
 
 const COMPARE: &str = "rvcfi,compare,object,main,policy,hardened,map,input,100";
 
+const COMPARE_LINK: &str = "rvcfi,compare-link,main,policy,hardened,map,input,100,object";
+
 const REPORT: &str = "output 0\n\nstop exit 5\nsteps 14\nwalk 5\ntrail 4000000c 40000040 40000044 \
 40000048 4000004c\n";
 
@@ -30,7 +32,7 @@ struct Case(
 );
 
 #[rattlefmt::skip]
-static FAULTS: [Case; 20] = [
+static FAULTS: [Case; 27] = [
     Case(VERIFY, &[0], &[], 3, "read fault image\n", "accepted\n"),
     Case(VERIFY, &[1], &[], 3, "read fault graph\n", "accepted\n"),
     Case(VERIFY, &[], &[0], 4, "", "accepted\n"),
@@ -51,6 +53,13 @@ static FAULTS: [Case; 20] = [
     Case(COMPARE, &[], &[0], 4, "", "same 1\n"),
     Case(COMPARE, &[0], &[0], 4, "", "same 1\n"),
     Case(COMPARE, &[4], &[0], 4, "", "same 1\n"),
+    Case(COMPARE_LINK, &[0], &[], 3, "read fault policy\n", "same 1\n"),
+    Case(COMPARE_LINK, &[1], &[], 3, "read fault hardened\n", "same 1\n"),
+    Case(COMPARE_LINK, &[2], &[], 3, "read fault map\n", "same 1\n"),
+    Case(COMPARE_LINK, &[3], &[], 3, "read fault input\n", "same 1\n"),
+    Case(COMPARE_LINK, &[4], &[], 3, "read fault object\n", "same 1\n"),
+    Case(COMPARE_LINK, &[], &[0], 4, "", "same 1\n"),
+    Case(COMPARE_LINK, &[4], &[0], 4, "", "same 1\n"),
 ];
 
 /// The graphs of a program whose exit status is the first byte of its data and of one that exits with 7, a script that changes

@@ -15,7 +15,7 @@ static CASES: [Case; 4] = [
     // A name that is not there reads as empty.
     Case("rvcfi,verify,absent,graph", 1, "refused 22 Short 0\n"),
     Case("rvcfi,verify,image,absent", 1, "refused 23 Graph 1 Form\n"),
-    Case("rvcfi,verify,image", 2, "usage: rvcfi rewrite|verify|run|compare|demo|harden\n"),
+    Case("rvcfi,verify,image", 2, "usage: rvcfi rewrite|verify|run|compare|demo|harden|link|compare-link\n"),
 ];
 
 /// Adds the image and the graph of a program that exits with 7.

@@ -1,4 +1,4 @@
-//! The command `rewrite` where a read, a write or the output fails: what is put, and which of its files are written.
+//! The commands `rewrite` and `link` where a read, a write or the output fails: what is put, and which of its files are written.
 
 use rv_word::NoMemory;
 use sample_calls::{Given, Source, add_image, add_object, ends_with, holds};
@@ -10,6 +10,10 @@ use tool_io::{MemFiles, MemSink};
 const PLAIN: &str = "rvcfi,rewrite,object,main,none,image,graph,map";
 
 const WITH_POLICY: &str = "rvcfi,rewrite,object,main,policy,image,graph,map";
+
+const LINKED: &str = "rvcfi,link,plain,main,policy,image,graph,map,object";
+
+const LINKED_TWICE: &str = "rvcfi,link,plain,main,none,image,graph,map,object,object";
 
 const DONE: &str = "rewritten code 92 data 0 classes 0 sites 0\n";
 
@@ -25,7 +29,7 @@ struct Fault(
 );
 
 #[rattlefmt::skip]
-static FAULTS: [Fault; 15] = [
+static FAULTS: [Fault; 25] = [
     Fault(PLAIN, &[0], &[], 3, "read fault object\n", [false, false, false]),
     Fault(PLAIN, &[1], &[], 4, "", [false, false, false]),
     Fault(PLAIN, &[2], &[], 4, "", [true, false, false]),
@@ -41,6 +45,16 @@ static FAULTS: [Fault; 15] = [
     Fault(WITH_POLICY, &[], &[0], 4, "", [true, true, true]),
     Fault(WITH_POLICY, &[0], &[0], 4, "", [false, false, false]),
     Fault(WITH_POLICY, &[], &[], 0, DONE, [true, true, true]),
+    Fault(LINKED, &[0], &[], 3, "read fault policy\n", [false, false, false]),
+    Fault(LINKED, &[1], &[], 3, "read fault object\n", [false, false, false]),
+    Fault(LINKED, &[2], &[], 4, "", [false, false, false]),
+    Fault(LINKED, &[3], &[], 4, "", [true, false, false]),
+    Fault(LINKED, &[4], &[], 4, "", [true, true, false]),
+    Fault(LINKED, &[], &[0], 4, "", [true, true, true]),
+    Fault(LINKED, &[1], &[0], 4, "", [false, false, false]),
+    Fault(LINKED, &[], &[], 0, DONE, [true, true, true]),
+    Fault(LINKED_TWICE, &[1], &[], 3, "read fault object\n", [false, false, false]),
+    Fault(LINKED_TWICE, &[], &[], 1, "refused 27 Duplicate main\n", [false, false, false]),
 ];
 
 /// Whether a file holds these bytes.

@@ -75,6 +75,65 @@ const ROWS: &[u8] = b"\
     rvcfi,--,-h = refused;\
     rvcfi,verify,i,g,--help = refused;\
     rvcfi,verify,i,g,x,--help = refused;\
+    rvcfi,link,f,e,p,i,g,m,o = link,f,e,p,i,g,m,o;\
+    rvcfi,link,f,e,p,i,g,m,o,q,r = link,f,e,p,i,g,m,o,q,r;\
+    rvcfi,link,,e,p,i,i,i,o,,o = link,,e,p,i,i,i,o,,o;\
+    rvcfi,link,f,e,p,i,g,m,-,link,help = link,f,e,p,i,g,m,-,link,help;\
+    rvcfi,link,--,-f,e,p,i,g,m,o,-q = link,-f,e,p,i,g,m,o,-q;\
+    rvcfi,link,f,e,--,-p,i,g,--help,o,-q = link,f,e,-p,i,g,--help,o,-q;\
+    rvcfi,link,f,e,p,i,g,m,--,-o,q,--help = link,f,e,p,i,g,m,-o,q,--help;\
+    rvcfi,link,f,e,p,i,g,m,o,--,-q,r = link,f,e,p,i,g,m,o,-q,r;\
+    rvcfi,link,f,e,p,i,g,m,o,q,--,-r = link,f,e,p,i,g,m,o,q,-r;\
+    rvcfi,link,f,e,p,i,g,m,o,q,r,-- = link,f,e,p,i,g,m,o,q,r;\
+    rvcfi,link,f,e,p,i,g,m,o,--,--,-- = link,f,e,p,i,g,m,o,--,--;\
+    rvcfi,link,f,e,p,i,g,m = refused;\
+    rvcfi,link,f,e,p,i,g,m,-- = refused;\
+    rvcfi,link,f,e,p,i,g,--,m = refused;\
+    rvcfi,link,f = refused;\
+    rvcfi,link = refused;\
+    rvcfi,link,-- = refused;\
+    rvcfi,link,-f,e,p,i,g,m,o = refused;\
+    rvcfi,link,f,e,p,i,g,-m,o = refused;\
+    rvcfi,link,f,e,p,i,g,m,-o = refused;\
+    rvcfi,link,f,e,p,i,g,m,o,-q,r = refused;\
+    rvcfi,link,f,e,p,i,g,m,o,q,--object = refused;\
+    rvcfi,link,f,e,p,i,g,m,o,q,--OBJECT=r = refused;\
+    rvcfi,link,f,e,p,i,g,m,o,q,-h = refused;\
+    rvcfi,link,f,e,p,i,g,m,o,--help,q = refused;\
+    rvcfi,link,f,e,p,i,g,m,o,-V = refused;\
+    rvcfi,--,link,f,e,p,i,g,m,o = refused;\
+    rvcfi,Link,f,e,p,i,g,m,o = refused;\
+    rvcfi,links,f,e,p,i,g,m,o = refused;\
+    rvcfi,compare-link,e,p,i,m,in,7,o = compare-link,e,p,i,m,in,7,o;\
+    rvcfi,compare-link,e,none,i,m,in,7,o,q,r = compare-link,e,none,i,m,in,7,o,q,r;\
+    rvcfi,compare-link,e,p,i,i,i,x,,o,o = compare-link,e,p,i,i,i,x,,o,o;\
+    rvcfi,compare-link,--,-e,p,i,m,in,7,o,-q = compare-link,-e,p,i,m,in,7,o,-q;\
+    rvcfi,compare-link,e,p,--,-i,m,in,-7,--help = compare-link,e,p,-i,m,in,-7,--help;\
+    rvcfi,compare-link,e,p,i,m,in,7,--,-o,q = compare-link,e,p,i,m,in,7,-o,q;\
+    rvcfi,compare-link,e,p,i,m,in,7,o,--,-q,r = compare-link,e,p,i,m,in,7,o,-q,r;\
+    rvcfi,compare-link,e,p,i,m,in,7,o,q,-- = compare-link,e,p,i,m,in,7,o,q;\
+    rvcfi,compare-link,e,p,i,m,in,7,o,--,-- = compare-link,e,p,i,m,in,7,o,--;\
+    rvcfi,compare-link,e,p,i,m,in,7 = refused;\
+    rvcfi,compare-link,e,p,i,m,in,7,-- = refused;\
+    rvcfi,compare-link = refused;\
+    rvcfi,compare-link,-e,p,i,m,in,7,o = refused;\
+    rvcfi,compare-link,e,p,i,m,in,-7,o = refused;\
+    rvcfi,compare-link,e,p,i,m,in,7,-o = refused;\
+    rvcfi,compare-link,e,p,i,m,in,7,o,q,--r = refused;\
+    rvcfi,compare-link,e,p,i,m,in,7,o,-h = refused;\
+    rvcfi,compare_link,e,p,i,m,in,7,o = refused;\
+    rvcfi,-compare-link,e,p,i,m,in,7,o = refused;\
+    rvcfi,compare,link,e,p,i,m,in,7,o = refused;\
+    rvcfi,link,--help = help;\
+    rvcfi,link,-h = help;\
+    ,compare-link,--help = help;\
+    rvcfi,compare-link,-h = help;\
+    rvcfi,link,--,-h = refused;\
+    rvcfi,link,-V = refused;\
+    rvcfi,link,f,-h = refused;\
+    rvcfi,compare-link,--version = refused;\
+    rvcfi,compare-link,-h,e = refused;\
+    rvcfi,--help,link = refused;\
     rvcfi,--version = version;\
     rvcfi,-V = version;\
     rvcfi,-V,x = refused;\
@@ -88,6 +147,16 @@ fn words(alloc: Global, line: &str) -> Option<Vec<String>> {
         words.push(String::from_str(alloc, word).ok()?).ok()?;
     }
     Some(words)
+}
+
+/// Objects, each behind a comma.
+fn objects(alloc: Global, names: &[&str]) -> Option<String> {
+    let mut text = String::new(alloc);
+    for name in names {
+        text.push(',').ok()?;
+        text.push_str(name).ok()?;
+    }
+    Some(text)
 }
 
 /// What is asked for, as text.
@@ -107,6 +176,26 @@ fn request(alloc: Global, asked: &Asked<'_>) -> Option<String> {
             w.object, w.entry, w.policy, w.image, w.map, w.input, w.steps
         ),
         Asked::Demo(w) => format!(in alloc; "demo,{}", w.number),
+        Asked::Link(w) => format!(in alloc;
+            "link,{},{},{},{},{},{}{}",
+            w.form,
+            w.entry,
+            w.policy,
+            w.image,
+            w.graph,
+            w.map,
+            objects(alloc, &w.objects)?
+        ),
+        Asked::CompareLink(w) => format!(in alloc;
+            "compare-link,{},{},{},{},{},{}{}",
+            w.entry,
+            w.policy,
+            w.image,
+            w.map,
+            w.input,
+            w.steps,
+            objects(alloc, &w.objects)?
+        ),
         Asked::Harden(w) => format!(in alloc;
             "harden,{},{},{},{},{},{},{}",
             w.form,
@@ -147,10 +236,39 @@ fn is_read(alloc: Global, row: &str) -> bool {
 #[test]
 fn lines(rt: HostRuntime) {
     let rows = str::from_utf8(ROWS).unwrap_or("");
-    assert!(rt; rows.split(';').count() == 74);
+    assert!(rt; rows.split(';').count() == 133);
     for row in rows.split(';') {
         assert!(rt; is_read(rt.alloc(), row), "{row}");
     }
+}
+
+/// A command with six words and so many objects, each a number.
+fn long_line(alloc: Global, command: &str, count: u64) -> Option<String> {
+    let mut line = format!(in alloc; "{command},a,b,c,d,e,f").ok()?;
+    for number in 0..count {
+        let object = format!(in alloc; ",{number}").ok()?;
+        line.push_str(object.as_str()).ok()?;
+    }
+    Some(line)
+}
+
+/// Whether a command takes so many objects, in their order.
+fn takes(alloc: Global, command: &str, count: u64) -> bool {
+    let Some(line) = long_line(alloc, command, count) else {
+        return false;
+    };
+    let Ok(row) = format!(in alloc; "rvcfi,{line} = {line}") else {
+        return false;
+    };
+    is_read(alloc, row.as_str())
+}
+
+#[test]
+fn many_objects(rt: HostRuntime) {
+    assert!(rt; takes(rt.alloc(), "link", 300));
+    assert!(rt; takes(rt.alloc(), "compare-link", 300));
+    assert!(rt; !takes(rt.alloc(), "link", 0));
+    assert!(rt; !takes(rt.alloc(), "compare-link", 0));
 }
 
 /// No words at all are not taken.
@@ -166,12 +284,14 @@ Control-flow integrity for RV64IM programs
 Usage: rvcfi <COMMAND>
 
 Commands:
-  rewrite  Hardens an object: writes an image, its graph and its map
-  verify   Tells whether an image keeps to its graph
-  run      Runs an accepted image, and reports on the run
-  compare  Compares the run of an object with that of its image
-  demo     Makes an object from a number, hardens, runs and compares it
-  harden   Does what rewrite does, in one of four forms
+  rewrite       Hardens an object: writes an image, its graph and its map
+  verify        Tells whether an image keeps to its graph
+  run           Runs an accepted image, and reports on the run
+  compare       Compares the run of an object with that of its image
+  demo          Makes an object from a number, hardens, runs and compares it
+  harden        Does what rewrite does, in one of four forms
+  link          Does what harden does, with objects joined to one program
+  compare-link  Does what compare does, with objects joined to one program
 
 Options:
   -h, --help     Print help
@@ -209,6 +329,42 @@ Options:
   -h, --help  Print help
 ";
 
+const LINK_HELP: &str = "\
+Does what harden does, with objects joined to one program
+
+Usage: rvcfi link <FORM> <ENTRY> <POLICY> <IMAGE> <GRAPH> <MAP> <OBJECT>...
+
+Arguments:
+  <FORM>       The form of what is made: plain, harts, split or harts-split
+  <ENTRY>      The symbol at which the program begins
+  <POLICY>     The policy to read, or none
+  <IMAGE>      The image to write
+  <GRAPH>      The graph to write
+  <MAP>        The map to write
+  <OBJECT>...  The objects to read, in their order
+
+Options:
+  -h, --help  Print help
+";
+
+const COMPARE_LINK_HELP: &str = "\
+Does what compare does, with objects joined to one program
+
+Usage: rvcfi compare-link <ENTRY> <POLICY> <IMAGE> <MAP> <INPUT> <STEPS> <OBJECT>...
+
+Arguments:
+  <ENTRY>      The symbol at which the program begins
+  <POLICY>     The policy to read, or none
+  <IMAGE>      The image to read
+  <MAP>        The map to read
+  <INPUT>      The program's input to read, or none
+  <STEPS>      How many steps the program takes at most
+  <OBJECT>...  The objects to read, in their order
+
+Options:
+  -h, --help  Print help
+";
+
 /// Whether a command line asks for this text.
 fn shows(alloc: Global, line: &str, expected: &str) -> bool {
     let Some(words) = words(alloc, line) else {
@@ -226,5 +382,7 @@ fn texts(rt: HostRuntime) {
     assert!(rt; shows(rt.alloc(), "rvcfi,--help", HELP));
     assert!(rt; shows(rt.alloc(), "./rvcfi,verify,-h", VERIFY_HELP));
     assert!(rt; shows(rt.alloc(), "rvcfi,harden,--help", HARDEN_HELP));
+    assert!(rt; shows(rt.alloc(), "rvcfi,link,--help", LINK_HELP));
+    assert!(rt; shows(rt.alloc(), "rvcfi,compare-link,-h", COMPARE_LINK_HELP));
     assert!(rt; shows(rt.alloc(), "rvcfi,--version", "rvcfi 1.0.0\n"));
 }

@@ -16,11 +16,11 @@ const OTHER: &[u8] =
     b"rvcfi,demo,12345 = 0: object 228936 functions 2000\nimage 192128 code 171744 classes 1 sites 468\nrun exit 143 steps 110750 walk 38060\ncompare same 1\n";
 
 const LINES: &[u8] = b"\
-    rvcfi,demo = 2: usage: rvcfi rewrite|verify|run|compare|demo|harden\n;\
-    rvcfi,demo,1,2 = 2: usage: rvcfi rewrite|verify|run|compare|demo|harden\n;\
-    rvcfi,demo,one = 2: usage: rvcfi rewrite|verify|run|compare|demo|harden\n;\
-    rvcfi,demo,1000000001 = 2: usage: rvcfi rewrite|verify|run|compare|demo|harden\n;\
-    rvcfi,demo,00000000001 = 2: usage: rvcfi rewrite|verify|run|compare|demo|harden\n";
+    rvcfi,demo = 2: usage: rvcfi rewrite|verify|run|compare|demo|harden|link|compare-link\n;\
+    rvcfi,demo,1,2 = 2: usage: rvcfi rewrite|verify|run|compare|demo|harden|link|compare-link\n;\
+    rvcfi,demo,one = 2: usage: rvcfi rewrite|verify|run|compare|demo|harden|link|compare-link\n;\
+    rvcfi,demo,1000000001 = 2: usage: rvcfi rewrite|verify|run|compare|demo|harden|link|compare-link\n;\
+    rvcfi,demo,00000000001 = 2: usage: rvcfi rewrite|verify|run|compare|demo|harden|link|compare-link\n";
 
 /// Whether the largest number's object has the size that another generator gave it, and nothing differs.
 fn is_shown(alloc: Global, files: &mut MemFiles) -> bool {

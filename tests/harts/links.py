@@ -1,0 +1,76 @@
+#!/usr/bin/env python3
+"""Prints the objects and the table of crates/harden_tests/src/links.rt: `python3 tests/harts/links.py`.
+
+The objects are written down here; what they are joined to, hardened, and its runs are what the models beside this file give.
+"""
+
+import sys
+from pathlib import Path
+
+sys.dont_write_bytecode = True
+sys.path[:0] = [str(Path(__file__).resolve().parents[1] / "objects")]
+
+from hardener import FORMS, Hardening, Source
+from joiner import Joined
+from make_vectors import CALL_PLT, FUNC, NOTYPE, PER_LINE, RETURN, SECTION, Object, T, addi, auipc, jalr, ld, sd
+from runs import answer
+
+MAIN = Object(
+    "MAIN",
+    [([addi(2, 2, -16)], "plain", ""), ([sd(1, 2, 8)], "store", ""), ([auipc(1, 0), jalr(1, 1)], "call", ""),
+     ([ld(1, 2, 8)], "plain", ""), ([addi(2, 2, 16)], "plain", ""), ([RETURN], "return", "")],
+    [("main", FUNC, 1, 0, 28), ("f", NOTYPE, 0, 0, 0)], [(8, CALL_PLT, "f")])
+RETURNS = [([addi(10, 0, 3)], "plain", ""), ([RETURN], "return", "")]
+F = Object("F", RETURNS, [("f", FUNC, 1, 0, 8)], [])
+ODD = Object("ODD", RETURNS, [("\xff\xfe", FUNC, 1, 0, 8)], [])
+QUIET = Object("QUIET", RETURNS, [("", SECTION, 1, 0, 0)], [])
+FILES = {"main.o": MAIN, "f.o": F, "quiet.o": QUIET, "t.o": T}
+LINKS = [["main.o", "f.o"], ["f.o", "main.o"], ["main.o", "quiet.o", "f.o"], ["main.o", "t.o"], ["t.o"], ["t.o", "quiet.o"], ["main.o", "f.o", "f.o"],
+         ["main.o"], ["quiet.o", "main.o"], ["quiet.o", "t.o", "t.o"]]
+
+
+def sources(names):
+    return [Source(FILES[name].file()) for name in names]
+
+
+def refusal(parts):
+    """The line of a link that is refused, or None."""
+    whole = Joined(parts)
+    name, missing = whole.duplicate(), whole.undefined([len(part.symbols) for part in parts])
+    if name:
+        return "refused 27 Duplicate %s\\n" % name
+    return "refused 15 Undefined %d in %d\\n" % missing if missing else None
+
+
+def rows(names, form):
+    """The rows of a link: what it puts, that it is accepted, its run, and that nothing differs."""
+    objects = ",".join(names)
+    line = refusal(sources(names))
+    if line:
+        yield "rvcfi,link,%s,main,none,image,graph,map,%s = 1: %s" % (form, objects, line)
+        return
+    made = Hardening(Joined(sources(names)), "main", form)
+    status, report = answer(made.built, None, b"", 1000)
+    yield "rvcfi,link,%s,main,none,image,graph,map,%s = 0: %s" % (form, objects, made.told().decode().replace("\n", "\\n"))
+    yield "rvcfi,verify,image,graph = 0: accepted\\n"
+    yield "rvcfi,run,image,graph,none,none,1000 = %d: %s" % (status, report.decode().replace("\n", "\\n"))
+    yield "rvcfi,compare-link,main,none,image,map,none,1000,%s = 0: same 1\\n" % objects
+
+
+def hexadecimal(name, content):
+    digits = content.hex()
+    lines = [digits[at:at + 2 * PER_LINE] for at in range(0, len(digits), 2 * PER_LINE)]
+    return 'const %s: &[u8] = b"\\\n    %s";\n' % (name, "\\\n    ".join(lines))
+
+
+def main():
+    for each in (MAIN, F, QUIET):
+        print(hexadecimal(each.name, each.file()))
+    print(hexadecimal("ODD", ODD.file().replace("\xff\xfe".encode(), b"\xff\xfe\0\0")))
+    found = [row for form in FORMS for names in LINKS for row in rows(names, form)]
+    print("\n".join("    %s;\\" % row for row in found)[:-2] + '";')
+    print("// %d rows" % len(found))
+
+
+if __name__ == "__main__":
+    main()
