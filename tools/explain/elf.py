@@ -8,14 +8,16 @@ from elftools.elf.elffile import ELFFile
 from elftools.elf.relocation import RelocationSection
 from elftools.elf.sections import SymbolTableSection
 
+from explain.disassembly import Disassembly
+
 ALLOC, EXECINSTR = 2, 4
 ABS32, ABS64, ADD32, ADD64 = 1, 2, 35, 36
-CALL, CALL_PLT, PCREL_HI20, HI20 = 18, 19, 23, 26
+CALL, CALL_PLT, GOT_HI20, PCREL_HI20, HI20 = 18, 19, 20, 23, 26
 AUIPC, JALR, ECALL, EBREAK = 0x17, 0x67, 0x00000073, 0x00100073
 
 
 class Symbol(NamedTuple):
-    """A row of the symbol table; `section` is a number, or a word as SHN_UNDEF."""
+    """A row of the symbol table; `section` is a number, or a word as SHN_UNDEF. Of several objects `file` is its own."""
     index: int
     name: str
     kind: str
@@ -23,10 +25,13 @@ class Symbol(NamedTuple):
     section: object
     value: int
     size: int
+    file: str = ""
 
     def told(self):
-        where = "is defined nowhere" if self.section == "SHN_UNDEF" else "at %s in section %s" % (hexadecimal(self.value), self.section)
-        return "%s (symbol %d, %s, %s)" % (self.name or "a symbol without a name", self.index, word(self.bind), where)
+        of, of_all = (" of " + self.file, " of all") if self.file else ("", "")
+        where = "at %s in section %s%s" % (hexadecimal(self.value), self.section, of_all if isinstance(self.section, int) else "")
+        where = "is defined nowhere" if self.section == "SHN_UNDEF" else where
+        return "%s (symbol %d%s, %s, %s)" % (self.name or "a symbol without a name", self.index, of, word(self.bind), where)
 
 
 class Relocation(NamedTuple):
@@ -53,8 +58,10 @@ def fields(instruction):
 
 class Object:
     """What is read of an object. A place is a pair of a section's number and an offset."""
+    own_run = "The object's own run"
 
     def __init__(self, path):
+        self.path = path
         with open(path, "rb") as file:
             elf = ELFFile(file)
             sections = list(elf.iter_sections())
@@ -80,12 +87,15 @@ class Object:
     def code_sections(self):
         return [number for number in range(len(self.names)) if self.is_code(number)]
 
-    @staticmethod
-    def read_symbols(sections):
+    def read_symbols(self, sections):
         tables = [section for section in sections if isinstance(section, SymbolTableSection)]
         rows = tables[0].iter_symbols() if tables else []
-        return [Symbol(index, row.name, str(row["st_info"]["type"]), str(row["st_info"]["bind"]), row["st_shndx"],
-                       row["st_value"], row["st_size"]) for index, row in enumerate(rows)]
+        return [Symbol(index, self.symbol_name(tables[0], row), str(row["st_info"]["type"]), str(row["st_info"]["bind"]),
+                       row["st_shndx"], row["st_value"], row["st_size"]) for index, row in enumerate(rows)]
+
+    @staticmethod
+    def symbol_name(_, row):
+        return row.name
 
     def read_relocations(self, sections):
         """Those of kept sections, in the order of their tables."""
@@ -183,3 +193,23 @@ class Object:
     def named(self, name):
         """The symbols of a name, in the table's order: an entry or a policy means the first."""
         return [symbol for symbol in self.symbols if symbol.name == name]
+
+    @staticmethod
+    def stands_for(first, others):
+        """Which one of the symbols of a name is meant."""
+        if first.bind == "STB_LOCAL" and any(other.bind != "STB_LOCAL" for other in others):
+            return "a static symbol, while a global one of that name is there"
+        return "the first of %d symbols" % (1 + len(others))
+
+    def symbol_of(self, number, _):
+        """The symbol with a number in an object, these counted from 1, or None."""
+        return self.symbols[number] if number < len(self.symbols) else None
+
+    def disassembly(self):
+        return Disassembly(self.path, self.names_of_code())
+
+    @staticmethod
+    def doubt(how):
+        """What is told of a graph that has other classes than the object."""
+        yield "These are not the classes that the object comes to %s." % how
+        yield "    Was it hardened with another policy, or is this another object?"

@@ -90,9 +90,7 @@ class Named:
         told = {self.map.place(site.address): {self.map.place(target) for target in self.graph.classes.get(site.label, [])}
                 for site in self.graph.sites}
         if told != {site: set(targets) for site, targets in wanted.items()}:
-            how = "with this policy" if policy else "without a policy"
-            yield "These are not the classes that the object comes to %s." % how
-            yield "    Was it hardened with another policy, or is this another object?"
+            yield from self.read.doubt("with this policy" if policy else "without a policy")
 
     def idle(self, policy):
         flow, lines = classes.Flow(self.read), classes.policy_of(self.read, policy)
@@ -111,10 +109,8 @@ class Named:
     def doubtful(self, names):
         for first, others in classes.doubtful_names(self.read, names):
             hidden = [other for other in others if other.bind != "STB_LOCAL" and first.bind == "STB_LOCAL"]
-            first_of = "the first of %d symbols" % (1 + len(others))
-            what = "a static symbol, while a global one of that name is there" if hidden else first_of
             yield "the name %s stands for %s: %s is meant, not %s" % (
-                first.name, what, first.told(), (hidden or others)[0].told())
+                first.name, self.read.stands_for(first, others), first.told(), (hidden or others)[0].told())
 
 
 def policy_names(policy):

@@ -1,4 +1,6 @@
-"""A refusal of `rewrite` or `compare` in names: what is meant, where it stands, and what to do."""
+"""A refusal of `rewrite`, `link` or a comparison in names: what is meant, where it stands, and what to do."""
+
+import re
 
 from explain import table
 from explain.elf import fields
@@ -15,24 +17,44 @@ RESERVED = {3: "x3 (gp)", 4: "x4 (tp)", 30: "x30 (t5)", 31: "x31 (t6)"}
 AT_PLACES = {9, 10, 11, 12, 13, 14, 16, 21}
 PCREL_LO12 = {24, 25}
 LARGEST = 8
+OF_ONE, DUPLICATE, SECTIONS = range(1, 9), 27, 28  # the refusals of one object alone, and those of several
+
+
+def words_of(answer):
+    """The words of an answer. A name that is defined twice is one, whatever bytes it has."""
+    text = answer.decode("utf-8", "surrogateescape")
+    named = re.fullmatch(r"(refused) (%d) (Duplicate) (.*?)\n?" % DUPLICATE, text, re.S)
+    return list(named.groups()) if named else text.split()
+
+
+def number_of(words):
+    """The number of the object, from 1, that a refusal of `link` is of, or None."""
+    return decimal(words[-1]) if words[-2:-1] == ["in"] else None
+
+
+def decimal(word):
+    """The number that a word is, or 0."""
+    return int(word) if re.fullmatch("[0-9]{1,1000}", word) else 0
 
 
 class Refusal:
     """A refusal's number, its name and the numbers behind them, with the files that it is of."""
 
-    def __init__(self, words, read, disassembly, policy):
-        self.number, self.name, self.values = int(words[1]), words[2] if len(words) > 2 else "", words[3:]
-        self.read, self.disassembly, self.policy = read, disassembly, policy
+    def __init__(self, words, read, disassembly, options):
+        self.number, self.of, self.words, self.values = decimal(words[1]), number_of(words), words[2:], words[3:]
+        self.read, self.disassembly, self.policy, self.objects = read, disassembly, options.policy, options.objects
 
     def heading(self):
-        return "refused %d %s" % (self.number, " ".join([self.name] + self.values))
+        return "refused %d %s" % (self.number, " ".join(self.words))
 
     def value(self, index):
-        return int(self.values[index]) if index < len(self.values) else 0
+        return decimal(self.values[index]) if index < len(self.values) else 0
 
     def lines(self):
         """All that is told, where the object could be read."""
         yield self.heading()
+        if self.of is not None:
+            yield from self.of_object()
         if self.number in AT_PLACES:
             yield from self.at_place()
         if self.number in SPECIAL:
@@ -46,10 +68,16 @@ class Refusal:
         yield "What to do: " + advice
         yield "The first refusal that stands is told: there may be more behind it."
 
+    def of_object(self):
+        if 0 < self.of <= len(self.objects):
+            yield "Object %d is %s." % (self.of, self.objects[self.of - 1])
+        else:
+            yield "There is no object %d here: give all of them, in their order." % self.of
+
     def at_place(self):
         place = self.value(0), self.value(1)
         yield "In %s at offset %x: %s" % (self.read.section_name(place[0]), place[1], self.read.name(place))
-        if self.read.is_code(place[0]):
+        if place[0] < len(self.read.headers) and self.read.is_code(place[0]):
             yield "The instruction: " + self.disassembly.text(place, self.read.word_at(place))
         for row in self.read.at_place(place):
             yield "A relocation there: %s against %s" % (RELOCATIONS.get(row.kind, row.kind), self.symbol_name(row))
@@ -88,7 +116,7 @@ class Refusal:
             return
         symbol = self.read.symbols[self.value(0)]
         yield "The symbol: %s, of kind %s." % (symbol.told(), symbol.kind.replace("STT_", ""))
-        if isinstance(symbol.section, int):
+        if isinstance(symbol.section, int) and symbol.section < len(self.read.headers):
             size = self.read.headers[symbol.section]["sh_size"]
             if symbol.value > size:
                 yield "It stands at %x, past the end of %s, which has %x bytes." % (
@@ -111,8 +139,9 @@ class Refusal:
                 yield "It completes %s: %s" % (self.read.name(place), self.disassembly.text(place, self.read.word_at(place)))
 
     def undefined_symbols(self):
-        if self.value(0) < len(self.read.symbols):
-            yield "The symbol: " + self.read.symbols[self.value(0)].told() + "."
+        symbol = self.read.symbol_of(self.value(0), self.of)
+        if symbol:
+            yield "The symbol: " + symbol.told() + "."
         uses = self.undefined()
         yield "Undefined are %d in all, with how often each is named, and where first:" % len(uses)
         for name, places in uses.items():
@@ -165,15 +194,27 @@ class Refusal:
         rows = [(row.size, row.name) for rows in self.read.functions.values() for row in rows]
         yield from self.largest(rows, "functions, before they are hardened")
 
+    def duplicates(self):
+        rows = list(self.read.duplicates(self.values[0])) if self.values else []
+        yield "The name is defined %d times:" % len(rows)
+        for number, symbol in rows:
+            yield "    in object %d: %s" % (number, symbol.told())
+
+    def sections(self):
+        last, counts = self.read.sections_up_to(self.value(0))
+        if last:
+            yield "With %s there are %d sections." % (last, self.value(0))
+        yield from self.largest(counts, "objects", "sections")
+
     def largest_variables(self):
         rows = [(row.size, row.name) for row in self.read.symbols if row.kind == "STT_OBJECT"]
         yield from self.largest(rows, "variables")
 
     @staticmethod
-    def largest(rows, what):
+    def largest(rows, what, of="bytes"):
         yield "The largest %s:" % what
         for size, name in sorted(rows, reverse=True)[:LARGEST]:
-            yield "    %10d bytes  %s" % (size, name)
+            yield "    %10d %s  %s" % (size, of, name)
 
 
 # what is told of one kind of refusal alone
@@ -193,4 +234,6 @@ SPECIAL = {
     18: Refusal.policy_line,
     19: Refusal.largest_functions,
     20: Refusal.largest_variables,
+    DUPLICATE: Refusal.duplicates,
+    SECTIONS: Refusal.sections,
 }

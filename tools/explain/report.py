@@ -125,5 +125,5 @@ def of_rejected(named, disassembly, words):
 
 def of_untame(named, disassembly, words):
     place = int(words[2]), int(words[3])
-    yield "The object's own run leaves what is compared at %s: %s." % (named.read.name(place), UNTAME.get(words[1], words[1]))
+    yield "%s leaves what is compared at %s: %s." % (named.read.own_run, named.read.name(place), UNTAME.get(words[1], words[1]))
     yield "The instruction: " + disassembly.text(place, named.read.word_at(place))
