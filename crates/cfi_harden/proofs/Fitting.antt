@@ -1,5 +1,5 @@
 -- Each unit that is written may stand where it does: its fields are in range, and its jumps reach what lies in the region of code.
-use Rattle.std.proofs.Common.{◌≡◌, ◌≢◌, ℕ, ◌+◌, ◌*◌, ◌%◌, ◌^◌, ◌≤◌, ◌<◌, Bool, true, false, refl, sym, ap, ◌∙◌, arith}
+use Rattle.std.proofs.Common.{◌≡◌, ◌≢◌, ℕ, ◌+◌, ◌*◌, ◌%◌, ◌^◌, ◌≤◌, ◌<◌, Bool, true, false, refl, sym, ap, ◌∙◌, lit<, arith}
 use Rattle.std.specs.Prelude.{◌&&◌, ◌||◌, ◌==◌, not}
 use Rattle.std.proofs.lemmas.Bool.{and_from, and_parts, not-true, or_parts}
 use Rattle.rv_word.specs.MemoryMap.{CODE_SIZE, CODE_START, START}
@@ -16,6 +16,7 @@ use Rattle.obj_program.specs.Suits as of
 use Rattle.cfi_unit.specs.UnitWords.{BAD_RETURN, BAD_TARGET, DEEP, Fits, IsNear, Reaches, is_lui, is_plain, word_count}
 use Rattle.cfi_unit.proofs.Near.{branch_reached, near_reached}
 use Rattle.cfi_map.specs.Shorts.{is_branch}
+use Rattle.cfi_rules.proofs.PlacedRows.{one_member}
 use Rattle.cfi_unit.specs.declared.target_word.TargetWord.{TargetWord}
 use Rattle.cfi_harden.specs.Units.{unit_of}
 use Rattle.cfi_harden.proofs.UnitOf.{is_right}
@@ -122,7 +123,8 @@ pub unit_fits : (kind : ItemKind) (i : Instr) (whole : Bool) (target : ℕ) (whi
     (is_branch kind ≡ true → whole ≡ false → (a ≤ target + 4096) × (target ≤ a + 4092)) → Fits (unit_of kind i whole target which label) a
 unit_fits is.Gate (I.Upper op rd imm) whole target which label a right range small low high round there near = range.1
 unit_fits is.Plain i whole target which label a right range small low high round there near = (range, plain_is i right)
-unit_fits is.Store (I.Store op rs1 rs2 imm) whole target which label a right range small low high round there near = range
+unit_fits is.Store (I.Store op rs1 rs2 imm) whole target which label a right range small low high round there near =
+    (range.0, range.2, one_member (record { op = op; value = rs2; distance = 0 }) (range.1, lit< tt))
 unit_fits is.System I.Ecall whole target which label a right range small low high round there near = tt
 unit_fits is.System I.Ebreak whole target which label a right range small low high round there near = tt
 unit_fits is.Branch (I.Branch op rs1 rs2 imm) true target which label a right range small low high round there near =

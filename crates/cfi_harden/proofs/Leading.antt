@@ -20,11 +20,10 @@ use Rattle.cfi_closed.specs.Closed.{is_target}
 use Rattle.cfi_unit.specs.declared.target_word.TargetWord.{TargetWord}
 use Rattle.cfi_unit.specs.declared.unit.Unit as U
 use Rattle.cfi_unit.specs.declared.unit.Unit.TheVariants as V
-use Rattle.cfi_unit.specs.Laws.{IsShortSkip}
 use Rattle.cfi_unit.specs.UnitWords.{Fits, IsNear, near_offset, skip_offset, word_count}
 use Rattle.cfi_rules.specs.Placed.{AllAhead, AllFit}
 use Rattle.cfi_rules.specs.Split.{unit_in}
-use Rattle.cfi_rules.proofs.Ahead.{all_ahead, all_fit, is_jump_unit}
+use Rattle.cfi_rules.proofs.Ahead.{IsShortSkip, all_ahead, all_fit, is_jump_unit}
 use Rattle.cfi_harden.specs.Accepted.{IsAccepted}
 use Rattle.cfi_map.specs.Shorts.{is_branch, is_kept, is_skipped}
 use Rattle.cfi_harden.specs.Units.{Choice, instr_of, lead_unit, unit_for, unit_of, units}

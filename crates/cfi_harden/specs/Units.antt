@@ -49,7 +49,7 @@ branch_of false op rs1 rs2 target = V.Near op rs1 rs2 target
 abbrev pub unit_of : ItemKind → Instr → Bool → ℕ → TargetWord → ℕ → U.Unit
 unit_of is.Gate (I.Upper op rd imm) whole target which label = V.Gate imm
 unit_of is.Plain instr whole target which label = V.Plain instr
-unit_of is.Store (I.Store op rs1 rs2 imm) whole target which label = V.Store op rs1 rs2 imm
+unit_of is.Store (I.Store op rs1 rs2 imm) whole target which label = V.Stores rs1 imm (record { op = op; value = rs2; distance = 0 } ∷ [])
 unit_of is.System I.Ecall whole target which label = V.System S.Ecall
 unit_of is.System I.Ebreak whole target which label = V.System S.Ebreak
 unit_of is.Branch (I.Branch op rs1 rs2 imm) whole target which label = branch_of whole op rs1 rs2 target

@@ -10,9 +10,9 @@ ghost use Rattle.cfi_harden.specs.Units.{inverse, lead, lead_unit, unit_for, uni
 
 use crate::chosen::Chosen;
 use cfi_rules::jump_word;
-use cfi_unit::{SystemOp, TargetWord, Unit};
+use cfi_unit::{Member, Members, SystemOp, TargetWord, Unit};
 use obj_input::ItemKind;
-use rv_instr::{BranchOp, Immediate, ImmediateOp, Instr, Reg};
+use rv_instr::{BranchOp, Immediate, ImmediateOp, Instr, Reg, StoreOp};
 use rv_word::NoMemory;
 use std::alloc::Global;
 
@@ -30,6 +30,19 @@ fn inverse(op: BranchOp) -> BranchOp
     }
 }
 
+/// One store behind a mask, at the masked address itself.
+fn alone(op: StoreOp, value: Reg) -> Members
+    ensures { result ≡ record { op = op; value = value; distance = 0 } ∷ [] }
+{
+    let mut members = Members::new();
+    members.push(Member {
+        op,
+        value,
+        distance: Immediate::of(0),
+    });
+    members
+}
+
 /// The unit of an instruction of a kind: a branch in its whole size or as one word, the gate of the place that a direct transfer goes
 /// to, the label that a computed one asks for, and the word of its destination that a jump's check reads.
 fn unit_of(
@@ -45,7 +58,9 @@ fn unit_of(
     match (kind, *instr) {
         (ItemKind::Gate, Instr::Upper(_, _, own)) => Unit::Gate(own),
         (ItemKind::Plain, instr) => Unit::Plain(instr),
-        (ItemKind::Store, Instr::Store(op, rs1, rs2, imm)) => Unit::Store(op, rs1, rs2, imm),
+        (ItemKind::Store, Instr::Store(op, rs1, rs2, imm)) => {
+            Unit::Stores(rs1, imm, alone(op, rs2))
+        }
         (ItemKind::System, Instr::Ecall) => Unit::System(SystemOp::Ecall),
         (ItemKind::System, Instr::Ebreak) => Unit::System(SystemOp::Ebreak),
         (ItemKind::Branch, Instr::Branch(op, rs1, rs2, _)) => {

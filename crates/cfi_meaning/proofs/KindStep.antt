@@ -1,15 +1,18 @@
 -- The own step of a place's unit is that of its instruction's kind.
-use Rattle.std.proofs.Common.{◌≡◌, ℕ, zero, suc, ◌+◌, ◌==◌, true, false, not, Bool, if◌then◌else◌, refl, sym, ap, ◌∙◌, arith}
+use Rattle.std.proofs.Common.{◌≡◌, ℕ, zero, suc, ◌+◌, ◌^◌, ◌<◌, ◌==◌, true, false, not, Bool, if◌then◌else◌, refl, sym, ap, ◌∙◌, arith}
 use Rattle.std.specs.Prelude.{nat_lt}
 use Rattle.std.proofs.lemmas.Bool.{eqb-true}
 use Rattle.rv_word.specs.MemoryMap.{Profile}
+use Rattle.rv_word.specs.Memory.{Memory, loaded, write}
 use Rattle.rv_instr.specs.Registers.{get_reg}
 use Rattle.rv_instr.specs.declared.instr.Instr.{Instr}
 use Rattle.rv_instr.specs.declared.instr.Instr.TheVariants as I
 use Rattle.rv_instr.specs.declared.instr.UpperOp.TheVariants.{Lui, Auipc}
+use Rattle.rv_instr.specs.declared.instr.StoreOp.{StoreOp}
 use Rattle.rv_instr.specs.declared.instr.BranchOp.{BranchOp}
 use Rattle.rv_instr.specs.declared.instr.BranchOp.TheVariants.{Beq, Bne, Blt, Bge, Bltu, Bgeu}
-use Rattle.rv_code.specs.Arithmetic.{branch_taken, signed_less}
+use Rattle.rv_code.specs.Arithmetic.{branch_taken, signed_less, store_size}
+use Rattle.rv_code.specs.declared.turn.Turn.TheVariants.{Ran}
 use Rattle.obj_input.specs.declared.item_kind.ItemKind.{ItemKind}
 use Rattle.obj_input.specs.declared.item_kind.ItemKind.TheVariants as is
 use Rattle.obj_program.specs.Program.{is_end, item_of}
@@ -19,8 +22,12 @@ use Rattle.cfi_map.specs.GraphAtMap.{gate, gate_to, words_at}
 use Rattle.cfi_map.specs.LabelOf.{site_label}
 use Rattle.cfi_map.specs.Placement.{whole_at}
 use Rattle.cfi_unit.specs.declared.target_word.TargetWord.{TargetWord}
+use Rattle.cfi_unit.specs.Leads.{sum_of}
+use Rattle.cfi_unit.specs.Leaving.{with_memory}
+use Rattle.cfi_unit.proofs.Regions.{can_store_data, store_size-small}
 use Rattle.cfi_rules.specs.Rules.{jump_word}
-use Rattle.cfi_runs.specs.Own.{Own, goes, own_past}
+use Rattle.cfi_runs.specs.Own.{Own, OwnAfter, executes, goes, own_past}
+use Rattle.cfi_runs.specs.Tame.{IsTame}
 use Rattle.cfi_harden.specs.Units.{instr_of, inverse, unit_of}
 use Rattle.cfi_harden.proofs.Standing.{instr_is}
 use Rattle.cfi_meaning.specs.KindStep as law
@@ -46,31 +53,47 @@ turned : (taken : Bool) (target next : ℕ) → (if not taken then next else tar
 turned true target next = refl
 turned false target next = refl
 
-own_of_kind : (p : Profile) (kind : ItemKind) (i : Instr) (whole : Bool) (target : ℕ) (which : TargetWord) (label next : ℕ) (o : Own) → is_end kind ≡ false → suits kind i ≡ true →
+-- what a store of a register leaves at an address
+abbrev wrote : Own → StoreOp → ℕ → ℕ → ℕ → OwnAfter
+wrote o op rs2 next a = record {
+  state = record o { pc = next; shared = with_memory o.shared (write (store_size op) o.shared.memory a (get_reg o.regs rs2)) };
+  turn = Ran;
+}
+
+own_store : (p : Profile) (o : Own) (op : StoreOp) (rs1 rs2 imm next : ℕ) → sum_of o.regs rs1 imm < 2 ^ 28 →
+    executes p o (I.Store op rs1 rs2 imm) o.regs next ≡ wrote o op rs2 next (sum_of o.regs rs1 imm)
+own_store p o op rs1 rs2 imm next below =
+    let can = can_store_data p (sum_of o.regs rs1 imm) (store_size op) below (store_size-small op) in rw can refl
+
+own_of_kind : (p : Profile) (image : Memory) (kind : ItemKind) (i : Instr) (whole : Bool) (target : ℕ) (which : TargetWord) (label next : ℕ) (o : Own) →
+    is_end kind ≡ false → suits kind i ≡ true → IsTame image (unit_of kind i whole target which label) o.pending o.regs →
     own_past p o (unit_of kind i whole target which label) next ≡ kind_step p kind i target next o
-own_of_kind p is.Gate (I.Upper Lui zero imm) whole target which label next o some suit = refl
-own_of_kind p is.Gate (I.Upper Lui (suc rd) imm) whole target which label next o some suit = absurd (let none = eqb-true (suc rd) 0 suit in omega arith)
-own_of_kind p is.Gate (I.Upper Auipc rd imm) whole target which label next o some suit = absurd (cc)
-own_of_kind p is.Plain i whole target which label next o some suit = refl
-own_of_kind p is.Store (I.Store op rs1 rs2 imm) whole target which label next o some suit = refl
-own_of_kind p is.System I.Ecall whole target which label next o some suit = refl
-own_of_kind p is.System I.Ebreak whole target which label next o some suit = refl
-own_of_kind p is.Branch (I.Branch op rs1 rs2 imm) true target which label next o some suit =
+own_of_kind p image is.Gate (I.Upper Lui zero imm) whole target which label next o some suit tame = refl
+own_of_kind p image is.Gate (I.Upper Lui (suc rd) imm) whole target which label next o some suit tame = absurd (let none = eqb-true (suc rd) 0 suit in omega arith)
+own_of_kind p image is.Gate (I.Upper Auipc rd imm) whole target which label next o some suit tame = absurd (cc)
+own_of_kind p image is.Plain i whole target which label next o some suit tame = refl
+own_of_kind p image is.Store (I.Store op rs1 rs2 imm) whole target which label next o some suit tame =
+    let same : sum_of o.regs rs1 imm + 0 ≡ sum_of o.regs rs1 imm = omega arith in
+    ap (wrote o op rs2 next) same ∙ sym (own_store p o op rs1 rs2 imm next tame)
+own_of_kind p image is.System I.Ecall whole target which label next o some suit tame = refl
+own_of_kind p image is.System I.Ebreak whole target which label next o some suit tame = refl
+own_of_kind p image is.Branch (I.Branch op rs1 rs2 imm) true target which label next o some suit tame =
     let a = get_reg o.regs rs1 in
     let b = get_reg o.regs rs2 in
     ap (goes p o) (ap (λ (taken : Bool). if taken then next else target) (inverse_taken op a b) ∙ turned (branch_taken op a b) target next)
-own_of_kind p is.Branch (I.Branch op rs1 rs2 imm) false target which label next o some suit = refl
-own_of_kind p is.Jump i whole target which label next o some suit = refl
-own_of_kind p is.Call i whole target which label next o some suit = refl
-own_of_kind p is.Return i whole target which label next o some suit = refl
-own_of_kind p is.Ijump (I.Jalr rd rs1 imm) whole target which label next o some suit = refl
-own_of_kind p is.Icall (I.Jalr rd rs1 imm) whole target which label next o some suit = refl
-own_of_kind p kind i whole target which label next o some suit = absurd (cc)
+own_of_kind p image is.Branch (I.Branch op rs1 rs2 imm) false target which label next o some suit tame = refl
+own_of_kind p image is.Jump i whole target which label next o some suit tame = refl
+own_of_kind p image is.Call i whole target which label next o some suit tame = refl
+own_of_kind p image is.Return i whole target which label next o some suit tame = refl
+own_of_kind p image is.Ijump (I.Jalr rd rs1 imm) whole target which label next o some suit tame = refl
+own_of_kind p image is.Icall (I.Jalr rd rs1 imm) whole target which label next o some suit tame = refl
+own_of_kind p image kind i whole target which label next o some suit tame = absurd (cc)
 
 pub step_of_kind : law.StepOfKind
-step_of_kind m k o ok place =
+step_of_kind m image k o ok now =
+    let place = now.place in
     let words = words_at m.layout in
     let is = kept m.layout.program m.layout.gates words k (instr_of m k) ok.sound place.below place.no_end (instr_is m ok k place.below place.no_end) in
     ap (own_past m.layout.profile (at_word m k o) (unit_here m k)) (sym (next_gate m k ok place).1)
-    ∙ own_of_kind m.layout.profile (item_of m.layout.program k).kind (instr_of m k) (whole_at m.whole k) (gate_to m.layout (item_of m.layout.program k).target)
-    (jump_word m.layout.closed.version) (site_label m.labels m.layout.closed.sides k) (gate m.layout (k + 1)) (at_word m k o) place.no_end is.0
+    ∙ own_of_kind m.layout.profile (loaded image) (item_of m.layout.program k).kind (instr_of m k) (whole_at m.whole k) (gate_to m.layout (item_of m.layout.program k).target)
+    (jump_word m.layout.closed.version) (site_label m.labels m.layout.closed.sides k) (gate m.layout (k + 1)) (at_word m k o) place.no_end is.0 now.tame

@@ -1,5 +1,5 @@
 -- A step against which no reason stands is one that its unit keeps.
-use Rattle.std.proofs.Common.{◌≡◌, ℕ, suc, ◌<◌, ◌==◌, Bool, true, false, List, [], ◌∷◌, length, Some, None, refl, ap, subst, arith}
+use Rattle.std.proofs.Common.{◌≡◌, ℕ, suc, ◌^◌, ◌<◌, ◌≤◌, ◌==◌, Bool, true, false, List, [], ◌∷◌, length, Some, None, refl, ap, subst, arith}
 use Rattle.std.specs.Prelude.{nat_le, if◌then◌else◌}
 use Rattle.std.proofs.lemmas.Bool.{eqb-true, leb-false, leb-true, not-false}
 use Rattle.rv_word.specs.Image.{Contents}
@@ -7,6 +7,9 @@ use Rattle.rv_word.specs.Memory.{loaded}
 use Rattle.rv_instr.specs.Registers.{get_reg}
 use Rattle.rv_instr.specs.declared.instr.Instr.{Instr}
 use Rattle.rv_instr.specs.declared.instr.Instr.TheVariants as I
+use Rattle.rv_instr.specs.declared.instr.StoreOp.{StoreOp}
+use Rattle.rv_instr.specs.declared.instr.StoreOp.TheVariants.{Sb, Sh, Sw, Sd}
+use Rattle.rv_code.specs.Arithmetic.{store_size}
 use Rattle.obj_input.specs.declared.item_kind.ItemKind.{ItemKind}
 use Rattle.obj_input.specs.declared.item_kind.ItemKind.TheVariants as is
 use Rattle.obj_program.specs.Program.{is_end}
@@ -17,7 +20,7 @@ use Rattle.cfi_unit.specs.declared.target_word.TargetWord.{TargetWord}
 use Rattle.cfi_unit.specs.Leads.{HasLabel}
 use Rattle.cfi_unit.specs.Shadow.{MOST_PENDING}
 use Rattle.cfi_runs.specs.Own as own
-use Rattle.cfi_runs.specs.Tame.{IsTame}
+use Rattle.cfi_runs.specs.Tame.{IsTame, touched}
 use Rattle.cfi_harden.specs.SideLaws.{word_read}
 use Rattle.cfi_harden.specs.Units.{unit_of}
 use Rattle.cfi_meaning.specs.Matches.{sites_of}
@@ -48,6 +51,12 @@ all_false false false true d e none = absurd (cc)
 all_false false false false true e none = absurd (cc)
 all_false false false false false true none = absurd (cc)
 
+size_some : (op : StoreOp) → 0 < store_size op
+size_some Sb = omega arith
+size_some Sh = omega arith
+size_some Sw = omega arith
+size_some Sd = omega arith
+
 pub sites_counted : (g : ProgramAtMap) (pending : List ℕ) → length (sites_of g pending) ≡ suc (length pending)
 sites_counted g [] = refl
 sites_counted g (k ∷ pending) = ap suc (sites_counted g pending)
@@ -75,7 +84,9 @@ module _ (image : Contents) (g : ProgramAtMap) (k : ℕ) (which : TargetWord) (l
       suits kind i ≡ true → NoReason g k kind i st → IsTame (loaded image) (unit_of kind i whole target which label) (sites_of g st.pending) st.regs
   tame_of_kind is.Gate (I.Upper op rd imm) whole target bears suit no_reason = tt
   tame_of_kind is.Plain i whole target bears suit no_reason = leb-true _ _ (not-false _ no_reason.window)
-  tame_of_kind is.Store (I.Store op rs1 rs2 imm) whole target bears suit no_reason = leb-true _ _ (not-false _ no_reason.window)
+  tame_of_kind is.Store (I.Store op rs1 rs2 imm) whole target bears suit no_reason =
+      let inside : touched (I.Store op rs1 rs2 imm) st.regs ≤ 2 ^ 28 = leb-true _ _ (not-false _ no_reason.window) in
+      let some = size_some op in omega arith
   tame_of_kind is.System I.Ecall whole target bears suit no_reason = tt
   tame_of_kind is.System I.Ebreak whole target bears suit no_reason = tt
   tame_of_kind is.Branch (I.Branch op rs1 rs2 imm) true target bears suit no_reason = tt

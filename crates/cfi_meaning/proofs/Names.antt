@@ -43,11 +43,18 @@ or_right : (a b : Bool) → b ≡ true → (a || b) ≡ true
 or_right true b e = refl
 or_right false b e = e
 
+-- of one store
+one_named : (a b : Bool) → (a || (b || false)) ≡ true → (a || b) ≡ true
+one_named true b e = refl
+one_named false true e = refl
+one_named false false e = e
+
 pub unit_free : (kind : ItemKind) (i : Instr) (whole : Bool) (target : ℕ) (which : TargetWord) (label : ℕ) → is_end kind ≡ false → suits kind i ≡ true → names_reserved i ≡ false →
     NamesNoReserved (unit_of kind i whole target which label)
 unit_free is.Gate (I.Upper op rd imm) whole target which label some suit none = λ k named. absurd (cc)
 unit_free is.Plain i whole target which label some suit none = λ k named. instr_free i none k named
-unit_free is.Store (I.Store op rs1 rs2 imm) whole target which label some suit none = λ k named. instr_free (I.Store op rs1 rs2 imm) none k named
+unit_free is.Store (I.Store op rs1 rs2 imm) whole target which label some suit none =
+    λ k named. instr_free (I.Store op rs1 rs2 imm) none k (one_named (rs1 == k) (rs2 == k) named)
 unit_free is.System I.Ecall whole target which label some suit none = λ k named. absurd (cc)
 unit_free is.System I.Ebreak whole target which label some suit none = λ k named. absurd (cc)
 unit_free is.Branch (I.Branch op rs1 rs2 imm) true target which label some suit none = λ k named. instr_free (I.Branch op rs1 rs2 imm) none k named

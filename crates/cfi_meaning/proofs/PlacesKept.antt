@@ -15,6 +15,7 @@ use Rattle.cfi_runs.specs.Own.{Own, own_closing, own_start, own_step}
 use Rattle.cfi_runs.specs.OwnRuns.{OwnRuns, words_along}
 use Rattle.cfi_runs.specs.WholeRun.{RunsTo, own_shared}
 use Rattle.cfi_runs.proofs.WholeRun.{run_keeps_match}
+use Rattle.cfi_map.specs.GraphAtMap.{word}
 use Rattle.cfi_harden.specs.Units.{Choice, entry_gate}
 use Rattle.cfi_meaning.specs.PlacesKept as law
 use Rattle.cfi_meaning.specs.ImageOf.{IsImageOf, unit_here}
@@ -49,7 +50,7 @@ walked m image (k ∷ places) o last of on =
     let path = here.path ++ unit_here m k ∷ rest.path in
     let counted = words_join here.path (unit_here m k ∷ rest.path) in
     let one = here.few in
-    let some = most_words (unit_here m k) in
+    let some = most_words (unit_here m k) (word m.layout k) here.step.fits in
     let others = rest.few in
     let all = mul-suc (20 + length m.layout.closed.sides) (length places) in
     record {
@@ -95,7 +96,7 @@ places_kept m image input places o of on =
           let joined = paths_join p (loaded image) walk.path here.path first o (at_word m k o) walk.leads here.leads in
           let counted = words_join walk.path here.path in
           let one = here.few in
-          let some = most_words (unit_here m k) in
+          let some = most_words (unit_here m k) (word m.layout k) here.step.fits in
           let longer = bound_more (length m.layout.closed.sides) (last_words p) (length places) in
           let then = run_keeps_match p image input (entry_gate m) (walk.path ++ here.path) (at_word m k o) has joined in
           more_steps p image input _ (most_steps m.layout (length places + 1)) (MatchesAfter SHADOW_START (loaded image) (loaded image) (place_step m k o)) (omega arith) (then.next (unit_here m k) here.step);

@@ -27,6 +27,7 @@ use Rattle.cfi_runs.proofs.Ends.{closing_keeps_match}
 use Rattle.cfi_runs.proofs.Matched.{unit_keeps_match}
 use Rattle.cfi_runs.proofs.Paths.{path_keeps_match, sites_fit, unit_within}
 use Rattle.cfi_runs.proofs.WholeRun.{path_fit}
+use Rattle.cfi_map.specs.GraphAtMap.{word}
 use Rattle.cfi_harden.specs.Units.{Choice, entry_gate}
 use Rattle.cfi_meaning.specs.ImageOf.{IsImageOf, unit_here}
 use Rattle.cfi_meaning.specs.PlaceSteps.{TamePlace, at_word, place_step}
@@ -108,7 +109,7 @@ module _ (m : Choice) (image : Contents) (of : IsImageOf m image) where
       let o = own_of m.layout st in
       let here = place_runs m image k o of now in
       let few = here.few in
-      let long = most_words (unit_here m k) in
+      let long = most_words (unit_here m k) (word m.layout k) here.step.fits in
       let fit = fitting m of.accepted st same.room in
       within_weaker p (MatchesAfter SHADOW_START memory memory (place_step m k o))
       (Answers m.layout image (source_step m.layout st).turn (source_step m.layout st).state)

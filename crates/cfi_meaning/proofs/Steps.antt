@@ -91,7 +91,7 @@ module _ (m : Choice) (image : Contents) (of : IsImageOf m image) (k : ℕ) wher
           (acts g k item.kind (instr_here g k) (unwrap_or item.target 0) here).state
       own_here =
           subst (λ o. IsOwn g o (acts g k item.kind (instr_here g k) (unwrap_or item.target 0) here).turn (acts g k item.kind (instr_here g k) (unwrap_or item.target 0) here).state)
-          (sym (step_of_kind m k (own_of g here) of.accepted place))
+          (sym (step_of_kind m image k (own_of g here) of.accepted tame_here))
           (own_acts g k past r t pending item.kind (instr_of m k) item.target suit no_reason aim)
 
 -- what a step is

@@ -34,7 +34,7 @@ pub fn places_kept()
     ensures { PlacesKept }
 {}
 
-/// The own step of a place is that of its instruction's kind, whatever unit stands for it.
+/// The own step of a tame place is that of its instruction's kind, whatever unit stands for it.
 pub fn step_of_kind()
     ensures { StepOfKind }
 {}

@@ -24,14 +24,14 @@ use Rattle.cfi_rules.specs.Sound.{IsSound}
 use Rattle.cfi_rules.specs.Split.{is_start, place_at, starts, unit_at, unit_in}
 use Rattle.cfi_rules.specs.declared.reject.Rule.{Rule}
 use Rattle.cfi_rules.specs.declared.reject.Rule.TheVariants as R
-use Rattle.cfi_rules.proofs.PlacedRows.{all_from, sound_by}
+use Rattle.cfi_rules.proofs.PlacedRows.{all_from, one_member, sound_by}
 
 -- a computed call of a place for calls or one for both, then a computed jump to a place for jumps or to
 -- the one for both (apart.s); the jump, and the two words of the place for jumps, may be others
 abbrev apart_with : U.Unit → U.Unit → U.Unit → List U.Unit
 apart_with jump first second =
     V.Plain (Immediate Addi 2 2 0xff0)
-    ∷ V.Store Sd 2 1 8
+    ∷ V.Stores 2 8 (record { op = Sd; value = 1; distance = 0 } ∷ [])
     ∷ V.Plain (Upper Lui 5 0x10)
     ∷ V.Plain (Load Ld 5 5 0)
     ∷ V.Icall 5 0 1
@@ -75,10 +75,10 @@ apart_lines = refl
 apart_fit : AllFit 0x40000040 apart_units
 unfolding AllFit
 apart_fit =
-    (((lit< tt, lit< tt, lit< tt), refl), ((lit< tt, lit< tt, lit< tt), (((lit< tt, lit< tt), refl), (((lit< tt, lit< tt, lit< tt), refl), (((lit< tt, lit< tt, lit< tt, refl, refl), refl), (((lit< tt, lit< tt, lit< tt), refl), (((lit< tt, lit< tt, lit< tt), refl), (((lit< tt, lit< tt), refl), (((lit< tt, lit< tt, lit< tt), refl), ((lit< tt, lit< tt, lit< tt, refl, refl), (lit< tt, (((lit< tt, lit< tt, lit< tt), refl), (((lit< tt, lit< tt, lit< tt), refl), (refl, (((lit< tt, lit< tt, lit< tt), refl), (lit< tt, (((lit< tt, lit< tt, lit< tt), refl), (refl, (lit< tt, (lit< tt, (((lit< tt, lit< tt, lit< tt), refl), (refl, (refl, tt)))))))))))))))))))))))
+    (((lit< tt, lit< tt, lit< tt), refl), ((lit< tt, lit< tt, one_member _ (lit< tt, lit< tt)), (((lit< tt, lit< tt), refl), (((lit< tt, lit< tt, lit< tt), refl), (((lit< tt, lit< tt, lit< tt, refl, refl), refl), (((lit< tt, lit< tt, lit< tt), refl), (((lit< tt, lit< tt, lit< tt), refl), (((lit< tt, lit< tt), refl), (((lit< tt, lit< tt, lit< tt), refl), ((lit< tt, lit< tt, lit< tt, refl, refl), (lit< tt, (((lit< tt, lit< tt, lit< tt), refl), (((lit< tt, lit< tt, lit< tt), refl), (refl, (((lit< tt, lit< tt, lit< tt), refl), (lit< tt, (((lit< tt, lit< tt, lit< tt), refl), (refl, (lit< tt, (lit< tt, (((lit< tt, lit< tt, lit< tt), refl), (refl, (refl, tt)))))))))))))))))))))))
 
 apart_ahead : AllAhead 0x40000040 apart_units
-unfolding AllAhead
+unfolding AllAhead code_from words_of decoded code_of
 apart_ahead =
     (refl, (refl, (refl, (refl, (refl, (refl, (refl, (refl, (refl, (refl, (refl, (refl, (refl, (refl, (refl, (refl, (refl, (refl, (refl, (refl, (refl, (refl, (refl, tt)))))))))))))))))))))))
 

@@ -1,6 +1,6 @@
 -- The instructions of a unit, and of the prologue, have their fields in range.
-use Rattle.std.proofs.Common.{◌≡◌, ℕ, zero, suc, ◌+◌, ◌^◌, ◌<◌, inl, inr, List, [], ◌∷◌, ◌++◌, Some, lit<, sym, subst}
-use Rattle.std.specs.Prelude.{slice_get}
+use Rattle.std.proofs.Common.{◌≡◌, ℕ, zero, suc, ◌+◌, ◌^◌, ◌<◌, inl, inr, List, [], ◌∷◌, ◌++◌, Some, lit<, sym, subst, arith}
+use Rattle.std.specs.Prelude.{map, slice_get}
 use Rattle.std.specs.List.{AllByRecursion}
 use Rattle.std.proofs.lemmas.Nat.{mod_below}
 use Rattle.rv_word.specs.MemoryMap.{IsProfile, Profile}
@@ -12,6 +12,8 @@ use Rattle.cfi_unit.specs.declared.target_word.TargetWord.TheVariants.{First, Se
 use Rattle.cfi_unit.specs.declared.unit.Unit as U
 use Rattle.cfi_unit.specs.declared.unit.Unit.TheVariants as V
 use Rattle.cfi_unit.specs.declared.unit.SystemOp.TheVariants as S
+use Rattle.cfi_unit.specs.declared.members.Member.{Member}
+use Rattle.cfi_unit.specs.Members.{IsMember, member_instr}
 use Rattle.cfi_unit.specs.Prologue.{call_at, closing_instrs, lone_set_up, opening_instrs, own_set_up, prologue_instrs, set_up}
 use Rattle.cfi_unit.specs.UnitWords.{Fits, instrs_of, jump_offset, push, check, past}
 use Rattle.cfi_unit.proofs.Found.{is_jump_instr}
@@ -89,6 +91,10 @@ jump_back rd low = ((low, lit< tt, lit< tt), tt)
 call_instrs : (at target : ℕ) → AreInstrs (instrs_of (V.Call target) at)
 call_instrs at target = append_instrs (push at) (Jal 1 (jump_offset (at + 28) target) ∷ []) (push_instrs at) (is_jump_instr 1 _ _ (lit< tt), tt)
 
+members_instrs : (members : List Member) → AllByRecursion IsMember members → AreInstrs (map member_instr members)
+members_instrs [] all = tt
+members_instrs (m ∷ members) all = ((lit< tt, all.0.0, (let low = all.0.1 in omega arith)), members_instrs members all.1)
+
 pub unit_instrs : (u : U.Unit) (at : ℕ) → Fits u at → AreInstrs (instrs_of u at)
 unit_instrs (V.Gate label) at f = ((lit< tt, f), tt)
 unit_instrs (V.Plain instr) at f = (f.0, tt)
@@ -98,8 +104,8 @@ unit_instrs (V.Jump target) at f = (is_jump_instr 0 _ _ (lit< tt), tt)
 unit_instrs V.Stop at f = (is_jump_instr 0 _ _ (lit< tt), tt)
 unit_instrs (V.System S.Ecall) at f = (tt, tt)
 unit_instrs (V.System S.Ebreak) at f = (tt, tt)
-unit_instrs (V.Store op rs1 rs2 imm) at f =
-    ((lit< tt, f.0, f.2), ((lit< tt, lit< tt, lit< tt), ((lit< tt, lit< tt, lit< tt), ((lit< tt, f.1, lit< tt), tt))))
+unit_instrs (V.Stores rs1 imm members) at f =
+    ((lit< tt, f.0, f.1), ((lit< tt, lit< tt, lit< tt), ((lit< tt, lit< tt, lit< tt), members_instrs members f.2.each)))
 unit_instrs (V.Call target) at f = call_instrs at target
 unit_instrs (V.Ijump which rs1 imm label) at f =
     append_instrs (check at rs1 imm label which) (Jalr 0 31 0 ∷ []) (check_instrs at rs1 imm label which f.0 f.1 f.2) (jump_back 0 (lit< tt))

@@ -230,8 +230,8 @@ module _ (p : Profile) (profile : IsProfile p) (image : Contents) (graph : Graph
   arrive (body (V.System S.Ecall)) w v newer is facts stage l =
       record { goes = (l.1, l.0); chooses = tt; settled = to_next (V.System S.Ecall) w.at v w.pending newer facts refl stage l.0 l.1 }
   arrive (body (V.System S.Ebreak)) w v newer is facts stage l = absurd l
-  arrive (body (V.Store op rs1 rs2 imm)) w v newer is facts stage l =
-      record { goes = (l.1, l.0); chooses = tt; settled = to_next (V.Store op rs1 rs2 imm) w.at v w.pending newer facts refl stage l.0 l.1 }
+  arrive (body (V.Stores rs1 imm members)) w v newer is facts stage l =
+      record { goes = (l.1, l.0); chooses = tt; settled = to_next (V.Stores rs1 imm members) w.at v w.pending newer facts refl stage l.0 l.1 }
   arrive (body (V.Call target)) w v newer is facts stage (inl l) =
       let start = call_starts p image graph formed w.at (body (V.Call target)) target is refl in
       let site = next_starts p image graph formed w.at (V.Call target) facts refl in

@@ -1,7 +1,7 @@
 -- Worked codes of placed units: their words are what binutils make of the sources in tests/units, their
 -- lines those of the programs' graphs; when tests of units and classes show that they are sound; and of one
 -- of the codes they do.
-use Rattle.std.proofs.Common.{◌≡◌, ℕ, zero, suc, ◌+◌, ◌==◌, inl, inr, Bool, true, false, List, [], ◌∷◌, refl, sym, ap, subst, ◌∙◌, lit<}
+use Rattle.std.proofs.Common.{◌≡◌, ℕ, zero, suc, ◌+◌, ◌==◌, inl, inr, Bool, true, false, List, [], ◌∷◌, refl, sym, ap, subst, ◌∙◌, length, lit<, arith}
 use Rattle.std.specs.Prelude.{Option, Some, None, ◌&&◌, is_some, not, option_and_then, slice_get}
 use Rattle.std.specs.List.{last_or, list_all}
 use Rattle.std.proofs.lemmas.Bool.{and_parts, cases_eq, eqb-true, or_cases}
@@ -25,6 +25,8 @@ use Rattle.cfi_unit.specs.declared.unit.SystemOp.TheVariants as S
 use Rattle.cfi_unit.specs.declared.place.Place.TheVariants.{Body as body}
 use Rattle.cfi_unit.specs.declared.target_word.TargetWord.{TargetWord}
 use Rattle.cfi_unit.specs.declared.target_word.TargetWord.TheVariants.{First, Second}
+use Rattle.cfi_unit.specs.Members.{AreMembers, IsMember}
+use Rattle.cfi_unit.specs.declared.members.Member.{Member}
 use Rattle.cfi_unit.specs.UnitWords.{after_unit, words_of}
 use Rattle.cfi_rules.specs.declared.asks.Asks.{Asks}
 use Rattle.cfi_rules.specs.Lines.{class_with, holds_of, is_among, is_beside, is_outside, is_word_of, read_of, targets_for}
@@ -39,7 +41,7 @@ use Rattle.cfi_rules.proofs.UnitIn.{in_here, in_later}
 abbrev p_units : List U.Unit
 p_units =
     V.Plain (Immediate Addi 2 2 0xff0)
-    ∷ V.Store Sd 2 1 8
+    ∷ V.Stores 2 8 (record { op = Sd; value = 1; distance = 0 } ∷ [])
     ∷ V.Plain (Upper Lui 5 0x10)
     ∷ V.Plain (Load Ld 5 5 0)
     ∷ V.Icall 5 0 1
@@ -97,7 +99,7 @@ deep_units =
     ∷ V.Jump 0x4000004c
     ∷ V.Branch Bne 10 0 0x40000094
     ∷ V.Plain (Immediate Addi 2 2 0xff0)
-    ∷ V.Store Sd 2 1 8
+    ∷ V.Stores 2 8 (record { op = Sd; value = 1; distance = 0 } ∷ [])
     ∷ V.Plain (Immediate Addi 10 10 0xfff)
     ∷ V.Call 0x4000004c
     ∷ V.Plain (Load Ld 1 2 8)
@@ -144,13 +146,19 @@ skip_behind : AllAhead 0x40000040 (V.Near Beq 5 6 0x40000048 ∷ V.Jump 0x400000
 unfolding AllAhead code_from code_of decoded words_of
 skip_behind ahead = let first : false ≡ true = ahead.0 in cc
 
+-- a store by itself behind a mask
+pub one_member : (m : Member) → IsMember m → AreMembers (m ∷ [])
+one_member m is =
+    let one : length (m ∷ []) ≡ 1 = refl in
+    record { some = omega (arith, one); most = omega (arith, one); each = (is, tt) }
+
 p_fit : AllFit 0x40000040 p_units
 unfolding AllFit
 p_fit =
-    (((lit< tt, lit< tt, lit< tt), refl), ((lit< tt, lit< tt, lit< tt), (((lit< tt, lit< tt), refl), (((lit< tt, lit< tt, lit< tt), refl), (((lit< tt, lit< tt, lit< tt, refl, refl), refl), (((lit< tt, lit< tt, lit< tt), refl), (((lit< tt, lit< tt, lit< tt), refl), (refl, (lit< tt, (((lit< tt, lit< tt, lit< tt), refl), (refl, (lit< tt, (((lit< tt, lit< tt, lit< tt), refl), (refl, (refl, tt)))))))))))))))
+    (((lit< tt, lit< tt, lit< tt), refl), ((lit< tt, lit< tt, one_member _ (lit< tt, lit< tt)), (((lit< tt, lit< tt), refl), (((lit< tt, lit< tt, lit< tt), refl), (((lit< tt, lit< tt, lit< tt, refl, refl), refl), (((lit< tt, lit< tt, lit< tt), refl), (((lit< tt, lit< tt, lit< tt), refl), (refl, (lit< tt, (((lit< tt, lit< tt, lit< tt), refl), (refl, (lit< tt, (((lit< tt, lit< tt, lit< tt), refl), (refl, (refl, tt)))))))))))))))
 
 p_ahead : AllAhead 0x40000040 p_units
-unfolding AllAhead
+unfolding AllAhead code_from words_of decoded code_of
 p_ahead = (refl, (refl, (refl, (refl, (refl, (refl, (refl, (refl, (refl, (refl, (refl, (refl, (refl, (refl, (refl, tt)))))))))))))))
 
 -- a test of each unit where it stands

@@ -83,7 +83,7 @@ module _ (p : Profile) where
     ended_unit (V.System S.Ecall) word how = exits (body (V.System S.Ecall)) pc turn rest stopped tt how.0 how.1 left
     ended_unit (V.System S.Ebreak) word how =
         breaks (body (V.System S.Ebreak)) at pc turn rest stopped tt (only_word (body (V.System S.Ebreak)) at pc refl word) how left
-    ended_unit (V.Store op rs1 rs2 imm) word how = absurd how
+    ended_unit (V.Stores rs1 imm members) word how = absurd how
     ended_unit (V.Call target) word how = absurd how
     ended_unit (V.Ijump which rs1 imm label) word how = absurd how
     ended_unit (V.Icall rs1 imm label) word how = absurd how

@@ -1,6 +1,7 @@
 -- The units of the split, and the prologue, stand in the loaded image.
 use Rattle.std.proofs.Common.{◌≡◌, ℕ, zero, suc, ◌+◌, ◌-◌, ◌*◌, ◌/◌, List, [], ◌∷◌, length, drop, take, refl, sym, ap, ◌∙◌, Some, arith}
 use Rattle.std.specs.Prelude.{slice_get, option_map}
+use Rattle.std.proofs.lemmas.List.{length-map}
 use Rattle.std.proofs.lemmas.Option.{slice_get-map}
 use Rattle.rv_word.specs.Image.{Contents}
 use Rattle.rv_word.specs.MemoryMap.{CODE_START, Profile}
@@ -13,6 +14,7 @@ use Rattle.rv_code.specs.Encode.{code_of}
 use Rattle.rv_code.proofs.ReadBack.{decoded-code_of}
 use Rattle.cfi_unit.specs.declared.unit.Unit as U
 use Rattle.cfi_unit.specs.declared.unit.Unit.TheVariants as V
+use Rattle.cfi_unit.specs.Members.{member_instr}
 use Rattle.cfi_unit.specs.Stand.{Stand}
 use Rattle.cfi_unit.specs.UnitWords.{instrs_of, words_of, word_count}
 use Rattle.cfi_rules.specs.Split.{code_words}
@@ -42,7 +44,7 @@ instrs_counted (V.Near op rs1 rs2 target) at = refl
 instrs_counted (V.Jump target) at = refl
 instrs_counted V.Stop at = refl
 instrs_counted (V.System op) at = refl
-instrs_counted (V.Store op rs1 rs2 imm) at = refl
+instrs_counted (V.Stores rs1 imm members) at = let counted = length-map members member_instr in omega arith
 instrs_counted (V.Call target) at = refl
 instrs_counted (V.Ijump which rs1 imm label) at = refl
 instrs_counted (V.Icall rs1 imm label) at = refl

@@ -1,37 +1,36 @@
 -- Each unit's row, seen from the program: what the unit is left with matches what the program's own
 -- step leaves.
-use Rattle.std.proofs.Common.{◌≡◌, ◌≢◌, ℕ, ◌+◌, ◌-◌, ◌^◌, ◌==◌, ◌<◌, ◌≤◌, ◌||◌, Bool, true, false, List, [], ◌∷◌, length, inl, if◌then◌else◌, refl, sym, ap, subst, ◌∙◌, arith}
+use Rattle.std.proofs.Common.{◌≡◌, ◌≢◌, ℕ, ◌+◌, ◌-◌, ◌==◌, ◌≤◌, ◌||◌, Bool, true, false, List, [], ◌∷◌, length, inl, if◌then◌else◌, refl, sym, ap, subst, ◌∙◌, arith}
+use Rattle.std.specs.List.{AllByRecursion, list_any}
 use Rattle.rv_word.specs.MemoryMap.{Profile, SHADOW_START}
 use Rattle.rv_word.specs.Memory.{Memory, write}
 use Rattle.rv_instr.specs.Registers.{Registers, get_reg, set_reg}
 use Rattle.rv_instr.specs.Reserved.{is_reserved}
 use Rattle.rv_instr.specs.declared.instr.Instr.{Instr}
-use Rattle.rv_instr.specs.declared.instr.Instr.TheVariants.{Store, Ecall, Ebreak}
+use Rattle.rv_instr.specs.declared.instr.Instr.TheVariants.{Ecall, Ebreak}
 use Rattle.rv_instr.specs.declared.instr.BranchOp.{BranchOp}
-use Rattle.rv_instr.specs.declared.instr.StoreOp.{StoreOp}
-use Rattle.rv_instr.specs.declared.instr.StoreOp.TheVariants.{Sb, Sh, Sw, Sd}
 use Rattle.rv_code.specs.Arithmetic.{branch_taken, store_size}
 use Rattle.rv_code.specs.State.{Hart, Shared, After}
 use Rattle.rv_code.specs.Step.{exec, step}
 use Rattle.rv_code.specs.declared.turn.Turn.TheVariants.{Ran}
 use Rattle.rv_code.proofs.Frames.{write_outside}
+use Rattle.cfi_unit.specs.declared.members.Member.{Member}
 use Rattle.cfi_unit.specs.declared.target_word.TargetWord.{TargetWord}
 use Rattle.cfi_unit.specs.declared.target_word.TargetWord.TheVariants.{First}
 use Rattle.cfi_unit.specs.declared.unit.Unit as U
 use Rattle.cfi_unit.specs.declared.unit.Unit.TheVariants as V
 use Rattle.cfi_unit.specs.declared.unit.SystemOp.TheVariants as S
-use Rattle.cfi_unit.specs.UnitWords.{Fits, word_count}
+use Rattle.cfi_unit.specs.UnitWords.{Fits, after_unit, word_count}
 use Rattle.cfi_unit.specs.Shadow.{slot}
 use Rattle.cfi_unit.specs.Between.{Unchanged}
 use Rattle.cfi_unit.specs.UnitLaw.{ReturnsTo}
 use Rattle.cfi_unit.specs.Leads.{HasLabel, sum_of, destination}
-use Rattle.cfi_unit.specs.Leaving.{SameRegisters, LeftTo, Executes, pushed, with_memory}
+use Rattle.cfi_unit.specs.Leaving.{SameRegisters, LeftTo, Executes, pushed, stored_at}
 use Rattle.cfi_unit.specs.EffectLaw.{Enters}
 use Rattle.cfi_unit.proofs.EffectSteps.{same_link}
-use Rattle.cfi_unit.proofs.Regions.{can_store_data, store_size-small}
 use Rattle.cfi_runs.specs.MatchLaws as law
 use Rattle.cfi_runs.specs.Matching.{SameData, Matches, MatchesAfter}
-use Rattle.cfi_runs.specs.Own.{Own, OwnAfter, calls, computed, executes, goes, own_step, returns}
+use Rattle.cfi_runs.specs.Own.{Own, calls, computed, executes, goes, own_step, returns, stored_all}
 use Rattle.cfi_runs.specs.OwnRuns.{SitesFit}
 use Rattle.cfi_runs.specs.Passes.{Passes}
 use Rattle.cfi_runs.specs.StandsFor.{StandsFor, StandsPast, Called}
@@ -42,21 +41,52 @@ use Rattle.cfi_runs.proofs.Calmly.{within_weaker}
 use Rattle.cfi_runs.proofs.Same.{same_trans, get_same, write_alike, data_written}
 use Rattle.cfi_runs.proofs.UnitRuns.{unit_runs}
 
-size_some : (op : StoreOp) → 0 < store_size op
-size_some Sb = omega arith
-size_some Sh = omega arith
-size_some Sw = omega arith
-size_some Sd = omega arith
-
--- the operands of a branch or a store
+-- the operands of a branch
 first_free : (rs1 rs2 : ℕ) → ((k : ℕ) → (rs1 == k || rs2 == k) ≡ true → is_reserved k ≡ false) → is_reserved rs1 ≡ false
 first_free rs1 rs2 free = free rs1 (or_first (rs1 == rs1) (rs2 == rs1) (is_self rs1))
 
 second_free : (rs1 rs2 : ℕ) → ((k : ℕ) → (rs1 == k || rs2 == k) ≡ true → is_reserved k ≡ false) → is_reserved rs2 ≡ false
 second_free rs1 rs2 free = free rs2 (or_second (rs1 == rs2) (rs2 == rs2) (is_self rs2))
 
+-- the base of stores, and what they store
+base_free : (rs1 : ℕ) (members : List Member) →
+    ((k : ℕ) → (rs1 == k || list_any (λ (m : Member). m.value == k) members) ≡ true → is_reserved k ≡ false) → is_reserved rs1 ≡ false
+base_free rs1 members free = free rs1 (or_first (rs1 == rs1) (list_any (λ (m : Member). m.value == rs1) members) (is_self rs1))
+
+abbrev StoreFree : List Member → Type 0
+StoreFree members = AllByRecursion (λ (m : Member). is_reserved m.value ≡ false) members
+
+values_free : (members : List Member) → ((k : ℕ) → list_any (λ (m : Member). m.value == k) members ≡ true → is_reserved k ≡ false) →
+    StoreFree members
+values_free [] free = tt
+values_free (m ∷ members) free = (
+  free m.value (or_first (m.value == m.value) (list_any (λ (n : Member). n.value == m.value) members) (is_self m.value)),
+  values_free members (λ k named. free k (or_second (m.value == k) (list_any (λ (n : Member). n.value == k) members) named)),
+)
+
+stores_free : (rs1 : ℕ) (members : List Member) →
+    ((k : ℕ) → (rs1 == k || list_any (λ (m : Member). m.value == k) members) ≡ true → is_reserved k ≡ false) → StoreFree members
+stores_free rs1 members free =
+    values_free members (λ k named. free k (or_second (rs1 == k) (list_any (λ (m : Member). m.value == k) members) named))
+
 not_scratch : (k : ℕ) → is_reserved k ≡ false → k ≢ 31
 not_scratch k free e = let is : is_reserved k ≡ true = ap is_reserved e in cc
+
+none_scratch : (members : List Member) → StoreFree members → AllByRecursion (λ (m : Member). m.value ≢ 31) members
+none_scratch [] free = tt
+none_scratch (m ∷ members) free = (not_scratch m.value free.0, none_scratch members free.1)
+
+-- stores of the program's registers, on data that are the same
+all_alike : (a : ℕ) (r regs : Registers) (members : List Member) (t s : Shared) → SameRegisters r regs → StoreFree members → SameData t s →
+    SameData (stored_all a r members t) (stored_all a regs members s)
+all_alike a r regs [] t s same free alike = alike
+all_alike a r regs (m ∷ members) t s same free alike =
+    let n = store_size m.op in
+    all_alike a r regs members (stored_at a r m t) (stored_at a regs m s) same free.1
+    (data_written t s _ _ alike
+    (λ k low.
+    ap (λ (v : ℕ). write n s.memory (a + m.distance) v k) (get_same r regs m.value free.0 same)
+    ∙ write_alike n t.memory s.memory (a + m.distance) (get_reg r m.value) alike.memory k low))
 
 module _ (part : ℕ) (image base : Memory) where
   -- a unit that is left to an address
@@ -130,9 +160,8 @@ module _ (p : Profile) (part : ℕ) (image base : Memory) (o : Own) (h : Hart) (
   passes (V.Jump target) free tame = tt
   passes V.Stop free tame = tt
   passes (V.System op) free tame = tt
-  passes (V.Store op rs1 rs2 imm) free tame =
-      let e = sum_here rs1 imm (first_free rs1 rs2 free) in
-      let some = size_some op in (omega arith, not_scratch rs2 (second_free rs1 rs2 free))
+  passes (V.Stores rs1 imm members) free tame =
+      let e = sum_here rs1 imm (base_free rs1 members free) in (omega arith, none_scratch members (stores_free rs1 members free))
   passes (V.Call target) free tame = tame
   passes (V.Ijump which rs1 imm label) free tame = bears which rs1 imm label (free rs1 (is_self rs1)) tame
   passes (V.Icall rs1 imm label) free tame = (bears First rs1 imm label (free rs1 (is_self rs1)) tame.0, tame.1)
@@ -144,24 +173,15 @@ module _ (p : Profile) (part : ℕ) (image base : Memory) (o : Own) (h : Hart) (
       ap (λ (x : ℕ). branch_taken op x (get_reg h.regs rs2)) (get_same o.regs h.regs rs1 free1 same)
       ∙ ap (branch_taken op (get_reg o.regs rs1)) (get_same o.regs h.regs rs2 free2 same)
 
-  -- the program's memory after its own store
-  abbrev stored : StoreOp → ℕ → ℕ → ℕ → Shared
-  stored op rs1 rs2 imm = with_memory o.shared (write (store_size op) o.shared.memory (sum_of o.regs rs1 imm) (get_reg o.regs rs2))
+  -- what is shared after the program's own stores
+  abbrev stored : ℕ → ℕ → List Member → Shared
+  stored rs1 imm members = stored_all (sum_of o.regs rs1 imm) o.regs members o.shared
 
-  own_store : (op : StoreOp) (rs1 rs2 imm past : ℕ) → sum_of o.regs rs1 imm < 2 ^ 28 →
-      executes p o (Store op rs1 rs2 imm) o.regs past ≡ record { state = record o { pc = past; shared = stored op rs1 rs2 imm }; turn = Ran }
-  own_store op rs1 rs2 imm past below =
-      let can = can_store_data p (sum_of o.regs rs1 imm) (store_size op) below (store_size-small op) in rw can refl
-
-  stored_here : (op : StoreOp) (rs1 rs2 imm : ℕ) → is_reserved rs1 ≡ false → is_reserved rs2 ≡ false →
-      SameData (stored op rs1 rs2 imm) (with_memory s (write (store_size op) s.memory (sum_of h.regs rs1 imm) (get_reg h.regs rs2)))
-  stored_here op rs1 rs2 imm free1 free2 =
-      let n = store_size op in
-      data_written o.shared s _ _ alike
-      (λ a low.
-      ap (λ (x : ℕ). write n s.memory x (get_reg h.regs rs2) a) (sum_here rs1 imm free1)
-      ∙ ap (λ (v : ℕ). write n s.memory (sum_of o.regs rs1 imm) v a) (get_same o.regs h.regs rs2 free2 same)
-      ∙ write_alike n o.shared.memory s.memory (sum_of o.regs rs1 imm) (get_reg o.regs rs2) alike.memory a low)
+  stored_here : (rs1 imm : ℕ) (members : List Member) → is_reserved rs1 ≡ false → StoreFree members →
+      SameData (stored rs1 imm members) (stored_all (sum_of h.regs rs1 imm) h.regs members s)
+  stored_here rs1 imm members base free =
+      subst (λ (a : ℕ). SameData (stored rs1 imm members) (stored_all a h.regs members s)) (sym (sum_here rs1 imm base))
+      (all_alike (sum_of o.regs rs1 imm) o.regs h.regs members o.shared s same free alike)
 
   pushed_here : (site : ℕ) → SameData o.shared (pushed part (length o.pending) site s)
   pushed_here site = record {
@@ -216,11 +236,9 @@ module _ (p : Profile) (part : ℕ) (image base : Memory) (o : Own) (h : Hart) (
       let e = m.pc in
       executed_matches part image base p Ebreak o _ h s (omega arith) m.pointer
       (at_here Ebreak (break_alike p o.regs o.shared h s same alike)) after does
-  row (V.Store op rs1 rs2 imm) fits free tame after does =
-      let some = size_some op in
-      subst (λ (a : OwnAfter). MatchesAfter part image base a after) (sym (own_store op rs1 rs2 imm (o.pc + 16) (omega arith)))
-      (left_matches part image base (record o { pc = o.pc + 16; shared = stored op rs1 rs2 imm }) _ _ _ refl same
-      (stored_here op rs1 rs2 imm (first_free rs1 rs2 free) (second_free rs1 rs2 free)) after does)
+  row (V.Stores rs1 imm members) fits free tame after does =
+      left_matches part image base (record o { pc = after_unit (V.Stores rs1 imm members) o.pc; shared = stored rs1 imm members }) _ _ _ refl same
+      (stored_here rs1 imm members (base_free rs1 members free) (stores_free rs1 members free)) after does
   row (V.Call target) fits free tame after does = calls_so _ _ _ refl after does
   row (V.Ijump which rs1 imm label) fits free tame after does = goes_so _ _ (computed_here which rs1 imm label (free rs1 (is_self rs1)) tame) after does
   row (V.Icall rs1 imm label) fits free tame after does =

@@ -4,16 +4,18 @@ use Rattle.std.specs.Prelude.{ℕ, ◌*◌, ◌/◌, if◌then◌else◌, List, 
 use Rattle.rv_word.specs.MemoryMap.{Profile}
 use Rattle.rv_instr.specs.Registers.{Registers, get_reg, set_reg}
 use Rattle.rv_instr.specs.declared.instr.Instr.{Instr}
-use Rattle.rv_instr.specs.declared.instr.Instr.TheVariants.{Store, Ecall}
+use Rattle.rv_instr.specs.declared.instr.Instr.TheVariants.{Ecall}
 use Rattle.rv_code.specs.Arithmetic.{branch_taken}
 use Rattle.rv_code.specs.State.{Shared}
 use Rattle.rv_code.specs.Step.{exec}
 use Rattle.rv_code.specs.declared.turn.Turn.{Turn}
 use Rattle.rv_code.specs.declared.turn.Turn.TheVariants.{Ran}
+use Rattle.cfi_unit.specs.declared.members.Member.{Member}
 use Rattle.cfi_unit.specs.declared.unit.Unit as U
 use Rattle.cfi_unit.specs.declared.unit.Unit.TheVariants as V
 use Rattle.cfi_unit.specs.UnitWords.{BAD_TARGET, BAD_RETURN, after_unit, system_instr}
 use Rattle.cfi_unit.specs.Leads.{sum_of}
+use Rattle.cfi_unit.specs.Leaving.{stored_at}
 use Rattle.cfi_unit.specs.PrologueEffect.{stack_of}
 
 pub record Own : Type 0 where
@@ -29,6 +31,11 @@ pub record OwnAfter : Type 0 where
 -- where a computed transfer goes: bit 0 is cleared
 abbrev pub computed : Registers → ℕ → ℕ → ℕ
 computed r rs1 imm = sum_of r rs1 imm / 2 * 2
+
+-- stores, one after the other, each at its distance past an address
+abbrev pub stored_all : ℕ → Registers → List Member → Shared → Shared
+stored_all a r [] s = s
+stored_all a r (m ∷ members) s = stored_all a r members (stored_at a r m s)
 
 module _ (p : Profile) (o : Own) where
   abbrev pub goes : ℕ → OwnAfter
@@ -61,7 +68,8 @@ module _ (p : Profile) (o : Own) where
   own_past (V.Jump target) past = goes target
   own_past V.Stop past = goes BAD_TARGET
   own_past (V.System op) past = executes (system_instr op) o.regs past
-  own_past (V.Store op rs1 rs2 imm) past = executes (Store op rs1 rs2 imm) o.regs past
+  own_past (V.Stores rs1 imm members) past =
+      record { state = record o { pc = past; shared = stored_all (sum_of o.regs rs1 imm) o.regs members o.shared }; turn = Ran }
   own_past (V.Call target) past = calls target past
   own_past (V.Ijump which rs1 imm label) past = goes (computed o.regs rs1 imm)
   own_past (V.Icall rs1 imm label) past = calls (computed o.regs rs1 imm) past

@@ -3,16 +3,17 @@
 -- shared at the unit's first word.
 use Rattle.std.specs.Prelude.{ℕ, if◌then◌else◌, List, [], ◌∷◌, length}
 use Rattle.rv_word.specs.MemoryMap.{Profile}
-use Rattle.rv_word.specs.Memory.{Memory, write}
+use Rattle.rv_word.specs.Memory.{Memory}
 use Rattle.rv_instr.specs.Registers.{Registers, get_reg, set_reg}
-use Rattle.rv_code.specs.Arithmetic.{branch_taken, store_size}
+use Rattle.rv_code.specs.Arithmetic.{branch_taken}
 use Rattle.rv_code.specs.State.{Hart, Shared, After}
 use Rattle.cfi_unit.specs.declared.unit.Unit as U
 use Rattle.cfi_unit.specs.declared.unit.Unit.TheVariants as V
 use Rattle.cfi_unit.specs.UnitWords.{BAD_TARGET, after_unit, system_instr}
 use Rattle.cfi_unit.specs.Between.{Unchanged}
 use Rattle.cfi_unit.specs.Leads.{sum_of, destination}
-use Rattle.cfi_unit.specs.Leaving.{LeftTo, HaltsAt, Executes, pushed, with_memory}
+use Rattle.cfi_unit.specs.Leaving.{LeftTo, HaltsAt, Executes, pushed}
+use Rattle.cfi_runs.specs.Own.{stored_all}
 
 module _ (p : Profile) (part : ℕ) (image base : Memory) (h : Hart) (s : Shared) where
   -- it is left to an address
@@ -34,9 +35,8 @@ module _ (p : Profile) (part : ℕ) (image base : Memory) (h : Hart) (s : Shared
   StandsPast (V.Jump target) past pending after = Comes target pending h.regs s after
   StandsPast V.Stop past pending after = HaltsAt part image base BAD_TARGET pending h.regs (Unchanged s) after
   StandsPast (V.System op) past pending after = Executes p part image base (system_instr op) pending h (Unchanged s) after
-  StandsPast (V.Store op rs1 rs2 imm) past pending after =
-      Comes past pending h.regs
-      (with_memory s (write (store_size op) s.memory (sum_of h.regs rs1 imm) (get_reg h.regs rs2))) after
+  StandsPast (V.Stores rs1 imm members) past pending after =
+      Comes past pending h.regs (stored_all (sum_of h.regs rs1 imm) h.regs members s) after
   StandsPast (V.Call target) past pending after = Called target past pending after
   StandsPast (V.Ijump which rs1 imm label) past pending after = Comes (destination h.regs rs1 imm) pending h.regs s after
   StandsPast (V.Icall rs1 imm label) past pending after = Called (destination h.regs rs1 imm) past pending after

@@ -10,7 +10,6 @@ use Rattle.rv_instr.specs.declared.instr.UpperOp.TheVariants.{Lui}
 use Rattle.rv_instr.specs.declared.instr.ImmediateOp.TheVariants.{Addi, Andi}
 use Rattle.rv_instr.specs.declared.instr.ShiftOp.TheVariants.{Slli}
 use Rattle.rv_instr.specs.declared.instr.LoadOp.TheVariants.{Lw}
-use Rattle.rv_instr.specs.declared.instr.StoreOp.TheVariants.{Sd}
 use Rattle.rv_code.specs.Decode.{decoded}
 use Rattle.rv_code.specs.Encode.{code_of}
 use Rattle.rv_code.proofs.Inverse.{code_of-decoded, decoded-in_range}
@@ -19,7 +18,9 @@ use Rattle.cfi_unit.specs.declared.target_word.TargetWord.{TargetWord}
 use Rattle.cfi_unit.specs.declared.target_word.TargetWord.TheVariants.{First, Second}
 use Rattle.cfi_unit.specs.declared.unit.Unit as U
 use Rattle.cfi_unit.specs.declared.unit.Unit.TheVariants as V
-use Rattle.cfi_unit.specs.Recognise.{address_unit, computed_unit, label_in, read_in, recognised, store_unit}
+use Rattle.cfi_unit.specs.declared.members.Member.{Member}
+use Rattle.cfi_unit.specs.Members.{FILLER, MOST_MEMBERS, members_in}
+use Rattle.cfi_unit.specs.Recognise.{address_unit, computed_unit, label_in, read_in, recognised}
 use Rattle.cfi_unit.specs.UnitWords.{BAD_TARGET, DEEP, MINUS_FOUR, instr_at, past, word_count, words_of}
 use Rattle.cfi_unit.proofs.Found.{past_field, read_past}
 use Rattle.cfi_scan.specs.declared.entry.Entry.TheVariants as E
@@ -28,7 +29,7 @@ use Rattle.cfi_scan.specs.declared.reader.Step.TheVariants.{More, Done}
 use Rattle.cfi_scan.specs.Fields.{label_field, push_step}
 use Rattle.cfi_scan.specs.Stream.{IsCode, IsPart, IsReading, LeadsOn}
 use Rattle.cfi_scan.proofs.Template.{Agree, first_tells, get_take, is_next, more_part, more_words, never, next_decoded, part_length, unfinished, was_read, words_get, wrong_word}
-use Rattle.cfi_scan.proofs.Transfers.{IsCallCode, halt_reached, stored}
+use Rattle.cfi_scan.proofs.Transfers.{IsCallCode, halt_reached}
 
 -- a unit that has these words is a computed transfer
 record IsTransfer (ws : List ℕ) (rs1 imm : ℕ) (v : U.Unit) : Type 0 where
@@ -116,11 +117,11 @@ record HasSecond (v : U.Unit) (at : ℕ) : Type 0 where
   second : (slice_get (words_of v at) 1 ≡ Some (code_of (Shift Slli 31 31 36)))
       ⊎ (slice_get (words_of v at) 1 ≡ Some (code_of (Immediate Andi 31 31 MINUS_FOUR)))
 
-store_second : (ws : List ℕ) (at rs1 imm : ℕ) (last : Option Instr) (v : U.Unit) → store_unit rs1 imm last ≡ Some v → HasSecond v at
+stores_second : (at rs1 imm : ℕ) (members : List Member) (v : U.Unit) → Some (V.Stores rs1 imm members) ≡ Some v → HasSecond v at
 unfolding words_of
-store_second ws at rs1 imm last v e =
-    let s = stored rs1 imm last v e in
-    subst (λ (u : U.Unit). HasSecond u at) s.same (record { more = lit≤ tt; second = inl refl })
+stores_second at rs1 imm members v e =
+    let same : V.Stores rs1 imm members ≡ v = cc in
+    subst (λ (u : U.Unit). HasSecond u at) same (record { more = omega arith; second = inl refl })
 
 check_second : (ws : List ℕ) (at rs1 imm : ℕ) (v : U.Unit) →
     option_map (computed_unit rs1 imm (instr_at ws 12) (read_in (instr_at ws 7))) (label_in (instr_at ws 8)) ≡ Some v → HasSecond v at
@@ -132,7 +133,7 @@ check_second ws at rs1 imm v e =
     subst (λ (u : U.Unit). HasSecond u at) same (record { more = omega (arith, enough); second = inr (second_word which rs1 imm label at o) })
 
 address_second : (ws : List ℕ) (at rs1 imm : ℕ) (o : Option Instr) (v : U.Unit) → address_unit ws rs1 imm o ≡ Some v → HasSecond v at
-address_second ws at rs1 imm (Some (Shift op rd rs amount)) v e = store_second ws at rs1 imm (instr_at ws 3) v e
+address_second ws at rs1 imm (Some (Shift op rd rs amount)) v e = stores_second at rs1 imm (members_in (take MOST_MEMBERS (drop 3 ws))) v e
 address_second ws at rs1 imm other v e = check_second ws at rs1 imm v e
 
 -- an address was put into x31
@@ -150,17 +151,17 @@ address_open held at (rs1, imm, (low, small, is)) =
     let n : length held ≡ 1 = ap length is in
     unfinished held at 2 (omega (arith, n)) (λ v e. let s = address_is held at rs1 imm low small is v [] e in s.more)
 
-pub address_shifts : (word here : ℕ) → word ≡ 0x24f9f93 → LeadsOn R.Address word here (More (R.Store 2))
+pub address_shifts : (word here : ℕ) → word ≡ 0x24f9f93 → LeadsOn R.Address word here (More (R.Mask 2))
 unfolding words_of code_of
 address_shifts word here same held at (rs1, imm, (low, small, is)) place = (
-  Sd,
   rs1,
   imm,
   (
     low,
     small,
     lit≤ tt,
-    more_part (V.Store Sd rs1 0 imm) 1 held word at (record { held_is = is; below = lit< tt }) (lit< tt) (ap Some (sym same)),
+    lit≤ tt,
+    more_part (V.Stores rs1 imm (FILLER ∷ [])) 1 held word at (record { held_is = is; below = lit< tt }) (lit< tt) (ap Some (sym same)),
   ),
 )
 

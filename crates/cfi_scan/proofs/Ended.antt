@@ -1,10 +1,13 @@
 -- The words so far, after one word more: a unit is read further, or it ends.
-use Rattle.std.proofs.Common.{◌≡◌, ◌≢◌, ℕ, ◌+◌, ◌-◌, ◌*◌, ◌<◌, ◌≤◌, ◌^◌, not, false, IsTrue, List, [], ◌∷◌, ◌++◌, length, slice_set, arith, refl, ap, ap₂, sym, subst, ◌∙◌, append_assoc, append-nil, length-append, add-zero}
+use Rattle.std.proofs.Common.{◌≡◌, ℕ, ◌+◌, ◌-◌, ◌||◌, Bool, true, ◌*◌, ◌<◌, ◌≤◌, ◌^◌, not, false, IsTrue, List, [], ◌∷◌, ◌++◌, length, slice_set, arith, refl, ap, ap₂, sym, subst, ◌∙◌, append_assoc, append-nil, length-append, add-zero}
 use Rattle.rv_instr.specs.declared.instr.BranchOp.{BranchOp}
 use Rattle.rv_instr.specs.declared.instr.Instr.TheVariants.{Branch}
 use Rattle.rv_code.specs.Encode.{code_of}
 use Rattle.cfi_unit.specs.declared.unit.Unit as U
 use Rattle.cfi_unit.specs.declared.unit.Unit.TheVariants as V
+use Rattle.std.specs.Prelude.{nat_le}
+use Rattle.cfi_unit.specs.declared.members.Member.{Member}
+use Rattle.cfi_unit.specs.Members.{MOST_MEMBERS}
 use Rattle.cfi_unit.specs.UnitWords.{Fits, instr_at, is_jump, may_precede, near_offset, skip_offset, skips_jump, word_count, words_of}
 use Rattle.cfi_unit.specs.Recognise.{near_to, recognised}
 use Rattle.cfi_unit.proofs.Found.{words_counted}
@@ -16,8 +19,10 @@ use Rattle.cfi_scan.specs.declared.reader.Step.TheVariants.{More, Done}
 use Rattle.cfi_scan.specs.Entries.{entries_of, entry_of, inside}
 use Rattle.cfi_scan.specs.PlainWord.{IsPlainWord}
 use Rattle.cfi_scan.proofs.FirstWord.{plain_word_leads}
-use Rattle.cfi_scan.specs.Stream.{AllStand, IsReading, IsSplitUp, LeadsOn, Splits, last_of, spelled, width}
+use Rattle.cfi_scan.specs.Stream.{AllStand, IsReading, IsSplitUp, LeadsOn, Splits, belongs, is_open, last_of, spelled, whole_entry, width}
+use Rattle.cfi_scan.specs.Fields.{stores_there}
 use Rattle.cfi_scan.proofs.Open.{none_open}
+use Rattle.cfi_scan.proofs.StoreReader.{no_member}
 use Rattle.cfi_scan.proofs.Row.{entries_length, entries_set, inside_length, last_more, spelled_length, spelled_more, stand_more, width_more}
 
 -- the words so far are units, before what may follow the last of them
@@ -222,6 +227,59 @@ pub up_near : (from : ℕ) (entries : List Entry) (done last : ℕ) (words : Lis
 up_near from entries done last words room low s =
     ended_up from (λ tail. is_jump (instr_at tail 0) ≡ false) _ _ _ _ (near_ended from entries done last words room low s) refl
 
+-- stores of which there may be more, as a unit
+stores_before : (tail : List ℕ) (rs1 imm : ℕ) (members : List Member) (at : ℕ) → stores_there (instr_at tail 0) ≡ false →
+    IsTrue (may_precede (V.Stores rs1 imm members) at tail)
+stores_before tail rs1 imm members at none =
+    rw (no_member (instr_at tail 0) none) (or_true (nat_le MOST_MEMBERS (length members)))
+  where
+    or_true : (b : Bool) → (b || true) ≡ true
+    or_true true = refl
+    or_true false = refl
+
+stores_ended : (from : ℕ) (entries : List Entry) (done last count : ℕ) (words : List ℕ) → length words ≤ length entries →
+    Splits from [] entries done last (R.Stores count) words →
+    Ended from (λ tail. stores_there (instr_at tail 0) ≡ false) (slice_set entries done E.Other) (length words) done words
+stores_ended from entries done last count words room s =
+    let (rs1, imm, members, (low, small, counted, some, few, each, held_is)) = s.reading in
+    let at : ℕ = from + 4 * width s.units in
+    let unit : U.Unit = V.Stores rs1 imm members in
+    let fits : Fits unit at = (low, small, record { some = omega (arith, counted, some); most = omega (arith, counted, few); each = each }) in
+    restated from (λ tail. IsTrue (may_precede unit at tail)) (λ tail. stores_there (instr_at tail 0) ≡ false)
+    (slice_set entries done E.Other) (slice_set entries done E.Other)
+    (length words + 0) (length words) done (words ++ []) words
+    (λ tail none. stores_before tail rs1 imm members at none) refl (sym (add-zero (length words))) (sym (append-nil words))
+    (ended from [] entries done last (R.Stores count) words s unit fits (append-nil s.held ∙ held_is) (omega arith))
+
+-- the next word is no store behind a mask
+pub splits_stores : (from : ℕ) (word : ℕ) (entries : List Entry) (done last count : ℕ) (words : List ℕ) → length words ≤ length entries →
+    stores_there (instr_at (word ∷ []) 0) ≡ false → Splits from [] entries done last (R.Stores count) words →
+    Splits from (word ∷ []) (slice_set entries done E.Other) (length words) done R.Start words
+splits_stores from word entries done last count words room none s =
+    ended_splits from (λ tail. stores_there (instr_at tail 0) ≡ false) _ _ _ _ (stores_ended from entries done last count words room s) (word ∷ []) (λ rest. none)
+
+-- no word follows
+pub up_stores : (from : ℕ) (entries : List Entry) (done last count : ℕ) (words : List ℕ) → length words ≤ length entries →
+    Splits from [] entries done last (R.Stores count) words → IsSplitUp from (slice_set entries done E.Other) (length words) done words
+up_stores from entries done last count words room s =
+    ended_up from (λ tail. stores_there (instr_at tail 0) ≡ false) _ _ _ _ (stores_ended from entries done last count words room s) refl
+
+-- what is a unit already ends before a word that does not belong to it
+pub splits_whole : (from : ℕ) (word : ℕ) (entries : List Entry) (done last : ℕ) (reader : Reader) (words : List ℕ) → length words ≤ length entries →
+    from + 4 * length entries < 2 ^ 64 → belongs reader word ≡ false → Splits from [] entries done last reader words →
+    Splits from (word ∷ []) (slice_set entries done (whole_entry reader)) (length words) done R.Start words
+splits_whole from word entries done last R.Branch words room low none s = splits_near from word entries done last words room low none s
+splits_whole from word entries done last (R.Stores count) words room low none s = splits_stores from word entries done last count words room none s
+splits_whole from word entries done last other words room low none s = absurd (cc)
+
+-- and at the end
+pub up_whole : (from : ℕ) (entries : List Entry) (done last : ℕ) (reader : Reader) (words : List ℕ) → length words ≤ length entries →
+    from + 4 * length entries < 2 ^ 64 → is_open reader ≡ true → Splits from [] entries done last reader words →
+    IsSplitUp from (slice_set entries done (whole_entry reader)) (length words) done words
+up_whole from entries done last R.Branch words room low is s = up_near from entries done last words room low s
+up_whole from entries done last (R.Stores count) words room low is s = up_stores from entries done last count words room s
+up_whole from entries done last other words room low is s = absurd (cc)
+
 -- the same of equal parts
 pub as_ended : {entries entries' : List Entry} {done done' last last' : ℕ} {reader reader' : Reader} (from : ℕ) (next words : List ℕ) →
     entries' ≡ entries → done' ≡ done → last' ≡ last → reader' ≡ reader → Splits from next entries done last reader words →
@@ -239,7 +297,7 @@ as_ended {entries} {entries'} {done} {done'} {last} {last'} {reader} {reader'} f
 }
 
 -- no word follows one with which no unit has ended
-pub up_open : (from : ℕ) (entries : List Entry) (done last : ℕ) (reader : Reader) (words : List ℕ) → reader ≢ R.Branch →
+pub up_open : (from : ℕ) (entries : List Entry) (done last : ℕ) (reader : Reader) (words : List ℕ) → is_open reader ≡ false →
     Splits from [] entries done last reader words → IsSplitUp from entries done last words
 up_open from entries done last reader words other s = record {
   units = s.units;

@@ -1,6 +1,6 @@
 -- Where the first word of a unit leads. A word that begins no longer unit and is no unit alone begins
 -- none, whatever follows.
-use Rattle.std.proofs.Common.{◌≡◌, ◌≢◌, ℕ, zero, suc, ◌+◌, ◌^◌, ◌<◌, ◌==◌, ◌&&◌, Bool, true, false, not, inl, inr, List, [], ◌∷◌, length, refl, ap, sym, subst, ◌∙◌, lit<, lit≤, arith}
+use Rattle.std.proofs.Common.{◌≡◌, ◌≢◌, ℕ, zero, suc, ◌+◌, ◌^◌, ◌<◌, ◌==◌, ◌&&◌, Bool, true, false, not, inl, inr, List, [], ◌∷◌, length, take, drop, refl, ap, sym, subst, ◌∙◌, lit<, lit≤, arith}
 use Rattle.std.specs.Prelude.{Option, Some, None, option_and_then, option_map, nat_eq, IfSome, if◌then◌else◌}
 use Rattle.std.proofs.lemmas.Bool.{cases_Bool, eqb-true, eq-eqb, and_parts}
 use Rattle.std.proofs.Math.Bool.{and-true}
@@ -27,7 +27,9 @@ use Rattle.cfi_unit.specs.declared.unit.Unit as U
 use Rattle.cfi_unit.specs.declared.unit.Unit.TheVariants as V
 use Rattle.cfi_unit.specs.declared.unit.SystemOp.TheVariants as S
 use Rattle.cfi_unit.specs.UnitWords.{BAD_TARGET, MINUS_EIGHT, Reaches, instr_at, is_plain, jump_offset, near_offset, skip_offset, skips_jump, words_of}
-use Rattle.cfi_unit.specs.Recognise.{address_unit, can_stand, computed_unit, if_stands, jump_or_stop, label_in, led_to, near_to, read_in, recognised, stands, store_unit, target_in, unit_from}
+use Rattle.cfi_unit.specs.declared.members.Member.{Member}
+use Rattle.cfi_unit.specs.Members.{MOST_MEMBERS, members_in}
+use Rattle.cfi_unit.specs.Recognise.{address_unit, can_stand, computed_unit, if_stands, jump_or_stop, label_in, led_to, near_to, read_in, recognised, stands, target_in, unit_from}
 use Rattle.cfi_scan.specs.FirstStep.{first_step, opens_address, opens_call, opens_return, plain_step}
 use Rattle.cfi_scan.specs.PlainWord.{IsPlainWord}
 use Rattle.cfi_scan.specs.Stream.{Leads, LeadsOn, NeverBegins}
@@ -111,10 +113,9 @@ calls_start : (at : ℕ) (target : Option ℕ) → IfSome (option_map V.Call tar
 calls_start at None = tt
 calls_start at (Some target) = call_starts at target
 
-store_starts : (at rs1 imm : ℕ) (last : Option Instr) → IfSome (store_unit rs1 imm last) (λ u. StartsAs u at (Immediate Addi 31 rs1 imm))
+stores_start : (at rs1 imm : ℕ) (members : List Member) → StartsAs (V.Stores rs1 imm members) at (Immediate Addi 31 rs1 imm)
 unfolding words_of
-store_starts at rs1 imm (Some (Store op base rs2 zero_imm)) = (_, refl)
-store_starts at rs1 imm other = tt
+stores_start at rs1 imm members = (_, refl)
 
 computed_starts : (at rs1 imm : ℕ) (after : Option Instr) (which : TargetWord) (label : ℕ) → StartsAs (computed_unit rs1 imm after which label) at (Immediate Addi 31 rs1 imm)
 unfolding words_of
@@ -128,7 +129,7 @@ labelled_starts at rs1 imm after which (Some label) = computed_starts at rs1 imm
 
 address_starts : (words : List ℕ) (at rs1 imm : ℕ) (second : Option Instr) →
     IfSome (address_unit words rs1 imm second) (λ u. StartsAs u at (Immediate Addi 31 rs1 imm))
-address_starts words at rs1 imm (Some (Shift op rd rs amount)) = store_starts at rs1 imm (instr_at words 3)
+address_starts words at rs1 imm (Some (Shift op rd rs amount)) = stores_start at rs1 imm (members_in (take MOST_MEMBERS (drop 3 words)))
 address_starts words at rs1 imm other = labelled_starts at rs1 imm (instr_at words 12) (read_in (instr_at words 7)) (label_in (instr_at words 8))
 
 -- whether a longer unit begins with it

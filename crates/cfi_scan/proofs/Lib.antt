@@ -1,5 +1,6 @@
 pub mod Template
 pub mod Transfers
+pub mod StoreReader
 pub mod CheckReader
 pub mod FirstWord
 pub mod JumpWord

@@ -57,6 +57,13 @@ pub first_tells : (ws : List ℕ) (at : ℕ) (i : Instr) (v : U.Unit) → instr_
 first_tells ws at i v first e =
     let t : IsTold ws at v = is_told ws at v e in sym (ap (option_and_then (unit_from ws at)) first) ∙ t.from
 
+-- it may stand there, as far as its fields tell
+pub told_stands : (ws : List ℕ) (at : ℕ) (v : U.Unit) → recognised ws at ≡ Some v → can_stand v at ≡ true
+told_stands ws at v e =
+    let t : IsTold ws at v = is_told ws at v e in
+    let p = both (can_stand v at) _ t.stand in
+    p.0
+
 -- its words are there, of any list of numbers
 pub words_there : (ws : List ℕ) (at : ℕ) (v : U.Unit) → recognised ws at ≡ Some v →
     ws ≡ words_of v at ++ drop (length (words_of v at)) ws

@@ -1,29 +1,27 @@
--- The units that one address does not decide: a call, a return and a store, read word by word.
+-- The units that one address does not decide: a call and a return, read word by word.
 use Rattle.std.proofs.Common.{◌≡◌, ◌≢◌, ℕ, ◌+◌, ◌*◌, ◌%◌, ◌^◌, ◌<◌, ◌≤◌, ◌==◌, true, false, arith, lit<, lit≤, refl, ap, sym, subst, ◌∙◌, List, [], ◌∷◌, ◌++◌, length, take, Some, None}
 use Rattle.std.specs.Prelude.{Option, slice_get}
-use Rattle.std.proofs.lemmas.Bool.{and_parts, eqb-true}
+use Rattle.std.proofs.lemmas.Bool.{eqb-true}
 use Rattle.rv_word.specs.MemoryMap.{CODE_START}
 use Rattle.rv_word.proofs.Cases.{guarded, mapped}
 use Rattle.rv_instr.specs.declared.instr.Instr.{Instr}
-use Rattle.rv_instr.specs.declared.instr.Instr.TheVariants.{Jal, Load, Store, Immediate, Shift}
-use Rattle.rv_instr.specs.declared.instr.ImmediateOp.TheVariants.{Addi}
+use Rattle.rv_instr.specs.declared.instr.Instr.TheVariants.{Jal, Load, Shift}
 use Rattle.rv_instr.specs.declared.instr.ShiftOp.TheVariants.{Slli}
 use Rattle.rv_instr.specs.declared.instr.LoadOp.TheVariants.{Ld}
-use Rattle.rv_instr.specs.declared.instr.StoreOp.{StoreOp}
 use Rattle.rv_code.specs.Decode.{decoded}
 use Rattle.rv_code.specs.Encode.{code_of}
 use Rattle.rv_code.proofs.Inverse.{code_of-decoded, decoded-in_range}
 use Rattle.rv_code.proofs.ReadBack.{decoded-code_of}
 use Rattle.cfi_unit.specs.declared.unit.Unit as U
 use Rattle.cfi_unit.specs.declared.unit.Unit.TheVariants as V
-use Rattle.cfi_unit.specs.Recognise.{address_unit, led_to, recognised, store_unit, target_in}
+use Rattle.cfi_unit.specs.Recognise.{led_to, recognised, target_in}
 use Rattle.cfi_unit.specs.UnitWords.{BAD_RETURN, DEEP, MINUS_EIGHT, Reaches, instr_at, jump_offset, word_count, words_of}
 use Rattle.cfi_unit.proofs.Found.{is_jump_instr}
 use Rattle.cfi_unit.proofs.Near.{near_reached}
 use Rattle.cfi_scan.specs.declared.entry.Entry.TheVariants as E
 use Rattle.cfi_scan.specs.declared.reader.Reader.TheVariants as R
 use Rattle.cfi_scan.specs.declared.reader.Step.TheVariants.{More, Done}
-use Rattle.cfi_scan.specs.Fields.{link_field, stores_there}
+use Rattle.cfi_scan.specs.Fields.{link_field}
 use Rattle.cfi_scan.specs.Stream.{IsCode, IsPart, IsReading, LeadsOn}
 use Rattle.cfi_unit.proofs.LedBack.{led_back}
 use Rattle.cfi_scan.proofs.Template.{Agree, first_tells, is_next, more_part, more_words, never, next_decoded, part_length, unfinished, was_read, wrong_word}
@@ -199,120 +197,3 @@ return_fails count word here most other held at (some, part) place =
     let n : length held ≡ 4 = omega (arith, m, below, most) in
     wrong_word held word at 5 (words_of V.Return at) 0xf8067 (return_agree count held at some part) (omega (arith, n))
     (ap (slice_get (words_of V.Return at)) n) other
-
--- a store that goes on after its second word
-store_is : (count : ℕ) (held : List ℕ) (at : ℕ) (op : StoreOp) (rs1 imm : ℕ) → rs1 < 32 → imm < 2 ^ 12 → 2 ≤ count →
-    IsPart (V.Store op rs1 0 imm) count held at → (v : U.Unit) (rest : List ℕ) → recognised (held ++ rest) at ≡ Some v →
-    store_unit rs1 imm (instr_at (held ++ rest) 3) ≡ Some v
-unfolding words_of
-store_is count held at op rs1 imm low small some part v rest e =
-    let u : U.Unit = V.Store op rs1 0 imm in
-    let i : Instr = Immediate Addi 31 rs1 imm in
-    let ws : List ℕ = held ++ rest in
-    let first : instr_at ws 0 ≡ Some i = was_read u count held at part rest 0 i (omega (arith, some)) refl (lit< tt, low, small) in
-    let second : instr_at ws 1 ≡ Some (Shift Slli 31 31 36) =
-    was_read u count held at part rest 1 (Shift Slli 31 31 36) (omega (arith, some)) refl (lit< tt, lit< tt, lit< tt) in
-    sym (ap (address_unit ws rs1 imm) second) ∙ first_tells ws at i v first e
-
--- the store of a store unit
-pub record IsStored (rs1 imm : ℕ) (last : Option Instr) (v : U.Unit) : Type 0 where
-  pub op : StoreOp
-  pub base : ℕ
-  pub rs2 : ℕ
-  pub offset : ℕ
-  pub is : last ≡ Some (Store op base rs2 offset)
-  pub same : V.Store op rs1 rs2 imm ≡ v
-
-pub stored : (rs1 imm : ℕ) (last : Option Instr) (v : U.Unit) → store_unit rs1 imm last ≡ Some v → IsStored rs1 imm last v
-stored rs1 imm (Some (Store op base rs2 offset)) v e = record { op = op; base = base; rs2 = rs2; offset = offset; is = refl; same = cc }
-stored rs1 imm other v e = absurd (cc)
-
-store_agree : (count : ℕ) (held : List ℕ) (at : ℕ) (op : StoreOp) (rs1 imm : ℕ) → rs1 < 32 → imm < 2 ^ 12 → 2 ≤ count →
-    IsPart (V.Store op rs1 0 imm) count held at → Agree held at 3 (words_of (V.Store op rs1 0 imm) at)
-unfolding words_of
-store_agree count held at op rs1 imm low small some part v rest e =
-    let s = stored rs1 imm (instr_at (held ++ rest) 3) v (store_is count held at op rs1 imm low small some part v rest e) in
-    subst (λ (u : U.Unit). take 3 (words_of u at) ≡ take 3 (words_of (V.Store op rs1 0 imm) at)) s.same refl
-
-pub store_open : (count : ℕ) (held : List ℕ) (at : ℕ) → IsReading (R.Store count) held at → recognised held at ≡ None
-store_open count held at (op, rs1, imm, (low, small, some, part)) =
-    let n = part_length (V.Store op rs1 0 imm) count held at part in
-    let below : count < 4 = part.below in
-    unfinished held at 4 (omega (arith, n, below)) (λ v e.
-    let s = stored rs1 imm (instr_at (held ++ []) 3) v (store_is count held at op rs1 imm low small some part v [] e) in
-    subst (λ (u : U.Unit). 4 ≤ word_count u) s.same (lit≤ tt))
-
-pub store_more : (count word here : ℕ) → count < 3 → word ≡ 0x24fdf93 → LeadsOn (R.Store count) word here (More (R.Store 3))
-unfolding words_of code_of
-store_more count word here first is held at (op, rs1, imm, (low, small, some, part)) place =
-    let u : U.Unit = V.Store op rs1 0 imm in
-    let two : count ≡ 2 = omega (arith, some, first) in
-    let part' : held ≡ take 2 (words_of u at) = part.held_is ∙ ap (λ k. take k (words_of u at)) two in (
-      op,
-      rs1,
-      imm,
-      (
-        low,
-        small,
-        lit≤ tt,
-        more_part u 2 held word at (record { held_is = part'; below = lit< tt }) (lit< tt) (ap Some (sym is)),
-      ),
-    )
-
-pub store_wrong : (count word here : ℕ) → count < 3 → word ≢ 0x24fdf93 → LeadsOn (R.Store count) word here (More R.Stuck)
-unfolding words_of code_of
-store_wrong count word here first other held at (op, rs1, imm, (low, small, some, part)) place =
-    let u : U.Unit = V.Store op rs1 0 imm in
-    let m = part_length u count held at part in
-    let n : length held ≡ 2 = omega (arith, m, some, first) in
-    wrong_word held word at 3 (words_of u at) 0x24fdf93 (store_agree count held at op rs1 imm low small some part) (omega (arith, n))
-    (ap (slice_get (words_of u at)) n) other
-
--- the last word
-record IsLastStore (last : Option Instr) : Type 0 where
-  op : StoreOp
-  rs2 : ℕ
-  is : last ≡ Some (Store op 31 rs2 0)
-
-last_store : (i : Option Instr) → stores_there i ≡ true → IsLastStore i
-last_store (Some (Store op base rs2 imm)) e =
-    let both = and_parts (base == 31) (imm == 0) e in
-    let a : base ≡ 31 = eqb-true base 31 both.0 in
-    let b : imm ≡ 0 = eqb-true imm 0 both.1 in
-    record { op = op; rs2 = rs2; is = rw (a, b) refl }
-last_store other e = absurd (cc)
-
-pub store_ends : (count word here : ℕ) → 3 ≤ count → word < 2 ^ 32 → stores_there (decoded word) ≡ true →
-    LeadsOn (R.Store count) word here (Done E.Other)
-unfolding words_of
-store_ends count word here last small stores held at (op, rs1, imm, (low, fits, some, part)) place =
-    let below : count < 4 = part.below in
-    let three : count ≡ 3 = omega (arith, last, below) in
-    let s = last_store (decoded word) stores in
-    let i : Instr = Store s.op 31 s.rs2 0 in
-    let range = decoded-in_range word i small s.is in
-    let u : U.Unit = V.Store s.op rs1 s.rs2 imm in
-    let part' : held ≡ take 3 (words_of u at) = part.held_is ∙ ap (λ k. take k (words_of (V.Store op rs1 0 imm) at)) three in
-    (u, ((low, range.1, fits), refl, more_words u 3 held word at part' (ap Some (code_of-decoded word i small s.is)), λ rest. refl))
-
-pub store_fails : (count word here : ℕ) → 3 ≤ count → word < 2 ^ 32 → stores_there (decoded word) ≡ false →
-    LeadsOn (R.Store count) word here (More R.Stuck)
-unfolding words_of
-store_fails count word here last small fails held at (op, rs1, imm, (low, fits, some, part)) place =
-    let m = part_length (V.Store op rs1 0 imm) count held at part in
-    let below : count < 4 = part.below in
-    let n : length held ≡ 3 = omega (arith, m, last, below) in
-    never held word at (λ v rest e.
-    let ws : List ℕ = held ++ (word ∷ rest) in
-    let s = stored rs1 imm (instr_at ws 3) v (store_is count held at op rs1 imm low fits some part v (word ∷ rest) e) in
-    let here' : instr_at ws 3 ≡ decoded word = next_decoded held word rest 3 n in
-    let range = decoded-in_range word (Store s.op s.base s.rs2 s.offset) small (sym here' ∙ s.is) in
-    let i : Instr = Store s.op 31 s.rs2 0 in
-    let theirs : slice_get (words_of (V.Store s.op rs1 s.rs2 imm) at) (length held) ≡ Some (code_of i) =
-    ap (slice_get (words_of (V.Store s.op rs1 s.rs2 imm) at)) n in
-    let is : word ≡ code_of i =
-    is_next held word at rest v (code_of i) e
-    (subst (λ (u : U.Unit). slice_get (words_of u at) (length held) ≡ Some (code_of i)) s.same theirs) in
-    let back : decoded word ≡ Some i = ap decoded is ∙ decoded-code_of i (lit< tt, range.1, lit< tt) in
-    let stores : stores_there (decoded word) ≡ true = ap stores_there back in
-    cc)

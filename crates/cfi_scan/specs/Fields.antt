@@ -1,7 +1,7 @@
 -- What single words of units say beyond that they are there: the offset field of a call's transfer, the
--- label of a computed transfer, that a word stores at x31, and that a computed transfer is a call. Only
+-- label of a computed transfer, that a word stores behind a mask, and that a computed transfer is a call. Only
 -- private contracts cite these.
-use Rattle.std.specs.Prelude.{ℕ, ◌==◌, ◌&&◌, Bool, false, Option, Some, None, if◌then◌else◌}
+use Rattle.std.specs.Prelude.{ℕ, ◌==◌, ◌&&◌, Bool, false, Option, Some, None, if◌then◌else◌, nat_lt}
 use Rattle.rv_instr.specs.declared.instr.Instr.{Instr}
 use Rattle.rv_instr.specs.declared.instr.Instr.TheVariants.{Upper, Jal, Store}
 use Rattle.cfi_unit.specs.declared.target_word.TargetWord.{TargetWord}
@@ -21,9 +21,9 @@ abbrev pub label_field : Option Instr → Option ℕ
 label_field (Some (Upper op rd imm)) = if is_lui op && (rd == 4) then Some imm else None
 label_field other = None
 
--- a store at the address in x31
+-- a store off x31, at a distance that is not negative: so one behind a mask
 abbrev pub stores_there : Option Instr → Bool
-stores_there (Some (Store op base rs2 imm)) = (base == 31) && (imm == 0)
+stores_there (Some (Store op base rs2 imm)) = (base == 31) && nat_lt imm 2048
 stores_there other = false
 
 -- after a check, the first word of a push: only a call has one, whose check reads the first word

@@ -1,23 +1,27 @@
 -- Units in a row, of words that come one by one: the units that have ended, and how far the one is read
 -- that has begun.
-use Rattle.std.specs.Prelude.{◌≡◌, ℕ, ◌+◌, ◌*◌, ◌%◌, ◌<◌, ◌≤◌, ◌^◌, IsTrue, List, [], ◌∷◌, ◌++◌, length, take, None, true}
+use Rattle.std.specs.Prelude.{◌≡◌, ℕ, ◌+◌, ◌*◌, ◌%◌, ◌<◌, ◌≤◌, ◌^◌, Bool, false, IsTrue, List, [], ◌∷◌, ◌++◌, length, take, None, true}
+use Rattle.std.specs.List.{AllByRecursion}
 use Rattle.rv_word.specs.MemoryMap.{CODE_START, CODE_SIZE}
 use Rattle.rv_instr.specs.declared.instr.BranchOp.{BranchOp}
-use Rattle.rv_instr.specs.declared.instr.StoreOp.{StoreOp}
 use Rattle.rv_instr.specs.declared.instr.Instr.TheVariants.{Branch, Immediate}
 use Rattle.rv_instr.specs.declared.instr.ImmediateOp.TheVariants.{Addi}
 use Rattle.rv_code.specs.Encode.{code_of}
 use Rattle.cfi_unit.specs.declared.target_word.TargetWord.TheVariants.{First}
 use Rattle.cfi_unit.specs.declared.unit.Unit as U
 use Rattle.cfi_unit.specs.declared.unit.Unit.TheVariants as V
+use Rattle.cfi_unit.specs.declared.members.Member.{Member}
+use Rattle.cfi_unit.specs.Members.{FILLER, IsMember, MOST_MEMBERS}
 use Rattle.cfi_unit.specs.UnitWords.{Fits, after_unit, instr_at, is_jump, may_precede, skip_offset, word_count, words_of}
 use Rattle.cfi_unit.specs.Recognise.{recognised}
 use Rattle.cfi_scan.specs.declared.entry.Entry.{Entry}
+use Rattle.cfi_scan.specs.declared.entry.Entry.TheVariants as E
 use Rattle.cfi_scan.specs.declared.reader.Reader.{Reader}
 use Rattle.cfi_scan.specs.declared.reader.Reader.TheVariants as R
 use Rattle.cfi_scan.specs.declared.reader.Step.{Step}
 use Rattle.cfi_scan.specs.declared.reader.Step.TheVariants.{More, Done}
 use Rattle.cfi_scan.specs.Entries.{entries_of, entry_of, inside}
+use Rattle.cfi_scan.specs.Fields.{stores_there}
 
 -- an address at which a word of code may stand
 pub record IsCode (at : ℕ) : Type 0 where
@@ -58,7 +62,7 @@ pub record IsPart (unit : U.Unit) (count : ℕ) (held : List ℕ) (at : ℕ) : T
   pub below : count < word_count unit
 
 -- what is held of a unit that has begun, by how far it is read. Fields that no word has told yet are
--- zero here, or the first word of a destination, and so is a call's distance: only its last word has it.
+-- zero here, a member behind a mask is any, or the first word of a destination, and so is a call's distance: only its last word has it.
 abbrev pub IsReading : Reader → List ℕ → ℕ → Type 0
 IsReading R.Start held at = held ≡ []
 IsReading R.Branch held at =
@@ -66,9 +70,13 @@ IsReading R.Branch held at =
     × ((rs1 < 32) × (rs2 < 32) × (held ≡ code_of (Branch op rs1 rs2 skip_offset) ∷ []))
 IsReading R.Address held at =
     (rs1 : ℕ) × (imm : ℕ) × ((rs1 < 32) × (imm < 2 ^ 12) × (held ≡ code_of (Immediate Addi 31 rs1 imm) ∷ []))
-IsReading (R.Store count) held at =
-    (op : StoreOp) × (rs1 : ℕ) × (imm : ℕ)
-    × ((rs1 < 32) × (imm < 2 ^ 12) × (2 ≤ count) × IsPart (V.Store op rs1 0 imm) count held at)
+IsReading (R.Mask count) held at =
+    (rs1 : ℕ) × (imm : ℕ)
+    × ((rs1 < 32) × (imm < 2 ^ 12) × (2 ≤ count) × (count ≤ 3) × IsPart (V.Stores rs1 imm (FILLER ∷ [])) count held at)
+IsReading (R.Stores count) held at =
+    (rs1 : ℕ) × (imm : ℕ) × (members : List Member)
+    × ((rs1 < 32) × (imm < 2 ^ 12) × (length members ≡ count) × (0 < count) × (count < MOST_MEMBERS)
+    × AllByRecursion IsMember members × (held ≡ words_of (V.Stores rs1 imm members) at))
 IsReading (R.Call count) held at = (1 ≤ count) × IsPart (V.Call (at + 28)) count held at
 IsReading (R.Check count) held at =
     (rs1 : ℕ) × (imm : ℕ)
@@ -97,9 +105,26 @@ abbrev pub LeadsOn : Reader → ℕ → ℕ → Step → Type 0
 LeadsOn reader word here step =
     (held : List ℕ) (at : ℕ) → IsReading reader held at → here ≡ at + 4 * length held → Leads held word at step
 
--- a reader may take a word: a branch over the next word is no unit of its own only where that jumps
+-- what is read is a unit already, if the next word does not belong to it
+abbrev pub is_open : Reader → Bool
+is_open R.Branch = true
+is_open (R.Stores count) = true
+is_open other = false
+
+-- a word belongs to what is read: to a branch over it a jump, to stores a store
+abbrev pub belongs : Reader → ℕ → Bool
+belongs R.Branch word = is_jump (instr_at (word ∷ []) 0)
+belongs (R.Stores count) word = stores_there (instr_at (word ∷ []) 0)
+belongs other word = true
+
+-- the entry of what is read, as a unit that ends there
+abbrev pub whole_entry : Reader → Entry
+whole_entry R.Branch = E.Near skip_offset
+whole_entry other = E.Other
+
+-- a reader may take a word
 abbrev pub MayTake : Reader → ℕ → Type 0
-MayTake reader word = reader ≡ R.Branch → is_jump (instr_at (word ∷ []) 0) ≡ true
+MayTake reader word = belongs reader word ≡ true
 
 -- the words so far, of which `next` are known to follow, are these units and a part of one: one entry
 -- for each word that there is room for

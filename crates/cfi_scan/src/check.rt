@@ -48,13 +48,13 @@ const CHECK: [u32; 12] = [
     0,
 ];
 
-/// Reads the word after `addi x31`: that of a store or of a computed transfer.
+/// Reads the word after `addi x31`: that of a mask or of a computed transfer.
 pub(crate) fn address_word(word: u32, here: u64) -> Step
     requires place { IsCode here }
     ensures { LeadsOn R.Address word here result }
 {
     if word == SHIFT {
-        Step::More(Reader::Store(2))
+        Step::More(Reader::Mask(2))
     } else if word == CLEAR {
         Step::More(Reader::Check(2))
     } else {

@@ -1,14 +1,15 @@
 //! How far the unit that is being read is read, and one word more.
 
-ghost use Rattle.cfi_scan.specs.Stream.{IsCode, LeadsOn, MayTake};
+ghost use Rattle.std.specs.Prelude.{◌≡◌};
+ghost use Rattle.cfi_scan.specs.Stream.{IsCode, LeadsOn, MayTake, belongs, is_open, whole_entry};
 
-use crate::branch::jump_word;
+use crate::branch::{is_jump, jump_word};
 use crate::call::call_word;
 use crate::check::{address_word, check_word, label_word, loaded_word, push_word};
 use crate::entry::Entry;
 use crate::first::first_word;
 use crate::leave::return_word;
-use crate::store::store_word;
+use crate::store::{is_member, mask_word, stores_word};
 use cfi_unit::TargetWord;
 use rv_instr::Immediate;
 
@@ -21,8 +22,10 @@ pub enum Reader {
     Branch,
     /// An address was put into x31: of a store, or of a computed transfer.
     Address,
-    /// More words of a store.
-    Store(u8),
+    /// Two or three words of a mask.
+    Mask(u8),
+    /// A mask and so many stores, fewer than sixteen: a unit, if no store follows.
+    Stores(u8),
     /// Words of a call.
     Call(u8),
     /// More words of a computed transfer, up to the load of a word of its destination.
@@ -48,6 +51,36 @@ pub enum Step {
     Done(Entry),
 }
 
+impl Reader {
+    /// Whether what is read is a unit already, if the next word does not belong to it.
+    pub(crate) fn is_open(self) -> bool
+        ensures { result ≡ is_open self }
+    {
+        matches!(self, Reader::Branch | Reader::Stores(_))
+    }
+
+    /// Whether a word belongs to what is read.
+    pub(crate) fn takes(self, word: u32) -> bool
+        ensures { result ≡ belongs self word }
+    {
+        match self {
+            Reader::Branch => is_jump(word),
+            Reader::Stores(_) => is_member(word),
+            _ => true,
+        }
+    }
+
+    /// The entry of what is read, as a unit that ends there.
+    pub(crate) fn whole(self) -> Entry
+        ensures { result ≡ whole_entry self }
+    {
+        match self {
+            Reader::Branch => Entry::Near(Immediate::of(4)),
+            _ => Entry::Other,
+        }
+    }
+}
+
 /// Reads one word more, which stands at an address.
 pub(crate) fn next(reader: Reader, word: u32, here: u64) -> Step
     requires place { IsCode here }
@@ -58,7 +91,8 @@ pub(crate) fn next(reader: Reader, word: u32, here: u64) -> Step
         Reader::Start => first_word(word, here),
         Reader::Branch => jump_word(word, here),
         Reader::Address => address_word(word, here),
-        Reader::Store(count) => store_word(count, word, here),
+        Reader::Mask(count) => mask_word(count, word, here),
+        Reader::Stores(count) => stores_word(count, word, here),
         Reader::Call(count) => call_word(count, word, here),
         Reader::Check(count) => check_word(count, word, here),
         Reader::Loaded(which) => loaded_word(which, word, here),

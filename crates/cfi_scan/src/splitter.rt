@@ -5,13 +5,11 @@ ghost use Rattle.cfi_scan.specs.Pieces.{HasPlace};
 ghost use Rattle.cfi_scan.specs.Stream.{IsSplitUp, MayTake, Splits};
 ghost use Rattle.cfi_scan.specs.declared.reader.Reader.TheVariants as R;
 
-use crate::branch::is_jump;
 use crate::entry::Entry;
 use crate::front::Front;
 use crate::packed::Packed;
 use crate::plain::is_plain_word;
 use crate::reader::{Reader, Step, next};
-use rv_instr::Immediate;
 use rv_word::NoMemory;
 use std::alloc::Global;
 
@@ -52,16 +50,17 @@ impl Splitter {
     {
         if self.reader == Reader::Start && is_plain_word(word) {
             self.end(Entry::Other, index + 1);
-        } else if self.reader == Reader::Branch {
-            self.after_branch(word, index);
+        } else if self.reader.is_open() {
+            self.after_open(word, index);
         } else {
             self.read(word, index);
         }
     }
 
-    /// Takes the word after a branch over it, which it ends first where that is no jump.
+    /// Takes the word after what is a unit already if the word does not belong to it, which it ends
+    /// first where that is so.
     #[inline(never)]
-    fn after_branch(&mut self, word: u32, index: usize)
+    fn after_open(&mut self, word: u32, index: usize)
         requires room { index < length self.old.entries.items }
         requires small { HasPlace (profile_of self.old.front) self.old.entries.items }
         ensures splits { (words : List ℕ) → length words ≡ index → Splits (profile_of self.old.front).units_from [] self.old.entries.items self.old.done self.old.last self.old.reader words → Splits (profile_of self.old.front).units_from [] self.new.entries.items self.new.done self.new.last self.new.reader (words ++ word ∷ []) }
@@ -72,7 +71,7 @@ impl Splitter {
         self.read(word, index);
     }
 
-    /// Takes the next word by what is read of its unit, where no branch is left to be ended.
+    /// Takes the next word by what is read of its unit, to which it belongs.
     #[inline(never)]
     fn read(&mut self, word: u32, index: usize)
         requires room { index < length self.old.entries.items }
@@ -88,7 +87,8 @@ impl Splitter {
         }
     }
 
-    /// Ends a branch over the next word where that is no jump: then it is a unit of its own.
+    /// Ends a branch over the next word where that is no jump, and stores where that is no store: then
+    /// they are a unit.
     fn settle(&mut self, word: u32, index: usize)
         requires room { index ≤ length self.old.entries.items }
         requires small { HasPlace (profile_of self.old.front) self.old.entries.items }
@@ -97,21 +97,21 @@ impl Splitter {
         ensures front { self.new.front ≡ self.old.front }
         ensures room { length self.new.entries.items ≡ length self.old.entries.items }
     {
-        if self.reader == Reader::Branch && !is_jump(word) {
-            self.end(Entry::Near(Immediate::of(4)), index);
+        if !self.reader.takes(word) {
+            self.end(self.reader.whole(), index);
         }
     }
 
     /// Ends the code, which has so many words: a branch over the word that would come next is a unit of
-    /// its own.
+    /// its own, and so are stores.
     pub(crate) fn close(&mut self, count: usize)
         requires small { HasPlace (profile_of self.old.front) self.old.entries.items }
         ensures splits { (words : List ℕ) → length words ≡ count → count ≤ length self.old.entries.items → Splits (profile_of self.old.front).units_from [] self.old.entries.items self.old.done self.old.last self.old.reader words → IsSplitUp (profile_of self.old.front).units_from self.new.entries.items self.new.done self.new.last words }
         ensures front { self.new.front ≡ self.old.front }
         ensures room { length self.new.entries.items ≡ length self.old.entries.items }
     {
-        if self.reader == Reader::Branch {
-            self.end(Entry::Near(Immediate::of(4)), count);
+        if self.reader.is_open() {
+            self.end(self.reader.whole(), count);
         }
     }
 

@@ -26,7 +26,8 @@ use Rattle.cfi_unit.specs.Effect.{UnitDoes}
 use Rattle.cfi_unit.specs.EffectLaw.{Enters, GoesOn, Inside, DoneWithin, UnitEffect, UnitIsDone, UnitKeepsRegisters}
 use Rattle.cfi_unit.proofs.Context.{kept_data}
 use Rattle.cfi_unit.proofs.EffectSteps.{IsHarmless, Now, RunsOn, before}
-use Rattle.cfi_unit.proofs.EffectUnits.{plain_does, ecall_does, ebreak_does, stop_does, gate_does, jump_does, branch_does, near_does, store_does}
+use Rattle.cfi_unit.proofs.EffectUnits.{plain_does, ecall_does, ebreak_does, stop_does, gate_does, jump_does, branch_does, near_does}
+use Rattle.cfi_unit.proofs.EffectStores.{stores_does}
 use Rattle.cfi_unit.proofs.EffectTransfers.{call_does, return_does, ijump_does, icall_does}
 
 module _ (may : Shared → Shared → Type 0) (harmless : IsHarmless may) (p : Profile) (part : ℕ) (image base : Memory) (h : Hart) (s : Shared) where
@@ -45,7 +46,7 @@ module _ (may : Shared → Shared → Type 0) (harmless : IsHarmless may) (p : P
     body_does V.Stop pending stand some most w c x3 = stop_does at (first pending c) e stand.0 w
     body_does (V.System S.Ecall) pending stand some most w c x3 = ecall_does at (first pending c) e w
     body_does (V.System S.Ebreak) pending stand some most w c x3 = ebreak_does at (first pending c) e w
-    body_does (V.Store op rs1 rs2 imm) pending stand some most w c x3 = store_does at (first pending c) e x3 op rs1 rs2 imm w
+    body_does (V.Stores rs1 imm members) pending stand some most w c x3 = stores_does at (first pending c) e x3 rs1 imm members stand.0 w
     body_does (V.Call target) pending stand some most w c x3 = call_does at pending (first pending c) e x3 most target stand.0 w
     body_does (V.Ijump which rs1 imm label) pending stand some most w c x3 = ijump_does at pending (first pending c) e x3 most rs1 imm label small which stand.0 w
     body_does (V.Icall rs1 imm label) pending stand some most w c x3 = icall_does at pending (first pending c) e x3 most rs1 imm label small stand.0 w
@@ -128,7 +129,7 @@ one_word (V.Near op rs1 rs2 target) = refl
 one_word (V.Jump target) = refl
 one_word V.Stop = refl
 one_word (V.System op) = refl
-one_word (V.Store op rs1 rs2 imm) = refl
+one_word (V.Stores rs1 imm members) = omega arith
 one_word (V.Call target) = refl
 one_word (V.Ijump which rs1 imm label) = refl
 one_word (V.Icall rs1 imm label) = refl

@@ -1,37 +1,33 @@
--- What units of one word, branches and stores do.
-use Rattle.std.proofs.Common.{◌≡◌, ◌≢◌, ℕ, zero, suc, ◌+◌, ◌*◌, ◌==◌, ◌||◌, ◌%◌, ◌^◌, ◌<◌, inl, inr, true, false, not, List, length, Some, refl, sym, ap, subst, ◌∙◌, arith}
+-- What units of one word and branches do.
+use Rattle.std.proofs.Common.{◌≡◌, ◌≢◌, ℕ, zero, suc, ◌+◌, ◌==◌, ◌||◌, ◌^◌, inl, inr, true, false, not, List, length, Some, refl, sym, ap, subst, ◌∙◌, arith}
 use Rattle.std.specs.Prelude.{nat_le}
 use Rattle.std.proofs.lemmas.Bool.{and_parts, cases_Bool, cond_both, ne_eqb}
-use Rattle.rv_word.specs.MemoryMap.{Profile, can_load, can_store}
-use Rattle.rv_word.specs.Memory.{Memory, read, write}
+use Rattle.rv_word.specs.MemoryMap.{Profile, can_load}
+use Rattle.rv_word.specs.Memory.{Memory, read}
 use Rattle.rv_instr.specs.Registers.{Registers, get_reg, set_reg}
 use Rattle.rv_instr.specs.Reserved.{is_reserved}
 use Rattle.rv_instr.specs.declared.instr.Instr.{Instr}
 use Rattle.rv_instr.specs.declared.instr.Instr.TheVariants.{Upper, Jal, Jalr, Branch, Load, Store, Immediate, Shift, ShiftWord, Register, Fence, Ecall, Ebreak}
 use Rattle.rv_instr.specs.declared.instr.UpperOp.TheVariants.{Lui, Auipc}
 use Rattle.rv_instr.specs.declared.instr.BranchOp.{BranchOp}
-use Rattle.rv_instr.specs.declared.instr.StoreOp.{StoreOp}
-use Rattle.rv_code.specs.Arithmetic.{branch_taken, load_size, load_result, store_size}
+use Rattle.rv_code.specs.Arithmetic.{branch_taken, load_size, load_result}
 use Rattle.rv_code.specs.State.{Hart, Shared, After}
 use Rattle.rv_code.specs.Step.{exec, puts, stops, address}
 use Rattle.rv_code.specs.SystemCall.{system_call, write_call, read_call}
 use Rattle.rv_code.specs.declared.turn.Turn.TheVariants.{Ran, Break, LoadFault}
 use Rattle.rv_code.proofs.Calls.{AfterCall, answered, ended, after_call}
-use Rattle.rv_code.proofs.Frames.{write_outside}
 use Rattle.cfi_unit.specs.declared.unit.Unit as U
 use Rattle.cfi_unit.specs.declared.unit.Unit.TheVariants as V
 use Rattle.cfi_unit.specs.declared.unit.SystemOp.TheVariants as S
 use Rattle.cfi_unit.specs.UnitWords.{BAD_TARGET, Fits, instrs_of, is_plain}
-use Rattle.cfi_unit.specs.Shadow.{IsPart, slot}
+use Rattle.cfi_unit.specs.Shadow.{slot}
 use Rattle.cfi_unit.specs.Stand.{Stand}
 use Rattle.cfi_unit.specs.Context.{Context, Kept}
-use Rattle.cfi_unit.specs.Leads.{sum_of}
-use Rattle.cfi_unit.specs.Leaving.{LeftTo, HaltsAt, Executes, SameScratch, Stores, result_register, with_memory}
+use Rattle.cfi_unit.specs.Leaving.{LeftTo, HaltsAt, Executes, SameScratch, result_register}
 use Rattle.cfi_unit.specs.EffectLaw.{UnitIsDone}
 use Rattle.cfi_unit.proofs.Context.{kept_data}
 use Rattle.cfi_unit.proofs.Jumps.{near_leads}
-use Rattle.cfi_unit.proofs.Regions.{store_size-small, can_store_data}
-use Rattle.cfi_unit.proofs.EffectSteps.{Now, RunsOn, before, moved, onto, onto_put, onto_branch, onto_jump, onto_store}
+use Rattle.cfi_unit.proofs.EffectSteps.{Now, RunsOn, before, moved, onto, onto_branch, onto_jump}
 
 set_other : (regs : Registers) (rd v k : ℕ) → (rd ≡ k → ⊥) → set_reg regs rd v k ≡ regs k
 set_other regs zero v k apart = refl
@@ -242,67 +238,3 @@ module _ {may : Shared → Shared → Type 0} {p : Profile} {part : ℕ} {image 
         (λ not_taken pc s' to on.
         inr (onto_jump 0 (Does (V.Branch op rs1 rs2 target)) on w 1 to (at + 4) target refl (omega arith) fits.2
         (λ pc' s'' goes there. rw not_taken (left_to target there goes x3, none_written (instrs_of (V.Branch op rs1 rs2 target) at) h.regs))))
-
-    -- what a store's own instruction leaves
-    own_store : (op : StoreOp) (rs1 rs2 imm : ℕ) (s' : Shared) → can_store p (sum_of h.regs rs1 imm) (store_size op) ≡ true →
-        (exec p (Store op rs1 rs2 imm) h s').shared ≡ with_memory s' (write (store_size op) s'.memory (sum_of h.regs rs1 imm) (get_reg h.regs rs2))
-    own_store op rs1 rs2 imm s' can = rw can refl
-
-    stores_so : (op : StoreOp) (rs1 rs2 imm a v : ℕ) (s' : Shared) → Now may p part image base pending h.regs s h s' →
-        a ≡ sum_of h.regs rs1 imm % 2 ^ 28 → (rs2 ≢ 31 → v ≡ get_reg h.regs rs2) → (rs2 ≡ 31 → v ≡ a) →
-        Stores p op rs1 rs2 imm h (may s) (with_memory s' (write (store_size op) s'.memory a v))
-    stores_so op rs1 rs2 imm a v s' on place value itself = record {
-      seen = s';
-      may_see = on.since;
-      memory_alone = refl;
-      masked = λ other. rw (place, value other) refl;
-      own = λ is. rw (itself is, place) refl;
-      stored = λ low other.
-          let can = can_store_data p (sum_of h.regs rs1 imm) (store_size op) low (store_size-small op) in
-          let same : a ≡ sum_of h.regs rs1 imm = omega arith in
-          rw (same, value other) (sym (own_store op rs1 rs2 imm s' can));
-    }
-
-    -- data alone is written
-    written_context : (op : StoreOp) (a v : ℕ) (s' : Shared) → IsPart p part → a < 2 ^ 28 → Context part image base pending s' →
-        Context part image base pending (with_memory s' (write (store_size op) s'.memory a v))
-    written_context op a v s' own near c =
-        let few = store_size-small op in
-        record {
-          going = c.going;
-          kept = kept_data own.low c.kept _ (λ k high. write_outside (store_size op) s'.memory a v k (inr (omega arith)));
-        }
-
-    pub store_does : (op : StoreOp) (rs1 rs2 imm : ℕ) → Stand image at (instrs_of (V.Store op rs1 rs2 imm) at) →
-        RunsOn may p h.regs 3 (Does (V.Store op rs1 rs2 imm)) (before h s)
-    store_does op rs1 rs2 imm w =
-        let Q : After → Type 0 = Does (V.Store op rs1 rs2 imm) in
-        let sum = sum_of h.regs rs1 imm in
-        let masked = sum % 2 ^ 28 in
-        onto_put 3 Q now w 0 (omega arith) _ refl 31 _ sum refl (λ s1. refl) refl
-        (λ pc1 s1 e1 now1. inr (onto_put 2 Q now1 w 1 e1 _ refl 31 _ (sum * 2 ^ 36 % 2 ^ 64) refl (λ s2. refl) refl
-        (λ pc2 s2 e2 now2. inr (onto_put 1 Q now2 w 2 e2 _ refl 31 _ masked refl (λ s3. refl) (omega arith)
-        (λ pc3 s3 e3 now3.
-        let regs = set_reg (set_reg (set_reg h.regs 31 sum) 31 (sum * 2 ^ 36 % 2 ^ 64)) 31 masked in
-        let near : masked < 2 ^ 28 = omega arith in
-        inr (onto_store 0 Q now3 w 3 e3 op 31 rs2 0 refl masked (get_reg regs rs2) (omega arith) refl
-        (can_store_data p masked (store_size op) near (store_size-small op))
-        (λ pc4 s4 e4 now4. (
-          record {
-            turn = refl;
-            pc = omega arith;
-            regs = now4.same;
-            pointer = x3;
-            shared = stores_so op rs1 rs2 imm masked (get_reg regs rs2) s4 (moved now4 h (record { same = λ k free. refl })) refl
-                (λ other. get_other h.regs regs rs2 (unwritten h.regs sum (sum * 2 ^ 36 % 2 ^ 64) masked rs2 other))
-                (λ is. got regs masked rs2 is refl);
-            context = written_context op masked (get_reg regs rs2) s4 now4.own near now4.context;
-          },
-          record { x4 = λ free. refl; x30 = λ free. refl; x31 = λ free. absurd (cc) },
-        ))))))))
-      where
-        got : (regs : Registers) (v k : ℕ) → k ≡ 31 → regs 31 ≡ v → get_reg regs k ≡ v
-        got regs v k is holds = rw is holds
-
-        unwritten : (regs : Registers) (u v w k : ℕ) → k ≢ 31 → set_reg (set_reg (set_reg regs 31 u) 31 v) 31 w k ≡ regs k
-        unwritten regs u v w k other = rw (ne_eqb k 31 other) refl

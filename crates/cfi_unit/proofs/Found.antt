@@ -1,8 +1,8 @@
 -- The words of a unit that fits are recognised as that unit, whatever follows them.
-use Rattle.std.proofs.Common.{◌≡◌, ℕ, ◌+◌, ◌<◌, ◌^◌, ◌==◌, refl, ap, sym, subst, ◌∙◌, lit<, Bool, true, false, not, List, [], ◌∷◌, ◌++◌, length, drop, inl, inr, zero, suc, ◌≢◌}
-use Rattle.std.specs.Prelude.{Some, nat_eq}
+use Rattle.std.proofs.Common.{◌≡◌, ℕ, ◌+◌, ◌<◌, ◌^◌, ◌==◌, ◌≤◌, ◌||◌, ◌⊎◌, arith, refl, ap, sym, subst, ◌∙◌, lit<, Bool, true, false, not, List, [], ◌∷◌, ◌++◌, length, drop, inl, inr, zero, suc, ◌≢◌}
+use Rattle.std.specs.Prelude.{Option, Some, None, is_none, nat_eq, nat_le, take}
 use Rattle.std.specs.List.{starts_with}
-use Rattle.std.proofs.lemmas.Bool.{eqb-true, cases_Bool}
+use Rattle.std.proofs.lemmas.Bool.{eqb-true, cases_Bool, leb-true, or_cases}
 use Rattle.std.proofs.lemmas.Bool.Decides.{Decides-eqb}
 use Rattle.std.proofs.lemmas.Nat.{mod_below}
 use Rattle.std.proofs.lemmas.Slice.Eq.{starts_is}
@@ -17,7 +17,6 @@ use Rattle.rv_instr.specs.declared.instr.ImmediateOp.TheVariants.{Addi, Andi}
 use Rattle.rv_instr.specs.declared.instr.ShiftOp.TheVariants.{Slli}
 use Rattle.rv_instr.specs.declared.instr.BranchOp.{BranchOp}
 use Rattle.rv_instr.specs.declared.instr.LoadOp.TheVariants.{Ld, Lw}
-use Rattle.rv_instr.specs.declared.instr.StoreOp.{StoreOp}
 use Rattle.rv_code.proofs.ReadBack.{decoded-code_of}
 use Rattle.cfi_unit.specs.declared.target_word.TargetWord.{TargetWord}
 use Rattle.cfi_unit.specs.declared.target_word.TargetWord.TheVariants.{First, Second}
@@ -26,7 +25,10 @@ use Rattle.cfi_unit.specs.declared.unit.Unit.TheVariants as V
 use Rattle.cfi_unit.specs.declared.unit.SystemOp.TheVariants as S
 use Rattle.cfi_unit.specs.UnitWords.{BAD_TARGET, MINUS_EIGHT, MINUS_FOUR, Begins, Fits, IsNear, Reaches, gate, instr_at, is_plain, jump, jump_offset, may_precede, near_offset, past, skips_jump, word_count, words_of}
 use Rattle.cfi_unit.specs.Recognise.{can_stand, jump_or_stop, led_to, read_by, recognised, stands, unit_from}
+use Rattle.cfi_unit.specs.declared.members.Member.{Member}
+use Rattle.cfi_unit.specs.Members.{MOST_MEMBERS, member_of, members_in}
 use Rattle.cfi_unit.proofs.Stand.{and_both, fits_stand}
+use Rattle.cfi_unit.proofs.MemberWords.{members_back, members_counted}
 
 pub recognised_by : (ws : List ℕ) (at : ℕ) (i : Instr) (u : U.Unit) → instr_at ws 0 ≡ Some i →
     unit_from ws at i ≡ Some u → stands ws at u ≡ true → recognised ws at ≡ Some u
@@ -46,7 +48,7 @@ words_counted (V.Near op rs1 rs2 target) at = refl
 words_counted (V.Jump target) at = refl
 words_counted V.Stop at = refl
 words_counted (V.System op) at = refl
-words_counted (V.Store op rs1 rs2 imm) at = refl
+words_counted (V.Stores rs1 imm members) at = let counted = members_counted members in omega arith
 words_counted (V.Call target) at = refl
 words_counted (V.Ijump which rs1 imm label) at = refl
 words_counted (V.Icall rs1 imm label) at = refl
@@ -132,9 +134,22 @@ call_from : (ws : List ℕ) (at target : ℕ) → instr_at ws 7 ≡ Some (Jal 1 
     Reaches (at + 28) target → unit_from ws at (Shift Slli 30 3 48) ≡ Some (V.Call target)
 call_from ws at target a r = rw a (ap (λ t. Some (V.Call t)) r)
 
-store_from : (ws : List ℕ) (at : ℕ) (op : StoreOp) (rs1 rs2 imm : ℕ) → instr_at ws 1 ≡ Some (Shift Slli 31 31 36) →
-    instr_at ws 3 ≡ Some (Store op 31 rs2 0) → unit_from ws at (Immediate Addi 31 rs1 imm) ≡ Some (V.Store op rs1 rs2 imm)
-store_from ws at op rs1 rs2 imm a b = rw (a, b) refl
+stores_from : (ws : List ℕ) (at rs1 imm : ℕ) (members : List Member) → instr_at ws 1 ≡ Some (Shift Slli 31 31 36) →
+    members_in (take MOST_MEMBERS (drop 3 ws)) ≡ members → unit_from ws at (Immediate Addi 31 rs1 imm) ≡ Some (V.Stores rs1 imm members)
+stores_from ws at rs1 imm members a b = rw a (ap (λ ms. Some (V.Stores rs1 imm ms)) b)
+
+-- after so many members no other is asked for, or none follows
+whole : (members : List Member) (rest : List ℕ) → (nat_le MOST_MEMBERS (length members) || is_none (member_of (instr_at rest 0))) ≡ true →
+    (MOST_MEMBERS ≤ length members) ⊎ (member_of (instr_at rest 0) ≡ None)
+whole members rest ahead =
+    elim (or_cases (nat_le MOST_MEMBERS (length members)) (is_none (member_of (instr_at rest 0))) ahead) [
+      | inl most ↦ inl (leb-true MOST_MEMBERS (length members) most)
+      | inr none ↦ inr (nothing (member_of (instr_at rest 0)) none)
+    ]
+  where
+    nothing : (o : Option Member) → is_none o ≡ true → o ≡ None
+    nothing None e = refl
+    nothing (Some m) e = absurd (cc)
 
 -- the word that a check reads, by the offset of its load
 pub read_past : (which : TargetWord) → read_by (past which) ≡ which
@@ -192,12 +207,12 @@ found (V.System S.Ecall) at rest f ahead =
 found (V.System S.Ebreak) at rest f ahead =
     recognised_by (words_of (V.System S.Ebreak) at ++ rest) at Ebreak (V.System S.Ebreak) (decoded-code_of Ebreak tt) refl
     (stands_there (V.System S.Ebreak) at rest f ahead)
-found (V.Store op rs1 rs2 imm) at rest f ahead =
-    let u : U.Unit = V.Store op rs1 rs2 imm in
+found (V.Stores rs1 imm members) at rest f ahead =
+    let u : U.Unit = V.Stores rs1 imm members in
     let ws : List ℕ = words_of u at ++ rest in
-    recognised_by ws at (Immediate Addi 31 rs1 imm) u (decoded-code_of (Immediate Addi 31 rs1 imm) (lit< tt, f.0, f.2))
-    (store_from ws at op rs1 rs2 imm (decoded-code_of (Shift Slli 31 31 36) (lit< tt, lit< tt, lit< tt))
-    (decoded-code_of (Store op 31 rs2 0) (lit< tt, f.1, lit< tt)))
+    recognised_by ws at (Immediate Addi 31 rs1 imm) u (decoded-code_of (Immediate Addi 31 rs1 imm) (lit< tt, f.0, f.1))
+    (stores_from ws at rs1 imm members (decoded-code_of (Shift Slli 31 31 36) (lit< tt, lit< tt, lit< tt))
+    (members_back MOST_MEMBERS members rest f.2.each f.2.most (whole members rest ahead)))
     (stands_there u at rest f ahead)
 found (V.Call target) at rest f ahead =
     let u : U.Unit = V.Call target in

@@ -1,7 +1,8 @@
 -- A label's word stands in code only as the gate of that label.
 use Rattle.std.proofs.Common.{◌≡◌, ℕ, zero, suc, ◌+◌, ◌-◌, ◌*◌, ◌/◌, ◌%◌, ◌^◌, ◌<◌, ◌≤◌, ◌&&◌, Bool, true, false, not, inl, inr, List, [], ◌∷◌, length, Some, refl, sym, ap, subst, ◌∙◌, arith}
-use Rattle.std.specs.Prelude.{slice_get}
+use Rattle.std.specs.Prelude.{map, slice_get}
 use Rattle.std.proofs.lemmas.Bool.{and_parts}
+use Rattle.std.proofs.lemmas.List.{length-map}
 use Rattle.std.proofs.lemmas.Option.{slice_get_cases}
 use Rattle.rv_word.specs.MemoryMap.{IsProfile, Profile}
 use Rattle.rv_word.specs.Memory.{Memory, read}
@@ -13,6 +14,8 @@ use Rattle.rv_code.specs.Fields.{fields_of, imm_u}
 use Rattle.cfi_unit.specs.declared.unit.Unit as U
 use Rattle.cfi_unit.specs.declared.unit.Unit.TheVariants as V
 use Rattle.cfi_unit.specs.declared.unit.SystemOp.TheVariants as S
+use Rattle.cfi_unit.specs.declared.members.Member.{Member}
+use Rattle.cfi_unit.specs.Members.{member_instr}
 use Rattle.cfi_unit.specs.UnitWords.{Fits, gate, instrs_of, is_plain, word_count}
 use Rattle.cfi_unit.specs.Prologue.{opening_instrs}
 use Rattle.cfi_unit.specs.Place.{Place, handler, opening, closing, body, place_instrs, place_size}
@@ -76,6 +79,10 @@ plain_gate (Fence word) plain = refl
 plain_gate Ecall plain = refl
 plain_gate Ebreak plain = refl
 
+members_gate : (members : List Member) → no_gate (map member_instr members) ≡ true
+members_gate [] = refl
+members_gate (m ∷ members) = members_gate members
+
 other_unit : (unit : U.Unit) (at k label : ℕ) → no_gate (instrs_of unit at) ≡ true → slice_get (instrs_of unit at) k ≡ Some (gate label) →
     (unit ≡ V.Gate label) × (k ≡ 0)
 other_unit unit at k label none is = absurd (nowhere (instrs_of unit at) k label none is)
@@ -91,7 +98,7 @@ gate_unit (V.Jump target) at k label fits is = other_unit (V.Jump target) at k l
 gate_unit V.Stop at k label fits is = other_unit V.Stop at k label refl is
 gate_unit (V.System S.Ecall) at k label fits is = other_unit (V.System S.Ecall) at k label refl is
 gate_unit (V.System S.Ebreak) at k label fits is = other_unit (V.System S.Ebreak) at k label refl is
-gate_unit (V.Store op rs1 rs2 imm) at k label fits is = other_unit (V.Store op rs1 rs2 imm) at k label refl is
+gate_unit (V.Stores rs1 imm members) at k label fits is = other_unit (V.Stores rs1 imm members) at k label (members_gate members) is
 gate_unit (V.Call target) at k label fits is = other_unit (V.Call target) at k label refl is
 gate_unit (V.Ijump which rs1 imm other) at k label fits is = other_unit (V.Ijump which rs1 imm other) at k label refl is
 gate_unit (V.Icall rs1 imm other) at k label fits is = other_unit (V.Icall rs1 imm other) at k label refl is
@@ -120,7 +127,7 @@ unit_size (V.Jump target) at = refl
 unit_size V.Stop at = refl
 unit_size (V.System S.Ecall) at = refl
 unit_size (V.System S.Ebreak) at = refl
-unit_size (V.Store op rs1 rs2 imm) at = refl
+unit_size (V.Stores rs1 imm members) at = let counted = length-map members member_instr in omega arith
 unit_size (V.Call target) at = refl
 unit_size (V.Ijump which rs1 imm label) at = refl
 unit_size (V.Icall rs1 imm label) at = refl

@@ -1,4 +1,5 @@
 pub mod Stand
+pub mod MemberWords
 pub mod Counts
 pub mod Found
 pub mod Told
@@ -27,6 +28,7 @@ pub mod Vectors
 pub mod Worked
 pub mod EffectSteps
 pub mod EffectUnits
+pub mod EffectStores
 pub mod EffectTransfers
 pub mod EffectRows
 pub mod PrologueEffect

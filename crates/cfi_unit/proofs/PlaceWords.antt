@@ -10,7 +10,7 @@ use Rattle.cfi_unit.specs.declared.unit.Unit.TheVariants as V
 use Rattle.cfi_unit.specs.UnitWords.{word_count}
 use Rattle.cfi_unit.specs.Prologue.{OPENING, call_at}
 use Rattle.cfi_unit.specs.Place.{Place, handler, opening, closing, body, IsWordOf}
-use Rattle.cfi_unit.specs.InPlace.{InWord, only, InBranch, branch_test, branch_jump, InStore, store_addi, store_slli, store_srli, store_store, InPush, push_slli, push_bne, push_deep, push_auipc, push_addi, push_store, push_grow, InCall, call_push, call_jump, InCheck, check_addi, check_andi, check_lui, check_sub, check_srli, check_region, check_outside, check_lw, check_label, check_opcode, check_word, check_other, InIjump, ijump_check, ijump_jump, InIcall, icall_check, icall_push, icall_jump, InReturn, return_ld, return_addi, return_beq, return_other, return_jump, InLoneSetUp, lone_stack, lone_shadow, lone_slot, InOwnSetUp, own_stack, own_stack_offset, own_stack_end, own_shadow, own_offset, own_part, own_slot, InOpening, opening_lone, opening_own, opening_call, InClosing, closing_number, closing_ecall, InUnit, InPlace}
+use Rattle.cfi_unit.specs.InPlace.{InWord, only, InBranch, branch_test, branch_jump, InStores, stores_addi, stores_slli, stores_srli, stores_store, InPush, push_slli, push_bne, push_deep, push_auipc, push_addi, push_store, push_grow, InCall, call_push, call_jump, InCheck, check_addi, check_andi, check_lui, check_sub, check_srli, check_region, check_outside, check_lw, check_label, check_opcode, check_word, check_other, InIjump, ijump_check, ijump_jump, InIcall, icall_check, icall_push, icall_jump, InReturn, return_ld, return_addi, return_beq, return_other, return_jump, InLoneSetUp, lone_stack, lone_shadow, lone_slot, InOwnSetUp, own_stack, own_stack_offset, own_stack_end, own_shadow, own_offset, own_part, own_slot, InOpening, opening_lone, opening_own, opening_call, InClosing, closing_number, closing_ecall, InUnit, InPlace}
 use Rattle.cfi_unit.specs.UnitLaw.{MayStand}
 use Rattle.cfi_unit.proofs.Parts.{call_site}
 
@@ -47,11 +47,11 @@ module _ {part : ℕ} {h : Hart} where
   branch_word (branch_test e x3) = (0, omega arith, omega arith)
   branch_word (branch_jump e x3) = (1, omega arith, e)
 
-  store_word : {at n : ℕ} → InStore part at n h → Among 4 at h.pc
-  store_word (store_addi e x3) = (0, omega arith, omega arith)
-  store_word (store_slli e x3) = (1, omega arith, e)
-  store_word (store_srli e x3 small) = (2, omega arith, e)
-  store_word (store_store e x3 small) = (3, omega arith, e)
+  stores_word : {at count n : ℕ} → InStores part at count n h → Among (3 + count) at h.pc
+  stores_word (stores_addi e x3) = (0, omega arith, omega arith)
+  stores_word (stores_slli e x3) = (1, omega arith, e)
+  stores_word (stores_srli e x3 small) = (2, omega arith, e)
+  stores_word (stores_store k below e x3 small) = (3 + k, omega arith, e)
 
   return_word : {at link site n : ℕ} → InReturn part at link site n h → Among 5 at h.pc
   return_word (return_ld e x3 x1) = (0, omega arith, omega arith)
@@ -118,7 +118,7 @@ unit_word part image (V.Near op rs1 rs2 target) at pending r h m i = only_word i
 unit_word part image (V.Jump target) at pending r h m i = only_word i
 unit_word part image V.Stop at pending r h m i = only_word i
 unit_word part image (V.System op) at pending r h m i = only_word i
-unit_word part image (V.Store op rs1 rs2 imm) at pending r h m i = store_word i
+unit_word part image (V.Stores rs1 imm members) at pending r h m i = stores_word i
 unit_word part image (V.Call target) at pending r h m i = call_word i
 unit_word part image (V.Ijump which rs1 imm label) at pending r h m i = ijump_word i
 unit_word part image (V.Icall rs1 imm label) at pending r h m i = icall_word i

@@ -16,6 +16,10 @@ store_size-small Sd = omega arith
 pub can_store_data : (p : Profile) (a n : ℕ) → a < 2 ^ 28 → n ≤ 8 → can_store p a n ≡ true
 can_store_data p a n low small = grind (arith, nat_tests)
 
+-- so does one that begins less than 2 ^ 11 bytes past it
+pub can_store_near : (p : Profile) (a n : ℕ) → a < 2 ^ 28 + 2 ^ 11 → n ≤ 8 → can_store p a n ≡ true
+can_store_near p a n low small = grind (arith, nat_tests)
+
 pub can_store_part : (p : Profile) (part a n : ℕ) → IsPart p part → part ≤ a → a + n ≤ part + PART_SIZE → can_store p a n ≡ true
 can_store_part p part a n own low high = let first = own.low in let last = own.high in grind (arith, nat_tests)
 

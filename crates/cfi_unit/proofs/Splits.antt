@@ -1,31 +1,37 @@
 -- Units' words and splits determine the units.
 use Rattle.std.proofs.Common.{◌≡◌, ℕ, ◌+◌, ◌*◌, ◌==◌, ◌⊎◌, inl, inr, Bool, true, false, not, refl, ap, sym, subst, ◌∙◌, List, [], ◌∷◌, ◌++◌, drop}
-use Rattle.std.specs.Prelude.{Some}
-use Rattle.std.proofs.lemmas.Bool.{and_parts, cases_Bool, eqb-true}
+use Rattle.std.specs.Prelude.{Some, is_none, length, nat_le}
+use Rattle.std.proofs.lemmas.Bool.{and_parts, cases_Bool, eqb-true, leb-false, or_parts}
 use Rattle.std.proofs.lemmas.List.{append-nil}
 use Rattle.cfi_unit.specs.declared.unit.Unit as U
 use Rattle.cfi_unit.specs.declared.unit.Unit.TheVariants as V
 use Rattle.cfi_unit.specs.UnitWords.{Begins, Fits, instr_at, is_jump, may_precede, near_offset, skip_offset, word_count, words_of}
-use Rattle.cfi_unit.specs.Laws.{IsShortSkip}
+use Rattle.cfi_unit.specs.Members.{MOST_MEMBERS, member_of}
+use Rattle.cfi_unit.specs.Laws.{IsOpen}
 use Rattle.cfi_unit.specs.Recognise.{recognised}
 use Rattle.cfi_unit.specs.Split.{IsSplit}
 use Rattle.cfi_unit.proofs.Found.{begins_recognised, found}
 
--- a unit that may not come before some words is a near branch over the next one
-short_skip : (u : U.Unit) (at : ℕ) (rest : List ℕ) → may_precede u at rest ≡ false → IsShortSkip u at
-short_skip (V.Near op rs1 rs2 target) at rest e =
+-- a unit that may not come before some words is a near branch over the next one, or stores of which
+-- there may be more
+looks_on : (u : U.Unit) (at : ℕ) (rest : List ℕ) → may_precede u at rest ≡ false → IsOpen u at
+looks_on (V.Near op rs1 rs2 target) at rest e =
     eqb-true (near_offset at target) skip_offset
     (and_parts (near_offset at target == skip_offset) (is_jump (instr_at rest 0)) (kept _ e)).0
   where
     kept : (b : Bool) → not b ≡ false → b ≡ true
     kept true e = refl
     kept false e = absurd (cc)
-short_skip other at rest e = absurd (cc)
+looks_on (V.Stores rs1 imm members) at rest e =
+    leb-false MOST_MEMBERS (length members) (or_parts (nat_le MOST_MEMBERS (length members)) (is_none (member_of (instr_at rest 0))) e).0
+looks_on other at rest e = absurd (cc)
 
 -- at a list's end each unit may stand
 pub precedes_nothing : (u : U.Unit) (at : ℕ) → may_precede u at [] ≡ true
 precedes_nothing (V.Near op rs1 rs2 target) at =
     elim (cases_Bool (near_offset at target == skip_offset)) [ inl skips ↦ rw skips refl | inr other ↦ rw other refl ]
+precedes_nothing (V.Stores rs1 imm members) at =
+    elim (cases_Bool (nat_le MOST_MEMBERS (length members))) [ inl most ↦ rw most refl | inr fewer ↦ rw fewer refl ]
 precedes_nothing other at = refl
 
 same_words : (u v : U.Unit) (at : ℕ) (rest : List ℕ) → Fits u at → Fits v at → may_precede u at rest ≡ true →
@@ -38,11 +44,11 @@ same_words u v at rest f g ahead e =
     cc
 
 pub no_prefix : (u v : U.Unit) (at : ℕ) (rest : List ℕ) → Fits u at → Fits v at → words_of v at ≡ words_of u at ++ rest →
-    (u ≡ v) ⊎ IsShortSkip u at
+    (u ≡ v) ⊎ IsOpen u at
 no_prefix u v at rest f g e =
     elim (cases_Bool (may_precede u at rest)) [
       | inl ahead ↦ inl (same_words u v at rest f g ahead e)
-      | inr not_ahead ↦ inr (short_skip u at rest not_ahead)
+      | inr not_ahead ↦ inr (looks_on u at rest not_ahead)
     ]
 
 pub words_determine : (u v : U.Unit) (at : ℕ) → Fits u at → Fits v at → words_of u at ≡ words_of v at → u ≡ v

@@ -1,6 +1,6 @@
 -- `can_stand` decides `Fits` where a unit's fields are in range.
-use Rattle.std.proofs.Common.{◌≡◌, ℕ, ◌+◌, ◌==◌, refl, Bool, true, false, not, ◌&&◌, ◌≢◌, inl, inr}
-use Rattle.std.proofs.lemmas.Bool.{eqb-true, eq-eqb, cases_Bool}
+use Rattle.std.proofs.Common.{◌≡◌, ℕ, ◌+◌, ◌==◌, refl, Bool, true, false, not, ◌&&◌, ◌≢◌, inl, inr, length}
+use Rattle.std.proofs.lemmas.Bool.{eqb-true, eq-eqb, cases_Bool, lt-ltb, ltb-true}
 use Rattle.cfi_unit.specs.declared.unit.Unit as U
 use Rattle.cfi_unit.specs.declared.unit.Unit.TheVariants as V
 use Rattle.cfi_unit.specs.UnitWords.{BAD_TARGET, BAD_RETURN, DEEP, Fits, IsNear, Reaches, jump_offset, near_offset}
@@ -63,7 +63,7 @@ stand_fits (V.Jump target) at r e =
     (other_told target BAD_TARGET p.0, told at target p.1)
 stand_fits V.Stop at r e = told at BAD_TARGET e
 stand_fits (V.System op) at r e = tt
-stand_fits (V.Store op rs1 rs2 imm) at r e = r
+stand_fits (V.Stores rs1 imm members) at r e = (r.0, r.1, record { some = ltb-true 0 (length members) e; most = r.2; each = r.3 })
 stand_fits (V.Call target) at r e =
     let p = both (reaches (at + 8) DEEP) (reaches (at + 28) target) e in
     (told (at + 8) DEEP p.0, told (at + 28) target p.1)
@@ -84,7 +84,7 @@ fits_stand (V.Jump target) at f =
     and_both (not (target == BAD_TARGET)) (reaches at target) (other_tested target BAD_TARGET f.0) (tested at target f.1)
 fits_stand V.Stop at f = tested at BAD_TARGET f
 fits_stand (V.System op) at f = refl
-fits_stand (V.Store op rs1 rs2 imm) at f = refl
+fits_stand (V.Stores rs1 imm members) at f = lt-ltb 0 (length members) f.2.some
 fits_stand (V.Call target) at f =
     and_both (reaches (at + 8) DEEP) (reaches (at + 28) target) (tested (at + 8) DEEP f.0) (tested (at + 28) target f.1)
 fits_stand (V.Ijump which rs1 imm label) at f = check_tested at f.3 f.4

@@ -3,6 +3,7 @@ use Rattle.std.proofs.Common.{◌≡◌, ℕ, ◌+◌, ◌<◌, ◌^◌, ◌==�
 use Rattle.std.specs.Prelude.{Option, Some, None, option_map, option_and_then, nat_eq, slice_get}
 use Rattle.std.specs.List.{starts_with}
 use Rattle.std.proofs.lemmas.Bool.Decides.{Decides-eqb}
+use Rattle.std.proofs.lemmas.List.Elements.{All-drop, All-take}
 use Rattle.std.proofs.lemmas.Option.{option_and_then_some, slice_get_within, get_or_from_slice_get}
 use Rattle.std.proofs.lemmas.Slice.Eq.{starts_is}
 use Rattle.std.proofs.Math.Seq.{take-append_seam}
@@ -17,9 +18,11 @@ use Rattle.cfi_unit.specs.declared.target_word.TargetWord.{TargetWord}
 use Rattle.cfi_unit.specs.declared.unit.Unit as U
 use Rattle.cfi_unit.specs.declared.unit.Unit.TheVariants as V
 use Rattle.cfi_unit.specs.UnitWords.{BAD_TARGET, Begins, instr_at, may_precede, skips_jump, word_count, words_of}
-use Rattle.cfi_unit.specs.Recognise.{address_unit, can_stand, computed_unit, if_stands, jump_or_stop, label_in, led_to, near_to, read_in, recognised, stands, store_unit, target_in, unit_from, upper_unit}
+use Rattle.cfi_unit.specs.Recognise.{address_unit, can_stand, computed_unit, if_stands, jump_or_stop, label_in, led_to, near_to, read_in, recognised, stands, target_in, unit_from, upper_unit}
+use Rattle.cfi_unit.specs.Members.{MOST_MEMBERS, members_in}
 use Rattle.cfi_unit.specs.InRange.{IsInRange}
 use Rattle.cfi_unit.specs.Laws.{AreWords}
+use Rattle.cfi_unit.proofs.MemberWords.{members_in_range, members_most}
 use Rattle.cfi_unit.proofs.Stand.{both, stand_fits}
 use Rattle.cfi_unit.proofs.Found.{begins_recognised, words_counted}
 
@@ -38,13 +41,6 @@ instr_in_range ws k i words e =
 none_given : (u : U.Unit) (P : Type 0) → None ≡ Some u → P
 none_given u P e = cc
 
-store_in_range : (ws : List ℕ) (rs1 imm : ℕ) (o : Option Instr) (u : U.Unit) → ((i : Instr) → o ≡ Some i → IsInstr i) → rs1 < 32 →
-    imm < 2 ^ 12 → store_unit rs1 imm o ≡ Some u → IsInRange u
-store_in_range ws rs1 imm (Some (Store op base rs2 zero_imm)) u known r i e =
-    let s : IsInstr (Store op base rs2 zero_imm) = known (Store op base rs2 zero_imm) refl in
-    given (V.Store op rs1 rs2 imm) u e (r, s.1, i)
-store_in_range ws rs1 imm other u known r i e = cc
-
 label_in_range : (o : Option Instr) (label : ℕ) → ((i : Instr) → o ≡ Some i → IsInstr i) → label_in o ≡ Some label → label < 2 ^ 20
 label_in_range (Some (Upper op rd imm)) label known e =
     let s : IsInstr (Upper op rd imm) = known (Upper op rd imm) refl in
@@ -57,17 +53,23 @@ computed_in_range : (rs1 imm : ℕ) (o : Option Instr) (which : TargetWord) (lab
 computed_in_range rs1 imm (Some (Jalr rd base zero_imm)) which label r i l = (r, i, l)
 computed_in_range rs1 imm other which label r i l = (r, i, l)
 
-address_cases : (ws : List ℕ) (rs1 imm : ℕ) (o : Option Instr) → (address_unit ws rs1 imm o ≡ store_unit rs1 imm (instr_at ws 3))
+address_cases : (ws : List ℕ) (rs1 imm : ℕ) (o : Option Instr) → (address_unit ws rs1 imm o ≡ Some (V.Stores rs1 imm (members_in (take MOST_MEMBERS (drop 3 ws)))))
     ⊎ (address_unit ws rs1 imm o ≡ option_map (computed_unit rs1 imm (instr_at ws 12) (read_in (instr_at ws 7))) (label_in (instr_at ws 8)))
 address_cases ws rs1 imm (Some (Shift op rd rs amount)) = inl refl
 address_cases ws rs1 imm other = inr refl
+
+stores_in_range : (ws : List ℕ) (rs1 imm : ℕ) → AreWords ws → rs1 < 32 → imm < 2 ^ 12 →
+    IsInRange (V.Stores rs1 imm (members_in (take MOST_MEMBERS (drop 3 ws))))
+stores_in_range ws rs1 imm words r i =
+    let behind = All-take (λ (w : ℕ). w < 2 ^ 32) MOST_MEMBERS (drop 3 ws) (All-drop (λ (w : ℕ). w < 2 ^ 32) 3 ws words) in
+    (r, i, members_most MOST_MEMBERS (drop 3 ws), members_in_range (take MOST_MEMBERS (drop 3 ws)) behind)
 
 address_in_range : (ws : List ℕ) (rs1 imm : ℕ) (u : U.Unit) → AreWords ws → rs1 < 32 → imm < 2 ^ 12 →
     address_unit ws rs1 imm (instr_at ws 1) ≡ Some u → IsInRange u
 address_in_range ws rs1 imm u words r i e =
     elim (address_cases ws rs1 imm (instr_at ws 1)) [
       | inl stored ↦
-          store_in_range ws rs1 imm (instr_at ws 3) u (λ j at. instr_in_range ws 3 j words at) r i (sym stored ∙ e)
+          given (V.Stores rs1 imm (members_in (take MOST_MEMBERS (drop 3 ws)))) u (sym stored ∙ e) (stores_in_range ws rs1 imm words r i)
       | inr transfer ↦
           let (label, at, same) = mapped (computed_unit rs1 imm (instr_at ws 12) (read_in (instr_at ws 7))) (label_in (instr_at ws 8)) u (sym transfer ∙ e) in
           given (computed_unit rs1 imm (instr_at ws 12) (read_in (instr_at ws 7)) label) u (ap Some same)

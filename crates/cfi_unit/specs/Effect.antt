@@ -13,7 +13,7 @@ use Rattle.cfi_unit.specs.declared.unit.Unit.TheVariants as V
 use Rattle.cfi_unit.specs.UnitWords.{BAD_TARGET, BAD_RETURN, DEEP, after_unit, system_instr}
 use Rattle.cfi_unit.specs.Shadow.{MOST_PENDING}
 use Rattle.cfi_unit.specs.Leads.{Checks, destination}
-use Rattle.cfi_unit.specs.Leaving.{LeftTo, HaltsAt, Executes, Stores, pushed}
+use Rattle.cfi_unit.specs.Leaving.{LeftTo, HaltsAt, Executes, StoresEach, masked, pushed}
 
 module _ (p : Profile) (part : ℕ) (image base : Memory) (may : Shared → Shared → Type 0) (h : Hart) (s : Shared) where
   -- a call puts its site into x1 and onto the shadow stack and goes to its target, or halts where the
@@ -42,8 +42,9 @@ module _ (p : Profile) (part : ℕ) (image base : Memory) (may : Shared → Shar
   DoesPast (V.Jump target) following pending after = LeftTo part image base target pending h.regs (may s) after
   DoesPast V.Stop following pending after = HaltsAt part image base BAD_TARGET pending h.regs (may s) after
   DoesPast (V.System op) following pending after = Executes p part image base (system_instr op) pending h (may s) after
-  DoesPast (V.Store op rs1 rs2 imm) following pending after =
-      LeftTo part image base following pending h.regs (Stores p op rs1 rs2 imm h (may s)) after
+  DoesPast (V.Stores rs1 imm members) following pending after =
+      LeftTo part image base following pending h.regs
+      (StoresEach may (masked h.regs rs1 imm) (set_reg h.regs 31 (masked h.regs rs1 imm)) members s) after
   DoesPast (V.Call target) following pending after = CallDoes target following pending after
   DoesPast (V.Ijump which rs1 imm label) following pending after =
       Checks image which label (destination h.regs rs1 imm)

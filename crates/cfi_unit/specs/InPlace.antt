@@ -27,11 +27,13 @@ pub data InBranch (part at n : ℕ) (h : Hart) : Type 0 where
   branch_test : h.pc ≡ at → h.regs 3 ≡ slot part n → InBranch part at n h
   branch_jump : h.pc ≡ at + 4 → h.regs 3 ≡ slot part n → InBranch part at n h
 
-pub data InStore (part at n : ℕ) (h : Hart) : Type 0 where
-  store_addi : h.pc ≡ at → h.regs 3 ≡ slot part n → InStore part at n h
-  store_slli : h.pc ≡ at + 4 → h.regs 3 ≡ slot part n → InStore part at n h
-  store_srli : h.pc ≡ at + 8 → h.regs 3 ≡ slot part n → h.regs 31 < 2 ^ 64 → InStore part at n h
-  store_store : h.pc ≡ at + 12 → h.regs 3 ≡ slot part n → h.regs 31 < 2 ^ 28 → InStore part at n h
+-- stores: as many as `count` say
+pub data InStores (part at count n : ℕ) (h : Hart) : Type 0 where
+  stores_addi : h.pc ≡ at → h.regs 3 ≡ slot part n → InStores part at count n h
+  stores_slli : h.pc ≡ at + 4 → h.regs 3 ≡ slot part n → InStores part at count n h
+  stores_srli : h.pc ≡ at + 8 → h.regs 3 ≡ slot part n → h.regs 31 < 2 ^ 64 → InStores part at count n h
+  stores_store : (k : ℕ) → k < count → h.pc ≡ at + 4 * (3 + k) → h.regs 3 ≡ slot part n → h.regs 31 < 2 ^ 28 →
+      InStores part at count n h
 
 -- the push of a site: x31 keeps `v` meanwhile
 pub data InPush (part at v n : ℕ) (h : Hart) (m : Memory) : Type 0 where
@@ -154,7 +156,7 @@ InUnit part image (V.Near op rs1 rs2 target) at pending r h m = InWord part at (
 InUnit part image (V.Jump target) at pending r h m = InWord part at (length pending) h
 InUnit part image V.Stop at pending r h m = InWord part at (length pending) h
 InUnit part image (V.System op) at pending r h m = InWord part at (length pending) h
-InUnit part image (V.Store op rs1 rs2 imm) at pending r h m = InStore part at (length pending) h
+InUnit part image (V.Stores rs1 imm members) at pending r h m = InStores part at (length members) (length pending) h
 InUnit part image (V.Call target) at pending r h m = InCall part at (r 31) (length pending) h m
 InUnit part image (V.Ijump which rs1 imm label) at pending r h m =
     InIjump part image which at rs1 imm label (sum_of r rs1 imm) (destination r rs1 imm) (length pending) h

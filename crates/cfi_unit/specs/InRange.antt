@@ -1,6 +1,8 @@
 -- The ranges of a unit's fields, as their types in the program keep them.
-use Rattle.std.specs.Prelude.{◌<◌, ◌^◌}
+use Rattle.std.specs.Prelude.{◌<◌, ◌≤◌, ◌^◌, length}
+use Rattle.std.specs.List.{AllByRecursion}
 use Rattle.rv_instr.specs.InRange.{IsInstr}
+use Rattle.cfi_unit.specs.Members.{IsMember, MOST_MEMBERS}
 use Rattle.cfi_unit.specs.declared.unit.Unit as U
 use Rattle.cfi_unit.specs.declared.unit.Unit.TheVariants as V
 
@@ -12,7 +14,7 @@ IsInRange (V.Near op rs1 rs2 target) = (rs1 < 32) × (rs2 < 32)
 IsInRange (V.Jump target) = Unit {0}
 IsInRange V.Stop = Unit {0}
 IsInRange (V.System op) = Unit {0}
-IsInRange (V.Store op rs1 rs2 imm) = (rs1 < 32) × (rs2 < 32) × (imm < 2 ^ 12)
+IsInRange (V.Stores rs1 imm members) = (rs1 < 32) × (imm < 2 ^ 12) × (length members ≤ MOST_MEMBERS) × AllByRecursion IsMember members
 IsInRange (V.Call target) = Unit {0}
 IsInRange (V.Ijump which rs1 imm label) = (rs1 < 32) × (imm < 2 ^ 12) × (label < 2 ^ 20)
 IsInRange (V.Icall rs1 imm label) = (rs1 < 32) × (imm < 2 ^ 12) × (label < 2 ^ 20)

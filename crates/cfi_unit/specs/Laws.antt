@@ -11,6 +11,7 @@ use Rattle.rv_code.specs.Decode.{decoded}
 use Rattle.rv_code.specs.State.{Hart}
 use Rattle.cfi_unit.specs.declared.unit.Unit as U
 use Rattle.cfi_unit.specs.declared.unit.Unit.TheVariants as V
+use Rattle.cfi_unit.specs.Members.{MOST_MEMBERS}
 use Rattle.cfi_unit.specs.UnitWords.{Begins, Fits, IsNear, Reaches, instr_at, may_precede, near_offset, skip_offset, skips_jump, word_count, words_of}
 use Rattle.cfi_unit.specs.Recognise.{near_to, recognised}
 use Rattle.cfi_unit.specs.Split.{IsSplit}
@@ -43,16 +44,19 @@ EmittedRecognised =
 abbrev pub WordsCounted : Type 0
 WordsCounted = (unit : U.Unit) (at : ℕ) → length (words_of unit at) ≡ word_count unit
 
--- a near branch over the next word
-abbrev pub IsShortSkip : U.Unit → ℕ → Type 0
-IsShortSkip (V.Near op rs1 rs2 target) at = near_offset at target ≡ skip_offset
-IsShortSkip other at = ⊥
+-- a unit that looks at the word after it: a near branch over the next word, and stores of which there
+-- may be more
+abbrev pub IsOpen : U.Unit → ℕ → Type 0
+IsOpen (V.Near op rs1 rs2 target) at = near_offset at target ≡ skip_offset
+IsOpen (V.Stores rs1 imm members) at = length members < MOST_MEMBERS
+IsOpen other at = ⊥
 
--- no unit's words are a prefix of another's, but those of a near branch over the next word
+-- no unit's words are a prefix of another's, but those of a near branch over the next word, and those of
+-- stores of which there may be more
 abbrev pub NoPrefix : Type 0
 NoPrefix =
     (u v : U.Unit) (at : ℕ) (rest : List ℕ) → Fits u at → Fits v at → words_of v at ≡ words_of u at ++ rest →
-    (u ≡ v) ⊎ IsShortSkip u at
+    (u ≡ v) ⊎ IsOpen u at
 
 -- a unit's words determine the unit
 abbrev pub WordsDetermine : Type 0

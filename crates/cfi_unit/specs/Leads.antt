@@ -63,7 +63,7 @@ LeadsPast image (V.Jump target) following pending r after next = Goes pending af
 LeadsPast image V.Stop following pending r after next = Goes pending after next BAD_TARGET
 LeadsPast image (V.System S.Ecall) following pending r after next = Goes pending after next following
 LeadsPast image (V.System S.Ebreak) following pending r after next = ⊥
-LeadsPast image (V.Store op rs1 rs2 imm) following pending r after next = Goes pending after next following
+LeadsPast image (V.Stores rs1 imm members) following pending r after next = Goes pending after next following
 LeadsPast image (V.Call target) following pending r after next = Calls following pending after next target
 LeadsPast image (V.Ijump which rs1 imm label) following pending r after next =
     Checks image which label (destination r rs1 imm)

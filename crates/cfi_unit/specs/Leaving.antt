@@ -1,5 +1,5 @@
 -- How a unit is left: to where, with which registers and pending sites, and what harts then share.
-use Rattle.std.specs.Prelude.{◌≡◌, ◌≢◌, ℕ, ◌+◌, ◌==◌, ◌%◌, ◌^◌, ◌<◌, Bool, false, List, length, Option, Some, None}
+use Rattle.std.specs.Prelude.{◌≡◌, ℕ, ◌+◌, ◌==◌, ◌%◌, ◌^◌, Bool, false, List, [], ◌∷◌, length, Option, Some, None}
 use Rattle.std.specs.List.{list_any}
 use Rattle.rv_word.specs.MemoryMap.{Profile}
 use Rattle.rv_word.specs.Memory.{Memory, write}
@@ -7,12 +7,12 @@ use Rattle.rv_instr.specs.Operands.{written}
 use Rattle.rv_instr.specs.Registers.{Registers, get_reg}
 use Rattle.rv_instr.specs.Reserved.{is_reserved}
 use Rattle.rv_instr.specs.declared.instr.Instr.{Instr}
-use Rattle.rv_instr.specs.declared.instr.Instr.TheVariants.{Store, Ecall}
-use Rattle.rv_instr.specs.declared.instr.StoreOp.{StoreOp}
+use Rattle.rv_instr.specs.declared.instr.Instr.TheVariants.{Ecall}
 use Rattle.rv_code.specs.Arithmetic.{store_size}
 use Rattle.rv_code.specs.State.{Hart, Shared, After}
 use Rattle.rv_code.specs.Step.{exec}
 use Rattle.rv_code.specs.declared.turn.Turn.TheVariants.{Ran}
+use Rattle.cfi_unit.specs.declared.members.Member.{Member}
 use Rattle.cfi_unit.specs.Shadow.{slot}
 use Rattle.cfi_unit.specs.Context.{Kept, Context}
 use Rattle.cfi_unit.specs.Leads.{sum_of}
@@ -77,15 +77,16 @@ pub record Executes (p : Profile) (part : ℕ) (image base : Memory) (instr : In
   pub context : after.turn ≡ Ran → Context part image base pending after.shared
   pub pc : after.turn ≡ Ran → after.hart.pc ≡ h.pc + 4
 
--- a store writes memory alone: its register's value, at its address modulo 2 ^ 28; so where the
--- address lies below 2 ^ 28 it leaves what its own instruction leaves. Of x31, which the unit itself
--- writes, it stores what the unit put there: the address modulo 2 ^ 28
-pub record Stores (p : Profile) (op : StoreOp) (rs1 rs2 imm : ℕ) (h : Hart) (IsShared : Shared → Type 0) (s' : Shared) : Type 0 where
-  pub seen : Shared
-  pub may_see : IsShared seen
-  pub memory_alone : s' ≡ with_memory seen s'.memory
-  pub masked : rs2 ≢ 31 →
-      s' ≡ with_memory seen (write (store_size op) seen.memory (sum_of h.regs rs1 imm % 2 ^ 28) (get_reg h.regs rs2))
-  pub own : rs2 ≡ 31 →
-      s' ≡ with_memory seen (write (store_size op) seen.memory (sum_of h.regs rs1 imm % 2 ^ 28) (sum_of h.regs rs1 imm % 2 ^ 28))
-  pub stored : sum_of h.regs rs1 imm < 2 ^ 28 → rs2 ≢ 31 → s' ≡ (exec p (Store op rs1 rs2 imm) h seen).shared
+-- the address of stores behind one mask
+abbrev pub masked : Registers → ℕ → ℕ → ℕ
+masked r rs1 imm = sum_of r rs1 imm % 2 ^ 28
+
+-- a member of them writes memory alone: its register's value, at its distance past the masked address
+abbrev pub stored_at : ℕ → Registers → Member → Shared → Shared
+stored_at a r m s = with_memory s (write (store_size m.op) s.memory (a + m.distance) (get_reg r m.value))
+
+-- one after the other, each on what is shared then. Of x31, which holds the masked address, a member
+-- stores this address
+abbrev pub StoresEach : (Shared → Shared → Type 0) → ℕ → Registers → List Member → Shared → Shared → Type 0
+StoresEach may a r [] s s' = s' ≡ s
+StoresEach may a r (m ∷ members) s s' = (seen : Shared) × may s seen × StoresEach may a r members (stored_at a r m seen) s'

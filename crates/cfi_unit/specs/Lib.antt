@@ -1,3 +1,4 @@
+pub mod Members
 pub mod UnitWords
 pub mod InRange
 pub mod Recognise

@@ -1,7 +1,7 @@
 -- The unit that begins a list of words, found from its first words: its fields are read where they
--- would stand, and then all its words are compared; a branch looks one word ahead. It is the unit that
+-- would stand, and then all its words are compared; a branch and stores look one word ahead. It is the unit that
 -- `Begins` the list.
-use Rattle.std.specs.Prelude.{ℕ, zero, suc, ◌+◌, ◌*◌, ◌==◌, ◌&&◌, Bool, true, not, List, Option, Some, None, option_map, if◌then◌else◌, nat_eq, drop, option_and_then}
+use Rattle.std.specs.Prelude.{ℕ, zero, suc, ◌+◌, ◌*◌, ◌==◌, ◌&&◌, Bool, true, not, List, Option, Some, None, option_map, if◌then◌else◌, length, nat_eq, nat_lt, drop, take, option_and_then}
 use Rattle.std.specs.List.{starts_with}
 use Rattle.rv_word.specs.Bits.{wrap}
 use Rattle.rv_instr.specs.declared.instr.Instr.{Instr}
@@ -15,6 +15,7 @@ use Rattle.cfi_unit.specs.declared.target_word.TargetWord.TheVariants.{First, Se
 use Rattle.cfi_unit.specs.declared.unit.Unit as U
 use Rattle.cfi_unit.specs.declared.unit.Unit.TheVariants as V
 use Rattle.cfi_unit.specs.declared.unit.SystemOp.TheVariants as S
+use Rattle.cfi_unit.specs.Members.{MOST_MEMBERS, members_in}
 use Rattle.cfi_unit.specs.UnitWords.{BAD_TARGET, BAD_RETURN, DEEP, instr_at, is_plain, jump_offset, may_precede, near_offset, skips_jump, word_count, words_of}
 
 -- where a jump at an address leads
@@ -38,11 +39,6 @@ label_in other = None
 abbrev pub jump_or_stop : ℕ → U.Unit
 jump_or_stop target = if target == BAD_TARGET then V.Stop else V.Jump target
 
--- a store unit, by the store that is its last word
-abbrev pub store_unit : ℕ → ℕ → Option Instr → Option U.Unit
-store_unit rs1 imm (Some (Store op base rs2 zero_imm)) = Some (V.Store op rs1 rs2 imm)
-store_unit rs1 imm other = None
-
 -- which word of its destination a check reads, by the offset of its load
 abbrev pub read_by : ℕ → TargetWord
 read_by offset = if offset == 0 then First else Second
@@ -56,9 +52,10 @@ abbrev pub computed_unit : ℕ → ℕ → Option Instr → TargetWord → ℕ �
 computed_unit rs1 imm (Some (Jalr rd base zero_imm)) which label = V.Ijump which rs1 imm label
 computed_unit rs1 imm other which label = V.Icall rs1 imm label
 
--- a unit that begins by putting an address into x31: its second word is a shift, or not
+-- a unit that begins by putting an address into x31: its second word is a shift, and stores follow
+-- behind the mask, or it is not
 abbrev pub address_unit : List ℕ → ℕ → ℕ → Option Instr → Option U.Unit
-address_unit words rs1 imm (Some (Shift op rd rs amount)) = store_unit rs1 imm (instr_at words 3)
+address_unit words rs1 imm (Some (Shift op rd rs amount)) = Some (V.Stores rs1 imm (members_in (take MOST_MEMBERS (drop 3 words))))
 address_unit words rs1 imm other =
     option_map (computed_unit rs1 imm (instr_at words 12) (read_in (instr_at words 7))) (label_in (instr_at words 8))
 
@@ -114,7 +111,7 @@ can_stand (V.Near op rs1 rs2 target) at = is_near at target
 can_stand (V.Jump target) at = not (target == BAD_TARGET) && reaches at target
 can_stand V.Stop at = reaches at BAD_TARGET
 can_stand (V.System op) at = true
-can_stand (V.Store op rs1 rs2 imm) at = true
+can_stand (V.Stores rs1 imm members) at = nat_lt 0 (length members)
 can_stand (V.Call target) at = reaches (at + 8) DEEP && reaches (at + 28) target
 can_stand (V.Ijump which rs1 imm label) at = check_reaches at
 can_stand (V.Icall rs1 imm label) at = check_reaches at && reaches (at + 56) DEEP

@@ -1,6 +1,6 @@
 -- The units: what instructions each is, at an address. x3 points to the shadow stack; x4, x30 and
 -- x31 are scratch; no plain unit's instruction writes one of these four.
-use Rattle.std.specs.Prelude.{◌≡◌, ℕ, ◌+◌, ◌-◌, ◌*◌, ◌/◌, ◌%◌, ◌^◌, ◌<◌, ◌==◌, ◌&&◌, Bool, true, false, not, IsTrue, List, [], ◌∷◌, ◌++◌, map, take, drop, ◌≢◌, Option, Some, slice_get, option_and_then}
+use Rattle.std.specs.Prelude.{◌≡◌, ℕ, ◌+◌, ◌-◌, ◌*◌, ◌/◌, ◌%◌, ◌^◌, ◌<◌, ◌==◌, ◌&&◌, ◌||◌, Bool, true, false, is_none, length, nat_le, not, IsTrue, List, [], ◌∷◌, ◌++◌, map, take, drop, ◌≢◌, Option, Some, slice_get, option_and_then}
 use Rattle.rv_word.specs.Bits.{wrap}
 use Rattle.rv_word.specs.declared.unit_words.TheConstants as counts
 use Rattle.rv_instr.specs.InRange.{IsInstr}
@@ -18,6 +18,7 @@ use Rattle.rv_instr.specs.declared.instr.StoreOp.TheVariants.{Sd}
 use Rattle.rv_code.specs.Decode.{decoded}
 use Rattle.rv_code.specs.Encode.{code_of}
 use Rattle.rv_code.specs.Step.{offset}
+use Rattle.cfi_unit.specs.Members.{AreMembers, MOST_MEMBERS, member_instr, member_of}
 use Rattle.cfi_unit.specs.declared.handlers.TheConstants as handlers
 use Rattle.cfi_unit.specs.declared.target_word.TargetWord.{TargetWord}
 use Rattle.cfi_unit.specs.declared.target_word.TargetWord.TheVariants.{First, Second}
@@ -106,6 +107,14 @@ check at rs1 imm label which =
     ∷ jump (at + 44) BAD_TARGET
     ∷ []
 
+-- an address modulo 2^28, into x31
+abbrev pub mask : ℕ → ℕ → List Instr
+mask rs1 imm =
+    Immediate Addi 31 rs1 imm
+    ∷ Shift Slli 31 31 36
+    ∷ Shift Srli 31 31 36
+    ∷ []
+
 abbrev pub system_instr : SystemOp → Instr
 system_instr S.Ecall = Ecall
 system_instr S.Ebreak = Ebreak
@@ -119,12 +128,7 @@ instrs_of (V.Near op rs1 rs2 target) at = Branch op rs1 rs2 (near_offset at targ
 instrs_of (V.Jump target) at = jump at target ∷ []
 instrs_of V.Stop at = jump at BAD_TARGET ∷ []
 instrs_of (V.System op) at = system_instr op ∷ []
-instrs_of (V.Store op rs1 rs2 imm) at =
-    Immediate Addi 31 rs1 imm
-    ∷ Shift Slli 31 31 36
-    ∷ Shift Srli 31 31 36
-    ∷ Store op 31 rs2 0
-    ∷ []
+instrs_of (V.Stores rs1 imm members) at = mask rs1 imm ++ map member_instr members
 instrs_of (V.Call target) at = push at ++ Jal 1 (jump_offset (at + 28) target) ∷ []
 instrs_of (V.Ijump which rs1 imm label) at = check at rs1 imm label which ++ Jalr 0 31 0 ∷ []
 instrs_of (V.Icall rs1 imm label) at = check at rs1 imm label First ++ push (at + 48) ++ Jalr 1 31 0 ∷ []
@@ -175,7 +179,7 @@ Fits (V.Near op rs1 rs2 target) at = (rs1 < 32) × (rs2 < 32) × IsNear at targe
 Fits (V.Jump target) at = (target ≢ BAD_TARGET) × Reaches at target
 Fits V.Stop at = Reaches at BAD_TARGET
 Fits (V.System op) at = Unit {0}
-Fits (V.Store op rs1 rs2 imm) at = (rs1 < 32) × (rs2 < 32) × (imm < 2 ^ 12)
+Fits (V.Stores rs1 imm members) at = (rs1 < 32) × (imm < 2 ^ 12) × AreMembers members
 Fits (V.Call target) at = Reaches (at + 8) DEEP × Reaches (at + 28) target
 Fits (V.Ijump which rs1 imm label) at = CheckFits at rs1 imm label
 Fits (V.Icall rs1 imm label) at = CheckFits at rs1 imm label × Reaches (at + 56) DEEP
@@ -190,7 +194,7 @@ word_count (V.Near op rs1 rs2 target) = 1
 word_count (V.Jump target) = 1
 word_count V.Stop = 1
 word_count (V.System op) = 1
-word_count (V.Store op rs1 rs2 imm) = counts.STORE_WORDS
+word_count (V.Stores rs1 imm members) = 3 + length members
 word_count (V.Call target) = counts.CALL_WORDS
 word_count (V.Ijump which rs1 imm label) = counts.IJUMP_WORDS
 word_count (V.Icall rs1 imm label) = counts.ICALL_WORDS
@@ -214,9 +218,10 @@ abbrev pub skips_jump : ℕ → Option Instr → Bool
 skips_jump imm next = (imm == skip_offset) && is_jump next
 
 -- these words may follow a unit at an address: a near branch and the jump that it leads over are one
--- other unit
+-- other unit, and to stores of which there may be more belongs the store that comes next
 abbrev pub may_precede : U.Unit → ℕ → List ℕ → Bool
 may_precede (V.Near op rs1 rs2 target) at rest = not (skips_jump (near_offset at target) (instr_at rest 0))
+may_precede (V.Stores rs1 imm members) at rest = nat_le MOST_MEMBERS (length members) || is_none (member_of (instr_at rest 0))
 may_precede other at rest = true
 
 -- a unit begins a list of words at an address

@@ -11,9 +11,7 @@ use crate::template::unit_code;
 use crate::unit::Unit;
 use rv_instr::{Instr, UpperOp};
 use rv_word::NoMemory;
-use rv_word::unit_words::{
-    BRANCH_WORDS, CALL_WORDS, ICALL_WORDS, IJUMP_WORDS, RETURN_WORDS, STORE_WORDS,
-};
+use rv_word::unit_words::{BRANCH_WORDS, CALL_WORDS, ICALL_WORDS, IJUMP_WORDS, RETURN_WORDS};
 use std::alloc::Global;
 
 /// The words of a unit at an address.
@@ -49,7 +47,7 @@ pub(crate) fn count(unit: &Unit) -> u32
         | Unit::Stop
         | Unit::System(_) => 1,
         Unit::Branch(..) => BRANCH_WORDS,
-        Unit::Store(..) => STORE_WORDS,
+        Unit::Stores(_, _, members) => 3 + members.len() as u32,
         Unit::Return => RETURN_WORDS,
         Unit::Call(_) => CALL_WORDS,
         Unit::Ijump(..) => IJUMP_WORDS,
@@ -74,7 +72,8 @@ pub(crate) fn may_stand(unit: &Unit, at: u64) -> bool
     ensures { result ≡ can_stand unit.now at }
 {
     match *unit {
-        Unit::Gate(_) | Unit::System(_) | Unit::Store(..) => true,
+        Unit::Gate(_) | Unit::System(_) => true,
+        Unit::Stores(_, _, members) => members.len() > 0,
         Unit::Plain(instr) => may_stand_alone(&instr),
         Unit::Branch(_, _, _, target) => is_reached(at + 4, target),
         Unit::Near(_, _, _, target) => is_close(at, target),

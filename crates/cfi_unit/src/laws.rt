@@ -37,7 +37,8 @@ pub fn words_counted()
     ensures { WordsCounted }
 {}
 
-/// No unit's words are a prefix of another's, but those of a near branch over the next word.
+/// No unit's words are a prefix of another's, but those of a near branch over the next word, and those
+/// of fewer than sixteen stores.
 #[tactic(auto, using(crate::proofs::Splits::no_prefix))]
 pub fn no_prefix()
     ensures { NoPrefix }

@@ -5,6 +5,7 @@
 
 pub use effect_law::{closing_effect, opening_effect, unit_effect, unit_keeps_registers};
 pub use emission::{emit, fits, size};
+pub use members::{MOST_MEMBERS, Member, Members};
 pub use place::Place;
 pub use recogniser::recognise;
 pub use step_law::unit_law;
@@ -17,6 +18,7 @@ mod emission;
 pub mod handlers;
 mod jump;
 pub mod laws;
+mod members;
 mod place;
 mod recogniser;
 mod step_law;

@@ -1,6 +1,6 @@
 //! The unit that begins a list of words.
 
-ghost use Rattle.std.specs.Prelude.{◌≡◌, ◌+◌, ◌<◌, drop, option_map, IfSome, IsNone};
+ghost use Rattle.std.specs.Prelude.{◌≡◌, ◌+◌, ◌<◌, ◌≤◌, ◌||◌, Some, drop, is_none, nat_le, option_map, take, IfSome, IsNone};
 ghost use Rattle.rv_word.specs.MemoryMap.{CODE_START, CODE_SIZE};
 ghost use Rattle.cfi_unit.specs.Recognise.{
   address_unit,
@@ -11,22 +11,23 @@ ghost use Rattle.cfi_unit.specs.Recognise.{
   read_by,
   read_in,
   recognised,
-  store_unit,
   target_in,
   unit_from,
   upper_unit,
 };
+ghost use Rattle.cfi_unit.specs.Members.{MOST_MEMBERS, member_of, members_in};
 ghost use Rattle.cfi_unit.specs.UnitWords.{Begins, instr_at, is_jump, may_precede, skips_jump, word_count};
 ghost use Rattle.cfi_unit.specs.declared.unit.Unit as U;
 
 use crate::emission::{count, may_stand};
 use crate::handlers::BAD_TARGET;
 use crate::jump::{led, led_near, near_between};
+use crate::members::{MOST_MEMBERS, Member, Members};
 use crate::target_word::TargetWord;
 use crate::template::unit_code;
 use crate::unit::{SystemOp, Unit};
 use rv_code::decode;
-use rv_instr::{BranchOp, Immediate, Instr, Reg, UpperOp};
+use rv_instr::{BranchOp, Immediate, Instr, Reg, StoreOp, UpperOp};
 
 /// The unit that begins a list of words at an address, and how many words it has. A branch is read with
 /// the word after it, so a list that ends before the code does may give another unit at its end.
@@ -111,8 +112,18 @@ fn is_kept(unit: &Unit, at: u64, words: &[u32]) -> bool
 {
     match *unit {
         Unit::Near(_, _, _, target) => !skips(near_between(at, target), instr(words, 1)),
+        Unit::Stores(_, _, members) => is_whole(members.len(), words),
         _ => true,
     }
+}
+
+/// Whether no more stores belong to so many that begin the list behind their mask.
+#[tactic(auto, using(crate::proofs::Found::next_instr))]
+fn is_whole(count: usize, words: &[u32]) -> bool
+    requires { count ≤ MOST_MEMBERS }
+    ensures { result ≡ (nat_le MOST_MEMBERS count || is_none (member_of (instr_at (drop (3 + count) words.now) 0))) }
+{
+    count >= MOST_MEMBERS || member(instr(words, 3 + count)).is_none()
 }
 
 /// Whether a branch leads over the next instruction, and that is a jump.
@@ -194,20 +205,50 @@ fn addressed(words: &[u32], rs1: Reg, imm: Immediate<12>) -> Option<Unit>
     ensures { result ≡ address_unit words.now rs1 imm (instr_at words.now 1) }
 {
     if let Some(Instr::Shift(..)) = instr(words, 1) {
-        return stored(rs1, imm, instr(words, 3));
+        return Some(Unit::Stores(rs1, imm, members_behind(words)));
     }
     let label = label(instr(words, 8))?;
     let which = read_word(instr(words, 7));
     Some(computed(rs1, imm, instr(words, 12), which, label))
 }
 
-/// A store unit, by the store that is its last word.
-fn stored(rs1: Reg, imm: Immediate<12>, last: Option<Instr>) -> Option<Unit>
-    ensures { result ≡ store_unit rs1 imm last }
+/// The stores behind a mask that begins the list: as many as follow, up to sixteen.
+fn members_behind(words: &[u32]) -> Members
+    ensures { result ≡ members_in (take MOST_MEMBERS (drop 3 words.now)) }
 {
-    match last? {
-        Instr::Store(op, _, rs2, _) => Some(Unit::Store(op, rs1, rs2, imm)),
+    let mut members = Members::new();
+    for index in 3..19 {
+        match member(instr(words, index)) {
+            Some(member) => members.push(member),
+            None => return members,
+        }
+    }
+    members
+}
+
+/// The member that an instruction is: a store off x31 at a distance that is not negative.
+fn member(instr: Option<Instr>) -> Option<Member>
+    ensures { result ≡ member_of instr }
+{
+    match instr? {
+        Instr::Store(op, base, value, offset) => stored(op, base, value, offset),
         _ => None,
+    }
+}
+
+/// The same of a store.
+fn stored(op: StoreOp, base: Reg, value: Reg, offset: Immediate<12>) -> Option<Member>
+    ensures { result ≡ member_of (Some (Instr.Store op base value offset)) }
+{
+    if base.number() == 31 && offset.bits() < 2048 {
+        let distance = Immediate::of(offset.bits());
+        Some(Member {
+            op,
+            value,
+            distance,
+        })
+    } else {
+        None
     }
 }
 

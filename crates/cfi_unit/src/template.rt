@@ -1,15 +1,19 @@
 //! The instructions of each unit.
 
-ghost use Rattle.std.specs.Prelude.{◌≡◌, ◌+◌, ◌<◌, ◌^◌};
+ghost use Rattle.std.specs.Prelude.{◌≡◌, ◌+◌, ◌<◌, ◌≤◌, ◌^◌, ◌++◌, length, map};
+ghost use Rattle.rv_code.specs.Encode.{code_of};
 ghost use Rattle.rv_word.specs.MemoryMap.{CODE_START, CODE_SIZE};
-ghost use Rattle.cfi_unit.specs.UnitWords.{check, gate, instrs_of, past, push, system_instr, words_of};
+ghost use Rattle.cfi_unit.specs.Members.{member_instr};
+ghost use Rattle.cfi_unit.specs.UnitWords.{check, gate, instrs_of, mask, past, push, system_instr, words_of};
 ghost use Rattle.cfi_unit.specs.declared.unit.Unit.TheVariants as V;
 
 use crate::handlers::{BAD_RETURN, BAD_TARGET, DEEP};
 use crate::jump::{field_between, jump_between, near_between};
+use crate::members::Member;
 use crate::target_word::TargetWord;
 use crate::unit::{SystemOp, Unit};
 use crate::words::UnitCode;
+use rv_code::encode;
 use rv_instr::{
     BranchOp, Immediate, ImmediateOp, Instr, LoadOp, Reg, RegisterOp, ShiftOp, StoreOp, UpperOp,
 };
@@ -33,7 +37,10 @@ pub(crate) fn unit_code(unit: &Unit, at: u64) -> UnitCode
         Unit::Jump(target) => code.put(&[jump_between(at, target)]),
         Unit::Stop => code.put(&[jump_between(at, BAD_TARGET)]),
         Unit::System(op) => code.put(&[system(op)]),
-        Unit::Store(op, rs1, rs2, imm) => code.put(&store(op, rs1, rs2, imm)),
+        Unit::Stores(rs1, imm, members) => {
+            code.put(&mask(rs1, imm));
+            put_members(&mut code, members.as_slice());
+        }
         Unit::Call(target) => {
             code.put(&pushes(at));
             code.put(&[Instr::Jal(Reg::of(1), field_between(at + 28, target))]);
@@ -113,15 +120,33 @@ fn address(rs1: Reg, imm: Immediate<12>) -> Instr
     Instr::Immediate(ImmediateOp::Addi, Reg::of(31), rs1, imm)
 }
 
-fn store(op: StoreOp, rs1: Reg, rs2: Reg, imm: Immediate<12>) -> [Instr; 4]
-    ensures { result ≡ instrs_of (V.Store op rs1 rs2 imm) 0 }
+/// An address modulo 2^28, into x31.
+fn mask(rs1: Reg, imm: Immediate<12>) -> [Instr; 3]
+    ensures { result ≡ mask rs1 imm }
 {
     [
         address(rs1, imm),
         shift(ShiftOp::Slli, 31, 31, 36),
         shift(ShiftOp::Srli, 31, 31, 36),
-        Instr::Store(op, Reg::of(31), rs2, Immediate::of(0)),
     ]
+}
+
+/// The store that a member is.
+fn member_instr(member: Member) -> Instr
+    ensures { result ≡ member_instr member }
+{
+    let distance = Immediate::of(member.distance.bits());
+    Instr::Store(member.op, Reg::of(31), member.value, distance)
+}
+
+/// Puts the words of members at the end.
+fn put_members(code: &mut UnitCode, members: &[Member])
+    requires { length code.old + length members.now ≤ 20 }
+    ensures { code.new ≡ code.old ++ map code_of (map member_instr members.now) }
+{
+    for member in members {
+        code.push(encode(member_instr(*member)));
+    }
 }
 
 /// The words of a call before its transfer.

@@ -1,5 +1,6 @@
+use crate::members::Members;
 use crate::target_word::TargetWord;
-use rv_instr::{BranchOp, Immediate, Instr, Reg, StoreOp};
+use rv_instr::{BranchOp, Immediate, Instr, Reg};
 
 /// A unit of hardened code. Targets are addresses in bytes, labels are 20-bit numbers.
 #[derive(Clone, Copy, PartialEq, Eq)]
@@ -19,9 +20,9 @@ pub enum Unit {
     Stop,
     /// A system call or a break.
     System(SystemOp),
-    /// A store whose address is masked to lie below 2^28: the address's register, the value's, the
-    /// offset.
-    Store(StoreOp, Reg, Reg, Immediate<12>),
+    /// Stores behind one address, which is masked to lie below 2^28: the address's register, its
+    /// offset, and the stores, which are one to sixteen and as many as follow.
+    Stores(Reg, Immediate<12>, Members),
     /// A call that puts its site onto the shadow stack; its target.
     Call(u64),
     /// A computed jump: the word of its target that its check reads, register, offset, and the label
@@ -58,10 +59,10 @@ impl Unit {
                 let _ = rs1.number();
                 let _ = rs2.number();
             }
-            Unit::Store(_, rs1, rs2, imm) => {
+            Unit::Stores(rs1, imm, members) => {
                 let _ = rs1.number();
-                let _ = rs2.number();
                 let _ = imm.bits();
+                members.in_range();
             }
             Unit::Ijump(_, rs1, imm, label) | Unit::Icall(rs1, imm, label) => {
                 let _ = rs1.number();

@@ -1,11 +1,13 @@
 -- A unit is recognised from the 21 words with which it begins and what follows it.
-use Rattle.std.proofs.Common.{◌≡◌, ◌≤◌, ◌<◌, inl, inr, ℕ, zero, suc, ◌^◌, List, [], ◌∷◌, take, drop, Some, None, refl, sym, ap, subst, ◌∙◌, arith}
-use Rattle.std.specs.Prelude.{Option, IsTrue, not, option_map}
+use Rattle.std.proofs.Common.{◌≡◌, ◌≤◌, ◌<◌, inl, inr, ℕ, zero, suc, ◌^◌, List, [], ◌∷◌, take, drop, Some, None, refl, sym, ap, subst, ◌∙◌, ◌+◌, lit<, arith}
+use Rattle.std.specs.Prelude.{◌||◌, Option, IsTrue, is_none, length, nat_le, not, option_map}
+use Rattle.std.proofs.lemmas.Bool.{cases_lt, le-leb}
 use Rattle.std.proofs.lemmas.Option.{some_pair_parts}
 use Rattle.std.proofs.lemmas.List.Elements.{All-take}
 use Rattle.rv_word.proofs.Cases.{cases_Option}
 use Rattle.cfi_unit.specs.declared.unit.Unit as U
 use Rattle.cfi_unit.specs.declared.unit.Unit.TheVariants as V
+use Rattle.cfi_unit.specs.Members.{MOST_MEMBERS, member_of}
 use Rattle.cfi_unit.specs.Laws.{AreWords}
 use Rattle.cfi_unit.specs.Recognise.{recognised}
 use Rattle.cfi_unit.specs.UnitWords.{Begins, instr_at, may_precede, near_offset, skips_jump, word_count}
@@ -19,26 +21,34 @@ take_less (suc n) zero xs below = absurd (omega arith)
 take_less (suc n) (suc m) [] below = refl
 take_less (suc n) (suc m) (x ∷ xs) below = ap (λ ys. x ∷ ys) (take_less n m xs (omega arith))
 
-second : (ws : List ℕ) → instr_at (drop 1 (take 21 ws)) 0 ≡ instr_at (drop 1 ws) 0
-second [] = refl
-second (w ∷ []) = refl
-second (w ∷ v ∷ ws) = refl
+-- a word of the first ones
+same_word : (k m : ℕ) (ws : List ℕ) → k < m → instr_at (drop k (take m ws)) 0 ≡ instr_at (drop k ws) 0
+same_word k zero ws below = absurd (omega arith)
+same_word zero (suc m) [] below = refl
+same_word zero (suc m) (w ∷ ws) below = refl
+same_word (suc k) (suc m) [] below = refl
+same_word (suc k) (suc m) (w ∷ ws) below = same_word k m ws (omega arith)
 
 ahead_same : (u : U.Unit) (at : ℕ) (ws : List ℕ) → may_precede u at (drop (word_count u) (take 21 ws)) ≡ may_precede u at (drop (word_count u) ws)
-ahead_same (V.Near op rs1 rs2 target) at ws = ap (λ i. not (skips_jump (near_offset at target) i)) (second ws)
+ahead_same (V.Near op rs1 rs2 target) at ws = ap (λ i. not (skips_jump (near_offset at target) i)) (same_word 1 21 ws (lit< tt))
+ahead_same (V.Stores rs1 imm members) at ws =
+    elim (cases_lt (length members) MOST_MEMBERS) [
+      | inl fewer ↦ ap (λ i. nat_le MOST_MEMBERS (length members) || is_none (member_of i)) (same_word (3 + length members) 21 ws (omega arith))
+      | inr all ↦ rw (le-leb MOST_MEMBERS (length members) all) refl
+    ]
 ahead_same _ at ws = refl
 
 less : (ws : List ℕ) (at : ℕ) (u : U.Unit) → Begins ws at u → Begins (take 21 ws) at u
 less ws at u b = record {
   fits = b.fits;
-  words_are = take_less (word_count u) 21 ws (let most = most_words u in omega arith) ∙ b.words_are;
+  words_are = take_less (word_count u) 21 ws (let most = most_words u at b.fits in omega arith) ∙ b.words_are;
   ahead = subst IsTrue (sym (ahead_same u at ws)) b.ahead;
 }
 
 more : (ws : List ℕ) (at : ℕ) (u : U.Unit) → Begins (take 21 ws) at u → Begins ws at u
 more ws at u b = record {
   fits = b.fits;
-  words_are = sym (take_less (word_count u) 21 ws (let most = most_words u in omega arith)) ∙ b.words_are;
+  words_are = sym (take_less (word_count u) 21 ws (let most = most_words u at b.fits in omega arith)) ∙ b.words_are;
   ahead = subst IsTrue (ahead_same u at ws) b.ahead;
 }
 

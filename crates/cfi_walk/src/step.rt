@@ -115,7 +115,7 @@ fn from_unit(checked: &Checked<'_>, walk: &Walk, unit: &Unit, past: u64, pc: u64
     ensures { IsAnswer (λ newer. GoesPast checked.now.graph.lines unit.now past walk.now.pending pc newer) walk.now.pending result }
 {
     match unit {
-        Unit::Gate(_) | Unit::Plain(_) | Unit::System(SystemOp::Ecall) | Unit::Store(..) => {
+        Unit::Gate(_) | Unit::Plain(_) | Unit::System(SystemOp::Ecall) | Unit::Stores(..) => {
             to(walk, past, pc)
         }
         Unit::Branch(_, _, _, target) => to_either(walk, past, *target, pc),

@@ -106,7 +106,7 @@ fn of_unit(unit: &Unit) -> (u8, u64) {
         Unit::Icall(_, _, label) => (7, label.bits() as u64),
         Unit::Plain(_) => (9, 0),
         Unit::System(_) => (9, 0),
-        Unit::Store(_, _, _, _) => (9, 0),
+        Unit::Stores(_, _, _) => (9, 0),
         Unit::Return => (9, 0),
     }
 }

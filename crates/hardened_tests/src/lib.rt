@@ -1,5 +1,5 @@
-//! Tests of hardened code through the public calls: units, codes in pieces, the verifier, walks and
-//! runs. They stand beside the crates that they test, so that these are proved once.
+//! Tests of hardened code through the public calls: codes in pieces, the verifier, walks and runs.
+//! They stand beside the crates that they test, so that these are proved once.
 #![tactic(auto)]
 
 #[cfg(test)]
@@ -12,8 +12,6 @@ mod near;
 mod pieces;
 #[cfg(test)]
 mod run;
-#[cfg(test)]
-mod unit;
 #[cfg(test)]
 mod verifier;
 #[cfg(test)]

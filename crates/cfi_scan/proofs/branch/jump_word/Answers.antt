@@ -1,4 +1,4 @@
-use Rattle.std.proofs.Common.{refl, sym, ap, ◌∙◌, arith}
+use Rattle.std.proofs.Common.{sym, ap, ◌∙◌, arith}
 use Rattle.std.specs.Prelude.{Some}
 use Rattle.cfi_scan.proofs.JumpWord.{jump_leads}
 use Rattle.cfi_scan.proofs.branch.jump_word.Goals as goal
@@ -7,4 +7,4 @@ use Rattle.cfi_scan.proofs.branch.jump_word.Goals as goal
 pub returns-in-Jal : goal.returns-in-Jal
 returns-in-Jal c =
     jump_leads c.args.word c.args.here c.in-Jal.field-0 c.in-Jal.field (omega (arith, c.ranges.word.fits)) (omega (arith, c.ranges.here.fits))
-    (sym c.decode.ensures.value ∙ c.in-Some.is ∙ ap Some c.in-Jal.is) (c.requires.taken refl)
+    (sym c.decode.ensures.value ∙ c.in-Some.is ∙ ap Some c.in-Jal.is) c.requires.taken

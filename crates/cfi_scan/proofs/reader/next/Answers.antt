@@ -13,8 +13,12 @@ pub returns-in-Address : goal.returns-in-Address
 returns-in-Address c = rw c.in-Address.is c.address_word.ensures
 
 -- src/reader.rt:47:1
-pub returns-in-Store : goal.returns-in-Store
-returns-in-Store c = rw c.in-Store.is c.store_word.ensures
+pub returns-in-Mask : goal.returns-in-Mask
+returns-in-Mask c = rw c.in-Mask.is c.mask_word.ensures
+
+-- src/reader.rt:47:1
+pub returns-in-Stores : goal.returns-in-Stores
+returns-in-Stores c = rw c.in-Stores.is c.stores_word.ensures
 
 -- src/reader.rt:47:1
 pub returns-in-Check : goal.returns-in-Check

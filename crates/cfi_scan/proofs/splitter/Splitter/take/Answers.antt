@@ -17,7 +17,7 @@ returns-then-is_plain_word-clause-splits c words len s =
     c.args.self.now.reader words start (omega (arith, c.ranges.word.fits)) plain room s)
 
 -- src/splitter.rt:42:5
-pub returns-else-eq-2-clause-splits : goal.returns-else-eq-2-clause-splits
-returns-else-eq-2-clause-splits c words len s =
+pub returns-else-is_open-clause-splits : goal.returns-else-is_open-clause-splits
+returns-else-is_open-clause-splits c words len s =
     c.read.ensures.splits words len (splits_before (profile_of c.args.self.now.front).units_from c.args.word c.args.self.now.entries.items c.args.self.now.done
     c.args.self.now.last c.args.self.now.reader words s)

@@ -1,6 +1,6 @@
 ghost use Rattle.std.specs.Prelude.{◌<◌, ◌^◌};
 
-use cfi_unit::{SystemOp, TargetWord, Unit, emit, fits, recognise, size};
+use cfi_unit::{Member, Members, SystemOp, TargetWord, Unit, emit, fits, recognise, size};
 use rv_instr::{BranchOp, FenceWord, Immediate, ImmediateOp, Instr, LoadOp, Reg, StoreOp, UpperOp};
 use sample_programs::{A, B, H, OTHER, P, SECOND};
 use std::alloc::{AllocError, Global};
@@ -38,7 +38,13 @@ fn store(op: StoreOp, rs2: u32, imm: u32, rs1: u32) -> Unit
     requires address { rs1 < 32 }
     requires field { imm < 2 ^ 12 }
 {
-    Unit::Store(op, Reg::of(rs1), Reg::of(rs2), Immediate::of(imm))
+    let mut members = Members::new();
+    members.push(Member {
+        op,
+        value: Reg::of(rs2),
+        distance: Immediate::of(0),
+    });
+    Unit::Stores(Reg::of(rs1), Immediate::of(imm), members)
 }
 
 fn gate(label: u32) -> Unit

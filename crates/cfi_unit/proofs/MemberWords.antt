@@ -1,0 +1,157 @@
+-- The words of stores behind a mask: they are read back as these stores.
+use Rattle.std.proofs.Common.{◌≡◌, ℕ, zero, suc, ◌+◌, ◌-◌, ◌==◌, ◌&&◌, ◌<◌, ◌≤◌, ◌^◌, ◌⊎◌, refl, ap, sym, subst, ◌∙◌, lit<, true, false, List, [], ◌∷◌, ◌++◌, length, map, take, drop, inl, inr, arith}
+use Rattle.std.specs.Prelude.{Option, Some, None, nat_lt, replicate, slice_get, slice_set}
+use Rattle.std.specs.List.{All, AllByRecursion}
+use Rattle.std.proofs.lemmas.Bool.{lt-ltb}
+use Rattle.std.proofs.lemmas.Bool.Decides.{nat_tests}
+use Rattle.std.proofs.lemmas.List.{append-nil, length-map, length-take}
+use Rattle.std.proofs.lemmas.List.Elements.{All-head, All-tail}
+use Rattle.rv_word.proofs.Cases.{cases_Option, chosen}
+use Rattle.rv_instr.specs.InRange.{IsInstr}
+use Rattle.rv_instr.specs.declared.instr.Instr.{Instr}
+use Rattle.rv_instr.specs.declared.instr.Instr.TheVariants.{Store}
+use Rattle.rv_code.specs.Decode.{decoded}
+use Rattle.rv_code.specs.Encode.{code_of}
+use Rattle.rv_code.proofs.ReadBack.{decoded-code_of}
+use Rattle.rv_code.proofs.Inverse.{decoded-in_range}
+use Rattle.cfi_unit.specs.declared.members.Member.{Member}
+use Rattle.cfi_unit.specs.Members.{IsMember, member_instr, member_of, members_in, with_member}
+use Rattle.cfi_unit.specs.UnitWords.{instr_at}
+
+-- as many instructions as members
+pub members_counted : (ms : List Member) → length (map code_of (map member_instr ms)) ≡ length ms
+members_counted ms = length-map (map member_instr ms) code_of ∙ length-map ms member_instr
+
+-- a member's instruction is this member
+member_back : (m : Member) → IsMember m → member_of (Some (member_instr m)) ≡ Some m
+member_back m is = rw (lt-ltb m.distance 2048 is.1) refl
+
+member_read : (m : Member) → IsMember m → member_of (decoded (code_of (member_instr m))) ≡ Some m
+member_read m is = ap member_of (decoded-code_of (member_instr m) (lit< tt, is.0, (let low = is.1 in omega arith))) ∙ member_back m is
+
+-- the words of members are read back as these, where no more are asked for or no other follows
+pub members_back : (n : ℕ) (ms : List Member) (rest : List ℕ) → AllByRecursion IsMember ms → length ms ≤ n →
+    (n ≤ length ms) ⊎ (member_of (instr_at rest 0) ≡ None) → members_in (take n (map code_of (map member_instr ms) ++ rest)) ≡ ms
+members_back zero [] rest all few ends = refl
+members_back (suc n) [] [] all few ends = refl
+members_back (suc n) [] (w ∷ ws) all few (inl most) = absurd (let none : length {A = Member} [] ≡ 0 = refl in omega arith)
+members_back (suc n) [] (w ∷ ws) all few (inr none) = ap (λ o. with_member o (members_in (take n ws))) none
+members_back zero (m ∷ ms) rest all few ends = absurd (omega arith)
+members_back (suc n) (m ∷ ms) rest all few ends =
+    ap (λ o. with_member o (members_in (take n (map code_of (map member_instr ms) ++ rest)))) (member_read m all.0)
+    ∙ ap (λ l. m ∷ l) (members_back n ms rest all.1 (omega arith) (fewer ends))
+  where
+    fewer : (suc n ≤ suc (length ms)) ⊎ (member_of (instr_at rest 0) ≡ None) → (n ≤ length ms) ⊎ (member_of (instr_at rest 0) ≡ None)
+    fewer (inl most) = inl (omega arith)
+    fewer (inr none) = inr none
+
+-- a member that is read is in range
+given : (m n : Member) → Some m ≡ Some n → IsMember m → IsMember n
+given m n e is = let same : m ≡ n = cc in subst (λ (x : Member). IsMember x) same is
+
+member_in_range : (o : Option Instr) (m : Member) → ((i : Instr) → o ≡ Some i → IsInstr i) → member_of o ≡ Some m → IsMember m
+member_in_range (Some (Store op rs1 rs2 imm)) m known e =
+    let range : IsInstr (Store op rs1 rs2 imm) = known (Store op rs1 rs2 imm) refl in
+    elim (chosen ((rs1 == 31) && nat_lt imm 2048) (Some (record { op = op; value = rs2; distance = imm })) None (Some m) e) [
+      | inl is ↦
+          let below : imm < 2048 = and_below (rs1 == 31) imm is.0 in
+          given (record { op = op; value = rs2; distance = imm }) m is.1 (range.1, omega arith)
+      | inr not ↦ let bad = not.1 in absurd (cc)
+    ]
+  where
+    and_below : (b : _) (imm : ℕ) → (b && nat_lt imm 2048) ≡ true → imm < 2048
+    and_below true imm e = grind (arith, nat_tests)
+    and_below false imm e = absurd (cc)
+member_in_range other m known e = cc
+
+pub members_in_range : (ws : List ℕ) → All (λ w. w < 2 ^ 32) ws → AllByRecursion IsMember (members_in ws)
+members_in_range [] words = tt
+members_in_range (w ∷ ws) words =
+    elim (cases_Option (member_of (decoded w))) [
+      | inl none ↦ rw none tt
+      | inr some ↦
+          let small : w < 2 ^ 32 = All-head (λ (w : ℕ). w < 2 ^ 32) w ws words in
+          let fine : IsMember some.0 = member_in_range (decoded w) some.0 (λ i is. decoded-in_range w i small is) some.1 in
+          rw some.1 (fine, members_in_range ws (All-tail (λ (w : ℕ). w < 2 ^ 32) w ws words))
+    ]
+
+-- no more members than words
+pub members_few : (ws : List ℕ) → length (members_in ws) ≤ length ws
+members_few [] = omega arith
+members_few (w ∷ ws) =
+    elim (cases_Option (member_of (decoded w))) [
+      | inl none ↦ rw none (omega arith)
+      | inr some ↦ let fewer = members_few ws in rw some.1 (omega arith)
+    ]
+
+pub members_most : (n : ℕ) (ws : List ℕ) → length (members_in (take n ws)) ≤ n
+members_most n ws = let few = members_few (take n ws) in let all = length-take n ws in grind (arith, nat_tests)
+
+-- the loop over words: the next one is a member, or is none
+pub members_next : (n k : ℕ) (ws : List ℕ) (m : Member) → member_of (instr_at ws k) ≡ Some m →
+    members_in (take (suc n) (drop k ws)) ≡ m ∷ members_in (take n (drop (suc k) ws))
+members_next n zero [] m is = absurd (cc)
+members_next n zero (w ∷ ws) m is = ap (λ o. with_member o (members_in (take n ws))) is
+members_next n (suc k) [] m is = absurd (cc)
+members_next n (suc k) (w ∷ ws) m is = members_next n k ws m is
+
+pub members_stop : (n k : ℕ) (ws : List ℕ) → member_of (instr_at ws k) ≡ None → members_in (take n (drop k ws)) ≡ []
+members_stop zero k ws none = refl
+members_stop (suc n) zero [] none = refl
+members_stop (suc n) zero (w ∷ ws) none = ap (λ o. with_member o (members_in (take n ws))) none
+members_stop (suc n) (suc k) [] none = refl
+members_stop (suc n) (suc k) (w ∷ ws) none = members_stop (suc n) k ws none
+
+-- member k of some
+pub member_at : (ms : List Member) (k : ℕ) → AllByRecursion IsMember ms → k < length ms →
+    (m : Member) × (IsMember m × (slice_get (map member_instr ms) k ≡ Some (member_instr m)))
+member_at [] k all below = absurd (let none : length {A = Member} [] ≡ 0 = refl in omega arith)
+member_at (m ∷ ms) zero all below = (m, (all.0, refl))
+member_at (m ∷ ms) (suc k) all below = member_at ms k all.1 (omega arith)
+
+joined : (ms : List Member) (m : Member) (others : List Member) → (ms ++ m ∷ []) ++ others ≡ ms ++ m ∷ others
+joined [] m others = refl
+joined (n ∷ ms) m others = ap (λ l. n ∷ l) (joined ms m others)
+
+module _ (ms all : List Member) (k : ℕ) (ws : List ℕ) (read : ms ++ members_in (take (19 - k) (drop k ws)) ≡ all) where
+  pub read_on : (m : Member) → k < 19 → member_of (instr_at ws k) ≡ Some m →
+      (ms ++ m ∷ []) ++ members_in (take (19 - (k + 1)) (drop (k + 1) ws)) ≡ all
+  read_on m below is =
+      let e : 19 - k ≡ suc (19 - (k + 1)) = omega arith in
+      let f : suc k ≡ k + 1 = omega arith in
+      let step : members_in (take (19 - k) (drop k ws)) ≡ m ∷ members_in (take (19 - (k + 1)) (drop (k + 1) ws)) =
+      ap (λ n. members_in (take n (drop k ws))) e ∙ members_next (19 - (k + 1)) k ws m is
+      ∙ ap (λ j. m ∷ members_in (take (19 - (k + 1)) (drop j ws))) f in
+      joined ms m (members_in (take (19 - (k + 1)) (drop (k + 1) ws))) ∙ sym (ap (λ l. ms ++ l) step) ∙ read
+
+  pub read_stop : member_of (instr_at ws k) ≡ None → ms ≡ all
+  read_stop none = sym (append-nil ms) ∙ sym (ap (λ l. ms ++ l) (members_stop (19 - k) k ws none)) ∙ read
+
+  pub read_end : 19 ≤ k → ms ≡ all
+  read_end past =
+      let e : 19 - k ≡ 0 = omega arith in
+      sym (append-nil ms) ∙ sym (ap (λ n. ms ++ members_in (take n (drop k ws))) e) ∙ read
+
+-- an array whose tail holds one filler, after a write of what comes before it
+pub set_length : (items : List Member) (k : ℕ) (x : Member) → length (slice_set items k x) ≡ length items
+set_length [] k x = refl
+set_length (y ∷ ys) zero x = refl
+set_length (y ∷ ys) (suc k) x = ap (λ n. suc n) (set_length ys k x)
+
+set_before : (items : List Member) (k : ℕ) (x : Member) → drop (suc k) (slice_set items k x) ≡ drop (suc k) items
+set_before [] k x = refl
+set_before (y ∷ ys) zero x = refl
+set_before (y ∷ ys) (suc k) x = set_before ys k x
+
+drop_next : (items : List Member) (k : ℕ) → drop (suc k) items ≡ drop 1 (drop k items)
+drop_next items zero = refl
+drop_next [] (suc k) = refl
+drop_next (y ∷ ys) (suc k) = drop_next ys k
+
+pub tail_next : (items : List Member) (n k : ℕ) (x f : Member) → k < n → drop k items ≡ replicate (n - k) f →
+    drop (k + 1) (slice_set items k x) ≡ replicate (n - (k + 1)) f
+tail_next items n k x f below tail =
+    let e : k + 1 ≡ suc k = omega arith in
+    let g : n - k ≡ suc (n - (k + 1)) = omega arith in
+    ap (λ j. drop j (slice_set items k x)) e ∙ set_before items k x ∙ drop_next items k ∙ ap (drop 1) tail
+    ∙ ap (λ m. drop 1 (replicate m f)) g
