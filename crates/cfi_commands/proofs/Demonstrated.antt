@@ -12,7 +12,8 @@ use Rattle.cfi_map.specs.Placing.{IsPlacementOf, Spaced}
 use Rattle.cfi_map.specs.Source.{first_astray}
 use Rattle.obj_program.specs.Program.{Program}
 use Rattle.cfi_rules.specs.Rules.{IsWellFormed}
-use Rattle.cfi_harden.specs.Hardened.{HardenedParts, IsWrittenOf, chosen}
+use Rattle.cfi_writer.specs.Hardened.{HardenedParts, chosen}
+use Rattle.cfi_harden.specs.Hardened.{IsWrittenOf}
 use Rattle.cfi_harden.specs.Prepared.{IsPrepared, IsPreparedOf, PreparedParts}
 use Rattle.cfi_harden.specs.Refused.{Refuses}
 use Rattle.cfi_harden.specs.Request.{ProgramRequest, Request}

@@ -15,7 +15,7 @@ use Rattle.cfi_map.specs.LegalMap.{gates_of}
 use Rattle.cfi_map.specs.MapFault.{IsWrongLine}
 use Rattle.cfi_flow.specs.Policy.{instruction_at}
 use Rattle.cfi_harden.specs.Given.{Given}
-use Rattle.cfi_harden.specs.Hardened.{HasDataRoom}
+use Rattle.cfi_harden.specs.Room.{HasDataRoom}
 use Rattle.cfi_harden.specs.Prepared.{PreparedParts}
 use Rattle.cfi_harden.specs.Refused.{IsEarly, Prepares, Refuses}
 use Rattle.cfi_harden.specs.Request.{Request}

@@ -18,7 +18,7 @@ use Rattle.cfi_map.specs.LegalMap.{IsLegalMap, gates_of}
 use Rattle.cfi_map.specs.MapFault.{IsWrongLine}
 use Rattle.cfi_map.specs.Placement.{words_from}
 use Rattle.cfi_harden.specs.Given.{Given, DuplicateIn}
-use Rattle.cfi_harden.specs.Hardened.{HasDataRoom}
+use Rattle.cfi_harden.specs.Room.{HasDataRoom}
 use Rattle.cfi_harden.specs.Prepared.{IsPrepared, PreparedParts}
 use Rattle.cfi_harden.specs.Refused.{Refuses}
 use Rattle.cfi_harden.specs.Request as asks

@@ -12,7 +12,7 @@ use Rattle.cfi_step.specs.declared.report.RunEnd.{RunEnd}
 use Rattle.cfi_step.specs.declared.report.RunEnd.TheVariants as ends
 use Rattle.cfi_step.specs.declared.report.HartWalk.{HartWalk}
 use Rattle.cfi_step.specs.declared.report.RunReport.{RunReport}
-use Rattle.cfi_harden.specs.Hardened.{HardenedParts}
+use Rattle.cfi_writer.specs.Hardened.{HardenedParts}
 use Rattle.cfi_harden.specs.Prepared.{IsPrepared, PreparedParts}
 use Rattle.cfi_harden.specs.Request as asks
 use Rattle.cfi_meaning.specs.Compared.{compared}

@@ -7,7 +7,7 @@ use Rattle.elf_writer.specs.Object.{object_bytes}
 use Rattle.cfi_graph.specs.Map.{MapParts}
 use Rattle.cfi_map.specs.LegalMap.{IsLegalMap}
 use Rattle.cfi_map.specs.Source.{source_start}
-use Rattle.cfi_harden.specs.Hardened.{HasDataRoom}
+use Rattle.cfi_harden.specs.Room.{HasDataRoom}
 use Rattle.cfi_harden.specs.Prepared.{IsPrepared, PreparedParts}
 use Rattle.cfi_meaning.specs.Compared.{compared}
 use Rattle.cfi_meaning.specs.NeverDiffers.{NoRunDiffers}

@@ -4,7 +4,7 @@ use Rattle.std.specs.Prelude.{◌≡◌}
 use Rattle.rv_word.specs.Form.{image_version}
 use Rattle.rv_word.specs.Image.{Contents, image_profile}
 use Rattle.cfi_rules.specs.Rules.{IsWellFormed}
-use Rattle.cfi_harden.specs.Hardened.{HardenedParts}
+use Rattle.cfi_writer.specs.Hardened.{HardenedParts}
 use Rattle.cfi_harden.specs.Prepared.{IsPrepared, PreparedParts}
 use Rattle.cfi_harden.specs.Request as asks
 use Rattle.cfi_files.specs.Spelled.{Spell}

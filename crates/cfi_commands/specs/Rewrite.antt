@@ -14,7 +14,8 @@ use Rattle.cfi_graph.specs.Map.{IsMap}
 use Rattle.cfi_graph.specs.MapText.{map_text}
 use Rattle.cfi_graph.specs.Text.{graph_text}
 use Rattle.cfi_harden.specs.Given.{Given, DuplicateIn}
-use Rattle.cfi_harden.specs.Hardened.{HardenedParts, IsHardened}
+use Rattle.cfi_writer.specs.Hardened.{HardenedParts}
+use Rattle.cfi_harden.specs.Hardened.{IsHardened}
 use Rattle.cfi_harden.specs.Refused.{Refuses}
 use Rattle.cfi_harden.specs.Request as asks
 use Rattle.cfi_meaning.specs.Hardened.{KeepsMeaningAtMap, NeverDiffersAtMap}

@@ -6,7 +6,7 @@ ghost use Rattle.tool_io.specs.Reading.{CountsReads, IsOnlyRead};
 ghost use Rattle.cfi_files.specs.Reads.{IsFault, IsStop, IsTooLong};
 ghost use Rattle.cfi_graph.specs.MapText.{map_of};
 ghost use Rattle.cfi_flow.specs.Entry.{entry_place};
-ghost use Rattle.cfi_harden.specs.Hardened.{HasDataRoom};
+ghost use Rattle.cfi_harden.specs.Room.{HasDataRoom};
 ghost use Rattle.cfi_harden.specs.Request.{Request};
 ghost use Rattle.cfi_commands.specs.Compare.{ExplainsCompare, IsAfterImage, IsCompareOf, IsFresh, IsImageCompared, IsRoomy, answer_status, asked_at, compare_asked, compare_line, compare_link_words, compare_names, compare_status, compare_words};
 ghost use Rattle.cfi_commands.specs.Objects.{given_by};

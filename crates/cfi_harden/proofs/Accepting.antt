@@ -19,18 +19,18 @@ use Rattle.cfi_flow.proofs.Laws.{members_there}
 use Rattle.cfi_unit.specs.UnitWords.{word_count}
 use Rattle.cfi_rules.specs.Placed.{placed_code}
 use Rattle.cfi_rules.proofs.UnitIn.{length-placed_code}
-use Rattle.cfi_harden.specs.Accepted.{IsAccepted}
+use Rattle.cfi_writer.specs.Accepted.{IsAccepted}
 use Rattle.cfi_harden.specs.Fitting.{IsFitting}
-use Rattle.cfi_harden.specs.GraphOf.{IsGraphOf}
-use Rattle.cfi_harden.specs.Hardened.{AreGiven, chosen}
+use Rattle.cfi_writer.specs.GraphOf.{IsGraphOf}
+use Rattle.cfi_writer.specs.Hardened.{AreGiven, chosen}
 use Rattle.cfi_map.specs.Placing.{IsPlacement, Spaced}
 use Rattle.cfi_map.specs.Source.{first_astray}
 use Rattle.cfi_harden.specs.Prepared.{IsClosedUnder, PreparedParts}
 use Rattle.cfi_map.specs.Sizes.{part_sizes}
-use Rattle.cfi_harden.specs.Units.{Choice, entry_gate, unit_for, units}
-use Rattle.cfi_harden.specs.Writing.{IsReady}
-use Rattle.cfi_harden.proofs.CodeRoom.{bytes_are, size_is}
-use Rattle.cfi_harden.proofs.SitesThere.{side_at, site_class_there, site_of}
+use Rattle.cfi_writer.specs.Units.{Choice, entry_gate, unit_for, units}
+use Rattle.cfi_harden.specs.Ready.{IsReady}
+use Rattle.cfi_writer.proofs.CodeRoom.{bytes_are, size_is}
+use Rattle.cfi_writer.proofs.SitesThere.{side_at, site_class_there, site_of}
 
 -- the code has room where the parts have
 pub room_there : (m : Choice) → IsProfile m.layout.profile → IsSound m.layout.program →

@@ -1,36 +1,7 @@
-mod Few
-pub mod InstrAt
-pub mod UnitOf
-pub mod Runs
-pub mod Standing
-pub mod Fitting
-pub mod Labelled
-pub mod ClassLines
-pub mod SideLabels
-pub mod Starts
-pub mod Leading
-pub mod SoundCode
-pub mod Written
 pub mod EntryThere
-pub mod SitesThere
-pub mod CodeBytes
-pub mod CodeRoom
 pub mod Accepting
 pub mod Giving
 pub mod Preparing
 pub mod Joining
-pub mod MapFits
-pub mod ClassLabels
 pub mod Ready
-pub mod SiteNumbers
-pub mod Gates
-pub mod Aims
-pub mod UnitList
-pub mod CodeWritten
-pub mod WholeImage
-pub mod LineList
-pub mod PlaceLines
-pub mod WriteRows
-mod WrittenRows
-mod AcceptedRow
 mod GivenRows

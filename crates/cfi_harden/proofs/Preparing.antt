@@ -8,7 +8,7 @@ use Rattle.cfi_harden.specs.declared.refusal.HardenEnd.{HardenEnd}
 use Rattle.cfi_harden.specs.declared.refusal.HardenEnd.TheVariants as ends
 use Rattle.cfi_harden.specs.declared.refusal.Refusal.TheVariants as R
 use Rattle.cfi_harden.specs.Given.{IsGiven}
-use Rattle.cfi_harden.specs.Hardened.{HardenedParts}
+use Rattle.cfi_writer.specs.Hardened.{HardenedParts}
 use Rattle.cfi_harden.specs.Prepared.{IsPreparedOf, PreparedParts}
 use Rattle.cfi_harden.specs.Preparing.{Enters, Reads}
 use Rattle.cfi_harden.specs.Refused.{Hardens, HardensProgram, Prepares, PreparesProgram}

@@ -12,7 +12,8 @@ use Rattle.cfi_harden.specs.declared.refusal.HardenEnd.TheVariants as ends
 use Rattle.cfi_harden.specs.declared.refusal.Refusal.{Refusal}
 use Rattle.cfi_harden.specs.declared.refusal.Refusal.TheVariants as R
 use Rattle.cfi_harden.specs.Fitting.{IsFitting, RefusesPlaced}
-use Rattle.cfi_harden.specs.Hardened.{AreGiven, HardenedParts, IsWrittenOf, chosen}
+use Rattle.cfi_writer.specs.Hardened.{AreGiven, HardenedParts, chosen}
+use Rattle.cfi_harden.specs.Hardened.{IsWrittenOf}
 use Rattle.cfi_harden.specs.HardenedLaws.{WrittenIsAccepted}
 use Rattle.cfi_map.specs.GraphAtMap.{ProgramAtMap}
 use Rattle.cfi_map.specs.Placement.{words_from}
@@ -21,11 +22,12 @@ use Rattle.cfi_map.specs.Sizes.{whole_size, whole_sizes}
 use Rattle.cfi_harden.specs.Prepared.{IsPreparedOf, PreparedParts}
 use Rattle.cfi_harden.specs.Refused.{HardensPrepared, HardensProgram, RefusesProgram}
 use Rattle.cfi_harden.specs.Request.{ProgramRequest}
-use Rattle.cfi_harden.specs.Writing.{IsReady, IsWritable, IsWrittenAs}
+use Rattle.cfi_harden.specs.Ready.{IsReady}
+use Rattle.cfi_writer.specs.Writing.{IsWritable, IsWrittenAs}
 use Rattle.cfi_map.proofs.Values.{data_there}
 use Rattle.cfi_harden.proofs.Accepting.{accepted, accepted_here, graph_there, here, none_astray}
 use Rattle.cfi_harden.proofs.EntryThere.{entry_there}
-use Rattle.cfi_harden.proofs.MapFits.{accepted_map}
+use Rattle.cfi_writer.proofs.MapFits.{accepted_map}
 
 pub ready : (request : ProgramRequest) (p : PreparedParts) → IsPreparedOf request p → IsSound p.program → FitsMaps p.program →
     ((k : ℕ) → k < count p.program → (item_of p.program k).word < 2 ^ 32) → IsReady p

@@ -7,7 +7,7 @@ use Rattle.cfi_harden.specs.declared.refusal.HardenEnd.{HardenEnd}
 use Rattle.cfi_harden.specs.declared.refusal.HardenEnd.TheVariants.{Refused, NoMemory}
 use Rattle.cfi_harden.specs.declared.refusal.Refusal.{Refusal}
 use Rattle.cfi_harden.specs.declared.refusal.Refusal.TheVariants.{CodeTooLarge, DataTooLarge, RelocRange}
-use Rattle.cfi_harden.specs.Hardened.{HasDataRoom}
+use Rattle.cfi_harden.specs.Room.{HasDataRoom}
 use Rattle.cfi_map.specs.Placing.{IsPlacementOf, Spaced}
 use Rattle.cfi_harden.specs.Prepared.{PreparedParts}
 use Rattle.cfi_map.specs.Sizes.{whole_size}

@@ -1,8 +1,8 @@
 -- What holds of hardened programs.
 use Rattle.std.specs.Prelude.{ℕ, List}
-use Rattle.cfi_harden.specs.Accepted.{IsAccepted}
+use Rattle.cfi_writer.specs.Accepted.{IsAccepted}
 use Rattle.cfi_harden.specs.Fitting.{IsFitting}
-use Rattle.cfi_harden.specs.Hardened.{HardenedParts, IsWritten, chosen}
+use Rattle.cfi_writer.specs.Hardened.{HardenedParts, IsWritten, chosen}
 use Rattle.cfi_map.specs.Placing.{Spaced}
 use Rattle.cfi_harden.specs.Prepared.{IsPreparedOf, PreparedParts}
 use Rattle.cfi_harden.specs.Request.{ProgramRequest}

@@ -1,5 +1,3 @@
-pub mod Units
-pub mod Accepted
 pub mod Given
 pub mod Request
 pub mod Prepared
@@ -9,13 +7,8 @@ pub mod RefusalText
 pub mod Closing
 pub mod Preparing
 pub mod Joining
-pub mod Chosen
-pub mod MapLines
-pub mod GraphOf
-pub mod SideLaws
-pub mod Laws
+pub mod Room
 pub mod Hardened
 pub mod Fitting
+pub mod Ready
 pub mod HardenedLaws
-pub mod Prologue
-pub mod Writing

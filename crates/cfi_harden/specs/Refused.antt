@@ -7,7 +7,8 @@ use Rattle.cfi_harden.specs.declared.refusal.Refusal.{Refusal}
 use Rattle.cfi_harden.specs.declared.refusal.Refusal.TheVariants.{Object, ObjectIn, TooManySections, Items, UndefinedIn, NoEntry, Policy}
 use Rattle.cfi_harden.specs.Fitting.{RefusesPlaced}
 use Rattle.cfi_harden.specs.Given.{IsGiven, RefusesGiven}
-use Rattle.cfi_harden.specs.Hardened.{HardenedParts, IsHardened, IsHardenedOf, IsWrittenOf}
+use Rattle.cfi_writer.specs.Hardened.{HardenedParts}
+use Rattle.cfi_harden.specs.Hardened.{IsHardened, IsHardenedOf, IsWrittenOf}
 use Rattle.cfi_harden.specs.Request.{ProgramRequest, Request, program_request}
 use Rattle.cfi_harden.specs.Prepared.{IsPrepared, IsPreparedOf, IsWrongPolicy, PreparedParts}
 

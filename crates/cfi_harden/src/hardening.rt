@@ -2,20 +2,19 @@
 
 ghost use Rattle.std.specs.Prelude.{◌<◌, IfOk, option_copied, sum};
 ghost use Rattle.rv_word.specs.MemoryMap.{CODE_SIZE};
-ghost use Rattle.cfi_harden.specs.GraphOf.{IsGraphOf};
-ghost use Rattle.cfi_harden.specs.Hardened.{AreGiven};
+ghost use Rattle.cfi_writer.specs.GraphOf.{IsGraphOf};
+ghost use Rattle.cfi_writer.specs.Hardened.{AreGiven};
 ghost use Rattle.cfi_harden.specs.Prepared.{IsOfRequest, IsPreparedOf};
 ghost use Rattle.cfi_harden.specs.Refused.{HardensPrepared, HardensProgram};
 ghost use Rattle.cfi_harden.specs.Request.{ProgramRequest};
 ghost use Rattle.cfi_map.specs.Sizes.{whole_sizes};
-ghost use Rattle.cfi_harden.specs.Writing.{IsReady};
+ghost use Rattle.cfi_harden.specs.Ready.{IsReady};
 
-use crate::hardened::{Hardened, written};
-use crate::numbering::class_labels;
 use crate::prepared::{Prepared, prepare_program};
 use crate::refusal::HardenEnd;
 use crate::room::spaced_in_room;
 use crate::word_range::words_fit_in;
+use cfi_writer::{Hardened, class_labels, written};
 use obj_program::Items;
 use rv_word::{Form, NoMemory};
 use std::alloc::Global;

@@ -3,29 +3,17 @@
 //! `joined_program` that of several.
 #![tactic(auto)]
 
-pub use chosen::Chosen;
-pub use code::code_bytes;
-pub use hardened::Hardened;
 pub use hardening::{harden_prepared, harden_program};
 pub use joined::{JoinedEnd, joined_program};
-pub use numbering::class_labels;
 pub use prepared::{Prepared, prepare, prepare_program, program_of};
 pub use refusal::{HardenEnd, Refusal};
 pub use room::has_data_room;
 
-mod chosen;
 mod closing;
-mod code;
-mod hardened;
 mod hardening;
 mod joined;
-mod labels;
 pub mod laws;
-mod lines;
-mod numbering;
-mod places;
 mod prepared;
 mod refusal;
 mod room;
-mod units;
 mod word_range;

@@ -3,7 +3,7 @@
 ghost use Rattle.std.specs.Prelude.{◌↔◌, ◌<◌, IsTrue};
 ghost use Rattle.obj_program.specs.Program.{count};
 ghost use Rattle.cfi_harden.specs.Fitting.{FitsOr};
-ghost use Rattle.cfi_harden.specs.Hardened.{HasDataRoom};
+ghost use Rattle.cfi_harden.specs.Room.{HasDataRoom};
 
 use crate::prepared::Prepared;
 use crate::refusal::{HardenEnd, Refusal};

@@ -6,9 +6,10 @@ use Rattle.rv_word.specs.declared.form.Form.{Form}
 use Rattle.cfi_map.specs.GraphAtMap.{ProgramAtMap, program_at}
 use Rattle.cfi_map.specs.LegalMap.{IsLegalMap}
 use Rattle.cfi_map.specs.Source.{init_here}
-use Rattle.cfi_harden.specs.Hardened.{HardenedParts, IsHardenedOf, chosen}
+use Rattle.cfi_writer.specs.Hardened.{HardenedParts, chosen}
+use Rattle.cfi_harden.specs.Hardened.{IsHardenedOf}
 use Rattle.cfi_harden.specs.Request.{ProgramRequest}
-use Rattle.cfi_harden.specs.Units.{Choice}
+use Rattle.cfi_writer.specs.Units.{Choice}
 use Rattle.cfi_harden.proofs.Ready.{written_accepted}
 use Rattle.cfi_meaning.specs.ImageOf.{IsImageOf}
 use Rattle.cfi_meaning.specs.Hardened.{HardenedKeepsMeaning, HardenedNeverDiffers, HoldsAtMap}

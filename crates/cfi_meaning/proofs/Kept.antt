@@ -10,7 +10,7 @@ use Rattle.rv_code.specs.declared.turn.Turn.TheVariants.{Ran}
 use Rattle.cfi_runs.specs.Own.{Own, OwnAfter, own_start}
 use Rattle.cfi_runs.specs.OwnRuns.{SitesFit}
 use Rattle.cfi_runs.specs.WholeRun.{RunsTo, own_shared, undisturbed}
-use Rattle.cfi_harden.specs.Units.{Choice, entry_gate}
+use Rattle.cfi_writer.specs.Units.{Choice, entry_gate}
 use Rattle.cfi_meaning.specs.ImageOf.{IsImageOf}
 use Rattle.cfi_meaning.specs.PlaceSteps.{PlacesRun, TamePlace, place_step}
 use Rattle.cfi_meaning.specs.PlacesKept.{KeepsPlaces, last_words, most_steps}

@@ -28,8 +28,8 @@ use Rattle.cfi_unit.proofs.Regions.{can_store_data, store_size-small}
 use Rattle.cfi_rules.specs.Rules.{jump_word}
 use Rattle.cfi_runs.specs.Own.{Own, OwnAfter, executes, goes, own_past}
 use Rattle.cfi_runs.specs.Tame.{IsTame}
-use Rattle.cfi_harden.specs.Units.{instr_of, inverse, unit_of}
-use Rattle.cfi_harden.proofs.Standing.{instr_is}
+use Rattle.cfi_writer.specs.Units.{instr_of, inverse, unit_of}
+use Rattle.cfi_writer.proofs.Standing.{instr_is}
 use Rattle.cfi_meaning.specs.KindStep as law
 use Rattle.cfi_meaning.specs.KindStep.{kind_step}
 use Rattle.cfi_meaning.specs.ImageOf.{unit_here}

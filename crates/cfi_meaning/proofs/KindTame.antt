@@ -21,8 +21,8 @@ use Rattle.cfi_unit.specs.Leads.{HasLabel}
 use Rattle.cfi_unit.specs.Shadow.{MOST_PENDING}
 use Rattle.cfi_runs.specs.Own as own
 use Rattle.cfi_runs.specs.Tame.{IsTame, touched}
-use Rattle.cfi_harden.specs.SideLaws.{word_read}
-use Rattle.cfi_harden.specs.Units.{unit_of}
+use Rattle.cfi_writer.specs.SideLaws.{word_read}
+use Rattle.cfi_writer.specs.Units.{unit_of}
 use Rattle.cfi_meaning.specs.Matches.{sites_of}
 use Rattle.cfi_map.specs.declared.reason.Reason.TheVariants as why
 use Rattle.cfi_map.specs.Source.{Source}

@@ -14,10 +14,10 @@ use Rattle.cfi_map.specs.Source.{Source}
 use Rattle.cfi_unit.specs.Shadow.{MOST_PENDING}
 use Rattle.cfi_runs.specs.MatchLaws.{ComesTo}
 use Rattle.cfi_runs.specs.OwnRuns.{SitesFit}
-use Rattle.cfi_harden.specs.Accepted.{IsAccepted}
-use Rattle.cfi_harden.specs.Units.{Choice}
-use Rattle.cfi_harden.proofs.Gates.{gates_counted}
-use Rattle.cfi_harden.proofs.Standing.{gate_lies}
+use Rattle.cfi_writer.specs.Accepted.{IsAccepted}
+use Rattle.cfi_writer.specs.Units.{Choice}
+use Rattle.cfi_writer.proofs.Gates.{gates_counted}
+use Rattle.cfi_writer.proofs.Standing.{gate_lies}
 use Rattle.cfi_meaning.specs.Matches.{Matches, MatchesIsOwn, own_of, sites_at, sites_now, sites_of}
 
 module _ (layout : ProgramAtMap) (image : Contents) (st : Source) (after : After) where

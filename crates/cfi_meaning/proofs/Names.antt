@@ -11,7 +11,7 @@ use Rattle.obj_program.specs.Program.{is_end}
 use Rattle.obj_program.specs.Suits.{names_reserved, suits}
 use Rattle.cfi_unit.specs.declared.target_word.TargetWord.{TargetWord}
 use Rattle.cfi_runs.specs.Tame.{NamesNoReserved}
-use Rattle.cfi_harden.specs.Units.{unit_of}
+use Rattle.cfi_writer.specs.Units.{unit_of}
 
 -- a test of four, each of which fails
 none_of : (a b c d : Bool) → (a || b || c || d) ≡ false → (a ≡ false) × (b ≡ false) × (c ≡ false) × (d ≡ false)

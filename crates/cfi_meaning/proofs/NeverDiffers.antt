@@ -15,7 +15,7 @@ use Rattle.rv_code.proofs.Continued.{events_added, run_in_parts}
 use Rattle.cfi_map.specs.GraphAtMap.{ProgramAtMap, word}
 use Rattle.cfi_unit.specs.Prologue.{OPENING}
 use Rattle.cfi_runs.specs.WholeRun.{undisturbed}
-use Rattle.cfi_harden.specs.Units.{Choice}
+use Rattle.cfi_writer.specs.Units.{Choice}
 use Rattle.cfi_meaning.specs.PlacesKept.{most_steps}
 use Rattle.cfi_meaning.specs.Compared.{Compared, Difference, SourceRun, TraceItem, broke, called, compared_from, differs, exited, first_difference, has_ended, image_end, run_from, running, same_bytes, same_event, same_item, source_end, source_run, stopped, trace, verdict}
 use Rattle.cfi_meaning.specs.Meaning.{EndsAs, KeepsMeaning}

@@ -24,10 +24,10 @@ use Rattle.cfi_rules.specs.Rules.{jump_word}
 use Rattle.cfi_rules.specs.Split.{code_words, unit_at}
 use Rattle.cfi_rules.proofs.Places.{unit_facts}
 use Rattle.cfi_rules.proofs.Standing.{unit_stands}
-use Rattle.cfi_harden.specs.Units.{Choice, instr_of, lead, lead_unit}
-use Rattle.cfi_harden.proofs.Runs.{AreSingle, from_lead, lead_few, lead_single}
-use Rattle.cfi_harden.proofs.Standing.{gate_after, instr_is, word_is}
-use Rattle.cfi_harden.proofs.Written.{written_units}
+use Rattle.cfi_writer.specs.Units.{Choice, instr_of, lead, lead_unit}
+use Rattle.cfi_writer.proofs.Runs.{AreSingle, from_lead, lead_few, lead_single}
+use Rattle.cfi_writer.proofs.Standing.{gate_after, instr_is, word_is}
+use Rattle.cfi_writer.proofs.WholeCode.{written_units}
 use Rattle.cfi_meaning.specs.PlaceLaws as law
 use Rattle.cfi_meaning.specs.ImageOf.{IsImageOf, IsPlace, unit_here}
 use Rattle.cfi_meaning.specs.PlaceLaws.{ComesToPlace}

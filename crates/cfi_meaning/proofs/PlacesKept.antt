@@ -16,7 +16,7 @@ use Rattle.cfi_runs.specs.OwnRuns.{OwnRuns, words_along}
 use Rattle.cfi_runs.specs.WholeRun.{RunsTo, own_shared}
 use Rattle.cfi_runs.proofs.WholeRun.{run_keeps_match}
 use Rattle.cfi_map.specs.GraphAtMap.{word}
-use Rattle.cfi_harden.specs.Units.{Choice, entry_gate}
+use Rattle.cfi_writer.specs.Units.{Choice, entry_gate}
 use Rattle.cfi_meaning.specs.PlacesKept as law
 use Rattle.cfi_meaning.specs.ImageOf.{IsImageOf, unit_here}
 use Rattle.cfi_meaning.specs.PlaceSteps.{PlacesRun, at_word, place_step}

@@ -12,8 +12,8 @@ use Rattle.cfi_rules.specs.Split.{entry_of}
 use Rattle.cfi_rules.proofs.Bytes.{loaded_small}
 use Rattle.cfi_rules.proofs.Labels.{call_fits}
 use Rattle.cfi_rules.proofs.Places.{prologue}
-use Rattle.cfi_harden.specs.Units.{Choice, entry_gate}
-use Rattle.cfi_harden.proofs.Written.{written_entry, written_well_formed}
+use Rattle.cfi_writer.specs.Units.{Choice, entry_gate}
+use Rattle.cfi_writer.proofs.WholeCode.{written_entry, written_well_formed}
 use Rattle.cfi_meaning.specs.PlaceLaws as law
 use Rattle.cfi_meaning.specs.ImageOf.{IsImageOf}
 

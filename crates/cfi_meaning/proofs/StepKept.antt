@@ -28,7 +28,7 @@ use Rattle.cfi_runs.proofs.Matched.{unit_keeps_match}
 use Rattle.cfi_runs.proofs.Paths.{path_keeps_match, sites_fit, unit_within}
 use Rattle.cfi_runs.proofs.WholeRun.{path_fit}
 use Rattle.cfi_map.specs.GraphAtMap.{word}
-use Rattle.cfi_harden.specs.Units.{Choice, entry_gate}
+use Rattle.cfi_writer.specs.Units.{Choice, entry_gate}
 use Rattle.cfi_meaning.specs.ImageOf.{IsImageOf, unit_here}
 use Rattle.cfi_meaning.specs.PlaceSteps.{TamePlace, at_word, place_step}
 use Rattle.cfi_meaning.proofs.Places.{place_runs}

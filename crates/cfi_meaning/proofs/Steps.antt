@@ -16,9 +16,9 @@ use Rattle.cfi_map.specs.GraphAtMap.{ProgramAtMap, gate, gate_to, word, words_at
 use Rattle.cfi_map.specs.LabelOf.{site_label}
 use Rattle.cfi_map.specs.Placement.{whole_at}
 use Rattle.cfi_rules.specs.Rules.{jump_word}
-use Rattle.cfi_harden.specs.Units.{Choice, instr_of}
-use Rattle.cfi_harden.proofs.Leading.{direct}
-use Rattle.cfi_harden.proofs.Standing.{gate_lies, instr_is, word_is}
+use Rattle.cfi_writer.specs.Units.{Choice, instr_of}
+use Rattle.cfi_writer.proofs.Leading.{direct}
+use Rattle.cfi_writer.proofs.Standing.{gate_lies, instr_is, word_is}
 use Rattle.cfi_meaning.specs.ImageOf.{IsImageOf, IsPlace}
 use Rattle.cfi_meaning.specs.PlaceSteps.{TamePlace, place_step}
 use Rattle.cfi_meaning.proofs.KindStep.{step_of_kind}

@@ -23,13 +23,13 @@ use Rattle.cfi_rules.specs.Rules.{jump_word}
 use Rattle.cfi_rules.specs.Walk.{InClass}
 use Rattle.cfi_rules.proofs.Moves.{in_class_label}
 use Rattle.cfi_rules.proofs.PlacedLines.{class_before, no_class}
-use Rattle.cfi_harden.specs.Accepted.{IsAccepted, IsSiteOf}
-use Rattle.cfi_harden.specs.Laws.{written_classes}
-use Rattle.cfi_harden.specs.SideLaws.{AreLabelled, word_read}
-use Rattle.cfi_harden.specs.Units.{Choice, units}
-use Rattle.cfi_harden.proofs.ClassLines.{among_to}
-use Rattle.cfi_harden.proofs.SideLabels.{sites_served}
-use Rattle.cfi_harden.proofs.Written.{lines_are}
+use Rattle.cfi_writer.specs.Accepted.{IsAccepted, IsSiteOf}
+use Rattle.cfi_writer.specs.Laws.{written_classes}
+use Rattle.cfi_writer.specs.SideLaws.{AreLabelled, word_read}
+use Rattle.cfi_writer.specs.Units.{Choice, units}
+use Rattle.cfi_writer.proofs.ClassLines.{among_to}
+use Rattle.cfi_writer.proofs.SideLabels.{sites_served}
+use Rattle.cfi_writer.proofs.WholeCode.{lines_are}
 use Rattle.cfi_meaning.specs.PlaceLaws as law
 use Rattle.cfi_meaning.specs.ImageOf.{IsImageOf}
 use Rattle.cfi_meaning.proofs.Prologue.{formed, written_graph}

@@ -5,7 +5,8 @@ use Rattle.rv_word.specs.Form.{image_version}
 use Rattle.elf_image.specs.Spelling.{spelling}
 use Rattle.cfi_map.specs.GraphAtMap.{ProgramAtMap, program_at}
 use Rattle.cfi_map.specs.LegalMap.{IsLegalMap, gates_of}
-use Rattle.cfi_harden.specs.Hardened.{HardenedParts, IsHardenedOf}
+use Rattle.cfi_writer.specs.Hardened.{HardenedParts}
+use Rattle.cfi_harden.specs.Hardened.{IsHardenedOf}
 use Rattle.cfi_harden.specs.Prepared.{IsPreparedOf, PreparedParts}
 use Rattle.cfi_harden.specs.Request.{ProgramRequest}
 use Rattle.cfi_meaning.specs.Meaning.{KeepsMeaning}

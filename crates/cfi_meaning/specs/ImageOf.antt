@@ -5,9 +5,9 @@ use Rattle.obj_program.specs.Program.{count, is_end, item_of}
 use Rattle.cfi_unit.specs.declared.unit.Unit as U
 use Rattle.cfi_rules.specs.Laws.{AreBytes}
 use Rattle.cfi_rules.specs.Split.{code_words}
-use Rattle.cfi_harden.specs.Accepted.{IsAccepted}
-use Rattle.cfi_harden.specs.Laws.{written_code}
-use Rattle.cfi_harden.specs.Units.{Choice, unit_for}
+use Rattle.cfi_writer.specs.Accepted.{IsAccepted}
+use Rattle.cfi_writer.specs.Laws.{written_code}
+use Rattle.cfi_writer.specs.Units.{Choice, unit_for}
 
 -- the image's code is what is written for a choice that is accepted
 pub record IsImageOf (m : Choice) (image : Contents) : Type 0 where

@@ -13,8 +13,8 @@ use Rattle.obj_input.specs.declared.item_kind.ItemKind.TheVariants as is
 use Rattle.obj_program.specs.Program.{item_of}
 use Rattle.cfi_map.specs.GraphAtMap.{gate, gate_to}
 use Rattle.cfi_runs.specs.Own.{Own, OwnAfter, calls, computed, executes, goes, returns}
-use Rattle.cfi_harden.specs.Accepted.{IsAccepted}
-use Rattle.cfi_harden.specs.Units.{Choice, instr_of}
+use Rattle.cfi_writer.specs.Accepted.{IsAccepted}
+use Rattle.cfi_writer.specs.Units.{Choice, instr_of}
 use Rattle.cfi_meaning.specs.PlaceSteps.{TamePlace, at_word, place_step}
 
 -- with the gates of its target and of the next place

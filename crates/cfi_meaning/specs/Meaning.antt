@@ -10,7 +10,7 @@ use Rattle.cfi_map.specs.GraphAtMap.{ProgramAtMap, word}
 use Rattle.cfi_runs.specs.Matching.{SameData}
 use Rattle.cfi_runs.specs.WholeRun.{RunsTo}
 use Rattle.cfi_runs.specs.Within.{Within}
-use Rattle.cfi_harden.specs.Units.{Choice}
+use Rattle.cfi_writer.specs.Units.{Choice}
 use Rattle.cfi_meaning.specs.ImageOf.{IsImageOf}
 use Rattle.cfi_meaning.specs.PlacesKept.{most_steps}
 use Rattle.cfi_map.specs.Source.{Source, init_here, source_start}

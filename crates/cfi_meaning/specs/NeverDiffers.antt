@@ -3,7 +3,7 @@ use Rattle.std.specs.Prelude.{◌≡◌, ℕ, List}
 use Rattle.rv_word.specs.Image.{Contents}
 use Rattle.cfi_map.specs.GraphAtMap.{ProgramAtMap}
 use Rattle.cfi_map.specs.Source.{init_here}
-use Rattle.cfi_harden.specs.Units.{Choice}
+use Rattle.cfi_writer.specs.Units.{Choice}
 use Rattle.cfi_meaning.specs.ImageOf.{IsImageOf}
 use Rattle.cfi_meaning.specs.Compared.{Difference, compared, differs}
 

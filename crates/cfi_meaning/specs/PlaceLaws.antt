@@ -16,9 +16,9 @@ use Rattle.cfi_runs.specs.OwnRuns.{OwnRuns, words_along}
 use Rattle.cfi_runs.specs.Tame.{TameStep}
 use Rattle.cfi_runs.specs.WholeRun.{HasPrologue}
 use Rattle.cfi_rules.specs.Rules.{jump_word}
-use Rattle.cfi_harden.specs.Accepted.{IsAccepted}
-use Rattle.cfi_harden.specs.SideLaws.{word_read}
-use Rattle.cfi_harden.specs.Units.{Choice, entry_gate}
+use Rattle.cfi_writer.specs.Accepted.{IsAccepted}
+use Rattle.cfi_writer.specs.SideLaws.{word_read}
+use Rattle.cfi_writer.specs.Units.{Choice, entry_gate}
 use Rattle.cfi_meaning.specs.ImageOf.{IsImageOf, IsPlace, unit_here}
 use Rattle.cfi_meaning.specs.PlaceSteps.{TamePlace, at_word}
 

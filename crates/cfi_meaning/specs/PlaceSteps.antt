@@ -6,7 +6,7 @@ use Rattle.rv_code.specs.declared.turn.Turn.TheVariants.{Ran}
 use Rattle.cfi_map.specs.GraphAtMap.{gate, word}
 use Rattle.cfi_runs.specs.Own.{Own, OwnAfter, own_step}
 use Rattle.cfi_runs.specs.Tame.{IsTame}
-use Rattle.cfi_harden.specs.Units.{Choice}
+use Rattle.cfi_writer.specs.Units.{Choice}
 use Rattle.cfi_meaning.specs.ImageOf.{IsPlace, unit_here}
 
 -- the program is at a place, whose own step is tame

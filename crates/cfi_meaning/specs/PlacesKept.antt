@@ -10,7 +10,7 @@ use Rattle.cfi_runs.specs.MatchLaws.{ComesTo}
 use Rattle.cfi_runs.specs.Own.{Own, own_closing, own_start}
 use Rattle.cfi_runs.specs.WholeRun.{Ends, RunsTo, own_shared}
 use Rattle.cfi_map.specs.GraphAtMap.{ProgramAtMap}
-use Rattle.cfi_harden.specs.Units.{Choice, entry_gate}
+use Rattle.cfi_writer.specs.Units.{Choice, entry_gate}
 use Rattle.cfi_meaning.specs.ImageOf.{IsImageOf}
 use Rattle.cfi_meaning.specs.PlaceSteps.{PlacesRun, TamePlace, place_step}
 

@@ -5,7 +5,7 @@ use Rattle.std.specs.Prelude.{IfOk, Result, Ok, Err}
 use Rattle.obj_program.specs.Program.{Program}
 use Rattle.cfi_harden.specs.declared.refusal.HardenEnd.{HardenEnd}
 use Rattle.cfi_harden.specs.declared.refusal.HardenEnd.TheVariants as ends
-use Rattle.cfi_harden.specs.Hardened.{HardenedParts}
+use Rattle.cfi_writer.specs.Hardened.{HardenedParts}
 use Rattle.cfi_harden.specs.Preparing.{Reads}
 use Rattle.cfi_harden.specs.Refused.{Hardens, HardensProgram}
 use Rattle.cfi_harden.specs.Request.{ProgramRequest, Request, program_request}

@@ -2,7 +2,8 @@
 //! the program does. Its main calls are `rewrite_as` and `rewrite_program`.
 #![tactic(auto)]
 
-pub use cfi_harden::{HardenEnd, Hardened, Refusal};
+pub use cfi_harden::{HardenEnd, Refusal};
+pub use cfi_writer::Hardened;
 pub use rewriting::{rewrite, rewrite_as, rewrite_prepared, rewrite_program};
 
 mod rewriting;

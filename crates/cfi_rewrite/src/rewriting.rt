@@ -6,8 +6,9 @@ ghost use Rattle.cfi_harden.specs.Refused.{Hardens, HardensPrepared, HardensProg
 ghost use Rattle.cfi_harden.specs.Request.{ProgramRequest, program_request};
 ghost use Rattle.cfi_meaning.specs.Hardened.{KeepsMeaningAtMap, NeverDiffersAtMap};
 
-use cfi_harden::{HardenEnd, Hardened, Prepared, harden_prepared, harden_program, program_of};
+use cfi_harden::{HardenEnd, Prepared, harden_prepared, harden_program, program_of};
 use cfi_meaning::laws::{hardened_keeps_meaning, hardened_never_differs};
+use cfi_writer::Hardened;
 use obj_program::Items;
 use rv_word::Form;
 use std::alloc::Global;

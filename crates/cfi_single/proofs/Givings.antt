@@ -4,7 +4,8 @@ use Rattle.std.proofs.lemmas.Option.{same_Some}
 use Rattle.cfi_harden.specs.declared.refusal.Refusal.{Refusal}
 use Rattle.cfi_harden.specs.declared.refusal.Refusal.TheVariants as R
 use Rattle.cfi_harden.specs.Given.{Given, alone, joined, DuplicateIn, IsGiven, RefusesGiven, refusal_in}
-use Rattle.cfi_harden.specs.Hardened.{HardenedParts, IsHardened}
+use Rattle.cfi_writer.specs.Hardened.{HardenedParts}
+use Rattle.cfi_harden.specs.Hardened.{IsHardened}
 use Rattle.cfi_harden.specs.Refused.{Refuses}
 use Rattle.cfi_harden.specs.Request.{Request, program_request}
 use Rattle.cfi_single.specs.OneWay.{GivenInOneWay}

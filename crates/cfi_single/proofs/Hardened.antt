@@ -10,8 +10,9 @@ use Rattle.obj_program.specs.declared.item.Item.{Item}
 use Rattle.cfi_map.specs.GraphAtMap.{ProgramAtMap, gate, graph_lines}
 use Rattle.cfi_flow.specs.Labels.{used_labels}
 use Rattle.cfi_rules.specs.Placed.{placed_code}
-use Rattle.cfi_harden.specs.Hardened.{AreGiven, HardenedParts, IsWritten, IsWrittenOf, chosen}
-use Rattle.cfi_harden.specs.Laws.{written_code}
+use Rattle.cfi_writer.specs.Hardened.{AreGiven, HardenedParts, IsWritten, chosen}
+use Rattle.cfi_harden.specs.Hardened.{IsWrittenOf}
+use Rattle.cfi_writer.specs.Laws.{written_code}
 use Rattle.cfi_map.specs.Placing.{IsPlacementOf, Spaced}
 use Rattle.cfi_harden.specs.Prepared.{PreparedParts}
 use Rattle.cfi_single.specs.OneWay.{HardenedInOneWay}

@@ -13,7 +13,8 @@ use Rattle.cfi_map.specs.Source.{first_astray}
 use Rattle.cfi_harden.specs.declared.refusal.Refusal.{Refusal}
 use Rattle.cfi_harden.specs.declared.refusal.Refusal.TheVariants as R
 use Rattle.cfi_harden.specs.Fitting.{RefusesPlaced}
-use Rattle.cfi_harden.specs.Hardened.{HardenedParts, IsWrittenOf}
+use Rattle.cfi_writer.specs.Hardened.{HardenedParts}
+use Rattle.cfi_harden.specs.Hardened.{IsWrittenOf}
 use Rattle.cfi_harden.specs.Prepared.{FailsAt, IsClosedUnder, IsPreparedOf, IsWrongPolicy, PreparedParts}
 use Rattle.cfi_harden.specs.Refused.{IsEarly, RefusesProgram}
 use Rattle.cfi_harden.specs.Request.{ProgramRequest, policy_reading}

@@ -19,7 +19,7 @@ use Rattle.cfi_unit.specs.declared.unit.Unit as U
 use Rattle.cfi_rules.specs.Rules.{jump_word}
 use Rattle.cfi_rules.specs.Split.{code_words}
 use Rattle.cfi_map.specs.Shorts.{is_branch}
-use Rattle.cfi_harden.specs.Units.{Choice, instr_of, lead, unit_for, unit_of, units_from}
+use Rattle.cfi_writer.specs.Units.{Choice, instr_of, lead, unit_for, unit_of, units_from}
 use Rattle.cfi_single.proofs.Placed.{SameBranches, first_branch, rest_branches}
 
 -- labels

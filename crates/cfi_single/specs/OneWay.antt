@@ -2,7 +2,8 @@
 use Rattle.std.specs.Prelude.{◌≡◌, ℕ, List}
 use Rattle.cfi_harden.specs.declared.refusal.Refusal.{Refusal}
 use Rattle.cfi_harden.specs.Given.{DuplicateIn, IsGiven}
-use Rattle.cfi_harden.specs.Hardened.{HardenedParts, IsHardened, IsHardenedOf}
+use Rattle.cfi_writer.specs.Hardened.{HardenedParts}
+use Rattle.cfi_harden.specs.Hardened.{IsHardened, IsHardenedOf}
 use Rattle.cfi_harden.specs.Prepared.{IsPrepared, IsPreparedOf, PreparedParts}
 use Rattle.cfi_harden.specs.Refused.{Refuses, RefusesProgram}
 use Rattle.cfi_harden.specs.Request.{ProgramRequest, Request}

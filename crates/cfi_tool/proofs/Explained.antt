@@ -6,7 +6,7 @@ use Rattle.cfi_tool.specs.Outcomes.{outcome_outputs}
 use Rattle.cfi_files.specs.Reads.{Content}
 use Rattle.cfi_tool.specs.Request.{Request, WritesNone, asks, compare as compares, demo as demos, rewrite as rewrites, run as runs, verify as verifies}
 use Rattle.cfi_files.specs.Writes.{AreApart, OutputParts}
-use Rattle.cfi_harden.specs.Hardened.{HardenedParts}
+use Rattle.cfi_writer.specs.Hardened.{HardenedParts}
 use Rattle.cfi_commands.specs.declared.rewrite.Rewritten.{Rewritten}
 use Rattle.cfi_commands.specs.declared.rewrite.RewriteOutcome.TheVariants as outcome
 use Rattle.cfi_tool.specs.declared.outcome.Outcome.{Outcome}

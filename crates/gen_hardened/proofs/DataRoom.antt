@@ -12,7 +12,7 @@ use Rattle.obj_items.specs.ProgramOf.{program_of}
 use Rattle.cfi_gen.specs.declared.function.Function.{Function}
 use Rattle.cfi_gen.specs.Demo.{table_bytes}
 use Rattle.gen_program.specs.Generated.{IsGenerated}
-use Rattle.cfi_harden.specs.Hardened.{HasDataRoom}
+use Rattle.cfi_harden.specs.Room.{HasDataRoom}
 
 -- the bytes of the table
 table_length : length table_bytes ≡ 16000

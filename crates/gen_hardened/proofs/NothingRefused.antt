@@ -23,7 +23,7 @@ use Rattle.gen_program.proofs.Reading.{generated_is}
 use Rattle.cfi_harden.specs.declared.refusal.Refusal.{Refusal}
 use Rattle.cfi_harden.specs.declared.refusal.Refusal.TheVariants.{Object, Items, NoEntry, Policy, CodeTooLarge, DataTooLarge, RelocRange}
 use Rattle.cfi_harden.specs.Given.{RefusesGiven, alone}
-use Rattle.cfi_harden.specs.Hardened.{HasDataRoom}
+use Rattle.cfi_harden.specs.Room.{HasDataRoom}
 use Rattle.cfi_harden.specs.Prepared.{IsPreparedOf, PreparedParts}
 use Rattle.cfi_harden.specs.Refused.{RefusesProgram}
 use Rattle.cfi_harden.specs.Request.{program_request}

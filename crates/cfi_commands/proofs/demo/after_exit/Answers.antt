@@ -1,5 +1,5 @@
 use Rattle.std.proofs.Common.{List, ℕ, subst}
-use Rattle.cfi_harden.specs.Hardened.{HardenedParts}
+use Rattle.cfi_writer.specs.Hardened.{HardenedParts}
 use Rattle.gen_hardened.specs.Laws.{entered}
 use Rattle.cfi_commands.specs.Demo.{IsComparedAt}
 use Rattle.cfi_commands.specs.Demonstration.{IsAnswerAt}

@@ -2,7 +2,7 @@ use Rattle.std.proofs.Common.{◌∙◌, List, [], ℕ, ap, rules, subst, sym}
 use Rattle.rv_word.specs.Form.{image_version}
 use Rattle.rv_word.specs.Image.{Contents, image_profile}
 use Rattle.cfi_rules.specs.Rules.{IsWellFormed}
-use Rattle.cfi_harden.specs.Hardened.{HardenedParts}
+use Rattle.cfi_writer.specs.Hardened.{HardenedParts}
 use Rattle.cfi_harden.specs.Request.{program_request}
 use Rattle.gen_hardened.specs.Laws.{entered}
 use Rattle.cfi_report.specs.SafeRun.{IsSafeRun, undisturbed_script}

@@ -1,5 +1,0 @@
-use Rattle.cfi_harden.proofs.PlaceLines.{ArePlaces}
-use Rattle.cfi_harden.proofs.chosen.Chosen.map_lines.Given as goal
-
-abbrev pub invariant-loop-k : goal.invariant-loop-k
-invariant-loop-k l = ArePlaces l.self.layout l.k l.lines.items

@@ -1,0 +1,161 @@
+-- Each unit that is written may stand where it does: its fields are in range, and its jumps reach what lies in the region of code.
+use Rattle.std.proofs.Common.{◌≡◌, ◌≢◌, ℕ, ◌+◌, ◌*◌, ◌%◌, ◌^◌, ◌≤◌, ◌<◌, Bool, true, false, refl, sym, ap, ◌∙◌, lit<, arith}
+use Rattle.std.specs.Prelude.{◌&&◌, ◌||◌, ◌==◌, not}
+use Rattle.std.proofs.lemmas.Bool.{and_from, and_parts, not-true, or_parts}
+use Rattle.rv_word.specs.MemoryMap.{CODE_SIZE, CODE_START, START}
+use Rattle.rv_instr.specs.InRange.{IsInstr}
+use Rattle.rv_instr.specs.Reserved.{is_reserved}
+use Rattle.rv_instr.specs.declared.instr.Instr.{Instr}
+use Rattle.rv_instr.specs.declared.instr.Instr.TheVariants as I
+use Rattle.rv_instr.specs.declared.instr.UpperOp.{UpperOp}
+use Rattle.rv_instr.specs.declared.instr.UpperOp.TheVariants.{Lui, Auipc}
+use Rattle.obj_input.specs.declared.item_kind.ItemKind.{ItemKind}
+use Rattle.obj_input.specs.declared.item_kind.ItemKind.TheVariants as is
+use Rattle.obj_program.specs.Sound.{is_direct}
+use Rattle.obj_program.specs.Suits as of
+use Rattle.cfi_unit.specs.UnitWords.{BAD_RETURN, BAD_TARGET, DEEP, Fits, IsNear, Reaches, is_lui, is_plain, word_count}
+use Rattle.cfi_unit.proofs.Near.{branch_reached, near_reached}
+use Rattle.cfi_map.specs.Shorts.{is_branch}
+use Rattle.cfi_rules.proofs.PlacedRows.{one_member}
+use Rattle.cfi_unit.specs.declared.target_word.TargetWord.{TargetWord}
+use Rattle.cfi_writer.specs.Units.{unit_of}
+use Rattle.cfi_writer.proofs.UnitOf.{is_right}
+
+-- a register that is not named is not reserved
+named_none : (a b c d : Bool) → not (a || b || c || d) ≡ true → (a ≡ false) × (b ≡ false) × (c ≡ false) × (d ≡ false)
+named_none a b c d none =
+    let all = not-true (a || b || c || d) none in
+    let three = or_parts (a || b || c) d all in
+    let two = or_parts (a || b) c three.0 in
+    let one = or_parts a b two.0 in
+    (one.0, one.1, two.1, three.1)
+
+kept_free : (rd : ℕ) → (rd == 3) ≡ false → (rd == 4) ≡ false → (rd == 30) ≡ false → (rd == 31) ≡ false → not (is_reserved rd) ≡ true
+kept_free rd a b c d = rw (a, b, c, d) refl
+
+-- of one register, of two, of three
+free_one : (rd : ℕ) → not ((rd == 3) || (rd == 4) || (rd == 30) || (rd == 31)) ≡ true → not (is_reserved rd) ≡ true
+free_one rd none =
+    let all = named_none (rd == 3) (rd == 4) (rd == 30) (rd == 31) none in
+    kept_free rd all.0 all.1 all.2 all.3
+
+free_two : (rd r : ℕ) → not ((rd == 3 || r == 3) || (rd == 4 || r == 4) || (rd == 30 || r == 30) || (rd == 31 || r == 31)) ≡ true → not (is_reserved rd) ≡ true
+free_two rd r none =
+    let all = named_none (rd == 3 || r == 3) (rd == 4 || r == 4) (rd == 30 || r == 30) (rd == 31 || r == 31) none in
+    kept_free rd (or_parts (rd == 3) (r == 3) all.0).0 (or_parts (rd == 4) (r == 4) all.1).0 (or_parts (rd == 30) (r == 30) all.2).0 (or_parts (rd == 31) (r == 31) all.3).0
+
+free_three : (rd r s : ℕ) → not ((rd == 3 || r == 3 || s == 3) || (rd == 4 || r == 4 || s == 4) || (rd == 30 || r == 30 || s == 30) || (rd == 31 || r == 31 || s == 31)) ≡ true →
+    not (is_reserved rd) ≡ true
+free_three rd r s none =
+    let all = named_none (rd == 3 || r == 3 || s == 3) (rd == 4 || r == 4 || s == 4) (rd == 30 || r == 30 || s == 30) (rd == 31 || r == 31 || s == 31) none in
+    kept_free rd (or_parts (rd == 3) (r == 3) (or_parts (rd == 3 || r == 3) (s == 3) all.0).0).0 (or_parts (rd == 4) (r == 4) (or_parts (rd == 4 || r == 4) (s == 4) all.1).0).0
+    (or_parts (rd == 30) (r == 30) (or_parts (rd == 30 || r == 30) (s == 30) all.2).0).0 (or_parts (rd == 31) (r == 31) (or_parts (rd == 31 || r == 31) (s == 31) all.3).0).0
+
+same_gate : (op : UpperOp) (rd : ℕ) → of.is_gate op rd ≡ (is_lui op && (rd == 0))
+same_gate Lui rd = refl
+same_gate Auipc rd = refl
+
+-- a plain instruction of a program is one of a unit
+plain_is : (i : Instr) → (of.is_plain i && not (of.names_reserved i)) ≡ true → is_plain i ≡ true
+plain_is (I.Upper op rd imm) right =
+    let parts = and_parts (not (of.is_gate op rd)) (not (of.names_reserved (I.Upper op rd imm))) right in
+    and_from (not (is_reserved rd)) (not (is_lui op && (rd == 0))) (free_one rd parts.1) (ap not (sym (same_gate op rd)) ∙ parts.0)
+plain_is (I.Load op rd rs1 imm) right = free_two rd rs1 right
+plain_is (I.Immediate op rd rs1 imm) right = free_two rd rs1 right
+plain_is (I.Shift op rd rs1 amount) right = free_two rd rs1 right
+plain_is (I.ShiftWord op rd rs1 amount) right = free_two rd rs1 right
+plain_is (I.Register op rd rs1 rs2) right = free_three rd rs1 rs2 right
+plain_is (I.Fence word) right = refl
+plain_is other right = absurd (cc)
+
+-- an address in the region of code
+pub record IsInCode (a : ℕ) : Type 0 where
+  pub from : CODE_START ≤ a
+  pub to : a < CODE_START + CODE_SIZE
+  pub round : a % 4 ≡ 0
+
+pub reach : (from to : ℕ) → IsInCode from → IsInCode to → Reaches from to
+reach from to a b =
+    let low = a.from in
+    let high = a.to in
+    let round = a.round in
+    let low_to = b.from in
+    let high_to = b.to in
+    let round_to = b.round in
+    near_reached from to (omega arith) (omega arith) (omega arith) (omega arith) (omega arith)
+
+in_code : (a n : ℕ) → START ≤ a → a + n < CODE_START + CODE_SIZE → a % 4 ≡ 0 → n % 4 ≡ 0 → IsInCode (a + n)
+in_code a n low high round times = record { from = omega arith; to = high; round = omega arith }
+
+bad_target_in : IsInCode BAD_TARGET
+bad_target_in = record { from = omega arith; to = omega arith; round = refl }
+
+bad_return_in : IsInCode BAD_RETURN
+bad_return_in = record { from = omega arith; to = omega arith; round = refl }
+
+deep_in : IsInCode DEEP
+deep_in = record { from = omega arith; to = omega arith; round = refl }
+
+-- where a direct transfer leads: past the handlers
+pub record IsThere (target : ℕ) : Type 0 where
+  pub from : START ≤ target
+  pub to : target + 4 ≤ CODE_START + CODE_SIZE
+  pub round : target % 4 ≡ 0
+
+target_in_code : (target : ℕ) → IsThere target → IsInCode target
+target_in_code target there =
+    let from = there.from in
+    let to = there.to in
+    record { from = omega arith; to = omega arith; round = there.round }
+
+no_handler : (target : ℕ) → IsThere target → target ≢ BAD_TARGET
+no_handler target there e = let from = there.from in absurd (omega arith)
+
+pub near_target : (a target : ℕ) → START ≤ a → a < CODE_START + CODE_SIZE → a % 4 ≡ 0 → IsThere target → a ≤ target + 4096 → target ≤ a + 4092 → IsNear a target
+near_target a target low high round there back ahead =
+    let from = there.from in
+    let to = there.to in
+    let even = there.round in
+    branch_reached a target (omega arith) (omega arith) (omega arith) (omega arith) (omega arith)
+
+pub unit_fits : (kind : ItemKind) (i : Instr) (whole : Bool) (target : ℕ) (which : TargetWord) (label a : ℕ) → is_right kind i ≡ true → IsInstr i → label < 2 ^ 20 →
+    START ≤ a → a + 4 * word_count (unit_of kind i whole target which label) ≤ CODE_START + CODE_SIZE → a % 4 ≡ 0 → (is_direct kind ≡ true → IsThere target) →
+    (is_branch kind ≡ true → whole ≡ false → (a ≤ target + 4096) × (target ≤ a + 4092)) → Fits (unit_of kind i whole target which label) a
+unit_fits is.Gate (I.Upper op rd imm) whole target which label a right range small low high round there near = range.1
+unit_fits is.Plain i whole target which label a right range small low high round there near = (range, plain_is i right)
+unit_fits is.Store (I.Store op rs1 rs2 imm) whole target which label a right range small low high round there near =
+    (range.0, range.2, one_member (record { op = op; value = rs2; distance = 0 }) (range.1, lit< tt))
+unit_fits is.System I.Ecall whole target which label a right range small low high round there near = tt
+unit_fits is.System I.Ebreak whole target which label a right range small low high round there near = tt
+unit_fits is.Branch (I.Branch op rs1 rs2 imm) true target which label a right range small low high round there near =
+    (range.0, range.1, reach (a + 4) target (in_code a 4 low (omega arith) round refl) (target_in_code target (there refl)))
+unit_fits is.Branch (I.Branch op rs1 rs2 imm) false target which label a right range small low high round there near =
+    (range.0, range.1, let bounds = near refl refl in near_target a target low (omega arith) round (there refl) bounds.0 bounds.1)
+unit_fits is.Jump i whole target which label a right range small low high round there near =
+    let here : IsInCode a = record { from = omega arith; to = omega arith; round = round } in
+    (no_handler target (there refl), reach a target here (target_in_code target (there refl)))
+unit_fits is.Call i whole target which label a right range small low high round there near =
+    (reach (a + 8) DEEP (in_code a 8 low (omega arith) round refl) deep_in, reach (a + 28) target (in_code a 28 low (omega arith) round refl) (target_in_code target (there refl)))
+unit_fits is.Return i whole target which label a right range small low high round there near =
+    reach (a + 12) BAD_RETURN (in_code a 12 low (omega arith) round refl) bad_return_in
+unit_fits is.Ijump (I.Jalr rd rs1 imm) whole target which label a right range small low high round there near = (
+  range.1,
+  range.2,
+  small,
+  reach (a + 24) BAD_TARGET (in_code a 24 low (omega arith) round refl) bad_target_in,
+  reach (a + 44) BAD_TARGET (in_code a 44 low (omega arith) round refl) bad_target_in,
+)
+unit_fits is.Icall (I.Jalr rd rs1 imm) whole target which label a right range small low high round there near = (
+  (
+    range.1,
+    range.2,
+    small,
+    reach (a + 24) BAD_TARGET (in_code a 24 low (omega arith) round refl) bad_target_in,
+    reach (a + 44) BAD_TARGET (in_code a 44 low (omega arith) round refl) bad_target_in,
+  ),
+  reach (a + 56) DEEP (in_code a 56 low (omega arith) round refl) deep_in,
+)
+unit_fits is.End i whole target which label a right range small low high round there near =
+    let here : IsInCode a = record { from = omega arith; to = omega arith; round = round } in
+    reach a BAD_TARGET here bad_target_in
+unit_fits kind i whole target which label a right range small low high round there near = absurd (cc)

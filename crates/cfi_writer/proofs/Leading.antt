@@ -1,0 +1,259 @@
+-- Where direct transfers lead; each unit fits, and no short branch leads over just a jump or a stop.
+use Rattle.std.proofs.Common.{◌≡◌, ℕ, ◌+◌, ◌*◌, ◌^◌, ◌≤◌, ◌<◌, ◌==◌, inl, inr, Bool, true, false, length, Option, Some, None, refl, sym, ap, subst, ◌∙◌, lit<, arith}
+use Rattle.std.specs.Prelude.{◌&&◌, not, nat_lt, slice_get, slice_index}
+use Rattle.std.proofs.lemmas.Bool.{and_from, and_parts, cases_lt, cases_order, eq-eqb, ltb-true}
+use Rattle.std.proofs.lemmas.List.{get_or_past}
+use Rattle.std.proofs.lemmas.Option.{get_or_from_slice_get, same_Some}
+use Rattle.rv_word.specs.Bits.{wrap}
+use Rattle.rv_word.specs.MemoryMap.{START}
+use Rattle.rv_instr.specs.declared.instr.Instr.{Instr}
+use Rattle.rv_instr.specs.declared.instr.Instr.TheVariants as I
+use Rattle.rv_code.specs.Step.{offset}
+use Rattle.obj_input.specs.declared.item_kind.ItemKind.{ItemKind}
+use Rattle.obj_input.specs.declared.item_kind.ItemKind.TheVariants as is
+use Rattle.obj_program.specs.Program.{Program, count, is_end, item_of}
+use Rattle.obj_program.specs.Sound.{aims, is_direct}
+use Rattle.cfi_map.specs.GraphAtMap.{gate, gate_to, word}
+use Rattle.cfi_map.specs.LabelOf.{labels_of, site_label}
+use Rattle.cfi_map.specs.Placement.{whole_at}
+use Rattle.cfi_closed.specs.Closed.{is_target}
+use Rattle.cfi_unit.specs.declared.target_word.TargetWord.{TargetWord}
+use Rattle.cfi_unit.specs.declared.unit.Unit as U
+use Rattle.cfi_unit.specs.declared.unit.Unit.TheVariants as V
+use Rattle.cfi_unit.specs.UnitWords.{Fits, IsNear, near_offset, skip_offset, word_count}
+use Rattle.cfi_rules.specs.Placed.{AllAhead, AllFit}
+use Rattle.cfi_rules.specs.Split.{unit_in}
+use Rattle.cfi_rules.proofs.Ahead.{IsShortSkip, all_ahead, all_fit, is_jump_unit}
+use Rattle.cfi_writer.specs.Accepted.{IsAccepted}
+use Rattle.cfi_map.specs.Shorts.{is_branch, is_kept, is_skipped}
+use Rattle.cfi_writer.specs.Units.{Choice, instr_of, lead_unit, unit_for, unit_of, units}
+use Rattle.cfi_writer.proofs.Fitting.{IsThere, near_target, unit_fits}
+use Rattle.cfi_writer.proofs.Runs.{IsUnit, from_lead, lead_cases, lead_word, own}
+use Rattle.cfi_writer.proofs.SideLabels.{label_in, site_small}
+use Rattle.cfi_writer.proofs.Standing.{at_gate, found, gate_after, gate_lies, gates_rise, instr_in_range, laid, lead_there, right, unit_lies, unit_there}
+use Rattle.cfi_writer.proofs.UnitOf.{is_right}
+
+aims_there : (program : Program) (kind : ItemKind) (o : Option ℕ) → is_direct kind ≡ true → aims program kind o ≡ true →
+    (t : ℕ) × (o ≡ Some t) × (t < count program)
+aims_there program kind None direct aim = let wrong : false ≡ true = rw direct at aim in absurd (cc)
+aims_there program kind (Some t) direct aim =
+    let parts = and_parts (is_direct kind && nat_lt t (count program)) (not (is_end (item_of program t).kind)) aim in
+    let two = and_parts (is_direct kind) (nat_lt t (count program)) parts.0 in
+    (t, refl, ltb-true t (count program) two.1)
+
+branch_leads : (kind : ItemKind) → is_branch kind ≡ true → is_direct kind ≡ true
+branch_leads is.Branch e = refl
+branch_leads other e = absurd (cc)
+
+branch_goes_on : (kind : ItemKind) → is_branch kind ≡ true → is_end kind ≡ true → ⊥
+branch_goes_on is.Branch e last = absurd (cc)
+branch_goes_on other e last = absurd (cc)
+
+-- only a short branch over one word is a short skip
+skip_kind : (kind : ItemKind) (i : Instr) (whole : Bool) (target : ℕ) (which : TargetWord) (label a : ℕ) → is_right kind i ≡ true → IsShortSkip (unit_of kind i whole target which label) a →
+    (is_branch kind ≡ true) × (whole ≡ false) × (near_offset a target ≡ skip_offset) × (word_count (unit_of kind i whole target which label) ≡ 1)
+skip_kind is.Branch (I.Branch op rs1 rs2 imm) false target which label a right skip = (refl, refl, skip, refl)
+skip_kind is.Branch (I.Branch op rs1 rs2 imm) true target which label a right skip = absurd skip
+skip_kind is.Gate (I.Upper op rd imm) whole target which label a right skip = absurd skip
+skip_kind is.Plain i whole target which label a right skip = absurd skip
+skip_kind is.Store (I.Store op rs1 rs2 imm) whole target which label a right skip = absurd skip
+skip_kind is.System I.Ecall whole target which label a right skip = absurd skip
+skip_kind is.System I.Ebreak whole target which label a right skip = absurd skip
+skip_kind is.Jump i whole target which label a right skip = absurd skip
+skip_kind is.Call i whole target which label a right skip = absurd skip
+skip_kind is.Return i whole target which label a right skip = absurd skip
+skip_kind is.Ijump (I.Jalr rd rs1 imm) whole target which label a right skip = absurd skip
+skip_kind is.Icall (I.Jalr rd rs1 imm) whole target which label a right skip = absurd skip
+skip_kind is.End i whole target which label a right skip = absurd skip
+skip_kind kind i whole target which label a right skip = absurd (cc)
+
+-- what begins with a jump is a jump or a stop
+jump_kind : (kind : ItemKind) (i : Instr) (whole : Bool) (target : ℕ) (which : TargetWord) (label : ℕ) → is_right kind i ≡ true → is_jump_unit (unit_of kind i whole target which label) ≡ true →
+    is_skipped kind false ≡ true
+jump_kind is.Jump i whole target which label right jump = refl
+jump_kind is.End i whole target which label right jump = refl
+jump_kind is.Branch (I.Branch op rs1 rs2 imm) false target which label right jump = absurd (cc)
+jump_kind is.Branch (I.Branch op rs1 rs2 imm) true target which label right jump = absurd (cc)
+jump_kind is.Gate (I.Upper op rd imm) whole target which label right jump = absurd (cc)
+jump_kind is.Plain i whole target which label right jump = absurd (cc)
+jump_kind is.Store (I.Store op rs1 rs2 imm) whole target which label right jump = absurd (cc)
+jump_kind is.System I.Ecall whole target which label right jump = absurd (cc)
+jump_kind is.System I.Ebreak whole target which label right jump = absurd (cc)
+jump_kind is.Call i whole target which label right jump = absurd (cc)
+jump_kind is.Return i whole target which label right jump = absurd (cc)
+jump_kind is.Ijump (I.Jalr rd rs1 imm) whole target which label right jump = absurd (cc)
+jump_kind is.Icall (I.Jalr rd rs1 imm) whole target which label right jump = absurd (cc)
+jump_kind kind i whole target which label right jump = absurd (cc)
+
+jump_size : (u : U.Unit) → is_jump_unit u ≡ true → word_count u ≡ 1
+jump_size (V.Jump target) e = refl
+jump_size V.Stop e = refl
+jump_size other e = absurd (cc)
+
+skips_to : (at target : ℕ) → at < 2 ^ 63 → IsNear at target → near_offset at target ≡ skip_offset → target ≡ at + 8
+skips_to at target low near skip =
+    let here : wrap (at + offset 13 (skip_offset * 2)) ≡ target = ap (λ n. wrap (at + offset 13 (n * 2))) (sym skip) ∙ near in
+    omega arith
+
+-- a word before a unit fits, is no jump and no short branch
+lead_fits : (o : Option ℕ) (a : ℕ) → ((label : ℕ) → o ≡ Some label → label < 2 ^ 20) → Fits (lead_unit o) a
+lead_fits None a small = ((lit< tt, lit< tt, lit< tt), refl)
+lead_fits (Some label) a small = small label refl
+
+no_lead_jump : (o : Option ℕ) → is_jump_unit (lead_unit o) ≡ false
+no_lead_jump None = refl
+no_lead_jump (Some label) = refl
+
+no_lead_skip : (o : Option ℕ) (a : ℕ) → IsShortSkip (lead_unit o) a → ⊥
+no_lead_skip None a skip = skip
+no_lead_skip (Some label) a skip = skip
+
+module _ (m : Choice) (ok : IsAccepted m) where
+  pub direct : (k : ℕ) → k < count m.layout.program → is_direct (item_of m.layout.program k).kind ≡ true →
+      (t : ℕ) × ((item_of m.layout.program k).target ≡ Some t) × (t < count m.layout.program)
+  direct k below leads = aims_there m.layout.program (item_of m.layout.program k).kind (item_of m.layout.program k).target leads (ok.sound.targets k below)
+
+  -- what stands in the code stands past the handlers
+  past_handlers : (a : ℕ) → m.layout.profile.units_from ≤ a → START ≤ a
+  past_handlers a from = let low = (laid m ok).low in omega arith
+
+  gate_in : (t : ℕ) → t < count m.layout.program → IsThere (gate m.layout t)
+  gate_in t below = let (from, to, round) = gate_lies m ok t below in record { from = past_handlers (gate m.layout t) from; to = to; round = round }
+
+  target_in : (k : ℕ) → k < count m.layout.program → is_direct (item_of m.layout.program k).kind ≡ true →
+      IsThere (gate_to m.layout (item_of m.layout.program k).target)
+  target_in k below leads =
+      let (t, some, there) = direct k below leads in
+      subst (λ (o : Option ℕ). IsThere (gate_to m.layout o)) (sym some) (gate_in t there)
+
+  pub label_small : (n : ℕ) → slice_index m.labels n < 2 ^ 20
+  label_small n =
+      elim (cases_lt n (length m.labels)) [
+        | inl there ↦ ok.labels_small n 0 there
+        | inr past ↦ let none = get_or_past m.labels n 0 past in rw none (lit< tt)
+      ]
+
+  pub asked_small : (k : ℕ) → site_label m.labels m.layout.closed.sides k < 2 ^ 20
+  asked_small k = site_small m.labels m.layout.closed.sides k (2 ^ 20) (lit< tt) label_small
+
+  short_near : (k : ℕ) → k < count m.layout.program → is_branch (item_of m.layout.program k).kind ≡ true → whole_at m.whole k ≡ false →
+      (word m.layout k ≤ gate_to m.layout (item_of m.layout.program k).target + 4096) × (gate_to m.layout (item_of m.layout.program k).target ≤ word m.layout k + 4092)
+  short_near k below branch short =
+      let (t, some, there) = direct k below (branch_leads (item_of m.layout.program k).kind branch) in
+      let at = ok.shorts k t below branch short some in
+      subst (λ (o : Option ℕ). (word m.layout k ≤ gate_to m.layout o + 4096) × (gate_to m.layout o ≤ word m.layout k + 4092)) (sym some) (at.back, at.ahead)
+
+  own_fits : (k : ℕ) → k < count m.layout.program → Fits (unit_for m k (item_of m.layout.program k)) (word m.layout k)
+  own_fits k below =
+      let at = unit_lies m ok (word m.layout k) (unit_for m k (item_of m.layout.program k)) (unit_there m ok k below) in
+      unit_fits (item_of m.layout.program k).kind (instr_of m k) (whole_at m.whole k) _ _ _ (word m.layout k) (right m ok k below) (instr_in_range m ok k below)
+      (asked_small k) (past_handlers (word m.layout k) at.from) at.to at.round (target_in k below) (short_near k below)
+
+  small_label : (k j label : ℕ) → slice_get (labels_of m.labels m.layout.closed.sides k) j ≡ Some (Some label) → label < 2 ^ 20
+  small_label k j label e =
+      let (n, is) = label_in m.labels m.layout.closed.sides k j label e in
+      subst (λ (x : ℕ). x < 2 ^ 20) (get_or_from_slice_get m.labels n label 0 is) (label_small n)
+
+  is_fit : (k a : ℕ) (u : U.Unit) → k < count m.layout.program → IsUnit m k (item_of m.layout.program k) a u → Fits u a
+  is_fit k a u below (lead_word j get here) =
+      let (o, at, same) = from_lead m k j u get in
+      subst (λ (v : U.Unit). Fits v a) same (lead_fits o a (λ label some. small_label k j label (at ∙ ap Some some)))
+  is_fit k a u below (own here unit_is) =
+      subst (λ (v : U.Unit). Fits v a) (sym unit_is) (subst (λ (b : ℕ). Fits (unit_for m k (item_of m.layout.program k)) b) (sym here) (own_fits k below))
+
+  pub units_fit : AllFit m.layout.profile.units_from (units m)
+  units_fit = all_fit (units m) m.layout.profile.units_from (λ a u e. let at = found m ok a u e in is_fit at.index a u at.below at.unit)
+
+  -- the place after a branch
+  goes_on : (k : ℕ) → k < count m.layout.program → is_branch (item_of m.layout.program k).kind ≡ true → k + 1 < count m.layout.program
+  goes_on k below branch =
+      elim (cases_lt (k + 1) (count m.layout.program)) [
+        | inl more ↦ more
+        | inr last ↦
+            let (n, counted, ends) = ok.last in
+            let same : n ≡ k = omega arith in
+            absurd (branch_goes_on (item_of m.layout.program k).kind branch (ap (λ j. is_end (item_of m.layout.program j).kind) (sym same) ∙ ends))
+      ]
+
+  -- two places after a jump without words before it at the next one
+  second_after : (k t : ℕ) → k + 1 < count m.layout.program → t < count m.layout.program → gate m.layout t ≡ gate m.layout (k + 1) + 4 → word m.layout (k + 1) ≡ gate m.layout (k + 1) →
+      word_count (unit_for m (k + 1) (item_of m.layout.program (k + 1))) ≡ 1 → t ≡ k + 2
+  second_after k t more there four at one =
+      elim (cases_order t (k + 2)) [
+        | inl same ↦ same
+        | inr other ↦ elim other [
+          | inl before ↦ elim (cases_order t (k + 1)) [
+            | inl same ↦ let e : gate m.layout t ≡ gate m.layout (k + 1) = ap (gate m.layout) same in absurd (omega arith)
+            | inr apart ↦ elim apart [
+              | inl less ↦ let rise = gates_rise m ok t (k + 1) less more in absurd (omega arith)
+              | inr past ↦ absurd (omega arith)
+            ]
+          ]
+          | inr behind ↦
+              let after = gate_after m ok (k + 1) (omega arith) in
+              let two : k + 1 + 1 ≡ k + 2 = omega arith in
+              let next : gate m.layout (k + 1 + 1) ≡ gate m.layout (k + 2) = ap (gate m.layout) two in
+              let rise = gates_rise m ok (k + 2) t behind there in
+              absurd (omega arith)
+        ]
+      ]
+
+  skip_own : (k : ℕ) (v : U.Unit) → k < count m.layout.program →
+      unit_in (units m) m.layout.profile.units_from (word m.layout k + 4 * word_count (unit_for m k (item_of m.layout.program k))) ≡ Some v → is_jump_unit v ≡ true →
+      IsShortSkip (unit_for m k (item_of m.layout.program k)) (word m.layout k) → ⊥
+  skip_own k v below next jump skip =
+      let s = skip_kind (item_of m.layout.program k).kind (instr_of m k) (whole_at m.whole k) _ _ _ (word m.layout k) (right m ok k below) skip in
+      let (t, some, there) = direct k below (branch_leads (item_of m.layout.program k).kind s.0) in
+      let short = ok.shorts k t below s.0 s.1 some in
+      let back = short.back in
+      let ahead = short.ahead in
+      let more = goes_on k below s.0 in
+      let after = gate_after m ok k more in
+      let at = unit_lies m ok (word m.layout k) (unit_for m k (item_of m.layout.program k)) (unit_there m ok k below) in
+      let from = at.from in
+      let to = at.to in
+      let one = s.3 in
+      let near : IsNear (word m.layout k) (gate m.layout t) = near_target (word m.layout k) (gate m.layout t) (past_handlers (word m.layout k) from) (omega arith) at.round (gate_in t there) back ahead in
+      let to_gate : near_offset (word m.layout k) (gate m.layout t) ≡ skip_offset = ap (λ (o : Option ℕ). near_offset (word m.layout k) (gate_to m.layout o)) (sym some) ∙ s.2 in
+      let two : gate m.layout t ≡ word m.layout k + 8 = skips_to (word m.layout k) (gate m.layout t) (omega arith) near to_gate in
+      let here : unit_in (units m) m.layout.profile.units_from (gate m.layout (k + 1)) ≡ Some v = ap (unit_in (units m) m.layout.profile.units_from) after ∙ next in
+      elim (lead_cases m (k + 1)) [
+        | inr (o, first) ↦
+            let start : gate m.layout (k + 1) ≡ gate m.layout (k + 1) + 4 * 0 = omega arith in
+            let same : lead_unit o ≡ v =
+            same_Some (lead_unit o) v
+            (sym (lead_there m ok (k + 1) 0 (lead_unit o) more first) ∙ ap (unit_in (units m) m.layout.profile.units_from) (sym start) ∙ here) in
+            let wrong : false ≡ true = sym (no_lead_jump o) ∙ ap is_jump_unit same ∙ jump in
+            absurd (cc)
+        | inl (none, no_target) ↦
+            let stands = at_gate m ok (k + 1) none in
+            let same : unit_for m (k + 1) (item_of m.layout.program (k + 1)) ≡ v =
+            same_Some _ v (sym (unit_there m ok (k + 1) more) ∙ ap (unit_in (units m) m.layout.profile.units_from) stands ∙ here) in
+            let jumps = ap is_jump_unit same ∙ jump in
+            let skipped : is_skipped (item_of m.layout.program (k + 1)).kind false ≡ true =
+            jump_kind (item_of m.layout.program (k + 1)).kind (instr_of m (k + 1)) (whole_at m.whole (k + 1)) _ _ _ (right m ok (k + 1) more) jumps in
+            let second : t ≡ k + 2 = second_after k t more there (omega arith) stands (jump_size _ jumps) in
+            let held : is_kept m.layout.program m.layout.closed k t ≡ true =
+            and_from (t == k + 2) (is_skipped (item_of m.layout.program (k + 1)).kind (is_target m.layout.closed.sides (k + 1))) (eq-eqb t (k + 2) second)
+            (ap (is_skipped (item_of m.layout.program (k + 1)).kind) no_target ∙ skipped) in
+            let wrong : true ≡ false = sym held ∙ short.free in
+            absurd (cc)
+      ]
+
+  no_skip : (k a : ℕ) (u v : U.Unit) → k < count m.layout.program → IsUnit m k (item_of m.layout.program k) a u → unit_in (units m) m.layout.profile.units_from (a + 4 * word_count u) ≡ Some v →
+      is_jump_unit v ≡ true → IsShortSkip u a → ⊥
+  no_skip k a u v below (lead_word j get here) next jump skip =
+      let (o, at, same) = from_lead m k j u get in
+      no_lead_skip o a (subst (λ (w : U.Unit). IsShortSkip w a) (sym same) skip)
+  no_skip k a u v below (own here unit_is) next jump skip =
+      let own_skip : IsShortSkip (unit_for m k (item_of m.layout.program k)) (word m.layout k) =
+      subst (λ (b : ℕ). IsShortSkip (unit_for m k (item_of m.layout.program k)) b) here (subst (λ (w : U.Unit). IsShortSkip w a) unit_is skip) in
+      let own_next : unit_in (units m) m.layout.profile.units_from (word m.layout k + 4 * word_count (unit_for m k (item_of m.layout.program k))) ≡ Some v =
+      subst (λ (b : ℕ). unit_in (units m) m.layout.profile.units_from (b + 4 * word_count (unit_for m k (item_of m.layout.program k))) ≡ Some v) here
+      (subst (λ (w : U.Unit). unit_in (units m) m.layout.profile.units_from (a + 4 * word_count w) ≡ Some v) unit_is next) in
+      skip_own k v below own_next jump own_skip
+
+  pub units_ahead : AllAhead m.layout.profile.units_from (units m)
+  units_ahead =
+      all_ahead (units m) m.layout.profile.units_from units_fit
+      (λ a u v e next jump skip. let at = found m ok a u e in no_skip at.index a u v at.below at.unit next jump skip)

@@ -1,0 +1,197 @@
+-- The lines of classes and of places, one after another.
+use Rattle.std.proofs.Common.{◌≡◌, ℕ, zero, suc, ◌+◌, ◌<◌, ◌≤◌, ◌-◌, Option, Some, None, List, [], ◌∷◌, ◌++◌, refl, length, map, take, drop, arith, ap, ◌∙◌, sym, subst, append_assoc, append-nil, get_or, Contains}
+use Rattle.std.specs.Prelude.{slice_get, slice_index, slice_index_or}
+use Rattle.std.specs.List.{All}
+use Rattle.std.proofs.Math.ListN.{drop_of_length-le}
+use Rattle.std.proofs.Math.Seq.{drop-cons, take-suc}
+use Rattle.std.proofs.lemmas.List.{get_or_append_left, get_or-append-add, drop_more, get_or_default, length-drop, length-map, map-append, take_all}
+use Rattle.std.proofs.lemmas.Option.{get_or_from_slice_get, slice_get_within}
+use Rattle.rv_word.specs.MemoryMap.{START}
+use Rattle.obj_program.specs.declared.item.Item.{Item}
+use Rattle.obj_program.specs.Program.{count, item_of, no_item}
+use Rattle.cfi_graph.specs.declared.line.GraphLine.{GraphLine}
+use Rattle.cfi_graph.specs.declared.line.GraphLine.TheVariants as line
+use Rattle.cfi_graph.specs.declared.line.Sort.{Sort}
+use Rattle.cfi_graph.specs.Graph.{line_of_class}
+use Rattle.cfi_class.specs.Classes.{IsIn}
+use Rattle.cfi_closed.specs.declared.side.Site.{Site}
+use Rattle.cfi_closed.specs.Closed.{Side}
+use Rattle.cfi_map.specs.GraphAtMap.{ProgramAtMap, class_lines, gate, graph_lines, line_for, place_lines, with_line}
+use Rattle.cfi_map.specs.LabelOf.{Tagged, all_classes, empty_classes, tag, tagged, with_empty}
+use Rattle.cfi_writer.specs.Accepted.{IsAccepted}
+use Rattle.cfi_writer.specs.Chosen.{labels_before}
+use Rattle.cfi_writer.specs.Units.{Choice}
+use Rattle.cfi_writer.proofs.SideLabels.{drop_more as drop_twice}
+use Rattle.cfi_writer.proofs.Starts.{before_first, before_next, counted_at}
+
+-- these are lines before those of the places from index k on
+abbrev pub AreLines : ProgramAtMap → List ℕ → ℕ → List GraphLine → List GraphLine → Type 0
+AreLines layout labels k first whole = first ++ place_lines layout labels k (drop k layout.program.items) ≡ whole
+
+split_line : (one : Option GraphLine) (rest : List GraphLine) → with_line one [] ++ rest ≡ with_line one rest
+split_line None rest = refl
+split_line (Some one) rest = refl
+
+pub next_lines : (layout : ProgramAtMap) (labels : List ℕ) (k : ℕ) (first more whole : List GraphLine) → k < count layout.program
+    → AreLines layout labels k first whole → more ≡ first ++ with_line (line_for layout labels k (item_of layout.program k)) []
+    → AreLines layout labels (k + 1) more whole
+unfolding place_lines
+next_lines layout labels k first more whole below are is =
+    let one = line_for layout labels k (item_of layout.program k) in
+    let rest = place_lines layout labels (k + 1) (drop (suc k) layout.program.items) in
+    let next : k + 1 ≡ suc k = omega arith in
+    let left : drop k layout.program.items ≡ item_of layout.program k ∷ drop (suc k) layout.program.items =
+    drop-cons layout.program.items k no_item below in
+    let all : first ++ place_lines layout labels k (item_of layout.program k ∷ drop (suc k) layout.program.items) ≡ whole =
+    subst (λ (items : List Item). first ++ place_lines layout labels k items ≡ whole) left are in
+    subst (λ (j : ℕ). more ++ place_lines layout labels (k + 1) (drop j layout.program.items) ≡ whole) (sym next)
+    (ap (λ (ls : List GraphLine). ls ++ rest) is ∙ append_assoc first (with_line one []) rest
+    ∙ ap (λ (ls : List GraphLine). first ++ ls) (split_line one rest) ∙ all)
+
+pub all_lines : (layout : ProgramAtMap) (labels : List ℕ) (k : ℕ) (first whole : List GraphLine) → count layout.program ≤ k
+    → AreLines layout labels k first whole → first ≡ whole
+unfolding place_lines
+all_lines layout labels k first whole past are =
+    let none : drop k layout.program.items ≡ [] = drop_of_length-le layout.program.items past in
+    sym (append-nil first) ∙ subst (λ (items : List Item). first ++ place_lines layout labels k items ≡ whole) none are
+
+-- these are lines before those of the classes of a side from index k on
+abbrev pub AreClassLines : List ℕ → List ℕ → Sort → List (List ℕ) → ℕ → List GraphLine → List GraphLine → Type 0
+AreClassLines gates labels sort classes k first whole = first ++ class_lines gates (drop k labels) (map (tag sort) (drop k classes)) ≡ whole
+
+pub next_class : (gates labels : List ℕ) (sort : Sort) (classes : List (List ℕ)) (k label : ℕ) (class : List ℕ) (first more whole : List GraphLine)
+    → k < length classes → length classes ≤ length labels → AreClassLines gates labels sort classes k first whole
+    → label ≡ slice_index labels k → class ≡ map (slice_index gates) (slice_index_or classes k [])
+    → more ≡ first ++ line_of_class sort label class ∷ [] → AreClassLines gates labels sort classes (k + 1) more whole
+unfolding class_lines
+next_class gates labels sort classes k label class first more whole here enough are label_is class_is is =
+    let next : k + 1 ≡ suc k = omega arith in
+    let below : k < length labels = omega arith in
+    let ls = drop-cons labels k 0 below in
+    let cs = drop-cons classes k [] here in
+    let rest = class_lines gates (drop (suc k) labels) (map (tag sort) (drop (suc k) classes)) in
+    let all : first ++ class_lines gates (slice_index labels k ∷ drop (suc k) labels) (map (tag sort) (slice_index_or classes k [] ∷ drop (suc k) classes)) ≡ whole =
+    subst (λ (c : List (List ℕ)). first ++ class_lines gates (slice_index labels k ∷ drop (suc k) labels) (map (tag sort) c) ≡ whole) cs
+    (subst (λ (l : List ℕ). first ++ class_lines gates l (map (tag sort) (drop k classes)) ≡ whole) ls are) in
+    subst (λ (j : ℕ). more ++ class_lines gates (drop j labels) (map (tag sort) (drop j classes)) ≡ whole) (sym next)
+    (ap (λ (lines : List GraphLine). lines ++ rest) is ∙ append_assoc first (line_of_class sort label class ∷ []) rest
+    ∙ ap (λ l. first ++ (line_of_class sort l class ∷ rest)) label_is
+    ∙ ap (λ (c : List ℕ). first ++ (line_of_class sort (slice_index labels k) c ∷ rest)) class_is ∙ all)
+
+no_lines : (gates labels : List ℕ) → class_lines gates labels [] ≡ []
+unfolding class_lines
+no_lines gates [] = refl
+no_lines gates (l ∷ labels) = refl
+
+pub all_class_lines : (gates labels : List ℕ) (sort : Sort) (classes : List (List ℕ)) (k : ℕ) (first whole : List GraphLine) → length classes ≤ k
+    → AreClassLines gates labels sort classes k first whole → first ≡ whole
+all_class_lines gates labels sort classes k first whole past are =
+    let none : drop k classes ≡ [] = drop_of_length-le classes past in
+    sym (append-nil first) ∙ ap (λ (ls : List GraphLine). first ++ ls) (sym (no_lines gates (drop k labels)))
+    ∙ subst (λ (cs : List (List ℕ)). first ++ class_lines gates (drop k labels) (map (tag sort) cs) ≡ whole) none are
+
+-- those of some classes and of others behind them
+lines_behind : (gates labels : List ℕ) (ts us : List Tagged) → length ts ≤ length labels →
+    class_lines gates labels (ts ++ us) ≡ class_lines gates labels ts ++ class_lines gates (drop (length ts) labels) us
+unfolding class_lines
+lines_behind gates labels [] us enough = ap (λ (ls : List GraphLine). ls ++ class_lines gates labels us) (sym (no_lines gates labels))
+lines_behind gates [] (t ∷ ts) us enough = absurd (omega arith)
+lines_behind gates (l ∷ labels) (t ∷ ts) us enough =
+    ap (λ (ls : List GraphLine). line_of_class t.sort l (map (slice_index gates) t.class) ∷ ls) (lines_behind gates labels ts us (omega arith))
+
+-- these are lines before those of the sides from index j on
+abbrev pub AreSideLines : List ℕ → List ℕ → List Side → ℕ → List GraphLine → Type 0
+AreSideLines gates labels sides j first =
+    first ++ class_lines gates (drop (labels_before sides j) labels) (tagged (drop j sides)) ≡ class_lines gates labels (tagged sides)
+
+pub first_side_lines : (gates labels : List ℕ) (sides : List Side) (none : List GraphLine) → none ≡ [] → AreSideLines gates labels sides 0 none
+first_side_lines gates labels sides none is =
+    ap (λ (ls : List GraphLine). ls ++ class_lines gates (drop (labels_before sides 0) labels) (tagged sides)) is
+    ∙ ap (λ (n : ℕ). class_lines gates (drop n labels) (tagged sides)) (before_first sides)
+
+pub next_side : (gates labels : List ℕ) (sides : List Side) (j : ℕ) (side : Side) (first more : List GraphLine) → slice_get sides j ≡ Some side
+    → length labels ≡ length (tagged sides) → AreSideLines gates labels sides j first
+    → more ≡ first ++ class_lines gates (drop (labels_before sides j) labels) (map (tag side.sort) (all_classes side)) → AreSideLines gates labels sides (j + 1) more
+unfolding tagged
+next_side gates labels sides j side first more there counted are is =
+    let own = drop (labels_before sides j) labels in
+    let ts = map (tag side.sort) (all_classes side) in
+    let us = tagged (drop (j + 1) sides) in
+    let many = length-map (all_classes side) (tag side.sort) in
+    let room = counted_at sides j side there in
+    let left = length-drop (labels_before sides j) labels in
+    let split : drop j sides ≡ side ∷ drop (j + 1) sides =
+    drop_more sides j side (slice_get_within sides j side there) ∙ ap (λ (s : Side). s ∷ drop (j + 1) sides) (get_or_from_slice_get sides j side side there) in
+    let behind : drop (labels_before sides (j + 1)) labels ≡ drop (length ts) own =
+    ap (λ (n : ℕ). drop n labels) (before_next sides j side there ∙ ap (λ (n : ℕ). labels_before sides j + n) (sym many))
+    ∙ sym (drop_twice labels (labels_before sides j) (length ts)) in
+    let joined = lines_behind gates own ts us (omega (arith, room, left, many, counted)) in
+    ap (λ (ls : List ℕ). more ++ class_lines gates ls us) behind
+    ∙ ap (λ (lines : List GraphLine). lines ++ class_lines gates (drop (length ts) own) us) is
+    ∙ append_assoc first (class_lines gates own ts) (class_lines gates (drop (length ts) own) us)
+    ∙ ap (λ (lines : List GraphLine). first ++ lines) (sym joined)
+    ∙ ap (λ (ss : List Side). first ++ class_lines gates own (tagged ss)) (sym split) ∙ are
+
+pub all_side_lines : (gates labels : List ℕ) (sides : List Side) (j : ℕ) (first : List GraphLine) → length sides ≤ j → AreSideLines gates labels sides j first
+    → first ≡ class_lines gates labels (tagged sides)
+unfolding tagged
+all_side_lines gates labels sides j first past are =
+    let none : drop j sides ≡ [] = drop_of_length-le sides past in
+    sym (append-nil first) ∙ ap (λ (ls : List GraphLine). first ++ ls) (sym (no_lines gates (drop (labels_before sides j) labels)))
+    ∙ ap (λ (ss : List Side). first ++ class_lines gates (drop (labels_before sides j) labels) (tagged ss)) (sym none) ∙ are
+
+-- the classes of sites without targets have none
+empty_with : (class : Option ℕ) (rest : List (List ℕ)) (i : ℕ) → ((j : ℕ) → slice_index_or rest j [] ≡ []) → slice_index_or (with_empty class rest) i [] ≡ []
+empty_with (Some c) rest i none = none i
+empty_with None rest zero none = refl
+empty_with None rest (suc i) none = none i
+
+empty_at : (sites : List Site) (i : ℕ) → slice_index_or (empty_classes sites) i [] ≡ []
+unfolding empty_classes
+empty_at [] i = refl
+empty_at (site ∷ sites) i = empty_with site.class (empty_classes sites) i (empty_at sites)
+
+pub class_within : (side : Side) (k : ℕ) → k < length side.classes
+    → slice_index_or side.classes k [] ≡ slice_index_or (all_classes side) k []
+class_within side k below = sym (get_or_append_left side.classes (empty_classes side.sites) [] k below)
+
+pub class_past : (side : Side) (k : ℕ) → length side.classes ≤ k → slice_index_or (all_classes side) k [] ≡ []
+class_past side k past =
+    let same : length side.classes + (k - length side.classes) ≡ k = omega arith in
+    ap (λ j. slice_index_or (all_classes side) j []) (sym same)
+    ∙ get_or-append-add side.classes (empty_classes side.sites) (k - length side.classes) [] ∙ empty_at side.sites (k - length side.classes)
+
+-- the members of the classes of a side are places
+pub members_there : (m : Choice) (j : ℕ) (side : Side) → IsAccepted m → slice_get m.layout.closed.sides j ≡ Some side
+    → All (All (λ t. t < count m.layout.program)) side.classes
+members_there m j side accepted there c d inside i e within =
+    accepted.members j c (get_or (get_or side.classes c d) i e) side there
+    (get_or_in side.classes c d i e inside within)
+  where
+    get_or_in : (classes : List (List ℕ)) (c : ℕ) (d : List ℕ) (i e : ℕ) → c < length classes → i < length (get_or classes c d) → IsIn classes c (get_or (get_or classes c d) i e)
+    get_or_in classes c d i e inside within =
+        subst (λ (class : List ℕ). Contains class (get_or (get_or classes c d) i e)) (get_or_default classes c d [] inside)
+        (i, within, get_or_default (get_or classes c d) i (get_or (get_or classes c d) i e) e within)
+
+pub joined : (layout : ProgramAtMap) (labels : List ℕ) (entry : ℕ) (first second third : List GraphLine)
+    → entry ≡ gate layout layout.entry → first ≡ class_lines layout.gates labels (tagged layout.closed.sides)
+    → second ≡ first ++ line.Call START entry ∷ [] → third ≡ second ++ place_lines layout labels 0 layout.program.items
+    → third ≡ graph_lines layout labels
+joined layout labels entry first second third entry_is first_is second_is third_is =
+    let classes = class_lines layout.gates labels (tagged layout.closed.sides) in
+    let places = place_lines layout labels 0 layout.program.items in
+    third_is ∙ ap (λ (ls : List GraphLine). ls ++ places) second_is ∙ append_assoc first (line.Call START entry ∷ []) places
+    ∙ ap (λ (ls : List GraphLine). ls ++ (line.Call START entry ∷ places)) first_is
+    ∙ ap (λ (a : ℕ). classes ++ (line.Call START a ∷ places)) entry_is
+
+-- a list that is made of the members of another, one after another
+pub next_mapped : (f : ℕ → ℕ) (xs first more : List ℕ) (k y : ℕ) → k < length xs → first ≡ map f (take k xs)
+    → y ≡ f (get_or xs k 0) → more ≡ first ++ y ∷ [] → more ≡ map f (take (k + 1) xs)
+next_mapped f xs first more k y below first_is y_is is =
+    let next : k + 1 ≡ suc k = omega arith in
+    is ∙ ap (λ (ys : List ℕ). ys ++ y ∷ []) first_is ∙ ap (λ z. map f (take k xs) ++ z ∷ []) y_is
+    ∙ sym (map-append f (take k xs) (get_or xs k 0 ∷ []))
+    ∙ ap (λ (ys : List ℕ). map f ys) (sym (take-suc xs k 0 below)) ∙ ap (λ n. map f (take n xs)) (sym next)
+
+pub all_mapped : (f : ℕ → ℕ) (xs first : List ℕ) (k : ℕ) → length xs ≤ k → first ≡ map f (take k xs) → first ≡ map f xs
+all_mapped f xs first k past is = is ∙ ap (λ (ys : List ℕ). map f ys) (take_all k xs past)

@@ -1,0 +1,253 @@
+-- The units and classes that are written are sound.
+use Rattle.std.proofs.Common.{◌≡◌, ℕ, zero, suc, ◌+◌, ◌-◌, ◌*◌, ◌%◌, ◌/◌, ◌^◌, ◌≤◌, ◌<◌, inl, Bool, true, false, List, [], ◌∷◌, ◌++◌, length, Option, Some, None, refl, sym, ap, subst, ◌∙◌, arith, Contains}
+use Rattle.std.specs.Prelude.{IsTrue, nat_le, is_some, option_and_then, slice_get, slice_index}
+use Rattle.std.specs.List.{last_or}
+use Rattle.std.proofs.lemmas.Bool.{and_from, le-leb}
+use Rattle.std.proofs.lemmas.Option.{get_or_from_slice_get, same_Some, slice_get_within, slice_get-get_or}
+use Rattle.rv_word.specs.MemoryMap.{CODE_SIZE, CODE_START, Profile}
+use Rattle.rv_instr.specs.declared.instr.Instr.{Instr}
+use Rattle.obj_input.specs.declared.item_kind.ItemKind.{ItemKind}
+use Rattle.obj_input.specs.declared.item_kind.ItemKind.TheVariants as is
+use Rattle.obj_program.specs.declared.item.Item.{Item}
+use Rattle.obj_program.specs.Sound.{is_of}
+use Rattle.rv_code.specs.Decode.{decoded}
+use Rattle.obj_program.specs.Program.{count, is_end, item_of, no_item}
+use Rattle.obj_program.proofs.Read.{read_there}
+use Rattle.cfi_graph.specs.declared.line.SiteKind.{SiteKind}
+use Rattle.cfi_graph.specs.Graph.{ClassLine, class_in}
+use Rattle.cfi_class.specs.Classes.{has}
+use Rattle.cfi_map.specs.GraphAtMap.{gate, gate_to, words_at}
+use Rattle.cfi_map.specs.LabelOf.{Tagged, labels_of, site_label, tagged}
+use Rattle.cfi_flow.specs.Labels.{is_gate, used_labels}
+use Rattle.cfi_map.specs.Placement.{whole_at}
+use Rattle.cfi_flow.specs.Sites.{site_kind}
+use Rattle.cfi_unit.specs.declared.place.Place.TheVariants.{Body as body}
+use Rattle.cfi_unit.specs.declared.unit.Unit as U
+use Rattle.cfi_unit.specs.declared.unit.Unit.TheVariants as V
+use Rattle.cfi_unit.specs.declared.target_word.TargetWord.{TargetWord}
+use Rattle.cfi_unit.specs.declared.target_word.TargetWord.TheVariants.{First, Second}
+use Rattle.cfi_unit.specs.UnitWords.{Reaches, past}
+use Rattle.cfi_rules.specs.Lines.{class_with, is_among, is_word_of, read_of, targets_for}
+use Rattle.cfi_rules.specs.Rules.{is_of_version, jump_word, site_of}
+use Rattle.cfi_rules.specs.Sound.{Bears, IsSound, StartsIn, target_of}
+use Rattle.cfi_rules.specs.Split.{unit_in}
+use Rattle.cfi_rules.specs.declared.asks.Asks.{Asks}
+use Rattle.cfi_writer.specs.Accepted.{IsAccepted}
+use Rattle.cfi_writer.specs.Laws.{WrittenIsSound, written_classes}
+use Rattle.cfi_writer.specs.SideLaws.{AreLabelled, word_read}
+use Rattle.cfi_writer.specs.Units.{Choice, entry_gate, instr_of, lead, lead_unit, unit_for, unit_of, units, units_from}
+use Rattle.cfi_writer.proofs.ClassLines.{all_classes_lines, targets_of}
+use Rattle.cfi_writer.proofs.Fitting.{IsInCode, reach}
+use Rattle.cfi_writer.proofs.InstrAt.{gate_number}
+use Rattle.cfi_writer.proofs.Labelled.{used_in}
+use Rattle.cfi_writer.proofs.Leading.{direct, units_ahead, units_fit}
+use Rattle.cfi_writer.proofs.Runs.{IsUnit, from_lead, lead_word, own, to_lead}
+use Rattle.cfi_writer.proofs.SideLabels.{gates_listed, in_classes, in_side, is_in, sites_served, targets_bear}
+use Rattle.cfi_writer.proofs.Standing.{found, gate_lies, instr_is, laid, lead_there, right, starts}
+use Rattle.cfi_writer.proofs.UnitOf.{unit_admitted, unit_gate, unit_site, unit_target}
+
+-- the last unit is that of the last place
+last_led : (vs : List U.Unit) (o : Option U.Unit) (u : U.Unit) (us : List U.Unit) → last_or o (vs ++ (u ∷ us)) ≡ last_or (Some u) us
+last_led [] o u us = refl
+last_led (v ∷ vs) o u us = last_led vs (Some v) u us
+
+last_units : (m : Choice) (k : ℕ) (items : List Item) (o : Option U.Unit) (n : ℕ) (item : Item) → slice_get items n ≡ Some item → length items ≡ n + 1 →
+    last_or o (units_from m k items) ≡ Some (unit_for m (k + n) item)
+unfolding units_from
+last_units m k [] o n item get last = absurd (cc)
+last_units m k (x ∷ []) o zero item get last =
+    let first : k ≡ k + 0 = omega arith in
+    let same : x ≡ item = same_Some x item get in
+    last_led (lead m k) o (unit_for m k x) []
+    ∙ ap (λ (y : Item). Some (unit_for m k y)) same ∙ ap (λ (n : ℕ). Some (unit_for m n item)) first
+last_units m k (x ∷ y ∷ items) o zero item get last = absurd (omega arith)
+last_units m k (x ∷ items) o (suc n) item get last =
+    let next : k + 1 + n ≡ k + suc n = omega arith in
+    last_led (lead m k) o (unit_for m k x) (units_from m (k + 1) items)
+    ∙ last_units m (k + 1) items (Some (unit_for m k x)) n item get (omega arith)
+    ∙ ap (λ (n : ℕ). Some (unit_for m n item)) next
+
+end_stops : (kind : ItemKind) (i : Instr) (whole : Bool) (target : ℕ) (which : TargetWord) (label : ℕ) → is_end kind ≡ true → unit_of kind i whole target which label ≡ V.Stop
+end_stops is.End i whole target which label last = refl
+end_stops other i whole target which label last = absurd (cc)
+
+gate_is : (kind : ItemKind) → kind ≡ is.Gate → is_gate kind ≡ true
+gate_is kind e = ap is_gate e
+
+no_end : (kind : ItemKind) → kind ≡ is.Gate → is_end kind ≡ false
+no_end kind e = ap is_end e
+
+-- a word before a unit is no transfer; one with a label is a gate word
+lead_aims : (o : Option ℕ) → target_of (lead_unit o) ≡ None
+lead_aims None = refl
+lead_aims (Some label) = refl
+
+lead_asks : (o : Option ℕ) → is_some (site_of (body (lead_unit o))) ≡ false
+lead_asks None = refl
+lead_asks (Some label) = refl
+
+lead_admitted : (version : ℕ) (o : Option ℕ) → is_of_version version (lead_unit o) ≡ true
+lead_admitted version None = refl
+lead_admitted version (Some label) = refl
+
+gate_of : U.Unit → Option ℕ
+gate_of (V.Gate label) = Some label
+gate_of other = None
+
+lead_label : (o : Option ℕ) (label : ℕ) → lead_unit o ≡ V.Gate label → o ≡ Some label
+unfolding gate_of
+lead_label None label e = ap gate_of e
+lead_label (Some l) label e = ap gate_of e
+
+-- what is at the word that a check reads
+bears : (p : Profile) (us : List U.Unit) (which : TargetWord) (a label : ℕ) → StartsIn p us a → unit_in us p.units_from (a + past which) ≡ Some (V.Gate label) →
+    Bears p us which a label
+bears p us First a label starts e = let same : a ≡ a + 0 = omega arith in ap (unit_in us p.units_from) same ∙ e
+bears p us Second a label starts e = (starts, e)
+
+word_listed : (which : TargetWord) (a : ℕ) (targets : List ℕ) → is_among a targets ≡ true → is_word_of which (a + past which) targets ≡ true
+word_listed First a targets among = let same : a + 0 ≡ a = omega arith in ap (λ (b : ℕ). is_among b targets) same ∙ among
+word_listed Second a targets among =
+    let same : a + 4 - 4 ≡ a = omega arith in
+    and_from (nat_le 4 (a + 4)) (is_among (a + 4 - 4) targets) (le-leb 4 (a + 4) (omega arith)) (ap (λ (b : ℕ). is_among b targets) same ∙ among)
+
+module _ (m : Choice) (ok : IsAccepted m) where
+  entry_in : (m.layout.profile.units_from ≤ entry_gate m) × (entry_gate m + 4 ≤ CODE_START + CODE_SIZE) × (entry_gate m % 4 ≡ 0)
+  entry_in = gate_lies m ok m.layout.entry ok.entry_there
+
+  entry_reached : Reaches m.layout.profile.opening_call (entry_gate m)
+  entry_reached =
+      let (from, to, round) = entry_in in
+      let before = (laid m ok).call in
+      let after = (laid m ok).closing in
+      let low = (laid m ok).low in
+      let high = (laid m ok).high in
+      let even = (laid m ok).round in
+      let call : IsInCode m.layout.profile.opening_call = record { from = omega arith; to = omega arith; round = omega arith } in
+      let there : IsInCode (entry_gate m) = record { from = omega arith; to = omega arith; round = round } in
+      reach m.layout.profile.opening_call (entry_gate m) call there
+
+  -- direct transfers lead to units
+  leads : (k a target : ℕ) (u : U.Unit) → k < count m.layout.program → IsUnit m k (item_of m.layout.program k) a u → target_of u ≡ Some target →
+      StartsIn m.layout.profile (units m) target
+  leads k a target u below (lead_word j get here) e =
+      let (o, at, same) = from_lead m k j u get in
+      let wrong : None ≡ Some target = sym (lead_aims o) ∙ ap target_of same ∙ e in
+      absurd (cc)
+  leads k a target u below (own here unit_is) e =
+      let of : target_of (unit_for m k (item_of m.layout.program k)) ≡ Some target = sym (ap target_of unit_is) ∙ e in
+      let aim = unit_target (item_of m.layout.program k).kind (instr_of m k) (whole_at m.whole k) (gate_to m.layout (item_of m.layout.program k).target)
+      (jump_word m.layout.closed.version) (site_label m.labels m.layout.closed.sides k) target (right m ok k below) of in
+      let (t, some, there) = direct m ok k below aim.0 in
+      let same : gate m.layout t ≡ target = ap (gate_to m.layout) (sym some) ∙ aim.1 in
+      subst (λ (b : ℕ). StartsIn m.layout.profile (units m) b) same (starts m ok t there)
+
+  labelled_sides : AreLabelled m.layout.closed.version m.labels m.layout.closed.sides
+  labelled_sides = record { sorts = ok.sorts; counted = ok.counted; rising = ok.labels_rise; apart = ok.apart; site_classes = ok.site_classes }
+
+  -- a class with the label of a site serves it
+  site_given : (k : ℕ) (site : SiteKind) → k < count m.layout.program → site_kind (item_of m.layout.program k).kind ≡ Some site →
+      is_some (targets_for (written_classes m) site (word_read (jump_word m.layout.closed.version) site) (site_label m.labels m.layout.closed.sides k)) ≡ true
+  site_given k site below some = ap is_some (sites_served m.layout.closed.version m.layout.gates m.labels m.layout.closed.sides labelled_sides k site (ok.sites k site below some))
+
+  site_served : (k a : ℕ) (u : U.Unit) (asked : Asks) → k < count m.layout.program → IsUnit m k (item_of m.layout.program k) a u → site_of (body u) ≡ Some asked →
+      is_some (targets_for (written_classes m) asked.kind asked.which asked.label) ≡ true
+  site_served k a u asked below (lead_word j get here) e =
+      let (o, at, same) = from_lead m k j u get in
+      let wrong : false ≡ true = sym (lead_asks o) ∙ ap (λ (v : U.Unit). is_some (site_of (body v))) same ∙ ap is_some e in
+      absurd (cc)
+  site_served k a u asked below (own here unit_is) e =
+      let of : site_of (body (unit_for m k (item_of m.layout.program k))) ≡ Some asked = sym (ap (λ (v : U.Unit). site_of (body v)) unit_is) ∙ e in
+      let (kind, site, same) = unit_site (item_of m.layout.program k).kind (instr_of m k) (whole_at m.whole k) (gate_to m.layout (item_of m.layout.program k).target)
+      (jump_word m.layout.closed.version) (site_label m.labels m.layout.closed.sides k) asked (right m ok k below) of in
+      subst (λ (s : Asks). is_some (targets_for (written_classes m) s.kind s.which s.label) ≡ true) same (site_given k kind below site)
+
+  -- a member of a class is a place
+  pub member_there : (j k : ℕ) (t : Tagged) → slice_get (tagged m.layout.closed.sides) j ≡ Some t → has k t.class ≡ true → k < count m.layout.program
+  member_there j k t get there =
+      let of = in_side m.layout.closed.sides j t get in
+      ok.members of.index of.number k of.side of.there
+      (is_in of.side.classes of.number k t.class (in_classes of.side.classes of.side.sites of.number k t.class of.class_is there) there)
+
+  -- each target of a class bears its label
+  gated : (j a : ℕ) (class : ClassLine) → option_and_then class_in (slice_get (written_classes m) j) ≡ Some class → IsTrue (is_among a class.targets) →
+      Bears m.layout.profile (units m) (read_of class.sort) a class.label
+  gated j a class e among =
+      let at = targets_bear m.layout.closed.version m.layout.gates m.labels m.layout.closed.sides labelled_sides j a class e among in
+      let below = ok.members at.index at.class at.place at.side at.there at.inside in
+      let word : gate m.layout at.place + 4 * at.index ≡ a + past (read_of class.sort) =
+      ap (λ (n : ℕ). n + 4 * at.index) at.gate_is ∙ ap (λ (n : ℕ). a + n) (sym at.word) in
+      bears m.layout.profile (units m) (read_of class.sort) a class.label (subst (StartsIn m.layout.profile (units m)) at.gate_is (starts m ok at.place below))
+      (ap (unit_in (units m) m.layout.profile.units_from) (sym word)
+      ∙ lead_there m ok at.place at.index (V.Gate class.label) below (to_lead m at.place at.index (Some class.label) at.target at.label))
+
+  -- a word with a class's label is that of one of its targets
+  astray_gate : (k j label : ℕ) (line : ClassLine) → slice_get (labels_of m.labels m.layout.closed.sides k) j ≡ Some (Some label) →
+      class_with (written_classes m) label ≡ Some line → is_word_of (read_of line.sort) (gate m.layout k + 4 * j) line.targets ≡ true
+  astray_gate k j label line some e =
+      let (word, among) = gates_listed m.layout.closed.version m.layout.gates m.labels m.layout.closed.sides labelled_sides k j label line some e in
+      ap (λ (n : ℕ). is_word_of (read_of line.sort) (gate m.layout k + n) line.targets) (sym word)
+      ∙ word_listed (read_of line.sort) (gate m.layout k) line.targets among
+
+  -- and no `lui x0` of the program has a class's label
+  no_own : (k label : ℕ) (line : ClassLine) → k < count m.layout.program → unit_for m k (item_of m.layout.program k) ≡ V.Gate label →
+      class_with (written_classes m) label ≡ Some line → ⊥
+  no_own k label line below e asked =
+      let (kind, (op, rd, instr)) = unit_gate (item_of m.layout.program k).kind (instr_of m k) (whole_at m.whole k) (gate_to m.layout (item_of m.layout.program k).target)
+      (jump_word m.layout.closed.version) (site_label m.labels m.layout.closed.sides k) label (right m ok k below) e in
+      let some = no_end (item_of m.layout.program k).kind kind in
+      let read = subst (λ (x : ItemKind). is_of x (item_of m.layout.program k).patch (decoded (item_of m.layout.program k).word) ≡ true) kind (read_there m.layout.program k ok.sound below some) in
+      let number = gate_number m.layout.program m.layout.gates (words_at m.layout) k op rd label (ok.words k below) read
+      (instr_is m ok k below some ∙ ap Some instr) in
+      let used : Contains (used_labels m.layout.program) ((item_of m.layout.program k).word / 2 ^ 12) =
+      used_in m.layout.program.items k (item_of m.layout.program k) (slice_get-get_or m.layout.program.items k no_item below) (gate_is (item_of m.layout.program k).kind kind) in
+      let (index, t, label_at, class_is, line_is) = targets_of m.layout.gates m.labels (tagged m.layout.closed.sides) label line asked in
+      let there = slice_get_within m.labels index label label_at in
+      let label_is : slice_index m.labels index ≡ label = get_or_from_slice_get m.labels index label 0 label_at in
+      (ok.labels index there).free (inl (subst (λ (n : ℕ). Contains (used_labels m.layout.program) n) (sym number ∙ sym label_is) used))
+
+  strays : (k label a : ℕ) (line : ClassLine) → k < count m.layout.program → IsUnit m k (item_of m.layout.program k) a (V.Gate label) → class_with (written_classes m) label ≡ Some line →
+      IsTrue (is_word_of (read_of line.sort) a line.targets)
+  strays k label a line below (lead_word j get here) asked =
+      let (o, at, same) = from_lead m k j (V.Gate label) get in
+      ap (λ (b : ℕ). is_word_of (read_of line.sort) b line.targets) here ∙ astray_gate k j label line (at ∙ ap Some (lead_label o label same)) asked
+  strays k label a line below (own here unit_is) asked = absurd (no_own k label line below (sym unit_is) asked)
+
+  -- each unit is of the graph's version
+  admitted : (k a : ℕ) (u : U.Unit) → k < count m.layout.program → IsUnit m k (item_of m.layout.program k) a u → IsTrue (is_of_version m.layout.closed.version u)
+  admitted k a u below (lead_word j get here) =
+      let (o, at, same) = from_lead m k j u get in
+      subst (λ (v : U.Unit). is_of_version m.layout.closed.version v ≡ true) same (lead_admitted m.layout.closed.version o)
+  admitted k a u below (own here unit_is) =
+      subst (λ (v : U.Unit). is_of_version m.layout.closed.version v ≡ true) (sym unit_is)
+      (unit_admitted m.layout.closed.version (item_of m.layout.program k).kind (instr_of m k) (whole_at m.whole k) (gate_to m.layout (item_of m.layout.program k).target)
+      (site_label m.labels m.layout.closed.sides k) (right m ok k below))
+
+  -- the last unit is a stop
+  last_stops : last_or None (units m) ≡ Some V.Stop
+  last_stops =
+      let (n, counted, ends) = ok.last in
+      let below : n < count m.layout.program = omega arith in
+      let first : 0 + n ≡ n = omega arith in
+      last_units m 0 m.layout.program.items None n (item_of m.layout.program n) (slice_get-get_or m.layout.program.items n no_item below) counted
+      ∙ ap (λ (k : ℕ). Some (unit_for m k (item_of m.layout.program n))) first
+      ∙ ap Some (end_stops (item_of m.layout.program n).kind (instr_of m n) (whole_at m.whole n) (gate_to m.layout (item_of m.layout.program n).target)
+      (jump_word m.layout.closed.version) (site_label m.labels m.layout.closed.sides n) ends)
+
+  sound_code : IsSound m.layout.profile m.layout.closed.version (entry_gate m) (units m) (written_classes m)
+  sound_code = record {
+    fit = units_fit m ok;
+    ahead = units_ahead m ok;
+    of_version = λ a u e. let at = found m ok a u e in admitted at.index a u at.below at.unit;
+    entry_reached = entry_reached;
+    entry_starts = starts m ok m.layout.entry ok.entry_there;
+    targets = λ a target u e leads_to. let at = found m ok a u e in leads at.index a target u at.below at.unit leads_to;
+    classes_are = all_classes_lines m.layout.gates m.labels (tagged m.layout.closed.sides);
+    labels = λ a u asked e wants. let at = found m ok a u e in site_served at.index a u asked at.below at.unit wants;
+    gates = gated;
+    astray = λ label a line e asked. let at = found m ok a (V.Gate label) e in strays at.index label a line at.below at.unit asked;
+    ends = last_stops;
+  }
+
+pub written_sound : WrittenIsSound
+written_sound = sound_code

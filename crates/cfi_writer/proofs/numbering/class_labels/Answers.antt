@@ -1,0 +1,14 @@
+use Rattle.std.proofs.Common.{length, ap, ◌∙◌, arith}
+use Rattle.cfi_writer.proofs.Few.{labels_few}
+use Rattle.cfi_writer.proofs.numbering.class_labels.Goals as goal
+
+pub label_count-requires : goal.label_count-requires
+label_count-requires c =
+    let few = labels_few c.args.items.now c.args.closed.now c.requires.graph c.requires.room in
+    omega (arith, few)
+
+pub labels-requires : goal.labels-requires
+labels-requires c =
+    let few = labels_few c.args.items.now c.args.closed.now c.requires.graph c.requires.room in
+    let used = ap length (c.as_slice.ensures.value ∙ c.in_ok-used.ensures) in
+    omega (arith, few, used, c.in_ok-count.ensures)

@@ -1,0 +1,53 @@
+-- What holds of a choice that is accepted: the code that is written for it, with its graph, meets the verifier's rules.
+use Rattle.std.specs.Prelude.{◌≡◌, ℕ, ◌+◌, ◌*◌, ◌<◌, List, length, slice_get, Some}
+use Rattle.rv_word.specs.Image.{Contents}
+use Rattle.obj_program.specs.Program.{count, item_of}
+use Rattle.cfi_graph.specs.Graph.{GraphParts, IsGraph}
+use Rattle.cfi_graph.specs.declared.line.GraphLine.{GraphLine}
+use Rattle.cfi_map.specs.GraphAtMap.{class_lines, gate, graph_lines, word}
+use Rattle.cfi_map.specs.LabelOf.{tagged}
+use Rattle.cfi_unit.specs.declared.unit.Unit as U
+use Rattle.cfi_rules.specs.Placed.{placed_code, placed_lines}
+use Rattle.cfi_rules.specs.Rules.{IsWellFormed}
+use Rattle.cfi_rules.specs.Sound.{IsSound}
+use Rattle.cfi_rules.specs.Split.{code_words, entry_of, unit_at}
+use Rattle.cfi_writer.specs.Accepted.{IsAccepted}
+use Rattle.cfi_writer.specs.Units.{Choice, entry_gate, lead, unit_for, units}
+
+-- the words of the whole code, and the lines of its classes
+abbrev pub written_code : Choice → List ℕ
+written_code m = placed_code m.layout.profile (entry_gate m) (units m)
+
+abbrev pub written_classes : Choice → List GraphLine
+written_classes m = class_lines m.layout.gates m.labels (tagged m.layout.closed.sides)
+
+-- units and classes are sound
+abbrev pub WrittenIsSound : Type 0
+WrittenIsSound = (m : Choice) → IsAccepted m → IsSound m.layout.profile m.layout.closed.version (entry_gate m) (units m) (written_classes m)
+
+-- the lines of the graph at the map are those of the units with those of the classes
+abbrev pub WrittenLines : Type 0
+WrittenLines =
+    (m : Choice) → IsAccepted m → graph_lines m.layout m.labels ≡ placed_lines m.layout.profile (entry_gate m) (units m) (written_classes m)
+
+-- they are a graph's, of a code of this length
+abbrev pub WrittenIsGraph : Type 0
+WrittenIsGraph =
+    (m : Choice) → IsAccepted m → IsGraph (record { version = m.layout.closed.version; code = 4 * length (written_code m); lines = graph_lines m.layout m.labels })
+
+-- an image with this code and that graph meet the rules
+abbrev pub WrittenIsWellFormed : Type 0
+WrittenIsWellFormed =
+    (m : Choice) (image : Contents) (graph : GraphParts) → IsAccepted m → code_words image.code ≡ written_code m →
+    graph.version ≡ m.layout.closed.version → graph.lines ≡ graph_lines m.layout m.labels → graph.code ≡ length image.code → IsWellFormed m.layout.profile image graph
+
+-- at the word of each place stands its unit, and from its gate on the words before that
+abbrev pub WrittenUnits : Type 0
+WrittenUnits =
+    (m : Choice) → IsAccepted m → (k : ℕ) → k < count m.layout.program →
+    (unit_at m.layout.profile (written_code m) (word m.layout k) ≡ Some (unit_for m k (item_of m.layout.program k)))
+    × ((j : ℕ) (u : U.Unit) → slice_get (lead m k) j ≡ Some u → unit_at m.layout.profile (written_code m) (gate m.layout k + 4 * j) ≡ Some u)
+
+-- the opening calls the entry's gate
+abbrev pub WrittenEntry : Type 0
+WrittenEntry = (m : Choice) → IsAccepted m → entry_of m.layout.profile (written_code m) ≡ Some (entry_gate m)

@@ -1,0 +1,10 @@
+pub mod Units
+pub mod Accepted
+pub mod Chosen
+pub mod MapLines
+pub mod GraphOf
+pub mod SideLaws
+pub mod Laws
+pub mod Hardened
+pub mod Prologue
+pub mod Writing
