@@ -4,11 +4,11 @@ The split looks at one word after another, and each rule at one address after an
 """
 
 from machine import CODE, IMMEDIATE, REGISTER, WORD, field, signed
-from program import (CLOSING, EBREAK, ECALL, HANDLERS, OPENING, UNITS, addi, branch, check, i_form, jal, prologue, push,
-                     s_form)
+from program import CLOSING, EBREAK, ECALL, HANDLERS, OPENING, UNITS, addi, branch, check, i_form, jal, prologue, push
 
 STOP, GATE = "stop", "gate"
 KEPT = (3, 4, 30, 31)  # registers that no plain instruction writes
+MOST_STORES = 16  # behind one mask
 
 
 def jal_target(word, at, rd):
@@ -50,13 +50,19 @@ def computed(words, at):
     return None
 
 
-def stored(words):
-    """Whether a store begins here."""
-    if len(words) < 4 or words[3] & 127 != 0x23 or words[3] >> 12 & 7 > 3:
-        return False
-    funct3, rs2 = words[3] >> 12 & 7, words[3] >> 20 & 31
-    first = addi(31, words[0] >> 15 & 31, words[0] >> 20)
-    return words[:4] == [first, i_form(0x13, 1, 31, 31, 36), i_form(0x13, 5, 31, 31, 36), s_form(funct3, 31, rs2, 0)]
+def member(word):
+    """Whether a word is a store off x31 whose distance is no less than 0."""
+    funct3, distance = word >> 12 & 7, word >> 25 << 5 | word >> 7 & 31
+    return word & 127 == 0x23 and funct3 < 4 and word >> 15 & 31 == 31 and distance < 2048
+
+
+def stores(words):
+    """How many words a mask and the stores that follow it have, or None."""
+    mask = [addi(31, words[0] >> 15 & 31, words[0] >> 20), i_form(0x13, 1, 31, 31, 36), i_form(0x13, 5, 31, 31, 36)]
+    if words[:3] != mask:
+        return None
+    count = next((k for k, word in enumerate(words[3:]) if not member(word)), len(words) - 3)
+    return 3 + min(count, MOST_STORES) if count else None
 
 
 def unit(words, at):
@@ -81,7 +87,8 @@ def unit(words, at):
     returns = [i_form(0x03, 3, 31, 3, -8), addi(3, 3, -8), branch(0, 31, 1, 8), jal(0, at + 12, CODE + 4), i_form(0x67, 0, 0, 31, 0)]
     if words[:5] == returns:
         return "return", None, 5
-    return ("store", None, 4) if stored(words) else computed(words, at)
+    size = stores(words)
+    return ("stores", None, size) if size else computed(words, at)
 
 
 class Lines:

@@ -1,4 +1,6 @@
-# A mask and the stores behind it: of each width, at the least and the greatest distance, of x0 and of x31; seventeen in all.
+# A mask and the stores behind it: of each width, at the least and the greatest distance, of x0 and of x31; seventeen in all, and a
+# stop.
+        .include "units.inc"
         addi x31,x5,-4
         slli x31,x31,36
         srli x31,x31,36
@@ -19,3 +21,4 @@
         sd x1,88(x31)
         sd x1,96(x31)
         sd x1,104(x31)
+        stop

@@ -7,6 +7,8 @@ mod apart;
 #[cfg(test)]
 mod cuts;
 #[cfg(test)]
+mod groups;
+#[cfg(test)]
 mod near;
 #[cfg(test)]
 mod pieces;

@@ -3,16 +3,28 @@
 use rv_word::NoMemory;
 use sample_calls::{answers, image_as, image_of, image_of_harts, put};
 use sample_programs::{
-    A, A_CLASS_GRAPH, A_GRAPH, A_OF_HARTS, A_OF_HARTS_GRAPH, B, B_GRAPH, JOBS, JOBS_GRAPH, P,
-    P_GRAPH, Q, Q_GRAPH, Q_OF_HARTS, Q_OF_HARTS_GRAPH, SHARED, SHARED_GRAPH, code, code_of_harts,
+    A, A_CLASS_GRAPH, A_GRAPH, A_OF_HARTS, A_OF_HARTS_GRAPH, B, B_GRAPH, GROUPS, GROUPS_GRAPH,
+    JOBS, JOBS_GRAPH, P, P_GRAPH, Q, Q_GRAPH, Q_OF_HARTS, Q_OF_HARTS_GRAPH, SHARED, SHARED_GRAPH,
+    STORES, STORES_GRAPH, code, code_of_harts,
 };
 use std::alloc::Global;
+use std::process::Abort;
 use tool_io::MemFiles;
 
 const A_SHORT: &[u8] = b"rvcfi-graph 1\ncode 40000000 0000004c\ncall 4000000c 40000040\nend\n";
 
 const B_EDGE: &[u8] = b"rvcfi-graph 1\ncode 40000000 0000005c\ncall 4000000c 40000040\n\
 edge 40000040 40000044\nend\n";
+
+/// Graphs of `GROUPS` whose line leads into the middle of the stores, or whose class has a target there.
+const MIDDLE_EDGE: &[u8] = b"rvcfi-graph 1\ncode 40000000 000000b4\ncall 4000000c 40000040\n\
+edge 40000070 40000060\nedge 40000074 4000004c\nend\n";
+
+const MIDDLE_CLASS: &[u8] = b"rvcfi-graph 1\ncode 40000000 000000b4\nclass 00001 40000058\n\
+call 4000000c 40000040\nedge 40000070 4000004c\nedge 40000074 4000004c\nend\n";
+
+const MIDDLE_CALL: &[u8] = b"rvcfi-graph 1\ncode 40000000 000000b4\ncall 4000000c 40000058\n\
+edge 40000070 4000004c\nedge 40000074 4000004c\nend\n";
 
 /// The units of a code, a word at an offset in the code, a graph, and the line that is put.
 struct Case(&'static [u32], usize, u32, &'static [u8], &'static str);
@@ -179,6 +191,41 @@ static CASES_OF_HARTS: [Case; 16] = [
     ),
 ];
 
+/// Stores behind one mask. What is right follows from the rules: what begins no unit meets Unit where it stands, and what leads to an
+/// address at which none begins meets Target, whatever the graph says, before Unlisted.
+#[rattlefmt::skip]
+static GROUPED: [Case; 24] = [
+    Case(&GROUPS, 0x00, 0x00100073, GROUPS_GRAPH, "accepted\n"),
+    // A distance of -2040 or -2048, or another register, as the first store and as a later one: the last, or one in the middle.
+    Case(&GROUPS, 0x58, 0x800fb423, GROUPS_GRAPH, "rejected Unit 4000004c\n"),
+    Case(&GROUPS, 0x60, 0x800fb423, GROUPS_GRAPH, "rejected Unit 40000060\n"),
+    Case(&GROUPS, 0x6c, 0x800fb423, GROUPS_GRAPH, "rejected Unit 4000006c\n"),
+    Case(&GROUPS, 0x58, 0x800fb023, GROUPS_GRAPH, "rejected Unit 4000004c\n"),
+    Case(&GROUPS, 0x6c, 0x800fb023, GROUPS_GRAPH, "rejected Unit 4000006c\n"),
+    Case(&GROUPS, 0x58, 0x006f2223, GROUPS_GRAPH, "rejected Unit 4000004c\n"),
+    Case(&GROUPS, 0x64, 0x006f2223, GROUPS_GRAPH, "rejected Unit 40000064\n"),
+    // No store behind the mask; one behind another instruction; a mask of its own, which is not whole.
+    Case(&GROUPS, 0x58, 0x00000013, GROUPS_GRAPH, "rejected Unit 4000004c\n"),
+    Case(&GROUPS, 0x60, 0x00000013, GROUPS_GRAPH, "rejected Unit 40000064\n"),
+    Case(&GROUPS, 0x60, 0xffc28f93, GROUPS_GRAPH, "rejected Unit 40000060\n"),
+    Case(&GROUPS, 0x6c, 0x00000013, GROUPS_GRAPH, "accepted\n"),
+    // Branches of one word and of two, jumps and the first call to the first store, a later one, the last, and into the mask.
+    Case(&GROUPS, 0x70, 0xfe02e4e3, GROUPS_GRAPH, "rejected Target 40000070\n"),
+    Case(&GROUPS, 0x70, 0xfe02e8e3, GROUPS_GRAPH, "rejected Target 40000070\n"),
+    Case(&GROUPS, 0x70, 0xfe02e8e3, MIDDLE_EDGE, "rejected Target 40000070\n"),
+    Case(&GROUPS, 0x78, 0xff5ff06f, GROUPS_GRAPH, "rejected Target 40000074\n"),
+    Case(&GROUPS, 0x78, 0xfd9ff06f, GROUPS_GRAPH, "rejected Target 40000074\n"),
+    Case(&GROUPS, 0x70, 0xff1ff06f, MIDDLE_EDGE, "rejected Target 40000070\n"),
+    Case(&GROUPS, 0x34, 0x024000ef, MIDDLE_CALL, "rejected Target 4000000c\n"),
+    // A line that leads there, which nothing starts, and a target of a class.
+    Case(&GROUPS, 0x00, 0x00100073, MIDDLE_EDGE, "rejected Unlisted 40000070\n"),
+    Case(&GROUPS, 0x00, 0x00100073, MIDDLE_CLASS, "rejected Gate 40000058\n"),
+    // Seventeen stores, sixteen, and eight before another instruction and eight behind it.
+    Case(&STORES, 0x00, 0x00100073, STORES_GRAPH, "rejected Unit 4000008c\n"),
+    Case(&STORES, 0x8c, 0x00000013, STORES_GRAPH, "accepted\n"),
+    Case(&STORES, 0x6c, 0x00000013, STORES_GRAPH, "rejected Unit 40000070\n"),
+];
+
 /// Code with one word in place of that at an offset.
 fn code_with(mut bytes: Vec<u8>, at: usize, word: u32) -> Vec<u8> {
     put(&mut bytes, at, &word.to_le_bytes());
@@ -222,17 +269,22 @@ fn is_right(alloc: Global, image: &Result<Vec<u8>, NoMemory>, case: &Case) -> bo
     }
 }
 
+/// Each case of a table is right.
+fn are_right(rt: &impl Abort, alloc: Global, cases: &[Case]) {
+    for case in cases {
+        let image = image_with(alloc, case);
+        assert!(rt; is_right(alloc, &image, case), "{:x} {:x}", case.1, case.2);
+    }
+}
+
 #[test]
 fn pairs(rt: HostRuntime) {
-    for case in &CASES {
-        let image = image_with(rt.alloc(), case);
-        assert!(rt;
-            is_right(rt.alloc(), &image, case),
-            "{:x} {:x}",
-            case.1,
-            case.2
-        );
-    }
+    are_right(&rt, rt.alloc(), &CASES);
+}
+
+#[test]
+fn grouped_stores(rt: HostRuntime) {
+    are_right(&rt, rt.alloc(), &GROUPED);
 }
 
 #[test]

@@ -124,3 +124,12 @@ site 400000cc jump 00002\nend\n";
 pub const JOINED_GRAPH: &[u8] =
     b"rvcfi-graph 1\ncode 40000000 00000148\nclass 00001 400000f0 4000010c 40000128\n\
 call 4000000c 40000040\nsite 4000005c call 00001\nsite 400000bc jump 00001\nend\n";
+
+/// The graph of `STORES`.
+pub const STORES_GRAPH: &[u8] =
+    b"rvcfi-graph 1\ncode 40000000 00000094\ncall 4000000c 40000040\nend\n";
+
+/// The graph of `GROUPS`.
+pub const GROUPS_GRAPH: &[u8] =
+    b"rvcfi-graph 1\ncode 40000000 000000b4\ncall 4000000c 40000040\nedge 40000070 4000004c\n\
+edge 40000074 4000004c\nend\n";

@@ -5,16 +5,16 @@ use sample_calls::{add_image, add_image_of_harts, add_texts};
 use sample_programs::{
     A, A_CLASS_GRAPH, A_GRAPH, A_OF_HARTS, A_OF_HARTS_GRAPH, AIMED, AIMED_GRAPH, APART, APART_DATA,
     APART_GRAPH, ASTRAY, B, B_GRAPH, BEHIND, BEHIND_GRAPH, BREAK, BREAK_GRAPH, DEEP, DEEP_GRAPH,
-    ECHO, ECHO_GRAPH, EDGE, EDGE_GRAPH, H, H_GRAPH, JOINED, JOINED_DATA, JOINED_GRAPH, LOAD,
-    LOAD_GRAPH, LOOP, LOOP_GRAPH, NARROW, NARROW_GRAPH, NOWHERE, NOWHERE_GRAPH, P, P_DATA, P_GRAPH,
-    Q, Q_DATA, Q_GRAPH, Q_OF_HARTS, Q_OF_HARTS_DATA, Q_OF_HARTS_GRAPH, RELABELLED,
-    RELABELLED_GRAPH, STATUS, STATUS_GRAPH,
+    ECHO, ECHO_GRAPH, EDGE, EDGE_GRAPH, GROUPS, GROUPS_DATA, GROUPS_GRAPH, H, H_GRAPH, JOINED,
+    JOINED_DATA, JOINED_GRAPH, LOAD, LOAD_GRAPH, LOOP, LOOP_GRAPH, NARROW, NARROW_GRAPH, NOWHERE,
+    NOWHERE_GRAPH, P, P_DATA, P_GRAPH, Q, Q_DATA, Q_GRAPH, Q_OF_HARTS, Q_OF_HARTS_DATA,
+    Q_OF_HARTS_GRAPH, RELABELLED, RELABELLED_GRAPH, STATUS, STATUS_GRAPH,
 };
 use std::alloc::Global;
 use tool_io::MemFiles;
 
 /// Names of images, each with the units of its code and its data.
-static IMAGES: [(&str, &[u32], &[u8]); 21] = [
+static IMAGES: [(&str, &[u32], &[u8]); 22] = [
     ("image", &A, b""),
     ("a.img", &A, b""),
     ("b.img", &B, b""),
@@ -33,6 +33,7 @@ static IMAGES: [(&str, &[u32], &[u8]); 21] = [
     ("load.img", &LOAD, b""),
     ("status.img", &STATUS, b""),
     ("behind.img", &BEHIND, b""),
+    ("groups.img", &GROUPS, GROUPS_DATA),
     ("q.img", &Q, Q_DATA),
     ("apart.img", &APART, APART_DATA),
     ("joined.img", &JOINED, JOINED_DATA),
@@ -45,8 +46,9 @@ static IMAGES_OF_HARTS: [(&str, &[u32], &[u8]); 2] = [
 ];
 
 /// Graphs of both versions, and texts that are none, by their names.
-static GRAPHS: [(&str, &[u8]); 13] = [
+static GRAPHS: [(&str, &[u8]); 14] = [
     ("behind.graph", BEHIND_GRAPH),
+    ("groups.graph", GROUPS_GRAPH),
     ("q.graph", Q_GRAPH),
     ("qs.graph", Q_OF_HARTS_GRAPH),
     ("apart.graph", APART_GRAPH),
@@ -105,6 +107,26 @@ static SCRIPTS: [(&str, &[u8]); 6] = [
     (
         "joined_jumped",
         b"rvcfi-script 1\nat 0 00010000 0c010040\nend\n",
+    ),
+];
+
+/// Scripts that change what `GROUPS` stores, where to, and what it has stored, before its mask and between its stores.
+static STORES: [(&str, &[u8]); 4] = [
+    (
+        "to_shadow",
+        b"rvcfi-script 1\nat 12 00010008 0c00006000000000\nend\n",
+    ),
+    (
+        "masked",
+        b"rvcfi-script 1\nat 13 00010000 616263646566676800000060\nat 14 00010020 2d2d2d2d2d2d2d2d2d2d2d2d2d2d2d2d2d2d2d2d2d2d2d2d\nend\n",
+    ),
+    (
+        "between_stores",
+        b"rvcfi-script 1\nat 17 00010020 2d2d2d2d\nat 18 00010020 2a2a\nat 18 00010030 5f\nat 20 00010024 5f\nat 21 00010028 5f\nend\n",
+    ),
+    (
+        "stored",
+        b"rvcfi-script 1\nat 22 00010020 2d2d2d2d2d2d2d2d2d2d2d2d2d2d2d2d2d2d2d2d2d2d2d2d\nat 30 0001081f 07\nend\n",
     ),
 ];
 
@@ -168,6 +190,7 @@ pub(crate) fn add_files(alloc: Global, files: &mut MemFiles) -> Result<(), NoMem
     add_texts(files, &TEXTS)?;
     add_texts(files, &GRAPHS)?;
     add_texts(files, &SCRIPTS)?;
+    add_texts(files, &STORES)?;
     let zeros = vec![in alloc; 0; 67_108_865]?;
     Ok(files.insert("long", &zeros)?)
 }

@@ -84,3 +84,17 @@ const HARTS: &[u8] = b"\
 fn harts(rt: HostRuntime) {
     check(&rt, rt.alloc(), HARTS, 16);
 }
+
+/// Runs of stores of each width behind one mask, one of them of x31, while a script changes data between their words. What the first puts
+/// out, its status and its steps are qemu's; the others were worked out by hand from it.
+const STORES: &[u8] = b"\
+    rvcfi,run,groups.img,groups.graph,none,none,100 = 0: output 24\nA.ABABCDABCDEFGH\x20\x00\x01\x00\x00\x00\x00\x00\nstop exit 65\nsteps 38\nwalk 17\ntrail 40000040 40000044 40000048 4000004c 40000070 40000074 4000007c 40000080 40000084 40000088 4000008c 40000090 40000094 40000098 4000009c 40000038\n;\
+    rvcfi,run,groups.img,groups.graph,to_shadow,none,100 = 0: output 24\n........................\nstop exit 0\nsteps 38\nwalk 17\ntrail 40000040 40000044 40000048 4000004c 40000070 40000074 4000007c 40000080 40000084 40000088 4000008c 40000090 40000094 40000098 4000009c 40000038\n;\
+    rvcfi,run,groups.img,groups.graph,masked,none,100 = 0: output 24\nA-ABABCDABCDEFGH\x20\x00\x01\x00\x00\x00\x00\x00\nstop exit 65\nsteps 38\nwalk 17\ntrail 40000040 40000044 40000048 4000004c 40000070 40000074 4000007c 40000080 40000084 40000088 4000008c 40000090 40000094 40000098 4000009c 40000038\n;\
+    rvcfi,run,groups.img,groups.graph,between_stores,none,100 = 0: output 24\n**AB_BCDABCDEFGH_\x00\x01\x00\x00\x00\x00\x00\nstop exit 65\nsteps 38\nwalk 17\ntrail 40000040 40000044 40000048 4000004c 40000070 40000074 4000007c 40000080 40000084 40000088 4000008c 40000090 40000094 40000098 4000009c 40000038\n;\
+    rvcfi,run,groups.img,groups.graph,stored,none,100 = 0: output 24\n------------------------\nstop exit 7\nsteps 38\nwalk 17\ntrail 40000040 40000044 40000048 4000004c 40000070 40000074 4000007c 40000080 40000084 40000088 4000008c 40000090 40000094 40000098 4000009c 40000038\n";
+
+#[test]
+fn stores(rt: HostRuntime) {
+    check(&rt, rt.alloc(), STORES, 5);
+}

@@ -4,19 +4,11 @@ use cfi_graph::{Graph, read_graph};
 use cfi_unit::{Unit, recognise};
 use cfi_verify::{Reject, Rule, VerifyEnd, verify};
 use rv_word::Image;
-use sample_programs::code;
+use sample_programs::{STORES, code};
 use std::alloc::Global;
 
 /// Where the first unit of an image stands.
 const FIRST: u64 = 0x4000_0040;
-
-/// The words of stores.s in tests/units at the top of the repository, as binutils makes them: a mask and seventeen stores, of
-/// each width, at the least and the greatest distance, of x0 and of x31.
-const STORES: [u32; 20] = [
-    0xffc28f93, 0x024f9f93, 0x024fdf93, 0x006f8023, 0x007f9123, 0x008fa223, 0x009fb423, 0x7fffbfa3,
-    0x000fb823, 0x001fbc23, 0x021fb023, 0x021fb423, 0x021fb823, 0x021fbc23, 0x041fb023, 0x041fb423,
-    0x041fb823, 0x041fbc23, 0x061fb023, 0x061fb423,
-];
 
 /// How many of the words are seen, and how many of these are the unit with which they begin; 0 where there is none.
 static SEEN: [(usize, u32); 7] = [(3, 0), (4, 4), (5, 5), (8, 8), (18, 18), (19, 19), (20, 19)];
