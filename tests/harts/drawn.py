@@ -3,7 +3,7 @@ other's return addresses and at addresses of the shadow stack. Graphs are of eit
 
 import struct
 
-from program import CODE, EBREAK, ECALL, UNITS, Program, addi, i_form, r_form, u_form
+from program import CODE, EBREAK, ECALL, UNITS, Program, addi, branch, i_form, jal, r_form, s_form, u_form
 from worked import SD, add, load, shift
 
 CALLED, JUMPED = 1, 2  # labels of classes; in graphs of version 1 that of jumps is that of calls too
@@ -64,14 +64,14 @@ class Drawn:
             self.inside += 1
             labels.append("l%d" % self.inside)
             p.label(labels[-1])
-            rng.choices(self.kinds(), (30, 12, 12, 10, 12, 10, 6, 6, 5, 5, 1, 2))[0](labels)
+            rng.choices(self.kinds(), (30, 12, 12, 10, 12, 10, 6, 6, 5, 12, 5, 1, 2))[0](labels)
         p.plain(load(1, 8, 2), addi(2, 2, 16))
         p.returns()
         return start
 
     def kinds(self):
         return (self.arithmetic, self.call, self.turn_pointer, self.turn_return, self.computed_call, self.system_call, self.branch,
-                self.load_slot, self.store_slot, self.computed_jump, self.break_off, self.load_anywhere)
+                self.load_slot, self.store_slot, self.store_several, self.computed_jump, self.break_off, self.load_anywhere)
 
     def free(self):
         return self.rng.choice(FREE)
@@ -158,6 +158,19 @@ class Drawn:
         self.p.plain(u_form(0x37, 20, self.rng.choice((0x60000, 0x60010, 0x60020, 0x60070, 0x40000, 0xFFFFF))))
         self.p.store(SD, self.free(), 8 * self.rng.randrange(-2, 6), 20)
 
+    def store_several(self, labels):
+        """Stores several times behind one mask, at any distance or over pointers: of what the program has in its registers, and of
+        x3, x4, x30 and x31, which hold what units have left there."""
+        rng = self.rng
+        upper, imm, apart = rng.choice(((0x10, 0, 8), (0x10, 0x100, 1), (0xFFFF, 0xFFF, 1), (0x60000, 8, 1), (0xFFFFF, 0xFF8, 1)))
+        members = []
+        for _ in range(rng.choice((1, 2, 3, 4, 7, 14, 15, 16, 16))):
+            value = rng.choice(FREE) if rng.random() < 0.7 else rng.choice((0, 1, 2, 3, 4, 30, 31, 31))
+            distance = apart * rng.randrange(COUNT) if rng.random() < 0.6 else rng.choice((0, 1, 2040, 2046, 2047, rng.randrange(2048)))
+            members.append((rng.choice((0, 1, 2, SD, SD)), value, distance))
+        self.p.plain(u_form(0x37, 21, upper))
+        self.p.stores(21, imm, members)
+
     def break_off(self, labels):
         self.p.plain(EBREAK)
 
@@ -169,14 +182,58 @@ def program(rng, version, graph):
     return Drawn(rng, version, graph).built()
 
 
+def is_member(word):
+    return word & 0xF807F == 31 << 15 | 0x23
+
+
+def changed_stores(rng, words, at):
+    """A store behind a mask is off another register, its distance is another or no less than 2,048, it is of another width, or it is
+    none; or the word behind some stores is one more."""
+    kind = rng.randrange(5)
+    if kind == 0:
+        words[at] ^= rng.randrange(1, 32) << 15
+    elif kind == 1:
+        words[at] ^= rng.choice((1 << 31, 1 << rng.choice((7, 8, 9, 10, 11, 25, 26, 27, 28, 29, 30))))
+    elif kind == 2:
+        words[at] ^= rng.randrange(1, 8) << 12
+    elif kind == 3:
+        words[at] = addi(0, 0, 0)
+    else:
+        while at < len(words) - 2 and is_member(words[at]):
+            at += 1
+        words[at] = s_form(rng.randrange(4), 31, rng.randrange(32), rng.randrange(2048))
+
+
+def leads(built, words, k):
+    """Whether a word is a branch or jump that may lead anywhere: a unit's first word, the second of a branch, or the last of a call."""
+    begun = lambda at: CODE + 4 * at in built.starts
+    jumps = words[k] & 0xFFF == 0x6F
+    return (begun(k) and (jumps or words[k] & 127 == 0x63) or words[k] & 0xFFF == 0xEF
+            or jumps and begun(k - 1) and words[k - 1] & 127 == 0x63)
+
+
+def changed_way(rng, built, words, first):
+    """A branch, jump or call leads to another word, most often to a store."""
+    members = [k for k in range(first, len(words)) if is_member(words[k])]
+    at = rng.choice([k for k in range(first, len(words)) if leads(built, words, k)])
+    to = rng.choice(members) if members and rng.random() < 0.8 else rng.randrange(first, len(words))
+    offset = 4 * (to - at)
+    if words[at] & 127 != 0x63:
+        words[at] = jal(words[at] >> 7 & 1, 0, offset)
+    elif -4096 <= offset < 4096:
+        words[at] = branch(words[at] >> 12 & 7, words[at] >> 15 & 31, words[at] >> 20 & 31, offset)
+
+
 def changed_words(rng, built):
     """The words of a program with one unit's word changed: a bit is turned, or it is a gate, a word that does nothing, another word of
-    the program or the load of a check by either word of its destination; or it changes places with the one after it."""
+    the program or the load of a check by either word of its destination; or it changes places with the one after it, or it is one of
+    several stores, or leads elsewhere."""
     words, first = list(built.words), (UNITS[built.version] - CODE) // 4
     at = rng.randrange(first, len(words) - 1)
     loads = [k for k in range(first, len(words)) if words[k] in (0x000FAF03, 0x004FAF03)]
     targets = [k for k in range(first, len(words) - 1) if words[k] & 0xFFF == 0x37]
-    kind = rng.randrange(6)
+    members = [k for k in range(first, len(words) - 1) if is_member(words[k])]
+    kind = rng.randrange(10)
     if kind == 0:
         words[at] ^= 1 << rng.randrange(32)
     elif kind == 1:
@@ -188,9 +245,13 @@ def changed_words(rng, built):
         words[at] = words[rng.randrange(first, len(words))]
     elif kind == 4:
         words[rng.choice(loads or [at])] = rng.choice((0x000FAF03, 0x004FAF03))
-    else:
+    elif kind == 5:
         at = rng.choice(targets or [at])
         words[at], words[at + 1] = words[at + 1], words[at]
+    elif kind < 8:
+        changed_stores(rng, words, rng.choice(members or [at]))
+    else:
+        changed_way(rng, built, words, first)
     return words
 
 

@@ -93,8 +93,12 @@ class Program:
         self.put(1, lambda at: [jal(0, at, CODE)])
 
     def store(self, funct3, rs2, imm, rs1):
-        self.put(4, lambda at: [addi(31, rs1, imm), i_form(0x13, 1, 31, 31, 36), i_form(0x13, 5, 31, 31, 36),
-                                s_form(funct3, 31, rs2, 0)])
+        self.stores(rs1, imm, [(funct3, rs2, 0)])
+
+    def stores(self, rs1, imm, members):
+        """A mask and the stores behind it, each by its width, what it stores, and how far from the masked address."""
+        mask = [addi(31, rs1, imm), i_form(0x13, 1, 31, 31, 36), i_form(0x13, 5, 31, 31, 36)]
+        self.put(3 + len(members), lambda at: mask + [s_form(funct3, 31, rs2, distance) for funct3, rs2, distance in members])
 
     def call(self, target):
         self.put(8, lambda at: push(at) + [jal(1, at + 28, self.address(target))],
