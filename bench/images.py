@@ -1,6 +1,7 @@
 """Images of units of every kind, and the graphs that list them, for rvcfi verify to accept.
 
-docs/MACHINE.md has the units, docs/FORMATS.md the two files. Everything is drawn from a seed, so a size has one pair.
+docs/MACHINE.md has the units, docs/FORMATS.md the two files. Everything is drawn from a seed, so a size has one pair, and one in which
+a mask has several stores behind it.
 """
 
 import random
@@ -16,6 +17,7 @@ SIZE = {"gate": 1, "plain": 1, "branch": 2, "jump": 1, "stop": 1, "system": 1, "
         "ijump": 13, "icall": 20, "return": 5}
 WEIGHT = {"gate": 4, "plain": 60, "branch": 9, "jump": 4, "stop": 1, "system": 1, "store": 10, "call": 5,
           "ijump": 1, "icall": 2, "return": 3}
+STORES = (1, 2, 2, 3, 4, 5, 8, 16)  # behind one mask, where there are several; each as often
 TARGETS_PER_CLASS = 16
 FREE = [register for register in range(32) if register not in (3, 4, 30, 31)]
 
@@ -101,7 +103,7 @@ def prologue(entry, version=1):
     return words + [addi(17, 0, 93), 0x00000073]
 
 
-def layout(rng, words):
+def layout(rng, words, grouped=False):
     """The kinds of the units that fill so many words, with their addresses."""
     kinds, weights = list(WEIGHT), list(WEIGHT.values())
     units, left, at = [], words - 1, UNITS
@@ -110,15 +112,16 @@ def layout(rng, words):
         at, left = at + 4 * SIZE[kind], left - SIZE[kind]
     while left > 0:
         kind = rng.choices(kinds, weights)[0]
-        if SIZE[kind] > left:
-            kind = "plain"
+        size = 3 + rng.choice(STORES) if grouped and kind == "store" else SIZE[kind]
+        if size > left:
+            kind, size = "plain", 1
         units.append((kind, at))
-        at, left = at + 4 * SIZE[kind], left - SIZE[kind]
+        at, left = at + 4 * size, left - size
     units.append(("stop", at))
     return units
 
 
-def unit_words(rng, kind, at, label, target):
+def unit_words(rng, kind, at, size, label, target):
     source, imm = rng.choice(FREE), rng.randrange(4096)
     if kind == "gate":
         return [u_form(0x37, 0, label)]
@@ -134,7 +137,8 @@ def unit_words(rng, kind, at, label, target):
         return [rng.choice((0x00000073, 0x00100073))]
     if kind == "store":
         masked = [addi(31, source, imm), i_form(0x13, 1, 31, 31, 36), i_form(0x13, 5, 31, 31, 36)]
-        return masked + [s_form(rng.randrange(4), 31, rng.choice(FREE), 0)]
+        masked.append(s_form(rng.randrange(4), 31, rng.choice(FREE), 0))
+        return masked + [s_form(rng.randrange(4), 31, rng.choice(FREE), rng.randrange(2048)) for _ in range(size - 4)]
     if kind == "call":
         return push(at) + [jal(1, at + 28, target)]
     if kind == "ijump":
@@ -157,10 +161,10 @@ def image_file(code, data, version=1):
     return head.ljust(PAGE, b"\0") + code.ljust(start - PAGE, b"\0") + data
 
 
-def pair(code_bytes, data_bytes=4096, seed=1):
+def pair(code_bytes, data_bytes=4096, seed=1, grouped=False):
     """An image with this much code, its graph, and how many units of each kind it has."""
     rng = random.Random(seed)
-    units = layout(rng, (code_bytes - 64) // 4)
+    units = layout(rng, (code_bytes - 64) // 4, grouped)
     gates = [at for kind, at in units if kind == "gate"]
     classes = max(1, len(gates) // TARGETS_PER_CLASS)
     members, label_at = [[] for _ in range(classes)], {}
@@ -170,9 +174,9 @@ def pair(code_bytes, data_bytes=4096, seed=1):
         label_at[at] = label + 1
     starts = [at for _, at in units]
     words, lines = prologue(UNITS), ["call %08x %08x" % (OPENING, UNITS)]
-    for kind, at in units:
+    for (kind, at), after in zip(units, starts[1:] + [CODE + code_bytes]):
         label, target = label_at.get(at, rng.randrange(classes) + 1), rng.choice(starts)
-        words += unit_words(rng, kind, at, label, target)
+        words += unit_words(rng, kind, at, (after - at) // 4, label, target)
         if kind in ("branch", "jump"):
             lines.append("edge %08x %08x" % (at, target))
         elif kind == "call":

@@ -1,5 +1,6 @@
 #!/usr/bin/env python3
-"""Times `rvcfi verify` on images of three sizes, beside a hash and a disassembler of the same files, with its peak memory.
+"""Times `rvcfi verify` on images of three sizes, beside a hash and a disassembler of the same files, with its peak memory; and on the
+largest where masks have several stores behind them.
 
     python3 bench/verify.py [--program PATH] [--runs N] [--sizes KIB,KIB,..] [--keep FOLDER]
 
@@ -99,21 +100,49 @@ def peak_memory(command):
     return peak * 1024
 
 
-def measure(program, folder, kib, runs):
-    image, graph, counts = pair(kib * 1024)
-    paths = [os.path.join(folder, "%d.%s" % (kib, name)) for name in ("img", "graph")]
+def written(folder, kib, grouped=False):
+    """The paths of a pair's files, their sizes, and how many units of each kind the image has."""
+    image, graph, counts = pair(kib * 1024, grouped=grouped)
+    name = "%d%s" % (kib, ".grouped" if grouped else "")
+    paths = [os.path.join(folder, "%s.%s" % (name, end)) for end in ("img", "graph")]
     for path, content in zip(paths, (image, graph)):
         with open(path, "wb") as out:
             out.write(content)
+    return paths, len(image), len(graph), counts
+
+
+def measure(program, folder, kib, runs):
+    paths, image, graph, counts = written(folder, kib)
     verify = [program, "verify"] + paths
     ends = ["--start-address=%d" % PAGE, "--stop-address=%d" % (PAGE + kib * 1024)]
     dump = [OBJDUMP, "-D", "-b", "binary", "-m", "riscv:rv64"] + ends + [paths[0]]
-    row = {"kib": kib, "image": len(image), "graph": len(graph), "units": sum(counts.values()), "counts": counts}
+    row = {"kib": kib, "image": image, "graph": graph, "units": sum(counts.values()), "counts": counts}
     row["verify"], row["hash"] = best_times([verify, ["sha256sum"] + paths], runs, [b"accepted\n", None])
     row["objdump"], = best_times([dump], max(2, runs // 3), [None])
     row["peak"] = peak_memory(verify)
-    row["files"] = len(image) + len(graph)
+    row["files"] = image + graph
     return row
+
+
+def compare(program, folder, kib, runs):
+    """The times of `verify` on one size where each mask has one store behind it and where it has several, run in turn."""
+    sides = [written(folder, kib, grouped) for grouped in (False, True)]
+    times = best_times([[program, "verify"] + side[0] for side in sides], runs, [b"accepted\n"] * 2)
+    return [{"units": sum(counts.values()), "stores": counts["store"], "files": image + graph, "time": time}
+            for (_, image, graph, counts), time in zip(sides, times)]
+
+
+def report_stores(kib, sides, start):
+    """How many times as long a byte takes where masks have several stores, without the time of the usage line."""
+    print("%d KiB of code, one store behind a mask and several:" % kib)
+    for side in sides:
+        print("%8d units, %d of stores, %d bytes of files: verify %.2f / %.2f" % (
+            side["units"], side["stores"], side["files"], side["time"].wall, side["time"].processor))
+    one, several = ([(side["time"][k] - start[k]) for k in (0, 1)] for side in sides)
+    bytes_of = sides[0]["files"] / sides[1]["files"]
+    print("several take %.2f / %.2f times as long a byte of code, %.2f / %.2f a byte of the files" % (
+        several[0] / one[0], several[1] / one[1], bytes_of * several[0] / one[0], bytes_of * several[1] / one[1]))
+    print()
 
 
 def report(rows, base, start):
@@ -144,6 +173,7 @@ def report(rows, base, start):
     print()
     for row in rows:
         print("%d KiB:" % row["kib"], ", ".join("%s %d" % item for item in row["counts"].items()))
+    print()
 
 
 def main():
@@ -159,8 +189,11 @@ def main():
         os.makedirs(folder, exist_ok=True)
         usage = subprocess.run([program], stdout=subprocess.PIPE).stdout
         base, (start,) = peak_memory([program]), best_times([[program]], options.runs, [usage])
-        rows = [measure(program, folder, int(kib), options.runs) for kib in options.sizes.split(",")]
+        sizes = [int(kib) for kib in options.sizes.split(",")]
+        rows = [measure(program, folder, kib, options.runs) for kib in sizes]
+        sides = compare(program, folder, sizes[-1], options.runs)
     report(rows, base, start)
+    report_stores(sizes[-1], sides, start)
 
 
 if __name__ == "__main__":
