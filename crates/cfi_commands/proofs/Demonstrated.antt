@@ -50,7 +50,7 @@ module _ (request : ProgramRequest) (p : PreparedParts) (prepared : IsPreparedOf
   can_run =
       let (s, labels, code, init, placed, room, in_range, written) = hardened in
       record {
-        legal = subst (λ (l : ProgramAtMap). IsLegalMap l.program l.closed h.map) placed.of written.map;
+        legal = subst (λ (l : ProgramAtMap). IsLegalMap l.program l.closed l.entry h.map) placed.of written.map;
         room = room;
         in_range = subst (λ (l : ProgramAtMap). first_astray l ≡ None) (at_gates s placed written.map_form written.gates) in_range;
       }

@@ -1,5 +1,5 @@
 -- A program at the map that a text spells, and what comes of it and of a file that should be an image.
-use Rattle.std.proofs.Common.{◌≡◌, ◌+◌, ◌≤◌, ℕ, List, Option, None, Some, Ok, Err, inl, inr, sym, ap, subst, arith}
+use Rattle.std.proofs.Common.{◌≡◌, ◌+◌, ◌≤◌, ℕ, List, MatchResult, Option, Some, None, Result, Ok, Err, inl, inr, sym, ap, subst, arith}
 use Rattle.rv_word.specs.Image.{image_profile}
 use Rattle.rv_word.proofs.Cases.{cases_Option}
 use Rattle.rv_word.specs.MemoryMap.{DATA_END, DATA_START}
@@ -10,10 +10,8 @@ use Rattle.obj_program.specs.DataAtMap.{init_size}
 use Rattle.elf_image.specs.Fault.{fault_of}
 use Rattle.cfi_graph.specs.Map.{MapParts}
 use Rattle.cfi_graph.specs.MapText.{map_of}
-use Rattle.cfi_map.specs.GraphAtMap.{ProgramAtMap, program_at}
-use Rattle.cfi_map.specs.LegalMap.{gates_of}
+use Rattle.cfi_map.specs.GraphAtMap.{ProgramAtMap}
 use Rattle.cfi_map.specs.MapFault.{IsWrongLine}
-use Rattle.cfi_flow.specs.Policy.{instruction_at}
 use Rattle.cfi_harden.specs.Given.{Given}
 use Rattle.cfi_harden.specs.Room.{HasDataRoom}
 use Rattle.cfi_harden.specs.Prepared.{PreparedParts}
@@ -26,7 +24,9 @@ use Rattle.cfi_harden.proofs.Giving.{given_early}
 use Rattle.cfi_files.specs.declared.refusal.MapReason.TheVariants.{Text, Place}
 use Rattle.cfi_files.specs.declared.refusal.Refusal.{Refusal as Refused}
 use Rattle.cfi_files.specs.declared.refusal.Refusal.TheVariants as refused
-use Rattle.src_machine.specs.Beginning.{IsBegun}
+use Rattle.cfi_flow.specs.Policy.{instruction_at}
+use Rattle.src_machine.specs.Beginning.{Ends, IsBegun}
+use Rattle.src_machine.specs.declared.source_end.SourceEnd.{SourceEnd}
 use Rattle.src_machine.specs.Laws.{WrongIsNotLegal}
 use Rattle.src_machine.specs.Running.{SourceParts}
 use Rattle.cfi_meaning.specs.Compared.{compared}
@@ -48,19 +48,24 @@ asked_form form given entry policy text same = ap (λ (f : Form). record { form 
 pub data_fits : (p : PreparedParts) → HasDataRoom p.program → DATA_START + init_size p.program ≤ DATA_END
 data_fits p room = omega (arith, room.init)
 
--- a run that is begun at the entry's section and offset is the program's from its start
-pub source_on : (p : PreparedParts) (input : List ℕ) (m : MapParts) (section offset : ℕ) (run : SourceParts)
-    → instruction_at p.program (section, offset) ≡ Some p.entry
-    → IsBegun p.program p.closed m section offset input run → IsSourceOn p m input run
-source_on p input m section offset run at begun =
-    let same : run.layout.entry ≡ p.entry = cc (begun.entry, at) in
-    record {
-      legal = begun.legal;
-      in_range = begun.in_range;
-      layout = subst (λ (entry : ℕ). run.layout ≡ program_at m.form p.program p.closed (gates_of m.lines) entry) same begun.layout;
-      state = begun.state;
-      steps = begun.steps;
-    }
+-- a run that is begun where the program is entered is the program's from its start
+pub source_on : (p : PreparedParts) (input : List ℕ) (m : MapParts) (run : SourceParts) → IsBegun p.program p.closed p.entry m input run → IsSourceOn p m input run
+source_on p input m run begun = record {
+  legal = begun.legal;
+  in_range = begun.in_range;
+  layout = begun.layout;
+  state = begun.state;
+  steps = begun.steps;
+}
+
+-- what a run that begins at the spot of the entry comes to
+pub begins : (p : PreparedParts) (input : List ℕ) (m : MapParts) (section offset : ℕ) (result : Result SourceParts SourceEnd) →
+    instruction_at p.program (section, offset) ≡ Some p.entry →
+    ((place : ℕ) → instruction_at p.program (section, offset) ≡ Some place →
+    MatchResult result (λ (run : SourceParts). IsBegun p.program p.closed place m input run) (λ (e : SourceEnd). Ends p.program p.closed place m e)) →
+    MatchResult result (IsSourceOn p m input) (Ends p.program p.closed p.entry m)
+begins p input m section offset (Ok run) at is = source_on p input m run (is p.entry at)
+begins p input m section offset (Err e) at is = is p.entry at
 
 pub source_is : (p : PreparedParts) (map input : List ℕ) (m : MapParts) (run : SourceParts)
     → map_of map ≡ Ok m → IsSourceOn p m input run → IsSourceAt p map input run
@@ -109,13 +114,13 @@ module _ (request : Request) (p : PreparedParts) (map : List ℕ) (roomy : IsRoo
   pub runnable_text : (line : ℕ) (reason : Reason) → map_of map ≡ Err (Line line reason) → IsRunnable request p map
   runnable_text line reason wrong = record { roomy = roomy; in_range = λ m is. absurd (cc (is.read, wrong)) }
 
-  pub runnable_place : (m : MapParts) (line : ℕ) → WrongIsNotLegal → map_of map ≡ Ok m → IsWrongLine p.program p.closed m line
+  pub runnable_place : (m : MapParts) (line : ℕ) → WrongIsNotLegal → map_of map ≡ Ok m → IsWrongLine p.program p.closed p.entry m line
       → IsRunnable request p map
   runnable_place m line law read wrong = record {
     roomy = roomy;
     in_range = λ other is.
         let same : other ≡ m = cc (is.read, read) in
-        absurd (law p.program p.closed other line (subst (λ (n : MapParts). IsWrongLine p.program p.closed n line) (sym same) wrong) is.legal);
+        absurd (law p.program p.closed p.entry other line (subst (λ (n : MapParts). IsWrongLine p.program p.closed p.entry n line) (sym same) wrong) is.legal);
   }
 
   -- what comes of the program's run from its start is the comparison
@@ -145,7 +150,7 @@ module _ (request : Request) (p : PreparedParts) (map : List ℕ) (roomy : IsRoo
 
   module _ (image : List ℕ) (refusal : Refused) where
     -- a map's line that is no legal placement's, and a text that is no map, after an image's own refusal
-    pub wrong_place : (m : MapParts) (line : ℕ) → WrongIsNotLegal → map_of map ≡ Ok m → IsWrongLine p.program p.closed m line
+    pub wrong_place : (m : MapParts) (line : ℕ) → WrongIsNotLegal → map_of map ≡ Ok m → IsWrongLine p.program p.closed p.entry m line
         → IsAfterImage image (refused.Map line Place) refusal → IsCompareRefused request image map refusal
     wrong_place m line law read wrong after =
         let runnable = runnable_place m line law read wrong in

@@ -31,6 +31,6 @@ written_is_read words request hardened written made is =
       form = ap form_told read ∙ w.map_form ∙ prepared.form;
       map_is = record {
         read = read;
-        legal = subst (λ (l : ProgramAtMap). IsLegalMap l.program l.closed hardened.map) placed.of w.map;
+        legal = subst (λ (l : ProgramAtMap). IsLegalMap l.program l.closed l.entry hardened.map) placed.of w.map;
       };
     }

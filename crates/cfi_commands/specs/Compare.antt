@@ -95,7 +95,7 @@ pub record IsRoomy (request : asks.Request) (p : PreparedParts) : Type 0 where
 -- the text is a legal map of the program
 pub record IsMapOf (p : PreparedParts) (text : List ℕ) (m : MapParts) : Type 0 where
   pub read : map_of text ≡ Ok m
-  pub legal : IsLegalMap p.program p.closed m
+  pub legal : IsLegalMap p.program p.closed p.entry m
 
 -- the program at the map, as images of the map's form have it
 abbrev pub at_map : PreparedParts → MapParts → ProgramAtMap
@@ -123,7 +123,7 @@ IsCompareRefused request image map (Image refusal) = (p : PreparedParts) × IsRu
 IsCompareRefused request image map (Map line (Text reason)) =
     (p : PreparedParts) × IsRunnable request p map × (fault_of image ≡ None) × (map_of map ≡ Err (Line line reason))
 IsCompareRefused request image map (Map line Place) =
-    (p : PreparedParts) × (m : MapParts) × IsRunnable request p map × (fault_of image ≡ None) × (map_of map ≡ Ok m) × IsWrongLine p.program p.closed m line
+    (p : PreparedParts) × (m : MapParts) × IsRunnable request p map × (fault_of image ≡ None) × (map_of map ≡ Ok m) × IsWrongLine p.program p.closed p.entry m line
 IsCompareRefused request image map other = ⊥
 
 -- why there is no program whose data have room, where only want of memory is free. Only private contracts cite this

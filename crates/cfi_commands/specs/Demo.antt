@@ -56,7 +56,7 @@ pub record IsDemoRun (number : ℕ) (hardened : HardenedParts) (image : Contents
 pub record IsComparedAt (request : asks.Request) (map : MapParts) (image : Contents) (result : A.Compared) : Type 0 where
   pub program : PreparedParts
   pub prepared : IsPrepared request program
-  pub map_is : IsLegalMap program.program program.closed map
+  pub map_is : IsLegalMap program.program program.closed program.entry map
   pub result_is : result ≡ told_answer program.program (compared (image_profile image) (at_map program map) image [] STEP_LIMIT)
 
 abbrev pub IsExit : RunEnd → Type 0

@@ -24,13 +24,13 @@ abbrev pub IsDrawn : List ℕ → Type 0
 IsDrawn object = (number : ℕ) × (object ≡ object_bytes (demo_parts number))
 
 pub record CanRunAt (p : PreparedParts) (map : MapParts) : Type 0 where
-  pub legal : IsLegalMap p.program p.closed map
+  pub legal : IsLegalMap p.program p.closed p.entry map
   pub room : HasDataRoom p.program
   pub in_range : first_out p map ≡ None
 
 -- a program's run is at its start, at a map
 pub record IsSourceOn (p : PreparedParts) (map : MapParts) (input : List ℕ) (run : SourceParts) : Type 0 where
-  pub legal : IsLegalMap p.program p.closed map
+  pub legal : IsLegalMap p.program p.closed p.entry map
   pub in_range : first_out p map ≡ None
   pub layout : run.layout ≡ at_map p map
   pub state : source_of run ≡ source_start run.layout input

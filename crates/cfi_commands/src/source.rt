@@ -76,7 +76,7 @@ fn spot_of(prepared: &Prepared, entry: &str) -> (u32, u64)
 }
 
 /// A program at a map, from its start.
-#[tactic(auto, using(crate::proofs::Sources::source_on, crate::proofs::Sources::data_fits))]
+#[tactic(auto, using(crate::proofs::Sources::data_fits))]
 pub(crate) fn source_on<'a, 'b>(
     alloc: Global,
     prepared: &'a Prepared<'b>,
@@ -86,7 +86,7 @@ pub(crate) fn source_on<'a, 'b>(
 ) -> Result<SourceRun<'a, 'b>, SourceEnd>
     requires room { HasDataRoom prepared.now.program }
     requires entry { entry_place prepared.now.program entry.now ≡ Some prepared.now.entry }
-    ensures { MatchResult result (IsSourceOn prepared.now map.now input.now) (Ends prepared.now.program prepared.now.closed map.now) }
+    ensures { MatchResult result (IsSourceOn prepared.now map.now input.now) (Ends prepared.now.program prepared.now.closed prepared.now.entry map.now) }
 {
     let spot = spot_of(prepared, entry);
     SourceRun::new(alloc, &prepared.items, &prepared.closed, map, spot, input)

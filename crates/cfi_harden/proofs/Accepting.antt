@@ -1,24 +1,21 @@
 -- A placement in which no value leaves its range, with labels, makes an accepted choice of a program with its closed graph.
-use Rattle.std.proofs.Common.{◌≡◌, ℕ, ◌+◌, ◌-◌, ◌*◌, ◌≤◌, ◌<◌, inl, inr, true, false, List, length, Option, Some, None, refl, sym, subst, arith}
-use Rattle.std.specs.Prelude.{is_some, slice_get, sum}
+use Rattle.std.proofs.Common.{◌≡◌, ℕ, ◌+◌, ◌-◌, ◌<◌, inl, inr, true, false, List, Option, Some, None, refl, sym, subst, arith}
+use Rattle.std.specs.Prelude.{is_some, slice_get}
 use Rattle.rv_word.proofs.Versions.{is_profile}
 use Rattle.rv_word.specs.Form.{graph_version, image_version}
 use Rattle.rv_word.specs.Image.{IsVersion}
 use Rattle.rv_word.specs.declared.form.Form.{Form}
 use Rattle.rv_word.specs.declared.form.Form.TheVariants.{Plain, Harts, Split, HartsSplit}
-use Rattle.rv_word.specs.MemoryMap.{CODE_SIZE, CODE_START, IsProfile}
 use Rattle.obj_program.specs.AtMap.{instr_at}
 use Rattle.obj_program.specs.Program.{Program, count, is_end, item_of}
-use Rattle.obj_program.specs.Sound.{IsSound}
 use Rattle.cfi_map.proofs.Values.{values_there}
 use Rattle.cfi_closed.specs.Closed.{ClosedGraph, Side}
 use Rattle.cfi_flow.specs.Closing.{IsClosed, IsSide}
-use Rattle.cfi_map.specs.GraphAtMap.{ProgramAtMap, program_at, words_at}
-use Rattle.cfi_map.specs.Placement.{whole_at, size_of, words_from}
+use Rattle.cfi_map.specs.GraphAtMap.{ProgramAtMap, program_at}
+use Rattle.cfi_map.specs.Groups.{AreGroups, is_entered}
+use Rattle.cfi_map.specs.Placement.{whole_at, words_from}
+use Rattle.cfi_map.proofs.Greedy.{greedy_groups}
 use Rattle.cfi_flow.proofs.Laws.{members_there}
-use Rattle.cfi_unit.specs.UnitWords.{word_count}
-use Rattle.cfi_rules.specs.Placed.{placed_code}
-use Rattle.cfi_rules.proofs.UnitIn.{length-placed_code}
 use Rattle.cfi_writer.specs.Accepted.{IsAccepted}
 use Rattle.cfi_harden.specs.Fitting.{IsFitting}
 use Rattle.cfi_writer.specs.GraphOf.{IsGraphOf}
@@ -26,24 +23,9 @@ use Rattle.cfi_writer.specs.Hardened.{AreGiven, chosen}
 use Rattle.cfi_map.specs.Placing.{IsPlacement, Spaced}
 use Rattle.cfi_map.specs.Source.{first_astray}
 use Rattle.cfi_harden.specs.Prepared.{IsClosedUnder, PreparedParts}
-use Rattle.cfi_map.specs.Sizes.{part_sizes}
-use Rattle.cfi_writer.specs.Units.{Choice, entry_gate, unit_for, units}
 use Rattle.cfi_harden.specs.Ready.{IsReady}
-use Rattle.cfi_writer.proofs.CodeRoom.{bytes_are, size_is}
+use Rattle.cfi_writer.proofs.CodeRoom.{room_there}
 use Rattle.cfi_writer.proofs.SitesThere.{side_at, site_class_there, site_of}
-
--- the code has room where the parts have
-pub room_there : (m : Choice) → IsProfile m.layout.profile → IsSound m.layout.program →
-    ((k : ℕ) → k < count m.layout.program → is_end (item_of m.layout.program k).kind ≡ false →
-    is_some (instr_at m.layout.program m.layout.gates (words_at m.layout) k) ≡ true) →
-    m.layout.profile.units_from - CODE_START + sum (part_sizes m.layout.closed.sides m.whole 0 m.layout.program.items) ≤ CODE_SIZE →
-    4 * length (placed_code m.layout.profile (entry_gate m) (units m)) ≤ CODE_SIZE
-room_there m is sound values room =
-    let whole = length-placed_code m.layout.profile is (entry_gate m) (units m) in
-    let zero_more : (n : ℕ) → n ≡ 0 + n = λ n. omega arith in
-    let bytes = bytes_are m 0 m.layout.profile.units_from m.layout.program.items
-    (λ i item get. subst (λ (n : ℕ). size_of item.kind (whole_at m.whole n) ≡ 4 * word_count (unit_for m n item)) (zero_more i) (size_is m sound values i item get)) in
-    omega arith
 
 -- a closed graph under a policy is one of its program, for the version that was asked
 pub graph_there : (version : ℕ) (program : Program) (policy : Option (List ℕ)) (closed : ClosedGraph) → IsClosedUnder version program policy closed →
@@ -79,6 +61,10 @@ module _ (p : PreparedParts) (ready : IsReady p) (s : Spaced) (fitting : IsFitti
       is_some (instr_at p.program s.layout.gates (words_from p.closed.sides 0 s.layout.gates) k) ≡ true
   values = values_there p.program s.layout.gates (words_from p.closed.sides 0 s.layout.gates) none_astray
 
+  -- stores that join from left to right are groups
+  groups_here : AreGroups (item_of p.program) (is_entered p.program p.closed p.entry) (whole_at s.whole)
+  groups_here = greedy_groups (item_of p.program) (is_entered p.program p.closed p.entry) (whole_at s.whole) placed_here.groups
+
   pub accepted_here : IsAccepted (chosen here labels)
   accepted_here =
       let (lines, raw, is, closes) = ready.graph in
@@ -91,7 +77,8 @@ module _ (p : PreparedParts) (ready : IsReady p) (s : Spaced) (fitting : IsFitti
         last = let below = ready.entered in last_there p.program (omega arith) (ready.fits_maps.last (omega arith));
         entry_there = ready.entered;
         legal = placed_here.legal;
-        room = room_there (chosen here labels) (is_profile (image_version p.form)) ready.sound values placed_here.size;
+        groups = groups_here;
+        room = room_there (chosen here labels) ready.sound values groups_here (is_profile (image_version p.form)) placed_here.legal placed_here.size;
         values = values;
         version = subst IsVersion (sym ready.version) (known_form p.form);
         sorts = closes.sorts;

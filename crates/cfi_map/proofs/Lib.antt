@@ -1,9 +1,17 @@
 pub mod Placing
 pub mod ByGate
 pub mod PartSizes
+pub mod GroupedSizes
 pub mod ShortList
 pub mod Values
+pub mod GroupFacts
+pub mod Greedy
+pub mod GroupsAgree
+mod DirectTargets
+pub mod LaterPlaces
+pub mod LaterRuns
 mod Shortened
 mod Placements
 mod PlacingRows
+mod GroupRows
 mod SourceRows

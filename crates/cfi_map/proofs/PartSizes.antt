@@ -1,7 +1,6 @@
 -- Sizes of a program's parts, and the gates of parts that stand one after another.
-use Rattle.std.proofs.Common.{◌≡◌, ℕ, zero, suc, ◌+◌, ◌*◌, ◌<◌, ◌≤◌, Bool, true, false, List, [], ◌∷◌, ◌++◌, length, get_or, take, drop, refl, sym, subst, ◌∙◌, arith, append_assoc}
+use Rattle.std.proofs.Common.{◌≡◌, ℕ, zero, suc, ◌+◌, ◌*◌, ◌<◌, ◌≤◌, Bool, true, false, List, [], ◌∷◌, length, get_or, take, refl, subst, ◌∙◌, arith}
 use Rattle.std.specs.Prelude.{sum}
-use Rattle.std.proofs.lemmas.List.{append-nil, drop_all}
 use Rattle.std.proofs.lemmas.List.Sums.{sum_by-cons}
 use Rattle.obj_input.specs.declared.item_kind.ItemKind.{ItemKind}
 use Rattle.obj_input.specs.declared.item_kind.ItemKind.TheVariants as is
@@ -10,7 +9,6 @@ use Rattle.obj_program.specs.Program.{no_item}
 use Rattle.cfi_layout.specs.Starts.{starts_from}
 use Rattle.cfi_closed.specs.Closed.{Side}
 use Rattle.cfi_map.specs.Placement.{AreGates, lead_size, whole_at, size_of}
-use Rattle.cfi_map.proofs.Placing.{drop_step}
 use Rattle.cfi_map.specs.Sizes.{part_sizes}
 
 pub length_sizes : (sides : List Side) (whole : List Bool) (k : ℕ) (items : List Item) → length (part_sizes sides whole k items) ≡ length items
@@ -27,21 +25,10 @@ size_at sides whole k (item ∷ items) (suc i) lt =
     let e : k + 1 + i ≡ k + suc i = omega arith in
     size_at sides whole (k + 1) items i (omega arith) ∙ rw e refl
 
--- while a loop makes them
-pub sizes_more : (sides : List Side) (k : ℕ) (items : List Item) (made all : List ℕ) (size : ℕ) → k < length items →
-    size ≡ lead_size sides k + size_of (get_or items k no_item).kind true →
-    made ++ part_sizes sides [] k (drop k items) ≡ all → (made ++ size ∷ []) ++ part_sizes sides [] (k + 1) (drop (k + 1) items) ≡ all
-unfolding part_sizes
-sizes_more sides k items made all size lt is so_far = rw (append_assoc, is) (rw (drop_step items k no_item lt) at so_far)
-
-pub sizes_end : (sides : List Side) (k : ℕ) (items : List Item) (made all : List ℕ) → length items ≤ k →
-    made ++ part_sizes sides [] k (drop k items) ≡ all → made ≡ all
-unfolding part_sizes
-sizes_end sides k items made all past so_far = sym (append-nil made) ∙ (rw (drop_all k items past) at so_far)
-
 -- a unit has one word at least
 pub unit_many : (kind : ItemKind) (whole : Bool) → 4 ≤ size_of kind whole
-unit_many is.Store whole = omega arith
+unit_many is.Store true = omega arith
+unit_many is.Store false = omega arith
 unit_many is.Branch true = omega arith
 unit_many is.Branch false = omega arith
 unit_many is.Call whole = omega arith

@@ -1,48 +1,107 @@
--- The placement of a program whose branches are short where they can be.
-use Rattle.std.proofs.Common.{◌≡◌, ℕ, ◌+◌, ◌<◌, ◌≤◌, ◌^◌, Bool, true, false, List, [], ◌∷◌, ◌++◌, length, get_or, take, sym, ap, subst, ◌∙◌, arith, inl, inr}
-use Rattle.std.specs.Prelude.{sum}
+-- The placement of a program whose stores are grouped and whose branches are short where they can be.
+use Rattle.std.proofs.Common.{◌≡◌, ℕ, zero, suc, refl, ◌+◌, ◌<◌, ◌≤◌, ◌^◌, Bool, true, false, List, [], ◌∷◌, ◌++◌, length, get_or, take, sym, ap, subst, ◌∙◌, arith, inl, inr}
+use Rattle.std.specs.Prelude.{◌==◌, ◌||◌, Some, not, slice_get, sum}
 use Rattle.std.specs.List.Sorted.{IsStrictlyIncreasing}
 use Rattle.std.proofs.Math.ListN.{get_or-eq_default}
 use Rattle.std.proofs.Math.Path.{fun_ext}
 use Rattle.std.proofs.Math.Seq.{get_or-append_seam}
-use Rattle.std.proofs.lemmas.Bool.{cases_Bool, cases_lt}
+use Rattle.std.proofs.lemmas.Bool.{cases_Bool, cases_lt, eq-eqb, not_from_false, or_right}
+use Rattle.std.proofs.lemmas.List.Folds.{list_any_at}
+use Rattle.std.proofs.lemmas.Option.{get_or_from_slice_get, slice_get_within}
 use Rattle.std.proofs.lemmas.List.{get_or-take, get_or_append_left, length-take-le}
 use Rattle.rv_word.proofs.Versions.{is_profile, laid_out}
 use Rattle.rv_word.specs.Form.{image_version, profile_for}
 use Rattle.rv_word.specs.MemoryMap.{CODE_SIZE}
 use Rattle.rv_word.specs.declared.form.Form.{Form}
-use Rattle.obj_program.specs.Program.{Program, count}
+use Rattle.obj_input.specs.declared.item_kind.ItemKind.{ItemKind}
+use Rattle.obj_input.specs.declared.item_kind.ItemKind.TheVariants as is
+use Rattle.obj_program.specs.declared.item.Item.{Item}
+use Rattle.obj_program.specs.Program.{Program, count, item_of}
 use Rattle.obj_program.specs.Sound.{IsSound}
-use Rattle.cfi_layout.specs.LongSet.{IsLongSet, is_whole, sizes_under, starts_under}
+use Rattle.cfi_layout.specs.declared.short.Short.{Short}
+use Rattle.cfi_layout.specs.LongSet.{IsLongSet, is_forced, is_whole, sizes_under, sizes_where, starts_under}
+use Rattle.cfi_layout.specs.LongSet.{is_branch as is_part}
 use Rattle.cfi_layout.specs.Starts.{Placed, code_size, flag, starts_from}
 use Rattle.cfi_layout.proofs.Offsets.{length_starts, length_where, start_most, sum_where}
 use Rattle.cfi_closed.specs.Closed.{ClosedGraph}
+use Rattle.cfi_map.specs.Groups.{AreLeads, Entries, entries, is_store, joins_in, members_before}
 use Rattle.cfi_map.specs.Placement.{AreGates, whole_at}
-use Rattle.cfi_map.specs.Placing.{IsPlacement, IsPlacementOf, IsShortened}
-use Rattle.cfi_map.specs.Shorts.{shorts_of, IsShortAt}
+use Rattle.cfi_map.specs.Placing.{IsPlacement, IsPlacementOf, IsShortened, joined}
+use Rattle.cfi_map.specs.Shorts.{shorts_of, IsShortAt, is_branch}
 use Rattle.cfi_map.specs.GraphAtMap.{ProgramAtMap, program_at}
-use Rattle.cfi_map.specs.Sizes.{part_sizes, whole_sizes}
-use Rattle.cfi_map.proofs.PartSizes.{gates_are, gates_rise, length_sizes}
-use Rattle.cfi_map.proofs.ShortList.{parts_within}
+use Rattle.cfi_map.specs.Sizes.{grouped_parts, part_sizes}
+use Rattle.cfi_map.proofs.GroupedSizes.{code_shorter, grouped_less, grouped_same, length_grouped}
+use Rattle.cfi_map.proofs.Greedy.{past_store}
+use Rattle.cfi_map.proofs.PartSizes.{gates_are, gates_rise}
+use Rattle.cfi_map.proofs.ShortList.{parts_are, parts_within}
 use Rattle.cfi_map.proofs.Shortened.{branch_reaches, sizes_are, starts_are}
 
-module _ (form : Form) (program : Program) (closed : ClosedGraph) (p : Placed) (is : IsShortened form program closed p) where
+-- a set of parts that is known at branches alone
+sets_same : (branches : List Short) (long other : ℕ → Bool) → ((k : ℕ) → is_part branches k ≡ true → long k ≡ other k) → is_whole branches long ≡ is_whole branches other
+sets_same branches long other same = fun_ext (λ k. elim (cases_Bool (is_part branches k)) [
+  | inl part ↦ ap (λ (b : Bool). b || not (is_part branches k)) (same k part)
+  | inr none ↦
+      let free = not_from_false (is_part branches k) none in
+      or_right (long k) (not (is_part branches k)) free ∙ sym (or_right (other k) (not (is_part branches k)) free)
+])
+
+listed_part : (branches : List Short) (i : ℕ) (b : Short) → slice_get branches i ≡ Some b → is_part branches b.at ≡ true
+listed_part branches i b at =
+    let there = slice_get_within branches i b at in
+    let here : get_or branches i b ≡ b = get_or_from_slice_get branches i b b at in
+    list_any_at (λ (x : Short). x.at == b.at) branches i b there (eq-eqb _ _ (ap (λ (x : Short). x.at) here))
+
+long_set_same : (from : ℕ) (branches : List Short) (sizes : List ℕ) (long other : ℕ → Bool) → ((k : ℕ) → is_part branches k ≡ true → long k ≡ other k) →
+    IsLongSet from branches sizes long → IsLongSet from branches sizes other
+long_set_same from branches sizes long other same is =
+    let whole = sets_same branches long other same in record {
+      closed = λ i b at forced.
+          sym (same b.at (listed_part branches i b at))
+          ∙ is.closed i b at (subst (λ (f : ℕ → Bool). is_forced (starts_from from (sizes_where f 0 sizes)) b ≡ true) (sym whole) forced);
+      least = λ another closed k part set. is.least another closed k part (same k part ∙ set);
+    }
+
+-- flags of stores alone tell groups
+stores_same : (items : ℕ → Item) (whole other : ℕ → Bool) (k : ℕ) → ((j : ℕ) → is_store (items j).kind ≡ true → whole j ≡ other j) →
+    members_before items whole k ≡ members_before items other k
+unfolding members_before
+stores_same items whole other zero same = refl
+stores_same items whole other (suc k) same = elim (cases_Bool (is_store (items k).kind)) [
+  | inl store ↦
+      let here = same k store in
+      let rest = stores_same items whole other k same in
+      rw (here, rest) refl
+  | inr none ↦ rw none refl
+]
+
+leads_same : (of : Entries) (leads whole : List Bool) → ((k : ℕ) → is_store (item_of of.program k).kind ≡ true → whole_at leads k ≡ whole_at whole k) →
+    AreLeads of leads → AreLeads of whole
+leads_same of leads whole same are k store =
+    sym (same k store) ∙ are k store
+    ∙ ap (λ (n : ℕ). not (joins_in of k n)) (stores_same (item_of of.program) (whole_at leads) (whole_at whole) k same)
+
+no_store : (kind : ItemKind) → is_branch kind ≡ true → is_store kind ≡ false
+no_store is.Branch branch = refl
+no_store other branch = absurd (cc)
+
+module _ (form : Form) (program : Program) (closed : ClosedGraph) (leads : List Bool) (p : Placed) (is : IsShortened form program closed leads p) where
   -- there is a start for each place, and the end
   pub starts_many : length p.starts ≡ count program + 1
   starts_many =
       ap length is.starts
-      ∙ length_starts (profile_for form).units_from (sizes_under (flag p.long) (shorts_of program closed) (whole_sizes program closed))
+      ∙ length_starts (profile_for form).units_from (sizes_under (flag p.long) (shorts_of program closed) (grouped_parts program closed leads))
       ∙ ap (λ (n : ℕ). n + 1)
-      (length_where (is_whole (shorts_of program closed) (flag p.long)) 0 (whole_sizes program closed) ∙ length_sizes closed.sides [] 0 program.items)
+      (length_where (is_whole (shorts_of program closed) (flag p.long)) 0 (grouped_parts program closed leads) ∙ length_grouped closed.sides leads 0 program.items)
 
   -- all of them in the region of code
   low : (k : ℕ) → get_or p.starts k 0 < 2 ^ 32
   low k =
       let laid = laid_out (profile_for form) (is_profile (image_version form)) in
       let at = ap (λ (xs : List ℕ). get_or xs k 0) is.starts in
-      let most = start_most (profile_for form).units_from (sizes_under (flag p.long) (shorts_of program closed) (whole_sizes program closed)) k in
-      let less = sum_where (is_whole (shorts_of program closed) (flag p.long)) 0 (whole_sizes program closed) in
-      omega (arith, laid.low, at, most, less, is.room)
+      let most = start_most (profile_for form).units_from (sizes_under (flag p.long) (shorts_of program closed) (grouped_parts program closed leads)) k in
+      let less = sum_where (is_whole (shorts_of program closed) (flag p.long)) 0 (grouped_parts program closed leads) in
+      let fewer = grouped_less program closed leads in
+      omega (arith, laid.low, at, most, less, fewer, is.room)
 
   pub gates_low : (k : ℕ) → get_or (take (count program) p.starts) k 0 < 2 ^ 32
   gates_low k = elim (cases_lt k (count program)) [
@@ -62,24 +121,40 @@ module _ (form : Form) (program : Program) (closed : ClosedGraph) (p : Placed) (
   pub gates_many : length (take (count program) p.starts) ≡ count program
   gates_many = length-take-le (count program) p.starts (omega (arith, starts_many))
 
-  module _ (sound : IsSound program) (whole : List Bool) (same : (k : ℕ) → whole_at whole k ≡ flag p.long k) where
-    flags_are : flag p.long ≡ whole_at whole
-    flags_are = fun_ext (λ k. sym (same k))
+  module _ (sound : IsSound program) (whole : List Bool) (same : (k : ℕ) → whole_at whole k ≡ joined program leads p.long k) where
+    at_store : (k : ℕ) → is_store (item_of program k).kind ≡ true → whole_at leads k ≡ whole_at whole k
+    at_store k store = let here = same k in sym (rw store at here)
 
-    least : IsLongSet (profile_for form).units_from (shorts_of program closed) (whole_sizes program closed) (whole_at whole)
-    least = subst (IsLongSet (profile_for form).units_from (shorts_of program closed) (whole_sizes program closed)) flags_are is.least
+    at_branch : (k : ℕ) → is_part (shorts_of program closed) k ≡ true → flag p.long k ≡ whole_at whole k
+    at_branch k part =
+        let below = parts_within program closed k part in
+        let branch : is_branch (item_of program k).kind ≡ true = sym (parts_are program closed k sound below) ∙ part in
+        let none = no_store (item_of program k).kind branch in
+        let here = same k in
+        sym (rw none at here)
+
+    grouped : grouped_parts program closed leads ≡ grouped_parts program closed whole
+    grouped = grouped_same closed.sides leads whole 0 program.items (λ i lt store. let e : 0 + i ≡ i = omega arith in rw e (at_store i store))
+
+    least : IsLongSet (profile_for form).units_from (shorts_of program closed) (grouped_parts program closed whole) (whole_at whole)
+    least =
+        subst (λ (sizes : List ℕ). IsLongSet (profile_for form).units_from (shorts_of program closed) sizes (whole_at whole)) grouped
+        (long_set_same (profile_for form).units_from (shorts_of program closed) (grouped_parts program closed leads) (flag p.long) (whole_at whole) at_branch is.least)
 
     starts : p.starts ≡ starts_from (profile_for form).units_from (part_sizes closed.sides whole 0 program.items)
     starts =
         is.starts
-        ∙ ap (λ (f : ℕ → Bool). starts_under (profile_for form).units_from f (shorts_of program closed) (whole_sizes program closed)) flags_are
+        ∙ ap (λ (f : ℕ → Bool). starts_from (profile_for form).units_from (sizes_where f 0 (grouped_parts program closed leads)))
+        (sets_same (shorts_of program closed) (flag p.long) (whole_at whole) at_branch)
+        ∙ ap (starts_under (profile_for form).units_from (whole_at whole) (shorts_of program closed)) grouped
         ∙ starts_are form program closed whole sound
 
     size : code_size (profile_for form).units_from (part_sizes closed.sides whole 0 program.items) ≤ CODE_SIZE
     size =
         let sizes = ap sum (sizes_are program closed whole sound) in
-        let less = sum_where (is_whole (shorts_of program closed) (whole_at whole)) 0 (whole_sizes program closed) in
-        omega (arith, sizes, less, is.room)
+        let less = sum_where (is_whole (shorts_of program closed) (whole_at whole)) 0 (grouped_parts program closed whole) in
+        let fewer = grouped_less program closed whole in
+        omega (arith, sizes, less, fewer, is.room)
 
     legal : AreGates closed.sides whole 0 (profile_for form).units_from program.items (take (count program) p.starts)
     legal =
@@ -89,13 +164,15 @@ module _ (form : Form) (program : Program) (closed : ClosedGraph) (p : Placed) (
     pub starts_rise : IsStrictlyIncreasing (take (count program) p.starts)
     starts_rise = gates_rise closed.sides whole 0 (profile_for form).units_from program.items (take (count program) p.starts) legal
 
-    module _ (entry : ℕ) where
+    module _ (entry : ℕ) (are : AreLeads (entries program closed entry) leads) where
       at_starts : IsPlacement form (record { layout = program_at form program closed (take (count program) p.starts) entry; whole = whole })
       at_starts = record {
         sound = sound;
         room = is.room;
         size = size;
         legal = legal;
+        groups = leads_same (entries program closed entry) leads whole at_store are;
+        shorter = code_shorter form program closed whole;
         shorts = λ k target lt branch short aim.
             subst (λ (xs : List ℕ). IsShortAt (program_at form program closed (take (count program) xs) entry) k target) (sym starts)
             (branch_reaches form program closed whole sound least.closed entry k target lt branch short aim);
@@ -111,26 +188,34 @@ module _ (form : Form) (program : Program) (closed : ClosedGraph) (p : Placed) (
             (sym (at ∙ ap (λ (gs : List ℕ). program_at form program closed gs entry) are)) at_starts;
       }
 
+-- a place whose unit has not its whole size is there
+pub joined_within : (program : Program) (leads long : List Bool) → ((k : ℕ) → flag long k ≡ false → k < count program) →
+    (k : ℕ) → joined program leads long k ≡ false → k < count program
+joined_within program leads long within k short = elim (cases_Bool (is_store (item_of program k).kind)) [
+  | inl store ↦ past_store program k store
+  | inr none ↦ within k (rw none at short)
+]
+
 -- flags that are read one after another, from the first
-pub flag_more : (flags whole more : List Bool) (k : ℕ) (b : Bool) → length whole ≡ k → ((j : ℕ) → j < k → whole_at whole j ≡ flag flags j) →
-    b ≡ flag flags k → more ≡ whole ++ b ∷ [] → (j : ℕ) → j < k + 1 → whole_at more j ≡ flag flags j
-flag_more flags whole more k b len each b_is is j below =
+pub flag_more : (flag : ℕ → Bool) (whole more : List Bool) (k : ℕ) (b : Bool) → length whole ≡ k → ((j : ℕ) → j < k → whole_at whole j ≡ flag j) →
+    b ≡ flag k → more ≡ whole ++ b ∷ [] → (j : ℕ) → j < k + 1 → whole_at more j ≡ flag j
+flag_more flag whole more k b len each b_is is j below =
     ap (λ (bs : List Bool). whole_at bs j) is
     ∙ elim (cases_lt j k) [
       | inl before ↦ get_or_append_left whole (b ∷ []) true j (omega arith) ∙ each j before
       | inr past ↦
           let here : j ≡ length whole = omega arith in
-          ap (λ n. get_or (whole ++ b ∷ []) n true) here ∙ get_or-append_seam whole b [] true ∙ b_is ∙ ap (flag flags) (omega arith)
+          ap (λ n. get_or (whole ++ b ∷ []) n true) here ∙ get_or-append_seam whole b [] true ∙ b_is ∙ ap flag (omega arith)
     ]
 
-pub flags_all : (flags whole : List Bool) (k n : ℕ) → length whole ≡ k → n ≤ k → ((j : ℕ) → flag flags j ≡ false → j < n) →
-    ((j : ℕ) → j < k → whole_at whole j ≡ flag flags j) → (j : ℕ) → whole_at whole j ≡ flag flags j
-flags_all flags whole k n len past within each j =
+pub flags_all : (flag : ℕ → Bool) (whole : List Bool) (k n : ℕ) → length whole ≡ k → n ≤ k → ((j : ℕ) → flag j ≡ false → j < n) →
+    ((j : ℕ) → j < k → whole_at whole j ≡ flag j) → (j : ℕ) → whole_at whole j ≡ flag j
+flags_all flag whole k n len past within each j =
     elim (cases_lt j k) [
       | inl before ↦ each j before
       | inr over ↦
           get_or-eq_default whole true (omega arith)
-          ∙ elim (cases_Bool (flag flags j)) [
+          ∙ elim (cases_Bool (flag j)) [
             | inl set ↦ sym set
             | inr clear ↦ absurd (omega (arith, within j clear))
           ]

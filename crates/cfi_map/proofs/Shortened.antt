@@ -19,21 +19,25 @@ use Rattle.cfi_closed.specs.Closed.{ClosedGraph, Side}
 use Rattle.cfi_map.specs.Placement.{lead_size, whole_at, size_of}
 use Rattle.cfi_map.specs.Shorts.{short_to, shorts_of, IsShortAt, is_branch}
 use Rattle.cfi_map.specs.GraphAtMap.{program_at}
-use Rattle.cfi_map.specs.Sizes.{part_sizes, whole_sizes}
-use Rattle.cfi_map.proofs.PartSizes.{length_sizes, parts_many, size_at}
+use Rattle.cfi_map.specs.Groups.{is_store}
+use Rattle.cfi_map.specs.Sizes.{grouped_parts, grouped_sizes, part_sizes, whole_sizes}
+use Rattle.cfi_map.proofs.GroupedSizes.{grouped_at, length_grouped}
+use Rattle.cfi_map.proofs.PartSizes.{parts_many}
 use Rattle.cfi_map.proofs.ShortList.{branch_aims, branch_listed, parts_are, short_is, told}
 
 -- a program whose code has room has few places
 pub few_places : (program : Program) (closed : ClosedGraph) → sum (whole_sizes program closed) ≤ CODE_SIZE → count program < 2 ^ 32
 few_places program closed room = omega (arith, parts_many closed.sides [] 0 program.items)
 
-branch_size : (kind : ItemKind) → is_branch kind ≡ true → size_of kind true ≡ 8
-branch_size is.Branch yes_branch = refl
-branch_size other yes_branch = absurd (cc)
+branch_size : (kind : ItemKind) (whole : Bool) → is_branch kind ≡ true → size_of kind (whole || not (is_store kind)) ≡ 8
+branch_size is.Branch true yes_branch = refl
+branch_size is.Branch false yes_branch = refl
+branch_size other whole yes_branch = absurd (cc)
 
--- the branches may be placed in parts of the whole sizes
-pub branches_fit : (program : Program) (closed : ClosedGraph) → IsSound program → AreShorts (shorts_of program closed) (whole_sizes program closed)
-branches_fit program closed sound = record {
+-- the branches may be placed in parts of these sizes
+pub branches_fit : (program : Program) (closed : ClosedGraph) (leads : List Bool) → IsSound program →
+    AreShorts (shorts_of program closed) (grouped_parts program closed leads)
+branches_fit program closed leads sound = record {
   each = λ i b is.
       let shorts = shorts_of program closed in
       let at = told program closed (count program) b (i, slice_get_within shorts i b is, get_or_from_slice_get shorts i b b is) in
@@ -42,25 +46,26 @@ branches_fit program closed sound = record {
       let same : Some of.0 ≡ Some aim.0 = sym of.2 ∙ aim.1 in
       let target : of.0 ≡ aim.0 = cc in
       let start : 0 + at.0 ≡ at.0 = omega arith in
-      let size = rw start at (size_at closed.sides [] 0 program.items at.0 at.1) in
-      subst (IsShort (whole_sizes program closed)) of.3 (record {
-        at_is = omega (arith, at.1, length_sizes closed.sides [] 0 program.items);
-        target_is = omega (arith, target, aim.2, length_sizes closed.sides [] 0 program.items);
-        size = size ∙ ap (λ (n : ℕ). lead_size closed.sides at.0 + n) (branch_size (item_of program at.0).kind of.1);
+      let size = rw start at (grouped_at closed.sides leads 0 program.items at.0 at.1) in
+      subst (IsShort (grouped_parts program closed leads)) of.3 (record {
+        at_is = omega (arith, at.1, length_grouped closed.sides leads 0 program.items);
+        target_is = omega (arith, target, aim.2, length_grouped closed.sides leads 0 program.items);
+        size = size ∙ ap (λ (n : ℕ). lead_size closed.sides at.0 + n) (branch_size (item_of program at.0).kind (whole_at leads at.0) of.1);
       });
 }
 
 one_size : (gate : ℕ) (kind : ItemKind) (whole full : Bool) → full ≡ (whole || not (is_branch kind)) →
-    (if full then gate + size_of kind true else gate + size_of kind true - 4) ≡ gate + size_of kind whole
+    (if full then gate + size_of kind (whole || not (is_store kind)) else gate + size_of kind (whole || not (is_store kind)) - 4) ≡ gate + size_of kind whole
 one_size gate kind true full is = rw is refl
 one_size gate is.Branch false full is = rw is (omega arith)
+one_size gate is.Store false full is = rw is refl
 one_size gate other false full is = rw is refl
 
 -- where the branches that are not long have a word less, each part has the size of its words and its unit
 sizes_from : (sides : List Side) (whole : List Bool) (full : ℕ → Bool) (k : ℕ) (items : List Item) →
     ((i : ℕ) → i < length items → full (k + i) ≡ (whole_at whole (k + i) || not (is_branch (get_or items i no_item).kind))) →
-    sizes_where full k (part_sizes sides [] k items) ≡ part_sizes sides whole k items
-unfolding part_sizes sizes_where
+    sizes_where full k (grouped_sizes sides whole k items) ≡ part_sizes sides whole k items
+unfolding grouped_sizes part_sizes sizes_where
 sizes_from sides whole full k [] are = refl
 sizes_from sides whole full k (item ∷ items) are =
     let start : k + 0 ≡ k = omega arith in
@@ -68,18 +73,18 @@ sizes_from sides whole full k (item ∷ items) are =
     let later : (i : ℕ) → i < length items → full (k + 1 + i) ≡ (whole_at whole (k + 1 + i) || not (is_branch (get_or items i no_item).kind)) =
     λ i lt. let e : k + 1 + i ≡ k + suc i = omega arith in rw e (are (suc i) (omega arith)) in
     let rest = sizes_from sides whole full (k + 1) items later in
-    ap (λ (n : ℕ). n ∷ sizes_where full (k + 1) (part_sizes sides [] (k + 1) items)) here
+    ap (λ (n : ℕ). n ∷ sizes_where full (k + 1) (grouped_sizes sides whole (k + 1) items)) here
     ∙ ap (λ (xs : List ℕ). (lead_size sides k + size_of item.kind (whole_at whole k)) ∷ xs) rest
 
 pub sizes_are : (program : Program) (closed : ClosedGraph) (whole : List Bool) → IsSound program →
-    sizes_under (whole_at whole) (shorts_of program closed) (whole_sizes program closed) ≡ part_sizes closed.sides whole 0 program.items
+    sizes_under (whole_at whole) (shorts_of program closed) (grouped_parts program closed whole) ≡ part_sizes closed.sides whole 0 program.items
 sizes_are program closed whole sound =
     sizes_from closed.sides whole (is_whole (shorts_of program closed) (whole_at whole)) 0 program.items (λ i lt.
     let start : 0 + i ≡ i = omega arith in
     rw start (ap (λ (b : Bool). whole_at whole i || not b) (parts_are program closed i sound lt)))
 
 pub starts_are : (form : Form) (program : Program) (closed : ClosedGraph) (whole : List Bool) → IsSound program →
-    starts_under (profile_for form).units_from (whole_at whole) (shorts_of program closed) (whole_sizes program closed) ≡ starts_from (profile_for form).units_from (part_sizes closed.sides whole 0 program.items)
+    starts_under (profile_for form).units_from (whole_at whole) (shorts_of program closed) (grouped_parts program closed whole) ≡ starts_from (profile_for form).units_from (part_sizes closed.sides whole 0 program.items)
 starts_are form program closed whole sound = ap (starts_from (profile_for form).units_from) (sizes_are program closed whole sound)
 
 negated : (b : Bool) → not b ≡ false → b ≡ true
@@ -88,7 +93,7 @@ negated false e = absurd (cc)
 
 -- a branch that is not long reaches, where the long ones are closed
 pub branch_reaches : (form : Form) (program : Program) (closed : ClosedGraph) (whole : List Bool) → IsSound program →
-    HoldsAllForced (profile_for form).units_from (shorts_of program closed) (whole_sizes program closed) (whole_at whole) →
+    HoldsAllForced (profile_for form).units_from (shorts_of program closed) (grouped_parts program closed whole) (whole_at whole) →
     (entry k target : ℕ) → k < count program → is_branch (item_of program k).kind ≡ true → whole_at whole k ≡ false →
     (item_of program k).target ≡ Some target →
     IsShortAt (program_at form program closed (take (count program) (starts_from (profile_for form).units_from (part_sizes closed.sides whole 0 program.items))) entry) k target
@@ -101,8 +106,8 @@ branch_reaches form program closed whole sound set entry k target lt yes_branch 
     let there = branch_aims program k sound lt yes_branch in
     let same : Some target ≡ Some there.0 = sym aim ∙ there.1 in
     let inside : target ≡ there.0 = cc in
-    let free : is_forced (starts_under (profile_for form).units_from (whole_at whole) shorts (whole_sizes program closed)) b ≡ false =
-    elim (cases_Bool (is_forced (starts_under (profile_for form).units_from (whole_at whole) shorts (whole_sizes program closed)) b)) [
+    let free : is_forced (starts_under (profile_for form).units_from (whole_at whole) shorts (grouped_parts program closed whole)) b ≡ false =
+    elim (cases_Bool (is_forced (starts_under (profile_for form).units_from (whole_at whole) shorts (grouped_parts program closed whole)) b)) [
       | inl forced ↦ let no : true ≡ false = sym (set has.0 b at forced) ∙ short in absurd (cc)
       | inr free ↦ free
     ] in

@@ -1,4 +1,5 @@
 pub mod Placement
+pub mod Groups
 pub mod LegalMap
 pub mod MapFault
 pub mod LabelOf

@@ -5,15 +5,17 @@ use Rattle.std.specs.Prelude.{◌≡◌, ℕ, ◌+◌, take}
 use Rattle.cfi_graph.specs.Map.{MapParts}
 use Rattle.obj_program.specs.Program.{Program}
 use Rattle.cfi_closed.specs.Closed.{ClosedGraph}
-use Rattle.cfi_map.specs.LegalMap.{IsLegalMap}
+use Rattle.cfi_map.specs.Groups.{is_entered}
+use Rattle.cfi_map.specs.LegalMap.{AreLegal}
 
--- the first lines are a legal map of as many first places
-abbrev pub BeginsLegal : Program → ClosedGraph → MapParts → ℕ → Type 0
-BeginsLegal program closed map n = IsLegalMap (record program { items = take n program.items }) closed (record map { lines = take n map.lines })
+-- the first lines are legal lines of as many first places, of which those may be entered that may be in the whole program
+abbrev pub BeginsLegal : Program → ClosedGraph → ℕ → MapParts → ℕ → Type 0
+BeginsLegal program closed entry map n =
+    AreLegal (record program { items = take n program.items }) closed (is_entered program closed entry) (record map { lines = take n map.lines })
 
 -- the number of the first wrong line
-pub record IsWrongLine (program : Program) (closed : ClosedGraph) (map : MapParts) (number : ℕ) : Type 0 where
+pub record IsWrongLine (program : Program) (closed : ClosedGraph) (entry : ℕ) (map : MapParts) (number : ℕ) : Type 0 where
   pub index : ℕ
   pub numbered : number ≡ index + 2
-  pub before : BeginsLegal program closed map index
-  pub wrong : BeginsLegal program closed map (index + 1) → ⊥
+  pub before : BeginsLegal program closed entry map index
+  pub wrong : BeginsLegal program closed entry map (index + 1) → ⊥

@@ -5,12 +5,14 @@ use Rattle.rv_word.specs.declared.unit_words.TheConstants as counts
 use Rattle.obj_input.specs.declared.item_kind.ItemKind.{ItemKind}
 use Rattle.obj_input.specs.declared.item_kind.ItemKind.TheVariants as is
 use Rattle.obj_program.specs.declared.item.Item.{Item}
+use Rattle.obj_program.specs.Program.{no_item}
 use Rattle.cfi_closed.specs.Closed.{Side, is_target}
+use Rattle.cfi_map.specs.Groups.{AreGroups}
 
 -- how many bytes the unit of a kind of place has; a branch has its whole size where it is long, a word and a jump, and is one word
--- where it is short
+-- where it is short; a store has it where it begins a group, behind the group's mask, and is one word where it is a later member
 abbrev pub size_of : ItemKind → Bool → ℕ
-size_of is.Store whole = 4 * counts.STORE_WORDS
+size_of is.Store whole = if whole then 4 * counts.STORE_WORDS else 4
 size_of is.Branch whole = if whole then 4 * counts.BRANCH_WORDS else 4
 size_of is.Call whole = 4 * counts.CALL_WORDS
 size_of is.Return whole = 4 * counts.RETURN_WORDS
@@ -42,6 +44,8 @@ AreGates sides whole k at (item ∷ items) (gate ∷ gates) =
     (gate ≡ at) × AreGates sides whole (k + 1) (at + lead_size sides k + size_of item.kind (whole_at whole k)) items gates
 AreGates sides whole k at items gates = ⊥
 
--- the gates of a placement with some units short, whose first unit stands at an address
-abbrev pub IsLegal : ℕ → List Side → List Item → List ℕ → Type 0
-IsLegal from sides items gates = (whole : List Bool) × AreGates sides whole 0 from items gates
+-- the gates of a placement with some units short, whose first unit stands at an address and whose later members of groups may be those:
+-- this depends on which places may be entered
+abbrev pub IsLegal : ℕ → List Side → (ℕ → Bool) → List Item → List ℕ → Type 0
+IsLegal from sides entered items gates =
+    (whole : List Bool) × AreGates sides whole 0 from items gates × AreGroups (λ k. slice_index_or items k no_item) entered (whole_at whole)

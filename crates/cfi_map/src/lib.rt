@@ -2,11 +2,13 @@
 //! which the layers above speak of it.
 #![tactic(auto)]
 
+pub use groups::{Grouping, MOST_STORES, is_store};
 pub use mapped::Mapped;
 pub use reason::Reason;
 pub use sizes::{lead_size, unit_size};
 pub use spacing::{Spacing, place_program};
 
+mod groups;
 mod mapped;
 mod reason;
 mod shorts;

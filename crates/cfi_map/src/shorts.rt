@@ -1,11 +1,11 @@
 //! Which branches may be short, as parts of a placement.
 
-ghost use Rattle.std.specs.Prelude.{◌≡◌, ◌<◌, ◌≤◌, ◌^◌, IfOk, OnOk, sum};
+ghost use Rattle.std.specs.Prelude.{◌≡◌, ◌<◌, ◌≤◌, ◌^◌, Bool, IfOk, List, OnOk, sum};
 ghost use Rattle.rv_word.specs.MemoryMap.{CODE_SIZE};
 ghost use Rattle.obj_program.specs.Program.{count};
 ghost use Rattle.cfi_layout.specs.LongSet.{AreShorts};
 ghost use Rattle.cfi_map.specs.Shorts.{short_at, shorts_of, with_short, is_branch, is_kept, is_skipped};
-ghost use Rattle.cfi_map.specs.Sizes.{whole_sizes};
+ghost use Rattle.cfi_map.specs.Sizes.{grouped_parts, whole_sizes};
 
 use crate::sizes::lead_size;
 use cfi_closed::Closed;
@@ -76,7 +76,7 @@ fn push_some(shorts: &mut Vec<Short>, short: Option<Short>) -> Result<(), NoMemo
 pub(crate) fn shorts(alloc: Global, items: &Items, closed: &Closed) -> Result<Vec<Short>, NoMemory>
     requires { sum (whole_sizes items.now closed.now) ≤ CODE_SIZE }
     ensures value { IfOk result (λ v. v.items ≡ shorts_of items.now closed.now) }
-    ensures fit { IfOk result (λ v. AreShorts v.items (whole_sizes items.now closed.now)) }
+    ensures fit { IfOk result (λ v. (leads : List Bool) → AreShorts v.items (grouped_parts items.now closed.now leads)) }
 {
     let mut shorts = Vec::new(alloc);
     for k in 0..items.count() {

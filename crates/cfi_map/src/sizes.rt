@@ -1,10 +1,12 @@
 //! How many bytes the unit of each place has, and the words before it.
 
-ghost use Rattle.std.specs.Prelude.{◌≡◌, ◌+◌, ◌<◌, ◌≤◌, true, IfOk};
+ghost use Rattle.std.specs.Prelude.{◌≡◌, ◌+◌, ◌<◌, ◌≤◌, ◌||◌, not, IfOk};
 ghost use Rattle.obj_program.specs.Program.{count, item_of};
-ghost use Rattle.cfi_map.specs.Placement.{lead_size, size_of};
-ghost use Rattle.cfi_map.specs.Sizes.{whole_sizes};
+ghost use Rattle.cfi_map.specs.Groups.{is_store};
+ghost use Rattle.cfi_map.specs.Placement.{lead_size, size_of, whole_at};
+ghost use Rattle.cfi_map.specs.Sizes.{grouped_parts};
 
+use crate::groups::is_store;
 use cfi_closed::Closed;
 use obj_input::ItemKind;
 use obj_program::Items;
@@ -14,13 +16,14 @@ use rv_word::unit_words::{
 };
 use std::alloc::Global;
 
-/// How many bytes the unit of a kind of place has: of a branch the whole, where it is long, or one word.
+/// How many bytes the unit of a kind of place has: the whole, or one word of a branch that is short and of a store that is a later
+/// member of its group.
 pub fn unit_size(kind: ItemKind, whole: bool) -> u32
     ensures value { result ≡ size_of kind whole }
     ensures small { result ≤ 80 }
 {
     match kind {
-        ItemKind::Store => 4 * STORE_WORDS,
+        ItemKind::Store if whole => 4 * STORE_WORDS,
         ItemKind::Branch if whole => 4 * BRANCH_WORDS,
         ItemKind::Call => 4 * CALL_WORDS,
         ItemKind::Return => 4 * RETURN_WORDS,
@@ -42,25 +45,37 @@ pub fn lead_size(closed: &Closed, place: u64) -> u32
     }
 }
 
-/// How many bytes the part of a place has; a branch's is long.
-fn part_size(items: &Items, closed: &Closed, place: u64) -> u32
-    requires { place < count items.now }
-    ensures { result ≡ lead_size closed.now.sides place + size_of (item_of items.now place).kind true }
+/// A place's flag; beyond the end of the flags each is set.
+pub(crate) fn flag_at(flags: &[bool], place: u64) -> bool
+    ensures { result ≡ whole_at flags.now place }
 {
-    lead_size(closed, place) + unit_size(items.item(place).kind, true)
+    match flags.get(place as usize) {
+        Some(flag) => *flag,
+        None => true,
+    }
 }
 
-/// How many bytes the parts of a program have, in the order of places; each branch is long.
-pub(crate) fn whole_sizes(
+/// How many bytes the part of a place has, where each branch is long, and these flags say which stores have their whole size.
+fn part_size(items: &Items, closed: &Closed, leads: &[bool], place: u64) -> u32
+    requires { place < count items.now }
+    ensures { result ≡ lead_size closed.now.sides place + size_of (item_of items.now place).kind (whole_at leads.now place || not (is_store (item_of items.now place).kind)) }
+{
+    let kind = items.item(place).kind;
+    lead_size(closed, place) + unit_size(kind, flag_at(leads, place) || !is_store(kind))
+}
+
+/// The same of all places, in their order.
+pub(crate) fn grouped_sizes(
     alloc: Global,
     items: &Items,
     closed: &Closed,
+    leads: &[bool],
 ) -> Result<Vec<u32>, NoMemory>
-    ensures { IfOk result (λ v. v.items ≡ whole_sizes items.now closed.now) }
+    ensures { IfOk result (λ v. v.items ≡ grouped_parts items.now closed.now leads.now) }
 {
     let mut sizes = Vec::new(alloc);
     for k in 0..items.count() {
-        sizes.push(part_size(items, closed, k))?;
+        sizes.push(part_size(items, closed, leads, k))?;
     }
     Ok(sizes)
 }

@@ -30,7 +30,7 @@ module _ (Holds : ProgramAtMap → Contents → Type 0)
         p = p;
         contents = image;
         prepared = prepared;
-        map = subst (λ (l : ProgramAtMap). IsLegalMap l.program l.closed h.map) placed.of written.map;
+        map = subst (λ (l : ProgramAtMap). IsLegalMap l.program l.closed l.entry h.map) placed.of written.map;
         version = ap image_version prepared.form;
         map_form = written.map_form ∙ prepared.form;
         image = written.image;

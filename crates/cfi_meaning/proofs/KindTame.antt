@@ -7,14 +7,12 @@ use Rattle.rv_word.specs.Memory.{loaded}
 use Rattle.rv_instr.specs.Registers.{get_reg}
 use Rattle.rv_instr.specs.declared.instr.Instr.{Instr}
 use Rattle.rv_instr.specs.declared.instr.Instr.TheVariants as I
-use Rattle.rv_instr.specs.declared.instr.StoreOp.{StoreOp}
-use Rattle.rv_instr.specs.declared.instr.StoreOp.TheVariants.{Sb, Sh, Sw, Sd}
-use Rattle.rv_code.specs.Arithmetic.{store_size}
 use Rattle.obj_input.specs.declared.item_kind.ItemKind.{ItemKind}
 use Rattle.obj_input.specs.declared.item_kind.ItemKind.TheVariants as is
 use Rattle.obj_program.specs.Program.{is_end}
 use Rattle.obj_program.specs.Suits.{suits}
 use Rattle.cfi_map.specs.GraphAtMap.{ProgramAtMap, gate}
+use Rattle.cfi_map.specs.Groups.{is_store}
 use Rattle.cfi_unit.specs.declared.unit.Unit.TheVariants as V
 use Rattle.cfi_unit.specs.declared.target_word.TargetWord.{TargetWord}
 use Rattle.cfi_unit.specs.Leads.{HasLabel}
@@ -22,7 +20,7 @@ use Rattle.cfi_unit.specs.Shadow.{MOST_PENDING}
 use Rattle.cfi_runs.specs.Own as own
 use Rattle.cfi_runs.specs.Tame.{IsTame, touched}
 use Rattle.cfi_writer.specs.SideLaws.{word_read}
-use Rattle.cfi_writer.specs.Units.{unit_of}
+use Rattle.cfi_writer.specs.Units.{Group, unit_of}
 use Rattle.cfi_meaning.specs.Matches.{sites_of}
 use Rattle.cfi_map.specs.declared.reason.Reason.TheVariants as why
 use Rattle.cfi_map.specs.Source.{Source}
@@ -51,12 +49,6 @@ all_false false false true d e none = absurd (cc)
 all_false false false false true e none = absurd (cc)
 all_false false false false false true none = absurd (cc)
 
-size_some : (op : StoreOp) → 0 < store_size op
-size_some Sb = omega arith
-size_some Sh = omega arith
-size_some Sw = omega arith
-size_some Sd = omega arith
-
 pub sites_counted : (g : ProgramAtMap) (pending : List ℕ) → length (sites_of g pending) ≡ suc (length pending)
 sites_counted g [] = refl
 sites_counted g (k ∷ pending) = ap suc (sites_counted g pending)
@@ -80,20 +72,24 @@ module _ (image : Contents) (g : ProgramAtMap) (k : ℕ) (which : TargetWord) (l
       let found = place_found g k (I.Jalr rd rs1 imm) st.regs t some in
       subst (HasLabel (loaded image) (word_read which kind) label) found.gate_is (bears t found.reaches)
 
-  pub tame_of_kind : (kind : ItemKind) (i : Instr) (whole : Bool) (target : ℕ) → ((site : SiteKind) → site_kind kind ≡ Some site → AreBorne image g k which label site) →
-      suits kind i ≡ true → NoReason g k kind i st → IsTame (loaded image) (unit_of kind i whole target which label) (sites_of g st.pending) st.regs
-  tame_of_kind is.Gate (I.Upper op rd imm) whole target bears suit no_reason = tt
-  tame_of_kind is.Plain i whole target bears suit no_reason = leb-true _ _ (not-false _ no_reason.window)
-  tame_of_kind is.Store (I.Store op rs1 rs2 imm) whole target bears suit no_reason =
-      let inside : touched (I.Store op rs1 rs2 imm) st.regs ≤ 2 ^ 28 = leb-true _ _ (not-false _ no_reason.window) in
-      let some = size_some op in omega arith
-  tame_of_kind is.System I.Ecall whole target bears suit no_reason = tt
-  tame_of_kind is.System I.Ebreak whole target bears suit no_reason = tt
-  tame_of_kind is.Branch (I.Branch op rs1 rs2 imm) true target bears suit no_reason = tt
-  tame_of_kind is.Branch (I.Branch op rs1 rs2 imm) false target bears suit no_reason = tt
-  tame_of_kind is.Jump i whole target bears suit no_reason = tt
-  tame_of_kind is.Call i whole target bears suit no_reason = room no_reason.deep
-  tame_of_kind is.Return i whole target bears suit no_reason = returns_tame st.pending (not-false _ no_reason.return)
-  tame_of_kind is.Ijump (I.Jalr rd rs1 imm) whole target bears suit no_reason = goes_to_gate kinds.Jump rd rs1 imm (bears kinds.Jump refl) no_reason.graph
-  tame_of_kind is.Icall (I.Jalr rd rs1 imm) whole target bears suit no_reason = (goes_to_gate kinds.Call rd rs1 imm (bears kinds.Call refl) no_reason.graph, room no_reason.deep)
-  tame_of_kind kind i whole target bears suit no_reason = let some = no_reason.no_end in absurd (cc)
+  -- a store stays in the window
+  pub inside_of_kind : (kind : ItemKind) (i : Instr) → NoReason g k kind i st → is_store kind ≡ true → touched i st.regs ≤ 2 ^ 28
+  inside_of_kind is.Store i no_reason store = leb-true _ _ (not-false _ no_reason.window)
+  inside_of_kind kind i no_reason store = absurd (cc)
+
+  pub tame_of_kind : (kind : ItemKind) (i : Instr) (whole : Bool) (target : ℕ) (group : Group) → ((site : SiteKind) → site_kind kind ≡ Some site → AreBorne image g k which label site) →
+      suits kind i ≡ true → NoReason g k kind i st → is_store kind ≡ false →
+      IsTame (loaded image) (unit_of kind i whole target which label group) (sites_of g st.pending) st.regs
+  tame_of_kind is.Gate (I.Upper op rd imm) whole target group bears suit no_reason other = tt
+  tame_of_kind is.Plain i whole target group bears suit no_reason other = leb-true _ _ (not-false _ no_reason.window)
+  tame_of_kind is.Store i whole target group bears suit no_reason other = absurd (cc)
+  tame_of_kind is.System I.Ecall whole target group bears suit no_reason other = tt
+  tame_of_kind is.System I.Ebreak whole target group bears suit no_reason other = tt
+  tame_of_kind is.Branch (I.Branch op rs1 rs2 imm) true target group bears suit no_reason other = tt
+  tame_of_kind is.Branch (I.Branch op rs1 rs2 imm) false target group bears suit no_reason other = tt
+  tame_of_kind is.Jump i whole target group bears suit no_reason other = tt
+  tame_of_kind is.Call i whole target group bears suit no_reason other = room no_reason.deep
+  tame_of_kind is.Return i whole target group bears suit no_reason other = returns_tame st.pending (not-false _ no_reason.return)
+  tame_of_kind is.Ijump (I.Jalr rd rs1 imm) whole target group bears suit no_reason other = goes_to_gate kinds.Jump rd rs1 imm (bears kinds.Jump refl) no_reason.graph
+  tame_of_kind is.Icall (I.Jalr rd rs1 imm) whole target group bears suit no_reason other = (goes_to_gate kinds.Call rd rs1 imm (bears kinds.Call refl) no_reason.graph, room no_reason.deep)
+  tame_of_kind kind i whole target group bears suit no_reason other = let some = no_reason.no_end in absurd (cc)

@@ -1,17 +1,29 @@
 -- The unit of a place names no register that units keep for themselves, since its instruction does not.
-use Rattle.std.proofs.Common.{◌≡◌, ℕ, ◌==◌, ◌||◌, true, false, Bool, inl, inr, refl, sym, ap, ◌∙◌}
-use Rattle.std.proofs.lemmas.Bool.{cases_Bool, or_cases, eqb-true}
+use Rattle.std.proofs.Common.{◌≡◌, ℕ, suc, ◌+◌, ◌<◌, ◌≤◌, ◌==◌, ◌||◌, true, false, Bool, inl, inr, Some, refl, sym, ap, subst, ◌∙◌, arith}
+use Rattle.std.proofs.lemmas.Bool.{cases_Bool, eq-eqb, eqb-true, or_cases, or_left, or_right}
 use Rattle.rv_instr.specs.Operands.{names}
 use Rattle.rv_instr.specs.Reserved.{is_reserved}
 use Rattle.rv_instr.specs.declared.instr.Instr.{Instr}
 use Rattle.rv_instr.specs.declared.instr.Instr.TheVariants as I
 use Rattle.obj_input.specs.declared.item_kind.ItemKind.{ItemKind}
 use Rattle.obj_input.specs.declared.item_kind.ItemKind.TheVariants as is
-use Rattle.obj_program.specs.Program.{is_end}
+use Rattle.obj_program.specs.Program.{count, is_end, item_of}
 use Rattle.obj_program.specs.Suits.{names_reserved, suits}
+use Rattle.obj_program.proofs.Kept.{kept}
+use Rattle.cfi_map.specs.GraphAtMap.{gate_to, words_at}
+use Rattle.cfi_map.specs.Groups.{base_of, is_store}
+use Rattle.cfi_map.specs.LabelOf.{site_label}
+use Rattle.cfi_map.specs.Placement.{whole_at}
 use Rattle.cfi_unit.specs.declared.target_word.TargetWord.{TargetWord}
+use Rattle.cfi_unit.specs.declared.unit.Unit.TheVariants as V
+use Rattle.cfi_rules.specs.Rules.{jump_word}
 use Rattle.cfi_runs.specs.Tame.{NamesNoReserved}
-use Rattle.cfi_writer.specs.Units.{unit_of}
+use Rattle.cfi_runs.proofs.GroupMembers.{stores_free}
+use Rattle.cfi_writer.specs.Accepted.{IsAccepted}
+use Rattle.cfi_writer.specs.Units.{Choice, Group, behind, group_at, instr_of, is_later_at, low_at, member_at, member_for, unit_here, unit_of}
+use Rattle.cfi_writer.proofs.GroupUnit.{IsStore, inside, store_at}
+use Rattle.cfi_writer.proofs.Standing.{instr_is}
+use Rattle.cfi_meaning.specs.ImageOf.{IsPlace}
 
 -- a test of four, each of which fails
 none_of : (a b c d : Bool) → (a || b || c || d) ≡ false → (a ≡ false) × (b ≡ false) × (c ≡ false) × (d ≡ false)
@@ -39,31 +51,81 @@ module _ (i : Instr) (none : names_reserved i ≡ false) (k : ℕ) (named : name
   pub instr_free : is_reserved k ≡ false
   instr_free = elim (cases_Bool (is_reserved k)) [ inl reserved ↦ absurd (not_reserved reserved) | inr free ↦ free ]
 
-or_right : (a b : Bool) → b ≡ true → (a || b) ≡ true
-or_right true b e = refl
-or_right false b e = e
-
--- of one store
-one_named : (a b : Bool) → (a || (b || false)) ≡ true → (a || b) ≡ true
-one_named true b e = refl
-one_named false true e = refl
-one_named false false e = e
-
-pub unit_free : (kind : ItemKind) (i : Instr) (whole : Bool) (target : ℕ) (which : TargetWord) (label : ℕ) → is_end kind ≡ false → suits kind i ≡ true → names_reserved i ≡ false →
-    NamesNoReserved (unit_of kind i whole target which label)
-unit_free is.Gate (I.Upper op rd imm) whole target which label some suit none = λ k named. absurd (cc)
-unit_free is.Plain i whole target which label some suit none = λ k named. instr_free i none k named
-unit_free is.Store (I.Store op rs1 rs2 imm) whole target which label some suit none =
-    λ k named. instr_free (I.Store op rs1 rs2 imm) none k (one_named (rs1 == k) (rs2 == k) named)
-unit_free is.System I.Ecall whole target which label some suit none = λ k named. absurd (cc)
-unit_free is.System I.Ebreak whole target which label some suit none = λ k named. absurd (cc)
-unit_free is.Branch (I.Branch op rs1 rs2 imm) true target which label some suit none = λ k named. instr_free (I.Branch op rs1 rs2 imm) none k named
-unit_free is.Branch (I.Branch op rs1 rs2 imm) false target which label some suit none = λ k named. instr_free (I.Branch op rs1 rs2 imm) none k named
-unit_free is.Jump i whole target which label some suit none = λ k named. absurd (cc)
-unit_free is.Call i whole target which label some suit none = λ k named. absurd (cc)
-unit_free is.Return i whole target which label some suit none = λ k named. absurd (cc)
-unit_free is.Ijump (I.Jalr rd rs1 imm) whole target which label some suit none =
+-- the unit of a place that holds no store
+unit_free : (kind : ItemKind) (i : Instr) (whole : Bool) (target : ℕ) (which : TargetWord) (label : ℕ) (group : Group) → is_end kind ≡ false → is_store kind ≡ false →
+    suits kind i ≡ true → names_reserved i ≡ false → NamesNoReserved (unit_of kind i whole target which label group)
+unit_free is.Gate (I.Upper op rd imm) whole target which label group some other_kind suit none = λ k named. absurd (cc)
+unit_free is.Plain i whole target which label group some other_kind suit none = λ k named. instr_free i none k named
+unit_free is.Store i whole target which label group some other_kind suit none = absurd (cc)
+unit_free is.System I.Ecall whole target which label group some other_kind suit none = λ k named. absurd (cc)
+unit_free is.System I.Ebreak whole target which label group some other_kind suit none = λ k named. absurd (cc)
+unit_free is.Branch (I.Branch op rs1 rs2 imm) true target which label group some other_kind suit none = λ k named. instr_free (I.Branch op rs1 rs2 imm) none k named
+unit_free is.Branch (I.Branch op rs1 rs2 imm) false target which label group some other_kind suit none = λ k named. instr_free (I.Branch op rs1 rs2 imm) none k named
+unit_free is.Jump i whole target which label group some other_kind suit none = λ k named. absurd (cc)
+unit_free is.Call i whole target which label group some other_kind suit none = λ k named. absurd (cc)
+unit_free is.Return i whole target which label group some other_kind suit none = λ k named. absurd (cc)
+unit_free is.Ijump (I.Jalr rd rs1 imm) whole target which label group some other_kind suit none =
     λ k named. instr_free (I.Jalr rd rs1 imm) none k (or_right (rd == k) (rs1 == k) named)
-unit_free is.Icall (I.Jalr rd rs1 imm) whole target which label some suit none =
+unit_free is.Icall (I.Jalr rd rs1 imm) whole target which label group some other_kind suit none =
     λ k named. instr_free (I.Jalr rd rs1 imm) none k (or_right (rd == k) (rs1 == k) named)
-unit_free kind i whole target which label some suit none = absurd (cc)
+unit_free kind i whole target which label group some other_kind suit none = absurd (cc)
+
+-- the base of a store and what it stores
+member_free : (low : ℕ) (i : Instr) → IsStore i → names_reserved i ≡ false → is_reserved (member_for low i).value ≡ false
+member_free low (I.Store op rs1 rs2 imm) store none =
+    instr_free (I.Store op rs1 rs2 imm) none rs2 (or_right (rs1 == rs2) (rs2 == rs2) (eq-eqb rs2 rs2 refl))
+member_free low other store none = let is = store.is in absurd (cc)
+
+base_free : (i : Instr) → IsStore i → names_reserved i ≡ false → is_reserved (base_of (Some i)) ≡ false
+base_free (I.Store op rs1 rs2 imm) store none = instr_free (I.Store op rs1 rs2 imm) none rs1 (or_left (rs1 == rs1) (rs2 == rs1) (eq-eqb rs1 rs1 refl))
+base_free other store none = let is = store.is in absurd (cc)
+
+-- the unit of a group's first store
+pub stores_unit : (kind : ItemKind) (i : Instr) (whole : Bool) (target : ℕ) (which : TargetWord) (label : ℕ) (group : Group) → is_store kind ≡ true → IsStore i →
+    unit_of kind i whole target which label group ≡ V.Stores (base_of (Some i)) group.mask group.members
+stores_unit is.Store (I.Store op rs1 rs2 imm) whole target which label group store here = refl
+stores_unit is.Store other whole target which label group store here = let e = here.is in absurd (cc)
+stores_unit other i whole target which label group store here = absurd (cc)
+
+-- the place of a store is no section's end
+store_no_end : (kind : ItemKind) → is_store kind ≡ true → is_end kind ≡ false
+store_no_end is.Store store = refl
+store_no_end other store = absurd (cc)
+
+pub store_is_place : (m : Choice) (k : ℕ) → k < count m.layout.program → is_store (item_of m.layout.program k).kind ≡ true → IsPlace m k
+store_is_place m k below store = record { below = below; no_end = store_no_end (item_of m.layout.program k).kind store }
+
+module _ (m : Choice) (ok : IsAccepted m) where
+  kept_at : (k : ℕ) → IsPlace m k → (suits (item_of m.layout.program k).kind (instr_of m k) ≡ true) × (names_reserved (instr_of m k) ≡ false)
+  kept_at k place =
+      kept m.layout.program m.layout.gates (words_at m.layout) k (instr_of m k) ok.sound place.below place.no_end (instr_is m ok k place.below place.no_end)
+
+  store_free : (k i : ℕ) → k < count m.layout.program → is_store (item_of m.layout.program k).kind ≡ true → is_later_at m k ≡ false → i ≤ behind m k →
+      names_reserved (instr_of m (k + i)) ≡ false
+  store_free k i below store first few =
+      let there = inside m ok k below store first i few in
+      (kept_at (k + i) (store_is_place m (k + i) there.0 there.1)).1
+
+  group_free : (k : ℕ) → k < count m.layout.program → is_store (item_of m.layout.program k).kind ≡ true → is_later_at m k ≡ false → NamesNoReserved (unit_here m k)
+  group_free k below store first =
+      let start : k + 0 ≡ k = omega arith in
+      let here = store_at m ok k below store in
+      let none = subst (λ (j : ℕ). names_reserved (instr_of m j) ≡ false) start (store_free k 0 below store first (omega arith)) in
+      subst NamesNoReserved
+      (sym (stores_unit (item_of m.layout.program k).kind (instr_of m k) (whole_at m.whole k) (gate_to m.layout (item_of m.layout.program k).target)
+      (jump_word m.layout.closed.version) (site_label m.labels m.layout.closed.sides k) (group_at m k) store here))
+      (stores_free (member_at m (low_at m k)) (base_of (Some (instr_of m k))) (group_at m k).mask k (suc (behind m k)) (base_free (instr_of m k) here none)
+      (λ i less.
+      let there = inside m ok k below store first i (omega arith) in
+      member_free (low_at m k) (instr_of m (k + i)) (store_at m ok (k + i) there.0 there.1) (store_free k i below store first (omega arith))))
+
+  -- the unit of a place that has one
+  pub place_free : (k : ℕ) → IsPlace m k → is_later_at m k ≡ false → NamesNoReserved (unit_here m k)
+  place_free k place first =
+      elim (cases_Bool (is_store (item_of m.layout.program k).kind)) [
+        | inl store ↦ group_free k place.below store first
+        | inr other_kind ↦
+            let is = kept_at k place in
+            unit_free (item_of m.layout.program k).kind (instr_of m k) (whole_at m.whole k) (gate_to m.layout (item_of m.layout.program k).target)
+            (jump_word m.layout.closed.version) (site_label m.labels m.layout.closed.sides k) (group_at m k) place.no_end other_kind is.0 is.1
+      ]

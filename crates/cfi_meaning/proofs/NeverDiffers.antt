@@ -3,7 +3,7 @@
 use Rattle.std.proofs.Common.{◌≡◌, ℕ, zero, suc, ◌+◌, ◌-◌, ◌≤◌, ◌==◌, Bool, true, List, [], ◌∷◌, ◌++◌, length, map, Option, Some, None, append-nil, append_assoc, replicate, refl, sym, ap, subst, ◌∙◌, arith}
 use Rattle.std.proofs.lemmas.Bool.{eq-eqb, le-ltb}
 use Rattle.rv_word.specs.Image.{Contents}
-use Rattle.rv_word.specs.MemoryMap.{IsProfile, Profile}
+use Rattle.rv_word.specs.MemoryMap.{Profile}
 use Rattle.rv_word.proofs.Versions.{laid_out}
 use Rattle.rv_code.specs.Continue.{continue}
 use Rattle.rv_code.specs.Run.{ByteChange, next_or_stop, run_alone}
@@ -15,14 +15,19 @@ use Rattle.rv_code.proofs.Continued.{events_added, run_in_parts}
 use Rattle.cfi_map.specs.GraphAtMap.{ProgramAtMap, word}
 use Rattle.cfi_unit.specs.Prologue.{OPENING}
 use Rattle.cfi_runs.specs.WholeRun.{undisturbed}
+use Rattle.cfi_map.specs.Placement.{whole_at}
+use Rattle.cfi_writer.specs.Accepted.{IsAccepted}
 use Rattle.cfi_writer.specs.Units.{Choice}
-use Rattle.cfi_meaning.specs.PlacesKept.{most_steps}
+use Rattle.cfi_meaning.specs.PlacesKept.{last_words, most_steps}
 use Rattle.cfi_meaning.specs.Compared.{Compared, Difference, SourceRun, TraceItem, broke, called, compared_from, differs, exited, first_difference, has_ended, image_end, run_from, running, same_bytes, same_event, same_item, source_end, source_run, stopped, trace, verdict}
 use Rattle.cfi_meaning.specs.Meaning.{EndsAs, KeepsMeaning}
 use Rattle.cfi_meaning.specs.NeverDiffers as law
 use Rattle.cfi_map.specs.Source.{Source, source_start}
 use Rattle.cfi_map.specs.SourceStep.{SourceAfter, StepTurn, after_steps, breaks, exits, ran, source_step, untame}
 use Rattle.cfi_meaning.proofs.Kept.{meaning_kept}
+use Rattle.cfi_map.proofs.LaterRuns.{AtLeader, reached}
+use Rattle.cfi_meaning.proofs.PlacesKept.{bound_rises}
+use Rattle.cfi_meaning.proofs.AtLater.{at_no_later}
 
 self : (n : ℕ) → (n == n) ≡ true
 self n = eq-eqb n n refl
@@ -104,7 +109,7 @@ none_differs (untame why k) n d e = cc
 untame_differs : (turn : StepTurn) (why : _) (k : ℕ) (o : Option Difference) (n : ℕ) (d : Difference) → turn ≡ untame why k → verdict turn o n ≡ differs d → ⊥
 untame_differs turn why k o n d is e = let e' : verdict (untame why k) o n ≡ differs d = ap (λ (t : StepTurn). verdict t o n) (sym is) ∙ e in cc
 
-module _ (m : Choice) (is : IsProfile m.layout.profile) (image : Contents) (input : List ℕ) where
+module _ (m : Choice) (ok : IsAccepted m) (image : Contents) (input : List ℕ) where
   abbrev p : Profile
   p = m.layout.profile
 
@@ -163,7 +168,7 @@ module _ (m : Choice) (is : IsProfile m.layout.profile) (image : Contents) (inpu
       let events : (after most).shared.events ≡ st.shared.events = ap (λ (x : After). x.shared.events) same ∙ answer.2.events in
       let turn : (after most).turn ≡ Break (word m.layout k) = ap (λ (x : After). x.turn) same ∙ answer.0 in
       let past = answer.1 in
-      let low = (laid_out p is).low in
+      let low = (laid_out p ok.profile).low in
       let own : image_end (Break (word m.layout k)) ≡ broke ∷ [] = rw (le-ltb (word m.layout k) OPENING (omega arith)) refl in
       let none : first_difference 0 true (trace st.shared.events (broke ∷ [])) (trace (after most).shared.events (image_end (after most).turn)) ≡ None =
       ap (λ (es : List Event). first_difference 0 true (trace st.shared.events (broke ∷ [])) (trace es (image_end (after most).turn))) events
@@ -183,18 +188,29 @@ module _ (m : Choice) (is : IsProfile m.layout.profile) (image : Contents) (inpu
         (first_difference 0 (has_ended r.turn) (trace r.state.shared.events (source_end r.turn)) (trace (after (most_steps m.layout r.steps)).shared.events (image_end (after (most_steps m.layout r.steps)).turn)))
         (length r.state.shared.events)
 
+    -- where the run goes on its trace is the beginning of the image's: it is that of the last state at no later store
+    traces : (n most : ℕ) (st : Source) → n ≤ most → AtLeader m.layout (whole_at m.whole) input n st →
+        (more : List Event) × ((after (most_steps m.layout most)).shared.events ≡ st.shared.events ++ more)
+    traces n most st less first =
+        let here = kept.goes first.steps first.state first.runs (at_no_later m first.state.place ok first.place) in
+        let few = here.1 in
+        let least = first.few in
+        let rises = bound_rises (length m.layout.closed.sides) (last_words p) first.steps most (omega arith) in
+        let more = added here.0 (most_steps m.layout most) (omega arith) here.2.turn in
+        (more.0, more.1 ∙ ap (λ (old : List Event). old ++ more.0) (here.2.events ∙ sym first.events))
+
     never : (r : SourceRun) → Where m.layout start 0 r → (d : Difference) → told r ≡ differs d → ⊥
     never r (on_way t e) d differ =
-        let here = kept.goes r.steps r.state (subst (λ (i : ℕ). after_steps m.layout i start ≡ Some r.state) (let s : 0 + r.steps ≡ r.steps = omega arith in s) e) in
+        let runs = subst (λ (i : ℕ). after_steps m.layout i start ≡ Some r.state) (let s : 0 + r.steps ≡ r.steps = omega arith in s) e in
+        let (more, events) =
+        traces r.steps r.steps r.state (omega arith) (reached m.layout (whole_at m.whole) input ok.groups ok.sound r.steps r.state runs).leader in
         let most = most_steps m.layout r.steps in
-        let more = added here.0 most here.1 here.2.turn in
         let es = r.state.shared.events in
-        let events : (after most).shared.events ≡ es ++ more.0 = more.1 ∙ ap (λ (old : List Event). old ++ more.0) here.2.events in
         let end = image_end (after most).turn in
         let none : first_difference 0 (has_ended r.turn) (trace es (source_end r.turn)) (trace (after most).shared.events end) ≡ None =
         ap (λ (x : StepTurn). first_difference 0 (has_ended r.turn) (trace es (source_end x)) (trace (after most).shared.events end)) t
         ∙ ap (λ (all : List Event). first_difference 0 (has_ended r.turn) (trace es []) (trace all end)) events
-        ∙ going_same es more.0 end 0 (has_ended r.turn) in
+        ∙ going_same es more end 0 (has_ended r.turn) in
         none_differs r.turn (length es) d (ap (λ (o : Option Difference). verdict r.turn o (length es)) (sym none) ∙ differ)
     never r (at_end before i counted e is not_ran) d differ =
         let there = kept.ends i before (subst (λ (j : ℕ). after_steps m.layout j start ≡ Some before) (let s : 0 + i ≡ i = omega arith in s) e) in
@@ -206,7 +222,7 @@ module _ (m : Choice) (is : IsProfile m.layout.profile) (image : Contents) (inpu
 pub never_differs : law.NeverDiffers
 unfolding compared_from after_steps
 never_differs m image of init input limit d differ =
-    never m of.accepted.profile image input (meaning_kept m image input of init) (source_run m.layout limit (source_start m.layout input))
+    never m of.accepted image input (meaning_kept m image input of init) (source_run m.layout limit (source_start m.layout input))
     (where_is m.layout (source_start m.layout input) limit (source_start m.layout input) 0 (begins m input)) d differ
   where
     begins : (m : Choice) (input : List ℕ) → after_steps m.layout 0 (source_start m.layout input) ≡ Some (source_start m.layout input)

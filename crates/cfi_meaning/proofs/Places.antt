@@ -1,5 +1,5 @@
 -- From a place's gate the words before its unit, if it has any, lead to that.
-use Rattle.std.proofs.Common.{◌≡◌, ℕ, suc, ◌+◌, ◌*◌, ◌<◌, ◌==◌, inl, inr, true, List, [], ◌∷◌, length, Option, Some, None, lit≤, refl, sym, ap, subst, ◌∙◌, arith}
+use Rattle.std.proofs.Common.{◌≡◌, ℕ, suc, ◌+◌, ◌*◌, ◌<◌, ◌==◌, inl, inr, ◌≤◌, true, false, List, [], ◌∷◌, length, Option, Some, None, lit≤, refl, sym, ap, subst, ◌∙◌, arith}
 use Rattle.std.specs.Prelude.{slice_get}
 use Rattle.std.proofs.lemmas.Bool.{cases_lt, eqb-true, or_cases}
 use Rattle.rv_instr.specs.Reserved.{is_reserved}
@@ -10,29 +10,27 @@ use Rattle.rv_word.specs.Memory.{Memory, loaded}
 use Rattle.rv_word.specs.MemoryMap.{Profile}
 use Rattle.rv_word.proofs.Versions.{laid_out}
 use Rattle.obj_program.specs.Program.{count, is_end, item_of}
-use Rattle.obj_program.proofs.Kept.{kept}
-use Rattle.cfi_map.specs.GraphAtMap.{gate, gate_to, word, words_at}
-use Rattle.cfi_map.specs.LabelOf.{site_label}
-use Rattle.cfi_map.specs.Placement.{whole_at}
+use Rattle.cfi_map.specs.GraphAtMap.{gate, word}
 use Rattle.cfi_unit.specs.declared.unit.Unit as U
 use Rattle.cfi_unit.specs.Stand.{Stand}
 use Rattle.cfi_unit.specs.UnitWords.{Fits, instrs_of, word_count}
 use Rattle.cfi_runs.specs.Own.{Own, OwnAfter, own_step}
 use Rattle.cfi_runs.specs.OwnRuns.{OwnRuns, words_along}
 use Rattle.cfi_runs.specs.Tame.{IsTame, NamesNoReserved, TameStep}
-use Rattle.cfi_rules.specs.Rules.{jump_word}
 use Rattle.cfi_rules.specs.Split.{code_words, unit_at}
 use Rattle.cfi_rules.proofs.Places.{unit_facts}
 use Rattle.cfi_rules.proofs.Standing.{unit_stands}
-use Rattle.cfi_writer.specs.Units.{Choice, instr_of, lead, lead_unit}
+use Rattle.cfi_writer.specs.Accepted.{IsAccepted}
+use Rattle.cfi_writer.specs.Units.{Choice, behind, is_later_at, lead, lead_unit, unit_here}
+use Rattle.cfi_writer.proofs.Grouping.{later_behind, later_below, later_store, other_first}
 use Rattle.cfi_writer.proofs.Runs.{AreSingle, from_lead, lead_few, lead_single}
-use Rattle.cfi_writer.proofs.Standing.{gate_after, instr_is, word_is}
+use Rattle.cfi_writer.proofs.Standing.{gate_after, word_is}
 use Rattle.cfi_writer.proofs.WholeCode.{written_units}
 use Rattle.cfi_meaning.specs.PlaceLaws as law
-use Rattle.cfi_meaning.specs.ImageOf.{IsImageOf, IsPlace, unit_here}
+use Rattle.cfi_meaning.specs.ImageOf.{IsImageOf, IsPlace}
 use Rattle.cfi_meaning.specs.PlaceLaws.{ComesToPlace}
-use Rattle.cfi_meaning.specs.PlaceSteps.{TamePlace, at_word}
-use Rattle.cfi_meaning.proofs.Names.{unit_free}
+use Rattle.cfi_meaning.specs.PlaceSteps.{at_word}
+use Rattle.cfi_meaning.proofs.Names.{place_free, store_is_place}
 use Rattle.cfi_meaning.proofs.Prologue.{formed, written_graph}
 
 -- a word before a unit names no reserved register, is tame and does nothing but go on
@@ -92,34 +90,31 @@ module _ (m : Choice) (image : Contents) (of : IsImageOf m image) where
       let here = unit_facts p of.accepted.profile image (written_graph m image of) of.bytes (formed m image of) a u e in
       (here.begins.fits, unit_stands p laid image of.bytes a u here)
 
-  pub unit_written : (k : ℕ) → k < count m.layout.program → unit_at m.layout.profile (code_words image.code) (word m.layout k) ≡ Some (unit_here m k)
-  unit_written k below =
-      subst (λ (ws : List ℕ). unit_at m.layout.profile ws (word m.layout k) ≡ Some (unit_here m k)) (sym of.code) (written_units m of.accepted k below).0
+  pub unit_written : (k : ℕ) → k < count m.layout.program → is_later_at m k ≡ false →
+      unit_at m.layout.profile (code_words image.code) (word m.layout k) ≡ Some (unit_here m k)
+  unit_written k below first =
+      subst (λ (ws : List ℕ). unit_at m.layout.profile ws (word m.layout k) ≡ Some (unit_here m k)) (sym of.code)
+      ((written_units m of.accepted).own k below first)
 
   pub lead_written : (k j : ℕ) (u : U.Unit) → k < count m.layout.program → slice_get (lead m k) j ≡ Some u →
       unit_at m.layout.profile (code_words image.code) (gate m.layout k + 4 * j) ≡ Some u
   lead_written k j u below some =
       subst (λ (ws : List ℕ). unit_at m.layout.profile ws (gate m.layout k + 4 * j) ≡ Some u) (sym of.code)
-      ((written_units m of.accepted k below).1 j u some)
+      ((written_units m of.accepted).led k j u below some)
 
-  place_free : (k : ℕ) → IsPlace m k → NamesNoReserved (unit_here m k)
-  place_free k place =
-      let words = words_at m.layout in
-      let is = kept m.layout.program m.layout.gates words k (instr_of m k) of.accepted.sound place.below place.no_end (instr_is m of.accepted k place.below place.no_end) in
-      unit_free (item_of m.layout.program k).kind (instr_of m k) (whole_at m.whole k) (gate_to m.layout (item_of m.layout.program k).target)
-      (jump_word m.layout.closed.version) (site_label m.labels m.layout.closed.sides k) place.no_end is.0 is.1
-
-  module _ (k : ℕ) (o : Own) (now : TamePlace m image k o) where
+  -- a place that has a unit, whose step is tame
+  module _ (k : ℕ) (o : Own) (place : IsPlace m k) (first : is_later_at m k ≡ false) (at : o.pc ≡ gate m.layout k) (some : 0 < length o.pending)
+      (tame : IsTame (loaded image) (unit_here m k) o.pending o.regs) where
     tame_step : TameStep (loaded image) (unit_here m k) (at_word m k o)
     tame_step =
-        let here = stands_here (word m.layout k) (unit_here m k) (unit_written k now.place.below) in
-        record { fits = here.0; stands = here.1; free = place_free k now.place; some = now.some; tame = now.tame }
+        let here = stands_here (word m.layout k) (unit_here m k) (unit_written k place.below first) in
+        record { fits = here.0; stands = here.1; free = place_free m of.accepted k place first; some = some; tame = tame }
 
     lead_step : (j : ℕ) (u : U.Unit) → slice_get (lead m k) j ≡ Some u → Quiet (loaded image) u (record o { pc = o.pc + 4 * j })
     lead_step j u get =
-        let (label, at, same) = from_lead m k j u get in
-        let here = stands_here (gate m.layout k + 4 * j) u (lead_written k j u now.place.below get) in
-        let there : gate m.layout k + 4 * j ≡ o.pc + 4 * j = ap (λ (a : ℕ). a + 4 * j) (sym now.at) in
+        let (label, led, same) = from_lead m k j u get in
+        let here = stands_here (gate m.layout k + 4 * j) u (lead_written k j u place.below get) in
+        let there : gate m.layout k + 4 * j ≡ o.pc + 4 * j = ap (λ (a : ℕ). a + 4 * j) (sym at) in
         record {
           label = label;
           same = same;
@@ -127,15 +122,14 @@ module _ (m : Choice) (image : Contents) (of : IsImageOf m image) where
             fits = subst (λ (a : ℕ). Fits u a) there here.0;
             stands = subst (λ (a : ℕ). Stand (loaded image) a (instrs_of u a)) there here.1;
             free = subst NamesNoReserved same (lead_free label);
-            some = now.some;
+            some = some;
             tame = subst (λ (v : U.Unit). IsTame (loaded image) v o.pending o.regs) same (lead_tame (loaded image) label o.pending o.regs);
           };
         }
 
     pub comes : ComesToPlace m image k o
     comes =
-        let behind = word_is m of.accepted k in
-        let at = now.at in
+        let behind_gate = word_is m of.accepted k in
         let next : o.pc + 4 * length (lead m k) ≡ word m.layout k = omega arith in
         let words = words_led (lead m k) (lead_single m k) in
         let few = lead_few m k in
@@ -149,12 +143,23 @@ module _ (m : Choice) (image : Contents) (of : IsImageOf m image) where
         }
 
 pub place_runs : law.PlaceRuns
-place_runs m image k o of now = comes m image of k o now
+place_runs m image k o of other now = comes m image of k o now.place (other_first m k other) now.at now.some (now.tame other)
 
-pub next_gate : law.NextGate
-next_gate m k ok place =
+-- the places of a group are no section's ends
+goes_on_at : (m : Choice) (k i : ℕ) → IsPlace m k → i ≤ behind m k → IsPlace m (k + i)
+goes_on_at m k i place few =
+    elim (cases_lt 0 i) [
+      | inl some ↦
+          let later = later_behind m k i (omega arith) few in
+          store_is_place m (k + i) (later_below m (k + i) later) (later_store m (k + i) later).0
+      | inr start ↦ let here : k ≡ k + i = omega arith in subst (IsPlace m) here place
+    ]
+
+-- behind a place that is no section's end stands a place
+pub place_behind : (m : Choice) (k : ℕ) → IsAccepted m → IsPlace m k → k + 1 < count m.layout.program
+place_behind m k ok place =
     elim (cases_lt (k + 1) (count m.layout.program)) [
-      | inl less ↦ (less, gate_after m ok k less)
+      | inl less ↦ less
       | inr past ↦
           let (last, counted, end) = ok.last in
           let below = place.below in
@@ -164,3 +169,9 @@ next_gate m k ok place =
           let not_end = place.no_end in
           absurd (cc)
     ]
+
+pub next_gate : law.NextGate
+next_gate m k ok place first =
+    let next = place_behind m (k + behind m k) ok (goes_on_at m k (behind m k) place (omega arith)) in
+    let below : k + (behind m k + 1) < count m.layout.program = omega arith in
+    (below, gate_after m ok k first below)

@@ -1,11 +1,14 @@
--- From any state that matches the next step is kept.
-use Rattle.std.proofs.Common.{◌≡◌, ℕ, suc, ◌+◌, ◌-◌, ◌≤◌, List, [], ◌∷◌, length, None, refl, sym, ap, subst, ◌∙◌, arith}
+-- From any state that matches the next step is kept, with those over later stores.
+use Rattle.std.proofs.Common.{◌≡◌, ℕ, zero, suc, ◌+◌, ◌-◌, ◌≤◌, true, false, inl, inr, List, [], ◌∷◌, length, Option, Some, None, refl, sym, ap, subst, ◌∙◌, arith}
+use Rattle.std.proofs.lemmas.Bool.{cases_Bool}
+use Rattle.std.proofs.lemmas.Option.{same_Some}
 use Rattle.rv_word.specs.Image.{Contents}
 use Rattle.rv_word.specs.MemoryMap.{Profile, SHADOW_START}
 use Rattle.rv_word.specs.Memory.{Memory, loaded}
 use Rattle.rv_word.proofs.Versions.{laid_out}
 use Rattle.rv_code.specs.State.{After, Hart, Shared, last_exit}
 use Rattle.rv_code.specs.Step.{step, stops}
+use Rattle.rv_code.specs.declared.turn.Turn.{Turn}
 use Rattle.rv_code.specs.declared.turn.Turn.TheVariants.{Ran}
 use Rattle.cfi_unit.specs.declared.unit.Unit as U
 use Rattle.cfi_unit.specs.Prologue.{closing_instrs}
@@ -28,9 +31,14 @@ use Rattle.cfi_runs.proofs.Matched.{unit_keeps_match}
 use Rattle.cfi_runs.proofs.Paths.{path_keeps_match, sites_fit, unit_within}
 use Rattle.cfi_runs.proofs.WholeRun.{path_fit}
 use Rattle.cfi_map.specs.GraphAtMap.{word}
-use Rattle.cfi_writer.specs.Units.{Choice, entry_gate}
-use Rattle.cfi_meaning.specs.ImageOf.{IsImageOf, unit_here}
-use Rattle.cfi_meaning.specs.PlaceSteps.{TamePlace, at_word, place_step}
+use Rattle.cfi_map.specs.declared.reason.Reason.{Reason}
+use Rattle.cfi_writer.specs.Units.{Choice, entry_gate, is_later_at, unit_here}
+use Rattle.cfi_meaning.specs.ImageOf.{IsImageOf}
+use Rattle.cfi_meaning.specs.LaterStores.{LeadsOver, is_at_later, is_at_store}
+use Rattle.cfi_meaning.specs.PlaceLaws.{ComesToPlace}
+use Rattle.cfi_meaning.specs.PlaceSteps.{TamePlace, at_word, holds_store, place_step}
+use Rattle.cfi_meaning.proofs.GroupSteps.{group_runs}
+use Rattle.cfi_meaning.proofs.KindStep.{step_of_kind}
 use Rattle.cfi_meaning.proofs.Places.{place_runs}
 use Rattle.cfi_meaning.proofs.Prologue.{written_prologue}
 use Rattle.cfi_map.specs.Source.{Source}
@@ -41,6 +49,9 @@ use Rattle.cfi_meaning.specs.Meaning.{Answers}
 use Rattle.cfi_meaning.proofs.KindActs.{IsOwn}
 use Rattle.cfi_meaning.proofs.Matching.{fitting, from_own, to_own}
 use Rattle.cfi_meaning.proofs.Steps.{Stepped, at_closing, at_place, has_ended, is_untame, stepped}
+use Rattle.cfi_meaning.proofs.AtLater.{at_later_is}
+use Rattle.cfi_meaning.proofs.OverStores.{StoresMade, stores_made, whole_group}
+use Rattle.cfi_meaning.proofs.StoreSteps.{goes_or_untame, store_goes, store_next}
 
 module _ (m : Choice) (image : Contents) (of : IsImageOf m image) where
   abbrev memory : Memory
@@ -57,7 +68,13 @@ module _ (m : Choice) (image : Contents) (of : IsImageOf m image) where
 
   -- the step of a place leaves pending sites that fit
   pub sites_after : (k : ℕ) (o : Own) → TamePlace m image k o → SitesFit o.pending → SitesFit (place_step m k o).state.pending
-  sites_after k o now fit = sites_fit p memory (unit_here m k) (at_word m k o) (place_runs m image k o of now).step fit
+  sites_after k o now fit =
+      elim (cases_Bool (holds_store m k)) [
+        | inl store ↦ subst SitesFit (sym (store_goes m image k o of.accepted now store).pending) fit
+        | inr other ↦
+            subst (λ (a : OwnAfter). SitesFit a.state.pending) (step_of_kind m image k o of.accepted other now)
+            (sites_fit p memory (unit_here m k) (at_word m k o) (place_runs m image k o of other now).step fit)
+      ]
 
   -- what the own step comes to answers the source machine's
   pub answers : (turn : StepTurn) (next : Source) (o : OwnAfter) → IsOwn m.layout o turn next → SitesFit o.state.pending → (after : After) →
@@ -99,24 +116,78 @@ module _ (m : Choice) (image : Contents) (of : IsImageOf m image) where
   abbrev most : ℕ
   most = 19 + length m.layout.closed.sides
 
-  keeps_so : (st : Source) (after : After) → Matches m.layout image st after → Stepped m image st →
-      Within p most (Answers m.layout image (source_step m.layout st).turn (source_step m.layout st).state) (step p after.hart after.shared)
-  keeps_so st after same (has_ended status ended is) =
-      let none : last_exit st.shared.events ≡ None = sym (ap last_exit same.events) ∙ same.going in absurd (cc)
-  keeps_so st after same (is_untame why k is) =
-      subst (λ (t : StepTurn). Within p most (Answers m.layout image t (source_step m.layout st).state) (step p after.hart after.shared)) (sym is) (within_more p (Answers m.layout image (untame why k) (source_step m.layout st).state) 0 most (step p after.hart after.shared) (omega arith) tt)
-  keeps_so st after same (at_place k now is) =
+  -- where a place's unit leads, within as many steps as it has words with those before it
+  passes : (k : ℕ) (st : Source) (after : After) → Matches m.layout image st after → ComesToPlace m image k (own_of m.layout st) →
+      Within p most (MatchesAfter SHADOW_START memory memory (own_step p (at_word m k (own_of m.layout st)) (unit_here m k))) (step p after.hart after.shared)
+  passes k st after same here =
       let o = own_of m.layout st in
-      let here = place_runs m image k o of now in
       let few = here.few in
       let long = most_words (unit_here m k) (word m.layout k) here.step.fits in
-      let fit = fitting m of.accepted st same.room in
+      along most here.path (unit_here m k) o (at_word m k o) after.hart after.shared (omega arith) (fitting m of.accepted st same.room) here.leads here.step
+      (to_own m.layout image st after same).1
+
+  -- the source machine's step is answered
+  abbrev Kept : Source → After → Type 0
+  Kept last after = Within p most (Answers m.layout image (source_step m.layout last).turn (source_step m.layout last).state) (step p after.hart after.shared)
+
+  -- an untame step by anything
+  nothing_asked : (last : Source) (after : After) (why : Reason) (k : ℕ) → (source_step m.layout last).turn ≡ untame why k → Kept last after
+  nothing_asked last after why k is =
+      subst (λ (t : StepTurn). Within p most (Answers m.layout image t (source_step m.layout last).state) (step p after.hart after.shared)) (sym is)
+      (within_more p (Answers m.layout image (untame why k) (source_step m.layout last).state) 0 most (step p after.hart after.shared) (omega arith) tt)
+
+  -- the last step of a group
+  last_store : (n k : ℕ) (st last : Source) (after : After) → Matches m.layout image st after → holds_store m k ≡ true → is_later_at m k ≡ false →
+      StoresMade m image n k st last → is_at_later m.layout (source_step m.layout last).state.place ≡ false → TamePlace m image (k + n) (own_of m.layout last) →
+      IsOwn m.layout (place_step m (k + n) (own_of m.layout last)) (source_step m.layout last).turn (source_step m.layout last).state → Kept last after
+  last_store n k st last after same store first made free now is =
+      let o = place_step m (k + n) (own_of m.layout last) in
+      let turn = (source_step m.layout last).turn in
+      let state = (source_step m.layout last).state in
+      let goes = store_goes m image (k + n) (own_of m.layout last) of.accepted now made.store in
+      elim (goes_or_untame m.layout o turn state is goes.turn) [
+        | inr (why, i, not_tame) ↦ nothing_asked last after why i not_tame
+        | inl on ↦
+            let next : state.place ≡ Some (k + n + 1) = store_next m.layout last (k + n) made.at made.store on in
+            let past : is_later_at m (k + n + 1) ≡ false =
+            sym (at_later_is m (k + n + 1) of.accepted) ∙ subst (λ (place : Option ℕ). is_at_later m.layout place ≡ false) next free in
+            let through = group_runs m image k (own_of m.layout st) o.state of store first (whole_group m image of n k st last o made now refl goes.turn past) in
+            let fit : SitesFit o.state.pending = subst SitesFit (sym (goes.pending ∙ made.pending)) (fitting m of.accepted st same.room) in
+            within_weaker p (MatchesAfter SHADOW_START memory memory o) (Answers m.layout image turn state) (answers turn state o is fit) most
+            (step p after.hart after.shared)
+            (subst (λ (a : OwnAfter). Within p most (MatchesAfter SHADOW_START memory memory a) (step p after.hart after.shared))
+            (through.leads ∙ ap (λ (t : Turn). record { state = o.state; turn = t }) (sym goes.turn)) (passes k st after same through.comes))
+      ]
+
+  -- the stores of a group are kept as one step
+  keeps_group : (n k : ℕ) (st last : Source) (after : After) → Matches m.layout image st after → holds_store m k ≡ true → is_later_at m k ≡ false →
+      StoresMade m image n k st last → is_at_later m.layout (source_step m.layout last).state.place ≡ false → Stepped m image last → Kept last after
+  keeps_group n k st last after same store first made free (has_ended status ended is) =
+      let wrong : Some status ≡ None = sym ended ∙ made.going in absurd (cc)
+  keeps_group n k st last after same store first made free (is_untame why j is) = nothing_asked last after why j is
+  keeps_group n k st last after same store first made free (at_closing nowhere is) =
+      let wrong : Some (k + n) ≡ None = sym made.at ∙ nowhere in absurd (cc)
+  keeps_group n k st last after same store first made free (at_place j at now is) =
+      let here : j ≡ k + n = same_Some j (k + n) (sym at ∙ made.at) in
+      last_store n k st last after same store first made free (subst (λ (i : ℕ). TamePlace m image i (own_of m.layout last)) here now)
+      (subst (λ (i : ℕ). IsOwn m.layout (place_step m i (own_of m.layout last)) (source_step m.layout last).turn (source_step m.layout last).state) here is)
+
+  -- a step that is of one place
+  keeps_one : (st : Source) (after : After) → Matches m.layout image st after → Stepped m image st →
+      ((k : ℕ) → st.place ≡ Some k → holds_store m k ≡ false) → Kept st after
+  keeps_one st after same (has_ended status ended is) other =
+      let none : last_exit st.shared.events ≡ None = sym (ap last_exit same.events) ∙ same.going in absurd (cc)
+  keeps_one st after same (is_untame why k is) other = nothing_asked st after why k is
+  keeps_one st after same (at_place k at now is) other =
+      let o = own_of m.layout st in
+      let none = other k at in
       within_weaker p (MatchesAfter SHADOW_START memory memory (place_step m k o))
       (Answers m.layout image (source_step m.layout st).turn (source_step m.layout st).state)
-      (answers (source_step m.layout st).turn (source_step m.layout st).state (place_step m k o) is (sites_after k o now fit)) most (step p after.hart after.shared)
-      (along most here.path (unit_here m k) o (at_word m k o) after.hart after.shared (omega arith) fit here.leads here.step
-      (to_own m.layout image st after same).1)
-  keeps_so st after same (at_closing nowhere is) =
+      (answers (source_step m.layout st).turn (source_step m.layout st).state (place_step m k o) is (sites_after k o now (fitting m of.accepted st same.room))) most
+      (step p after.hart after.shared)
+      (subst (λ (a : OwnAfter). Within p most (MatchesAfter SHADOW_START memory memory a) (step p after.hart after.shared)) (step_of_kind m image k o of.accepted none now)
+      (passes k st after same (place_runs m image k o of none now)))
+  keeps_one st after same (at_closing nowhere is) other =
       let o = own_of m.layout st in
       let pc = ap (address_of m.layout) nowhere in
       within_weaker p (MatchesAfter SHADOW_START memory memory (own_closing p o))
@@ -126,5 +197,28 @@ module _ (m : Choice) (image : Contents) (of : IsImageOf m image) where
       (closing_keeps_match p SHADOW_START memory memory o after.hart after.shared own_part
       (subst (λ (a : ℕ). Stand memory a closing_instrs) (sym pc) has.closing) (to_own m.layout image st after same).1))
 
+  -- from a place that holds no store no step leads over later stores
+  no_more : (n : ℕ) (st last : Source) → is_at_store m.layout st.place ≡ false → LeadsOver m.layout n st last → last ≡ st
+  no_more zero st last other over = over
+  no_more (suc n) st last other over = let wrong : true ≡ false = sym over.0 ∙ other in absurd (cc)
+
+  keeps_other : (n : ℕ) (st last : Source) (after : After) → Matches m.layout image st after → is_at_store m.layout st.place ≡ false →
+      LeadsOver m.layout n st last → Kept last after
+  keeps_other n st last after same other over =
+      subst (λ (x : Source). Kept x after) (sym (no_more n st last other over))
+      (keeps_one st after same (stepped m image of st) (λ k at. ap (is_at_store m.layout) (sym at) ∙ other))
+
+  keeps_at : (n : ℕ) (st last : Source) (after : After) (place : Option ℕ) → st.place ≡ place → Matches m.layout image st after →
+      is_at_later m.layout place ≡ false → LeadsOver m.layout n st last → is_at_later m.layout (source_step m.layout last).state.place ≡ false → Kept last after
+  keeps_at n st last after None at same first over free = keeps_other n st last after same (ap (is_at_store m.layout) at) over
+  keeps_at n st last after (Some k) at same first over free =
+      elim (cases_Bool (holds_store m k)) [
+        | inr other ↦ keeps_other n st last after same (ap (is_at_store m.layout) at ∙ other) over
+        | inl store ↦
+            let going : last_exit st.shared.events ≡ None = sym (ap last_exit same.events) ∙ same.going in
+            keeps_group n k st last after same store (sym (at_later_is m k of.accepted) ∙ first) (stores_made m image of n k st last at store going over) free
+            (stepped m image of last)
+      ]
+
 pub step_kept : law.StepKept
-step_kept m image of st after same = keeps_so m image of st after same (stepped m image of st)
+step_kept m image of st after n last same first over free = keeps_at m image of n st last after st.place refl same first over free

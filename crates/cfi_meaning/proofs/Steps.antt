@@ -16,12 +16,11 @@ use Rattle.cfi_map.specs.GraphAtMap.{ProgramAtMap, gate, gate_to, word, words_at
 use Rattle.cfi_map.specs.LabelOf.{site_label}
 use Rattle.cfi_map.specs.Placement.{whole_at}
 use Rattle.cfi_rules.specs.Rules.{jump_word}
-use Rattle.cfi_writer.specs.Units.{Choice, instr_of}
+use Rattle.cfi_writer.specs.Units.{Choice, group_at, instr_of}
 use Rattle.cfi_writer.proofs.Leading.{direct}
 use Rattle.cfi_writer.proofs.Standing.{gate_lies, instr_is, word_is}
 use Rattle.cfi_meaning.specs.ImageOf.{IsImageOf, IsPlace}
 use Rattle.cfi_meaning.specs.PlaceSteps.{TamePlace, place_step}
-use Rattle.cfi_meaning.proofs.KindStep.{step_of_kind}
 use Rattle.cfi_meaning.proofs.Targets.{target_bears}
 use Rattle.cfi_meaning.specs.Matches.{own_of}
 use Rattle.cfi_map.specs.declared.reason.Reason.{Reason}
@@ -29,7 +28,7 @@ use Rattle.cfi_map.specs.Source.{Source, instr_here}
 use Rattle.cfi_map.specs.SourceStep.{SourceAfter, acts, closes, exits, source_step, step_at, unless, unless_ended, untame}
 use Rattle.cfi_map.specs.Untame.{is_off_graph, is_off_window, is_too_deep, is_wrong_return, reason}
 use Rattle.cfi_meaning.proofs.KindActs.{IsOwn, own_acts}
-use Rattle.cfi_meaning.proofs.KindTame.{NoReason, all_false, sites_counted, tame_of_kind}
+use Rattle.cfi_meaning.proofs.KindTame.{NoReason, all_false, inside_of_kind, sites_counted, tame_of_kind}
 
 module _ (m : Choice) (image : Contents) (of : IsImageOf m image) (k : ℕ) where
   abbrev g : ProgramAtMap
@@ -76,8 +75,10 @@ module _ (m : Choice) (image : Contents) (of : IsImageOf m image) (k : ℕ) wher
         place = place;
         at = refl;
         some = let counted = sites_counted g pending in omega arith;
+        inside = inside_of_kind image g k (jump_word g.closed.version) (site_label m.labels g.closed.sides k) here item.kind (instr_of m k) no_reason;
         tame = tame_of_kind image g k (jump_word g.closed.version) (site_label m.labels g.closed.sides k) here item.kind (instr_of m k)
-            (whole_at m.whole k) (gate_to g item.target) (λ site some t' reaches. target_bears m image k t' site of place.below some reaches) suit no_reason;
+            (whole_at m.whole k) (gate_to g item.target) (group_at m k)
+            (λ site some t' reaches. target_bears m image k t' site of place.below some reaches) suit no_reason;
       }
 
       past : g.profile.units_from ≤ word g k
@@ -89,16 +90,13 @@ module _ (m : Choice) (image : Contents) (of : IsImageOf m image) (k : ℕ) wher
 
       own_here : IsOwn g (place_step m k (own_of g here)) (acts g k item.kind (instr_here g k) (unwrap_or item.target 0) here).turn
           (acts g k item.kind (instr_here g k) (unwrap_or item.target 0) here).state
-      own_here =
-          subst (λ o. IsOwn g o (acts g k item.kind (instr_here g k) (unwrap_or item.target 0) here).turn (acts g k item.kind (instr_here g k) (unwrap_or item.target 0) here).state)
-          (sym (step_of_kind m image k (own_of g here) of.accepted tame_here))
-          (own_acts g k past r t pending item.kind (instr_of m k) item.target suit no_reason aim)
+      own_here = own_acts g k past r t pending item.kind (instr_of m k) item.target suit no_reason aim
 
 -- what a step is
 pub data Stepped (m : Choice) (image : Contents) (st : Source) : Type 0 where
   has_ended : (status : ℕ) → last_exit st.shared.events ≡ Some status → source_step m.layout st ≡ record { state = st; turn = exits status } → Stepped m image st
   is_untame : (why : Reason) (k : ℕ) → (source_step m.layout st).turn ≡ untame why k → Stepped m image st
-  at_place : (k : ℕ) → TamePlace m image k (own_of m.layout st) →
+  at_place : (k : ℕ) → st.place ≡ Some k → TamePlace m image k (own_of m.layout st) →
       IsOwn m.layout (place_step m k (own_of m.layout st)) (source_step m.layout st).turn (source_step m.layout st).state → Stepped m image st
   at_closing : st.place ≡ None → source_step m.layout st ≡ closes m.layout st → Stepped m image st
 
@@ -125,7 +123,7 @@ module _ (m : Choice) (image : Contents) (of : IsImageOf m image) (st : Source) 
             let acted : source_step m.layout st ≡ acts m.layout k item.kind i (unwrap_or item.target 0) st =
             is ∙ ap (λ (o : Option Reason). unless o k st (acts m.layout k item.kind i (unwrap_or item.target 0) st)) none in
             let none' = subst (λ (x : Source). reason m.layout k item.kind i x ≡ None) (sym q) none in
-            at_place k
+            at_place k at
             (subst (λ (x : Source). TamePlace m image k (own_of m.layout x)) q (tame_here m image of k st.regs st.shared st.pending none'))
             (subst (λ (a : SourceAfter). IsOwn m.layout (place_step m k (own_of m.layout st)) a.turn a.state) (sym acted)
             (subst (λ (x : Source). IsOwn m.layout (place_step m k (own_of m.layout x)) (acts m.layout k item.kind i (unwrap_or item.target 0) x).turn (acts m.layout k item.kind i (unwrap_or item.target 0) x).state) q

@@ -1,5 +1,5 @@
 -- The gates of a computed transfer's targets bear its label: they are targets of the class that serves it, in a graph that meets the rules.
-use Rattle.std.proofs.Common.{◌≡◌, ℕ, zero, suc, ◌<◌, ◌==◌, inl, inr, true, List, [], ◌∷◌, length, Option, Some, None, refl, sym, ap, subst, ◌∙◌}
+use Rattle.std.proofs.Common.{◌≡◌, ℕ, suc, ◌<◌, ◌==◌, inl, inr, true, List, [], ◌∷◌, length, Option, Some, None, refl, sym, ap, subst, ◌∙◌}
 use Rattle.std.specs.Prelude.{map, option_and_then, slice_get, slice_index, slice_index_or}
 use Rattle.std.specs.List.{find, list_any}
 use Rattle.std.proofs.lemmas.Bool.{cases_Bool, eqb-true, or_cases, or_left, or_right}
@@ -8,7 +8,6 @@ use Rattle.std.proofs.lemmas.List.Quantifiers.{position-Some}
 use Rattle.std.proofs.lemmas.Option.{same_Some}
 use Rattle.rv_word.specs.Image.{Contents}
 use Rattle.rv_word.specs.Memory.{loaded}
-use Rattle.obj_program.specs.Program.{count, item_of}
 use Rattle.cfi_class.specs.Classes.{has}
 use Rattle.cfi_graph.specs.declared.line.GraphLine.{GraphLine}
 use Rattle.cfi_graph.specs.declared.line.SiteKind.{SiteKind}

@@ -21,7 +21,7 @@ pub record HoldsAtMap (Holds : ProgramAtMap → Contents → Type 0) (request : 
   pub p : PreparedParts
   pub contents : Contents
   pub prepared : IsPreparedOf request p
-  pub map : IsLegalMap p.program p.closed h.map
+  pub map : IsLegalMap p.program p.closed p.entry h.map
   pub version : contents.version ≡ image_version request.form
   pub map_form : h.map.form ≡ request.form
   pub image : h.image ≡ spelling contents.version contents.code contents.init

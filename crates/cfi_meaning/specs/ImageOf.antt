@@ -1,13 +1,12 @@
--- An image of what is written, and the units of its places.
+-- An image of what is written.
 use Rattle.std.specs.Prelude.{◌≡◌, ℕ, ◌<◌, false}
 use Rattle.rv_word.specs.Image.{Contents}
 use Rattle.obj_program.specs.Program.{count, is_end, item_of}
-use Rattle.cfi_unit.specs.declared.unit.Unit as U
 use Rattle.cfi_rules.specs.Laws.{AreBytes}
 use Rattle.cfi_rules.specs.Split.{code_words}
 use Rattle.cfi_writer.specs.Accepted.{IsAccepted}
 use Rattle.cfi_writer.specs.Laws.{written_code}
-use Rattle.cfi_writer.specs.Units.{Choice, unit_for}
+use Rattle.cfi_writer.specs.Units.{Choice}
 
 -- the image's code is what is written for a choice that is accepted
 pub record IsImageOf (m : Choice) (image : Contents) : Type 0 where
@@ -19,6 +18,3 @@ pub record IsImageOf (m : Choice) (image : Contents) : Type 0 where
 pub record IsPlace (m : Choice) (k : ℕ) : Type 0 where
   pub below : k < count m.layout.program
   pub no_end : is_end (item_of m.layout.program k).kind ≡ false
-
-abbrev pub unit_here : Choice → ℕ → U.Unit
-unit_here m k = unit_for m k (item_of m.layout.program k)

@@ -1,8 +1,6 @@
 -- What a place's own step is, by the kind of its instruction: transfers go to gates, links are the next
--- place's gate, and any other instruction has the hart's own effect at the place's word. A store has it
--- where its place is tame.
-use Rattle.std.specs.Prelude.{◌≡◌, ℕ, ◌+◌, if◌then◌else◌}
-use Rattle.rv_word.specs.Image.{Contents}
+-- place's gate, and any other instruction has the hart's own effect at the place's word.
+use Rattle.std.specs.Prelude.{ℕ, if◌then◌else◌}
 use Rattle.rv_word.specs.MemoryMap.{Profile}
 use Rattle.rv_instr.specs.Registers.{get_reg}
 use Rattle.rv_instr.specs.declared.instr.Instr.{Instr}
@@ -10,12 +8,7 @@ use Rattle.rv_instr.specs.declared.instr.Instr.TheVariants as I
 use Rattle.rv_code.specs.Arithmetic.{branch_taken}
 use Rattle.obj_input.specs.declared.item_kind.ItemKind.{ItemKind}
 use Rattle.obj_input.specs.declared.item_kind.ItemKind.TheVariants as is
-use Rattle.obj_program.specs.Program.{item_of}
-use Rattle.cfi_map.specs.GraphAtMap.{gate, gate_to}
 use Rattle.cfi_runs.specs.Own.{Own, OwnAfter, calls, computed, executes, goes, returns}
-use Rattle.cfi_writer.specs.Accepted.{IsAccepted}
-use Rattle.cfi_writer.specs.Units.{Choice, instr_of}
-use Rattle.cfi_meaning.specs.PlaceSteps.{TamePlace, at_word, place_step}
 
 -- with the gates of its target and of the next place
 abbrev pub kind_step : Profile → ItemKind → Instr → ℕ → ℕ → Own → OwnAfter
@@ -27,10 +20,3 @@ kind_step p is.Return i target next o = returns p o o.pending
 kind_step p is.Ijump (I.Jalr rd rs1 imm) target next o = goes p o (computed o.regs rs1 imm)
 kind_step p is.Icall (I.Jalr rd rs1 imm) target next o = calls p o (computed o.regs rs1 imm) next
 kind_step p kind i target next o = executes p o i o.regs next
-
-abbrev pub StepOfKind : Type 0
-StepOfKind =
-    (m : Choice) (image : Contents) (k : ℕ) (o : Own) → IsAccepted m → TamePlace m image k o →
-    place_step m k o ≡
-    kind_step m.layout.profile (item_of m.layout.program k).kind (instr_of m k) (gate_to m.layout (item_of m.layout.program k).target)
-    (gate m.layout (k + 1)) (at_word m k o)

@@ -1,9 +1,10 @@
 pub mod ImageOf
+pub mod KindStep
 pub mod PlaceSteps
 pub mod PlaceLaws
 pub mod PlacesKept
-pub mod KindStep
 pub mod Matches
+pub mod LaterStores
 pub mod Meaning
 pub mod Compared
 pub mod NeverDiffers

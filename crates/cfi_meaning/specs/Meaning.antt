@@ -1,7 +1,7 @@
 -- Meaning kept: after n tame steps of the source machine, none of which ends the run, the undisturbed run of the image is at a
--- matching state within 21 n + 13 steps; and where the next step ends the run, the image's has ended alike within 21 (n + 1) + 13
--- in all. An image for several harts runs with one alone, and for 13 reads 17; with a graph of version 2 for 21 reads 22.
-use Rattle.std.specs.Prelude.{◌≡◌, ℕ, ◌+◌, ◌≤◌, Some, List, length}
+-- matching state within 21 n + 13 steps, unless the program is at a later store of a group; and where the next step ends the run, the
+-- image's has ended alike within 21 (n + 1) + 13 in all. An image for several harts runs with one alone, and for 13 reads 17; with a graph of version 2 for 21 reads 22.
+use Rattle.std.specs.Prelude.{◌≡◌, ℕ, ◌+◌, ◌≤◌, false, Some, List, length}
 use Rattle.rv_word.specs.Image.{Contents}
 use Rattle.rv_code.specs.State.{After}
 use Rattle.rv_code.specs.Step.{step}
@@ -16,6 +16,7 @@ use Rattle.cfi_meaning.specs.PlacesKept.{most_steps}
 use Rattle.cfi_map.specs.Source.{Source, init_here, source_start}
 use Rattle.cfi_map.specs.SourceStep.{StepTurn, after_steps, breaks, exits, ran, source_step}
 use Rattle.cfi_meaning.specs.Matches.{Matches}
+use Rattle.cfi_meaning.specs.LaterStores.{LeadsOver, is_at_later}
 
 -- the image has ended as the source machine's step did: with its status, or at a break in no handler. Of a step that goes on or is
 -- untame this says nothing
@@ -31,15 +32,16 @@ Answers layout image ran st after = Matches layout image st after
 Answers layout image other st after = EndsAs layout other st after
 
 -- what matching is for: from any state that matches, whatever led to it, one step and at most 20 more, or 21, come to a state that matches
--- after the source machine's next step, or end as that does
+-- after the source machine's next step, or end as that does; where that is a store with others behind its mask, after the last of these
 abbrev pub KeepsStep : ProgramAtMap → Contents → Type 0
 KeepsStep layout image =
-    (st : Source) (after : After) → Matches layout image st after →
-    Within layout.profile (19 + length layout.closed.sides) (Answers layout image (source_step layout st).turn (source_step layout st).state)
+    (st : Source) (after : After) (n : ℕ) (last : Source) → Matches layout image st after → is_at_later layout st.place ≡ false →
+    LeadsOver layout n st last → is_at_later layout (source_step layout last).state.place ≡ false →
+    Within layout.profile (19 + length layout.closed.sides) (Answers layout image (source_step layout last).turn (source_step layout last).state)
     (step layout.profile after.hart after.shared)
 
 pub record KeepsMeaning (layout : ProgramAtMap) (image : Contents) (input : List ℕ) : Type 0 where
-  pub goes : (n : ℕ) (st : Source) → after_steps layout n (source_start layout input) ≡ Some st →
+  pub goes : (n : ℕ) (st : Source) → after_steps layout n (source_start layout input) ≡ Some st → is_at_later layout st.place ≡ false →
       RunsTo layout.profile image input (most_steps layout n) (Matches layout image st)
   pub ends : (n : ℕ) (st : Source) → after_steps layout n (source_start layout input) ≡ Some st →
       RunsTo layout.profile image input (most_steps layout (n + 1)) (EndsAs layout (source_step layout st).turn (source_step layout st).state)

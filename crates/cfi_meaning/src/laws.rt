@@ -1,10 +1,9 @@
 //! Each function states one law; nothing is computed.
 ghost use Rattle.cfi_meaning.specs.Hardened.{HardenedKeepsMeaning, HardenedNeverDiffers};
-ghost use Rattle.cfi_meaning.specs.KindStep.{StepOfKind};
 ghost use Rattle.cfi_meaning.specs.Matches.{MatchesIsOwn};
 ghost use Rattle.cfi_meaning.specs.Meaning.{MeaningKept, StepKept};
 ghost use Rattle.cfi_meaning.specs.NeverDiffers.{NeverDiffers};
-ghost use Rattle.cfi_meaning.specs.PlaceLaws.{NextGate, PlaceRuns, TargetBears, WrittenPrologue};
+ghost use Rattle.cfi_meaning.specs.PlaceLaws.{GroupRuns, NextGate, PlaceRuns, StepOfKind, TargetBears, WrittenPrologue};
 ghost use Rattle.cfi_meaning.specs.PlacesKept.{PlacesKept};
 
 /// The opening and the closing stand in an image of what is written.
@@ -12,12 +11,17 @@ pub fn written_prologue()
     ensures { WrittenPrologue }
 {}
 
-/// From a place's gate the words before its unit, if it has any, lead to that, whose step is tame.
+/// From the gate of a place that holds no store the words before its unit, if it has any, lead to that, whose step is tame.
 pub fn place_runs()
     ensures { PlaceRuns }
 {}
 
-/// A place that is no section's end has a next one, whose gate is behind its unit.
+/// The steps of the stores of a whole group are the one step of its unit.
+pub fn group_runs()
+    ensures { GroupRuns }
+{}
+
+/// Behind the unit of a place that is no section's end stands the gate of the next place that has a unit.
 pub fn next_gate()
     ensures { NextGate }
 {}
@@ -34,7 +38,7 @@ pub fn places_kept()
     ensures { PlacesKept }
 {}
 
-/// The own step of a tame place is that of its instruction's kind, whatever unit stands for it.
+/// The own step of a tame place that holds no store is that of its instruction's kind, whatever unit stands for it.
 pub fn step_of_kind()
     ensures { StepOfKind }
 {}
@@ -49,8 +53,8 @@ pub fn matches_is_own()
     ensures { MatchesIsOwn }
 {}
 
-/// From any state that matches, the next step of the program is kept within 21 of the image, or 22 with a graph
-/// of version 2.
+/// From any state that matches, the next step of the program, with those over later stores, is kept within 21 of the image, or
+/// 22 with a graph of version 2.
 pub fn step_kept()
     ensures { StepKept }
 {}

@@ -8,3 +8,9 @@ pub mod Paths
 pub mod Ends
 pub mod WholeRun
 pub mod Worked
+pub mod GroupRuns
+pub mod GroupPlaces
+pub mod GroupStores
+pub mod Distances
+pub mod GroupMembers
+pub mod WorkedGroup

@@ -8,3 +8,7 @@ pub mod Matching
 pub mod OwnRuns
 pub mod MatchLaws
 pub mod WholeRun
+pub mod Distances
+pub mod GroupRuns
+pub mod GroupStores
+pub mod GroupLaws

@@ -2,6 +2,7 @@
 ghost use Rattle.cfi_runs.specs.Laws.{ClosingRuns, OpeningRuns, UnitRuns};
 ghost use Rattle.cfi_runs.specs.MatchLaws.{ClosingKeepsMatch, OpeningKeepsMatch, PathKeepsMatch, UnitKeepsMatch};
 ghost use Rattle.cfi_runs.specs.WholeRun.{RunKeepsMatch};
+ghost use Rattle.cfi_runs.specs.GroupLaws.{GroupIsOneStep, GroupsAreMasked, PlacesWalked};
 
 /// A unit that passes on is left, within as many steps as it has words, as its row says.
 pub fn unit_runs()
@@ -42,4 +43,20 @@ pub fn closing_keeps_match()
 /// The whole undisturbed run of an image keeps the program's own run along a path of tame steps.
 pub fn run_keeps_match()
     ensures { RunKeepsMatch }
+{}
+
+/// A run by places is a run along units: a place that holds no store has units of its own, and the stores of a whole group are one.
+pub fn places_walked()
+    ensures { PlacesWalked }
+{}
+
+/// A unit of stores does what the stores of its group do one after the other, where each of them is made in the window of data.
+pub fn group_is_one_step()
+    ensures { GroupIsOneStep }
+{}
+
+/// From the address that the least offset of a group leads to each of its stores lies a member's distance, if no two offsets lie more
+/// than 2047 apart.
+pub fn groups_are_masked()
+    ensures { GroupsAreMasked }
 {}

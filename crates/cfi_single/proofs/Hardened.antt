@@ -16,7 +16,7 @@ use Rattle.cfi_writer.specs.Laws.{written_code}
 use Rattle.cfi_map.specs.Placing.{IsPlacementOf, Spaced}
 use Rattle.cfi_harden.specs.Prepared.{PreparedParts}
 use Rattle.cfi_single.specs.OneWay.{HardenedInOneWay}
-use Rattle.cfi_single.proofs.Placed.{branches_same, layout_unique}
+use Rattle.cfi_single.proofs.Placed.{layout_unique, sizes_same}
 use Rattle.cfi_single.proofs.Prepared.{prepared_unique}
 use Rattle.cfi_single.proofs.Written.{bytes_same, labels_unique, lines_same, under, units_same}
 
@@ -35,7 +35,7 @@ module _ (p : PreparedParts) (s t : Spaced) (labels others code more init filled
   code_written =
       ap (λ (l : ProgramAtMap). written_code (under l labels s.whole)) layouts_are
       ∙ ap (λ (us : List U.Unit). placed_code t.layout.profile (gate t.layout t.layout.entry) us)
-      (units_same t.layout labels s.whole t.whole 0 t.layout.program.items (branches_same p.form p.program p.closed p.entry s t hs ht))
+      (units_same t.layout labels s.whole t.whole (sizes_same p.form p.program p.closed p.entry s t hs ht))
       ∙ ap (λ (ls : List ℕ). written_code (under t.layout ls t.whole)) labels_are
 
   code_is : code ≡ more

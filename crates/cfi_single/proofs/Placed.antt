@@ -1,18 +1,24 @@
--- One placement is right for a program with its closed graph: the same branches are long, so the program is at the same map.
-use Rattle.std.proofs.Common.{◌≡◌, ℕ, suc, ◌+◌, ◌<◌, ◌≤◌, Bool, true, false, List, [], ◌∷◌, length, get_or, refl, sym, ap, subst, ◌∙◌, arith}
+-- One placement is right for a program with its closed graph: the same stores join a group and the same branches are long, so the program
+-- is at the same map.
+use Rattle.std.proofs.Common.{◌≡◌, ℕ, zero, suc, ◌+◌, ◌<◌, ◌≤◌, Bool, true, false, List, [], ◌∷◌, length, get_or, inl, inr, not, refl, sym, ap, subst, ◌∙◌, arith, ◌||◌}
+use Rattle.std.proofs.lemmas.Bool.{or_cases, or_right}
+use Rattle.rv_word.specs.Form.{profile_for}
 use Rattle.rv_word.specs.MemoryMap.{CODE_SIZE}
 use Rattle.rv_word.specs.declared.form.Form.{Form}
 use Rattle.obj_input.specs.declared.item_kind.ItemKind.{ItemKind}
 use Rattle.obj_input.specs.declared.item_kind.ItemKind.TheVariants as is
 use Rattle.obj_program.specs.declared.item.Item.{Item}
-use Rattle.obj_program.specs.Program.{Program, no_item}
+use Rattle.obj_program.specs.Program.{Program, item_of, no_item}
+use Rattle.cfi_layout.specs.LongSet.{IsLongSet}
 use Rattle.cfi_layout.specs.LongSet.{is_branch as is_part}
 use Rattle.cfi_closed.specs.Closed.{ClosedGraph, Side}
 use Rattle.cfi_map.specs.GraphAtMap.{ProgramAtMap, program_at}
+use Rattle.cfi_map.specs.Groups.{is_entered, is_store, may_join}
 use Rattle.cfi_map.specs.Placement.{AreGates, lead_size, whole_at, size_of}
 use Rattle.cfi_map.specs.Placing.{IsPlacement, IsPlacementOf, Spaced}
 use Rattle.cfi_map.specs.Shorts.{shorts_of, is_branch}
-use Rattle.cfi_map.specs.Sizes.{whole_size}
+use Rattle.cfi_map.specs.Sizes.{grouped_parts, grouped_sizes, whole_size}
+use Rattle.cfi_map.proofs.GroupsAgree.{members_alike}
 use Rattle.cfi_map.proofs.ShortList.{parts_are}
 
 same_truth : (a b : Bool) → (a ≡ true → b ≡ true) → (b ≡ true → a ≡ true) → a ≡ b
@@ -20,29 +26,34 @@ same_truth true b to from = sym (to refl)
 same_truth false true to from = from refl
 same_truth false false to from = refl
 
--- of these places each branch is long under both flags, or under neither
-abbrev pub SameBranches : List Bool → List Bool → ℕ → List Item → Type 0
-SameBranches whole more k items =
-    (i : ℕ) → i < length items → is_branch (get_or items i no_item).kind ≡ true → whole_at whole (k + i) ≡ whole_at more (k + i)
+-- a branch and a store have a unit of one of two sizes
+abbrev pub is_sized : ItemKind → Bool
+is_sized kind = is_branch kind || is_store kind
 
-pub first_branch : (whole more : List Bool) (k : ℕ) (item : Item) (items : List Item) → SameBranches whole more k (item ∷ items)
-    → is_branch item.kind ≡ true → whole_at whole k ≡ whole_at more k
-first_branch whole more k item items same branch =
+-- of these places each branch and each store has its whole size under both flags, or under neither
+abbrev pub SameSizes : List Bool → List Bool → ℕ → List Item → Type 0
+SameSizes whole more k items =
+    (i : ℕ) → i < length items → is_sized (get_or items i no_item).kind ≡ true → whole_at whole (k + i) ≡ whole_at more (k + i)
+
+pub first_sized : (whole more : List Bool) (k : ℕ) (item : Item) (items : List Item) → SameSizes whole more k (item ∷ items)
+    → is_sized item.kind ≡ true → whole_at whole k ≡ whole_at more k
+first_sized whole more k item items same sized =
     let first : k + 0 ≡ k = omega arith in
-    subst (λ (n : ℕ). whole_at whole n ≡ whole_at more n) first (same 0 (omega arith) branch)
+    subst (λ (n : ℕ). whole_at whole n ≡ whole_at more n) first (same 0 (omega arith) sized)
 
-pub rest_branches : (whole more : List Bool) (k : ℕ) (item : Item) (items : List Item) → SameBranches whole more k (item ∷ items)
-    → SameBranches whole more (k + 1) items
-rest_branches whole more k item items same i below branch =
+pub rest_sized : (whole more : List Bool) (k : ℕ) (item : Item) (items : List Item) → SameSizes whole more k (item ∷ items)
+    → SameSizes whole more (k + 1) items
+rest_sized whole more k item items same i below sized =
     let next : k + suc i ≡ k + 1 + i = omega arith in
-    subst (λ (n : ℕ). whole_at whole n ≡ whole_at more n) next (same (suc i) (omega arith) branch)
+    subst (λ (n : ℕ). whole_at whole n ≡ whole_at more n) next (same (suc i) (omega arith) sized)
 
-same_size : (kind : ItemKind) (a b : Bool) → (is_branch kind ≡ true → a ≡ b) → size_of kind a ≡ size_of kind b
+same_size : (kind : ItemKind) (a b : Bool) → (is_sized kind ≡ true → a ≡ b) → size_of kind a ≡ size_of kind b
 same_size is.Branch a b same = ap (size_of is.Branch) (same refl)
+same_size is.Store a b same = ap (size_of is.Store) (same refl)
 same_size other a b same = refl
 
 gates_same : (sides : List Side) (whole more : List Bool) (k at : ℕ) (items : List Item) (gates others : List ℕ)
-    → SameBranches whole more k items → AreGates sides whole k at items gates → AreGates sides more k at items others → gates ≡ others
+    → SameSizes whole more k items → AreGates sides whole k at items gates → AreGates sides more k at items others → gates ≡ others
 unfolding AreGates
 gates_same sides whole more k at [] [] [] same a b = refl
 gates_same sides whole more k at [] (g ∷ gates) others same a b = absurd a
@@ -51,14 +62,39 @@ gates_same sides whole more k at (item ∷ items) [] others same a b = absurd a
 gates_same sides whole more k at (item ∷ items) (g ∷ gates) [] same a b = absurd b
 gates_same sides whole more k at (item ∷ items) (g ∷ gates) (o ∷ others) same a b =
     let start = at + lead_size sides k in
-    let size = same_size item.kind (whole_at whole k) (whole_at more k) (first_branch whole more k item items same) in
+    let size = same_size item.kind (whole_at whole k) (whole_at more k) (first_sized whole more k item items same) in
     let there : AreGates sides more (k + 1) (start + size_of item.kind (whole_at whole k)) items others =
     subst (λ (n : ℕ). AreGates sides more (k + 1) (start + n) items others) (sym size) b.1 in
     let rest =
     gates_same sides whole more (k + 1) (start + size_of item.kind (whole_at whole k)) items gates others
-    (rest_branches whole more k item items same) a.1 there in
+    (rest_sized whole more k item items same) a.1 there in
     let head : g ≡ o = a.0 ∙ sym b.0 in
     ap (λ (x : ℕ). x ∷ gates) head ∙ ap (λ (xs : List ℕ). o ∷ xs) rest
+
+-- of these places each store has its whole size under both flags, or under neither
+abbrev SameStores : List Bool → List Bool → ℕ → List Item → Type 0
+SameStores whole more k items =
+    (i : ℕ) → i < length items → is_store (get_or items i no_item).kind ≡ true → whole_at whole (k + i) ≡ whole_at more (k + i)
+
+sized_store : (kind : ItemKind) (a b : Bool) → (is_store kind ≡ true → a ≡ b) → size_of kind (a || not (is_store kind)) ≡ size_of kind (b || not (is_store kind))
+sized_store is.Store a b same = ap (λ (w : Bool). size_of is.Store (w || false)) (same refl)
+sized_store is.Branch true b same = sym (ap (size_of is.Branch) (or_right b true refl))
+sized_store is.Branch false b same = sym (ap (size_of is.Branch) (or_right b true refl))
+sized_store other a b same = refl
+
+grouped_same : (sides : List Side) (whole more : List Bool) (k : ℕ) (items : List Item) → SameStores whole more k items →
+    grouped_sizes sides whole k items ≡ grouped_sizes sides more k items
+unfolding grouped_sizes
+grouped_same sides whole more k [] same = refl
+grouped_same sides whole more k (item ∷ items) same =
+    let start : k + 0 ≡ k = omega arith in
+    let next : (i : ℕ) → k + suc i ≡ k + 1 + i = λ i. omega arith in
+    let here : is_store item.kind ≡ true → whole_at whole k ≡ whole_at more k =
+    λ store. subst (λ (n : ℕ). whole_at whole n ≡ whole_at more n) start (same 0 (omega arith) store) in
+    let rest = grouped_same sides whole more (k + 1) items
+    (λ i below store. subst (λ (n : ℕ). whole_at whole n ≡ whole_at more n) (next i) (same (suc i) (omega arith) store)) in
+    ap (λ (n : ℕ). (lead_size sides k + n) ∷ grouped_sizes sides whole (k + 1) items) (sized_store item.kind (whole_at whole k) (whole_at more k) here)
+    ∙ ap (λ (ns : List ℕ). (lead_size sides k + size_of item.kind (whole_at more k || not (is_store item.kind))) ∷ ns) rest
 
 -- the code of a program that is placed has room with every branch long
 pub placed_room : (form : Form) (program : Program) (closed : ClosedGraph) (entry : ℕ) (s : Spaced) → IsPlacementOf form program closed entry s →
@@ -74,19 +110,44 @@ module _ (form : Form) (program : Program) (closed : ClosedGraph) (entry : ℕ) 
   second : IsPlacement form (record { layout = program_at form program closed t.layout.gates entry; whole = t.whole })
   second = subst (λ (l : ProgramAtMap). IsPlacement form (record { layout = l; whole = t.whole })) ht.of ht.placed
 
-  -- each long set lies in the other
-  flags_same : SameBranches s.whole t.whole 0 program.items
-  flags_same i below branch =
-      let part : is_part (shorts_of program closed) i ≡ true = parts_are program closed i first.sound below ∙ branch in
-      let same : whole_at s.whole i ≡ whole_at t.whole i =
-      same_truth (whole_at s.whole i) (whole_at t.whole i)
-      (λ whole. first.least.least (whole_at t.whole) second.least.closed i part whole)
-      (λ whole. second.least.least (whole_at s.whole) first.least.closed i part whole) in
-      let start : i ≡ 0 + i = omega arith in
-      subst (λ (n : ℕ). whole_at s.whole n ≡ whole_at t.whole n) start same
+  abbrev items : ℕ → Item
+  items = item_of program
 
-  pub branches_same : SameBranches s.whole t.whole 0 t.layout.program.items
-  branches_same = subst (λ (l : ProgramAtMap). SameBranches s.whole t.whole 0 l.program.items) (sym ht.of) flags_same
+  abbrev entered : ℕ → Bool
+  entered = is_entered program closed entry
+
+  -- each store joins the group before it under both flags, or under neither
+  stores_below : (n k : ℕ) → k < n → is_store (items k).kind ≡ true → whole_at s.whole k ≡ whole_at t.whole k
+  stores_below zero k below store = absurd (omega arith)
+  stores_below (suc n) k below store =
+      let before = members_alike items items (whole_at s.whole) (whole_at t.whole) k (λ j less. refl) (λ j less is_one. stores_below n j (omega arith) is_one) in
+      first.groups k store ∙ ap (λ (m : ℕ). not (may_join items entered k m)) before ∙ sym (second.groups k store)
+
+  stores_same : SameStores s.whole t.whole 0 program.items
+  stores_same i below store =
+      let start : i ≡ 0 + i = omega arith in
+      subst (λ (n : ℕ). whole_at s.whole n ≡ whole_at t.whole n) start (stores_below (suc i) i (omega arith) store)
+
+  parts_same : grouped_parts program closed s.whole ≡ grouped_parts program closed t.whole
+  parts_same = grouped_same closed.sides s.whole t.whole 0 program.items stores_same
+
+  -- each long set lies in the other
+  flags_same : SameSizes s.whole t.whole 0 program.items
+  flags_same i below sized =
+      let start : i ≡ 0 + i = omega arith in
+      subst (λ (n : ℕ). whole_at s.whole n ≡ whole_at t.whole n) start
+      (elim (or_cases (is_branch (items i).kind) (is_store (items i).kind) sized) [
+        | inr store ↦ stores_below (suc i) i (omega arith) store
+        | inl branch ↦
+            let part : is_part (shorts_of program closed) i ≡ true = parts_are program closed i first.sound below ∙ branch in
+            let other = subst (λ (parts : List ℕ). IsLongSet (profile_for form).units_from (shorts_of program closed) parts (whole_at t.whole)) (sym parts_same) second.least in
+            same_truth (whole_at s.whole i) (whole_at t.whole i)
+            (λ whole. first.least.least (whole_at t.whole) other.closed i part whole)
+            (λ whole. other.least (whole_at s.whole) first.least.closed i part whole)
+      ])
+
+  pub sizes_same : SameSizes s.whole t.whole 0 t.layout.program.items
+  sizes_same = subst (λ (l : ProgramAtMap). SameSizes s.whole t.whole 0 l.program.items) (sym ht.of) flags_same
 
   gates_unique : s.layout.gates ≡ t.layout.gates
   gates_unique = gates_same closed.sides s.whole t.whole 0 _ program.items s.layout.gates t.layout.gates flags_same first.legal second.legal

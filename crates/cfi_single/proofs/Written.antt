@@ -1,14 +1,15 @@
--- One list of labels, one code and one map are right, and the units of places depend on no flags but those of branches.
-use Rattle.std.proofs.Common.{◌≡◌, ℕ, zero, suc, ◌+◌, ◌*◌, ◌%◌, ◌^◌, ◌<◌, ◌≤◌, Bool, true, inl, inr, List, [], ◌∷◌, ◌++◌, length, get_or, drop, take, map, refl, sym, ap, subst, ◌∙◌, arith}
-use Rattle.std.specs.Prelude.{slice_index}
+-- One list of labels, one code and one map are right, and the units of places depend on no flags but those of branches and stores.
+use Rattle.std.proofs.Common.{◌≡◌, ℕ, zero, suc, ◌+◌, ◌*◌, ◌%◌, ◌^◌, ◌<◌, ◌≤◌, Bool, true, inl, inr, List, [], ◌∷◌, ◌++◌, length, get_or, drop, take, map, refl, sym, ap, subst, ◌∙◌, arith, cond}
+use Rattle.std.specs.Prelude.{◌-◌, ◌&&◌, not, if◌then◌else◌, slice_get, slice_index, Some, false}
 use Rattle.std.proofs.Math.Seq.{take-suc}
-use Rattle.std.proofs.lemmas.Bool.{cases_lt}
-use Rattle.std.proofs.lemmas.List.{take_all}
+use Rattle.std.proofs.lemmas.Bool.{cases_Bool, cases_lt, or_left, or_right}
+use Rattle.std.proofs.lemmas.List.{get_or_past, take_all}
 use Rattle.rv_instr.specs.declared.instr.Instr.{Instr}
 use Rattle.rv_instr.specs.declared.instr.Instr.TheVariants as I
 use Rattle.obj_input.specs.declared.item_kind.ItemKind.{ItemKind}
 use Rattle.obj_input.specs.declared.item_kind.ItemKind.TheVariants as is
 use Rattle.obj_program.specs.declared.item.Item.{Item}
+use Rattle.obj_program.specs.Program.{count, item_of, no_item}
 use Rattle.cfi_graph.specs.declared.map.MapLine.{MapLine}
 use Rattle.cfi_class.specs.Labels.{AreLabels, IsLeastFree}
 use Rattle.cfi_map.specs.GraphAtMap.{ProgramAtMap, gate_to}
@@ -19,8 +20,12 @@ use Rattle.cfi_unit.specs.declared.unit.Unit as U
 use Rattle.cfi_rules.specs.Rules.{jump_word}
 use Rattle.cfi_rules.specs.Split.{code_words}
 use Rattle.cfi_map.specs.Shorts.{is_branch}
-use Rattle.cfi_writer.specs.Units.{Choice, instr_of, lead, unit_for, unit_of, units_from}
-use Rattle.cfi_single.proofs.Placed.{SameBranches, first_branch, rest_branches}
+use Rattle.cfi_map.specs.Groups.{is_store}
+use Rattle.cfi_runs.specs.Distances.{field, level, lowest}
+use Rattle.cfi_runs.specs.GroupStores.{members_from}
+use Rattle.cfi_writer.specs.Units.{Choice, Group, followers, group_at, instr_of, is_later_at, lead, member_at, offset_at, unit_here, unit_of, unit_places, units, units_of}
+use Rattle.cfi_writer.proofs.Runs.{place_there}
+use Rattle.cfi_single.proofs.Placed.{SameSizes, is_sized}
 
 -- labels
 least_same : (used earlier : List ℕ) (x y : ℕ) → IsLeastFree used earlier x → IsLeastFree used earlier y → x ≡ y
@@ -49,38 +54,94 @@ labels_unique used a b many ha hb =
     ∙ take_all (length a) b (omega arith)
 
 -- units
-unit_same : (kind : ItemKind) (i : Instr) (a b : Bool) (target : ℕ) (which : TargetWord) (label : ℕ) → (is_branch kind ≡ true → a ≡ b)
-    → unit_of kind i a target which label ≡ unit_of kind i b target which label
-unit_same is.Branch i a b target which label same = ap (λ (l : Bool). unit_of is.Branch i l target which label) (same refl)
-unit_same is.Gate (I.Upper op rd imm) a b target which label same = refl
-unit_same is.Gate other a b target which label same = refl
-unit_same is.Store (I.Store op rs1 rs2 imm) a b target which label same = refl
-unit_same is.Store other a b target which label same = refl
-unit_same is.System I.Ecall a b target which label same = refl
-unit_same is.System I.Ebreak a b target which label same = refl
-unit_same is.System other a b target which label same = refl
-unit_same is.Ijump (I.Jalr rd rs1 imm) a b target which label same = refl
-unit_same is.Ijump other a b target which label same = refl
-unit_same is.Icall (I.Jalr rd rs1 imm) a b target which label same = refl
-unit_same is.Icall other a b target which label same = refl
-unit_same kind i a b target which label same = refl
+unit_same : (kind : ItemKind) (i : Instr) (a b : Bool) (target : ℕ) (which : TargetWord) (label : ℕ) (group : Group) → (is_branch kind ≡ true → a ≡ b)
+    → unit_of kind i a target which label group ≡ unit_of kind i b target which label group
+unit_same is.Branch i a b target which label group same = ap (λ (l : Bool). unit_of is.Branch i l target which label group) (same refl)
+unit_same is.Gate (I.Upper op rd imm) a b target which label group same = refl
+unit_same is.Gate other a b target which label group same = refl
+unit_same is.Store (I.Store op rs1 rs2 imm) a b target which label group same = refl
+unit_same is.Store other a b target which label group same = refl
+unit_same is.System I.Ecall a b target which label group same = refl
+unit_same is.System I.Ebreak a b target which label group same = refl
+unit_same is.System other a b target which label group same = refl
+unit_same is.Ijump (I.Jalr rd rs1 imm) a b target which label group same = refl
+unit_same is.Ijump other a b target which label group same = refl
+unit_same is.Icall (I.Jalr rd rs1 imm) a b target which label group same = refl
+unit_same is.Icall other a b target which label group same = refl
+unit_same kind i a b target which label group same = refl
 
 -- a program at a map with these labels, under these flags
 abbrev pub under : ProgramAtMap → List ℕ → List Bool → Choice
 under layout labels whole = record { layout = layout; whole = whole; labels = labels }
 
-pub units_same : (layout : ProgramAtMap) (labels : List ℕ) (whole more : List Bool) (k : ℕ) (items : List Item) → SameBranches whole more k items
-    → units_from (under layout labels whole) k items ≡ units_from (under layout labels more) k items
-unfolding units_from
-units_same layout labels whole more k [] same = refl
-units_same layout labels whole more k (item ∷ items) same =
-    let before = lead (under layout labels whole) k in
-    let rest = units_same layout labels whole more (k + 1) items (rest_branches whole more k item items same) in
-    let one : unit_for (under layout labels whole) k item ≡ unit_for (under layout labels more) k item =
-    unit_same item.kind (instr_of (under layout labels whole) k) (whole_at whole k) (whole_at more k) (gate_to layout item.target)
-    (jump_word layout.closed.version) (site_label labels layout.closed.sides k) (first_branch whole more k item items same) in
-    ap (λ (u : U.Unit). before ++ (u ∷ units_from (under layout labels whole) (k + 1) items)) one
-    ∙ ap (λ (us : List U.Unit). before ++ (unit_for (under layout labels more) k item ∷ us)) rest
+module _ (layout : ProgramAtMap) (labels : List ℕ) (whole more : List Bool) (same : SameSizes whole more 0 layout.program.items) where
+  abbrev one : Choice
+  one = under layout labels whole
+
+  abbrev other : Choice
+  other = under layout labels more
+
+  flag_same : (k : ℕ) → k < count layout.program → is_sized (item_of layout.program k).kind ≡ true → whole_at whole k ≡ whole_at more k
+  flag_same k below sized =
+      let start : 0 + k ≡ k = omega arith in
+      subst (λ (n : ℕ). whole_at whole n ≡ whole_at more n) start (same k below sized)
+
+  no_store : (k : ℕ) → count layout.program ≤ k → is_store (item_of layout.program k).kind ≡ false
+  no_store k past = ap (λ (i : Item). is_store i.kind) (get_or_past layout.program.items k no_item past)
+
+  -- which places hold later stores
+  later_same : (k : ℕ) → is_later_at one k ≡ is_later_at other k
+  later_same k =
+      elim (cases_Bool (is_store (item_of layout.program k).kind)) [
+        | inr none ↦ rw none refl
+        | inl store ↦ elim (cases_lt k (count layout.program)) [
+          | inl below ↦
+              ap (λ (w : Bool). is_store (item_of layout.program k).kind && not w)
+              (flag_same k below (or_right (is_branch (item_of layout.program k).kind) (is_store (item_of layout.program k).kind) store))
+          | inr past ↦ let wrong : true ≡ false = sym store ∙ no_store k past in absurd (cc)
+        ]
+      ]
+
+  followers_same : (n k : ℕ) → followers one k n ≡ followers other k n
+  unfolding followers
+  followers_same zero k = refl
+  followers_same (suc n) k =
+      ap (λ (b : Bool). if b then suc (followers one (k + 1) n) else 0) (later_same k)
+      ∙ ap (λ (m : ℕ). if is_later_at other k then suc m else 0) (followers_same n (k + 1))
+
+  group_same : (k : ℕ) → group_at one k ≡ group_at other k
+  group_same k =
+      ap (λ (n : ℕ). record {
+        mask = field (lowest (λ (j : ℕ). level (offset_at one j)) k n);
+        members = members_from (member_at one (lowest (λ (j : ℕ). level (offset_at one j)) k n)) k (suc n);
+      }) (followers_same (count layout.program - (k + 1)) (k + 1))
+
+  here_same : (k : ℕ) → k < count layout.program → unit_here one k ≡ unit_here other k
+  here_same k below =
+      let kind = (item_of layout.program k).kind in
+      ap (unit_of kind (instr_of one k) (whole_at whole k) (gate_to layout (item_of layout.program k).target) (jump_word layout.closed.version)
+      (site_label labels layout.closed.sides k)) (group_same k)
+      ∙ unit_same kind (instr_of one k) (whole_at whole k) (whole_at more k) (gate_to layout (item_of layout.program k).target) (jump_word layout.closed.version)
+      (site_label labels layout.closed.sides k) (group_at other k) (λ branch. flag_same k below (or_left (is_branch kind) (is_store kind) branch))
+
+  places_same : (n k : ℕ) → unit_places one k n ≡ unit_places other k n
+  places_same zero k = refl
+  places_same (suc n) k =
+      ap (λ (b : Bool). cond (not b) (k ∷ unit_places one (k + 1) n) (unit_places one (k + 1) n)) (later_same k)
+      ∙ ap (λ (ks : List ℕ). cond (not (is_later_at other k)) (k ∷ ks) ks) (places_same n (k + 1))
+
+  listed_same : (places : List ℕ) → ((i k : ℕ) → slice_get places i ≡ Some k → k < count layout.program) → units_of one places ≡ units_of other places
+  unfolding units_of
+  listed_same [] there = refl
+  listed_same (k ∷ places) there =
+      ap (λ (u : U.Unit). lead one k ++ (u ∷ units_of one places)) (here_same k (there 0 k refl))
+      ∙ ap (λ (us : List U.Unit). lead one k ++ (unit_here other k ∷ us)) (listed_same places (λ i j get. there (suc i) j get))
+
+  pub units_same : units one ≡ units other
+  units_same =
+      listed_same (unit_places one 0 (count layout.program))
+      (λ i k get. let (from, to, first) = place_there one 0 (count layout.program) i k get in omega arith)
+      ∙ ap (units_of other) (places_same (count layout.program) 0)
 
 -- bytes of a code
 abbrev pub AreSmall : List ℕ → Type 0

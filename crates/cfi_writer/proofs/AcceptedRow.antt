@@ -19,13 +19,15 @@ use Rattle.cfi_closed.specs.Closed.{Side, has_site, is_of}
 use Rattle.cfi_map.specs.GraphAtMap.{ProgramAtMap, words_at}
 use Rattle.cfi_flow.specs.Labels.{used_labels}
 use Rattle.cfi_map.specs.LabelOf.{empty_classes, label_at, labels_of, site_label, site_number, tagged}
-use Rattle.cfi_map.specs.Placement.{AreGates, words_from}
+use Rattle.cfi_map.specs.Groups.{AreGroups}
+use Rattle.cfi_map.specs.Placement.{AreGates, whole_at, words_from}
 use Rattle.cfi_flow.specs.Sites.{site_kind}
 use Rattle.cfi_unit.specs.UnitWords.{words_of}
 use Rattle.cfi_rules.specs.Placed.{code_from}
 use Rattle.cfi_writer.specs.Accepted.{IsAccepted}
 use Rattle.cfi_map.specs.Shorts.{IsShortAt, is_branch}
-use Rattle.cfi_writer.specs.Units.{units_from}
+use Rattle.cfi_writer.specs.Units.{Choice, entered_at, followers, is_later_at, units_of}
+use Rattle.cfi_writer.proofs.Grouping.{later_below}
 use Rattle.cfi_writer.proofs.WrittenRows.{pointer, short, short_of_harts}
 
 abbrev no_side : Side
@@ -42,6 +44,14 @@ none_in k (i, below, e) = absurd (omega arith)
 only_side : (side : Side) (j : ℕ) (other : Side) → slice_get (side ∷ []) j ≡ Some other → (j ≡ 0) × (side ≡ other)
 only_side side zero other there = (refl, same_Some side other there)
 only_side side (suc j) other there = absurd (cc)
+
+-- where no place holds a later store there is nothing to ask
+no_groups : (m : Choice) → agree_below (is_later_at m) (λ k. false) (count m.layout.program) ≡ true →
+    AreGroups (item_of m.layout.program) (entered_at m) (whole_at m.whole)
+no_groups m none k later =
+    let first = agree_below_at (is_later_at m) (λ n. false) (count m.layout.program) k none (later_below m k later) in
+    let wrong : true ≡ false = sym later ∙ first in
+    absurd (cc)
 
 ordered : AreInOrder short.layout.program.items
 ordered i j less below =
@@ -77,7 +87,7 @@ one_short layout (suc (suc (suc zero))) target branch some is = absurd (cc)
 one_short layout (suc (suc (suc (suc k)))) target branch some is = absurd (cc)
 
 pub short_accepted : IsAccepted short
-unfolding AreGates decoded instr_at words_from units_from code_from words_of code_of labels_of label_at site_label site_number empty_classes tagged
+unfolding AreGates decoded instr_at words_from units_of followers code_from words_of code_of labels_of label_at site_label site_number empty_classes tagged
 short_accepted = record {
   profile = inl refl;
   sound = sound;
@@ -85,6 +95,7 @@ short_accepted = record {
   last = (3, refl, refl);
   entry_there = lit< tt;
   legal = (refl, (refl, (refl, (refl, tt))));
+  groups = no_groups short refl;
   room = lit≤ tt;
   values = λ k below some. values_there (is_end (item_of short.layout.program k).kind)
       (is_some (instr_at short.layout.program short.layout.gates (words_at short.layout) k))
@@ -106,7 +117,7 @@ short_accepted = record {
 }
 
 pub short_of_harts_accepted : IsAccepted short_of_harts
-unfolding AreGates decoded instr_at words_from units_from code_from words_of code_of labels_of label_at site_label site_number empty_classes tagged
+unfolding AreGates decoded instr_at words_from units_of followers code_from words_of code_of labels_of label_at site_label site_number empty_classes tagged
 short_of_harts_accepted = record {
   profile = inr refl;
   sound = sound;
@@ -114,6 +125,7 @@ short_of_harts_accepted = record {
   last = (3, refl, refl);
   entry_there = lit< tt;
   legal = (refl, (refl, (refl, (refl, tt))));
+  groups = no_groups short_of_harts refl;
   room = lit≤ tt;
   values = λ k below some. values_there (is_end (item_of short_of_harts.layout.program k).kind)
       (is_some (instr_at short_of_harts.layout.program short_of_harts.layout.gates (words_at short_of_harts.layout) k))
@@ -210,7 +222,7 @@ label_below zero d below = lit< tt
 label_below (suc k) d below = absurd (omega arith)
 
 pub pointer_accepted : IsAccepted pointer
-unfolding AreGates decoded instr_at words_from units_from code_from words_of code_of labels_of label_at site_label site_number empty_classes tagged
+unfolding AreGates decoded instr_at words_from units_of followers code_from words_of code_of labels_of label_at site_label site_number empty_classes tagged
 pointer_accepted = record {
   profile = inl refl;
   sound = pointer_sound;
@@ -218,6 +230,7 @@ pointer_accepted = record {
   last = (12, refl, refl);
   entry_there = lit< tt;
   legal = (refl, (refl, (refl, (refl, (refl, (refl, (refl, (refl, (refl, (refl, (refl, (refl, (refl, tt)))))))))))));
+  groups = no_groups pointer refl;
   room = lit≤ tt;
   values = λ k below some. values_there (is_end (item_of pointer.layout.program k).kind)
       (is_some (instr_at pointer.layout.program pointer.layout.gates (words_at pointer.layout) k))

@@ -1,27 +1,29 @@
 -- The words of the units that are written for places, and the sizes of the places' parts.
 use Rattle.std.proofs.Common.{◌≡◌, ℕ, suc, ◌+◌, ◌*◌, ◌<◌, true, false, inl, inr, List, [], ◌∷◌, ◌++◌, length, Option, Some, refl, sym, ap, subst, ◌∙◌, arith, unwrap_or}
-use Rattle.std.specs.Prelude.{◌&&◌, not, is_some, slice_get, sum}
+use Rattle.std.specs.Prelude.{◌&&◌, ◌==◌, ◌-◌, ◌≤◌, not, is_some, slice_index, sum}
 use Rattle.std.proofs.lemmas.Bool.{and_from, cases_Bool, not_from_false, or_left, or_right}
-use Rattle.std.proofs.lemmas.List.Sums.{sum_by-cons}
-use Rattle.std.proofs.lemmas.Option.{get_or_from_slice_get, slice_get_within}
+use Rattle.std.proofs.lemmas.List.FromFn.{length-map-range_with_len}
 use Rattle.rv_word.proofs.Cases.{cases_Option}
 use Rattle.rv_instr.specs.declared.instr.Instr.{Instr}
 use Rattle.rv_instr.specs.declared.instr.Instr.TheVariants as I
-use Rattle.obj_program.specs.declared.item.Item.{Item}
+use Rattle.rv_word.specs.MemoryMap.{CODE_SIZE, CODE_START, IsProfile}
 use Rattle.obj_program.specs.AtMap.{instr_at}
-use Rattle.obj_program.specs.Program.{count, is_end, item_of, no_item}
+use Rattle.obj_program.specs.Program.{count, is_end, item_of}
 use Rattle.obj_program.specs.Sound.{IsSound}
 use Rattle.obj_program.specs.Suits.{names_reserved, suits}
 use Rattle.obj_program.proofs.Kept.{kept}
-use Rattle.cfi_map.specs.GraphAtMap.{words_at}
-use Rattle.cfi_map.specs.Placement.{whole_at, lead_size, size_of}
+use Rattle.cfi_map.specs.GraphAtMap.{gate, words_at}
+use Rattle.cfi_closed.specs.Closed.{is_target}
+use Rattle.cfi_map.specs.Groups.{AreGroups, is_direct_target}
+use Rattle.cfi_map.specs.Placement.{AreGates, lead_size, whole_at}
 use Rattle.cfi_unit.specs.declared.unit.Unit as U
 use Rattle.cfi_unit.specs.UnitWords.{word_count}
-use Rattle.cfi_rules.specs.Placed.{code_from}
-use Rattle.cfi_rules.proofs.UnitIn.{length-code_from}
+use Rattle.cfi_rules.specs.Placed.{code_from, placed_code}
+use Rattle.cfi_rules.proofs.UnitIn.{length-code_from, length-placed_code}
 use Rattle.cfi_map.specs.Sizes.{part_sizes}
-use Rattle.cfi_writer.specs.Units.{Choice, instr_of, lead, unit_for, units_from}
-use Rattle.cfi_writer.proofs.Runs.{AreSingle, lead_bytes, lead_single, lead_sized}
+use Rattle.cfi_writer.specs.Units.{Choice, behind, entered_at, entry_gate, group_at, instr_of, is_later_at, later_from, lead, low_at, member_at, unit_here, unit_places, units, units_of}
+use Rattle.cfi_writer.proofs.Grouping.{entered_first, no_first_later, none_behind, none_later, whole_first}
+use Rattle.cfi_writer.proofs.Runs.{AreSingle, AreSized, Run, lead_bytes, lead_single, legal_run}
 use Rattle.cfi_writer.proofs.UnitOf.{is_right, unit_size}
 
 -- the words before a unit, and of what follows them
@@ -34,24 +36,20 @@ length-lead (v ∷ us) rest at single =
     let same : at + 4 * word_count v + 4 * length us ≡ at + 4 * length (v ∷ us) = omega arith in
     subst (λ (b : ℕ). length (code_from at (v ∷ us ++ rest)) ≡ length (v ∷ us) + length (code_from b rest)) same (omega (arith, size, first, later))
 
--- as many bytes as the parts have
-pub bytes_are : (m : Choice) (k at : ℕ) (items : List Item) →
-    ((i : ℕ) (item : Item) → slice_get items i ≡ Some item → size_of item.kind (whole_at m.whole (k + i)) ≡ 4 * word_count (unit_for m (k + i) item)) →
-    4 * length (code_from at (units_from m k items)) ≡ sum (part_sizes m.layout.closed.sides m.whole k items)
-unfolding units_from part_sizes code_from
-bytes_are m k at [] sizes = refl
-bytes_are m k at (item ∷ items) sizes =
-    let first : k + 0 ≡ k = omega arith in
-    let next : (i : ℕ) → k + 1 + i ≡ k + suc i = λ i. omega arith in
-    let size : size_of item.kind (whole_at m.whole k) ≡ 4 * word_count (unit_for m k item) = rw first at (sizes 0 item refl) in
-    let bytes : lead_size m.layout.closed.sides k ≡ lead_bytes m k = lead_sized m k in
-    let led = length-lead (lead m k) (unit_for m k item ∷ units_from m (k + 1) items) at (lead_single m k) in
-    let own = length-code_from (unit_for m k item) (units_from m (k + 1) items) (at + lead_bytes m k) in
-    let rest = bytes_are m (k + 1) (at + lead_bytes m k + 4 * word_count (unit_for m k item)) items
-    (λ i one get. subst (λ (n : ℕ). size_of one.kind (whole_at m.whole n) ≡ 4 * word_count (unit_for m n one)) (sym (next i)) (sizes (suc i) one get)) in
-    let part = lead_size m.layout.closed.sides k + size_of item.kind (whole_at m.whole k) in
-    let more = sum_by-cons (λ (x : ℕ). x) part (part_sizes m.layout.closed.sides m.whole (k + 1) items) in
+-- the code of units that stand one after another has as many bytes as lie between
+pub run_bytes : (m : Choice) (at last : ℕ) (places : List ℕ) → Run m at places last → at + 4 * length (code_from at (units_of m places)) ≡ last
+unfolding Run units_of code_from
+run_bytes m at last [] run = let e : at ≡ last = run in omega arith
+run_bytes m at last (k ∷ places) run =
+    let led = length-lead (lead m k) (unit_here m k ∷ units_of m places) at (lead_single m k) in
+    let own = length-code_from (unit_here m k) (units_of m places) (at + lead_bytes m k) in
+    let rest = run_bytes m (at + lead_bytes m k + 4 * word_count (unit_here m k)) last places run.2 in
     omega arith
+
+-- what is a target may be entered
+pub target_entered : (m : Choice) (k : ℕ) → is_target m.layout.closed.sides k ≡ true → entered_at m k ≡ true
+target_entered m k target =
+    or_right (k == m.layout.entry) _ (or_right (is_direct_target m.layout.program k) _ (or_left (is_target m.layout.closed.sides k) _ target))
 
 module _ (m : Choice) (sound : IsSound m.layout.program)
     (values : (k : ℕ) → k < count m.layout.program → is_end (item_of m.layout.program k).kind ≡ false →
@@ -76,9 +74,46 @@ module _ (m : Choice) (sound : IsSound m.layout.program)
             (and_from (suits (item_of m.layout.program k).kind (instr_of m k)) (not (names_reserved (instr_of m k))) is.0 (not_from_false (names_reserved (instr_of m k)) is.1))
       ]
 
-  pub size_is : (k : ℕ) (item : Item) → slice_get m.layout.program.items k ≡ Some item → size_of item.kind (whole_at m.whole k) ≡ 4 * word_count (unit_for m k item)
-  size_is k item get =
-      let below : k < count m.layout.program = slice_get_within m.layout.program.items k item get in
-      let same : item_of m.layout.program k ≡ item = get_or_from_slice_get m.layout.program.items k item no_item get in
-      let of : is_right item.kind (instr_of m k) ≡ true = subst (λ (x : Item). is_right x.kind (instr_of m k) ≡ true) same (right k below) in
-      unit_size item.kind (instr_of m k) (whole_at m.whole k) _ _ _ of
+  module _ (groups : AreGroups (item_of m.layout.program) (entered_at m) (whole_at m.whole)) where
+    no_lead : (k : ℕ) → is_later_at m k ≡ true → lead_size m.layout.closed.sides k ≡ 0
+    no_lead k later =
+        elim (cases_Bool (is_target m.layout.closed.sides k)) [
+          | inl target ↦
+              let wrong : true ≡ false = sym later ∙ entered_first m groups k (target_entered m k target) in
+              absurd (cc)
+          | inr other ↦ rw other refl
+        ]
+
+    pub sized : AreSized m
+    sized = record {
+      later = no_lead;
+      first = λ k below first.
+          unit_size (item_of m.layout.program k).kind (instr_of m k) (whole_at m.whole k) _ _ _ (group_at m k) (behind m k) (right k below)
+          (λ store. (whole_first m k store first, length-map-range_with_len (member_at m (low_at m k)) k (suc (behind m k))))
+          (none_behind m groups k);
+    }
+
+    start : 0 + 0 ≡ 0
+    start = omega arith
+
+    -- units stand so from the first on
+    pub whole_run : (gates : List ℕ) → m.layout.gates ≡ gates → AreGates m.layout.closed.sides m.whole 0 m.layout.profile.units_from m.layout.program.items gates →
+        Run m m.layout.profile.units_from (unit_places m 0 (count m.layout.program))
+        (m.layout.profile.units_from + sum (part_sizes m.layout.closed.sides m.whole 0 m.layout.program.items))
+    whole_run gates same legal =
+        let none = none_later m 0 (no_first_later m groups) in
+        let zero_more : (i : ℕ) → 0 + i ≡ i = λ i. omega arith in
+        let from : m.layout.profile.units_from + 4 * later_from m 0 ≡ m.layout.profile.units_from = omega arith in
+        subst (λ (b : ℕ). Run m b (unit_places m 0 (count m.layout.program)) (m.layout.profile.units_from + sum (part_sizes m.layout.closed.sides m.whole 0 m.layout.program.items))) from
+        (legal_run m sized 0 m.layout.profile.units_from m.layout.program.items gates
+        (λ i. ap (gate m.layout) (zero_more i) ∙ ap (λ (gs : List ℕ). slice_index gs i) same) (λ i less. ap (item_of m.layout.program) (zero_more i)) (omega arith) legal)
+
+    -- and the code has room where the parts have
+    pub room_there : IsProfile m.layout.profile →
+        AreGates m.layout.closed.sides m.whole 0 m.layout.profile.units_from m.layout.program.items m.layout.gates →
+        m.layout.profile.units_from - CODE_START + sum (part_sizes m.layout.closed.sides m.whole 0 m.layout.program.items) ≤ CODE_SIZE →
+        4 * length (placed_code m.layout.profile (entry_gate m) (units m)) ≤ CODE_SIZE
+    room_there is legal room =
+        let whole = length-placed_code m.layout.profile is (entry_gate m) (units m) in
+        let bytes = run_bytes m m.layout.profile.units_from _ (unit_places m 0 (count m.layout.program)) (whole_run m.layout.gates refl legal) in
+        omega arith

@@ -1,5 +1,5 @@
 -- Each unit that is written may stand where it does: its fields are in range, and its jumps reach what lies in the region of code.
-use Rattle.std.proofs.Common.{◌≡◌, ◌≢◌, ℕ, ◌+◌, ◌*◌, ◌%◌, ◌^◌, ◌≤◌, ◌<◌, Bool, true, false, refl, sym, ap, ◌∙◌, lit<, arith}
+use Rattle.std.proofs.Common.{◌≡◌, ◌≢◌, ℕ, ◌+◌, ◌*◌, ◌%◌, ◌^◌, ◌≤◌, ◌<◌, Bool, true, false, refl, sym, ap, ◌∙◌, arith}
 use Rattle.std.specs.Prelude.{◌&&◌, ◌||◌, ◌==◌, not}
 use Rattle.std.proofs.lemmas.Bool.{and_from, and_parts, not-true, or_parts}
 use Rattle.rv_word.specs.MemoryMap.{CODE_SIZE, CODE_START, START}
@@ -13,12 +13,13 @@ use Rattle.obj_input.specs.declared.item_kind.ItemKind.{ItemKind}
 use Rattle.obj_input.specs.declared.item_kind.ItemKind.TheVariants as is
 use Rattle.obj_program.specs.Sound.{is_direct}
 use Rattle.obj_program.specs.Suits as of
+use Rattle.cfi_unit.specs.Members.{AreMembers}
 use Rattle.cfi_unit.specs.UnitWords.{BAD_RETURN, BAD_TARGET, DEEP, Fits, IsNear, Reaches, is_lui, is_plain, word_count}
 use Rattle.cfi_unit.proofs.Near.{branch_reached, near_reached}
+use Rattle.cfi_map.specs.Groups.{is_store}
 use Rattle.cfi_map.specs.Shorts.{is_branch}
-use Rattle.cfi_rules.proofs.PlacedRows.{one_member}
 use Rattle.cfi_unit.specs.declared.target_word.TargetWord.{TargetWord}
-use Rattle.cfi_writer.specs.Units.{unit_of}
+use Rattle.cfi_writer.specs.Units.{Group, unit_of}
 use Rattle.cfi_writer.proofs.UnitOf.{is_right}
 
 -- a register that is not named is not reserved
@@ -118,34 +119,40 @@ near_target a target low high round there back ahead =
     let even = there.round in
     branch_reached a target (omega arith) (omega arith) (omega arith) (omega arith) (omega arith)
 
-pub unit_fits : (kind : ItemKind) (i : Instr) (whole : Bool) (target : ℕ) (which : TargetWord) (label a : ℕ) → is_right kind i ≡ true → IsInstr i → label < 2 ^ 20 →
-    START ≤ a → a + 4 * word_count (unit_of kind i whole target which label) ≤ CODE_START + CODE_SIZE → a % 4 ≡ 0 → (is_direct kind ≡ true → IsThere target) →
-    (is_branch kind ≡ true → whole ≡ false → (a ≤ target + 4096) × (target ≤ a + 4092)) → Fits (unit_of kind i whole target which label) a
-unit_fits is.Gate (I.Upper op rd imm) whole target which label a right range small low high round there near = range.1
-unit_fits is.Plain i whole target which label a right range small low high round there near = (range, plain_is i right)
-unit_fits is.Store (I.Store op rs1 rs2 imm) whole target which label a right range small low high round there near =
-    (range.0, range.2, one_member (record { op = op; value = rs2; distance = 0 }) (range.1, lit< tt))
-unit_fits is.System I.Ecall whole target which label a right range small low high round there near = tt
-unit_fits is.System I.Ebreak whole target which label a right range small low high round there near = tt
-unit_fits is.Branch (I.Branch op rs1 rs2 imm) true target which label a right range small low high round there near =
+-- the unit of stores may stand anywhere, where its mask and its members are in range
+pub record FitsMask (group : Group) : Type 0 where
+  pub small : group.mask < 2 ^ 12
+  pub members : AreMembers group.members
+
+pub unit_fits : (kind : ItemKind) (i : Instr) (whole : Bool) (target : ℕ) (which : TargetWord) (label : ℕ) (group : Group) (a : ℕ) → is_right kind i ≡ true → IsInstr i → label < 2 ^ 20 →
+    START ≤ a → a + 4 * word_count (unit_of kind i whole target which label group) ≤ CODE_START + CODE_SIZE → a % 4 ≡ 0 → (is_direct kind ≡ true → IsThere target) →
+    (is_branch kind ≡ true → whole ≡ false → (a ≤ target + 4096) × (target ≤ a + 4092)) → (is_store kind ≡ true → FitsMask group) →
+    Fits (unit_of kind i whole target which label group) a
+unit_fits is.Gate (I.Upper op rd imm) whole target which label group a right range small low high round there near masked = range.1
+unit_fits is.Plain i whole target which label group a right range small low high round there near masked = (range, plain_is i right)
+unit_fits is.Store (I.Store op rs1 rs2 imm) whole target which label group a right range small low high round there near masked =
+    let mask = masked refl in (range.0, mask.small, mask.members)
+unit_fits is.System I.Ecall whole target which label group a right range small low high round there near masked = tt
+unit_fits is.System I.Ebreak whole target which label group a right range small low high round there near masked = tt
+unit_fits is.Branch (I.Branch op rs1 rs2 imm) true target which label group a right range small low high round there near masked =
     (range.0, range.1, reach (a + 4) target (in_code a 4 low (omega arith) round refl) (target_in_code target (there refl)))
-unit_fits is.Branch (I.Branch op rs1 rs2 imm) false target which label a right range small low high round there near =
+unit_fits is.Branch (I.Branch op rs1 rs2 imm) false target which label group a right range small low high round there near masked =
     (range.0, range.1, let bounds = near refl refl in near_target a target low (omega arith) round (there refl) bounds.0 bounds.1)
-unit_fits is.Jump i whole target which label a right range small low high round there near =
+unit_fits is.Jump i whole target which label group a right range small low high round there near masked =
     let here : IsInCode a = record { from = omega arith; to = omega arith; round = round } in
     (no_handler target (there refl), reach a target here (target_in_code target (there refl)))
-unit_fits is.Call i whole target which label a right range small low high round there near =
+unit_fits is.Call i whole target which label group a right range small low high round there near masked =
     (reach (a + 8) DEEP (in_code a 8 low (omega arith) round refl) deep_in, reach (a + 28) target (in_code a 28 low (omega arith) round refl) (target_in_code target (there refl)))
-unit_fits is.Return i whole target which label a right range small low high round there near =
+unit_fits is.Return i whole target which label group a right range small low high round there near masked =
     reach (a + 12) BAD_RETURN (in_code a 12 low (omega arith) round refl) bad_return_in
-unit_fits is.Ijump (I.Jalr rd rs1 imm) whole target which label a right range small low high round there near = (
+unit_fits is.Ijump (I.Jalr rd rs1 imm) whole target which label group a right range small low high round there near masked = (
   range.1,
   range.2,
   small,
   reach (a + 24) BAD_TARGET (in_code a 24 low (omega arith) round refl) bad_target_in,
   reach (a + 44) BAD_TARGET (in_code a 44 low (omega arith) round refl) bad_target_in,
 )
-unit_fits is.Icall (I.Jalr rd rs1 imm) whole target which label a right range small low high round there near = (
+unit_fits is.Icall (I.Jalr rd rs1 imm) whole target which label group a right range small low high round there near masked = (
   (
     range.1,
     range.2,
@@ -155,7 +162,7 @@ unit_fits is.Icall (I.Jalr rd rs1 imm) whole target which label a right range sm
   ),
   reach (a + 56) DEEP (in_code a 56 low (omega arith) round refl) deep_in,
 )
-unit_fits is.End i whole target which label a right range small low high round there near =
+unit_fits is.End i whole target which label group a right range small low high round there near masked =
     let here : IsInCode a = record { from = omega arith; to = omega arith; round = round } in
     reach a BAD_TARGET here bad_target_in
-unit_fits kind i whole target which label a right range small low high round there near = absurd (cc)
+unit_fits kind i whole target which label group a right range small low high round there near masked = absurd (cc)

@@ -25,12 +25,15 @@ use Rattle.cfi_rules.specs.Placed.{AllAhead, AllFit}
 use Rattle.cfi_rules.specs.Split.{unit_in}
 use Rattle.cfi_rules.proofs.Ahead.{IsShortSkip, all_ahead, all_fit, is_jump_unit}
 use Rattle.cfi_writer.specs.Accepted.{IsAccepted}
+use Rattle.cfi_map.specs.Groups.{is_store}
 use Rattle.cfi_map.specs.Shorts.{is_branch, is_kept, is_skipped}
-use Rattle.cfi_writer.specs.Units.{Choice, instr_of, lead_unit, unit_for, unit_of, units}
+use Rattle.cfi_writer.specs.Units.{Choice, Group, group_at, instr_of, is_later_at, lead_unit, unit_here, unit_of, units}
+use Rattle.cfi_writer.proofs.Grouping.{first_after, other_first}
+use Rattle.cfi_writer.proofs.GroupUnit.{fits_mask}
 use Rattle.cfi_writer.proofs.Fitting.{IsThere, near_target, unit_fits}
 use Rattle.cfi_writer.proofs.Runs.{IsUnit, from_lead, lead_cases, lead_word, own}
 use Rattle.cfi_writer.proofs.SideLabels.{label_in, site_small}
-use Rattle.cfi_writer.proofs.Standing.{at_gate, found, gate_after, gate_lies, gates_rise, instr_in_range, laid, lead_there, right, unit_lies, unit_there}
+use Rattle.cfi_writer.proofs.Standing.{at_gate, found, gate_lies, gates_rise, instr_in_range, laid, lead_there, next_after, right, unit_lies, unit_there}
 use Rattle.cfi_writer.proofs.UnitOf.{is_right}
 
 aims_there : (program : Program) (kind : ItemKind) (o : Option ℕ) → is_direct kind ≡ true → aims program kind o ≡ true →
@@ -49,41 +52,50 @@ branch_goes_on : (kind : ItemKind) → is_branch kind ≡ true → is_end kind �
 branch_goes_on is.Branch e last = absurd (cc)
 branch_goes_on other e last = absurd (cc)
 
+branch_stores_none : (kind : ItemKind) → is_branch kind ≡ true → is_store kind ≡ false
+branch_stores_none is.Branch e = refl
+branch_stores_none other e = absurd (cc)
+
+skipped_stores_none : (kind : ItemKind) → is_skipped kind false ≡ true → is_store kind ≡ false
+skipped_stores_none is.Jump e = refl
+skipped_stores_none is.End e = refl
+skipped_stores_none other e = absurd (cc)
+
 -- only a short branch over one word is a short skip
-skip_kind : (kind : ItemKind) (i : Instr) (whole : Bool) (target : ℕ) (which : TargetWord) (label a : ℕ) → is_right kind i ≡ true → IsShortSkip (unit_of kind i whole target which label) a →
-    (is_branch kind ≡ true) × (whole ≡ false) × (near_offset a target ≡ skip_offset) × (word_count (unit_of kind i whole target which label) ≡ 1)
-skip_kind is.Branch (I.Branch op rs1 rs2 imm) false target which label a right skip = (refl, refl, skip, refl)
-skip_kind is.Branch (I.Branch op rs1 rs2 imm) true target which label a right skip = absurd skip
-skip_kind is.Gate (I.Upper op rd imm) whole target which label a right skip = absurd skip
-skip_kind is.Plain i whole target which label a right skip = absurd skip
-skip_kind is.Store (I.Store op rs1 rs2 imm) whole target which label a right skip = absurd skip
-skip_kind is.System I.Ecall whole target which label a right skip = absurd skip
-skip_kind is.System I.Ebreak whole target which label a right skip = absurd skip
-skip_kind is.Jump i whole target which label a right skip = absurd skip
-skip_kind is.Call i whole target which label a right skip = absurd skip
-skip_kind is.Return i whole target which label a right skip = absurd skip
-skip_kind is.Ijump (I.Jalr rd rs1 imm) whole target which label a right skip = absurd skip
-skip_kind is.Icall (I.Jalr rd rs1 imm) whole target which label a right skip = absurd skip
-skip_kind is.End i whole target which label a right skip = absurd skip
-skip_kind kind i whole target which label a right skip = absurd (cc)
+skip_kind : (kind : ItemKind) (i : Instr) (whole : Bool) (target : ℕ) (which : TargetWord) (label : ℕ) (group : Group) (a : ℕ) → is_right kind i ≡ true → IsShortSkip (unit_of kind i whole target which label group) a →
+    (is_branch kind ≡ true) × (whole ≡ false) × (near_offset a target ≡ skip_offset) × (word_count (unit_of kind i whole target which label group) ≡ 1)
+skip_kind is.Branch (I.Branch op rs1 rs2 imm) false target which label group a right skip = (refl, refl, skip, refl)
+skip_kind is.Branch (I.Branch op rs1 rs2 imm) true target which label group a right skip = absurd skip
+skip_kind is.Gate (I.Upper op rd imm) whole target which label group a right skip = absurd skip
+skip_kind is.Plain i whole target which label group a right skip = absurd skip
+skip_kind is.Store (I.Store op rs1 rs2 imm) whole target which label group a right skip = absurd skip
+skip_kind is.System I.Ecall whole target which label group a right skip = absurd skip
+skip_kind is.System I.Ebreak whole target which label group a right skip = absurd skip
+skip_kind is.Jump i whole target which label group a right skip = absurd skip
+skip_kind is.Call i whole target which label group a right skip = absurd skip
+skip_kind is.Return i whole target which label group a right skip = absurd skip
+skip_kind is.Ijump (I.Jalr rd rs1 imm) whole target which label group a right skip = absurd skip
+skip_kind is.Icall (I.Jalr rd rs1 imm) whole target which label group a right skip = absurd skip
+skip_kind is.End i whole target which label group a right skip = absurd skip
+skip_kind kind i whole target which label group a right skip = absurd (cc)
 
 -- what begins with a jump is a jump or a stop
-jump_kind : (kind : ItemKind) (i : Instr) (whole : Bool) (target : ℕ) (which : TargetWord) (label : ℕ) → is_right kind i ≡ true → is_jump_unit (unit_of kind i whole target which label) ≡ true →
+jump_kind : (kind : ItemKind) (i : Instr) (whole : Bool) (target : ℕ) (which : TargetWord) (label : ℕ) (group : Group) → is_right kind i ≡ true → is_jump_unit (unit_of kind i whole target which label group) ≡ true →
     is_skipped kind false ≡ true
-jump_kind is.Jump i whole target which label right jump = refl
-jump_kind is.End i whole target which label right jump = refl
-jump_kind is.Branch (I.Branch op rs1 rs2 imm) false target which label right jump = absurd (cc)
-jump_kind is.Branch (I.Branch op rs1 rs2 imm) true target which label right jump = absurd (cc)
-jump_kind is.Gate (I.Upper op rd imm) whole target which label right jump = absurd (cc)
-jump_kind is.Plain i whole target which label right jump = absurd (cc)
-jump_kind is.Store (I.Store op rs1 rs2 imm) whole target which label right jump = absurd (cc)
-jump_kind is.System I.Ecall whole target which label right jump = absurd (cc)
-jump_kind is.System I.Ebreak whole target which label right jump = absurd (cc)
-jump_kind is.Call i whole target which label right jump = absurd (cc)
-jump_kind is.Return i whole target which label right jump = absurd (cc)
-jump_kind is.Ijump (I.Jalr rd rs1 imm) whole target which label right jump = absurd (cc)
-jump_kind is.Icall (I.Jalr rd rs1 imm) whole target which label right jump = absurd (cc)
-jump_kind kind i whole target which label right jump = absurd (cc)
+jump_kind is.Jump i whole target which label group right jump = refl
+jump_kind is.End i whole target which label group right jump = refl
+jump_kind is.Branch (I.Branch op rs1 rs2 imm) false target which label group right jump = absurd (cc)
+jump_kind is.Branch (I.Branch op rs1 rs2 imm) true target which label group right jump = absurd (cc)
+jump_kind is.Gate (I.Upper op rd imm) whole target which label group right jump = absurd (cc)
+jump_kind is.Plain i whole target which label group right jump = absurd (cc)
+jump_kind is.Store (I.Store op rs1 rs2 imm) whole target which label group right jump = absurd (cc)
+jump_kind is.System I.Ecall whole target which label group right jump = absurd (cc)
+jump_kind is.System I.Ebreak whole target which label group right jump = absurd (cc)
+jump_kind is.Call i whole target which label group right jump = absurd (cc)
+jump_kind is.Return i whole target which label group right jump = absurd (cc)
+jump_kind is.Ijump (I.Jalr rd rs1 imm) whole target which label group right jump = absurd (cc)
+jump_kind is.Icall (I.Jalr rd rs1 imm) whole target which label group right jump = absurd (cc)
+jump_kind kind i whole target which label group right jump = absurd (cc)
 
 jump_size : (u : U.Unit) → is_jump_unit u ≡ true → word_count u ≡ 1
 jump_size (V.Jump target) e = refl
@@ -143,26 +155,26 @@ module _ (m : Choice) (ok : IsAccepted m) where
       let at = ok.shorts k t below branch short some in
       subst (λ (o : Option ℕ). (word m.layout k ≤ gate_to m.layout o + 4096) × (gate_to m.layout o ≤ word m.layout k + 4092)) (sym some) (at.back, at.ahead)
 
-  own_fits : (k : ℕ) → k < count m.layout.program → Fits (unit_for m k (item_of m.layout.program k)) (word m.layout k)
-  own_fits k below =
-      let at = unit_lies m ok (word m.layout k) (unit_for m k (item_of m.layout.program k)) (unit_there m ok k below) in
-      unit_fits (item_of m.layout.program k).kind (instr_of m k) (whole_at m.whole k) _ _ _ (word m.layout k) (right m ok k below) (instr_in_range m ok k below)
-      (asked_small k) (past_handlers (word m.layout k) at.from) at.to at.round (target_in k below) (short_near k below)
+  own_fits : (k : ℕ) → k < count m.layout.program → is_later_at m k ≡ false → Fits (unit_here m k) (word m.layout k)
+  own_fits k below first =
+      let at = unit_lies m ok (word m.layout k) (unit_here m k) (unit_there m ok k below first) in
+      unit_fits (item_of m.layout.program k).kind (instr_of m k) (whole_at m.whole k) _ _ _ (group_at m k) (word m.layout k) (right m ok k below) (instr_in_range m ok k below)
+      (asked_small k) (past_handlers (word m.layout k) at.from) at.to at.round (target_in k below) (short_near k below) (λ store. fits_mask m ok k below store first)
 
   small_label : (k j label : ℕ) → slice_get (labels_of m.labels m.layout.closed.sides k) j ≡ Some (Some label) → label < 2 ^ 20
   small_label k j label e =
       let (n, is) = label_in m.labels m.layout.closed.sides k j label e in
       subst (λ (x : ℕ). x < 2 ^ 20) (get_or_from_slice_get m.labels n label 0 is) (label_small n)
 
-  is_fit : (k a : ℕ) (u : U.Unit) → k < count m.layout.program → IsUnit m k (item_of m.layout.program k) a u → Fits u a
-  is_fit k a u below (lead_word j get here) =
+  is_fit : (k a : ℕ) (u : U.Unit) → k < count m.layout.program → is_later_at m k ≡ false → IsUnit m k a u → Fits u a
+  is_fit k a u below first (lead_word j get here) =
       let (o, at, same) = from_lead m k j u get in
       subst (λ (v : U.Unit). Fits v a) same (lead_fits o a (λ label some. small_label k j label (at ∙ ap Some some)))
-  is_fit k a u below (own here unit_is) =
-      subst (λ (v : U.Unit). Fits v a) (sym unit_is) (subst (λ (b : ℕ). Fits (unit_for m k (item_of m.layout.program k)) b) (sym here) (own_fits k below))
+  is_fit k a u below first (own here unit_is) =
+      subst (λ (v : U.Unit). Fits v a) (sym unit_is) (subst (λ (b : ℕ). Fits (unit_here m k) b) (sym here) (own_fits k below first))
 
   pub units_fit : AllFit m.layout.profile.units_from (units m)
-  units_fit = all_fit (units m) m.layout.profile.units_from (λ a u e. let at = found m ok a u e in is_fit at.index a u at.below at.unit)
+  units_fit = all_fit (units m) m.layout.profile.units_from (λ a u e. let at = found m ok a u e in is_fit at.index a u at.below at.first at.unit)
 
   -- the place after a branch
   goes_on : (k : ℕ) → k < count m.layout.program → is_branch (item_of m.layout.program k).kind ≡ true → k + 1 < count m.layout.program
@@ -177,11 +189,11 @@ module _ (m : Choice) (ok : IsAccepted m) where
 
   -- two places after a jump without words before it at the next one
   second_after : (k t : ℕ) → k + 1 < count m.layout.program → t < count m.layout.program → gate m.layout t ≡ gate m.layout (k + 1) + 4 → word m.layout (k + 1) ≡ gate m.layout (k + 1) →
-      word_count (unit_for m (k + 1) (item_of m.layout.program (k + 1))) ≡ 1 → t ≡ k + 2
-  second_after k t more there four at one =
+      is_store (item_of m.layout.program (k + 1)).kind ≡ false → word_count (unit_here m (k + 1)) ≡ 1 → t ≡ k + 2
+  second_after k t more there four at other one =
       elim (cases_order t (k + 2)) [
         | inl same ↦ same
-        | inr other ↦ elim other [
+        | inr unlike ↦ elim unlike [
           | inl before ↦ elim (cases_order t (k + 1)) [
             | inl same ↦ let e : gate m.layout t ≡ gate m.layout (k + 1) = ap (gate m.layout) same in absurd (omega arith)
             | inr apart ↦ elim apart [
@@ -189,27 +201,28 @@ module _ (m : Choice) (ok : IsAccepted m) where
               | inr past ↦ absurd (omega arith)
             ]
           ]
-          | inr behind ↦
-              let after = gate_after m ok (k + 1) (omega arith) in
+          | inr past ↦
+              let after = next_after m ok (k + 1) other (omega arith) in
               let two : k + 1 + 1 ≡ k + 2 = omega arith in
               let next : gate m.layout (k + 1 + 1) ≡ gate m.layout (k + 2) = ap (gate m.layout) two in
-              let rise = gates_rise m ok (k + 2) t behind there in
+              let rise = gates_rise m ok (k + 2) t past there in
               absurd (omega arith)
         ]
       ]
 
   skip_own : (k : ℕ) (v : U.Unit) → k < count m.layout.program →
-      unit_in (units m) m.layout.profile.units_from (word m.layout k + 4 * word_count (unit_for m k (item_of m.layout.program k))) ≡ Some v → is_jump_unit v ≡ true →
-      IsShortSkip (unit_for m k (item_of m.layout.program k)) (word m.layout k) → ⊥
+      unit_in (units m) m.layout.profile.units_from (word m.layout k + 4 * word_count (unit_here m k)) ≡ Some v → is_jump_unit v ≡ true →
+      IsShortSkip (unit_here m k) (word m.layout k) → ⊥
   skip_own k v below next jump skip =
-      let s = skip_kind (item_of m.layout.program k).kind (instr_of m k) (whole_at m.whole k) _ _ _ (word m.layout k) (right m ok k below) skip in
+      let s = skip_kind (item_of m.layout.program k).kind (instr_of m k) (whole_at m.whole k) _ _ _ (group_at m k) (word m.layout k) (right m ok k below) skip in
+      let other = branch_stores_none (item_of m.layout.program k).kind s.0 in
       let (t, some, there) = direct k below (branch_leads (item_of m.layout.program k).kind s.0) in
       let short = ok.shorts k t below s.0 s.1 some in
       let back = short.back in
       let ahead = short.ahead in
       let more = goes_on k below s.0 in
-      let after = gate_after m ok k more in
-      let at = unit_lies m ok (word m.layout k) (unit_for m k (item_of m.layout.program k)) (unit_there m ok k below) in
+      let after = next_after m ok k other more in
+      let at = unit_lies m ok (word m.layout k) (unit_here m k) (unit_there m ok k below (other_first m k other)) in
       let from = at.from in
       let to = at.to in
       let one = s.3 in
@@ -227,12 +240,12 @@ module _ (m : Choice) (ok : IsAccepted m) where
             absurd (cc)
         | inl (none, no_target) ↦
             let stands = at_gate m ok (k + 1) none in
-            let same : unit_for m (k + 1) (item_of m.layout.program (k + 1)) ≡ v =
-            same_Some _ v (sym (unit_there m ok (k + 1) more) ∙ ap (unit_in (units m) m.layout.profile.units_from) stands ∙ here) in
+            let same : unit_here m (k + 1) ≡ v =
+            same_Some _ v (sym (unit_there m ok (k + 1) more (first_after m ok.groups k other)) ∙ ap (unit_in (units m) m.layout.profile.units_from) stands ∙ here) in
             let jumps = ap is_jump_unit same ∙ jump in
             let skipped : is_skipped (item_of m.layout.program (k + 1)).kind false ≡ true =
-            jump_kind (item_of m.layout.program (k + 1)).kind (instr_of m (k + 1)) (whole_at m.whole (k + 1)) _ _ _ (right m ok (k + 1) more) jumps in
-            let second : t ≡ k + 2 = second_after k t more there (omega arith) stands (jump_size _ jumps) in
+            jump_kind (item_of m.layout.program (k + 1)).kind (instr_of m (k + 1)) (whole_at m.whole (k + 1)) _ _ _ (group_at m (k + 1)) (right m ok (k + 1) more) jumps in
+            let second : t ≡ k + 2 = second_after k t more there (omega arith) stands (skipped_stores_none (item_of m.layout.program (k + 1)).kind skipped) (jump_size _ jumps) in
             let held : is_kept m.layout.program m.layout.closed k t ≡ true =
             and_from (t == k + 2) (is_skipped (item_of m.layout.program (k + 1)).kind (is_target m.layout.closed.sides (k + 1))) (eq-eqb t (k + 2) second)
             (ap (is_skipped (item_of m.layout.program (k + 1)).kind) no_target ∙ skipped) in
@@ -240,16 +253,16 @@ module _ (m : Choice) (ok : IsAccepted m) where
             absurd (cc)
       ]
 
-  no_skip : (k a : ℕ) (u v : U.Unit) → k < count m.layout.program → IsUnit m k (item_of m.layout.program k) a u → unit_in (units m) m.layout.profile.units_from (a + 4 * word_count u) ≡ Some v →
+  no_skip : (k a : ℕ) (u v : U.Unit) → k < count m.layout.program → IsUnit m k a u → unit_in (units m) m.layout.profile.units_from (a + 4 * word_count u) ≡ Some v →
       is_jump_unit v ≡ true → IsShortSkip u a → ⊥
   no_skip k a u v below (lead_word j get here) next jump skip =
       let (o, at, same) = from_lead m k j u get in
       no_lead_skip o a (subst (λ (w : U.Unit). IsShortSkip w a) (sym same) skip)
   no_skip k a u v below (own here unit_is) next jump skip =
-      let own_skip : IsShortSkip (unit_for m k (item_of m.layout.program k)) (word m.layout k) =
-      subst (λ (b : ℕ). IsShortSkip (unit_for m k (item_of m.layout.program k)) b) here (subst (λ (w : U.Unit). IsShortSkip w a) unit_is skip) in
-      let own_next : unit_in (units m) m.layout.profile.units_from (word m.layout k + 4 * word_count (unit_for m k (item_of m.layout.program k))) ≡ Some v =
-      subst (λ (b : ℕ). unit_in (units m) m.layout.profile.units_from (b + 4 * word_count (unit_for m k (item_of m.layout.program k))) ≡ Some v) here
+      let own_skip : IsShortSkip (unit_here m k) (word m.layout k) =
+      subst (λ (b : ℕ). IsShortSkip (unit_here m k) b) here (subst (λ (w : U.Unit). IsShortSkip w a) unit_is skip) in
+      let own_next : unit_in (units m) m.layout.profile.units_from (word m.layout k + 4 * word_count (unit_here m k)) ≡ Some v =
+      subst (λ (b : ℕ). unit_in (units m) m.layout.profile.units_from (b + 4 * word_count (unit_here m k)) ≡ Some v) here
       (subst (λ (w : U.Unit). unit_in (units m) m.layout.profile.units_from (a + 4 * word_count w) ≡ Some v) unit_is next) in
       skip_own k v below own_next jump own_skip
 

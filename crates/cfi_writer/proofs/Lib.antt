@@ -1,8 +1,13 @@
 mod Few
 pub mod InstrAt
 pub mod UnitOf
+pub mod Grouping
+pub mod GateSteps
 pub mod Runs
+pub mod CodeRoom
 pub mod Standing
+pub mod GroupUnit
+pub mod GroupLoops
 pub mod Fitting
 pub mod Labelled
 pub mod ClassLines
@@ -13,7 +18,6 @@ pub mod SoundCode
 pub mod WholeCode
 pub mod SitesThere
 pub mod CodeBytes
-pub mod CodeRoom
 pub mod MapFits
 pub mod ClassLabels
 pub mod SiteNumbers
@@ -27,3 +31,4 @@ pub mod PlaceLines
 pub mod WriteRows
 mod WrittenRows
 mod AcceptedRow
+mod GroupedRow

@@ -1,22 +1,28 @@
--- Places one after another: where the gate and the word of each stand and where the next begins; what stands in the units
--- that are written for them, behind how many words.
-use Rattle.std.proofs.Common.{◌≡◌, ◌⊎◌, ℕ, zero, suc, ◌+◌, ◌*◌, ◌≤◌, ◌<◌, inl, inr, Bool, true, false, List, [], ◌∷◌, ◌++◌, length, map, Option, Some, None, refl, sym, ap, subst, ◌∙◌, arith}
-use Rattle.std.specs.Prelude.{if◌then◌else◌, option_map, slice_get, slice_index}
+-- Units one after another: where the gate and the word of each place stand that has a unit of its own, and where the next begins; what
+-- stands in the units that are written, behind how many words.
+use Rattle.std.proofs.Common.{◌≡◌, ◌⊎◌, ℕ, zero, suc, ◌+◌, ◌*◌, ◌≤◌, ◌<◌, inl, inr, Bool, true, false, List, [], ◌∷◌, ◌++◌, length, map, get_or, Option, Some, None, refl, sym, ap, subst, ◌∙◌, arith}
+use Rattle.std.specs.Prelude.{if◌then◌else◌, option_map, slice_get, slice_index, sum}
 use Rattle.std.proofs.lemmas.Bool.{cases_Bool, cases_eq}
 use Rattle.std.proofs.lemmas.List.{length-map}
+use Rattle.std.proofs.lemmas.List.Sums.{sum_by-cons}
 use Rattle.std.proofs.lemmas.Option.{same_Some, slice_get-map}
 use Rattle.rv_word.proofs.Cases.{mapped}
+use Rattle.obj_input.specs.declared.item_kind.ItemKind.{ItemKind}
+use Rattle.obj_input.specs.declared.item_kind.ItemKind.TheVariants as is
 use Rattle.obj_program.specs.declared.item.Item.{Item}
+use Rattle.obj_program.specs.Program.{count, item_of, no_item}
 use Rattle.cfi_closed.specs.Closed.{Side, is_target}
 use Rattle.cfi_map.specs.GraphAtMap.{gate, word}
+use Rattle.cfi_map.specs.Groups.{is_store}
 use Rattle.cfi_map.specs.LabelOf.{label_at, labels_of}
 use Rattle.cfi_map.specs.Placement.{AreGates, whole_at, lead_size, size_of}
+use Rattle.cfi_map.specs.Sizes.{part_sizes}
 use Rattle.cfi_unit.specs.declared.unit.Unit as U
 use Rattle.cfi_unit.specs.UnitWords.{word_count}
 use Rattle.cfi_rules.specs.Split.{unit_in}
-use Rattle.cfi_unit.proofs.Counts.{some_word}
 use Rattle.cfi_rules.proofs.UnitIn.{in_here, in_later, in_past}
-use Rattle.cfi_writer.specs.Units.{Choice, lead, lead_unit, unit_for, units_from}
+use Rattle.cfi_writer.specs.Units.{Choice, behind, is_later_at, later_from, lead, lead_unit, unit_here, unit_places, units_of}
+use Rattle.cfi_writer.proofs.Grouping.{later_below, later_store, none_later, one_later}
 use Rattle.cfi_writer.proofs.SideLabels.{length-labels_of}
 
 -- how many bytes the words before a place's unit have
@@ -88,41 +94,136 @@ lead_few m k =
       | inr other ↦ rw other (omega arith)
     ]
 
--- places from index k on stand one after another from an address on
-unfoldable pub Run : Choice → ℕ → ℕ → List Item → Type 0
-Run m k at [] = Unit {0}
-Run m k at (item ∷ items) =
-    (gate m.layout k ≡ at) × (word m.layout k ≡ at + lead_bytes m k)
-    × Run m (k + 1) (at + lead_bytes m k + 4 * word_count (unit_for m k item)) items
+-- of so many places from one on the first has a unit of its own, or has none
+pub places_more : (m : Choice) (k n : ℕ) → is_later_at m k ≡ false → unit_places m k (suc n) ≡ k ∷ unit_places m (k + 1) n
+places_more m k n first = rw first refl
 
--- the gates of a placement make places stand so
-pub legal_run : (m : Choice) (k at : ℕ) (items : List Item) (gates : List ℕ) →
-    ((i : ℕ) → gate m.layout (k + i) ≡ slice_index gates i) →
-    ((i : ℕ) (item : Item) → slice_get items i ≡ Some item → size_of item.kind (whole_at m.whole (k + i)) ≡ 4 * word_count (unit_for m (k + i) item)) →
-    AreGates m.layout.closed.sides m.whole k at items gates → Run m k at items
-unfolding Run AreGates
-legal_run m k at [] gates same sizes legal = tt
-legal_run m k at (item ∷ items) [] same sizes legal = absurd legal
-legal_run m k at (item ∷ items) (g ∷ gates) same sizes legal =
-    let first : k + 0 ≡ k = omega arith in
-    let here : gate m.layout k ≡ g = ap (gate m.layout) (sym first) ∙ same 0 in
-    let size : size_of item.kind (whole_at m.whole k) ≡ 4 * word_count (unit_for m k item) =
-    rw first at (sizes 0 item refl) in
-    let bytes = lead_sized m k in
+pub places_skip : (m : Choice) (k n : ℕ) → is_later_at m k ≡ true → unit_places m k (suc n) ≡ unit_places m (k + 1) n
+places_skip m k n later = rw later refl
+
+-- which places these are
+pub place_there : (m : Choice) (k n i j : ℕ) → slice_get (unit_places m k n) i ≡ Some j → (k ≤ j) × (j < k + n) × (is_later_at m j ≡ false)
+place_there m k zero i j get = absurd (cc)
+place_there m k (suc n) zero j get =
+    elim (cases_Bool (is_later_at m k)) [
+      | inl later ↦
+          let (from, to, is_first) = place_there m (k + 1) n zero j (ap (λ (ks : List ℕ). slice_get ks zero) (sym (places_skip m k n later)) ∙ get) in
+          (omega arith, omega arith, is_first)
+      | inr first ↦
+          let same : k ≡ j = same_Some k j (ap (λ (ks : List ℕ). slice_get ks zero) (sym (places_more m k n first)) ∙ get) in
+          (omega arith, omega arith, subst (λ (x : ℕ). is_later_at m x ≡ false) same first)
+    ]
+place_there m k (suc n) (suc i) j get =
+    elim (cases_Bool (is_later_at m k)) [
+      | inl later ↦
+          let (from, to, is_first) = place_there m (k + 1) n (suc i) j (ap (λ (ks : List ℕ). slice_get ks (suc i)) (sym (places_skip m k n later)) ∙ get) in
+          (omega arith, omega arith, is_first)
+      | inr first ↦
+          let (from, to, is_first) = place_there m (k + 1) n i j (ap (λ (ks : List ℕ). slice_get ks (suc i)) (sym (places_more m k n first)) ∙ get) in
+          (omega arith, omega arith, is_first)
+    ]
+
+pub place_among : (m : Choice) (k n j : ℕ) → k ≤ j → j < k + n → is_later_at m j ≡ false → (i : ℕ) × (slice_get (unit_places m k n) i ≡ Some j)
+place_among m k zero j from to first = absurd (omega arith)
+place_among m k (suc n) j from to first =
+    elim (cases_Bool (is_later_at m k)) [
+      | inl later ↦
+          elim (cases_eq k j) [
+            | inl same ↦ let wrong : true ≡ false = sym later ∙ subst (λ (x : ℕ). is_later_at m x ≡ false) (sym same) first in absurd (cc)
+            | inr apart ↦
+                let (i, get) = place_among m (k + 1) n j (omega arith) (omega arith) first in
+                (i, ap (λ (ks : List ℕ). slice_get ks i) (places_skip m k n later) ∙ get)
+          ]
+      | inr first_is ↦
+          elim (cases_eq k j) [
+            | inl same ↦ (0, ap (λ (ks : List ℕ). slice_get ks 0) (places_more m k n first_is) ∙ ap Some same)
+            | inr apart ↦
+                let (i, get) = place_among m (k + 1) n j (omega arith) (omega arith) first in
+                (suc i, ap (λ (ks : List ℕ). slice_get ks (suc i)) (places_more m k n first_is) ∙ get)
+          ]
+    ]
+
+-- the units of these places stand one after another from an address on, up to another
+unfoldable pub Run : Choice → ℕ → List ℕ → ℕ → Type 0
+Run m at [] last = at ≡ last
+Run m at (k ∷ places) last =
+    (gate m.layout k ≡ at) × (word m.layout k ≡ at + lead_bytes m k)
+    × Run m (at + lead_bytes m k + 4 * word_count (unit_here m k)) places last
+
+-- a later store has no words before it; the size that a placement gives another place, with a word for each store that follows, is that
+-- of its unit
+pub record AreSized (m : Choice) : Type 0 where
+  pub later : (k : ℕ) → is_later_at m k ≡ true → lead_size m.layout.closed.sides k ≡ 0
+  pub first : (k : ℕ) → k < count m.layout.program → is_later_at m k ≡ false →
+      size_of (item_of m.layout.program k).kind (whole_at m.whole k) + 4 * behind m k ≡ 4 * word_count (unit_here m k)
+
+size_later : (kind : ItemKind) (whole : Bool) → is_store kind ≡ true → whole ≡ false → size_of kind whole ≡ 4
+size_later is.Store whole store less = rw less refl
+size_later other whole store less = absurd (cc)
+
+pub later_size : (m : Choice) (k : ℕ) → is_later_at m k ≡ true → size_of (item_of m.layout.program k).kind (whole_at m.whole k) ≡ 4
+later_size m k later =
+    let (store, less) = later_store m k later in
+    size_later (item_of m.layout.program k).kind (whole_at m.whole k) store less
+
+past_first : (m : Choice) (k : ℕ) → count m.layout.program ≤ k → is_later_at m k ≡ false
+past_first m k past =
+    elim (cases_Bool (is_later_at m k)) [
+      | inr first ↦ first
+      | inl later ↦ let below = later_below m k later in absurd (omega arith)
+    ]
+
+-- the gates of a placement make units stand so
+pub legal_run : (m : Choice) → AreSized m → (k at : ℕ) (items : List Item) (gates : List ℕ) → ((i : ℕ) → gate m.layout (k + i) ≡ slice_index gates i) →
+    ((i : ℕ) → i < length items → item_of m.layout.program (k + i) ≡ get_or items i no_item) → k + length items ≡ count m.layout.program →
+    AreGates m.layout.closed.sides m.whole k at items gates →
+    Run m (at + 4 * later_from m k) (unit_places m k (length items)) (at + sum (part_sizes m.layout.closed.sides m.whole k items))
+unfolding Run AreGates part_sizes
+legal_run m sized k at [] [] same are all legal =
+    let none = none_later m k (past_first m k (omega arith)) in
+    omega arith
+legal_run m sized k at [] (g ∷ gates) same are all legal = absurd legal
+legal_run m sized k at (item ∷ items) [] same are all legal = absurd legal
+legal_run m sized k at (item ∷ items) (g ∷ gates) same are all legal =
+    let start : k + 0 ≡ k = omega arith in
     let next : (i : ℕ) → k + 1 + i ≡ k + suc i = λ i. omega arith in
-    let behind : at + lead_size m.layout.closed.sides k + size_of item.kind (whole_at m.whole k)
-    ≡ at + lead_bytes m k + 4 * word_count (unit_for m k item) = rw (size, bytes) refl in (
-      here ∙ legal.0,
-      ap (λ n. n + lead_size m.layout.closed.sides k) (here ∙ legal.0) ∙ ap (λ n. at + n) bytes,
-      subst (λ (b : ℕ). Run m (k + 1) b items) behind (legal_run m (k + 1) (at + lead_size m.layout.closed.sides k + size_of item.kind (whole_at m.whole k)) items gates
-          (λ i. ap (gate m.layout) (next i) ∙ same (suc i))
-          (λ i one get. subst (λ (n : ℕ). size_of one.kind (whole_at m.whole n) ≡ 4 * word_count (unit_for m n one)) (sym (next i)) (sizes (suc i) one get)) legal.1),
-    )
+    let here : gate m.layout k ≡ g = ap (gate m.layout) (sym start) ∙ same 0 in
+    let item_is : item_of m.layout.program k ≡ item = ap (item_of m.layout.program) (sym start) ∙ are 0 (omega arith) in
+    let size = size_of item.kind (whole_at m.whole k) in
+    let size_is : size_of (item_of m.layout.program k).kind (whole_at m.whole k) ≡ size = ap (λ (x : Item). size_of x.kind (whole_at m.whole k)) item_is in
+    let led = lead_size m.layout.closed.sides k in
+    let last = at + sum (part_sizes m.layout.closed.sides m.whole k (item ∷ items)) in
+    let rest = legal_run m sized (k + 1) (at + led + size) items gates (λ i. ap (gate m.layout) (next i) ∙ same (suc i))
+    (λ i less. ap (item_of m.layout.program) (next i) ∙ are (suc i) (omega arith)) (omega arith) legal.1 in
+    let more = sum_by-cons (λ (x : ℕ). x) (led + size) (part_sizes m.layout.closed.sides m.whole (k + 1) items) in
+    let to : at + led + size + sum (part_sizes m.layout.closed.sides m.whole (k + 1) items) ≡ last = omega arith in
+    elim (cases_Bool (is_later_at m k)) [
+      | inl later ↦
+          let no_lead = sized.later k later in
+          let four = later_size m k later in
+          let one = one_later m k later in
+          let from : at + led + size + 4 * later_from m (k + 1) ≡ at + 4 * later_from m k = omega arith in
+          subst (λ (ks : List ℕ). Run m (at + 4 * later_from m k) ks last) (sym (places_skip m k (length items) later))
+          (subst (λ (b : ℕ). Run m b (unit_places m (k + 1) (length items)) last) from
+          (subst (Run m (at + led + size + 4 * later_from m (k + 1)) (unit_places m (k + 1) (length items))) to rest))
+      | inr first ↦
+          let none = none_later m k first in
+          let bytes = lead_sized m k in
+          let all = sized.first k (omega arith) first in
+          let gate_is : gate m.layout k ≡ at + 4 * later_from m k = here ∙ legal.0 ∙ omega arith in
+          let from : at + led + size + 4 * later_from m (k + 1) ≡ at + 4 * later_from m k + lead_bytes m k + 4 * word_count (unit_here m k) = omega arith in
+          subst (λ (ks : List ℕ). Run m (at + 4 * later_from m k) ks last) (sym (places_more m k (length items) first)) (
+            gate_is,
+            omega arith,
+            subst (λ (b : ℕ). Run m b (unit_places m (k + 1) (length items)) last) from
+                (subst (Run m (at + led + size + 4 * later_from m (k + 1)) (unit_places m (k + 1) (length items))) to rest),
+          )
+    ]
 
 -- what stands at an address: a word before a place's unit, or the unit
-pub data IsUnit (m : Choice) (k : ℕ) (item : Item) (a : ℕ) (u : U.Unit) : Type 0 where
-  lead_word : (j : ℕ) → slice_get (lead m k) j ≡ Some u → a ≡ gate m.layout k + 4 * j → IsUnit m k item a u
-  own : a ≡ word m.layout k → u ≡ unit_for m k item → IsUnit m k item a u
+pub data IsUnit (m : Choice) (k : ℕ) (a : ℕ) (u : U.Unit) : Type 0 where
+  lead_word : (j : ℕ) → slice_get (lead m k) j ≡ Some u → a ≡ gate m.layout k + 4 * j → IsUnit m k a u
+  own : a ≡ word m.layout k → u ≡ unit_here m k → IsUnit m k a u
 
 in_lead : (us rest : List U.Unit) (at a : ℕ) (u : U.Unit) → AreSingle us → unit_in (us ++ rest) at a ≡ Some u →
     ((j : ℕ) × (slice_get us j ≡ Some u) × (a ≡ at + 4 * j)) ⊎ (unit_in rest (at + 4 * length us) a ≡ Some u)
@@ -156,42 +257,30 @@ in_first v u rest at a e =
     ]
 
 -- each unit that is written is a place's
-pub record Found (m : Choice) (k : ℕ) (items : List Item) (a : ℕ) (u : U.Unit) : Type 0 where
+pub record Found (m : Choice) (places : List ℕ) (a : ℕ) (u : U.Unit) : Type 0 where
   pub index : ℕ
-  pub item : Item
-  pub there : slice_get items index ≡ Some item
-  pub unit : IsUnit m (k + index) item a u
+  pub place : ℕ
+  pub there : slice_get places index ≡ Some place
+  pub unit : IsUnit m place a u
 
-pub found_at : (m : Choice) (k at : ℕ) (items : List Item) (a : ℕ) (u : U.Unit) → Run m k at items → unit_in (units_from m k items) at a ≡ Some u →
-    Found m k items a u
-unfolding Run units_from unit_in
-found_at m k at [] a u run e = absurd (cc)
-found_at m k at (item ∷ items) a u run e =
-    let first : k ≡ k + 0 = omega arith in
-    elim (in_lead (lead m k) (unit_for m k item ∷ units_from m (k + 1) items) at a u (lead_single m k) e) [
+pub found_at : (m : Choice) (at last : ℕ) (places : List ℕ) (a : ℕ) (u : U.Unit) → Run m at places last → unit_in (units_of m places) at a ≡ Some u →
+    Found m places a u
+unfolding Run units_of unit_in
+found_at m at last [] a u run e = absurd (cc)
+found_at m at last (k ∷ places) a u run e =
+    elim (in_lead (lead m k) (unit_here m k ∷ units_of m places) at a u (lead_single m k) e) [
       | inl (j, get, here) ↦ record {
         index = 0;
-        item = item;
+        place = k;
         there = refl;
-        unit = subst (λ (n : ℕ). IsUnit m n item a u) first (lead_word j get (here ∙ ap (λ (b : ℕ). b + 4 * j) (sym run.0)));
+        unit = lead_word j get (here ∙ ap (λ (b : ℕ). b + 4 * j) (sym run.0));
       }
       | inr past ↦
-          elim (in_first (unit_for m k item) u (units_from m (k + 1) items) (at + lead_bytes m k) a past) [
-            | inl (here, unit_is) ↦ record {
-              index = 0;
-              item = item;
-              there = refl;
-              unit = subst (λ (n : ℕ). IsUnit m n item a u) first (own (here ∙ sym run.1) unit_is);
-            }
+          elim (in_first (unit_here m k) u (units_of m places) (at + lead_bytes m k) a past) [
+            | inl (here, unit_is) ↦ record { index = 0; place = k; there = refl; unit = own (here ∙ sym run.1) unit_is }
             | inr later ↦
-                let found = found_at m (k + 1) (at + lead_bytes m k + 4 * word_count (unit_for m k item)) items a u run.2 later in
-                let next : k + 1 + found.index ≡ k + suc found.index = omega arith in
-                record {
-                  index = suc found.index;
-                  item = found.item;
-                  there = found.there;
-                  unit = subst (λ (n : ℕ). IsUnit m n found.item a u) next found.unit;
-                }
+                let found = found_at m (at + lead_bytes m k + 4 * word_count (unit_here m k)) last places a u run.2 later in
+                record { index = suc found.index; place = found.place; there = found.there; unit = found.unit }
           ]
     ]
 
@@ -213,86 +302,32 @@ at_lead (v ∷ us) rest at a (suc j) u single get here =
     let size : word_count v ≡ 1 = single 0 v refl in
     in_past v u (us ++ rest) at a (at_lead us rest (at + 4 * word_count v) a j u (λ i w at. single (suc i) w at) get (omega arith))
 
-pub stands_at : (m : Choice) (k at : ℕ) (items : List Item) (i : ℕ) (item : Item) → Run m k at items → slice_get items i ≡ Some item →
-    unit_in (units_from m k items) at (word m.layout (k + i)) ≡ Some (unit_for m (k + i) item)
-unfolding Run units_from
-stands_at m k at [] i item run get = absurd (cc)
-stands_at m k at (x ∷ items) zero item run get =
-    let first : k ≡ k + 0 = omega arith in
-    let same : x ≡ item = same_Some x item get in
-    let here = in_here (unit_for m k x) (units_from m (k + 1) items) (at + lead_bytes m k) in
-    let there : unit_in (unit_for m k x ∷ units_from m (k + 1) items) (at + lead_bytes m k) (word m.layout k) ≡ Some (unit_for m k x) =
-    ap (unit_in (unit_for m k x ∷ units_from m (k + 1) items) (at + lead_bytes m k)) run.1 ∙ here in
-    subst (λ (y : Item). unit_in (units_from m k (x ∷ items)) at (word m.layout (k + 0)) ≡ Some (unit_for m (k + 0) y)) same
-    (subst (λ (n : ℕ). unit_in (units_from m k (x ∷ items)) at (word m.layout n) ≡ Some (unit_for m n x)) first
-    (past_lead (lead m k) (unit_for m k x ∷ units_from m (k + 1) items) at (word m.layout k) (unit_for m k x) (lead_single m k) there))
-stands_at m k at (x ∷ items) (suc i) item run get =
-    let next : k + 1 + i ≡ k + suc i = omega arith in
-    let later = stands_at m (k + 1) (at + lead_bytes m k + 4 * word_count (unit_for m k x)) items i item run.2 get in
-    subst (λ (n : ℕ). unit_in (units_from m k (x ∷ items)) at (word m.layout n) ≡ Some (unit_for m n item)) next
-    (past_lead (lead m k) (unit_for m k x ∷ units_from m (k + 1) items) at (word m.layout (k + 1 + i)) (unit_for m (k + 1 + i) item) (lead_single m k)
-    (in_past (unit_for m k x) (unit_for m (k + 1 + i) item) (units_from m (k + 1) items) (at + lead_bytes m k) (word m.layout (k + 1 + i)) later))
+pub stands_at : (m : Choice) (at last : ℕ) (places : List ℕ) (i k : ℕ) → Run m at places last → slice_get places i ≡ Some k →
+    unit_in (units_of m places) at (word m.layout k) ≡ Some (unit_here m k)
+unfolding Run units_of
+stands_at m at last [] i k run get = absurd (cc)
+stands_at m at last (x ∷ places) zero k run get =
+    let same : x ≡ k = same_Some x k get in
+    let here = in_here (unit_here m x) (units_of m places) (at + lead_bytes m x) in
+    let there : unit_in (unit_here m x ∷ units_of m places) (at + lead_bytes m x) (word m.layout x) ≡ Some (unit_here m x) =
+    ap (unit_in (unit_here m x ∷ units_of m places) (at + lead_bytes m x)) run.1 ∙ here in
+    subst (λ (y : ℕ). unit_in (units_of m (x ∷ places)) at (word m.layout y) ≡ Some (unit_here m y)) same
+    (past_lead (lead m x) (unit_here m x ∷ units_of m places) at (word m.layout x) (unit_here m x) (lead_single m x) there)
+stands_at m at last (x ∷ places) (suc i) k run get =
+    let later = stands_at m (at + lead_bytes m x + 4 * word_count (unit_here m x)) last places i k run.2 get in
+    past_lead (lead m x) (unit_here m x ∷ units_of m places) at (word m.layout k) (unit_here m k) (lead_single m x)
+    (in_past (unit_here m x) (unit_here m k) (units_of m places) (at + lead_bytes m x) (word m.layout k) later)
 
-pub lead_stands : (m : Choice) (k at : ℕ) (items : List Item) (i j : ℕ) (item : Item) (u : U.Unit) → Run m k at items → slice_get items i ≡ Some item →
-    slice_get (lead m (k + i)) j ≡ Some u → unit_in (units_from m k items) at (gate m.layout (k + i) + 4 * j) ≡ Some u
-unfolding Run units_from
-lead_stands m k at [] i j item u run get some = absurd (cc)
-lead_stands m k at (x ∷ items) zero j item u run get some =
-    let first : k + 0 ≡ k = omega arith in
-    let here : slice_get (lead m k) j ≡ Some u = ap (λ (n : ℕ). slice_get (lead m n) j) (sym first) ∙ some in
-    at_lead (lead m k) (unit_for m k x ∷ units_from m (k + 1) items) at (gate m.layout (k + 0) + 4 * j) j u (lead_single m k) here
-    (ap (λ (n : ℕ). gate m.layout n + 4 * j) first ∙ ap (λ (b : ℕ). b + 4 * j) run.0)
-lead_stands m k at (x ∷ items) (suc i) j item u run get some =
-    let next : k + 1 + i ≡ k + suc i = omega arith in
-    let later = lead_stands m (k + 1) (at + lead_bytes m k + 4 * word_count (unit_for m k x)) items i j item u run.2 get (ap (λ (n : ℕ). slice_get (lead m n) j) next ∙ some) in
-    subst (λ (n : ℕ). unit_in (units_from m k (x ∷ items)) at (gate m.layout n + 4 * j) ≡ Some u) next
-    (past_lead (lead m k) (unit_for m k x ∷ units_from m (k + 1) items) at (gate m.layout (k + 1 + i) + 4 * j) u (lead_single m k)
-    (in_past (unit_for m k x) u (units_from m (k + 1) items) (at + lead_bytes m k) (gate m.layout (k + 1 + i) + 4 * j) later))
-
--- the next place begins behind a place's unit
-pub next_gate : (m : Choice) (k at : ℕ) (items : List Item) (i : ℕ) (item : Item) → Run m k at items → slice_get items i ≡ Some item → suc i < length items →
-    gate m.layout (k + suc i) ≡ word m.layout (k + i) + 4 * word_count (unit_for m (k + i) item)
-unfolding Run
-next_gate m k at [] i item run get more = absurd (omega arith)
-next_gate m k at (x ∷ []) i item run get more = absurd (omega arith)
-next_gate m k at (x ∷ y ∷ items) zero item run get more =
-    let first : k ≡ k + 0 = omega arith in
-    let same : x ≡ item = same_Some x item get in
-    let here : gate m.layout (k + 1) ≡ word m.layout k + 4 * word_count (unit_for m k x) = run.2.0 ∙ ap (λ n. n + 4 * word_count (unit_for m k x)) (sym run.1) in
-    subst (λ (z : Item). gate m.layout (k + 1) ≡ word m.layout (k + 0) + 4 * word_count (unit_for m (k + 0) z)) same
-    (subst (λ (n : ℕ). gate m.layout (k + 1) ≡ word m.layout n + 4 * word_count (unit_for m n x)) first here)
-next_gate m k at (x ∷ y ∷ items) (suc i) item run get more =
-    let next : k + 1 + i ≡ k + suc i = omega arith in
-    let last : k + 1 + suc i ≡ k + suc (suc i) = omega arith in
-    let later = next_gate m (k + 1) (at + lead_bytes m k + 4 * word_count (unit_for m k x)) (y ∷ items) i item run.2 get (omega arith) in
-    subst (λ (n : ℕ). gate m.layout (k + suc (suc i)) ≡ word m.layout n + 4 * word_count (unit_for m n item)) next
-    (ap (gate m.layout) (sym last) ∙ later)
-
--- gates are multiples of four from the first on, and rise
-pub run_low : (m : Choice) (k at : ℕ) (items : List Item) (i : ℕ) → Run m k at items → i < length items → at ≤ gate m.layout (k + i)
-unfolding Run
-run_low m k at [] i run less = absurd (omega arith)
-run_low m k at (x ∷ items) zero run less = let first : k + 0 ≡ k = omega arith in let here : gate m.layout k ≡ at = run.0 in rw first (omega arith)
-run_low m k at (x ∷ items) (suc i) run less =
-    let next : k + 1 + i ≡ k + suc i = omega arith in
-    let later = run_low m (k + 1) (at + lead_bytes m k + 4 * word_count (unit_for m k x)) items i run.2 (omega arith) in
-    let low : at ≤ gate m.layout (k + 1 + i) = omega arith in
-    subst (λ (n : ℕ). at ≤ gate m.layout n) next low
-
-pub run_rises : (m : Choice) (k at : ℕ) (items : List Item) (i j : ℕ) → Run m k at items → i < j → j < length items → gate m.layout (k + i) < gate m.layout (k + j)
-unfolding Run
-run_rises m k at [] i j run less there = absurd (omega arith)
-run_rises m k at (x ∷ items) i zero run less there = absurd (omega arith)
-run_rises m k at (x ∷ items) zero (suc j) run less there =
-    let some = some_word (unit_for m k x) in
-    let first : k + 0 ≡ k = omega arith in
-    let next : k + 1 + j ≡ k + suc j = omega arith in
-    let here : gate m.layout k ≡ at = run.0 in
-    let later = run_low m (k + 1) (at + lead_bytes m k + 4 * word_count (unit_for m k x)) items j run.2 (omega arith) in
-    let above : gate m.layout k < gate m.layout (k + 1 + j) = omega arith in
-    rw first (subst (λ (n : ℕ). gate m.layout k < gate m.layout n) next above)
-run_rises m k at (x ∷ items) (suc i) (suc j) run less there =
-    let here : k + 1 + i ≡ k + suc i = omega arith in
-    let next : k + 1 + j ≡ k + suc j = omega arith in
-    let later = run_rises m (k + 1) (at + lead_bytes m k + 4 * word_count (unit_for m k x)) items i j run.2 (omega arith) (omega arith) in
-    subst (λ (n : ℕ). gate m.layout n < gate m.layout (k + suc j)) here (subst (λ (n : ℕ). gate m.layout (k + 1 + i) < gate m.layout n) next later)
+pub lead_stands : (m : Choice) (at last : ℕ) (places : List ℕ) (i k j : ℕ) (u : U.Unit) → Run m at places last → slice_get places i ≡ Some k →
+    slice_get (lead m k) j ≡ Some u → unit_in (units_of m places) at (gate m.layout k + 4 * j) ≡ Some u
+unfolding Run units_of
+lead_stands m at last [] i k j u run get some = absurd (cc)
+lead_stands m at last (x ∷ places) zero k j u run get some =
+    let same : k ≡ x = sym (same_Some x k get) in
+    let here : slice_get (lead m x) j ≡ Some u = ap (λ (n : ℕ). slice_get (lead m n) j) (sym same) ∙ some in
+    at_lead (lead m x) (unit_here m x ∷ units_of m places) at (gate m.layout k + 4 * j) j u (lead_single m x) here
+    (ap (λ (n : ℕ). gate m.layout n + 4 * j) same ∙ ap (λ (b : ℕ). b + 4 * j) run.0)
+lead_stands m at last (x ∷ places) (suc i) k j u run get some =
+    let later = lead_stands m (at + lead_bytes m x + 4 * word_count (unit_here m x)) last places i k j u run.2 get some in
+    past_lead (lead m x) (unit_here m x ∷ units_of m places) at (gate m.layout k + 4 * j) u (lead_single m x)
+    (in_past (unit_here m x) u (units_of m places) (at + lead_bytes m x) (gate m.layout k + 4 * j) later)

@@ -1,8 +1,8 @@
 -- The units and classes that are written are sound.
-use Rattle.std.proofs.Common.{◌≡◌, ℕ, zero, suc, ◌+◌, ◌-◌, ◌*◌, ◌%◌, ◌/◌, ◌^◌, ◌≤◌, ◌<◌, inl, Bool, true, false, List, [], ◌∷◌, ◌++◌, length, Option, Some, None, refl, sym, ap, subst, ◌∙◌, arith, Contains}
+use Rattle.std.proofs.Common.{◌≡◌, ℕ, zero, suc, ◌+◌, ◌-◌, ◌*◌, ◌%◌, ◌/◌, ◌^◌, ◌≤◌, ◌<◌, ◌==◌, inl, inr, Bool, true, false, List, [], ◌∷◌, ◌++◌, Option, Some, None, refl, sym, ap, subst, ◌∙◌, arith, Contains}
 use Rattle.std.specs.Prelude.{IsTrue, nat_le, is_some, option_and_then, slice_get, slice_index}
-use Rattle.std.specs.List.{last_or}
-use Rattle.std.proofs.lemmas.Bool.{and_from, le-leb}
+use Rattle.std.specs.List.{last_or, list_any}
+use Rattle.std.proofs.lemmas.Bool.{and_from, cases_Bool, eq-eqb, le-leb, or_left, or_right}
 use Rattle.std.proofs.lemmas.Option.{get_or_from_slice_get, same_Some, slice_get_within, slice_get-get_or}
 use Rattle.rv_word.specs.MemoryMap.{CODE_SIZE, CODE_START, Profile}
 use Rattle.rv_instr.specs.declared.instr.Instr.{Instr}
@@ -16,6 +16,7 @@ use Rattle.obj_program.proofs.Read.{read_there}
 use Rattle.cfi_graph.specs.declared.line.SiteKind.{SiteKind}
 use Rattle.cfi_graph.specs.Graph.{ClassLine, class_in}
 use Rattle.cfi_class.specs.Classes.{has}
+use Rattle.cfi_closed.specs.Closed.{is_target_of}
 use Rattle.cfi_map.specs.GraphAtMap.{gate, gate_to, words_at}
 use Rattle.cfi_map.specs.LabelOf.{Tagged, labels_of, site_label, tagged}
 use Rattle.cfi_flow.specs.Labels.{is_gate, used_labels}
@@ -35,14 +36,17 @@ use Rattle.cfi_rules.specs.declared.asks.Asks.{Asks}
 use Rattle.cfi_writer.specs.Accepted.{IsAccepted}
 use Rattle.cfi_writer.specs.Laws.{WrittenIsSound, written_classes}
 use Rattle.cfi_writer.specs.SideLaws.{AreLabelled, word_read}
-use Rattle.cfi_writer.specs.Units.{Choice, entry_gate, instr_of, lead, lead_unit, unit_for, unit_of, units, units_from}
+use Rattle.cfi_map.specs.Groups.{aims_at, is_direct_target, is_store}
+use Rattle.cfi_writer.specs.Units.{Choice, Group, entered_at, entry_gate, group_at, instr_of, is_later_at, lead, lead_unit, unit_here, unit_of, unit_places, units, units_of}
+use Rattle.cfi_writer.proofs.CodeRoom.{target_entered}
+use Rattle.cfi_writer.proofs.Grouping.{entered_first, other_first}
 use Rattle.cfi_writer.proofs.ClassLines.{all_classes_lines, targets_of}
 use Rattle.cfi_writer.proofs.Fitting.{IsInCode, reach}
 use Rattle.cfi_writer.proofs.InstrAt.{gate_number}
 use Rattle.cfi_writer.proofs.Labelled.{used_in}
 use Rattle.cfi_writer.proofs.Leading.{direct, units_ahead, units_fit}
-use Rattle.cfi_writer.proofs.Runs.{IsUnit, from_lead, lead_word, own, to_lead}
-use Rattle.cfi_writer.proofs.SideLabels.{gates_listed, in_classes, in_side, is_in, sites_served, targets_bear}
+use Rattle.cfi_writer.proofs.Runs.{IsUnit, from_lead, lead_word, own, places_more, places_skip, to_lead}
+use Rattle.cfi_writer.proofs.SideLabels.{any_get, gates_listed, in_classes, in_side, is_in, sites_served, targets_bear}
 use Rattle.cfi_writer.proofs.Standing.{found, gate_lies, instr_is, laid, lead_there, right, starts}
 use Rattle.cfi_writer.proofs.UnitOf.{unit_admitted, unit_gate, unit_site, unit_target}
 
@@ -51,25 +55,50 @@ last_led : (vs : List U.Unit) (o : Option U.Unit) (u : U.Unit) (us : List U.Unit
 last_led [] o u us = refl
 last_led (v ∷ vs) o u us = last_led vs (Some v) u us
 
-last_units : (m : Choice) (k : ℕ) (items : List Item) (o : Option U.Unit) (n : ℕ) (item : Item) → slice_get items n ≡ Some item → length items ≡ n + 1 →
-    last_or o (units_from m k items) ≡ Some (unit_for m (k + n) item)
-unfolding units_from
-last_units m k [] o n item get last = absurd (cc)
-last_units m k (x ∷ []) o zero item get last =
-    let first : k ≡ k + 0 = omega arith in
-    let same : x ≡ item = same_Some x item get in
-    last_led (lead m k) o (unit_for m k x) []
-    ∙ ap (λ (y : Item). Some (unit_for m k y)) same ∙ ap (λ (n : ℕ). Some (unit_for m n item)) first
-last_units m k (x ∷ y ∷ items) o zero item get last = absurd (omega arith)
-last_units m k (x ∷ items) o (suc n) item get last =
+last_unit : (m : Choice) (k n : ℕ) (o : Option U.Unit) → is_later_at m (k + n) ≡ false → last_or o (units_of m (unit_places m k (suc n))) ≡ Some (unit_here m (k + n))
+unfolding units_of
+last_unit m k zero o first =
+    let start : k + 0 ≡ k = omega arith in
+    let is_first : is_later_at m k ≡ false = subst (λ (j : ℕ). is_later_at m j ≡ false) start first in
+    ap (λ (ks : List ℕ). last_or o (units_of m ks)) (places_more m k 0 is_first) ∙ last_led (lead m k) o (unit_here m k) []
+    ∙ ap (λ (j : ℕ). Some (unit_here m j)) (sym start)
+last_unit m k (suc n) o first =
     let next : k + 1 + n ≡ k + suc n = omega arith in
-    last_led (lead m k) o (unit_for m k x) (units_from m (k + 1) items)
-    ∙ last_units m (k + 1) items (Some (unit_for m k x)) n item get (omega arith)
-    ∙ ap (λ (n : ℕ). Some (unit_for m n item)) next
+    let later : is_later_at m (k + 1 + n) ≡ false = subst (λ (j : ℕ). is_later_at m j ≡ false) (sym next) first in
+    elim (cases_Bool (is_later_at m k)) [
+      | inl skipped ↦
+          ap (λ (ks : List ℕ). last_or o (units_of m ks)) (places_skip m k (suc n) skipped) ∙ last_unit m (k + 1) n o later
+          ∙ ap (λ (j : ℕ). Some (unit_here m j)) next
+      | inr first_is ↦
+          ap (λ (ks : List ℕ). last_or o (units_of m ks)) (places_more m k (suc n) first_is)
+          ∙ last_led (lead m k) o (unit_here m k) (units_of m (unit_places m (k + 1) (suc n)))
+          ∙ last_unit m (k + 1) n (Some (unit_here m k)) later ∙ ap (λ (j : ℕ). Some (unit_here m j)) next
+    ]
 
-end_stops : (kind : ItemKind) (i : Instr) (whole : Bool) (target : ℕ) (which : TargetWord) (label : ℕ) → is_end kind ≡ true → unit_of kind i whole target which label ≡ V.Stop
-end_stops is.End i whole target which label last = refl
-end_stops other i whole target which label last = absurd (cc)
+end_stores_none : (kind : ItemKind) → is_end kind ≡ true → is_store kind ≡ false
+end_stores_none is.End last = refl
+end_stores_none other last = absurd (cc)
+
+-- the entry and what a direct transfer leads to may be entered
+entry_entered : (m : Choice) → entered_at m m.layout.entry ≡ true
+entry_entered m = or_left (m.layout.entry == m.layout.entry) _ (eq-eqb m.layout.entry m.layout.entry refl)
+
+aimed : (items : List Item) (k t : ℕ) (item : Item) → slice_get items k ≡ Some item → item.target ≡ Some t → list_any (λ (i : Item). aims_at t i.target) items ≡ true
+aimed [] k t item get some = absurd (cc)
+aimed (x ∷ items) zero t item get some =
+    let same : x ≡ item = same_Some x item get in
+    or_left (aims_at t x.target) _ (ap (λ (i : Item). aims_at t i.target) same ∙ ap (aims_at t) some ∙ eq-eqb t t refl)
+aimed (x ∷ items) (suc k) t item get some = or_right (aims_at t x.target) _ (aimed items k t item get some)
+
+target_is_entered : (m : Choice) (k t : ℕ) → k < count m.layout.program → (item_of m.layout.program k).target ≡ Some t → entered_at m t ≡ true
+target_is_entered m k t below some =
+    or_right (t == m.layout.entry) _
+    (or_left (is_direct_target m.layout.program t) _
+    (aimed m.layout.program.items k t (item_of m.layout.program k) (slice_get-get_or m.layout.program.items k no_item below) some))
+
+end_stops : (kind : ItemKind) (i : Instr) (whole : Bool) (target : ℕ) (which : TargetWord) (label : ℕ) (group : Group) → is_end kind ≡ true → unit_of kind i whole target which label group ≡ V.Stop
+end_stops is.End i whole target which label group last = refl
+end_stops other i whole target which label group last = absurd (cc)
 
 gate_is : (kind : ItemKind) → kind ≡ is.Gate → is_gate kind ≡ true
 gate_is kind e = ap is_gate e
@@ -128,19 +157,19 @@ module _ (m : Choice) (ok : IsAccepted m) where
       reach m.layout.profile.opening_call (entry_gate m) call there
 
   -- direct transfers lead to units
-  leads : (k a target : ℕ) (u : U.Unit) → k < count m.layout.program → IsUnit m k (item_of m.layout.program k) a u → target_of u ≡ Some target →
+  leads : (k a target : ℕ) (u : U.Unit) → k < count m.layout.program → IsUnit m k a u → target_of u ≡ Some target →
       StartsIn m.layout.profile (units m) target
   leads k a target u below (lead_word j get here) e =
       let (o, at, same) = from_lead m k j u get in
       let wrong : None ≡ Some target = sym (lead_aims o) ∙ ap target_of same ∙ e in
       absurd (cc)
   leads k a target u below (own here unit_is) e =
-      let of : target_of (unit_for m k (item_of m.layout.program k)) ≡ Some target = sym (ap target_of unit_is) ∙ e in
+      let of : target_of (unit_here m k) ≡ Some target = sym (ap target_of unit_is) ∙ e in
       let aim = unit_target (item_of m.layout.program k).kind (instr_of m k) (whole_at m.whole k) (gate_to m.layout (item_of m.layout.program k).target)
-      (jump_word m.layout.closed.version) (site_label m.labels m.layout.closed.sides k) target (right m ok k below) of in
+      (jump_word m.layout.closed.version) (site_label m.labels m.layout.closed.sides k) (group_at m k) target (right m ok k below) of in
       let (t, some, there) = direct m ok k below aim.0 in
       let same : gate m.layout t ≡ target = ap (gate_to m.layout) (sym some) ∙ aim.1 in
-      subst (λ (b : ℕ). StartsIn m.layout.profile (units m) b) same (starts m ok t there)
+      subst (λ (b : ℕ). StartsIn m.layout.profile (units m) b) same (starts m ok t there (entered_first m ok.groups t (target_is_entered m k t below some)))
 
   labelled_sides : AreLabelled m.layout.closed.version m.labels m.layout.closed.sides
   labelled_sides = record { sorts = ok.sorts; counted = ok.counted; rising = ok.labels_rise; apart = ok.apart; site_classes = ok.site_classes }
@@ -150,16 +179,16 @@ module _ (m : Choice) (ok : IsAccepted m) where
       is_some (targets_for (written_classes m) site (word_read (jump_word m.layout.closed.version) site) (site_label m.labels m.layout.closed.sides k)) ≡ true
   site_given k site below some = ap is_some (sites_served m.layout.closed.version m.layout.gates m.labels m.layout.closed.sides labelled_sides k site (ok.sites k site below some))
 
-  site_served : (k a : ℕ) (u : U.Unit) (asked : Asks) → k < count m.layout.program → IsUnit m k (item_of m.layout.program k) a u → site_of (body u) ≡ Some asked →
+  site_served : (k a : ℕ) (u : U.Unit) (asked : Asks) → k < count m.layout.program → IsUnit m k a u → site_of (body u) ≡ Some asked →
       is_some (targets_for (written_classes m) asked.kind asked.which asked.label) ≡ true
   site_served k a u asked below (lead_word j get here) e =
       let (o, at, same) = from_lead m k j u get in
       let wrong : false ≡ true = sym (lead_asks o) ∙ ap (λ (v : U.Unit). is_some (site_of (body v))) same ∙ ap is_some e in
       absurd (cc)
   site_served k a u asked below (own here unit_is) e =
-      let of : site_of (body (unit_for m k (item_of m.layout.program k))) ≡ Some asked = sym (ap (λ (v : U.Unit). site_of (body v)) unit_is) ∙ e in
+      let of : site_of (body (unit_here m k)) ≡ Some asked = sym (ap (λ (v : U.Unit). site_of (body v)) unit_is) ∙ e in
       let (kind, site, same) = unit_site (item_of m.layout.program k).kind (instr_of m k) (whole_at m.whole k) (gate_to m.layout (item_of m.layout.program k).target)
-      (jump_word m.layout.closed.version) (site_label m.labels m.layout.closed.sides k) asked (right m ok k below) of in
+      (jump_word m.layout.closed.version) (site_label m.labels m.layout.closed.sides k) (group_at m k) asked (right m ok k below) of in
       subst (λ (s : Asks). is_some (targets_for (written_classes m) s.kind s.which s.label) ≡ true) same (site_given k kind below site)
 
   -- a member of a class is a place
@@ -169,6 +198,15 @@ module _ (m : Choice) (ok : IsAccepted m) where
       ok.members of.index of.number k of.side of.there
       (is_in of.side.classes of.number k t.class (in_classes of.side.classes of.side.sites of.number k t.class of.class_is there) there)
 
+  -- with a unit of its own, since it is a target
+  pub member_at : (j k : ℕ) (t : Tagged) → slice_get (tagged m.layout.closed.sides) j ≡ Some t → has k t.class ≡ true →
+      (k < count m.layout.program) × (is_later_at m k ≡ false)
+  member_at j k t get there =
+      let of = in_side m.layout.closed.sides j t get in
+      let class_there = in_classes of.side.classes of.side.sites of.number k t.class of.class_is there in
+      let target = any_get (is_target_of k) m.layout.closed.sides of.index of.side of.there (any_get (has k) of.side.classes of.number t.class class_there there) in
+      (member_there j k t get there, entered_first m ok.groups k (target_entered m k target))
+
   -- each target of a class bears its label
   gated : (j a : ℕ) (class : ClassLine) → option_and_then class_in (slice_get (written_classes m) j) ≡ Some class → IsTrue (is_among a class.targets) →
       Bears m.layout.profile (units m) (read_of class.sort) a class.label
@@ -177,7 +215,7 @@ module _ (m : Choice) (ok : IsAccepted m) where
       let below = ok.members at.index at.class at.place at.side at.there at.inside in
       let word : gate m.layout at.place + 4 * at.index ≡ a + past (read_of class.sort) =
       ap (λ (n : ℕ). n + 4 * at.index) at.gate_is ∙ ap (λ (n : ℕ). a + n) (sym at.word) in
-      bears m.layout.profile (units m) (read_of class.sort) a class.label (subst (StartsIn m.layout.profile (units m)) at.gate_is (starts m ok at.place below))
+      bears m.layout.profile (units m) (read_of class.sort) a class.label (subst (StartsIn m.layout.profile (units m)) at.gate_is (starts m ok at.place below (entered_first m ok.groups at.place (target_entered m at.place at.target))))
       (ap (unit_in (units m) m.layout.profile.units_from) (sym word)
       ∙ lead_there m ok at.place at.index (V.Gate class.label) below (to_lead m at.place at.index (Some class.label) at.target at.label))
 
@@ -190,11 +228,11 @@ module _ (m : Choice) (ok : IsAccepted m) where
       ∙ word_listed (read_of line.sort) (gate m.layout k) line.targets among
 
   -- and no `lui x0` of the program has a class's label
-  no_own : (k label : ℕ) (line : ClassLine) → k < count m.layout.program → unit_for m k (item_of m.layout.program k) ≡ V.Gate label →
+  no_own : (k label : ℕ) (line : ClassLine) → k < count m.layout.program → unit_here m k ≡ V.Gate label →
       class_with (written_classes m) label ≡ Some line → ⊥
   no_own k label line below e asked =
       let (kind, (op, rd, instr)) = unit_gate (item_of m.layout.program k).kind (instr_of m k) (whole_at m.whole k) (gate_to m.layout (item_of m.layout.program k).target)
-      (jump_word m.layout.closed.version) (site_label m.labels m.layout.closed.sides k) label (right m ok k below) e in
+      (jump_word m.layout.closed.version) (site_label m.labels m.layout.closed.sides k) (group_at m k) label (right m ok k below) e in
       let some = no_end (item_of m.layout.program k).kind kind in
       let read = subst (λ (x : ItemKind). is_of x (item_of m.layout.program k).patch (decoded (item_of m.layout.program k).word) ≡ true) kind (read_there m.layout.program k ok.sound below some) in
       let number = gate_number m.layout.program m.layout.gates (words_at m.layout) k op rd label (ok.words k below) read
@@ -206,7 +244,7 @@ module _ (m : Choice) (ok : IsAccepted m) where
       let label_is : slice_index m.labels index ≡ label = get_or_from_slice_get m.labels index label 0 label_at in
       (ok.labels index there).free (inl (subst (λ (n : ℕ). Contains (used_labels m.layout.program) n) (sym number ∙ sym label_is) used))
 
-  strays : (k label a : ℕ) (line : ClassLine) → k < count m.layout.program → IsUnit m k (item_of m.layout.program k) a (V.Gate label) → class_with (written_classes m) label ≡ Some line →
+  strays : (k label a : ℕ) (line : ClassLine) → k < count m.layout.program → IsUnit m k a (V.Gate label) → class_with (written_classes m) label ≡ Some line →
       IsTrue (is_word_of (read_of line.sort) a line.targets)
   strays k label a line below (lead_word j get here) asked =
       let (o, at, same) = from_lead m k j (V.Gate label) get in
@@ -214,25 +252,28 @@ module _ (m : Choice) (ok : IsAccepted m) where
   strays k label a line below (own here unit_is) asked = absurd (no_own k label line below (sym unit_is) asked)
 
   -- each unit is of the graph's version
-  admitted : (k a : ℕ) (u : U.Unit) → k < count m.layout.program → IsUnit m k (item_of m.layout.program k) a u → IsTrue (is_of_version m.layout.closed.version u)
+  admitted : (k a : ℕ) (u : U.Unit) → k < count m.layout.program → IsUnit m k a u → IsTrue (is_of_version m.layout.closed.version u)
   admitted k a u below (lead_word j get here) =
       let (o, at, same) = from_lead m k j u get in
       subst (λ (v : U.Unit). is_of_version m.layout.closed.version v ≡ true) same (lead_admitted m.layout.closed.version o)
   admitted k a u below (own here unit_is) =
       subst (λ (v : U.Unit). is_of_version m.layout.closed.version v ≡ true) (sym unit_is)
       (unit_admitted m.layout.closed.version (item_of m.layout.program k).kind (instr_of m k) (whole_at m.whole k) (gate_to m.layout (item_of m.layout.program k).target)
-      (site_label m.labels m.layout.closed.sides k) (right m ok k below))
+      (site_label m.labels m.layout.closed.sides k) (group_at m k) (right m ok k below))
 
   -- the last unit is a stop
   last_stops : last_or None (units m) ≡ Some V.Stop
   last_stops =
       let (n, counted, ends) = ok.last in
       let below : n < count m.layout.program = omega arith in
-      let first : 0 + n ≡ n = omega arith in
-      last_units m 0 m.layout.program.items None n (item_of m.layout.program n) (slice_get-get_or m.layout.program.items n no_item below) counted
-      ∙ ap (λ (k : ℕ). Some (unit_for m k (item_of m.layout.program n))) first
+      let start : 0 + n ≡ n = omega arith in
+      let many : count m.layout.program ≡ suc n = omega arith in
+      let first = other_first m n (end_stores_none (item_of m.layout.program n).kind ends) in
+      ap (λ (c : ℕ). last_or None (units_of m (unit_places m 0 c))) many
+      ∙ last_unit m 0 n None (subst (λ (j : ℕ). is_later_at m j ≡ false) (sym start) first)
+      ∙ ap (λ (k : ℕ). Some (unit_here m k)) start
       ∙ ap Some (end_stops (item_of m.layout.program n).kind (instr_of m n) (whole_at m.whole n) (gate_to m.layout (item_of m.layout.program n).target)
-      (jump_word m.layout.closed.version) (site_label m.labels m.layout.closed.sides n) ends)
+      (jump_word m.layout.closed.version) (site_label m.labels m.layout.closed.sides n) (group_at m n) ends)
 
   sound_code : IsSound m.layout.profile m.layout.closed.version (entry_gate m) (units m) (written_classes m)
   sound_code = record {
@@ -240,7 +281,7 @@ module _ (m : Choice) (ok : IsAccepted m) where
     ahead = units_ahead m ok;
     of_version = λ a u e. let at = found m ok a u e in admitted at.index a u at.below at.unit;
     entry_reached = entry_reached;
-    entry_starts = starts m ok m.layout.entry ok.entry_there;
+    entry_starts = starts m ok m.layout.entry ok.entry_there (entered_first m ok.groups m.layout.entry (entry_entered m));
     targets = λ a target u e leads_to. let at = found m ok a u e in leads at.index a target u at.below at.unit leads_to;
     classes_are = all_classes_lines m.layout.gates m.labels (tagged m.layout.closed.sides);
     labels = λ a u asked e wants. let at = found m ok a u e in site_served at.index a u asked at.below at.unit wants;

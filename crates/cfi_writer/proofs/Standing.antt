@@ -1,33 +1,40 @@
--- What is accepted, place by place: the instruction of each is of its kind and in range, its unit stands at its word and the words
--- before that at its gate, nothing else stands in the code, and all of it lies in the region of code.
-use Rattle.std.proofs.Common.{◌≡◌, ℕ, suc, ◌+◌, ◌*◌, ◌%◌, ◌≤◌, ◌<◌, inl, inr, true, false, List, [], length, Option, Some, sym, ap, subst, ◌∙◌, arith, unwrap_or}
-use Rattle.std.specs.Prelude.{◌&&◌, not, is_some, slice_get}
-use Rattle.std.proofs.lemmas.Bool.{and_from, cases_Bool, not_from_false, or_left, or_right}
-use Rattle.std.proofs.lemmas.Option.{get_or_from_slice_get, slice_get-get_or, slice_get_within}
+-- What is accepted, place by place: the instruction of each is of its kind and in range, the unit of each that has one stands at its word
+-- and the words before that at its gate, nothing else stands in the code, and all of it lies in the region of code.
+use Rattle.std.proofs.Common.{◌≡◌, ℕ, zero, suc, ◌+◌, ◌*◌, ◌%◌, ◌≤◌, ◌<◌, inl, inr, Bool, true, false, List, [], length, Option, Some, refl, sym, ap, subst, ◌∙◌, arith, unwrap_or}
+use Rattle.std.specs.Prelude.{◌&&◌, not, is_some, slice_get, sum}
+use Rattle.std.proofs.lemmas.Bool.{and_from, cases_Bool, cases_eq, not_from_false, or_left, or_right}
+use Rattle.std.proofs.lemmas.Option.{slice_get_within}
 use Rattle.rv_word.specs.MemoryMap.{CODE_SIZE, CODE_START}
 use Rattle.rv_word.proofs.Cases.{cases_Option}
 use Rattle.rv_word.proofs.Versions.{LaidOut, laid_out}
 use Rattle.rv_instr.specs.InRange.{IsInstr}
 use Rattle.rv_instr.specs.declared.instr.Instr.{Instr}
 use Rattle.rv_instr.specs.declared.instr.Instr.TheVariants as I
-use Rattle.obj_program.specs.declared.item.Item.{Item}
+use Rattle.obj_input.specs.declared.item_kind.ItemKind.{ItemKind}
+use Rattle.obj_input.specs.declared.item_kind.ItemKind.TheVariants as is
 use Rattle.obj_program.specs.AtMap.{instr_at}
-use Rattle.obj_program.specs.Program.{count, is_end, item_of, no_item}
+use Rattle.obj_program.specs.Program.{count, is_end, item_of}
 use Rattle.obj_program.specs.Suits.{names_reserved, suits}
 use Rattle.obj_program.proofs.Kept.{kept}
 use Rattle.cfi_map.specs.GraphAtMap.{gate, word, words_at}
-use Rattle.cfi_map.specs.Placement.{whole_at, size_of}
+use Rattle.cfi_map.specs.Groups.{is_store}
+use Rattle.cfi_map.specs.Placement.{lead_size, size_of, whole_at}
+use Rattle.cfi_map.specs.Sizes.{part_sizes}
+use Rattle.cfi_map.proofs.PartSizes.{unit_many}
 use Rattle.cfi_unit.specs.declared.unit.Unit as U
 use Rattle.cfi_unit.specs.UnitWords.{word_count}
+use Rattle.cfi_rules.specs.Placed.{code_from}
 use Rattle.cfi_rules.specs.Sound.{StartsIn}
 use Rattle.cfi_rules.specs.Split.{unit_in}
-use Rattle.cfi_unit.proofs.Counts.{some_word}
 use Rattle.cfi_rules.proofs.UnitIn.{length-placed_code, lies}
 use Rattle.cfi_writer.specs.Accepted.{IsAccepted}
-use Rattle.cfi_writer.specs.Units.{Choice, entry_gate, instr_of, lead, lead_unit, unit_for, units}
+use Rattle.cfi_writer.specs.Units.{Choice, behind, entry_gate, instr_of, is_later_at, lead, lead_unit, unit_here, unit_places, units}
+use Rattle.cfi_writer.proofs.CodeRoom.{run_bytes, sized, whole_run}
+use Rattle.cfi_writer.proofs.GateSteps.{next_from, within}
+use Rattle.cfi_writer.proofs.Grouping.{first_behind, later_behind, no_first_later, none_behind, one_later, other_first, store_before, whole_first}
 use Rattle.cfi_writer.proofs.InstrAt.{instr_there}
-use Rattle.cfi_writer.proofs.Runs.{IsUnit, Run, found_at, lead_bytes, lead_cases, lead_sized, lead_stands, legal_run, next_gate, run_rises, stands_at}
-use Rattle.cfi_writer.proofs.UnitOf.{is_right, unit_size}
+use Rattle.cfi_writer.proofs.Runs.{IsUnit, Run, found_at, later_size, lead_bytes, lead_cases, lead_sized, lead_stands, place_among, place_there, stands_at}
+use Rattle.cfi_writer.proofs.UnitOf.{is_right}
 
 -- where a unit of the code may lie, the first of which stands at an address
 pub record IsIn (first a : ℕ) (u : U.Unit) : Type 0 where
@@ -39,10 +46,22 @@ pub record IsIn (first a : ℕ) (u : U.Unit) : Type 0 where
 pub record Place (m : Choice) (a : ℕ) (u : U.Unit) : Type 0 where
   pub index : ℕ
   pub below : index < count m.layout.program
-  pub unit : IsUnit m index (item_of m.layout.program index) a u
+  pub first : is_later_at m index ≡ false
+  pub unit : IsUnit m index a u
 
-no_more : (n : ℕ) → n ≡ 0 + n
-no_more n = omega arith
+-- a later store's place, so many behind the first of its group
+pub record Behind (m : Choice) (k : ℕ) : Type 0 where
+  pub first : ℕ
+  pub index : ℕ
+  pub place : k ≡ first + index
+  pub some : 1 ≤ index
+  pub inside : index ≤ behind m first
+  pub store : is_store (item_of m.layout.program first).kind ≡ true
+  pub is_first : is_later_at m first ≡ false
+
+first_size : (kind : ItemKind) (whole : Bool) → is_store kind ≡ true → whole ≡ true → size_of kind whole ≡ 16
+first_size is.Store whole store is_whole = rw is_whole refl
+first_size other whole store is_whole = absurd (cc)
 
 module _ (m : Choice) (ok : IsAccepted m) where
   -- where the parts of its image stand
@@ -71,35 +90,38 @@ module _ (m : Choice) (ok : IsAccepted m) where
             (and_from (suits (item_of m.layout.program k).kind (instr_of m k)) (not (names_reserved (instr_of m k))) is.0 (not_from_false (names_reserved (instr_of m k)) is.1))
       ]
 
-  item_there : (k : ℕ) → k < count m.layout.program → slice_get m.layout.program.items k ≡ Some (item_of m.layout.program k)
-  item_there k below = slice_get-get_or m.layout.program.items k no_item below
+  pub the_run : Run m m.layout.profile.units_from (unit_places m 0 (count m.layout.program))
+      (m.layout.profile.units_from + sum (part_sizes m.layout.closed.sides m.whole 0 m.layout.program.items))
+  the_run = whole_run m ok.sound ok.values ok.groups m.layout.gates refl ok.legal
 
-  item_is : (k : ℕ) (item : Item) → slice_get m.layout.program.items k ≡ Some item → item_of m.layout.program k ≡ item
-  item_is k item get = get_or_from_slice_get m.layout.program.items k item no_item get
+  -- how the code ends
+  whole_bytes : m.layout.profile.units_from + 4 * length (code_from m.layout.profile.units_from (units m))
+      ≡ m.layout.profile.units_from + sum (part_sizes m.layout.closed.sides m.whole 0 m.layout.program.items)
+  whole_bytes = run_bytes m m.layout.profile.units_from _ (unit_places m 0 (count m.layout.program)) the_run
 
-  pub size_right : (k : ℕ) (item : Item) → slice_get m.layout.program.items k ≡ Some item → size_of item.kind (whole_at m.whole k) ≡ 4 * word_count (unit_for m k item)
-  size_right k item get =
-      let below : k < count m.layout.program = slice_get_within m.layout.program.items k item get in
-      let of : is_right item.kind (instr_of m k) ≡ true = subst (λ (x : Item). is_right x.kind (instr_of m k) ≡ true) (item_is k item get) (right k below) in
-      unit_size item.kind (instr_of m k) (whole_at m.whole k) _ _ _ of
+  pub unit_there : (k : ℕ) → k < count m.layout.program → is_later_at m k ≡ false →
+      unit_in (units m) m.layout.profile.units_from (word m.layout k) ≡ Some (unit_here m k)
+  unit_there k below first =
+      let (i, get) = place_among m 0 (count m.layout.program) k (omega arith) (omega arith) first in
+      stands_at m m.layout.profile.units_from _ (unit_places m 0 (count m.layout.program)) i k the_run get
 
-  pub the_run : Run m 0 m.layout.profile.units_from m.layout.program.items
-  the_run =
-      legal_run m 0 m.layout.profile.units_from m.layout.program.items m.layout.gates (λ i. ap (gate m.layout) (sym (no_more i)))
-      (λ i item get. subst (λ (n : ℕ). size_of item.kind (whole_at m.whole n) ≡ 4 * word_count (unit_for m n item)) (no_more i) (size_right i item get)) ok.legal
-
-  pub unit_there : (k : ℕ) → k < count m.layout.program →
-      unit_in (units m) m.layout.profile.units_from (word m.layout k) ≡ Some (unit_for m k (item_of m.layout.program k))
-  unit_there k below =
-      subst (λ (n : ℕ). unit_in (units m) m.layout.profile.units_from (word m.layout n) ≡ Some (unit_for m n (item_of m.layout.program k))) (sym (no_more k))
-      (stands_at m 0 m.layout.profile.units_from m.layout.program.items k (item_of m.layout.program k) the_run (item_there k below))
+  -- words stand before no later store
+  pub led_first : (k j : ℕ) (u : U.Unit) → slice_get (lead m k) j ≡ Some u → is_later_at m k ≡ false
+  led_first k j u some =
+      elim (cases_Bool (is_later_at m k)) [
+        | inr first ↦ first
+        | inl later ↦
+            let within = slice_get_within (lead m k) j u some in
+            let bytes = lead_sized m k in
+            let none = (sized m ok.sound ok.values ok.groups).later k later in
+            absurd (omega arith)
+      ]
 
   pub lead_there : (k j : ℕ) (u : U.Unit) → k < count m.layout.program → slice_get (lead m k) j ≡ Some u →
       unit_in (units m) m.layout.profile.units_from (gate m.layout k + 4 * j) ≡ Some u
   lead_there k j u below some =
-      ap (λ (n : ℕ). unit_in (units m) m.layout.profile.units_from (gate m.layout n + 4 * j)) (no_more k)
-      ∙ lead_stands m 0 m.layout.profile.units_from m.layout.program.items k j (item_of m.layout.program k) u the_run (item_there k below)
-      (ap (λ (n : ℕ). slice_get (lead m n) j) (sym (no_more k)) ∙ some)
+      let (i, get) = place_among m 0 (count m.layout.program) k (omega arith) (omega arith) (led_first k j u some) in
+      lead_stands m m.layout.profile.units_from _ (unit_places m 0 (count m.layout.program)) i k j u the_run get some
 
   pub word_is : (k : ℕ) → word m.layout k ≡ gate m.layout k + lead_bytes m k
   word_is k = ap (λ n. gate m.layout k + n) (lead_sized m k)
@@ -111,30 +133,25 @@ module _ (m : Choice) (ok : IsAccepted m) where
       let behind = word_is k in
       omega arith
 
-  -- a unit starts at each gate
-  pub gate_starts : (k : ℕ) → k < count m.layout.program → (u : U.Unit) × (unit_in (units m) m.layout.profile.units_from (gate m.layout k) ≡ Some u)
-  gate_starts k below =
+  -- a unit starts at the gate of each place that has one of its own
+  pub gate_starts : (k : ℕ) → k < count m.layout.program → is_later_at m k ≡ false → (u : U.Unit) × (unit_in (units m) m.layout.profile.units_from (gate m.layout k) ≡ Some u)
+  gate_starts k below first =
       elim (lead_cases m k) [
-        | inl (none, other) ↦ (unit_for m k (item_of m.layout.program k), ap (unit_in (units m) m.layout.profile.units_from) (sym (at_gate k none)) ∙ unit_there k below)
+        | inl (none, other) ↦ (unit_here m k, ap (unit_in (units m) m.layout.profile.units_from) (sym (at_gate k none)) ∙ unit_there k below first)
         | inr (o, some) ↦
-            let first : gate m.layout k ≡ gate m.layout k + 4 * 0 = omega arith in
-            (lead_unit o, ap (unit_in (units m) m.layout.profile.units_from) first ∙ lead_there k 0 (lead_unit o) below some)
+            let start : gate m.layout k ≡ gate m.layout k + 4 * 0 = omega arith in
+            (lead_unit o, ap (unit_in (units m) m.layout.profile.units_from) start ∙ lead_there k 0 (lead_unit o) below some)
       ]
 
-  pub starts : (k : ℕ) → k < count m.layout.program → StartsIn m.layout.profile (units m) (gate m.layout k)
-  starts k below = let (u, e) = gate_starts k below in ap is_some e
+  pub starts : (k : ℕ) → k < count m.layout.program → is_later_at m k ≡ false → StartsIn m.layout.profile (units m) (gate m.layout k)
+  starts k below first = let (u, e) = gate_starts k below first in ap is_some e
 
   -- what starts in the code is a place's
   pub found : (a : ℕ) (u : U.Unit) → unit_in (units m) m.layout.profile.units_from a ≡ Some u → Place m a u
   found a u e =
-      let at = found_at m 0 m.layout.profile.units_from m.layout.program.items a u the_run e in
-      record {
-        index = at.index;
-        below = slice_get_within m.layout.program.items at.index at.item at.there;
-        unit =
-            subst (λ (x : Item). IsUnit m at.index x a u) (sym (item_is at.index at.item at.there))
-            (subst (λ (n : ℕ). IsUnit m n at.item a u) (sym (no_more at.index)) at.unit);
-      }
+      let at = found_at m m.layout.profile.units_from _ (unit_places m 0 (count m.layout.program)) a u the_run e in
+      let (from, to, first) = place_there m 0 (count m.layout.program) at.index at.place at.there in
+      record { index = at.place; below = omega arith; first = first; unit = at.unit }
 
   pub unit_lies : (a : ℕ) (u : U.Unit) → unit_in (units m) m.layout.profile.units_from a ≡ Some u → IsIn m.layout.profile.units_from a u
   unit_lies a u e =
@@ -149,23 +166,117 @@ module _ (m : Choice) (ok : IsAccepted m) where
 
   pub gate_lies : (k : ℕ) → k < count m.layout.program → (m.layout.profile.units_from ≤ gate m.layout k) × (gate m.layout k + 4 ≤ CODE_START + CODE_SIZE) × (gate m.layout k % 4 ≡ 0)
   gate_lies k below =
-      let (u, e) = gate_starts k below in
-      let at = unit_lies (gate m.layout k) u e in
-      let from = at.from in
-      let to = at.to in
-      let some = some_word u in
-      (from, omega arith, at.round)
+      let at = within m.layout.closed.sides m.whole 0 m.layout.profile.units_from m.layout.program.items m.layout.gates ok.legal k below in
+      let low = at.low in
+      let high = at.high in
+      let all = whole_bytes in
+      let whole = length-placed_code m.layout.profile ok.profile (entry_gate m) (units m) in
+      let room = ok.room in
+      (low, omega arith, at.round laid.round)
+
+  -- the next gate stands behind the size of a place
+  pub next_gate : (k : ℕ) → k + 1 < count m.layout.program →
+      gate m.layout (k + 1) ≡ word m.layout k + size_of (item_of m.layout.program k).kind (whole_at m.whole k)
+  next_gate k below =
+      let next : suc k ≡ k + 1 = omega arith in
+      let start : 0 + k ≡ k = omega arith in
+      ap (gate m.layout) (sym next)
+      ∙ next_from m.layout.closed.sides m.whole 0 m.layout.profile.units_from m.layout.program.items m.layout.gates ok.legal k (omega arith)
+      ∙ ap (λ (n : ℕ). gate m.layout k + lead_size m.layout.closed.sides n + size_of (item_of m.layout.program k).kind (whole_at m.whole n)) start
+
+  step_up : (k : ℕ) → k + 1 < count m.layout.program → gate m.layout k < gate m.layout (k + 1)
+  step_up k below =
+      let next = next_gate k below in
+      let some = unit_many (item_of m.layout.program k).kind (whole_at m.whole k) in
+      omega arith
 
   pub gates_rise : (i j : ℕ) → i < j → j < count m.layout.program → gate m.layout i < gate m.layout j
-  gates_rise i j less below =
-      subst (λ (n : ℕ). gate m.layout n < gate m.layout j) (sym (no_more i))
-      (subst (λ (n : ℕ). gate m.layout (0 + i) < gate m.layout n) (sym (no_more j)) (run_rises m 0 m.layout.profile.units_from m.layout.program.items i j the_run less below))
+  gates_rise i zero less below = absurd (omega arith)
+  gates_rise i (suc j) less below =
+      let next : j + 1 ≡ suc j = omega arith in
+      let up : gate m.layout j < gate m.layout (suc j) = subst (λ (n : ℕ). gate m.layout j < gate m.layout n) next (step_up j (omega arith)) in
+      elim (cases_eq i j) [
+        | inl same ↦ subst (λ (n : ℕ). gate m.layout n < gate m.layout (suc j)) (sym same) up
+        | inr apart ↦ let before = gates_rise i j (omega arith) (omega arith) in omega arith
+      ]
 
-  pub gate_after : (k : ℕ) → k + 1 < count m.layout.program →
-      gate m.layout (k + 1) ≡ word m.layout k + 4 * word_count (unit_for m k (item_of m.layout.program k))
-  gate_after k below =
-      let there : k < count m.layout.program = omega arith in
-      let next : 0 + suc k ≡ k + 1 = omega arith in
-      ap (gate m.layout) (sym next)
-      ∙ next_gate m 0 m.layout.profile.units_from m.layout.program.items k (item_of m.layout.program k) the_run (item_there k there) (omega arith)
-      ∙ ap (λ (n : ℕ). word m.layout n + 4 * word_count (unit_for m n (item_of m.layout.program k))) (sym (no_more k))
+  -- a later store's word is its gate
+  pub later_word : (k : ℕ) → is_later_at m k ≡ true → word m.layout k ≡ gate m.layout k
+  later_word k later = let none = (sized m ok.sound ok.values ok.groups).later k later in omega arith
+
+  -- the gates behind the stores of a group
+  pub group_gate : (k i : ℕ) → is_store (item_of m.layout.program k).kind ≡ true → is_later_at m k ≡ false → i ≤ behind m k → k + (i + 1) < count m.layout.program →
+      gate m.layout (k + (i + 1)) ≡ word m.layout k + 4 * (4 + i)
+  group_gate k zero store first few below =
+      let start : k + (0 + 1) ≡ k + 1 = omega arith in
+      let next = next_gate k (omega arith) in
+      let whole = whole_first m k store first in
+      let size : size_of (item_of m.layout.program k).kind (whole_at m.whole k) ≡ 16 = first_size (item_of m.layout.program k).kind (whole_at m.whole k) store whole in
+      ap (gate m.layout) start ∙ omega arith
+  group_gate k (suc i) store first few below =
+      let before = group_gate k i store first (omega arith) (omega arith) in
+      let later : is_later_at m (k + (i + 1)) ≡ true = later_behind m k (i + 1) (omega arith) (omega arith) in
+      let last : k + (suc i + 1) ≡ k + (i + 1) + 1 = omega arith in
+      let next = next_gate (k + (i + 1)) (omega arith) in
+      let word_is = later_word (k + (i + 1)) later in
+      let four = later_size m (k + (i + 1)) later in
+      ap (gate m.layout) last ∙ omega arith
+
+  -- behind a place's unit the next place with one has its gate
+  pub gate_after : (k : ℕ) → is_later_at m k ≡ false → k + (behind m k + 1) < count m.layout.program →
+      gate m.layout (k + (behind m k + 1)) ≡ word m.layout k + 4 * word_count (unit_here m k)
+  gate_after k first below =
+      let size = (sized m ok.sound ok.values ok.groups).first k (omega arith) first in
+      elim (cases_Bool (is_store (item_of m.layout.program k).kind)) [
+        | inl store ↦
+            let last = group_gate k (behind m k) store first (omega arith) below in
+            let whole = first_size (item_of m.layout.program k).kind (whole_at m.whole k) store (whole_first m k store first) in
+            omega arith
+        | inr other ↦
+            let none = none_behind m ok.groups k other in
+            let one : k + (behind m k + 1) ≡ k + 1 = omega arith in
+            let next = next_gate k (omega arith) in
+            ap (gate m.layout) one ∙ omega arith
+      ]
+
+  -- behind what is no store that is the next place
+  pub next_after : (k : ℕ) → is_store (item_of m.layout.program k).kind ≡ false → k + 1 < count m.layout.program →
+      gate m.layout (k + 1) ≡ word m.layout k + 4 * word_count (unit_here m k)
+  next_after k other below =
+      let none = none_behind m ok.groups k other in
+      let one : k + (behind m k + 1) ≡ k + 1 = omega arith in
+      ap (gate m.layout) (sym one) ∙ gate_after k (other_first m k other) (omega arith)
+
+  -- each later store stands behind the first of its group
+  pub leader : (k : ℕ) → is_later_at m k ≡ true → Behind m k
+  leader zero later = let wrong : true ≡ false = sym later ∙ no_first_later m ok.groups in absurd (cc)
+  leader (suc k) later =
+      let store = store_before m ok.groups k later in
+      let next : suc k ≡ k + 1 = omega arith in
+      let here : is_later_at m (k + 1) ≡ true = subst (λ (n : ℕ). is_later_at m n ≡ true) next later in
+      elim (cases_Bool (is_later_at m k)) [
+        | inr first ↦
+            let one = one_later m (k + 1) here in
+            record { first = k; index = 1; place = next; some = omega arith; inside = omega arith; store = store; is_first = first }
+        | inl before ↦
+            let at = leader k before in
+            let place = at.place in
+            let some = at.some in
+            let few = at.inside in
+            record {
+              first = at.first;
+              index = at.index + 1;
+              place = omega arith;
+              some = omega arith;
+              inside = elim (cases_eq at.index (behind m at.first)) [
+                | inl last ↦
+                    let stop : is_later_at m (at.first + (behind m at.first + 1)) ≡ false = first_behind m at.first in
+                    let same : at.first + (behind m at.first + 1) ≡ suc k = omega arith in
+                    let wrong : true ≡ false = sym later ∙ subst (λ (n : ℕ). is_later_at m n ≡ false) same stop in
+                    absurd (cc)
+                | inr less ↦ omega arith
+              ];
+              store = at.store;
+              is_first = at.is_first;
+            }
+      ]

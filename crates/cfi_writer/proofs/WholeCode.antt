@@ -1,10 +1,12 @@
 -- What is written: its lines are those of its units, it is a graph's and well formed with it, and its units stand in its words.
-use Rattle.std.proofs.Common.{◌≡◌, ℕ, suc, ◌+◌, ◌*◌, ◌%◌, ◌^◌, ◌<◌, ◌==◌, inl, inr, Bool, true, List, [], ◌∷◌, ◌++◌, length, map, Option, Some, None, refl, sym, ap, subst, ◌∙◌, arith}
+use Rattle.std.proofs.Common.{◌≡◌, ℕ, suc, ◌+◌, ◌-◌, ◌*◌, ◌%◌, ◌^◌, ◌<◌, ◌==◌, inl, inr, Bool, true, List, [], ◌∷◌, ◌++◌, length, map, get_or, Option, Some, None, refl, sym, ap, subst, ◌∙◌, arith}
 use Rattle.std.specs.Prelude.{◌&&◌, ◌||◌, if◌then◌else◌, nat_le, nat_lt, slice_get, slice_index}
 use Rattle.std.specs.List.Sorted.{IsStrictlyIncreasing}
 use Rattle.std.proofs.lemmas.Bool.{and_from, cases_Bool, eq-eqb, le-leb, lt-ltb, or_left, or_right}
 use Rattle.std.proofs.lemmas.Option.{get_or_from_slice_get, slice_get_within}
 use Rattle.rv_word.specs.MemoryMap.{CODE_SIZE, CODE_START, START}
+use Rattle.obj_input.specs.declared.item_kind.ItemKind.{ItemKind}
+use Rattle.obj_input.specs.declared.item_kind.ItemKind.TheVariants as is
 use Rattle.obj_program.specs.declared.item.Item.{Item}
 use Rattle.obj_program.specs.Program.{count, item_of, no_item}
 use Rattle.rv_word.specs.Image.{IsVersion}
@@ -13,7 +15,8 @@ use Rattle.cfi_graph.specs.declared.line.GraphLine.{GraphLine}
 use Rattle.cfi_graph.specs.declared.line.GraphLine.TheVariants.{Call}
 use Rattle.cfi_closed.specs.Closed.{Side, is_target}
 use Rattle.cfi_class.specs.Classes.{has}
-use Rattle.cfi_map.specs.GraphAtMap.{gate, gate_to, graph_lines, line_for, place_lines, word}
+use Rattle.cfi_map.specs.GraphAtMap.{gate, gate_to, graph_lines, line_for, line_of_kind, place_lines, with_line, word}
+use Rattle.cfi_map.specs.Groups.{is_store}
 use Rattle.cfi_map.specs.LabelOf.{Tagged, all_classes, labels_of, site_label, tagged}
 use Rattle.cfi_map.specs.Placement.{whole_at}
 use Rattle.cfi_unit.specs.declared.unit.Unit as U
@@ -28,13 +31,14 @@ use Rattle.cfi_unit.proofs.Counts.{some_word}
 use Rattle.cfi_rules.proofs.UnitIn.{length-placed_code, lies}
 use Rattle.cfi_writer.specs.Accepted.{IsAccepted}
 use Rattle.cfi_writer.specs.Laws.{WrittenEntry, WrittenIsGraph, WrittenIsWellFormed, WrittenLines, WrittenUnits, written_classes, written_code}
-use Rattle.cfi_writer.specs.Units.{Choice, entry_gate, instr_of, lead, lead_unit, unit_for, units, units_from}
+use Rattle.cfi_writer.specs.Units.{Choice, entry_gate, group_at, instr_of, is_later_at, lead, lead_unit, unit_here, unit_places, units, units_of}
+use Rattle.cfi_writer.proofs.Grouping.{later_below, later_store}
 use Rattle.cfi_writer.proofs.ClassLines.{lines_of_version, lines_order, lines_range, lines_targets}
 use Rattle.cfi_writer.proofs.Leading.{label_small, units_ahead, units_fit}
-use Rattle.cfi_writer.proofs.Runs.{Run, lead_bytes}
+use Rattle.cfi_writer.proofs.Runs.{Run, lead_bytes, place_there, places_more, places_skip}
 use Rattle.cfi_writer.proofs.SideLabels.{in_classes, in_side, sort_fits, sort_get}
-use Rattle.cfi_writer.proofs.SoundCode.{member_there, written_sound}
-use Rattle.cfi_writer.proofs.Standing.{gate_starts, gates_rise, laid, lead_there, right, the_run, unit_there}
+use Rattle.cfi_writer.proofs.SoundCode.{member_at, member_there, written_sound}
+use Rattle.cfi_writer.proofs.Standing.{gate_starts, gates_rise, group_gate, laid, later_word, lead_there, leader, right, the_run, unit_there}
 use Rattle.cfi_writer.proofs.UnitOf.{is_right, unit_line}
 
 known_version : (version : ℕ) → IsVersion version → (version == 1 || version == 2) ≡ true
@@ -66,36 +70,67 @@ lines_behind m k at us =
           ∙ ap (λ (b : Bool). lines_from (at + 4 * length (if b then map lead_unit (labels_of m.labels m.layout.closed.sides k) else [])) us) (sym other)
     ]
 
-run_lines : (m : Choice) (k at : ℕ) (items : List Item) → Run m k at items →
-    ((i : ℕ) (item : Item) → slice_get items i ≡ Some item → is_right item.kind (instr_of m (k + i)) ≡ true) →
-    lines_from at (units_from m k items) ≡ place_lines m.layout m.labels k items
-unfolding Run units_from lines_from place_lines
-run_lines m k at [] run right = refl
-run_lines m k at (item ∷ items) run right =
-    let first : k + 0 ≡ k = omega arith in
+-- the lines of these places
+unfoldable listed : Choice → List ℕ → List GraphLine
+listed m [] = []
+listed m (k ∷ places) = with_line (line_for m.layout m.labels k (item_of m.layout.program k)) (listed m places)
+
+run_lines : (m : Choice) (at last : ℕ) (places : List ℕ) → Run m at places last →
+    ((i k : ℕ) → slice_get places i ≡ Some k → is_right (item_of m.layout.program k).kind (instr_of m k) ≡ true) →
+    lines_from at (units_of m places) ≡ listed m places
+unfolding Run units_of lines_from listed
+run_lines m at last [] run right = refl
+run_lines m at last (k ∷ places) run right =
+    let line : line_of (at + lead_bytes m k) (unit_here m k) ≡ line_for m.layout m.labels k (item_of m.layout.program k) =
+    ap (λ a. line_of a (unit_here m k)) (sym run.1)
+    ∙ unit_line (item_of m.layout.program k).kind (instr_of m k) (whole_at m.whole k) (word m.layout k) (gate_to m.layout (item_of m.layout.program k).target)
+    (jump_word m.layout.closed.version) (site_label m.labels m.layout.closed.sides k) (group_at m k) (right 0 k refl) in
+    let rest = run_lines m (at + lead_bytes m k + 4 * word_count (unit_here m k)) last places run.2 (λ i j get. right (suc i) j get) in
+    lines_behind m k at (unit_here m k ∷ units_of m places) ∙ rw (line, rest) refl
+
+-- a store has no line
+store_line : (kind : ItemKind) (at target label : ℕ) → is_store kind ≡ true → line_of_kind kind at target label ≡ None
+store_line is.Store at target label store = refl
+store_line other at target label store = absurd (cc)
+
+all_listed : (m : Choice) (k : ℕ) (items : List Item) → ((i : ℕ) → i < length items → item_of m.layout.program (k + i) ≡ get_or items i no_item) →
+    place_lines m.layout m.labels k items ≡ listed m (unit_places m k (length items))
+unfolding place_lines listed
+all_listed m k [] are = refl
+all_listed m k (item ∷ items) are =
+    let start : k + 0 ≡ k = omega arith in
     let next : (i : ℕ) → k + 1 + i ≡ k + suc i = λ i. omega arith in
-    let here : is_right item.kind (instr_of m k) ≡ true = ap (λ n. is_right item.kind (instr_of m n)) (sym first) ∙ right 0 item refl in
-    let line : line_of (at + lead_bytes m k) (unit_for m k item) ≡ line_for m.layout m.labels k item =
-    ap (λ a. line_of a (unit_for m k item)) (sym run.1)
-    ∙ unit_line item.kind (instr_of m k) (whole_at m.whole k) (word m.layout k) (gate_to m.layout item.target) (jump_word m.layout.closed.version)
-    (site_label m.labels m.layout.closed.sides k) here in
-    let rest = run_lines m (k + 1) (at + lead_bytes m k + 4 * word_count (unit_for m k item)) items run.2
-    (λ i one get. ap (λ n. is_right one.kind (instr_of m n)) (next i) ∙ right (suc i) one get) in
-    lines_behind m k at (unit_for m k item ∷ units_from m (k + 1) items) ∙ rw (line, rest) refl
+    let item_is : item_of m.layout.program k ≡ item = ap (item_of m.layout.program) (sym start) ∙ are 0 (omega arith) in
+    let rest = all_listed m (k + 1) items (λ i less. ap (item_of m.layout.program) (next i) ∙ are (suc i) (omega arith)) in
+    elim (cases_Bool (is_later_at m k)) [
+      | inl later ↦
+          let none : line_for m.layout m.labels k item ≡ None =
+          ap (λ (x : Item). line_for m.layout m.labels k x) (sym item_is)
+          ∙ store_line (item_of m.layout.program k).kind _ _ _ (later_store m k later).0 in
+          ap (λ (line : Option GraphLine). with_line line (place_lines m.layout m.labels (k + 1) items)) none ∙ rest
+          ∙ ap (listed m) (sym (places_skip m k (length items) later))
+      | inr first ↦
+          ap (λ (x : Item). with_line (line_for m.layout m.labels k x) (place_lines m.layout m.labels (k + 1) items)) (sym item_is)
+          ∙ ap (with_line (line_for m.layout m.labels k (item_of m.layout.program k))) rest
+          ∙ ap (listed m) (sym (places_more m k (length items) first))
+    ]
 
 module _ (m : Choice) (ok : IsAccepted m) where
-  right_there : (i : ℕ) (item : Item) → slice_get m.layout.program.items i ≡ Some item → is_right item.kind (instr_of m (0 + i)) ≡ true
-  right_there i item get =
-      let below : i < count m.layout.program = slice_get_within m.layout.program.items i item get in
-      let first : i ≡ 0 + i = omega arith in
-      let same : item_of m.layout.program i ≡ item = get_or_from_slice_get m.layout.program.items i item no_item get in
-      subst (λ (n : ℕ). is_right item.kind (instr_of m n) ≡ true) first
-      (subst (λ (x : Item). is_right x.kind (instr_of m i) ≡ true) same (right m ok i below))
+  right_there : (i k : ℕ) → slice_get (unit_places m 0 (count m.layout.program)) i ≡ Some k → is_right (item_of m.layout.program k).kind (instr_of m k) ≡ true
+  right_there i k get =
+      let (from, to, first) = place_there m 0 (count m.layout.program) i k get in
+      right m ok k (omega arith)
+
+  all_lines : lines_from m.layout.profile.units_from (units m) ≡ place_lines m.layout m.labels 0 m.layout.program.items
+  all_lines =
+      let zero_more : (i : ℕ) → 0 + i ≡ i = λ i. omega arith in
+      run_lines m m.layout.profile.units_from _ (unit_places m 0 (count m.layout.program)) (the_run m ok) right_there
+      ∙ sym (all_listed m 0 m.layout.program.items (λ i less. ap (item_of m.layout.program) (zero_more i)))
 
   pub lines_are : graph_lines m.layout m.labels ≡ written_classes m ++ (Call START (entry_gate m) ∷ lines_from m.layout.profile.units_from (units m))
   lines_are =
       ap (λ (lines : List GraphLine). written_classes m ++ (Call START (entry_gate m) ∷ lines))
-      (sym (run_lines m 0 m.layout.profile.units_from m.layout.program.items (the_run m ok) right_there))
+      (sym all_lines)
 
   abbrev size : ℕ
   size = 4 * length (written_code m)
@@ -118,11 +153,12 @@ module _ (m : Choice) (ok : IsAccepted m) where
 
   gate_right : (j k : ℕ) (t : Tagged) → slice_get (tagged m.layout.closed.sides) j ≡ Some t → has k t.class ≡ true → is_code_address size (gate m.layout k) ≡ true
   gate_right j k t get there =
-      let (u, e) = gate_starts m ok k (member_there m ok j k t get there) in
-      let at = lies (units m) m.layout.profile.units_from (gate m.layout k) u e in
-      let from = at.from in
-      let to = at.to in
-      let round = at.round in
+      let at = member_at m ok j k t get there in
+      let (u, e) = gate_starts m ok k at.0 at.1 in
+      let stands = lies (units m) m.layout.profile.units_from (gate m.layout k) u e in
+      let from = stands.from in
+      let to = stands.to in
+      let round = stands.round in
       let some = some_word u in
       let words = length-placed_code m.layout.profile ok.profile (entry_gate m) (units m) in
       let low = (laid m ok).low in
@@ -180,8 +216,27 @@ written_well_formed m image graph ok words version lines same_length =
     (subst (λ (v : ℕ). IsSound m.layout.profile v (entry_gate m) (units m) (written_classes m)) (sym version) (written_sound m ok)) words (lines ∙ lines_are m ok) same_length
 
 pub written_units : WrittenUnits
-written_units m ok k below =
-    (units_at m ok (word m.layout k) ∙ unit_there m ok k below, λ j u some. units_at m ok (gate m.layout k + 4 * j) ∙ lead_there m ok k j u below some)
+written_units m ok = record {
+  own = λ k below first. units_at m ok (word m.layout k) ∙ unit_there m ok k below first;
+  led = λ k j u below some. units_at m ok (gate m.layout k + 4 * j) ∙ lead_there m ok k j u below some;
+  member = λ k later.
+      let at = leader m ok k later in
+      let place = at.place in
+      let some = at.some in
+      let below = later_below m k later in
+      let unit = unit_there m ok at.first (omega arith) at.is_first in
+      let next : at.first + (at.index - 1 + 1) ≡ k = omega arith in
+      let gate_is = group_gate m ok at.first (at.index - 1) at.store at.is_first (let few = at.inside in omega arith) (omega arith) in
+      let here : gate m.layout k ≡ word m.layout at.first + 4 * (4 + (at.index - 1)) = ap (gate m.layout) (sym next) ∙ gate_is in
+      record {
+        first = at.first;
+        index = at.index;
+        place = at.place;
+        inside = at.inside;
+        stands = units_at m ok (word m.layout at.first) ∙ unit;
+        at = let own = later_word m ok k later in omega arith;
+      };
+}
 
 pub written_entry : WrittenEntry
 written_entry m ok = placed_entry m.layout.profile (entry_gate m) (units m) ok.profile (written_sound m ok).entry_reached

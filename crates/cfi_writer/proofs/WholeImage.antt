@@ -64,7 +64,7 @@ pub written_as : (form : Form) (s : Spaced) (labels code init image : List ℕ) 
     IsWritable form s labels →
     code_words code ≡ written_code (chosen s labels) → data_at s.layout.program s.layout.gates ≡ Some init → image ≡ spelling (image_version form) code init →
     graph ≡ record { version = s.layout.closed.version; code = length code; lines = graph_lines s.layout labels } → map ≡ record { form = form; lines = map_lines s.layout } →
-    IsLegalMap s.layout.program s.layout.closed map → AreBytes (record { version = image_version form; code = code; init = init }) →
+    IsLegalMap s.layout.program s.layout.closed s.layout.entry map → AreBytes (record { version = image_version form; code = code; init = init }) →
     IsWrittenAs form s labels (record { image = image; graph = graph; map = map })
 written_as form s labels code init image graph map able code_is init_is image_is graph_is map_is legal bytes =
     let m = chosen s labels in (

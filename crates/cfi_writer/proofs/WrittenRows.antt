@@ -25,7 +25,7 @@ use Rattle.cfi_unit.specs.UnitWords.{words_of}
 use Rattle.cfi_rules.specs.Placed.{code_from}
 use Rattle.cfi_map.specs.Shorts.{is_kept}
 use Rattle.cfi_writer.specs.Laws.{written_code}
-use Rattle.cfi_writer.specs.Units.{Choice, units_from}
+use Rattle.cfi_writer.specs.Units.{Choice, followers, units_of}
 
 abbrev pub place : ℕ → ItemKind → ℕ → Option ℕ → Item
 place offset kind word target = record { section = 1; offset = offset; kind = kind; word = word; patch = put.Own; target = target; taken = false }
@@ -41,7 +41,7 @@ program kind word target = record {
   names = [];
 }
 
-abbrev layout : Profile → Program → List ℕ → ProgramAtMap
+abbrev pub layout : Profile → Program → List ℕ → ProgramAtMap
 layout profile program gates = record {
   profile = profile;
   program = program;
@@ -77,20 +77,20 @@ whole = record {
 short_rows : (length (written_code short) ≡ 24) × (slice_get (written_code short) 16 ≡ Some 0x00050463) × (slice_get (written_code short) 17 ≡ Some 0x00100513)
     × (is_kept short.layout.program short.layout.closed 0 2 ≡ false)
     × (graph_lines short.layout [] ≡ Call 0x4000000c 0x40000040 ∷ Edge 0x40000040 0x40000048 ∷ [])
-unfolding units_from code_from words_of code_of instr_at decoded words_from labels_of label_at site_label site_number tagged class_lines place_lines empty_classes
+unfolding units_of followers code_from words_of code_of instr_at decoded words_from labels_of label_at site_label site_number tagged class_lines place_lines empty_classes
 short_rows = (refl, refl, refl, refl, refl)
 
 short_of_harts_rows : (length (written_code short_of_harts) ≡ 28) × (slice_get (written_code short_of_harts) 20 ≡ Some 0x00050463)
     × (slice_get (written_code short_of_harts) 21 ≡ Some 0x00100513)
     × (graph_lines short_of_harts.layout [] ≡ Call 0x4000000c 0x40000050 ∷ Edge 0x40000050 0x40000058 ∷ [])
-unfolding units_from code_from words_of code_of instr_at decoded words_from labels_of label_at site_label site_number tagged class_lines place_lines empty_classes
+unfolding units_of followers code_from words_of code_of instr_at decoded words_from labels_of label_at site_label site_number tagged class_lines place_lines empty_classes
 short_of_harts_rows = (refl, refl, refl, refl)
 
 -- the long one is `bne x10, x0, +8` and `j` to the place of `ret`
 long_rows : (length (written_code whole) ≡ 25) × (slice_get (written_code whole) 16 ≡ Some 0x00051463) × (slice_get (written_code whole) 17 ≡ Some 0x0080006f)
     × (slice_get (written_code whole) 18 ≡ Some 0x0040006f) × (is_kept whole.layout.program whole.layout.closed 0 2 ≡ true)
     × (graph_lines whole.layout [] ≡ Call 0x4000000c 0x40000040 ∷ Edge 0x40000040 0x4000004c ∷ Edge 0x40000048 0x4000004c ∷ [])
-unfolding units_from code_from words_of code_of instr_at decoded words_from labels_of label_at site_label site_number tagged class_lines place_lines empty_classes
+unfolding units_of followers code_from words_of code_of instr_at decoded words_from labels_of label_at site_label site_number tagged class_lines place_lines empty_classes
 long_rows = (refl, refl, refl, refl, refl, refl)
 
 head : List ℕ
@@ -114,7 +114,7 @@ returning = record { layout = layout version_1 seven (0x40000040 ∷ 0x40000044 
 
 returning_row : written_code returning
     ≡ head ++ 0x00700513 ∷ 0xff81bf83 ∷ 0xff818193 ∷ 0x001f8463 ∷ 0xfb5ff06f ∷ 0x000f8067 ∷ 0xfa9ff06f ∷ []
-unfolding head units_from code_from words_of code_of instr_at decoded words_from labels_of label_at site_label site_number
+unfolding head units_of followers code_from words_of code_of instr_at decoded words_from labels_of label_at site_label site_number
 returning_row = refl
 
 -- the same behind the longer prologue of several harts
@@ -128,7 +128,7 @@ returning_of_harts = record { layout = layout version_2 seven (0x40000050 ∷ 0x
 
 returning_of_harts_row : written_code returning_of_harts
     ≡ head_of_harts ++ 0x00700513 ∷ 0xff81bf83 ∷ 0xff818193 ∷ 0x001f8463 ∷ 0xfa5ff06f ∷ 0x000f8067 ∷ 0xf99ff06f ∷ []
-unfolding head_of_harts units_from code_from words_of code_of instr_at decoded words_from labels_of label_at site_label site_number
+unfolding head_of_harts units_of followers code_from words_of code_of instr_at decoded words_from labels_of label_at site_label site_number
 returning_of_harts_row = refl
 
 -- a function that calls one of two others through a pointer at 10000h, which a relocated LUI and load read
@@ -169,7 +169,7 @@ pointer_rows : (length (written_code pointer) ≡ 65)
     × (slice_get (written_code pointer) 31 ≡ Some 0x00001237) × (slice_get (written_code pointer) 50 ≡ Some 0x00001037)
     × (graph_lines pointer.layout pointer.labels
     ≡ Class 1 (0x400000c8 ∷ 0x400000e4 ∷ []) ∷ Call 0x4000000c 0x40000040 ∷ Site 0x4000005c site.Call 1 ∷ [])
-unfolding units_from code_from words_of code_of instr_at decoded words_from labels_of label_at site_label site_number tagged class_lines place_lines empty_classes
+unfolding units_of followers code_from words_of code_of instr_at decoded words_from labels_of label_at site_label site_number tagged class_lines place_lines empty_classes
 pointer_rows = (refl, refl, refl, refl, refl)
 
 -- a function jumps through a pointer to either of two others, and a fourth one calls the second of these: calls and jumps have labels of
@@ -215,7 +215,7 @@ both_ways_rows : (length (written_code both_ways) ≡ 73) × (take 2 (drop 31 (w
     × (graph_lines both_ways.layout both_ways.labels
     ≡ CallClass 1 (0x4000009c ∷ []) ∷ JumpClass 2 (0x4000007c ∷ 0x4000009c ∷ []) ∷ Call 0x4000000c 0x40000040 ∷ Site 0x40000048 site.Jump 2
     ∷ Site 0x400000bc site.Call 1 ∷ [])
-unfolding jumping units_from code_from words_of code_of instr_at decoded words_from labels_of label_at site_label site_number tagged class_lines place_lines empty_classes
+unfolding jumping units_of followers code_from words_of code_of instr_at decoded words_from labels_of label_at site_label site_number tagged class_lines place_lines empty_classes
 both_ways_rows = (refl, refl, refl, refl, refl, refl, refl, refl)
 
 -- labels go to the classes of calls, calls without targets, the classes of jumps and jumps without targets, in this order

@@ -20,7 +20,8 @@ use Rattle.cfi_map.specs.Placement.{AreGates, whole_at}
 use Rattle.cfi_map.specs.Shorts.{IsShortAt, is_branch}
 use Rattle.cfi_flow.specs.Sites.{site_kind}
 use Rattle.cfi_rules.specs.Placed.{placed_code}
-use Rattle.cfi_writer.specs.Units.{Choice, entry_gate, units}
+use Rattle.cfi_map.specs.Groups.{AreGroups}
+use Rattle.cfi_writer.specs.Units.{Choice, entered_at, entry_gate, units}
 
 -- one of the sides has a site at a place, and is of its sort
 pub record IsSiteOf (sides : List Side) (k : ℕ) (kind : SiteKind) : Type 0 where
@@ -42,6 +43,8 @@ pub record IsAccepted (m : Choice) : Type 0 where
   pub entry_there : m.layout.entry < count m.layout.program
   -- its gates are a placement's, its code has room, and each instruction has its values
   pub legal : AreGates m.layout.closed.sides m.whole 0 m.layout.profile.units_from m.layout.program.items m.layout.gates
+  -- its later stores may be that
+  pub groups : AreGroups (item_of m.layout.program) (entered_at m) (whole_at m.whole)
   pub room : 4 * length (placed_code m.layout.profile (entry_gate m) (units m)) ≤ CODE_SIZE
   pub values : (k : ℕ) → k < count m.layout.program → is_end (item_of m.layout.program k).kind ≡ false →
       is_some (instr_at m.layout.program m.layout.gates (words_at m.layout) k) ≡ true

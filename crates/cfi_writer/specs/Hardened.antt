@@ -57,7 +57,7 @@ pub record IsWritten (form : Form) (s : Spaced) (labels code init : List ℕ) (h
   pub bytes : AreBytes (record { version = image_version form; code = code; init = init })
   pub image : h.image ≡ spelling (image_version form) code init
   pub graph : h.graph ≡ record { version = graph_version form; code = length code; lines = graph_lines s.layout labels }
-  pub map : IsLegalMap s.layout.program s.layout.closed h.map
+  pub map : IsLegalMap s.layout.program s.layout.closed s.layout.entry h.map
   pub map_form : h.map.form ≡ form
   pub gates : gates_of h.map.lines ≡ s.layout.gates
   -- image and graph meet the verifier's rules

@@ -1,7 +1,7 @@
 -- What holds of a choice that is accepted: the code that is written for it, with its graph, meets the verifier's rules.
-use Rattle.std.specs.Prelude.{◌≡◌, ℕ, ◌+◌, ◌*◌, ◌<◌, List, length, slice_get, Some}
+use Rattle.std.specs.Prelude.{◌≡◌, ℕ, ◌+◌, ◌*◌, ◌<◌, ◌≤◌, true, false, List, length, slice_get, Some}
 use Rattle.rv_word.specs.Image.{Contents}
-use Rattle.obj_program.specs.Program.{count, item_of}
+use Rattle.obj_program.specs.Program.{count}
 use Rattle.cfi_graph.specs.Graph.{GraphParts, IsGraph}
 use Rattle.cfi_graph.specs.declared.line.GraphLine.{GraphLine}
 use Rattle.cfi_map.specs.GraphAtMap.{class_lines, gate, graph_lines, word}
@@ -12,7 +12,7 @@ use Rattle.cfi_rules.specs.Rules.{IsWellFormed}
 use Rattle.cfi_rules.specs.Sound.{IsSound}
 use Rattle.cfi_rules.specs.Split.{code_words, entry_of, unit_at}
 use Rattle.cfi_writer.specs.Accepted.{IsAccepted}
-use Rattle.cfi_writer.specs.Units.{Choice, entry_gate, lead, unit_for, units}
+use Rattle.cfi_writer.specs.Units.{Choice, behind, entry_gate, is_later_at, lead, unit_here, units}
 
 -- the words of the whole code, and the lines of its classes
 abbrev pub written_code : Choice → List ℕ
@@ -41,12 +41,24 @@ WrittenIsWellFormed =
     (m : Choice) (image : Contents) (graph : GraphParts) → IsAccepted m → code_words image.code ≡ written_code m →
     graph.version ≡ m.layout.closed.version → graph.lines ≡ graph_lines m.layout m.labels → graph.code ≡ length image.code → IsWellFormed m.layout.profile image graph
 
--- at the word of each place stands its unit, and from its gate on the words before that
+-- a later store is a member of the unit of the first store of its group, in its turn
+pub record IsMemberOf (m : Choice) (k : ℕ) : Type 0 where
+  pub first : ℕ
+  pub index : ℕ
+  pub place : k ≡ first + index
+  pub inside : index ≤ behind m first
+  pub stands : unit_at m.layout.profile (written_code m) (word m.layout first) ≡ Some (unit_here m first)
+  pub at : word m.layout k ≡ word m.layout first + 4 * (3 + index)
+
+-- at the word of each place that is no later store stands its unit, and from its gate on the words before that
+pub record HasUnits (m : Choice) : Type 0 where
+  pub own : (k : ℕ) → k < count m.layout.program → is_later_at m k ≡ false → unit_at m.layout.profile (written_code m) (word m.layout k) ≡ Some (unit_here m k)
+  pub led : (k j : ℕ) (u : U.Unit) → k < count m.layout.program → slice_get (lead m k) j ≡ Some u →
+      unit_at m.layout.profile (written_code m) (gate m.layout k + 4 * j) ≡ Some u
+  pub member : (k : ℕ) → is_later_at m k ≡ true → IsMemberOf m k
+
 abbrev pub WrittenUnits : Type 0
-WrittenUnits =
-    (m : Choice) → IsAccepted m → (k : ℕ) → k < count m.layout.program →
-    (unit_at m.layout.profile (written_code m) (word m.layout k) ≡ Some (unit_for m k (item_of m.layout.program k)))
-    × ((j : ℕ) (u : U.Unit) → slice_get (lead m k) j ≡ Some u → unit_at m.layout.profile (written_code m) (gate m.layout k + 4 * j) ≡ Some u)
+WrittenUnits = (m : Choice) → IsAccepted m → HasUnits m
 
 -- the opening calls the entry's gate
 abbrev pub WrittenEntry : Type 0

@@ -1,6 +1,7 @@
 -- The units that are written for a program at a map: at each place its unit, behind a word for each side of the closed graph where the
--- place is a target.
-use Rattle.std.specs.Prelude.{ℕ, ◌+◌, Bool, true, false, Option, Some, None, if◌then◌else◌, List, [], ◌∷◌, ◌++◌, map}
+-- place is a target; the stores of a group have one unit, at the place of the first.
+use Rattle.std.specs.Prelude.{ℕ, zero, suc, ◌+◌, ◌-◌, Bool, true, false, Option, Some, None, if◌then◌else◌, List, [], ◌∷◌, ◌++◌, map, not}
+use Rattle.std.specs.List.{filter, range_with_len}
 use Rattle.rv_instr.specs.declared.instr.BranchOp.{BranchOp}
 use Rattle.rv_instr.specs.declared.instr.BranchOp.TheVariants.{Beq, Bne, Blt, Bge, Bltu, Bgeu}
 use Rattle.rv_instr.specs.declared.instr.ImmediateOp.TheVariants.{Addi}
@@ -9,16 +10,22 @@ use Rattle.rv_instr.specs.declared.instr.Instr.TheVariants as I
 use Rattle.obj_input.specs.declared.item_kind.ItemKind.{ItemKind}
 use Rattle.obj_input.specs.declared.item_kind.ItemKind.TheVariants as is
 use Rattle.obj_program.specs.declared.item.Item.{Item}
+use Rattle.obj_program.specs.Program.{count, item_of}
 use Rattle.cfi_map.specs.GraphAtMap.{ProgramAtMap, gate, gate_to}
+use Rattle.cfi_map.specs.Groups.{is_entered, is_later}
 use Rattle.cfi_map.specs.LabelOf.{labels_of, site_label}
 use Rattle.cfi_map.specs.Placement.{whole_at}
 use Rattle.cfi_map.specs.Source.{instr_here}
 use Rattle.cfi_closed.specs.Closed.{is_target}
+use Rattle.cfi_unit.specs.declared.members.Member.{Member}
 use Rattle.cfi_unit.specs.declared.target_word.TargetWord.{TargetWord}
 use Rattle.cfi_unit.specs.declared.unit.Unit as U
 use Rattle.cfi_unit.specs.declared.unit.Unit.TheVariants as V
 use Rattle.cfi_unit.specs.declared.unit.SystemOp.TheVariants as S
+use Rattle.cfi_unit.specs.Members.{FILLER}
 use Rattle.cfi_rules.specs.Rules.{jump_word}
+use Rattle.cfi_runs.specs.Distances.{field, level, lowest}
+use Rattle.cfi_runs.specs.GroupStores.{members_from}
 
 -- a program at a map with what is chosen for it: which units have their whole size, and the labels of all classes
 pub record Choice : Type 0 where
@@ -44,27 +51,77 @@ abbrev pub branch_of : Bool → BranchOp → ℕ → ℕ → ℕ → U.Unit
 branch_of true op rs1 rs2 target = V.Branch (inverse op) rs1 rs2 target
 branch_of false op rs1 rs2 target = V.Near op rs1 rs2 target
 
+-- which places may be entered from elsewhere than the place before, and which hold a later store of a group
+abbrev pub entered_at : Choice → ℕ → Bool
+entered_at m = is_entered m.layout.program m.layout.closed m.layout.entry
+
+abbrev pub is_later_at : Choice → ℕ → Bool
+is_later_at m k = is_later (item_of m.layout.program) (whole_at m.whole) k
+
+-- how many of so many places from one on are later stores, up to the first that is none
+unfoldable pub followers : Choice → ℕ → ℕ → ℕ
+followers m k zero = 0
+followers m k (suc n) = if is_later_at m k then suc (followers m (k + 1) n) else 0
+
+abbrev pub later_from : Choice → ℕ → ℕ
+later_from m k = followers m k (count m.layout.program - k)
+
+-- how many stores stand behind the one of a place in its group
+abbrev pub behind : Choice → ℕ → ℕ
+behind m k = later_from m (k + 1)
+
+-- the field of a store's offset at the map
+abbrev pub offset_of : Instr → ℕ
+offset_of (I.Store op rs1 rs2 imm) = imm
+offset_of other = 0
+
+abbrev pub offset_at : Choice → ℕ → ℕ
+offset_at m k = offset_of (instr_of m k)
+
+-- the store of a place as a member of its unit, behind a mask for an offset of this level
+abbrev pub member_for : ℕ → Instr → Member
+member_for low (I.Store op rs1 rs2 imm) = record { op = op; value = rs2; distance = level imm - low }
+member_for low other = FILLER
+
+abbrev pub member_at : Choice → ℕ → ℕ → Member
+member_at m low k = member_for low (instr_of m k)
+
+-- the stores of a group: how they are masked, by the least of their offsets, and what each member is
+pub record Group : Type 0 where
+  pub mask : ℕ
+  pub members : List Member
+
+-- the level of the least offset in the group that begins at a place
+abbrev pub low_at : Choice → ℕ → ℕ
+low_at m k = lowest (λ (j : ℕ). level (offset_at m j)) k (behind m k)
+
+abbrev pub group_at : Choice → ℕ → Group
+group_at m k = record { mask = field (low_at m k); members = members_from (member_at m (low_at m k)) k (suc (behind m k)) }
+
 -- the unit of an instruction of a kind, with its target's gate, and, of a computed transfer, its class's label and the word that a jump's
--- check reads
-abbrev pub unit_of : ItemKind → Instr → Bool → ℕ → TargetWord → ℕ → U.Unit
-unit_of is.Gate (I.Upper op rd imm) whole target which label = V.Gate imm
-unit_of is.Plain instr whole target which label = V.Plain instr
-unit_of is.Store (I.Store op rs1 rs2 imm) whole target which label = V.Stores rs1 imm (record { op = op; value = rs2; distance = 0 } ∷ [])
-unit_of is.System I.Ecall whole target which label = V.System S.Ecall
-unit_of is.System I.Ebreak whole target which label = V.System S.Ebreak
-unit_of is.Branch (I.Branch op rs1 rs2 imm) whole target which label = branch_of whole op rs1 rs2 target
-unit_of is.Jump instr whole target which label = V.Jump target
-unit_of is.Call instr whole target which label = V.Call target
-unit_of is.Return instr whole target which label = V.Return
-unit_of is.Ijump (I.Jalr rd rs1 imm) whole target which label = V.Ijump which rs1 imm label
-unit_of is.Icall (I.Jalr rd rs1 imm) whole target which label = V.Icall rs1 imm label
-unit_of kind instr whole target which label = V.Stop
+-- check reads; of a store, the unit of its group
+abbrev pub unit_of : ItemKind → Instr → Bool → ℕ → TargetWord → ℕ → Group → U.Unit
+unit_of is.Gate (I.Upper op rd imm) whole target which label group = V.Gate imm
+unit_of is.Plain instr whole target which label group = V.Plain instr
+unit_of is.Store (I.Store op rs1 rs2 imm) whole target which label group = V.Stores rs1 group.mask group.members
+unit_of is.System I.Ecall whole target which label group = V.System S.Ecall
+unit_of is.System I.Ebreak whole target which label group = V.System S.Ebreak
+unit_of is.Branch (I.Branch op rs1 rs2 imm) whole target which label group = branch_of whole op rs1 rs2 target
+unit_of is.Jump instr whole target which label group = V.Jump target
+unit_of is.Call instr whole target which label group = V.Call target
+unit_of is.Return instr whole target which label group = V.Return
+unit_of is.Ijump (I.Jalr rd rs1 imm) whole target which label group = V.Ijump which rs1 imm label
+unit_of is.Icall (I.Jalr rd rs1 imm) whole target which label group = V.Icall rs1 imm label
+unit_of kind instr whole target which label group = V.Stop
 
 -- the unit of a place
 abbrev pub unit_for : Choice → ℕ → Item → U.Unit
 unit_for m k item =
     unit_of item.kind (instr_of m k) (whole_at m.whole k) (gate_to m.layout item.target) (jump_word m.layout.closed.version)
-    (site_label m.labels m.layout.closed.sides k)
+    (site_label m.labels m.layout.closed.sides k) (group_at m k)
+
+abbrev pub unit_here : Choice → ℕ → U.Unit
+unit_here m k = unit_for m k (item_of m.layout.program k)
 
 -- a word before a place's unit: a gate word with the label of the class whose target it is, or what does nothing
 abbrev pub lead_unit : Option ℕ → U.Unit
@@ -75,13 +132,17 @@ lead_unit (Some label) = V.Gate label
 abbrev pub lead : Choice → ℕ → List U.Unit
 lead m k = if is_target m.layout.closed.sides k then map lead_unit (labels_of m.labels m.layout.closed.sides k) else []
 
--- the units of places from index k on
-unfoldable pub units_from : Choice → ℕ → List Item → List U.Unit
-units_from m k [] = []
-units_from m k (item ∷ items) = lead m k ++ (unit_for m k item ∷ units_from m (k + 1) items)
+-- the units of these places, each behind the words before it
+unfoldable pub units_of : Choice → List ℕ → List U.Unit
+units_of m [] = []
+units_of m (k ∷ places) = lead m k ++ (unit_here m k ∷ units_of m places)
+
+-- of so many places from one on those that have a unit of their own: all but those of later stores
+abbrev pub unit_places : Choice → ℕ → ℕ → List ℕ
+unit_places m k n = filter (λ j. not (is_later_at m j)) (range_with_len k n)
 
 abbrev pub units : Choice → List U.Unit
-units m = units_from m 0 m.layout.program.items
+units m = units_of m (unit_places m 0 (count m.layout.program))
 
 -- the gate where the program is entered
 abbrev pub entry_gate : Choice → ℕ

@@ -38,7 +38,7 @@ pub record IsCoded (m : Choice) (code : List ℕ) (graph : GraphParts) : Type 0 
 pub record IsDescribed (form : Form) (m : Choice) (code : List ℕ) (graph : GraphParts) (map : MapParts) : Type 0 where
   pub coded : IsCoded m code graph
   pub lines : map ≡ record { form = form; lines = map_lines m.layout }
-  pub legal : IsLegalMap m.layout.program m.layout.closed map
+  pub legal : IsLegalMap m.layout.program m.layout.closed m.layout.entry map
 
 -- the image of some code with these data, and with some data
 pub record IsWrittenImage (form : Form) (layout : ProgramAtMap) (code init image : List ℕ) : Type 0 where

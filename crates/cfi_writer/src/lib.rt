@@ -8,6 +8,7 @@ pub use numbering::class_labels;
 
 mod chosen;
 mod code;
+mod groups;
 mod hardened;
 mod labels;
 pub mod laws;

@@ -34,7 +34,7 @@ impl<'c, 'a, 'b> Chosen<'c, 'a, 'b> {
         requires form { self.now.layout.profile ≡ profile_for form }
         requires fits { IsMap (record { form = form; lines = map_lines self.now.layout }) }
         ensures lines { IfOk result (λ map. map ≡ record { form = form; lines = map_lines self.now.layout }) }
-        ensures legal { IfOk result (λ map. IsLegalMap self.now.layout.program self.now.layout.closed map) }
+        ensures legal { IfOk result (λ map. IsLegalMap self.now.layout.program self.now.layout.closed self.now.layout.entry map) }
     {
         let _count = self.count();
         let lines = self.map_lines(alloc)?;

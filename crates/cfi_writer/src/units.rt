@@ -1,18 +1,20 @@
 //! The unit of each place.
 
-ghost use Rattle.std.specs.Prelude.{◌≡◌, ◌<◌, ◌^◌, ◌++◌, ◌∷◌, [], IfOk, IfSome, OnOk, map};
+ghost use Rattle.std.specs.Prelude.{false, ◌≡◌, ◌<◌, ◌^◌, ◌++◌, ◌∷◌, [], IfOk, IfSome, OnOk, map};
 ghost use Rattle.rv_instr.specs.declared.instr.ImmediateOp.TheVariants.{Addi};
 ghost use Rattle.rv_instr.specs.declared.instr.Instr.TheVariants as I;
 ghost use Rattle.obj_program.specs.Program.{count, item_of};
 ghost use Rattle.cfi_map.specs.LabelOf.{labels_of};
 ghost use Rattle.cfi_writer.specs.Chosen.{instr_if};
-ghost use Rattle.cfi_writer.specs.Units.{inverse, lead, lead_unit, unit_for, unit_of, units};
+ghost use Rattle.cfi_map.specs.Groups.{is_store};
+ghost use Rattle.cfi_writer.specs.Units.{Group, inverse, is_later_at, lead, lead_unit, unit_here, unit_of, units};
 
 use crate::chosen::Chosen;
+use cfi_map::is_store;
 use cfi_rules::jump_word;
-use cfi_unit::{Member, Members, SystemOp, TargetWord, Unit};
+use cfi_unit::{SystemOp, TargetWord, Unit};
 use obj_input::ItemKind;
-use rv_instr::{BranchOp, Immediate, ImmediateOp, Instr, Reg, StoreOp};
+use rv_instr::{BranchOp, Immediate, ImmediateOp, Instr, Reg};
 use rv_word::NoMemory;
 use std::alloc::Global;
 
@@ -30,21 +32,8 @@ fn inverse(op: BranchOp) -> BranchOp
     }
 }
 
-/// One store behind a mask, at the masked address itself.
-fn alone(op: StoreOp, value: Reg) -> Members
-    ensures { result ≡ record { op = op; value = value; distance = 0 } ∷ [] }
-{
-    let mut members = Members::new();
-    members.push(Member {
-        op,
-        value,
-        distance: Immediate::of(0),
-    });
-    members
-}
-
-/// The unit of an instruction of a kind: a branch in its whole size or as one word, the gate of the place that a direct transfer goes
-/// to, the label that a computed one asks for, and the word of its destination that a jump's check reads.
+/// The unit of an instruction of a kind but a store's: a branch in its whole size or as one word, the gate of the place that a direct
+/// transfer goes to, the label that a computed one asks for, and the word of its destination that a jump's check reads.
 fn unit_of(
     kind: ItemKind,
     instr: &Instr,
@@ -53,14 +42,11 @@ fn unit_of(
     which: TargetWord,
     label: Immediate<20>,
 ) -> Unit
-    ensures { result ≡ unit_of kind instr.now whole target which label }
+    ensures { (group : Group) → is_store kind ≡ false → result ≡ unit_of kind instr.now whole target which label group }
 {
     match (kind, *instr) {
         (ItemKind::Gate, Instr::Upper(_, _, own)) => Unit::Gate(own),
         (ItemKind::Plain, instr) => Unit::Plain(instr),
-        (ItemKind::Store, Instr::Store(op, rs1, rs2, imm)) => {
-            Unit::Stores(rs1, imm, alone(op, rs2))
-        }
         (ItemKind::System, Instr::Ecall) => Unit::System(SystemOp::Ecall),
         (ItemKind::System, Instr::Ebreak) => Unit::System(SystemOp::Ebreak),
         (ItemKind::Branch, Instr::Branch(op, rs1, rs2, _)) => {
@@ -100,14 +86,19 @@ fn lead_unit(label: Option<u32>, idle: &Instr) -> Unit
 
 impl<'c, 'a, 'b> Chosen<'c, 'a, 'b> {
     /// The unit of a place, of which this is the instruction.
+    #[tactic(auto, using(crate::proofs::GroupLoops::store_unit))]
     fn unit(&self, k: u64, instr: Option<Instr>) -> Unit
         requires place { k < count self.now.layout.program }
+        requires own { is_later_at self.now k ≡ false }
         requires instruction { instr ≡ instr_if self.now k }
-        ensures { result ≡ unit_for self.now k (item_of self.now.layout.program k) }
+        ensures { result ≡ unit_here self.now k }
     {
         let Some(instr) = instr else {
             return Unit::Stop;
         };
+        if is_store(self.item(k).kind) {
+            return self.stores(k, &instr);
+        }
         let label = Immediate::of(self.site_label(k));
         unit_of(
             self.item(k).kind,
@@ -143,8 +134,9 @@ impl<'c, 'a, 'b> Chosen<'c, 'a, 'b> {
 
     /// Puts the unit of a place at the end, behind the words before it.
     fn push_units(&self, units: &mut Vec<Unit>, k: u64) -> Result<(), NoMemory>
-        requires { k < count self.now.layout.program }
-        ensures { OnOk result (units.new.items ≡ units.old.items ++ lead self.now k ++ unit_for self.now k (item_of self.now.layout.program k) ∷ []) }
+        requires place { k < count self.now.layout.program }
+        requires own { is_later_at self.now k ≡ false }
+        ensures { OnOk result (units.new.items ≡ units.old.items ++ lead self.now k ++ unit_here self.now k ∷ []) }
     {
         self.push_lead(units, k)?;
         let instr = self.instr(k);
@@ -152,14 +144,16 @@ impl<'c, 'a, 'b> Chosen<'c, 'a, 'b> {
         Ok(())
     }
 
-    /// The units of all places, each behind the words before it.
-    #[tactic(auto, using(crate::proofs::UnitList::next_units, crate::proofs::UnitList::all_units))]
+    /// The units of all places that have one of their own, each behind the words before it.
+    #[tactic(auto, using(crate::proofs::UnitList::next_units, crate::proofs::UnitList::same_units, crate::proofs::UnitList::all_units))]
     pub fn units(&self, alloc: Global) -> Result<Vec<Unit>, NoMemory>
         ensures { IfOk result (λ v. v.items ≡ units self.now) }
     {
         let mut units = Vec::new(alloc);
         for k in 0..self.count() {
-            self.push_units(&mut units, k)?;
+            if !self.is_later(k) {
+                self.push_units(&mut units, k)?;
+            }
         }
         Ok(units)
     }

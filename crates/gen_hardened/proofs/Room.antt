@@ -24,7 +24,8 @@ use Rattle.gen_program.proofs.PlaceWeights.{item_weight, outline_weighs}
 
 -- a part has no more bytes than its place weighs
 unit_weighs : (kind : ItemKind) (whole : Bool) → 4 + size_of kind whole ≤ kind_weight kind
-unit_weighs is.Store whole = omega arith
+unit_weighs is.Store true = omega arith
+unit_weighs is.Store false = omega arith
 unit_weighs is.Branch true = omega arith
 unit_weighs is.Branch false = omega arith
 unit_weighs is.Call whole = omega arith

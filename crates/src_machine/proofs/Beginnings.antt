@@ -43,7 +43,7 @@ pub gates_small : (g : MapParts) → IsMap g → (gates : List ℕ) → gates �
 gates_small g map gates is k = subst (λ (gs : List ℕ). slice_index gs k < 2 ^ 32) (sym is) (small_all g.form g.lines map.range k)
 
 -- a program at a legal map, at its gates
-module _ (program : Program) (closed : ClosedGraph) (g : MapParts) (legal : IsLegalMap program closed g) where
+module _ (program : Program) (closed : ClosedGraph) (entry : ℕ) (g : MapParts) (legal : IsLegalMap program closed entry g) where
   pub gates_counted : (gates : List ℕ) → gates ≡ gates_of g.lines → length gates ≡ count program
   gates_counted gates are =
       ap length are ∙ as_many_gates closed.sides legal.gates.0 0 (profile_for g.form).units_from program.items (gates_of g.lines) legal.gates.1

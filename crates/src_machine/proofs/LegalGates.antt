@@ -1,15 +1,19 @@
--- The gates of a placement by their places: the first stands where units begin, and each next one behind the unit before it.
-use Rattle.std.proofs.Common.{◌≡◌, ◌==◌, ℕ, zero, suc, ◌+◌, ◌<◌, Bool, true, false, List, [], ◌∷◌, length, map, get_or, inl, inr, sym, subst, ◌∙◌, arith}
-use Rattle.std.specs.Prelude.{slice_index}
+-- The gates of a placement by their places: the first stands where units begin, and each next one behind the unit before it. By two
+-- gates a store tells whether its unit has its whole size.
+use Rattle.std.proofs.Common.{◌≡◌, ◌==◌, ℕ, zero, suc, ◌+◌, ◌-◌, ◌<◌, ◌≤◌, Bool, true, false, List, [], ◌∷◌, length, map, get_or, inl, inr, refl, sym, subst, ◌∙◌, arith}
+use Rattle.std.specs.Prelude.{◌&&◌, not, slice_index}
 use Rattle.std.specs.List.{range_with_len}
-use Rattle.std.proofs.lemmas.Bool.{eqb-true, eq-eqb, or_cases, or_left, or_right}
-use Rattle.std.proofs.lemmas.List.FromFn.{get_or-map-range_with_len}
+use Rattle.std.proofs.lemmas.Bool.{and_from, and_parts, cases_Bool, eqb-true, eq-eqb, false_from_ne_true, not-true, not_from_false, or_cases, or_left, or_right}
+use Rattle.std.proofs.lemmas.List.{get_or_past}
+use Rattle.std.proofs.lemmas.List.FromFn.{get_or-map-range_with_len, length-map-range_with_len}
 use Rattle.obj_input.specs.declared.item_kind.ItemKind.{ItemKind}
+use Rattle.obj_input.specs.declared.item_kind.ItemKind.TheVariants as is
 use Rattle.obj_program.specs.declared.item.Item.{Item}
 use Rattle.obj_program.specs.Program.{no_item}
 use Rattle.cfi_closed.specs.Closed.{Side}
+use Rattle.cfi_map.specs.Groups.{Entries, is_store, joins_in}
 use Rattle.cfi_map.specs.Placement.{AreGates, lead_size, whole_at, size_of}
-use Rattle.src_machine.specs.MapLine.{follows}
+use Rattle.src_machine.specs.MapLine.{follows, is_past_whole, may_be_short}
 
 -- the kind of a place
 abbrev pub kind_in : List Item → ℕ → ItemKind
@@ -64,41 +68,63 @@ are_gates sides whole k at (item ∷ items) (gate ∷ gates) same first next = (
       (next (suc i) (omega arith))),
 )
 
--- a gate follows exactly where one of both sizes leads to it
-pub follows_by : (sides : List Side) (kind : ItemKind) (k gate next : ℕ) (whole : Bool) → next ≡ gate + (lead_size sides k + size_of kind whole)
-    → follows sides kind k gate next ≡ true
-follows_by sides kind k gate next true e = or_left _ _ (eq-eqb _ _ e)
-follows_by sides kind k gate next false e = or_right (next == gate + (lead_size sides k + size_of kind true)) _ (eq-eqb _ _ e)
+-- a gate follows exactly where one of both sizes leads to it, of which a store's lesser one is for those that may join a group
+module _ (of : Entries) (kind : ItemKind) (k before gate next : ℕ) where
+  may_short : (is_store kind ≡ true → joins_in of k before ≡ true) → may_be_short of kind k before ≡ true
+  may_short joins = elim (cases_Bool (is_store kind)) [
+    | inl store ↦ or_right (not (is_store kind)) (joins_in of k before) (joins store)
+    | inr other ↦ or_left (not (is_store kind)) (joins_in of k before) (not_from_false (is_store kind) other)
+  ]
 
--- whether a gate is where the long form leads
-abbrev pub led : List Side → ItemKind → ℕ → ℕ → ℕ → Bool
-led sides kind k gate next = next == gate + (lead_size sides k + size_of kind true)
+  pub follows_by : (whole : Bool) → next ≡ gate + (lead_size of.closed.sides k + size_of kind whole)
+      → (is_store kind ≡ true → whole ≡ false → joins_in of k before ≡ true) → follows of kind k before gate next ≡ true
+  follows_by true e joins = or_left _ _ (eq-eqb _ _ e)
+  follows_by false e joins =
+      or_right (is_past_whole of.closed.sides kind k gate next) _
+      (and_from (next == gate + (lead_size of.closed.sides k + size_of kind false)) (may_be_short of kind k before) (eq-eqb _ _ e) (may_short (λ store. joins store refl)))
 
-led_by : (sides : List Side) (kind : ItemKind) (k gate next : ℕ) (whole : Bool) → led sides kind k gate next ≡ whole →
-    follows sides kind k gate next ≡ true → next ≡ gate + (lead_size sides k + size_of kind whole)
-led_by sides kind k gate next true is right = eqb-true _ _ is
-led_by sides kind k gate next false is right =
-    elim (or_cases (led sides kind k gate next) (next == gate + (lead_size sides k + size_of kind false)) right) [
-      | inl first ↦ let wrong : false ≡ true = sym is ∙ first in absurd (cc)
-      | inr second ↦ eqb-true _ _ second
-    ]
+  -- what the lesser size says
+  behind_short : is_past_whole of.closed.sides kind k gate next ≡ false → follows of kind k before gate next ≡ true
+      → (next ≡ gate + (lead_size of.closed.sides k + size_of kind false)) × (may_be_short of kind k before ≡ true)
+  behind_short apart right =
+      elim (or_cases (is_past_whole of.closed.sides kind k gate next) (next == gate + (lead_size of.closed.sides k + size_of kind false) && may_be_short of kind k before) right) [
+        | inl first ↦ let wrong : false ≡ true = sym apart ∙ first in absurd (cc)
+        | inr second ↦
+            let both = and_parts (next == gate + (lead_size of.closed.sides k + size_of kind false)) (may_be_short of kind k before) second in
+            (eqb-true _ _ both.0, both.1)
+      ]
 
--- which places are long, by their gates
-abbrev pub flag_at : List Side → List Item → List ℕ → ℕ → Bool
-flag_at sides items gates i = led sides (kind_in items i) i (slice_index gates i) (slice_index gates (suc i))
+  pub led_by : (whole : Bool) → is_past_whole of.closed.sides kind k gate next ≡ whole → follows of kind k before gate next ≡ true
+      → next ≡ gate + (lead_size of.closed.sides k + size_of kind whole)
+  led_by true is right = eqb-true _ _ is
+  led_by false is right = (behind_short is right).0
 
-abbrev pub flags_of : List Side → List Item → List ℕ → List Bool
-flags_of sides items gates = map (flag_at sides items gates) (range_with_len 0 (length gates))
+  pub joined_by : is_store kind ≡ true → is_past_whole of.closed.sides kind k gate next ≡ false → follows of kind k before gate next ≡ true
+      → joins_in of k before ≡ true
+  joined_by store is right = elim (or_cases (not (is_store kind)) (joins_in of k before) (behind_short is right).1) [
+    | inl other ↦ let wrong : true ≡ false = sym store ∙ not-true (is_store kind) other in absurd (cc)
+    | inr joins ↦ joins
+  ]
 
--- gates that follow one another are a placement's
-pub placed_by : (sides : List Side) (at : ℕ) (items : List Item) (gates : List ℕ) → length gates ≡ length items
-    → (0 < length gates → slice_index gates 0 ≡ at)
-    → ((i : ℕ) → suc i < length gates → follows sides (kind_in items i) i (slice_index gates i) (slice_index gates (suc i)) ≡ true)
-    → AreGates sides (flags_of sides items gates) 0 at items gates
-placed_by sides at items gates same first next = are_gates sides (flags_of sides items gates) 0 at items gates same first
-    (λ i below.
-    let here : i ≡ 0 + i = omega arith in
-    let flag : flag_at sides items gates i ≡ whole_at (flags_of sides items gates) i =
-    sym (get_or-map-range_with_len (flag_at sides items gates) 0 (length gates) i i true (omega arith) (omega arith)) in
-    subst (λ (n : ℕ). slice_index gates (suc i) ≡ slice_index gates i + (lead_size sides n + size_of (kind_in items i) (whole_at (flags_of sides items gates) n))) here
-    (led_by sides (kind_in items i) i (slice_index gates i) (slice_index gates (suc i)) (whole_at (flags_of sides items gates) i) flag (next i below)))
+-- by its size a store tells whether it has its whole one
+pub whole_by : (sides : List Side) (kind : ItemKind) (k gate next : ℕ) (whole : Bool) → is_store kind ≡ true
+    → next ≡ gate + (lead_size sides k + size_of kind whole) → is_past_whole sides kind k gate next ≡ whole
+whole_by sides is.Store k gate next true store e = eq-eqb _ _ e
+whole_by sides is.Store k gate next false store e =
+    let lead = lead_size sides k in
+    let short : next ≡ gate + (lead + 4) = e in
+    false_from_ne_true (is_past_whole sides is.Store k gate next)
+    (λ same. let long : next ≡ gate + (lead + 16) = eqb-true _ _ same in absurd (omega (arith, short, long)))
+whole_by sides other k gate next whole store e = absurd (cc)
+
+-- flags of all places but the last, which has its whole size
+abbrev pub flags_to : (ℕ → Bool) → ℕ → List Bool
+flags_to whole n = map whole (range_with_len 0 (n - 1))
+
+pub flag_here : (whole : ℕ → Bool) (n i : ℕ) → suc i < n → whole_at (flags_to whole n) i ≡ whole i
+flag_here whole n i below = get_or-map-range_with_len whole 0 (n - 1) i i true (omega arith) (omega arith)
+
+pub flag_past : (whole : ℕ → Bool) (n i : ℕ) → n ≤ suc i → whole_at (flags_to whole n) i ≡ true
+flag_past whole n i past =
+    let size : length (flags_to whole n) ≡ n - 1 = length-map-range_with_len whole 0 (n - 1) in
+    get_or_past (flags_to whole n) i true (omega arith)

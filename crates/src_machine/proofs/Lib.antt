@@ -3,3 +3,4 @@ mod LegalGates
 mod LegalLines
 mod Beginnings
 mod Prefixes
+mod Members

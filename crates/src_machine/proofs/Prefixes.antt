@@ -1,17 +1,20 @@
 -- The first lines of a legal map are legal for as many first places, so a map has no wrong line where it is legal, and else one first.
-use Rattle.std.proofs.Common.{◌≡◌, ℕ, zero, suc, ◌+◌, ◌<◌, ◌≤◌, Bool, List, [], ◌∷◌, map, take, inl, inr, refl, sym, ap, subst, ◌∙◌, arith}
+use Rattle.std.proofs.Common.{◌≡◌, ℕ, zero, suc, ◌+◌, ◌<◌, ◌≤◌, Bool, true, false, List, [], ◌∷◌, length, map, take, get_or, inl, inr, refl, sym, ap, subst, ◌∙◌, arith}
 use Rattle.std.proofs.lemmas.Bool.{cases_eq, cases_lt}
-use Rattle.std.proofs.lemmas.List.{take-map}
+use Rattle.std.proofs.lemmas.List.{get_or-take, get_or_past, length-take, take-map}
 use Rattle.rv_word.specs.Form.{profile_for}
 use Rattle.rv_word.specs.declared.form.Form.{Form}
 use Rattle.cfi_graph.specs.Map.{MapParts}
 use Rattle.cfi_graph.specs.declared.map.MapLine.{MapLine}
 use Rattle.obj_program.specs.declared.item.Item.{Item}
-use Rattle.obj_program.specs.Program.{Program}
+use Rattle.obj_program.specs.Program.{Program, item_of, no_item}
 use Rattle.cfi_closed.specs.Closed.{ClosedGraph, Side}
-use Rattle.cfi_map.specs.LegalMap.{IsLegalMap, gates_of}
+use Rattle.cfi_map.specs.Groups.{AreGroups, is_entered}
+use Rattle.cfi_map.specs.LegalMap.{AreLegal, IsLegalMap, gates_of}
 use Rattle.cfi_map.specs.MapFault.{BeginsLegal, IsWrongLine}
 use Rattle.cfi_map.specs.Placement.{AreGates, lead_size, whole_at, size_of}
+use Rattle.cfi_map.proofs.GroupFacts.{later_parts}
+use Rattle.cfi_map.proofs.GroupsAgree.{groups_alike, store_below}
 use Rattle.src_machine.specs.Laws.{BeginsAsLegal, OneIsFirst, WrongIsNotLegal}
 
 first_gates : (sides : List Side) (whole : List Bool) (k at : ℕ) (items : List Item) (gates : List ℕ) (n : ℕ)
@@ -30,39 +33,60 @@ first_first [] (suc n) (suc m) below = refl
 first_first (x ∷ xs) (suc n) zero below = absurd (omega arith)
 first_first (x ∷ xs) (suc n) (suc m) below = ap (λ (ys : List _). x ∷ ys) (first_first xs n m (omega arith))
 
-begins_first : (program : Program) (closed : ClosedGraph) (g : MapParts) (n : ℕ) → IsLegalMap program closed g → BeginsLegal program closed g n
-begins_first program closed g n legal = record {
+-- the first lines of a program some of whose places may be entered
+first_groups : (items : List Item) (entered : ℕ → Bool) (whole : List Bool) (n : ℕ)
+    → AreGroups (λ k. get_or items k no_item) entered (whole_at whole) → AreGroups (λ k. get_or (take n items) k no_item) entered (whole_at whole)
+first_groups items entered whole n groups =
+    let taken : ℕ → Item = λ k. get_or (take n items) k no_item in
+    groups_alike (λ k. get_or items k no_item) taken entered (whole_at whole) (whole_at whole) n groups
+    (λ k later.
+    let there = store_below (take n items) k (later_parts taken entered (whole_at whole) k later).0 in
+    let size = length-take n items in
+    omega arith)
+    (λ j below. sym (get_or-take n items j no_item below)) (λ j below. refl)
+
+first_legal : (program : Program) (closed : ClosedGraph) (entered : ℕ → Bool) (g : MapParts) (n : ℕ) → AreLegal program closed entered g →
+    AreLegal (record program { items = take n program.items }) closed entered (record g { lines = take n g.lines })
+first_legal program closed entered g n legal = record {
   sections = sym (take-map (λ (l : MapLine). l.section) n g.lines) ∙ ap (take n) legal.sections ∙ take-map (λ (i : Item). i.section) n program.items;
   offsets = sym (take-map (λ (l : MapLine). l.offset) n g.lines) ∙ ap (take n) legal.offsets ∙ take-map (λ (i : Item). i.offset) n program.items;
   gates = (
     legal.gates.0,
     subst (λ (gates : List ℕ). AreGates closed.sides legal.gates.0 0 (profile_for g.form).units_from (take n program.items) gates) (take-map (λ (l : MapLine). l.gate) n g.lines)
         (first_gates closed.sides legal.gates.0 0 (profile_for g.form).units_from program.items (gates_of g.lines) n legal.gates.1),
+    first_groups program.items entered legal.gates.0 n legal.gates.2,
   );
 }
 
-begins_less : (program : Program) (closed : ClosedGraph) (g : MapParts) (n m : ℕ) → n ≤ m → BeginsLegal program closed g m → BeginsLegal program closed g n
-begins_less program closed g n m below legal =
-    let first = begins_first (record program { items = take m program.items }) closed (record g { lines = take m g.lines }) n legal in
-    subst (λ (items : List Item). IsLegalMap (record program { items = items }) closed (record g { lines = take n g.lines })) (first_first program.items n m below)
-    (subst (λ (ls : List MapLine). IsLegalMap (record program { items = take n (take m program.items) }) closed (record g { lines = ls })) (first_first g.lines n m below) first)
+begins_first : (program : Program) (closed : ClosedGraph) (entry : ℕ) (g : MapParts) (n : ℕ) → IsLegalMap program closed entry g →
+    BeginsLegal program closed entry g n
+begins_first program closed entry g n legal = first_legal program closed (is_entered program closed entry) g n legal
+
+begins_less : (program : Program) (closed : ClosedGraph) (entry : ℕ) (g : MapParts) (n m : ℕ) → n ≤ m → BeginsLegal program closed entry g m →
+    BeginsLegal program closed entry g n
+begins_less program closed entry g n m below legal =
+    let entered = is_entered program closed entry in
+    let first = first_legal (record program { items = take m program.items }) closed entered (record g { lines = take m g.lines }) n legal in
+    subst (λ (items : List Item). AreLegal (record program { items = items }) closed entered (record g { lines = take n g.lines })) (first_first program.items n m below)
+    (subst (λ (ls : List MapLine). AreLegal (record program { items = take n (take m program.items) }) closed entered (record g { lines = ls })) (first_first g.lines n m below) first)
 
 pub wrong_is_not_legal : WrongIsNotLegal
-wrong_is_not_legal program closed g number wrong legal = wrong.wrong (begins_first program closed g (wrong.index + 1) legal)
+wrong_is_not_legal program closed entry g number wrong legal = wrong.wrong (begins_first program closed entry g (wrong.index + 1) legal)
 
 -- what is right before one line is right before all that come earlier
-not_before : (program : Program) (closed : ClosedGraph) (g : MapParts) (a b : ℕ) → IsWrongLine program closed g a → IsWrongLine program closed g b → a < b → ⊥
-not_before program closed g a b one other less =
+not_before : (program : Program) (closed : ClosedGraph) (entry : ℕ) (g : MapParts) (a b : ℕ) → IsWrongLine program closed entry g a →
+    IsWrongLine program closed entry g b → a < b → ⊥
+not_before program closed entry g a b one other less =
     let here = one.numbered in
     let there = other.numbered in
-    one.wrong (begins_less program closed g (one.index + 1) other.index (omega arith) other.before)
+    one.wrong (begins_less program closed entry g (one.index + 1) other.index (omega arith) other.before)
 
 pub one_is_first : OneIsFirst
-one_is_first program closed g a b one other = elim (cases_lt a b) [
-  | inl less ↦ absurd (not_before program closed g a b one other less)
+one_is_first program closed entry g a b one other = elim (cases_lt a b) [
+  | inl less ↦ absurd (not_before program closed entry g a b one other less)
   | inr more ↦ elim (cases_eq a b) [
     | inl same ↦ same
-    | inr apart ↦ absurd (not_before program closed g b a other one (omega arith))
+    | inr apart ↦ absurd (not_before program closed entry g b a other one (omega arith))
   ]
 ]
 
@@ -118,23 +142,81 @@ same_lines sides whole k at (item ∷ items) (line ∷ lines) (suc n) are sectio
     ∙ ap (λ (ls : List MapLine). record { gate = at; section = item.section; offset = item.offset } ∷ ls)
     (same_lines sides whole (k + 1) (at + lead_size sides k + size_of item.kind (whole_at whole k)) items lines n are.1 s.1 o.1)
 
+-- a placement's gates are those of any flags that are the same at its places
+gates_alike : (sides : List Side) (whole other : List Bool) (k at : ℕ) (items : List Item) (gates : List ℕ)
+    → ((i : ℕ) → i < length items → whole_at whole (k + i) ≡ whole_at other (k + i)) → AreGates sides whole k at items gates → AreGates sides other k at items gates
+unfolding AreGates
+gates_alike sides whole other k at [] [] same are = tt
+gates_alike sides whole other k at [] (gate ∷ gates) same are = absurd are
+gates_alike sides whole other k at (item ∷ items) [] same are = absurd are
+gates_alike sides whole other k at (item ∷ items) (gate ∷ gates) same are =
+    let plus : k + 0 ≡ k = omega arith in
+    let here : whole_at whole k ≡ whole_at other k = subst (λ (j : ℕ). whole_at whole j ≡ whole_at other j) plus (same 0 (omega arith)) in (
+      are.0,
+      gates_alike sides whole other (k + 1) (at + lead_size sides k + size_of item.kind (whole_at other k)) items gates
+          (λ i below.
+          let next : k + suc i ≡ k + 1 + i = omega arith in
+          subst (λ (j : ℕ). whole_at whole j ≡ whole_at other j) next (same (suc i) (omega arith)))
+          (subst (λ (b : Bool). AreGates sides whole (k + 1) (at + lead_size sides k + size_of item.kind b) items gates) here are.1),
+    )
+
+-- a legal beginning goes on to a legal map: behind it each unit has its whole size
+module _ (program : Program) (closed : ClosedGraph) (entry : ℕ) (g : MapParts) (n : ℕ) (begins : BeginsLegal program closed entry g n) where
+  abbrev from : ℕ
+  from = (profile_for g.form).units_from
+
+  abbrev flags : List Bool
+  flags = take n begins.gates.0
+
+  abbrev whole_map : MapParts
+  whole_map = record { form = g.form; lines = lines_at closed.sides flags 0 from program.items }
+
+  same_flags : (j : ℕ) → j < n → whole_at begins.gates.0 j ≡ whole_at flags j
+  same_flags j below = sym (get_or-take n begins.gates.0 j true below)
+
+  flags_groups : AreGroups (item_of program) (is_entered program closed entry) (whole_at flags)
+  flags_groups =
+      groups_alike (λ k. get_or (take n program.items) k no_item) (item_of program) (is_entered program closed entry) (whole_at begins.gates.0) (whole_at flags) n begins.gates.2
+      (λ k later. elim (cases_lt k n) [
+        | inl below ↦ below
+        | inr past ↦
+            let size = length-take n begins.gates.0 in
+            let none : whole_at flags k ≡ true = get_or_past flags k true (omega arith) in
+            let short = (later_parts (item_of program) (is_entered program closed entry) (whole_at flags) k later).1 in
+            let wrong : true ≡ false = sym none ∙ short in
+            absurd (cc)
+      ])
+      (λ j below. get_or-take n program.items j no_item below) same_flags
+
+  whole_legal : IsLegalMap program closed entry whole_map
+  whole_legal = record {
+    sections = sections_at closed.sides flags 0 from program.items;
+    offsets = offsets_at closed.sides flags 0 from program.items;
+    gates = (flags, gates_at closed.sides flags 0 from program.items, flags_groups);
+  }
+
+  whole_begins : take n g.lines ≡ take n whole_map.lines
+  whole_begins =
+      same_lines closed.sides flags 0 from program.items g.lines n
+      (gates_alike closed.sides begins.gates.0 flags 0 from (take n program.items) (gates_of (take n g.lines))
+      (λ i below.
+      let size = length-take n program.items in
+      let plus : i ≡ 0 + i = omega arith in
+      subst (λ (j : ℕ). whole_at begins.gates.0 j ≡ whole_at flags j) plus (same_flags i (omega arith)))
+      begins.gates.1)
+      begins.sections begins.offsets
+
 pub begins_as_legal : BeginsAsLegal
-begins_as_legal program closed g n = (
-  λ begins.
-      let from = (profile_for g.form).units_from in
-      let whole : List Bool = begins.gates.0 in
-      let legal : MapParts = record { form = g.form; lines = lines_at closed.sides whole 0 from program.items } in (
-        legal,
-        record {
-          sections = sections_at closed.sides whole 0 from program.items;
-          offsets = offsets_at closed.sides whole 0 from program.items;
-          gates = (whole, gates_at closed.sides whole 0 from program.items);
-        },
-        refl,
-        same_lines closed.sides whole 0 from program.items g.lines n begins.gates.1 begins.sections begins.offsets,
-      ),
+begins_as_legal program closed entry g n = (
+  λ begins. (
+    whole_map program closed entry g n begins,
+    whole_legal program closed entry g n begins,
+    refl,
+    whole_begins program closed entry g n begins,
+  ),
   λ (legal, is, form, same).
-      subst (λ (f : Form). IsLegalMap (record program { items = take n program.items }) closed (record { form = f; lines = take n g.lines })) form
-      (subst (λ (ls : List MapLine). IsLegalMap (record program { items = take n program.items }) closed (record { form = legal.form; lines = ls })) (sym same)
-      (begins_first program closed legal n is)),
+      let entered = is_entered program closed entry in
+      subst (λ (f : Form). AreLegal (record program { items = take n program.items }) closed entered (record { form = f; lines = take n g.lines })) form
+      (subst (λ (ls : List MapLine). AreLegal (record program { items = take n program.items }) closed entered (record { form = legal.form; lines = ls })) (sym same)
+      (begins_first program closed entry legal n is)),
 )

@@ -9,15 +9,18 @@ use Rattle.cfi_map.specs.MapFault.{BeginsLegal, IsWrongLine}
 -- a map with a wrong line is not legal
 abbrev pub WrongIsNotLegal : Type 0
 WrongIsNotLegal =
-    (program : Program) (closed : ClosedGraph) (map : MapParts) (number : ℕ) → IsWrongLine program closed map number → IsLegalMap program closed map → ⊥
+    (program : Program) (closed : ClosedGraph) (entry : ℕ) (map : MapParts) (number : ℕ) → IsWrongLine program closed entry map number →
+    IsLegalMap program closed entry map → ⊥
 
 -- it has one first wrong line
 abbrev pub OneIsFirst : Type 0
 OneIsFirst =
-    (program : Program) (closed : ClosedGraph) (map : MapParts) (a b : ℕ) → IsWrongLine program closed map a → IsWrongLine program closed map b → a ≡ b
+    (program : Program) (closed : ClosedGraph) (entry : ℕ) (map : MapParts) (a b : ℕ) → IsWrongLine program closed entry map a →
+    IsWrongLine program closed entry map b → a ≡ b
 
 -- the first lines are legal for as many first places exactly where some legal map of the same form begins with them
 abbrev pub BeginsAsLegal : Type 0
 BeginsAsLegal =
-    (program : Program) (closed : ClosedGraph) (map : MapParts) (n : ℕ) →
-    BeginsLegal program closed map n ↔ ((legal : MapParts) × IsLegalMap program closed legal × (legal.form ≡ map.form) × (take n map.lines ≡ take n legal.lines))
+    (program : Program) (closed : ClosedGraph) (entry : ℕ) (map : MapParts) (n : ℕ) →
+    BeginsLegal program closed entry map n
+    ↔ ((legal : MapParts) × IsLegalMap program closed entry legal × (legal.form ≡ map.form) × (take n map.lines ≡ take n legal.lines))

@@ -1,11 +1,12 @@
 -- Whether a line of a map follows from the lines before it. Only private contracts cite this: that it tells legal maps is proved.
-use Rattle.std.specs.Prelude.{ℕ, ◌+◌, ◌-◌, nat_lt, Bool, true, false, not, ◌==◌, ◌&&◌, ◌||◌, if◌then◌else◌, List, length, slice_index_or}
+use Rattle.std.specs.Prelude.{ℕ, ◌+◌, ◌-◌, nat_le, nat_lt, Bool, true, false, not, ◌==◌, ◌&&◌, ◌||◌, if◌then◌else◌, List, length, slice_index_or}
 use Rattle.rv_word.specs.Form.{profile_for}
 use Rattle.rv_word.specs.declared.form.Form.{Form}
 use Rattle.cfi_graph.specs.declared.map.MapLine.{MapLine}
 use Rattle.obj_input.specs.declared.item_kind.ItemKind.{ItemKind}
-use Rattle.obj_program.specs.Program.{Program, count, is_spot, item_of}
-use Rattle.cfi_closed.specs.Closed.{ClosedGraph, Side}
+use Rattle.obj_program.specs.Program.{count, is_spot, item_of}
+use Rattle.cfi_closed.specs.Closed.{Side}
+use Rattle.cfi_map.specs.Groups.{Entries, is_store, joins_in, members_before}
 use Rattle.cfi_map.specs.Placement.{lead_size, size_of}
 
 abbrev pub no_line : MapLine
@@ -14,23 +15,47 @@ no_line = record { gate = 0; section = 0; offset = 0 }
 abbrev pub line_at : List MapLine → ℕ → MapLine
 line_at lines j = slice_index_or lines j no_line
 
--- a gate stands behind the unit of the place k, long or short
-abbrev pub follows : List Side → ItemKind → ℕ → ℕ → ℕ → Bool
-follows sides kind k gate next =
-    next == gate + (lead_size sides k + size_of kind true) || next == gate + (lead_size sides k + size_of kind false)
+-- a gate stands behind the unit of the place k, where that has its whole size
+abbrev pub is_past_whole : List Side → ItemKind → ℕ → ℕ → ℕ → Bool
+is_past_whole sides kind k gate next = next == gate + (lead_size sides k + size_of kind true)
 
-abbrev pub stands : Form → Program → ClosedGraph → List MapLine → ℕ → Bool
-stands form program closed lines j =
-    if j == 0 then (line_at lines 0).gate == (profile_for form).units_from
-    else follows closed.sides (item_of program (j - 1)).kind (j - 1) (line_at lines (j - 1)).gate (line_at lines j).gate
+-- whether the unit of a place has its whole size, by the gates; that of the last line has it
+abbrev pub has_whole : Entries → List MapLine → ℕ → Bool
+has_whole of lines k =
+    nat_le (length lines) (k + 1)
+    || is_past_whole of.closed.sides (item_of of.program k).kind k (line_at lines k).gate (line_at lines (k + 1)).gate
+
+-- how many stores the group has that ends right before a place, by the gates
+abbrev pub stores_before : Entries → List MapLine → ℕ → ℕ
+stores_before of lines k = members_before (item_of of.program) (has_whole of lines) k
+
+-- the unit of a place may be one word, where a group of so many stores ends right before it: a store has to join that
+abbrev pub may_be_short : Entries → ItemKind → ℕ → ℕ → Bool
+may_be_short of kind k before = not (is_store kind) || joins_in of k before
+
+-- a gate stands behind the unit of the place k, whole or short
+abbrev pub follows : Entries → ItemKind → ℕ → ℕ → ℕ → ℕ → Bool
+follows of kind k before gate next =
+    is_past_whole of.closed.sides kind k gate next
+    || (next == gate + (lead_size of.closed.sides k + size_of kind false) && may_be_short of kind k before)
+
+-- the gate of the line after that of the place k is where this lets it be
+abbrev pub follows_at : Entries → List MapLine → ℕ → ℕ → Bool
+follows_at of lines k before = follows of (item_of of.program k).kind k before (line_at lines k).gate (line_at lines (k + 1)).gate
+
+-- a line is that of its place, but for its gate
+abbrev pub is_named : Entries → List MapLine → ℕ → Bool
+is_named of lines j = is_spot (line_at lines j).section (line_at lines j).offset (item_of of.program j)
+
+abbrev pub stands : Form → Entries → List MapLine → ℕ → Bool
+stands form of lines j =
+    if j == 0 then (line_at lines 0).gate == (profile_for form).units_from else follows_at of lines (j - 1) (stores_before of lines (j - 1))
 
 -- a line is that of its place
-abbrev pub is_right : Form → Program → ClosedGraph → List MapLine → ℕ → Bool
-is_right form program closed lines j =
-    is_spot (line_at lines j).section (line_at lines j).offset (item_of program j)
-    && stands form program closed lines j
+abbrev pub is_right : Form → Entries → List MapLine → ℕ → Bool
+is_right form of lines j = is_named of lines j && stands form of lines j
 
 -- a line is wrong; past the last one, lines are missing
-abbrev pub is_wrong : Form → Program → ClosedGraph → List MapLine → ℕ → Bool
-is_wrong form program closed lines j =
-    if nat_lt j (length lines) then not (nat_lt j (count program) && is_right form program closed lines j) else nat_lt j (count program)
+abbrev pub is_wrong : Form → Entries → List MapLine → ℕ → Bool
+is_wrong form of lines j =
+    if nat_lt j (length lines) then not (nat_lt j (count of.program) && is_right form of lines j) else nat_lt j (count of.program)

@@ -13,7 +13,7 @@ ghost use Rattle.cfi_map.specs.GraphAtMap.{program_at};
 ghost use Rattle.cfi_map.specs.Source.{first_astray, instr_here, source_start};
 ghost use Rattle.src_machine.specs.State.{source_in};
 
-use crate::legal::wrong_line;
+use crate::legal::check_map;
 use crate::placed::Placed;
 use crate::run::SourceRun;
 use crate::source_end::SourceEnd;
@@ -68,7 +68,7 @@ fn mapped<'a, 'b>(
     map: &Map,
     entry: u64,
 ) -> Result<Mapped<'a, 'b>, NoMemory>
-    requires legal { IsLegalMap items.now closed.now map.now }
+    requires legal { IsLegalMap items.now closed.now entry map.now }
     requires entry { entry < count items.now }
     ensures { IfOk result (λ m. m ≡ program_at map.now.form items.now closed.now (gates_of map.now.lines) entry) }
 {
@@ -84,9 +84,9 @@ fn placed<'a, 'b>(
     map: &Map,
     entry: u64,
 ) -> Result<Placed<'a, 'b>, SourceEnd>
-    requires legal { IsLegalMap items.now closed.now map.now }
+    requires legal { IsLegalMap items.now closed.now entry map.now }
     requires entry { entry < count items.now }
-    ensures { MatchResult result (λ p. AreAt items.now closed.now map.now entry p) (λ e. Ends items.now closed.now map.now e) }
+    ensures { MatchResult result (λ p. AreAt items.now closed.now map.now entry p) (λ e. Ends items.now closed.now entry map.now e) }
 {
     let mapped = mapped(alloc, items, closed, map, entry)?;
     if let Some(place) = mapped.out_of_range() {
@@ -130,14 +130,12 @@ impl<'a, 'b> SourceRun<'a, 'b> {
     ) -> Result<SourceRun<'a, 'b>, SourceEnd>
         requires entry { is_some (instruction_at items.now (entry.0, entry.1)) ≡ true }
         requires data { DATA_START + init_size items.now ≤ DATA_END }
-        ensures { MatchResult result
-            (λ run. IsBegun items.now closed.now map.now entry.0 entry.1 input.now run)
-            (λ e. Ends items.now closed.now map.now e) }
+        ensures { (place : ℕ) → instruction_at items.now (entry.0, entry.1) ≡ Some place → MatchResult result
+            (λ run. IsBegun items.now closed.now place map.now input.now run)
+            (λ e. Ends items.now closed.now place map.now e) }
     {
-        if let Some(number) = wrong_line(items, closed, map) {
-            return Err(SourceEnd::BadMap(number));
-        }
         let entry = place_of(items, entry.0, entry.1);
+        check_map(alloc, items, closed, map, entry)?;
         let placed = placed(alloc, items, closed, map, entry)?;
         let state = start(alloc, &placed, input)?;
         Ok(SourceRun {

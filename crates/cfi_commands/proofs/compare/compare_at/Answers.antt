@@ -22,7 +22,7 @@ pub returns-in-Err-RelocRange : goal.returns-in-Err-RelocRange
 returns-in-Err-RelocRange c = λ asked text roomy read.
     let p = c.args.prepared.now in
     let lines = c.args.map.now in
-    let (legal, out) = subst (λ (e : SourceEnd). Ends p.program p.closed lines e) c.in-Err-RelocRange.field-0-is c.in-Err-RelocRange.ensures in
+    let (legal, out) = subst (λ (e : SourceEnd). Ends p.program p.closed p.entry lines e) c.in-Err-RelocRange.field-0-is c.in-Err-RelocRange.ensures in
     rw c.in-Err-RelocRange.field-0-is (p, lines, roomy, record { read = read; legal = legal }, out)
 
 pub returns-in-Err-BadMap : goal.returns-in-Err-BadMap
@@ -30,5 +30,5 @@ returns-in-Err-BadMap c = λ asked text roomy read.
     let p = c.args.prepared.now in
     let lines = c.args.map.now in
     wrong_place asked p text roomy c.args.image.now c.after_the_image-refusal.result lines c.in-Err-BadMap.line c.wrong_is_not_legal.ensures read
-    (subst (λ (e : SourceEnd). Ends p.program p.closed lines e) c.in-Err-BadMap.field-0-is c.in-Err-BadMap.ensures)
+    (subst (λ (e : SourceEnd). Ends p.program p.closed p.entry lines e) c.in-Err-BadMap.field-0-is c.in-Err-BadMap.ensures)
     (rw c.in-Err-BadMap.field-0-is at c.after_the_image-refusal.ensures)

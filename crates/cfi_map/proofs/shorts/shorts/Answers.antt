@@ -3,7 +3,7 @@ use Rattle.obj_program.specs.Program.{count}
 use Rattle.cfi_layout.specs.declared.short.Short.{Short}
 use Rattle.cfi_layout.specs.LongSet.{AreShorts}
 use Rattle.cfi_map.specs.Shorts.{shorts_below}
-use Rattle.cfi_map.specs.Sizes.{whole_sizes}
+use Rattle.cfi_map.specs.Sizes.{grouped_parts}
 use Rattle.cfi_map.proofs.ShortList.{shorts_begin, shorts_more}
 use Rattle.cfi_map.proofs.Shortened.{branches_fit, few_places}
 use Rattle.cfi_map.proofs.shorts.shorts.Goals as goal
@@ -19,8 +19,8 @@ loop-k-preserved c =
     shorts_more c.args.items.now c.args.closed.now c.loop-k.k c.loop-k.shorts.items _ _ c.loop-k.invariant c.short_at.ensures c.in_ok-push_some.ensures
 
 pub returns-clause-fit : goal.returns-clause-fit
-returns-clause-fit c =
+returns-clause-fit c = λ leads.
     let all : c.loop-k.k ≡ count c.args.items.now = omega arith in
-    subst (λ (shorts : List Short). AreShorts shorts (whole_sizes c.args.items.now c.args.closed.now))
+    subst (λ (shorts : List Short). AreShorts shorts (grouped_parts c.args.items.now c.args.closed.now leads))
     (sym (c.loop-k.invariant ∙ ap (shorts_below c.args.items.now c.args.closed.now) all))
-    (branches_fit c.args.items.now c.args.closed.now c.count-k-end.ensures.sound)
+    (branches_fit c.args.items.now c.args.closed.now leads c.count-k-end.ensures.sound)

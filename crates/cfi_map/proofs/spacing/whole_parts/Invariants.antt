@@ -1,10 +1,10 @@
 use Rattle.std.proofs.Common.{◌≡◌, ℕ, ◌<◌, length}
-use Rattle.cfi_layout.specs.Starts.{flag}
 use Rattle.cfi_map.specs.Placement.{whole_at}
+use Rattle.cfi_map.specs.Placing.{joined}
 use Rattle.cfi_map.proofs.spacing.whole_parts.Given as goal
 
 abbrev pub invariant-loop-k : goal.invariant-loop-k
 invariant-loop-k l = record {
   len : length l.whole.items ≡ l.k;
-  each : (k : ℕ) → k < l.k → whole_at l.whole.items k ≡ flag l.placement.long k;
+  each : (k : ℕ) → k < l.k → whole_at l.whole.items k ≡ joined l.items l.leads l.placement.long k;
 }

@@ -1,0 +1,7 @@
+use Rattle.std.proofs.Common.{◌≡◌, ◌++◌, drop}
+use Rattle.cfi_map.specs.Sizes.{grouped_parts, grouped_sizes}
+use Rattle.cfi_map.proofs.sizes.grouped_sizes.Given as goal
+
+abbrev pub invariant-loop-k : goal.invariant-loop-k
+invariant-loop-k l =
+    l.sizes.items ++ grouped_sizes l.closed.sides l.leads l.k (drop l.k l.items.items) ≡ grouped_parts l.items l.closed l.leads

@@ -1,0 +1,55 @@
+-- The gates of a program at a map tell which of its stores are later ones.
+use Rattle.std.proofs.Common.{◌≡◌, ℕ, ◌+◌, ◌==◌, inl, inr, Bool, true, false, not, Option, Some, None, refl, sym, ap, ◌∙◌, arith, if◌then◌else◌}
+use Rattle.std.specs.Prelude.{◌&&◌}
+use Rattle.std.proofs.lemmas.Bool.{cases_Bool, cases_lt, eq-eqb, ne_eqb}
+use Rattle.std.proofs.lemmas.List.{get_or_past}
+use Rattle.obj_input.specs.declared.item_kind.ItemKind.{ItemKind}
+use Rattle.obj_input.specs.declared.item_kind.ItemKind.TheVariants as is
+use Rattle.obj_program.specs.declared.item.Item.{Item}
+use Rattle.obj_program.specs.Program.{count, item_of, no_item}
+use Rattle.cfi_map.specs.GraphAtMap.{gate, word}
+use Rattle.cfi_map.specs.Groups.{is_store}
+use Rattle.cfi_map.specs.Placement.{size_of, whole_at}
+use Rattle.cfi_writer.specs.Accepted.{IsAccepted}
+use Rattle.cfi_writer.specs.Units.{Choice, is_later_at}
+use Rattle.cfi_writer.proofs.Standing.{next_gate}
+use Rattle.cfi_meaning.specs.LaterStores.{is_at_later}
+use Rattle.cfi_meaning.specs.PlaceSteps.{Linked, holds_store}
+use Rattle.cfi_meaning.proofs.Names.{store_is_place}
+use Rattle.cfi_meaning.proofs.Places.{place_behind}
+
+store_size : (kind : ItemKind) (whole : Bool) → is_store kind ≡ true → size_of kind whole ≡ (if whole then 16 else 4)
+store_size is.Store whole store = refl
+store_size other whole store = absurd (cc)
+
+sized : (whole : Bool) (a n : ℕ) → n ≡ a + (if whole then 16 else 4) → (n == a + 4) ≡ not whole
+sized true a n is = ne_eqb n (a + 4) (λ same. absurd (omega arith))
+sized false a n is = eq-eqb n (a + 4) is
+
+pub at_later_is : (m : Choice) (k : ℕ) → IsAccepted m → is_at_later m.layout (Some k) ≡ is_later_at m k
+at_later_is m k ok =
+    elim (cases_Bool (holds_store m k)) [
+      | inr other ↦
+          ap (λ (b : Bool). b && gate m.layout (k + 1) == word m.layout k + 4) other ∙ sym (ap (λ (b : Bool). b && not (whole_at m.whole k)) other)
+      | inl store ↦
+          elim (cases_lt k (count m.layout.program)) [
+            | inl below ↦
+                let next = place_behind m k ok (store_is_place m k below store) in
+                let size = store_size (item_of m.layout.program k).kind (whole_at m.whole k) store in
+                ap (λ (b : Bool). holds_store m k && b)
+                (sized (whole_at m.whole k) (word m.layout k) (gate m.layout (k + 1))
+                (next_gate m ok k next ∙ ap (λ (n : ℕ). word m.layout k + n) size))
+            | inr past ↦
+                let none = get_or_past m.layout.program.items k no_item past in
+                let wrong : false ≡ true = sym (ap (λ (i : Item). is_store i.kind) none) ∙ store in
+                absurd (cc)
+          ]
+    ]
+
+pub free_place : (m : Choice) (place : Option ℕ) → IsAccepted m → is_at_later m.layout place ≡ false → Linked m None place
+free_place m None ok free = tt
+free_place m (Some k) ok free = sym (at_later_is m k ok) ∙ free
+
+pub at_no_later : (m : Choice) (place : Option ℕ) → IsAccepted m → ((j : ℕ) → place ≡ Some j → is_later_at m j ≡ false) → is_at_later m.layout place ≡ false
+at_no_later m None ok each = refl
+at_no_later m (Some k) ok each = at_later_is m k ok ∙ each k refl
