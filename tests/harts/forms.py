@@ -1,10 +1,11 @@
 #!/usr/bin/env python3
-"""What small objects become in each form of hardening: `python3 tests/harts/forms.py`, with `split` or another form to print.
+"""What small objects become in each form of hardening: `python3 tests/harts/forms.py`, with `split` or another table to print.
 
 The programs of small objects, unit by unit, as docs/MACHINE.md has them for one hart and for several, with one label for calls and
 jumps and with a label for each: the words of their units, their graphs and their maps. Without a word it compares what it makes
 with the tables of crates/sample_hardened and crates/sample_split: those for one hart with one label were worked out by hand or are
-what binutils made of the sources in tests/units, and the others are what it printed. With a form's name it prints these anew.
+what binutils made of the sources in tests/units, and the others are what it printed. With the name of a table, which is a form or
+`stores-` and a form, it prints that anew.
 """
 
 import re
@@ -16,10 +17,10 @@ from typing import NamedTuple
 
 sys.dont_write_bytecode = True
 
-from program import ECALL, UNITS, Program, addi, i_form, r_form, u_form
+from program import ECALL, UNITS, Program, addi, branch, i_form, r_form, s_form, u_form
 
 CRATES = Path(__file__).resolve().parents[2] / "crates"
-LD, SD, BEQ, BNE = 3, 3, 0, 1
+LD, SB, SH, SW, SD, BEQ, BNE = 3, 0, 1, 2, 3, 0, 1
 
 
 class Form(NamedTuple):
@@ -66,6 +67,14 @@ class Listed(Program):
     def unit(self, put, *given, size=4):
         self.place(size)
         put(*given)
+
+    def masked(self, rs1, imm, *members, call=None):
+        """Stores behind one mask: a later one's place is its own word."""
+        self.place(4, call)
+        for k in range(1, len(members)):
+            self.lines.append("at %08x 0001 %08x" % (self.at + 12 + 4 * k, self.offset))
+            self.offset += 4
+        self.stores(rs1, imm, members)
 
     def nowhere(self, kind, label):
         """A class without a target."""
@@ -271,6 +280,132 @@ def switching(p):
     p.end()
 
 
+def saving(p):
+    """Two stores behind one mask."""
+    p.label("main")
+    p.words(addi(2, 2, -32))
+    p.masked(2, 16, (SD, 1, 8), (SD, 8, 0))
+    p.words(load(1, 24, 2), addi(2, 2, 32))
+    p.unit(p.returns)
+    p.end()
+
+
+def spread(p):
+    """Stores whose offsets are as far apart as they may be behind one mask, and those that are a byte further apart."""
+    p.label("main")
+    p.words(u_form(0x37, 5, 0x20))
+    p.masked(5, -2048, (SD, 6, 0), (SB, 6, 2047))
+    p.words(NOP)
+    p.masked(5, -2048, (SB, 6, 2047), (SD, 6, 0))
+    p.words(NOP)
+    p.masked(5, -2048, (SW, 6, 0))
+    p.masked(5, 0, (SW, 6, 0))
+    p.words(NOP)
+    p.masked(5, 0, (SH, 6, 0))
+    p.masked(5, -2048, (SH, 6, 0))
+    p.words(NOP)
+    p.masked(5, -1000, (SD, 6, 2000), (SD, 6, 0), (SD, 6, 2047))
+    p.masked(5, 1048, (SD, 6, 0))
+    p.masked(5, -1000, (SD, 6, 0), (SD, 6, 1))
+    p.unit(p.returns)
+    p.end()
+
+
+def many(p):
+    """Eighteen stores, sixteen and seventeen, of which sixteen stand behind one mask."""
+    p.label("main")
+    p.words(addi(2, 2, -32))
+    p.masked(2, 0, *[(SB, 6, k) for k in range(16)])
+    p.masked(2, 16, (SB, 6, 0), (SB, 6, 1))
+    p.words(NOP)
+    p.masked(2, 0, *[(SB, 6, 15 - k) for k in range(16)])
+    p.words(NOP)
+    p.masked(2, 1, *[(SB, 6, 15 - k) for k in range(16)])
+    p.masked(2, 0, (SB, 6, 0))
+    p.words(addi(2, 2, 32))
+    p.unit(p.returns)
+    p.end()
+
+
+def bases(p):
+    """Stores off two registers in turn, off x0, and with an instruction between them."""
+    p.label("main")
+    p.words(u_form(0x37, 5, 0x20))
+    p.masked(2, -8, (SD, 6, 0))
+    p.masked(5, 8, (SD, 6, 0))
+    p.masked(2, -24, (SD, 2, 8), (SD, 5, 0))
+    p.masked(5, 16, (SD, 5, 0))
+    p.masked(0, 24, (SD, 6, 0), (SW, 5, 8))
+    p.masked(2, -32, (SD, 6, 0))
+    p.words(addi(6, 6, 1))
+    p.masked(2, -40, (SD, 6, 0))
+    p.unit(p.returns)
+    p.end()
+
+
+def aimed(p):
+    """A branch over stores, and one back to the second of them."""
+    p.label("main")
+    p.unit(p.near, BNE, 10, 0, "out")
+    p.masked(2, -8, (SD, 6, 0))
+    p.label("again")
+    p.masked(2, -24, (SD, 6, 8), (SD, 6, 0))
+    p.unit(p.near, BNE, 10, 0, "again")
+    p.label("out")
+    p.unit(p.returns)
+    p.end()
+
+
+def led(p, inner=None, is_entry=False):
+    """Stores to which a jump, a branch and a call lead, at which a function begins that is called through a pointer, whose place
+    is in the data, and, where it is a target or the entry, at which a symbol stands."""
+    p.label("main")
+    p.words(addi(2, 2, -64))
+    if inner or is_entry:
+        p.masked(2, 56, (SD, 1, 0))
+        p.label("inner")
+        p.masked(2, 48, (SD, 8, 0), call=inner)
+    else:
+        p.masked(2, 48, (SD, 1, 8), (SD, 8, 0))
+    pointer(p, 5, 0)
+    p.unit(p.icall, 5, 0, 1)
+    p.unit(p.near, BEQ, 10, 0, "branched")
+    p.unit(p.jump, "jumped")
+    p.masked(2, 0, (SD, 6, 0))
+    p.label("jumped")
+    p.masked(2, 8, (SD, 6, 0))
+    p.label("branched")
+    p.masked(2, 16, (SD, 6, 0), (SD, 7, 8))
+    p.label("taken")
+    p.masked(2, 32, (SD, 7, 0), (SD, 7, 8))
+    p.unit(p.call, "called")
+    p.words(load(1, 56, 2), load(8, 48, 2), addi(2, 2, 64))
+    p.masked(2, -8, (SD, 1, 0))
+    p.label("f")
+    p.masked(2, -24, (SD, 1, 8), (SD, 8, 0), call=1)
+    p.label("called")
+    p.masked(2, -40, (SD, 8, 8), (SD, 8, 0))
+    p.words(addi(10, 10, 1))
+    p.unit(p.returns)
+    p.end()
+
+
+def patched(p):
+    """Stores whose offsets come from relocations, each behind a mask of its own, and others in twos."""
+    p.label("main")
+    p.words(u_form(0x37, 5, 0x10))
+    p.masked(5, 0, (SD, 6, 0))
+    p.masked(5, 8, (SD, 7, 0))
+    p.masked(5, 16, (SD, 7, 0), (SD, 7, 8))
+    p.masked(5, 0, (SD, 6, 0))
+    distance = 0x10008 - p.at
+    p.words(u_form(0x17, 5, distance + 0x800 >> 12 & 0xFFFFF))
+    p.masked(5, (distance + 0x800 & 0xFFF) - 0x800, (SD, 6, 0))
+    p.masked(5, 0, (SD, 0, 8), (SD, 0, 0))
+    p.unit(p.returns)
+    p.end()
+
+
 class Row(NamedTuple):
     """The name of its tables, the object with its change, and what makes it; its entry, its policy, its pointers or its data."""
     name: str
@@ -286,6 +421,34 @@ class Row(NamedTuple):
         return 'Given(Source::%s, "%s", %s)' % (self.object, self.entry, policy)
 
 
+NOP, RETURN = addi(0, 0, 0), i_form(0x67, 0, 0, 1, 0)
+
+
+def coded(*words):
+    """The object that returns with these words for its code."""
+    return 'Coded, 0, b"%s"' % struct.pack("<%dI" % len(words), *words).hex()
+
+
+def stored(rs1, *stores):
+    """Stores off a register: of each its width, what it stores, and its offset."""
+    return [s_form(funct3, rs1, rs2, offset) for funct3, rs2, offset in stores]
+
+
+STORES = {
+    "SAVING": coded(addi(2, 2, -32), *stored(2, (SD, 1, 24), (SD, 8, 16)), load(1, 24, 2), addi(2, 2, 32), RETURN),
+    "SPREAD": coded(
+        u_form(0x37, 5, 0x20), *stored(5, (SD, 6, -2048), (SB, 6, -1)), NOP, *stored(5, (SB, 6, -1), (SD, 6, -2048)), NOP,
+        *stored(5, (SW, 6, -2048), (SW, 6, 0)), NOP, *stored(5, (SH, 6, 0), (SH, 6, -2048)), NOP,
+        *stored(5, *[(SD, 6, offset) for offset in (1000, -1000, 1047, 1048, -1000, -999)]), RETURN),
+    "MANY": coded(
+        addi(2, 2, -32), *stored(2, *[(SB, 6, k) for k in range(18)]), NOP, *stored(2, *[(SB, 6, 15 - k) for k in range(16)]), NOP,
+        *stored(2, *[(SB, 6, 16 - k) for k in range(17)]), addi(2, 2, 32), RETURN),
+    "BASES": coded(
+        u_form(0x37, 5, 0x20), *stored(2, (SD, 6, -8)), *stored(5, (SD, 6, 8)), *stored(2, (SD, 2, -16), (SD, 5, -24)),
+        *stored(5, (SD, 5, 16)), *stored(0, (SD, 6, 24), (SW, 5, 32)), *stored(2, (SD, 6, -32)), addi(6, 6, 1),
+        *stored(2, (SD, 6, -40)), RETURN),
+    "AIMED": coded(branch(BNE, 10, 0, 20), *stored(2, (SD, 6, -8), (SD, 6, -16), (SD, 6, -24)), branch(BNE, 10, 0, -8), RETURN),
+}
 FG, OF_SORTS = ("f", "g"), "site main+8 f+0\nsite main+c\nsite main+10 g+0\nsite f+0\n"
 ROWS = [
     Row("B", 'Returning, 0, b""', returning),
@@ -306,6 +469,14 @@ ROWS = [
     Row("ALIKE", 'Apart, 0, b""', lambda p: both_ways(p, (1, 1), (1, 1), (0, 0)), pointers=("called", "jumped")),
     Row("SORTS", 'Sorts, 0, b""', sorts, policy=OF_SORTS, pointers=FG),
     Row("TABLE", 'Switching, 0, b""', switching, pointers=("first", "second", "f", "g")),
+]
+STORING = [
+    *[Row(name, STORES[name], make) for name, make in (
+        ("SAVING", saving), ("SPREAD", spread), ("MANY", many), ("BASES", bases), ("AIMED", aimed))],
+    Row("LED", 'Led, 0, b""', led, pointers=("f", "taken")),
+    Row("LED_INNER", 'Led, 0, b""', lambda p: led(p, inner=1), policy="site main+14 f+0 inner+0\n", pointers=("f", "taken")),
+    Row("LED_ENTRY", 'Led, 0, b""', lambda p: led(p, is_entry=True), entry="inner", pointers=("f", "taken")),
+    Row("PATCHED", 'Patched, 0, b""', patched, data="the first the second and others."),
 ]
 
 
@@ -333,24 +504,32 @@ HEADINGS = {
     "harts": ("sample_hardened", "harts", "HARTS", "in the form for several harts, whose units begin 16 bytes later than those for one hart"),
     "split": ("sample_split", "split", "SPLIT", "where calls and jumps have labels of their own, so that two words lead each target"),
     "harts-split": ("sample_split", "harts_split", "HARTS_SPLIT", "for several harts where calls and jumps have labels of their own"),
+    "stores-plain": ("sample_hardened", "stores", "STORES", "that store behind one mask, for one hart"),
+    "stores-harts": ("sample_hardened", "stores_harts", "STORES_HARTS", "that store behind one mask, for several harts"),
+    "stores-split": ("sample_split", "stores", "STORES_SPLIT", "that store behind one mask, where calls and jumps have labels of their own"),
+    "stores-harts-split": ("sample_split", "stores_harts", "STORES_HARTS_SPLIT",
+                           "that store behind one mask, for several harts where calls and jumps have labels of their own"),
 }
 OLDER = 10  # how many of the rows stand in programs.rt, for one hart with one label
 SOURCES = {"sample_programs": ["sample_programs/src/units.rt", "sample_programs/src/graphs.rt", "sample_programs/src/data.rt"],
            "sample_objects": ["sample_objects/src/maps.rt"], "sample_hardened::branches": ["sample_hardened/src/branches.rt"],
-           "sample_hardened::plain": ["sample_hardened/src/plain.rt"], "sample_hardened::harts": ["sample_hardened/src/harts.rt"]}
+           "sample_hardened::plain": ["sample_hardened/src/plain.rt"], "sample_hardened::harts": ["sample_hardened/src/harts.rt"],
+           "sample_hardened::stores": ["sample_hardened/src/stores.rt"],
+           "sample_hardened::stores_harts": ["sample_hardened/src/stores_harts.rt"]}
 WORDS = re.compile(r"const (\w+): \[u32; \d+\] = \[(.*?)\];", re.S)
-TEXTS = re.compile(r'const (\w+): &\[u8\] =\s+b"(.*?)";', re.S)
+TEXTS = re.compile(r'(pub |pub\(crate\) |)const (\w+): &\[u8\] =\s+b"(.*?)";', re.S)
 
 
-def known(paths):
-    """The tables of words and texts of some files: each one's content, and its name."""
+def known(paths, is_own=True):
+    """The tables of words and texts of some files: each one's content, and its name; of another crate the public ones."""
     found = {}
     for path in paths:
         text = (CRATES / path).read_text() if (CRATES / path).exists() else ""
         for name, table in WORDS.findall(text):
             found.setdefault(tuple(int(word, 16) for word in re.findall("0x([0-9a-f]{8})", table)), name)
-        for name, table in TEXTS.findall(text):
-            found.setdefault(re.sub(r"\\\n\s*", "", table), name)
+        for told, name, table in TEXTS.findall(text):
+            if told == "pub " or is_own:
+                found.setdefault(re.sub(r"\\\n\s*", "", table), name)
     return found
 
 
@@ -380,7 +559,7 @@ def text_lines(name, content):
 
 def use(module, names):
     """A line that names come by, or lines of at most 100 letters."""
-    line = "use %s::{%s};" % (module, names)
+    line = "use %s::%s;" % (module, "{%s}" % names if "," in names else names)
     return line if len(line) <= 100 else "use %s::{\n%s,\n};" % (module, textwrap.indent(textwrap.fill(names, 95), "    "))
 
 
@@ -388,17 +567,18 @@ class Module:
     """What a form's module has: constants that stand nowhere else, the names that it uses, and its rows."""
 
     def __init__(self, name):
-        self.form, (self.crate, self.file, self.static, self.heading) = FORMS[name], HEADINGS[name]
+        self.form, (self.crate, self.file, self.static, self.heading) = FORMS[name.replace("stores-", "")], HEADINGS[name]
         self.path = CRATES / self.crate / "src" / (self.file + ".rt")
-        self.sources = {module: known(paths) for module, paths in SOURCES.items() if module != "%s::%s" % (self.crate, self.file)}
+        self.sources = {module: known(paths, module.split("::")[0] == self.crate) for module, paths in SOURCES.items()
+                        if module != "%s::%s" % (self.crate, self.file)}
         self.constants, self.used, self.own = [], {}, {}
-        self.rows = [self.row(row) for row in ROWS[OLDER if name == "plain" else 0:]]
+        self.rows = [self.row(row) for row in (STORING if "stores" in name else ROWS[OLDER if name == "plain" else 0:])]
 
     def name(self, wanted, content, lines):
         """The name of a table, which is made where it stands nowhere yet."""
         key = tuple(content) if isinstance(content, list) else spelled(content)
         for module, found in self.sources.items():
-            if key in found:
+            if key in found and not (wanted.endswith("_DATA") and "::" in module):
                 self.used.setdefault(module.replace(self.crate + "::", "crate::"), set()).add(found[key])
                 return found[key]
         if key not in self.own:
@@ -446,9 +626,9 @@ def main():
         print(Module(sys.argv[1]).text(), end="")
         return 0
     wrong = ["%s, plain" % row.name for row in ROWS[:OLDER] if not is_older(row)]
-    wrong += ["the module of %s" % name for name in FORMS if not is_as_printed(name)]
+    wrong += ["the module of %s" % name for name in HEADINGS if not is_as_printed(name)]
     print("%d of %d tables are those of the crates%s" % (
-        OLDER + len(FORMS) - len(wrong), OLDER + len(FORMS), ": not " + ", ".join(wrong) if wrong else ""))
+        OLDER + len(HEADINGS) - len(wrong), OLDER + len(HEADINGS), ": not " + ", ".join(wrong) if wrong else ""))
     return 1 if wrong else 0
 
 

@@ -22,8 +22,9 @@ HERE = Path(__file__).resolve().parent
 sys.path[:0] = [str(HERE.parents[1] / "bench"), str(HERE.parent / "real"), str(HERE.parent / "objects")]
 
 import make_pointers
+import make_stores
 import make_vectors
-from forms import FORMS, ROWS, made
+from forms import FORMS, ROWS, STORING, made
 from images import CODE, image_file
 from program import UNITS, Program
 from rules import branch_offset, jal_target
@@ -36,6 +37,7 @@ PCREL_HI20, PCREL_LO12_I, PCREL_LO12_S, HI20, LO12_I, LO12_S = 23, 24, 25, 26, 2
 ADD8, SUB8, ADD32, ADD64 = 33, 37, 35, 36
 DATA = 0x10000
 NEAR = -4096, 4092
+MOST_STORES, MOST_APART = 16, 2047  # of a group; and how far its offsets may lie apart
 SIZES = {"plain": 4, "jump": 4, "system": 4, "stop": 4, "store": 16, "call": 32, "ijump": 52, "icall": 80, "return": 20}
 
 
@@ -212,12 +214,55 @@ class Flow:
         return any(k in lead for lead in self.leads)
 
 
-class Layout:
-    """The gates and the words of places, with as many short branches as there can be."""
+def low(value):
+    return (value & 0xFFF) - ((value & 0x800) << 1)
 
-    def __init__(self, source, flow, first):
+
+def store_offset(word):
+    """The signed offset of a store."""
+    return low(word >> 25 << 5 | word >> 7 & 31)
+
+
+class Groups:
+    """Which stores may stand behind one mask."""
+
+    def __init__(self, source, flow, entry):
+        self.source, items = source, source.items
+        self.led = {source.index[item.target] for item in items if item.target} | {entry} | flow.taken
+        self.led |= {k for lead in flow.leads for k in lead}
+
+    def is_own(self, k):
+        """Whether no relocation changes a store's offset."""
+        return self.source.items[k].place not in self.source.at
+
+    def may_join(self, k, group):
+        """Whether a store may join the group of the places right before it."""
+        words = [self.source.items[j].word for j in [*group, k]]
+        offsets = [store_offset(word) for word in words]
+        return (0 < len(group) < MOST_STORES and k not in self.led and all(map(self.is_own, [*group, k]))
+                and len({word >> 15 & 31 for word in words}) == 1 and max(offsets) - min(offsets) <= MOST_APART)
+
+    def all(self):
+        """The groups, from left to right: the places of each."""
+        groups, group = [], []
+        for k, item in enumerate(self.source.items):
+            if item.kind != "store":
+                group = []
+            elif self.may_join(k, group):
+                group.append(k)
+            else:
+                group = [k]
+                groups.append(group)
+        return groups
+
+
+class Layout:
+    """The gates and the words of places, with stores in groups and as many short branches as there can be."""
+
+    def __init__(self, source, flow, first, entry):
         self.source, self.flow, self.first, items = source, flow, first, source.items
         self.targets = [source.index[item.target] if item.target else None for item in items]
+        self.group = {group[0]: group for group in Groups(source, flow, entry).all()}
         branches = [k for k, item in enumerate(items) if item.kind == "branch"]
         self.long = {k for k in branches if self.is_kept(k)}
         self.place()
@@ -239,11 +284,12 @@ class Layout:
             self.gates.append(at)
             at += 4 * len(self.flow.leads) if self.flow.is_target(k) else 0
             self.words.append(at)
-            at += (8 if k in self.long else 4) if item.kind == "branch" else SIZES[item.kind]
+            at += self.size(k, item.kind)
 
-
-def low(value):
-    return (value & 0xFFF) - ((value & 0x800) << 1)
+    def size(self, k, kind):
+        if kind == "branch":
+            return 8 if k in self.long else 4
+        return 4 if kind == "store" and k not in self.group else SIZES[kind]
 
 
 def high(value):
@@ -257,13 +303,13 @@ class Hardening:
         self.source = source
         self.form = FORMS[form]
         self.flow = Flow(self.source, self.form.graph == 2, policy)
-        self.layout = Layout(self.source, self.flow, UNITS[self.form.image])
+        first = self.source.named(entry)
+        start = self.source.index[first.section, first.value]
+        self.layout = Layout(self.source, self.flow, UNITS[self.form.image], start)
         self.data, self.places = self.data_places()
         self.program = Program(self.form.image, self.form.graph)
         self.write_units()
-        first = self.source.named(entry)
-        start = self.layout.gates[self.source.index[first.section, first.value]]
-        self.built = self.program.built(start, self.patched_data())
+        self.built = self.program.built(self.layout.gates[start], self.patched_data())
         self.image, self.graph = image_file(self.built.code, self.built.data, self.form.image), self.built.graph
         self.map = self.map_text().encode()
 
@@ -324,7 +370,7 @@ class Hardening:
                 kind = {"icall": "call", "ijump": "jump"}[source.items[site].kind]
                 program.listed(kind + "class" if self.form.graph == 2 else "class", self.flow.label[site])
         for k, item in enumerate(source.items):
-            assert program.at == self.layout.gates[k]
+            assert program.at == self.layout.gates[k] or item.kind == "store" and k not in self.layout.group
             if self.flow.is_target(k):
                 labels = [lead.get(k) for lead in self.flow.leads]
                 if self.form.graph == 2:
@@ -345,13 +391,21 @@ class Hardening:
         elif item.kind in ("ijump", "icall"):
             getattr(program, item.kind)(rs1, imm, self.flow.label[k])
         elif item.kind == "store":
-            program.store(funct3, rs2, low(word >> 25 << 5 | word >> 7 & 31), rs1)
+            self.write_stores(k, rs1)
         elif item.kind == "return":
             program.returns()
         elif item.kind == "stop":
             program.stop()
         else:
             program.plain(word)
+
+    def write_stores(self, k, rs1):
+        """The unit of the group that a store begins; a later one stands in it."""
+        group = self.layout.group.get(k, [])
+        words = [self.patched(j, self.source.items[j]) for j in group]
+        least = min(map(store_offset, words), default=0)
+        if group:
+            self.program.stores(rs1, least, [(word >> 12 & 7, word >> 20 & 31, store_offset(word) - least) for word in words])
 
     def patched_data(self):
         data = bytearray(self.data)
@@ -383,7 +437,8 @@ class Hardening:
 
 
 SMALL = {"Returning": make_vectors.B, "Calling": make_vectors.P, "Writing": make_vectors.H, "Recursive": make_vectors.R,
-         "Jumping": make_pointers.Q, "Apart": make_pointers.APART, "Sorts": make_pointers.SORTS, "Switching": make_pointers.TABLE}
+         "Jumping": make_pointers.Q, "Apart": make_pointers.APART, "Sorts": make_pointers.SORTS, "Switching": make_pointers.TABLE,
+         "Led": make_stores.LED, "Patched": make_stores.PATCHED}
 
 
 def small_object(row):
@@ -447,7 +502,7 @@ def main():
     words.add_argument("--program", default=str(HERE.parents[1] / "crates" / "rvcfi" / "out" / "rvcfi"))
     words.add_argument("--levels", default="-O0,-O1,-O2,-O3,-Os", help="with =, as --levels=-O2,-Os")
     options = words.parse_args()
-    small = [(row, form) for row in ROWS for form in FORMS]
+    small = [(row, form) for row in ROWS + STORING for form in FORMS]
     strange = ["%s in %s" % (row.name, form) for row, form in small if not is_small(row, form)]
     told = "".join(", not " + each for each in strange)
     print("%d of %d small ones are as written down%s" % (len(small) - len(strange), len(small), told))

@@ -22,11 +22,19 @@ MAIN = Object(
     [("main", FUNC, 1, 0, 28), ("f", NOTYPE, 0, 0, 0)], [(8, CALL_PLT, "f")])
 RETURNS = [([addi(10, 0, 3)], "plain", ""), ([RETURN], "return", "")]
 F = Object("F", RETURNS, [("f", FUNC, 1, 0, 8)], [])
+# One ends with two stores, and the other one begins with two; no mask stands for those of both.
+ENDS = Object(
+    "ENDS",
+    [([addi(2, 2, -16)], "plain", ""), ([sd(1, 2, 8)], "store", ""), ([sd(8, 2, 0)], "store", ""),
+     ([auipc(1, 0), jalr(1, 1)], "call", ""), ([ld(8, 2, 0)], "plain", ""), ([ld(1, 2, 8)], "plain", ""), ([addi(2, 2, 16)], "plain", ""),
+     ([RETURN], "return", ""), ([sd(6, 2, 0)], "store", ""), ([sd(6, 2, 8)], "store", "")],
+    [("main", FUNC, 1, 0, 36), ("f", NOTYPE, 0, 0, 0)], [(12, CALL_PLT, "f")])
+BEGINS = Object("BEGINS", [([sd(7, 2, 0)], "store", ""), ([sd(7, 2, 8)], "store", "")] + RETURNS, [("f", FUNC, 1, 8, 8)], [])
 ODD = Object("ODD", RETURNS, [("\xff\xfe", FUNC, 1, 0, 8)], [])
 QUIET = Object("QUIET", RETURNS, [("", SECTION, 1, 0, 0)], [])
-FILES = {"main.o": MAIN, "f.o": F, "quiet.o": QUIET, "t.o": T}
+FILES = {"main.o": MAIN, "f.o": F, "quiet.o": QUIET, "t.o": T, "ends.o": ENDS, "begins.o": BEGINS}
 LINKS = [["main.o", "f.o"], ["f.o", "main.o"], ["main.o", "quiet.o", "f.o"], ["main.o", "t.o"], ["t.o"], ["t.o", "quiet.o"], ["main.o", "f.o", "f.o"],
-         ["main.o"], ["quiet.o", "main.o"], ["quiet.o", "t.o", "t.o"]]
+         ["main.o"], ["quiet.o", "main.o"], ["quiet.o", "t.o", "t.o"], ["ends.o", "begins.o"], ["begins.o", "ends.o"]]
 
 
 def sources(names):
@@ -64,7 +72,7 @@ def hexadecimal(name, content):
 
 
 def main():
-    for each in (MAIN, F, QUIET):
+    for each in (MAIN, F, QUIET, ENDS, BEGINS):
         print(hexadecimal(each.name, each.file()))
     print(hexadecimal("ODD", ODD.file().replace("\xff\xfe".encode(), b"\xff\xfe\0\0")))
     found = [row for form in FORMS for names in LINKS for row in rows(names, form)]

@@ -65,10 +65,15 @@ def static(each):
     return 'pub static %s: &[u8] = b"\\\n    %s";\n' % (each.name, "\\\n    ".join(lines))
 
 
-if __name__ == "__main__":
-    for one in OBJECTS:
+def put(objects):
+    """Prints objects, or writes them as files where a folder is named."""
+    for one in objects:
         if len(sys.argv) > 1:
             with open(os.path.join(sys.argv[1], one.name.lower() + ".o"), "wb") as file:
                 file.write(one.file())
         else:
             print(static(one))
+
+
+if __name__ == "__main__":
+    put(OBJECTS)

@@ -237,8 +237,8 @@ def files_of_other_kinds(cases):
 
 
 DEMONSTRATION = b"""object 228872 functions 2000
-image 192128 code 170952 classes 1 sites 455
-run exit 198 steps 111341 walk 38361
+image 192128 code 170928 classes 1 sites 455
+run exit 198 steps 111335 walk 38359
 compare same 1
 """
 

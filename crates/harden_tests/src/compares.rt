@@ -9,7 +9,7 @@ use tool_io::MemFiles;
 
 /// Objects by their names. Some are refused with the number that they have as a name.
 #[rattlefmt::skip]
-static OBJECTS: [(&str, Given); 20] = [
+static OBJECTS: [(&str, Given); 21] = [
     ("b.o", Given(Source::Returning, 0, b"")),
     ("p.o", Given(Source::Calling, 0, b"")),
     ("h.o", Given(Source::Writing, 0, b"")),
@@ -37,10 +37,14 @@ static OBJECTS: [(&str, Given); 20] = [
     ("word1", Given(Source::Returning, 64, b"bb103102")),
     ("word2", Given(Source::Returning, 64, b"bb203102")),
     ("word3", Given(Source::Returning, 64, b"bb303102")),
+    // Two stores that may stand behind one mask.
+    ("s.o", Given(Source::Coded, 0, b"130101fe233c110023388100833081011301010267800000")),
 ];
 
-/// Maps that are wrong at the first line and at the line `end`; an object that is none, and an empty file.
-static TEXTS: [(&str, &[u8]); 4] = [
+/// Maps that are wrong at the first line and at the line `end`; an object that is none, and an empty file; and maps of two stores: each
+/// behind a mask of its own, the first behind none, the second of eight bytes, and a load behind a mask.
+#[rattlefmt::skip]
+static TEXTS: [(&str, &[u8]); 8] = [
     (
         "first",
         b"rvcfi-map 1\nat 40000044 0001 00000000\nat 40000048 0001 00000004\nat 4000005c 0001 00000008\nend\n",
@@ -48,11 +52,35 @@ static TEXTS: [(&str, &[u8]); 4] = [
     ("short", b"rvcfi-map 1\nat 40000040 0001 00000000\nend\n"),
     ("1", b"none"),
     ("empty", b""),
+    (
+        "alone",
+        b"rvcfi-map 1\nat 40000040 0001 00000000\nat 40000044 0001 00000004\nat 40000054 0001 00000008\nat 40000064 0001 0000000c\nat 40000068 0001 00000010\nat 4000006c 0001 00000014\nat 40000080 0001 00000018\nend\n",
+    ),
+    (
+        "bare",
+        b"rvcfi-map 1\nat 40000040 0001 00000000\nat 40000044 0001 00000004\nat 40000048 0001 00000008\nat 40000058 0001 0000000c\nat 4000005c 0001 00000010\nat 40000060 0001 00000014\nat 40000074 0001 00000018\nend\n",
+    ),
+    (
+        "eight",
+        b"rvcfi-map 1\nat 40000040 0001 00000000\nat 40000044 0001 00000004\nat 40000054 0001 00000008\nat 4000005c 0001 0000000c\nat 40000060 0001 00000010\nat 40000064 0001 00000014\nat 40000078 0001 00000018\nend\n",
+    ),
+    (
+        "load",
+        b"rvcfi-map 1\nat 40000040 0001 00000000\nat 40000044 0001 00000004\nat 40000054 0001 00000008\nat 40000058 0001 0000000c\nat 40000068 0001 00000010\nat 4000006c 0001 00000014\nat 40000080 0001 00000018\nend\n",
+    ),
 ];
 
 /// Units that load from the second hart's part of the shadow stack, add 7 and exit with the sum.
 const FAR: [u32; 6] = [
     0x600102b7, 0x0002b503, 0x00750513, 0x05d00893, 0x00000073, 0xf9dff06f,
+];
+
+/// The units of two stores that stand behind a mask each.
+#[rattlefmt::skip]
+const ALONE: [u32; 17] = [
+    0xfe010113, 0x01810f93, 0x024f9f93, 0x024fdf93, 0x001fb023, 0x01010f93, 0x024f9f93, 0x024fdf93,
+    0x008fb023, 0x01813083, 0x02010113, 0xff81bf83, 0xff818193, 0x001f8463, 0xf8dff06f, 0x000f8067,
+    0xf81ff06f,
 ];
 
 /// Names of images for several harts, of whose harts one runs alone.
@@ -120,6 +148,15 @@ const LINES: &[u8] = b"\
     rvcfi,compare,b.o,main,none,b.img,p.map,none,9 = 1: refused 24 Map 4 Place\n;\
     rvcfi,compare,b.o,main,none,b.img,first,none,9 = 1: refused 24 Map 2 Place\n;\
     rvcfi,compare,b.o,main,none,b.img,short,none,9 = 1: refused 24 Map 3 Place\n;\
+    rvcfi,rewrite,s.o,main,none,s.img,s.graph,s.map = 0: rewritten code 120 data 0 classes 0 sites 0\n;\
+    rvcfi,verify,s.img,s.graph = 0: accepted\n;\
+    rvcfi,run,s.img,s.graph,none,none,100 = 0: output 0\n\nstop exit 0\nsteps 24\nwalk 7\ntrail 4000000c 40000040 40000044 40000058 4000005c 40000060 40000038\n;\
+    rvcfi,compare,s.o,main,none,s.img,s.map,none,100 = 0: same 1\n;\
+    rvcfi,compare,s.o,main,none,alone.img,alone,none,100 = 0: same 1\n;\
+    rvcfi,compare,s.o,main,none,s.img,alone,none,100 = 0: same 1\n;\
+    rvcfi,compare,s.o,main,none,s.img,bare,none,100 = 1: refused 24 Map 4 Place\n;\
+    rvcfi,compare,s.o,main,none,s.img,eight,none,100 = 1: refused 24 Map 5 Place\n;\
+    rvcfi,compare,s.o,main,none,s.img,load,none,100 = 1: refused 24 Map 6 Place\n;\
     rvcfi,compare,b.o,main,none,b.img,b.map,none,1000000001 = 2: usage: rvcfi rewrite|verify|run|compare|demo|harden|link|compare-link\n;\
     rvcfi,compare,b.o,main,none,b.img,b.map,none = 2: usage: rvcfi rewrite|verify|run|compare|demo|harden|link|compare-link\n;\
     rvcfi,compare,b.o,main,b.img,b.map,none,9 = 2: usage: rvcfi rewrite|verify|run|compare|demo|harden|link|compare-link\n;\
@@ -138,6 +175,7 @@ fn add_all(alloc: Global, files: &mut MemFiles) -> Result<(), NoMemory> {
         add_image_of_harts(alloc, files, image)?;
     }
     add_image(alloc, files, &("near.img", &FAR, b""))?;
+    add_image(alloc, files, &("alone.img", &ALONE, b""))?;
     add_texts(files, &TEXTS)
 }
 
@@ -145,5 +183,5 @@ fn add_all(alloc: Global, files: &mut MemFiles) -> Result<(), NoMemory> {
 fn compared(rt: HostRuntime) {
     let mut files = MemFiles::new(rt.alloc(), Vec::new(rt.alloc()));
     assert!(rt; add_all(rt.alloc(), &mut files).is_ok());
-    check_over(&rt, rt.alloc(), &mut files, LINES, 64);
+    check_over(&rt, rt.alloc(), &mut files, LINES, 73);
 }

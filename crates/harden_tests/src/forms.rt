@@ -3,9 +3,9 @@
 
 use rv_word::NoMemory;
 use sample_calls::{answers, image_as, put};
-use sample_hardened::{HARTS, PLAIN, Program, file};
+use sample_hardened::{HARTS, PLAIN, Program, STORES, STORES_HARTS, file};
 use sample_programs::{code, code_of_harts};
-use sample_split::{HARTS_SPLIT, SPLIT};
+use sample_split::{HARTS_SPLIT, SPLIT, STORES_HARTS_SPLIT, STORES_SPLIT};
 use std::alloc::{AllocError, Global};
 use std::process::Abort;
 use tool_io::MemFiles;
@@ -56,6 +56,39 @@ static HARTS_SPLIT_TOLD: [&str; 17] = [
     "code 308 data 16 classes 2 sites 2", "code 356 data 16 classes 2 sites 2",
     "code 348 data 16 classes 2 sites 2", "code 396 data 16 classes 4 sites 4",
     "code 516 data 32 classes 2 sites 3",
+];
+
+/// The same of the objects that store behind one mask, by form.
+#[rattlefmt::skip]
+static STORES_TOLD: [[&str; 9]; 4] = [
+    [
+        "code 120 data 0 classes 0 sites 0", "code 272 data 0 classes 0 sites 0",
+        "code 368 data 0 classes 0 sites 0", "code 216 data 0 classes 0 sites 0",
+        "code 132 data 0 classes 0 sites 0", "code 388 data 16 classes 1 sites 1",
+        "code 404 data 16 classes 1 sites 1", "code 400 data 16 classes 1 sites 1",
+        "code 200 data 32 classes 0 sites 0",
+    ],
+    [
+        "code 136 data 0 classes 0 sites 0", "code 288 data 0 classes 0 sites 0",
+        "code 384 data 0 classes 0 sites 0", "code 232 data 0 classes 0 sites 0",
+        "code 148 data 0 classes 0 sites 0", "code 404 data 16 classes 1 sites 1",
+        "code 420 data 16 classes 1 sites 1", "code 416 data 16 classes 1 sites 1",
+        "code 216 data 32 classes 0 sites 0",
+    ],
+    [
+        "code 120 data 0 classes 0 sites 0", "code 272 data 0 classes 0 sites 0",
+        "code 368 data 0 classes 0 sites 0", "code 216 data 0 classes 0 sites 0",
+        "code 132 data 0 classes 0 sites 0", "code 392 data 16 classes 1 sites 1",
+        "code 412 data 16 classes 1 sites 1", "code 404 data 16 classes 1 sites 1",
+        "code 200 data 32 classes 0 sites 0",
+    ],
+    [
+        "code 136 data 0 classes 0 sites 0", "code 288 data 0 classes 0 sites 0",
+        "code 384 data 0 classes 0 sites 0", "code 232 data 0 classes 0 sites 0",
+        "code 148 data 0 classes 0 sites 0", "code 408 data 16 classes 1 sites 1",
+        "code 428 data 16 classes 1 sites 1", "code 420 data 16 classes 1 sites 1",
+        "code 216 data 32 classes 0 sites 0",
+    ],
 ];
 
 /// The code of a version's prologue and some units.
@@ -151,4 +184,13 @@ fn hardened(rt: HostRuntime) {
         &HARTS_SPLIT,
         &HARTS_SPLIT_TOLD,
     );
+}
+
+#[test]
+fn joined_stores(rt: HostRuntime) {
+    let [plain, harts, split, both] = &STORES_TOLD;
+    check(&rt, rt.alloc(), "plain", 1, &STORES, plain);
+    check(&rt, rt.alloc(), "harts", 2, &STORES_HARTS, harts);
+    check(&rt, rt.alloc(), "split", 1, &STORES_SPLIT, split);
+    check(&rt, rt.alloc(), "harts-split", 2, &STORES_HARTS_SPLIT, both);
 }

@@ -44,6 +44,31 @@ const QUIET: &[u8] = b"\
     0000000000000000000000000000007800000000000000010000000000000000000000000000000100000000000000\
     0000000000000000";
 
+const ENDS: &[u8] = b"\
+    7f454c460201010000000000000000000100f3000100000000000000000000000000000000000000d8000000000000\
+    0000000000400000000000400005000400130101ff233411002330810097000000e780000003340100833081001301\
+    0101678000002330610023346100000000000c00000000000000130000000200000000000000000000000000000000\
+    0000000000000000000000000000000000000001000000120001000000000000000000240000000000000006000000\
+    1000000000000000000000000000000000000000006d61696e00660000000000000000000000000000000000000000\
+    0000000000000000000000000000000000000000000000000000000000000000000000000000000000000000000000\
+    0000010000000600000000000000000000000000000040000000000000002c00000000000000000000000000000004\
+    0000000000000000000000000000000000000004000000000000000000000000000000000000007000000000000000\
+    1800000000000000030000000100000008000000000000001800000000000000000000000200000000000000000000\
+    0000000000000000008800000000000000480000000000000004000000010000000800000000000000180000000000\
+    0000000000000300000000000000000000000000000000000000d00000000000000008000000000000000000000000\
+    00000001000000000000000000000000000000";
+
+const BEGINS: &[u8] = b"\
+    7f454c460201010000000000000000000100f300010000000000000000000000000000000000000088000000000000\
+    0000000000400000000000400004000300233071002334710013053000678000000000000000000000000000000000\
+    0000000000000000000001000000120001000800000000000000080000000000000000660000000000000000000000\
+    0000000000000000000000000000000000000000000000000000000000000000000000000000000000000000000000\
+    0000000000000000000000000000000001000000060000000000000000000000000000004000000000000000100000\
+    0000000000000000000000000004000000000000000000000000000000000000000200000000000000000000000000\
+    0000000000005000000000000000300000000000000003000000010000000800000000000000180000000000000000\
+    0000000300000000000000000000000000000000000000800000000000000003000000000000000000000000000000\
+    01000000000000000000000000000000";
+
 const ODD: &[u8] = b"\
     7f454c460201010000000000000000000100f300010000000000000000000000000000000000000080000000000000\
     0000000000400000000000400004000300130530006780000000000000000000000000000000000000000000000000\
@@ -56,11 +81,13 @@ const ODD: &[u8] = b"\
     0000000000000000";
 
 /// Objects that the rows name, in hexadecimal.
-static OBJECTS: [(&str, &[u8]); 4] = [
+static OBJECTS: [(&str, &[u8]); 6] = [
     ("main.o", MAIN),
     ("f.o", F),
     ("quiet.o", QUIET),
     ("odd.o", ODD),
+    ("ends.o", ENDS),
+    ("begins.o", BEGINS),
 ];
 
 /// Files of other kinds.
@@ -97,6 +124,14 @@ static LINKS: &[u8] = b"\
     rvcfi,link,plain,main,none,image,graph,map,main.o = 1: refused 15 Undefined 2 in 1\n;\
     rvcfi,link,plain,main,none,image,graph,map,quiet.o,main.o = 1: refused 15 Undefined 2 in 2\n;\
     rvcfi,link,plain,main,none,image,graph,map,quiet.o,t.o,t.o = 1: refused 27 Duplicate main\n;\
+    rvcfi,link,plain,main,none,image,graph,map,ends.o,begins.o = 0: rewritten code 224 data 0 classes 0 sites 0\n;\
+    rvcfi,verify,image,graph = 0: accepted\n;\
+    rvcfi,run,image,graph,none,none,1000 = 0: output 0\n\nstop exit 3\nsteps 37\nwalk 11\ntrail 4000000c 40000040 40000044 40000058 400000c4 400000c8 40000078 4000007c 40000080 40000084 40000038\n;\
+    rvcfi,compare-link,main,none,image,map,none,1000,ends.o,begins.o = 0: same 1\n;\
+    rvcfi,link,plain,main,none,image,graph,map,begins.o,ends.o = 0: rewritten code 224 data 0 classes 0 sites 0\n;\
+    rvcfi,verify,image,graph = 0: accepted\n;\
+    rvcfi,run,image,graph,none,none,1000 = 0: output 0\n\nstop exit 3\nsteps 37\nwalk 11\ntrail 4000000c 40000070 40000074 40000088 40000054 40000058 400000a8 400000ac 400000b0 400000b4 40000038\n;\
+    rvcfi,compare-link,main,none,image,map,none,1000,begins.o,ends.o = 0: same 1\n;\
     rvcfi,link,harts,main,none,image,graph,map,main.o,f.o = 0: rewritten code 192 data 0 classes 0 sites 0\n;\
     rvcfi,verify,image,graph = 0: accepted\n;\
     rvcfi,run,image,graph,none,none,1000 = 0: output 0\n\nharts 1\nstop hart 0 exit 3\nsteps 39\nwalk 0 10\ntrail 0 4000000c 40000050 40000054 40000064 400000a4 400000a8 40000084 40000088 4000008c 40000048\n;\
@@ -122,6 +157,14 @@ static LINKS: &[u8] = b"\
     rvcfi,link,harts,main,none,image,graph,map,main.o = 1: refused 15 Undefined 2 in 1\n;\
     rvcfi,link,harts,main,none,image,graph,map,quiet.o,main.o = 1: refused 15 Undefined 2 in 2\n;\
     rvcfi,link,harts,main,none,image,graph,map,quiet.o,t.o,t.o = 1: refused 27 Duplicate main\n;\
+    rvcfi,link,harts,main,none,image,graph,map,ends.o,begins.o = 0: rewritten code 240 data 0 classes 0 sites 0\n;\
+    rvcfi,verify,image,graph = 0: accepted\n;\
+    rvcfi,run,image,graph,none,none,1000 = 0: output 0\n\nharts 1\nstop hart 0 exit 3\nsteps 41\nwalk 0 11\ntrail 0 4000000c 40000050 40000054 40000068 400000d4 400000d8 40000088 4000008c 40000090 40000094 40000048\n;\
+    rvcfi,compare-link,main,none,image,map,none,1000,ends.o,begins.o = 0: same 1\n;\
+    rvcfi,link,harts,main,none,image,graph,map,begins.o,ends.o = 0: rewritten code 240 data 0 classes 0 sites 0\n;\
+    rvcfi,verify,image,graph = 0: accepted\n;\
+    rvcfi,run,image,graph,none,none,1000 = 0: output 0\n\nharts 1\nstop hart 0 exit 3\nsteps 41\nwalk 0 11\ntrail 0 4000000c 40000080 40000084 40000098 40000064 40000068 400000b8 400000bc 400000c0 400000c4 40000048\n;\
+    rvcfi,compare-link,main,none,image,map,none,1000,begins.o,ends.o = 0: same 1\n;\
     rvcfi,link,split,main,none,image,graph,map,main.o,f.o = 0: rewritten code 176 data 0 classes 0 sites 0\n;\
     rvcfi,verify,image,graph = 0: accepted\n;\
     rvcfi,run,image,graph,none,none,1000 = 0: output 0\n\nstop exit 3\nsteps 35\nwalk 10\ntrail 4000000c 40000040 40000044 40000054 40000094 40000098 40000074 40000078 4000007c 40000038\n;\
@@ -147,6 +190,14 @@ static LINKS: &[u8] = b"\
     rvcfi,link,split,main,none,image,graph,map,main.o = 1: refused 15 Undefined 2 in 1\n;\
     rvcfi,link,split,main,none,image,graph,map,quiet.o,main.o = 1: refused 15 Undefined 2 in 2\n;\
     rvcfi,link,split,main,none,image,graph,map,quiet.o,t.o,t.o = 1: refused 27 Duplicate main\n;\
+    rvcfi,link,split,main,none,image,graph,map,ends.o,begins.o = 0: rewritten code 224 data 0 classes 0 sites 0\n;\
+    rvcfi,verify,image,graph = 0: accepted\n;\
+    rvcfi,run,image,graph,none,none,1000 = 0: output 0\n\nstop exit 3\nsteps 37\nwalk 11\ntrail 4000000c 40000040 40000044 40000058 400000c4 400000c8 40000078 4000007c 40000080 40000084 40000038\n;\
+    rvcfi,compare-link,main,none,image,map,none,1000,ends.o,begins.o = 0: same 1\n;\
+    rvcfi,link,split,main,none,image,graph,map,begins.o,ends.o = 0: rewritten code 224 data 0 classes 0 sites 0\n;\
+    rvcfi,verify,image,graph = 0: accepted\n;\
+    rvcfi,run,image,graph,none,none,1000 = 0: output 0\n\nstop exit 3\nsteps 37\nwalk 11\ntrail 4000000c 40000070 40000074 40000088 40000054 40000058 400000a8 400000ac 400000b0 400000b4 40000038\n;\
+    rvcfi,compare-link,main,none,image,map,none,1000,begins.o,ends.o = 0: same 1\n;\
     rvcfi,link,harts-split,main,none,image,graph,map,main.o,f.o = 0: rewritten code 192 data 0 classes 0 sites 0\n;\
     rvcfi,verify,image,graph = 0: accepted\n;\
     rvcfi,run,image,graph,none,none,1000 = 0: output 0\n\nharts 1\nstop hart 0 exit 3\nsteps 39\nwalk 0 10\ntrail 0 4000000c 40000050 40000054 40000064 400000a4 400000a8 40000084 40000088 4000008c 40000048\n;\
@@ -171,7 +222,15 @@ static LINKS: &[u8] = b"\
     rvcfi,link,harts-split,main,none,image,graph,map,main.o,f.o,f.o = 1: refused 27 Duplicate f\n;\
     rvcfi,link,harts-split,main,none,image,graph,map,main.o = 1: refused 15 Undefined 2 in 1\n;\
     rvcfi,link,harts-split,main,none,image,graph,map,quiet.o,main.o = 1: refused 15 Undefined 2 in 2\n;\
-    rvcfi,link,harts-split,main,none,image,graph,map,quiet.o,t.o,t.o = 1: refused 27 Duplicate main\n";
+    rvcfi,link,harts-split,main,none,image,graph,map,quiet.o,t.o,t.o = 1: refused 27 Duplicate main\n;\
+    rvcfi,link,harts-split,main,none,image,graph,map,ends.o,begins.o = 0: rewritten code 240 data 0 classes 0 sites 0\n;\
+    rvcfi,verify,image,graph = 0: accepted\n;\
+    rvcfi,run,image,graph,none,none,1000 = 0: output 0\n\nharts 1\nstop hart 0 exit 3\nsteps 41\nwalk 0 11\ntrail 0 4000000c 40000050 40000054 40000068 400000d4 400000d8 40000088 4000008c 40000090 40000094 40000048\n;\
+    rvcfi,compare-link,main,none,image,map,none,1000,ends.o,begins.o = 0: same 1\n;\
+    rvcfi,link,harts-split,main,none,image,graph,map,begins.o,ends.o = 0: rewritten code 240 data 0 classes 0 sites 0\n;\
+    rvcfi,verify,image,graph = 0: accepted\n;\
+    rvcfi,run,image,graph,none,none,1000 = 0: output 0\n\nharts 1\nstop hart 0 exit 3\nsteps 41\nwalk 0 11\ntrail 0 4000000c 40000080 40000084 40000098 40000064 40000068 400000b8 400000bc 400000c0 400000c4 40000048\n;\
+    rvcfi,compare-link,main,none,image,map,none,1000,begins.o,ends.o = 0: same 1\n";
 
 /// What is told first: of the words, of the files in their order, of each object in turn, of all together.
 #[rattlefmt::skip]
@@ -229,7 +288,7 @@ fn add_all(alloc: Global, files: &mut MemFiles) -> Result<(), NoMemory> {
 fn links(rt: HostRuntime) {
     let mut files = MemFiles::new(rt.alloc(), Vec::new(rt.alloc()));
     assert!(rt; add_all(rt.alloc(), &mut files).is_ok());
-    check_over(&rt, rt.alloc(), &mut files, LINKS, 100);
+    check_over(&rt, rt.alloc(), &mut files, LINKS, 132);
 }
 
 #[test]

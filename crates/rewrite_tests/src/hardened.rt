@@ -5,8 +5,8 @@ use cfi_rewrite::Hardened;
 use cfi_verify::verify;
 use elf_image::read_image;
 use rv_word::{Form, Image};
-use sample_hardened::{HARTS, PLAIN, PROGRAMS, Program, file};
-use sample_split::{HARTS_SPLIT, SPLIT};
+use sample_hardened::{HARTS, PLAIN, PROGRAMS, Program, STORES, STORES_HARTS, file};
+use sample_split::{HARTS_SPLIT, SPLIT, STORES_HARTS_SPLIT, STORES_SPLIT};
 use std::alloc::Global;
 use std::process::Abort;
 
@@ -85,4 +85,13 @@ fn hardens(rt: HostRuntime) {
     check(&rt, rt.alloc(), Form::Harts, &HARTS);
     check(&rt, rt.alloc(), Form::Split, &SPLIT);
     check(&rt, rt.alloc(), Form::HartsSplit, &HARTS_SPLIT);
+}
+
+/// The same of objects whose stores stand behind one mask, as many as may.
+#[test]
+fn joins_stores(rt: HostRuntime) {
+    check(&rt, rt.alloc(), Form::Plain, &STORES);
+    check(&rt, rt.alloc(), Form::Harts, &STORES_HARTS);
+    check(&rt, rt.alloc(), Form::Split, &STORES_SPLIT);
+    check(&rt, rt.alloc(), Form::HartsSplit, &STORES_HARTS_SPLIT);
 }

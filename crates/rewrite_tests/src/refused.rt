@@ -78,9 +78,9 @@ static REFUSED: [Refused; 26] = [
 ];
 
 /// One instruction more than the region of code has room for, by form; in those where two words lead each of two targets also
-/// where one word would not be too many.
+/// where one word would not be too many; and stores of which there would be room for many more behind masks that they share.
 #[rattlefmt::skip]
-static TOO_MANY: [(Form, Refused); 7] = [
+static TOO_MANY: [(Form, Refused); 11] = [
     (Form::Plain, Refused(Given(Source::Idle(262_128), 0, b"", "main", None), "CodeTooLarge 1048580")),
     (Form::Harts, Refused(Given(Source::Idle(262_124), 0, b"", "main", None), "CodeTooLarge 1048580")),
     (Form::Split, Refused(Given(Source::Idle(262_128), 0, b"", "main", None), "CodeTooLarge 1048580")),
@@ -88,6 +88,10 @@ static TOO_MANY: [(Form, Refused); 7] = [
     (Form::Plain, Refused(Given(Source::Padded(262_074), 0, b"", "main", None), "CodeTooLarge 1048580")),
     (Form::Split, Refused(Given(Source::Padded(262_072), 0, b"", "main", None), "CodeTooLarge 1048580")),
     (Form::HartsSplit, Refused(Given(Source::Padded(262_068), 0, b"", "main", None), "CodeTooLarge 1048580")),
+    (Form::Plain, Refused(Given(Source::Storing(0x0000_0013, 65_531), 0, b"", "main", None), "CodeTooLarge 1048588")),
+    (Form::Harts, Refused(Given(Source::Storing(0x0000_0013, 65_530), 0, b"", "main", None), "CodeTooLarge 1048588")),
+    (Form::Split, Refused(Given(Source::Storing(0x0000_0013, 65_531), 0, b"", "main", None), "CodeTooLarge 1048588")),
+    (Form::HartsSplit, Refused(Given(Source::Storing(0x0000_0013, 65_530), 0, b"", "main", None), "CodeTooLarge 1048588")),
 ];
 
 /// Whether a file is refused in a form in these words.

@@ -114,6 +114,121 @@ static RUNS: [(Form, Run); 21] = [
     )),
 ];
 
+/// The same of objects whose stores stand behind one mask; the numbers are the model's of tests/harts at the top of the repository.
+#[rattlefmt::skip]
+static STORES: [(Form, Run); 26] = [
+    // Two stores behind one mask.
+    (Form::Plain, Run(
+        Given(Source::Coded, 0, b"130101fe233c110023388100833081011301010267800000", "main", None),
+        120, 8192, RunEnd::Exit(0), 24, 7,
+    )),
+    (Form::Harts, Run(
+        Given(Source::Coded, 0, b"130101fe233c110023388100833081011301010267800000", "main", None),
+        136, 8192, RunEnd::Exit(0), 28, 7,
+    )),
+    (Form::Split, Run(
+        Given(Source::Coded, 0, b"130101fe233c110023388100833081011301010267800000", "main", None),
+        120, 8192, RunEnd::Exit(0), 24, 7,
+    )),
+    (Form::HartsSplit, Run(
+        Given(Source::Coded, 0, b"130101fe233c110023388100833081011301010267800000", "main", None),
+        136, 8192, RunEnd::Exit(0), 28, 7,
+    )),
+    // Offsets as far apart as they may be, and further; sixteen stores, and more; other registers.
+    (Form::Plain, Run(
+        Given(Source::Coded, 0, b"b702020023b06280a38f62fe13000000a38f62fe23b062801300000023a0628023a062001300000023906200239062801300000023b4623e23bc62c0a3bb624023bc624023bc62c0a3bc62c067800000", "main", None),
+        272, 8192, RunEnd::Exit(0), 62, 17,
+    )),
+    (Form::Plain, Run(
+        Given(Source::Coded, 0, b"130101fe23006100a300610023016100a301610023026100a302610023036100a303610023046100a304610023056100a305610023066100a306610023076100a307610023086100a308610013000000a307610023076100a306610023066100a305610023056100a304610023046100a303610023036100a302610023026100a301610023016100a3006100230061001300000023086100a307610023076100a306610023066100a305610023056100a304610023046100a303610023036100a302610023026100a301610023016100a3006100230061001301010267800000", "main", None),
+        368, 8192, RunEnd::Exit(0), 86, 12,
+    )),
+    (Form::HartsSplit, Run(
+        Given(Source::Coded, 0, b"130101fe23006100a300610023016100a301610023026100a302610023036100a303610023046100a304610023056100a305610023066100a306610023076100a307610023086100a308610013000000a307610023076100a306610023066100a305610023056100a304610023046100a303610023036100a302610023026100a301610023016100a3006100230061001300000023086100a307610023076100a306610023066100a305610023056100a304610023046100a303610023036100a302610023026100a301610023016100a3006100230061001301010267800000", "main", None),
+        384, 8192, RunEnd::Exit(0), 90, 12,
+    )),
+    (Form::Plain, Run(
+        Given(Source::Coded, 0, b"b7020200233c61fe23b46200233821fe233451fe23b85200233c600023205002233061fe13031300233c61fc67800000", "main", None),
+        216, 8192, RunEnd::Exit(0), 48, 12,
+    )),
+    // Stores to which direct and computed transfers lead, and one that begins where the program does.
+    (Form::Plain, Run(
+        Given(Source::Coded, 0, b"631a0500233c61fe233861fe233461fee31c05fe67800000", "main", None),
+        132, 8192, RunEnd::Exit(0), 27, 7,
+    )),
+    (Form::Plain, Run(
+        Given(Source::Led, 0, b"", "main", None),
+        388, 8208, RunEnd::Exit(3), 109, 30,
+    )),
+    (Form::Harts, Run(
+        Given(Source::Led, 0, b"", "main", None),
+        404, 8208, RunEnd::Exit(3), 113, 30,
+    )),
+    (Form::Split, Run(
+        Given(Source::Led, 0, b"", "main", None),
+        392, 8208, RunEnd::Exit(3), 111, 32,
+    )),
+    (Form::HartsSplit, Run(
+        Given(Source::Led, 0, b"", "main", None),
+        408, 8208, RunEnd::Exit(3), 115, 32,
+    )),
+    (Form::Split, Run(
+        Given(Source::Led, 0, b"", "main", Some(b"rvcfi-policy 1\nsite main+14 f+0 inner+0\nend\n")),
+        412, 8208, RunEnd::Exit(3), 116, 35,
+    )),
+    (Form::Plain, Run(
+        Given(Source::Led, 0, b"", "inner", None),
+        400, 8208, RunEnd::Handler(Handler::BadReturn), 106, 29,
+    )),
+    // Stores whose offsets come from relocations.
+    (Form::Plain, Run(
+        Given(Source::Patched, 0, b"", "main", None),
+        200, 8224, RunEnd::Exit(0), 44, 11,
+    )),
+    (Form::Harts, Run(
+        Given(Source::Patched, 0, b"", "main", None),
+        216, 8224, RunEnd::Exit(0), 48, 11,
+    )),
+    // A branch over as many stores as leave it short, and over one more, which it is taken over or not; and as many stores as there
+    // is room for, were each behind a mask of its own.
+    (Form::Plain, Run(
+        Given(Source::Storing(0x56050ae3, 860), 0, b"", "main", None),
+        4180, 12_288, RunEnd::Exit(0), 17, 4,
+    )),
+    (Form::Plain, Run(
+        Given(Source::Storing(0x56050ce3, 861), 0, b"", "main", None),
+        4188, 12_288, RunEnd::Exit(0), 18, 4,
+    )),
+    (Form::Plain, Run(
+        Given(Source::Storing(0x56051ae3, 860), 0, b"", "main", None),
+        4180, 12_288, RunEnd::Exit(0), 1039, 58,
+    )),
+    (Form::Plain, Run(
+        Given(Source::Storing(0x56051ce3, 861), 0, b"", "main", None),
+        4188, 12_288, RunEnd::Exit(0), 1040, 58,
+    )),
+    (Form::Harts, Run(
+        Given(Source::Storing(0x56051ce3, 861), 0, b"", "main", None),
+        4204, 12_288, RunEnd::Exit(0), 1044, 58,
+    )),
+    (Form::Plain, Run(
+        Given(Source::Storing(0x00000013, 65_530), 0, b"", "main", None),
+        311_364, 319_488, RunEnd::Exit(0), 77_835, 4100,
+    )),
+    (Form::Split, Run(
+        Given(Source::Storing(0x00000013, 65_530), 0, b"", "main", None),
+        311_364, 319_488, RunEnd::Exit(0), 77_835, 4100,
+    )),
+    (Form::Harts, Run(
+        Given(Source::Storing(0x00000013, 65_529), 0, b"", "main", None),
+        311_376, 319_488, RunEnd::Exit(0), 77_838, 4100,
+    )),
+    (Form::HartsSplit, Run(
+        Given(Source::Storing(0x00000013, 65_529), 0, b"", "main", None),
+        311_376, 319_488, RunEnd::Exit(0), 77_838, 4100,
+    )),
+];
+
 /// As many instructions that do nothing as the region of code has room for, by form, and behind two targets.
 #[rattlefmt::skip]
 static FULL: [(Form, Run); 7] = [
@@ -213,6 +328,17 @@ fn is_right(alloc: Global, form: Form, row: &Run) -> bool {
 #[test]
 fn runs(rt: HostRuntime) {
     for (k, row) in RUNS.iter().enumerate() {
+        assert!(rt;
+            is_right(rt.alloc(), row.0, &row.1),
+            "{}, run {k}",
+            row.0.name()
+        );
+    }
+}
+
+#[test]
+fn runs_stores(rt: HostRuntime) {
+    for (k, row) in STORES.iter().enumerate() {
         assert!(rt;
             is_right(rt.alloc(), row.0, &row.1),
             "{}, run {k}",

@@ -1,8 +1,9 @@
 use std::alloc::{AllocError, Global};
 
 /// An object written by hand, or an empty file. `Coded` is the one that returns with other code, `Idle` with so many
-/// instructions that do nothing for it, `Padded` the one that jumps through a pointer with so many more, and `Shared` with so
-/// many sections of data that are the same 56,000 bytes of the file.
+/// instructions that do nothing for it, `Storing` with a word, so many equal stores and a return for it, `Padded` the one that
+/// jumps through a pointer with so many more, and `Shared` with so many sections of data that are the same 56,000 bytes of the
+/// file.
 #[derive(Clone, Copy)]
 pub enum Source {
     Empty,
@@ -15,8 +16,11 @@ pub enum Source {
     Sorts,
     Switching,
     Dividing,
+    Led,
+    Patched,
     Coded,
     Idle(u32),
+    Storing(u32, u32),
     Padded(u32),
     Shared(u16),
 }
@@ -35,9 +39,11 @@ pub struct Given(
 fn digits_of(source: Source) -> &'static [u8] {
     match source {
         Source::Empty => b"",
-        Source::Returning | Source::Coded | Source::Idle(_) | Source::Shared(_) => {
-            sample_objects::B
-        }
+        Source::Returning
+        | Source::Coded
+        | Source::Idle(_)
+        | Source::Storing(_, _)
+        | Source::Shared(_) => sample_objects::B,
         Source::Calling => sample_objects::P,
         Source::Writing => sample_objects::H,
         Source::Recursive => sample_objects::R,
@@ -46,6 +52,8 @@ fn digits_of(source: Source) -> &'static [u8] {
         Source::Sorts => sample_objects::SORTS,
         Source::Switching => sample_objects::TABLE,
         Source::Dividing => sample_objects::M,
+        Source::Led => sample_objects::LED,
+        Source::Patched => sample_objects::PATCHED,
     }
 }
 
@@ -89,6 +97,24 @@ fn idle(alloc: Global, first: &[u8], count: u32) -> Result<Vec<u8>, AllocError> 
 /// Gives the object that returns so many instructions that do nothing for its code.
 fn idle_through(alloc: Global, file: &mut Vec<u8>, count: u32) -> bool {
     match idle(alloc, b"", count) {
+        Ok(code) => recode(file, SECTION, &code),
+        Err(_) => false,
+    }
+}
+
+/// A word, so many stores of a byte where x2 points to, and a return.
+fn storing(alloc: Global, word: u32, count: u32) -> Result<Vec<u8>, AllocError> {
+    let mut code = Vec::from_slice(alloc, &word.to_le_bytes())?;
+    for _ in 0..count {
+        code.extend_from_slice(&[0x23, 0, 0x61, 0])?;
+    }
+    code.extend_from_slice(&[0x67, 0x80, 0, 0])?;
+    Ok(code)
+}
+
+/// Gives the object that returns a word, so many stores and a return for its code.
+fn store_through(alloc: Global, file: &mut Vec<u8>, word: u32, count: u32) -> bool {
+    match storing(alloc, word, count) {
         Ok(code) => recode(file, SECTION, &code),
         Err(_) => false,
     }
@@ -176,6 +202,7 @@ fn put_digits(alloc: Global, file: &mut Vec<u8>, source: Source, at: usize, digi
 fn change(alloc: Global, file: &mut Vec<u8>, source: Source, at: usize, digits: &[u8]) -> bool {
     match source {
         Source::Idle(count) => idle_through(alloc, file, count),
+        Source::Storing(word, count) => store_through(alloc, file, word, count),
         Source::Padded(count) => pad(alloc, file, count),
         Source::Shared(count) => share(file, count),
         _ => put_digits(alloc, file, source, at, digits),

@@ -6,9 +6,13 @@ pub use given::{Given, Source, changed, file, put};
 pub use harts::HARTS;
 pub use plain::PLAIN;
 pub use programs::{PROGRAMS, Program};
+pub use stores::STORES;
+pub use stores_harts::STORES_HARTS;
 
 pub mod branches;
 mod given;
 pub mod harts;
 pub mod plain;
 mod programs;
+pub mod stores;
+pub mod stores_harts;

@@ -238,34 +238,34 @@ pub struct Sums(pub Form, pub Objects, pub Sum, pub Sum, pub Sum, pub Run);
 pub static SUMS: [Sums; 8] = [
     Sums(
         Form::Plain, Objects::Gcc,
-        Sum(8248, 0xa008_68bf_4102_14d0), Sum(248, 0x3519_1c65_9cde_ef4f), Sum(2174, 0xe6ba_029e_d3ad_70c4), Run(198, 79, 12),
+        Sum(8248, 0xea92_6a83_1e14_8ad5), Sum(248, 0x8170_10f3_32c3_823e), Sum(2174, 0x58c5_7802_ca4d_acc1), Run(189, 76, 12),
     ),
     Sums(
         Form::Harts, Objects::Gcc,
-        Sum(8248, 0xedcc_d354_d245_f4dc), Sum(248, 0x8d05_d821_ade2_7886), Sum(2180, 0xa169_62df_ef22_f04d), Run(202, 79, 12),
+        Sum(8248, 0xea29_ed64_34ac_c22c), Sum(248, 0x645f_b01d_e662_8a73), Sum(2180, 0x226f_3d60_31a2_90da), Run(193, 76, 12),
     ),
     Sums(
         Form::Split, Objects::Gcc,
-        Sum(8248, 0x869f_6cd2_e5ca_c4cf), Sum(252, 0x9b70_85c7_d214_9ed3), Sum(2180, 0x8309_3852_1aca_9c3f), Run(199, 80, 12),
+        Sum(8248, 0xcaa1_b676_6c0e_335f), Sum(252, 0xa052_2b33_8488_6fad), Sum(2180, 0xeece_d105_bdbf_b06b), Run(190, 77, 12),
     ),
     Sums(
         Form::HartsSplit, Objects::Gcc,
-        Sum(8248, 0xedd1_42ab_04cf_f427), Sum(252, 0x2fab_45fa_29be_6c1a), Sum(2186, 0xdb73_3764_0ebb_b798), Run(203, 80, 12),
+        Sum(8248, 0xd847_c093_04a7_dd34), Sum(252, 0x73d8_a4ec_3de9_c89c), Sum(2186, 0xeea0_4be0_485d_45b7), Run(194, 77, 12),
     ),
     Sums(
         Form::Plain, Objects::Clang,
-        Sum(8224, 0x929d_dda4_037a_bdf3), Sum(248, 0xaafa_c5a6_27e7_d55b), Sum(1888, 0xa97f_3669_96d8_1ab1), Run(166, 68, 12),
+        Sum(8224, 0x24b7_54f5_a9e7_c0fd), Sum(248, 0x9068_0410_af4e_5547), Sum(1888, 0xc037_0c68_d24b_2175), Run(157, 65, 12),
     ),
     Sums(
         Form::Harts, Objects::Clang,
-        Sum(8224, 0x6fd1_2a70_a1e4_f34c), Sum(248, 0xd03d_fd8f_2a59_4ac1), Sum(1894, 0x4be8_8ce9_45f6_8a20), Run(170, 68, 12),
+        Sum(8224, 0xc683_7d17_b8e0_8c9d), Sum(248, 0x7cc0_3ad4_e70a_ffc6), Sum(1894, 0x89a7_73a9_e9bf_2bf9), Run(161, 65, 12),
     ),
     Sums(
         Form::Split, Objects::Clang,
-        Sum(8224, 0x29f1_6247_7bd2_ebc5), Sum(252, 0x3023_c99b_4309_020e), Sum(1894, 0x9721_e5af_1d62_3225), Run(167, 69, 12),
+        Sum(8224, 0x1f41_4656_3814_f50d), Sum(252, 0x890e_55c5_2585_4c03), Sum(1894, 0xb8e9_af87_bea8_a9ac), Run(158, 66, 12),
     ),
     Sums(
         Form::HartsSplit, Objects::Clang,
-        Sum(8224, 0xda5c_ec2d_11b0_1238), Sum(252, 0xcfac_d0f3_ee28_173e), Sum(1900, 0xd7ac_672c_5130_fbde), Run(171, 69, 12),
+        Sum(8224, 0x913d_f8d1_1ee7_6e23), Sum(252, 0x8009_435b_0b12_81ba), Sum(1900, 0xcf4f_3490_169c_baca), Run(162, 66, 12),
     ),
 ];

@@ -7,9 +7,11 @@ pub use maps::{
     NOWHERE_MAP_OF_HARTS, P_MAP, P_MAP_OF_HARTS, R_MAP_OF_HARTS,
 };
 pub use pointers::{APART, Q, SORTS, TABLE};
+pub use stores::{LED, PATCHED};
 
 mod maps;
 mod pointers;
+mod stores;
 
 /// Returns 7.
 pub static B: &[u8] = b"\

@@ -3,6 +3,10 @@
 
 pub use harts_split::HARTS_SPLIT;
 pub use split::SPLIT;
+pub use stores::STORES_SPLIT;
+pub use stores_harts::STORES_HARTS_SPLIT;
 
 mod harts_split;
 mod split;
+mod stores;
+mod stores_harts;

@@ -18,6 +18,8 @@ const LIMIT: u64 = 100_000;
 /// What a program is run with, and what is to come of it.
 #[derive(Clone, Copy)]
 pub(crate) struct Asked<'a> {
+    /// The name of the symbol where the program begins.
+    pub(crate) entry: &'a [u8],
     /// The text of a policy. Empty: there is none.
     pub(crate) policy: &'a [u8],
     /// The text of a map.
@@ -123,16 +125,16 @@ fn is_small(items: &Items) -> bool
 }
 
 /// Where the program's entry stands: the index of its section and its offset there.
-fn entry(items: &Items) -> Option<(u32, u64)>
+fn entry(items: &Items, name: &[u8]) -> Option<(u32, u64)>
     ensures { IfSome result (λ spot. is_some (instruction_at items.now (spot.0, spot.1)) ≡ true) }
 {
-    let _place = entry_place(items, b"main")?;
-    items.find(b"main")
+    let _place = entry_place(items, name)?;
+    items.find(name)
 }
 
 /// Whether a program with its closed graph runs at a map as is asked.
 fn is_told_at(alloc: Global, items: &Items, closed: &Closed, map: &Map, asked: &Asked<'_>) -> bool {
-    let Some(entry) = entry(items) else {
+    let Some(entry) = entry(items, asked.entry) else {
         return false;
     };
     if !is_small(items) {

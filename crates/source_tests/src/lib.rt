@@ -10,4 +10,6 @@ mod given;
 #[cfg(test)]
 mod maps;
 #[cfg(test)]
+mod placed;
+#[cfg(test)]
 mod runs;

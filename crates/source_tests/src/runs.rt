@@ -133,15 +133,15 @@ const READING_TWICE: &[u8] = b"\
 
 #[rattlefmt::skip]
 static FURTHER: [Further; 9] = [
-    Further(Given(Source::Calling, 84, b"e7800200"), Asked { policy: APART, map: maps::CALLING_TWICE, input: b"", output: b"", told: "untame graph 1 20 after 7" }),
-    Further(Given(Source::Calling, 80, b"e780c201"), Asked { policy: FIRST_ALONE, map: NARROW_MAP, input: b"", output: b"", told: "untame graph 1 16 after 4" }),
-    Further(Given(Source::Recursive, 64, READING), Asked { policy: b"", map: maps::READING, input: b"ab", output: b"ab", told: "exit 2 after 10" }),
-    Further(Given(Source::Recursive, 64, READING), Asked { policy: b"", map: maps::READING, input: b"abcdef", output: b"abcd", told: "exit 4 after 10" }),
-    Further(Given(Source::Recursive, 64, READING), Asked { policy: b"", map: maps::READING, input: b"", output: b"", told: "exit 0 after 10" }),
-    Further(Given(Source::Recursive, 64, READING_ELSEWHERE), Asked { policy: b"", map: maps::READING, input: b"ab", output: b"", told: "exit 247 after 10" }),
-    Further(Given(Source::Recursive, 64, READING_TWICE), Asked { policy: b"", map: maps::READING_TWICE, input: b"abcdef", output: b"abcdef", told: "untame end 1 44 after 11" }),
-    Further(Given(Source::Calling, 0, b""), Asked { policy: FIRST_ALONE, map: NARROW_MAP_OF_HARTS, input: b"", output: b"", told: "exit 1 after 11" }),
-    Further(Given(Source::Calling, 80, b"e780c201"), Asked { policy: FIRST_ALONE, map: NARROW_MAP_OF_HARTS, input: b"", output: b"", told: "untame graph 1 16 after 4" }),
+    Further(Given(Source::Calling, 84, b"e7800200"), Asked { entry: b"main", policy: APART, map: maps::CALLING_TWICE, input: b"", output: b"", told: "untame graph 1 20 after 7" }),
+    Further(Given(Source::Calling, 80, b"e780c201"), Asked { entry: b"main", policy: FIRST_ALONE, map: NARROW_MAP, input: b"", output: b"", told: "untame graph 1 16 after 4" }),
+    Further(Given(Source::Recursive, 64, READING), Asked { entry: b"main", policy: b"", map: maps::READING, input: b"ab", output: b"ab", told: "exit 2 after 10" }),
+    Further(Given(Source::Recursive, 64, READING), Asked { entry: b"main", policy: b"", map: maps::READING, input: b"abcdef", output: b"abcd", told: "exit 4 after 10" }),
+    Further(Given(Source::Recursive, 64, READING), Asked { entry: b"main", policy: b"", map: maps::READING, input: b"", output: b"", told: "exit 0 after 10" }),
+    Further(Given(Source::Recursive, 64, READING_ELSEWHERE), Asked { entry: b"main", policy: b"", map: maps::READING, input: b"ab", output: b"", told: "exit 247 after 10" }),
+    Further(Given(Source::Recursive, 64, READING_TWICE), Asked { entry: b"main", policy: b"", map: maps::READING_TWICE, input: b"abcdef", output: b"abcdef", told: "untame end 1 44 after 11" }),
+    Further(Given(Source::Calling, 0, b""), Asked { entry: b"main", policy: FIRST_ALONE, map: NARROW_MAP_OF_HARTS, input: b"", output: b"", told: "exit 1 after 11" }),
+    Further(Given(Source::Calling, 80, b"e780c201"), Asked { entry: b"main", policy: FIRST_ALONE, map: NARROW_MAP_OF_HARTS, input: b"", output: b"", told: "untame graph 1 16 after 4" }),
 ];
 
 /// Whether an object runs as is asked.
@@ -153,7 +153,7 @@ fn is_object(alloc: Global, object: &Object, asked: &Asked<'_>) -> bool {
 }
 
 /// Whether a file is an object that runs as is asked.
-fn is_file(alloc: Global, file: &[u8], asked: &Asked<'_>) -> bool {
+pub(crate) fn is_file(alloc: Global, file: &[u8], asked: &Asked<'_>) -> bool {
     match Object::read(alloc, file) {
         Ok(object) => is_object(alloc, &object, asked),
         Err(_) => false,
@@ -171,6 +171,7 @@ fn is_right(alloc: Global, given: &Given, asked: &Asked<'_>) -> bool {
 /// What is asked of a row without a policy and an input.
 fn asked_of(row: &Row) -> Asked<'static> {
     Asked {
+        entry: b"main",
         policy: b"",
         map: row.1,
         input: b"",

@@ -7,13 +7,13 @@ use tool_io::{MemFiles, MemSink};
 
 /// Command lines, each with its status and its text, in the form of `calls::check`. A number may have zeros before it.
 const ZERO: &[u8] =
-    b"rvcfi,demo,0 = 0: object 229600 functions 2000\nimage 196224 code 172456 classes 1 sites 474\nrun exit 148 steps 112258 walk 38662\ncompare same 1\n";
+    b"rvcfi,demo,0 = 0: object 229600 functions 2000\nimage 196224 code 172432 classes 1 sites 474\nrun exit 148 steps 112252 walk 38660\ncompare same 1\n";
 
 const ONE: &[u8] =
-    b"rvcfi,demo,0000000001 = 0: object 228872 functions 2000\nimage 192128 code 170952 classes 1 sites 455\nrun exit 198 steps 111341 walk 38361\ncompare same 1\n";
+    b"rvcfi,demo,0000000001 = 0: object 228872 functions 2000\nimage 192128 code 170928 classes 1 sites 455\nrun exit 198 steps 111335 walk 38359\ncompare same 1\n";
 
 const OTHER: &[u8] =
-    b"rvcfi,demo,12345 = 0: object 228936 functions 2000\nimage 192128 code 171744 classes 1 sites 468\nrun exit 143 steps 110750 walk 38060\ncompare same 1\n";
+    b"rvcfi,demo,12345 = 0: object 228936 functions 2000\nimage 192128 code 171720 classes 1 sites 468\nrun exit 143 steps 110744 walk 38058\ncompare same 1\n";
 
 const LINES: &[u8] = b"\
     rvcfi,demo = 2: usage: rvcfi rewrite|verify|run|compare|demo|harden|link|compare-link\n;\
