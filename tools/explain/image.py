@@ -29,7 +29,21 @@ def lines(named, disassembly, words):
         is_lead = unit.address in leads
         text = "" if is_lead or unit.kind in ("gate", "stop") else disassembly.text(here, named.read.word_at(here))
         kind = "no label" if is_lead and unit.kind == "plain" else unit.kind
-        yield ("%08x  %-14s  %-28s %-34s %s" % (unit.address, kind, named.read.name(here), text, goes(named, unit))).rstrip()
+        yield line(unit.address, kind, named.read.name(here), text, goes(named, unit))
+        if unit.kind == "store":
+            yield from later_stores(named, disassembly, unit)
+
+
+def line(address, kind, name, text, where=""):
+    return ("%08x  %-14s  %-28s %-34s %s" % (address, kind, name, text, where)).rstrip()
+
+
+def later_stores(named, disassembly, unit):
+    """A line each for the stores behind the first of a unit."""
+    for address in range(unit.address + 16, unit.address + 4 * unit.size, 4):
+        here = named.map.place(address)
+        if here is not None:
+            yield line(address, "  store", named.read.name(here), disassembly.text(here, named.read.word_at(here)))
 
 
 def headings(named, place):

@@ -8,6 +8,7 @@ LUI, BRANCH, JAL, STORE, SYSTEM = 0x37, 0x63, 0x6F, 0x23, 0x73
 ROOM, MASK, RETURN = 0x03019F13, 0xFFCFFF93, 0xFF81BF83  # the words that tell calls, checks and returns
 SHIFT = 0x024F9F93
 JUMP_BACK = 0x000F8067
+MOST_STORES = 16  # behind one mask
 
 
 class Unit(NamedTuple):
@@ -37,6 +38,14 @@ def is_jump(word):
     return word & 0xFFF == JAL
 
 
+def stores_behind(words, index):
+    """How many stores stand behind a mask, from a word of the code on."""
+    for count, word in enumerate(words[index:index + MOST_STORES]):
+        if word & 127 != STORE or word >> 15 & 31 != 31 or word >> 31:
+            return count
+    return len(words[index:index + MOST_STORES])
+
+
 def unit_at(words, index):
     """The unit that begins with a word of the code."""
     at, word = CODE + 4 * index, words[index]
@@ -61,7 +70,7 @@ def longer_unit(words, index, at, word, following):
     if word == RETURN:
         return Unit(at, "return", 5)
     if following == SHIFT:
-        return Unit(at, "store", 4)
+        return Unit(at, "store", 3 + max(1, stores_behind(words, index + 3)))
     if following == MASK and index + 13 <= len(words):
         label, by_second = "%05x" % (words[index + 8] >> 12), words[index + 7] >> 20 == 4
         kind, size = ("computed jump", 13) if words[index + 12] == JUMP_BACK else ("computed call", 20)
