@@ -1,4 +1,5 @@
 pub mod Masks
+pub mod Arrays
 pub mod Cases
 pub mod Products
 pub mod Division

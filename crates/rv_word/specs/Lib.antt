@@ -1,6 +1,7 @@
 pub mod Bits
 pub mod MemoryMap
 pub mod Form
+pub mod Numbers
 pub mod Memory
 pub mod Image
 pub mod Same

@@ -1,6 +1,6 @@
 //! Words of the machine: exact bit numbers, their products and quotients, the regions of memory, an
-//! image's bytes, and the answer for want of memory. All crates but `rv_instr`, `elf_bytes` and
-//! `tool_io` stand on this one.
+//! image's bytes, the numbers of system calls, and the answer for want of memory. All crates but
+//! `rv_instr`, `elf_bytes` and `tool_io` stand on this one.
 #![tactic(auto)]
 
 pub use bits::{add64, field, low32, sext};
@@ -11,6 +11,7 @@ pub use form::Form;
 pub use image::Image;
 pub use multiply::mul_high;
 pub use no_memory::NoMemory;
+pub use numbers::{MOST_NUMBERS, Numbers};
 pub use places::Places;
 pub use region::Region;
 
@@ -24,6 +25,7 @@ pub mod laws;
 pub mod memory_map;
 mod multiply;
 mod no_memory;
+mod numbers;
 mod places;
 pub mod profile;
 mod region;
