@@ -24,6 +24,8 @@ pub record ClosedGraph : Type 0 where
   pub sides : List Side
   -- of each place, whether a relocation takes its address
   pub taken : List Bool
+  -- the numbers of the system calls that the program may make, where it has a list of them
+  pub calls : Option (List ℕ)
 
 -- the sorts of its sides: graphs of version 1 have one label for calls and jumps, those of version 2 one for each
 abbrev pub sorts_of : ℕ → List Sort

@@ -7,7 +7,7 @@ ghost use Rattle.cfi_closed.specs.Closed as closed;
 ghost use Rattle.cfi_closed.specs.Found.{AreSides};
 
 use crate::side::Side;
-use rv_word::Places;
+use rv_word::{Numbers, Places};
 use std::marker::Model;
 
 /// The closed graph of a program, for a version of graphs: one side with all computed transfers, or one with the calls
@@ -17,6 +17,7 @@ pub struct Closed {
     version: u8,
     sides: Vec<Side>,
     taken: Vec<bool>,
+    calls: Option<Numbers>,
 }
 
 impl Model for Closed {
@@ -26,21 +27,22 @@ impl Model for Closed {
 
     ghost Value = { ClosedGraph };
 
-    ghost view = { λ c. record { version = c.version; sides = c.sides.items; taken = c.taken.items } };
+    ghost view = { λ c. record { version = c.version; sides = c.sides.items; taken = c.taken.items; calls = c.calls } };
 
     ghost invariant = { λ c. AreSides c.version c.sides.items (length c.taken.items) };
 }
 
 impl Closed {
     /// A closed graph of its parts.
-    pub fn of(version: u8, sides: Vec<Side>, taken: Vec<bool>) -> Closed
+    pub fn of(version: u8, sides: Vec<Side>, taken: Vec<bool>, calls: Option<Numbers>) -> Closed
         requires { AreSides version sides.items (length taken.items) }
-        ensures { result ≡ record { version = version; sides = sides.items; taken = taken.items } }
+        ensures { result ≡ record { version = version; sides = sides.items; taken = taken.items; calls = calls } }
     {
         Closed {
             version,
             sides,
             taken,
+            calls,
         }
     }
 
@@ -50,6 +52,13 @@ impl Closed {
         ensures known { IsVersion result }
     {
         self.version
+    }
+
+    /// The numbers of the system calls that the program may make, where it has a list of them.
+    pub fn calls(&self) -> Option<Numbers>
+        ensures { result ≡ self.now.calls }
+    {
+        self.calls
     }
 
     /// Its sides.

@@ -6,7 +6,7 @@ use Rattle.std.specs.List.{flat_map}
 use Rattle.text_lines.specs.Hex.{hex_text}
 use Rattle.rv_code.specs.declared.event.Event as calls
 use Rattle.cfi_map.specs.declared.reason.Reason.{Reason}
-use Rattle.cfi_map.specs.declared.reason.Reason.TheVariants.{Graph, Return, Window, Deep, End}
+use Rattle.cfi_map.specs.declared.reason.Reason.TheVariants.{Graph, Return, Window, Deep, End, Call}
 use Rattle.cfi_compare.specs.declared.item.SideItem.{SideItem}
 use Rattle.cfi_compare.specs.declared.item.SideItem.TheVariants.{Event, Exit, Break, Stop, Running}
 use Rattle.cfi_compare.specs.declared.answer.Compared.{Compared}
@@ -37,6 +37,7 @@ reason_name Return = codes "return"
 reason_name Window = codes "window"
 reason_name Deep = codes "deep"
 reason_name End = codes "end"
+reason_name Call = codes "call"
 
 abbrev pub answer_text : Compared → List ℕ
 answer_text (Same events) = codes "same " ++ decimal events

@@ -28,6 +28,7 @@ fn reason_name(reason: Reason) -> &'static str
         Reason::Window => "window",
         Reason::Deep => "deep",
         Reason::End => "end",
+        Reason::Call => "call",
     }
 }
 

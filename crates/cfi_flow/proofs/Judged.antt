@@ -9,7 +9,7 @@ use Rattle.obj_program.specs.Program.{Program, count, is_end, item_of, is_spot, 
 use Rattle.cfi_graph.specs.declared.policy.PlaceName.{PlaceName}
 use Rattle.cfi_graph.specs.declared.policy.PolicyLine.{PolicyLine}
 use Rattle.cfi_flow.specs.Drawn.{free_site, line_for, site_if_free}
-use Rattle.cfi_flow.specs.Policy.{if_instruction, instruction_at, is_free_site, is_number, is_wrong_line, line_of, misses_target, names_site, no_line, place_named, wrong_line}
+use Rattle.cfi_flow.specs.Policy.{if_instruction, instruction_at, is_free_site, is_number, is_wrong_line, line_of, misses_target, names_site, no_line, place_named, wrong_from}
 use Rattle.cfi_flow.specs.Sites.{site_kind}
 use Rattle.cfi_class.specs.Tables.{IsTable, entry, noted}
 use Rattle.cfi_class.proofs.Finding.{more_noted}
@@ -92,12 +92,12 @@ module _ (program : Program) (lines : List PolicyLine) (j : ℕ) (table : List (
         (λ i. each i ∙ ap (λ (b : Bool). noted (entry table i) b j)
         (ap (is_number i) (sym place) ∙ ap (λ (l : PolicyLine). names_site program i l) (sym at)))
 
-pub wrong_at : (program : Program) (lines : List PolicyLine) (j : ℕ) → j < length lines → first_below (is_wrong_line program lines) j ≡ None
-    → is_wrong_line program lines j ≡ true → wrong_line program lines ≡ Some (j + 2)
-unfolding wrong_line
-wrong_at program lines j below none wrong = rw (first_found (is_wrong_line program lines) j (length lines) below none wrong) refl
+pub wrong_at : (first : ℕ) (program : Program) (lines : List PolicyLine) (j : ℕ) → j < length lines → first_below (is_wrong_line program lines) j ≡ None
+    → is_wrong_line program lines j ≡ true → wrong_from first program lines ≡ Some (j + first)
+unfolding wrong_from
+wrong_at first program lines j below none wrong = rw (first_found (is_wrong_line program lines) j (length lines) below none wrong) refl
 
-pub none_wrong : (program : Program) (lines : List PolicyLine) (j : ℕ) → j ≡ length lines → first_below (is_wrong_line program lines) j ≡ None
-    → wrong_line program lines ≡ None
-unfolding wrong_line
-none_wrong program lines j all none = rw (← all, none) refl
+pub none_wrong : (first : ℕ) (program : Program) (lines : List PolicyLine) (j : ℕ) → j ≡ length lines → first_below (is_wrong_line program lines) j ≡ None
+    → wrong_from first program lines ≡ None
+unfolding wrong_from
+none_wrong first program lines j all none = rw (← all, none) refl

@@ -58,8 +58,8 @@ aimed_there : (lists : List (List ℕ)) (taken begun : List Bool) (a : Aim) → 
 aimed_there lists taken begun (aim.Listed j) there all = all j [] there
 aimed_there lists taken begun (aim.Open span) there all = below_all (λ (t : ℕ). t < length taken) _ (length taken) (λ k less holds. less)
 
-pub there : (d : Drawing) → AreKept d → IsThere (record { sites = sites_of d; taken = d.taken.items })
-there d is =
+pub there : (d : Drawing) (calls : Option (List ℕ)) → AreKept d → IsThere (record { sites = sites_of d; taken = d.taken.items; calls = calls })
+there d calls is =
     let raw : KeptSite → RawSite = raw_site d.lists.items d.taken.items d.begun.items in
     record {
       sites = λ i e inside.

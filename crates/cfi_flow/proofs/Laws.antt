@@ -17,6 +17,7 @@ use Rattle.cfi_flow.specs.Policy.{IsRaw, names_site, targets_by, targets_under}
 use Rattle.cfi_flow.specs.Raw.{RawGraph, no_site}
 use Rattle.cfi_flow.specs.Sites.{RawSite, site_at, site_kind, sites_below}
 use Rattle.cfi_graph.specs.declared.policy.PolicyLine.{PolicyLine}
+use Rattle.cfi_graph.specs.Policy.{PolicyParts}
 use Rattle.cfi_flow.proofs.Classing.{list_there}
 use Rattle.cfi_flow.proofs.Listing.{all_none, all_with, below_all}
 
@@ -62,12 +63,12 @@ same_places classes [] = refl
 same_places classes (s ∷ sites) = ap (λ (xs : List ℕ). s.place ∷ xs) (same_places classes sites)
 
 -- and so are those of a side
-pub side_places : (program : Program) (lines : List PolicyLine) (raw : RawGraph) (side : Side) → IsRaw program lines raw → IsSide raw side
+pub side_places : (program : Program) (policy : PolicyParts) (raw : RawGraph) (side : Side) → IsRaw program policy raw → IsSide raw side
     → map place_of_site side.sites ≡ where_below (is_site_of side.sort program) (count program)
-side_places program lines raw side is of =
+side_places program policy raw side is of =
     ap (map place_of_site) of.sites ∙ same_places side.classes (own_sites side.sort raw.sites)
     ∙ ap (λ (sites : List RawSite). map place_of_raw (own_sites side.sort sites)) is.sites
-    ∙ sites_are side.sort program (targets_under program lines) (count program)
+    ∙ sites_are side.sort program (targets_under program policy.lines) (count program)
 
 -- each target is a place
 by_there : (program : Program) (kind : SiteKind) (k : ℕ) (o : Option PolicyLine) → All (λ (t : ℕ). t < count program) (targets_by program kind k o)
@@ -91,11 +92,11 @@ targets_there program lines (suc n) =
     with_one program lines (sites_below program (targets_under program lines) n) n (site_kind (item_of program n).kind) (targets_there program lines n)
 
 -- and so is each member of a class
-pub members_there : (program : Program) (lines : List PolicyLine) (raw : RawGraph) (side : Side) → IsRaw program lines raw → IsSide raw side
+pub members_there : (program : Program) (policy : PolicyParts) (raw : RawGraph) (side : Side) → IsRaw program policy raw → IsSide raw side
     → (a : ℕ) → IsInSome side.classes a → a < count program
-members_there program lines raw side is of a h =
+members_there program policy raw side is of a h =
     let own = own_sites side.sort raw.sites in
-    let every = subst (All (Aims program)) (sym is.sites) (targets_there program lines (count program)) in
+    let every = subst (All (Aims program)) (sym is.sites) (targets_there program policy.lines (count program)) in
     let all = All-filter (λ (s : RawSite). is_of side.sort s.kind) (Aims program) raw.sites every in
     let at = (of.classes.members a).0 h in
     let inside : at.0 < length own = omega (arith, list_there (sets_of own) at.0 a at.1, length-map own (λ (s : RawSite). s.targets)) in

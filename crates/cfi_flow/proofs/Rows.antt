@@ -18,7 +18,8 @@ use Rattle.cfi_flow.specs.Below.{where_below}
 use Rattle.cfi_flow.specs.Closing.{with_class}
 use Rattle.cfi_flow.specs.Entry.{entry_place}
 use Rattle.cfi_flow.specs.Labels.{used_labels}
-use Rattle.cfi_flow.specs.Policy.{place_named, raw_sites, wrong_line}
+use Rattle.cfi_graph.specs.Policy.{PolicyParts}
+use Rattle.cfi_flow.specs.Policy.{place_named, raw_sites, wrong_from, wrong_line}
 use Rattle.cfi_flow.specs.Sites.{RawSite, sites_below}
 
 abbrev at : ℕ → ItemKind → Bool → Item
@@ -73,30 +74,39 @@ no_targets : raw_sites pointers (line (name (codes "main") 16) [] ∷ []) ≡ ca
 unfolding where_below sites_below place_named
 no_targets = refl
 
-right_policy : wrong_line pointers (line (name (codes "main") 16) (name (codes "f") 0 ∷ []) ∷ []) ≡ None
-unfolding wrong_line first_below place_named
+-- the policy of lines without a list of system calls
+abbrev bare : List PolicyLine → PolicyParts
+bare lines = record { calls = None; lines = lines }
+
+right_policy : wrong_line pointers (bare (line (name (codes "main") 16) (name (codes "f") 0 ∷ []) ∷ [])) ≡ None
+unfolding wrong_from first_below place_named
 right_policy = refl
 
 -- what is no computed transfer, no place, a section's end, a symbol that is nowhere, a site again
-no_transfer : wrong_line pointers (line (name (codes "main") 20) (name (codes "f") 0 ∷ []) ∷ []) ≡ Some 2
-unfolding wrong_line first_below place_named
+no_transfer : wrong_line pointers (bare (line (name (codes "main") 20) (name (codes "f") 0 ∷ []) ∷ [])) ≡ Some 2
+unfolding wrong_from first_below place_named
 no_transfer = refl
 
-inside_an_instruction : wrong_line pointers (line (name (codes "main") 16) (name (codes "f") 2 ∷ []) ∷ []) ≡ Some 2
-unfolding wrong_line first_below place_named
+inside_an_instruction : wrong_line pointers (bare (line (name (codes "main") 16) (name (codes "f") 2 ∷ []) ∷ [])) ≡ Some 2
+unfolding wrong_from first_below place_named
 inside_an_instruction = refl
 
-the_end : wrong_line pointers (line (name (codes "main") 16) (name (codes "end") 0 ∷ []) ∷ []) ≡ Some 2
-unfolding wrong_line first_below place_named
+the_end : wrong_line pointers (bare (line (name (codes "main") 16) (name (codes "end") 0 ∷ []) ∷ [])) ≡ Some 2
+unfolding wrong_from first_below place_named
 the_end = refl
 
-nowhere : wrong_line pointers (line (name (codes "main") 16) (name (codes "lost") 0 ∷ []) ∷ []) ≡ Some 2
-unfolding wrong_line first_below place_named
+nowhere : wrong_line pointers (bare (line (name (codes "main") 16) (name (codes "lost") 0 ∷ []) ∷ [])) ≡ Some 2
+unfolding wrong_from first_below place_named
 nowhere = refl
 
-a_site_again : wrong_line pointers (line (name (codes "main") 16) [] ∷ line (name (codes "main") 16) [] ∷ []) ≡ Some 3
-unfolding wrong_line first_below place_named
+a_site_again : wrong_line pointers (bare (line (name (codes "main") 16) [] ∷ line (name (codes "main") 16) [] ∷ [])) ≡ Some 3
+unfolding wrong_from first_below place_named
 a_site_again = refl
+
+-- under a list the lines begin one later
+after_a_list : wrong_line pointers (record { calls = Some (64 ∷ []); lines = line (name (codes "main") 20) (name (codes "f") 0 ∷ []) ∷ [] }) ≡ Some 3
+unfolding wrong_from first_below place_named
+after_a_list = refl
 
 -- the entry is the first symbol of its name, whatever it stands for
 entry_main : entry_place pointers (codes "main") ≡ Some 0

@@ -26,7 +26,7 @@ side_own raw own sort side is of classes sites =
 
 pub side_whole : (raw : RawGraph) (side : Side) → side.sort ≡ Both → AreClasses (sets_of raw.sites) side.classes →
     side.sites ≡ map (with_class side.classes) raw.sites → IsSide raw side
-side_whole raw side = side_own raw raw Both side (ap (λ (sites : List RawSite). record { sites = sites; taken = raw.taken }) (sym (all_of raw.sites)))
+side_whole raw side = side_own raw raw Both side (ap (λ (sites : List RawSite). record { sites = sites; taken = raw.taken; calls = raw.calls }) (sym (all_of raw.sites)))
 
 -- what a call gives that closes one
 module _ (raw own : RawGraph) (sort : Sort) (own_is : own ≡ raw_for sort raw) where

@@ -11,7 +11,7 @@ use Rattle.cfi_flow.specs.Raw.{RawGraph}
 
 -- a raw graph with the sites of a sort alone
 abbrev pub raw_for : Sort → RawGraph → RawGraph
-raw_for sort raw = record { sites = filter (λ (s : RawSite). is_of sort s.kind) raw.sites; taken = raw.taken }
+raw_for sort raw = record { sites = filter (λ (s : RawSite). is_of sort s.kind) raw.sites; taken = raw.taken; calls = raw.calls }
 
 abbrev pub sets_of : List RawSite → List (List ℕ)
 sets_of sites = map (λ (s : RawSite). s.targets) sites
@@ -44,3 +44,4 @@ pub record IsClosed (version : ℕ) (raw : RawGraph) (closed : ClosedGraph) : Ty
   pub sorts : map (λ (s : Side). s.sort) closed.sides ≡ sorts_of version
   pub sides : All (IsSide raw) closed.sides
   pub taken : closed.taken ≡ raw.taken
+  pub calls : closed.calls ≡ raw.calls

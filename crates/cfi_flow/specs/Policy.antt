@@ -10,6 +10,7 @@ use Rattle.obj_program.specs.Program.{Program, count, is_end, item_of, place_of}
 use Rattle.cfi_graph.specs.declared.line.SiteKind.{SiteKind}
 use Rattle.cfi_graph.specs.declared.policy.PlaceName.{PlaceName}
 use Rattle.cfi_graph.specs.declared.policy.PolicyLine.{PolicyLine}
+use Rattle.cfi_graph.specs.Policy.{PolicyParts, first_line}
 use Rattle.cfi_flow.specs.declared.end.FlowEnd.{FlowEnd}
 use Rattle.cfi_flow.specs.declared.end.FlowEnd.TheVariants as ends
 use Rattle.cfi_flow.specs.Below.{where_below}
@@ -57,9 +58,13 @@ abbrev pub is_wrong_line : Program → List PolicyLine → ℕ → Bool
 is_wrong_line program lines j =
     not (is_free_site program lines j (place_named program (line_of lines j).site)) || misses_target program (line_of lines j)
 
--- the number of the first wrong line: the text of a policy has its lines from 2 on
-unfoldable pub wrong_line : Program → List PolicyLine → Option ℕ
-wrong_line program lines = option_map (λ j. j + 2) (first_below (is_wrong_line program lines) (length lines))
+-- the number of the first wrong line, where the first has this number
+unfoldable pub wrong_from : ℕ → Program → List PolicyLine → Option ℕ
+wrong_from first program lines = option_map (λ j. j + first) (first_below (is_wrong_line program lines) (length lines))
+
+-- and of those in a policy's text
+abbrev pub wrong_line : Program → PolicyParts → Option ℕ
+wrong_line program policy = wrong_from (first_line policy.calls) program policy.lines
 
 -- what a line allows
 abbrev pub allowed : Program → PolicyLine → List ℕ
@@ -78,12 +83,16 @@ abbrev pub raw_sites : Program → List PolicyLine → List RawSite
 raw_sites program lines = sites_below program (targets_under program lines) (count program)
 
 -- the raw graph of a program under a policy
-pub record IsRaw (program : Program) (lines : List PolicyLine) (raw : RawGraph) : Type 0 where
-  pub right : wrong_line program lines ≡ None
-  pub sites : raw.sites ≡ raw_sites program lines
+pub record IsRaw (program : Program) (policy : PolicyParts) (raw : RawGraph) : Type 0 where
+  pub right : wrong_line program policy ≡ None
+  pub sites : raw.sites ≡ raw_sites program policy.lines
   pub taken : raw.taken ≡ map (λ (i : Item). i.taken) program.items
+  pub calls : raw.calls ≡ policy.calls
 
 -- why there is none: the first wrong line, or want of memory
-abbrev pub Ends : Program → List PolicyLine → FlowEnd → Type 0
-Ends program lines (ends.Policy n) = wrong_line program lines ≡ Some n
-Ends program lines ends.NoMemory = Unit {0}
+abbrev pub EndsFrom : ℕ → Program → List PolicyLine → FlowEnd → Type 0
+EndsFrom first program lines (ends.Policy n) = wrong_from first program lines ≡ Some n
+EndsFrom first program lines ends.NoMemory = Unit {0}
+
+abbrev pub Ends : Program → PolicyParts → FlowEnd → Type 0
+Ends program policy end = EndsFrom (first_line policy.calls) program policy.lines end

@@ -1,5 +1,5 @@
--- The raw graph: the sites with their targets, and which places are taken.
-use Rattle.std.specs.Prelude.{ℕ, ◌<◌, Bool, List, [], length, slice_index_or}
+-- The raw graph: the sites with their targets, which places are taken, and the list of system calls.
+use Rattle.std.specs.Prelude.{ℕ, ◌<◌, Bool, Option, List, [], length, slice_index_or}
 use Rattle.std.specs.List.{All}
 use Rattle.cfi_graph.specs.declared.line.SiteKind.TheVariants as site
 use Rattle.cfi_flow.specs.Sites.{RawSite}
@@ -8,6 +8,8 @@ pub record RawGraph : Type 0 where
   pub sites : List RawSite
   -- of each place, whether a relocation takes its address
   pub taken : List Bool
+  -- the numbers of the system calls that the program may make, where it has a list of them
+  pub calls : Option (List ℕ)
 
 abbrev pub no_site : RawSite
 no_site = record { place = 0; kind = site.Jump; targets = [] }

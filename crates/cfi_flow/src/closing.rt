@@ -78,5 +78,5 @@ pub fn close(alloc: Global, form: Form, raw: &Raw) -> Result<Closed, NoMemory>
     let version = form.graph_version();
     let sides = close_sides(alloc, version, raw)?;
     let taken = Vec::from_slice(alloc, raw.marks())?;
-    Ok(Closed::of(version, sides, taken))
+    Ok(Closed::of(version, sides, taken, raw.calls()))
 }

@@ -7,7 +7,7 @@ use thiserror::Error;
 /// Why a program has no raw graph under a policy.
 #[derive(Clone, Copy, Debug, Error)]
 pub enum FlowEnd {
-    /// The line with this number, from 2, names what is no instruction's start, or a site that is none or has a line.
+    /// The line with this number names what is no instruction's start, or a site that is none or has a line.
     #[error("line {0} of the policy")]
     Policy(u64),
     /// There was no memory.

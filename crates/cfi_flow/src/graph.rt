@@ -126,7 +126,7 @@ pub fn raw_graph(alloc: Global, items: &Items, policy: &Policy) -> Result<Raw, F
     ensures { MatchResult result (λ r. IsRaw items.now policy.now r) (λ e. Ends items.now policy.now e) }
 {
     let lines = policy.as_slice();
-    let table = lines_by_site(alloc, items, lines)?;
+    let table = lines_by_site(alloc, items, lines, policy.first_line())?;
     let drawing = drawn(alloc, items, lines, table.as_slice())?;
-    Ok(Raw::of(drawing))
+    Ok(Raw::of(drawing, policy.calls()))
 }

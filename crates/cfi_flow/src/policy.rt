@@ -1,9 +1,9 @@
-ghost use Rattle.std.specs.Prelude.{◌≡◌, ◌↔◌, ◌<◌, ℕ, IfOk, IfSome, None, length, MatchResult};
+ghost use Rattle.std.specs.Prelude.{◌≡◌, ◌↔◌, ◌<◌, ◌≤◌, ℕ, IfOk, IfSome, None, length, MatchResult};
 ghost use Rattle.std.specs.List.{All, Contains, filter_map};
 ghost use Rattle.std.specs.List.Sorted.{IsStrictlyIncreasing};
 ghost use Rattle.obj_program.specs.Program.{count};
 ghost use Rattle.cfi_flow.specs.Drawn.{free_site, line_for};
-ghost use Rattle.cfi_flow.specs.Policy.{Ends, allowed, misses_target, place_named, wrong_line};
+ghost use Rattle.cfi_flow.specs.Policy.{EndsFrom, allowed, misses_target, place_named, wrong_from};
 ghost use Rattle.cfi_class.specs.Tables.{IsTable};
 
 use crate::end::FlowEnd;
@@ -42,21 +42,23 @@ fn free_site(items: &Items, table: &[Entry], line: &PolicyLine) -> Option<u64>
     }
 }
 
-/// The table of the lines that name the sites; or the first wrong line.
+/// The table of the lines that name the sites, where the first line has this number; or the first wrong line.
 pub(crate) fn lines_by_site(
     alloc: Global,
     items: &Items,
     lines: &[PolicyLine],
+    first: u64,
 ) -> Result<Vec<Entry>, FlowEnd>
+    requires { first ≤ 3 }
     ensures { MatchResult result
-        (λ v. (wrong_line items.now lines.now ≡ None) × IsTable (line_for items.now lines.now) (count items.now) v.items)
-        (λ e. Ends items.now lines.now e) }
+        (λ v. (wrong_from first items.now lines.now ≡ None) × IsTable (line_for items.now lines.now) (count items.now) v.items)
+        (λ e. EndsFrom first items.now lines.now e) }
 {
     let mut table = blank(alloc, items.count())?;
     for j in 0..lines.len() {
         match free_site(items, table.as_slice(), &lines[j]) {
             Some(k) => note(&mut table, k, j as u64)?,
-            None => return Err(FlowEnd::Policy(j as u64 + 2)),
+            None => return Err(FlowEnd::Policy(j as u64 + first)),
         }
     }
     Ok(table)

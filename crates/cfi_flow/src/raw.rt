@@ -11,14 +11,16 @@ use crate::join::joined;
 use cfi_class::{Entry, classes};
 use cfi_closed::Site;
 use cfi_graph::{SiteKind, Sort};
-use rv_word::{NoMemory, Places};
+use rv_word::{NoMemory, Numbers, Places};
 use std::alloc::Global;
 use std::marker::Model;
 
-/// The raw graph of a program: its sites with their targets. What sites have in common is kept once.
+/// The raw graph of a program: its sites with their targets, and the list of system calls. What sites have in common is kept
+/// once.
 #[derive(Drop)]
 pub struct Raw {
     drawing: Drawing,
+    calls: Option<Numbers>,
 }
 
 impl Model for Raw {
@@ -27,7 +29,7 @@ impl Model for Raw {
 
     ghost Value = { RawGraph };
 
-    ghost view = { λ r. record { sites = sites_of r.drawing; taken = r.drawing.taken.items } };
+    ghost view = { λ r. record { sites = sites_of r.drawing; taken = r.drawing.taken.items; calls = r.calls } };
 
     ghost invariant = { λ r. AreKept r.drawing };
 }
@@ -40,12 +42,19 @@ pub struct RawSite {
 }
 
 impl Raw {
-    /// The raw graph that is drawn.
-    pub(crate) fn of(drawing: Drawing) -> Raw
+    /// The raw graph that is drawn, with a list of system calls.
+    pub(crate) fn of(drawing: Drawing, calls: Option<Numbers>) -> Raw
         requires { AreKept drawing }
-        ensures { result ≡ record { sites = sites_of drawing; taken = drawing.taken.items } }
+        ensures { result ≡ record { sites = sites_of drawing; taken = drawing.taken.items; calls = calls } }
     {
-        Raw { drawing }
+        Raw { drawing, calls }
+    }
+
+    /// The numbers of the system calls that the program may make, where it has a list of them.
+    pub fn calls(&self) -> Option<Numbers>
+        ensures { result ≡ self.now.calls }
+    {
+        self.calls
     }
 
     /// How many sites there are.
@@ -105,7 +114,10 @@ impl Raw {
         ensures { IfOk result (λ r. r ≡ raw_for sort self.now) }
     {
         let drawing = self.drawing.for_sort(alloc, sort)?;
-        Ok(Raw { drawing })
+        Ok(Raw {
+            drawing,
+            calls: self.calls,
+        })
     }
 
     /// The classes of the targets.

@@ -10,3 +10,7 @@ pub mod Printed
 pub mod MapLaws
 pub mod MapWritten
 pub mod PolicyWords
+pub mod DecimalWords
+pub mod CallsNumbers
+pub mod CallsLine
+pub mod Third

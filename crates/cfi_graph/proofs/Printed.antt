@@ -1,5 +1,6 @@
 -- A text as it is written, piece after piece.
 use Rattle.std.proofs.Common.{◌≡◌, ℕ, List, [], ◌∷◌, ◌++◌, ◌+◌, ◌<◌, codes, get_or, length, take, map, refl, sym, ◌∙◌, ap, append_assoc}
+use Rattle.std.specs.Fmt.{decimal}
 use Rattle.std.specs.List.{flat_map}
 use Rattle.std.proofs.lemmas.List.{append-nil, take_more}
 use Rattle.cfi_graph.specs.declared.line.GraphLine.{GraphLine}
@@ -7,7 +8,7 @@ use Rattle.cfi_graph.specs.declared.line.Sort.{Sort}
 use Rattle.cfi_graph.specs.Graph.{GraphParts}
 use Rattle.text_lines.specs.Hex.{hex_text}
 use Rattle.text_lines.specs.Lines.{spaced}
-use Rattle.cfi_graph.specs.Text.{class_name, graph_lines, graph_name, graph_text, words_of_class, words_of_line}
+use Rattle.cfi_graph.specs.Text.{class_name, graph_lines, graph_name, graph_text, words_of_calls, words_of_class, words_of_line}
 
 -- words with a space before each but the first
 pub spaced_flat : (word : List ℕ) (words : List (List ℕ)) → spaced (word ∷ words) ≡ word ++ flat_map (λ w. 32 ∷ w) words
@@ -38,6 +39,12 @@ class_text name label targets =
 pub class_written : (out named labelled : List ℕ) (sort : Sort) (label : ℕ) (targets : List ℕ) → named ≡ out ++ class_name sort → labelled ≡ named ++ 32 ∷ hex_text 5 label → labelled ++ flat_map (λ n. 32 ∷ hex_text 8 n) targets ≡ out ++ spaced (words_of_class sort label targets)
 class_written out named labelled sort label targets p q =
     rw (class_text (class_name sort) label targets, q, p) (simp append_assoc)
+
+pub calls_written : (out named : List ℕ) (numbers : List ℕ) → named ≡ out ++ codes "calls" → named ++ flat_map (λ n. 32 ∷ decimal n) numbers ≡ out ++ spaced (words_of_calls numbers)
+calls_written out named numbers p =
+    let text = flat_map (λ n. 32 ∷ decimal n) numbers in
+    let spelled = spaced_flat (codes "calls") (map decimal numbers) ∙ ap (λ rest. codes "calls" ++ rest) (flat_map-map (λ w. 32 ∷ w) decimal numbers) in
+    ap (λ xs. xs ++ text) p ∙ append_assoc out (codes "calls") text ∙ ap (λ ys. out ++ ys) (sym spelled)
 
 -- the text of a line, with its newline
 abbrev pub line_text : GraphLine → List ℕ

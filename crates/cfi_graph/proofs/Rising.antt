@@ -2,7 +2,7 @@
 use Rattle.std.proofs.Common.{◌≡◌, ℕ, zero, suc, ◌-◌, ◌<◌, ◌≤◌, Bool, true, List, [], ◌∷◌, length, drop, get_or, nat_lt, refl, sym, ◌∙◌, length-drop, arith}
 use Rattle.std.proofs.lemmas.Bool.{and_parts, ltb-true, lt-ltb}
 use Rattle.cfi_graph.specs.declared.line.Key.{Key}
-use Rattle.cfi_graph.specs.declared.line.Key.TheVariants.{Label, Address}
+use Rattle.cfi_graph.specs.declared.line.Key.TheVariants.{Head, Label, Address}
 use Rattle.cfi_graph.specs.Graph.{is_rising, key_below}
 
 short_rises : (xs : List ℕ) → length xs ≤ 1 → is_rising nat_lt xs ≡ true
@@ -40,6 +40,18 @@ less_transitive x y z p q =
     let first = ltb-true x y p in let second = ltb-true y z q in lt-ltb x z (omega arith)
 
 pub key_transitive : (x y z : Key) → key_below x y ≡ true → key_below y z ≡ true → key_below x z ≡ true
+key_transitive Head Head z p q = absurd cc
+key_transitive Head (Label l) Head p q = absurd cc
+key_transitive Head (Label l) (Label m) p q = refl
+key_transitive Head (Label l) (Address b) p q = refl
+key_transitive Head (Address a) Head p q = absurd cc
+key_transitive Head (Address a) (Label m) p q = refl
+key_transitive Head (Address a) (Address b) p q = refl
+key_transitive (Label k) Head z p q = absurd cc
+key_transitive (Label k) (Label l) Head p q = absurd cc
+key_transitive (Label k) (Address a) Head p q = absurd cc
+key_transitive (Address a) Head z p q = absurd cc
+key_transitive (Address a) (Address b) Head p q = absurd cc
 key_transitive (Label k) (Label l) (Label m) p q = less_transitive k l m p q
 key_transitive (Label k) (Label l) (Address b) p q = refl
 key_transitive (Label k) (Address a) (Label m) p q = cc

@@ -1,5 +1,5 @@
 -- A text that is read as a graph is that graph's spelling, and the graph is one that may be.
-use Rattle.std.proofs.Common.{◌≡◌, ℕ, zero, suc, ◌<◌, ◌==◌, ◌||◌, Bool, true, false, if◌then◌else◌, List, [], ◌∷◌, ◌++◌, codes, get_or, map, Option, Some, None, Result, Ok, Err, refl, sym, subst, ◌∙◌, ap, arith}
+use Rattle.std.proofs.Common.{◌≡◌, ℕ, zero, suc, ◌<◌, ◌==◌, ◌||◌, nat_lt, Bool, true, false, if◌then◌else◌, List, [], ◌∷◌, ◌++◌, codes, get_or, map, Option, Some, None, Result, Ok, Err, refl, sym, subst, ◌∙◌, ap, arith}
 use Rattle.std.specs.List.{join_with_byte, list_all}
 use Rattle.std.proofs.lemmas.Bool.{and_from, and_parts}
 use Rattle.std.proofs.lemmas.List.Splits.{join_with_byte-slice_split}
@@ -12,10 +12,12 @@ use Rattle.text_lines.specs.Reading.{if_right, one_named, read, whole}
 use Rattle.text_lines.proofs.Accepts.{Accepts, end_only, if_ok, line_first}
 use Rattle.text_lines.proofs.Whole.{one_named_ok, whole_accepts}
 use Rattle.text_lines.proofs.Written.{join_newlines}
-use Rattle.cfi_graph.specs.Graph.{GraphParts, IsGraph, class_in, fits_version, is_code_length, is_rising, key_below, key_of, line_in_range, targets_rise}
+use Rattle.cfi_graph.specs.Calls.{Listed, calls_of, judged_calls, line_after, may_be_calls}
+use Rattle.cfi_graph.specs.Graph.{GraphParts, IsGraph, are_calls, class_in, fits_version, is_code_length, is_rising, key_below, key_of, line_in_range, targets_rise}
 use Rattle.cfi_graph.specs.Lines.{length_of}
-use Rattle.cfi_graph.specs.Text.{graph_lines, graph_name, graph_text, words_of_line}
-use Rattle.cfi_graph.specs.Reading.{after_first, graph_names, graph_of, graph_rules, in_order, version_at, with_length}
+use Rattle.cfi_graph.specs.Text.{graph_lines, graph_name, graph_text, words_of_calls, words_of_line}
+use Rattle.cfi_graph.specs.Reading.{after_first, calls_key, calls_lines, graph_names, graph_of, graph_rules, in_order, listed, third_line, version_at, with_length, with_lines}
+use Rattle.cfi_graph.proofs.CallsLine.{judged_list}
 use Rattle.cfi_graph.proofs.Spelled.{line_fits, line_spelled, length_spelled}
 
 -- lines rise after the line with the key `before`
@@ -71,16 +73,16 @@ pub record Gives (parts : List (List ℕ)) (graph : GraphParts) : Type 0 where
   pub lines : parts ≡ graph_lines graph ++ [] ∷ []
 
 pub record GivesAfter (parts : List (List ℕ)) (graph : GraphParts) : Type 0 where
-  pub length : is_code_length graph.code ≡ true
   pub second : List ℕ
   pub rest : List (List ℕ)
   pub parts_are : parts ≡ second ∷ rest
   pub second_is : second ≡ spaced (codes "code" ∷ codes "40000000" ∷ hex_text 8 graph.code ∷ [])
-  pub accepts : Accepts (graph_rules graph.version graph.code) None rest graph.lines
+  pub spelled : rest ≡ spellings graph.lines ++ [] ∷ []
+  pub allowed : (graph.version == 1 || graph.version == 2) ≡ true → IsGraph graph
 
 -- a graph of a version that there is, whose lines from the third on are accepted
-accepted : (version len : ℕ) {parts : List (List ℕ)} {lines : List GraphLine} → (version == 1 || version == 2) ≡ true → is_code_length len ≡ true → Accepts (graph_rules version len) None parts lines → IsGraph (record { version = version; code = len; lines = lines })
-accepted version len known length accepts =
+accepted : (version len : ℕ) (calls : Option (List ℕ)) {parts : List (List ℕ)} {lines : List GraphLine} → (version == 1 || version == 2) ≡ true → is_code_length len ≡ true → may_be_calls calls ≡ true → Accepts (graph_rules version len) (calls_key calls) parts lines → IsGraph (record { version = version; code = len; lines = calls_lines calls ++ lines })
+accepted version len None known length may accepts =
     record {
       version = known;
       sorts = fits version len accepts;
@@ -89,18 +91,81 @@ accepted version len known length accepts =
       targets = targets version len accepts;
       order = rises version len accepts;
     }
+accepted version len (Some calls) known length may accepts =
+    let p = and_parts (are_calls calls) (is_rising nat_lt calls) may in
+    record {
+      version = known;
+      sorts = fits version len accepts;
+      length = length;
+      range = and_from _ _ p.0 (in_range version len accepts);
+      targets = and_from _ _ p.1 (targets version len accepts);
+      order = rises version len accepts;
+    }
 
-pub valid : (version len : ℕ) (parts : List (List ℕ)) (lines : List GraphLine) → (version == 1 || version == 2) ≡ true → is_code_length len ≡ true → whole (read (graph_rules version len) None 3 parts) ≡ Ok lines → IsGraph (record { version = version; code = len; lines = lines })
-valid version len parts lines known length e =
-    accepted version len known length (whole_accepts (graph_rules version len) None 3 parts lines e)
+pub valid : (version len : ℕ) (calls : Option (List ℕ)) (parts : List (List ℕ)) (lines : List GraphLine) → (version == 1 || version == 2) ≡ true → is_code_length len ≡ true → may_be_calls calls ≡ true → whole (read (graph_rules version len) (calls_key calls) (line_after 3 calls) parts) ≡ Ok lines → IsGraph (record { version = version; code = len; lines = calls_lines calls ++ lines })
+valid version len calls parts lines known length may e =
+    accepted version len calls known length may (whole_accepts (graph_rules version len) (calls_key calls) (line_after 3 calls) parts lines e)
 
 -- what is read is of the version, the length and the lines that were told
-with_code_ok : (version len : ℕ) (lines : Result (List GraphLine) TextEnd) (graph : GraphParts) → if_right lines (λ read. Ok (record { version = version; code = len; lines = read })) ≡ Ok graph → (lines ≡ Ok graph.lines) × (record { version = version; code = len; lines = graph.lines } ≡ graph)
-with_code_ok version len (Ok lines) graph e =
-    let same : record { version = version; code = len; lines = lines } ≡ graph = cc in
-    let read : lines ≡ graph.lines = ap (λ (g : GraphParts). g.lines) same in
-    (ap Ok read, ap (λ ls. record { version = version; code = len; lines = ls }) (sym read) ∙ same)
-with_code_ok version len (Err fault) graph e = absurd cc
+with_front_ok : (version len : ℕ) (front : List GraphLine) (lines : Result (List GraphLine) TextEnd) (graph : GraphParts) → if_right lines (λ read. Ok (record { version = version; code = len; lines = front ++ read })) ≡ Ok graph → (read : List GraphLine) × (lines ≡ Ok read) × (record { version = version; code = len; lines = front ++ read } ≡ graph)
+with_front_ok version len front (Ok lines) graph e =
+    let same : record { version = version; code = len; lines = front ++ lines } ≡ graph = cc in
+    (lines, refl, same)
+with_front_ok version len front (Err fault) graph e = absurd cc
+
+-- the lines from the third on are those of the list, if there is one, and then others
+abbrev pub list_lines : Option (List ℕ) → List (List ℕ)
+list_lines None = []
+list_lines (Some calls) = spaced (words_of_calls calls) ∷ []
+
+pub record Third (parts : List (List ℕ)) (told : Listed) : Type 0 where
+  pub may : may_be_calls told.calls ≡ true
+  pub are : parts ≡ list_lines told.calls ++ told.lines
+
+same_Ok : {A E : Type 0} (x y : A) → ◌≡◌ {A = Result A E} (Ok x) (Ok y) → x ≡ y
+same_Ok x y e = cc
+
+third_none : (parts : List (List ℕ)) (told : Listed) → ◌≡◌ {A = Result Listed TextEnd} (Ok (record { calls = None; lines = parts })) (Ok told) → Third parts told
+third_none parts told e = subst (Third parts) (same_Ok (record { calls = None; lines = parts }) told e) (record { may = refl; are = refl })
+
+third_some : (line : List ℕ) (rest : List (List ℕ)) (numbers : List ℕ) (found : Result (List ℕ) TextEnd) (told : Listed) → calls_of (words_of line) ≡ Some numbers → judged_calls 3 (Some numbers) ≡ found → if_right found (λ calls. Ok (record { calls = Some calls; lines = rest })) ≡ Ok told → Third (line ∷ rest) told
+third_some line rest numbers (Err fault) told is j e = absurd cc
+third_some line rest numbers (Ok calls) told is j e =
+    let list = judged_list 3 line calls (ap (judged_calls 3) is ∙ j) in
+    let here : Third (line ∷ rest) (record { calls = Some calls; lines = rest }) = record { may = and_from _ _ list.are list.rising; are = ap (λ first. first ∷ rest) list.spelled } in
+    subst (Third (line ∷ rest)) (same_Ok (record { calls = Some calls; lines = rest }) told e) here
+
+pub third_ok : (parts : List (List ℕ)) (told : Listed) → third_line parts ≡ Ok told → Third parts told
+unfolding third_line
+third_ok [] told e = third_none [] told e
+third_ok (line ∷ []) told e = third_none (line ∷ []) told e
+third_ok (line ∷ next ∷ rest) told e = at (calls_of (words_of line)) refl e
+  where
+    at : (found : Option (List ℕ)) → calls_of (words_of line) ≡ found → listed found (line ∷ next ∷ rest) (next ∷ rest) ≡ Ok told → Third (line ∷ next ∷ rest) told
+    at None is h = third_none (line ∷ next ∷ rest) told h
+    at (Some numbers) is h = third_some line (next ∷ rest) numbers (judged_calls 3 (Some numbers)) told is refl h
+
+-- the spelling of the lines with those of the list before them
+with_list : (calls : Option (List ℕ)) (lines : List GraphLine) → list_lines calls ++ (spellings lines ++ [] ∷ []) ≡ spellings (calls_lines calls ++ lines) ++ [] ∷ []
+with_list None lines = refl
+with_list (Some calls) lines = refl
+
+with_code_ok : (version len : ℕ) (second : List ℕ) (parts : List (List ℕ)) (found : Result Listed TextEnd) (graph : GraphParts) → is_code_length len ≡ true → second ≡ spaced (codes "code" ∷ codes "40000000" ∷ hex_text 8 len ∷ []) → third_line parts ≡ found → if_right found (λ told. with_lines version len told.calls told.lines) ≡ Ok graph → (GivesAfter (second ∷ parts) graph) × (graph.version ≡ version)
+with_code_ok version len second parts (Err fault) graph length is third e = absurd cc
+with_code_ok version len second parts (Ok told) graph length is third e =
+    let list = third_ok parts told third in
+    let found = with_front_ok version len (calls_lines told.calls) (whole (read (graph_rules version len) (calls_key told.calls) (line_after 3 told.calls) told.lines)) graph e in
+    let accepts = whole_accepts (graph_rules version len) (calls_key told.calls) (line_after 3 told.calls) told.lines found.0 found.1 in
+    let spelled_as = list.are ∙ ap (λ others. list_lines told.calls ++ others) (spelled version len accepts) ∙ with_list told.calls found.0 in
+    let after : GivesAfter (second ∷ parts) (record { version = version; code = len; lines = calls_lines told.calls ++ found.0 }) = record {
+      second = second;
+      rest = parts;
+      parts_are = refl;
+      second_is = is;
+      spelled = spelled_as;
+      allowed = λ known. accepted version len told.calls known length list.may accepts;
+    } in
+    (subst (GivesAfter (second ∷ parts)) found.2 after, ap (λ (g : GraphParts). g.version) (sym found.2))
 
 with_length_ok : (version : ℕ) (line : List ℕ) (parts : List (List ℕ)) (graph : GraphParts) → with_length version (length_of (words_of line)) parts ≡ Ok graph → (GivesAfter (line ∷ parts) graph) × (graph.version ≡ version)
 with_length_ok version line parts graph e = told (length_of (words_of line)) refl e
@@ -109,9 +174,7 @@ with_length_ok version line parts graph e = told (length_of (words_of line)) ref
     told None is h = absurd cc
     told (Some len) is h =
         let range = if_ok (is_code_length len) _ _ _ h in
-        let found = with_code_ok version len (whole (read (graph_rules version len) None 3 parts)) graph range.1 in
-        let after : GivesAfter (line ∷ parts) (record { version = version; code = len; lines = graph.lines }) = record { length = range.0; second = line; rest = parts; parts_are = refl; second_is = length_spelled line len is; accepts = whole_accepts (graph_rules version len) None 3 parts graph.lines found.0 } in
-        (subst (GivesAfter (line ∷ parts)) found.1 after, ap (λ (g : GraphParts). g.version) (sym found.1))
+        with_code_ok version len line parts (third_line parts) graph range.0 (length_spelled line len is) refl range.1
 
 after_first_ok : (version : ℕ) (parts : List (List ℕ)) (graph : GraphParts) → after_first version parts ≡ Ok graph → (GivesAfter parts graph) × (graph.version ≡ version)
 unfolding after_first
@@ -138,9 +201,9 @@ from_lines_ok parts graph e =
     one_named_ok graph_names parts (λ first. after_first (version_at first.0) first.1) graph e (λ which rest known parts_are named.
     let p = after_first_ok (version_at which) rest graph named in
     let after = p.0 in
-    let others : rest ≡ spaced (codes "code" ∷ codes "40000000" ∷ hex_text 8 graph.code ∷ []) ∷ (spellings graph.lines ++ [] ∷ []) = after.parts_are ∙ ap (λ second. second ∷ after.rest) after.second_is ∙ ap (λ ls. spaced (codes "code" ∷ codes "40000000" ∷ hex_text 8 graph.code ∷ []) ∷ ls) (spelled graph.version graph.code after.accepts) in
+    let others : rest ≡ spaced (codes "code" ∷ codes "40000000" ∷ hex_text 8 graph.code ∷ []) ∷ (spellings graph.lines ++ [] ∷ []) = after.parts_are ∙ ap (λ second. second ∷ after.rest) after.second_is ∙ ap (λ ls. spaced (codes "code" ∷ codes "40000000" ∷ hex_text 8 graph.code ∷ []) ∷ ls) after.spelled in
     record {
-      allowed = accepted graph.version graph.code (ap (λ v. v == 1 || v == 2) p.1 ∙ version_known which) after.length after.accepts;
+      allowed = after.allowed (ap (λ v. v == 1 || v == 2) p.1 ∙ version_known which);
       lines = parts_are ∙ ap (λ first. first ∷ rest) (name_at which known ∙ ap graph_name (sym p.1)) ∙ ap (λ ls. graph_name graph.version ∷ ls) others;
     })
 

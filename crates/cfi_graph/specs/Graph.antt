@@ -1,14 +1,15 @@
 -- A graph of control flow: its version, the length of the code that it is of, and its lines. The rules
 -- here say which lines a version has, which numbers a line may have and in which order lines stand.
-use Rattle.std.specs.Prelude.{ℕ, ◌+◌, ◌%◌, ◌^◌, ◌==◌, nat_lt, nat_le, Bool, true, false, ◌&&◌, ◌||◌, IsTrue, List, [], ◌∷◌, Option, Some, None, is_some, map}
+use Rattle.std.specs.Prelude.{ℕ, ◌+◌, ◌%◌, ◌^◌, ◌==◌, nat_lt, nat_le, Bool, true, false, ◌&&◌, ◌||◌, IsTrue, List, [], ◌∷◌, length, Option, Some, None, is_some, map}
 use Rattle.std.specs.List.{list_all}
 use Rattle.rv_word.specs.MemoryMap.{CODE_START, CODE_SIZE}
+use Rattle.rv_word.specs.Numbers.{MOST_NUMBERS}
 use Rattle.cfi_graph.specs.declared.line.GraphLine.{GraphLine}
-use Rattle.cfi_graph.specs.declared.line.GraphLine.TheVariants.{Class, CallClass, JumpClass, Site, Edge, Call}
+use Rattle.cfi_graph.specs.declared.line.GraphLine.TheVariants.{SystemCalls, Class, CallClass, JumpClass, Site, Edge, Call}
 use Rattle.cfi_graph.specs.declared.line.Sort.{Sort}
 use Rattle.cfi_graph.specs.declared.line.Sort.TheVariants.{Both, Calls, Jumps}
 use Rattle.cfi_graph.specs.declared.line.Key.{Key}
-use Rattle.cfi_graph.specs.declared.line.Key.TheVariants.{Label, Address}
+use Rattle.cfi_graph.specs.declared.line.Key.TheVariants.{Head, Label, Address}
 
 pub record GraphParts : Type 0 where
   pub version : ℕ
@@ -23,12 +24,24 @@ pub record ClassLine : Type 0 where
 
 -- the class of a line, where it is a class's
 abbrev pub class_in : GraphLine → Option ClassLine
+class_in (SystemCalls numbers) = None
 class_in (Class label targets) = Some (record { sort = Both; label = label; targets = targets })
 class_in (CallClass label targets) = Some (record { sort = Calls; label = label; targets = targets })
 class_in (JumpClass label targets) = Some (record { sort = Jumps; label = label; targets = targets })
 class_in (Site address kind label) = None
 class_in (Edge from to) = None
 class_in (Call from to) = None
+
+-- the numbers of the system calls that the program may make: those of the first line, where it is a list of them
+abbrev pub calls_in : List GraphLine → Option (List ℕ)
+calls_in [] = None
+calls_in (SystemCalls numbers ∷ lines) = Some numbers
+calls_in (Class label targets ∷ lines) = None
+calls_in (CallClass label targets ∷ lines) = None
+calls_in (JumpClass label targets ∷ lines) = None
+calls_in (Site address kind label ∷ lines) = None
+calls_in (Edge from to ∷ lines) = None
+calls_in (Call from to ∷ lines) = None
 
 -- the line of a class of a sort
 abbrev pub line_of_class : Sort → ℕ → List ℕ → GraphLine
@@ -62,7 +75,13 @@ is_code_address len address = address % 4 == 0 && nat_le CODE_START address && n
 abbrev pub class_in_range : ℕ → ℕ → List ℕ → Bool
 class_in_range len label targets = is_label label && list_all (is_code_address len) targets
 
+-- a list of system calls has 1 to 8 numbers, each below 2^11
+abbrev pub are_calls : List ℕ → Bool
+are_calls numbers =
+    nat_lt 0 (length numbers) && nat_le (length numbers) MOST_NUMBERS && list_all (λ n. nat_lt n (2 ^ 11)) numbers
+
 abbrev pub line_in_range : ℕ → GraphLine → Bool
+line_in_range len (SystemCalls numbers) = are_calls numbers
 line_in_range len (Class label targets) = class_in_range len label targets
 line_in_range len (CallClass label targets) = class_in_range len label targets
 line_in_range len (JumpClass label targets) = class_in_range len label targets
@@ -76,8 +95,9 @@ is_rising below [] = true
 is_rising below (x ∷ []) = true
 is_rising below (x ∷ y ∷ rest) = below x y && is_rising below (y ∷ rest)
 
--- a class line is ordered by its label, any other by its first address
+-- the list of system calls stands first; a class line is ordered by its label, any other by its first address
 abbrev pub key_of : GraphLine → Key
+key_of (SystemCalls numbers) = Head
 key_of (Class label targets) = Label label
 key_of (CallClass label targets) = Label label
 key_of (JumpClass label targets) = Label label
@@ -85,15 +105,21 @@ key_of (Site address kind label) = Address address
 key_of (Edge from to) = Address from
 key_of (Call from to) = Address from
 
--- labels rise, class lines come before all others, and first addresses rise
+-- one list at most, before all lines; labels rise, class lines come before all others, and first addresses rise
 abbrev pub key_below : Key → Key → Bool
+key_below Head Head = false
+key_below Head (Label l) = true
+key_below Head (Address b) = true
+key_below (Label k) Head = false
+key_below (Address a) Head = false
 key_below (Label k) (Label l) = nat_lt k l
 key_below (Label k) (Address a) = true
 key_below (Address a) (Label l) = false
 key_below (Address a) (Address b) = nat_lt a b
 
--- the addresses of a class rise
+-- the addresses of a class rise, and so do the numbers of system calls
 abbrev pub targets_rise : GraphLine → Bool
+targets_rise (SystemCalls numbers) = is_rising nat_lt numbers
 targets_rise (Class label targets) = is_rising nat_lt targets
 targets_rise (CallClass label targets) = is_rising nat_lt targets
 targets_rise (JumpClass label targets) = is_rising nat_lt targets
@@ -115,6 +141,7 @@ abbrev pub is_class : GraphLine → Bool
 is_class line = is_some (class_in line)
 
 abbrev pub is_site : GraphLine → Bool
+is_site (SystemCalls numbers) = false
 is_site (Class label targets) = false
 is_site (CallClass label targets) = false
 is_site (JumpClass label targets) = false

@@ -1,6 +1,7 @@
 pub mod Graph
 pub mod Text
 pub mod Lines
+pub mod Calls
 pub mod Reading
 pub mod Map
 pub mod MapText

@@ -1,15 +1,18 @@
--- Reading a graph. Its first line tells its version, its second gives the length of the code, and the
--- lines from the third on have the form below. Form: a line is none that may stand there, or it has
+-- Reading a graph. Its first line tells its version, its second gives the length of the code, the third
+-- may be a list of system calls, and the other lines have the form below. Form: a line is none that may stand there, or it has
 -- no newline. Range: a number in it is not allowed. Order: it does not rise above the line before it,
 -- or its own addresses do not rise.
-use Rattle.std.specs.Prelude.{ℕ, ◌==◌, Bool, ◌&&◌, if◌then◌else◌, List, [], ◌∷◌, Option, Some, None, Result, Ok, Err}
+use Rattle.std.specs.Prelude.{ℕ, ◌==◌, Bool, ◌&&◌, if◌then◌else◌, List, [], ◌∷◌, ◌++◌, Option, Some, None, Result, Ok, Err}
 use Rattle.text_lines.specs.declared.reason.Reason.TheVariants.{Form, Range}
 use Rattle.text_lines.specs.declared.end.TextEnd.{TextEnd}
 use Rattle.text_lines.specs.declared.end.TextEnd.TheVariants.{Line}
 use Rattle.text_lines.specs.Lines.{lines_of, words_of}
 use Rattle.text_lines.specs.Reading.{LineRules, if_right, one_named, read, whole}
 use Rattle.cfi_graph.specs.declared.line.GraphLine.{GraphLine}
+use Rattle.cfi_graph.specs.declared.line.GraphLine.TheVariants.{SystemCalls}
 use Rattle.cfi_graph.specs.declared.line.Key.{Key}
+use Rattle.cfi_graph.specs.declared.line.Key.TheVariants.{Head}
+use Rattle.cfi_graph.specs.Calls.{Listed, calls_of, judged_calls, line_after}
 use Rattle.cfi_graph.specs.Graph.{GraphParts, is_code_length, line_in_range, key_of, key_below, targets_rise}
 use Rattle.cfi_graph.specs.Lines.{length_of, line_of}
 use Rattle.cfi_graph.specs.Text.{graph_name}
@@ -29,10 +32,33 @@ graph_rules version len = record {
   items = λ line. line ∷ [];
 }
 
+-- the line of a list of system calls, and its key, if there is one
+abbrev pub calls_lines : Option (List ℕ) → List GraphLine
+calls_lines None = []
+calls_lines (Some calls) = SystemCalls calls ∷ []
+
+abbrev pub calls_key : Option (List ℕ) → Option Key
+calls_key None = None
+calls_key (Some calls) = Some Head
+
+-- the graph of a version, a length and a list of system calls, if there is one, with the lines after these
+abbrev pub with_lines : ℕ → ℕ → Option (List ℕ) → List (List ℕ) → Result GraphParts TextEnd
+with_lines version len calls lines =
+    if_right (whole (read (graph_rules version len) (calls_key calls) (line_after 3 calls) lines)) (λ read. Ok (record { version = version; code = len; lines = calls_lines calls ++ read }))
+
+-- the third line may be a list of system calls
+abbrev pub listed : Option (List ℕ) → List (List ℕ) → List (List ℕ) → Result Listed TextEnd
+listed None lines rest = Ok (record { calls = None; lines = lines })
+listed (Some numbers) lines rest =
+    if_right (judged_calls 3 (Some numbers)) (λ calls. Ok (record { calls = Some calls; lines = rest }))
+
+unfoldable pub third_line : List (List ℕ) → Result Listed TextEnd
+third_line (line ∷ next ∷ rest) = listed (calls_of (words_of line)) (line ∷ next ∷ rest) (next ∷ rest)
+third_line lines = Ok (record { calls = None; lines = lines })
+
 -- the graph of a version, a length and the lines from the third on
 abbrev pub with_code : ℕ → ℕ → List (List ℕ) → Result GraphParts TextEnd
-with_code version len lines =
-    if_right (whole (read (graph_rules version len) None 3 lines)) (λ read. Ok (record { version = version; code = len; lines = read }))
+with_code version len lines = if_right (third_line lines) (λ told. with_lines version len told.calls told.lines)
 
 -- the second line gives the length of the code
 abbrev pub with_length : ℕ → Option ℕ → List (List ℕ) → Result GraphParts TextEnd

@@ -1,11 +1,12 @@
 -- The text of a graph. Every line ends with one newline, words are parted by one space, the last
 -- line is `end`. A label has five hexadecimal digits, an address or a length eight, in lower case.
 use Rattle.std.specs.Prelude.{ℕ, ◌==◌, if◌then◌else◌, List, [], ◌∷◌, ◌++◌, map, codes}
+use Rattle.std.specs.Fmt.{decimal}
 use Rattle.std.specs.List.{flat_map}
 use Rattle.text_lines.specs.Hex.{hex_text}
 use Rattle.text_lines.specs.Lines.{spaced}
 use Rattle.cfi_graph.specs.declared.line.GraphLine.{GraphLine}
-use Rattle.cfi_graph.specs.declared.line.GraphLine.TheVariants.{Class, CallClass, JumpClass, Site, Edge, Call}
+use Rattle.cfi_graph.specs.declared.line.GraphLine.TheVariants.{SystemCalls, Class, CallClass, JumpClass, Site, Edge, Call}
 use Rattle.cfi_graph.specs.declared.line.SiteKind as kinds
 use Rattle.cfi_graph.specs.declared.line.SiteKind.TheVariants as kind
 use Rattle.cfi_graph.specs.declared.line.Sort.{Sort}
@@ -25,7 +26,11 @@ class_name Jumps = codes "jumpclass"
 abbrev pub words_of_class : Sort → ℕ → List ℕ → List (List ℕ)
 words_of_class sort label targets = class_name sort ∷ hex_text 5 label ∷ map (hex_text 8) targets
 
+abbrev pub words_of_calls : List ℕ → List (List ℕ)
+words_of_calls numbers = codes "calls" ∷ map decimal numbers
+
 abbrev pub words_of_line : GraphLine → List (List ℕ)
+words_of_line (SystemCalls numbers) = words_of_calls numbers
 words_of_line (Class label targets) = words_of_class Both label targets
 words_of_line (CallClass label targets) = words_of_class Calls label targets
 words_of_line (JumpClass label targets) = words_of_class Jumps label targets

@@ -1,7 +1,7 @@
 ghost use Rattle.std.specs.Prelude.{◌≡◌, ◌<◌, ◌==◌, length, slice_get, count_by, Ok, Some};
 
 use crate::line::GraphLine;
-use rv_word::NoMemory;
+use rv_word::{NoMemory, Numbers};
 use std::alloc::Global;
 use std::marker::Model;
 
@@ -77,7 +77,7 @@ impl Model for Graph {
 }
 
 impl Graph {
-    ghost use Rattle.cfi_graph.specs.Graph.{IsGraph, is_class, is_site};
+    ghost use Rattle.cfi_graph.specs.Graph.{IsGraph, calls_in, is_class, is_site};
 
     /// The graph with these parts, which are those that a graph may have. It takes no memory.
     pub fn of(_alloc: Global, version: u8, code: u32, lines: GraphLines) -> Result<Graph, NoMemory>
@@ -104,6 +104,16 @@ impl Graph {
         ensures allowed { IsGraph self.now }
     {
         self.code
+    }
+
+    /// The numbers of the system calls that the program may make, where the graph has a list of them.
+    pub fn calls(&self) -> Option<Numbers>
+        ensures { result ≡ calls_in self.now.lines }
+    {
+        match self.lines.as_slice().first()? {
+            GraphLine::SystemCalls(numbers) => Some(*numbers),
+            _ => None,
+        }
     }
 
     /// The number of classes of all sorts.

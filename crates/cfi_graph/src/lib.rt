@@ -13,6 +13,7 @@ pub use policy_form::{read_policy, read_policy_part};
 pub use read::read_graph;
 pub use write::write_graph;
 
+mod calls;
 mod class;
 mod forms;
 mod graph;

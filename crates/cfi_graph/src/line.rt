@@ -1,7 +1,7 @@
 ghost use Rattle.std.specs.Prelude.{◌≡◌};
 
 use crate::class::Class;
-use rv_word::Places;
+use rv_word::{Numbers, Places};
 
 /// The two kinds of transfer to a computed address.
 #[derive(Clone, Copy, PartialEq, Eq)]
@@ -41,6 +41,8 @@ impl Sort {
 /// A line of a graph.
 #[derive(Drop)]
 pub enum GraphLine {
+    /// The numbers of the system calls that the program may make.
+    SystemCalls(Numbers),
     /// A class that serves calls and jumps: its label, and the addresses of its targets.
     Class(u32, Places),
     /// A class that serves calls alone: its label, and the addresses of its targets.
@@ -55,9 +57,12 @@ pub enum GraphLine {
     Call(u64, u64),
 }
 
-/// What a line is ordered by: a class's label, or the first address of any other line.
+/// What a line is ordered by: the list of system calls before all others, then a class's label, or the
+/// first address of another line.
 #[derive(Clone, Copy)]
 pub enum Key {
+    /// The list of system calls.
+    Head,
     /// A class's label.
     Label(u32),
     /// The first address of another line.
@@ -83,6 +88,7 @@ impl GraphLine {
         ensures { result ≡ key_of self.now }
     {
         match self {
+            GraphLine::SystemCalls(_) => Key::Head,
             GraphLine::Class(label, _) => Key::Label(*label),
             GraphLine::CallClass(label, _) => Key::Label(*label),
             GraphLine::JumpClass(label, _) => Key::Label(*label),
@@ -133,6 +139,11 @@ impl Key {
         ensures { result ≡ key_below self other }
     {
         match (self, other) {
+            (Key::Head, Key::Head) => false,
+            (Key::Head, Key::Label(_)) => true,
+            (Key::Head, Key::Address(_)) => true,
+            (Key::Label(_), Key::Head) => false,
+            (Key::Address(_), Key::Head) => false,
             (Key::Label(label), Key::Label(next)) => label < next,
             (Key::Label(_), Key::Address(_)) => true,
             (Key::Address(_), Key::Label(_)) => false,

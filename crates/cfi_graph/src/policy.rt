@@ -1,6 +1,7 @@
-ghost use Rattle.std.specs.Prelude.{◌≡◌, ◌<◌, [], length, slice_get, Some};
+ghost use Rattle.std.specs.Prelude.{◌≡◌, ◌<◌, ◌≤◌, length, slice_get, Some};
 
-use rv_word::Bytes;
+use crate::calls::line_after;
+use rv_word::{Bytes, Numbers};
 use std::alloc::Global;
 use std::marker::Model;
 
@@ -53,49 +54,68 @@ pub struct PolicyLine {
     pub targets: PlaceNames,
 }
 
-/// A policy: sites with their targets, in any order.
+/// A policy: the numbers of the system calls that the program may make, where it has a list of them, and
+/// sites with their targets, in any order.
 #[derive(Drop)]
 pub struct Policy {
+    pub(crate) calls: Option<Numbers>,
     pub(crate) lines: Vec<PolicyLine>,
 }
 
 impl Model for Policy {
-    ghost use Rattle.std.specs.Prelude.{List};
-    ghost use Rattle.cfi_graph.specs.declared.policy.PolicyLine.{PolicyLine};
+    ghost use Rattle.cfi_graph.specs.Policy.{PolicyParts};
 
-    ghost Value = { List PolicyLine };
+    ghost Value = { PolicyParts };
 
-    ghost view = { λ p. p.lines.items };
+    ghost view = { λ p. record { calls = p.calls; lines = p.lines.items } };
 }
 
 impl Policy {
-    /// The policy without lines. It takes no memory.
+    ghost use Rattle.cfi_graph.specs.Policy.{first_line, no_policy};
+
+    /// The policy without a list and without lines. It takes no memory.
     pub fn none(alloc: Global) -> Policy
-        ensures { result ≡ [] }
+        ensures { result ≡ no_policy }
     {
         Policy {
+            calls: None,
             lines: Vec::new(alloc),
         }
     }
 
+    /// The numbers of the system calls that the program may make, where the policy has a list of them.
+    pub fn calls(&self) -> Option<Numbers>
+        ensures { result ≡ self.now.calls }
+    {
+        self.calls
+    }
+
+    /// The number of the first of its lines in its text.
+    pub fn first_line(&self) -> u64
+        ensures value { result ≡ first_line self.now.calls }
+        ensures small { result ≤ 3 }
+    {
+        line_after(2, &self.calls)
+    }
+
     /// The lines.
     pub fn as_slice(&self) -> &[PolicyLine]
-        ensures { result.now ≡ self.now }
+        ensures { result.now ≡ self.now.lines }
     {
         self.lines.as_slice()
     }
 
     /// The number of lines.
     pub fn lines(&self) -> u64
-        ensures { result ≡ length self.now }
+        ensures { result ≡ length self.now.lines }
     {
         self.lines.len() as u64
     }
 
     /// The line with the index `k`, from 0.
     pub fn line(&self, k: u64) -> &PolicyLine
-        requires { k < length self.now }
-        ensures { slice_get self.now k ≡ Some result.now }
+        requires { k < length self.now.lines }
+        ensures { slice_get self.now.lines k ≡ Some result.now }
     {
         &self.lines.as_slice()[k as usize]
     }

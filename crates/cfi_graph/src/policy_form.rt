@@ -1,12 +1,15 @@
-ghost use Rattle.std.specs.Prelude.{◌≡◌, ◌<◌, [], IfOk, IfSome, length, option_map};
+ghost use Rattle.std.specs.Prelude.{◌≡◌, ◌<◌, [], Err, IfOk, IfSome, MatchResult, Ok, length, option_map};
 ghost use Rattle.text_lines.specs.Answers.{AfterNoMemory, Answers, UnlessNoMemory};
-ghost use Rattle.text_lines.specs.Lines.{parts_after, words_of};
+ghost use Rattle.text_lines.specs.Lines.{lines_of, parts_after, words_of};
 ghost use Rattle.text_lines.specs.Reading.{FirstCollected};
 ghost use Rattle.cfi_graph.specs.Policy.{
   last_plus,
   named_at,
   place_of,
   places_of,
+  listed_head,
+  policy_begun,
+  policy_head,
   policy_line_of,
   policy_of,
   policy_read,
@@ -14,10 +17,13 @@ ghost use Rattle.cfi_graph.specs.Policy.{
   site_line_of,
 };
 
+use crate::calls::{judged_calls, line_after};
 use crate::policy::{PlaceName, PlaceNames, Policy, PolicyLine};
-use rv_word::{Bytes, NoMemory};
+use rv_word::{Bytes, NoMemory, Numbers};
 use std::alloc::Global;
-use text_lines::{Case, LineForm, TextEnd, after_one_of, cut, is_word, read_lines, short_hex_of};
+use text_lines::{
+    Case, LineForm, Reason, TextEnd, after_one_of, cut, is_word, read_lines, short_hex_of,
+};
 
 /// Where the last `+` of a word stands.
 fn last_plus(word: &[u8]) -> Option<usize>
@@ -143,25 +149,55 @@ impl LineForm for PolicyForm {
 }
 
 /// The first lines that a policy may have.
-const NAMES: [&[u8]; 1] = [b"rvcfi-policy 1"];
+const NAMES: [&[u8]; 2] = [b"rvcfi-policy 1", b"rvcfi-policy 2"];
+
+/// The list of system calls that is the second line, and what stands after it.
+fn listed_head(text: &[u8]) -> Result<(Option<Numbers>, &[u8]), TextEnd>
+    ensures { MatchResult result
+        (λ told. listed_head (lines_of text.now) ≡ Ok (record { calls = told.0; lines = lines_of told.1.now }))
+        (λ end. listed_head (lines_of text.now) ≡ Err end) }
+{
+    let (line, rest) = cut(text, b'\n');
+    let Some(rest) = rest else {
+        return Err(TextEnd::Line(2, Reason::Form));
+    };
+    let calls = judged_calls(2, line)?;
+    Ok((Some(calls), rest))
+}
+
+/// The list of system calls of a policy that has one, and what stands before its lines.
+fn policy_head(text: &[u8]) -> Result<(Option<Numbers>, &[u8]), TextEnd>
+    ensures { MatchResult result
+        (λ told. policy_head text.now ≡ Ok (record { calls = told.0; lines = lines_of told.1.now }))
+        (λ end. policy_head text.now ≡ Err end) }
+{
+    let (which, rest) = after_one_of(text, &NAMES)?;
+    if which == 0 {
+        return Ok((None, rest));
+    }
+    listed_head(rest)
+}
 
 /// Reads the text of a policy up to its first fault: the lines before that, and the fault, or that there
 /// is none. The lines of a text count from 1.
 pub fn read_policy_part(alloc: Global, text: &[u8]) -> (Policy, Result<(), TextEnd>)
     ensures exact { Answers result.1 (policy_read text.now).end }
-    ensures lines { UnlessNoMemory result.1 (result.0 ≡ (policy_read text.now).items) }
+    ensures lines { UnlessNoMemory result.1 (result.0 ≡ policy_begun text.now) }
 
     // After want of memory the first of these were collected.
-    ensures begun { AfterNoMemory result.1 (FirstCollected [] result.0 (policy_read text.now).items) }
+    ensures begun { AfterNoMemory result.1 (FirstCollected [] result.0.lines (policy_read text.now).items) }
+    ensures calls { result.0.calls ≡ (policy_begun text.now).calls }
 {
     let lines = Vec::new(alloc);
-    let (_, rest) = match after_one_of(text, &NAMES) {
-        Ok(first) => first,
-        Err(end) => return (Policy { lines }, Err(end)),
+    let (calls, rest) = match policy_head(text) {
+        Ok(told) => told,
+        Err(end) => return (Policy { calls: None, lines }, Err(end)),
     };
     let mut form = PolicyForm { lines };
-    let end = read_lines(alloc, &mut form, 2, rest);
-    (Policy { lines: form.lines }, end)
+    let first = line_after(2, &calls);
+    let end = read_lines(alloc, &mut form, first, rest);
+    let lines = form.lines;
+    (Policy { calls, lines }, end)
 }
 
 /// Reads the text of a policy, of which it keeps no copy. The lines of a text count from 1.

@@ -1,14 +1,18 @@
-ghost use Rattle.std.specs.Prelude.{◌≡◌, ◌==◌, ◌||◌, IsTrue, IfOk, Ok};
-ghost use Rattle.cfi_graph.specs.Graph.{GraphParts, IsGraph};
+ghost use Rattle.std.specs.Prelude.{◌≡◌, ◌≤◌, ◌==◌, ◌||◌, not, IsTrue, IfOk, MatchResult, None, Ok, Err, length};
+ghost use Rattle.cfi_graph.specs.Calls.{may_be_calls};
+ghost use Rattle.cfi_graph.specs.Graph.{GraphParts, IsGraph, is_code_length};
 ghost use Rattle.cfi_graph.specs.Text.{graph_name, graph_text};
-ghost use Rattle.cfi_graph.specs.Reading.{after_first, graph_of, version_at};
+ghost use Rattle.cfi_graph.specs.Reading.{after_first, calls_key, calls_lines, graph_of, third_line, version_at, with_code, with_lines};
 ghost use Rattle.text_lines.specs.Answers.{Answers};
 ghost use Rattle.text_lines.specs.Lines.{lines_of};
 
+use crate::calls::{calls_of, judged, line_after};
 use crate::forms::code_length;
 use crate::graph::{Graph, GraphLines};
 use crate::graph_form::GraphForm;
+use crate::line::{GraphLine, Key};
 use crate::rules::is_code_length;
+use rv_word::{NoMemory, Numbers};
 use std::alloc::Global;
 use text_lines::{Reason, TextEnd, after_one_of, cut, read_lines};
 
@@ -35,6 +39,96 @@ pub(crate) fn name_of(version: u8) -> &'static [u8]
     }
 }
 
+/// Whether a text may begin with a list of system calls, told by its first bytes.
+fn begins_calls(text: &[u8]) -> bool
+    ensures { IsTrue (not result) → third_line (lines_of text.now) ≡ Ok (record { calls = None; lines = lines_of text.now }) }
+{
+    text.starts_with(b"calls ")
+}
+
+/// The list of system calls that may be the third line, and what stands after it.
+fn third_line(text: &[u8]) -> Result<(Option<Numbers>, &[u8]), TextEnd>
+    ensures told { MatchResult result
+        (λ told. third_line (lines_of text.now) ≡ Ok (record { calls = told.0; lines = lines_of told.1.now }))
+        (λ end. third_line (lines_of text.now) ≡ Err end) }
+    ensures allowed { IfOk result (λ told. IsTrue (may_be_calls told.0)) }
+    ensures shorter { IfOk result (λ told. length told.1.now ≤ length text.now) }
+{
+    if !begins_calls(text) {
+        return Ok((None, text));
+    }
+    let (line, rest) = cut(text, b'\n');
+    let Some(rest) = rest else {
+        return Ok((None, text));
+    };
+    let Some(numbers) = calls_of(line) else {
+        return Ok((None, text));
+    };
+    let calls = judged(3, numbers)?;
+    Ok((Some(calls), rest))
+}
+
+/// The form of the lines after the list of system calls, with the line of that, if there is one.
+fn begun(
+    alloc: Global,
+    version: u8,
+    code: u32,
+    calls: Option<Numbers>,
+) -> Result<GraphForm, NoMemory>
+    ensures version { IfOk result (λ f. f.version ≡ version) }
+    ensures code { IfOk result (λ f. f.code ≡ code) }
+    ensures before { IfOk result (λ f. f.before ≡ calls_key calls) }
+    ensures lines { IfOk result (λ f. f.lines.items ≡ calls_lines calls) }
+{
+    let mut form = GraphForm {
+        version,
+        code,
+        before: None,
+        lines: Vec::new(alloc),
+    };
+    if let Some(numbers) = calls {
+        form.lines.push(GraphLine::SystemCalls(numbers))?;
+        form.before = Some(Key::Head);
+    }
+    Ok(form)
+}
+
+/// The graph of a version, a length and a list of system calls, if there is one, with the lines after these.
+fn with_lines(
+    alloc: Global,
+    version: u8,
+    code: u32,
+    calls: Option<Numbers>,
+    text: &[u8],
+) -> Result<Graph, TextEnd>
+    requires version { IsTrue (version == 1 || version == 2) }
+    requires length { IsTrue (is_code_length code) }
+    requires calls { IsTrue (may_be_calls calls) }
+    ensures { Answers result (with_lines version code calls (lines_of text.now)) }
+{
+    let first = line_after(3, &calls);
+    let mut form = begun(alloc, version, code, calls)?;
+    read_lines(alloc, &mut form, first, text)?;
+    Ok(Graph {
+        version,
+        code,
+        lines: GraphLines::of(form.lines),
+    })
+}
+
+/// The graph of a version and a length that stands after the second line.
+fn with_code(alloc: Global, version: u8, code: u32, text: &[u8]) -> Result<Graph, TextEnd>
+    requires version { IsTrue (version == 1 || version == 2) }
+    requires length { IsTrue (is_code_length code) }
+    ensures { Answers result (with_code version code (lines_of text.now)) }
+{
+    let (calls, rest) = match third_line(text) {
+        Ok(told) => told,
+        Err(end) => return Err(end),
+    };
+    with_lines(alloc, version, code, calls, rest)
+}
+
 /// The graph of a version that stands after the first line.
 fn after_first(alloc: Global, version: u8, text: &[u8]) -> Result<Graph, TextEnd>
     requires { IsTrue (version == 1 || version == 2) }
@@ -50,18 +144,7 @@ fn after_first(alloc: Global, version: u8, text: &[u8]) -> Result<Graph, TextEnd
     if !is_code_length(code) {
         return Err(TextEnd::Line(2, Reason::Range));
     }
-    let mut form = GraphForm {
-        version,
-        code,
-        before: None,
-        lines: Vec::new(alloc),
-    };
-    read_lines(alloc, &mut form, 3, rest)?;
-    Ok(Graph {
-        version,
-        code,
-        lines: GraphLines::of(form.lines),
-    })
+    with_code(alloc, version, code, rest)
 }
 
 /// The graph that a text spells.

@@ -1,8 +1,9 @@
 //! The ranges and the order that a graph's lines keep.
 
-ghost use Rattle.std.specs.Prelude.{◌≡◌, nat_lt};
+ghost use Rattle.std.specs.Prelude.{◌≡◌, ◌^◌, nat_lt};
 ghost use Rattle.std.specs.List.{list_all};
 ghost use Rattle.cfi_graph.specs.Graph.{
+  are_calls,
   class_in_range,
   is_code_address,
   is_code_length,
@@ -15,6 +16,7 @@ ghost use Rattle.cfi_graph.specs.Reading.{in_order};
 
 use crate::line::{GraphLine, Key};
 use rv_word::memory_map::{CODE_SIZE, CODE_START};
+use rv_word::{MOST_NUMBERS, Numbers};
 
 /// Whether code may have this length.
 pub(crate) fn is_code_length(len: u32) -> bool
@@ -50,11 +52,27 @@ fn class_in_range(len: u32, label: u32, targets: &[u64]) -> bool
     is_label(label) && are_code_addresses(len, targets)
 }
 
+/// Whether each number is small enough for a system call's.
+fn are_small(numbers: &[u16]) -> bool
+    ensures { result ≡ list_all (λ n. nat_lt n (2 ^ 11)) numbers.now }
+{
+    numbers.iter().all(|n| *n < 0x800)
+}
+
+/// Whether a list of numbers of system calls has one at least, and none too large.
+fn are_calls(numbers: &Numbers) -> bool
+    ensures { result ≡ are_calls numbers.now }
+{
+    let items = numbers.as_slice();
+    0 < items.len() && items.len() <= MOST_NUMBERS && are_small(items)
+}
+
 /// Whether each number of a line is one that a graph of `len` bytes of code may have.
 pub(crate) fn line_in_range(len: u32, line: &GraphLine) -> bool
     ensures { result ≡ line_in_range len line.now }
 {
     match line {
+        GraphLine::SystemCalls(numbers) => are_calls(numbers),
         GraphLine::Class(label, targets)
         | GraphLine::CallClass(label, targets)
         | GraphLine::JumpClass(label, targets) => class_in_range(len, *label, targets.as_slice()),
@@ -75,10 +93,29 @@ fn is_rising(items: &[u64]) -> bool
     true
 }
 
+fn rises(numbers: &[u16]) -> bool
+    ensures { result ≡ is_rising nat_lt numbers.now }
+{
+    for i in 1..numbers.len() {
+        if numbers[i] <= numbers[i - 1] {
+            return false;
+        }
+    }
+    true
+}
+
+/// Whether the numbers of system calls of a list rise.
+pub(crate) fn calls_rise(numbers: &Numbers) -> bool
+    ensures { result ≡ is_rising nat_lt numbers.now }
+{
+    rises(numbers.as_slice())
+}
+
 fn targets_rise(line: &GraphLine) -> bool
     ensures { result ≡ targets_rise line.now }
 {
     match line {
+        GraphLine::SystemCalls(numbers) => calls_rise(numbers),
         GraphLine::Class(_, targets)
         | GraphLine::CallClass(_, targets)
         | GraphLine::JumpClass(_, targets) => is_rising(targets.as_slice()),

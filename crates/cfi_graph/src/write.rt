@@ -1,17 +1,46 @@
 ghost use Rattle.std.specs.Prelude.{◌≡◌, [], ◌∷◌, ◌++◌, IfOk, OnOk, Ok};
+ghost use Rattle.std.specs.Fmt.{decimal};
 ghost use Rattle.std.specs.List.{flat_map};
 ghost use Rattle.text_lines.specs.Hex.{hex_text};
 ghost use Rattle.text_lines.specs.Lines.{spaced};
 ghost use Rattle.cfi_graph.specs.declared.line.GraphLine.TheVariants.{Site};
-ghost use Rattle.cfi_graph.specs.Text.{class_name, graph_text, words_of_class, words_of_line};
+ghost use Rattle.cfi_graph.specs.Text.{class_name, graph_text, words_of_calls, words_of_class, words_of_line};
 ghost use Rattle.cfi_graph.specs.Reading.{graph_of};
 
 use crate::graph::Graph;
 use crate::line::{GraphLine, SiteKind, Sort};
 use crate::read::name_of;
-use rv_word::NoMemory;
+use rv_word::{NoMemory, Numbers};
 use std::alloc::Global;
 use text_lines::push_number;
+
+/// Adds a space and a number in decimal.
+fn push_decimal(alloc: Global, out: &mut Vec<u8>, number: u16) -> Result<(), NoMemory>
+    ensures { OnOk result (out.new.items ≡ out.old.items ++ 32 ∷ decimal number) }
+{
+    let text = format!(in alloc; " {number}")?;
+    out.extend_from_slice(text.as_bytes())?;
+    Ok(())
+}
+
+fn push_calls(alloc: Global, out: &mut Vec<u8>, numbers: &[u16]) -> Result<(), NoMemory>
+    ensures { OnOk result
+        (out.new.items ≡ out.old.items ++ flat_map (λ n. 32 ∷ decimal n) numbers.now) }
+{
+    for number in numbers {
+        push_decimal(alloc, out, *number)?;
+    }
+    Ok(())
+}
+
+/// Adds the words of a list of system calls.
+fn push_list(alloc: Global, out: &mut Vec<u8>, numbers: &Numbers) -> Result<(), NoMemory>
+    ensures { OnOk result
+        (out.new.items ≡ out.old.items ++ spaced (words_of_calls numbers.now)) }
+{
+    out.extend_from_slice(b"calls")?;
+    push_calls(alloc, out, numbers.as_slice())
+}
 
 fn push_numbers(out: &mut Vec<u8>, numbers: &[u64]) -> Result<(), NoMemory>
     ensures { OnOk result
@@ -68,10 +97,11 @@ fn push_pair(out: &mut Vec<u8>, name: &[u8], from: u64, to: u64) -> Result<(), N
 }
 
 /// Adds the words of a line, with a space between each two.
-fn push_words(out: &mut Vec<u8>, line: &GraphLine) -> Result<(), NoMemory>
+fn push_words(alloc: Global, out: &mut Vec<u8>, line: &GraphLine) -> Result<(), NoMemory>
     ensures { OnOk result (out.new.items ≡ out.old.items ++ spaced (words_of_line line.now)) }
 {
     match line {
+        GraphLine::SystemCalls(numbers) => push_list(alloc, out, numbers),
         GraphLine::Class(label, targets) => {
             push_class(out, Sort::Both, *label, targets.as_slice())
         }
@@ -87,12 +117,12 @@ fn push_words(out: &mut Vec<u8>, line: &GraphLine) -> Result<(), NoMemory>
     }
 }
 
-fn push_lines(out: &mut Vec<u8>, lines: &[GraphLine]) -> Result<(), NoMemory>
+fn push_lines(alloc: Global, out: &mut Vec<u8>, lines: &[GraphLine]) -> Result<(), NoMemory>
     ensures { OnOk result (out.new.items
         ≡ out.old.items ++ flat_map (λ l. spaced (words_of_line l) ++ 10 ∷ []) lines.now) }
 {
     for line in lines {
-        push_words(out, line)?;
+        push_words(alloc, out, line)?;
         out.push(b'\n')?;
     }
     Ok(())
@@ -108,7 +138,7 @@ pub fn write_graph(alloc: Global, graph: &Graph) -> Result<Vec<u8>, NoMemory>
     out.extend_from_slice(b"\ncode 40000000")?;
     push_number(&mut out, u64::from(graph.code), 8)?;
     out.push(b'\n')?;
-    push_lines(&mut out, graph.lines.as_slice())?;
+    push_lines(alloc, &mut out, graph.lines.as_slice())?;
     out.extend_from_slice(b"end\n")?;
     Ok(out)
 }

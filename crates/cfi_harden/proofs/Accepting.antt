@@ -1,5 +1,5 @@
 -- A placement in which no value leaves its range, with labels, makes an accepted choice of a program with its closed graph.
-use Rattle.std.proofs.Common.{◌≡◌, ℕ, ◌+◌, ◌-◌, ◌<◌, inl, inr, true, false, List, Option, Some, None, refl, sym, subst, arith}
+use Rattle.std.proofs.Common.{◌≡◌, ℕ, ◌+◌, ◌-◌, ◌<◌, inl, inr, true, false, List, Option, Some, None, refl, sym, ap, subst, ◌∙◌, arith}
 use Rattle.std.specs.Prelude.{is_some, slice_get}
 use Rattle.rv_word.proofs.Versions.{is_profile}
 use Rattle.rv_word.specs.Form.{graph_version, image_version}
@@ -8,6 +8,7 @@ use Rattle.rv_word.specs.declared.form.Form.{Form}
 use Rattle.rv_word.specs.declared.form.Form.TheVariants.{Plain, Harts, Split, HartsSplit}
 use Rattle.obj_program.specs.AtMap.{instr_at}
 use Rattle.obj_program.specs.Program.{Program, count, is_end, item_of}
+use Rattle.cfi_graph.specs.Calls.{may_be_calls}
 use Rattle.cfi_map.proofs.Values.{values_there}
 use Rattle.cfi_closed.specs.Closed.{ClosedGraph, Side}
 use Rattle.cfi_flow.specs.Closing.{IsClosed, IsSide}
@@ -24,6 +25,7 @@ use Rattle.cfi_map.specs.Placing.{IsPlacement, Spaced}
 use Rattle.cfi_map.specs.Source.{first_astray}
 use Rattle.cfi_harden.specs.Prepared.{IsClosedUnder, PreparedParts}
 use Rattle.cfi_harden.specs.Ready.{IsReady}
+use Rattle.cfi_harden.proofs.Listing.{asked_right}
 use Rattle.cfi_writer.proofs.CodeRoom.{room_there}
 use Rattle.cfi_writer.proofs.SitesThere.{side_at, site_class_there, site_of}
 
@@ -33,6 +35,13 @@ pub graph_there : (version : ℕ) (program : Program) (policy : Option (List ℕ
 graph_there version program policy closed under =
     let (raw, is, of) = under.drawn in
     ((_, raw, is, subst (λ (v : ℕ). IsClosed v raw closed) (sym of.version_is) of), of.version_is)
+
+-- its list of system calls is the policy's
+pub calls_there : (version : ℕ) (program : Program) (policy : Option (List ℕ)) (closed : ClosedGraph) → IsClosedUnder version program policy closed →
+    may_be_calls closed.calls ≡ true
+calls_there version program policy closed under =
+    let (raw, is, of) = under.drawn in
+    ap may_be_calls (of.calls ∙ is.calls) ∙ asked_right policy
 
 -- the last place of a program that has any
 last_there : (program : Program) → 0 < count program → is_end (item_of program (count program - 1)).kind ≡ true →
@@ -67,9 +76,9 @@ module _ (p : PreparedParts) (ready : IsReady p) (s : Spaced) (fitting : IsFitti
 
   pub accepted_here : IsAccepted (chosen here labels)
   accepted_here =
-      let (lines, raw, is, closes) = ready.graph in
+      let (policy, raw, is, closes) = ready.graph in
       let of : (j : ℕ) (side : Side) → slice_get p.closed.sides j ≡ Some side → IsSide raw side =
-      side_at p.program lines raw is p.closed.version p.closed.sides closes.sorts closes.sides in
+      side_at p.program policy raw is p.closed.version p.closed.sides closes.sorts closes.sides in
       record {
         profile = is_profile (image_version p.form);
         sound = ready.sound;
@@ -80,13 +89,14 @@ module _ (p : PreparedParts) (ready : IsReady p) (s : Spaced) (fitting : IsFitti
         groups = groups_here;
         room = room_there (chosen here labels) ready.sound values groups_here (is_profile (image_version p.form)) placed_here.legal placed_here.size;
         values = values;
+        calls = ready.calls;
         version = subst IsVersion (sym ready.version) (known_form p.form);
         sorts = closes.sorts;
-        members = λ j c k side there h. members_there p.program lines raw side is (of j side there) k (c, h);
+        members = λ j c k side there h. members_there p.program policy raw side is (of j side there) k (c, h);
         rising = λ j side there. (of j side there).classes.rising;
         apart = λ j a b k side there. (of j side there).classes.apart a b k;
-        site_classes = λ j i c side site there. site_class_there p.program lines raw side is (of j side there) i c site;
-        sites = site_of p.program lines raw is p.closed.version p.closed.sides closes.sorts closes.sides;
+        site_classes = λ j i c side site there. site_class_there p.program policy raw side is (of j side there) i c site;
+        sites = site_of p.program policy raw is p.closed.version p.closed.sides closes.sorts closes.sides;
         counted = given.counted;
         labels = given.least;
         labels_rise = given.rising;

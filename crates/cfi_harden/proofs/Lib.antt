@@ -1,4 +1,5 @@
 pub mod EntryThere
+pub mod Listing
 pub mod Accepting
 pub mod Giving
 pub mod Preparing

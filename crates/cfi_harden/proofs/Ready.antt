@@ -25,7 +25,7 @@ use Rattle.cfi_harden.specs.Request.{ProgramRequest}
 use Rattle.cfi_harden.specs.Ready.{IsReady}
 use Rattle.cfi_writer.specs.Writing.{IsWritable, IsWrittenAs}
 use Rattle.cfi_map.proofs.Values.{data_there}
-use Rattle.cfi_harden.proofs.Accepting.{accepted, accepted_here, graph_there, here, none_astray}
+use Rattle.cfi_harden.proofs.Accepting.{accepted, accepted_here, calls_there, graph_there, here, none_astray}
 use Rattle.cfi_harden.proofs.EntryThere.{entry_there}
 use Rattle.cfi_writer.proofs.MapFits.{accepted_map}
 
@@ -36,6 +36,7 @@ ready request p prepared sound fits small = record {
   words = small;
   fits_maps = fits;
   graph = (graph_there (graph_version p.form) p.program request.policy p.closed prepared.closed).0;
+  calls = calls_there (graph_version p.form) p.program request.policy p.closed prepared.closed;
   version = (graph_there (graph_version p.form) p.program request.policy p.closed prepared.closed).1;
   entered = (entry_there p.program request.entry p.entry prepared.entry).0;
 }

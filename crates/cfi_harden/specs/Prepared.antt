@@ -12,12 +12,12 @@ use Rattle.cfi_flow.specs.Entry.{entry_place}
 use Rattle.cfi_flow.specs.Policy.{IsRaw, wrong_line}
 use Rattle.cfi_flow.specs.Raw.{RawGraph}
 use Rattle.cfi_harden.specs.Given.{IsGiven}
-use Rattle.cfi_harden.specs.Request.{ProgramRequest, Request, policy_reading, program_request}
+use Rattle.cfi_harden.specs.Request.{ProgramRequest, Request, policy_asked, policy_end, program_request}
 
 -- the closed graph of a program, for a version of graphs, under a policy that has no wrong line
 pub record IsClosedUnder (version : ℕ) (program : Program) (policy : Option (List ℕ)) (closed : ClosedGraph) : Type 0 where
-  pub whole : (policy_reading policy).end ≡ Ok tt
-  pub drawn : (raw : RawGraph) × IsRaw program (policy_reading policy).items raw × IsClosed version raw closed
+  pub whole : policy_end policy ≡ Ok tt
+  pub drawn : (raw : RawGraph) × IsRaw program (policy_asked policy) raw × IsClosed version raw closed
 
 pub record PreparedParts : Type 0 where
   pub form : Form
@@ -48,5 +48,5 @@ FailsAt other n = ⊥
 -- text fails
 abbrev pub IsWrongPolicy : Program → Option (List ℕ) → ℕ → Type 0
 IsWrongPolicy program policy n =
-    (wrong_line program (policy_reading policy).items ≡ Some n)
-    ⊎ ((wrong_line program (policy_reading policy).items ≡ None) × FailsAt (policy_reading policy).end n)
+    (wrong_line program (policy_asked policy) ≡ Some n)
+    ⊎ ((wrong_line program (policy_asked policy) ≡ None) × FailsAt (policy_end policy) n)

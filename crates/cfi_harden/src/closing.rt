@@ -4,7 +4,7 @@ ghost use Rattle.std.specs.Prelude.{◌≡◌, Ok, option_copied};
 ghost use Rattle.rv_word.specs.Form.{graph_version};
 ghost use Rattle.text_lines.specs.Answers.{Answers, UnlessNoMemory};
 ghost use Rattle.cfi_harden.specs.Closing.{Closes, failed_line};
-ghost use Rattle.cfi_harden.specs.Request.{policy_reading};
+ghost use Rattle.cfi_harden.specs.Request.{policy_asked, policy_end};
 
 use crate::refusal::{HardenEnd, Refusal};
 use cfi_closed::Closed;
@@ -15,10 +15,10 @@ use rv_word::Form;
 use std::alloc::Global;
 use text_lines::TextEnd;
 
-/// The right lines of a policy before its first fault, and that fault; without a text there are none.
+/// The policy that a text spells before its first fault, and that fault; without a text there is neither.
 fn policy_part(alloc: Global, policy: Option<&[u8]>) -> (Policy, Result<(), TextEnd>)
-    ensures exact { Answers result.1 (policy_reading (option_copied policy.entry)).end }
-    ensures lines { UnlessNoMemory result.1 (result.0 ≡ (policy_reading (option_copied policy.entry)).items) }
+    ensures exact { Answers result.1 (policy_end (option_copied policy.entry)) }
+    ensures read { UnlessNoMemory result.1 (result.0 ≡ policy_asked (option_copied policy.entry)) }
 {
     match policy {
         Some(text) => read_policy_part(alloc, text),

@@ -21,7 +21,7 @@ abbrev program : List Item → Program
 program items = record { items = items; init = []; relocations = []; data_end = 65536; funcs = []; names = [] }
 
 abbrev closed : List (List ℕ) → List Bool → ClosedGraph
-closed classes taken = record { version = 1; sides = record { sort = Both; classes = classes; sites = [] } ∷ []; taken = taken }
+closed classes taken = record { version = 1; sides = record { sort = Both; classes = classes; sites = [] } ∷ []; taken = taken; calls = None }
 
 -- `addi x2,x2,-32`, two stores, `ld x1,24(x2)`, `addi x2,x2,32`, `ret`
 abbrev stores : ℕ → ℕ → Program
@@ -80,8 +80,8 @@ many_rows = (refl, refl)
 abbrev flags : List Bool
 flags = true ∷ true ∷ false ∷ []
 
-size_rows : (grouped_sizes [] flags 0 (stores 0x00113c23 0x00813823).items ≡ 4 ∷ 16 ∷ 4 ∷ 4 ∷ 4 ∷ 20 ∷ 4 ∷ [])
-    × (part_sizes [] flags 0 (stores 0x00113c23 0x00813823).items ≡ 4 ∷ 16 ∷ 4 ∷ 4 ∷ 4 ∷ 20 ∷ 4 ∷ [])
+size_rows : (grouped_sizes None [] flags 0 (stores 0x00113c23 0x00813823).items ≡ 4 ∷ 16 ∷ 4 ∷ 4 ∷ 4 ∷ 20 ∷ 4 ∷ [])
+    × (part_sizes None [] flags 0 (stores 0x00113c23 0x00813823).items ≡ 4 ∷ 16 ∷ 4 ∷ 4 ∷ 4 ∷ 20 ∷ 4 ∷ [])
     × (grouped_size Plain (stores 0x00113c23 0x00813823) (closed [] []) flags ≡ 120) × (whole_size Plain (stores 0x00113c23 0x00813823) (closed [] []) ≡ 132)
     × (later_count flags 0 (stores 0x00113c23 0x00813823).items ≡ 1)
     × (members_before (item_of (stores 0x00113c23 0x00813823)) (whole_at flags) 3 ≡ 2) × (members_before (item_of (stores 0x00113c23 0x00813823)) (whole_at flags) 4 ≡ 0)

@@ -15,3 +15,4 @@ mod Placements
 mod PlacingRows
 mod GroupRows
 mod SourceRows
+pub mod Ecalls

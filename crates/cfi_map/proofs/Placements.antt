@@ -91,7 +91,7 @@ module _ (form : Form) (program : Program) (closed : ClosedGraph) (leads : List 
       ap length is.starts
       ∙ length_starts (profile_for form).units_from (sizes_under (flag p.long) (shorts_of program closed) (grouped_parts program closed leads))
       ∙ ap (λ (n : ℕ). n + 1)
-      (length_where (is_whole (shorts_of program closed) (flag p.long)) 0 (grouped_parts program closed leads) ∙ length_grouped closed.sides leads 0 program.items)
+      (length_where (is_whole (shorts_of program closed) (flag p.long)) 0 (grouped_parts program closed leads) ∙ length_grouped closed.calls closed.sides leads 0 program.items)
 
   -- all of them in the region of code
   low : (k : ℕ) → get_or p.starts k 0 < 2 ^ 32
@@ -134,14 +134,14 @@ module _ (form : Form) (program : Program) (closed : ClosedGraph) (leads : List 
         sym (rw none at here)
 
     grouped : grouped_parts program closed leads ≡ grouped_parts program closed whole
-    grouped = grouped_same closed.sides leads whole 0 program.items (λ i lt store. let e : 0 + i ≡ i = omega arith in rw e (at_store i store))
+    grouped = grouped_same closed.calls closed.sides leads whole 0 program.items (λ i lt store. let e : 0 + i ≡ i = omega arith in rw e (at_store i store))
 
     least : IsLongSet (profile_for form).units_from (shorts_of program closed) (grouped_parts program closed whole) (whole_at whole)
     least =
         subst (λ (sizes : List ℕ). IsLongSet (profile_for form).units_from (shorts_of program closed) sizes (whole_at whole)) grouped
         (long_set_same (profile_for form).units_from (shorts_of program closed) (grouped_parts program closed leads) (flag p.long) (whole_at whole) at_branch is.least)
 
-    starts : p.starts ≡ starts_from (profile_for form).units_from (part_sizes closed.sides whole 0 program.items)
+    starts : p.starts ≡ starts_from (profile_for form).units_from (part_sizes closed.calls closed.sides whole 0 program.items)
     starts =
         is.starts
         ∙ ap (λ (f : ℕ → Bool). starts_from (profile_for form).units_from (sizes_where f 0 (grouped_parts program closed leads)))
@@ -149,20 +149,20 @@ module _ (form : Form) (program : Program) (closed : ClosedGraph) (leads : List 
         ∙ ap (starts_under (profile_for form).units_from (whole_at whole) (shorts_of program closed)) grouped
         ∙ starts_are form program closed whole sound
 
-    size : code_size (profile_for form).units_from (part_sizes closed.sides whole 0 program.items) ≤ CODE_SIZE
+    size : code_size (profile_for form).units_from (part_sizes closed.calls closed.sides whole 0 program.items) ≤ CODE_SIZE
     size =
         let sizes = ap sum (sizes_are program closed whole sound) in
         let less = sum_where (is_whole (shorts_of program closed) (whole_at whole)) 0 (grouped_parts program closed whole) in
         let fewer = grouped_less program closed whole in
         omega (arith, sizes, less, fewer, is.room)
 
-    legal : AreGates closed.sides whole 0 (profile_for form).units_from program.items (take (count program) p.starts)
+    legal : AreGates closed.calls closed.sides whole 0 (profile_for form).units_from program.items (take (count program) p.starts)
     legal =
-        subst (λ (xs : List ℕ). AreGates closed.sides whole 0 (profile_for form).units_from program.items (take (count program) xs)) (sym starts)
-        (gates_are closed.sides whole 0 (profile_for form).units_from program.items)
+        subst (λ (xs : List ℕ). AreGates closed.calls closed.sides whole 0 (profile_for form).units_from program.items (take (count program) xs)) (sym starts)
+        (gates_are closed.calls closed.sides whole 0 (profile_for form).units_from program.items)
 
     pub starts_rise : IsStrictlyIncreasing (take (count program) p.starts)
-    starts_rise = gates_rise closed.sides whole 0 (profile_for form).units_from program.items (take (count program) p.starts) legal
+    starts_rise = gates_rise closed.calls closed.sides whole 0 (profile_for form).units_from program.items (take (count program) p.starts) legal
 
     module _ (entry : ℕ) (are : AreLeads (entries program closed entry) leads) where
       at_starts : IsPlacement form (record { layout = program_at form program closed (take (count program) p.starts) entry; whole = whole })

@@ -1,5 +1,5 @@
 -- How many gates and words a placement has, which word stands at a place, its words while a loop makes them.
-use Rattle.std.proofs.Common.{◌≡◌, ℕ, suc, ◌+◌, ◌<◌, ◌≤◌, Bool, List, [], ◌∷◌, ◌++◌, length, get_or, drop, drop-cons, refl, sym, ap, ◌∙◌, add-one, append_assoc}
+use Rattle.std.proofs.Common.{◌≡◌, ℕ, suc, ◌+◌, ◌<◌, ◌≤◌, Bool, Option, List, [], ◌∷◌, ◌++◌, length, get_or, drop, drop-cons, refl, sym, ap, ◌∙◌, add-one, append_assoc}
 use Rattle.std.proofs.lemmas.List.{append-nil, drop_all}
 use Rattle.obj_program.specs.declared.item.Item.{Item}
 use Rattle.obj_program.specs.Program.{count}
@@ -8,13 +8,13 @@ use Rattle.cfi_map.specs.GraphAtMap.{ProgramAtMap, word, words_at}
 use Rattle.cfi_map.specs.Mapped.{IsMapped}
 use Rattle.cfi_map.specs.Placement.{AreGates, lead_size, words_from}
 
-pub as_many_gates : (sides : List Side) (whole : List Bool) (k at : ℕ) (items : List Item) (gates : List ℕ)
-    → AreGates sides whole k at items gates → length gates ≡ length items
+pub as_many_gates : (calls : Option (List ℕ)) (sides : List Side) (whole : List Bool) (k at : ℕ) (items : List Item) (gates : List ℕ)
+    → AreGates calls sides whole k at items gates → length gates ≡ length items
 unfolding AreGates
-as_many_gates sides whole k at [] [] are = refl
-as_many_gates sides whole k at [] (gate ∷ gates) are = absurd are
-as_many_gates sides whole k at (item ∷ items) [] are = absurd are
-as_many_gates sides whole k at (item ∷ items) (gate ∷ gates) are = ap suc (as_many_gates sides whole (k + 1) _ items gates are.1)
+as_many_gates calls sides whole k at [] [] are = refl
+as_many_gates calls sides whole k at [] (gate ∷ gates) are = absurd are
+as_many_gates calls sides whole k at (item ∷ items) [] are = absurd are
+as_many_gates calls sides whole k at (item ∷ items) (gate ∷ gates) are = ap suc (as_many_gates calls sides whole (k + 1) _ items gates are.1)
 
 pub as_many_words : (sides : List Side) (k : ℕ) (gates : List ℕ) → length (words_from sides k gates) ≡ length gates
 unfolding words_from

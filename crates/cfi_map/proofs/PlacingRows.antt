@@ -2,6 +2,7 @@
 -- return; their code has 96 bytes and 100.
 use Rattle.std.proofs.Common.{◌≡◌, ℕ, Bool, true, false, List, [], ◌∷◌, Option, Some, None, refl}
 use Rattle.rv_word.specs.declared.form.Form.TheVariants.{Plain, Harts, Split, HartsSplit}
+use Rattle.rv_code.specs.Decode.{decoded}
 use Rattle.obj_input.specs.declared.item_kind.ItemKind.{ItemKind}
 use Rattle.obj_input.specs.declared.item_kind.ItemKind.TheVariants as is
 use Rattle.obj_program.specs.declared.item.Item.{Item}
@@ -23,7 +24,7 @@ program items = record { items = items; init = []; relocations = []; data_end = 
 
 -- classes, and no sites
 abbrev closed : List (List ℕ) → ClosedGraph
-closed classes = record { version = 1; sides = record { sort = Both; classes = classes; sites = [] } ∷ []; taken = [] }
+closed classes = record { version = 1; sides = record { sort = Both; classes = classes; sites = [] } ∷ []; taken = []; calls = None }
 
 -- classes of calls, and of jumps
 abbrev split : List (List ℕ) → List (List ℕ) → ClosedGraph
@@ -31,6 +32,7 @@ split calls jumps = record {
   version = 2;
   sides = record { sort = Calls; classes = calls; sites = [] } ∷ record { sort = Jumps; classes = jumps; sites = [] } ∷ [];
   taken = [];
+  calls = None;
 }
 
 abbrev short : ℕ → ℕ → ℕ → Bool → Short
@@ -62,7 +64,7 @@ unfolding part_sizes shorts_below
 split_rows = (refl, refl, refl, refl, refl)
 
 -- the branch written short
-short_rows : (part_sizes [] (false ∷ []) 0 over_one.items ≡ 4 ∷ 4 ∷ 20 ∷ 4 ∷ []) × (code_size 0x40000040 (part_sizes [] (false ∷ []) 0 over_one.items) ≡ 96)
+short_rows : (part_sizes None [] (false ∷ []) 0 over_one.items ≡ 4 ∷ 4 ∷ 20 ∷ 4 ∷ []) × (code_size 0x40000040 (part_sizes None [] (false ∷ []) 0 over_one.items) ≡ 96)
 unfolding part_sizes
 short_rows = (refl, refl)
 
@@ -72,6 +74,22 @@ branch_rows : (shorts_of over_one (closed []) ≡ short 0 2 0 false ∷ []) × (
     × (shorts_of over_one (closed ((0 ∷ []) ∷ [])) ≡ short 0 2 4 false ∷ [])
 unfolding shorts_below
 branch_rows = (refl, refl, refl, refl, refl)
+
+-- under a list of system calls an `ecall` has two words for each number, a jump and itself; an `ebreak` has one word
+abbrev listed : List ℕ → ClosedGraph
+listed calls = record (closed []) { calls = Some calls }
+
+abbrev two_calls : Program
+two_calls = program
+    (at 0 is.System 0x00000073 None ∷ at 4 is.System 0x00100073 None ∷ at 8 is.System 0x00000073 None ∷ at 12 is.Return 0x00008067 None ∷ at 16 is.End 0 None ∷ [])
+
+call_rows : (whole_sizes two_calls (closed []) ≡ 4 ∷ 4 ∷ 4 ∷ 20 ∷ 4 ∷ []) × (whole_sizes two_calls (listed (64 ∷ [])) ≡ 16 ∷ 4 ∷ 16 ∷ 20 ∷ 4 ∷ [])
+    × (whole_sizes two_calls (listed (63 ∷ 64 ∷ 93 ∷ [])) ≡ 32 ∷ 4 ∷ 32 ∷ 20 ∷ 4 ∷ [])
+    × (whole_sizes two_calls (listed (0 ∷ 1 ∷ 2 ∷ 3 ∷ 4 ∷ 5 ∷ 6 ∷ 2047 ∷ [])) ≡ 72 ∷ 4 ∷ 72 ∷ 20 ∷ 4 ∷ [])
+    × (whole_size Plain two_calls (listed (64 ∷ [])) ≡ 124) × (whole_size Plain two_calls (closed []) ≡ 100)
+    × (whole_sizes two_calls (record (closed ((2 ∷ []) ∷ [])) { calls = Some (64 ∷ []) }) ≡ 16 ∷ 4 ∷ 20 ∷ 20 ∷ 4 ∷ [])
+unfolding part_sizes decoded
+call_rows = (refl, refl, refl, refl, refl, refl, refl)
 
 none : ℕ → Bool
 none k = false

@@ -1,5 +1,5 @@
 -- Branches of a program that are written short: its parts then have the sizes of their units, and each reaches.
-use Rattle.std.proofs.Common.{◌≡◌, ℕ, suc, ◌+◌, ◌-◌, ◌<◌, ◌≤◌, ◌^◌, Bool, true, false, not, List, [], ◌∷◌, length, get_or, take, Some, refl, sym, ap, subst, ◌∙◌, arith, if◌then◌else◌, inl, inr}
+use Rattle.std.proofs.Common.{◌≡◌, ℕ, suc, ◌+◌, ◌-◌, ◌<◌, ◌≤◌, ◌^◌, Bool, true, false, not, Option, List, [], ◌∷◌, length, get_or, take, Some, refl, sym, ap, subst, ◌∙◌, arith, if◌then◌else◌, inl, inr}
 use Rattle.std.specs.Prelude.{◌||◌, nat_le, slice_get, sum}
 use Rattle.std.proofs.lemmas.Bool.{cases_Bool, leb-true, and_parts, or_parts}
 use Rattle.std.proofs.lemmas.List.{get_or-take}
@@ -16,7 +16,7 @@ use Rattle.cfi_layout.specs.declared.short.Short.{Short}
 use Rattle.cfi_layout.specs.LongSet.{AreShorts, HoldsAllForced, IsShort, is_forced, is_whole, is_in_reach, sizes_under, sizes_where, starts_under, word}
 use Rattle.cfi_layout.specs.Starts.{starts_from}
 use Rattle.cfi_closed.specs.Closed.{ClosedGraph, Side}
-use Rattle.cfi_map.specs.Placement.{lead_size, whole_at, size_of}
+use Rattle.cfi_map.specs.Placement.{is_ecall, kind_size, lead_size, whole_at, size_of}
 use Rattle.cfi_map.specs.Shorts.{short_to, shorts_of, IsShortAt, is_branch}
 use Rattle.cfi_map.specs.GraphAtMap.{program_at}
 use Rattle.cfi_map.specs.Groups.{is_store}
@@ -27,12 +27,13 @@ use Rattle.cfi_map.proofs.ShortList.{branch_aims, branch_listed, parts_are, shor
 
 -- a program whose code has room has few places
 pub few_places : (program : Program) (closed : ClosedGraph) → sum (whole_sizes program closed) ≤ CODE_SIZE → count program < 2 ^ 32
-few_places program closed room = omega (arith, parts_many closed.sides [] 0 program.items)
+few_places program closed room = omega (arith, parts_many closed.calls closed.sides [] 0 program.items)
 
-branch_size : (kind : ItemKind) (whole : Bool) → is_branch kind ≡ true → size_of kind (whole || not (is_store kind)) ≡ 8
-branch_size is.Branch true yes_branch = refl
-branch_size is.Branch false yes_branch = refl
-branch_size other whole yes_branch = absurd (cc)
+branch_size : (calls : Option (List ℕ)) (kind : ItemKind) (ecall whole : Bool) → is_branch kind ≡ true →
+    kind_size calls kind ecall (whole || not (is_store kind)) ≡ 8
+branch_size calls is.Branch ecall true yes_branch = refl
+branch_size calls is.Branch ecall false yes_branch = refl
+branch_size calls other ecall whole yes_branch = absurd (cc)
 
 -- the branches may be placed in parts of these sizes
 pub branches_fit : (program : Program) (closed : ClosedGraph) (leads : List Bool) → IsSound program →
@@ -46,45 +47,46 @@ branches_fit program closed leads sound = record {
       let same : Some of.0 ≡ Some aim.0 = sym of.2 ∙ aim.1 in
       let target : of.0 ≡ aim.0 = cc in
       let start : 0 + at.0 ≡ at.0 = omega arith in
-      let size = rw start at (grouped_at closed.sides leads 0 program.items at.0 at.1) in
+      let size = rw start at (grouped_at closed.calls closed.sides leads 0 program.items at.0 at.1) in
       subst (IsShort (grouped_parts program closed leads)) of.3 (record {
-        at_is = omega (arith, at.1, length_grouped closed.sides leads 0 program.items);
-        target_is = omega (arith, target, aim.2, length_grouped closed.sides leads 0 program.items);
-        size = size ∙ ap (λ (n : ℕ). lead_size closed.sides at.0 + n) (branch_size (item_of program at.0).kind (whole_at leads at.0) of.1);
+        at_is = omega (arith, at.1, length_grouped closed.calls closed.sides leads 0 program.items);
+        target_is = omega (arith, target, aim.2, length_grouped closed.calls closed.sides leads 0 program.items);
+        size = size ∙ ap (λ (n : ℕ). lead_size closed.sides at.0 + n) (branch_size closed.calls (item_of program at.0).kind (is_ecall (item_of program at.0)) (whole_at leads at.0) of.1);
       });
 }
 
-one_size : (gate : ℕ) (kind : ItemKind) (whole full : Bool) → full ≡ (whole || not (is_branch kind)) →
-    (if full then gate + size_of kind (whole || not (is_store kind)) else gate + size_of kind (whole || not (is_store kind)) - 4) ≡ gate + size_of kind whole
-one_size gate kind true full is = rw is refl
-one_size gate is.Branch false full is = rw is (omega arith)
-one_size gate is.Store false full is = rw is refl
-one_size gate other false full is = rw is refl
+one_size : (calls : Option (List ℕ)) (gate : ℕ) (kind : ItemKind) (ecall whole full : Bool) → full ≡ (whole || not (is_branch kind)) →
+    (if full then gate + kind_size calls kind ecall (whole || not (is_store kind)) else gate + kind_size calls kind ecall (whole || not (is_store kind)) - 4)
+    ≡ gate + kind_size calls kind ecall whole
+one_size calls gate kind ecall true full is = rw is refl
+one_size calls gate is.Branch ecall false full is = rw is (omega arith)
+one_size calls gate is.Store ecall false full is = rw is refl
+one_size calls gate other ecall false full is = rw is refl
 
 -- where the branches that are not long have a word less, each part has the size of its words and its unit
-sizes_from : (sides : List Side) (whole : List Bool) (full : ℕ → Bool) (k : ℕ) (items : List Item) →
+sizes_from : (calls : Option (List ℕ)) (sides : List Side) (whole : List Bool) (full : ℕ → Bool) (k : ℕ) (items : List Item) →
     ((i : ℕ) → i < length items → full (k + i) ≡ (whole_at whole (k + i) || not (is_branch (get_or items i no_item).kind))) →
-    sizes_where full k (grouped_sizes sides whole k items) ≡ part_sizes sides whole k items
+    sizes_where full k (grouped_sizes calls sides whole k items) ≡ part_sizes calls sides whole k items
 unfolding grouped_sizes part_sizes sizes_where
-sizes_from sides whole full k [] are = refl
-sizes_from sides whole full k (item ∷ items) are =
+sizes_from calls sides whole full k [] are = refl
+sizes_from calls sides whole full k (item ∷ items) are =
     let start : k + 0 ≡ k = omega arith in
-    let here = one_size (lead_size sides k) item.kind (whole_at whole k) (full k) (rw start at (are 0 (omega arith))) in
+    let here = one_size calls (lead_size sides k) item.kind (is_ecall item) (whole_at whole k) (full k) (rw start at (are 0 (omega arith))) in
     let later : (i : ℕ) → i < length items → full (k + 1 + i) ≡ (whole_at whole (k + 1 + i) || not (is_branch (get_or items i no_item).kind)) =
     λ i lt. let e : k + 1 + i ≡ k + suc i = omega arith in rw e (are (suc i) (omega arith)) in
-    let rest = sizes_from sides whole full (k + 1) items later in
-    ap (λ (n : ℕ). n ∷ sizes_where full (k + 1) (grouped_sizes sides whole (k + 1) items)) here
-    ∙ ap (λ (xs : List ℕ). (lead_size sides k + size_of item.kind (whole_at whole k)) ∷ xs) rest
+    let rest = sizes_from calls sides whole full (k + 1) items later in
+    ap (λ (n : ℕ). n ∷ sizes_where full (k + 1) (grouped_sizes calls sides whole (k + 1) items)) here
+    ∙ ap (λ (xs : List ℕ). (lead_size sides k + size_of calls item (whole_at whole k)) ∷ xs) rest
 
 pub sizes_are : (program : Program) (closed : ClosedGraph) (whole : List Bool) → IsSound program →
-    sizes_under (whole_at whole) (shorts_of program closed) (grouped_parts program closed whole) ≡ part_sizes closed.sides whole 0 program.items
+    sizes_under (whole_at whole) (shorts_of program closed) (grouped_parts program closed whole) ≡ part_sizes closed.calls closed.sides whole 0 program.items
 sizes_are program closed whole sound =
-    sizes_from closed.sides whole (is_whole (shorts_of program closed) (whole_at whole)) 0 program.items (λ i lt.
+    sizes_from closed.calls closed.sides whole (is_whole (shorts_of program closed) (whole_at whole)) 0 program.items (λ i lt.
     let start : 0 + i ≡ i = omega arith in
     rw start (ap (λ (b : Bool). whole_at whole i || not b) (parts_are program closed i sound lt)))
 
 pub starts_are : (form : Form) (program : Program) (closed : ClosedGraph) (whole : List Bool) → IsSound program →
-    starts_under (profile_for form).units_from (whole_at whole) (shorts_of program closed) (grouped_parts program closed whole) ≡ starts_from (profile_for form).units_from (part_sizes closed.sides whole 0 program.items)
+    starts_under (profile_for form).units_from (whole_at whole) (shorts_of program closed) (grouped_parts program closed whole) ≡ starts_from (profile_for form).units_from (part_sizes closed.calls closed.sides whole 0 program.items)
 starts_are form program closed whole sound = ap (starts_from (profile_for form).units_from) (sizes_are program closed whole sound)
 
 negated : (b : Bool) → not b ≡ false → b ≡ true
@@ -96,10 +98,10 @@ pub branch_reaches : (form : Form) (program : Program) (closed : ClosedGraph) (w
     HoldsAllForced (profile_for form).units_from (shorts_of program closed) (grouped_parts program closed whole) (whole_at whole) →
     (entry k target : ℕ) → k < count program → is_branch (item_of program k).kind ≡ true → whole_at whole k ≡ false →
     (item_of program k).target ≡ Some target →
-    IsShortAt (program_at form program closed (take (count program) (starts_from (profile_for form).units_from (part_sizes closed.sides whole 0 program.items))) entry) k target
+    IsShortAt (program_at form program closed (take (count program) (starts_from (profile_for form).units_from (part_sizes closed.calls closed.sides whole 0 program.items))) entry) k target
 branch_reaches form program closed whole sound set entry k target lt yes_branch short aim =
     let shorts = shorts_of program closed in
-    let starts = starts_from (profile_for form).units_from (part_sizes closed.sides whole 0 program.items) in
+    let starts = starts_from (profile_for form).units_from (part_sizes closed.calls closed.sides whole 0 program.items) in
     let b = short_to program closed k target in
     let has = branch_listed program closed (count program) k target lt yes_branch aim in
     let at : slice_get shorts has.0 ≡ Some b = slice_get-get_or shorts has.0 b has.1 ∙ ap (λ (x : Short). Some x) has.2 in

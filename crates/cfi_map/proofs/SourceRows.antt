@@ -43,7 +43,7 @@ program items init relocations gates closed = record {
 }
 
 abbrev no_classes : ClosedGraph
-no_classes = record { version = 1; sides = record { sort = Both; classes = []; sites = [] } ∷ []; taken = [] }
+no_classes = record { version = 1; sides = record { sort = Both; classes = []; sites = [] } ∷ []; taken = []; calls = None }
 
 -- what is seen after so many steps, and how the next one ends
 abbrev seen : {A : Type 0} → (Source → A) → ProgramAtMap → ℕ → Option A
@@ -99,7 +99,7 @@ off_data = (refl, refl)
 -- `jalr x1, 0(x5)` whose site has no targets
 abbrev nowhere : ProgramAtMap
 nowhere = program (at 0 is.Icall 0x000280e7 ∷ at 4 is.Return 0x00008067 ∷ end 8 ∷ []) [] [] (0x40000040 ∷ 0x40000090 ∷ 0x400000a4 ∷ [])
-    (record { version = 1; sides = record { sort = Both; classes = []; sites = record { place = 0; class = None } ∷ [] } ∷ []; taken = false ∷ false ∷ false ∷ [] })
+    (record { version = 1; sides = record { sort = Both; classes = []; sites = record { place = 0; class = None } ∷ [] } ∷ []; taken = false ∷ false ∷ false ∷ []; calls = None })
 
 off_graph : turn nowhere 0 ≡ Some (untame why.Graph 0)
 unfolding source_step after_steps decoded instr_at words_from last_exit data_at
@@ -134,7 +134,7 @@ wrong_return = (refl, refl, refl)
 -- `jal x1` to the return; the place after the call is a target, so the link is its gate, and its AUIPC reads the word behind that
 abbrev linked : ProgramAtMap
 linked = program (to 2 (at 0 is.Call 0x008000ef) ∷ at 4 is.Plain 0x00000297 ∷ at 8 is.Return 0x00008067 ∷ end 12 ∷ []) [] []
-    (0x40000040 ∷ 0x40000060 ∷ 0x40000068 ∷ 0x4000007c ∷ []) (record { version = 1; sides = record { sort = Both; classes = (1 ∷ []) ∷ []; sites = [] } ∷ []; taken = false ∷ true ∷ false ∷ false ∷ [] })
+    (0x40000040 ∷ 0x40000060 ∷ 0x40000068 ∷ 0x4000007c ∷ []) (record { version = 1; sides = record { sort = Both; classes = (1 ∷ []) ∷ []; sites = [] } ∷ []; taken = false ∷ true ∷ false ∷ false ∷ []; calls = None })
 
 links_to_gates : (seen (λ st. st.regs 1) linked 1 ≡ Some 0x40000060) × (seen (λ st. st.pending) linked 1 ≡ Some (1 ∷ [])) × (seen (λ st. st.place) linked 1 ≡ Some (Some 2))
     × (seen (λ st. st.place) linked 2 ≡ Some (Some 1)) × (seen (λ st. st.pending) linked 2 ≡ Some []) × (seen (λ st. st.regs 5) linked 3 ≡ Some 0x40000064)
@@ -158,6 +158,23 @@ stops : (turn (stopping 0x00000013 0x00100073) 2 ≡ Some (breaks 2)) × (turn (
 unfolding source_step after_steps decoded instr_at words_from last_exit data_at
 stops = (refl, refl, refl, refl, refl)
 
+-- under a list of system calls those in it go on, and others are told, an exit among them; an `ebreak` asks no list
+abbrev under : List ℕ → ProgramAtMap → ProgramAtMap
+under calls layout = record layout { closed = record no_classes { calls = Some calls } }
+
+listed_calls : (turn (under (94 ∷ []) (stopping 0x05e00893 0x00000073)) 2 ≡ Some (exits 7))
+    × (turn (under (93 ∷ 95 ∷ []) (stopping 0x05e00893 0x00000073)) 2 ≡ Some (untame why.Call 2))
+    × (turn (under (0 ∷ 1 ∷ []) (stopping 0x00100893 0x00000073)) 2 ≡ Some ran) × (turn (under (94 ∷ []) (stopping 0x00100893 0x00000073)) 2 ≡ Some (untame why.Call 2))
+    × (turn (under (1 ∷ []) (stopping 0x00000013 0x00100073)) 2 ≡ Some (breaks 2))
+    × (seen (λ st. length (source_step (under (94 ∷ []) (stopping 0x00100893 0x00000073)) st).state.shared.events) (under (94 ∷ []) (stopping 0x00100893 0x00000073)) 2 ≡ Some 0)
+unfolding source_step after_steps decoded instr_at words_from last_exit data_at
+listed_calls = (refl, refl, refl, refl, refl, refl)
+
+-- the closing's call is asked of no list
+closing_unlisted : turn (under (64 ∷ []) seven) 2 ≡ Some (exits 7)
+unfolding source_step after_steps decoded instr_at words_from last_exit data_at
+closing_unlisted = refl
+
 -- a branch that is taken, and one that is not
 abbrev branching : ℕ → ProgramAtMap
 branching word = program (to 2 (at 0 is.Branch word) ∷ at 4 is.Plain 0x00100513 ∷ at 8 is.Return 0x00008067 ∷ end 12 ∷ []) [] []
@@ -180,7 +197,7 @@ pointer = program
     ∷ at 44 is.Return 0x00008067 ∷ end 48 ∷ [])
     (replicate 16 0) (relocated 0 8 ∷ relocated 8 10 ∷ [])
     (0x40000040 ∷ 0x40000044 ∷ 0x40000054 ∷ 0x40000058 ∷ 0x4000005c ∷ 0x400000ac ∷ 0x400000b0 ∷ 0x400000b4 ∷ 0x400000c8 ∷ 0x400000d0 ∷ 0x400000e4 ∷ 0x400000ec ∷ 0x40000100 ∷ [])
-    (record { version = 1; sides = record { sort = Both; classes = (8 ∷ 10 ∷ []) ∷ []; sites = record { place = 4; class = Some 0 } ∷ [] } ∷ []; taken = [] })
+    (record { version = 1; sides = record { sort = Both; classes = (8 ∷ 10 ∷ []) ∷ []; sites = record { place = 4; class = Some 0 } ∷ [] } ∷ []; taken = []; calls = None })
 
 pointer_runs : (seen (λ st. st.regs 5) pointer 4 ≡ Some 0x400000c8) × (seen (λ st. st.place) pointer 5 ≡ Some (Some 8)) × (seen (λ st. st.pending) pointer 5 ≡ Some (5 ∷ []))
     × (seen (λ st. st.regs 1) pointer 5 ≡ Some 0x400000ac) × (seen (λ st. st.place) pointer 7 ≡ Some (Some 5)) × (turn pointer 10 ≡ Some (exits 1))
@@ -208,6 +225,7 @@ two_sides = record {
       ∷ record { sort = Jumps; classes = (2 ∷ []) ∷ []; sites = record { place = 0; class = Some 0 } ∷ [] }
       ∷ [];
   taken = [];
+  calls = None;
 }
 
 abbrev jump_and_call : ProgramAtMap

@@ -1,5 +1,5 @@
--- The graph of a program at a map: its classes by the gates of their targets, the opening's call of the entry, which stands where a
--- run starts, and a line for each transfer at its word.
+-- The graph of a program at a map: the list of its system calls, if it has one, its classes by the gates of their targets, the opening's
+-- call of the entry, which stands where a run starts, and a line for each transfer at its word.
 use Rattle.std.specs.Prelude.{ℕ, ◌+◌, Option, Some, None, List, [], ◌∷◌, ◌++◌, map, slice_index}
 use Rattle.rv_word.specs.Form.{profile_for}
 use Rattle.rv_word.specs.MemoryMap.{Profile, START}
@@ -67,8 +67,16 @@ unfoldable pub place_lines : ProgramAtMap → List ℕ → ℕ → List Item →
 place_lines layout labels k [] = []
 place_lines layout labels k (item ∷ items) = with_line (line_for layout labels k item) (place_lines layout labels (k + 1) items)
 
--- all lines, under these labels of the classes
+-- the line of a list of system calls, if there is one
+abbrev pub call_lines : Option (List ℕ) → List GraphLine
+call_lines None = []
+call_lines (Some calls) = line.SystemCalls calls ∷ []
+
+-- the lines before those of addresses, under these labels of the classes
+abbrev pub head_lines : ProgramAtMap → List ℕ → List GraphLine
+head_lines layout labels = call_lines layout.closed.calls ++ class_lines layout.gates labels (tagged layout.closed.sides)
+
+-- all lines
 abbrev pub graph_lines : ProgramAtMap → List ℕ → List GraphLine
 graph_lines layout labels =
-    class_lines layout.gates labels (tagged layout.closed.sides)
-    ++ (line.Call START (gate layout layout.entry) ∷ place_lines layout labels 0 layout.program.items)
+    head_lines layout labels ++ (line.Call START (gate layout layout.entry) ∷ place_lines layout labels 0 layout.program.items)

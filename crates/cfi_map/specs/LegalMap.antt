@@ -17,7 +17,7 @@ gates_of lines = map (λ (l : MapLine). l.gate) lines
 pub record AreLegal (program : Program) (closed : ClosedGraph) (entered : ℕ → Bool) (m : MapParts) : Type 0 where
   pub sections : map (λ (l : MapLine). l.section) m.lines ≡ map (λ (i : Item). i.section) program.items
   pub offsets : map (λ (l : MapLine). l.offset) m.lines ≡ map (λ (i : Item). i.offset) program.items
-  pub gates : IsLegal (profile_for m.form).units_from closed.sides entered program.items (gates_of m.lines)
+  pub gates : IsLegal (profile_for m.form).units_from closed.calls closed.sides entered program.items (gates_of m.lines)
 
 -- a legal map of a program that is entered at a place
 abbrev pub IsLegalMap : Program → ClosedGraph → ℕ → MapParts → Type 0

@@ -27,9 +27,9 @@ pub record IsPlacement (form : Form) (s : Spaced) : Type 0 where
   pub sound : IsSound s.layout.program
   -- the code has room, also with every branch long
   pub room : whole_size form s.layout.program s.layout.closed ≤ CODE_SIZE
-  pub size : code_size (profile_for form).units_from (part_sizes s.layout.closed.sides s.whole 0 s.layout.program.items) ≤ CODE_SIZE
+  pub size : code_size (profile_for form).units_from (part_sizes s.layout.closed.calls s.layout.closed.sides s.whole 0 s.layout.program.items) ≤ CODE_SIZE
   -- parts stand one after another
-  pub legal : AreGates s.layout.closed.sides s.whole 0 (profile_for form).units_from s.layout.program.items s.layout.gates
+  pub legal : AreGates s.layout.closed.calls s.layout.closed.sides s.whole 0 (profile_for form).units_from s.layout.program.items s.layout.gates
   -- each store that may join the group before it does
   pub groups : AreLeads (entries s.layout.program s.layout.closed s.layout.entry) s.whole
   -- with every branch long the code is 12 bytes shorter for each later member of a group

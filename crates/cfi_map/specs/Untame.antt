@@ -1,10 +1,12 @@
 -- What makes a step untame, in the order in which it is told: a source machine takes no step that goes where its closed
--- graph does not, returns elsewhere than its call says, leaves the window of data, calls too deep or runs into a section's end.
+-- graph does not, returns elsewhere than its call says, leaves the window of data, calls too deep, runs into a section's end or makes a
+-- system call that is not in its closed graph's list.
 use Rattle.std.specs.Prelude.{ℕ, ◌+◌, ◌*◌, ◌/◌, ◌^◌, nat_le, Bool, false, not, ◌==◌, if◌then◌else◌, Option, Some, None, option_and_then, position, List, [], ◌∷◌, length}
 use Rattle.std.specs.Option.{is_none}
 use Rattle.rv_word.specs.Bits.{wrap}
+use Rattle.rv_word.specs.Numbers.{is_listed}
 use Rattle.rv_instr.specs.declared.instr.Instr.{Instr}
-use Rattle.rv_instr.specs.declared.instr.Instr.TheVariants.{Jalr, Load, Store}
+use Rattle.rv_instr.specs.declared.instr.Instr.TheVariants.{Ecall, Jalr, Load, Store}
 use Rattle.rv_instr.specs.Registers.{Registers, get_reg}
 use Rattle.rv_code.specs.Arithmetic.{load_size, store_size}
 use Rattle.rv_code.specs.Step.{offset}
@@ -75,6 +77,15 @@ is_too_deep is.Call st = nat_le MOST_CALLS (length st.pending)
 is_too_deep is.Icall st = nat_le MOST_CALLS (length st.pending)
 is_too_deep other st = false
 
+-- a system call that is not in the closed graph's list, where that has one: x17 has its number
+abbrev pub is_outside : Option (List ℕ) → ℕ → Bool
+is_outside None number = false
+is_outside (Some calls) number = not (is_listed number calls)
+
+abbrev pub is_unlisted : ProgramAtMap → ItemKind → Instr → Source → Bool
+is_unlisted layout is.System Ecall st = is_outside layout.closed.calls (get_reg st.regs 17)
+is_unlisted layout kind instr st = false
+
 -- the first reason that stands against the step of an instruction of a kind at a place
 abbrev pub reason : ProgramAtMap → ℕ → ItemKind → Instr → Source → Option Reason
 reason layout k kind instr st =
@@ -82,4 +93,5 @@ reason layout k kind instr st =
     if is_wrong_return layout kind st then Some why.Return else
     if is_off_window kind instr st then Some why.Window else
     if is_too_deep kind st then Some why.Deep else
-    if is_end kind then Some why.End else None
+    if is_end kind then Some why.End else
+    if is_unlisted layout kind instr st then Some why.Call else None

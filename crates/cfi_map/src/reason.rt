@@ -11,4 +11,6 @@ pub enum Reason {
     Deep,
     /// Begin at the end of a section of code.
     End,
+    /// Make a system call that is not in the list of the closed graph.
+    Call,
 }

@@ -1,5 +1,5 @@
 -- The gates of a program at a map tell which of its stores are later ones.
-use Rattle.std.proofs.Common.{◌≡◌, ℕ, ◌+◌, ◌==◌, inl, inr, Bool, true, false, not, Option, Some, None, refl, sym, ap, ◌∙◌, arith, if◌then◌else◌}
+use Rattle.std.proofs.Common.{◌≡◌, ℕ, ◌+◌, ◌==◌, inl, inr, Bool, true, false, not, List, Option, Some, None, refl, sym, ap, ◌∙◌, arith, if◌then◌else◌}
 use Rattle.std.specs.Prelude.{◌&&◌}
 use Rattle.std.proofs.lemmas.Bool.{cases_Bool, cases_lt, eq-eqb, ne_eqb}
 use Rattle.std.proofs.lemmas.List.{get_or_past}
@@ -9,7 +9,7 @@ use Rattle.obj_program.specs.declared.item.Item.{Item}
 use Rattle.obj_program.specs.Program.{count, item_of, no_item}
 use Rattle.cfi_map.specs.GraphAtMap.{gate, word}
 use Rattle.cfi_map.specs.Groups.{is_store}
-use Rattle.cfi_map.specs.Placement.{size_of, whole_at}
+use Rattle.cfi_map.specs.Placement.{is_ecall, kind_size, whole_at}
 use Rattle.cfi_writer.specs.Accepted.{IsAccepted}
 use Rattle.cfi_writer.specs.Units.{Choice, is_later_at}
 use Rattle.cfi_writer.proofs.Standing.{next_gate}
@@ -18,9 +18,9 @@ use Rattle.cfi_meaning.specs.PlaceSteps.{Linked, holds_store}
 use Rattle.cfi_meaning.proofs.Names.{store_is_place}
 use Rattle.cfi_meaning.proofs.Places.{place_behind}
 
-store_size : (kind : ItemKind) (whole : Bool) → is_store kind ≡ true → size_of kind whole ≡ (if whole then 16 else 4)
-store_size is.Store whole store = refl
-store_size other whole store = absurd (cc)
+store_size : (calls : Option (List ℕ)) (kind : ItemKind) (ecall whole : Bool) → is_store kind ≡ true → kind_size calls kind ecall whole ≡ (if whole then 16 else 4)
+store_size calls is.Store ecall whole store = refl
+store_size calls other ecall whole store = absurd (cc)
 
 sized : (whole : Bool) (a n : ℕ) → n ≡ a + (if whole then 16 else 4) → (n == a + 4) ≡ not whole
 sized true a n is = ne_eqb n (a + 4) (λ same. absurd (omega arith))
@@ -35,7 +35,7 @@ at_later_is m k ok =
           elim (cases_lt k (count m.layout.program)) [
             | inl below ↦
                 let next = place_behind m k ok (store_is_place m k below store) in
-                let size = store_size (item_of m.layout.program k).kind (whole_at m.whole k) store in
+                let size = store_size m.layout.closed.calls (item_of m.layout.program k).kind (is_ecall (item_of m.layout.program k)) (whole_at m.whole k) store in
                 ap (λ (b : Bool). holds_store m k && b)
                 (sized (whole_at m.whole k) (word m.layout k) (gate m.layout (k + 1))
                 (next_gate m ok k next ∙ ap (λ (n : ℕ). word m.layout k + n) size))

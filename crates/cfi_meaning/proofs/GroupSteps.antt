@@ -57,7 +57,7 @@ module _ (m : Choice) (image : Contents) (of : IsImageOf m image) (k : ℕ) (pla
 
   unit_is : unit_here m k ≡ stores
   unit_is =
-      stores_unit (item_of m.layout.program k).kind (instr_of m k) (whole_at m.whole k) (gate_to m.layout (item_of m.layout.program k).target)
+      stores_unit m.layout.closed.calls (item_of m.layout.program k).kind (instr_of m k) (whole_at m.whole k) (gate_to m.layout (item_of m.layout.program k).target)
       (jump_word m.layout.closed.version) (site_label m.labels m.layout.closed.sides k) (group_at m k) store (store_at m of.accepted k place.below store)
 
   module _ (i : ℕ) (few : i ≤ behind m k) where

@@ -1,5 +1,5 @@
 -- The own step of a place's unit is that of its instruction's kind; a store in the window of data goes on.
-use Rattle.std.proofs.Common.{◌≡◌, ℕ, zero, suc, ◌+◌, ◌^◌, ◌<◌, ◌≤◌, ◌==◌, true, false, not, Bool, if◌then◌else◌, refl, sym, ap, ◌∙◌, arith}
+use Rattle.std.proofs.Common.{◌≡◌, ℕ, zero, suc, ◌+◌, ◌^◌, ◌<◌, ◌≤◌, ◌==◌, true, false, not, Bool, List, Option, Some, None, if◌then◌else◌, refl, sym, ap, ◌∙◌, arith}
 use Rattle.std.specs.Prelude.{nat_lt}
 use Rattle.std.proofs.lemmas.Bool.{eqb-true}
 use Rattle.rv_word.specs.MemoryMap.{Profile}
@@ -30,7 +30,7 @@ use Rattle.cfi_unit.proofs.Regions.{can_store_data, store_size-small}
 use Rattle.cfi_rules.specs.Rules.{jump_word}
 use Rattle.cfi_runs.specs.Own.{Own, OwnAfter, executes, goes, own_past}
 use Rattle.cfi_runs.specs.Tame.{IsTame, touched}
-use Rattle.cfi_writer.specs.Units.{Group, group_at, instr_of, inverse, unit_here, unit_of}
+use Rattle.cfi_writer.specs.Units.{Group, call_unit, group_at, instr_of, inverse, unit_here, unit_of}
 use Rattle.cfi_writer.proofs.GroupUnit.{IsStore}
 use Rattle.cfi_writer.proofs.Standing.{instr_is, next_after}
 use Rattle.cfi_meaning.specs.KindStep.{kind_step}
@@ -67,27 +67,32 @@ own_store : (p : Profile) (o : Own) (op : StoreOp) (rs1 rs2 imm next : ℕ) → 
 own_store p o op rs1 rs2 imm next below =
     let can = can_store_data p (sum_of o.regs rs1 imm) (store_size op) below (store_size-small op) in rw can refl
 
-own_of_kind : (p : Profile) (image : Memory) (kind : ItemKind) (i : Instr) (whole : Bool) (target : ℕ) (which : TargetWord) (label next : ℕ) (group : Group) (o : Own) →
-    is_end kind ≡ false → is_store kind ≡ false → suits kind i ≡ true → IsTame image (unit_of kind i whole target which label group) o.pending o.regs →
-    own_past p o (unit_of kind i whole target which label group) next ≡ kind_step p kind i target next o
-own_of_kind p image is.Gate (I.Upper Lui zero imm) whole target which label next group o some other suit tame = refl
-own_of_kind p image is.Gate (I.Upper Lui (suc rd) imm) whole target which label next group o some other suit tame = absurd (let none = eqb-true (suc rd) 0 suit in omega arith)
-own_of_kind p image is.Gate (I.Upper Auipc rd imm) whole target which label next group o some other suit tame = absurd (cc)
-own_of_kind p image is.Plain i whole target which label next group o some other suit tame = refl
-own_of_kind p image is.Store i whole target which label next group o some other suit tame = absurd (cc)
-own_of_kind p image is.System I.Ecall whole target which label next group o some other suit tame = refl
-own_of_kind p image is.System I.Ebreak whole target which label next group o some other suit tame = refl
-own_of_kind p image is.Branch (I.Branch op rs1 rs2 imm) true target which label next group o some other suit tame =
+-- a system call does the same behind tests of its number
+own_call : (p : Profile) (calls : Option (List ℕ)) (o : Own) (next : ℕ) → own_past p o (call_unit calls) next ≡ executes p o I.Ecall o.regs next
+own_call p None o next = refl
+own_call p (Some numbers) o next = refl
+
+own_of_kind : (p : Profile) (image : Memory) (calls : Option (List ℕ)) (kind : ItemKind) (i : Instr) (whole : Bool) (target : ℕ) (which : TargetWord) (label next : ℕ) (group : Group) (o : Own) →
+    is_end kind ≡ false → is_store kind ≡ false → suits kind i ≡ true → IsTame image (unit_of calls kind i whole target which label group) o.pending o.regs →
+    own_past p o (unit_of calls kind i whole target which label group) next ≡ kind_step p kind i target next o
+own_of_kind p image calls is.Gate (I.Upper Lui zero imm) whole target which label next group o some other suit tame = refl
+own_of_kind p image calls is.Gate (I.Upper Lui (suc rd) imm) whole target which label next group o some other suit tame = absurd (let none = eqb-true (suc rd) 0 suit in omega arith)
+own_of_kind p image calls is.Gate (I.Upper Auipc rd imm) whole target which label next group o some other suit tame = absurd (cc)
+own_of_kind p image calls is.Plain i whole target which label next group o some other suit tame = refl
+own_of_kind p image calls is.Store i whole target which label next group o some other suit tame = absurd (cc)
+own_of_kind p image calls is.System I.Ecall whole target which label next group o some other suit tame = own_call p calls o next
+own_of_kind p image calls is.System I.Ebreak whole target which label next group o some other suit tame = refl
+own_of_kind p image calls is.Branch (I.Branch op rs1 rs2 imm) true target which label next group o some other suit tame =
     let a = get_reg o.regs rs1 in
     let b = get_reg o.regs rs2 in
     ap (goes p o) (ap (λ (taken : Bool). if taken then next else target) (inverse_taken op a b) ∙ turned (branch_taken op a b) target next)
-own_of_kind p image is.Branch (I.Branch op rs1 rs2 imm) false target which label next group o some other suit tame = refl
-own_of_kind p image is.Jump i whole target which label next group o some other suit tame = refl
-own_of_kind p image is.Call i whole target which label next group o some other suit tame = refl
-own_of_kind p image is.Return i whole target which label next group o some other suit tame = refl
-own_of_kind p image is.Ijump (I.Jalr rd rs1 imm) whole target which label next group o some other suit tame = refl
-own_of_kind p image is.Icall (I.Jalr rd rs1 imm) whole target which label next group o some other suit tame = refl
-own_of_kind p image kind i whole target which label next group o some other suit tame = absurd (cc)
+own_of_kind p image calls is.Branch (I.Branch op rs1 rs2 imm) false target which label next group o some other suit tame = refl
+own_of_kind p image calls is.Jump i whole target which label next group o some other suit tame = refl
+own_of_kind p image calls is.Call i whole target which label next group o some other suit tame = refl
+own_of_kind p image calls is.Return i whole target which label next group o some other suit tame = refl
+own_of_kind p image calls is.Ijump (I.Jalr rd rs1 imm) whole target which label next group o some other suit tame = refl
+own_of_kind p image calls is.Icall (I.Jalr rd rs1 imm) whole target which label next group o some other suit tame = refl
+own_of_kind p image calls kind i whole target which label next group o some other suit tame = absurd (cc)
 
 pub step_of_kind : law.StepOfKind
 step_of_kind m image k o ok other now =
@@ -95,7 +100,7 @@ step_of_kind m image k o ok other now =
     let words = words_at m.layout in
     let suit = kept m.layout.program m.layout.gates words k (instr_of m k) ok.sound place.below place.no_end (instr_is m ok k place.below place.no_end) in
     ap (own_past m.layout.profile (at_word m k o) (unit_here m k)) (sym (next_after m ok k other (place_behind m k ok place)))
-    ∙ own_of_kind m.layout.profile (loaded image) (item_of m.layout.program k).kind (instr_of m k) (whole_at m.whole k) (gate_to m.layout (item_of m.layout.program k).target)
+    ∙ own_of_kind m.layout.profile (loaded image) m.layout.closed.calls (item_of m.layout.program k).kind (instr_of m k) (whole_at m.whole k) (gate_to m.layout (item_of m.layout.program k).target)
     (jump_word m.layout.closed.version) (site_label m.labels m.layout.closed.sides k) (gate m.layout (k + 1)) (group_at m k) (at_word m k o) place.no_end other suit.0 (now.tame other)
 
 size_some : (op : StoreOp) → 0 < store_size op

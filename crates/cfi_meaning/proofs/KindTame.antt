@@ -1,5 +1,5 @@
 -- A step against which no reason stands is one that its unit keeps.
-use Rattle.std.proofs.Common.{◌≡◌, ℕ, suc, ◌^◌, ◌<◌, ◌≤◌, ◌==◌, Bool, true, false, List, [], ◌∷◌, length, Some, None, refl, ap, subst, arith}
+use Rattle.std.proofs.Common.{◌≡◌, ℕ, suc, ◌^◌, ◌<◌, ◌≤◌, ◌==◌, Bool, true, false, List, [], ◌∷◌, length, Option, Some, None, refl, ap, subst, arith}
 use Rattle.std.specs.Prelude.{nat_le, if◌then◌else◌}
 use Rattle.std.proofs.lemmas.Bool.{eqb-true, leb-false, leb-true, not-false}
 use Rattle.rv_word.specs.Image.{Contents}
@@ -20,11 +20,11 @@ use Rattle.cfi_unit.specs.Shadow.{MOST_PENDING}
 use Rattle.cfi_runs.specs.Own as own
 use Rattle.cfi_runs.specs.Tame.{IsTame, touched}
 use Rattle.cfi_writer.specs.SideLaws.{word_read}
-use Rattle.cfi_writer.specs.Units.{Group, unit_of}
+use Rattle.cfi_writer.specs.Units.{Group, call_unit, unit_of}
 use Rattle.cfi_meaning.specs.Matches.{sites_of}
 use Rattle.cfi_map.specs.declared.reason.Reason.TheVariants as why
 use Rattle.cfi_map.specs.Source.{Source}
-use Rattle.cfi_map.specs.Untame.{MOST_CALLS, is_off_graph, is_off_window, is_too_deep, is_wrong_return, return_address}
+use Rattle.cfi_map.specs.Untame.{MOST_CALLS, is_off_graph, is_off_window, is_outside, is_too_deep, is_unlisted, is_wrong_return, return_address}
 use Rattle.cfi_graph.specs.declared.line.SiteKind.{SiteKind}
 use Rattle.cfi_graph.specs.declared.line.SiteKind.TheVariants as kinds
 use Rattle.cfi_closed.specs.Closed.{class_reaches}
@@ -38,16 +38,19 @@ pub record NoReason (g : ProgramAtMap) (k : ℕ) (kind : ItemKind) (i : Instr) (
   pub window : is_off_window kind i st ≡ false
   pub deep : is_too_deep kind st ≡ false
   pub no_end : is_end kind ≡ false
+  pub listed : is_unlisted g kind i st ≡ false
 
-pub all_false : (a b c d e : Bool) →
-    (if a then Some why.Graph else if b then Some why.Return else if c then Some why.Window else if d then Some why.Deep else if e then Some why.End else None) ≡ None →
-    (a ≡ false) × (b ≡ false) × (c ≡ false) × (d ≡ false) × (e ≡ false)
-all_false false false false false false none = (refl, refl, refl, refl, refl)
-all_false true b c d e none = absurd (cc)
-all_false false true c d e none = absurd (cc)
-all_false false false true d e none = absurd (cc)
-all_false false false false true e none = absurd (cc)
-all_false false false false false true none = absurd (cc)
+pub all_false : (a b c d e f : Bool) →
+    (if a then Some why.Graph else if b then Some why.Return else if c then Some why.Window else if d then Some why.Deep else if e then Some why.End
+    else if f then Some why.Call else None) ≡ None →
+    (a ≡ false) × (b ≡ false) × (c ≡ false) × (d ≡ false) × (e ≡ false) × (f ≡ false)
+all_false false false false false false false none = (refl, refl, refl, refl, refl, refl)
+all_false true b c d e f none = absurd (cc)
+all_false false true c d e f none = absurd (cc)
+all_false false false true d e f none = absurd (cc)
+all_false false false false true e f none = absurd (cc)
+all_false false false false false true f none = absurd (cc)
+all_false false false false false false true none = absurd (cc)
 
 pub sites_counted : (g : ProgramAtMap) (pending : List ℕ) → length (sites_of g pending) ≡ suc (length pending)
 sites_counted g [] = refl
@@ -72,6 +75,11 @@ module _ (image : Contents) (g : ProgramAtMap) (k : ℕ) (which : TargetWord) (l
       let found = place_found g k (I.Jalr rd rs1 imm) st.regs t some in
       subst (HasLabel (loaded image) (word_read which kind) label) found.gate_is (bears t found.reaches)
 
+  -- a system call is one of the list, where there is one
+  call_tame : (calls : Option (List ℕ)) → is_outside calls (get_reg st.regs 17) ≡ false → IsTame (loaded image) (call_unit calls) (sites_of g st.pending) st.regs
+  call_tame None listed = tt
+  call_tame (Some numbers) listed = not-false _ listed
+
   -- a store stays in the window
   pub inside_of_kind : (kind : ItemKind) (i : Instr) → NoReason g k kind i st → is_store kind ≡ true → touched i st.regs ≤ 2 ^ 28
   inside_of_kind is.Store i no_reason store = leb-true _ _ (not-false _ no_reason.window)
@@ -79,11 +87,11 @@ module _ (image : Contents) (g : ProgramAtMap) (k : ℕ) (which : TargetWord) (l
 
   pub tame_of_kind : (kind : ItemKind) (i : Instr) (whole : Bool) (target : ℕ) (group : Group) → ((site : SiteKind) → site_kind kind ≡ Some site → AreBorne image g k which label site) →
       suits kind i ≡ true → NoReason g k kind i st → is_store kind ≡ false →
-      IsTame (loaded image) (unit_of kind i whole target which label group) (sites_of g st.pending) st.regs
+      IsTame (loaded image) (unit_of g.closed.calls kind i whole target which label group) (sites_of g st.pending) st.regs
   tame_of_kind is.Gate (I.Upper op rd imm) whole target group bears suit no_reason other = tt
   tame_of_kind is.Plain i whole target group bears suit no_reason other = leb-true _ _ (not-false _ no_reason.window)
   tame_of_kind is.Store i whole target group bears suit no_reason other = absurd (cc)
-  tame_of_kind is.System I.Ecall whole target group bears suit no_reason other = tt
+  tame_of_kind is.System I.Ecall whole target group bears suit no_reason other = call_tame g.closed.calls no_reason.listed
   tame_of_kind is.System I.Ebreak whole target group bears suit no_reason other = tt
   tame_of_kind is.Branch (I.Branch op rs1 rs2 imm) true target group bears suit no_reason other = tt
   tame_of_kind is.Branch (I.Branch op rs1 rs2 imm) false target group bears suit no_reason other = tt

@@ -1,5 +1,5 @@
 -- The unit of a place names no register that units keep for themselves, since its instruction does not.
-use Rattle.std.proofs.Common.{◌≡◌, ℕ, suc, ◌+◌, ◌<◌, ◌≤◌, ◌==◌, ◌||◌, true, false, Bool, inl, inr, Some, refl, sym, ap, subst, ◌∙◌, arith}
+use Rattle.std.proofs.Common.{◌≡◌, ℕ, suc, ◌+◌, ◌<◌, ◌≤◌, ◌==◌, ◌||◌, true, false, Bool, inl, inr, Some, refl, sym, ap, subst, ◌∙◌, arith, Option, None, List}
 use Rattle.std.proofs.lemmas.Bool.{cases_Bool, eq-eqb, eqb-true, or_cases, or_left, or_right}
 use Rattle.rv_instr.specs.Operands.{names}
 use Rattle.rv_instr.specs.Reserved.{is_reserved}
@@ -20,7 +20,7 @@ use Rattle.cfi_rules.specs.Rules.{jump_word}
 use Rattle.cfi_runs.specs.Tame.{NamesNoReserved}
 use Rattle.cfi_runs.proofs.GroupMembers.{stores_free}
 use Rattle.cfi_writer.specs.Accepted.{IsAccepted}
-use Rattle.cfi_writer.specs.Units.{Choice, Group, behind, group_at, instr_of, is_later_at, low_at, member_at, member_for, unit_here, unit_of}
+use Rattle.cfi_writer.specs.Units.{Choice, call_unit, Group, behind, group_at, instr_of, is_later_at, low_at, member_at, member_for, unit_here, unit_of}
 use Rattle.cfi_writer.proofs.GroupUnit.{IsStore, inside, store_at}
 use Rattle.cfi_writer.proofs.Standing.{instr_is}
 use Rattle.cfi_meaning.specs.ImageOf.{IsPlace}
@@ -51,24 +51,29 @@ module _ (i : Instr) (none : names_reserved i ≡ false) (k : ℕ) (named : name
   pub instr_free : is_reserved k ≡ false
   instr_free = elim (cases_Bool (is_reserved k)) [ inl reserved ↦ absurd (not_reserved reserved) | inr free ↦ free ]
 
+-- a system call names none
+call_free : (calls : Option (List ℕ)) → NamesNoReserved (call_unit calls)
+call_free None k named = absurd (cc)
+call_free (Some numbers) k named = absurd (cc)
+
 -- the unit of a place that holds no store
-unit_free : (kind : ItemKind) (i : Instr) (whole : Bool) (target : ℕ) (which : TargetWord) (label : ℕ) (group : Group) → is_end kind ≡ false → is_store kind ≡ false →
-    suits kind i ≡ true → names_reserved i ≡ false → NamesNoReserved (unit_of kind i whole target which label group)
-unit_free is.Gate (I.Upper op rd imm) whole target which label group some other_kind suit none = λ k named. absurd (cc)
-unit_free is.Plain i whole target which label group some other_kind suit none = λ k named. instr_free i none k named
-unit_free is.Store i whole target which label group some other_kind suit none = absurd (cc)
-unit_free is.System I.Ecall whole target which label group some other_kind suit none = λ k named. absurd (cc)
-unit_free is.System I.Ebreak whole target which label group some other_kind suit none = λ k named. absurd (cc)
-unit_free is.Branch (I.Branch op rs1 rs2 imm) true target which label group some other_kind suit none = λ k named. instr_free (I.Branch op rs1 rs2 imm) none k named
-unit_free is.Branch (I.Branch op rs1 rs2 imm) false target which label group some other_kind suit none = λ k named. instr_free (I.Branch op rs1 rs2 imm) none k named
-unit_free is.Jump i whole target which label group some other_kind suit none = λ k named. absurd (cc)
-unit_free is.Call i whole target which label group some other_kind suit none = λ k named. absurd (cc)
-unit_free is.Return i whole target which label group some other_kind suit none = λ k named. absurd (cc)
-unit_free is.Ijump (I.Jalr rd rs1 imm) whole target which label group some other_kind suit none =
+unit_free : (calls : Option (List ℕ)) (kind : ItemKind) (i : Instr) (whole : Bool) (target : ℕ) (which : TargetWord) (label : ℕ) (group : Group) → is_end kind ≡ false → is_store kind ≡ false →
+    suits kind i ≡ true → names_reserved i ≡ false → NamesNoReserved (unit_of calls kind i whole target which label group)
+unit_free calls is.Gate (I.Upper op rd imm) whole target which label group some other_kind suit none = λ k named. absurd (cc)
+unit_free calls is.Plain i whole target which label group some other_kind suit none = λ k named. instr_free i none k named
+unit_free calls is.Store i whole target which label group some other_kind suit none = absurd (cc)
+unit_free calls is.System I.Ecall whole target which label group some other_kind suit none = call_free calls
+unit_free calls is.System I.Ebreak whole target which label group some other_kind suit none = λ k named. absurd (cc)
+unit_free calls is.Branch (I.Branch op rs1 rs2 imm) true target which label group some other_kind suit none = λ k named. instr_free (I.Branch op rs1 rs2 imm) none k named
+unit_free calls is.Branch (I.Branch op rs1 rs2 imm) false target which label group some other_kind suit none = λ k named. instr_free (I.Branch op rs1 rs2 imm) none k named
+unit_free calls is.Jump i whole target which label group some other_kind suit none = λ k named. absurd (cc)
+unit_free calls is.Call i whole target which label group some other_kind suit none = λ k named. absurd (cc)
+unit_free calls is.Return i whole target which label group some other_kind suit none = λ k named. absurd (cc)
+unit_free calls is.Ijump (I.Jalr rd rs1 imm) whole target which label group some other_kind suit none =
     λ k named. instr_free (I.Jalr rd rs1 imm) none k (or_right (rd == k) (rs1 == k) named)
-unit_free is.Icall (I.Jalr rd rs1 imm) whole target which label group some other_kind suit none =
+unit_free calls is.Icall (I.Jalr rd rs1 imm) whole target which label group some other_kind suit none =
     λ k named. instr_free (I.Jalr rd rs1 imm) none k (or_right (rd == k) (rs1 == k) named)
-unit_free kind i whole target which label group some other_kind suit none = absurd (cc)
+unit_free calls kind i whole target which label group some other_kind suit none = absurd (cc)
 
 -- the base of a store and what it stores
 member_free : (low : ℕ) (i : Instr) → IsStore i → names_reserved i ≡ false → is_reserved (member_for low i).value ≡ false
@@ -81,11 +86,11 @@ base_free (I.Store op rs1 rs2 imm) store none = instr_free (I.Store op rs1 rs2 i
 base_free other store none = let is = store.is in absurd (cc)
 
 -- the unit of a group's first store
-pub stores_unit : (kind : ItemKind) (i : Instr) (whole : Bool) (target : ℕ) (which : TargetWord) (label : ℕ) (group : Group) → is_store kind ≡ true → IsStore i →
-    unit_of kind i whole target which label group ≡ V.Stores (base_of (Some i)) group.mask group.members
-stores_unit is.Store (I.Store op rs1 rs2 imm) whole target which label group store here = refl
-stores_unit is.Store other whole target which label group store here = let e = here.is in absurd (cc)
-stores_unit other i whole target which label group store here = absurd (cc)
+pub stores_unit : (calls : Option (List ℕ)) (kind : ItemKind) (i : Instr) (whole : Bool) (target : ℕ) (which : TargetWord) (label : ℕ) (group : Group) → is_store kind ≡ true → IsStore i →
+    unit_of calls kind i whole target which label group ≡ V.Stores (base_of (Some i)) group.mask group.members
+stores_unit calls is.Store (I.Store op rs1 rs2 imm) whole target which label group store here = refl
+stores_unit calls is.Store other whole target which label group store here = let e = here.is in absurd (cc)
+stores_unit calls other i whole target which label group store here = absurd (cc)
 
 -- the place of a store is no section's end
 store_no_end : (kind : ItemKind) → is_store kind ≡ true → is_end kind ≡ false
@@ -112,7 +117,7 @@ module _ (m : Choice) (ok : IsAccepted m) where
       let here = store_at m ok k below store in
       let none = subst (λ (j : ℕ). names_reserved (instr_of m j) ≡ false) start (store_free k 0 below store first (omega arith)) in
       subst NamesNoReserved
-      (sym (stores_unit (item_of m.layout.program k).kind (instr_of m k) (whole_at m.whole k) (gate_to m.layout (item_of m.layout.program k).target)
+      (sym (stores_unit m.layout.closed.calls (item_of m.layout.program k).kind (instr_of m k) (whole_at m.whole k) (gate_to m.layout (item_of m.layout.program k).target)
       (jump_word m.layout.closed.version) (site_label m.labels m.layout.closed.sides k) (group_at m k) store here))
       (stores_free (member_at m (low_at m k)) (base_of (Some (instr_of m k))) (group_at m k).mask k (suc (behind m k)) (base_free (instr_of m k) here none)
       (λ i less.
@@ -126,6 +131,6 @@ module _ (m : Choice) (ok : IsAccepted m) where
         | inl store ↦ group_free k place.below store first
         | inr other_kind ↦
             let is = kept_at k place in
-            unit_free (item_of m.layout.program k).kind (instr_of m k) (whole_at m.whole k) (gate_to m.layout (item_of m.layout.program k).target)
+            unit_free m.layout.closed.calls (item_of m.layout.program k).kind (instr_of m k) (whole_at m.whole k) (gate_to m.layout (item_of m.layout.program k).target)
             (jump_word m.layout.closed.version) (site_label m.labels m.layout.closed.sides k) (group_at m k) place.no_end other_kind is.0 is.1
       ]

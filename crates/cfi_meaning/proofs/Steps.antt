@@ -26,7 +26,7 @@ use Rattle.cfi_meaning.specs.Matches.{own_of}
 use Rattle.cfi_map.specs.declared.reason.Reason.{Reason}
 use Rattle.cfi_map.specs.Source.{Source, instr_here}
 use Rattle.cfi_map.specs.SourceStep.{SourceAfter, acts, closes, exits, source_step, step_at, unless, unless_ended, untame}
-use Rattle.cfi_map.specs.Untame.{is_off_graph, is_off_window, is_too_deep, is_wrong_return, reason}
+use Rattle.cfi_map.specs.Untame.{is_off_graph, is_off_window, is_too_deep, is_unlisted, is_wrong_return, reason}
 use Rattle.cfi_meaning.proofs.KindActs.{IsOwn, own_acts}
 use Rattle.cfi_meaning.proofs.KindTame.{NoReason, all_false, inside_of_kind, sites_counted, tame_of_kind}
 
@@ -45,8 +45,8 @@ module _ (m : Choice) (image : Contents) (of : IsImageOf m image) (k : ℕ) wher
       no_reason : NoReason g k item.kind (instr_here g k) here
       no_reason =
           let all = all_false (is_off_graph g k item.kind (instr_here g k) here) (is_wrong_return g item.kind here) (is_off_window item.kind (instr_here g k) here)
-          (is_too_deep item.kind here) (is_end item.kind) none in
-          record { graph = all.0; return = all.1; window = all.2; deep = all.3; no_end = all.4 }
+          (is_too_deep item.kind here) (is_end item.kind) (is_unlisted g item.kind (instr_here g k) here) none in
+          record { graph = all.0; return = all.1; window = all.2; deep = all.3; no_end = all.4; listed = all.5 }
 
       place : IsPlace m k
       place = record {

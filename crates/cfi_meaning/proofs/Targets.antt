@@ -23,10 +23,11 @@ use Rattle.cfi_rules.specs.Walk.{InClass}
 use Rattle.cfi_rules.proofs.Moves.{in_class_label}
 use Rattle.cfi_rules.proofs.PlacedLines.{class_before, no_class}
 use Rattle.cfi_writer.specs.Accepted.{IsAccepted, IsSiteOf}
-use Rattle.cfi_writer.specs.Laws.{written_classes}
+use Rattle.cfi_writer.specs.Laws.{written_classes, written_heads}
 use Rattle.cfi_writer.specs.SideLaws.{AreLabelled, word_read}
 use Rattle.cfi_writer.specs.Units.{Choice, units}
 use Rattle.cfi_writer.proofs.ClassLines.{among_to}
+use Rattle.cfi_writer.proofs.HeadLines.{heads_serve}
 use Rattle.cfi_writer.proofs.SideLabels.{sites_served}
 use Rattle.cfi_writer.proofs.WholeCode.{lines_are}
 use Rattle.cfi_meaning.specs.PlaceLaws as law
@@ -85,7 +86,8 @@ classes_alone : (m : Choice) → IsAccepted m → (kind : SiteKind) (which : Tar
 unfolding class_with targets_for
 classes_alone m ok kind which label =
     ap (λ (lines : List GraphLine). targets_for lines kind which label) (lines_are m ok)
-    ∙ ap (option_and_then (if_serves kind which)) (class_before (written_classes m) _ label (no_class (units m) m.layout.profile.units_from label))
+    ∙ ap (option_and_then (if_serves kind which)) (class_before (written_heads m) _ label (no_class (units m) m.layout.profile.units_from label))
+    ∙ heads_serve m kind which label
 
 are_labelled : (m : Choice) → IsAccepted m → AreLabelled m.layout.closed.version m.labels m.layout.closed.sides
 are_labelled m ok = record { sorts = ok.sorts; counted = ok.counted; rising = ok.labels_rise; apart = ok.apart; site_classes = ok.site_classes }

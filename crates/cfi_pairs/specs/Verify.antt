@@ -1,8 +1,9 @@
 -- `verify IMAGE GRAPH`: whether an image goes with its graph.
 use Rattle.std.specs.Prelude.{◌≡◌, ℕ, List, [], ◌∷◌, ◌++◌, codes, Option, Some, None}
 use Rattle.rv_word.specs.Image.{Contents, image_profile}
-use Rattle.cfi_graph.specs.Graph.{GraphParts}
+use Rattle.cfi_graph.specs.Graph.{GraphParts, calls_in}
 use Rattle.cfi_rules.specs.Along.{IsSafe}
+use Rattle.cfi_rules.specs.Listed.{IsListed}
 use Rattle.cfi_rules.specs.RejectText.{reject_text}
 use Rattle.cfi_rules.specs.Rules.{IsWellFormed, IsRejected}
 use Rattle.cfi_files.specs.Lines.{with_newline}
@@ -32,9 +33,12 @@ verify_names asks = Some asks.image ∷ Some asks.graph ∷ []
 abbrev pub verify_asked : VerifyRequest → VerifyWords
 verify_asked r = record { image = r.image.now; graph = r.graph.now }
 
--- accepted: the pair meets every rule, and is safe; rejected: by the first rule that fails
+-- accepted: the pair meets every rule, and is safe, and where the graph has a list of system calls the program makes no
+-- others; rejected: by the first rule that fails
 abbrev pub IsJudgement : Contents → GraphParts → Verdict → Type 0
-IsJudgement image graph Accepted = IsWellFormed (image_profile image) image graph × IsSafe (image_profile image) image graph
+IsJudgement image graph Accepted =
+    IsWellFormed (image_profile image) image graph × IsSafe (image_profile image) image graph
+    × ((calls : List ℕ) → calls_in graph.lines ≡ Some calls → IsListed (image_profile image) image calls)
 IsJudgement image graph (Refused refusal) = ⊥
 IsJudgement image graph (Rejected reject) = IsRejected (image_profile image) image graph reject
 
@@ -67,6 +71,6 @@ verdict_status Accepted = 0
 verdict_status (Refused refusal) = 1
 verdict_status (Rejected reject) = 1
 
--- the files spell an image and a graph that meet every rule and are safe, and the text says so
+-- the files spell an image and a graph that meet every rule, are safe and keep to their list, and the text says so
 abbrev pub IsAccepted : Content → VerifyWords → List ℕ → Type 0
 IsAccepted content asks text = ExplainsVerdict content asks Accepted × (text ≡ with_newline (verdict_line Accepted))

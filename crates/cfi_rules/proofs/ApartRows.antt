@@ -103,7 +103,7 @@ unfolding class_with targets_for
 calls_label_of_a_jump = refl
 
 -- whether a rule fails, of units and the classes of their graph
-abbrev fails_of : ℕ → Rule → List U.Unit → List GraphLine → ℕ → Bool
+abbrev pub fails_of : ℕ → Rule → List U.Unit → List GraphLine → ℕ → Bool
 fails_of version rule us classes a =
     fails rule version_1 (placed_code version_1 0x40000040 us)
     (record { version = version; code = 4 * length (placed_code version_1 0x40000040 us); lines = placed_lines version_1 0x40000040 us classes }) a

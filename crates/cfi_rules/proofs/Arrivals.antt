@@ -36,11 +36,11 @@ use Rattle.cfi_rules.specs.Walk.{Goes}
 use Rattle.cfi_rules.proofs.OneHart.{AloneAlong, AreDataChanges, one_may_run, safe_along_alone}
 use Rattle.cfi_rules.proofs.Unsafe.{calm_is_data}
 
-is_ran : Turn → Bool
+unfoldable pub is_ran : Turn → Bool
 is_ran Ran = true
 is_ran other = false
 
-ran_of : (turn : Turn) → is_ran turn ≡ true → turn ≡ Ran
+pub ran_of : (turn : Turn) → is_ran turn ≡ true → turn ≡ Ran
 unfolding is_ran
 ran_of Ran e = refl
 ran_of (Exit status) e = absurd (cc)
@@ -55,11 +55,11 @@ none_of None e = refl
 none_of (Some place) e = absurd (cc)
 
 -- the state after some undisturbed steps
-unfoldable after_calm : Profile → ℕ → Hart → Shared → After
+unfoldable pub after_calm : Profile → ℕ → Hart → Shared → After
 after_calm p zero h s = stops h s Ran
 after_calm p (suc k) h s = after_calm p k (step p h s).hart (step p h s).shared
 
-calm_and : (k : ℕ) (rest : List (List ByteChange)) → AreDataChanges rest → AreDataChanges (calm k ++ rest)
+pub calm_and : (k : ℕ) (rest : List (List ByteChange)) → AreDataChanges rest → AreDataChanges (calm k ++ rest)
 calm_and zero rest low = low
 calm_and (suc k) rest low = (tt, calm_and k rest low)
 

@@ -1,21 +1,23 @@
 -- The instructions of a unit, and of the prologue, have their fields in range.
-use Rattle.std.proofs.Common.{◌≡◌, ℕ, zero, suc, ◌+◌, ◌^◌, ◌<◌, inl, inr, List, [], ◌∷◌, ◌++◌, Some, lit<, sym, subst, arith}
+use Rattle.std.proofs.Common.{◌≡◌, ℕ, zero, suc, ◌+◌, ◌*◌, ◌^◌, ◌≤◌, ◌<◌, inl, inr, List, [], ◌∷◌, ◌++◌, length, Some, lit<, sym, subst, arith}
 use Rattle.std.specs.Prelude.{map, slice_get}
 use Rattle.std.specs.List.{AllByRecursion}
 use Rattle.std.proofs.lemmas.Nat.{mod_below}
 use Rattle.rv_word.specs.MemoryMap.{IsProfile, Profile}
+use Rattle.rv_word.specs.Numbers.{IsNumber, MOST_NUMBERS}
 use Rattle.rv_instr.specs.InRange.{IsInstr}
 use Rattle.rv_instr.specs.declared.instr.Instr.{Instr}
-use Rattle.rv_instr.specs.declared.instr.Instr.TheVariants.{Jal, Jalr, Ebreak}
+use Rattle.rv_instr.specs.declared.instr.Instr.TheVariants.{Jal, Jalr, Ecall, Ebreak}
 use Rattle.cfi_unit.specs.declared.target_word.TargetWord.{TargetWord}
 use Rattle.cfi_unit.specs.declared.target_word.TargetWord.TheVariants.{First, Second}
 use Rattle.cfi_unit.specs.declared.unit.Unit as U
 use Rattle.cfi_unit.specs.declared.unit.Unit.TheVariants as V
 use Rattle.cfi_unit.specs.declared.unit.SystemOp.TheVariants as S
 use Rattle.cfi_unit.specs.declared.members.Member.{Member}
+use Rattle.cfi_unit.specs.Guarded.{guards}
 use Rattle.cfi_unit.specs.Members.{IsMember, member_instr}
 use Rattle.cfi_unit.specs.Prologue.{call_at, closing_instrs, lone_set_up, opening_instrs, own_set_up, prologue_instrs, set_up}
-use Rattle.cfi_unit.specs.UnitWords.{Fits, instrs_of, jump_offset, push, check, past}
+use Rattle.cfi_unit.specs.UnitWords.{BAD_TARGET, Fits, instrs_of, jump, jump_offset, push, check, past}
 use Rattle.cfi_unit.proofs.Found.{is_jump_instr}
 
 abbrev pub AreInstrs : List Instr → Type 0
@@ -95,6 +97,12 @@ members_instrs : (members : List Member) → AllByRecursion IsMember members →
 members_instrs [] all = tt
 members_instrs (m ∷ members) all = ((lit< tt, all.0.0, (let low = all.0.1 in omega arith)), members_instrs members all.1)
 
+guards_instrs : (ns : List ℕ) → length ns ≤ MOST_NUMBERS → AllByRecursion IsNumber ns → AreInstrs (guards ns)
+guards_instrs [] most all = tt
+guards_instrs (n ∷ ns) most all =
+    let low = all.0 in
+    ((lit< tt, lit< tt, omega arith), ((lit< tt, lit< tt, omega arith), guards_instrs ns (omega arith) all.1))
+
 pub unit_instrs : (u : U.Unit) (at : ℕ) → Fits u at → AreInstrs (instrs_of u at)
 unit_instrs (V.Gate label) at f = ((lit< tt, f), tt)
 unit_instrs (V.Plain instr) at f = (f.0, tt)
@@ -104,6 +112,8 @@ unit_instrs (V.Jump target) at f = (is_jump_instr 0 _ _ (lit< tt), tt)
 unit_instrs V.Stop at f = (is_jump_instr 0 _ _ (lit< tt), tt)
 unit_instrs (V.System S.Ecall) at f = (tt, tt)
 unit_instrs (V.System S.Ebreak) at f = (tt, tt)
+unit_instrs (V.Guarded ns) at f =
+    append_instrs (guards ns) (jump (at + 8 * length ns) BAD_TARGET ∷ Ecall ∷ []) (guards_instrs ns f.0.most f.0.each) (is_jump_instr 0 _ _ (lit< tt), (tt, tt))
 unit_instrs (V.Stores rs1 imm members) at f =
     ((lit< tt, f.0, f.1), ((lit< tt, lit< tt, lit< tt), ((lit< tt, lit< tt, lit< tt), members_instrs members f.2.each)))
 unit_instrs (V.Call target) at f = call_instrs at target

@@ -11,6 +11,7 @@ pub mod RuleFacts
 pub mod Labels
 pub mod Moves
 pub mod Safety
+pub mod ListedRuns
 pub mod UnitIn
 pub mod CodeSplit
 pub mod PlacedSplit
@@ -21,8 +22,10 @@ pub mod PlacedCode
 pub mod PlacedGraph
 pub mod PlacedRows
 pub mod ApartRows
+pub mod CallRows
 pub mod Walks
 pub mod Trails
 pub mod OneHart
 pub mod Unsafe
 pub mod Arrivals
+pub mod Unlisted

@@ -230,6 +230,10 @@ module _ (p : Profile) (profile : IsProfile p) (image : Contents) (graph : Graph
   arrive (body (V.System S.Ecall)) w v newer is facts stage l =
       record { goes = (l.1, l.0); chooses = tt; settled = to_next (V.System S.Ecall) w.at v w.pending newer facts refl stage l.0 l.1 }
   arrive (body (V.System S.Ebreak)) w v newer is facts stage l = absurd l
+  arrive (body (V.Guarded ns)) w v newer is facts stage (inl l) =
+      record { goes = inl (l.1.1, l.1.0); chooses = inl (l.0, l.1.1); settled = to_next (V.Guarded ns) w.at v w.pending newer facts refl stage l.1.0 l.1.1 }
+  arrive (body (V.Guarded ns)) w v newer is facts stage (inr l) =
+      record { goes = inr (l.1.1, l.1.0); chooses = inr (l.0, l.1.1); settled = to_bad_target v w.pending newer stage l.1.0 l.1.1 }
   arrive (body (V.Stores rs1 imm members)) w v newer is facts stage l =
       record { goes = (l.1, l.0); chooses = tt; settled = to_next (V.Stores rs1 imm members) w.at v w.pending newer facts refl stage l.0 l.1 }
   arrive (body (V.Call target)) w v newer is facts stage (inl l) =

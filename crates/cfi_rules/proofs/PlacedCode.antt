@@ -107,8 +107,8 @@ module _ (p : Profile) (profile : IsProfile p) where
     unit_words_split : AllFit p.units_from us → AllAhead p.units_from us → IsSplit (unit_words p the_code) p.units_from us
     unit_words_split fit ahead = subst (λ (ws : List ℕ). IsSplit ws p.units_from us) (sym unit_words_are) (placed_split us p.units_from fit ahead)
 
-    is_placed : (version : ℕ) (classes : List GraphLine) → IsSound p version entry us classes → IsPlaced p the_code entry us
-    is_placed version classes sound =
+    is_placed : (version : ℕ) (heads : List GraphLine) → IsSound p version entry us heads → IsPlaced p the_code entry us
+    is_placed version heads sound =
         let laid = laid_out p profile in
         let call = laid.call in
         let last = laid.closing in
@@ -137,10 +137,10 @@ pub placed_entry : PlacedEntry
 placed_entry p entry us profile = entry_there p profile entry us
 
 pub placed_well_formed : PlacedIsWellFormed
-placed_well_formed p entry us classes image graph profile sound words lines same_length = record {
+placed_well_formed p entry us heads image graph profile sound words lines same_length = record {
   same_length = same_length;
   rules = λ rule.
-      let holds = rules_hold p (placed_code p entry us) graph.version entry us classes graph.code (is_placed p profile entry us graph.version classes sound) sound rule in
+      let holds = rules_hold p (placed_code p entry us) graph.version entry us heads graph.code (is_placed p profile entry us graph.version heads sound) sound rule in
       let with_lines = subst (λ (ls : List GraphLine). Holds p (placed_code p entry us) (record { version = graph.version; code = graph.code; lines = ls }) rule) (sym lines) holds in
       subst (λ (ws : List ℕ). Holds p ws graph rule) (sym words) with_lines;
 }

@@ -1,4 +1,4 @@
--- The lines of sound placed units are a graph's, where its class lines are.
+-- The lines of sound placed units are a graph's, where its heads are.
 use Rattle.std.proofs.Common.{inl, inr, ◌≡◌, ℕ, ◌+◌, ◌*◌, ◌%◌, ◌≤◌, ◌<◌, ◌==◌, Bool, true, false, List, [], ◌∷◌, ◌++◌, length, map, refl, sym, ap, ◌∙◌, Some, None, arith}
 use Rattle.std.specs.Prelude.{Option, IsTrue, nat_le, nat_lt, ◌&&◌, is_some, if◌then◌else◌}
 use Rattle.std.specs.List.{list_all}
@@ -9,13 +9,12 @@ use Rattle.rv_word.specs.MemoryMap.{CODE_START, IsProfile, Profile}
 use Rattle.rv_word.proofs.Cases.{cases_Option}
 use Rattle.rv_word.proofs.Versions.{LaidOut, laid_out}
 use Rattle.cfi_graph.specs.declared.line.GraphLine.{GraphLine}
-use Rattle.cfi_graph.specs.declared.line.GraphLine.TheVariants.{Class, CallClass, JumpClass, Site, Edge, Call}
-use Rattle.cfi_graph.specs.declared.line.Key.{Key}
-use Rattle.cfi_graph.specs.declared.line.Key.TheVariants.{Label, Address}
+use Rattle.cfi_graph.specs.declared.line.GraphLine.TheVariants.{SystemCalls, Class, CallClass, JumpClass, Site, Edge, Call}
+use Rattle.cfi_graph.specs.declared.line.Key.TheVariants.{Address}
 use Rattle.cfi_graph.specs.declared.line.SiteKind.{SiteKind}
 use Rattle.cfi_graph.specs.declared.line.Sort.TheVariants.{Both, Calls, Jumps}
 use Rattle.cfi_graph.specs.declared.line.SiteKind.TheVariants as K
-use Rattle.cfi_graph.specs.Graph.{ClassLine, IsGraph, class_in, fits_version, is_class, is_code_address, is_label, is_rising, key_below, key_of, line_in_range, targets_rise}
+use Rattle.cfi_graph.specs.Graph.{ClassLine, IsGraph, class_in, fits_version, is_code_address, is_label, is_rising, key_below, key_of, line_in_range, targets_rise}
 use Rattle.cfi_unit.specs.declared.unit.Unit as U
 use Rattle.cfi_unit.specs.declared.unit.Unit.TheVariants as V
 use Rattle.cfi_unit.specs.declared.place.Place.TheVariants.{Body as body}
@@ -24,7 +23,7 @@ use Rattle.cfi_unit.specs.Prologue.{OPENING}
 use Rattle.cfi_unit.specs.UnitWords.{word_count}
 use Rattle.cfi_rules.specs.PlacedLaws.{PlacedIsGraph}
 use Rattle.cfi_rules.specs.Lines.{class_with, or_class}
-use Rattle.cfi_rules.specs.Placed.{line_of, lines_from, placed_code, placed_lines, with_line}
+use Rattle.cfi_rules.specs.Placed.{is_head, line_of, lines_from, placed_code, placed_lines, with_line}
 use Rattle.cfi_rules.specs.Rules.{asks, site_of}
 use Rattle.cfi_rules.specs.Sound.{IsSound, StartsIn, target_of}
 use Rattle.cfi_rules.specs.Split.{unit_in}
@@ -92,26 +91,25 @@ lines_rise (u ∷ us) bound at below =
     rise_with u bound at (lines_from (at + 4 * word_count u) us) below
     (lines_rise us bound (at + 4 * word_count u) (omega arith)) (lines_rise us at (at + 4 * word_count u) (omega arith))
 
--- a class's line is ordered by its label
-label_of : (line : GraphLine) → is_class line ≡ true → (label : ℕ) × (key_of line ≡ Label label)
-label_of (Class label targets) class = (label, refl)
-label_of (CallClass label targets) class = (label, refl)
-label_of (JumpClass label targets) class = (label, refl)
-label_of (Site a kind label) class = absurd (cc)
-label_of (Edge from to) class = absurd (cc)
-label_of (Call from to) class = absurd (cc)
+-- heads come before what has an address
+head_below : (line : GraphLine) (a : ℕ) → is_head line ≡ true → key_below (key_of line) (Address a) ≡ true
+head_below (SystemCalls numbers) a head = refl
+head_below (Class label targets) a head = refl
+head_below (CallClass label targets) a head = refl
+head_below (JumpClass label targets) a head = refl
+head_below (Site address kind label) a head = absurd (cc)
+head_below (Edge from to) a head = absurd (cc)
+head_below (Call from to) a head = absurd (cc)
 
--- classes come before
-classes_rise : (classes : List GraphLine) (bound to : ℕ) (rest : List GraphLine) → IsTrue (list_all is_class classes) → is_rising key_below (map key_of classes) ≡ true →
-    keys_above bound rest ≡ true → is_rising key_below (map key_of (classes ++ (Call bound to ∷ rest))) ≡ true
-classes_rise [] bound to rest all order above = above
-classes_rise (line ∷ []) bound to rest all order above =
-    let (label, key) = label_of line (and_parts (is_class line) true all).0 in
-    and_from (key_below (key_of line) (Address bound)) (keys_above bound rest) (ap (λ (k : Key). key_below k (Address bound)) key) above
-classes_rise (line ∷ next ∷ classes) bound to rest all order above =
-    let parts = and_parts (key_below (key_of line) (key_of next)) (is_rising key_below (map key_of (next ∷ classes))) order in
-    and_from (key_below (key_of line) (key_of next)) (is_rising key_below (map key_of ((next ∷ classes) ++ (Call bound to ∷ rest)))) parts.0
-    (classes_rise (next ∷ classes) bound to rest (and_parts (is_class line) (list_all is_class (next ∷ classes)) all).1 parts.1 above)
+heads_rise : (heads : List GraphLine) (bound to : ℕ) (rest : List GraphLine) → IsTrue (list_all is_head heads) → is_rising key_below (map key_of heads) ≡ true →
+    keys_above bound rest ≡ true → is_rising key_below (map key_of (heads ++ (Call bound to ∷ rest))) ≡ true
+heads_rise [] bound to rest all order above = above
+heads_rise (line ∷ []) bound to rest all order above =
+    and_from (key_below (key_of line) (Address bound)) (keys_above bound rest) (head_below line bound (and_parts (is_head line) true all).0) above
+heads_rise (line ∷ next ∷ heads) bound to rest all order above =
+    let parts = and_parts (key_below (key_of line) (key_of next)) (is_rising key_below (map key_of (next ∷ heads))) order in
+    and_from (key_below (key_of line) (key_of next)) (is_rising key_below (map key_of ((next ∷ heads) ++ (Call bound to ∷ rest)))) parts.0
+    (heads_rise (next ∷ heads) bound to rest (and_parts (is_head line) (list_all is_head (next ∷ heads)) all).1 parts.1 above)
 
 -- a class's label is one
 line_label : (len : ℕ) (line : GraphLine) (class : ClassLine) → class_in line ≡ Some class → line_in_range len line ≡ true → is_label class.label ≡ true
@@ -154,7 +152,7 @@ unit_range len (V.Icall rs1 imm label) a line here leads known e =
     given (line_in_range len) (Site a K.Call label) line e (and_from (is_code_address len a) (is_label label) here (known (asks K.Call First label) refl))
 unit_range len other a line here leads known e = absurd (cc)
 
-module _ (p : Profile) (profile : IsProfile p) (version entry : ℕ) (us : List U.Unit) (classes : List GraphLine) (sound : IsSound p version entry us classes) where
+module _ (p : Profile) (profile : IsProfile p) (version entry : ℕ) (us : List U.Unit) (heads : List GraphLine) (sound : IsSound p version entry us heads) where
   laid : LaidOut p
   laid = laid_out p profile
 
@@ -187,7 +185,7 @@ module _ (p : Profile) (profile : IsProfile p) (version entry : ℕ) (us : List 
   opening_address : is_code_address size OPENING ≡ true
   opening_address = let words = length-placed_code p profile entry us in let front = laid.low in code_address OPENING (omega arith) (omega arith) refl
 
-  pub placed_graph : IsGraph (record { version = version; code = size; lines = classes }) → IsGraph (record { version = version; code = size; lines = placed_lines p entry us classes })
+  pub placed_graph : IsGraph (record { version = version; code = size; lines = heads }) → IsGraph (record { version = version; code = size; lines = placed_lines p entry us heads })
   placed_graph graph =
       let rest : List GraphLine = Call OPENING entry ∷ lines_from p.units_from us in
       let opening : line_in_range size (Call OPENING entry) ≡ true =
@@ -195,22 +193,22 @@ module _ (p : Profile) (profile : IsProfile p) (version entry : ℕ) (us : List 
       let units : list_all (line_in_range size) (lines_from p.units_from us) ≡ true =
       all_lines (line_in_range size) us p.units_from (λ a u line here is. unit_range size u a line (start_address a u here)
       (λ t leads. begun_address t (sound.targets a t u here leads))
-      (λ asked wants. class_label size classes asked.label graph.range (some_class classes asked.kind asked.which asked.label (sound.labels a u asked here wants))) is) in
+      (λ asked wants. class_label size heads asked.label graph.range (some_class heads asked.kind asked.which asked.label (sound.labels a u asked here wants))) is) in
       let flats : list_all targets_rise (lines_from p.units_from us) ≡ true =
       all_lines targets_rise us p.units_from (λ a u line here is. flat u a line is) in
       let ofs : list_all (is_of version) (lines_from p.units_from us) ≡ true =
       all_lines (is_of version) us p.units_from (λ a u line here is. of_each version u a line is) in
       record {
         version = graph.version;
-        sorts = list_all-append (is_of version) classes rest ∙ and_from (list_all (is_of version) classes) (list_all (is_of version) rest) graph.sorts ofs;
+        sorts = list_all-append (is_of version) heads rest ∙ and_from (list_all (is_of version) heads) (list_all (is_of version) rest) graph.sorts ofs;
         length = graph.length;
-        range = list_all-append (line_in_range size) classes rest
-            ∙ and_from (list_all (line_in_range size) classes) (list_all (line_in_range size) rest) graph.range
+        range = list_all-append (line_in_range size) heads rest
+            ∙ and_from (list_all (line_in_range size) heads) (list_all (line_in_range size) rest) graph.range
             (and_from (line_in_range size (Call OPENING entry)) (list_all (line_in_range size) (lines_from p.units_from us)) opening units);
-        targets = list_all-append targets_rise classes rest ∙ and_from (list_all targets_rise classes) (list_all targets_rise rest) graph.targets flats;
-        order = classes_rise classes OPENING entry (lines_from p.units_from us) sound.classes_are graph.order
+        targets = list_all-append targets_rise heads rest ∙ and_from (list_all targets_rise heads) (list_all targets_rise rest) graph.targets flats;
+        order = heads_rise heads OPENING entry (lines_from p.units_from us) sound.heads_are graph.order
             (lines_rise us OPENING p.units_from (let front = laid.low in omega arith));
       }
 
 pub placed_is_graph : PlacedIsGraph
-placed_is_graph p version entry us classes profile sound = placed_graph p profile version entry us classes sound
+placed_is_graph p version entry us heads profile sound = placed_graph p profile version entry us heads sound

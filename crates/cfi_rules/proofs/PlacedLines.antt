@@ -1,16 +1,17 @@
--- The lines of placed units: which stands at an address, and that none of them is a class's.
+-- The lines of placed units: which stands at an address, and that none of them is a class's or the list of
+-- system calls.
 use Rattle.std.proofs.Common.{◌≡◌, ℕ, Bool, suc, ◌+◌, ◌*◌, ◌==◌, inl, inr, true, false, List, [], ◌∷◌, ◌++◌, refl, sym, ap, subst, ◌∙◌, Some, None, arith}
 use Rattle.std.specs.Prelude.{Option, IsTrue, ◌&&◌, option_and_then, slice_get, not, if◌then◌else◌}
 use Rattle.std.specs.List.{list_all, list_any}
 use Rattle.std.proofs.lemmas.Bool.{and_parts, cases_Bool, cases_eq, eq-eqb, ne_eqb, or_from}
 use Rattle.cfi_graph.specs.declared.line.GraphLine.{GraphLine}
-use Rattle.cfi_graph.specs.declared.line.GraphLine.TheVariants.{Class, CallClass, JumpClass, Site, Edge, Call}
-use Rattle.cfi_graph.specs.Graph.{ClassLine, class_in, is_class}
+use Rattle.cfi_graph.specs.declared.line.GraphLine.TheVariants.{SystemCalls, Class, CallClass, JumpClass, Site, Edge, Call}
+use Rattle.cfi_graph.specs.Graph.{ClassLine, calls_in, class_in}
 use Rattle.cfi_unit.specs.declared.unit.Unit as U
 use Rattle.cfi_unit.specs.declared.unit.Unit.TheVariants as V
 use Rattle.cfi_unit.specs.UnitWords.{word_count}
 use Rattle.cfi_rules.specs.Lines.{class_with, holds_of, is_among, line_at, or_class, read_of, stands_at}
-use Rattle.cfi_rules.specs.Placed.{line_of, lines_from, with_line}
+use Rattle.cfi_rules.specs.Placed.{is_head, line_of, lines_from, with_line}
 use Rattle.cfi_rules.specs.Rules.{is_borne, lacks_gate}
 use Rattle.cfi_rules.specs.Split.{unit_in}
 use Rattle.cfi_unit.proofs.Counts.{some_word}
@@ -55,21 +56,33 @@ line_in (u ∷ us) at a =
           ∙ sym (ap (option_and_then (line_of a)) (in_later u us at a other))
     ]
 
--- lines of classes stand at no address
-class_stands : (line : GraphLine) (a : ℕ) → is_class line ≡ true → stands_at a line ≡ false
-class_stands (Class label targets) a class = refl
-class_stands (CallClass label targets) a class = refl
-class_stands (JumpClass label targets) a class = refl
-class_stands (Site address kind label) a class = absurd (cc)
-class_stands (Edge from to) a class = absurd (cc)
-class_stands (Call from to) a class = absurd (cc)
+-- heads stand at no address
+head_stands : (line : GraphLine) (a : ℕ) → is_head line ≡ true → stands_at a line ≡ false
+head_stands (SystemCalls numbers) a head = refl
+head_stands (Class label targets) a head = refl
+head_stands (CallClass label targets) a head = refl
+head_stands (JumpClass label targets) a head = refl
+head_stands (Site address kind label) a head = absurd (cc)
+head_stands (Edge from to) a head = absurd (cc)
+head_stands (Call from to) a head = absurd (cc)
 
-pub line_past : (classes rest : List GraphLine) (a : ℕ) → IsTrue (list_all is_class classes) → line_at (classes ++ rest) a ≡ line_at rest a
+pub line_past : (heads rest : List GraphLine) (a : ℕ) → IsTrue (list_all is_head heads) → line_at (heads ++ rest) a ≡ line_at rest a
 unfolding line_at
 line_past [] rest a all = refl
-line_past (line ∷ classes) rest a all =
-    let parts = and_parts (is_class line) (list_all is_class classes) all in
-    ap (λ b. if b then Some line else line_at (classes ++ rest) a) (class_stands line a parts.0) ∙ line_past classes rest a parts.1
+line_past (line ∷ heads) rest a all =
+    let parts = and_parts (is_head line) (list_all is_head heads) all in
+    ap (λ b. if b then Some line else line_at (heads ++ rest) a) (head_stands line a parts.0) ∙ line_past heads rest a parts.1
+
+-- a list of system calls is the heads'
+pub calls_before : (heads rest : List GraphLine) → calls_in rest ≡ None → calls_in (heads ++ rest) ≡ calls_in heads
+calls_before [] rest none = none
+calls_before (SystemCalls numbers ∷ heads) rest none = refl
+calls_before (Class label targets ∷ heads) rest none = refl
+calls_before (CallClass label targets ∷ heads) rest none = refl
+calls_before (JumpClass label targets ∷ heads) rest none = refl
+calls_before (Site address kind label ∷ heads) rest none = refl
+calls_before (Edge from to ∷ heads) rest none = refl
+calls_before (Call from to ∷ heads) rest none = refl
 
 -- lines of units are no classes'
 past_unit : (u : U.Unit) (at l : ℕ) (rest : List GraphLine) → class_with (with_line (line_of at u) rest) l ≡ class_with rest l
@@ -88,10 +101,10 @@ no_class [] at l = refl
 no_class (u ∷ us) at l =
     past_unit u at l (lines_from (at + 4 * word_count u) us) ∙ no_class us (at + 4 * word_count u) l
 
-pub class_before : (classes rest : List GraphLine) (l : ℕ) → class_with rest l ≡ None → class_with (classes ++ rest) l ≡ class_with classes l
+pub class_before : (heads rest : List GraphLine) (l : ℕ) → class_with rest l ≡ None → class_with (heads ++ rest) l ≡ class_with heads l
 unfolding class_with
 class_before [] rest l none = none
-class_before (line ∷ classes) rest l none = ap (or_class l (class_in line)) (class_before classes rest l none)
+class_before (line ∷ heads) rest l none = ap (or_class l (class_in line)) (class_before heads rest l none)
 
 lacks_with : (u : U.Unit) (at a : ℕ) (starts : ℕ → Bool) (gate : ℕ → Option ℕ) (rest : List GraphLine) → list_any (lacks_gate starts gate a) (with_line (line_of at u) rest) ≡ list_any (lacks_gate starts gate a) rest
 lacks_with (V.Branch op rs1 rs2 target) at a starts gate rest = refl
@@ -120,11 +133,11 @@ has_gate starts gate a (Some class) stand =
     ]
 
 -- classes whose targets have their gates lack none
-pub gates_stand : (classes rest : List GraphLine) (a : ℕ) (starts : ℕ → Bool) (gate : ℕ → Option ℕ) →
-    ((k : ℕ) (class : ClassLine) → option_and_then class_in (slice_get classes k) ≡ Some class → is_among a class.targets ≡ true → is_borne starts gate (read_of class.sort) a class.label ≡ true) →
-    list_any (lacks_gate starts gate a) rest ≡ false → list_any (lacks_gate starts gate a) (classes ++ rest) ≡ false
+pub gates_stand : (heads rest : List GraphLine) (a : ℕ) (starts : ℕ → Bool) (gate : ℕ → Option ℕ) →
+    ((k : ℕ) (class : ClassLine) → option_and_then class_in (slice_get heads k) ≡ Some class → is_among a class.targets ≡ true → is_borne starts gate (read_of class.sort) a class.label ≡ true) →
+    list_any (lacks_gate starts gate a) rest ≡ false → list_any (lacks_gate starts gate a) (heads ++ rest) ≡ false
 gates_stand [] rest a starts gate stand none = none
-gates_stand (line ∷ classes) rest a starts gate stand none =
-    or_from (lacks_gate starts gate a line) (list_any (lacks_gate starts gate a) (classes ++ rest))
+gates_stand (line ∷ heads) rest a starts gate stand none =
+    or_from (lacks_gate starts gate a line) (list_any (lacks_gate starts gate a) (heads ++ rest))
     (has_gate starts gate a (class_in line) (λ class is among. stand 0 class is among))
-    (gates_stand classes rest a starts gate (λ k class is among. stand (suc k) class is among) none)
+    (gates_stand heads rest a starts gate (λ k class is among. stand (suc k) class is among) none)

@@ -17,7 +17,7 @@ use Rattle.rv_code.specs.Decode.{decoded}
 use Rattle.rv_code.specs.Encode.{code_of}
 use Rattle.cfi_graph.specs.declared.line.GraphLine.{GraphLine}
 use Rattle.cfi_graph.specs.declared.line.GraphLine.TheVariants.{Class, Site, Edge, Call}
-use Rattle.cfi_graph.specs.Graph.{ClassLine, class_in, is_class}
+use Rattle.cfi_graph.specs.Graph.{ClassLine, calls_in, class_in}
 use Rattle.cfi_graph.specs.declared.line.SiteKind.TheVariants as K
 use Rattle.cfi_unit.specs.declared.unit.Unit as U
 use Rattle.cfi_unit.specs.declared.unit.Unit.TheVariants as V
@@ -30,8 +30,8 @@ use Rattle.cfi_unit.specs.declared.members.Member.{Member}
 use Rattle.cfi_unit.specs.UnitWords.{after_unit, words_of}
 use Rattle.cfi_rules.specs.declared.asks.Asks.{Asks}
 use Rattle.cfi_rules.specs.Lines.{class_with, holds_of, is_among, is_beside, is_outside, is_word_of, read_of, targets_for}
-use Rattle.cfi_rules.specs.Placed.{AllAhead, AllFit, code_from, lines_from, placed_code, placed_lines}
-use Rattle.cfi_rules.specs.Rules.{asks, gate_of, is_borne, is_label, is_of_version, site_of}
+use Rattle.cfi_rules.specs.Placed.{AllAhead, AllFit, code_from, is_head, lines_from, placed_code, placed_lines}
+use Rattle.cfi_rules.specs.Rules.{admits, asks, gate_of, is_borne, is_label, site_of}
 use Rattle.cfi_rules.specs.Sound.{Bears, IsSound, StartsIn, target_of}
 use Rattle.cfi_rules.specs.Split.{unit_in}
 use Rattle.cfi_rules.proofs.RuleFacts.{gate_is, not_false}
@@ -243,24 +243,24 @@ bears us Second a label borne =
     (parts.0, gate_is (unit_in us 0x40000040 (a + 4)) label parts.1)
 
 -- so units of which these tests hold are sound
-pub sound_by : (version : ℕ) (us : List U.Unit) (classes : List GraphLine) → AllFit 0x40000040 us → AllAhead 0x40000040 us → StartsIn version_1 us 0x40000040 →
-    all_from (λ a. is_of_version version) 0x40000040 us ≡ true → all_from (is_right classes) 0x40000040 us ≡ true → list_all is_class classes ≡ true →
-    list_all (λ line. all_borne us (class_in line)) classes ≡ true → last_or None us ≡ Some V.Stop → IsSound version_1 version 0x40000040 us classes
-sound_by version us classes fit ahead begun of_version right are_classes borne ends =
-    let right_there : (a : ℕ) (u : U.Unit) → unit_in us 0x40000040 a ≡ Some u → is_right classes a u ≡ true =
-    λ a u here. each_in (is_right classes) us 0x40000040 a u right here in
+pub sound_by : (version : ℕ) (us : List U.Unit) (heads : List GraphLine) → AllFit 0x40000040 us → AllAhead 0x40000040 us → StartsIn version_1 us 0x40000040 →
+    all_from (λ a. admits version (calls_in heads)) 0x40000040 us ≡ true → all_from (is_right heads) 0x40000040 us ≡ true → list_all is_head heads ≡ true →
+    list_all (λ line. all_borne us (class_in line)) heads ≡ true → last_or None us ≡ Some V.Stop → IsSound version_1 version 0x40000040 us heads
+sound_by version us heads fit ahead begun admitted right are_heads borne ends =
+    let right_there : (a : ℕ) (u : U.Unit) → unit_in us 0x40000040 a ≡ Some u → is_right heads a u ≡ true =
+    λ a u here. each_in (is_right heads) us 0x40000040 a u right here in
     record {
       fit = fit;
       ahead = ahead;
-      of_version = λ a u here. each_in (λ b. is_of_version version) us 0x40000040 a u of_version here;
+      admitted = λ a u here. each_in (λ b. admits version (calls_in heads)) us 0x40000040 a u admitted here;
       entry_reached = refl;
       entry_starts = begun;
-      targets = λ a t u here leads. absurd (no_transfer classes a u t (right_there a u here) leads);
-      classes_are = are_classes;
-      labels = λ a u asked here is. label_known classes a u asked (right_there a u here) is;
+      targets = λ a t u here leads. absurd (no_transfer heads a u t (right_there a u here) leads);
+      heads_are = are_heads;
+      labels = λ a u asked here is. label_known heads a u asked (right_there a u here) is;
       gates = λ k a class is among. bears us (read_of class.sort) a class.label
-          (each_among (λ b. borne_in us (read_of class.sort) b class.label) class.targets a (each_class us classes k class borne is) among);
-      astray = λ l a class here is. listed classes l a class (right_there a (V.Gate l) here) is;
+          (each_among (λ b. borne_in us (read_of class.sort) b class.label) class.targets a (each_class us heads k class borne is) among);
+      astray = λ l a class here is. listed heads l a class (right_there a (V.Gate l) here) is;
       ends = ends;
     }
 

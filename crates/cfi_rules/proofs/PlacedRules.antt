@@ -14,7 +14,7 @@ use Rattle.cfi_unit.specs.declared.unit.Unit as U
 use Rattle.cfi_unit.specs.declared.unit.Unit.TheVariants as V
 use Rattle.cfi_unit.specs.declared.place.Place.{Place}
 use Rattle.cfi_unit.specs.declared.place.Place.TheVariants.{Handler as handler, Opening as opening, Closing as closing, Body as body}
-use Rattle.cfi_graph.specs.Graph.{ClassLine, GraphParts}
+use Rattle.cfi_graph.specs.Graph.{ClassLine, GraphParts, calls_in}
 use Rattle.cfi_unit.specs.declared.target_word.TargetWord.{TargetWord}
 use Rattle.cfi_unit.specs.declared.target_word.TargetWord.TheVariants.{First, Second}
 use Rattle.cfi_unit.specs.Prologue.{OPENING}
@@ -22,14 +22,14 @@ use Rattle.cfi_unit.specs.Split.{IsSplit}
 use Rattle.cfi_unit.specs.UnitWords.{word_count}
 use Rattle.cfi_rules.specs.Lines.{class_with, holds_of, if_serves, is_beside, is_word_of, line_at, read_of, targets_for}
 use Rattle.cfi_rules.specs.Placed.{code_from, line_of, lines_from, placed_lines}
-use Rattle.cfi_rules.specs.Rules.{Holds, asks, call_of, edge_of, fails_prologue, gate_label, gate_of, has_unit, is_astray, is_bad_end, is_borne, is_call_to, is_edge_to, is_label, is_lone_site, is_of_version, is_site_with, is_stop, is_unused, site_of}
+use Rattle.cfi_rules.specs.Rules.{Holds, admits, asks, call_of, edge_of, fails_prologue, gate_label, gate_of, has_unit, is_astray, is_bad_end, is_borne, is_call_to, is_edge_to, is_label, is_lone_site, is_site_with, is_stop, is_unused, site_of}
 use Rattle.cfi_rules.specs.Sound.{Bears, IsSound, StartsIn, target_of}
 use Rattle.cfi_rules.specs.Split.{entry_of, is_handler, is_start, place_at, unit_at, unit_in, unit_starts, unit_words}
 use Rattle.cfi_rules.specs.declared.asks.Asks.{Asks}
 use Rattle.cfi_rules.specs.declared.reject.Rule.{Rule}
 use Rattle.cfi_rules.specs.declared.reject.Rule.TheVariants as R
 use Rattle.cfi_unit.proofs.Counts.{some_word}
-use Rattle.cfi_rules.proofs.PlacedLines.{class_before, gates_stand, line_in, line_past, no_class, none_lacks}
+use Rattle.cfi_rules.proofs.PlacedLines.{calls_before, class_before, gates_stand, line_in, line_past, no_class, none_lacks}
 use Rattle.cfi_rules.proofs.Places.{not_handler}
 use Rattle.cfi_rules.proofs.PlacedSplit.{reaches_end, start_is, unit_is}
 use Rattle.cfi_rules.proofs.UnitIn.{in_here, in_later, length-code_from, lies}
@@ -108,9 +108,9 @@ pub record IsPlaced (p : Profile) (words : List ℕ) (entry : ℕ) (us : List U.
   pub split : IsSplit (unit_words p words) p.units_from us
   pub size : CODE_START + 4 * length words ≡ p.units_from + 4 * length (code_from p.units_from us)
 
-module _ (p : Profile) (words : List ℕ) (version entry : ℕ) (us : List U.Unit) (classes : List GraphLine) (code : ℕ) (placed : IsPlaced p words entry us) (sound : IsSound p version entry us classes) where
+module _ (p : Profile) (words : List ℕ) (version entry : ℕ) (us : List U.Unit) (heads : List GraphLine) (code : ℕ) (placed : IsPlaced p words entry us) (sound : IsSound p version entry us heads) where
   abbrev the_lines : List GraphLine
-  the_lines = placed_lines p entry us classes
+  the_lines = placed_lines p entry us heads
 
   abbrev the_graph : GraphParts
   the_graph = record { version = version; code = code; lines = the_lines }
@@ -152,20 +152,23 @@ module _ (p : Profile) (words : List ℕ) (version entry : ℕ) (us : List U.Uni
   line_there : (a : ℕ) → a ≢ OPENING → line_at the_lines a ≡ option_and_then (line_of a) (unit_in us p.units_from a)
   unfolding line_at
   line_there a other =
-      line_past classes (Call OPENING entry ∷ lines_from p.units_from us) a sound.classes_are
+      line_past heads (Call OPENING entry ∷ lines_from p.units_from us) a sound.heads_are
       ∙ rw (ne_eqb OPENING a (λ e. other (sym e))) (line_in us p.units_from a)
 
   line_opening : line_at the_lines OPENING ≡ Some (Call OPENING entry)
   unfolding line_at
-  line_opening = line_past classes (Call OPENING entry ∷ lines_from p.units_from us) OPENING sound.classes_are
+  line_opening = line_past heads (Call OPENING entry ∷ lines_from p.units_from us) OPENING sound.heads_are
 
-  class_is : (l : ℕ) → class_with the_lines l ≡ class_with classes l
+  class_is : (l : ℕ) → class_with the_lines l ≡ class_with heads l
   unfolding class_with
-  class_is l = class_before classes (Call OPENING entry ∷ lines_from p.units_from us) l (no_class us p.units_from l)
+  class_is l = class_before heads (Call OPENING entry ∷ lines_from p.units_from us) l (no_class us p.units_from l)
 
-  targets_are : (kind : SiteKind) (which : TargetWord) (l : ℕ) → targets_for the_lines kind which l ≡ targets_for classes kind which l
+  targets_are : (kind : SiteKind) (which : TargetWord) (l : ℕ) → targets_for the_lines kind which l ≡ targets_for heads kind which l
   unfolding targets_for
   targets_are kind which l = ap (option_and_then (if_serves kind which)) (class_is l)
+
+  calls_are : calls_in the_lines ≡ calls_in heads
+  calls_are = calls_before heads (Call OPENING entry ∷ lines_from p.units_from us) refl
 
   -- what stands at an address, and its line
   data Spot (a : ℕ) : Type 0 where
@@ -235,7 +238,7 @@ module _ (p : Profile) (words : List ℕ) (version entry : ℕ) (us : List U.Uni
 
   gate_holds : Holds p words the_graph R.Gate
   gate_holds a =
-      gates_stand classes (Call OPENING entry ∷ lines_from p.units_from us) a (has_unit p words) (gate_label p words)
+      gates_stand heads (Call OPENING entry ∷ lines_from p.units_from us) a (has_unit p words) (gate_label p words)
       (λ k class is among. borne (read_of class.sort) a class.label (sound.gates k a class is among)) (none_lacks us p.units_from a (has_unit p words) (gate_label p words))
 
   astray_holds : Holds p words the_graph R.Astray
@@ -250,12 +253,12 @@ module _ (p : Profile) (words : List ℕ) (version entry : ℕ) (us : List U.Uni
   unit_holds a =
       let all = reaches_end p low placed.round words us placed.split in
       or_from ((a == p.units_from + 4 * length (unit_starts p words)) && nat_lt (length (unit_starts p words)) (length (unit_words p words)))
-      (holds_of (unit_at p words a) (λ (u : U.Unit). not (is_of_version version u)))
+      (holds_of (unit_at p words a) (λ (u : U.Unit). not (admits version (calls_in the_lines) u)))
       (and_right (a == p.units_from + 4 * length (unit_starts p words)) (nat_lt (length (unit_starts p words)) (length (unit_words p words)))
       (le-ltb (length (unit_starts p words)) (length (unit_words p words)) (omega (arith, all))))
       (elim (cases_Option (unit_in us p.units_from a)) [
         | inl none ↦ rw (unit a ∙ none) refl
-        | inr (u, e) ↦ rw (unit a ∙ e) (ap not (sound.of_version a u e))
+        | inr (u, e) ↦ rw (unit a ∙ e) (ap not (ap (λ calls. admits version calls u) calls_are ∙ sound.admitted a u e))
       ])
 
   -- the code has a unit

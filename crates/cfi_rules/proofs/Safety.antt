@@ -1,5 +1,5 @@
 -- A well-formed pair is safe: by induction on the steps, each step keeps what is known of all harts,
--- and goes along the graph.
+-- and goes along the graph. What comes after a step may be any statement that follows from what is known.
 use Rattle.std.proofs.Common.{◌≡◌, ℕ, ◌+◌, ◌≤◌, ◌<◌, ◌⊎◌, inl, inr, List, [], ◌∷◌, length, refl, sym, ap, subst, ◌∙◌, Option, Some, None, arith}
 use Rattle.std.specs.Prelude.{◌==◌, if◌then◌else◌}
 use Rattle.std.specs.List.{AllByRecursion}
@@ -83,6 +83,7 @@ module _ (p : Profile) where
     ended_unit (V.System S.Ecall) word how = exits (body (V.System S.Ecall)) pc turn rest stopped tt how.0 how.1 left
     ended_unit (V.System S.Ebreak) word how =
         breaks (body (V.System S.Ebreak)) at pc turn rest stopped tt (only_word (body (V.System S.Ebreak)) at pc refl word) how left
+    ended_unit (V.Guarded ns) word how = exits (body (V.Guarded ns)) pc turn rest stopped tt how.0 how.1 left
     ended_unit (V.Stores rs1 imm members) word how = absurd how
     ended_unit (V.Call target) word how = absurd how
     ended_unit (V.Ijump which rs1 imm label) word how = absurd how
@@ -96,11 +97,11 @@ module _ (p : Profile) where
     ended (body unit) word how = ended_unit unit word how
 
 module _ (p : Profile) (profile : IsProfile p) (image : Contents) (graph : GraphParts) (bytes : AreBytes image) (formed : IsWellFormed p image graph) where
-  abbrev the_words : List ℕ
+  abbrev pub the_words : List ℕ
   the_words = code_words image.code
 
   -- what is known of a hart, and of its own part of the shadow stack, between two steps
-  data Now (part : ℕ) (before : Option Walk) (h : Hart) (m : Memory) : Type 0 where
+  pub data Now (part : ℕ) (before : Option Walk) (h : Hart) (m : Memory) : Type 0 where
     starting : before ≡ None → h.pc ≡ OPENING → part ≡ part_of (h.regs 10) → Now part before h m
     within : (w : Walk) (place : Place) → before ≡ Some w → place_at p the_words w.at ≡ Some place →
         Stage p profile image graph bytes formed place w.pending → w.at < h.pc → Holds part m w.pending →
@@ -118,7 +119,7 @@ module _ (p : Profile) (profile : IsProfile p) (image : Contents) (graph : Graph
       let round = here.round in let high = here.high in let whole = length-code_words image.code bytes.size.words in let most = bytes.size.most in
       (omega arith, omega arith)
 
-  first_call : (place : Place) (pending : List ℕ) → Stage p profile image graph bytes formed place pending → IsFirstCall p profile image graph bytes formed place pending
+  pub first_call : (place : Place) (pending : List ℕ) → Stage p profile image graph bytes formed place pending → IsFirstCall p profile image graph bytes formed place pending
   first_call handler pending stage = tt
   first_call (opening entry) pending stage = stage
   first_call closing pending stage = tt
@@ -163,14 +164,27 @@ module _ (p : Profile) (profile : IsProfile p) (image : Contents) (graph : Graph
   shadow_stands part (body unit) at pending h m facts e held (inr low) =
       let layout = laid_out p profile in let from = facts.low in absurd (omega arith)
 
+  -- where something starts, and the hart is ready for it, the hart is at its first word
+  pub begins : (part : ℕ) (place : Place) (pending : List ℕ) (h : Hart) (m : Memory) → place_at p the_words h.pc ≡ Some place → Stage p profile image graph bytes formed place pending →
+      (h.pc ≡ OPENING → part ≡ part_of (h.regs 10)) → (h.regs 3 ≡ slot part (length pending)) ⊎ (h.pc ≤ OPENING) →
+      InPlace p part (loaded image) place h.pc pending h.regs h m
+  begins part place pending h m is stage own x3 =
+      let facts = place_facts p profile image graph bytes formed h.pc place is in
+      let may = may_stand p profile image graph bytes formed place h.pc pending facts (first_call place pending stage) in
+      place_begins part (loaded image) h.pc h m p place pending may (ready_of part place h.pc pending h facts stage refl own x3) refl
+
+  pub past : {A : Type 0} {pc : ℕ} → A ⊎ (pc < OPENING) → A ⊎ (pc ≤ OPENING)
+  past (inl x3) = inl x3
+  past (inr low) = inr (omega arith)
+
   module _ (harts : ℕ) (may_run : MayRun p harts) where
     -- what is known of all harts between two steps
-    record Known (walks : Walks) (hs : Harts) (s : Shared) : Type 0 where
-      going : last_exit s.events ≡ None
-      code : IsCodeOf (loaded image) s.memory
-      each : (k : ℕ) → k < harts → Now (part_of k) (walks k) (hs k) s.memory
+    pub record Known (walks : Walks) (hs : Harts) (s : Shared) : Type 0 where
+      pub going : last_exit s.events ≡ None
+      pub code : IsCodeOf (loaded image) s.memory
+      pub each : (k : ℕ) → k < harts → Now (part_of k) (walks k) (hs k) s.memory
 
-    known_disturbed : (walks : Walks) (hs : Harts) (s : Shared) (cs : List ByteChange) → AllByRecursion IsDataChange cs → Known walks hs s → Known walks hs (disturbed s cs)
+    pub known_disturbed : (walks : Walks) (hs : Harts) (s : Shared) (cs : List ByteChange) → AllByRecursion IsDataChange cs → Known walks hs s → Known walks hs (disturbed s cs)
     known_disturbed walks hs s cs low known = record {
       going = known.going;
       code = λ k from to. changed_above s.memory cs low k (omega arith) ∙ known.code k from to;
@@ -182,7 +196,7 @@ module _ (p : Profile) (profile : IsProfile p) (image : Contents) (graph : Graph
     Along walks hs s steps = RunsAlong p image the_words graph.lines walks hs s steps
 
     -- one step of hart `k`, and then the rest of the run
-    module _ (rest : List HartStep) (go_on : (walks : Walks) (hs : Harts) (s : Shared) → Known walks hs s → Along walks hs s rest)
+    module _ (Q : Walks → Harts → Shared → Type 0) (go_on : (walks : Walks) (hs : Harts) (s : Shared) → Known walks hs s → Q walks hs s)
         (walks : Walks) (hs : Harts) (k : ℕ) (below : k < harts) (s : Shared) (known : Known walks hs s) where
       -- the others are where they were, and their parts are as before
       known_after : (w : Walk) (after : After) (newer : List ℕ) → Context (part_of k) (loaded image) s.memory newer after.shared →
@@ -199,11 +213,11 @@ module _ (p : Profile) (profile : IsProfile p) (image : Contents) (graph : Graph
         ];
       }
 
-      abbrev Rest : Walk → After → Type 0
-      Rest w after = Along (with_walk walks k w) (with_hart hs k after.hart) after.shared rest
+      abbrev pub Rest : Walk → After → Type 0
+      Rest w after = Q (with_walk walks k w) (with_hart hs k after.hart) after.shared
 
       -- the memory that a step leaves has the image's code
-      abbrev Left : After → Type 0
+      abbrev pub Left : After → Type 0
       Left after = IsCodeOf (loaded image) after.shared.memory
 
       record Stepped (w : Walk) : Type 0 where
@@ -239,11 +253,11 @@ module _ (p : Profile) (profile : IsProfile p) (image : Contents) (graph : Graph
           let e = follows w place (hs k).pc (step p (hs k) s) is stage word law in
           record { begun = (place, is, word, e.may, known.code); on = e.on }
 
-      abbrev Goes : Walk → Type 0
+      abbrev pub Goes : Walk → Type 0
       Goes w = GoesOn p (part_of k) the_words graph.lines (walks k) (place_at p the_words (hs k).pc) (hs k) s.memory w
 
       -- what is owed of the step
-      abbrev Owed : Type 0
+      abbrev pub Owed : Type 0
       Owed = (w : Walk) × Goes w × Begun p image the_words w (hs k) s.memory (step p (hs k) s).turn
           × OnRan (step p (hs k) s).turn (Rest w (step p (hs k) s)) (Left (step p (hs k) s))
 
@@ -256,8 +270,7 @@ module _ (p : Profile) (profile : IsProfile p) (image : Contents) (graph : Graph
           ((hs k).regs 3 ≡ slot (part_of k) (length pending)) ⊎ ((hs k).pc ≤ OPENING) → Arrives p the_words graph.lines (walks k) (hs k).pc pending → Owed
       enter place pending is stage held own x3 arrives =
           let facts = place_facts p profile image graph bytes formed (hs k).pc place is in
-          let may = may_stand p profile image graph bytes formed place (hs k).pc pending facts (first_call place pending stage) in
-          let inside = place_begins (part_of k) (loaded image) (hs k).pc (hs k) s.memory p place pending may (ready_of (part_of k) place (hs k).pc pending (hs k) facts stage refl own x3) refl in
+          let inside = begins (part_of k) place pending (hs k) s.memory is stage own x3 in
           let on = step_on (walk_at pending) place is stage held inside in
           let goes : GoesOn p (part_of k) the_words graph.lines (walks k) (Some place) (hs k) s.memory (walk_at pending) =
           (refl, refl, arrives, shadow_stands (part_of k) place (hs k).pc pending (hs k) s.memory facts refl held x3) in (
@@ -267,11 +280,7 @@ module _ (p : Profile) (profile : IsProfile p) (image : Contents) (graph : Graph
             on.on,
           )
 
-      past : {A : Type 0} {pc : ℕ} → A ⊎ (pc < OPENING) → A ⊎ (pc ≤ OPENING)
-      past (inl x3) = inl x3
-      past (inr low) = inr (omega arith)
-
-      goes_on : Now (part_of k) (walks k) (hs k) s.memory → Owed
+      pub goes_on : Now (part_of k) (walks k) (hs k) s.memory → Owed
       goes_on (starting none e own) =
           enter (opening (prologue p profile image graph bytes formed).0) [] (ap (place_at p the_words) e ∙ at_opening p profile image graph bytes formed) refl tt (λ o. own)
           (inr (omega arith)) (subst (λ (b : Option Walk). Arrives p the_words graph.lines b (hs k).pc []) (sym none) (e, refl))
@@ -296,9 +305,9 @@ module _ (p : Profile) (profile : IsProfile p) (image : Contents) (graph : Graph
     runs [] low walks hs s known = known.code
     runs (t ∷ rest) low walks hs s known =
         let now = known_disturbed walks hs s t.changes low.0.changes known in
-        goes_on rest (runs rest low.1) walks hs t.hart low.0.hart (disturbed s t.changes) now (now.each t.hart low.0.hart)
+        goes_on (λ walks hs s. Along walks hs s rest) (runs rest low.1) walks hs t.hart low.0.hart (disturbed s t.changes) now (now.each t.hart low.0.hart)
 
-    start_known : (input : List ℕ) → Known (λ k. None) start_hart (start_shared image input)
+    pub start_known : (input : List ℕ) → Known (λ k. None) start_hart (start_shared image input)
     unfolding last_exit
     start_known input = record { going = refl; code = λ k low high. refl; each = λ k below. starting refl refl refl }
 

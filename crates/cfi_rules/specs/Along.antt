@@ -1,10 +1,11 @@
 -- A run along a graph, and safety. The walk of a hart is the list of the pcs of its begun instructions
 -- at which something starts: the opening, the closing, a handler or a unit.
-use Rattle.std.specs.Prelude.{◌≡◌, ◌≢◌, ℕ, ◌<◌, ◌⊎◌, ◌==◌, List, [], ◌∷◌, length, Option, Some, None, if◌then◌else◌}
+use Rattle.std.specs.Prelude.{◌≡◌, ◌≢◌, ℕ, ◌<◌, ◌⊎◌, ◌==◌, true, false, List, [], ◌∷◌, length, Option, Some, None, if◌then◌else◌}
 use Rattle.std.specs.List.{AllByRecursion}
 use Rattle.rv_word.specs.MemoryMap.{MayRun, Profile, part_of}
 use Rattle.rv_word.specs.Image.{Contents}
 use Rattle.rv_word.specs.Memory.{Memory, loaded}
+use Rattle.rv_word.specs.Numbers.{is_listed}
 use Rattle.rv_instr.specs.Registers.{Registers, get_reg}
 use Rattle.rv_code.specs.Run.{HartStep, IsStepOf, disturbed}
 use Rattle.rv_code.specs.State.{Hart, Harts, Shared, start_hart, start_shared, with_hart}
@@ -25,7 +26,7 @@ use Rattle.cfi_unit.specs.Prologue.{OPENING}
 use Rattle.cfi_unit.specs.Context.{IsCodeOf}
 use Rattle.cfi_unit.specs.Leads.{destination}
 use Rattle.cfi_unit.specs.Shadow.{slot, MOST_PENDING, Holds}
-use Rattle.cfi_unit.specs.UnitWords.{BAD_TARGET, BAD_RETURN, DEEP}
+use Rattle.cfi_unit.specs.UnitWords.{BAD_TARGET, BAD_RETURN, DEEP, after_unit}
 use Rattle.cfi_rules.specs.Split.{code_words, place_at}
 use Rattle.cfi_rules.specs.Walk.{InClass, Goes}
 
@@ -52,12 +53,17 @@ abbrev pub ReturnChooses : List ℕ → ℕ → ℕ → Type 0
 ReturnChooses [] x1 v = v ≡ BAD_RETURN
 ReturnChooses (site ∷ pending) x1 v = ((x1 ≡ site) × (v ≡ site)) ⊎ ((x1 ≢ site) × (v ≡ BAD_RETURN))
 
--- the registers decide where a computed transfer or a return goes
+-- and from a guarded system call: the handler exactly where x17 is none of its numbers
+abbrev pub GuardChooses : List ℕ → ℕ → ℕ → ℕ → Type 0
+GuardChooses ns x17 following v = ((is_listed x17 ns ≡ true) × (v ≡ following)) ⊎ ((is_listed x17 ns ≡ false) × (v ≡ BAD_TARGET))
+
+-- the registers decide where a computed transfer, a return or a guarded system call goes
 abbrev pub Chooses : List GraphLine → Place → Walk → ℕ → Type 0
 Chooses lines (body (V.Ijump which rs1 imm label)) w v = JumpChooses lines which label (destination w.regs rs1 imm) v
 Chooses lines (body (V.Icall rs1 imm label)) w v =
     ComputedCallChooses lines label (length w.pending) (destination w.regs rs1 imm) v
 Chooses lines (body V.Return) w v = ReturnChooses w.pending (get_reg w.regs 1) v
+Chooses lines (body (V.Guarded ns)) w v = GuardChooses ns (get_reg w.regs 17) (after_unit (V.Guarded ns) w.at) v
 Chooses lines other w v = Unit {0}
 
 -- the shadow stack, where a unit or the closing starts: x3 points past the newest slot, and each slot
@@ -84,11 +90,12 @@ GoesOn p part words lines before (Some place) h m w =
     × Arrives p words lines before h.pc w.pending
     × ShadowStands part place h.pc h m w.pending
 
--- the stops that may come at each place: an exit only at the closing and at an `ecall`, a break only at
--- a handler and at an `ebreak`, a fault only at a plain instruction, and no other stop
+-- the stops that may come at each place: an exit only at the closing and at an `ecall`, guarded or not, a
+-- break only at a handler and at an `ebreak`, a fault only at a plain instruction, and no other stop
 abbrev pub MayExit : Place → Type 0
 MayExit closing = Unit {0}
 MayExit (body (V.System S.Ecall)) = Unit {0}
+MayExit (body (V.Guarded ns)) = Unit {0}
 MayExit other = ⊥
 
 abbrev pub MayBreak : Place → Type 0

@@ -9,5 +9,6 @@ pub mod Walks
 pub mod Trails
 pub mod Unsafe
 pub mod Laws
+pub mod Listed
 pub mod PlacedLaws
 pub mod RejectText

@@ -1,11 +1,12 @@
 -- Units placed one after another from an address on: their words, and the lines of a graph that belong
 -- to them. A whole code is the prologue, with its call of the entry, and then units.
-use Rattle.std.specs.Prelude.{ℕ, IsTrue, List, [], ◌∷◌, ◌++◌, map, Option, Some, None}
+use Rattle.std.specs.Prelude.{ℕ, Bool, true, IsTrue, List, [], ◌∷◌, ◌++◌, map, Option, Some, None}
 use Rattle.rv_word.specs.MemoryMap.{Profile}
 use Rattle.rv_code.specs.Encode.{code_of}
 use Rattle.cfi_graph.specs.declared.line.GraphLine.{GraphLine}
-use Rattle.cfi_graph.specs.declared.line.GraphLine.TheVariants.{Site, Edge, Call}
+use Rattle.cfi_graph.specs.declared.line.GraphLine.TheVariants.{SystemCalls, Site, Edge, Call}
 use Rattle.cfi_graph.specs.declared.line.SiteKind.TheVariants as K
+use Rattle.cfi_graph.specs.Graph.{is_class}
 use Rattle.cfi_unit.specs.declared.unit.Unit as U
 use Rattle.cfi_unit.specs.declared.unit.Unit.TheVariants as V
 use Rattle.cfi_unit.specs.Prologue.{OPENING, prologue_instrs}
@@ -51,6 +52,11 @@ lines_from at (unit ∷ units) = with_line (line_of at unit) (lines_from (after_
 abbrev pub placed_code : Profile → ℕ → List U.Unit → List ℕ
 placed_code p entry units = map code_of (prologue_instrs p entry) ++ code_from p.units_from units
 
--- and its lines: those of classes, the opening's call, those of the units
+-- the lines that come before those with an address: that of system calls, and those of classes
+abbrev pub is_head : GraphLine → Bool
+is_head (SystemCalls ns) = true
+is_head line = is_class line
+
+-- and its lines: those without an address, the opening's call, those of the units
 abbrev pub placed_lines : Profile → ℕ → List U.Unit → List GraphLine → List GraphLine
-placed_lines p entry units classes = classes ++ (Call OPENING entry ∷ lines_from p.units_from units)
+placed_lines p entry units heads = heads ++ (Call OPENING entry ∷ lines_from p.units_from units)

@@ -37,17 +37,17 @@ PlacedEntry =
     (p : Profile) (entry : ℕ) (units : List U.Unit) → IsProfile p → Reaches p.opening_call entry →
     entry_of p (placed_code p entry units) ≡ Some entry
 
--- the lines of sound units and classes are a graph's of this code, where those of the classes alone are
+-- the lines of sound units and heads are a graph's of this code, where the heads alone are
 abbrev pub PlacedIsGraph : Type 0
 PlacedIsGraph =
-    (p : Profile) (version entry : ℕ) (units : List U.Unit) (classes : List GraphLine) → IsProfile p → IsSound p version entry units classes →
-    IsGraph (record { version = version; code = 4 * length (placed_code p entry units); lines = classes }) →
-    IsGraph (record { version = version; code = 4 * length (placed_code p entry units); lines = placed_lines p entry units classes })
+    (p : Profile) (version entry : ℕ) (units : List U.Unit) (heads : List GraphLine) → IsProfile p → IsSound p version entry units heads →
+    IsGraph (record { version = version; code = 4 * length (placed_code p entry units); lines = heads }) →
+    IsGraph (record { version = version; code = 4 * length (placed_code p entry units); lines = placed_lines p entry units heads })
 
 -- a code of placed units that are sound, with their lines, is well formed
 abbrev pub PlacedIsWellFormed : Type 0
 PlacedIsWellFormed =
-    (p : Profile) (entry : ℕ) (units : List U.Unit) (classes : List GraphLine) (image : Contents) (graph : GraphParts) →
-    IsProfile p → IsSound p graph.version entry units classes → code_words image.code ≡ placed_code p entry units →
-    graph.lines ≡ placed_lines p entry units classes → graph.code ≡ length image.code →
+    (p : Profile) (entry : ℕ) (units : List U.Unit) (heads : List GraphLine) (image : Contents) (graph : GraphParts) →
+    IsProfile p → IsSound p graph.version entry units heads → code_words image.code ≡ placed_code p entry units →
+    graph.lines ≡ placed_lines p entry units heads → graph.code ≡ length image.code →
     IsWellFormed p image graph

@@ -1,6 +1,6 @@
 -- The ten rules of a well-formed pair of an image and a graph, and the first that fails. Each rule
 -- but Length is a test of an address: whether the rule fails there.
-use Rattle.std.specs.Prelude.{◌≡◌, ◌≢◌, ℕ, ◌+◌, ◌-◌, ◌*◌, ◌/◌, ◌%◌, ◌<◌, ◌==◌, nat_lt, nat_le, ◌&&◌, ◌||◌, not, Bool, true, false, List, length, map, slice_get, slice_index, Option, Some, None, is_some, option_and_then, if◌then◌else◌}
+use Rattle.std.specs.Prelude.{◌≡◌, ◌≢◌, ℕ, ◌+◌, ◌-◌, ◌*◌, ◌/◌, ◌%◌, ◌<◌, ◌==◌, nat_lt, nat_le, ◌&&◌, ◌||◌, not, Bool, true, false, List, [], ◌∷◌, length, map, slice_get, slice_index, Option, Some, None, is_some, option_and_then, if◌then◌else◌}
 use Rattle.std.specs.List.{list_any}
 use Rattle.rv_word.specs.MemoryMap.{CODE_START, Profile, lies_within}
 use Rattle.rv_word.specs.Image.{Contents}
@@ -12,9 +12,10 @@ use Rattle.cfi_graph.specs.declared.line.GraphLine.{GraphLine}
 use Rattle.cfi_graph.specs.declared.line.GraphLine.TheVariants.{Site, Edge, Call}
 use Rattle.cfi_graph.specs.declared.line.SiteKind.{SiteKind}
 use Rattle.cfi_graph.specs.declared.line.SiteKind.TheVariants as K
-use Rattle.cfi_graph.specs.Graph.{GraphParts, class_in}
+use Rattle.cfi_graph.specs.Graph.{GraphParts, calls_in, class_in}
 use Rattle.cfi_unit.specs.declared.unit.Unit as U
 use Rattle.cfi_unit.specs.declared.unit.Unit.TheVariants as V
+use Rattle.cfi_unit.specs.declared.unit.SystemOp.TheVariants as S
 use Rattle.cfi_unit.specs.declared.place.Place.{Place}
 use Rattle.cfi_unit.specs.declared.place.Place.TheVariants.{Opening as opening, Body as body}
 use Rattle.cfi_unit.specs.declared.target_word.TargetWord.{TargetWord}
@@ -119,16 +120,33 @@ abbrev pub is_of_version : ℕ → U.Unit → Bool
 is_of_version version (V.Ijump which rs1 imm label) = same_word which (jump_word version)
 is_of_version version other = true
 
--- a graph's code may have this unit
-abbrev pub admits : GraphParts → U.Unit → Bool
-admits graph unit = is_of_version graph.version unit
+-- the same numbers in the same order
+unfoldable pub are_same : List ℕ → List ℕ → Bool
+are_same [] [] = true
+are_same (n ∷ ns) (m ∷ ms) = (n == m) && are_same ns ms
+are_same ns ms = false
+
+-- with a list of system calls each `ecall` is guarded by just its numbers; without a list none is
+abbrev pub may_call : Option (List ℕ) → U.Unit → Bool
+may_call None (V.System S.Ecall) = true
+may_call None (V.Guarded ns) = false
+may_call (Some calls) (V.System S.Ecall) = false
+may_call (Some calls) (V.Guarded ns) = are_same ns calls
+may_call calls other = true
+
+-- code whose graph has this version and this list, or no list, may have a unit
+abbrev pub admits : ℕ → Option (List ℕ) → U.Unit → Bool
+admits version calls unit = is_of_version version unit && may_call calls unit
+
+abbrev pub admitted_in : GraphParts → U.Unit → Bool
+admitted_in graph unit = admits graph.version (calls_in graph.lines) unit
 
 -- Unit: the split ends here, before the code does, or the graph does not admit the unit here
 abbrev pub fails_unit : Profile → List ℕ → GraphParts → ℕ → Bool
 fails_unit p words graph a =
     ((a == p.units_from + 4 * length (unit_starts p words))
     && nat_lt (length (unit_starts p words)) (length (unit_words p words)))
-    || holds_of (unit_at p words a) (λ unit. not (admits graph unit))
+    || holds_of (unit_at p words a) (λ unit. not (admitted_in graph unit))
 
 -- Target: a direct transfer leads to no unit's start
 abbrev pub fails_target : Profile → List ℕ → ℕ → Bool

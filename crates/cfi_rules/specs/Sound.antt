@@ -1,12 +1,12 @@
--- When units and classes are sound, of a graph's version: units fit one after another and are of the
--- version, transfers lead to units, computed ones ask for a class's label, just the gates with a class's
--- label are at such a word of its targets, and the last unit is a stop.
+-- When units are sound with the lines without an address of a graph of a version: units fit one after
+-- another and are admitted, transfers lead to units, computed ones ask for a class's label, just the gates
+-- with a class's label are at such a word of its targets, and the last unit is a stop.
 use Rattle.std.specs.Prelude.{◌≡◌, ℕ, ◌+◌, IsTrue, List, slice_get, Option, Some, None, is_some, option_and_then}
 use Rattle.std.specs.List.{last_or, list_all}
 use Rattle.std.specs.Option.{option_or}
 use Rattle.rv_word.specs.MemoryMap.{Profile}
 use Rattle.cfi_graph.specs.declared.line.GraphLine.{GraphLine}
-use Rattle.cfi_graph.specs.Graph.{ClassLine, class_in, is_class}
+use Rattle.cfi_graph.specs.Graph.{ClassLine, calls_in, class_in}
 use Rattle.cfi_unit.specs.declared.unit.Unit as U
 use Rattle.cfi_unit.specs.declared.unit.Unit.TheVariants as V
 use Rattle.cfi_unit.specs.declared.place.Place.TheVariants.{Body as body}
@@ -15,8 +15,8 @@ use Rattle.cfi_unit.specs.declared.target_word.TargetWord.TheVariants.{First, Se
 use Rattle.cfi_unit.specs.UnitWords.{Reaches}
 use Rattle.cfi_rules.specs.declared.asks.Asks.{Asks}
 use Rattle.cfi_rules.specs.Lines.{class_with, targets_for, is_among, is_word_of, read_of}
-use Rattle.cfi_rules.specs.Placed.{AllAhead, AllFit}
-use Rattle.cfi_rules.specs.Rules.{call_of, edge_of, is_of_version, site_of}
+use Rattle.cfi_rules.specs.Placed.{AllAhead, AllFit, is_head}
+use Rattle.cfi_rules.specs.Rules.{admits, call_of, edge_of, site_of}
 use Rattle.cfi_rules.specs.Split.{unit_in}
 
 -- one of the units starts at an address
@@ -32,24 +32,25 @@ abbrev pub Bears : Profile → List U.Unit → TargetWord → ℕ → ℕ → Ty
 Bears p units First a label = unit_in units p.units_from a ≡ Some (V.Gate label)
 Bears p units Second a label = StartsIn p units a × (unit_in units p.units_from (a + 4) ≡ Some (V.Gate label))
 
-pub record IsSound (p : Profile) (version entry : ℕ) (units : List U.Unit) (classes : List GraphLine) : Type 0 where
-  -- each unit may stand where it does, before those that follow it, and is of the graph's version
+pub record IsSound (p : Profile) (version entry : ℕ) (units : List U.Unit) (heads : List GraphLine) : Type 0 where
+  -- each unit may stand where it does, before those that follow it, and in code of such a graph
   pub fit : AllFit p.units_from units
   pub ahead : AllAhead p.units_from units
-  pub of_version : (a : ℕ) (unit : U.Unit) → unit_in units p.units_from a ≡ Some unit → IsTrue (is_of_version version unit)
+  pub admitted : (a : ℕ) (unit : U.Unit) → unit_in units p.units_from a ≡ Some unit → IsTrue (admits version (calls_in heads) unit)
   -- the opening's call reaches the entry; the entry and each target of a direct transfer are units' starts
   pub entry_reached : Reaches p.opening_call entry
   pub entry_starts : StartsIn p units entry
   pub targets : (a target : ℕ) (unit : U.Unit) → unit_in units p.units_from a ≡ Some unit →
       target_of unit ≡ Some target → StartsIn p units target
-  -- classes have class lines, and a class with its label serves each computed transfer
-  pub classes_are : IsTrue (list_all is_class classes)
+  -- the other lines are of classes and of system calls, and a class with its label serves each computed
+  -- transfer
+  pub heads_are : IsTrue (list_all is_head heads)
   pub labels : (a : ℕ) (unit : U.Unit) (asked : Asks) → unit_in units p.units_from a ≡ Some unit →
-      site_of (body unit) ≡ Some asked → IsTrue (is_some (targets_for classes asked.kind asked.which asked.label))
+      site_of (body unit) ≡ Some asked → IsTrue (is_some (targets_for heads asked.kind asked.which asked.label))
   -- each target of a class bears its label, and each gate with a class's label is at the word of a target
-  pub gates : (k a : ℕ) (class : ClassLine) → option_and_then class_in (slice_get classes k) ≡ Some class →
+  pub gates : (k a : ℕ) (class : ClassLine) → option_and_then class_in (slice_get heads k) ≡ Some class →
       IsTrue (is_among a class.targets) → Bears p units (read_of class.sort) a class.label
   pub astray : (label a : ℕ) (class : ClassLine) → unit_in units p.units_from a ≡ Some (V.Gate label) →
-      class_with classes label ≡ Some class → IsTrue (is_word_of (read_of class.sort) a class.targets)
+      class_with heads label ≡ Some class → IsTrue (is_word_of (read_of class.sort) a class.targets)
   -- the last unit is a stop
   pub ends : last_or None units ≡ Some V.Stop

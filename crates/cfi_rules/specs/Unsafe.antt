@@ -13,6 +13,7 @@ use Rattle.cfi_unit.specs.declared.target_word.TargetWord.TheVariants.{First}
 use Rattle.cfi_unit.specs.Prologue.{prologue_instrs}
 use Rattle.cfi_unit.specs.UnitWords.{after_unit, words_of}
 use Rattle.cfi_rules.specs.Along.{IsSafe}
+use Rattle.cfi_rules.specs.Listed.{IsListed}
 
 -- the bytes of words, the lowest first
 abbrev pub bytes_of : List ℕ → List ℕ
@@ -176,3 +177,32 @@ one_pointer_graph = record { version = 1; code = 0x54; lines = Call START versio
 -- an opening that sets up hart 0 alone: a run of hart 1 shows it
 abbrev pub SharedPartsAreUnsafe : Type 0
 SharedPartsAreUnsafe = IsSafe version_2 one_pointer one_pointer_graph → ⊥
+
+-- a bare system call behind an instruction that brings its number into x17
+abbrev pub calling : ℕ → Contents
+calling number_word = image_with (number_word ∷ 0x00000073 ∷ 0xfb9ff06f ∷ [])
+
+-- with 64, and with 93, which is an exit: only the closing may exit with it where it is not listed
+abbrev pub bare_call : Contents
+bare_call = calling 0x04000893
+
+abbrev pub bare_exit : Contents
+bare_exit = calling 0x05d00893
+
+-- a bare system call that hart 0 passes by
+abbrev pub second_call : Contents
+second_call = record { version = 2; init = []; code = bytes_of (prologue_of_harts ++ 0x00050463 ∷ 0x00000073 ∷ 0xfa9ff06f ∷ []) }
+
+-- a closing that calls with 64; the code is a return to it
+abbrev pub other_closing : Contents
+other_closing = record {
+  version = 1;
+  init = [];
+  code = bytes_of (take 14 prologue ++ 0x04000893 ∷ 0x00000073 ∷ 0xff81bf83 ∷ 0xff818193 ∷ 0x001f8463 ∷ 0xfb9ff06f ∷ 0x000f8067 ∷ 0xfadff06f ∷ []);
+}
+
+pub record BareCallIsNotListed : Type 0 where
+  pub call : IsListed version_1 bare_call (63 ∷ []) → ⊥
+  pub exit : IsListed version_1 bare_exit (63 ∷ []) → ⊥
+  pub second : IsListed version_2 second_call (63 ∷ []) → ⊥
+  pub closing : IsListed version_1 other_closing (63 ∷ []) → ⊥

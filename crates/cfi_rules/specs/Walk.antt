@@ -67,6 +67,7 @@ GoesPast lines (V.Jump target) following pending v after = To target pending v a
 GoesPast lines V.Stop following pending v after = To BAD_TARGET pending v after
 GoesPast lines (V.System S.Ecall) following pending v after = To following pending v after
 GoesPast lines (V.System S.Ebreak) following pending v after = ⊥
+GoesPast lines (V.Guarded ns) following pending v after = To following pending v after ⊎ To BAD_TARGET pending v after
 GoesPast lines (V.Stores rs1 imm members) following pending v after = To following pending v after
 GoesPast lines (V.Call target) following pending v after = CallGoes following target pending v after
 GoesPast lines (V.Ijump which rs1 imm label) following pending v after = JumpGoes lines which label pending v after

@@ -1,12 +1,19 @@
 //! What holds of accepted pairs and of their runs, and of units placed one after another. Each function
 //! states one law; nothing is computed.
 ghost use Rattle.cfi_rules.specs.Laws.{CodeIsSplit, WellFormedIsSafe, SafeStaysInPlace, SafeWalksGraph};
+ghost use Rattle.cfi_rules.specs.Listed.{WellFormedIsListed};
 ghost use Rattle.cfi_rules.specs.PlacedLaws.{PlacedAreSplit, PlacedEntry, PlacedIsGraph, PlacedIsWellFormed, PlacedUnits, SplitUnits};
-ghost use Rattle.cfi_rules.specs.Unsafe.{MiddleIsUnsafe, BareReturnIsUnsafe, BareStoreIsUnsafe, MovedPointerIsUnsafe, WrongStopsAreUnsafe, WrongTransfersAreUnsafe, WrongShadowsAreUnsafe, SharedPartsAreUnsafe};
+ghost use Rattle.cfi_rules.specs.Unsafe.{MiddleIsUnsafe, BareReturnIsUnsafe, BareStoreIsUnsafe, MovedPointerIsUnsafe, WrongStopsAreUnsafe, WrongTransfersAreUnsafe, WrongShadowsAreUnsafe, SharedPartsAreUnsafe, BareCallIsNotListed};
 
 /// An image and a graph that meet the rules are safe, whatever the profile and however many harts run.
 pub fn well_formed_is_safe()
     ensures { WellFormedIsSafe }
+{}
+
+/// An image and a graph with a list of system calls that meet the rules make no others, whatever the
+/// profile and however many harts run.
+pub fn well_formed_is_listed()
+    ensures { WellFormedIsListed }
 {}
 
 /// The code of an image that meets the rules is split into units, and a unit starts at an address
@@ -98,4 +105,11 @@ pub fn wrong_shadows_are_unsafe()
 /// An image for several harts whose opening gives each hart the shadow pointer of hart 0 is not safe.
 pub fn shared_parts_are_unsafe()
     ensures { SharedPartsAreUnsafe }
+{}
+
+/// An image with a bare system call whose number is not in a list is not listed by it, nor is one that
+/// exits so outside the closing, nor one whose second hart alone makes the call, nor one whose closing
+/// makes it.
+pub fn bare_call_is_not_listed()
+    ensures { BareCallIsNotListed }
 {}

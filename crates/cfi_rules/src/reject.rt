@@ -9,7 +9,7 @@ use text_lines::Address;
 pub enum Rule {
     /// The code does not begin with the prologue.
     Prologue,
-    /// No unit fits at a place where one must begin.
+    /// No unit fits at a place where one must begin, or one does that the graph does not admit.
     Unit,
     /// A direct transfer goes to no unit's start.
     Target,

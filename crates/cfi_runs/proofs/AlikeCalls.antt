@@ -20,9 +20,10 @@ choice_alike : (b c : Bool) (x y x' y' : After) → c ≡ b → (b ≡ true → 
 choice_alike true c x y x' y' e one other = rw e (one refl)
 choice_alike false c x y x' y' e one other = rw e (other refl)
 
-module _ (r : Registers) (h : Hart) (same : SameRegisters r h.regs) where
+-- wherever the program's own call is made
+module _ (r : Registers) (at : ℕ) (h : Hart) (same : SameRegisters r h.regs) where
   abbrev own : Hart
-  own = record { pc = h.pc; regs = r }
+  own = record { pc = at; regs = r }
 
   event_alike : (bytes bytes' : List ℕ) (answer answer' : ℕ) → bytes' ≡ bytes → answer' ≡ answer → event_of h bytes' answer' ≡ event_of own bytes answer
   event_alike bytes bytes' answer answer' e f =

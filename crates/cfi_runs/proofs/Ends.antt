@@ -63,7 +63,7 @@ closing_keeps_match p part image base o h s own stands m =
     comes b does =
         let last : Hart = record { pc = h.pc + 4; regs = set_reg h.regs 17 93 } in
         let e : b ≡ exec p Ecall last s = does.executed ∙ ap (exec p Ecall last) does.may_see in
-        let alike = call_alike (set_reg o.regs 17 93) last (same_put o.regs h.regs 17 93 93 refl m.regs) o.shared s m.shared in
+        let alike = call_alike (set_reg o.regs 17 93) o.pc last (same_put o.regs h.regs 17 93 93 refl m.regs) o.shared s m.shared in
         record {
           turn = ap (λ (a : After). a.turn) e ∙ alike.turn;
           shared = subst (λ (a : After). SameData (own_closing p o).state.shared a.shared) (sym e) alike.shared;

@@ -4,6 +4,7 @@ use Rattle.std.proofs.Common.{◌≡◌, ◌≢◌, ℕ, ◌+◌, ◌-◌, ◌==
 use Rattle.std.specs.List.{AllByRecursion, list_any}
 use Rattle.rv_word.specs.MemoryMap.{Profile, SHADOW_START}
 use Rattle.rv_word.specs.Memory.{Memory, write}
+use Rattle.rv_word.specs.Numbers.{is_listed}
 use Rattle.rv_instr.specs.Registers.{Registers, get_reg, set_reg}
 use Rattle.rv_instr.specs.Reserved.{is_reserved}
 use Rattle.rv_instr.specs.declared.instr.Instr.{Instr}
@@ -160,6 +161,7 @@ module _ (p : Profile) (part : ℕ) (image base : Memory) (o : Own) (h : Hart) (
   passes (V.Jump target) free tame = tt
   passes V.Stop free tame = tt
   passes (V.System op) free tame = tt
+  passes (V.Guarded numbers) free tame = ap (λ (x : ℕ). is_listed x numbers) (same.same 17 refl) ∙ tame
   passes (V.Stores rs1 imm members) free tame =
       let e = sum_here rs1 imm (base_free rs1 members free) in (omega arith, none_scratch members (stores_free rs1 members free))
   passes (V.Call target) free tame = tame
@@ -231,11 +233,15 @@ module _ (p : Profile) (part : ℕ) (image base : Memory) (o : Own) (h : Hart) (
   row V.Stop fits free tame after does = absurd tame
   row (V.System S.Ecall) fits free tame after does =
       let e = m.pc in
-      executed_matches part image base p Ecall o _ h s (omega arith) m.pointer (at_here Ecall (call_alike o.regs h same o.shared s alike)) after does
+      executed_matches part image base p Ecall o _ h s (omega arith) m.pointer (call_alike o.regs o.pc h same o.shared s alike) after does
   row (V.System S.Ebreak) fits free tame after does =
       let e = m.pc in
       executed_matches part image base p Ebreak o _ h s (omega arith) m.pointer
       (at_here Ebreak (break_alike p o.regs o.shared h s same alike)) after does
+  row (V.Guarded numbers) fits free tame after does =
+      let here = does.here in
+      executed_matches part image base p Ecall o _ does.hart s (omega arith) does.pointer
+      (call_alike o.regs o.pc does.hart (same_trans o.regs h.regs does.hart.regs same does.same) o.shared s alike) after does.executes
   row (V.Stores rs1 imm members) fits free tame after does =
       left_matches part image base (record o { pc = after_unit (V.Stores rs1 imm members) o.pc; shared = stored rs1 imm members }) _ _ _ refl same
       (stored_here rs1 imm members (base_free rs1 members free) (stores_free rs1 members free)) after does

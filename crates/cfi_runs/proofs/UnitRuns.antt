@@ -58,6 +58,8 @@ module _ (p : Profile) (part : ℕ) (image base : Memory) (h : Hart) (s : Shared
   row (V.Jump target) at pending pass after does = does
   row V.Stop at pending pass after does = does
   row (V.System op) at pending pass after does = does
+  row (V.Guarded numbers) at pending pass after (inl made) = made.1
+  row (V.Guarded numbers) at pending pass after (inr halts) = let other = halts.0 in absurd (cc)
   row (V.Stores rs1 imm members) at pending pass after does = record {
     turn = does.turn;
     pc = does.pc;

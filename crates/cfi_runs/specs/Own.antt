@@ -68,6 +68,7 @@ module _ (p : Profile) (o : Own) where
   own_past (V.Jump target) past = goes target
   own_past V.Stop past = goes BAD_TARGET
   own_past (V.System op) past = executes (system_instr op) o.regs past
+  own_past (V.Guarded numbers) past = executes Ecall o.regs past
   own_past (V.Stores rs1 imm members) past =
       record { state = record o { pc = past; shared = stored_all (sum_of o.regs rs1 imm) o.regs members o.shared }; turn = Ran }
   own_past (V.Call target) past = calls target past

@@ -1,9 +1,11 @@
 -- A unit passes on, as the program's own instructions would: the address of its stores lies below
--- 2 ^ 28, and none stores x31, which the unit itself writes; a call has room for its site; a computed
+-- 2 ^ 28, and none stores x31, which the unit itself writes; the number of a system call is listed where
+-- it is tested; a call has room for its site; a computed
 -- destination bears the label at the word that its check reads; a return's x1 is the newest pending site.
-use Rattle.std.specs.Prelude.{◌≡◌, ◌≢◌, ℕ, ◌^◌, ◌<◌, List, [], ◌∷◌, length}
+use Rattle.std.specs.Prelude.{◌≡◌, ◌≢◌, ℕ, ◌^◌, ◌<◌, true, List, [], ◌∷◌, length}
 use Rattle.std.specs.List.{AllByRecursion}
 use Rattle.rv_word.specs.Memory.{Memory}
+use Rattle.rv_word.specs.Numbers.{is_listed}
 use Rattle.rv_instr.specs.Registers.{Registers}
 use Rattle.cfi_unit.specs.declared.members.Member.{Member}
 use Rattle.cfi_unit.specs.declared.target_word.TargetWord.TheVariants.{First}
@@ -20,6 +22,7 @@ Passes image (V.Near op rs1 rs2 target) pending r = Unit {0}
 Passes image (V.Jump target) pending r = Unit {0}
 Passes image V.Stop pending r = Unit {0}
 Passes image (V.System op) pending r = Unit {0}
+Passes image (V.Guarded numbers) pending r = is_listed (r 17) numbers ≡ true
 Passes image (V.Stores rs1 imm members) pending r = (sum_of r rs1 imm < 2 ^ 28) × AllByRecursion (λ (m : Member). m.value ≢ 31) members
 Passes image (V.Call target) pending r = length pending < MOST_PENDING
 Passes image (V.Ijump which rs1 imm label) pending r = HasLabel image which label (destination r rs1 imm)

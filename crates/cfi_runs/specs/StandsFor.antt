@@ -1,7 +1,7 @@
 -- What a unit that passes on stands for, a row a unit: the address that it is left to, the program's
 -- registers, the pending sites, and what harts share then. `h` and `s` are the hart and what is
 -- shared at the unit's first word.
-use Rattle.std.specs.Prelude.{ℕ, if◌then◌else◌, List, [], ◌∷◌, length}
+use Rattle.std.specs.Prelude.{ℕ, ◌-◌, if◌then◌else◌, List, [], ◌∷◌, length}
 use Rattle.rv_word.specs.MemoryMap.{Profile}
 use Rattle.rv_word.specs.Memory.{Memory}
 use Rattle.rv_instr.specs.Registers.{Registers, get_reg, set_reg}
@@ -12,7 +12,7 @@ use Rattle.cfi_unit.specs.declared.unit.Unit.TheVariants as V
 use Rattle.cfi_unit.specs.UnitWords.{BAD_TARGET, after_unit, system_instr}
 use Rattle.cfi_unit.specs.Between.{Unchanged}
 use Rattle.cfi_unit.specs.Leads.{sum_of, destination}
-use Rattle.cfi_unit.specs.Leaving.{LeftTo, HaltsAt, Executes, pushed}
+use Rattle.cfi_unit.specs.Leaving.{LeftTo, HaltsAt, CallsAt, Executes, pushed}
 use Rattle.cfi_runs.specs.Own.{stored_all}
 
 module _ (p : Profile) (part : ℕ) (image base : Memory) (h : Hart) (s : Shared) where
@@ -35,6 +35,7 @@ module _ (p : Profile) (part : ℕ) (image base : Memory) (h : Hart) (s : Shared
   StandsPast (V.Jump target) past pending after = Comes target pending h.regs s after
   StandsPast V.Stop past pending after = HaltsAt part image base BAD_TARGET pending h.regs (Unchanged s) after
   StandsPast (V.System op) past pending after = Executes p part image base (system_instr op) pending h (Unchanged s) after
+  StandsPast (V.Guarded numbers) past pending after = CallsAt p part image base (past - 4) pending h.regs (Unchanged s) after
   StandsPast (V.Stores rs1 imm members) past pending after =
       Comes past pending h.regs (stored_all (sum_of h.regs rs1 imm) h.regs members s) after
   StandsPast (V.Call target) past pending after = Called target past pending after

@@ -1,9 +1,11 @@
 -- Which steps of the program's own its units keep: those that load in the window of data, [0, 2 ^ 28),
--- store past an address in it, call no deeper than the shadow stack, go to a target of their class and
--- return to their newest site, and name no register that units keep for themselves.
+-- store past an address in it, make no system call that is not listed where calls are, call no deeper
+-- than the shadow stack, go to a target of their class and return to their newest site, and name no
+-- register that units keep for themselves.
 use Rattle.std.specs.Prelude.{◌≡◌, ℕ, ◌+◌, ◌^◌, ◌≤◌, ◌<◌, ◌==◌, ◌||◌, Bool, true, false, List, [], ◌∷◌, length}
 use Rattle.std.specs.List.{list_any}
 use Rattle.rv_word.specs.Memory.{Memory}
+use Rattle.rv_word.specs.Numbers.{is_listed}
 use Rattle.rv_instr.specs.Operands.{names}
 use Rattle.rv_instr.specs.Registers.{Registers}
 use Rattle.rv_instr.specs.Reserved.{is_reserved}
@@ -34,6 +36,7 @@ IsTame image (V.Near op rs1 rs2 target) pending r = Unit {0}
 IsTame image (V.Jump target) pending r = Unit {0}
 IsTame image V.Stop pending r = ⊥
 IsTame image (V.System op) pending r = Unit {0}
+IsTame image (V.Guarded numbers) pending r = is_listed (r 17) numbers ≡ true
 IsTame image (V.Stores rs1 imm members) pending r = sum_of r rs1 imm < 2 ^ 28
 IsTame image (V.Call target) pending r = length pending < MOST_PENDING
 IsTame image (V.Ijump which rs1 imm label) pending r = HasLabel image which label (computed r rs1 imm)

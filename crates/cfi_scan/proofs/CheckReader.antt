@@ -1,15 +1,18 @@
 -- A computed transfer, read word by word: which word of its destination it loads is told by word 7, its
 -- label by word 8, and whether it is a jump or a call by word 12.
 use Rattle.std.proofs.Common.{◌≡◌, ◌≢◌, ℕ, zero, suc, ◌+◌, ◌-◌, ◌*◌, ◌^◌, ◌<◌, ◌≤◌, ◌==◌, arith, lit<, lit≤, refl, ap, sym, subst, ◌∙◌, List, [], ◌∷◌, ◌++◌, length, take, drop, inl, inr, ◌⊎◌, Some, None}
-use Rattle.std.specs.Prelude.{Option, option_map, slice_get}
-use Rattle.std.proofs.lemmas.Bool.{eqb-true}
+use Rattle.std.specs.Prelude.{Bool, Option, false, true, option_map, slice_get}
+use Rattle.std.specs.List.{AllByRecursion}
+use Rattle.std.proofs.lemmas.Bool.{cases_eq, eq-eqb, eqb-true, lt-ltb, ne_eqb}
+use Rattle.rv_word.specs.Numbers.{IsNumber, MOST_NUMBERS}
 use Rattle.rv_word.proofs.Cases.{guarded, mapped}
 use Rattle.rv_instr.specs.declared.instr.Instr.{Instr}
-use Rattle.rv_instr.specs.declared.instr.Instr.TheVariants.{Upper, Jalr, Load, Immediate, Shift}
+use Rattle.rv_instr.specs.declared.instr.Instr.TheVariants.{Upper, Jalr, Load, Immediate, Shift, Branch}
 use Rattle.rv_instr.specs.declared.instr.UpperOp.TheVariants.{Lui}
 use Rattle.rv_instr.specs.declared.instr.ImmediateOp.TheVariants.{Addi, Andi}
 use Rattle.rv_instr.specs.declared.instr.ShiftOp.TheVariants.{Slli}
 use Rattle.rv_instr.specs.declared.instr.LoadOp.TheVariants.{Lw}
+use Rattle.rv_instr.specs.declared.instr.BranchOp.TheVariants.{Beq}
 use Rattle.rv_code.specs.Decode.{decoded}
 use Rattle.rv_code.specs.Encode.{code_of}
 use Rattle.rv_code.proofs.Inverse.{code_of-decoded, decoded-in_range}
@@ -20,14 +23,18 @@ use Rattle.cfi_unit.specs.declared.unit.Unit as U
 use Rattle.cfi_unit.specs.declared.unit.Unit.TheVariants as V
 use Rattle.cfi_unit.specs.declared.members.Member.{Member}
 use Rattle.cfi_unit.specs.Members.{FILLER, MOST_MEMBERS, members_in}
-use Rattle.cfi_unit.specs.Recognise.{address_unit, computed_unit, label_in, read_in, recognised}
+use Rattle.cfi_unit.specs.Recognise.{address_unit, computed_unit, label_in, numbers_in, read_in, recognised}
 use Rattle.cfi_unit.specs.UnitWords.{BAD_TARGET, DEEP, MINUS_FOUR, instr_at, past, word_count, words_of}
 use Rattle.cfi_unit.proofs.Found.{past_field, read_past}
 use Rattle.cfi_scan.specs.declared.entry.Entry.TheVariants as E
 use Rattle.cfi_scan.specs.declared.reader.Reader.TheVariants as R
 use Rattle.cfi_scan.specs.declared.reader.Step.TheVariants.{More, Done}
-use Rattle.cfi_scan.specs.Fields.{label_field, push_step}
-use Rattle.cfi_scan.specs.Stream.{IsCode, IsPart, IsReading, LeadsOn}
+use Rattle.cfi_scan.specs.Entries.{are_same}
+use Rattle.cfi_scan.specs.Fields.{is_number, label_field, push_step}
+use Rattle.cfi_scan.specs.FirstStep.{second_step}
+use Rattle.cfi_scan.specs.Stream.{IsCode, IsPart, IsReading, Leads, LeadsOn, numbers_read}
+use Rattle.cfi_scan.proofs.GuardWords.{each_at, number_at, numbers_each, numbers_few, test_at}
+use Rattle.cfi_scan.proofs.GuardReader.{some_number}
 use Rattle.cfi_scan.proofs.Template.{Agree, first_tells, get_take, is_next, more_part, more_words, never, next_decoded, part_length, unfinished, was_read, words_get, wrong_word}
 use Rattle.cfi_scan.proofs.Transfers.{IsCallCode, halt_reached}
 
@@ -112,16 +119,20 @@ unfolding words_of
 second_word which rs1 imm label at (Some (Jalr rd base offset)) = refl
 second_word which rs1 imm label at other = refl
 
+data SecondWord (v : U.Unit) (at : ℕ) : Type 0 where
+  second_shift : slice_get (words_of v at) 1 ≡ Some (code_of (Shift Slli 31 31 36)) → SecondWord v at
+  second_clear : slice_get (words_of v at) 1 ≡ Some (code_of (Immediate Andi 31 31 MINUS_FOUR)) → SecondWord v at
+  second_test : (ns : List ℕ) → AllByRecursion IsNumber ns → length ns ≤ 8 → V.Guarded ns ≡ v → SecondWord v at
+
 record HasSecond (v : U.Unit) (at : ℕ) : Type 0 where
   more : 2 ≤ word_count v
-  second : (slice_get (words_of v at) 1 ≡ Some (code_of (Shift Slli 31 31 36)))
-      ⊎ (slice_get (words_of v at) 1 ≡ Some (code_of (Immediate Andi 31 31 MINUS_FOUR)))
+  second : SecondWord v at
 
 stores_second : (at rs1 imm : ℕ) (members : List Member) (v : U.Unit) → Some (V.Stores rs1 imm members) ≡ Some v → HasSecond v at
 unfolding words_of
 stores_second at rs1 imm members v e =
     let same : V.Stores rs1 imm members ≡ v = cc in
-    subst (λ (u : U.Unit). HasSecond u at) same (record { more = omega arith; second = inl refl })
+    subst (λ (u : U.Unit). HasSecond u at) same (record { more = omega arith; second = second_shift refl })
 
 check_second : (ws : List ℕ) (at rs1 imm : ℕ) (v : U.Unit) →
     option_map (computed_unit rs1 imm (instr_at ws 12) (read_in (instr_at ws 7))) (label_in (instr_at ws 8)) ≡ Some v → HasSecond v at
@@ -130,10 +141,17 @@ check_second ws at rs1 imm v e =
     let o : Option Instr = instr_at ws 12 in
     let (label, labelled, same) = mapped (computed_unit rs1 imm o which) (label_in (instr_at ws 8)) v e in
     let enough : 13 ≤ word_count (computed_unit rs1 imm o which label) = longer which rs1 imm label o in
-    subst (λ (u : U.Unit). HasSecond u at) same (record { more = omega (arith, enough); second = inr (second_word which rs1 imm label at o) })
+    subst (λ (u : U.Unit). HasSecond u at) same (record { more = omega (arith, enough); second = second_clear (second_word which rs1 imm label at o) })
+
+test_second : (at : ℕ) (ns : List ℕ) (v : U.Unit) → AllByRecursion IsNumber ns → length ns ≤ 8 → Some (V.Guarded ns) ≡ Some v → HasSecond v at
+test_second at ns v each few e =
+    let same : V.Guarded ns ≡ v = cc in
+    subst (λ (u : U.Unit). HasSecond u at) same (record { more = omega arith; second = second_test ns each few refl })
 
 address_second : (ws : List ℕ) (at rs1 imm : ℕ) (o : Option Instr) (v : U.Unit) → address_unit ws rs1 imm o ≡ Some v → HasSecond v at
 address_second ws at rs1 imm (Some (Shift op rd rs amount)) v e = stores_second at rs1 imm (members_in (take MOST_MEMBERS (drop 3 ws))) v e
+address_second ws at rs1 imm (Some (Branch op a b field)) v e =
+    test_second at (numbers_in MOST_NUMBERS ws) v (numbers_each MOST_NUMBERS ws) (numbers_few MOST_NUMBERS ws) e
 address_second ws at rs1 imm other v e = check_second ws at rs1 imm v e
 
 -- an address was put into x31
@@ -146,49 +164,143 @@ address_is held at rs1 imm low small is v rest e =
     ap (λ (l : List ℕ). instr_at (l ++ rest) 0) is ∙ decoded-code_of i (lit< tt, low, small) in
     address_second ws at rs1 imm (instr_at ws 1) v (first_tells ws at i v first e)
 
-pub address_open : (held : List ℕ) (at : ℕ) → IsReading R.Address held at → recognised held at ≡ None
-address_open held at (rs1, imm, (low, small, is)) =
+address_unread : (held : List ℕ) (at rs1 imm : ℕ) → rs1 < 32 → imm < 2 ^ 12 → held ≡ code_of (Immediate Addi 31 rs1 imm) ∷ [] → recognised held at ≡ None
+address_unread held at rs1 imm low small is =
     let n : length held ≡ 1 = ap length is in
     unfinished held at 2 (omega (arith, n)) (λ v e. let s = address_is held at rs1 imm low small is v [] e in s.more)
 
-pub address_shifts : (word here : ℕ) → word ≡ 0x24f9f93 → LeadsOn R.Address word here (More (R.Mask 2))
-unfolding words_of code_of
-address_shifts word here same held at (rs1, imm, (low, small, is)) place = (
-  rs1,
-  imm,
-  (
-    low,
-    small,
-    lit≤ tt,
-    lit≤ tt,
-    more_part (V.Stores rs1 imm (FILLER ∷ [])) 1 held word at (record { held_is = is; below = lit< tt }) (lit< tt) (ap Some (sym same)),
-  ),
-)
+pub address_open : (calls : List ℕ) (held : List ℕ) (at : ℕ) → IsReading calls R.Address held at → recognised held at ≡ None
+address_open calls held at (rs1, imm, (low, small, other, is)) = address_unread held at rs1 imm low small is
 
-pub address_clears : (word here : ℕ) → word ≡ 0xffcfff93 → LeadsOn R.Address word here (More (R.Check 2))
-unfolding words_of code_of
-address_clears word here same held at (rs1, imm, (low, small, is)) place = (
-  rs1,
-  imm,
-  (
-    low,
-    small,
-    lit≤ tt,
-    lit≤ tt,
-    more_part (V.Ijump First rs1 imm 0) 1 held word at (record { held_is = is; below = lit< tt }) (lit< tt) (ap Some (sym same)),
-  ),
-)
+pub number_open : (calls : List ℕ) (same : Bool) (held : List ℕ) (at : ℕ) → IsReading calls (R.Number same) held at → recognised held at ≡ None
+number_open calls same held at (n, (small, as_listed, is)) = address_unread held at 0 n (lit< tt) (omega (arith, small)) is
 
-pub address_wrong : (word here : ℕ) → word ≢ 0x24f9f93 → word ≢ 0xffcfff93 → LeadsOn R.Address word here (More R.Stuck)
-unfolding code_of
-address_wrong word here no_shift no_clear held at (rs1, imm, (low, small, is)) place =
-    let n : length held ≡ 1 = ap length is in
-    never held word at (λ v rest e.
-    let s = address_is held at rs1 imm low small is v (word ∷ rest) e in
-    elim s.second [
-      | inl shifts ↦ no_shift (is_next held word at rest v 0x24f9f93 e (ap (slice_get (words_of v at)) n ∙ shifts))
-      | inr clears ↦ no_clear (is_next held word at rest v 0xffcfff93 e (ap (slice_get (words_of v at)) n ∙ clears))
-    ])
+-- a mask or a computed transfer goes on, where no test does
+module _ (calls held : List ℕ) (at rs1 imm word : ℕ) (low : rs1 < 32) (small : imm < 2 ^ 12) (is : held ≡ code_of (Immediate Addi 31 rs1 imm) ∷ []) where
+  second_shifts : word ≡ 0x24f9f93 → Leads calls held word at (More (R.Mask 2))
+  unfolding words_of code_of
+  second_shifts same = (
+    rs1,
+    imm,
+    (
+      low,
+      small,
+      lit≤ tt,
+      lit≤ tt,
+      more_part (V.Stores rs1 imm (FILLER ∷ [])) 1 held word at (record { held_is = is; below = lit< tt }) (lit< tt) (ap Some (sym same)),
+    ),
+  )
+
+  second_clears : word ≡ 0xffcfff93 → Leads calls held word at (More (R.Check 2))
+  unfolding words_of code_of
+  second_clears same = (
+    rs1,
+    imm,
+    (
+      low,
+      small,
+      lit≤ tt,
+      lit≤ tt,
+      more_part (V.Ijump First rs1 imm 0) 1 held word at (record { held_is = is; below = lit< tt }) (lit< tt) (ap Some (sym same)),
+    ),
+  )
+
+  second_wrong : ((ns rest : List ℕ) → recognised (held ++ (word ∷ rest)) at ≡ Some (V.Guarded ns) → AllByRecursion IsNumber ns → length ns ≤ 8 → ⊥) →
+      word ≢ 0x24f9f93 → word ≢ 0xffcfff93 → Leads calls held word at (More R.Stuck)
+  unfolding code_of
+  second_wrong none no_shift no_clear =
+      let n : length held ≡ 1 = ap length is in
+      never held word at (λ v rest e.
+      let s = address_is held at rs1 imm low small is v (word ∷ rest) e in wrong v rest e n s.second)
+    where
+      wrong : (v : U.Unit) (rest : List ℕ) → recognised (held ++ (word ∷ rest)) at ≡ Some v → length held ≡ 1 → SecondWord v at → ⊥
+      wrong v rest e n (second_shift shifts) = no_shift (is_next held word at rest v 0x24f9f93 e (ap (slice_get (words_of v at)) n ∙ shifts))
+      wrong v rest e n (second_clear clears) = no_clear (is_next held word at rest v 0xffcfff93 e (ap (slice_get (words_of v at)) n ∙ clears))
+      wrong v rest e n (second_test ns each few same) = none ns rest (e ∙ ap Some (sym same)) each few
+
+  second_leads : ((ns rest : List ℕ) → recognised (held ++ (word ∷ rest)) at ≡ Some (V.Guarded ns) → AllByRecursion IsNumber ns → length ns ≤ 8 → ⊥) →
+      Leads calls held word at (second_step word)
+  second_leads none =
+      elim (cases_eq word 0x24f9f93) [
+        | inl shifts ↦ rw (eq-eqb word 0x24f9f93 shifts) (second_shifts shifts)
+        | inr no_shift ↦
+            elim (cases_eq word 0xffcfff93) [
+              | inl clears ↦ rw (ne_eqb word 0x24f9f93 no_shift, eq-eqb word 0xffcfff93 clears) (second_clears clears)
+              | inr no_clear ↦
+                  rw (ne_eqb word 0x24f9f93 no_shift, ne_eqb word 0xffcfff93 no_clear) (second_wrong none no_shift no_clear)
+            ]
+      ]
+
+-- the first word of a test has a number of x0
+other_first : (ns rest : List ℕ) (at rs1 imm word : ℕ) → rs1 < 32 → imm < 2 ^ 12 → is_number rs1 imm ≡ false →
+    recognised (code_of (Immediate Addi 31 rs1 imm) ∷ word ∷ rest) at ≡ Some (V.Guarded ns) → AllByRecursion IsNumber ns → ⊥
+other_first ns rest at rs1 imm word low small other e each =
+    let (n, there, below) = each_at ns 0 (some_number (code_of (Immediate Addi 31 rs1 imm) ∷ word ∷ rest) at ns e) each in
+    let same : code_of (Immediate Addi 31 rs1 imm) ≡ code_of (Immediate Addi 31 0 n) =
+    is_next [] (code_of (Immediate Addi 31 rs1 imm)) at (word ∷ rest) (V.Guarded ns) (code_of (Immediate Addi 31 0 n)) e (number_at ns at 0 n 0 there refl) in
+    let both : Some (Immediate Addi 31 rs1 imm) ≡ Some (Immediate Addi 31 0 n) =
+    sym (decoded-code_of (Immediate Addi 31 rs1 imm) (lit< tt, low, small)) ∙ ap decoded same
+    ∙ decoded-code_of (Immediate Addi 31 0 n) (lit< tt, lit< tt, omega (arith, below)) in
+    let zero_is : rs1 ≡ 0 = cc in
+    let n_is : imm ≡ n = cc in
+    let is : is_number rs1 imm ≡ true = ap (λ r. is_number r imm) zero_is ∙ lt-ltb imm 2048 (omega (arith, below, n_is)) in
+    absurd (cc)
+
+pub address_leads : (calls : List ℕ) (word here : ℕ) → LeadsOn calls R.Address word here (second_step word)
+address_leads calls word here held at (rs1, imm, (low, small, other, is)) place =
+    second_leads calls held at rs1 imm word low small is (λ ns rest e each few.
+    other_first ns rest at rs1 imm word low small other (sym (ap (λ (l : List ℕ). recognised (l ++ (word ∷ rest)) at) is) ∙ e) each)
+
+-- a number that may be a system call's
+pub number_leads : (calls : List ℕ) (same : Bool) (word here : ℕ) → ((n : ℕ) → 0 < n → n ≤ 8 → word ≢ code_of (Branch Beq 31 17 (4 * n))) →
+    LeadsOn calls (R.Number same) word here (second_step word)
+number_leads calls same word here none held at (n, (small, as_listed, is)) place =
+    second_leads calls held at 0 n word (lit< tt) (omega (arith, small)) is (λ ns rest e each few.
+    let some : 0 < length ns = some_number (held ++ (word ∷ rest)) at ns e in
+    let count : length held ≡ 1 = ap length is in
+    let theirs : slice_get (words_of (V.Guarded ns) at) (length held) ≡ Some (code_of (Branch Beq 31 17 (4 * (length ns - 0)))) =
+    test_at ns at 0 (length held) some (omega (arith, count)) in
+    none (length ns - 0) (omega (arith, some)) (omega (arith, few)) (is_next held word at rest (V.Guarded ns) _ e theirs))
+
+-- and its test
+fill : (k : ℕ) → List ℕ
+fill zero = []
+fill (suc k) = 0 ∷ fill k
+
+fill_length : (k : ℕ) → length (fill k) ≡ k
+unfolding fill
+fill_length zero = refl
+fill_length (suc k) = ap suc (fill_length k)
+
+fill_each : (k : ℕ) → AllByRecursion IsNumber (fill k)
+unfolding fill
+fill_each zero = tt
+fill_each (suc k) = (lit< tt, fill_each k)
+
+first_of : (m : ℕ) (ms : List ℕ) (a : ℕ) → code_of (Immediate Addi 31 0 m) ∷ [] ≡ take 1 (words_of (V.Guarded (m ∷ ms)) a)
+unfolding words_of
+first_of m ms a = refl
+
+pub number_tests : (calls : List ℕ) (same : Bool) (word here pairs : ℕ) → 0 < pairs → pairs ≤ 8 → word ≡ code_of (Branch Beq 31 17 (4 * pairs)) →
+    LeadsOn calls (R.Number same) word here (More (R.Guard 2 pairs same))
+number_tests calls same word here pairs some few test held at (n, (small, as_listed, is)) place =
+    let ns : List ℕ = n ∷ fill (pairs - 1) in
+    let counted : length ns ≡ pairs = (let e = fill_length (pairs - 1) in omega (arith, e, some)) in
+    let whole : length ns - 0 ≡ pairs = omega (arith, counted) in
+    let second : slice_get (words_of (V.Guarded ns) at) 1 ≡ Some word =
+    test_at ns at 0 1 (omega (arith, counted, some)) refl ∙ ap (λ j. Some (code_of (Branch Beq 31 17 (4 * j)))) whole ∙ ap Some (sym test) in
+    let first : held ≡ take 1 (words_of (V.Guarded ns) at) = is ∙ first_of n (fill (pairs - 1)) at in
+    let read : numbers_read 2 pairs ≡ 1 = omega (arith, some) in (
+      ns,
+      (
+        counted,
+        few,
+        (small, fill_each (pairs - 1)),
+        lit≤ tt,
+        more_part (V.Guarded ns) 1 held word at (record { held_is = first; below = omega (arith, counted, some) }) (omega (arith, counted, some)) second,
+        as_listed ∙ ap (λ j. are_same (take j ns) (take j calls)) (sym read),
+      ),
+    )
 
 -- the label of a `lui x4`
 labelled_is : (i : Option Instr) (label : ℕ) → label_field i ≡ Some label → i ≡ Some (Upper Lui 4 label)
@@ -229,15 +341,15 @@ module _ (count : ℕ) (held : List ℕ) (at rs1 imm : ℕ) (low : rs1 < 32) (sm
       subst (λ (u : U.Unit). take 7 (words_of u at) ≡ take 7 (words_of (V.Ijump First rs1 imm 0) at)) t.same
       (same_begin (read_in (instr_at (held ++ rest) 7)) rs1 imm t.label at (instr_at (held ++ rest) 12))
 
-pub check_open : (count : ℕ) (held : List ℕ) (at : ℕ) → IsReading (R.Check count) held at → recognised held at ≡ None
-check_open count held at (rs1, imm, (low, small, some, most, part)) =
+pub check_open : (calls : List ℕ) (count : ℕ) (held : List ℕ) (at : ℕ) → IsReading calls (R.Check count) held at → recognised held at ≡ None
+check_open calls count held at (rs1, imm, (low, small, some, most, part)) =
     let n = part_length (V.Ijump First rs1 imm 0) count held at part in
     unfinished held at 13 (omega (arith, n, most)) (λ v e.
     let t = begin_is count held at rs1 imm low small some part v [] e in
     subst (λ (u : U.Unit). 13 ≤ word_count u) t.same (longer (read_in (instr_at (held ++ []) 7)) rs1 imm t.label (instr_at (held ++ []) 12)))
 
-pub check_more : (count word here : ℕ) → count < 7 → IsCheckCode count here word → LeadsOn (R.Check count) word here (More (R.Check (count + 1)))
-check_more count word here before code held at (rs1, imm, (low, small, some, most, part)) place =
+pub check_more : (calls : List ℕ) (count word here : ℕ) → count < 7 → IsCheckCode count here word → LeadsOn calls (R.Check count) word here (More (R.Check (count + 1)))
+check_more calls count word here before code held at (rs1, imm, (low, small, some, most, part)) place =
     let n = part_length (V.Ijump First rs1 imm 0) count held at part in
     let code' = code (omega (arith, some)) (λ e. omega (arith, e, before)) (λ e. omega (arith, e, before)) First rs1 imm 0 at (omega (arith, place, n)) in (
       rs1,
@@ -251,33 +363,33 @@ check_more count word here before code held at (rs1, imm, (low, small, some, mos
       ),
     )
 
-pub check_wrong : (count word here code : ℕ) → count < 7 → IsCheckCode count here code → word ≢ code →
-    LeadsOn (R.Check count) word here (More R.Stuck)
-check_wrong count word here code before is other held at (rs1, imm, (low, small, some, most, part)) place =
+pub check_wrong : (calls : List ℕ) (count word here code : ℕ) → count < 7 → IsCheckCode count here code → word ≢ code →
+    LeadsOn calls (R.Check count) word here (More R.Stuck)
+check_wrong calls count word here code before is other held at (rs1, imm, (low, small, some, most, part)) place =
     let n = part_length (V.Ijump First rs1 imm 0) count held at part in
     let is' = is (omega (arith, some)) (λ e. omega (arith, e, before)) (λ e. omega (arith, e, before)) First rs1 imm 0 at (omega (arith, place, n)) in
     wrong_word held word at 7 (words_of (V.Ijump First rs1 imm 0) at) code (begin_agree count held at rs1 imm low small some part)
     (omega (arith, n, before)) (ap (slice_get (words_of (V.Ijump First rs1 imm 0) at)) n ∙ is') other
 
-check_loads : (which : TargetWord) (count word here : ℕ) → 7 ≤ count → word ≡ code_of (load which) → LeadsOn (R.Check count) word here (More (R.Loaded which))
+check_loads : (calls : List ℕ) (which : TargetWord) (count word here : ℕ) → 7 ≤ count → word ≡ code_of (load which) → LeadsOn calls (R.Check count) word here (More (R.Loaded which))
 unfolding words_of
-check_loads which count word here after is held at (rs1, imm, (low, small, some, most, part)) place =
+check_loads calls which count word here after is held at (rs1, imm, (low, small, some, most, part)) place =
     let seven : count ≡ 7 = omega (arith, after, most) in
     let u : U.Unit = V.Ijump which rs1 imm 0 in
     let part' : held ≡ take 7 (words_of u at) = part.held_is ∙ ap (λ k. take k (words_of (V.Ijump First rs1 imm 0) at)) seven in
     (rs1, imm, (low, small, more_part u 7 held word at (record { held_is = part'; below = lit< tt }) (lit< tt) (ap Some (sym is))))
 
-pub check_first : (count word here : ℕ) → 7 ≤ count → word ≡ 0xfaf03 → LeadsOn (R.Check count) word here (More (R.Loaded First))
+pub check_first : (calls : List ℕ) (count word here : ℕ) → 7 ≤ count → word ≡ 0xfaf03 → LeadsOn calls (R.Check count) word here (More (R.Loaded First))
 unfolding code_of
-check_first count word here after is = check_loads First count word here after is
+check_first calls count word here after is = check_loads calls First count word here after is
 
-pub check_second_word : (count word here : ℕ) → 7 ≤ count → word ≡ 0x4faf03 → LeadsOn (R.Check count) word here (More (R.Loaded Second))
+pub check_second_word : (calls : List ℕ) (count word here : ℕ) → 7 ≤ count → word ≡ 0x4faf03 → LeadsOn calls (R.Check count) word here (More (R.Loaded Second))
 unfolding code_of
-check_second_word count word here after is = check_loads Second count word here after is
+check_second_word calls count word here after is = check_loads calls Second count word here after is
 
-pub check_unloaded : (count word here : ℕ) → 7 ≤ count → word ≢ 0xfaf03 → word ≢ 0x4faf03 → LeadsOn (R.Check count) word here (More R.Stuck)
+pub check_unloaded : (calls : List ℕ) (count word here : ℕ) → 7 ≤ count → word ≢ 0xfaf03 → word ≢ 0x4faf03 → LeadsOn calls (R.Check count) word here (More R.Stuck)
 unfolding code_of
-check_unloaded count word here after no_first no_second held at (rs1, imm, (low, small, some, most, part)) place =
+check_unloaded calls count word here after no_first no_second held at (rs1, imm, (low, small, some, most, part)) place =
     let m = part_length (V.Ijump First rs1 imm 0) count held at part in
     let n : length held ≡ 7 = omega (arith, m, after, most) in
     never held word at (λ v rest e.
@@ -326,17 +438,17 @@ module _ (which : TargetWord) (held : List ℕ) (at rs1 imm : ℕ) (low : rs1 < 
   unfolding words_of
   load_told = loaded_is (V.Ijump which rs1 imm 0) 8 held at which rs1 imm low small (lit≤ tt) part refl refl refl
 
-pub loaded_open : (which : TargetWord) (held : List ℕ) (at : ℕ) → IsReading (R.Loaded which) held at → recognised held at ≡ None
-loaded_open which held at (rs1, imm, (low, small, part)) =
+pub loaded_open : (calls : List ℕ) (which : TargetWord) (held : List ℕ) (at : ℕ) → IsReading calls (R.Loaded which) held at → recognised held at ≡ None
+loaded_open calls which held at (rs1, imm, (low, small, part)) =
     let n = part_length (V.Ijump which rs1 imm 0) 8 held at part in
     unfinished held at 13 (omega (arith, n)) (λ v e.
     let (label, labelled, t) = load_told which held at rs1 imm low small part v [] e in
     subst (λ (u : U.Unit). 13 ≤ word_count u) t.same (longer which rs1 imm label (instr_at (held ++ []) 12)))
 
-pub loaded_labelled : (which : TargetWord) (word here label : ℕ) → word < 2 ^ 32 → label_field (decoded word) ≡ Some label →
-    LeadsOn (R.Loaded which) word here (More (R.Labelled 9 which label))
+pub loaded_labelled : (calls : List ℕ) (which : TargetWord) (word here label : ℕ) → word < 2 ^ 32 → label_field (decoded word) ≡ Some label →
+    LeadsOn calls (R.Loaded which) word here (More (R.Labelled 9 which label))
 unfolding words_of
-loaded_labelled which word here label fits e held at (rs1, imm, (low, small, part)) place =
+loaded_labelled calls which word here label fits e held at (rs1, imm, (low, small, part)) place =
     let i : Instr = Upper Lui 4 label in
     let is : decoded word ≡ Some i = labelled_is (decoded word) label e in
     let range = decoded-in_range word i fits is in
@@ -353,9 +465,9 @@ loaded_labelled which word here label fits e held at (rs1, imm, (low, small, par
       ),
     )
 
-pub loaded_unlabelled : (which : TargetWord) (word here : ℕ) → word < 2 ^ 32 → label_field (decoded word) ≡ None →
-    LeadsOn (R.Loaded which) word here (More R.Stuck)
-loaded_unlabelled which word here fits none held at (rs1, imm, (low, small, part)) place =
+pub loaded_unlabelled : (calls : List ℕ) (which : TargetWord) (word here : ℕ) → word < 2 ^ 32 → label_field (decoded word) ≡ None →
+    LeadsOn calls (R.Loaded which) word here (More R.Stuck)
+loaded_unlabelled calls which word here fits none held at (rs1, imm, (low, small, part)) place =
     let n = part_length (V.Ijump which rs1 imm 0) 8 held at part in
     never held word at (λ v rest e.
     let ws : List ℕ = held ++ (word ∷ rest) in
@@ -398,17 +510,17 @@ module _ (count : ℕ) (held : List ℕ) (at : ℕ) (which : TargetWord) (rs1 im
       subst (λ (u : U.Unit). take 12 (words_of u at) ≡ take 12 (words_of (V.Ijump which rs1 imm label) at)) t.same
       (same_check which rs1 imm label at (instr_at (held ++ rest) 12) t.loads)
 
-pub label_open : (count : ℕ) (which : TargetWord) (label : ℕ) (held : List ℕ) (at : ℕ) → IsReading (R.Labelled count which label) held at → recognised held at ≡ None
-label_open count which label held at (rs1, imm, (low, small, fits, some, part)) =
+pub label_open : (calls : List ℕ) (count : ℕ) (which : TargetWord) (label : ℕ) (held : List ℕ) (at : ℕ) → IsReading calls (R.Labelled count which label) held at → recognised held at ≡ None
+label_open calls count which label held at (rs1, imm, (low, small, fits, some, part)) =
     let n = part_length (V.Ijump which rs1 imm label) count held at part in
     let below : count < 13 = part.below in
     unfinished held at 13 (omega (arith, n, below)) (λ v e.
     let t = jump_is count held at which rs1 imm label low small fits some part v [] e in
     subst (λ (u : U.Unit). 13 ≤ word_count u) t.same (longer which rs1 imm label (instr_at (held ++ []) 12)))
 
-pub label_more : (count : ℕ) (which : TargetWord) (label word here : ℕ) → count < 12 → IsCheckCode count here word →
-    LeadsOn (R.Labelled count which label) word here (More (R.Labelled (count + 1) which label))
-label_more count which label word here before code held at (rs1, imm, (low, small, fits, some, part)) place =
+pub label_more : (calls : List ℕ) (count : ℕ) (which : TargetWord) (label word here : ℕ) → count < 12 → IsCheckCode count here word →
+    LeadsOn calls (R.Labelled count which label) word here (More (R.Labelled (count + 1) which label))
+label_more calls count which label word here before code held at (rs1, imm, (low, small, fits, some, part)) place =
     let n = part_length (V.Ijump which rs1 imm label) count held at part in
     let code' = code (omega (arith, some)) (λ e. omega (arith, e, some)) (λ e. omega (arith, e, some)) which rs1 imm label at (omega (arith, place, n)) in (
       rs1,
@@ -422,18 +534,18 @@ label_more count which label word here before code held at (rs1, imm, (low, smal
       ),
     )
 
-pub label_wrong : (count : ℕ) (which : TargetWord) (label word here code : ℕ) → count < 12 → IsCheckCode count here code → word ≢ code →
-    LeadsOn (R.Labelled count which label) word here (More R.Stuck)
-label_wrong count which label word here code before is other held at (rs1, imm, (low, small, fits, some, part)) place =
+pub label_wrong : (calls : List ℕ) (count : ℕ) (which : TargetWord) (label word here code : ℕ) → count < 12 → IsCheckCode count here code → word ≢ code →
+    LeadsOn calls (R.Labelled count which label) word here (More R.Stuck)
+label_wrong calls count which label word here code before is other held at (rs1, imm, (low, small, fits, some, part)) place =
     let n = part_length (V.Ijump which rs1 imm label) count held at part in
     let is' = is (omega (arith, some)) (λ e. omega (arith, e, some)) (λ e. omega (arith, e, some)) which rs1 imm label at (omega (arith, place, n)) in
     wrong_word held word at 12 (words_of (V.Ijump which rs1 imm label) at) code (told_agree count held at which rs1 imm label low small fits some part)
     (omega (arith, n, before)) (ap (slice_get (words_of (V.Ijump which rs1 imm label) at)) n ∙ is') other
 
-pub label_jumps : (count : ℕ) (which : TargetWord) (label word here : ℕ) → IsCode here → 12 ≤ count → word ≡ 0xf8067 →
-    LeadsOn (R.Labelled count which label) word here (Done (E.Ijump which label))
+pub label_jumps : (calls : List ℕ) (count : ℕ) (which : TargetWord) (label word here : ℕ) → IsCode here → 12 ≤ count → word ≡ 0xf8067 →
+    LeadsOn calls (R.Labelled count which label) word here (Done (E.Ijump which label))
 unfolding words_of code_of
-label_jumps count which label word here code after is held at (rs1, imm, (low, small, fits, some, part)) place =
+label_jumps calls count which label word here code after is held at (rs1, imm, (low, small, fits, some, part)) place =
     let u : U.Unit = V.Ijump which rs1 imm label in
     let n = part_length u count held at part in
     let below : count < 13 = part.below in
@@ -457,10 +569,10 @@ label_jumps count which label word here code after is held at (rs1, imm, (low, s
     )
 
 -- the word after a check is one of two
-after_told : (count : ℕ) (which : TargetWord) (label : ℕ) (word here : ℕ) → 12 ≤ count → word ≢ 0xf8067 → (which ≡ First → word ≢ 0x3019f13) →
-    LeadsOn (R.Labelled count which label) word here (More R.Stuck)
+after_told : (calls : List ℕ) (count : ℕ) (which : TargetWord) (label : ℕ) (word here : ℕ) → 12 ≤ count → word ≢ 0xf8067 → (which ≡ First → word ≢ 0x3019f13) →
+    LeadsOn calls (R.Labelled count which label) word here (More R.Stuck)
 unfolding code_of
-after_told count which label word here after no_jump no_push held at (rs1, imm, (low, small, fits, some, part)) place =
+after_told calls count which label word here after no_jump no_push held at (rs1, imm, (low, small, fits, some, part)) place =
     let m = part_length (V.Ijump which rs1 imm label) count held at part in
     let below : count < 13 = part.below in
     let n : length held ≡ 12 = omega (arith, m, after, below) in
@@ -474,10 +586,10 @@ after_told count which label word here after no_jump no_push held at (rs1, imm, 
       | inr pushes ↦ no_push pushes.0 (is_next held word at rest v 0x3019f13 e (at_12 ∙ pushes.1))
     ])
 
-pub label_pushes : (count : ℕ) (which : TargetWord) (label word here : ℕ) → 12 ≤ count → word ≢ 0xf8067 → word ≡ 0x3019f13 →
-    LeadsOn (R.Labelled count which label) word here (push_step which label)
+pub label_pushes : (calls : List ℕ) (count : ℕ) (which : TargetWord) (label word here : ℕ) → 12 ≤ count → word ≢ 0xf8067 → word ≡ 0x3019f13 →
+    LeadsOn calls (R.Labelled count which label) word here (push_step which label)
 unfolding words_of code_of
-label_pushes count First label word here after no_jump is held at (rs1, imm, (low, small, fits, some, part)) place =
+label_pushes calls count First label word here after no_jump is held at (rs1, imm, (low, small, fits, some, part)) place =
     let below : count < 13 = part.below in
     let twelve : count ≡ 12 = omega (arith, after, below) in
     let part' : held ≡ take 12 (words_of (V.Icall rs1 imm label) at) =
@@ -492,12 +604,12 @@ label_pushes count First label word here after no_jump is held at (rs1, imm, (lo
         more_part (V.Icall rs1 imm label) 12 held word at (record { held_is = part'; below = lit< tt }) (lit< tt) (ap Some (sym is)),
       ),
     )
-label_pushes count Second label word here after no_jump is held at read place =
-    after_told count Second label word here after no_jump (λ same. absurd (cc)) held at read place
+label_pushes calls count Second label word here after no_jump is held at read place =
+    after_told calls count Second label word here after no_jump (λ same. absurd (cc)) held at read place
 
-pub label_fails : (count : ℕ) (which : TargetWord) (label word here : ℕ) → 12 ≤ count → word ≢ 0xf8067 → word ≢ 0x3019f13 →
-    LeadsOn (R.Labelled count which label) word here (More R.Stuck)
-label_fails count which label word here after no_jump no_push = after_told count which label word here after no_jump (λ same. no_push)
+pub label_fails : (calls : List ℕ) (count : ℕ) (which : TargetWord) (label word here : ℕ) → 12 ≤ count → word ≢ 0xf8067 → word ≢ 0x3019f13 →
+    LeadsOn calls (R.Labelled count which label) word here (More R.Stuck)
+label_fails calls count which label word here after no_jump no_push = after_told calls count which label word here after no_jump (λ same. no_push)
 
 -- a computed call after its check
 module _ (count : ℕ) (held : List ℕ) (at rs1 imm label : ℕ) (low : rs1 < 32) (small : imm < 2 ^ 12) (fits : label < 2 ^ 20)
@@ -515,8 +627,8 @@ module _ (count : ℕ) (held : List ℕ) (at rs1 imm label : ℕ) (low : rs1 < 3
   push_agree : Agree held at 20 (words_of (V.Icall rs1 imm label) at)
   push_agree v rest e = ap (λ (u : U.Unit). take 20 (words_of u at)) (sym (push_is v rest e))
 
-pub push_open : (count label : ℕ) (held : List ℕ) (at : ℕ) → IsReading (R.Push count label) held at → recognised held at ≡ None
-push_open count label held at (rs1, imm, (low, small, fits, some, part)) =
+pub push_open : (calls : List ℕ) (count label : ℕ) (held : List ℕ) (at : ℕ) → IsReading calls (R.Push count label) held at → recognised held at ≡ None
+push_open calls count label held at (rs1, imm, (low, small, fits, some, part)) =
     let n = part_length (V.Icall rs1 imm label) count held at part in
     let below : count < 20 = part.below in
     unfinished held at 20 (omega (arith, n, below)) (λ v e.
@@ -540,9 +652,9 @@ push_code count rs1 imm label at here code j k before is place =
     ∙ sym (get_take 7 (drop 12 (words_of u at)) j below) ∙ ap (λ (l : List ℕ). slice_get l j) same
     ∙ get_take 7 (words_of c (at + 48)) j below ∙ is (at + 48) (omega (arith, place, k))
 
-pub push_more : (count label word here index : ℕ) → count < 19 → index ≡ count - 12 → IsCallCode index here word →
-    LeadsOn (R.Push count label) word here (More (R.Push (count + 1) label))
-push_more count label word here index before offset code held at (rs1, imm, (low, small, fits, some, part)) place =
+pub push_more : (calls : List ℕ) (count label word here index : ℕ) → count < 19 → index ≡ count - 12 → IsCallCode index here word →
+    LeadsOn calls (R.Push count label) word here (More (R.Push (count + 1) label))
+push_more calls count label word here index before offset code held at (rs1, imm, (low, small, fits, some, part)) place =
     let n = part_length (V.Icall rs1 imm label) count held at part in
     let code' = push_code count rs1 imm label at here word index (omega (arith, some, offset)) before code (omega (arith, place, n)) in (
       rs1,
@@ -556,18 +668,18 @@ push_more count label word here index before offset code held at (rs1, imm, (low
       ),
     )
 
-pub push_wrong : (count label word here index code : ℕ) → count < 19 → index ≡ count - 12 → IsCallCode index here code → word ≢ code →
-    LeadsOn (R.Push count label) word here (More R.Stuck)
-push_wrong count label word here index code before offset is other held at (rs1, imm, (low, small, fits, some, part)) place =
+pub push_wrong : (calls : List ℕ) (count label word here index code : ℕ) → count < 19 → index ≡ count - 12 → IsCallCode index here code → word ≢ code →
+    LeadsOn calls (R.Push count label) word here (More R.Stuck)
+push_wrong calls count label word here index code before offset is other held at (rs1, imm, (low, small, fits, some, part)) place =
     let n = part_length (V.Icall rs1 imm label) count held at part in
     let is' = push_code count rs1 imm label at here code index (omega (arith, some, offset)) before is (omega (arith, place, n)) in
     wrong_word held word at 20 (words_of (V.Icall rs1 imm label) at) code (push_agree count held at rs1 imm label low small fits some part)
     (omega (arith, n, before)) (ap (slice_get (words_of (V.Icall rs1 imm label) at)) n ∙ is') other
 
-pub push_ends : (count label word here : ℕ) → IsCode here → 19 ≤ count → word ≡ 0xf80e7 →
-    LeadsOn (R.Push count label) word here (Done (E.Icall label))
+pub push_ends : (calls : List ℕ) (count label word here : ℕ) → IsCode here → 19 ≤ count → word ≡ 0xf80e7 →
+    LeadsOn calls (R.Push count label) word here (Done (E.Icall label))
 unfolding words_of code_of
-push_ends count label word here code after is held at (rs1, imm, (low, small, fits, some, part)) place =
+push_ends calls count label word here code after is held at (rs1, imm, (low, small, fits, some, part)) place =
     let u : U.Unit = V.Icall rs1 imm label in
     let n = part_length u count held at part in
     let below : count < 20 = part.below in
@@ -593,9 +705,9 @@ push_ends count label word here code after is held at (rs1, imm, (low, small, fi
       ),
     )
 
-pub push_fails : (count label word here : ℕ) → 19 ≤ count → word ≢ 0xf80e7 → LeadsOn (R.Push count label) word here (More R.Stuck)
+pub push_fails : (calls : List ℕ) (count label word here : ℕ) → 19 ≤ count → word ≢ 0xf80e7 → LeadsOn calls (R.Push count label) word here (More R.Stuck)
 unfolding words_of code_of
-push_fails count label word here after other held at (rs1, imm, (low, small, fits, some, part)) place =
+push_fails calls count label word here after other held at (rs1, imm, (low, small, fits, some, part)) place =
     let u : U.Unit = V.Icall rs1 imm label in
     let m = part_length u count held at part in
     let below : count < 20 = part.below in

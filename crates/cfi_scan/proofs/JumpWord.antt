@@ -16,10 +16,10 @@ use Rattle.cfi_scan.specs.declared.reader.Reader.TheVariants as R
 use Rattle.cfi_scan.specs.declared.reader.Step.TheVariants as St
 use Rattle.cfi_unit.proofs.LedBack.{led_back}
 
-branch_ends : (word at imm : ℕ) (op : BranchOp) (rs1 rs2 : ℕ) → rs1 < 32 → rs2 < 32 → imm < 2 ^ 20 → at + 4 < 2 ^ 64 →
-    word ≡ code_of (Jal 0 imm) → Leads (code_of (Branch op rs1 rs2 skip_offset) ∷ []) word at (St.Done (E.Branch imm))
+branch_ends : (calls : List ℕ) (word at imm : ℕ) (op : BranchOp) (rs1 rs2 : ℕ) → rs1 < 32 → rs2 < 32 → imm < 2 ^ 20 → at + 4 < 2 ^ 64 →
+    word ≡ code_of (Jal 0 imm) → Leads calls (code_of (Branch op rs1 rs2 skip_offset) ∷ []) word at (St.Done (E.Branch imm))
 unfolding words_of
-branch_ends word at imm op rs1 rs2 first second small low code =
+branch_ends calls word at imm op rs1 rs2 first second small low code =
     let back : jump_offset (at + 4) (led_to (at + 4) imm) ≡ imm = led_back (at + 4) imm low small in (
       V.Branch op rs1 rs2 (led_to (at + 4) imm),
       (
@@ -30,14 +30,14 @@ branch_ends word at imm op rs1 rs2 first second small low code =
       ),
     )
 
-pub jump_leads : (word here rd imm : ℕ) → word < 2 ^ 32 → here < 2 ^ 64 → decoded word ≡ Some (Jal rd imm) →
-    is_jump (instr_at (word ∷ []) 0) ≡ true → LeadsOn R.Branch word here (St.Done (E.Branch imm))
-jump_leads word here rd imm small low is jumps held at (op, rs1, rs2, (first, second, begun)) e =
+pub jump_leads : (calls : List ℕ) (word here rd imm : ℕ) → word < 2 ^ 32 → here < 2 ^ 64 → decoded word ≡ Some (Jal rd imm) →
+    is_jump (instr_at (word ∷ []) 0) ≡ true → LeadsOn calls R.Branch word here (St.Done (E.Branch imm))
+jump_leads calls word here rd imm small low is jumps held at (op, rs1, rs2, (first, second, begun)) e =
     let zero_rd : (rd == 0) ≡ true = sym (ap is_jump is) ∙ jumps in
     let code : word ≡ code_of (Jal 0 imm) =
     sym (code_of-decoded word (Jal rd imm) small is) ∙ ap (λ n. code_of (Jal n imm)) (eqb-true rd 0 zero_rd) in
     let one : length held ≡ 1 = ap (λ (l : List ℕ). length l) begun in
     let next : at + 4 < 2 ^ 64 = omega arith in
     let range = decoded-in_range word (Jal rd imm) small is in
-    subst (λ (l : List ℕ). Leads l word at (St.Done (E.Branch imm))) (sym begun)
-    (branch_ends word at imm op rs1 rs2 first second range.1 next code)
+    subst (λ (l : List ℕ). Leads calls l word at (St.Done (E.Branch imm))) (sym begun)
+    (branch_ends calls word at imm op rs1 rs2 first second range.1 next code)

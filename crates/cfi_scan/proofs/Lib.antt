@@ -1,5 +1,7 @@
 pub mod Template
 pub mod Transfers
+pub mod GuardWords
+pub mod GuardReader
 pub mod StoreReader
 pub mod CheckReader
 pub mod FirstWord

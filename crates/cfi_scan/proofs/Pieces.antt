@@ -75,9 +75,9 @@ keeps_none most prologue =
     ap (λ (n : ℕ). take n prologue) none ∙ sym (take_all {A = ℕ} most [] (omega arith))
 
 -- no word yet
-pub splits_none : (from room : ℕ) → Splits from [] (inside room) 0 0 R.Start []
+pub splits_none : (calls : List ℕ) (from room : ℕ) → Splits calls from [] (inside room) 0 0 R.Start []
 unfolding spelled width last_of AllStand entries_of
-splits_none from room = record {
+splits_none calls from room = record {
   units = [];
   held = [];
   room = room;
@@ -90,12 +90,16 @@ splits_none from room = record {
 }
 
 -- what is kept of words, and what a feeder shows of it
+abbrev pub KeepsUnder : Profile → List ℕ → Kept → List ℕ → Type 0
+KeepsUnder p calls k words = Keeps p calls k.prologue k.units.entries.items k.units.done k.units.last k.units.reader words
+
 abbrev pub KeepsWords : Profile → Kept → List ℕ → Type 0
-KeepsWords p k words = Keeps p k.prologue k.units.entries.items k.units.done k.units.last k.units.reader words
+KeepsWords p k words = KeepsUnder p k.units.calls k words
 
 abbrev pub sight : Profile → Kept → Taken → Sight
 sight p k t = record {
   version = k.units.front;
+  calls = k.units.calls;
   prologue = take (min (t.fed / 4) (prologue_count p)) k.prologue;
   entries = k.units.entries.items;
   done = k.units.done;
@@ -156,28 +160,30 @@ seen_byte p k t after byte none is bytes seen =
 
 -- one that does
 pub seen_word : (p : Profile) (k next : Kept) (t after : Taken) (byte word : ℕ) → Some word ≡ made t byte → after ≡ after_byte t byte →
-    ((words : List ℕ) → length words ≡ t.fed / 4 → KeepsWords p k words → KeepsWords p next (words ++ word ∷ [])) →
+    next.units.calls ≡ k.units.calls →
+    ((words : List ℕ) → length words ≡ t.fed / 4 → KeepsWords p k words → KeepsUnder p k.units.calls next (words ++ word ∷ [])) →
     (bytes : List ℕ) → HasSeen p (sight p k t) bytes → HasSeen p (sight p next after) (bytes ++ byte ∷ [])
-seen_word p k next t after byte word some is keeps bytes seen =
+seen_word p k next t after byte word some is same keeps bytes seen =
     let m = made_whole t byte word some in
     subst (λ (a : Taken). HasSeen p (sight p next a) (bytes ++ byte ∷ [])) (sym (is ∙ m.1.1))
     (seen_from p next (record { left = []; fed = t.fed + 1 }) (bytes ++ byte ∷ []) (seen.words ++ word ∷ [])
     (subst (λ (w : ℕ). IsCut (bytes ++ byte ∷ []) (seen.words ++ w ∷ []) []) (sym m.1.0)
     (cut_word byte seen.cut (seen_left p k t bytes seen ∙ m.0)))
     (omega (arith, seen.fed, length_push bytes byte))
-    (keeps seen.words (seen_count p k t bytes seen) (keeps_from p k t bytes seen)))
+    (subst (λ (calls : List ℕ). KeepsUnder p calls next (seen.words ++ word ∷ [])) (sym same) (keeps seen.words (seen_count p k t bytes seen) (keeps_from p k t bytes seen))))
 
 -- four bytes that are a word
 pub seen_quad : (p : Profile) (k next : Kept) (t after : Taken) (a b c d word : ℕ) → t.fed % 4 ≡ 0 → word ≡ word_of a b c d → after ≡ record { left = []; fed = t.fed + 4 } →
-    ((words : List ℕ) → length words ≡ t.fed / 4 → KeepsWords p k words → KeepsWords p next (words ++ word ∷ [])) →
+    next.units.calls ≡ k.units.calls →
+    ((words : List ℕ) → length words ≡ t.fed / 4 → KeepsWords p k words → KeepsUnder p k.units.calls next (words ++ word ∷ [])) →
     (bytes : List ℕ) → HasSeen p (sight p k t) bytes → HasSeen p (sight p next after) (bytes ++ a ∷ b ∷ c ∷ d ∷ [])
-seen_quad p k next t after a b c d word whole made is keeps bytes seen =
+seen_quad p k next t after a b c d word whole made is same keeps bytes seen =
     subst (λ (x : Taken). HasSeen p (sight p next x) (bytes ++ a ∷ b ∷ c ∷ d ∷ [])) (sym is)
     (seen_from p next (record { left = []; fed = t.fed + 4 }) (bytes ++ a ∷ b ∷ c ∷ d ∷ []) (seen.words ++ word ∷ [])
     (subst (λ (w : ℕ). IsCut (bytes ++ a ∷ b ∷ c ∷ d ∷ []) (seen.words ++ w ∷ []) []) (sym made)
     (cut_quad a b c d seen.cut (seen_left p k t bytes seen ∙ whole)))
     (let e : length (bytes ++ a ∷ b ∷ c ∷ d ∷ []) ≡ length bytes + 4 = omega (arith, length-append bytes (a ∷ b ∷ c ∷ d ∷ [])) in omega (arith, seen.fed))
-    (keeps seen.words (seen_count p k t bytes seen) (keeps_from p k t bytes seen)))
+    (subst (λ (calls : List ℕ). KeepsUnder p calls next (seen.words ++ word ∷ [])) (sym same) (keeps seen.words (seen_count p k t bytes seen) (keeps_from p k t bytes seen))))
 
 -- the first four bytes of what is left are taken
 pub four_first : (rest : List ℕ) → 4 ≤ length rest → get_or rest 0 0 ∷ get_or rest 1 0 ∷ get_or rest 2 0 ∷ get_or rest 3 0 ∷ drop 4 rest ≡ rest
@@ -195,8 +201,8 @@ four_taken taken rest piece room joined =
 
 -- a code that has ended
 pub ended : (p : Profile) (k : Kept) (t : Taken) (entries : List Entry) (done last fed : ℕ) (bytes : List ℕ) (seen : HasSeen p (sight p k t) bytes) → fed ≡ t.fed → length entries ≡ length k.units.entries.items →
-    (length (drop (prologue_count p) seen.words) ≤ length k.units.entries.items → Splits p.units_from [] k.units.entries.items k.units.done k.units.last k.units.reader (drop (prologue_count p) seen.words) → IsSplitUp p.units_from entries done last (drop (prologue_count p) seen.words)) →
-    IsOf p (record { version = k.units.front; prologue = take (min (fed / 4) (prologue_count p)) k.prologue; entries = entries; done = done; last = last; fed = fed }) bytes
+    (length (drop (prologue_count p) seen.words) ≤ length k.units.entries.items → Splits k.units.calls p.units_from [] k.units.entries.items k.units.done k.units.last k.units.reader (drop (prologue_count p) seen.words) → IsSplitUp k.units.calls p.units_from entries done last (drop (prologue_count p) seen.words)) →
+    IsOf p k.units.calls (record { version = k.units.front; prologue = take (min (fed / 4) (prologue_count p)) k.prologue; entries = entries; done = done; last = last; fed = fed }) bytes
 ended p k t entries done last fed bytes seen same room close = record {
   words = seen.words;
   left = t.left;

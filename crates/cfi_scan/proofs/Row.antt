@@ -60,33 +60,33 @@ inside_more (suc m) n =
     ap inside one ∙ ap (λ (es : List Entry). E.Inside ∷ es) (inside_more m n)
 
 -- the entries of one unit
-unit_entries : U.Unit → ℕ → List Entry
-unit_entries unit at = entry_of unit at ∷ inside (word_count unit - 1)
+unit_entries : (calls : List ℕ) → U.Unit → ℕ → List Entry
+unit_entries calls unit at = entry_of calls unit at ∷ inside (word_count unit - 1)
 
-unit_entries_length : (unit : U.Unit) (at : ℕ) → length (unit_entries unit at) ≡ word_count unit
+unit_entries_length : (calls : List ℕ) (unit : U.Unit) (at : ℕ) → length (unit_entries calls unit at) ≡ word_count unit
 unfolding unit_entries
-unit_entries_length unit at =
+unit_entries_length calls unit at =
     let some : 1 ≤ word_count unit = some_word unit in
     let whole : suc (word_count unit - 1) ≡ word_count unit = omega arith in
     ap suc (inside_length (word_count unit - 1)) ∙ whole
 
-pub entries_length : (units : List U.Unit) (at : ℕ) → length (entries_of units at) ≡ width units
+pub entries_length : (calls : List ℕ) (units : List U.Unit) (at : ℕ) → length (entries_of calls units at) ≡ width units
 unfolding entries_of width unit_entries
-entries_length [] at = refl
-entries_length (unit ∷ units) at =
-    length-append (unit_entries unit at) (entries_of units (after_unit unit at))
-    ∙ ap₂ (λ (a b : ℕ). a + b) (unit_entries_length unit at) (entries_length units (after_unit unit at))
+entries_length calls [] at = refl
+entries_length calls (unit ∷ units) at =
+    length-append (unit_entries calls unit at) (entries_of calls units (after_unit unit at))
+    ∙ ap₂ (λ (a b : ℕ). a + b) (unit_entries_length calls unit at) (entries_length calls units (after_unit unit at))
 
-entries_more : (units : List U.Unit) (unit : U.Unit) (at : ℕ) →
-    entries_of (units ++ unit ∷ []) at ≡ entries_of units at ++ unit_entries unit (at + 4 * width units)
+entries_more : (calls : List ℕ) (units : List U.Unit) (unit : U.Unit) (at : ℕ) →
+    entries_of calls (units ++ unit ∷ []) at ≡ entries_of calls units at ++ unit_entries calls unit (at + 4 * width units)
 unfolding entries_of unit_entries
-entries_more [] unit at =
-    append-nil (unit_entries unit at) ∙ ap (unit_entries unit) (at_none at)
-entries_more (first ∷ units) unit at =
-    ap (λ (es : List Entry). unit_entries first at ++ es)
-    (entries_more units unit (after_unit first at)
-    ∙ ap (λ (a : ℕ). entries_of units (after_unit first at) ++ unit_entries unit a) (after_first first units at))
-    ∙ sym (append_assoc (unit_entries first at) (entries_of units (after_unit first at)) (unit_entries unit (at + 4 * width (first ∷ units))))
+entries_more calls [] unit at =
+    append-nil (unit_entries calls unit at) ∙ ap (unit_entries calls unit) (at_none at)
+entries_more calls (first ∷ units) unit at =
+    ap (λ (es : List Entry). unit_entries calls first at ++ es)
+    (entries_more calls units unit (after_unit first at)
+    ∙ ap (λ (a : ℕ). entries_of calls units (after_unit first at) ++ unit_entries calls unit a) (after_first first units at))
+    ∙ sym (append_assoc (unit_entries calls first at) (entries_of calls units (after_unit first at)) (unit_entries calls unit (at + 4 * width (first ∷ units))))
 
 pub stand_more : (units : List U.Unit) (unit : U.Unit) (at : ℕ) (tail : List ℕ) →
     AllStand units at (words_of unit (at + 4 * width units) ++ tail) → Fits unit (at + 4 * width units) →
@@ -111,23 +111,23 @@ stand_more (first ∷ units) unit at tail stand fits ahead =
     )
 
 -- the entry of one unit more is set where there is room for it
-pub entries_set : (units : List U.Unit) (unit : U.Unit) (at room : ℕ) → word_count unit ≤ room →
-    slice_set (entries_of units at ++ inside room) (width units) (entry_of unit (at + 4 * width units))
-    ≡ entries_of (units ++ unit ∷ []) at ++ inside (room - word_count unit)
+pub entries_set : (calls : List ℕ) (units : List U.Unit) (unit : U.Unit) (at room : ℕ) → word_count unit ≤ room →
+    slice_set (entries_of calls units at ++ inside room) (width units) (entry_of calls unit (at + 4 * width units))
+    ≡ entries_of calls (units ++ unit ∷ []) at ++ inside (room - word_count unit)
 unfolding inside unit_entries
-entries_set units unit at room fits =
+entries_set calls units unit at room fits =
     let here : ℕ = at + 4 * width units in
     let some : 1 ≤ word_count unit = some_word unit in
     let parts : room ≡ suc (word_count unit - 1 + (room - word_count unit)) = omega arith in
     let none : width units - width units ≡ 0 = omega arith in
     let free : inside room ≡ E.Inside ∷ (inside (word_count unit - 1) ++ inside (room - word_count unit)) =
     ap inside parts ∙ ap (λ (es : List Entry). E.Inside ∷ es) (inside_more (word_count unit - 1) (room - word_count unit)) in
-    let set_free : slice_set (inside room) (width units - width units) (entry_of unit here) ≡ unit_entries unit here ++ inside (room - word_count unit) =
-    ap₂ (λ (es : List Entry) (k : ℕ). slice_set es k (entry_of unit here)) free none in
-    set-append_right (entries_of units at) (inside room) (width units) (width units) (entry_of unit here) (entries_length units at) (omega arith)
-    ∙ ap (λ (es : List Entry). entries_of units at ++ es) set_free
-    ∙ sym (append_assoc (entries_of units at) (unit_entries unit here) (inside (room - word_count unit)))
-    ∙ ap (λ (es : List Entry). es ++ inside (room - word_count unit)) (sym (entries_more units unit at))
+    let set_free : slice_set (inside room) (width units - width units) (entry_of calls unit here) ≡ unit_entries calls unit here ++ inside (room - word_count unit) =
+    ap₂ (λ (es : List Entry) (k : ℕ). slice_set es k (entry_of calls unit here)) free none in
+    set-append_right (entries_of calls units at) (inside room) (width units) (width units) (entry_of calls unit here) (entries_length calls units at) (omega arith)
+    ∙ ap (λ (es : List Entry). entries_of calls units at ++ es) set_free
+    ∙ sym (append_assoc (entries_of calls units at) (unit_entries calls unit here) (inside (room - word_count unit)))
+    ∙ ap (λ (es : List Entry). es ++ inside (room - word_count unit)) (sym (entries_more calls units unit at))
 
 pub inside_is : (n : ℕ) → replicate n E.Inside ≡ inside n
 unfolding inside

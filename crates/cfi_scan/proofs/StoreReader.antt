@@ -1,9 +1,9 @@
 -- Stores behind a mask, read word by word: each of them is one more, up to sixteen.
-use Rattle.std.proofs.Common.{◌≡◌, ◌≢◌, ℕ, ◌+◌, ◌*◌, ◌^◌, ◌<◌, ◌≤◌, ◌==◌, ◌&&◌, ◌||◌, Bool, true, false, arith, lit<, lit≤, refl, ap, sym, subst, ◌∙◌, List, [], ◌∷◌, ◌++◌, length, map, take, drop, Some, None}
-use Rattle.std.specs.Prelude.{Option, is_none, nat_le, nat_lt, slice_get}
+use Rattle.std.proofs.Common.{◌≡◌, ◌≢◌, ℕ, ◌+◌, ◌^◌, ◌<◌, ◌≤◌, ◌==◌, true, false, arith, lit<, lit≤, refl, ap, sym, subst, ◌∙◌, List, [], ◌∷◌, ◌++◌, length, map, take, drop, Some, None}
+use Rattle.std.specs.Prelude.{Option, nat_lt, slice_get}
 use Rattle.std.specs.List.{AllByRecursion}
 use Rattle.std.proofs.lemmas.Bool.{and_parts, eqb-true, le-leb, ltb-true}
-use Rattle.std.proofs.lemmas.List.{append_assoc, length-append, map-append}
+use Rattle.std.proofs.lemmas.List.{length-append}
 use Rattle.rv_instr.specs.declared.instr.Instr.{Instr}
 use Rattle.rv_instr.specs.declared.instr.Instr.TheVariants.{Store, Immediate, Shift}
 use Rattle.rv_instr.specs.declared.instr.ImmediateOp.TheVariants.{Addi}
@@ -85,8 +85,8 @@ mask_some ws at rs1 imm members v same e =
     let e' : recognised ws at ≡ Some (V.Stores rs1 imm members) = e ∙ ap Some (sym same) in
     ltb-true 0 (length members) (told_stands ws at (V.Stores rs1 imm members) e')
 
-pub mask_open : (count : ℕ) (held : List ℕ) (at : ℕ) → IsReading (R.Mask count) held at → recognised held at ≡ None
-mask_open count held at (rs1, imm, (low, small, some, few, part)) =
+pub mask_open : (calls : List ℕ) (count : ℕ) (held : List ℕ) (at : ℕ) → IsReading calls (R.Mask count) held at → recognised held at ≡ None
+mask_open calls count held at (rs1, imm, (low, small, some, few, part)) =
     let n = part_length (V.Stores rs1 imm (FILLER ∷ [])) count held at part in
     unfinished held at 4 (omega (arith, n, few)) (λ v e.
     let members = members_in (take MOST_MEMBERS (drop 3 (held ++ []))) in
@@ -94,9 +94,9 @@ mask_open count held at (rs1, imm, (low, small, some, few, part)) =
     let one : 0 < length members = mask_some (held ++ []) at rs1 imm members v same e in
     subst (λ (u : U.Unit). 4 ≤ word_count u) same (omega (arith, one)))
 
-pub mask_more : (count word here : ℕ) → count < 3 → word ≡ 0x24fdf93 → LeadsOn (R.Mask count) word here (More (R.Mask 3))
+pub mask_more : (calls : List ℕ) (count word here : ℕ) → count < 3 → word ≡ 0x24fdf93 → LeadsOn calls (R.Mask count) word here (More (R.Mask 3))
 unfolding words_of code_of
-mask_more count word here first is held at (rs1, imm, (low, small, some, few, part)) place =
+mask_more calls count word here first is held at (rs1, imm, (low, small, some, few, part)) place =
     let u : U.Unit = V.Stores rs1 imm (FILLER ∷ []) in
     let two : count ≡ 2 = omega (arith, some, first) in
     let part' : held ≡ take 2 (words_of u at) = part.held_is ∙ ap (λ k. take k (words_of u at)) two in (
@@ -111,9 +111,9 @@ mask_more count word here first is held at (rs1, imm, (low, small, some, few, pa
       ),
     )
 
-pub mask_wrong : (count word here : ℕ) → count < 3 → word ≢ 0x24fdf93 → LeadsOn (R.Mask count) word here (More R.Stuck)
+pub mask_wrong : (calls : List ℕ) (count word here : ℕ) → count < 3 → word ≢ 0x24fdf93 → LeadsOn calls (R.Mask count) word here (More R.Stuck)
 unfolding words_of code_of
-mask_wrong count word here first other held at (rs1, imm, (low, small, some, few, part)) place =
+mask_wrong calls count word here first other held at (rs1, imm, (low, small, some, few, part)) place =
     let u : U.Unit = V.Stores rs1 imm (FILLER ∷ []) in
     let m = part_length u count held at part in
     let n : length held ≡ 2 = omega (arith, m, some, first) in
@@ -121,10 +121,10 @@ mask_wrong count word here first other held at (rs1, imm, (low, small, some, few
     (ap (slice_get (words_of u at)) n) other
 
 -- the first store
-pub mask_stores : (count word here : ℕ) → 3 ≤ count → word < 2 ^ 32 → stores_there (decoded word) ≡ true →
-    LeadsOn (R.Mask count) word here (More (R.Stores 1))
+pub mask_stores : (calls : List ℕ) (count word here : ℕ) → 3 ≤ count → word < 2 ^ 32 → stores_there (decoded word) ≡ true →
+    LeadsOn calls (R.Mask count) word here (More (R.Stores 1))
 unfolding words_of
-mask_stores count word here last small stores held at (rs1, imm, (low, fits, some, few, part)) place =
+mask_stores calls count word here last small stores held at (rs1, imm, (low, fits, some, few, part)) place =
     let three : count ≡ 3 = omega (arith, last, few) in
     let m = member_word word small stores in
     let u : U.Unit = V.Stores rs1 imm (m.member ∷ []) in
@@ -139,8 +139,8 @@ behind n held rest is = ap (λ k. drop k (held ++ rest)) (sym is) ∙ past held
     past [] = refl
     past (w ∷ ws) = past ws
 
-pub mask_fails : (count word here : ℕ) → 3 ≤ count → stores_there (decoded word) ≡ false → LeadsOn (R.Mask count) word here (More R.Stuck)
-mask_fails count word here last fails held at (rs1, imm, (low, fits, some, few, part)) place =
+pub mask_fails : (calls : List ℕ) (count word here : ℕ) → 3 ≤ count → stores_there (decoded word) ≡ false → LeadsOn calls (R.Mask count) word here (More R.Stuck)
+mask_fails calls count word here last fails held at (rs1, imm, (low, fits, some, few, part)) place =
     let m = part_length (V.Stores rs1 imm (FILLER ∷ [])) count held at part in
     let n : length held ≡ 3 = omega (arith, m, last, few) in
     never held word at (λ v rest e.
@@ -181,14 +181,14 @@ module _ (count word here : ℕ) (small : word < 2 ^ 32) (taken : MayTake (R.Sto
         ),
       )
 
-  pub stores_more : count < 15 → LeadsOn (R.Stores count) word here (More (R.Stores (count + 1)))
-  stores_more few held at (rs1, imm, members, (low, fits, counted, some, most, each, held_is)) place =
+  pub stores_more : (calls : List ℕ) → count < 15 → LeadsOn calls (R.Stores count) word here (More (R.Stores (count + 1)))
+  stores_more calls few held at (rs1, imm, members, (low, fits, counted, some, most, each, held_is)) place =
       let (m, (fine, words_are)) = stores_on held at rs1 imm members held_is in
       let sum = length-append members (m ∷ []) in
       (rs1, imm, members ++ m ∷ [], (low, fits, omega arith, omega arith, omega arith, each_more members m each fine, words_are))
 
-  pub stores_last : 15 ≤ count → LeadsOn (R.Stores count) word here (Done E.Other)
-  stores_last all held at (rs1, imm, members, (low, fits, counted, some, most, each, held_is)) place =
+  pub stores_last : (calls : List ℕ) → 15 ≤ count → LeadsOn calls (R.Stores count) word here (Done E.Other)
+  stores_last calls all held at (rs1, imm, members, (low, fits, counted, some, most, each, held_is)) place =
       let (m, (fine, words_are)) = stores_on held at rs1 imm members held_is in
       let sum = length-append members (m ∷ []) in
       let sixteen : length (members ++ m ∷ []) ≡ 16 = omega arith in (

@@ -1,5 +1,5 @@
 -- The units that one address does not decide: a call and a return, read word by word.
-use Rattle.std.proofs.Common.{◌≡◌, ◌≢◌, ℕ, ◌+◌, ◌*◌, ◌%◌, ◌^◌, ◌<◌, ◌≤◌, ◌==◌, true, false, arith, lit<, lit≤, refl, ap, sym, subst, ◌∙◌, List, [], ◌∷◌, ◌++◌, length, take, Some, None}
+use Rattle.std.proofs.Common.{◌≡◌, ◌≢◌, ℕ, ◌+◌, ◌*◌, ◌%◌, ◌^◌, ◌<◌, ◌≤◌, ◌==◌, arith, lit<, lit≤, refl, ap, sym, subst, ◌∙◌, List, [], ◌∷◌, ◌++◌, length, take, Some, None}
 use Rattle.std.specs.Prelude.{Option, slice_get}
 use Rattle.std.proofs.lemmas.Bool.{eqb-true}
 use Rattle.rv_word.specs.MemoryMap.{CODE_START}
@@ -24,7 +24,7 @@ use Rattle.cfi_scan.specs.declared.reader.Step.TheVariants.{More, Done}
 use Rattle.cfi_scan.specs.Fields.{link_field}
 use Rattle.cfi_scan.specs.Stream.{IsCode, IsPart, IsReading, LeadsOn}
 use Rattle.cfi_unit.proofs.LedBack.{led_back}
-use Rattle.cfi_scan.proofs.Template.{Agree, first_tells, is_next, more_part, more_words, never, next_decoded, part_length, unfinished, was_read, wrong_word}
+use Rattle.cfi_scan.proofs.Template.{Agree, first_tells, is_next, more_part, more_words, never, part_length, unfinished, was_read, wrong_word}
 
 -- a unit's jump reaches the handler that stands at the begin of code
 pub halt_reached : (here from to : ℕ) → IsCode here → from ≤ here → here ≤ from + 128 → from % 4 ≡ 0 → to % 4 ≡ 0 →
@@ -63,8 +63,8 @@ call_agree count held at some part v rest e =
     let (target, same) = call_is count held at some part v rest e in
     subst (λ (u : U.Unit). take 7 (words_of u at) ≡ take 7 (words_of (V.Call (at + 28)) at)) same refl
 
-pub call_open : (count : ℕ) (held : List ℕ) (at : ℕ) → IsReading (R.Call count) held at → recognised held at ≡ None
-call_open count held at (some, part) =
+pub call_open : (calls : List ℕ) (count : ℕ) (held : List ℕ) (at : ℕ) → IsReading calls (R.Call count) held at → recognised held at ≡ None
+call_open calls count held at (some, part) =
     let n = part_length (V.Call (at + 28)) count held at part in
     let below : count < 8 = part.below in
     unfinished held at 8 (omega (arith, n, below)) (λ v e.
@@ -74,22 +74,22 @@ call_open count held at (some, part) =
 abbrev pub IsCallCode : ℕ → ℕ → ℕ → Type 0
 IsCallCode count here code = (at : ℕ) → here ≡ at + 4 * count → slice_get (words_of (V.Call (at + 28)) at) count ≡ Some code
 
-pub call_more : (count word here : ℕ) → count < 7 → IsCallCode count here word → LeadsOn (R.Call count) word here (More (R.Call (count + 1)))
-call_more count word here low code held at (some, part) place =
+pub call_more : (calls : List ℕ) (count word here : ℕ) → count < 7 → IsCallCode count here word → LeadsOn calls (R.Call count) word here (More (R.Call (count + 1)))
+call_more calls count word here low code held at (some, part) place =
     let n = part_length (V.Call (at + 28)) count held at part in
     (omega (arith, some), more_part (V.Call (at + 28)) count held word at part (omega (arith, low)) (code at (omega (arith, place, n))))
 
-pub call_wrong : (count word here code : ℕ) → count < 7 → IsCallCode count here code → word ≢ code →
-    LeadsOn (R.Call count) word here (More R.Stuck)
-call_wrong count word here code low is other held at (some, part) place =
+pub call_wrong : (calls : List ℕ) (count word here code : ℕ) → count < 7 → IsCallCode count here code → word ≢ code →
+    LeadsOn calls (R.Call count) word here (More R.Stuck)
+call_wrong calls count word here code low is other held at (some, part) place =
     let n = part_length (V.Call (at + 28)) count held at part in
     wrong_word held word at 7 (words_of (V.Call (at + 28)) at) code (call_agree count held at some part) (omega (arith, low, n))
     (ap (slice_get (words_of (V.Call (at + 28)) at)) n ∙ is at (omega (arith, place, n))) other
 
-pub call_ends : (count word here field : ℕ) → IsCode here → word < 2 ^ 32 → 7 ≤ count → link_field (decoded word) ≡ Some field →
-    LeadsOn (R.Call count) word here (Done (E.Call field))
+pub call_ends : (calls : List ℕ) (count word here field : ℕ) → IsCode here → word < 2 ^ 32 → 7 ≤ count → link_field (decoded word) ≡ Some field →
+    LeadsOn calls (R.Call count) word here (Done (E.Call field))
 unfolding words_of
-call_ends count word here field code small most links held at (some, part) place =
+call_ends calls count word here field code small most links held at (some, part) place =
     let n = part_length (V.Call (at + 28)) count held at part in
     let below : count < 8 = part.below in
     let seven : count ≡ 7 = omega (arith, below, most) in
@@ -115,9 +115,9 @@ call_ends count word here field code small most links held at (some, part) place
       ),
     )
 
-pub call_fails : (count word here : ℕ) → 7 ≤ count → link_field (decoded word) ≡ None → LeadsOn (R.Call count) word here (More R.Stuck)
+pub call_fails : (calls : List ℕ) (count word here : ℕ) → 7 ≤ count → link_field (decoded word) ≡ None → LeadsOn calls (R.Call count) word here (More R.Stuck)
 unfolding words_of
-call_fails count word here most fails held at (some, part) place =
+call_fails calls count word here most fails held at (some, part) place =
     let n = part_length (V.Call (at + 28)) count held at part in
     let below : count < 8 = part.below in
     let seven : length held ≡ 7 = omega (arith, n, below, most) in
@@ -148,8 +148,8 @@ return_agree : (count : ℕ) (held : List ℕ) (at : ℕ) → 1 ≤ count → Is
 return_agree count held at some part v rest e =
     ap (λ (u : U.Unit). take 5 (words_of u at)) (sym (return_is count held at some part v rest e))
 
-pub return_open : (count : ℕ) (held : List ℕ) (at : ℕ) → IsReading (R.Return count) held at → recognised held at ≡ None
-return_open count held at (some, part) =
+pub return_open : (calls : List ℕ) (count : ℕ) (held : List ℕ) (at : ℕ) → IsReading calls (R.Return count) held at → recognised held at ≡ None
+return_open calls count held at (some, part) =
     let n = part_length V.Return count held at part in
     let below : count < 5 = part.below in
     unfinished held at 5 (omega (arith, n, below)) (λ v e.
@@ -158,22 +158,22 @@ return_open count held at (some, part) =
 abbrev pub IsReturnCode : ℕ → ℕ → ℕ → Type 0
 IsReturnCode count here code = (at : ℕ) → here ≡ at + 4 * count → slice_get (words_of V.Return at) count ≡ Some code
 
-pub return_more : (count word here : ℕ) → count < 4 → IsReturnCode count here word →
-    LeadsOn (R.Return count) word here (More (R.Return (count + 1)))
-return_more count word here low code held at (some, part) place =
+pub return_more : (calls : List ℕ) (count word here : ℕ) → count < 4 → IsReturnCode count here word →
+    LeadsOn calls (R.Return count) word here (More (R.Return (count + 1)))
+return_more calls count word here low code held at (some, part) place =
     let n = part_length V.Return count held at part in
     (omega (arith, some), more_part V.Return count held word at part (omega (arith, low)) (code at (omega (arith, place, n))))
 
-pub return_wrong : (count word here code : ℕ) → count < 4 → IsReturnCode count here code → word ≢ code →
-    LeadsOn (R.Return count) word here (More R.Stuck)
-return_wrong count word here code low is other held at (some, part) place =
+pub return_wrong : (calls : List ℕ) (count word here code : ℕ) → count < 4 → IsReturnCode count here code → word ≢ code →
+    LeadsOn calls (R.Return count) word here (More R.Stuck)
+return_wrong calls count word here code low is other held at (some, part) place =
     let n = part_length V.Return count held at part in
     wrong_word held word at 5 (words_of V.Return at) code (return_agree count held at some part) (omega (arith, low, n))
     (ap (slice_get (words_of V.Return at)) n ∙ is at (omega (arith, place, n))) other
 
-pub return_ends : (count word here : ℕ) → IsCode here → 4 ≤ count → word ≡ 0xf8067 → LeadsOn (R.Return count) word here (Done E.Other)
+pub return_ends : (calls : List ℕ) (count word here : ℕ) → IsCode here → 4 ≤ count → word ≡ 0xf8067 → LeadsOn calls (R.Return count) word here (Done E.Other)
 unfolding words_of code_of
-return_ends count word here code most is held at (some, part) place =
+return_ends calls count word here code most is held at (some, part) place =
     let n = part_length V.Return count held at part in
     let below : count < 5 = part.below in
     let four : count ≡ 4 = omega (arith, below, most) in
@@ -189,9 +189,9 @@ return_ends count word here code most is held at (some, part) place =
       ),
     )
 
-pub return_fails : (count word here : ℕ) → 4 ≤ count → word ≢ 0xf8067 → LeadsOn (R.Return count) word here (More R.Stuck)
+pub return_fails : (calls : List ℕ) (count word here : ℕ) → 4 ≤ count → word ≢ 0xf8067 → LeadsOn calls (R.Return count) word here (More R.Stuck)
 unfolding words_of code_of
-return_fails count word here most other held at (some, part) place =
+return_fails calls count word here most other held at (some, part) place =
     let m = part_length V.Return count held at part in
     let below : count < 5 = part.below in
     let n : length held ≡ 4 = omega (arith, m, below, most) in

@@ -1,6 +1,6 @@
 -- Words of private contracts: entries in four bytes, the number of the kind times 2^20, and the field or label.
--- The kinds that are no transfer and no gate come first.
-use Rattle.std.specs.Prelude.{◌≡◌, ℕ, ◌+◌, ◌*◌, ◌/◌, ◌%◌, ◌^◌, ◌==◌, if◌then◌else◌}
+-- The kinds that are no transfer, no gate and no system call come first.
+use Rattle.std.specs.Prelude.{◌≡◌, ℕ, ◌+◌, ◌*◌, ◌/◌, ◌%◌, ◌^◌, ◌==◌, true, false, if◌then◌else◌}
 use Rattle.cfi_unit.specs.declared.target_word.TargetWord.TheVariants.{First, Second}
 use Rattle.cfi_scan.specs.declared.entry.Entry.{Entry}
 use Rattle.cfi_scan.specs.declared.entry.Entry.TheVariants as E
@@ -17,6 +17,9 @@ packed (E.Ijump First label) = 7 * 2 ^ 20 + label
 packed (E.Icall label) = 8 * 2 ^ 20 + label
 packed (E.Ijump Second label) = 9 * 2 ^ 20 + label
 packed (E.Gate label) = 10 * 2 ^ 20 + label
+packed E.Ecall = 11 * 2 ^ 20
+packed (E.Guarded false) = 12 * 2 ^ 20
+packed (E.Guarded true) = 13 * 2 ^ 20
 
 abbrev pub of_kind : ℕ → ℕ → Entry
 of_kind kind field =
@@ -30,7 +33,10 @@ of_kind kind field =
     else if kind == 7 then E.Ijump First field
     else if kind == 8 then E.Icall field
     else if kind == 9 then E.Ijump Second field
-    else E.Gate field
+    else if kind == 10 then E.Gate field
+    else if kind == 11 then E.Ecall
+    else if kind == 12 then E.Guarded false
+    else E.Guarded true
 
 abbrev pub unpacked : ℕ → Entry
 unpacked word = of_kind (word / 2 ^ 20) (word % 2 ^ 20)

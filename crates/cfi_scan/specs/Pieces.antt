@@ -27,11 +27,13 @@ pub record IsFront (p : Profile) (words start : ℕ) : Type 0 where
 abbrev pub HasPlace : Profile → List Entry → Type 0
 HasPlace p entries = p.units_from + 4 * length entries ≤ CODE_START + CODE_SIZE
 
--- what a feeder keeps: the version of the image, the prologue's words, an entry for each word after it that
--- there is room for, how many of these belong to units that have ended, where the last of these starts, how
--- far the next one is read, the bytes of the word that is not whole, and how many bytes came
+-- what a feeder keeps: the version of the image, the list of system calls (empty where there is none), the
+-- prologue's words, an entry for each word after it that there is room for, how many of these belong to units
+-- that have ended, where the last of these starts, how far the next one is read, the bytes of the word that is
+-- not whole, and how many bytes came
 pub record Sight : Type 0 where
   pub version : ℕ
+  pub calls : List ℕ
   pub prologue : List ℕ
   pub entries : List Entry
   pub done : ℕ
@@ -41,14 +43,14 @@ pub record Sight : Type 0 where
   pub fed : ℕ
 
 -- the words after the prologue are split into units; those past the room are only counted
-abbrev pub Follows : Profile → List Entry → ℕ → ℕ → Reader → List ℕ → Type 0
-Follows p entries done last reader words =
-    length words ≤ length entries → Splits p.units_from [] entries done last reader words
+abbrev pub Follows : Profile → List ℕ → List Entry → ℕ → ℕ → Reader → List ℕ → Type 0
+Follows p calls entries done last reader words =
+    length words ≤ length entries → Splits calls p.units_from [] entries done last reader words
 
 -- of these words the prologue's are kept, and the units of the others
-pub record Keeps (p : Profile) (prologue : List ℕ) (entries : List Entry) (done last : ℕ) (reader : Reader) (words : List ℕ) : Type 0 where
+pub record Keeps (p : Profile) (calls : List ℕ) (prologue : List ℕ) (entries : List Entry) (done last : ℕ) (reader : Reader) (words : List ℕ) : Type 0 where
   pub prologue_is : take (min (length words) (prologue_count p)) prologue ≡ take (prologue_count p) words
-  pub split : Follows p entries done last reader (drop (prologue_count p) words)
+  pub split : Follows p calls entries done last reader (drop (prologue_count p) words)
 
 -- all that a feeder has seen are these bytes
 pub record HasSeen (p : Profile) (s : Sight) (bytes : List ℕ) : Type 0 where
@@ -56,7 +58,7 @@ pub record HasSeen (p : Profile) (s : Sight) (bytes : List ℕ) : Type 0 where
   pub cut : IsCut bytes words s.left
   pub fed : s.fed ≡ length bytes
   pub prologue : s.prologue ≡ take (prologue_count p) words
-  pub split : Follows p s.entries s.done s.last s.reader (drop (prologue_count p) words)
+  pub split : Follows p s.calls s.entries s.done s.last s.reader (drop (prologue_count p) words)
 
 -- what is left of a code that has ended
 pub record Listed : Type 0 where
@@ -67,12 +69,12 @@ pub record Listed : Type 0 where
   pub last : ℕ
   pub fed : ℕ
 
--- it is that of a code of these bytes
-pub record IsOf (p : Profile) (t : Listed) (bytes : List ℕ) : Type 0 where
+-- it is that of a code of these bytes, under a list
+pub record IsOf (p : Profile) (calls : List ℕ) (t : Listed) (bytes : List ℕ) : Type 0 where
   pub words : List ℕ
   pub left : List ℕ
   pub cut : IsCut bytes words left
   pub fed : t.fed ≡ length bytes
   pub prologue : t.prologue ≡ take (prologue_count p) words
   pub split : length (drop (prologue_count p) words) ≤ length t.entries →
-      IsSplitUp p.units_from t.entries t.done t.last (drop (prologue_count p) words)
+      IsSplitUp calls p.units_from t.entries t.done t.last (drop (prologue_count p) words)

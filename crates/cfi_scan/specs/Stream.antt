@@ -1,8 +1,9 @@
 -- Units in a row, of words that come one by one: the units that have ended, and how far the one is read
 -- that has begun.
-use Rattle.std.specs.Prelude.{◌≡◌, ℕ, ◌+◌, ◌*◌, ◌%◌, ◌<◌, ◌≤◌, ◌^◌, Bool, false, IsTrue, List, [], ◌∷◌, ◌++◌, length, take, None, true}
+use Rattle.std.specs.Prelude.{◌≡◌, ℕ, ◌+◌, ◌*◌, ◌/◌, ◌%◌, ◌<◌, ◌≤◌, ◌^◌, Bool, false, IsTrue, List, [], ◌∷◌, ◌++◌, length, min, take, None, true}
 use Rattle.std.specs.List.{AllByRecursion}
 use Rattle.rv_word.specs.MemoryMap.{CODE_START, CODE_SIZE}
+use Rattle.rv_word.specs.Numbers.{IsNumber, MOST_NUMBERS}
 use Rattle.rv_instr.specs.declared.instr.BranchOp.{BranchOp}
 use Rattle.rv_instr.specs.declared.instr.Instr.TheVariants.{Branch, Immediate}
 use Rattle.rv_instr.specs.declared.instr.ImmediateOp.TheVariants.{Addi}
@@ -20,8 +21,8 @@ use Rattle.cfi_scan.specs.declared.reader.Reader.{Reader}
 use Rattle.cfi_scan.specs.declared.reader.Reader.TheVariants as R
 use Rattle.cfi_scan.specs.declared.reader.Step.{Step}
 use Rattle.cfi_scan.specs.declared.reader.Step.TheVariants.{More, Done}
-use Rattle.cfi_scan.specs.Entries.{entries_of, entry_of, inside}
-use Rattle.cfi_scan.specs.Fields.{stores_there}
+use Rattle.cfi_scan.specs.Entries.{are_same, entries_of, entry_of, inside}
+use Rattle.cfi_scan.specs.Fields.{is_number, stores_there}
 
 -- an address at which a word of code may stand
 pub record IsCode (at : ℕ) : Type 0 where
@@ -61,49 +62,61 @@ pub record IsPart (unit : U.Unit) (count : ℕ) (held : List ℕ) (at : ℕ) : T
   pub held_is : held ≡ take count (words_of unit at)
   pub below : count < word_count unit
 
+-- how many numbers of a system call so many words of its unit tell
+abbrev pub numbers_read : ℕ → ℕ → ℕ
+numbers_read count pairs = min ((count + 1) / 2) pairs
+
 -- what is held of a unit that has begun, by how far it is read. Fields that no word has told yet are
 -- zero here, a member behind a mask is any, or the first word of a destination, and so is a call's distance: only its last word has it.
-abbrev pub IsReading : Reader → List ℕ → ℕ → Type 0
-IsReading R.Start held at = held ≡ []
-IsReading R.Branch held at =
+-- Of a system call's numbers those that are not read are any.
+abbrev pub IsReading : List ℕ → Reader → List ℕ → ℕ → Type 0
+IsReading calls R.Start held at = held ≡ []
+IsReading calls R.Branch held at =
     (op : BranchOp) × (rs1 : ℕ) × (rs2 : ℕ)
     × ((rs1 < 32) × (rs2 < 32) × (held ≡ code_of (Branch op rs1 rs2 skip_offset) ∷ []))
-IsReading R.Address held at =
-    (rs1 : ℕ) × (imm : ℕ) × ((rs1 < 32) × (imm < 2 ^ 12) × (held ≡ code_of (Immediate Addi 31 rs1 imm) ∷ []))
-IsReading (R.Mask count) held at =
+IsReading calls R.Address held at =
+    (rs1 : ℕ) × (imm : ℕ)
+    × ((rs1 < 32) × (imm < 2 ^ 12) × (is_number rs1 imm ≡ false) × (held ≡ code_of (Immediate Addi 31 rs1 imm) ∷ []))
+IsReading calls (R.Number same) held at =
+    (n : ℕ) × ((n < 2 ^ 11) × (same ≡ are_same (n ∷ []) (take 1 calls)) × (held ≡ code_of (Immediate Addi 31 0 n) ∷ []))
+IsReading calls (R.Guard count pairs same) held at =
+    (ns : List ℕ)
+    × ((length ns ≡ pairs) × (pairs ≤ MOST_NUMBERS) × AllByRecursion IsNumber ns × (2 ≤ count) × IsPart (V.Guarded ns) count held at
+    × (same ≡ are_same (take (numbers_read count pairs) ns) (take (numbers_read count pairs) calls)))
+IsReading calls (R.Mask count) held at =
     (rs1 : ℕ) × (imm : ℕ)
     × ((rs1 < 32) × (imm < 2 ^ 12) × (2 ≤ count) × (count ≤ 3) × IsPart (V.Stores rs1 imm (FILLER ∷ [])) count held at)
-IsReading (R.Stores count) held at =
+IsReading calls (R.Stores count) held at =
     (rs1 : ℕ) × (imm : ℕ) × (members : List Member)
     × ((rs1 < 32) × (imm < 2 ^ 12) × (length members ≡ count) × (0 < count) × (count < MOST_MEMBERS)
     × AllByRecursion IsMember members × (held ≡ words_of (V.Stores rs1 imm members) at))
-IsReading (R.Call count) held at = (1 ≤ count) × IsPart (V.Call (at + 28)) count held at
-IsReading (R.Check count) held at =
+IsReading calls (R.Call count) held at = (1 ≤ count) × IsPart (V.Call (at + 28)) count held at
+IsReading calls (R.Check count) held at =
     (rs1 : ℕ) × (imm : ℕ)
     × ((rs1 < 32) × (imm < 2 ^ 12) × (2 ≤ count) × (count ≤ 7) × IsPart (V.Ijump First rs1 imm 0) count held at)
-IsReading (R.Loaded which) held at =
+IsReading calls (R.Loaded which) held at =
     (rs1 : ℕ) × (imm : ℕ) × ((rs1 < 32) × (imm < 2 ^ 12) × IsPart (V.Ijump which rs1 imm 0) 8 held at)
-IsReading (R.Labelled count which label) held at =
+IsReading calls (R.Labelled count which label) held at =
     (rs1 : ℕ) × (imm : ℕ)
     × ((rs1 < 32) × (imm < 2 ^ 12) × (label < 2 ^ 20) × (9 ≤ count) × IsPart (V.Ijump which rs1 imm label) count held at)
-IsReading (R.Push count label) held at =
+IsReading calls (R.Push count label) held at =
     (rs1 : ℕ) × (imm : ℕ)
     × ((rs1 < 32) × (imm < 2 ^ 12) × (label < 2 ^ 20) × (13 ≤ count) × IsPart (V.Icall rs1 imm label) count held at)
-IsReading (R.Return count) held at = (1 ≤ count) × IsPart V.Return count held at
-IsReading R.Stuck held at = NeverBegins held at
+IsReading calls (R.Return count) held at = (1 ≤ count) × IsPart V.Return count held at
+IsReading calls R.Stuck held at = NeverBegins held at
 
 -- where one word more leads: the unit is read further, or it has ended and nothing that follows changes it
-abbrev pub Leads : List ℕ → ℕ → ℕ → Step → Type 0
-Leads held word at (More reader) = IsReading reader (held ++ word ∷ []) at
-Leads held word at (Done entry) =
+abbrev pub Leads : List ℕ → List ℕ → ℕ → ℕ → Step → Type 0
+Leads calls held word at (More reader) = IsReading calls reader (held ++ word ∷ []) at
+Leads calls held word at (Done entry) =
     (unit : U.Unit)
-    × (Fits unit at × (entry ≡ entry_of unit at) × (held ++ word ∷ [] ≡ words_of unit at)
+    × (Fits unit at × (entry ≡ entry_of calls unit at) × (held ++ word ∷ [] ≡ words_of unit at)
     × ((rest : List ℕ) → may_precede unit at rest ≡ true))
 
 -- a word of code at an address is the next of a unit that has begun
-abbrev pub LeadsOn : Reader → ℕ → ℕ → Step → Type 0
-LeadsOn reader word here step =
-    (held : List ℕ) (at : ℕ) → IsReading reader held at → here ≡ at + 4 * length held → Leads held word at step
+abbrev pub LeadsOn : List ℕ → Reader → ℕ → ℕ → Step → Type 0
+LeadsOn calls reader word here step =
+    (held : List ℕ) (at : ℕ) → IsReading calls reader held at → here ≡ at + 4 * length held → Leads calls held word at step
 
 -- what is read is a unit already, if the next word does not belong to it
 abbrev pub is_open : Reader → Bool
@@ -128,25 +141,25 @@ MayTake reader word = belongs reader word ≡ true
 
 -- the words so far, of which `next` are known to follow, are these units and a part of one: one entry
 -- for each word that there is room for
-pub record Splits (from : ℕ) (next : List ℕ) (entries : List Entry) (done last : ℕ) (reader : Reader) (words : List ℕ) : Type 0 where
+pub record Splits (calls : List ℕ) (from : ℕ) (next : List ℕ) (entries : List Entry) (done last : ℕ) (reader : Reader) (words : List ℕ) : Type 0 where
   pub units : List U.Unit
   pub held : List ℕ
   pub room : ℕ
   pub words_are : words ≡ spelled units from ++ held
   pub stand : (rest : List ℕ) → AllStand units from (held ++ (next ++ rest))
-  pub entries_are : entries ≡ entries_of units from ++ inside room
+  pub entries_are : entries ≡ entries_of calls units from ++ inside room
   pub done_is : done ≡ width units
   pub last_is : last ≡ last_of units
-  pub reading : IsReading reader held (from + 4 * width units)
+  pub reading : IsReading calls reader held (from + 4 * width units)
 
 -- the words are these units and, past them, words with which no unit begins
-pub record IsSplitUp (from : ℕ) (entries : List Entry) (done last : ℕ) (words : List ℕ) : Type 0 where
+pub record IsSplitUp (calls : List ℕ) (from : ℕ) (entries : List Entry) (done last : ℕ) (words : List ℕ) : Type 0 where
   pub units : List U.Unit
   pub past : List ℕ
   pub room : ℕ
   pub words_are : words ≡ spelled units from ++ past
   pub stand : AllStand units from past
-  pub entries_are : entries ≡ entries_of units from ++ inside room
+  pub entries_are : entries ≡ entries_of calls units from ++ inside room
   pub done_is : done ≡ width units
   pub last_is : last ≡ last_of units
   pub none : recognised past (from + 4 * width units) ≡ None

@@ -1,4 +1,4 @@
-ghost use Rattle.std.specs.Prelude.{◌≡◌, []};
+ghost use Rattle.std.specs.Prelude.{◌≡◌, [], ℕ, List};
 ghost use Rattle.std.specs.Prelude.{◌∷◌};
 ghost use Rattle.cfi_scan.specs.Stream.{IsCode, LeadsOn, MayTake};
 ghost use Rattle.cfi_scan.specs.declared.reader.Reader.TheVariants as R;
@@ -26,7 +26,7 @@ pub(crate) fn is_jump(word: u32) -> bool
 pub(crate) fn jump_word(word: u32, here: u64) -> Step
     requires place { IsCode here }
     requires taken { MayTake R.Branch word }
-    ensures { LeadsOn R.Branch word here result }
+    ensures { (calls : List ℕ) → LeadsOn calls R.Branch word here result }
 {
     let Some(instr) = decode(word) else {
         return Step::More(Reader::Stuck);

@@ -1,4 +1,4 @@
-ghost use Rattle.std.specs.Prelude.{◌≡◌, ◌∷◌, ◌+◌, ◌*◌, ◌<◌, ◌≤◌, ℕ, Some, slice_get};
+ghost use Rattle.std.specs.Prelude.{◌≡◌, ◌∷◌, ◌+◌, ◌*◌, ◌<◌, ◌≤◌, ℕ, Some, slice_get, List};
 ghost use Rattle.rv_code.specs.Decode.{decoded};
 ghost use Rattle.rv_code.specs.Encode.{code_of};
 ghost use Rattle.cfi_unit.specs.UnitWords.{jump, words_of};
@@ -47,7 +47,7 @@ pub(crate) fn push_code(index: u8, here: u64) -> u32
 /// Reads one word more of a call.
 pub(crate) fn call_word(count: u8, word: u32, here: u64) -> Step
     requires place { IsCode here }
-    ensures { LeadsOn (R.Call count) word here result }
+    ensures { (calls : List ℕ) → LeadsOn calls (R.Call count) word here result }
 {
     if count < 7 {
         if word == push_code(count, here) {

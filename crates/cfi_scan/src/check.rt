@@ -1,11 +1,12 @@
 //! The words of a label check.
 
-ghost use Rattle.std.specs.Prelude.{◌≡◌, ◌≢◌, ◌+◌, ◌*◌, ◌<◌, ℕ, Some, slice_get};
+ghost use Rattle.std.specs.Prelude.{◌≡◌, ◌≢◌, ◌+◌, ◌*◌, ◌<◌, ℕ, Some, slice_get, List};
 ghost use Rattle.rv_code.specs.Decode.{decoded};
 ghost use Rattle.cfi_unit.specs.UnitWords.{words_of};
 ghost use Rattle.cfi_unit.specs.declared.target_word.TargetWord.{TargetWord};
 ghost use Rattle.cfi_unit.specs.declared.unit.Unit.TheVariants as V;
 ghost use Rattle.cfi_scan.specs.Fields.{label_field, push_step};
+ghost use Rattle.cfi_scan.specs.FirstStep.{second_step};
 ghost use Rattle.cfi_scan.specs.Stream.{IsCode, LeadsOn};
 ghost use Rattle.cfi_scan.specs.declared.reader.Reader.TheVariants as R;
 
@@ -48,10 +49,17 @@ const CHECK: [u32; 12] = [
     0,
 ];
 
-/// Reads the word after `addi x31`: that of a mask or of a computed transfer.
+/// Reads the word after `addi x31` of an address.
 pub(crate) fn address_word(word: u32, here: u64) -> Step
     requires place { IsCode here }
-    ensures { LeadsOn R.Address word here result }
+    ensures { (calls : List ℕ) → LeadsOn calls R.Address word here result }
+{
+    second_word(word)
+}
+
+/// Where the word after `addi x31` leads that is no test's: a mask or a computed transfer goes on.
+pub(crate) fn second_word(word: u32) -> Step
+    ensures { result ≡ second_step word }
 {
     if word == SHIFT {
         Step::More(Reader::Mask(2))
@@ -65,7 +73,7 @@ pub(crate) fn address_word(word: u32, here: u64) -> Step
 /// Reads one word more of a computed transfer, up to the load of a word of its destination.
 pub(crate) fn check_word(count: u8, word: u32, here: u64) -> Step
     requires place { IsCode here }
-    ensures { LeadsOn (R.Check count) word here result }
+    ensures { (calls : List ℕ) → LeadsOn calls (R.Check count) word here result }
 {
     if count < 7 {
         if word == check_code(count, here) {
@@ -85,7 +93,7 @@ pub(crate) fn check_word(count: u8, word: u32, here: u64) -> Step
 /// Reads the label of a computed transfer that loads this word of its destination.
 pub(crate) fn loaded_word(which: TargetWord, word: u32, here: u64) -> Step
     requires place { IsCode here }
-    ensures { LeadsOn (R.Loaded which) word here result }
+    ensures { (calls : List ℕ) → LeadsOn calls (R.Loaded which) word here result }
 {
     match label_field(word) {
         Some(label) => Step::More(Reader::Labelled(9, which, label)),
@@ -130,7 +138,7 @@ pub(crate) fn label_word(
     here: u64,
 ) -> Step
     requires place { IsCode here }
-    ensures { LeadsOn (R.Labelled count which label) word here result }
+    ensures { (calls : List ℕ) → LeadsOn calls (R.Labelled count which label) word here result }
 {
     if count < 12 {
         if word == check_code(count, here) {
@@ -161,7 +169,7 @@ fn push_step(which: TargetWord, label: Immediate<20>) -> Step
 /// Reads one word more of a computed call.
 pub(crate) fn push_word(count: u8, label: Immediate<20>, word: u32, here: u64) -> Step
     requires place { IsCode here }
-    ensures { LeadsOn (R.Push count label) word here result }
+    ensures { (calls : List ℕ) → LeadsOn calls (R.Push count label) word here result }
 {
     if count < 19 {
         if word == push_code(count.saturating_sub(12), here) {

@@ -23,6 +23,10 @@ pub enum Entry {
     Icall(Immediate<20>),
     /// A gate; its label.
     Gate(Immediate<20>),
+    /// A system call that tests nothing.
+    Ecall,
+    /// A system call behind tests of its number; whether the numbers are the list's, in its order.
+    Guarded(bool),
     /// Any other unit.
     Other,
 }

@@ -1,6 +1,7 @@
 ghost use Rattle.std.specs.Prelude.{◌≡◌, ◌+◌, ◌-◌, ◌*◌, ◌/◌, ◌%◌, ◌<◌, ◌≤◌, ◌^◌, ℕ, List, IfOk, [], ◌∷◌, ◌++◌, length};
 ghost use Rattle.rv_word.specs.MemoryMap.{CODE_SIZE, profile_of};
 ghost use Rattle.cfi_scan.specs.Carry.{word_of};
+ghost use Rattle.cfi_scan.specs.Entries.{numbers_or_none};
 ghost use Rattle.cfi_scan.specs.Pieces.{HasSeen, IsOf, prologue_count};
 
 use crate::carry::Carry;
@@ -8,7 +9,7 @@ use crate::kept::Kept;
 use crate::listing::Listing;
 use crate::splitter::Splitter;
 use crate::steps::Steps;
-use rv_word::NoMemory;
+use rv_word::{NoMemory, Numbers};
 use std::alloc::Global;
 use std::marker::Model;
 use std::sync::ledger::Ledger;
@@ -30,6 +31,7 @@ impl Model for Feeder {
 
     ghost view = { λ f. record {
       version = f.kept.units.front;
+      calls = f.kept.units.calls;
       prologue = take (min (f.carry.fed / 4) (prologue_count (profile_of f.kept.units.front))) f.kept.prologue;
       entries = f.kept.units.entries.items;
       done = f.kept.units.done;
@@ -43,15 +45,21 @@ impl Model for Feeder {
 }
 
 impl Feeder {
-    /// No byte yet, and room for a code of so many words, of a version.
-    pub fn new(alloc: Global, version: u8, words: usize) -> Result<Feeder, NoMemory>
+    /// No byte yet, and room for a code of so many words, of a version, under a list of system calls if there is one.
+    pub fn new(
+        alloc: Global,
+        version: u8,
+        calls: Option<Numbers>,
+        words: usize,
+    ) -> Result<Feeder, NoMemory>
         requires { 4 * words ≤ CODE_SIZE }
         ensures version { IfOk result (λ f. f.version ≡ version) }
+        ensures calls { IfOk result (λ f. f.calls ≡ numbers_or_none calls) }
         ensures seen { IfOk result (λ f. HasSeen (profile_of version) f []) }
         ensures room { IfOk result (λ f. length f.entries ≡ words - prologue_count (profile_of version)) }
     {
         Ok(Feeder {
-            kept: Kept::new(alloc, version, words)?,
+            kept: Kept::new(alloc, version, listed(calls), words)?,
             carry: Carry::new(),
         })
     }
@@ -68,6 +76,7 @@ impl Feeder {
         requires small { self.old.fed + length piece.now < 2 ^ 32 }
         ensures seen { (bytes : List ℕ) → HasSeen (profile_of self.old.version) self.old bytes → HasSeen (profile_of self.old.version) self.new (bytes ++ piece.now) }
         ensures version { self.new.version ≡ self.old.version }
+        ensures calls { self.new.calls ≡ self.old.calls }
         ensures fed { self.new.fed ≡ self.old.fed + length piece.now }
         ensures room { length self.new.entries ≡ length self.old.entries }
         ensures cost { steps.new + self.old.fed / 4 ≡ steps.old + self.new.fed / 4 }
@@ -87,6 +96,7 @@ impl Feeder {
         requires small { self.old.fed + length piece.now < 2 ^ 32 }
         ensures seen { (bytes : List ℕ) → HasSeen (profile_of self.old.version) self.old bytes → HasSeen (profile_of self.old.version) self.new (bytes ++ piece.now) }
         ensures version { self.new.version ≡ self.old.version }
+        ensures calls { self.new.calls ≡ self.old.calls }
         ensures fed { self.new.fed ≡ self.old.fed + length piece.now }
         ensures room { length self.new.entries ≡ length self.old.entries }
         ensures cost { steps.new + self.old.fed / 4 ≡ steps.old + self.new.fed / 4 }
@@ -102,6 +112,7 @@ impl Feeder {
         requires whole { self.old.fed % 4 ≡ 0 }
         ensures seen { (bytes : List ℕ) → HasSeen (profile_of self.old.version) self.old bytes → HasSeen (profile_of self.old.version) self.new (bytes ++ piece.now) }
         ensures version { self.new.version ≡ self.old.version }
+        ensures calls { self.new.calls ≡ self.old.calls }
         ensures fed { self.new.fed ≡ self.old.fed + length piece.now }
         ensures room { length self.new.entries ≡ length self.old.entries }
         ensures cost { steps.new + self.old.fed / 4 ≡ steps.old + self.new.fed / 4 }
@@ -119,6 +130,7 @@ impl Feeder {
         requires small { self.old.fed + 1 < 2 ^ 32 }
         ensures seen { (bytes : List ℕ) → HasSeen (profile_of self.old.version) self.old bytes → HasSeen (profile_of self.old.version) self.new (bytes ++ byte ∷ []) }
         ensures version { self.new.version ≡ self.old.version }
+        ensures calls { self.new.calls ≡ self.old.calls }
         ensures fed { self.new.fed ≡ self.old.fed + 1 }
         ensures room { length self.new.entries ≡ length self.old.entries }
         ensures cost { steps.new + self.old.fed / 4 ≡ steps.old + self.new.fed / 4 }
@@ -135,6 +147,7 @@ impl Feeder {
         requires whole { self.old.fed % 4 ≡ 0 }
         ensures seen { (bytes : List ℕ) → HasSeen (profile_of self.old.version) self.old bytes → HasSeen (profile_of self.old.version) self.new (bytes ++ a ∷ b ∷ c ∷ d ∷ []) }
         ensures version { self.new.version ≡ self.old.version }
+        ensures calls { self.new.calls ≡ self.old.calls }
         ensures fed { self.new.fed ≡ self.old.fed + 4 }
         ensures room { length self.new.entries ≡ length self.old.entries }
         ensures cost { steps.new + self.old.fed / 4 ≡ steps.old + self.new.fed / 4 }
@@ -148,7 +161,7 @@ impl Feeder {
     /// Ends the code.
     pub fn finish(self) -> Listing
         ensures version { result.version ≡ self.version }
-        ensures of { (bytes : List ℕ) → HasSeen (profile_of self.version) self bytes → IsOf (profile_of self.version) result bytes }
+        ensures of { (bytes : List ℕ) → HasSeen (profile_of self.version) self bytes → IsOf (profile_of self.version) self.calls result bytes }
         ensures room { length result.entries ≡ length self.entries }
     {
         let Feeder { kept, carry } = self;
@@ -161,6 +174,7 @@ impl Feeder {
         units.close(((fed / 4) as usize).saturating_sub(words));
         let Splitter {
             front,
+            calls: _,
             entries,
             done,
             last,
@@ -174,5 +188,15 @@ impl Feeder {
             last,
             fed,
         }
+    }
+}
+
+/// The numbers of a list, and none where there is no list.
+fn listed(calls: Option<Numbers>) -> Numbers
+    ensures { result ≡ numbers_or_none calls }
+{
+    match calls {
+        Some(calls) => calls,
+        None => Numbers::new(),
     }
 }

@@ -1,11 +1,12 @@
 //! The first word of a unit: which unit it can begin.
 
-ghost use Rattle.std.specs.Prelude.{◌≡◌};
+ghost use Rattle.std.specs.Prelude.{◌≡◌, slice_get};
+ghost use Rattle.cfi_scan.specs.Fields.{is_it, is_number, opens_address};
 ghost use Rattle.cfi_scan.specs.FirstStep.{
+  address_step,
   branch_step,
   first_step,
   jump_step,
-  opens_address,
   opens_call,
   opens_return,
   plain_step,
@@ -15,35 +16,36 @@ ghost use Rattle.cfi_scan.specs.Stream.{IsCode, LeadsOn};
 ghost use Rattle.cfi_scan.specs.declared.reader.Reader.TheVariants as R;
 
 use crate::entry::Entry;
+use crate::guard::{is_call, is_number, opens_address};
 use crate::reader::{Reader, Step};
 use cfi_unit::handlers::BAD_TARGET;
 use rv_code::decode;
 use rv_instr::{Immediate, ImmediateOp, Instr, LoadOp, Reg, ShiftOp, UpperOp};
-use rv_word::sext;
+use rv_word::{Numbers, sext};
 
-/// Reads the first word of a unit.
-pub(crate) fn first_word(word: u32, here: u64) -> Step
+/// Reads the first word of a unit, under a list of system calls.
+pub(crate) fn first_word(calls: &Numbers, word: u32, here: u64) -> Step
     requires place { IsCode here }
-    ensures { LeadsOn R.Start word here result }
+    ensures { LeadsOn calls.now R.Start word here result }
 {
     match decode(word) {
-        Some(instr) => first_instr(instr, here),
+        Some(instr) => first_instr(calls, instr, here),
         None => Step::More(Reader::Stuck),
     }
 }
 
 /// The step to which the first instruction of a unit leads.
-fn first_instr(instr: Instr, here: u64) -> Step
-    ensures { result ≡ first_step instr here }
+fn first_instr(calls: &Numbers, instr: Instr, here: u64) -> Step
+    ensures { result ≡ first_step calls.now instr here }
 {
     match instr {
         Instr::Upper(op, rd, imm) => upper(op, rd, imm),
         Instr::ShiftWord(_, rd, _, _) | Instr::Register(_, rd, _, _) => plain(rd),
         Instr::Jal(rd, field) => jump(rd, field, here),
         Instr::Branch(_, _, _, field) => branch(field),
-        Instr::Immediate(op, rd, _, _) => {
+        Instr::Immediate(op, rd, rs1, imm) => {
             if opens_address(op, rd) {
-                Step::More(Reader::Address)
+                address(calls, rs1, imm)
             } else {
                 plain(rd)
             }
@@ -62,7 +64,8 @@ fn first_instr(instr: Instr, here: u64) -> Step
                 plain(rd)
             }
         }
-        Instr::Fence(_) | Instr::Ecall | Instr::Ebreak => Step::Done(Entry::Other),
+        Instr::Ecall => Step::Done(Entry::Ecall),
+        Instr::Fence(_) | Instr::Ebreak => Step::Done(Entry::Other),
         Instr::Jalr(..) | Instr::Store(..) => Step::More(Reader::Stuck),
     }
 }
@@ -113,11 +116,15 @@ fn jump(rd: Reg, field: Immediate<20>, here: u64) -> Step
     }
 }
 
-/// Whether it is `addi x31`, with which a store or a computed transfer begins.
-fn opens_address(op: ImmediateOp, rd: Reg) -> bool
-    ensures { result ≡ opens_address op rd }
+/// A number of a system call, of which it is kept whether the list begins with it, or an address.
+fn address(calls: &Numbers, rs1: Reg, imm: Immediate<12>) -> Step
+    ensures { result ≡ address_step calls.now rs1 imm }
 {
-    op == ImmediateOp::Addi && rd.number() == 31
+    if is_number(rs1, imm) {
+        Step::More(Reader::Number(is_call(calls, 0, imm.bits())))
+    } else {
+        Step::More(Reader::Address)
+    }
 }
 
 /// Whether it is `slli x30,x3,48`, with which a call begins.

@@ -5,7 +5,7 @@ ghost use Rattle.cfi_scan.specs.Pieces.{HasPlace, Keeps, prologue_count};
 use crate::front::Front;
 use crate::splitter::Splitter;
 use crate::steps::Steps;
-use rv_word::NoMemory;
+use rv_word::{NoMemory, Numbers};
 use std::alloc::Global;
 use std::sync::ledger::Ledger;
 
@@ -17,16 +17,23 @@ pub(crate) struct Kept {
 }
 
 impl Kept {
-    /// No word yet, and room for a code of so many.
-    pub(crate) fn new(alloc: Global, version: u8, words: usize) -> Result<Kept, NoMemory>
+    /// No word yet, and room for a code of so many, under a list of system calls.
+    pub(crate) fn new(
+        alloc: Global,
+        version: u8,
+        calls: Numbers,
+        words: usize,
+    ) -> Result<Kept, NoMemory>
         ensures version { IfOk result (λ k. k.units.front ≡ version) }
-        ensures keeps { IfOk result (λ k. Keeps (profile_of version) k.prologue k.units.entries.items k.units.done k.units.last k.units.reader []) }
+        ensures calls { IfOk result (λ k. k.units.calls ≡ calls) }
+        ensures keeps { IfOk result (λ k. Keeps (profile_of version) calls k.prologue k.units.entries.items k.units.done k.units.last k.units.reader []) }
         ensures room { IfOk result (λ k. length k.units.entries.items ≡ words - prologue_count (profile_of version)) }
     {
         let front = Front::new(version);
+        let room = words.saturating_sub(front.words());
         Ok(Kept {
             prologue: [0; 20],
-            units: Splitter::new(alloc, version, words.saturating_sub(front.words()))?,
+            units: Splitter::new(alloc, version, calls, room)?,
         })
     }
 
@@ -34,8 +41,9 @@ impl Kept {
     #[inline(never)]
     pub(crate) fn take<L: Ledger>(&mut self, word: u32, index: usize, steps: &mut Steps<L>)
         requires small { HasPlace (profile_of self.old.units.front) self.old.units.entries.items }
-        ensures keeps { (words : List ℕ) → length words ≡ index → Keeps (profile_of self.old.units.front) self.old.prologue self.old.units.entries.items self.old.units.done self.old.units.last self.old.units.reader words → Keeps (profile_of self.old.units.front) self.new.prologue self.new.units.entries.items self.new.units.done self.new.units.last self.new.units.reader (words ++ word ∷ []) }
+        ensures keeps { (words : List ℕ) → length words ≡ index → Keeps (profile_of self.old.units.front) self.old.units.calls self.old.prologue self.old.units.entries.items self.old.units.done self.old.units.last self.old.units.reader words → Keeps (profile_of self.old.units.front) self.old.units.calls self.new.prologue self.new.units.entries.items self.new.units.done self.new.units.last self.new.units.reader (words ++ word ∷ []) }
         ensures front { self.new.units.front ≡ self.old.units.front }
+        ensures calls { self.new.units.calls ≡ self.old.units.calls }
         ensures room { length self.new.units.entries.items ≡ length self.old.units.entries.items }
         ensures cost { steps.new ≡ steps.old + 1 }
     {

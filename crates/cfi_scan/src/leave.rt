@@ -1,6 +1,6 @@
 //! The words of a return.
 
-ghost use Rattle.std.specs.Prelude.{◌≡◌, ◌+◌, ◌*◌, ◌<◌, ℕ, Some, slice_get};
+ghost use Rattle.std.specs.Prelude.{◌≡◌, ◌+◌, ◌*◌, ◌<◌, ℕ, Some, slice_get, List};
 ghost use Rattle.cfi_unit.specs.UnitWords.{words_of};
 ghost use Rattle.cfi_unit.specs.declared.unit.Unit.TheVariants as V;
 ghost use Rattle.cfi_scan.specs.Stream.{IsCode, LeadsOn};
@@ -18,7 +18,7 @@ const RETURN: [u32; 4] = [0xff81_bf83, 0xff81_8193, 0x001f_8463, 0];
 /// Reads one word more of a return.
 pub(crate) fn return_word(count: u8, word: u32, here: u64) -> Step
     requires place { IsCode here }
-    ensures { LeadsOn (R.Return count) word here result }
+    ensures { (calls : List ℕ) → LeadsOn calls (R.Return count) word here result }
 {
     if count < 4 {
         if word == return_code(count, here) {

@@ -17,6 +17,7 @@ mod entry;
 mod feeder;
 mod first;
 mod front;
+mod guard;
 mod kept;
 mod leave;
 mod listing;

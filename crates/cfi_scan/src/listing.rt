@@ -48,8 +48,8 @@ impl Listing {
         self.entries.get(index).map(|packed| packed.entry())
     }
 
-    /// The first word from `from` on, and before `to`, with the entry of a transfer or a gate; `to` where
-    /// there is none, and `from` where these are not words of the code.
+    /// The first word from `from` on, and before `to`, with the entry of a transfer, a gate or a system call; `to`
+    /// where there is none, and `from` where these are not words of the code.
     pub fn next_busy(&self, from: usize, to: usize) -> usize
         requires { from < to }
         ensures low { from ≤ result }

@@ -40,7 +40,7 @@ impl Packed {
         }
     }
 
-    /// Whether the entry is of no transfer and of no gate.
+    /// Whether the entry is of no transfer, of no gate and of no system call.
     pub(crate) fn is_quiet(&self) -> bool
         ensures { result ≡ is_quiet self.now }
     {
@@ -81,6 +81,8 @@ fn word_of(entry: Entry) -> u32
         Entry::Ijump(which, label) => ijump_word(which, label),
         Entry::Icall(label) => 8 * FIELDS + label.bits(),
         Entry::Gate(label) => 10 * FIELDS + label.bits(),
+        Entry::Ecall => 11 * FIELDS,
+        Entry::Guarded(same) => guarded_word(same),
     }
 }
 
@@ -95,7 +97,15 @@ fn ijump_word(which: TargetWord, label: Immediate<20>) -> u32
     }
 }
 
-/// Whether the kind with a number is no transfer and no gate, whatever the field.
+/// The word of the entry of a system call behind tests of its number.
+fn guarded_word(same: bool) -> u32
+    ensures word { result ≡ packed (E.Guarded same) }
+    ensures back { unpacked result ≡ E.Guarded same }
+{
+    if same { 13 * FIELDS } else { 12 * FIELDS }
+}
+
+/// Whether the kind with a number is no transfer, no gate and no system call, whatever the field.
 fn is_quiet_kind(kind: u32, _field: u32) -> bool
     ensures { result ≡ is_quiet (of_kind kind _field) }
 {
@@ -135,7 +145,11 @@ fn entry_of(word: u32) -> Entry
         Entry::Icall(Immediate::of(field))
     } else if kind == 9 {
         Entry::Ijump(TargetWord::Second, Immediate::of(field))
-    } else {
+    } else if kind == 10 {
         Entry::Gate(Immediate::of(field))
+    } else if kind == 11 {
+        Entry::Ecall
+    } else {
+        Entry::Guarded(kind != 12)
     }
 }

@@ -8,10 +8,12 @@ use crate::call::call_word;
 use crate::check::{address_word, check_word, label_word, loaded_word, push_word};
 use crate::entry::Entry;
 use crate::first::first_word;
+use crate::guard::{guard_word, number_word};
 use crate::leave::return_word;
 use crate::store::{is_member, mask_word, stores_word};
 use cfi_unit::TargetWord;
 use rv_instr::Immediate;
+use rv_word::Numbers;
 
 /// How far a unit is read. Counts are those of the words read.
 #[derive(Clone, Copy, PartialEq, Eq)]
@@ -22,6 +24,11 @@ pub enum Reader {
     Branch,
     /// An address was put into x31: of a store, or of a computed transfer.
     Address,
+    /// A number was put there that may be a system call's, or such an address; whether the list begins with it.
+    Number(bool),
+    /// Words of a system call behind tests of its number, how many numbers it has, and whether those that are
+    /// read are the list's, in its order.
+    Guard(u8, u8, bool),
     /// Two or three words of a mask.
     Mask(u8),
     /// A mask and so many stores, fewer than sixteen: a unit, if no store follows.
@@ -81,16 +88,18 @@ impl Reader {
     }
 }
 
-/// Reads one word more, which stands at an address.
-pub(crate) fn next(reader: Reader, word: u32, here: u64) -> Step
+/// Reads one word more, which stands at an address, under a list of system calls.
+pub(crate) fn next(calls: &Numbers, reader: Reader, word: u32, here: u64) -> Step
     requires place { IsCode here }
     requires taken { MayTake reader word }
-    ensures { LeadsOn reader word here result }
+    ensures { LeadsOn calls.now reader word here result }
 {
     match reader {
-        Reader::Start => first_word(word, here),
+        Reader::Start => first_word(calls, word, here),
         Reader::Branch => jump_word(word, here),
         Reader::Address => address_word(word, here),
+        Reader::Number(same) => number_word(same, word, here),
+        Reader::Guard(count, pairs, same) => guard_word(calls, count, pairs, same, word, here),
         Reader::Mask(count) => mask_word(count, word, here),
         Reader::Stores(count) => stores_word(count, word, here),
         Reader::Call(count) => call_word(count, word, here),

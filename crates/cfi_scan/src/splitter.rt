@@ -10,14 +10,15 @@ use crate::front::Front;
 use crate::packed::Packed;
 use crate::plain::is_plain_word;
 use crate::reader::{Reader, Step, next};
-use rv_word::NoMemory;
+use rv_word::{NoMemory, Numbers};
 use std::alloc::Global;
 
-/// The units of the words so far: one entry for each word that there is room for, how many words belong
+/// The units of the words so far, under a list of system calls, which has no number where there is none: one entry for each word that there is room for, how many words belong
 /// to units that have ended, where the last of these starts, and how far the next one is read.
 #[derive(Drop)]
 pub(crate) struct Splitter {
     pub(crate) front: Front,
+    pub(crate) calls: Numbers,
     pub(crate) entries: Vec<Packed>,
     pub(crate) done: usize,
     pub(crate) last: usize,
@@ -25,14 +26,21 @@ pub(crate) struct Splitter {
 }
 
 impl Splitter {
-    /// No word yet, and room for some.
-    pub(crate) fn new(alloc: Global, version: u8, room: usize) -> Result<Splitter, NoMemory>
+    /// No word yet, and room for some, under a list of system calls.
+    pub(crate) fn new(
+        alloc: Global,
+        version: u8,
+        calls: Numbers,
+        room: usize,
+    ) -> Result<Splitter, NoMemory>
         ensures version { IfOk result (λ s. s.front ≡ version) }
+        ensures calls { IfOk result (λ s. s.calls ≡ calls) }
         ensures empty { IfOk result (λ s. (s.entries.items ≡ inside room) × (s.done ≡ 0) × (s.last ≡ 0) × (s.reader ≡ R.Start)) }
         ensures room { IfOk result (λ s. length s.entries.items ≡ room) }
     {
         Ok(Splitter {
             front: Front::new(version),
+            calls,
             entries: nothing(alloc, room)?,
             done: 0,
             last: 0,
@@ -44,8 +52,9 @@ impl Splitter {
     pub(crate) fn take(&mut self, word: u32, index: usize)
         requires room { index < length self.old.entries.items }
         requires small { HasPlace (profile_of self.old.front) self.old.entries.items }
-        ensures splits { (words : List ℕ) → length words ≡ index → Splits (profile_of self.old.front).units_from [] self.old.entries.items self.old.done self.old.last self.old.reader words → Splits (profile_of self.old.front).units_from [] self.new.entries.items self.new.done self.new.last self.new.reader (words ++ word ∷ []) }
+        ensures splits { (words : List ℕ) → length words ≡ index → Splits self.old.calls (profile_of self.old.front).units_from [] self.old.entries.items self.old.done self.old.last self.old.reader words → Splits self.old.calls (profile_of self.old.front).units_from [] self.new.entries.items self.new.done self.new.last self.new.reader (words ++ word ∷ []) }
         ensures front { self.new.front ≡ self.old.front }
+        ensures calls { self.new.calls ≡ self.old.calls }
         ensures room { length self.new.entries.items ≡ length self.old.entries.items }
     {
         if self.reader == Reader::Start && is_plain_word(word) {
@@ -63,8 +72,9 @@ impl Splitter {
     fn after_open(&mut self, word: u32, index: usize)
         requires room { index < length self.old.entries.items }
         requires small { HasPlace (profile_of self.old.front) self.old.entries.items }
-        ensures splits { (words : List ℕ) → length words ≡ index → Splits (profile_of self.old.front).units_from [] self.old.entries.items self.old.done self.old.last self.old.reader words → Splits (profile_of self.old.front).units_from [] self.new.entries.items self.new.done self.new.last self.new.reader (words ++ word ∷ []) }
+        ensures splits { (words : List ℕ) → length words ≡ index → Splits self.old.calls (profile_of self.old.front).units_from [] self.old.entries.items self.old.done self.old.last self.old.reader words → Splits self.old.calls (profile_of self.old.front).units_from [] self.new.entries.items self.new.done self.new.last self.new.reader (words ++ word ∷ []) }
         ensures front { self.new.front ≡ self.old.front }
+        ensures calls { self.new.calls ≡ self.old.calls }
         ensures room { length self.new.entries.items ≡ length self.old.entries.items }
     {
         self.settle(word, index);
@@ -77,11 +87,13 @@ impl Splitter {
         requires room { index < length self.old.entries.items }
         requires small { HasPlace (profile_of self.old.front) self.old.entries.items }
         requires taken { MayTake self.old.reader word }
-        ensures splits { (words : List ℕ) → length words ≡ index → Splits (profile_of self.old.front).units_from (word ∷ []) self.old.entries.items self.old.done self.old.last self.old.reader words → Splits (profile_of self.old.front).units_from [] self.new.entries.items self.new.done self.new.last self.new.reader (words ++ word ∷ []) }
+        ensures splits { (words : List ℕ) → length words ≡ index → Splits self.old.calls (profile_of self.old.front).units_from (word ∷ []) self.old.entries.items self.old.done self.old.last self.old.reader words → Splits self.old.calls (profile_of self.old.front).units_from [] self.new.entries.items self.new.done self.new.last self.new.reader (words ++ word ∷ []) }
         ensures front { self.new.front ≡ self.old.front }
+        ensures calls { self.new.calls ≡ self.old.calls }
         ensures room { length self.new.entries.items ≡ length self.old.entries.items }
     {
-        match next(self.reader, word, self.front.start() + 4 * index as u64) {
+        let here = self.front.start() + 4 * index as u64;
+        match next(&self.calls, self.reader, word, here) {
             Step::More(reader) => self.reader = reader,
             Step::Done(entry) => self.end(entry, index + 1),
         }
@@ -92,9 +104,10 @@ impl Splitter {
     fn settle(&mut self, word: u32, index: usize)
         requires room { index ≤ length self.old.entries.items }
         requires small { HasPlace (profile_of self.old.front) self.old.entries.items }
-        ensures splits { (words : List ℕ) → length words ≡ index → Splits (profile_of self.old.front).units_from [] self.old.entries.items self.old.done self.old.last self.old.reader words → Splits (profile_of self.old.front).units_from (word ∷ []) self.new.entries.items self.new.done self.new.last self.new.reader words }
+        ensures splits { (words : List ℕ) → length words ≡ index → Splits self.old.calls (profile_of self.old.front).units_from [] self.old.entries.items self.old.done self.old.last self.old.reader words → Splits self.old.calls (profile_of self.old.front).units_from (word ∷ []) self.new.entries.items self.new.done self.new.last self.new.reader words }
         ensures taken { MayTake self.new.reader word }
         ensures front { self.new.front ≡ self.old.front }
+        ensures calls { self.new.calls ≡ self.old.calls }
         ensures room { length self.new.entries.items ≡ length self.old.entries.items }
     {
         if !self.reader.takes(word) {
@@ -106,8 +119,9 @@ impl Splitter {
     /// its own, and so are stores.
     pub(crate) fn close(&mut self, count: usize)
         requires small { HasPlace (profile_of self.old.front) self.old.entries.items }
-        ensures splits { (words : List ℕ) → length words ≡ count → count ≤ length self.old.entries.items → Splits (profile_of self.old.front).units_from [] self.old.entries.items self.old.done self.old.last self.old.reader words → IsSplitUp (profile_of self.old.front).units_from self.new.entries.items self.new.done self.new.last words }
+        ensures splits { (words : List ℕ) → length words ≡ count → count ≤ length self.old.entries.items → Splits self.old.calls (profile_of self.old.front).units_from [] self.old.entries.items self.old.done self.old.last self.old.reader words → IsSplitUp self.old.calls (profile_of self.old.front).units_from self.new.entries.items self.new.done self.new.last words }
         ensures front { self.new.front ≡ self.old.front }
+        ensures calls { self.new.calls ≡ self.old.calls }
         ensures room { length self.new.entries.items ≡ length self.old.entries.items }
     {
         if self.reader.is_open() {
@@ -122,6 +136,7 @@ impl Splitter {
         ensures last { self.new.last ≡ self.old.done }
         ensures reader { self.new.reader ≡ R.Start }
         ensures front { self.new.front ≡ self.old.front }
+        ensures calls { self.new.calls ≡ self.old.calls }
         ensures room { length self.new.entries.items ≡ length self.old.entries.items }
     {
         if self.done < self.entries.len() {

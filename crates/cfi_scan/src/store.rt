@@ -1,4 +1,4 @@
-ghost use Rattle.std.specs.Prelude.{◌≡◌, [], ◌∷◌};
+ghost use Rattle.std.specs.Prelude.{◌≡◌, [], ◌∷◌, ℕ, List};
 ghost use Rattle.cfi_unit.specs.UnitWords.{instr_at};
 ghost use Rattle.cfi_scan.specs.Fields.{stores_there};
 ghost use Rattle.cfi_scan.specs.Stream.{IsCode, LeadsOn, MayTake};
@@ -15,7 +15,7 @@ const SHIFT_BACK: u32 = 0x024f_df93;
 /// Reads the third word of a mask, or the first store behind it.
 pub(crate) fn mask_word(count: u8, word: u32, here: u64) -> Step
     requires place { IsCode here }
-    ensures { LeadsOn (R.Mask count) word here result }
+    ensures { (calls : List ℕ) → LeadsOn calls (R.Mask count) word here result }
 {
     if count < 3 {
         if word == SHIFT_BACK {
@@ -34,7 +34,7 @@ pub(crate) fn mask_word(count: u8, word: u32, here: u64) -> Step
 pub(crate) fn stores_word(count: u8, word: u32, here: u64) -> Step
     requires place { IsCode here }
     requires taken { MayTake (R.Stores count) word }
-    ensures { LeadsOn (R.Stores count) word here result }
+    ensures { (calls : List ℕ) → LeadsOn calls (R.Stores count) word here result }
 {
     if count < 15 {
         Step::More(Reader::Stores(count + 1))

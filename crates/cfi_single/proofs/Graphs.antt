@@ -1,7 +1,7 @@
 -- One raw graph and one closed graph are right.
 use Rattle.std.proofs.Common.{◌≡◌, ℕ, suc, List, [], ◌∷◌, refl, sym, ap, map, subst, ◌∙◌, arith}
 use Rattle.std.specs.List.{All}
-use Rattle.cfi_graph.specs.declared.policy.PolicyLine.{PolicyLine}
+use Rattle.cfi_graph.specs.Policy.{PolicyParts}
 use Rattle.cfi_graph.specs.declared.line.Sort.{Sort}
 use Rattle.obj_program.specs.Program.{Program}
 use Rattle.cfi_closed.specs.Closed.{ClosedGraph, Side}
@@ -39,12 +39,14 @@ closed_unique version raw c d hc hd =
     let of : c.version ≡ d.version = hc.version_is ∙ sym hd.version_is in
     let sides : c.sides ≡ d.sides = sides_unique raw c.sides d.sides (hc.sorts ∙ sym hd.sorts) hc.sides hd.sides in
     let taken : c.taken ≡ d.taken = hc.taken ∙ sym hd.taken in
-    λ i. record { version = of i; sides = sides i; taken = taken i }
+    let calls : c.calls ≡ d.calls = hc.calls ∙ sym hd.calls in
+    λ i. record { version = of i; sides = sides i; taken = taken i; calls = calls i }
 
 -- the raw graph of a program under a policy
-pub raw_unique : (program : Program) (lines : List PolicyLine) (r s : RawGraph) → IsRaw program lines r
-    → IsRaw program lines s → r ≡ s
-raw_unique program lines r s hr hs =
+pub raw_unique : (program : Program) (policy : PolicyParts) (r s : RawGraph) → IsRaw program policy r
+    → IsRaw program policy s → r ≡ s
+raw_unique program policy r s hr hs =
     let sites : r.sites ≡ s.sites = hr.sites ∙ sym hs.sites in
     let taken : r.taken ≡ s.taken = hr.taken ∙ sym hs.taken in
-    λ i. record { sites = sites i; taken = taken i }
+    let calls : r.calls ≡ s.calls = hr.calls ∙ sym hs.calls in
+    λ i. record { sites = sites i; taken = taken i; calls = calls i }

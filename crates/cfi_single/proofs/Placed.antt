@@ -1,6 +1,6 @@
 -- One placement is right for a program with its closed graph: the same stores join a group and the same branches are long, so the program
 -- is at the same map.
-use Rattle.std.proofs.Common.{◌≡◌, ℕ, zero, suc, ◌+◌, ◌<◌, ◌≤◌, Bool, true, false, List, [], ◌∷◌, length, get_or, inl, inr, not, refl, sym, ap, subst, ◌∙◌, arith, ◌||◌}
+use Rattle.std.proofs.Common.{◌≡◌, ℕ, zero, suc, ◌+◌, ◌<◌, ◌≤◌, Bool, true, false, Option, List, [], ◌∷◌, length, get_or, inl, inr, not, refl, sym, ap, subst, ◌∙◌, arith, ◌||◌}
 use Rattle.std.proofs.lemmas.Bool.{or_cases, or_right}
 use Rattle.rv_word.specs.Form.{profile_for}
 use Rattle.rv_word.specs.MemoryMap.{CODE_SIZE}
@@ -14,7 +14,7 @@ use Rattle.cfi_layout.specs.LongSet.{is_branch as is_part}
 use Rattle.cfi_closed.specs.Closed.{ClosedGraph, Side}
 use Rattle.cfi_map.specs.GraphAtMap.{ProgramAtMap, program_at}
 use Rattle.cfi_map.specs.Groups.{is_entered, is_store, may_join}
-use Rattle.cfi_map.specs.Placement.{AreGates, lead_size, whole_at, size_of}
+use Rattle.cfi_map.specs.Placement.{AreGates, is_ecall, kind_size, lead_size, whole_at, size_of}
 use Rattle.cfi_map.specs.Placing.{IsPlacement, IsPlacementOf, Spaced}
 use Rattle.cfi_map.specs.Shorts.{shorts_of, is_branch}
 use Rattle.cfi_map.specs.Sizes.{grouped_parts, grouped_sizes, whole_size}
@@ -47,26 +47,26 @@ rest_sized whole more k item items same i below sized =
     let next : k + suc i ≡ k + 1 + i = omega arith in
     subst (λ (n : ℕ). whole_at whole n ≡ whole_at more n) next (same (suc i) (omega arith) sized)
 
-same_size : (kind : ItemKind) (a b : Bool) → (is_sized kind ≡ true → a ≡ b) → size_of kind a ≡ size_of kind b
-same_size is.Branch a b same = ap (size_of is.Branch) (same refl)
-same_size is.Store a b same = ap (size_of is.Store) (same refl)
-same_size other a b same = refl
+same_size : (calls : Option (List ℕ)) (kind : ItemKind) (ecall a b : Bool) → (is_sized kind ≡ true → a ≡ b) → kind_size calls kind ecall a ≡ kind_size calls kind ecall b
+same_size calls is.Branch ecall a b same = ap (kind_size calls is.Branch ecall) (same refl)
+same_size calls is.Store ecall a b same = ap (kind_size calls is.Store ecall) (same refl)
+same_size calls other ecall a b same = refl
 
-gates_same : (sides : List Side) (whole more : List Bool) (k at : ℕ) (items : List Item) (gates others : List ℕ)
-    → SameSizes whole more k items → AreGates sides whole k at items gates → AreGates sides more k at items others → gates ≡ others
+gates_same : (calls : Option (List ℕ)) (sides : List Side) (whole more : List Bool) (k at : ℕ) (items : List Item) (gates others : List ℕ)
+    → SameSizes whole more k items → AreGates calls sides whole k at items gates → AreGates calls sides more k at items others → gates ≡ others
 unfolding AreGates
-gates_same sides whole more k at [] [] [] same a b = refl
-gates_same sides whole more k at [] (g ∷ gates) others same a b = absurd a
-gates_same sides whole more k at [] [] (o ∷ others) same a b = absurd b
-gates_same sides whole more k at (item ∷ items) [] others same a b = absurd a
-gates_same sides whole more k at (item ∷ items) (g ∷ gates) [] same a b = absurd b
-gates_same sides whole more k at (item ∷ items) (g ∷ gates) (o ∷ others) same a b =
+gates_same calls sides whole more k at [] [] [] same a b = refl
+gates_same calls sides whole more k at [] (g ∷ gates) others same a b = absurd a
+gates_same calls sides whole more k at [] [] (o ∷ others) same a b = absurd b
+gates_same calls sides whole more k at (item ∷ items) [] others same a b = absurd a
+gates_same calls sides whole more k at (item ∷ items) (g ∷ gates) [] same a b = absurd b
+gates_same calls sides whole more k at (item ∷ items) (g ∷ gates) (o ∷ others) same a b =
     let start = at + lead_size sides k in
-    let size = same_size item.kind (whole_at whole k) (whole_at more k) (first_sized whole more k item items same) in
-    let there : AreGates sides more (k + 1) (start + size_of item.kind (whole_at whole k)) items others =
-    subst (λ (n : ℕ). AreGates sides more (k + 1) (start + n) items others) (sym size) b.1 in
+    let size = same_size calls item.kind (is_ecall item) (whole_at whole k) (whole_at more k) (first_sized whole more k item items same) in
+    let there : AreGates calls sides more (k + 1) (start + size_of calls item (whole_at whole k)) items others =
+    subst (λ (n : ℕ). AreGates calls sides more (k + 1) (start + n) items others) (sym size) b.1 in
     let rest =
-    gates_same sides whole more (k + 1) (start + size_of item.kind (whole_at whole k)) items gates others
+    gates_same calls sides whole more (k + 1) (start + size_of calls item (whole_at whole k)) items gates others
     (rest_sized whole more k item items same) a.1 there in
     let head : g ≡ o = a.0 ∙ sym b.0 in
     ap (λ (x : ℕ). x ∷ gates) head ∙ ap (λ (xs : List ℕ). o ∷ xs) rest
@@ -76,25 +76,26 @@ abbrev SameStores : List Bool → List Bool → ℕ → List Item → Type 0
 SameStores whole more k items =
     (i : ℕ) → i < length items → is_store (get_or items i no_item).kind ≡ true → whole_at whole (k + i) ≡ whole_at more (k + i)
 
-sized_store : (kind : ItemKind) (a b : Bool) → (is_store kind ≡ true → a ≡ b) → size_of kind (a || not (is_store kind)) ≡ size_of kind (b || not (is_store kind))
-sized_store is.Store a b same = ap (λ (w : Bool). size_of is.Store (w || false)) (same refl)
-sized_store is.Branch true b same = sym (ap (size_of is.Branch) (or_right b true refl))
-sized_store is.Branch false b same = sym (ap (size_of is.Branch) (or_right b true refl))
-sized_store other a b same = refl
+sized_store : (calls : Option (List ℕ)) (kind : ItemKind) (ecall a b : Bool) → (is_store kind ≡ true → a ≡ b) →
+    kind_size calls kind ecall (a || not (is_store kind)) ≡ kind_size calls kind ecall (b || not (is_store kind))
+sized_store calls is.Store ecall a b same = ap (λ (w : Bool). kind_size calls is.Store ecall (w || false)) (same refl)
+sized_store calls is.Branch ecall true b same = sym (ap (kind_size calls is.Branch ecall) (or_right b true refl))
+sized_store calls is.Branch ecall false b same = sym (ap (kind_size calls is.Branch ecall) (or_right b true refl))
+sized_store calls other ecall a b same = refl
 
-grouped_same : (sides : List Side) (whole more : List Bool) (k : ℕ) (items : List Item) → SameStores whole more k items →
-    grouped_sizes sides whole k items ≡ grouped_sizes sides more k items
+grouped_same : (calls : Option (List ℕ)) (sides : List Side) (whole more : List Bool) (k : ℕ) (items : List Item) → SameStores whole more k items →
+    grouped_sizes calls sides whole k items ≡ grouped_sizes calls sides more k items
 unfolding grouped_sizes
-grouped_same sides whole more k [] same = refl
-grouped_same sides whole more k (item ∷ items) same =
+grouped_same calls sides whole more k [] same = refl
+grouped_same calls sides whole more k (item ∷ items) same =
     let start : k + 0 ≡ k = omega arith in
     let next : (i : ℕ) → k + suc i ≡ k + 1 + i = λ i. omega arith in
     let here : is_store item.kind ≡ true → whole_at whole k ≡ whole_at more k =
     λ store. subst (λ (n : ℕ). whole_at whole n ≡ whole_at more n) start (same 0 (omega arith) store) in
-    let rest = grouped_same sides whole more (k + 1) items
+    let rest = grouped_same calls sides whole more (k + 1) items
     (λ i below store. subst (λ (n : ℕ). whole_at whole n ≡ whole_at more n) (next i) (same (suc i) (omega arith) store)) in
-    ap (λ (n : ℕ). (lead_size sides k + n) ∷ grouped_sizes sides whole (k + 1) items) (sized_store item.kind (whole_at whole k) (whole_at more k) here)
-    ∙ ap (λ (ns : List ℕ). (lead_size sides k + size_of item.kind (whole_at more k || not (is_store item.kind))) ∷ ns) rest
+    ap (λ (n : ℕ). (lead_size sides k + n) ∷ grouped_sizes calls sides whole (k + 1) items) (sized_store calls item.kind (is_ecall item) (whole_at whole k) (whole_at more k) here)
+    ∙ ap (λ (ns : List ℕ). (lead_size sides k + size_of calls item (whole_at more k || not (is_store item.kind))) ∷ ns) rest
 
 -- the code of a program that is placed has room with every branch long
 pub placed_room : (form : Form) (program : Program) (closed : ClosedGraph) (entry : ℕ) (s : Spaced) → IsPlacementOf form program closed entry s →
@@ -129,7 +130,7 @@ module _ (form : Form) (program : Program) (closed : ClosedGraph) (entry : ℕ) 
       subst (λ (n : ℕ). whole_at s.whole n ≡ whole_at t.whole n) start (stores_below (suc i) i (omega arith) store)
 
   parts_same : grouped_parts program closed s.whole ≡ grouped_parts program closed t.whole
-  parts_same = grouped_same closed.sides s.whole t.whole 0 program.items stores_same
+  parts_same = grouped_same closed.calls closed.sides s.whole t.whole 0 program.items stores_same
 
   -- each long set lies in the other
   flags_same : SameSizes s.whole t.whole 0 program.items
@@ -150,7 +151,7 @@ module _ (form : Form) (program : Program) (closed : ClosedGraph) (entry : ℕ) 
   sizes_same = subst (λ (l : ProgramAtMap). SameSizes s.whole t.whole 0 l.program.items) (sym ht.of) flags_same
 
   gates_unique : s.layout.gates ≡ t.layout.gates
-  gates_unique = gates_same closed.sides s.whole t.whole 0 _ program.items s.layout.gates t.layout.gates flags_same first.legal second.legal
+  gates_unique = gates_same closed.calls closed.sides s.whole t.whole 0 _ program.items s.layout.gates t.layout.gates flags_same first.legal second.legal
 
   pub layout_unique : s.layout ≡ t.layout
   layout_unique = hs.of ∙ ap (λ (gates : List ℕ). program_at form program closed gates entry) gates_unique ∙ sym ht.of

@@ -9,7 +9,7 @@ use Rattle.cfi_flow.specs.Closing.{IsClosed}
 use Rattle.cfi_flow.specs.Entry.{entry_place}
 use Rattle.cfi_flow.specs.Raw.{RawGraph}
 use Rattle.cfi_harden.specs.Prepared.{IsClosedUnder}
-use Rattle.cfi_harden.specs.Request.{policy_reading}
+use Rattle.cfi_harden.specs.Request.{policy_asked}
 use Rattle.cfi_single.specs.OneWay.{PreparedInOneWay}
 use Rattle.cfi_single.proofs.Graphs.{closed_unique, raw_unique}
 
@@ -19,7 +19,7 @@ pub closed_under_unique : (version : ℕ) (program : Program) (policy : Option (
 closed_under_unique version program policy c d hc hd =
     let (r, is_r, of_r) = hc.drawn in
     let (s, is_s, of_s) = hd.drawn in
-    let same : r ≡ s = raw_unique program (policy_reading policy).items r s is_r is_s in
+    let same : r ≡ s = raw_unique program (policy_asked policy) r s is_r is_s in
     closed_unique version r c d of_r (subst (λ (raw : RawGraph). IsClosed version raw d) (sym same) of_s)
 
 entry_unique : (program : Program) (name : List ℕ) (a b : ℕ) → entry_place program name ≡ Some a

@@ -17,7 +17,7 @@ use Rattle.cfi_writer.specs.Hardened.{HardenedParts}
 use Rattle.cfi_harden.specs.Hardened.{IsWrittenOf}
 use Rattle.cfi_harden.specs.Prepared.{FailsAt, IsClosedUnder, IsPreparedOf, IsWrongPolicy, PreparedParts}
 use Rattle.cfi_harden.specs.Refused.{IsEarly, RefusesProgram}
-use Rattle.cfi_harden.specs.Request.{ProgramRequest, policy_reading}
+use Rattle.cfi_harden.specs.Request.{ProgramRequest, policy_asked, policy_end}
 use Rattle.cfi_single.specs.OneWay.{HardenedIsNotRefused, RefusedInOneWay}
 use Rattle.cfi_single.proofs.Placed.{layout_unique, placed_room}
 use Rattle.cfi_single.proofs.Prepared.{prepared_unique}
@@ -41,8 +41,8 @@ stage request (R.RelocRange section offset) (p, prepared, x) = late p prepared x
 
 -- a policy under which a graph is closed has no wrong line
 no_wrong_policy : (program : Program) (policy : Option (List ℕ)) (n : ℕ) → IsWrongPolicy program policy n
-    → (end : Result (Unit {0}) TextEnd) → (policy_reading policy).end ≡ end → end ≡ Ok tt
-    → wrong_line program (policy_reading policy).items ≡ None → ⊥
+    → (end : Result (Unit {0}) TextEnd) → policy_end policy ≡ end → end ≡ Ok tt
+    → wrong_line program (policy_asked policy) ≡ None → ⊥
 no_wrong_policy program policy n (inl wrong) end is whole right = absurd (cc)
 no_wrong_policy program policy n (inr (none, fails)) end is whole right =
     subst (λ (e : Result (Unit {0}) TextEnd). FailsAt e n) (is ∙ whole) fails
@@ -59,7 +59,7 @@ module _ (request : ProgramRequest) (p : PreparedParts) (prepared : IsPreparedOf
   policy_right n wrong =
       let closed = closed_there in
       let (raw, is, of) = closed.drawn in
-      no_wrong_policy request.program request.policy n wrong (policy_reading request.policy).end refl closed.whole is.right
+      no_wrong_policy request.program request.policy n wrong (policy_end request.policy) refl closed.whole is.right
 
   not_early : (r : Refusal) → IsEarly r → RefusesProgram request r → ⊥
   not_early R.NoEntry e x = let there = entry_there in absurd (cc)
@@ -120,7 +120,7 @@ wrong_once : (program : Program) (policy : Option (List ℕ)) (n m : ℕ) → Is
 wrong_once program policy n m (inl x) (inl y) = same_Some n m (sym x ∙ y)
 wrong_once program policy n m (inl x) (inr y) = let none = y.0 in absurd (cc)
 wrong_once program policy n m (inr x) (inl y) = let none = x.0 in absurd (cc)
-wrong_once program policy n m (inr x) (inr y) = fails_once (policy_reading policy).end n m x.1 y.1
+wrong_once program policy n m (inr x) (inr y) = fails_once (policy_end policy) n m x.1 y.1
 
 -- one refusal before anything is placed
 early_one : (request : ProgramRequest) (a b : Refusal) → IsEarly a → IsEarly b → RefusesProgram request a → RefusesProgram request b → a ≡ b

@@ -1,5 +1,5 @@
 -- One list of labels, one code and one map are right, and the units of places depend on no flags but those of branches and stores.
-use Rattle.std.proofs.Common.{◌≡◌, ℕ, zero, suc, ◌+◌, ◌*◌, ◌%◌, ◌^◌, ◌<◌, ◌≤◌, Bool, true, inl, inr, List, [], ◌∷◌, ◌++◌, length, get_or, drop, take, map, refl, sym, ap, subst, ◌∙◌, arith, cond}
+use Rattle.std.proofs.Common.{◌≡◌, ℕ, zero, suc, ◌+◌, ◌*◌, ◌%◌, ◌^◌, ◌<◌, ◌≤◌, Bool, true, inl, inr, List, [], ◌∷◌, ◌++◌, length, get_or, drop, take, map, refl, sym, ap, subst, ◌∙◌, arith, cond, Option}
 use Rattle.std.specs.Prelude.{◌-◌, ◌&&◌, not, if◌then◌else◌, slice_get, slice_index, Some, false}
 use Rattle.std.proofs.Math.Seq.{take-suc}
 use Rattle.std.proofs.lemmas.Bool.{cases_Bool, cases_lt, or_left, or_right}
@@ -54,21 +54,21 @@ labels_unique used a b many ha hb =
     ∙ take_all (length a) b (omega arith)
 
 -- units
-unit_same : (kind : ItemKind) (i : Instr) (a b : Bool) (target : ℕ) (which : TargetWord) (label : ℕ) (group : Group) → (is_branch kind ≡ true → a ≡ b)
-    → unit_of kind i a target which label group ≡ unit_of kind i b target which label group
-unit_same is.Branch i a b target which label group same = ap (λ (l : Bool). unit_of is.Branch i l target which label group) (same refl)
-unit_same is.Gate (I.Upper op rd imm) a b target which label group same = refl
-unit_same is.Gate other a b target which label group same = refl
-unit_same is.Store (I.Store op rs1 rs2 imm) a b target which label group same = refl
-unit_same is.Store other a b target which label group same = refl
-unit_same is.System I.Ecall a b target which label group same = refl
-unit_same is.System I.Ebreak a b target which label group same = refl
-unit_same is.System other a b target which label group same = refl
-unit_same is.Ijump (I.Jalr rd rs1 imm) a b target which label group same = refl
-unit_same is.Ijump other a b target which label group same = refl
-unit_same is.Icall (I.Jalr rd rs1 imm) a b target which label group same = refl
-unit_same is.Icall other a b target which label group same = refl
-unit_same kind i a b target which label group same = refl
+unit_same : (calls : Option (List ℕ)) (kind : ItemKind) (i : Instr) (a b : Bool) (target : ℕ) (which : TargetWord) (label : ℕ) (group : Group) → (is_branch kind ≡ true → a ≡ b)
+    → unit_of calls kind i a target which label group ≡ unit_of calls kind i b target which label group
+unit_same calls is.Branch i a b target which label group same = ap (λ (l : Bool). unit_of calls is.Branch i l target which label group) (same refl)
+unit_same calls is.Gate (I.Upper op rd imm) a b target which label group same = refl
+unit_same calls is.Gate other a b target which label group same = refl
+unit_same calls is.Store (I.Store op rs1 rs2 imm) a b target which label group same = refl
+unit_same calls is.Store other a b target which label group same = refl
+unit_same calls is.System I.Ecall a b target which label group same = refl
+unit_same calls is.System I.Ebreak a b target which label group same = refl
+unit_same calls is.System other a b target which label group same = refl
+unit_same calls is.Ijump (I.Jalr rd rs1 imm) a b target which label group same = refl
+unit_same calls is.Ijump other a b target which label group same = refl
+unit_same calls is.Icall (I.Jalr rd rs1 imm) a b target which label group same = refl
+unit_same calls is.Icall other a b target which label group same = refl
+unit_same calls kind i a b target which label group same = refl
 
 -- a program at a map with these labels, under these flags
 abbrev pub under : ProgramAtMap → List ℕ → List Bool → Choice
@@ -119,9 +119,9 @@ module _ (layout : ProgramAtMap) (labels : List ℕ) (whole more : List Bool) (s
   here_same : (k : ℕ) → k < count layout.program → unit_here one k ≡ unit_here other k
   here_same k below =
       let kind = (item_of layout.program k).kind in
-      ap (unit_of kind (instr_of one k) (whole_at whole k) (gate_to layout (item_of layout.program k).target) (jump_word layout.closed.version)
+      ap (unit_of layout.closed.calls kind (instr_of one k) (whole_at whole k) (gate_to layout (item_of layout.program k).target) (jump_word layout.closed.version)
       (site_label labels layout.closed.sides k)) (group_same k)
-      ∙ unit_same kind (instr_of one k) (whole_at whole k) (whole_at more k) (gate_to layout (item_of layout.program k).target) (jump_word layout.closed.version)
+      ∙ unit_same layout.closed.calls kind (instr_of one k) (whole_at whole k) (whole_at more k) (gate_to layout (item_of layout.program k).target) (jump_word layout.closed.version)
       (site_label labels layout.closed.sides k) (group_at other k) (λ branch. flag_same k below (or_left (is_branch kind) (is_store kind) branch))
 
   places_same : (n k : ℕ) → unit_places one k n ≡ unit_places other k n

@@ -13,7 +13,7 @@ use Rattle.cfi_unit.specs.Prologue.{OPENING}
 use Rattle.cfi_unit.specs.Place.{Place, handler, opening, closing, body}
 use Rattle.cfi_unit.specs.Shadow.{slot, MOST_PENDING}
 use Rattle.cfi_unit.specs.InPlace
-use Rattle.cfi_unit.specs.InPlace.{InWord, only, InBranch, branch_test, branch_jump, InStores, stores_addi, stores_slli, stores_srli, stores_store, InPush, push_slli, push_bne, push_deep, push_auipc, push_addi, push_store, push_grow, Pushed, InCall, call_push, call_jump, InCheck, check_addi, check_andi, check_lui, check_sub, check_srli, check_region, check_outside, check_lw, check_label, check_opcode, check_word, check_other, InIjump, ijump_check, ijump_jump, InIcall, icall_check, icall_push, icall_jump, InReturn, return_ld, return_addi, return_beq, return_other, return_jump, lone_stack, own_stack, InOpening, opening_lone, opening_own, opening_call, InClosing, closing_number, closing_ecall, InUnit}
+use Rattle.cfi_unit.specs.InPlace.{InWord, only, InBranch, branch_test, branch_jump, InGuarded, guarded_load, guarded_other, InStores, stores_addi, stores_slli, stores_srli, stores_store, InPush, push_slli, push_bne, push_deep, push_auipc, push_addi, push_store, push_grow, Pushed, InCall, call_push, call_jump, InCheck, check_addi, check_andi, check_lui, check_sub, check_srli, check_region, check_outside, check_lw, check_label, check_opcode, check_word, check_other, InIjump, ijump_check, ijump_jump, InIcall, icall_check, icall_push, icall_jump, InReturn, return_ld, return_addi, return_beq, return_other, return_jump, lone_stack, own_stack, InOpening, opening_lone, opening_own, opening_call, InClosing, closing_number, closing_ecall, InUnit}
 use Rattle.cfi_unit.specs.UnitLaw.{MayStand}
 
 module _ (part : ℕ) (m m' : Memory) (same : SameOn part (part + PART_SIZE) m m') where
@@ -56,6 +56,7 @@ module _ (part : ℕ) (m m' : Memory) (same : SameOn part (part + PART_SIZE) m m
   unit_same image (V.Jump target) at pending r h i = i
   unit_same image V.Stop at pending r h i = i
   unit_same image (V.System op) at pending r h i = i
+  unit_same image (V.Guarded numbers) at pending r h i = i
   unit_same image (V.Stores rs1 imm members) at pending r h i = i
   unit_same image (V.Call target) at pending r h i = call_same i
   unit_same image (V.Ijump which rs1 imm label) at pending r h i = i
@@ -89,6 +90,8 @@ module _ (part : ℕ) (image : Memory) (at : ℕ) (h : Hart) (m : Memory) where
   unit_begins (V.Jump target) site pending x3 e = only e x3
   unit_begins V.Stop site pending x3 e = only e x3
   unit_begins (V.System op) site pending x3 e = only e x3
+  unit_begins (V.Guarded []) site pending x3 e = guarded_other (omega arith) x3 refl
+  unit_begins (V.Guarded (n ∷ ns)) site pending x3 e = guarded_load 0 (omega arith) (omega arith) x3 refl refl
   unit_begins (V.Stores rs1 imm members) site pending x3 e = stores_addi e x3
   unit_begins (V.Call target) site pending x3 e = call_push (push_slli e refl x3)
   unit_begins (V.Ijump which rs1 imm label) site pending x3 e = ijump_check (check_addi e x3 refl)

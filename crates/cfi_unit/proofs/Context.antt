@@ -32,13 +32,13 @@ module _ {part : ℕ} {image base : Memory} {pending : List ℕ} {s : Shared} {a
       ap (λ a. decoded (read 4 s.memory a)) e ∙ ap decoded same ∙ w.words k i is in
       by_step R p h s i (record { going = c.going; place = ap can_fetch e ∙ place; word = word }) r
 
-slice_get-front : {A : Type 0} (front back : List A) (k : ℕ) (x : A) → slice_get front k ≡ Some x →
+pub slice_get-front : {A : Type 0} (front back : List A) (k : ℕ) (x : A) → slice_get front k ≡ Some x →
     slice_get (front ++ back) k ≡ Some x
 slice_get-front [] back k x is = absurd (cc)
 slice_get-front (y ∷ front) back zero x is = is
 slice_get-front (y ∷ front) back (suc k) x is = slice_get-front front back k x is
 
-slice_get-back : {A : Type 0} (front back : List A) (k : ℕ) → slice_get (front ++ back) (length front + k) ≡ slice_get back k
+pub slice_get-back : {A : Type 0} (front back : List A) (k : ℕ) → slice_get (front ++ back) (length front + k) ≡ slice_get back k
 slice_get-back [] back k = ap (slice_get back) (let e : 0 + k ≡ k = omega arith in e)
 slice_get-back (y ∷ front) back k =
     let e : suc (length front) + k ≡ suc (length front + k) = omega arith in

@@ -12,6 +12,7 @@ some_word (V.Near op rs1 rs2 target) = omega arith
 some_word (V.Jump target) = omega arith
 some_word V.Stop = omega arith
 some_word (V.System op) = omega arith
+some_word (V.Guarded numbers) = omega arith
 some_word (V.Stores rs1 imm members) = omega arith
 some_word (V.Call target) = omega arith
 some_word (V.Ijump which rs1 imm label) = omega arith
@@ -26,6 +27,7 @@ most_words (V.Near op rs1 rs2 target) at f = omega arith
 most_words (V.Jump target) at f = omega arith
 most_words V.Stop at f = omega arith
 most_words (V.System op) at f = omega arith
+most_words (V.Guarded numbers) at f = let most = f.0.most in omega arith
 most_words (V.Stores rs1 imm members) at f = let most = f.2.most in omega arith
 most_words (V.Call target) at f = omega arith
 most_words (V.Ijump which rs1 imm label) at f = omega arith

@@ -28,6 +28,7 @@ use Rattle.cfi_unit.proofs.Context.{kept_data}
 use Rattle.cfi_unit.proofs.EffectSteps.{IsHarmless, Now, RunsOn, before}
 use Rattle.cfi_unit.proofs.EffectUnits.{plain_does, ecall_does, ebreak_does, stop_does, gate_does, jump_does, branch_does, near_does}
 use Rattle.cfi_unit.proofs.EffectStores.{stores_does}
+use Rattle.cfi_unit.proofs.EffectGuarded.{guarded_does}
 use Rattle.cfi_unit.proofs.EffectTransfers.{call_does, return_does, ijump_does, icall_does}
 
 module _ (may : Shared → Shared → Type 0) (harmless : IsHarmless may) (p : Profile) (part : ℕ) (image base : Memory) (h : Hart) (s : Shared) where
@@ -46,6 +47,7 @@ module _ (may : Shared → Shared → Type 0) (harmless : IsHarmless may) (p : P
     body_does V.Stop pending stand some most w c x3 = stop_does at (first pending c) e stand.0 w
     body_does (V.System S.Ecall) pending stand some most w c x3 = ecall_does at (first pending c) e w
     body_does (V.System S.Ebreak) pending stand some most w c x3 = ebreak_does at (first pending c) e w
+    body_does (V.Guarded numbers) pending stand some most w c x3 = guarded_does at (first pending c) e x3 numbers stand.0 w
     body_does (V.Stores rs1 imm members) pending stand some most w c x3 = stores_does at (first pending c) e x3 rs1 imm members stand.0 w
     body_does (V.Call target) pending stand some most w c x3 = call_does at pending (first pending c) e x3 most target stand.0 w
     body_does (V.Ijump which rs1 imm label) pending stand some most w c x3 = ijump_does at pending (first pending c) e x3 most rs1 imm label small which stand.0 w
@@ -129,6 +131,7 @@ one_word (V.Near op rs1 rs2 target) = refl
 one_word (V.Jump target) = refl
 one_word V.Stop = refl
 one_word (V.System op) = refl
+one_word (V.Guarded numbers) = omega arith
 one_word (V.Stores rs1 imm members) = omega arith
 one_word (V.Call target) = refl
 one_word (V.Ijump which rs1 imm label) = refl

@@ -134,7 +134,7 @@ module _ {may : Shared → Shared → Type 0} {p : Profile} {part : ℕ} {image 
   executes_plain Ecall plain now = absurd (cc)
   executes_plain Ebreak plain now = absurd (cc)
 
-  executes_call : (a : After) → a ≡ system_call h s → AfterCall h s a → Now may p part image base pending r start h s →
+  pub executes_call : (a : After) → a ≡ system_call h s → AfterCall h s a → Now may p part image base pending r start h s →
       Executes p part image base Ecall pending h (may start) a
   executes_call a does (answered t pc regs going same) now =
       let kept : Kept part image base pending a.shared.memory =

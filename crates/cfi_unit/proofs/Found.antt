@@ -1,5 +1,5 @@
 -- The words of a unit that fits are recognised as that unit, whatever follows them.
-use Rattle.std.proofs.Common.{◌≡◌, ℕ, ◌+◌, ◌<◌, ◌^◌, ◌==◌, ◌≤◌, ◌||◌, ◌⊎◌, arith, refl, ap, sym, subst, ◌∙◌, lit<, Bool, true, false, not, List, [], ◌∷◌, ◌++◌, length, drop, inl, inr, zero, suc, ◌≢◌}
+use Rattle.std.proofs.Common.{◌≡◌, ℕ, ◌+◌, ◌*◌, ◌<◌, ◌^◌, ◌==◌, ◌≤◌, ◌||◌, ◌⊎◌, arith, refl, ap, sym, subst, ◌∙◌, lit<, Bool, true, false, not, List, [], ◌∷◌, ◌++◌, length, drop, inl, inr, zero, suc, ◌≢◌}
 use Rattle.std.specs.Prelude.{Option, Some, None, is_none, nat_eq, nat_le, take}
 use Rattle.std.specs.List.{starts_with}
 use Rattle.std.proofs.lemmas.Bool.{eqb-true, cases_Bool, leb-true, or_cases}
@@ -16,6 +16,7 @@ use Rattle.rv_instr.specs.declared.instr.UpperOp.TheVariants.{Lui, Auipc}
 use Rattle.rv_instr.specs.declared.instr.ImmediateOp.TheVariants.{Addi, Andi}
 use Rattle.rv_instr.specs.declared.instr.ShiftOp.TheVariants.{Slli}
 use Rattle.rv_instr.specs.declared.instr.BranchOp.{BranchOp}
+use Rattle.rv_instr.specs.declared.instr.BranchOp.TheVariants.{Beq}
 use Rattle.rv_instr.specs.declared.instr.LoadOp.TheVariants.{Ld, Lw}
 use Rattle.rv_code.proofs.ReadBack.{decoded-code_of}
 use Rattle.cfi_unit.specs.declared.target_word.TargetWord.{TargetWord}
@@ -24,11 +25,13 @@ use Rattle.cfi_unit.specs.declared.unit.Unit as U
 use Rattle.cfi_unit.specs.declared.unit.Unit.TheVariants as V
 use Rattle.cfi_unit.specs.declared.unit.SystemOp.TheVariants as S
 use Rattle.cfi_unit.specs.UnitWords.{BAD_TARGET, MINUS_EIGHT, MINUS_FOUR, Begins, Fits, IsNear, Reaches, gate, instr_at, is_plain, jump, jump_offset, may_precede, near_offset, past, skips_jump, word_count, words_of}
-use Rattle.cfi_unit.specs.Recognise.{can_stand, jump_or_stop, led_to, read_by, recognised, stands, unit_from}
+use Rattle.cfi_unit.specs.Recognise.{can_stand, jump_or_stop, led_to, numbers_in, read_by, recognised, stands, unit_from}
 use Rattle.cfi_unit.specs.declared.members.Member.{Member}
+use Rattle.rv_word.specs.Numbers.{MOST_NUMBERS}
 use Rattle.cfi_unit.specs.Members.{MOST_MEMBERS, member_of, members_in}
 use Rattle.cfi_unit.proofs.Stand.{and_both, fits_stand}
 use Rattle.cfi_unit.proofs.MemberWords.{members_back, members_counted}
+use Rattle.cfi_unit.proofs.GuardedWords.{guarded_counted, guarded_read, is_load, is_test}
 
 pub recognised_by : (ws : List ℕ) (at : ℕ) (i : Instr) (u : U.Unit) → instr_at ws 0 ≡ Some i →
     unit_from ws at i ≡ Some u → stands ws at u ≡ true → recognised ws at ≡ Some u
@@ -48,6 +51,7 @@ words_counted (V.Near op rs1 rs2 target) at = refl
 words_counted (V.Jump target) at = refl
 words_counted V.Stop at = refl
 words_counted (V.System op) at = refl
+words_counted (V.Guarded ns) at = guarded_counted ns at
 words_counted (V.Stores rs1 imm members) at = let counted = members_counted members in omega arith
 words_counted (V.Call target) at = refl
 words_counted (V.Ijump which rs1 imm label) at = refl
@@ -138,6 +142,10 @@ stores_from : (ws : List ℕ) (at rs1 imm : ℕ) (members : List Member) → ins
     members_in (take MOST_MEMBERS (drop 3 ws)) ≡ members → unit_from ws at (Immediate Addi 31 rs1 imm) ≡ Some (V.Stores rs1 imm members)
 stores_from ws at rs1 imm members a b = rw a (ap (λ ms. Some (V.Stores rs1 imm ms)) b)
 
+guarded_from : (ws : List ℕ) (at n : ℕ) (ns : List ℕ) (field : ℕ) → instr_at ws 1 ≡ Some (Branch Beq 31 17 field) →
+    numbers_in MOST_NUMBERS ws ≡ ns → unit_from ws at (Immediate Addi 31 0 n) ≡ Some (V.Guarded ns)
+guarded_from ws at n ns field a b = rw a (ap (λ l. Some (V.Guarded l)) b)
+
 -- after so many members no other is asked for, or none follows
 whole : (members : List Member) (rest : List ℕ) → (nat_le MOST_MEMBERS (length members) || is_none (member_of (instr_at rest 0))) ≡ true →
     (MOST_MEMBERS ≤ length members) ⊎ (member_of (instr_at rest 0) ≡ None)
@@ -207,6 +215,15 @@ found (V.System S.Ecall) at rest f ahead =
 found (V.System S.Ebreak) at rest f ahead =
     recognised_by (words_of (V.System S.Ebreak) at ++ rest) at Ebreak (V.System S.Ebreak) (decoded-code_of Ebreak tt) refl
     (stands_there (V.System S.Ebreak) at rest f ahead)
+found (V.Guarded []) at rest f ahead = absurd (let some = f.0.some in let none : length {A = ℕ} [] ≡ 0 = refl in omega arith)
+found (V.Guarded (n ∷ ns)) at rest f ahead =
+    let u : U.Unit = V.Guarded (n ∷ ns) in
+    let ws : List ℕ = words_of u at ++ rest in
+    let most = f.0.most in
+    recognised_by ws at (Immediate Addi 31 0 n) u (decoded-code_of (Immediate Addi 31 0 n) (is_load n f.0.each.0))
+    (guarded_from ws at n (n ∷ ns) (4 * length (n ∷ ns))
+    (decoded-code_of (Branch Beq 31 17 (4 * length (n ∷ ns))) (is_test (length (n ∷ ns)) most)) (guarded_read (n ∷ ns) at rest f.0.each most))
+    (stands_there u at rest f ahead)
 found (V.Stores rs1 imm members) at rest f ahead =
     let u : U.Unit = V.Stores rs1 imm members in
     let ws : List ℕ = words_of u at ++ rest in

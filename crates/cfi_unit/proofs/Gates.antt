@@ -1,8 +1,8 @@
 -- A label's word stands in code only as the gate of that label.
-use Rattle.std.proofs.Common.{◌≡◌, ℕ, zero, suc, ◌+◌, ◌-◌, ◌*◌, ◌/◌, ◌%◌, ◌^◌, ◌<◌, ◌≤◌, ◌&&◌, Bool, true, false, not, inl, inr, List, [], ◌∷◌, length, Some, refl, sym, ap, subst, ◌∙◌, arith}
+use Rattle.std.proofs.Common.{◌≡◌, ℕ, zero, suc, ◌+◌, ◌-◌, ◌*◌, ◌/◌, ◌%◌, ◌^◌, ◌<◌, ◌≤◌, ◌&&◌, Bool, true, false, not, inl, inr, List, [], ◌∷◌, ◌++◌, length, Some, refl, sym, ap, subst, ◌∙◌, arith}
 use Rattle.std.specs.Prelude.{map, slice_get}
 use Rattle.std.proofs.lemmas.Bool.{and_parts}
-use Rattle.std.proofs.lemmas.List.{length-map}
+use Rattle.std.proofs.lemmas.List.{length-append, length-map}
 use Rattle.std.proofs.lemmas.Option.{slice_get_cases}
 use Rattle.rv_word.specs.MemoryMap.{IsProfile, Profile}
 use Rattle.rv_word.specs.Memory.{Memory, read}
@@ -16,11 +16,13 @@ use Rattle.cfi_unit.specs.declared.unit.Unit.TheVariants as V
 use Rattle.cfi_unit.specs.declared.unit.SystemOp.TheVariants as S
 use Rattle.cfi_unit.specs.declared.members.Member.{Member}
 use Rattle.cfi_unit.specs.Members.{member_instr}
-use Rattle.cfi_unit.specs.UnitWords.{Fits, gate, instrs_of, is_plain, word_count}
+use Rattle.cfi_unit.specs.Guarded.{guards}
+use Rattle.cfi_unit.specs.UnitWords.{BAD_TARGET, Fits, gate, instrs_of, is_plain, jump, word_count}
 use Rattle.cfi_unit.specs.Prologue.{opening_instrs}
 use Rattle.cfi_unit.specs.Place.{Place, handler, opening, closing, body, place_instrs, place_size}
 use Rattle.cfi_unit.specs.Stand.{Stand}
 use Rattle.cfi_unit.specs.UnitLaw.{MayStand}
+use Rattle.cfi_unit.proofs.GuardedWords.{guards_counted}
 use Rattle.cfi_unit.proofs.Parts.{opening_length}
 
 -- the word that a check compares with is a gate
@@ -79,6 +81,10 @@ plain_gate (Fence word) plain = refl
 plain_gate Ecall plain = refl
 plain_gate Ebreak plain = refl
 
+guards_gate : (ns : List ℕ) (rest : List Instr) → no_gate rest ≡ true → no_gate (guards ns ++ rest) ≡ true
+guards_gate [] rest none = none
+guards_gate (n ∷ ns) rest none = guards_gate ns rest none
+
 members_gate : (members : List Member) → no_gate (map member_instr members) ≡ true
 members_gate [] = refl
 members_gate (m ∷ members) = members_gate members
@@ -98,6 +104,7 @@ gate_unit (V.Jump target) at k label fits is = other_unit (V.Jump target) at k l
 gate_unit V.Stop at k label fits is = other_unit V.Stop at k label refl is
 gate_unit (V.System S.Ecall) at k label fits is = other_unit (V.System S.Ecall) at k label refl is
 gate_unit (V.System S.Ebreak) at k label fits is = other_unit (V.System S.Ebreak) at k label refl is
+gate_unit (V.Guarded numbers) at k label fits is = other_unit (V.Guarded numbers) at k label (guards_gate numbers _ refl) is
 gate_unit (V.Stores rs1 imm members) at k label fits is = other_unit (V.Stores rs1 imm members) at k label (members_gate members) is
 gate_unit (V.Call target) at k label fits is = other_unit (V.Call target) at k label refl is
 gate_unit (V.Ijump which rs1 imm other) at k label fits is = other_unit (V.Ijump which rs1 imm other) at k label refl is
@@ -127,6 +134,11 @@ unit_size (V.Jump target) at = refl
 unit_size V.Stop at = refl
 unit_size (V.System S.Ecall) at = refl
 unit_size (V.System S.Ebreak) at = refl
+unit_size (V.Guarded numbers) at =
+    let last : List Instr = jump (at + 8 * length numbers) BAD_TARGET ∷ Ecall ∷ [] in
+    let tests = guards_counted numbers in
+    let whole = length-append (guards numbers) last in
+    omega arith
 unit_size (V.Stores rs1 imm members) at = let counted = length-map members member_instr in omega arith
 unit_size (V.Call target) at = refl
 unit_size (V.Ijump which rs1 imm label) at = refl

@@ -1,5 +1,6 @@
 pub mod Stand
 pub mod MemberWords
+pub mod GuardedWords
 pub mod Counts
 pub mod Found
 pub mod Told
@@ -10,6 +11,7 @@ pub mod Context
 pub mod Regions
 pub mod Parts
 pub mod StoreUnit
+pub mod GuardedUnit
 pub mod Jumps
 pub mod Push
 pub mod CallUnit
@@ -24,11 +26,13 @@ pub mod Changed
 pub mod PlaceWords
 pub mod Others
 pub mod Gates
+pub mod Events
 pub mod Vectors
 pub mod Worked
 pub mod EffectSteps
 pub mod EffectUnits
 pub mod EffectStores
+pub mod EffectGuarded
 pub mod EffectTransfers
 pub mod EffectRows
 pub mod PrologueEffect

@@ -1,6 +1,6 @@
 -- The words of stores behind a mask: they are read back as these stores.
 use Rattle.std.proofs.Common.{◌≡◌, ℕ, zero, suc, ◌+◌, ◌-◌, ◌==◌, ◌&&◌, ◌<◌, ◌≤◌, ◌^◌, ◌⊎◌, refl, ap, sym, subst, ◌∙◌, lit<, true, false, List, [], ◌∷◌, ◌++◌, length, map, take, drop, inl, inr, arith}
-use Rattle.std.specs.Prelude.{Option, Some, None, nat_lt, replicate, slice_get, slice_set}
+use Rattle.std.specs.Prelude.{Option, Some, None, nat_lt, slice_get}
 use Rattle.std.specs.List.{All, AllByRecursion}
 use Rattle.std.proofs.lemmas.Bool.{lt-ltb}
 use Rattle.std.proofs.lemmas.Bool.Decides.{nat_tests}
@@ -131,27 +131,3 @@ module _ (ms all : List Member) (k : ℕ) (ws : List ℕ) (read : ms ++ members_
   read_end past =
       let e : 19 - k ≡ 0 = omega arith in
       sym (append-nil ms) ∙ sym (ap (λ n. ms ++ members_in (take n (drop k ws))) e) ∙ read
-
--- an array whose tail holds one filler, after a write of what comes before it
-pub set_length : (items : List Member) (k : ℕ) (x : Member) → length (slice_set items k x) ≡ length items
-set_length [] k x = refl
-set_length (y ∷ ys) zero x = refl
-set_length (y ∷ ys) (suc k) x = ap (λ n. suc n) (set_length ys k x)
-
-set_before : (items : List Member) (k : ℕ) (x : Member) → drop (suc k) (slice_set items k x) ≡ drop (suc k) items
-set_before [] k x = refl
-set_before (y ∷ ys) zero x = refl
-set_before (y ∷ ys) (suc k) x = set_before ys k x
-
-drop_next : (items : List Member) (k : ℕ) → drop (suc k) items ≡ drop 1 (drop k items)
-drop_next items zero = refl
-drop_next [] (suc k) = refl
-drop_next (y ∷ ys) (suc k) = drop_next ys k
-
-pub tail_next : (items : List Member) (n k : ℕ) (x f : Member) → k < n → drop k items ≡ replicate (n - k) f →
-    drop (k + 1) (slice_set items k x) ≡ replicate (n - (k + 1)) f
-tail_next items n k x f below tail =
-    let e : k + 1 ≡ suc k = omega arith in
-    let g : n - k ≡ suc (n - (k + 1)) = omega arith in
-    ap (λ j. drop j (slice_set items k x)) e ∙ set_before items k x ∙ drop_next items k ∙ ap (drop 1) tail
-    ∙ ap (λ m. drop 1 (replicate m f)) g

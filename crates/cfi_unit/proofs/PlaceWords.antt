@@ -1,5 +1,6 @@
 -- The pc of a word's facts is a word of what stands there.
-use Rattle.std.proofs.Common.{◌≡◌, ℕ, ◌+◌, ◌-◌, ◌*◌, ◌/◌, ◌<◌, ◌≤◌, List, [], ◌∷◌, arith}
+use Rattle.std.proofs.Common.{◌≡◌, ℕ, ◌+◌, ◌-◌, ◌*◌, ◌/◌, ◌<◌, ◌≤◌, List, [], ◌∷◌, length, arith}
+use Rattle.std.proofs.lemmas.Option.{slice_get_within}
 use Rattle.rv_word.specs.MemoryMap.{IsProfile, Profile}
 use Rattle.rv_word.specs.Memory.{Memory}
 use Rattle.rv_instr.specs.Registers.{Registers}
@@ -10,7 +11,7 @@ use Rattle.cfi_unit.specs.declared.unit.Unit.TheVariants as V
 use Rattle.cfi_unit.specs.UnitWords.{word_count}
 use Rattle.cfi_unit.specs.Prologue.{OPENING, call_at}
 use Rattle.cfi_unit.specs.Place.{Place, handler, opening, closing, body, IsWordOf}
-use Rattle.cfi_unit.specs.InPlace.{InWord, only, InBranch, branch_test, branch_jump, InStores, stores_addi, stores_slli, stores_srli, stores_store, InPush, push_slli, push_bne, push_deep, push_auipc, push_addi, push_store, push_grow, InCall, call_push, call_jump, InCheck, check_addi, check_andi, check_lui, check_sub, check_srli, check_region, check_outside, check_lw, check_label, check_opcode, check_word, check_other, InIjump, ijump_check, ijump_jump, InIcall, icall_check, icall_push, icall_jump, InReturn, return_ld, return_addi, return_beq, return_other, return_jump, InLoneSetUp, lone_stack, lone_shadow, lone_slot, InOwnSetUp, own_stack, own_stack_offset, own_stack_end, own_shadow, own_offset, own_part, own_slot, InOpening, opening_lone, opening_own, opening_call, InClosing, closing_number, closing_ecall, InUnit, InPlace}
+use Rattle.cfi_unit.specs.InPlace.{InWord, only, InBranch, branch_test, branch_jump, InGuarded, guarded_load, guarded_test, guarded_other, guarded_call, InStores, stores_addi, stores_slli, stores_srli, stores_store, InPush, push_slli, push_bne, push_deep, push_auipc, push_addi, push_store, push_grow, InCall, call_push, call_jump, InCheck, check_addi, check_andi, check_lui, check_sub, check_srli, check_region, check_outside, check_lw, check_label, check_opcode, check_word, check_other, InIjump, ijump_check, ijump_jump, InIcall, icall_check, icall_push, icall_jump, InReturn, return_ld, return_addi, return_beq, return_other, return_jump, InLoneSetUp, lone_stack, lone_shadow, lone_slot, InOwnSetUp, own_stack, own_stack_offset, own_stack_end, own_shadow, own_offset, own_part, own_slot, InOpening, opening_lone, opening_own, opening_call, InClosing, closing_number, closing_ecall, InUnit, InPlace}
 use Rattle.cfi_unit.specs.UnitLaw.{MayStand}
 use Rattle.cfi_unit.proofs.Parts.{call_site}
 
@@ -46,6 +47,13 @@ module _ {part : ℕ} {h : Hart} where
   branch_word : {at n : ℕ} → InBranch part at n h → Among 2 at h.pc
   branch_word (branch_test e x3) = (0, omega arith, omega arith)
   branch_word (branch_jump e x3) = (1, omega arith, e)
+
+  guarded_word : {at : ℕ} {ns : List ℕ} {x n : ℕ} → InGuarded part at ns x n h → Among (2 + 2 * length ns) at h.pc
+  guarded_word (guarded_load k below e x3 x17 none) = (2 * k, omega arith, e)
+  guarded_word {ns = ns} (guarded_test k number is e x3 x17 none x31) =
+      let below = slice_get_within ns k number is in (2 * k + 1, omega arith, e)
+  guarded_word {ns = ns} (guarded_other e x3 none) = (2 * length ns, omega arith, e)
+  guarded_word {ns = ns} (guarded_call e x3 x17 listed) = (2 * length ns + 1, omega arith, e)
 
   stores_word : {at count n : ℕ} → InStores part at count n h → Among (3 + count) at h.pc
   stores_word (stores_addi e x3) = (0, omega arith, omega arith)
@@ -118,6 +126,7 @@ unit_word part image (V.Near op rs1 rs2 target) at pending r h m i = only_word i
 unit_word part image (V.Jump target) at pending r h m i = only_word i
 unit_word part image V.Stop at pending r h m i = only_word i
 unit_word part image (V.System op) at pending r h m i = only_word i
+unit_word part image (V.Guarded numbers) at pending r h m i = guarded_word i
 unit_word part image (V.Stores rs1 imm members) at pending r h m i = stores_word i
 unit_word part image (V.Call target) at pending r h m i = call_word i
 unit_word part image (V.Ijump which rs1 imm label) at pending r h m i = ijump_word i

@@ -1,5 +1,6 @@
 -- `can_stand` decides `Fits` where a unit's fields are in range.
-use Rattle.std.proofs.Common.{◌≡◌, ℕ, ◌+◌, ◌==◌, refl, Bool, true, false, not, ◌&&◌, ◌≢◌, inl, inr, length}
+use Rattle.std.proofs.Common.{◌≡◌, ℕ, ◌+◌, ◌==◌, refl, Bool, true, false, not, ◌&&◌, ◌≢◌, inl, inr, length, ◌*◌}
+use Rattle.std.specs.Prelude.{nat_lt}
 use Rattle.std.proofs.lemmas.Bool.{eqb-true, eq-eqb, cases_Bool, lt-ltb, ltb-true}
 use Rattle.cfi_unit.specs.declared.unit.Unit as U
 use Rattle.cfi_unit.specs.declared.unit.Unit.TheVariants as V
@@ -63,6 +64,9 @@ stand_fits (V.Jump target) at r e =
     (other_told target BAD_TARGET p.0, told at target p.1)
 stand_fits V.Stop at r e = told at BAD_TARGET e
 stand_fits (V.System op) at r e = tt
+stand_fits (V.Guarded numbers) at r e =
+    let p = both (nat_lt 0 (length numbers)) (reaches (at + 8 * length numbers) BAD_TARGET) e in
+    (record { some = ltb-true 0 (length numbers) p.0; most = r.0; each = r.1 }, told (at + 8 * length numbers) BAD_TARGET p.1)
 stand_fits (V.Stores rs1 imm members) at r e = (r.0, r.1, record { some = ltb-true 0 (length members) e; most = r.2; each = r.3 })
 stand_fits (V.Call target) at r e =
     let p = both (reaches (at + 8) DEEP) (reaches (at + 28) target) e in
@@ -84,6 +88,9 @@ fits_stand (V.Jump target) at f =
     and_both (not (target == BAD_TARGET)) (reaches at target) (other_tested target BAD_TARGET f.0) (tested at target f.1)
 fits_stand V.Stop at f = tested at BAD_TARGET f
 fits_stand (V.System op) at f = refl
+fits_stand (V.Guarded numbers) at f =
+    and_both (nat_lt 0 (length numbers)) (reaches (at + 8 * length numbers) BAD_TARGET) (lt-ltb 0 (length numbers) f.0.some)
+    (tested (at + 8 * length numbers) BAD_TARGET f.1)
 fits_stand (V.Stores rs1 imm members) at f = lt-ltb 0 (length members) f.2.some
 fits_stand (V.Call target) at f =
     and_both (reaches (at + 8) DEEP) (reaches (at + 28) target) (tested (at + 8) DEEP f.0) (tested (at + 28) target f.1)

@@ -18,11 +18,13 @@ use Rattle.cfi_unit.specs.declared.target_word.TargetWord.{TargetWord}
 use Rattle.cfi_unit.specs.declared.unit.Unit as U
 use Rattle.cfi_unit.specs.declared.unit.Unit.TheVariants as V
 use Rattle.cfi_unit.specs.UnitWords.{BAD_TARGET, Begins, instr_at, may_precede, skips_jump, word_count, words_of}
-use Rattle.cfi_unit.specs.Recognise.{address_unit, can_stand, computed_unit, if_stands, jump_or_stop, label_in, led_to, near_to, read_in, recognised, stands, target_in, unit_from, upper_unit}
+use Rattle.cfi_unit.specs.Recognise.{address_unit, can_stand, computed_unit, if_stands, jump_or_stop, label_in, led_to, near_to, numbers_in, read_in, recognised, stands, target_in, transfer_unit, unit_from, upper_unit}
+use Rattle.rv_word.specs.Numbers.{MOST_NUMBERS}
 use Rattle.cfi_unit.specs.Members.{MOST_MEMBERS, members_in}
 use Rattle.cfi_unit.specs.InRange.{IsInRange}
 use Rattle.cfi_unit.specs.Laws.{AreWords}
 use Rattle.cfi_unit.proofs.MemberWords.{members_in_range, members_most}
+use Rattle.cfi_unit.proofs.GuardedWords.{numbers_few, numbers_small}
 use Rattle.cfi_unit.proofs.Stand.{both, stand_fits}
 use Rattle.cfi_unit.proofs.Found.{begins_recognised, words_counted}
 
@@ -54,9 +56,10 @@ computed_in_range rs1 imm (Some (Jalr rd base zero_imm)) which label r i l = (r,
 computed_in_range rs1 imm other which label r i l = (r, i, l)
 
 address_cases : (ws : List ℕ) (rs1 imm : ℕ) (o : Option Instr) → (address_unit ws rs1 imm o ≡ Some (V.Stores rs1 imm (members_in (take MOST_MEMBERS (drop 3 ws)))))
-    ⊎ (address_unit ws rs1 imm o ≡ option_map (computed_unit rs1 imm (instr_at ws 12) (read_in (instr_at ws 7))) (label_in (instr_at ws 8)))
+    ⊎ ((address_unit ws rs1 imm o ≡ Some (V.Guarded (numbers_in MOST_NUMBERS ws))) ⊎ (address_unit ws rs1 imm o ≡ transfer_unit ws rs1 imm))
 address_cases ws rs1 imm (Some (Shift op rd rs amount)) = inl refl
-address_cases ws rs1 imm other = inr refl
+address_cases ws rs1 imm (Some (Branch op a b field)) = inr (inl refl)
+address_cases ws rs1 imm other = inr (inr refl)
 
 stores_in_range : (ws : List ℕ) (rs1 imm : ℕ) → AreWords ws → rs1 < 32 → imm < 2 ^ 12 →
     IsInRange (V.Stores rs1 imm (members_in (take MOST_MEMBERS (drop 3 ws))))
@@ -70,7 +73,9 @@ address_in_range ws rs1 imm u words r i e =
     elim (address_cases ws rs1 imm (instr_at ws 1)) [
       | inl stored ↦
           given (V.Stores rs1 imm (members_in (take MOST_MEMBERS (drop 3 ws)))) u (sym stored ∙ e) (stores_in_range ws rs1 imm words r i)
-      | inr transfer ↦
+      | inr (inl tests) ↦
+          given (V.Guarded (numbers_in MOST_NUMBERS ws)) u (sym tests ∙ e) (numbers_few MOST_NUMBERS ws, numbers_small MOST_NUMBERS ws)
+      | inr (inr transfer) ↦
           let (label, at, same) = mapped (computed_unit rs1 imm (instr_at ws 12) (read_in (instr_at ws 7))) (label_in (instr_at ws 8)) u (sym transfer ∙ e) in
           given (computed_unit rs1 imm (instr_at ws 12) (read_in (instr_at ws 7)) label) u (ap Some same)
           (computed_in_range rs1 imm (instr_at ws 12) (read_in (instr_at ws 7)) label r i

@@ -17,6 +17,7 @@ use Rattle.cfi_unit.specs.Context.{Context}
 use Rattle.cfi_unit.specs.InPlace.{InUnit, InOpening}
 use Rattle.cfi_unit.specs.UnitLaw.{Outcome, stays, leaves, MayStand, UnitMayStand, UnitLaw}
 use Rattle.cfi_unit.proofs.StoreUnit.{stores_law}
+use Rattle.cfi_unit.proofs.GuardedUnit.{guarded_law}
 use Rattle.cfi_unit.proofs.CallUnit.{AfterCall, call_inside, call_leaves, call_law}
 use Rattle.cfi_unit.proofs.ReturnUnit.{return_law}
 use Rattle.cfi_unit.proofs.ComputedUnits.{ijump_law, icall_law}
@@ -43,6 +44,7 @@ module _ (p : Profile) (part : ℕ) (image base : Memory) where
     body_law V.Stop at pending may most w c i = stop_law p part image base at pending r h s may.0 w c i
     body_law (V.System S.Ecall) at pending may most w c i = ecall_law p part image base at pending r h s own w c i
     body_law (V.System S.Ebreak) at pending may most w c i = ebreak_law p part image base at pending r h s w c i
+    body_law (V.Guarded numbers) at pending may most w c i = guarded_law p part image base numbers at pending r h s own may.0 w c i
     body_law (V.Stores rs1 imm members) at pending may most w c i =
         stores_law p part image base rs1 imm members at pending r h s own may.0 w c i
     body_law (V.Call target) at pending may most w c i =

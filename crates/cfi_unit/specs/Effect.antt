@@ -1,7 +1,7 @@
 -- What a unit does, a row a unit: where it is left to, with which registers and pending sites, and
 -- what harts then share. `h` and `s` are the hart and what is shared at the unit's first word, and
 -- `may` is what may happen between its words; `following` is the address after the unit.
-use Rattle.std.specs.Prelude.{◌≡◌, ◌≢◌, ℕ, ◌<◌, ◌⊎◌, if◌then◌else◌, List, [], ◌∷◌, length}
+use Rattle.std.specs.Prelude.{◌≡◌, ◌≢◌, ℕ, ◌-◌, ◌<◌, ◌⊎◌, if◌then◌else◌, List, [], ◌∷◌, length}
 use Rattle.rv_word.specs.MemoryMap.{Profile}
 use Rattle.rv_word.specs.Memory.{Memory}
 use Rattle.rv_instr.specs.Registers.{get_reg, set_reg}
@@ -12,8 +12,8 @@ use Rattle.cfi_unit.specs.declared.unit.Unit as U
 use Rattle.cfi_unit.specs.declared.unit.Unit.TheVariants as V
 use Rattle.cfi_unit.specs.UnitWords.{BAD_TARGET, BAD_RETURN, DEEP, after_unit, system_instr}
 use Rattle.cfi_unit.specs.Shadow.{MOST_PENDING}
-use Rattle.cfi_unit.specs.Leads.{Checks, destination}
-use Rattle.cfi_unit.specs.Leaving.{LeftTo, HaltsAt, Executes, StoresEach, masked, pushed}
+use Rattle.cfi_unit.specs.Leads.{Checks, Guards, destination}
+use Rattle.cfi_unit.specs.Leaving.{LeftTo, HaltsAt, CallsAt, Executes, StoresEach, masked, pushed}
 
 module _ (p : Profile) (part : ℕ) (image base : Memory) (may : Shared → Shared → Type 0) (h : Hart) (s : Shared) where
   -- a call puts its site into x1 and onto the shadow stack and goes to its target, or halts where the
@@ -42,6 +42,10 @@ module _ (p : Profile) (part : ℕ) (image base : Memory) (may : Shared → Shar
   DoesPast (V.Jump target) following pending after = LeftTo part image base target pending h.regs (may s) after
   DoesPast V.Stop following pending after = HaltsAt part image base BAD_TARGET pending h.regs (may s) after
   DoesPast (V.System op) following pending after = Executes p part image base (system_instr op) pending h (may s) after
+  DoesPast (V.Guarded numbers) following pending after =
+      Guards numbers (h.regs 17)
+      (CallsAt p part image base (following - 4) pending h.regs (may s) after)
+      (HaltsAt part image base BAD_TARGET pending h.regs (may s) after)
   DoesPast (V.Stores rs1 imm members) following pending after =
       LeftTo part image base following pending h.regs
       (StoresEach may (masked h.regs rs1 imm) (set_reg h.regs 31 (masked h.regs rs1 imm)) members s) after

@@ -1,10 +1,11 @@
 -- What holds of a hart at each word of a unit: a constructor a word, named by its instruction, with
 -- the pc, the shadow pointer x3, the scratch registers that the next words read, and what the unit
 -- has found out. `n` counts the pending sites, `r` holds the registers at the unit's start.
-use Rattle.std.specs.Prelude.{◌≡◌, ◌≢◌, ℕ, suc, ◌+◌, ◌*◌, ◌/◌, ◌^◌, ◌<◌, ◌≤◌, List, [], ◌∷◌, length}
+use Rattle.std.specs.Prelude.{◌≡◌, ◌≢◌, ℕ, suc, ◌+◌, ◌*◌, ◌/◌, ◌^◌, ◌<◌, ◌≤◌, true, false, List, [], ◌∷◌, Some, length, slice_get, take}
 use Rattle.rv_word.specs.Bits.{wrap}
 use Rattle.rv_word.specs.MemoryMap.{CODE_START, CODE_SIZE, SHADOW_START, Profile, part_of, version_1, version_2}
 use Rattle.rv_word.specs.Memory.{Memory, read}
+use Rattle.rv_word.specs.Numbers.{is_listed}
 use Rattle.rv_instr.specs.Registers.{Registers}
 use Rattle.rv_code.specs.Arithmetic.{difference}
 use Rattle.rv_code.specs.State.{Hart}
@@ -26,6 +27,17 @@ pub data InWord (part at n : ℕ) (h : Hart) : Type 0 where
 pub data InBranch (part at n : ℕ) (h : Hart) : Type 0 where
   branch_test : h.pc ≡ at → h.regs 3 ≡ slot part n → InBranch part at n h
   branch_jump : h.pc ≡ at + 4 → h.regs 3 ≡ slot part n → InBranch part at n h
+
+-- the tests of a system call's number, each two words, then the jump and the call: `x` is the number
+pub data InGuarded (part at : ℕ) (numbers : List ℕ) (x n : ℕ) (h : Hart) : Type 0 where
+  guarded_load : (k : ℕ) → k < length numbers → h.pc ≡ at + 4 * (2 * k) → h.regs 3 ≡ slot part n → h.regs 17 ≡ x →
+      is_listed x (take k numbers) ≡ false → InGuarded part at numbers x n h
+  guarded_test : (k number : ℕ) → slice_get numbers k ≡ Some number → h.pc ≡ at + 4 * (2 * k + 1) → h.regs 3 ≡ slot part n →
+      h.regs 17 ≡ x → is_listed x (take k numbers) ≡ false → h.regs 31 ≡ number → InGuarded part at numbers x n h
+  guarded_other : h.pc ≡ at + 4 * (2 * length numbers) → h.regs 3 ≡ slot part n → is_listed x numbers ≡ false →
+      InGuarded part at numbers x n h
+  guarded_call : h.pc ≡ at + 4 * (2 * length numbers + 1) → h.regs 3 ≡ slot part n → h.regs 17 ≡ x → is_listed x numbers ≡ true →
+      InGuarded part at numbers x n h
 
 -- stores: as many as `count` say
 pub data InStores (part at count n : ℕ) (h : Hart) : Type 0 where
@@ -156,6 +168,7 @@ InUnit part image (V.Near op rs1 rs2 target) at pending r h m = InWord part at (
 InUnit part image (V.Jump target) at pending r h m = InWord part at (length pending) h
 InUnit part image V.Stop at pending r h m = InWord part at (length pending) h
 InUnit part image (V.System op) at pending r h m = InWord part at (length pending) h
+InUnit part image (V.Guarded numbers) at pending r h m = InGuarded part at numbers (r 17) (length pending) h
 InUnit part image (V.Stores rs1 imm members) at pending r h m = InStores part at (length members) (length pending) h
 InUnit part image (V.Call target) at pending r h m = InCall part at (r 31) (length pending) h m
 InUnit part image (V.Ijump which rs1 imm label) at pending r h m =

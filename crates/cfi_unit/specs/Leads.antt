@@ -1,10 +1,11 @@
 -- Where a unit leads: the next address, and the pending sites there. `r` holds the registers at the
 -- unit's start, `following` is the address after it; a computed destination is legal where the word of
 -- it that the check reads is the gate of the class's label.
-use Rattle.std.specs.Prelude.{◌≡◌, ◌≢◌, ℕ, ◌+◌, ◌*◌, ◌/◌, ◌%◌, ◌≤◌, ◌<◌, ◌⊎◌, List, [], ◌∷◌, length}
+use Rattle.std.specs.Prelude.{◌≡◌, ◌≢◌, ℕ, ◌+◌, ◌*◌, ◌/◌, ◌%◌, ◌≤◌, ◌<◌, ◌⊎◌, true, false, List, [], ◌∷◌, length}
 use Rattle.rv_word.specs.Bits.{wrap}
 use Rattle.rv_word.specs.MemoryMap.{CODE_START, CODE_SIZE, Profile}
 use Rattle.rv_word.specs.Memory.{Memory, read}
+use Rattle.rv_word.specs.Numbers.{is_listed}
 use Rattle.rv_instr.specs.Registers.{Registers, get_reg}
 use Rattle.rv_code.specs.Step.{offset}
 use Rattle.cfi_unit.specs.declared.target_word.TargetWord.{TargetWord}
@@ -45,6 +46,10 @@ Calls site pending after next target =
 abbrev pub Checks : Memory → TargetWord → ℕ → ℕ → Type 0 → Type 0 → Type 0
 Checks image which label v legal halted = (HasLabel image which label v × legal) ⊎ ((HasLabel image which label v → ⊥) × halted)
 
+-- a system call is made where its number is listed, and not where it is not
+abbrev pub Guards : List ℕ → ℕ → Type 0 → Type 0 → Type 0
+Guards numbers x made halted = ((is_listed x numbers ≡ true) × made) ⊎ ((is_listed x numbers ≡ false) × halted)
+
 -- a return goes to the newest site and takes it off, or halts where x1 is another address
 abbrev pub Returns : Registers → List ℕ → List ℕ → ℕ → Type 0
 Returns r [] after next = Goes [] after next BAD_RETURN
@@ -63,6 +68,8 @@ LeadsPast image (V.Jump target) following pending r after next = Goes pending af
 LeadsPast image V.Stop following pending r after next = Goes pending after next BAD_TARGET
 LeadsPast image (V.System S.Ecall) following pending r after next = Goes pending after next following
 LeadsPast image (V.System S.Ebreak) following pending r after next = ⊥
+LeadsPast image (V.Guarded numbers) following pending r after next =
+    Guards numbers (r 17) (Goes pending after next following) (Goes pending after next BAD_TARGET)
 LeadsPast image (V.Stores rs1 imm members) following pending r after next = Goes pending after next following
 LeadsPast image (V.Call target) following pending r after next = Calls following pending after next target
 LeadsPast image (V.Ijump which rs1 imm label) following pending r after next =

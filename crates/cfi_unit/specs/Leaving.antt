@@ -77,6 +77,14 @@ pub record Executes (p : Profile) (part : ℕ) (image base : Memory) (instr : In
   pub context : after.turn ≡ Ran → Context part image base pending after.shared
   pub pc : after.turn ≡ Ran → after.hart.pc ≡ h.pc + 4
 
+-- a system call is made behind other words of its unit: the program's registers are `r` where it is
+pub record CallsAt (p : Profile) (part : ℕ) (image base : Memory) (at : ℕ) (pending : List ℕ) (r : Registers) (IsShared : Shared → Type 0) (after : After) : Type 0 where
+  pub hart : Hart
+  pub here : hart.pc ≡ at
+  pub same : SameRegisters r hart.regs
+  pub pointer : hart.regs 3 ≡ slot part (length pending)
+  pub executes : Executes p part image base Ecall pending hart IsShared after
+
 -- the address of stores behind one mask
 abbrev pub masked : Registers → ℕ → ℕ → ℕ
 masked r rs1 imm = sum_of r rs1 imm % 2 ^ 28

@@ -1,4 +1,5 @@
 pub mod Members
+pub mod Guarded
 pub mod UnitWords
 pub mod InRange
 pub mod Recognise
@@ -16,4 +17,5 @@ pub mod Between
 pub mod Leaving
 pub mod Effect
 pub mod EffectLaw
+pub mod EventLaw
 pub mod PrologueEffect

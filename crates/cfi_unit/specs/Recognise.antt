@@ -1,7 +1,7 @@
 -- The unit that begins a list of words, found from its first words: its fields are read where they
 -- would stand, and then all its words are compared; a branch and stores look one word ahead. It is the unit that
 -- `Begins` the list.
-use Rattle.std.specs.Prelude.{ℕ, zero, suc, ◌+◌, ◌*◌, ◌==◌, ◌&&◌, Bool, true, not, List, Option, Some, None, option_map, if◌then◌else◌, length, nat_eq, nat_lt, drop, take, option_and_then}
+use Rattle.std.specs.Prelude.{ℕ, zero, suc, ◌+◌, ◌*◌, ◌==◌, ◌&&◌, Bool, true, not, List, [], ◌∷◌, Option, Some, None, option_map, if◌then◌else◌, length, nat_eq, nat_lt, drop, take, option_and_then}
 use Rattle.std.specs.List.{starts_with}
 use Rattle.rv_word.specs.Bits.{wrap}
 use Rattle.rv_instr.specs.declared.instr.Instr.{Instr}
@@ -15,6 +15,7 @@ use Rattle.cfi_unit.specs.declared.target_word.TargetWord.TheVariants.{First, Se
 use Rattle.cfi_unit.specs.declared.unit.Unit as U
 use Rattle.cfi_unit.specs.declared.unit.Unit.TheVariants as V
 use Rattle.cfi_unit.specs.declared.unit.SystemOp.TheVariants as S
+use Rattle.rv_word.specs.Numbers.{MOST_NUMBERS}
 use Rattle.cfi_unit.specs.Members.{MOST_MEMBERS, members_in}
 use Rattle.cfi_unit.specs.UnitWords.{BAD_TARGET, BAD_RETURN, DEEP, instr_at, is_plain, jump_offset, may_precede, near_offset, skips_jump, word_count, words_of}
 
@@ -52,12 +53,34 @@ abbrev pub computed_unit : ℕ → ℕ → Option Instr → TargetWord → ℕ �
 computed_unit rs1 imm (Some (Jalr rd base zero_imm)) which label = V.Ijump which rs1 imm label
 computed_unit rs1 imm other which label = V.Icall rs1 imm label
 
--- a unit that begins by putting an address into x31: its second word is a shift, and stores follow
--- behind the mask, or it is not
+abbrev pub transfer_unit : List ℕ → ℕ → ℕ → Option U.Unit
+transfer_unit words rs1 imm =
+    option_map (computed_unit rs1 imm (instr_at words 12) (read_in (instr_at words 7))) (label_in (instr_at words 8))
+
+-- the number that two instructions test: one loads it, and a branch follows
+abbrev pub loaded_by : Option Instr → Option ℕ
+loaded_by (Some (Immediate op rd rs1 n)) = if nat_lt n 2048 then Some n else None
+loaded_by other = None
+
+abbrev pub number_of : Option Instr → Option Instr → Option ℕ
+number_of first (Some (Branch op a b field)) = loaded_by first
+number_of first other = None
+
+abbrev pub with_number : Option ℕ → List ℕ → List ℕ
+with_number None numbers = []
+with_number (Some n) numbers = n ∷ numbers
+
+-- the numbers that a list of words begins by testing, at most so many
+unfoldable pub numbers_in : ℕ → List ℕ → List ℕ
+numbers_in zero words = []
+numbers_in (suc most) words = with_number (number_of (instr_at words 0) (instr_at words 1)) (numbers_in most (drop 2 words))
+
+-- a unit that begins by putting an address or a number into x31: its second word is a shift, and stores
+-- follow behind the mask, or a branch, and it tests the number of a system call, or neither
 abbrev pub address_unit : List ℕ → ℕ → ℕ → Option Instr → Option U.Unit
 address_unit words rs1 imm (Some (Shift op rd rs amount)) = Some (V.Stores rs1 imm (members_in (take MOST_MEMBERS (drop 3 words))))
-address_unit words rs1 imm other =
-    option_map (computed_unit rs1 imm (instr_at words 12) (read_in (instr_at words 7))) (label_in (instr_at words 8))
+address_unit words rs1 imm (Some (Branch op a b field)) = Some (V.Guarded (numbers_in MOST_NUMBERS words))
+address_unit words rs1 imm other = transfer_unit words rs1 imm
 
 abbrev pub upper_unit : UpperOp → ℕ → ℕ → U.Unit
 upper_unit Lui zero imm = V.Gate imm
@@ -111,6 +134,7 @@ can_stand (V.Near op rs1 rs2 target) at = is_near at target
 can_stand (V.Jump target) at = not (target == BAD_TARGET) && reaches at target
 can_stand V.Stop at = reaches at BAD_TARGET
 can_stand (V.System op) at = true
+can_stand (V.Guarded numbers) at = nat_lt 0 (length numbers) && reaches (at + 8 * length numbers) BAD_TARGET
 can_stand (V.Stores rs1 imm members) at = nat_lt 0 (length members)
 can_stand (V.Call target) at = reaches (at + 8) DEEP && reaches (at + 28) target
 can_stand (V.Ijump which rs1 imm label) at = check_reaches at

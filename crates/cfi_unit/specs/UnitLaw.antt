@@ -37,6 +37,7 @@ UnitEnds (V.Jump target) at turn = ⊥
 UnitEnds V.Stop at turn = ⊥
 UnitEnds (V.System S.Ecall) at turn = Exits turn
 UnitEnds (V.System S.Ebreak) at turn = turn ≡ Break at
+UnitEnds (V.Guarded numbers) at turn = Exits turn
 UnitEnds (V.Stores rs1 imm members) at turn = ⊥
 UnitEnds (V.Call target) at turn = ⊥
 UnitEnds (V.Ijump which rs1 imm label) at turn = ⊥

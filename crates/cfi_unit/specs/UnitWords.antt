@@ -19,6 +19,7 @@ use Rattle.rv_code.specs.Decode.{decoded}
 use Rattle.rv_code.specs.Encode.{code_of}
 use Rattle.rv_code.specs.Step.{offset}
 use Rattle.cfi_unit.specs.Members.{AreMembers, MOST_MEMBERS, member_instr, member_of}
+use Rattle.cfi_unit.specs.Guarded.{AreNumbers, guards}
 use Rattle.cfi_unit.specs.declared.handlers.TheConstants as handlers
 use Rattle.cfi_unit.specs.declared.target_word.TargetWord.{TargetWord}
 use Rattle.cfi_unit.specs.declared.target_word.TargetWord.TheVariants.{First, Second}
@@ -128,6 +129,7 @@ instrs_of (V.Near op rs1 rs2 target) at = Branch op rs1 rs2 (near_offset at targ
 instrs_of (V.Jump target) at = jump at target ∷ []
 instrs_of V.Stop at = jump at BAD_TARGET ∷ []
 instrs_of (V.System op) at = system_instr op ∷ []
+instrs_of (V.Guarded numbers) at = guards numbers ++ (jump (at + 8 * length numbers) BAD_TARGET ∷ Ecall ∷ [])
 instrs_of (V.Stores rs1 imm members) at = mask rs1 imm ++ map member_instr members
 instrs_of (V.Call target) at = push at ++ Jal 1 (jump_offset (at + 28) target) ∷ []
 instrs_of (V.Ijump which rs1 imm label) at = check at rs1 imm label which ++ Jalr 0 31 0 ∷ []
@@ -179,6 +181,7 @@ Fits (V.Near op rs1 rs2 target) at = (rs1 < 32) × (rs2 < 32) × IsNear at targe
 Fits (V.Jump target) at = (target ≢ BAD_TARGET) × Reaches at target
 Fits V.Stop at = Reaches at BAD_TARGET
 Fits (V.System op) at = Unit {0}
+Fits (V.Guarded numbers) at = AreNumbers numbers × Reaches (at + 8 * length numbers) BAD_TARGET
 Fits (V.Stores rs1 imm members) at = (rs1 < 32) × (imm < 2 ^ 12) × AreMembers members
 Fits (V.Call target) at = Reaches (at + 8) DEEP × Reaches (at + 28) target
 Fits (V.Ijump which rs1 imm label) at = CheckFits at rs1 imm label
@@ -194,6 +197,7 @@ word_count (V.Near op rs1 rs2 target) = 1
 word_count (V.Jump target) = 1
 word_count V.Stop = 1
 word_count (V.System op) = 1
+word_count (V.Guarded numbers) = 2 + 2 * length numbers
 word_count (V.Stores rs1 imm members) = 3 + length members
 word_count (V.Call target) = counts.CALL_WORDS
 word_count (V.Ijump which rs1 imm label) = counts.IJUMP_WORDS

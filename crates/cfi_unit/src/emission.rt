@@ -4,14 +4,15 @@ ghost use Rattle.std.specs.Prelude.{◌≡◌, ◌+◌, ◌*◌, ◌<◌, ◌↔
 ghost use Rattle.rv_word.specs.MemoryMap.{CODE_START, CODE_SIZE};
 ghost use Rattle.cfi_unit.specs.Recognise.{can_stand, check_reaches, recognised};
 ghost use Rattle.cfi_unit.specs.UnitWords.{Fits, is_plain, may_precede, word_count, words_of};
+ghost use Rattle.cfi_unit.specs.declared.unit.Unit.TheVariants as V;
 
 use crate::handlers::{BAD_RETURN, BAD_TARGET, DEEP};
 use crate::jump::{is_close, is_reached};
 use crate::template::unit_code;
 use crate::unit::Unit;
 use rv_instr::{Instr, UpperOp};
-use rv_word::NoMemory;
 use rv_word::unit_words::{BRANCH_WORDS, CALL_WORDS, ICALL_WORDS, IJUMP_WORDS, RETURN_WORDS};
+use rv_word::{NoMemory, Numbers};
 use std::alloc::Global;
 
 /// The words of a unit at an address.
@@ -47,6 +48,7 @@ pub(crate) fn count(unit: &Unit) -> u32
         | Unit::Stop
         | Unit::System(_) => 1,
         Unit::Branch(..) => BRANCH_WORDS,
+        Unit::Guarded(numbers) => 2 + 2 * numbers.len() as u32,
         Unit::Stores(_, _, members) => 3 + members.len() as u32,
         Unit::Return => RETURN_WORDS,
         Unit::Call(_) => CALL_WORDS,
@@ -73,6 +75,7 @@ pub(crate) fn may_stand(unit: &Unit, at: u64) -> bool
 {
     match *unit {
         Unit::Gate(_) | Unit::System(_) => true,
+        Unit::Guarded(numbers) => guards_reach(&numbers, at),
         Unit::Stores(_, _, members) => members.len() > 0,
         Unit::Plain(instr) => may_stand_alone(&instr),
         Unit::Branch(_, _, _, target) => is_reached(at + 4, target),
@@ -84,6 +87,16 @@ pub(crate) fn may_stand(unit: &Unit, at: u64) -> bool
         Unit::Icall(..) => halts_reach(at) && is_reached(at + 56, DEEP),
         Unit::Return => is_reached(at + 12, BAD_RETURN),
     }
+}
+
+/// Whether there is a number to test, and the jump behind the tests reaches its handler.
+#[inline(never)]
+fn guards_reach(numbers: &Numbers, at: u64) -> bool
+    requires { at < CODE_START + CODE_SIZE }
+    ensures { result ≡ can_stand (V.Guarded numbers.now) at }
+{
+    let count = numbers.len();
+    count > 0 && is_reached(at + 8 * count as u64, BAD_TARGET)
 }
 
 /// Whether the jumps of a check reach their handler.

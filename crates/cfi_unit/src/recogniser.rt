@@ -1,6 +1,6 @@
 //! The unit that begins a list of words.
 
-ghost use Rattle.std.specs.Prelude.{◌≡◌, ◌+◌, ◌<◌, ◌≤◌, ◌||◌, Some, drop, is_none, nat_le, option_map, take, IfSome, IsNone};
+ghost use Rattle.std.specs.Prelude.{◌≡◌, ◌+◌, ◌<◌, ◌≤◌, ◌||◌, None, Some, drop, if◌then◌else◌, is_none, nat_le, nat_lt, option_map, take, IfSome, IsNone};
 ghost use Rattle.rv_word.specs.MemoryMap.{CODE_START, CODE_SIZE};
 ghost use Rattle.cfi_unit.specs.Recognise.{
   address_unit,
@@ -8,13 +8,18 @@ ghost use Rattle.cfi_unit.specs.Recognise.{
   computed_unit,
   jump_or_stop,
   label_in,
+  loaded_by,
+  number_of,
+  numbers_in,
   read_by,
   read_in,
   recognised,
   target_in,
+  transfer_unit,
   unit_from,
   upper_unit,
 };
+ghost use Rattle.rv_word.specs.Numbers.{IsNumber, MOST_NUMBERS};
 ghost use Rattle.cfi_unit.specs.Members.{MOST_MEMBERS, member_of, members_in};
 ghost use Rattle.cfi_unit.specs.UnitWords.{Begins, instr_at, is_jump, may_precede, skips_jump, word_count};
 ghost use Rattle.cfi_unit.specs.declared.unit.Unit as U;
@@ -28,6 +33,7 @@ use crate::template::unit_code;
 use crate::unit::{SystemOp, Unit};
 use rv_code::decode;
 use rv_instr::{BranchOp, Immediate, Instr, Reg, StoreOp, UpperOp};
+use rv_word::Numbers;
 
 /// The unit that begins a list of words at an address, and how many words it has. A branch is read with
 /// the word after it, so a list that ends before the code does may give another unit at its end.
@@ -200,13 +206,21 @@ fn target(at: u64, jump: Option<Instr>) -> Option<u64>
     }
 }
 
-/// A unit that begins by putting an address into x31.
+/// A unit that begins by putting an address or a number into x31.
 fn addressed(words: &[u32], rs1: Reg, imm: Immediate<12>) -> Option<Unit>
     ensures { result ≡ address_unit words.now rs1 imm (instr_at words.now 1) }
 {
-    if let Some(Instr::Shift(..)) = instr(words, 1) {
-        return Some(Unit::Stores(rs1, imm, members_behind(words)));
+    match instr(words, 1) {
+        Some(Instr::Shift(..)) => Some(Unit::Stores(rs1, imm, members_behind(words))),
+        Some(Instr::Branch(..)) => Some(Unit::Guarded(numbers_tested(words))),
+        _ => transferred(words, rs1, imm),
     }
+}
+
+/// A computed transfer, by the label that its check compares with.
+fn transferred(words: &[u32], rs1: Reg, imm: Immediate<12>) -> Option<Unit>
+    ensures { result ≡ transfer_unit words.now rs1 imm }
+{
     let label = label(instr(words, 8))?;
     let which = read_word(instr(words, 7));
     Some(computed(rs1, imm, instr(words, 12), which, label))
@@ -224,6 +238,53 @@ fn members_behind(words: &[u32]) -> Members
         }
     }
     members
+}
+
+/// The numbers that the list begins by testing, up to eight. Not inlined: other units would pay for its
+/// locals.
+#[inline(never)]
+fn numbers_tested(words: &[u32]) -> Numbers
+    ensures { result ≡ numbers_in MOST_NUMBERS words.now }
+{
+    let mut numbers = Numbers::new();
+    for index in 0..8 {
+        match number(instr(words, 2 * index), instr(words, 2 * index + 1)) {
+            Some(number) => numbers.push(number),
+            None => return numbers,
+        }
+    }
+    numbers
+}
+
+/// The number that two instructions test.
+fn number(first: Option<Instr>, second: Option<Instr>) -> Option<u16>
+    ensures value { result ≡ number_of first second }
+    ensures small { IfSome result IsNumber }
+{
+    match second? {
+        Instr::Branch(..) => loaded(first),
+        _ => None,
+    }
+}
+
+/// The number that an instruction loads.
+fn loaded(instr: Option<Instr>) -> Option<u16>
+    ensures value { result ≡ loaded_by instr }
+    ensures small { IfSome result IsNumber }
+{
+    match instr? {
+        Instr::Immediate(_, _, _, field) => small(field),
+        _ => None,
+    }
+}
+
+/// A number of a system call, where the field is one.
+fn small(field: Immediate<12>) -> Option<u16>
+    ensures value { result ≡ (if nat_lt field 2048 then Some field else None) }
+    ensures small { IfSome result IsNumber }
+{
+    let bits = field.bits();
+    if bits < 2048 { Some(bits as u16) } else { None }
 }
 
 /// The member that an instruction is: a store off x31 at a distance that is not negative.

@@ -1,7 +1,14 @@
+ghost use Rattle.cfi_unit.specs.EventLaw.{EventLaw};
 ghost use Rattle.cfi_unit.specs.UnitLaw.{UnitLaw};
 
 /// The unit law, as the contract of a function that computes nothing: a step from a word of a unit
 /// stays in the unit, or leaves it where the unit leads, or ends as the unit may end.
 pub fn unit_law()
     ensures { UnitLaw }
+{}
+
+/// What a step from a word of a unit adds to the events: none, or one with the number in x17, where
+/// the unit may call. Nothing is computed.
+pub fn unit_events()
+    ensures { EventLaw }
 {}

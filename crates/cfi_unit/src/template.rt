@@ -1,8 +1,11 @@
 //! The instructions of each unit.
 
-ghost use Rattle.std.specs.Prelude.{◌≡◌, ◌+◌, ◌<◌, ◌≤◌, ◌^◌, ◌++◌, length, map};
+ghost use Rattle.std.specs.Prelude.{◌≡◌, ◌+◌, ◌*◌, ◌<◌, ◌≤◌, ◌^◌, ◌++◌, length, map};
+ghost use Rattle.std.specs.List.{AllByRecursion};
 ghost use Rattle.rv_code.specs.Encode.{code_of};
 ghost use Rattle.rv_word.specs.MemoryMap.{CODE_START, CODE_SIZE};
+ghost use Rattle.rv_word.specs.Numbers.{IsNumber, MOST_NUMBERS};
+ghost use Rattle.cfi_unit.specs.Guarded.{guards};
 ghost use Rattle.cfi_unit.specs.Members.{member_instr};
 ghost use Rattle.cfi_unit.specs.UnitWords.{check, gate, instrs_of, mask, past, push, system_instr, words_of};
 ghost use Rattle.cfi_unit.specs.declared.unit.Unit.TheVariants as V;
@@ -17,6 +20,7 @@ use rv_code::encode;
 use rv_instr::{
     BranchOp, Immediate, ImmediateOp, Instr, LoadOp, Reg, RegisterOp, ShiftOp, StoreOp, UpperOp,
 };
+use rv_word::Numbers;
 
 /// The words of a unit at an address.
 #[tactic(auto, unfolding(crate::specs::UnitWords::words_of))]
@@ -37,6 +41,7 @@ pub(crate) fn unit_code(unit: &Unit, at: u64) -> UnitCode
         Unit::Jump(target) => code.put(&[jump_between(at, target)]),
         Unit::Stop => code.put(&[jump_between(at, BAD_TARGET)]),
         Unit::System(op) => code.put(&[system(op)]),
+        Unit::Guarded(numbers) => put_guarded(&mut code, &numbers, at),
         Unit::Stores(rs1, imm, members) => {
             code.put(&mask(rs1, imm));
             put_members(&mut code, members.as_slice());
@@ -147,6 +152,49 @@ fn put_members(code: &mut UnitCode, members: &[Member])
     for member in members {
         code.push(encode(member_instr(*member)));
     }
+}
+
+/// Puts the words of a system call behind tests of its number at the end. Not inlined: other units would
+/// pay for its locals.
+#[inline(never)]
+fn put_guarded(code: &mut UnitCode, numbers: &Numbers, at: u64)
+    requires place { at < CODE_START + CODE_SIZE }
+    requires room { length code.old ≡ 0 }
+    ensures { code.new ≡ code.old ++ words_of (V.Guarded numbers.now) at }
+{
+    let count = numbers.len();
+    put_guards(code, numbers.as_slice());
+    code.put(&[
+        jump_between(at + 8 * count as u64, BAD_TARGET),
+        Instr::Ecall,
+    ]);
+}
+
+/// Puts the tests of numbers at the end.
+fn put_guards(code: &mut UnitCode, numbers: &[u16])
+    requires room { length code.old ≡ 0 }
+    requires most { length numbers.now ≤ MOST_NUMBERS }
+    requires each { AllByRecursion IsNumber numbers.now }
+    ensures { code.new ≡ code.old ++ map code_of (guards numbers.now) }
+{
+    for (index, number) in numbers.iter().enumerate() {
+        let left = (numbers.len() - index) as u32;
+        code.push(encode(addi(31, 0, u32::from(*number))));
+        code.push(encode(test(left)));
+    }
+}
+
+/// A branch over so many tests, and the jump behind them, where x31 and x17 are the same.
+fn test(left: u32) -> Instr
+    requires { left ≤ MOST_NUMBERS }
+    ensures { result ≡ Instr.Branch BranchOp.Beq 31 17 (4 * left) }
+{
+    Instr::Branch(
+        BranchOp::Beq,
+        Reg::of(31),
+        Reg::of(17),
+        Immediate::of(4 * left),
+    )
 }
 
 /// The words of a call before its transfer.

@@ -1,6 +1,7 @@
 use crate::members::Members;
 use crate::target_word::TargetWord;
 use rv_instr::{BranchOp, Immediate, Instr, Reg};
+use rv_word::Numbers;
 
 /// A unit of hardened code. Targets are addresses in bytes, labels are 20-bit numbers.
 #[derive(Clone, Copy, PartialEq, Eq)]
@@ -20,6 +21,9 @@ pub enum Unit {
     Stop,
     /// A system call or a break.
     System(SystemOp),
+    /// A system call behind tests of its number: the numbers, in the order in which they are tested,
+    /// with which it is made. With any other the handler of bad targets is next.
+    Guarded(Numbers),
     /// Stores behind one address, which is masked to lie below 2^28: the address's register, its
     /// offset, and the stores, which are one to sixteen and as many as follow.
     Stores(Reg, Immediate<12>, Members),
@@ -63,6 +67,9 @@ impl Unit {
                 let _ = rs1.number();
                 let _ = imm.bits();
                 members.in_range();
+            }
+            Unit::Guarded(numbers) => {
+                let _ = numbers.as_slice();
             }
             Unit::Ijump(_, rs1, imm, label) | Unit::Icall(rs1, imm, label) => {
                 let _ = rs1.number();

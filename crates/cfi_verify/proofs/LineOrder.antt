@@ -4,26 +4,37 @@ use Rattle.std.specs.Prelude.{slice_get, option_and_then, if◌then◌else◌}
 use Rattle.std.proofs.lemmas.Bool.{and_parts, cases_Bool, cases_order, ltb-true, ltb-false, eqb-true, eq-eqb, false≢true}
 use Rattle.std.proofs.lemmas.Option.{same_Some}
 use Rattle.cfi_graph.specs.declared.line.GraphLine.{GraphLine}
-use Rattle.cfi_graph.specs.declared.line.GraphLine.TheVariants.{Class, CallClass, JumpClass, Site, Edge, Call}
+use Rattle.cfi_graph.specs.declared.line.GraphLine.TheVariants.{SystemCalls, Class, CallClass, JumpClass, Site, Edge, Call}
 use Rattle.cfi_graph.specs.declared.line.Sort.{Sort}
 use Rattle.cfi_graph.specs.declared.line.Sort.TheVariants.{Both, Calls, Jumps}
 use Rattle.cfi_graph.specs.declared.line.Key.{Key}
-use Rattle.cfi_graph.specs.declared.line.Key.TheVariants.{Label, Address}
+use Rattle.cfi_graph.specs.declared.line.Key.TheVariants.{Head, Label, Address}
 use Rattle.cfi_graph.specs.Graph.{class_in, is_rising, key_below, key_of}
 use Rattle.cfi_graph.proofs.Rising.{key_transitive}
 use Rattle.cfi_rules.specs.Lines.{same_key, line_with, line_at, class_with}
 
 pub below_self : (k : Key) → key_below k k ≡ true → ⊥
+below_self Head e = absurd (false≢true e)
 below_self (Label a) e = let h : a < a = ltb-true a a e in omega arith
 below_self (Address a) e = let h : a < a = ltb-true a a e in omega arith
 
 pub same_from : (j k : Key) → j ≡ k → same_key j k ≡ true
+same_from Head Head e = refl
+same_from Head (Label b) e = cc
+same_from Head (Address b) e = cc
+same_from (Label a) Head e = cc
+same_from (Address a) Head e = cc
 same_from (Label a) (Label b) e = eq-eqb a b (cc)
 same_from (Label a) (Address b) e = cc
 same_from (Address a) (Label b) e = cc
 same_from (Address a) (Address b) e = eq-eqb a b (cc)
 
 pub same_gives : (j k : Key) → same_key j k ≡ true → j ≡ k
+same_gives Head Head e = refl
+same_gives Head (Label b) e = absurd (false≢true e)
+same_gives Head (Address b) e = absurd (false≢true e)
+same_gives (Label a) Head e = absurd (false≢true e)
+same_gives (Address a) Head e = absurd (false≢true e)
 same_gives (Label a) (Label b) e = ap Label (eqb-true a b e)
 same_gives (Label a) (Address b) e = absurd (false≢true e)
 same_gives (Address a) (Label b) e = absurd (false≢true e)
@@ -31,6 +42,11 @@ same_gives (Address a) (Address b) e = ap Address (eqb-true a b e)
 
 -- keys of which neither is below the other are the same
 pub same_unless : (j k : Key) → key_below j k ≡ false → key_below k j ≡ false → j ≡ k
+same_unless Head Head e f = refl
+same_unless Head (Label b) e f = absurd (false≢true (sym e))
+same_unless Head (Address b) e f = absurd (false≢true (sym e))
+same_unless (Label a) Head e f = absurd (false≢true (sym f))
+same_unless (Address a) Head e f = absurd (false≢true (sym f))
 same_unless (Label a) (Label b) e f = ap Label (omega (arith, ltb-false a b e, ltb-false b a f))
 same_unless (Label a) (Address b) e f = absurd (false≢true (sym e))
 same_unless (Address a) (Label b) e f = absurd (false≢true (sym f))
@@ -108,6 +124,7 @@ before_middle lines key m x r e b i y f k =
 pub line_at-with : (lines : List GraphLine) (a : ℕ) → line_at lines a ≡ line_with lines (Address a)
 unfolding line_at line_with
 line_at-with [] a = refl
+line_at-with (SystemCalls numbers ∷ lines) a = line_at-with lines a
 line_at-with (Class label targets ∷ lines) a = line_at-with lines a
 line_at-with (CallClass label targets ∷ lines) a = line_at-with lines a
 line_at-with (JumpClass label targets ∷ lines) a = line_at-with lines a
@@ -129,6 +146,7 @@ class_or sort label targets line lines l is key rest =
 pub class_with-with : (lines : List GraphLine) (l : ℕ) → class_with lines l ≡ option_and_then class_in (line_with lines (Label l))
 unfolding class_with line_with
 class_with-with [] l = refl
+class_with-with (SystemCalls numbers ∷ lines) l = class_with-with lines l
 class_with-with (Class label targets ∷ lines) l = class_or Both label targets (Class label targets) lines l refl refl (class_with-with lines l)
 class_with-with (CallClass label targets ∷ lines) l = class_or Calls label targets (CallClass label targets) lines l refl refl (class_with-with lines l)
 class_with-with (JumpClass label targets ∷ lines) l = class_or Jumps label targets (JumpClass label targets) lines l refl refl (class_with-with lines l)

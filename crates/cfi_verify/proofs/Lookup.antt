@@ -24,17 +24,17 @@ pub record NoUnit (us : List U.Unit) (ws : List ℕ) (at k : ℕ) (e : Entry) : 
   pub last : k ≡ last_of us → width us ≡ 0
 
 -- a unit starts there, and the entry is its own
-pub record HasUnit (us : List U.Unit) (ws : List ℕ) (at k : ℕ) (e : Entry) (u : U.Unit) : Type 0 where
+pub record HasUnit (calls : List ℕ) (us : List U.Unit) (ws : List ℕ) (at k : ℕ) (e : Entry) (u : U.Unit) : Type 0 where
   pub mark : slice_get (starts 0 ws at) k ≡ Some true
   pub is : recognised (drop k ws) (at + 4 * k) ≡ Some u
   pub fits : Fits u (at + 4 * k)
-  pub entry : e ≡ entry_of u (at + 4 * k)
+  pub entry : e ≡ entry_of calls u (at + 4 * k)
   pub within : k + word_count u ≤ width us
   pub to_last : k + word_count u ≡ width us → k ≡ last_of us
   pub from_last : k ≡ last_of us → k + word_count u ≡ width us
 
-abbrev pub Looks : List U.Unit → List ℕ → ℕ → ℕ → Entry → Type 0
-Looks us ws at k e = NoUnit us ws at k e ⊎ ((u : U.Unit) × HasUnit us ws at k e u)
+abbrev pub Looks : List ℕ → List U.Unit → List ℕ → ℕ → ℕ → Entry → Type 0
+Looks calls us ws at k e = NoUnit us ws at k e ⊎ ((u : U.Unit) × HasUnit calls us ws at k e u)
 
 -- the entries of words at which no unit starts
 none_inside : (n k : ℕ) → or_inside (slice_get (inside n) k) ≡ E.Inside
@@ -134,8 +134,8 @@ module _ (u : U.Unit) (us : List U.Unit) (at : ℕ) (tail : List ℕ) (fits : Fi
   head : Heads whole at u
   head = heads whole at u begun room
 
-  first_looks : (e : Entry) → e ≡ entry_of u at → Looks (u ∷ us) whole at 0 e
-  first_looks e is =
+  first_looks : (calls : List ℕ) (e : Entry) → e ≡ entry_of calls u at → Looks calls (u ∷ us) whole at 0 e
+  first_looks calls e is =
       let here : at ≡ at + 4 * 0 = omega arith in
       let size : word_count u ≡ 0 + word_count u = omega arith in
       inr (
@@ -144,15 +144,15 @@ module _ (u : U.Unit) (us : List U.Unit) (at : ℕ) (tail : List ℕ) (fits : Fi
           mark = head.mark;
           is = ap (recognised whole) (sym here) ∙ begun;
           fits = subst (λ (a : ℕ). Fits u a) here fits;
-          entry = is ∙ ap (entry_of u) here;
+          entry = is ∙ ap (entry_of calls u) here;
           within = let n = later_within u us 0 0 (omega arith) in omega (arith, n);
           to_last = λ s. last_first u us (size ∙ s);
           from_last = λ s. sym size ∙ first_last u us s;
         },
       )
 
-  inner_looks : (k : ℕ) (e : Entry) → 0 < k → k < word_count u → e ≡ E.Inside → Looks (u ∷ us) whole at k e
-  inner_looks k e low high is = inl (record {
+  inner_looks : (calls : List ℕ) (k : ℕ) (e : Entry) → 0 < k → k < word_count u → e ≡ E.Inside → Looks calls (u ∷ us) whole at k e
+  inner_looks calls k e low high is = inl (record {
     mark = ap is_marked (head.inner k low high);
     entry = is;
     last = inner_last u us k low high;
@@ -161,13 +161,13 @@ module _ (u : U.Unit) (us : List U.Unit) (at : ℕ) (tail : List ℕ) (fits : Fi
   mark_later : (j : ℕ) → slice_get (starts 0 whole at) (word_count u + j) ≡ slice_get (starts 0 tail (at + 4 * word_count u)) j
   mark_later j = head.after j ∙ ap (λ ws. slice_get (starts 0 ws (at + 4 * word_count u)) j) after_words
 
-  later_looks : (j : ℕ) (e : Entry) → Looks us tail (at + 4 * word_count u) j e → Looks (u ∷ us) whole at (word_count u + j) e
-  later_looks j e (inl n) = inl (record {
+  later_looks : (calls : List ℕ) (j : ℕ) (e : Entry) → Looks calls us tail (at + 4 * word_count u) j e → Looks calls (u ∷ us) whole at (word_count u + j) e
+  later_looks calls j e (inl n) = inl (record {
     mark = ap is_marked (mark_later j) ∙ n.mark;
     entry = n.entry;
     last = later_none u us j n.last;
   })
-  later_looks j e (inr (v, h)) =
+  later_looks calls j e (inr (v, h)) =
       let there : at + 4 * word_count u + 4 * j ≡ at + 4 * (word_count u + j) = omega arith in
       let some = some_word v in
       inr (
@@ -179,7 +179,7 @@ module _ (u : U.Unit) (us : List U.Unit) (at : ℕ) (tail : List ℕ) (fits : Fi
               ∙ ap (λ ws. recognised ws (at + 4 * word_count u + 4 * j)) (sym (drop-drop j (word_count u) whole) ∙ ap (drop j) after_words)
               ∙ h.is;
           fits = subst (λ (a : ℕ). Fits v a) there h.fits;
-          entry = h.entry ∙ ap (entry_of v) there;
+          entry = h.entry ∙ ap (entry_of calls v) there;
           within = later_within u us j (word_count v) h.within;
           to_last = later_to u us j (word_count v) some h.within h.to_last;
           from_last = later_from u us j (word_count v) some h.within h.from_last;
@@ -197,10 +197,10 @@ past_none u us at past none =
     ap (recognised past) same ∙ none
 
 -- what stands at each word of units and what follows them
-pub lookup : (us : List U.Unit) (at : ℕ) (past : List ℕ) (free : ℕ) → AllStand us at past → recognised past (at + 4 * width us) ≡ None → (k : ℕ) →
-    Looks us (spelled us at ++ past) at k (or_inside (slice_get (entries_of us at ++ inside free) k))
+pub lookup : (calls : List ℕ) (us : List U.Unit) (at : ℕ) (past : List ℕ) (free : ℕ) → AllStand us at past → recognised past (at + 4 * width us) ≡ None → (k : ℕ) →
+    Looks calls us (spelled us at ++ past) at k (or_inside (slice_get (entries_of calls us at ++ inside free) k))
 unfolding AllStand width spelled entries_of last_of
-lookup [] at past free stand none k =
+lookup calls [] at past free stand none k =
     let here : at ≡ at + 4 * 0 = omega arith in
     let nothing = marks_none past at (ap (recognised past) here ∙ none) in
     inl (record {
@@ -208,33 +208,33 @@ lookup [] at past free stand none k =
       entry = none_inside free k;
       last = λ e. refl;
     })
-lookup (u ∷ us) at past free (fits, ahead, others) none k =
+lookup calls (u ∷ us) at past free (fits, ahead, others) none k =
     let tail = spelled us (at + 4 * word_count u) ++ past in
-    let rest = entries_of us (at + 4 * word_count u) in
+    let rest = entries_of calls us (at + 4 * word_count u) in
     let some = some_word u in
     let same = append_assoc (words_of u at) (spelled us (at + 4 * word_count u)) past in
-    subst (λ (ws : List ℕ). Looks (u ∷ us) ws at k (or_inside (slice_get (((entry_of u at ∷ inside (word_count u - 1)) ++ rest) ++ inside free) k))) (sym same)
+    subst (λ (ws : List ℕ). Looks calls (u ∷ us) ws at k (or_inside (slice_get (((entry_of calls u at ∷ inside (word_count u - 1)) ++ rest) ++ inside free) k))) (sym same)
     (elim (cases_lt k (word_count u)) [
       | inl within ↦ elim (cases_eq k 0) [
         | inl first ↦
-            subst (λ (j : ℕ). Looks (u ∷ us) (words_of u at ++ tail) at j (or_inside (slice_get (((entry_of u at ∷ inside (word_count u - 1)) ++ rest) ++ inside free) j))) (sym first)
-            (first_looks u us at tail fits ahead (entry_of u at) refl)
+            subst (λ (j : ℕ). Looks calls (u ∷ us) (words_of u at ++ tail) at j (or_inside (slice_get (((entry_of calls u at ∷ inside (word_count u - 1)) ++ rest) ++ inside free) j))) (sym first)
+            (first_looks u us at tail fits ahead calls (entry_of calls u at) refl)
         | inr other ↦
             let less : suc (k - 1) ≡ k = omega arith in
-            inner_looks u us at tail fits ahead k _ (omega arith) within
-            (ap (λ j. or_inside (slice_get (((entry_of u at ∷ inside (word_count u - 1)) ++ rest) ++ inside free) j)) (sym less)
+            inner_looks u us at tail fits ahead calls k _ (omega arith) within
+            (ap (λ j. or_inside (slice_get (((entry_of calls u at ∷ inside (word_count u - 1)) ++ rest) ++ inside free) j)) (sym less)
             ∙ inner_entry (word_count u - 1) (k - 1) rest (inside free) (omega arith))
       ]
       | inr past_it ↦
           let there : word_count u + (k - word_count u) ≡ k = omega arith in
           let place : suc (word_count u - 1 + (k - word_count u)) ≡ k = omega arith in
-          let is : slice_get (rest ++ inside free) (k - word_count u) ≡ slice_get (((entry_of u at ∷ inside (word_count u - 1)) ++ rest) ++ inside free) k =
+          let is : slice_get (rest ++ inside free) (k - word_count u) ≡ slice_get (((entry_of calls u at ∷ inside (word_count u - 1)) ++ rest) ++ inside free) k =
           sym (later_entry (word_count u - 1) (k - word_count u) rest (inside free))
-          ∙ ap (slice_get (((entry_of u at ∷ inside (word_count u - 1)) ++ rest) ++ inside free)) place in
-          let later = later_looks u us at tail fits ahead (k - word_count u) _
-          (lookup us (at + 4 * word_count u) past free others (past_none u us at past none) (k - word_count u)) in
-          subst (λ (j : ℕ). Looks (u ∷ us) (words_of u at ++ tail) at j (or_inside (slice_get (((entry_of u at ∷ inside (word_count u - 1)) ++ rest) ++ inside free) k))) there
-          (subst (λ (e : Entry). Looks (u ∷ us) (words_of u at ++ tail) at (word_count u + (k - word_count u)) e) (ap or_inside is) later)
+          ∙ ap (slice_get (((entry_of calls u at ∷ inside (word_count u - 1)) ++ rest) ++ inside free)) place in
+          let later = later_looks u us at tail fits ahead calls (k - word_count u) _
+          (lookup calls us (at + 4 * word_count u) past free others (past_none u us at past none) (k - word_count u)) in
+          subst (λ (j : ℕ). Looks calls (u ∷ us) (words_of u at ++ tail) at j (or_inside (slice_get (((entry_of calls u at ∷ inside (word_count u - 1)) ++ rest) ++ inside free) k))) there
+          (subst (λ (e : Entry). Looks calls (u ∷ us) (words_of u at ++ tail) at (word_count u + (k - word_count u)) e) (ap or_inside is) later)
     ])
 
 -- and how many words they are

@@ -2,23 +2,25 @@
 use Rattle.std.proofs.Common.{◌≡◌, ◌≢◌, ◌<◌, ◌≤◌, inl, inr, ℕ, zero, suc, ◌+◌, ◌-◌, ◌*◌, ◌/◌, ◌%◌, ◌^◌, ◌==◌, ◌&&◌, ◌||◌, not, Bool, true, false, List, [], ◌∷◌, length, map, Option, Some, None, refl, sym, ap, subst, ◌∙◌, arith}
 use Rattle.std.specs.Prelude.{slice_get, nat_lt, nat_le, is_some}
 use Rattle.std.specs.List.{list_any}
-use Rattle.std.proofs.lemmas.Bool.{and_left, and_parts, cases_eq, cases_lt, cases_order, eqb-true, le-ltb, leb-true, lt-leb, lt-ltb, ltb-true, ne_eqb, or_from}
+use Rattle.std.proofs.lemmas.Bool.{and_left, and_parts, cases_eq, cases_lt, cases_order, eqb-true, false≢true, le-ltb, leb-true, lt-leb, lt-ltb, ltb-true, ne_eqb, or_from}
 use Rattle.std.proofs.lemmas.Option.{same_Some, slice_get_within}
 use Rattle.rv_word.proofs.Cases.{cases_Option}
-use Rattle.rv_word.specs.MemoryMap.{CODE_START, Profile}
+use Rattle.rv_word.specs.MemoryMap.{CODE_START, Profile, START}
 use Rattle.rv_word.proofs.Versions.{LaidOut}
 use Rattle.cfi_graph.specs.declared.line.GraphLine.{GraphLine}
-use Rattle.cfi_graph.specs.declared.line.GraphLine.TheVariants.{Class, CallClass, JumpClass, Site, Edge, Call}
+use Rattle.cfi_graph.specs.declared.line.GraphLine.TheVariants.{SystemCalls, Class, CallClass, JumpClass, Site, Edge, Call}
 use Rattle.cfi_graph.specs.declared.line.Key.TheVariants.{Address}
-use Rattle.cfi_graph.specs.Graph.{GraphParts, IsGraph, is_rising, key_below, key_of}
+use Rattle.cfi_graph.specs.Graph.{GraphParts, IsGraph, calls_in, is_rising, key_below, key_of}
 use Rattle.cfi_graph.proofs.Rising.{key_transitive}
 use Rattle.cfi_scan.specs.declared.entry.Entry.{Entry}
+use Rattle.cfi_scan.specs.declared.entry.Entry.TheVariants as E
 use Rattle.cfi_scan.specs.Entries.{is_quiet}
 use Rattle.cfi_scan.specs.Pieces.{Listed, prologue_count}
-use Rattle.cfi_verify.specs.Entries.{Tells, asks_otherwise, count_of, entry_at, fails_at, fails_end_at, fails_gate_at, fails_unit_at, gate_at, is_stop_entry, or_inside, starts_at}
-use Rattle.cfi_rules.specs.Lines.{line_at}
+use Rattle.cfi_verify.specs.Entries.{Tells, call_at, call_in, count_of, edge_in, entry_at, fails_at, fails_end_at, fails_gate_at, fails_unit_at, gate_at, gate_in, is_barred, is_barred_at, is_lone_at, is_stop_entry, is_unused_at, misses_start, numbers_in, or_inside, site_in, starts_at}
+use Rattle.cfi_rules.specs.Lines.{holds_of, is_outside, line_at, targets_for}
 use Rattle.cfi_verify.specs.Pass.{HasPassed, HoldsAt, HoldsEarly, NoneStands, ends_in_stop}
-use Rattle.cfi_rules.specs.Rules.{Holds, fails_prologue, lacks_gate}
+use Rattle.cfi_rules.specs.Rules.{Holds, fails_prologue, is_call_to, is_edge_to, is_site_with, lacks_gate}
+use Rattle.cfi_rules.specs.declared.asks.Asks.{Asks}
 use Rattle.cfi_rules.specs.declared.reject.Rule.{Rule}
 use Rattle.cfi_rules.specs.declared.reject.Rule.TheVariants as R
 use Rattle.cfi_verify.proofs.LineOrder.{line_at-with, pair_below, with_key, without_key}
@@ -58,6 +60,20 @@ none_of f (x ∷ xs) none = rw (none zero x refl) (none_of f xs (λ i y e. none 
 pub entry_there : {given listing : Listed} {entry : Entry} (k : ℕ) → given ≡ listing → slice_get listing.entries k ≡ Some entry → slice_get given.entries k ≡ Some entry
 entry_there k same at = ap (λ (t : Listed). slice_get t.entries k) same ∙ at
 
+-- an entry asks nothing of the graph
+record AsksNothing (version : ℕ) (has_list : Bool) (e : Entry) (a : ℕ) : Type 0 where
+  unit : is_barred version has_list e ≡ false
+  edge : edge_in e a ≡ None
+  call : call_in e a ≡ None
+  site : site_in e ≡ None
+  gate : gate_in e ≡ None
+
+asks_nothing : (version : ℕ) (has_list : Bool) (e : Entry) (a : ℕ) → is_quiet e ≡ true → AsksNothing version has_list e a
+asks_nothing version has_list E.Inside a quiet = record { unit = refl; edge = refl; call = refl; site = refl; gate = refl }
+asks_nothing version has_list E.Stop a quiet = record { unit = refl; edge = refl; call = refl; site = refl; gate = refl }
+asks_nothing version has_list E.Other a quiet = record { unit = refl; edge = refl; call = refl; site = refl; gate = refl }
+asks_nothing version has_list _ a quiet = absurd (false≢true quiet)
+
 module _ (p : Profile) (laid : LaidOut p) where
   -- each target of a class has the class's gate
   abbrev pub HasGates : Listed → GraphLine → Type 0
@@ -65,6 +81,7 @@ module _ (p : Profile) (laid : LaidOut p) where
 
   -- only classes have targets
   pub no_class : (t : Listed) (line : GraphLine) (a : ℕ) → key_of line ≡ Address a → HasGates t line
+  no_class t (SystemCalls numbers) a key = absurd (cc)
   no_class t (Class label targets) a key = absurd (cc)
   no_class t (CallClass label targets) a key = absurd (cc)
   no_class t (JumpClass label targets) a key = absurd (cc)
@@ -155,6 +172,24 @@ module _ (p : Profile) (laid : LaidOut p) where
         | inr (entry, some) ↦ ap (λ o. is_quiet (or_inside o)) some ∙ quiet entry some
       ]
 
+  -- at a word of no transfer, no gate and no system call, at which no line stands, the rules hold
+  pub quiet_holds : (t : Listed) (graph : GraphParts) (a : ℕ) → p.units_from ≤ a → is_quiet (entry_at p t.entries a) ≡ true → line_at graph.lines a ≡ None → HoldsAt p t graph a
+  quiet_holds t graph a low quiet none =
+      let asks = asks_nothing graph.version (is_some (calls_in graph.lines)) (entry_at p t.entries a) a quiet in
+      let call : call_at p t a ≡ None = rw (ne_eqb a START (λ e. omega arith)) asks.call in
+      record {
+        unit = asks.unit;
+        target = or_from _ _ (ap (misses_start p t) asks.edge) (ap (misses_start p t) call);
+        unlisted =
+            or_from _ _ (ap (λ o. holds_of o (λ target. not (is_edge_to (line_at graph.lines a) target))) asks.edge)
+            (ap (λ o. holds_of o (λ target. not (is_call_to (line_at graph.lines a) target))) call);
+        unused = ap (λ o. holds_of o (is_unused_at p t a)) none;
+        site =
+            or_from _ _ (ap (λ o. holds_of o (λ (asked : Asks). not (is_site_with (line_at graph.lines a) asked && is_some (targets_for graph.lines asked.kind asked.which asked.label)))) asks.site)
+            (ap (λ o. holds_of o (is_lone_at p t a)) none);
+        astray = ap (λ o. holds_of o (λ label. is_outside graph.lines label a)) asks.gate;
+      }
+
   -- past the prologue the rule of the prologue holds
   no_prologue : (words : List ℕ) (a : ℕ) → p.units_from ≤ a → fails_prologue p words a ≡ false
   no_prologue words a low = off (nat_le CODE_START a) (nat_le (a + 4) (CODE_START + (p.units_from - CODE_START))) _ _ (lt-leb (a + 4) (CODE_START + (p.units_from - CODE_START)) (omega arith))
@@ -170,9 +205,9 @@ module _ (p : Profile) (laid : LaidOut p) where
     rest : (nat_lt t.last t.done && is_stop_entry (entry_at p t.entries (p.units_from + 4 * t.last))) ≡ true
     rest = (and_parts (t.done == count_of p t) _ ends).1
 
-    pub no_unit_fails : (version a : ℕ) → asks_otherwise p t version a ≡ false → fails_unit_at p t version a ≡ false
-    no_unit_fails version a asks =
-        let all = covered in or_from _ _ (and_left _ _ (le-ltb t.done (count_of p t) (omega arith))) asks
+    pub no_unit_fails : (graph : GraphParts) (a : ℕ) → is_barred_at p t graph a ≡ false → fails_unit_at p t graph a ≡ false
+    no_unit_fails graph a admitted =
+        let all = covered in or_from _ _ (and_left _ _ (le-ltb t.done (count_of p t) (omega arith))) admitted
 
     pub no_end_fails : (a : ℕ) → fails_end_at p t a ≡ false
     no_end_fails a =
@@ -205,7 +240,7 @@ module _ (p : Profile) (laid : LaidOut p) where
 
   by_word : (t : Listed) (graph : GraphParts) (a : ℕ) (rule : Rule) → p.units_from ≤ a → ends_in_stop p t ≡ true → HoldsAt p t graph a → rule ≢ R.Gate → fails_at p rule t graph a ≡ false
   by_word t graph a R.Prologue low ends holds n = no_prologue t.prologue a low
-  by_word t graph a R.Unit low ends holds n = no_unit_fails t ends graph.version a holds.unit
+  by_word t graph a R.Unit low ends holds n = no_unit_fails t ends graph a holds.unit
   by_word t graph a R.Target low ends holds n = holds.target
   by_word t graph a R.Unlisted low ends holds n = holds.unlisted
   by_word t graph a R.Unused low ends holds n = holds.unused
@@ -218,7 +253,7 @@ module _ (p : Profile) (laid : LaidOut p) where
   pub pass_holds : (t : Listed) (graph : GraphParts) → IsGraph graph → graph.code ≡ 4 * (t.fed / 4) →
       ((rule : Rule) → HoldsEarly p t graph rule) → ends_in_stop p t ≡ true →
       ((k : ℕ) → k < count_of p t → HoldsAt p t graph (p.units_from + 4 * k)) → ((a : ℕ) → fails_gate_at p t graph.lines a ≡ false) →
-      (words : List ℕ) → Tells p t words → (rule : Rule) → Holds p words graph rule
+      (words : List ℕ) → Tells p (numbers_in graph) t words → (rule : Rule) → Holds p words graph rule
   pass_holds t graph g given early ends words_hold gates words told rule = by rule
     where
       code : graph.code ≡ 4 * length words
@@ -230,7 +265,7 @@ module _ (p : Profile) (laid : LaidOut p) where
           let some : t.last < t.done = ltb-true _ _ (and_parts (nat_lt t.last t.done) _ (rest t ends)).0 in
           let all = covered t ends in
           none_anywhere p laid r words graph (length words) (omega arith) n g code (λ k below.
-          fails_told p laid t words told r graph _ ∙ elim (cases_lt k (prologue_count p)) [
+          fails_told p laid (numbers_in graph) t words told r graph refl _ ∙ elim (cases_lt k (prologue_count p)) [
             | inl first ↦ early r n k first
             | inr later ↦
                 let address : p.units_from + 4 * (k - prologue_count p) ≡ 0x40000000 + 4 * k = omega arith in
@@ -238,7 +273,7 @@ module _ (p : Profile) (laid : LaidOut p) where
           ])
 
       by : (r : Rule) → Holds p words graph r
-      by R.Gate = λ a. fails_told p laid t words told R.Gate graph a ∙ gates a
+      by R.Gate = λ a. fails_told p laid (numbers_in graph) t words told R.Gate graph refl a ∙ gates a
       by R.Prologue = others R.Prologue (λ e. cc)
       by R.Unit = others R.Unit (λ e. cc)
       by R.Target = others R.Target (λ e. cc)

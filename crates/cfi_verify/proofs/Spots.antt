@@ -6,14 +6,14 @@ use Rattle.std.proofs.lemmas.Bool.{and_parts, or_cases, cases_Bool, false_from_n
 use Rattle.rv_word.specs.MemoryMap.{CODE_START, Profile, START}
 use Rattle.rv_word.proofs.Versions.{LaidOut}
 use Rattle.cfi_graph.specs.declared.line.GraphLine.{GraphLine}
-use Rattle.cfi_graph.specs.declared.line.GraphLine.TheVariants.{Class, CallClass, JumpClass, Site, Edge, Call}
+use Rattle.cfi_graph.specs.declared.line.GraphLine.TheVariants.{SystemCalls, Class, CallClass, JumpClass, Site, Edge, Call}
 use Rattle.cfi_graph.specs.Graph.{GraphParts, IsGraph, is_code_address, line_in_range}
 use Rattle.cfi_unit.specs.declared.unit.Unit as U
 use Rattle.cfi_unit.specs.declared.place.Place.{Place}
 use Rattle.cfi_scan.specs.Pieces.{prologue_count}
 use Rattle.cfi_rules.specs.Split.{unit_starts, unit_words, is_start, unit_at, place_at, is_handler}
 use Rattle.cfi_rules.specs.Lines.{holds_of, line_at, targets_for}
-use Rattle.cfi_rules.specs.Rules.{admits, fails, edge_of, call_of, site_of, is_edge_to, is_call_to, is_site_with, is_unused, is_lone_site, is_astray, is_bad_end}
+use Rattle.cfi_rules.specs.Rules.{admitted_in, fails, edge_of, call_of, site_of, is_edge_to, is_call_to, is_site_with, is_unused, is_lone_site, is_astray, is_bad_end}
 use Rattle.cfi_rules.specs.declared.asks.Asks.{Asks}
 use Rattle.cfi_rules.specs.declared.reject.Rule.{Rule}
 use Rattle.cfi_rules.specs.declared.reject.Rule.TheVariants as R
@@ -32,6 +32,7 @@ there (Some x) F n e = (x, refl)
 pub line_in : (len : ℕ) (lines : List GraphLine) (a : ℕ) (line : GraphLine) → list_all (line_in_range len) lines ≡ true → line_at lines a ≡ Some line → is_code_address len a ≡ true
 unfolding line_at
 line_in len [] a line r e = absurd (false≢true (ap is_some e))
+line_in len (SystemCalls numbers ∷ lines) a line r e = line_in len lines a line (and_parts _ _ r).1 e
 line_in len (Class label targets ∷ lines) a line r e = line_in len lines a line (and_parts _ _ r).1 e
 line_in len (CallClass label targets ∷ lines) a line r e = line_in len lines a line (and_parts _ _ r).1 e
 line_in len (JumpClass label targets ∷ lines) a line r e = line_in len lines a line (and_parts _ _ r).1 e
@@ -117,7 +118,7 @@ module _ (p : Profile) (laid : LaidOut p) where
             let left : length (unit_words p words) ≡ length words - prologue_count p = length-drop (prologue_count p) words in
             spot_at words a (prologue_count p + length (unit_starts p words)) (omega arith) (omega arith)
         | inr other ↦
-            let unit = there (unit_at p words a) (λ unit. holds_of unit (λ u. not (admits graph u))) refl other in
+            let unit = there (unit_at p words a) (λ unit. holds_of unit (λ u. not (admitted_in graph u))) refl other in
             unit_spot words a unit.0 unit.1
       ]
   fails_spot R.Target words graph a n g len e =

@@ -8,25 +8,26 @@ use Rattle.rv_word.specs.MemoryMap.{CODE_START, Profile, lies_within, START}
 use Rattle.rv_word.proofs.Versions.{LaidOut}
 use Rattle.rv_code.specs.Decode.{decoded}
 use Rattle.cfi_graph.specs.declared.line.GraphLine.{GraphLine}
-use Rattle.cfi_graph.specs.declared.line.GraphLine.TheVariants.{Class, CallClass, JumpClass, Site, Edge, Call}
-use Rattle.cfi_graph.specs.Graph.{ClassLine, GraphParts, class_in}
+use Rattle.cfi_graph.specs.declared.line.GraphLine.TheVariants.{SystemCalls, Class, CallClass, JumpClass, Site, Edge, Call}
+use Rattle.cfi_graph.specs.Graph.{ClassLine, GraphParts, calls_in, class_in}
 use Rattle.cfi_unit.specs.declared.target_word.TargetWord.{TargetWord}
 use Rattle.cfi_unit.specs.declared.target_word.TargetWord.TheVariants.{First, Second}
 use Rattle.cfi_unit.specs.declared.unit.Unit as U
 use Rattle.cfi_unit.specs.declared.unit.Unit.TheVariants as V
+use Rattle.cfi_unit.specs.declared.unit.SystemOp.TheVariants as S
 use Rattle.cfi_unit.specs.declared.place.Place.{Place}
 use Rattle.cfi_unit.specs.declared.place.Place.TheVariants.{Handler as handler, Opening as opening, Closing as closing, Body as body}
 use Rattle.cfi_unit.specs.Recognise.{recognised, target_in}
 use Rattle.cfi_unit.specs.UnitWords.{BAD_TARGET, BAD_RETURN, DEEP, Fits, word_count}
 use Rattle.cfi_scan.specs.declared.entry.Entry.{Entry}
 use Rattle.cfi_scan.specs.declared.entry.Entry.TheVariants as E
-use Rattle.cfi_scan.specs.Entries.{entry_of as entry_of_unit}
+use Rattle.cfi_scan.specs.Entries.{are_same as told_same, entry_of as entry_of_unit, numbers_or_none}
 use Rattle.cfi_scan.specs.Pieces.{IsOf, Listed, prologue_count}
 use Rattle.cfi_scan.specs.Stream.{IsSplitUp, last_of, spelled, width}
 use Rattle.cfi_scan.specs.Entries.{is_unit}
-use Rattle.cfi_verify.specs.Entries.{Tells, asks_otherwise, call_at, call_in, count_of, edge_at, edge_in, entry_at, fails_at, gate_at, gate_in, is_asked_by, is_bad_end_at, is_lone_at, is_stop_entry, is_unused_at, misses_start, or_inside, site_at, site_in, starts_at}
+use Rattle.cfi_verify.specs.Entries.{Tells, call_at, call_in, count_of, edge_at, edge_in, entry_at, fails_at, gate_at, gate_in, is_bad_end_at, is_barred, is_barred_at, numbers_in, is_lone_at, is_stop_entry, is_unused_at, misses_start, or_inside, site_at, site_in, starts_at}
 use Rattle.cfi_rules.specs.Lines.{is_outside, holds_of, line_at, targets_for, is_among, read_of}
-use Rattle.cfi_rules.specs.Rules.{admits, call_of, edge_of, fails, fails_prologue, gate_label, gate_of, has_unit, is_astray, is_bad_end, is_borne, is_call_to, is_edge_to, is_label, is_of_version, is_lone_site, is_site_with, is_stop, is_unused, lacks_gate, prologue_word_fits, site_of}
+use Rattle.cfi_rules.specs.Rules.{admits, admitted_in, are_same, call_of, edge_of, fails, fails_prologue, gate_label, gate_of, has_unit, jump_word, is_astray, is_bad_end, is_borne, is_call_to, is_edge_to, is_label, is_lone_site, is_site_with, is_stop, is_unused, lacks_gate, prologue_word_fits, same_word, site_of}
 use Rattle.cfi_rules.specs.Split.{code_words, entry_of, is_handler, is_marked, is_start, place_at, starts, unit_at, unit_starts, unit_words}
 use Rattle.cfi_rules.specs.declared.asks.Asks.{Asks}
 use Rattle.cfi_rules.specs.declared.reject.Rule.{Rule}
@@ -38,52 +39,85 @@ use Rattle.cfi_unit.proofs.Counts.{some_word}
 use Rattle.cfi_verify.proofs.InUnits.{length-starts}
 
 -- what the entry of a unit says of it
-edge_is : (u : U.Unit) (a : ℕ) → Fits u a → edge_of (body u) ≡ edge_in (entry_of_unit u a) a
-edge_is (V.Branch op rs1 rs2 target) a fits = ap Some (sym fits.2)
-edge_is (V.Near op rs1 rs2 target) a fits = ap Some (sym fits.2)
-edge_is (V.Jump target) a fits = ap Some (sym fits.1)
-edge_is _ a fits = refl
+edge_is : (calls : List ℕ) (u : U.Unit) (a : ℕ) → Fits u a → edge_of (body u) ≡ edge_in (entry_of_unit calls u a) a
+edge_is calls (V.Branch op rs1 rs2 target) a fits = ap Some (sym fits.2)
+edge_is calls (V.Near op rs1 rs2 target) a fits = ap Some (sym fits.2)
+edge_is calls (V.Jump target) a fits = ap Some (sym fits.1)
+edge_is calls (V.System S.Ecall) a fits = refl
+edge_is calls (V.System S.Ebreak) a fits = refl
+edge_is calls _ a fits = refl
 
-call_is : (u : U.Unit) (a : ℕ) → Fits u a → call_of (body u) ≡ call_in (entry_of_unit u a) a
-call_is (V.Call target) a fits = ap Some (sym fits.1)
-call_is _ a fits = refl
+call_is : (calls : List ℕ) (u : U.Unit) (a : ℕ) → Fits u a → call_of (body u) ≡ call_in (entry_of_unit calls u a) a
+call_is calls (V.Call target) a fits = ap Some (sym fits.1)
+call_is calls (V.System S.Ecall) a fits = refl
+call_is calls (V.System S.Ebreak) a fits = refl
+call_is calls _ a fits = refl
 
-site_is : (u : U.Unit) (a : ℕ) → site_of (body u) ≡ site_in (entry_of_unit u a)
-site_is (V.Ijump which rs1 imm label) a = refl
-site_is (V.Icall rs1 imm label) a = refl
-site_is _ a = refl
+site_is : (calls : List ℕ) (u : U.Unit) (a : ℕ) → site_of (body u) ≡ site_in (entry_of_unit calls u a)
+site_is calls (V.Ijump which rs1 imm label) a = refl
+site_is calls (V.Icall rs1 imm label) a = refl
+site_is calls (V.System S.Ecall) a = refl
+site_is calls (V.System S.Ebreak) a = refl
+site_is calls _ a = refl
 
--- a unit is of a version where it asks as the version's do
-asks_as : (version : ℕ) (u : U.Unit) → not (is_of_version version u) ≡ holds_of (site_of (body u)) (λ (asked : Asks). not (is_asked_by version asked.kind asked.which))
-asks_as version (V.Ijump which rs1 imm label) = refl
-asks_as version (V.Icall rs1 imm label) = refl
-asks_as version _ = refl
+and_all : (b : Bool) → (b && true) ≡ b
+and_all true = refl
+and_all false = refl
 
-gate_is : (u : U.Unit) (a : ℕ) → gate_of u ≡ gate_in (entry_of_unit u a)
-gate_is (V.Gate l) a = refl
-gate_is _ a = refl
+-- a scan compares lists as the rules do
+same_lists : (ns calls : List ℕ) → are_same ns calls ≡ told_same ns calls
+unfolding are_same
+same_lists [] [] = refl
+same_lists [] (call ∷ calls) = refl
+same_lists (n ∷ ns) [] = refl
+same_lists (n ∷ ns) (call ∷ calls) = ap (λ b. (n == call) && b) (same_lists ns calls)
 
-astray_is : (lines : List GraphLine) (u : U.Unit) (a : ℕ) → is_astray lines a u ≡ holds_of (gate_in (entry_of_unit u a)) (λ label. is_outside lines label a)
-astray_is lines (V.Gate l) a = refl
-astray_is lines _ a = refl
+-- a graph admits a unit where its entry is not barred
+bars : (version : ℕ) (calls : Option (List ℕ)) (u : U.Unit) (a : ℕ) → not (admits version calls u) ≡ is_barred version (is_some calls) (entry_of_unit (numbers_or_none calls) u a)
+bars version None (V.Ijump which rs1 imm label) a = ap not (and_all (same_word which (jump_word version)))
+bars version (Some calls) (V.Ijump which rs1 imm label) a = ap not (and_all (same_word which (jump_word version)))
+bars version None (V.System S.Ecall) a = refl
+bars version (Some calls) (V.System S.Ecall) a = refl
+bars version None (V.System S.Ebreak) a = refl
+bars version (Some calls) (V.System S.Ebreak) a = refl
+bars version None (V.Guarded numbers) a = refl
+bars version (Some calls) (V.Guarded numbers) a = ap not (same_lists numbers calls)
+bars version None _ a = refl
+bars version (Some calls) _ a = refl
 
-unit_is : (u : U.Unit) (a : ℕ) → is_unit (entry_of_unit u a) ≡ true
-unit_is (V.Gate label) at = refl
-unit_is (V.Plain i) at = refl
-unit_is (V.Branch op rs1 rs2 target) at = refl
-unit_is (V.Near op rs1 rs2 target) at = refl
-unit_is (V.Jump target) at = refl
-unit_is V.Stop at = refl
-unit_is (V.System op) at = refl
-unit_is (V.Stores rs1 imm members) at = refl
-unit_is (V.Call target) at = refl
-unit_is (V.Ijump which rs1 imm label) at = refl
-unit_is (V.Icall rs1 imm label) at = refl
-unit_is V.Return at = refl
+gate_is : (calls : List ℕ) (u : U.Unit) (a : ℕ) → gate_of u ≡ gate_in (entry_of_unit calls u a)
+gate_is calls (V.Gate l) a = refl
+gate_is calls (V.System S.Ecall) a = refl
+gate_is calls (V.System S.Ebreak) a = refl
+gate_is calls _ a = refl
 
-stop_is : (u : U.Unit) (a : ℕ) → is_stop u ≡ is_stop_entry (entry_of_unit u a)
-stop_is V.Stop a = refl
-stop_is _ a = refl
+astray_is : (lines : List GraphLine) (calls : List ℕ) (u : U.Unit) (a : ℕ) → is_astray lines a u ≡ holds_of (gate_in (entry_of_unit calls u a)) (λ label. is_outside lines label a)
+astray_is lines calls (V.Gate l) a = refl
+astray_is lines calls (V.System S.Ecall) a = refl
+astray_is lines calls (V.System S.Ebreak) a = refl
+astray_is lines calls _ a = refl
+
+unit_is : (calls : List ℕ) (u : U.Unit) (a : ℕ) → is_unit (entry_of_unit calls u a) ≡ true
+unit_is calls (V.Gate label) at = refl
+unit_is calls (V.Plain i) at = refl
+unit_is calls (V.Branch op rs1 rs2 target) at = refl
+unit_is calls (V.Near op rs1 rs2 target) at = refl
+unit_is calls (V.Jump target) at = refl
+unit_is calls V.Stop at = refl
+unit_is calls (V.System S.Ecall) at = refl
+unit_is calls (V.System S.Ebreak) at = refl
+unit_is calls (V.Guarded numbers) at = refl
+unit_is calls (V.Stores rs1 imm members) at = refl
+unit_is calls (V.Call target) at = refl
+unit_is calls (V.Ijump which rs1 imm label) at = refl
+unit_is calls (V.Icall rs1 imm label) at = refl
+unit_is calls V.Return at = refl
+
+stop_is : (calls : List ℕ) (u : U.Unit) (a : ℕ) → is_stop u ≡ is_stop_entry (entry_of_unit calls u a)
+stop_is calls V.Stop a = refl
+stop_is calls (V.System S.Ecall) a = refl
+stop_is calls (V.System S.Ebreak) a = refl
+stop_is calls _ a = refl
 
 get_taken : (n k : ℕ) (xs : List ℕ) → k < n → slice_get (take n xs) k ≡ slice_get xs k
 get_taken zero k xs below = absurd (omega arith)
@@ -115,11 +149,11 @@ pub record Nothing (p : Profile) (words : List ℕ) (entries : List Entry) (done
   pub not_last : a ≡ p.units_from + 4 * last → done ≡ 0
 
 -- a unit starts there, and the entry is its own
-pub record Something (p : Profile) (words : List ℕ) (entries : List Entry) (done last a : ℕ) (u : U.Unit) : Type 0 where
+pub record Something (p : Profile) (words calls : List ℕ) (entries : List Entry) (done last a : ℕ) (u : U.Unit) : Type 0 where
   pub start : is_start p words a ≡ true
   pub is : unit_at p words a ≡ Some u
   pub fits : Fits u a
-  pub entry : entry_at p entries a ≡ entry_of_unit u a
+  pub entry : entry_at p entries a ≡ entry_of_unit calls u a
   pub low : p.units_from ≤ a
   pub to_last : a + 4 * word_count u ≡ p.units_from + 4 * done → a ≡ p.units_from + 4 * last
   pub from_last : a ≡ p.units_from + 4 * last → a + 4 * word_count u ≡ p.units_from + 4 * done
@@ -157,12 +191,12 @@ module _ (p : Profile) (laid : LaidOut p) where
         ]
       ]
 
-  module _ (words : List ℕ) (entries : List Entry) (done last : ℕ) (s : IsSplitUp p.units_from entries done last (unit_words p words)) where
-    looks : (k : ℕ) → Looks s.units (unit_words p words) p.units_from k (or_inside (slice_get entries k))
+  module _ (words calls : List ℕ) (entries : List Entry) (done last : ℕ) (s : IsSplitUp calls p.units_from entries done last (unit_words p words)) where
+    looks : (k : ℕ) → Looks calls s.units (unit_words p words) p.units_from k (or_inside (slice_get entries k))
     looks k =
-        subst (λ (ws : List ℕ). Looks s.units ws p.units_from k (or_inside (slice_get entries k))) (sym s.words_are)
-        (subst (λ (es : List Entry). Looks s.units (spelled s.units p.units_from ++ s.past) p.units_from k (or_inside (slice_get es k))) (sym s.entries_are)
-        (lookup s.units p.units_from s.past s.room s.stand s.none k))
+        subst (λ (ws : List ℕ). Looks calls s.units ws p.units_from k (or_inside (slice_get entries k))) (sym s.words_are)
+        (subst (λ (es : List Entry). Looks calls s.units (spelled s.units p.units_from ++ s.past) p.units_from k (or_inside (slice_get es k))) (sym s.entries_are)
+        (lookup calls s.units p.units_from s.past s.room s.stand s.none k))
 
     -- the split covers what is done
     pub marks_done : length (unit_starts p words) ≡ done
@@ -170,7 +204,7 @@ module _ (p : Profile) (laid : LaidOut p) where
         ap (λ ws. length (starts 0 ws p.units_from)) s.words_are
         ∙ lookup_count s.units p.units_from s.past s.stand s.none ∙ sym s.done_is
 
-    pub there : (a : ℕ) → Nothing p words entries done last a ⊎ ((u : U.Unit) × Something p words entries done last a u)
+    pub there : (a : ℕ) → Nothing p words entries done last a ⊎ ((u : U.Unit) × Something p words calls entries done last a u)
     there a =
         elim (cases_lt a p.units_from) [
           | inl below ↦ inl (record {
@@ -209,7 +243,7 @@ module _ (p : Profile) (laid : LaidOut p) where
                               ∙ ap (recognised (drop ((a - p.units_from) / 4) (unit_words p words))) (sym at)
                               ∙ h.is;
                           fits = subst (λ (b : ℕ). Fits u b) at h.fits;
-                          entry = entry_is entries a low even ∙ h.entry ∙ ap (entry_of_unit u) at;
+                          entry = entry_is entries a low even ∙ h.entry ∙ ap (entry_of_unit calls u) at;
                           low = low;
                           to_last = λ e. let there : (a - p.units_from) / 4 ≡ last_of s.units = h.to_last (omega arith) in omega arith;
                           from_last = λ e. let end : (a - p.units_from) / 4 + word_count u ≡ width s.units = h.from_last (omega arith) in omega arith;
@@ -258,34 +292,34 @@ module _ (p : Profile) (laid : LaidOut p) where
       opened (Some entry) e = enters entry e
 
   -- a place that is a unit, by its entry
-  told_from : {A : Type 0} (f : Place → Option A) (g : Entry → ℕ → Option A) (words : List ℕ) (entries : List Entry) (done last a : ℕ) →
-      Nothing p words entries done last a ⊎ ((u : U.Unit) × Something p words entries done last a u) → p.units_from ≤ a →
-      ((b : ℕ) → g E.Inside b ≡ None) → ((u : U.Unit) → Fits u a → f (body u) ≡ g (entry_of_unit u a) a) →
+  told_from : {A : Type 0} (f : Place → Option A) (g : Entry → ℕ → Option A) (words calls : List ℕ) (entries : List Entry) (done last a : ℕ) →
+      Nothing p words entries done last a ⊎ ((u : U.Unit) × Something p words calls entries done last a u) → p.units_from ≤ a →
+      ((b : ℕ) → g E.Inside b ≡ None) → ((u : U.Unit) → Fits u a → f (body u) ≡ g (entry_of_unit calls u a) a) →
       option_and_then f (place_at p words a) ≡ g (entry_at p entries a) a
-  told_from f g words entries done last a (inl n) low none some =
+  told_from f g words calls entries done last a (inl n) low none some =
       ap (option_and_then f) (place_from words a low)
       ∙ ap (λ o. option_and_then f (option_map body o)) (no_unit p laid words a n.start)
       ∙ sym (none a) ∙ ap (λ e. g e a) (sym n.entry)
-  told_from f g words entries done last a (inr (u, h)) low none some =
+  told_from f g words calls entries done last a (inr (u, h)) low none some =
       ap (option_and_then f) (place_from words a low)
       ∙ ap (λ o. option_and_then f (option_map body o)) h.is
       ∙ some u h.fits ∙ ap (λ e. g e a) (sym h.entry)
 
   -- the listing of a code tells of its words
-  pub tells : (t : Listed) (bytes : List ℕ) → IsOf p t bytes → t.fed / 4 ≤ length t.entries + prologue_count p → Tells p t (code_words bytes)
-  tells t bytes is room =
+  pub tells : (calls : List ℕ) (t : Listed) (bytes : List ℕ) → IsOf p calls t bytes → t.fed / 4 ≤ length t.entries + prologue_count p → Tells p calls t (code_words bytes)
+  tells calls t bytes is room =
       let count : length bytes / 4 ≡ length is.words = cut_count is.cut in
       let fed : t.fed ≡ length bytes = is.fed in
       let left : length (unit_words p is.words) ≡ length is.words - prologue_count p = length-drop (prologue_count p) is.words in
-      subst (Tells p t) (sym (cut_is is.cut)) (record {
+      subst (Tells p calls t) (sym (cut_is is.cut)) (record {
         count = ap (λ n. n / 4) fed ∙ count;
         prologue = is.prologue;
         split = is.split (omega arith);
       })
 
-  module _ (t : Listed) (words : List ℕ) (w : Tells p t words) where
-    abbrev at_address : (a : ℕ) → Nothing p words t.entries t.done t.last a ⊎ ((u : U.Unit) × Something p words t.entries t.done t.last a u)
-    at_address = there words t.entries t.done t.last w.split
+  module _ (calls : List ℕ) (t : Listed) (words : List ℕ) (w : Tells p calls t words) where
+    abbrev at_address : (a : ℕ) → Nothing p words t.entries t.done t.last a ⊎ ((u : U.Unit) × Something p words calls t.entries t.done t.last a u)
+    at_address = there words calls t.entries t.done t.last w.split
 
     pub entry_told : entry_of p words ≡ entry_of p t.prologue
     entry_told =
@@ -296,7 +330,7 @@ module _ (p : Profile) (laid : LaidOut p) where
     edge_told a =
         elim (cases_lt a p.units_from) [
           | inl below ↦ below_nothing edge_of words a below refl refl (λ entry e. refl) ∙ ap (λ e. edge_in e a) (sym (entry_below t.entries a below))
-          | inr low ↦ told_from edge_of edge_in words t.entries t.done t.last a (at_address a) low (λ b. refl) (λ u fits. edge_is u a fits)
+          | inr low ↦ told_from edge_of edge_in words calls t.entries t.done t.last a (at_address a) low (λ b. refl) (λ u fits. edge_is calls u a fits)
         ]
 
     pub call_told : (a : ℕ) → option_and_then call_of (place_at p words a) ≡ call_at p t a
@@ -305,7 +339,7 @@ module _ (p : Profile) (laid : LaidOut p) where
           | inl here ↦ subst (λ (b : ℕ). option_and_then call_of (place_at p words b) ≡ call_at p t b) (sym here) (opened ∙ entry_told)
           | inr other ↦ rw (ne_eqb a START other) (elim (cases_lt a p.units_from) [
             | inl below ↦ below_nothing call_of words a below refl refl (λ entry e. absurd (other e)) ∙ ap (λ e. call_in e a) (sym (entry_below t.entries a below))
-            | inr low ↦ told_from call_of call_in words t.entries t.done t.last a (at_address a) low (λ b. refl) (λ u fits. call_is u a fits)
+            | inr low ↦ told_from call_of call_in words calls t.entries t.done t.last a (at_address a) low (λ b. refl) (λ u fits. call_is calls u a fits)
           ])
         ]
       where
@@ -320,28 +354,28 @@ module _ (p : Profile) (laid : LaidOut p) where
     site_told a =
         elim (cases_lt a p.units_from) [
           | inl below ↦ below_nothing site_of words a below refl refl (λ entry e. refl) ∙ ap site_in (sym (entry_below t.entries a below))
-          | inr low ↦ told_from site_of (λ e b. site_in e) words t.entries t.done t.last a (at_address a) low (λ b. refl) (λ u fits. site_is u a)
+          | inr low ↦ told_from site_of (λ e b. site_in e) words calls t.entries t.done t.last a (at_address a) low (λ b. refl) (λ u fits. site_is calls u a)
         ]
 
     pub start_told : (a : ℕ) → is_start p words a ≡ starts_at p t a
     start_told a =
         elim (at_address a) [
           | inl n ↦ n.start ∙ ap is_unit (sym n.entry)
-          | inr (u, h) ↦ h.start ∙ sym (unit_is u a) ∙ ap is_unit (sym h.entry)
+          | inr (u, h) ↦ h.start ∙ sym (unit_is calls u a) ∙ ap is_unit (sym h.entry)
         ]
 
     gate_told : (a : ℕ) → gate_label p words a ≡ gate_at p t a
     gate_told a =
         elim (at_address a) [
           | inl n ↦ ap (option_and_then gate_of) (no_unit p laid words a n.start) ∙ ap gate_in (sym n.entry)
-          | inr (u, h) ↦ ap (option_and_then gate_of) h.is ∙ gate_is u a ∙ ap gate_in (sym h.entry)
+          | inr (u, h) ↦ ap (option_and_then gate_of) h.is ∙ gate_is calls u a ∙ ap gate_in (sym h.entry)
         ]
 
     has_told : (a : ℕ) → has_unit p words a ≡ starts_at p t a
     has_told a =
         elim (at_address a) [
           | inl n ↦ ap is_some (no_unit p laid words a n.start) ∙ ap is_unit (sym n.entry)
-          | inr (u, h) ↦ ap is_some h.is ∙ sym (unit_is u a) ∙ ap is_unit (sym h.entry)
+          | inr (u, h) ↦ ap is_some h.is ∙ sym (unit_is calls u a) ∙ ap is_unit (sym h.entry)
         ]
 
     borne_told : (which : TargetWord) (a label : ℕ) → is_borne (has_unit p words) (gate_label p words) which a label ≡ is_borne (starts_at p t) (gate_at p t) which a label
@@ -350,21 +384,21 @@ module _ (p : Profile) (laid : LaidOut p) where
         ap (λ b. b && is_label (gate_label p words (a + 4)) label) (has_told a)
         ∙ ap (λ o. starts_at p t a && is_label o label) (gate_told (a + 4))
 
-    version_told : (graph : GraphParts) (a : ℕ) → holds_of (unit_at p words a) (λ unit. not (admits graph unit)) ≡ asks_otherwise p t graph.version a
-    version_told graph a =
-        let otherwise : Option Asks → Bool = λ o. holds_of o (λ (asked : Asks). not (is_asked_by graph.version asked.kind asked.which)) in
+    barred_told : (graph : GraphParts) → calls ≡ numbers_in graph → (a : ℕ) → holds_of (unit_at p words a) (λ unit. not (admitted_in graph unit)) ≡ is_barred_at p t graph a
+    barred_told graph same a =
+        let barred : Entry → Bool = is_barred graph.version (is_some (calls_in graph.lines)) in
         elim (at_address a) [
-          | inl n ↦ ap (λ o. holds_of o (λ unit. not (admits graph unit))) (no_unit p laid words a n.start) ∙ ap (λ e. otherwise (site_in e)) (sym n.entry)
+          | inl n ↦ ap (λ o. holds_of o (λ unit. not (admitted_in graph unit))) (no_unit p laid words a n.start) ∙ ap barred (sym n.entry)
           | inr (u, h) ↦
-              ap (λ o. holds_of o (λ unit. not (admits graph unit))) h.is
-              ∙ asks_as graph.version u ∙ ap otherwise (site_is u a) ∙ ap (λ e. otherwise (site_in e)) (sym h.entry)
+              ap (λ o. holds_of o (λ unit. not (admitted_in graph unit))) h.is
+              ∙ bars graph.version (calls_in graph.lines) u a ∙ ap (λ ns. barred (entry_of_unit ns u a)) (sym same) ∙ ap barred (sym h.entry)
         ]
 
     astray_told : (lines : List GraphLine) (a : ℕ) → holds_of (unit_at p words a) (is_astray lines a) ≡ holds_of (gate_at p t a) (λ label. is_outside lines label a)
     astray_told lines a =
         elim (at_address a) [
           | inl n ↦ ap (λ o. holds_of o (is_astray lines a)) (no_unit p laid words a n.start) ∙ ap (λ e. holds_of (gate_in e) (λ label. is_outside lines label a)) (sym n.entry)
-          | inr (u, h) ↦ ap (λ o. holds_of o (is_astray lines a)) h.is ∙ astray_is lines u a ∙ ap (λ e. holds_of (gate_in e) (λ label. is_outside lines label a)) (sym h.entry)
+          | inr (u, h) ↦ ap (λ o. holds_of o (is_astray lines a)) h.is ∙ astray_is lines calls u a ∙ ap (λ e. holds_of (gate_in e) (λ label. is_outside lines label a)) (sym h.entry)
         ]
 
     lacks_told : (a : ℕ) (line : GraphLine) → lacks_gate (has_unit p words) (gate_label p words) a line ≡ lacks_gate (starts_at p t) (gate_at p t) a line
@@ -374,6 +408,7 @@ module _ (p : Profile) (laid : LaidOut p) where
         (λ (c : ClassLine). ap (λ b. is_among a c.targets && not b) (borne_told (read_of c.sort) a c.label))
 
     unused_told : (a : ℕ) (line : GraphLine) → is_unused (place_at p words a) line ≡ is_unused_at p t a line
+    unused_told a (SystemCalls numbers) = refl
     unused_told a (Class label targets) = refl
     unused_told a (CallClass label targets) = refl
     unused_told a (JumpClass label targets) = refl
@@ -382,6 +417,7 @@ module _ (p : Profile) (laid : LaidOut p) where
     unused_told a (Call from to) = ap (λ o. not (is_some o)) (call_told a)
 
     lone_told : (a : ℕ) (line : GraphLine) → is_lone_site (place_at p words a) line ≡ is_lone_at p t a line
+    lone_told a (SystemCalls numbers) = refl
     lone_told a (Class label targets) = refl
     lone_told a (CallClass label targets) = refl
     lone_told a (JumpClass label targets) = refl
@@ -407,7 +443,7 @@ module _ (p : Profile) (laid : LaidOut p) where
     done_within =
         let most = length-starts 0 (unit_words p words) p.units_from in
         let left : length (unit_words p words) ≡ length words - prologue_count p = length-drop (prologue_count p) words in
-        let marks : length (unit_starts p words) ≡ t.done = marks_done words t.entries t.done t.last w.split in
+        let marks : length (unit_starts p words) ≡ t.done = marks_done words calls t.entries t.done t.last w.split in
         omega (arith, most, left, marks)
 
     short_told : nat_le (CODE_START + 4 * length words) p.units_from ≡ nat_le (t.fed / 4) (prologue_count p)
@@ -444,7 +480,7 @@ module _ (p : Profile) (laid : LaidOut p) where
                     let last = h.to_last whole in
                     let some_done : t.last < t.done = omega arith in
                     rw (eq-eqb (a + 4 * word_count u) (CODE_START + 4 * length words) ends, eq-eqb t.done (count_of p t) all, lt-ltb t.last t.done some_done, eq-eqb a (p.units_from + 4 * t.last) last)
-                    (ap not (stop_is u a ∙ ap is_stop_entry (sym h.entry)))
+                    (ap not (stop_is calls u a ∙ ap is_stop_entry (sym h.entry)))
                 | inr goes_on ↦
                     rw (ne_eqb (a + 4 * word_count u) (CODE_START + 4 * length words) goes_on)
                     (sym (false_from_ne_true _ (λ e.
@@ -458,36 +494,36 @@ module _ (p : Profile) (laid : LaidOut p) where
               ]
         ]
 
-    pub fails_told : (rule : Rule) (graph : GraphParts) (a : ℕ) → fails rule p words graph a ≡ fails_at p rule t graph a
-    fails_told R.Prologue graph a = prologue_told a
-    fails_told R.Unit graph a =
+    pub fails_told : (rule : Rule) (graph : GraphParts) → calls ≡ numbers_in graph → (a : ℕ) → fails rule p words graph a ≡ fails_at p rule t graph a
+    fails_told R.Prologue graph same a = prologue_told a
+    fails_told R.Unit graph same a =
         let left : length (unit_words p words) ≡ count_of p t = length-drop (prologue_count p) words ∙ ap (λ n. n - prologue_count p) (sym w.count) in
         or_same (swap (a == p.units_from + 4 * length (unit_starts p words)) (nat_lt (length (unit_starts p words)) (length (unit_words p words)))
-        ∙ ap (λ n. nat_lt n (length (unit_words p words)) && (a == p.units_from + 4 * n)) (marks_done words t.entries t.done t.last w.split)
-        ∙ ap (λ n. nat_lt t.done n && (a == p.units_from + 4 * t.done)) left) (version_told graph a)
-    fails_told R.Target graph a = or_same (misses_told _ _ (edge_told a)) (misses_told _ _ (call_told a))
-    fails_told R.Unlisted graph a =
+        ∙ ap (λ n. nat_lt n (length (unit_words p words)) && (a == p.units_from + 4 * n)) (marks_done words calls t.entries t.done t.last w.split)
+        ∙ ap (λ n. nat_lt t.done n && (a == p.units_from + 4 * t.done)) left) (barred_told graph same a)
+    fails_told R.Target graph same a = or_same (misses_told _ _ (edge_told a)) (misses_told _ _ (call_told a))
+    fails_told R.Unlisted graph same a =
         or_same (ap (λ o. holds_of o (λ target. not (is_edge_to (line_at graph.lines a) target))) (edge_told a))
         (ap (λ o. holds_of o (λ target. not (is_call_to (line_at graph.lines a) target))) (call_told a))
-    fails_told R.Unused graph a = same_test (line_at graph.lines a) _ _ (unused_told a)
-    fails_told R.Site graph a =
+    fails_told R.Unused graph same a = same_test (line_at graph.lines a) _ _ (unused_told a)
+    fails_told R.Site graph same a =
         or_same (ap (λ o. holds_of o (λ (asked : Asks). not (is_site_with (line_at graph.lines a) asked && is_some (targets_for graph.lines asked.kind asked.which asked.label)))) (site_told a))
         (same_test (line_at graph.lines a) _ _ (lone_told a))
-    fails_told R.Gate graph a = same_any _ _ graph.lines (lacks_told a)
-    fails_told R.Astray graph a = astray_told graph.lines a
-    fails_told R.End graph a = or_same (bad_end_told a) (ap (λ b. (a == p.units_from) && b) short_told)
+    fails_told R.Gate graph same a = same_any _ _ graph.lines (lacks_told a)
+    fails_told R.Astray graph same a = astray_told graph.lines a
+    fails_told R.End graph same a = or_same (bad_end_told a) (ap (λ b. (a == p.units_from) && b) short_told)
 
   -- whether something starts at an address from the first unit on
-  pub place_told : (t : Listed) (words : List ℕ) → Tells p t words → (a : ℕ) → p.units_from ≤ a → is_start p words a ≡ is_some (place_at p words a)
-  place_told t words w a low =
-      elim (there words t.entries t.done t.last w.split a) [
+  pub place_told : (calls : List ℕ) (t : Listed) (words : List ℕ) → Tells p calls t words → (a : ℕ) → p.units_from ≤ a → is_start p words a ≡ is_some (place_at p words a)
+  place_told calls t words w a low =
+      elim (there words calls t.entries t.done t.last w.split a) [
         | inl n ↦ n.start ∙ sym (ap is_some (place_from words a low ∙ ap (option_map body) (no_unit p laid words a n.start)))
         | inr (u, h) ↦ h.start ∙ sym (ap is_some (place_from words a low ∙ ap (option_map body) h.is))
       ]
 
   -- the unit that starts at an address
-  pub unit_told : (t : Listed) (words : List ℕ) → Tells p t words → (a : ℕ) → starts_at p t a ≡ true → unit_at p words a ≡ recognised (drop ((a - 0x40000000) / 4) words) a
-  unit_told t words w a begun = unit_on words a (start_told t words w a ∙ begun)
+  pub unit_told : (calls : List ℕ) (t : Listed) (words : List ℕ) → Tells p calls t words → (a : ℕ) → starts_at p t a ≡ true → unit_at p words a ≡ recognised (drop ((a - 0x40000000) / 4) words) a
+  unit_told calls t words w a begun = unit_on words a (start_told calls t words w a ∙ begun)
 
-  pub unit_untold : (t : Listed) (words : List ℕ) → Tells p t words → (a : ℕ) → starts_at p t a ≡ false → unit_at p words a ≡ None
-  unit_untold t words w a none = no_unit p laid words a (start_told t words w a ∙ none)
+  pub unit_untold : (calls : List ℕ) (t : Listed) (words : List ℕ) → Tells p calls t words → (a : ℕ) → starts_at p t a ≡ false → unit_at p words a ≡ None
+  unit_untold calls t words w a none = no_unit p laid words a (start_told calls t words w a ∙ none)

@@ -6,13 +6,13 @@ use Rattle.cfi_graph.specs.declared.line.GraphLine.{GraphLine}
 use Rattle.cfi_graph.specs.declared.line.GraphLine.TheVariants.{Site, Edge, Call}
 use Rattle.cfi_graph.specs.declared.line.SiteKind.{SiteKind}
 use Rattle.cfi_graph.specs.declared.line.SiteKind.TheVariants as K
-use Rattle.cfi_graph.specs.Graph.{GraphParts}
+use Rattle.cfi_graph.specs.Graph.{GraphParts, calls_in}
 use Rattle.cfi_unit.specs.declared.target_word.TargetWord.{TargetWord}
 use Rattle.cfi_unit.specs.declared.target_word.TargetWord.TheVariants.{First}
 use Rattle.cfi_unit.specs.Recognise.{led_to, near_to}
 use Rattle.cfi_scan.specs.declared.entry.Entry.{Entry}
 use Rattle.cfi_scan.specs.declared.entry.Entry.TheVariants as E
-use Rattle.cfi_scan.specs.Entries.{is_unit}
+use Rattle.cfi_scan.specs.Entries.{is_unit, numbers_or_none}
 use Rattle.cfi_scan.specs.Pieces.{Listed, prologue_count}
 use Rattle.cfi_scan.specs.Stream.{IsSplitUp}
 use Rattle.cfi_rules.specs.Lines.{holds_of, is_outside, line_at, targets_for}
@@ -49,22 +49,29 @@ site_in (E.Ijump which label) = Some (asks K.Jump which label)
 site_in (E.Icall label) = Some (asks K.Call First label)
 site_in _ = None
 
--- code whose graph has this version may have a transfer that asks so
-abbrev pub is_asked_by : ℕ → SiteKind → TargetWord → Bool
-is_asked_by version K.Jump which = same_word which (jump_word version)
-is_asked_by version K.Call which = true
+-- a graph does not admit a unit with this entry: its version has no such computed jump; it has a list and the unit is a
+-- bare call of the system, or one that is guarded otherwise; it has no list and the unit is guarded
+abbrev pub is_barred : ℕ → Bool → Entry → Bool
+is_barred version has_list (E.Ijump which label) = not (same_word which (jump_word version))
+is_barred version has_list E.Ecall = has_list
+is_barred version has_list (E.Guarded same) = not (has_list && same)
+is_barred version has_list _ = false
 
 -- the label of a gate
 abbrev pub gate_in : Entry → Option ℕ
 gate_in (E.Gate label) = Some label
 gate_in _ = None
 
+-- the numbers of a graph's list of system calls: none, where it has no list
+abbrev pub numbers_in : GraphParts → List ℕ
+numbers_in graph = numbers_or_none (calls_in graph.lines)
+
 module _ (p : Profile) where
-  -- a listing tells of the words of a code: it has those of the prologue and an entry for each other one
-  pub record Tells (t : Listed) (words : List ℕ) : Type 0 where
+  -- a listing tells of the words of a code, under some numbers of system calls: it has those of the prologue and an entry for each other one
+  pub record Tells (calls : List ℕ) (t : Listed) (words : List ℕ) : Type 0 where
     pub count : t.fed / 4 ≡ length words
     pub prologue : t.prologue ≡ take (prologue_count p) words
-    pub split : IsSplitUp p.units_from t.entries t.done t.last (unit_words p words)
+    pub split : IsSplitUp calls p.units_from t.entries t.done t.last (unit_words p words)
 
   -- the entry of the word at an address
   unfoldable pub entry_at : List Entry → ℕ → Entry
@@ -96,11 +103,11 @@ module _ (p : Profile) where
   misses_start t target = holds_of target (λ x. not (starts_at t x))
 
   -- the rules, in the words of specs/Rules
-  abbrev pub asks_otherwise : Listed → ℕ → ℕ → Bool
-  asks_otherwise t version a = holds_of (site_at t a) (λ asked. not (is_asked_by version asked.kind asked.which))
+  abbrev pub is_barred_at : Listed → GraphParts → ℕ → Bool
+  is_barred_at t graph a = is_barred graph.version (is_some (calls_in graph.lines)) (entry_at t.entries a)
 
-  abbrev pub fails_unit_at : Listed → ℕ → ℕ → Bool
-  fails_unit_at t version a = (nat_lt t.done (count_of t) && (a == p.units_from + 4 * t.done)) || asks_otherwise t version a
+  abbrev pub fails_unit_at : Listed → GraphParts → ℕ → Bool
+  fails_unit_at t graph a = (nat_lt t.done (count_of t) && (a == p.units_from + 4 * t.done)) || is_barred_at t graph a
 
   abbrev pub fails_target_at : Listed → ℕ → Bool
   fails_target_at t a = misses_start t (edge_at t a) || misses_start t (call_at t a)
@@ -144,7 +151,7 @@ module _ (p : Profile) where
 
   abbrev pub fails_at : Rule → Listed → GraphParts → ℕ → Bool
   fails_at R.Prologue t graph a = fails_prologue p t.prologue a
-  fails_at R.Unit t graph a = fails_unit_at t graph.version a
+  fails_at R.Unit t graph a = fails_unit_at t graph a
   fails_at R.Target t graph a = fails_target_at t a
   fails_at R.Unlisted t graph a = fails_unlisted_at t graph.lines a
   fails_at R.Unused t graph a = fails_unused_at t graph.lines a

@@ -5,7 +5,7 @@ use Rattle.cfi_graph.specs.declared.line.GraphLine.{GraphLine}
 use Rattle.cfi_graph.specs.declared.line.Key.TheVariants.{Address}
 use Rattle.cfi_graph.specs.Graph.{GraphParts, key_below, key_of}
 use Rattle.cfi_scan.specs.Pieces.{Listed, prologue_count}
-use Rattle.cfi_verify.specs.Entries.{count_of, entry_at, asks_otherwise, gate_at, is_stop_entry, starts_at, fails_at, fails_target_at, fails_unlisted_at, fails_unused_at, fails_site_at, fails_astray_at}
+use Rattle.cfi_verify.specs.Entries.{count_of, entry_at, is_barred_at, gate_at, is_stop_entry, starts_at, fails_at, fails_target_at, fails_unlisted_at, fails_unused_at, fails_site_at, fails_astray_at}
 use Rattle.cfi_rules.specs.Lines.{line_at}
 use Rattle.cfi_rules.specs.Rules.{lacks_gate}
 use Rattle.cfi_rules.specs.declared.reject.Rule.{Rule}
@@ -13,9 +13,9 @@ use Rattle.cfi_rules.specs.declared.reject.Rule.TheVariants as R
 
 module _ (p : Profile) where
   -- none of the rules fails at an address that ask for its transfer, its gate and its line: of Unit, that
-  -- the transfer asks as the graph's version does
+  -- the graph admits the unit there
   pub record HoldsAt (t : Listed) (graph : GraphParts) (a : ℕ) : Type 0 where
-    pub unit : asks_otherwise p t graph.version a ≡ false
+    pub unit : is_barred_at p t graph a ≡ false
     pub target : fails_target_at p t a ≡ false
     pub unlisted : fails_unlisted_at p t graph.lines a ≡ false
     pub unused : fails_unused_at p t graph.lines a ≡ false

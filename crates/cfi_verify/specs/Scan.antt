@@ -5,7 +5,7 @@ use Rattle.rv_word.specs.Image.{Contents, image_profile}
 use Rattle.cfi_graph.specs.Graph.{GraphParts, IsGraph}
 use Rattle.cfi_unit.specs.Prologue.{OPENING}
 use Rattle.cfi_scan.specs.Pieces.{Listed, Sight, prologue_count}
-use Rattle.cfi_verify.specs.Entries.{Tells}
+use Rattle.cfi_verify.specs.Entries.{Tells, numbers_in}
 use Rattle.cfi_rules.specs.Rules.{IsWellFormed}
 use Rattle.cfi_rules.specs.Split.{code_words, entry_of, is_handler}
 
@@ -14,9 +14,10 @@ pub record Scanned : Type 0 where
   pub seen : Sight
   pub graph : GraphParts
 
--- there is room for a code of the graph's length
+-- there is room for a code of the graph's length, and units are told under the graph's list of system calls
 pub record IsScan (p : Profile) (seen : Sight) (graph : GraphParts) : Type 0 where
   pub room : length seen.entries ≡ graph.code / 4 - prologue_count p
+  pub same_calls : seen.calls ≡ numbers_in graph
   pub graph_is : IsGraph graph
 
 -- what is left of a code that has ended, and the graph
@@ -45,5 +46,5 @@ pub record Pair : Type 0 where
 -- a pair that is well formed, with what a listing tells of its code
 pub record IsChecked (image : Contents) (starts : StartParts) : Type 0 where
   pub version : starts.listing.version ≡ image.version
-  pub told : Tells (image_profile image) starts.listing (code_words image.code)
+  pub told : Tells (image_profile image) (numbers_in starts.graph) starts.listing (code_words image.code)
   pub well_formed : IsWellFormed (image_profile image) image starts.graph

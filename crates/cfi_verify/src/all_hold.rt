@@ -2,7 +2,7 @@
 
 ghost use Rattle.std.specs.Prelude.{◌≡◌, ◌+◌, ◌*◌, ◌<◌, ◌≤◌, ◌^◌, ℕ, IfSome, List, None, Some, false, length, true};
 ghost use Rattle.cfi_scan.specs.Entries.{is_quiet};
-ghost use Rattle.cfi_verify.specs.Entries.{Tells, count_of, entry_at, fails_gate_at, gate_at, starts_at};
+ghost use Rattle.cfi_verify.specs.Entries.{Tells, count_of, entry_at, fails_gate_at, gate_at, numbers_in, starts_at};
 ghost use Rattle.cfi_rules.specs.Lines.{line_at};
 ghost use Rattle.cfi_verify.specs.Pass.{HasPassed, HoldsAt, HoldsEarly, NoneStands, ends_in_stop};
 ghost use Rattle.cfi_rules.specs.Rules.{Holds, lacks_gate};
@@ -20,7 +20,7 @@ impl<'a> Starts<'a> {
     /// Whether every rule holds, by one pass over the words and the graph's lines. `false` leaves it
     /// open.
     pub(crate) fn all_hold(&self) -> bool
-        ensures { result ≡ true → (words : List ℕ) → Tells (profile_in self.now) self.now.listing words → (rule : Rule) → Holds (profile_in self.now) words self.now.graph rule }
+        ensures { result ≡ true → (words : List ℕ) → Tells (profile_in self.now) (numbers_in self.now.graph) self.now.listing words → (rule : Rule) → Holds (profile_in self.now) words self.now.graph rule }
     {
         let _count = self.count();
         if !self.prologue_holds() || !self.ends_in_stop() {
@@ -120,9 +120,12 @@ impl<'a> Starts<'a> {
             GraphLine::Edge(_, to) => self.edge_at(address) == Some(*to) && self.is_start(*to),
             GraphLine::Call(_, to) => self.call_at(address) == Some(*to) && self.is_start(*to),
             GraphLine::Site(..) => {
-                !self.asks_otherwise(address) && !self.fails_site_with(address, Some(line))
+                !self.is_barred(address) && !self.fails_site_with(address, Some(line))
             }
-            GraphLine::Class(..) | GraphLine::CallClass(..) | GraphLine::JumpClass(..) => false,
+            GraphLine::SystemCalls(_)
+            | GraphLine::Class(..)
+            | GraphLine::CallClass(..)
+            | GraphLine::JumpClass(..) => false,
         }
     }
 
@@ -163,6 +166,8 @@ impl<'a> Starts<'a> {
         match self.word(index) {
             Entry::Gate(label) => !self.is_outside(label.bits(), self.units_from() + 4 * index),
             Entry::Inside | Entry::Stop | Entry::Other => true,
+            Entry::Ecall => !self.has_list(),
+            Entry::Guarded(same) => self.has_list() && same,
             _ => false,
         }
     }

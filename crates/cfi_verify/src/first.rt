@@ -3,7 +3,7 @@
 ghost use Rattle.std.specs.Prelude.{◌≡◌, ◌≢◌, ◌+◌, ◌*◌, ◌^◌, ◌<◌, ◌≤◌, ℕ, List, IfSome, MatchOption};
 ghost use Rattle.least.specs.First.{first_below};
 ghost use Rattle.least.specs.Least.{IsLeast};
-ghost use Rattle.cfi_verify.specs.Entries.{Tells, fails_at};
+ghost use Rattle.cfi_verify.specs.Entries.{Tells, fails_at, numbers_in};
 ghost use Rattle.cfi_rules.specs.Rules.{Holds, IsFirst, fails};
 ghost use Rattle.cfi_verify.specs.Scan.{profile_in};
 ghost use Rattle.cfi_rules.specs.declared.reject.Rule.{Rule};
@@ -30,7 +30,7 @@ pub(crate) const RULES: [Rule; 9] = [
 impl<'a> Starts<'a> {
     /// The first rule that fails, and the least address at which it does.
     pub(crate) fn first_failure(&self) -> Option<(Rule, u64)>
-        ensures { (words : List ℕ) → Tells (profile_in self.now) self.now.listing words → MatchOption result ((rule : Rule) → Holds (profile_in self.now) words self.now.graph rule) (λ found. IsFirst (profile_in self.now) words self.now.graph found.0 found.1) }
+        ensures { (words : List ℕ) → Tells (profile_in self.now) (numbers_in self.now.graph) self.now.listing words → MatchOption result ((rule : Rule) → Holds (profile_in self.now) words self.now.graph rule) (λ found. IsFirst (profile_in self.now) words self.now.graph found.0 found.1) }
     {
         if self.all_hold() {
             None
@@ -41,7 +41,7 @@ impl<'a> Starts<'a> {
 
     /// The same, by asking each rule in turn.
     fn first_of_rules(&self) -> Option<(Rule, u64)>
-        ensures { (words : List ℕ) → Tells (profile_in self.now) self.now.listing words → MatchOption result ((rule : Rule) → Holds (profile_in self.now) words self.now.graph rule) (λ found. IsFirst (profile_in self.now) words self.now.graph found.0 found.1) }
+        ensures { (words : List ℕ) → Tells (profile_in self.now) (numbers_in self.now.graph) self.now.listing words → MatchOption result ((rule : Rule) → Holds (profile_in self.now) words self.now.graph rule) (λ found. IsFirst (profile_in self.now) words self.now.graph found.0 found.1) }
     {
         for rule in &RULES {
             if let Some(address) = self.first(*rule) {
@@ -53,7 +53,7 @@ impl<'a> Starts<'a> {
 
     /// The least address at which a rule fails.
     fn first(&self, rule: Rule) -> Option<u64>
-        ensures { (words : List ℕ) → Tells (profile_in self.now) self.now.listing words → IsLeast (fails rule (profile_in self.now) words self.now.graph) result }
+        ensures { (words : List ℕ) → Tells (profile_in self.now) (numbers_in self.now.graph) self.now.listing words → IsLeast (fails rule (profile_in self.now) words self.now.graph) result }
     {
         match rule {
             Rule::Gate => self.first_without_gate(),
@@ -65,7 +65,7 @@ impl<'a> Starts<'a> {
     /// prologue's missing words.
     fn first_by_address(&self, rule: Rule) -> Option<u64>
         requires { rule ≢ R.Gate }
-        ensures { (words : List ℕ) → Tells (profile_in self.now) self.now.listing words → IsLeast (fails rule (profile_in self.now) words self.now.graph) result }
+        ensures { (words : List ℕ) → Tells (profile_in self.now) (numbers_in self.now.graph) self.now.listing words → IsLeast (fails rule (profile_in self.now) words self.now.graph) result }
     {
         let front = u64::from(self.front());
         let count = u64::from(self.count()).max(front + 1);

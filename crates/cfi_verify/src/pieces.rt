@@ -4,7 +4,7 @@ ghost use Rattle.rv_word.specs.Image.{Contents};
 ghost use Rattle.rv_word.specs.MemoryMap.{profile_of};
 ghost use Rattle.cfi_scan.specs.Pieces.{HasSeen};
 ghost use Rattle.cfi_verify.specs.Answer.{IsCause};
-ghost use Rattle.cfi_verify.specs.Entries.{Tells};
+ghost use Rattle.cfi_verify.specs.Entries.{Tells, numbers_in};
 ghost use Rattle.cfi_rules.specs.Rules.{IsWellFormed};
 ghost use Rattle.cfi_rules.specs.Split.{code_words};
 
@@ -29,7 +29,7 @@ pub fn scan_pieces<'a, L: Ledger>(
 ) -> Result<Starts<'a>, VerifyEnd>
     requires small { length (concat pieces.now) < 2 ^ 32 }
     ensures version { IfOk result (λ s. s.listing.version ≡ version) }
-    ensures accepted { (image : Contents) → image.code ≡ concat pieces.now → IfOk result (λ s. (s.graph ≡ graph.now) × Tells (profile_of version) s.listing (code_words image.code) × IsWellFormed (profile_of version) image graph.now) }
+    ensures accepted { (image : Contents) → image.code ≡ concat pieces.now → IfOk result (λ s. (s.graph ≡ graph.now) × Tells (profile_of version) (numbers_in graph.now) s.listing (code_words image.code) × IsWellFormed (profile_of version) image graph.now) }
     ensures rejected { (image : Contents) → image.code ≡ concat pieces.now → IfErr result (IsCause (profile_of version) image graph.now) }
     ensures cost { steps.new ≤ steps.old + length (concat pieces.now) / 4 }
 {

@@ -1,9 +1,8 @@
 //! Each rule, asked of one address.
 
-ghost use Rattle.std.specs.Prelude.{◌≡◌, ◌≢◌, ◌+◌, ◌*◌, ◌<◌, ◌==◌, ◌^◌, not};
+ghost use Rattle.std.specs.Prelude.{◌≡◌, ◌≢◌, ◌+◌, ◌*◌, ◌<◌, ◌==◌, ◌^◌, is_some, not};
 ghost use Rattle.std.specs.Option.{option_copied};
 ghost use Rattle.cfi_verify.specs.Entries.{
-  asks_otherwise,
   count_of,
   fails_astray_at,
   fails_at,
@@ -13,11 +12,12 @@ ghost use Rattle.cfi_verify.specs.Entries.{
   fails_unit_at,
   fails_unlisted_at,
   fails_unused_at,
-  is_asked_by,
   is_bad_end_at,
+  is_barred_at,
   is_stop_entry,
   misses_start,
 };
+ghost use Rattle.cfi_graph.specs.Graph.{calls_in};
 ghost use Rattle.cfi_rules.specs.Lines.{holds_of, is_outside, line_at};
 ghost use Rattle.cfi_rules.specs.Rules.{
   fails_prologue,
@@ -32,7 +32,7 @@ ghost use Rattle.cfi_rules.specs.declared.reject.Rule.TheVariants as R;
 use crate::lines::is_beside;
 use crate::prologue::is_prologue_word;
 use crate::starts::Starts;
-use cfi_graph::{GraphLine, SiteKind};
+use cfi_graph::GraphLine;
 use cfi_rules::{Asks, Rule, jump_word};
 use cfi_scan::Entry;
 use cfi_unit::TargetWord;
@@ -81,21 +81,30 @@ impl<'a> Starts<'a> {
     }
 
     fn fails_unit(&self, address: u64) -> bool
-        ensures { result ≡ fails_unit_at (profile_in self.now) self.now.listing self.now.graph.version address }
+        ensures { result ≡ fails_unit_at (profile_in self.now) self.now.listing self.now.graph address }
     {
         let done = self.listing().done() as u64;
         done < self.count_after() && address == self.units_from() + 4 * done
-            || self.asks_otherwise(address)
+            || self.is_barred(address)
     }
 
-    /// Whether a computed transfer at an address asks otherwise than those of the graph's version.
-    pub(crate) fn asks_otherwise(&self, address: u64) -> bool
-        ensures { result ≡ asks_otherwise (profile_in self.now) self.now.listing self.now.graph.version address }
+    /// Whether the graph does not admit the unit at an address.
+    pub(crate) fn is_barred(&self, address: u64) -> bool
+        ensures { result ≡ is_barred_at (profile_in self.now) self.now.listing self.now.graph address }
     {
-        match self.site_at(address) {
-            Some(asked) => !is_asked_by(self.graph().version(), asked.kind, asked.which),
-            None => false,
+        match self.entry_at(address) {
+            Entry::Ijump(which, _) => !same_word(which, jump_word(self.graph().version())),
+            Entry::Ecall => self.has_list(),
+            Entry::Guarded(same) => !(self.has_list() && same),
+            _ => false,
         }
+    }
+
+    /// Whether the graph has a list of system calls.
+    pub(crate) fn has_list(&self) -> bool
+        ensures { result ≡ is_some (calls_in self.now.graph.lines) }
+    {
+        self.graph().calls().is_some()
     }
 
     fn misses_start(&self, target: Option<u64>) -> bool
@@ -210,16 +219,6 @@ fn same_word(which: TargetWord, other: TargetWord) -> bool
     ensures { result ≡ same_word which other }
 {
     which == other
-}
-
-/// Whether code whose graph has this version may have a transfer that asks so.
-fn is_asked_by(version: u8, kind: SiteKind, which: TargetWord) -> bool
-    ensures { result ≡ is_asked_by version kind which }
-{
-    match kind {
-        SiteKind::Jump => same_word(which, jump_word(version)),
-        SiteKind::Call => true,
-    }
 }
 
 pub(crate) fn is_stop(entry: Entry) -> bool

@@ -2,7 +2,7 @@ ghost use Rattle.std.specs.Prelude.{◌≡◌, ◌≢◌, ◌+◌, ◌/◌, ◌<
 ghost use Rattle.rv_word.specs.Image.{Contents};
 ghost use Rattle.rv_word.specs.MemoryMap.{profile_of};
 ghost use Rattle.cfi_scan.specs.Pieces.{HasSeen};
-ghost use Rattle.cfi_verify.specs.Entries.{Tells};
+ghost use Rattle.cfi_verify.specs.Entries.{Tells, numbers_in};
 ghost use Rattle.cfi_rules.specs.Rules.{IsRejected, IsWellFormed};
 ghost use Rattle.cfi_rules.specs.Split.{code_words};
 
@@ -43,7 +43,7 @@ impl<'a> Scan<'a> {
         ensures graph { IfOk result (λ s. s.graph ≡ graph.now) }
     {
         let words = (graph.code() / 4) as usize;
-        let feeder = Feeder::new(alloc, version, words)?;
+        let feeder = Feeder::new(alloc, version, graph.calls(), words)?;
         Ok(Scan { feeder, graph })
     }
 
@@ -69,7 +69,7 @@ impl<'a> Scan<'a> {
     /// Asks the ten rules, in their order, of the code that has come and the graph.
     pub fn finish(self) -> Result<Starts<'a>, Reject>
         ensures version { IfOk result (λ s. s.listing.version ≡ self.entry.seen.version) }
-        ensures accepted { (image : Contents) → HasSeen (profile_of self.entry.seen.version) self.entry.seen image.code → IfOk result (λ s. (s.graph ≡ self.entry.graph) × Tells (profile_of self.entry.seen.version) s.listing (code_words image.code) × IsWellFormed (profile_of self.entry.seen.version) image self.entry.graph) }
+        ensures accepted { (image : Contents) → HasSeen (profile_of self.entry.seen.version) self.entry.seen image.code → IfOk result (λ s. (s.graph ≡ self.entry.graph) × Tells (profile_of self.entry.seen.version) (numbers_in self.entry.graph) s.listing (code_words image.code) × IsWellFormed (profile_of self.entry.seen.version) image self.entry.graph) }
         ensures rejected { (image : Contents) → HasSeen (profile_of self.entry.seen.version) self.entry.seen image.code → IfErr result (IsRejected (profile_of self.entry.seen.version) image self.entry.graph) }
     {
         let Scan { feeder, graph } = self;

@@ -1,12 +1,13 @@
-ghost use Rattle.std.specs.Prelude.{◌≡◌, ◌+◌, ◌<◌, ◌^◌, ◌++◌, ℕ, List, length, IfErr, IfOk, IfSome, IsTrue, OnOk, is_some, nat_lt};
+ghost use Rattle.std.specs.Prelude.{◌≡◌, ◌+◌, ◌<◌, ◌^◌, ◌++◌, ℕ, List, length, IfErr, IfOk, IfSome, IsTrue, OnOk, Some, is_some, nat_lt};
 ghost use Rattle.std.specs.Option.{option_copied};
 ghost use Rattle.rv_word.specs.Image.{image_profile};
 ghost use Rattle.rv_word.specs.MemoryMap.{profile_of};
-ghost use Rattle.cfi_graph.specs.Graph.{is_rising};
+ghost use Rattle.cfi_graph.specs.Graph.{calls_in, is_rising};
 ghost use Rattle.cfi_rules.specs.Along.{IsSafe};
 ghost use Rattle.cfi_verify.specs.Answer.{IsCause};
 ghost use Rattle.cfi_rules.specs.Laws.{AreBytes};
 ghost use Rattle.cfi_rules.specs.Lines.{targets_for};
+ghost use Rattle.cfi_rules.specs.Listed.{IsListed};
 ghost use Rattle.cfi_rules.specs.Rules.{IsWellFormed};
 ghost use Rattle.cfi_scan.specs.Pieces.{HasSeen};
 ghost use Rattle.cfi_verify.specs.Scan.{starts_prologue};
@@ -16,7 +17,7 @@ use crate::code::{are_small, unit_of};
 use crate::scan::Scan;
 use crate::starts::Starts;
 use cfi_graph::Graph;
-use cfi_rules::laws::well_formed_is_safe;
+use cfi_rules::laws::{well_formed_is_listed, well_formed_is_safe};
 use cfi_rules::{Asks, Reject};
 use cfi_scan::Steps;
 use cfi_unit::handlers::{BAD_RETURN, BAD_TARGET, DEEP};
@@ -95,6 +96,17 @@ impl<'a> Checked<'a> {
         // Tells the proof that the pair meets the rules.
         let _ = self.graph();
         well_formed_is_safe();
+    }
+
+    /// Tells a proof that the program makes no system calls but those of the graph's list, where it has one;
+    /// nothing is computed.
+    pub fn is_listed(&self)
+        ensures { (calls : List ℕ) → calls_in self.now.graph.lines ≡ Some calls → IsListed (image_profile self.now.image) self.now.image calls }
+    {
+        are_bytes(self.image);
+        // Tells the proof that the pair meets the rules.
+        let _ = self.graph();
+        well_formed_is_listed();
     }
 
     /// The unit that starts at an address; `None` at the prologue and inside a unit.
@@ -198,6 +210,7 @@ pub fn verify<'a>(
 ) -> Result<Checked<'a>, VerifyEnd>
     ensures accepted { IfOk result (λ c. (c.image ≡ image.now) × (c.graph ≡ graph.now) × IsWellFormed (image_profile image.now) image.now graph.now) }
     ensures safe { OnOk result (IsSafe (image_profile image.now) image.now graph.now) }
+    ensures listed { OnOk result ((calls : List ℕ) → calls_in graph.now.lines ≡ Some calls → IsListed (image_profile image.now) image.now calls) }
     ensures rejected { IfErr result (IsCause (image_profile image.now) image.now graph.now) }
 {
     are_bytes(image);
@@ -205,7 +218,10 @@ pub fn verify<'a>(
     feed_code::<Brand>(&mut scan, image.code(), Blank::new(1));
     match scan.finish() {
         Err(reject) => Err(VerifyEnd::Reject(reject)),
-        Ok(starts) => Ok(Checked { image, starts }),
+        Ok(starts) => {
+            well_formed_is_listed();
+            Ok(Checked { image, starts })
+        }
     }
 }
 

@@ -86,6 +86,10 @@ module _ (p : Profile) (lines : List GraphLine) (above : (kind : SiteKind) (whic
   unit_same V.Stop at pending v a b s g h = g.1 ∙ sym h.1
   unit_same (V.System S.Ecall) at pending v a b s g h = g.1 ∙ sym h.1
   unit_same (V.System S.Ebreak) at pending v a b s g h = absurd g
+  unit_same (V.Guarded numbers) at pending v a b s (inl g) (inl h) = g.1 ∙ sym h.1
+  unit_same (V.Guarded numbers) at pending v a b s (inl g) (inr h) = g.1 ∙ sym h.1
+  unit_same (V.Guarded numbers) at pending v a b s (inr g) (inl h) = g.1 ∙ sym h.1
+  unit_same (V.Guarded numbers) at pending v a b s (inr g) (inr h) = g.1 ∙ sym h.1
   unit_same (V.Stores rs1 imm members) at pending v a b s g h = g.1 ∙ sym h.1
   unit_same (V.Call target) at pending v a b s g h = call_same (after_unit (V.Call target) at) target pending v a b g h
   unit_same (V.Ijump which rs1 imm label) at pending v a b s g h = jump_same lines which label pending v a b g h

@@ -123,6 +123,7 @@ fn from_unit(checked: &Checked<'_>, walk: &Walk, unit: &Unit, past: u64, pc: u64
         Unit::Jump(target) => to(walk, *target, pc),
         Unit::Stop => to(walk, BAD_TARGET, pc),
         Unit::System(SystemOp::Ebreak) => None,
+        Unit::Guarded(_) => to_either(walk, past, BAD_TARGET, pc),
         Unit::Call(target) => call(walk, past, *target, pc),
         Unit::Ijump(which, _, _, label) => {
             computed_jump(checked, walk, *which, label.bits(), pc)

@@ -100,6 +100,7 @@ short_accepted = record {
   values = λ k below some. values_there (is_end (item_of short.layout.program k).kind)
       (is_some (instr_at short.layout.program short.layout.gates (words_at short.layout) k))
       (each (λ n. is_end (item_of short.layout.program n).kind || is_some (instr_at short.layout.program short.layout.gates (words_at short.layout) n)) refl k below) some;
+  calls = refl;
   version = inl refl;
   sorts = refl;
   members = λ j c k side there in_class. absurd (none_in k (subst (λ (s : Side). IsIn s.classes c k) (sym (only_side no_side j side there).1) in_class));
@@ -130,6 +131,7 @@ short_of_harts_accepted = record {
   values = λ k below some. values_there (is_end (item_of short_of_harts.layout.program k).kind)
       (is_some (instr_at short_of_harts.layout.program short_of_harts.layout.gates (words_at short_of_harts.layout) k))
       (each (λ n. is_end (item_of short_of_harts.layout.program n).kind || is_some (instr_at short_of_harts.layout.program short_of_harts.layout.gates (words_at short_of_harts.layout) n)) refl k below) some;
+  calls = refl;
   version = inl refl;
   sorts = refl;
   members = short_accepted.members;
@@ -235,6 +237,7 @@ pointer_accepted = record {
   values = λ k below some. values_there (is_end (item_of pointer.layout.program k).kind)
       (is_some (instr_at pointer.layout.program pointer.layout.gates (words_at pointer.layout) k))
       (each_of (λ n. is_end (item_of pointer.layout.program n).kind || is_some (instr_at pointer.layout.program pointer.layout.gates (words_at pointer.layout) n)) refl k below) some;
+  calls = refl;
   version = inl refl;
   sorts = refl;
   members = λ j c k side there inside.

@@ -18,7 +18,7 @@ use Rattle.obj_program.specs.declared.item.Item.{Item}
 use Rattle.obj_program.specs.Program.{Program, count, item_of, no_item}
 use Rattle.cfi_graph.specs.declared.line.SiteKind.{SiteKind}
 use Rattle.cfi_graph.specs.declared.line.Sort.{Sort}
-use Rattle.cfi_graph.specs.declared.policy.PolicyLine.{PolicyLine}
+use Rattle.cfi_graph.specs.Policy.{PolicyParts}
 use Rattle.cfi_closed.specs.declared.side.Site.{Site}
 use Rattle.cfi_closed.specs.Closed.{ClosedGraph, Side, is_target, is_target_of}
 use Rattle.cfi_closed.proofs.Sides.{few_sides}
@@ -27,7 +27,7 @@ use Rattle.cfi_flow.specs.Closing.{IsClosed}
 use Rattle.cfi_class.specs.Classes.{has}
 use Rattle.cfi_map.specs.LabelOf.{Tagged, all_classes, empty_classes, tag, tagged, with_empty}
 use Rattle.cfi_flow.specs.Labels.{is_gate, used_labels}
-use Rattle.cfi_map.specs.Placement.{lead_size, size_of}
+use Rattle.cfi_map.specs.Placement.{is_ecall, kind_size, lead_size, size_of}
 use Rattle.cfi_flow.specs.Sites.{site_kind}
 use Rattle.cfi_flow.specs.Policy.{IsRaw}
 use Rattle.cfi_flow.specs.Raw.{RawGraph}
@@ -42,42 +42,42 @@ AreTargets : List Side → ℕ → ℕ → List ℕ → Type 0
 AreTargets sides k n [] = Unit {0}
 AreTargets sides k n (x ∷ xs) = (k ≤ x) × (x < n) × (is_target sides x ≡ true) × AreTargets sides (x + 1) n xs
 
-abbrev unit_bytes : Item → ℕ
-unit_bytes i = size_of i.kind true
+abbrev unit_bytes : Option (List ℕ) → Item → ℕ
+unit_bytes calls i = size_of calls i true
 
 -- each of them has a word for each side before its unit
-gates_few : (sides : List Side) (k n : ℕ) (items : List Item) (xs : List ℕ) → n ≡ k + length items → AreTargets sides k n xs →
-    sum_by (λ x. 4 * length sides) xs + sum_by unit_bytes items ≤ sum (part_sizes sides [] k items)
+gates_few : (calls : Option (List ℕ)) (sides : List Side) (k n : ℕ) (items : List Item) (xs : List ℕ) → n ≡ k + length items → AreTargets sides k n xs →
+    sum_by (λ x. 4 * length sides) xs + sum_by (unit_bytes calls) items ≤ sum (part_sizes calls sides [] k items)
 unfolding AreTargets part_sizes
-gates_few sides k n [] [] all are = omega arith
-gates_few sides k n [] (x ∷ xs) all are = absurd (omega (arith, are.0, are.1))
-gates_few sides k n (item ∷ items) [] all are =
-    let part = lead_size sides k + unit_bytes item in
+gates_few calls sides k n [] [] all are = omega arith
+gates_few calls sides k n [] (x ∷ xs) all are = absurd (omega (arith, are.0, are.1))
+gates_few calls sides k n (item ∷ items) [] all are =
+    let part = lead_size sides k + unit_bytes calls item in
     omega (
       arith,
-      gates_few sides (k + 1) n items [] (omega arith) tt,
-      sum_by-cons unit_bytes item items,
-      sum_by-cons (λ (m : ℕ). m) part (part_sizes sides [] (k + 1) items),
+      gates_few calls sides (k + 1) n items [] (omega arith) tt,
+      sum_by-cons (unit_bytes calls) item items,
+      sum_by-cons (λ (m : ℕ). m) part (part_sizes calls sides [] (k + 1) items),
     )
-gates_few sides k n (item ∷ items) (x ∷ xs) all are =
-    let part = lead_size sides k + unit_bytes item in
-    let units = sum_by-cons unit_bytes item items in
-    let parts = sum_by-cons (λ (m : ℕ). m) part (part_sizes sides [] (k + 1) items) in
+gates_few calls sides k n (item ∷ items) (x ∷ xs) all are =
+    let part = lead_size sides k + unit_bytes calls item in
+    let units = sum_by-cons (unit_bytes calls) item items in
+    let parts = sum_by-cons (λ (m : ℕ). m) part (part_sizes calls sides [] (k + 1) items) in
     elim (cases_eq x k) [
       | inl same ↦
           let target : is_target sides k ≡ true = ap (is_target sides) (sym same) ∙ are.2 in
           let gate : lead_size sides k ≡ 4 * length sides = rw target refl in
-          let rest = gates_few sides (k + 1) n items xs (omega arith) (subst (λ (m : ℕ). AreTargets sides (m + 1) n xs) same are.3) in
+          let rest = gates_few calls sides (k + 1) n items xs (omega arith) (subst (λ (m : ℕ). AreTargets sides (m + 1) n xs) same are.3) in
           omega (arith, gate, rest, units, parts, sum_by-cons (λ (y : ℕ). 4 * length sides) x xs)
       | inr differ ↦
           let above : k + 1 ≤ x = omega (arith, are.0) in
-          let rest = gates_few sides (k + 1) n items (x ∷ xs) (omega arith) (above, are.1, are.2, are.3) in
+          let rest = gates_few calls sides (k + 1) n items (x ∷ xs) (omega arith) (above, are.1, are.2, are.3) in
           omega (arith, rest, units, parts)
     ]
 
-no_gates : (sides : List Side) (items : List Item) → sum_by unit_bytes items ≤ sum (part_sizes sides [] 0 items)
+no_gates : (calls : Option (List ℕ)) (sides : List Side) (items : List Item) → sum_by (unit_bytes calls) items ≤ sum (part_sizes calls sides [] 0 items)
 unfolding AreTargets
-no_gates sides items = let all = gates_few sides 0 (length items) items [] (omega arith) tt in omega (arith, all)
+no_gates calls sides items = let all = gates_few calls sides 0 (length items) items [] (omega arith) tt in omega (arith, all)
 
 abbrev first_of : List ℕ → ℕ
 first_of class = get_or class 0 0
@@ -109,20 +109,20 @@ is_site_item i = is_some (site_kind i.kind)
 abbrev is_gate_item : Item → Bool
 is_gate_item i = is_gate i.kind
 
-one_unit : (kind : ItemKind) → 8 * cond (is_some (site_kind kind)) 1 0 + 4 * cond (is_gate kind) 1 0 ≤ size_of kind true
-one_unit is.Icall = omega arith
-one_unit is.Ijump = omega arith
-one_unit is.Gate = omega arith
-one_unit other = omega arith
+one_unit : (calls : Option (List ℕ)) (kind : ItemKind) (ecall : Bool) → 8 * cond (is_some (site_kind kind)) 1 0 + 4 * cond (is_gate kind) 1 0 ≤ kind_size calls kind ecall true
+one_unit calls is.Icall ecall = omega arith
+one_unit calls is.Ijump ecall = omega arith
+one_unit calls is.Gate ecall = omega arith
+one_unit calls other ecall = omega arith
 
-units_few : (items : List Item) → 8 * count_by is_site_item items + 4 * count_by is_gate_item items ≤ sum_by unit_bytes items
-units_few [] = omega arith
-units_few (item ∷ items) =
+units_few : (calls : Option (List ℕ)) (items : List Item) → 8 * count_by is_site_item items + 4 * count_by is_gate_item items ≤ sum_by (unit_bytes calls) items
+units_few calls [] = omega arith
+units_few calls (item ∷ items) =
     omega (
       arith,
-      units_few items,
-      one_unit item.kind,
-      sum_by-cons unit_bytes item items,
+      units_few calls items,
+      one_unit calls item.kind (is_ecall item),
+      sum_by-cons (unit_bytes calls) item items,
       sum_by-cons (λ (i : Item). cond (is_site_item i) 1 0) item items,
       sum_by-cons (λ (i : Item). cond (is_gate_item i) 1 0) item items,
     )
@@ -179,27 +179,27 @@ record HasRoom (lead units parts sites : ℕ) (side : Side) : Type 0 where
   gates : sum_by (λ (x : ℕ). lead) (map first_of side.classes) + units ≤ parts
   empties : length (empty_classes side.sites) ≤ sites
 
-module _ (program : Program) (lines : List PolicyLine) (raw : RawGraph) (closed : ClosedGraph) (is : IsRaw program lines raw) (closes : IsClosed closed.version raw closed) where
+module _ (program : Program) (policy : PolicyParts) (raw : RawGraph) (closed : ClosedGraph) (is : IsRaw program policy raw) (closes : IsClosed closed.version raw closed) where
   has_room : (j : ℕ) (side : Side) → slice_get closed.sides j ≡ Some side →
-      HasRoom (4 * length closed.sides) (sum_by unit_bytes program.items) (sum (whole_sizes program closed)) (count_by is_site_item program.items) side
+      HasRoom (4 * length closed.sides) (sum_by (unit_bytes closed.calls) program.items) (sum (whole_sizes program closed)) (count_by is_site_item program.items) side
   has_room j side there =
-      let of = side_at program lines raw is closed.version closed.sides closes.sorts closes.sides j side there in
+      let of = side_at program policy raw is closed.version closed.sides closes.sorts closes.sides j side there in
       let classes = side.classes in
       let sides = closed.sides in
       let first : (i : ℕ) → i < length classes → IsFirst sides (count program) (get_or classes i []) =
       λ i lt.
       let class = get_or classes i [] in
       let some : 0 < length class = of.classes.some i [] lt in (
-        members_there program lines raw side is of (first_of class) (i, Contains-get_or class 0 0 some),
+        members_there program policy raw side is of (first_of class) (i, Contains-get_or class 0 0 some),
         any_get (is_target_of (first_of class)) sides j side there
             (list_any_at (has (first_of class)) classes i [] lt (list_any_at (λ t. t == first_of class) class 0 0 some (eq-eqb (first_of class) (first_of class) refl))),
       ) in
       let targets = firsts_are sides 0 (count program) classes (λ i lt. omega arith) first of.classes.in_order in
-      let places = ap length (side_places program lines raw side is of) in
+      let places = ap length (side_places program policy raw side is of) in
       let sites = site_count side.sort program (count program) (omega arith) in
       let every = ap (count_by is_site_item) (take-length program.items) in
       record {
-        gates = gates_few sides 0 (count program) program.items (map first_of classes) (omega arith) targets;
+        gates = gates_few closed.calls sides 0 (count program) program.items (map first_of classes) (omega arith) targets;
         empties = omega (arith, places, sites, every, empty_few side.sites, length-map side.sites place_of_site);
       }
 
@@ -244,12 +244,12 @@ two_few (s ∷ t ∷ u ∷ sides) units parts sites used few each some less room
 
 pub labels_few : (program : Program) (closed : ClosedGraph) → IsGraphOf program closed → sum (whole_sizes program closed) < CODE_SIZE →
     length (tagged closed.sides) + length (used_labels program) < 2 ^ 18
-labels_few program closed (lines, raw, is, closes) room =
-    let fit : 8 * count_by is_site_item program.items + 4 * length (used_labels program) ≤ sum_by unit_bytes program.items =
-    omega (arith, units_few program.items, length-filter is_gate_item program.items, length-map (filter is_gate_item program.items) (λ (i : Item). i.word / 2 ^ 12)) in
-    let less : sum_by unit_bytes program.items ≤ sum (whole_sizes program closed) = no_gates closed.sides program.items in
-    two_few closed.sides (sum_by unit_bytes program.items) (sum (whole_sizes program closed)) (count_by is_site_item program.items) (length (used_labels program))
-    (few_sides closed.version closed.sides closes.sorts) (has_room program lines raw closed is closes) fit less room
+labels_few program closed (policy, raw, is, closes) room =
+    let fit : 8 * count_by is_site_item program.items + 4 * length (used_labels program) ≤ sum_by (unit_bytes closed.calls) program.items =
+    omega (arith, units_few closed.calls program.items, length-filter is_gate_item program.items, length-map (filter is_gate_item program.items) (λ (i : Item). i.word / 2 ^ 12)) in
+    let less : sum_by (unit_bytes closed.calls) program.items ≤ sum (whole_sizes program closed) = no_gates closed.calls closed.sides program.items in
+    two_few closed.sides (sum_by (unit_bytes closed.calls) program.items) (sum (whole_sizes program closed)) (count_by is_site_item program.items) (length (used_labels program))
+    (few_sides closed.version closed.sides closes.sorts) (has_room program policy raw closed is closes) fit less room
 
 -- while a loop counts the sites without targets
 drop_step : (sites : List Site) (k : ℕ) (site : Site) → slice_get sites k ≡ Some site → drop k sites ≡ site ∷ drop (k + 1) sites

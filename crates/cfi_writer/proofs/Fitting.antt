@@ -1,7 +1,8 @@
 -- Each unit that is written may stand where it does: its fields are in range, and its jumps reach what lies in the region of code.
-use Rattle.std.proofs.Common.{◌≡◌, ◌≢◌, ℕ, ◌+◌, ◌*◌, ◌%◌, ◌^◌, ◌≤◌, ◌<◌, Bool, true, false, refl, sym, ap, ◌∙◌, arith}
-use Rattle.std.specs.Prelude.{◌&&◌, ◌||◌, ◌==◌, not}
-use Rattle.std.proofs.lemmas.Bool.{and_from, and_parts, not-true, or_parts}
+use Rattle.std.proofs.Common.{◌≡◌, ◌≢◌, ℕ, ◌+◌, ◌*◌, ◌%◌, ◌^◌, ◌≤◌, ◌<◌, Bool, true, false, List, [], ◌∷◌, Option, Some, None, length, refl, sym, ap, ◌∙◌, arith}
+use Rattle.std.specs.Prelude.{◌&&◌, ◌||◌, ◌==◌, nat_le, nat_lt, not}
+use Rattle.std.specs.List.{AllByRecursion, list_all}
+use Rattle.std.proofs.lemmas.Bool.{and_from, and_parts, leb-true, ltb-true, not-true, or_parts}
 use Rattle.rv_word.specs.MemoryMap.{CODE_SIZE, CODE_START, START}
 use Rattle.rv_instr.specs.InRange.{IsInstr}
 use Rattle.rv_instr.specs.Reserved.{is_reserved}
@@ -13,13 +14,17 @@ use Rattle.obj_input.specs.declared.item_kind.ItemKind.{ItemKind}
 use Rattle.obj_input.specs.declared.item_kind.ItemKind.TheVariants as is
 use Rattle.obj_program.specs.Sound.{is_direct}
 use Rattle.obj_program.specs.Suits as of
+use Rattle.rv_word.specs.Numbers.{IsNumber, MOST_NUMBERS}
+use Rattle.cfi_graph.specs.Calls.{may_be_calls}
+use Rattle.cfi_graph.specs.Graph.{are_calls, is_rising}
+use Rattle.cfi_unit.specs.Guarded.{AreNumbers}
 use Rattle.cfi_unit.specs.Members.{AreMembers}
 use Rattle.cfi_unit.specs.UnitWords.{BAD_RETURN, BAD_TARGET, DEEP, Fits, IsNear, Reaches, is_lui, is_plain, word_count}
 use Rattle.cfi_unit.proofs.Near.{branch_reached, near_reached}
 use Rattle.cfi_map.specs.Groups.{is_store}
 use Rattle.cfi_map.specs.Shorts.{is_branch}
 use Rattle.cfi_unit.specs.declared.target_word.TargetWord.{TargetWord}
-use Rattle.cfi_writer.specs.Units.{Group, unit_of}
+use Rattle.cfi_writer.specs.Units.{Group, call_unit, unit_of}
 use Rattle.cfi_writer.proofs.UnitOf.{is_right}
 
 -- a register that is not named is not reserved
@@ -124,35 +129,61 @@ pub record FitsMask (group : Group) : Type 0 where
   pub small : group.mask < 2 ^ 12
   pub members : AreMembers group.members
 
-pub unit_fits : (kind : ItemKind) (i : Instr) (whole : Bool) (target : ℕ) (which : TargetWord) (label : ℕ) (group : Group) (a : ℕ) → is_right kind i ≡ true → IsInstr i → label < 2 ^ 20 →
-    START ≤ a → a + 4 * word_count (unit_of kind i whole target which label group) ≤ CODE_START + CODE_SIZE → a % 4 ≡ 0 → (is_direct kind ≡ true → IsThere target) →
+each_number : (numbers : List ℕ) → list_all (λ (n : ℕ). nat_lt n (2 ^ 11)) numbers ≡ true → AllByRecursion IsNumber numbers
+each_number [] all = tt
+each_number (n ∷ numbers) all =
+    let parts = and_parts (nat_lt n (2 ^ 11)) (list_all (λ (x : ℕ). nat_lt x (2 ^ 11)) numbers) all in
+    (ltb-true n (2 ^ 11) parts.0, each_number numbers parts.1)
+
+-- the numbers of a list that a graph may have are those of a unit
+numbers_are : (numbers : List ℕ) → may_be_calls (Some numbers) ≡ true → AreNumbers numbers
+numbers_are numbers right =
+    let both = and_parts (are_calls numbers) (is_rising nat_lt numbers) right in
+    let parts = and_parts (nat_lt 0 (length numbers) && nat_le (length numbers) MOST_NUMBERS) (list_all (λ (n : ℕ). nat_lt n (2 ^ 11)) numbers) both.0 in
+    let counted = and_parts (nat_lt 0 (length numbers)) (nat_le (length numbers) MOST_NUMBERS) parts.0 in
+    record {
+      some = ltb-true 0 (length numbers) counted.0;
+      most = leb-true (length numbers) MOST_NUMBERS counted.1;
+      each = each_number numbers parts.1;
+    }
+
+call_fits : (calls : Option (List ℕ)) (a : ℕ) → may_be_calls calls ≡ true → START ≤ a → a + 4 * word_count (call_unit calls) ≤ CODE_START + CODE_SIZE →
+    a % 4 ≡ 0 → Fits (call_unit calls) a
+call_fits None a right low high round = tt
+call_fits (Some numbers) a right low high round =
+    (numbers_are numbers right, reach (a + 8 * length numbers) BAD_TARGET (in_code a (8 * length numbers) low (omega arith) round (omega arith)) bad_target_in)
+
+pub unit_fits : (calls : Option (List ℕ)) (kind : ItemKind) (i : Instr) (whole : Bool) (target : ℕ) (which : TargetWord) (label : ℕ) (group : Group) (a : ℕ) → is_right kind i ≡ true → IsInstr i → label < 2 ^ 20 →
+    START ≤ a → a + 4 * word_count (unit_of calls kind i whole target which label group) ≤ CODE_START + CODE_SIZE → a % 4 ≡ 0 → (is_direct kind ≡ true → IsThere target) →
     (is_branch kind ≡ true → whole ≡ false → (a ≤ target + 4096) × (target ≤ a + 4092)) → (is_store kind ≡ true → FitsMask group) →
-    Fits (unit_of kind i whole target which label group) a
-unit_fits is.Gate (I.Upper op rd imm) whole target which label group a right range small low high round there near masked = range.1
-unit_fits is.Plain i whole target which label group a right range small low high round there near masked = (range, plain_is i right)
-unit_fits is.Store (I.Store op rs1 rs2 imm) whole target which label group a right range small low high round there near masked =
+    may_be_calls calls ≡ true →
+    Fits (unit_of calls kind i whole target which label group) a
+unit_fits calls is.Gate (I.Upper op rd imm) whole target which label group a right range small low high round there near masked listed = range.1
+unit_fits calls is.Plain i whole target which label group a right range small low high round there near masked listed = (range, plain_is i right)
+unit_fits calls is.Store (I.Store op rs1 rs2 imm) whole target which label group a right range small low high round there near masked listed =
     let mask = masked refl in (range.0, mask.small, mask.members)
-unit_fits is.System I.Ecall whole target which label group a right range small low high round there near masked = tt
-unit_fits is.System I.Ebreak whole target which label group a right range small low high round there near masked = tt
-unit_fits is.Branch (I.Branch op rs1 rs2 imm) true target which label group a right range small low high round there near masked =
+unit_fits calls is.System I.Ecall whole target which label group a right range small low high round there near masked listed =
+    call_fits calls a listed low high round
+unit_fits calls is.System I.Ebreak whole target which label group a right range small low high round there near masked listed = tt
+unit_fits calls is.Branch (I.Branch op rs1 rs2 imm) true target which label group a right range small low high round there near masked listed =
     (range.0, range.1, reach (a + 4) target (in_code a 4 low (omega arith) round refl) (target_in_code target (there refl)))
-unit_fits is.Branch (I.Branch op rs1 rs2 imm) false target which label group a right range small low high round there near masked =
+unit_fits calls is.Branch (I.Branch op rs1 rs2 imm) false target which label group a right range small low high round there near masked listed =
     (range.0, range.1, let bounds = near refl refl in near_target a target low (omega arith) round (there refl) bounds.0 bounds.1)
-unit_fits is.Jump i whole target which label group a right range small low high round there near masked =
+unit_fits calls is.Jump i whole target which label group a right range small low high round there near masked listed =
     let here : IsInCode a = record { from = omega arith; to = omega arith; round = round } in
     (no_handler target (there refl), reach a target here (target_in_code target (there refl)))
-unit_fits is.Call i whole target which label group a right range small low high round there near masked =
+unit_fits calls is.Call i whole target which label group a right range small low high round there near masked listed =
     (reach (a + 8) DEEP (in_code a 8 low (omega arith) round refl) deep_in, reach (a + 28) target (in_code a 28 low (omega arith) round refl) (target_in_code target (there refl)))
-unit_fits is.Return i whole target which label group a right range small low high round there near masked =
+unit_fits calls is.Return i whole target which label group a right range small low high round there near masked listed =
     reach (a + 12) BAD_RETURN (in_code a 12 low (omega arith) round refl) bad_return_in
-unit_fits is.Ijump (I.Jalr rd rs1 imm) whole target which label group a right range small low high round there near masked = (
+unit_fits calls is.Ijump (I.Jalr rd rs1 imm) whole target which label group a right range small low high round there near masked listed = (
   range.1,
   range.2,
   small,
   reach (a + 24) BAD_TARGET (in_code a 24 low (omega arith) round refl) bad_target_in,
   reach (a + 44) BAD_TARGET (in_code a 44 low (omega arith) round refl) bad_target_in,
 )
-unit_fits is.Icall (I.Jalr rd rs1 imm) whole target which label group a right range small low high round there near masked = (
+unit_fits calls is.Icall (I.Jalr rd rs1 imm) whole target which label group a right range small low high round there near masked listed = (
   (
     range.1,
     range.2,
@@ -162,7 +193,7 @@ unit_fits is.Icall (I.Jalr rd rs1 imm) whole target which label group a right ra
   ),
   reach (a + 56) DEEP (in_code a 56 low (omega arith) round refl) deep_in,
 )
-unit_fits is.End i whole target which label group a right range small low high round there near masked =
+unit_fits calls is.End i whole target which label group a right range small low high round there near masked listed =
     let here : IsInCode a = record { from = omega arith; to = omega arith; round = round } in
     reach a BAD_TARGET here bad_target_in
-unit_fits kind i whole target which label group a right range small low high round there near masked = absurd (cc)
+unit_fits calls kind i whole target which label group a right range small low high round there near masked listed = absurd (cc)

@@ -6,4 +6,4 @@ use Rattle.cfi_writer.specs.Accepted.{IsAccepted}
 use Rattle.cfi_writer.specs.Units.{Choice}
 
 pub gates_counted : (m : Choice) → IsAccepted m → length m.layout.gates ≡ count m.layout.program
-gates_counted m accepted = as_many_gates m.layout.closed.sides m.whole 0 _ m.layout.program.items m.layout.gates accepted.legal
+gates_counted m accepted = as_many_gates m.layout.closed.calls m.layout.closed.sides m.whole 0 _ m.layout.program.items m.layout.gates accepted.legal

@@ -39,13 +39,13 @@ kind_store other store = absurd (cc)
 
 -- what is the unit of a store's group is the unit of its place
 pub store_unit : (m : Choice) (k : ℕ) (u : U.Unit) (i : Instr) → is_store (item_of m.layout.program k).kind ≡ true → Some i ≡ instr_if m k →
-    ((whole : Bool) (target : ℕ) (which : TargetWord) (label : ℕ) → u ≡ unit_of is.Store i whole target which label (group_at m k)) → u ≡ unit_here m k
+    ((whole : Bool) (target : ℕ) (which : TargetWord) (label : ℕ) → u ≡ unit_of m.layout.closed.calls is.Store i whole target which label (group_at m k)) → u ≡ unit_here m k
 store_unit m k u i store there all =
     let same = kind_store (item_of m.layout.program k).kind store in
     let instr : i ≡ instr_of m k = same_Some i (instr_of m k) (there ∙ some_instr m k store) in
     all (whole_at m.whole k) (gate_to m.layout (item_of m.layout.program k).target) (jump_word m.layout.closed.version) (site_label m.labels m.layout.closed.sides k)
-    ∙ ap (λ (x : Instr). unit_of is.Store x (whole_at m.whole k) (gate_to m.layout (item_of m.layout.program k).target) (jump_word m.layout.closed.version) (site_label m.labels m.layout.closed.sides k) (group_at m k)) instr
-    ∙ ap (λ (kind : ItemKind). unit_of kind (instr_of m k) (whole_at m.whole k) (gate_to m.layout (item_of m.layout.program k).target) (jump_word m.layout.closed.version) (site_label m.labels m.layout.closed.sides k) (group_at m k)) (sym same)
+    ∙ ap (λ (x : Instr). unit_of m.layout.closed.calls is.Store x (whole_at m.whole k) (gate_to m.layout (item_of m.layout.program k).target) (jump_word m.layout.closed.version) (site_label m.labels m.layout.closed.sides k) (group_at m k)) instr
+    ∙ ap (λ (kind : ItemKind). unit_of m.layout.closed.calls kind (instr_of m k) (whole_at m.whole k) (gate_to m.layout (item_of m.layout.program k).target) (jump_word m.layout.closed.version) (site_label m.labels m.layout.closed.sides k) (group_at m k)) (sym same)
 
 -- the first place behind that is no later store ends the group
 pub none_left : (m : Choice) (k j : ℕ) → k + 1 ≤ j → later_from m (k + 1) ≡ (j - (k + 1)) + later_from m j → is_later_at m j ≡ false → j - k - 1 ≡ behind m k

@@ -36,7 +36,7 @@ grouped = record {
   labels = [];
 }
 
-grouped_gates : AreGates grouped.layout.closed.sides grouped.whole 0 UNITS_START saving.items grouped.layout.gates
+grouped_gates : AreGates grouped.layout.closed.calls grouped.layout.closed.sides grouped.whole 0 UNITS_START saving.items grouped.layout.gates
 unfolding AreGates
 grouped_gates = (refl, (refl, (refl, (refl, (refl, (refl, (refl, tt)))))))
 

@@ -74,7 +74,7 @@ instr_there program gates words k d small range =
       | inr (j, some) ↦ rw some (instr_range program gates words k j small some)
     ]
 
--- no relocation stands on `lui x0`
+-- no relocation stands on `lui x0`, and none on a system instruction
 own_gate : (program : Program) (gates words : List ℕ) (k : ℕ) (i j : Instr) (patch : Patch) → stands_on patch is.Gate i ≡ true →
     patched_instr program gates words k i patch ≡ Some j → i ≡ j
 own_gate program gates words k i j put.Own stands gives = same_Some i j gives
@@ -82,6 +82,29 @@ own_gate program gates words k i j (put.High v) stands gives = absurd (cc)
 own_gate program gates words k i j (put.RelativeHigh v) stands gives = absurd (cc)
 own_gate program gates words k i j (put.Low v) stands gives = absurd (cc)
 own_gate program gates words k i j (put.RelativeLow n) stands gives = absurd (cc)
+
+own_call : (program : Program) (gates words : List ℕ) (k : ℕ) (i j : Instr) (patch : Patch) → stands_on patch is.System i ≡ true →
+    patched_instr program gates words k i patch ≡ Some j → i ≡ j
+own_call program gates words k i j put.Own stands gives = same_Some i j gives
+own_call program gates words k i j (put.High v) stands gives = absurd (cc)
+own_call program gates words k i j (put.RelativeHigh v) stands gives = absurd (cc)
+own_call program gates words k i j (put.Low v) stands gives = absurd (cc)
+own_call program gates words k i j (put.RelativeLow n) stands gives = absurd (cc)
+
+-- so a system instruction is that of its word
+pub own_system : (program : Program) (gates words : List ℕ) (k : ℕ) (j : Instr) →
+    is_of is.System (item_of program k).patch (decoded (item_of program k).word) ≡ true → instr_at program gates words k ≡ Some j →
+    decoded (item_of program k).word ≡ Some j
+unfolding instr_at
+own_system program gates words k j read gives =
+    elim (cases_Option (decoded (item_of program k).word)) [
+      | inl none ↦ let wrong : None ≡ Some j = rw none at gives in absurd (cc)
+      | inr (i, e) ↦
+          let own : patched_instr program gates words k i (item_of program k).patch ≡ Some j = rw e at gives in
+          let of : is_of is.System (item_of program k).patch (Some i) ≡ true = rw e at read in
+          let stands = (and_parts (suits is.System i && not (names_reserved i)) (stands_on (item_of program k).patch is.System i) of).1 in
+          e ∙ ap Some (own_call program gates words k i j (item_of program k).patch stands own)
+    ]
 
 -- the number of `lui x0` is that of its word
 number_of : (op : UpperOp) (rd imm word : ℕ) → rd < 32 → imm < 2 ^ 20 → code_of (Upper op rd imm) ≡ word → imm ≡ word / 2 ^ 12

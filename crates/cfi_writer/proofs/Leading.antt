@@ -1,5 +1,5 @@
 -- Where direct transfers lead; each unit fits, and no short branch leads over just a jump or a stop.
-use Rattle.std.proofs.Common.{◌≡◌, ℕ, ◌+◌, ◌*◌, ◌^◌, ◌≤◌, ◌<◌, ◌==◌, inl, inr, Bool, true, false, length, Option, Some, None, refl, sym, ap, subst, ◌∙◌, lit<, arith}
+use Rattle.std.proofs.Common.{◌≡◌, ℕ, ◌+◌, ◌*◌, ◌^◌, ◌≤◌, ◌<◌, ◌==◌, inl, inr, Bool, true, false, List, length, Option, Some, None, refl, sym, ap, subst, ◌∙◌, lit<, arith}
 use Rattle.std.specs.Prelude.{◌&&◌, not, nat_lt, slice_get, slice_index}
 use Rattle.std.proofs.lemmas.Bool.{and_from, and_parts, cases_lt, cases_order, eq-eqb, ltb-true}
 use Rattle.std.proofs.lemmas.List.{get_or_past}
@@ -27,7 +27,7 @@ use Rattle.cfi_rules.proofs.Ahead.{IsShortSkip, all_ahead, all_fit, is_jump_unit
 use Rattle.cfi_writer.specs.Accepted.{IsAccepted}
 use Rattle.cfi_map.specs.Groups.{is_store}
 use Rattle.cfi_map.specs.Shorts.{is_branch, is_kept, is_skipped}
-use Rattle.cfi_writer.specs.Units.{Choice, Group, group_at, instr_of, is_later_at, lead_unit, unit_here, unit_of, units}
+use Rattle.cfi_writer.specs.Units.{Choice, Group, call_unit, group_at, instr_of, is_later_at, lead_unit, unit_here, unit_of, units}
 use Rattle.cfi_writer.proofs.Grouping.{first_after, other_first}
 use Rattle.cfi_writer.proofs.GroupUnit.{fits_mask}
 use Rattle.cfi_writer.proofs.Fitting.{IsThere, near_target, unit_fits}
@@ -61,41 +61,50 @@ skipped_stores_none is.Jump e = refl
 skipped_stores_none is.End e = refl
 skipped_stores_none other e = absurd (cc)
 
+-- a system call is no short branch and no jump
+no_call_skip : (calls : Option (List ℕ)) (a : ℕ) → IsShortSkip (call_unit calls) a → ⊥
+no_call_skip None a skip = skip
+no_call_skip (Some numbers) a skip = skip
+
+no_call_jump : (calls : Option (List ℕ)) → is_jump_unit (call_unit calls) ≡ false
+no_call_jump None = refl
+no_call_jump (Some numbers) = refl
+
 -- only a short branch over one word is a short skip
-skip_kind : (kind : ItemKind) (i : Instr) (whole : Bool) (target : ℕ) (which : TargetWord) (label : ℕ) (group : Group) (a : ℕ) → is_right kind i ≡ true → IsShortSkip (unit_of kind i whole target which label group) a →
-    (is_branch kind ≡ true) × (whole ≡ false) × (near_offset a target ≡ skip_offset) × (word_count (unit_of kind i whole target which label group) ≡ 1)
-skip_kind is.Branch (I.Branch op rs1 rs2 imm) false target which label group a right skip = (refl, refl, skip, refl)
-skip_kind is.Branch (I.Branch op rs1 rs2 imm) true target which label group a right skip = absurd skip
-skip_kind is.Gate (I.Upper op rd imm) whole target which label group a right skip = absurd skip
-skip_kind is.Plain i whole target which label group a right skip = absurd skip
-skip_kind is.Store (I.Store op rs1 rs2 imm) whole target which label group a right skip = absurd skip
-skip_kind is.System I.Ecall whole target which label group a right skip = absurd skip
-skip_kind is.System I.Ebreak whole target which label group a right skip = absurd skip
-skip_kind is.Jump i whole target which label group a right skip = absurd skip
-skip_kind is.Call i whole target which label group a right skip = absurd skip
-skip_kind is.Return i whole target which label group a right skip = absurd skip
-skip_kind is.Ijump (I.Jalr rd rs1 imm) whole target which label group a right skip = absurd skip
-skip_kind is.Icall (I.Jalr rd rs1 imm) whole target which label group a right skip = absurd skip
-skip_kind is.End i whole target which label group a right skip = absurd skip
-skip_kind kind i whole target which label group a right skip = absurd (cc)
+skip_kind : (calls : Option (List ℕ)) (kind : ItemKind) (i : Instr) (whole : Bool) (target : ℕ) (which : TargetWord) (label : ℕ) (group : Group) (a : ℕ) → is_right kind i ≡ true → IsShortSkip (unit_of calls kind i whole target which label group) a →
+    (is_branch kind ≡ true) × (whole ≡ false) × (near_offset a target ≡ skip_offset) × (word_count (unit_of calls kind i whole target which label group) ≡ 1)
+skip_kind calls is.Branch (I.Branch op rs1 rs2 imm) false target which label group a right skip = (refl, refl, skip, refl)
+skip_kind calls is.Branch (I.Branch op rs1 rs2 imm) true target which label group a right skip = absurd skip
+skip_kind calls is.Gate (I.Upper op rd imm) whole target which label group a right skip = absurd skip
+skip_kind calls is.Plain i whole target which label group a right skip = absurd skip
+skip_kind calls is.Store (I.Store op rs1 rs2 imm) whole target which label group a right skip = absurd skip
+skip_kind calls is.System I.Ecall whole target which label group a right skip = absurd (no_call_skip calls a skip)
+skip_kind calls is.System I.Ebreak whole target which label group a right skip = absurd skip
+skip_kind calls is.Jump i whole target which label group a right skip = absurd skip
+skip_kind calls is.Call i whole target which label group a right skip = absurd skip
+skip_kind calls is.Return i whole target which label group a right skip = absurd skip
+skip_kind calls is.Ijump (I.Jalr rd rs1 imm) whole target which label group a right skip = absurd skip
+skip_kind calls is.Icall (I.Jalr rd rs1 imm) whole target which label group a right skip = absurd skip
+skip_kind calls is.End i whole target which label group a right skip = absurd skip
+skip_kind calls kind i whole target which label group a right skip = absurd (cc)
 
 -- what begins with a jump is a jump or a stop
-jump_kind : (kind : ItemKind) (i : Instr) (whole : Bool) (target : ℕ) (which : TargetWord) (label : ℕ) (group : Group) → is_right kind i ≡ true → is_jump_unit (unit_of kind i whole target which label group) ≡ true →
+jump_kind : (calls : Option (List ℕ)) (kind : ItemKind) (i : Instr) (whole : Bool) (target : ℕ) (which : TargetWord) (label : ℕ) (group : Group) → is_right kind i ≡ true → is_jump_unit (unit_of calls kind i whole target which label group) ≡ true →
     is_skipped kind false ≡ true
-jump_kind is.Jump i whole target which label group right jump = refl
-jump_kind is.End i whole target which label group right jump = refl
-jump_kind is.Branch (I.Branch op rs1 rs2 imm) false target which label group right jump = absurd (cc)
-jump_kind is.Branch (I.Branch op rs1 rs2 imm) true target which label group right jump = absurd (cc)
-jump_kind is.Gate (I.Upper op rd imm) whole target which label group right jump = absurd (cc)
-jump_kind is.Plain i whole target which label group right jump = absurd (cc)
-jump_kind is.Store (I.Store op rs1 rs2 imm) whole target which label group right jump = absurd (cc)
-jump_kind is.System I.Ecall whole target which label group right jump = absurd (cc)
-jump_kind is.System I.Ebreak whole target which label group right jump = absurd (cc)
-jump_kind is.Call i whole target which label group right jump = absurd (cc)
-jump_kind is.Return i whole target which label group right jump = absurd (cc)
-jump_kind is.Ijump (I.Jalr rd rs1 imm) whole target which label group right jump = absurd (cc)
-jump_kind is.Icall (I.Jalr rd rs1 imm) whole target which label group right jump = absurd (cc)
-jump_kind kind i whole target which label group right jump = absurd (cc)
+jump_kind calls is.Jump i whole target which label group right jump = refl
+jump_kind calls is.End i whole target which label group right jump = refl
+jump_kind calls is.Branch (I.Branch op rs1 rs2 imm) false target which label group right jump = absurd (cc)
+jump_kind calls is.Branch (I.Branch op rs1 rs2 imm) true target which label group right jump = absurd (cc)
+jump_kind calls is.Gate (I.Upper op rd imm) whole target which label group right jump = absurd (cc)
+jump_kind calls is.Plain i whole target which label group right jump = absurd (cc)
+jump_kind calls is.Store (I.Store op rs1 rs2 imm) whole target which label group right jump = absurd (cc)
+jump_kind calls is.System I.Ecall whole target which label group right jump = let none = no_call_jump calls in absurd (cc)
+jump_kind calls is.System I.Ebreak whole target which label group right jump = absurd (cc)
+jump_kind calls is.Call i whole target which label group right jump = absurd (cc)
+jump_kind calls is.Return i whole target which label group right jump = absurd (cc)
+jump_kind calls is.Ijump (I.Jalr rd rs1 imm) whole target which label group right jump = absurd (cc)
+jump_kind calls is.Icall (I.Jalr rd rs1 imm) whole target which label group right jump = absurd (cc)
+jump_kind calls kind i whole target which label group right jump = absurd (cc)
 
 jump_size : (u : U.Unit) → is_jump_unit u ≡ true → word_count u ≡ 1
 jump_size (V.Jump target) e = refl
@@ -158,8 +167,8 @@ module _ (m : Choice) (ok : IsAccepted m) where
   own_fits : (k : ℕ) → k < count m.layout.program → is_later_at m k ≡ false → Fits (unit_here m k) (word m.layout k)
   own_fits k below first =
       let at = unit_lies m ok (word m.layout k) (unit_here m k) (unit_there m ok k below first) in
-      unit_fits (item_of m.layout.program k).kind (instr_of m k) (whole_at m.whole k) _ _ _ (group_at m k) (word m.layout k) (right m ok k below) (instr_in_range m ok k below)
-      (asked_small k) (past_handlers (word m.layout k) at.from) at.to at.round (target_in k below) (short_near k below) (λ store. fits_mask m ok k below store first)
+      unit_fits m.layout.closed.calls (item_of m.layout.program k).kind (instr_of m k) (whole_at m.whole k) _ _ _ (group_at m k) (word m.layout k) (right m ok k below) (instr_in_range m ok k below)
+      (asked_small k) (past_handlers (word m.layout k) at.from) at.to at.round (target_in k below) (short_near k below) (λ store. fits_mask m ok k below store first) ok.calls
 
   small_label : (k j label : ℕ) → slice_get (labels_of m.labels m.layout.closed.sides k) j ≡ Some (Some label) → label < 2 ^ 20
   small_label k j label e =
@@ -214,7 +223,7 @@ module _ (m : Choice) (ok : IsAccepted m) where
       unit_in (units m) m.layout.profile.units_from (word m.layout k + 4 * word_count (unit_here m k)) ≡ Some v → is_jump_unit v ≡ true →
       IsShortSkip (unit_here m k) (word m.layout k) → ⊥
   skip_own k v below next jump skip =
-      let s = skip_kind (item_of m.layout.program k).kind (instr_of m k) (whole_at m.whole k) _ _ _ (group_at m k) (word m.layout k) (right m ok k below) skip in
+      let s = skip_kind m.layout.closed.calls (item_of m.layout.program k).kind (instr_of m k) (whole_at m.whole k) _ _ _ (group_at m k) (word m.layout k) (right m ok k below) skip in
       let other = branch_stores_none (item_of m.layout.program k).kind s.0 in
       let (t, some, there) = direct k below (branch_leads (item_of m.layout.program k).kind s.0) in
       let short = ok.shorts k t below s.0 s.1 some in
@@ -244,7 +253,7 @@ module _ (m : Choice) (ok : IsAccepted m) where
             same_Some _ v (sym (unit_there m ok (k + 1) more (first_after m ok.groups k other)) ∙ ap (unit_in (units m) m.layout.profile.units_from) stands ∙ here) in
             let jumps = ap is_jump_unit same ∙ jump in
             let skipped : is_skipped (item_of m.layout.program (k + 1)).kind false ≡ true =
-            jump_kind (item_of m.layout.program (k + 1)).kind (instr_of m (k + 1)) (whole_at m.whole (k + 1)) _ _ _ (group_at m (k + 1)) (right m ok (k + 1) more) jumps in
+            jump_kind m.layout.closed.calls (item_of m.layout.program (k + 1)).kind (instr_of m (k + 1)) (whole_at m.whole (k + 1)) _ _ _ (group_at m (k + 1)) (right m ok (k + 1) more) jumps in
             let second : t ≡ k + 2 = second_after k t more there (omega arith) stands (skipped_stores_none (item_of m.layout.program (k + 1)).kind skipped) (jump_size _ jumps) in
             let held : is_kept m.layout.program m.layout.closed k t ≡ true =
             and_from (t == k + 2) (is_skipped (item_of m.layout.program (k + 1)).kind (is_target m.layout.closed.sides (k + 1))) (eq-eqb t (k + 2) second)

@@ -11,6 +11,7 @@ pub mod GroupLoops
 pub mod Fitting
 pub mod Labelled
 pub mod ClassLines
+pub mod HeadLines
 pub mod SideLabels
 pub mod Starts
 pub mod Leading

@@ -16,7 +16,7 @@ use Rattle.cfi_graph.specs.Graph.{line_of_class}
 use Rattle.cfi_class.specs.Classes.{IsIn}
 use Rattle.cfi_closed.specs.declared.side.Site.{Site}
 use Rattle.cfi_closed.specs.Closed.{Side}
-use Rattle.cfi_map.specs.GraphAtMap.{ProgramAtMap, class_lines, gate, graph_lines, line_for, place_lines, with_line}
+use Rattle.cfi_map.specs.GraphAtMap.{ProgramAtMap, class_lines, gate, graph_lines, head_lines, line_for, place_lines, with_line}
 use Rattle.cfi_map.specs.LabelOf.{Tagged, all_classes, empty_classes, tag, tagged, with_empty}
 use Rattle.cfi_writer.specs.Accepted.{IsAccepted}
 use Rattle.cfi_writer.specs.Chosen.{labels_before}
@@ -100,20 +100,21 @@ lines_behind gates (l ∷ labels) (t ∷ ts) us enough =
     ap (λ (ls : List GraphLine). line_of_class t.sort l (map (slice_index gates) t.class) ∷ ls) (lines_behind gates labels ts us (omega arith))
 
 -- these are lines before those of the sides from index j on
-abbrev pub AreSideLines : List ℕ → List ℕ → List Side → ℕ → List GraphLine → Type 0
-AreSideLines gates labels sides j first =
-    first ++ class_lines gates (drop (labels_before sides j) labels) (tagged (drop j sides)) ≡ class_lines gates labels (tagged sides)
+abbrev pub AreSideLines : List ℕ → List ℕ → List Side → ℕ → List GraphLine → List GraphLine → Type 0
+AreSideLines gates labels sides j first whole =
+    first ++ class_lines gates (drop (labels_before sides j) labels) (tagged (drop j sides)) ≡ whole
 
-pub first_side_lines : (gates labels : List ℕ) (sides : List Side) (none : List GraphLine) → none ≡ [] → AreSideLines gates labels sides 0 none
-first_side_lines gates labels sides none is =
+pub first_side_lines : (gates labels : List ℕ) (sides : List Side) (first before : List GraphLine) → first ≡ before →
+    AreSideLines gates labels sides 0 first (before ++ class_lines gates labels (tagged sides))
+first_side_lines gates labels sides first before is =
     ap (λ (ls : List GraphLine). ls ++ class_lines gates (drop (labels_before sides 0) labels) (tagged sides)) is
-    ∙ ap (λ (n : ℕ). class_lines gates (drop n labels) (tagged sides)) (before_first sides)
+    ∙ ap (λ (n : ℕ). before ++ class_lines gates (drop n labels) (tagged sides)) (before_first sides)
 
-pub next_side : (gates labels : List ℕ) (sides : List Side) (j : ℕ) (side : Side) (first more : List GraphLine) → slice_get sides j ≡ Some side
-    → length labels ≡ length (tagged sides) → AreSideLines gates labels sides j first
-    → more ≡ first ++ class_lines gates (drop (labels_before sides j) labels) (map (tag side.sort) (all_classes side)) → AreSideLines gates labels sides (j + 1) more
+pub next_side : (gates labels : List ℕ) (sides : List Side) (j : ℕ) (side : Side) (first more whole : List GraphLine) → slice_get sides j ≡ Some side
+    → length labels ≡ length (tagged sides) → AreSideLines gates labels sides j first whole
+    → more ≡ first ++ class_lines gates (drop (labels_before sides j) labels) (map (tag side.sort) (all_classes side)) → AreSideLines gates labels sides (j + 1) more whole
 unfolding tagged
-next_side gates labels sides j side first more there counted are is =
+next_side gates labels sides j side first more whole there counted are is =
     let own = drop (labels_before sides j) labels in
     let ts = map (tag side.sort) (all_classes side) in
     let us = tagged (drop (j + 1) sides) in
@@ -132,10 +133,10 @@ next_side gates labels sides j side first more there counted are is =
     ∙ ap (λ (lines : List GraphLine). first ++ lines) (sym joined)
     ∙ ap (λ (ss : List Side). first ++ class_lines gates own (tagged ss)) (sym split) ∙ are
 
-pub all_side_lines : (gates labels : List ℕ) (sides : List Side) (j : ℕ) (first : List GraphLine) → length sides ≤ j → AreSideLines gates labels sides j first
-    → first ≡ class_lines gates labels (tagged sides)
+pub all_side_lines : (gates labels : List ℕ) (sides : List Side) (j : ℕ) (first whole : List GraphLine) → length sides ≤ j → AreSideLines gates labels sides j first whole
+    → first ≡ whole
 unfolding tagged
-all_side_lines gates labels sides j first past are =
+all_side_lines gates labels sides j first whole past are =
     let none : drop j sides ≡ [] = drop_of_length-le sides past in
     sym (append-nil first) ∙ ap (λ (ls : List GraphLine). first ++ ls) (sym (no_lines gates (drop (labels_before sides j) labels)))
     ∙ ap (λ (ss : List Side). first ++ class_lines gates (drop (labels_before sides j) labels) (tagged ss)) (sym none) ∙ are
@@ -174,15 +175,15 @@ members_there m j side accepted there c d inside i e within =
         (i, within, get_or_default (get_or classes c d) i (get_or (get_or classes c d) i e) e within)
 
 pub joined : (layout : ProgramAtMap) (labels : List ℕ) (entry : ℕ) (first second third : List GraphLine)
-    → entry ≡ gate layout layout.entry → first ≡ class_lines layout.gates labels (tagged layout.closed.sides)
+    → entry ≡ gate layout layout.entry → first ≡ head_lines layout labels
     → second ≡ first ++ line.Call START entry ∷ [] → third ≡ second ++ place_lines layout labels 0 layout.program.items
     → third ≡ graph_lines layout labels
 joined layout labels entry first second third entry_is first_is second_is third_is =
-    let classes = class_lines layout.gates labels (tagged layout.closed.sides) in
+    let heads = head_lines layout labels in
     let places = place_lines layout labels 0 layout.program.items in
     third_is ∙ ap (λ (ls : List GraphLine). ls ++ places) second_is ∙ append_assoc first (line.Call START entry ∷ []) places
     ∙ ap (λ (ls : List GraphLine). ls ++ (line.Call START entry ∷ places)) first_is
-    ∙ ap (λ (a : ℕ). classes ++ (line.Call START a ∷ places)) entry_is
+    ∙ ap (λ (a : ℕ). heads ++ (line.Call START a ∷ places)) entry_is
 
 -- a list that is made of the members of another, one after another
 pub next_mapped : (f : ℕ → ℕ) (xs first more : List ℕ) (k y : ℕ) → k < length xs → first ≡ map f (take k xs)

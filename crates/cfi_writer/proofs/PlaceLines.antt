@@ -64,9 +64,9 @@ gates_from layout k (item ∷ items) all =
     ∙ sym (drop-cons layout.gates k 0 (omega arith))
 
 legal_gates : (m : Choice) → IsAccepted m → (gates : List ℕ) → gates ≡ m.layout.gates
-    → IsLegal m.layout.profile.units_from m.layout.closed.sides (entered_at m) m.layout.program.items gates
+    → IsLegal m.layout.profile.units_from m.layout.closed.calls m.layout.closed.sides (entered_at m) m.layout.program.items gates
 legal_gates m accepted gates is =
-    (m.whole, subst (λ (gs : List ℕ). AreGates m.layout.closed.sides m.whole 0 m.layout.profile.units_from m.layout.program.items gs) (sym is) accepted.legal, accepted.groups)
+    (m.whole, subst (λ (gs : List ℕ). AreGates m.layout.closed.calls m.layout.closed.sides m.whole 0 m.layout.profile.units_from m.layout.program.items gs) (sym is) accepted.legal, accepted.groups)
 
 pub gates_are : (m : Choice) → IsAccepted m → gates_of (map_lines m.layout) ≡ m.layout.gates
 gates_are m accepted = let counted = gates_counted m accepted in gates_from m.layout 0 m.layout.program.items (omega arith)
@@ -78,6 +78,6 @@ legal_map form m accepted one =
       sections = sections_of m.layout 0 m.layout.program.items;
       offsets = offsets_of m.layout 0 m.layout.program.items;
       gates =
-          subst (λ (p : Profile). IsLegal p.units_from m.layout.closed.sides (entered_at m) m.layout.program.items (gates_of (map_lines m.layout))) one
+          subst (λ (p : Profile). IsLegal p.units_from m.layout.closed.calls m.layout.closed.sides (entered_at m) m.layout.program.items (gates_of (map_lines m.layout))) one
           (legal_gates m accepted (gates_of (map_lines m.layout)) (gates_are m accepted));
     }

@@ -15,7 +15,7 @@ use Rattle.cfi_closed.specs.Closed.{Side, is_target}
 use Rattle.cfi_map.specs.GraphAtMap.{gate, word}
 use Rattle.cfi_map.specs.Groups.{is_store}
 use Rattle.cfi_map.specs.LabelOf.{label_at, labels_of}
-use Rattle.cfi_map.specs.Placement.{AreGates, whole_at, lead_size, size_of}
+use Rattle.cfi_map.specs.Placement.{AreGates, is_ecall, kind_size, lead_size, size_of, whole_at}
 use Rattle.cfi_map.specs.Sizes.{part_sizes}
 use Rattle.cfi_unit.specs.declared.unit.Unit as U
 use Rattle.cfi_unit.specs.UnitWords.{word_count}
@@ -155,16 +155,16 @@ Run m at (k ∷ places) last =
 pub record AreSized (m : Choice) : Type 0 where
   pub later : (k : ℕ) → is_later_at m k ≡ true → lead_size m.layout.closed.sides k ≡ 0
   pub first : (k : ℕ) → k < count m.layout.program → is_later_at m k ≡ false →
-      size_of (item_of m.layout.program k).kind (whole_at m.whole k) + 4 * behind m k ≡ 4 * word_count (unit_here m k)
+      size_of m.layout.closed.calls (item_of m.layout.program k) (whole_at m.whole k) + 4 * behind m k ≡ 4 * word_count (unit_here m k)
 
-size_later : (kind : ItemKind) (whole : Bool) → is_store kind ≡ true → whole ≡ false → size_of kind whole ≡ 4
-size_later is.Store whole store less = rw less refl
-size_later other whole store less = absurd (cc)
+size_later : (calls : Option (List ℕ)) (kind : ItemKind) (ecall whole : Bool) → is_store kind ≡ true → whole ≡ false → kind_size calls kind ecall whole ≡ 4
+size_later calls is.Store ecall whole store less = rw less refl
+size_later calls other ecall whole store less = absurd (cc)
 
-pub later_size : (m : Choice) (k : ℕ) → is_later_at m k ≡ true → size_of (item_of m.layout.program k).kind (whole_at m.whole k) ≡ 4
+pub later_size : (m : Choice) (k : ℕ) → is_later_at m k ≡ true → size_of m.layout.closed.calls (item_of m.layout.program k) (whole_at m.whole k) ≡ 4
 later_size m k later =
     let (store, less) = later_store m k later in
-    size_later (item_of m.layout.program k).kind (whole_at m.whole k) store less
+    size_later m.layout.closed.calls (item_of m.layout.program k).kind (is_ecall (item_of m.layout.program k)) (whole_at m.whole k) store less
 
 past_first : (m : Choice) (k : ℕ) → count m.layout.program ≤ k → is_later_at m k ≡ false
 past_first m k past =
@@ -176,8 +176,8 @@ past_first m k past =
 -- the gates of a placement make units stand so
 pub legal_run : (m : Choice) → AreSized m → (k at : ℕ) (items : List Item) (gates : List ℕ) → ((i : ℕ) → gate m.layout (k + i) ≡ slice_index gates i) →
     ((i : ℕ) → i < length items → item_of m.layout.program (k + i) ≡ get_or items i no_item) → k + length items ≡ count m.layout.program →
-    AreGates m.layout.closed.sides m.whole k at items gates →
-    Run m (at + 4 * later_from m k) (unit_places m k (length items)) (at + sum (part_sizes m.layout.closed.sides m.whole k items))
+    AreGates m.layout.closed.calls m.layout.closed.sides m.whole k at items gates →
+    Run m (at + 4 * later_from m k) (unit_places m k (length items)) (at + sum (part_sizes m.layout.closed.calls m.layout.closed.sides m.whole k items))
 unfolding Run AreGates part_sizes
 legal_run m sized k at [] [] same are all legal =
     let none = none_later m k (past_first m k (omega arith)) in
@@ -189,14 +189,14 @@ legal_run m sized k at (item ∷ items) (g ∷ gates) same are all legal =
     let next : (i : ℕ) → k + 1 + i ≡ k + suc i = λ i. omega arith in
     let here : gate m.layout k ≡ g = ap (gate m.layout) (sym start) ∙ same 0 in
     let item_is : item_of m.layout.program k ≡ item = ap (item_of m.layout.program) (sym start) ∙ are 0 (omega arith) in
-    let size = size_of item.kind (whole_at m.whole k) in
-    let size_is : size_of (item_of m.layout.program k).kind (whole_at m.whole k) ≡ size = ap (λ (x : Item). size_of x.kind (whole_at m.whole k)) item_is in
+    let size = size_of m.layout.closed.calls item (whole_at m.whole k) in
+    let size_is : size_of m.layout.closed.calls (item_of m.layout.program k) (whole_at m.whole k) ≡ size = ap (λ (x : Item). size_of m.layout.closed.calls x (whole_at m.whole k)) item_is in
     let led = lead_size m.layout.closed.sides k in
-    let last = at + sum (part_sizes m.layout.closed.sides m.whole k (item ∷ items)) in
+    let last = at + sum (part_sizes m.layout.closed.calls m.layout.closed.sides m.whole k (item ∷ items)) in
     let rest = legal_run m sized (k + 1) (at + led + size) items gates (λ i. ap (gate m.layout) (next i) ∙ same (suc i))
     (λ i less. ap (item_of m.layout.program) (next i) ∙ are (suc i) (omega arith)) (omega arith) legal.1 in
-    let more = sum_by-cons (λ (x : ℕ). x) (led + size) (part_sizes m.layout.closed.sides m.whole (k + 1) items) in
-    let to : at + led + size + sum (part_sizes m.layout.closed.sides m.whole (k + 1) items) ≡ last = omega arith in
+    let more = sum_by-cons (λ (x : ℕ). x) (led + size) (part_sizes m.layout.closed.calls m.layout.closed.sides m.whole (k + 1) items) in
+    let to : at + led + size + sum (part_sizes m.layout.closed.calls m.layout.closed.sides m.whole (k + 1) items) ≡ last = omega arith in
     elim (cases_Bool (is_later_at m k)) [
       | inl later ↦
           let no_lead = sized.later k later in

@@ -12,7 +12,7 @@ use Rattle.cfi_graph.specs.declared.line.SiteKind.{SiteKind}
 use Rattle.cfi_graph.specs.declared.line.SiteKind.TheVariants as kinds
 use Rattle.cfi_graph.specs.declared.line.Sort.{Sort}
 use Rattle.cfi_graph.specs.declared.line.Sort.TheVariants.{Both, Calls, Jumps}
-use Rattle.cfi_graph.specs.declared.policy.PolicyLine.{PolicyLine}
+use Rattle.cfi_graph.specs.Policy.{PolicyParts}
 use Rattle.cfi_closed.specs.declared.side.Site.{Site}
 use Rattle.cfi_closed.specs.Closed.{Side, has_site, is_of, sorts_of}
 use Rattle.cfi_flow.specs.Below.{where_below}
@@ -56,18 +56,18 @@ class_there : (classes : List (List ℕ)) (targets : List ℕ) (c : ℕ) → cla
 class_there classes [] c e = absurd (cc)
 class_there classes (t ∷ targets) c e = (position-Some (has t) classes c [] e).0
 
-module _ (program : Program) (lines : List PolicyLine) (raw : RawGraph) (side : Side) (is : IsRaw program lines raw) (of : IsSide raw side) where
+module _ (program : Program) (policy : PolicyParts) (raw : RawGraph) (side : Side) (is : IsRaw program policy raw) (of : IsSide raw side) where
   -- each computed transfer of its sort is a site of a side, and no other is
   pub side_has : (k : ℕ) (kind : SiteKind) → k < count program → site_kind (item_of program k).kind ≡ Some kind → is_of side.sort kind ≡ true → has_site k side ≡ true
   side_has k kind below some own =
       let holds : is_site_of side.sort program k ≡ true = ap (is_kind_of side.sort) some ∙ own in
       let listed : Contains (where_below (is_site_of side.sort program) (count program)) k = below_found (is_site_of side.sort program) (count program) k below holds in
-      let (i, site, get, place) = site_with_place side.sites k (subst (λ (xs : List ℕ). Contains xs k) (sym (side_places program lines raw side is of)) listed) in
+      let (i, site, get, place) = site_with_place side.sites k (subst (λ (xs : List ℕ). Contains xs k) (sym (side_places program policy raw side is of)) listed) in
       site_any side.sites k i site get place
 
   side_only : (k : ℕ) → has_site k side ≡ true → is_site_of side.sort program k ≡ true
   side_only k here =
-      let listed = subst (λ (xs : List ℕ). Contains xs k) (side_places program lines raw side is of) (any_place side.sites k here) in
+      let listed = subst (λ (xs : List ℕ). Contains xs k) (side_places program policy raw side is of) (any_place side.sites k here) in
       All-contains (λ (n : ℕ). is_site_of side.sort program n ≡ true) (where_below (is_site_of side.sort program) (count program)) k
       (below_all (λ (n : ℕ). is_site_of side.sort program n ≡ true) (is_site_of side.sort program) (count program) (λ n below holds. holds)) listed
 
@@ -113,7 +113,7 @@ sort_for version kind = by (version == 2) kind
     by true kinds.Jump = (Jumps, refl, refl)
 
 -- of sides that are all closed
-module _ (program : Program) (lines : List PolicyLine) (raw : RawGraph) (is : IsRaw program lines raw) (version : ℕ) (sides : List Side)
+module _ (program : Program) (policy : PolicyParts) (raw : RawGraph) (is : IsRaw program policy raw) (version : ℕ) (sides : List Side)
     (sorts : map (λ (s : Side). s.sort) sides ≡ sorts_of version) (all : All (IsSide raw) sides) where
   pub side_at : (j : ℕ) (side : Side) → slice_get sides j ≡ Some side → IsSide raw side
   side_at j side there = subst (IsSide raw) (get_or_from_slice_get sides j side side there) (all j side (slice_get_within sides j side there))
@@ -131,7 +131,7 @@ module _ (program : Program) (lines : List PolicyLine) (raw : RawGraph) (is : Is
         side = side;
         there = there;
         sort = of;
-        site = side_has program lines raw side is (side_at index side there) k kind below some of;
+        site = side_has program policy raw side is (side_at index side there) k kind below some of;
         alone = λ i other get has. no_other version kind i other.sort (sort_get version sides sorts i other get)
-            (side_kind program lines raw other is (side_at i other get) k kind has some);
+            (side_kind program policy raw other is (side_at i other get) k kind has some);
       }

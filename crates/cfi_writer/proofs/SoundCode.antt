@@ -29,18 +29,19 @@ use Rattle.cfi_unit.specs.declared.target_word.TargetWord.{TargetWord}
 use Rattle.cfi_unit.specs.declared.target_word.TargetWord.TheVariants.{First, Second}
 use Rattle.cfi_unit.specs.UnitWords.{Reaches, past}
 use Rattle.cfi_rules.specs.Lines.{class_with, is_among, is_word_of, read_of, targets_for}
-use Rattle.cfi_rules.specs.Rules.{is_of_version, jump_word, site_of}
+use Rattle.cfi_rules.specs.Rules.{admits, jump_word, site_of}
 use Rattle.cfi_rules.specs.Sound.{Bears, IsSound, StartsIn, target_of}
 use Rattle.cfi_rules.specs.Split.{unit_in}
 use Rattle.cfi_rules.specs.declared.asks.Asks.{Asks}
 use Rattle.cfi_writer.specs.Accepted.{IsAccepted}
-use Rattle.cfi_writer.specs.Laws.{WrittenIsSound, written_classes}
+use Rattle.cfi_writer.specs.Laws.{WrittenIsSound, written_classes, written_heads}
 use Rattle.cfi_writer.specs.SideLaws.{AreLabelled, word_read}
 use Rattle.cfi_map.specs.Groups.{aims_at, is_direct_target, is_store}
 use Rattle.cfi_writer.specs.Units.{Choice, Group, entered_at, entry_gate, group_at, instr_of, is_later_at, lead, lead_unit, unit_here, unit_of, unit_places, units, units_of}
 use Rattle.cfi_writer.proofs.CodeRoom.{target_entered}
 use Rattle.cfi_writer.proofs.Grouping.{entered_first, other_first}
-use Rattle.cfi_writer.proofs.ClassLines.{all_classes_lines, targets_of}
+use Rattle.cfi_writer.proofs.ClassLines.{targets_of}
+use Rattle.cfi_writer.proofs.HeadLines.{heads_all, heads_class, heads_serve, heads_told, heads_with}
 use Rattle.cfi_writer.proofs.Fitting.{IsInCode, reach}
 use Rattle.cfi_writer.proofs.InstrAt.{gate_number}
 use Rattle.cfi_writer.proofs.Labelled.{used_in}
@@ -48,7 +49,7 @@ use Rattle.cfi_writer.proofs.Leading.{direct, units_ahead, units_fit}
 use Rattle.cfi_writer.proofs.Runs.{IsUnit, from_lead, lead_word, own, places_more, places_skip, to_lead}
 use Rattle.cfi_writer.proofs.SideLabels.{any_get, gates_listed, in_classes, in_side, is_in, sites_served, targets_bear}
 use Rattle.cfi_writer.proofs.Standing.{found, gate_lies, instr_is, laid, lead_there, right, starts}
-use Rattle.cfi_writer.proofs.UnitOf.{unit_admitted, unit_gate, unit_site, unit_target}
+use Rattle.cfi_writer.proofs.UnitOf.{is_free, unit_admitted, unit_gate, unit_site, unit_target}
 
 -- the last unit is that of the last place
 last_led : (vs : List U.Unit) (o : Option U.Unit) (u : U.Unit) (us : List U.Unit) → last_or o (vs ++ (u ∷ us)) ≡ last_or (Some u) us
@@ -96,9 +97,9 @@ target_is_entered m k t below some =
     (or_left (is_direct_target m.layout.program t) _
     (aimed m.layout.program.items k t (item_of m.layout.program k) (slice_get-get_or m.layout.program.items k no_item below) some))
 
-end_stops : (kind : ItemKind) (i : Instr) (whole : Bool) (target : ℕ) (which : TargetWord) (label : ℕ) (group : Group) → is_end kind ≡ true → unit_of kind i whole target which label group ≡ V.Stop
-end_stops is.End i whole target which label group last = refl
-end_stops other i whole target which label group last = absurd (cc)
+end_stops : (calls : Option (List ℕ)) (kind : ItemKind) (i : Instr) (whole : Bool) (target : ℕ) (which : TargetWord) (label : ℕ) (group : Group) → is_end kind ≡ true → unit_of calls kind i whole target which label group ≡ V.Stop
+end_stops calls is.End i whole target which label group last = refl
+end_stops calls other i whole target which label group last = absurd (cc)
 
 gate_is : (kind : ItemKind) → kind ≡ is.Gate → is_gate kind ≡ true
 gate_is kind e = ap is_gate e
@@ -115,9 +116,9 @@ lead_asks : (o : Option ℕ) → is_some (site_of (body (lead_unit o))) ≡ fals
 lead_asks None = refl
 lead_asks (Some label) = refl
 
-lead_admitted : (version : ℕ) (o : Option ℕ) → is_of_version version (lead_unit o) ≡ true
-lead_admitted version None = refl
-lead_admitted version (Some label) = refl
+lead_admitted : (version : ℕ) (calls : Option (List ℕ)) (o : Option ℕ) → admits version calls (lead_unit o) ≡ true
+lead_admitted version calls None = is_free calls version (lead_unit None) refl (λ numbers. refl) refl
+lead_admitted version calls (Some label) = is_free calls version (lead_unit (Some label)) refl (λ numbers. refl) refl
 
 gate_of : U.Unit → Option ℕ
 gate_of (V.Gate label) = Some label
@@ -165,7 +166,7 @@ module _ (m : Choice) (ok : IsAccepted m) where
       absurd (cc)
   leads k a target u below (own here unit_is) e =
       let of : target_of (unit_here m k) ≡ Some target = sym (ap target_of unit_is) ∙ e in
-      let aim = unit_target (item_of m.layout.program k).kind (instr_of m k) (whole_at m.whole k) (gate_to m.layout (item_of m.layout.program k).target)
+      let aim = unit_target m.layout.closed.calls (item_of m.layout.program k).kind (instr_of m k) (whole_at m.whole k) (gate_to m.layout (item_of m.layout.program k).target)
       (jump_word m.layout.closed.version) (site_label m.labels m.layout.closed.sides k) (group_at m k) target (right m ok k below) of in
       let (t, some, there) = direct m ok k below aim.0 in
       let same : gate m.layout t ≡ target = ap (gate_to m.layout) (sym some) ∙ aim.1 in
@@ -187,7 +188,7 @@ module _ (m : Choice) (ok : IsAccepted m) where
       absurd (cc)
   site_served k a u asked below (own here unit_is) e =
       let of : site_of (body (unit_here m k)) ≡ Some asked = sym (ap (λ (v : U.Unit). site_of (body v)) unit_is) ∙ e in
-      let (kind, site, same) = unit_site (item_of m.layout.program k).kind (instr_of m k) (whole_at m.whole k) (gate_to m.layout (item_of m.layout.program k).target)
+      let (kind, site, same) = unit_site m.layout.closed.calls (item_of m.layout.program k).kind (instr_of m k) (whole_at m.whole k) (gate_to m.layout (item_of m.layout.program k).target)
       (jump_word m.layout.closed.version) (site_label m.labels m.layout.closed.sides k) (group_at m k) asked (right m ok k below) of in
       subst (λ (s : Asks). is_some (targets_for (written_classes m) s.kind s.which s.label) ≡ true) same (site_given k kind below site)
 
@@ -231,7 +232,7 @@ module _ (m : Choice) (ok : IsAccepted m) where
   no_own : (k label : ℕ) (line : ClassLine) → k < count m.layout.program → unit_here m k ≡ V.Gate label →
       class_with (written_classes m) label ≡ Some line → ⊥
   no_own k label line below e asked =
-      let (kind, (op, rd, instr)) = unit_gate (item_of m.layout.program k).kind (instr_of m k) (whole_at m.whole k) (gate_to m.layout (item_of m.layout.program k).target)
+      let (kind, (op, rd, instr)) = unit_gate m.layout.closed.calls (item_of m.layout.program k).kind (instr_of m k) (whole_at m.whole k) (gate_to m.layout (item_of m.layout.program k).target)
       (jump_word m.layout.closed.version) (site_label m.labels m.layout.closed.sides k) (group_at m k) label (right m ok k below) e in
       let some = no_end (item_of m.layout.program k).kind kind in
       let read = subst (λ (x : ItemKind). is_of x (item_of m.layout.program k).patch (decoded (item_of m.layout.program k).word) ≡ true) kind (read_there m.layout.program k ok.sound below some) in
@@ -251,14 +252,14 @@ module _ (m : Choice) (ok : IsAccepted m) where
       ap (λ (b : ℕ). is_word_of (read_of line.sort) b line.targets) here ∙ astray_gate k j label line (at ∙ ap Some (lead_label o label same)) asked
   strays k label a line below (own here unit_is) asked = absurd (no_own k label line below (sym unit_is) asked)
 
-  -- each unit is of the graph's version
-  admitted : (k a : ℕ) (u : U.Unit) → k < count m.layout.program → IsUnit m k a u → IsTrue (is_of_version m.layout.closed.version u)
+  -- each unit is admitted in the graph
+  admitted : (k a : ℕ) (u : U.Unit) → k < count m.layout.program → IsUnit m k a u → IsTrue (admits m.layout.closed.version m.layout.closed.calls u)
   admitted k a u below (lead_word j get here) =
       let (o, at, same) = from_lead m k j u get in
-      subst (λ (v : U.Unit). is_of_version m.layout.closed.version v ≡ true) same (lead_admitted m.layout.closed.version o)
+      subst (λ (v : U.Unit). admits m.layout.closed.version m.layout.closed.calls v ≡ true) same (lead_admitted m.layout.closed.version m.layout.closed.calls o)
   admitted k a u below (own here unit_is) =
-      subst (λ (v : U.Unit). is_of_version m.layout.closed.version v ≡ true) (sym unit_is)
-      (unit_admitted m.layout.closed.version (item_of m.layout.program k).kind (instr_of m k) (whole_at m.whole k) (gate_to m.layout (item_of m.layout.program k).target)
+      subst (λ (v : U.Unit). admits m.layout.closed.version m.layout.closed.calls v ≡ true) (sym unit_is)
+      (unit_admitted m.layout.closed.version m.layout.closed.calls (item_of m.layout.program k).kind (instr_of m k) (whole_at m.whole k) (gate_to m.layout (item_of m.layout.program k).target)
       (site_label m.labels m.layout.closed.sides k) (group_at m k) (right m ok k below))
 
   -- the last unit is a stop
@@ -272,21 +273,27 @@ module _ (m : Choice) (ok : IsAccepted m) where
       ap (λ (c : ℕ). last_or None (units_of m (unit_places m 0 c))) many
       ∙ last_unit m 0 n None (subst (λ (j : ℕ). is_later_at m j ≡ false) (sym start) first)
       ∙ ap (λ (k : ℕ). Some (unit_here m k)) start
-      ∙ ap Some (end_stops (item_of m.layout.program n).kind (instr_of m n) (whole_at m.whole n) (gate_to m.layout (item_of m.layout.program n).target)
+      ∙ ap Some (end_stops m.layout.closed.calls (item_of m.layout.program n).kind (instr_of m n) (whole_at m.whole n) (gate_to m.layout (item_of m.layout.program n).target)
       (jump_word m.layout.closed.version) (site_label m.labels m.layout.closed.sides n) (group_at m n) ends)
 
-  sound_code : IsSound m.layout.profile m.layout.closed.version (entry_gate m) (units m) (written_classes m)
+  sound_code : IsSound m.layout.profile m.layout.closed.version (entry_gate m) (units m) (written_heads m)
   sound_code = record {
     fit = units_fit m ok;
     ahead = units_ahead m ok;
-    of_version = λ a u e. let at = found m ok a u e in admitted at.index a u at.below at.unit;
+    admitted = λ a u e.
+        let at = found m ok a u e in
+        subst (λ (calls : Option (List ℕ)). admits m.layout.closed.version calls u ≡ true) (sym (heads_told m)) (admitted at.index a u at.below at.unit);
     entry_reached = entry_reached;
     entry_starts = starts m ok m.layout.entry ok.entry_there (entered_first m ok.groups m.layout.entry (entry_entered m));
     targets = λ a target u e leads_to. let at = found m ok a u e in leads at.index a target u at.below at.unit leads_to;
-    classes_are = all_classes_lines m.layout.gates m.labels (tagged m.layout.closed.sides);
-    labels = λ a u asked e wants. let at = found m ok a u e in site_served at.index a u asked at.below at.unit wants;
-    gates = gated;
-    astray = λ label a line e asked. let at = found m ok a (V.Gate label) e in strays at.index label a line at.below at.unit asked;
+    heads_are = heads_all m;
+    labels = λ a u asked e wants.
+        let at = found m ok a u e in
+        ap is_some (heads_serve m asked.kind asked.which asked.label) ∙ site_served at.index a u asked at.below at.unit wants;
+    gates = λ j a class e among. let (i, is) = heads_class m j class e in gated i a class is among;
+    astray = λ label a line e asked.
+        let at = found m ok a (V.Gate label) e in
+        strays at.index label a line at.below at.unit (sym (heads_with m label) ∙ asked);
     ends = last_stops;
   }
 

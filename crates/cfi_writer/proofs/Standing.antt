@@ -18,7 +18,7 @@ use Rattle.obj_program.specs.Suits.{names_reserved, suits}
 use Rattle.obj_program.proofs.Kept.{kept}
 use Rattle.cfi_map.specs.GraphAtMap.{gate, word, words_at}
 use Rattle.cfi_map.specs.Groups.{is_store}
-use Rattle.cfi_map.specs.Placement.{lead_size, size_of, whole_at}
+use Rattle.cfi_map.specs.Placement.{is_ecall, kind_size, lead_size, size_of, whole_at}
 use Rattle.cfi_map.specs.Sizes.{part_sizes}
 use Rattle.cfi_map.proofs.PartSizes.{unit_many}
 use Rattle.cfi_unit.specs.declared.unit.Unit as U
@@ -59,9 +59,9 @@ pub record Behind (m : Choice) (k : ℕ) : Type 0 where
   pub store : is_store (item_of m.layout.program first).kind ≡ true
   pub is_first : is_later_at m first ≡ false
 
-first_size : (kind : ItemKind) (whole : Bool) → is_store kind ≡ true → whole ≡ true → size_of kind whole ≡ 16
-first_size is.Store whole store is_whole = rw is_whole refl
-first_size other whole store is_whole = absurd (cc)
+first_size : (calls : Option (List ℕ)) (kind : ItemKind) (ecall whole : Bool) → is_store kind ≡ true → whole ≡ true → kind_size calls kind ecall whole ≡ 16
+first_size calls is.Store ecall whole store is_whole = rw is_whole refl
+first_size calls other ecall whole store is_whole = absurd (cc)
 
 module _ (m : Choice) (ok : IsAccepted m) where
   -- where the parts of its image stand
@@ -91,12 +91,12 @@ module _ (m : Choice) (ok : IsAccepted m) where
       ]
 
   pub the_run : Run m m.layout.profile.units_from (unit_places m 0 (count m.layout.program))
-      (m.layout.profile.units_from + sum (part_sizes m.layout.closed.sides m.whole 0 m.layout.program.items))
+      (m.layout.profile.units_from + sum (part_sizes m.layout.closed.calls m.layout.closed.sides m.whole 0 m.layout.program.items))
   the_run = whole_run m ok.sound ok.values ok.groups m.layout.gates refl ok.legal
 
   -- how the code ends
   whole_bytes : m.layout.profile.units_from + 4 * length (code_from m.layout.profile.units_from (units m))
-      ≡ m.layout.profile.units_from + sum (part_sizes m.layout.closed.sides m.whole 0 m.layout.program.items)
+      ≡ m.layout.profile.units_from + sum (part_sizes m.layout.closed.calls m.layout.closed.sides m.whole 0 m.layout.program.items)
   whole_bytes = run_bytes m m.layout.profile.units_from _ (unit_places m 0 (count m.layout.program)) the_run
 
   pub unit_there : (k : ℕ) → k < count m.layout.program → is_later_at m k ≡ false →
@@ -166,7 +166,7 @@ module _ (m : Choice) (ok : IsAccepted m) where
 
   pub gate_lies : (k : ℕ) → k < count m.layout.program → (m.layout.profile.units_from ≤ gate m.layout k) × (gate m.layout k + 4 ≤ CODE_START + CODE_SIZE) × (gate m.layout k % 4 ≡ 0)
   gate_lies k below =
-      let at = within m.layout.closed.sides m.whole 0 m.layout.profile.units_from m.layout.program.items m.layout.gates ok.legal k below in
+      let at = within m.layout.closed.calls m.layout.closed.sides m.whole 0 m.layout.profile.units_from m.layout.program.items m.layout.gates ok.legal k below in
       let low = at.low in
       let high = at.high in
       let all = whole_bytes in
@@ -176,18 +176,18 @@ module _ (m : Choice) (ok : IsAccepted m) where
 
   -- the next gate stands behind the size of a place
   pub next_gate : (k : ℕ) → k + 1 < count m.layout.program →
-      gate m.layout (k + 1) ≡ word m.layout k + size_of (item_of m.layout.program k).kind (whole_at m.whole k)
+      gate m.layout (k + 1) ≡ word m.layout k + size_of m.layout.closed.calls (item_of m.layout.program k) (whole_at m.whole k)
   next_gate k below =
       let next : suc k ≡ k + 1 = omega arith in
       let start : 0 + k ≡ k = omega arith in
       ap (gate m.layout) (sym next)
-      ∙ next_from m.layout.closed.sides m.whole 0 m.layout.profile.units_from m.layout.program.items m.layout.gates ok.legal k (omega arith)
-      ∙ ap (λ (n : ℕ). gate m.layout k + lead_size m.layout.closed.sides n + size_of (item_of m.layout.program k).kind (whole_at m.whole n)) start
+      ∙ next_from m.layout.closed.calls m.layout.closed.sides m.whole 0 m.layout.profile.units_from m.layout.program.items m.layout.gates ok.legal k (omega arith)
+      ∙ ap (λ (n : ℕ). gate m.layout k + lead_size m.layout.closed.sides n + size_of m.layout.closed.calls (item_of m.layout.program k) (whole_at m.whole n)) start
 
   step_up : (k : ℕ) → k + 1 < count m.layout.program → gate m.layout k < gate m.layout (k + 1)
   step_up k below =
       let next = next_gate k below in
-      let some = unit_many (item_of m.layout.program k).kind (whole_at m.whole k) in
+      let some = unit_many m.layout.closed.calls (item_of m.layout.program k) (whole_at m.whole k) in
       omega arith
 
   pub gates_rise : (i j : ℕ) → i < j → j < count m.layout.program → gate m.layout i < gate m.layout j
@@ -211,7 +211,7 @@ module _ (m : Choice) (ok : IsAccepted m) where
       let start : k + (0 + 1) ≡ k + 1 = omega arith in
       let next = next_gate k (omega arith) in
       let whole = whole_first m k store first in
-      let size : size_of (item_of m.layout.program k).kind (whole_at m.whole k) ≡ 16 = first_size (item_of m.layout.program k).kind (whole_at m.whole k) store whole in
+      let size : size_of m.layout.closed.calls (item_of m.layout.program k) (whole_at m.whole k) ≡ 16 = first_size m.layout.closed.calls (item_of m.layout.program k).kind (is_ecall (item_of m.layout.program k)) (whole_at m.whole k) store whole in
       ap (gate m.layout) start ∙ omega arith
   group_gate k (suc i) store first few below =
       let before = group_gate k i store first (omega arith) (omega arith) in
@@ -230,7 +230,7 @@ module _ (m : Choice) (ok : IsAccepted m) where
       elim (cases_Bool (is_store (item_of m.layout.program k).kind)) [
         | inl store ↦
             let last = group_gate k (behind m k) store first (omega arith) below in
-            let whole = first_size (item_of m.layout.program k).kind (whole_at m.whole k) store (whole_first m k store first) in
+            let whole = first_size m.layout.closed.calls (item_of m.layout.program k).kind (is_ecall (item_of m.layout.program k)) (whole_at m.whole k) store (whole_first m k store first) in
             omega arith
         | inr other ↦
             let none = none_behind m ok.groups k other in

@@ -30,10 +30,11 @@ use Rattle.cfi_rules.proofs.PlacedGraph.{placed_is_graph}
 use Rattle.cfi_unit.proofs.Counts.{some_word}
 use Rattle.cfi_rules.proofs.UnitIn.{length-placed_code, lies}
 use Rattle.cfi_writer.specs.Accepted.{IsAccepted}
-use Rattle.cfi_writer.specs.Laws.{WrittenEntry, WrittenIsGraph, WrittenIsWellFormed, WrittenLines, WrittenUnits, written_classes, written_code}
+use Rattle.cfi_writer.specs.Laws.{WrittenEntry, WrittenIsGraph, WrittenIsWellFormed, WrittenLines, WrittenUnits, written_classes, written_code, written_heads}
 use Rattle.cfi_writer.specs.Units.{Choice, entry_gate, group_at, instr_of, is_later_at, lead, lead_unit, unit_here, unit_places, units, units_of}
 use Rattle.cfi_writer.proofs.Grouping.{later_below, later_store}
 use Rattle.cfi_writer.proofs.ClassLines.{lines_of_version, lines_order, lines_range, lines_targets}
+use Rattle.cfi_writer.proofs.HeadLines.{heads_graph}
 use Rattle.cfi_writer.proofs.Leading.{label_small, units_ahead, units_fit}
 use Rattle.cfi_writer.proofs.Runs.{Run, lead_bytes, place_there, places_more, places_skip}
 use Rattle.cfi_writer.proofs.SideLabels.{in_classes, in_side, sort_fits, sort_get}
@@ -83,7 +84,7 @@ run_lines m at last [] run right = refl
 run_lines m at last (k ∷ places) run right =
     let line : line_of (at + lead_bytes m k) (unit_here m k) ≡ line_for m.layout m.labels k (item_of m.layout.program k) =
     ap (λ a. line_of a (unit_here m k)) (sym run.1)
-    ∙ unit_line (item_of m.layout.program k).kind (instr_of m k) (whole_at m.whole k) (word m.layout k) (gate_to m.layout (item_of m.layout.program k).target)
+    ∙ unit_line m.layout.closed.calls (item_of m.layout.program k).kind (instr_of m k) (whole_at m.whole k) (word m.layout k) (gate_to m.layout (item_of m.layout.program k).target)
     (jump_word m.layout.closed.version) (site_label m.labels m.layout.closed.sides k) (group_at m k) (right 0 k refl) in
     let rest = run_lines m (at + lead_bytes m k + 4 * word_count (unit_here m k)) last places run.2 (λ i j get. right (suc i) j get) in
     lines_behind m k at (unit_here m k ∷ units_of m places) ∙ rw (line, rest) refl
@@ -127,9 +128,9 @@ module _ (m : Choice) (ok : IsAccepted m) where
       run_lines m m.layout.profile.units_from _ (unit_places m 0 (count m.layout.program)) (the_run m ok) right_there
       ∙ sym (all_listed m 0 m.layout.program.items (λ i less. ap (item_of m.layout.program) (zero_more i)))
 
-  pub lines_are : graph_lines m.layout m.labels ≡ written_classes m ++ (Call START (entry_gate m) ∷ lines_from m.layout.profile.units_from (units m))
+  pub lines_are : graph_lines m.layout m.labels ≡ written_heads m ++ (Call START (entry_gate m) ∷ lines_from m.layout.profile.units_from (units m))
   lines_are =
-      ap (λ (lines : List GraphLine). written_classes m ++ (Call START (entry_gate m) ∷ lines))
+      ap (λ (lines : List GraphLine). written_heads m ++ (Call START (entry_gate m) ∷ lines))
       (sym all_lines)
 
   abbrev size : ℕ
@@ -199,7 +200,7 @@ module _ (m : Choice) (ok : IsAccepted m) where
   graph_is : IsGraph (record { version = m.layout.closed.version; code = size; lines = graph_lines m.layout m.labels })
   graph_is =
       subst (λ (lines : List GraphLine). IsGraph (record { version = m.layout.closed.version; code = size; lines = lines })) (sym lines_are)
-      (placed_is_graph m.layout.profile m.layout.closed.version (entry_gate m) (units m) (written_classes m) ok.profile (written_sound m ok) class_graph)
+      (placed_is_graph m.layout.profile m.layout.closed.version (entry_gate m) (units m) (written_heads m) ok.profile (written_sound m ok) (heads_graph m size ok.calls class_graph))
 
   units_at : (a : ℕ) → unit_at m.layout.profile (written_code m) a ≡ unit_in (units m) m.layout.profile.units_from a
   units_at = placed_units m.layout.profile (entry_gate m) (units m) ok.profile (units_fit m ok) (units_ahead m ok)
@@ -212,8 +213,8 @@ written_graph = graph_is
 
 pub written_well_formed : WrittenIsWellFormed
 written_well_formed m image graph ok words version lines same_length =
-    placed_well_formed m.layout.profile (entry_gate m) (units m) (written_classes m) image graph ok.profile
-    (subst (λ (v : ℕ). IsSound m.layout.profile v (entry_gate m) (units m) (written_classes m)) (sym version) (written_sound m ok)) words (lines ∙ lines_are m ok) same_length
+    placed_well_formed m.layout.profile (entry_gate m) (units m) (written_heads m) image graph ok.profile
+    (subst (λ (v : ℕ). IsSound m.layout.profile v (entry_gate m) (units m) (written_heads m)) (sym version) (written_sound m ok)) words (lines ∙ lines_are m ok) same_length
 
 pub written_units : WrittenUnits
 written_units m ok = record {

@@ -31,7 +31,7 @@ row_items = record {
     funcs = [];
     names = [];
   };
-  closed = record { version = 1; sides = record { sort = Both; classes = []; sites = [] } ∷ []; taken = false ∷ false ∷ [] };
+  closed = record { version = 1; sides = record { sort = Both; classes = []; sites = [] } ∷ []; taken = false ∷ false ∷ []; calls = None };
   gates = 0x40000040 ∷ 0x40000054 ∷ [];
   entry = 0;
 }

@@ -45,7 +45,7 @@ abbrev pub layout : Profile → Program → List ℕ → ProgramAtMap
 layout profile program gates = record {
   profile = profile;
   program = program;
-  closed = record { version = 1; sides = record { sort = Both; classes = []; sites = [] } ∷ []; taken = false ∷ false ∷ false ∷ false ∷ [] };
+  closed = record { version = 1; sides = record { sort = Both; classes = []; sites = [] } ∷ []; taken = false ∷ false ∷ false ∷ false ∷ []; calls = None };
   gates = gates;
   entry = 0;
 }
@@ -151,7 +151,7 @@ pointer = record {
       funcs = [];
       names = [];
     };
-    closed = record { version = 1; sides = record { sort = Both; classes = (8 ∷ 10 ∷ []) ∷ []; sites = record { place = 4; class = Some 0 } ∷ [] } ∷ []; taken = [] };
+    closed = record { version = 1; sides = record { sort = Both; classes = (8 ∷ 10 ∷ []) ∷ []; sites = record { place = 4; class = Some 0 } ∷ [] } ∷ []; taken = []; calls = None };
     gates = 0x40000040 ∷ 0x40000044 ∷ 0x40000054 ∷ 0x40000058 ∷ 0x4000005c ∷ 0x400000ac ∷ 0x400000b0 ∷ 0x400000b4 ∷ 0x400000c8 ∷ 0x400000d0 ∷ 0x400000e4 ∷ 0x400000ec ∷ 0x40000100 ∷ [];
     entry = 0;
   };
@@ -159,7 +159,7 @@ pointer = record {
   labels = 1 ∷ [];
 }
 
-pointer_gates : AreGates pointer.layout.closed.sides [] 0 UNITS_START pointer.layout.program.items pointer.layout.gates
+pointer_gates : AreGates pointer.layout.closed.calls pointer.layout.closed.sides [] 0 UNITS_START pointer.layout.program.items pointer.layout.gates
 unfolding AreGates
 pointer_gates = (refl, (refl, (refl, (refl, (refl, (refl, (refl, (refl, (refl, (refl, (refl, (refl, (refl, tt)))))))))))))
 
@@ -195,6 +195,7 @@ jumping = record {
         ∷ record { sort = Jumps; classes = (3 ∷ 5 ∷ []) ∷ []; sites = record { place = 2; class = Some 0 } ∷ [] }
         ∷ [];
     taken = [];
+    calls = None;
   };
   gates = 0x40000040 ∷ 0x40000044 ∷ 0x40000048 ∷ 0x4000007c ∷ 0x40000088 ∷ 0x4000009c ∷ 0x400000a8 ∷ 0x400000bc ∷ 0x4000010c ∷ 0x40000120 ∷ [];
   entry = 0;
@@ -203,7 +204,7 @@ jumping = record {
 abbrev both_ways : Choice
 both_ways = record { layout = jumping; whole = []; labels = 1 ∷ 2 ∷ [] }
 
-both_ways_gates : AreGates jumping.closed.sides [] 0 UNITS_START jumping.program.items jumping.gates
+both_ways_gates : AreGates jumping.closed.calls jumping.closed.sides [] 0 UNITS_START jumping.program.items jumping.gates
 unfolding AreGates jumping
 both_ways_gates = (refl, (refl, (refl, (refl, (refl, (refl, (refl, (refl, (refl, (refl, tt))))))))))
 

@@ -10,6 +10,7 @@ use Rattle.obj_program.specs.Program.{count, is_end, item_of}
 use Rattle.obj_program.specs.Sound.{IsSound}
 use Rattle.cfi_class.specs.Labels.{AreLabels}
 use Rattle.cfi_class.specs.Classes.{IsIn}
+use Rattle.cfi_graph.specs.Calls.{may_be_calls}
 use Rattle.cfi_graph.specs.declared.line.SiteKind.{SiteKind}
 use Rattle.cfi_closed.specs.declared.side.Site.{Site}
 use Rattle.cfi_closed.specs.Closed.{Side, has_site, is_of, sorts_of}
@@ -42,12 +43,14 @@ pub record IsAccepted (m : Choice) : Type 0 where
   pub last : (k : ℕ) × (count m.layout.program ≡ k + 1) × (is_end (item_of m.layout.program k).kind ≡ true)
   pub entry_there : m.layout.entry < count m.layout.program
   -- its gates are a placement's, its code has room, and each instruction has its values
-  pub legal : AreGates m.layout.closed.sides m.whole 0 m.layout.profile.units_from m.layout.program.items m.layout.gates
+  pub legal : AreGates m.layout.closed.calls m.layout.closed.sides m.whole 0 m.layout.profile.units_from m.layout.program.items m.layout.gates
   -- its later stores may be that
   pub groups : AreGroups (item_of m.layout.program) (entered_at m) (whole_at m.whole)
   pub room : 4 * length (placed_code m.layout.profile (entry_gate m) (units m)) ≤ CODE_SIZE
   pub values : (k : ℕ) → k < count m.layout.program → is_end (item_of m.layout.program k).kind ≡ false →
       is_some (instr_at m.layout.program m.layout.gates (words_at m.layout) k) ≡ true
+  -- a list of system calls is one that a graph may have
+  pub calls : may_be_calls m.layout.closed.calls ≡ true
   -- its closed graph is for a version of graphs, and has the sides of that; of each the members of classes are places, rise, and are in one class alone, and
   -- the classes of sites are there; each computed transfer is a site of one side, of its sort
   pub version : IsVersion m.layout.closed.version

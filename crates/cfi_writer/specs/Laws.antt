@@ -4,7 +4,7 @@ use Rattle.rv_word.specs.Image.{Contents}
 use Rattle.obj_program.specs.Program.{count}
 use Rattle.cfi_graph.specs.Graph.{GraphParts, IsGraph}
 use Rattle.cfi_graph.specs.declared.line.GraphLine.{GraphLine}
-use Rattle.cfi_map.specs.GraphAtMap.{class_lines, gate, graph_lines, word}
+use Rattle.cfi_map.specs.GraphAtMap.{class_lines, gate, graph_lines, head_lines, word}
 use Rattle.cfi_map.specs.LabelOf.{tagged}
 use Rattle.cfi_unit.specs.declared.unit.Unit as U
 use Rattle.cfi_rules.specs.Placed.{placed_code, placed_lines}
@@ -14,21 +14,24 @@ use Rattle.cfi_rules.specs.Split.{code_words, entry_of, unit_at}
 use Rattle.cfi_writer.specs.Accepted.{IsAccepted}
 use Rattle.cfi_writer.specs.Units.{Choice, behind, entry_gate, is_later_at, lead, unit_here, units}
 
--- the words of the whole code, and the lines of its classes
+-- the words of the whole code, and the lines of its classes, before which stands that of its system calls
 abbrev pub written_code : Choice → List ℕ
 written_code m = placed_code m.layout.profile (entry_gate m) (units m)
 
 abbrev pub written_classes : Choice → List GraphLine
 written_classes m = class_lines m.layout.gates m.labels (tagged m.layout.closed.sides)
 
--- units and classes are sound
-abbrev pub WrittenIsSound : Type 0
-WrittenIsSound = (m : Choice) → IsAccepted m → IsSound m.layout.profile m.layout.closed.version (entry_gate m) (units m) (written_classes m)
+abbrev pub written_heads : Choice → List GraphLine
+written_heads m = head_lines m.layout m.labels
 
--- the lines of the graph at the map are those of the units with those of the classes
+-- units are sound with these lines
+abbrev pub WrittenIsSound : Type 0
+WrittenIsSound = (m : Choice) → IsAccepted m → IsSound m.layout.profile m.layout.closed.version (entry_gate m) (units m) (written_heads m)
+
+-- the lines of the graph at the map are those of the units behind these
 abbrev pub WrittenLines : Type 0
 WrittenLines =
-    (m : Choice) → IsAccepted m → graph_lines m.layout m.labels ≡ placed_lines m.layout.profile (entry_gate m) (units m) (written_classes m)
+    (m : Choice) → IsAccepted m → graph_lines m.layout m.labels ≡ placed_lines m.layout.profile (entry_gate m) (units m) (written_heads m)
 
 -- they are a graph's, of a code of this length
 abbrev pub WrittenIsGraph : Type 0

@@ -98,26 +98,31 @@ low_at m k = lowest (λ (j : ℕ). level (offset_at m j)) k (behind m k)
 abbrev pub group_at : Choice → ℕ → Group
 group_at m k = record { mask = field (low_at m k); members = members_from (member_at m (low_at m k)) k (suc (behind m k)) }
 
--- the unit of an instruction of a kind, with its target's gate, and, of a computed transfer, its class's label and the word that a jump's
--- check reads; of a store, the unit of its group
-abbrev pub unit_of : ItemKind → Instr → Bool → ℕ → TargetWord → ℕ → Group → U.Unit
-unit_of is.Gate (I.Upper op rd imm) whole target which label group = V.Gate imm
-unit_of is.Plain instr whole target which label group = V.Plain instr
-unit_of is.Store (I.Store op rs1 rs2 imm) whole target which label group = V.Stores rs1 group.mask group.members
-unit_of is.System I.Ecall whole target which label group = V.System S.Ecall
-unit_of is.System I.Ebreak whole target which label group = V.System S.Ebreak
-unit_of is.Branch (I.Branch op rs1 rs2 imm) whole target which label group = branch_of whole op rs1 rs2 target
-unit_of is.Jump instr whole target which label group = V.Jump target
-unit_of is.Call instr whole target which label group = V.Call target
-unit_of is.Return instr whole target which label group = V.Return
-unit_of is.Ijump (I.Jalr rd rs1 imm) whole target which label group = V.Ijump which rs1 imm label
-unit_of is.Icall (I.Jalr rd rs1 imm) whole target which label group = V.Icall rs1 imm label
-unit_of kind instr whole target which label group = V.Stop
+-- the unit of an `ecall`: under a list of system calls its number is tested
+abbrev pub call_unit : Option (List ℕ) → U.Unit
+call_unit None = V.System S.Ecall
+call_unit (Some calls) = V.Guarded calls
+
+-- the unit of an instruction of a kind under a list of system calls or none, with its target's gate, and, of a computed transfer, its
+-- class's label and the word that a jump's check reads; of a store, the unit of its group
+abbrev pub unit_of : Option (List ℕ) → ItemKind → Instr → Bool → ℕ → TargetWord → ℕ → Group → U.Unit
+unit_of calls is.Gate (I.Upper op rd imm) whole target which label group = V.Gate imm
+unit_of calls is.Plain instr whole target which label group = V.Plain instr
+unit_of calls is.Store (I.Store op rs1 rs2 imm) whole target which label group = V.Stores rs1 group.mask group.members
+unit_of calls is.System I.Ecall whole target which label group = call_unit calls
+unit_of calls is.System I.Ebreak whole target which label group = V.System S.Ebreak
+unit_of calls is.Branch (I.Branch op rs1 rs2 imm) whole target which label group = branch_of whole op rs1 rs2 target
+unit_of calls is.Jump instr whole target which label group = V.Jump target
+unit_of calls is.Call instr whole target which label group = V.Call target
+unit_of calls is.Return instr whole target which label group = V.Return
+unit_of calls is.Ijump (I.Jalr rd rs1 imm) whole target which label group = V.Ijump which rs1 imm label
+unit_of calls is.Icall (I.Jalr rd rs1 imm) whole target which label group = V.Icall rs1 imm label
+unit_of calls kind instr whole target which label group = V.Stop
 
 -- the unit of a place
 abbrev pub unit_for : Choice → ℕ → Item → U.Unit
 unit_for m k item =
-    unit_of item.kind (instr_of m k) (whole_at m.whole k) (gate_to m.layout item.target) (jump_word m.layout.closed.version)
+    unit_of m.layout.closed.calls item.kind (instr_of m k) (whole_at m.whole k) (gate_to m.layout item.target) (jump_word m.layout.closed.version)
     (site_label m.labels m.layout.closed.sides k) (group_at m k)
 
 abbrev pub unit_here : Choice → ℕ → U.Unit

@@ -162,7 +162,7 @@ impl<'c, 'a, 'b> Chosen<'c, 'a, 'b> {
         requires store { is_store (item_of self.now.layout.program k).kind ≡ true }
         requires first { is_later_at self.now k ≡ false }
         ensures { (whole : Bool) (target : ℕ) (which : TargetWord) (label : ℕ) →
-            result ≡ unit_of is.Store instr.now whole target which label (group_at self.now k) }
+            result ≡ unit_of self.now.layout.closed.calls is.Store instr.now whole target which label (group_at self.now k) }
     {
         let _count = self.count();
         match *instr {

@@ -4,8 +4,8 @@ ghost use Rattle.std.specs.Prelude.{◌≡◌, ◌<◌, ◌≤◌, ◌++◌, ◌
 ghost use Rattle.std.specs.List.{All};
 ghost use Rattle.obj_program.specs.Program.{count, item_of};
 ghost use Rattle.cfi_graph.specs.Graph.{IsGraph};
-ghost use Rattle.cfi_map.specs.GraphAtMap.{class_lines, graph_lines, line_for, place_lines, with_line};
-ghost use Rattle.cfi_map.specs.LabelOf.{all_classes, class_count, tag, tagged};
+ghost use Rattle.cfi_map.specs.GraphAtMap.{call_lines, class_lines, graph_lines, head_lines, line_for, place_lines, with_line};
+ghost use Rattle.cfi_map.specs.LabelOf.{all_classes, class_count, tag};
 
 use crate::chosen::Chosen;
 use cfi_closed::Side;
@@ -73,13 +73,24 @@ impl<'c, 'a, 'b> Chosen<'c, 'a, 'b> {
         Ok(())
     }
 
-    /// The lines of all classes, side after side.
-    fn class_lines(&self, alloc: Global) -> Result<Vec<GraphLine>, NoMemory>
-        ensures { IfOk result (λ v. v.items ≡ class_lines self.now.layout.gates self.now.labels (tagged self.now.layout.closed.sides)) }
+    /// Puts the line of the list of system calls at the end, if there is one.
+    fn push_calls(&self, lines: &mut Vec<GraphLine>) -> Result<(), NoMemory>
+        ensures { OnOk result (lines.new.items ≡ lines.old.items ++ call_lines self.now.layout.closed.calls) }
+    {
+        if let Some(calls) = self.closed().calls() {
+            lines.push(GraphLine::SystemCalls(calls))?;
+        }
+        Ok(())
+    }
+
+    /// The lines before those of addresses: that of system calls, if there is one, and those of all classes, side after side.
+    fn head_lines(&self, alloc: Global) -> Result<Vec<GraphLine>, NoMemory>
+        ensures { IfOk result (λ v. v.items ≡ head_lines self.now.layout self.now.labels) }
     {
         let _count = self.count();
         let sides = self.closed().sides();
         let mut lines = Vec::new(alloc);
+        self.push_calls(&mut lines)?;
         for j in 0..sides.len() {
             let labels = self.labels_from(j);
             self.push_side_lines(alloc, &mut lines, &sides[j], labels, self.label_count(j))?;
@@ -117,11 +128,11 @@ impl<'c, 'a, 'b> Chosen<'c, 'a, 'b> {
         Ok(())
     }
 
-    /// The lines of the graph: those of the classes, the prologue's call of the entry, one for each transfer.
+    /// The lines of the graph: that of system calls, those of the classes, the prologue's call of the entry, one for each transfer.
     pub fn lines(&self, alloc: Global) -> Result<GraphLines, NoMemory>
         ensures { IfOk result (λ lines. lines ≡ graph_lines self.now.layout self.now.labels) }
     {
-        let mut lines = self.class_lines(alloc)?;
+        let mut lines = self.head_lines(alloc)?;
         lines.push(GraphLine::Call(START, self.entry_gate()))?;
         self.push_place_lines(&mut lines)?;
         Ok(GraphLines::of(lines))

@@ -7,15 +7,17 @@ ghost use Rattle.obj_program.specs.Program.{count, item_of};
 ghost use Rattle.cfi_map.specs.LabelOf.{labels_of};
 ghost use Rattle.cfi_writer.specs.Chosen.{instr_if};
 ghost use Rattle.cfi_map.specs.Groups.{is_store};
-ghost use Rattle.cfi_writer.specs.Units.{Group, inverse, is_later_at, lead, lead_unit, unit_here, unit_of, units};
+ghost use Rattle.cfi_rules.specs.Rules.{jump_word};
+ghost use Rattle.cfi_writer.specs.Units.{Group, call_unit, inverse, is_later_at, lead, lead_unit, unit_here, unit_of, units};
 
 use crate::chosen::Chosen;
+use cfi_closed::Closed;
 use cfi_map::is_store;
 use cfi_rules::jump_word;
 use cfi_unit::{SystemOp, TargetWord, Unit};
 use obj_input::ItemKind;
 use rv_instr::{BranchOp, Immediate, ImmediateOp, Instr, Reg};
-use rv_word::NoMemory;
+use rv_word::{NoMemory, Numbers};
 use std::alloc::Global;
 
 /// The condition that holds where another does not.
@@ -32,22 +34,33 @@ fn inverse(op: BranchOp) -> BranchOp
     }
 }
 
-/// The unit of an instruction of a kind but a store's: a branch in its whole size or as one word, the gate of the place that a direct
-/// transfer goes to, the label that a computed one asks for, and the word of its destination that a jump's check reads.
+/// The unit of an `ecall` under a list of system calls or none.
+fn call_unit(calls: Option<Numbers>) -> Unit
+    ensures { result ≡ call_unit calls }
+{
+    match calls {
+        Some(numbers) => Unit::Guarded(numbers),
+        None => Unit::System(SystemOp::Ecall),
+    }
+}
+
+/// The unit of an instruction of a kind but a store's, in code for a closed graph: a branch in its whole size or as one word, the gate
+/// of the place that a direct transfer goes to, and the label that a computed one asks for.
 fn unit_of(
     kind: ItemKind,
+    closed: &Closed,
     instr: &Instr,
     whole: bool,
     target: u64,
-    which: TargetWord,
     label: Immediate<20>,
 ) -> Unit
-    ensures { (group : Group) → is_store kind ≡ false → result ≡ unit_of kind instr.now whole target which label group }
+    ensures { (group : Group) → is_store kind ≡ false → result ≡ unit_of closed.now.calls kind instr.now whole target (jump_word closed.now.version) label group }
 {
+    let which = jump_word(closed.version());
     match (kind, *instr) {
         (ItemKind::Gate, Instr::Upper(_, _, own)) => Unit::Gate(own),
         (ItemKind::Plain, instr) => Unit::Plain(instr),
-        (ItemKind::System, Instr::Ecall) => Unit::System(SystemOp::Ecall),
+        (ItemKind::System, Instr::Ecall) => call_unit(closed.calls()),
         (ItemKind::System, Instr::Ebreak) => Unit::System(SystemOp::Ebreak),
         (ItemKind::Branch, Instr::Branch(op, rs1, rs2, _)) => {
             if whole {
@@ -102,10 +115,10 @@ impl<'c, 'a, 'b> Chosen<'c, 'a, 'b> {
         let label = Immediate::of(self.site_label(k));
         unit_of(
             self.item(k).kind,
+            self.closed(),
             &instr,
             self.is_whole(k),
             self.target(k),
-            jump_word(self.closed().version()),
             label,
         )
     }

@@ -12,7 +12,7 @@ use std::alloc::Global;
 fn table(number: u32) -> (&'static [u8], usize) {
     match number {
         0 => (rows::REACHED, 29),
-        1 => (rows::POLICIES, 28),
+        1 => (rows::POLICIES, 31),
         2 => (rows::SECTIONS, 6),
         3 => (rows::ASKED, 17),
         _ => (rows::SPLIT, 9),

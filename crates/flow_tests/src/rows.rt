@@ -93,7 +93,8 @@ pub(crate) static REACHED: &[u8] = b"\
     00028067|f,FUNC,1,0,4|2,0,64,f,0 2,8,64,f,0|none|taken 0, jump 0 to 0 in 0, 0 has 0\n\
 ";
 
-/// Programs under policies, of which each two lines have a `;` between them; lines count from 2.
+/// Programs under policies, of which each two lines have a `;` between them; lines count from 2, a list of system calls among
+/// them.
 pub(crate) static POLICIES: &[u8] = b"\
     narrows|\
     FF010113 00113423 000002B7 0002B283 000280E7 00813083 01010113 00008067 00100513 00008067 00200513 00008067|\
@@ -104,6 +105,18 @@ pub(crate) static POLICIES: &[u8] = b"\
     FF010113 00113423 000002B7 0002B283 000280E7 00813083 01010113 00008067 00100513 00008067 00200513 00008067|\
     main,FUNC,1,0,32 f,FUNC,1,32,8 g,FUNC,1,40,8 ptr,OBJECT,2,0,16|\
     1,8,HI20,ptr,0 1,12,LO12_I,ptr,0 2,0,64,f,0 2,8,64,g,0|site main+14 f+0|Policy 2\n\
+    has a list of system calls|\
+    FF010113 00113423 000002B7 0002B283 000280E7 00813083 01010113 00008067 00100513 00008067 00200513 00008067|\
+    main,FUNC,1,0,32 f,FUNC,1,32,8 g,FUNC,1,40,8 ptr,OBJECT,2,0,16|\
+    1,8,HI20,ptr,0 1,12,LO12_I,ptr,0 2,0,64,f,0 2,8,64,g,0|calls 64 93;site main+10 f+0|\
+    taken 8 10, call 4 to 8 in 0, 0 has 8, calls 64 93\n\
+    has a list of system calls alone|\
+    00028067|f,FUNC,1,0,4|2,0,64,f,0 2,8,64,f,0|calls 0 1 2 3 4 5 6 2047|\
+    taken 0, jump 0 to 0 in 0, 0 has 0, calls 0 1 2 3 4 5 6 2047\n\
+    names no site after a list of system calls|\
+    FF010113 00113423 000002B7 0002B283 000280E7 00813083 01010113 00008067 00100513 00008067 00200513 00008067|\
+    main,FUNC,1,0,32 f,FUNC,1,32,8 g,FUNC,1,40,8 ptr,OBJECT,2,0,16|\
+    1,8,HI20,ptr,0 1,12,LO12_I,ptr,0 2,0,64,f,0 2,8,64,g,0|calls 64;site main+10 f+0;site main+14 f+0|Policy 4\n\
     widens to a place that is not taken|\
     000280E7 00008067 00100513 00008067 00200513 00008067|main,FUNC,1,0,8 f,FUNC,1,8,8 g,FUNC,1,16,8|\
     2,0,64,f,0 2,8,64,g,0|site main+0 f+4|taken 2 4, call 0 to 3 in 0, 0 has 3\n\

@@ -1,5 +1,5 @@
 //! What is told of a program's flow, as text: the taken places; each site by its kind and place, its targets and its
-//! class; and each class by its members. Places and classes are told by their indexes.
+//! class; each class by its members; and the list of system calls. Places and classes are told by their indexes.
 
 use cfi_closed::Closed;
 use cfi_flow::{FlowEnd, Raw, RawSite, close, entry_place, raw_graph, used_labels};
@@ -77,12 +77,24 @@ fn add_classes(text: &mut String, closed: &Closed) -> Result<(), AllocError> {
     Ok(())
 }
 
+/// Adds the list of system calls, if there is one.
+fn add_calls(text: &mut String, closed: &Closed) -> Result<(), AllocError> {
+    if let Some(calls) = closed.calls() {
+        text.push_str(", calls")?;
+        for number in calls.as_slice() {
+            write!(text, " {number}")?;
+        }
+    }
+    Ok(())
+}
+
 /// What is told of a closed graph and the raw one that it is of.
 fn told_of(alloc: Global, raw: &Raw, closed: &Closed) -> Option<String> {
     let mut text = String::new(alloc);
     add_taken(&mut text, closed).ok()?;
     add_sites(alloc, &mut text, raw, closed)?;
     add_classes(&mut text, closed).ok()?;
+    add_calls(&mut text, closed).ok()?;
     Some(text)
 }
 
@@ -103,9 +115,18 @@ fn told_under(alloc: Global, form: Form, items: &Items, policy: &Policy) -> Opti
     }
 }
 
+/// The first line of a policy with these lines, of which the first may be a list of system calls.
+fn first_line(lines: &str) -> &'static str {
+    if lines.starts_with("calls ") {
+        "rvcfi-policy 2\n"
+    } else {
+        "rvcfi-policy 1\n"
+    }
+}
+
 /// The text of a policy with these lines, of which each two have a `;` between them.
 fn policy_text(alloc: Global, lines: &str) -> Result<String, AllocError> {
-    let mut text = String::from_str(alloc, "rvcfi-policy 1\n")?;
+    let mut text = String::from_str(alloc, first_line(lines))?;
     for line in lines.split(';') {
         writeln!(text, "{line}")?;
     }

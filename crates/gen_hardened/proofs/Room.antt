@@ -1,5 +1,5 @@
 -- The hardened code of a generated object fits into the region of code.
-use Rattle.std.proofs.Common.{◌≡◌, ℕ, ◌+◌, ◌*◌, ◌≤◌, Bool, true, false, List, [], ◌∷◌, length, map, inl, inr, refl, arith}
+use Rattle.std.proofs.Common.{◌≡◌, ℕ, ◌+◌, ◌*◌, ◌≤◌, Bool, true, false, Option, Some, None, List, [], ◌∷◌, length, map, inl, inr, refl, arith}
 use Rattle.std.specs.Prelude.{sum}
 use Rattle.std.specs.List.{sum_by}
 use Rattle.std.proofs.lemmas.Bool.{cases_Bool}
@@ -15,41 +15,44 @@ use Rattle.obj_items.specs.Outline.{outline}
 use Rattle.obj_items.specs.Links.{item_with}
 use Rattle.obj_items.specs.ProgramOf.{program_of}
 use Rattle.cfi_closed.specs.Closed.{ClosedGraph, Side, is_target}
-use Rattle.cfi_map.specs.Placement.{lead_size, whole_at, size_of}
+use Rattle.cfi_map.specs.Placement.{is_ecall, kind_size, lead_size, size_of, whole_at}
 use Rattle.cfi_map.specs.Sizes.{part_sizes, whole_size}
 use Rattle.cfi_gen.specs.declared.function.Function.{Function}
 use Rattle.gen_program.specs.Generated.{IsGenerated}
 use Rattle.gen_program.proofs.Weights.{kind_weight}
 use Rattle.gen_program.proofs.PlaceWeights.{item_weight, outline_weighs}
 
--- a part has no more bytes than its place weighs
-unit_weighs : (kind : ItemKind) (whole : Bool) → 4 + size_of kind whole ≤ kind_weight kind
-unit_weighs is.Store true = omega arith
-unit_weighs is.Store false = omega arith
-unit_weighs is.Branch true = omega arith
-unit_weighs is.Branch false = omega arith
-unit_weighs is.Call whole = omega arith
-unit_weighs is.Return whole = omega arith
-unit_weighs is.Ijump whole = omega arith
-unit_weighs is.Icall whole = omega arith
-unit_weighs other whole = omega arith
+-- without a list of system calls a part has no more bytes than its place weighs
+unit_weighs : (calls : Option (List ℕ)) (kind : ItemKind) (ecall whole : Bool) → calls ≡ None → 4 + kind_size calls kind ecall whole ≤ kind_weight kind
+unit_weighs (Some numbers) kind ecall whole none = absurd (cc)
+unit_weighs None is.Store ecall true none = omega arith
+unit_weighs None is.Store ecall false none = omega arith
+unit_weighs None is.System true whole none = omega arith
+unit_weighs None is.System false whole none = omega arith
+unit_weighs None is.Branch ecall true none = omega arith
+unit_weighs None is.Branch ecall false none = omega arith
+unit_weighs None is.Call ecall whole none = omega arith
+unit_weighs None is.Return ecall whole none = omega arith
+unit_weighs None is.Ijump ecall whole none = omega arith
+unit_weighs None is.Icall ecall whole none = omega arith
+unit_weighs None other ecall whole none = omega arith
 
 lead_weighs : (sides : List Side) (k : ℕ) → length sides ≡ 1 → lead_size sides k ≤ 4
 lead_weighs sides k one =
     elim (cases_Bool (is_target sides k)) [ inl target ↦ rw target (omega arith) | inr other ↦ rw other (omega arith) ]
 
-parts_weigh : (sides : List Side) (whole : List Bool) (k : ℕ) (items : List Item) → length sides ≡ 1
-    → sum (part_sizes sides whole k items) ≤ sum_by item_weight items
+parts_weigh : (calls : Option (List ℕ)) (sides : List Side) (whole : List Bool) (k : ℕ) (items : List Item) → calls ≡ None → length sides ≡ 1
+    → sum (part_sizes calls sides whole k items) ≤ sum_by item_weight items
 unfolding part_sizes
-parts_weigh sides whole k [] one = omega arith
-parts_weigh sides whole k (item ∷ items) one =
-    let size = lead_size sides k + size_of item.kind (whole_at whole k) in
+parts_weigh calls sides whole k [] none one = omega arith
+parts_weigh calls sides whole k (item ∷ items) none one =
+    let size = lead_size sides k + size_of calls item (whole_at whole k) in
     omega (
       arith,
-      unit_weighs item.kind (whole_at whole k),
+      unit_weighs calls item.kind (is_ecall item) (whole_at whole k) none,
       lead_weighs sides k one,
-      parts_weigh sides whole (k + 1) items one,
-      sum_by-cons (λ (x : ℕ). x) size (part_sizes sides whole (k + 1) items),
+      parts_weigh calls sides whole (k + 1) items none one,
+      sum_by-cons (λ (x : ℕ). x) size (part_sizes calls sides whole (k + 1) items),
       sum_by-cons item_weight item items,
     )
 
@@ -69,19 +72,19 @@ linked_weighs input places (item ∷ items) =
     )
 
 -- the prologue has 64 bytes
-pub size_within : (fs : List Function) (input : InputParts) (closed : ClosedGraph) → length closed.sides ≡ 1 → IsGenerated fs input
+pub size_within : (fs : List Function) (input : InputParts) (closed : ClosedGraph) → closed.calls ≡ None → length closed.sides ≡ 1 → IsGenerated fs input
     → whole_size Plain (program_of input) closed ≤ 64 + (17 * 84 + 332 * length fs + 8)
 unfolding program_of
-size_within fs input closed one g =
+size_within fs input closed none one g =
     let places = outline input in
     omega (
       arith,
-      parts_weigh closed.sides [] 0 (map (item_with input places) places) one,
+      parts_weigh closed.calls closed.sides [] 0 (map (item_with input places) places) none one,
       linked_weighs input places places,
       outline_weighs fs input g,
     )
 
--- the code of 2,000 functions has room, whatever its graph of one side
-pub code_has_room : (fs : List Function) (input : InputParts) (closed : ClosedGraph) → length closed.sides ≡ 1 → length fs ≡ 2000 → IsGenerated fs input
+-- the code of 2,000 functions has room, whatever its graph of one side without a list of system calls
+pub code_has_room : (fs : List Function) (input : InputParts) (closed : ClosedGraph) → closed.calls ≡ None → length closed.sides ≡ 1 → length fs ≡ 2000 → IsGenerated fs input
     → whole_size Plain (program_of input) closed ≤ CODE_SIZE
-code_has_room fs input closed one many g = omega (arith, many, size_within fs input closed one g)
+code_has_room fs input closed none one many g = omega (arith, many, size_within fs input closed none one g)

@@ -1,7 +1,10 @@
-//! Tests of graphs of version 2, in which calls and jumps have classes of their own, under images of either version, through the
-//! public calls: verdicts, walks and runs. They stand beside the crates that they test, so that these are proved once.
+//! Tests of graphs of version 2, in which calls and jumps have classes of their own, and of graphs with a list of system calls,
+//! under images of either version, through the public calls: verdicts, walks and runs. They stand beside the crates that they test, so
+//! that these are proved once.
 #![tactic(auto)]
 
+#[cfg(test)]
+mod calls;
 #[cfg(test)]
 mod pairs;
 #[cfg(test)]

@@ -3,9 +3,11 @@
 
 use rv_word::NoMemory;
 use sample_calls::{answers, image_as, put};
-use sample_hardened::{HARTS, PLAIN, Program, STORES, STORES_HARTS, file};
+use sample_hardened::{CALLS, CALLS_HARTS, HARTS, PLAIN, Program, STORES, STORES_HARTS, file};
 use sample_programs::{code, code_of_harts};
-use sample_split::{HARTS_SPLIT, SPLIT, STORES_HARTS_SPLIT, STORES_SPLIT};
+use sample_split::{
+    CALLS_HARTS_SPLIT, CALLS_SPLIT, HARTS_SPLIT, SPLIT, STORES_HARTS_SPLIT, STORES_SPLIT,
+};
 use std::alloc::{AllocError, Global};
 use std::process::Abort;
 use tool_io::MemFiles;
@@ -88,6 +90,39 @@ static STORES_TOLD: [[&str; 9]; 4] = [
         "code 148 data 0 classes 0 sites 0", "code 408 data 16 classes 1 sites 1",
         "code 428 data 16 classes 1 sites 1", "code 420 data 16 classes 1 sites 1",
         "code 216 data 32 classes 0 sites 0",
+    ],
+];
+
+/// The same of the objects that are hardened under a list of system calls, by form, as tests/harts/lists.py prints them.
+#[rattlefmt::skip]
+static CALLS_TOLD: [[&str; 10]; 4] = [
+    [
+        "code 208 data 3 classes 0 sites 0", "code 208 data 3 classes 0 sites 0",
+        "code 216 data 3 classes 0 sites 0", "code 264 data 3 classes 0 sites 0",
+        "code 120 data 0 classes 0 sites 0", "code 112 data 0 classes 0 sites 0",
+        "code 168 data 0 classes 0 sites 0", "code 116 data 0 classes 0 sites 0",
+        "code 272 data 16 classes 1 sites 1", "code 256 data 16 classes 1 sites 1",
+    ],
+    [
+        "code 224 data 3 classes 0 sites 0", "code 224 data 3 classes 0 sites 0",
+        "code 232 data 3 classes 0 sites 0", "code 280 data 3 classes 0 sites 0",
+        "code 136 data 0 classes 0 sites 0", "code 128 data 0 classes 0 sites 0",
+        "code 184 data 0 classes 0 sites 0", "code 132 data 0 classes 0 sites 0",
+        "code 288 data 16 classes 1 sites 1", "code 272 data 16 classes 1 sites 1",
+    ],
+    [
+        "code 208 data 3 classes 0 sites 0", "code 208 data 3 classes 0 sites 0",
+        "code 216 data 3 classes 0 sites 0", "code 264 data 3 classes 0 sites 0",
+        "code 120 data 0 classes 0 sites 0", "code 112 data 0 classes 0 sites 0",
+        "code 168 data 0 classes 0 sites 0", "code 116 data 0 classes 0 sites 0",
+        "code 280 data 16 classes 1 sites 1", "code 260 data 16 classes 1 sites 1",
+    ],
+    [
+        "code 224 data 3 classes 0 sites 0", "code 224 data 3 classes 0 sites 0",
+        "code 232 data 3 classes 0 sites 0", "code 280 data 3 classes 0 sites 0",
+        "code 136 data 0 classes 0 sites 0", "code 128 data 0 classes 0 sites 0",
+        "code 184 data 0 classes 0 sites 0", "code 132 data 0 classes 0 sites 0",
+        "code 296 data 16 classes 1 sites 1", "code 276 data 16 classes 1 sites 1",
     ],
 ];
 
@@ -193,4 +228,13 @@ fn joined_stores(rt: HostRuntime) {
     check(&rt, rt.alloc(), "harts", 2, &STORES_HARTS, harts);
     check(&rt, rt.alloc(), "split", 1, &STORES_SPLIT, split);
     check(&rt, rt.alloc(), "harts-split", 2, &STORES_HARTS_SPLIT, both);
+}
+
+#[test]
+fn guarded_calls(rt: HostRuntime) {
+    let [plain, harts, split, both] = &CALLS_TOLD;
+    check(&rt, rt.alloc(), "plain", 1, &CALLS, plain);
+    check(&rt, rt.alloc(), "harts", 2, &CALLS_HARTS, harts);
+    check(&rt, rt.alloc(), "split", 1, &CALLS_SPLIT, split);
+    check(&rt, rt.alloc(), "harts-split", 2, &CALLS_HARTS_SPLIT, both);
 }

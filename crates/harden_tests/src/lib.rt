@@ -13,6 +13,8 @@ mod hardens;
 #[cfg(test)]
 mod links;
 #[cfg(test)]
+mod lists;
+#[cfg(test)]
 mod rewrites;
 #[cfg(test)]
 mod splits;

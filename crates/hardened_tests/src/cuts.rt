@@ -3,7 +3,8 @@ ghost use Rattle.std.specs.Prelude.{◌≡◌, ◌<◌, ◌≤◌, ◌^◌};
 
 use crate::near::{FIRST, NEAR, SKIPS};
 use cfi_scan::{Entry, Feeder, Listing, Steps};
-use cfi_unit::{TargetWord, Unit, recognise};
+use cfi_unit::{SystemOp, TargetWord, Unit, recognise};
+use rv_word::Numbers;
 use sample_programs::{
     A, A_OF_HARTS, AIMED, B, BREAK, DEEP, ECHO, EDGE, H, JOBS, JUMP, LOAD, LOOP, NOWHERE, OTHER, P,
     PROLOGUE, PROLOGUE_OF_HARTS, SECOND, SHARED, STATUS, code, code_of_harts,
@@ -12,11 +13,39 @@ use std::alloc::Global;
 use std::marker::Brand;
 use std::sync::ledger::{Blank, Ledger};
 
-/// The code of an image of a version, in pieces of a size, with room for so many words.
+/// System calls behind tests of their numbers, as the rules for units give their words: of 64, and of 0, 93 and
+/// 2047. A system call that tests nothing and the first word of another unit follow.
+const GUARDS: [u32; 14] = [
+    0x04000f93, 0x011f8463, 0xfb9ff06f, 0x00000073, 0x00000f93, 0x011f8c63, 0x05d00f93, 0x011f8863,
+    0x7ff00f93, 0x011f8463, 0xf99ff06f, 0x00000073, 0x00000073, 0x04000f93,
+];
+
+/// One of the numbers 1 to 8.
+const EIGHT: [u32; 18] = [
+    0x00100f93, 0x051f8063, 0x00200f93, 0x031f8c63, 0x00300f93, 0x031f8863, 0x00400f93, 0x031f8463,
+    0x00500f93, 0x031f8063, 0x00600f93, 0x011f8c63, 0x00700f93, 0x011f8863, 0x00800f93, 0x011f8463,
+    0xf81ff06f, 0x00000073,
+];
+
+/// A list of system calls, whose numbers these are.
+fn list(numbers: &[u16]) -> Option<Numbers> {
+    let mut calls = Numbers::new();
+    for number in numbers {
+        if calls.len() >= 8 || *number >= 2048 {
+            return None;
+        }
+        calls.push(*number);
+    }
+    Some(calls)
+}
+
+/// The code of an image of a version, in pieces of a size, with room for so many words, under a list of system
+/// calls if it has a number.
 fn fed<L: Ledger>(
     alloc: Global,
     blank: Blank,
     version: u8,
+    calls: &[u16],
     bytes: &[u8],
     room: usize,
     size: usize,
@@ -29,8 +58,13 @@ fn fed<L: Ledger>(
     if room > 1000 {
         return None;
     }
+    let numbers = if calls.is_empty() {
+        None
+    } else {
+        Some(list(calls)?)
+    };
     let mut steps = Steps::<L>::new(blank);
-    let mut feeder = Feeder::new(alloc, version, room).ok()?;
+    let mut feeder = Feeder::new(alloc, version, numbers, room).ok()?;
     for piece in bytes.chunks(size) {
         if feeder.fed() > 1_000_000 || piece.len() > 1_000_000 {
             return None;
@@ -41,10 +75,17 @@ fn fed<L: Ledger>(
 }
 
 /// The same under a ledger of its own.
-fn listed(alloc: Global, version: u8, bytes: &[u8], room: usize, size: usize) -> Option<Listing>
+fn listed(
+    alloc: Global,
+    version: u8,
+    calls: &[u16],
+    bytes: &[u8],
+    room: usize,
+    size: usize,
+) -> Option<Listing>
     requires { 0 < size }
 {
-    fed::<Brand>(alloc, Blank::new(1), version, bytes, room, size)
+    fed::<Brand>(alloc, Blank::new(1), version, calls, bytes, room, size)
 }
 
 /// Where the first unit of a version's images stands.
@@ -90,11 +131,13 @@ fn told(entry: Entry, at: u64) -> (u8, u64)
         Entry::Icall(label) => (7, label.bits() as u64),
         Entry::Gate(label) => (8, label.bits() as u64),
         Entry::Other => (9, 0),
+        Entry::Ecall => (11, 0),
+        Entry::Guarded(same) => (12, u64::from(same)),
     }
 }
 
 /// A unit by the number of its entry's kind, and its label or target.
-fn of_unit(unit: &Unit) -> (u8, u64) {
+fn of_unit(unit: &Unit, calls: &[u16]) -> (u8, u64) {
     match unit {
         Unit::Gate(label) => (8, label.bits() as u64),
         Unit::Branch(_, _, _, target) => (2, *target),
@@ -105,7 +148,9 @@ fn of_unit(unit: &Unit) -> (u8, u64) {
         Unit::Ijump(which, _, _, label) => (jump_kind(*which), label.bits() as u64),
         Unit::Icall(_, _, label) => (7, label.bits() as u64),
         Unit::Plain(_) => (9, 0),
-        Unit::System(_) => (9, 0),
+        Unit::System(SystemOp::Ecall) => (11, 0),
+        Unit::System(SystemOp::Ebreak) => (9, 0),
+        Unit::Guarded(numbers) => (12, u64::from(numbers.as_slice() == calls)),
         Unit::Stores(_, _, _) => (9, 0),
         Unit::Return => (9, 0),
     }
@@ -113,7 +158,7 @@ fn of_unit(unit: &Unit) -> (u8, u64) {
 
 /// How many words the unit at an index has, if the listing has its entry there: none where no unit
 /// begins and none is listed.
-fn count_at(listing: &Listing, words: &[u32], k: usize) -> Option<usize> {
+fn count_at(listing: &Listing, calls: &[u16], words: &[u32], k: usize) -> Option<usize> {
     if k >= words.len() || k > 10_000 {
         return None;
     }
@@ -126,7 +171,7 @@ fn count_at(listing: &Listing, words: &[u32], k: usize) -> Option<usize> {
             None
         };
     };
-    if told(entry, at) == of_unit(&unit) {
+    if told(entry, at) == of_unit(&unit, calls) {
         Some(count as usize)
     } else {
         None
@@ -134,12 +179,12 @@ fn count_at(listing: &Listing, words: &[u32], k: usize) -> Option<usize> {
 }
 
 /// Whether the listing of a code says of each word what its units are.
-fn is_listed(listing: &Listing, words: &[u32]) -> bool {
+fn is_listed(listing: &Listing, calls: &[u16], words: &[u32]) -> bool {
     let mut next = 0;
     let mut last = 0;
     for k in 0..words.len() {
         if k == next {
-            let Some(count) = count_at(listing, words, k) else {
+            let Some(count) = count_at(listing, calls, words, k) else {
                 return false;
             };
             if count > 0 {
@@ -172,7 +217,7 @@ fn has_prologue(listing: &Listing) -> bool {
 }
 
 /// Whether the code of a version's image is listed as its units are, in pieces of a size.
-fn is_right_in(alloc: Global, version: u8, words: &[u32], size: usize) -> bool
+fn is_right_under(alloc: Global, version: u8, calls: &[u16], words: &[u32], size: usize) -> bool
     requires { 0 < size }
 {
     if words.len() > 900 {
@@ -181,13 +226,20 @@ fn is_right_in(alloc: Global, version: u8, words: &[u32], size: usize) -> bool
     let Some(bytes) = code_in(alloc, version, words) else {
         return false;
     };
-    let Some(listing) = listed(alloc, version, &bytes, bytes.len() / 4, size) else {
+    let Some(listing) = listed(alloc, version, calls, &bytes, bytes.len() / 4, size) else {
         return false;
     };
     listing.version() == version
         && has_prologue(&listing)
         && listing.fed() as usize == bytes.len()
-        && is_listed(&listing, words)
+        && is_listed(&listing, calls, words)
+}
+
+/// The same without a list.
+fn is_right_in(alloc: Global, version: u8, words: &[u32], size: usize) -> bool
+    requires { 0 < size }
+{
+    is_right_under(alloc, version, &[], words, size)
 }
 
 /// The same in version 1.
@@ -199,13 +251,18 @@ fn is_right(alloc: Global, words: &[u32], size: usize) -> bool
 
 /// Whether it is so of the code with each bit of each word turned.
 fn are_right(alloc: Global, words: &[u32]) -> bool {
+    are_right_under(alloc, &[], words)
+}
+
+/// The same under a list of system calls.
+fn are_right_under(alloc: Global, calls: &[u16], words: &[u32]) -> bool {
     let Ok(mut turned) = Vec::from_slice(alloc, words) else {
         return false;
     };
     for k in 0..turned.len() {
         for bit in 0..32_u32 {
             turned[k] ^= 1 << bit;
-            if !is_right(alloc, &turned, 4096) {
+            if !is_right_under(alloc, 1, calls, &turned, 4096) {
                 return false;
             }
             turned[k] ^= 1 << bit;
@@ -216,7 +273,7 @@ fn are_right(alloc: Global, words: &[u32]) -> bool {
 
 /// Whether a code with room for less, or cut off in a word, keeps what it has room for and counts its bytes.
 fn is_kept(alloc: Global, bytes: &[u8], room: usize, prologue: usize, done: usize) -> bool {
-    let Some(listing) = listed(alloc, 1, bytes, room, 7) else {
+    let Some(listing) = listed(alloc, 1, &[], bytes, room, 7) else {
         return false;
     };
     listing.prologue().len() == prologue
@@ -272,6 +329,85 @@ fn with_a_bit_turned(rt: HostRuntime) {
     assert!(rt; are_right(rt.alloc(), &SKIPS), "skips.s");
     assert!(rt; are_right(rt.alloc(), &NEAR), "near.s");
     assert!(rt; are_right(rt.alloc(), &SECOND), "SECOND");
+}
+
+/// Whether the entry of the unit at an index under a list tells whether its numbers are the list's.
+fn tells(alloc: Global, calls: &[u16], words: &[u32], index: usize, same: bool) -> bool {
+    let Some(bytes) = code_in(alloc, 1, words) else {
+        return false;
+    };
+    let Some(listing) = listed(alloc, 1, calls, &bytes, bytes.len() / 4, 7) else {
+        return false;
+    };
+    listing.entry(index) == Some(Entry::Guarded(same)) && is_listed(&listing, calls, words)
+}
+
+#[test]
+fn under_a_list(rt: HostRuntime) {
+    let alloc = rt.alloc();
+    assert!(rt; tells(alloc, &[64], &GUARDS, 0, true), "64");
+    assert!(rt; tells(alloc, &[64], &GUARDS, 4, false), "64 for three");
+    assert!(rt; tells(alloc, &[63], &GUARDS, 0, false), "63");
+    assert!(rt; tells(alloc, &[64, 65], &GUARDS, 0, false), "one more");
+    assert!(rt; tells(alloc, &[0, 93, 2047], &GUARDS, 4, true), "three");
+    assert!(rt; tells(alloc, &[0, 93], &GUARDS, 4, false), "one less");
+    assert!(rt;
+        tells(alloc, &[0, 93, 2046], &GUARDS, 4, false),
+        "another last"
+    );
+    assert!(rt;
+        tells(alloc, &[1, 93, 2047], &GUARDS, 4, false),
+        "another first"
+    );
+    assert!(rt;
+        tells(alloc, &[0, 94, 2047], &GUARDS, 4, false),
+        "another middle"
+    );
+    assert!(rt;
+        tells(alloc, &[93, 0, 2047], &GUARDS, 4, false),
+        "another order"
+    );
+    assert!(rt;
+        tells(alloc, &[1, 2, 3, 4, 5, 6, 7, 8], &EIGHT, 0, true),
+        "eight"
+    );
+    assert!(rt;
+        tells(alloc, &[1, 2, 3, 4, 5, 6, 7, 9], &EIGHT, 0, false),
+        "another eighth"
+    );
+    assert!(rt;
+        tells(alloc, &[1, 2, 3, 4, 5, 6, 7], &EIGHT, 0, false),
+        "seven"
+    );
+}
+
+#[test]
+fn system_calls_cut_anywhere(rt: HostRuntime) {
+    for size in 1..9 {
+        assert!(rt; is_right(rt.alloc(), &GUARDS, size), "no list {size}");
+        assert!(rt;
+            is_right_under(rt.alloc(), 1, &[64], &GUARDS, size),
+            "GUARDS {size}"
+        );
+        assert!(rt;
+            is_right_under(rt.alloc(), 1, &[64], &EIGHT, size),
+            "EIGHT {size}"
+        );
+    }
+}
+
+#[test]
+fn system_calls_with_a_bit_turned(rt: HostRuntime) {
+    assert!(rt; are_right(rt.alloc(), &GUARDS), "no list");
+    assert!(rt; are_right_under(rt.alloc(), &[64], &GUARDS), "64");
+    assert!(rt;
+        are_right_under(rt.alloc(), &[0, 93, 2047], &GUARDS),
+        "three"
+    );
+    assert!(rt;
+        are_right_under(rt.alloc(), &[1, 2, 3, 4, 5, 6, 7, 8], &EIGHT),
+        "eight"
+    );
 }
 
 #[test]

@@ -26,8 +26,21 @@ pub(crate) struct Row(
     pub(crate) &'static str,
 );
 
+/// Makes the call whose number its data has, if that is 64 or 93, and returns. The guarded call stands at 48h.
+const CALLS: [u32; 14] = [
+    0x000102b7, 0x0002b883, 0x04000f93, 0x011f8863, 0x05d00f93, 0x011f8463, 0xfa9ff06f, 0x00000073,
+    0xff81bf83, 0xff818193, 0x001f8463, 0xf99ff06f, 0x000f8067, 0xf8dff06f,
+];
+
+const CALLS_GRAPH: &[u8] =
+    b"rvcfi-graph 1\ncode 40000000 00000078\ncalls 64 93\ncall 4000000c 40000040\nend\n";
+
+/// `A` with a list.
+const A_CALLS_GRAPH: &[u8] =
+    b"rvcfi-graph 1\ncode 40000000 00000050\ncalls 93\ncall 4000000c 40000040\nend\n";
+
 #[rattlefmt::skip]
-static ROWS: [Row; 30] = [
+static ROWS: [Row; 35] = [
     Row(1, &A, A_GRAPH, 0, SAME, ""),
     Row(1, &B, B_GRAPH, 0, SAME, ""),
     Row(1, &H, H_GRAPH, 0, SAME, ""),
@@ -58,6 +71,12 @@ static ROWS: [Row; 30] = [
     Row(2, &SHARED, SHARED_GRAPH, 0x74, 0x022f_9f93, "Unit 40000070"),
     Row(2, &JOBS, JOBS_GRAPH, 0x94, 0x0000_2037, "Gate 40000094"),
     Row(2, &A_OF_HARTS, A_OF_HARTS_GRAPH, 0x5c, 0x0000_0013, "End 4000005c"),
+    // Lists of system calls: a guarded call with its numbers, with others, with a word that is none of its own; a bare one.
+    Row(1, &CALLS, CALLS_GRAPH, 0, SAME, ""),
+    Row(1, &CALLS, CALLS_GRAPH, 0x48, 0x03f0_0f93, "Unit 40000048"),
+    Row(1, &CALLS, CALLS_GRAPH, 0x50, 0x05e0_0f93, "Unit 40000048"),
+    Row(1, &CALLS, CALLS_GRAPH, 0x54, 0x010f_8463, "Unit 40000048"),
+    Row(1, &A, A_CALLS_GRAPH, 0, SAME, "Unit 40000048"),
 ];
 
 /// The sizes of pieces.

@@ -15,6 +15,10 @@ use std::alloc::Global;
 /// The graph of `A_OF_HARTS` where the opening calls its second unit.
 const LATER_GRAPH: &[u8] = b"rvcfi-graph 1\ncode 40000000 00000060\ncall 4000000c 40000054\nend\n";
 
+/// That of `A_OF_HARTS` with a list of system calls.
+const LISTED_GRAPH: &[u8] =
+    b"rvcfi-graph 1\ncode 40000000 00000060\ncalls 93\ncall 4000000c 40000050\nend\n";
+
 /// A version, the prologue and the units of a code, its graph, where a word is put by its index, the word, and the rule
 /// that fails with its address; no text where the image is accepted.
 #[derive(Drop)]
@@ -29,7 +33,7 @@ struct Row(
 );
 
 #[rattlefmt::skip]
-static ROWS: [Row; 19] = [
+static ROWS: [Row; 21] = [
     Row(2, &PROLOGUE_OF_HARTS, &A_OF_HARTS, A_OF_HARTS_GRAPH, 0, SAME, ""),
     Row(2, &PROLOGUE_OF_HARTS, &SHARED, SHARED_GRAPH, 0, SAME, ""),
     Row(2, &PROLOGUE_OF_HARTS, &JOBS, JOBS_GRAPH, 0, SAME, ""),
@@ -54,6 +58,9 @@ static ROWS: [Row; 19] = [
     Row(2, &PROLOGUE_OF_HARTS, &A_OF_HARTS, A_OF_HARTS_GRAPH, 20, 0x0010_0f13, "Unit 40000050"),
     Row(2, &PROLOGUE_OF_HARTS, &A_OF_HARTS, A_OF_HARTS_GRAPH, 23, 0x0000_0013, "End 4000005c"),
     Row(2, &PROLOGUE_OF_HARTS, &A_OF_HARTS, A_GRAPH, 0, SAME, "Length 96 80"),
+    // A bare call under a list; the closing's is none of a unit.
+    Row(2, &PROLOGUE_OF_HARTS, &A_OF_HARTS, LISTED_GRAPH, 0, SAME, "Unit 40000058"),
+    Row(2, &PROLOGUE_OF_HARTS, &A_OF_HARTS, LISTED_GRAPH, 22, 0x0000_0013, ""),
 ];
 
 /// Whether an image is answered as its row says.

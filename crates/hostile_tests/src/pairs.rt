@@ -253,7 +253,7 @@ fn image_of_harts_with(alloc: Global, case: &Case) -> Result<Vec<u8>, NoMemory> 
 }
 
 /// Whether the tool puts a text of an image and a graph, and ends with its status.
-fn verifies(alloc: Global, image: &[u8], graph: &[u8], text: &str) -> bool {
+pub(crate) fn verifies(alloc: Global, image: &[u8], graph: &[u8], text: &str) -> bool {
     let mut files = MemFiles::new(alloc, Vec::new(alloc));
     let status = u8::from(text != "accepted\n");
     files.insert("image", image).is_ok()

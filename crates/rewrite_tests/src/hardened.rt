@@ -5,8 +5,12 @@ use cfi_rewrite::Hardened;
 use cfi_verify::verify;
 use elf_image::read_image;
 use rv_word::{Form, Image};
-use sample_hardened::{HARTS, PLAIN, PROGRAMS, Program, STORES, STORES_HARTS, file};
-use sample_split::{HARTS_SPLIT, SPLIT, STORES_HARTS_SPLIT, STORES_SPLIT};
+use sample_hardened::{
+    CALLS, CALLS_HARTS, HARTS, PLAIN, PROGRAMS, Program, STORES, STORES_HARTS, file,
+};
+use sample_split::{
+    CALLS_HARTS_SPLIT, CALLS_SPLIT, HARTS_SPLIT, SPLIT, STORES_HARTS_SPLIT, STORES_SPLIT,
+};
 use std::alloc::Global;
 use std::process::Abort;
 
@@ -94,4 +98,13 @@ fn joins_stores(rt: HostRuntime) {
     check(&rt, rt.alloc(), Form::Harts, &STORES_HARTS);
     check(&rt, rt.alloc(), Form::Split, &STORES_SPLIT);
     check(&rt, rt.alloc(), Form::HartsSplit, &STORES_HARTS_SPLIT);
+}
+
+/// The same of objects under lists of system calls.
+#[test]
+fn tests_numbers(rt: HostRuntime) {
+    check(&rt, rt.alloc(), Form::Plain, &CALLS);
+    check(&rt, rt.alloc(), Form::Harts, &CALLS_HARTS);
+    check(&rt, rt.alloc(), Form::Split, &CALLS_SPLIT);
+    check(&rt, rt.alloc(), Form::HartsSplit, &CALLS_HARTS_SPLIT);
 }

@@ -10,6 +10,8 @@ mod hardened;
 #[cfg(test)]
 mod image;
 #[cfg(test)]
+mod lists;
+#[cfg(test)]
 mod refused;
 #[cfg(test)]
 mod runs;

@@ -11,7 +11,7 @@ struct Refused(Given, &'static str);
 const POLICY_PLACE: &[u8] = b"rvcfi-policy 1\nsite main+14 f+0\nend\n";
 
 #[rattlefmt::skip]
-static REFUSED: [Refused; 26] = [
+static REFUSED: [Refused; 33] = [
     Refused(Given(Source::Empty, 0, b"", "main", None), "NotElf"),
     Refused(Given(Source::Returning, 4, b"01", "main", None), "NotElf"),
     Refused(Given(Source::Returning, 16, b"0200", "main", None), "NotRelocatable 2"),
@@ -45,6 +45,17 @@ static REFUSED: [Refused; 26] = [
     ),
     Refused(
         Given(Source::Calling, 0, b"", "main", Some(b"rvcfi-policy 1\nsite main+10 f+0\nsite main+10 g+0\nend\n")),
+        "Policy 3",
+    ),
+    // Lists of system calls: none where one has to stand, one where none may, too large, falling, twice; and a wrong line behind one.
+    Refused(Given(Source::Calling, 0, b"", "main", Some(b"rvcfi-policy 2\nend\n")), "Policy 2"),
+    Refused(Given(Source::Calling, 0, b"", "main", Some(b"rvcfi-policy 2\n")), "Policy 2"),
+    Refused(Given(Source::Calling, 0, b"", "main", Some(b"rvcfi-policy 1\ncalls 64\nend\n")), "Policy 2"),
+    Refused(Given(Source::Calling, 0, b"", "main", Some(b"rvcfi-policy 2\ncalls 2048\nend\n")), "Policy 2"),
+    Refused(Given(Source::Calling, 0, b"", "main", Some(b"rvcfi-policy 2\ncalls 64 63\nend\n")), "Policy 2"),
+    Refused(Given(Source::Calling, 0, b"", "main", Some(b"rvcfi-policy 2\ncalls 64\ncalls 64\nend\n")), "Policy 3"),
+    Refused(
+        Given(Source::Calling, 0, b"", "main", Some(b"rvcfi-policy 2\ncalls 64\nsite main+14 f+0\nend\n")),
         "Policy 3",
     ),
     // Data without bytes in the file that end one byte, and much, too far.

@@ -40,6 +40,7 @@ fn name(reason: Reason) -> &'static str {
         Reason::Window => "window",
         Reason::Deep => "deep",
         Reason::End => "end",
+        Reason::Call => "call",
     }
 }
 

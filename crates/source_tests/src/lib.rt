@@ -4,9 +4,13 @@
 #![tactic(auto)]
 
 #[cfg(test)]
+mod calls;
+#[cfg(test)]
 mod ended;
 #[cfg(test)]
 mod given;
+#[cfg(test)]
+mod listed;
 #[cfg(test)]
 mod maps;
 #[cfg(test)]

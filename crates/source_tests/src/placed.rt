@@ -390,7 +390,12 @@ fn value(digit: u8) -> u32 {
 }
 
 /// The text of a map whose first line and first gate these are.
-fn map(alloc: Global, head: &str, first: u32, digits: &[u8]) -> Result<String, AllocError> {
+pub(crate) fn map(
+    alloc: Global,
+    head: &str,
+    first: u32,
+    digits: &[u8],
+) -> Result<String, AllocError> {
     let mut text = format!(in alloc; "{head}\n")?;
     let (mut gate, mut offset) = (first, 0u32);
     for digit in digits {
@@ -403,7 +408,7 @@ fn map(alloc: Global, head: &str, first: u32, digits: &[u8]) -> Result<String, A
 }
 
 /// Whether an object runs at a map as it is told.
-fn is_told_at(alloc: Global, given: &Given, map: &[u8], told: &str) -> bool {
+pub(crate) fn is_told_at(alloc: Global, given: &Given, map: &[u8], told: &str) -> bool {
     let asked = Asked {
         entry: given.3.as_bytes(),
         policy: given.4.unwrap_or(b""),

@@ -24,7 +24,7 @@ use Rattle.src_machine.specs.declared.turn.SourceTurn.TheVariants.{Exit}
 use Rattle.cfi_map.specs.Source.{Source, instr_here}
 use Rattle.cfi_map.specs.SourceStep.{SourceAfter, acts, branches, closes, exits, if_taken, place_after, returns_from, source_step, step_at, step_item, unless, unless_ended}
 use Rattle.src_machine.specs.State.{IsInside, IsThere, Leaves, StateParts, source_in}
-use Rattle.cfi_map.specs.Untame.{computed, computed_place, if_reached, is_off_graph, is_off_window, is_too_deep, is_wrong_return, place_with_gate, reason, return_address}
+use Rattle.cfi_map.specs.Untame.{computed, computed_place, if_reached, is_off_graph, is_off_window, is_too_deep, is_unlisted, is_wrong_return, place_with_gate, reason, return_address}
 use Rattle.cfi_closed.specs.Closed.{class_reaches}
 use Rattle.cfi_map.proofs.ByGate.{place_below}
 
@@ -55,16 +55,16 @@ closed layout place st parts status at is =
     subst (λ (p : Option ℕ). Leaves layout.program (step_at layout p st) (Exit status) parts) at
     (subst (λ (after : SourceAfter). Leaves layout.program after (Exit status) parts) is (record { turn = refl; state = refl }))
 
--- where the last of five reasons does not stand
-no_last : (a b c d e : Bool) →
-    (if a then Some why.Graph else if b then Some why.Return else if c then Some why.Window else if d then Some why.Deep else if e then Some why.End else None) ≡ None →
+-- where the fifth of six reasons does not stand
+no_last : (a b c d e f : Bool) →
+    (if a then Some why.Graph else if b then Some why.Return else if c then Some why.Window else if d then Some why.Deep else if e then Some why.End else if f then Some why.Call else None) ≡ None →
     e ≡ false
-no_last true b c d e none = absurd (cc)
-no_last false true c d e none = absurd (cc)
-no_last false false true d e none = absurd (cc)
-no_last false false false true e none = absurd (cc)
-no_last false false false false true none = absurd (cc)
-no_last false false false false false none = refl
+no_last true b c d e f none = absurd (cc)
+no_last false true c d e f none = absurd (cc)
+no_last false false true d e f none = absurd (cc)
+no_last false false false true e f none = absurd (cc)
+no_last false false false false true f none = absurd (cc)
+no_last false false false false false f none = refl
 
 after_there : (n k : ℕ) (turn : Turn) → k + 1 < n → IsThere n (place_after k turn)
 after_there n k Ran below = below
@@ -148,7 +148,7 @@ module _ (layout : ProgramAtMap) (sound : IsSound layout.program) (last : EndsLa
       unless_inside (count layout.program) k (reason layout k item.kind instr st) st (acts layout k item.kind instr (unwrap_or item.target 0) st) inside
       (λ none.
       let instruction = no_last (is_off_graph layout k item.kind instr st) (is_wrong_return layout item.kind st) (is_off_window item.kind instr st)
-      (is_too_deep item.kind st) (is_end item.kind) none in
+      (is_too_deep item.kind st) (is_end item.kind) (is_unlisted layout item.kind instr st) none in
       acts_there k item.kind instr (unwrap_or item.target 0) st (next_there layout k last below instruction)
       (aimed_below layout.program item.kind item.target (omega arith) (sound.targets k below)) inside)
 

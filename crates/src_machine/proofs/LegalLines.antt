@@ -43,24 +43,24 @@ module _ (form : Form) (program : Program) (closed : ClosedGraph) (entry : ℕ) 
   gate_in n i below within = mapped (λ (l : MapLine). l.gate) lines n i no_line 0 below within
 
   stands_next : (i : ℕ) → stands form of_here lines (suc i)
-      ≡ follows of_here (item_of program i).kind i (stores_before of_here lines i) (line_at lines i).gate (line_at lines (suc i)).gate
+      ≡ follows of_here (item_of program i) i (stores_before of_here lines i) (line_at lines i).gate (line_at lines (suc i)).gate
   stands_next i =
       let apart : (suc i == 0) ≡ false = false_from_ne_true (suc i == 0) (λ e. let same = eqb-true (suc i) 0 e in absurd (omega arith)) in
       let index : suc i - 1 ≡ i = omega arith in
       let next : i + 1 ≡ suc i = omega arith in
       let here : stands form of_here lines (suc i) ≡ follows_at of_here lines (suc i - 1) (stores_before of_here lines (suc i - 1)) = rw apart refl in
       here ∙ ap (λ (k : ℕ). follows_at of_here lines k (stores_before of_here lines k)) index
-      ∙ ap (λ (m : ℕ). follows of_here (item_of program i).kind i (stores_before of_here lines i) (line_at lines i).gate (line_at lines m).gate) next
+      ∙ ap (λ (m : ℕ). follows of_here (item_of program i) i (stores_before of_here lines i) (line_at lines i).gate (line_at lines m).gate) next
 
   -- the next line's gate tells whether a unit has its whole size
   whole_read : (i : ℕ) → suc i < length lines
-      → has_whole of_here lines i ≡ is_past_whole closed.sides (item_of program i).kind i (line_at lines i).gate (line_at lines (suc i)).gate
+      → has_whole of_here lines i ≡ is_past_whole closed (item_of program i) i (line_at lines i).gate (line_at lines (suc i)).gate
   whole_read i below =
       let more : nat_le (length lines) (i + 1) ≡ false = lt-leb (length lines) (i + 1) (omega arith) in
       let next : i + 1 ≡ suc i = omega arith in
-      let here : has_whole of_here lines i ≡ is_past_whole closed.sides (item_of program i).kind i (line_at lines i).gate (line_at lines (i + 1)).gate =
+      let here : has_whole of_here lines i ≡ is_past_whole closed (item_of program i) i (line_at lines i).gate (line_at lines (i + 1)).gate =
       rw more refl in
-      here ∙ ap (λ (m : ℕ). is_past_whole closed.sides (item_of program i).kind i (line_at lines i).gate (line_at lines m).gate) next
+      here ∙ ap (λ (m : ℕ). is_past_whole closed (item_of program i) i (line_at lines i).gate (line_at lines m).gate) next
 
   item_taken : (n i : ℕ) → i < n → item_of program i ≡ get_or (take n program.items) i no_item
   item_taken n i below = sym (get_or-take n program.items i no_item below)
@@ -81,7 +81,7 @@ module _ (form : Form) (program : Program) (closed : ClosedGraph) (entry : ℕ) 
     stood j below = (and_parts (is_named of_here lines j) (stands form of_here lines j) (right j below)).1
 
     followed : (i : ℕ) → suc i < n
-        → follows of_here (item_of program i).kind i (stores_before of_here lines i) (line_at lines i).gate (line_at lines (suc i)).gate ≡ true
+        → follows of_here (item_of program i) i (stores_before of_here lines i) (line_at lines i).gate (line_at lines (suc i)).gate ≡ true
     followed i below = sym (stands_next i) ∙ stood (suc i) below
 
     same_sections : map (λ (l : MapLine). l.section) (take n lines) ≡ map (λ (i : Item). i.section) (take n program.items)
@@ -104,24 +104,24 @@ module _ (form : Form) (program : Program) (closed : ClosedGraph) (entry : ℕ) 
     abbrev flags : List Bool
     flags = flags_to (has_whole of_here lines) n
 
-    legal_gates : AreGates closed.sides flags 0 (profile_for form).units_from (take n program.items) (gates_of (take n lines))
+    legal_gates : AreGates closed.calls closed.sides flags 0 (profile_for form).units_from (take n program.items) (gates_of (take n lines))
     legal_gates =
         let size : length (gates_of (take n lines)) ≡ n = map_size (λ (l : MapLine). l.gate) lines n in_lines in
         let places : length (take n program.items) ≡ n = length-take-le n program.items in_items in
-        are_gates closed.sides flags 0 (profile_for form).units_from (take n program.items) (gates_of (take n lines)) (omega arith)
+        are_gates closed.calls closed.sides flags 0 (profile_for form).units_from (take n program.items) (gates_of (take n lines)) (omega arith)
         (λ some. gate_in n 0 (omega arith) in_lines ∙ eqb-true _ _ (stood 0 (omega arith)))
         (λ i below.
         let less : suc i < n = omega arith in
         let plus : 0 + i ≡ i = omega arith in
         let flag = whole_read i (omega arith) in
-        let told : is_past_whole closed.sides (item_of program i).kind i (line_at lines i).gate (line_at lines (suc i)).gate ≡ whole_at flags i =
+        let told : is_past_whole closed (item_of program i) i (line_at lines i).gate (line_at lines (suc i)).gate ≡ whole_at flags i =
         sym flag ∙ sym (flag_here (has_whole of_here lines) n i less) in
-        let at : (line_at lines (suc i)).gate ≡ (line_at lines i).gate + (lead_size closed.sides i + size_of (item_of program i).kind (whole_at flags i)) =
-        led_by of_here (item_of program i).kind i (stores_before of_here lines i) (line_at lines i).gate (line_at lines (suc i)).gate (whole_at flags i) told (followed i less) in
-        let kind = kind_taken n i (omega arith) in
+        let at : (line_at lines (suc i)).gate ≡ (line_at lines i).gate + (lead_size closed.sides i + size_of closed.calls (item_of program i) (whole_at flags i)) =
+        led_by of_here (item_of program i) i (stores_before of_here lines i) (line_at lines i).gate (line_at lines (suc i)).gate (whole_at flags i) told (followed i less) in
+        let item = sym (item_taken n i (omega arith)) in
         let here = gate_in n i (omega arith) in_lines in
         let there = gate_in n (suc i) less in_lines in
-        rw (plus, kind, here, there) at)
+        rw (plus, item, here, there) at)
 
     legal_groups : AreGroups (λ k. get_or (take n program.items) k no_item) (is_entered program closed entry) (whole_at flags)
     legal_groups k later =
@@ -131,12 +131,12 @@ module _ (form : Form) (program : Program) (closed : ClosedGraph) (entry : ℕ) 
           | inl less ↦
               let kind = kind_taken n k (omega arith) in
               let store : is_store (item_of program k).kind ≡ true = ap is_store (sym kind) ∙ parts.0 in
-              let short : is_past_whole closed.sides (item_of program k).kind k (line_at lines k).gate (line_at lines (suc k)).gate ≡ false =
+              let short : is_past_whole closed (item_of program k) k (line_at lines k).gate (line_at lines (suc k)).gate ≡ false =
               sym (whole_read k (omega arith)) ∙ sym (flag_here (has_whole of_here lines) n k less) ∙ parts.1 in
               join_moved (item_of program) taken (is_entered program closed entry) (has_whole of_here lines) (whole_at flags) k
               (λ j below. item_taken n j (omega arith))
               (λ j below is. sym (flag_here (has_whole of_here lines) n j (omega arith)))
-              (joined_by of_here (item_of program k).kind k (stores_before of_here lines k) (line_at lines k).gate (line_at lines (suc k)).gate store short (followed k less))
+              (joined_by of_here (item_of program k) k (stores_before of_here lines k) (line_at lines k).gate (line_at lines (suc k)).gate store short (followed k less))
           | inr past ↦
               let wrong : true ≡ false = sym (flag_past (has_whole of_here lines) n k past) ∙ parts.1 in
               absurd (cc)
@@ -159,15 +159,15 @@ module _ (form : Form) (program : Program) (closed : ClosedGraph) (entry : ℕ) 
 
   -- the gates of a legal beginning
   gate_next : (n : ℕ) (legal : BeginsLegal program closed entry map_here n) → n ≤ length lines → (i : ℕ) → suc i < n
-      → (line_at lines (suc i)).gate ≡ (line_at lines i).gate + (lead_size closed.sides i + size_of (item_of program i).kind (whole_at legal.gates.0 i))
+      → (line_at lines (suc i)).gate ≡ (line_at lines i).gate + (lead_size closed.sides i + size_of closed.calls (item_of program i) (whole_at legal.gates.0 i))
   gate_next n legal within i below =
       let size = map_size (λ (l : MapLine). l.gate) lines n within in
       let zero_plus : 0 + i ≡ i = omega arith in
-      let step = next_gate closed.sides legal.gates.0 0 (profile_for form).units_from (take n program.items) (gates_of (take n lines)) legal.gates.1 i (omega arith) in
-      let kind = kind_taken n i (omega arith) in
+      let step = next_gate closed.calls closed.sides legal.gates.0 0 (profile_for form).units_from (take n program.items) (gates_of (take n lines)) legal.gates.1 i (omega arith) in
+      let item = sym (item_taken n i (omega arith)) in
       let here = gate_in n i (omega arith) within in
       let there = gate_in n (suc i) below within in
-      rw (kind, here, there, zero_plus) at step
+      rw (item, here, there, zero_plus) at step
 
   -- a store of a legal beginning that has one word may join the group before it
   joins_next : (n : ℕ) (legal : BeginsLegal program closed entry map_here n) → n ≤ length lines → (i : ℕ) → suc i < n
@@ -180,17 +180,17 @@ module _ (form : Form) (program : Program) (closed : ClosedGraph) (entry : ℕ) 
       (λ j less is.
       let kind = kind_taken n j (omega arith) in
       sym (whole_read j (omega arith)
-      ∙ whole_by closed.sides (item_of program j).kind j (line_at lines j).gate (line_at lines (suc j)).gate (whole_at whole j) (ap is_store (sym kind) ∙ is) (gate_next n legal within j (omega arith))))
+      ∙ whole_by closed (item_of program j) j (line_at lines j).gate (line_at lines (suc j)).gate (whole_at whole j) (ap is_store (sym kind) ∙ is) (gate_next n legal within j (omega arith))))
       (legal.gates.2 i (later_if taken (is_entered program closed entry) (whole_at whole) i (ap is_store (kind_taken n i (omega arith)) ∙ store) short))
 
   stands_right : (j : ℕ) → BeginsLegal program closed entry map_here (j + 1) → j < length lines → j < count program → stands form of_here lines j ≡ true
   stands_right zero legal in_lines in_items =
       let size = map_size (λ (l : MapLine). l.gate) lines 1 (omega arith) in
-      eq-eqb _ _ (sym (gate_in 1 0 (omega arith) (omega arith)) ∙ first_gate closed.sides legal.gates.0 0 (profile_for form).units_from (take 1 program.items) (gates_of (take 1 lines)) legal.gates.1 (omega arith))
+      eq-eqb _ _ (sym (gate_in 1 0 (omega arith) (omega arith)) ∙ first_gate closed.calls closed.sides legal.gates.0 0 (profile_for form).units_from (take 1 program.items) (gates_of (take 1 lines)) legal.gates.1 (omega arith))
   stands_right (suc i) legal in_lines in_items =
       let n : ℕ = suc i + 1 in
       stands_next i
-      ∙ follows_by of_here (item_of program i).kind i (stores_before of_here lines i) (line_at lines i).gate (line_at lines (suc i)).gate (whole_at legal.gates.0 i)
+      ∙ follows_by of_here (item_of program i) i (stores_before of_here lines i) (line_at lines i).gate (line_at lines (suc i)).gate (whole_at legal.gates.0 i)
       (gate_next n legal (omega arith) i (omega arith))
       (λ store short. joins_next n legal (omega arith) i (omega arith) store short)
 

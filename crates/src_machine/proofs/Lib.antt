@@ -4,3 +4,4 @@ mod LegalLines
 mod Beginnings
 mod Prefixes
 mod Members
+mod Listing

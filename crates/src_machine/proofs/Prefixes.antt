@@ -1,5 +1,5 @@
 -- The first lines of a legal map are legal for as many first places, so a map has no wrong line where it is legal, and else one first.
-use Rattle.std.proofs.Common.{◌≡◌, ℕ, zero, suc, ◌+◌, ◌<◌, ◌≤◌, Bool, true, false, List, [], ◌∷◌, length, map, take, get_or, inl, inr, refl, sym, ap, subst, ◌∙◌, arith}
+use Rattle.std.proofs.Common.{◌≡◌, ℕ, zero, suc, ◌+◌, ◌<◌, ◌≤◌, Bool, true, false, Option, List, [], ◌∷◌, length, map, take, get_or, inl, inr, refl, sym, ap, subst, ◌∙◌, arith}
 use Rattle.std.proofs.lemmas.Bool.{cases_eq, cases_lt}
 use Rattle.std.proofs.lemmas.List.{get_or-take, get_or_past, length-take, take-map}
 use Rattle.rv_word.specs.Form.{profile_for}
@@ -17,14 +17,14 @@ use Rattle.cfi_map.proofs.GroupFacts.{later_parts}
 use Rattle.cfi_map.proofs.GroupsAgree.{groups_alike, store_below}
 use Rattle.src_machine.specs.Laws.{BeginsAsLegal, OneIsFirst, WrongIsNotLegal}
 
-first_gates : (sides : List Side) (whole : List Bool) (k at : ℕ) (items : List Item) (gates : List ℕ) (n : ℕ)
-    → AreGates sides whole k at items gates → AreGates sides whole k at (take n items) (take n gates)
+first_gates : (calls : Option (List ℕ)) (sides : List Side) (whole : List Bool) (k at : ℕ) (items : List Item) (gates : List ℕ) (n : ℕ)
+    → AreGates calls sides whole k at items gates → AreGates calls sides whole k at (take n items) (take n gates)
 unfolding AreGates
-first_gates sides whole k at items gates zero are = tt
-first_gates sides whole k at [] [] (suc n) are = tt
-first_gates sides whole k at [] (gate ∷ gates) (suc n) are = absurd are
-first_gates sides whole k at (item ∷ items) [] (suc n) are = absurd are
-first_gates sides whole k at (item ∷ items) (gate ∷ gates) (suc n) are = (are.0, first_gates sides whole (k + 1) _ items gates n are.1)
+first_gates calls sides whole k at items gates zero are = tt
+first_gates calls sides whole k at [] [] (suc n) are = tt
+first_gates calls sides whole k at [] (gate ∷ gates) (suc n) are = absurd are
+first_gates calls sides whole k at (item ∷ items) [] (suc n) are = absurd are
+first_gates calls sides whole k at (item ∷ items) (gate ∷ gates) (suc n) are = (are.0, first_gates calls sides whole (k + 1) _ items gates n are.1)
 
 first_first : {A : Type 0} (xs : List A) (n m : ℕ) → n ≤ m → take n (take m xs) ≡ take n xs
 first_first xs zero m below = refl
@@ -52,8 +52,8 @@ first_legal program closed entered g n legal = record {
   offsets = sym (take-map (λ (l : MapLine). l.offset) n g.lines) ∙ ap (take n) legal.offsets ∙ take-map (λ (i : Item). i.offset) n program.items;
   gates = (
     legal.gates.0,
-    subst (λ (gates : List ℕ). AreGates closed.sides legal.gates.0 0 (profile_for g.form).units_from (take n program.items) gates) (take-map (λ (l : MapLine). l.gate) n g.lines)
-        (first_gates closed.sides legal.gates.0 0 (profile_for g.form).units_from program.items (gates_of g.lines) n legal.gates.1),
+    subst (λ (gates : List ℕ). AreGates closed.calls closed.sides legal.gates.0 0 (profile_for g.form).units_from (take n program.items) gates) (take-map (λ (l : MapLine). l.gate) n g.lines)
+        (first_gates closed.calls closed.sides legal.gates.0 0 (profile_for g.form).units_from program.items (gates_of g.lines) n legal.gates.1),
     first_groups program.items entered legal.gates.0 n legal.gates.2,
   );
 }
@@ -91,30 +91,30 @@ one_is_first program closed entry g a b one other = elim (cases_lt a b) [
 ]
 
 -- the lines of a placement with these branches long
-unfoldable lines_at : List Side → List Bool → ℕ → ℕ → List Item → List MapLine
-lines_at sides whole k at [] = []
-lines_at sides whole k at (item ∷ items) =
+unfoldable lines_at : Option (List ℕ) → List Side → List Bool → ℕ → ℕ → List Item → List MapLine
+lines_at calls sides whole k at [] = []
+lines_at calls sides whole k at (item ∷ items) =
     record { gate = at; section = item.section; offset = item.offset }
-    ∷ lines_at sides whole (k + 1) (at + lead_size sides k + size_of item.kind (whole_at whole k)) items
+    ∷ lines_at calls sides whole (k + 1) (at + lead_size sides k + size_of calls item (whole_at whole k)) items
 
-gates_at : (sides : List Side) (whole : List Bool) (k at : ℕ) (items : List Item) → AreGates sides whole k at items (gates_of (lines_at sides whole k at items))
+gates_at : (calls : Option (List ℕ)) (sides : List Side) (whole : List Bool) (k at : ℕ) (items : List Item) → AreGates calls sides whole k at items (gates_of (lines_at calls sides whole k at items))
 unfolding lines_at AreGates
-gates_at sides whole k at [] = tt
-gates_at sides whole k at (item ∷ items) = (refl, gates_at sides whole (k + 1) (at + lead_size sides k + size_of item.kind (whole_at whole k)) items)
+gates_at calls sides whole k at [] = tt
+gates_at calls sides whole k at (item ∷ items) = (refl, gates_at calls sides whole (k + 1) (at + lead_size sides k + size_of calls item (whole_at whole k)) items)
 
-sections_at : (sides : List Side) (whole : List Bool) (k at : ℕ) (items : List Item) →
-    map (λ (l : MapLine). l.section) (lines_at sides whole k at items) ≡ map (λ (i : Item). i.section) items
+sections_at : (calls : Option (List ℕ)) (sides : List Side) (whole : List Bool) (k at : ℕ) (items : List Item) →
+    map (λ (l : MapLine). l.section) (lines_at calls sides whole k at items) ≡ map (λ (i : Item). i.section) items
 unfolding lines_at
-sections_at sides whole k at [] = refl
-sections_at sides whole k at (item ∷ items) =
-    ap (λ (ns : List ℕ). item.section ∷ ns) (sections_at sides whole (k + 1) (at + lead_size sides k + size_of item.kind (whole_at whole k)) items)
+sections_at calls sides whole k at [] = refl
+sections_at calls sides whole k at (item ∷ items) =
+    ap (λ (ns : List ℕ). item.section ∷ ns) (sections_at calls sides whole (k + 1) (at + lead_size sides k + size_of calls item (whole_at whole k)) items)
 
-offsets_at : (sides : List Side) (whole : List Bool) (k at : ℕ) (items : List Item) →
-    map (λ (l : MapLine). l.offset) (lines_at sides whole k at items) ≡ map (λ (i : Item). i.offset) items
+offsets_at : (calls : Option (List ℕ)) (sides : List Side) (whole : List Bool) (k at : ℕ) (items : List Item) →
+    map (λ (l : MapLine). l.offset) (lines_at calls sides whole k at items) ≡ map (λ (i : Item). i.offset) items
 unfolding lines_at
-offsets_at sides whole k at [] = refl
-offsets_at sides whole k at (item ∷ items) =
-    ap (λ (ns : List ℕ). item.offset ∷ ns) (offsets_at sides whole (k + 1) (at + lead_size sides k + size_of item.kind (whole_at whole k)) items)
+offsets_at calls sides whole k at [] = refl
+offsets_at calls sides whole k at (item ∷ items) =
+    ap (λ (ns : List ℕ). item.offset ∷ ns) (offsets_at calls sides whole (k + 1) (at + lead_size sides k + size_of calls item (whole_at whole k)) items)
 
 heads : (a b : ℕ) (xs ys : List ℕ) → a ∷ xs ≡ b ∷ ys → (a ≡ b) × (xs ≡ ys)
 heads a b xs ys e = (cc, cc)
@@ -125,39 +125,39 @@ one_line line item at gate section offset =
     ap (λ (g : ℕ). record line { gate = g }) gate ∙ ap (λ (s : ℕ). record line { gate = at; section = s }) section
     ∙ ap (λ (o : ℕ). record line { gate = at; section = item.section; offset = o }) offset
 
-same_lines : (sides : List Side) (whole : List Bool) (k at : ℕ) (items : List Item) (lines : List MapLine) (n : ℕ) →
-    AreGates sides whole k at (take n items) (gates_of (take n lines)) →
+same_lines : (calls : Option (List ℕ)) (sides : List Side) (whole : List Bool) (k at : ℕ) (items : List Item) (lines : List MapLine) (n : ℕ) →
+    AreGates calls sides whole k at (take n items) (gates_of (take n lines)) →
     map (λ (l : MapLine). l.section) (take n lines) ≡ map (λ (i : Item). i.section) (take n items) →
     map (λ (l : MapLine). l.offset) (take n lines) ≡ map (λ (i : Item). i.offset) (take n items) →
-    take n lines ≡ take n (lines_at sides whole k at items)
+    take n lines ≡ take n (lines_at calls sides whole k at items)
 unfolding lines_at AreGates
-same_lines sides whole k at items lines zero are sections offsets = refl
-same_lines sides whole k at [] [] (suc n) are sections offsets = refl
-same_lines sides whole k at [] (line ∷ lines) (suc n) are sections offsets = absurd are
-same_lines sides whole k at (item ∷ items) [] (suc n) are sections offsets = absurd are
-same_lines sides whole k at (item ∷ items) (line ∷ lines) (suc n) are sections offsets =
+same_lines calls sides whole k at items lines zero are sections offsets = refl
+same_lines calls sides whole k at [] [] (suc n) are sections offsets = refl
+same_lines calls sides whole k at [] (line ∷ lines) (suc n) are sections offsets = absurd are
+same_lines calls sides whole k at (item ∷ items) [] (suc n) are sections offsets = absurd are
+same_lines calls sides whole k at (item ∷ items) (line ∷ lines) (suc n) are sections offsets =
     let s = heads line.section item.section _ _ sections in
     let o = heads line.offset item.offset _ _ offsets in
     ap (λ (l : MapLine). l ∷ take n lines) (one_line line item at are.0 s.0 o.0)
     ∙ ap (λ (ls : List MapLine). record { gate = at; section = item.section; offset = item.offset } ∷ ls)
-    (same_lines sides whole (k + 1) (at + lead_size sides k + size_of item.kind (whole_at whole k)) items lines n are.1 s.1 o.1)
+    (same_lines calls sides whole (k + 1) (at + lead_size sides k + size_of calls item (whole_at whole k)) items lines n are.1 s.1 o.1)
 
 -- a placement's gates are those of any flags that are the same at its places
-gates_alike : (sides : List Side) (whole other : List Bool) (k at : ℕ) (items : List Item) (gates : List ℕ)
-    → ((i : ℕ) → i < length items → whole_at whole (k + i) ≡ whole_at other (k + i)) → AreGates sides whole k at items gates → AreGates sides other k at items gates
+gates_alike : (calls : Option (List ℕ)) (sides : List Side) (whole other : List Bool) (k at : ℕ) (items : List Item) (gates : List ℕ)
+    → ((i : ℕ) → i < length items → whole_at whole (k + i) ≡ whole_at other (k + i)) → AreGates calls sides whole k at items gates → AreGates calls sides other k at items gates
 unfolding AreGates
-gates_alike sides whole other k at [] [] same are = tt
-gates_alike sides whole other k at [] (gate ∷ gates) same are = absurd are
-gates_alike sides whole other k at (item ∷ items) [] same are = absurd are
-gates_alike sides whole other k at (item ∷ items) (gate ∷ gates) same are =
+gates_alike calls sides whole other k at [] [] same are = tt
+gates_alike calls sides whole other k at [] (gate ∷ gates) same are = absurd are
+gates_alike calls sides whole other k at (item ∷ items) [] same are = absurd are
+gates_alike calls sides whole other k at (item ∷ items) (gate ∷ gates) same are =
     let plus : k + 0 ≡ k = omega arith in
     let here : whole_at whole k ≡ whole_at other k = subst (λ (j : ℕ). whole_at whole j ≡ whole_at other j) plus (same 0 (omega arith)) in (
       are.0,
-      gates_alike sides whole other (k + 1) (at + lead_size sides k + size_of item.kind (whole_at other k)) items gates
+      gates_alike calls sides whole other (k + 1) (at + lead_size sides k + size_of calls item (whole_at other k)) items gates
           (λ i below.
           let next : k + suc i ≡ k + 1 + i = omega arith in
           subst (λ (j : ℕ). whole_at whole j ≡ whole_at other j) next (same (suc i) (omega arith)))
-          (subst (λ (b : Bool). AreGates sides whole (k + 1) (at + lead_size sides k + size_of item.kind b) items gates) here are.1),
+          (subst (λ (b : Bool). AreGates calls sides whole (k + 1) (at + lead_size sides k + size_of calls item b) items gates) here are.1),
     )
 
 -- a legal beginning goes on to a legal map: behind it each unit has its whole size
@@ -169,7 +169,7 @@ module _ (program : Program) (closed : ClosedGraph) (entry : ℕ) (g : MapParts)
   flags = take n begins.gates.0
 
   abbrev whole_map : MapParts
-  whole_map = record { form = g.form; lines = lines_at closed.sides flags 0 from program.items }
+  whole_map = record { form = g.form; lines = lines_at closed.calls closed.sides flags 0 from program.items }
 
   same_flags : (j : ℕ) → j < n → whole_at begins.gates.0 j ≡ whole_at flags j
   same_flags j below = sym (get_or-take n begins.gates.0 j true below)
@@ -190,15 +190,15 @@ module _ (program : Program) (closed : ClosedGraph) (entry : ℕ) (g : MapParts)
 
   whole_legal : IsLegalMap program closed entry whole_map
   whole_legal = record {
-    sections = sections_at closed.sides flags 0 from program.items;
-    offsets = offsets_at closed.sides flags 0 from program.items;
-    gates = (flags, gates_at closed.sides flags 0 from program.items, flags_groups);
+    sections = sections_at closed.calls closed.sides flags 0 from program.items;
+    offsets = offsets_at closed.calls closed.sides flags 0 from program.items;
+    gates = (flags, gates_at closed.calls closed.sides flags 0 from program.items, flags_groups);
   }
 
   whole_begins : take n g.lines ≡ take n whole_map.lines
   whole_begins =
-      same_lines closed.sides flags 0 from program.items g.lines n
-      (gates_alike closed.sides begins.gates.0 flags 0 from (take n program.items) (gates_of (take n g.lines))
+      same_lines closed.calls closed.sides flags 0 from program.items g.lines n
+      (gates_alike closed.calls closed.sides begins.gates.0 flags 0 from (take n program.items) (gates_of (take n g.lines))
       (λ i below.
       let size = length-take n program.items in
       let plus : i ≡ 0 + i = omega arith in

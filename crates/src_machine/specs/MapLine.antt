@@ -4,8 +4,9 @@ use Rattle.rv_word.specs.Form.{profile_for}
 use Rattle.rv_word.specs.declared.form.Form.{Form}
 use Rattle.cfi_graph.specs.declared.map.MapLine.{MapLine}
 use Rattle.obj_input.specs.declared.item_kind.ItemKind.{ItemKind}
+use Rattle.obj_program.specs.declared.item.Item.{Item}
 use Rattle.obj_program.specs.Program.{count, is_spot, item_of}
-use Rattle.cfi_closed.specs.Closed.{Side}
+use Rattle.cfi_closed.specs.Closed.{ClosedGraph}
 use Rattle.cfi_map.specs.Groups.{Entries, is_store, joins_in, members_before}
 use Rattle.cfi_map.specs.Placement.{lead_size, size_of}
 
@@ -16,14 +17,14 @@ abbrev pub line_at : List MapLine → ℕ → MapLine
 line_at lines j = slice_index_or lines j no_line
 
 -- a gate stands behind the unit of the place k, where that has its whole size
-abbrev pub is_past_whole : List Side → ItemKind → ℕ → ℕ → ℕ → Bool
-is_past_whole sides kind k gate next = next == gate + (lead_size sides k + size_of kind true)
+abbrev pub is_past_whole : ClosedGraph → Item → ℕ → ℕ → ℕ → Bool
+is_past_whole closed item k gate next = next == gate + (lead_size closed.sides k + size_of closed.calls item true)
 
 -- whether the unit of a place has its whole size, by the gates; that of the last line has it
 abbrev pub has_whole : Entries → List MapLine → ℕ → Bool
 has_whole of lines k =
     nat_le (length lines) (k + 1)
-    || is_past_whole of.closed.sides (item_of of.program k).kind k (line_at lines k).gate (line_at lines (k + 1)).gate
+    || is_past_whole of.closed (item_of of.program k) k (line_at lines k).gate (line_at lines (k + 1)).gate
 
 -- how many stores the group has that ends right before a place, by the gates
 abbrev pub stores_before : Entries → List MapLine → ℕ → ℕ
@@ -34,14 +35,14 @@ abbrev pub may_be_short : Entries → ItemKind → ℕ → ℕ → Bool
 may_be_short of kind k before = not (is_store kind) || joins_in of k before
 
 -- a gate stands behind the unit of the place k, whole or short
-abbrev pub follows : Entries → ItemKind → ℕ → ℕ → ℕ → ℕ → Bool
-follows of kind k before gate next =
-    is_past_whole of.closed.sides kind k gate next
-    || (next == gate + (lead_size of.closed.sides k + size_of kind false) && may_be_short of kind k before)
+abbrev pub follows : Entries → Item → ℕ → ℕ → ℕ → ℕ → Bool
+follows of item k before gate next =
+    is_past_whole of.closed item k gate next
+    || (next == gate + (lead_size of.closed.sides k + size_of of.closed.calls item false) && may_be_short of item.kind k before)
 
 -- the gate of the line after that of the place k is where this lets it be
 abbrev pub follows_at : Entries → List MapLine → ℕ → ℕ → Bool
-follows_at of lines k before = follows of (item_of of.program k).kind k before (line_at lines k).gate (line_at lines (k + 1)).gate
+follows_at of lines k before = follows of (item_of of.program k) k before (line_at lines k).gate (line_at lines (k + 1)).gate
 
 -- a line is that of its place, but for its gate
 abbrev pub is_named : Entries → List MapLine → ℕ → Bool

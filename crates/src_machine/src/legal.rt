@@ -13,7 +13,7 @@ use cfi_closed::Closed;
 use cfi_graph::{Map, MapLine};
 use cfi_map::{Grouping, lead_size, unit_size};
 use obj_input::ItemKind;
-use obj_program::Items;
+use obj_program::{Item, Items};
 use rv_word::Form;
 use std::alloc::Global;
 
@@ -25,10 +25,14 @@ fn is_behind(address: u64, next: u64, bytes: u32) -> bool
 }
 
 /// Whether a gate stands behind the unit of the place `k`, where that has its whole size.
-fn is_past_whole(closed: &Closed, kind: ItemKind, k: u64, gate: u64, next: u64) -> bool
-    ensures { result ≡ is_past_whole closed.now.sides kind k gate next }
+fn is_past_whole(closed: &Closed, item: &Item, k: u64, gate: u64, next: u64) -> bool
+    ensures { result ≡ is_past_whole closed.now item.now k gate next }
 {
-    is_behind(gate, next, lead_size(closed, k) + unit_size(kind, true))
+    is_behind(
+        gate,
+        next,
+        lead_size(closed, k) + unit_size(closed, item, true),
+    )
 }
 
 /// Whether the unit of the place `k` has its whole size, by the gates; that of the last line has it.
@@ -40,10 +44,10 @@ fn has_whole(grouping: &Grouping, lines: &[MapLine], k: u64) -> bool
     if lines.len() as u64 <= k + 1 {
         return true;
     }
-    let kind = grouping.items().item(k).kind;
+    let item = grouping.items().item(k);
     let gate = lines[k as usize].gate;
     let next = lines[k as usize + 1].gate;
-    is_past_whole(grouping.closed(), kind, k, gate, next)
+    is_past_whole(grouping.closed(), &item, k, gate, next)
 }
 
 /// How many stores the group has that ends with the place `k`, where so many end right before it.
@@ -99,12 +103,15 @@ fn follows_at(grouping: &Grouping, lines: &[MapLine], k: u64, before: u64) -> bo
     ensures { result ≡ follows_at grouping.now lines.now k before }
 {
     let closed = grouping.closed();
-    let kind = grouping.items().item(k).kind;
+    let item = grouping.items().item(k);
     let gate = lines[k as usize].gate;
     let next = lines[k as usize + 1].gate;
-    is_past_whole(closed, kind, k, gate, next)
-        || is_behind(gate, next, lead_size(closed, k) + unit_size(kind, false))
-            && may_be_short(grouping, kind, k, before)
+    is_past_whole(closed, &item, k, gate, next)
+        || is_behind(
+            gate,
+            next,
+            lead_size(closed, k) + unit_size(closed, &item, false),
+        ) && may_be_short(grouping, item.kind, k, before)
 }
 
 /// Whether the gate of a line is where the line before it lets it be.

@@ -12,7 +12,7 @@ use cfi_map::Mapped;
 use obj_program::Item;
 use rv_code::decode;
 use rv_instr::Instr;
-use rv_word::{Form, NoMemory};
+use rv_word::{Form, NoMemory, Numbers};
 use std::alloc::Global;
 use std::marker::Model;
 
@@ -67,6 +67,13 @@ impl<'a, 'b> Placed<'a, 'b> {
         ensures few { result ≤ 2 }
     {
         self.mapped.closed().sides().len() as u64
+    }
+
+    /// The numbers of the system calls that it may make, where it has a list of them.
+    pub(crate) fn calls(&self) -> Option<Numbers>
+        ensures { result ≡ self.now.closed.calls }
+    {
+        self.mapped.closed().calls()
     }
 
     /// The address to which it returns at its end.

@@ -1,17 +1,19 @@
 //! The reasons against a step.
 
-ghost use Rattle.std.specs.Prelude.{◌≡◌, ◌<◌, ◌+◌, false, IfSome, nat_le, not};
-ghost use Rattle.std.specs.List.{All};
+ghost use Rattle.std.specs.Prelude.{◌≡◌, ◌==◌, ◌<◌, ◌+◌, false, IfSome, nat_le, not};
+ghost use Rattle.std.specs.List.{All, list_any};
+ghost use Rattle.rv_word.specs.Numbers.{is_listed};
 ghost use Rattle.rv_code.specs.Arithmetic.{load_size, store_size};
 ghost use Rattle.obj_program.specs.Program.{count, is_end};
 ghost use Rattle.src_machine.specs.State.{source_in};
-ghost use Rattle.cfi_map.specs.Untame.{computed, computed_place, is_off_graph, is_off_window, is_too_deep, is_wrong_return, reason, return_address, touched, WINDOW};
+ghost use Rattle.cfi_map.specs.Untame.{computed, computed_place, is_off_graph, is_off_window, is_outside, is_too_deep, is_unlisted, is_wrong_return, reason, return_address, touched, WINDOW};
 
 use crate::placed::Placed;
 use crate::state::State;
 use cfi_map::Reason;
 use obj_input::ItemKind;
 use rv_instr::{Instr, LoadOp, Reg, StoreOp};
+use rv_word::Numbers;
 
 /// The end of the window of data.
 const WINDOW: u64 = 1 << 28;
@@ -135,6 +137,40 @@ fn is_too_deep(kind: ItemKind, state: &State) -> bool
     }
 }
 
+/// Whether some number is this one.
+fn has(calls: &[u16], number: u64) -> bool
+    ensures { result ≡ list_any (λ n. n == number) calls.now }
+{
+    calls.iter().any(|call| u64::from(*call) == number)
+}
+
+/// The same, as the definitions say it.
+fn is_listed(number: u64, calls: &[u16]) -> bool
+    ensures { result ≡ is_listed number calls.now }
+{
+    has(calls, number)
+}
+
+/// Whether there is a list in which a number is not.
+fn is_outside(calls: Option<Numbers>, number: u64) -> bool
+    ensures { result ≡ is_outside calls number }
+{
+    match calls {
+        Some(numbers) => !is_listed(number, numbers.as_slice()),
+        None => false,
+    }
+}
+
+/// Whether an instruction makes a system call that is not in the closed graph's list.
+fn is_unlisted(placed: &Placed, kind: ItemKind, instr: &Instr, state: &State) -> bool
+    ensures { result ≡ is_unlisted placed.now kind instr.now (source_in state.now) }
+{
+    match (kind, *instr) {
+        (ItemKind::System, Instr::Ecall) => is_outside(placed.calls(), state.reg(Reg::of(17))),
+        _ => false,
+    }
+}
+
 /// The first reason against the step of an instruction, if there is one.
 pub(crate) fn reason(
     placed: &Placed,
@@ -155,6 +191,8 @@ pub(crate) fn reason(
         Some(Reason::Window)
     } else if is_too_deep(kind, state) {
         Some(Reason::Deep)
+    } else if is_unlisted(placed, kind, instr, state) {
+        Some(Reason::Call)
     } else {
         None
     }

@@ -1,7 +1,7 @@
 ghost use Rattle.std.specs.Prelude.{◌==◌, ◌||◌, IsTrue};
 
 use cfi_graph::{Graph, GraphLine, GraphLines, SiteKind, read_graph, write_graph};
-use rv_word::{NoMemory, Places};
+use rv_word::{NoMemory, Numbers, Places};
 use sample_programs::{P_GRAPH, Q_GRAPH, is_told_as, rows};
 use std::alloc::{AllocError, Global};
 
@@ -125,7 +125,7 @@ const TEXTS: &[u8] = b"\
     from 3|call 000c 40000040/end/|line 3: Form\n\
     from 3|jump 4000000c 40000040/end/|line 3: Form\n\
     from 3|Call 4000000c 40000040/end/|line 3: Form\n\
-    from 3|calls 1 2/end/|line 3: Form\n\
+    from 3|calls 1 2/end/|a graph\n\
     from 3|callclass 00001 400000c8/end/|line 3: Form\n\
     from 3|jumpclass 00001/end/|line 3: Form\n\
     from 3|callclass 00000 400000ca/end/|line 3: Form\n\
@@ -246,6 +246,76 @@ const TEXTS_OF_2: &[u8] = b"\
     from 1|rvcfi-graph 1/code 40000000 00000124/callclass 00001 4000009c/jumpclass 00002 4000007c 4000009c/call 4000000c 40000040/site 40000048 jump 00002/site 400000bc call 00001/end/|line 3: Form\n\
 ";
 
+/// The same with lists of system calls.
+const TEXTS_OF_CALLS: &[u8] = b"\
+    from 3|calls 64/end/|a graph\n\
+    from 3|calls 0/end/|a graph\n\
+    from 3|calls 2047/end/|a graph\n\
+    from 3|calls 0 2047/end/|a graph\n\
+    from 3|calls 9 10 100 1000/end/|a graph\n\
+    from 3|calls 1 2 3 4 5 6 7 8/end/|a graph\n\
+    from 3|calls 1 2 3 4 5 6 7 8 9/end/|line 3: Form\n\
+    from 3|calls/end/|line 3: Form\n\
+    from 3|calls /end/|line 3: Form\n\
+    from 3|calls  64/end/|line 3: Form\n\
+    from 3|calls 64 /end/|line 3: Form\n\
+    from 3|calls 64  93/end/|line 3: Form\n\
+    from 3| calls 64/end/|line 3: Form\n\
+    from 3|Calls 64/end/|line 3: Form\n\
+    from 3|callss 64/end/|line 3: Form\n\
+    from 3|call 64/end/|line 3: Form\n\
+    from 3|calls64/end/|line 3: Form\n\
+    from 3|calls 00/end/|line 3: Form\n\
+    from 3|calls 064/end/|line 3: Form\n\
+    from 3|calls 64 093/end/|line 3: Form\n\
+    from 3|calls +1/end/|line 3: Form\n\
+    from 3|calls -1/end/|line 3: Form\n\
+    from 3|calls 0x40/end/|line 3: Form\n\
+    from 3|calls 4a/end/|line 3: Form\n\
+    from 3|calls 64,93/end/|line 3: Form\n\
+    from 3|calls 64\t93/end/|line 3: Form\n\
+    from 3|calls 64\r/end/|line 3: Form\n\
+    from 3|calls 2048/end/|line 3: Range\n\
+    from 3|calls 64 2048/end/|line 3: Range\n\
+    from 3|calls 65536/end/|line 3: Range\n\
+    from 3|calls 65600/end/|line 3: Range\n\
+    from 3|calls 18446744073709551680/end/|line 3: Range\n\
+    from 3|calls 123456789012345678901234567890/end/|line 3: Range\n\
+    from 3|calls 0123456789012345678901234567890/end/|line 3: Form\n\
+    from 3|calls 12345678901234567890123456789x/end/|line 3: Form\n\
+    from 3|calls 4096 2 1/end/|line 3: Range\n\
+    from 3|calls 4096 x/end/|line 3: Form\n\
+    from 3|calls 4096 1 2 3 4 5 6 7 8/end/|line 3: Form\n\
+    from 3|calls 1 2 3 4 5 6 7 2048/end/|line 3: Range\n\
+    from 3|calls 64 63/end/|line 3: Order\n\
+    from 3|calls 64 64/end/|line 3: Order\n\
+    from 3|calls 1 2 3 4 5 6 8 7/end/|line 3: Order\n\
+    from 3|calls 64|line 3: Form\n\
+    from 3|calls 2048|line 3: Form\n\
+    from 3|calls 64/|line 4: Form\n\
+    from 3|calls 64/calls 64/end/|line 4: Form\n\
+    from 3|calls 64/calls 93/end/|line 4: Form\n\
+    from 3|class 00001/calls 64/end/|line 4: Form\n\
+    from 3|call 4000000c 40000040/calls 64/end/|line 4: Form\n\
+    from 3|calls 64 93/class 00001 400000c8/call 4000000c 40000040/end/|a graph\n\
+    from 3|calls 64/class 00000/end/|line 4: Range\n\
+    from 3|calls 64/class 00002/class 00001/end/|line 5: Order\n\
+    from 3|calls 64/callclass 00001/end/|line 4: Form\n\
+    from 3|calls 64/end/x|line 5: Form\n\
+    from 3|end/calls 64/|line 4: Form\n\
+    from 2|calls 64/code 40000000 00000050/end/|line 2: Form\n\
+    from 2|code 40000000 00000052/calls 64/end/|line 2: Range\n\
+    from 1|calls 64/rvcfi-graph 1/code 40000000 00000050/end/|line 1: Form\n\
+    2 from 3|calls 93/end/|a graph\n\
+    2 from 3|calls 64 93/callclass 00001 400000c8/jumpclass 00002/end/|a graph\n\
+    2 from 3|calls 64 64/end/|line 3: Order\n\
+    2 from 3|calls 2048/end/|line 3: Range\n\
+    2 from 3|calls/end/|line 3: Form\n\
+    2 from 3|callclass 00001/calls 64/end/|line 4: Form\n\
+    2 from 3|calls 64/class 00001/end/|line 4: Form\n\
+    2 from 3|calls 64/calls 64/end/|line 4: Form\n\
+";
+
 /// The lines of a text before the line from which it is spelled.
 fn head(name: &str) -> &'static [u8] {
     match name {
@@ -315,6 +385,40 @@ fn texts_of_version_2(rt: HostRuntime) {
     for row in rows(TEXTS_OF_2, 91).lines() {
         assert!(rt; is_right(rt.alloc(), row), "{row}");
     }
+}
+
+#[test]
+fn texts_of_calls(rt: HostRuntime) {
+    for row in rows(TEXTS_OF_CALLS, 66).lines() {
+        assert!(rt; is_right(rt.alloc(), row), "{row}");
+    }
+}
+
+/// Whether a graph has a list of system calls with these numbers, or none.
+fn has_calls(alloc: Global, text: &[u8], expected: Option<&[u16]>) -> bool {
+    match read_graph(alloc, text) {
+        Ok(graph) => is_list(graph.calls(), expected),
+        Err(_) => false,
+    }
+}
+
+/// Whether a list of system calls has these numbers.
+pub(crate) fn is_list(calls: Option<Numbers>, expected: Option<&[u16]>) -> bool {
+    match (calls, expected) {
+        (Some(calls), Some(expected)) => calls.as_slice() == expected,
+        (None, None) => true,
+        _ => false,
+    }
+}
+
+/// A graph with a list of system calls.
+const LISTED: &[u8] = b"rvcfi-graph 1\ncode 40000000 00000104\ncalls 0 64 2047\nend\n";
+
+#[test]
+fn calls(rt: HostRuntime) {
+    assert!(rt; has_calls(rt.alloc(), LISTED, Some(&[0, 64, 2047])));
+    assert!(rt; has_calls(rt.alloc(), MADE, None));
+    assert!(rt; has_calls(rt.alloc(), MADE_OF_A_CLASS, None));
 }
 
 #[test]

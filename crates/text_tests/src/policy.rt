@@ -1,3 +1,4 @@
+use crate::graph::is_list;
 use cfi_graph::{PlaceName, Policy, read_policy, read_policy_part};
 use sample_programs::{is_told_as, rows};
 use std::alloc::{AllocError, Global};
@@ -74,6 +75,37 @@ const TEXTS: &[u8] = b"\
     site \xc3\xa9+4/end/|1|\n\
 ";
 
+/// The same of version 2, whose second line is a list of system calls.
+const TEXTS_OF_2: &[u8] = b"\
+    calls 64 93/end/|0|\n\
+    calls 0/site a+4/end/|1|\n\
+    calls 2047/site a+4/site b+4/end/|2|\n\
+    calls 1 2 3 4 5 6 7 8/end/|0|\n\
+    calls 1 2 3 4 5 6 7 8 9/end/|0|line 2: Form\n\
+    |0|line 2: Form\n\
+    end/|0|line 2: Form\n\
+    site a+4/end/|0|line 2: Form\n\
+    site a+4/calls 64/end/|0|line 2: Form\n\
+    calls/end/|0|line 2: Form\n\
+    calls |0|line 2: Form\n\
+    calls 64|0|line 2: Form\n\
+    calls 64/|0|line 3: Form\n\
+    calls 64/site a+4|0|line 3: Form\n\
+    calls 64/site a+4/|1|line 4: Form\n\
+    calls 064/end/|0|line 2: Form\n\
+    calls 00/end/|0|line 2: Form\n\
+    calls 64 /end/|0|line 2: Form\n\
+    calls 2048/end/|0|line 2: Range\n\
+    calls 64 99999999999999999999/end/|0|line 2: Range\n\
+    calls 93 64/end/|0|line 2: Order\n\
+    calls 64 64/end/|0|line 2: Order\n\
+    calls 64/calls 64/end/|0|line 3: Form\n\
+    calls 64/site a+4/calls 64/end/|1|line 4: Form\n\
+    calls 64/site a/end/|0|line 3: Form\n\
+    calls 64/edge a+4 b+4/end/|0|line 3: Form\n\
+    calls 64/end/x|0|line 4: Form\n\
+";
+
 /// Whether a text is read as these words say, up to a fault and as a whole.
 fn is_read_as(alloc: Global, text: &[u8], count: &str, expected: &str) -> bool {
     let (policy, end) = read_policy_part(alloc, text);
@@ -95,20 +127,25 @@ fn is_refused_as(alloc: Global, text: &[u8], expected: &str) -> bool {
     }
 }
 
+/// The first line of version 1, and of version 2.
+const FIRST: &[u8] = b"rvcfi-policy 1\n";
+
+const FIRST_OF_2: &[u8] = b"rvcfi-policy 2\n";
+
 /// The text of a row, with its first line.
-fn text_of(alloc: Global, rest: &str) -> Result<Vec<u8>, AllocError> {
-    [b"rvcfi-policy 1\n", rest.as_bytes()].concat(alloc)
+fn text_of(alloc: Global, first: &[u8], rest: &str) -> Result<Vec<u8>, AllocError> {
+    [first, rest.as_bytes()].concat(alloc)
 }
 
 /// Whether a row says what its text is read as.
-fn is_right(alloc: Global, row: &str) -> bool {
+fn is_right(alloc: Global, first: &[u8], row: &str) -> bool {
     let Some((rest, expected)) = row.split_once('|') else {
         return false;
     };
     let Some((count, expected)) = expected.split_once('|') else {
         return false;
     };
-    match text_of(alloc, rest) {
+    match text_of(alloc, first, rest) {
         Ok(mut text) => {
             crate::graph::break_lines(&mut text);
             is_read_as(alloc, &text, count, expected)
@@ -120,8 +157,39 @@ fn is_right(alloc: Global, row: &str) -> bool {
 #[test]
 fn policy_texts(rt: HostRuntime) {
     for row in rows(TEXTS, 67).lines() {
-        assert!(rt; is_right(rt.alloc(), row), "{row}");
+        assert!(rt; is_right(rt.alloc(), FIRST, row), "{row}");
     }
+}
+
+#[test]
+fn policy_texts_of_version_2(rt: HostRuntime) {
+    for row in rows(TEXTS_OF_2, 27).lines() {
+        assert!(rt; is_right(rt.alloc(), FIRST_OF_2, row), "{row}");
+    }
+}
+
+/// Whether a policy has a list of system calls with these numbers, or none.
+fn has_calls(alloc: Global, text: &[u8], expected: Option<&[u16]>) -> bool {
+    match read_policy(alloc, text) {
+        Ok(policy) => is_list(policy.calls(), expected),
+        Err(_) => false,
+    }
+}
+
+/// Whether what is read up to a fault has these numbers.
+fn has_calls_before(alloc: Global, text: &[u8], expected: Option<&[u16]>) -> bool {
+    let (policy, end) = read_policy_part(alloc, text);
+    end.is_err() && is_list(policy.calls(), expected)
+}
+
+const LISTED: &[u8] = b"rvcfi-policy 2\ncalls 64 93\nsite a+4\nend\n";
+
+#[test]
+fn calls(rt: HostRuntime) {
+    assert!(rt; has_calls(rt.alloc(), LISTED, Some(&[64, 93])));
+    assert!(rt; has_calls(rt.alloc(), b"rvcfi-policy 1\nend\n", None));
+    assert!(rt; has_calls_before(rt.alloc(), b"rvcfi-policy 2\ncalls 64\nsite\n", Some(&[64])));
+    assert!(rt; has_calls_before(rt.alloc(), b"rvcfi-policy 2\ncalls 64 64\n", None));
 }
 
 /// Whether a place has this name.
@@ -152,4 +220,5 @@ fn is_worked(alloc: Global) -> bool {
 fn names(rt: HostRuntime) {
     assert!(rt; is_worked(rt.alloc()));
     assert!(rt; Policy::none(rt.alloc()).lines() == 0);
+    assert!(rt; is_list(Policy::none(rt.alloc()).calls(), None));
 }

@@ -20,7 +20,7 @@ returns-in-None c =
     let program = c.args.items.now in
     let lines = c.args.lines.now in
     let at = get_or_default lines c.loop-j.j no_line c.index-lines-j.result c.loop-j-test.true ∙ sym c.index-lines-j.is in
-    wrong_at program lines c.loop-j.j c.loop-j-test.true c.loop-j.invariant.0
+    wrong_at c.args.first program lines c.loop-j.j c.loop-j-test.true c.loop-j.invariant.0
     (is_wrong program lines c.loop-j.j c.loop-j.table.items c.loop-j.invariant.1 c.index-lines-j.result at
     (rw c.as_slice.ensures.value at (sym c.in-None.ensures.value)))
 
@@ -41,6 +41,6 @@ returns c =
     let program = c.args.items.now in
     let lines = c.args.lines.now in
     let all : c.loop-j.j ≡ length lines = omega arith in (
-      none_wrong program lines c.loop-j.j all c.loop-j.invariant.0,
+      none_wrong c.args.first program lines c.loop-j.j all c.loop-j.invariant.0,
       subst (λ (xs : List PolicyLine). IsTable (line_for program xs) (count program) c.loop-j.table.items) (take_all c.loop-j.j lines (omega arith)) c.loop-j.invariant.1,
     )

@@ -5,6 +5,6 @@ use Rattle.cfi_scan.proofs.branch.jump_word.Goals as goal
 
 -- src/branch.rt:26:1
 pub returns-in-Jal : goal.returns-in-Jal
-returns-in-Jal c =
-    jump_leads c.args.word c.args.here c.in-Jal.field-0 c.in-Jal.field (omega (arith, c.ranges.word.fits)) (omega (arith, c.ranges.here.fits))
+returns-in-Jal c calls =
+    jump_leads calls c.args.word c.args.here c.in-Jal.field-0 c.in-Jal.field (omega (arith, c.ranges.word.fits)) (omega (arith, c.ranges.here.fits))
     (sym c.decode.ensures.value ∙ c.in-Some.is ∙ ap Some c.in-Jal.is) c.requires.taken

@@ -9,3 +9,8 @@ pub returns-in-Ok-clause-safe : goal.returns-in-Ok-clause-safe
 returns-in-Ok-clause-safe c =
     let formed : IsWellFormed (image_profile c.args.image.now) c.args.image.now c.args.graph.now = search rules in
     well_formed_is_safe _ c.args.image.now c.args.graph.now (is_profile c.args.image.now.version) c.are_bytes.ensures formed
+
+pub returns-in-Ok-clause-listed : goal.returns-in-Ok-clause-listed
+returns-in-Ok-clause-listed c =
+    let formed : IsWellFormed (image_profile c.args.image.now) c.args.image.now c.args.graph.now = search rules in
+    λ calls list_is. c.well_formed_is_listed.ensures _ c.args.image.now c.args.graph.now calls (is_profile c.args.image.now.version) c.are_bytes.ensures formed list_is

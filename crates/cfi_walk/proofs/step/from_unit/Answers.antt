@@ -6,6 +6,9 @@ returns-in-Branch c = rw c.in-Branch.is c.to_either.ensures
 pub returns-in-Near : goal.returns-in-Near
 returns-in-Near c = rw c.in-Near.is c.to_either-in-Near.ensures
 
+pub returns-in-Guarded : goal.returns-in-Guarded
+returns-in-Guarded c = rw c.in-Guarded.is c.to_either-in-Guarded.ensures
+
 pub returns-in-Call : goal.returns-in-Call
 returns-in-Call c = rw c.in-Call.is c.call.ensures
 

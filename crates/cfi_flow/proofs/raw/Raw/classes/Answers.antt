@@ -30,4 +30,4 @@ returns-clause-there c =
     let found = c.in_ok-found.found.items in
     let drawing = c.self.inside.drawing in
     subst (λ (r : RawGraph). All (All (λ (t : ℕ). t < length r.taken)) found) c.self.view_is
-    (members_there (record { sites = sites_of drawing; taken = drawing.taken.items }) (there drawing c.self.invariant) found (λ a h. ((are c).members a).0 h))
+    (members_there (record { sites = sites_of drawing; taken = drawing.taken.items; calls = c.self.inside.calls }) (there drawing c.self.inside.calls c.self.invariant) found (λ a h. ((are c).members a).0 h))

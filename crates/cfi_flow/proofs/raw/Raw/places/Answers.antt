@@ -4,4 +4,4 @@ use Rattle.cfi_flow.proofs.Keeping.{there}
 use Rattle.cfi_flow.proofs.raw.Raw.places.Goals as goal
 
 pub returns-clause-there : goal.returns-clause-there
-returns-clause-there c = subst IsThere c.self.view_is (there c.self.inside.drawing c.self.invariant)
+returns-clause-there c = subst IsThere c.self.view_is (there c.self.inside.drawing c.self.inside.calls c.self.invariant)

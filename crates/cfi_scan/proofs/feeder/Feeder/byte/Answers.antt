@@ -16,6 +16,7 @@ returns-in-Some-clause-seen g c bytes seen =
     (subst (λ (v : ℕ). HasSeen p (sight (profile_of v) next c.push.new.self) after) (sym c.take.ensures.front)
     (seen_word p k next c.self.inside.carry c.push.new.self c.args.byte c.in-Some.word
     c.in-Some.ensures.word c.push.ensures.after
+    c.take.ensures.calls
     (λ words count. c.take.ensures.keeps words (count ∙ ap (λ (n : ℕ). n / 4) (sym c.fed.ensures)))
     bytes own))
 

@@ -7,6 +7,7 @@ use Rattle.cfi_scan.proofs.feeder.Feeder.bytes.Given as goal
 pub record HasTaken (before now : Sight) (bytes : List ℕ) (ticked ticks : ℕ) : Type 0 where
   pub seen : (earlier : List ℕ) → HasSeen (profile_of before.version) before earlier → HasSeen (profile_of before.version) now (earlier ++ bytes)
   pub version : now.version ≡ before.version
+  pub calls : now.calls ≡ before.calls
   pub fed : now.fed ≡ before.fed + length bytes
   pub room : length now.entries ≡ length before.entries
   pub cost : ticks + before.fed / 4 ≡ ticked + now.fed / 4

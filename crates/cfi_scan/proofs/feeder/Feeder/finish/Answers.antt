@@ -1,4 +1,4 @@
-use Rattle.std.proofs.Common.{◌≡◌, ℕ, ◌/◌, min, sym, subst, ap, length, take, drop, arith}
+use Rattle.std.proofs.Common.{◌≡◌, ℕ, ◌/◌, min, sym, subst, length, take, drop, arith}
 use Rattle.std.proofs.lemmas.List.{length-drop}
 use Rattle.rv_word.specs.MemoryMap.{Profile, profile_of}
 use Rattle.cfi_scan.specs.Pieces.{HasSeen, IsOf, Listed, Sight, prologue_count}
@@ -23,7 +23,7 @@ returns-clause-of c bytes seen =
       last = shut.last;
       fed = fed;
     } in
-    subst (λ (v : ℕ). IsOf (profile_of v) (left shut.front) bytes) (ap (λ (s : Sight). s.version) c.self.view_is)
-    (subst (λ (v : ℕ). IsOf p (left v) bytes) (sym c.close.ensures.front)
+    subst (λ (s : Sight). IsOf (profile_of s.version) s.calls (left shut.front) bytes) c.self.view_is
+    (subst (λ (v : ℕ). IsOf p k.units.calls (left v) bytes) (sym c.close.ensures.front)
     (ended p k t shut.entries.items shut.done shut.last fed bytes own c.fed-fed.ensures c.close.ensures.room
     (λ fits. c.close.ensures.splits (drop (prologue_count p) own.words) count (omega (arith, fits, count)))))

@@ -17,5 +17,6 @@ returns-clause-seen g c bytes seen =
     (ap (λ (s : Sight). s.fed % 4) c.self.view_is ∙ c.requires.whole)
     (omega (arith, c.from_le_bytes.ensures))
     c.pass_word.ensures
+    c.take.ensures.calls
     (λ words count. c.take.ensures.keeps words (count ∙ ap (λ (n : ℕ). n / 4) (sym c.fed.ensures)))
     bytes own))

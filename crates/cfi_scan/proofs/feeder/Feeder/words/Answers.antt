@@ -23,6 +23,7 @@ loop-rest-preserved g c =
             ),
           );
       version = c.quad.ensures.version ∙ before.version;
+      calls = c.quad.ensures.calls ∙ before.calls;
       whole = omega (arith, c.quad.ensures.fed, before.whole);
       fed = rw all (omega (arith, c.quad.ensures.fed, before.fed, length-drop 4 rest));
       room = c.quad.ensures.room ∙ before.room;

@@ -8,6 +8,7 @@ pub record HasTaken (before now : Sight) (piece rest : List ℕ) (ticked : ℕ) 
   pub seen : (bytes : List ℕ) → HasSeen (profile_of before.version) before bytes →
       (taken : List ℕ) × ((taken ++ rest ≡ piece) × HasSeen (profile_of before.version) now (bytes ++ taken))
   pub version : now.version ≡ before.version
+  pub calls : now.calls ≡ before.calls
   pub whole : now.fed % 4 ≡ 0
   pub fed : now.fed + length rest ≡ before.fed + length piece
   pub room : length now.entries ≡ length before.entries

@@ -13,5 +13,5 @@ returns-clause-keeps c =
     record {
       prologue_is = keeps_none most _;
       split = λ room.
-          rw (e.0, e.1, e.2, e.3, drop_all {X = ℕ} most [] (omega arith)) (splits_none (profile_of c.args.version).units_from c.saturating_sub.result);
+          rw (e.0, e.1, e.2, e.3, drop_all {X = ℕ} most [] (omega arith)) (splits_none c.args.calls (profile_of c.args.version).units_from c.saturating_sub-room.result);
     }

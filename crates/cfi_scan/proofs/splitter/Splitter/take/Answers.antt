@@ -11,13 +11,13 @@ returns-then-is_plain_word-clause-splits c words len s =
     let start : c.args.self.now.reader ≡ R.Start = search rules in
     let plain : IsPlainWord c.args.word = search rules in
     let room : length words < length c.args.self.now.entries.items = omega (arith, len, c.requires.room) in
-    as_ended (profile_of c.args.self.now.front).units_from [] (words ++ c.args.word ∷ []) c.end.ensures.entries (c.end.ensures.done ∙ ap (λ (n : ℕ). n + 1) (sym len))
+    as_ended c.args.self.now.calls (profile_of c.args.self.now.front).units_from [] (words ++ c.args.word ∷ []) c.end.ensures.entries (c.end.ensures.done ∙ ap (λ (n : ℕ). n + 1) (sym len))
     c.end.ensures.last c.end.ensures.reader
-    (splits_plain (profile_of c.args.self.now.front).units_from c.args.word c.args.self.now.entries.items c.args.self.now.done c.args.self.now.last
+    (splits_plain c.args.self.now.calls (profile_of c.args.self.now.front).units_from c.args.word c.args.self.now.entries.items c.args.self.now.done c.args.self.now.last
     c.args.self.now.reader words start (omega (arith, c.ranges.word.fits)) plain room s)
 
 -- src/splitter.rt:42:5
 pub returns-else-is_open-clause-splits : goal.returns-else-is_open-clause-splits
 returns-else-is_open-clause-splits c words len s =
-    c.read.ensures.splits words len (splits_before (profile_of c.args.self.now.front).units_from c.args.word c.args.self.now.entries.items c.args.self.now.done
+    c.read.ensures.splits words len (splits_before c.args.self.now.calls (profile_of c.args.self.now.front).units_from c.args.word c.args.self.now.entries.items c.args.self.now.done
     c.args.self.now.last c.args.self.now.reader words s)

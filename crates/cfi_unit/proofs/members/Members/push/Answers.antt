@@ -2,7 +2,7 @@ use Rattle.std.proofs.Common.{◌<◌, ◌≤◌, List, length, sym, subst, ◌�
 use Rattle.std.proofs.lemmas.List.{length-take-le}
 use Rattle.cfi_unit.specs.declared.members.Member.{Member}
 use Rattle.cfi_unit.specs.Members.{FILLER}
-use Rattle.cfi_unit.proofs.MemberWords.{set_length, tail_next}
+use Rattle.rv_word.proofs.Arrays.{set_length, tail_next}
 use Rattle.cfi_unit.proofs.members.Members.push.Goals as goal
 
 pub invariant_of-self : goal.invariant_of-self

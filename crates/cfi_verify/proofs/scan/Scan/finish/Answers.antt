@@ -1,7 +1,7 @@
 use Rattle.std.proofs.Common.{◌∙◌, ap, subst, sym}
 use Rattle.rv_word.specs.MemoryMap.{Profile, profile_of}
 use Rattle.cfi_graph.specs.Graph.{GraphParts}
-use Rattle.cfi_verify.specs.Entries.{Tells}
+use Rattle.cfi_verify.specs.Entries.{Tells, numbers_in}
 use Rattle.cfi_rules.specs.Rules.{Holds, IsFirst}
 use Rattle.cfi_verify.specs.Scan.{Scanned, StartParts}
 use Rattle.cfi_rules.specs.Split.{code_words}
@@ -19,7 +19,7 @@ returns-then-fed-code-clause-rejected c = λ image has.
 
 pub returns-in-Some-clause-rejected : goal.returns-in-Some-clause-rejected
 returns-in-Some-clause-rejected c = λ image has.
-    let end = ended _ _ _ _ c.self.view_is c.finish-listing.ensures.of c.finish-listing.ensures.room c.self.invariant.room (sym c.fed-fed.ensures ∙ c.if-fed-code.false ∙ c.code.ensures.value) image has in
+    let end = ended _ _ _ _ c.self.view_is c.finish-listing.ensures.of c.finish-listing.ensures.room c.self.invariant.room c.self.invariant.same_calls (sym c.fed-fed.ensures ∙ c.if-fed-code.false ∙ c.code.ensures.value) image has in
     let version = c.finish-listing.ensures.version ∙ ap (λ (s : Scanned). s.seen.version) c.self.view_is in
     let graph = ap (λ (s : Scanned). s.graph) c.self.view_is in
     let told = told_of c.args.self _ _ _ c.of-starts.ensures version graph (code_words image.code) end.told in (
@@ -34,12 +34,12 @@ returns-clause-version c =
 
 pub returns-clause-accepted : goal.returns-clause-accepted
 returns-clause-accepted c = λ image has.
-    let end = ended _ _ _ _ c.self.view_is c.finish-listing.ensures.of c.finish-listing.ensures.room c.self.invariant.room (sym c.fed-fed.ensures ∙ c.if-fed-code.false ∙ c.code.ensures.value) image has in
+    let end = ended _ _ _ _ c.self.view_is c.finish-listing.ensures.of c.finish-listing.ensures.room c.self.invariant.room c.self.invariant.same_calls (sym c.fed-fed.ensures ∙ c.if-fed-code.false ∙ c.code.ensures.value) image has in
     let version = c.finish-listing.ensures.version ∙ ap (λ (s : Scanned). s.seen.version) c.self.view_is in
     let graph = ap (λ (s : Scanned). s.graph) c.self.view_is in
     let told = told_of c.args.self _ _ _ c.of-starts.ensures version graph (code_words image.code) end.told in (
       ap (λ (s : StartParts). s.graph) c.of-starts.ensures ∙ graph,
-      subst (λ (s : StartParts). Tells (profile_of c.args.self.seen.version) s.listing (code_words image.code)) (sym c.of-starts.ensures) end.told,
+      subst (λ (s : StartParts). Tells (profile_of c.args.self.seen.version) (numbers_in c.args.self.graph) s.listing (code_words image.code)) (sym c.of-starts.ensures) end.told,
       record {
         same_length = end.length_is;
         rules =

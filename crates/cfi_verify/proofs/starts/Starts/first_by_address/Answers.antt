@@ -1,4 +1,4 @@
-use Rattle.std.proofs.Common.{◌≡◌, ◌∙◌, ◌+◌, ◌*◌, ◌≤◌, max, ap, sym, length, arith}
+use Rattle.std.proofs.Common.{◌≡◌, ◌∙◌, ◌+◌, ◌*◌, ◌≤◌, max, ap, refl, sym, length, arith}
 use Rattle.rv_word.specs.MemoryMap.{Profile}
 use Rattle.rv_word.proofs.Versions.{is_profile, laid_out}
 use Rattle.least.proofs.Firsts.{found_parts, first_none}
@@ -21,7 +21,7 @@ returns-in_err-index c =
     let all : max (length words) (prologue_count p + 1) ≤ c.max-count.result = omega arith in
     let none = sym c.first_index.ensures.first ∙ c.in_err-index.was in
     none_anywhere p laid c.args.rule words c.args.self.now.graph c.max-count.result all c.requires c.count.ensures.graph_is given
-    (λ k below. fails_told p laid c.args.self.now.listing words told c.args.rule c.args.self.now.graph _ ∙ first_none _ _ k none below))
+    (λ k below. fails_told p laid _ c.args.self.now.listing words told c.args.rule c.args.self.now.graph refl _ ∙ first_none _ _ k none below))
 
 pub returns : goal.returns
 returns c = λ words told.
@@ -30,7 +30,7 @@ returns c = λ words told.
     let count = c.count.ensures.value ∙ told.count in
     let given : c.args.self.now.graph.code ≡ 4 * length words = c.count.ensures.same_length ∙ ap (λ n. 4 * n) count in
     let found = found_parts _ _ c.in_ok-index.index (sym c.first_index.ensures.first ∙ c.in_ok-index.was) in (
-      fails_told p laid c.args.self.now.listing words told c.args.rule c.args.self.now.graph _ ∙ found.1,
+      fails_told p laid _ c.args.self.now.listing words told c.args.rule c.args.self.now.graph refl _ ∙ found.1,
       none_before p laid c.args.rule words c.args.self.now.graph c.in_ok-index.index c.requires c.count.ensures.graph_is given
-          (λ k below. fails_told p laid c.args.self.now.listing words told c.args.rule c.args.self.now.graph _ ∙ first_none _ _ k found.2 below),
+          (λ k below. fails_told p laid _ c.args.self.now.listing words told c.args.rule c.args.self.now.graph refl _ ∙ first_none _ _ k found.2 below),
     )

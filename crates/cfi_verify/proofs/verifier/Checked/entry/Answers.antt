@@ -10,5 +10,5 @@ use Rattle.cfi_verify.proofs.verifier.Checked.entry.Goals as goal
 pub returns : goal.returns
 returns c =
     c.entry.ensures ∙ ap (λ (v : ℕ). entry_of (profile_of v) c.self.inside.starts.listing.prologue) c.self.invariant.version
-    ∙ sym (entry_told _ (laid_out _ (is_profile c.self.inside.image.now.version)) _ _ c.self.invariant.told)
+    ∙ sym (entry_told _ (laid_out _ (is_profile c.self.inside.image.now.version)) _ _ _ c.self.invariant.told)
     ∙ ap (λ (q : Pair). entry_of (image_profile q.image) (code_words q.image.code)) c.self.view_is

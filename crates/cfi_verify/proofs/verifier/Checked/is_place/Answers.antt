@@ -15,8 +15,8 @@ returns-then-address-start c =
     let laid = laid_out _ (is_profile c.self.inside.image.now.version) in
     let from = c.units_from-start.ensures ∙ ap (λ (q : Pair). (image_profile q.image).units_from) (sym c.self.view_is) in
     c.is_start.ensures ∙ ap (λ (v : ℕ). starts_at (profile_of v) c.self.inside.starts.listing c.args.address) c.self.invariant.version
-    ∙ sym (start_told _ laid _ _ c.self.invariant.told c.args.address)
-    ∙ place_told _ laid _ _ c.self.invariant.told c.args.address (omega (arith, from, c.if-address-start.true))
+    ∙ sym (start_told _ laid _ _ _ c.self.invariant.told c.args.address)
+    ∙ place_told _ laid _ _ _ c.self.invariant.told c.args.address (omega (arith, from, c.if-address-start.true))
     ∙ ap (λ (q : Pair). is_some (place_at (image_profile q.image) (code_words q.image.code) c.args.address)) c.self.view_is
 
 pub returns : goal.returns

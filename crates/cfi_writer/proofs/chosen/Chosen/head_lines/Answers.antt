@@ -1,12 +1,13 @@
 use Rattle.std.proofs.Common.{◌≡◌, ◌<◌, ◌≤◌, ◌++◌, List, ℕ, Some, length, map, ap, subst, sym, ◌∙◌}
 use Rattle.std.specs.Prelude.{slice_get}
+use Rattle.cfi_graph.specs.declared.line.GraphLine.{GraphLine}
 use Rattle.cfi_closed.specs.Closed.{ClosedGraph, Side}
-use Rattle.cfi_map.specs.GraphAtMap.{class_lines}
+use Rattle.cfi_map.specs.GraphAtMap.{call_lines, class_lines, head_lines}
 use Rattle.cfi_map.specs.LabelOf.{all_classes, tag}
 use Rattle.cfi_writer.proofs.LineList.{all_side_lines, first_side_lines, members_there, next_side}
 use Rattle.cfi_writer.proofs.Starts.{side_there}
-use Rattle.cfi_writer.proofs.chosen.Chosen.class_lines.Goals.{After-label_count}
-use Rattle.cfi_writer.proofs.chosen.Chosen.class_lines.Goals as goal
+use Rattle.cfi_writer.proofs.chosen.Chosen.head_lines.Goals.{After-label_count}
+use Rattle.cfi_writer.proofs.chosen.Chosen.head_lines.Goals as goal
 
 there : (c : After-label_count) → slice_get c.args.self.now.layout.closed.sides c.loop-j.j ≡ Some c.index-sides-j.result
 there c =
@@ -17,7 +18,8 @@ there c =
 pub loop-j-init : goal.loop-j-init
 loop-j-init c =
     let m = c.args.self.now in
-    first_side_lines m.layout.gates m.labels m.layout.closed.sides c.new-lines.result.items c.new-lines.ensures.items
+    first_side_lines m.layout.gates m.labels m.layout.closed.sides c.push_calls.new.lines.items (call_lines m.layout.closed.calls)
+    (c.in_ok-push_calls.ensures ∙ ap (λ (ls : List GraphLine). ls ++ call_lines m.layout.closed.calls) c.new-lines.ensures.items)
 
 pub push_side_lines-requires-clause-places : goal.push_side_lines-requires-clause-places
 push_side_lines-requires-clause-places c = members_there c.args.self.now c.loop-j.j c.index-sides-j.result c.count-count.ensures.accepted (there c)
@@ -37,7 +39,7 @@ loop-j-preserved c =
     let same = c.sides-sides.ensures.value ∙ ap (λ (g : ClosedGraph). g.sides) c.closed.ensures.value in
     let at = side_there c.sides-sides.result.now m.layout.closed.sides c.loop-j.j side same
     (subst (λ (xs : List Side). c.loop-j.j < length xs) same c.loop-j-test.true) c.index-sides-j.is in
-    next_side m.layout.gates m.labels m.layout.closed.sides c.loop-j.j side c.loop-j.lines.items c.push_side_lines.new.lines.items at c.count-count.ensures.accepted.counted
+    next_side m.layout.gates m.labels m.layout.closed.sides c.loop-j.j side c.loop-j.lines.items c.push_side_lines.new.lines.items (head_lines m.layout m.labels) at c.count-count.ensures.accepted.counted
     c.loop-j.invariant
     (c.in_ok-push_side_lines.ensures
     ∙ ap (λ (ls : List ℕ). c.loop-j.lines.items ++ class_lines m.layout.gates ls (map (tag side.sort) (all_classes side))) c.labels_from-labels.ensures.value)
@@ -46,5 +48,5 @@ pub returns : goal.returns
 returns c =
     let m = c.args.self.now in
     let same = c.sides-sides.ensures.value ∙ ap (λ (g : ClosedGraph). g.sides) c.closed.ensures.value in
-    all_side_lines m.layout.gates m.labels m.layout.closed.sides c.loop-j.j c.loop-j.lines.items
+    all_side_lines m.layout.gates m.labels m.layout.closed.sides c.loop-j.j c.loop-j.lines.items (head_lines m.layout m.labels)
     (subst (λ (xs : List Side). length xs ≤ c.loop-j.j) same c.loop-j-test.false) c.loop-j.invariant
