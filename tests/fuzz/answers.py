@@ -5,7 +5,7 @@ import re
 NUMBER, ADDRESS, LONG = rb"(?:0|[1-9][0-9]*)", rb"[0-9a-f]{8}", rb"[0-9a-f]{16}"
 BYTE = rb"(?:[0-9]|[1-9][0-9]|1[0-9][0-9]|2[0-4][0-9]|25[0-5])"
 REASON = rb"(?:Form|Range|Order)"
-USAGE = rb"usage: rvcfi rewrite\|verify\|run\|compare\|demo\|harden"
+USAGE = rb"usage: rvcfi rewrite\|verify\|run\|compare\|demo\|harden\|link\|compare-link"
 
 REFUSALS = {
     1: rb"NotElf", 2: rb"NotRelocatable N", 3: rb"NotRiscv N", 4: rb"Flags N", 5: rb"Truncated N", 6: rb"BadTable N",
@@ -46,7 +46,7 @@ FORMS = {
              10: report(rb"handler __cfi_(?:bad_target|bad_return|deep)"),
              11: report(rb"(?:break " + ADDRESS + rb"|load " + ADDRESS + rb" " + LONG + rb")"), 12: report(rb"limit")},
     b"compare": {0: [rb"same N"], 1: refused(*range(1, 19), 20, 21, 22, 24) + [DIFFERS], 12: [rb"limit"],
-                 13: [rb"untame (?:graph|return|window|deep|end) N N"]},
+                 13: [rb"untame (?:graph|return|window|deep|end|call) N N"]},
 }
 FORMS = {command: {status: forms(texts) for status, texts in {**rows, **COMMON}.items()} for command, rows in FORMS.items()}
 FORMS[b"rewrite"][4] = re.compile(rb"")

@@ -33,8 +33,9 @@ def steps(case):
     return case.draw.choice(STEPS)
 
 
-def compared(case, sample, policy_name=b"none"):
+def compared(case, sample, policy_name=None):
     """The object as it is now beside the sample's own image."""
+    policy_name = policy_name or (b"policy" if sample.is_listed else b"none")
     case.ask(b"compare", b"object", sample.entry, policy_name, b"image", b"map", b"input", steps(case))
 
 
@@ -140,7 +141,7 @@ KINDS = {objects_turned: 33, data_shared: 1, images_turned: 22, graphs_turned: 1
 def is_usable(kind, sample):
     """Whether a sample has what a kind of case turns."""
     if kind is policies_turned:
-        return sample.policy is not None and b"site" in sample.policy
+        return sample.policy is not None and (b"site" in sample.policy or b"calls" in sample.policy)
     return kind is objects_turned or sample.image is not None
 
 

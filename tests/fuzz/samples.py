@@ -1,8 +1,8 @@
 """What is turned: objects, and the images, graphs and maps that the program makes of them, with policies and scripts.
 
 The objects are those of tests/objects, those of bench/families.py that do not name the same bytes as two sections, and, where
-compilers are there, the programs of tests/real. Images for several harts are those that tests/harts draws, each beside an object
-that is not its own.
+compilers are there, the programs of tests/real. Each second one is hardened under a list of system calls. Images for several harts are
+those that tests/harts draws, each beside an object that is not its own.
 """
 
 import os
@@ -44,6 +44,11 @@ class Sample(NamedTuple):
     map: Optional[bytes]
     policy: Optional[bytes]
 
+    @property
+    def is_listed(self):
+        """Whether its image has a list of system calls."""
+        return (self.graph or b"").split(b"\n")[2:3] != [] and self.graph.split(b"\n")[2].startswith(b"calls ")
+
 
 def symbols(content):
     """The symbols of an object that have a name."""
@@ -81,7 +86,8 @@ def policy_of(content, graph, map_file):
     classes = {words[1]: [place_of(content, rows, int(word, 16)) for word in words[2:]] for words in lines if words[0] == b"class"}
     sites = [[place_of(content, rows, int(words[1], 16))] + classes[words[3]] for words in lines if words[0] == b"site"]
     whole = [b" ".join([b"site"] + [it for it in places if it]) for places in sites if places[0]]
-    return b"\n".join([b"rvcfi-policy 1"] + whole + [b"end", b""])
+    calls = [line for line in graph.splitlines()[2:3] if line.startswith(b"calls ")]
+    return b"\n".join([b"rvcfi-policy 2" if calls else b"rvcfi-policy 1"] + calls + whole + [b"end", b""])
 
 
 def turns_of(draw):
@@ -133,7 +139,20 @@ def objects(folder):
     return {**found, **of_compilers(folder)}
 
 
-def sample(name, content, program, folder):
+LISTS = [b"calls 63 64 93", b"calls 64", b"calls 0 1 62 63 64 93 94 2047"]
+
+
+def list_of(number, folder):
+    """The policy of each second object, by its number: one of the lists."""
+    if number % 2 == 0:
+        return b"none"
+    path = os.path.join(folder, "list")
+    with open(path, "wb") as file:
+        file.write(b"rvcfi-policy 2\n%s\nend\n" % LISTS[number // 2 % len(LISTS)])
+    return path
+
+
+def sample(name, content, policy, program, folder):
     """A sample of an object, hardened at the first of its names that is taken."""
     path = os.path.join(folder, "object")
     with open(path, "wb") as file:
@@ -141,7 +160,7 @@ def sample(name, content, program, folder):
     made = [os.path.join(folder, end) for end in ("image", "graph", "map")]
     names = entries(content)[:5] or [b"main"]
     for entry in names:
-        if program.call([b"rewrite", path, entry, b"none"] + made, folder).status == 0:
+        if program.call([b"rewrite", path, entry, policy] + made, folder).status == 0:
             image, graph, map_file = (read(path) for path in made)
             return Sample(name, content, entry, image, graph, map_file, policy_of(content, graph, map_file))
     return Sample(name, content, names[0], None, None, None, None)
@@ -156,5 +175,5 @@ def for_harts(hardened):
 
 
 def samples(program, folder):
-    found = [sample(name, content, program, folder) for name, content in objects(folder).items()]
+    found = [sample(name, content, list_of(k, folder), program, folder) for k, (name, content) in enumerate(objects(folder).items())]
     return found + list(for_harts([it for it in found if it.image and len(it.object) < USUAL]))

@@ -13,13 +13,15 @@ FREE = range(5, 16)
 GATES = "gates"
 REGISTER = [(0, funct3) for funct3 in range(8)] + [(32, 0), (32, 5)] + [(1, funct3) for funct3 in range(8)]
 CALLS = (63, 64, 64, 64, 93, 5)
+LISTED = (0, 1, 5, 62, 63, 64, 65, 93, 94, 2047)
 
 
 class Drawn:
     """A program that is being drawn: some functions, each with a gate, which call, jump and return."""
 
     def __init__(self, rng, version, graph):
-        self.rng, self.p = rng, Program(version, graph)
+        calls = sorted(rng.sample(LISTED, rng.choice((1, 2, 3, 8, 8)))) if rng.random() < 0.4 else None
+        self.rng, self.p = rng, Program(version, graph, calls)
         self.called = CALLED if graph == 2 else JUMPED
         self.names = ["f%d" % k for k in range(rng.randrange(2, 6))]
         self.inside = 0
@@ -133,7 +135,9 @@ class Drawn:
         number = rng.choice(CALLS)
         p.plain(addi(14, 10, 0), addi(10, 0, {63: 0, 64: 1}.get(number, 9) if rng.random() < 0.9 else 7))
         p.plain(u_form(0x37, 11, 0x10 if rng.random() < 0.9 else 0x10000), addi(11, 11, rng.randrange(-4, 300)))
-        p.plain(addi(12, 0, rng.randrange(5)), addi(17, 0, number), ECALL, addi(10, 14, 0))
+        p.plain(addi(12, 0, rng.randrange(5)), addi(17, 0, number))
+        p.ecall()
+        p.plain(addi(10, 14, 0))
 
     def branch(self, labels):
         """Goes to a place of the same function that is there already, or over a word."""
@@ -233,7 +237,8 @@ def changed_words(rng, built):
     loads = [k for k in range(first, len(words)) if words[k] in (0x000FAF03, 0x004FAF03)]
     targets = [k for k in range(first, len(words) - 1) if words[k] & 0xFFF == 0x37]
     members = [k for k in range(first, len(words) - 1) if is_member(words[k])]
-    kind = rng.randrange(10)
+    numbers = [k for k in range(first, len(words) - 3) if words[k] & 0xFFFFF == 31 << 7 | 0x13 and words[k + 1] & 0xFFF00000 == 0x01100000]
+    kind = rng.randrange(12 if numbers else 10)
     if kind == 0:
         words[at] ^= 1 << rng.randrange(32)
     elif kind == 1:
@@ -250,9 +255,26 @@ def changed_words(rng, built):
         words[at], words[at + 1] = words[at + 1], words[at]
     elif kind < 8:
         changed_stores(rng, words, rng.choice(members or [at]))
+    elif kind > 9:
+        changed_number(rng, words, rng.choice(numbers))
     else:
         changed_way(rng, built, words, first)
     return words
+
+
+def changed_number(rng, words, at):
+    """Another number in a guarded system call, or a bit of its words; its call in place of another word, or another word for it."""
+    kind, call = rng.randrange(5), words.index(ECALL, at)
+    if kind == 0:
+        words[at] = addi(31, 0, rng.choice(LISTED + (-1, -2048)))
+    elif kind == 1:
+        words[rng.randrange(at, call + 1)] ^= 1 << rng.randrange(32)
+    elif kind == 2:
+        words[rng.randrange(at - 1, call + 2)] = ECALL
+    elif kind == 3:
+        words[at], words[at + 2] = words[at + 2], words[at]
+    else:
+        words[rng.randrange(at, call + 1)] = rng.choice((EBREAK, addi(0, 0, 0), words[at]))
 
 
 def other_version(rng, lines):
@@ -265,14 +287,25 @@ def other_version(rng, lines):
 SWAPPED = {"callclass": "jumpclass", "jumpclass": "callclass", "call": "jump", "jump": "call"}
 
 
+def other_calls(rng, lines):
+    """The lines of a graph with another list of system calls, or without its list."""
+    before, is_listed = lines[:2], lines[2].startswith("calls")
+    numbers = {int(word) for word in lines[2].split()[1:]} if is_listed else set()
+    numbers ^= {rng.choice(LISTED)}
+    listed = sorted(numbers)[:8]
+    return before + (["calls " + " ".join(map(str, listed))] if listed and rng.random() < 0.8 else []) + lines[3 if is_listed else 2:]
+
+
 def changed_graph(rng, built):
     """The text of a program's graph with one line changed: it is gone, it names the other sort or another label, a class has a target
-    less or more; or the graph is of the other version."""
+    less or more; or the graph is of the other version, or has another list of system calls."""
     lines = built.graph.decode().split("\n")
     kind = rng.randrange(6)
     if kind == 0:
         return "\n".join(other_version(rng, lines)).encode()
-    at = rng.choice([k for k, line in enumerate(lines) if k > 1 and line not in ("", "end")])
+    if rng.random() < (0.4 if lines[2].startswith("calls") else 0.1):
+        return "\n".join(other_calls(rng, lines)).encode()
+    at = rng.choice([k for k, line in enumerate(lines) if k > 1 and line not in ("", "end") and not line.startswith("calls ")])
     words = lines[at].split()
     if kind == 1:
         del lines[at]

@@ -5,7 +5,7 @@ The programs of small objects, unit by unit, as docs/MACHINE.md has them for one
 jumps and with a label for each: the words of their units, their graphs and their maps. Without a word it compares what it makes
 with the tables of crates/sample_hardened and crates/sample_split: those for one hart with one label were worked out by hand or are
 what binutils made of the sources in tests/units, and the others are what it printed. With the name of a table, which is a form or
-`stores-` and a form, it prints that anew.
+`stores-` or `calls-` and a form, it prints that anew.
 """
 
 import re
@@ -17,7 +17,7 @@ from typing import NamedTuple
 
 sys.dont_write_bytecode = True
 
-from program import ECALL, UNITS, Program, addi, branch, i_form, r_form, s_form, u_form
+from program import EBREAK, ECALL, UNITS, Program, addi, branch, calls_line, i_form, r_form, s_form, u_form
 
 CRATES = Path(__file__).resolve().parents[2] / "crates"
 LD, SB, SH, SW, SD, BEQ, BNE = 3, 0, 1, 2, 3, 0, 1
@@ -37,8 +37,8 @@ FORMS = {"plain": Form(1, 1, "rvcfi-map 1"), "harts": Form(2, 1, "rvcfi-map 2 ha
 class Listed(Program):
     """A program whose places are listed: an object's section 1, from offset 0 on."""
 
-    def __init__(self, form):
-        super().__init__(form.image, form.graph)
+    def __init__(self, form, calls):
+        super().__init__(form.image, form.graph, calls)
         self.head, self.lines, self.offset = form.map, [], 0
 
     def labels_of(self, joined, apart):
@@ -146,7 +146,8 @@ def writing(p):
     p.label("puts")
     above = p.at - 0x10000
     p.words(u_form(0x17, 11, -above // 0x1000 + 1 & 0xFFFFF), addi(11, 11, 0x1000 * (above // 0x1000) - above))
-    p.words(addi(10, 0, 1), addi(12, 0, 3), addi(17, 0, 64), ECALL)
+    p.words(addi(10, 0, 1), addi(12, 0, 3), addi(17, 0, 64))
+    p.unit(p.ecall)
     p.unit(p.returns)
     p.end()
 
@@ -406,8 +407,68 @@ def patched(p):
     p.end()
 
 
+def asking(p):
+    """Makes the system call whose number stands at 10000h."""
+    p.label("main")
+    p.words(u_form(0x37, 5, 0x10), load(17, 0, 5))
+    p.unit(p.ecall)
+    p.unit(p.returns)
+    p.end()
+
+
+def ending(p):
+    """Ends with a status; behind that a break, and a call that is the last instruction."""
+    p.label("main")
+    p.words(addi(17, 0, 94), addi(10, 0, 3))
+    p.unit(p.ecall)
+    p.words(EBREAK)
+    p.unit(p.ecall)
+    p.end()
+
+
+def around(p):
+    """Branches over a system call and back to it, between stores and before them."""
+    p.label("main")
+    p.words(addi(17, 0, 64), addi(10, 0, 2))
+    p.unit(p.near, BEQ, 10, 0, "over")
+    p.masked(2, -16, (SD, 6, 8), (SD, 7, 0))
+    p.label("again")
+    p.unit(p.ecall)
+    p.masked(2, -32, (SD, 6, 8), (SD, 7, 0))
+    p.unit(p.near, BEQ, 10, 0, "again")
+    p.label("over")
+    p.unit(p.returns)
+    p.end()
+
+
+def product(p):
+    """Makes the system call whose number is a product."""
+    p.label("main")
+    p.words(addi(5, 0, 9), addi(6, 0, 7), MUL_17)
+    p.unit(p.ecall)
+    p.unit(p.returns)
+    p.end()
+
+
+def asked(p):
+    """Calls one of two functions through a pointer, the second of which begins with a system call."""
+    p.label("main")
+    begin(p)
+    pointer(p, 5, 0)
+    p.unit(p.icall, 5, 0, 1)
+    restore(p)
+    p.unit(p.returns)
+    answer(p, "f", addi(10, 0, 1), call=1)
+    p.label("g")
+    p.place(4, 1)
+    p.ecall()
+    p.unit(p.returns)
+    p.end()
+
+
 class Row(NamedTuple):
-    """The name of its tables, the object with its change, and what makes it; its entry, its policy, its pointers or its data."""
+    """The name of its tables, the object with its change, and what makes it; its entry, its policy, its pointers or its data, and
+    its list of system calls."""
     name: str
     object: str
     make: object
@@ -415,13 +476,21 @@ class Row(NamedTuple):
     policy: str = ""
     pointers: tuple = ()
     data: str = ""
+    calls: object = None
+
+    def policy_text(self):
+        """The text of its policy, empty where it has none."""
+        if self.calls is not None:
+            return "rvcfi-policy 2\n%s\n%send\n" % (calls_line(self.calls), self.policy)
+        return "rvcfi-policy 1\n%send\n" % self.policy if self.policy else ""
 
     def given(self):
-        policy = 'Some(b"rvcfi-policy 1\\n%send\\n")' % self.policy.replace("\n", "\\n") if self.policy else "None"
+        text = self.policy_text()
+        policy = 'Some(b"%s")' % text.replace("\n", "\\n") if text else "None"
         return 'Given(Source::%s, "%s", %s)' % (self.object, self.entry, policy)
 
 
-NOP, RETURN = addi(0, 0, 0), i_form(0x67, 0, 0, 1, 0)
+NOP, RETURN, MUL_17 = addi(0, 0, 0), i_form(0x67, 0, 0, 1, 0), r_form(0x33, 0, 1, 17, 5, 6)
 
 
 def coded(*words):
@@ -478,6 +547,24 @@ STORING = [
     Row("LED_ENTRY", 'Led, 0, b""', lambda p: led(p, is_entry=True), entry="inner", pointers=("f", "taken")),
     Row("PATCHED", 'Patched, 0, b""', patched, data="the first the second and others."),
 ]
+ASKING = coded(u_form(0x37, 5, 0x10), load(17, 0, 5), ECALL, RETURN)
+ENDING = coded(addi(17, 0, 94), addi(10, 0, 3), ECALL, EBREAK, ECALL)
+AROUND = coded(
+    addi(17, 0, 64), addi(10, 0, 2), branch(BEQ, 10, 0, 28), *stored(2, (SD, 6, -8), (SD, 7, -16)), ECALL,
+    *stored(2, (SD, 6, -24), (SD, 7, -32)), branch(BEQ, 10, 0, -12), RETURN)
+MOST = (0, 1, 62, 63, 64, 93, 94, 2047)
+LISTING = [
+    Row("LISTED", 'Writing, 0, b""', writing, data="hi\n", calls=(64,)),
+    Row("UNLISTED", 'Writing, 0, b""', writing, data="hi\n", calls=(63,)),
+    Row("TWO", 'Writing, 0, b""', writing, data="hi\n", calls=(63, 64)),
+    Row("EIGHT", 'Writing, 0, b""', writing, data="hi\n", calls=MOST),
+    Row("ASKING", ASKING, asking, calls=(0, 2047)),
+    Row("ENDING", ENDING, ending, calls=(94,)),
+    Row("AROUND", AROUND, around, calls=(64, 93)),
+    Row("PRODUCT", coded(addi(5, 0, 9), addi(6, 0, 7), MUL_17, ECALL, RETURN), product, calls=(63,)),
+    Row("ASKED", 'Calling, 104, b"73000000"', asked, calls=(2047,), pointers=FG),
+    Row("NO_CALL", 'Calling, 0, b""', lambda p: calling(p, narrow=True), policy="site main+10 f+0\n", calls=(0,), pointers=FG),
+]
 
 
 class Made(NamedTuple):
@@ -490,7 +577,7 @@ class Made(NamedTuple):
 
 
 def made(row, form):
-    p = Listed(form)
+    p = Listed(form, row.calls)
     row.make(p)
     data = lambda labels: struct.pack("<%dQ" % len(row.pointers), *(labels[name] for name in row.pointers)) or row.data.encode()
     built = p.built(row.entry, data)
@@ -510,12 +597,17 @@ HEADINGS = {
     "stores-harts-split": ("sample_split", "stores_harts", "STORES_HARTS_SPLIT",
                            "that store behind one mask, for several harts where calls and jumps have labels of their own"),
 }
+HEADINGS |= {name.replace("stores", "calls"): (crate, file.replace("stores", "calls"), static.replace("STORES", "CALLS"),
+                                                heading.replace("store behind one mask", "may make the system calls of a list"))
+             for name, (crate, file, static, heading) in HEADINGS.items() if "stores" in name}
 OLDER = 10  # how many of the rows stand in programs.rt, for one hart with one label
 SOURCES = {"sample_programs": ["sample_programs/src/units.rt", "sample_programs/src/graphs.rt", "sample_programs/src/data.rt"],
            "sample_objects": ["sample_objects/src/maps.rt"], "sample_hardened::branches": ["sample_hardened/src/branches.rt"],
            "sample_hardened::plain": ["sample_hardened/src/plain.rt"], "sample_hardened::harts": ["sample_hardened/src/harts.rt"],
            "sample_hardened::stores": ["sample_hardened/src/stores.rt"],
-           "sample_hardened::stores_harts": ["sample_hardened/src/stores_harts.rt"]}
+           "sample_hardened::stores_harts": ["sample_hardened/src/stores_harts.rt"],
+           "sample_hardened::calls": ["sample_hardened/src/calls.rt"],
+           "sample_hardened::calls_harts": ["sample_hardened/src/calls_harts.rt"]}
 WORDS = re.compile(r"const (\w+): \[u32; \d+\] = \[(.*?)\];", re.S)
 TEXTS = re.compile(r'(pub |pub\(crate\) |)const (\w+): &\[u8\] =\s+b"(.*?)";', re.S)
 
@@ -567,12 +659,14 @@ class Module:
     """What a form's module has: constants that stand nowhere else, the names that it uses, and its rows."""
 
     def __init__(self, name):
-        self.form, (self.crate, self.file, self.static, self.heading) = FORMS[name.replace("stores-", "")], HEADINGS[name]
+        self.form = FORMS[name.replace("stores-", "").replace("calls-", "")]
+        self.crate, self.file, self.static, self.heading = HEADINGS[name]
         self.path = CRATES / self.crate / "src" / (self.file + ".rt")
         self.sources = {module: known(paths, module.split("::")[0] == self.crate) for module, paths in SOURCES.items()
                         if module != "%s::%s" % (self.crate, self.file)}
         self.constants, self.used, self.own = [], {}, {}
-        self.rows = [self.row(row) for row in (STORING if "stores" in name else ROWS[OLDER if name == "plain" else 0:])]
+        rows = STORING if "stores" in name else LISTING if "calls" in name else ROWS[OLDER if name == "plain" else 0:]
+        self.rows = [self.row(row) for row in rows]
 
     def name(self, wanted, content, lines):
         """The name of a table, which is made where it stands nowhere yet."""

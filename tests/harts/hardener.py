@@ -24,9 +24,9 @@ sys.path[:0] = [str(HERE.parents[1] / "bench"), str(HERE.parent / "real"), str(H
 import make_pointers
 import make_stores
 import make_vectors
-from forms import FORMS, ROWS, STORING, made
+from forms import FORMS, LISTING, ROWS, STORING, made
 from images import CODE, image_file
-from program import UNITS, Program
+from program import ECALL, UNITS, Program, calls_line
 from rules import branch_offset, jal_target
 
 PROGBITS, RELA, SYMTAB, NOTE, NOBITS = 1, 4, 2, 7, 8
@@ -37,6 +37,7 @@ PCREL_HI20, PCREL_LO12_I, PCREL_LO12_S, HI20, LO12_I, LO12_S = 23, 24, 25, 26, 2
 ADD8, SUB8, ADD32, ADD64 = 33, 37, 35, 36
 DATA = 0x10000
 NEAR = -4096, 4092
+CALLS = 63, 64, 93  # which the compiled programs make
 MOST_STORES, MOST_APART = 16, 2047  # of a group; and how far its offsets may lie apart
 SIZES = {"plain": 4, "jump": 4, "system": 4, "stop": 4, "store": 16, "call": 32, "ijump": 52, "icall": 80, "return": 20}
 
@@ -156,6 +157,7 @@ class Flow:
 
     def __init__(self, source, apart, policy):
         self.source, self.listed, items = source, dict(self.lines_of(source, policy)), source.items
+        self.calls = calls_of(policy)
         self.sites = [k for k, item in enumerate(items) if item.kind in ("icall", "ijump")]
         self.taken = set(self.taken_places())
         self.functions = [row for row in source.symbols if row.type == FUNC and (row.section, row.value) in source.index]
@@ -169,7 +171,7 @@ class Flow:
     @staticmethod
     def lines_of(source, policy):
         """The site of each line of a policy and its targets."""
-        for line in policy.split("\n")[1:-2]:
+        for line in policy.split("\n")[2 if policy.startswith("rvcfi-policy 2") else 1:-2]:
             places = []
             for word in line.split(" ")[1:]:
                 name, offset = word.rsplit("+", 1)
@@ -214,6 +216,18 @@ class Flow:
         return any(k in lead for lead in self.leads)
 
 
+def calls_of(policy):
+    """The numbers of system calls that a policy lists, or None."""
+    lines = policy.split("\n")
+    return [int(word) for word in lines[1].split()[1:]] if lines[0] == "rvcfi-policy 2" else None
+
+
+def policy_text(calls=None, lines=()):
+    """A policy of a list of system calls, or without one, and some other lines."""
+    heads = ["rvcfi-policy 1"] if calls is None else ["rvcfi-policy 2", calls_line(calls)]
+    return "\n".join([*heads, *lines, "end", ""])
+
+
 def low(value):
     return (value & 0xFFF) - ((value & 0x800) << 1)
 
@@ -256,6 +270,13 @@ class Groups:
         return groups
 
 
+def size_of(item, calls):
+    """How many bytes an instruction's unit has under a list of system calls; of a store alone, and of a near branch."""
+    if item.kind == "system" and item.word == ECALL and calls is not None:
+        return 8 + 8 * len(calls)
+    return SIZES[item.kind]
+
+
 class Layout:
     """The gates and the words of places, with stores in groups and as many short branches as there can be."""
 
@@ -289,7 +310,9 @@ class Layout:
     def size(self, k, kind):
         if kind == "branch":
             return 8 if k in self.long else 4
-        return 4 if kind == "store" and k not in self.group else SIZES[kind]
+        if kind == "store" and k not in self.group:
+            return 4
+        return size_of(self.source.items[k], self.flow.calls)
 
 
 def high(value):
@@ -307,7 +330,7 @@ class Hardening:
         start = self.source.index[first.section, first.value]
         self.layout = Layout(self.source, self.flow, UNITS[self.form.image], start)
         self.data, self.places = self.data_places()
-        self.program = Program(self.form.image, self.form.graph)
+        self.program = Program(self.form.image, self.form.graph, self.flow.calls)
         self.write_units()
         self.built = self.program.built(self.layout.gates[start], self.patched_data())
         self.image, self.graph = image_file(self.built.code, self.built.data, self.form.image), self.built.graph
@@ -394,6 +417,8 @@ class Hardening:
             self.write_stores(k, rs1)
         elif item.kind == "return":
             program.returns()
+        elif item.kind == "system" and word == ECALL:
+            program.ecall()
         elif item.kind == "stop":
             program.stop()
         else:
@@ -454,8 +479,7 @@ def small_object(row):
 
 def is_small(row, form):
     """Whether a small object becomes what is written down."""
-    policy = "rvcfi-policy 1\n%send\n" % row.policy if row.policy else ""
-    got, wanted = Hardening(Source(small_object(row)), row.entry, form, policy), made(row, FORMS[form])
+    got, wanted = Hardening(Source(small_object(row)), row.entry, form, row.policy_text()), made(row, FORMS[form])
     code = got.built.words[:(wanted.call[0]) // 4 + 1][-1:] + got.built.words[(UNITS[got.form.image] - CODE) // 4:]
     return (code, got.built.data, got.graph.decode(), got.map.decode()) == (
         [wanted.call[1]] + wanted.words, wanted.data, wanted.graph, wanted.map)
@@ -463,20 +487,33 @@ def is_small(row, form):
 
 def differences(tool, path, entry, folder):
     """The forms in which the program makes something else of an object, and what."""
-    yield from unlike(Source(Path(path).read_bytes()), entry, folder, lambda form, files: [tool, "harden", form, path, entry, "none", *files])
+    words = lambda form, policy, files: [tool, "harden", form, path, entry, policy, *files]
+    yield from unlike(Source(Path(path).read_bytes()), entry, folder, words)
 
 
 def unlike(source, entry, folder, command):
-    """The forms in which a command makes something else, and what."""
-    import programs
+    """The forms in which a command makes something else, without a policy and under a list of system calls, and what."""
+    policy = os.path.join(folder, "policy")
+    Path(policy).write_text(policy_text(CALLS))
     for form in FORMS:
-        files = [os.path.join(folder, name) for name in ("image", "graph", "map")]
-        done = programs.run(command(form, files))
-        made = Hardening(source, entry, form)
-        got = [done.stdout] + [Path(file).read_bytes() if os.path.exists(file) else b"" for file in files]
-        for name, one, other in zip(("text", "image", "graph", "map"), got, (made.told(), made.image, made.graph, made.map)):
-            if one != other:
-                yield "%s: the %s" % (form, name)
+        yield from unlike_in(form, Hardening(source, entry, form), folder, command(form, "none", files_in(folder)))
+        listed = Hardening(source, entry, form, policy_text(CALLS))
+        yield from unlike_in(form + " with a list", listed, folder, command(form, policy, files_in(folder)))
+
+
+def files_in(folder):
+    return [os.path.join(folder, name) for name in ("image", "graph", "map")]
+
+
+def unlike_in(form, made, folder, words):
+    """What a command makes otherwise in one form."""
+    import programs
+    files = files_in(folder)
+    done = programs.run(words)
+    got = [done.stdout] + [Path(file).read_bytes() if os.path.exists(file) else b"" for file in files]
+    for name, one, other in zip(("text", "image", "graph", "map"), got, (made.told(), made.image, made.graph, made.map)):
+        if one != other:
+            yield "%s: the %s" % (form, name)
 
 
 def objects(levels, folder):
@@ -502,7 +539,7 @@ def main():
     words.add_argument("--program", default=str(HERE.parents[1] / "crates" / "rvcfi" / "out" / "rvcfi"))
     words.add_argument("--levels", default="-O0,-O1,-O2,-O3,-Os", help="with =, as --levels=-O2,-Os")
     options = words.parse_args()
-    small = [(row, form) for row in ROWS + STORING for form in FORMS]
+    small = [(row, form) for row in ROWS + STORING + LISTING for form in FORMS]
     strange = ["%s in %s" % (row.name, form) for row, form in small if not is_small(row, form)]
     told = "".join(", not " + each for each in strange)
     print("%d of %d small ones are as written down%s" % (len(small) - len(strange), len(small), told))

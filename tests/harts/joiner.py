@@ -190,12 +190,12 @@ def differences(tool, entry, paths, folder):
     import programs
     contents = [Source(Path(path).read_bytes()) for path in paths]
     files = [os.path.join(folder, name) for name in ("image", "graph", "map")]
-    command = lambda form, files: [tool, "link", form, entry, "none", *files, *paths]
+    command = lambda form, policy, files: [tool, "link", form, entry, policy, *files, *paths]
     whole = Joined(contents)
     name, missing = whole.duplicate(), whole.undefined([len(each.symbols) for each in contents])
     line = b"refused 27 Duplicate %s\n" % name.encode() if name else b"refused 15 Undefined %d in %d\n" % missing if missing else None
     if line:
-        done = programs.run(command("plain", files))
+        done = programs.run(command("plain", "none", files))
         return [] if (done.returncode, done.stdout) == (1, line) else ["%r in place of %r" % (done.stdout, line)]
     return list(hardener.unlike(whole, entry, folder, command))
 

@@ -3,8 +3,9 @@
 A placement is told by how many bytes stand from each place's gate to the next one's.
 """
 
-from hardener import SIZES, Groups, store_offset
+from hardener import Groups, size_of, store_offset
 from machine import ALL, WINDOW, Machine
+from program import CLOSING, ECALL
 from runs import HANDLERS
 
 
@@ -23,7 +24,7 @@ class Maps:
         kind = self.source.items[k].kind
         if kind == "store":
             return {16, 4} if self.groups.may_join(k, group) else {16}
-        return {4, 8} if kind == "branch" else {SIZES[kind]}
+        return {4, 8} if kind == "branch" else {size_of(self.source.items[k], self.flow.calls)}
 
     def wrong_line(self, first, lines):
         """The number of the first line (gate, section, offset) up to which these are those of no placement, that of `end` where some are
@@ -48,6 +49,11 @@ def is_outside(word, registers):
     return word & 127 == 0x23 and address + (1 << (word >> 12 & 3)) > WINDOW
 
 
+def is_unlisted(word, registers, calls):
+    """Whether a system call has a number that is not in the list."""
+    return word == ECALL and calls is not None and registers[17] not in calls
+
+
 def ended(hardening):
     """How the program ends, in the words of crates/source_tests: it runs hardened, and an instruction is begun where its word is."""
     machine, begun = Machine(hardening.built.version, hardening.built.code, hardening.built.data, b"", 1), 0
@@ -58,8 +64,11 @@ def ended(hardening):
             begun, last = begun + 1, hardening.source.items[words[pc]]
             if is_outside(last.word, machine.registers[0]):
                 return "untame window %d %d after %d" % (*last.place, begun - 1)
+            if is_unlisted(last.word, machine.registers[0], hardening.flow.calls):
+                return "untame call %d %d after %d" % (*last.place, begun - 1)
         stop = machine.step(0)
     if stop[0] == "exit":
-        return "exit %d after %d" % (stop[1], begun + 1)
+        at_end = machine.pcs[0] == CLOSING[hardening.built.version] + 4
+        return "exit %d after %d" % (stop[1], begun + 1 if at_end else begun)
     assert HANDLERS[stop[1]] == "__cfi_bad_return"
     return "untame return %d %d after %d" % (*last.place, begun - 1)

@@ -49,8 +49,7 @@ def choices(made, rng):
 
 
 def made_of(row, form):
-    policy = "rvcfi-policy 1\n%send\n" % row.policy if row.policy else ""
-    return Hardening(Source(small_object(row)), row.entry, form, policy)
+    return Hardening(Source(small_object(row)), row.entry, form, row.policy_text())
 
 
 def told(made, row, sizes):

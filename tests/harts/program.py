@@ -36,12 +36,23 @@ class Built(NamedTuple):
         return image_file(self.code, self.data, self.version)
 
 
+def guarded(at, numbers):
+    """The words of a system call behind a test of its number."""
+    tests = [word for k, number in enumerate(numbers) for word in (addi(31, 0, number), branch(0, 31, 17, 8 * (len(numbers) - k)))]
+    return tests + [jal(0, at + 8 * len(numbers), CODE), ECALL]
+
+
+def calls_line(numbers):
+    return "calls " + " ".join(map(str, numbers))
+
+
 class Program:
     """Units one after another, from the first address of a version's units on. In a graph of version 1 a class serves calls and
-    jumps, and a target begins with its gate; in one of version 2 it serves one of them, and a target begins with two words."""
+    jumps, and a target begins with its gate; in one of version 2 it serves one of them, and a target begins with two words. Where the
+    numbers of system calls are listed, each is guarded."""
 
-    def __init__(self, version, graph=1):
-        self.version, self.graph, self.at = version, graph, UNITS[version]
+    def __init__(self, version, graph=1, calls=None):
+        self.version, self.graph, self.calls, self.at = version, graph, calls, UNITS[version]
         self.units, self.labels, self.classes = [], {}, {}
 
     def put(self, size, words, line=None):
@@ -113,6 +124,14 @@ class Program:
         self.put(20, lambda at: check(at, rs1, imm, label) + push(at + 48) + [i_form(0x67, 0, 1, 31, 0)],
                  lambda at: "site %08x call %05x" % (at, label))
 
+    def ecall(self):
+        """A system call, by what the program's list says."""
+        self.plain(ECALL) if self.calls is None else self.guarded(self.calls)
+
+    def guarded(self, numbers):
+        """A system call whose number is one of these, or the program halts."""
+        self.put(2 * len(numbers) + 2, lambda at: guarded(at, numbers))
+
     def returns(self):
         self.put(5, lambda at: [i_form(0x03, 3, 31, 3, -8), addi(3, 3, -8), branch(0, 31, 1, 8), jal(0, at + 12, CODE + 4),
                                 i_form(0x67, 0, 0, 31, 0)])
@@ -126,7 +145,8 @@ class Program:
             lines += [line(at)] if line else []
         heads = ["%s %05x%s" % (sort, label, "".join(" %08x" % at for at in targets))
                  for (label, sort), targets in sorted(self.classes.items())]
-        text = ["rvcfi-graph %d" % self.graph, "code %08x %08x" % (CODE, 4 * len(words))] + heads + lines + ["end", ""]
+        calls = [calls_line(self.calls)] if self.calls is not None else []
+        text = ["rvcfi-graph %d" % self.graph, "code %08x %08x" % (CODE, 4 * len(words))] + calls + heads + lines + ["end", ""]
         starts = {at for at, _, _ in self.units} | set(HANDLERS) | {OPENING, CLOSING[self.version]}
         data = data(self.labels) if callable(data) else data
         return Built(self.version, words, data, "\n".join(text).encode(), starts, dict(self.labels))

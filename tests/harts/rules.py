@@ -4,11 +4,12 @@ The split looks at one word after another, and each rule at one address after an
 """
 
 from machine import CODE, IMMEDIATE, REGISTER, WORD, field, signed
-from program import CLOSING, EBREAK, ECALL, HANDLERS, OPENING, UNITS, addi, branch, check, i_form, jal, prologue, push
+from program import CLOSING, EBREAK, ECALL, HANDLERS, OPENING, UNITS, addi, branch, check, guarded, i_form, jal, prologue, push
 
-STOP, GATE = "stop", "gate"
+STOP, GATE, CALL, GUARDED = "stop", "gate", "system call", "guarded"
 KEPT = (3, 4, 30, 31)  # registers that no plain instruction writes
 MOST_STORES = 16  # behind one mask
+MOST_NUMBERS = 8  # of system calls
 
 
 def jal_target(word, at, rd):
@@ -65,6 +66,15 @@ def stores(words):
     return 3 + min(count, MOST_STORES) if count else None
 
 
+def numbers(words, at):
+    """The numbers of a guarded system call, or None."""
+    for count in range(1, MOST_NUMBERS + 1):
+        found = [word >> 20 for word in words[:2 * count:2]]
+        if len(words) >= 2 * count + 2 and max(found) < 2048 and words[:2 * count + 2] == guarded(at, found):
+            return found
+    return None
+
+
 def unit(words, at):
     """The unit that begins at an address: its kind, what it asks for or where it leads, and how many words it has; or None."""
     first = words[0]
@@ -73,7 +83,7 @@ def unit(words, at):
     if is_plain(first):
         return "plain", None, 1
     if first in (ECALL, EBREAK):
-        return "system", None, 1
+        return CALL if first == ECALL else "break", None, 1
     to = jal_target(first, at, 0)
     if to is not None:
         return (STOP, None, 1) if to == CODE else ("edge", to, 1)
@@ -88,7 +98,10 @@ def unit(words, at):
     if words[:5] == returns:
         return "return", None, 5
     size = stores(words)
-    return ("stores", None, size) if size else computed(words, at)
+    if size:
+        return "stores", None, size
+    listed = numbers(words, at)
+    return (GUARDED, listed, 2 * len(listed) + 2) if listed else computed(words, at)
 
 
 class Lines:
@@ -97,12 +110,20 @@ class Lines:
     def __init__(self, text):
         lines = [line.split() for line in text.decode().split("\n")[:-2]]
         self.version, self.code = int(lines[0][1]), int(lines[1][2], 16)
-        self.classes, self.lines = {}, {}
+        self.classes, self.lines, self.calls = {}, {}, None
         for words in lines[2:]:
-            if words[0].endswith("class"):
+            if words[0] == "calls":
+                self.calls = [int(word) for word in words[1:]]
+            elif words[0].endswith("class"):
                 self.classes[int(words[1], 16)] = words[0], [int(word, 16) for word in words[2:]]
             else:
                 self.lines[int(words[1], 16)] = words
+
+    def allows(self, kind, listed):
+        """Whether a unit calls the system as the graph's list says."""
+        if kind == CALL:
+            return self.calls is None
+        return kind != GUARDED or listed == self.calls
 
     def is_line(self, at, name, to):
         """Whether the line at an address is an edge or a call to a target."""
@@ -126,7 +147,7 @@ class Pair:
         at, read = UNITS[self.version], 4 if self.graph.version == 2 else 0
         while at < self.end:
             found = unit(self.words[(at - CODE) // 4:], at)
-            if not found or (found[0] == "jump" and found[1][1] != read):
+            if not found or (found[0] == "jump" and found[1][1] != read) or not self.graph.allows(*found[:2]):
                 self.unfit = at
                 return
             self.units[at] = found

@@ -59,6 +59,9 @@ TEXTS = {
     "other": "rvcfi-script 1\nat 0 00010000 e4000040\nend\n",
     "policy": "rvcfi-policy 1\nsite main+10 f+0\nend\n",
     "wrong": "rvcfi-policy 1\nsite main+14 f+0\nend\n",
+    "list": "rvcfi-policy 2\ncalls 64 93\nend\n",
+    "short": "rvcfi-policy 2\ncalls 93\nend\n",
+    "equal": "rvcfi-policy 2\ncalls 64 64\nend\n",
 }
 
 # The words, the status and a line of the answer where nothing is refused, and the files that are written.
@@ -82,6 +85,14 @@ COMMANDS = [
     ("rewrite puts.o main none image graph map", 0, "rewritten code 196 data 3 classes 0 sites 0", THREE),
     ("run image graph none none 100", 0, "steps 41", ()),
     ("compare puts.o main none image map none 100", 0, "same 2", ()),
+    ("rewrite puts.o main list image graph map", 0, "rewritten code 216 data 3 classes 0 sites 0", THREE),
+    ("verify image graph", 0, "accepted", ()),
+    ("run image graph none none 100", 0, "steps 43", ()),
+    ("compare puts.o main list image map none 100", 0, "same 2", ()),
+    ("rewrite puts.o main short image graph map", 0, "rewritten code 208 data 3 classes 0 sites 0", THREE),
+    ("run image graph none none 100", 10, "stop handler __cfi_bad_target", ()),
+    ("compare puts.o main short image map none 100", 13, "untame call 1 52", ()),
+    ("rewrite puts.o main equal image graph map", 1, "refused 18 Policy 2", ()),
     ("rewrite recurs.o main none image graph map", 0, None, THREE),
     ("compare recurs.o main none image map none 100000", 0, "same 1", ()),
     ("rewrite deep.o main none image graph map", 0, None, THREE),

@@ -14,7 +14,7 @@ words() {
 }
 
 words prologue 0x40000000
-for name in b h p other exits deep loop astray break load status edge aimed relabelled narrow nowhere jump echo near skips round second q apart joined behind stores groups; do
+for name in b h p other exits deep loop astray break load status edge aimed relabelled narrow nowhere jump echo near skips round second q apart joined behind stores groups guarded; do
     words "$name" 0x40000040
 done
 words long 0x40000040 | sed -n '1p;$p'
