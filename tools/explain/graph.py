@@ -1,6 +1,6 @@
 """A graph in names: its classes by functions and labels, its sites by function, and what a policy changes."""
 
-from explain import classes
+from explain import classes, numbers
 from explain.elf import EBREAK, ECALL
 from explain.texts import OPENING, place_words, policy_lines
 
@@ -49,6 +49,7 @@ class Named:
             yield from self.class_lines(label, targets)
         yield ""
         yield from self.system_lines()
+        yield from numbers.lines(self.read, self.graph.numbers)
         yield from self.difference(policy)
         if policy:
             yield from self.idle(policy)

@@ -5,6 +5,9 @@ from explain import units
 
 def goes(named, unit):
     """Where a unit goes, in names."""
+    if unit.numbers:
+        more = "" if list(unit.numbers) == named.graph.numbers else ", which is not the graph's list"
+        return "system calls %s%s" % (" ".join(map(str, unit.numbers)), more)
     if unit.target is not None:
         return "to %08x %s" % (unit.target, named.place(unit.target))
     if unit.kind == "gate":

@@ -17,6 +17,7 @@ RESERVED = {3: "x3 (gp)", 4: "x4 (tp)", 30: "x30 (t5)", 31: "x31 (t6)"}
 AT_PLACES = {9, 10, 11, 12, 13, 14, 16, 21}
 PCREL_LO12 = {24, 25}
 LARGEST = 8
+LISTED = ["rvcfi-policy", "2"]  # the first line of a policy with a list of system calls
 OF_ONE, DUPLICATE, SECTIONS = range(1, 9), 27, 28  # the refusals of one object alone, and those of several
 
 
@@ -173,6 +174,9 @@ class Refusal:
             yield "The policy has no such line, or it is empty." if self.policy else "Give the policy by --policy to see its line."
             return
         yield "Line %d: %s" % (number, " ".join(rows[number]))
+        if rows[number][0] == "calls" or number == 2 and rows.get(1) == LISTED:
+            yield "Line 2 of a policy of version 2, and no other, is `calls` and 1 to 8 numbers from 0 to 2047, each above the one before."
+            return
         for text in rows[number][1:]:
             yield "    %-28s %s" % (text, self.policy_place(text))
 

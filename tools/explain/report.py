@@ -1,5 +1,6 @@
 """The report of a run, or another answer about an image, in names."""
 
+from explain.elf import ECALL
 from explain.texts import HANDLERS, OPENING, report_of
 
 CAUSES = {
@@ -13,6 +14,7 @@ UNTAME = {
     "window": "it would load or store outside of 0 to 2^28 - 1",
     "deep": "it would call with 8,190 calls pending",
     "end": "the program ran over the end of a section",
+    "call": "it would make a system call whose number is not in the list",
 }
 
 
@@ -96,6 +98,12 @@ def of_stop(named, disassembly, stop, trail):
         yield "The steps ended before the program%s." % (", in " + name_of(named, last) if last else "")
 
 
+def cause_of(named, handler, place):
+    """Why a place went to a handler: a system call does where its number is not in the list."""
+    is_call = place is not None and named.read.word_at(place) == ECALL
+    return "the number of its system call is not in the list" if is_call else CAUSES[handler]
+
+
 def of_handler(named, disassembly, handler, trail):
     if len(trail) < 2:
         yield "The run ended in %s." % handler
@@ -106,8 +114,10 @@ def of_handler(named, disassembly, handler, trail):
         yield "The run ended in %s: the program ran over the end of a section, behind %s." % (handler, name_of(named, site))
         return
     yield "The run ended in %s: what failed is %s (%08x), by %s: %s." % (
-        handler, name_of(named, site), site, instruction(named, disassembly, site), CAUSES[handler])
+        handler, name_of(named, site), site, instruction(named, disassembly, site), cause_of(named, handler, place))
     found = named.graph.site(site)
+    if place and named.read.word_at(place) == ECALL and named.graph.numbers is not None:
+        yield "It is a system call, whose number may be %s." % (" or ".join(map(str, named.graph.numbers)))
     if found:
         yield "It is a computed %s of %s, which may go to: %s." % (
             found.kind, named.graph.name(found.label), named.names(named.graph.classes.get(found.label, [])))

@@ -40,17 +40,19 @@ class Site(NamedTuple):
 
 
 class Graph:
-    """Classes by their label, with the sort of each, the sites, and the edges and calls as pairs of addresses. In version 2 calls
-    and jumps have classes of their own, and two words lead a target."""
+    """Classes by their label, with the sort of each, the sites, the edges and calls as pairs of addresses, and the numbers of system
+    calls, or None. In version 2 calls and jumps have classes of their own, and two words lead a target."""
 
     def __init__(self, path):
         self.classes, self.sorts, self.sites, self.edges, self.calls = {}, {}, [], [], []
         head, lines = words_of(path, "rvcfi-graph 1", "rvcfi-graph 2")
-        self.is_split = head == "rvcfi-graph 2"
+        self.is_split, self.numbers = head == "rvcfi-graph 2", None
         for first, *rest in lines:
             if first in SORTS:
                 self.classes[rest[0]] = [int(word, 16) for word in rest[1:]]
                 self.sorts[rest[0]] = SORTS[first]
+            elif first == "calls":
+                self.numbers = [int(word) for word in rest]
             elif first == "site":
                 self.sites.append(Site(int(rest[0], 16), rest[1], rest[2]))
             elif first in ("edge", "call"):

@@ -9,17 +9,20 @@ ROOM, MASK, RETURN = 0x03019F13, 0xFFCFFF93, 0xFF81BF83  # the words that tell c
 SHIFT = 0x024F9F93
 JUMP_BACK = 0x000F8067
 MOST_STORES = 16  # behind one mask
+NUMBER, TEST = 0x00000F93, 0x011F8063  # `addi x31,x0,N` and `beq x31,x17,..` without their offsets
+MOST_NUMBERS = 8  # of a guarded system call
 
 
 class Unit(NamedTuple):
     """Where a unit starts, its kind, its count of words, its direct target or its label, if any, and whether its check reads the
-    second word of its destination."""
+    second word of its destination; of a guarded system call the numbers that it lets through."""
     address: int
     kind: str
     size: int
     target: object = None
     label: object = None
     by_second: bool = False
+    numbers: tuple = ()
 
 
 def jal_target(word, at):
@@ -46,6 +49,17 @@ def stores_behind(words, index):
     return len(words[index:index + MOST_STORES])
 
 
+def numbers_at(words, index):
+    """The numbers that are tested from a word of the code on."""
+    found = []
+    while len(found) < MOST_NUMBERS and index + 1 < len(words):
+        if words[index] & 0x800FFFFF != NUMBER or words[index + 1] & 0x01FFF07F != TEST:
+            break
+        found.append(words[index] >> 20)
+        index += 2
+    return tuple(found)
+
+
 def unit_at(words, index):
     """The unit that begins with a word of the code."""
     at, word = CODE + 4 * index, words[index]
@@ -69,6 +83,9 @@ def longer_unit(words, index, at, word, following):
         return Unit(at, "call", 8, jal_target(words[index + 7], at + 28))
     if word == RETURN:
         return Unit(at, "return", 5)
+    listed = numbers_at(words, index)
+    if listed:
+        return Unit(at, "guarded call", 2 * len(listed) + 2, numbers=listed)
     if following == SHIFT:
         return Unit(at, "store", 3 + max(1, stores_behind(words, index + 3)))
     if following == MASK and index + 13 <= len(words):
