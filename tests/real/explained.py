@@ -282,6 +282,39 @@ def of_system_calls(asked, made):
         asked.same("a line for Graphviz", line in lines, True, "\n".join(lines))
 
 
+def of_lists(asked, program, made):
+    """Guarded system calls: their numbers by function, the units of an image, and what halts one."""
+    text = asked.told("graph", *objects(made), made.graph, made.map)
+    calls = "system call 63: read_input 1\nsystem call 64: write_output 1\nsystem call 93: _start 1, leave 1\n"
+    asked.has("numbers of system calls", text, calls + "no list; one with which all of these are made: calls 63 64 93")
+    listed = Hardened(asked.tool, made.object, policy=programs.policy_of(programs.CALLS, asked.bench.new(".policy")))
+    text = asked.told("graph", listed.object, listed.graph, listed.map, "--policy", listed.policy)
+    asked.has("a list", text, calls + "the list: calls 63 64 93\n")
+    asked.same("a list's classes", "not the classes" in text, False, text)
+    listing = asked.told("image", listed.object, listed.image, listed.graph, listed.map)
+    found = re.findall(r"^[0-9a-f]{8}  guarded call +(\S+)\+\S+ +ecall +(.*)$", listing, re.M)
+    asked.same("guarded calls", sorted(found), [(name, "system calls 63 64 93") for name in ("_start", "leave", "read_input", "write_output")],
+               listing)
+    asked.same("no bare call", re.findall(r"^[0-9a-f]{8}  system .* ecall$", listing, re.M), [], listing)
+    halted = Hardened(asked.tool, made.object, policy=programs.policy_of((63, 93), asked.bench.new(".policy")))
+    report = halted.asked(["run", halted.image, halted.graph, "none", halted.input_file(program.input), programs.STEPS])[1]
+    asked.has("halted by a list", asked.told("report", halted.object, halted.graph, halted.map, given=report),
+              "in __cfi_bad_target: what failed is write_output+", "ecall: the number of its system call is not in the list",
+              "It is a system call, whose number may be 63 or 93.")
+    asked.has("compared under a list", asked.told("report", halted.object, halted.graph, halted.map, given=halted.compared(program.input)[1]),
+              "own run leaves", "write_output+", "whose number is not in the list")
+    asked.has("another list", asked.told("graph", halted.object, halted.graph, halted.map),
+              "system call 64: write_output 1, which is not in the list", "the list: calls 63 93\n")
+
+
+def of_wrong_lists(asked):
+    """Lists that are refused."""
+    path = asked.source(PLAIN)
+    for line in ("calls 93 64", "calls 2048", "calls 064", "site main+0"):
+        policy = asked.bench.asked.file("list.policy", b"rvcfi-policy 2\n%s\nend\n" % line.encode())
+        asked.refusal(path, "Line 2: " + line, "1 to 8 numbers from 0 to 2047", policy=policy)
+
+
 def of_tables(asked):
     """Labels and functions in one class: the labels of the table and the functions of the other. Where calls have a class of their
     own the functions alone are in it."""
@@ -353,7 +386,7 @@ def of_missing(asked):
 
 
 def try_all(asked):
-    for part in (of_refusals, of_undefined, of_policies, of_names, of_tables, of_strange_names, of_refused_objects, of_refused_links,
+    for part in (of_refusals, of_undefined, of_policies, of_wrong_lists, of_names, of_tables, of_strange_names, of_refused_objects, of_refused_links,
                  of_many_sections, of_links, of_linked_names, of_missing):
         part(asked)
     for program, made in hardened_programs(asked):
@@ -363,6 +396,7 @@ def try_all(asked):
         of_image(asked, program, linked_program(asked, program, "harts-split"))
         if program.name == "visitors":
             of_harts(asked, program, made)
+            of_lists(asked, program, made)
             for each in (made, linked_program(asked, program, "plain")):
                 of_exploit(asked, each)
                 of_system_calls(asked, each)

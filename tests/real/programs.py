@@ -18,6 +18,7 @@ LEVELS = ["-O0", "-O1", "-O2", "-O3", "-Os"]
 ENTRY = "_start"
 STEPS = "100000000"
 SECONDS = 60
+CALLS = 63, 64, 93  # the system calls of start.s
 OPTIONS = ["-mcmodel=medlow", "-fno-pic", "-ffreestanding", "-fno-stack-protector", "-Wall", "-Wextra"]
 LIBRARY = {"rv64im": ["start.s", "memory.c", "text.c"], "rv64i": ["start.s", "arithmetic.c", "memory.c", "text.c"]}
 PROCESSORS = list(LIBRARY)
@@ -209,16 +210,24 @@ def sections_of_code(path):
     return sum(row[1] == "PROGBITS" and "X" in row[6] for row in rows if len(row) > 6)
 
 
+def policy_of(calls, path):
+    """Writes a policy with a list of system calls, and answers its path."""
+    with open(path, "w") as file:
+        file.write("rvcfi-policy 2\ncalls %s\nend\n" % " ".join(map(str, calls)))
+    return path
+
+
 class Hardened:
     """An object hardened in a form: its files, and what the tool says of them."""
     entry = ENTRY
 
-    def __init__(self, tool_path, joined_object, form="plain"):
-        self.tool, self.object, self.form = tool_path, joined_object, form
+    def __init__(self, tool_path, joined_object, form="plain", policy="none"):
+        self.tool, self.object, self.form, self.policy = tool_path, joined_object, form, policy
         name = joined_object.replace("_joined.o", "" if form == "plain" else "_" + form)
+        name += "" if policy == "none" else "_" + os.path.basename(policy)
         self.image, self.graph, self.map = (name + end for end in (".img", ".graph", ".map"))
         command = ["rewrite"] if form == "plain" else ["harden", form]
-        self.told = self.asked(command + [self.object, self.entry, "none", self.image, self.graph, self.map])
+        self.told = self.asked(command + [self.object, self.entry, policy, self.image, self.graph, self.map])
 
     def asked(self, words, given=b""):
         done = run([self.tool] + words, given)
@@ -242,7 +251,7 @@ class Hardened:
         return status, rest[:length], {line[0]: line[1:] for line in lines}
 
     def compared(self, given):
-        return self.asked(["compare", self.object, self.entry, "none", self.image, self.map, self.input_file(given), STEPS])
+        return self.asked(["compare", self.object, self.entry, self.policy, self.image, self.map, self.input_file(given), STEPS])
 
     def gate(self, name):
         """The address of a function in the image, by the map."""
@@ -271,10 +280,11 @@ class Hardened:
 class Linked(Hardened):
     """Objects that the tool itself joins, hardened in a form."""
 
-    def __init__(self, tool_path, objects, name, form="plain"):
-        self.tool, self.objects, self.form = tool_path, objects, form
+    def __init__(self, tool_path, objects, name, form="plain", policy="none"):
+        self.tool, self.objects, self.form, self.policy = tool_path, objects, form, policy
+        name += "" if policy == "none" else "_" + os.path.basename(policy)
         self.image, self.graph, self.map = (name + end for end in ("_linked.img", "_linked.graph", "_linked.map"))
-        self.told = self.asked(["link", form, self.entry, "none", self.image, self.graph, self.map, *objects])
+        self.told = self.asked(["link", form, self.entry, policy, self.image, self.graph, self.map, *objects])
 
     def compared(self, given):
-        return self.asked(["compare-link", self.entry, "none", self.image, self.map, self.input_file(given), STEPS, *self.objects])
+        return self.asked(["compare-link", self.entry, self.policy, self.image, self.map, self.input_file(given), STEPS, *self.objects])

@@ -8,7 +8,8 @@ quotients, at -O0, -O1, -O2, -O3 and -Os, and its files are joined by `ld -r`. W
 of the same files compiled for the host, also under qemu-riscv64 (the plain program, and the hardened image) and in the
 machine; the steps of the hardened image must be those that qemu counts. At -O2 for rv64im they are hardened with separate
 labels for calls and jumps too (`visitors` for several harts as well), where a computed transfer may reach no more than in
-the form `plain`. At -O0 and -O2 their files are also joined by `link`: that must come to the code (but for a word behind
+the form `plain`. At -O2 and -Os they are hardened under a list of the system calls that they make, too: the same output
+and status come of it, and what they need and the list lacks halts them. At -O0 and -O2 their files are also joined by `link`: that must come to the code (but for a word behind
 each section, of which `ld -r` makes one), classes, sites and steps of `ld -r` and `rewrite`; compiled with -fpic they must
 do the same. `visitors` is attacked twice in each form: the plain program must open the door, the hardened one must end in
 the named handler. One line a case has the steps and the bytes of code, plain and hardened. Then objects that are
@@ -42,6 +43,8 @@ DOOR = b"the door is open\n", 42
 HANDLERS = {"__cfi_bad_target": 0x40000000, "__cfi_bad_return": 0x40000004}
 
 IN_FORMS = "-O2", "rv64im"
+SYSTEM_CALLS = 4  # in start.s
+LISTED = "-O2", "-Os"
 LINKED = [("-O0", "rv64im"), ("-O2", "rv64im"), ("-O2", "rv64i")]
 
 # what each attack on the hardened program comes to: its handler, and why the object's own run leaves its graph
@@ -72,6 +75,23 @@ class Case:
                 self.try_targets(first, hardened)
         if first and (self.level, self.compiler.processor) in LINKED:
             self.try_links(tool, folder, first, wanted)
+        if first and self.level in LISTED:
+            self.try_listed(tool, folder, plain, first, wanted)
+
+    def try_listed(self, tool, folder, plain, first, wanted):
+        """The program under a list of its system calls, and under one without the call that writes."""
+        name = os.path.join(folder, "%s_%s%s_%s" % (self.compiler.name, self.compiler.processor, self.level, self.program.name))
+        policy = programs.policy_of(programs.CALLS, name + "_listed.policy")
+        listed = self.try_form(tool, plain, "plain", wanted, policy)
+        if listed:
+            counts = [each.run(self.program.input)[2]["walk"] for each in (first, listed)]
+            self.tell("list, units begun", counts[1], counts[0])
+            self.tell("list, code", listed.code_size(), first.code_size() + 4 * SYSTEM_CALLS * (1 + 2 * len(programs.CALLS)))
+        halted = Hardened(tool, first.object, policy=programs.policy_of((63, 93), name + "_silent.policy"))
+        self.tell("a shorter list, verify", halted.verified(), (0, b"accepted\n"))
+        status, output, report = halted.run(self.program.input)
+        self.tell("a shorter list", (status, output, stop_of(report)), (10, b"", ["handler", "__cfi_bad_target"]))
+        self.tell("a shorter list, compare", halted.compared(self.program.input)[1][:12], b"untame call ")
 
     def try_links(self, tool, folder, first, wanted):
         """The program's files, joined by the tool, and the same compiled with -fpic."""
@@ -110,9 +130,9 @@ class Case:
             return []
         return ["split"] + ["harts-split"] * (self.program.name == "visitors")
 
-    def try_form(self, tool, plain, form, wanted):
+    def try_form(self, tool, plain, form, wanted, policy="none"):
         """Hardens the program in a form, runs it, and attacks it where it can be."""
-        hardened = Hardened(tool, plain.replace(".elf", "_joined.o"), form)
+        hardened = Hardened(tool, plain.replace(".elf", "_joined.o"), form, policy)
         self.tell(form, hardened.told[0], 0)
         if hardened.told[0]:
             self.lines.append(hardened.told[1].decode())
@@ -133,7 +153,7 @@ class Case:
         self.tell(form + ", compare", (status, compared.split()[:1]), (0, [b"same"]))
         counted = len(programs.addresses_run(image, given))
         self.tell(form + ", steps", int(report["steps"][0]), counted)
-        if form == "plain":
+        if form == "plain" and hardened.policy == "none":
             steps, sizes = (len(programs.addresses_run(plain, given)), counted), (programs.code_size(plain), hardened.code_size())
             words = self.program.name, self.compiler.name, self.compiler.processor, self.level
             self.lines.append("%-11s %-5s %-6s %-3s  steps %7d to %7d, %.2f times  code %5d to %5d bytes, %.2f times" % (
