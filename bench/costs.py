@@ -1,0 +1,113 @@
+#!/usr/bin/env python3
+"""Prints what each form of hardening, masks for several stores and lists of system calls cost: steps and bytes of code.
+
+    python3 bench/costs.py [--program PATH] [--level=-O2]
+
+README.md beside this file says what is measured and what it needs.
+"""
+
+import argparse
+import os
+import sys
+import tempfile
+
+sys.dont_write_bytecode = True
+HERE = os.path.dirname(os.path.abspath(__file__))
+sys.path[:0] = [os.path.join(HERE, "..", "tests", "real"), os.path.join(HERE, "..", "tools")]
+
+import programs
+from explain import units
+from explain.texts import ONE, image_code
+from programs import CALLS, PROGRAMS, Hardened, Missing
+
+EIGHT = 0, 1, 62, 63, 64, 93, 94, 2047
+CHOICES = {"`plain`": ("plain", None), "`harts`": ("harts", None), "`split`": ("split", None), "`harts-split`": ("harts-split", None),
+           "a list of 3": ("plain", CALLS), "a list of 8": ("plain", EIGHT)}
+MASK = 3  # words
+ALONE = "each store alone"
+
+
+def hardened(tool, joined, form, calls):
+    """An object hardened in a form, under a list of system calls or none."""
+    policy = "none" if calls is None else programs.policy_of(calls, joined + ".%d.policy" % len(calls))
+    made = Hardened(tool, joined, form, policy)
+    if made.told[0] or made.verified()[0]:
+        sys.exit("%s %s: %s" % (joined, form, made.told[1].decode()))
+    return made
+
+
+def run(made, program):
+    """The steps of a run, in which hart 0 alone goes on, and the bytes of code."""
+    status, _, report = made.run(program.input)
+    if status:
+        sys.exit("%s: the run ended with status %d" % (made.image, status))
+    return int(report["steps"][0]), made.code_size()
+
+
+def later_stores(image):
+    """The addresses of the stores behind the first of a mask."""
+    words = image_code(image)
+    found = [unit for unit in units.split(words, ONE) if unit.kind == "store"]
+    return {at for unit in found for at in range(unit.address + 4 * MASK + 4, unit.address + 4 * unit.size, 4)}
+
+
+def alone(made, program, steps, size):
+    """What it would take if each store had a mask of its own: three words more for each later store, and each time that it is run."""
+    later = later_stores(made.image)
+    times = sum(at in later for at in programs.addresses_run(programs.for_qemu(made.image), program.input))
+    return steps + MASK * times, size + 4 * MASK * len(later)
+
+
+def measured(tool, compiler, level, program, folder):
+    """The steps and the bytes of a program that is not hardened, and of each choice."""
+    joined = programs.joined(compiler, level, program, folder)
+    plain = programs.linked(joined)
+    found = {"not hardened": (len(programs.addresses_run(plain, program.input)), programs.code_size(plain))}
+    for name, (form, calls) in CHOICES.items():
+        made = hardened(tool, joined, form, calls)
+        found[name] = run(made, program)
+        if name == "`plain`":
+            found[ALONE] = alone(made, program, *found[name])
+    return found
+
+
+def mean(ratios):
+    product = 1.0
+    for ratio in ratios:
+        product *= ratio
+    return product ** (1 / len(ratios))
+
+
+def tell(processor, names, rows):
+    """A table: what a program takes without hardening, and how many times as much with each choice."""
+    for k, what in enumerate(("steps", "bytes of code")):
+        print("\n%s, %s\n" % (processor, what))
+        print("| program | " + " | ".join(names) + " |")
+        print("|---" * (1 + len(names)) + "|")
+        for program, found in rows:
+            first = found["not hardened"][k]
+            print("| `%s` | %s | %s |" % (program.name, "{:,}".format(first), " | ".join("%.2f" % (found[name][k] / first) for name in names[1:])))
+        means = [mean([found[name][k] / found["not hardened"][k] for _, found in rows]) for name in names[1:]]
+        print("| in the mean | | %s |" % " | ".join("%.2f" % each for each in means))
+
+
+def main():
+    words = argparse.ArgumentParser(description=__doc__, formatter_class=argparse.RawDescriptionHelpFormatter)
+    words.add_argument("--program", default=programs.PROGRAM)
+    words.add_argument("--level", default="-O2", help="with =, as --level=-Os")
+    options = words.parse_args()
+    if not os.access(options.program, os.X_OK):
+        sys.exit("%s is not there: cd crates/rvcfi && rt run -- verify data/a.img data/a.graph" % options.program)
+    names = ["not hardened", "`plain`", ALONE] + [name for name in CHOICES if name != "`plain`"]
+    with tempfile.TemporaryDirectory() as folder:
+        for processor in programs.PROCESSORS:
+            try:
+                compiler = programs.gcc(processor)
+            except Missing as what:
+                sys.exit("not measured, since there is no %s" % what)
+            rows = [(program, measured(os.path.abspath(options.program), compiler, options.level, program, folder)) for program in PROGRAMS]
+            tell(processor, names, rows)
+
+
+if __name__ == "__main__":
+    main()
