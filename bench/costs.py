@@ -36,7 +36,7 @@ def hardened(tool, joined, form, calls):
     return made
 
 
-def run(made, program):
+def ran(made, program):
     """The steps of a run, in which hart 0 alone goes on, and the bytes of code."""
     status, _, report = made.run(program.input)
     if status:
@@ -62,10 +62,10 @@ def measured(tool, compiler, level, program, folder):
     """The steps and the bytes of a program that is not hardened, and of each choice."""
     joined = programs.joined(compiler, level, program, folder)
     plain = programs.linked(joined)
-    found = {"not hardened": (len(programs.addresses_run(plain, program.input)), programs.code_size(plain))}
+    found = {"not hardened": (programs.counted(plain, program.input)[1], programs.code_size(plain))}
     for name, (form, calls) in CHOICES.items():
         made = hardened(tool, joined, form, calls)
-        found[name] = run(made, program)
+        found[name] = ran(made, program)
         if name == "`plain`":
             found[ALONE] = alone(made, program, *found[name])
     return found
@@ -91,6 +91,21 @@ def tell(processor, names, rows):
         print("| in the mean | | %s |" % " | ".join("%.2f" % each for each in means))
 
 
+def ratios(rows, name, first_rows, first, k):
+    """How many times as much each program takes with a choice as with another one: the mean, and from where to where."""
+    found = [row[name][k] / first_row[first][k] for (_, row), (_, first_row) in zip(rows, first_rows)]
+    return "%.2f (%.2f to %.2f)" % (mean(found), min(found), max(found))
+
+
+def choose(names, found):
+    """A table for choosing: what each choice takes beside the program for rv64im that is hardened in the form `plain`."""
+    first, choices = found["rv64im"], [(name, "rv64im", name) for name in names if name != "`plain`"]
+    choices += [("`rv64i`, not hardened", "rv64i", "not hardened"), ("`rv64i`", "rv64i", "`plain`"), ("`-fpic`", "-fpic", "`plain`")]
+    print("\n| beside `plain` for rv64im | steps | bytes of code |\n|---|---|---|")
+    for told, kind, name in choices:
+        print("| %s | %s |" % (told, " | ".join(ratios(found[kind], name, first, "`plain`", k) for k in range(2))))
+
+
 def main():
     words = argparse.ArgumentParser(description=__doc__, formatter_class=argparse.RawDescriptionHelpFormatter)
     words.add_argument("--program", default=programs.PROGRAM)
@@ -99,14 +114,18 @@ def main():
     if not os.access(options.program, os.X_OK):
         sys.exit("%s is not there: cd crates/rvcfi && rt run -- verify data/a.img data/a.graph" % options.program)
     names = ["not hardened", "`plain`", ALONE] + [name for name in CHOICES if name != "`plain`"]
+    try:
+        compilers = {processor: programs.gcc(processor) for processor in programs.PROCESSORS}
+    except Missing as what:
+        sys.exit("not measured, since there is no %s" % what)
+    compilers["-fpic"], found = programs.shared(compilers["rv64im"]), {}
     with tempfile.TemporaryDirectory() as folder:
-        for processor in programs.PROCESSORS:
-            try:
-                compiler = programs.gcc(processor)
-            except Missing as what:
-                sys.exit("not measured, since there is no %s" % what)
-            rows = [(program, measured(os.path.abspath(options.program), compiler, options.level, program, folder)) for program in PROGRAMS]
-            tell(processor, names, rows)
+        for kind, compiler in compilers.items():
+            tool = os.path.abspath(options.program)
+            found[kind] = [(program, measured(tool, compiler, options.level, program, folder)) for program in PROGRAMS]
+            if kind in programs.PROCESSORS:
+                tell(kind, names, found[kind])
+    choose(names, found)
 
 
 if __name__ == "__main__":

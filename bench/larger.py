@@ -146,7 +146,7 @@ def measure(tool, objects, wanted, folder, form, calls, runs):
         [tool, "link", form, "_start", policy, made.image, made.graph, made.map, *objects], [tool, "verify", made.image, made.graph],
         [tool, "run", made.image, made.graph, "none", given, programs.STEPS],
         [tool, "compare-link", "_start", policy, made.image, made.map, given, programs.STEPS, *objects]]
-    times = [best_time(command, runs).wall for command in commands]
+    times = [best_time(command, runs).processor for command in commands]
     peaks = [peak_memory(command) // 1024 for command in commands]
     words = made.told[1].split()
     return made.code_size(), int(words[6]), int(words[8]), os.path.getsize(made.graph), int(report["steps"][0]), times, peaks

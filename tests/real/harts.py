@@ -3,6 +3,11 @@ against the return address of another, opens the door in the plain program and e
 
 The plain program runs for several harts in the model of tests/harts. What the orders come to must be what the host's build
 makes of them, whoever works them off.
+
+It is built for rv64im without -fpic at every level by each compiler, joined by `ld -r` and hardened in the form `harts`, at -O2
+in `harts-split` too, and attacked. Of what else there is each combination of a compiler, a processor, -fpic or not, a form for
+several harts, `ld -r` or `link`, and a list of system calls or none is built at one level, in turn (64 builds), and runs
+under the same turns, without attacks. The forms for one hart are left out, since `begin` asks for a number of a hart.
 """
 
 import concurrent.futures
@@ -11,7 +16,7 @@ import random
 import sys
 
 import programs
-from programs import LEVELS, LIBRARY, Hardened, Program
+from programs import CALLS, LEVELS, LIBRARY, Hardened, Linked, Program
 
 sys.path.append(os.path.join(programs.HERE, "..", "harts"))
 
@@ -57,8 +62,8 @@ DRAWN = [(2, drawn(3, 2, 5, 30000)), (2, drawn(4, 2, 50, 3000)), (3, drawn(5, 3,
          (8, drawn(7, 8, 400, 2000))]
 
 
-class Office(Hardened):
-    """The program, hardened for several harts."""
+class Scripted:
+    """Runs of several harts."""
     entry = "begin"
 
     def script(self, harts, turns, changes=()):
@@ -74,6 +79,14 @@ class Office(Hardened):
         """A run under a script: the output, how it stopped, and the steps."""
         _, output, report = self.run(given, self.script(harts, turns, changes), LIMIT)
         return output, report["stop"], int(report["steps"][0])
+
+
+class Office(Scripted, Hardened):
+    """The program, hardened for several harts."""
+
+
+class LinkedOffice(Scripted, Linked):
+    """The same, of objects that the tool joins."""
 
 
 class Plain(Machine):
@@ -114,11 +127,17 @@ def parted(output):
 class Build:
     """The program as one compiler builds it at one level, not hardened and hardened in a form."""
 
-    def __init__(self, tool, folder, compiler, level, form="harts", files=OFFICE):
-        program = Program("clerks" if files is OFFICE else "lockless", ["harts.s"] + files, b"")
-        self.name = "%s %s, %s" % (compiler.name, level, form)
+    def __init__(self, tool, folder, compiler, level, form="harts", called="clerks", files=OFFICE, join="ld -r", listed=False):
+        program = Program(called, ["harts.s"] + files, b"")
+        self.name = "%s %s %s, %s by %s%s" % (compiler.name, compiler.processor, level, form, join, ", listed" * listed)
         joined = programs.joined(compiler, level, program, folder)
-        self.plain, self.office = programs.linked(joined), Office(tool, joined, form)
+        self.plain = programs.linked(joined)
+        policy = programs.policy_of(CALLS, joined.replace("_joined.o", "_listed.policy")) if listed else "none"
+        if join == "ld -r":
+            self.office = Office(tool, joined, form, policy)
+        else:
+            objects = programs.objects_of(compiler, level, program, folder)
+            self.office = LinkedOffice(tool, objects, joined.replace("_joined.o", "_" + form), form, policy)
 
     def door(self):
         """Where the door's function is, in the plain program and in the hardened one."""
@@ -136,9 +155,9 @@ def of_runs(build, wanted):
     given, office = text(ORDERS), build.office
     yield "verify", office.verified(), (0, b"accepted\n")
     yield "not hardened, under qemu", programs.under_qemu(build.plain, given), wanted
-    image = programs.for_qemu(office.image)
-    yield "under qemu", programs.under_qemu(image, given), wanted
-    yield "steps", office.run_for(given, 1, [])[2], len(programs.addresses_run(image, given))
+    done, counted = programs.counted(programs.for_qemu(office.image), given)
+    yield "under qemu", done, wanted
+    yield "steps", office.run_for(given, 1, [])[2], counted
     status, compared = office.compared(given)
     yield "compare", (status, compared.split()[:1]), (0, [b"same"])
     results = parted(wanted[0])[0]
@@ -190,7 +209,7 @@ def of_drawn_turns(build, wanted):
 
 def of_no_lock(tool, folder, compiler, wanted):
     """Without the lock some of the same turns give something else."""
-    build = Build(tool, folder, compiler, "-O2", files=["clerks.c", "no_lock.c", "door.c"])
+    build = Build(tool, folder, compiler, "-O2", called="lockless", files=["clerks.c", "no_lock.c", "door.c"])
     ends = [build.office.run_for(text(ORDERS), harts, turns)[:2] for harts, turns in TURNS]
     right = [parted(output)[0] == parted(wanted[0])[0] and sum(parted(output)[1]) == len(ORDERS) for output, _ in ends]
     yield "no lock, one hart", right[0], True
@@ -207,6 +226,21 @@ def rows_of(tool, folder, compiler, level, wanted):
     return rows
 
 
+def ways():
+    """Each form for several harts, with each way of joining, with a list and without."""
+    return [(form, join, listed) for form in ("harts", "harts-split") for join in ("ld -r", "link") for listed in (False, True)]
+
+
+def rows_of_ways(tool, folder, compiler, turn, wanted):
+    """What is asked of a compiler's builds in each way, at a level that turns."""
+    rows = []
+    for number, (form, join, listed) in enumerate(ways()):
+        level = LEVELS[(turn + number) % len(LEVELS)]
+        build = Build(tool, folder, compiler, level, form, "clerks_too", OFFICE, join, listed)
+        rows += rows_of_build(build, [of_runs], wanted)
+    return rows
+
+
 def rows_of_build(build, asked, wanted):
     rows = [("harden", build.office.told[0], 0)] + [row for each in asked for row in each(build, wanted)]
     return [(build.name + ", " + what, got, want) for what, got, want in rows]
@@ -215,13 +249,16 @@ def rows_of_build(build, asked, wanted):
 def tried(tool, folder, compilers):
     """The failures, and how much was asked."""
     wanted = programs.on_host(Program("clerks", OFFICE, text(ORDERS)), folder)
-    builds = [(tool, folder, compiler, level, wanted) for compiler in compilers for level in LEVELS]
-    for compiler in compilers:
+    kinds = [kind for each in compilers for kind in (each, programs.shared(each))]
+    for compiler in kinds:
         for level in LEVELS:
-            for name in LIBRARY[compiler.processor]:
+            for name in LIBRARY[compiler.processor] + ["harts.s"] + OFFICE:
                 programs.compiled(compiler, level, name, folder)
+    attacked = [each for each in compilers if each.processor == "rv64im"]
+    calls = [(rows_of, compiler, level) for compiler in attacked for level in LEVELS]
+    calls += [(rows_of_ways, compiler, turn) for turn, compiler in enumerate(kinds)]
     with concurrent.futures.ThreadPoolExecutor(os.cpu_count()) as pool:
-        rows = [row for part in pool.map(lambda build: rows_of(*build), builds) for row in part]
-    for compiler in compilers[:1]:
+        rows = [row for part in pool.map(lambda call: call[0](tool, folder, *call[1:], wanted), calls) for row in part]
+    for compiler in attacked[:1]:
         rows += of_no_lock(tool, folder, compiler, wanted)
     return ["FAILED harts, %s: %.200r, not %.200r" % row for row in rows if row[1] != row[2]], len(rows)

@@ -4,6 +4,7 @@ For tests/real/run.py and bench/overhead.py. The options are those of docs/COMPI
 for products and quotients and for one without.
 """
 
+import functools
 import os
 import shutil
 import struct
@@ -14,6 +15,11 @@ from typing import NamedTuple
 HERE = os.path.dirname(os.path.abspath(__file__))
 PROGRAM = os.path.join(HERE, "..", "..", "crates", "rvcfi", "out", "rvcfi")
 QEMU_SCRIPT = [sys.executable, os.path.join(HERE, "..", "..", "docs", "tutorial", "for_qemu.py")]
+sys.path.append(os.path.dirname(QEMU_SCRIPT[1]))
+
+import for_qemu as qemu_script
+
+FORMS = ["plain", "harts", "split", "harts-split"]
 LEVELS = ["-O0", "-O1", "-O2", "-O3", "-Os"]
 ENTRY = "_start"
 STEPS = "100000000"
@@ -156,23 +162,41 @@ def under_qemu(path, given):
     return done.stdout, done.returncode
 
 
-def addresses_run(path, given):
-    """The addresses of the instructions that qemu runs, in their order."""
+@functools.lru_cache(None)
+def tracing():
+    """The command by which qemu tells each instruction that it runs."""
     qemu = tool("qemu-riscv64", "qemu-riscv64-static")
     single = "-one-insn-per-tb" if b"one-insn-per-tb" in run([qemu, "-help"]).stdout else "-singlestep"
-    done = run([qemu, single, "-d", "nochain,exec", "-D", "/dev/stderr", path], given)
-    return [int(line.split(b"/")[1], 16) for line in done.stderr.splitlines() if line.startswith(b"Trace ")]
+    return [qemu, single, "-d", "nochain,exec", "-D", "/dev/stderr"]
+
+
+def traced(path, given):
+    """The output and the status of a program under qemu, and the addresses of the instructions that are run, in their order."""
+    done = run(tracing() + [path], given)
+    return (done.stdout, done.returncode), [int(line.split(b"/")[1], 16) for line in done.stderr.splitlines() if line.startswith(b"Trace ")]
+
+
+def addresses_run(path, given):
+    """The addresses of the instructions that qemu runs, in their order."""
+    return traced(path, given)[1]
+
+
+def counted(path, given):
+    """The output and the status of a program under qemu, and how many instructions are run."""
+    counter = subprocess.Popen(["grep", "-c", "^Trace "], stdin=subprocess.PIPE, stdout=subprocess.PIPE)
+    done = subprocess.run(tracing() + [path], input=given, stdout=subprocess.PIPE, stderr=counter.stdin, timeout=SECONDS)
+    return (done.stdout, done.returncode), int(counter.communicate()[0])
 
 
 def for_qemu(image):
     """Makes the file for qemu's user mode of an image, and answers its path."""
     path = image.replace(".img", ".qemu")
-    must(QEMU_SCRIPT + [image, path])
+    qemu_script.main(image, path)
     return path
 
 
 def symbol(path, wanted):
-    """The section and the value of a symbol of an object or a linked program."""
+    """The section and the value of a symbol that an object or a linked program defines."""
     with open(path, "rb") as file:
         content = file.read()
     start, = struct.unpack_from("<Q", content, 40)
@@ -182,9 +206,15 @@ def symbol(path, wanted):
     names = sections[table[6]][4]
     for at in range(table[4], table[4] + table[5], 24):
         name, _, _, section, value, _ = struct.unpack_from("<IBBHQQ", content, at)
-        if content[names + name:].split(b"\0", 1)[0] == wanted.encode():
+        if section and content[names + name:].split(b"\0", 1)[0] == wanted.encode():
             return section, value
     raise KeyError(wanted)
+
+
+def sections(path):
+    """How many sections an object has, number 0 counted."""
+    with open(path, "rb") as file:
+        return struct.unpack_from("<H", file.read(62), 60)[0]
 
 
 def segments(path):
@@ -253,9 +283,13 @@ class Hardened:
     def compared(self, given):
         return self.asked(["compare", self.object, self.entry, self.policy, self.image, self.map, self.input_file(given), STEPS])
 
+    def place(self, name):
+        """The section and the offset of a function, as the map has them."""
+        return symbol(self.object, name)
+
     def gate(self, name):
         """The address of a function in the image, by the map."""
-        section, offset = symbol(self.object, name)
+        section, offset = self.place(name)
         with open(self.map) as file:
             lines = [line.split() for line in file]
         return next(int(line[1], 16) for line in lines if line[2:] == ["%04x" % section, "%08x" % offset])
@@ -288,3 +322,14 @@ class Linked(Hardened):
 
     def compared(self, given):
         return self.asked(["compare-link", self.entry, self.policy, self.image, self.map, self.input_file(given), STEPS, *self.objects])
+
+    def place(self, name):
+        """Sections are numbered on from object to object."""
+        before = 0
+        for path in self.objects:
+            try:
+                section, offset = symbol(path, name)
+                return before + section, offset
+            except KeyError:
+                before += sections(path)
+        raise KeyError(name)

@@ -3,18 +3,24 @@
 
     python3 tests/real/run.py [--program PATH] [--keep FOLDER]
 
-Each program is compiled by gcc and by clang for rv64im and for rv64i, where tests/real/arithmetic.c has the products and
-quotients, at -O0, -O1, -O2, -O3 and -Os, and its files are joined by `ld -r`. What it puts and its status must be those
-of the same files compiled for the host, also under qemu-riscv64 (the plain program, and the hardened image) and in the
-machine; the steps of the hardened image must be those that qemu counts. At -O2 for rv64im they are hardened with separate
-labels for calls and jumps too (`visitors` for several harts as well), where a computed transfer may reach no more than in
-the form `plain`. At -O2 and -Os they are hardened under a list of the system calls that they make, too: the same output
-and status come of it, and what they need and the list lacks halts them. At -O0 and -O2 their files are also joined by `link`: that must come to the code (but for a word behind
-each section, of which `ld -r` makes one), classes, sites and steps of `ld -r` and `rewrite`; compiled with -fpic they must
-do the same. `visitors` is attacked twice in each form: the plain program must open the door, the hardened one must end in
-the named handler. One line a case has the steps and the bytes of code, plain and hardened. Then objects that are
-refused must be refused as docs/COMPILING.md says, images that qemu's user mode does not confine must end as
-docs/MACHINE.md says, and `clerks` is hardened for several harts, run under turns, and attacked by one hart from another.
+Each program is compiled by gcc and by clang, for rv64im and for rv64i (where tests/real/arithmetic.c has the products and
+quotients), with -fpic and without, at -O0, -O1, -O2, -O3 and -Os: 40 builds of each. What it puts and its status must be those
+of the same files compiled for the host, also under qemu-riscv64 (the plain program, and the hardened image) and in the machine;
+the steps of the hardened image must be those that qemu counts, and `compare` must find no difference. Each build is hardened in
+each of the four forms, its files joined by `ld -r` or by `link`, without a list of system calls or under that of those that it
+makes. Of these four combinations of joining and list a build and a form have one, in turn: every one is met with each program,
+form, processor, compiler and -fpic, at one of the levels at least, and at each level with each form, processor, compiler and
+-fpic, by one of the programs at least; the other three of each build and form are left out. Masks for several stores are in all
+of them: there is no way to leave them out.
+
+Without -fpic more is asked. At -O2 for rv64im, of all forms joined by `ld -r` without a list: with separate labels for calls and
+jumps a computed transfer may reach no more than without. At -O2 and -Os, in the form `plain`: under the list as many units are
+begun, and what a program needs and the list lacks halts it. At -O0 and -O2: `link` must come to the code (but for a word behind
+each section, of which `ld -r` makes one), classes, sites and steps of `ld -r` and `rewrite`. `visitors` is attacked twice in each
+case: the plain program must open the door, the hardened one must end in the named handler. One line a build has the steps and the
+bytes of code, plain and hardened. Then objects that are refused must be refused as docs/COMPILING.md says, images that qemu's user
+mode does not confine must end as docs/MACHINE.md says, and `clerks` is hardened for several harts, run under turns, and attacked
+by one hart from another (tests/real/harts.py).
 
 The program is crates/rvcfi/out/rvcfi where none is named, as `rt ci` or `rt run` leaves it. It needs Python 3.9, Linux and
 what docs/COMPILING.md lists. Where a tool is missing, what it is for is told as not run. The last line counts what was
@@ -28,6 +34,7 @@ import os
 import signal
 import sys
 import tempfile
+from typing import NamedTuple
 
 sys.dont_write_bytecode = True
 
@@ -37,7 +44,7 @@ import pitfalls
 import programs
 import refusals
 from attack import ATTACKS
-from programs import LEVELS, PROGRAMS, Hardened, Linked, Missing
+from programs import FORMS, LEVELS, PROGRAMS, Hardened, Linked, Missing
 
 DOOR = b"the door is open\n", 42
 HANDLERS = {"__cfi_bad_target": 0x40000000, "__cfi_bad_return": 0x40000004}
@@ -51,6 +58,20 @@ LINKED = [("-O0", "rv64im"), ("-O2", "rv64im"), ("-O2", "rv64i")]
 STOPPED = {"pointer": ("__cfi_bad_target", b"untame graph"), "return": ("__cfi_bad_return", b"untame return")}
 
 
+class Row(NamedTuple):
+    """A form, by what the files are joined, and whether system calls are listed."""
+    form: str
+    join: str
+    listed: bool
+
+    def __str__(self):
+        return "%s by %s%s" % (self.form, self.join, ", listed" * self.listed)
+
+
+FIRST = Row("plain", "ld -r", False)
+WAYS = [(join, listed) for listed in (False, True) for join in ("ld -r", "link")]
+
+
 class Case:
     """A program of one compiler and one level, with what was asked of it."""
 
@@ -58,127 +79,131 @@ class Case:
         self.compiler, self.level, self.program = compiler, level, program
         self.passed, self.lines = 0, []
 
+    def words(self):
+        return self.program.name, self.compiler.name, self.compiler.processor, self.level
+
+    def name(self, folder):
+        """The path of its files, without their ends."""
+        program, *words = self.words()
+        return os.path.join(folder, "%s_%s%s_%s" % (*words, program))
+
     def tell(self, what, got, want):
         if got == want:
             self.passed += 1
         else:
-            words = self.program.name, self.compiler.name, self.compiler.processor, self.level, what, got, want
-            self.lines.append("FAILED %s %s %s %s: %s: %.200r, not %.200r" % words)
+            self.lines.append("FAILED %s %s %s %s: %s: %.200r, not %.200r" % (*self.words(), what, got, want))
+
+    def rows(self):
+        """In which forms and how it is hardened: each form in a way that turns with the program, the level, the compiler and the
+        processor; and what is compared."""
+        shared, processor = self.compiler.name.endswith("pic"), self.compiler.processor
+        turn = PROGRAMS.index(self.program) + LEVELS.index(self.level) + self.compiler.name.startswith("clang")
+        turn += 2 * (processor == "rv64im") + 3 * shared
+        rows = [Row(form, *WAYS[(turn + number) % len(WAYS)]) for number, form in enumerate(FORMS)]
+        if not shared:
+            rows += [FIRST, FIRST._replace(listed=True)] * (self.level in LISTED)
+            rows += [FIRST, FIRST._replace(join="link")] * ((self.level, processor) in LINKED)
+            rows += [FIRST._replace(form=form) for form in FORMS] * ((self.level, processor) == IN_FORMS)
+        return list(dict.fromkeys(rows))
 
     def try_all(self, tool, folder, wanted):
         plain = programs.linked(programs.joined(self.compiler, self.level, self.program, folder))
-        self.tell("plain under qemu", programs.under_qemu(plain, self.program.input), wanted)
-        first = self.try_form(tool, plain, "plain", wanted)
-        for form in self.forms():
-            hardened = self.try_form(tool, plain, form, wanted)
-            if first and hardened:
-                self.try_targets(first, hardened)
-        if first and (self.level, self.compiler.processor) in LINKED:
-            self.try_links(tool, folder, first, wanted)
-        if first and self.level in LISTED:
-            self.try_listed(tool, folder, plain, first, wanted)
+        got, steps = programs.counted(plain, self.program.input)
+        self.tell("plain under qemu", got, wanted)
+        if self.program.name == "visitors":
+            for attack in STOPPED:
+                given = ATTACKS[attack](programs.symbol(plain, "open_door")[1])
+                self.tell("not hardened, " + attack, programs.under_qemu(plain, given), DOOR)
+        made = {row: self.try_row(tool, folder, plain, row, wanted) for row in self.rows()}
+        if None not in made.values():
+            self.try_compared(tool, folder, made)
+            row = self.rows()[0]
+            sizes, more = (programs.code_size(plain), made[row].code_size()), made[row].steps
+            self.lines.append("%-11s %-8s %-6s %-3s  %-22s  steps %7d to %7d, %.2f times  code %5d to %5d bytes, %.2f times" % (
+                *self.words(), str(row), steps, more, more / steps, *sizes, sizes[1] / sizes[0]))
 
-    def try_listed(self, tool, folder, plain, first, wanted):
-        """The program under a list of its system calls, and under one without the call that writes."""
-        name = os.path.join(folder, "%s_%s%s_%s" % (self.compiler.name, self.compiler.processor, self.level, self.program.name))
-        policy = programs.policy_of(programs.CALLS, name + "_listed.policy")
-        listed = self.try_form(tool, plain, "plain", wanted, policy)
-        if listed:
-            counts = [each.run(self.program.input)[2]["walk"] for each in (first, listed)]
-            self.tell("list, units begun", counts[1], counts[0])
-            self.tell("list, code", listed.code_size(), first.code_size() + 4 * SYSTEM_CALLS * (1 + 2 * len(programs.CALLS)))
-        halted = Hardened(tool, first.object, policy=programs.policy_of((63, 93), name + "_silent.policy"))
+    def hardened(self, tool, folder, plain, row):
+        policy = programs.policy_of(programs.CALLS, self.name(folder) + "_listed.policy") if row.listed else "none"
+        if row.join == "ld -r":
+            return Hardened(tool, plain.replace(".elf", "_joined.o"), row.form, policy)
+        name = self.name(folder) + ("" if row.form == "plain" else "_" + row.form)
+        return Linked(tool, programs.objects_of(self.compiler, self.level, self.program, folder), name, row.form, policy)
+
+    def try_row(self, tool, folder, plain, row, wanted):
+        """Hardens the program, runs it, and attacks it where it can be."""
+        made = self.hardened(tool, folder, plain, row)
+        name = str(row)
+        self.tell(name, made.told[0], 0)
+        if made.told[0]:
+            self.lines.append(made.told[1].decode())
+            return None
+        self.tell(name + ", verify", made.verified(), (0, b"accepted\n"))
+        self.try_run(made, row, wanted)
+        if self.program.name == "visitors":
+            for attack in STOPPED:
+                self.try_attack(made, row, attack, *STOPPED[attack])
+        return made
+
+    def try_run(self, made, row, wanted):
+        given, name = self.program.input, str(row)
+        _, output, report = made.run(given)
+        got, counted = programs.counted(programs.for_qemu(made.image), given)
+        made.steps = int(report["steps"][0])
+        self.tell(name + ", under qemu", got, wanted)
+        self.tell(name + ", run", (output, stop_of(report)), (wanted[0], ["exit", str(wanted[1])]))
+        self.tell(name + ", steps", made.steps, counted)
+        status, compared = made.compared(given)
+        self.tell(name + ", compare", (status, compared.split()[:1]), (0, [b"same"]))
+
+    def try_attack(self, made, row, what, handler, untame):
+        """The input goes to a function that the program calls only for who knows the word."""
+        given, name = ATTACKS[what](made.gate("open_door")), str(row) + ", " + what
+        status, output, report = made.run(given)
+        self.tell(name, (status, output, stop_of(report)), (10, b"", ["handler", handler]))
+        got, addresses = programs.traced(programs.for_qemu(made.image), given)
+        self.tell(name + ", under qemu", got, (b"", -signal.SIGTRAP))
+        self.tell(name + ", its last address", addresses[-1], HANDLERS[handler])
+        status, compared = made.compared(given)
+        self.tell(name + ", compare", (status, compared[:len(untame)]), (13, untame))
+
+    def try_compared(self, tool, folder, made):
+        """What a list, `link` and separate labels change."""
+        if FIRST._replace(listed=True) in made and FIRST in made:
+            self.try_listed(made[FIRST], made[FIRST._replace(listed=True)])
+            self.try_shorter(tool, folder, made[FIRST])
+        if FIRST._replace(join="link") in made and FIRST in made:
+            self.try_link(made[FIRST._replace(join="link")], made[FIRST])
+        for form in ("split", "harts-split"):
+            if FIRST._replace(form=form) in made and FIRST in made:
+                self.try_targets(made[FIRST], made[FIRST._replace(form=form)], form)
+
+    def try_listed(self, first, listed):
+        """A list of the system calls that are made."""
+        counts = [each.run(self.program.input)[2]["walk"] for each in (first, listed)]
+        self.tell("list, units begun", counts[1], counts[0])
+        self.tell("list, code", listed.code_size(), first.code_size() + 4 * SYSTEM_CALLS * (1 + 2 * len(programs.CALLS)))
+
+    def try_shorter(self, tool, folder, first):
+        """A list without the call that writes."""
+        halted = Hardened(tool, first.object, policy=programs.policy_of((63, 93), self.name(folder) + "_silent.policy"))
         self.tell("a shorter list, verify", halted.verified(), (0, b"accepted\n"))
         status, output, report = halted.run(self.program.input)
         self.tell("a shorter list", (status, output, stop_of(report)), (10, b"", ["handler", "__cfi_bad_target"]))
         self.tell("a shorter list, compare", halted.compared(self.program.input)[1][:12], b"untame call ")
 
-    def try_links(self, tool, folder, first, wanted):
-        """The program's files, joined by the tool, and the same compiled with -fpic."""
-        for compiler in (self.compiler, programs.shared(self.compiler)):
-            objects = programs.objects_of(compiler, self.level, self.program, folder)
-            name = "%s_%s%s_%s" % (compiler.name, compiler.processor, self.level, self.program.name)
-            linked = Linked(tool, objects, os.path.join(folder, name))
-            self.tell(compiler.name + ", link", linked.told[0], 0)
-            if linked.told[0]:
-                self.lines.append(linked.told[1].decode())
-                continue
-            self.try_linked(compiler.name, linked, wanted)
-            if compiler == self.compiler:
-                self.try_same(linked, objects, first)
-
-    def try_same(self, linked, objects, first):
+    def try_link(self, linked, first):
         """The same code as `ld -r` and `rewrite` make of the objects, but for a word behind each section, in as many steps."""
-        more = sum(map(programs.sections_of_code, objects)) - programs.sections_of_code(first.object)
+        more = sum(map(programs.sections_of_code, linked.objects)) - programs.sections_of_code(first.object)
         found, known = (each.told[1].split() for each in (linked, first))
-        steps = [each.run(self.program.input)[2]["steps"] for each in (linked, first)]
         self.tell("link, code as ld -r and rewrite", linked.code_size(), first.code_size() + 4 * more)
-        self.tell("link, as ld -r and rewrite", (found[5:], steps[0]), (known[5:], steps[1]))
+        self.tell("link, as ld -r and rewrite", (found[5:], linked.steps), (known[5:], first.steps))
 
-    def try_linked(self, name, linked, wanted):
-        given = self.program.input
-        self.tell(name + ", link, verify", linked.verified(), (0, b"accepted\n"))
-        _, output, report = linked.run(given)
-        self.tell(name + ", link, run", (output, stop_of(report)), (wanted[0], ["exit", str(wanted[1])]))
-        self.tell(name + ", link, under qemu", programs.under_qemu(programs.for_qemu(linked.image), given), wanted)
-        status, compared = linked.compared(given)
-        self.tell(name + ", compare-link", (status, compared.split()[:1]), (0, [b"same"]))
-
-    def forms(self):
-        """The forms but `plain` in which the program is hardened."""
-        if (self.level, self.compiler.processor) != IN_FORMS:
-            return []
-        return ["split"] + ["harts-split"] * (self.program.name == "visitors")
-
-    def try_form(self, tool, plain, form, wanted, policy="none"):
-        """Hardens the program in a form, runs it, and attacks it where it can be."""
-        hardened = Hardened(tool, plain.replace(".elf", "_joined.o"), form, policy)
-        self.tell(form, hardened.told[0], 0)
-        if hardened.told[0]:
-            self.lines.append(hardened.told[1].decode())
-            return None
-        self.tell(form + ", verify", hardened.verified(), (0, b"accepted\n"))
-        self.try_run(plain, hardened, wanted)
-        if self.program.name == "visitors":
-            for attack in STOPPED:
-                self.try_attack(plain, hardened, attack, *STOPPED[attack])
-        return hardened
-
-    def try_run(self, plain, hardened, wanted):
-        given, image, form = self.program.input, programs.for_qemu(hardened.image), hardened.form
-        _, output, report = hardened.run(given)
-        self.tell(form + " under qemu", programs.under_qemu(image, given), wanted)
-        self.tell(form, (output, stop_of(report)), (wanted[0], ["exit", str(wanted[1])]))
-        status, compared = hardened.compared(given)
-        self.tell(form + ", compare", (status, compared.split()[:1]), (0, [b"same"]))
-        counted = len(programs.addresses_run(image, given))
-        self.tell(form + ", steps", int(report["steps"][0]), counted)
-        if form == "plain" and hardened.policy == "none":
-            steps, sizes = (len(programs.addresses_run(plain, given)), counted), (programs.code_size(plain), hardened.code_size())
-            words = self.program.name, self.compiler.name, self.compiler.processor, self.level
-            self.lines.append("%-11s %-5s %-6s %-3s  steps %7d to %7d, %.2f times  code %5d to %5d bytes, %.2f times" % (
-                *words, *steps, steps[1] / steps[0], *sizes, sizes[1] / sizes[0]))
-
-    def try_attack(self, plain, hardened, what, handler, untame):
-        """The input goes to a function that the program calls only for who knows the word."""
-        if hardened.form == "plain":
-            given = ATTACKS[what](programs.symbol(plain, "open_door")[1])
-            self.tell("not hardened, " + what, programs.under_qemu(plain, given), DOOR)
-        given, name = ATTACKS[what](hardened.gate("open_door")), "%s, %s" % (hardened.form, what)
-        status, output, report = hardened.run(given)
-        self.tell(name, (status, output, stop_of(report)), (10, b"", ["handler", handler]))
-        image = programs.for_qemu(hardened.image)
-        self.tell(name + ", under qemu", programs.under_qemu(image, given), (b"", -signal.SIGTRAP))
-        self.tell(name + ", its last address", programs.addresses_run(image, given)[-1], HANDLERS[handler])
-        status, compared = hardened.compared(given)
-        self.tell(name + ", compare", (status, compared[:len(untame)]), (13, untame))
-
-    def try_targets(self, first, other):
+    def try_targets(self, first, other, form):
         """What each computed transfer may reach where calls and jumps have classes of their own: what it may in the form `plain`, or
         less."""
         pairs = list(zip(first.classes()[1], other.classes()[1]))
         same = [kind for (kind, targets), (other_kind, others) in pairs if kind == other_kind and targets >= others]
-        self.tell(other.form + ", sites", (len(first.classes()[1]), same), (len(other.classes()[1]), [kind for (kind, _), _ in pairs]))
+        self.tell(form + ", sites", (len(first.classes()[1]), same), (len(other.classes()[1]), [kind for (kind, _), _ in pairs]))
 
 
 def stop_of(report):
@@ -199,12 +224,11 @@ def compilers():
 
 def cases_of(found, folder):
     """The cases, each file of the library compiled once before they are run beside each other."""
-    kinds = [(each, level) for each in found for level in LEVELS]
-    kinds += [(programs.shared(each), level) for each, level in kinds if (level, each.processor) in LINKED]
+    kinds = [(kind, level) for each in found for kind in (each, programs.shared(each)) for level in LEVELS]
     for compiler, level in kinds:
         for name in programs.LIBRARY[compiler.processor]:
             programs.compiled(compiler, level, name, folder)
-    return [Case(compiler, level, program) for program in PROGRAMS for compiler in found for level in LEVELS]
+    return [Case(compiler, level, program) for program in PROGRAMS for compiler, level in kinds]
 
 
 def try_cases(found, tool, folder):
@@ -228,8 +252,7 @@ def try_all(found, tool, folder):
 def try_more(found, tool, folder):
     """The failures of what goes wrong on the way from C, of what qemu does beyond the machine and of the program for several
     harts, and how much passed."""
-    with_products = [each for each in found if each.processor == "rv64im"]
-    parts = [pitfalls.tried(tool, folder, found), beyond.tried(tool, folder), harts.tried(tool, folder, with_products)]
+    parts = [pitfalls.tried(tool, folder, found), beyond.tried(tool, folder), harts.tried(tool, folder, found)]
     return [line for failed, _ in parts for line in failed], sum(asked - len(failed) for failed, asked in parts)
 
 
