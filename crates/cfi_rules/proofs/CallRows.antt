@@ -19,7 +19,7 @@ use Rattle.cfi_unit.specs.UnitWords.{BAD_TARGET, words_of}
 use Rattle.cfi_rules.specs.Along.{Chooses, Walk}
 use Rattle.cfi_rules.specs.Lines.{class_with, line_at, targets_for}
 use Rattle.cfi_rules.specs.Placed.{AllAhead, AllFit, code_from, lines_from, placed_lines}
-use Rattle.cfi_rules.specs.Rules.{admits, are_same}
+use Rattle.cfi_rules.specs.Rules.{admits}
 use Rattle.cfi_rules.specs.Sound.{IsSound}
 use Rattle.cfi_rules.specs.Split.{is_start, starts, unit_at, unit_in}
 use Rattle.cfi_rules.specs.Walk.{UnitGoes}
@@ -55,7 +55,7 @@ unfolding AllAhead code_from words_of decoded code_of
 guarded_ahead = (refl, (refl, (refl, tt)))
 
 guarded_sound : IsSound version_1 1 0x40000040 guarded listed
-unfolding all_from are_same class_with targets_for unit_in
+unfolding all_from class_with targets_for unit_in
 guarded_sound = sound_by 1 guarded listed guarded_fit guarded_ahead refl refl refl refl refl refl
 
 -- without a list a bare call stands, and with one a guarded one with just its numbers in their order
@@ -66,27 +66,27 @@ break_stands : admits 1 (Some (64 ∷ [])) (V.System S.Ebreak) ≡ true
 break_stands = refl
 
 bare_under_a_list : fails_of 1 R.Unit (calling (V.System S.Ecall)) listed 0x40000044 ≡ true
-unfolding are_same decoded code_of code_from lines_from numbers_in recognised words_of starts is_start unit_at
+unfolding decoded code_of code_from lines_from numbers_in recognised words_of starts is_start unit_at
 bare_under_a_list = refl
 
 guarded_without : fails_of 1 R.Unit guarded [] 0x40000044 ≡ true
-unfolding are_same decoded code_of code_from lines_from numbers_in recognised words_of starts is_start unit_at
+unfolding decoded code_of code_from lines_from numbers_in recognised words_of starts is_start unit_at
 guarded_without = refl
 
 guarded_with : fails_of 1 R.Unit guarded listed 0x40000044 ≡ false
-unfolding are_same decoded code_of code_from lines_from numbers_in recognised words_of starts is_start unit_at
+unfolding decoded code_of code_from lines_from numbers_in recognised words_of starts is_start unit_at
 guarded_with = refl
 
 other_order : fails_of 1 R.Unit (calling (V.Guarded (93 ∷ 64 ∷ []))) listed 0x40000044 ≡ true
-unfolding are_same decoded code_of code_from lines_from numbers_in recognised words_of starts is_start unit_at
+unfolding decoded code_of code_from lines_from numbers_in recognised words_of starts is_start unit_at
 other_order = refl
 
 fewer_numbers : fails_of 1 R.Unit (calling (V.Guarded (64 ∷ []))) listed 0x40000044 ≡ true
-unfolding are_same decoded code_of code_from lines_from numbers_in recognised words_of starts is_start unit_at
+unfolding decoded code_of code_from lines_from numbers_in recognised words_of starts is_start unit_at
 fewer_numbers = refl
 
 more_numbers : fails_of 1 R.Unit (calling (V.Guarded (64 ∷ 93 ∷ 94 ∷ []))) listed 0x40000044 ≡ true
-unfolding are_same decoded code_of code_from lines_from numbers_in recognised words_of starts is_start unit_at
+unfolding decoded code_of code_from lines_from numbers_in recognised words_of starts is_start unit_at
 more_numbers = refl
 
 -- a list behind another line is none
@@ -95,7 +95,7 @@ late_list = refl
 
 -- the closing calls as it is, and stands at no unit
 closing_stands : fails_of 1 R.Unit guarded listed 0x40000038 ≡ false
-unfolding are_same decoded code_of code_from lines_from numbers_in recognised words_of starts is_start unit_at
+unfolding decoded code_of code_from lines_from numbers_in recognised words_of starts is_start unit_at
 closing_stands = refl
 
 -- the line of the list has no address

@@ -2,11 +2,12 @@
 -- known of all harts, each step's events are those of the unit that it is in.
 use Rattle.std.proofs.Common.{◌≡◌, ℕ, ◌+◌, inl, inr, true, false, List, [], ◌∷◌, refl, sym, ap, subst, ◌∙◌, Some, None, arith}
 use Rattle.std.specs.Prelude.{◌==◌, not}
-use Rattle.std.proofs.lemmas.Bool.{and_parts, eqb-true, eq-eqb, and_from, or_parts}
+use Rattle.std.proofs.lemmas.Bool.{and_parts, or_parts}
 use Rattle.rv_word.specs.Image.{Contents}
 use Rattle.rv_word.specs.MemoryMap.{IsProfile, MayRun, Profile, part_of}
 use Rattle.rv_word.specs.Memory.{loaded}
 use Rattle.rv_word.specs.Numbers.{is_listed}
+use Rattle.rv_word.proofs.SameNumbers.{same_list}
 use Rattle.rv_code.specs.Run.{HartStep, disturbed}
 use Rattle.rv_code.specs.State.{Hart, Harts, Shared, start_hart, start_shared, with_hart}
 use Rattle.rv_code.specs.Step.{step}
@@ -28,7 +29,7 @@ use Rattle.cfi_rules.specs.Along.{AreStepsOf, OnRan, Walks}
 use Rattle.cfi_rules.specs.Laws.{AreBytes}
 use Rattle.cfi_rules.specs.Lines.{holds_of}
 use Rattle.cfi_rules.specs.Listed.{AddsListed, IsListed, IsListedCall, ListedAlong, WellFormedIsListed}
-use Rattle.cfi_rules.specs.Rules.{IsWellFormed, admitted_in, are_same, is_of_version, may_call}
+use Rattle.cfi_rules.specs.Rules.{IsWellFormed, admitted_in, is_of_version, may_call}
 use Rattle.cfi_rules.specs.Split.{code_words, place_at, unit_at}
 use Rattle.cfi_rules.specs.declared.reject.Rule.TheVariants as R
 use Rattle.cfi_rules.proofs.Labels.{may_stand, place_stands}
@@ -36,21 +37,6 @@ use Rattle.cfi_rules.proofs.Moves.{Stage}
 use Rattle.cfi_rules.proofs.Places.{PlaceFacts, at_opening, place_facts, prologue}
 use Rattle.cfi_rules.proofs.RuleFacts.{not_false}
 use Rattle.cfi_rules.proofs.Safety.{Now, Known, arrived, begins, first_call, goes_on, known_disturbed, past, start_known, starting, within}
-
--- `are_same` decides whether two lists are one
-pub same_list : (ns ms : List ℕ) → are_same ns ms ≡ true → ns ≡ ms
-unfolding are_same
-same_list [] [] e = refl
-same_list [] (m ∷ ms) e = absurd (cc)
-same_list (n ∷ ns) [] e = absurd (cc)
-same_list (n ∷ ns) (m ∷ ms) e =
-    let parts = and_parts (n == m) (are_same ns ms) e in
-    ap (λ k. k ∷ ns) (eqb-true n m parts.0) ∙ ap (λ ks. m ∷ ks) (same_list ns ms parts.1)
-
-pub same_itself : (ns : List ℕ) → are_same ns ns ≡ true
-unfolding are_same
-same_itself [] = refl
-same_itself (n ∷ ns) = and_from (n == n) (are_same ns ns) (eq-eqb n n refl) (same_itself ns)
 
 -- a unit that is admitted with a list calls with its numbers alone
 unit_listed : (calls : List ℕ) (unit : U.Unit) (h : Hart) → may_call (Some calls) unit ≡ true → UnitMayCall unit h → is_listed (h.regs 17) calls ≡ true

@@ -4,6 +4,7 @@ use Rattle.std.specs.Prelude.{◌≡◌, ◌≢◌, ℕ, ◌+◌, ◌-◌, ◌*�
 use Rattle.std.specs.List.{list_any}
 use Rattle.rv_word.specs.MemoryMap.{CODE_START, Profile, lies_within}
 use Rattle.rv_word.specs.Image.{Contents}
+use Rattle.rv_word.specs.Numbers.{are_same}
 use Rattle.rv_instr.specs.declared.instr.Instr.{Instr}
 use Rattle.rv_instr.specs.declared.instr.Instr.TheVariants.{Jal}
 use Rattle.rv_code.specs.Decode.{decoded}
@@ -119,12 +120,6 @@ same_word which other = false
 abbrev pub is_of_version : ℕ → U.Unit → Bool
 is_of_version version (V.Ijump which rs1 imm label) = same_word which (jump_word version)
 is_of_version version other = true
-
--- the same numbers in the same order
-unfoldable pub are_same : List ℕ → List ℕ → Bool
-are_same [] [] = true
-are_same (n ∷ ns) (m ∷ ms) = (n == m) && are_same ns ms
-are_same ns ms = false
 
 -- with a list of system calls each `ecall` is guarded by just its numbers; without a list none is
 abbrev pub may_call : Option (List ℕ) → U.Unit → Bool

@@ -29,7 +29,7 @@ use Rattle.cfi_unit.proofs.Found.{past_field, read_past}
 use Rattle.cfi_scan.specs.declared.entry.Entry.TheVariants as E
 use Rattle.cfi_scan.specs.declared.reader.Reader.TheVariants as R
 use Rattle.cfi_scan.specs.declared.reader.Step.TheVariants.{More, Done}
-use Rattle.cfi_scan.specs.Entries.{are_same}
+use Rattle.rv_word.specs.Numbers.{are_same}
 use Rattle.cfi_scan.specs.Fields.{is_number, label_field, push_step}
 use Rattle.cfi_scan.specs.FirstStep.{second_step}
 use Rattle.cfi_scan.specs.Stream.{IsCode, IsPart, IsReading, Leads, LeadsOn, numbers_read}

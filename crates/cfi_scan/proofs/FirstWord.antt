@@ -32,7 +32,7 @@ use Rattle.cfi_unit.specs.UnitWords.{BAD_TARGET, MINUS_EIGHT, Reaches, instr_at,
 use Rattle.cfi_unit.specs.declared.members.Member.{Member}
 use Rattle.cfi_unit.specs.Members.{MOST_MEMBERS, members_in}
 use Rattle.cfi_unit.specs.Recognise.{address_unit, can_stand, computed_unit, if_stands, jump_or_stop, label_in, led_to, near_to, numbers_in, read_in, recognised, stands, target_in, unit_from}
-use Rattle.cfi_scan.specs.Entries.{are_same}
+use Rattle.rv_word.specs.Numbers.{are_same}
 use Rattle.cfi_scan.specs.Fields.{is_it, is_number, opens_address}
 use Rattle.cfi_scan.specs.FirstStep.{address_step, first_step, opens_call, opens_return, plain_step}
 use Rattle.cfi_scan.specs.PlainWord.{IsPlainWord}

@@ -23,7 +23,7 @@ use Rattle.cfi_unit.proofs.Found.{words_counted}
 use Rattle.cfi_scan.specs.declared.entry.Entry.TheVariants as E
 use Rattle.cfi_scan.specs.declared.reader.Reader.TheVariants as R
 use Rattle.cfi_scan.specs.declared.reader.Step.TheVariants.{More, Done}
-use Rattle.cfi_scan.specs.Entries.{are_same}
+use Rattle.rv_word.specs.Numbers.{are_same}
 use Rattle.cfi_scan.specs.Fields.{is_it, is_number, number_field}
 use Rattle.cfi_scan.specs.Stream.{IsCode, IsPart, IsReading, LeadsOn, numbers_read}
 use Rattle.cfi_scan.proofs.GuardWords.{call_at, each_at, first_words, jump_at, number_at, numbers_each, numbers_few, same_more, same_whole, set_get, test_at}

@@ -16,7 +16,7 @@ use Rattle.cfi_unit.specs.declared.unit.Unit.TheVariants as V
 use Rattle.cfi_unit.specs.Guarded.{guards}
 use Rattle.cfi_unit.specs.Recognise.{number_of, numbers_in, with_number}
 use Rattle.cfi_unit.specs.UnitWords.{BAD_TARGET, instr_at, jump, words_of}
-use Rattle.cfi_scan.specs.Entries.{are_same}
+use Rattle.rv_word.specs.Numbers.{are_same}
 use Rattle.cfi_scan.specs.Fields.{is_it}
 
 -- twice a number, step by step

@@ -2,18 +2,13 @@
 -- and not the target, so that nothing is lost where a jump leads out of the code. Of a system call behind
 -- tests of its number, whether the numbers are those of a list, in its order.
 use Rattle.std.specs.Prelude.{ℕ, zero, suc, ◌+◌, ◌-◌, ◌==◌, ◌&&◌, Bool, true, false, List, [], ◌∷◌, ◌++◌, Option, Some, None}
+use Rattle.rv_word.specs.Numbers.{are_same}
 use Rattle.cfi_unit.specs.declared.unit.Unit as U
 use Rattle.cfi_unit.specs.declared.unit.Unit.TheVariants as V
 use Rattle.cfi_unit.specs.declared.unit.SystemOp.TheVariants as S
 use Rattle.cfi_unit.specs.UnitWords.{after_unit, jump_offset, near_offset, word_count}
 use Rattle.cfi_scan.specs.declared.entry.Entry.{Entry}
 use Rattle.cfi_scan.specs.declared.entry.Entry.TheVariants as E
-
--- whether two lists have the same numbers in the same order
-abbrev pub are_same : List ℕ → List ℕ → Bool
-are_same [] [] = true
-are_same (n ∷ ns) (call ∷ calls) = (n == call) && are_same ns calls
-are_same ns calls = false
 
 -- a list that may be absent, as the one that has no number
 abbrev pub numbers_or_none : Option (List ℕ) → List ℕ

@@ -21,7 +21,8 @@ use Rattle.cfi_scan.specs.declared.reader.Reader.{Reader}
 use Rattle.cfi_scan.specs.declared.reader.Reader.TheVariants as R
 use Rattle.cfi_scan.specs.declared.reader.Step.{Step}
 use Rattle.cfi_scan.specs.declared.reader.Step.TheVariants.{More, Done}
-use Rattle.cfi_scan.specs.Entries.{are_same, entries_of, entry_of, inside}
+use Rattle.rv_word.specs.Numbers.{are_same}
+use Rattle.cfi_scan.specs.Entries.{entries_of, entry_of, inside}
 use Rattle.cfi_scan.specs.Fields.{is_number, stores_there}
 
 -- an address at which a word of code may stand

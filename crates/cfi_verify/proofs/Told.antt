@@ -21,13 +21,13 @@ use Rattle.cfi_unit.specs.Recognise.{recognised, target_in}
 use Rattle.cfi_unit.specs.UnitWords.{BAD_TARGET, BAD_RETURN, DEEP, Fits, word_count}
 use Rattle.cfi_scan.specs.declared.entry.Entry.{Entry}
 use Rattle.cfi_scan.specs.declared.entry.Entry.TheVariants as E
-use Rattle.cfi_scan.specs.Entries.{are_same as told_same, entry_of as entry_of_unit, numbers_or_none}
+use Rattle.cfi_scan.specs.Entries.{entry_of as entry_of_unit, numbers_or_none}
 use Rattle.cfi_scan.specs.Pieces.{IsOf, Listed, prologue_count}
 use Rattle.cfi_scan.specs.Stream.{IsSplitUp, last_of, spelled, width}
 use Rattle.cfi_scan.specs.Entries.{is_unit}
 use Rattle.cfi_verify.specs.Entries.{Tells, call_at, call_in, count_of, edge_at, edge_in, entry_at, fails_at, gate_at, gate_in, is_bad_end_at, is_barred, is_barred_at, numbers_in, is_lone_at, is_stop_entry, is_unused_at, misses_start, or_inside, site_at, site_in, starts_at}
 use Rattle.cfi_rules.specs.Lines.{is_outside, holds_of, line_at, targets_for, is_among, read_of}
-use Rattle.cfi_rules.specs.Rules.{admits, admitted_in, are_same, call_of, edge_of, fails, fails_prologue, gate_label, gate_of, has_unit, jump_word, is_astray, is_bad_end, is_borne, is_call_to, is_edge_to, is_label, is_lone_site, is_site_with, is_stop, is_unused, lacks_gate, prologue_word_fits, same_word, site_of}
+use Rattle.cfi_rules.specs.Rules.{admits, admitted_in, call_of, edge_of, fails, fails_prologue, gate_label, gate_of, has_unit, jump_word, is_astray, is_bad_end, is_borne, is_call_to, is_edge_to, is_label, is_lone_site, is_site_with, is_stop, is_unused, lacks_gate, prologue_word_fits, same_word, site_of}
 use Rattle.cfi_rules.specs.Split.{code_words, entry_of, is_handler, is_marked, is_start, place_at, starts, unit_at, unit_starts, unit_words}
 use Rattle.cfi_rules.specs.declared.asks.Asks.{Asks}
 use Rattle.cfi_rules.specs.declared.reject.Rule.{Rule}
@@ -64,14 +64,6 @@ and_all : (b : Bool) → (b && true) ≡ b
 and_all true = refl
 and_all false = refl
 
--- a scan compares lists as the rules do
-same_lists : (ns calls : List ℕ) → are_same ns calls ≡ told_same ns calls
-unfolding are_same
-same_lists [] [] = refl
-same_lists [] (call ∷ calls) = refl
-same_lists (n ∷ ns) [] = refl
-same_lists (n ∷ ns) (call ∷ calls) = ap (λ b. (n == call) && b) (same_lists ns calls)
-
 -- a graph admits a unit where its entry is not barred
 bars : (version : ℕ) (calls : Option (List ℕ)) (u : U.Unit) (a : ℕ) → not (admits version calls u) ≡ is_barred version (is_some calls) (entry_of_unit (numbers_or_none calls) u a)
 bars version None (V.Ijump which rs1 imm label) a = ap not (and_all (same_word which (jump_word version)))
@@ -81,7 +73,7 @@ bars version (Some calls) (V.System S.Ecall) a = refl
 bars version None (V.System S.Ebreak) a = refl
 bars version (Some calls) (V.System S.Ebreak) a = refl
 bars version None (V.Guarded numbers) a = refl
-bars version (Some calls) (V.Guarded numbers) a = ap not (same_lists numbers calls)
+bars version (Some calls) (V.Guarded numbers) a = refl
 bars version None _ a = refl
 bars version (Some calls) _ a = refl
 

@@ -3,6 +3,7 @@ use Rattle.std.proofs.Common.{◌≡◌, ℕ, suc, ◌+◌, ◌*◌, Bool, true,
 use Rattle.std.specs.Prelude.{◌&&◌, ◌||◌, not}
 use Rattle.std.proofs.lemmas.Bool.{and_from}
 use Rattle.std.proofs.lemmas.Option.{same_Some}
+use Rattle.rv_word.proofs.SameNumbers.{same_itself}
 use Rattle.rv_instr.specs.declared.instr.UpperOp.{UpperOp}
 use Rattle.rv_instr.specs.declared.instr.Instr.{Instr}
 use Rattle.rv_instr.specs.declared.instr.Instr.TheVariants as I
@@ -28,7 +29,6 @@ use Rattle.cfi_rules.specs.Placed.{line_of}
 use Rattle.cfi_rules.specs.Rules.{admits, asks, gate_of, is_of_version, jump_word, may_call, same_word, site_of}
 use Rattle.cfi_rules.specs.Sound.{target_of}
 use Rattle.cfi_rules.specs.declared.asks.Asks.{Asks}
-use Rattle.cfi_rules.proofs.ListedRuns.{same_itself}
 use Rattle.cfi_writer.specs.SideLaws.{word_read}
 use Rattle.cfi_writer.specs.Units.{Group, call_unit, inverse, unit_of}
 

@@ -4,3 +4,4 @@ pub mod Cases
 pub mod Products
 pub mod Division
 pub mod Versions
+pub mod SameNumbers
