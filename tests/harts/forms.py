@@ -3,9 +3,9 @@
 
 The programs of small objects, unit by unit, as docs/MACHINE.md has them for one hart and for several, with one label for calls and
 jumps and with a label for each: the words of their units, their graphs and their maps. Without a word it compares what it makes
-with the tables of crates/sample_hardened and crates/sample_split: those for one hart with one label were worked out by hand or are
-what binutils made of the sources in tests/units, and the others are what it printed. With the name of a table, which is a form or
-`stores-` or `calls-` and a form, it prints that anew.
+with the tables of crates/sample_hardened, sample_split, sample_stores and sample_listed: those for one hart with one label were worked
+out by hand or are what binutils made of the sources in tests/units, and the others are what it printed. With the name of a table, which
+is a form or `stores-` or `calls-` and a form, it prints that anew, and with `stores-given` or `calls-given` the objects of such a table.
 """
 
 import re
@@ -565,6 +565,7 @@ LISTING = [
     Row("ASKED", 'Calling, 104, b"73000000"', asked, calls=(2047,), pointers=FG),
     Row("NO_CALL", 'Calling, 0, b""', lambda p: calling(p, narrow=True), policy="site main+10 f+0\n", calls=(0,), pointers=FG),
 ]
+GIVEN = {"stores": ("sample_stores", STORING), "calls": ("sample_listed", LISTING)}
 
 
 class Made(NamedTuple):
@@ -591,23 +592,22 @@ HEADINGS = {
     "harts": ("sample_hardened", "harts", "HARTS", "in the form for several harts, whose units begin 16 bytes later than those for one hart"),
     "split": ("sample_split", "split", "SPLIT", "where calls and jumps have labels of their own, so that two words lead each target"),
     "harts-split": ("sample_split", "harts_split", "HARTS_SPLIT", "for several harts where calls and jumps have labels of their own"),
-    "stores-plain": ("sample_hardened", "stores", "STORES", "that store behind one mask, for one hart"),
-    "stores-harts": ("sample_hardened", "stores_harts", "STORES_HARTS", "that store behind one mask, for several harts"),
-    "stores-split": ("sample_split", "stores", "STORES_SPLIT", "that store behind one mask, where calls and jumps have labels of their own"),
-    "stores-harts-split": ("sample_split", "stores_harts", "STORES_HARTS_SPLIT",
+    "stores-plain": ("sample_stores", "plain", "STORES", "that store behind one mask, for one hart"),
+    "stores-harts": ("sample_stores", "harts", "STORES_HARTS", "that store behind one mask, for several harts"),
+    "stores-split": ("sample_stores", "split", "STORES_SPLIT", "that store behind one mask, where calls and jumps have labels of their own"),
+    "stores-harts-split": ("sample_stores", "harts_split", "STORES_HARTS_SPLIT",
                            "that store behind one mask, for several harts where calls and jumps have labels of their own"),
 }
-HEADINGS |= {name.replace("stores", "calls"): (crate, file.replace("stores", "calls"), static.replace("STORES", "CALLS"),
+HEADINGS |= {name.replace("stores", "calls"): ("sample_listed", file, static.replace("STORES", "CALLS"),
                                                 heading.replace("store behind one mask", "may make the system calls of a list"))
-             for name, (crate, file, static, heading) in HEADINGS.items() if "stores" in name}
+             for name, (_, file, static, heading) in HEADINGS.items() if "stores" in name}
 OLDER = 10  # how many of the rows stand in programs.rt, for one hart with one label
 SOURCES = {"sample_programs": ["sample_programs/src/units.rt", "sample_programs/src/graphs.rt", "sample_programs/src/data.rt"],
-           "sample_objects": ["sample_objects/src/maps.rt"], "sample_hardened::branches": ["sample_hardened/src/branches.rt"],
-           "sample_hardened::plain": ["sample_hardened/src/plain.rt"], "sample_hardened::harts": ["sample_hardened/src/harts.rt"],
-           "sample_hardened::stores": ["sample_hardened/src/stores.rt"],
-           "sample_hardened::stores_harts": ["sample_hardened/src/stores_harts.rt"],
-           "sample_hardened::calls": ["sample_hardened/src/calls.rt"],
-           "sample_hardened::calls_harts": ["sample_hardened/src/calls_harts.rt"]}
+           "sample_objects": ["sample_objects/src/maps.rt"],
+           **{"%s::%s" % (crate, file): ["%s/src/%s.rt" % (crate, file)] for crate, files in (
+               ("sample_hardened", ("branches", "plain", "harts")), ("sample_stores", ("plain", "harts")),
+               ("sample_listed", ("plain", "harts"))) for file in files}}
+BELOW = ("sample_programs", "sample_objects", "sample_hardened")  # the crates whose tables the others use
 WORDS = re.compile(r"const (\w+): \[u32; \d+\] = \[(.*?)\];", re.S)
 TEXTS = re.compile(r'(pub |pub\(crate\) |)const (\w+): &\[u8\] =\s+b"(.*?)";', re.S)
 
@@ -663,9 +663,10 @@ class Module:
         self.crate, self.file, self.static, self.heading = HEADINGS[name]
         self.path = CRATES / self.crate / "src" / (self.file + ".rt")
         self.sources = {module: known(paths, module.split("::")[0] == self.crate) for module, paths in SOURCES.items()
-                        if module != "%s::%s" % (self.crate, self.file)}
+                        if module.split("::")[0] in (*BELOW, self.crate) and module != "%s::%s" % (self.crate, self.file)}
         self.constants, self.used, self.own = [], {}, {}
-        rows = STORING if "stores" in name else LISTING if "calls" in name else ROWS[OLDER if name == "plain" else 0:]
+        self.is_given = name.split("-")[0] in GIVEN
+        rows = GIVEN[name.split("-")[0]][1] if self.is_given else ROWS[OLDER if name == "plain" else 0:]
         self.rows = [self.row(row) for row in rows]
 
     def name(self, wanted, content, lines):
@@ -686,12 +687,14 @@ class Module:
         graph = self.name(row.name + "_GRAPH", what.graph, text_lines)
         places = self.name(row.name + "_MAP", what.map, text_lines)
         data = self.name(row.name + "_DATA", what.data, text_lines) if row.pointers else 'b"%s"' % spelled(row.data)
-        return "    Program(\n        %s,\n        &%s, 0x%x, 0x%08x, %s, %d, %s, %s,\n    )," % (
-            row.given(), words, *what.call, data, 8192 + len(what.data), graph, places)
+        rest = "&%s, 0x%x, 0x%08x, %s, %d, %s, %s" % (words, *what.call, data, 8192 + len(what.data), graph, places)
+        if self.is_given:
+            return "    Program(given::%s, %s)," % (row.name, rest)
+        return "    Program(\n        %s,\n        %s,\n    )," % (row.given(), rest)
 
     def text(self):
-        here = "crate" if self.crate == "sample_hardened" else "sample_hardened"
-        own = ["use crate::given::{Given, Source};", "use crate::programs::Program;"] if here == "crate" else [
+        own = ["use crate::given;", "use sample_hardened::Program;"] if self.is_given else [
+            "use crate::given::{Given, Source};", "use crate::programs::Program;"] if self.crate == "sample_hardened" else [
             "use sample_hardened::{Given, Program, Source};"]
         used = sorted(own + [use(module, ", ".join(sorted(names))) for module, names in self.used.items()])
         heads = ["//! What small objects become %s:" % self.heading,
@@ -702,9 +705,28 @@ class Module:
         return "\n".join(heads + self.constants + static)
 
 
+class Objects:
+    """The module of the objects that the tables of some rows share, which are the same in each form."""
+
+    def __init__(self, name):
+        crate, self.rows = GIVEN[name.replace("-given", "")]
+        self.path = CRATES / crate / "src" / "given.rt"
+
+    def text(self):
+        heads = ["//! The objects of the tables beside this, each with its entry and its policy, as tests/harts/forms.py at the top of the",
+                 "//! repository prints them.", "", "use sample_hardened::{Given, Source};", ""]
+        constants = [["#[rattlefmt::skip]", "pub(crate) const %s: Given = %s;" % (row.name, row.given()), ""] for row in self.rows]
+        return "\n".join(heads + sum(constants, []))
+
+
+def module_of(name):
+    """What a name of the command line prints."""
+    return Objects(name) if name.endswith("-given") else Module(name)
+
+
 def is_as_printed(name):
-    """Whether a form's module has the tables that are made."""
-    module = Module(name)
+    """Whether a module has the tables that are made."""
+    module = module_of(name)
     return module.path.exists() and module.path.read_text() == module.text()
 
 
@@ -717,12 +739,13 @@ def is_older(row):
 
 def main():
     if len(sys.argv) > 1:
-        print(Module(sys.argv[1]).text(), end="")
+        print(module_of(sys.argv[1]).text(), end="")
         return 0
     wrong = ["%s, plain" % row.name for row in ROWS[:OLDER] if not is_older(row)]
-    wrong += ["the module of %s" % name for name in HEADINGS if not is_as_printed(name)]
+    names = [*HEADINGS, *("%s-given" % name for name in GIVEN)]
+    wrong += ["the module of %s" % name for name in names if not is_as_printed(name)]
     print("%d of %d tables are those of the crates%s" % (
-        OLDER + len(HEADINGS) - len(wrong), OLDER + len(HEADINGS), ": not " + ", ".join(wrong) if wrong else ""))
+        OLDER + len(names) - len(wrong), OLDER + len(names), ": not " + ", ".join(wrong) if wrong else ""))
     return 1 if wrong else 0
 
 

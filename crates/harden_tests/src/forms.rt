@@ -1,13 +1,13 @@
 //! What `harden` puts and writes in each form, byte for byte, and that it is accepted: the objects and the tables are those of
-//! `sample_hardened` and `sample_split`.
+//! `sample_hardened`, `sample_split`, `sample_stores` and `sample_listed`.
 
 use rv_word::NoMemory;
 use sample_calls::{answers, image_as, put};
-use sample_hardened::{CALLS, CALLS_HARTS, HARTS, PLAIN, Program, STORES, STORES_HARTS, file};
+use sample_hardened::{HARTS, PLAIN, Program, file};
+use sample_listed::{CALLS, CALLS_HARTS, CALLS_HARTS_SPLIT, CALLS_SPLIT};
 use sample_programs::{code, code_of_harts};
-use sample_split::{
-    CALLS_HARTS_SPLIT, CALLS_SPLIT, HARTS_SPLIT, SPLIT, STORES_HARTS_SPLIT, STORES_SPLIT,
-};
+use sample_split::{HARTS_SPLIT, SPLIT};
+use sample_stores::{STORES, STORES_HARTS, STORES_HARTS_SPLIT, STORES_SPLIT};
 use std::alloc::{AllocError, Global};
 use std::process::Abort;
 use tool_io::MemFiles;

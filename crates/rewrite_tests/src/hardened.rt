@@ -5,12 +5,10 @@ use cfi_rewrite::Hardened;
 use cfi_verify::verify;
 use elf_image::read_image;
 use rv_word::{Form, Image};
-use sample_hardened::{
-    CALLS, CALLS_HARTS, HARTS, PLAIN, PROGRAMS, Program, STORES, STORES_HARTS, file,
-};
-use sample_split::{
-    CALLS_HARTS_SPLIT, CALLS_SPLIT, HARTS_SPLIT, SPLIT, STORES_HARTS_SPLIT, STORES_SPLIT,
-};
+use sample_hardened::{HARTS, PLAIN, PROGRAMS, Program, file};
+use sample_listed::{CALLS, CALLS_HARTS, CALLS_HARTS_SPLIT, CALLS_SPLIT};
+use sample_split::{HARTS_SPLIT, SPLIT};
+use sample_stores::{STORES, STORES_HARTS, STORES_HARTS_SPLIT, STORES_SPLIT};
 use std::alloc::Global;
 use std::process::Abort;
 

@@ -2,21 +2,13 @@
 //! data, their graphs and their maps. They stand here alone, since several crates of tests use them.
 #![tactic(auto)]
 
-pub use calls::CALLS;
-pub use calls_harts::CALLS_HARTS;
 pub use given::{Given, Source, changed, file, put};
 pub use harts::HARTS;
 pub use plain::PLAIN;
 pub use programs::{PROGRAMS, Program};
-pub use stores::STORES;
-pub use stores_harts::STORES_HARTS;
 
 pub mod branches;
-pub mod calls;
-pub mod calls_harts;
 mod given;
 pub mod harts;
 pub mod plain;
 mod programs;
-pub mod stores;
-pub mod stores_harts;

@@ -2,7 +2,7 @@
 //! their runs end, where each map is one of its program's. tests/harts/lists.py at the top of the repository prints this.
 
 use crate::placed::{is_told_at, map};
-use sample_hardened::CALLS;
+use sample_listed::CALLS;
 use std::alloc::Global;
 
 // A line a map: an object by its number in `CALLS`, the map, and what is told, as in `placed`.

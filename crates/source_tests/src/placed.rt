@@ -1,9 +1,10 @@
-//! Maps of the objects of `sample_hardened` that store behind one mask: with as many stores behind each mask as hardening puts there,
+//! Maps of the objects of `sample_stores` that store behind one mask: with as many stores behind each mask as hardening puts there,
 //! with fewer, and such as are not legal. tests/harts/placed.py at the top of the repository prints the tables.
 
 use crate::ended::Asked;
 use crate::runs::is_file;
-use sample_hardened::{Given, STORES, file};
+use sample_hardened::{Given, file};
+use sample_stores::STORES;
 use std::alloc::{AllocError, Global};
 
 // A line a map: an object by its number in `STORES`, the map, and what is told: how its run ends after how many steps, or which line is

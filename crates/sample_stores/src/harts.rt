@@ -2,8 +2,8 @@
 //! the words of their units, their data, their graphs and their maps, as tests/harts/forms.py at the top of the
 //! repository prints them.
 
-use crate::given::{Given, Source};
-use crate::programs::Program;
+use crate::given;
+use sample_hardened::Program;
 
 /// The units of `SAVING`.
 #[rattlefmt::skip]
@@ -302,40 +302,13 @@ pub(crate) const PATCHED_MAP: &[u8] = b"rvcfi-map 2 harts\n\
 /// The rows of this form.
 #[rattlefmt::skip]
 pub static STORES_HARTS: [Program; 9] = [
-    Program(
-        Given(Source::Coded, 0, b"130101fe233c110023388100833081011301010267800000", "main", None),
-        &SAVING, 0x44, 0x00c000ef, b"", 8192, SAVING_GRAPH, SAVING_MAP,
-    ),
-    Program(
-        Given(Source::Coded, 0, b"b702020023b06280a38f62fe13000000a38f62fe23b062801300000023a0628023a062001300000023906200239062801300000023b4623e23bc62c0a3bb624023bc624023bc62c0a3bc62c067800000", "main", None),
-        &SPREAD, 0x44, 0x00c000ef, b"", 8192, SPREAD_GRAPH, SPREAD_MAP,
-    ),
-    Program(
-        Given(Source::Coded, 0, b"130101fe23006100a300610023016100a301610023026100a302610023036100a303610023046100a304610023056100a305610023066100a306610023076100a307610023086100a308610013000000a307610023076100a306610023066100a305610023056100a304610023046100a303610023036100a302610023026100a301610023016100a3006100230061001300000023086100a307610023076100a306610023066100a305610023056100a304610023046100a303610023036100a302610023026100a301610023016100a3006100230061001301010267800000", "main", None),
-        &MANY, 0x44, 0x00c000ef, b"", 8192, MANY_GRAPH, MANY_MAP,
-    ),
-    Program(
-        Given(Source::Coded, 0, b"b7020200233c61fe23b46200233821fe233451fe23b85200233c600023205002233061fe13031300233c61fc67800000", "main", None),
-        &BASES, 0x44, 0x00c000ef, b"", 8192, BASES_GRAPH, BASES_MAP,
-    ),
-    Program(
-        Given(Source::Coded, 0, b"631a0500233c61fe233861fe233461fee31c05fe67800000", "main", None),
-        &AIMED, 0x44, 0x00c000ef, b"", 8192, AIMED_GRAPH, AIMED_MAP,
-    ),
-    Program(
-        Given(Source::Led, 0, b"", "main", None),
-        &LED, 0x44, 0x00c000ef, LED_DATA, 8208, LED_GRAPH, LED_MAP,
-    ),
-    Program(
-        Given(Source::Led, 0, b"", "main", Some(b"rvcfi-policy 1\nsite main+14 f+0 inner+0\nend\n")),
-        &LED_INNER, 0x44, 0x00c000ef, LED_INNER_DATA, 8208, LED_INNER_GRAPH, LED_INNER_MAP,
-    ),
-    Program(
-        Given(Source::Led, 0, b"", "inner", None),
-        &LED_ENTRY, 0x44, 0x020000ef, LED_ENTRY_DATA, 8208, LED_ENTRY_GRAPH, LED_ENTRY_MAP,
-    ),
-    Program(
-        Given(Source::Patched, 0, b"", "main", None),
-        &PATCHED, 0x44, 0x00c000ef, b"the first the second and others.", 8224, PATCHED_GRAPH, PATCHED_MAP,
-    ),
+    Program(given::SAVING, &SAVING, 0x44, 0x00c000ef, b"", 8192, SAVING_GRAPH, SAVING_MAP),
+    Program(given::SPREAD, &SPREAD, 0x44, 0x00c000ef, b"", 8192, SPREAD_GRAPH, SPREAD_MAP),
+    Program(given::MANY, &MANY, 0x44, 0x00c000ef, b"", 8192, MANY_GRAPH, MANY_MAP),
+    Program(given::BASES, &BASES, 0x44, 0x00c000ef, b"", 8192, BASES_GRAPH, BASES_MAP),
+    Program(given::AIMED, &AIMED, 0x44, 0x00c000ef, b"", 8192, AIMED_GRAPH, AIMED_MAP),
+    Program(given::LED, &LED, 0x44, 0x00c000ef, LED_DATA, 8208, LED_GRAPH, LED_MAP),
+    Program(given::LED_INNER, &LED_INNER, 0x44, 0x00c000ef, LED_INNER_DATA, 8208, LED_INNER_GRAPH, LED_INNER_MAP),
+    Program(given::LED_ENTRY, &LED_ENTRY, 0x44, 0x020000ef, LED_ENTRY_DATA, 8208, LED_ENTRY_GRAPH, LED_ENTRY_MAP),
+    Program(given::PATCHED, &PATCHED, 0x44, 0x00c000ef, b"the first the second and others.", 8224, PATCHED_GRAPH, PATCHED_MAP),
 ];

@@ -2,8 +2,8 @@
 //! the words of their units, their data, their graphs and their maps, as tests/harts/forms.py at the top of the
 //! repository prints them.
 
-use crate::given::{Given, Source};
-use crate::programs::Program;
+use crate::given;
+use sample_hardened::Program;
 use sample_objects::NARROW_MAP;
 use sample_programs::{NARROW, P_DATA};
 
@@ -236,44 +236,14 @@ pub(crate) const NO_CALL_GRAPH: &[u8] = b"rvcfi-graph 1\n\
 /// The rows of this form.
 #[rattlefmt::skip]
 pub static CALLS: [Program; 10] = [
-    Program(
-        Given(Source::Writing, 0, b"", "main", Some(b"rvcfi-policy 2\ncalls 64\nend\n")),
-        &LISTED, 0x34, 0x00c000ef, b"hi\n", 8195, LISTED_GRAPH, LISTED_MAP,
-    ),
-    Program(
-        Given(Source::Writing, 0, b"", "main", Some(b"rvcfi-policy 2\ncalls 63\nend\n")),
-        &UNLISTED, 0x34, 0x00c000ef, b"hi\n", 8195, UNLISTED_GRAPH, LISTED_MAP,
-    ),
-    Program(
-        Given(Source::Writing, 0, b"", "main", Some(b"rvcfi-policy 2\ncalls 63 64\nend\n")),
-        &TWO, 0x34, 0x00c000ef, b"hi\n", 8195, TWO_GRAPH, TWO_MAP,
-    ),
-    Program(
-        Given(Source::Writing, 0, b"", "main", Some(b"rvcfi-policy 2\ncalls 0 1 62 63 64 93 94 2047\nend\n")),
-        &EIGHT, 0x34, 0x00c000ef, b"hi\n", 8195, EIGHT_GRAPH, EIGHT_MAP,
-    ),
-    Program(
-        Given(Source::Coded, 0, b"b702010083b802007300000067800000", "main", Some(b"rvcfi-policy 2\ncalls 0 2047\nend\n")),
-        &ASKING, 0x34, 0x00c000ef, b"", 8192, ASKING_GRAPH, ASKING_MAP,
-    ),
-    Program(
-        Given(Source::Coded, 0, b"9308e00513053000730000007300100073000000", "main", Some(b"rvcfi-policy 2\ncalls 94\nend\n")),
-        &ENDING, 0x34, 0x00c000ef, b"", 8192, ENDING_GRAPH, ENDING_MAP,
-    ),
-    Program(
-        Given(Source::Coded, 0, b"9308000413052000630e0500233c61fe233871fe73000000233461fe233071fee30a05fe67800000", "main", Some(b"rvcfi-policy 2\ncalls 64 93\nend\n")),
-        &AROUND, 0x34, 0x00c000ef, b"", 8192, AROUND_GRAPH, AROUND_MAP,
-    ),
-    Program(
-        Given(Source::Coded, 0, b"9302900013037000b38862027300000067800000", "main", Some(b"rvcfi-policy 2\ncalls 63\nend\n")),
-        &PRODUCT, 0x34, 0x00c000ef, b"", 8192, PRODUCT_GRAPH, PRODUCT_MAP,
-    ),
-    Program(
-        Given(Source::Calling, 104, b"73000000", "main", Some(b"rvcfi-policy 2\ncalls 2047\nend\n")),
-        &ASKED, 0x34, 0x00c000ef, P_DATA, 8208, ASKED_GRAPH, ASKED_MAP,
-    ),
-    Program(
-        Given(Source::Calling, 0, b"", "main", Some(b"rvcfi-policy 2\ncalls 0\nsite main+10 f+0\nend\n")),
-        &NARROW, 0x34, 0x00c000ef, P_DATA, 8208, NO_CALL_GRAPH, NARROW_MAP,
-    ),
+    Program(given::LISTED, &LISTED, 0x34, 0x00c000ef, b"hi\n", 8195, LISTED_GRAPH, LISTED_MAP),
+    Program(given::UNLISTED, &UNLISTED, 0x34, 0x00c000ef, b"hi\n", 8195, UNLISTED_GRAPH, LISTED_MAP),
+    Program(given::TWO, &TWO, 0x34, 0x00c000ef, b"hi\n", 8195, TWO_GRAPH, TWO_MAP),
+    Program(given::EIGHT, &EIGHT, 0x34, 0x00c000ef, b"hi\n", 8195, EIGHT_GRAPH, EIGHT_MAP),
+    Program(given::ASKING, &ASKING, 0x34, 0x00c000ef, b"", 8192, ASKING_GRAPH, ASKING_MAP),
+    Program(given::ENDING, &ENDING, 0x34, 0x00c000ef, b"", 8192, ENDING_GRAPH, ENDING_MAP),
+    Program(given::AROUND, &AROUND, 0x34, 0x00c000ef, b"", 8192, AROUND_GRAPH, AROUND_MAP),
+    Program(given::PRODUCT, &PRODUCT, 0x34, 0x00c000ef, b"", 8192, PRODUCT_GRAPH, PRODUCT_MAP),
+    Program(given::ASKED, &ASKED, 0x34, 0x00c000ef, P_DATA, 8208, ASKED_GRAPH, ASKED_MAP),
+    Program(given::NO_CALL, &NARROW, 0x34, 0x00c000ef, P_DATA, 8208, NO_CALL_GRAPH, NARROW_MAP),
 ];
