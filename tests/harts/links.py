@@ -1,5 +1,5 @@
 #!/usr/bin/env python3
-"""Prints the objects and the table of crates/harden_tests/src/links.rt: `python3 tests/harts/links.py`.
+"""Prints the objects and the table of crates/test_lists/src/links.rt: `python3 tests/harts/links.py`.
 
 The objects are written down here; what they are joined to, hardened, and its runs are what the models beside this file give.
 """
@@ -65,15 +65,15 @@ def rows(names, form):
     yield "rvcfi,compare-link,main,none,image,map,none,1000,%s = 0: same 1\\n" % objects
 
 
-def hexadecimal(name, content):
+def hexadecimal(name, content, reach=""):
     digits = content.hex()
     lines = [digits[at:at + 2 * PER_LINE] for at in range(0, len(digits), 2 * PER_LINE)]
-    return 'const %s: &[u8] = b"\\\n    %s";\n' % (name, "\\\n    ".join(lines))
+    return '%sconst %s: &[u8] = b"\\\n    %s";\n' % (reach, name, "\\\n    ".join(lines))
 
 
 def main():
     for each in (MAIN, F, QUIET, ENDS, BEGINS):
-        print(hexadecimal(each.name, each.file()))
+        print(hexadecimal(each.name, each.file(), "pub(crate) " if each == MAIN else ""))
     print(hexadecimal("ODD", ODD.file().replace("\xff\xfe".encode(), b"\xff\xfe\0\0")))
     found = [row for form in FORMS for names in LINKS for row in rows(names, form)]
     print("\n".join("    %s;\\" % row for row in found)[:-2] + '";')

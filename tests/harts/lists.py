@@ -2,7 +2,7 @@
 """Prints the tables of lists of system calls: `python3 tests/harts/lists.py told`, `lines`, `pairs` or `placed`.
 
 `told` is what `harden` puts of the rows LISTING of forms.py, in crates/harden_tests/src/forms.rt; `lines` is
-crates/harden_tests/src/lists.rt, objects and command lines; `pairs` is crates/hostile_tests/src/lists.rt, images and graphs; `placed` is
+crates/test_lists/src/lists.rt, objects and command lines; `pairs` is crates/hostile_tests/src/lists.rt, images and graphs; `placed` is
 crates/source_tests/src/listed.rt, maps. All that is told comes from the models beside this file.
 """
 
@@ -133,9 +133,9 @@ LINES = """\
 //! Objects that are hardened under lists of system calls, in each form: what is put, that it is accepted, its runs and what comparing
 //! tells. tests/harts/lists.py at the top of the repository prints this, by its models of the join, of hardening and of the machine.
 
-use crate::calls::check_over;
+use crate::links::MAIN;
 use rv_word::NoMemory;
-use sample_calls::{Given, Source, add_object, add_texts, decoded};
+use sample_calls::{Given, Source, add_object, add_texts, decoded, first_wrong};
 use std::alloc::Global;
 use tool_io::MemFiles;
 
@@ -147,9 +147,7 @@ static OBJECTS: [(&str, Given); %d] = [
 ];
 
 /// Objects that are joined.
-static JOINED: [(&str, &[u8]); %d] = [
-%s
-];
+static JOINED: [(&str, &[u8]); %d] = [%s];
 
 /// Policies, scripts that change the number of a system call, and an input.
 #[rattlefmt::skip]
@@ -176,7 +174,7 @@ fn add_all(alloc: Global, files: &mut MemFiles) -> Result<(), NoMemory> {
 fn lists(rt: HostRuntime) {
     let mut files = MemFiles::new(rt.alloc(), Vec::new(rt.alloc()));
     assert!(rt; add_all(rt.alloc(), &mut files).is_ok());
-    check_over(&rt, rt.alloc(), &mut files, LINES, %d);
+    assert_eq!(rt; first_wrong(rt.alloc(), &mut files, LINES, %d), None);
 }
 """
 
@@ -185,10 +183,10 @@ def lines():
     scripts = {}
     found = [line for names, policy, numbers in RUNS for form in FORMS for line in lines_of(names, policy, numbers, form, scripts)]
     given = ['    ("%s", Given(Source::%s)),' % (name, text) for name, text in OBJECTS.items()]
-    names = ['    ("%s", %s),' % (name, each.name) for name, each in LINKED.items()]
+    names = ['("%s", %s)' % (name, each.name) for name, each in LINKED.items()]
     rows = list(texts(scripts))
-    print(LINES % ("\n".join(hexadecimal(each.name, each.file()) for each in LINKED.values()), len(given), "\n".join(given), len(names),
-                   "\n".join(names), len(rows), "\n".join(rows), "\n".join(found)[:-2] + '";', len(found)), end="")
+    print(LINES % ("\n".join(hexadecimal(each.name, each.file()) for each in (WRITES, EXITS)), len(given), "\n".join(given), len(names),
+                   ", ".join(names), len(rows), "\n".join(rows), "\n".join(found)[:-2] + '";', len(found)), end="")
 
 
 NUMBERS = (64, 93)

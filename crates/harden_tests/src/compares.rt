@@ -1,8 +1,9 @@
 //! The command `compare`: programs against images, theirs and others', and what is refused.
 
-use crate::calls::check_over;
 use rv_word::NoMemory;
-use sample_calls::{Given, Source, add_image, add_image_of_harts, add_object, add_texts};
+use sample_calls::{
+    Given, Source, add_image, add_image_of_harts, add_object, add_texts, first_wrong,
+};
 use sample_programs::{A_OF_HARTS, SHARED};
 use std::alloc::Global;
 use tool_io::MemFiles;
@@ -90,7 +91,7 @@ static IMAGES_OF_HARTS: [(&str, &[u32], &[u8]); 3] = [
     ("far.img", &FAR, b""),
 ];
 
-/// Command lines, with the status and the text of each, in the form of `calls::check`.
+/// Command lines, with the status and the text of each, in the form of `sample_calls::first_wrong`.
 const LINES: &[u8] = b"\
     rvcfi,rewrite,b.o,main,none,b.img,b.graph,b.map = 0: rewritten code 92 data 0 classes 0 sites 0\n;\
     rvcfi,rewrite,p.o,main,none,p.img,p.graph,p.map = 0: rewritten code 260 data 16 classes 1 sites 1\n;\
@@ -183,5 +184,5 @@ fn add_all(alloc: Global, files: &mut MemFiles) -> Result<(), NoMemory> {
 fn compared(rt: HostRuntime) {
     let mut files = MemFiles::new(rt.alloc(), Vec::new(rt.alloc()));
     assert!(rt; add_all(rt.alloc(), &mut files).is_ok());
-    check_over(&rt, rt.alloc(), &mut files, LINES, 73);
+    assert_eq!(rt; first_wrong(rt.alloc(), &mut files, LINES, 73), None);
 }

@@ -1,12 +1,12 @@
 //! The command `harden`: in the form `plain` it does what `rewrite` does; in the form `harts` what it writes is accepted, runs
 //! and compares. The reports of runs are what a model of the machine, tests/harts at the top of the repository, answers.
 
-use crate::calls::check_over;
 use crate::rewrites;
 use crate::waiting::add_waiting;
 use rv_word::NoMemory;
 use sample_calls::{
-    Given, Source, add_image_of_harts, add_object, add_texts, ends_with, is_answered, rows,
+    Given, Source, add_image_of_harts, add_object, add_texts, ends_with, first_wrong, is_answered,
+    rows,
 };
 use sample_programs::{SHARED, SHARED_GRAPH};
 use std::alloc::Global;
@@ -69,7 +69,7 @@ static IMAGES: [(&str, u32, bool); 8] = [
     ("81_of_harts.img", 64, true),
 ];
 
-/// Command lines, with the status and the text of each, in the form of `calls::check`. A program that takes three steps has an
+/// Command lines, with the status and the text of each, in the form of `sample_calls::first_wrong`. A program that takes three steps has an
 /// image that takes 76 at most, or 80 where its map is for several harts.
 const LINES: &[u8] = b"\
     rvcfi,harden,harts,b.o,main,none,b.img,b.graph,b.map = 0: rewritten code 108 data 0 classes 0 sites 0\n;\
@@ -169,7 +169,7 @@ fn add_all(alloc: Global, files: &mut MemFiles) -> Result<(), NoMemory> {
 fn lines(rt: HostRuntime) {
     let mut files = MemFiles::new(rt.alloc(), Vec::new(rt.alloc()));
     assert!(rt; add_all(rt.alloc(), &mut files).is_ok());
-    check_over(&rt, rt.alloc(), &mut files, LINES, 80);
+    assert_eq!(rt; first_wrong(rt.alloc(), &mut files, LINES, 80), None);
     // The one whose harts share a double word, unit by unit.
     assert!(rt; files.get("shared.img") == files.get("wanted"));
     assert!(rt; files.get("shared.graph") == Some(SHARED_GRAPH));

@@ -1,19 +1,13 @@
-//! Tests of the commands `rewrite`, `harden`, `link`, `compare` and `compare-link` through the top call: what they put and write in each form, what they
+//! Tests of the commands `rewrite`, `harden` and `compare` through the top call: what they put and write in each form, what they
 //! refuse, and what comparing tells. They stand beside the crates that they test, so that these are proved once.
 #![tactic(auto)]
 
-#[cfg(test)]
-mod calls;
 #[cfg(test)]
 mod compares;
 #[cfg(test)]
 mod forms;
 #[cfg(test)]
 mod hardens;
-#[cfg(test)]
-mod links;
-#[cfg(test)]
-mod lists;
 #[cfg(test)]
 mod rewrites;
 #[cfg(test)]

@@ -1,8 +1,7 @@
 //! The command `rewrite`: what it puts, and the files that it writes.
 
-use crate::calls::check_over;
 use rv_word::NoMemory;
-use sample_calls::{Given, Source, add_image, add_object, add_texts, answers};
+use sample_calls::{Given, Source, add_image, add_object, add_texts, answers, first_wrong};
 use sample_objects::{B_MAP, H_MAP, NARROW_MAP, NOWHERE_MAP, P_MAP};
 use sample_programs::{
     A, B, B_GRAPH, H, H_GRAPH, NARROW, NARROW_GRAPH, NOWHERE, NOWHERE_GRAPH, P, P_DATA, P_GRAPH,
@@ -139,7 +138,7 @@ static POLICIES: [(&str, &[u8]); 2] = [
     ("place", b"rvcfi-policy 1\nsite main+14 f+0\nend\n"),
 ];
 
-/// Command lines, with the status and the text of each, in the form of `calls::check`. The last ones make an object's file its
+/// Command lines, with the status and the text of each, in the form of `sample_calls::first_wrong`. The last ones make an object's file its
 /// image.
 pub(crate) const LINES: &[u8] = b"\
     rvcfi,rewrite,empty,main,none,i,g,m = 1: refused 1 NotElf\n;\
@@ -192,5 +191,5 @@ pub(crate) fn add_all(alloc: Global, files: &mut MemFiles) -> Result<(), NoMemor
 fn lines(rt: HostRuntime) {
     let mut files = MemFiles::new(rt.alloc(), Vec::new(rt.alloc()));
     assert!(rt; add_all(rt.alloc(), &mut files).is_ok());
-    check_over(&rt, rt.alloc(), &mut files, LINES, 33);
+    assert_eq!(rt; first_wrong(rt.alloc(), &mut files, LINES, 33), None);
 }

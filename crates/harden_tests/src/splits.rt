@@ -1,10 +1,9 @@
 //! The command `harden` in the forms where calls and jumps have labels of their own: what it writes is accepted, runs and compares.
 //! The reports of runs are what a model of the machine, tests/harts at the top of the repository, answers.
 
-use crate::calls::check_over;
 use crate::waiting::add_waiting;
 use rv_word::NoMemory;
-use sample_calls::{Given, Source, add_object, add_texts};
+use sample_calls::{Given, Source, add_object, add_texts, first_wrong};
 use sample_programs::{APART_GRAPH, APART_OF_HARTS_GRAPH, Q_GRAPH, Q_OF_HARTS_GRAPH};
 use std::alloc::Global;
 use tool_io::MemFiles;
@@ -131,7 +130,7 @@ static IMAGES: [(&str, u32, bool); 8] = [
     ("84_of_harts.img", 67, true),
 ];
 
-/// Command lines, with the status and the text of each, in the form of `calls::check_over`: objects in the form `split`.
+/// Command lines, with the status and the text of each, in the form of `sample_calls::first_wrong`: objects in the form `split`.
 const SPLIT: &[u8] = b"\
     rvcfi,harden,split,b.o,main,none,sb.img,sb.graph,sb.map = 0: rewritten code 92 data 0 classes 0 sites 0\n;\
     rvcfi,verify,sb.img,sb.graph = 0: accepted\n;\
@@ -317,11 +316,11 @@ fn add_all(alloc: Global, files: &mut MemFiles) -> Result<(), NoMemory> {
 fn lines(rt: HostRuntime) {
     let mut files = MemFiles::new(rt.alloc(), Vec::new(rt.alloc()));
     assert!(rt; add_all(rt.alloc(), &mut files).is_ok());
-    check_over(&rt, rt.alloc(), &mut files, SPLIT, 48);
+    assert_eq!(rt; first_wrong(rt.alloc(), &mut files, SPLIT, 48), None);
     assert!(rt; files.get("sq.graph") == Some(Q_GRAPH));
     assert!(rt; files.get("sa.graph") == Some(APART_GRAPH));
-    check_over(&rt, rt.alloc(), &mut files, HARTS_SPLIT, 49);
+    assert_eq!(rt; first_wrong(rt.alloc(), &mut files, HARTS_SPLIT, 49), None);
     assert!(rt; files.get("tq.graph") == Some(Q_OF_HARTS_GRAPH));
     assert!(rt; files.get("ta.graph") == Some(APART_OF_HARTS_GRAPH));
-    check_over(&rt, rt.alloc(), &mut files, OTHERS, 62);
+    assert_eq!(rt; first_wrong(rt.alloc(), &mut files, OTHERS, 62), None);
 }

@@ -59,3 +59,21 @@ pub fn is_answered(alloc: Global, row: &str, files: &mut MemFiles) -> bool {
     let status = status.parse().unwrap_or(u8::MAX);
     answers(alloc, line, files, status, text)
 }
+
+/// The first row of a table that is not answered over these files, or a text that is none where the table has not so many rows.
+pub fn first_wrong<'t>(
+    alloc: Global,
+    files: &mut MemFiles,
+    table: &'t [u8],
+    count: usize,
+) -> Option<&'t str> {
+    if rows(table).count() != count {
+        return Some("a table with too few or too many rows");
+    }
+    for row in rows(table) {
+        if !is_answered(alloc, row, files) {
+            return Some(row);
+        }
+    }
+    None
+}

@@ -8,7 +8,7 @@ use elf_image::ImageRefusal;
 use std::alloc::Global;
 use text_lines::Reason;
 
-/// Command lines, with the status and the text of each, in the form of `calls::check`.
+/// Command lines, with the status and the text of each, in the form of `sample_calls::first_wrong`.
 const COMMANDS: &[u8] = b"\
     rvcfi,verify,image,graph = 0: accepted\n;\
     rvcfi,verify,graph,graph = 1: refused 22 Short 64\n;\

@@ -1,11 +1,10 @@
 //! The command `demo`: the lines that another generator, hardener and interpreter gave for three numbers.
 
-use crate::calls::check_over;
-use sample_calls::ends_with;
+use sample_calls::{ends_with, first_wrong};
 use std::alloc::Global;
 use tool_io::{MemFiles, MemSink};
 
-/// Command lines, each with its status and its text, in the form of `calls::check`. A number may have zeros before it.
+/// Command lines, each with its status and its text, in the form of `sample_calls::first_wrong`. A number may have zeros before it.
 const ZERO: &[u8] =
     b"rvcfi,demo,0 = 0: object 229600 functions 2000\nimage 196224 code 172432 classes 1 sites 474\nrun exit 148 steps 112252 walk 38660\ncompare same 1\n";
 
@@ -35,25 +34,25 @@ fn is_shown(alloc: Global, files: &mut MemFiles) -> bool {
 #[test]
 fn words(rt: HostRuntime) {
     let mut files = MemFiles::new(rt.alloc(), Vec::new(rt.alloc()));
-    check_over(&rt, rt.alloc(), &mut files, LINES, 5);
+    assert_eq!(rt; first_wrong(rt.alloc(), &mut files, LINES, 5), None);
 }
 
 #[test]
 fn number_zero(rt: HostRuntime) {
     let mut files = MemFiles::new(rt.alloc(), Vec::new(rt.alloc()));
-    check_over(&rt, rt.alloc(), &mut files, ZERO, 1);
+    assert_eq!(rt; first_wrong(rt.alloc(), &mut files, ZERO, 1), None);
 }
 
 #[test]
 fn number_one(rt: HostRuntime) {
     let mut files = MemFiles::new(rt.alloc(), Vec::new(rt.alloc()));
-    check_over(&rt, rt.alloc(), &mut files, ONE, 1);
+    assert_eq!(rt; first_wrong(rt.alloc(), &mut files, ONE, 1), None);
 }
 
 #[test]
 fn another_number(rt: HostRuntime) {
     let mut files = MemFiles::new(rt.alloc(), Vec::new(rt.alloc()));
-    check_over(&rt, rt.alloc(), &mut files, OTHER, 1);
+    assert_eq!(rt; first_wrong(rt.alloc(), &mut files, OTHER, 1), None);
 }
 
 #[test]

@@ -3,7 +3,7 @@
 
 use crate::calls::check;
 
-/// Command lines with the status and the text of each, in the form of `calls::check`. A call to what may only be jumped to, and a jump
+/// Command lines with the status and the text of each, in the form of `sample_calls::first_wrong`. A call to what may only be jumped to, and a jump
 /// to what may only be called, go through where one class serves both.
 const GRAPHS: &[u8] = b"\
     rvcfi,verify,q.img,q.graph = 0: accepted\n;\

@@ -3,7 +3,7 @@
 
 use crate::calls::check;
 
-/// Command lines of runs, with the status and the text of each, in the form of `calls::check`.
+/// Command lines of runs, with the status and the text of each, in the form of `sample_calls::first_wrong`.
 const RUNS: &[u8] = b"\
     rvcfi,run,a.img,a.graph,none,none,100 = 0: output 0\n\nstop exit 7\nsteps 13\nwalk 4\ntrail 4000000c 40000040 40000044 40000048\n;\
     rvcfi,run,a.img,a.graph,none,none,0 = 12: output 0\n\nstop limit\nsteps 0\nwalk 0\ntrail\n;\

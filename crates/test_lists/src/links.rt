@@ -1,14 +1,13 @@
 //! The commands `link` and `compare-link`: objects that are joined, in each form, and what is refused of them. The objects and
 //! the table of links are those of tests/harts/links.py, by models of the join, of hardening and of the machine.
 
-use crate::calls::check_over;
 use rv_word::NoMemory;
-use sample_calls::{add_texts, answers, decoded, ends_with};
+use sample_calls::{add_texts, answers, decoded, ends_with, first_wrong};
 use sample_objects::T;
 use std::alloc::Global;
 use tool_io::{MemFiles, MemSink};
 
-const MAIN: &[u8] = b"\
+pub(crate) const MAIN: &[u8] = b"\
     7f454c460201010000000000000000000100f3000100000000000000000000000000000000000000c8000000000000\
     0000000000400000000000400005000400130101ff2334110097000000e78000008330810013010101678000000000\
     0000080000000000000013000000020000000000000000000000000000000000000000000000000000000000000000\
@@ -288,14 +287,14 @@ fn add_all(alloc: Global, files: &mut MemFiles) -> Result<(), NoMemory> {
 fn links(rt: HostRuntime) {
     let mut files = MemFiles::new(rt.alloc(), Vec::new(rt.alloc()));
     assert!(rt; add_all(rt.alloc(), &mut files).is_ok());
-    check_over(&rt, rt.alloc(), &mut files, LINKS, 132);
+    assert_eq!(rt; first_wrong(rt.alloc(), &mut files, LINKS, 132), None);
 }
 
 #[test]
 fn refusals(rt: HostRuntime) {
     let mut files = MemFiles::new(rt.alloc(), Vec::new(rt.alloc()));
     assert!(rt; add_all(rt.alloc(), &mut files).is_ok());
-    check_over(&rt, rt.alloc(), &mut files, REFUSALS, 39);
+    assert_eq!(rt; first_wrong(rt.alloc(), &mut files, REFUSALS, 39), None);
 }
 
 /// A command line that links so many objects: one that calls, one that is called, and others that nothing names.
