@@ -3,7 +3,7 @@
 
 `told` is what `harden` puts of the rows LISTING of forms.py, in crates/harden_tests/src/forms.rt; `lines` is
 crates/test_lists/src/lists.rt, objects and command lines; `pairs` is crates/hostile_tests/src/lists.rt, images and graphs; `placed` is
-crates/source_tests/src/listed.rt, maps. All that is told comes from the models beside this file.
+crates/test_placed/src/listed.rt, maps. All that is told comes from the models beside this file.
 """
 
 import struct
@@ -356,33 +356,19 @@ PLACED = """\
 //! Maps of objects that are hardened under lists of system calls, each ECALL with the size of its unit or with another one; and how
 //! their runs end, where each map is one of its program's. tests/harts/lists.py at the top of the repository prints this.
 
-use crate::placed::{is_told_at, map};
+use crate::placed::first_wrong;
 use sample_listed::CALLS;
-use std::alloc::Global;
 
 // A line a map: an object by its number in `CALLS`, the map, and what is told, as in `placed`.
 static LINES: &[u8] = b"\\
 %s
 
-/// Whether what a line tells is so.
-fn is_right(alloc: Global, line: &str) -> bool {
-    let (number, rest) = line.split_once(' ').unwrap_or(("", ""));
-    let (digits, told) = rest.split_once(' ').unwrap_or(("", ""));
-    let program = CALLS.get(number.parse::<usize>().unwrap_or(usize::MAX));
-    match (
-        program,
-        map(alloc, "rvcfi-map 1", 0x4000_0040, digits.as_bytes()),
-    ) {
-        (Some(program), Ok(text)) => is_told_at(alloc, &program.0, text.as_bytes(), told),
-        _ => false,
-    }
-}
-
 #[test]
 fn places_system_calls(rt: HostRuntime) {
-    for line in sample_programs::rows(LINES, %d).lines() {
-        assert!(rt; is_right(rt.alloc(), line), "{line}");
-    }
+    assert_eq!(rt;
+        first_wrong(rt.alloc(), &CALLS, "rvcfi-map 1", 0x4000_0040, LINES, %d),
+        ""
+    );
 }
 """
 

@@ -55,7 +55,7 @@ def is_unlisted(word, registers, calls):
 
 
 def ended(hardening):
-    """How the program ends, in the words of crates/source_tests: it runs hardened, and an instruction is begun where its word is."""
+    """How the program ends, in the words of crates/sample_source: it runs hardened, and an instruction is begun where its word is."""
     machine, begun = Machine(hardening.built.version, hardening.built.code, hardening.built.data, b"", 1), 0
     words, stop, last = {at: k for k, at in enumerate(hardening.layout.words)}, None, None
     while not stop:

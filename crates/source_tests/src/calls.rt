@@ -2,11 +2,8 @@
 //! for an `ecall` under a list of 1, 2, 3 and 8 numbers, and which line of a map is wrong where it has others. Sizes, steps and
 //! lines are worked out by hand.
 
-use crate::ended::Asked;
-use crate::given::{Given, Source, file};
-use crate::placed::map;
-use crate::runs::is_file;
 use sample_objects::{H_MAP, H_MAP_OF_HARTS};
+use sample_source::{Asked, Given, Source, map, runs_as};
 use std::alloc::Global;
 
 /// The form of a map.
@@ -179,14 +176,6 @@ static WRITING: [Writing; 7] = [
     Writing(READ, H_MAP_OF_HARTS, b"", "line 15"),
 ];
 
-/// Whether an object runs as is asked.
-fn is_asked(alloc: Global, given: &Given, asked: &Asked<'_>) -> bool {
-    match file(alloc, given) {
-        Some(file) => is_file(alloc, &file, asked),
-        None => false,
-    }
-}
-
 /// Whether what a row tells is so.
 fn is_right(alloc: Global, row: &Row) -> bool {
     let (line, first) = head(row.2);
@@ -201,7 +190,7 @@ fn is_right(alloc: Global, row: &Row) -> bool {
         output: row.5,
         told: row.6,
     };
-    is_asked(alloc, &row.0, &asked)
+    runs_as(alloc, &row.0, &asked)
 }
 
 /// Whether what writes a text does as is told.
@@ -214,7 +203,7 @@ fn is_written(alloc: Global, row: &Writing) -> bool {
         output: row.2,
         told: row.3,
     };
-    is_asked(alloc, &Given(Source::Writing, 0, b""), &asked)
+    runs_as(alloc, &Given(Source::Writing, 0, b""), &asked)
 }
 
 #[test]

@@ -6,14 +6,6 @@
 #[cfg(test)]
 mod calls;
 #[cfg(test)]
-mod ended;
-#[cfg(test)]
-mod given;
-#[cfg(test)]
-mod listed;
-#[cfg(test)]
 mod maps;
-#[cfg(test)]
-mod placed;
 #[cfg(test)]
 mod runs;

@@ -1,13 +1,9 @@
-use crate::ended::{Asked, is_told};
-use crate::given::{Given, Source, file};
 use crate::maps;
-use elf_object::Object;
-use obj_items::items;
 use sample_objects::{
     B_MAP, B_MAP_OF_HARTS, H_MAP, H_MAP_OF_HARTS, NARROW_MAP, NARROW_MAP_OF_HARTS, NOWHERE_MAP,
     NOWHERE_MAP_OF_HARTS, P_MAP, P_MAP_OF_HARTS, R_MAP_OF_HARTS,
 };
-use std::alloc::Global;
+use sample_source::{Asked, Given, Source, runs_as};
 
 /// An object, a map, what the run writes and how it is told: how it ends after how many steps, or why none begins.
 struct Row(Given, &'static [u8], &'static [u8], &'static str);
@@ -144,30 +140,6 @@ static FURTHER: [Further; 9] = [
     Further(Given(Source::Calling, 80, b"e780c201"), Asked { entry: b"main", policy: FIRST_ALONE, map: NARROW_MAP_OF_HARTS, input: b"", output: b"", told: "untame graph 1 16 after 4" }),
 ];
 
-/// Whether an object runs as is asked.
-fn is_object(alloc: Global, object: &Object, asked: &Asked<'_>) -> bool {
-    match items(alloc, object) {
-        Ok(items) => is_told(alloc, &items, asked),
-        Err(_) => false,
-    }
-}
-
-/// Whether a file is an object that runs as is asked.
-pub(crate) fn is_file(alloc: Global, file: &[u8], asked: &Asked<'_>) -> bool {
-    match Object::read(alloc, file) {
-        Ok(object) => is_object(alloc, &object, asked),
-        Err(_) => false,
-    }
-}
-
-/// Whether an object runs as is asked.
-fn is_right(alloc: Global, given: &Given, asked: &Asked<'_>) -> bool {
-    match file(alloc, given) {
-        Some(file) => is_file(alloc, &file, asked),
-        None => false,
-    }
-}
-
 /// What is asked of a row without a policy and an input.
 fn asked_of(row: &Row) -> Asked<'static> {
     Asked {
@@ -183,27 +155,27 @@ fn asked_of(row: &Row) -> Asked<'static> {
 #[test]
 fn runs_programs(rt: HostRuntime) {
     for (k, row) in ROWS.iter().enumerate() {
-        assert!(rt; is_right(rt.alloc(), &row.0, &asked_of(row)), "row {k}");
+        assert!(rt; runs_as(rt.alloc(), &row.0, &asked_of(row)), "row {k}");
     }
 }
 
 #[test]
 fn runs_programs_for_harts(rt: HostRuntime) {
     for (k, row) in HARTS.iter().enumerate() {
-        assert!(rt; is_right(rt.alloc(), &row.0, &asked_of(row)), "row {k}");
+        assert!(rt; runs_as(rt.alloc(), &row.0, &asked_of(row)), "row {k}");
     }
 }
 
 #[test]
 fn runs_programs_with_labels_apart(rt: HostRuntime) {
     for (k, row) in SPLIT.iter().enumerate() {
-        assert!(rt; is_right(rt.alloc(), &row.0, &asked_of(row)), "row {k}");
+        assert!(rt; runs_as(rt.alloc(), &row.0, &asked_of(row)), "row {k}");
     }
 }
 
 #[test]
 fn runs_programs_further(rt: HostRuntime) {
     for (k, row) in FURTHER.iter().enumerate() {
-        assert!(rt; is_right(rt.alloc(), &row.0, &row.1), "row {k}");
+        assert!(rt; runs_as(rt.alloc(), &row.0, &row.1), "row {k}");
     }
 }

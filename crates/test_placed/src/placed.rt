@@ -1,11 +1,10 @@
 //! Maps of the objects of `sample_stores` that store behind one mask: with as many stores behind each mask as hardening puts there,
 //! with fewer, and such as are not legal. tests/harts/placed.py at the top of the repository prints the tables.
 
-use crate::ended::Asked;
-use crate::runs::is_file;
-use sample_hardened::{Given, file};
+use sample_hardened::{Given, Program, file};
+use sample_source::{Asked, is_file, map};
 use sample_stores::STORES;
-use std::alloc::{AllocError, Global};
+use std::alloc::Global;
 
 // A line a map: an object by its number in `STORES`, the map, and what is told: how its run ends after how many steps, or which line is
 // wrong. A map is told by how many words stand from the gate of each place to the next one's, each a digit of base 36.
@@ -381,35 +380,8 @@ static HARTS_SPLIT: &[u8] = b"\
     6 14611k1144411181114341415 line 15\n\
     6 14311k1141111481114314115 line 5\n";
 
-/// The value of a digit.
-fn value(digit: u8) -> u32 {
-    match digit {
-        b'0'..=b'9' => u32::from(digit - b'0'),
-        b'a'..=b'z' => u32::from(digit - b'a') + 10,
-        _ => 0,
-    }
-}
-
-/// The text of a map whose first line and first gate these are.
-pub(crate) fn map(
-    alloc: Global,
-    head: &str,
-    first: u32,
-    digits: &[u8],
-) -> Result<String, AllocError> {
-    let mut text = format!(in alloc; "{head}\n")?;
-    let (mut gate, mut offset) = (first, 0u32);
-    for digit in digits {
-        write!(text, "at {gate:08x} 0001 {offset:08x}\n")?;
-        gate = gate.saturating_add(value(*digit).saturating_mul(4));
-        offset = offset.saturating_add(4);
-    }
-    write!(text, "at {gate:08x} 0001 {offset:08x}\nend\n")?;
-    Ok(text)
-}
-
 /// Whether an object runs at a map as it is told.
-pub(crate) fn is_told_at(alloc: Global, given: &Given, map: &[u8], told: &str) -> bool {
+fn is_told_at(alloc: Global, given: &Given, map: &[u8], told: &str) -> bool {
     let asked = Asked {
         entry: given.3.as_bytes(),
         policy: given.4.unwrap_or(b""),
@@ -424,11 +396,11 @@ pub(crate) fn is_told_at(alloc: Global, given: &Given, map: &[u8], told: &str) -
     }
 }
 
-/// Whether what a line tells is so in a form whose maps begin with this line and this gate.
-fn is_right(alloc: Global, head: &str, first: u32, line: &str) -> bool {
+/// Whether what a line tells of one of some programs is so in a form whose maps begin with this line and this gate.
+fn is_right(alloc: Global, programs: &[Program], head: &str, first: u32, line: &str) -> bool {
     let (number, rest) = line.split_once(' ').unwrap_or(("", ""));
     let (digits, told) = rest.split_once(' ').unwrap_or(("", ""));
-    let program = STORES.get(number.parse::<usize>().unwrap_or(usize::MAX));
+    let program = programs.get(number.parse::<usize>().unwrap_or(usize::MAX));
     match (program, map(alloc, head, first, digits.as_bytes())) {
         (Some(program), Ok(text)) => is_told_at(alloc, &program.0, text.as_bytes(), told),
         _ => false,
@@ -436,15 +408,16 @@ fn is_right(alloc: Global, head: &str, first: u32, line: &str) -> bool {
 }
 
 /// The first of so many lines that is not right in a form, or an empty text.
-fn first_wrong(
+pub(crate) fn first_wrong(
     alloc: Global,
+    programs: &[Program],
     head: &str,
     first: u32,
     table: &'static [u8],
     count: usize,
 ) -> &'static str {
     for line in sample_programs::rows(table, count).lines() {
-        if !is_right(alloc, head, first, line) {
+        if !is_right(alloc, programs, head, first, line) {
             return line;
         }
     }
@@ -455,20 +428,21 @@ fn first_wrong(
 fn places_stores(rt: HostRuntime) {
     let alloc = rt.alloc();
     assert_eq!(rt;
-        first_wrong(alloc, "rvcfi-map 1", 0x4000_0040, PLAIN, 252),
+        first_wrong(alloc, &STORES, "rvcfi-map 1", 0x4000_0040, PLAIN, 252),
         ""
     );
     assert_eq!(rt;
-        first_wrong(alloc, "rvcfi-map 2 harts", 0x4000_0050, HARTS, 37),
+        first_wrong(alloc, &STORES, "rvcfi-map 2 harts", 0x4000_0050, HARTS, 37),
         ""
     );
     assert_eq!(rt;
-        first_wrong(alloc, "rvcfi-map 2 split", 0x4000_0040, SPLIT, 37),
+        first_wrong(alloc, &STORES, "rvcfi-map 2 split", 0x4000_0040, SPLIT, 37),
         ""
     );
     assert_eq!(rt;
         first_wrong(
             alloc,
+            &STORES,
             "rvcfi-map 2 harts-split",
             0x4000_0050,
             HARTS_SPLIT,

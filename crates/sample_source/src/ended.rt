@@ -17,19 +17,19 @@ const LIMIT: u64 = 100_000;
 
 /// What a program is run with, and what is to come of it.
 #[derive(Clone, Copy)]
-pub(crate) struct Asked<'a> {
+pub struct Asked<'a> {
     /// The name of the symbol where the program begins.
-    pub(crate) entry: &'a [u8],
+    pub entry: &'a [u8],
     /// The text of a policy. Empty: there is none.
-    pub(crate) policy: &'a [u8],
+    pub policy: &'a [u8],
     /// The text of a map.
-    pub(crate) map: &'a [u8],
+    pub map: &'a [u8],
     /// What the program may read.
-    pub(crate) input: &'a [u8],
+    pub input: &'a [u8],
     /// What it writes.
-    pub(crate) output: &'a [u8],
+    pub output: &'a [u8],
     /// How it ends after how many steps, or why its run does not begin.
-    pub(crate) told: &'a str,
+    pub told: &'a str,
 }
 
 /// The name of a reason.

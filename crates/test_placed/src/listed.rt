@@ -1,9 +1,8 @@
 //! Maps of objects that are hardened under lists of system calls, each ECALL with the size of its unit or with another one; and how
 //! their runs end, where each map is one of its program's. tests/harts/lists.py at the top of the repository prints this.
 
-use crate::placed::{is_told_at, map};
+use crate::placed::first_wrong;
 use sample_listed::CALLS;
-use std::alloc::Global;
 
 // A line a map: an object by its number in `CALLS`, the map, and what is told, as in `placed`.
 static LINES: &[u8] = b"\
@@ -57,23 +56,10 @@ static LINES: &[u8] = b"\
     8 1411k1152575 line 13\n\
     9 1411k1152515 exit 1 after 11\n";
 
-/// Whether what a line tells is so.
-fn is_right(alloc: Global, line: &str) -> bool {
-    let (number, rest) = line.split_once(' ').unwrap_or(("", ""));
-    let (digits, told) = rest.split_once(' ').unwrap_or(("", ""));
-    let program = CALLS.get(number.parse::<usize>().unwrap_or(usize::MAX));
-    match (
-        program,
-        map(alloc, "rvcfi-map 1", 0x4000_0040, digits.as_bytes()),
-    ) {
-        (Some(program), Ok(text)) => is_told_at(alloc, &program.0, text.as_bytes(), told),
-        _ => false,
-    }
-}
-
 #[test]
 fn places_system_calls(rt: HostRuntime) {
-    for line in sample_programs::rows(LINES, 49).lines() {
-        assert!(rt; is_right(rt.alloc(), line), "{line}");
-    }
+    assert_eq!(rt;
+        first_wrong(rt.alloc(), &CALLS, "rvcfi-map 1", 0x4000_0040, LINES, 49),
+        ""
+    );
 }
