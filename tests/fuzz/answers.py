@@ -13,8 +13,9 @@ REFUSALS = {
     12: rb"BadPair N N", 13: rb"RelocKind N N N", 14: rb"RelocPlace N N", 15: rb"Undefined N", 16: rb"BadCodePointer N N",
     17: rb"NoEntry", 18: rb"Policy N", 19: rb"CodeTooLarge N", 20: rb"DataTooLarge N N", 21: rb"RelocRange N N",
     22: rb"(?:Short|Byte|Long) N", 23: rb"Graph N " + REASON, 24: rb"Map N (?:Place|" + REASON + rb")",
-    25: rb"Script N " + REASON, 26: rb"Harts [2-8]",
+    25: rb"Script N " + REASON, 26: rb"Harts [2-8]", 27: rb"Duplicate .*", 28: rb"TooManySections N",
 }
+IN_OBJECT = (*range(1, 9), 15)  # of several objects, those that tell which
 RULES = rb"(?:Prologue|Unit|Target|Unlisted|Unused|Site|Gate|Astray|End)"
 REJECTED = [rb"rejected " + RULES + rb" " + ADDRESS, rb"rejected Length N N"]
 ITEM = rb"(?:" + rb" ".join([LONG] * 8) + rb" (?:-|(?:[0-9a-f]{2})+)|exit " + BYTE + rb"|break|stop|running)"
@@ -23,6 +24,11 @@ DIFFERS = rb"differs N\nsource " + ITEM + rb"\nimage " + ITEM
 
 def refused(*numbers):
     return [b"refused %d " % number + REFUSALS[number] for number in numbers]
+
+
+def refused_of_several(*numbers):
+    """The same where several objects are joined."""
+    return [text + rb" in N" if number in IN_OBJECT else text for number, text in zip(numbers, refused(*numbers))]
 
 
 def report(stop):
@@ -38,18 +44,24 @@ def forms(texts):
     return re.compile(re.sub(rb"\bN\b", lambda _: NUMBER, rb"(?:" + rb"|".join(texts) + rb")\n"), re.DOTALL)
 
 
+REWRITTEN = [rb"rewritten code N data N classes N sites N"]
+UNTAME = [rb"untame (?:graph|return|window|deep|end|call) N N"]
 COMMON = {2: [USAGE], 3: [rb"read fault .*"], 6: [rb"too long .*"]}
 FORMS = {
-    b"rewrite": {0: [rb"rewritten code N data N classes N sites N"], 1: refused(*range(1, 22))},
+    b"rewrite": {0: REWRITTEN, 1: refused(*range(1, 22))},
+    b"harden": {0: REWRITTEN, 1: refused(*range(1, 22))},
+    b"link": {0: REWRITTEN, 1: refused_of_several(*range(1, 22), 27, 28)},
     b"verify": {0: [rb"accepted"], 1: refused(22, 23) + REJECTED},
     b"run": {0: report(b"exit " + BYTE), 1: refused(22, 23, 25, 26) + REJECTED,
              10: report(rb"handler __cfi_(?:bad_target|bad_return|deep)"),
              11: report(rb"(?:break " + ADDRESS + rb"|load " + ADDRESS + rb" " + LONG + rb")"), 12: report(rb"limit")},
-    b"compare": {0: [rb"same N"], 1: refused(*range(1, 19), 20, 21, 22, 24) + [DIFFERS], 12: [rb"limit"],
-                 13: [rb"untame (?:graph|return|window|deep|end|call) N N"]},
+    b"compare": {0: [rb"same N"], 1: refused(*range(1, 19), 20, 21, 22, 24) + [DIFFERS], 12: [rb"limit"], 13: UNTAME},
+    b"compare-link": {0: [rb"same N"], 1: refused_of_several(*range(1, 19), 20, 21, 22, 24, 27, 28) + [DIFFERS], 12: [rb"limit"],
+                      13: UNTAME},
 }
 FORMS = {command: {status: forms(texts) for status, texts in {**rows, **COMMON}.items()} for command, rows in FORMS.items()}
-FORMS[b"rewrite"][4] = re.compile(rb"")
+for command in (b"rewrite", b"harden", b"link"):
+    FORMS[command][4] = re.compile(rb"")
 NO_WORDS = {2: forms([USAGE])}
 
 

@@ -9,9 +9,10 @@ from answers import wrong
 
 KIB = 1 << 10
 USUAL, MACHINE = 176 * KIB, 320 * KIB  # bytes of a call without its files, and of a machine's table of pages and the first of them
-BASE = {b"run": USUAL + MACHINE, b"compare": USUAL + 2 * MACHINE}
+BASE = {b"run": USUAL + MACHINE, b"compare": USUAL + 2 * MACHINE, b"compare-link": USUAL + 2 * MACHINE}
 TIMES, SECONDS, BLOCK = 64, 1, 64 * KIB
-COMMANDS = (b"rewrite", b"verify", b"run", b"compare")
+COMMANDS = (b"rewrite", b"verify", b"run", b"compare", b"harden", b"link", b"compare-link")
+WRITTEN = {b"rewrite": 4, b"harden": 5, b"link": 4}  # at which of its words, from 0, stand the names of the three files that it writes
 FOLDER = b"folder"  # a directory that stands beside the files
 
 
@@ -24,7 +25,8 @@ def written_by(words, call):
     named = list(words)
     if b"--" in named:
         named.remove(b"--")
-    return set(named[4:7]) if named[:1] == [b"rewrite"] and call.status in (0, 4) else set()
+    first = WRITTEN.get(named[0]) if named else None
+    return set(named[first:first + 3]) if first and call.status in (0, 4) else set()
 
 
 def beyond(words, call):
@@ -64,7 +66,7 @@ class Figures:
 
     def tell(self):
         for (command, status, text), count in sorted(self.answers.items()):
-            print("%9d  %-11s %3d  %s" % (count, command, status, text))
+            print("%9d  %-12s %3d  %s" % (count, command, status, text))
         print("%d calls in %d cases" % (sum(self.answers.values()), sum(self.cases.values())))
         print("cases: " + ", ".join("%s %d" % row for row in sorted(self.cases.items())))
         print("slowest: %.3f s (%s)" % self.slowest)

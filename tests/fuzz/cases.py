@@ -1,19 +1,56 @@
 """The kinds of cases: which file of a sample is turned, and which commands are asked about it."""
 
+from typing import List, NamedTuple
+
 import samples
 from asked import COMMANDS
 from turns import IMAGE, OBJECT, TEXT, turned
 
 STEPS = [b"0", b"1", b"10", b"100", b"1000", b"3000", b"20000"]
 WORDS = [b"", b"-", b"--", b"-x", b"none", b"absent", b"folder", b"0", b"1000000001", b"01", b"+1", b"-1", b" 1", b"9" * 40, b"\xff",
-         b"verify", b"rewrite", b"n" * 300, b"n" * 5000, b"folder/none", b"object/none", b"demo", b"-h", b"--help", b"-V", b"--version"]
+         b"verify", b"rewrite", b"n" * 300, b"n" * 5000, b"folder/none", b"object/none", b"demo", b"-h", b"--help", b"-V", b"--version",
+         b"harden", b"link", b"compare-link"] + samples.FORMS + [b"Plain", b"harts-"]
 HELP, VERSION = {b"-h", b"--help"}, {b"-V", b"--version"}
 MADE = [b"new.img", b"new.graph", b"new.map"]
 
 
-def laid_out(case, sample):
-    """Writes the files of a sample and of a run of it; what an object that is not hardened has not is empty."""
+class Way(NamedTuple):
+    """How objects are hardened and compared: by which command, in which form, and which objects."""
+    command: bytes
+    form: bytes
+    objects: List[bytes]
+
+    def hardens(self, entry, policy_name):
+        """The words that harden them."""
+        if self.command == b"link":
+            return [b"link", self.form, entry, policy_name] + MADE + self.objects
+        first = [b"rewrite"] if self.command == b"rewrite" else [b"harden", self.form]
+        return first + self.objects + [entry, policy_name] + MADE
+
+    def compares(self, entry, policy_name, image, map_file, count):
+        """The words that compare them with an image."""
+        if self.command == b"link":
+            return [b"compare-link", entry, policy_name, image, map_file, b"input", count] + self.objects
+        return [b"compare"] + self.objects + [entry, policy_name, image, map_file, b"input", count]
+
+    def most_steps(self, count):
+        """How many steps an image in the form takes at most for so many of its program's."""
+        each, more = 22 if b"split" in self.form else 21, 17 if b"harts" in self.form else 13
+        return each * count + more
+
+
+def way_of(case):
+    """A way to harden the case's object: by `rewrite`, in a form, or joined, by itself or with another one."""
+    command = case.draw.choice([b"rewrite", b"harden", b"harden", b"link"])
+    form = b"plain" if command == b"rewrite" else case.draw.choice(samples.FORMS)
+    more = case.draw.choice([[], [], [b"other"], [b"object"]]) if command == b"link" else []
+    return Way(command, form, [b"object"] + more)
+
+
+def laid_out(case, sample, other):
+    """Writes the files of a sample and of a run of it, and another object; what an object that is not hardened has not is empty."""
     case.put(b"object", sample.object)
+    case.put(b"other", other.object)
     case.put(b"policy", sample.policy or b"rvcfi-policy 1\nend\n")
     for name, content in ((b"image", sample.image), (b"graph", sample.graph), (b"map", sample.map)):
         case.put(name, content or b"")
@@ -36,7 +73,8 @@ def steps(case):
 def compared(case, sample, policy_name=None):
     """The object as it is now beside the sample's own image."""
     policy_name = policy_name or (b"policy" if sample.is_listed else b"none")
-    case.ask(b"compare", b"object", sample.entry, policy_name, b"image", b"map", b"input", steps(case))
+    way = Way(case.draw.choice([b"harden", b"harden", b"link"]), sample.form, [b"object"])
+    case.ask(*way.compares(sample.entry, policy_name, b"image", b"map", steps(case)))
 
 
 def asked_of_pair(case, image, graph):
@@ -53,22 +91,22 @@ def asked_of_pair(case, image, graph):
     return verdict.status == 0
 
 
-def asked_of_made(case, policy_name, entry):
-    """What `rewrite` made is accepted, and does not differ from its object; where the program ends, its image's run does."""
-    case.must(asked_of_pair(case, MADE[0], MADE[1]), "what rewrite made is not accepted")
+def asked_of_made(case, way, policy_name, entry):
+    """What was made is accepted, and does not differ from its objects; where the program ends, its image's run does."""
+    case.must(asked_of_pair(case, MADE[0], MADE[1]), "what was hardened is not accepted")
     count = steps(case)
-    answer = case.ask(b"compare", b"object", entry, policy_name, MADE[0], MADE[2], b"input", count)
-    case.must(answer.status != 1, "compare refuses what rewrite made, or it differs")
+    answer = case.ask(*way.compares(entry, policy_name, MADE[0], MADE[2], count))
+    case.must(answer.status != 1, "compare refuses what was hardened, or it differs")
     if answer.status == 0:
-        ran = case.ask(b"run", MADE[0], MADE[1], b"none", b"input", b"%d" % (21 * int(count) + 13))
+        ran = case.ask(b"run", MADE[0], MADE[1], b"none", b"input", b"%d" % way.most_steps(int(count)))
         case.must(ran.status in (0, 11), "the program ends, and its image's run does not")
 
 
 def objects_turned(case, sample):
     turn(case, b"object", OBJECT)
-    chosen = policy(case)
-    if case.ask(b"rewrite", b"object", sample.entry, chosen, *MADE).status == 0:
-        asked_of_made(case, chosen, sample.entry)
+    way, chosen = way_of(case), policy(case)
+    if case.ask(*way.hardens(sample.entry, chosen)).status == 0:
+        asked_of_made(case, way, chosen, sample.entry)
     elif case.draw.random() < 0.3:
         compared(case, sample, chosen)
 
@@ -104,8 +142,9 @@ def maps_turned(case, sample):
 
 def policies_turned(case, sample):
     turn(case, b"policy", TEXT)
-    if case.ask(b"rewrite", b"object", sample.entry, b"policy", *MADE).status == 0:
-        asked_of_made(case, b"policy", sample.entry)
+    way = way_of(case)
+    if case.ask(*way.hardens(sample.entry, b"policy")).status == 0:
+        asked_of_made(case, way, b"policy", sample.entry)
     else:
         compared(case, sample, b"policy")
 
@@ -118,19 +157,25 @@ def scripts_turned(case, sample):
 def asks_text(words):
     """Whether the words ask for help or for the version, and for nothing else."""
     alone = len(words) == 1 and words[0] in HELP | VERSION
-    return alone or len(words) == 2 and words[0] in COMMANDS and words[1] in HELP
+    return alone or len(words) == 2 and words[0] in COMMANDS + (b"demo",) and words[1] in HELP
+
+
+def demonstrates(words):
+    """Whether the words may ask for a demonstration, which reads no file and takes long for its few words."""
+    return words[:1] == [b"demo"] and any(word.isdigit() for word in words)
 
 
 def words_turned(case, sample):
     draw = case.draw
-    words = draw.choice([[b"rewrite", b"object", sample.entry, policy(case)] + MADE, [b"verify", b"image", b"graph"],
+    way = way_of(case)
+    words = draw.choice([way.hardens(sample.entry, policy(case)), [b"verify", b"image", b"graph"],
                          [b"run", b"image", b"graph", b"script", b"input", steps(case)],
-                         [b"compare", b"object", sample.entry, b"none", b"image", b"map", b"input", steps(case)]])
+                         way.compares(sample.entry, b"none", b"image", b"map", steps(case))])
     for _ in range(draw.choice([1, 1, 2, 4])):
         at = draw.randrange(len(words) + 1)
         word = draw.choice(WORDS + words + samples.entries(sample.object))
         words[at:at + draw.choice([0, 1, 1, 1])] = draw.choice([[word], [word], [word], []])
-    if not asks_text(words) and words[:1] != [b"demo"]:
+    if not asks_text(words) and not demonstrates(words):
         case.ask(*words)
 
 
@@ -151,5 +196,5 @@ def turned_case(case, all_samples):
     usable = [it for it in all_samples if is_usable(kind, it)]
     sample, = case.draw.choices(usable, [1 / (samples.USUAL + len(it.object) + len(it.image or b"")) for it in usable])
     case.figures.cases[kind.__name__.replace("_turned", "")] += 1
-    laid_out(case, sample)
+    laid_out(case, sample, case.draw.choice([it for it in usable if len(it.object) < samples.USUAL] or [sample]))
     kind(case, sample)

@@ -1,8 +1,8 @@
 """What is turned: objects, and the images, graphs and maps that the program makes of them, with policies and scripts.
 
 The objects are those of tests/objects, those of bench/families.py that do not name the same bytes as two sections, and, where
-compilers are there, the programs of tests/real. Each second one is hardened under a list of system calls. Images for several harts are
-those that tests/harts draws, each beside an object that is not its own.
+compilers are there, the programs of tests/real. They are hardened in the four forms in turn, in each form every other one under a list
+of system calls. Images for several harts are also those that tests/harts draws, each beside an object that is not its own.
 """
 
 import os
@@ -23,7 +23,8 @@ from turns import SYMTAB, sections
 LEVELS = ["-O0", "-O2"]
 SIZES = 3000, 50000  # bytes of an object of a family
 USUAL = 20000  # bytes of a sample: larger ones are drawn less often
-FOR_HARTS = 12  # how many images are for several harts
+FOR_HARTS = 12  # how many images for several harts are drawn
+FORMS = [b"plain", b"harts", b"split", b"harts-split"]
 DATA, STACK = 0x10000, 0x10000000
 INPUT = b"1+2*3\n(4 - 10) * -7\n" + programs.PROGRAMS[-1].input
 
@@ -35,7 +36,7 @@ class Symbol(NamedTuple):
 
 
 class Sample(NamedTuple):
-    """An object with a name of a function of it, its image, graph and map where it can be hardened, and a policy of it."""
+    """An object with a name of a function of it, its image, graph and map where it can be hardened, in a form, and a policy of it."""
     name: str
     object: bytes
     entry: bytes
@@ -43,6 +44,7 @@ class Sample(NamedTuple):
     graph: Optional[bytes]
     map: Optional[bytes]
     policy: Optional[bytes]
+    form: bytes
 
     @property
     def is_listed(self):
@@ -83,7 +85,8 @@ def policy_of(content, graph, map_file):
     """A policy that lets each computed transfer go where the graph has it, as far as symbols name the places."""
     rows = [tuple(int(word, 16) for word in line.split()[1:]) for line in map_file.splitlines() if line.startswith(b"at ")]
     lines = [line.split() for line in graph.splitlines()]
-    classes = {words[1]: [place_of(content, rows, int(word, 16)) for word in words[2:]] for words in lines if words[0] == b"class"}
+    classes = {words[1]: [place_of(content, rows, int(word, 16)) for word in words[2:]]
+               for words in lines if words[0] in (b"class", b"callclass", b"jumpclass")}
     sites = [[place_of(content, rows, int(words[1], 16))] + classes[words[3]] for words in lines if words[0] == b"site"]
     whole = [b" ".join([b"site"] + [it for it in places if it]) for places in sites if places[0]]
     calls = [line for line in graph.splitlines()[2:3] if line.startswith(b"calls ")]
@@ -152,18 +155,24 @@ def list_of(number, folder):
     return path
 
 
-def sample(name, content, policy, program, folder):
-    """A sample of an object, hardened at the first of its names that is taken."""
+def form_of(number):
+    """The form of an object, by its number: two after one another have one form, the second of them a list."""
+    return FORMS[number // 2 % len(FORMS)]
+
+
+def sample(name, content, form, policy, program, folder):
+    """A sample of an object, hardened in a form at the first of its names that is taken."""
     path = os.path.join(folder, "object")
     with open(path, "wb") as file:
         file.write(content)
     made = [os.path.join(folder, end) for end in ("image", "graph", "map")]
     names = entries(content)[:5] or [b"main"]
     for entry in names:
-        if program.call([b"rewrite", path, entry, policy] + made, folder).status == 0:
+        words = [b"rewrite"] if form == b"plain" else [b"harden", form]
+        if program.call(words + [path, entry, policy] + made, folder).status == 0:
             image, graph, map_file = (read(path) for path in made)
-            return Sample(name, content, entry, image, graph, map_file, policy_of(content, graph, map_file))
-    return Sample(name, content, names[0], None, None, None, None)
+            return Sample(name, content, entry, image, graph, map_file, policy_of(content, graph, map_file), form)
+    return Sample(name, content, names[0], None, None, None, None, form)
 
 
 def for_harts(hardened):
@@ -175,5 +184,6 @@ def for_harts(hardened):
 
 
 def samples(program, folder):
-    found = [sample(name, content, list_of(k, folder), program, folder) for k, (name, content) in enumerate(objects(folder).items())]
+    found = [sample(name, content, form_of(k), list_of(k, folder), program, folder)
+             for k, (name, content) in enumerate(objects(folder).items())]
     return found + list(for_harts([it for it in found if it.image and len(it.object) < USUAL]))

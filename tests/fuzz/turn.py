@@ -6,16 +6,19 @@
 Objects, images, graphs, maps, policies, scripts and command lines are turned: bits, bytes, ranges, fields of headers, rows of
 tables, words of code, lines, numbers at their limits, cut and longer files (turns.py, cases.py). Each case draws from the seed
 and its own number, so `--seed TEXT --case NUMBER` is that case again, by the same compilers and the same program. `rewrite`,
-`verify`, `run` and `compare` are asked, and of each call:
+`harden` and `link` in the four forms, `verify`, `run`, `compare` and `compare-link` are asked, `demo` by wrong words alone, and of
+each call:
 
 - its status is one that docs/COMMANDS.md names for the command, and its text is one of the status's forms (answers.py);
 - nothing goes to standard error, and no signal ends it;
-- it changes, makes and removes no file but the three of a `rewrite` that ends with status 0 or 4;
+- it changes, makes and removes no file but the three of a `rewrite`, a `harden` or a `link` that ends with status 0 or 4;
 - it takes at most a second of a processor, or one for each 64 KiB that it reads, prints or writes;
 - its memory is at most 64 times what it reads, prints and writes, beside what each call has: the pages of the program and of the
-  C library, and 176 KiB; for `run` also 320 KiB, a machine's table of pages and the first of them, for `compare` those of two;
-- what `rewrite` makes, `verify` accepts, `compare` takes and never says `differs` of, and `run` runs; and `run` says of a pair
-  that is refused or rejected just what `verify` says.
+  C library, and 176 KiB; for `run` also 320 KiB, a machine's table of pages and the first of them, for `compare` and `compare-link`
+  those of two;
+- what is hardened, `verify` accepts, `compare` or `compare-link` takes and never says `differs` of, and `run` runs, to its end
+  within as many steps for each of the program's as the form has; and `run` says of a pair that is refused or rejected just what
+  `verify` says.
 
 One kind of failure is known: a system call may write 2^28 bytes, so a turned program can keep `run` and `compare` busy for seconds
 and want hundreds of megabytes, however small STEPS is. Objects whose sections are the same bytes of the file, of which
