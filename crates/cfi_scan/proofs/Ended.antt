@@ -11,18 +11,19 @@ use Rattle.cfi_unit.specs.Members.{MOST_MEMBERS}
 use Rattle.cfi_unit.specs.UnitWords.{Fits, instr_at, is_jump, may_precede, near_offset, skip_offset, skips_jump, word_count, words_of}
 use Rattle.cfi_unit.specs.Recognise.{near_to, recognised}
 use Rattle.cfi_unit.proofs.Found.{words_counted}
-use Rattle.cfi_scan.specs.declared.entry.Entry.{Entry}
-use Rattle.cfi_scan.specs.declared.entry.Entry.TheVariants as E
-use Rattle.cfi_scan.specs.declared.reader.Reader.{Reader}
-use Rattle.cfi_scan.specs.declared.reader.Reader.TheVariants as R
-use Rattle.cfi_scan.specs.declared.reader.Step.TheVariants.{More, Done}
-use Rattle.cfi_scan.specs.Entries.{entries_of, entry_of, inside}
-use Rattle.cfi_scan.specs.PlainWord.{IsPlainWord}
-use Rattle.cfi_scan.proofs.FirstWord.{plain_word_leads}
-use Rattle.cfi_scan.specs.Stream.{AllStand, IsReading, IsSplitUp, LeadsOn, Splits, belongs, is_open, last_of, spelled, whole_entry, width}
-use Rattle.cfi_scan.specs.Fields.{stores_there}
-use Rattle.cfi_scan.proofs.Open.{none_open}
-use Rattle.cfi_scan.proofs.StoreReader.{no_member}
+use Rattle.cfi_reader.specs.declared.entry.Entry.{Entry}
+use Rattle.cfi_reader.specs.declared.entry.Entry.TheVariants as E
+use Rattle.cfi_reader.specs.declared.reader.Reader.{Reader}
+use Rattle.cfi_reader.specs.declared.reader.Reader.TheVariants as R
+use Rattle.cfi_reader.specs.declared.reader.Step.TheVariants.{More, Done}
+use Rattle.cfi_reader.specs.Entries.{entries_of, entry_of, inside}
+use Rattle.cfi_reader.specs.PlainWord.{IsPlainWord}
+use Rattle.cfi_reader.proofs.FirstWord.{plain_word_leads}
+use Rattle.cfi_reader.specs.Reading.{IsReading, LeadsOn, belongs, is_open, whole_entry}
+use Rattle.cfi_scan.specs.Stream.{AllStand, IsSplitUp, Splits, last_of, spelled, width}
+use Rattle.cfi_reader.specs.Fields.{stores_there}
+use Rattle.cfi_reader.proofs.Open.{none_open}
+use Rattle.cfi_reader.proofs.StoreReader.{no_member}
 use Rattle.cfi_scan.proofs.Row.{entries_length, entries_set, inside_length, last_more, spelled_length, spelled_more, stand_more, width_more}
 
 -- the words so far are units, before what may follow the last of them

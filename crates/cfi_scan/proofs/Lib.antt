@@ -1,13 +1,3 @@
-pub mod Template
-pub mod Transfers
-pub mod GuardWords
-pub mod GuardReader
-pub mod StoreReader
-pub mod CheckReader
-pub mod FirstWord
-pub mod JumpWord
 pub mod Row
-pub mod Open
 pub mod Ended
 pub mod Pieces
-pub mod PlainWord

@@ -3,11 +3,11 @@ use Rattle.std.proofs.Common.{◌≡◌, ℕ, ◌+◌, ◌*◌, ◌/◌, ◌%◌
 use Rattle.std.proofs.lemmas.List.{append-nil, append_assoc, length_push, length-append, take_more_set, take_all, nil_from_length}
 use Rattle.std.proofs.lemmas.Bool.{cases_eq, eq-eqb, ne_eqb}
 use Rattle.rv_word.specs.MemoryMap.{Profile}
-use Rattle.cfi_scan.specs.declared.entry.Entry.{Entry}
+use Rattle.cfi_reader.specs.declared.entry.Entry.{Entry}
 use Rattle.cfi_scan.specs.declared.kept.Kept.{Kept}
-use Rattle.cfi_scan.specs.declared.reader.Reader.TheVariants as R
+use Rattle.cfi_reader.specs.declared.reader.Reader.TheVariants as R
 use Rattle.cfi_scan.specs.Carry.{Taken, after_byte, made, word_of}
-use Rattle.cfi_scan.specs.Entries.{entries_of, inside}
+use Rattle.cfi_reader.specs.Entries.{entries_of, inside}
 use Rattle.cfi_scan.specs.Pieces.{HasSeen, IsCut, IsOf, Keeps, Sight, ends, goes_on, prologue_count}
 use Rattle.cfi_scan.specs.Stream.{AllStand, IsSplitUp, Splits, last_of, spelled, width}
 

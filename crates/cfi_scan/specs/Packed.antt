@@ -2,8 +2,8 @@
 -- The kinds that are no transfer, no gate and no system call come first.
 use Rattle.std.specs.Prelude.{◌≡◌, ℕ, ◌+◌, ◌*◌, ◌/◌, ◌%◌, ◌^◌, ◌==◌, true, false, if◌then◌else◌}
 use Rattle.cfi_unit.specs.declared.target_word.TargetWord.TheVariants.{First, Second}
-use Rattle.cfi_scan.specs.declared.entry.Entry.{Entry}
-use Rattle.cfi_scan.specs.declared.entry.Entry.TheVariants as E
+use Rattle.cfi_reader.specs.declared.entry.Entry.{Entry}
+use Rattle.cfi_reader.specs.declared.entry.Entry.TheVariants as E
 
 abbrev pub packed : Entry → ℕ
 packed E.Inside = 0

@@ -1,7 +1,6 @@
 ghost use Rattle.std.specs.Prelude.{◌≡◌, ◌+◌, ◌-◌, ◌*◌, ◌/◌, ◌%◌, ◌<◌, ◌≤◌, ◌^◌, ℕ, List, IfOk, [], ◌∷◌, ◌++◌, length};
 ghost use Rattle.rv_word.specs.MemoryMap.{CODE_SIZE, profile_of};
-ghost use Rattle.cfi_scan.specs.Carry.{word_of};
-ghost use Rattle.cfi_scan.specs.Entries.{numbers_or_none};
+ghost use Rattle.cfi_reader.specs.Entries.{numbers_or_none};
 ghost use Rattle.cfi_scan.specs.Pieces.{HasSeen, IsOf, prologue_count};
 
 use crate::carry::Carry;

@@ -3,27 +3,16 @@
 //! keeps the words.
 #![tactic(auto)]
 
-pub use entry::Entry;
+pub use cfi_reader::Entry;
 pub use feeder::Feeder;
 pub use listing::Listing;
-pub use reader::{Reader, Step};
 pub use steps::Steps;
 
-mod branch;
-mod call;
 mod carry;
-mod check;
-mod entry;
 mod feeder;
-mod first;
 mod front;
-mod guard;
 mod kept;
-mod leave;
 mod listing;
 mod packed;
-mod plain;
-mod reader;
 mod splitter;
 mod steps;
-mod store;

@@ -1,12 +1,12 @@
 ghost use Rattle.std.specs.Prelude.{◌≡◌, ◌+◌, ◌*◌, ◌<◌, ◌≤◌, ℕ, Some, slice_get, true};
 ghost use Rattle.rv_word.specs.MemoryMap.{CODE_START, profile_of};
-ghost use Rattle.cfi_scan.specs.Entries.{is_quiet, is_started};
-ghost use Rattle.cfi_scan.specs.declared.entry.Entry.{Entry};
+ghost use Rattle.cfi_reader.specs.Entries.{is_quiet, is_started};
+ghost use Rattle.cfi_reader.specs.declared.entry.Entry.{Entry};
 ghost use Rattle.cfi_scan.specs.Pieces.{prologue_count};
 
-use crate::entry::Entry;
 use crate::front::Front;
 use crate::packed::Packed;
+use cfi_reader::Entry;
 use std::marker::Model;
 
 /// What is left of a code that has ended: the words of its prologue, and one entry for each word after

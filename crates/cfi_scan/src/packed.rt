@@ -1,9 +1,9 @@
 ghost use Rattle.std.specs.Prelude.{◌≡◌};
-ghost use Rattle.cfi_scan.specs.Entries.{is_quiet, is_unit};
+ghost use Rattle.cfi_reader.specs.Entries.{is_quiet, is_unit};
 ghost use Rattle.cfi_scan.specs.Packed.{of_kind, packed, unpacked};
-ghost use Rattle.cfi_scan.specs.declared.entry.Entry.TheVariants as E;
+ghost use Rattle.cfi_reader.specs.declared.entry.Entry.TheVariants as E;
 
-use crate::entry::Entry;
+use cfi_reader::Entry;
 use cfi_unit::TargetWord;
 use rv_instr::Immediate;
 use std::marker::Model;
@@ -15,7 +15,7 @@ pub(crate) struct Packed {
 }
 
 impl Model for Packed {
-    ghost use Rattle.cfi_scan.specs.declared.entry.Entry.{Entry};
+    ghost use Rattle.cfi_reader.specs.declared.entry.Entry.{Entry};
 
     ghost Value = { Entry };
 

@@ -1,15 +1,14 @@
-ghost use Rattle.std.specs.Prelude.{◌≡◌, ◌+◌, ◌*◌, ◌<◌, ◌≤◌, ℕ, List, IfOk, [], ◌∷◌, ◌++◌, length, slice_set};
+ghost use Rattle.std.specs.Prelude.{◌≡◌, ◌<◌, ◌≤◌, ℕ, List, IfOk, [], ◌∷◌, ◌++◌, length, slice_set};
 ghost use Rattle.rv_word.specs.MemoryMap.{profile_of};
-ghost use Rattle.cfi_scan.specs.Entries.{inside};
+ghost use Rattle.cfi_reader.specs.Entries.{inside};
 ghost use Rattle.cfi_scan.specs.Pieces.{HasPlace};
-ghost use Rattle.cfi_scan.specs.Stream.{IsSplitUp, MayTake, Splits};
-ghost use Rattle.cfi_scan.specs.declared.reader.Reader.TheVariants as R;
+ghost use Rattle.cfi_reader.specs.Reading.{MayTake};
+ghost use Rattle.cfi_scan.specs.Stream.{IsSplitUp, Splits};
+ghost use Rattle.cfi_reader.specs.declared.reader.Reader.TheVariants as R;
 
-use crate::entry::Entry;
 use crate::front::Front;
 use crate::packed::Packed;
-use crate::plain::is_plain_word;
-use crate::reader::{Reader, Step, next};
+use cfi_reader::{Entry, Reader, Step, is_plain_word, next};
 use rv_word::{NoMemory, Numbers};
 use std::alloc::Global;
 

@@ -8,9 +8,9 @@ use Rattle.cfi_unit.specs.declared.unit.Unit as U
 use Rattle.cfi_unit.specs.Recognise.{recognised}
 use Rattle.cfi_unit.specs.UnitWords.{Fits, may_precede, word_count, words_of}
 use Rattle.cfi_unit.proofs.Found.{found, words_counted}
-use Rattle.cfi_scan.specs.declared.entry.Entry.{Entry}
-use Rattle.cfi_scan.specs.declared.entry.Entry.TheVariants as E
-use Rattle.cfi_scan.specs.Entries.{entries_of, entry_of, inside}
+use Rattle.cfi_reader.specs.declared.entry.Entry.{Entry}
+use Rattle.cfi_reader.specs.declared.entry.Entry.TheVariants as E
+use Rattle.cfi_reader.specs.Entries.{entries_of, entry_of, inside}
 use Rattle.cfi_scan.specs.Stream.{AllStand, last_of, spelled, width}
 use Rattle.cfi_verify.specs.Entries.{or_inside}
 use Rattle.cfi_rules.specs.Split.{is_marked, starts}

@@ -12,9 +12,9 @@ use Rattle.cfi_graph.specs.declared.line.GraphLine.TheVariants.{SystemCalls, Cla
 use Rattle.cfi_graph.specs.declared.line.Key.TheVariants.{Address}
 use Rattle.cfi_graph.specs.Graph.{GraphParts, IsGraph, calls_in, is_rising, key_below, key_of}
 use Rattle.cfi_graph.proofs.Rising.{key_transitive}
-use Rattle.cfi_scan.specs.declared.entry.Entry.{Entry}
-use Rattle.cfi_scan.specs.declared.entry.Entry.TheVariants as E
-use Rattle.cfi_scan.specs.Entries.{is_quiet}
+use Rattle.cfi_reader.specs.declared.entry.Entry.{Entry}
+use Rattle.cfi_reader.specs.declared.entry.Entry.TheVariants as E
+use Rattle.cfi_reader.specs.Entries.{is_quiet}
 use Rattle.cfi_scan.specs.Pieces.{Listed, prologue_count}
 use Rattle.cfi_verify.specs.Entries.{Tells, call_at, call_in, count_of, edge_in, entry_at, fails_at, fails_end_at, fails_gate_at, fails_unit_at, gate_at, gate_in, is_barred, is_barred_at, is_lone_at, is_stop_entry, is_unused_at, misses_start, numbers_in, or_inside, site_in, starts_at}
 use Rattle.cfi_rules.specs.Lines.{holds_of, is_outside, line_at, targets_for}

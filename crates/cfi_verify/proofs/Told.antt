@@ -19,12 +19,12 @@ use Rattle.cfi_unit.specs.declared.place.Place.{Place}
 use Rattle.cfi_unit.specs.declared.place.Place.TheVariants.{Handler as handler, Opening as opening, Closing as closing, Body as body}
 use Rattle.cfi_unit.specs.Recognise.{recognised, target_in}
 use Rattle.cfi_unit.specs.UnitWords.{BAD_TARGET, BAD_RETURN, DEEP, Fits, word_count}
-use Rattle.cfi_scan.specs.declared.entry.Entry.{Entry}
-use Rattle.cfi_scan.specs.declared.entry.Entry.TheVariants as E
-use Rattle.cfi_scan.specs.Entries.{entry_of as entry_of_unit, numbers_or_none}
+use Rattle.cfi_reader.specs.declared.entry.Entry.{Entry}
+use Rattle.cfi_reader.specs.declared.entry.Entry.TheVariants as E
+use Rattle.cfi_reader.specs.Entries.{entry_of as entry_of_unit, numbers_or_none}
 use Rattle.cfi_scan.specs.Pieces.{IsOf, Listed, prologue_count}
 use Rattle.cfi_scan.specs.Stream.{IsSplitUp, last_of, spelled, width}
-use Rattle.cfi_scan.specs.Entries.{is_unit}
+use Rattle.cfi_reader.specs.Entries.{is_unit}
 use Rattle.cfi_verify.specs.Entries.{Tells, call_at, call_in, count_of, edge_at, edge_in, entry_at, fails_at, gate_at, gate_in, is_bad_end_at, is_barred, is_barred_at, numbers_in, is_lone_at, is_stop_entry, is_unused_at, misses_start, or_inside, site_at, site_in, starts_at}
 use Rattle.cfi_rules.specs.Lines.{is_outside, holds_of, line_at, targets_for, is_among, read_of}
 use Rattle.cfi_rules.specs.Rules.{admits, admitted_in, call_of, edge_of, fails, fails_prologue, gate_label, gate_of, has_unit, jump_word, is_astray, is_bad_end, is_borne, is_call_to, is_edge_to, is_label, is_lone_site, is_site_with, is_stop, is_unused, lacks_gate, prologue_word_fits, same_word, site_of}

@@ -10,9 +10,9 @@ use Rattle.cfi_graph.specs.Graph.{GraphParts, calls_in}
 use Rattle.cfi_unit.specs.declared.target_word.TargetWord.{TargetWord}
 use Rattle.cfi_unit.specs.declared.target_word.TargetWord.TheVariants.{First}
 use Rattle.cfi_unit.specs.Recognise.{led_to, near_to}
-use Rattle.cfi_scan.specs.declared.entry.Entry.{Entry}
-use Rattle.cfi_scan.specs.declared.entry.Entry.TheVariants as E
-use Rattle.cfi_scan.specs.Entries.{is_unit, numbers_or_none}
+use Rattle.cfi_reader.specs.declared.entry.Entry.{Entry}
+use Rattle.cfi_reader.specs.declared.entry.Entry.TheVariants as E
+use Rattle.cfi_reader.specs.Entries.{is_unit, numbers_or_none}
 use Rattle.cfi_scan.specs.Pieces.{Listed, prologue_count}
 use Rattle.cfi_scan.specs.Stream.{IsSplitUp}
 use Rattle.cfi_rules.specs.Lines.{holds_of, is_outside, line_at, targets_for}

@@ -1,7 +1,7 @@
 //! One pass that tells whether all rules hold, so that the first that fails is looked for only where one does.
 
 ghost use Rattle.std.specs.Prelude.{◌≡◌, ◌+◌, ◌*◌, ◌<◌, ◌≤◌, ◌^◌, ℕ, IfSome, List, None, Some, false, length, true};
-ghost use Rattle.cfi_scan.specs.Entries.{is_quiet};
+ghost use Rattle.cfi_reader.specs.Entries.{is_quiet};
 ghost use Rattle.cfi_verify.specs.Entries.{Tells, count_of, entry_at, fails_gate_at, gate_at, numbers_in, starts_at};
 ghost use Rattle.cfi_rules.specs.Lines.{line_at};
 ghost use Rattle.cfi_verify.specs.Pass.{HasPassed, HoldsAt, HoldsEarly, NoneStands, ends_in_stop};

@@ -5,7 +5,7 @@ ghost use Rattle.std.specs.Option.{option_copied};
 ghost use Rattle.rv_word.specs.MemoryMap.{CODE_SIZE, CODE_START};
 ghost use Rattle.cfi_graph.specs.Graph.{IsGraph, is_rising};
 ghost use Rattle.cfi_scan.specs.Pieces.{prologue_count};
-ghost use Rattle.cfi_scan.specs.declared.entry.Entry.TheVariants as E;
+ghost use Rattle.cfi_reader.specs.declared.entry.Entry.TheVariants as E;
 ghost use Rattle.cfi_verify.specs.Entries.{entry_at, or_inside, starts_at};
 ghost use Rattle.cfi_rules.specs.Lines.{class_with, line_at, targets_for};
 ghost use Rattle.cfi_verify.specs.Scan.{AreStarts, profile_in};

@@ -1,5 +1,5 @@
 use Rattle.std.proofs.Common.{ap, replicate, ◌∙◌}
-use Rattle.cfi_scan.specs.declared.entry.Entry.{Entry}
+use Rattle.cfi_reader.specs.declared.entry.Entry.{Entry}
 use Rattle.cfi_scan.proofs.Row.{inside_is}
 use Rattle.cfi_scan.proofs.splitter.nothing.Goals as goal
 

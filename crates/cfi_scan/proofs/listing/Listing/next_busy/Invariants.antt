@@ -1,7 +1,7 @@
 use Rattle.std.proofs.Common.{◌≡◌, ◌≤◌, ◌<◌, ◌-◌, ℕ, Some, true}
 use Rattle.std.specs.Prelude.{slice_get}
-use Rattle.cfi_scan.specs.Entries.{is_quiet}
-use Rattle.cfi_scan.specs.declared.entry.Entry.{Entry}
+use Rattle.cfi_reader.specs.Entries.{is_quiet}
+use Rattle.cfi_reader.specs.declared.entry.Entry.{Entry}
 use Rattle.cfi_scan.proofs.listing.Listing.next_busy.Given as goal
 
 abbrev pub invariant-loop-index : goal.invariant-loop-index

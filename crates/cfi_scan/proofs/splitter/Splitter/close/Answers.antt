@@ -1,6 +1,6 @@
 use Rattle.std.proofs.Common.{◌≡◌, ◌+◌, ◌*◌, ◌<◌, ◌≤◌, ◌^◌, false, length, slice_set, true, ap, sym, ◌∙◌, arith}
 use Rattle.rv_word.specs.MemoryMap.{profile_of}
-use Rattle.cfi_scan.specs.Stream.{is_open}
+use Rattle.cfi_reader.specs.Reading.{is_open}
 use Rattle.cfi_scan.proofs.Ended.{as_split_up, up_open, up_whole}
 use Rattle.cfi_scan.proofs.splitter.Splitter.close.Goals as goal
 

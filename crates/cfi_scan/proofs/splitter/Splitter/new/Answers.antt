@@ -1,5 +1,5 @@
 use Rattle.std.proofs.Common.{List, length, ap, ◌∙◌}
-use Rattle.cfi_scan.specs.declared.entry.Entry.{Entry}
+use Rattle.cfi_reader.specs.declared.entry.Entry.{Entry}
 use Rattle.cfi_scan.proofs.Row.{inside_length}
 use Rattle.cfi_scan.proofs.splitter.Splitter.new.Goals as goal
 

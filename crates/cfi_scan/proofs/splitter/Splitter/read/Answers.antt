@@ -1,7 +1,7 @@
 use Rattle.std.proofs.Common.{◌≡◌, ◌+◌, ◌*◌, ◌<◌, ℕ, [], ◌∷◌, ◌++◌, length, ap, sym, ◌∙◌, subst, arith}
 use Rattle.rv_word.specs.MemoryMap.{profile_of}
-use Rattle.cfi_scan.specs.declared.reader.Step.TheVariants.{Done, More}
-use Rattle.cfi_scan.specs.Stream.{LeadsOn}
+use Rattle.cfi_reader.specs.declared.reader.Step.TheVariants.{Done, More}
+use Rattle.cfi_reader.specs.Reading.{LeadsOn}
 use Rattle.cfi_scan.proofs.Ended.{as_ended, splits_on, splits_unit}
 use Rattle.cfi_scan.proofs.splitter.Splitter.read.Goals as goal
 

@@ -1,6 +1,6 @@
 use Rattle.std.proofs.Common.{◌+◌, ◌*◌, ◌<◌, ◌≤◌, ◌^◌, [], ◌∷◌, length, slice_set, ap, sym, ◌∙◌, arith}
 use Rattle.rv_word.specs.MemoryMap.{profile_of}
-use Rattle.cfi_scan.specs.Stream.{belongs}
+use Rattle.cfi_reader.specs.Reading.{belongs}
 use Rattle.cfi_scan.proofs.Ended.{as_ended, splits_before, splits_whole}
 use Rattle.cfi_scan.proofs.splitter.Splitter.settle.Goals as goal
 

@@ -1,7 +1,7 @@
 use Rattle.std.proofs.Common.{rules, ◌≡◌, ◌+◌, ◌<◌, ℕ, [], ◌∷◌, ◌++◌, length, ap, sym, ◌∙◌, arith}
 use Rattle.rv_word.specs.MemoryMap.{profile_of}
-use Rattle.cfi_scan.specs.PlainWord.{IsPlainWord}
-use Rattle.cfi_scan.specs.declared.reader.Reader.TheVariants as R
+use Rattle.cfi_reader.specs.PlainWord.{IsPlainWord}
+use Rattle.cfi_reader.specs.declared.reader.Reader.TheVariants as R
 use Rattle.cfi_scan.proofs.Ended.{as_ended, splits_before, splits_plain}
 use Rattle.cfi_scan.proofs.splitter.Splitter.take.Goals as goal
 

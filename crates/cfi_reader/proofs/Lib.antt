@@ -1,0 +1,10 @@
+pub mod Template
+pub mod Transfers
+pub mod GuardWords
+pub mod GuardReader
+pub mod StoreReader
+pub mod CheckReader
+pub mod FirstWord
+pub mod JumpWord
+pub mod Open
+pub mod PlainWord

@@ -1,0 +1,5 @@
+pub mod Entries
+pub mod Fields
+pub mod Reading
+pub mod FirstStep
+pub mod PlainWord
