@@ -1,10 +1,10 @@
 -- What a step adds to the events: no instruction but a system call adds one, and that is made only where
 -- a unit may call.
-use Rattle.std.proofs.Common.{◌≡◌, ℕ, zero, suc, ◌+◌, ◌*◌, ◌==◌, ◌&&◌, ◌||◌, ◌^◌, ◌⊎◌, Bool, true, false, not, inl, inr, List, [], ◌∷◌, ◌++◌, length, Some, refl, sym, ap, subst, ◌∙◌, arith}
-use Rattle.std.specs.Prelude.{map, nat_le, slice_get}
-use Rattle.std.proofs.lemmas.Bool.{and_parts, cond_both}
+use Rattle.std.proofs.Common.{◌≡◌, ℕ, zero, suc, ◌+◌, ◌*◌, ◌==◌, ◌||◌, ◌^◌, ◌⊎◌, true, false, inl, inr, List, [], ◌∷◌, ◌++◌, length, Some, refl, sym, ap, subst, ◌∙◌, arith}
+use Rattle.std.specs.Prelude.{nat_le, slice_get}
+use Rattle.std.proofs.lemmas.Bool.{cond_both}
 use Rattle.std.proofs.lemmas.Option.{slice_get_cases, slice_get_within}
-use Rattle.rv_word.specs.MemoryMap.{IsProfile, Profile, can_load, can_store}
+use Rattle.rv_word.specs.MemoryMap.{Profile, can_load, can_store}
 use Rattle.rv_word.specs.Memory.{Memory}
 use Rattle.rv_word.specs.Numbers.{is_listed}
 use Rattle.rv_instr.specs.Registers.{Registers, get_reg}
@@ -16,13 +16,11 @@ use Rattle.rv_code.specs.State.{Hart, Shared, After}
 use Rattle.rv_code.specs.Step.{exec, address}
 use Rattle.rv_code.specs.SystemCall.{answers, event_of, system_call, write_call, read_call}
 use Rattle.rv_code.specs.declared.event.Event.{Event}
-use Rattle.cfi_unit.specs.declared.members.Member.{Member}
 use Rattle.cfi_unit.specs.declared.unit.Unit as U
 use Rattle.cfi_unit.specs.declared.unit.Unit.TheVariants as V
 use Rattle.cfi_unit.specs.declared.unit.SystemOp.TheVariants as S
-use Rattle.cfi_unit.specs.Members.{member_instr}
 use Rattle.cfi_unit.specs.Guarded.{guards}
-use Rattle.cfi_unit.specs.UnitWords.{BAD_TARGET, Fits, instrs_of, is_plain, jump}
+use Rattle.cfi_unit.specs.UnitWords.{BAD_TARGET, Fits, instrs_of, jump}
 use Rattle.cfi_unit.specs.Prologue.{closing_instrs, handler_instrs, opening_instrs}
 use Rattle.cfi_unit.specs.Place.{Place, handler, opening, closing, body, place_instrs}
 use Rattle.cfi_unit.specs.InPlace.{InPlace, InUnit, InGuarded, guarded_load, guarded_test, guarded_other, guarded_call, InClosing, closing_number, closing_ecall}
@@ -31,6 +29,7 @@ use Rattle.cfi_unit.specs.EventLaw.{Adds, EventLaw, MayCall, UnitMayCall, adds_n
 use Rattle.cfi_unit.proofs.Context.{at_word}
 use Rattle.cfi_unit.proofs.Gates.{place_length}
 use Rattle.cfi_unit.proofs.PlaceWords.{place_word}
+use Rattle.cfi_unit.proofs.Sought.{is_sought, lacks, members_lack, nowhere, opening_lacks, plain_lacks}
 
 -- a system call adds one event, with the number in x17
 pub record AddsOne (h : Hart) (s : Shared) (after : After) : Type 0 where
@@ -66,22 +65,7 @@ module _ (h : Hart) (s : Shared) where
       (λ is. record { event = event_of h [] 0; added = refl; number = refl }) (λ rest. answers_add _ _ _ refl)))
 
 -- no other instruction adds one
-abbrev is_call : Instr → Bool
-is_call (Upper op rd imm) = false
-is_call (Jal rd imm) = false
-is_call (Jalr rd rs1 imm) = false
-is_call (Branch op rs1 rs2 imm) = false
-is_call (Load op rd rs1 imm) = false
-is_call (Store op rs1 rs2 imm) = false
-is_call (Immediate op rd rs1 imm) = false
-is_call (Shift op rd rs1 amount) = false
-is_call (ShiftWord op rd rs1 amount) = false
-is_call (Register op rd rs1 rs2) = false
-is_call (Fence word) = false
-is_call Ecall = true
-is_call Ebreak = false
-
-quiet : (p : Profile) (i : Instr) (h : Hart) (s : Shared) → is_call i ≡ false → (exec p i h s).shared.events ≡ s.events
+quiet : (p : Profile) (i : Instr) (h : Hart) (s : Shared) → is_sought false i ≡ false → (exec p i h s).shared.events ≡ s.events
 quiet p (Upper Lui rd imm) h s none = refl
 quiet p (Upper Auipc rd imm) h s none = refl
 quiet p (Jal rd imm) h s none = refl
@@ -99,43 +83,6 @@ quiet p (Register op rd rs1 rs2) h s none = refl
 quiet p (Fence word) h s none = refl
 quiet p Ecall h s none = absurd (cc)
 quiet p Ebreak h s none = refl
-
--- where instructions have a system call
-abbrev no_call : List Instr → Bool
-no_call [] = true
-no_call (i ∷ is) = not (is_call i) && no_call is
-
-nowhere : (is : List Instr) (k : ℕ) → no_call is ≡ true → slice_get is k ≡ Some Ecall → ⊥
-nowhere [] k none at = cc
-nowhere (i ∷ is) zero none at =
-    let same : i ≡ Ecall = cc in
-    let is_one : not (is_call i) ≡ false = ap (λ j. not (is_call j)) same in
-    let is_none : not (is_call i) ≡ true = (and_parts _ _ none).0 in
-    cc
-nowhere (i ∷ is) (suc k) none at = nowhere is k (and_parts _ _ none).1 at
-
-plain_call : (i : Instr) → is_plain i ≡ true → no_call (i ∷ []) ≡ true
-plain_call (Upper op rd imm) plain = refl
-plain_call (Jal rd imm) plain = refl
-plain_call (Jalr rd rs1 imm) plain = refl
-plain_call (Branch op rs1 rs2 imm) plain = refl
-plain_call (Load op rd rs1 imm) plain = refl
-plain_call (Store op rs1 rs2 imm) plain = refl
-plain_call (Immediate op rd rs1 imm) plain = refl
-plain_call (Shift op rd rs1 amount) plain = refl
-plain_call (ShiftWord op rd rs1 amount) plain = refl
-plain_call (Register op rd rs1 rs2) plain = refl
-plain_call (Fence word) plain = refl
-plain_call Ecall plain = absurd (cc)
-plain_call Ebreak plain = refl
-
-members_call : (members : List Member) → no_call (map member_instr members) ≡ true
-members_call [] = refl
-members_call (m ∷ members) = members_call members
-
-opening_call : (p : Profile) → IsProfile p → (entry : ℕ) → no_call (opening_instrs p entry) ≡ true
-opening_call p (inl e) entry = subst (λ (x : Profile). no_call (opening_instrs x entry) ≡ true) (sym e) refl
-opening_call p (inr e) entry = subst (λ (x : Profile). no_call (opening_instrs x entry) ≡ true) (sym e) refl
 
 -- behind the tests it is the last word
 last_call : (ns : List ℕ) (from to k : ℕ) → slice_get (guards ns ++ (jump from to ∷ Ecall ∷ [])) k ≡ Some Ecall → k ≡ 2 * length ns + 1
@@ -164,12 +111,12 @@ closing_call (suc zero) is = refl
 closing_call (suc (suc k)) is = absurd (cc)
 
 module _ (p : Profile) (part : ℕ) (image : Memory) (at : ℕ) (pending : List ℕ) (r : Registers) (h : Hart) (m : Memory) (k : ℕ) (here : h.pc ≡ at + 4 * k) where
-  none_there : (unit : U.Unit) → no_call (instrs_of unit at) ≡ true → slice_get (instrs_of unit at) k ≡ Some Ecall → UnitMayCall unit h
-  none_there unit none is = absurd (nowhere (instrs_of unit at) k none is)
+  none_there : (unit : U.Unit) → lacks false (instrs_of unit at) ≡ true → slice_get (instrs_of unit at) k ≡ Some Ecall → UnitMayCall unit h
+  none_there unit none is = absurd (nowhere false (instrs_of unit at) k Ecall refl none is)
 
   unit_may : (unit : U.Unit) → Fits unit at → InUnit part image unit at pending r h m → slice_get (instrs_of unit at) k ≡ Some Ecall → UnitMayCall unit h
   unit_may (V.Gate label) fits i is = none_there (V.Gate label) refl is
-  unit_may (V.Plain instr) fits i is = none_there (V.Plain instr) (plain_call instr fits.1) is
+  unit_may (V.Plain instr) fits i is = none_there (V.Plain instr) (plain_lacks false instr fits.1) is
   unit_may (V.Branch op rs1 rs2 target) fits i is = none_there (V.Branch op rs1 rs2 target) refl is
   unit_may (V.Near op rs1 rs2 target) fits i is = none_there (V.Near op rs1 rs2 target) refl is
   unit_may (V.Jump target) fits i is = none_there (V.Jump target) refl is
@@ -178,7 +125,7 @@ module _ (p : Profile) (part : ℕ) (image : Memory) (at : ℕ) (pending : List 
   unit_may (V.System S.Ebreak) fits i is = none_there (V.System S.Ebreak) refl is
   unit_may (V.Guarded ns) fits i is =
       let word = last_call ns (at + 8 * length ns) BAD_TARGET k is in guarded_may i (omega arith)
-  unit_may (V.Stores rs1 imm members) fits i is = none_there (V.Stores rs1 imm members) (members_call members) is
+  unit_may (V.Stores rs1 imm members) fits i is = none_there (V.Stores rs1 imm members) (members_lack false members) is
   unit_may (V.Call target) fits i is = none_there (V.Call target) refl is
   unit_may (V.Ijump which rs1 imm label) fits i is = none_there (V.Ijump which rs1 imm label) refl is
   unit_may (V.Icall rs1 imm label) fits i is = none_there (V.Icall rs1 imm label) refl is
@@ -186,14 +133,16 @@ module _ (p : Profile) (part : ℕ) (image : Memory) (at : ℕ) (pending : List 
 
   place_may : (place : Place) → MayStand p place at pending → InPlace p part image place at pending r h m →
       slice_get (place_instrs p place at) k ≡ Some Ecall → MayCall place at h
-  place_may handler may i is = absurd (nowhere handler_instrs k refl is)
-  place_may (opening entry) may i is = absurd (nowhere (opening_instrs p entry) k (opening_call p may.0 entry) is)
+  place_may handler may i is = absurd (nowhere false handler_instrs k Ecall refl refl is)
+  place_may (opening entry) may i is = absurd (nowhere false (opening_instrs p entry) k Ecall refl (opening_lacks false p may.0 entry) is)
   place_may closing may i is = let word = closing_call k is in closing_may i (omega arith)
   place_may (body unit) may i is = unit_may unit may.0 i is
 
-cases_call : (i : Instr) → (i ≡ Ecall) ⊎ (is_call i ≡ false)
+cases_call : (i : Instr) → (i ≡ Ecall) ⊎ (is_sought false i ≡ false)
 cases_call Ecall = inl refl
-cases_call (Upper op rd imm) = inr refl
+cases_call (Upper Lui zero imm) = inr refl
+cases_call (Upper Lui (suc rd) imm) = inr refl
+cases_call (Upper Auipc rd imm) = inr refl
 cases_call (Jal rd imm) = inr refl
 cases_call (Jalr rd rs1 imm) = inr refl
 cases_call (Branch op rs1 rs2 imm) = inr refl

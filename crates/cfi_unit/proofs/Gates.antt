@@ -1,29 +1,26 @@
 -- A label's word stands in code only as the gate of that label.
-use Rattle.std.proofs.Common.{◌≡◌, ℕ, zero, suc, ◌+◌, ◌-◌, ◌*◌, ◌/◌, ◌%◌, ◌^◌, ◌<◌, ◌≤◌, ◌&&◌, Bool, true, false, not, inl, inr, List, [], ◌∷◌, ◌++◌, length, Some, refl, sym, ap, subst, ◌∙◌, arith}
-use Rattle.std.specs.Prelude.{map, slice_get}
-use Rattle.std.proofs.lemmas.Bool.{and_parts}
+use Rattle.std.proofs.Common.{◌≡◌, ℕ, zero, suc, ◌+◌, ◌-◌, ◌*◌, ◌/◌, ◌%◌, ◌^◌, ◌<◌, ◌≤◌, true, inl, inr, List, [], ◌∷◌, ◌++◌, length, Some, refl, sym, ap, ◌∙◌, arith}
+use Rattle.std.specs.Prelude.{slice_get}
 use Rattle.std.proofs.lemmas.List.{length-append, length-map}
 use Rattle.std.proofs.lemmas.Option.{slice_get_cases}
-use Rattle.rv_word.specs.MemoryMap.{IsProfile, Profile}
+use Rattle.rv_word.specs.MemoryMap.{Profile}
 use Rattle.rv_word.specs.Memory.{Memory, read}
 use Rattle.rv_instr.specs.declared.instr.Instr.{Instr}
-use Rattle.rv_instr.specs.declared.instr.Instr.TheVariants.{Upper, Jal, Jalr, Branch, Load, Store, Immediate, Shift, ShiftWord, Register, Fence, Ecall, Ebreak}
-use Rattle.rv_instr.specs.declared.instr.UpperOp.TheVariants.{Lui, Auipc}
+use Rattle.rv_instr.specs.declared.instr.Instr.TheVariants.{Ecall}
 use Rattle.rv_code.specs.Decode.{decoded}
 use Rattle.rv_code.specs.Fields.{fields_of, imm_u}
 use Rattle.cfi_unit.specs.declared.unit.Unit as U
 use Rattle.cfi_unit.specs.declared.unit.Unit.TheVariants as V
 use Rattle.cfi_unit.specs.declared.unit.SystemOp.TheVariants as S
-use Rattle.cfi_unit.specs.declared.members.Member.{Member}
 use Rattle.cfi_unit.specs.Members.{member_instr}
 use Rattle.cfi_unit.specs.Guarded.{guards}
-use Rattle.cfi_unit.specs.UnitWords.{BAD_TARGET, Fits, gate, instrs_of, is_plain, jump, word_count}
-use Rattle.cfi_unit.specs.Prologue.{opening_instrs}
+use Rattle.cfi_unit.specs.UnitWords.{BAD_TARGET, Fits, gate, instrs_of, jump, word_count}
 use Rattle.cfi_unit.specs.Place.{Place, handler, opening, closing, body, place_instrs, place_size}
 use Rattle.cfi_unit.specs.Stand.{Stand}
 use Rattle.cfi_unit.specs.UnitLaw.{MayStand}
 use Rattle.cfi_unit.proofs.GuardedWords.{guards_counted}
 use Rattle.cfi_unit.proofs.Parts.{opening_length}
+use Rattle.cfi_unit.proofs.Sought.{lacks, members_lack, nowhere, opening_lacks, plain_lacks}
 
 -- the word that a check compares with is a gate
 pub gate_word : (word label : ℕ) → label < 2 ^ 20 → word ≡ label * 4096 + 55 → decoded word ≡ Some (gate label)
@@ -34,70 +31,19 @@ gate_word word label low is =
     let imm : imm_u (fields_of word) ≡ label = omega arith in
     rw (opcode, rd, imm) refl
 
-abbrev is_gate : Instr → Bool
-is_gate (Upper Lui zero imm) = true
-is_gate (Upper Lui (suc rd) imm) = false
-is_gate (Upper Auipc rd imm) = false
-is_gate (Jal rd imm) = false
-is_gate (Jalr rd rs1 imm) = false
-is_gate (Branch op rs1 rs2 imm) = false
-is_gate (Load op rd rs1 imm) = false
-is_gate (Store op rs1 rs2 imm) = false
-is_gate (Immediate op rd rs1 imm) = false
-is_gate (Shift op rd rs1 amount) = false
-is_gate (ShiftWord op rd rs1 amount) = false
-is_gate (Register op rd rs1 rs2) = false
-is_gate (Fence word) = false
-is_gate Ecall = false
-is_gate Ebreak = false
-
-abbrev no_gate : List Instr → Bool
-no_gate [] = true
-no_gate (i ∷ is) = not (is_gate i) && no_gate is
-
-nowhere : (is : List Instr) (k : ℕ) (label : ℕ) → no_gate is ≡ true → slice_get is k ≡ Some (gate label) → ⊥
-nowhere [] k label none at = cc
-nowhere (i ∷ is) zero label none at =
-    let same : i ≡ gate label = cc in
-    let is_one : not (is_gate i) ≡ false = ap (λ j. not (is_gate j)) same in
-    let is_none : not (is_gate i) ≡ true = (and_parts _ _ none).0 in
-    cc
-nowhere (i ∷ is) (suc k) label none at = nowhere is k label (and_parts _ _ none).1 at
-
-plain_gate : (i : Instr) → is_plain i ≡ true → no_gate (i ∷ []) ≡ true
-plain_gate (Upper Lui zero imm) plain = absurd (cc)
-plain_gate (Upper Lui (suc rd) imm) plain = refl
-plain_gate (Upper Auipc rd imm) plain = refl
-plain_gate (Jal rd imm) plain = refl
-plain_gate (Jalr rd rs1 imm) plain = refl
-plain_gate (Branch op rs1 rs2 imm) plain = refl
-plain_gate (Load op rd rs1 imm) plain = refl
-plain_gate (Store op rs1 rs2 imm) plain = refl
-plain_gate (Immediate op rd rs1 imm) plain = refl
-plain_gate (Shift op rd rs1 amount) plain = refl
-plain_gate (ShiftWord op rd rs1 amount) plain = refl
-plain_gate (Register op rd rs1 rs2) plain = refl
-plain_gate (Fence word) plain = refl
-plain_gate Ecall plain = refl
-plain_gate Ebreak plain = refl
-
-guards_gate : (ns : List ℕ) (rest : List Instr) → no_gate rest ≡ true → no_gate (guards ns ++ rest) ≡ true
+guards_gate : (ns : List ℕ) (rest : List Instr) → lacks true rest ≡ true → lacks true (guards ns ++ rest) ≡ true
 guards_gate [] rest none = none
 guards_gate (n ∷ ns) rest none = guards_gate ns rest none
 
-members_gate : (members : List Member) → no_gate (map member_instr members) ≡ true
-members_gate [] = refl
-members_gate (m ∷ members) = members_gate members
-
-other_unit : (unit : U.Unit) (at k label : ℕ) → no_gate (instrs_of unit at) ≡ true → slice_get (instrs_of unit at) k ≡ Some (gate label) →
+other_unit : (unit : U.Unit) (at k label : ℕ) → lacks true (instrs_of unit at) ≡ true → slice_get (instrs_of unit at) k ≡ Some (gate label) →
     (unit ≡ V.Gate label) × (k ≡ 0)
-other_unit unit at k label none is = absurd (nowhere (instrs_of unit at) k label none is)
+other_unit unit at k label none is = absurd (nowhere true (instrs_of unit at) k (gate label) refl none is)
 
 pub gate_unit : (unit : U.Unit) (at k label : ℕ) → Fits unit at → slice_get (instrs_of unit at) k ≡ Some (gate label) →
     (unit ≡ V.Gate label) × (k ≡ 0)
 gate_unit (V.Gate other) at zero label fits is = let same : other ≡ label = cc in (ap V.Gate same, refl)
 gate_unit (V.Gate other) at (suc k) label fits is = absurd (cc)
-gate_unit (V.Plain instr) at k label fits is = other_unit (V.Plain instr) at k label (plain_gate instr fits.1) is
+gate_unit (V.Plain instr) at k label fits is = other_unit (V.Plain instr) at k label (plain_lacks true instr fits.1) is
 gate_unit (V.Branch op rs1 rs2 target) at k label fits is = other_unit (V.Branch op rs1 rs2 target) at k label refl is
 gate_unit (V.Near op rs1 rs2 target) at k label fits is = other_unit (V.Near op rs1 rs2 target) at k label refl is
 gate_unit (V.Jump target) at k label fits is = other_unit (V.Jump target) at k label refl is
@@ -105,22 +51,17 @@ gate_unit V.Stop at k label fits is = other_unit V.Stop at k label refl is
 gate_unit (V.System S.Ecall) at k label fits is = other_unit (V.System S.Ecall) at k label refl is
 gate_unit (V.System S.Ebreak) at k label fits is = other_unit (V.System S.Ebreak) at k label refl is
 gate_unit (V.Guarded numbers) at k label fits is = other_unit (V.Guarded numbers) at k label (guards_gate numbers _ refl) is
-gate_unit (V.Stores rs1 imm members) at k label fits is = other_unit (V.Stores rs1 imm members) at k label (members_gate members) is
+gate_unit (V.Stores rs1 imm members) at k label fits is = other_unit (V.Stores rs1 imm members) at k label (members_lack true members) is
 gate_unit (V.Call target) at k label fits is = other_unit (V.Call target) at k label refl is
 gate_unit (V.Ijump which rs1 imm other) at k label fits is = other_unit (V.Ijump which rs1 imm other) at k label refl is
 gate_unit (V.Icall rs1 imm other) at k label fits is = other_unit (V.Icall rs1 imm other) at k label refl is
 gate_unit V.Return at k label fits is = other_unit V.Return at k label refl is
 
--- no word of the opening is a gate
-opening_gate : (p : Profile) → IsProfile p → (entry : ℕ) → no_gate (opening_instrs p entry) ≡ true
-opening_gate p (inl e) entry = subst (λ (x : Profile). no_gate (opening_instrs x entry) ≡ true) (sym e) refl
-opening_gate p (inr e) entry = subst (λ (x : Profile). no_gate (opening_instrs x entry) ≡ true) (sym e) refl
-
 gate_place : (p : Profile) (pending : List ℕ) (place : Place) (at k label : ℕ) → MayStand p place at pending →
     slice_get (place_instrs p place at) k ≡ Some (gate label) → (place ≡ body (V.Gate label)) × (k ≡ 0)
-gate_place p pending handler at k label may is = absurd (nowhere (place_instrs p handler at) k label refl is)
-gate_place p pending (opening entry) at k label may is = absurd (nowhere (place_instrs p (opening entry) at) k label (opening_gate p may.0 entry) is)
-gate_place p pending closing at k label may is = absurd (nowhere (place_instrs p closing at) k label refl is)
+gate_place p pending handler at k label may is = absurd (nowhere true (place_instrs p handler at) k (gate label) refl refl is)
+gate_place p pending (opening entry) at k label may is = absurd (nowhere true (place_instrs p (opening entry) at) k (gate label) refl (opening_lacks true p may.0 entry) is)
+gate_place p pending closing at k label may is = absurd (nowhere true (place_instrs p closing at) k (gate label) refl refl is)
 gate_place p pending (body unit) at k label may is =
     let found = gate_unit unit at k label may.0 is in (ap body found.0, found.1)
 

@@ -31,7 +31,7 @@ use Rattle.obj_items.proofs.NoFault.{right}
 use Rattle.obj_items.proofs.Starts.{linked_at, linked_is, start_read}
 use Rattle.cfi_gen.specs.declared.function.Function.{Function}
 use Rattle.cfi_gen.specs.Demo.{table_relocs}
-use Rattle.gen_program.specs.Generated.{IsGenerated, use_of}
+use Rattle.gen_hardened.specs.Generated.{IsGenerated, use_of}
 use Rattle.gen_hardened.proofs.DataRoom.{no_code, no_data, table_address, table_sort}
 use Rattle.gen_hardened.proofs.Reached.{Reaches, UseReaches, uses_reach}
 use Rattle.gen_hardened.proofs.Settled.{IsSettled, IsThere, instruction_there}

@@ -11,7 +11,7 @@ use Rattle.obj_items.specs.InitialData.{init_below}
 use Rattle.obj_items.specs.ProgramOf.{program_of}
 use Rattle.cfi_gen.specs.declared.function.Function.{Function}
 use Rattle.cfi_gen.specs.Demo.{table_bytes}
-use Rattle.gen_program.specs.Generated.{IsGenerated}
+use Rattle.gen_hardened.specs.Generated.{IsGenerated}
 use Rattle.cfi_harden.specs.Room.{HasDataRoom}
 
 -- the bytes of the table

@@ -23,7 +23,7 @@ use Rattle.cfi_flow.specs.Entry.{entry_place}
 use Rattle.cfi_flow.specs.Policy.{instruction_at}
 use Rattle.cfi_gen.specs.declared.function.Function.{Function}
 use Rattle.cfi_gen.specs.Code.{function_lines, main_lines, program_lines}
-use Rattle.gen_program.specs.Generated.{IsGenerated}
+use Rattle.gen_hardened.specs.Generated.{IsGenerated}
 use Rattle.gen_hardened.proofs.DataRoom.{no_code}
 
 -- what begins lists that are joined: what begins the first that is not empty

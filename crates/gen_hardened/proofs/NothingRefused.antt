@@ -18,8 +18,8 @@ use Rattle.cfi_flow.specs.Entry.{entry_place}
 use Rattle.cfi_gen.specs.declared.function.Function.{Function}
 use Rattle.cfi_gen.specs.Demo.{demo_parts, parts_with}
 use Rattle.cfi_gen.specs.Drawing.{functions_from}
-use Rattle.gen_program.specs.Generated.{IsGenerated}
-use Rattle.gen_program.proofs.Reading.{generated_is}
+use Rattle.gen_hardened.specs.Generated.{IsGenerated}
+use Rattle.gen_hardened.proofs.Reading.{generated_is}
 use Rattle.cfi_harden.specs.declared.refusal.Refusal.{Refusal}
 use Rattle.cfi_harden.specs.declared.refusal.Refusal.TheVariants.{Object, Items, NoEntry, Policy, CodeTooLarge, DataTooLarge, RelocRange}
 use Rattle.cfi_harden.specs.Given.{RefusesGiven, alone}
@@ -31,8 +31,8 @@ use Rattle.cfi_map.specs.GraphAtMap.{ProgramAtMap, words_at}
 use Rattle.cfi_map.specs.Sizes.{whole_size}
 use Rattle.gen_hardened.specs.Laws.{DemoIsNeverRefused, IsNeverRefused, entered}
 use Rattle.cfi_gen.proofs.Right.{demo_holds}
-use Rattle.gen_program.proofs.Drawn.{length-functions}
-use Rattle.gen_program.proofs.NoFault.{no_fault}
+use Rattle.gen_hardened.proofs.Drawn.{length-functions}
+use Rattle.gen_hardened.proofs.NoFault.{no_fault}
 use Rattle.gen_hardened.proofs.AllInRange.{all_in_range}
 use Rattle.gen_hardened.proofs.DataRoom.{data_room}
 use Rattle.gen_hardened.proofs.EnteredAtMain.{entered_at_main}

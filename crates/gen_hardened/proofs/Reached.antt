@@ -17,7 +17,7 @@ use Rattle.cfi_gen.specs.declared.function.Shape.TheVariants.{Leaf, Call, Table,
 use Rattle.cfi_gen.specs.declared.mark.Mark.{Mark}
 use Rattle.cfi_gen.specs.Code.{closing_lines, function_lines, main_lines, opening_lines, program_lines, shape_lines, table_symbol}
 use Rattle.cfi_gen.specs.Lines.{Line, mark_at, relocs_from}
-use Rattle.gen_program.specs.Generated.{symbol_definition, use_of}
+use Rattle.gen_hardened.specs.Generated.{symbol_definition, use_of}
 use Rattle.gen_hardened.proofs.Small.{AreSmall, IsSmallShape}
 
 -- a high part is that of the table and an offset, and none is of a distance

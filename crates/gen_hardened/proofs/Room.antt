@@ -18,9 +18,9 @@ use Rattle.cfi_closed.specs.Closed.{ClosedGraph, Side, is_target}
 use Rattle.cfi_map.specs.Placement.{is_ecall, kind_size, lead_size, size_of, whole_at}
 use Rattle.cfi_map.specs.Sizes.{part_sizes, whole_size}
 use Rattle.cfi_gen.specs.declared.function.Function.{Function}
-use Rattle.gen_program.specs.Generated.{IsGenerated}
-use Rattle.gen_program.proofs.Weights.{kind_weight}
-use Rattle.gen_program.proofs.PlaceWeights.{item_weight, outline_weighs}
+use Rattle.gen_hardened.specs.Generated.{IsGenerated}
+use Rattle.gen_hardened.proofs.Weights.{kind_weight}
+use Rattle.gen_hardened.proofs.PlaceWeights.{item_weight, outline_weighs}
 
 -- without a list of system calls a part has no more bytes than its place weighs
 unit_weighs : (calls : Option (List ℕ)) (kind : ItemKind) (ecall whole : Bool) → calls ≡ None → 4 + kind_size calls kind ecall whole ≤ kind_weight kind

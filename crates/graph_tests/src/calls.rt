@@ -2,16 +2,14 @@
 //! others; and runs and walks of guarded calls. The words are made by the rules for a guarded call: for each number `addi x31,x0,N`
 //! and `beq x31,x17` to the last word, then a jump to the handler of targets, then `ecall`. What is right is worked out by hand.
 
-ghost use Rattle.std.specs.Prelude.{IfSome};
-ghost use Rattle.cfi_script.specs.Script.{IsScript};
-
+use crate::answered::{Went, Words, are_walked, code_of, is_answered};
+use crate::ended::{Ended, ends_alone, ends_in_turns};
 use cfi_graph::{Graph, read_graph};
-use cfi_script::Script;
-use cfi_step::{Handler, HartWalk, RunEnd, RunReport};
+use cfi_step::{Handler, RunEnd};
 use cfi_verify::verify;
 use rv_word::Image;
-use sample_programs::{A, BREAK, PROLOGUE, PROLOGUE_OF_HARTS};
-use sample_runs::{Program, code_with, is_code_told, is_same_again, report, walks_so};
+use sample_programs::{A, BREAK};
+use sample_runs::Program;
 use std::alloc::Global;
 
 /// Exits with 7, by a guarded call that may have the number 93. It stands at 48h, its last word at 54h.
@@ -128,13 +126,13 @@ fn units(sample: Sample) -> (&'static [u32], &'static str) {
     }
 }
 
-/// Whether a program is for several harts.
-fn is_of_harts(sample: Sample) -> bool {
-    matches!(sample, Sample::ExitsOfHarts | Sample::OneOfHarts)
+/// The version of a program.
+fn version(sample: Sample) -> u8 {
+    match sample {
+        Sample::ExitsOfHarts | Sample::OneOfHarts => 2,
+        _ => 1,
+    }
 }
-
-/// Words of a code, by their offsets in it.
-type Words = &'static [(usize, u32)];
 
 /// A program, the graph's line of system calls, its lines from the opening's call on, words that are put by their offsets in the
 /// code, and the rule that fails with its address; no text where the pair is accepted.
@@ -250,26 +248,10 @@ fn graph_of(alloc: Global, version: u8, row: &Row) -> Option<Graph> {
     read_graph(alloc, text.as_bytes()).ok()
 }
 
-/// Whether the code of a row is answered with a graph as it says.
-fn is_answered(alloc: Global, row: &Row, graph: &Graph) -> bool {
-    let words = units(row.0).0;
-    if is_of_harts(row.0) {
-        match code_with(alloc, &PROLOGUE_OF_HARTS, words, row.3) {
-            Some(code) => is_code_told(alloc, 2, &code, graph, row.4),
-            None => false,
-        }
-    } else {
-        match code_with(alloc, &PROLOGUE, words, row.3) {
-            Some(code) => is_code_told(alloc, 1, &code, graph, row.4),
-            None => false,
-        }
-    }
-}
-
-/// The same with the graph of a version.
-fn is_right(alloc: Global, version: u8, row: &Row) -> bool {
-    match graph_of(alloc, version, row) {
-        Some(graph) => is_answered(alloc, row, &graph),
+/// Whether the code of a row is answered as it says, with the graph of a version.
+fn is_right(alloc: Global, graphs: u8, row: &Row) -> bool {
+    match graph_of(alloc, graphs, row) {
+        Some(graph) => is_answered(alloc, version(row.0), units(row.0).0, row.3, &graph, row.4),
         None => false,
     }
 }
@@ -413,58 +395,16 @@ static TURNED_RUNS: [Turned; 4] = [
     Turned(2, "harts 2\nturn 0 16\nturn 1 10\nturn 0 100\nat 16 00010000 5d\n", RunEnd::Exit(247), 0, 35, &[(6, 0x4000_0048), (1, 0x4000_000c)]),
 ];
 
-/// Whether walks have so many addresses each, and these last ones.
-fn have_walked(walks: &[HartWalk], wanted: &[(u64, u64)]) -> bool {
-    for (walk, row) in walks.iter().zip(wanted) {
-        if walk.walk != row.0 || walk.trail.as_slice().last().copied().unwrap_or(0) != row.1 {
-            return false;
-        }
-    }
-    walks.len() == wanted.len()
-}
-
-/// The report of a run of so many harts under a script.
-fn scripted(alloc: Global, caller: Caller, harts: u8, script: &str) -> Option<RunReport>
-    ensures { IfSome result (λ report. IsScript report.made) }
-{
-    let mut script = Script::read(alloc, script.as_bytes()).ok()?;
-    report(alloc, program(caller), harts, &mut script, 1000)
-}
-
-/// Whether a run ends so, by this hart and after so many steps, with these walks.
-fn is_told(report: &RunReport, end: RunEnd, hart: u8, steps: u64, walks: &[(u64, u64)]) -> bool {
-    report.end == end
-        && report.hart == hart
-        && report.steps == steps
-        && have_walked(report.walks.as_slice(), walks)
-}
-
 /// Whether a run of one hart ends as its row says, and is the same again under its turns and changes.
 fn is_run_right(alloc: Global, row: &Run) -> bool {
-    let Ok(script) = format!(in alloc; "rvcfi-script 1\n{}end\n", row.1) else {
-        return false;
-    };
-    match scripted(alloc, row.0, 1, script.as_str()) {
-        Some(first) => {
-            is_told(&first, row.2, 0, row.3, &[(row.4, row.5)])
-                && is_same_again(alloc, program(row.0), 1, &first, 1000)
-        }
-        None => false,
-    }
+    let ended = Ended(row.2, 0, row.3, &[(row.4, row.5)]);
+    ends_alone(alloc, program(row.0), row.1, &ended)
 }
 
 /// The same of a run of several harts.
 fn is_turned_right(alloc: Global, row: &Turned) -> bool {
-    let Ok(script) = format!(in alloc; "rvcfi-script 2\n{}end\n", row.1) else {
-        return false;
-    };
-    match scripted(alloc, Caller::Harts, row.0, script.as_str()) {
-        Some(first) => {
-            is_told(&first, row.2, row.3, row.4, row.5)
-                && is_same_again(alloc, &CALLING_HARTS, row.0, &first, 1000)
-        }
-        None => false,
-    }
+    let ended = Ended(row.2, row.3, row.4, row.5);
+    ends_in_turns(alloc, &CALLING_HARTS, row.0, row.1, &ended)
 }
 
 #[test]
@@ -487,7 +427,7 @@ const TO_CALL: &[u64] = &[0x4000_0040, 0x4000_0044, 0x4000_0048];
 /// From a guarded call the walk goes to the unit behind it and to the handler of targets: not to its own words, to another handler,
 /// further on or back.
 #[rattlefmt::skip]
-const WALKS: &[(&[u64], u64, bool)] = &[
+const WALKS: &[Went] = &[
     (TO_CALL, 0x4000_0058, true),
     (TO_CALL, 0x4000_0000, true),
     (TO_CALL, 0x4000_0048, false),
@@ -509,20 +449,15 @@ fn walks_right(alloc: Global, code: &[u8], graph: &Graph) -> bool {
         return false;
     }
     let image = Image::of(code, &[]);
-    let Ok(checked) = verify(alloc, &image, graph) else {
-        return false;
-    };
-    for row in WALKS {
-        if !walks_so(alloc, &checked, row) {
-            return false;
-        }
+    match verify(alloc, &image, graph) {
+        Ok(checked) => are_walked(alloc, &checked, WALKS),
+        Err(_) => false,
     }
-    true
 }
 
 /// The same, with the code and the graph made.
 fn one_walks_right(alloc: Global) -> bool {
-    let Some(code) = code_with(alloc, &PROLOGUE, &ONE, &[]) else {
+    let Some(code) = code_of(alloc, 1, &ONE, &[]) else {
         return false;
     };
     match read_graph(alloc, ONE_GRAPH) {

@@ -4,7 +4,11 @@
 #![tactic(auto)]
 
 #[cfg(test)]
+mod answered;
+#[cfg(test)]
 mod calls;
+#[cfg(test)]
+mod ended;
 #[cfg(test)]
 mod pairs;
 #[cfg(test)]

@@ -1,37 +1,14 @@
 //! Images of each version with graphs of each version: whether they are accepted, and if not, by which rule and where. What is right
 //! follows from what the rules say in words; a model of them, `tests/harts/rules.py` at the top of the repository, says the same.
 
+use crate::answered::{Words, is_answered};
 use cfi_graph::{Graph, read_graph};
 use sample_programs::{
     A, A_GRAPH, A_OF_HARTS, APART, APART_GRAPH, APART_OF_HARTS, APART_OF_HARTS_GRAPH, JOBS,
-    JOBS_GRAPH, JOINED, JOINED_GRAPH, JUMP, JUMP_GRAPH, P, PROLOGUE, PROLOGUE_OF_HARTS, Q, Q_GRAPH,
-    Q_OF_HARTS, Q_OF_HARTS_GRAPH,
+    JOBS_GRAPH, JOINED, JOINED_GRAPH, JUMP, JUMP_GRAPH, P, Q, Q_GRAPH, Q_OF_HARTS,
+    Q_OF_HARTS_GRAPH,
 };
-use sample_runs::{code_with, is_code_told};
 use std::alloc::Global;
-
-/// Words of a code, by their offsets in it.
-type Words = &'static [(usize, u32)];
-
-/// Whether an image of a version, which has the prologue of that version, is answered so.
-fn is_answered(
-    alloc: Global,
-    version: u8,
-    units: &[u32],
-    words: &[(usize, u32)],
-    graph: &Graph,
-    told: &str,
-) -> bool {
-    let code = if version == 1 {
-        code_with(alloc, &PROLOGUE, units, words)
-    } else {
-        code_with(alloc, &PROLOGUE_OF_HARTS, units, words)
-    };
-    match code {
-        Some(code) => is_code_told(alloc, version, &code, graph, told),
-        None => false,
-    }
-}
 
 /// The version of an image, its units, the graph, words that are put by their offsets in the code, and the rule that fails with its
 /// address; no text where the pair is accepted.

@@ -1,11 +1,8 @@
 //! Runs of programs with graphs of version 2 while a script turns the pointers by which they call and jump. Those of one hart are
 //! worked out by hand; all are those of a model of the machine, `tests/harts` at the top of the repository.
 
-ghost use Rattle.std.specs.Prelude.{IfSome};
-ghost use Rattle.cfi_script.specs.Script.{IsScript};
-
-use cfi_script::Script;
-use cfi_step::{Handler, HartWalk, Hostile, RunEnd, RunReport};
+use crate::ended::{Ended, ends_alone, ends_in_turns, has_ended};
+use cfi_step::{Handler, Hostile, RunEnd};
 use sample_programs::{
     APART, APART_DATA, APART_GRAPH, APART_OF_HARTS, APART_OF_HARTS_DATA, APART_OF_HARTS_GRAPH,
     JOINED, JOINED_DATA, JOINED_GRAPH, Q, Q_DATA, Q_GRAPH, Q_OF_HARTS, Q_OF_HARTS_DATA,
@@ -203,58 +200,16 @@ static TURNED: [Turned; 12] = [
     Turned(Sample::JumpingHarts, 4, "harts 4\nturn 3 15\nturn 2 16\nturn 3 30\nat 31 00010000 b0000040\n", BAD, 3, 44, &[(0, 0x0), (0, 0x0), (3, 0x4000_0054), (5, 0x4000_0000)]),
 ];
 
-/// Whether walks have so many addresses each, and these last ones.
-fn have_walked(walks: &[HartWalk], wanted: &[(u64, u64)]) -> bool {
-    for (walk, row) in walks.iter().zip(wanted) {
-        if walk.walk != row.0 || walk.trail.as_slice().last().copied().unwrap_or(0) != row.1 {
-            return false;
-        }
-    }
-    walks.len() == wanted.len()
-}
-
-/// The report of a run of so many harts under a script.
-fn scripted(alloc: Global, sample: Sample, harts: u8, script: &str) -> Option<RunReport>
-    ensures { IfSome result (λ report. IsScript report.made) }
-{
-    let mut script = Script::read(alloc, script.as_bytes()).ok()?;
-    report(alloc, program(sample), harts, &mut script, 1000)
-}
-
-/// Whether a run ends so, by this hart and after so many steps, with these walks.
-fn is_told(report: &RunReport, end: RunEnd, hart: u8, steps: u64, walks: &[(u64, u64)]) -> bool {
-    report.end == end
-        && report.hart == hart
-        && report.steps == steps
-        && have_walked(report.walks.as_slice(), walks)
-}
-
 /// Whether a run of one hart ends as its row says, and is the same again under its turns and changes.
 fn is_right(alloc: Global, row: &Row) -> bool {
-    let Ok(script) = format!(in alloc; "rvcfi-script 1\n{}end\n", row.1) else {
-        return false;
-    };
-    match scripted(alloc, row.0, 1, script.as_str()) {
-        Some(first) => {
-            is_told(&first, row.2, 0, row.3, &[(row.4, row.5)])
-                && is_same_again(alloc, program(row.0), 1, &first, 1000)
-        }
-        None => false,
-    }
+    let ended = Ended(row.2, 0, row.3, &[(row.4, row.5)]);
+    ends_alone(alloc, program(row.0), row.1, &ended)
 }
 
 /// The same of a run of several harts.
 fn is_turned_right(alloc: Global, row: &Turned) -> bool {
-    let Ok(script) = format!(in alloc; "rvcfi-script 2\n{}end\n", row.2) else {
-        return false;
-    };
-    match scripted(alloc, row.0, row.1, script.as_str()) {
-        Some(first) => {
-            is_told(&first, row.3, row.4, row.5, row.6)
-                && is_same_again(alloc, program(row.0), row.1, &first, 1000)
-        }
-        None => false,
-    }
+    let ended = Ended(row.3, row.4, row.5, row.6);
+    ends_in_turns(alloc, program(row.0), row.1, row.2, &ended)
 }
 
 #[test]
@@ -276,7 +231,7 @@ fn in_turns(rt: HostRuntime) {
 fn is_caught(alloc: Global) -> bool {
     match report(alloc, &PARTED, 1, &mut Hostile, 1000) {
         Some(first) => {
-            is_told(&first, BAD_RETURN, 0, 64, &[(20, 0x4000_0004)])
+            has_ended(&first, &Ended(BAD_RETURN, 0, 64, &[(20, 0x4000_0004)]))
                 && first.made.len() == 8
                 && is_same_again(alloc, &PARTED, 1, &first, 1000)
         }

@@ -1,19 +1,17 @@
 //! Walks of programs with graphs of version 2: calls go to targets of calls, jumps to targets of jumps, and neither behind a target's
 //! first word; and what stands where. They are worked out by hand.
 
+use crate::answered::{Went, are_walked, code_of};
 use cfi_graph::{Graph, SiteKind, read_graph};
 use cfi_unit::TargetWord;
 use cfi_verify::{Asks, Checked, verify};
 use rv_word::Image;
 use sample_programs::{
-    APART, APART_GRAPH, APART_OF_HARTS, APART_OF_HARTS_GRAPH, JOINED, JOINED_GRAPH, PROLOGUE,
-    PROLOGUE_OF_HARTS, Q, Q_GRAPH, Q_OF_HARTS, Q_OF_HARTS_GRAPH,
+    APART, APART_GRAPH, APART_OF_HARTS, APART_OF_HARTS_GRAPH, JOINED, JOINED_GRAPH, Q, Q_GRAPH,
+    Q_OF_HARTS, Q_OF_HARTS_GRAPH,
 };
-use sample_runs::{Step, code_with, walks_along, walks_so};
+use sample_runs::{Step, walks_along};
 use std::alloc::Global;
-
-/// Where a walk goes after the opening, then an address, and whether it goes there as well.
-type Row = (&'static [u64], u64, bool);
 
 /// The walk of `Q` to its jump, and that of `Q_OF_HARTS`.
 const TO_JUMP: &[u64] = &[0x4000_0040, 0x4000_0044, 0x4000_0048];
@@ -23,7 +21,7 @@ const HARTS_TO_JUMP: &[u64] = &[0x4000_0050, 0x4000_0054, 0x4000_0058];
 /// From its jump `Q` goes to either function and to the handler of targets: not to the second or third word of one, before one, to
 /// the place that no site may go to, back, into the jump, or to another handler. It does not go past a function's second word.
 #[rattlefmt::skip]
-const Q_WALKS: &[Row] = &[
+const Q_WALKS: &[Went] = &[
     (TO_JUMP, 0x4000_007c, true),
     (TO_JUMP, 0x4000_009c, true),
     (TO_JUMP, 0x4000_0000, true),
@@ -46,7 +44,7 @@ const Q_WALKS: &[Row] = &[
 
 /// The same of `Q_OF_HARTS`; version 1's units do not stand there.
 #[rattlefmt::skip]
-const Q_OF_HARTS_WALKS: &[Row] = &[
+const Q_OF_HARTS_WALKS: &[Went] = &[
     (HARTS_TO_JUMP, 0x4000_008c, true),
     (HARTS_TO_JUMP, 0x4000_00ac, true),
     (HARTS_TO_JUMP, 0x4000_0000, true),
@@ -97,7 +95,7 @@ const HARTS_PAST_CALL: &[u64] = &[
 /// From its call `APART` goes to the function of calls and to that of both, from its jump to the function of jumps and to that of
 /// both, and from either to the handler of targets. No step leads to the handler of a full shadow stack, which is not full.
 #[rattlefmt::skip]
-const APART_WALKS: &[Row] = &[
+const APART_WALKS: &[Went] = &[
     (TO_CALL, 0x4000_00f0, true),
     (TO_CALL, 0x4000_0130, true),
     (TO_CALL, 0x4000_0110, false),
@@ -118,7 +116,7 @@ const APART_WALKS: &[Row] = &[
 
 /// `JOINED` goes from either to each function.
 #[rattlefmt::skip]
-const JOINED_WALKS: &[Row] = &[
+const JOINED_WALKS: &[Went] = &[
     (TO_CALL, 0x4000_00f0, true),
     (TO_CALL, 0x4000_010c, true),
     (TO_CALL, 0x4000_0128, true),
@@ -130,7 +128,7 @@ const JOINED_WALKS: &[Row] = &[
 ];
 
 #[rattlefmt::skip]
-const APART_OF_HARTS_WALKS: &[Row] = &[
+const APART_OF_HARTS_WALKS: &[Went] = &[
     (HARTS_TO_CALL, 0x4000_0100, true),
     (HARTS_TO_CALL, 0x4000_0140, true),
     (HARTS_TO_CALL, 0x4000_0120, false),
@@ -214,7 +212,7 @@ struct Program {
     units: &'static [u32],
     graph: &'static [u8],
     trail: &'static [Step],
-    walks: &'static [Row],
+    walks: &'static [Went],
     asked: &'static [Asked],
 }
 
@@ -284,16 +282,6 @@ fn are_served(checked: &Checked<'_>, rows: &[Asked]) -> bool {
     true
 }
 
-/// Whether a pair has the walks of rows.
-fn are_walked(alloc: Global, checked: &Checked<'_>, rows: &[Row]) -> bool {
-    for row in rows {
-        if !walks_so(alloc, checked, row) {
-            return false;
-        }
-    }
-    true
-}
-
 /// Whether an image with a graph is accepted, and is what its program says.
 fn is_program(alloc: Global, image: &Image<'_>, graph: &Graph, program: &Program) -> bool {
     match verify(alloc, image, graph) {
@@ -323,12 +311,7 @@ fn is_code(alloc: Global, code: &[u8], program: &Program) -> bool {
 
 /// Whether a program has its walks.
 fn is_right(alloc: Global, program: &Program) -> bool {
-    let code = if program.version == 1 {
-        code_with(alloc, &PROLOGUE, program.units, &[])
-    } else {
-        code_with(alloc, &PROLOGUE_OF_HARTS, program.units, &[])
-    };
-    match code {
+    match code_of(alloc, program.version, program.units, &[]) {
         Some(code) => is_code(alloc, &code, program),
         None => false,
     }

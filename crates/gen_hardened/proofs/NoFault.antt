@@ -22,17 +22,17 @@ use Rattle.cfi_gen.specs.Code.{program_lines}
 use Rattle.cfi_gen.specs.Demo.{table_relocs}
 use Rattle.cfi_gen.specs.Drawing.{functions_from}
 use Rattle.cfi_gen.specs.Lines.{relocs_from}
-use Rattle.gen_program.specs.Generated.{IsGenerated, symbol_definition}
-use Rattle.gen_program.proofs.Bridge.{use_by}
-use Rattle.gen_program.proofs.Drawn.{AreNear, length-functions, near_functions}
-use Rattle.gen_program.proofs.Routines.{program_spots}
-use Rattle.gen_program.proofs.Starts.{function_start}
-use Rattle.gen_program.proofs.Standing.{IsCode}
-use Rattle.gen_program.proofs.Instructions.{all_decoded, all_free, all_paired}
-use Rattle.gen_program.proofs.Transfers.{AreStarts, all_right}
-use Rattle.gen_program.proofs.Relocations.{FindsNone, all_fit, kinds_taken, no_lows, no_pointers, none_among}
-use Rattle.gen_program.proofs.Pointers.{none_pointed, pointer, pointer_fits, pointer_no_low, pointer_right, pointer_taken}
-use Rattle.gen_program.proofs.Searches.{nearest_none, none_in, none_least, none_missing}
+use Rattle.gen_hardened.specs.Generated.{IsGenerated, symbol_definition}
+use Rattle.gen_hardened.proofs.Bridge.{use_by}
+use Rattle.gen_hardened.proofs.Drawn.{AreNear, length-functions, near_functions}
+use Rattle.gen_hardened.proofs.Routines.{program_spots}
+use Rattle.gen_hardened.proofs.Starts.{function_start}
+use Rattle.gen_hardened.proofs.Standing.{IsCode}
+use Rattle.gen_hardened.proofs.Instructions.{all_decoded, all_free, all_paired}
+use Rattle.gen_hardened.proofs.Transfers.{AreStarts, all_right}
+use Rattle.gen_hardened.proofs.Relocations.{FindsNone, all_fit, kinds_taken, no_lows, no_pointers, none_among}
+use Rattle.gen_hardened.proofs.Pointers.{none_pointed, pointer, pointer_fits, pointer_no_low, pointer_right, pointer_taken}
+use Rattle.gen_hardened.proofs.Searches.{nearest_none, none_in, none_least, none_missing}
 
 all_defined : (fs : List Function) (m : ℕ) → missing_symbol (symbol_definition fs m) ≡ None
 all_defined fs zero = refl

@@ -13,9 +13,9 @@ use Rattle.obj_rules.specs.BadPair.{is_wrong_auipc, wrong_auipc}
 use Rattle.cfi_gen.specs.Code.{high, low}
 use Rattle.cfi_gen.specs.Assembly.{jalr, lui}
 use Rattle.cfi_gen.specs.Lines.{Line, marked, plain}
-use Rattle.gen_program.proofs.Encoded.{line}
-use Rattle.gen_program.proofs.Spots.{Spot, first_there, high_there, low_there, plain_there, second_there}
-use Rattle.gen_program.proofs.Standing.{IsCode, count_is, instr_is, no_pair, pair, plain_parts, uses_are}
+use Rattle.gen_hardened.proofs.Encoded.{line}
+use Rattle.gen_hardened.proofs.Spots.{Spot, first_there, high_there, low_there, plain_there, second_there}
+use Rattle.gen_hardened.proofs.Standing.{IsCode, count_is, instr_is, no_pair, pair, plain_parts, uses_are}
 
 module _ {definition : ℕ → Definition} {n : ℕ} {ls : List Line} {s : SectionParts} (code : IsCode definition n ls s) where
   pub none_in_code : (test : ℕ → Bool) → ((k : ℕ) → k < length ls → test k ≡ false)

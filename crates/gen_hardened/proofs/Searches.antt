@@ -11,7 +11,7 @@ use Rattle.obj_input.specs.Input.{InputParts, section_count}
 use Rattle.obj_rules.specs.declared.fault.ItemFault.{ItemFault}
 use Rattle.obj_rules.specs.Finding.{nearest_in, place_of}
 use Rattle.obj_rules.specs.Undefined.{missing_among, missing_at, missing_symbol}
-use Rattle.gen_program.proofs.Bridge.{use_by}
+use Rattle.gen_hardened.proofs.Bridge.{use_by}
 
 none_nearest : {A : Type 0} (place : A → Place) (given : ℕ → Option A) (n : ℕ) → ((k : ℕ) → given k ≡ None)
     → nearest_below place given n ≡ None

@@ -17,10 +17,10 @@ use Rattle.obj_rules.specs.WrongPlace.{is_i_form}
 use Rattle.cfi_gen.specs.Code.{called, function_symbol, high, low}
 use Rattle.cfi_gen.specs.Assembly.{auipc, lui}
 use Rattle.cfi_gen.specs.Lines.{Line, marked, plain}
-use Rattle.gen_program.proofs.Encoded.{line}
-use Rattle.gen_program.proofs.Spots.{Goes, IsEntry, Spot, first_there, high_there, low_there, plain_there, second_there}
-use Rattle.gen_program.proofs.Standing.{IsCode, inside, instr_is, no_pair, pair, plain_parts, starts, uses_are}
-use Rattle.gen_program.proofs.Instructions.{none_in_code}
+use Rattle.gen_hardened.proofs.Encoded.{line}
+use Rattle.gen_hardened.proofs.Spots.{Goes, IsEntry, Spot, first_there, high_there, low_there, plain_there, second_there}
+use Rattle.gen_hardened.proofs.Standing.{IsCode, inside, instr_is, no_pair, pair, plain_parts, starts, uses_are}
+use Rattle.gen_hardened.proofs.Instructions.{none_in_code}
 
 -- the symbol of each of `n` functions stands for a line of section `index` that may be gone to
 abbrev pub AreStarts : (ℕ → Definition) → ℕ → List Line → ℕ → Type 0

@@ -16,10 +16,10 @@ use Rattle.cfi_gen.specs.declared.mark.Mark.{Mark}
 use Rattle.cfi_gen.specs.Code.{called, function_symbol, high, low, mark, table_symbol}
 use Rattle.cfi_gen.specs.Assembly.{auipc, jalr, lui}
 use Rattle.cfi_gen.specs.Lines.{Line, mark_at, marked, plain}
-use Rattle.gen_program.proofs.Encoded.{line}
-use Rattle.gen_program.proofs.Bridge.{none_found, use_by, uses_by}
-use Rattle.gen_program.proofs.Spots.{IsPlain, Spot, first_there, high_there, is_low, is_tail, low_there, plain_there, second_there}
-use Rattle.gen_program.proofs.Standing.{IsCode, instr_is, no_pair, pair, plain_parts, starts, uses_are}
+use Rattle.gen_hardened.proofs.Encoded.{line}
+use Rattle.gen_hardened.proofs.Bridge.{none_found, use_by, uses_by}
+use Rattle.gen_hardened.proofs.Spots.{IsPlain, Spot, first_there, high_there, is_low, is_tail, low_there, plain_there, second_there}
+use Rattle.gen_hardened.proofs.Standing.{IsCode, instr_is, no_pair, pair, plain_parts, starts, uses_are}
 
 abbrev pub use_at : (ℕ → Definition) → ℕ → Mark → Relocation
 use_at definition k m = use_by definition (mark_at (4 * k) m)

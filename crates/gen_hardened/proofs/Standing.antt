@@ -17,9 +17,9 @@ use Rattle.obj_rules.specs.Reserved.{some_reserved}
 use Rattle.cfi_gen.specs.Assembly.{auipc, jalr}
 use Rattle.cfi_gen.specs.Code.{called}
 use Rattle.cfi_gen.specs.Lines.{Line, code_bytes, marked, plain, relocs_from}
-use Rattle.gen_program.proofs.Encoded.{line, word_decoded}
-use Rattle.gen_program.proofs.Bridge.{acting_marks, acting_there, use_by, uses_by}
-use Rattle.gen_program.proofs.Spots.{IsEntry, IsPlain, Spot, first_there, high_there, is_tail, low_there, plain_there, second_there}
+use Rattle.gen_hardened.proofs.Encoded.{line, word_decoded}
+use Rattle.gen_hardened.proofs.Bridge.{acting_marks, acting_there, use_by, uses_by}
+use Rattle.gen_hardened.proofs.Spots.{IsEntry, IsPlain, Spot, first_there, high_there, is_tail, low_there, plain_there, second_there}
 
 -- a section holds these lines, whose symbols are looked up, and whose calls go to `n` functions
 pub record IsCode (definition : ℕ → Definition) (n : ℕ) (ls : List Line) (s : SectionParts) : Type 0 where

@@ -13,9 +13,9 @@ use Rattle.obj_rules.specs.CodePointer.{pointer_found, points_right}
 use Rattle.cfi_gen.specs.Code.{function_symbol}
 use Rattle.cfi_gen.specs.Demo.{table_relocs}
 use Rattle.cfi_gen.specs.Lines.{Line}
-use Rattle.gen_program.proofs.Bridge.{use_by}
-use Rattle.gen_program.proofs.Standing.{IsCode, starts}
-use Rattle.gen_program.proofs.Transfers.{AreStarts}
+use Rattle.gen_hardened.proofs.Bridge.{use_by}
+use Rattle.gen_hardened.proofs.Standing.{IsCode, starts}
+use Rattle.gen_hardened.proofs.Transfers.{AreStarts}
 
 -- the address of a function
 abbrev pub pointer : (ℕ → Definition) → ℕ → Relocation

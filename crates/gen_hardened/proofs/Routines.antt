@@ -9,8 +9,8 @@ use Rattle.cfi_gen.specs.declared.function.Shape.TheVariants.{Leaf, Call, Table,
 use Rattle.cfi_gen.specs.Assembly.{addi, bne, jalr, ld, minus, sd}
 use Rattle.cfi_gen.specs.Code.{closing_lines, function_lines, main_lines, opening_lines, program_lines, shape_lines}
 use Rattle.cfi_gen.specs.Lines.{Line}
-use Rattle.gen_program.proofs.Drawn.{AreNear, IsNear, IsNearShape}
-use Rattle.gen_program.proofs.Spots.{IsEntry, Spot, SpotsAt, at_first, at_high, at_low, at_plain, at_second, part_entry, spots_joined}
+use Rattle.gen_hardened.proofs.Drawn.{AreNear, IsNear, IsNearShape}
+use Rattle.gen_hardened.proofs.Spots.{IsEntry, Spot, SpotsAt, at_first, at_high, at_low, at_plain, at_second, part_entry, spots_joined}
 
 -- what holds at `at + k` and at the next, `count` in a row
 abbrev InRow : (ℕ → Type 0) → ℕ → ℕ → ℕ → Type 0

@@ -24,10 +24,10 @@ use Rattle.cfi_gen.specs.declared.function.Function.{Function}
 use Rattle.cfi_gen.specs.Lines.{code_bytes, code_size, relocs_from}
 use Rattle.cfi_gen.specs.Code.{function_lines, program_lines}
 use Rattle.cfi_gen.specs.Demo.{data_part, data_relocs, function_symbols, parts_with, table_bytes, table_relocs, text_part, text_relocs}
-use Rattle.gen_program.specs.Generated.{IsGenerated, symbol_definition, symbols_of, table_section, text_section, use_of}
-use Rattle.gen_program.proofs.Symbols.{IsKeptSection, definition_is, definition_zero, names_are, no_blocks, symbols_in}
-use Rattle.gen_program.proofs.Sections.{content_there, dropped_sort, dropped_uses, plain_at, read_use, read_uses, section_is, uses_are}
-use Rattle.gen_program.proofs.Untabled.{table_plain, text_plain}
+use Rattle.gen_hardened.specs.Generated.{IsGenerated, symbol_definition, symbols_of, table_section, text_section, use_of}
+use Rattle.gen_hardened.proofs.Symbols.{IsKeptSection, definition_is, definition_zero, names_are, no_blocks, symbols_in}
+use Rattle.gen_hardened.proofs.Sections.{content_there, dropped_sort, dropped_uses, plain_at, read_use, read_uses, section_is, uses_are}
+use Rattle.gen_hardened.proofs.Untabled.{table_plain, text_plain}
 
 -- the functions' symbols stand in section 1
 functions_placed : (at i : ℕ) (fs : List Function) (k : ℕ) → k < length (function_symbols at i fs) → (get_or (function_symbols at i fs) k no_symbol).section ≡ 1

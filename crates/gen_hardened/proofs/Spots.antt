@@ -15,7 +15,7 @@ use Rattle.obj_rules.specs.WrongPlace.{is_i_form}
 use Rattle.cfi_gen.specs.Assembly.{auipc, jalr, lui}
 use Rattle.cfi_gen.specs.Code.{called, high, low}
 use Rattle.cfi_gen.specs.Lines.{Line, marked, plain}
-use Rattle.gen_program.proofs.Encoded.{line, no_line}
+use Rattle.gen_hardened.proofs.Encoded.{line, no_line}
 
 -- the second word of a call
 abbrev pub is_tail : Instr → Bool

@@ -8,9 +8,9 @@ use Rattle.cfi_gen.specs.declared.function.Function.{Function}
 use Rattle.cfi_gen.specs.Code.{function_lines, function_symbol, main_lines, opening_lines, program_lines}
 use Rattle.cfi_gen.specs.Demo.{function_symbols}
 use Rattle.cfi_gen.specs.Lines.{Line, code_size}
-use Rattle.gen_program.specs.Generated.{symbol_definition}
-use Rattle.gen_program.proofs.Encoded.{line}
-use Rattle.gen_program.proofs.Spots.{IsEntry, is_tail, part_entry}
+use Rattle.gen_hardened.specs.Generated.{symbol_definition}
+use Rattle.gen_hardened.proofs.Encoded.{line}
+use Rattle.gen_hardened.proofs.Spots.{IsEntry, is_tail, part_entry}
 
 -- a symbol stands for a line that may be gone to
 record IsStart (ls : List Line) (s : SymbolPart) : Type 0 where

@@ -11,8 +11,8 @@ use Rattle.cfi_gen.specs.declared.function.Shape.TheVariants.{Leaf, Call, Table,
 use Rattle.cfi_gen.specs.Assembly.{addi, auipc, bne, jalr, ld, lui, minus, sd}
 use Rattle.cfi_gen.specs.Code.{called, closing_lines, function_lines, high, low, main_lines, opening_lines, program_lines, shape_lines}
 use Rattle.cfi_gen.specs.Lines.{Line, code_bytes, marked, plain}
-use Rattle.gen_program.proofs.Encoded.{line, word_decoded}
-use Rattle.gen_program.proofs.Weights.{heaviest_word, weight_of, word_weight}
+use Rattle.gen_hardened.proofs.Encoded.{line, word_decoded}
+use Rattle.gen_hardened.proofs.Weights.{heaviest_word, weight_of, word_weight}
 
 -- the word of a line
 abbrev pub word_of : Line → ℕ

@@ -10,7 +10,7 @@ use Rattle.obj_input.specs.Kinds.{is_idle, kind_of}
 use Rattle.obj_input.specs.Input.{acting_among}
 use Rattle.cfi_gen.specs.declared.mark.Mark.{Mark}
 use Rattle.cfi_gen.specs.Lines.{Line, mark_at, relocs_from}
-use Rattle.gen_program.proofs.Encoded.{line}
+use Rattle.gen_hardened.proofs.Encoded.{line}
 
 -- a relocation with what its symbol stands for
 abbrev pub use_by : (ℕ → Definition) → Reloc → Relocation

@@ -14,11 +14,11 @@ use Rattle.obj_items.specs.Outline.{code_items, end_at, outline, section_items, 
 use Rattle.cfi_gen.specs.declared.function.Function.{Function}
 use Rattle.cfi_gen.specs.Code.{program_lines}
 use Rattle.cfi_gen.specs.Lines.{Line, code_bytes}
-use Rattle.gen_program.specs.Generated.{IsGenerated, text_section}
-use Rattle.gen_program.proofs.Listings.{joined_none}
-use Rattle.gen_program.proofs.Encoded.{line}
-use Rattle.gen_program.proofs.Weights.{kind_weight, place_weighs, word_weight}
-use Rattle.gen_program.proofs.LineWeights.{line_weight, program_weighs, word_of, word_there}
+use Rattle.gen_hardened.specs.Generated.{IsGenerated, text_section}
+use Rattle.gen_hardened.proofs.Listings.{joined_none}
+use Rattle.gen_hardened.proofs.Encoded.{line}
+use Rattle.gen_hardened.proofs.Weights.{kind_weight, place_weighs, word_weight}
+use Rattle.gen_hardened.proofs.LineWeights.{line_weight, program_weighs, word_of, word_there}
 
 abbrev pub item_weight : Item → ℕ
 item_weight item = kind_weight item.kind
