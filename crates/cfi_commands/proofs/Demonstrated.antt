@@ -5,7 +5,7 @@ use Rattle.rv_word.specs.declared.form.Form.{Form}
 use Rattle.elf_image.specs.Spelling.{spelling}
 use Rattle.rv_word.specs.Image.{Contents, IsImageSize, image_profile}
 use Rattle.rv_word.specs.MemoryMap.{profile_of}
-use Rattle.cfi_graph.specs.Map.{MapParts}
+use Rattle.cfi_map_text.specs.Map.{MapParts}
 use Rattle.cfi_map.specs.GraphAtMap.{ProgramAtMap, program_at}
 use Rattle.cfi_map.specs.LegalMap.{IsLegalMap, gates_of}
 use Rattle.cfi_map.specs.Placing.{IsPlacementOf, Spaced}

@@ -8,8 +8,8 @@ use Rattle.text_lines.specs.declared.reason.Reason.{Reason}
 use Rattle.text_lines.specs.declared.end.TextEnd.TheVariants.{Line}
 use Rattle.obj_program.specs.DataAtMap.{init_size}
 use Rattle.elf_image.specs.Fault.{fault_of}
-use Rattle.cfi_graph.specs.Map.{MapParts}
-use Rattle.cfi_graph.specs.MapText.{map_of}
+use Rattle.cfi_map_text.specs.Map.{MapParts}
+use Rattle.cfi_map_text.specs.MapText.{map_of}
 use Rattle.cfi_map.specs.GraphAtMap.{ProgramAtMap}
 use Rattle.cfi_map.specs.MapFault.{IsWrongLine}
 use Rattle.cfi_harden.specs.Given.{Given}

@@ -1,8 +1,8 @@
 -- What `rewrite` and `harden` write is read back.
 use Rattle.std.proofs.Common.{◌∙◌, ap, subst}
 use Rattle.rv_word.specs.Form.{image_version}
-use Rattle.cfi_graph.specs.MapText.{map_of}
-use Rattle.cfi_graph.proofs.MapLaws.{map_of-map_text}
+use Rattle.cfi_map_text.specs.MapText.{map_of}
+use Rattle.cfi_map_text.proofs.MapLaws.{map_of-map_text}
 use Rattle.cfi_map.specs.GraphAtMap.{ProgramAtMap}
 use Rattle.cfi_map.specs.LegalMap.{IsLegalMap}
 use Rattle.cfi_files.specs.Writes.{OutputParts}

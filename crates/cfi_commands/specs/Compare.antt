@@ -12,8 +12,8 @@ use Rattle.elf_image.specs.declared.refusal.ImageRefusal.{ImageRefusal}
 use Rattle.obj_program.specs.DataAtMap.{init_size}
 use Rattle.obj_program.specs.Range.{out_of_range}
 use Rattle.least.specs.declared.place.Place as found
-use Rattle.cfi_graph.specs.Map.{MapParts}
-use Rattle.cfi_graph.specs.MapText.{map_of}
+use Rattle.cfi_map_text.specs.Map.{MapParts}
+use Rattle.cfi_map_text.specs.MapText.{map_of}
 use Rattle.cfi_map.specs.LegalMap.{IsLegalMap, gates_of}
 use Rattle.cfi_map.specs.MapFault.{IsWrongLine}
 use Rattle.cfi_map.specs.Placement.{words_from}

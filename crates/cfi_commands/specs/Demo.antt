@@ -6,7 +6,7 @@ use Rattle.rv_word.specs.Image.{Contents, image_profile}
 use Rattle.elf_image.specs.Spelling.{spelling}
 use Rattle.elf_writer.specs.Object.{object_bytes}
 use Rattle.cfi_graph.specs.Graph.{is_class, is_site}
-use Rattle.cfi_graph.specs.Map.{MapParts}
+use Rattle.cfi_map_text.specs.Map.{MapParts}
 use Rattle.cfi_map.specs.LegalMap.{IsLegalMap}
 use Rattle.cfi_step.specs.declared.report.RunEnd.{RunEnd}
 use Rattle.cfi_step.specs.declared.report.RunEnd.TheVariants as ends

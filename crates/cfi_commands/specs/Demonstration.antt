@@ -4,7 +4,7 @@ use Rattle.rv_word.specs.Form.{image_version}
 use Rattle.rv_word.specs.Image.{Contents, IsImageSize, IsVersion, image_profile}
 use Rattle.elf_image.specs.Spelling.{spelling}
 use Rattle.elf_writer.specs.Object.{object_bytes}
-use Rattle.cfi_graph.specs.Map.{MapParts}
+use Rattle.cfi_map_text.specs.Map.{MapParts}
 use Rattle.cfi_map.specs.LegalMap.{IsLegalMap}
 use Rattle.cfi_map.specs.Source.{source_start}
 use Rattle.cfi_harden.specs.Room.{HasDataRoom}

@@ -10,8 +10,8 @@ use Rattle.rv_word.specs.declared.form.Form.{Form}
 use Rattle.rv_word.specs.declared.form.Form.TheVariants.{Plain}
 use Rattle.elf_image.specs.Spelling.{spelling}
 use Rattle.cfi_graph.specs.Graph.{GraphParts, IsGraph, is_class, is_site}
-use Rattle.cfi_graph.specs.Map.{IsMap}
-use Rattle.cfi_graph.specs.MapText.{map_text}
+use Rattle.cfi_map_text.specs.Map.{IsMap}
+use Rattle.cfi_map_text.specs.MapText.{map_text}
 use Rattle.cfi_graph.specs.Text.{graph_text}
 use Rattle.cfi_harden.specs.Given.{Given, DuplicateIn}
 use Rattle.cfi_writer.specs.Hardened.{HardenedParts}

@@ -4,7 +4,7 @@ ghost use Rattle.text_lines.specs.Decimal.{MAX_STEP};
 ghost use Rattle.text_lines.specs.declared.end.TextEnd.TheVariants as TextEnd;
 ghost use Rattle.tool_io.specs.Reading.{CountsReads, IsOnlyRead};
 ghost use Rattle.cfi_files.specs.Reads.{IsFault, IsStop, IsTooLong};
-ghost use Rattle.cfi_graph.specs.MapText.{map_of};
+ghost use Rattle.cfi_map_text.specs.MapText.{map_of};
 ghost use Rattle.cfi_flow.specs.Entry.{entry_place};
 ghost use Rattle.cfi_harden.specs.Room.{HasDataRoom};
 ghost use Rattle.cfi_harden.specs.Request.{Request};
@@ -17,8 +17,8 @@ use cfi_compare::{Compared, compare};
 use cfi_files::{
     MapReason, Refusal, Stop, duplicate_line, file_word, line, read_all, status, steps, text_named,
 };
-use cfi_graph::{Map, read_map};
 use cfi_harden::Prepared;
+use cfi_map_text::{Map, read_map};
 use cfi_words::{CompareLinkWords, CompareWords};
 use elf_image::read_image;
 use rv_word::{Bytes, Form, NoMemory};

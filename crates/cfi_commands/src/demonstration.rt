@@ -14,8 +14,9 @@ ghost use Rattle.cfi_commands.specs.Rewrite.{IsMade, IsSpelled};
 
 use crate::source::source_on;
 use cfi_compare::{Compared, compare};
-use cfi_graph::{Graph, Map};
+use cfi_graph::Graph;
 use cfi_harden::{Prepared, prepare};
+use cfi_map_text::Map;
 use cfi_rewrite::{HardenEnd, Hardened, rewrite_prepared};
 use cfi_script::Script;
 use cfi_step::{RunReport, run};

@@ -15,7 +15,8 @@ use crate::objects::{GivenEnd, ObjectBytes, Objects, program_given};
 use cfi_files::{
     Output, Refusal, Stop, duplicate_line, file_word, line, read_all, status, text_named,
 };
-use cfi_graph::{Graph, Map, write_graph, write_map};
+use cfi_graph::{Graph, write_graph};
+use cfi_map_text::{Map, write_map};
 use cfi_rewrite::{HardenEnd, Hardened, rewrite_program};
 use cfi_words::{HardenWords, LinkWords, RewriteWords};
 use obj_program::Items;

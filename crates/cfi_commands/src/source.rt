@@ -13,8 +13,8 @@ ghost use Rattle.cfi_commands.specs.Demonstration.{IsSourceOn};
 ghost use Rattle.cfi_commands.specs.Objects.{Gives, given_by};
 
 use crate::objects::{GivenEnd, ObjectBytes, program_given};
-use cfi_graph::Map;
 use cfi_harden::{HardenEnd, Prepared, Refusal, has_data_room, prepare_program};
+use cfi_map_text::Map;
 use obj_program::Items;
 use rv_word::Form;
 use src_machine::{SourceEnd, SourceRun};

@@ -6,8 +6,8 @@ use Rattle.std.proofs.lemmas.List.Quantifiers.{position-Some}
 use Rattle.least.specs.First.{first_below}
 use Rattle.least.proofs.Firsts.{first_found}
 use Rattle.obj_program.specs.Program.{Program, count, is_end, item_of, is_spot, no_item, place_of}
-use Rattle.cfi_graph.specs.declared.policy.PlaceName.{PlaceName}
-use Rattle.cfi_graph.specs.declared.policy.PolicyLine.{PolicyLine}
+use Rattle.cfi_policy.specs.declared.policy.PlaceName.{PlaceName}
+use Rattle.cfi_policy.specs.declared.policy.PolicyLine.{PolicyLine}
 use Rattle.cfi_flow.specs.Drawn.{free_site, line_for, site_if_free}
 use Rattle.cfi_flow.specs.Policy.{if_instruction, instruction_at, is_free_site, is_number, is_wrong_line, line_of, misses_target, names_site, no_line, place_named, wrong_from}
 use Rattle.cfi_flow.specs.Sites.{site_kind}

@@ -16,8 +16,8 @@ use Rattle.cfi_flow.specs.Closing.{IsSide, sets_of, with_class}
 use Rattle.cfi_flow.specs.Policy.{IsRaw, names_site, targets_by, targets_under}
 use Rattle.cfi_flow.specs.Raw.{RawGraph, no_site}
 use Rattle.cfi_flow.specs.Sites.{RawSite, site_at, site_kind, sites_below}
-use Rattle.cfi_graph.specs.declared.policy.PolicyLine.{PolicyLine}
-use Rattle.cfi_graph.specs.Policy.{PolicyParts}
+use Rattle.cfi_policy.specs.declared.policy.PolicyLine.{PolicyLine}
+use Rattle.cfi_policy.specs.Policy.{PolicyParts}
 use Rattle.cfi_flow.proofs.Classing.{list_there}
 use Rattle.cfi_flow.proofs.Listing.{all_none, all_with, below_all}
 

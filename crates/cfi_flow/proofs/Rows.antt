@@ -11,14 +11,14 @@ use Rattle.obj_program.specs.declared.item.Patch.TheVariants as put
 use Rattle.obj_program.specs.Program.{Program}
 use Rattle.cfi_graph.specs.declared.line.SiteKind.TheVariants as site
 use Rattle.cfi_graph.specs.declared.line.Sort.TheVariants.{Both, Calls, Jumps}
-use Rattle.cfi_graph.specs.declared.policy.PlaceName.{PlaceName}
-use Rattle.cfi_graph.specs.declared.policy.PolicyLine.{PolicyLine}
+use Rattle.cfi_policy.specs.declared.policy.PlaceName.{PlaceName}
+use Rattle.cfi_policy.specs.declared.policy.PolicyLine.{PolicyLine}
 use Rattle.cfi_closed.specs.Closed.{Side, class_among, class_at, class_of, classes_of}
 use Rattle.cfi_flow.specs.Below.{where_below}
 use Rattle.cfi_flow.specs.Closing.{with_class}
 use Rattle.cfi_flow.specs.Entry.{entry_place}
 use Rattle.cfi_flow.specs.Labels.{used_labels}
-use Rattle.cfi_graph.specs.Policy.{PolicyParts}
+use Rattle.cfi_policy.specs.Policy.{PolicyParts}
 use Rattle.cfi_flow.specs.Policy.{place_named, raw_sites, wrong_from, wrong_line}
 use Rattle.cfi_flow.specs.Sites.{RawSite, sites_below}
 

@@ -7,7 +7,7 @@ use Rattle.obj_program.specs.declared.item.Item.{Item}
 use Rattle.obj_program.specs.Program.{Program, count, item_of, no_item}
 use Rattle.cfi_graph.specs.declared.line.SiteKind.{SiteKind}
 use Rattle.cfi_graph.specs.declared.line.SiteKind.TheVariants as site
-use Rattle.cfi_graph.specs.declared.policy.PolicyLine.{PolicyLine}
+use Rattle.cfi_policy.specs.declared.policy.PolicyLine.{PolicyLine}
 use Rattle.cfi_flow.specs.declared.draw.Drawing.{Drawing}
 use Rattle.cfi_flow.specs.declared.span.Span.{Span}
 use Rattle.cfi_flow.specs.Drawn.{IsDrawn, IsOf, line_for}

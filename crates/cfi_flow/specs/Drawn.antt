@@ -5,7 +5,7 @@ use Rattle.std.specs.Option.{is_none, is_some}
 use Rattle.obj_input.specs.declared.parts.Func.{Func}
 use Rattle.obj_program.specs.declared.item.Item.{Item}
 use Rattle.obj_program.specs.Program.{Program, item_of}
-use Rattle.cfi_graph.specs.declared.policy.PolicyLine.{PolicyLine}
+use Rattle.cfi_policy.specs.declared.policy.PolicyLine.{PolicyLine}
 use Rattle.cfi_flow.specs.declared.draw.Drawing.{Drawing}
 use Rattle.cfi_flow.specs.Kept.{AreKept, sites_of}
 use Rattle.cfi_flow.specs.Marks.{AreBegun}

@@ -8,9 +8,9 @@ use Rattle.obj_input.specs.Names.{find_spot}
 use Rattle.obj_program.specs.declared.item.Item.{Item}
 use Rattle.obj_program.specs.Program.{Program, count, is_end, item_of, place_of}
 use Rattle.cfi_graph.specs.declared.line.SiteKind.{SiteKind}
-use Rattle.cfi_graph.specs.declared.policy.PlaceName.{PlaceName}
-use Rattle.cfi_graph.specs.declared.policy.PolicyLine.{PolicyLine}
-use Rattle.cfi_graph.specs.Policy.{PolicyParts, first_line}
+use Rattle.cfi_policy.specs.declared.policy.PlaceName.{PlaceName}
+use Rattle.cfi_policy.specs.declared.policy.PolicyLine.{PolicyLine}
+use Rattle.cfi_policy.specs.Policy.{PolicyParts, first_line}
 use Rattle.cfi_flow.specs.declared.end.FlowEnd.{FlowEnd}
 use Rattle.cfi_flow.specs.declared.end.FlowEnd.TheVariants as ends
 use Rattle.cfi_flow.specs.Below.{where_below}

@@ -5,7 +5,7 @@ ghost use Rattle.obj_program.specs.Program.{AreInOrder, count, is_before, no_ite
 ghost use Rattle.cfi_flow.specs.Entry.{entry_place};
 ghost use Rattle.cfi_flow.specs.Policy.{if_instruction, instruction_at, place_named};
 
-use cfi_graph::PlaceName;
+use cfi_policy::PlaceName;
 use obj_input::ItemKind;
 use obj_program::{Items, PackedItem};
 

@@ -10,7 +10,7 @@ use crate::end::FlowEnd;
 use crate::kind::site_kind;
 use crate::named::place_named;
 use cfi_class::{Entry, blank, note};
-use cfi_graph::PolicyLine;
+use cfi_policy::PolicyLine;
 use obj_program::Items;
 use rv_word::{NoMemory, Places};
 use std::alloc::Global;

@@ -7,9 +7,6 @@ pub mod Heading
 pub mod Only
 pub mod Laws
 pub mod Printed
-pub mod MapLaws
-pub mod MapWritten
-pub mod PolicyWords
 pub mod DecimalWords
 pub mod CallsNumbers
 pub mod CallsLine

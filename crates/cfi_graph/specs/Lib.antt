@@ -3,6 +3,3 @@ pub mod Text
 pub mod Lines
 pub mod Calls
 pub mod Reading
-pub mod Map
-pub mod MapText
-pub mod Policy

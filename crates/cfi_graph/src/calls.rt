@@ -75,7 +75,7 @@ pub(crate) fn judged(number: u64, numbers: Option<Numbers>) -> Result<Numbers, T
 }
 
 /// The numbers of the line with this number, or the first reason why it is refused.
-pub(crate) fn judged_calls(number: u64, line: &[u8]) -> Result<Numbers, TextEnd>
+pub fn judged_calls(number: u64, line: &[u8]) -> Result<Numbers, TextEnd>
     ensures { result ≡ judged_calls number (calls_of (words_of line.now)) }
 {
     let Some(numbers) = calls_of(line) else {
@@ -85,7 +85,7 @@ pub(crate) fn judged_calls(number: u64, line: &[u8]) -> Result<Numbers, TextEnd>
 }
 
 /// The number of the line after a list, where it may stand in the line with this number.
-pub(crate) fn line_after(number: u64, calls: &Option<Numbers>) -> u64
+pub fn line_after(number: u64, calls: &Option<Numbers>) -> u64
     requires { number < 10 }
     ensures value { result ≡ line_after number calls.now }
     ensures small { result ≤ number + 1 }

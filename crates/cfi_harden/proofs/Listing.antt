@@ -7,7 +7,7 @@ use Rattle.text_lines.specs.Reading.{if_right, one_named}
 use Rattle.text_lines.specs.declared.end.TextEnd.{TextEnd}
 use Rattle.cfi_graph.specs.Calls.{Listed, calls_of, judged_calls, may_be_calls}
 use Rattle.cfi_graph.specs.Graph.{are_calls, is_rising}
-use Rattle.cfi_graph.specs.Policy.{calls_told, head_at, listed_head, policy_head, policy_names}
+use Rattle.cfi_policy.specs.Policy.{calls_told, head_at, listed_head, policy_head, policy_names}
 use Rattle.cfi_graph.proofs.CallsLine.{judged_list}
 use Rattle.cfi_harden.specs.Request.{policy_asked}
 

@@ -3,7 +3,7 @@
 use Rattle.std.specs.Prelude.{ℕ, List, Option, Some, None, Result, Ok}
 use Rattle.rv_word.specs.declared.form.Form.{Form}
 use Rattle.text_lines.specs.declared.end.TextEnd.{TextEnd}
-use Rattle.cfi_graph.specs.Policy.{PolicyParts, no_policy, policy_begun, policy_read}
+use Rattle.cfi_policy.specs.Policy.{PolicyParts, no_policy, policy_begun, policy_read}
 use Rattle.obj_program.specs.Program.{Program}
 use Rattle.cfi_harden.specs.Given.{Given, program_given}
 

@@ -9,7 +9,7 @@ ghost use Rattle.cfi_harden.specs.Request.{policy_asked, policy_end};
 use crate::refusal::{HardenEnd, Refusal};
 use cfi_closed::Closed;
 use cfi_flow::{close, raw_graph};
-use cfi_graph::{Policy, read_policy_part};
+use cfi_policy::{Policy, read_policy_part};
 use obj_program::Items;
 use rv_word::Form;
 use std::alloc::Global;

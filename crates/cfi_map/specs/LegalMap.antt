@@ -2,8 +2,8 @@
 -- images of the map's form.
 use Rattle.std.specs.Prelude.{◌≡◌, ℕ, Bool, List, map}
 use Rattle.rv_word.specs.Form.{profile_for}
-use Rattle.cfi_graph.specs.Map.{MapParts}
-use Rattle.cfi_graph.specs.declared.map.MapLine.{MapLine}
+use Rattle.cfi_map_text.specs.Map.{MapParts}
+use Rattle.cfi_map_text.specs.declared.map.MapLine.{MapLine}
 use Rattle.obj_program.specs.declared.item.Item.{Item}
 use Rattle.obj_program.specs.Program.{Program}
 use Rattle.cfi_closed.specs.Closed.{ClosedGraph}

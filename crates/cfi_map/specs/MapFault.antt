@@ -2,7 +2,7 @@
 -- places. In the text of a map the line with index `j` has the number j + 2, and the number after the last is that of the
 -- line `end`, which is wrong where lines are missing.
 use Rattle.std.specs.Prelude.{◌≡◌, ℕ, ◌+◌, take}
-use Rattle.cfi_graph.specs.Map.{MapParts}
+use Rattle.cfi_map_text.specs.Map.{MapParts}
 use Rattle.obj_program.specs.Program.{Program}
 use Rattle.cfi_closed.specs.Closed.{ClosedGraph}
 use Rattle.cfi_map.specs.Groups.{is_entered}

@@ -10,7 +10,7 @@ use Rattle.obj_input.specs.declared.item_kind.ItemKind.{ItemKind}
 use Rattle.obj_input.specs.declared.item_kind.ItemKind.TheVariants as is
 use Rattle.obj_program.specs.declared.item.Item.{Item}
 use Rattle.obj_program.specs.Program.{count, item_of, no_item}
-use Rattle.cfi_graph.specs.declared.map.MapLine.{MapLine}
+use Rattle.cfi_map_text.specs.declared.map.MapLine.{MapLine}
 use Rattle.cfi_class.specs.Labels.{AreLabels, IsLeastFree}
 use Rattle.cfi_map.specs.GraphAtMap.{ProgramAtMap, gate_to}
 use Rattle.cfi_map.specs.LabelOf.{site_label}

@@ -18,7 +18,7 @@ use Rattle.obj_program.specs.declared.item.Item.{Item}
 use Rattle.obj_program.specs.Program.{Program, count, item_of, no_item}
 use Rattle.cfi_graph.specs.declared.line.SiteKind.{SiteKind}
 use Rattle.cfi_graph.specs.declared.line.Sort.{Sort}
-use Rattle.cfi_graph.specs.Policy.{PolicyParts}
+use Rattle.cfi_policy.specs.Policy.{PolicyParts}
 use Rattle.cfi_closed.specs.declared.side.Site.{Site}
 use Rattle.cfi_closed.specs.Closed.{ClosedGraph, Side, is_target, is_target_of}
 use Rattle.cfi_closed.proofs.Sides.{few_sides}

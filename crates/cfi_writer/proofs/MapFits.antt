@@ -7,9 +7,9 @@ use Rattle.std.proofs.lemmas.Option.{same_Some, slice_get_within}
 use Rattle.rv_word.specs.Form.{profile_for}
 use Rattle.rv_word.specs.MemoryMap.{CODE_SIZE, CODE_START, Profile}
 use Rattle.rv_word.specs.declared.form.Form.{Form}
-use Rattle.cfi_graph.specs.declared.map.MapLine.{MapLine}
+use Rattle.cfi_map_text.specs.declared.map.MapLine.{MapLine}
 use Rattle.cfi_graph.specs.Graph.{is_rising}
-use Rattle.cfi_graph.specs.Map.{IsMap, is_gate, map_line_below, map_line_in_range, place_below}
+use Rattle.cfi_map_text.specs.Map.{IsMap, is_gate, map_line_below, map_line_in_range, place_below}
 use Rattle.obj_program.specs.declared.item.Item.{Item}
 use Rattle.obj_program.specs.Program.{Program, count, item_of, no_item}
 use Rattle.cfi_map.specs.GraphAtMap.{ProgramAtMap, gate}

@@ -8,7 +8,7 @@ use Rattle.rv_word.specs.MemoryMap.{Profile}
 use Rattle.rv_word.specs.declared.form.Form.{Form}
 use Rattle.obj_program.specs.declared.item.Item.{Item}
 use Rattle.obj_program.specs.Program.{count, item_of, no_item}
-use Rattle.cfi_graph.specs.declared.map.MapLine.{MapLine}
+use Rattle.cfi_map_text.specs.declared.map.MapLine.{MapLine}
 use Rattle.cfi_map.specs.GraphAtMap.{ProgramAtMap}
 use Rattle.cfi_map.specs.LegalMap.{IsLegalMap, gates_of}
 use Rattle.cfi_map.specs.Placement.{AreGates, IsLegal}

@@ -12,7 +12,7 @@ use Rattle.cfi_graph.specs.declared.line.SiteKind.{SiteKind}
 use Rattle.cfi_graph.specs.declared.line.SiteKind.TheVariants as kinds
 use Rattle.cfi_graph.specs.declared.line.Sort.{Sort}
 use Rattle.cfi_graph.specs.declared.line.Sort.TheVariants.{Both, Calls, Jumps}
-use Rattle.cfi_graph.specs.Policy.{PolicyParts}
+use Rattle.cfi_policy.specs.Policy.{PolicyParts}
 use Rattle.cfi_closed.specs.declared.side.Site.{Site}
 use Rattle.cfi_closed.specs.Closed.{Side, has_site, is_of, sorts_of}
 use Rattle.cfi_flow.specs.Below.{where_below}

@@ -7,7 +7,7 @@ use Rattle.rv_word.specs.MemoryMap.{CODE_SIZE, Profile}
 use Rattle.rv_word.specs.declared.form.Form.{Form}
 use Rattle.elf_image.specs.Spelling.{spelling}
 use Rattle.cfi_graph.specs.Graph.{GraphParts, IsGraph}
-use Rattle.cfi_graph.specs.Map.{MapParts}
+use Rattle.cfi_map_text.specs.Map.{MapParts}
 use Rattle.obj_program.specs.DataAtMap.{data_at, init_size}
 use Rattle.cfi_map.specs.GraphAtMap.{graph_lines}
 use Rattle.cfi_map.specs.LegalMap.{IsLegalMap, gates_of}

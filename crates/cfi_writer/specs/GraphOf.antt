@@ -1,6 +1,6 @@
 -- Closed graphs of a program.
 use Rattle.obj_program.specs.Program.{Program}
-use Rattle.cfi_graph.specs.Policy.{PolicyParts}
+use Rattle.cfi_policy.specs.Policy.{PolicyParts}
 use Rattle.cfi_closed.specs.Closed.{ClosedGraph}
 use Rattle.cfi_flow.specs.Closing.{IsClosed}
 use Rattle.cfi_flow.specs.Policy.{IsRaw}

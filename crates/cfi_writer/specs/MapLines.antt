@@ -1,7 +1,7 @@
 -- The lines of a map: each place with its gate, in the order of the places.
 use Rattle.std.specs.Prelude.{ℕ, ◌+◌, List, [], ◌∷◌}
 use Rattle.obj_program.specs.declared.item.Item.{Item}
-use Rattle.cfi_graph.specs.declared.map.MapLine.{MapLine}
+use Rattle.cfi_map_text.specs.declared.map.MapLine.{MapLine}
 use Rattle.cfi_map.specs.GraphAtMap.{ProgramAtMap, gate}
 
 abbrev pub map_line : ProgramAtMap → ℕ → Item → MapLine

@@ -4,7 +4,7 @@ use Rattle.elf_image.specs.Spelling.{spelling}
 use Rattle.cfi_graph.specs.Graph.{GraphParts}
 use Rattle.rv_word.specs.Form.{graph_version, image_version, profile_for}
 use Rattle.rv_word.specs.declared.form.Form.{Form}
-use Rattle.cfi_graph.specs.Map.{IsMap, MapParts}
+use Rattle.cfi_map_text.specs.Map.{IsMap, MapParts}
 use Rattle.obj_program.specs.DataAtMap.{data_at, init_size}
 use Rattle.obj_program.specs.MapFit.{FitsMaps}
 use Rattle.cfi_map.specs.GraphAtMap.{ProgramAtMap, graph_lines}

@@ -2,7 +2,7 @@ ghost use Rattle.std.specs.Prelude.{◌≡◌, ◌*◌, ◌<◌, ◌≤◌, ◌^
 ghost use Rattle.rv_word.specs.Form.{profile_for};
 ghost use Rattle.rv_word.specs.Image.{IsImageSize};
 ghost use Rattle.rv_word.specs.MemoryMap.{CODE_SIZE};
-ghost use Rattle.cfi_graph.specs.Map.{IsMap};
+ghost use Rattle.cfi_map_text.specs.Map.{IsMap};
 ghost use Rattle.cfi_map.specs.GraphAtMap.{graph_lines};
 ghost use Rattle.cfi_rules.specs.Split.{code_words};
 ghost use Rattle.obj_program.specs.DataAtMap.{data_at, init_size};
@@ -13,8 +13,9 @@ ghost use Rattle.cfi_writer.specs.Writing.{IsCoded, IsDescribed, IsImageWith, Is
 
 use crate::chosen::Chosen;
 use crate::code::code_bytes;
-use cfi_graph::{Graph, Map};
+use cfi_graph::Graph;
 use cfi_map::{Mapped, Spacing};
+use cfi_map_text::Map;
 use elf_image::write_image_as;
 use rv_word::{Bytes, Form, NoMemory};
 use std::alloc::Global;

@@ -2,12 +2,12 @@
 
 ghost use Rattle.std.specs.Prelude.{◌≡◌, IfOk};
 ghost use Rattle.rv_word.specs.Form.{profile_for};
-ghost use Rattle.cfi_graph.specs.Map.{IsMap};
+ghost use Rattle.cfi_map_text.specs.Map.{IsMap};
 ghost use Rattle.cfi_map.specs.LegalMap.{IsLegalMap};
 ghost use Rattle.cfi_writer.specs.MapLines.{map_lines};
 
 use crate::chosen::Chosen;
-use cfi_graph::{Map, MapLine, MapLines};
+use cfi_map_text::{Map, MapLine, MapLines};
 use rv_word::{Form, NoMemory};
 use std::alloc::Global;
 

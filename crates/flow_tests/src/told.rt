@@ -3,7 +3,8 @@
 
 use cfi_closed::Closed;
 use cfi_flow::{FlowEnd, Raw, RawSite, close, entry_place, raw_graph, used_labels};
-use cfi_graph::{Policy, SiteKind, read_policy};
+use cfi_graph::SiteKind;
+use cfi_policy::{Policy, read_policy};
 use obj_program::Items;
 use rv_word::Form;
 use std::alloc::{AllocError, Global};

@@ -1,7 +1,7 @@
 //! How many sections objects may have in all, and that an object that is refused changes nothing.
 
 use crate::told::{joined, told_of, told_of_end};
-use cfi_graph::write_map;
+use cfi_map_text::write_map;
 use cfi_rewrite::rewrite_program;
 use elf_bytes::{bytes_at, u16_at, u64_at};
 use obj_items::Join;

@@ -1,7 +1,8 @@
 //! Objects as one program in each form of hardening: image, graph, map and a run.
 
 use crate::told::joined;
-use cfi_graph::{write_graph, write_map};
+use cfi_graph::write_graph;
+use cfi_map_text::write_map;
 use cfi_rewrite::{Hardened, rewrite_program};
 use cfi_script::Script;
 use cfi_step::{RunEnd, RunReport};

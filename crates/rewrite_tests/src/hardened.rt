@@ -1,6 +1,7 @@
 use crate::given::answer;
 use crate::image::is_image_of;
-use cfi_graph::{Graph, Map, write_graph, write_map};
+use cfi_graph::{Graph, write_graph};
+use cfi_map_text::{Map, write_map};
 use cfi_rewrite::Hardened;
 use cfi_verify::verify;
 use elf_image::read_image;

@@ -6,7 +6,8 @@ ghost use Rattle.cfi_flow.specs.Policy.{instruction_at};
 
 use cfi_closed::Closed;
 use cfi_flow::{close, entry_place, raw_graph};
-use cfi_graph::{Map, Policy, read_map, read_policy};
+use cfi_map_text::{Map, read_map};
+use cfi_policy::{Policy, read_policy};
 use obj_program::Items;
 use rv_word::Form;
 use src_machine::{Reason, SourceEnd, SourceRun, SourceTurn};

@@ -11,8 +11,8 @@ use Rattle.rv_word.specs.Form.{profile_for}
 use Rattle.rv_word.specs.MemoryMap.{CODE_SIZE, CODE_START, DATA_START}
 use Rattle.rv_word.specs.declared.form.Form.{Form}
 use Rattle.rv_instr.specs.Registers.{cleared, set_reg}
-use Rattle.cfi_graph.specs.declared.map.MapLine.{MapLine}
-use Rattle.cfi_graph.specs.Map.{IsMap, MapParts, is_gate, map_line_in_range}
+use Rattle.cfi_map_text.specs.declared.map.MapLine.{MapLine}
+use Rattle.cfi_map_text.specs.Map.{IsMap, MapParts, is_gate, map_line_in_range}
 use Rattle.rv_code.specs.Decode.{decoded}
 use Rattle.obj_program.specs.DataAtMap.{data_at}
 use Rattle.obj_program.specs.Program.{Program, count, is_end, item_of}

@@ -7,8 +7,8 @@ use Rattle.least.specs.First.{first_below}
 use Rattle.least.proofs.Firsts.{first_none, found_parts}
 use Rattle.rv_word.specs.Form.{profile_for}
 use Rattle.rv_word.specs.declared.form.Form.{Form}
-use Rattle.cfi_graph.specs.Map.{MapParts}
-use Rattle.cfi_graph.specs.declared.map.MapLine.{MapLine}
+use Rattle.cfi_map_text.specs.Map.{MapParts}
+use Rattle.cfi_map_text.specs.declared.map.MapLine.{MapLine}
 use Rattle.obj_program.specs.declared.item.Item.{Item}
 use Rattle.obj_program.specs.Program.{Program, count, item_of, no_item}
 use Rattle.cfi_closed.specs.Closed.{ClosedGraph}

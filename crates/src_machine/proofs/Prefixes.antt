@@ -4,8 +4,8 @@ use Rattle.std.proofs.lemmas.Bool.{cases_eq, cases_lt}
 use Rattle.std.proofs.lemmas.List.{get_or-take, get_or_past, length-take, take-map}
 use Rattle.rv_word.specs.Form.{profile_for}
 use Rattle.rv_word.specs.declared.form.Form.{Form}
-use Rattle.cfi_graph.specs.Map.{MapParts}
-use Rattle.cfi_graph.specs.declared.map.MapLine.{MapLine}
+use Rattle.cfi_map_text.specs.Map.{MapParts}
+use Rattle.cfi_map_text.specs.declared.map.MapLine.{MapLine}
 use Rattle.obj_program.specs.declared.item.Item.{Item}
 use Rattle.obj_program.specs.Program.{Program, item_of, no_item}
 use Rattle.cfi_closed.specs.Closed.{ClosedGraph, Side}

@@ -1,6 +1,6 @@
 -- How a run of a source machine begins, and why none does.
 use Rattle.std.specs.Prelude.{◌≡◌, ℕ, Some, None, List}
-use Rattle.cfi_graph.specs.Map.{MapParts}
+use Rattle.cfi_map_text.specs.Map.{MapParts}
 use Rattle.obj_program.specs.Program.{Program}
 use Rattle.obj_program.specs.Range.{out_of_range}
 use Rattle.cfi_closed.specs.Closed.{ClosedGraph}

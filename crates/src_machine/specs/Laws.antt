@@ -1,6 +1,6 @@
 -- What holds of maps with a wrong line.
 use Rattle.std.specs.Prelude.{◌≡◌, ◌↔◌, ℕ, take}
-use Rattle.cfi_graph.specs.Map.{MapParts}
+use Rattle.cfi_map_text.specs.Map.{MapParts}
 use Rattle.obj_program.specs.Program.{Program}
 use Rattle.cfi_closed.specs.Closed.{ClosedGraph}
 use Rattle.cfi_map.specs.LegalMap.{IsLegalMap}

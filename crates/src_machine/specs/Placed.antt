@@ -1,7 +1,7 @@
 -- A program that is placed, as a source machine keeps it. Only private contracts cite this.
 use Rattle.std.specs.Prelude.{◌≡◌, ℕ, ◌<◌, false, Some, None, List, length, slice_index}
 use Rattle.rv_code.specs.Decode.{decoded}
-use Rattle.cfi_graph.specs.Map.{MapParts}
+use Rattle.cfi_map_text.specs.Map.{MapParts}
 use Rattle.obj_program.specs.Program.{Program, count, is_end, item_of}
 use Rattle.cfi_closed.specs.Closed.{ClosedGraph}
 use Rattle.cfi_map.specs.GraphAtMap.{ProgramAtMap, program_at}

@@ -10,8 +10,8 @@ ghost use Rattle.src_machine.specs.MapLine.{follows_at, has_whole, is_named, is_
 
 use crate::source_end::SourceEnd;
 use cfi_closed::Closed;
-use cfi_graph::{Map, MapLine};
 use cfi_map::{Grouping, lead_size, unit_size};
+use cfi_map_text::{Map, MapLine};
 use obj_input::ItemKind;
 use obj_program::{Item, Items};
 use rv_word::Form;

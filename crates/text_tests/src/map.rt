@@ -1,7 +1,7 @@
 ghost use Rattle.std.specs.Prelude.{◌≡◌, ◌∷◌, [], IfOk};
 ghost use Rattle.text_tests.specs.declared.map.TheConstants as constants;
 
-use cfi_graph::{Map, MapLine, MapLines, read_map, write_map};
+use cfi_map_text::{Map, MapLine, MapLines, read_map, write_map};
 use rv_word::{Form, NoMemory};
 use sample_programs::{is_told_as, rows};
 use std::alloc::{AllocError, Global};

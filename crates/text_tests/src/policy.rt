@@ -1,5 +1,5 @@
 use crate::graph::is_list;
-use cfi_graph::{PlaceName, Policy, read_policy, read_policy_part};
+use cfi_policy::{PlaceName, Policy, read_policy, read_policy_part};
 use sample_programs::{is_told_as, rows};
 use std::alloc::{AllocError, Global};
 

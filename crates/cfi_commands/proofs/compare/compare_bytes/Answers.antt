@@ -1,7 +1,7 @@
 use Rattle.std.proofs.Common.{Err, subst}
 use Rattle.text_lines.specs.Answers.{Answers}
 use Rattle.text_lines.specs.declared.end.TextEnd.{TextEnd}
-use Rattle.cfi_graph.specs.MapText.{map_of}
+use Rattle.cfi_map_text.specs.MapText.{map_of}
 use Rattle.cfi_commands.proofs.compare.compare_bytes.Goals as goal
 
 pub returns-in-Ok : goal.returns-in-Ok

@@ -1,6 +1,6 @@
 use Rattle.std.proofs.Common.{◌≡◌, subst, sym}
 use Rattle.rv_word.specs.Form.{profile_for}
-use Rattle.cfi_graph.specs.Map.{IsMap}
+use Rattle.cfi_map_text.specs.Map.{IsMap}
 use Rattle.cfi_writer.specs.MapLines.{map_lines}
 use Rattle.cfi_writer.specs.Units.{Choice}
 use Rattle.cfi_writer.specs.Writing.{IsDescribed}
