@@ -1,5 +1,5 @@
 -- A place whose word is an `ecall` has one at each map, and no other place has: a relocation changes immediates alone.
-use Rattle.std.proofs.Common.{◌≡◌, ℕ, Bool, true, false, List, Option, Some, None, if◌then◌else◌, inl, inr, refl, ap, ◌∙◌}
+use Rattle.std.proofs.Common.{◌≡◌, ℕ, Bool, true, false, List, Some, None, if◌then◌else◌, inl, inr, refl, ap, ◌∙◌}
 use Rattle.rv_word.proofs.Cases.{cases_Option, mapped}
 use Rattle.rv_instr.specs.declared.instr.Instr.{Instr}
 use Rattle.rv_instr.specs.declared.instr.Instr.TheVariants.{Upper, Jalr, Load, Store, Immediate}

@@ -3,7 +3,6 @@
 ghost use Rattle.std.specs.Prelude.{◌≡◌, ◌+◌, ◌<◌, ◌≤◌, ◌||◌, not, IfOk};
 ghost use Rattle.obj_program.specs.Program.{count, item_of};
 ghost use Rattle.cfi_map.specs.Groups.{is_store};
-ghost use Rattle.rv_code.specs.Decode.{decoded};
 ghost use Rattle.cfi_map.specs.Placement.{call_size, is_ecall, is_ecall_instr, lead_size, size_of, whole_at};
 ghost use Rattle.cfi_map.specs.Sizes.{grouped_parts};
 

@@ -1,4 +1,4 @@
-ghost use Rattle.std.specs.Prelude.{◌≡◌, ◌≢◌, ◌+◌, ◌/◌, ◌<◌, ◌^◌, ℕ, List, IfErr, IfOk, [], ◌++◌, length};
+ghost use Rattle.std.specs.Prelude.{◌≡◌, ◌+◌, ◌/◌, ◌<◌, ◌^◌, ℕ, List, IfErr, IfOk, [], ◌++◌, length};
 ghost use Rattle.rv_word.specs.Image.{Contents};
 ghost use Rattle.rv_word.specs.MemoryMap.{profile_of};
 ghost use Rattle.cfi_scan.specs.Pieces.{HasSeen};

@@ -1,6 +1,6 @@
 //! One step of the graph walk.
 
-ghost use Rattle.std.specs.Prelude.{◌<◌, ◌^◌, ◌⊎◌, ℕ, List};
+ghost use Rattle.std.specs.Prelude.{◌<◌, ◌^◌, ◌⊎◌};
 ghost use Rattle.rv_word.specs.Image.{image_profile};
 ghost use Rattle.cfi_rules.specs.Walk.{
   CallGoes,

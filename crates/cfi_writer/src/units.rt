@@ -3,7 +3,7 @@
 ghost use Rattle.std.specs.Prelude.{false, ◌≡◌, ◌<◌, ◌^◌, ◌++◌, ◌∷◌, [], IfOk, IfSome, OnOk, map};
 ghost use Rattle.rv_instr.specs.declared.instr.ImmediateOp.TheVariants.{Addi};
 ghost use Rattle.rv_instr.specs.declared.instr.Instr.TheVariants as I;
-ghost use Rattle.obj_program.specs.Program.{count, item_of};
+ghost use Rattle.obj_program.specs.Program.{count};
 ghost use Rattle.cfi_map.specs.LabelOf.{labels_of};
 ghost use Rattle.cfi_writer.specs.Chosen.{instr_if};
 ghost use Rattle.cfi_map.specs.Groups.{is_store};

@@ -4,9 +4,9 @@
 
 pub use ended::Asked;
 pub use files::{Given, is_file, runs_as};
-pub use map::map;
+pub use maps::map;
 pub use sample_hardened::Source;
 
 mod ended;
 mod files;
-mod map;
+mod maps;

@@ -1,12 +1,12 @@
 //! Whether a map is a placement's.
 
-ghost use Rattle.std.specs.Prelude.{◌≡◌, ◌==◌, ◌<◌, ◌≤◌, ◌+◌, ◌-◌, ◌^◌, ℕ, IfSome, MatchResult, length};
+ghost use Rattle.std.specs.Prelude.{◌≡◌, ◌==◌, ◌<◌, ◌≤◌, ◌+◌, ◌-◌, ◌^◌, IfSome, MatchResult, length};
 ghost use Rattle.least.specs.First.{first_below};
 ghost use Rattle.obj_program.specs.Program.{count, item_of};
 ghost use Rattle.cfi_map.specs.Groups.{members_after};
 ghost use Rattle.cfi_map.specs.LegalMap.{IsLegalMap};
 ghost use Rattle.src_machine.specs.Beginning.{Ends};
-ghost use Rattle.src_machine.specs.MapLine.{follows_at, has_whole, is_named, is_past_whole, is_right, is_wrong, may_be_short, stands, stores_before};
+ghost use Rattle.src_machine.specs.MapLine.{follows_at, has_whole, is_named, is_past_whole, is_wrong, may_be_short, stands, stores_before};
 
 use crate::source_end::SourceEnd;
 use cfi_closed::Closed;
