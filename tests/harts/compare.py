@@ -4,7 +4,7 @@
     python3 tests/harts/compare.py [--program PATH] [--seed N] [COUNT]
 
 The program is crates/rvcfi/out/rvcfi where none is named, as `rt ci` or `rt run` leaves it. Before that the model's steps are
-compared with those that qemu gave, in crates/machine_tests/src/steps.rt. Of each case the status and the whole text have to be
+compared with those that qemu gave, in crates/test_machine/src/steps.rt. Of each case the status and the whole text have to be
 the same; one that differs is told by its number, and its files stay in a folder. The status is 1 where there is one. It ends with
 a count of the answers by their kind. Of a pair with a fault, the rule and the address are those of rules.py.
 """
@@ -33,7 +33,7 @@ TESTED, BYTES_AT, X12, BYTES = 0x40000020, 0x10020, 0x0123456789ABCDEF, bytes.fr
 
 def qemu_rows():
     """The word, x10 and x11 of each row, and what qemu gave: x12, the next pc, the 8 bytes at x13."""
-    text = (CRATES / "machine_tests" / "src" / "steps.rt").read_text()
+    text = (CRATES / "test_machine" / "src" / "steps.rt").read_text()
     for row in re.findall(r"^ +\w+ ((?:[0-9a-f]+ ?){6})\\n", text, re.M):
         yield [int(number, 16) for number in row.split()]
 

@@ -1,8 +1,8 @@
 #!/usr/bin/env python3
 """Prints the tables of lists of system calls: `python3 tests/harts/lists.py told`, `lines`, `pairs` or `placed`.
 
-`told` is what `harden` puts of the rows LISTING of forms.py, in crates/harden_tests/src/forms.rt; `lines` is
-crates/test_lists/src/lists.rt, objects and command lines; `pairs` is crates/hostile_tests/src/lists.rt, images and graphs; `placed` is
+`told` is what `harden` puts of the rows LISTING of forms.py, in crates/test_harden/src/forms.rt; `lines` is
+crates/test_lists/src/lists.rt, objects and command lines; `pairs` is crates/test_hostile/src/lists.rt, images and graphs; `placed` is
 crates/test_placed/src/listed.rt, maps. All that is told comes from the models beside this file.
 """
 

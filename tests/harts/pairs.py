@@ -14,8 +14,8 @@ sys.dont_write_bytecode = True
 from rules import verdict
 
 CRATES = Path(__file__).resolve().parents[2] / "crates"
-TABLES = ["hostile_tests/src/pairs.rt", "hardened_tests/src/pieces.rt", "hardened_tests/src/apart.rt", "harts_tests/src/images.rt",
-          "graph_tests/src/pairs.rt"]
+TABLES = ["test_hostile/src/pairs.rt", "test_hardened/src/pieces.rt", "test_hardened/src/apart.rt", "test_harts/src/images.rt",
+          "test_graph/src/pairs.rt"]
 SHARED = ["sample_programs/src/units.rt", "sample_programs/src/graphs.rt", "sample_runs/src/codes.rt"]
 OF_HARTS = ("SHARED", "JOBS")  # programs for several harts whose names do not say so
 PROLOGUES = {1: "PROLOGUE", 2: "PROLOGUE_OF_HARTS"}

@@ -1,5 +1,5 @@
 #!/usr/bin/env python3
-"""Prints the tables of crates/harts_tests/src/commands.rt: `python3 tests/harts/rows.py`.
+"""Prints the tables of crates/test_harts/src/commands.rt: `python3 tests/harts/rows.py`.
 
 A row is the lines of a script between its first and its last, a command line, and the status and the text that the model beside
 this file gives of it. `rounds HARTS N` stands for N rounds, in each of which each hart takes one step. In a race a row stands for

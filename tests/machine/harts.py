@@ -1,5 +1,5 @@
 #!/usr/bin/env python3
-"""Prints the programs and tables of crates/machine_tests/src/machine.rt: `python3 tests/machine/harts.py`.
+"""Prints the programs and tables of crates/test_machine/src/machine.rt: `python3 tests/machine/harts.py`.
 
 A small model of its own: harts that take turns, one step each, over one memory, one input and one output.
 """

@@ -1,5 +1,5 @@
 #!/usr/bin/env python3
-"""Prints the table of crates/machine_tests/src/steps.rt: `python3 tests/machine/steps.py`.
+"""Prints the table of crates/test_machine/src/steps.rt: `python3 tests/machine/steps.py`.
 
 Each instruction of steps.s is assembled by GNU binutils into a program that loads x10 to x12,
 points x13 to 16 bytes, and stands at the addresses that the machine of rv_machine has for code and

@@ -1,5 +1,5 @@
 #!/usr/bin/env python3
-"""What several objects are as one program, for crates/link_tests and crates/sample_links: `python3 tests/objects/make_links.py`,
+"""What several objects are as one program, for crates/test_link and crates/sample_links: `python3 tests/objects/make_links.py`,
 with `rows`, `orders`, `worked` or `samples` to print a module of them.
 
 Without a word it compares what it makes with those modules, and the status is 1 where one differs. Each is made otherwise:
@@ -33,7 +33,7 @@ from program import UNITS
 from runs import Run, Script
 
 CRATES = HERE.parents[1] / "crates"
-TESTS, SAMPLES = CRATES / "link_tests" / "src", CRATES / "sample_links" / "src"
+TESTS, SAMPLES = CRATES / "test_link" / "src", CRATES / "sample_links" / "src"
 GNU, ENTRY, CODE, WIDTH = "riscv64-linux-gnu-", "main", 0x40000000, 112
 BY_HAND = ("Undecodable", "ReservedRegister", "BadTransfer", "BadPair", "RelocKind", "RelocPlace", "BadCodePointer", "Policy",
            "RelocRange")

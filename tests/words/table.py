@@ -1,5 +1,5 @@
 #!/usr/bin/env python3
-"""Prints the two tables of crates/word_tests/src/words.rt: `python3 tests/words/table.py`.
+"""Prints the two tables of crates/test_word/src/words.rt: `python3 tests/words/table.py`.
 
 The words are those that GNU binutils makes of words.s and others.s; what each word of words.s has
 to mean is read from its line of source.

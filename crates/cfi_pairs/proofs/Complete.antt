@@ -12,12 +12,12 @@ use Rattle.cfi_step.specs.declared.report.RunReport.{RunReport}
 use Rattle.cfi_rules.specs.Rules.{IsRejected, IsWellFormed}
 use Rattle.cfi_rules.specs.declared.reject.Reject as V
 use Rattle.cfi_rules.specs.declared.reject.Reject.TheVariants.{At, Length}
-use Rattle.cfi_files.specs.Reads.{Content}
-use Rattle.cfi_files.specs.Spelled.{IsImage, Spell}
-use Rattle.cfi_files.specs.Words.{text_named}
-use Rattle.cfi_files.specs.declared.refusal.Refusal.{Refusal}
-use Rattle.cfi_files.specs.declared.refusal.Refusal.TheVariants.{Graph, Harts, Image, Script}
-use Rattle.cfi_files.proofs.Held.{same_bytes, same_named}
+use Rattle.tool_common.specs.Reads.{Content}
+use Rattle.tool_common.specs.Spelled.{IsImage, Spell}
+use Rattle.tool_common.specs.Words.{text_named}
+use Rattle.tool_common.specs.declared.refusal.Refusal.{Refusal}
+use Rattle.tool_common.specs.declared.refusal.Refusal.TheVariants.{Graph, Harts, Image, Script}
+use Rattle.tool_common.proofs.Held.{same_bytes, same_named}
 use Rattle.cfi_report.specs.ReportText.{end_status}
 use Rattle.cfi_report.specs.SafeRun.{IsSafeRun, undisturbed_script}
 use Rattle.cfi_pairs.specs.Complete.{RunIsComplete, VerifyIsComplete}

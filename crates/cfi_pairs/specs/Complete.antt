@@ -6,10 +6,10 @@ use Rattle.cfi_graph.specs.Graph.{GraphParts}
 use Rattle.cfi_rules.specs.Rules.{IsWellFormed}
 use Rattle.cfi_script.specs.Script.{ScriptParts}
 use Rattle.cfi_step.specs.declared.report.RunReport.{RunReport}
-use Rattle.cfi_files.specs.Held.{AreHeld}
-use Rattle.cfi_files.specs.Reads.{Content}
-use Rattle.cfi_files.specs.Spelled.{Spell}
-use Rattle.cfi_files.specs.Words.{text_named}
+use Rattle.tool_common.specs.Held.{AreHeld}
+use Rattle.tool_common.specs.Reads.{Content}
+use Rattle.tool_common.specs.Spelled.{Spell}
+use Rattle.tool_common.specs.Words.{text_named}
 use Rattle.cfi_report.specs.ReportText.{end_status}
 use Rattle.cfi_report.specs.SafeRun.{IsSafeRun}
 use Rattle.cfi_pairs.specs.Opening.{script_given}

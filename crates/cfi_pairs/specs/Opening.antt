@@ -10,8 +10,8 @@ use Rattle.text_lines.specs.declared.end.TextEnd.TheVariants.{Line}
 use Rattle.cfi_report.specs.SafeRun.{undisturbed_script}
 use Rattle.cfi_pairs.specs.declared.opening.OpenEnd.{OpenEnd}
 use Rattle.cfi_pairs.specs.declared.opening.OpenEnd.TheVariants as ends
-use Rattle.cfi_files.specs.declared.refusal.Refusal.{Refusal}
-use Rattle.cfi_files.specs.declared.refusal.Refusal.TheVariants.{Image, Graph, Script, Harts}
+use Rattle.tool_common.specs.declared.refusal.Refusal.{Refusal}
+use Rattle.tool_common.specs.declared.refusal.Refusal.TheVariants.{Image, Graph, Script, Harts}
 
 -- two files are read as an image and a graph
 pub record AreRead (image_bytes graph_bytes : List ℕ) (graph : GraphParts) : Type 0 where

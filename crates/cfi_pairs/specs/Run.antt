@@ -8,14 +8,14 @@ use Rattle.cfi_rules.specs.RejectText.{reject_text}
 use Rattle.cfi_rules.specs.Rules.{IsRejected}
 use Rattle.cfi_script.specs.Script.{ScriptParts}
 use Rattle.cfi_step.specs.declared.report.RunReport.{RunReport}
-use Rattle.cfi_files.specs.Lines.{with_newline}
+use Rattle.tool_common.specs.Lines.{with_newline}
 use Rattle.cfi_pairs.specs.Opening.{IsRefusal, script_given}
-use Rattle.cfi_files.specs.Reads.{Content, Gave, GaveNamed}
-use Rattle.cfi_files.specs.Refusals.{refusal_line}
-use Rattle.cfi_files.specs.Spelled.{Spell}
+use Rattle.tool_common.specs.Reads.{Content, Gave, GaveNamed}
+use Rattle.tool_common.specs.Refusals.{refusal_line}
+use Rattle.tool_common.specs.Spelled.{Spell}
 use Rattle.cfi_report.specs.ReportText.{end_status, report_text}
 use Rattle.cfi_report.specs.SafeRun.{IsSafeRun}
-use Rattle.cfi_files.specs.Words.{file_word, steps_of, text_named}
+use Rattle.tool_common.specs.Words.{file_word, steps_of, text_named}
 use Rattle.cfi_pairs.specs.declared.run.RunOutcome.{RunOutcome}
 use Rattle.cfi_pairs.specs.declared.run.RunOutcome.TheVariants.{Refused, Rejected, Ran}
 use Rattle.cfi_pairs.specs.declared.run.RunRequest.{RunRequest}

@@ -6,11 +6,11 @@ use Rattle.cfi_rules.specs.Along.{IsSafe}
 use Rattle.cfi_rules.specs.Listed.{IsListed}
 use Rattle.cfi_rules.specs.RejectText.{reject_text}
 use Rattle.cfi_rules.specs.Rules.{IsWellFormed, IsRejected}
-use Rattle.cfi_files.specs.Lines.{with_newline}
+use Rattle.tool_common.specs.Lines.{with_newline}
 use Rattle.cfi_pairs.specs.Opening.{IsRefusal}
-use Rattle.cfi_files.specs.Reads.{Content, Gave}
-use Rattle.cfi_files.specs.Refusals.{refusal_line}
-use Rattle.cfi_files.specs.Spelled.{Spell}
+use Rattle.tool_common.specs.Reads.{Content, Gave}
+use Rattle.tool_common.specs.Refusals.{refusal_line}
+use Rattle.tool_common.specs.Spelled.{Spell}
 use Rattle.cfi_pairs.specs.declared.verify.Verdict.{Verdict}
 use Rattle.cfi_pairs.specs.declared.verify.Verdict.TheVariants.{Accepted, Refused, Rejected}
 use Rattle.cfi_pairs.specs.declared.verify.VerifyRequest.{VerifyRequest}

@@ -1,15 +1,15 @@
 //! What `verify` and `run` begin with: an image and its graph, read as such.
 
 ghost use Rattle.std.specs.Prelude.{None, IfOk, IfErr};
-ghost use Rattle.cfi_files.specs.Spelled.{Spell};
+ghost use Rattle.tool_common.specs.Spelled.{Spell};
 ghost use Rattle.cfi_pairs.specs.Opening.{AreRead, IsOpenEnd};
 
-use cfi_files::Refusal;
 use cfi_graph::{Graph, read_graph};
 use elf_image::read_image;
 use rv_word::Image;
 use std::alloc::Global;
 use text_lines::TextEnd;
+use tool_common::Refusal;
 
 /// An image and its graph.
 #[derive(Drop)]

@@ -4,22 +4,22 @@ ghost use Rattle.rv_word.specs.MemoryMap.{MayRun};
 ghost use Rattle.tool_io.specs.Reading.{CountsReads, IsOnlyRead};
 ghost use Rattle.text_lines.specs.Answers.{Answers};
 ghost use Rattle.cfi_pairs.specs.Opening.{IsOpenEnd, script_given};
-ghost use Rattle.cfi_files.specs.Reads.{IsFault, IsStop, IsTooLong};
-ghost use Rattle.cfi_files.specs.Spelled.{Spell};
+ghost use Rattle.tool_common.specs.Reads.{IsFault, IsStop, IsTooLong};
+ghost use Rattle.tool_common.specs.Spelled.{Spell};
 ghost use Rattle.cfi_pairs.specs.Run.{ExplainsRun, IsRunOf, IsRunOfPair, run_asked, run_names, run_status, run_text, run_words};
 
 use crate::opening::{OpenEnd, Pair, open_pair};
 use crate::verify::Verdict;
-use cfi_files::{Refusal, Stop, file_word, line, read_all, status, steps, text_named};
 use cfi_report::{end_status, report_text};
 use cfi_script::Script;
 use cfi_step::{RunReport, run};
 use cfi_verify::{Reject, VerifyEnd, verify};
-use cfi_words::RunWords;
 use rv_word::{Image, NoMemory};
 use std::alloc::Global;
 use text_lines::TextEnd;
+use tool_common::{Refusal, Stop, file_word, line, read_all, status, steps, text_named};
 use tool_io::Files;
+use tool_words::RunWords;
 
 /// What a run is asked for: its files, and how many steps it takes at most.
 #[derive(Clone, Copy)]

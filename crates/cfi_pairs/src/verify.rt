@@ -1,16 +1,16 @@
 ghost use Rattle.std.specs.Prelude.{◌≡◌, IfOk, IfErr, option_map, ◌∷◌, []};
 ghost use Rattle.tool_io.specs.Reading.{CountsReads, IsOnlyRead};
-ghost use Rattle.cfi_files.specs.Reads.{IsFault, IsStop, IsTooLong};
+ghost use Rattle.tool_common.specs.Reads.{IsFault, IsStop, IsTooLong};
 ghost use Rattle.cfi_pairs.specs.Verify.{ExplainsVerdict, IsJudgement, IsVerdictOf, verdict_status, verify_asked, verify_names, verify_words};
 
 use crate::opening::{OpenEnd, Pair, open_pair};
-use cfi_files::{Refusal, Stop, read_all, status};
 use cfi_verify::{Reject, VerifyEnd, verify};
-use cfi_words::VerifyWords;
 use rv_word::NoMemory;
 use std::alloc::Global;
 use std::fmt;
+use tool_common::{Refusal, Stop, read_all, status};
 use tool_io::Files;
+use tool_words::VerifyWords;
 
 /// What `verify` is asked for: the names of an image and of its graph.
 #[derive(Clone, Copy)]

@@ -4,12 +4,12 @@ ghost use Rattle.std.specs.Prelude.{◌≡◌, ◌++◌, codes, IfOk, OnOk};
 ghost use Rattle.text_lines.specs.Hex.{hex_text};
 ghost use Rattle.cfi_report.specs.ReportText.{end_status, handler_name, hart_walk_text, hart_walks_text, report_head, report_text, steps_line, stop_lines, trail_text, walk_lines, walk_text, walks_text};
 
-use cfi_files::status;
 use cfi_step::{Handler, HartWalk, RunEnd, RunReport};
 use rv_word::NoMemory;
 use std::alloc::Global;
 use std::fmt;
 use text_lines::{Address, LongAddress};
+use tool_common::status;
 
 /// The symbol of a handler.
 fn handler_name(handler: Handler) -> &'static str

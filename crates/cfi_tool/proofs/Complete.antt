@@ -1,9 +1,9 @@
 -- What is answered to a request is complete.
 use Rattle.std.proofs.Common.{◌≡◌, ℕ, List, [], ◌∷◌, Some, Ok, subst}
-use Rattle.cfi_files.specs.Reads.{Content, IsLong, IsReached, IsUnread}
-use Rattle.cfi_files.specs.declared.read.Unread.TheVariants.{Fault, TooLong}
-use Rattle.cfi_files.proofs.Held.{none_long}
-use Rattle.cfi_commands.proofs.Complete.{all_held, compare_complete, rewrite_complete}
+use Rattle.tool_common.specs.Reads.{Content, IsLong, IsReached, IsUnread}
+use Rattle.tool_common.specs.declared.read.Unread.TheVariants.{Fault, TooLong}
+use Rattle.tool_common.proofs.Held.{none_long}
+use Rattle.tool_commands.proofs.Complete.{all_held, compare_complete, rewrite_complete}
 use Rattle.cfi_pairs.proofs.Complete.{run_complete, verify_complete}
 use Rattle.cfi_tool.specs.Complete.{IsComplete}
 use Rattle.cfi_tool.specs.Explains.{Explains, ExplainsRequest, IsReadFault}

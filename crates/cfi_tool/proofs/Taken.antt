@@ -1,11 +1,11 @@
 -- What a command line is taken for, by how `clap` reads it.
 use Rattle.std.proofs.Common.{◌≡◌, ◌∙◌, ℕ, List, None, Some, Ok, Err, ap, sym}
 use Rattle.std.specs.Option.{option_map}
-use Rattle.cfi_words.specs.Plain.{TakesPlain}
-use Rattle.cfi_words.specs.Reading.{Gives, reading, request_of as words_of}
-use Rattle.cfi_words.specs.declared.asked.Asked.{Asked}
-use Rattle.cfi_words.specs.declared.end.WordsEnd.{WordsEnd}
-use Rattle.cfi_words.specs.declared.end.WordsEnd.TheVariants.{Help, Version, Refused, NoMemory}
+use Rattle.tool_words.specs.Plain.{TakesPlain}
+use Rattle.tool_words.specs.Reading.{Gives, reading, request_of as words_of}
+use Rattle.tool_words.specs.declared.asked.Asked.{Asked}
+use Rattle.tool_words.specs.declared.end.WordsEnd.{WordsEnd}
+use Rattle.tool_words.specs.declared.end.WordsEnd.TheVariants.{Help, Version, Refused, NoMemory}
 use Rattle.cfi_tool.specs.Request.{IsKept, IsRight, IsWordsEnd, TakenPlainly, asked, if_request, request_of, taken, taken_by, untaken}
 use Rattle.cfi_tool.specs.declared.request.Request as R
 

@@ -1,13 +1,13 @@
 -- Status 0 where two names stand after `verify`: neither help nor the version can have been asked for, and the two names are the files.
 use Rattle.std.proofs.Common.{◌≡◌, ◌∙◌, ℕ, false, List, [], ◌∷◌, Option, Some, None, inl, inr, ap, ap₂, sym, subst, refl, arith, codes}
 use Rattle.std.specs.Prelude.{⊤}
-use Rattle.cfi_words.specs.HelpWords.{asks_help, asks_version}
-use Rattle.cfi_words.specs.Plain.{AsksFor, Operands, mark_left, none_left, one_more}
-use Rattle.cfi_words.specs.Reading as reads
-use Rattle.cfi_words.specs.Reading.{Reading, clap_reading, if_alone, reading}
-use Rattle.cfi_words.proofs.Top.{asks_as_read}
-use Rattle.cfi_files.specs.Reads.{Content}
-use Rattle.cfi_files.specs.declared.read.Unread.TheVariants.{Fault, TooLong}
+use Rattle.tool_words.specs.HelpWords.{asks_help, asks_version}
+use Rattle.tool_words.specs.Plain.{AsksFor, Operands, mark_left, none_left, one_more}
+use Rattle.tool_words.specs.Reading as reads
+use Rattle.tool_words.specs.Reading.{Reading, clap_reading, if_alone, reading}
+use Rattle.tool_words.proofs.Top.{asks_as_read}
+use Rattle.tool_common.specs.Reads.{Content}
+use Rattle.tool_common.specs.declared.read.Unread.TheVariants.{Fault, TooLong}
 use Rattle.cfi_pairs.specs.Verify.{IsAccepted, VerifyWords}
 use Rattle.cfi_pairs.specs.declared.verify.Verdict.TheVariants as verdict
 use Rattle.cfi_tool.specs.Explains.{Explains, ExplainsRequest}

@@ -1,8 +1,8 @@
 -- Completeness: what the status is where no fault is counted and there is memory. Nothing is refused, rejected or left undone without
 -- a cause in the files.
 use Rattle.std.specs.Prelude.{◌≡◌, ◌⊎◌, ◌≤◌, ℕ}
-use Rattle.cfi_files.specs.Reads.{Content}
-use Rattle.cfi_commands.specs.Complete.{CompareIsComplete, RewriteIsComplete}
+use Rattle.tool_common.specs.Reads.{Content}
+use Rattle.tool_commands.specs.Complete.{CompareIsComplete, RewriteIsComplete}
 use Rattle.cfi_pairs.specs.Complete.{RunIsComplete, VerifyIsComplete}
 use Rattle.cfi_tool.specs.Request.{Request, compare, demo, rewrite, run, verify}
 

@@ -2,16 +2,16 @@
 use Rattle.std.specs.Prelude.{◌≡◌, ℕ, List, take, ⊤, Option, Result, Ok}
 use Rattle.std.specs.Io.KnownBytes.{Appends}
 use Rattle.rv_word.specs.declared.no_memory.NoMemory.{NoMemory}
-use Rattle.cfi_commands.specs.Compare.{ExplainsCompare}
-use Rattle.cfi_commands.specs.Demo.{ExplainsDemo}
-use Rattle.cfi_commands.specs.Rewrite.{ExplainsRewrite}
+use Rattle.tool_commands.specs.Compare.{ExplainsCompare}
+use Rattle.tool_commands.specs.Demo.{ExplainsDemo}
+use Rattle.tool_commands.specs.Rewrite.{ExplainsRewrite}
 use Rattle.cfi_pairs.specs.Run.{ExplainsRun}
 use Rattle.cfi_pairs.specs.Verify.{ExplainsVerdict}
-use Rattle.cfi_files.specs.Reads.{Content, IsUnread}
+use Rattle.tool_common.specs.Reads.{Content, IsUnread}
 use Rattle.cfi_tool.specs.Request.{Request, compare as compares, demo as demos, names_of, helps, asks, taken, tells_version, untaken, rewrite as rewrites, run as runs, verify as verifies}
 use Rattle.cfi_tool.specs.declared.outcome.Outcome.{Outcome}
 use Rattle.cfi_tool.specs.declared.outcome.Outcome.TheVariants.{Usage, Help, Version, Unread, Rewrite, Verify, Run, Compare, Demo}
-use Rattle.cfi_files.specs.declared.read.Unread.TheVariants.{Fault, TooLong}
+use Rattle.tool_common.specs.declared.read.Unread.TheVariants.{Fault, TooLong}
 
 -- what a command's own outcome says of what was asked for
 abbrev pub ExplainsRequest : Content → Request → Outcome → Type 0

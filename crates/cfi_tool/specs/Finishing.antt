@@ -4,7 +4,7 @@ use Rattle.std.specs.Io.KnownBytes.{Keeps}
 use Rattle.tool_io.specs.declared.files.Files.{Ghosts}
 use Rattle.cfi_tool.specs.Explains.{IsPart}
 use Rattle.cfi_tool.specs.Outcomes.{outcome_outputs, outcome_text}
-use Rattle.cfi_files.specs.Writes.{IsCut, IsTorn, Wrote}
+use Rattle.tool_common.specs.Writes.{IsCut, IsTorn, Wrote}
 use Rattle.cfi_tool.specs.declared.outcome.Outcome.{Outcome}
 
 -- a fault: of a file, where those before it were written whole and nothing was put, or of the output, where all files were written

@@ -1,13 +1,13 @@
 -- The text and the status of what a command comes to.
 use Rattle.std.specs.Prelude.{ℕ, List, [], codes, string_bytes}
-use Rattle.cfi_commands.specs.Compare.{compare_line, compare_status}
-use Rattle.cfi_commands.specs.Demo.{demo_status, demo_text}
-use Rattle.cfi_commands.specs.Rewrite.{rewrite_line, rewrite_outputs, rewrite_status}
+use Rattle.tool_commands.specs.Compare.{compare_line, compare_status}
+use Rattle.tool_commands.specs.Demo.{demo_status, demo_text}
+use Rattle.tool_commands.specs.Rewrite.{rewrite_line, rewrite_outputs, rewrite_status}
 use Rattle.cfi_pairs.specs.Run.{run_status, run_text}
 use Rattle.cfi_pairs.specs.Verify.{verdict_line, verdict_status}
-use Rattle.cfi_files.specs.Lines.{with_newline}
-use Rattle.cfi_files.specs.Writes.{OutputParts}
-use Rattle.cfi_files.specs.Reads.{unread_line, unread_status}
+use Rattle.tool_common.specs.Lines.{with_newline}
+use Rattle.tool_common.specs.Writes.{OutputParts}
+use Rattle.tool_common.specs.Reads.{unread_line, unread_status}
 use Rattle.cfi_tool.specs.declared.outcome.Outcome.{Outcome}
 use Rattle.cfi_tool.specs.declared.outcome.Outcome.TheVariants.{Usage, Help, Version, Unread, Rewrite, Verify, Run, Compare, Demo}
 

@@ -2,14 +2,14 @@
 use Rattle.std.specs.Prelude.{◌≡◌, ◌⊎◌, ℕ, ◌≤◌, if◌then◌else◌, List, [], ◌∷◌, codes, ⊤, Option, Some, None, option_map}
 use Rattle.std.specs.Str.{bytes_eq}
 use Rattle.text_lines.specs.Decimal.{MAX_STEP}
-use Rattle.cfi_words.specs.Reading as reads
-use Rattle.cfi_words.specs.Reading.{Reading, reading}
-use Rattle.cfi_words.specs.Plain.{IsPlainRequest}
-use Rattle.cfi_words.specs.declared.end.WordsEnd.{WordsEnd}
-use Rattle.cfi_words.specs.declared.end.WordsEnd.TheVariants as ends
-use Rattle.cfi_commands.specs.Compare.{CompareWords, compare_asked, compare_link_words, compare_names, compare_words}
-use Rattle.cfi_commands.specs.Demo.{demo_asked, demo_words}
-use Rattle.cfi_commands.specs.Rewrite.{AreNamedApart, RewriteWords, harden_words, link_words, rewrite_asked, rewrite_names, rewrite_words}
+use Rattle.tool_words.specs.Reading as reads
+use Rattle.tool_words.specs.Reading.{Reading, reading}
+use Rattle.tool_words.specs.Plain.{IsPlainRequest}
+use Rattle.tool_words.specs.declared.end.WordsEnd.{WordsEnd}
+use Rattle.tool_words.specs.declared.end.WordsEnd.TheVariants as ends
+use Rattle.tool_commands.specs.Compare.{CompareWords, compare_asked, compare_link_words, compare_names, compare_words}
+use Rattle.tool_commands.specs.Demo.{demo_asked, demo_words}
+use Rattle.tool_commands.specs.Rewrite.{AreNamedApart, RewriteWords, harden_words, link_words, rewrite_asked, rewrite_names, rewrite_words}
 use Rattle.cfi_pairs.specs.Run.{RunWords, run_asked, run_names, run_words}
 use Rattle.cfi_pairs.specs.Verify.{VerifyWords, verify_asked, verify_names, verify_words}
 use Rattle.cfi_tool.specs.declared.request.Request as R

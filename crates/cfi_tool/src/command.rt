@@ -4,27 +4,27 @@ ghost use Rattle.std.specs.Prelude.{◌≡◌, ◌≢◌, ◌⊎◌, ◌<◌, �
 ghost use Rattle.std.specs.Io.KnownBytes.{Appends, Keeps};
 ghost use Rattle.tool_io.specs.Faults.{Counts, Rose};
 ghost use Rattle.tool_io.specs.Reading.{CountsReads, IsOnlyRead};
-ghost use Rattle.cfi_commands.specs.Compare.{CompareWords, IsTold};
-ghost use Rattle.cfi_commands.specs.Demo.{IsDemonstrated};
-ghost use Rattle.cfi_commands.specs.Rewrite.{IsRewritten, RewriteWords};
+ghost use Rattle.tool_commands.specs.Compare.{CompareWords, IsTold};
+ghost use Rattle.tool_commands.specs.Demo.{IsDemonstrated};
+ghost use Rattle.tool_commands.specs.Rewrite.{IsRewritten, RewriteWords};
 ghost use Rattle.cfi_pairs.specs.Run.{IsRan, RunWords};
 ghost use Rattle.cfi_pairs.specs.Verify.{IsAccepted, VerifyWords};
 ghost use Rattle.cfi_tool.specs.Complete.{IsComplete};
 ghost use Rattle.cfi_tool.specs.Explains.{Explains, IsPart, IsReadFault, IsTooLongFile};
 ghost use Rattle.cfi_tool.specs.Finishing.{IsShort, IsStopped};
-ghost use Rattle.cfi_words.specs.Reading.{spelled};
+ghost use Rattle.tool_words.specs.Reading.{spelled};
 ghost use Rattle.cfi_tool.specs.Outcomes.{outcome_outputs, outcome_status, outcome_text};
 ghost use Rattle.cfi_tool.specs.Request.{Request, TakenPlainly, Verifies, WritesNone, asks, compare, demo, rewrite, run, taken, untaken, verify};
-ghost use Rattle.cfi_files.specs.Writes.{AreApart, KeepsReads, Wrote};
+ghost use Rattle.tool_common.specs.Writes.{AreApart, KeepsReads, Wrote};
 ghost use Rattle.cfi_tool.specs.declared.outcome.Outcome.{Outcome};
 
 use crate::outcome::Outcome;
 use crate::request::requested;
-use cfi_files::{Stop, status};
-use cfi_words::WordsEnd;
 use rv_word::NoMemory;
 use std::alloc::Global;
+use tool_common::{Stop, status};
 use tool_io::{Files, OutEnd, Sink};
+use tool_words::WordsEnd;
 
 /// What the words come to.
 #[tactic(auto, using(crate::proofs::Explained::explained_apart, crate::proofs::Explained::explained_unwritten))]

@@ -2,11 +2,11 @@
 //! Its call is `rvcfi`; another is the same over files that never fail.
 #![tactic(auto)]
 
-pub use cfi_files::Refusal;
-pub use cfi_files::status::NO_MEMORY;
 pub use cfi_pairs::Verdict;
 pub use command::rvcfi;
 pub use sure::rvcfi_over_sure_files;
+pub use tool_common::Refusal;
+pub use tool_common::status::NO_MEMORY;
 
 mod command;
 mod outcome;

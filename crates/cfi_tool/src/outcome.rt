@@ -3,13 +3,13 @@ ghost use Rattle.tool_io.specs.Faults.{Counts};
 ghost use Rattle.tool_io.specs.Reading.{IsOnlyRead};
 ghost use Rattle.tool_io.specs.declared.ends.OutEnd.TheVariants as OutEnd;
 ghost use Rattle.cfi_tool.specs.Outcomes.{outcome_outputs, outcome_status, outcome_text};
-ghost use Rattle.cfi_files.specs.Writes.{AreApart, IsCut, IsTorn, KeepsReads, Wrote};
+ghost use Rattle.tool_common.specs.Writes.{AreApart, IsCut, IsTorn, KeepsReads, Wrote};
 
-use cfi_commands::{CompareOutcome, DemoOutcome, RewriteOutcome};
-use cfi_files::{Unread, line, status};
 use cfi_pairs::{RunOutcome, Verdict};
 use rv_word::NoMemory;
 use std::alloc::Global;
+use tool_commands::{CompareOutcome, DemoOutcome, RewriteOutcome};
+use tool_common::{Unread, line, status};
 use tool_io::{Files, OutEnd};
 
 /// What a command line comes to.

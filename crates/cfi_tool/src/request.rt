@@ -1,19 +1,19 @@
 ghost use Rattle.std.specs.Prelude.{◌≡◌, IfOk, IfErr, IfSome, MatchResult, option_map};
 ghost use Rattle.tool_io.specs.Reading.{CountsReads, IsOnlyRead};
 ghost use Rattle.cfi_tool.specs.Explains.{ExplainsRequest};
-ghost use Rattle.cfi_files.specs.Reads.{IsFault, IsStop, IsTooLong};
+ghost use Rattle.tool_common.specs.Reads.{IsFault, IsStop, IsTooLong};
 ghost use Rattle.cfi_tool.specs.Request.{IsKept, IsRight, IsWordsEnd, TakenPlainly, asked, names_of, request_of, taken};
-ghost use Rattle.cfi_words.specs.Reading.{request_of as words_of, spelled};
+ghost use Rattle.tool_words.specs.Reading.{request_of as words_of, spelled};
 
 use crate::outcome::Outcome;
-use cfi_commands::{
+use cfi_pairs::{RunRequest, VerifyRequest, run_files, verify_files};
+use std::alloc::Global;
+use tool_commands::{
     CompareRequest, DemoRequest, RewriteRequest, compare_files, demonstrate, rewrite_files,
 };
-use cfi_files::Stop;
-use cfi_pairs::{RunRequest, VerifyRequest, run_files, verify_files};
-use cfi_words::{Asked, WordsEnd, read_words};
-use std::alloc::Global;
+use tool_common::Stop;
 use tool_io::Files;
+use tool_words::{Asked, WordsEnd, read_words};
 
 /// What the words of a command line ask for.
 #[derive(Drop)]

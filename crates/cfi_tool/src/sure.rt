@@ -2,8 +2,8 @@
 
 ghost use Rattle.std.specs.Prelude.{◌≡◌, ◌≢◌, [], None};
 ghost use Rattle.std.specs.Io.KnownBytes.{Appends};
-ghost use Rattle.cfi_words.specs.Reading.{spelled};
-ghost use Rattle.cfi_files.specs.Writes.{Wrote};
+ghost use Rattle.tool_words.specs.Reading.{spelled};
+ghost use Rattle.tool_common.specs.Writes.{Wrote};
 ghost use Rattle.cfi_tool.specs.Explains.{Explains};
 ghost use Rattle.cfi_tool.specs.Outcomes.{outcome_outputs, outcome_status, outcome_text};
 ghost use Rattle.cfi_tool.specs.declared.outcome.Outcome.{Outcome};

@@ -1,7 +1,7 @@
 use Rattle.std.proofs.Common.{arith}
-use Rattle.cfi_files.specs.Reads.{Content}
+use Rattle.tool_common.specs.Reads.{Content}
 use Rattle.cfi_pairs.specs.Run.{run_asked, run_names}
-use Rattle.cfi_files.proofs.Gave.{gave_at}
+use Rattle.tool_common.proofs.Gave.{gave_at}
 use Rattle.cfi_pairs.proofs.run.run_files.Goals as goal
 
 pub returns-clause-explained : goal.returns-clause-explained

@@ -1,8 +1,8 @@
 use Rattle.std.proofs.Common.{◌≡◌, arith, get_or, refl}
 use Rattle.std.proofs.lemmas.Grind.{common_steps}
-use Rattle.cfi_files.specs.Reads.{Content}
+use Rattle.tool_common.specs.Reads.{Content}
 use Rattle.cfi_pairs.specs.Verify.{verify_asked, verify_names}
-use Rattle.cfi_files.proofs.Gave.{gave_at}
+use Rattle.tool_common.proofs.Gave.{gave_at}
 use Rattle.cfi_pairs.proofs.verify.verify_files.Goals as goal
 
 pub returns-clause-explained : goal.returns-clause-explained

@@ -1,7 +1,7 @@
 use Rattle.std.proofs.Common.{◌≡◌, ◌⊎◌, ℕ, inl, inr, rules, subst, sym}
-use Rattle.cfi_words.specs.Reading.{spelled}
-use Rattle.cfi_commands.specs.Compare.{IsTold}
-use Rattle.cfi_commands.specs.Demo.{IsDemonstrated}
+use Rattle.tool_words.specs.Reading.{spelled}
+use Rattle.tool_commands.specs.Compare.{IsTold}
+use Rattle.tool_commands.specs.Demo.{IsDemonstrated}
 use Rattle.cfi_pairs.specs.Run.{IsRan}
 use Rattle.cfi_tool.specs.Outcomes.{outcome_outputs, outcome_text}
 use Rattle.cfi_tool.specs.Request.{compare, demo, rewrite, run}

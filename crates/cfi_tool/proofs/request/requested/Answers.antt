@@ -1,4 +1,4 @@
-use Rattle.cfi_words.specs.Reading.{spelled}
+use Rattle.tool_words.specs.Reading.{spelled}
 use Rattle.cfi_tool.proofs.Taken.{kept, not_kept, taken_plainly}
 use Rattle.cfi_tool.proofs.request.requested.Goals as goal
 

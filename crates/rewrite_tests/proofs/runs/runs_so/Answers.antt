@@ -1,6 +1,0 @@
-use Rattle.std.proofs.Common.{arith}
-use Rattle.rv_word.proofs.Versions.{is_profile, laid_out}
-use Rattle.rewrite_tests.proofs.runs.runs_so.Goals as goal
-
-pub run-requires : goal.run-requires
-run-requires c = record { some = omega arith; most = (laid_out _ (is_profile c.args.checked.now.image.version)).some }

@@ -1,0 +1,5 @@
+use Rattle.test_hardened.proofs.pieces.answer.Given as goal
+
+-- the name and the parts of the blank that is opened
+abbrev pub ghosts-scanned : goal.ghosts-scanned
+ghosts-scanned a = record { name = a.blank.name; parts = a.blank.parts }

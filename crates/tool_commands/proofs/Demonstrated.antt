@@ -1,0 +1,103 @@
+-- What a demonstration needs of a hardened program: its program runs at its map, and no run of that differs from the image's.
+use Rattle.std.proofs.Common.{◌≡◌, ◌∙◌, ℕ, List, [], length, Option, None, ap, ap₂, refl, subst, sym, unwrap_or}
+use Rattle.rv_word.specs.Form.{image_version}
+use Rattle.rv_word.specs.declared.form.Form.{Form}
+use Rattle.elf_image.specs.Spelling.{spelling}
+use Rattle.rv_word.specs.Image.{Contents, IsImageSize, image_profile}
+use Rattle.rv_word.specs.MemoryMap.{profile_of}
+use Rattle.cfi_map_text.specs.Map.{MapParts}
+use Rattle.cfi_map.specs.GraphAtMap.{ProgramAtMap, program_at}
+use Rattle.cfi_map.specs.LegalMap.{IsLegalMap, gates_of}
+use Rattle.cfi_map.specs.Placing.{IsPlacementOf, Spaced}
+use Rattle.cfi_map.specs.Source.{first_astray}
+use Rattle.obj_program.specs.Program.{Program}
+use Rattle.cfi_rules.specs.Rules.{IsWellFormed}
+use Rattle.cfi_writer.specs.Hardened.{HardenedParts, chosen}
+use Rattle.cfi_harden.specs.Hardened.{IsWrittenOf}
+use Rattle.cfi_harden.specs.Prepared.{IsPrepared, IsPreparedOf, PreparedParts}
+use Rattle.cfi_harden.specs.Refused.{Refuses}
+use Rattle.cfi_harden.specs.Request.{ProgramRequest, Request}
+use Rattle.cfi_harden.specs.declared.refusal.Refusal.{Refusal}
+use Rattle.cfi_harden.proofs.Ready.{written_accepted}
+use Rattle.cfi_meaning.specs.Compared as runs
+use Rattle.cfi_meaning.specs.NeverDiffers.{NoRunDiffers}
+use Rattle.cfi_meaning.proofs.NeverDiffers.{never_differs}
+use Rattle.src_machine.specs.Running.{SourceParts}
+use Rattle.gen_hardened.specs.Laws.{DemoIsNeverRefused, entered}
+use Rattle.cfi_compare.specs.Told.{told_answer}
+use Rattle.cfi_compare.specs.declared.answer.Compared.{Compared}
+use Rattle.tool_commands.specs.Compare.{at_map}
+use Rattle.tool_commands.specs.Demo.{IsComparedAt, STEP_LIMIT}
+use Rattle.tool_commands.specs.Demonstration.{CanRunAt, IsAnswerAt, IsDifference, IsDrawn, IsImageIn, IsSourceOn, NoneDiffers}
+use Rattle.tool_commands.proofs.FormVersions.{known_version}
+
+module _ (request : ProgramRequest) (p : PreparedParts) (prepared : IsPreparedOf request p) (h : HardenedParts) (hardened : IsWrittenOf p h) where
+  -- what was placed is the program at the gates of its map
+  at_gates : (s : Spaced) → IsPlacementOf p.form p.program p.closed p.entry s → h.map.form ≡ p.form → gates_of h.map.lines ≡ s.layout.gates
+      → s.layout ≡ at_map p h.map
+  at_gates s placed form gates = placed.of ∙ ap₂ (λ (f : Form) (gs : List ℕ). program_at f p.program p.closed gs p.entry) (sym form) (sym gates)
+
+  pub form_of_map : h.map.form ≡ request.form
+  form_of_map =
+      let (s, labels, code, init, placed, room, in_range, written) = hardened in
+      written.map_form ∙ prepared.form
+
+  own_image : (image : Contents) → IsImageIn h.image image → (code init : List ℕ) → IsImageSize (length code) (length init)
+      → h.image ≡ spelling (image_version p.form) code init → image ≡ record { version = image_version p.form; code = code; init = init }
+  own_image image is code init size spelled = is.only (image_version p.form) code init (known_version p.form) size spelled
+
+  pub can_run : CanRunAt p h.map
+  can_run =
+      let (s, labels, code, init, placed, room, in_range, written) = hardened in
+      record {
+        legal = subst (λ (l : ProgramAtMap). IsLegalMap l.program l.closed l.entry h.map) placed.of written.map;
+        room = room;
+        in_range = subst (λ (l : ProgramAtMap). first_astray l ≡ None) (at_gates s placed written.map_form written.gates) in_range;
+      }
+
+  pub is_well_formed : (image : Contents) → IsImageIn h.image image → IsWellFormed (image_profile image) image h.graph
+  is_well_formed image is =
+      let (s, labels, code, init, placed, room, in_range, written) = hardened in
+      let own : Contents = record { version = image_version p.form; code = code; init = init } in
+      let same : image ≡ own = own_image image is code init written.bytes.size written.image in
+      subst (λ (x : Contents). IsWellFormed (image_profile x) x h.graph) (sym same) written.well_formed
+
+  pub none_differs : (image : Contents) → IsImageIn h.image image → NoneDiffers p h.map image
+  none_differs image is =
+      let (s, labels, code, init, placed, room, in_range, written) = hardened in
+      let own : Contents = record { version = image_version p.form; code = code; init = init } in
+      let same : image ≡ own = own_image image is code init written.bytes.size written.image in
+      let accepted = written_accepted request p s labels code init h prepared (record { placed = placed; room = room; in_range = in_range }) written in
+      let never : NoRunDiffers s.layout own = never_differs (chosen s labels) own (record { accepted = accepted; bytes = written.bytes; code = written.code_is })
+      (sym (ap (λ (o : Option (List ℕ)). unwrap_or o []) written.init_is)) in
+      let there : NoRunDiffers (at_map p h.map) own =
+      subst (λ (l : ProgramAtMap). NoRunDiffers l own) (at_gates s placed written.map_form written.gates) never in
+      subst (λ (x : Contents). NoRunDiffers (at_map p h.map) x) (sym same) there
+
+-- a generated object is not refused
+pub unrefused : DemoIsNeverRefused → (object : List ℕ) → IsDrawn object → (refusal : Refusal) → Refuses (entered object) refusal → ⊥
+unrefused law object (number, is) refusal refuses = law number refusal (subst (λ (o : List ℕ). Refuses (entered o) refusal) is refuses)
+
+-- an answer is no difference where none was found
+no_difference : (program : Program) (found : runs.Compared) (result : Compared) → ((d : runs.Difference) → found ≡ runs.differs d → ⊥)
+    → result ≡ told_answer program found → IsDifference result → ⊥
+no_difference program (runs.untame_at because k) result none is difference = subst IsDifference is difference
+no_difference program (runs.differs d) result none is difference = none d refl
+no_difference program (runs.same events) result none is difference = subst IsDifference is difference
+no_difference program runs.limited result none is difference = subst IsDifference is difference
+
+module _ (p : PreparedParts) (map : MapParts) (image : Contents) where
+  pub answer_at : (run : SourceParts) (answer : Compared) → IsSourceOn p map [] run
+      → answer ≡ told_answer run.layout.program (runs.compared (image_profile image) run.layout image [] STEP_LIMIT) → IsAnswerAt p map image answer
+  answer_at run answer on told =
+      subst (λ (l : ProgramAtMap). answer ≡ told_answer l.program (runs.compared (image_profile image) l image [] STEP_LIMIT)) on.layout told
+
+  module _ (answer : Compared) (is : IsAnswerAt p map image answer) where
+    pub compared_at : (request : Request) → IsPrepared request p → CanRunAt p map → IsComparedAt request map image answer
+    compared_at request prepared fits = record { program = p; prepared = prepared; map_is = fits.legal; result_is = is }
+
+    pub never_told : image.version ≡ image_version map.form → NoneDiffers p map image → IsDifference answer → ⊥
+    never_told version never =
+        let l = at_map p map in
+        let one = ap (λ (v : ℕ). runs.compared (profile_of v) l image [] STEP_LIMIT) version in
+        no_difference p.program (runs.compared l.profile l image [] STEP_LIMIT) answer (never [] STEP_LIMIT) (is ∙ ap (told_answer p.program) one)

@@ -1,0 +1,26 @@
+use Rattle.std.proofs.Common.{Ok, Err}
+use Rattle.std.specs.Prelude.{option_copied}
+use Rattle.cfi_harden.specs.declared.refusal.HardenEnd.TheVariants as ends
+use Rattle.cfi_rewrite.proofs.OfHardened.{differs_read, hardens_read, keeps_read}
+use Rattle.tool_commands.specs.Rewrite.{request_of, rewrite_asked}
+use Rattle.tool_commands.proofs.rewrite.rewrite_items.Goals as goal
+
+pub returns-in_ok-spelled_out-in-Ok : goal.returns-in_ok-spelled_out-in-Ok
+returns-in_ok-spelled_out-in-Ok c = λ given gives.
+    let request = request_of (rewrite_asked c.args.request.now) given (option_copied c.args.policy) in
+    let items = c.args.items in
+    let hardened = c.in-Ok.hardened in (
+      hardened,
+      record {
+        is_hardened = hardens_read request items (Ok hardened) gives c.in-Ok.ensures.hardens;
+        meaning_kept = keeps_read request items (Ok hardened) gives c.in-Ok.ensures.meaning_kept;
+        never_differs = differs_read request items (Ok hardened) gives c.in-Ok.ensures.never_differs;
+      },
+      c.in_ok-spelled_out-in-Ok.ensures,
+    )
+
+pub returns-in-Err-Refused : goal.returns-in-Err-Refused
+returns-in-Err-Refused c = λ given gives.
+    let request = request_of (rewrite_asked c.args.request.now) given (option_copied c.args.policy) in
+    rw c.in-Err-Refused.field-0-is
+    (hardens_read request c.args.items (Err (ends.Refused c.in-Err-Refused.refusal)) gives (rw c.in-Err-Refused.field-0-is at c.in-Err-Refused.ensures.hardens))

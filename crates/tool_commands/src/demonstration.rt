@@ -1,0 +1,130 @@
+//! What `demo` does, in steps: an object is made, hardened, verified, run and compared.
+
+ghost use Rattle.std.specs.Prelude.{◌≡◌, ℕ, List, [], IfOk, Some, codes};
+ghost use Rattle.rv_word.specs.Image.{image_profile};
+ghost use Rattle.cfi_rules.specs.Rules.{IsWellFormed};
+ghost use Rattle.cfi_flow.specs.Entry.{entry_place};
+ghost use Rattle.cfi_harden.specs.Hardened.{IsWrittenOf};
+ghost use Rattle.cfi_harden.specs.Prepared.{IsPrepared};
+ghost use Rattle.cfi_harden.specs.Request.{Request};
+ghost use Rattle.cfi_report.specs.SafeRun.{IsSafeRun, undisturbed_script};
+ghost use Rattle.tool_commands.specs.Demo.{STEP_LIMIT};
+ghost use Rattle.tool_commands.specs.Demonstration.{CanRunAt, IsAnswerAt, IsDemoPrepared, IsDrawn, IsImageIn, IsSourceOn};
+ghost use Rattle.tool_commands.specs.Rewrite.{IsMade, IsSpelled};
+
+use crate::source::source_on;
+use cfi_compare::{Compared, compare};
+use cfi_graph::Graph;
+use cfi_harden::{Prepared, prepare};
+use cfi_map_text::Map;
+use cfi_rewrite::{HardenEnd, Hardened, rewrite_prepared};
+use cfi_script::Script;
+use cfi_step::{RunReport, run};
+use cfi_verify::{VerifyEnd, verify};
+use elf_image::read_image;
+use gen_hardened::laws::demo_is_never_refused;
+use rv_word::{Form, Image, NoMemory};
+use src_machine::laws::wrong_is_not_legal;
+use src_machine::{SourceEnd, SourceRun};
+use std::alloc::Global;
+
+/// How many steps a run, and the program's in a comparison, takes at most.
+const STEP_LIMIT: u64 = 10_000_000;
+
+/// The symbol at which a program is entered.
+const ENTRY: &str = "main";
+
+/// A generated object, prepared.
+pub(crate) fn prepared(alloc: Global, object: &[u8]) -> Result<Prepared<'_>, NoMemory>
+    requires { IsDrawn object.now }
+    ensures { IfOk result (IsDemoPrepared object.now) }
+{
+    demo_is_never_refused();
+    match prepare(alloc, Form::Plain, object, ENTRY, None) {
+        Ok(prepared) => Ok(prepared),
+        Err(HardenEnd::NoMemory) => Err(NoMemory),
+        Err(HardenEnd::Refused(_)) => unreachable!(),
+    }
+}
+
+/// A generated object that is prepared, hardened.
+pub(crate) fn made(alloc: Global, prepared: &Prepared<'_>) -> Result<Hardened, NoMemory>
+    requires { (object : List ℕ) × IsDemoPrepared object prepared.now }
+    ensures written { IfOk result (IsWrittenOf prepared.now) }
+    ensures made { (request : Request) → IsPrepared request prepared.now → IfOk result (IsMade request) }
+{
+    demo_is_never_refused();
+    match rewrite_prepared(alloc, prepared) {
+        Ok(hardened) => Ok(hardened),
+        Err(HardenEnd::NoMemory) => Err(NoMemory),
+        Err(HardenEnd::Refused(_)) => unreachable!(),
+    }
+}
+
+/// The image for one hart that a file spells.
+pub(crate) fn image_in(bytes: &[u8]) -> Image<'_>
+    requires { IsSpelled 1 bytes.now }
+    ensures only { IsImageIn bytes.now result }
+    ensures version { result.version ≡ 1 }
+{
+    match read_image(bytes) {
+        Ok(image) => image,
+        Err(_) => unreachable!(),
+    }
+}
+
+/// The report of a run of one hart of an image that meets the rules with a graph.
+pub(crate) fn run_accepted(
+    alloc: Global,
+    image: &Image<'_>,
+    graph: &Graph,
+) -> Result<RunReport, NoMemory>
+    requires { IsWellFormed (image_profile image.now) image.now graph.now }
+    ensures { IfOk result (IsSafeRun image.now graph.now undisturbed_script [] STEP_LIMIT) }
+{
+    match verify(alloc, image, graph) {
+        Ok(checked) => run(
+            alloc,
+            &checked,
+            &[],
+            1,
+            &mut Script::none(alloc),
+            STEP_LIMIT,
+        ),
+        Err(VerifyEnd::Reject(_)) => unreachable!(),
+        Err(VerifyEnd::NoMemory) => Err(NoMemory),
+    }
+}
+
+/// The run of a generated object's program at a map, from its start.
+fn begun<'a, 'b>(
+    alloc: Global,
+    prepared: &'a Prepared<'b>,
+    map: &Map,
+) -> Result<SourceRun<'a, 'b>, NoMemory>
+    requires entry { entry_place prepared.now.program (codes "main") ≡ Some prepared.now.entry }
+    requires fits { CanRunAt prepared.now map.now }
+    ensures { IfOk result (IsSourceOn prepared.now map.now []) }
+{
+    wrong_is_not_legal();
+    match source_on(alloc, prepared, ENTRY, map, &[]) {
+        Ok(source) => Ok(source),
+        Err(SourceEnd::NoMemory) => Err(NoMemory),
+        Err(SourceEnd::BadMap(_) | SourceEnd::RelocRange(_, _)) => unreachable!(),
+    }
+}
+
+/// Compares the run of a generated object's program at a map with that of an image.
+pub(crate) fn compare_at(
+    alloc: Global,
+    prepared: &Prepared<'_>,
+    map: &Map,
+    image: &Image<'_>,
+) -> Result<Compared, NoMemory>
+    requires entry { entry_place prepared.now.program (codes "main") ≡ Some prepared.now.entry }
+    requires fits { CanRunAt prepared.now map.now }
+    ensures { IfOk result (IsAnswerAt prepared.now map.now image.now) }
+{
+    let mut source = begun(alloc, prepared, map)?;
+    compare(alloc, &mut source, image, &[], STEP_LIMIT)
+}

@@ -1,0 +1,155 @@
+//! The objects of a command's program: one by itself, or several that are joined, by the names of their files and by what the
+//! files gave.
+
+ghost use Rattle.std.specs.Prelude.{◌≡◌, ◌+◌, ◌++◌, [], ℕ, List, Option, Some, Ok, IfOk, OnOk, length, map, option_map};
+ghost use Rattle.cfi_harden.specs.Given.{alone, joined};
+ghost use Rattle.tool_common.specs.Reads.{Content, GaveAll};
+ghost use Rattle.tool_commands.specs.Objects.{GaveObjects, Gives, given_by, names_with, objects_asked};
+
+use cfi_harden::{HardenEnd, JoinedEnd, Refusal, joined_program, program_of};
+use obj_program::Items;
+use rv_word::{Bytes, NoMemory};
+use std::alloc::Global;
+
+/// The names of files that hold objects.
+#[derive(Drop)]
+pub(crate) enum Objects<'a> {
+    /// One object, which is a program by itself.
+    Alone(&'a str),
+    /// Several that are joined.
+    Joined(Vec<&'a str>),
+}
+
+/// The bytes of objects.
+#[derive(Clone, Copy)]
+pub(crate) enum ObjectBytes<'b> {
+    Alone(&'b [u8]),
+    Joined(&'b [Vec<u8>]),
+}
+
+/// Why what is given is no program.
+#[derive(Drop)]
+pub(crate) enum GivenEnd {
+    Refused(Refusal),
+    /// This name is defined twice.
+    Duplicate(Bytes),
+    NoMemory,
+}
+
+impl From<NoMemory> for GivenEnd {
+    ghost use Rattle.std.specs.Prelude.{◌≡◌};
+    ghost use Rattle.tool_commands.specs.declared.objects.GivenEnd.TheVariants as ends;
+
+    ghost from_gives = { λ _ e. e ≡ ends.NoMemory };
+
+    fn from(_: NoMemory) -> Self {
+        GivenEnd::NoMemory
+    }
+}
+
+/// Puts names of files, where they are named, behind others.
+fn push_others<'a>(
+    all: &mut Vec<Option<&'a str>>,
+    others: &[Option<&'a str>],
+) -> Result<(), NoMemory>
+    ensures { OnOk result (map (option_map (λ n. n.now)) all.new.items ≡ map (option_map (λ n. n.now)) all.old.items ++ map (option_map (λ n. n.now)) others.now) }
+{
+    for name in others {
+        all.push(*name)?;
+    }
+    Ok(())
+}
+
+/// Puts names of files behind others.
+fn push_names<'a>(all: &mut Vec<Option<&'a str>>, names: &[&'a str]) -> Result<(), NoMemory>
+    ensures { OnOk result (map (option_map (λ n. n.now)) all.new.items ≡ map (option_map (λ n. n.now)) all.old.items ++ map Some (map (λ n. n.now) names.now)) }
+{
+    for name in names {
+        all.push(Some(*name))?;
+    }
+    Ok(())
+}
+
+impl<'a> Objects<'a> {
+    /// The names of all files of a command, these and others, in the order in which they are read.
+    pub(crate) fn names_with(
+        &self,
+        alloc: Global,
+        others: &[Option<&'a str>],
+    ) -> Result<Vec<Option<&'a str>>, NoMemory>
+        ensures { IfOk result (λ v. map (option_map (λ n. n.now)) v.items ≡ names_with (objects_asked self.now) (map (option_map (λ n. n.now)) others.now)) }
+    {
+        let mut names = Vec::new(alloc);
+        match self {
+            Objects::Alone(object) => {
+                names.push(Some(*object))?;
+                push_others(&mut names, others)?;
+            }
+            Objects::Joined(objects) => {
+                push_others(&mut names, others)?;
+                push_names(&mut names, objects)?;
+            }
+        }
+        Ok(names)
+    }
+
+    /// What the files of a command gave, by their objects and the `others` files.
+    pub(crate) fn split<'b>(
+        &self,
+        bytes: &'b [Vec<u8>],
+        others: usize,
+    ) -> (ObjectBytes<'b>, &'b [Vec<u8>])
+        requires { length bytes.now ≡ length (names_with (objects_asked self.now) []) + others }
+        ensures { (content : Content) (names : List (Option (List ℕ))) → length names ≡ others
+            → GaveAll content (names_with (objects_asked self.now) names) (map (λ b. b.items) bytes.now)
+            → GaveObjects content (objects_asked self.now) (given_by result.0) × GaveAll content names (map (λ b. b.items) result.1.now) }
+    {
+        match self {
+            Objects::Alone(_) => (ObjectBytes::Alone(&bytes[0]), &bytes[1..]),
+            Objects::Joined(_) => (ObjectBytes::Joined(&bytes[others..]), &bytes[..others]),
+        }
+    }
+}
+
+/// A name's bytes, copied.
+fn copied(alloc: Global, name: &[u8]) -> Result<Bytes, NoMemory>
+    ensures { IfOk result (λ bytes. bytes ≡ name.now) }
+{
+    Ok(Bytes::of(Vec::from_slice(alloc, name)?))
+}
+
+/// The program of several objects.
+fn joined<'b>(alloc: Global, objects: &'b [Vec<u8>]) -> Result<Items<'b>, GivenEnd>
+    ensures { Gives (joined (map (λ b. b.items) objects.now)) result }
+{
+    match joined_program(alloc, objects) {
+        Ok(items) => Ok(items),
+        Err(JoinedEnd::Refused(refusal)) => Err(GivenEnd::Refused(refusal)),
+        Err(JoinedEnd::Duplicate(name)) => Err(GivenEnd::Duplicate(copied(alloc, name)?)),
+        Err(JoinedEnd::NoMemory) => Err(GivenEnd::NoMemory),
+    }
+}
+
+/// The program of one object.
+fn alone<'b>(alloc: Global, object: &'b [u8]) -> Result<Items<'b>, GivenEnd>
+    ensures { Gives (alone object.now) result }
+{
+    match program_of(alloc, object) {
+        Ok(items) => Ok(items),
+        Err(HardenEnd::Refused(refusal)) => Err(GivenEnd::Refused(refusal)),
+        Err(HardenEnd::NoMemory) => Err(GivenEnd::NoMemory),
+    }
+}
+
+/// The program of what is given.
+pub(crate) fn program_given<'b>(
+    alloc: Global,
+    given: ObjectBytes<'b>,
+) -> Result<Items<'b>, GivenEnd>
+    ensures { Gives (given_by given.entry) result }
+{
+    match given {
+        ObjectBytes::Alone(object) => alone(alloc, object),
+        ObjectBytes::Joined(objects) => joined(alloc, objects),
+    }
+}
