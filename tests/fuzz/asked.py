@@ -12,7 +12,9 @@ USUAL, MACHINE = 176 * KIB, 320 * KIB  # bytes of a call without its files, and 
 BASE = {b"run": USUAL + MACHINE, b"compare": USUAL + 2 * MACHINE, b"compare-link": USUAL + 2 * MACHINE}
 TIMES, SECONDS, BLOCK = 64, 1, 64 * KIB
 COMMANDS = (b"rewrite", b"verify", b"run", b"compare", b"harden", b"link", b"compare-link")
-WRITTEN = {b"rewrite": 4, b"harden": 5, b"link": 4}  # at which of its words, from 0, stand the names of the three files that it writes
+WRITTEN = {b"rewrite": 4, b"harden": 5, b"link": 4}  # at which of its words, from 0, stand the three files that it writes
+LIMIT = {b"compare": 7, b"compare-link": 6}  # at which of its words stands STEPS
+STEP = 256  # bytes that comparing may hold of the system calls of a step
 FOLDER = b"folder"  # a directory that stands beside the files
 
 
@@ -20,18 +22,32 @@ class Failed(Exception):
     """A call, or what two calls say, is not as it should be."""
 
 
-def written_by(words, call):
-    """The names of the files that a call may write; the first `--` is none of its words."""
+def without_dashes(words):
+    """The words of a command line without the first `--`."""
     named = list(words)
     if b"--" in named:
         named.remove(b"--")
+    return named
+
+
+def written_by(words, call):
+    """The names of the files that a call may write."""
+    named = without_dashes(words)
     first = WRITTEN.get(named[0]) if named else None
     return set(named[first:first + 3]) if first and call.status in (0, 4) else set()
 
 
+def held(named):
+    """The bytes that comparing may hold of the system calls of so many steps."""
+    at = LIMIT.get(named[0]) if named else None
+    steps = named[at] if at and len(named) > at else b""
+    return STEP * int(steps) if steps.isdigit() and len(steps) < 8 else 0
+
+
 def beyond(words, call):
-    """The bytes that a call had and that it has not without files."""
-    return max(0, call.memory - BASE.get(words[0] if words else b"", USUAL))
+    """The bytes that a call had and that it has neither without files nor of the system calls that it compares."""
+    named = without_dashes(words)
+    return max(0, call.memory - BASE.get(named[0] if named else b"", USUAL) - held(named))
 
 
 def too_much(words, call, size):
