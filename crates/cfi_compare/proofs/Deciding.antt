@@ -18,7 +18,7 @@ use Rattle.src_machine.specs.Told.{told}
 use Rattle.src_machine.specs.declared.turn.SourceTurn.{SourceTurn}
 use Rattle.src_machine.specs.declared.turn.SourceTurn.TheVariants as ends
 use Rattle.cfi_meaning.specs.Compared as compared
-use Rattle.cfi_meaning.specs.Compared.{source_run, Difference, TraceItem, broke, called, differs, exited, first_difference, has_ended, image_end, limited, running, same, same_event, same_item, source_end, stopped, trace, untame_at, verdict}
+use Rattle.cfi_meaning.specs.Compared.{source_run, Difference, TraceItem, broke, called, exited, first_difference, has_ended, image_end, running, same, same_item, source_end, stopped, trace, verdict}
 use Rattle.cfi_compare.specs.Followed.{IsAnswered, IsFollowed, answer_of, end_items, end_told, item_or, same_side, settled}
 use Rattle.cfi_compare.specs.Told.{told_answer, told_item}
 use Rattle.cfi_compare.specs.declared.answer.Compared.{Compared}

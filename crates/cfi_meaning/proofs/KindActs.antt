@@ -21,7 +21,7 @@ use Rattle.cfi_runs.specs.Own.{Own, OwnAfter, goes, calls, returns}
 use Rattle.cfi_meaning.specs.KindStep.{kind_step}
 use Rattle.cfi_meaning.specs.Matches.{own_of, sites_of}
 use Rattle.cfi_map.specs.Source.{Source}
-use Rattle.cfi_map.specs.SourceStep.{SourceAfter, StepTurn, acts, breaks, exits, goes_to, if_taken, leaves, place_after, ran, returns_from, turn_at, untame}
+use Rattle.cfi_map.specs.SourceStep.{StepTurn, acts, breaks, exits, if_taken, leaves, place_after, ran, returns_from, turn_at, untame}
 use Rattle.cfi_map.specs.SourceStep as source
 use Rattle.cfi_map.specs.Untame.{computed}
 use Rattle.cfi_meaning.proofs.Found.{place_found, some_found}

@@ -1,6 +1,5 @@
--- A policy: in version 2 the numbers of the system calls that the program may make, and in both lines that each give a
--- site its targets, in any order. A place is named by a symbol and an
--- offset from it. What a text is read as.
+-- A policy: in version 2 the numbers of the system calls that the program may make, and in both versions lines that each
+-- give a site its targets, in any order. A place is named by a symbol and an offset from it. What a text is read as.
 use Rattle.std.specs.Prelude.{ℕ, ◌+◌, ◌==◌, nat_lt, true, if◌then◌else◌, List, [], ◌∷◌, codes, drop, take, Option, Some, None, option_map, option_and_then, Result, Ok, Err}
 use Rattle.std.specs.Option.{option_or}
 use Rattle.std.specs.Str.{bytes_eq}

@@ -13,7 +13,7 @@ use Rattle.cfi_unit.specs.Prologue.{OPENING}
 use Rattle.cfi_unit.specs.Place.{Place, handler, opening, closing, body}
 use Rattle.cfi_unit.specs.Shadow.{slot, MOST_PENDING}
 use Rattle.cfi_unit.specs.InPlace
-use Rattle.cfi_unit.specs.InPlace.{InWord, only, InBranch, branch_test, branch_jump, InGuarded, guarded_load, guarded_other, InStores, stores_addi, stores_slli, stores_srli, stores_store, InPush, push_slli, push_bne, push_deep, push_auipc, push_addi, push_store, push_grow, Pushed, InCall, call_push, call_jump, InCheck, check_addi, check_andi, check_lui, check_sub, check_srli, check_region, check_outside, check_lw, check_label, check_opcode, check_word, check_other, InIjump, ijump_check, ijump_jump, InIcall, icall_check, icall_push, icall_jump, InReturn, return_ld, return_addi, return_beq, return_other, return_jump, lone_stack, own_stack, InOpening, opening_lone, opening_own, opening_call, InClosing, closing_number, closing_ecall, InUnit}
+use Rattle.cfi_unit.specs.InPlace.{only, branch_test, guarded_load, guarded_other, stores_addi, InPush, push_slli, push_bne, push_deep, push_auipc, push_addi, push_store, push_grow, Pushed, InCall, call_push, call_jump, check_addi, ijump_check, InIcall, icall_check, icall_push, icall_jump, return_ld, lone_stack, own_stack, InOpening, opening_lone, opening_own, opening_call, closing_number, InUnit}
 use Rattle.cfi_unit.specs.UnitLaw.{MayStand}
 
 module _ (part : ℕ) (m m' : Memory) (same : SameOn part (part + PART_SIZE) m m') where

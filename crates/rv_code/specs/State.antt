@@ -1,6 +1,6 @@
 -- The machine's state: a hart (its pc and registers), and what harts share (memory, the input
 -- left, the output, the system calls made).
-use Rattle.std.specs.Prelude.{ℕ, ◌%◌, ◌^◌, ◌==◌, ◌||◌, Bool, List, [], ◌∷◌, Option, Some, None, if◌then◌else◌}
+use Rattle.std.specs.Prelude.{ℕ, ◌%◌, ◌^◌, ◌==◌, ◌||◌, List, [], ◌∷◌, Option, Some, None, if◌then◌else◌}
 use Rattle.rv_word.specs.Image.{Contents}
 use Rattle.rv_word.specs.MemoryMap.{START}
 use Rattle.rv_word.specs.Memory.{Memory, loaded}

@@ -1,5 +1,5 @@
--- What `rewrite` and `harden` write is read back: `verify` reads its image and its graph, which meet every rule, and `compare` reads its map, which is
--- legal.
+-- What `rewrite`, `harden` and `link` write is read back: `verify` reads its image and its graph, which meet every rule, and
+-- `compare` reads its map, which is legal.
 use Rattle.std.specs.Prelude.{◌≡◌}
 use Rattle.rv_word.specs.Form.{image_version}
 use Rattle.rv_word.specs.Image.{Contents, image_profile}

@@ -1,5 +1,5 @@
 -- What the read of a file that is held gave, and that no such file is too long.
-use Rattle.std.proofs.Common.{◌≡◌, ◌∙◌, ℕ, ◌≤◌, List, [], ◌∷◌, ◌<◌, length, Option, Some, None, inl, inr, sym, subst, arith}
+use Rattle.std.proofs.Common.{◌≡◌, ◌∙◌, ℕ, ◌≤◌, List, [], ◌∷◌, length, Option, Some, None, inl, inr, sym, subst, arith}
 use Rattle.tool_common.specs.Held.{AreHeld, IsHeld, IsHeldNamed}
 use Rattle.tool_common.specs.Reads.{Content, Gave, GaveNamed, IsLong, IsReached, file_limit}
 
