@@ -17,7 +17,7 @@ use Rattle.clap.specs.declared.error.kind.ErrorKind.{ErrorKind}
 use Rattle.clap.specs.declared.error.kind.ErrorKind.TheVariants.{DisplayHelp, DisplayVersion}
 use Rattle.tool_words.specs.HelpWords.{asks_help, asks_version}
 use Rattle.tool_words.specs.Reading.{Reading, asks, help, if_alone, reading, reading_by, refused, request_in, told, version}
-use Rattle.tool_words.proofs.Leaf.{AreAlike, cases_option, is_flat, is_word_or_request, kind_of_word, or_else_none, plain_alike, stand, words_read}
+use Rattle.tool_words.proofs.Leaf.{AreAlike, cases_option, is_flat, is_word_or_request, kind_of_word, marked_alike, or_else_none, plain_alike, stand, words_read}
 use Rattle.tool_words.proofs.Many.{compare_link_asks, compare_link_right, link_asks, link_right}
 use Rattle.tool_words.proofs.Numbers.{AsksAll, compare_asks, compare_right, demo_asks, demo_right, harden_asks, harden_right, leaf, rewrite_asks, rewrite_right, run_asks, run_right, some_wrong, verify_asks, verify_right, wrong}
 
