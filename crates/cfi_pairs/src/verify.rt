@@ -1,4 +1,4 @@
-ghost use Rattle.std.specs.Prelude.{◌≡◌, IfOk, IfErr, option_map, ◌∷◌, []};
+ghost use Rattle.std.specs.Prelude.{◌≡◌, IfOk, IfErr, ◌∷◌, []};
 ghost use Rattle.tool_io.specs.Reading.{CountsReads, IsOnlyRead};
 ghost use Rattle.tool_common.specs.Reads.{IsFault, IsStop, IsTooLong};
 ghost use Rattle.cfi_pairs.specs.Verify.{ExplainsVerdict, IsJudgement, IsVerdictOf, verdict_status, verify_asked, verify_names, verify_words};

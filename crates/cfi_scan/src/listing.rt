@@ -1,4 +1,4 @@
-ghost use Rattle.std.specs.Prelude.{◌≡◌, ◌+◌, ◌*◌, ◌<◌, ◌≤◌, ℕ, Some, slice_get, true};
+ghost use Rattle.std.specs.Prelude.{◌≡◌, ◌+◌, ◌*◌, ◌<◌, ◌≤◌, ℕ, Some, false, length, slice_get, true};
 ghost use Rattle.rv_word.specs.MemoryMap.{CODE_START, profile_of};
 ghost use Rattle.cfi_reader.specs.Entries.{is_quiet, is_started};
 ghost use Rattle.cfi_reader.specs.declared.entry.Entry.{Entry};
@@ -55,6 +55,8 @@ impl Listing {
         ensures low { from ≤ result }
         ensures high { result ≤ to }
         ensures quiet { (k : ℕ) (entry : Entry) → from ≤ k → k < result → slice_get self.now.entries k ≡ Some entry → is_quiet entry ≡ true }
+        ensures busy { result < to → to ≤ length self.now.entries → (entry : Entry) → slice_get self.now.entries result ≡ Some entry → is_quiet entry ≡ false }
+        ensures beyond { length self.now.entries < to → result ≡ from }
     {
         let entries = self.entries.as_slice();
         if to > entries.len() {

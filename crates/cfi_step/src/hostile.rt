@@ -1,4 +1,4 @@
-ghost use Rattle.std.specs.Prelude.{◌≡◌, ◌+◌, ◌*◌, ◌≤◌, ◌<◌, ◌^◌, ◌++◌, length, IfOk, OnOk, OnErr, IsTrue, min};
+ghost use Rattle.std.specs.Prelude.{◌≡◌, ◌+◌, ◌*◌, ◌≤◌, ◌<◌, ◌^◌, ◌++◌, length, IfOk, OnOk, IsTrue, min};
 ghost use Rattle.rv_word.specs.MemoryMap.{DATA_END, SHADOW_START};
 ghost use Rattle.rv_mem.specs.Cells.{memory_of};
 ghost use Rattle.rv_machine.specs.Harts.{harts_in, harts_share};

@@ -1,6 +1,6 @@
 //! A run between two of its steps.
 
-ghost use Rattle.std.specs.Prelude.{◌≡◌, ◌≤◌, ◌<◌, ◌+◌, ◌^◌, ◌++◌, ◌∷◌, [], ℕ, List, length, map, min, slice_set, IfOk, OnOk, Some};
+ghost use Rattle.std.specs.Prelude.{◌≡◌, ◌≤◌, ◌<◌, ◌+◌, ◌^◌, ◌++◌, ◌∷◌, [], ℕ, List, length, map, min, slice_set, IfOk, OnOk};
 ghost use Rattle.std.specs.List.{All, AllByRecursion};
 ghost use Rattle.rv_word.specs.Image.{image_profile};
 ghost use Rattle.rv_word.specs.MemoryMap.{profile_of};
@@ -13,7 +13,7 @@ ghost use Rattle.cfi_script.specs.Turns.{turns_of};
 ghost use Rattle.cfi_step.specs.Report.{stopping_hart};
 ghost use Rattle.cfi_step.specs.Running.{AreNoted, IsPrepared, IsReady, changes_in_plan, hart_in_plan, step_in_plan, trails_of};
 ghost use Rattle.cfi_step.specs.Taken.{AreTurnsOf};
-ghost use Rattle.cfi_step.specs.Trail.{IsTrailOf, TrailParts, told_of};
+ghost use Rattle.cfi_step.specs.Trail.{IsTrailOf, told_of};
 
 use crate::record::Record;
 use crate::report::{RunEnd, RunReport, stopping_hart};

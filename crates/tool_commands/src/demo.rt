@@ -1,5 +1,4 @@
-ghost use Rattle.std.specs.Prelude.{◌≡◌, ◌≤◌, ℕ, IfOk, IfSome, option_map, ◌∷◌, []};
-ghost use Rattle.text_lines.specs.Decimal.{MAX_STEP};
+ghost use Rattle.std.specs.Prelude.{◌≡◌, ℕ, IfOk, option_map, ◌∷◌, []};
 ghost use Rattle.elf_writer.specs.Object.{object_bytes};
 ghost use Rattle.cfi_gen.specs.Demo.{demo_parts};
 ghost use Rattle.cfi_step.specs.declared.report.RunEnd.TheVariants as ends;
