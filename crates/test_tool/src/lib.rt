@@ -1,5 +1,5 @@
-//! Tests of the tool through its public calls: command lines, verdicts, runs, demos and what these generate. They stand beside the
-//! crates that they test, so that these are proved once.
+//! Tests of the tool through its public calls: command lines and how they are read, the texts of help and of the version, verdicts,
+//! runs, demos and what these generate. They stand beside the crates that they test, so that these are proved once.
 #![tactic(auto)]
 
 #[cfg(test)]
@@ -14,6 +14,8 @@ mod files;
 mod graphs;
 #[cfg(test)]
 mod jumps;
+#[cfg(test)]
+mod lines;
 #[cfg(test)]
 mod longest;
 #[cfg(test)]
