@@ -1,7 +1,7 @@
 -- What safety says of each arrival of an undisturbed run, and small pairs that have one of which it is
 -- false: they are not safe.
 use Rattle.std.proofs.Common.{◌≡◌, ℕ, zero, suc, ◌&&◌, not, Bool, true, false, inl, inr, List, [], ◌∷◌, ◌++◌, length, refl, sym, ap, subst, ◌∙◌, Option, Some, None, arith, lit≤, lit<}
-use Rattle.std.specs.Prelude.{is_some}
+use Rattle.std.specs.Prelude.{◌==◌, is_some, slice_get}
 use Rattle.std.proofs.lemmas.Bool.{and_parts, false≢true}
 use Rattle.std.proofs.lemmas.Option.{same_Some}
 use Rattle.rv_word.specs.Image.{Contents}
@@ -14,12 +14,14 @@ use Rattle.rv_code.specs.Encode.{code_of}
 use Rattle.rv_code.specs.Run.{ByteChange}
 use Rattle.rv_code.specs.State.{Hart, Shared, After, start_hart, start_shared, last_exit}
 use Rattle.rv_code.specs.Step.{step, stops}
+use Rattle.rv_code.specs.declared.event.Event.{Event}
 use Rattle.rv_code.specs.declared.turn.Turn.{Turn}
 use Rattle.rv_code.specs.declared.turn.Turn.TheVariants.{Ran, Exit, Break, LoadFault, StoreFault, FetchFault, Illegal}
 use Rattle.rv_code.proofs.Runs.{calm}
 use Rattle.cfi_graph.specs.Graph.{GraphParts}
 use Rattle.cfi_unit.specs.declared.unit.Unit.TheVariants as V
-use Rattle.cfi_unit.specs.Context.{IsCodeOf}
+use Rattle.cfi_unit.specs.Context.{IsCodeOf, SameOutside}
+use Rattle.cfi_unit.specs.EventLaw.{Adds, adds_none, adds_one}
 use Rattle.cfi_unit.specs.declared.target_word.TargetWord.TheVariants as T
 use Rattle.cfi_unit.specs.declared.place.Place.{Place}
 use Rattle.cfi_unit.specs.declared.place.Place.TheVariants.{Handler as handler, Opening as opening, Body as body}
@@ -31,7 +33,7 @@ use Rattle.cfi_unit.specs.UnitWords.{BAD_TARGET, DEEP, words_of}
 use Rattle.cfi_rules.specs.Along.{Walk, Arrives, JumpChooses, Chooses, ShadowStands, OnRan, IsSafe}
 use Rattle.cfi_rules.specs.Lines.{class_with, targets_for}
 use Rattle.cfi_rules.specs.Split.{code_words, starts, is_start, unit_at, place_at}
-use Rattle.cfi_rules.specs.Unsafe.{astray_call, astray_call_graph, halted_jump, halted_jump_graph, WrongTransfersAreUnsafe, high_pointer, lost_site, opening_graph, WrongShadowsAreUnsafe, one_pointer, one_pointer_graph, SharedPartsAreUnsafe}
+use Rattle.cfi_rules.specs.Unsafe.{astray_call, astray_call_graph, halted_jump, halted_jump_graph, WrongTransfersAreUnsafe, high_pointer, lost_site, opening_graph, WrongShadowsAreUnsafe, one_pointer, one_pointer_graph, SharedPartsAreUnsafe, calling_opening, storing_opening, WrongDeedsAreUnsafe}
 use Rattle.cfi_rules.specs.Walk.{Goes}
 use Rattle.cfi_rules.proofs.OneHart.{AloneAlong, AreDataChanges, one_may_run, safe_along_alone}
 use Rattle.cfi_rules.proofs.Unsafe.{calm_is_data}
@@ -119,6 +121,32 @@ module _ (p : Profile) (part : ℕ) (image : Contents) (graph : GraphParts) wher
       let on : Along (Some a.w) after.hart after.shared (calm k ++ ([] ∷ rest)) = rw leads.runs at a.on in
       arrival (Some a.w) next (after_calm p k after.hart after.shared).hart (after_calm p k after.hart after.shared).shared rest leads.there
       (stays k a.w after.hart after.shared ([] ∷ rest) leads.still on)
+
+  -- what an instruction does that stands behind the first word of something
+  record Does (place : Place) (h : Hart) (s : Shared) : Type 0 where
+    at : ℕ
+    writes : SameOutside part s.memory (step p h s).shared.memory
+    adds : Adds place at h s.events (step p h s).shared.events
+
+  does : (before : Option Walk) (place : Place) (k : ℕ) (h : Hart) (s : Shared) → place_at p (code_words image.code) h.pc ≡ Some place → (step p h s).turn ≡ Ran →
+      quiet k (step p h s).hart (step p h s).shared ≡ true → place_at p (code_words image.code) (after_calm p (suc k) h s).hart.pc ≡ None →
+      Along before h s ([] ∷ (calm k ++ ([] ∷ []))) → Does place (after_calm p (suc k) h s).hart (after_calm p (suc k) h s).shared
+  unfolding after_calm
+  does before place k h s is runs still nothing r =
+      let after = step p h s in
+      let a = arrival before place h s (calm k ++ ([] ∷ [])) is r in
+      let on : Along (Some a.w) after.hart after.shared (calm k ++ ([] ∷ [])) = rw runs at a.on in
+      let there = stays k a.w after.hart after.shared ([] ∷ []) still on in
+      let same : Some a.w ≡ Some there.0 = rw nothing at there.1 in
+      let at : there.0.at ≡ h.pc = ap (λ (w : Walk). w.at) (sym (same_Some a.w there.0 same)) ∙ a.at in
+      let begun = there.2 in
+      let here : begun.0 ≡ place = same_Some begun.0 place (sym begun.1 ∙ ap (place_at p (code_words image.code)) at ∙ is) in
+      let now = after_calm p k after.hart after.shared in
+      record {
+        at = there.0.at;
+        writes = begun.5;
+        adds = subst (λ (q : Place). Adds q there.0.at now.hart now.shared.events (step p now.hart now.shared).shared.events) here begun.6;
+      }
 
   -- the step of the walk that arrived
   record Went (w : Walk) (from : Place) (v : ℕ) (newer : List ℕ) : Type 0 where
@@ -214,6 +242,41 @@ halted_unsafe safe =
 
 pub wrong_transfers_unsafe : WrongTransfersAreUnsafe
 wrong_transfers_unsafe = record { astray = astray_unsafe; halted = halted_unsafe }
+
+-- the opening makes no system call
+none_added : (entry at : ℕ) (h : Hart) (events after : List Event) → Adds (opening entry) at h events after → after ≡ events
+none_added entry at h events after (adds_none same) = same
+none_added entry at h events after (adds_one e more number may) = absurd may
+
+-- what hart 0 does after some words of an opening for several harts
+does_there : (image : Contents) (k : ℕ) → place_at version_2 (code_words image.code) OPENING ≡ Some (opening version_2.units_from) →
+    (step version_2 (start_hart 0) (start_shared image [])).turn ≡ Ran →
+    quiet version_2 (part_of 0) image one_pointer_graph k (step version_2 (start_hart 0) (start_shared image [])).hart (step version_2 (start_hart 0) (start_shared image [])).shared ≡ true →
+    place_at version_2 (code_words image.code) (after_calm version_2 (suc k) (start_hart 0) (start_shared image [])).hart.pc ≡ None → IsSafe version_2 image one_pointer_graph →
+    Does version_2 (part_of 0) image one_pointer_graph (opening version_2.units_from) (after_calm version_2 (suc k) (start_hart 0) (start_shared image [])).hart
+    (after_calm version_2 (suc k) (start_hart 0) (start_shared image [])).shared
+does_there image k is runs still nothing safe =
+    does version_2 (part_of 0) image one_pointer_graph None (opening version_2.units_from) k (start_hart 0) (start_shared image []) is runs still nothing
+    (safe_along_alone version_2 image one_pointer_graph [] 1 0 ([] ∷ (calm k ++ ([] ∷ []))) safe (one_may_run version_2 (laid_out version_2 (inr refl))) (lit< tt)
+    (tt, calm_and k ([] ∷ []) (tt, tt)))
+
+write_unsafe : IsSafe version_2 storing_opening one_pointer_graph → ⊥
+unfolding loaded placed decoded code_of step write last_exit code_words recognised words_of starts is_start unit_at place_at after_calm quiet is_ran
+write_unsafe safe =
+    let d = does_there storing_opening 7 refl refl refl refl safe in
+    let four : 4 ≡ 0 = d.writes 0x600407f2 (lit≤ tt) (inr (lit≤ tt)) in
+    false≢true (ap (λ (n : ℕ). n == 0) four)
+
+call_unsafe : IsSafe version_2 calling_opening one_pointer_graph → ⊥
+unfolding loaded placed decoded code_of step write last_exit code_words recognised words_of starts is_start unit_at place_at after_calm quiet is_ran
+call_unsafe safe =
+    let d = does_there calling_opening 4 refl refl refl refl safe in
+    let now = after_calm version_2 5 (start_hart 0) (start_shared calling_opening []) in
+    let same = none_added version_2.units_from d.at now.hart now.shared.events (step version_2 now.hart now.shared).shared.events d.adds in
+    false≢true (ap (λ (l : List Event). is_some (slice_get l 0)) (sym same))
+
+pub wrong_deeds_unsafe : WrongDeedsAreUnsafe
+wrong_deeds_unsafe = record { write = write_unsafe; call = call_unsafe }
 
 -- hart 1 comes to the first unit with the shadow pointer of hart 0
 one_pointer_unsafe : IsSafe version_2 one_pointer one_pointer_graph → ⊥

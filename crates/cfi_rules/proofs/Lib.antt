@@ -11,6 +11,8 @@ pub mod RuleFacts
 pub mod Labels
 pub mod Moves
 pub mod Safety
+pub mod OnRan
+pub mod Starts
 pub mod ListedRuns
 pub mod UnitIn
 pub mod CodeSplit

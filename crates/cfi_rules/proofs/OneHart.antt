@@ -10,8 +10,6 @@ use Rattle.rv_word.proofs.Versions.{LaidOut}
 use Rattle.rv_code.specs.Run.{ByteChange, HartStep, IsDataChange, alone, disturbed, disturbed_step, if_ran}
 use Rattle.rv_code.specs.State.{Hart, Harts, Shared, start_hart, start_shared, with_hart}
 use Rattle.rv_code.specs.Step.{step}
-use Rattle.rv_code.specs.declared.turn.Turn.{Turn}
-use Rattle.rv_code.specs.declared.turn.Turn.TheVariants.{Ran, Exit, Break, LoadFault, StoreFault, FetchFault, Illegal}
 use Rattle.cfi_graph.specs.Graph.{GraphParts}
 use Rattle.cfi_graph.specs.declared.line.GraphLine.{GraphLine}
 use Rattle.cfi_unit.specs.Context.{IsCodeOf}
@@ -19,6 +17,8 @@ use Rattle.cfi_rules.specs.Along.{Walk, Walks, AreStepsOf, Begun, GoesOn, IsSafe
 use Rattle.cfi_rules.specs.Split.{code_words, place_at}
 use Rattle.cfi_rules.specs.Trails.{Begin, IsInPlace, newest_of, trail_alone, trail_of}
 use Rattle.cfi_rules.specs.Walks.{IsGraphWalk, if_starts, walk_alone, walk_of}
+use Rattle.cfi_rules.proofs.OnRan.{on_ran}
+use Rattle.cfi_rules.proofs.Starts.{machine_may_start}
 use Rattle.cfi_rules.proofs.Trails.{safe_stays}
 use Rattle.cfi_rules.proofs.Walks.{safe_walks}
 
@@ -91,19 +91,10 @@ AloneAlong p part image words lines before h s (cs ∷ rest) =
     let after = step p h now in
     (w : Walk)
     × GoesOn p part words lines before (place_at p words h.pc) h now.memory w
-    × Begun p image words w h now.memory after.turn
+    × Begun p part image words w h now after
     × OnRan after.turn
     (AloneAlong p part image words lines (Some w) after.hart after.shared rest)
     (IsCodeOf (loaded image) after.shared.memory)
-
-on_ran : (turn : Turn) (X Y Z : Type 0) → (X → Z) → OnRan turn X Y → OnRan turn Z Y
-on_ran Ran X Y Z f on = f on
-on_ran (Exit status) X Y Z f on = on
-on_ran (Break pc) X Y Z f on = on
-on_ran (LoadFault pc a) X Y Z f on = on
-on_ran (StoreFault pc a) X Y Z f on = on
-on_ran (FetchFault pc) X Y Z f on = on
-on_ran (Illegal pc) X Y Z f on = on
 
 module _ (p : Profile) (image : Contents) (words : List ℕ) (lines : List GraphLine) (k : ℕ) where
   pub alone_along : (changes : List (List ByteChange)) (walks : Walks) (harts : Harts) (s : Shared) → RunsAlong p image words lines walks harts s (steps_of k changes) →
@@ -119,10 +110,11 @@ module _ (p : Profile) (image : Contents) (words : List ℕ) (lines : List Graph
             (RunsAlong p image words lines (with_walk walks k r.0) (with_hart harts k after.hart) after.shared (steps_of k rest))
             (IsCodeOf (loaded image) after.shared.memory)
             (Rest (Some r.0) after.hart)
+            (IsCodeOf (loaded image) after.shared.memory)
             (λ on.
             let later : Rest (if k == k then Some r.0 else walks k) (if k == k then after.hart else harts k) =
             alone_along rest (with_walk walks k r.0) (with_hart harts k after.hart) after.shared on in
-            subst (λ (b : Bool). Rest (if b then Some r.0 else walks k) (if b then after.hart else harts k)) (eq-eqb k k refl) later) r.3,
+            subst (λ (b : Bool). Rest (if b then Some r.0 else walks k) (if b then after.hart else harts k)) (eq-eqb k k refl) later) (λ code. code) r.3,
       )
 
 -- what safety says of one hart alone
@@ -131,7 +123,7 @@ pub safe_along_alone : (p : Profile) (image : Contents) (graph : GraphParts) (in
     AloneAlong p (part_of k) image (code_words image.code) graph.lines None (start_hart k) (start_shared image input) changes
 safe_along_alone p image graph input harts k changes safe may below low =
     alone_along p image (code_words image.code) graph.lines k changes (λ j. None) start_hart (start_shared image input)
-    (safe input harts may (steps_of k changes) (may_come harts k below changes low))
+    (safe harts may start_hart (start_shared image input) (machine_may_start image input harts) (steps_of k changes) (may_come harts k below changes low))
 
 -- and of hart 0 alone, whose walk and begun instructions are a lone hart's
 module _ (p : Profile) (laid : LaidOut p) (image : Contents) (graph : GraphParts) (input : List ℕ) (changes : List (List ByteChange)) (safe : IsSafe p image graph) (low : AreDataChanges changes) where
@@ -139,10 +131,10 @@ module _ (p : Profile) (laid : LaidOut p) (image : Contents) (graph : GraphParts
   safe_walks_alone =
       subst (λ (walk : List ℕ). IsGraphWalk p (code_words image.code) graph.lines walk)
       (first_walk p (code_words image.code) start_hart (start_shared image input) changes)
-      (safe_walks p image graph input 1 (alone changes) 0 safe (one_may_run p laid) (may_come 1 0 (omega arith) changes low))
+      (safe_walks p image graph 1 start_hart (start_shared image input) (alone changes) 0 safe (one_may_run p laid) (machine_may_start image input 1) (may_come 1 0 (omega arith) changes low))
 
   pub safe_stays_alone : AllByRecursion (IsInPlace p (code_words image.code)) (trail_alone p (code_words image.code) 0 (start_hart 0) (start_shared image input) changes)
   safe_stays_alone =
       subst (λ (trail : List Begin). AllByRecursion (IsInPlace p (code_words image.code)) trail)
       (first_trail p (code_words image.code) 0 start_hart (start_shared image input) changes)
-      (safe_stays p image graph input 1 (alone changes) 0 safe (one_may_run p laid) (may_come 1 0 (omega arith) changes low))
+      (safe_stays p image graph 1 start_hart (start_shared image input) (alone changes) 0 safe (one_may_run p laid) (machine_may_start image input 1) (may_come 1 0 (omega arith) changes low))

@@ -10,7 +10,7 @@ use Rattle.rv_word.specs.Memory.{Memory, loaded}
 use Rattle.rv_word.specs.Same.{SameOn}
 use Rattle.rv_word.proofs.Versions.{laid_out}
 use Rattle.rv_code.specs.Run.{ByteChange, HartStep, IsDataChange, changed, disturbed}
-use Rattle.rv_code.specs.State.{Hart, Harts, Shared, After, start_hart, start_shared, last_exit, with_hart}
+use Rattle.rv_code.specs.State.{Hart, Harts, Shared, After, last_exit, with_hart}
 use Rattle.rv_code.specs.Step.{step}
 use Rattle.rv_code.specs.declared.turn.Turn.{Turn}
 use Rattle.rv_code.specs.declared.turn.Turn.TheVariants.{Ran, Exit, Break}
@@ -18,7 +18,7 @@ use Rattle.cfi_graph.specs.Graph.{GraphParts}
 use Rattle.cfi_unit.specs.declared.unit.Unit as U
 use Rattle.cfi_unit.specs.declared.unit.Unit.TheVariants as V
 use Rattle.cfi_unit.specs.declared.unit.SystemOp.TheVariants as S
-use Rattle.cfi_unit.specs.Context.{IsCodeOf, Context}
+use Rattle.cfi_unit.specs.Context.{IsCodeOf, Context, SameOutside}
 use Rattle.cfi_unit.specs.InPlace.{InPlace}
 use Rattle.cfi_unit.specs.declared.place.Place.{Place}
 use Rattle.cfi_unit.specs.declared.place.Place.TheVariants.{Handler as handler, Opening as opening, Closing as closing, Body as body}
@@ -28,11 +28,12 @@ use Rattle.cfi_unit.specs.Shadow.{slot, Holds, MOST_PENDING}
 use Rattle.cfi_unit.specs.UnitLaw.{UnitEnds, Ends, Outcome, stays, leaves, ends, ReturnsTo}
 use Rattle.cfi_unit.proofs.Changed.{in_place_changed, IsReady, place_begins}
 use Rattle.cfi_unit.proofs.Context.{holds_same}
+use Rattle.cfi_unit.proofs.Events.{unit_events}
 use Rattle.cfi_unit.proofs.Others.{other_part}
 use Rattle.cfi_unit.proofs.Parts.{own_is_part}
 use Rattle.cfi_unit.proofs.PlaceWords.{place_word}
 use Rattle.cfi_unit.proofs.UnitSteps.{unit_law}
-use Rattle.cfi_rules.specs.Along.{Walk, Walks, with_walk, GoesOn, Arrives, ShadowStands, MayExit, MayBreak, MayEnd, Begun, OnRan, RunsAlong, AreStepsOf, IsSafe}
+use Rattle.cfi_rules.specs.Along.{Walk, Walks, with_walk, GoesOn, Arrives, ShadowStands, MayExit, MayBreak, MayEnd, Begun, MayStart, OnRan, RunsAlong, AreStepsOf, IsSafe}
 use Rattle.cfi_rules.specs.Rules.{IsWellFormed}
 use Rattle.cfi_rules.specs.Split.{code_words, place_at}
 use Rattle.cfi_rules.specs.Laws.{AreBytes, WellFormedIsSafe}
@@ -154,14 +155,16 @@ module _ (p : Profile) (profile : IsProfile p) (image : Contents) (graph : Graph
       let layout = laid_out p profile in let from = facts.low in absurd (omega arith)
 
   shadow_stands : (part : ℕ) (place : Place) (at : ℕ) (pending : List ℕ) (h : Hart) (m : Memory) → PlaceFacts p profile image graph bytes formed place at →
-      h.pc ≡ at → Holds part m pending → (h.regs 3 ≡ slot part (length pending)) ⊎ (h.pc ≤ OPENING) → ShadowStands part place h.pc h m pending
-  shadow_stands part handler at pending h m facts e held x3 = tt
-  shadow_stands part (opening entry) at pending h m facts e held x3 = tt
-  shadow_stands part closing at pending h m facts e held (inl x3) = (x3, held)
-  shadow_stands part closing at pending h m facts e held (inr low) =
+      Stage p profile image graph bytes formed place pending → h.pc ≡ at → Holds part m pending → (h.regs 3 ≡ slot part (length pending)) ⊎ (h.pc ≤ OPENING) →
+      ShadowStands part place h.pc h m pending
+  shadow_stands part handler at pending h m facts stage e held x3 = tt
+  shadow_stands part (opening entry) at pending h m facts stage e held x3 = tt
+  shadow_stands part closing at pending h m facts stage e held (inl x3) = (x3, held)
+  shadow_stands part closing at pending h m facts stage e held (inr low) =
       let layout = laid_out p profile in let here = facts in absurd (omega arith)
-  shadow_stands part (body unit) at pending h m facts e held (inl x3) = (x3, held)
-  shadow_stands part (body unit) at pending h m facts e held (inr low) =
+  shadow_stands part (body unit) at [] h m facts stage e held x3 = absurd stage.sites
+  shadow_stands part (body unit) at (site ∷ pending) h m facts stage e held (inl x3) = (x3, held, omega arith)
+  shadow_stands part (body unit) at (site ∷ pending) h m facts stage e held (inr low) =
       let layout = laid_out p profile in let from = facts.low in absurd (omega arith)
 
   -- where something starts, and the hart is ready for it, the hart is at its first word
@@ -221,7 +224,7 @@ module _ (p : Profile) (profile : IsProfile p) (image : Contents) (graph : Graph
       Left after = IsCodeOf (loaded image) after.shared.memory
 
       record Stepped (w : Walk) : Type 0 where
-        begun : Begun p image the_words w (hs k) s.memory (step p (hs k) s).turn
+        begun : Begun p (part_of k) image the_words w (hs k) s (step p (hs k) s)
         on : OnRan (step p (hs k) s).turn (Rest w (step p (hs k) s)) (Left (step p (hs k) s))
 
       follows : (w : Walk) (place : Place) (pc : ℕ) (after : After) → place_at p the_words w.at ≡ Some place → Stage p profile image graph bytes formed place w.pending →
@@ -238,6 +241,13 @@ module _ (p : Profile) (profile : IsProfile p) (image : Contents) (graph : Graph
           (known_after w after newer c (arrived w place newer refl is to c.kept.held x3)))
       follows w place pc after is stage word (ends how kept) = ended p w.at pc after.turn (Rest w after) (Left after) kept.code place word how
 
+      -- whatever it comes to, no byte outside of data and of the own part is written
+      frame_of : (place : Place) (at : ℕ) (pending : List ℕ) (r : ℕ → ℕ) (after : After) → Outcome p (part_of k) (loaded image) s.memory place at pending r after →
+          SameOutside (part_of k) s.memory after.shared.memory
+      frame_of place at pending r after (stays t c low i) = c.kept.frame
+      frame_of place at pending r after (leaves newer t c x3 goes) = c.kept.frame
+      frame_of place at pending r after (ends how kept) = kept.frame
+
       step_on : (w : Walk) (place : Place) → place_at p the_words w.at ≡ Some place → Stage p profile image graph bytes formed place w.pending →
           Holds (part_of k) s.memory w.pending → InPlace p (part_of k) (loaded image) place w.at w.pending w.regs (hs k) s.memory → Stepped w
       step_on w place is stage held inside =
@@ -251,14 +261,16 @@ module _ (p : Profile) (profile : IsProfile p) (image : Contents) (graph : Graph
           let law = unit_law p (part_of k) (loaded image) s.memory place w.at w.pending w.regs (hs k) s (own_is_part p profile k (omega arith)) (loaded_small image bytes) may
           (most_pending place w.pending stage) stand context inside in
           let e = follows w place (hs k).pc (step p (hs k) s) is stage word law in
-          record { begun = (place, is, word, e.may, known.code); on = e.on }
+          let frame = frame_of place w.at w.pending w.regs (step p (hs k) s) law in
+          let adds = unit_events p (part_of k) (loaded image) s.memory place w.at w.pending w.regs (hs k) s may stand context inside in
+          record { begun = (place, is, word, e.may, known.code, frame, adds); on = e.on }
 
       abbrev pub Goes : Walk → Type 0
       Goes w = GoesOn p (part_of k) the_words graph.lines (walks k) (place_at p the_words (hs k).pc) (hs k) s.memory w
 
       -- what is owed of the step
       abbrev pub Owed : Type 0
-      Owed = (w : Walk) × Goes w × Begun p image the_words w (hs k) s.memory (step p (hs k) s).turn
+      Owed = (w : Walk) × Goes w × Begun p (part_of k) image the_words w (hs k) s (step p (hs k) s)
           × OnRan (step p (hs k) s).turn (Rest w (step p (hs k) s)) (Left (step p (hs k) s))
 
       abbrev walk_at : List ℕ → Walk
@@ -273,7 +285,7 @@ module _ (p : Profile) (profile : IsProfile p) (image : Contents) (graph : Graph
           let inside = begins (part_of k) place pending (hs k) s.memory is stage own x3 in
           let on = step_on (walk_at pending) place is stage held inside in
           let goes : GoesOn p (part_of k) the_words graph.lines (walks k) (Some place) (hs k) s.memory (walk_at pending) =
-          (refl, refl, arrives, shadow_stands (part_of k) place (hs k).pc pending (hs k) s.memory facts refl held x3) in (
+          (refl, refl, arrives, shadow_stands (part_of k) place (hs k).pc pending (hs k) s.memory facts stage refl held x3) in (
             walk_at pending,
             subst (λ (o : Option Place). GoesOn p (part_of k) the_words graph.lines (walks k) o (hs k) s.memory (walk_at pending)) (sym is) goes,
             on.begun,
@@ -307,12 +319,15 @@ module _ (p : Profile) (profile : IsProfile p) (image : Contents) (graph : Graph
         let now = known_disturbed walks hs s t.changes low.0.changes known in
         goes_on (λ walks hs s. Along walks hs s rest) (runs rest low.1) walks hs t.hart low.0.hart (disturbed s t.changes) now (now.each t.hart low.0.hart)
 
-    pub start_known : (input : List ℕ) → Known (λ k. None) start_hart (start_shared image input)
-    unfolding last_exit
-    start_known input = record { going = refl; code = λ k low high. refl; each = λ k below. starting refl refl refl }
+    start_known : (hs : Harts) (s : Shared) → MayStart image harts hs s → Known (λ k. None) hs s
+    start_known hs s start = record {
+      going = start.going;
+      code = start.code;
+      each = λ k below. starting refl (start.pc k below) (ap part_of (sym (start.number k below)));
+    }
 
   pub well_formed_safe : IsSafe p image graph
-  well_formed_safe input harts may_run steps low = runs harts may_run steps low (λ k. None) start_hart (start_shared image input) (start_known harts may_run input)
+  well_formed_safe count may_run harts s start steps low = runs count may_run steps low (λ k. None) harts s (start_known count may_run harts s start)
 
 pub well_formed_is_safe : WellFormedIsSafe
 well_formed_is_safe p image graph profile bytes formed = well_formed_safe p profile image graph bytes formed

@@ -7,7 +7,7 @@ use Rattle.rv_word.specs.MemoryMap.{Profile, part_of}
 use Rattle.rv_word.specs.Memory.{Memory, loaded}
 use Rattle.rv_word.proofs.Cases.{cases_Option}
 use Rattle.rv_code.specs.Run.{HartStep, disturbed, disturbed_step, if_ran}
-use Rattle.rv_code.specs.State.{Hart, Harts, Shared, start_hart, start_shared, with_hart}
+use Rattle.rv_code.specs.State.{Hart, Harts, Shared, with_hart}
 use Rattle.rv_code.specs.declared.turn.Turn.{Turn}
 use Rattle.rv_code.specs.declared.turn.Turn.TheVariants.{Ran, Exit, Break, LoadFault, StoreFault, FetchFault, Illegal}
 use Rattle.cfi_graph.specs.declared.line.GraphLine.{GraphLine}
@@ -73,5 +73,5 @@ module _ (p : Profile) (image : Contents) (words : List ℕ) (lines : List Graph
       ]
 
 pub safe_stays : SafeStaysInPlace
-safe_stays p image graph input harts steps k safe may low =
-    stays p image (code_words image.code) graph.lines k steps (λ j. None) 0 start_hart (start_shared image input) tt (safe input harts may steps low)
+safe_stays p image graph count harts s steps k safe may start low =
+    stays p image (code_words image.code) graph.lines k steps (λ j. None) 0 harts s tt (safe count may harts s start steps low)

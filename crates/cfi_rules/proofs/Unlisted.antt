@@ -15,13 +15,13 @@ use Rattle.rv_code.specs.Run.{ByteChange, disturbed_step}
 use Rattle.rv_code.specs.State.{After, Hart, Harts, Shared, start_hart, start_shared, last_exit, with_hart}
 use Rattle.rv_code.specs.Step.{step}
 use Rattle.rv_code.specs.declared.event.Event.{Event}
-use Rattle.rv_code.specs.declared.turn.Turn.{Turn}
-use Rattle.rv_code.specs.declared.turn.Turn.TheVariants.{Ran, Exit, Break, LoadFault, StoreFault, FetchFault, Illegal}
 use Rattle.rv_code.proofs.Runs.{calm}
 use Rattle.cfi_rules.specs.Along.{OnRan}
 use Rattle.cfi_rules.specs.Listed.{AddsListed, IsListed, ListedAlong}
 use Rattle.cfi_rules.specs.Unsafe.{bare_call, bare_exit, other_closing, second_call, BareCallIsNotListed}
 use Rattle.cfi_rules.proofs.Arrivals.{after_calm, calm_and, is_ran, ran_of}
+use Rattle.cfi_rules.proofs.OnRan.{on_ran}
+use Rattle.cfi_rules.proofs.Starts.{machine_may_start}
 use Rattle.cfi_rules.proofs.OneHart.{may_come, one_may_run, steps_of}
 
 module _ (p : Profile) (calls : List ℕ) where
@@ -32,24 +32,15 @@ module _ (p : Profile) (calls : List ℕ) where
       let after = disturbed_step p h s cs in
       AddsListed p calls h.pc s.events after.shared.events × OnRan after.turn (ListedAlone after.hart after.shared rest) (Unit {0})
 
-  on_ran : (turn : Turn) (X Y Z : Type 0) → (X → Z) → OnRan turn X Y → OnRan turn Z Y
-  on_ran Ran X Y Z f on = f on
-  on_ran (Exit status) X Y Z f on = on
-  on_ran (Break pc) X Y Z f on = on
-  on_ran (LoadFault pc a) X Y Z f on = on
-  on_ran (StoreFault pc a) X Y Z f on = on
-  on_ran (FetchFault pc) X Y Z f on = on
-  on_ran (Illegal pc) X Y Z f on = on
-
   listed_alone : (k : ℕ) (changes : List (List ByteChange)) (harts : Harts) (s : Shared) → ListedAlong p calls harts s (steps_of k changes) → ListedAlone (harts k) s changes
   listed_alone k [] harts s r = r
   listed_alone k (cs ∷ rest) harts s r =
       let after = disturbed_step p (harts k) s cs in (
         r.0,
-        on_ran after.turn (ListedAlong p calls (with_hart harts k after.hart) after.shared (steps_of k rest)) (Unit {0}) (ListedAlone after.hart after.shared rest)
+        on_ran after.turn (ListedAlong p calls (with_hart harts k after.hart) after.shared (steps_of k rest)) (Unit {0}) (ListedAlone after.hart after.shared rest) (Unit {0})
             (λ on.
             let later : ListedAlone (if k == k then after.hart else harts k) after.shared rest = listed_alone k rest (with_hart harts k after.hart) after.shared on in
-            subst (λ (b : Bool). ListedAlone (if b then after.hart else harts k) after.shared rest) (eq-eqb k k refl) later) r.1,
+            subst (λ (b : Bool). ListedAlone (if b then after.hart else harts k) after.shared rest) (eq-eqb k k refl) later) (λ none. none) r.1,
       )
 
   -- some undisturbed steps run
@@ -99,7 +90,7 @@ listed_there : (p : Profile) (image : Contents) (harts hart k : ℕ) → MayRun 
 listed_there p image harts hart k may below run listed =
     let start = start_shared image [] in
     let low = calm_and k ([] ∷ []) (tt, tt) in
-    let along = listed [] harts may (steps_of hart (calm k ++ ([] ∷ []))) (may_come harts hart below (calm k ++ ([] ∷ [])) low) in
+    let along = listed harts may start_hart start (machine_may_start image [] harts) (steps_of hart (calm k ++ ([] ∷ []))) (may_come harts hart below (calm k ++ ([] ∷ [])) low) in
     (later p (63 ∷ []) k (start_hart hart) start ([] ∷ []) run (listed_alone p (63 ∷ []) hart (calm k ++ ([] ∷ [])) start_hart start along)).0
 
 one : MayRun version_1 1

@@ -6,7 +6,7 @@ use Rattle.rv_word.specs.MemoryMap.{Profile}
 use Rattle.rv_word.specs.Memory.{loaded}
 use Rattle.rv_word.proofs.Cases.{cases_Option}
 use Rattle.rv_code.specs.Run.{HartStep, disturbed_step, if_ran}
-use Rattle.rv_code.specs.State.{Harts, Shared, start_hart, start_shared, with_hart}
+use Rattle.rv_code.specs.State.{Harts, Shared, with_hart}
 use Rattle.rv_code.specs.declared.turn.Turn.{Turn}
 use Rattle.rv_code.specs.declared.turn.Turn.TheVariants.{Ran, Exit, Break, LoadFault, StoreFault, FetchFault, Illegal}
 use Rattle.cfi_graph.specs.declared.line.GraphLine.{GraphLine}
@@ -119,5 +119,5 @@ module _ (p : Profile) (image : Contents) (words : List ℕ) (lines : List Graph
       ]
 
 pub safe_walks : SafeWalksGraph
-safe_walks p image graph input harts steps k safe may low =
-    first_steps p image (code_words image.code) graph.lines k steps (λ j. None) start_hart (start_shared image input) refl (safe input harts may steps low)
+safe_walks p image graph count harts s steps k safe may start low =
+    first_steps p image (code_words image.code) graph.lines k steps (λ j. None) harts s refl (safe count may harts s start steps low)

@@ -2,13 +2,13 @@
 -- at which something starts: the opening, the closing, a handler or a unit.
 use Rattle.std.specs.Prelude.{◌≡◌, ◌≢◌, ℕ, ◌<◌, ◌⊎◌, ◌==◌, true, false, List, [], ◌∷◌, length, Option, Some, None, if◌then◌else◌}
 use Rattle.std.specs.List.{AllByRecursion}
-use Rattle.rv_word.specs.MemoryMap.{MayRun, Profile, part_of}
+use Rattle.rv_word.specs.MemoryMap.{START, MayRun, Profile, part_of}
 use Rattle.rv_word.specs.Image.{Contents}
 use Rattle.rv_word.specs.Memory.{Memory, loaded}
 use Rattle.rv_word.specs.Numbers.{is_listed}
 use Rattle.rv_instr.specs.Registers.{Registers, get_reg}
 use Rattle.rv_code.specs.Run.{HartStep, IsStepOf, disturbed}
-use Rattle.rv_code.specs.State.{Hart, Harts, Shared, start_hart, start_shared, with_hart}
+use Rattle.rv_code.specs.State.{After, Hart, Harts, Shared, last_exit, with_hart}
 use Rattle.rv_code.specs.Step.{step}
 use Rattle.rv_code.specs.declared.turn.Turn.{Turn}
 use Rattle.rv_code.specs.declared.turn.Turn.TheVariants.{Ran, Exit, Break, LoadFault, StoreFault, FetchFault, Illegal}
@@ -23,7 +23,8 @@ use Rattle.cfi_unit.specs.declared.target_word.TargetWord.{TargetWord}
 use Rattle.cfi_unit.specs.declared.target_word.TargetWord.TheVariants.{First}
 use Rattle.cfi_unit.specs.Place.{IsWordOf}
 use Rattle.cfi_unit.specs.Prologue.{OPENING}
-use Rattle.cfi_unit.specs.Context.{IsCodeOf}
+use Rattle.cfi_unit.specs.Context.{IsCodeOf, SameOutside}
+use Rattle.cfi_unit.specs.EventLaw.{Adds}
 use Rattle.cfi_unit.specs.Leads.{destination}
 use Rattle.cfi_unit.specs.Shadow.{slot, MOST_PENDING, Holds}
 use Rattle.cfi_unit.specs.UnitWords.{BAD_TARGET, BAD_RETURN, DEEP, after_unit}
@@ -48,9 +49,9 @@ ComputedCallChooses lines label pending to v =
     (InClass lines K.Call First label to × (((pending < MOST_PENDING) × (v ≡ to)) ⊎ ((pending ≡ MOST_PENDING) × (v ≡ DEEP))))
     ⊎ ((¬ InClass lines K.Call First label to) × (v ≡ BAD_TARGET))
 
--- and from a return: the handler exactly where x1 is not the newest site
+-- and from a return, where a site is pending: the handler exactly where x1 is not the newest site
 abbrev pub ReturnChooses : List ℕ → ℕ → ℕ → Type 0
-ReturnChooses [] x1 v = v ≡ BAD_RETURN
+ReturnChooses [] x1 v = ⊥
 ReturnChooses (site ∷ pending) x1 v = ((x1 ≡ site) × (v ≡ site)) ⊎ ((x1 ≢ site) × (v ≡ BAD_RETURN))
 
 -- and from a guarded system call: the handler exactly where x17 is none of its numbers
@@ -67,12 +68,12 @@ Chooses lines (body (V.Guarded ns)) w v = GuardChooses ns (get_reg w.regs 17) (a
 Chooses lines other w v = Unit {0}
 
 -- the shadow stack, where a unit or the closing starts: x3 points past the newest slot, and each slot
--- holds its site
+-- holds its site; where a unit starts a site is pending
 abbrev pub ShadowStands : ℕ → Place → ℕ → Hart → Memory → List ℕ → Type 0
 ShadowStands part handler at h m pending = Unit {0}
 ShadowStands part (opening entry) at h m pending = Unit {0}
 ShadowStands part closing at h m pending = (h.regs 3 ≡ slot part (length pending)) × Holds part m pending
-ShadowStands part (body unit) at h m pending = (h.regs 3 ≡ slot part (length pending)) × Holds part m pending
+ShadowStands part (body unit) at h m pending = (h.regs 3 ≡ slot part (length pending)) × Holds part m pending × (0 < length pending)
 
 -- the walk arrives where something starts: by a step of the graph from the place before, or at the
 -- opening with nothing pending
@@ -118,11 +119,13 @@ MayEnd place pc (FetchFault at) = ⊥
 MayEnd place pc (Illegal at) = ⊥
 
 -- a begun instruction is a word of what stands at the newest address of the walk, it ends as it may
--- there, and code is the image's
-abbrev pub Begun : Profile → Contents → List ℕ → Walk → Hart → Memory → Turn → Type 0
-Begun p image words w h m turn =
+-- there, and code is the image's. Of memory it writes data and the hart's own part of the shadow stack
+-- alone, and it makes no system call but, where what stands there may make one, one with the number in x17
+abbrev pub Begun : Profile → ℕ → Contents → List ℕ → Walk → Hart → Shared → After → Type 0
+Begun p part image words w h s after =
     (place : Place) × (place_at p words w.at ≡ Some place) × IsWordOf p place w.at h.pc
-    × MayEnd place h.pc turn × IsCodeOf (loaded image) m
+    × MayEnd place h.pc after.turn × IsCodeOf (loaded image) s.memory
+    × SameOutside part s.memory after.shared.memory × Adds place w.at h s.events after.shared.events
 
 -- what is owed after an instruction that ran, and what after one that stopped
 abbrev pub OnRan : Turn → Type 0 → Type 0 → Type 0
@@ -146,7 +149,7 @@ RunsAlong p image words lines walks harts s (t ∷ rest) =
     let after = step p h now in
     (w : Walk)
     × GoesOn p (part_of t.hart) words lines (walks t.hart) (place_at p words h.pc) h now.memory w
-    × Begun p image words w h now.memory after.turn
+    × Begun p (part_of t.hart) image words w h now after
     × OnRan after.turn
     (RunsAlong p image words lines (with_walk walks t.hart w) (with_hart harts t.hart after.hart) after.shared rest)
     (IsCodeOf (loaded image) after.shared.memory)
@@ -154,9 +157,17 @@ RunsAlong p image words lines walks harts s (t ∷ rest) =
 abbrev pub AreStepsOf : ℕ → List HartStep → Type 0
 AreStepsOf harts steps = AllByRecursion (IsStepOf harts) steps
 
--- safe: for every input, every count of harts and every list of their steps, between which data
+-- where runs may start: each hart at the opening with its number in x10, and the image's code in memory.
+-- The other registers, data and the shadow stack hold anything
+pub record MayStart (image : Contents) (count : ℕ) (harts : Harts) (s : Shared) : Type 0 where
+  pub pc : (k : ℕ) → k < count → (harts k).pc ≡ START
+  pub number : (k : ℕ) → k < count → (harts k).regs 10 ≡ k
+  pub code : IsCodeOf (loaded image) s.memory
+  pub going : last_exit s.events ≡ None
+
+-- safe: for every count of harts, every such start and every list of the harts' steps, between which data
 -- change, the run goes along the graph
 abbrev pub IsSafe : Profile → Contents → GraphParts → Type 0
 IsSafe p image graph =
-    (input : List ℕ) (harts : ℕ) → MayRun p harts → (steps : List HartStep) → AreStepsOf harts steps
-    → RunsAlong p image (code_words image.code) graph.lines (λ k. None) start_hart (start_shared image input) steps
+    (count : ℕ) → MayRun p count → (harts : Harts) (s : Shared) → MayStart image count harts s → (steps : List HartStep) → AreStepsOf count steps
+    → RunsAlong p image (code_words image.code) graph.lines (λ k. None) harts s steps

@@ -4,11 +4,11 @@ use Rattle.std.specs.List.{AllByRecursion}
 use Rattle.rv_word.specs.Image.{Contents, IsImageSize}
 use Rattle.rv_word.specs.MemoryMap.{IsProfile, MayRun, Profile}
 use Rattle.rv_code.specs.Run.{HartStep}
-use Rattle.rv_code.specs.State.{start_hart, start_shared}
+use Rattle.rv_code.specs.State.{Harts, Shared, start_hart, start_shared}
 use Rattle.cfi_graph.specs.Graph.{GraphParts}
 use Rattle.cfi_unit.specs.declared.unit.Unit as U
 use Rattle.cfi_unit.specs.Split.{IsSplit}
-use Rattle.cfi_rules.specs.Along.{AreStepsOf, IsSafe}
+use Rattle.cfi_rules.specs.Along.{AreStepsOf, IsSafe, MayStart}
 use Rattle.cfi_rules.specs.Rules.{IsWellFormed}
 use Rattle.cfi_rules.specs.Split.{code_words, unit_words, unit_at, unit_in}
 use Rattle.cfi_rules.specs.Trails.{trail_of, IsInPlace}
@@ -34,18 +34,20 @@ CodeIsSplit =
     × IsSplit (unit_words p (code_words image.code)) p.units_from units
     × ((a : ℕ) → unit_at p (code_words image.code) a ≡ unit_in units p.units_from a)
 
+-- a run of the machine starts where runs may start
+abbrev pub MachineMayStart : Type 0
+MachineMayStart = (image : Contents) (input : List ℕ) (count : ℕ) → MayStart image count start_hart (start_shared image input)
+
 -- the walk of each hart in each run of a safe pair is a list of steps of the graph walk
 abbrev pub SafeWalksGraph : Type 0
 SafeWalksGraph =
-    (p : Profile) (image : Contents) (graph : GraphParts) (input : List ℕ) (harts : ℕ) (steps : List HartStep) (k : ℕ) →
-    IsSafe p image graph → MayRun p harts → AreStepsOf harts steps →
-    IsGraphWalk p (code_words image.code) graph.lines
-    (walk_of p (code_words image.code) k start_hart (start_shared image input) steps)
+    (p : Profile) (image : Contents) (graph : GraphParts) (count : ℕ) (harts : Harts) (s : Shared) (steps : List HartStep) (k : ℕ) →
+    IsSafe p image graph → MayRun p count → MayStart image count harts s → AreStepsOf count steps →
+    IsGraphWalk p (code_words image.code) graph.lines (walk_of p (code_words image.code) k harts s steps)
 
 -- each begun instruction of each hart in each run of a safe pair is in its place
 abbrev pub SafeStaysInPlace : Type 0
 SafeStaysInPlace =
-    (p : Profile) (image : Contents) (graph : GraphParts) (input : List ℕ) (harts : ℕ) (steps : List HartStep) (k : ℕ) →
-    IsSafe p image graph → MayRun p harts → AreStepsOf harts steps →
-    AllByRecursion (IsInPlace p (code_words image.code))
-    (trail_of p (code_words image.code) k 0 start_hart (start_shared image input) steps)
+    (p : Profile) (image : Contents) (graph : GraphParts) (count : ℕ) (harts : Harts) (s : Shared) (steps : List HartStep) (k : ℕ) →
+    IsSafe p image graph → MayRun p count → MayStart image count harts s → AreStepsOf count steps →
+    AllByRecursion (IsInPlace p (code_words image.code)) (trail_of p (code_words image.code) k 0 harts s steps)

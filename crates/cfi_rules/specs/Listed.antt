@@ -4,11 +4,11 @@ use Rattle.rv_word.specs.Image.{Contents}
 use Rattle.rv_word.specs.MemoryMap.{IsProfile, MayRun, Profile}
 use Rattle.rv_word.specs.Numbers.{is_listed}
 use Rattle.rv_code.specs.Run.{HartStep, disturbed}
-use Rattle.rv_code.specs.State.{Harts, Shared, start_hart, start_shared, with_hart}
+use Rattle.rv_code.specs.State.{Harts, Shared, with_hart}
 use Rattle.rv_code.specs.Step.{step}
 use Rattle.rv_code.specs.declared.event.Event.{Event}
 use Rattle.cfi_graph.specs.Graph.{GraphParts, calls_in}
-use Rattle.cfi_rules.specs.Along.{AreStepsOf, OnRan}
+use Rattle.cfi_rules.specs.Along.{AreStepsOf, MayStart, OnRan}
 use Rattle.cfi_rules.specs.Laws.{AreBytes}
 use Rattle.cfi_rules.specs.Rules.{IsWellFormed}
 
@@ -29,11 +29,11 @@ ListedAlong p calls harts s (t ∷ rest) =
     AddsListed p calls h.pc s.events after.shared.events
     × OnRan after.turn (ListedAlong p calls (with_hart harts t.hart after.hart) after.shared rest) (Unit {0})
 
--- listed: for every input, every count of harts and every list of their steps, between which data change
+-- listed: for every count of harts, every start and every list of the harts' steps, between which data change
 abbrev pub IsListed : Profile → Contents → List ℕ → Type 0
 IsListed p image calls =
-    (input : List ℕ) (harts : ℕ) → MayRun p harts → (steps : List HartStep) → AreStepsOf harts steps
-    → ListedAlong p calls start_hart (start_shared image input) steps
+    (count : ℕ) → MayRun p count → (harts : Harts) (s : Shared) → MayStart image count harts s → (steps : List HartStep) → AreStepsOf count steps
+    → ListedAlong p calls harts s steps
 
 -- what meets the rules with a list of system calls makes no others
 abbrev pub WellFormedIsListed : Type 0

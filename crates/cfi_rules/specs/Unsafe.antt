@@ -1,5 +1,5 @@
 -- Small pairs with one fault each, which are not safe: so safety is not said of everything.
-use Rattle.std.specs.Prelude.{ℕ, ◌+◌, ◌/◌, ◌%◌, ◌^◌, List, [], ◌∷◌, ◌++◌, map, take, drop}
+use Rattle.std.specs.Prelude.{ℕ, ◌+◌, ◌/◌, ◌%◌, ◌^◌, List, [], ◌∷◌, ◌++◌, length, map, take, drop}
 use Rattle.rv_word.specs.MemoryMap.{START, UNITS_START, version_1, version_2}
 use Rattle.rv_word.specs.Image.{Contents}
 use Rattle.rv_code.specs.Encode.{code_of}
@@ -166,10 +166,17 @@ pub record WrongShadowsAreUnsafe : Type 0 where
 abbrev pub prologue_of_harts : List ℕ
 prologue_of_harts = map code_of (prologue_instrs version_2 version_2.units_from)
 
--- an opening that does not add a hart's own offset to x3, so that each hart's x3 is as hart 0's should
--- be; the code is a jump to a handler
+-- other words in place of some of the opening's for several harts; the code is a jump to a handler
+abbrev pub opening_of_harts_with : ℕ → List ℕ → Contents
+opening_of_harts_with k words = record {
+  version = 2;
+  init = [];
+  code = bytes_of (take k prologue_of_harts ++ words ++ drop (k + length words) prologue_of_harts ++ 0xfb1ff06f ∷ []);
+}
+
+-- an opening that does not add a hart's own offset to x3, so that each hart's x3 is as hart 0's should be
 abbrev pub one_pointer : Contents
-one_pointer = record { version = 2; init = []; code = bytes_of (take 8 prologue_of_harts ++ 0x00000013 ∷ drop 9 prologue_of_harts ++ 0xfb1ff06f ∷ []) }
+one_pointer = opening_of_harts_with 8 (0x00000013 ∷ [])
 
 abbrev pub one_pointer_graph : GraphParts
 one_pointer_graph = record { version = 1; code = 0x54; lines = Call START version_2.units_from ∷ [] }
@@ -177,6 +184,19 @@ one_pointer_graph = record { version = 1; code = 0x54; lines = Call START versio
 -- an opening that sets up hart 0 alone: a run of hart 1 shows it
 abbrev pub SharedPartsAreUnsafe : Type 0
 SharedPartsAreUnsafe = IsSafe version_2 one_pointer one_pointer_graph → ⊥
+
+-- an opening that stores into the part of hart 4, and not only into its own, in place of its test of depth
+abbrev pub storing_opening : Contents
+storing_opening = opening_of_harts_with 10 (0x60040f37 ∷ 0x7fef3823 ∷ 0x00000013 ∷ [])
+
+-- an opening that makes a system call; hart 0 comes all the same to the code as it should
+abbrev pub calling_opening : Contents
+calling_opening = opening_of_harts_with 8 (0x00000073 ∷ [])
+
+-- an instruction that writes what it may not, and one that makes a system call where none may be made
+pub record WrongDeedsAreUnsafe : Type 0 where
+  pub write : IsSafe version_2 storing_opening one_pointer_graph → ⊥
+  pub call : IsSafe version_2 calling_opening one_pointer_graph → ⊥
 
 -- a bare system call behind an instruction that brings its number into x17
 abbrev pub calling : ℕ → Contents

@@ -1,9 +1,9 @@
 //! What holds of accepted pairs and of their runs, and of units placed one after another. Each function
 //! states one law; nothing is computed.
-ghost use Rattle.cfi_rules.specs.Laws.{CodeIsSplit, WellFormedIsSafe, SafeStaysInPlace, SafeWalksGraph};
+ghost use Rattle.cfi_rules.specs.Laws.{CodeIsSplit, MachineMayStart, WellFormedIsSafe, SafeStaysInPlace, SafeWalksGraph};
 ghost use Rattle.cfi_rules.specs.Listed.{WellFormedIsListed};
 ghost use Rattle.cfi_rules.specs.PlacedLaws.{PlacedAreSplit, PlacedEntry, PlacedIsGraph, PlacedIsWellFormed, PlacedUnits, SplitUnits};
-ghost use Rattle.cfi_rules.specs.Unsafe.{MiddleIsUnsafe, BareReturnIsUnsafe, BareStoreIsUnsafe, MovedPointerIsUnsafe, WrongStopsAreUnsafe, WrongTransfersAreUnsafe, WrongShadowsAreUnsafe, SharedPartsAreUnsafe, BareCallIsNotListed};
+ghost use Rattle.cfi_rules.specs.Unsafe.{MiddleIsUnsafe, BareReturnIsUnsafe, BareStoreIsUnsafe, MovedPointerIsUnsafe, WrongStopsAreUnsafe, WrongTransfersAreUnsafe, WrongShadowsAreUnsafe, SharedPartsAreUnsafe, BareCallIsNotListed, WrongDeedsAreUnsafe};
 
 /// An image and a graph that meet the rules are safe, whatever the profile and however many harts run.
 pub fn well_formed_is_safe()
@@ -20,6 +20,12 @@ pub fn well_formed_is_listed()
 /// exactly where one of the split does.
 pub fn code_is_split()
     ensures { CodeIsSplit }
+{}
+
+/// A run of the machine starts where runs may start, of which safety speaks: whoever runs an image otherwise may
+/// leave other registers, data and words on the shadow stack.
+pub fn machine_may_start()
+    ensures { MachineMayStart }
 {}
 
 /// The walk of each hart in each run of a safe pair is a list of steps of the graph walk.
@@ -105,6 +111,11 @@ pub fn wrong_shadows_are_unsafe()
 /// An image for several harts whose opening gives each hart the shadow pointer of hart 0 is not safe.
 pub fn shared_parts_are_unsafe()
     ensures { SharedPartsAreUnsafe }
+{}
+
+/// An image whose opening stores into the part of another hart, or makes a system call, is not safe.
+pub fn wrong_deeds_are_unsafe()
+    ensures { WrongDeedsAreUnsafe }
 {}
 
 /// An image with a bare system call whose number is not in a list is not listed by it, nor is one that

@@ -13,6 +13,7 @@ use Rattle.cfi_graph.specs.Graph.{GraphParts}
 use Rattle.cfi_rules.specs.Along.{IsSafe}
 use Rattle.cfi_rules.specs.Split.{code_words}
 use Rattle.cfi_rules.specs.Walks.{walk_of}
+use Rattle.cfi_rules.proofs.Starts.{machine_may_start}
 use Rattle.cfi_rules.proofs.Trails.{safe_stays}
 use Rattle.cfi_script.specs.Plan.{Plan, Planned, harts_of, numbered, planned, steps_of}
 use Rattle.cfi_script.specs.Turns.{turns_of}
@@ -46,7 +47,7 @@ begins p image graph input count running safe may counted harts shared profile m
     subst (λ (n : ℕ). StaysFrom p image n (λ k. 0) (harts_in running.machine) (harts_share running.machine)) (sym counted)
         (subst (λ (hs : Harts). StaysFrom p image count (λ k. 0) hs (harts_share running.machine)) (sym harts)
         (subst (λ (s : Shared). StaysFrom p image count (λ k. 0) start_hart s) (sym shared)
-        (λ steps all k. safe_stays p image graph input count steps k safe may all))),
+        (λ steps all k. safe_stays p image graph count start_hart (start_shared image input) steps k safe may (machine_may_start image input count) all))),
   );
 }
 

@@ -3,6 +3,7 @@ use Rattle.rv_word.specs.Image.{image_profile}
 use Rattle.rv_word.specs.MemoryMap.{profile_of}
 use Rattle.rv_code.specs.State.{start_hart, start_shared}
 use Rattle.rv_machine.specs.Harts.{harts_in, harts_share}
+use Rattle.cfi_rules.proofs.Starts.{machine_may_start}
 use Rattle.cfi_rules.proofs.Walks.{safe_walks}
 use Rattle.cfi_script.specs.Plan.{harts_of, planned, steps_of}
 use Rattle.cfi_script.specs.Script.{Changes, script_plan}
@@ -81,5 +82,5 @@ returns-clause-walk g c =
     let over = over_so (image_profile image) image plan (length c.in_ok-running.running.machine.resting) c.args.harts (harts_in c.in_ok-running.running.machine) start_hart
     (harts_share c.in_ok-running.running.machine) (start_shared image c.args.input.now) c.args.limit c.in_ok-end.end c.in_ok-end.steps c.finish.new.running
     c.in_ok-running.ensures.count c.in_ok-running.ensures.harts shared c.in_ok-end.ensures.over in
-    λ k. safe_walks (image_profile image) image c.args.checked.now.graph c.args.input.now c.args.harts
-    (steps_of (planned (image_profile image) plan c.args.harts 0 start_hart (start_shared image c.args.input.now) c.args.limit)) k c.is_safe.ensures c.requires over.allowed
+    λ k. safe_walks (image_profile image) image c.args.checked.now.graph c.args.harts start_hart (start_shared image c.args.input.now)
+    (steps_of (planned (image_profile image) plan c.args.harts 0 start_hart (start_shared image c.args.input.now) c.args.limit)) k c.is_safe.ensures c.requires (machine_may_start image c.args.input.now c.args.harts) over.allowed
