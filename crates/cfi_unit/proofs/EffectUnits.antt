@@ -29,7 +29,7 @@ use Rattle.cfi_unit.proofs.Context.{kept_data}
 use Rattle.cfi_unit.proofs.Jumps.{near_leads}
 use Rattle.cfi_unit.proofs.EffectSteps.{Now, RunsOn, before, moved, onto, onto_branch, onto_jump}
 
-set_other : (regs : Registers) (rd v k : ℕ) → (rd ≡ k → ⊥) → set_reg regs rd v k ≡ regs k
+pub set_other : (regs : Registers) (rd v k : ℕ) → (rd ≡ k → ⊥) → set_reg regs rd v k ≡ regs k
 set_other regs zero v k apart = refl
 set_other regs (suc rd) v k apart = rw (ne_eqb k (suc rd) (λ e. apart (sym e))) refl
 
@@ -76,7 +76,7 @@ module _ (h : Hart) (s : Shared) (k : ℕ) (other : k ≢ 10) where
       (λ right. cond_both (nat_le (h.regs 11 + h.regs 12) (2 ^ 28)) _ _ Keeps (λ inside. answer_keeps _) (λ outside. answer_keeps _))
       (λ wrong. answer_keeps _)
 
-  call_keeps : Keeps (system_call h s)
+  pub call_keeps : Keeps (system_call h s)
   call_keeps =
       cond_both (h.regs 17 == 64) _ _ Keeps (λ is. write_keeps)
       (λ no. cond_both (h.regs 17 == 63) _ _ Keeps (λ is. read_keeps)

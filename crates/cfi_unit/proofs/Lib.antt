@@ -38,3 +38,4 @@ pub mod EffectTransfers
 pub mod EffectRows
 pub mod PrologueEffect
 pub mod EffectWorked
+pub mod RegisterLaw

@@ -18,4 +18,5 @@ pub mod Leaving
 pub mod Effect
 pub mod EffectLaw
 pub mod EventLaw
+pub mod Results
 pub mod PrologueEffect

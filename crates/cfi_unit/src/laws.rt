@@ -12,6 +12,7 @@ ghost use Rattle.cfi_unit.specs.Laws.{
   WordsCounted,
   WordsDetermine,
 };
+ghost use Rattle.cfi_unit.specs.Results.{ResultsListed};
 
 /// The unit that is recognised begins the list.
 #[tactic(auto, using(crate::proofs::Told::recognised_begins))]
@@ -79,4 +80,10 @@ pub fn branch_begins()
 /// what the unit law asks at each word of the hart's code.
 pub fn others_keep()
     ensures { OthersKeep }
+{}
+
+/// No word of a unit but its last puts a result into a register of the program, and the last into the
+/// one that is listed; so do the words of the prologue.
+pub fn results_listed()
+    ensures { ResultsListed }
 {}

@@ -8,7 +8,7 @@ pub use emission::{emit, fits, size};
 pub use members::{MOST_MEMBERS, Member, Members};
 pub use place::Place;
 pub use recogniser::recognise;
-pub use step_law::{unit_events, unit_law};
+pub use step_law::{registers_stay, unit_events, unit_law};
 pub use target_word::TargetWord;
 pub use unit::{SystemOp, Unit};
 pub use words::WordList;

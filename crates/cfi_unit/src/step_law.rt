@@ -1,4 +1,5 @@
 ghost use Rattle.cfi_unit.specs.EventLaw.{EventLaw};
+ghost use Rattle.cfi_unit.specs.Results.{RegistersStay};
 ghost use Rattle.cfi_unit.specs.UnitLaw.{UnitLaw};
 
 /// The unit law, as the contract of a function that computes nothing: a step from a word of a unit
@@ -11,4 +12,10 @@ pub fn unit_law()
 /// the unit may call. Nothing is computed.
 pub fn unit_events()
     ensures { EventLaw }
+{}
+
+/// A step from a word of a unit leaves the program's registers as they were, but the one into which
+/// that word puts its result. Nothing is computed.
+pub fn registers_stay()
+    ensures { RegistersStay }
 {}
