@@ -3,6 +3,7 @@ pub mod Packing
 pub mod Read
 pub mod Applied
 pub mod Kept
+pub mod Linked
 pub mod Ranges
 pub mod Exact
 mod Rows

@@ -5,6 +5,7 @@ pub mod Sound
 pub mod MapFit
 pub mod Packed
 pub mod AtMap
+pub mod LinkedWord
 pub mod DataAtMap
 pub mod Range
 pub mod Laws

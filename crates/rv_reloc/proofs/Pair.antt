@@ -18,7 +18,7 @@ in_i imm word small fits = omega arith
 in_s : (imm word : ℕ) → imm < 2 ^ 12 → word < 2 ^ 32 → imm_s (with_s imm word) ≡ imm
 in_s imm word small fits = omega arith
 
-below : (len : ℕ) (z : ℤ) → 0 < 2 ^ len → low_bits len z < 2 ^ len
+pub below : (len : ℕ) (z : ℤ) → 0 < 2 ^ len → low_bits len z < 2 ^ len
 below len (pos n) some = search rules
 below len (negsuc n) some = omega arith
 
