@@ -7,6 +7,7 @@ mod ByWords
 pub mod Sorting
 mod Stood
 pub mod OneObject
+mod Finding
 mod Functions
 pub mod Sectioned
 pub mod Resolves

@@ -19,7 +19,7 @@ use Rattle.obj_join.specs.Joined.{own_input, shared_input}
 use Rattle.obj_join.specs.Laws.{HasOwnNames, IsNamed, OneIsOwn}
 use Rattle.obj_join.proofs.Sorting.{joined_same}
 
-shared_some : (s : SymbolSaid) → is_shared s ≡ true → is_some_symbol s.standing ≡ true
+pub shared_some : (s : SymbolSaid) → is_shared s ≡ true → is_some_symbol s.standing ≡ true
 shared_some s e = (and_parts (is_some_symbol s.standing) (not (length s.name == 0)) (and_parts (is_some_symbol s.standing && not (length s.name == 0)) (s.binding == 1 || s.binding == 2) e).0).0
 
 shared_name : (s : SymbolSaid) → is_shared s ≡ true → s.name ≢ []

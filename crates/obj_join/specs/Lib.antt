@@ -8,6 +8,7 @@ pub mod Definer
 pub mod Found
 pub mod Duplicate
 pub mod Joined
+pub mod Finding
 pub mod Laws
 pub mod Ranked
 pub mod Numbers
