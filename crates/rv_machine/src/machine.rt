@@ -55,9 +55,10 @@ impl Machine {
         })
     }
 
-    /// How many harts it has.
+    /// How many harts it has. It has at least one.
     pub fn harts(&self) -> u8
-        ensures { result ≡ length self.now.resting }
+        ensures count { result ≡ length self.now.resting }
+        ensures some { 1 ≤ result }
     {
         self.resting.len() as u8
     }
@@ -138,6 +139,7 @@ impl Machine {
         ensures shared { harts_share self.new ≡ harts_share self.old }
         ensures count { length self.new.resting ≡ length self.old.resting }
         ensures version { self.new.processor.memory.version ≡ self.old.processor.memory.version }
+        ensures kept { KeepsRoom self.old.processor self.new.processor }
     {
         self.bring(usize::from(hart));
     }
