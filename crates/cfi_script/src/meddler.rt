@@ -1,4 +1,4 @@
-ghost use Rattle.std.specs.Prelude.{◌≡◌, ◌≤◌, ◌<◌, ◌++◌, length, OnOk, OnErr};
+ghost use Rattle.std.specs.Prelude.{◌≡◌, ◌<◌, ◌++◌, length, OnOk, OnErr};
 ghost use Rattle.rv_machine.specs.Harts.{harts_in, harts_share};
 ghost use Rattle.cfi_script.specs.Plan.{IsOneHart, IsQuietPlan, Plan};
 
@@ -6,17 +6,17 @@ use rv_machine::{Change, Machine};
 use rv_word::NoMemory;
 use std::alloc::Global;
 
-/// What chooses the hart that takes each step of a run, and changes data between the instructions.
+/// What chooses the hart that takes each step of a run, and changes data between the instructions. No call changes what it
+/// is: what a meddler keeps for the next call, as how far it has come, is no part of its model.
 pub trait Meddler {
     /// The hart that takes each step and the changes before it, by the number of steps taken and the state then.
     ghost plan: { Self → Plan };
 
     /// The hart that takes the next step, `step` being the number of steps taken.
     fn hart(&mut self, step: u64, seen: &Machine) -> u8
-        requires { 1 ≤ length seen.now.resting }
         ensures answered { result ≡ (plan self.old).hart step (length seen.now.resting) (harts_in seen.now) (harts_share seen.now) }
         ensures below { result < length seen.now.resting }
-        ensures kept { plan self.new ≡ plan self.old };
+        ensures kept { self.new ≡ self.old };
 
     /// The number of steps up to which it is known without a look at the state that no change comes, `step`
     /// being the number of steps taken. `step` itself is always right: a meddler that cannot tell leaves this
@@ -47,5 +47,5 @@ pub trait Meddler {
         ensures answered { OnOk result
             (into.new.items ≡ into.old.items ++ (plan self.old).changes step (length seen.now.resting) (harts_in seen.now) (harts_share seen.now)) }
         ensures refused { OnErr result (into.new.items ≡ into.old.items) }
-        ensures kept { plan self.new ≡ plan self.old };
+        ensures kept { self.new ≡ self.old };
 }

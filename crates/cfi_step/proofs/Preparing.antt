@@ -60,7 +60,6 @@ empty_so trails empty k t at =
 -- before the first step nothing is known
 pub begun_ready : (plan : Plan) (p : Profile) (image : Contents) (running : Running) → IsBegun p image running → IsReady plan 0 running
 begun_ready plan p image running begun = record {
-  some = begun.some;
   last = omega (arith, begun.some, begun.last);
   current = begun.current ∙ sym begun.last;
   each = begun.each;
@@ -80,7 +79,6 @@ ready_next plan step before mid after ready prepared counted selected turns each
     let count = counted ∙ prepared.count in
     let hart = ap (λ (t : TakenTurns). t.hart) turns in
     record {
-      some = omega (arith, ready.some, count);
       last = omega (arith, prepared.below, count, hart);
       current = selected ∙ prepared.current ∙ sym hart;
       each = each ∙ prepared.each ∙ ready.each ∙ sym count;

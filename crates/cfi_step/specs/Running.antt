@@ -61,7 +61,6 @@ IsStill from next plan count hart =
 -- after so many steps: the hart that took the last one is selected, each hart has a trail, of a walk of no more addresses
 -- than steps were taken, and what is known of the plan
 pub record IsReady (plan : Plan) (steps : ℕ) (running : Running) : Type 0 where
-  pub some : 1 ≤ length running.machine.resting
   pub last : running.taken.hart < length running.machine.resting
   pub current : running.machine.current ≡ running.taken.hart
   pub each : length running.resting.items ≡ length running.machine.resting

@@ -135,7 +135,7 @@ impl Running {
         ensures trail { OnOk result (self.new.trail ≡ self.old.trail) }
         ensures resting { OnOk result (self.new.resting ≡ self.old.resting) }
         ensures still { OnOk result (IsQuietPlan (step + 1) self.new.quiet (M.plan meddler.old)) }
-        ensures kept { M.plan meddler.new ≡ M.plan meddler.old }
+        ensures kept { meddler.new ≡ meddler.old }
     {
         if step < self.quiet {
             return Ok(());
@@ -198,7 +198,7 @@ impl Running {
         requires more { step + 1 < 2 ^ 64 }
         requires ready { IsReady (M.plan meddler.old) step self.old }
         ensures prepared { OnOk result (IsPrepared (M.plan meddler.old) step self.old self.new) }
-        ensures kept { M.plan meddler.new ≡ M.plan meddler.old }
+        ensures kept { meddler.new ≡ meddler.old }
     {
         let hart = meddler.hart(step, &self.machine);
         self.disturb(alloc, meddler, step)?;
@@ -218,7 +218,7 @@ impl Running {
         requires more { step + 1 < 2 ^ 64 }
         requires ready { IsReady (M.plan meddler.old) step self.old }
         ensures prepared { OnOk result (IsPrepared (M.plan meddler.old) step self.old self.new) }
-        ensures kept { M.plan meddler.new ≡ M.plan meddler.old }
+        ensures kept { meddler.new ≡ meddler.old }
     {
         if step < self.still {
             return Ok(());
@@ -269,7 +269,7 @@ impl Running {
         ensures ready { OnOk result (IsReady (M.plan meddler.old) (step + 1) self.new) }
         ensures count { OnOk result (length self.new.machine.resting ≡ length self.old.machine.resting) }
         ensures version { OnOk result (self.new.machine.processor.memory.version ≡ self.old.machine.processor.memory.version) }
-        ensures kept { M.plan meddler.new ≡ M.plan meddler.old }
+        ensures kept { meddler.new ≡ meddler.old }
     {
         self.prepare(alloc, meddler, step)?;
         self.note(checked);

@@ -40,7 +40,7 @@ fn finish<M: Meddler>(
         (harts_in running.old.machine) (harts_share running.old.machine)
         (planned (image_profile checked.now.image) (M.plan meddler.old) (length running.old.machine.resting) 0
         (harts_in running.old.machine) (harts_share running.old.machine) limit) r.0 r.1 running.new) }
-    ensures kept { M.plan meddler.new ≡ M.plan meddler.old }
+    ensures kept { meddler.new ≡ meddler.old }
 {
     let mut steps = 0;
     while steps < limit {
@@ -80,8 +80,8 @@ pub fn run<M: Meddler>(
         (walk_of (image_profile checked.now.image) (code_words checked.now.image.code) k start_hart (start_shared checked.now.image input.now)
         (steps_of (planned (image_profile checked.now.image) (M.plan meddler.old) harts 0 start_hart (start_shared checked.now.image input.now) limit)))) }
 
-    // The meddler's plan stays, so that the next run is under the same one.
-    ensures kept { M.plan meddler.new ≡ M.plan meddler.old }
+    // The meddler is as it was, so that the next run is under the same plan.
+    ensures kept { meddler.new ≡ meddler.old }
 {
     checked.is_safe();
     let mut running = Running::new(alloc, checked.image(), input, harts)?;

@@ -23,7 +23,7 @@ loop-steps-init g c =
       ready = begun_ready plan (image_profile image) image now c.requires;
       count = refl;
       profile = c.requires.profile;
-      plan = refl;
+      meddler = refl;
       stays = c.requires.stays;
       continues = subst (λ (n : ℕ). Continues (image_profile image) image count (harts_in now.machine) (harts_share now.machine) whole 0 (harts_in now.machine) (harts_share now.machine)
           (planned (image_profile image) plan count 0 (harts_in now.machine) (harts_share now.machine) n) now.made now.taken (trails_of now)) all begins;
@@ -36,7 +36,7 @@ end_of-requires g c =
     let count = length c.args.running.now.machine.resting in
     let plan = g.M.Meddler.plan c.args.meddler.now in
     let took = took_so (profile_of now.machine.processor.memory.version) (image_profile image) image (length now.machine.resting) count (g.M.Meddler.plan c.loop-steps.meddler) plan
-    c.loop-steps.steps now c.turn.new.self c.in_ok-turn.turn c.loop-steps.invariant.profile c.loop-steps.invariant.count c.loop-steps.invariant.plan
+    c.loop-steps.steps now c.turn.new.self c.in_ok-turn.turn c.loop-steps.invariant.profile c.loop-steps.invariant.count (ap g.M.Meddler.plan c.loop-steps.invariant.meddler)
     (record {
       stepped = c.in_ok-turn.ensures.stepped;
       allowed = c.in_ok-turn.ensures.allowed;
@@ -54,7 +54,7 @@ returns-then-is_stop-clause-over g c =
     let count = length c.args.running.now.machine.resting in
     let plan = g.M.Meddler.plan c.args.meddler.now in
     let took = took_so (profile_of now.machine.processor.memory.version) (image_profile image) image (length now.machine.resting) count (g.M.Meddler.plan c.loop-steps.meddler) plan
-    c.loop-steps.steps now c.turn.new.self c.in_ok-turn.turn c.loop-steps.invariant.profile c.loop-steps.invariant.count c.loop-steps.invariant.plan
+    c.loop-steps.steps now c.turn.new.self c.in_ok-turn.turn c.loop-steps.invariant.profile c.loop-steps.invariant.count (ap g.M.Meddler.plan c.loop-steps.invariant.meddler)
     (record {
       stepped = c.in_ok-turn.ensures.stepped;
       allowed = c.in_ok-turn.ensures.allowed;
@@ -73,7 +73,7 @@ loop-steps-preserved g c =
     let count = length c.args.running.now.machine.resting in
     let plan = g.M.Meddler.plan c.args.meddler.now in
     let took = took_so (profile_of now.machine.processor.memory.version) (image_profile image) image (length now.machine.resting) count (g.M.Meddler.plan c.loop-steps.meddler) plan
-    c.loop-steps.steps now c.turn.new.self c.in_ok-turn.turn c.loop-steps.invariant.profile c.loop-steps.invariant.count c.loop-steps.invariant.plan
+    c.loop-steps.steps now c.turn.new.self c.in_ok-turn.turn c.loop-steps.invariant.profile c.loop-steps.invariant.count (ap g.M.Meddler.plan c.loop-steps.invariant.meddler)
     (record {
       stepped = c.in_ok-turn.ensures.stepped;
       allowed = c.in_ok-turn.ensures.allowed;
@@ -84,10 +84,10 @@ loop-steps-preserved g c =
     let goes = sym c.is_stop.ensures ∙ c.if-is_stop.false in
     record {
       bound = omega (arith, c.loop-steps-test.true);
-      ready = subst (λ (plan : Plan). IsReady plan (c.loop-steps.steps + 1) c.turn.new.self) (sym c.turn.ensures.kept) c.in_ok-turn.ensures.ready;
+      ready = subst (λ (plan : Plan). IsReady plan (c.loop-steps.steps + 1) c.turn.new.self) (sym (ap g.M.Meddler.plan c.turn.ensures.kept)) c.in_ok-turn.ensures.ready;
       count = c.in_ok-turn.ensures.count ∙ c.loop-steps.invariant.count;
       profile = ap profile_of c.in_ok-turn.ensures.version ∙ c.loop-steps.invariant.profile;
-      plan = c.turn.ensures.kept ∙ c.loop-steps.invariant.plan;
+      meddler = c.turn.ensures.kept ∙ c.loop-steps.invariant.meddler;
       stays = stays_next (image_profile image) image count (harts_in now.machine) (harts_share now.machine) (step_at plan c.loop-steps.steps count now)
           c.loop-steps.invariant.stays.0 c.loop-steps.invariant.stays.1 took.allowed _ took.stepped goes;
       continues = next (image_profile image) image count _ _ _ plan c.loop-steps.steps (c.args.limit - (c.loop-steps.steps + 1)) now c.turn.new.self c.in_ok-turn.turn c.args.limit (omega (arith, c.loop-steps-test.true))

@@ -14,7 +14,7 @@ invariant-loop-steps g l = record {
   ready : IsReady (g.M.Meddler.plan l.meddler) l.steps l.running;
   count : length l.running.machine.resting ≡ length l.initial.running.machine.resting;
   profile : profile_of l.running.machine.processor.memory.version ≡ image_profile l.checked.image;
-  plan : g.M.Meddler.plan l.meddler ≡ g.M.Meddler.plan l.initial.meddler;
+  meddler : l.meddler ≡ l.initial.meddler;
   stays : (newest : ℕ → ℕ) × StaysFrom (image_profile l.checked.image) l.checked.image (length l.initial.running.machine.resting) newest (harts_in l.running.machine) (harts_share l.running.machine);
   continues : Continues (image_profile l.checked.image) l.checked.image (length l.initial.running.machine.resting) (harts_in l.initial.running.machine) (harts_share l.initial.running.machine)
       (planned (image_profile l.checked.image) (g.M.Meddler.plan l.initial.meddler) (length l.initial.running.machine.resting) 0 (harts_in l.initial.running.machine) (harts_share l.initial.running.machine) l.limit)

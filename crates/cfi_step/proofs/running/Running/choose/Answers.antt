@@ -10,12 +10,12 @@ use Rattle.cfi_step.proofs.running.Running.choose.Goals as goal
 pub returns-clause-prepared : goal.returns-clause-prepared
 returns-clause-prepared g c =
     let now = c.args.self.now in
-    let kept = c.hart-hart.ensures.kept in
+    let kept = ap g.M.Meddler.plan c.hart-hart.ensures.kept in
     let plan = g.M.Meddler.plan c.args.meddler.now in
     let made = rw kept at c.in_ok-disturb.ensures.made in
     let shared = rw kept at c.in_ok-disturb.ensures.shared in
     let allowed = rw kept at c.in_ok-disturb.ensures.allowed in
-    let one = subst (λ (x : Plan). IsOneHart c.args.step c.one_hart_until.result x) (c.disturb.ensures.kept ∙ kept) c.one_hart_until.ensures in
+    let one = subst (λ (x : Plan). IsOneHart c.args.step c.one_hart_until.result x) (ap g.M.Meddler.plan c.disturb.ensures.kept ∙ kept) c.one_hart_until.ensures in
     let turned = c.in_ok-turn_to.ensures in
     let quiet = subst (λ (n : ℕ). IsQuietPlan (c.args.step + 1) n plan) (sym turned.quiet)
     (subst (λ (x : Plan). IsQuietPlan (c.args.step + 1) c.disturb.new.self.quiet x) kept c.in_ok-disturb.ensures.still) in
