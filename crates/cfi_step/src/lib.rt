@@ -2,6 +2,7 @@
 //! between instructions: the hostile meddler, and the run with its report.
 #![tactic(auto)]
 
+pub use cfi_script::{Meddler, Script};
 pub use hostile::Hostile;
 pub use record::Record;
 pub use report::{Handler, HartWalk, RunEnd, RunReport};
