@@ -1,7 +1,8 @@
 #!/usr/bin/env python3
-"""Tells in names what rvcfi tells in numbers: refusals, graphs, images and the reports of runs.
+"""Tells in names what rvcfi tells in numbers: refusals, graphs, images and the reports of runs; and what it hardens without a word.
 
     rvcfi rewrite program.o ..  | python3 tools/explain.py refusal program.o
+    python3 tools/explain.py object program.o
     python3 tools/explain.py graph program.o program.graph program.map
     python3 tools/explain.py image program.o program.img program.graph program.map
     rvcfi run program.img .. | python3 tools/explain.py report program.o program.graph program.map
@@ -26,7 +27,7 @@ try:
 except ImportError:
     sys.exit(MISSING)
 
-from explain import dot, image, report
+from explain import dot, image, pitfalls, report
 from explain.elf import Object
 from explain.graph import Named
 from explain.joined import Joined, Part
@@ -38,8 +39,9 @@ FAULTS = (ELFError, ValueError, KeyError, IndexError, TypeError, AttributeError,
 
 def words_of_command():
     words = argparse.ArgumentParser(description=__doc__, formatter_class=argparse.RawDescriptionHelpFormatter)
-    commands = words.add_subparsers(dest="command", required=True, metavar="refusal|graph|image|report")
+    commands = words.add_subparsers(dest="command", required=True, metavar="refusal|object|graph|image|report")
     command(commands, "refusal", "reads a refusal on standard input", []).add_argument("--policy")
+    command(commands, "object", "warns of what is hardened and may end a run", [])
     graph = command(commands, "graph", "tells classes, sites and system calls by function", ["GRAPH", "MAP"])
     graph.add_argument("--entry", help="the entry's name, to see what it stands for")
     graph.add_argument("--policy", help="the policy that the graph was made with")
@@ -116,6 +118,8 @@ def shown(line):
 def lines_of(options):
     if options.command == "refusal":
         return refusal_lines(options)
+    if options.command == "object":
+        return pitfalls.lines(objects_of(options.objects))
     named = named_of(options)
     if options.command == "graph":
         return dot.lines(named) if options.dot else named.lines(options.entry, options.policy)

@@ -21,10 +21,11 @@ sys.dont_write_bytecode = True
 
 import programs
 from attack import ATTACKS
-from pitfalls import CHANCES, MACHINE, Bench, policy_of
+from pitfalls import CHANCES, LABELS, MACHINE, NO_ZEROS, Bench, policy_of
 from programs import Hardened, Linked, Missing
 from refusals import PLAIN, compiled, many_sections
 
+NOTHING = "Nothing that hardening does not refuse is known to end a run.\n"
 TOOL = os.path.join(programs.HERE, "..", "..", "tools", "explain.py")
 CYCLES = "int main(void) { long t; __asm__ volatile(\"rdcycle %0\" : \"=r\"(t)); return t; }"
 LONE_LOW = r"""int main(void)
@@ -189,6 +190,24 @@ def of_many_sections(asked):
     path, count = many_sections(asked.bench.asked, asked.compiler)
     asked.refused_link([path] * 3, "refused 28 TooManySections %d\n" % (3 * count), "With %s there are %d" % (path, 3 * count),
                        "  %d sections  %s" % (count, path))
+
+
+def of_pitfalls(asked):
+    """What is hardened without a refusal and may end a run, a row a warning; of what mends it, and of plain programs, there is none."""
+    taken = ": its address is taken at %s, and no computed jump or call may go there: "
+    case = asked.bench.case
+    asked.has("no type", asked.told("object", case("untyped.s")), "handler+0" + taken % "pointer+0" + "no function starts there (`.type handler,")
+    unsized = "main, behind which it is, has no `.size`\n"
+    asked.has("no size", asked.told("object", case("unsized.s")), "one+0" + taken % "table+0" + unsized, "two+0" + taken % "table+4" + unsized)
+    asked.has("alignment", asked.told("object", case("tagged.c", NO_ZEROS)), ".text (section 1) is aligned at 16, and hardened code at 4")
+    asked.has("distances", asked.told("object", case("distances.s")), "short+0: main+bc (last) - main+1c (first) in 8 bits",
+              "main+bc (last)" + taken % "long+0" + "main, in which it is, has no computed jump\n")
+    mended = [case(name, more) for name, more in LABELS]
+    for path in mended + [case("tables.c", ["-fno-gcse"]), case("aligned.c")]:
+        asked.same("no warning", asked.told("object", path), NOTHING)
+    for program in programs.PROGRAMS:
+        paths = programs.objects_of(asked.compiler, "-O2", program, asked.folder)
+        asked.same("no warning of " + program.name, asked.told("object", *paths), NOTHING)
 
 
 def of_links(asked):
@@ -387,7 +406,7 @@ def of_missing(asked):
 
 def try_all(asked):
     for part in (of_refusals, of_undefined, of_policies, of_wrong_lists, of_names, of_tables, of_strange_names, of_refused_objects, of_refused_links,
-                 of_many_sections, of_links, of_linked_names, of_missing):
+                 of_many_sections, of_pitfalls, of_links, of_linked_names, of_missing):
         part(asked)
     for program, made in hardened_programs(asked):
         of_image(asked, program, made)

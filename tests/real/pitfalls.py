@@ -12,7 +12,9 @@ from programs import STEPS
 from refusals import Asked
 
 MACHINE = ["-march=rv64i", "-mabi=lp64"]
-BAD_RETURN = "stop handler __cfi_bad_return"
+BAD_RETURN, BAD_TARGET = "stop handler __cfi_bad_return", "stop handler __cfi_bad_target"
+NO_ZEROS = ["-Wa,-mno-relax"]  # the assembler fills what it aligns with no-operations
+LABELS = [("untyped.s", ["-Wa,--defsym,TYPED=1"]), ("unsized.s", ["-Wa,--defsym,SIZED=1"])]
 CHANCES = ("site by_wide+%(wide)x add+0 take+0 keep+0\n", "site by_narrow+%(narrow)x add+0 take+0\n")
 
 
@@ -189,7 +191,35 @@ def of_jumps(bench):
         yield name, bench.ends(joined, "_start"), BAD_RETURN
 
 
-OF_GCC = [of_alignment, of_aligned_assembly, of_anchors, of_groups, of_library, of_products, of_size, of_policies, of_names, of_jumps]
+def plain_end(bench, path):
+    """How the program of an object ends that is not hardened."""
+    return programs.under_qemu(programs.linked(bench.joined(bench.compiled("start.s"), path)), b"")
+
+
+def of_labels(bench):
+    """A function without a type and labels in a function without a size are no targets."""
+    for name, mended in LABELS:
+        path = bench.case(name)
+        yield name + ", plain", plain_end(bench, path), (b"", 5)
+        yield name, bench.ends(path), BAD_TARGET
+        yield name + ", " + mended[0], bench.ends(bench.case(name, mended)), "stop exit 5"
+
+
+def of_marks(bench):
+    """Marks in the low bits of pointers to functions that are aligned."""
+    yield "marked pointers, plain", bench.host("tagged.c"), "stop exit 5"
+    yield "marked pointers", bench.ends(bench.case("tagged.c", NO_ZEROS)), BAD_TARGET
+
+
+def of_distances(bench):
+    """A distance between places of code in 8 bits, which wraps, and is compared with the same one in 32."""
+    path = bench.case("distances.s")
+    yield "a distance in 8 bits, plain", plain_end(bench, path), (b"", 0)
+    yield "a distance in 8 bits", bench.ends(path), "stop exit 1"
+
+
+OF_GCC = [of_alignment, of_aligned_assembly, of_anchors, of_groups, of_library, of_products, of_size, of_policies, of_names, of_jumps,
+          of_labels, of_marks, of_distances]
 OF_CLANG = [of_joined_alignment, of_arguments]
 
 
