@@ -1,4 +1,4 @@
-"""What compilers and hands give that is refused: the table of docs/COMPILING.md, but for a broken table of a file (6).
+"""What compilers and hands give that is refused: the table of docs/COMPILING.md.
 
 Each row is a refusal, a source in C, the options of docs/COMPILING.md that are left out, and options that are added. Of two
 objects that `link` joins a row is a refusal, options that are added, and both sources.
@@ -32,6 +32,7 @@ GCC_ROWS = [
     ("15 Undefined", PRODUCT, MACHINE, BASE),
     ("15 Undefined", ATOMIC, [], []),
     ("15 Undefined", NAMES_Q, ["-fno-pic"], ["-fpic"]),
+    ("15 Undefined", NAMES_Q.replace("q", "_end"), [], []),
     ("15 Undefined", "int f(char *); int main(void) { char a[9]; return f(a); } int f(char *a) { return *a; }", [],
      ["-fstack-protector-all"]),
     ("16 BadCodePointer", PLAIN + " char *p = (char *)main + 2;", [], []),
@@ -102,12 +103,13 @@ def of_links(asked, compiler):
         yield refusal, re.sub("[0-9]+ in ", "in ", asked.link(paths))
     path, count = many_sections(asked, compiler)
     yield "28 TooManySections %d\n" % (3 * count), asked.link([path] * 3)
+    yield "6 BadTable 0\n", asked.rewrite(many_sections(asked, compiler, 65300)[0])
 
 
-def many_sections(asked, compiler):
-    """An object of more than a third of 65,536 sections, and how many it has."""
-    path = asked.path("many.o")
-    asked.file("many.s", "".join(".section .data.n%d,\"aw\"\n" % number for number in range(22000)).encode())
+def many_sections(asked, compiler, count=22000):
+    """An object of so many sections of data, without the option more than a third of 65,536, and how many its header tells in all."""
+    path = asked.path("many_%d.o" % count)
+    asked.file("many.s", "".join(".section .data.n%d,\"aw\"\n" % number for number in range(count)).encode())
     programs.must(compiler.command + ["-c", asked.path("many.s"), "-o", path])
     told = programs.must([programs.binutils("readelf"), "-hW", path]).decode()
     return path, int(re.search(r"Number of section headers: +(\d+)", told).group(1))
