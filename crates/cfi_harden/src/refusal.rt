@@ -28,7 +28,7 @@ pub enum Refusal {
     NoEntry,
     /// The line with this number, from 1, of the policy is not of its form, or names what it may not.
     Policy(u64),
-    /// The code has so many bytes with every branch long, the prologue counted, more than its region.
+    /// The code has so many bytes with every branch long and each store alone, the prologue counted, more than its region.
     CodeTooLarge(u128),
     /// Initialised data have so many bytes, or all data end at this address, more than there is room for.
     DataTooLarge(u128, u128),

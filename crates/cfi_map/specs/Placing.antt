@@ -25,7 +25,7 @@ pub record Spaced : Type 0 where
 pub record IsPlacement (form : Form) (s : Spaced) : Type 0 where
   -- the program is sound: so each branch has a target
   pub sound : IsSound s.layout.program
-  -- the code has room, also with every branch long
+  -- the code has room, also with every branch long and each store alone
   pub room : whole_size form s.layout.program s.layout.closed ≤ CODE_SIZE
   pub size : code_size (profile_for form).units_from (part_sizes s.layout.closed.calls s.layout.closed.sides s.whole 0 s.layout.program.items) ≤ CODE_SIZE
   -- parts stand one after another
@@ -46,7 +46,7 @@ pub record IsPlacementOf (form : Form) (program : Program) (closed : ClosedGraph
   pub of : s.layout ≡ program_at form program closed s.layout.gates entry
   pub placed : IsPlacement form s
 
--- the code has no room with every branch long, or there was no memory
+-- the code has no room with every branch long and each store alone, or there was no memory
 abbrev pub PlaceEnds : Form → Program → ClosedGraph → PlaceEnd → Type 0
 PlaceEnds form program closed (ends.CodeTooLarge bytes) = (bytes ≡ whole_size form program closed) × (CODE_SIZE < bytes)
 PlaceEnds form program closed ends.NoMemory = Unit {0}

@@ -1,4 +1,4 @@
--- What one pass over a code and a graph finds out.
+-- What one pass over a code and a graph finds out. Only private contracts cite this.
 use Rattle.std.specs.Prelude.{◌≡◌, ◌≢◌, ℕ, ◌+◌, ◌*◌, ◌<◌, ◌≤◌, ◌==◌, ◌&&◌, nat_lt, Bool, true, false, List, Some, None, slice_get}
 use Rattle.rv_word.specs.MemoryMap.{CODE_START, Profile}
 use Rattle.cfi_graph.specs.declared.line.GraphLine.{GraphLine}

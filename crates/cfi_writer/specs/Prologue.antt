@@ -1,4 +1,4 @@
--- The part of the prologue before its call of the entry.
+-- The part of the prologue before its call of the entry. Only private contracts cite this.
 use Rattle.std.specs.Prelude.{List, [], ◌∷◌, ◌++◌}
 use Rattle.rv_word.specs.MemoryMap.{Profile}
 use Rattle.rv_instr.specs.declared.instr.Instr.{Instr}

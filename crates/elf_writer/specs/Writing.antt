@@ -1,4 +1,4 @@
--- A file that is being written, section by section.
+-- A file that is being written, section by section. Only private contracts cite this.
 use Rattle.std.specs.Prelude.{ℕ, List, [], ◌∷◌, ◌++◌, length, drop, replicate, codes}
 use Rattle.elf_writer.specs.declared.writer.Writer.{Writer}
 use Rattle.elf_writer.specs.FileLayout.{up8, padded}

@@ -1,4 +1,4 @@
--- Which symbol each is, as a list of numbers, and blocks as far as they are merged. Only private contracts cite this.
+-- Which symbol each is, as a list of numbers, and blocks as far as they are merged. Contracts of the calls of joining cite this.
 use Rattle.std.specs.Prelude.{ℕ, pos, ◌*◌, List, length, fold, slice_index}
 use Rattle.least.specs.Nearest.{joined}
 use Rattle.obj_input.specs.declared.parts.Block.{Block}

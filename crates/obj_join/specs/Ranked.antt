@@ -1,4 +1,4 @@
--- The index of the first symbol of each name in a rank. Only invariants and private contracts cite this.
+-- The index of the first symbol of each name in a rank. `has_rank` stands in a public contract, all else in invariants and private ones.
 use Rattle.std.specs.Prelude.{◌≡◌, ℕ, Bool, ◌&&◌, if◌then◌else◌, Option, Some, None, List}
 use Rattle.std.specs.Option.{option_or}
 use Rattle.std.specs.Cmp.Lexicographic.{slice_cmp}
