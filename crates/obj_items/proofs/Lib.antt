@@ -19,6 +19,7 @@ pub mod Targets
 pub mod Bounds
 pub mod Patches
 pub mod DataLies
+mod DataEnds
 pub mod MapFit
 pub mod LastEnds
 pub mod ProgramSound
