@@ -15,7 +15,6 @@ use Rattle.rv_code.specs.declared.turn.Turn.TheVariants.{Ran, Exit, Break, LoadF
 use Rattle.cfi_graph.specs.declared.line.GraphLine.{GraphLine}
 use Rattle.cfi_graph.specs.declared.line.SiteKind.TheVariants as K
 use Rattle.cfi_graph.specs.Graph.{GraphParts}
-use Rattle.cfi_unit.specs.declared.unit.Unit.TheVariants as V
 use Rattle.cfi_unit.specs.declared.unit.SystemOp.TheVariants as S
 use Rattle.cfi_unit.specs.declared.place.Place.{Place}
 use Rattle.cfi_unit.specs.declared.place.Place.TheVariants.{Handler as handler, Opening as opening, Closing as closing, Body as body}
@@ -25,6 +24,8 @@ use Rattle.cfi_unit.specs.Place.{IsWordOf}
 use Rattle.cfi_unit.specs.Prologue.{OPENING}
 use Rattle.cfi_unit.specs.Context.{IsCodeOf, SameOutside}
 use Rattle.cfi_unit.specs.EventLaw.{Adds}
+use Rattle.cfi_unit.specs.Flow as F
+use Rattle.cfi_unit.specs.Flow.{Act, Sites, Test, flow_of}
 use Rattle.cfi_unit.specs.Leads.{destination}
 use Rattle.cfi_unit.specs.Shadow.{slot, MOST_PENDING, Holds}
 use Rattle.cfi_unit.specs.UnitWords.{BAD_TARGET, BAD_RETURN, DEEP, after_unit}
@@ -58,13 +59,20 @@ ReturnChooses (site ∷ pending) x1 v = ((x1 ≡ site) × (v ≡ site)) ⊎ ((x1
 abbrev pub GuardChooses : List ℕ → ℕ → ℕ → ℕ → Type 0
 GuardChooses ns x17 following v = ((is_listed x17 ns ≡ true) × (v ≡ following)) ⊎ ((is_listed x17 ns ≡ false) × (v ≡ BAD_TARGET))
 
+-- and by a unit's test
+abbrev pub ClassChooses : List GraphLine → Sites → TargetWord → ℕ → List ℕ → ℕ → ℕ → Type 0
+ClassChooses lines F.pushes which label pending to v = ComputedCallChooses lines label (length pending) to v
+ClassChooses lines other which label pending to v = JumpChooses lines which label to v
+
+abbrev pub TestChooses : List GraphLine → Test → Sites → ℕ → List ℕ → Registers → ℕ → Type 0
+TestChooses lines F.always sites following pending r v = Unit {0}
+TestChooses lines (F.listed numbers) sites following pending r v = GuardChooses numbers (get_reg r 17) following v
+TestChooses lines (F.borne which rs1 imm label) sites following pending r v = ClassChooses lines sites which label pending (destination r rs1 imm) v
+TestChooses lines F.newest sites following pending r v = ReturnChooses pending (get_reg r 1) v
+
 -- the registers decide where a computed transfer, a return or a guarded system call goes
 abbrev pub Chooses : List GraphLine → Place → Walk → ℕ → Type 0
-Chooses lines (body (V.Ijump which rs1 imm label)) w v = JumpChooses lines which label (destination w.regs rs1 imm) v
-Chooses lines (body (V.Icall rs1 imm label)) w v =
-    ComputedCallChooses lines label (length w.pending) (destination w.regs rs1 imm) v
-Chooses lines (body V.Return) w v = ReturnChooses w.pending (get_reg w.regs 1) v
-Chooses lines (body (V.Guarded ns)) w v = GuardChooses ns (get_reg w.regs 17) (after_unit (V.Guarded ns) w.at) v
+Chooses lines (body unit) w v = TestChooses lines (flow_of unit).test (flow_of unit).sites (after_unit unit w.at) w.pending w.regs v
 Chooses lines other w v = Unit {0}
 
 -- the shadow stack, where a unit or the closing starts: x3 points past the newest slot, and each slot
@@ -93,19 +101,31 @@ GoesOn p part words lines before (Some place) h m w =
 
 -- the stops that may come at each place: an exit only at the closing and at an `ecall`, guarded or not, a
 -- break only at a handler and at an `ebreak`, a fault only at a plain instruction, and no other stop
+abbrev pub ActExits : Act → Type 0
+ActExits (F.system S.Ecall) = Unit {0}
+ActExits F.calls = Unit {0}
+ActExits other = ⊥
+
 abbrev pub MayExit : Place → Type 0
 MayExit closing = Unit {0}
-MayExit (body (V.System S.Ecall)) = Unit {0}
-MayExit (body (V.Guarded ns)) = Unit {0}
+MayExit (body unit) = ActExits (flow_of unit).act
 MayExit other = ⊥
+
+abbrev pub ActBreaks : Act → Type 0
+ActBreaks (F.system S.Ebreak) = Unit {0}
+ActBreaks other = ⊥
 
 abbrev pub MayBreak : Place → Type 0
 MayBreak handler = Unit {0}
-MayBreak (body (V.System S.Ebreak)) = Unit {0}
+MayBreak (body unit) = ActBreaks (flow_of unit).act
 MayBreak other = ⊥
 
+abbrev pub ActFaults : Act → Type 0
+ActFaults (F.does instr) = Unit {0}
+ActFaults other = ⊥
+
 abbrev pub MayFault : Place → Type 0
-MayFault (body (V.Plain instr)) = Unit {0}
+MayFault (body unit) = ActFaults (flow_of unit).act
 MayFault other = ⊥
 
 -- the end of an instruction at `pc`, which the stops name that tell where they came

@@ -5,12 +5,13 @@ use Rattle.rv_word.specs.MemoryMap.{Profile}
 use Rattle.rv_code.specs.Encode.{code_of}
 use Rattle.cfi_graph.specs.declared.line.GraphLine.{GraphLine}
 use Rattle.cfi_graph.specs.declared.line.GraphLine.TheVariants.{SystemCalls, Site, Edge, Call}
-use Rattle.cfi_graph.specs.declared.line.SiteKind.TheVariants as K
 use Rattle.cfi_graph.specs.Graph.{is_class}
 use Rattle.cfi_unit.specs.declared.unit.Unit as U
-use Rattle.cfi_unit.specs.declared.unit.Unit.TheVariants as V
+use Rattle.cfi_unit.specs.declared.place.Place.TheVariants.{Body as body}
 use Rattle.cfi_unit.specs.Prologue.{OPENING, prologue_instrs}
 use Rattle.cfi_unit.specs.UnitWords.{Fits, after_unit, may_precede, words_of}
+use Rattle.cfi_rules.specs.Rules.{call_of, edge_of, site_of}
+use Rattle.cfi_rules.specs.declared.asks.Asks.{Asks}
 
 -- the words of units, the first of which stands at an address and each next one where the one before
 -- ends
@@ -30,14 +31,14 @@ AllAhead at (unit ∷ units) =
     IsTrue (may_precede unit at (code_from (after_unit unit at) units)) × AllAhead (after_unit unit at) units
 
 -- the line of a unit at an address: an edge, a call or a site
+abbrev pub line_by : ℕ → Option ℕ → Option ℕ → Option Asks → Option GraphLine
+line_by at (Some target) call asked = Some (Edge at target)
+line_by at None (Some target) asked = Some (Call at target)
+line_by at None None (Some asked) = Some (Site at asked.kind asked.label)
+line_by at None None None = None
+
 abbrev pub line_of : ℕ → U.Unit → Option GraphLine
-line_of at (V.Branch op rs1 rs2 target) = Some (Edge at target)
-line_of at (V.Near op rs1 rs2 target) = Some (Edge at target)
-line_of at (V.Jump target) = Some (Edge at target)
-line_of at (V.Call target) = Some (Call at target)
-line_of at (V.Ijump which rs1 imm label) = Some (Site at K.Jump label)
-line_of at (V.Icall rs1 imm label) = Some (Site at K.Call label)
-line_of at other = None
+line_of at unit = line_by at (edge_of (body unit)) (call_of (body unit)) (site_of (body unit))
 
 abbrev pub with_line : Option GraphLine → List GraphLine → List GraphLine
 with_line None lines = lines

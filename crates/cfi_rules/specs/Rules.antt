@@ -21,6 +21,8 @@ use Rattle.cfi_unit.specs.declared.place.Place.{Place}
 use Rattle.cfi_unit.specs.declared.place.Place.TheVariants.{Opening as opening, Body as body}
 use Rattle.cfi_unit.specs.declared.target_word.TargetWord.{TargetWord}
 use Rattle.cfi_unit.specs.declared.target_word.TargetWord.TheVariants.{First, Second}
+use Rattle.cfi_unit.specs.Flow as F
+use Rattle.cfi_unit.specs.Flow.{Exit, Sites, Test, flow_of}
 use Rattle.cfi_unit.specs.Prologue.{prologue_instrs}
 use Rattle.cfi_unit.specs.UnitWords.{after_unit}
 use Rattle.cfi_rules.specs.Lines.{holds_of, line_at, class_with, targets_for, is_among, is_beside, read_of}
@@ -31,26 +33,46 @@ use Rattle.cfi_rules.specs.declared.reject.Reject.TheVariants.{Length, At}
 use Rattle.cfi_rules.specs.declared.reject.Rule.{Rule}
 use Rattle.cfi_rules.specs.declared.reject.Rule.TheVariants as R
 
+-- a direct target
+abbrev pub target_by : Exit → Option ℕ
+target_by (F.either op rs1 rs2 met target) = Some target
+target_by (F.to target) = Some target
+target_by other = None
+
+-- it is an edge's where no site is put on top, and a call's where one is
+abbrev pub edge_by : Sites → Exit → Option ℕ
+edge_by F.pushes exit = None
+edge_by other exit = target_by exit
+
+abbrev pub call_by : Sites → Exit → Option ℕ
+call_by F.pushes exit = target_by exit
+call_by other exit = None
+
 -- where a branch or a jump leads
 abbrev pub edge_of : Place → Option ℕ
-edge_of (body (V.Branch op rs1 rs2 target)) = Some target
-edge_of (body (V.Near op rs1 rs2 target)) = Some target
-edge_of (body (V.Jump target)) = Some target
+edge_of (body unit) = edge_by (flow_of unit).sites (flow_of unit).exit
 edge_of other = None
 
 -- where the opening or a call leads
 abbrev pub call_of : Place → Option ℕ
 call_of (opening entry) = Some entry
-call_of (body (V.Call target)) = Some target
+call_of (body unit) = call_by (flow_of unit).sites (flow_of unit).exit
 call_of other = None
 
 -- what a computed transfer asks for: its kind, which word of its destination its check reads, the label
 abbrev pub asks : SiteKind → TargetWord → ℕ → Asks
 asks kind which label = record { kind = kind; which = which; label = label }
 
+abbrev pub kind_by : Sites → SiteKind
+kind_by F.pushes = K.Call
+kind_by other = K.Jump
+
+abbrev pub asked_by : Test → Sites → Option Asks
+asked_by (F.borne which rs1 imm label) sites = Some (asks (kind_by sites) which label)
+asked_by other sites = None
+
 abbrev pub site_of : Place → Option Asks
-site_of (body (V.Ijump which rs1 imm label)) = Some (asks K.Jump which label)
-site_of (body (V.Icall rs1 imm label)) = Some (asks K.Call First label)
+site_of (body unit) = asked_by (flow_of unit).test (flow_of unit).sites
 site_of other = None
 
 abbrev pub same_kind : SiteKind → SiteKind → Bool
@@ -80,9 +102,12 @@ abbrev pub is_label : Option ℕ → ℕ → Bool
 is_label None label = false
 is_label (Some l) label = l == label
 
+abbrev pub halts_by : Exit → Bool
+halts_by (F.halts stop) = true
+halts_by other = false
+
 abbrev pub is_stop : U.Unit → Bool
-is_stop V.Stop = true
-is_stop other = false
+is_stop unit = halts_by (flow_of unit).exit
 
 -- the instruction is `jal x1`
 abbrev pub is_link : Option Instr → Bool

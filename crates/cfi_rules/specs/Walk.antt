@@ -5,13 +5,14 @@ use Rattle.rv_word.specs.MemoryMap.{Profile}
 use Rattle.cfi_graph.specs.declared.line.GraphLine.{GraphLine}
 use Rattle.cfi_graph.specs.declared.line.SiteKind.{SiteKind}
 use Rattle.cfi_graph.specs.declared.line.SiteKind.TheVariants as K
-use Rattle.cfi_unit.specs.declared.unit.Unit as U
-use Rattle.cfi_unit.specs.declared.unit.Unit.TheVariants as V
 use Rattle.cfi_unit.specs.declared.unit.SystemOp.TheVariants as S
+use Rattle.cfi_unit.specs.declared.unit.Unit as U
 use Rattle.cfi_unit.specs.declared.place.Place.{Place}
 use Rattle.cfi_unit.specs.declared.place.Place.TheVariants.{Handler as handler, Opening as opening, Closing as closing, Body as body}
 use Rattle.cfi_unit.specs.declared.target_word.TargetWord.{TargetWord}
 use Rattle.cfi_unit.specs.declared.target_word.TargetWord.TheVariants.{First}
+use Rattle.cfi_unit.specs.Flow as F
+use Rattle.cfi_unit.specs.Flow.{Exit, Flow, Sites, Test, flow_of}
 use Rattle.cfi_unit.specs.Shadow.{MOST_PENDING}
 use Rattle.cfi_unit.specs.UnitWords.{BAD_TARGET, BAD_RETURN, DEEP, after_unit}
 use Rattle.cfi_rules.specs.Lines.{holds_of, targets_for, is_among}
@@ -57,22 +58,37 @@ ReturnGoes [] v after = To BAD_RETURN [] v after
 ReturnGoes (site ∷ pending) v after =
     To site pending v after ⊎ To BAD_RETURN (site ∷ pending) v after
 
+-- to a target, with the site put on top where the unit does so
+abbrev pub SitesGo : Sites → ℕ → List ℕ → ℕ → List ℕ → ℕ → Type 0
+SitesGo F.pushes following pending v after target = CallGoes following target pending v after
+SitesGo other following pending v after target = To target pending v after
+
+abbrev pub ExitGoes : Exit → Sites → ℕ → List ℕ → ℕ → List ℕ → Type 0
+ExitGoes F.on sites following pending v after = To following pending v after
+ExitGoes (F.either op rs1 rs2 met target) sites following pending v after = To following pending v after ⊎ To target pending v after
+ExitGoes (F.to target) sites following pending v after = SitesGo sites following pending v after target
+ExitGoes (F.halts stop) sites following pending v after = To stop pending v after
+ExitGoes F.back sites following pending v after = ReturnGoes pending v after
+ExitGoes (F.after S.Ecall) sites following pending v after = To following pending v after
+ExitGoes other sites following pending v after = ⊥
+
+abbrev pub ClassGoes : List GraphLine → Sites → TargetWord → ℕ → ℕ → List ℕ → ℕ → List ℕ → Type 0
+ClassGoes lines F.pushes which label following pending v after = ComputedCallGoes lines following label pending v after
+ClassGoes lines other which label following pending v after = JumpGoes lines which label pending v after
+
+-- a computed transfer goes by its class, whatever its destination
+abbrev pub TestGoes : List GraphLine → Test → Exit → Sites → ℕ → List ℕ → ℕ → List ℕ → Type 0
+TestGoes lines (F.listed numbers) exit sites following pending v after =
+    ExitGoes exit sites following pending v after ⊎ To BAD_TARGET pending v after
+TestGoes lines (F.borne which rs1 imm label) exit sites following pending v after = ClassGoes lines sites which label following pending v after
+TestGoes lines other exit sites following pending v after = ExitGoes exit sites following pending v after
+
+abbrev pub FlowGoes : List GraphLine → Flow → ℕ → List ℕ → ℕ → List ℕ → Type 0
+FlowGoes lines f following pending v after = TestGoes lines f.test f.exit f.sites following pending v after
+
 -- the step of the walk from a unit with `following` the address after it
 abbrev pub GoesPast : List GraphLine → U.Unit → ℕ → List ℕ → ℕ → List ℕ → Type 0
-GoesPast lines (V.Gate label) following pending v after = To following pending v after
-GoesPast lines (V.Plain instr) following pending v after = To following pending v after
-GoesPast lines (V.Branch op rs1 rs2 target) following pending v after = To following pending v after ⊎ To target pending v after
-GoesPast lines (V.Near op rs1 rs2 target) following pending v after = To following pending v after ⊎ To target pending v after
-GoesPast lines (V.Jump target) following pending v after = To target pending v after
-GoesPast lines V.Stop following pending v after = To BAD_TARGET pending v after
-GoesPast lines (V.System S.Ecall) following pending v after = To following pending v after
-GoesPast lines (V.System S.Ebreak) following pending v after = ⊥
-GoesPast lines (V.Guarded ns) following pending v after = To following pending v after ⊎ To BAD_TARGET pending v after
-GoesPast lines (V.Stores rs1 imm members) following pending v after = To following pending v after
-GoesPast lines (V.Call target) following pending v after = CallGoes following target pending v after
-GoesPast lines (V.Ijump which rs1 imm label) following pending v after = JumpGoes lines which label pending v after
-GoesPast lines (V.Icall rs1 imm label) following pending v after = ComputedCallGoes lines following label pending v after
-GoesPast lines V.Return following pending v after = ReturnGoes pending v after
+GoesPast lines unit following pending v after = FlowGoes lines (flow_of unit) following pending v after
 
 -- the step of the walk from a unit at an address
 abbrev pub UnitGoes : List GraphLine → U.Unit → ℕ → List ℕ → ℕ → List ℕ → Type 0

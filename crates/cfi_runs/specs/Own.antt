@@ -1,6 +1,6 @@
 -- The program's own run, one instruction a step: what each unit stands for, on registers and memory in
 -- which no word of a unit has a part. The pending sites are a list of their own, the newest first.
-use Rattle.std.specs.Prelude.{ℕ, ◌*◌, ◌/◌, if◌then◌else◌, List, [], ◌∷◌}
+use Rattle.std.specs.Prelude.{ℕ, ◌*◌, ◌/◌, true, false, if◌then◌else◌, List, [], ◌∷◌}
 use Rattle.rv_word.specs.MemoryMap.{Profile}
 use Rattle.rv_instr.specs.Registers.{Registers, get_reg, set_reg}
 use Rattle.rv_instr.specs.declared.instr.Instr.{Instr}
@@ -12,8 +12,9 @@ use Rattle.rv_code.specs.declared.turn.Turn.{Turn}
 use Rattle.rv_code.specs.declared.turn.Turn.TheVariants.{Ran}
 use Rattle.cfi_unit.specs.declared.members.Member.{Member}
 use Rattle.cfi_unit.specs.declared.unit.Unit as U
-use Rattle.cfi_unit.specs.declared.unit.Unit.TheVariants as V
-use Rattle.cfi_unit.specs.UnitWords.{BAD_TARGET, BAD_RETURN, after_unit, system_instr}
+use Rattle.cfi_unit.specs.Flow as F
+use Rattle.cfi_unit.specs.Flow.{Act, Exit, Sites, flow_of}
+use Rattle.cfi_unit.specs.UnitWords.{BAD_RETURN, after_unit, system_instr}
 use Rattle.cfi_unit.specs.Leads.{sum_of}
 use Rattle.cfi_unit.specs.Leaving.{stored_at}
 use Rattle.cfi_unit.specs.PrologueEffect.{stack_of}
@@ -57,24 +58,33 @@ module _ (p : Profile) (o : Own) where
   returns [] = goes BAD_RETURN
   returns (site ∷ pending) = record { state = record o { pc = site; pending = pending }; turn = Ran }
 
-  -- a stop is a section's end, where no step is tame
-  abbrev pub own_past : U.Unit → ℕ → OwnAfter
-  own_past (V.Gate label) past = goes past
-  own_past (V.Plain instr) past = executes instr o.regs past
-  own_past (V.Branch op rs1 rs2 target) past =
-      goes (if branch_taken op (get_reg o.regs rs1) (get_reg o.regs rs2) then past else target)
-  own_past (V.Near op rs1 rs2 target) past =
+  -- to a target, with the site put on top where the unit does so
+  abbrev pub own_to : Sites → ℕ → ℕ → OwnAfter
+  own_to F.pushes past target = calls target past
+  own_to other past target = goes target
+
+  -- where a unit goes on; a stop is a section's end, where no step is tame
+  abbrev pub own_exit : Exit → Sites → ℕ → OwnAfter
+  own_exit (F.either op rs1 rs2 true target) sites past =
       goes (if branch_taken op (get_reg o.regs rs1) (get_reg o.regs rs2) then target else past)
-  own_past (V.Jump target) past = goes target
-  own_past V.Stop past = goes BAD_TARGET
-  own_past (V.System op) past = executes (system_instr op) o.regs past
-  own_past (V.Guarded numbers) past = executes Ecall o.regs past
-  own_past (V.Stores rs1 imm members) past =
+  own_exit (F.either op rs1 rs2 false target) sites past =
+      goes (if branch_taken op (get_reg o.regs rs1) (get_reg o.regs rs2) then past else target)
+  own_exit (F.to target) sites past = own_to sites past target
+  own_exit (F.halts stop) sites past = goes stop
+  own_exit (F.computed rs1 imm) sites past = own_to sites past (computed o.regs rs1 imm)
+  own_exit F.back sites past = returns o.pending
+  own_exit other sites past = goes past
+
+  abbrev pub own_act : Act → Exit → Sites → ℕ → OwnAfter
+  own_act F.none exit sites past = own_exit exit sites past
+  own_act (F.does instr) exit sites past = executes instr o.regs past
+  own_act (F.system op) exit sites past = executes (system_instr op) o.regs past
+  own_act F.calls exit sites past = executes Ecall o.regs past
+  own_act (F.stores rs1 imm members) exit sites past =
       record { state = record o { pc = past; shared = stored_all (sum_of o.regs rs1 imm) o.regs members o.shared }; turn = Ran }
-  own_past (V.Call target) past = calls target past
-  own_past (V.Ijump which rs1 imm label) past = goes (computed o.regs rs1 imm)
-  own_past (V.Icall rs1 imm label) past = calls (computed o.regs rs1 imm) past
-  own_past V.Return past = returns o.pending
+
+  abbrev pub own_past : U.Unit → ℕ → OwnAfter
+  own_past unit past = let f = flow_of unit in own_act f.act f.exit f.sites past
 
   -- of a unit that stands at the pc
   abbrev pub own_step : U.Unit → OwnAfter

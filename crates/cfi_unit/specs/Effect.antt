@@ -1,18 +1,18 @@
 -- What a unit does, a row a unit: where it is left to, with which registers and pending sites, and
 -- what harts then share. `h` and `s` are the hart and what is shared at the unit's first word, and
 -- `may` is what may happen between its words; `following` is the address after the unit.
-use Rattle.std.specs.Prelude.{◌≡◌, ◌≢◌, ℕ, ◌-◌, ◌<◌, ◌⊎◌, if◌then◌else◌, List, [], ◌∷◌, length}
+use Rattle.std.specs.Prelude.{◌≡◌, ◌≢◌, ℕ, ◌-◌, ◌<◌, ◌⊎◌, true, false, if◌then◌else◌, List, [], ◌∷◌, length}
 use Rattle.rv_word.specs.MemoryMap.{Profile}
 use Rattle.rv_word.specs.Memory.{Memory}
 use Rattle.rv_instr.specs.Registers.{get_reg, set_reg}
 use Rattle.rv_code.specs.Arithmetic.{branch_taken}
 use Rattle.rv_code.specs.State.{Hart, Shared, After}
-use Rattle.cfi_unit.specs.declared.target_word.TargetWord.TheVariants.{First}
 use Rattle.cfi_unit.specs.declared.unit.Unit as U
-use Rattle.cfi_unit.specs.declared.unit.Unit.TheVariants as V
 use Rattle.cfi_unit.specs.UnitWords.{BAD_TARGET, BAD_RETURN, DEEP, after_unit, system_instr}
 use Rattle.cfi_unit.specs.Shadow.{MOST_PENDING}
-use Rattle.cfi_unit.specs.Leads.{Checks, Guards, destination}
+use Rattle.cfi_unit.specs.Flow as F
+use Rattle.cfi_unit.specs.Flow.{Act, Exit, Flow, Sites, flow_of}
+use Rattle.cfi_unit.specs.Leads.{Decides, destination}
 use Rattle.cfi_unit.specs.Leaving.{LeftTo, HaltsAt, CallsAt, Executes, StoresEach, masked, pushed}
 
 module _ (p : Profile) (part : ℕ) (image base : Memory) (may : Shared → Shared → Type 0) (h : Hart) (s : Shared) where
@@ -31,34 +31,40 @@ module _ (p : Profile) (part : ℕ) (image base : Memory) (may : Shared → Shar
       ((h.regs 1 ≡ site) × LeftTo part image base site pending h.regs (may s) after)
       ⊎ ((h.regs 1 ≢ site) × HaltsAt part image base BAD_RETURN (site ∷ pending) h.regs (may s) after)
 
+  -- to a target, with the sites as the unit leaves them
+  abbrev pub SitesDo : Sites → ℕ → List ℕ → After → ℕ → Type 0
+  SitesDo F.pushes following pending after target = CallDoes target following pending after
+  SitesDo other following pending after target = LeftTo part image base target pending h.regs (may s) after
+
   -- a branch over a jump goes to its target where its condition is not met, a near one where it is
-  abbrev pub DoesPast : U.Unit → ℕ → List ℕ → After → Type 0
-  DoesPast (V.Gate label) following pending after = LeftTo part image base following pending h.regs (may s) after
-  DoesPast (V.Plain instr) following pending after = Executes p part image base instr pending h (may s) after
-  DoesPast (V.Branch op rs1 rs2 target) following pending after =
-      LeftTo part image base (if branch_taken op (get_reg h.regs rs1) (get_reg h.regs rs2) then following else target) pending h.regs (may s) after
-  DoesPast (V.Near op rs1 rs2 target) following pending after =
+  abbrev pub ExitDoes : Exit → Sites → ℕ → List ℕ → After → Type 0
+  ExitDoes (F.either op rs1 rs2 true target) sites following pending after =
       LeftTo part image base (if branch_taken op (get_reg h.regs rs1) (get_reg h.regs rs2) then target else following) pending h.regs (may s) after
-  DoesPast (V.Jump target) following pending after = LeftTo part image base target pending h.regs (may s) after
-  DoesPast V.Stop following pending after = HaltsAt part image base BAD_TARGET pending h.regs (may s) after
-  DoesPast (V.System op) following pending after = Executes p part image base (system_instr op) pending h (may s) after
-  DoesPast (V.Guarded numbers) following pending after =
-      Guards numbers (h.regs 17)
-      (CallsAt p part image base (following - 4) pending h.regs (may s) after)
-      (HaltsAt part image base BAD_TARGET pending h.regs (may s) after)
-  DoesPast (V.Stores rs1 imm members) following pending after =
+  ExitDoes (F.either op rs1 rs2 false target) sites following pending after =
+      LeftTo part image base (if branch_taken op (get_reg h.regs rs1) (get_reg h.regs rs2) then following else target) pending h.regs (may s) after
+  ExitDoes (F.to target) sites following pending after = SitesDo sites following pending after target
+  ExitDoes (F.halts stop) sites following pending after = HaltsAt part image base stop pending h.regs (may s) after
+  ExitDoes (F.computed rs1 imm) sites following pending after = SitesDo sites following pending after (destination h.regs rs1 imm)
+  ExitDoes F.back sites following pending after = ReturnDoes pending after
+  ExitDoes other sites following pending after = LeftTo part image base following pending h.regs (may s) after
+
+  abbrev pub ActDoes : Act → Exit → Sites → ℕ → List ℕ → After → Type 0
+  ActDoes F.none exit sites following pending after = ExitDoes exit sites following pending after
+  ActDoes (F.does instr) exit sites following pending after = Executes p part image base instr pending h (may s) after
+  ActDoes (F.system op) exit sites following pending after = Executes p part image base (system_instr op) pending h (may s) after
+  ActDoes F.calls exit sites following pending after = CallsAt p part image base (following - 4) pending h.regs (may s) after
+  ActDoes (F.stores rs1 imm members) exit sites following pending after =
       LeftTo part image base following pending h.regs
       (StoresEach may (masked h.regs rs1 imm) (set_reg h.regs 31 (masked h.regs rs1 imm)) members s) after
-  DoesPast (V.Call target) following pending after = CallDoes target following pending after
-  DoesPast (V.Ijump which rs1 imm label) following pending after =
-      Checks image which label (destination h.regs rs1 imm)
-      (LeftTo part image base (destination h.regs rs1 imm) pending h.regs (may s) after)
+
+  abbrev pub FlowDoes : Flow → ℕ → List ℕ → After → Type 0
+  FlowDoes f following pending after =
+      Decides image h.regs f.test (ActDoes f.act f.exit f.sites following pending after)
       (HaltsAt part image base BAD_TARGET pending h.regs (may s) after)
-  DoesPast (V.Icall rs1 imm label) following pending after =
-      Checks image First label (destination h.regs rs1 imm)
-      (CallDoes (destination h.regs rs1 imm) following pending after)
-      (HaltsAt part image base BAD_TARGET pending h.regs (may s) after)
-  DoesPast V.Return following pending after = ReturnDoes pending after
+
+  -- from a unit before an address
+  abbrev pub DoesPast : U.Unit → ℕ → List ℕ → After → Type 0
+  DoesPast unit following pending after = FlowDoes (flow_of unit) following pending after
 
   -- from a unit at an address
   abbrev pub UnitDoes : U.Unit → ℕ → List ℕ → After → Type 0

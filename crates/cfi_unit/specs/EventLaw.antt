@@ -9,30 +9,28 @@ use Rattle.rv_code.specs.State.{Hart, Shared}
 use Rattle.rv_code.specs.Step.{step}
 use Rattle.rv_code.specs.declared.event.Event.{Event}
 use Rattle.cfi_unit.specs.declared.unit.Unit as U
-use Rattle.cfi_unit.specs.declared.unit.Unit.TheVariants as V
 use Rattle.cfi_unit.specs.declared.unit.SystemOp.TheVariants as S
+use Rattle.cfi_unit.specs.Flow as F
+use Rattle.cfi_unit.specs.Flow.{Act, Test, flow_of}
 use Rattle.cfi_unit.specs.Place.{Place, handler, opening, closing, body, place_instrs}
 use Rattle.cfi_unit.specs.Stand.{Stand}
 use Rattle.cfi_unit.specs.Context.{Context}
 use Rattle.cfi_unit.specs.InPlace.{InPlace}
 use Rattle.cfi_unit.specs.UnitLaw.{MayStand}
 
+-- x17 is one of the numbers that are tested
+abbrev pub Lists : Test → Hart → Type 0
+Lists (F.listed numbers) h = is_listed (h.regs 17) numbers ≡ true
+Lists other h = ⊥
+
 -- a unit may call where it has a bare call, or its list has the number in x17
+abbrev pub ActMayCall : Act → Test → Hart → Type 0
+ActMayCall (F.system S.Ecall) test h = Unit {0}
+ActMayCall F.calls test h = Lists test h
+ActMayCall other test h = ⊥
+
 abbrev pub UnitMayCall : U.Unit → Hart → Type 0
-UnitMayCall (V.Gate label) h = ⊥
-UnitMayCall (V.Plain instr) h = ⊥
-UnitMayCall (V.Branch op rs1 rs2 target) h = ⊥
-UnitMayCall (V.Near op rs1 rs2 target) h = ⊥
-UnitMayCall (V.Jump target) h = ⊥
-UnitMayCall V.Stop h = ⊥
-UnitMayCall (V.System S.Ecall) h = Unit {0}
-UnitMayCall (V.System S.Ebreak) h = ⊥
-UnitMayCall (V.Guarded numbers) h = is_listed (h.regs 17) numbers ≡ true
-UnitMayCall (V.Stores rs1 imm members) h = ⊥
-UnitMayCall (V.Call target) h = ⊥
-UnitMayCall (V.Ijump which rs1 imm label) h = ⊥
-UnitMayCall (V.Icall rs1 imm label) h = ⊥
-UnitMayCall V.Return h = ⊥
+UnitMayCall unit h = ActMayCall (flow_of unit).act (flow_of unit).test h
 
 -- the closing calls with its own number alone
 abbrev pub MayCall : Place → ℕ → Hart → Type 0

@@ -9,11 +9,11 @@ use Rattle.rv_word.specs.Numbers.{is_listed}
 use Rattle.rv_instr.specs.Registers.{Registers, get_reg}
 use Rattle.rv_code.specs.Step.{offset}
 use Rattle.cfi_unit.specs.declared.target_word.TargetWord.{TargetWord}
-use Rattle.cfi_unit.specs.declared.target_word.TargetWord.TheVariants.{First}
-use Rattle.cfi_unit.specs.declared.unit.Unit as U
-use Rattle.cfi_unit.specs.declared.unit.Unit.TheVariants as V
 use Rattle.cfi_unit.specs.declared.unit.SystemOp.TheVariants as S
+use Rattle.cfi_unit.specs.declared.unit.Unit as U
 use Rattle.cfi_unit.specs.UnitWords.{BAD_TARGET, BAD_RETURN, DEEP, after_unit, past}
+use Rattle.cfi_unit.specs.Flow as F
+use Rattle.cfi_unit.specs.Flow.{Exit, Flow, Sites, Test, flow_of}
 use Rattle.cfi_unit.specs.Place.{Place, handler, opening, closing, body}
 use Rattle.cfi_unit.specs.Shadow.{MOST_PENDING}
 
@@ -57,30 +57,35 @@ Returns r (site ∷ pending) after next =
     ((r 1 ≡ site) × Goes pending after next site)
     ⊎ ((r 1 ≢ site) × Goes (site ∷ pending) after next BAD_RETURN)
 
+-- to a target, with the sites as the unit leaves them
+abbrev pub SitesLead : Sites → ℕ → List ℕ → List ℕ → ℕ → ℕ → Type 0
+SitesLead F.pushes following pending after next target = Calls following pending after next target
+SitesLead other following pending after next target = Goes pending after next target
+
+abbrev pub ExitLeads : Exit → Sites → ℕ → List ℕ → Registers → List ℕ → ℕ → Type 0
+ExitLeads F.on sites following pending r after next = Goes pending after next following
+ExitLeads (F.either op rs1 rs2 met target) sites following pending r after next =
+    Goes pending after next following ⊎ Goes pending after next target
+ExitLeads (F.to target) sites following pending r after next = SitesLead sites following pending after next target
+ExitLeads (F.halts stop) sites following pending r after next = Goes pending after next stop
+ExitLeads (F.computed rs1 imm) sites following pending r after next = SitesLead sites following pending after next (destination r rs1 imm)
+ExitLeads F.back sites following pending r after next = Returns r pending after next
+ExitLeads (F.after S.Ecall) sites following pending r after next = Goes pending after next following
+ExitLeads (F.after S.Ebreak) sites following pending r after next = ⊥
+
+-- what a test decides: a return's is in where it goes back to
+abbrev pub Decides : Memory → Registers → Test → Type 0 → Type 0 → Type 0
+Decides image r (F.listed numbers) made halted = Guards numbers (r 17) made halted
+Decides image r (F.borne which rs1 imm label) made halted = Checks image which label (destination r rs1 imm) made halted
+Decides image r other made halted = made
+
+abbrev pub FlowLeads : Memory → Flow → ℕ → List ℕ → Registers → List ℕ → ℕ → Type 0
+FlowLeads image f following pending r after next =
+    Decides image r f.test (ExitLeads f.exit f.sites following pending r after next) (Goes pending after next BAD_TARGET)
+
+-- from a unit before an address
 abbrev pub LeadsPast : Memory → U.Unit → ℕ → List ℕ → Registers → List ℕ → ℕ → Type 0
-LeadsPast image (V.Gate label) following pending r after next = Goes pending after next following
-LeadsPast image (V.Plain instr) following pending r after next = Goes pending after next following
-LeadsPast image (V.Branch op rs1 rs2 target) following pending r after next =
-    Goes pending after next following ⊎ Goes pending after next target
-LeadsPast image (V.Near op rs1 rs2 target) following pending r after next =
-    Goes pending after next following ⊎ Goes pending after next target
-LeadsPast image (V.Jump target) following pending r after next = Goes pending after next target
-LeadsPast image V.Stop following pending r after next = Goes pending after next BAD_TARGET
-LeadsPast image (V.System S.Ecall) following pending r after next = Goes pending after next following
-LeadsPast image (V.System S.Ebreak) following pending r after next = ⊥
-LeadsPast image (V.Guarded numbers) following pending r after next =
-    Guards numbers (r 17) (Goes pending after next following) (Goes pending after next BAD_TARGET)
-LeadsPast image (V.Stores rs1 imm members) following pending r after next = Goes pending after next following
-LeadsPast image (V.Call target) following pending r after next = Calls following pending after next target
-LeadsPast image (V.Ijump which rs1 imm label) following pending r after next =
-    Checks image which label (destination r rs1 imm)
-    (Goes pending after next (destination r rs1 imm))
-    (Goes pending after next BAD_TARGET)
-LeadsPast image (V.Icall rs1 imm label) following pending r after next =
-    Checks image First label (destination r rs1 imm)
-    (Calls following pending after next (destination r rs1 imm))
-    (Goes pending after next BAD_TARGET)
-LeadsPast image V.Return following pending r after next = Returns r pending after next
+LeadsPast image unit following pending r after next = FlowLeads image (flow_of unit) following pending r after next
 
 -- from a unit at an address
 abbrev pub UnitLeads : Memory → U.Unit → ℕ → List ℕ → Registers → List ℕ → ℕ → Type 0

@@ -10,6 +10,7 @@ pub mod Place
 pub mod Shadow
 pub mod Stand
 pub mod Context
+pub mod Flow
 pub mod Leads
 pub mod InPlace
 pub mod UnitLaw

@@ -13,6 +13,8 @@ use Rattle.rv_code.specs.declared.turn.Turn.TheVariants.{Ran, Exit, Break, LoadF
 use Rattle.cfi_unit.specs.declared.unit.Unit as U
 use Rattle.cfi_unit.specs.declared.unit.Unit.TheVariants as V
 use Rattle.cfi_unit.specs.declared.unit.SystemOp.TheVariants as S
+use Rattle.cfi_unit.specs.Flow as F
+use Rattle.cfi_unit.specs.Flow.{Act, flow_of}
 use Rattle.cfi_unit.specs.UnitWords.{Fits}
 use Rattle.cfi_unit.specs.Prologue.{OPENING, call_at}
 use Rattle.cfi_unit.specs.Place.{Place, handler, opening, closing, body, place_instrs}
@@ -28,21 +30,15 @@ Exits turn = (status : ℕ) × (turn ≡ Exit status)
 abbrev pub FailsToLoad : ℕ → Turn → Type 0
 FailsToLoad at turn = (a : ℕ) × (turn ≡ LoadFault at a)
 
+abbrev pub ActEnds : Act → ℕ → Turn → Type 0
+ActEnds (F.does instr) at turn = FailsToLoad at turn
+ActEnds (F.system S.Ecall) at turn = Exits turn
+ActEnds (F.system S.Ebreak) at turn = turn ≡ Break at
+ActEnds F.calls at turn = Exits turn
+ActEnds other at turn = ⊥
+
 abbrev pub UnitEnds : U.Unit → ℕ → Turn → Type 0
-UnitEnds (V.Gate label) at turn = ⊥
-UnitEnds (V.Plain instr) at turn = FailsToLoad at turn
-UnitEnds (V.Branch op rs1 rs2 target) at turn = ⊥
-UnitEnds (V.Near op rs1 rs2 target) at turn = ⊥
-UnitEnds (V.Jump target) at turn = ⊥
-UnitEnds V.Stop at turn = ⊥
-UnitEnds (V.System S.Ecall) at turn = Exits turn
-UnitEnds (V.System S.Ebreak) at turn = turn ≡ Break at
-UnitEnds (V.Guarded numbers) at turn = Exits turn
-UnitEnds (V.Stores rs1 imm members) at turn = ⊥
-UnitEnds (V.Call target) at turn = ⊥
-UnitEnds (V.Ijump which rs1 imm label) at turn = ⊥
-UnitEnds (V.Icall rs1 imm label) at turn = ⊥
-UnitEnds V.Return at turn = ⊥
+UnitEnds unit at turn = ActEnds (flow_of unit).act at turn
 
 -- how what stands at an address may end a run
 abbrev pub Ends : Place → ℕ → Turn → Type 0
